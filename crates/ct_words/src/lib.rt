@@ -2,7 +2,9 @@
 #![tactic(auto)]
 
 mod limits;
+mod text;
 mod word;
 
 pub use limits::{MAX_BOUND, MAX_N};
+pub use text::{parse_word, print_word};
 pub use word::{Word, WordFault};
