@@ -4,7 +4,7 @@ use Rattle.std.specs.List.{list_all}
 use Rattle.std.proofs.Math.Nat.{mod-eq_of_lt}
 use Rattle.std.proofs.lemmas.Nat.{div-mul-add, shr_split, mod_below, div_below}
 use Rattle.std.proofs.lemmas.Nat.Bits.{bit_at_cat_low}
-use Rattle.std.proofs.lemmas.Bool.{and_parts, and_from, or_left, or_right, or_from, not-false, lt-ltb, le-ltb, and_right, ne_eqb, or_cases, eqb-true}
+use Rattle.std.proofs.lemmas.Bool.{cases_eq, cases_Bool, and_parts, and_from, or_left, or_right, or_from, not-false, lt-ltb, le-ltb, and_right, ne_eqb, or_cases, eqb-true}
 use Rattle.std.proofs.lemmas.List.{take_more, ext_get_or}
 use Rattle.std.proofs.lemmas.List.Sums.{position_or_len_is}
 use Rattle.ct_words.specs.Word.{digit}
@@ -200,3 +200,19 @@ small_more i word b digit_is small =
     let cases = digit_cases b digit_is in
     let more = pow-suc 2 i in
     rw (add-one i) (omega arith)
+
+-- what is read as a word is the text of that word
+pub word_from_text : (n x : ℕ) (text : List ℕ) → word_of n text ≡ Some x → (x < 2 ^ n) × (text ≡ word_text n x)
+word_from_text n x text e =
+    elim (cases_eq (length text) n) [
+      | inr other ↦ let none = word_of-other_length n text other in cc
+      | inl len ↦ elim (cases_Bool (list_all is_binary_digit text)) [
+        | inr other ↦ let none = word_of-other_character n text other in cc
+        | inl digits ↦
+            let read = word_of-digits n text len digits in
+            let value : x ≡ binary_value text = cc in
+            let below = binary_value-lt text digits in
+            let below_n : binary_value text < 2 ^ n = rw len at below in
+            ((omega arith), text_of_digits n x text len digits value)
+      ]
+    ]
