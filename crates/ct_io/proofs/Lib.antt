@@ -1,2 +1,3 @@
 mod Copies
+mod FeedLemmas
 pub mod LinesLemmas
