@@ -1,2 +1,4 @@
 pub mod Faults
+pub mod Intake
 pub mod Lines
+pub mod Reader

@@ -1,7 +1,8 @@
-ghost use Rattle.std.specs.Prelude.{◌≡◌, ℕ, ◌+◌, ◌-◌, ◌<◌, ◌≤◌, List, [], ◌∷◌, ◌++◌, Some, IfOk, IfSome, IfNone, OnErr, MatchOption, length, take, drop, position, slice_get, vec_len, ◌==◌};
-ghost use Rattle.std.specs.Io.KnownBytes.{Consumes, IsAtEnd, Keeps};
+ghost use Rattle.std.specs.Prelude.{◌≡◌, ◌≢◌, ℕ, ◌+◌, ◌-◌, ◌<◌, ◌≤◌, List, [], ◌∷◌, ◌++◌, Some, IfOk, IfSome, IfNone, OnErr, MatchOption, length, take, drop, position, slice_get, vec_len, ◌==◌};
+ghost use Rattle.std.specs.Io.KnownBytes.{Keeps};
 ghost use Rattle.ct_io.specs.Faults.{Rose};
 ghost use Rattle.ct_io.specs.Lines.{IsLine};
+ghost use Rattle.ct_io.specs.Intake.{FillsBy};
 
 use crate::line_fault::LineFault;
 use crate::source::Source;
@@ -105,5 +106,43 @@ impl Held {
         self.start = self.bytes.len();
         self.searched = 0;
         Ok(Some(rest))
+    }
+
+    // Moves the bytes that are held to the front of the vector.
+    fn drop_given_out(&mut self)
+        ensures { self.new ≡ self.old }
+    {
+        if self.start > 0 {
+            drop_front(&mut self.bytes, self.start);
+            self.start = 0;
+        }
+    }
+
+    /// Reads at most a piece more. Zero is the end of the input. Space comes before the bytes, so
+    /// that none is lost.
+    pub(crate) fn fill<S: Source>(
+        &mut self,
+        piece: &mut Vec<u8>,
+        source: &mut S,
+    ) -> Result<usize, LineFault>
+        requires { 0 < vec_len piece.old }
+        ensures piece { vec_len piece.new ≡ vec_len piece.old }
+        ensures read { IfOk result (λ n. FillsBy self.old self.new (S.left source.old)
+            (S.left source.new) n) }
+        ensures within { IfOk result (λ n. n ≤ vec_len piece.old) }
+        ensures kept { OnErr result (self.new ≡ self.old) }
+        ensures untaken { OnErr result (Keeps (S.left source.old) (S.left source.new)) }
+        ensures failed { result ≡ Err LineFault.ReadFault
+            → Rose (S.faults source.old) (S.faults source.new) }
+        ensures short { (t : ℕ) → result ≢ Err (LineFault.TooLong t) }
+        ensures counted { S.faults source.old ≤ S.faults source.new }
+    {
+        self.drop_given_out();
+        self.bytes.reserve(piece.len())?;
+        let Ok(count) = source.read(piece) else {
+            return Err(LineFault::ReadFault);
+        };
+        self.bytes.extend_from_slice(&piece[..count]).unwrap();
+        Ok(count)
     }
 }
