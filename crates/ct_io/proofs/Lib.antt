@@ -1,3 +1,4 @@
 mod Copies
 mod FeedLemmas
+mod IntakeLemmas
 pub mod LinesLemmas

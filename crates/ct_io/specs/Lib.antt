@@ -1,4 +1,5 @@
 pub mod Faults
+pub mod Filling
 pub mod Intake
 pub mod Lines
 pub mod Reader

@@ -2,7 +2,7 @@ ghost use Rattle.std.specs.Prelude.{◌≡◌, ◌≢◌, ℕ, ◌+◌, ◌-◌,
 ghost use Rattle.std.specs.Io.KnownBytes.{Keeps};
 ghost use Rattle.ct_io.specs.Faults.{Rose};
 ghost use Rattle.ct_io.specs.Lines.{IsLine};
-ghost use Rattle.ct_io.specs.Intake.{FillsBy};
+ghost use Rattle.ct_io.specs.Filling.{FillsBy};
 
 use crate::line_fault::LineFault;
 use crate::source::Source;

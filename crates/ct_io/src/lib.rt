@@ -3,6 +3,7 @@
 
 mod failed;
 mod held;
+mod intake;
 mod line_fault;
 mod lines;
 mod mem_sink;
