@@ -2,3 +2,4 @@ mod Copies
 mod FeedLemmas
 mod IntakeLemmas
 pub mod LinesLemmas
+pub mod ReaderLemmas

@@ -50,17 +50,16 @@ LosesFirstLine None new line = ⊤
 LosesFirstLine (Some before) None line = ⊥
 LosesFirstLine (Some before) (Some after) line = lines_of before ≡ line ∷ lines_of after
 
--- all bytes that there were are those of the answer and those still held; only where the end was seen may a line have no line feed
-abbrev pub Divides : List ℕ → Answer → Reader → Type 0
-Divides bytes (Ok (Some line)) new =
-    IsNextLine bytes line.items new.held × (new.ended ≡ false → bytes ≡ line.items ++ LINE_FEED ∷ new.held)
-Divides bytes (Ok None) new = (bytes ≡ []) × (new.held ≡ [])
-Divides bytes (Err fault) new = new.held ≡ bytes
+-- the bytes are those of the answer and those still held; only at the end may a line have no line feed, and only there is there no line
+abbrev pub Divides : List ℕ → Answer → List ℕ → Bool → Type 0
+Divides bytes (Ok (Some line)) held ended = IsNextLine bytes line.items held × (ended ≡ false → bytes ≡ line.items ++ LINE_FEED ∷ held)
+Divides bytes (Ok None) held ended = (bytes ≡ []) × (held ≡ []) × (ended ≡ true)
+Divides bytes (Err fault) held ended = held ≡ bytes
 
 -- the call took bytes from the source, counted them, and put them after those held
 abbrev pub Takes : Reader → Reader → Option (List ℕ) → Option (List ℕ) → Answer → Type 0
 Takes old new before after answer =
-    (bytes : List ℕ) × Consumes before after bytes × (new.taken ≡ old.taken + length bytes) × Divides (old.held ++ bytes) answer new
+    (bytes : List ℕ) × Consumes before after bytes × (new.taken ≡ old.taken + length bytes) × Divides (old.held ++ bytes) answer new.held new.ended
 
 -- the fault that every later call answers again: want of memory is none
 abbrev pub lasting_fault : Answer → Option LineFault

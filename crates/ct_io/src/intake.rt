@@ -23,7 +23,7 @@ pub(crate) struct Intake {
 }
 
 impl Intake {
-    ghost use Rattle.ct_io.specs.Intake.{Gathers, IsFaultAt};
+    ghost use Rattle.ct_io.specs.Intake.{Gathers, IsFaultAt, Passes};
 
     pub(crate) fn new(alloc: Global) -> Result<Intake, AllocError>
         ensures held { IfOk result (λ i. i.held ≡ []) }
@@ -71,6 +71,26 @@ impl Intake {
             if self.taken > MAX_INPUT {
                 return Err(LineFault::TooLong(self.taken));
             }
+        }
+    }
+
+    /// Gives out the next line, or the bytes after the last line feed once the input has ended.
+    pub(crate) fn next_line<S: Source>(
+        &mut self,
+        source: &mut S,
+    ) -> Result<Option<Vec<u8>>, LineFault>
+        requires { self.old.taken ≤ MAX_INPUT }
+        ensures passes { Passes self.old self.new (S.left source.old) (S.left source.new) result }
+        ensures unread { self.old.ended ≡ true → (self.new.taken ≡ self.old.taken)
+            × (source.new ≡ source.old) }
+        ensures within { OnOk result (self.new.taken ≤ MAX_INPUT) }
+        ensures fault { IfErr result (IsFaultAt self.new.taken (S.faults source.old)
+            (S.faults source.new)) }
+        ensures counted { S.faults source.old ≤ S.faults source.new }
+    {
+        match self.gather_line(source)? {
+            Some(length) => Ok(Some(self.held.take_line(length)?)),
+            None => Ok(self.held.take_rest()?),
         }
     }
 }

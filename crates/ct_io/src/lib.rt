@@ -5,6 +5,7 @@ mod failed;
 mod held;
 mod intake;
 mod line_fault;
+mod line_reader;
 mod lines;
 mod mem_sink;
 mod mem_source;
@@ -15,6 +16,7 @@ mod std_source;
 
 pub use failed::Failed;
 pub use line_fault::LineFault;
+pub use line_reader::LineReader;
 pub use lines::lines_law;
 pub use mem_sink::MemSink;
 pub use mem_source::MemSource;
