@@ -1,5 +1,5 @@
 -- How bytes come to a reader.
-use Rattle.std.specs.Prelude.{◌≡◌, ℕ, ◌+◌, ◌<◌, ◌≤◌, Bool, true, false, List, ◌++◌, length, Option}
+use Rattle.std.specs.Prelude.{◌≡◌, ℕ, ◌+◌, ◌<◌, ◌≤◌, true, false, List, ◌++◌, length, Option}
 use Rattle.std.specs.Io.KnownBytes.{Consumes, IsAtEnd}
 use Rattle.ct_io.specs.declared.TheConstants.{MAX_INPUT}
 use Rattle.ct_io.specs.declared.intake.Intake.{Intake}
