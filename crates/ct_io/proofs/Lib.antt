@@ -1,4 +1,5 @@
 mod Copies
+pub mod FaultsLemmas
 mod FeedLemmas
 mod IntakeLemmas
 pub mod LinesLemmas

@@ -1,4 +1,4 @@
--- How one read's bytes come to those held.
+-- Inside a line reader: how one read's bytes come to those held.
 use Rattle.std.specs.Prelude.{◌≡◌, ℕ, List, ◌++◌, length, Option}
 use Rattle.std.specs.Io.KnownBytes.{Consumes, IsAtEnd}
 

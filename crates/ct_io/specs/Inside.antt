@@ -1,4 +1,4 @@
--- What the fields of a line reader mean.
+-- Inside a line reader: what its fields mean.
 use Rattle.std.specs.Prelude.{◌≡◌, ℕ, ◌<◌, ◌≤◌, Option, Some, None}
 use Rattle.ct_io.specs.declared.TheConstants.{MAX_INPUT}
 use Rattle.ct_io.specs.declared.line_fault.LineFault.{LineFault}

@@ -1,5 +1,5 @@
--- How bytes come to a reader.
-use Rattle.std.specs.Prelude.{◌≡◌, ℕ, ◌+◌, ◌<◌, ◌≤◌, Bool, true, false, List, ◌++◌, length, Option}
+-- Inside a line reader: how bytes come to it and go from it.
+use Rattle.std.specs.Prelude.{◌≡◌, ℕ, ◌+◌, ◌<◌, ◌≤◌, true, false, List, ◌++◌, length, Option}
 use Rattle.std.specs.Io.KnownBytes.{Consumes, IsAtEnd}
 use Rattle.ct_io.specs.declared.TheConstants.{MAX_INPUT}
 use Rattle.ct_io.specs.declared.intake.Intake.{Intake}
@@ -20,7 +20,7 @@ IsFaultAt taken old new ReadFault = Rose old new × (taken ≤ MAX_INPUT)
 IsFaultAt taken old new (TooLong t) = (t ≡ taken) × (MAX_INPUT < taken)
 IsFaultAt taken old new Memory = taken ≤ MAX_INPUT
 
--- the same, and of all bytes that there were a line was given out, or none were there, or all are still held
+-- bytes were taken and counted, they and those held are divided into the answer and the bytes still held, and the end was seen only where none is left
 abbrev pub Passes : Intake → Intake → Option (List ℕ) → Option (List ℕ) → Answer → Type 0
 Passes old new before after answer =
     (bytes : List ℕ) × Consumes before after bytes × Divides (old.held ++ bytes) answer new.held new.ended × (new.taken ≡ old.taken + length bytes)

@@ -1,5 +1,5 @@
 -- The lines of an input.
-use Rattle.std.specs.Prelude.{◌≡◌, ◌≢◌, ℕ, Bool, List, [], ◌∷◌, ◌++◌, ◌==◌, ◌⊎◌, All}
+use Rattle.std.specs.Prelude.{◌≡◌, ◌≢◌, ℕ, List, [], ◌∷◌, ◌++◌, ◌==◌, ◌⊎◌, All}
 use Rattle.std.specs.List.{slice_split, flat_map}
 use Rattle.ct_io.specs.declared.TheConstants.{LINE_FEED}
 

@@ -1,5 +1,4 @@
-ghost use Rattle.std.specs.Prelude.{◌≡◌, ◌+◌, ◌<◌, ◌≤◌, Some, None, Ok, Err, true, false, [], IfOk, IfErr, IfSome, IfNone, OnOk, length, take, slice_get, vec_len};
-ghost use Rattle.std.specs.Io.KnownBytes.{IsAtEnd};
+ghost use Rattle.std.specs.Prelude.{◌≡◌, ◌≤◌, true, false, [], IfOk, IfErr, IfSome, IfNone, OnOk, take, slice_get, vec_len};
 ghost use Rattle.ct_io.specs.declared.TheConstants.{PIECE};
 ghost use Rattle.ct_io.specs.Lines.{IsLine};
 ghost use Rattle.ct_io.specs.Reader.{NeedsNoRead};

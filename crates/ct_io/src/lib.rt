@@ -33,3 +33,6 @@ pub const MAX_INPUT: u64 = 67_108_864;
 
 // How many bytes one read is asked for.
 const PIECE: usize = 65_536;
+
+#[cfg(test)]
+mod tests;

@@ -1,4 +1,4 @@
-use Rattle.std.proofs.Common.{◌++◌, take, List, ℕ, subst, sym, arith}
+use Rattle.std.proofs.Common.{List, ℕ, subst, sym, arith}
 use Rattle.std.specs.Io.KnownBytes.{Appends}
 use Rattle.std.proofs.KnownBytes.{Appends-trans}
 use Rattle.ct_io.proofs.Copies.{take-written}

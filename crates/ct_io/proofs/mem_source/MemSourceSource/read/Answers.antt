@@ -1,4 +1,4 @@
-use Rattle.std.proofs.Common.{◌≡◌, ◌≤◌, ◌+◌, ◌-◌, length, take, drop, ◌++◌, arith, ap, ◌∙◌, length-append, length-drop, length-take}
+use Rattle.std.proofs.Common.{◌≡◌, ◌+◌, ◌-◌, length, take, drop, arith, ap, ◌∙◌, length-append, length-drop, length-take}
 use Rattle.std.proofs.lemmas.List.{drop_all}
 use Rattle.ct_io.proofs.Copies.{drop-copied}
 use Rattle.ct_io.proofs.mem_source.MemSourceSource.read.Goals as goal
