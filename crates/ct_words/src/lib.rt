@@ -4,6 +4,8 @@
 mod laws;
 mod limits;
 mod metric;
+#[cfg(test)]
+mod tests;
 mod text;
 mod word;
 
