@@ -7,6 +7,8 @@ mod entry;
 mod fault;
 mod laws;
 mod pairs;
+#[cfg(test)]
+mod tests;
 
 pub use check::check_words;
 pub use code::{Code, MAX_CODE_DISTANCE};
