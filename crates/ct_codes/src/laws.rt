@@ -40,8 +40,8 @@ pub fn codes_fit_their_length()
 /// Lists of words of length 10, checked for distance 6.
 pub fn known_faults()
     ensures accepted { code_fault (record { n = 10; d = 6; w = None })
-        (0b1111111111 ∷ 0b1111000000 ∷ 0b1000111000 ∷ 0b0100100110 ∷ 0b0010010101 ∷ 0b0001001011 ∷ [])
-        ≡ None }
+        (0b1111111111 ∷ 0b1111000000 ∷ 0b1000111000 ∷
+        0b0100100110 ∷ 0b0010010101 ∷ 0b0001001011 ∷ []) ≡ None }
     ensures close { code_fault (record { n = 10; d = 6; w = None })
         (0b0000000000 ∷ 0b1111100000 ∷ []) ≡ Some (Close 0 1 5) }
     ensures repeated { code_fault (record { n = 10; d = 6; w = None })
