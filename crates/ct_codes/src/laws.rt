@@ -7,7 +7,7 @@ ghost use Rattle.ct_codes.specs.declared.fault.TheConstants.{MAX_WORDS};
 ghost use Rattle.ct_codes.specs.declared.fault.CodeFault.TheVariants.{Size, Repeated, Close};
 ghost use Rattle.ct_codes.specs.Entry.{IsEntry};
 ghost use Rattle.ct_codes.specs.Pairs.{least_pair, IsLeastPair, NoPair};
-ghost use Rattle.ct_codes.specs.Code.{IsCodeOf, IsTrueUpper};
+ghost use Rattle.ct_codes.specs.Code.{IsCodeOf, IsTrueLower, IsTrueUpper};
 ghost use Rattle.ct_codes.specs.Check.{code_fault};
 
 /// The entries of the table: lengths from 1 and distances from 3, both up to `MAX_N`, and weights up to the length,
@@ -32,9 +32,10 @@ pub fn faultless_lists_are_codes()
         ((1 ≤ length words) × (length words ≤ MAX_WORDS) × IsCodeOf e words) }
 {}
 
-/// No code has more words than there are words of its length.
-pub fn codes_fit_their_length()
-    ensures { (e : Entry) → IsTrueUpper e (2 ^ e.n) }
+/// Each entry of the table has a code of one word, and no code has more words than there are words of its length.
+pub fn bounds_of_every_entry()
+    ensures lower { (e : Entry) → IsEntry e → IsTrueLower e 1 }
+    ensures upper { (e : Entry) → IsTrueUpper e (2 ^ e.n) }
 {}
 
 /// Lists of words of length 10, checked for distance 6.

@@ -15,7 +15,7 @@ pub use code::{Code, MAX_CODE_DISTANCE};
 pub use entry::Entry;
 pub use fault::{CodeFault, MAX_WORDS};
 pub use laws::{
-    codes_fit_their_length, entries_of_the_table, faultless_lists_are_codes, known_faults,
+    bounds_of_every_entry, entries_of_the_table, faultless_lists_are_codes, known_faults,
     least_pair_is_least,
 };
 pub use pairs::first_close_pair;
