@@ -14,3 +14,6 @@ pub use fault::FileFault;
 pub use id::{Id, MAX_ID};
 pub use reading::read_evidence;
 pub use word_list::WordList;
+
+#[cfg(test)]
+mod tests;
