@@ -1,0 +1,6 @@
+pub mod Sums
+pub mod Totals
+pub mod Pairs
+pub mod DoubleCounting
+pub mod Binomials
+pub mod Words
