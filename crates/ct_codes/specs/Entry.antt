@@ -1,0 +1,17 @@
+-- The entries of the table: A(n,d), and A(n,d,w) for constant weight (MacWilliams and Sloane; Brouwer, Shearer, Sloane and Smith 1990).
+use Rattle.std.specs.Prelude.{◌≡◌, ℕ, ◌%◌, ◌≤◌, Bool, true, nat_le, ◌==◌, ◌&&◌, Option, Some, None, IsTrue}
+use Rattle.ct_words.specs.declared.limits.TheConstants.{MAX_N}
+use Rattle.ct_codes.specs.declared.entry.Entry.{Entry}
+
+-- a weight is in the table where it is at most n and d is even: two words of one weight have even distance
+abbrev pub weight_fits : Entry → Option ℕ → Bool
+weight_fits e None = true
+weight_fits e (Some w) = e.d % 2 == 0 && nat_le w e.n
+
+-- whether the entry is in the table
+abbrev pub is_entry : Entry → Bool
+is_entry e = nat_le 1 e.n && nat_le e.n MAX_N && nat_le 3 e.d && nat_le e.d MAX_N && weight_fits e e.w
+
+-- the entry is in the table
+abbrev pub IsEntry : Entry → Type 0
+IsEntry e = IsTrue (is_entry e)

@@ -1,0 +1,4 @@
+pub mod Entry
+pub mod Code
+pub mod Pairs
+pub mod Check

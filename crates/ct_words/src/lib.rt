@@ -1,0 +1,8 @@
+//! Binary words of a code: their distance, weight and text, and the limits of the table.
+#![tactic(auto)]
+
+mod limits;
+mod word;
+
+pub use limits::{MAX_BOUND, MAX_N};
+pub use word::{Word, WordFault};
