@@ -1,9 +1,9 @@
 -- Pascal's triangle: rows, symmetry, factorials, and the size of a ball.
-use Rattle.std.proofs.Common.{◌≡◌, ℕ, zero, suc, ◌+◌, ◌*◌, ◌^◌, ◌<◌, refl, sym, ap, ◌∙◌, arith}
+use Rattle.std.proofs.Common.{◌≡◌, ℕ, zero, suc, ◌+◌, ◌*◌, ◌^◌, ◌<◌, refl, sym, ap, ◌∙◌, arith, ◌-◌, ◌≤◌, add-zero}
 use Rattle.std.proofs.Math.Nat.{pow-suc}
 use Rattle.ct_counting.specs.Sums.{sum_below}
 use Rattle.ct_counting.specs.Binomials.{choose, factorial, volume}
-use Rattle.ct_counting.proofs.Sums.{sum_below-past}
+use Rattle.ct_counting.proofs.Sums.{sum_below-past, sum_below-le}
 
 -- nothing can be taken more often than it is there
 pub choose_past : (n k : ℕ) → n < k → choose n k ≡ 0
@@ -91,3 +91,52 @@ volume_whole n k =
 -- a ball in one dimension more, of a radius that is one more
 pub volume-suc : (n e : ℕ) → volume (suc n) (suc e) ≡ volume n (suc e) + volume n e
 volume-suc n e = row-suc n (suc e)
+
+-- a part of a row of the triangle adds up to at most the power of two
+pub row_part : (n k : ℕ) → sum_below (choose n) k ≤ 2 ^ n
+row_part n zero = omega arith
+row_part n (suc k) =
+    let whole = volume_whole n k in
+    let ends : suc (n + k) ≡ suc k + n = omega arith in
+    let grown = sum_below-le (choose n) (suc k) n in
+    let same = ap (sum_below (choose n)) ends in
+    omega arith
+
+-- a binomial coefficient is at most the power of two
+pub choose-le : (n k : ℕ) → choose n k ≤ 2 ^ n
+choose-le n k = let part = row_part n (suc k) in omega arith
+
+-- from one binomial coefficient of a row to the next
+pub choose-suc_at : (n j m : ℕ) → j + m ≡ n → choose n (suc j) * suc j ≡ choose n j * m
+choose-suc_at zero j m e =
+    let m_is : m ≡ 0 = omega arith in
+    let none = ap (λ z. choose 0 j * z) m_is in
+    omega arith
+choose-suc_at (suc n) zero m e = let ih = choose-suc_at n 0 n (omega arith) in omega arith
+choose-suc_at (suc n) (suc j) zero e =
+    let a = choose_past n (suc j) (omega arith) in
+    let b = choose_past n (suc (suc j)) (omega arith) in
+    let p = ap (λ z. z * suc (suc j)) a in
+    let q = ap (λ z. z * suc (suc j)) b in
+    omega arith
+choose-suc_at (suc n) (suc j) (suc m) e =
+    let a = choose-suc_at n j (suc m) (omega arith) in
+    let b = choose-suc_at n (suc j) m (omega arith) in
+    omega arith
+
+pub choose-suc : (n j : ℕ) → j ≤ n → choose n (suc j) * suc j ≡ choose n j * (n - j)
+choose-suc n j h = choose-suc_at n j (n - j) (omega arith)
+
+-- a factorial is at least one
+pub one-le-factorial : (k : ℕ) → 1 ≤ factorial k
+one-le-factorial zero = omega arith
+one-le-factorial (suc k) = let ih = one-le-factorial k in omega arith
+
+-- factorials grow
+pub factorial-le : (j k : ℕ) → factorial j ≤ factorial (j + k)
+factorial-le j zero = let e = ap factorial (add-zero j) in omega arith
+factorial-le j (suc k) =
+    let ih = factorial-le j k in
+    let e : j + suc k ≡ suc (j + k) = omega arith in
+    let same = ap factorial e in
+    omega arith

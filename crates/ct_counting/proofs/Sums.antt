@@ -1,5 +1,5 @@
 -- Sums of natural numbers: over the elements of a list, and over the numbers below a bound.
-use Rattle.std.proofs.Common.{◌≡◌, ℕ, zero, suc, ◌+◌, ◌*◌, ◌<◌, ◌≤◌, List, [], ◌∷◌, map, length, refl, sym, ap, ◌∙◌, arith, add-one}
+use Rattle.std.proofs.Common.{◌≡◌, ℕ, zero, suc, ◌+◌, ◌*◌, ◌<◌, ◌≤◌, List, [], ◌∷◌, map, length, refl, sym, ap, ◌∙◌, arith, add-one, add-zero}
 use Rattle.std.specs.List.{sum_by, AllByRecursion}
 use Rattle.std.proofs.lemmas.List.Sums.{sum_by-cons}
 use Rattle.ct_counting.specs.Sums.{sum_below}
@@ -104,3 +104,12 @@ sum_below-past f n (suc k) h =
     let e : n + suc k ≡ suc (n + k) = omega arith in
     let last = h (n + k) (omega arith) in
     ap (sum_below f) e ∙ omega arith
+
+-- more terms have at least the sum of the first ones
+pub sum_below-le : (f : ℕ → ℕ) (n k : ℕ) → sum_below f n ≤ sum_below f (n + k)
+sum_below-le f n zero = let e = ap (sum_below f) (add-zero n) in omega arith
+sum_below-le f n (suc k) =
+    let ih = sum_below-le f n k in
+    let e : n + suc k ≡ suc (n + k) = omega arith in
+    let same = ap (sum_below f) e in
+    omega arith
