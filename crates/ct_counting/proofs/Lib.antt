@@ -4,3 +4,4 @@ pub mod Pairs
 pub mod DoubleCounting
 pub mod Binomials
 pub mod Words
+pub mod Distances
