@@ -3,7 +3,7 @@ use Rattle.std.proofs.Common.{◌≡◌, ℕ, zero, suc, ◌+◌, ◌*◌, ◌^�
 use Rattle.std.proofs.Math.Nat.{pow-suc}
 use Rattle.ct_counting.specs.Sums.{sum_below}
 use Rattle.ct_counting.specs.Binomials.{choose, factorial, volume}
-use Rattle.ct_counting.proofs.Sums.{sum_below-past, sum_below-le}
+use Rattle.ct_counting.proofs.Sums.{sum_below-first, sum_below-past, sum_below-le}
 
 -- nothing can be taken more often than it is there
 pub choose_past : (n k : ℕ) → n < k → choose n k ≡ 0
@@ -140,3 +140,11 @@ factorial-le j (suc k) =
     let e : j + suc k ≡ suc (j + k) = omega arith in
     let same = ap factorial e in
     omega arith
+
+-- a ball has its own centre
+pub one-le-volume : (n e : ℕ) → 1 ≤ volume n e
+one-le-volume n e = let first = sum_below-first (choose n) e in omega arith
+
+-- a ball has no more words than there are
+pub volume-le : (n e : ℕ) → volume n e ≤ 2 ^ n
+volume-le n e = row_part n (suc e)

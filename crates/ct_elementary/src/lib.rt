@@ -1,13 +1,6 @@
-// A library with one function.
+//! Elementary upper bounds on the size of a code without weight: far apart, Plotkin's and Hamming's.
 #![tactic(auto)]
 
-ghost use Rattle.std.specs.Prelude.{◌≡◌};
-ghost use Rattle.ct_elementary.specs.Echo.{echo_of};
+mod bounds;
 
-// The `ensures` clause is the contract: what `echo` returns is `echo_of` of its argument, a definition
-// in `specs/Echo.antt`, which a caller's clause can cite too.
-pub fn echo(x: usize) -> usize
-    ensures { result ≡ echo_of x }
-{
-    x
-}
+pub use bounds::{far, hamming, plotkin};

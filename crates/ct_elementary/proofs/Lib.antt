@@ -1,0 +1,5 @@
+pub mod Spread
+pub mod Spheres
+pub mod Entries
+pub mod PairSums
+pub mod Places
