@@ -1,6 +1,6 @@
 -- Sums over all ordered pairs of elements of a list, an element with itself too.
-use Rattle.std.proofs.Common.{◌≡◌, ℕ, zero, suc, ◌+◌, ◌*◌, ◌≤◌, List, [], ◌∷◌, map, length, refl, sym, ap, ◌∙◌, arith}
-use Rattle.std.specs.List.{All, AllByRecursion, AllPairs, sum_by}
+use Rattle.std.proofs.Common.{◌≡◌, ℕ, ◌+◌, ◌*◌, ◌≤◌, List, [], ◌∷◌, map, length, ◌∙◌, arith}
+use Rattle.std.specs.List.{All, AllPairs, sum_by}
 use Rattle.std.proofs.lemmas.List.Elements.{recursion_from_All}
 use Rattle.std.proofs.lemmas.List.Sums.{sum_by-cons}
 use Rattle.ct_counting.proofs.Sums.{sum_by-congruence, sum_by-congruence_within, sum_by-le_within, sum_by-add, sum_by-constant, sum_by-map}
@@ -39,7 +39,7 @@ pair_sum-add {X} f g xs =
 pub pair_sum-congruence_within : {X : Type 0} (P : X → Type 0) (f g : X → X → ℕ) (xs : List X) → ((x y : X) → P x → P y → f x y ≡ g x y) → All P xs → pair_sum f xs ≡ pair_sum g xs
 pair_sum-congruence_within {X} P f g xs same all =
     let row : (x : X) → P x → sum_by (f x) xs ≡ sum_by (g x) xs =
-        λ x p. sum_by-congruence_within (f x) (g x) xs (recursion_from_All (λ y. f x y ≡ g x y) xs (λ k d l. same x _ p (all k d l))) in
+    λ x p. sum_by-congruence_within (f x) (g x) xs (recursion_from_All (λ y. f x y ≡ g x y) xs (λ k d l. same x _ p (all k d l))) in
     sum_by-congruence_within (λ x. sum_by (f x) xs) (λ x. sum_by (g x) xs) xs
     (recursion_from_All (λ x. sum_by (f x) xs ≡ sum_by (g x) xs) xs (λ k d l. row _ (all k d l)))
 

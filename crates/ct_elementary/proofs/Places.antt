@@ -1,5 +1,5 @@
 -- The distances of all pairs of words, counted place by place.
-use Rattle.std.proofs.Common.{◌≡◌, ℕ, zero, suc, ◌+◌, ◌*◌, ◌<◌, ◌≤◌, List, [], ◌∷◌, map, length, refl, sym, ap, ◌∙◌, arith}
+use Rattle.std.proofs.Common.{◌≡◌, ℕ, zero, suc, ◌+◌, ◌*◌, ◌≤◌, List, [], ◌∷◌, map, length, refl, ◌∙◌, arith}
 use Rattle.std.specs.Prelude.{Bool, true, false, cond}
 use Rattle.std.specs.List.{All, sum_by}
 use Rattle.std.proofs.lemmas.List.{length-map}
@@ -105,6 +105,6 @@ distances-le (suc n) b size cs lengths many bound =
     let others = pair_sum-map apart other_digits cs in
     let column_bound = bound (map first_digit cs) (length-map cs first_digit ∙ many) in
     let rest_lengths : All (λ x. length x ≡ n) (map other_digits cs) =
-        All-map (λ x. length x ≡ n) other_digits cs (λ k d l. other_length n _ (lengths k d l)) in
+    All-map (λ x. length x ≡ n) other_digits cs (λ k d l. other_length n _ (lengths k d l)) in
     let ih = distances-le n b size (map other_digits cs) rest_lengths (length-map cs other_digits ∙ many) bound in
     omega arith

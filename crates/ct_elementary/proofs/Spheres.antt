@@ -1,7 +1,7 @@
 -- Hamming's bound: the balls about the words of a code are disjoint parts of all words.
-use Rattle.std.proofs.Common.{◌≡◌, ℕ, zero, suc, ◌+◌, ◌*◌, ◌-◌, ◌/◌, ◌^◌, ◌<◌, ◌≤◌, List, length, get_or, subst, sym, arith}
-use Rattle.std.specs.Prelude.{Bool, true, false, nat_le, count_by}
-use Rattle.std.specs.List.{All, AllByRecursion, AllPairs, sum_by}
+use Rattle.std.proofs.Common.{◌≡◌, ℕ, ◌*◌, ◌-◌, ◌/◌, ◌^◌, ◌<◌, ◌≤◌, List, length, get_or, subst, arith}
+use Rattle.std.specs.Prelude.{Bool, nat_le, count_by}
+use Rattle.std.specs.List.{sum_by}
 use Rattle.std.proofs.lemmas.Bool.{leb-true, lt-leb}
 use Rattle.std.proofs.lemmas.List.Elements.{recursion_from_All}
 use Rattle.std.proofs.lemmas.Nat.{le-div}
@@ -25,13 +25,13 @@ one_ball : (n d e : ℕ) (cs : List (List Bool)) → 2 * e < d → IsSpread n d 
 one_ball n d e cs small spread x long =
     count_by-le_one (λ c. nat_le (apart c x) e) cs
     (λ i j z l m first.
-        let a = spread.lengths i z (omega arith) in
-        let b = spread.lengths j z m in
-        let near = leb-true _ _ first in
-        let far = spread.distances i j z l m in
-        let through = apart_triangle (get_or cs i z) x (get_or cs j z) (omega arith) (omega arith) in
-        let turned = apart_symmetric x (get_or cs j z) in
-        lt-leb _ _ (omega arith))
+    let a = spread.lengths i z (omega arith) in
+    let b = spread.lengths j z m in
+    let near = leb-true _ _ first in
+    let far = spread.distances i j z l m in
+    let through = apart_triangle (get_or cs i z) x (get_or cs j z) (omega arith) (omega arith) in
+    let turned = apart_symmetric x (get_or cs j z) in
+    lt-leb _ _ (omega arith))
 
 -- the balls of the words of a code have no more words than there are
 pub spread_balls : (n d e : ℕ) (cs : List (List Bool)) → 2 * e < d → IsSpread n d cs → length cs * volume n e ≤ 2 ^ n
@@ -42,10 +42,10 @@ spread_balls n d e cs small spread =
     let balls : List Bool → ℕ = λ x. count_by (λ c. near c x) cs in
     let one : List Bool → ℕ = λ x. 1 in
     let sizes : sum_by ball cs ≡ sum_by size cs =
-        sum_by-congruence_within ball size cs (recursion_from_All (λ c. ball c ≡ size c) cs (λ k z l. ball_size n e _ (spread.lengths k z l))) in
+    sum_by-congruence_within ball size cs (recursion_from_All (λ c. ball c ≡ size c) cs (λ k z l. ball_size n e _ (spread.lengths k z l))) in
     let within : sum_by balls (all_words n) ≤ sum_by one (all_words n) =
-        sum_by-le_within balls one (all_words n)
-        (recursion_from_All (λ x. balls x ≤ one x) (all_words n) (λ k z l. one_ball n d e cs small spread _ (lengths-all_words n k z l))) in
+    sum_by-le_within balls one (all_words n)
+    (recursion_from_All (λ x. balls x ≤ one x) (all_words n) (λ k z l. one_ball n d e cs small spread _ (lengths-all_words n k z l))) in
     let both = count_by-swap near cs (all_words n) in
     let count = sum_by-constant (volume n e) cs in
     let whole = sum_by-constant 1 (all_words n) in

@@ -1,5 +1,5 @@
 -- Codes as lists of lists of digits, on which words are counted.
-use Rattle.std.proofs.Common.{◌≡◌, ℕ, zero, suc, ◌+◌, ◌<◌, ◌≤◌, List, [], ◌∷◌, map, length, ap, subst, sym, arith}
+use Rattle.std.proofs.Common.{◌≡◌, ℕ, ◌<◌, ◌≤◌, List, [], ◌∷◌, map, length, arith}
 use Rattle.std.specs.Prelude.{Bool, None}
 use Rattle.std.specs.List.{All, AllPairs}
 use Rattle.std.proofs.lemmas.List.{length-map}
@@ -20,12 +20,12 @@ pub record IsSpread (n d : ℕ) (cs : List (List Bool)) : Type 0 where
 pub IsSpread-from_code : (n d : ℕ) (words : List ℕ) → IsCode n d None words → IsSpread n d (map (digits_of n) words)
 IsSpread-from_code n d words code =
     let far : (x y : ℕ) → d ≤ distance n x y → d ≤ apart (digits_of n x) (digits_of n y) =
-        λ x y h. let e = apart-digits_of n x y in omega arith in
+    λ x y h. let e = apart-digits_of n x y in omega arith in
     record {
-        lengths = All-map (λ x. length x ≡ n) (digits_of n) words (λ k e l. length-digits_of n _);
-        distances =
-            AllPairs-map (λ x y. d ≤ apart x y) (digits_of n) words
-            (AllPairs-weaker (λ x y. d ≤ distance n x y) (λ x y. d ≤ apart (digits_of n x) (digits_of n y)) words far code.apart)
+      lengths = All-map (λ x. length x ≡ n) (digits_of n) words (λ k e l. length-digits_of n _);
+      distances =
+          AllPairs-map (λ x y. d ≤ apart x y) (digits_of n) words
+          (AllPairs-weaker (λ x y. d ≤ distance n x y) (λ x y. d ≤ apart (digits_of n x) (digits_of n y)) words far code.apart);
     }
 
 -- what bounds each such list bounds each code
