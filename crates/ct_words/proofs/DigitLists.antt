@@ -3,6 +3,7 @@ use Rattle.std.proofs.Common.{◌≡◌, ℕ, zero, suc, ◌+◌, ◌%◌, ◌<�
 use Rattle.std.specs.Prelude.{Bool, true, false, cond, not, ◌==◌, ◌⊎◌}
 use Rattle.std.proofs.lemmas.Bool.{cases_eq}
 use Rattle.ct_words.specs.Word.{places, digit, weight, distance}
+use Rattle.ct_words.proofs.WordLemmas.{places_same}
 use Rattle.ct_counting.specs.Words.{apart, differ, ones}
 
 -- the digits p 0, .., p (n - 1)
@@ -23,10 +24,6 @@ length-digits_from p (suc n) = let ih = length-digits_from (λ k. p (suc k)) n i
 places-first : (p : ℕ → Bool) (n : ℕ) → places p (suc n) ≡ cond (p 0) 1 0 + places (λ k. p (suc k)) n
 places-first p zero = refl
 places-first p (suc n) = let ih = places-first p n in omega arith
-
--- equal tests count equal places
-places-congruence : (p q : ℕ → Bool) (n : ℕ) → ((k : ℕ) → p k ≡ q k) → places p n ≡ places q n
-places-congruence p q n h = ap (λ (t : ℕ → Bool). places t n) (λ i k. h k i)
 
 -- the ones of a list of digits are counted by places
 ones-digits_from : (p : ℕ → Bool) (n : ℕ) → ones (digits_from p n) ≡ places p n
@@ -53,8 +50,8 @@ binary_digit a =
 differ_digits : (a b : ℕ) → not (a % 2 == b % 2) ≡ differ (a % 2 == 1) (b % 2 == 1)
 differ_digits a b =
     elim (binary_digit a) [
-        inl p ↦ elim (binary_digit b) [ inl q ↦ rw (p, q) refl | inr q ↦ rw (p, q) refl ]
-        | inr p ↦ elim (binary_digit b) [ inl q ↦ rw (p, q) refl | inr q ↦ rw (p, q) refl ]
+      | inl p ↦ elim (binary_digit b) [ inl q ↦ rw (p, q) refl | inr q ↦ rw (p, q) refl ]
+      | inr p ↦ elim (binary_digit b) [ inl q ↦ rw (p, q) refl | inr q ↦ rw (p, q) refl ]
     ]
 
 -- a word of length n has n digits
@@ -71,5 +68,5 @@ pub apart-digits_of : (n x y : ℕ) → apart (digits_of n x) (digits_of n y) �
 unfolding distance
 apart-digits_of n x y =
     apart-digits_from (λ p. digit n x p == 1) (λ p. digit n y p == 1) n
-    ∙ places-congruence (λ p. differ (digit n x p == 1) (digit n y p == 1)) (λ p. not (digit n x p == digit n y p)) n
-    (λ p. sym (differ_digits (x / 2 ^ (n - 1 - p)) (y / 2 ^ (n - 1 - p))))
+    ∙ places_same (λ p. differ (digit n x p == 1) (digit n y p == 1)) (λ p. not (digit n x p == digit n y p)) n
+    (λ p h. sym (differ_digits (x / 2 ^ (n - 1 - p)) (y / 2 ^ (n - 1 - p))))

@@ -1,1 +1,3 @@
 pub mod DigitLists
+pub mod TextLemmas
+pub mod WordLemmas

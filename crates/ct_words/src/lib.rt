@@ -2,9 +2,15 @@
 #![tactic(auto)]
 
 mod counts;
+mod laws;
 mod limits;
+mod metric;
+mod text;
 mod word;
 
 pub use counts::{ball, binomial, factorial};
+pub use laws::{distance_is_metric, distance_is_weight_of_sum, golay_words, texts_are_words};
 pub use limits::{MAX_BOUND, MAX_N};
+pub use metric::{distance, weight};
+pub use text::{parse_word, print_word};
 pub use word::{Word, WordFault};
