@@ -4,3 +4,6 @@
 mod bounds;
 
 pub use bounds::{far, hamming, plotkin};
+
+#[cfg(test)]
+mod tests;
