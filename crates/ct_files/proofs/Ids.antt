@@ -1,10 +1,10 @@
 -- A text that is an id, in the bytes that hold it.
-use Rattle.std.proofs.Common.{◌≡◌, ℕ, ◌-◌, ◌≤◌, Bool, true, nat_le, ◌&&◌, List, [], ◌∷◌, ◌++◌, length, take, drop, IsTrue, refl, sym, ap, ◌∙◌, arith, length-drop}
+use Rattle.std.proofs.Common.{◌≡◌, ℕ, ◌-◌, ◌≤◌, nat_le, ◌&&◌, List, [], ◌∷◌, ◌++◌, length, drop, IsTrue, refl, ◌∙◌, arith, length-drop}
 use Rattle.std.specs.Prelude.{replicate}
 use Rattle.std.specs.List.{list_all}
 use Rattle.std.specs.Char.{is_ascii_lowercase}
 use Rattle.std.proofs.lemmas.Bool.{and_parts, leb-true}
-use Rattle.std.proofs.lemmas.List.{take_at, drop_at, drop-replicate, length-append, length-replicate}
+use Rattle.std.proofs.lemmas.List.{take_at, drop_at, drop-replicate, length-append}
 use Rattle.ct_files.specs.declared.id.TheConstants.{MAX_ID}
 use Rattle.ct_files.specs.Id.{is_id, is_id_byte}
 use Rattle.ct_files.specs.IdBytes.{IsKept}

@@ -1,1 +1,3 @@
 mod Ids
+mod Documents
+pub mod Evidences

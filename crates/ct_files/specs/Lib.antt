@@ -1,2 +1,6 @@
 pub mod Id
 pub mod IdBytes
+pub mod Fields
+pub mod Document
+pub mod Evidence
+pub mod Reads

@@ -1,2 +1,5 @@
 mod Copies
+mod FeedLemmas
+mod IntakeLemmas
 pub mod LinesLemmas
+pub mod ReaderLemmas

@@ -2,6 +2,10 @@
 #![tactic(auto)]
 
 mod failed;
+mod held;
+mod intake;
+mod line_fault;
+mod line_reader;
 mod lines;
 mod mem_sink;
 mod mem_source;
@@ -11,6 +15,8 @@ mod std_sink;
 mod std_source;
 
 pub use failed::Failed;
+pub use line_fault::LineFault;
+pub use line_reader::LineReader;
 pub use lines::lines_law;
 pub use mem_sink::MemSink;
 pub use mem_source::MemSource;
@@ -24,3 +30,6 @@ pub const LINE_FEED: u8 = b'\n';
 
 /// The most bytes of input, 64 MiB.
 pub const MAX_INPUT: u64 = 67_108_864;
+
+// How many bytes one read is asked for.
+const PIECE: usize = 65_536;

@@ -196,3 +196,11 @@ distance-sum n x y z x' y' first second =
   where
     differ_shifted : (a b c : ℕ) → a < 2 → b < 2 → c < 2 → not ((a + c) % 2 == (b + c) % 2) ≡ not (a == b)
     differ_shifted a b c h k l = grind (arith, nat_tests)
+
+-- the distance of two words does not depend on the length that they are read at
+pub distance_any_length : (n m x y : ℕ) → x < 2 ^ n → y < 2 ^ n → x < 2 ^ m → y < 2 ^ m → distance n x y ≡ distance m x y
+distance_any_length n m x y x_n y_n x_m y_m =
+    let at_n = IsSum-bit_xor n x y x_n y_n in
+    let at_m = IsSum-bit_xor m x y x_m y_m in
+    distance-is_weight n x y (bit_xor x y) at_n ∙ sym (weight-count_ones n (bit_xor x y) at_n.word)
+    ∙ weight-count_ones m (bit_xor x y) at_m.word ∙ sym (distance-is_weight m x y (bit_xor x y) at_m)

@@ -1,0 +1,14 @@
+//! Evidence for a bound, as a document states it.
+
+use crate::word_list::WordList;
+use ct_codes::Entry;
+
+/// The greatest number of bytes of a document.
+pub const MAX_DOCUMENT: usize = 4194304;
+
+/// A piece of evidence for a bound.
+#[derive(Debug, Drop)]
+pub enum Evidence {
+    /// The words of a code of the entry, in the order of the document.
+    Words { entry: Entry, words: WordList },
+}
