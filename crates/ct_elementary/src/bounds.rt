@@ -17,7 +17,7 @@ pub fn far(n: u32, d: u32) -> Option<u32>
 }
 
 /// Plotkin's bound where d is at most n and n at most 2d, or 2d + 1 for an odd d; `None` elsewhere
-/// (Plotkin 1960; MacWilliams and Sloane, chapter 2, theorem 11).
+/// (Plotkin 1960; MacWilliams and Sloane, chapter 2, section 2).
 pub fn plotkin(n: u32, d: u32) -> Option<u32>
     requires { IsEntry (plain n d) }
     ensures value { result ≡ plotkin_value n d }
@@ -46,7 +46,7 @@ fn plotkin_even(n: u32, d: u32) -> Option<u32>
 }
 
 /// Hamming's bound: balls of radius ⌊(d - 1) / 2⌋ about the words of a code have no word in common
-/// (Hamming 1950; MacWilliams and Sloane, chapter 1, theorem 6).
+/// (Hamming 1950; MacWilliams and Sloane, chapter 1, section 5).
 pub fn hamming(n: u32, d: u32) -> u32
     requires { IsEntry (plain n d) }
     ensures value { result ≡ hamming_value n d }
