@@ -1,5 +1,5 @@
 -- The distance of two words is a metric on the words of one length.
-use Rattle.std.proofs.Common.{◌≡◌, ℕ, zero, suc, ◌+◌, ◌≤◌, List, [], ◌∷◌, length, refl, ap, arith}
+use Rattle.std.proofs.Common.{◌≡◌, ℕ, ◌+◌, ◌≤◌, List, [], ◌∷◌, length, refl, ap, arith}
 use Rattle.std.specs.Prelude.{Bool, true, false, cond}
 use Rattle.ct_counting.specs.Words.{apart, differ}
 

@@ -1,6 +1,6 @@
 -- A word as the list of its digits, on which distance and weight are those of lists.
-use Rattle.std.proofs.Common.{◌≡◌, ℕ, zero, suc, ◌+◌, ◌%◌, ◌<◌, List, [], ◌∷◌, length, ◌-◌, ◌/◌, ◌^◌, refl, sym, ap, inl, inr, ◌∙◌, arith}
-use Rattle.std.specs.Prelude.{Bool, true, false, cond, not, ◌==◌, ◌⊎◌}
+use Rattle.std.proofs.Common.{◌≡◌, ℕ, zero, suc, ◌+◌, ◌%◌, List, [], ◌∷◌, length, ◌-◌, ◌/◌, ◌^◌, refl, sym, inl, inr, ◌∙◌, arith}
+use Rattle.std.specs.Prelude.{Bool, cond, not, ◌==◌, ◌⊎◌}
 use Rattle.std.proofs.lemmas.Bool.{cases_eq}
 use Rattle.ct_words.specs.Word.{places, digit, weight, distance}
 use Rattle.ct_words.proofs.WordLemmas.{places_same}

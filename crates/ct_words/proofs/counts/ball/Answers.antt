@@ -1,10 +1,10 @@
 -- The sum so far is part of a row of Pascal's triangle; terms past n are zero.
-use Rattle.std.proofs.Common.{◌≡◌, ℕ, zero, suc, ◌+◌, ◌-◌, ◌*◌, ◌^◌, ◌<◌, ◌≤◌, min, sym, ap, ◌∙◌, arith, inl, inr}
+use Rattle.std.proofs.Common.{◌≡◌, ℕ, suc, ◌+◌, ◌-◌, ◌^◌, ◌<◌, ◌≤◌, min, sym, ap, ◌∙◌, arith, inl, inr}
 use Rattle.std.proofs.lemmas.Bool.{cases_lt}
 use Rattle.std.proofs.Math.Nat.{pow-le-pow_right}
 use Rattle.ct_counting.specs.Sums.{sum_below}
 use Rattle.ct_counting.specs.Binomials.{choose, volume}
-use Rattle.ct_counting.proofs.Binomials.{choose-le, row_part, choose_past}
+use Rattle.ct_counting.proofs.Binomials.{row_part, choose_past}
 use Rattle.ct_counting.proofs.Sums.{sum_below-past}
 use Rattle.ct_words.proofs.counts.ball.Goals as goal
 

@@ -1,5 +1,5 @@
 -- Each step multiplies by n - j and divides by j + 1, which is the next coefficient of the row.
-use Rattle.std.proofs.Common.{◌≡◌, ℕ, zero, suc, ◌+◌, ◌-◌, ◌*◌, ◌/◌, ◌^◌, ◌<◌, ◌≤◌, sym, ap, ◌∙◌, arith, add-one}
+use Rattle.std.proofs.Common.{◌≡◌, ℕ, suc, ◌+◌, ◌-◌, ◌*◌, ◌/◌, ◌^◌, ◌<◌, ◌≤◌, sym, ap, ◌∙◌, arith, add-one}
 use Rattle.std.proofs.Math.Nat.{mul-div_cancel, mul-le-mul, pow-le-pow_right}
 use Rattle.ct_counting.specs.Binomials.{choose}
 use Rattle.ct_counting.proofs.Binomials.{choose_past, choose-le, choose-suc}

@@ -1,5 +1,5 @@
 -- Each product is a factorial of at most 20.
-use Rattle.std.proofs.Common.{◌≡◌, ℕ, zero, suc, ◌+◌, ◌-◌, ◌*◌, ◌^◌, ◌<◌, ◌≤◌, ap, arith}
+use Rattle.std.proofs.Common.{◌≡◌, ℕ, suc, ◌+◌, ◌-◌, ◌*◌, ◌^◌, ◌<◌, ap, arith}
 use Rattle.ct_counting.specs.Binomials.{factorial}
 use Rattle.ct_counting.proofs.Binomials.{factorial-le}
 use Rattle.ct_words.proofs.counts.factorial.Goals as goal
