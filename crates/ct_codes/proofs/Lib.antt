@@ -1,1 +1,3 @@
 pub mod PairLemmas
+pub mod EntryLemmas
+pub mod CheckLemmas

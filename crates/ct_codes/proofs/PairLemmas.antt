@@ -8,13 +8,13 @@ use Rattle.ct_words.proofs.WordLemmas.{distance_any_length}
 use Rattle.ct_codes.specs.Pairs.{least_pair, IsLeastPair, NoPair}
 
 -- the first item that passes: its place, and what comes before it
-record IsFirst (p : ℕ → Bool) (xs : List ℕ) (i : ℕ) : Type 0 where
+pub record IsFirst (p : ℕ → Bool) (xs : List ℕ) (i : ℕ) : Type 0 where
   pub within : i < length xs
   pub passes : p (get_or xs i 0) ≡ true
   pub before : (k : ℕ) → k < i → p (get_or xs k 0) ≡ false
 
 -- a list has a first item that passes, or none passes
-position_cases : (p : ℕ → Bool) (xs : List ℕ)
+pub position_cases : (p : ℕ → Bool) (xs : List ℕ)
     → ((i : ℕ) × (position p xs ≡ Some i) × IsFirst p xs i) ⊎ ((position p xs ≡ None) × ((k : ℕ) → k < length xs → p (get_or xs k 0) ≡ false))
 position_cases p xs =
     elim (cases_lt (position_or_len p xs) (length xs)) [

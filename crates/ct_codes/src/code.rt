@@ -27,6 +27,14 @@ impl Model for Code {
 }
 
 impl Code {
+    /// The code of words that were checked and are in order.
+    pub(crate) fn from_checked(n: u32, d: u32, w: Option<u32>, words: Vec<Word>) -> Code
+        requires { IsSoundCode (record { n = n; d = d; w = w; words = words.items }) }
+        ensures { result ≡ record { n = n; d = d; w = w; words = words.items } }
+    {
+        Code { n, d, w, words }
+    }
+
     /// The length of the words.
     pub fn n(&self) -> u32
         ensures value { result ≡ self.now.n }

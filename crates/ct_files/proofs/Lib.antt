@@ -1,3 +1,4 @@
 mod Ids
 mod Documents
 pub mod Evidences
+mod OnLiterals

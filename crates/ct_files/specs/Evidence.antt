@@ -12,7 +12,7 @@ use Rattle.ct_files.specs.declared.evidence.Evidence.TheVariants.{Words}
 abbrev pub words_keys : List (List ℕ)
 words_keys = codes "kind" ∷ codes "n" ∷ codes "d" ∷ codes "words" ∷ []
 
--- the evidence of a table of kind words: n in 1..28, d in 3..28 and words, each of length n, and no other key
+-- the evidence of a table of kind words: n in 1..MAX_N, d in 3..MAX_N and words, each of length n, and no other key
 unfoldable pub words_evidence_of : Data → Option Evidence
 words_evidence_of document = do
   n ← number_at (codes "n") 1 MAX_N document

@@ -1,6 +1,6 @@
 -- The fields of an evidence document: what stands at a key, where it has the form that is asked.
 use Rattle.std.specs.Prelude.{ℕ, pos, Bool, true, false, nat_le, ◌&&◌, if◌then◌else◌, List, [], ◌∷◌, Option, Some, None}
-use Rattle.std.specs.Option.{option_and_then}
+use Rattle.std.specs.Option.{option_and_then, option_map_or}
 use Rattle.std.specs.List.{list_any}
 use Rattle.std.specs.Str.{bytes_eq}
 use Rattle.toml.specs.Data.{Data, string, integer, array, table, Items, no_items, item, Members, no_members, member, get, as_str}
@@ -18,11 +18,7 @@ is_text text _ = false
 
 -- whether the text stands at the key
 abbrev pub holds_text : List ℕ → List ℕ → Data → Bool
-holds_text key text document = holds (get key document)
-  where
-    holds : Option Data → Bool
-    holds None = false
-    holds (Some d) = is_text text d
+holds_text key text document = option_map_or (is_text text) (get key document) false
 
 -- an integer from low to high
 abbrev pub number_in : ℕ → ℕ → Data → Option ℕ

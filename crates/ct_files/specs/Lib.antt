@@ -4,3 +4,4 @@ pub mod Fields
 pub mod Document
 pub mod Evidence
 pub mod Reads
+pub mod Examples

@@ -3,6 +3,7 @@
 
 mod document;
 mod evidence;
+pub mod examples;
 mod fault;
 mod id;
 mod reading;

@@ -68,8 +68,9 @@ fn evidence(alloc: Global, bytes: &[u8]) -> Result<Evidence, FileFault>
 /// The evidence that a document states, as its bytes give it.
 ///
 /// The bytes are at most `MAX_DOCUMENT`, and a TOML document whose keys are `kind`, `n`, `d` and
-/// `words` and no others: `kind` is the text `words`, `n` an integer in 1..=28, `d` one in 3..=28,
-/// and `words` a list of texts of `n` digits `0` and `1`. It is `Kind` for all other bytes.
+/// `words` and no others: `kind` is the text `words`, `n` an integer from 1 to `MAX_N`, `d` one from
+/// 3 to `MAX_N`, and `words` a list of texts of `n` digits `0` and `1`, which may be empty. It is
+/// `Kind` for all other bytes, and `Memory` only where memory ran out.
 pub fn read_evidence(alloc: Global, bytes: &[u8]) -> Result<Evidence, FileFault>
     ensures read { IfOk result (λ evidence. evidence_of bytes.now ≡ Some evidence) }
     ensures kind { result ≡ Err FileFault.Kind → evidence_of bytes.now ≡ None }

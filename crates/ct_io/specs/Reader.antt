@@ -1,5 +1,5 @@
 -- What a line reader holds and has done, and what one call does.
-use Rattle.std.specs.Prelude.{◌≡◌, ◌≢◌, ℕ, ◌+◌, ◌<◌, Bool, true, false, List, [], ◌∷◌, ◌++◌, length, Option, Some, None, Result, Ok, Err, Vec, ⊤, if◌then◌else◌}
+use Rattle.std.specs.Prelude.{◌≡◌, ◌≢◌, ℕ, ◌+◌, ◌<◌, Bool, true, false, List, [], ◌∷◌, ◌++◌, ◌⊎◌, length, Contains, Option, Some, None, Result, Ok, Err, Vec, ⊤, if◌then◌else◌}
 use Rattle.std.specs.declared.alloc.Global.{Global}
 use Rattle.std.specs.Io.KnownBytes.{prepend_known, Consumes}
 use Rattle.ct_io.specs.declared.TheConstants.{LINE_FEED, MAX_INPUT}
@@ -21,6 +21,10 @@ fresh_reader = record { held = []; taken = 0; ended = false; fault = None }
 -- the bytes still to come: those held and, until the end was seen, those that the source has left
 abbrev pub input_of : Reader → Option (List ℕ) → Option (List ℕ)
 input_of r left = if r.ended then Some r.held else prepend_known r.held left
+
+-- a call has no need to read: a whole line is held, or the end was seen
+abbrev pub NeedsNoRead : List ℕ → Bool → Type 0
+NeedsNoRead held ended = Contains held LINE_FEED ⊎ (ended ≡ true)
 
 -- the answer of a call
 abbrev pub Answer : Type 0

@@ -2,6 +2,7 @@ ghost use Rattle.std.specs.Prelude.{◌≡◌, ◌+◌, ◌<◌, ◌≤◌, Some
 ghost use Rattle.std.specs.Io.KnownBytes.{IsAtEnd};
 ghost use Rattle.ct_io.specs.declared.TheConstants.{PIECE};
 ghost use Rattle.ct_io.specs.Lines.{IsLine};
+ghost use Rattle.ct_io.specs.Reader.{NeedsNoRead};
 
 use crate::held::Held;
 use crate::line_fault::LineFault;
@@ -51,8 +52,8 @@ impl Intake {
             (λ n. slice_get self.new.held n ≡ Some LINE_FEED)) }
         ensures none { IfOk result (λ found. IfNone found
             (IsLine self.new.held × (self.new.ended ≡ true))) }
-        ensures unread { self.old.ended ≡ true → (self.new.taken ≡ self.old.taken)
-            × (source.new ≡ source.old) }
+        ensures unread { NeedsNoRead self.old.held self.old.ended
+            → (self.new.taken ≡ self.old.taken) × (source.new ≡ source.old) }
         ensures within { OnOk result (self.new.taken ≤ MAX_INPUT) }
         ensures fault { IfErr result (IsFaultAt self.new.taken (S.faults source.old)
             (S.faults source.new)) }
@@ -81,8 +82,8 @@ impl Intake {
     ) -> Result<Option<Vec<u8>>, LineFault>
         requires { self.old.taken ≤ MAX_INPUT }
         ensures passes { Passes self.old self.new (S.left source.old) (S.left source.new) result }
-        ensures unread { self.old.ended ≡ true → (self.new.taken ≡ self.old.taken)
-            × (source.new ≡ source.old) }
+        ensures unread { NeedsNoRead self.old.held self.old.ended
+            → (self.new.taken ≡ self.old.taken) × (source.new ≡ source.old) }
         ensures within { OnOk result (self.new.taken ≤ MAX_INPUT) }
         ensures fault { IfErr result (IsFaultAt self.new.taken (S.faults source.old)
             (S.faults source.new)) }

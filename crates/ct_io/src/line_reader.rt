@@ -1,7 +1,7 @@
 ghost use Rattle.std.specs.Prelude.{◌≡◌, ℕ, ◌<◌, ◌≤◌, ◌⊎◌, Option, Some, None, Ok, Err, true, false, [], IfOk, OnErr};
 ghost use Rattle.std.specs.Io.KnownBytes.{IsAtEnd, Keeps};
 ghost use Rattle.ct_io.specs.Faults.{Rose};
-ghost use Rattle.ct_io.specs.Reader.{fresh_reader, input_of, IfLine, IfNoLine, LosesLine, LosesFirstLine, Takes, lasting_fault};
+ghost use Rattle.ct_io.specs.Reader.{fresh_reader, input_of, IfLine, IfNoLine, LosesLine, LosesFirstLine, NeedsNoRead, Takes, lasting_fault};
 
 use crate::MAX_INPUT;
 use crate::intake::Intake;
@@ -70,8 +70,9 @@ impl LineReader {
         ensures taken { Takes self.old self.new (S.left source.old) (S.left source.new) result }
         ensures end { self.old.ended ≡ false → self.new.ended ≡ true → IsAtEnd (S.left source.new) }
         ensures read_to_end { IfNoLine result ((self.new.held ≡ []) × (self.new.ended ≡ true)) }
-        ensures ended { self.old.ended ≡ true → (self.new.ended ≡ true)
-            × (self.new.taken ≡ self.old.taken) × (source.new ≡ source.old) }
+        ensures ended { self.old.ended ≡ true → self.new.ended ≡ true }
+        ensures unread { NeedsNoRead self.old.held self.old.ended
+            → (self.new.taken ≡ self.old.taken) × (source.new ≡ source.old) }
 
         // The faults.
         ensures read_fault { result ≡ Err LineFault.ReadFault

@@ -204,3 +204,7 @@ distance_any_length n m x y x_n y_n x_m y_m =
     let at_m = IsSum-bit_xor m x y x_m y_m in
     distance-is_weight n x y (bit_xor x y) at_n ∙ sym (weight-count_ones n (bit_xor x y) at_n.word)
     ∙ weight-count_ones m (bit_xor x y) at_m.word ∙ sym (distance-is_weight m x y (bit_xor x y) at_m)
+
+-- nor does the weight of a word
+pub weight_any_length : (n m x : ℕ) → x < 2 ^ n → x < 2 ^ m → weight n x ≡ weight m x
+weight_any_length n m x below_n below_m = sym (weight-count_ones n x below_n) ∙ weight-count_ones m x below_m
