@@ -5,3 +5,6 @@ pub mod Replies
 pub mod Runs
 pub mod Serving
 pub mod Words
+pub mod Existence
+pub mod Uniqueness
+pub mod Submissions

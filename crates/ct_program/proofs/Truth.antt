@@ -1,32 +1,21 @@
 -- The bounds that are shown are true of codes.
-use Rattle.std.proofs.Common.{◌≡◌, ℕ, ◌^◌, ◌<◌, ◌≤◌, Bool, true, false, cond, max, List, [], ◌∷◌, map, Option, None, refl, sym, subst, arith, inl, inr, lit≤}
+use Rattle.std.proofs.Common.{◌≡◌, ℕ, ◌^◌, ◌≤◌, Bool, true, false, cond, max, List, [], ◌∷◌, map, refl, sym, subst, arith, inl, inr, lit≤}
 use Rattle.std.specs.Prelude.{filter, fold}
 use Rattle.std.specs.List.{AllByRecursion}
-use Rattle.std.proofs.Math.Nat.{max-eq_left, max-eq_right, pow-le-pow_right, one-le-pow}
-use Rattle.std.proofs.lemmas.List.Elements.{recursion_from_All, All-from_recursion}
+use Rattle.std.proofs.Math.Nat.{max-eq_left, max-eq_right, pow-le-pow_right}
+use Rattle.std.proofs.lemmas.List.Elements.{recursion_from_All}
 use Rattle.std.proofs.lemmas.Bool.Decides.{leb_tells}
 use Rattle.ct_words.specs.declared.limits.TheConstants.{MAX_BOUND}
 use Rattle.ct_codes.specs.declared.entry.Entry.{Entry}
-use Rattle.ct_codes.specs.Code.{IsCode, IsTrueLower, IsTrueUpper}
+use Rattle.ct_codes.specs.Code.{IsTrueLower, IsTrueUpper}
 use Rattle.ct_codes.specs.Entry.{IsEntry}
 use Rattle.ct_codes.proofs.CheckLemmas.{code_size-le}
+use Rattle.ct_codes.proofs.BoundLemmas.{one_is_lower}
 use Rattle.ct_codes.proofs.EntryLemmas.{entry_limits}
 use Rattle.ct_program.specs.Bounds.{same_entry, sizes_at, best_lower, best_upper}
 use Rattle.ct_program.specs.State.{AreTrue}
 use Rattle.ct_program.specs.declared.piece.Piece.{Piece}
 use Rattle.ct_program.proofs.Entries.{same_entry_is}
-
-positive : (n : ℕ) → 0 < 2 ^ n
-positive n = one-le-pow n 2 (lit≤ tt)
-
--- the word 0 alone is a code of every length and distance
-one_word : (n d : ℕ) → IsCode n d None (0 ∷ [])
-one_word n d = record {
-  lengths = All-from_recursion (λ x. x < 2 ^ n) (0 ∷ []) (positive n, tt);
-  different = λ i j e below inside. absurd (omega arith);
-  apart = λ i j e below inside. absurd (omega arith);
-  weights = tt;
-}
 
 -- what holds of two numbers holds of the greater
 of_max : (P : ℕ → Type 0) (a x : ℕ) → P a → P x → P (max a x)
@@ -49,10 +38,9 @@ sizes_true e [] h = tt
 sizes_true e (p ∷ ps) h = one_more e p ps (same_entry p.entry e) refl h.0 (sizes_true e ps h.1)
 
 -- the best lower bound over pieces whose sizes are those of codes is true
-pub true_lower : (pieces : List Piece) (e : Entry) → e.w ≡ None → AreTrue pieces → IsTrueLower e (best_lower pieces e)
-true_lower pieces e light h =
-    let one : IsTrueLower e 1 = (0 ∷ [], subst (λ (w : Option ℕ). IsCode e.n e.d w (0 ∷ [])) (sym light) (one_word e.n e.d), refl) in
-    fold_max (IsTrueLower e) 1 (sizes_at e pieces) one (sizes_true e pieces (recursion_from_All (λ (p : Piece). IsTrueLower p.entry p.size) pieces h))
+pub true_lower : (pieces : List Piece) (e : Entry) → IsEntry e → AreTrue pieces → IsTrueLower e (best_lower pieces e)
+true_lower pieces e entry h =
+    fold_max (IsTrueLower e) 1 (sizes_at e pieces) (one_is_lower e entry) (sizes_true e pieces (recursion_from_All (λ (p : Piece). IsTrueLower p.entry p.size) pieces h))
 
 -- no code of an entry of the table is larger than the best upper bound
 pub true_upper : (e : Entry) → IsEntry e → IsTrueUpper e (best_upper e)

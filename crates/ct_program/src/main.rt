@@ -4,6 +4,7 @@
 mod command;
 mod document;
 mod form;
+mod laws;
 mod piece;
 mod reply;
 mod run;

@@ -76,7 +76,6 @@ fn submit(
 fn bounds_of(pieces: &[Piece], entry: Entry) -> Bounds
     requires pieces { AreTrue pieces.now }
     requires entry { IsEntry entry }
-    requires weightless { entry.w ≡ None }
     ensures { IsShown pieces.now entry (Reply.Shown result) }
 {
     Bounds {
