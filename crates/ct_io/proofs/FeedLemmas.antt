@@ -1,13 +1,13 @@
 -- Where the first line feed of some bytes is.
-use Rattle.std.proofs.Common.{◌≡◌, ◌≢◌, ℕ, ◌+◌, ◌<◌, ◌≤◌, Bool, true, false, cond, not, List, Some, None, refl, sym, subst, ap, ◌∙◌, length, take, drop, get_or, arith, length-drop, length-take, ltb}
+use Rattle.std.proofs.Common.{◌≡◌, ◌≢◌, ℕ, ◌+◌, ◌<◌, ◌≤◌, Bool, true, false, cond, not, List, ◌∷◌, ◌++◌, Some, None, inl, inr, refl, sym, subst, ap, ◌∙◌, length, take, drop, get_or, arith, length-drop, length-take, ltb}
 use Rattle.std.specs.List.{position, position_or_len, slice_get}
 use Rattle.std.proofs.Math.Seq.{take-add}
 use Rattle.std.proofs.lemmas.Bool.{eqb-true, eqb-false, ltb-false}
-use Rattle.std.proofs.lemmas.List.{get_or-take, get_or-drop, take-append-drop}
+use Rattle.std.proofs.lemmas.List.{get_or-take, get_or-drop, take-append-drop, drop-drop, drop_more}
 use Rattle.std.proofs.lemmas.List.Elements.{All-append, All-from_get_or}
 use Rattle.std.proofs.lemmas.List.Quantifiers.{position-Some}
 use Rattle.std.proofs.lemmas.List.Sums.{prefix_len_passes}
-use Rattle.std.proofs.lemmas.Option.{slice_get-get_or, get_or_from_slice_get}
+use Rattle.std.proofs.lemmas.Option.{slice_get-get_or, get_or_from_slice_get, slice_get_cases}
 use Rattle.ct_io.specs.declared.TheConstants.{LINE_FEED}
 use Rattle.ct_io.specs.Lines.{IsLine}
 use Rattle.ct_io.proofs.LinesLemmas.{is_feed}
@@ -67,3 +67,21 @@ EndsAt-searched bytes searched more front e =
 pub IsLine-searched : (bytes : List ℕ) (searched : ℕ) → IsLine (take searched bytes) → position is_feed (drop searched bytes) ≡ None → IsLine bytes
 IsLine-searched bytes searched front e =
     subst IsLine (take-append-drop searched bytes) (All-append IsNoFeed (take searched bytes) (drop searched bytes) front (IsLine-position (drop searched bytes) e))
+
+inside_from_slice_get : (bytes : List ℕ) (place b : ℕ) → slice_get bytes place ≡ Some b → place < length bytes
+inside_from_slice_get bytes place b e =
+    elim (slice_get_cases bytes place).1 [
+      | inl found ↦ found.1
+      | inr past ↦ let none : slice_get bytes place ≡ None = past.1 in cc
+    ]
+
+-- what is held is a front, the byte after it, and what is held past that byte
+pub drop-around : (bytes : List ℕ) (start place b : ℕ) → slice_get (drop start bytes) place ≡ Some b
+    → drop start bytes ≡ take place (drop start bytes) ++ b ∷ drop (start + place + 1) bytes
+drop-around bytes start place b e =
+    let held = drop start bytes in
+    let inside = inside_from_slice_get held place b e in
+    let rest : drop place held ≡ b ∷ drop (start + place + 1) bytes =
+    drop_more held place 0 inside ∙ ap (λ x. x ∷ drop (place + 1) held) (get_or_from_slice_get held place b 0 e)
+    ∙ ap (λ l. b ∷ l) (drop-drop (place + 1) start bytes ∙ ap (λ k. drop k bytes) (omega arith)) in
+    sym (take-append-drop place held) ∙ ap (λ l. take place held ++ l) rest
