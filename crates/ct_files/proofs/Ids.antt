@@ -1,5 +1,5 @@
 -- A text that is an id, in the bytes that hold it.
-use Rattle.std.proofs.Common.{◌≡◌, ℕ, ◌-◌, ◌≤◌, nat_le, ◌&&◌, List, [], ◌∷◌, ◌++◌, length, drop, IsTrue, refl, ◌∙◌, arith, length-drop}
+use Rattle.std.proofs.Common.{◌≡◌, ℕ, ◌≤◌, nat_le, ◌&&◌, List, [], ◌∷◌, ◌++◌, length, drop, IsTrue, refl, ◌∙◌, arith, length-drop}
 use Rattle.std.specs.Prelude.{replicate}
 use Rattle.std.specs.List.{list_all}
 use Rattle.std.specs.Char.{is_ascii_lowercase}
@@ -16,13 +16,17 @@ is_id-short (b ∷ bs) named =
     let short = and_parts (nat_le (length (b ∷ bs)) MAX_ID) (is_ascii_lowercase b) (and_parts (nat_le (length (b ∷ bs)) MAX_ID && is_ascii_lowercase b) (list_all is_id_byte bs) named).0 in
     leb-true _ _ short.0
 
+-- the text and the zeros are 32 bytes
+length-padded : (text : List ℕ) → length text ≤ MAX_ID → length (text ++ drop (length text) (replicate MAX_ID 0)) ≡ MAX_ID
+length-padded text short =
+    length-append text (drop (length text) (replicate MAX_ID 0)) ∙ omega (arith, short, length-drop {A = ℕ} (length text) (replicate MAX_ID 0))
+
 -- the text, and zeros up to 32 bytes
 pub kept : (text : List ℕ) → IsTrue (is_id text) → IsKept (record { bytes = text ++ drop (length text) (replicate MAX_ID 0); len = length text })
 kept text named =
-    let zeros : drop (length text) (replicate MAX_ID 0) ≡ replicate (MAX_ID - length text) 0 = drop-replicate (length text) MAX_ID 0 in
     record {
       short = is_id-short text named;
-      long = length-append text (drop (length text) (replicate MAX_ID 0)) ∙ omega (arith, is_id-short text named, length-drop {A = ℕ} (length text) (replicate MAX_ID 0));
-      padded = drop_at text _ (length text) refl ∙ zeros;
+      long = length-padded text (is_id-short text named);
+      padded = drop_at text _ (length text) refl ∙ drop-replicate (length text) MAX_ID 0;
       named = rw (take_at text (drop (length text) (replicate MAX_ID 0)) (length text) refl) named;
     }
