@@ -8,3 +8,4 @@ pub mod Words
 pub mod Existence
 pub mod Uniqueness
 pub mod Submissions
+pub mod Greatest

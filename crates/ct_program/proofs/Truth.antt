@@ -22,7 +22,7 @@ of_max : (P : ℕ → Type 0) (a x : ℕ) → P a → P x → P (max a x)
 of_max P a x h k = elim (leb_tells a x) [ inl t ↦ subst P (sym (max-eq_right t.1)) k | inr t ↦ subst P (sym (max-eq_left (omega arith))) h ]
 
 -- what holds of a and of each item holds of the greatest of them
-fold_max : (P : ℕ → Type 0) (a : ℕ) (xs : List ℕ) → P a → AllByRecursion P xs → P (fold max a xs)
+pub fold_max : (P : ℕ → Type 0) (a : ℕ) (xs : List ℕ) → P a → AllByRecursion P xs → P (fold max a xs)
 fold_max P a [] h hs = h
 fold_max P a (x ∷ xs) h hs = fold_max P (max a x) xs (of_max P a x h hs.0) hs.1
 

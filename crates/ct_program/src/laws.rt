@@ -1,6 +1,6 @@
 //! Facts about every session, and sessions whose output is known.
 
-ghost use Rattle.std.specs.Prelude.{◌≡◌, ℕ, List, [], ◌∷◌, ◌++◌, All, Option, Some, None, false, true, codes};
+ghost use Rattle.std.specs.Prelude.{◌≡◌, ◌≤◌, ◌⊎◌, Contains, ℕ, List, [], ◌∷◌, ◌++◌, All, Option, Some, None, false, true, codes};
 ghost use Rattle.std.specs.List.{join_with_byte};
 ghost use Rattle.ct_io.specs.Lines.{lines_of};
 ghost use Rattle.ct_io.specs.declared.TheConstants.{LINE_FEED};
@@ -9,9 +9,12 @@ ghost use Rattle.ct_program.specs.Command.{commands_of, is_end};
 ghost use Rattle.ct_program.specs.Session.{IsRun};
 ghost use Rattle.ct_program.specs.Text.{reply_text};
 ghost use Rattle.ct_program.specs.declared.form.Form.{Form};
-ghost use Rattle.ct_program.specs.declared.form.Form.TheVariants.{Submit};
+ghost use Rattle.ct_program.specs.declared.form.Form.TheVariants.{Nothing, Submit, Show, Unknown};
 ghost use Rattle.ct_program.specs.declared.command.Command.{Command};
-ghost use Rattle.ct_program.specs.declared.command.Command.TheVariants.{Submission, CutOff};
+ghost use Rattle.ct_program.specs.declared.command.Command.TheVariants as command;
+ghost use Rattle.ct_program.specs.declared.piece.Piece.{Piece};
+ghost use Rattle.ct_program.specs.Bounds.{best_lower, sizes_at};
+ghost use Rattle.ct_codes.specs.declared.entry.Entry.{Entry};
 ghost use Rattle.ct_program.specs.declared.reply.Reply.TheVariants.{Shown};
 ghost use Rattle.ct_program.specs.declared.status.Status.{Status};
 ghost use Rattle.ct_program.specs.declared.status.Status.TheVariants as status;
@@ -28,10 +31,27 @@ pub fn every_input_has_one_run()
 pub fn submissions_take_their_lines()
     ensures whole { (line : List ℕ) (id : Option (List ℕ)) (document : List (List ℕ)) (end : List ℕ) (rest : List (List ℕ))
         → form_of line ≡ Submit id → All (λ l. is_end l ≡ false) document → is_end end ≡ true
-        → commands_of (line ∷ document ++ end ∷ rest) ≡ Submission id (join_with_byte LINE_FEED document) ∷ commands_of rest }
+        → commands_of (line ∷ document ++ end ∷ rest) ≡ command.Submission id (join_with_byte LINE_FEED document) ∷ commands_of rest }
     ensures cut { (line : List ℕ) (id : Option (List ℕ)) (document : List (List ℕ))
         → form_of line ≡ Submit id → All (λ l. is_end l ≡ false) document
-        → commands_of (line ∷ document) ≡ CutOff ∷ [] }
+        → commands_of (line ∷ document) ≡ command.CutOff ∷ [] }
+{}
+
+/// Every other line stands alone: it is no command, one that asks for the bounds of an entry, or an unknown one.
+pub fn other_lines_stand_alone()
+    ensures nothing { (line : List ℕ) (rest : List (List ℕ)) → form_of line ≡ Nothing → commands_of (line ∷ rest) ≡ commands_of rest }
+    ensures show { (line : List ℕ) (e : Option Entry) (rest : List (List ℕ)) → form_of line ≡ Show e
+        → commands_of (line ∷ rest) ≡ command.Show e ∷ commands_of rest }
+    ensures unknown { (line : List ℕ) (rest : List (List ℕ)) → form_of line ≡ Unknown
+        → commands_of (line ∷ rest) ≡ command.Unknown ∷ commands_of rest }
+{}
+
+/// The best lower bound of an entry is 1 or the size of a piece at the entry, and none of these is greater.
+pub fn best_lower_is_greatest()
+    ensures reached { (pieces : List Piece) (e : Entry)
+        → (best_lower pieces e ≡ 1) ⊎ Contains (sizes_at e pieces) (best_lower pieces e) }
+    ensures greatest { (pieces : List Piece) (e : Entry)
+        → (1 ≤ best_lower pieces e) × All (λ size. size ≤ best_lower pieces e) (sizes_at e pieces) }
 {}
 
 /// Inputs whose run is known: the empty one, an entry of the table and one outside it, and a submission that is cut off.
