@@ -3,8 +3,13 @@ use Rattle.std.proofs.Common.{◌≡◌, ◌≢◌, ℕ, ◌+◌, ◌<◌, ◌�
 use Rattle.std.specs.declared.alloc.Global.{Global}
 use Rattle.ct_io.specs.declared.TheConstants.{LINE_FEED}
 use Rattle.ct_io.specs.Lines.{IsNextLine}
-use Rattle.ct_io.specs.Reader.{Reader, Answer, IfLine, LosesLine, LosesFirstLine, Takes}
+use Rattle.ct_io.specs.Reader.{Reader, Answer, IfLine, LosesLine, LosesFirstLine, Takes, fresh_reader, input_of}
 use Rattle.ct_io.proofs.LinesLemmas.{lines_of-from_next}
+
+-- before the first call all of the input is with the source
+pub input_of-fresh : (left : Option (List ℕ)) → input_of fresh_reader left ≡ left
+input_of-fresh None = refl
+input_of-fresh (Some bytes) = refl
 
 -- what loses its next line loses the first of its lines
 pub LosesFirstLine-from_line : (before after : Option (List ℕ)) (line : List ℕ) → LosesLine before after line → LosesFirstLine before after line

@@ -11,7 +11,7 @@ use std::alloc::{AllocError, Global};
 use std::marker::Model;
 
 /// Bytes that were read and not yet given out, as a list.
-#[derive(Drop)]
+#[derive(Debug, Drop)]
 pub(crate) struct Held {
     bytes: Vec<u8>,
     // The bytes before this index were given out.

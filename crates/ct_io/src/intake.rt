@@ -10,7 +10,7 @@ use crate::{LINE_FEED, MAX_INPUT, PIECE};
 use std::alloc::{AllocError, Global};
 
 /// What came from the source and was not yet given out, and what is known of the source.
-#[derive(Drop)]
+#[derive(Debug, Drop)]
 pub(crate) struct Intake {
     pub(crate) held: Held,
     // Where a read puts its bytes.

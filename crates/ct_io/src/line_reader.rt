@@ -1,4 +1,4 @@
-ghost use Rattle.std.specs.Prelude.{◌≡◌, ℕ, ◌<◌, ◌≤◌, ◌⊎◌, Option, true, false, [], IfOk, OnErr};
+ghost use Rattle.std.specs.Prelude.{◌≡◌, ℕ, ◌<◌, ◌≤◌, ◌⊎◌, Option, true, false, [], IfOk, OnOk, OnErr};
 ghost use Rattle.std.specs.Io.KnownBytes.{IsAtEnd, Keeps};
 ghost use Rattle.ct_io.specs.Faults.{Rose};
 ghost use Rattle.ct_io.specs.Reader.{fresh_reader, input_of, IfLine, IfNoLine, LosesLine, LosesFirstLine, NeedsNoRead, Takes, lasting_fault};
@@ -12,7 +12,7 @@ use std::marker::Model;
 
 /// Takes bytes from a source and gives their lines. One reader serves one source: it keeps the
 /// bytes that it took and did not give yet.
-#[derive(Drop)]
+#[derive(Debug, Drop)]
 pub struct LineReader {
     intake: Intake,
     // The fault that each further call answers.
@@ -80,6 +80,7 @@ impl LineReader {
             ⊎ Rose (S.faults source.old) (S.faults source.new) }
         ensures too_long { (t : ℕ) → result ≡ Err (LineFault.TooLong t)
             → (t ≡ self.new.taken) × (MAX_INPUT < t) }
+        ensures within { OnOk result (self.new.taken ≤ MAX_INPUT) }
         ensures above_limit { MAX_INPUT < self.new.taken
             → result ≡ Err (LineFault.TooLong self.new.taken) }
         ensures remembered { self.new.fault ≡ lasting_fault result }

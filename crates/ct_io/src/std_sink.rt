@@ -6,7 +6,7 @@ use crate::failed::Failed;
 use crate::sink::Sink;
 use std::io::Write;
 
-/// A sink over a writer of std, as standard output. It tells no bytes.
+/// A sink over a writer of std, as standard output. It tells no bytes. Make it with `faults` 0.
 #[derive(Debug, Drop)]
 pub struct StdSink<W: Write + Drop> {
     /// The writer.

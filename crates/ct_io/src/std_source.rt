@@ -6,7 +6,7 @@ use crate::failed::Failed;
 use crate::source::Source;
 use std::io::Read;
 
-/// A source over a reader of std, as standard input. It tells no bytes.
+/// A source over a reader of std, as standard input. It tells no bytes. Make it with `faults` 0.
 #[derive(Debug, Drop)]
 pub struct StdSource<R: Read + Drop> {
     /// The reader.
