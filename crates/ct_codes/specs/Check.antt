@@ -1,5 +1,5 @@
 -- When a list of words is accepted as a code of an entry, and the first reason why it is not.
-use Rattle.std.specs.Prelude.{ℕ, Bool, ◌==◌, nat_lt, ◌||◌, if◌then◌else◌, List, length, position, slice_index, not, Option, Some, None}
+use Rattle.std.specs.Prelude.{ℕ, ◌==◌, nat_lt, ◌||◌, if◌then◌else◌, List, length, position, slice_index, not, Option, Some, None}
 use Rattle.std.specs.Option.{option_map}
 use Rattle.ct_words.specs.Word.{weight, distance}
 use Rattle.ct_codes.specs.declared.entry.Entry.{Entry}

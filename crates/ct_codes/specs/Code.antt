@@ -1,5 +1,8 @@
 -- Codes, and the two claims that a table makes of them (MacWilliams and Sloane, chapter 1; Brouwer, Shearer, Sloane and Smith 1990 for constant weight).
 use Rattle.std.specs.Prelude.{◌≡◌, ◌≢◌, ℕ, ◌^◌, ◌<◌, ◌≤◌, List, length, All, AllPairs, Option, IfSome}
+use Rattle.std.specs.List.Sorted.{IsStrictlyIncreasing}
+use Rattle.ct_words.specs.declared.limits.TheConstants.{MAX_N}
+use Rattle.ct_codes.specs.declared.code.TheConstants.{MAX_CODE_DISTANCE}
 use Rattle.ct_words.specs.Word.{weight, distance}
 use Rattle.ct_codes.specs.declared.entry.Entry.{Entry}
 
@@ -29,3 +32,11 @@ pub record CodeValue : Type 0 where
   pub d : ℕ
   pub w : Option ℕ
   pub words : List ℕ
+
+-- the value is a code: lengths and distance within the limits, at least one word, and the words strictly ascending
+pub record IsSoundCode (c : CodeValue) : Type 0 where
+  pub length_in_range : (1 ≤ c.n) × (c.n ≤ MAX_N)
+  pub distance_in_range : (1 ≤ c.d) × (c.d ≤ MAX_CODE_DISTANCE)
+  pub some : 1 ≤ length c.words
+  pub ascending : IsStrictlyIncreasing c.words
+  pub code : IsCode c.n c.d c.w c.words

@@ -1,5 +1,5 @@
 -- The entries of the table: A(n,d), and A(n,d,w) for constant weight (MacWilliams and Sloane; Brouwer, Shearer, Sloane and Smith 1990).
-use Rattle.std.specs.Prelude.{◌≡◌, ℕ, ◌%◌, ◌≤◌, Bool, true, nat_le, ◌==◌, ◌&&◌, Option, Some, None, IsTrue}
+use Rattle.std.specs.Prelude.{ℕ, ◌%◌, Bool, true, nat_le, ◌==◌, ◌&&◌, Option, Some, None, IsTrue}
 use Rattle.ct_words.specs.declared.limits.TheConstants.{MAX_N}
 use Rattle.ct_codes.specs.declared.entry.Entry.{Entry}
 

@@ -1,2 +1,4 @@
+pub mod DigitLists
 pub mod TextLemmas
+pub mod OrderLemmas
 pub mod WordLemmas

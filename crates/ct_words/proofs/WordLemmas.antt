@@ -1,7 +1,7 @@
 -- Digits, weights and distances of words, and sums without carry.
-use Rattle.std.proofs.Common.{◌≡◌, ℕ, zero, suc, ◌+◌, ◌-◌, ◌*◌, ◌/◌, ◌%◌, ◌^◌, ◌<◌, ◌≤◌, ◌≢◌, Bool, true, false, not, ◌&&◌, ◌==◌, if◌then◌else◌, bit_xor, count_ones, sym, refl, ap, ap₂, ◌∙◌, inl, inr, arith, pow-suc, eq-eqb, eqb-true, ne_eqb, shr-shr, div-one}
+use Rattle.std.proofs.Common.{◌≡◌, ℕ, zero, suc, ◌+◌, ◌-◌, ◌*◌, ◌/◌, ◌%◌, ◌^◌, ◌<◌, ◌≤◌, ◌≢◌, Bool, true, false, not, ◌&&◌, ◌==◌, if◌then◌else◌, bit_xor, count_ones, sym, refl, ap, ap₂, ◌∙◌, inl, inr, arith, pow-suc, eq-eqb, eqb-true, ne_eqb, shr-shr, div-one, pow_pos}
 use lib.Count.{ones_step}
-use Rattle.std.proofs.lemmas.Nat.{xor_lt, ones_le_self, div_below, mod_below}
+use Rattle.std.proofs.lemmas.Nat.{xor_lt, ones_le_self, div_below, mod_below, mod-mul-add, div-mul-add}
 use Rattle.std.proofs.lemmas.Nat.Bits.{bit_at_xor, bit_at-lt, same_from_bits_below}
 use Rattle.std.proofs.lemmas.Bool.{cases_order, cases_eq, not-false}
 use Rattle.std.proofs.lemmas.Bool.Decides.{nat_tests}
@@ -196,3 +196,27 @@ distance-sum n x y z x' y' first second =
   where
     differ_shifted : (a b c : ℕ) → a < 2 → b < 2 → c < 2 → not ((a + c) % 2 == (b + c) % 2) ≡ not (a == b)
     differ_shifted a b c h k l = grind (arith, nat_tests)
+
+-- the distance of two words does not depend on the length that they are read at
+pub distance_any_length : (n m x y : ℕ) → x < 2 ^ n → y < 2 ^ n → x < 2 ^ m → y < 2 ^ m → distance n x y ≡ distance m x y
+distance_any_length n m x y x_n y_n x_m y_m =
+    let at_n = IsSum-bit_xor n x y x_n y_n in
+    let at_m = IsSum-bit_xor m x y x_m y_m in
+    distance-is_weight n x y (bit_xor x y) at_n ∙ sym (weight-count_ones n (bit_xor x y) at_n.word)
+    ∙ weight-count_ones m (bit_xor x y) at_m.word ∙ sym (distance-is_weight m x y (bit_xor x y) at_m)
+
+-- nor does the weight of a word
+pub weight_any_length : (n m x : ℕ) → x < 2 ^ n → x < 2 ^ m → weight n x ≡ weight m x
+weight_any_length n m x below_n below_m = sym (weight-count_ones n x below_n) ∙ weight-count_ones m x below_m
+
+-- the word with ones at its last w places has weight w
+pub weight-ones : (n w : ℕ) → w ≤ n → weight n (2 ^ w - 1) ≡ w
+weight-ones n zero h = let below = pow_pos n in let few = ones_le_self 0 in sym (weight-count_ones n 0 below) ∙ omega arith
+weight-ones zero (suc w) h = absurd (omega arith)
+weight-ones (suc n) (suc w) h =
+    let more = pow-suc 2 w in
+    let some = pow_pos w in
+    let split : 2 ^ suc w - 1 ≡ (2 ^ w - 1) * 2 + 1 = omega arith in
+    ap (weight (suc n)) split ∙ weight-suc n ((2 ^ w - 1) * 2 + 1)
+    ∙ ap₂ (λ i j. i + j) (mod-mul-add (2 ^ w - 1) 2 1 (omega arith)) (ap (weight n) (div-mul-add (2 ^ w - 1) 2 1 (omega arith)) ∙ weight-ones n w (omega arith))
+    ∙ omega arith

@@ -1,6 +1,8 @@
 //! Facts about words that hold for all of them, and two words whose values are known.
 
 ghost use Rattle.std.specs.Prelude.{◌≡◌, ◌↔◌, ℕ, ◌+◌, ◌^◌, ◌<◌, ◌≤◌, List, Some, codes};
+ghost use Rattle.std.specs.Ordering.{nat_cmp};
+ghost use Rattle.std.specs.Cmp.Lexicographic.{slice_cmp};
 ghost use Rattle.ct_words.specs.Word.{distance, weight, IsSum};
 ghost use Rattle.ct_words.specs.Text.{word_of, word_text};
 
@@ -21,6 +23,12 @@ pub fn distance_is_metric()
 pub fn texts_are_words()
     ensures { (n x : ℕ) (text : List ℕ) →
         (word_of n text ≡ Some x) ↔ ((x < 2 ^ n) × (text ≡ word_text n x)) }
+{}
+
+/// Words of one length are in the order of their texts.
+pub fn words_are_ordered_as_texts()
+    ensures { (n x y : ℕ) → x < 2 ^ n → y < 2 ^ n →
+        nat_cmp x y ≡ slice_cmp nat_cmp (word_text n x) (word_text n y) }
 {}
 
 /// Two words of the extended Golay code of length 24 (Golay 1949), their texts and their distance.

@@ -1,13 +1,20 @@
 //! Binary words of a code: their distance, weight and text, and the limits of the table.
 #![tactic(auto)]
 
+mod counts;
 mod laws;
 mod limits;
 mod metric;
+#[cfg(test)]
+mod tests;
 mod text;
 mod word;
 
-pub use laws::{distance_is_metric, distance_is_weight_of_sum, golay_words, texts_are_words};
+pub use counts::{ball, binomial, factorial};
+pub use laws::{
+    distance_is_metric, distance_is_weight_of_sum, golay_words, texts_are_words,
+    words_are_ordered_as_texts,
+};
 pub use limits::{MAX_BOUND, MAX_N};
 pub use metric::{distance, weight};
 pub use text::{parse_word, print_word};

@@ -1,0 +1,4 @@
+pub mod PairLemmas
+pub mod EntryLemmas
+pub mod CheckLemmas
+pub mod BoundLemmas

@@ -1,0 +1,91 @@
+//! Lists of words that are handed in, checked as codes.
+
+ghost use Rattle.std.specs.Prelude.{◌≡◌, ℕ, ◌^◌, ◌<◌, ◌≤◌, All, IfOk, IsPermutation};
+ghost use Rattle.std.specs.Result.{result_err};
+ghost use Rattle.ct_codes.specs.Entry.{IsEntry};
+ghost use Rattle.ct_codes.specs.Code.{IsCodeOf, IsSoundCode};
+ghost use Rattle.ct_codes.specs.Pairs.{first_of};
+ghost use Rattle.ct_codes.specs.Check.{code_fault, size_fault, weight_fault, repeated_fault, close_fault};
+
+use crate::code::Code;
+use crate::entry::Entry;
+use crate::fault::{CodeFault, MAX_WORDS};
+use crate::pairs::first_close_pair;
+use ct_words::{Word, distance, weight};
+use std::alloc::Global;
+
+/// The code of the entry, which is in the table, that has these words, which are below 2^n.
+///
+/// The refusals in order: `Size` where there is no word or there are more than `MAX_WORDS`, `Weight` with the first
+/// word that has not the weight of the entry, `Repeated` with the least pair of equal words, and `Close` with the least
+/// pair whose distance is below d, and that distance. It takes no memory, so `Memory` never comes.
+pub fn check_words(_alloc: Global, entry: Entry, words: Vec<Word>) -> Result<Code, CodeFault>
+    requires entry { IsEntry entry }
+    requires words { All (λ x. x < 2 ^ entry.n) words.items }
+    ensures fault { result_err result ≡ code_fault entry words.items }
+    ensures code { IfOk result (λ c. IsCodeOf entry words.items) }
+    ensures entry { IfOk result (λ c. (c.n ≡ entry.n) × (c.d ≡ entry.d) × (c.w ≡ entry.w)) }
+    ensures words { IfOk result (λ c. IsPermutation words.items c.words) }
+    ensures sound { IfOk result IsSoundCode }
+{
+    if let Some(fault) = first_fault(entry, &words) {
+        return Err(fault);
+    }
+    let mut words = words;
+    words.sort_unstable();
+    let Entry { n, d, w } = entry;
+    Ok(Code::from_checked(n, d, w, words))
+}
+
+/// The first reason why the words are no code of the entry.
+fn first_fault(entry: Entry, words: &[Word]) -> Option<CodeFault>
+    requires entry { IsEntry entry }
+    requires words { All (λ x. x < 2 ^ entry.n) words.now }
+    ensures { result ≡ code_fault entry words.now }
+{
+    if let Some(fault) = size_fault(words) {
+        return Some(fault);
+    }
+    if let Some(fault) = weight_fault(words, entry.w) {
+        return Some(fault);
+    }
+    pair_fault(words, entry.d)
+}
+
+/// Whether there are too few words or too many.
+fn size_fault(words: &[Word]) -> Option<CodeFault>
+    ensures { result ≡ size_fault words.now }
+{
+    let count = words.len();
+    if count == 0 || count > MAX_WORDS {
+        Some(CodeFault::Size(count as u64))
+    } else {
+        None
+    }
+}
+
+/// The first word of another weight, where a weight is given.
+fn weight_fault(words: &[Word], w: Option<u32>) -> Option<CodeFault>
+    ensures { (n : ℕ) → All (λ x. x < 2 ^ n) words.now → result ≡ weight_fault n w words.now }
+{
+    let w = w?;
+    for (place, word) in words.iter().enumerate() {
+        if weight(*word) != w {
+            return Some(CodeFault::Weight(place));
+        }
+    }
+    None
+}
+
+/// The least pair of equal words, or else the least pair that is closer than `d`.
+fn pair_fault(words: &[Word], d: u32) -> Option<CodeFault>
+    requires { 1 ≤ d }
+    ensures { (n : ℕ) → All (λ x. x < 2 ^ n) words.now →
+        result ≡ first_of (repeated_fault words.now) (close_fault n d words.now) }
+{
+    let (i, j) = first_close_pair(words, d)?;
+    match first_close_pair(words, 1) {
+        Some((first, again)) => Some(CodeFault::Repeated(first, again)),
+        None => Some(CodeFault::Close(i, j, distance(words[i], words[j]))),
+    }
+}

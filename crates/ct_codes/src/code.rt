@@ -1,0 +1,69 @@
+//! Codes.
+
+ghost use Rattle.std.specs.Prelude.{◌≡◌};
+ghost use Rattle.ct_codes.specs.Code.{CodeValue, IsSoundCode};
+
+use ct_words::Word;
+use std::marker::Model;
+
+/// The greatest distance that a code is made for. Codes are also made for distances that are no entry's.
+pub const MAX_CODE_DISTANCE: u32 = 60;
+
+/// A code of length n, of distance d and, where it is given, of weight w: at least one word, in ascending order.
+#[derive(Debug, Drop)]
+pub struct Code {
+    n: u32,
+    d: u32,
+    w: Option<u32>,
+    words: Vec<Word>,
+}
+
+impl Model for Code {
+    ghost Value = { CodeValue };
+
+    ghost view = { λ c. record { n = c.n; d = c.d; w = c.w; words = c.words.items } };
+
+    ghost invariant = { λ c. IsSoundCode (record { n = c.n; d = c.d; w = c.w; words = c.words.items }) };
+}
+
+impl Code {
+    /// The code of words that were checked and are in order.
+    pub(crate) fn from_checked(n: u32, d: u32, w: Option<u32>, words: Vec<Word>) -> Code
+        requires { IsSoundCode (record { n = n; d = d; w = w; words = words.items }) }
+        ensures { result ≡ record { n = n; d = d; w = w; words = words.items } }
+    {
+        Code { n, d, w, words }
+    }
+
+    /// The length of the words.
+    pub fn n(&self) -> u32
+        ensures value { result ≡ self.now.n }
+        ensures sound { IsSoundCode self.now }
+    {
+        self.n
+    }
+
+    /// The distance that each two words have at least.
+    pub fn d(&self) -> u32
+        ensures value { result ≡ self.now.d }
+        ensures sound { IsSoundCode self.now }
+    {
+        self.d
+    }
+
+    /// The weight that each word has, where it is given.
+    pub fn w(&self) -> Option<u32>
+        ensures value { result ≡ self.now.w }
+        ensures sound { IsSoundCode self.now }
+    {
+        self.w
+    }
+
+    /// The words, in ascending order.
+    pub fn words(&self) -> &[Word]
+        ensures value { result.now ≡ self.now.words }
+        ensures sound { IsSoundCode self.now }
+    {
+        &self.words
+    }
+}

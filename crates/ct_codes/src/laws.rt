@@ -1,0 +1,51 @@
+//! Facts about entries, pairs and codes that hold for all of them, and lists of words whose fault is known.
+
+ghost use Rattle.std.specs.Prelude.{◌≡◌, ◌↔◌, ℕ, ◌%◌, ◌^◌, ◌<◌, ◌≤◌, Bool, List, [], ◌∷◌, length, All, IfSome};
+ghost use Rattle.ct_words.specs.declared.limits.TheConstants.{MAX_N};
+ghost use Rattle.ct_codes.specs.declared.entry.Entry.{Entry};
+ghost use Rattle.ct_codes.specs.declared.fault.TheConstants.{MAX_WORDS};
+ghost use Rattle.ct_codes.specs.declared.fault.CodeFault.TheVariants.{Size, Repeated, Close};
+ghost use Rattle.ct_codes.specs.Entry.{IsEntry};
+ghost use Rattle.ct_codes.specs.Pairs.{least_pair, IsLeastPair, NoPair};
+ghost use Rattle.ct_codes.specs.Code.{IsCodeOf, IsTrueLower, IsTrueUpper};
+ghost use Rattle.ct_codes.specs.Check.{code_fault};
+
+/// The entries of the table: lengths from 1 and distances from 3, both up to `MAX_N`, and weights up to the length,
+/// for even distances alone.
+pub fn entries_of_the_table()
+    ensures { (e : Entry) → IsEntry e ↔ ((1 ≤ e.n) × (e.n ≤ MAX_N) × (3 ≤ e.d) × (e.d ≤ MAX_N) ×
+        IfSome e.w (λ w. (e.d % 2 ≡ 0) × (4 ≤ e.d) × (w ≤ e.n))) }
+{}
+
+/// The least pair is a pair that passes and that no passing pair comes before; there is none where no pair passes.
+pub fn least_pair_is_least()
+    ensures found { (test : ℕ → ℕ → Bool) (xs : List ℕ) (i j : ℕ) →
+        (least_pair test xs ≡ Some (i, j)) ↔ IsLeastPair test xs i j }
+    ensures none { (test : ℕ → ℕ → Bool) (xs : List ℕ) →
+        (least_pair test xs ≡ None) ↔ NoPair test xs }
+{}
+
+/// A list of words has no fault exactly where it is a code of the entry, of 1 to `MAX_WORDS` words.
+pub fn faultless_lists_are_codes()
+    ensures { (e : Entry) (words : List ℕ) → All (λ x. x < 2 ^ e.n) words →
+        (code_fault e words ≡ None) ↔
+        ((1 ≤ length words) × (length words ≤ MAX_WORDS) × IsCodeOf e words) }
+{}
+
+/// Each entry of the table has a code of one word, and no code has more words than there are words of its length.
+pub fn bounds_of_every_entry()
+    ensures lower { (e : Entry) → IsEntry e → IsTrueLower e 1 }
+    ensures upper { (e : Entry) → IsTrueUpper e (2 ^ e.n) }
+{}
+
+/// Lists of words of length 10, checked for distance 6.
+pub fn known_faults()
+    ensures accepted { code_fault (record { n = 10; d = 6; w = None })
+        (0b1111111111 ∷ 0b1111000000 ∷ 0b1000111000 ∷
+        0b0100100110 ∷ 0b0010010101 ∷ 0b0001001011 ∷ []) ≡ None }
+    ensures close { code_fault (record { n = 10; d = 6; w = None })
+        (0b0000000000 ∷ 0b1111100000 ∷ []) ≡ Some (Close 0 1 5) }
+    ensures repeated { code_fault (record { n = 10; d = 6; w = None })
+        (0b0000000000 ∷ 0b0000000000 ∷ []) ≡ Some (Repeated 0 1) }
+    ensures empty { code_fault (record { n = 10; d = 6; w = None }) [] ≡ Some (Size 0) }
+{}

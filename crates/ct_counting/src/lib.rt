@@ -1,0 +1,6 @@
+//! Mathematics that the bounds rest on: binomial coefficients, words as lists of digits, and counting.
+#![tactic(auto)]
+
+mod laws;
+
+pub use laws::{binomial_laws, word_laws};

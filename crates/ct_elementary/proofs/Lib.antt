@@ -1,0 +1,9 @@
+pub mod Spread
+pub mod Spheres
+pub mod Entries
+pub mod PairSums
+pub mod Places
+pub mod Averages
+pub mod Halves
+pub mod Parity
+pub mod PlotkinRule

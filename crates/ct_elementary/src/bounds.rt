@@ -1,0 +1,58 @@
+//! The three bounds, for an entry A(n,d) of the table: 1 ≤ n ≤ 28 and 3 ≤ d ≤ 28.
+
+ghost use Rattle.std.specs.Prelude.{◌≡◌, ◌≤◌, IfSome};
+ghost use Rattle.ct_codes.specs.Code.{IsTrueUpper};
+ghost use Rattle.ct_codes.specs.Entry.{IsEntry};
+ghost use Rattle.ct_elementary.specs.Bounds.{plain, far_value, plotkin_even as even_value, plotkin_value, hamming_value};
+
+use ct_words::{MAX_BOUND, ball};
+
+/// The bound 1 where d is above n, and `None` elsewhere: two words differ at no more than n places.
+pub fn far(n: u32, d: u32) -> Option<u32>
+    requires { IsEntry (plain n d) }
+    ensures value { result ≡ far_value n d }
+    ensures sound { IfSome result (IsTrueUpper (plain n d)) }
+{
+    if n < d { Some(1) } else { None }
+}
+
+/// Plotkin's bound where d is at most n and n at most 2d, or 2d + 1 for an odd d; `None` elsewhere
+/// (Plotkin 1960; MacWilliams and Sloane, chapter 2, section 2).
+pub fn plotkin(n: u32, d: u32) -> Option<u32>
+    requires { IsEntry (plain n d) }
+    ensures value { result ≡ plotkin_value n d }
+    ensures range { IfSome result (λ v. (1 ≤ v) × (v ≤ MAX_BOUND)) }
+    ensures sound { IfSome result (IsTrueUpper (plain n d)) }
+{
+    if d % 2 == 0 {
+        plotkin_even(n, d)
+    } else {
+        plotkin_even(n + 1, d + 1)
+    }
+}
+
+/// Plotkin's bound for an even d.
+fn plotkin_even(n: u32, d: u32) -> Option<u32>
+    requires { (1 ≤ d) × (d ≤ 29) }
+    ensures { result ≡ even_value n d }
+{
+    if d <= n && n < 2 * d {
+        Some(2 * (d / (2 * d - n)))
+    } else if n == 2 * d {
+        Some(4 * d)
+    } else {
+        None
+    }
+}
+
+/// Hamming's bound: balls of radius ⌊(d - 1) / 2⌋ about the words of a code have no word in common
+/// (Hamming 1950; MacWilliams and Sloane, chapter 1, section 5).
+pub fn hamming(n: u32, d: u32) -> u32
+    requires { IsEntry (plain n d) }
+    ensures value { result ≡ hamming_value n d }
+    ensures range { (1 ≤ result) × (result ≤ MAX_BOUND) }
+    ensures sound { IsTrueUpper (plain n d) result }
+{
+    let words = 1u64 << n;
+    (words / ball(n, (d - 1) / 2)) as u32
+}

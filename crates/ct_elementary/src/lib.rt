@@ -1,0 +1,9 @@
+//! Elementary upper bounds on the size of a code without weight: far apart, Plotkin's and Hamming's.
+#![tactic(auto)]
+
+mod bounds;
+
+pub use bounds::{far, hamming, plotkin};
+
+#[cfg(test)]
+mod tests;

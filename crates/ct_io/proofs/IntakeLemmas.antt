@@ -1,0 +1,45 @@
+-- Bytes that come to a reader in several reads.
+use Rattle.std.proofs.Common.{◌≡◌, ℕ, ◌+◌, ◌≤◌, true, false, List, ◌++◌, Option, inl, inr, refl, sym, subst, ap, ◌∙◌, eqb, length, length-append, append_assoc, arith}
+use Rattle.std.specs.List.{Contains}
+use Rattle.std.proofs.KnownBytes.{Consumes-trans}
+use Rattle.std.proofs.lemmas.Bool.{eqb-true}
+use Rattle.std.proofs.lemmas.List.Elements.{All-contains, Contains-append_left}
+use Rattle.ct_io.specs.declared.TheConstants.{LINE_FEED, MAX_INPUT}
+use Rattle.ct_io.specs.declared.intake.Intake.{Intake}
+use Rattle.ct_io.specs.Filling.{FillsBy}
+use Rattle.ct_io.specs.Intake.{Gathers}
+use Rattle.ct_io.specs.Lines.{IsLine}
+use Rattle.ct_io.specs.Reader.{NeedsNoRead}
+use Rattle.ct_io.proofs.FeedLemmas.{IsNoFeed}
+
+-- what holds after any number of reads
+pub record IsGathering (old new : Intake) (before after : Option (List ℕ)) (faults faults' : ℕ) : Type 0 where
+  pub gathers : Gathers old new before after
+  pub within : new.taken ≤ MAX_INPUT
+  pub counted : faults ≤ faults'
+
+-- one more read
+pub IsGathering-more : (old mid new : Intake) (before between after : Option (List ℕ)) (f g h n : ℕ) → IsGathering old mid before between f g → mid.ended ≡ false
+    → FillsBy mid.held new.held between after n → new.taken ≡ mid.taken + n → new.ended ≡ eqb n 0 → new.taken ≤ MAX_INPUT → g ≤ h → IsGathering old new before after f h
+IsGathering-more old mid new before between after f g h n so_far going filled taken ended within counted =
+    let came = so_far.gathers in
+    record {
+      gathers = (
+        came.0 ++ filled.0,
+        Consumes-trans before between after came.0 filled.0 came.1 filled.1,
+        filled.2 ∙ ap (λ l. l ++ filled.0) came.2 ∙ append_assoc old.held came.0 filled.0,
+        omega (arith, came.3, taken, filled.3, length-append came.0 filled.0),
+        λ _ end. filled.4 (eqb-true n 0 (sym ended ∙ end)),
+        λ was. let is : mid.ended ≡ true = came.5 was in cc,
+      );
+      within = within;
+      counted = omega (arith, so_far.counted);
+    }
+
+-- a read comes only where it is needed
+pub needs_read : (old mid : Intake) (before between : Option (List ℕ)) → Gathers old mid before between → IsLine mid.held → mid.ended ≡ false → NeedsNoRead old.held old.ended → ⊥
+needs_read old mid before between came line going ready =
+    elim ready [
+      | inl held ↦ All-contains IsNoFeed mid.held LINE_FEED line (subst (λ (l : List ℕ). Contains l LINE_FEED) (sym came.2) (Contains-append_left old.held came.0 LINE_FEED held)) refl
+      | inr was ↦ let is : mid.ended ≡ true = came.5 was in cc
+    ]

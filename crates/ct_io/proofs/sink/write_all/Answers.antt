@@ -1,0 +1,13 @@
+use Rattle.std.proofs.Common.{List, ℕ, subst, sym, arith}
+use Rattle.std.specs.Io.KnownBytes.{Appends}
+use Rattle.std.proofs.KnownBytes.{Appends-trans}
+use Rattle.ct_io.proofs.Copies.{take-written}
+use Rattle.ct_io.proofs.sink.write_all.Goals as goal
+
+pub loop-at-preserved : goal.loop-at-preserved
+loop-at-preserved g c =
+    let written = Appends-trans _ _ _ _ _ c.loop-at.invariant.1 c.in_ok-at.ensures.bytes in (
+      omega (arith, c.in_ok-at.ensures.within),
+      subst (λ (l : List ℕ). Appends (g.K.Sink.holds c.args.sink.now) (g.K.Sink.holds c.write.new.self) l) (sym (take-written c.args.bytes.now c.loop-at.at c.in_ok-at.field-0)) written,
+      omega (arith, c.in_ok-at.ensures.counted),
+    )

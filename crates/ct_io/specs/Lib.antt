@@ -1,0 +1,6 @@
+pub mod Faults
+pub mod Filling
+pub mod Inside
+pub mod Intake
+pub mod Lines
+pub mod Reader

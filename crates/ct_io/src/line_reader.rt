@@ -1,0 +1,108 @@
+ghost use Rattle.std.specs.Prelude.{◌≡◌, ℕ, ◌<◌, ◌≤◌, ◌⊎◌, Option, true, false, [], IfOk, OnErr};
+ghost use Rattle.std.specs.Io.KnownBytes.{IsAtEnd, Keeps};
+ghost use Rattle.ct_io.specs.Faults.{Rose};
+ghost use Rattle.ct_io.specs.Reader.{fresh_reader, input_of, IfLine, IfNoLine, LosesLine, LosesFirstLine, NeedsNoRead, Takes, lasting_fault};
+
+use crate::MAX_INPUT;
+use crate::intake::Intake;
+use crate::line_fault::LineFault;
+use crate::source::Source;
+use std::alloc::{AllocError, Global};
+use std::marker::Model;
+
+/// Takes bytes from a source and gives their lines. One reader serves one source: it keeps the
+/// bytes that it took and did not give yet.
+#[derive(Drop)]
+pub struct LineReader {
+    intake: Intake,
+    // The fault that each further call answers.
+    fault: Option<LineFault>,
+}
+
+impl Model for LineReader {
+    ghost use Rattle.ct_io.specs.Reader.{Reader};
+
+    ghost Value = { Reader };
+
+    ghost use Rattle.ct_io.specs.Inside.{reader_of, IsSettled};
+
+    ghost view = { reader_of };
+
+    ghost invariant = { λ r. IsSettled r.intake.taken r.fault };
+}
+
+impl LineReader {
+    /// A reader that took nothing yet.
+    pub fn new(alloc: Global) -> Result<LineReader, AllocError>
+        ensures { IfOk result (λ r. r ≡ fresh_reader) }
+    {
+        Ok(LineReader {
+            intake: Intake::new(alloc)?,
+            fault: None,
+        })
+    }
+
+    /// How many bytes were taken from the source.
+    pub fn taken(&self) -> u64
+        ensures { result ≡ self.now.taken }
+    {
+        self.intake.taken
+    }
+
+    /// The next line, without its line feed. A last line without a line feed is a line where it
+    /// isn't empty. `None` is the end: the input was read to its end, and no line is left.
+    ///
+    /// It gives a whole line that it holds before it reads. After `ReadFault` and after `TooLong`,
+    /// which comes exactly where more than `MAX_INPUT` bytes were taken, each further call answers
+    /// the same. After `Memory` the lines still to come are as before the call.
+    pub fn next_line<S: Source>(&mut self, source: &mut S) -> Result<Option<Vec<u8>>, LineFault>
+        // The input: its next line is taken off, or none is left, or all of it stays.
+        ensures line { IfLine result (LosesLine (input_of self.old (S.left source.old))
+            (input_of self.new (S.left source.new))) }
+        ensures lines { IfLine result (LosesFirstLine (input_of self.old (S.left source.old))
+            (input_of self.new (S.left source.new))) }
+        ensures none { IfNoLine result (IsAtEnd (input_of self.old (S.left source.old))
+            × IsAtEnd (input_of self.new (S.left source.new))) }
+        ensures kept { OnErr result (Keeps (input_of self.old (S.left source.old))
+            (input_of self.new (S.left source.new))) }
+
+        // The bytes that were taken, and the end of the input.
+        ensures taken { Takes self.old self.new (S.left source.old) (S.left source.new) result }
+        ensures end { self.old.ended ≡ false → self.new.ended ≡ true → IsAtEnd (S.left source.new) }
+        ensures read_to_end { IfNoLine result ((self.new.held ≡ []) × (self.new.ended ≡ true)) }
+        ensures ended { self.old.ended ≡ true → self.new.ended ≡ true }
+        ensures unread { NeedsNoRead self.old.held self.old.ended
+            → (self.new.taken ≡ self.old.taken) × (source.new ≡ source.old) }
+
+        // The faults.
+        ensures read_fault { result ≡ Err LineFault.ReadFault
+            → (self.old.fault ≡ Some LineFault.ReadFault)
+            ⊎ Rose (S.faults source.old) (S.faults source.new) }
+        ensures too_long { (t : ℕ) → result ≡ Err (LineFault.TooLong t)
+            → (t ≡ self.new.taken) × (MAX_INPUT < t) }
+        ensures above_limit { MAX_INPUT < self.new.taken
+            → result ≡ Err (LineFault.TooLong self.new.taken) }
+        ensures remembered { self.new.fault ≡ lasting_fault result }
+        ensures stays { (f : LineFault) → self.old.fault ≡ Some f → (result ≡ Err f)
+            × (self.new ≡ self.old) × (source.new ≡ source.old) }
+        ensures counted { S.faults source.old ≤ S.faults source.new }
+    {
+        if let Some(fault) = self.fault {
+            return Err(fault);
+        }
+        let answer = self.intake.next_line(source);
+        self.fault = fault_to_keep(&answer);
+        answer
+    }
+}
+
+// The fault that each call after this answer gives again: want of memory is none.
+fn fault_to_keep(answer: &Result<Option<Vec<u8>>, LineFault>) -> Option<LineFault>
+    ensures { result ≡ lasting_fault answer.now }
+{
+    match answer {
+        Err(LineFault::ReadFault) => Some(LineFault::ReadFault),
+        Err(LineFault::TooLong(taken)) => Some(LineFault::TooLong(*taken)),
+        Ok(_) | Err(LineFault::Memory) => None,
+    }
+}

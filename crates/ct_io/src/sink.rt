@@ -1,0 +1,40 @@
+ghost use Rattle.std.specs.Prelude.{ℕ, ◌<◌, ◌≤◌, List, Option, IfOk, OnOk, OnErr, length, take};
+ghost use Rattle.std.specs.Io.KnownBytes.{Appends, WriteAppends};
+ghost use Rattle.ct_io.specs.Faults.{Rose};
+
+use crate::failed::Failed;
+
+/// What bytes are written to.
+pub trait Sink {
+    // The bytes that the sink holds, where it tells them.
+    ghost holds: { Self → Option (List ℕ) };
+
+    // How many faults there were. The count never falls.
+    ghost faults: { Self → ℕ };
+
+    /// Takes bytes from the front of `piece` and gives their number, which is zero only where
+    /// `piece` is empty. `Failed` comes only where the count of faults rose in this call, and
+    /// then no byte was taken.
+    fn write(&mut self, piece: &[u8]) -> Result<usize, Failed>
+        ensures within { IfOk result (λ n. n ≤ length piece.now) }
+        ensures some { IfOk result (λ n. 0 < length piece.now → 0 < n) }
+        ensures bytes { WriteAppends (holds self.old) (holds self.new) result piece.now }
+        ensures counted { faults self.old ≤ faults self.new }
+        ensures failed { OnErr result (Rose (faults self.old) (faults self.new)) };
+}
+
+/// Writes all of `bytes`, in as many calls of the sink as it takes. After `Failed` the sink has
+/// taken a prefix of them. It takes no memory.
+pub fn write_all<K: Sink>(sink: &mut K, bytes: &[u8]) -> Result<(), Failed>
+    ensures written { OnOk result (Appends (K.holds sink.old) (K.holds sink.new) bytes.now) }
+    ensures prefix { OnErr result ((n : ℕ) × (n ≤ length bytes.now)
+        × Appends (K.holds sink.old) (K.holds sink.new) (take n bytes.now)) }
+    ensures failed { OnErr result (Rose (K.faults sink.old) (K.faults sink.new)) }
+    ensures counted { K.faults sink.old ≤ K.faults sink.new }
+{
+    let mut at = 0;
+    while at < bytes.len() {
+        at += sink.write(&bytes[at..])?;
+    }
+    Ok(())
+}

@@ -1,0 +1,83 @@
+ghost use Rattle.std.specs.Prelude.{◌≤◌, IfOk};
+
+use super::*;
+use std::alloc::AllocError;
+use std::test::Fail;
+
+const TEXT: &[u8] = b"first\n\nthird line\nlast";
+
+fn source_of(rt: &HostRuntime, failing: &[u32], cap: usize) -> Result<MemSource, AllocError>
+    requires { 1 ≤ cap }
+    ensures { IfOk result (λ s. 1 ≤ s.cap) }
+{
+    let bytes = TEXT.to_vec(rt.alloc())?;
+    Ok(MemSource::new(bytes, failing.to_vec(rt.alloc())?, cap))
+}
+
+#[test]
+fn pieces_of_any_size_give_the_same_lines(rt: HostRuntime) -> Result<(), Fail> {
+    let expected: [&[u8]; 4] = [b"first", b"", b"third line", b"last"];
+    for cap in [1, 7, 4096] {
+        let mut source = source_of(&rt, &[], cap)?;
+        let mut reader = LineReader::new(rt.alloc())?;
+        for line in expected {
+            let given = reader.next_line(&mut source)?.ok_or("a line is missing")?;
+            assert_eq!(rt; given.as_slice(), line, "with pieces of {cap}");
+        }
+        assert!(rt; reader.next_line(&mut source)?.is_none());
+        assert!(rt; reader.next_line(&mut source)?.is_none());
+        assert_eq!(rt; reader.taken(), 22);
+    }
+    Ok(())
+}
+
+#[test]
+fn a_failed_read_is_answered_again(rt: HostRuntime) -> Result<(), Fail> {
+    let mut source = source_of(&rt, &[1], 8)?;
+    let mut reader = LineReader::new(rt.alloc())?;
+    let first = reader.next_line(&mut source)?.ok_or("a line is missing")?;
+    assert_eq!(rt; first.as_slice(), b"first".as_slice());
+    assert!(rt; reader.next_line(&mut source)?.is_some());
+    for _ in 0..3 {
+        assert!(rt; matches!(reader.next_line(&mut source), Err(LineFault::ReadFault)));
+    }
+    assert_eq!(rt; (source.calls, source.faults, reader.taken()), (2, 1, 8));
+    Ok(())
+}
+
+#[test]
+fn a_failed_write_keeps_a_prefix(rt: HostRuntime) -> Result<(), Fail> {
+    let cases: [(usize, &[u32], &[u8], u64); 3] = [
+        (64, &[1], b"first\n\nthird lin", 1),
+        (20, &[], b"first\n\nthird line\nla", 1),
+        (22, &[], TEXT, 0),
+    ];
+    for (room, failing, kept, faults) in cases {
+        let alloc = rt.alloc();
+        let mut sink = MemSink::new(alloc, room, failing.to_vec(alloc)?, 16)?;
+        assert_eq!(rt; write_all(&mut sink, TEXT).is_ok(), faults == 0);
+        assert_eq!(rt; (sink.bytes.as_slice(), sink.faults), (kept, faults));
+    }
+    Ok(())
+}
+
+#[test]
+fn readers_and_writers_of_std_are_passed_on(rt: HostRuntime) -> Result<(), Fail> {
+    let mut source = StdSource {
+        inner: TEXT,
+        faults: 0,
+    };
+    let mut into = [0; 6];
+    assert!(rt; matches!(source.read(&mut into), Ok(6)));
+    assert_eq!(rt; (into, source.faults), (*b"first\n", 0));
+
+    let mut room = [0; 5];
+    let mut sink = StdSink {
+        inner: room.as_mut_slice(),
+        faults: 0,
+    };
+    assert!(rt; write_all(&mut sink, TEXT).is_err());
+    assert_eq!(rt; sink.faults, 1);
+    assert_eq!(rt; room, *b"first");
+    Ok(())
+}

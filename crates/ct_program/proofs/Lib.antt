@@ -1,0 +1,10 @@
+pub mod Entries
+pub mod Truth
+pub mod Commands
+pub mod Replies
+pub mod Runs
+pub mod Serving
+pub mod Words
+pub mod Existence
+pub mod Uniqueness
+pub mod Submissions

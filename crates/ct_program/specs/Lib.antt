@@ -1,0 +1,9 @@
+pub mod Form
+pub mod Command
+pub mod Bounds
+pub mod Reply
+pub mod Text
+pub mod Session
+pub mod State
+pub mod Program
+pub mod Exit

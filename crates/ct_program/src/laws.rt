@@ -1,0 +1,51 @@
+//! Facts about every session, and sessions whose output is known.
+
+ghost use Rattle.std.specs.Prelude.{◌≡◌, ℕ, List, [], ◌∷◌, ◌++◌, All, Option, Some, None, false, true, codes};
+ghost use Rattle.std.specs.List.{join_with_byte};
+ghost use Rattle.ct_io.specs.Lines.{lines_of};
+ghost use Rattle.ct_io.specs.declared.TheConstants.{LINE_FEED};
+ghost use Rattle.ct_program.specs.Form.{form_of};
+ghost use Rattle.ct_program.specs.Command.{commands_of, is_end};
+ghost use Rattle.ct_program.specs.Session.{IsRun};
+ghost use Rattle.ct_program.specs.Text.{reply_text};
+ghost use Rattle.ct_program.specs.declared.form.Form.{Form};
+ghost use Rattle.ct_program.specs.declared.form.Form.TheVariants.{Submit};
+ghost use Rattle.ct_program.specs.declared.command.Command.{Command};
+ghost use Rattle.ct_program.specs.declared.command.Command.TheVariants.{Submission, CutOff};
+ghost use Rattle.ct_program.specs.declared.reply.Reply.TheVariants.{Shown};
+ghost use Rattle.ct_program.specs.declared.status.Status.{Status};
+ghost use Rattle.ct_program.specs.declared.status.Status.TheVariants as status;
+
+/// Every input has a run, and no two: what a session writes for an input, and its status, are determined.
+pub fn every_input_has_one_run()
+    ensures exists { (input : List ℕ) → (output : List ℕ) × (result : Status) × IsRun input output result }
+    ensures unique { (input output other : List ℕ) (result another : Status) → IsRun input output result
+        → IsRun input other another → (output ≡ other) × (result ≡ another) }
+{}
+
+/// A submission takes the lines of its document with it, up to the line `end`; where no such line follows, it is cut off.
+/// The document is its lines, joined by one line feed between two.
+pub fn submissions_take_their_lines()
+    ensures whole { (line : List ℕ) (id : Option (List ℕ)) (document : List (List ℕ)) (end : List ℕ) (rest : List (List ℕ))
+        → form_of line ≡ Submit id → All (λ l. is_end l ≡ false) document → is_end end ≡ true
+        → commands_of (line ∷ document ++ end ∷ rest) ≡ Submission id (join_with_byte LINE_FEED document) ∷ commands_of rest }
+    ensures cut { (line : List ℕ) (id : Option (List ℕ)) (document : List (List ℕ))
+        → form_of line ≡ Submit id → All (λ l. is_end l ≡ false) document
+        → commands_of (line ∷ document) ≡ CutOff ∷ [] }
+{}
+
+/// Inputs whose run is known: the empty one, an entry of the table and one outside it, and a submission that is cut off.
+pub fn known_runs()
+    ensures empty { IsRun [] [] status.Done }
+    ensures shown { IsRun (codes "show 10 6\n") (codes "1 <= A(10,6) <= 1024\n") status.Done }
+    ensures outside { IsRun (codes "show 28 2\n") (codes "refused entry\n") status.Refused }
+    ensures cut { IsRun (codes "submit a\nkind = \"words\"") (codes "refused cut\n") status.Refused }
+{}
+
+/// Texts of replies that are known.
+pub fn known_texts()
+    ensures bounds { reply_text (Shown (record { entry = record { n = 10; d = 6; w = None }; lower = 6; upper = 1024 }))
+        ≡ codes "6 <= A(10,6) <= 1024\n" }
+    ensures value { reply_text (Shown (record { entry = record { n = 24; d = 8; w = Some 8 }; lower = 759; upper = 759 }))
+        ≡ codes "A(24,8,8) = 759\n" }
+{}

@@ -1,0 +1,20 @@
+use Rattle.std.proofs.Common.{rules, arith, ◌≤◌, ap, ◌∙◌, length, take_all}
+use Rattle.ct_text.specs.Number.{decimal_value}
+use Rattle.ct_text.proofs.Numbers.{none_above, some_below, next_le}
+use Rattle.ct_text.proofs.number.parse_number.Goals as goal
+
+pub returns-in_default : goal.returns-in_default
+returns-in_default c =
+    let next = next_le c.loop-b.b-index c.args.text.now c.loop-b-test.true in
+    none_above c.args.text.now (omega (arith, next, c.in_default.ensures))
+
+pub returns-in_default-checked_add : goal.returns-in_default-checked_add
+returns-in_default-checked_add c =
+    let next = next_le c.loop-b.b-index c.args.text.now c.loop-b-test.true in
+    none_above c.args.text.now (omega (arith, next, c.in-Some.ensures, c.in_default-checked_add.ensures, c.digit_value.ensures))
+
+pub returns : goal.returns
+returns c =
+    let all : length c.args.text.now ≤ c.loop-b.b-index = omega arith in
+    let whole = take_all c.loop-b.b-index c.args.text.now all in
+    some_below c.args.text.now _ (search rules) (c.loop-b.invariant.0 ∙ ap decimal_value whole) c.loop-b.invariant.1

@@ -1,0 +1,10 @@
+//! Text that commands, documents and replies share: the words of a line, and numbers read and written.
+#![tactic(auto)]
+
+mod append;
+mod line;
+mod number;
+
+pub use append::put_number;
+pub use line::words_of_line;
+pub use number::parse_number;

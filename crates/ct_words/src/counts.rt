@@ -1,0 +1,44 @@
+//! How many words there are: binomial coefficients, factorials and the size of a ball.
+
+ghost use Rattle.std.specs.Prelude.{◌≡◌, ◌≤◌};
+ghost use Rattle.ct_counting.specs.Binomials.{choose, factorial as factorial_of, volume};
+
+/// The binomial coefficient of n over k for n up to 30, which is 0 where k is above n.
+pub fn binomial(n: u32, k: u32) -> u64
+    requires { n ≤ 30 }
+    ensures { result ≡ choose n k }
+{
+    if n < k {
+        return 0;
+    }
+    let mut coefficient: u64 = 1;
+    for j in 0..k {
+        coefficient = coefficient * u64::from(n - j) / u64::from(j + 1);
+    }
+    coefficient
+}
+
+/// The product of 1 to k for k up to 20.
+pub fn factorial(k: u32) -> u64
+    requires { k ≤ 20 }
+    ensures { result ≡ factorial_of k }
+{
+    let mut product: u64 = 1;
+    for j in 0..k {
+        product *= u64::from(j + 1);
+    }
+    product
+}
+
+/// How many words of length n, up to 30, lie within distance e of one of them; e may be above n.
+pub fn ball(n: u32, e: u32) -> u64
+    requires { n ≤ 30 }
+    ensures { result ≡ volume n e }
+{
+    let radius = e.min(n);
+    let mut words: u64 = 0;
+    for j in 0..radius + 1 {
+        words += binomial(n, j);
+    }
+    words
+}
