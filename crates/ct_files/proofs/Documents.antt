@@ -28,4 +28,5 @@ pub list_any-map : {X Y : Type 0} (p : Y → Bool) (f : X → Y) → (xs : List 
 list_any-map p f [] = refl
 list_any-map p f (x ∷ xs) = ap (λ b. p (f x) || b) (list_any-map p f xs)
 
+-- how names behind references are searched
 pub ruleset seen_names = list_any-map

@@ -47,6 +47,7 @@ number_in-within low high (datetime t) k e = absurd cc
 number_in-within low high (array ds) k e = absurd cc
 number_in-within low high (table ms) k e = absurd cc
 
+-- a number at a key is in its range
 number_at-within : (key : List ℕ) (low high : ℕ) (document : Data) (k : ℕ) → number_at key low high document ≡ Some k → (low ≤ k) × (k ≤ high)
 number_at-within key low high document k e =
     option_and_then_some (number_in low high) (get key document) k e (λ d _ h. number_in-within low high d k h)
@@ -60,6 +61,7 @@ read_where false o x e = absurd cc
 entry_in_range : (n d : ℕ) → (1 ≤ n) × (n ≤ MAX_N) → (3 ≤ d) × (d ≤ MAX_N) → IsEntry (record { n = n; d = d; w = None })
 entry_in_range n d n-fits d-fits = rw (le-leb 1 n n-fits.0, le-leb n MAX_N n-fits.1, le-leb 3 d d-fits.0, le-leb d MAX_N d-fits.1) refl
 
+-- the evidence of a table of kind words is sound
 words_evidence_of-sound : (document : Data) (e : Evidence) → words_evidence_of document ≡ Some e → IsSound e
 unfolding words_evidence_of
 words_evidence_of-sound document e h =

@@ -1,10 +1,10 @@
 //! The table of a document and its fields.
-ghost use Rattle.std.specs.Prelude.{◌≡◌, map};
+ghost use Rattle.std.specs.Prelude.{◌≡◌};
 ghost use Rattle.std.specs.List.{list_any};
 ghost use Rattle.std.specs.Str.{bytes_eq};
 ghost use Rattle.toml.specs.Data.{as_str};
 ghost use Rattle.toml.specs.View.{view, items_view, table_view};
-ghost use Rattle.ct_files.specs.Reads.{Reads};
+ghost use Rattle.ct_files.specs.Reads.{Reads, texts_behind};
 ghost use Rattle.ct_files.specs.Fields.{holds_text, number_at, texts_of, texts_at, keys_are_among, has_only};
 ghost use Rattle.ct_files.specs.Document.{document_of, table_of};
 
@@ -70,7 +70,7 @@ fn text_of(value: &Value) -> Result<&str, FileFault>
 }
 
 fn texts_of(alloc: Global, values: &[Value]) -> Result<Vec<&str>, FileFault>
-    ensures { Reads (λ texts. map (λ text. text.now) texts.items) result (texts_of (items_view values.now)) }
+    ensures { Reads (λ v. texts_behind v.items) result (texts_of (items_view values.now)) }
 {
     let mut texts = Vec::new(alloc);
     for value in values {
@@ -85,7 +85,7 @@ pub fn texts_at<'a>(
     document: &'a Value,
     key: &str,
 ) -> Result<Vec<&'a str>, FileFault>
-    ensures { Reads (λ texts. map (λ text. text.now) texts.items) result (texts_at key.now (view document.now)) }
+    ensures { Reads (λ v. texts_behind v.items) result (texts_at key.now (view document.now)) }
 {
     match document.get(key) {
         Some(Value::Array(values)) => texts_of(alloc, values),
@@ -101,7 +101,7 @@ fn is_among(key: &str, names: &[&str]) -> bool
 
 #[tactic(auto, using(crate::proofs::Documents::seen_names))]
 fn keys_are_among(table: &Table, names: &[&str]) -> bool
-    ensures { result ≡ keys_are_among (map (λ name. name.now) names.now) (table_view table.now) }
+    ensures { result ≡ keys_are_among (texts_behind names.now) (table_view table.now) }
 {
     for (key, _) in table {
         if !is_among(key.as_str(), names) {
@@ -113,7 +113,7 @@ fn keys_are_among(table: &Table, names: &[&str]) -> bool
 
 /// Whether the table has no other keys than the names.
 pub fn has_only(document: &Value, names: &[&str]) -> bool
-    ensures { result ≡ has_only (map (λ name. name.now) names.now) (view document.now) }
+    ensures { result ≡ has_only (texts_behind names.now) (view document.now) }
 {
     match document {
         Value::Table(table) => keys_are_among(table, names),

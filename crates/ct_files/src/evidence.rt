@@ -9,6 +9,6 @@ pub const MAX_DOCUMENT: usize = 4194304;
 /// A piece of evidence for a bound.
 #[derive(Debug, Drop)]
 pub enum Evidence {
-    /// The words of a code of the entry, in the order of the document.
+    /// Words that are stated as a code of the entry, in the order of the document.
     Words { entry: Entry, words: WordList },
 }

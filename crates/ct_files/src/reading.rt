@@ -1,8 +1,8 @@
 //! The evidence of a document.
-ghost use Rattle.std.specs.Prelude.{◌≡◌, ◌≤◌, Some, None, IfOk, map, codes};
+ghost use Rattle.std.specs.Prelude.{◌≡◌, ◌≤◌, Some, None, IfOk};
 ghost use Rattle.toml.specs.View.{view};
 ghost use Rattle.ct_words.specs.declared.limits.TheConstants.{MAX_N};
-ghost use Rattle.ct_files.specs.Reads.{Reads};
+ghost use Rattle.ct_files.specs.Reads.{Reads, texts_behind};
 ghost use Rattle.ct_words.specs.Text.{word_of};
 ghost use Rattle.ct_files.specs.Fields.{words_of};
 ghost use Rattle.ct_files.specs.Evidence.{IsSound, words_evidence_of, evidence_of};
@@ -30,7 +30,7 @@ fn word_of(n: u32, text: &str) -> Result<Word, FileFault>
 fn words_of(alloc: Global, n: u32, texts: &[&str]) -> Result<WordList, FileFault>
     requires some { 1 ≤ n }
     requires room { n ≤ MAX_N }
-    ensures { Reads (λ words. words) result (words_of n (map (λ text. text.now) texts.now)) }
+    ensures { Reads (λ words. words) result (words_of n (texts_behind texts.now)) }
 {
     let mut words = Vec::new(alloc);
     for text in texts {
@@ -68,9 +68,9 @@ fn evidence(alloc: Global, bytes: &[u8]) -> Result<Evidence, FileFault>
 /// The evidence that a document states, as its bytes give it.
 ///
 /// The bytes are at most `MAX_DOCUMENT`, and a TOML document whose keys are `kind`, `n`, `d` and
-/// `words` and no others: `kind` is the text `words`, `n` an integer from 1 to `MAX_N`, `d` one from
-/// 3 to `MAX_N`, and `words` a list of texts of `n` digits `0` and `1`, which may be empty. It is
-/// `Kind` for all other bytes, and `Memory` only where memory ran out.
+/// `words` and no others: `kind` is the text `words`, `n` an integer from 1 to `MAX_N`, `d` one
+/// from 3 to `MAX_N`, and `words` a list, which may be empty, of texts of `n` digits `0` and `1`.
+/// It is `Kind` for all other bytes, and `Memory` only where memory ran out.
 pub fn read_evidence(alloc: Global, bytes: &[u8]) -> Result<Evidence, FileFault>
     ensures read { IfOk result (λ evidence. evidence_of bytes.now ≡ Some evidence) }
     ensures kind { result ≡ Err FileFault.Kind → evidence_of bytes.now ≡ None }
