@@ -2,9 +2,11 @@
 #![tactic(auto)]
 
 mod append;
+mod laws;
 mod line;
 mod number;
 
 pub use append::put_number;
+pub use laws::numbers_are_read_as_printed;
 pub use line::words_of_line;
 pub use number::parse_number;
