@@ -1,11 +1,11 @@
 //! The three bounds, for an entry A(n,d) of the table: 1 ≤ n ≤ 28 and 3 ≤ d ≤ 28.
 
-ghost use Rattle.std.specs.Prelude.{◌≡◌, ◌≤◌, IfSome};
+ghost use Rattle.std.specs.Prelude.{◌≡◌, ◌+◌, ◌≤◌, IfSome};
 ghost use Rattle.ct_codes.specs.Code.{IsTrueUpper};
 ghost use Rattle.ct_codes.specs.Entry.{IsEntry};
 ghost use Rattle.ct_elementary.specs.Bounds.{plain, far_value, plotkin_even as even_value, plotkin_value, hamming_value};
 
-use ct_words::{MAX_BOUND, ball};
+use ct_words::{MAX_BOUND, MAX_N, ball};
 
 /// The bound 1 where d is above n, and `None` elsewhere: two words differ at no more than n places.
 pub fn far(n: u32, d: u32) -> Option<u32>
@@ -33,7 +33,7 @@ pub fn plotkin(n: u32, d: u32) -> Option<u32>
 
 /// Plotkin's bound for an even d.
 fn plotkin_even(n: u32, d: u32) -> Option<u32>
-    requires { (1 ≤ d) × (d ≤ 29) }
+    requires { (1 ≤ d) × (d ≤ MAX_N + 1) }
     ensures { result ≡ even_value n d }
 {
     if d <= n && n < 2 * d {
