@@ -1,5 +1,5 @@
 -- Bytes that come to a reader in several reads.
-use Rattle.std.proofs.Common.{◌≡◌, ℕ, ◌+◌, ◌≤◌, true, false, List, ◌++◌, Option, inl, inr, refl, sym, subst, ap, ◌∙◌, eqb, length, length-append, append_assoc, arith}
+use Rattle.std.proofs.Common.{◌≡◌, ℕ, ◌+◌, ◌≤◌, true, false, List, ◌++◌, Option, inl, inr, refl, sym, subst, ap, ◌∙◌, eqb, length-append, append_assoc, arith}
 use Rattle.std.specs.List.{Contains}
 use Rattle.std.proofs.KnownBytes.{Consumes-trans}
 use Rattle.std.proofs.lemmas.Bool.{eqb-true}
