@@ -35,3 +35,6 @@ fn main(rt: HostRuntime) -> io::Result<ExitCode> {
     let status = run(rt.alloc(), &words, &mut source, &mut sink);
     Ok(ExitCode::from(status.number()))
 }
+
+#[cfg(test)]
+mod tests;

@@ -1,0 +1,489 @@
+//! Sessions whose replies are known, and runs over sources and sinks that fail.
+
+ghost use Rattle.std.specs.Prelude.{◌≤◌};
+
+use crate::run::run;
+use crate::status::Status;
+use ct_io::{MemSink, MemSource};
+use std::alloc::{AllocError, Global};
+use std::process::Abort;
+use std::test::Fail;
+
+/// Six words of length 10, each two at distance at least 6, and the bounds after them.
+const SIX_WORDS: &[u8] = b"\
+submit hexa
+kind = \"words\"
+n = 10
+d = 6
+words = [\"1111111111\", \"1111000000\", \"1000111000\", \"0100100110\", \"0010010101\", \"0001001011\"]
+end
+show 10 6
+";
+
+/// The replies to it.
+const SIX_WORDS_REPLIES: &[u8] = b"accepted hexa size 6\n6 <= A(10,6) <= 1024\n";
+
+// One line, and the reply to it.
+type Line = (&'static [u8], &'static [u8]);
+
+// Lines that are no command, and lines that ask for bounds, of the table and outside it.
+const SHOW_LINES: [Line; 36] = [
+    (b"", b""),
+    (b"   ", b""),
+    (b"\r", b""),
+    (b"  \r", b""),
+    (b"#", b""),
+    (b"# show 10 6", b""),
+    (b"#\xff", b""),
+    (b"show 10 6", b"1 <= A(10,6) <= 1024"),
+    (b"  show   10  6  ", b"1 <= A(10,6) <= 1024"),
+    (b"show 10 6\r", b"1 <= A(10,6) <= 1024"),
+    (b" show 10 6 \r", b"1 <= A(10,6) <= 1024"),
+    (b"show 1 3", b"1 <= A(1,3) <= 2"),
+    (b"show 28 28", b"1 <= A(28,28) <= 268435456"),
+    (b"show 28 2", b"refused entry"),
+    (b"show 29 4", b"refused entry"),
+    (b"show 0 4", b"refused entry"),
+    (b"show 10 0", b"refused entry"),
+    (b"show 10 29", b"refused entry"),
+    (b"show 12 5 6", b"refused entry"),
+    (b"show 8 4 4", b"refused entry"),
+    (b"show 8 4 9", b"refused entry"),
+    (b"show 4294967306 6", b"refused entry"),
+    (b"show 10 4294967302", b"refused entry"),
+    (b"show 18446744073709551615 4", b"refused entry"),
+    (b"show 8 4 18446744073709551615", b"refused entry"),
+    (b"show 18446744073709551616 4", b"refused command"),
+    (b"show 18446744073709551626 6", b"refused command"),
+    (b"show 100000000000000000010 6", b"refused command"),
+    (b"show 8 4 18446744073709551616", b"refused command"),
+    (b"show 28 x", b"refused command"),
+    (b"show 007 4", b"refused command"),
+    (b"show 00 4", b"refused command"),
+    (b"show +5 4", b"refused command"),
+    (b"show -5 4", b"refused command"),
+    (b"show 10 6.", b"refused command"),
+    (b"show 8 4 x", b"refused command"),
+];
+
+// Lines that are refused as commands: each is like one that isn't.
+const OTHER_LINES: [&[u8]; 30] = [
+    b"show",
+    b"show 10",
+    b"show 10 6 3 1",
+    b"show 10 6 # bounds",
+    b"Show 10 6",
+    b"shows 10 6",
+    b"show\t10\t6",
+    b"show 10 6\t",
+    b"\tshow 10 6",
+    b"\t",
+    b"\rshow 10 6",
+    b"show 10\r6",
+    b"show 10 6\r ",
+    b"show 10 6\r\r",
+    b"\r\r",
+    b" #",
+    b" # show 10 6",
+    b"show 10 6\xc2\xa0",
+    b"show 10 \xef\xbc\x96",
+    b"\xe2\x80\x83",
+    b"\xff",
+    b"end",
+    b"end\r",
+    b"withdraw a",
+    b"ledger",
+    b"dump",
+    b"table 6",
+    b"explain lower 10 6",
+    b"list 10 6",
+    b"tables",
+];
+
+// The document of a submission under a new id, and the reply to it.
+const DOCUMENTS: [Line; 24] = [
+    (
+        b"kind='words'\nn=10\nd=6\nwords=['0000000000']",
+        b"accepted a size 1",
+    ),
+    (
+        b"kind='words'\nn=3\nd=3\nwords=['111','000']",
+        b"accepted a size 2",
+    ),
+    (
+        b"words=[\"\\u0030\\u0030\"]\n# end\n\nd=0x3\n\nn=+2\n'kind'='words'\n",
+        b"accepted a size 1",
+    ),
+    (
+        b"kind='words'\r\nn=3\r\nd=3\r\nwords=['000',\r\n'111']",
+        b"accepted a size 2",
+    ),
+    (
+        b"kind='words'\nn=10\nd=6\nwords=['0000000000','1111100000']",
+        b"refused close 0 1 5",
+    ),
+    (
+        b"kind='words'\nn=3\nd=3\nwords=['000','111','110']",
+        b"refused close 0 2 2",
+    ),
+    (
+        b"kind='words'\nn=10\nd=6\nwords=['0000000000','0000000000']",
+        b"refused repeated 0 1",
+    ),
+    (
+        b"kind='words'\nn=3\nd=3\nwords=['000','001','000']",
+        b"refused repeated 0 2",
+    ),
+    (b"kind='words'\nn=10\nd=6\nwords=[]", b"refused size 0"),
+    (
+        b"kind='words'\nn=10\nd=6\nw=5\nwords=['0000000000']",
+        b"refused kind",
+    ),
+    (
+        b"kind='words'\nn=10\nd=6\nwords=['00000000a0','1111100000']",
+        b"refused kind",
+    ),
+    (
+        b"kind='words'\nn=10\nd=6\nwords=['000000000']",
+        b"refused kind",
+    ),
+    (b"kind='words'\nd=6\nwords=['0000000000']", b"refused kind"),
+    (
+        b"kind='words'\nn=10\nd=6\nwords=['0000000000']\ncolour=1",
+        b"refused kind",
+    ),
+    (b"kind='words'\nn=29\nd=6\nwords=[]", b"refused kind"),
+    (b"kind='words'\nn=10\nd=2\nwords=[]", b"refused kind"),
+    (
+        b"kind='words'\nn=9223372036854775807\nd=6\nwords=[]",
+        b"refused kind",
+    ),
+    (
+        b"kind='words'\nn=9223372036854775808\nd=6\nwords=[]",
+        b"refused kind",
+    ),
+    (
+        b"kind='words'\nn=-9223372036854775809\nd=6\nwords=[]",
+        b"refused kind",
+    ),
+    (b"kind = \"oracle\"", b"refused kind"),
+    (b"kind =", b"refused kind"),
+    (b"", b"refused kind"),
+    (
+        b"kind='words'\nn=3\nd=3\nwords=['000'] # \xff",
+        b"refused kind",
+    ),
+    (b"kind='words'\nn=3\nd=3\nwords=['000']\r", b"refused kind"),
+];
+
+// A document of two words, and the line that ends it.
+const TWO_WORDS: &[u8] = b"kind='words'\nn=3\nd=3\nwords=['000','111']\nend\n";
+
+// Whole sessions, in which `@` stands for `TWO_WORDS`: the input, the replies, and the status.
+const SESSIONS: [(&str, &str, Status); 22] = [
+    ("", "", Status::Done),
+    ("\n\n", "", Status::Done),
+    ("show 3 3", "1 <= A(3,3) <= 8\n", Status::Done),
+    (
+        "show 3 3\nledger",
+        "1 <= A(3,3) <= 8\nrefused command\n",
+        Status::Refused,
+    ),
+    (
+        "ledger\nshow 3 3\n",
+        "refused command\n1 <= A(3,3) <= 8\n",
+        Status::Refused,
+    ),
+    (
+        "show 3 3\nsubmit one\nkind='words'\nn=3\nd=3\nwords=['010']\nend\nshow 3 3\n\
+        submit two\n@show 3 3\n\
+        submit last\nkind='words'\nn=3\nd=3\nwords=['111']\nend\nshow 3 3\nshow 4 3\nshow 3 4\n",
+        "1 <= A(3,3) <= 8\naccepted one size 1\n1 <= A(3,3) <= 8\n\
+        accepted two size 2\n2 <= A(3,3) <= 8\n\
+        accepted last size 1\n2 <= A(3,3) <= 8\n1 <= A(4,3) <= 16\n1 <= A(3,4) <= 8\n",
+        Status::Done,
+    ),
+    (
+        "submit A\n@show 3 3\n",
+        "refused command\n1 <= A(3,3) <= 8\n",
+        Status::Refused,
+    ),
+    (
+        "submit\n@show 3 3\n",
+        "refused command\n1 <= A(3,3) <= 8\n",
+        Status::Refused,
+    ),
+    (
+        "submit a b\n@show 3 3\n",
+        "refused command\n1 <= A(3,3) <= 8\n",
+        Status::Refused,
+    ),
+    (
+        "submit a lines 1\n@show 3 3\n",
+        "refused command\n1 <= A(3,3) <= 8\n",
+        Status::Refused,
+    ),
+    (
+        " submit  a \r\n@show 3 3\n",
+        "accepted a size 2\n2 <= A(3,3) <= 8\n",
+        Status::Done,
+    ),
+    (
+        "submit a\n@submit a\n@submit a\nkind =\nend\nsubmit b\n@submit A\n@",
+        "accepted a size 2\nrefused taken\nrefused taken\naccepted b size 2\nrefused command\n",
+        Status::Refused,
+    ),
+    (
+        "submit a\nend\nsubmit a\n@",
+        "refused kind\naccepted a size 2\n",
+        Status::Refused,
+    ),
+    (
+        "submit a\nkind = \"words\"\n",
+        "refused cut\n",
+        Status::Refused,
+    ),
+    (
+        "submit a\nkind = \"words\"\nend ",
+        "refused cut\n",
+        Status::Refused,
+    ),
+    (
+        "submit A\nkind = \"words\"\n",
+        "refused cut\n",
+        Status::Refused,
+    ),
+    (
+        "submit a\n@submit a\nend \nshow 3 3\n",
+        "accepted a size 2\nrefused cut\n",
+        Status::Refused,
+    ),
+    (
+        "submit a2345678901234567890123456789-_2\n@",
+        "accepted a2345678901234567890123456789-_2 size 2\n",
+        Status::Done,
+    ),
+    (
+        "submit a23456789012345678901234567890123\n@",
+        "refused command\n",
+        Status::Refused,
+    ),
+    (
+        "submit a\nkind='words'\nn=3\nd=3\nwords=['000']\nend\r\nshow 3 3\n",
+        "accepted a size 1\n1 <= A(3,3) <= 8\n",
+        Status::Done,
+    ),
+    (
+        "submit a\n end\nend \nEND\nend\r\r\nend\nshow 3 3",
+        "refused kind\n1 <= A(3,3) <= 8\n",
+        Status::Refused,
+    ),
+    (
+        "submit a\nkind='words'\nn=3\nd=3\nwords=['000']\nend",
+        "accepted a size 1\n",
+        Status::Done,
+    ),
+];
+
+// Generators of a code of length 24, whose least distance is 3: a one at place i of the first 14 digits, and the i-th of
+// these numbers, each with at least two ones, in the last 10.
+const TAILS: [u32; 14] = [3, 5, 6, 7, 9, 10, 11, 12, 13, 14, 15, 17, 18, 19];
+
+/// How the program ends with the words on the input, which comes in pieces of at most `cap` bytes, and what it writes.
+fn run_in_pieces(
+    alloc: Global,
+    words: &[String],
+    input: &[u8],
+    cap: usize,
+) -> Result<(Status, Vec<u8>), AllocError>
+    requires { 1 ≤ cap }
+{
+    let mut source = MemSource::new(input.to_vec(alloc)?, Vec::new(alloc), cap);
+    let mut sink = MemSink::new(alloc, 4096, Vec::new(alloc), 4096)?;
+    let status = run(alloc, words, &mut source, &mut sink);
+    let written = sink.bytes.to_vec(alloc)?;
+    Ok((status, written))
+}
+
+/// Whether the session on the input writes the replies and ends with the status.
+fn assert_session(
+    rt: &impl Abort,
+    alloc: Global,
+    input: &[u8],
+    replies: &[u8],
+    status: Status,
+) -> Result<(), AllocError> {
+    let words = ["session".to_string(alloc)?];
+    for cap in [1, 7, 4096] {
+        let (ended, written) = run_in_pieces(alloc, &words, input, cap)?;
+        assert_eq!(rt;
+            written.as_slice(),
+            replies,
+            "to {input:?} in pieces of {cap}"
+        );
+        assert_eq!(rt; ended, status, "after {input:?} in pieces of {cap}");
+    }
+    Ok(())
+}
+
+/// The session on the input ends with the reply and a line feed, if there is a reply, and refuses where the reply does.
+fn assert_reply(
+    rt: &impl Abort,
+    alloc: Global,
+    input: &[u8],
+    reply: &[u8],
+) -> Result<(), AllocError> {
+    let mut replies = reply.to_vec(alloc)?;
+    if !reply.is_empty() {
+        replies.push(b'\n')?;
+    }
+    let refused = reply.starts_with(b"refused");
+    let status = if refused {
+        Status::Refused
+    } else {
+        Status::Done
+    };
+    assert_session(rt, alloc, input, &replies, status)
+}
+
+#[test]
+fn lines_get_their_replies(rt: HostRuntime) -> Result<(), Fail> {
+    let alloc = rt.alloc();
+    for (line, reply) in SHOW_LINES {
+        assert_reply(&rt, alloc, line, reply)?;
+    }
+    for line in OTHER_LINES {
+        assert_reply(&rt, alloc, line, b"refused command")?;
+    }
+    Ok(())
+}
+
+#[test]
+fn submitted_documents_get_their_replies(rt: HostRuntime) -> Result<(), Fail> {
+    let alloc = rt.alloc();
+    for (document, reply) in DOCUMENTS {
+        let mut input = b"submit a\n".to_vec(alloc)?;
+        input.extend_from_slice(document)?;
+        input.extend_from_slice(b"\nend\n")?;
+        assert_reply(&rt, alloc, &input, reply)?;
+    }
+    Ok(())
+}
+
+#[test]
+fn sessions_of_several_commands(rt: HostRuntime) -> Result<(), Fail> {
+    let alloc = rt.alloc();
+    assert_session(&rt, alloc, SIX_WORDS, SIX_WORDS_REPLIES, Status::Done)?;
+    for (text, replies, status) in SESSIONS {
+        let mut input = Vec::new(alloc);
+        for byte in text.bytes() {
+            if byte == b'@' {
+                input.extend_from_slice(TWO_WORDS)?;
+            } else {
+                input.push(byte)?;
+            }
+        }
+        assert_session(&rt, alloc, &input, replies.as_bytes(), status)?;
+    }
+    Ok(())
+}
+
+#[test]
+fn the_greatest_size_is_accepted_and_one_more_refused(rt: HostRuntime) -> Result<(), Fail> {
+    let alloc = rt.alloc();
+    let mut words = vec![in alloc; 0u32]?;
+    let mut head = 1 << 23;
+    for tail in TAILS {
+        for word in words.to_vec(alloc)? {
+            words.push(word ^ head ^ tail)?;
+        }
+        head /= 2;
+    }
+    let mut input = b"submit a\nkind='words'\nn=24\nd=3\nwords=[\n".to_vec(alloc)?;
+    for word in words {
+        input.extend_from_slice(format!(in alloc; "'{word:024b}',\n")?.as_bytes())?;
+    }
+    let mut longer = input.to_vec(alloc)?;
+    input.extend_from_slice(b"]\nend\nshow 24 3\n")?;
+    longer.extend_from_slice(b"'111111111111111111111111']\nend\n")?;
+
+    let session = ["session".to_string(alloc)?];
+    let (status, written) = run_in_pieces(alloc, &session, &input, 4096)?;
+    let replies = b"accepted a size 16384\n16384 <= A(24,3) <= 16777216\n".as_slice();
+    assert_eq!(rt; (status, written.as_slice()), (Status::Done, replies));
+    let (status, written) = run_in_pieces(alloc, &session, &longer, 4096)?;
+    let replies = b"refused size 16385\n".as_slice();
+    assert_eq!(rt; (status, written.as_slice()), (Status::Refused, replies));
+    Ok(())
+}
+
+#[test]
+fn other_words_read_nothing(rt: HostRuntime) -> Result<(), Fail> {
+    let alloc = rt.alloc();
+    let usage = b"usage: code_tables session | verify | find | sample --number N\n".as_slice();
+    let lines: [&[&str]; 6] = [
+        &[],
+        &["tables"],
+        &["session", "x"],
+        &["session", "session"],
+        &["Session"],
+        &[""],
+    ];
+    for line in lines {
+        let mut words = Vec::new(alloc);
+        for word in line {
+            words.push(word.to_string(alloc)?)?;
+        }
+        let mut source = MemSource::new(SIX_WORDS.to_vec(alloc)?, Vec::new(alloc), 4096);
+        let mut sink = MemSink::new(alloc, 4096, Vec::new(alloc), 4096)?;
+        assert_eq!(rt;
+            run(alloc, &words, &mut source, &mut sink),
+            Status::Usage,
+            "{line:?}"
+        );
+        assert_eq!(rt; sink.bytes.as_slice(), usage, "{line:?}");
+        assert_eq!(rt; (source.at, source.calls), (0, 0), "{line:?}");
+    }
+    Ok(())
+}
+
+#[test]
+fn faults_of_sources_and_sinks_end_the_run(rt: HostRuntime) -> Result<(), Fail> {
+    let alloc = rt.alloc();
+    let words = ["session".to_string(alloc)?];
+
+    let mut source = MemSource::new(SIX_WORDS.to_vec(alloc)?, vec![in alloc; 0]?, 4096);
+    let mut sink = MemSink::new(alloc, 4096, Vec::new(alloc), 4096)?;
+    assert_eq!(rt;
+        run(alloc, &words, &mut source, &mut sink),
+        Status::ReadFault
+    );
+    assert!(rt; sink.bytes.is_empty());
+
+    let mut source = MemSource::new(SIX_WORDS.to_vec(alloc)?, Vec::new(alloc), 4096);
+    let mut sink = MemSink::new(alloc, 4096, vec![in alloc; 1]?, 16)?;
+    assert_eq!(rt;
+        run(alloc, &words, &mut source, &mut sink),
+        Status::WriteFault
+    );
+    assert_eq!(rt; sink.bytes.as_slice(), b"accepted hexa si".as_slice());
+
+    let mut sink = MemSink::new(alloc, 4096, vec![in alloc; 0]?, 16)?;
+    assert_eq!(rt; run(alloc, &[], &mut source, &mut sink), Status::WriteFault);
+    assert!(rt; sink.bytes.is_empty());
+    Ok(())
+}
+
+#[test]
+fn the_longest_input_is_read_and_one_byte_more_is_too_long(rt: HostRuntime) -> Result<(), Fail> {
+    let alloc = rt.alloc();
+    let session = ["session".to_string(alloc)?];
+    let mut input = Vec::new(alloc);
+    input.resize(67_108_864, b'#')?;
+    let (status, written) = run_in_pieces(alloc, &session, &input, 65_536)?;
+    assert_eq!(rt; (status, written.len()), (Status::Done, 0));
+    input.push(b'#')?;
+    let (status, written) = run_in_pieces(alloc, &session, &input, 65_536)?;
+    assert_eq!(rt; (status, written.len()), (Status::TooLong, 0));
+    Ok(())
+}
