@@ -9,12 +9,13 @@ use Rattle.ct_io.specs.declared.line_fault.LineFault.TheVariants as line_fault
 use Rattle.ct_io.specs.Lines.{IsNextLine}
 use Rattle.ct_io.specs.Reader.{Reader, input_of, LosesFirstLine, Takes}
 use Rattle.std.specs.declared.alloc.Global.{Global}
+use Rattle.ct_io.proofs.ReaderLemmas.{Takes-line, Takes-within}
 use Rattle.ct_program.specs.Program.{WhereTold, IsAboveLimit}
 use Rattle.ct_program.specs.State.{State, TakesLine, line_fault_status, reply_fault_status}
 use Rattle.ct_program.specs.declared.status.Status.{Status}
 use Rattle.ct_program.specs.declared.status.Status.TheVariants as status
-use Rattle.ct_program.specs.declared.state.ReplyFault.{ReplyFault}
-use Rattle.ct_program.specs.declared.state.ReplyFault.TheVariants as reply_fault
+use Rattle.ct_program.specs.declared.session.ReplyFault.{ReplyFault}
+use Rattle.ct_program.specs.declared.session.ReplyFault.TheVariants as reply_fault
 use Rattle.ct_program.proofs.Runs.{Goes, goes}
 
 -- known bytes lost n of them
@@ -65,17 +66,6 @@ line_is_long line_fault.ReadFault e = absurd (cc)
 line_is_long (line_fault.TooLong t) e = (t, refl)
 line_is_long line_fault.Memory e = absurd (cc)
 
--- a line that was taken leaves fewer bytes
-pub next_shorter : (before line after : List ℕ) → IsNextLine before line after → length after < length before
-next_shorter before line after h = elim h.1 [
-  | inl e ↦ let sizes = ap length e ∙ length-append line (LINE_FEED ∷ after) in omega (arith, sizes)
-  | inr t ↦ let front = ap length t.0 in let none = ap length t.2 in some line t.1 (omega arith) (omega arith)
-]
-  where
-    some : (line : List ℕ) → line ≢ [] → length before ≡ length line → length after ≡ 0 → length after < length before
-    some [] ne e z = absurd (ne refl)
-    some (b ∷ bs) ne e z = omega arith
-
 pub run_not_long : (refused : Bool) → cond refused status.Refused status.Done ≢ status.TooLong
 run_not_long true e = cc
 run_not_long false e = cc
@@ -91,10 +81,9 @@ err_is {X} f f' e = cc
 pub line_advances : (r q : Reader) (now next : Option (List ℕ)) (line : Vec ℕ Global) → Takes r q now next (Ok (Some line)) → length r.held ≤ r.taken → q.taken ≤ MAX_INPUT
     → (MAX_INPUT - (q.taken - length q.held) < MAX_INPUT - (r.taken - length r.held)) × (length q.held ≤ q.taken)
 line_advances r q now next line h inside within =
-    let shorter = next_shorter (r.held ++ h.0) line.items q.held h.3.0 in
-    let both = length-append r.held h.0 in
-    let taken = h.2 in
-    (omega (arith, shorter, both, taken), omega (arith, shorter, both, taken))
+    let given = Takes-line r q now next line h in
+    let held = Takes-within r q now next (Ok (Some line)) h inside in
+    (omega (arith, given, held), held)
 
 -- once the end was seen, the source is at its end
 pub at_end : {S : Type 0} (left : S → Option (List ℕ)) (old new : S) (was is : Bool) → (was ≡ true → IsAtEnd (left old)) → (was ≡ false → is ≡ true → IsAtEnd (left new))

@@ -18,8 +18,8 @@ use Rattle.ct_io.specs.declared.line_fault.LineFault.{LineFault}
 use Rattle.ct_io.specs.declared.line_fault.LineFault.TheVariants as line_fault
 use Rattle.ct_program.specs.declared.status.Status.{Status}
 use Rattle.ct_program.specs.declared.status.Status.TheVariants as status
-use Rattle.ct_program.specs.declared.state.ReplyFault.{ReplyFault}
-use Rattle.ct_program.specs.declared.state.ReplyFault.TheVariants as reply_fault
+use Rattle.ct_program.specs.declared.session.ReplyFault.{ReplyFault}
+use Rattle.ct_program.specs.declared.session.ReplyFault.TheVariants as reply_fault
 
 -- each piece's size is that of some code of its entry
 abbrev pub AreTrue : List Piece → Type 0

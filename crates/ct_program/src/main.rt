@@ -1,6 +1,7 @@
 //! The program `code_tables`.
 #![tactic(auto)]
 
+mod answer;
 mod command;
 mod document;
 mod form;
@@ -9,7 +10,6 @@ mod piece;
 mod reply;
 mod run;
 mod session;
-mod state;
 mod status;
 mod text;
 

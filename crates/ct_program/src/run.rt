@@ -7,7 +7,7 @@ ghost use Rattle.ct_program.specs.Session.{WritesRun};
 ghost use Rattle.ct_program.specs.State.{line_fault_status, reply_fault_status};
 ghost use Rattle.ct_program.specs.Program.{IsSession, IsRunStatus, IsAboveLimit, IsWithinLimit, WhereTold, usage_line};
 
-use crate::state::{ReplyFault, Session};
+use crate::session::{ReplyFault, Session};
 use crate::status::Status;
 use ct_io::{LineFault, LineReader, Sink, Source, write_all};
 use std::alloc::Global;

@@ -1,146 +1,152 @@
-//! A session: the pieces that stand, and the replies to its commands.
+//! A session: its lines are taken one by one, and its replies written.
 
-ghost use Rattle.std.specs.Prelude.{◌≡◌, ◌<◌, ◌^◌, All, IfOk, OnOk, length};
-ghost use Rattle.std.specs.Result.{result_err};
-ghost use Rattle.ct_codes.specs.Check.{code_fault};
-ghost use Rattle.ct_codes.specs.Entry.{IsEntry};
-ghost use Rattle.ct_codes.specs.Code.{IsTrueLower};
-ghost use Rattle.ct_files.specs.Evidence.{IsSound};
-ghost use Rattle.ct_program.specs.Reply.{piece_of, submitted, submission_reply, with_piece, IsReply, IsShown, IsShowReply, pieces_after};
-ghost use Rattle.ct_program.specs.State.{AreTrue, NamesEntry};
+ghost use Rattle.std.specs.Prelude.{◌≡◌, ◌≤◌, IfOk, OnOk, IfSome, IsErrOf, [], ◌∷◌};
+ghost use Rattle.std.specs.Option.{option_to_list};
+ghost use Rattle.ct_io.specs.Faults.{Rose};
+ghost use Rattle.ct_program.specs.State.{AreTrue, NamesEntry, WritesReplies};
 
-use crate::command::Command;
-use crate::document::Document;
-use crate::piece::{Piece, is_taken, lower_bound, upper_bound};
-use crate::reply::{Bounds, Refusal, Reply};
-use ct_codes::{CodeFault, Entry, check_words};
-use ct_files::{Evidence, FileFault, Id, read_evidence};
-use ct_words::Word;
+use crate::answer::answer;
+use crate::command::{Command, Pending, take_line};
+use crate::piece::Piece;
+use crate::reply::Reply;
+use crate::text::text_of;
+use ct_io::{Sink, write_all};
 use std::alloc::{AllocError, Global};
+use std::marker::Model;
 
-/// The piece that the words make under the id, or why they are no code of the entry.
-fn check_piece(alloc: Global, id: Id, entry: Entry, words: Vec<Word>) -> Result<Piece, CodeFault>
-    requires entry { IsEntry entry }
-    requires words { All (λ x. x < 2 ^ entry.n) words.items }
-    ensures piece { IfOk result (λ piece. piece ≡ record { id = id; entry = entry; size = length words.items }) }
-    ensures fault { result_err result ≡ code_fault entry words.items }
-    ensures bound { IfOk result (λ piece. IsTrueLower piece.entry piece.size) }
-{
-    let code = check_words(alloc, entry, words)?;
-    Ok(Piece {
-        id,
-        entry,
-        size: code.words().len() as u32,
-    })
+/// Why a reply was not written.
+#[derive(Clone, Copy, Debug, PartialEq, Eq)]
+pub enum ReplyFault {
+    /// The sink failed.
+    Write,
+    /// Memory ran out.
+    Memory,
 }
 
-/// The piece that the evidence makes under the id, or why it makes none.
-fn make_piece(alloc: Global, id: Id, evidence: Evidence) -> Result<Piece, Refusal>
-    requires { IsSound evidence }
-    ensures made { result ≡ piece_of id (Some evidence) }
-    ensures bound { IfOk result (λ piece. IsTrueLower piece.entry piece.size) }
-{
-    match evidence {
-        Evidence::Words { entry, words } => match check_piece(alloc, id, entry, words.into_vec()) {
-            Ok(piece) => Ok(piece),
-            Err(fault) => Err(Refusal::Code(fault)),
-        },
+impl From<AllocError> for ReplyFault {
+    ghost use Rattle.std.specs.Prelude.{◌≡◌};
+    ghost use Rattle.ct_program.specs.declared.session.ReplyFault.TheVariants.{Memory};
+
+    ghost from_gives = { λ _ e. e ≡ Memory };
+
+    fn from(_error: AllocError) -> ReplyFault {
+        ReplyFault::Memory
     }
 }
 
-/// What a submission makes over the pieces: a piece, or the first cause of its refusal.
-#[tactic(auto, unfolding(crate::specs::Reply::submitted))]
-fn submit(
-    alloc: Global,
-    pieces: &[Piece],
-    id: Option<Id>,
-    document: &[u8],
-) -> Result<Result<Piece, Refusal>, AllocError>
-    ensures made { IfOk result (λ made. made ≡ submitted pieces.now id document.now) }
-    ensures bound { IfOk result (λ made. IfOk made (λ piece. IsTrueLower piece.entry piece.size)) }
-{
-    let Some(id) = id else {
-        return Ok(Err(Refusal::NoCommand));
-    };
-    if is_taken(id, pieces) {
-        return Ok(Err(Refusal::Taken));
-    }
-    match read_evidence(alloc, document) {
-        Ok(evidence) => Ok(make_piece(alloc, id, evidence)),
-        Err(FileFault::Kind) => Ok(Err(Refusal::WrongKind)),
-        Err(FileFault::Memory) => Err(AllocError),
-    }
+/// A session after some of its lines.
+#[derive(Debug, Drop)]
+pub struct Session {
+    pieces: Vec<Piece>,
+    pending: Option<Pending>,
+    refused: bool,
 }
 
-/// The bounds of an entry of the table without weight.
-fn bounds_of(pieces: &[Piece], entry: Entry) -> Bounds
-    requires pieces { AreTrue pieces.now }
-    requires entry { IsEntry entry }
-    ensures { IsShown pieces.now entry (Reply.Shown result) }
-{
-    Bounds {
-        entry,
-        lower: lower_bound(pieces, entry),
-        upper: upper_bound(entry),
-    }
+impl Model for Session {
+    ghost use Rattle.ct_program.specs.State.{State, AreTrue};
+
+    ghost Value = { State };
+
+    ghost view = { λ s. record { pieces = s.pieces.items; pending = s.pending; refused = s.refused } };
+
+    ghost invariant = { λ s. AreTrue s.pieces.items };
 }
 
-/// The reply to `show`.
-fn show(pieces: &[Piece], entry: Option<Entry>) -> Reply
-    requires pieces { AreTrue pieces.now }
-    requires entry { NamesEntry (Command.Show entry) }
-    ensures { IsShowReply pieces.now entry result }
-{
-    let Some(entry) = entry else {
-        return Reply::Refused(Refusal::NoEntry);
-    };
-    match entry.w {
-        None => Reply::Shown(bounds_of(pieces, entry)),
-        Some(_) => Reply::Refused(Refusal::NoEntry),
-    }
-}
-
-/// The reply to a submission that makes the piece.
-fn accepted(piece: &Piece) -> Reply
-    ensures { result ≡ Reply.Accepted piece.now }
-{
-    Reply::Accepted(*piece)
-}
-
-/// Answers a submission: the reply, and the pieces after it.
-fn answer_submission(
+/// Answers a command and writes the reply: whether it is a refusal.
+fn reply_to<K: Sink>(
     alloc: Global,
     pieces: &mut Vec<Piece>,
-    id: Option<Id>,
-    document: &Document,
-) -> Result<Reply, AllocError>
-    requires { AreTrue pieces.old.items }
-    ensures reply { IfOk result (λ reply. reply ≡ submission_reply (submitted pieces.old.items id document.now)) }
-    ensures pieces { OnOk result (pieces.new.items ≡ with_piece pieces.old.items
-        (submitted pieces.old.items id document.now)) }
-    ensures bounds { AreTrue pieces.new.items }
-{
-    let piece = match submit(alloc, pieces, id, document.bytes())? {
-        Ok(piece) => piece,
-        Err(refusal) => return Ok(Reply::Refused(refusal)),
-    };
-    let reply = accepted(&piece);
-    pieces.push(piece)?;
-    Ok(reply)
-}
-
-/// Answers a command: the reply, and the pieces after it.
-pub fn answer(alloc: Global, pieces: &mut Vec<Piece>, command: Command) -> Result<Reply, AllocError>
+    command: Command,
+    sink: &mut K,
+) -> Result<bool, ReplyFault>
     requires pieces { AreTrue pieces.old.items }
     requires entry { NamesEntry command }
-    ensures reply { IfOk result (IsReply pieces.old.items command) }
-    ensures pieces { OnOk result (pieces.new.items ≡ pieces_after pieces.old.items command) }
+    ensures replies { IfOk result (λ refused. WritesReplies pieces.old.items pieces.new.items (command ∷ [])
+        refused (K.holds sink.old) (K.holds sink.new)) }
     ensures bounds { AreTrue pieces.new.items }
+    ensures write { IsErrOf result ReplyFault.Write → Rose (K.faults sink.old) (K.faults sink.new) }
+    ensures counted { K.faults sink.old ≤ K.faults sink.new }
+{
+    let reply = answer(alloc, pieces, command)?;
+    let text = text_of(alloc, &reply)?;
+    match write_all(sink, &text) {
+        Ok(()) => Ok(reply.is_refusal()),
+        Err(_) => Err(ReplyFault::Write),
+    }
+}
+
+/// Answers the command, if there is one: whether the reply is a refusal.
+fn reply_to_any<K: Sink>(
+    alloc: Global,
+    pieces: &mut Vec<Piece>,
+    command: Option<Command>,
+    sink: &mut K,
+) -> Result<bool, ReplyFault>
+    requires pieces { AreTrue pieces.old.items }
+    requires entry { IfSome command NamesEntry }
+    ensures replies { IfOk result (λ refused. WritesReplies pieces.old.items pieces.new.items (option_to_list command)
+        refused (K.holds sink.old) (K.holds sink.new)) }
+    ensures bounds { AreTrue pieces.new.items }
+    ensures write { IsErrOf result ReplyFault.Write → Rose (K.faults sink.old) (K.faults sink.new) }
+    ensures counted { K.faults sink.old ≤ K.faults sink.new }
 {
     match command {
-        Command::Submission(id, document) => answer_submission(alloc, pieces, id, &document),
-        Command::CutOff => Ok(Reply::Refused(Refusal::CutOff)),
-        Command::Show(entry) => Ok(show(pieces, entry)),
-        Command::Unknown => Ok(Reply::Refused(Refusal::NoCommand)),
+        Some(command) => reply_to(alloc, pieces, command, sink),
+        None => Ok(false),
+    }
+}
+
+impl Session {
+    ghost use Rattle.ct_program.specs.State.{fresh_state, TakesLine, TakesEnd};
+
+    /// A session before its first line. It takes no memory.
+    pub fn new(alloc: Global) -> Session
+        ensures { result ≡ fresh_state }
+    {
+        Session {
+            pieces: Vec::new(alloc),
+            pending: None,
+            refused: false,
+        }
+    }
+
+    /// Takes the next line, and writes the reply to the command that it completes, if any.
+    pub fn take_line<K: Sink>(
+        &mut self,
+        alloc: Global,
+        line: &[u8],
+        sink: &mut K,
+    ) -> Result<(), ReplyFault>
+        ensures line { OnOk result (TakesLine self.old self.new line.now (K.holds sink.old) (K.holds sink.new)) }
+        ensures write { IsErrOf result ReplyFault.Write → Rose (K.faults sink.old) (K.faults sink.new) }
+        ensures counted { K.faults sink.old ≤ K.faults sink.new }
+    {
+        let (pending, command) = take_line(alloc, self.pending.take(), line)?;
+        self.pending = pending;
+        let refused = reply_to_any(alloc, &mut self.pieces, command, sink)?;
+        self.refused = self.refused || refused;
+        Ok(())
+    }
+
+    /// Takes the end of the input, and writes the reply to a submission that it cuts off, if one is open.
+    pub fn finish<K: Sink>(&mut self, alloc: Global, sink: &mut K) -> Result<(), ReplyFault>
+        ensures end { OnOk result (TakesEnd self.old self.new (K.holds sink.old) (K.holds sink.new)) }
+        ensures write { IsErrOf result ReplyFault.Write → Rose (K.faults sink.old) (K.faults sink.new) }
+        ensures counted { K.faults sink.old ≤ K.faults sink.new }
+    {
+        let command = match self.pending {
+            Some(_) => Some(Command::CutOff),
+            None => None,
+        };
+        let refused = reply_to_any(alloc, &mut self.pieces, command, sink)?;
+        self.refused = self.refused || refused;
+        Ok(())
+    }
+
+    /// Whether a reply was a refusal.
+    pub fn is_refused(&self) -> bool
+        ensures { result ≡ self.now.refused }
+    {
+        self.refused
     }
 }

@@ -1,7 +1,7 @@
 use Rattle.std.proofs.Common.{ap}
 use Rattle.ct_program.proofs.Truth.{true_lower, true_upper}
 use Rattle.ct_program.specs.declared.reply.Reply.TheVariants.{Shown}
-use Rattle.ct_program.proofs.session.bounds_of.Goals as goal
+use Rattle.ct_program.proofs.answer.bounds_of.Goals as goal
 
 pub returns : goal.returns
 returns c = record {

@@ -1,6 +1,6 @@
 use Rattle.std.proofs.Common.{◌∙◌}
 use Rattle.ct_program.proofs.Replies.{one_reply}
-use Rattle.ct_program.proofs.state.reply_to.Goals as goal
+use Rattle.ct_program.proofs.session.reply_to.Goals as goal
 
 pub returns-in-Ok-clause-replies : goal.returns-in-Ok-clause-replies
 returns-in-Ok-clause-replies g c =

@@ -1,7 +1,7 @@
 use Rattle.std.proofs.lemmas.List.Elements.{All-push}
 use Rattle.ct_codes.specs.Code.{IsTrueLower}
 use Rattle.ct_program.specs.declared.piece.Piece.{Piece}
-use Rattle.ct_program.proofs.session.answer_submission.Goals as goal
+use Rattle.ct_program.proofs.answer.answer_submission.Goals as goal
 
 pub returns-clause-bounds : goal.returns-clause-bounds
 returns-clause-bounds c =
