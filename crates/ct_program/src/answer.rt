@@ -22,7 +22,8 @@ use std::alloc::{AllocError, Global};
 fn check_piece(alloc: Global, id: Id, entry: Entry, words: Vec<Word>) -> Result<Piece, CodeFault>
     requires entry { IsEntry entry }
     requires words { All (λ x. x < 2 ^ entry.n) words.items }
-    ensures piece { IfOk result (λ piece. piece ≡ record { id = id; entry = entry; size = length words.items }) }
+    ensures piece { IfOk result (λ piece.
+        piece ≡ record { id = id; entry = entry; size = length words.items }) }
     ensures fault { result_err result ≡ code_fault entry words.items }
     ensures bound { IfOk result (λ piece. IsTrueLower piece.entry piece.size) }
 {
@@ -115,7 +116,8 @@ fn answer_submission(
     document: &Document,
 ) -> Result<Reply, AllocError>
     requires { AreTrue pieces.old.items }
-    ensures reply { IfOk result (λ reply. reply ≡ submission_reply (submitted pieces.old.items id document.now)) }
+    ensures reply { IfOk result (λ reply.
+        reply ≡ submission_reply (submitted pieces.old.items id document.now)) }
     ensures pieces { OnOk result (pieces.new.items ≡ with_piece pieces.old.items
         (submitted pieces.old.items id document.now)) }
     ensures bounds { AreTrue pieces.new.items }

@@ -23,8 +23,8 @@ pub enum Command {
     Unknown,
 }
 
-/// A submission whose document has not ended: its id, if its line is `submit ID`, and the lines so far, each with its line
-/// feed.
+/// A submission whose document has not ended: its id, if its line is `submit ID`, and the lines
+/// so far, each with its line feed.
 #[derive(Debug, Drop)]
 pub struct Pending {
     /// The id.
@@ -40,12 +40,14 @@ fn is_end_line(line: &[u8]) -> bool
     line == b"end".as_slice() || line == b"end\r".as_slice()
 }
 
-/// Takes a line into an open submission: the whole submission where the line ends it, else the one that is still open.
+/// Takes a line into an open submission: the whole submission where the line ends it, else the
+/// one that is still open.
 fn continue_with(
     mut pending: Pending,
     line: &[u8],
 ) -> Result<(Option<Pending>, Option<Command>), AllocError>
-    ensures { IfOk result (λ r. (r.0 ≡ open_after (Some pending) line.now) × (r.1 ≡ completed_by (Some pending) line.now)) }
+    ensures { IfOk result (λ r. (r.0 ≡ open_after (Some pending) line.now)
+        × (r.1 ≡ completed_by (Some pending) line.now)) }
 {
     if is_end_line(line) {
         pending.text.pop();
@@ -73,13 +75,15 @@ fn begin_with(alloc: Global, line: &[u8]) -> Result<(Option<Pending>, Option<Com
     }
 }
 
-/// Takes the next line: the submission that is open after it, and the command that it completes, if any.
+/// Takes the next line: the submission that is open after it, and the command that it completes,
+/// if any.
 pub fn take_line(
     alloc: Global,
     pending: Option<Pending>,
     line: &[u8],
 ) -> Result<(Option<Pending>, Option<Command>), AllocError>
-    ensures { IfOk result (λ r. (r.0 ≡ open_after pending line.now) × (r.1 ≡ completed_by pending line.now)) }
+    ensures { IfOk result (λ r. (r.0 ≡ open_after pending line.now)
+        × (r.1 ≡ completed_by pending line.now)) }
 {
     match pending {
         Some(pending) => continue_with(pending, line),

@@ -57,12 +57,16 @@ fn run_status(refused: bool) -> Status
     }
 }
 
-/// Serves the mode `session`: takes the lines of the source to its end, and writes the replies to the sink.
+/// Serves the mode `session`: takes the lines of the source to its end, and writes the replies to
+/// the sink.
 fn serve<S: Source, K: Sink>(alloc: Global, source: &mut S, sink: &mut K) -> Status
-    ensures run { IsRunStatus result → WritesRun (S.left source.old) (K.holds sink.old) (K.holds sink.new) result }
+    ensures run { IsRunStatus result
+        → WritesRun (S.left source.old) (K.holds sink.old) (K.holds sink.new) result }
     ensures to_end { IsRunStatus result → IsAtEnd (S.left source.new) }
-    ensures read_fault { result ≡ Status.ReadFault → Rose (S.faults source.old) (S.faults source.new) }
-    ensures write_fault { result ≡ Status.WriteFault → Rose (K.faults sink.old) (K.faults sink.new) }
+    ensures read_fault { result ≡ Status.ReadFault
+        → Rose (S.faults source.old) (S.faults source.new) }
+    ensures write_fault { result ≡ Status.WriteFault
+        → Rose (K.faults sink.old) (K.faults sink.new) }
     ensures too_long { WhereTold (S.left source.old) (S.left source.new)
         (λ before after. (result ≡ Status.TooLong) ↔ IsAboveLimit before after) }
     ensures not_usage { result ≢ Status.Usage }
@@ -88,34 +92,41 @@ fn serve<S: Source, K: Sink>(alloc: Global, source: &mut S, sink: &mut K) -> Sta
     }
 }
 
-/// Runs the program on the words after its name. The one command is the word `session`: the commands of the source are
-/// answered in order, each by a reply in the sink. Other words are answered by the usage line, and nothing is read.
+/// Runs the program on the words after its name. The one command is the word `session`: the commands
+/// of the source are answered in order, each by a reply in the sink. Other words are answered by the
+/// usage line, and nothing is read.
 pub fn run<S: Source, K: Sink>(
     alloc: Global,
     words: &[String],
     source: &mut S,
     sink: &mut K,
 ) -> Status
-    // Done and Refused: the input was read to its end, and what was written is a run of the session on it.
-    ensures run { IsRunStatus result → WritesRun (S.left source.old) (K.holds sink.old) (K.holds sink.new) result }
+    // Done and Refused: the input was read to its end, and what was written is a run of the session.
+    ensures run { IsRunStatus result
+        → WritesRun (S.left source.old) (K.holds sink.old) (K.holds sink.new) result }
     ensures to_end { IsRunStatus result → IsAtEnd (S.left source.new) }
     ensures command { IsRunStatus result → IsSession words.now }
 
     // The faults.
-    ensures read_fault { result ≡ Status.ReadFault → Rose (S.faults source.old) (S.faults source.new) }
-    ensures write_fault { result ≡ Status.WriteFault → Rose (K.faults sink.old) (K.faults sink.new) }
+    ensures read_fault { result ≡ Status.ReadFault
+        → Rose (S.faults source.old) (S.faults source.new) }
+    ensures write_fault { result ≡ Status.WriteFault
+        → Rose (K.faults sink.old) (K.faults sink.new) }
     ensures too_long { WhereTold (S.left source.old) (S.left source.new)
         (λ before after. (result ≡ Status.TooLong) ↔ IsAboveLimit before after) }
 
     // Words that are no command.
-    ensures usage { result ≡ Status.Usage → Appends (K.holds sink.old) (K.holds sink.new) usage_line }
+    ensures usage { result ≡ Status.Usage
+        → Appends (K.holds sink.old) (K.holds sink.new) usage_line }
     ensures command_known { result ≡ Status.Usage → ¬ IsSession words.now }
-    ensures no_command { ¬ IsSession words.now → (result ≡ Status.Usage) ⊎ (result ≡ Status.WriteFault) }
+    ensures no_command { ¬ IsSession words.now
+        → (result ≡ Status.Usage) ⊎ (result ≡ Status.WriteFault) }
     ensures unread { ¬ IsSession words.now → source.new ≡ source.old }
 
-    // Completeness: on an input within the limit and without faults, every run ends so, but for want of memory.
+    // Completeness: within the limit and without faults, a run ends so, but for want of memory.
     ensures complete { IsSession words.now → IsWithinLimit (S.left source.old)
-        → ¬ Rose (S.faults source.old) (S.faults source.new) → ¬ Rose (K.faults sink.old) (K.faults sink.new)
+        → ¬ Rose (S.faults source.old) (S.faults source.new)
+        → ¬ Rose (K.faults sink.old) (K.faults sink.new)
         → IsRunStatus result ⊎ (result ≡ Status.Memory) }
 {
     if !is_session(words) {
