@@ -1,4 +1,4 @@
-//! The three bounds, for an entry A(n,d) of the table: 1 ≤ n ≤ 28 and 3 ≤ d ≤ 28.
+//! The three bounds, for an entry A(n,d) of the table: n from 1 and d from 3, both to `MAX_N`.
 
 ghost use Rattle.std.specs.Prelude.{◌≡◌, ◌+◌, ◌≤◌, IfSome};
 ghost use Rattle.ct_codes.specs.Code.{IsTrueUpper};

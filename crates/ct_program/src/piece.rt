@@ -37,7 +37,7 @@ pub fn lower_bound(pieces: &[Piece], entry: Entry) -> u32
         .fold(1, |best, size| best.max(size))
 }
 
-/// The best upper bound of the entry, 2^n, where n is at most 28.
+/// The best upper bound of the entry, 2^n, where n is at most `MAX_N`.
 pub fn upper_bound(entry: Entry) -> u32
     requires { entry.n ≤ MAX_N }
     ensures { result ≡ best_upper entry }
