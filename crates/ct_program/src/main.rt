@@ -16,14 +16,29 @@ mod text;
 use crate::run::run;
 use crate::status::Status;
 use ct_io::{StdSink, StdSource};
+use std::alloc::AllocError;
 use std::process::ExitCode;
 use std::{env, io};
 
-fn main(rt: HostRuntime) -> io::Result<ExitCode> {
+/// The words after the program's name. They are none where one is not UTF-8: no command has such a word.
+fn command_words(rt: &HostRuntime) -> Result<Vec<String>, AllocError> {
     let mut words = Vec::new(rt.alloc());
-    for word in env::args(&rt)?.skip(1) {
-        words.push(word)?;
+    match env::args(rt) {
+        Ok(all) => {
+            for word in all.skip(1) {
+                words.push(word)?;
+            }
+            Ok(words)
+        }
+        Err(e) if e.kind() == io::ErrorKind::OutOfMemory => Err(AllocError),
+        Err(_) => Ok(words),
     }
+}
+
+fn main(rt: HostRuntime) -> ExitCode {
+    let Ok(words) = command_words(&rt) else {
+        return ExitCode::from(Status::Memory.number());
+    };
     let mut source = StdSource {
         inner: rt.stdin(),
         faults: 0,
@@ -33,7 +48,7 @@ fn main(rt: HostRuntime) -> io::Result<ExitCode> {
         faults: 0,
     };
     let status = run(rt.alloc(), &words, &mut source, &mut sink);
-    Ok(ExitCode::from(status.number()))
+    ExitCode::from(status.number())
 }
 
 #[cfg(test)]

@@ -20,7 +20,7 @@ end
 show 10 6
 ";
 
-/// The replies to it.
+/// The replies to them.
 const SIX_WORDS_REPLIES: &[u8] = b"accepted hexa size 6\n6 <= A(10,6) <= 1024\n";
 
 // One line, and the reply to it.
@@ -305,7 +305,7 @@ fn run_in_pieces(
     Ok((status, written))
 }
 
-/// Whether the session on the input writes the replies and ends with the status.
+/// The session on the input writes the replies and ends with the status, in pieces of every size.
 fn assert_session(
     rt: &impl Abort,
     alloc: Global,
