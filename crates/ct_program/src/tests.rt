@@ -26,7 +26,8 @@ const SIX_WORDS_REPLIES: &[u8] = b"accepted hexa size 6\n6 <= A(10,6) <= 1024\n"
 // One line, and the reply to it.
 type Line = (&'static [u8], &'static [u8]);
 
-// Lines that are no command, and lines that ask for bounds, of the table and outside it.
+// Lines that ask for nothing, and lines that ask for bounds: of the table, outside it, and with words that are no
+// numbers.
 const SHOW_LINES: [Line; 36] = [
     (b"", b""),
     (b"   ", b""),
@@ -67,7 +68,7 @@ const SHOW_LINES: [Line; 36] = [
 ];
 
 // Lines that are refused as commands: each is like one that isn't.
-const OTHER_LINES: [&[u8]; 30] = [
+const OTHER_LINES: [&[u8]; 32] = [
     b"show",
     b"show 10",
     b"show 10 6 3 1",
@@ -89,6 +90,8 @@ const OTHER_LINES: [&[u8]; 30] = [
     b"show 10 \xef\xbc\x96",
     b"\xe2\x80\x83",
     b"\xff",
+    b"submit\ta",
+    b"Submit a",
     b"end",
     b"end\r",
     b"withdraw a",
@@ -180,7 +183,7 @@ const DOCUMENTS: [Line; 24] = [
 const TWO_WORDS: &[u8] = b"kind='words'\nn=3\nd=3\nwords=['000','111']\nend\n";
 
 // Whole sessions, in which `@` stands for `TWO_WORDS`: the input, the replies, and the status.
-const SESSIONS: [(&str, &str, Status); 22] = [
+const SESSIONS: [(&str, &str, Status); 23] = [
     ("", "", Status::Done),
     ("\n\n", "", Status::Done),
     ("show 3 3", "1 <= A(3,3) <= 8\n", Status::Done),
@@ -220,6 +223,11 @@ const SESSIONS: [(&str, &str, Status); 22] = [
     ),
     (
         "submit a lines 1\n@show 3 3\n",
+        "refused command\n1 <= A(3,3) <= 8\n",
+        Status::Refused,
+    ),
+    (
+        "submit \u{e9}\n@show 3 3\n",
         "refused command\n1 <= A(3,3) <= 8\n",
         Status::Refused,
     ),
@@ -285,8 +293,8 @@ const SESSIONS: [(&str, &str, Status); 22] = [
     ),
 ];
 
-// Generators of a code of length 24, whose least distance is 3: a one at place i of the first 14 digits, and the i-th of
-// these numbers, each with at least two ones, in the last 10.
+// A generator of the code of length 24 has a one at place i of its first 14 digits, and the i-th of these numbers in its
+// last 10. The numbers differ and have at least two ones each, so two words of the code are at distance at least 3.
 const TAILS: [u32; 14] = [3, 5, 6, 7, 9, 10, 11, 12, 13, 14, 15, 17, 18, 19];
 
 /// How the program ends with the words on the input, which comes in pieces of at most `cap` bytes, and what it writes.
