@@ -47,6 +47,7 @@ fn drop_front(bytes: &mut Vec<u8>, count: usize)
 }
 
 impl Held {
+    /// No bytes. It takes no memory.
     pub(crate) fn new(alloc: Global) -> Held
         ensures { result ≡ [] }
     {

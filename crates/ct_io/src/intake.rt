@@ -25,6 +25,7 @@ pub(crate) struct Intake {
 impl Intake {
     ghost use Rattle.ct_io.specs.Intake.{Gathers, IsFaultAt, Passes};
 
+    /// An intake that took nothing yet, with space for one read.
     pub(crate) fn new(alloc: Global) -> Result<Intake, AllocError>
         ensures held { IfOk result (λ i. i.held ≡ []) }
         ensures taken { IfOk result (λ i. i.taken ≡ 0) }
