@@ -1,7 +1,9 @@
 -- The least pair of places whose items pass a test.
-use Rattle.std.proofs.Common.{◌≡◌, ℕ, ◌^◌, nat_lt, zero, suc, ◌<◌, ◌≤◌, ◌⊎◌, Bool, true, false, List, [], ◌∷◌, length, get_or, position, Some, None, IsTrue, IsFalse, All, slice_index, subst, lt_trans, sym, refl, ap, ap₂, ◌∙◌, inl, inr, arith}
+use Rattle.std.proofs.Common.{◌≡◌, ℕ, ◌^◌, nat_lt, zero, suc, ◌+◌, ◌<◌, ◌≤◌, ◌⊎◌, Bool, true, false, List, [], ◌∷◌, length, drop, get_or, position, Option, Some, None, IsTrue, IsFalse, All, slice_index, subst, lt_trans, sym, refl, ap, ap₂, ◌∙◌, inl, inr, arith}
 use Rattle.std.specs.List.{position_or_len}
-use Rattle.std.proofs.lemmas.Bool.{cases_lt, cases_order, both_ways, le-ltb, lt-ltb}
+use Rattle.std.specs.Option.{option_map}
+use Rattle.std.proofs.lemmas.Bool.{cases_lt, both_ways, le-ltb, lt-ltb}
+use Rattle.std.proofs.lemmas.List.{at_drop_more, at_drop_all}
 use Rattle.std.proofs.lemmas.List.Sums.{fails_before_first, passes_at_first}
 use Rattle.ct_words.specs.Word.{distance}
 use Rattle.ct_words.proofs.WordLemmas.{distance_any_length}
@@ -142,24 +144,30 @@ close_any_length n m d words below_n below_m =
     (λ x y p q. ap (λ e. nat_lt e d) (distance_any_length n m x y p.0 q.0 p.1 q.1))
     words (λ k z h. (below_n k z h, below_m k z h))
 
--- a pair that passes is the least where no earlier row has one, nor an earlier place of its row
-pub IsLeastPair-from_rows : (test : ℕ → ℕ → Bool) (xs : List ℕ) (i j : ℕ) → i < j → j < length xs → IsTrue (test (get_or xs i 0) (get_or xs j 0))
-    → ((k m : ℕ) → k < i → k < m → m < length xs → IsFalse (test (get_or xs k 0) (get_or xs m 0)))
-    → ((m : ℕ) → i < m → m < j → IsFalse (test (get_or xs i 0) (get_or xs m 0))) → IsLeastPair test xs i j
-IsLeastPair-from_rows test xs i j order_is within_is passes_is rows row = record { order = order_is; within = within_is; passes = passes_is; least = least_is }
-  where
-    same_row : (k m : ℕ) → i ≡ k → k < m → IsTrue (test (get_or xs k 0) (get_or xs m 0)) → j ≤ m
-    same_row k m e order passes = elim (cases_lt m j) [
-      | inl sooner ↦ absurd (both_ways (test (get_or xs i 0) (get_or xs m 0)) (row m (omega arith) sooner)
-          (ap (λ a. test (get_or xs a 0) (get_or xs m 0)) e ∙ passes))
-      | inr not_sooner ↦ not_sooner
-    ]
+-- a pair of places of what is left of a list after i items, as places of the list
+abbrev pub shifted : ℕ → Option (ℕ × ℕ) → Option (ℕ × ℕ)
+shifted i pair = option_map (λ p. (i + p.0, i + p.1)) pair
 
-    least_is : (k m : ℕ) → k < m → m < length xs → IsTrue (test (get_or xs k 0) (get_or xs m 0)) → (i < k) ⊎ ((i ≡ k) × (j ≤ m))
-    least_is k m order within passes = elim (cases_order i k) [
-      | inl same ↦ inr (same, same_row k m same order passes)
-      | inr apart ↦ elim apart [
-        | inl later ↦ inl later
-        | inr sooner ↦ absurd (both_ways (test (get_or xs k 0) (get_or xs m 0)) (rows k m sooner order within) passes)
-      ]
-    ]
+pub shifted-zero : (pair : Option (ℕ × ℕ)) → shifted 0 pair ≡ pair
+shifted-zero None = refl
+shifted-zero (Some p) = ap₂ (λ (a b : ℕ). Some (a, b)) (omega arith) (omega arith)
+
+one_on : (i : ℕ) (pair : Option (ℕ × ℕ)) → shifted i (option_map (λ p. (suc p.0, suc p.1)) pair) ≡ shifted (i + 1) pair
+one_on i None = refl
+one_on i (Some p) = ap₂ (λ (a b : ℕ). Some (a, b)) (omega arith) (omega arith)
+
+-- where item i passes with a later one, the first such makes the least pair of what is left
+pub shifted-row_found : (test : ℕ → ℕ → Bool) (xs : List ℕ) (i j : ℕ) → i < length xs → position (test (get_or xs i 0)) (drop (i + 1) xs) ≡ Some j
+    → shifted i (least_pair test (drop i xs)) ≡ Some (i, i + 1 + j)
+shifted-row_found test xs i j within passed =
+    ap (shifted i) (at_drop_more (least_pair test) xs i 0 within) ∙ (rw passed (ap₂ (λ (a b : ℕ). Some (a, b)) (omega arith) (omega arith)))
+
+-- where it passes with none, the least pair is that of the items after it
+pub shifted-row_passed : (test : ℕ → ℕ → Bool) (xs : List ℕ) (i : ℕ) → i < length xs → position (test (get_or xs i 0)) (drop (i + 1) xs) ≡ None
+    → shifted i (least_pair test (drop i xs)) ≡ shifted (i + 1) (least_pair test (drop (i + 1) xs))
+shifted-row_passed test xs i within passed =
+    ap (shifted i) (at_drop_more (least_pair test) xs i 0 within) ∙ (rw passed (one_on i (least_pair test (drop (i + 1) xs))))
+
+-- after all items no pair is left
+pub shifted-end : (test : ℕ → ℕ → Bool) (xs : List ℕ) (i : ℕ) → length xs ≤ i → shifted i (least_pair test (drop i xs)) ≡ None
+shifted-end test xs i all = ap (shifted i) (at_drop_all (least_pair test) xs i all)

@@ -1,10 +1,17 @@
 //! The search for two words that are too close.
-
-ghost use Rattle.std.specs.Prelude.{◌≡◌, ℕ, ◌^◌, ◌<◌, nat_lt, length, All, IfSome};
+ghost use Rattle.std.specs.Prelude.{◌≡◌, ℕ, ◌^◌, ◌<◌, nat_lt, length, position, All, IfSome};
 ghost use Rattle.ct_words.specs.Word.{distance};
 ghost use Rattle.ct_codes.specs.Pairs.{least_pair};
 
 use ct_words::{Word, distance};
+
+/// The first place of `others` whose word has a distance below `d` from `word`. All are words of length 32, too.
+#[inline(never)]
+fn first_close(word: Word, others: &[Word], d: u32) -> Option<usize>
+    ensures { result ≡ position (λ x. nat_lt (distance 32 word x) d) others.now }
+{
+    others.iter().position(|other| distance(word, *other) < d)
+}
 
 /// The least pair of places i < j, in order of i and then j, whose words have a distance below `d`.
 ///
@@ -15,10 +22,8 @@ pub fn first_close_pair(words: &[Word], d: u32) -> Option<(usize, usize)>
     ensures places { IfSome result (λ p. (p.0 < p.1) × (p.1 < length words.now)) }
 {
     for i in 0..words.len() {
-        for j in i + 1..words.len() {
-            if distance(words[i], words[j]) < d {
-                return Some((i, j));
-            }
+        if let Some(more) = first_close(words[i], &words[i + 1..], d) {
+            return Some((i, i + 1 + more));
         }
     }
     None

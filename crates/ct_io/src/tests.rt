@@ -2,6 +2,7 @@ ghost use Rattle.std.specs.Prelude.{◌≤◌, IfOk};
 
 use super::*;
 use std::alloc::AllocError;
+use std::io::{self, ErrorKind, Read, Write};
 use std::test::Fail;
 
 const TEXT: &[u8] = b"first\n\nthird line\nlast";
@@ -59,6 +60,44 @@ fn a_failed_write_keeps_a_prefix(rt: HostRuntime) -> Result<(), Fail> {
         assert_eq!(rt; (sink.bytes.as_slice(), sink.faults), (kept, faults));
     }
     Ok(())
+}
+
+/// A reader and a writer each of whose calls fails.
+#[derive(Debug, Drop)]
+struct Broken;
+
+impl Read for Broken {
+    fn read(&mut self, _buf: &mut [u8]) -> io::Result<usize> {
+        Err(ErrorKind::BrokenPipe.into())
+    }
+}
+
+impl Write for Broken {
+    fn write(&mut self, _buf: &[u8]) -> io::Result<usize> {
+        Err(ErrorKind::BrokenPipe.into())
+    }
+
+    fn flush(&mut self) -> io::Result<()> {
+        Ok(())
+    }
+}
+
+#[test]
+fn failures_of_std_are_counted(rt: HostRuntime) {
+    let mut source = StdSource {
+        inner: Broken,
+        faults: 0,
+    };
+    let mut sink = StdSink {
+        inner: Broken,
+        faults: u64::MAX - 1,
+    };
+    for failures in [1, 2] {
+        assert!(rt; source.read(&mut [0; 4]).is_err());
+        assert_eq!(rt; source.faults, failures);
+        assert!(rt; write_all(&mut sink, TEXT).is_err());
+        assert_eq!(rt; sink.faults, u64::MAX);
+    }
 }
 
 #[test]

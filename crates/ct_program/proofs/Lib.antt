@@ -1,4 +1,5 @@
 pub mod Entries
+pub mod Forms
 pub mod Truth
 pub mod Commands
 pub mod Replies

@@ -7,8 +7,11 @@ ghost use Rattle.ct_program.specs.Form.{form_of, words_form, submit_form, show_f
 
 use ct_codes::Entry;
 use ct_files::Id;
-use ct_text::{parse_number, words_of_line};
+use ct_text::{first_words, parse_number};
 use std::alloc::{AllocError, Global};
+
+// So many words of a line tell what it asks for: no form has more than four, and a fifth shows that there are too many.
+const MOST_WORDS: usize = 5;
 
 /// What one line of a session asks for.
 #[derive(Debug, Drop)]
@@ -82,14 +85,21 @@ fn form_of_words(words: &[&[u8]]) -> Form
     }
 }
 
+/// Whether the first byte of the line is `#`.
+fn is_comment(line: &[u8]) -> bool
+    ensures { result ≡ (slice_index line.now 0 == 35) }
+{
+    line.first() == Some(&b'#')
+}
+
 /// What a line of a session asks for.
 #[tactic(auto, unfolding(crate::specs::Form::form_of))]
 pub fn read_form(alloc: Global, line: &[u8]) -> Result<Form, AllocError>
     ensures { IfOk result (λ form. form ≡ form_of line.now) }
 {
-    if let [b'#', ..] = line {
+    if is_comment(line) {
         return Ok(Form::Nothing);
     }
-    let words = words_of_line(alloc, line)?;
+    let words = first_words(alloc, line, MOST_WORDS)?;
     Ok(form_of_words(&words))
 }

@@ -8,5 +8,5 @@ mod number;
 
 pub use append::put_number;
 pub use laws::numbers_are_read_as_printed;
-pub use line::words_of_line;
+pub use line::first_words;
 pub use number::parse_number;

@@ -1,7 +1,6 @@
 //! The words of a line.
 
-ghost use Rattle.std.specs.Prelude.{◌≡◌, ◌==◌, IfOk, map};
-ghost use Rattle.std.specs.List.{slice_split};
+ghost use Rattle.std.specs.Prelude.{◌≡◌, IfOk, map, take};
 ghost use Rattle.std.specs.Str.Lines.{strip_carriage_return};
 ghost use Rattle.ct_text.specs.Line.{words_of};
 
@@ -17,20 +16,15 @@ fn without_carriage_return(line: &[u8]) -> &[u8]
     }
 }
 
-/// The parts of a text between spaces, empty ones too.
-fn parts_between_spaces(alloc: Global, text: &[u8]) -> Result<Vec<&[u8]>, AllocError>
-    ensures { IfOk result (λ parts. map (λ part. part.now) parts.items ≡ slice_split (λ b. b == 32) text.now) }
-{
-    text.split(|b| *b == b' ').collect(alloc)
-}
-
-/// The words of a line: its parts between spaces that are not empty. One carriage return at the line's end does not
-/// count; a tab is no space.
+/// The first words of a line, at most `count` of them, in order. The words are the line's parts between spaces that are
+/// not empty. One carriage return at the line's end does not count; a tab is no space.
 #[tactic(auto, unfolding(crate::specs::Line::words_of))]
-pub fn words_of_line(alloc: Global, line: &[u8]) -> Result<Vec<&[u8]>, AllocError>
-    ensures { IfOk result (λ words. map (λ word. word.now) words.items ≡ words_of line.now) }
+pub fn first_words(alloc: Global, line: &[u8], count: usize) -> Result<Vec<&[u8]>, AllocError>
+    ensures { IfOk result (λ words. map (λ word. word.now) words.items ≡ take count (words_of line.now)) }
 {
-    let mut words = parts_between_spaces(alloc, without_carriage_return(line))?;
-    words.retain(|word| !word.is_empty());
-    Ok(words)
+    without_carriage_return(line)
+        .split(|b| *b == b' ')
+        .filter(|word| !word.is_empty())
+        .take(count)
+        .collect(alloc)
 }

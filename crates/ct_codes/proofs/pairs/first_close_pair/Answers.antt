@@ -1,25 +1,33 @@
-use Rattle.std.proofs.Common.{◌∙◌, sym, ◌<◌, ◌^◌, nat_lt, get_or, arith}
+use Rattle.std.proofs.Common.{◌≡◌, ◌∙◌, sym, ap, ℕ, ◌+◌, ◌-◌, ◌<◌, ◌^◌, nat_lt, List, length, take, drop, get_or, position, take_all, length-drop, arith}
 use Rattle.std.proofs.Math.Facts.{Fits-lt-pow}
-use Rattle.std.proofs.lemmas.Bool.{lt-ltb, le-ltb}
 use Rattle.std.proofs.lemmas.List.Elements.{All-from_get_or}
 use Rattle.ct_words.specs.Word.{distance}
-use Rattle.ct_codes.proofs.PairLemmas.{close_any_length, least_pair-none, least_pair-at, IsLeastPair-from_rows}
+use Rattle.ct_codes.proofs.PairLemmas.{close_any_length, shifted-row_found, shifted-row_passed, shifted-end}
 use Rattle.ct_codes.proofs.pairs.first_close_pair.Goals as goal
 
-pub returns-then-distance-d-clause-least : goal.returns-then-distance-d-clause-least
-returns-then-distance-d-clause-least c = λ n below.
+-- the rest of a slice, as a list
+rest_is : (words : List ℕ) (i : ℕ) → take (length words - i) (drop i words) ≡ drop i words
+rest_is words i = take_all (length words - i) (drop i words) (let e = length-drop i words in omega (arith, e))
+
+pub returns-in-Some-clause-least : goal.returns-in-Some-clause-least
+returns-in-Some-clause-least c = λ n below.
     let fits = All-from_get_or (λ x. x < 2 ^ 32) c.args.words.now 0 (λ k h. Fits-lt-pow (c.type_inv.words k)) in
-    let close = c.distance.ensures 32 (fits c.loop-i.i 0 c.loop-i-test.true) (fits c.loop-j.j 0 c.loop-j-test.true) in
-    sym (least_pair-at (λ x y. nat_lt (distance 32 x y) c.args.d) c.args.words.now c.loop-i.i c.loop-j.j
-    (IsLeastPair-from_rows (λ x y. nat_lt (distance 32 x y) c.args.d) c.args.words.now c.loop-i.i c.loop-j.j (omega arith) c.loop-j-test.true
-    (lt-ltb (distance 32 (get_or c.args.words.now c.loop-i.i 0) (get_or c.args.words.now c.loop-j.j 0)) c.args.d (omega arith))
-    (λ k m row order within. le-ltb (distance 32 (get_or c.args.words.now k 0) (get_or c.args.words.now m 0)) c.args.d (c.loop-i.invariant k m row order within))
-    (λ m order sooner. le-ltb (distance 32 (get_or c.args.words.now c.loop-i.i 0) (get_or c.args.words.now m 0)) c.args.d (c.loop-j.invariant m order sooner))))
+    let close = λ (x y : ℕ). nat_lt (distance 32 x y) c.args.d in
+    let word = get_or c.args.words.now c.loop-i.i 0 in
+    let found = ap (position (close word)) (sym (rest_is c.args.words.now (c.loop-i.i + 1))) ∙ sym c.in-Some.ensures in
+    sym (c.loop-i.invariant ∙ shifted-row_found close c.args.words.now c.loop-i.i c.in-Some.more c.loop-i-test.true found)
     ∙ close_any_length 32 n c.args.d c.args.words.now fits below
+
+pub loop-i-preserved : goal.loop-i-preserved
+loop-i-preserved c =
+    let close = λ (x y : ℕ). nat_lt (distance 32 x y) c.args.d in
+    let word = get_or c.args.words.now c.loop-i.i 0 in
+    let passed = ap (position (close word)) (sym (rest_is c.args.words.now (c.loop-i.i + 1))) ∙ sym c.first_close.ensures ∙ c.in_default.is in
+    c.loop-i.invariant ∙ shifted-row_passed close c.args.words.now c.loop-i.i c.loop-i-test.true passed
 
 pub returns-clause-least : goal.returns-clause-least
 returns-clause-least c = λ n below.
     let fits = All-from_get_or (λ x. x < 2 ^ 32) c.args.words.now 0 (λ k h. Fits-lt-pow (c.type_inv.words k)) in
-    sym (least_pair-none (λ x y. nat_lt (distance 32 x y) c.args.d) c.args.words.now
-    (λ k m order within. le-ltb (distance 32 (get_or c.args.words.now k 0) (get_or c.args.words.now m 0)) c.args.d (c.loop-i.invariant k m (omega arith) order within)))
+    let close = λ (x y : ℕ). nat_lt (distance 32 x y) c.args.d in
+    sym (c.loop-i.invariant ∙ shifted-end close c.args.words.now c.loop-i.i (omega arith))
     ∙ close_any_length 32 n c.args.d c.args.words.now fits below

@@ -1,9 +1,11 @@
-use Rattle.std.proofs.Common.{ℕ, ◌<◌, ◌≤◌, length, get_or}
+use Rattle.std.proofs.Common.{◌≡◌, ℕ, nat_lt, drop}
 use Rattle.ct_words.specs.Word.{distance}
+use Rattle.ct_codes.specs.Pairs.{least_pair}
+use Rattle.ct_codes.proofs.PairLemmas.{shifted}
 use Rattle.ct_codes.proofs.pairs.first_close_pair.Given as goal
 
-abbrev pub invariant-loop-j : goal.invariant-loop-j
-invariant-loop-j l = (m : ℕ) → l.i < m → m < l.j → l.d ≤ distance 32 (get_or l.words l.i 0) (get_or l.words m 0)
-
+-- no word so far is in a close pair with a later one
 abbrev pub invariant-loop-i : goal.invariant-loop-i
-invariant-loop-i l = (k m : ℕ) → k < l.i → k < m → m < length l.words → l.d ≤ distance 32 (get_or l.words k 0) (get_or l.words m 0)
+invariant-loop-i l =
+    let close = λ (x y : ℕ). nat_lt (distance 32 x y) l.d in
+    least_pair close l.words ≡ shifted l.i (least_pair close (drop l.i l.words))
