@@ -1,6 +1,6 @@
 -- Every input has a run: each command over pieces whose sizes are those of codes has a reply.
 use Rattle.std.proofs.Common.{◌≡◌, ℕ, Bool, true, false, cond, List, [], ◌∷◌, ◌++◌, Option, Some, None, Result, Ok, Err, IfOk, refl, arith}
-use Rattle.std.specs.Prelude.{IfSome}
+use Rattle.std.specs.Prelude.{IfSome, fold}
 use Rattle.std.specs.List.{flat_map, AllByRecursion}
 use Rattle.std.specs.Option.{option_to_list}
 use Rattle.std.proofs.lemmas.List.Elements.{All-push}
@@ -15,7 +15,7 @@ use Rattle.ct_files.specs.declared.evidence.Evidence.{Evidence}
 use Rattle.ct_files.specs.declared.evidence.Evidence.TheVariants.{Words}
 use Rattle.ct_files.proofs.Evidences.{evidence_of-sound}
 use Rattle.ct_program.specs.Bounds.{has_id, best_lower, best_upper}
-use Rattle.ct_program.specs.Command.{commands_from, commands_of, completed_by, open_after, cut_off}
+use Rattle.ct_program.specs.Command.{commands_from, completed_by, open_after, cut_off}
 use Rattle.ct_program.specs.Reply.{IsReply, IsEntryReply, checked, piece_of, submitted, submission_reply, with_piece, pieces_after}
 use Rattle.ct_program.specs.Session.{AreReplies, IsRun, status_of}
 use Rattle.ct_program.specs.State.{AreTrue, NamesEntry}
@@ -68,6 +68,11 @@ after_true pieces command.CutOff h = h
 after_true pieces (command.Show e) h = h
 after_true pieces command.Unknown h = h
 
+-- and so have the pieces after several commands
+pub fold_true : (pieces : List Piece) (cs : List Command) → AreTrue pieces → AreTrue (fold pieces_after pieces cs)
+fold_true pieces [] h = h
+fold_true pieces (c ∷ cs) h = fold_true (pieces_after pieces c) cs (after_true pieces c h)
+
 entry_reply : (pieces : List Piece) (e : Entry) (w : Option ℕ) → e.w ≡ w → AreTrue pieces → NamesEntry (command.Show (Some e)) → (r : Reply) × IsEntryReply pieces e w r
 entry_reply pieces e None light h named = (Shown (record { entry = e; lower = best_lower pieces e; upper = best_upper e }), record { bounds = refl; lower = true_lower pieces e named h; upper = true_upper e named })
 entry_reply pieces e (Some w) light h named = (Refused refusal.NoEntry, refl)
@@ -81,12 +86,17 @@ some_reply pieces (command.Show (Some e)) h named = entry_reply pieces e e.w ref
 some_reply pieces command.Unknown h named = (Refused refusal.NoCommand, refl)
 
 -- commands have replies
-some_replies : (pieces : List Piece) (cs : List Command) → AreTrue pieces → AllByRecursion NamesEntry cs → (rs : List Reply) × AreReplies pieces cs rs
+pub some_replies : (pieces : List Piece) (cs : List Command) → AreTrue pieces → AllByRecursion NamesEntry cs → (rs : List Reply) × AreReplies pieces cs rs
 some_replies pieces [] h named = ([], tt)
 some_replies pieces (c ∷ cs) h named =
     let first = some_reply pieces c h named.0 in
     let rest = some_replies (pieces_after pieces c) cs (after_true pieces c h) named.1 in
     (first.0 ∷ rest.0, (first.1, rest.1))
+
+-- a command has a reply, if there is a command
+pub some_reply_if_any : (pieces : List Piece) (o : Option Command) → AreTrue pieces → IfSome o NamesEntry → (rs : List Reply) × AreReplies pieces (option_to_list o) rs
+some_reply_if_any pieces None h named = ([], tt)
+some_reply_if_any pieces (Some c) h named = some_replies pieces (c ∷ []) h (named, tt)
 
 joined : (o : Option Command) (cs : List Command) → IfSome o NamesEntry → AllByRecursion NamesEntry cs → AllByRecursion NamesEntry (option_to_list o ++ cs)
 joined None cs h k = k
@@ -101,7 +111,15 @@ commands_name : (pending : Option Pending) (lines : List (List ℕ)) → AllByRe
 commands_name pending [] = cut_names pending
 commands_name pending (line ∷ lines) = joined (completed_by pending line) (commands_from (open_after pending line) lines) (completed_names pending line) (commands_name (open_after pending line) lines)
 
+-- the commands of lines that follow have replies
+pub some_replies_from : (pieces : List Piece) (pending : Option Pending) (lines : List (List ℕ)) → AreTrue pieces → (rs : List Reply) × AreReplies pieces (commands_from pending lines) rs
+some_replies_from pieces pending lines h = some_replies pieces (commands_from pending lines) h (commands_name pending lines)
+
+-- no pieces
+pub none_true : AreTrue []
+none_true k d below = absurd (omega arith)
+
 pub some_run : (input : List ℕ) → (output : List ℕ) × (result : Status) × IsRun input output result
 some_run input =
-    let all = some_replies [] (commands_of (lines_of input)) (λ k d below. absurd (omega arith)) (commands_name None (lines_of input)) in
+    let all = some_replies_from [] None (lines_of input) none_true in
     (flat_map reply_text all.0, status_of all.0, record { replies = all.0; are = all.1; text = refl; status = refl })

@@ -1,12 +1,11 @@
 -- What lasts from line to line while the program serves a session.
-use Rattle.std.proofs.Common.{◌≡◌, ◌≢◌, ℕ, ◌+◌, ◌-◌, ◌<◌, ◌≤◌, Bool, true, false, cond, List, [], ◌∷◌, ◌++◌, length, Option, None, Some, Result, Ok, Err, Vec, refl, sym, ap, ◌∙◌, subst, arith, inl, inr, ◌↔◌, length-append}
+use Rattle.std.proofs.Common.{◌≡◌, ◌≢◌, ℕ, ◌+◌, ◌-◌, ◌<◌, ◌≤◌, Bool, true, false, cond, List, [], ◌++◌, length, Option, None, Some, Result, Ok, Err, Vec, refl, sym, ap, ◌∙◌, subst, arith, inl, inr, ◌↔◌, length-append}
 use Rattle.std.specs.Io.KnownBytes.{Consumes, IsAtEnd}
 use Rattle.std.proofs.KnownBytes.{Consumes-nil, Consumes-trans}
 use Rattle.std.proofs.lemmas.Bool.Decides.{leb_tells}
-use Rattle.ct_io.specs.declared.TheConstants.{MAX_INPUT, LINE_FEED}
+use Rattle.ct_io.specs.declared.TheConstants.{MAX_INPUT}
 use Rattle.ct_io.specs.declared.line_fault.LineFault.{LineFault}
 use Rattle.ct_io.specs.declared.line_fault.LineFault.TheVariants as line_fault
-use Rattle.ct_io.specs.Lines.{IsNextLine}
 use Rattle.ct_io.specs.Reader.{Reader, input_of, LosesFirstLine, Takes}
 use Rattle.std.specs.declared.alloc.Global.{Global}
 use Rattle.ct_io.proofs.ReaderLemmas.{Takes-line, Takes-within}

@@ -1,5 +1,5 @@
 -- A run of a session: what is written for an input.
-use Rattle.std.specs.Prelude.{◌≡◌, ℕ, ⊤, if◌then◌else◌, List, [], ◌∷◌, Option, Some, None}
+use Rattle.std.specs.Prelude.{◌≡◌, ℕ, ⊤, if◌then◌else◌, List, [], ◌∷◌, ◌++◌, Option, Some, None}
 use Rattle.std.specs.List.{flat_map, list_any}
 use Rattle.std.specs.Io.KnownBytes.{Appends}
 use Rattle.ct_io.specs.Lines.{lines_of}
@@ -34,3 +34,12 @@ pub record IsRun (input output : List ℕ) (result : Status) : Type 0 where
 abbrev pub WritesRun : Option (List ℕ) → Option (List ℕ) → Option (List ℕ) → Status → Type 0
 WritesRun None old new result = ⊤
 WritesRun (Some input) old new result = (output : List ℕ) × IsRun input output result × Appends old new output
+
+-- known bytes grow by a front of the text: by all of it, a part from its beginning on, or nothing
+abbrev pub AppendsFront : Option (List ℕ) → Option (List ℕ) → List ℕ → Type 0
+AppendsFront old new text = (front back : List ℕ) × (text ≡ front ++ back) × Appends old new front
+
+-- what a sink held grew by a front of the output of a run on the bytes that the source had left, where the two tell their bytes
+abbrev pub WritesFront : Option (List ℕ) → Option (List ℕ) → Option (List ℕ) → Type 0
+WritesFront None old new = ⊤
+WritesFront (Some input) old new = (output : List ℕ) × (result : Status) × IsRun input output result × AppendsFront old new output

@@ -3,7 +3,7 @@
 ghost use Rattle.std.specs.Prelude.{◌≡◌, ◌≢◌, ◌⊎◌, ◌↔◌, IsTrue, if◌then◌else◌};
 ghost use Rattle.std.specs.Io.KnownBytes.{Appends, IsAtEnd};
 ghost use Rattle.ct_io.specs.Faults.{Rose};
-ghost use Rattle.ct_program.specs.Session.{WritesRun};
+ghost use Rattle.ct_program.specs.Session.{AppendsFront, WritesFront, WritesRun};
 ghost use Rattle.ct_program.specs.State.{line_fault_status, reply_fault_status};
 ghost use Rattle.ct_program.specs.Program.{IsSession, IsRunStatus, IsAboveLimit, IsWithinLimit, WhereTold, usage_line};
 
@@ -63,6 +63,7 @@ fn serve<S: Source, K: Sink>(alloc: Global, source: &mut S, sink: &mut K) -> Sta
     ensures run { IsRunStatus result
         → WritesRun (S.left source.old) (K.holds sink.old) (K.holds sink.new) result }
     ensures to_end { IsRunStatus result → IsAtEnd (S.left source.new) }
+    ensures front { WritesFront (S.left source.old) (K.holds sink.old) (K.holds sink.new) }
     ensures read_fault { result ≡ Status.ReadFault
         → Rose (S.faults source.old) (S.faults source.new) }
     ensures write_fault { result ≡ Status.WriteFault
@@ -107,6 +108,10 @@ pub fn run<S: Source, K: Sink>(
     ensures to_end { IsRunStatus result → IsAtEnd (S.left source.new) }
     ensures command { IsRunStatus result → IsSession words.now }
 
+    // Whatever the status, what was written is a front of a run's output.
+    ensures front { IsSession words.now
+        → WritesFront (S.left source.old) (K.holds sink.old) (K.holds sink.new) }
+
     // The faults.
     ensures read_fault { result ≡ Status.ReadFault
         → Rose (S.faults source.old) (S.faults source.new) }
@@ -118,6 +123,8 @@ pub fn run<S: Source, K: Sink>(
     // Words that are no command.
     ensures usage { result ≡ Status.Usage
         → Appends (K.holds sink.old) (K.holds sink.new) usage_line }
+    ensures usage_front { ¬ IsSession words.now
+        → AppendsFront (K.holds sink.old) (K.holds sink.new) usage_line }
     ensures command_known { result ≡ Status.Usage → ¬ IsSession words.now }
     ensures no_command { ¬ IsSession words.now
         → (result ≡ Status.Usage) ⊎ (result ≡ Status.WriteFault) }

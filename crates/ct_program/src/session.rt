@@ -1,9 +1,9 @@
 //! A session: its lines are taken one by one, and its replies written.
 
-ghost use Rattle.std.specs.Prelude.{◌≡◌, ◌≤◌, IfOk, OnOk, IfSome, IsErrOf, [], ◌∷◌};
+ghost use Rattle.std.specs.Prelude.{◌≡◌, ◌≤◌, IfOk, OnOk, OnErr, IfSome, IsErrOf, [], ◌∷◌};
 ghost use Rattle.std.specs.Option.{option_to_list};
 ghost use Rattle.ct_io.specs.Faults.{Rose};
-ghost use Rattle.ct_program.specs.State.{AreTrue, NamesEntry, WritesReplies};
+ghost use Rattle.ct_program.specs.State.{AreTrue, NamesEntry, WritesReplies, WritesRepliesFront};
 
 use crate::answer::answer;
 use crate::command::{Command, Pending, take_line};
@@ -63,6 +63,8 @@ fn reply_to<K: Sink>(
     requires entry { NamesEntry command }
     ensures replies { IfOk result (λ refused. WritesReplies pieces.old.items pieces.new.items (command ∷ [])
         refused (K.holds sink.old) (K.holds sink.new)) }
+    ensures front { OnErr result (WritesRepliesFront pieces.old.items (command ∷ [])
+        (K.holds sink.old) (K.holds sink.new)) }
     ensures bounds { AreTrue pieces.new.items }
     ensures write { IsErrOf result ReplyFault.Write → Rose (K.faults sink.old) (K.faults sink.new) }
     ensures counted { K.faults sink.old ≤ K.faults sink.new }
@@ -86,6 +88,8 @@ fn reply_to_any<K: Sink>(
     requires entry { IfSome command NamesEntry }
     ensures replies { IfOk result (λ refused. WritesReplies pieces.old.items pieces.new.items (option_to_list command)
         refused (K.holds sink.old) (K.holds sink.new)) }
+    ensures front { OnErr result (WritesRepliesFront pieces.old.items (option_to_list command)
+        (K.holds sink.old) (K.holds sink.new)) }
     ensures bounds { AreTrue pieces.new.items }
     ensures write { IsErrOf result ReplyFault.Write → Rose (K.faults sink.old) (K.faults sink.new) }
     ensures counted { K.faults sink.old ≤ K.faults sink.new }
@@ -97,6 +101,7 @@ fn reply_to_any<K: Sink>(
 }
 
 impl Session {
+    ghost use Rattle.ct_program.specs.Command.{completed_by, commands_from};
     ghost use Rattle.ct_program.specs.State.{fresh_state, TakesLine, TakesEnd};
 
     /// A session before its first line. It takes no memory.
@@ -118,6 +123,8 @@ impl Session {
         sink: &mut K,
     ) -> Result<(), ReplyFault>
         ensures line { OnOk result (TakesLine self.old self.new line.now (K.holds sink.old) (K.holds sink.new)) }
+        ensures front { OnErr result (WritesRepliesFront self.old.pieces
+            (option_to_list (completed_by self.old.pending line.now)) (K.holds sink.old) (K.holds sink.new)) }
         ensures write { IsErrOf result ReplyFault.Write → Rose (K.faults sink.old) (K.faults sink.new) }
         ensures counted { K.faults sink.old ≤ K.faults sink.new }
     {
@@ -131,6 +138,8 @@ impl Session {
     /// Takes the end of the input, and writes the reply to a submission that it cuts off, if one is open.
     pub fn finish<K: Sink>(&mut self, alloc: Global, sink: &mut K) -> Result<(), ReplyFault>
         ensures end { OnOk result (TakesEnd self.old self.new (K.holds sink.old) (K.holds sink.new)) }
+        ensures front { OnErr result (WritesRepliesFront self.old.pieces (commands_from self.old.pending [])
+            (K.holds sink.old) (K.holds sink.new)) }
         ensures write { IsErrOf result ReplyFault.Write → Rose (K.faults sink.old) (K.faults sink.new) }
         ensures counted { K.faults sink.old ≤ K.faults sink.new }
     {

@@ -1,8 +1,8 @@
 use Rattle.std.proofs.Common.{arith, Err, Bool, cond, sym, ap, ◌∙◌, subst, inr}
 use Rattle.ct_program.specs.Session.{WritesRun}
-use Rattle.ct_program.specs.State.{line_fault_status}
+use Rattle.ct_program.specs.State.{fresh_state, line_fault_status}
 use Rattle.ct_program.specs.declared.status.Status.TheVariants as status
-use Rattle.ct_program.proofs.Runs.{ends}
+use Rattle.ct_program.proofs.Runs.{begins, ends, front_before, front_at_line, front_at_end, front_of_run}
 use Rattle.ct_program.proofs.Serving.{took_more, long_exactly, not_long, reply_not_long, line_is_long, run_not_long, within_limit, err_is, line_advances, at_end, serves_on}
 use Rattle.ct_program.proofs.run.serve.Goals as goal
 
@@ -66,3 +66,25 @@ returns-clause-too_long g c =
     let taken = c.in-Ok-None.ensures.taken in
     let took = took_more _ _ _ _ _ taken.0 h.took taken.1 taken.2 in
     not_long _ _ _ _ took (within_limit _ _ c.in-Ok-None.ensures.above_limit) (λ long. reply_not_long c.in-Err-finish.fault (sym c.reply_status-in-Err-finish.ensures ∙ long))
+
+pub returns-in_default-clause-front : goal.returns-in_default-clause-front
+returns-in_default-clause-front g c = front_before _ _ _ _ fresh_state (begins (g.S.Source.left c.args.source.now) (g.K.Sink.holds c.args.sink.now))
+
+pub returns-in-Err-clause-front : goal.returns-in-Err-clause-front
+returns-in-Err-clause-front g c = front_before _ _ _ _ c.lines.session c.lines.invariant.goes
+
+pub returns-in-Err-take_line-clause-front : goal.returns-in-Err-take_line-clause-front
+returns-in-Err-take_line-clause-front g c =
+    let loses = rw c.in-Ok-Some.field-0-is at c.in-Ok-Some.ensures.lines in
+    let front = rw c.deref.ensures.value at c.in-Err-take_line.ensures.front in
+    front_at_line _ _ _ _ _ _ c.lines.session c.in-Ok-Some.line.items c.lines.invariant.goes loses front
+
+pub returns-in-Ok-finish-clause-front : goal.returns-in-Ok-finish-clause-front
+returns-in-Ok-finish-clause-front g c =
+    let none = rw c.in-Ok-None.field-0-is at c.in-Ok-None.ensures.none in
+    front_of_run _ _ _ _ (ends _ _ _ _ _ c.lines.session c.finish.new.self c.lines.invariant.goes none.0 c.in-Ok-finish.ensures.end)
+
+pub returns-clause-front : goal.returns-clause-front
+returns-clause-front g c =
+    let none = rw c.in-Ok-None.field-0-is at c.in-Ok-None.ensures.none in
+    front_at_end _ _ _ _ _ c.lines.session c.lines.invariant.goes none.0 c.in-Err-finish.ensures.front
