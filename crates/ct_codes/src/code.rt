@@ -6,10 +6,12 @@ ghost use Rattle.ct_codes.specs.Code.{CodeValue, IsSoundCode};
 use ct_words::Word;
 use std::marker::Model;
 
-/// The greatest distance that a code is made for. Codes are also made for distances that are no entry's.
+/// The greatest distance of a code, 60. Distances of the table end at `MAX_N`; above it is room for codes that are put
+/// together from others.
 pub const MAX_CODE_DISTANCE: u32 = 60;
 
-/// A code of length n, of distance d and, where it is given, of weight w: at least one word, in ascending order.
+/// A code of length n, from 1 to `MAX_N`, of distance d, from 1 to `MAX_CODE_DISTANCE`, and, where it is given, of weight
+/// w: at least one word, in ascending order.
 #[derive(Debug, Drop)]
 pub struct Code {
     n: u32,

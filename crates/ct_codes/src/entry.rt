@@ -10,7 +10,7 @@ use ct_words::MAX_N;
 pub struct Entry {
     /// The length of the words.
     pub n: u32,
-    /// The least distance of two different words.
+    /// At so many places each two words differ at least.
     pub d: u32,
     /// The weight of each word, where it is given.
     pub w: Option<u32>,

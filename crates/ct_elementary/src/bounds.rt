@@ -7,7 +7,8 @@ ghost use Rattle.ct_elementary.specs.Bounds.{plain, far_value, plotkin_even as e
 
 use ct_words::{MAX_BOUND, MAX_N, ball};
 
-/// The bound 1 where d is above n, and `None` elsewhere: two words differ at no more than n places.
+/// The bound 1 where d is above n, and `None` elsewhere: two words differ at no more than n places (MacWilliams and
+/// Sloane, chapter 1). The entry (n,d) is one of the table: n from 1 and d from 3, both to `MAX_N`.
 pub fn far(n: u32, d: u32) -> Option<u32>
     requires { IsEntry (plain n d) }
     ensures value { result ≡ far_value n d }
@@ -16,8 +17,11 @@ pub fn far(n: u32, d: u32) -> Option<u32>
     if n < d { Some(1) } else { None }
 }
 
-/// Plotkin's bound where d is at most n and n at most 2d, or 2d + 1 for an odd d; `None` elsewhere
-/// (Plotkin 1960; MacWilliams and Sloane, chapter 2, section 2).
+/// Plotkin's bound for an entry (n,d) of the table, n from 1 and d from 3, both to `MAX_N` (Plotkin 1960; MacWilliams
+/// and Sloane, chapter 2, section 2).
+///
+/// For an even d it is 2⌊d/(2d - n)⌋ where d ≤ n < 2d, and 4d where n = 2d; for an odd d it is that of (n + 1, d + 1).
+/// `None` elsewhere.
 pub fn plotkin(n: u32, d: u32) -> Option<u32>
     requires { IsEntry (plain n d) }
     ensures value { result ≡ plotkin_value n d }
@@ -45,7 +49,8 @@ fn plotkin_even(n: u32, d: u32) -> Option<u32>
     }
 }
 
-/// Hamming's bound: balls of radius ⌊(d - 1) / 2⌋ about the words of a code have no word in common
+/// Hamming's bound for an entry (n,d) of the table, n from 1 and d from 3, both to `MAX_N`: ⌊2^n / V⌋, where V is the
+/// number of words in a ball of radius ⌊(d - 1) / 2⌋. Such balls about the words of a code have no word in common
 /// (Hamming 1950; MacWilliams and Sloane, chapter 1, section 5).
 pub fn hamming(n: u32, d: u32) -> u32
     requires { IsEntry (plain n d) }

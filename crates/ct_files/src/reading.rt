@@ -70,7 +70,7 @@ fn evidence(alloc: Global, bytes: &[u8]) -> Result<Evidence, FileFault>
 /// The bytes are at most `MAX_DOCUMENT`, and a TOML document whose keys are `kind`, `n`, `d` and
 /// `words` and no others: `kind` is the text `words`, `n` an integer from 1 to `MAX_N`, `d` one
 /// from 3 to `MAX_N`, and `words` a list, which may be empty, of texts of `n` digits `0` and `1`.
-/// It is `Kind` for all other bytes, and `Memory` only where memory ran out.
+/// `Kind` comes only where the bytes are no such document. `Memory` is want of memory.
 pub fn read_evidence(alloc: Global, bytes: &[u8]) -> Result<Evidence, FileFault>
     ensures read { IfOk result (λ evidence. evidence_of bytes.now ≡ Some evidence) }
     ensures kind { result ≡ Err FileFault.Kind → evidence_of bytes.now ≡ None }

@@ -2,7 +2,7 @@
 //!
 //! A `Source` and a `Sink` each mean two things: the bytes that are left or held, where they are
 //! told, and a count of faults that never falls. So a caller can say which bytes became which, and
-//! that it failed only where the outside did. `MemSource` and `MemSink` tell their bytes, fail
+//! that it failed only where the count rose. `MemSource` and `MemSink` tell their bytes, fail
 //! where they are told to, and move as few bytes at a time as one likes. `StdSource` and `StdSink`
 //! are the edge to a real reader and a real writer.
 #![tactic(auto)]

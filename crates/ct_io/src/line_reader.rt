@@ -32,7 +32,7 @@ impl Model for LineReader {
 }
 
 impl LineReader {
-    /// A reader that took nothing yet.
+    /// A reader that took nothing yet. `Err` is want of memory.
     pub fn new(alloc: Global) -> Result<LineReader, AllocError>
         ensures { IfOk result (λ r. r ≡ fresh_reader) }
     {

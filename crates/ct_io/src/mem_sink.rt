@@ -29,7 +29,8 @@ pub struct MemSink {
 
 impl MemSink {
     /// A sink that holds no bytes and has room for `room`, where the calls whose numbers stand in
-    /// `failing` fail and each other takes at most `cap` bytes. The room is reserved here.
+    /// `failing` fail, those with a piece that isn't empty fail once no room is left, and each other
+    /// takes at most `cap` bytes. The room is reserved here: `Err` is want of memory.
     pub fn new(
         alloc: Global,
         room: usize,

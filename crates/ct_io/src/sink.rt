@@ -13,8 +13,8 @@ pub trait Sink {
     ghost faults: { Self → ℕ };
 
     /// Takes bytes from the front of `piece` and gives their number, which is zero only where
-    /// `piece` is empty. `Failed` comes only where the count of faults rose in this call, and
-    /// then no byte was taken.
+    /// `piece` is empty. `Failed` comes only where the count of faults rose in this call or stands
+    /// at its last value, and then no byte was taken.
     fn write(&mut self, piece: &[u8]) -> Result<usize, Failed>
         ensures within { IfOk result (λ n. n ≤ length piece.now) }
         ensures some { IfOk result (λ n. 0 < length piece.now → 0 < n) }
@@ -23,8 +23,9 @@ pub trait Sink {
         ensures failed { OnErr result (Rose (faults self.old) (faults self.new)) };
 }
 
-/// Writes all of `bytes`, in as many calls of the sink as it takes. After `Failed` the sink has
-/// taken a prefix of them. It takes no memory.
+/// Writes all of `bytes`, in as many calls of the sink as it takes. `Failed` comes only where the
+/// sink's count of faults rose in this call or stands at its last value, and then the sink has taken
+/// a prefix of the bytes. It takes no memory.
 pub fn write_all<K: Sink>(sink: &mut K, bytes: &[u8]) -> Result<(), Failed>
     ensures written { OnOk result (Appends (K.holds sink.old) (K.holds sink.new) bytes.now) }
     ensures prefix { OnErr result ((n : ℕ) × (n ≤ length bytes.now)

@@ -14,7 +14,7 @@ pub trait Source {
 
     /// Puts bytes at the front of `into` and gives their number. Zero at an `into` that isn't
     /// empty is the end of the input. `Failed` comes only where the count of faults rose in this
-    /// call, and then no byte was taken.
+    /// call or stands at its last value, and then no byte was taken.
     fn read(&mut self, into: &mut [u8]) -> Result<usize, Failed>
         ensures within { IfOk result (λ n. n ≤ length into.new) }
         ensures bytes { ReadConsumes (left self.old) (left self.new) result into.new }

@@ -131,7 +131,8 @@ fn answer_submission(
     Ok(reply)
 }
 
-/// Answers a command: the reply, and the pieces after it.
+/// Answers a command: the reply, and the pieces after it. Each piece's size is that of a code of its entry, before and
+/// after, and a command that names an entry names one of the table. `Err` is want of memory.
 pub fn answer(alloc: Global, pieces: &mut Vec<Piece>, command: Command) -> Result<Reply, AllocError>
     requires pieces { AreTrue pieces.old.items }
     requires entry { NamesEntry command }

@@ -76,7 +76,7 @@ fn begin_with(alloc: Global, line: &[u8]) -> Result<(Option<Pending>, Option<Com
 }
 
 /// Takes the next line: the submission that is open after it, and the command that it completes,
-/// if any.
+/// if any. `Err` is want of memory.
 pub fn take_line(
     alloc: Global,
     pending: Option<Pending>,

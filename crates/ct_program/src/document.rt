@@ -30,7 +30,8 @@ impl Document {
         }
     }
 
-    /// Puts a line and a line feed at the end.
+    /// Puts a line and a line feed at the end. After an `Err`, which is want of memory, the line may stand there without
+    /// its line feed.
     pub fn push_line(&mut self, line: &[u8]) -> Result<(), AllocError>
         ensures { OnOk result (self.new ≡ self.old ++ line.now ++ LINE_FEED ∷ []) }
     {

@@ -92,7 +92,7 @@ fn is_comment(line: &[u8]) -> bool
     line.first() == Some(&b'#')
 }
 
-/// What a line of a session asks for.
+/// What a line of a session asks for. `Err` is want of memory.
 #[tactic(auto, unfolding(crate::specs::Form::form_of))]
 pub fn read_form(alloc: Global, line: &[u8]) -> Result<Form, AllocError>
     ensures { IfOk result (λ form. form ≡ form_of line.now) }

@@ -8,7 +8,7 @@ use ct_codes::{CodeFault, Entry};
 pub enum Refusal {
     /// The input ends before the document does.
     CutOff,
-    /// The line is no command.
+    /// The line is no command, or `submit` without one id alone after it.
     NoCommand,
     /// A piece has the id.
     Taken,
@@ -16,7 +16,7 @@ pub enum Refusal {
     WrongKind,
     /// The words are no code of the entry.
     Code(CodeFault),
-    /// The entry is not in the table.
+    /// The entry is not in the table, or has a weight.
     NoEntry,
 }
 

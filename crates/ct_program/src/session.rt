@@ -115,7 +115,8 @@ impl Session {
         }
     }
 
-    /// Takes the next line, and writes the reply to the command that it completes, if any.
+    /// Takes the next line, and writes the reply to the command that it completes, if any. After an `Err` a front of the
+    /// reply was written, and the session is not to be gone on with: its open submission may be lost.
     pub fn take_line<K: Sink>(
         &mut self,
         alloc: Global,
@@ -135,7 +136,8 @@ impl Session {
         Ok(())
     }
 
-    /// Takes the end of the input, and writes the reply to a submission that it cuts off, if one is open.
+    /// Takes the end of the input, and writes the reply to a submission that it cuts off, if one is open. After an `Err` a
+    /// front of the reply was written.
     pub fn finish<K: Sink>(&mut self, alloc: Global, sink: &mut K) -> Result<(), ReplyFault>
         ensures end { OnOk result (TakesEnd self.old self.new (K.holds sink.old) (K.holds sink.new)) }
         ensures front { OnErr result (WritesRepliesFront self.old.pieces (commands_from self.old.pending [])

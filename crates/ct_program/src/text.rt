@@ -119,7 +119,7 @@ fn put_reply(alloc: Global, text: &mut Vec<u8>, reply: &Reply) -> Result<(), All
     }
 }
 
-/// The text of a reply, one line with its line feed.
+/// The text of a reply, one line with its line feed. `Err` is want of memory.
 #[tactic(auto, unfolding(crate::specs::Text::reply_text))]
 pub fn text_of(alloc: Global, reply: &Reply) -> Result<Vec<u8>, AllocError>
     ensures { IfOk result (λ text. text.items ≡ reply_text reply.now) }

@@ -10,3 +10,6 @@ pub use append::put_number;
 pub use laws::numbers_are_read_as_printed;
 pub use line::first_words;
 pub use number::parse_number;
+
+#[cfg(test)]
+mod tests;

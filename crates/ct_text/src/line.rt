@@ -17,7 +17,7 @@ fn without_carriage_return(line: &[u8]) -> &[u8]
 }
 
 /// The first words of a line, at most `count` of them, in order. The words are the line's parts between spaces that are
-/// not empty. One carriage return at the line's end does not count; a tab is no space.
+/// not empty. One carriage return at the line's end does not count; a tab is no space. `Err` is want of memory.
 #[tactic(auto, unfolding(crate::specs::Line::words_of))]
 pub fn first_words(alloc: Global, line: &[u8], count: usize) -> Result<Vec<&[u8]>, AllocError>
     ensures { IfOk result (λ words. map (λ word. word.now) words.items ≡ take count (words_of line.now)) }

@@ -3,7 +3,8 @@
 ghost use Rattle.std.specs.Prelude.{◌≡◌, ◌≤◌};
 ghost use Rattle.ct_counting.specs.Binomials.{choose, factorial as factorial_of, volume};
 
-/// The binomial coefficient of n over k for n up to 30, which is 0 where k is above n.
+/// The binomial coefficient of n over k for n up to 30, which is 0 where k is above n: how many words of length n have
+/// weight k (MacWilliams and Sloane, chapter 1, section 5).
 pub fn binomial(n: u32, k: u32) -> u64
     requires { n ≤ 30 }
     ensures { result ≡ choose n k }
@@ -18,7 +19,7 @@ pub fn binomial(n: u32, k: u32) -> u64
     coefficient
 }
 
-/// The product of 1 to k for k up to 20.
+/// The factorial of k, the product of 1 to k, for k up to 20.
 pub fn factorial(k: u32) -> u64
     requires { k ≤ 20 }
     ensures { result ≡ factorial_of k }
@@ -30,7 +31,8 @@ pub fn factorial(k: u32) -> u64
     product
 }
 
-/// How many words of length n, up to 30, lie within distance e of one of them; e may be above n.
+/// How many words of length n, up to 30, lie within distance e of one of them; e may be above n. It is the sum of the
+/// binomial coefficients of n over 0 to e (MacWilliams and Sloane, chapter 1, section 5).
 pub fn ball(n: u32, e: u32) -> u64
     requires { n ≤ 30 }
     ensures { result ≡ volume n e }

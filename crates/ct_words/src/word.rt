@@ -1,6 +1,6 @@
 //! The word, and why a text is none.
 
-/// A word of length n: a number below 2^n, whose most significant digit is place 0.
+/// A word of length n, at most 32: a number below 2^n, whose digit of the place value 2^(n - 1) is place 0.
 pub type Word = u32;
 
 /// Why a text is no word of the asked length.
