@@ -1,4 +1,4 @@
 mod Ids
 mod Documents
 pub mod Evidences
-mod OnLiterals
+pub mod OnLiterals

@@ -7,3 +7,4 @@ pub mod Session
 pub mod State
 pub mod Program
 pub mod Exit
+pub mod Examples

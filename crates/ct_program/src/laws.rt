@@ -7,6 +7,7 @@ ghost use Rattle.ct_io.specs.declared.TheConstants.{LINE_FEED};
 ghost use Rattle.ct_program.specs.Form.{form_of};
 ghost use Rattle.ct_program.specs.Command.{commands_of, is_end};
 ghost use Rattle.ct_program.specs.Session.{IsRun};
+ghost use Rattle.ct_program.specs.Examples.{six_words, close_words, repeated_words, no_words};
 ghost use Rattle.ct_program.specs.Text.{reply_text};
 ghost use Rattle.ct_program.specs.declared.form.Form.{Form};
 ghost use Rattle.ct_program.specs.declared.form.Form.TheVariants.{Nothing, Submit, Show, Unknown};
@@ -67,6 +68,15 @@ pub fn known_runs()
     ensures shown { IsRun (codes "show 10 6\n") (codes "1 <= A(10,6) <= 1024\n") status.Done }
     ensures outside { IsRun (codes "show 28 2\n") (codes "refused entry\n") status.Refused }
     ensures cut { IsRun (codes "submit a\nkind = \"words\"") (codes "refused cut\n") status.Refused }
+{}
+
+/// Sessions with a submission whose run is known: six words that are a code, and words that are too close, repeated and
+/// none.
+pub fn known_submissions()
+    ensures accepted { IsRun six_words (codes "accepted hexa size 6\n6 <= A(10,6) <= 1024\n") status.Done }
+    ensures close { IsRun close_words (codes "refused close 0 1 5\n") status.Refused }
+    ensures repeated { IsRun repeated_words (codes "refused repeated 0 1\n") status.Refused }
+    ensures empty { IsRun no_words (codes "refused size 0\n") status.Refused }
 {}
 
 /// Texts of replies that are known.
