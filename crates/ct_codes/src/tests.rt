@@ -1,11 +1,12 @@
 //! Entries and lists of words whose answers are known.
 
-use crate::{CodeFault, Entry, check_words, first_close_pair};
+use crate::{CodeFault, Entry, MAX_CODE_DISTANCE, MAX_WORDS, check_words, first_close_pair};
 use std::test::Fail;
 
-/// Entries inside the table, at its ends and outside it.
+/// Entries inside the table, at its ends and outside it, and the limits of codes.
 #[test]
 fn entries(rt: HostRuntime) {
+    assert_eq!(rt; (MAX_WORDS, MAX_CODE_DISTANCE), (16384, 60));
     let rows = [
         (1, 3, None, true),
         (28, 28, None, true),

@@ -62,18 +62,33 @@ fn a_failed_write_keeps_a_prefix(rt: HostRuntime) -> Result<(), Fail> {
     Ok(())
 }
 
-/// A reader and a writer each of whose calls fails.
+/// A reader and a writer whose next calls fail, so many of them. The later ones read nothing, and write all.
 #[derive(Debug, Drop)]
-struct Broken;
+struct Faltering {
+    failures: u32,
+    // Whether a write fails by taking nothing, and not by an error.
+    idle: bool,
+}
 
-impl Read for Broken {
+impl Read for Faltering {
     fn read(&mut self, _buf: &mut [u8]) -> io::Result<usize> {
+        if self.failures == 0 {
+            return Ok(0);
+        }
+        self.failures -= 1;
         Err(ErrorKind::BrokenPipe.into())
     }
 }
 
-impl Write for Broken {
-    fn write(&mut self, _buf: &[u8]) -> io::Result<usize> {
+impl Write for Faltering {
+    fn write(&mut self, buf: &[u8]) -> io::Result<usize> {
+        if self.failures == 0 {
+            return Ok(buf.len());
+        }
+        self.failures -= 1;
+        if self.idle {
+            return Ok(0);
+        }
         Err(ErrorKind::BrokenPipe.into())
     }
 
@@ -83,20 +98,31 @@ impl Write for Broken {
 }
 
 #[test]
-fn failures_of_std_are_counted(rt: HostRuntime) {
+fn each_failure_of_std_is_counted_and_answered(rt: HostRuntime) {
     let mut source = StdSource {
-        inner: Broken,
+        inner: Faltering {
+            failures: 2,
+            idle: false,
+        },
         faults: 0,
     };
-    let mut sink = StdSink {
-        inner: Broken,
-        faults: u64::MAX - 1,
-    };
-    for failures in [1, 2] {
+    for (failures, faults) in [(1, 1), (0, 2)] {
         assert!(rt; source.read(&mut [0; 4]).is_err());
-        assert_eq!(rt; source.faults, failures);
-        assert!(rt; write_all(&mut sink, TEXT).is_err());
-        assert_eq!(rt; sink.faults, u64::MAX);
+        assert_eq!(rt; (source.inner.failures, source.faults), (failures, faults));
+    }
+    assert!(rt; matches!(source.read(&mut [0; 4]), Ok(0)));
+    assert_eq!(rt; source.faults, 2);
+
+    for idle in [false, true] {
+        let mut sink = StdSink {
+            inner: Faltering { failures: 2, idle },
+            faults: u64::MAX - 1,
+        };
+        for failures in [1, 0] {
+            assert!(rt; sink.write(TEXT).is_err());
+            assert_eq!(rt; (sink.inner.failures, sink.faults), (failures, u64::MAX));
+        }
+        assert!(rt; matches!(sink.write(TEXT), Ok(22)));
     }
 }
 
