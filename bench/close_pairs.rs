@@ -1,0 +1,48 @@
+//! What the check of a large list of words costs, for comparison: `session` prints a session that submits 16,384 words of length 24 at
+//! distance at least 3, and `loop` times a plain double loop over the same words.
+
+use std::hint::black_box;
+use std::time::Instant;
+
+/// Word i of these generators has a one at place i of its first 14 digits, and this number in its last 10. The numbers differ and have
+/// at least two ones each, so each two sums of the generators are at distance at least 3.
+const TAILS: [u32; 14] = [3, 5, 6, 7, 9, 10, 11, 12, 13, 14, 15, 17, 18, 19];
+
+fn words() -> Vec<u32> {
+    let mut words = vec![0];
+    for (i, tail) in TAILS.iter().enumerate() {
+        let generator = 1 << (23 - i) | tail;
+        words.extend(words.clone().iter().map(|word| word ^ generator));
+    }
+    words
+}
+
+fn first_close_pair(words: &[u32], d: u32) -> Option<(usize, usize)> {
+    for i in 0..words.len() {
+        for j in i + 1..words.len() {
+            if (words[i] ^ words[j]).count_ones() < d {
+                return Some((i, j));
+            }
+        }
+    }
+    None
+}
+
+fn main() {
+    let words = words();
+    match std::env::args().nth(1).as_deref() {
+        Some("session") => {
+            println!("submit rows\nkind = \"words\"\nn = 24\nd = 3\nwords = [");
+            for word in &words {
+                println!("\"{word:024b}\",");
+            }
+            println!("]\nend");
+        }
+        Some("loop") => {
+            let start = Instant::now();
+            let pair = first_close_pair(black_box(&words), black_box(3));
+            println!("plain loop: {pair:?} after {:.2} s", start.elapsed().as_secs_f64());
+        }
+        _ => eprintln!("session, or loop"),
+    }
+}
