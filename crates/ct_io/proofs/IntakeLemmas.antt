@@ -1,6 +1,7 @@
 -- Bytes that come to a reader in several reads.
-use Rattle.std.proofs.Common.{◌≡◌, ℕ, ◌+◌, ◌≤◌, true, false, List, ◌++◌, Option, inl, inr, refl, sym, subst, ap, ◌∙◌, eqb, length-append, append_assoc, arith}
+use Rattle.std.proofs.Common.{◌≡◌, ℕ, ◌+◌, ◌≤◌, true, false, length, List, ◌++◌, Option, inl, inr, refl, sym, subst, ap, ◌∙◌, eqb, length-append, append_assoc, arith}
 use Rattle.std.specs.List.{Contains}
+use Rattle.std.specs.Io.KnownBytes.{Consumes, IsAtEnd}
 use Rattle.std.proofs.KnownBytes.{Consumes-trans}
 use Rattle.std.proofs.lemmas.Bool.{eqb-true}
 use Rattle.std.proofs.lemmas.List.Elements.{All-contains, Contains-append_left}
@@ -18,20 +19,26 @@ pub record IsGathering (old new : Intake) (before after : Option (List ℕ)) (fa
   pub within : new.taken ≤ MAX_INPUT
   pub counted : faults ≤ faults'
 
--- one more read
+-- one more read, of n bytes
+pub Gathers-more : (old mid : Intake) (held : List ℕ) (taken n : ℕ) (before between after : Option (List ℕ)) → Gathers old mid before between → mid.ended ≡ false
+    → FillsBy mid.held held between after n → taken ≡ mid.taken + n
+    → (bytes : List ℕ) × Consumes before after bytes × (held ≡ old.held ++ bytes) × (taken ≡ old.taken + length bytes)
+    × (old.ended ≡ false → eqb n 0 ≡ true → IsAtEnd after) × (old.ended ≡ true → eqb n 0 ≡ true)
+Gathers-more old mid held taken n before between after came going filled is = (
+  came.0 ++ filled.0,
+  Consumes-trans before between after came.0 filled.0 came.1 filled.1,
+  filled.2 ∙ ap (λ l. l ++ filled.0) came.2 ∙ append_assoc old.held came.0 filled.0,
+  omega (arith, came.3, is, filled.3, length-append came.0 filled.0),
+  λ _ end. filled.4 (eqb-true n 0 end),
+  λ was. let ended : mid.ended ≡ true = came.5 was in cc,
+)
+
 pub IsGathering-more : (old mid new : Intake) (before between after : Option (List ℕ)) (f g h n : ℕ) → IsGathering old mid before between f g → mid.ended ≡ false
     → FillsBy mid.held new.held between after n → new.taken ≡ mid.taken + n → new.ended ≡ eqb n 0 → new.taken ≤ MAX_INPUT → g ≤ h → IsGathering old new before after f h
 IsGathering-more old mid new before between after f g h n so_far going filled taken ended within counted =
-    let came = so_far.gathers in
+    let more = Gathers-more old mid new.held new.taken n before between after so_far.gathers going filled taken in
     record {
-      gathers = (
-        came.0 ++ filled.0,
-        Consumes-trans before between after came.0 filled.0 came.1 filled.1,
-        filled.2 ∙ ap (λ l. l ++ filled.0) came.2 ∙ append_assoc old.held came.0 filled.0,
-        omega (arith, came.3, taken, filled.3, length-append came.0 filled.0),
-        λ _ end. filled.4 (eqb-true n 0 (sym ended ∙ end)),
-        λ was. let is : mid.ended ≡ true = came.5 was in cc,
-      );
+      gathers = (more.0, more.1, more.2, more.3, λ was end. more.4 was (sym ended ∙ end), λ was. ended ∙ more.5 was);
       within = within;
       counted = omega (arith, so_far.counted);
     }

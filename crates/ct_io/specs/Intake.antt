@@ -1,11 +1,12 @@
 -- Inside a line reader: how bytes come to it and go from it.
-use Rattle.std.specs.Prelude.{◌≡◌, ℕ, ◌+◌, ◌<◌, ◌≤◌, true, false, List, ◌++◌, length, Option}
+use Rattle.std.specs.Prelude.{◌≡◌, ℕ, ◌+◌, ◌<◌, ◌≤◌, ◌⊎◌, true, false, List, ◌++◌, length, Option}
 use Rattle.std.specs.Io.KnownBytes.{Consumes, IsAtEnd}
-use Rattle.ct_io.specs.declared.TheConstants.{MAX_INPUT}
+use Rattle.ct_io.specs.declared.TheConstants.{MAX_INPUT, MAX_READ}
 use Rattle.ct_io.specs.declared.intake.Intake.{Intake}
 use Rattle.ct_io.specs.declared.line_fault.LineFault.{LineFault}
 use Rattle.ct_io.specs.declared.line_fault.LineFault.TheVariants.{ReadFault, TooLong, Memory}
 use Rattle.ct_io.specs.Faults.{Rose}
+use Rattle.ct_io.specs.Lines.{IsLine}
 use Rattle.ct_io.specs.Reader.{Answer, Divides}
 
 -- bytes were taken, counted and put after those held, and the end was seen only where none is left
@@ -25,3 +26,7 @@ abbrev pub Passes : Intake → Intake → Option (List ℕ) → Option (List ℕ
 Passes old new before after answer =
     (bytes : List ℕ) × Consumes before after bytes × Divides (old.held ++ bytes) answer new.held new.ended × (new.taken ≡ old.taken + length bytes)
     × (old.ended ≡ false → new.ended ≡ true → IsAtEnd after) × (old.ended ≡ true → new.ended ≡ true)
+
+-- a read came only where no line was held: the bytes are those of before, or those of one read after bytes without a line feed
+abbrev pub LooksFirst : List ℕ → List ℕ → Type 0
+LooksFirst old now = (now ≡ old) ⊎ ((front last : List ℕ) × (now ≡ front ++ last) × IsLine front × (length last ≤ MAX_READ))

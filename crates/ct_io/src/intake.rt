@@ -1,12 +1,12 @@
-ghost use Rattle.std.specs.Prelude.{◌≡◌, ◌≤◌, true, false, [], IfOk, IfErr, IfSome, IfNone, OnOk, take, slice_get, vec_len};
-ghost use Rattle.ct_io.specs.declared.TheConstants.{PIECE};
+ghost use Rattle.std.specs.Prelude.{◌≡◌, ◌+◌, ◌≤◌, true, false, [], IfOk, IfErr, IfSome, IfNone, OnOk, length, max, take, slice_get, vec_len};
+ghost use Rattle.ct_io.specs.declared.TheConstants.{MAX_READ};
 ghost use Rattle.ct_io.specs.Lines.{IsLine};
-ghost use Rattle.ct_io.specs.Reader.{NeedsNoRead};
+ghost use Rattle.ct_io.specs.Reader.{IfLine, NeedsNoRead};
 
 use crate::held::Held;
 use crate::line_fault::LineFault;
 use crate::source::Source;
-use crate::{LINE_FEED, MAX_INPUT, PIECE};
+use crate::{LINE_FEED, MAX_INPUT, MAX_READ};
 use std::alloc::{AllocError, Global};
 
 /// What came from the source and was not yet given out, and what is known of the source.
@@ -19,7 +19,7 @@ pub(crate) struct Intake {
     pub(crate) taken: u64,
     // Whether the end of the input was seen.
     pub(crate) ended: bool,
-    pub(crate) ghost piece_len: { vec_len piece ≡ PIECE },
+    pub(crate) ghost piece_len: { vec_len piece ≡ MAX_READ },
 }
 
 impl Intake {
@@ -33,7 +33,7 @@ impl Intake {
     {
         Ok(Intake {
             held: Held::new(alloc),
-            piece: vec![in alloc; 0; PIECE]?,
+            piece: vec![in alloc; 0; MAX_READ]?,
             taken: 0,
             ended: false,
         })
@@ -50,6 +50,8 @@ impl Intake {
         ensures line { IfOk result (λ found. IfSome found (λ n. IsLine (take n self.new.held))) }
         ensures feed { IfOk result (λ found. IfSome found
             (λ n. slice_get self.new.held n ≡ Some LINE_FEED)) }
+        ensures little { IfOk result (λ found. IfSome found
+            (λ n. length self.new.held ≤ n + max (length self.old.held) MAX_READ)) }
         ensures none { IfOk result (λ found. IfNone found
             (IsLine self.new.held × (self.new.ended ≡ true))) }
         ensures unread { NeedsNoRead self.old.held self.old.ended
@@ -82,6 +84,7 @@ impl Intake {
     ) -> Result<Option<Vec<u8>>, LineFault>
         requires { self.old.taken ≤ MAX_INPUT }
         ensures passes { Passes self.old self.new (S.left source.old) (S.left source.new) result }
+        ensures little { IfLine result (λ _. length self.new.held ≤ max (length self.old.held) MAX_READ) }
         ensures unread { NeedsNoRead self.old.held self.old.ended
             → (self.new.taken ≡ self.old.taken) × (source.new ≡ source.old) }
         ensures within { OnOk result (self.new.taken ≤ MAX_INPUT) }

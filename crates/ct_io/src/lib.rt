@@ -37,8 +37,8 @@ pub const LINE_FEED: u8 = b'\n';
 /// The most bytes of input, 64 MiB.
 pub const MAX_INPUT: u64 = 67_108_864;
 
-// How many bytes one read is asked for.
-const PIECE: usize = 65_536;
+/// The most bytes that a line reader asks for at once, 64 KiB.
+pub const MAX_READ: usize = 65_536;
 
 #[cfg(test)]
 mod tests;

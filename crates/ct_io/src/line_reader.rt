@@ -1,12 +1,12 @@
-ghost use Rattle.std.specs.Prelude.{◌≡◌, ℕ, ◌<◌, ◌≤◌, ◌⊎◌, Option, true, false, [], IfOk, OnOk, OnErr};
+ghost use Rattle.std.specs.Prelude.{◌≡◌, ℕ, ◌<◌, ◌≤◌, ◌⊎◌, Option, true, false, [], IfOk, OnOk, OnErr, length, max};
 ghost use Rattle.std.specs.Io.KnownBytes.{IsAtEnd, Keeps};
 ghost use Rattle.ct_io.specs.Faults.{Rose};
 ghost use Rattle.ct_io.specs.Reader.{fresh_reader, input_of, IfLine, IfNoLine, LosesLine, LosesFirstLine, NeedsNoRead, Takes, lasting_fault};
 
-use crate::MAX_INPUT;
 use crate::intake::Intake;
 use crate::line_fault::LineFault;
 use crate::source::Source;
+use crate::{MAX_INPUT, MAX_READ};
 use std::alloc::{AllocError, Global};
 use std::marker::Model;
 
@@ -52,7 +52,8 @@ impl LineReader {
     /// The next line, without its line feed. A last line without a line feed is a line where it
     /// isn't empty. `None` is the end: the input was read to its end, and no line is left.
     ///
-    /// It gives a whole line that it holds before it reads. After `ReadFault` and after `TooLong`,
+    /// It gives a whole line that it holds before it reads, and so it holds no more after a line than before, or than one
+    /// read gives. After `ReadFault` and after `TooLong`,
     /// which comes exactly where more than `MAX_INPUT` bytes were taken, each further call answers
     /// the same. After `Memory` the lines still to come are as before the call.
     pub fn next_line<S: Source>(&mut self, source: &mut S) -> Result<Option<Vec<u8>>, LineFault>
@@ -73,6 +74,7 @@ impl LineReader {
         ensures ended { self.old.ended ≡ true → self.new.ended ≡ true }
         ensures unread { NeedsNoRead self.old.held self.old.ended
             → (self.new.taken ≡ self.old.taken) × (source.new ≡ source.old) }
+        ensures little { IfLine result (λ _. length self.new.held ≤ max (length self.old.held) MAX_READ) }
 
         // The faults.
         ensures read_fault { result ≡ Err LineFault.ReadFault
