@@ -1,5 +1,6 @@
 -- Worked sessions with a submission.
 use Rattle.std.specs.Prelude.{ℕ, List, ◌++◌, codes}
+use Rattle.ct_files.specs.Examples.{two_words}
 
 -- six words of length 10, each two at distance at least 6, as a document
 abbrev pub six_words_document : List ℕ
@@ -9,9 +10,9 @@ six_words_document = codes "kind = \"words\"\nn = 10\nd = 6\nwords = [\"11111111
 abbrev pub six_words : List ℕ
 six_words = codes "submit hexa\n" ++ six_words_document ++ codes "\nend\nshow 10 6\n"
 
--- two words of length 10 at distance 5, where 6 is stated
+-- two words of length 10 at distance 5 are submitted, where 6 is stated
 abbrev pub close_words : List ℕ
-close_words = codes "submit a\nkind = \"words\"\nn = 10\nd = 6\nwords = [\"0000000000\", \"1111100000\"]\nend\n"
+close_words = codes "submit a\n" ++ two_words ++ codes "end\n"
 
 -- the same word twice
 abbrev pub repeated_words : List ℕ
