@@ -2,3 +2,6 @@ pub mod Line
 pub mod Number
 pub mod Id
 pub mod IdBytes
+pub mod EntryNumbers
+pub mod EntryText
+pub mod Gathering

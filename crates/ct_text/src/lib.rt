@@ -1,17 +1,24 @@
-//! Text that commands, documents and replies share: the words of a line, and numbers read and written.
+//! Text that commands, documents and replies share: the words of a line; numbers, ids and entries, read and written; and the
+//! text of a document as its lines come in.
 #![tactic(auto)]
 
 mod append;
+mod entry_numbers;
+mod gathering;
 mod id;
 mod laws;
 mod line;
 mod number;
+mod text;
 
-pub use append::put_number;
+pub use append::{put_entry, put_number, put_spaced};
+pub use entry_numbers::{EntryNumbers, parse_entry_numbers};
+pub use gathering::{Extent, Gathered, Gathering};
 pub use id::{Id, MAX_ID};
 pub use laws::numbers_are_read_as_printed;
 pub use line::first_words;
 pub use number::parse_number;
+pub use text::Text;
 
 #[cfg(test)]
 mod tests;

@@ -1,9 +1,9 @@
 use Rattle.std.proofs.Common.{◌∙◌, sym, ap, map, cond, Bool, List, ℕ, Bor}
 use Rattle.ct_text.specs.Line.{words_of}
-use Rattle.ct_program.specs.declared.form.Form.TheVariants.{Nothing}
-use Rattle.ct_program.specs.Form.{form_of, words_form}
-use Rattle.ct_program.proofs.Forms.{first_words_tell}
-use Rattle.ct_program.proofs.form.read_form.Goals as goal
+use Rattle.ct_commands.specs.declared.form.Form.TheVariants.{Nothing}
+use Rattle.ct_commands.specs.Form.{form_of, words_form}
+use Rattle.ct_commands.proofs.Forms.{first_words_tell}
+use Rattle.ct_commands.proofs.form.read_form.Goals as goal
 
 pub returns : goal.returns
 unfolding form_of

@@ -1,0 +1,137 @@
+-- A submission takes the lines of its document with it.
+use Rattle.std.proofs.Common.{◌≡◌, ℕ, suc, ◌+◌, ◌-◌, Bool, true, false, cond, List, [], ◌∷◌, ◌++◌, length, take, Option, Some, None, refl, sym, ap, ◌∙◌, append_assoc, append-nil, length-append, arith}
+use Rattle.std.specs.Prelude.{All}
+use Rattle.std.specs.List.{join_with_byte, AllByRecursion, flat_map}
+use Rattle.std.proofs.lemmas.List.Elements.{recursion_from_All}
+use lib.Seq.{take-append_seam}
+use Rattle.ct_lines.specs.declared.TheConstants.{LINE_FEED}
+use Rattle.std.specs.Option.{option_to_list}
+use Rattle.ct_text.specs.Gathering.{is_end, less_last, with_line, gathered}
+use Rattle.ct_text.specs.declared.gathering.Gathering.{Gathering}
+use Rattle.ct_text.specs.declared.gathering.Gathered.{Gathered}
+use Rattle.ct_text.specs.declared.gathering.Gathered.TheVariants.{More, Whole}
+use Rattle.ct_text.specs.declared.gathering.Extent.{Extent}
+use Rattle.ct_text.specs.declared.gathering.Extent.TheVariants.{ToEnd, Lines}
+use Rattle.ct_commands.specs.Form.{form_of}
+use Rattle.ct_commands.specs.Command.{asked, opened, finished, going_on, completed, open_after_all, cut_off, commands_of}
+use Rattle.ct_commands.specs.declared.form.Form.{Form}
+use Rattle.ct_commands.specs.declared.form.Form.TheVariants.{Submit}
+use Rattle.ct_commands.specs.declared.command.Pending.{Pending}
+use Rattle.ct_commands.specs.declared.command.Command.{Command}
+use Rattle.ct_commands.specs.declared.command.Command.TheVariants as command
+
+-- the lines, each with its line feed
+abbrev fed : List (List ℕ) → List ℕ
+fed lines = flat_map (λ line. line ++ LINE_FEED ∷ []) lines
+
+-- a submission that is open
+abbrev at : Option (List ℕ) → Extent → List ℕ → Option Pending
+at id extent text = Some (record { id = id; document = record { extent = extent; text = text } })
+
+-- the commands of the lines that follow, where this submission is open
+abbrev from : Option Pending → List (List ℕ) → List Command
+from pending lines = completed pending lines ++ cut_off (open_after_all pending lines)
+
+-- a text and one more byte, without its last byte
+front : (xs : List ℕ) (b : ℕ) → less_last (xs ++ b ∷ []) ≡ xs
+front xs b =
+    let both = length-append xs (b ∷ []) in
+    let size : length (xs ++ b ∷ []) - 1 ≡ length xs = omega (arith, both) in
+    ap (λ n. take n (xs ++ b ∷ [])) size ∙ take-append_seam xs (b ∷ [])
+
+-- lines with their line feeds, but for the last, are the lines joined
+joined : (line : List ℕ) (lines : List (List ℕ)) → fed (line ∷ lines) ≡ join_with_byte LINE_FEED (line ∷ lines) ++ LINE_FEED ∷ []
+joined line [] = append-nil (line ++ LINE_FEED ∷ [])
+joined line (next ∷ lines) =
+    let rest = join_with_byte LINE_FEED (next ∷ lines) in
+    ap (λ text. (line ++ LINE_FEED ∷ []) ++ text) (joined next lines) ∙ append_assoc line (LINE_FEED ∷ []) (rest ++ LINE_FEED ∷ [])
+    ∙ sym (append_assoc line (LINE_FEED ∷ rest) (LINE_FEED ∷ []))
+
+less_last_fed : (lines : List (List ℕ)) → less_last (fed lines) ≡ join_with_byte LINE_FEED lines
+less_last_fed [] = refl
+less_last_fed (line ∷ lines) = ap less_last (joined line lines) ∙ front (join_with_byte LINE_FEED (line ∷ lines)) LINE_FEED
+
+-- a text, one more line and further lines, grouped both ways
+grouped : (text line : List ℕ) (lines : List (List ℕ)) → with_line text line ++ fed lines ≡ text ++ fed (line ∷ lines)
+grouped text line lines = ap (λ t. t ++ fed lines) (append_assoc text line (LINE_FEED ∷ [])) ∙ append_assoc text (line ++ LINE_FEED ∷ []) (fed lines)
+
+-- a line of the document, after which it goes on
+goes_on : (id : Option (List ℕ)) (old new : Gathering) (line : List ℕ) (lines : List (List ℕ)) → gathered old line ≡ More new
+    → from (Some (record { id = id; document = old })) (line ∷ lines) ≡ from (Some (record { id = id; document = new })) lines
+goes_on id old new line lines h =
+    ap (λ (after : Gathered). (option_to_list (finished id after) ++ completed (going_on id after) lines) ++ cut_off (open_after_all (going_on id after) lines)) h
+
+-- a line after which the document is whole
+is_whole : (id : Option (List ℕ)) (old : Gathering) (text line : List ℕ) (lines : List (List ℕ)) → gathered old line ≡ Whole text
+    → from (Some (record { id = id; document = old })) (line ∷ lines) ≡ command.Submission id text ∷ commands_of lines
+is_whole id old text line lines h =
+    ap (λ (after : Gathered). (option_to_list (finished id after) ++ completed (going_on id after) lines) ++ cut_off (open_after_all (going_on id after) lines)) h
+
+-- a line that opens a submission
+opens : (id : Option (List ℕ)) (extent : Extent) (line : List ℕ) (lines : List (List ℕ)) → form_of line ≡ Submit id extent → commands_of (line ∷ lines) ≡ from (at id extent []) lines
+opens id extent line lines h =
+    ap (λ (form : Form). (option_to_list (asked form) ++ completed (opened form) lines) ++ cut_off (open_after_all (opened form) lines)) h
+
+-- the lines of a document that goes to its end are taken in
+taken_in : (id : Option (List ℕ)) (text : List ℕ) (document rest : List (List ℕ)) → AllByRecursion (λ l. is_end l ≡ false) document
+    → from (at id ToEnd text) (document ++ rest) ≡ from (at id ToEnd (text ++ fed document)) rest
+taken_in id text [] rest none = ap (λ t. from (at id ToEnd t) rest) (sym (append-nil text))
+taken_in id text (line ∷ document) rest none =
+    let old : Gathering = record { extent = ToEnd; text = text } in
+    let new : Gathering = record { extent = ToEnd; text = with_line text line } in
+    goes_on id old new line (document ++ rest) (ap (λ (b : Bool). cond b (Whole (less_last text)) (More new)) none.0)
+    ∙ taken_in id (with_line text line) document rest none.1 ∙ ap (λ t. from (at id ToEnd t) rest) (grouped text line document)
+
+pub to_end : (line : List ℕ) (id : Option (List ℕ)) (document : List (List ℕ)) (end : List ℕ) (rest : List (List ℕ)) → form_of line ≡ Submit id ToEnd → All (λ l. is_end l ≡ false) document
+    → is_end end ≡ true → commands_of (line ∷ document ++ end ∷ rest) ≡ command.Submission id (join_with_byte LINE_FEED document) ∷ commands_of rest
+to_end line id document end rest begins none ends =
+    let all : Gathering = record { extent = ToEnd; text = fed document } in
+    let new : Gathering = record { extent = ToEnd; text = with_line (fed document) end } in
+    opens id ToEnd line (document ++ end ∷ rest) begins
+    ∙ taken_in id [] document (end ∷ rest) (recursion_from_All (λ l. is_end l ≡ false) document none)
+    ∙ is_whole id all (less_last (fed document)) end rest (ap (λ (b : Bool). cond b (Whole (less_last (fed document))) (More new)) ends)
+    ∙ ap (λ d. command.Submission id d ∷ commands_of rest) (less_last_fed document)
+
+pub without_end : (line : List ℕ) (id : Option (List ℕ)) (document : List (List ℕ)) → form_of line ≡ Submit id ToEnd → All (λ l. is_end l ≡ false) document → commands_of (line ∷ document) ≡ command.CutOff ∷ []
+without_end line id document begins none =
+    opens id ToEnd line document begins ∙ ap (from (at id ToEnd [])) (sym (append-nil document))
+    ∙ taken_in id [] document [] (recursion_from_All (λ l. is_end l ≡ false) document none)
+
+-- so many lines as are asked for are the whole document
+all_counted : (id : Option (List ℕ)) (text first : List ℕ) (document rest : List (List ℕ))
+    → from (at id (Lines (length document + 1)) text) (first ∷ document ++ rest) ≡ command.Submission id (less_last (text ++ fed (first ∷ document))) ∷ commands_of rest
+all_counted id text first [] rest =
+    ap (λ t. command.Submission id (less_last t) ∷ commands_of rest) (sym (append-nil (with_line text first)) ∙ grouped text first [])
+all_counted id text first (second ∷ document) rest =
+    let count : length (second ∷ document) + 1 ≡ suc (suc (length document)) = omega arith in
+    let less : suc (length document) ≡ length document + 1 = omega arith in
+    ap (λ k. from (at id (Lines k) text) (first ∷ second ∷ document ++ rest)) count
+    ∙ ap (λ k. from (at id (Lines k) (with_line text first)) (second ∷ document ++ rest)) less
+    ∙ all_counted id (with_line text first) second document rest
+    ∙ ap (λ t. command.Submission id (less_last t) ∷ commands_of rest) (grouped text first (second ∷ document))
+
+pub counted : (line : List ℕ) (id : Option (List ℕ)) (first : List ℕ) (document rest : List (List ℕ)) → form_of line ≡ Submit id (Lines (length document + 1))
+    → commands_of (line ∷ first ∷ document ++ rest) ≡ command.Submission id (join_with_byte LINE_FEED (first ∷ document)) ∷ commands_of rest
+counted line id first document rest begins =
+    opens id (Lines (length document + 1)) line (first ∷ document ++ rest) begins ∙ all_counted id [] first document rest
+    ∙ ap (λ d. command.Submission id d ∷ commands_of rest) (less_last_fed (first ∷ document))
+
+-- fewer lines than are asked for are no document
+not_all : (id : Option (List ℕ)) (text : List ℕ) (document : List (List ℕ)) (more : ℕ) → from (at id (Lines (length document + 1 + more)) text) document ≡ command.CutOff ∷ []
+not_all id text [] more = refl
+not_all id text (line ∷ document) more =
+    let count : length (line ∷ document) + 1 + more ≡ suc (suc (length document + more)) = omega arith in
+    let less : suc (length document + more) ≡ length document + 1 + more = omega arith in
+    ap (λ k. from (at id (Lines k) text) (line ∷ document)) count
+    ∙ ap (λ k. from (at id (Lines k) (with_line text line)) document) less
+    ∙ not_all id (with_line text line) document more
+
+pub too_few : (line : List ℕ) (id : Option (List ℕ)) (document : List (List ℕ)) (more : ℕ) → form_of line ≡ Submit id (Lines (length document + 1 + more)) → commands_of (line ∷ document) ≡ command.CutOff ∷ []
+too_few line id document more begins = opens id (Lines (length document + 1 + more)) line document begins ∙ not_all id [] document more
+
+-- a line that opens no submission
+pub alone : (form : Form) (line : List ℕ) (rest : List (List ℕ)) → form_of line ≡ form → opened form ≡ None → commands_of (line ∷ rest) ≡ option_to_list (asked form) ++ commands_of rest
+alone form line rest h none =
+    ap (λ (f : Form). (option_to_list (asked f) ++ completed (opened f) rest) ++ cut_off (open_after_all (opened f) rest)) h
+    ∙ ap (λ (p : Option Pending). (option_to_list (asked form) ++ completed p rest) ++ cut_off (open_after_all p rest)) none
+    ∙ append_assoc (option_to_list (asked form)) (completed None rest) (cut_off (open_after_all None rest))

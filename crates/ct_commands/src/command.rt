@@ -1,0 +1,119 @@
+//! The commands of a session, line by line.
+
+ghost use Rattle.std.specs.Prelude.{◌≡◌, None, OnOk, IfOk};
+ghost use Rattle.std.specs.Option.{option_to_list};
+ghost use Rattle.ct_commands.specs.Command.{open_after, completed_by, cut_off};
+
+use crate::form::{Form, read_form};
+use ct_text::{EntryNumbers, Gathered, Gathering, Id, Text};
+use std::alloc::{AllocError, Global};
+use std::marker::Model;
+
+/// A command of a session.
+#[derive(Debug, Drop)]
+pub enum Command {
+    /// A submission with its whole document: its id, if its line is of a form of `submit`, and the document.
+    Submission(Option<Id>, Text),
+    /// A submission whose document the input cuts off.
+    CutOff,
+    /// The withdrawal of the piece with this id.
+    Withdraw(Id),
+    /// The bounds of the entry with these numbers.
+    Show(EntryNumbers),
+    /// A line for each piece.
+    Ledger,
+    /// The commands that lead to the pieces.
+    Dump,
+    /// A line that is no command.
+    Unknown,
+}
+
+/// A submission whose document has not ended: its id, if its line is of a form of `submit`, and the document as far as it
+/// has come.
+#[derive(Debug, Drop)]
+pub struct Pending {
+    /// The id.
+    pub id: Option<Id>,
+    /// The document.
+    pub document: Gathering,
+}
+
+/// Takes the lines of an input one by one, and gives the commands that they complete. Contracts see it as the submission
+/// that is open, if one is.
+#[derive(Debug, Drop)]
+pub struct CommandReader {
+    pending: Option<Pending>,
+}
+
+impl Model for CommandReader {
+    ghost use Rattle.std.specs.Prelude.{Option};
+    ghost use Rattle.ct_commands.specs.declared.command.Pending.{Pending};
+
+    ghost Value = { Option Pending };
+
+    ghost view = { λ r. r.pending };
+}
+
+/// Takes a line into an open submission: the one that is still open, or the whole command.
+fn go_on(pending: Pending, line: &[u8]) -> Result<(Option<Pending>, Option<Command>), AllocError>
+    ensures { IfOk result (λ r. (r.0 ≡ open_after (Some pending) line.now)
+        × (r.1 ≡ completed_by (Some pending) line.now)) }
+{
+    let id = pending.id;
+    match pending.document.take_line(line)? {
+        Gathered::More(document) => Ok((Some(Pending { id, document }), None)),
+        Gathered::Whole(text) => Ok((None, Some(Command::Submission(id, text)))),
+    }
+}
+
+/// Reads a line outside a document: the submission that it opens, or the command that it is.
+fn begin(alloc: Global, line: &[u8]) -> Result<(Option<Pending>, Option<Command>), AllocError>
+    ensures { IfOk result (λ r. (r.0 ≡ open_after None line.now) × (r.1 ≡ completed_by None line.now)) }
+{
+    let command = match read_form(alloc, line)? {
+        Form::Nothing => return Ok((None, None)),
+        Form::Submit(id, extent) => {
+            let document = Gathering::new(alloc, extent);
+            return Ok((Some(Pending { id, document }), None));
+        }
+        Form::Withdraw(id) => Command::Withdraw(id),
+        Form::Show(numbers) => Command::Show(numbers),
+        Form::Ledger => Command::Ledger,
+        Form::Dump => Command::Dump,
+        Form::Unknown => Command::Unknown,
+    };
+    Ok((None, Some(command)))
+}
+
+impl CommandReader {
+    /// A reader before the first line.
+    pub fn new() -> CommandReader
+        ensures { result ≡ None }
+    {
+        CommandReader { pending: None }
+    }
+
+    /// Takes the next line: the command that it completes, if it completes one. `Err` is want of memory; the submission
+    /// that was open may be lost then.
+    pub fn take_line(&mut self, alloc: Global, line: &[u8]) -> Result<Option<Command>, AllocError>
+        ensures command { IfOk result (λ command. command ≡ completed_by self.old line.now) }
+        ensures pending { OnOk result (self.new ≡ open_after self.old line.now) }
+    {
+        let (pending, command) = match self.pending.take() {
+            Some(pending) => go_on(pending, line)?,
+            None => begin(alloc, line)?,
+        };
+        self.pending = pending;
+        Ok(command)
+    }
+
+    /// The command that the end of the input makes: a submission that is open is cut off.
+    pub fn finish(self) -> Option<Command>
+        ensures { option_to_list result ≡ cut_off self }
+    {
+        match self.pending {
+            Some(_) => Some(Command::CutOff),
+            None => None,
+        }
+    }
+}

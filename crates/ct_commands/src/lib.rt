@@ -1,0 +1,10 @@
+//! The commands of a session: what one line asks for, and the commands that the lines of an input make.
+#![tactic(auto)]
+
+mod command;
+mod form;
+mod laws;
+
+pub use command::{Command, CommandReader, Pending};
+pub use form::{Form, read_form};
+pub use laws::{other_lines_stand_alone, submissions_take_their_lines};

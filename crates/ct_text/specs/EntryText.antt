@@ -1,0 +1,13 @@
+-- The text of an entry in a reply.
+use Rattle.std.specs.Prelude.{ℕ, List, [], ◌++◌, Option, Some, None, codes}
+use Rattle.std.specs.Fmt.{decimal}
+use Rattle.ct_codes.specs.declared.entry.Entry.{Entry}
+
+-- a comma and the weight, where there is one
+abbrev pub weight_text : Option ℕ → List ℕ
+weight_text None = []
+weight_text (Some w) = codes "," ++ decimal w
+
+-- an entry: A(N,D) or A(N,D,W)
+abbrev pub entry_text : Entry → List ℕ
+entry_text e = codes "A(" ++ decimal e.n ++ codes "," ++ decimal e.d ++ weight_text e.w ++ codes ")"

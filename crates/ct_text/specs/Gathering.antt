@@ -1,0 +1,31 @@
+-- The text of a document whose lines follow a heading: up to a line `end`, or so many lines.
+use Rattle.std.specs.Prelude.{ℕ, zero, suc, ◌-◌, Bool, ◌||◌, if◌then◌else◌, List, [], ◌∷◌, ◌++◌, length, take, codes}
+use Rattle.std.specs.Str.{bytes_eq}
+use Rattle.ct_lines.specs.declared.TheConstants.{LINE_FEED}
+use Rattle.ct_text.specs.declared.gathering.Extent.{Extent}
+use Rattle.ct_text.specs.declared.gathering.Extent.TheVariants.{ToEnd, Lines}
+use Rattle.ct_text.specs.declared.gathering.Gathering.{Gathering}
+use Rattle.ct_text.specs.declared.gathering.Gathered.{Gathered}
+use Rattle.ct_text.specs.declared.gathering.Gathered.TheVariants.{More, Whole}
+
+-- the line that ends a document: `end`, or `end` and one carriage return (13)
+abbrev pub is_end : List ℕ → Bool
+is_end line = bytes_eq line (codes "end") || bytes_eq line (codes "end" ++ 13 ∷ [])
+
+-- a text without its last byte
+abbrev pub less_last : List ℕ → List ℕ
+less_last text = take (length text - 1) text
+
+-- a text and one more line, with its line feed
+abbrev pub with_line : List ℕ → List ℕ → List ℕ
+with_line text line = text ++ line ++ LINE_FEED ∷ []
+
+-- a document that goes to a line `end`, or for so many lines, after one more line: the line feed after its last line is not part of it
+abbrev pub gathered_at : Extent → List ℕ → List ℕ → Gathered
+gathered_at ToEnd text line = if is_end line then Whole (less_last text) else More (record { extent = ToEnd; text = with_line text line })
+gathered_at (Lines (suc (suc more))) text line = More (record { extent = Lines (suc more); text = with_line text line })
+gathered_at (Lines count) text line = Whole (less_last (with_line text line))
+
+-- a document whose lines are gathered, after one more line
+abbrev pub gathered : Gathering → List ℕ → Gathered
+gathered g line = gathered_at g.extent g.text line
