@@ -1,7 +1,6 @@
 -- What the reading of the bytes as TOML says of the table of a document.
-use Rattle.std.proofs.Common.{◌≡◌, ℕ, Bool, ◌||◌, List, [], ◌∷◌, map, Some, None, refl, ap, inl, inr}
+use Rattle.std.proofs.Common.{◌≡◌, ℕ, List, Some, None, refl, inl, inr}
 use Rattle.std.specs.Prelude.{IsUtf8}
-use Rattle.std.specs.List.{list_any}
 use Rattle.std.specs.Str.{is_utf8}
 use Rattle.std.proofs.lemmas.Bool.{cases_Bool}
 use Rattle.std.proofs.lemmas.Str.{IsUtf8-from_is_utf8, is_utf8-from_IsUtf8}
@@ -22,11 +21,3 @@ table_of-refused bytes refused =
       | inl is_text ↦ rw (is_text, refused (IsUtf8-from_is_utf8 bytes is_text)) refl
       | inr is_none ↦ rw is_none refl
     ]
-
--- a test of what is seen of the items
-pub list_any-map : {X Y : Type 0} (p : Y → Bool) (f : X → Y) → (xs : List X) → list_any p (map f xs) ≡ list_any (λ x. p (f x)) xs
-list_any-map p f [] = refl
-list_any-map p f (x ∷ xs) = ap (λ b. p (f x) || b) (list_any-map p f xs)
-
--- how names behind references are searched
-pub ruleset seen_names = list_any-map

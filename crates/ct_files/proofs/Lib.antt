@@ -1,3 +1,4 @@
 mod Documents
+pub mod StepLemmas
 pub mod Evidences
 pub mod OnLiterals

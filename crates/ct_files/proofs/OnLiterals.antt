@@ -1,11 +1,11 @@
--- What an answer unfolds to compute the evidence of a literal.
+-- What an answer unfolds to compute what the bytes of a literal read as.
 use Rattle.std.specs.Prelude.{⊤}
 use Rattle.std.specs.Str.{chars, is_utf8}
 use Rattle.toml.proofs.OnLiterals.{toml_on_literals}
 use Rattle.ct_words.specs.Text.{word_of}
 use Rattle.ct_files.specs.Document.{table_of}
-use Rattle.ct_files.specs.Evidence.{words_evidence_of, evidence_of}
+use Rattle.ct_files.specs.Evidence.{words_evidence_of, evidence_of, read_without_limit, read_of}
 
 unfoldable pub evidence_on_literals : ⊤
-unfolding toml_on_literals chars is_utf8 word_of table_of words_evidence_of evidence_of
+unfolding toml_on_literals chars is_utf8 word_of table_of words_evidence_of evidence_of read_without_limit read_of
 evidence_on_literals = tt

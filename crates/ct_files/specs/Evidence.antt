@@ -1,38 +1,52 @@
--- The evidence that a document's bytes give.
-use Rattle.std.specs.Prelude.{◌≡◌, ℕ, ◌^◌, ◌<◌, if◌then◌else◌, List, [], ◌∷◌, Option, Some, None, Result, ok_or, All, codes}
+-- The evidence that a document's bytes give, or the first fault of the document.
+use Rattle.std.specs.Prelude.{◌≡◌, ℕ, ◌^◌, ◌<◌, ◌≤◌, nat_le, ◌&&◌, if◌then◌else◌, List, [], ◌∷◌, length, None, Result, Ok, Err, All, codes}
 use Rattle.toml.specs.Data.{Data}
 use Rattle.ct_words.specs.declared.limits.TheConstants.{MAX_N}
-use Rattle.ct_codes.specs.Entry.{IsEntry}
-use Rattle.ct_files.specs.Fields.{◌>>=◌, holds_text, number_at, texts_at, words_of, has_only}
+use Rattle.ct_codes.specs.Entry.{IsEntry, unrestricted}
+use Rattle.ct_codes.specs.declared.fault.TheConstants.{MAX_WORDS}
+use Rattle.ct_files.specs.Steps.{◌>>=◌, ◌>>◌, check}
+use Rattle.ct_files.specs.Fields.{is_of_kind, number_field, texts_field, no_other_key, words_from}
 use Rattle.ct_files.specs.Document.{document_of}
+use Rattle.ct_files.specs.declared.evidence.TheConstants.{MAX_DOCUMENT}
 use Rattle.ct_files.specs.declared.evidence.Evidence.{Evidence}
 use Rattle.ct_files.specs.declared.evidence.Evidence.TheVariants.{Words}
+use Rattle.ct_files.specs.declared.field.FieldName.TheVariants as name
 use Rattle.ct_files.specs.declared.fault.FileFault.{FileFault}
-use Rattle.ct_files.specs.declared.fault.FileFault.TheVariants.{Kind}
+use Rattle.ct_files.specs.declared.fault.FileFault.TheVariants.{Bytes, Kind, Size}
 
--- the keys of a document of kind words
-abbrev pub words_keys : List (List ℕ)
-words_keys = codes "kind" ∷ codes "n" ∷ codes "d" ∷ codes "words" ∷ []
+-- the fault of a number of words that is 0 or above MAX_WORDS
+abbrev pub word_count : List ℕ → Result (Unit {0}) FileFault
+word_count words = check (nat_le 1 (length words) && nat_le (length words) MAX_WORDS) (Size (length words))
 
--- the evidence of a table of kind words: n in 1..MAX_N, d in 3..MAX_N and words, each of length n, and no other key
-unfoldable pub words_evidence_of : Data → Option Evidence
+-- the evidence of a document of kind words
+unfoldable pub words_evidence_of : Data → Result Evidence FileFault
 words_evidence_of document = do
-  n ← number_at (codes "n") 1 MAX_N document
-  d ← number_at (codes "d") 3 MAX_N document
-  texts ← texts_at (codes "words") document
-  words ← if has_only words_keys document then words_of n texts else None
-  Some (Words (record { n = n; d = d; w = None }) words)
+  n ← number_field name.N 1 MAX_N document
+  d ← number_field name.D 3 MAX_N document
+  texts ← texts_field name.Words document
+  no_other_key (name.N ∷ name.D ∷ name.Words ∷ []) document
+  words ← words_from n 0 texts
+  word_count words
+  Ok (Words (unrestricted n d) words)
 
--- the evidence of a document, whose kind is words
-unfoldable pub evidence_of : List ℕ → Option Evidence
-evidence_of bytes = do
+-- the evidence of a document by its kind
+unfoldable pub evidence_of : Data → Result Evidence FileFault
+evidence_of document =
+    if is_of_kind (codes "words") document then words_evidence_of document
+    else Err Kind
+
+-- what the bytes of a document read as, however many they are
+unfoldable pub read_without_limit : List ℕ → Result Evidence FileFault
+read_without_limit bytes = do
   document ← document_of bytes
-  if holds_text (codes "kind") (codes "words") document then words_evidence_of document else None
+  evidence_of document
 
--- what a document reads as: its evidence, or the fault of one that is of no kind that is read
-abbrev pub read_of : List ℕ → Result Evidence FileFault
-read_of bytes = ok_or (evidence_of bytes) Kind
+-- what a document reads as: its evidence, or its first fault
+unfoldable pub read_of : List ℕ → Result Evidence FileFault
+read_of bytes = do
+  check (nat_le (length bytes) MAX_DOCUMENT) (Bytes (length bytes))
+  read_without_limit bytes
 
--- what each evidence that is read keeps: an entry of the table without weight, and words of its length
+-- what each evidence that is read keeps: an entry of the table without weight, and 1 to MAX_WORDS words of its length
 abbrev pub IsSound : Evidence → Type 0
-IsSound (Words e words) = (e.w ≡ None) × IsEntry e × All (λ x. x < 2 ^ e.n) words
+IsSound (Words e words) = (e.w ≡ None) × IsEntry e × All (λ x. x < 2 ^ e.n) words × (1 ≤ length words) × (length words ≤ MAX_WORDS)

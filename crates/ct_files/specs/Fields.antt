@@ -1,65 +1,74 @@
 -- The fields of an evidence document: what stands at a key, where it has the form that is asked.
-use Rattle.std.specs.Prelude.{ℕ, pos, Bool, true, false, nat_le, ◌&&◌, if◌then◌else◌, List, [], ◌∷◌, Option, Some, None}
+use Rattle.std.specs.Prelude.{ℕ, suc, pos, Bool, true, false, nat_le, ◌&&◌, ◌||◌, if◌then◌else◌, List, [], ◌∷◌, Option, Some, None, Result, Ok, ok_or, codes}
 use Rattle.std.specs.Option.{option_and_then, option_map_or}
 use Rattle.std.specs.List.{list_any}
 use Rattle.std.specs.Str.{bytes_eq}
 use Rattle.toml.specs.Data.{Data, string, integer, array, table, Items, no_items, item, Members, no_members, member, get, as_str}
 use Rattle.ct_words.specs.Text.{word_of}
-
--- one step after another: none where a step gives none
-infixl 10 ◌>>=◌
-abbrev pub ◌>>=◌ : {A B : Type 0} → Option A → (A → Option B) → Option B
-o >>= f = option_and_then f o
+use Rattle.ct_files.specs.Field.{field_text}
+use Rattle.ct_files.specs.Steps.{◌>>=◌, check}
+use Rattle.ct_files.specs.declared.field.FieldName.{FieldName}
+use Rattle.ct_files.specs.declared.fault.FileFault.{FileFault}
+use Rattle.ct_files.specs.declared.fault.FileFault.TheVariants.{Field, Unknown, Digits}
 
 -- whether the value is this text
 abbrev pub is_text : List ℕ → Data → Bool
 is_text text (string s) = bytes_eq s text
 is_text text _ = false
 
--- whether the text stands at the key
-abbrev pub holds_text : List ℕ → List ℕ → Data → Bool
-holds_text key text document = option_map_or (is_text text) (get key document) false
+-- whether the document is of the kind
+abbrev pub is_of_kind : List ℕ → Data → Bool
+is_of_kind kind document = option_map_or (is_text kind) (get (codes "kind") document) false
+
+-- what stands at the key of the field, in the form that is asked; the fault of the field where it is missing or of another form
+abbrev pub field : {A : Type 0} → (Data → Option A) → FieldName → Data → Result A FileFault
+field form name document = ok_or (option_and_then form (get (field_text name) document)) (Field name)
 
 -- an integer from low to high
 abbrev pub number_in : ℕ → ℕ → Data → Option ℕ
 number_in low high (integer (pos k)) = if nat_le low k && nat_le k high then Some k else None
 number_in low high _ = None
 
--- the number at the key, an integer from low to high
-abbrev pub number_at : List ℕ → ℕ → ℕ → Data → Option ℕ
-number_at key low high document = get key document >>= number_in low high
+-- the number of the field, an integer from low to high
+abbrev pub number_field : FieldName → ℕ → ℕ → Data → Result ℕ FileFault
+number_field name low high document = field (number_in low high) name document
 
 -- the texts of items that all are texts
 abbrev pub texts_of : Items → Option (List (List ℕ))
 texts_of no_items = Some []
-texts_of (item d ds) = do
-  text ← as_str d
-  texts ← texts_of ds
-  Some (text ∷ texts)
+texts_of (item d ds) = option_and_then (λ text. option_and_then (λ texts. Some (text ∷ texts)) (texts_of ds)) (as_str d)
 
 -- the texts of a list of texts
 abbrev pub texts_in : Data → Option (List (List ℕ))
 texts_in (array ds) = texts_of ds
 texts_in _ = None
 
--- the texts at the key, a list of texts
-abbrev pub texts_at : List ℕ → Data → Option (List (List ℕ))
-texts_at key document = get key document >>= texts_in
+-- the texts of the field, a list of texts
+abbrev pub texts_field : FieldName → Data → Result (List (List ℕ)) FileFault
+texts_field name document = field texts_in name document
 
--- the words of length n that the texts write, where each writes one
-abbrev pub words_of : ℕ → List (List ℕ) → Option (List ℕ)
-words_of n [] = Some []
-words_of n (text ∷ texts) = do
-  word ← word_of n text
-  words ← words_of n texts
-  Some (word ∷ words)
+-- whether the key is `kind` or that of one of the fields
+abbrev pub is_named : List FieldName → List ℕ → Bool
+is_named names key = bytes_eq key (codes "kind") || list_any (λ name. bytes_eq key (field_text name)) names
 
--- whether each key of the members is one of the names
-abbrev pub keys_are_among : List (List ℕ) → Members → Bool
-keys_are_among names no_members = true
-keys_are_among names (member key d rest) = list_any (bytes_eq key) names && keys_are_among names rest
+-- whether each key of the members is named
+abbrev pub keys_are_named : List FieldName → Members → Bool
+keys_are_named names no_members = true
+keys_are_named names (member key d rest) = is_named names key && keys_are_named names rest
 
--- whether the table has no other keys than the names
-abbrev pub has_only : List (List ℕ) → Data → Bool
-has_only names (table members) = keys_are_among names members
+-- whether the table has no other keys than `kind` and those of the fields
+abbrev pub has_only : List FieldName → Data → Bool
+has_only names (table members) = keys_are_named names members
 has_only names _ = false
+
+-- the fault of a key that isn't named
+abbrev pub no_other_key : List FieldName → Data → Result (Unit {0}) FileFault
+no_other_key names document = check (has_only names document) Unknown
+
+-- the words of length n that the texts write; the fault of the first text that writes none, where the texts are counted from place
+abbrev pub words_from : ℕ → ℕ → List (List ℕ) → Result (List ℕ) FileFault
+words_from n place [] = Ok []
+words_from n place (text ∷ texts) = do
+  word ← ok_or (word_of n text) (Digits place)
+  words ← words_from n (suc place) texts
+  Ok (word ∷ words)

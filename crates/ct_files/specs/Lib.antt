@@ -1,3 +1,5 @@
+pub mod Field
+pub mod Steps
 pub mod Fields
 pub mod Document
 pub mod Evidence

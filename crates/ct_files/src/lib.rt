@@ -5,10 +5,13 @@ mod document;
 mod evidence;
 pub mod examples;
 mod fault;
+mod field;
+mod fields;
 mod reading;
 
 pub use evidence::{Evidence, MAX_DOCUMENT};
 pub use fault::FileFault;
+pub use field::FieldName;
 pub use reading::read_evidence;
 
 #[cfg(test)]

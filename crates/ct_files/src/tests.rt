@@ -1,3 +1,5 @@
+//! Documents at the edges of the form, and what they read as.
+
 use super::*;
 use std::alloc::{AllocError, Global};
 use std::process::Abort;
@@ -14,9 +16,9 @@ type Row = (
 );
 
 // Documents that are read.
-const READ: [Row; 6] = [
+const READ: [Row; 7] = [
     ("6", "4", "['111100']", 6, 4, &[60]),
-    ("28", "28", "[]", 28, 28, &[]),
+    ("28", "28", "['0000000000000000000000000000']", 28, 28, &[0]),
     ("1", "3", "['1', '0', '1']", 1, 3, &[1, 0, 1]),
     (
         "28",
@@ -35,39 +37,113 @@ const READ: [Row; 6] = [
         &[3, 4],
     ),
     ("0b10", "3", "['''01''', \"\\u00310\"]", 2, 3, &[1, 2]),
+    (
+        "0o2",
+        "2_8",
+        "[\"\\x30\\x31\", \"\"\"\\\n 11\"\"\"]",
+        2,
+        28,
+        &[1, 3],
+    ),
 ];
 
-// Values of n, d and words of no document.
-const REFUSED: [(&str, &str, &str); 18] = [
-    ("0", "4", "[]"),
-    ("29", "4", "[]"),
-    ("-7", "4", "[]"),
-    ("9223372036854775807", "4", "[]"),
-    ("9223372036854775808", "4", "[]"),
-    ("6", "-9223372036854775808", "[]"),
-    ("6.0", "4", "[]"),
-    ("'6'", "4", "[]"),
-    ("6", "2", "[]"),
-    ("6", "29", "[]"),
-    ("6", "4", "'111100'"),
-    ("6", "4", "['111100', 111100]"),
-    ("6", "4", "['111100', '11110']"),
-    ("6", "4", "['11110a']"),
-    ("6", "4", "['111000']\nw = 3"),
-    ("6", "4", "[]\n[notes]"),
-    ("6", "4", "[]\nn = 6"),
-    ("6", "4", ""),
+// Values of n, d and words, further lines, and the fault.
+const REFUSED: [(&str, &str, &str, FileFault); 41] = [
+    ("9223372036854775808", "4", "[]", FileFault::NotToml),
+    ("6", "-9223372036854775809", "[]", FileFault::NotToml),
+    ("06", "4", "[]", FileFault::NotToml),
+    ("6", "4", "", FileFault::NotToml),
+    ("6", "4", "['111100'", FileFault::NotToml),
+    ("6", "4", "['\n']", FileFault::NotToml),
+    ("6", "4", "[]\nn = 6", FileFault::NotToml),
+    ("6", "4", "[]\nwords = []", FileFault::NotToml),
+    ("6", "4", "[]\n\"d\" = 4", FileFault::NotToml),
+    ("6", "4", "[]\nn.n = 4", FileFault::NotToml),
+    ("0", "4", "['1']", FileFault::Field(FieldName::N)),
+    ("29", "4", "[]", FileFault::Field(FieldName::N)),
+    ("-7", "4", "[]", FileFault::Field(FieldName::N)),
+    ("4294967302", "4", "[]", FileFault::Field(FieldName::N)),
+    (
+        "9223372036854775807",
+        "4",
+        "[]",
+        FileFault::Field(FieldName::N),
+    ),
+    (
+        "-9223372036854775808",
+        "4",
+        "[]",
+        FileFault::Field(FieldName::N),
+    ),
+    ("6.0", "4", "[]", FileFault::Field(FieldName::N)),
+    ("'6'", "4", "[]", FileFault::Field(FieldName::N)),
+    ("true", "4", "[]", FileFault::Field(FieldName::N)),
+    ("[6]", "4", "[]", FileFault::Field(FieldName::N)),
+    ("{ n = 6 }", "4", "[]", FileFault::Field(FieldName::N)),
+    ("2026-11-27", "4", "[]", FileFault::Field(FieldName::N)),
+    ("0", "2", "[]", FileFault::Field(FieldName::N)),
+    ("6", "2", "[]", FileFault::Field(FieldName::D)),
+    ("6", "29", "[]", FileFault::Field(FieldName::D)),
+    ("6", "nan", "[]", FileFault::Field(FieldName::D)),
+    ("6", "0", "6", FileFault::Field(FieldName::D)),
+    ("6", "4", "'111100'", FileFault::Field(FieldName::Words)),
+    (
+        "6",
+        "4",
+        "['111100', 111100]",
+        FileFault::Field(FieldName::Words),
+    ),
+    ("6", "4", "[['111100']]", FileFault::Field(FieldName::Words)),
+    ("6", "4", "{ }", FileFault::Field(FieldName::Words)),
+    ("6", "4", "6\nw = 3", FileFault::Field(FieldName::Words)),
+    ("6", "4", "['111000']\nw = 3", FileFault::Unknown),
+    ("6", "4", "['111']\nword = 'x'", FileFault::Unknown),
+    ("6", "4", "[]\n[notes]", FileFault::Unknown),
+    ("6", "4", "[]\n'' = 0", FileFault::Unknown),
+    ("6", "4", "['111100', '11110', '1']", FileFault::Digits(1)),
+    ("6", "4", "['1111000']", FileFault::Digits(0)),
+    (
+        "6",
+        "4",
+        "['111100', '111001', '11112a']",
+        FileFault::Digits(2),
+    ),
+    ("6", "4", "['']", FileFault::Digits(0)),
+    ("6", "4", "[]", FileFault::Size(0)),
 ];
 
-// Bytes that are no document.
-const NO_DOCUMENTS: [&[u8]; 7] = [
-    b"",
-    b"kind =",
-    b"n = 6\nd = 4\nwords = []",
-    b"kind = 'words'\nn = 6\nd = 4",
-    b"kind = 'Words'\nn = 6\nd = 4\nwords = []",
-    b"kind = ['words']\nn = 6\nd = 4\nwords = []",
-    b"kind = 'words'\nn = 6\nd = 4\nwords = [] # \xff",
+// Bytes that write no document of kind words, or lack a field, and the fault.
+const WHOLE: [(&[u8], FileFault); 12] = [
+    (b"kind =", FileFault::NotToml),
+    (b"kind = 'oracle'\nn =", FileFault::NotToml),
+    (
+        b"kind = 'words'\nn = 6\nd = 4\nwords = [] # \xff",
+        FileFault::NotToml,
+    ),
+    (b"kind = 'words'; n = 6", FileFault::NotToml),
+    (b"", FileFault::Kind),
+    (b"n = 6\nd = 4\nwords = []", FileFault::Kind),
+    (b"kind = 'Words'\nn = 6\nd = 4\nwords = []", FileFault::Kind),
+    (
+        b"kind = 'words '\nn = 0\nd = 4\nwords = []",
+        FileFault::Kind,
+    ),
+    (
+        b"kind = ['words']\nn = 6\nd = 4\nwords = []",
+        FileFault::Kind,
+    ),
+    (
+        b"kind = 'words'\nd = 4\nwords = []",
+        FileFault::Field(FieldName::N),
+    ),
+    (
+        b"kind = 'words'\nn = 6\nwords = 6",
+        FileFault::Field(FieldName::D),
+    ),
+    (
+        b"kind = 'words'\nn = 6\nd = 4\nw = 3",
+        FileFault::Field(FieldName::Words),
+    ),
 ];
 
 fn document(alloc: Global, n: &str, d: &str, words: &str) -> Result<String, AllocError> {
@@ -84,27 +160,20 @@ fn assert_read(rt: &impl Abort, alloc: Global, rows: &[Row]) -> Result<(), FileF
     Ok(())
 }
 
-fn assert_refused(rt: &impl Abort, alloc: Global, bytes: &[u8]) {
-    let answer = read_evidence(alloc, bytes);
-    assert!(rt; matches!(answer, Err(FileFault::Kind)), "{bytes:?}");
+fn assert_refused(rt: &impl Abort, alloc: Global, bytes: &[u8], fault: FileFault) {
+    assert_eq!(rt; read_evidence(alloc, bytes).err(), Some(fault), "{bytes:?}");
 }
 
 fn assert_fields_refused(
     rt: &impl Abort,
     alloc: Global,
-    rows: &[(&str, &str, &str)],
+    rows: &[(&str, &str, &str, FileFault)],
 ) -> Result<(), AllocError> {
-    for (n, d, words) in rows {
+    for (n, d, words, fault) in rows {
         let text = document(alloc, *n, *d, *words)?;
-        assert_refused(rt, alloc, text.as_bytes());
+        assert_refused(rt, alloc, text.as_bytes(), *fault);
     }
     Ok(())
-}
-
-fn assert_all_refused(rt: &impl Abort, alloc: Global, documents: &[&[u8]]) {
-    for bytes in documents {
-        assert_refused(rt, alloc, *bytes);
-    }
 }
 
 #[test]
@@ -112,16 +181,72 @@ fn documents(rt: HostRuntime) -> Result<(), Fail> {
     let alloc = rt.alloc();
     assert_read(&rt, alloc, &READ)?;
     assert_fields_refused(&rt, alloc, &REFUSED)?;
-    assert_all_refused(&rt, alloc, &NO_DOCUMENTS);
+    for (bytes, fault) in WHOLE {
+        assert_refused(&rt, alloc, bytes, fault);
+    }
     Ok(())
 }
 
+/// A byte order mark at the start is passed over, as TOML has it.
 #[test]
-fn longest_document(rt: HostRuntime) -> Result<(), Fail> {
-    let mut bytes = b"kind = 'words'\nn = 6\nd = 4\nwords = []\n".to_vec(rt.alloc())?;
+fn byte_order_mark(rt: HostRuntime) -> Result<(), Fail> {
+    let text = b"\xef\xbb\xbfkind = 'words'\nn = 1\nd = 3\nwords = ['1']";
+    assert!(rt; read_evidence(rt.alloc(), text).is_ok());
+    Ok(())
+}
+
+/// Documents of 100 kB, of the greatest size, and of one byte more.
+#[test]
+fn long_documents(rt: HostRuntime) -> Result<(), Fail> {
+    let mut bytes = b"kind = 'words'\nn = 6\nd = 4\nwords = ['111100']\n".to_vec(rt.alloc())?;
+    bytes.resize(102400, b'#')?;
+    assert!(rt; read_evidence(rt.alloc(), &bytes).is_ok());
     bytes.resize(4194304, b'#')?;
     assert!(rt; read_evidence(rt.alloc(), &bytes).is_ok());
+    bytes[0] = b'=';
+    assert_refused(&rt, rt.alloc(), &bytes, FileFault::NotToml);
     bytes.push(b'#')?;
-    assert!(rt; matches!(read_evidence(rt.alloc(), &bytes), Err(FileFault::Kind)));
+    assert_refused(&rt, rt.alloc(), &bytes, FileFault::Bytes(4194305));
     Ok(())
+}
+
+// A document of so many words of length 1, and the last text of its list.
+fn many_words(alloc: Global, count: usize, last: &str) -> Result<String, AllocError> {
+    let mut text = String::from_str(alloc, "kind = 'words'\nn = 1\nd = 3\nwords = [")?;
+    for _ in 1..count {
+        text.push_str("'1',")?;
+    }
+    text.push_str(last)?;
+    text.push(']')?;
+    Ok(text)
+}
+
+/// The greatest number of words, and one more: the count comes after the digits.
+#[test]
+fn many(rt: HostRuntime) -> Result<(), Fail> {
+    let alloc = rt.alloc();
+    let Evidence::Words { words, .. } = read_evidence(
+        alloc,
+        many_words(alloc, 16384, "'0'")?.as_bytes(),
+    )?;
+    assert_eq!(rt; words.as_slice().len(), 16384);
+    let above = many_words(alloc, 16385, "'0'")?;
+    assert_refused(&rt, alloc, above.as_bytes(), FileFault::Size(16385));
+    let wrong = many_words(alloc, 16385, "'2'")?;
+    assert_refused(&rt, alloc, wrong.as_bytes(), FileFault::Digits(16384));
+    Ok(())
+}
+
+/// The keys of the fields.
+#[test]
+fn field_texts(rt: HostRuntime) {
+    let texts = [
+        (FieldName::N, "n"),
+        (FieldName::D, "d"),
+        (FieldName::Words, "words"),
+    ];
+    for (name, text) in texts {
+        assert_eq!(rt; name.text(), text);
+    }
+    assert_eq!(rt; MAX_DOCUMENT, 4194304);
 }

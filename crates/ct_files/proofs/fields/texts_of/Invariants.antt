@@ -2,7 +2,7 @@ use Rattle.std.proofs.Common.{◌≡◌, ◌++◌, drop, option_map}
 use Rattle.toml.specs.View.{items_view}
 use Rattle.ct_files.specs.Reads.{texts_behind}
 use Rattle.ct_files.specs.Fields.{texts_of}
-use Rattle.ct_files.proofs.document.texts_of.Given as goal
+use Rattle.ct_files.proofs.fields.texts_of.Given as goal
 
 abbrev pub invariant-loop-value : goal.invariant-loop-value
 invariant-loop-value l =
