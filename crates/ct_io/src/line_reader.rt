@@ -1,7 +1,8 @@
-ghost use Rattle.std.specs.Prelude.{◌≡◌, ℕ, ◌<◌, ◌≤◌, ◌⊎◌, Option, true, false, [], IfOk, OnOk, OnErr, length, max};
+ghost use Rattle.std.specs.Prelude.{◌≡◌, ℕ, ◌+◌, ◌<◌, ◌≤◌, ◌⊎◌, Option, true, false, [], IfOk, OnOk, OnErr, length, max};
 ghost use Rattle.std.specs.Io.KnownBytes.{IsAtEnd, Keeps};
 ghost use Rattle.ct_io.specs.Faults.{Rose};
-ghost use Rattle.ct_io.specs.Reader.{fresh_reader, input_of, IfLine, IfNoLine, LosesLine, LosesFirstLine, NeedsNoRead, Takes, lasting_fault};
+ghost use Rattle.ct_io.specs.Reader.{fresh_reader, input_of, IfLine, IfNoLine, IsLineThenRead, LosesLine, LosesFirstLine, NeedsNoRead, Takes, lasting_fault};
+ghost use Rattle.ct_lines.specs.Lines.{IsLine};
 
 use crate::intake::Intake;
 use crate::line_fault::LineFault;
@@ -28,7 +29,7 @@ impl Model for LineReader {
 
     ghost view = { reader_of };
 
-    ghost invariant = { λ r. IsSettled r.intake.taken r.fault };
+    ghost invariant = { λ r. IsSettled r.intake.held r.intake.taken r.fault };
 }
 
 impl LineReader {
@@ -83,6 +84,10 @@ impl LineReader {
         ensures too_long { (t : ℕ) → result ≡ Err (LineFault.TooLong t)
             → (t ≡ self.new.taken) × (MAX_INPUT < t) }
         ensures within { OnOk result (self.new.taken ≤ MAX_INPUT) }
+        ensures one_read_past { self.new.taken ≤ MAX_INPUT + MAX_READ }
+        ensures no_line_held { result ≡ Err LineFault.ReadFault → IsLine self.new.held }
+        ensures last_read { (t : ℕ) → result ≡ Err (LineFault.TooLong t)
+            → IsLineThenRead self.new.held }
         ensures above_limit { MAX_INPUT < self.new.taken
             → result ≡ Err (LineFault.TooLong self.new.taken) }
         ensures remembered { self.new.fault ≡ lasting_fault result }
