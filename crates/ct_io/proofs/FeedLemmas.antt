@@ -1,10 +1,10 @@
 -- Where the first line feed of some bytes is.
 use Rattle.std.proofs.Common.{◌≡◌, ◌≢◌, ℕ, ◌+◌, ◌<◌, ◌≤◌, Bool, true, false, cond, not, List, ◌∷◌, ◌++◌, Some, None, inl, inr, refl, sym, subst, ap, ◌∙◌, length, take, drop, get_or, arith, length-drop, length-take, ltb}
-use Rattle.std.specs.List.{position, position_or_len, slice_get}
+use Rattle.std.specs.List.{position, position_or_len, slice_get, Contains}
 use Rattle.std.proofs.Math.Seq.{take-add}
 use Rattle.std.proofs.lemmas.Bool.{eqb-true, eqb-false, ltb-false}
 use Rattle.std.proofs.lemmas.List.{get_or-take, get_or-drop, take-append-drop, drop-drop, drop_more}
-use Rattle.std.proofs.lemmas.List.Elements.{All-append, All-from_get_or}
+use Rattle.std.proofs.lemmas.List.Elements.{All-append, All-from_get_or, Contains-get_or}
 use Rattle.std.proofs.lemmas.List.Quantifiers.{position-Some}
 use Rattle.std.proofs.lemmas.List.Sums.{prefix_len_passes}
 use Rattle.std.proofs.lemmas.Option.{slice_get-get_or, get_or_from_slice_get, slice_get_cases}
@@ -74,6 +74,11 @@ inside_from_slice_get bytes place b e =
       | inl found ↦ found.1
       | inr past ↦ let none : slice_get bytes place ≡ None = past.1 in cc
     ]
+
+-- a line feed at a place is among the bytes
+pub Contains-feed : (bytes : List ℕ) (place : ℕ) → slice_get bytes place ≡ Some LINE_FEED → Contains bytes LINE_FEED
+Contains-feed bytes place feed =
+    subst (Contains bytes) (get_or_from_slice_get bytes place LINE_FEED 0 feed) (Contains-get_or bytes place 0 (inside_from_slice_get bytes place LINE_FEED feed))
 
 -- what is held is a front, the byte after it, and what is held past that byte
 pub drop-around : (bytes : List ℕ) (start place b : ℕ) → slice_get (drop start bytes) place ≡ Some b

@@ -1,6 +1,6 @@
 -- Bytes that come to a reader in several reads.
-use Rattle.std.proofs.Common.{◌≡◌, ℕ, ◌+◌, ◌≤◌, true, false, length, List, ◌++◌, Option, inl, inr, refl, sym, subst, ap, ◌∙◌, eqb, length-append, append_assoc, arith}
-use Rattle.std.specs.List.{Contains}
+use Rattle.std.proofs.Common.{◌≡◌, ℕ, ◌+◌, ◌≤◌, ◌↔◌, Bool, true, false, IsTrue, length, List, ◌++◌, Option, Some, None, IfSome, IfNone, is_some, inl, inr, refl, sym, subst, ap, ◌∙◌, eqb, length-append, append_assoc, arith}
+use Rattle.std.specs.List.{Contains, slice_get}
 use Rattle.std.specs.Io.KnownBytes.{Consumes, IsAtEnd}
 use Rattle.std.proofs.KnownBytes.{Consumes-trans}
 use Rattle.std.proofs.lemmas.Bool.{eqb-true}
@@ -12,7 +12,7 @@ use Rattle.ct_io.specs.Filling.{FillsBy}
 use Rattle.ct_io.specs.Intake.{Gathers}
 use Rattle.ct_lines.specs.Lines.{IsLine}
 use Rattle.ct_io.specs.Reader.{NeedsNoRead}
-use Rattle.ct_io.proofs.FeedLemmas.{IsNoFeed}
+use Rattle.ct_io.proofs.FeedLemmas.{IsNoFeed, Contains-feed}
 
 -- what holds after any number of reads
 pub record IsGathering (old new : Intake) (before after : Option (List ℕ)) (faults faults' : ℕ) : Type 0 where
@@ -43,6 +43,15 @@ IsGathering-more old mid new before between after f g h n so_far going filled ta
       within = within;
       counted = omega (arith, so_far.counted);
     }
+
+-- a search for a line feed tells whether a read is needed, where the end was not seen
+pub NeedsNoRead-found : (held : List ℕ) (ended : Bool) (place : Option ℕ) → ended ≡ false → IfSome place (λ n. slice_get held n ≡ Some LINE_FEED) → IfNone place (IsLine held)
+    → IsTrue (is_some place) ↔ NeedsNoRead held ended
+NeedsNoRead-found held ended (Some n) going feed none = (λ _. inl (Contains-feed held n feed), λ _. refl)
+NeedsNoRead-found held ended None going feed none = (
+  λ found. cc,
+  λ ready. absurd (elim ready [ inl has ↦ All-contains IsNoFeed held LINE_FEED none has refl | inr was ↦ cc ]),
+)
 
 -- a read comes only where it is needed
 pub needs_read : (old mid : Intake) (before between : Option (List ℕ)) → Gathers old mid before between → IsLine mid.held → mid.ended ≡ false → NeedsNoRead old.held old.ended → ⊥

@@ -3,3 +3,4 @@ pub mod FaultsLemmas
 mod FeedLemmas
 mod IntakeLemmas
 pub mod ReaderLemmas
+pub mod ToldLemmas

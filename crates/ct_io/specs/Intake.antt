@@ -7,7 +7,7 @@ use Rattle.ct_io.specs.declared.line_fault.LineFault.{LineFault}
 use Rattle.ct_io.specs.declared.line_fault.LineFault.TheVariants.{ReadFault, TooLong, Memory}
 use Rattle.ct_io.specs.Faults.{Rose}
 use Rattle.ct_lines.specs.Lines.{IsLine}
-use Rattle.ct_io.specs.Reader.{Answer, Divides}
+use Rattle.ct_io.specs.Reader.{Answer, Divides, IsLineThenRead}
 
 -- bytes were taken, counted and put after those held, and the end was seen only where none is left
 abbrev pub Gathers : Intake → Intake → Option (List ℕ) → Option (List ℕ) → Type 0
@@ -16,10 +16,10 @@ Gathers old new before after =
     × (old.ended ≡ false → new.ended ≡ true → IsAtEnd after) × (old.ended ≡ true → new.ended ≡ true)
 
 -- why no line comes: a fault of the source, too many bytes, or no memory
-abbrev pub IsFaultAt : ℕ → ℕ → ℕ → LineFault → Type 0
-IsFaultAt taken old new ReadFault = Rose old new × (taken ≤ MAX_INPUT)
-IsFaultAt taken old new (TooLong t) = (t ≡ taken) × (MAX_INPUT < taken)
-IsFaultAt taken old new Memory = taken ≤ MAX_INPUT
+abbrev pub IsFaultAt : List ℕ → ℕ → ℕ → ℕ → LineFault → Type 0
+IsFaultAt held taken old new ReadFault = Rose old new × (taken ≤ MAX_INPUT) × IsLine held
+IsFaultAt held taken old new (TooLong t) = (t ≡ taken) × (MAX_INPUT < taken) × (taken ≤ MAX_INPUT + MAX_READ) × IsLineThenRead held
+IsFaultAt held taken old new Memory = taken ≤ MAX_INPUT
 
 -- bytes were taken and counted, they and those held are divided into the answer and the bytes still held, and the end was seen only where none is left
 abbrev pub Passes : Intake → Intake → Option (List ℕ) → Option (List ℕ) → Answer → Type 0
@@ -29,4 +29,4 @@ Passes old new before after answer =
 
 -- a read came only where no line was held: the bytes are those of before, or those of one read after bytes without a line feed
 abbrev pub LooksFirst : List ℕ → List ℕ → Type 0
-LooksFirst old now = (now ≡ old) ⊎ ((front last : List ℕ) × (now ≡ front ++ last) × IsLine front × (length last ≤ MAX_READ))
+LooksFirst old now = (now ≡ old) ⊎ IsLineThenRead now

@@ -1,11 +1,12 @@
 -- What a line reader holds and has done, and what one call does.
-use Rattle.std.specs.Prelude.{◌≡◌, ℕ, ◌+◌, Bool, true, false, List, [], ◌∷◌, ◌++◌, ◌⊎◌, length, Contains, Option, Some, None, Result, Ok, Err, Vec, ⊤, if◌then◌else◌}
+use Rattle.std.specs.Prelude.{◌≡◌, ℕ, ◌+◌, ◌≤◌, Bool, true, false, List, [], ◌∷◌, ◌++◌, ◌⊎◌, length, Contains, Option, Some, None, Result, Ok, Err, Vec, ⊤, if◌then◌else◌}
 use Rattle.std.specs.declared.alloc.Global.{Global}
 use Rattle.std.specs.Io.KnownBytes.{prepend_known, Consumes}
 use Rattle.ct_lines.specs.declared.TheConstants.{LINE_FEED}
+use Rattle.ct_io.specs.declared.TheConstants.{MAX_READ}
 use Rattle.ct_io.specs.declared.line_fault.LineFault.{LineFault}
 use Rattle.ct_io.specs.declared.line_fault.LineFault.TheVariants.{ReadFault, TooLong, Memory}
-use Rattle.ct_lines.specs.Lines.{lines_of, IsNextLine}
+use Rattle.ct_lines.specs.Lines.{lines_of, IsLine, IsNextLine}
 
 -- a line reader: the bytes that it holds, how many it took, whether the end of the input was seen, and the fault that it stays with
 pub record Reader : Type 0 where
@@ -25,6 +26,10 @@ input_of r left = if r.ended then Some r.held else prepend_known r.held left
 -- a call has no need to read: a whole line is held, or the end was seen
 abbrev pub NeedsNoRead : List ℕ → Bool → Type 0
 NeedsNoRead held ended = Contains held LINE_FEED ⊎ (ended ≡ true)
+
+-- bytes without a line feed, and after them those of one read at most
+abbrev pub IsLineThenRead : List ℕ → Type 0
+IsLineThenRead held = (front last : List ℕ) × (held ≡ front ++ last) × IsLine front × (length last ≤ MAX_READ)
 
 -- the answer of a call
 abbrev pub Answer : Type 0

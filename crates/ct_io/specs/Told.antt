@@ -1,5 +1,5 @@
 -- What a source and a sink tell of their bytes before and after.
-use Rattle.std.specs.Prelude.{◌≡◌, ◌≤◌, ◌<◌, ◌+◌, ℕ, ⊤, List, ◌++◌, length, Option, Some, None}
+use Rattle.std.specs.Prelude.{◌≡◌, ◌≢◌, ◌≤◌, ◌<◌, ◌+◌, ℕ, ⊤, List, [], ◌++◌, length, Option, Some, None}
 use Rattle.std.specs.Io.KnownBytes.{Appends}
 use Rattle.ct_io.specs.declared.TheConstants.{MAX_INPUT}
 
@@ -21,3 +21,7 @@ IsWithinLimit (Some input) = length input ≤ MAX_INPUT
 -- known bytes grow by a prefix of the text: by all of it, a part from its beginning on, or nothing
 abbrev pub AppendsPrefix : Option (List ℕ) → Option (List ℕ) → List ℕ → Type 0
 AppendsPrefix old new text = (front back : List ℕ) × (text ≡ front ++ back) × Appends old new front
+
+-- known bytes grow by a proper prefix of the text: by a part from its beginning on, or nothing, and some of it is left
+abbrev pub AppendsProperPrefix : Option (List ℕ) → Option (List ℕ) → List ℕ → Type 0
+AppendsProperPrefix old new text = (front back : List ℕ) × (text ≡ front ++ back) × (back ≢ []) × Appends old new front

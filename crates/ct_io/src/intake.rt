@@ -58,7 +58,7 @@ impl Intake {
         ensures unread { NeedsNoRead self.old.held self.old.ended
             → (self.new.taken ≡ self.old.taken) × (source.new ≡ source.old) }
         ensures within { OnOk result (self.new.taken ≤ MAX_INPUT) }
-        ensures fault { IfErr result (IsFaultAt self.new.taken (S.faults source.old)
+        ensures fault { IfErr result (IsFaultAt self.new.held self.new.taken (S.faults source.old)
             (S.faults source.new)) }
         ensures counted { S.faults source.old ≤ S.faults source.new }
     {
@@ -89,7 +89,7 @@ impl Intake {
         ensures unread { NeedsNoRead self.old.held self.old.ended
             → (self.new.taken ≡ self.old.taken) × (source.new ≡ source.old) }
         ensures within { OnOk result (self.new.taken ≤ MAX_INPUT) }
-        ensures fault { IfErr result (IsFaultAt self.new.taken (S.faults source.old)
+        ensures fault { IfErr result (IsFaultAt self.new.held self.new.taken (S.faults source.old)
             (S.faults source.new)) }
         ensures counted { S.faults source.old ≤ S.faults source.new }
     {

@@ -1,7 +1,8 @@
-ghost use Rattle.std.specs.Prelude.{◌≡◌, ℕ, ◌<◌, ◌≤◌, ◌⊎◌, Option, true, false, [], IfOk, OnOk, OnErr, length, max};
+ghost use Rattle.std.specs.Prelude.{◌≡◌, ℕ, ◌+◌, ◌<◌, ◌≤◌, ◌⊎◌, ◌↔◌, IsTrue, Option, true, false, [], IfOk, OnOk, OnErr, length, max};
 ghost use Rattle.std.specs.Io.KnownBytes.{IsAtEnd, Keeps};
 ghost use Rattle.ct_io.specs.Faults.{Rose};
-ghost use Rattle.ct_io.specs.Reader.{fresh_reader, input_of, IfLine, IfNoLine, LosesLine, LosesFirstLine, NeedsNoRead, Takes, lasting_fault};
+ghost use Rattle.ct_io.specs.Reader.{fresh_reader, input_of, IfLine, IfNoLine, IsLineThenRead, LosesLine, LosesFirstLine, NeedsNoRead, Takes, lasting_fault};
+ghost use Rattle.ct_lines.specs.Lines.{IsLine};
 
 use crate::intake::Intake;
 use crate::line_fault::LineFault;
@@ -28,7 +29,7 @@ impl Model for LineReader {
 
     ghost view = { reader_of };
 
-    ghost invariant = { λ r. IsSettled r.intake.taken r.fault };
+    ghost invariant = { λ r. IsSettled r.intake.held r.intake.taken r.fault };
 }
 
 impl LineReader {
@@ -44,18 +45,30 @@ impl LineReader {
 
     /// How many bytes were taken from the source.
     pub fn taken(&self) -> u64
-        ensures { result ≡ self.now.taken }
+        ensures taken { result ≡ self.now.taken }
+        ensures one_read_past { result ≤ MAX_INPUT + MAX_READ }
     {
         self.intake.taken
+    }
+
+    /// Whether a whole line is held or the end of the input was seen, so that `next_line` reads
+    /// nothing. It reads nothing either, and bytes that were searched for a line feed in an earlier
+    /// call are not searched again.
+    pub fn holds_line(&mut self) -> bool
+        ensures ready { IsTrue result ↔ NeedsNoRead self.old.held self.old.ended }
+        ensures same { self.new ≡ self.old }
+    {
+        self.intake.ended || self.intake.held.line_length().is_some()
     }
 
     /// The next line, without its line feed. A last line without a line feed is a line where it
     /// isn't empty. `None` is the end: the input was read to its end, and no line is left.
     ///
-    /// It gives a whole line that it holds before it reads, and so it holds no more after a line than before, or than one
-    /// read gives. After `ReadFault` and after `TooLong`,
-    /// which comes exactly where more than `MAX_INPUT` bytes were taken, each further call answers
-    /// the same. After `Memory` the lines still to come are as before the call.
+    /// It gives a whole line that it holds before it reads, and so it holds no more after a line
+    /// than before, or than one read gives. After `ReadFault`, where it holds no whole line, and
+    /// after `TooLong`, which comes exactly where more than `MAX_INPUT` bytes were taken, and at most
+    /// one read more, each further call answers the same. After `Memory` the lines still to come are
+    /// as before the call.
     pub fn next_line<S: Source>(&mut self, source: &mut S) -> Result<Option<Vec<u8>>, LineFault>
         // The input: its next line is taken off, or none is left, or all of it stays.
         ensures line { IfLine result (LosesLine (input_of self.old (S.left source.old))
@@ -83,6 +96,10 @@ impl LineReader {
         ensures too_long { (t : ℕ) → result ≡ Err (LineFault.TooLong t)
             → (t ≡ self.new.taken) × (MAX_INPUT < t) }
         ensures within { OnOk result (self.new.taken ≤ MAX_INPUT) }
+        ensures one_read_past { self.new.taken ≤ MAX_INPUT + MAX_READ }
+        ensures no_line_held { result ≡ Err LineFault.ReadFault → IsLine self.new.held }
+        ensures last_read { (t : ℕ) → result ≡ Err (LineFault.TooLong t)
+            → IsLineThenRead self.new.held }
         ensures above_limit { MAX_INPUT < self.new.taken
             → result ≡ Err (LineFault.TooLong self.new.taken) }
         ensures remembered { self.new.fault ≡ lasting_fault result }

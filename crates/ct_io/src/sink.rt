@@ -1,6 +1,7 @@
 ghost use Rattle.std.specs.Prelude.{ℕ, ◌<◌, ◌≤◌, List, Option, IfOk, OnOk, OnErr, length, take};
 ghost use Rattle.std.specs.Io.KnownBytes.{Appends, WriteAppends};
 ghost use Rattle.ct_io.specs.Faults.{Rose};
+ghost use Rattle.ct_io.specs.Told.{AppendsProperPrefix};
 
 use crate::failed::Failed;
 
@@ -23,13 +24,15 @@ pub trait Sink {
         ensures failed { OnErr result (Rose (faults self.old) (faults self.new)) };
 }
 
-/// Writes all of `bytes`, in as many calls of the sink as it takes. `Failed` comes only where the
-/// sink's count of faults rose in this call or stands at its last value, and then the sink has taken
-/// a prefix of the bytes. It takes no memory.
+/// Writes all of `bytes`, in as many calls of the sink as it takes: `Ok` where the sink took them
+/// all. `Failed` comes only where the sink's count of faults rose in this call or stands at its last
+/// value, and then the sink has taken a prefix of the bytes, and some are left. It takes no memory.
 pub fn write_all<K: Sink>(sink: &mut K, bytes: &[u8]) -> Result<(), Failed>
     ensures written { OnOk result (Appends (K.holds sink.old) (K.holds sink.new) bytes.now) }
     ensures prefix { OnErr result ((n : ℕ) × (n ≤ length bytes.now)
         × Appends (K.holds sink.old) (K.holds sink.new) (take n bytes.now)) }
+    ensures unwritten { OnErr result
+        (AppendsProperPrefix (K.holds sink.old) (K.holds sink.new) bytes.now) }
     ensures failed { OnErr result (Rose (K.faults sink.old) (K.faults sink.new)) }
     ensures counted { K.faults sink.old ≤ K.faults sink.new }
 {
