@@ -11,7 +11,7 @@ mod line;
 mod number;
 mod text;
 
-pub use append::{put_entry, put_number, put_spaced};
+pub use append::{put_entry, put_entry_words, put_number, put_spaced};
 pub use entry_numbers::{EntryNumbers, parse_entry_numbers};
 pub use gathering::{Extent, Gathered, Gathering};
 pub use id::{Id, MAX_ID};

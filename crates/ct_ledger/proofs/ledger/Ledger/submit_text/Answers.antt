@@ -1,0 +1,29 @@
+use Rattle.std.proofs.Common.{rules, ◌≡◌, ◌≤◌, ◌+◌, ap, sym, ◌∙◌, subst, length, ℕ, List}
+use Rattle.std.proofs.lemmas.List.Sums.{sum_by_push}
+use Rattle.ct_ledger.specs.Piece.{PieceValue, stored_by, stored_words}
+use Rattle.ct_ledger.specs.Ledger.{LedgerValue}
+use Rattle.ct_ledger.specs.Standing.{AreStanding}
+use Rattle.ct_ledger.specs.declared.limits.TheConstants.{MAX_STORED}
+use Rattle.ct_ledger.proofs.StandingLemmas.{submitted-beside, AreStanding-made}
+use Rattle.ct_ledger.proofs.ledger.Ledger.submit_text.Goals as goal
+
+pub returns-in_err-stored-clause-fault : goal.returns-in_err-stored-clause-fault
+returns-in_err-stored-clause-fault c =
+    let pieces = ap (λ (l : LedgerValue). l.pieces) c.self.view_is in
+    let free = rw (c.deref.ensures.value, pieces) at c.in_ok-room_for.ensures.free in
+    let room = rw (c.deref.ensures.value, pieces) at c.in_ok-room_for.ensures.room in
+    let stored = c.self.invariant.1 ∙ ap stored_words pieces in
+    let beside = submitted-beside c.args.self.now.pieces c.args.id c.args.document c.in_ok-piece.piece free room c.in_ok-piece.ensures.made in
+    let full = rw stored at c.in_err-stored.ensures.fault in
+    search rules
+
+pub invariant_of-self-2 : goal.invariant_of-self-2
+invariant_of-self-2 c =
+    let items = c.self.inside.pieces.items in
+    let p = c.in_ok-piece.piece in
+    let free = rw c.deref.ensures.value at c.in_ok-room_for.ensures.free in
+    let room = rw c.deref.ensures.value at c.in_ok-room_for.ensures.room in
+    let total : c.in_ok-stored.stored ≡ stored_words items + stored_by p.evidence = c.in_ok-stored.ensures.total.0 ∙ ap (λ (s : ℕ). s + stored_by p.evidence) c.self.invariant.1 in
+    let small : stored_words items + stored_by p.evidence ≤ MAX_STORED = subst (λ (t : ℕ). t ≤ MAX_STORED) total c.in_ok-stored.ensures.total.1 in
+    let made = AreStanding-made items c.args.id c.args.document p c.self.invariant.0 c.in_ok-piece.ensures.made free room small in
+    rw c.in_ok-push.ensures.items (made, total ∙ sym (sum_by_push (λ (q : PieceValue). stored_by q.evidence) items p))

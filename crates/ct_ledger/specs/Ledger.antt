@@ -1,0 +1,16 @@
+-- A ledger, and what a submission adds to it.
+use Rattle.std.specs.Prelude.{◌≡◌, ℕ, List, [], ◌∷◌, ◌++◌, Option, Ok}
+use Rattle.ct_ledger.specs.Piece.{PieceValue}
+use Rattle.ct_ledger.specs.Submission.{submitted}
+
+-- a ledger: the pieces that stand, in the order in which they were accepted, and how many words they store
+pub record LedgerValue : Type 0 where
+  pub pieces : List PieceValue
+  pub stored : ℕ
+
+-- the submission made a piece, whose size is answered, and the pieces are those of before and this one after them
+pub record AddsPiece (old new : List PieceValue) (id document : List ℕ) (size : Option ℕ) : Type 0 where
+  pub piece : PieceValue
+  pub made : submitted old id document ≡ Ok piece
+  pub pieces : new ≡ old ++ piece ∷ []
+  pub answer : size ≡ piece.size

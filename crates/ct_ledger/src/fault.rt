@@ -1,0 +1,58 @@
+//! Why a submission or a withdrawal is refused.
+
+ghost use Rattle.std.specs.Prelude.{◌≡◌};
+
+use ct_codes::CodeFault;
+use ct_files::FileFault;
+use ct_text::Id;
+use std::alloc::{AllocError, AllocFailed};
+
+/// Why a submission makes no piece: the first of these that holds, in this order.
+#[derive(Clone, Copy, Debug)]
+pub enum SubmitFault {
+    /// A standing piece has the id.
+    Taken,
+    /// So many pieces stand that there is no room for another: `MAX_PIECES`.
+    FullPieces(u64),
+    /// The document is not read. The fault is never want of memory.
+    File(FileFault),
+    /// The words are no code of the entry. The fault is never want of memory.
+    Code(CodeFault),
+    /// With the piece so many words would be stored, which is more than `MAX_STORED`.
+    FullWords(u64),
+    /// Memory ran out.
+    Memory,
+}
+
+impl From<AllocError> for SubmitFault {
+    ghost use Rattle.std.specs.Prelude.{◌≡◌};
+    ghost use Rattle.ct_ledger.specs.declared.fault.SubmitFault.TheVariants.{Memory};
+
+    ghost from_gives = { λ _ e. e ≡ Memory };
+
+    fn from(_error: AllocError) -> SubmitFault {
+        SubmitFault::Memory
+    }
+}
+
+impl<T: Drop> From<AllocFailed<T>> for SubmitFault {
+    ghost use Rattle.std.specs.Prelude.{◌≡◌};
+    ghost use Rattle.ct_ledger.specs.declared.fault.SubmitFault.TheVariants.{Memory};
+
+    ghost from_gives = { λ _ e. e ≡ Memory };
+
+    fn from(_error: AllocFailed<T>) -> SubmitFault {
+        SubmitFault::Memory
+    }
+}
+
+/// Why a piece is not withdrawn.
+#[derive(Clone, Copy, Debug)]
+pub enum WithdrawFault {
+    /// No piece has the id.
+    NoSuch,
+    /// The first standing piece that names it.
+    InUse(Id),
+    /// Memory ran out.
+    Memory,
+}

@@ -1,0 +1,215 @@
+//! The ledger.
+
+ghost use Rattle.std.specs.Prelude.{◌≡◌, ◌≢◌, ◌≤◌, ◌<◌, ◌+◌, ◌^◌, ◌∷◌, ◌++◌, Result, Ok, Err, false, IfOk, IfErr, IfNone, OnOk, OnErr, [], All, filter, find, length, not, option_map};
+ghost use Rattle.std.specs.Str.{bytes_eq};
+ghost use Rattle.ct_files.specs.Evidence.{read_of};
+ghost use Rattle.ct_ledger.specs.Piece.{PieceValue, has_id, stored_by, stored_words, names, first_user};
+ghost use Rattle.ct_ledger.specs.Submission.{submitted, piece_from, if_stored, unless_full};
+ghost use Rattle.ct_ledger.specs.declared.fault.SubmitFault.{SubmitFault};
+ghost use Rattle.ct_ledger.specs.Withdrawal.{withdrawn, without};
+ghost use Rattle.ct_ledger.specs.Standing.{AreStanding, HasTrueSize};
+ghost use Rattle.ct_ledger.specs.Ledger.{AddsPiece};
+ghost use Rattle.ct_ledger.specs.Dump.{dump_text};
+
+use crate::check::check_document;
+use crate::dump::put_dump;
+use crate::fault::{SubmitFault, WithdrawFault};
+use crate::limits::{MAX_PIECES, MAX_STORED};
+use crate::piece::Piece;
+use ct_files::Evidence;
+use ct_text::{Id, Text};
+use std::alloc::{AllocError, Global};
+use std::marker::Model;
+
+/// The pieces of evidence that were accepted and not withdrawn, in the order in which they were accepted. Contracts see
+/// the list of the pieces and the number of words that they store.
+#[derive(Debug, Drop)]
+pub struct Ledger {
+    pieces: Vec<Piece>,
+    stored: u64,
+}
+
+impl Model for Ledger {
+    ghost use Rattle.std.specs.Prelude.{◌≡◌};
+    ghost use Rattle.ct_ledger.specs.Piece.{stored_words};
+    ghost use Rattle.ct_ledger.specs.Standing.{AreStanding};
+    ghost use Rattle.ct_ledger.specs.Ledger.{LedgerValue};
+
+    ghost Value = { LedgerValue };
+
+    ghost view = { λ l. record { pieces = l.pieces.items; stored = l.stored } };
+
+    ghost invariant = { λ l. AreStanding l.pieces.items × (l.stored ≡ stored_words l.pieces.items) };
+}
+
+/// How many words the evidence stores.
+fn stored_by(evidence: &Evidence) -> u64
+    ensures words { result ≡ stored_by evidence.now }
+    ensures bound { result < 2 ^ 63 }
+{
+    match evidence {
+        Evidence::Words { words, .. } => words.as_slice().len() as u64,
+    }
+}
+
+/// Whether a piece has the id.
+fn has_id(pieces: &[Piece], id: Id) -> bool
+    ensures { result ≡ has_id id pieces.now }
+{
+    pieces.iter().any(|piece| piece.id() == id)
+}
+
+/// How many words are stored with the piece beside so many others, or that they are too many.
+fn stored_with(stored: u64, piece: &Piece) -> Result<u64, SubmitFault>
+    requires { stored ≤ MAX_STORED }
+    ensures total { IfOk result (λ total. (total ≡ stored + stored_by piece.now.evidence) × (total ≤ MAX_STORED)) }
+    ensures room { IfOk result (λ _. if_stored (stored + stored_by piece.now.evidence) piece.now ≡ Ok piece.now) }
+    ensures fault { IfErr result (λ fault. if_stored (stored + stored_by piece.now.evidence) piece.now ≡ Err fault) }
+{
+    let total = stored + stored_by(piece.evidence());
+    if total > MAX_STORED {
+        return Err(SubmitFault::FullWords(total));
+    }
+    Ok(total)
+}
+
+/// The first piece that names the id.
+fn first_user(pieces: &[Piece], id: Id) -> Option<Id>
+    ensures { result ≡ option_map (λ p. p.id) (first_user id pieces.now) }
+{
+    pieces
+        .iter()
+        .find(|piece| names(piece.evidence(), id))
+        .map(|piece| piece.id())
+}
+
+/// Whether the evidence names the piece of this id as a part of its own.
+fn names(evidence: &Evidence, _id: Id) -> bool
+    ensures { result ≡ names evidence.now _id }
+{
+    match evidence {
+        Evidence::Words { .. } => false,
+    }
+}
+
+/// Takes out the pieces with the id.
+fn take_out(pieces: &mut Vec<Piece>, id: Id)
+    ensures { pieces.new.items ≡ without id pieces.old.items }
+{
+    pieces.retain(|piece| !(piece.id() == id));
+}
+
+/// How many words the pieces store.
+fn stored_by_all(pieces: &[Piece]) -> u64
+    requires { stored_words pieces.now ≤ MAX_STORED }
+    ensures { result ≡ stored_words pieces.now }
+{
+    let mut total = 0;
+    for piece in pieces {
+        total += stored_by(piece.evidence());
+    }
+    total
+}
+
+/// Whether there is room for one more piece, of this id.
+fn room_for(pieces: &[Piece], id: Id) -> Result<(), SubmitFault>
+    ensures free { OnOk result (has_id id pieces.now ≡ false) }
+    ensures room { OnOk result (length pieces.now < MAX_PIECES) }
+    ensures fault { IfErr result (λ fault. (made : Result PieceValue SubmitFault)
+        → unless_full (has_id id pieces.now) (length pieces.now) made ≡ Err fault) }
+{
+    if has_id(pieces, id) {
+        return Err(SubmitFault::Taken);
+    }
+    if pieces.len() >= MAX_PIECES {
+        return Err(SubmitFault::FullPieces(pieces.len() as u64));
+    }
+    Ok(())
+}
+
+impl Ledger {
+    /// A ledger without pieces. `Err` is want of memory.
+    pub fn new(alloc: Global) -> Result<Ledger, AllocError>
+        ensures { IfOk result (λ ledger. ledger ≡ record { pieces = []; stored = 0 }) }
+    {
+        Ok(Ledger {
+            pieces: Vec::new(alloc),
+            stored: 0,
+        })
+    }
+
+    /// The pieces that stand, in the order in which they were accepted.
+    pub fn pieces(&self) -> &[Piece]
+        ensures pieces { result.now ≡ self.now.pieces }
+        ensures standing { AreStanding self.now.pieces }
+        ensures sizes { All HasTrueSize self.now.pieces }
+    {
+        &self.pieces
+    }
+
+    /// How many words the pieces store: those of their documents.
+    pub fn stored(&self) -> u64
+        ensures stored { result ≡ self.now.stored }
+        ensures sum { result ≡ stored_words self.now.pieces }
+    {
+        self.stored
+    }
+
+    /// Takes a document under an id, which it keeps byte for byte: the size of its code, where it is accepted. Else it gives
+    /// the first fault, and the ledger is as before.
+    pub fn submit(&mut self, id: Id, document: &[u8]) -> Result<Option<u32>, SubmitFault>
+        ensures accepted { IfOk result (AddsPiece self.old.pieces self.new.pieces id document.now) }
+        ensures fault { IfErr result (λ fault. fault ≢ SubmitFault.Memory
+            → submitted self.old.pieces id document.now ≡ Err fault) }
+        ensures unchanged { OnErr result (self.new ≡ self.old) }
+    {
+        let text = Text::copied(*self.pieces.allocator(), document)?;
+        self.submit_text(id, text)
+    }
+
+    /// `submit` of a document that is handed over, and so is not copied.
+    #[tactic(auto, unfolding(crate::specs::Submission::submitted))]
+    pub fn submit_text(&mut self, id: Id, document: Text) -> Result<Option<u32>, SubmitFault>
+        ensures accepted { IfOk result (AddsPiece self.old.pieces self.new.pieces id document) }
+        ensures fault { IfErr result (λ fault. fault ≢ SubmitFault.Memory
+            → submitted self.old.pieces id document ≡ Err fault) }
+        ensures unchanged { OnErr result (self.new ≡ self.old) }
+    {
+        room_for(&self.pieces, id)?;
+        let piece = check_document(*self.pieces.allocator(), id, document)?;
+        let stored = stored_with(self.stored, &piece)?;
+        let size = piece.size();
+        self.pieces.push(piece)?;
+        self.stored = stored;
+        Ok(size)
+    }
+
+    /// Takes the piece of the id out. `NoSuch` comes exactly where no piece has it, and `InUse` where another names it. After an
+    /// `Err` the ledger is as before.
+    #[tactic(auto, unfolding(crate::specs::Withdrawal::withdrawn))]
+    pub fn withdraw(&mut self, id: Id) -> Result<(), WithdrawFault>
+        ensures left { OnOk result (withdrawn self.old.pieces id ≡ Ok self.new.pieces) }
+        ensures fault { IfErr result (λ fault. fault ≢ WithdrawFault.Memory
+            → withdrawn self.old.pieces id ≡ Err fault) }
+        ensures unchanged { OnErr result (self.new ≡ self.old) }
+    {
+        if !has_id(&self.pieces, id) {
+            return Err(WithdrawFault::NoSuch);
+        }
+        if let Some(user) = first_user(&self.pieces, id) {
+            return Err(WithdrawFault::InUse(user));
+        }
+        take_out(&mut self.pieces, id);
+        self.stored = stored_by_all(&self.pieces);
+        Ok(())
+    }
+
+    /// The dump of the pieces: a session whose commands lead to them, with their own documents. `Err` is want of memory.
+    pub fn dump(&self, alloc: Global) -> Result<Vec<u8>, AllocError>
+        ensures { IfOk result (λ text. text.items ≡ dump_text self.now.pieces) }
+    {
+        let mut text = Vec::new(alloc);
+        put_dump(alloc, &mut text, &self.pieces)?;
+        Ok(text)
+    }
+}

@@ -1,0 +1,16 @@
+//! The ledger: the pieces of evidence that were accepted and not withdrawn, how a piece comes and goes, and the texts of
+//! refusals.
+#![tactic(auto)]
+
+mod check;
+mod dump;
+mod fault;
+mod ledger;
+mod limits;
+mod piece;
+mod text;
+
+pub use fault::{SubmitFault, WithdrawFault};
+pub use limits::{MAX_PIECES, MAX_STORED};
+pub use piece::Piece;
+pub use text::{submit_refusal, withdraw_refusal};
