@@ -2,6 +2,7 @@
 #![tactic(auto)]
 
 mod check;
+mod claim;
 mod code;
 mod entry;
 mod fault;
@@ -11,6 +12,7 @@ mod pairs;
 mod tests;
 
 pub use check::check_words;
+pub use claim::{Claim, Side};
 pub use code::{Code, MAX_CODE_DISTANCE};
 pub use entry::Entry;
 pub use fault::{CodeFault, MAX_WORDS};

@@ -11,6 +11,7 @@ mod piece;
 mod text;
 
 pub use fault::{SubmitFault, WithdrawFault};
+pub use ledger::Ledger;
 pub use limits::{MAX_PIECES, MAX_STORED};
 pub use piece::Piece;
 pub use text::{submit_refusal, withdraw_refusal};

@@ -1,6 +1,6 @@
 //! The texts of refusals and of the lines of a ledger.
 
-ghost use Rattle.std.specs.Prelude.{◌≡◌, ◌≢◌, ◌++◌, OnOk, IfOk, Err};
+ghost use Rattle.std.specs.Prelude.{◌≡◌, ◌++◌, OnOk, IfOk};
 ghost use Rattle.ct_text.specs.Number.{spaced};
 ghost use Rattle.ct_ledger.specs.Text.{code_fault_text, file_fault_text, submit_fault_text, withdraw_fault_text, kind_text, size_text, piece_text};
 
@@ -79,9 +79,8 @@ fn put_submit_fault(alloc: Global, text: &mut Vec<u8>, fault: SubmitFault) -> Re
     }
 }
 
-/// Why a submission is refused, in words: the fault, which is not want of memory. `Err` is want of memory.
+/// Why a submission is refused, in words; want of memory has none. `Err` is want of memory.
 pub fn submit_refusal(alloc: Global, fault: &SubmitFault) -> Result<Vec<u8>, AllocError>
-    requires { fault.now ≢ SubmitFault.Memory }
     ensures { IfOk result (λ text. text.items ≡ submit_fault_text fault.now) }
 {
     let mut text = Vec::new(alloc);
@@ -89,9 +88,8 @@ pub fn submit_refusal(alloc: Global, fault: &SubmitFault) -> Result<Vec<u8>, All
     Ok(text)
 }
 
-/// Why the piece of this id is not withdrawn, in words: the fault, which is not want of memory. `Err` is want of memory.
+/// Why the piece of this id is not withdrawn, in words; want of memory has none. `Err` is want of memory.
 pub fn withdraw_refusal(alloc: Global, id: Id, fault: &WithdrawFault) -> Result<Vec<u8>, AllocError>
-    requires { fault.now ≢ WithdrawFault.Memory }
     ensures { IfOk result (λ text. text.items ≡ withdraw_fault_text id fault.now) }
 {
     let mut text = Vec::new(alloc);

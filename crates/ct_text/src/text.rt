@@ -30,6 +30,13 @@ impl Text {
         }
     }
 
+    /// The text of these bytes.
+    pub fn from_vec(bytes: Vec<u8>) -> Text
+        ensures { result ≡ bytes.items }
+    {
+        Text { bytes }
+    }
+
     /// A copy of the bytes. `Err` is want of memory.
     pub fn copied(alloc: Global, bytes: &[u8]) -> Result<Text, AllocError>
         ensures { IfOk result (λ text. text ≡ bytes.now) }

@@ -1,0 +1,4 @@
+pub mod Bounds
+pub mod Text
+pub mod Reply
+pub mod Run

@@ -1,0 +1,32 @@
+-- A run of a session: what is written for an input.
+use Rattle.std.specs.Prelude.{◌≡◌, ℕ, ⊤, Bool, List, [], ◌∷◌, fold}
+use Rattle.std.specs.List.{flat_map, list_any}
+use Rattle.ct_lines.specs.Lines.{lines_of}
+use Rattle.ct_commands.specs.Command.{commands_of}
+use Rattle.ct_commands.specs.declared.command.Command.{Command}
+use Rattle.ct_ledger.specs.Piece.{PieceValue}
+use Rattle.ct_session.specs.Reply.{IsReply, pieces_after, is_refusal}
+use Rattle.ct_session.specs.Text.{reply_text}
+use Rattle.ct_session.specs.declared.reply.Reply.{Reply}
+
+-- the replies to the commands in order, one each, over the pieces that the commands before it left
+abbrev pub AreReplies : List PieceValue → List Command → List Reply → Type 0
+AreReplies pieces [] [] = ⊤
+AreReplies pieces [] (r ∷ rs) = ⊥
+AreReplies pieces (c ∷ cs) [] = ⊥
+AreReplies pieces (c ∷ cs) (r ∷ rs) = IsReply pieces c r × AreReplies (pieces_after pieces c) cs rs
+
+-- the text answers the commands over the pieces: it is the texts of replies to them, and the mark says whether one is a refusal
+pub record AnswersCommands (pieces : List PieceValue) (commands : List Command) (text : List ℕ) (refused : Bool) : Type 0 where
+  pub replies : List Reply
+  pub are : AreReplies pieces commands replies
+  pub texts : text ≡ flat_map reply_text replies
+  pub mark : refused ≡ list_any is_refusal replies
+
+-- a run of the session on an input: the output answers its commands, over no pieces to begin with; it is refused where a reply is a refusal
+abbrev pub IsRun : List ℕ → List ℕ → Bool → Type 0
+IsRun input output refused = AnswersCommands [] (commands_of (lines_of input)) output refused
+
+-- the pieces that stand after the commands of an input
+abbrev pub pieces_of : List ℕ → List PieceValue
+pieces_of input = fold pieces_after [] (commands_of (lines_of input))

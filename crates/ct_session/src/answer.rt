@@ -1,0 +1,107 @@
+//! Answers to commands over the pieces that stand.
+
+ghost use Rattle.std.specs.Prelude.{◌≡◌, All, Some, IfOk, OnOk, OnErr};
+ghost use Rattle.ct_codes.specs.Entry.{IsEntry};
+ghost use Rattle.ct_text.specs.EntryNumbers.{named_entry};
+ghost use Rattle.ct_ledger.specs.Standing.{HasTrueSize};
+ghost use Rattle.ct_ledger.specs.Submission.{submitted, with_piece};
+ghost use Rattle.ct_ledger.specs.Withdrawal.{withdrawn, left_by};
+ghost use Rattle.ct_session.specs.Reply.{IsReply, IsShown, IsShowReply, pieces_after, submission_reply, withdrawal_reply};
+
+use crate::bounds::{lower_bound, upper_bound};
+use crate::reply::{Bounds, Refusal, Reply};
+use crate::text::ledger_text;
+use ct_codes::Entry;
+use ct_commands::Command;
+use ct_ledger::{Ledger, Piece, SubmitFault, WithdrawFault};
+use ct_text::{EntryNumbers, Id, Text};
+use std::alloc::{AllocError, Global};
+
+/// The reply that shows the bounds of an entry of the table without weight.
+fn show_bounds(pieces: &[Piece], entry: Entry) -> Reply
+    requires sizes { All HasTrueSize pieces.now }
+    requires entry { IsEntry entry }
+    ensures { IsShown pieces.now entry result }
+{
+    Reply::Shown(Bounds {
+        entry,
+        lower: lower_bound(pieces, entry),
+        upper: upper_bound(pieces, entry),
+    })
+}
+
+/// The reply to `show`.
+fn show(pieces: &[Piece], numbers: EntryNumbers) -> Reply
+    requires { All HasTrueSize pieces.now }
+    ensures { IsShowReply pieces.now (named_entry numbers) result }
+{
+    let Some(entry) = numbers.entry() else {
+        return Reply::Refused(Refusal::NoEntry);
+    };
+    match entry.w {
+        None => show_bounds(pieces, entry),
+        Some(_) => Reply::Refused(Refusal::NoEntry),
+    }
+}
+
+/// Answers a submission: the reply, and the pieces after it. After an `Err`, which is want of memory, the ledger is as before.
+fn submit(ledger: &mut Ledger, id: Id, document: Text) -> Result<Reply, AllocError>
+    ensures reply { IfOk result (λ reply. reply ≡ submission_reply id (submitted ledger.old.pieces id document)) }
+    ensures pieces { OnOk result (ledger.new.pieces ≡ with_piece ledger.old.pieces (submitted ledger.old.pieces id document)) }
+    ensures unchanged { OnErr result (ledger.new ≡ ledger.old) }
+{
+    match ledger.submit_text(id, document) {
+        Ok(size) => Ok(Reply::Accepted(id, size)),
+        Err(SubmitFault::Memory) => Err(AllocError),
+        Err(fault) => Ok(Reply::Refused(Refusal::Submission(fault))),
+    }
+}
+
+/// Answers a submission, if its line is of a form of `submit`. After an `Err`, which is want of memory, the ledger is as before.
+fn submit_any(ledger: &mut Ledger, id: Option<Id>, document: Text) -> Result<Reply, AllocError>
+    ensures reply { IfOk result (IsReply ledger.old.pieces (Command.Submission id document)) }
+    ensures pieces { OnOk result (ledger.new.pieces ≡ pieces_after ledger.old.pieces (Command.Submission id document)) }
+    ensures unchanged { OnErr result (ledger.new ≡ ledger.old) }
+{
+    match id {
+        Some(id) => submit(ledger, id, document),
+        None => Ok(Reply::Refused(Refusal::NoCommand)),
+    }
+}
+
+/// Answers a withdrawal: the reply, and the pieces after it. After an `Err`, which is want of memory, the ledger is as before.
+fn withdraw(ledger: &mut Ledger, id: Id) -> Result<Reply, AllocError>
+    ensures reply { IfOk result (λ reply. reply ≡ withdrawal_reply id (withdrawn ledger.old.pieces id)) }
+    ensures pieces { OnOk result (ledger.new.pieces ≡ left_by ledger.old.pieces (withdrawn ledger.old.pieces id)) }
+    ensures unchanged { OnErr result (ledger.new ≡ ledger.old) }
+{
+    match ledger.withdraw(id) {
+        Ok(()) => Ok(Reply::Withdrawn(id)),
+        Err(WithdrawFault::Memory) => Err(AllocError),
+        Err(fault) => Ok(Reply::Refused(Refusal::Withdrawal(id, fault))),
+    }
+}
+
+/// Answers a command: the reply, and the pieces after it. After an `Err`, which is want of memory, the ledger is as before.
+pub(crate) fn answer(
+    alloc: Global,
+    ledger: &mut Ledger,
+    command: Command,
+) -> Result<Reply, AllocError>
+    ensures reply { IfOk result (IsReply ledger.old.pieces command) }
+    ensures pieces { OnOk result (ledger.new.pieces ≡ pieces_after ledger.old.pieces command) }
+    ensures unchanged { OnErr result (ledger.new ≡ ledger.old) }
+{
+    match command {
+        Command::Submission(id, document) => submit_any(ledger, id, document),
+        Command::CutOff => Ok(Reply::Refused(Refusal::CutOff)),
+        Command::Withdraw(id) => withdraw(ledger, id),
+        Command::Show(numbers) => Ok(show(ledger.pieces(), numbers)),
+        Command::Ledger => {
+            let lines = ledger_text(alloc, ledger.pieces())?;
+            Ok(Reply::Lines(Text::from_vec(lines)))
+        }
+        Command::Dump => Ok(Reply::Lines(Text::from_vec(ledger.dump(alloc)?))),
+        Command::Unknown => Ok(Reply::Refused(Refusal::NoCommand)),
+    }
+}

@@ -1,0 +1,116 @@
+//! The texts of replies.
+
+ghost use Rattle.std.specs.Prelude.{◌≡◌, ◌++◌, OnOk, OnErr, IfOk};
+ghost use Rattle.std.specs.List.{flat_map};
+ghost use Rattle.ct_ledger.specs.Text.{submit_fault_text, size_text, piece_text};
+ghost use Rattle.ct_session.specs.Text.{refusal_text, bounds_text, reply_text, ended, ledger_text};
+ghost use Rattle.ct_session.specs.declared.reply.Refusal.{Refusal};
+
+use crate::reply::{Bounds, Refusal, Reply};
+use ct_ledger::{Piece, submit_refusal, withdraw_refusal};
+use ct_lines::LINE_FEED;
+use ct_text::{put_entry, put_number, put_spaced};
+use std::alloc::{AllocError, Global};
+
+/// Puts at the end of the text why a command is refused.
+fn put_refusal(alloc: Global, text: &mut Vec<u8>, refusal: &Refusal) -> Result<(), AllocError>
+    ensures { OnOk result (text.new.items ≡ text.old.items ++ refusal_text refusal.now) }
+{
+    match refusal {
+        Refusal::CutOff => text.extend_from_slice(b"cut"),
+        Refusal::NoCommand => text.extend_from_slice(b"command"),
+        Refusal::NoEntry => text.extend_from_slice(b"entry"),
+        Refusal::Submission(fault) => text.extend_from_slice(&submit_refusal(alloc, fault)?),
+        Refusal::Withdrawal(id, fault) => {
+            text.extend_from_slice(&withdraw_refusal(alloc, *id, fault)?)
+        }
+    }
+}
+
+/// Puts the bounds of an entry at the end of the text.
+fn put_bounds(alloc: Global, text: &mut Vec<u8>, bounds: Bounds) -> Result<(), AllocError>
+    ensures { OnOk result (text.new.items ≡ text.old.items ++ bounds_text bounds) }
+{
+    if bounds.lower == bounds.upper {
+        put_entry(alloc, text, bounds.entry)?;
+        text.extend_from_slice(b" = ")?;
+        return put_number(alloc, text, u64::from(bounds.lower));
+    }
+    put_number(alloc, text, u64::from(bounds.lower))?;
+    text.extend_from_slice(b" <= ")?;
+    put_entry(alloc, text, bounds.entry)?;
+    text.extend_from_slice(b" <= ")?;
+    put_number(alloc, text, u64::from(bounds.upper))
+}
+
+/// Puts a size at the end of the text, where there is one.
+fn put_size(alloc: Global, text: &mut Vec<u8>, size: Option<u32>) -> Result<(), AllocError>
+    ensures { OnOk result (text.new.items ≡ text.old.items ++ size_text size) }
+{
+    match size {
+        None => Ok(()),
+        Some(size) => {
+            text.extend_from_slice(b" size")?;
+            put_spaced(alloc, text, u64::from(size))
+        }
+    }
+}
+
+/// Puts a line for each piece at the end of the text.
+fn put_pieces(alloc: Global, text: &mut Vec<u8>, pieces: &[Piece]) -> Result<(), AllocError>
+    ensures { OnOk result (text.new.items ≡ text.old.items ++ flat_map (λ p. ended (piece_text p)) pieces.now) }
+{
+    for piece in pieces {
+        text.extend_from_slice(&piece.describe(alloc)?)?;
+        text.push(LINE_FEED)?;
+    }
+    Ok(())
+}
+
+/// A line for each piece, and their number. `Err` is want of memory.
+pub(crate) fn ledger_text(alloc: Global, pieces: &[Piece]) -> Result<Vec<u8>, AllocError>
+    ensures { IfOk result (λ text. text.items ≡ ledger_text pieces.now) }
+{
+    let mut text = Vec::new(alloc);
+    put_pieces(alloc, &mut text, pieces)?;
+    text.extend_from_slice(b"pieces ")?;
+    put_number(alloc, &mut text, pieces.len() as u64)?;
+    text.push(LINE_FEED)?;
+    Ok(text)
+}
+
+/// Puts the reply at the end of the text.
+#[tactic(auto, unfolding(crate::specs::Text::reply_text))]
+fn put_whole_reply(alloc: Global, text: &mut Vec<u8>, reply: &Reply) -> Result<(), AllocError>
+    ensures { OnOk result (text.new.items ≡ text.old.items ++ reply_text reply.now) }
+{
+    match reply {
+        Reply::Accepted(id, size) => {
+            text.extend_from_slice(b"accepted ")?;
+            text.extend_from_slice(id.text())?;
+            put_size(alloc, text, *size)?;
+        }
+        Reply::Withdrawn(id) => {
+            text.extend_from_slice(b"withdrawn ")?;
+            text.extend_from_slice(id.text())?;
+        }
+        Reply::Shown(bounds) => put_bounds(alloc, text, *bounds)?,
+        Reply::Lines(lines) => return text.extend_from_slice(lines.bytes()),
+        Reply::Refused(refusal) => {
+            text.extend_from_slice(b"refused ")?;
+            put_refusal(alloc, text, refusal)?;
+        }
+    }
+    text.push(LINE_FEED)?;
+    Ok(())
+}
+
+/// Puts the reply at the end of the text. After an `Err`, which is want of memory, the text is as before.
+pub(crate) fn put_reply(alloc: Global, text: &mut Vec<u8>, reply: &Reply) -> Result<(), AllocError>
+    ensures ok { OnOk result (text.new.items ≡ text.old.items ++ reply_text reply.now) }
+    ensures err { OnErr result (text.new.items ≡ text.old.items) }
+{
+    let mut lines = Vec::new(alloc);
+    put_whole_reply(alloc, &mut lines, reply)?;
+    text.extend_from_slice(&lines)
+}
