@@ -1,7 +1,7 @@
 ghost use Rattle.std.specs.Prelude.{◌≡◌, ℕ, ◌+◌, ◌<◌, ◌≤◌, ◌⊎◌, ◌↔◌, IsTrue, Option, true, false, [], IfOk, OnOk, OnErr, length, max};
 ghost use Rattle.std.specs.Io.KnownBytes.{IsAtEnd, Keeps};
 ghost use Rattle.ct_io.specs.Faults.{Rose};
-ghost use Rattle.ct_io.specs.Reader.{fresh_reader, input_of, IfLine, IfNoLine, IsLineThenRead, LosesLine, LosesFirstLine, NeedsNoRead, Takes, lasting_fault};
+ghost use Rattle.ct_io.specs.Reader.{fresh_reader, given_size, input_of, IfLine, IfNoLine, IsLineThenRead, LosesLine, LosesFirstLine, NeedsNoRead, Takes, lasting_fault};
 ghost use Rattle.ct_lines.specs.Lines.{IsLine};
 
 use crate::intake::Intake;
@@ -25,11 +25,13 @@ impl Model for LineReader {
 
     ghost Value = { Reader };
 
+    ghost use Rattle.std.specs.Prelude.{◌≤◌, length};
     ghost use Rattle.ct_io.specs.Inside.{reader_of, IsSettled};
 
     ghost view = { reader_of };
 
-    ghost invariant = { λ r. IsSettled r.intake.held r.intake.taken r.fault };
+    ghost invariant = { λ r. IsSettled r.intake.held.bytes r.intake.taken r.fault
+        × (length r.intake.held.bytes ≤ r.intake.held.kept) };
 }
 
 impl LineReader {
@@ -69,6 +71,9 @@ impl LineReader {
     /// after `TooLong`, which comes exactly where more than `MAX_INPUT` bytes were taken, and at most
     /// one read more, each further call answers the same. After `Memory` the lines still to come are
     /// as before the call.
+    ///
+    /// What was given out is dropped before more is read: the memory keeps no more bytes than before,
+    /// or than those that are held and those that this call gives.
     pub fn next_line<S: Source>(&mut self, source: &mut S) -> Result<Option<Vec<u8>>, LineFault>
         // The input: its next line is taken off, or none is left, or all of it stays.
         ensures line { IfLine result (LosesLine (input_of self.old (S.left source.old))
@@ -88,6 +93,11 @@ impl LineReader {
         ensures unread { NeedsNoRead self.old.held self.old.ended
             → (self.new.taken ≡ self.old.taken) × (source.new ≡ source.old) }
         ensures little { IfLine result (λ _. length self.new.held ≤ max (length self.old.held) MAX_READ) }
+
+        // The memory: what was given out is dropped before more is read.
+        ensures all_kept { length self.new.held ≤ self.new.kept }
+        ensures dropped { self.new.kept
+            ≤ max self.old.kept (length self.new.held + given_size result) }
 
         // The faults.
         ensures read_fault { result ≡ Err LineFault.ReadFault
