@@ -37,6 +37,16 @@ fn feed_place(bytes: &[u8]) -> Option<usize>
     bytes.iter().position(|b| *b == LINE_FEED)
 }
 
+// These bytes in a vector of their own. Of no bytes nothing is copied, so that an empty line costs little.
+fn copy_of(alloc: Global, bytes: &[u8]) -> Result<Vec<u8>, AllocError>
+    ensures { IfOk result (λ copy. copy.items ≡ bytes.now) }
+{
+    if bytes.is_empty() {
+        return Ok(Vec::new(alloc));
+    }
+    Vec::from_slice(alloc, bytes)
+}
+
 // Drops the first bytes.
 fn drop_front(bytes: &mut Vec<u8>, count: usize)
     requires { count ≤ vec_len bytes.old }
@@ -91,7 +101,7 @@ impl Held {
         ensures err { OnErr result (self.new ≡ self.old) }
     {
         let end = self.start + count;
-        let line = Vec::from_slice(*self.bytes.allocator(), &self.bytes[self.start..end])?;
+        let line = copy_of(*self.bytes.allocator(), &self.bytes[self.start..end])?;
         self.start = end + 1;
         self.searched = 0;
         Ok(line)
@@ -128,7 +138,8 @@ impl Held {
     }
 
     /// Reads at most a piece more. Zero is the end of the input. Space comes before the bytes, so
-    /// that none is lost.
+    /// that none is lost. It is not inlined, so that a line that is held pays nothing for a read.
+    #[inline(never)]
     pub(crate) fn fill<S: Source>(
         &mut self,
         piece: &mut Vec<u8>,

@@ -120,19 +120,22 @@ impl LineReader {
         if let Some(fault) = self.fault {
             return Err(fault);
         }
-        let answer = self.intake.next_line(source);
-        self.fault = fault_to_keep(&answer);
-        answer
+        match self.intake.next_line(source) {
+            Ok(line) => Ok(line),
+            Err(fault) => {
+                self.fault = fault_to_keep(fault);
+                Err(fault)
+            }
+        }
     }
 }
 
-// The fault that each call after this answer gives again: want of memory is none.
-fn fault_to_keep(answer: &Result<Option<Vec<u8>>, LineFault>) -> Option<LineFault>
-    ensures { result ≡ lasting_fault answer.now }
+// The fault that each call after this one answers again: want of memory is none.
+fn fault_to_keep(fault: LineFault) -> Option<LineFault>
+    ensures { result ≡ lasting_fault (Err fault) }
 {
-    match answer {
-        Err(LineFault::ReadFault) => Some(LineFault::ReadFault),
-        Err(LineFault::TooLong(taken)) => Some(LineFault::TooLong(*taken)),
-        Ok(_) | Err(LineFault::Memory) => None,
+    match fault {
+        LineFault::ReadFault | LineFault::TooLong(_) => Some(fault),
+        LineFault::Memory => None,
     }
 }

@@ -12,6 +12,6 @@ returns-clause-rest c =
     let feed : slice_get (drop start bytes) c.args.count ≡ Some LINE_FEED = ap (λ (b : Buffer). slice_get b.bytes c.args.count) c.self.view_is ∙ c.requires in
     let line : take c.args.count (drop start bytes) ≡ c.in_ok-line.line.items =
     sym
-    (c.in_ok-line.ensures.items ∙ ap (λ (l : List ℕ). take (start + c.args.count - start) (drop start l)) c.deref.ensures.value
+    (c.in_ok-line.ensures ∙ ap (λ (l : List ℕ). take (start + c.args.count - start) (drop start l)) c.deref.ensures.value
     ∙ ap (λ k. take k (drop start bytes)) (omega arith)) in
     sym (ap (λ (b : Buffer). b.bytes) c.self.view_is) ∙ drop-around bytes start c.args.count LINE_FEED feed ∙ ap (λ (l : List ℕ). l ++ LINE_FEED ∷ drop (start + c.args.count + 1) bytes) line
