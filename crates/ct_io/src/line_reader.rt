@@ -113,6 +113,7 @@ impl LineReader {
         ensures above_limit { MAX_INPUT < self.new.taken
             → result ≡ Err (LineFault.TooLong self.new.taken) }
         ensures remembered { self.new.fault ≡ lasting_fault result }
+        ensures no_lasting_memory { result ≡ Err LineFault.Memory → self.new.fault ≡ None }
         ensures stays { (f : LineFault) → self.old.fault ≡ Some f → (result ≡ Err f)
             × (self.new ≡ self.old) × (source.new ≡ source.old) }
         ensures counted { S.faults source.old ≤ S.faults source.new }

@@ -1,6 +1,7 @@
 ghost use Rattle.std.specs.Prelude.{◌≤◌, IfOk};
 
 use super::*;
+use ct_lines::LINE_FEED;
 use std::alloc::AllocError;
 use std::io::{self, ErrorKind, Read, Write};
 use std::test::Fail;
@@ -28,6 +29,40 @@ fn pieces_of_any_size_give_the_same_lines(rt: HostRuntime) -> Result<(), Fail> {
         assert!(rt; reader.next_line(&mut source)?.is_none());
         assert!(rt; reader.next_line(&mut source)?.is_none());
         assert_eq!(rt; reader.taken(), 22);
+    }
+    Ok(())
+}
+
+#[test]
+fn the_limits_are_those_of_the_documents(rt: HostRuntime) {
+    assert_eq!(rt; (LINE_FEED, MAX_INPUT, MAX_READ), (10, 67_108_864, 65_536));
+}
+
+#[test]
+fn a_line_is_held_where_no_read_is_needed(rt: HostRuntime) -> Result<(), Fail> {
+    // Eight bytes a read: `first`, two line feeds and `t`; `hird lin`; `e`, a line feed and `last`; the end.
+    let mut source = source_of(&rt, &[], 8)?;
+    let mut reader = LineReader::new(rt.alloc())?;
+    for (held, calls) in [(false, 1), (true, 1), (false, 3), (false, 4), (true, 4)] {
+        for _ in 0..2 {
+            assert_eq!(rt; reader.holds_line(), held, "before call {calls}");
+        }
+        let _ = reader.next_line(&mut source)?;
+        assert_eq!(rt; source.calls, calls);
+    }
+    assert!(rt; reader.holds_line());
+    Ok(())
+}
+
+#[test]
+fn one_read_past_the_limit_is_too_long(rt: HostRuntime) -> Result<(), Fail> {
+    let bytes = vec![in rt.alloc(); b'a'; 67_200_000]?;
+    let mut source = MemSource::new(bytes, Vec::new(rt.alloc()), usize::MAX);
+    let mut reader = LineReader::new(rt.alloc())?;
+    for _ in 0..2 {
+        let answer = reader.next_line(&mut source);
+        assert!(rt; matches!(answer, Err(LineFault::TooLong(67_174_400))));
+        assert_eq!(rt; (source.calls, source.at), (1_025, 67_174_400));
     }
     Ok(())
 }
