@@ -67,13 +67,14 @@ impl LineReader {
     /// isn't empty. `None` is the end: the input was read to its end, and no line is left.
     ///
     /// It gives a whole line that it holds before it reads, and so it holds no more after a line
-    /// than before, or than one read gives. After `ReadFault`, where it holds no whole line, and
-    /// after `TooLong`, which comes exactly where more than `MAX_INPUT` bytes were taken, and at most
-    /// one read more, each further call answers the same. After `Memory` the lines still to come are
-    /// as before the call.
+    /// than before, or than one read gives. What was given out is dropped before more is read: the
+    /// memory keeps no more bytes than before, or than those that are held and those that this call
+    /// gives.
     ///
-    /// What was given out is dropped before more is read: the memory keeps no more bytes than before,
-    /// or than those that are held and those that this call gives.
+    /// `TooLong` comes exactly where more than `MAX_INPUT` bytes were taken, and at most one read was
+    /// taken past them. After `ReadFault` and after `TooLong` each further call answers the same; with
+    /// `ReadFault` no whole line is held, with `TooLong` none but those that the last read brought.
+    /// After `Memory` the lines still to come are as before the call.
     pub fn next_line<S: Source>(&mut self, source: &mut S) -> Result<Option<Vec<u8>>, LineFault>
         // The input: its next line is taken off, or none is left, or all of it stays.
         ensures line { IfLine result (LosesLine (input_of self.old (S.left source.old))
