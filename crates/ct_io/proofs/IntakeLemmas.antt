@@ -22,22 +22,22 @@ pub record IsGathering (old new : Intake) (before after : Option (List ℕ)) (fa
 
 -- one more read, of n bytes
 pub Gathers-more : (old mid : Intake) (held : List ℕ) (taken n : ℕ) (before between after : Option (List ℕ)) → Gathers old mid before between → mid.ended ≡ false
-    → FillsBy mid.held held between after n → taken ≡ mid.taken + n
-    → (bytes : List ℕ) × Consumes before after bytes × (held ≡ old.held ++ bytes) × (taken ≡ old.taken + length bytes)
+    → FillsBy mid.held.bytes held between after n → taken ≡ mid.taken + n
+    → (bytes : List ℕ) × Consumes before after bytes × (held ≡ old.held.bytes ++ bytes) × (taken ≡ old.taken + length bytes)
     × (old.ended ≡ false → eqb n 0 ≡ true → IsAtEnd after) × (old.ended ≡ true → eqb n 0 ≡ true)
 Gathers-more old mid held taken n before between after came going filled is = (
   came.0 ++ filled.0,
   Consumes-trans before between after came.0 filled.0 came.1 filled.1,
-  filled.2 ∙ ap (λ l. l ++ filled.0) came.2 ∙ append_assoc old.held came.0 filled.0,
+  filled.2 ∙ ap (λ l. l ++ filled.0) came.2 ∙ append_assoc old.held.bytes came.0 filled.0,
   omega (arith, came.3, is, filled.3, length-append came.0 filled.0),
   λ _ end. filled.4 (eqb-true n 0 end),
   λ was. let ended : mid.ended ≡ true = came.5 was in cc,
 )
 
 pub IsGathering-more : (old mid new : Intake) (before between after : Option (List ℕ)) (f g h n : ℕ) → IsGathering old mid before between f g → mid.ended ≡ false
-    → FillsBy mid.held new.held between after n → new.taken ≡ mid.taken + n → new.ended ≡ eqb n 0 → new.taken ≤ MAX_INPUT → g ≤ h → IsGathering old new before after f h
+    → FillsBy mid.held.bytes new.held.bytes between after n → new.taken ≡ mid.taken + n → new.ended ≡ eqb n 0 → new.taken ≤ MAX_INPUT → g ≤ h → IsGathering old new before after f h
 IsGathering-more old mid new before between after f g h n so_far going filled taken ended within counted =
-    let more = Gathers-more old mid new.held new.taken n before between after so_far.gathers going filled taken in
+    let more = Gathers-more old mid new.held.bytes new.taken n before between after so_far.gathers going filled taken in
     record {
       gathers = (more.0, more.1, more.2, more.3, λ was end. more.4 was (sym ended ∙ end), λ was. ended ∙ more.5 was);
       within = within;
@@ -54,9 +54,9 @@ NeedsNoRead-found held ended None going feed none = (
 )
 
 -- a read comes only where it is needed
-pub needs_read : (old mid : Intake) (before between : Option (List ℕ)) → Gathers old mid before between → IsLine mid.held → mid.ended ≡ false → NeedsNoRead old.held old.ended → ⊥
+pub needs_read : (old mid : Intake) (before between : Option (List ℕ)) → Gathers old mid before between → IsLine mid.held.bytes → mid.ended ≡ false → NeedsNoRead old.held.bytes old.ended → ⊥
 needs_read old mid before between came line going ready =
     elim ready [
-      | inl held ↦ All-contains IsNoFeed mid.held LINE_FEED line (subst (λ (l : List ℕ). Contains l LINE_FEED) (sym came.2) (Contains-append_left old.held came.0 LINE_FEED held)) refl
+      | inl held ↦ All-contains IsNoFeed mid.held.bytes LINE_FEED line (subst (λ (l : List ℕ). Contains l LINE_FEED) (sym came.2) (Contains-append_left old.held.bytes came.0 LINE_FEED held)) refl
       | inr was ↦ let is : mid.ended ≡ true = came.5 was in cc
     ]

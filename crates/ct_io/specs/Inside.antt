@@ -9,9 +9,10 @@ use Rattle.ct_lines.specs.Lines.{IsLine}
 
 -- a reader as its callers see it
 abbrev pub reader_of : Inside → Reader
-reader_of r = record { held = r.intake.held; taken = r.intake.taken; ended = r.intake.ended; fault = r.fault }
+reader_of r = record { held = r.intake.held.bytes; kept = r.intake.held.kept; taken = r.intake.taken; ended = r.intake.ended; fault = r.fault }
 
--- the fault that a reader stays with is never want of memory, and at most one read came after the last look for a line
+-- too many bytes were taken exactly where the reader stays with that fault, and then only the bytes of the last read can have a
+-- line feed among them; with a failed read it holds no whole line, and it never stays with want of memory
 abbrev pub IsSettled : List ℕ → ℕ → Option LineFault → Type 0
 IsSettled held taken None = taken ≤ MAX_INPUT
 IsSettled held taken (Some ReadFault) = (taken ≤ MAX_INPUT) × IsLine held

@@ -12,7 +12,7 @@ use Rattle.ct_io.specs.Reader.{Answer, Divides, IsLineThenRead}
 -- bytes were taken, counted and put after those held, and the end was seen only where none is left
 abbrev pub Gathers : Intake → Intake → Option (List ℕ) → Option (List ℕ) → Type 0
 Gathers old new before after =
-    (bytes : List ℕ) × Consumes before after bytes × (new.held ≡ old.held ++ bytes) × (new.taken ≡ old.taken + length bytes)
+    (bytes : List ℕ) × Consumes before after bytes × (new.held.bytes ≡ old.held.bytes ++ bytes) × (new.taken ≡ old.taken + length bytes)
     × (old.ended ≡ false → new.ended ≡ true → IsAtEnd after) × (old.ended ≡ true → new.ended ≡ true)
 
 -- why no line comes: a fault of the source, too many bytes, or no memory
@@ -24,7 +24,7 @@ IsFaultAt held taken old new Memory = taken ≤ MAX_INPUT
 -- bytes were taken and counted, they and those held are divided into the answer and the bytes still held, and the end was seen only where none is left
 abbrev pub Passes : Intake → Intake → Option (List ℕ) → Option (List ℕ) → Answer → Type 0
 Passes old new before after answer =
-    (bytes : List ℕ) × Consumes before after bytes × Divides (old.held ++ bytes) answer new.held new.ended × (new.taken ≡ old.taken + length bytes)
+    (bytes : List ℕ) × Consumes before after bytes × Divides (old.held.bytes ++ bytes) answer new.held.bytes new.ended × (new.taken ≡ old.taken + length bytes)
     × (old.ended ≡ false → new.ended ≡ true → IsAtEnd after) × (old.ended ≡ true → new.ended ≡ true)
 
 -- a read came only where no line was held: the bytes are those of before, or those of one read after bytes without a line feed

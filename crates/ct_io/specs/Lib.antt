@@ -1,3 +1,4 @@
+pub mod Buffer
 pub mod Faults
 pub mod Filling
 pub mod Inside

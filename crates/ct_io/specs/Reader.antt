@@ -8,16 +8,18 @@ use Rattle.ct_io.specs.declared.line_fault.LineFault.{LineFault}
 use Rattle.ct_io.specs.declared.line_fault.LineFault.TheVariants.{ReadFault, TooLong, Memory}
 use Rattle.ct_lines.specs.Lines.{lines_of, IsLine, IsNextLine}
 
--- a line reader: the bytes that it holds, how many it took, whether the end of the input was seen, and the fault that it stays with
+-- a line reader: the bytes that it holds, how many its memory keeps (also those given out and not yet dropped), how many it
+-- took, whether the end of the input was seen, and the fault that it stays with
 pub record Reader : Type 0 where
   pub held : List ℕ
+  pub kept : ℕ
   pub taken : ℕ
   pub ended : Bool
   pub fault : Option LineFault
 
 -- a reader that took nothing yet
 abbrev pub fresh_reader : Reader
-fresh_reader = record { held = []; taken = 0; ended = false; fault = None }
+fresh_reader = record { held = []; kept = 0; taken = 0; ended = false; fault = None }
 
 -- the bytes still to come: those held and, until the end was seen, those that the source has left
 abbrev pub input_of : Reader → Option (List ℕ) → Option (List ℕ)
@@ -46,6 +48,12 @@ abbrev pub IfNoLine : Answer → Type 0 → Type 0
 IfNoLine (Ok (Some line)) P = ⊤
 IfNoLine (Ok None) P = P
 IfNoLine (Err fault) P = ⊤
+
+-- how many bytes an answer gives out: those of a line, and one for its line feed
+abbrev pub given_size : Answer → ℕ
+given_size (Ok (Some line)) = length line.items + 1
+given_size (Ok None) = 0
+given_size (Err fault) = 0
 
 -- known bytes lose their next line
 abbrev pub LosesLine : Option (List ℕ) → Option (List ℕ) → List ℕ → Type 0

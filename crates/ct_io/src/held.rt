@@ -1,5 +1,6 @@
-ghost use Rattle.std.specs.Prelude.{◌≡◌, ◌≢◌, ℕ, ◌+◌, ◌<◌, ◌≤◌, List, [], ◌∷◌, ◌++◌, IfOk, IfSome, IfNone, OnErr, MatchOption, length, take, drop, position, slice_get, vec_len, ◌==◌};
+ghost use Rattle.std.specs.Prelude.{◌≡◌, ◌≢◌, ℕ, ◌+◌, ◌<◌, ◌≤◌, List, [], ◌∷◌, ◌++◌, max, IfOk, IfSome, IfNone, OnErr, MatchOption, length, take, drop, position, slice_get, vec_len, ◌==◌};
 ghost use Rattle.std.specs.Io.KnownBytes.{Keeps};
+ghost use Rattle.ct_io.specs.Buffer.{Buffer, empty_buffer};
 ghost use Rattle.ct_io.specs.Faults.{Rose};
 ghost use Rattle.ct_lines.specs.Lines.{IsLine};
 ghost use Rattle.ct_io.specs.Filling.{FillsBy};
@@ -10,7 +11,7 @@ use ct_lines::LINE_FEED;
 use std::alloc::{AllocError, Global};
 use std::marker::Model;
 
-/// Bytes that were read and not yet given out, as a list.
+/// Bytes that were read and not yet given out.
 #[derive(Debug, Drop)]
 pub(crate) struct Held {
     bytes: Vec<u8>,
@@ -21,9 +22,9 @@ pub(crate) struct Held {
 }
 
 impl Model for Held {
-    ghost Value = { List ℕ };
+    ghost Value = { Buffer };
 
-    ghost view = { λ h. drop h.start h.bytes.items };
+    ghost view = { λ h. record { bytes = drop h.start h.bytes.items; kept = vec_len h.bytes } };
 
     ghost invariant = { λ h. (h.start + h.searched ≤ vec_len h.bytes)
         × IsLine (take h.searched (drop h.start h.bytes.items)) };
@@ -34,6 +35,16 @@ fn feed_place(bytes: &[u8]) -> Option<usize>
     ensures { result ≡ position (λ b. b == LINE_FEED) bytes.now }
 {
     bytes.iter().position(|b| *b == LINE_FEED)
+}
+
+// These bytes in a vector of their own. Of no bytes nothing is copied, so that an empty line costs little.
+fn copy_of(alloc: Global, bytes: &[u8]) -> Result<Vec<u8>, AllocError>
+    ensures { IfOk result (λ copy. copy.items ≡ bytes.now) }
+{
+    if bytes.is_empty() {
+        return Ok(Vec::new(alloc));
+    }
+    Vec::from_slice(alloc, bytes)
 }
 
 // Drops the first bytes.
@@ -49,7 +60,7 @@ fn drop_front(bytes: &mut Vec<u8>, count: usize)
 impl Held {
     /// No bytes. It takes no memory.
     pub(crate) fn new(alloc: Global) -> Held
-        ensures { result ≡ [] }
+        ensures { result ≡ empty_buffer }
     {
         Held {
             bytes: Vec::new(alloc),
@@ -61,10 +72,11 @@ impl Held {
     /// How long the first line is, where a line feed ends it. Bytes that were searched in an
     /// earlier call are not searched again.
     pub(crate) fn line_length(&mut self) -> Option<usize>
-        ensures kept { self.new ≡ self.old }
-        ensures line { IfSome result (λ n. IsLine (take n self.old)) }
-        ensures feed { IfSome result (λ n. slice_get self.old n ≡ Some LINE_FEED) }
-        ensures none { IfNone result (IsLine self.old) }
+        ensures same { self.new ≡ self.old }
+        ensures line { IfSome result (λ n. IsLine (take n self.old.bytes)) }
+        ensures feed { IfSome result (λ n. slice_get self.old.bytes n ≡ Some LINE_FEED) }
+        ensures none { IfNone result (IsLine self.old.bytes) }
+        ensures all_kept { length self.new.bytes ≤ self.new.kept }
     {
         let from = self.start + self.searched;
         match feed_place(&self.bytes[from..]) {
@@ -80,14 +92,16 @@ impl Held {
     }
 
     /// Gives out the first line, of this length, and drops its line feed.
-    pub(crate) fn take_line(&mut self, length: usize) -> Result<Vec<u8>, AllocError>
-        requires { slice_get self.old length ≡ Some LINE_FEED }
-        ensures line { IfOk result (λ line. line.items ≡ take length self.old) }
-        ensures rest { IfOk result (λ line. self.old ≡ line.items ++ LINE_FEED ∷ self.new) }
+    pub(crate) fn take_line(&mut self, count: usize) -> Result<Vec<u8>, AllocError>
+        requires { slice_get self.old.bytes count ≡ Some LINE_FEED }
+        ensures line { IfOk result (λ line. line.items ≡ take count self.old.bytes) }
+        ensures rest { IfOk result (λ line. self.old.bytes ≡ line.items ++ LINE_FEED ∷ self.new.bytes) }
+        ensures kept { self.new.kept ≡ self.old.kept }
+        ensures all_kept { length self.new.bytes ≤ self.new.kept }
         ensures err { OnErr result (self.new ≡ self.old) }
     {
-        let end = self.start + length;
-        let line = Vec::from_slice(*self.bytes.allocator(), &self.bytes[self.start..end])?;
+        let end = self.start + count;
+        let line = copy_of(*self.bytes.allocator(), &self.bytes[self.start..end])?;
         self.start = end + 1;
         self.searched = 0;
         Ok(line)
@@ -95,9 +109,11 @@ impl Held {
 
     /// Gives out all bytes, where there are any.
     pub(crate) fn take_rest(&mut self) -> Result<Option<Vec<u8>>, AllocError>
-        ensures all { IfOk result (λ rest. MatchOption rest (self.old ≡ [])
-            (λ line. (self.old ≡ line.items) × (0 < length line.items))) }
-        ensures none_left { IfOk result (λ _. self.new ≡ []) }
+        ensures all { IfOk result (λ rest. MatchOption rest (self.old.bytes ≡ [])
+            (λ line. (self.old.bytes ≡ line.items) × (0 < length line.items))) }
+        ensures none_left { IfOk result (λ _. self.new.bytes ≡ []) }
+        ensures kept { self.new.kept ≡ self.old.kept }
+        ensures all_kept { length self.new.bytes ≤ self.new.kept }
         ensures err { OnErr result (self.new ≡ self.old) }
     {
         if self.start == self.bytes.len() {
@@ -111,7 +127,9 @@ impl Held {
 
     // Moves the bytes that are held to the front of the vector.
     fn drop_given_out(&mut self)
-        ensures { self.new ≡ self.old }
+        ensures same { self.new.bytes ≡ self.old.bytes }
+        ensures kept { self.new.kept ≡ length self.old.bytes }
+        ensures no_more { self.new.kept ≤ self.old.kept }
     {
         if self.start > 0 {
             drop_front(&mut self.bytes, self.start);
@@ -120,7 +138,8 @@ impl Held {
     }
 
     /// Reads at most a piece more. Zero is the end of the input. Space comes before the bytes, so
-    /// that none is lost.
+    /// that none is lost. It is not inlined, so that a line that is held pays nothing for a read.
+    #[inline(never)]
     pub(crate) fn fill<S: Source>(
         &mut self,
         piece: &mut Vec<u8>,
@@ -128,10 +147,12 @@ impl Held {
     ) -> Result<usize, LineFault>
         requires { 0 < vec_len piece.old }
         ensures piece { vec_len piece.new ≡ vec_len piece.old }
-        ensures read { IfOk result (λ n. FillsBy self.old self.new (S.left source.old)
-            (S.left source.new) n) }
+        ensures read { IfOk result (λ n. FillsBy self.old.bytes self.new.bytes
+            (S.left source.old) (S.left source.new) n) }
         ensures within { IfOk result (λ n. n ≤ vec_len piece.old) }
-        ensures kept { OnErr result (self.new ≡ self.old) }
+        ensures same { OnErr result (self.new.bytes ≡ self.old.bytes) }
+        ensures kept { self.new.kept ≤ max self.old.kept (length self.new.bytes) }
+        ensures all_kept { length self.new.bytes ≤ self.new.kept }
         ensures untaken { OnErr result (Keeps (S.left source.old) (S.left source.new)) }
         ensures failed { result ≡ Err LineFault.ReadFault
             → Rose (S.faults source.old) (S.faults source.new) }

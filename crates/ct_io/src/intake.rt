@@ -1,7 +1,8 @@
 ghost use Rattle.std.specs.Prelude.{◌≡◌, ◌+◌, ◌≤◌, true, false, [], IfOk, IfErr, IfSome, IfNone, OnOk, length, max, take, slice_get, vec_len};
 ghost use Rattle.ct_io.specs.declared.TheConstants.{MAX_READ};
 ghost use Rattle.ct_lines.specs.Lines.{IsLine};
-ghost use Rattle.ct_io.specs.Reader.{IfLine, NeedsNoRead};
+ghost use Rattle.ct_io.specs.Buffer.{empty_buffer};
+ghost use Rattle.ct_io.specs.Reader.{IfLine, NeedsNoRead, given_size};
 
 use crate::held::Held;
 use crate::line_fault::LineFault;
@@ -28,7 +29,7 @@ impl Intake {
 
     /// An intake that took nothing yet, with space for one read.
     pub(crate) fn new(alloc: Global) -> Result<Intake, AllocError>
-        ensures held { IfOk result (λ i. i.held ≡ []) }
+        ensures held { IfOk result (λ i. i.held ≡ empty_buffer) }
         ensures taken { IfOk result (λ i. i.taken ≡ 0) }
         ensures ended { IfOk result (λ i. i.ended ≡ false) }
     {
@@ -48,18 +49,20 @@ impl Intake {
     ) -> Result<Option<usize>, LineFault>
         requires { self.old.taken ≤ MAX_INPUT }
         ensures gathers { Gathers self.old self.new (S.left source.old) (S.left source.new) }
-        ensures line { IfOk result (λ found. IfSome found (λ n. IsLine (take n self.new.held))) }
+        ensures line { IfOk result (λ found. IfSome found (λ n. IsLine (take n self.new.held.bytes))) }
         ensures feed { IfOk result (λ found. IfSome found
-            (λ n. slice_get self.new.held n ≡ Some LINE_FEED)) }
+            (λ n. slice_get self.new.held.bytes n ≡ Some LINE_FEED)) }
         ensures little { IfOk result (λ found. IfSome found
-            (λ n. length self.new.held ≤ n + max (length self.old.held) MAX_READ)) }
+            (λ n. length self.new.held.bytes ≤ n + max (length self.old.held.bytes) MAX_READ)) }
         ensures none { IfOk result (λ found. IfNone found
-            (IsLine self.new.held × (self.new.ended ≡ true))) }
-        ensures unread { NeedsNoRead self.old.held self.old.ended
+            (IsLine self.new.held.bytes × (self.new.ended ≡ true))) }
+        ensures unread { NeedsNoRead self.old.held.bytes self.old.ended
             → (self.new.taken ≡ self.old.taken) × (source.new ≡ source.old) }
+        ensures kept { self.new.held.kept ≤ max self.old.held.kept (length self.new.held.bytes) }
+        ensures all_kept { length self.new.held.bytes ≤ self.new.held.kept }
         ensures within { OnOk result (self.new.taken ≤ MAX_INPUT) }
-        ensures fault { IfErr result (IsFaultAt self.new.held self.new.taken (S.faults source.old)
-            (S.faults source.new)) }
+        ensures fault { IfErr result (IsFaultAt self.new.held.bytes self.new.taken
+            (S.faults source.old) (S.faults source.new)) }
         ensures counted { S.faults source.old ≤ S.faults source.new }
     {
         loop {
@@ -85,12 +88,16 @@ impl Intake {
     ) -> Result<Option<Vec<u8>>, LineFault>
         requires { self.old.taken ≤ MAX_INPUT }
         ensures passes { Passes self.old self.new (S.left source.old) (S.left source.new) result }
-        ensures little { IfLine result (λ _. length self.new.held ≤ max (length self.old.held) MAX_READ) }
-        ensures unread { NeedsNoRead self.old.held self.old.ended
+        ensures little { IfLine result (λ _. length self.new.held.bytes
+            ≤ max (length self.old.held.bytes) MAX_READ) }
+        ensures unread { NeedsNoRead self.old.held.bytes self.old.ended
             → (self.new.taken ≡ self.old.taken) × (source.new ≡ source.old) }
+        ensures kept { self.new.held.kept
+            ≤ max self.old.held.kept (length self.new.held.bytes + given_size result) }
+        ensures all_kept { length self.new.held.bytes ≤ self.new.held.kept }
         ensures within { OnOk result (self.new.taken ≤ MAX_INPUT) }
-        ensures fault { IfErr result (IsFaultAt self.new.held self.new.taken (S.faults source.old)
-            (S.faults source.new)) }
+        ensures fault { IfErr result (IsFaultAt self.new.held.bytes self.new.taken
+            (S.faults source.old) (S.faults source.new)) }
         ensures counted { S.faults source.old ≤ S.faults source.new }
     {
         match self.gather_line(source)? {

@@ -1,7 +1,7 @@
 ghost use Rattle.std.specs.Prelude.{◌≡◌, ℕ, ◌+◌, ◌<◌, ◌≤◌, ◌⊎◌, ◌↔◌, IsTrue, Option, true, false, [], IfOk, OnOk, OnErr, length, max};
 ghost use Rattle.std.specs.Io.KnownBytes.{IsAtEnd, Keeps};
 ghost use Rattle.ct_io.specs.Faults.{Rose};
-ghost use Rattle.ct_io.specs.Reader.{fresh_reader, input_of, IfLine, IfNoLine, IsLineThenRead, LosesLine, LosesFirstLine, NeedsNoRead, Takes, lasting_fault};
+ghost use Rattle.ct_io.specs.Reader.{fresh_reader, given_size, input_of, IfLine, IfNoLine, IsLineThenRead, LosesLine, LosesFirstLine, NeedsNoRead, Takes, lasting_fault};
 ghost use Rattle.ct_lines.specs.Lines.{IsLine};
 
 use crate::intake::Intake;
@@ -25,11 +25,13 @@ impl Model for LineReader {
 
     ghost Value = { Reader };
 
+    ghost use Rattle.std.specs.Prelude.{◌≤◌, length};
     ghost use Rattle.ct_io.specs.Inside.{reader_of, IsSettled};
 
     ghost view = { reader_of };
 
-    ghost invariant = { λ r. IsSettled r.intake.held r.intake.taken r.fault };
+    ghost invariant = { λ r. IsSettled r.intake.held.bytes r.intake.taken r.fault
+        × (length r.intake.held.bytes ≤ r.intake.held.kept) };
 }
 
 impl LineReader {
@@ -65,10 +67,14 @@ impl LineReader {
     /// isn't empty. `None` is the end: the input was read to its end, and no line is left.
     ///
     /// It gives a whole line that it holds before it reads, and so it holds no more after a line
-    /// than before, or than one read gives. After `ReadFault`, where it holds no whole line, and
-    /// after `TooLong`, which comes exactly where more than `MAX_INPUT` bytes were taken, and at most
-    /// one read more, each further call answers the same. After `Memory` the lines still to come are
-    /// as before the call.
+    /// than before, or than one read gives. What was given out is dropped before more is read: the
+    /// memory keeps no more bytes than before, or than those that are held and those that this call
+    /// gives.
+    ///
+    /// `TooLong` comes exactly where more than `MAX_INPUT` bytes were taken, and at most one read was
+    /// taken past them. After `ReadFault` and after `TooLong` each further call answers the same; with
+    /// `ReadFault` no whole line is held, with `TooLong` none but those that the last read brought.
+    /// After `Memory` the lines still to come are as before the call.
     pub fn next_line<S: Source>(&mut self, source: &mut S) -> Result<Option<Vec<u8>>, LineFault>
         // The input: its next line is taken off, or none is left, or all of it stays.
         ensures line { IfLine result (LosesLine (input_of self.old (S.left source.old))
@@ -89,6 +95,11 @@ impl LineReader {
             → (self.new.taken ≡ self.old.taken) × (source.new ≡ source.old) }
         ensures little { IfLine result (λ _. length self.new.held ≤ max (length self.old.held) MAX_READ) }
 
+        // The memory: what was given out is dropped before more is read.
+        ensures all_kept { length self.new.held ≤ self.new.kept }
+        ensures dropped { self.new.kept
+            ≤ max self.old.kept (length self.new.held + given_size result) }
+
         // The faults.
         ensures read_fault { result ≡ Err LineFault.ReadFault
             → (self.old.fault ≡ Some LineFault.ReadFault)
@@ -103,6 +114,7 @@ impl LineReader {
         ensures above_limit { MAX_INPUT < self.new.taken
             → result ≡ Err (LineFault.TooLong self.new.taken) }
         ensures remembered { self.new.fault ≡ lasting_fault result }
+        ensures no_lasting_memory { result ≡ Err LineFault.Memory → self.new.fault ≡ None }
         ensures stays { (f : LineFault) → self.old.fault ≡ Some f → (result ≡ Err f)
             × (self.new ≡ self.old) × (source.new ≡ source.old) }
         ensures counted { S.faults source.old ≤ S.faults source.new }
@@ -110,19 +122,22 @@ impl LineReader {
         if let Some(fault) = self.fault {
             return Err(fault);
         }
-        let answer = self.intake.next_line(source);
-        self.fault = fault_to_keep(&answer);
-        answer
+        match self.intake.next_line(source) {
+            Ok(line) => Ok(line),
+            Err(fault) => {
+                self.fault = fault_to_keep(fault);
+                Err(fault)
+            }
+        }
     }
 }
 
-// The fault that each call after this answer gives again: want of memory is none.
-fn fault_to_keep(answer: &Result<Option<Vec<u8>>, LineFault>) -> Option<LineFault>
-    ensures { result ≡ lasting_fault answer.now }
+// The fault that each call after this one answers again: want of memory is none.
+fn fault_to_keep(fault: LineFault) -> Option<LineFault>
+    ensures { result ≡ lasting_fault (Err fault) }
 {
-    match answer {
-        Err(LineFault::ReadFault) => Some(LineFault::ReadFault),
-        Err(LineFault::TooLong(taken)) => Some(LineFault::TooLong(*taken)),
-        Ok(_) | Err(LineFault::Memory) => None,
+    match fault {
+        LineFault::ReadFault | LineFault::TooLong(_) => Some(fault),
+        LineFault::Memory => None,
     }
 }

@@ -1,6 +1,7 @@
 ghost use Rattle.std.specs.Prelude.{◌≤◌, IfOk};
 
 use super::*;
+use ct_lines::LINE_FEED;
 use std::alloc::AllocError;
 use std::io::{self, ErrorKind, Read, Write};
 use std::test::Fail;
@@ -29,6 +30,38 @@ fn pieces_of_any_size_give_the_same_lines(rt: HostRuntime) -> Result<(), Fail> {
         assert!(rt; reader.next_line(&mut source)?.is_none());
         assert_eq!(rt; reader.taken(), 22);
     }
+    Ok(())
+}
+
+#[test]
+fn the_limits_are_those_of_the_documents(rt: HostRuntime) {
+    assert_eq!(rt; (LINE_FEED, MAX_INPUT, MAX_READ), (10, 67_108_864, 65_536));
+}
+
+#[test]
+fn a_line_is_held_where_no_read_is_needed(rt: HostRuntime) -> Result<(), Fail> {
+    // Eight bytes a read: `first`, two line feeds and `t`; `hird lin`; `e`, a line feed and `last`; the end.
+    let mut source = source_of(&rt, &[], 8)?;
+    let mut reader = LineReader::new(rt.alloc())?;
+    for (held, calls) in [(false, 1), (true, 1), (false, 3), (false, 4), (true, 4)] {
+        for _ in 0..2 {
+            assert_eq!(rt; reader.holds_line(), held, "before call {calls}");
+        }
+        let _ = reader.next_line(&mut source)?;
+        assert_eq!(rt; source.calls, calls);
+    }
+    assert!(rt; reader.holds_line());
+    Ok(())
+}
+
+#[test]
+fn no_byte_of_a_long_line_is_searched_again(rt: HostRuntime) -> Result<(), Fail> {
+    // Searching from the front after each of these reads would take minutes.
+    let bytes = vec![in rt.alloc(); b'a'; 1_000_000]?;
+    let mut source = MemSource::new(bytes, Vec::new(rt.alloc()), 1);
+    let mut reader = LineReader::new(rt.alloc())?;
+    let line = reader.next_line(&mut source)?.ok_or("a line is missing")?;
+    assert_eq!(rt; (line.len(), source.calls), (1_000_000, 1_000_001));
     Ok(())
 }
 

@@ -2,6 +2,7 @@ use Rattle.std.proofs.Common.{◌≡◌, ℕ, ◌+◌, ◌-◌, ◌<◌, List, N
 use Rattle.std.specs.List.{position, slice_get}
 use Rattle.std.proofs.lemmas.List.{take_all, drop-drop}
 use Rattle.std.proofs.lemmas.List.Elements.{All-take}
+use Rattle.ct_io.specs.Buffer.{Buffer}
 use Rattle.ct_lines.specs.Lines.{IsLine}
 use Rattle.ct_lines.proofs.LinesLemmas.{is_feed}
 use Rattle.ct_io.proofs.FeedLemmas.{IsNoFeed, EndsAt, EndsAt-searched, IsLine-searched}
@@ -25,10 +26,10 @@ ends : (c : goal.After-self-1) → EndsAt (drop c.self.inside.start c.self.insid
 ends c = found c.self.inside.bytes.items c.self.inside.start c.self.inside.searched c.in-Some.more c.self.invariant.1 (rw c.deref.ensures.value at c.in-Some.ensures)
 
 pub returns-in-Some-clause-line : goal.returns-in-Some-clause-line
-returns-in-Some-clause-line c = subst (λ (l : List ℕ). IsLine (take (c.self.inside.searched + c.in-Some.more) l)) c.self.view_is (ends c).line
+returns-in-Some-clause-line c = subst (λ (b : Buffer). IsLine (take (c.self.inside.searched + c.in-Some.more) b.bytes)) c.self.view_is (ends c).line
 
 pub returns-in-Some-clause-feed : goal.returns-in-Some-clause-feed
-returns-in-Some-clause-feed c = ap (λ (l : List ℕ). slice_get l (c.self.inside.searched + c.in-Some.more)) (sym c.self.view_is) ∙ (ends c).feed
+returns-in-Some-clause-feed c = ap (λ (b : Buffer). slice_get b.bytes (c.self.inside.searched + c.in-Some.more)) (sym c.self.view_is) ∙ (ends c).feed
 
 pub invariant_of-self : goal.invariant_of-self
 invariant_of-self c =
@@ -44,4 +45,4 @@ invariant_of-self-in-None c =
     (omega arith, All-take IsNoFeed rest (drop c.self.inside.start c.self.inside.bytes.items) (none c))
 
 pub returns-in-None-clause-none : goal.returns-in-None-clause-none
-returns-in-None-clause-none c = subst IsLine c.self.view_is (none c)
+returns-in-None-clause-none c = subst (λ (b : Buffer). IsLine b.bytes) c.self.view_is (none c)

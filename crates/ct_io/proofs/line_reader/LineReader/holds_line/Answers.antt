@@ -8,4 +8,4 @@ returns-else-self-clause-ready c =
     let inside = c.self.inside.intake in
     rw c.is_some.ensures
     (subst (λ (r : Reader). IsTrue (is_some c.line_length.result) ↔ NeedsNoRead r.held r.ended) c.self.view_is
-    (NeedsNoRead-found inside.held inside.ended c.line_length.result c.if-self.false c.line_length.ensures.feed c.line_length.ensures.none))
+    (NeedsNoRead-found inside.held.bytes inside.ended c.line_length.result c.if-self.false c.line_length.ensures.feed c.line_length.ensures.none))
