@@ -1,5 +1,5 @@
 -- Inside a line reader: how bytes come to it and go from it.
-use Rattle.std.specs.Prelude.{◌≡◌, ℕ, ◌+◌, ◌<◌, ◌≤◌, ◌⊎◌, true, false, List, ◌++◌, length, Option}
+use Rattle.std.specs.Prelude.{◌≡◌, ℕ, Bool, ◌+◌, ◌<◌, ◌≤◌, ◌⊎◌, true, false, List, ◌++◌, length, Option}
 use Rattle.std.specs.Io.KnownBytes.{Consumes, IsAtEnd}
 use Rattle.ct_io.specs.declared.TheConstants.{MAX_INPUT, MAX_READ}
 use Rattle.ct_io.specs.declared.intake.Intake.{Intake}
@@ -16,10 +16,10 @@ Gathers old new before after =
     × (old.ended ≡ false → new.ended ≡ true → IsAtEnd after) × (old.ended ≡ true → new.ended ≡ true)
 
 -- why no line comes: a fault of the source, too many bytes, or no memory
-abbrev pub IsFaultAt : List ℕ → ℕ → ℕ → ℕ → LineFault → Type 0
-IsFaultAt held taken old new ReadFault = Rose old new × (taken ≤ MAX_INPUT) × IsLine held
-IsFaultAt held taken old new (TooLong t) = (t ≡ taken) × (MAX_INPUT < taken) × (taken ≤ MAX_INPUT + MAX_READ) × IsLineThenRead held
-IsFaultAt held taken old new Memory = taken ≤ MAX_INPUT
+abbrev pub IsFaultAt : List ℕ → Bool → ℕ → ℕ → ℕ → LineFault → Type 0
+IsFaultAt held ended taken old new ReadFault = Rose old new × (taken ≤ MAX_INPUT) × IsLine held × (ended ≡ false)
+IsFaultAt held ended taken old new (TooLong t) = (t ≡ taken) × (MAX_INPUT < taken) × (taken ≤ MAX_INPUT + MAX_READ) × IsLineThenRead held × (ended ≡ false)
+IsFaultAt held ended taken old new Memory = taken ≤ MAX_INPUT
 
 -- bytes were taken and counted, they and those held are divided into the answer and the bytes still held, and the end was seen only where none is left
 abbrev pub Passes : Intake → Intake → Option (List ℕ) → Option (List ℕ) → Answer → Type 0

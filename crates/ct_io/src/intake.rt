@@ -61,7 +61,7 @@ impl Intake {
         ensures kept { self.new.held.kept ≤ max self.old.held.kept (length self.new.held.bytes) }
         ensures all_kept { length self.new.held.bytes ≤ self.new.held.kept }
         ensures within { OnOk result (self.new.taken ≤ MAX_INPUT) }
-        ensures fault { IfErr result (IsFaultAt self.new.held.bytes self.new.taken
+        ensures fault { IfErr result (IsFaultAt self.new.held.bytes self.new.ended self.new.taken
             (S.faults source.old) (S.faults source.new)) }
         ensures counted { S.faults source.old ≤ S.faults source.new }
     {
@@ -96,7 +96,7 @@ impl Intake {
             ≤ max self.old.held.kept (length self.new.held.bytes + given_size result) }
         ensures all_kept { length self.new.held.bytes ≤ self.new.held.kept }
         ensures within { OnOk result (self.new.taken ≤ MAX_INPUT) }
-        ensures fault { IfErr result (IsFaultAt self.new.held.bytes self.new.taken
+        ensures fault { IfErr result (IsFaultAt self.new.held.bytes self.new.ended self.new.taken
             (S.faults source.old) (S.faults source.new)) }
         ensures counted { S.faults source.old ≤ S.faults source.new }
     {

@@ -1,4 +1,4 @@
-ghost use Rattle.std.specs.Prelude.{◌≡◌, ℕ, ◌+◌, ◌<◌, ◌≤◌, ◌⊎◌, ◌↔◌, IsTrue, Option, true, false, [], IfOk, OnOk, OnErr, length, max};
+ghost use Rattle.std.specs.Prelude.{◌≡◌, ◌≢◌, IfErr, ℕ, ◌+◌, ◌<◌, ◌≤◌, ◌⊎◌, ◌↔◌, IsTrue, Option, true, false, [], IfOk, OnOk, OnErr, length, max};
 ghost use Rattle.std.specs.Io.KnownBytes.{IsAtEnd, Keeps};
 ghost use Rattle.ct_io.specs.Faults.{Rose};
 ghost use Rattle.ct_io.specs.Reader.{fresh_reader, given_size, input_of, IfLine, IfNoLine, IsLineThenRead, LosesLine, LosesFirstLine, NeedsNoRead, Takes, lasting_fault};
@@ -30,7 +30,7 @@ impl Model for LineReader {
 
     ghost view = { reader_of };
 
-    ghost invariant = { λ r. IsSettled r.intake.held.bytes r.intake.taken r.fault
+    ghost invariant = { λ r. IsSettled r.intake.held.bytes r.intake.ended r.intake.taken r.fault
         × (length r.intake.held.bytes ≤ r.intake.held.kept) };
 }
 
@@ -111,6 +111,7 @@ impl LineReader {
         ensures no_line_held { result ≡ Err LineFault.ReadFault → IsLine self.new.held }
         ensures last_read { (t : ℕ) → result ≡ Err (LineFault.TooLong t)
             → IsLineThenRead self.new.held }
+        ensures unended { IfErr result (λ fault. fault ≢ LineFault.Memory → self.new.ended ≡ false) }
         ensures above_limit { MAX_INPUT < self.new.taken
             → result ≡ Err (LineFault.TooLong self.new.taken) }
         ensures remembered { self.new.fault ≡ lasting_fault result }

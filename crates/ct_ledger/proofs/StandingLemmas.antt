@@ -1,6 +1,6 @@
 -- What holds of the pieces of a ledger is kept as pieces come and go.
 use Rattle.std.proofs.Common.{◌≡◌, ◌≢◌, ℕ, ◌+◌, ◌≤◌, ◌<◌, Bool, true, false, ◌||◌, cond, not, List, [], ◌∷◌, ◌++◌, length, Option, Some, None, Result, Ok, Err, IfSome, refl, sym, ap, subst, ◌∙◌, arith, nat_le, leb-true, get_or, length-append}
-use Rattle.std.proofs.lemmas.Bool.{lt-leb}
+use Rattle.std.proofs.lemmas.Bool.{lt-leb, le-leb, leb-false}
 use Rattle.std.specs.Prelude.{All, AllPairs, filter, sum_by}
 use Rattle.std.specs.List.{list_any}
 use Rattle.std.specs.Str.{bytes_eq}
@@ -18,7 +18,7 @@ use Rattle.ct_files.specs.declared.evidence.Evidence.TheVariants.{Words}
 use Rattle.ct_files.specs.declared.fault.FileFault.{FileFault}
 use Rattle.ct_files.specs.Evidence.{read_of, IsSound}
 use Rattle.ct_files.proofs.Evidences.{read_of-sound}
-use Rattle.ct_ledger.specs.Piece.{PieceValue, has_id, stored_by, stored_words}
+use Rattle.ct_ledger.specs.Piece.{PieceValue, has_id, stored_by, stored_words, first_user}
 use Rattle.ct_ledger.specs.Submission.{made_unless, made_of, piece_from, if_stored, stored_beside, unless_full, submitted, with_piece}
 use Rattle.ct_ledger.specs.Withdrawal.{without, withdrawn, unless_used, left_by}
 use Rattle.ct_ledger.specs.Standing.{AreStanding, IsMade, HasTrueSize}
@@ -26,6 +26,7 @@ use Rattle.ct_ledger.specs.declared.limits.TheConstants.{MAX_PIECES, MAX_STORED}
 use Rattle.ct_ledger.specs.declared.fault.SubmitFault.{SubmitFault}
 use Rattle.ct_ledger.specs.declared.fault.SubmitFault.TheVariants as fault
 use Rattle.ct_ledger.specs.declared.fault.WithdrawFault.{WithdrawFault}
+use Rattle.ct_ledger.specs.declared.fault.WithdrawFault.TheVariants as withdraw
 
 -- what is made where no fault was found
 made_unless-ok : (reason : Option CodeFault) (q p : PieceValue) → made_unless reason q ≡ Ok p → (reason ≡ None) × (q ≡ p)
@@ -134,3 +135,61 @@ pub AreStanding-made : (pieces : List PieceValue) (id document : List ℕ) (p : 
 AreStanding-made pieces id document p h made free room small =
     let names = piece_from-names id document (read_of document) p made in
     AreStanding-push pieces p h (piece_from-made id document p made) (ap (λ i. has_id i pieces) names.0 ∙ free) room small
+
+-- what a submission that makes a piece was asked
+pub record WasMade (pieces : List PieceValue) (id document : List ℕ) (p : PieceValue) : Type 0 where
+  pub free : has_id id pieces ≡ false
+  pub room : length pieces < MAX_PIECES
+  pub made : piece_from id document (read_of document) ≡ Ok p
+  pub small : stored_words pieces + stored_by p.evidence ≤ MAX_STORED
+
+if_stored-ok : (total : ℕ) (q p : PieceValue) (b : Bool) → nat_le total MAX_STORED ≡ b → cond b (Ok q) (Err (fault.FullWords total)) ≡ Ok p → (q ≡ p) × (total ≤ MAX_STORED)
+if_stored-ok total q p true e h = (cc, leb-true total MAX_STORED e)
+if_stored-ok total q p false e h = absurd cc
+
+stored_beside-ok : (stored : ℕ) (made : Result PieceValue SubmitFault) (p : PieceValue) → stored_beside stored made ≡ Ok p → (made ≡ Ok p) × (stored + stored_by p.evidence ≤ MAX_STORED)
+stored_beside-ok stored (Ok q) p h =
+    let both = if_stored-ok (stored + stored_by q.evidence) q p (nat_le (stored + stored_by q.evidence) MAX_STORED) refl h in
+    (ap Ok both.0, subst (λ (r : PieceValue). stored + stored_by r.evidence ≤ MAX_STORED) both.0 both.1)
+stored_beside-ok stored (Err reason) p h = absurd cc
+
+room-ok : (count : ℕ) (made : Result PieceValue SubmitFault) (p : PieceValue) (b : Bool) → nat_le MAX_PIECES count ≡ b → cond b (Err (fault.FullPieces count)) made ≡ Ok p → (count < MAX_PIECES) × (made ≡ Ok p)
+room-ok count made p true e h = absurd cc
+room-ok count made p false e h = (leb-false MAX_PIECES count e, h)
+
+unless_full-ok : (taken : Bool) (count : ℕ) (made : Result PieceValue SubmitFault) (p : PieceValue) → unless_full taken count made ≡ Ok p → (taken ≡ false) × (count < MAX_PIECES) × (made ≡ Ok p)
+unless_full-ok true count made p h = absurd cc
+unless_full-ok false count made p h = let rest = room-ok count made p (nat_le MAX_PIECES count) refl h in (refl, rest.0, rest.1)
+
+pub submitted-ok : (pieces : List PieceValue) (id document : List ℕ) (p : PieceValue) → submitted pieces id document ≡ Ok p → WasMade pieces id document p
+unfolding submitted
+submitted-ok pieces id document p h =
+    let whole = unless_full-ok (has_id id pieces) (length pieces) (stored_beside (stored_words pieces) (piece_from id document (read_of document))) p h in
+    let made = stored_beside-ok (stored_words pieces) (piece_from id document (read_of document)) p whole.2 in
+    record { free = whole.0; room = whole.1; made = made.0; small = made.1 }
+
+-- and it makes it again over any pieces that are asked the same
+pub submitted-from : (pieces : List PieceValue) (id document : List ℕ) (p : PieceValue) → WasMade pieces id document p → submitted pieces id document ≡ Ok p
+submitted-from pieces id document p h =
+    submitted-beside pieces id document p h.free h.room h.made
+    ∙ ap (λ (fits : Bool). cond fits (Ok p) (Err (fault.FullWords (stored_words pieces + stored_by p.evidence)))) (le-leb (stored_words pieces + stored_by p.evidence) MAX_STORED h.small)
+
+-- the pieces after a submission stand, where those before it do
+pub AreStanding-submitted : (pieces : List PieceValue) (id document : List ℕ) (made : Result PieceValue SubmitFault) → submitted pieces id document ≡ made → AreStanding pieces → AreStanding (with_piece pieces made)
+AreStanding-submitted pieces id document (Ok p) is h = let was = submitted-ok pieces id document p is in AreStanding-made pieces id document p h was.made was.free was.room was.small
+AreStanding-submitted pieces id document (Err reason) is h = h
+
+unless_used-standing : (user : Option PieceValue) (pieces rest : List PieceValue) → AreStanding pieces → AreStanding rest → AreStanding (left_by pieces (unless_used user rest))
+unless_used-standing None pieces rest h k = k
+unless_used-standing (Some user) pieces rest h k = h
+
+withdrawn-standing : (b : Bool) (left : Result (List PieceValue) WithdrawFault) (reason : WithdrawFault) (pieces : List PieceValue) → AreStanding pieces → AreStanding (left_by pieces left) → AreStanding (left_by pieces (cond b left (Err reason)))
+withdrawn-standing true left reason pieces h k = k
+withdrawn-standing false left reason pieces h k = h
+
+-- the pieces after a withdrawal stand, where those before it do
+pub AreStanding-withdrawn : (pieces : List PieceValue) (id : List ℕ) → AreStanding pieces → AreStanding (left_by pieces (withdrawn pieces id))
+unfolding withdrawn
+AreStanding-withdrawn pieces id h =
+    withdrawn-standing (has_id id pieces) (unless_used (first_user id pieces) (without id pieces)) withdraw.NoSuch pieces h
+    (unless_used-standing (first_user id pieces) pieces (without id pieces) h (AreStanding-filter (λ (q : PieceValue). not (bytes_eq q.id id)) pieces h))

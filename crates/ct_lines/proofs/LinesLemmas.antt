@@ -1,11 +1,11 @@
 -- The lines of an input: one more byte or line at its front, and what the lines make up.
-use Rattle.std.proofs.Common.{◌≡◌, ◌≢◌, ℕ, Bool, true, false, cond, List, [], ◌∷◌, ◌++◌, inl, inr, refl, sym, subst, ap, ◌∙◌, eqb}
+use Rattle.std.proofs.Common.{◌≡◌, ◌≢◌, ℕ, Bool, true, false, cond, List, [], ◌∷◌, ◌++◌, inl, inr, refl, sym, subst, ap, ◌∙◌, eqb, append_assoc}
 use Rattle.std.specs.List.{slice_split, onto_first, All}
 use Rattle.std.proofs.lemmas.Bool.{eqb-true, eqb-false, ne_eqb}
 use Rattle.std.proofs.lemmas.List.Elements.{All-nil, All-cons, All-head, All-tail, All-weaker}
 use Rattle.std.proofs.lemmas.List.Splits.{slice_split_none, slice_split_at, slice_split-cons_yes, slice_split-cons_no}
 use Rattle.ct_lines.specs.declared.TheConstants.{LINE_FEED}
-use Rattle.ct_lines.specs.Lines.{less_empty_last, lines_of, IsLine, ended_lines, AreLines, IsNextLine}
+use Rattle.ct_lines.specs.Lines.{less_empty_last, lines_of, IsLine, ended_lines, AreLines, IsNextLine, less_last_part, whole_lines}
 
 -- whether a byte ends a line
 abbrev pub is_feed : ℕ → Bool
@@ -127,3 +127,21 @@ first_byte b bs h false e =
 pub AreLines-lines_of : (input : List ℕ) → AreLines input (lines_of input)
 AreLines-lines_of [] = (All-nil IsLine, inl refl)
 AreLines-lines_of (b ∷ bs) = first_byte b bs (AreLines-lines_of bs) (is_feed b) refl
+
+-- one more part at the front, where there is one already
+less_last_part-cons : (part : List ℕ) (parts : List (List ℕ)) → IsFilled parts → less_last_part (part ∷ parts) ≡ part ∷ less_last_part parts
+less_last_part-cons part [] h = absurd (let e = h.2 in cc)
+less_last_part-cons part (next ∷ parts) h = refl
+
+-- a line that a line feed ends is the first whole line
+whole_lines-next : (line rest : List ℕ) → IsLine line → whole_lines (line ++ LINE_FEED ∷ rest) ≡ line ∷ whole_lines rest
+whole_lines-next line rest h =
+    ap less_last_part (slice_split_at is_feed line LINE_FEED rest (no_feed line h) refl) ∙ less_last_part-cons line (slice_split is_feed rest) (IsFilled-slice_split rest)
+
+-- lines that line feeds end, and a part of a line after them
+pub whole_lines-ended : (lines : List (List ℕ)) (tail : List ℕ) → All IsLine lines → IsLine tail → whole_lines (ended_lines lines ++ tail) ≡ lines
+whole_lines-ended [] tail h t = ap less_last_part (slice_split_none is_feed tail (no_feed tail t))
+whole_lines-ended (line ∷ lines) tail h t =
+    let rest = ended_lines lines ++ tail in
+    ap whole_lines (append_assoc (line ++ LINE_FEED ∷ []) (ended_lines lines) tail ∙ append_assoc line (LINE_FEED ∷ []) rest)
+    ∙ whole_lines-next line rest (All-head IsLine line lines h) ∙ ap (λ ls. line ∷ ls) (whole_lines-ended lines tail (All-tail IsLine line lines h) t)

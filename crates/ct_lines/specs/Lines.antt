@@ -31,3 +31,13 @@ AreLines input lines =
 abbrev pub IsNextLine : List ℕ → List ℕ → List ℕ → Type 0
 IsNextLine before line after =
     IsLine line × ((before ≡ line ++ LINE_FEED ∷ after) ⊎ ((before ≡ line) × (line ≢ []) × (after ≡ [])))
+
+-- the parts, less the last
+abbrev pub less_last_part : List (List ℕ) → List (List ℕ)
+less_last_part [] = []
+less_last_part (part ∷ []) = []
+less_last_part (part ∷ next ∷ parts) = part ∷ less_last_part (next ∷ parts)
+
+-- the whole lines of bytes: those that a line feed ends
+abbrev pub whole_lines : List ℕ → List (List ℕ)
+whole_lines bytes = less_last_part (slice_split (λ b. b == LINE_FEED) bytes)

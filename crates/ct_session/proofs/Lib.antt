@@ -1,1 +1,7 @@
 pub mod BoundLemmas
+pub mod Answering
+pub mod Existence
+pub mod Uniqueness
+pub mod Taking
+pub mod Serving
+pub mod Endings

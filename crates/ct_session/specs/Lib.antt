@@ -2,3 +2,5 @@ pub mod Bounds
 pub mod Text
 pub mod Reply
 pub mod Run
+pub mod Serve
+pub mod Inside

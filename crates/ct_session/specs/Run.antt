@@ -1,5 +1,5 @@
 -- A run of a session: what is written for an input.
-use Rattle.std.specs.Prelude.{◌≡◌, ℕ, ⊤, Bool, List, [], ◌∷◌, fold}
+use Rattle.std.specs.Prelude.{◌≡◌, ℕ, ⊤, Bool, List, [], ◌∷◌, ◌++◌, fold}
 use Rattle.std.specs.List.{flat_map, list_any}
 use Rattle.ct_lines.specs.Lines.{lines_of}
 use Rattle.ct_commands.specs.Command.{commands_of}
@@ -22,6 +22,10 @@ pub record AnswersCommands (pieces : List PieceValue) (commands : List Command) 
   pub are : AreReplies pieces commands replies
   pub texts : text ≡ flat_map reply_text replies
   pub mark : refused ≡ list_any is_refusal replies
+
+-- a text grew by one that answers the commands
+abbrev pub PutsAnswers : List PieceValue → List Command → Bool → List ℕ → List ℕ → Type 0
+PutsAnswers pieces commands refused before after = (text : List ℕ) × AnswersCommands pieces commands text refused × (after ≡ before ++ text)
 
 -- a run of the session on an input: the output answers its commands, over no pieces to begin with; it is refused where a reply is a refusal
 abbrev pub IsRun : List ℕ → List ℕ → Bool → Type 0

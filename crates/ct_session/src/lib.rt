@@ -4,6 +4,9 @@
 mod answer;
 mod bounds;
 mod reply;
+mod serve;
+mod session;
 mod text;
 
 pub use reply::{Bounds, Refusal, Reply};
+pub use serve::{ServeFault, serve_session};

@@ -1,4 +1,4 @@
-use Rattle.std.proofs.Common.{arith, ◌≡◌, ◌≤◌, ◌^◌, length, ap, ◌∙◌, lit≤}
+use Rattle.std.proofs.Common.{arith, ◌≤◌, ◌^◌, length, ap, ◌∙◌, lit≤}
 use Rattle.std.proofs.Math.Nat.{pow-le-pow_right}
 use Rattle.std.proofs.lemmas.List.Sorted.{length_permutation}
 use Rattle.ct_words.specs.declared.limits.TheConstants.{MAX_BOUND}

@@ -1,4 +1,4 @@
-use Rattle.ct_lines.proofs.LinesLemmas.{AreLines-lines_of, lines_of-from_next}
+use Rattle.ct_lines.proofs.LinesLemmas.{AreLines-lines_of, lines_of-from_next, whole_lines-ended}
 use Rattle.ct_lines.proofs.laws.lines_law.Goals as goal
 
 pub returns-clause-made_of_lines : goal.returns-clause-made_of_lines
@@ -6,3 +6,6 @@ returns-clause-made_of_lines c = AreLines-lines_of
 
 pub returns-clause-next_is_first : goal.returns-clause-next_is_first
 returns-clause-next_is_first c = lines_of-from_next
+
+pub returns-clause-whole : goal.returns-clause-whole
+returns-clause-whole c = whole_lines-ended

@@ -1,8 +1,7 @@
-use Rattle.std.proofs.Common.{rules, ◌≡◌, ◌≤◌, ◌+◌, ap, sym, ◌∙◌, subst, length, ℕ, List}
+use Rattle.std.proofs.Common.{rules, ◌≡◌, ◌≤◌, ◌+◌, ap, sym, ◌∙◌, subst, ℕ}
 use Rattle.std.proofs.lemmas.List.Sums.{sum_by_push}
 use Rattle.ct_ledger.specs.Piece.{PieceValue, stored_by, stored_words}
 use Rattle.ct_ledger.specs.Ledger.{LedgerValue}
-use Rattle.ct_ledger.specs.Standing.{AreStanding}
 use Rattle.ct_ledger.specs.declared.limits.TheConstants.{MAX_STORED}
 use Rattle.ct_ledger.proofs.StandingLemmas.{submitted-beside, AreStanding-made}
 use Rattle.ct_ledger.proofs.ledger.Ledger.submit_text.Goals as goal

@@ -1,0 +1,316 @@
+-- What lasts from line to line while a session is served.
+use Rattle.std.proofs.Common.{◌≡◌, ◌≢◌, ℕ, ◌+◌, ◌-◌, ◌<◌, ◌≤◌, Bool, true, false, List, [], ◌∷◌, ◌++◌, length, Option, None, Some, Result, Ok, Err, Vec, refl, sym, ap, ◌∙◌, subst, arith, inl, inr, ◌⊎◌, ◌||◌, ◌↔◌, length-append, append_assoc, append-nil}
+use Rattle.std.specs.Prelude.{All, Contains, ⊤}
+use Rattle.std.specs.List.{flat_map}
+use Rattle.std.specs.declared.alloc.Global.{Global}
+use Rattle.std.specs.Io.KnownBytes.{Appends, Consumes, IsAtEnd, prepend_known}
+use Rattle.std.proofs.KnownBytes.{Appends-nil, Appends-trans, Consumes-nil, Consumes-trans}
+use Rattle.std.proofs.lemmas.Bool.Decides.{leb_tells}
+use Rattle.std.proofs.lemmas.Grind.{flat_map-append}
+use Rattle.std.proofs.lemmas.List.Elements.{All-nil, All-push, All-contains, Contains-append_left}
+use Rattle.ct_lines.specs.declared.TheConstants.{LINE_FEED}
+use Rattle.ct_lines.specs.Lines.{lines_of, IsLine, IsNextLine, ended_lines, whole_lines}
+use Rattle.ct_lines.proofs.LinesLemmas.{whole_lines-ended}
+use Rattle.ct_io.specs.declared.TheConstants.{MAX_INPUT, MAX_READ}
+use Rattle.ct_io.specs.declared.line_fault.LineFault.{LineFault}
+use Rattle.ct_io.specs.declared.line_fault.LineFault.TheVariants as line_fault
+use Rattle.ct_io.specs.Reader.{Reader, fresh_reader, input_of, LosesFirstLine, Takes, NeedsNoRead, IsLineThenRead}
+use Rattle.ct_io.proofs.ReaderLemmas.{Takes-line, Takes-within}
+use Rattle.ct_io.specs.Told.{WhereTold, IsAboveLimit, AppendsProperPrefix}
+use Rattle.ct_commands.specs.Command.{completed, commands_of, cut_off}
+use Rattle.ct_session.specs.Run.{AnswersCommands, IsRun, PutsAnswers}
+use Rattle.ct_session.specs.Serve.{WritesRun, WritesRunPrefix, WritesRunProperPrefix, AnswersLines, AnswersTaken, AnswersButLastRead}
+use Rattle.ct_session.specs.Inside.State.{State, fresh_state, TakesLines, PutsLines}
+use Rattle.ct_session.specs.Inside.Writing.{WritesSome, IsReady}
+use Rattle.ct_session.proofs.Taking.{Follows, takes_none, takes_more, whole_run, prefix_written, proper_prefix_written}
+
+-- ---- the bytes that were taken
+
+-- known bytes lost n of them
+abbrev pub Took : Option (List ℕ) → Option (List ℕ) → ℕ → Type 0
+Took old new n = (bytes : List ℕ) × Consumes old new bytes × (n ≡ length bytes)
+
+-- the bytes that were taken are lines that line feeds end, and those that are held
+pub record Given (left now : Option (List ℕ)) (lines : List (List ℕ)) (held : List ℕ) : Type 0 where
+  pub bytes : List ℕ
+  pub taken : Consumes left now bytes
+  pub divided : bytes ≡ ended_lines lines ++ held
+  pub whole : All IsLine lines
+
+-- the lines that were taken, what was written of the replies to them, the bytes that were taken, and the counts of faults
+pub record Serves (r : Reader) (s : State) (gathered : List ℕ) (left now old held : Option (List ℕ)) (reads reads' writes writes' : ℕ) : Type 0 where
+  pub lines : List (List ℕ)
+  pub written : List ℕ
+  pub takes : TakesLines fresh_state s lines (written ++ gathered)
+  pub wrote : Appends old held written
+  pub follows : Follows left (input_of r now) lines
+  pub given : r.ended ≡ false → Given left now lines r.held
+  pub took : Took left now r.taken
+  pub within : r.taken ≤ MAX_INPUT
+  pub inside : length r.held ≤ r.taken
+  pub ended : r.ended ≡ true → IsAtEnd now
+  pub healthy : r.fault ≡ None
+  pub read_count : reads ≤ reads'
+  pub write_count : writes ≤ writes'
+
+took_none : (left : Option (List ℕ)) → Took left left 0
+took_none left = ([], Consumes-nil left, refl)
+
+pub took_more : (a b c : Option (List ℕ)) (m n : ℕ) (bytes : List ℕ) → Took a b m → Consumes b c bytes → n ≡ m + length bytes → Took a c n
+took_more a b c m n bytes h k e =
+    let both = length-append h.0 bytes in
+    (h.0 ++ bytes, Consumes-trans a b c h.0 bytes h.1 k, omega (arith, both, h.2))
+
+told : (before after : List ℕ) (n : ℕ) → Took (Some before) (Some after) n → length before ≡ n + length after
+told before after n h = let both = ap length h.1 ∙ length-append h.0 after in omega (arith, both, h.2)
+
+-- a fact is said exactly where the bytes that were taken are above the limit
+pub long_exactly : (P : Type 0) (a b : Option (List ℕ)) (n : ℕ) → Took a b n → (P → MAX_INPUT < n) → (MAX_INPUT < n → P) → WhereTold a b (λ before after. P ↔ IsAboveLimit before after)
+long_exactly P None b n h to from = tt
+long_exactly P (Some before) None n h to from = absurd h.1
+long_exactly P (Some before) (Some after) n h to from =
+    let e = told before after n h in
+    (λ long. let above = to long in omega (arith, e, above), λ above. from (omega (arith, e, above)))
+
+-- a fact that does not hold, after bytes within the limit
+pub not_long : (P : Type 0) (a b : Option (List ℕ)) (n : ℕ) → Took a b n → n ≤ MAX_INPUT → (P → ⊥) → WhereTold a b (λ before after. P ↔ IsAboveLimit before after)
+not_long P a b n h within other = long_exactly P a b n h (λ long. absurd (other long)) (λ above. absurd (omega arith))
+
+-- at most one read past the limit was taken
+pub one_read : (a b : Option (List ℕ)) (n : ℕ) → Took a b n → n ≤ MAX_INPUT + MAX_READ → WhereTold a b (λ before after. length before ≤ length after + MAX_INPUT + MAX_READ)
+one_read None b n h few = tt
+one_read (Some before) None n h few = absurd h.1
+one_read (Some before) (Some after) n h few = let e = told before after n h in omega (arith, e, few)
+
+-- a call that gave a line, or none, took no bytes above the limit
+pub within_limit : {X : Type 0} (x : X) (n : ℕ) → (MAX_INPUT < n → ◌≡◌ {A = Result X LineFault} (Ok x) (Err (line_fault.TooLong n))) → n ≤ MAX_INPUT
+within_limit {X} x n h = elim (leb_tells n MAX_INPUT) [ inl t ↦ t.1 | inr t ↦ let e = h t.1 in absurd (cc) ]
+
+-- each line takes the reader further: fewer bytes of the limit are left
+line_advances : (r q : Reader) (now next : Option (List ℕ)) (line : Vec ℕ Global) → Takes r q now next (Ok (Some line)) → length r.held ≤ r.taken → q.taken ≤ MAX_INPUT
+    → (MAX_INPUT - (q.taken - length q.held) < MAX_INPUT - (r.taken - length r.held)) × (length q.held ≤ q.taken)
+line_advances r q now next line h inside within =
+    let given = Takes-line r q now next line h in
+    let held = Takes-within r q now next (Ok (Some line)) h inside in
+    (omega (arith, given, held), held)
+
+pub advances : (r q : Reader) (s : State) (gathered : List ℕ) (left now next old held : Option (List ℕ)) (reads reads' writes writes' : ℕ) (line : Vec ℕ Global)
+    → Serves r s gathered left now old held reads reads' writes writes' → Takes r q now next (Ok (Some line)) → q.taken ≤ MAX_INPUT
+    → MAX_INPUT - (q.taken - length q.held) < MAX_INPUT - (r.taken - length r.held)
+advances r q s gathered left now next old held reads reads' writes writes' line h takes within = (line_advances r q now next line takes h.inside within).0
+
+-- once the end was seen, the source is at its end
+pub at_end : {S : Type 0} (left : S → Option (List ℕ)) (old new : S) (was is : Bool) → (was ≡ true → IsAtEnd (left old)) → (was ≡ false → is ≡ true → IsAtEnd (left new))
+    → (was ≡ true → new ≡ old) → is ≡ true → IsAtEnd (left new)
+at_end left old new true is before now same e = subst (λ s. IsAtEnd (left s)) (sym (same refl)) (before refl)
+at_end left old new false is before now same e = now refl e
+
+-- ---- the steps
+
+-- the input of a reader that took nothing is what the source has left
+follows_none : (left : Option (List ℕ)) → Follows left (prepend_known [] left) []
+follows_none None = tt
+follows_none (Some input) = refl
+
+-- before the first line
+pub begins : (left held : Option (List ℕ)) (reads writes : ℕ) → Serves fresh_reader fresh_state [] left left held held reads reads writes writes
+begins left held reads writes = record {
+  lines = [];
+  written = [];
+  takes = takes_none fresh_state;
+  wrote = Appends-nil held;
+  follows = follows_none left;
+  given = λ _. record { bytes = []; taken = Consumes-nil left; divided = refl; whole = All-nil IsLine };
+  took = took_none left;
+  within = omega arith;
+  inside = omega arith;
+  ended = λ e. absurd cc;
+  healthy = refl;
+  read_count = omega arith;
+  write_count = omega arith;
+}
+
+-- some of the gathered replies were written
+pub after_writing : (r : Reader) (s : State) (g g' : List ℕ) (left now old held new : Option (List ℕ)) (reads reads' writes writes' writes'' : ℕ) → Serves r s g left now old held reads reads' writes writes'
+    → WritesSome g g' held new → writes' ≤ writes'' → Serves r s g' left now old new reads reads' writes writes''
+after_writing r s g g' left now old held new reads reads' writes writes' writes'' h w counted =
+    let before = h.write_count in
+    record {
+      lines = h.lines;
+      written = h.written ++ w.0;
+      takes = subst (TakesLines fresh_state s h.lines) (ap (λ (t : List ℕ). h.written ++ t) w.1 ∙ sym (append_assoc h.written w.0 g')) h.takes;
+      wrote = Appends-trans old held new _ _ h.wrote w.2;
+      follows = h.follows;
+      given = h.given;
+      took = h.took;
+      within = h.within;
+      inside = h.inside;
+      ended = h.ended;
+      healthy = h.healthy;
+      read_count = h.read_count;
+      write_count = omega (arith, before, counted);
+    }
+
+follows_on : (left now next : Option (List ℕ)) (lines : List (List ℕ)) (line : List ℕ) → Follows left now lines → LosesFirstLine now next line → Follows left next (lines ++ line ∷ [])
+follows_on None now next lines line h e = tt
+follows_on (Some input) None next lines line h e = absurd h
+follows_on (Some input) (Some before) None lines line h e = absurd e
+follows_on (Some input) (Some before) (Some after) lines line h e = h ∙ ap (λ (ls : List (List ℕ)). lines ++ ls) e ∙ sym (append_assoc lines (line ∷ []) (lines_of after))
+
+-- one more line was given, which a line feed ends
+given_on : (r q : Reader) (left now next : Option (List ℕ)) (lines : List (List ℕ)) (line : Vec ℕ Global) → Given left now lines r.held → Takes r q now next (Ok (Some line)) → q.ended ≡ false → Given left next (lines ++ line.items ∷ []) q.held
+given_on r q left now next lines line h takes going =
+    let fed = λ (l : List ℕ). l ++ LINE_FEED ∷ [] in
+    let more = takes.3.1 going in
+    record {
+      bytes = h.bytes ++ takes.0;
+      taken = Consumes-trans left now next h.bytes takes.0 h.taken takes.1;
+      divided = ap (λ (b : List ℕ). b ++ takes.0) h.divided ∙ append_assoc (ended_lines lines) r.held takes.0 ∙ ap (λ (b : List ℕ). ended_lines lines ++ b) more
+          ∙ ap (λ (b : List ℕ). ended_lines lines ++ b) (sym (append_assoc line.items (LINE_FEED ∷ []) q.held)) ∙ sym (append_assoc (ended_lines lines) (fed line.items) q.held)
+          ∙ ap (λ (b : List ℕ). b ++ q.held) (ap (λ (b : List ℕ). ended_lines lines ++ b) (sym (append-nil (fed line.items))) ∙ sym (flat_map-append fed lines (line.items ∷ [])));
+      whole = All-push IsLine lines line.items h.whole takes.3.0.0;
+    }
+
+not_ended : (was is : Bool) → (was ≡ true → is ≡ true) → is ≡ false → was ≡ false
+not_ended true is h e = let yes = h refl in absurd cc
+not_ended false is h e = refl
+
+-- a line was given and taken
+pub serves_on : (r q : Reader) (s t : State) (g g' : List ℕ) (left now next old held : Option (List ℕ)) (reads reads' reads'' writes writes' : ℕ) (line : Vec ℕ Global)
+    → Serves r s g left now old held reads reads' writes writes' → LosesFirstLine (input_of r now) (input_of q next) line.items → Takes r q now next (Ok (Some line)) → q.taken ≤ MAX_INPUT
+    → (r.ended ≡ true → q.ended ≡ true) → (q.ended ≡ true → IsAtEnd next) → q.fault ≡ None → reads' ≤ reads'' → PutsLines s t (line.items ∷ []) g g'
+    → Serves q t g' left next old held reads reads'' writes writes'
+serves_on r q s t g g' left now next old held reads reads' reads'' writes writes' line h loses takes within lasts ended healthy counted puts =
+    let advance = line_advances r q now next line takes h.inside within in
+    let before = h.read_count in
+    record {
+      lines = h.lines ++ line.items ∷ [];
+      written = h.written;
+      takes = subst (TakesLines fresh_state t (h.lines ++ line.items ∷ [])) (append_assoc h.written g puts.0 ∙ ap (λ (x : List ℕ). h.written ++ x) (sym puts.2)) (takes_more fresh_state s t h.lines (line.items ∷ []) (h.written ++ g) puts.0 h.takes puts.1);
+      wrote = h.wrote;
+      follows = follows_on left (input_of r now) (input_of q next) h.lines line.items h.follows loses;
+      given = λ going. given_on r q left now next h.lines line (h.given (not_ended r.ended q.ended lasts going)) takes going;
+      took = took_more left now next r.taken q.taken takes.0 h.took takes.1 takes.2;
+      within = within;
+      inside = advance.1;
+      ended = ended;
+      healthy = healthy;
+      read_count = omega (arith, before, counted);
+      write_count = h.write_count;
+    }
+
+-- ---- the ends
+
+-- of the replies that are gathered a prefix was written
+pub prefix_of : (r : Reader) (s : State) (g : List ℕ) (left now old held new : Option (List ℕ)) (reads reads' writes writes' : ℕ) (front back : List ℕ) → Serves r s g left now old held reads reads' writes writes'
+    → g ≡ front ++ back → Appends held new front → WritesRunPrefix left old new
+prefix_of r s g left now old held new reads reads' writes writes' front back h parts written =
+    prefix_written left (input_of r now) old new s h.lines (h.written ++ g) (h.written ++ front) back h.takes h.follows
+    (ap (λ (t : List ℕ). h.written ++ t) parts ∙ sym (append_assoc h.written front back)) (Appends-trans old held new _ _ h.wrote written)
+
+-- and some of them is left
+pub proper_prefix_of : (r : Reader) (s : State) (g : List ℕ) (left now old held new : Option (List ℕ)) (reads reads' writes writes' : ℕ) → Serves r s g left now old held reads reads' writes writes'
+    → AppendsProperPrefix held new g → WritesRunProperPrefix left old new
+proper_prefix_of r s g left now old held new reads reads' writes writes' h part =
+    proper_prefix_written left (input_of r now) old new s h.lines (h.written ++ g) (h.written ++ part.0) part.1 h.takes h.follows
+    (ap (λ (t : List ℕ). h.written ++ t) part.2 ∙ sym (append_assoc h.written part.0 part.1)) part.3 (Appends-trans old held new _ _ h.wrote part.4)
+
+-- a prefix of which some is left is one
+pub weaker_prefix : (left old new : Option (List ℕ)) → WritesRunProperPrefix left old new → WritesRunPrefix left old new
+weaker_prefix None old new h = tt
+weaker_prefix (Some input) old new h = (h.0, h.1, h.2, (h.3.0, h.3.1, h.3.2, h.3.4))
+
+-- a whole run is a prefix of one
+pub prefix_of_run : (left old new : Option (List ℕ)) (refused : Bool) → WritesRun left old new refused → WritesRunPrefix left old new
+prefix_of_run None old new refused h = tt
+prefix_of_run (Some input) old new refused h = (h.0, refused, h.1, (h.0, [], sym (append-nil h.0), h.2))
+
+-- the lines of an input, all of which were taken
+all_lines : (input now : List ℕ) (lines : List (List ℕ)) → lines_of input ≡ lines ++ lines_of now → now ≡ [] → lines_of input ≡ lines
+all_lines input now lines h e = h ∙ ap (λ (b : List ℕ). lines ++ lines_of b) e ∙ append-nil lines
+
+-- the end of the input was taken: the replies are those of a run
+run_answers : (left now : Option (List ℕ)) (s : State) (lines : List (List ℕ)) (text more : List ℕ) (b : Bool) → TakesLines fresh_state s lines text → Follows left now lines → IsAtEnd now → AnswersCommands s.pieces (cut_off s.pending) more b
+    → (input : List ℕ) → left ≡ Some input → IsRun input (text ++ more) (s.refused || b)
+run_answers None now s lines text more b h follows at k input e = absurd cc
+run_answers (Some other) None s lines text more b h follows at k input e = absurd follows
+run_answers (Some other) (Some bytes) s lines text more b h follows at k input e =
+    let same : other ≡ input = cc in
+    subst (λ (i : List ℕ). IsRun i (text ++ more) (s.refused || b)) same
+    (subst (λ (ls : List (List ℕ)). AnswersCommands [] (commands_of ls) (text ++ more) (s.refused || b)) (sym (all_lines other bytes lines follows at)) (whole_run s lines text more b h k))
+
+-- the whole run was written
+pub run_of : (r : Reader) (s : State) (g g' : List ℕ) (left now old held new : Option (List ℕ)) (reads reads' writes writes' : ℕ) (all b : Bool) → Serves r s g left now old held reads reads' writes writes'
+    → IsAtEnd (input_of r now) → PutsAnswers s.pieces (cut_off s.pending) b g g' → all ≡ (s.refused || b) → Appends held new g' → WritesRun left old new all
+run_of r s g g' None now old held new reads reads' writes writes' all b h at puts mark written = tt
+run_of r s g g' (Some input) now old held new reads reads' writes writes' all b h at puts mark written =
+    let run = run_answers (Some input) (input_of r now) s h.lines (h.written ++ g) puts.0 b h.takes h.follows at puts.1 input refl in
+    let spelled : (h.written ++ g) ++ puts.0 ≡ h.written ++ g' = append_assoc h.written g puts.0 ∙ ap (λ (t : List ℕ). h.written ++ t) (sym puts.2) in
+    (h.written ++ g', subst (λ (m : Bool). IsRun input (h.written ++ g') m) (sym mark) (subst (λ (t : List ℕ). IsRun input t (s.refused || b)) spelled run), Appends-trans old held new _ _ h.wrote written)
+
+-- of the whole run a proper prefix was written
+pub run_in_part : (r : Reader) (s : State) (g g' : List ℕ) (left now old held new : Option (List ℕ)) (reads reads' writes writes' : ℕ) (b : Bool) → Serves r s g left now old held reads reads' writes writes'
+    → IsAtEnd (input_of r now) → PutsAnswers s.pieces (cut_off s.pending) b g g' → AppendsProperPrefix held new g' → WritesRunProperPrefix left old new
+run_in_part r s g g' None now old held new reads reads' writes writes' b h at puts part = tt
+run_in_part r s g g' (Some input) now old held new reads reads' writes writes' b h at puts part =
+    let run = run_answers (Some input) (input_of r now) s h.lines (h.written ++ g) puts.0 b h.takes h.follows at puts.1 input refl in
+    let spelled : (h.written ++ g) ++ puts.0 ≡ (h.written ++ part.0) ++ part.1 =
+    append_assoc h.written g puts.0 ∙ ap (λ (t : List ℕ). h.written ++ t) (sym puts.2) ∙ ap (λ (t : List ℕ). h.written ++ t) part.2 ∙ sym (append_assoc h.written part.0 part.1) in
+    ((h.written ++ g) ++ puts.0, s.refused || b, run, (h.written ++ part.0, part.1, spelled, part.3, Appends-trans old held new _ _ h.wrote part.4))
+
+-- ---- a source that failed, and one that is too long
+
+-- nothing is gathered where a read failed, since the reader had no line and had not seen the end
+pub nothing_gathered : (r q : Reader) (g : List ℕ) (now next : Option (List ℕ)) (fault : LineFault) → IsReady g r → Takes r q now next (Err fault) → IsLine q.held → (r.ended ≡ true → q.ended ≡ true) → q.ended ≡ false → g ≡ []
+nothing_gathered r q g now next fault (inl none) takes line lasts going = none
+nothing_gathered r q g now next fault (inr (inl there)) takes line lasts going =
+    let feed = subst (λ (b : List ℕ). Contains b LINE_FEED) (sym takes.3) (Contains-append_left r.held takes.0 LINE_FEED there) in
+    absurd (All-contains (λ b. b ≢ LINE_FEED) q.held LINE_FEED line feed refl)
+nothing_gathered r q g now next fault (inr (inr ended)) takes line lasts going = let yes = lasts ended in absurd cc
+
+-- nor where too many bytes came, since a read came
+pub nothing_gathered_long : (r q : Reader) (g : List ℕ) → IsReady g r → (NeedsNoRead r.held r.ended → q.taken ≡ r.taken) → r.taken ≤ MAX_INPUT → MAX_INPUT < q.taken → g ≡ []
+nothing_gathered_long r q g (inl none) unread few many = none
+nothing_gathered_long r q g (inr no_need) unread few many = let same = unread no_need in absurd (omega (arith, same, few, many))
+
+-- the bytes that were taken, where the reader had not seen the end
+taken_now : (r q : Reader) (left now next : Option (List ℕ)) (lines : List (List ℕ)) (fault : LineFault) → Given left now lines r.held → Takes r q now next (Err fault) → Given left next lines q.held
+taken_now r q left now next lines fault h takes = record {
+  bytes = h.bytes ++ takes.0;
+  taken = Consumes-trans left now next h.bytes takes.0 h.taken takes.1;
+  divided = ap (λ (b : List ℕ). b ++ takes.0) h.divided ∙ append_assoc (ended_lines lines) r.held takes.0 ∙ ap (λ (b : List ℕ). ended_lines lines ++ b) (sym takes.3);
+  whole = h.whole;
+}
+
+-- the replies to the whole lines of the bytes
+lines_answered : (s : State) (lines : List (List ℕ)) (text tail : List ℕ) (old held : Option (List ℕ)) → TakesLines fresh_state s lines text → All IsLine lines → IsLine tail → Appends old held text
+    → AnswersLines (ended_lines lines ++ tail) old held
+lines_answered s lines text tail old held h whole line wrote =
+    (text, h.refused, subst (λ (ls : List (List ℕ)). AnswersCommands [] (completed None ls) text h.refused) (sym (whole_lines-ended lines tail whole line)) h.answers, wrote)
+
+pub taken_answered : (r q : Reader) (s : State) (g : List ℕ) (left now next old held : Option (List ℕ)) (reads reads' writes writes' : ℕ) (fault : LineFault) → Serves r s g left now old held reads reads' writes writes'
+    → g ≡ [] → Takes r q now next (Err fault) → IsLine q.held → (r.ended ≡ true → q.ended ≡ true) → q.ended ≡ false → AnswersTaken left next old held
+taken_answered r q s g None now next old held reads reads' writes writes' fault h none takes line lasts going = tt
+taken_answered r q s g (Some input) now next old held reads reads' writes writes' fault h none takes line lasts going =
+    let given = taken_now r q (Some input) now next h.lines fault (h.given (not_ended r.ended q.ended lasts going)) takes in
+    let text = ap (λ (t : List ℕ). h.written ++ t) none ∙ append-nil h.written in (
+      given.bytes,
+      given.taken,
+      subst (λ (b : List ℕ). AnswersLines b old held) (sym given.divided)
+          (lines_answered s h.lines h.written q.held old held (subst (TakesLines fresh_state s h.lines) text h.takes) given.whole line h.wrote),
+    )
+
+pub last_read_unanswered : (r q : Reader) (s : State) (g : List ℕ) (left now next old held : Option (List ℕ)) (reads reads' writes writes' : ℕ) (fault : LineFault) → Serves r s g left now old held reads reads' writes writes'
+    → g ≡ [] → Takes r q now next (Err fault) → IsLineThenRead q.held → (r.ended ≡ true → q.ended ≡ true) → q.ended ≡ false → AnswersButLastRead left next old held
+last_read_unanswered r q s g None now next old held reads reads' writes writes' fault h none takes part lasts going = tt
+last_read_unanswered r q s g (Some input) now next old held reads reads' writes writes' fault h none takes part lasts going =
+    let given = taken_now r q (Some input) now next h.lines fault (h.given (not_ended r.ended q.ended lasts going)) takes in
+    let text = ap (λ (t : List ℕ). h.written ++ t) none ∙ append-nil h.written in
+    let front = ended_lines h.lines ++ part.0 in
+    let spelled : given.bytes ≡ front ++ part.1 = given.divided ∙ ap (λ (b : List ℕ). ended_lines h.lines ++ b) part.2 ∙ sym (append_assoc (ended_lines h.lines) part.0 part.1) in (
+      front,
+      part.1,
+      subst (Consumes (Some input) next) spelled given.taken,
+      part.4,
+      lines_answered s h.lines h.written part.0 old held (subst (TakesLines fresh_state s h.lines) text h.takes) given.whole part.3 h.wrote,
+    )

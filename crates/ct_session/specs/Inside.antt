@@ -1,0 +1,4 @@
+-- Words that the contracts of inner functions alone cite.
+pub mod State
+pub mod Writing
+pub mod Ending

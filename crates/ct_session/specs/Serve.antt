@@ -1,0 +1,38 @@
+-- What serving a session does to a source and a sink that tell their bytes.
+use Rattle.std.specs.Prelude.{◌≡◌, ◌≤◌, ℕ, ⊤, Bool, List, [], ◌++◌, length, Option, Some, None}
+use Rattle.std.specs.Io.KnownBytes.{Appends, Consumes}
+use Rattle.ct_lines.specs.Lines.{whole_lines}
+use Rattle.ct_io.specs.declared.TheConstants.{MAX_READ}
+use Rattle.ct_io.specs.Told.{AppendsPrefix, AppendsProperPrefix}
+use Rattle.ct_commands.specs.Command.{completed}
+use Rattle.ct_session.specs.Run.{AnswersCommands, IsRun}
+
+-- what a sink holds grew by the output of a run on what the source had left
+abbrev pub WritesRun : Option (List ℕ) → Option (List ℕ) → Option (List ℕ) → Bool → Type 0
+WritesRun None old new refused = ⊤
+WritesRun (Some input) old new refused = (output : List ℕ) × IsRun input output refused × Appends old new output
+
+-- what a sink holds grew by a prefix of the output of a run on what the source had left
+abbrev pub WritesRunPrefix : Option (List ℕ) → Option (List ℕ) → Option (List ℕ) → Type 0
+WritesRunPrefix None old new = ⊤
+WritesRunPrefix (Some input) old new = (output : List ℕ) × (refused : Bool) × IsRun input output refused × AppendsPrefix old new output
+
+-- the same, and some of the output is left
+abbrev pub WritesRunProperPrefix : Option (List ℕ) → Option (List ℕ) → Option (List ℕ) → Type 0
+WritesRunProperPrefix None old new = ⊤
+WritesRunProperPrefix (Some input) old new = (output : List ℕ) × (refused : Bool) × IsRun input output refused × AppendsProperPrefix old new output
+
+-- what a sink holds grew by the replies to the commands that the whole lines of these bytes complete
+abbrev pub AnswersLines : List ℕ → Option (List ℕ) → Option (List ℕ) → Type 0
+AnswersLines bytes old new = (text : List ℕ) × (refused : Bool) × AnswersCommands [] (completed None (whole_lines bytes)) text refused × Appends old new text
+
+-- the bytes that were taken from the source were answered
+abbrev pub AnswersTaken : Option (List ℕ) → Option (List ℕ) → Option (List ℕ) → Option (List ℕ) → Type 0
+AnswersTaken None after old new = ⊤
+AnswersTaken (Some input) after old new = (taken : List ℕ) × Consumes (Some input) after taken × AnswersLines taken old new
+
+-- the bytes that were taken from the source were answered, but for those of the last read
+abbrev pub AnswersButLastRead : Option (List ℕ) → Option (List ℕ) → Option (List ℕ) → Option (List ℕ) → Type 0
+AnswersButLastRead None after old new = ⊤
+AnswersButLastRead (Some input) after old new =
+    (front last : List ℕ) × Consumes (Some input) after (front ++ last) × (length last ≤ MAX_READ) × AnswersLines front old new

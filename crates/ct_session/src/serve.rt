@@ -1,0 +1,157 @@
+//! The loop that serves a session.
+
+ghost use Rattle.std.specs.Prelude.{◌≡◌, ◌≢◌, ◌≤◌, ◌+◌, ◌↔◌, Bool, Err, IfOk, IfErr, OnOk, OnErr, [], length};
+ghost use Rattle.std.specs.Io.KnownBytes.{Appends, IsAtEnd};
+ghost use Rattle.ct_io.specs.Faults.{Rose};
+ghost use Rattle.ct_io.specs.Told.{AppendsProperPrefix, WhereTold, IsAboveLimit};
+ghost use Rattle.ct_io.specs.declared.TheConstants.{MAX_INPUT, MAX_READ};
+ghost use Rattle.ct_session.specs.Inside.Ending.{Ends};
+ghost use Rattle.ct_session.specs.Inside.Writing.{WritesSome, IsReady, BreaksOff, read_fault};
+ghost use Rattle.ct_session.specs.Serve.{WritesRun, WritesRunPrefix, WritesRunProperPrefix, AnswersTaken, AnswersButLastRead};
+
+use crate::session::Session;
+use ct_io::{LineFault, LineReader, Sink, Source, write_all};
+use std::alloc::Global;
+
+/// Where so many bytes of replies are gathered, they are written before another line is taken.
+const MAX_GATHERED: usize = 32_768;
+
+/// Why a session is broken off.
+#[derive(Clone, Copy, Debug, PartialEq, Eq)]
+pub enum ServeFault {
+    /// The source failed.
+    Read,
+    /// The sink failed.
+    Write,
+    /// More than `ct_io::MAX_INPUT` bytes were taken.
+    TooLong,
+    /// Memory ran out.
+    Memory,
+}
+
+/// Writes the replies that were gathered. After an `Err` the sink failed, and a part of them was written.
+fn write_gathered<K: Sink>(sink: &mut K, gathered: &mut Vec<u8>) -> Result<(), ServeFault>
+    ensures written { OnOk result (Appends (K.holds sink.old) (K.holds sink.new) gathered.old.items) }
+    ensures emptied { OnOk result (gathered.new.items ≡ []) }
+    ensures prefix { OnErr result (AppendsProperPrefix (K.holds sink.old) (K.holds sink.new) gathered.old.items) }
+    ensures fault { IfErr result (λ fault. fault ≡ ServeFault.Write) }
+    ensures failed { OnErr result (Rose (K.faults sink.old) (K.faults sink.new)) }
+    ensures counted { K.faults sink.old ≤ K.faults sink.new }
+{
+    match write_all(sink, gathered) {
+        Ok(()) => {
+            gathered.clear();
+            Ok(())
+        }
+        Err(_) => Err(ServeFault::Write),
+    }
+}
+
+/// Writes the replies that were gathered where the reader is about to read, or where they are many.
+fn make_ready<K: Sink>(
+    reader: &mut LineReader,
+    sink: &mut K,
+    gathered: &mut Vec<u8>,
+) -> Result<(), ServeFault>
+    ensures same { reader.new ≡ reader.old }
+    ensures written { OnOk result (WritesSome gathered.old.items gathered.new.items (K.holds sink.old) (K.holds sink.new)) }
+    ensures ready { OnOk result (IsReady gathered.new.items reader.new) }
+    ensures prefix { OnErr result (AppendsProperPrefix (K.holds sink.old) (K.holds sink.new) gathered.old.items) }
+    ensures fault { IfErr result (λ fault. fault ≡ ServeFault.Write) }
+    ensures failed { OnErr result (Rose (K.faults sink.old) (K.faults sink.new)) }
+    ensures counted { K.faults sink.old ≤ K.faults sink.new }
+{
+    if gathered.len() < MAX_GATHERED && reader.holds_line() {
+        return Ok(());
+    }
+    write_gathered(sink, gathered)
+}
+
+/// Writes the replies that were gathered before the session is broken off: the fault, or that the sink failed on the way.
+fn break_off<K: Sink>(sink: &mut K, gathered: &[u8], fault: ServeFault) -> ServeFault
+    ensures written { BreaksOff fault result gathered.now (K.holds sink.old) (K.holds sink.new) (K.faults sink.old) (K.faults sink.new) }
+    ensures counted { K.faults sink.old ≤ K.faults sink.new }
+{
+    match write_all(sink, gathered) {
+        Ok(()) => fault,
+        Err(_) => ServeFault::Write,
+    }
+}
+
+/// The fault of a session whose reader has this one.
+fn read_fault(fault: LineFault) -> ServeFault
+    ensures { result ≡ read_fault fault }
+{
+    match fault {
+        LineFault::ReadFault => ServeFault::Read,
+        LineFault::TooLong(_) => ServeFault::TooLong,
+        LineFault::Memory => ServeFault::Memory,
+    }
+}
+
+/// Serves a session, as `serve_session` does.
+fn serve_lines<S: Source, K: Sink>(
+    alloc: Global,
+    source: &mut S,
+    sink: &mut K,
+) -> Result<bool, ServeFault>
+    ensures { Ends result (S.left source.old) (S.left source.new) (K.holds sink.old) (K.holds sink.new)
+        (S.faults source.old) (S.faults source.new) (K.faults sink.old) (K.faults sink.new) }
+{
+    let Ok(mut reader) = LineReader::new(alloc) else {
+        return Err(ServeFault::Memory);
+    };
+    let Ok(mut session) = Session::new(alloc) else {
+        return Err(ServeFault::Memory);
+    };
+    let mut gathered = Vec::new(alloc);
+    'lines: loop {
+        make_ready(&mut reader, sink, &mut gathered)?;
+        let line = match reader.next_line(source) {
+            Ok(Some(line)) => line,
+            Ok(None) => break,
+            Err(fault) => return Err(break_off(sink, &gathered, read_fault(fault))),
+        };
+        let Ok(()) = session.take_line(alloc, &line, &mut gathered) else {
+            return Err(break_off(sink, &gathered, ServeFault::Memory));
+        };
+    }
+    let Ok(refused) = session.finish(alloc, &mut gathered) else {
+        return Err(break_off(sink, &gathered, ServeFault::Memory));
+    };
+    write_gathered(sink, &mut gathered)?;
+    Ok(refused)
+}
+
+/// Serves a session: takes the lines of the source to its end, and writes the replies to the sink. `Ok` tells whether any reply is a
+/// refusal.
+///
+/// Replies are written at the latest before the source is read again, and whole replies before the session is broken off.
+pub fn serve_session<S: Source, K: Sink>(
+    alloc: Global,
+    source: &mut S,
+    sink: &mut K,
+) -> Result<bool, ServeFault>
+    // The input was read to its end, and what was written is a run.
+    ensures run { IfOk result (WritesRun (S.left source.old) (K.holds sink.old) (K.holds sink.new)) }
+    ensures to_end { OnOk result (IsAtEnd (S.left source.new)) }
+
+    // Whatever comes of it, a prefix of a run was written; each fault says how much of it.
+    ensures prefix { WritesRunPrefix (S.left source.old) (K.holds sink.old) (K.holds sink.new) }
+    ensures written_in_part { result ≡ Err ServeFault.Write
+        → WritesRunProperPrefix (S.left source.old) (K.holds sink.old) (K.holds sink.new) }
+    ensures taken_answered { result ≡ Err ServeFault.Read
+        → AnswersTaken (S.left source.old) (S.left source.new) (K.holds sink.old) (K.holds sink.new) }
+    ensures last_read_unanswered { result ≡ Err ServeFault.TooLong
+        → AnswersButLastRead (S.left source.old) (S.left source.new) (K.holds sink.old) (K.holds sink.new) }
+
+    // When each fault comes.
+    ensures read_fault { result ≡ Err ServeFault.Read → Rose (S.faults source.old) (S.faults source.new) }
+    ensures write_fault { result ≡ Err ServeFault.Write → Rose (K.faults sink.old) (K.faults sink.new) }
+    ensures too_long { WhereTold (S.left source.old) (S.left source.new)
+        (λ before after. (result ≡ Err ServeFault.TooLong) ↔ IsAboveLimit before after) }
+    ensures one_read_past { WhereTold (S.left source.old) (S.left source.new)
+        (λ before after. length before ≤ length after + MAX_INPUT + MAX_READ) }
+{
+    serve_lines(alloc, source, sink)
+}

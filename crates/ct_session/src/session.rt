@@ -1,0 +1,111 @@
+//! A session: its lines are taken one by one, and the replies put to a text.
+
+ghost use Rattle.std.specs.Prelude.{◌≡◌, ◌||◌, Bool, ◌∷◌, [], OnOk, OnErr, IfOk, fold};
+ghost use Rattle.std.specs.Option.{option_to_list};
+ghost use Rattle.ct_commands.specs.Command.{cut_off};
+ghost use Rattle.ct_session.specs.Reply.{pieces_after};
+ghost use Rattle.ct_session.specs.Run.{PutsAnswers};
+
+use crate::answer::answer;
+use crate::text::put_reply;
+use ct_commands::{Command, CommandReader};
+use ct_ledger::Ledger;
+use std::alloc::{AllocError, Global};
+use std::marker::Model;
+
+/// A session after some of its lines.
+#[derive(Debug, Drop)]
+pub(crate) struct Session {
+    ledger: Ledger,
+    reader: CommandReader,
+    refused: bool,
+}
+
+impl Model for Session {
+    ghost use Rattle.ct_session.specs.Inside.State.{State};
+
+    ghost Value = { State };
+
+    ghost view = { λ s. record { pieces = s.ledger.pieces; pending = s.reader; refused = s.refused } };
+}
+
+/// Answers a command, and puts the reply at the end of the text: whether it is a refusal. After an `Err`, which is want of memory,
+/// the text is as before.
+fn reply_to(
+    alloc: Global,
+    ledger: &mut Ledger,
+    command: Command,
+    replies: &mut Vec<u8>,
+) -> Result<bool, AllocError>
+    ensures reply { IfOk result (λ refused. PutsAnswers ledger.old.pieces (command ∷ []) refused replies.old.items replies.new.items) }
+    ensures pieces { OnOk result (ledger.new.pieces ≡ pieces_after ledger.old.pieces command) }
+    ensures unchanged { OnErr result (replies.new.items ≡ replies.old.items) }
+{
+    let reply = answer(alloc, ledger, command)?;
+    put_reply(alloc, replies, &reply)?;
+    Ok(reply.is_refusal())
+}
+
+/// Answers the command, if there is one: whether the reply is a refusal.
+fn reply_to_any(
+    alloc: Global,
+    ledger: &mut Ledger,
+    command: Option<Command>,
+    replies: &mut Vec<u8>,
+) -> Result<bool, AllocError>
+    ensures reply { IfOk result (λ refused. PutsAnswers ledger.old.pieces (option_to_list command) refused
+        replies.old.items replies.new.items) }
+    ensures pieces { OnOk result (ledger.new.pieces ≡ fold pieces_after ledger.old.pieces (option_to_list command)) }
+    ensures unchanged { OnErr result (replies.new.items ≡ replies.old.items) }
+{
+    match command {
+        Some(command) => reply_to(alloc, ledger, command, replies),
+        None => Ok(false),
+    }
+}
+
+impl Session {
+    ghost use Rattle.ct_session.specs.Inside.State.{fresh_state, PutsLines};
+
+    /// A session before its first line. `Err` is want of memory.
+    pub(crate) fn new(alloc: Global) -> Result<Session, AllocError>
+        ensures { IfOk result (λ session. session ≡ fresh_state) }
+    {
+        Ok(Session {
+            ledger: Ledger::new(alloc)?,
+            reader: CommandReader::new(),
+            refused: false,
+        })
+    }
+
+    /// Takes the next line, and puts the reply to the command that it completes, if it completes one, at the end of the text.
+    /// After an `Err`, which is want of memory, the text is as before, and the session is not to be gone on with: its open submission may be
+    /// lost.
+    pub(crate) fn take_line(
+        &mut self,
+        alloc: Global,
+        line: &[u8],
+        replies: &mut Vec<u8>,
+    ) -> Result<(), AllocError>
+        ensures line { OnOk result (PutsLines self.old self.new (line.now ∷ []) replies.old.items replies.new.items) }
+        ensures unchanged { OnErr result (replies.new.items ≡ replies.old.items) }
+    {
+        let command = self.reader.take_line(alloc, line)?;
+        let refused = reply_to_any(alloc, &mut self.ledger, command, replies)?;
+        self.refused = self.refused || refused;
+        Ok(())
+    }
+
+    /// Takes the end of the input, and puts the reply to a submission that it cuts off, if one is open, at the end of the text: whether
+    /// any reply of the session is a refusal. After an `Err`, which is want of memory, the text is as before.
+    pub(crate) fn finish(self, alloc: Global, replies: &mut Vec<u8>) -> Result<bool, AllocError>
+        ensures end { IfOk result (λ all. (refused : Bool) × PutsAnswers self.pieces (cut_off self.pending) refused
+            replies.old.items replies.new.items × (all ≡ (self.refused || refused))) }
+        ensures unchanged { OnErr result (replies.new.items ≡ replies.old.items) }
+    {
+        let mut ledger = self.ledger;
+        let command = self.reader.finish();
+        let refused = reply_to_any(alloc, &mut ledger, command, replies)?;
+        Ok(self.refused || refused)
+    }
+}
