@@ -1,11 +1,1 @@
-pub mod Forms
-pub mod Truth
-pub mod Commands
-pub mod Replies
-pub mod Runs
-pub mod Serving
-pub mod Words
-pub mod Existence
-pub mod Uniqueness
-pub mod Submissions
-pub mod Greatest
+mod Statuses

@@ -1,10 +1,3 @@
-pub mod Form
-pub mod Command
-pub mod Bounds
-pub mod Reply
-pub mod Text
-pub mod Session
-pub mod State
+pub mod Mode
 pub mod Program
 pub mod Exit
-pub mod Examples

@@ -1,19 +1,18 @@
--- The program's command line and statuses.
-use Rattle.std.specs.Prelude.{◌≡◌, ◌≤◌, ◌<◌, ◌+◌, ◌⊎◌, ℕ, ⊤, List, [], ◌∷◌, ◌++◌, length, map, Option, Some, None, codes, String}
-use Rattle.std.specs.declared.alloc.Global.{Global}
-use Rattle.std.specs.String.{string_bytes}
+-- What the program writes where the words of its command line are no command.
+use Rattle.std.specs.Prelude.{ℕ, List, [], ◌∷◌, ◌++◌, Option, codes}
+use Rattle.std.specs.Io.KnownBytes.{Appends}
 use Rattle.ct_lines.specs.declared.TheConstants.{LINE_FEED}
+use Rattle.ct_io.specs.Told.{AppendsPrefix, AppendsProperPrefix}
 use Rattle.ct_program.specs.declared.status.Status.{Status}
-use Rattle.ct_program.specs.declared.status.Status.TheVariants as status
-
--- the words of the command line are the one word `session`
-abbrev pub IsSession : List (String Global) → Type 0
-IsSession words = map (λ word. string_bytes word) words ≡ codes "session" ∷ []
+use Rattle.ct_program.specs.declared.status.Status.TheVariants.{Usage, WriteFault, Memory}
 
 -- the line that is written where the words are no command
 abbrev pub usage_line : List ℕ
 usage_line = codes "usage: code_tables session | verify | find | sample --number N" ++ LINE_FEED ∷ []
 
--- the statuses of an input that was read to its end and of replies that all were written
-abbrev pub IsRunStatus : Status → Type 0
-IsRunStatus result = (result ≡ status.Done) ⊎ (result ≡ status.Refused)
+-- how the program ends where the words are no command: with the usage line, or with a fault before all of it was written
+abbrev pub WritesUsage : Status → Option (List ℕ) → Option (List ℕ) → Type 0
+WritesUsage Usage old new = Appends old new usage_line
+WritesUsage WriteFault old new = AppendsProperPrefix old new usage_line
+WritesUsage Memory old new = AppendsProperPrefix old new usage_line
+WritesUsage other old new = ⊥

@@ -1,17 +1,9 @@
 //! The program `code_tables`.
 #![tactic(auto)]
 
-mod answer;
-mod command;
-mod document;
-mod form;
-mod laws;
-mod piece;
-mod reply;
+mod mode;
 mod run;
-mod session;
 mod status;
-mod text;
 
 use crate::run::run;
 use crate::status::Status;

@@ -1,8 +1,9 @@
-use Rattle.std.proofs.Common.{sym, take, drop, take-append-drop}
-use Rattle.ct_program.specs.Program.{usage_line}
+use Rattle.std.proofs.Common.{◌≡◌, Some, sym, ◌∙◌}
+use Rattle.ct_program.specs.Mode.{mode_of, bytes_of}
+use Rattle.ct_program.proofs.Statuses.{sink_failed, session_in_part}
 use Rattle.ct_program.proofs.run.run.Goals as goal
 
-pub returns-in-Err-clause-usage_front : goal.returns-in-Err-clause-usage_front
-returns-in-Err-clause-usage_front g c = λ _.
-    let written = c.in-Err.ensures.prefix in
-    (take written.0 usage_line, drop written.0 usage_line, sym (take-append-drop written.0 usage_line), written.2)
+pub returns-in-Some-Session-clause-written_in_part : goal.returns-in-Some-Session-clause-written_in_part
+returns-in-Some-Session-clause-written_in_part g c =
+    let is : mode_of (bytes_of c.args.words.now) ≡ Some c.in-Some-Session.field-0 = sym c.named_mode.ensures ∙ c.in-Some-Session.is in
+    rw is (λ e. session_in_part c.in-Some-Session.field-0 _ _ _ (c.serve_session.ensures.written_in_part (sink_failed _ (sym c.result_status.ensures ∙ e))))

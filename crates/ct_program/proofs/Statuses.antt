@@ -1,0 +1,22 @@
+-- What a status says of the session that it is of.
+use Rattle.std.proofs.Common.{◌≡◌, Bool, true, false, List, ℕ, Option, Some, None, Result, Ok, Err, refl}
+use Rattle.ct_session.specs.declared.serve.ServeFault.{ServeFault}
+use Rattle.ct_session.specs.declared.serve.ServeFault.TheVariants as fault
+use Rattle.ct_session.specs.Serve.{WritesRunProperPrefix}
+use Rattle.ct_program.specs.declared.mode.Mode.{Mode}
+use Rattle.ct_program.specs.declared.mode.Mode.TheVariants.{Session}
+use Rattle.ct_program.specs.declared.status.Status.TheVariants.{WriteFault}
+use Rattle.ct_program.specs.Exit.{result_status}
+use Rattle.ct_program.specs.Mode.{WritesProperPrefix}
+
+pub sink_failed : (r : Result Bool ServeFault) → result_status r ≡ WriteFault → r ≡ Err fault.Write
+sink_failed (Ok true) e = absurd cc
+sink_failed (Ok false) e = absurd cc
+sink_failed (Err fault.Read) e = absurd cc
+sink_failed (Err fault.Write) e = refl
+sink_failed (Err fault.TooLong) e = absurd cc
+sink_failed (Err fault.Memory) e = absurd cc
+
+pub session_in_part : (mode : Mode) (left old new : Option (List ℕ)) → WritesRunProperPrefix left old new → WritesProperPrefix mode left old new
+session_in_part Session None old new h = tt
+session_in_part Session (Some input) old new h = h
