@@ -1,5 +1,5 @@
 -- What a sink tells of its bytes after a write.
-use Rattle.std.proofs.Common.{◌≡◌, ◌≢◌, ℕ, ◌<◌, List, [], Option, sym, ap, length, take, drop, take-append-drop, length-drop, arith}
+use Rattle.std.proofs.Common.{◌≢◌, ℕ, ◌<◌, List, [], Option, sym, ap, length, take, drop, take-append-drop, length-drop, arith}
 use Rattle.std.specs.Io.KnownBytes.{Appends}
 use Rattle.ct_io.specs.Told.{AppendsPrefix, AppendsProperPrefix}
 
