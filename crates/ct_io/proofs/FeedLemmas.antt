@@ -1,15 +1,17 @@
 -- Where the first line feed of some bytes is.
-use Rattle.std.proofs.Common.{◌≡◌, ◌≢◌, ℕ, ◌+◌, ◌<◌, ◌≤◌, Bool, true, false, cond, not, List, ◌∷◌, ◌++◌, Some, None, inl, inr, refl, sym, subst, ap, ◌∙◌, length, take, drop, get_or, arith, length-drop, length-take, ltb}
+use Rattle.std.proofs.Common.{◌≡◌, ◌≢◌, ℕ, ◌+◌, ◌<◌, ◌≤◌, Bool, true, false, cond, not, List, [], ◌∷◌, ◌++◌, length-append, Some, None, inl, inr, refl, sym, subst, ap, ◌∙◌, length, take, drop, get_or, arith, length-drop, length-take, ltb}
 use Rattle.std.specs.List.{position, position_or_len, slice_get, Contains}
 use Rattle.std.proofs.Math.Seq.{take-add}
 use Rattle.std.proofs.lemmas.Bool.{eqb-true, eqb-false, ltb-false}
 use Rattle.std.proofs.lemmas.List.{get_or-take, get_or-drop, take-append-drop, drop-drop, drop_more}
-use Rattle.std.proofs.lemmas.List.Elements.{All-append, All-from_get_or, Contains-get_or}
+use Rattle.std.proofs.lemmas.List.Elements.{All-append, All-from_get_or, All-head, All-tail, Contains-get_or}
 use Rattle.std.proofs.lemmas.List.Quantifiers.{position-Some}
 use Rattle.std.proofs.lemmas.List.Sums.{prefix_len_passes}
 use Rattle.std.proofs.lemmas.Option.{slice_get-get_or, get_or_from_slice_get, slice_get_cases}
 use Rattle.ct_lines.specs.declared.TheConstants.{LINE_FEED}
 use Rattle.ct_lines.specs.Lines.{IsLine}
+use Rattle.ct_io.specs.declared.TheConstants.{MAX_READ}
+use Rattle.ct_io.specs.Reader.{IsLineThenRead}
 use Rattle.ct_lines.proofs.LinesLemmas.{is_feed}
 
 -- no byte is a line feed
@@ -90,3 +92,20 @@ drop-around bytes start place b e =
     drop_more held place 0 inside ∙ ap (λ x. x ∷ drop (place + 1) held) (get_or_from_slice_get held place b 0 e)
     ∙ ap (λ l. b ∷ l) (drop-drop (place + 1) start bytes ∙ ap (λ k. drop k bytes) (omega arith)) in
     sym (take-append-drop place held) ∙ ap (λ l. take place held ++ l) rest
+
+-- bytes without a line feed end before a line feed
+line_before_feed : (front last line after : List ℕ) → IsLine front → front ++ last ≡ line ++ LINE_FEED ∷ after → length front ≤ length line
+line_before_feed [] last line after h e = omega arith
+line_before_feed (b ∷ front) last [] after h e = let feed : b ≡ LINE_FEED = cc in absurd (All-head IsNoFeed b front h feed)
+line_before_feed (b ∷ front) last (c ∷ line) after h e =
+    let rest : front ++ last ≡ line ++ LINE_FEED ∷ after = cc in
+    let shorter = line_before_feed front last line after (All-tail IsNoFeed b front h) rest in omega arith
+
+-- after a line feed there are bytes of the last read alone
+pub last_read-after_feed : (line after : List ℕ) → IsLineThenRead (line ++ LINE_FEED ∷ after) → length after < MAX_READ
+last_read-after_feed line after h =
+    let before = line_before_feed h.0 h.1 line after h.3 (sym h.2) in
+    omega (arith, h.4, ap length h.2, length-append h.0 h.1, length-append line (LINE_FEED ∷ after))
+
+pub last_read-of_line : (line after : List ℕ) → IsLine line → length after < MAX_READ → IsLineThenRead (line ++ LINE_FEED ∷ after)
+last_read-of_line line after h few = (line, LINE_FEED ∷ after, refl, h, omega arith)

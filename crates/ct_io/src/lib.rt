@@ -10,6 +10,7 @@
 mod failed;
 mod held;
 mod intake;
+mod laws;
 mod line_fault;
 mod line_reader;
 mod mem_sink;
@@ -20,6 +21,7 @@ mod std_sink;
 mod std_source;
 
 pub use failed::Failed;
+pub use laws::{faults_law, last_read_law, prefixes_law};
 pub use line_fault::LineFault;
 pub use line_reader::LineReader;
 pub use mem_sink::MemSink;
