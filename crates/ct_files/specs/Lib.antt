@@ -5,3 +5,4 @@ pub mod Document
 pub mod Evidence
 pub mod Reads
 pub mod Examples
+pub mod WordsDocument
