@@ -20,7 +20,7 @@ use Rattle.ct_files.proofs.FieldLemmas.{is_of_kind-true, is_of_kind-from}
 use Rattle.ct_files.proofs.WordsAnswers.{words_answer, words_answer-from, words_answers}
 
 -- what a document of kind words reads as is the evidence of words
-evidence_of-words : (document : Data) → IsOfKind (codes "words") document → evidence_of document ≡ words_evidence_of document
+pub evidence_of-words : (document : Data) → IsOfKind (codes "words") document → evidence_of document ≡ words_evidence_of document
 unfolding evidence_of
 evidence_of-words document of_kind = rw (is_of_kind-from (codes "words") document of_kind) refl
 
@@ -34,7 +34,7 @@ evidence_of-other document other =
     ]
 
 -- bytes that are not too many read as without the limit
-read_of-short : (bytes : List ℕ) → length bytes ≤ MAX_DOCUMENT → read_of bytes ≡ read_without_limit bytes
+pub read_of-short : (bytes : List ℕ) → length bytes ≤ MAX_DOCUMENT → read_of bytes ≡ read_without_limit bytes
 unfolding read_of
 read_of-short bytes short = rw (le-leb (length bytes) MAX_DOCUMENT short) refl
 

@@ -5,4 +5,5 @@ pub mod WordsLemmas
 pub mod WordsAnswers
 pub mod DocumentAnswers
 pub mod Evidences
+mod Written
 pub mod OnLiterals

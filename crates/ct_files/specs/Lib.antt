@@ -6,3 +6,4 @@ pub mod Evidence
 pub mod Reads
 pub mod Examples
 pub mod WordsDocument
+pub mod Written
