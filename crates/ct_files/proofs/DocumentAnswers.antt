@@ -9,8 +9,10 @@ use Rattle.toml.specs.Parse.{parse_document}
 use Rattle.ct_codes.specs.declared.entry.Entry.{Entry}
 use Rattle.ct_files.specs.Fields.{is_of_kind}
 use Rattle.ct_files.specs.Document.{table_of}
-use Rattle.ct_files.specs.Evidence.{words_evidence_of, evidence_of, read_without_limit, read_of}
-use Rattle.ct_files.specs.WordsDocument.{IsDocument, IsOfKind, StatesWords, IsWordsAnswer, AcceptsWords}
+use Rattle.ct_files.specs.Words.{words_evidence_of}
+use Rattle.ct_files.specs.Evidence.{evidence_of, read_without_limit, read_of}
+use Rattle.ct_files.specs.Tables.{IsDocument, IsOfKind}
+use Rattle.ct_files.specs.WordsDocument.{StatesWords, IsWordsAnswer, AcceptsWords}
 use Rattle.ct_files.specs.declared.evidence.TheConstants.{MAX_DOCUMENT}
 use Rattle.ct_files.specs.declared.evidence.Evidence.{Evidence}
 use Rattle.ct_files.specs.declared.evidence.Evidence.TheVariants as evidence

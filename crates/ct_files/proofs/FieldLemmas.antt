@@ -15,7 +15,7 @@ use Rattle.toml.specs.Data.{Data, string, integer, float, boolean, datetime, arr
 use Rattle.toml.specs.View.{items_of}
 use Rattle.ct_files.specs.Field.{field_text}
 use Rattle.ct_files.specs.Fields.{is_text, is_of_kind, field, number_in, number_field, texts_of, texts_in, texts_field, is_named, keys_are_named, has_only}
-use Rattle.ct_files.specs.WordsDocument.{IsOfKind, HasNumber, HasTexts, IsNamed, HasOther}
+use Rattle.ct_files.specs.Tables.{IsOfKind, HasNumber, HasTexts, IsNamed, HasOther}
 use Rattle.ct_files.specs.declared.field.FieldName.{FieldName}
 use Rattle.ct_files.specs.declared.fault.FileFault.TheVariants.{Field}
 use Rattle.ct_files.proofs.StepLemmas.{ok_or-ok}

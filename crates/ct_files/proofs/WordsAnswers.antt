@@ -10,8 +10,9 @@ use Rattle.ct_codes.specs.declared.fault.TheConstants.{MAX_WORDS}
 use Rattle.ct_codes.specs.Entry.{unrestricted}
 use Rattle.ct_files.specs.Steps.{◌>>=◌}
 use Rattle.ct_files.specs.Fields.{number_in, number_field, texts_in, texts_field, has_only, no_other_key, words_from}
-use Rattle.ct_files.specs.Evidence.{word_count, words_evidence_of}
-use Rattle.ct_files.specs.WordsDocument.{IsOfKind, HasLength, HasDistance, HasTexts, HasWords, words_fields, IsWordsDocument, StatesWords, IsWordsAnswer}
+use Rattle.ct_files.specs.Words.{word_count, words_evidence_of}
+use Rattle.ct_files.specs.Tables.{IsOfKind, HasTexts}
+use Rattle.ct_files.specs.WordsDocument.{HasLength, HasDistance, HasWords, words_fields, IsWordsDocument, StatesWords, IsWordsAnswer}
 use Rattle.ct_files.specs.declared.evidence.Evidence.{Evidence}
 use Rattle.ct_files.specs.declared.evidence.Evidence.TheVariants as evidence
 use Rattle.ct_files.specs.declared.field.FieldName.TheVariants.{N, D, Words}

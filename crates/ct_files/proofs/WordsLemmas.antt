@@ -5,7 +5,7 @@ use Rattle.std.specs.List.{AllByRecursion}
 use Rattle.ct_words.specs.Text.{word_of, word_text}
 use Rattle.ct_words.proofs.TextLemmas.{word_of-word_text, word_from_text}
 use Rattle.ct_files.specs.Fields.{words_from}
-use Rattle.ct_files.specs.WordsDocument.{IsWordText, IsFirstWrong}
+use Rattle.ct_files.specs.Tables.{IsWordText, IsFirstWrong}
 use Rattle.ct_files.specs.declared.fault.FileFault.{FileFault}
 use Rattle.ct_files.specs.declared.fault.FileFault.TheVariants.{Digits}
 use Rattle.ct_files.proofs.StepLemmas.{bind-ok, bind-err, ok_or-ok, ok_or-err}

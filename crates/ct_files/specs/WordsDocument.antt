@@ -1,47 +1,18 @@
--- Which documents are accepted as words, and what is wrong with the others.
-use Rattle.std.specs.Prelude.{◌≡◌, ℕ, pos, ◌^◌, ◌<◌, ◌≤◌, List, [], ◌∷◌, length, map, ◌⊎◌, Some, IsSome, Result, Ok, Err, All, Contains, slice_get, IsUtf8, codes}
-use Rattle.toml.specs.Data.{Data, string, integer, array, table, Members, get}
-use Rattle.toml.specs.Parse.{parse_document}
-use Rattle.toml.specs.View.{items_of}
+-- Which documents are accepted as words, and where each fault of a document of kind words comes.
+use Rattle.std.specs.Prelude.{◌≡◌, ℕ, ◌^◌, ◌<◌, ◌≤◌, ◌⊎◌, List, [], ◌∷◌, length, map, IsSome, Result, Ok, Err, All, codes}
+use Rattle.toml.specs.Data.{Data, get}
 use Rattle.ct_words.specs.declared.limits.TheConstants.{MAX_N}
 use Rattle.ct_words.specs.Text.{word_text}
 use Rattle.ct_codes.specs.declared.entry.Entry.{Entry}
 use Rattle.ct_codes.specs.declared.fault.TheConstants.{MAX_WORDS}
 use Rattle.ct_codes.specs.Entry.{unrestricted}
-use Rattle.ct_files.specs.Field.{field_text}
+use Rattle.ct_files.specs.Tables.{IsDocument, IsOfKind, HasNumber, HasTexts, IsNamed, HasOther, IsFirstWrong}
 use Rattle.ct_files.specs.declared.field.FieldName.{FieldName}
 use Rattle.ct_files.specs.declared.field.FieldName.TheVariants.{N, D, Words}
-use Rattle.ct_files.specs.declared.evidence.TheConstants.{MAX_DOCUMENT}
 use Rattle.ct_files.specs.declared.evidence.Evidence.{Evidence}
 use Rattle.ct_files.specs.declared.evidence.Evidence.TheVariants as evidence
 use Rattle.ct_files.specs.declared.fault.FileFault.{FileFault}
 use Rattle.ct_files.specs.declared.fault.FileFault.TheVariants.{Field, Unknown, Digits, Size}
-
--- the bytes write the table by the grammar of TOML 1.1, in UTF-8, and are not too many
-pub record IsDocument (bytes : List ℕ) (document : Data) : Type 0 where
-  pub short : length bytes ≤ MAX_DOCUMENT
-  pub utf8 : IsUtf8 bytes
-  pub written : (members : Members) × (parse_document bytes ≡ Some members) × (document ≡ table members)
-
--- the table says that it is of the kind
-abbrev pub IsOfKind : List ℕ → Data → Type 0
-IsOfKind kind document = get (codes "kind") document ≡ Some (string kind)
-
--- the field is the number k, from low to high
-abbrev pub HasNumber : FieldName → ℕ → ℕ → Data → ℕ → Type 0
-HasNumber name low high document k = (get (field_text name) document ≡ Some (integer (pos k))) × (low ≤ k) × (k ≤ high)
-
--- the field is the list of the texts
-abbrev pub HasTexts : FieldName → Data → List (List ℕ) → Type 0
-HasTexts name document texts = get (field_text name) document ≡ Some (array (items_of (map string texts)))
-
--- the key is `kind` or that of one of the fields
-abbrev pub IsNamed : List FieldName → List ℕ → Type 0
-IsNamed names key = Contains (codes "kind" ∷ map field_text names) key
-
--- the table has the key, which is neither `kind` nor that of one of the fields
-abbrev pub HasOther : List FieldName → Data → List ℕ → Type 0
-HasOther names document key = IsSome (get key document) × ¬ (IsNamed names key)
 
 -- the fields of a document of kind words
 abbrev pub words_fields : List FieldName
@@ -67,30 +38,30 @@ pub record IsWordsDocument (document : Data) (n d : ℕ) (texts : List (List ℕ
   pub fields : HasWords document n d texts
   pub only : (key : List ℕ) → IsSome (get key document) → IsNamed words_fields key
 
--- the text is that of a word of length n
-abbrev pub IsWordText : ℕ → List ℕ → Type 0
-IsWordText n text = (x : ℕ) × (x < 2 ^ n) × (text ≡ word_text n x)
-
--- the text at this place is the first that isn't that of a word of length n
-pub record IsFirstWrong (n : ℕ) (texts : List (List ℕ)) (i : ℕ) : Type 0 where
-  pub wrong : (text : List ℕ) × (slice_get texts i ≡ Some text) × ¬ (IsWordText n text)
-  pub before : (j : ℕ) (text : List ℕ) → j < i → slice_get texts j ≡ Some text → IsWordText n text
-
 -- the table is a document of kind words, and its texts are those of the words, each of length n
 pub record StatesWords (document : Data) (n d : ℕ) (words : List ℕ) : Type 0 where
   pub form : IsWordsDocument document n d (map (word_text n) words)
   pub lengths : All (λ x. x < 2 ^ n) words
 
--- where each answer comes for a document of kind words: it states 1 to MAX_WORDS words for the entry; n is no length; n is one, and d no distance;
--- both are, and there are no texts; all three are right, and there is another key; there is none, and a text is no word; all are words, and too many or none
+-- where each answer comes for a document of kind words; each line is the case that comes after those above it
 abbrev pub IsWordsAnswer : Data → Result Evidence FileFault → Type 0
-IsWordsAnswer document (Ok (evidence.Words e words)) = StatesWords document e.n e.d words × (e ≡ unrestricted e.n e.d) × (1 ≤ length words) × (length words ≤ MAX_WORDS)
+-- the length is missing or wrong
 IsWordsAnswer document (Err (Field N)) = (n : ℕ) → ¬ (HasLength document n)
+-- the distance is
 IsWordsAnswer document (Err (Field D)) = ((n : ℕ) × HasLength document n) × ((d : ℕ) → ¬ (HasDistance document d))
-IsWordsAnswer document (Err (Field Words)) = ((n : ℕ) × HasLength document n) × ((d : ℕ) × HasDistance document d) × ((texts : List (List ℕ)) → ¬ (HasTexts Words document texts))
-IsWordsAnswer document (Err Unknown) = (n : ℕ) × (d : ℕ) × (texts : List (List ℕ)) × (key : List ℕ) × HasWords document n d texts × HasOther words_fields document key
+-- the texts are
+IsWordsAnswer document (Err (Field Words)) =
+    ((n : ℕ) × HasLength document n) × ((d : ℕ) × HasDistance document d) × ((texts : List (List ℕ)) → ¬ (HasTexts Words document texts))
+-- there is another key
+IsWordsAnswer document (Err Unknown) =
+    (n : ℕ) × (d : ℕ) × (texts : List (List ℕ)) × (key : List ℕ) × HasWords document n d texts × HasOther words_fields document key
+-- a text is that of no word
 IsWordsAnswer document (Err (Digits i)) = (n : ℕ) × (d : ℕ) × (texts : List (List ℕ)) × IsWordsDocument document n d texts × IsFirstWrong n texts i
+-- there is no word, or there are too many
 IsWordsAnswer document (Err (Size c)) = (n : ℕ) × (d : ℕ) × (words : List ℕ) × StatesWords document n d words × (c ≡ length words) × ((c ≡ 0) ⊎ (MAX_WORDS < c))
+-- all is right
+IsWordsAnswer document (Ok (evidence.Words e words)) = StatesWords document e.n e.d words × (e ≡ unrestricted e.n e.d) × (1 ≤ length words) × (length words ≤ MAX_WORDS)
+-- no other fault comes
 IsWordsAnswer document (Err fault) = ⊥
 
 -- the bytes are a document that states 1 to MAX_WORDS words for the entry

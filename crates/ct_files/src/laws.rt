@@ -8,7 +8,8 @@ ghost use Rattle.ct_files.specs.declared.evidence.Evidence.TheVariants.{Words};
 ghost use Rattle.ct_files.specs.declared.fault.FileFault.{FileFault};
 ghost use Rattle.ct_files.specs.declared.fault.FileFault.TheVariants.{Bytes, NotToml, Kind};
 ghost use Rattle.ct_files.specs.Evidence.{read_of};
-ghost use Rattle.ct_files.specs.WordsDocument.{IsDocument, IsOfKind, IsWordsAnswer, AcceptsWords};
+ghost use Rattle.ct_files.specs.Tables.{IsDocument, IsOfKind};
+ghost use Rattle.ct_files.specs.WordsDocument.{IsWordsAnswer, AcceptsWords};
 
 /// Bytes are accepted as these words for this entry exactly where they are at most `MAX_DOCUMENT`, are UTF-8 and write
 /// by the grammar of TOML 1.1 a table of kind `words` that has n and d of the entry, each in its range, the texts of

@@ -9,6 +9,7 @@ mod field;
 mod fields;
 mod laws;
 mod reading;
+mod words;
 mod writing;
 
 pub use evidence::{Evidence, MAX_DOCUMENT};
