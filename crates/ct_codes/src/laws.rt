@@ -4,7 +4,7 @@ ghost use Rattle.std.specs.Prelude.{◌≡◌, ◌↔◌, ℕ, ◌%◌, ◌^◌,
 ghost use Rattle.ct_words.specs.declared.limits.TheConstants.{MAX_N};
 ghost use Rattle.ct_codes.specs.declared.entry.Entry.{Entry};
 ghost use Rattle.ct_codes.specs.declared.fault.TheConstants.{MAX_WORDS};
-ghost use Rattle.ct_codes.specs.declared.fault.CodeFault.TheVariants.{Size, Repeated, Close};
+ghost use Rattle.ct_codes.specs.declared.fault.CodeFault.TheVariants.{Size, Weight, Repeated, Close};
 ghost use Rattle.ct_codes.specs.Entry.{IsEntry, same_entry};
 ghost use Rattle.ct_codes.specs.Pairs.{least_pair, IsLeastPair, NoPair};
 ghost use Rattle.ct_codes.specs.Code.{IsCodeOf, IsTrueLower, IsTrueUpper};
@@ -39,7 +39,7 @@ pub fn bounds_of_every_entry()
     ensures upper { (e : Entry) → IsTrueUpper e (2 ^ e.n) }
 {}
 
-/// Lists of words of length 10, checked for distance 6.
+/// Lists of words of length 10, checked for distance 6, and of length 8, checked for distance 4 and weight 4.
 pub fn known_faults()
     ensures accepted { code_fault (record { n = 10; d = 6; w = None })
         (0b1111111111 ∷ 0b1111000000 ∷ 0b1000111000 ∷
@@ -49,4 +49,10 @@ pub fn known_faults()
     ensures repeated { code_fault (record { n = 10; d = 6; w = None })
         (0b0000000000 ∷ 0b0000000000 ∷ []) ≡ Some (Repeated 0 1) }
     ensures empty { code_fault (record { n = 10; d = 6; w = None }) [] ≡ Some (Size 0) }
+    // A close pair stands before the repeated words.
+    ensures repeated_before_close { code_fault (record { n = 10; d = 6; w = None })
+        (0b0000000000 ∷ 0b0000000001 ∷ 0b0000000001 ∷ []) ≡ Some (Repeated 1 2) }
+    // Repeated words and close ones stand before the word of a wrong weight.
+    ensures weight_first { code_fault (record { n = 8; d = 4; w = Some 4 })
+        (0b11110000 ∷ 0b11110000 ∷ 0b11101000 ∷ 0b11100000 ∷ []) ≡ Some (Weight 3) }
 {}

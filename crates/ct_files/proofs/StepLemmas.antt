@@ -1,8 +1,7 @@
 -- What is known of a step when it is known what the steps together give.
-use Rattle.std.proofs.Common.{◌≡◌, ◌≢◌, Bool, true, false, Option, Some, None, Result, Ok, Err, ok_or, ◌⊎◌, inl, inr, refl, ap}
+use Rattle.std.proofs.Common.{◌≡◌, Bool, true, false, Option, Some, None, Result, Ok, Err, ok_or, ◌⊎◌, inl, inr, refl, ap}
 use Rattle.ct_files.specs.Steps.{◌>>=◌, check}
 use Rattle.ct_files.specs.declared.fault.FileFault.{FileFault}
-use Rattle.ct_files.specs.declared.fault.FileFault.TheVariants.{Memory}
 
 -- where two steps give something, the first one gave something that the second one was handed
 pub bind-ok : {A B : Type 0} (step : Result A FileFault) (next : A → Result B FileFault) (y : B) → (step >>= next) ≡ Ok y → (x : A) × (step ≡ Ok x) × (next x ≡ Ok y)
@@ -14,11 +13,6 @@ pub bind-err : {A B : Type 0} (step : Result A FileFault) (next : A → Result B
     → (step ≡ Err fault) ⊎ ((x : A) × (step ≡ Ok x) × (next x ≡ Err fault))
 bind-err (Ok x) next fault e = inr (x, refl, e)
 bind-err (Err other) next fault e = let same : other ≡ fault = cc in inl (ap Err same)
-
--- two steps don't run out of memory where neither does
-pub bind-no_memory : {A B : Type 0} (step : Result A FileFault) (next : A → Result B FileFault) → step ≢ Err Memory → ((x : A) → next x ≢ Err Memory) → (step >>= next) ≢ Err Memory
-bind-no_memory (Ok x) next here after = after x
-bind-no_memory (Err fault) next here after = λ e. let same : fault ≡ Memory = cc in here (ap Err same)
 
 -- a test that is passed
 pub check-ok : (holds : Bool) (fault : FileFault) (x : Unit {0}) → check holds fault ≡ Ok x → holds ≡ true
@@ -39,3 +33,17 @@ ok_or-ok (Some y) fault x e = let same : y ≡ x = cc in ap Some same
 pub ok_or-err : {A : Type 0} (found : Option A) (fault other : FileFault) → ok_or found fault ≡ Err other → (found ≡ None) × (fault ≡ other)
 ok_or-err None fault other e = (refl, cc)
 ok_or-err (Some y) fault other e = absurd cc
+
+-- a step that gives something hands it on
+pub bind-at : {A B : Type 0} (step : Result A FileFault) (next : A → Result B FileFault) (x : A) → step ≡ Ok x → (step >>= next) ≡ next x
+bind-at step next x e = rw e refl
+
+-- the fault of a step is that of all
+pub bind-at_err : {A B : Type 0} (step : Result A FileFault) (next : A → Result B FileFault) (fault : FileFault) → step ≡ Err fault → (step >>= next) ≡ Err fault
+bind-at_err step next fault e = rw e refl
+
+-- what holds of two steps holds of what follows where the first one gives something, and of its fault where it gives none
+pub bind-cases : {A B : Type 0} (P : Result B FileFault → Type 0) (step : Result A FileFault) (next : A → Result B FileFault)
+    → ((x : A) → step ≡ Ok x → P (next x)) → ((fault : FileFault) → step ≡ Err fault → P (Err fault)) → P (step >>= next)
+bind-cases P (Ok x) next ok err = ok x refl
+bind-cases P (Err fault) next ok err = err fault refl

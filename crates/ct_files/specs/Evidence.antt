@@ -1,33 +1,17 @@
 -- The evidence that a document's bytes give, or the first fault of the document.
-use Rattle.std.specs.Prelude.{◌≡◌, ℕ, ◌^◌, ◌<◌, ◌≤◌, nat_le, ◌&&◌, if◌then◌else◌, List, [], ◌∷◌, length, None, Result, Ok, Err, All, codes}
+use Rattle.std.specs.Prelude.{◌≡◌, ℕ, ◌^◌, ◌<◌, ◌≤◌, nat_le, if◌then◌else◌, List, length, None, Result, Err, All, codes}
 use Rattle.toml.specs.Data.{Data}
-use Rattle.ct_words.specs.declared.limits.TheConstants.{MAX_N}
-use Rattle.ct_codes.specs.Entry.{IsEntry, unrestricted}
+use Rattle.ct_codes.specs.Entry.{IsEntry}
 use Rattle.ct_codes.specs.declared.fault.TheConstants.{MAX_WORDS}
 use Rattle.ct_files.specs.Steps.{◌>>=◌, ◌>>◌, check}
-use Rattle.ct_files.specs.Fields.{is_of_kind, number_field, texts_field, no_other_key, words_from}
+use Rattle.ct_files.specs.Fields.{is_of_kind}
+use Rattle.ct_files.specs.Words.{words_evidence_of}
 use Rattle.ct_files.specs.Document.{document_of}
 use Rattle.ct_files.specs.declared.evidence.TheConstants.{MAX_DOCUMENT}
 use Rattle.ct_files.specs.declared.evidence.Evidence.{Evidence}
 use Rattle.ct_files.specs.declared.evidence.Evidence.TheVariants.{Words}
-use Rattle.ct_files.specs.declared.field.FieldName.TheVariants as name
 use Rattle.ct_files.specs.declared.fault.FileFault.{FileFault}
-use Rattle.ct_files.specs.declared.fault.FileFault.TheVariants.{Bytes, Kind, Size}
-
--- the fault of a number of words that is 0 or above MAX_WORDS
-abbrev pub word_count : List ℕ → Result (Unit {0}) FileFault
-word_count words = check (nat_le 1 (length words) && nat_le (length words) MAX_WORDS) (Size (length words))
-
--- the evidence of a document of kind words
-unfoldable pub words_evidence_of : Data → Result Evidence FileFault
-words_evidence_of document = do
-  n ← number_field name.N 1 MAX_N document
-  d ← number_field name.D 3 MAX_N document
-  texts ← texts_field name.Words document
-  no_other_key (name.N ∷ name.D ∷ name.Words ∷ []) document
-  words ← words_from n 0 texts
-  word_count words
-  Ok (Words (unrestricted n d) words)
+use Rattle.ct_files.specs.declared.fault.FileFault.TheVariants.{Bytes, Kind}
 
 -- the evidence of a document by its kind
 unfoldable pub evidence_of : Data → Result Evidence FileFault

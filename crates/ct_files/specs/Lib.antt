@@ -2,6 +2,10 @@ pub mod Field
 pub mod Steps
 pub mod Fields
 pub mod Document
+pub mod Words
 pub mod Evidence
 pub mod Reads
 pub mod Examples
+pub mod Tables
+pub mod WordsDocument
+pub mod Written

@@ -1,9 +1,9 @@
 //! Worked documents: what their bytes read as.
-ghost use Rattle.std.specs.Prelude.{◌≡◌, ◌++◌, [], ◌∷◌, Ok, Err, codes};
+ghost use Rattle.std.specs.Prelude.{◌≡◌, ℕ, List, ◌++◌, [], ◌∷◌, length, Ok, Err, codes};
 ghost use Rattle.ct_codes.specs.Entry.{unrestricted};
 ghost use Rattle.ct_files.specs.declared.evidence.Evidence.TheVariants.{Words};
 ghost use Rattle.ct_files.specs.declared.field.FieldName.TheVariants as name;
-ghost use Rattle.ct_files.specs.declared.fault.FileFault.TheVariants.{NotToml, Kind, Field, Unknown, Digits, Size};
+ghost use Rattle.ct_files.specs.declared.fault.FileFault.TheVariants.{Bytes, NotToml, Kind, Field, Unknown, Digits, Size};
 ghost use Rattle.ct_files.specs.Evidence.{read_of};
 ghost use Rattle.ct_files.specs.Examples.{words_document, two_words, two_words_evidence};
 
@@ -12,8 +12,9 @@ pub fn two_words_are_read()
     ensures { read_of two_words ≡ Ok two_words_evidence }
 {}
 
-/// Documents that write no table.
+/// Bytes that are too many, or write no table.
 pub fn no_tables()
+    ensures too_many { (bytes : List ℕ) → length bytes ≡ 4194305 → read_of bytes ≡ Err (Bytes 4194305) }
     ensures no_value { read_of (codes "kind =") ≡ Err NotToml }
     ensures repeated_key { read_of (two_words ++ codes "n = 10\n") ≡ Err NotToml }
     ensures no_utf8 { read_of (two_words ++ codes "# " ++ 255 ∷ []) ≡ Err NotToml }

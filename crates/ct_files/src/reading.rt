@@ -2,42 +2,14 @@
 ghost use Rattle.std.specs.Prelude.{◌≡◌, ◌≢◌, Ok, Err, IfOk, IfErr};
 ghost use Rattle.toml.specs.View.{view};
 ghost use Rattle.ct_files.specs.Reads.{Reads};
-ghost use Rattle.ct_files.specs.Evidence.{IsSound, word_count, words_evidence_of, evidence_of, read_without_limit, read_of};
+ghost use Rattle.ct_files.specs.Evidence.{IsSound, evidence_of, read_without_limit, read_of};
 
-use crate::document::{is_of_kind, no_other_key, read_document};
+use crate::document::{is_of_kind, read_document};
 use crate::evidence::{Evidence, MAX_DOCUMENT};
 use crate::fault::FileFault;
-use crate::field::FieldName;
-use crate::fields::{number_field, texts_field, words_from};
-use ct_codes::{Entry, MAX_WORDS};
-use ct_words::{MAX_N, Word, WordList};
+use crate::words::words_evidence;
 use std::alloc::Global;
 use toml::Value;
-
-fn word_count(words: &[Word]) -> Result<(), FileFault>
-    ensures { result ≡ word_count words.now }
-{
-    let count = words.len();
-    if count == 0 || count > MAX_WORDS {
-        return Err(FileFault::Size(count as u64));
-    }
-    Ok(())
-}
-
-#[tactic(auto, unfolding(crate::specs::Evidence::words_evidence_of))]
-fn words_evidence(alloc: Global, document: &Value) -> Result<Evidence, FileFault>
-    ensures { Reads (λ evidence. evidence) result (words_evidence_of (view document.now)) }
-{
-    let n = number_field(document, FieldName::N, 1, MAX_N)?;
-    let d = number_field(document, FieldName::D, 3, MAX_N)?;
-    let texts = texts_field(alloc, document, FieldName::Words)?;
-    no_other_key(document, &[FieldName::N, FieldName::D, FieldName::Words])?;
-    let words = words_from(alloc, n, 0, &texts)?;
-    word_count(&words)?;
-    let entry = Entry { n, d, w: None };
-    let words = WordList::from_vec(words);
-    Ok(Evidence::Words { entry, words })
-}
 
 #[tactic(auto, unfolding(crate::specs::Evidence::evidence_of))]
 fn evidence(alloc: Global, document: &Value) -> Result<Evidence, FileFault>

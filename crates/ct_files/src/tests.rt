@@ -237,6 +237,21 @@ fn many(rt: HostRuntime) -> Result<(), Fail> {
     Ok(())
 }
 
+/// What is written for two words, by the keys in their order, and read again.
+#[test]
+fn written(rt: HostRuntime) -> Result<(), Fail> {
+    let alloc = rt.alloc();
+    let text = document(alloc, "10", "6", "['0000000000', '1111100000']")?;
+    let evidence = read_evidence(alloc, text.as_bytes())?;
+    let bytes = write_evidence(alloc, &evidence)?;
+    let expected = b"d = 6\nkind = \"words\"\nn = 10\nwords = [\"0000000000\", \"1111100000\"]\n";
+    assert_eq!(rt; bytes.as_slice(), expected.as_slice());
+    let Evidence::Words { entry, words } = read_evidence(alloc, &bytes)?;
+    assert_eq!(rt; (entry.n, entry.d, entry.w), (10, 6, None));
+    assert_eq!(rt; words.as_slice(), [0, 992].as_slice());
+    Ok(())
+}
+
 /// The keys of the fields.
 #[test]
 fn field_texts(rt: HostRuntime) {

@@ -81,3 +81,38 @@ fn ids(rt: HostRuntime) {
         assert!(rt; Id::parse(text).is_none(), "{text:?}");
     }
 }
+
+const LETTERS: &[u8] = b"abcdefghijklmnopqrstuvwxyz";
+
+const DIGITS: &[u8] = b"0123456789";
+
+/// Of all bytes, which begin an id, which stand in one, and which begin and stand in a number.
+#[test]
+fn bytes_of_ids_and_numbers(rt: HostRuntime) {
+    for byte in 0..=255u8 {
+        let letter = LETTERS.contains(&byte);
+        let digit = DIGITS.contains(&byte);
+        let stands = letter || digit || b"-_".contains(&byte);
+        assert_eq!(rt; Id::parse(&[byte]).is_some(), letter, "{byte}");
+        assert_eq!(rt; Id::parse(&[b'a', byte]).is_some(), stands, "{byte}");
+        assert_eq!(rt; parse_number(&[byte]).is_some(), digit, "{byte}");
+        assert_eq!(rt;
+            parse_number(&[byte, b'0']).is_some(),
+            digit && byte != b'0',
+            "{byte}"
+        );
+        assert_eq!(rt; parse_number(&[b'1', byte]).is_some(), digit, "{byte}");
+    }
+}
+
+/// Of all bytes, a space alone separates words, and a carriage return alone does not count at the end.
+#[test]
+fn bytes_between_words(rt: HostRuntime) -> Result<(), Fail> {
+    for byte in 0..=255u8 {
+        let between = first_words(rt.alloc(), &[b'a', byte, b'b'], 4)?.len();
+        assert_eq!(rt; between, if byte == b' ' { 2 } else { 1 }, "{byte}");
+        let alone = first_words(rt.alloc(), &[byte], 4)?.len();
+        assert_eq!(rt; alone, if b" \r".contains(&byte) { 0 } else { 1 }, "{byte}");
+    }
+    Ok(())
+}

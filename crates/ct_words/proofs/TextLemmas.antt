@@ -1,7 +1,7 @@
 -- Words and their texts.
-use Rattle.std.proofs.Common.{◌≡◌, ℕ, zero, suc, ◌+◌, ◌-◌, ◌*◌, ◌/◌, ◌%◌, ◌^◌, ◌<◌, ◌≤◌, ◌≢◌, Bool, true, false, not, ◌==◌, List, [], ◌∷◌, ◌++◌, length, take, get_or, position, Some, None, sym, refl, ap, ap₂, ◌∙◌, inl, inr, arith, length-append, pow-suc, pow_pos, eq-eqb, add-one}
+use Rattle.std.proofs.Common.{◌≡◌, ℕ, zero, suc, ◌+◌, ◌-◌, ◌*◌, ◌/◌, ◌%◌, ◌^◌, ◌<◌, ◌≤◌, ◌≢◌, Bool, true, false, not, ◌==◌, List, [], ◌∷◌, ◌++◌, length, take, get_or, position, Some, None, sym, refl, ap, ap₂, ◌∙◌, inl, inr, arith, length-append, pow-suc, pow_pos, eq-eqb, add-one, lit<}
 use Rattle.std.specs.List.{list_all}
-use Rattle.std.proofs.Math.Nat.{mod-eq_of_lt}
+use Rattle.std.proofs.Math.Nat.{mod-eq_of_lt, pow-le-pow_right, div-eq_of_lt}
 use Rattle.std.proofs.lemmas.Nat.{div-mul-add, shr_split, mod_below, div_below}
 use Rattle.std.proofs.lemmas.Nat.Bits.{bit_at_cat_low}
 use Rattle.std.proofs.lemmas.Bool.{cases_eq, cases_Bool, and_parts, and_from, or_left, or_right, or_from, not-false, lt-ltb, le-ltb, and_right, ne_eqb, or_cases, eqb-true}
@@ -216,3 +216,10 @@ word_from_text n x text e =
             ((omega arith), text_of_digits n x text len digits value)
       ]
     ]
+
+-- the digits of a word before all places where it can have ones are 0
+pub digit_before : (n x p k : ℕ) → x < 2 ^ k → k ≤ n - 1 - p → digit n x p ≡ 0
+digit_before n x p k small far =
+    let room = pow-le-pow_right {n = 2} (lit< tt) far in
+    let none : x / 2 ^ (n - 1 - p) ≡ 0 = div-eq_of_lt (omega (arith, room)) in
+    rw none refl

@@ -26,6 +26,24 @@ fn words_and_texts(rt: HostRuntime) -> Result<(), Fail> {
     Ok(())
 }
 
+/// Words of every length are printed: none, 32 digits, and more than a word has.
+#[test]
+fn printed_words(rt: HostRuntime) {
+    print_word(0, 0, &mut []);
+    let mut printed = [b'?'; 32];
+    print_word(0x80000001, 32, &mut printed);
+    assert_eq!(rt;
+        printed.as_slice(),
+        b"10000000000000000000000000000001".as_slice()
+    );
+    let mut printed = [b'?'; 34];
+    print_word(0xc0000001, 34, &mut printed);
+    assert_eq!(rt;
+        printed.as_slice(),
+        b"0011000000000000000000000000000001".as_slice()
+    );
+}
+
 /// Texts that are no words, and the shortest and the longest that are.
 #[test]
 fn refused_texts(rt: HostRuntime) {
@@ -35,5 +53,6 @@ fn refused_texts(rt: HostRuntime) {
     assert_eq!(rt; parse_word(b"01 2x", 5), Err(WordFault::BadDigit(2)));
     assert_eq!(rt; parse_word(b"/1", 2), Err(WordFault::BadDigit(0)));
     assert_eq!(rt; parse_word(b"1", 1), Ok(1));
+    assert_eq!(rt; (MAX_N, MAX_BOUND), (28, 268435456));
     assert_eq!(rt; parse_word(&[b'1'; 28], MAX_N), Ok(MAX_BOUND - 1));
 }

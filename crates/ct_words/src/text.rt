@@ -4,6 +4,7 @@ ghost use Rattle.std.specs.Prelude.{◌≡◌, ◌≢◌, ◌↔◌, ℕ, ◌^�
 ghost use Rattle.std.specs.Result.{result_ok};
 ghost use Rattle.ct_words.specs.declared.limits.TheConstants.{MAX_N};
 ghost use Rattle.ct_words.specs.declared.word.WordFault.TheVariants.{BadLength, BadDigit};
+ghost use Rattle.ct_words.specs.Word.{digit};
 ghost use Rattle.ct_words.specs.Text.{word_of, word_text, is_binary_digit};
 
 use crate::word::{Word, WordFault};
@@ -34,15 +35,26 @@ pub fn parse_word(text: &[u8], n: u32) -> Result<Word, WordFault>
     Ok(word)
 }
 
-/// Writes the text of the word, which is below 2^n, into the `n` bytes of `into`; `n` is at most `MAX_N`.
+/// Writes the text of the word, which is below 2^n, into the `n` bytes of `into`.
 pub fn print_word(word: Word, n: u32, into: &mut [u8])
     requires word { word < 2 ^ n }
-    requires room { n ≤ MAX_N }
     requires bytes { length into.old ≡ n }
     ensures { into.new ≡ word_text n word }
 {
     for (place, byte) in into.iter_mut().enumerate() {
-        let digit = (word >> (n - 1 - place as u32)) % 2;
-        *byte = b'0' + digit as u8;
+        *byte = b'0' + digit(word, n, place as u32);
     }
+}
+
+/// The digit of the word of length `n` at the place, 0 or 1.
+fn digit(word: Word, n: u32, place: u32) -> u8
+    requires { place < n }
+    ensures value { result ≡ digit n word place }
+    ensures binary { result < 2 }
+{
+    let shift = n - 1 - place;
+    if shift >= Word::BITS {
+        return 0;
+    }
+    ((word >> shift) % 2) as u8
 }

@@ -1,0 +1,42 @@
+//! The kind words: the words of a code, one by one.
+ghost use Rattle.std.specs.Prelude.{◌≡◌};
+ghost use Rattle.toml.specs.View.{view};
+ghost use Rattle.ct_files.specs.Reads.{Reads};
+ghost use Rattle.ct_files.specs.Words.{word_count, words_evidence_of};
+
+use crate::document::no_other_key;
+use crate::evidence::Evidence;
+use crate::fault::FileFault;
+use crate::field::FieldName;
+use crate::fields::{number_field, texts_field, words_from};
+use ct_codes::{Entry, MAX_WORDS};
+use ct_words::{MAX_N, Word, WordList};
+use std::alloc::Global;
+use toml::Value;
+
+/// Refuses a number of words that is 0 or above `MAX_WORDS`.
+fn word_count(words: &[Word]) -> Result<(), FileFault>
+    ensures { result ≡ word_count words.now }
+{
+    let count = words.len();
+    if count == 0 || count > MAX_WORDS {
+        return Err(FileFault::Size(count as u64));
+    }
+    Ok(())
+}
+
+/// The evidence that the document states, of kind words.
+#[tactic(auto, unfolding(crate::specs::Words::words_evidence_of))]
+pub fn words_evidence(alloc: Global, document: &Value) -> Result<Evidence, FileFault>
+    ensures { Reads (λ evidence. evidence) result (words_evidence_of (view document.now)) }
+{
+    let n = number_field(document, FieldName::N, 1, MAX_N)?;
+    let d = number_field(document, FieldName::D, 3, MAX_N)?;
+    let texts = texts_field(alloc, document, FieldName::Words)?;
+    no_other_key(document, &[FieldName::N, FieldName::D, FieldName::Words])?;
+    let words = words_from(alloc, n, 0, &texts)?;
+    word_count(&words)?;
+    let entry = Entry { n, d, w: None };
+    let words = WordList::from_vec(words);
+    Ok(Evidence::Words { entry, words })
+}
