@@ -2,3 +2,4 @@ pub mod Entry
 pub mod Code
 pub mod Pairs
 pub mod Check
+pub mod Scheme

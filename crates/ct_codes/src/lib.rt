@@ -7,6 +7,7 @@ mod entry;
 mod fault;
 mod laws;
 mod pairs;
+mod scheme;
 #[cfg(test)]
 mod tests;
 
@@ -19,3 +20,4 @@ pub use laws::{
     least_pair_is_least,
 };
 pub use pairs::first_close_pair;
+pub use scheme::{Scheme, scheme_laws};

@@ -1,3 +1,4 @@
 pub mod Sums
 pub mod Binomials
 pub mod Words
+pub mod PairTotals

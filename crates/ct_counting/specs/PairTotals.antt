@@ -1,0 +1,7 @@
+-- Sums over the ordered pairs of elements of a list.
+use Rattle.std.specs.Prelude.{ℤ, List}
+use Rattle.ct_counting.specs.Sums.{total}
+
+-- the sum of f x y over all ordered pairs of elements of the list, each element with itself included
+abbrev pub pair_total : {X : Type 0} → (X → X → ℤ) → List X → ℤ
+pair_total f xs = total (λ x. total (f x) xs) xs
