@@ -5,3 +5,9 @@ pub mod DoubleCounting
 pub mod Binomials
 pub mod Words
 pub mod Distances
+pub mod Alternating
+pub mod Products
+pub mod Convolutions
+pub mod SignedBinomials
+pub mod PairTotals
+pub mod Characters

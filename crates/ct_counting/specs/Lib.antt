@@ -2,3 +2,5 @@ pub mod Sums
 pub mod Binomials
 pub mod Words
 pub mod PairTotals
+pub mod Alternating
+pub mod Characters

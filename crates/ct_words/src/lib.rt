@@ -1,6 +1,7 @@
 //! Binary words of a code: their distance, weight and text, and the limits of the table.
 #![tactic(auto)]
 
+mod alternating;
 mod counts;
 mod laws;
 mod limits;
@@ -10,6 +11,7 @@ mod tests;
 mod text;
 mod word;
 
+pub use alternating::add_alternating;
 pub use counts::{ball, binomial, factorial};
 pub use laws::{
     distance_is_metric, distance_is_weight_of_sum, golay_words, texts_are_words,
