@@ -11,3 +11,8 @@ pub mod Convolutions
 pub mod SignedBinomials
 pub mod PairTotals
 pub mod Characters
+pub mod Matchings
+pub mod PascalRows
+pub mod PairLists
+pub mod PlaceKinds
+pub mod KindMatchings

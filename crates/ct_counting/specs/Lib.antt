@@ -4,3 +4,4 @@ pub mod Words
 pub mod PairTotals
 pub mod Alternating
 pub mod Characters
+pub mod PairLists

@@ -3,3 +3,5 @@ pub mod TextLemmas
 pub mod OrderLemmas
 pub mod WordLemmas
 pub mod Characters
+pub mod PairKinds
+pub mod PairProducts
