@@ -1,6 +1,6 @@
 -- Sums of characters over the words of a weight, and over all pairs of a list of words.
 use Rattle.std.proofs.Common.{◌≡◌, ℕ, zero, suc, ◌+◌, ◌-◌, List, [], ◌∷◌, map, length, refl, sym, ap, ap₂, ◌∙◌, arith}
-use Rattle.std.specs.Prelude.{Bool, true, false, cond, ◌==◌, ◌&&◌, filter, ℤ, pos, neg_ℤ, ◌+ℤ◌, ◌*ℤ◌}
+use Rattle.std.specs.Prelude.{Bool, true, false, cond, ◌==◌, ◌&&◌, ℤ, pos, neg_ℤ, ◌+ℤ◌, ◌*ℤ◌}
 use Rattle.std.specs.List.{All}
 use Rattle.std.proofs.lemmas.Int.{ints}
 use Rattle.std.proofs.lemmas.Bool.Decides.{nat_tests}
@@ -10,6 +10,7 @@ use Rattle.ct_counting.specs.Alternating.{sign}
 use Rattle.ct_counting.specs.Characters.{common_ones, character, words_of_weight}
 use Rattle.ct_counting.proofs.Totals.{total-append, total-map, total-congruence, total-zero}
 use Rattle.ct_counting.specs.PairTotals.{pair_total, square}
+use Rattle.ct_counting.proofs.PartTotals.{total-filter, total-neg}
 use Rattle.ct_counting.proofs.PairTotals.{total-squares, pair_total-congruence_within}
 use Rattle.ct_counting.proofs.Products.{int_neg_mul, int_mul_neg}
 use Rattle.ct_counting.proofs.SignedBinomials.{signed_binomial, signed_binomial-first, signed_binomial-none, signed_binomial-plus, signed_binomial-minus}
@@ -23,16 +24,6 @@ pub ones-zeros : (x : List Bool) → ones x + zeros x ≡ length x
 ones-zeros [] = refl
 ones-zeros (false ∷ x) = let ih = ones-zeros x in omega arith
 ones-zeros (true ∷ x) = let ih = ones-zeros x in omega arith
-
--- a total over the elements that pass a test
-pub total-filter : {X : Type 0} (f : X → ℤ) (p : X → Bool) (xs : List X) → total f (filter p xs) ≡ total (λ x. cond (p x) (f x) (pos 0)) xs
-total-filter f p [] = refl
-total-filter {X} f p (x ∷ xs) = go (p x) (total-filter f p xs)
-  where
-    go : (b : Bool) → total f (filter p xs) ≡ total (λ x. cond (p x) (f x) (pos 0)) xs
-        → total f (cond b (x ∷ filter p xs) (filter p xs)) ≡ cond b (f x) (pos 0) +ℤ total (λ x. cond (p x) (f x) (pos 0)) xs
-    go true ih = ap (λ z. f x +ℤ z) ih
-    go false ih = omega (arith, ints)
 
 -- the total of f over the words of n digits and weight k
 abbrev at_weight : (List Bool → ℤ) → ℕ → List Bool → ℤ
@@ -76,11 +67,6 @@ total-weight_suc f n k =
     let back_low = total-filter low (λ u. ones u == suc k) (all_words n) in
     let back_high = total-filter high (λ u. ones u == k) (all_words n) in
     omega (arith, ints)
-
--- a total of negated terms
-pub total-neg : {X : Type 0} (f : X → ℤ) (xs : List X) → total (λ x. neg_ℤ (f x)) xs ≡ neg_ℤ (total f xs)
-total-neg f [] = refl
-total-neg f (x ∷ xs) = let ih = total-neg f xs in omega (arith, ints)
 
 -- a place where not both hold a one leaves the sign
 sign_same : (m : ℕ) → sign (0 + m) ≡ sign m

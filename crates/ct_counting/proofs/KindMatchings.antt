@@ -1,11 +1,10 @@
 -- The sum over the lists of k pairs, where as many places are of the first mixed kind as of the second, is 2^k k! times a signed count of matchings.
-use Rattle.std.proofs.Common.{◌≡◌, ℕ, zero, suc, ◌+◌, ◌-◌, ◌*◌, ◌^◌, ◌<◌, ◌≤◌, refl, sym, ap, ap₂, ◌∙◌, arith}
+use Rattle.std.proofs.Common.{◌≡◌, ℕ, zero, suc, ◌-◌, ◌*◌, ◌^◌, sym, ap, ap₂, ◌∙◌, arith}
 use Rattle.std.specs.Prelude.{ℤ, pos, neg_ℤ, ◌+ℤ◌, ◌-ℤ◌, ◌*ℤ◌}
-use Rattle.std.proofs.lemmas.Int.{ints}
 use Rattle.std.proofs.Math.Nat.{pow-suc}
 use Rattle.ct_counting.specs.Binomials.{factorial}
 use Rattle.ct_counting.proofs.Totals.{int_dist}
-use Rattle.ct_counting.proofs.Products.{int_mul_assoc, int_mul_comm, int_mul_neg}
+use Rattle.ct_counting.proofs.Products.{int_mul_assoc, int_mul_neg}
 use Rattle.ct_counting.proofs.Matchings.{signed_matchings, signed_matchings-first, signed_matchings-suc}
 use Rattle.ct_counting.proofs.PlaceKinds.{Kind, both, neither, first, second, less, by_kinds}
 

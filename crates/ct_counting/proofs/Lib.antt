@@ -10,7 +10,9 @@ pub mod Products
 pub mod Convolutions
 pub mod SignedBinomials
 pub mod PairTotals
+pub mod PartTotals
 pub mod Characters
+pub mod Choices
 pub mod Matchings
 pub mod PascalRows
 pub mod PairLists

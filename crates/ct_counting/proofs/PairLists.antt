@@ -1,17 +1,12 @@
 -- Sums of products over the lists of k ordered pairs, one pair at a time.
-use Rattle.std.proofs.Common.{◌≡◌, ℕ, zero, suc, ◌+◌, ◌-◌, ◌*◌, ◌<◌, ◌≤◌, List, [], ◌∷◌, ◌++◌, map, refl, sym, ap, ap₂, ◌∙◌, arith}
+use Rattle.std.proofs.Common.{◌≡◌, ℕ, zero, suc, List, [], ◌∷◌, map, refl, sym, ap, ◌∙◌}
 use Rattle.std.specs.Prelude.{ℤ, pos, ◌+ℤ◌, ◌*ℤ◌}
 use Rattle.std.specs.List.{flat_map}
-use Rattle.std.proofs.lemmas.Int.{ints}
 use Rattle.ct_counting.specs.Sums.{total}
 use Rattle.ct_counting.specs.PairLists.{picks, pair_lists, product}
-use Rattle.ct_counting.proofs.Totals.{total-append, total-map, total-congruence, total-scale}
+use Rattle.ct_counting.proofs.Totals.{total-map, total-congruence, total-scale}
+use Rattle.ct_counting.proofs.PartTotals.{total-flat_map}
 use Rattle.ct_counting.proofs.Products.{int_mul_assoc, int_mul_comm}
-
--- a total over lists joined end to end
-pub total-flat_map : {X Y : Type 0} (f : Y → ℤ) (g : X → List Y) (xs : List X) → total f (flat_map g xs) ≡ total (λ x. total f (g x)) xs
-total-flat_map f g [] = refl
-total-flat_map f g (x ∷ xs) = total-append f (g x) (flat_map g xs) ∙ ap (λ z. total f (g x) +ℤ z) (total-flat_map f g xs)
 
 -- the product of a product of two terms
 exchange : (a b c d : ℤ) → (a *ℤ c) *ℤ (b *ℤ d) ≡ (a *ℤ b) *ℤ (c *ℤ d)

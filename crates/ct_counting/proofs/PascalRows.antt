@@ -1,10 +1,11 @@
 -- The rows of Pascal's triangle as lists, in which a coefficient is computed in few steps, and a bound read off the row of 28.
-use Rattle.std.proofs.Common.{◌≡◌, ℕ, zero, suc, ◌+◌, ◌-◌, ◌*◌, ◌^◌, ◌<◌, ◌≤◌, List, [], ◌∷◌, get_or, refl, sym, ap, ap₂, ◌∙◌, inl, inr, arith}
+use Rattle.std.proofs.Common.{◌≡◌, ℕ, zero, suc, ◌+◌, ◌-◌, ◌*◌, ◌^◌, ◌<◌, ◌≤◌, List, [], ◌∷◌, get_or, refl, ap, ap₂, ◌∙◌, inl, inr, arith}
 use Rattle.std.specs.Prelude.{Bool, true, false, nat_lt, ◌&&◌}
 use Rattle.std.proofs.lemmas.Bool.{cases_order, ltb-true}
 use Rattle.std.proofs.Math.Nat.{mul-le-mul_right}
 use Rattle.ct_counting.specs.Binomials.{choose, factorial}
-use Rattle.ct_counting.proofs.Matchings.{matchings, choose-product-le, choose-monotone}
+use Rattle.ct_counting.proofs.Choices.{choose-product-le, choose-monotone}
+use Rattle.ct_counting.proofs.Matchings.{matchings}
 
 -- each two neighbours added, the last one by itself
 abbrev neighbours : List ℕ → List ℕ

@@ -1,11 +1,11 @@
 -- The four kinds of a place of two words, and sums over lists of pairs of places by how many places of each kind there are.
-use Rattle.std.proofs.Common.{◌≡◌, ℕ, zero, suc, ◌+◌, ◌-◌, ◌*◌, ◌<◌, ◌≤◌, List, [], ◌∷◌, map, refl, sym, ap, ap₂, ◌∙◌, arith}
+use Rattle.std.proofs.Common.{◌≡◌, ℕ, zero, suc, ◌+◌, ◌-◌, ◌*◌, List, [], ◌∷◌, map, refl, sym, ap, ◌∙◌, arith}
 use Rattle.std.specs.Prelude.{ℤ, pos, negsuc, neg_ℤ, ◌+ℤ◌, ◌-ℤ◌, ◌*ℤ◌}
-use Rattle.std.specs.List.{All, AllByRecursion}
+use Rattle.std.specs.List.{AllByRecursion}
 use Rattle.std.proofs.lemmas.Int.{ints}
 use Rattle.ct_counting.specs.Sums.{total}
 use Rattle.ct_counting.specs.PairLists.{picks}
-use Rattle.ct_counting.proofs.Totals.{total-congruence, total-congruence_within}
+use Rattle.ct_counting.proofs.Totals.{total-congruence_within}
 use Rattle.ct_counting.proofs.Products.{int_mul_assoc, int_mul_neg}
 use Rattle.ct_counting.proofs.PairLists.{pair_list_total, total-picks}
 

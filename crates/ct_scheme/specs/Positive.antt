@@ -1,5 +1,5 @@
 -- What makes the words of length n and weight w a scheme: each term cites a lemma of a lower crate.
-use Rattle.std.specs.Prelude.{◌≡◌, ℕ, ◌-◌, ◌/◌, ◌^◌, ◌<◌, ◌≤◌, min, ℤ, pos}
+use Rattle.std.specs.Prelude.{◌≡◌, ℕ, ◌-◌, ◌/◌, ◌^◌, ◌<◌, ◌≤◌, min, pos}
 use Rattle.ct_words.specs.declared.limits.TheConstants.{MAX_N}
 use Rattle.ct_words.specs.Word.{distance, weight}
 use Rattle.ct_codes.specs.Scheme.{IsPositive, IsSmall}

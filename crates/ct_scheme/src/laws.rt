@@ -16,6 +16,6 @@ ghost use Rattle.ct_scheme.specs.Numbers.{johnson};
 pub fn johnson_sums_are_sums_of_squares()
     ensures { (n w k : ℕ) (words : List ℕ) → All (λ x. weight n x ≡ w) words →
         total (λ pairs. square (total (λ x. difference_product n x pairs) words))
-            (pair_lists k (all_places n)) ≡
+        (pair_lists k (all_places n)) ≡
         pos (2 ^ k * factorial k) *ℤ pair_total (λ x y. johnson n w k (distance n x y / 2)) words }
 {}

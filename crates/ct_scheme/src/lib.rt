@@ -4,6 +4,8 @@
 mod johnson;
 mod laws;
 mod numbers;
+#[cfg(test)]
+mod tests;
 
 pub use johnson::Johnson;
 pub use laws::johnson_sums_are_sums_of_squares;

@@ -1,5 +1,5 @@
 -- Delsarte's inequalities of the Johnson scheme: over all pairs of words of one weight, signed counts of matchings add up to sums of squares.
-use Rattle.std.proofs.Common.{◌≡◌, ℕ, zero, suc, ◌+◌, ◌-◌, ◌*◌, ◌/◌, ◌^◌, ◌<◌, ◌≤◌, List, refl, sym, ap, ◌∙◌, subst, arith, pow_pos, min}
+use Rattle.std.proofs.Common.{◌≡◌, ℕ, zero, suc, ◌+◌, ◌-◌, ◌/◌, ◌^◌, ◌<◌, ◌≤◌, List, ap, ◌∙◌, subst, arith, pow_pos, min}
 use Rattle.std.specs.Prelude.{ℤ, pos, negsuc, ◌-ℤ◌, ◌*ℤ◌, ◌≤ℤ◌, unsigned_abs}
 use Rattle.std.specs.List.{All}
 use Rattle.std.proofs.lemmas.Int.{ints}
@@ -11,9 +11,9 @@ use Rattle.ct_counting.proofs.Totals.{total-congruence, total_of_squares}
 use Rattle.ct_counting.proofs.Binomials.{one-le-factorial}
 use Rattle.ct_counting.proofs.PairTotals.{total-squares, pair_total-congruence_within, pair_total-scale}
 use Rattle.ct_counting.proofs.PairLists.{product-mul, total-pair_lists}
-use Rattle.ct_counting.proofs.Matchings.{signed_matchings, signed_matchings-le, matchings}
+use Rattle.ct_counting.proofs.Matchings.{signed_matchings, signed_matchings-le}
 use Rattle.ct_counting.proofs.PascalRows.{matchings-small}
-use Rattle.ct_counting.proofs.PlaceKinds.{Kind, both, neither, first, weight_of_kinds, count, pair_list_total-by_kinds}
+use Rattle.ct_counting.proofs.PlaceKinds.{weight_of_kinds, count, pair_list_total-by_kinds}
 use Rattle.ct_counting.proofs.KindMatchings.{orders, by_kinds-matchings}
 use Rattle.ct_words.specs.declared.limits.TheConstants.{MAX_N}
 use Rattle.ct_words.specs.Word.{digit, weight, distance}
