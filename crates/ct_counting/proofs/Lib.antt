@@ -18,3 +18,4 @@ pub mod PascalRows
 pub mod PairLists
 pub mod PlaceKinds
 pub mod KindMatchings
+pub mod Pairings

@@ -1,6 +1,6 @@
 -- Lists of ordered pairs of elements that are taken from different places of a list, and products over a list.
-use Rattle.std.specs.Prelude.{ℕ, zero, suc, ℤ, pos, ◌*ℤ◌, List, [], ◌∷◌, map}
-use Rattle.std.specs.List.{flat_map}
+use Rattle.std.specs.Prelude.{◌≡◌, ◌≢◌, ℕ, zero, suc, ℤ, pos, ◌*ℤ◌, List, [], ◌∷◌, map, length}
+use Rattle.std.specs.List.{All, AllPairs, Contains, flat_map}
 
 -- each way to take one element out of a list: the element, and the others in their order
 abbrev pub picks : {X : Type 0} → List X → List (X × List X)
@@ -16,3 +16,13 @@ pair_lists (suc k) xs = flat_map (λ p. flat_map (λ q. map (λ pairs. (p.0, q.0
 abbrev pub product : {X : Type 0} → (X → ℤ) → List X → ℤ
 product f [] = pos 1
 product f (x ∷ xs) = f x *ℤ product f xs
+
+-- the elements of a list of pairs, in order
+abbrev pub ends : {X : Type 0} → List (X × X) → List X
+ends pairs = flat_map (λ p. p.0 ∷ p.1 ∷ []) pairs
+
+-- k ordered pairs of elements of xs, all 2k elements different
+pub record IsPairing (xs : List ℕ) (k : ℕ) (pairs : List (ℕ × ℕ)) : Type 0 where
+  pub count : length pairs ≡ k
+  pub within : All (Contains xs) (ends pairs)
+  pub different : AllPairs (λ x y. x ≢ y) (ends pairs)
