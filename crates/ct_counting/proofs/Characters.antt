@@ -1,19 +1,32 @@
--- Sums of characters over the words of a weight, and over all pairs of a list of words.
+-- Characters of words as lists of digits: their sums over the words of a weight, and over all pairs of a list of words.
 use Rattle.std.proofs.Common.{◌≡◌, ℕ, zero, suc, ◌+◌, ◌-◌, List, [], ◌∷◌, map, length, refl, sym, ap, ap₂, ◌∙◌, arith}
-use Rattle.std.specs.Prelude.{Bool, true, false, cond, ◌==◌, ◌&&◌, ℤ, pos, neg_ℤ, ◌+ℤ◌, ◌*ℤ◌}
+use Rattle.std.specs.Prelude.{filter, Bool, true, false, cond, ◌==◌, ◌&&◌, ℤ, pos, neg_ℤ, ◌+ℤ◌, ◌*ℤ◌}
 use Rattle.std.specs.List.{All}
 use Rattle.std.proofs.lemmas.Int.{ints}
 use Rattle.std.proofs.lemmas.Bool.Decides.{nat_tests}
 use Rattle.ct_counting.specs.Sums.{total}
 use Rattle.ct_counting.specs.Words.{all_words, ones, apart, differ}
 use Rattle.ct_counting.specs.Alternating.{sign}
-use Rattle.ct_counting.specs.Characters.{common_ones, character, words_of_weight}
 use Rattle.ct_counting.proofs.Totals.{total-append, total-map, total-congruence, total-zero}
 use Rattle.ct_counting.specs.PairTotals.{pair_total, square}
 use Rattle.ct_counting.proofs.PartTotals.{total-filter, total-neg}
 use Rattle.ct_counting.proofs.PairTotals.{total-squares, pair_total-congruence_within}
 use Rattle.ct_counting.proofs.Products.{int_neg_mul, int_mul_neg}
 use Rattle.ct_counting.proofs.SignedBinomials.{signed_binomial, signed_binomial-first, signed_binomial-none, signed_binomial-plus, signed_binomial-minus}
+
+-- at how many places two words both hold a one
+abbrev pub common_digits : List Bool → List Bool → ℕ
+common_digits [] x = 0
+common_digits (a ∷ u) [] = 0
+common_digits (a ∷ u) (b ∷ x) = cond (a && b) 1 0 + common_digits u x
+
+-- the character of the word u at the word x
+abbrev pub digit_character : List Bool → List Bool → ℤ
+digit_character u x = sign (common_digits u x)
+
+-- the words of n digits and weight k
+abbrev pub digit_words : ℕ → ℕ → List (List Bool)
+digit_words n k = filter (λ u. ones u == k) (all_words n)
 
 -- how many digits are 0
 abbrev pub zeros : List Bool → ℕ
@@ -46,7 +59,7 @@ test_one : (a k : ℕ) → (1 + a == suc k) ≡ (a == k)
 test_one a k = grind (arith, nat_tests)
 
 -- the words of n + 1 digits and weight 0
-total-weight_zero : (f : List Bool → ℤ) (n : ℕ) → total f (words_of_weight (suc n) 0) ≡ total (λ u. f (false ∷ u)) (words_of_weight n 0)
+total-weight_zero : (f : List Bool → ℤ) (n : ℕ) → total f (digit_words (suc n) 0) ≡ total (λ u. f (false ∷ u)) (digit_words n 0)
 total-weight_zero f n =
     let low : List Bool → ℤ = λ u. f (false ∷ u) in
     let high : List Bool → ℤ = λ u. f (true ∷ u) in
@@ -57,7 +70,7 @@ total-weight_zero f n =
     omega (arith, ints)
 
 -- the words of n + 1 digits and weight k + 1, by their first digit
-total-weight_suc : (f : List Bool → ℤ) (n k : ℕ) → total f (words_of_weight (suc n) (suc k)) ≡ total (λ u. f (false ∷ u)) (words_of_weight n (suc k)) +ℤ total (λ u. f (true ∷ u)) (words_of_weight n k)
+total-weight_suc : (f : List Bool → ℤ) (n k : ℕ) → total f (digit_words (suc n) (suc k)) ≡ total (λ u. f (false ∷ u)) (digit_words n (suc k)) +ℤ total (λ u. f (true ∷ u)) (digit_words n k)
 total-weight_suc f n k =
     let low : List Bool → ℤ = λ u. f (false ∷ u) in
     let high : List Bool → ℤ = λ u. f (true ∷ u) in
@@ -77,38 +90,38 @@ sign_turned : (m : ℕ) → sign (1 + m) ≡ neg_ℤ (sign m)
 sign_turned m = let e : 1 + m ≡ suc m = omega arith in ap sign e
 
 -- the characters at a word, of all words of a weight, add up to a coefficient of (1 - z)^i (1 + z)^m, where the word has i ones and m zeros
-pub total-character : (x : List Bool) (k : ℕ) → total (λ u. character u x) (words_of_weight (length x) k) ≡ signed_binomial (ones x) (zeros x) k
-total-character [] zero = sym (signed_binomial-first 0 0)
-total-character [] (suc k) =
+pub total-digit_character : (x : List Bool) (k : ℕ) → total (λ u. digit_character u x) (digit_words (length x) k) ≡ signed_binomial (ones x) (zeros x) k
+total-digit_character [] zero = sym (signed_binomial-first 0 0)
+total-digit_character [] (suc k) =
     let none : (0 == suc k) ≡ false = grind (arith, nat_tests) in
-    ap (λ b. total (λ u. character u []) (cond {A = List (List Bool)} b ([] ∷ []) [])) none ∙ sym (signed_binomial-none k)
-total-character (false ∷ x) zero =
-    total-weight_zero (λ u. character u (false ∷ x)) (length x)
-    ∙ total-congruence (λ u. character (false ∷ u) (false ∷ x)) (λ u. character u x) (words_of_weight (length x) 0) (λ u. sign_same (common_ones u x))
-    ∙ total-character x 0 ∙ signed_binomial-first (ones x) (zeros x) ∙ sym (signed_binomial-first (0 + ones x) (1 + zeros x))
-total-character (true ∷ x) zero =
-    total-weight_zero (λ u. character u (true ∷ x)) (length x)
-    ∙ total-congruence (λ u. character (false ∷ u) (true ∷ x)) (λ u. character u x) (words_of_weight (length x) 0) (λ u. sign_same (common_ones u x))
-    ∙ total-character x 0 ∙ signed_binomial-first (ones x) (zeros x) ∙ sym (signed_binomial-first (1 + ones x) (0 + zeros x))
-total-character (false ∷ x) (suc k) =
+    ap (λ b. total (λ u. digit_character u []) (cond {A = List (List Bool)} b ([] ∷ []) [])) none ∙ sym (signed_binomial-none k)
+total-digit_character (false ∷ x) zero =
+    total-weight_zero (λ u. digit_character u (false ∷ x)) (length x)
+    ∙ total-congruence (λ u. digit_character (false ∷ u) (false ∷ x)) (λ u. digit_character u x) (digit_words (length x) 0) (λ u. sign_same (common_digits u x))
+    ∙ total-digit_character x 0 ∙ signed_binomial-first (ones x) (zeros x) ∙ sym (signed_binomial-first (0 + ones x) (1 + zeros x))
+total-digit_character (true ∷ x) zero =
+    total-weight_zero (λ u. digit_character u (true ∷ x)) (length x)
+    ∙ total-congruence (λ u. digit_character (false ∷ u) (true ∷ x)) (λ u. digit_character u x) (digit_words (length x) 0) (λ u. sign_same (common_digits u x))
+    ∙ total-digit_character x 0 ∙ signed_binomial-first (ones x) (zeros x) ∙ sym (signed_binomial-first (1 + ones x) (0 + zeros x))
+total-digit_character (false ∷ x) (suc k) =
     let n = length x in
-    let split = total-weight_suc (λ u. character u (false ∷ x)) n k in
-    let low = total-congruence (λ u. character (false ∷ u) (false ∷ x)) (λ u. character u x) (words_of_weight n (suc k)) (λ u. sign_same (common_ones u x)) in
-    let high = total-congruence (λ u. character (true ∷ u) (false ∷ x)) (λ u. character u x) (words_of_weight n k) (λ u. sign_same (common_ones u x)) in
-    let a = total-character x (suc k) in
-    let b = total-character x k in
+    let split = total-weight_suc (λ u. digit_character u (false ∷ x)) n k in
+    let low = total-congruence (λ u. digit_character (false ∷ u) (false ∷ x)) (λ u. digit_character u x) (digit_words n (suc k)) (λ u. sign_same (common_digits u x)) in
+    let high = total-congruence (λ u. digit_character (true ∷ u) (false ∷ x)) (λ u. digit_character u x) (digit_words n k) (λ u. sign_same (common_digits u x)) in
+    let a = total-digit_character x (suc k) in
+    let b = total-digit_character x k in
     let i_is : 0 + ones x ≡ ones x = omega arith in
     let m_is : 1 + zeros x ≡ suc (zeros x) = omega arith in
     let whole = ap₂ (λ i m. signed_binomial i m (suc k)) i_is m_is in
     let step = signed_binomial-plus (ones x) (zeros x) k in
     omega (arith, ints)
-total-character (true ∷ x) (suc k) =
+total-digit_character (true ∷ x) (suc k) =
     let n = length x in
-    let split = total-weight_suc (λ u. character u (true ∷ x)) n k in
-    let low = total-congruence (λ u. character (false ∷ u) (true ∷ x)) (λ u. character u x) (words_of_weight n (suc k)) (λ u. sign_same (common_ones u x)) in
-    let high = total-congruence (λ u. character (true ∷ u) (true ∷ x)) (λ u. neg_ℤ (character u x)) (words_of_weight n k) (λ u. sign_turned (common_ones u x)) ∙ total-neg (λ u. character u x) (words_of_weight n k) in
-    let a = total-character x (suc k) in
-    let b = total-character x k in
+    let split = total-weight_suc (λ u. digit_character u (true ∷ x)) n k in
+    let low = total-congruence (λ u. digit_character (false ∷ u) (true ∷ x)) (λ u. digit_character u x) (digit_words n (suc k)) (λ u. sign_same (common_digits u x)) in
+    let high = total-congruence (λ u. digit_character (true ∷ u) (true ∷ x)) (λ u. neg_ℤ (digit_character u x)) (digit_words n k) (λ u. sign_turned (common_digits u x)) ∙ total-neg (λ u. digit_character u x) (digit_words n k) in
+    let a = total-digit_character x (suc k) in
+    let b = total-digit_character x k in
     let i_is : 1 + ones x ≡ suc (ones x) = omega arith in
     let m_is : 0 + zeros x ≡ zeros x = omega arith in
     let whole = ap₂ (λ i m. signed_binomial i m (suc k)) i_is m_is in
@@ -155,36 +168,36 @@ turned-product true true true y z =
     omega (arith, ints)
 
 -- the character at a sum of two words is the product of the characters at both
-pub character-plus : (u x y : List Bool) → length x ≡ length y → character u (plus x y) ≡ character u x *ℤ character u y
-character-plus [] x y h = refl
-character-plus (a ∷ u) [] [] h = refl
-character-plus (a ∷ u) [] (c ∷ y) h = absurd (omega arith)
-character-plus (a ∷ u) (b ∷ x) [] h = absurd (omega arith)
-character-plus (a ∷ u) (b ∷ x) (c ∷ y) h =
-    let ih = character-plus u x y (omega arith) in
-    sign_turned_by (a && differ b c) (common_ones u (plus x y)) ∙ ap (turned (a && differ b c)) ih
-    ∙ turned-product a b c (character u x) (character u y)
-    ∙ ap₂ (λ p q. p *ℤ q) (sym (sign_turned_by (a && b) (common_ones u x))) (sym (sign_turned_by (a && c) (common_ones u y)))
+pub digit_character-plus : (u x y : List Bool) → length x ≡ length y → digit_character u (plus x y) ≡ digit_character u x *ℤ digit_character u y
+digit_character-plus [] x y h = refl
+digit_character-plus (a ∷ u) [] [] h = refl
+digit_character-plus (a ∷ u) [] (c ∷ y) h = absurd (omega arith)
+digit_character-plus (a ∷ u) (b ∷ x) [] h = absurd (omega arith)
+digit_character-plus (a ∷ u) (b ∷ x) (c ∷ y) h =
+    let ih = digit_character-plus u x y (omega arith) in
+    sign_turned_by (a && differ b c) (common_digits u (plus x y)) ∙ ap (turned (a && differ b c)) ih
+    ∙ turned-product a b c (digit_character u x) (digit_character u y)
+    ∙ ap₂ (λ p q. p *ℤ q) (sym (sign_turned_by (a && b) (common_digits u x))) (sym (sign_turned_by (a && c) (common_digits u y)))
 
 -- the characters at the sum of two words of n digits, by their distance
-pub total-character_pair : (n k : ℕ) (x y : List Bool) → length x ≡ n → length y ≡ n
-    → total (λ u. character u x *ℤ character u y) (words_of_weight n k) ≡ signed_binomial (apart x y) (n - apart x y) k
-total-character_pair n k x y p q =
+pub total-digit_character_pair : (n k : ℕ) (x y : List Bool) → length x ≡ n → length y ≡ n
+    → total (λ u. digit_character u x *ℤ digit_character u y) (digit_words n k) ≡ signed_binomial (apart x y) (n - apart x y) k
+total-digit_character_pair n k x y p q =
     let same : length x ≡ length y = omega arith in
     let long : length (plus x y) ≡ n = length-plus x y same ∙ p in
     let differences = ones-plus x y in
     let others = ones-zeros (plus x y) in
     let rest : zeros (plus x y) ≡ n - apart x y = omega arith in
-    total-congruence (λ u. character u x *ℤ character u y) (λ u. character u (plus x y)) (words_of_weight n k) (λ u. sym (character-plus u x y same))
-    ∙ ap (λ m. total (λ u. character u (plus x y)) (words_of_weight m k)) (sym long)
-    ∙ total-character (plus x y) k
+    total-congruence (λ u. digit_character u x *ℤ digit_character u y) (λ u. digit_character u (plus x y)) (digit_words n k) (λ u. sym (digit_character-plus u x y same))
+    ∙ ap (λ m. total (λ u. digit_character u (plus x y)) (digit_words m k)) (sym long)
+    ∙ total-digit_character (plus x y) k
     ∙ ap₂ (λ i m. signed_binomial i m k) differences rest
 
 -- over all pairs of words of a list, the sums add up to the squares of the character sums: the Hamming scheme's inequalities as an identity
-pub pair_total-characters : (n k : ℕ) (xs : List (List Bool)) → All (λ x. length x ≡ n) xs
-    → pair_total (λ x y. signed_binomial (apart x y) (n - apart x y) k) xs ≡ total (λ u. square (total (character u) xs)) (words_of_weight n k)
-pair_total-characters n k xs lengths =
+pub pair_total-digit_characters : (n k : ℕ) (xs : List (List Bool)) → All (λ x. length x ≡ n) xs
+    → pair_total (λ x y. signed_binomial (apart x y) (n - apart x y) k) xs ≡ total (λ u. square (total (digit_character u) xs)) (digit_words n k)
+pair_total-digit_characters n k xs lengths =
     sym
-    (total-squares character (words_of_weight n k) xs
-    ∙ pair_total-congruence_within (λ x. length x ≡ n) (λ x y. total (λ u. character u x *ℤ character u y) (words_of_weight n k)) (λ x y. signed_binomial (apart x y) (n - apart x y) k) xs
-    (total-character_pair n k) lengths)
+    (total-squares digit_character (digit_words n k) xs
+    ∙ pair_total-congruence_within (λ x. length x ≡ n) (λ x y. total (λ u. digit_character u x *ℤ digit_character u y) (digit_words n k)) (λ x y. signed_binomial (apart x y) (n - apart x y) k) xs
+    (total-digit_character_pair n k) lengths)

@@ -3,5 +3,4 @@ pub mod Binomials
 pub mod Words
 pub mod PairTotals
 pub mod Alternating
-pub mod Characters
 pub mod PairLists

@@ -5,3 +5,4 @@ pub mod WordLemmas
 pub mod Characters
 pub mod PairKinds
 pub mod PairProducts
+pub mod AllWords

@@ -2,7 +2,7 @@
 use Rattle.std.proofs.Common.{ap, arith}
 use Rattle.std.specs.Prelude.{unsigned_abs}
 use Rattle.std.proofs.lemmas.Int.{ints}
-use Rattle.ct_scheme.specs.Positive.{johnson-small}
+use Rattle.ct_scheme.specs.Johnson.{johnson-small}
 use Rattle.ct_scheme.proofs.johnson.JohnsonScheme.number.Goals as goal
 
 pub returns-clause-small : goal.returns-clause-small
