@@ -33,6 +33,7 @@ abbrev pub zeros : List Bool → ℕ
 zeros [] = 0
 zeros (a ∷ x) = cond a 0 1 + zeros x
 
+-- each digit is 1 or 0
 pub ones-zeros : (x : List Bool) → ones x + zeros x ≡ length x
 ones-zeros [] = refl
 ones-zeros (false ∷ x) = let ih = ones-zeros x in omega arith
@@ -140,6 +141,7 @@ ones-plus [] y = refl
 ones-plus (a ∷ x) [] = refl
 ones-plus (a ∷ x) (b ∷ y) = ap (λ m. cond (differ a b) 1 0 + m) (ones-plus x y)
 
+-- it is as long as they are
 pub length-plus : (x y : List Bool) → length x ≡ length y → length (plus x y) ≡ length x
 length-plus [] y h = refl
 length-plus (a ∷ x) [] h = absurd (omega arith)
@@ -150,6 +152,7 @@ turned : Bool → ℤ → ℤ
 turned true z = neg_ℤ z
 turned false z = z
 
+-- the sign with one place more
 sign_turned_by : (t : Bool) (m : ℕ) → sign (cond t 1 0 + m) ≡ turned t (sign m)
 unfolding turned
 sign_turned_by true m = sign_turned m

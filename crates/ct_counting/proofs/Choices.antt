@@ -23,6 +23,7 @@ choose-absorb n j =
           omega arith
     ]
 
+-- the same for any number of things
 pub choose-absorb_any : (n j : ℕ) → suc j * choose n (suc j) ≡ n * choose (n - 1) j
 choose-absorb_any zero j = omega arith
 choose-absorb_any (suc n) j = let n_is : suc n - 1 ≡ n = omega arith in choose-absorb n j ∙ ap (λ m. suc n * choose m j) (sym n_is)
@@ -32,6 +33,7 @@ pub choose-le-suc : (n k : ℕ) → choose n k ≤ choose (suc n) k
 choose-le-suc n zero = omega arith
 choose-le-suc n (suc k) = omega arith
 
+-- what can be chosen can be chosen in one way at least
 pub one-le-choose : (n k : ℕ) → 1 ≤ choose (n + k) k
 one-le-choose n zero = omega arith
 one-le-choose n (suc k) =

@@ -49,6 +49,7 @@ convolution-add_right f g h (suc k) =
     let ih = convolution-add_right (tail f) g h k in
     omega (arith, ints)
 
+-- and of a sum of two sequences
 pub convolution-add_left : (f h g : ℕ → ℤ) (k : ℕ) → convolution (λ j. f j +ℤ h j) g k ≡ convolution f g k +ℤ convolution h g k
 convolution-add_left f h g zero = int_dist_right (f 0) (h 0) (g 0)
 convolution-add_left f h g (suc k) =
@@ -81,10 +82,11 @@ convolution-scale_left c f g (suc k) =
     let both = int_dist c (f 0 *ℤ g (suc k)) (convolution (tail f) g k) in
     omega (arith, ints)
 
--- a factor of the second sequence goes before the convolution too
+-- two factors exchanged
 swap_factors : (a c b : ℤ) → a *ℤ (c *ℤ b) ≡ c *ℤ (a *ℤ b)
 swap_factors a c b = sym (int_mul_assoc a c b) ∙ ap (λ z. z *ℤ b) (int_mul_comm a c) ∙ int_mul_assoc c a b
 
+-- and so does one of the second sequence
 pub convolution-scale_right : (c : ℤ) (f g : ℕ → ℤ) (k : ℕ) → convolution f (λ j. c *ℤ g j) k ≡ c *ℤ convolution f g k
 convolution-scale_right c f g zero = swap_factors (f 0) c (g 0)
 convolution-scale_right c f g (suc k) =
@@ -102,6 +104,7 @@ convolution-last f g (suc k) = let ih = convolution-last (tail f) g k in omega (
 one_more : (j : ℕ) (z : ℤ) → pos (suc j) *ℤ z ≡ z +ℤ (pos j *ℤ z)
 one_more j z = omega (arith, ints)
 
+-- no times a number
 none_of : (z y : ℤ) → (pos 0 *ℤ z) *ℤ y ≡ pos 0
 none_of z y = int_mul_assoc (pos 0) z y ∙ omega (arith, ints)
 

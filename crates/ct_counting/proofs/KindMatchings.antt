@@ -12,6 +12,7 @@ use Rattle.ct_counting.proofs.PlaceKinds.{Kind, both, neither, first, second, le
 abbrev pub orders : ℕ → ℕ
 orders k = 2 ^ k * factorial k
 
+-- one pair more
 orders-suc : (k : ℕ) → orders (suc k) ≡ 2 * orders k * suc k
 orders-suc k =
     let power = pow-suc 2 k in
@@ -24,9 +25,11 @@ twice n o z =
     let e : 2 * n * o ≡ 2 * o * n = omega arith in
     sym (int_mul_assoc (pos (2 * n)) (pos o) z) ∙ ap (λ m. pos m *ℤ z) e ∙ int_mul_assoc (pos (2 * o)) (pos n) z
 
+-- multiplication distributes over a difference
 int_dist_sub : (a b c : ℤ) → a *ℤ (b -ℤ c) ≡ (a *ℤ b) -ℤ (a *ℤ c)
 int_dist_sub a b c = int_dist a b (neg_ℤ c) ∙ ap (λ z. (a *ℤ b) +ℤ z) (int_mul_neg a c)
 
+-- both sides obey the same recurrence
 pub by_kinds-matchings : (k : ℕ) (m : Kind → ℕ) → m first ≡ m second → by_kinds k m ≡ pos (orders k) *ℤ signed_matchings (m both) (m neither) (m first) k
 by_kinds-matchings zero m h = let e = signed_matchings-first (m both) (m neither) (m first) in sym (ap (λ z. pos (orders 0) *ℤ z) e)
 by_kinds-matchings (suc k) m h =

@@ -25,11 +25,13 @@ negative_matchings c j = sign j *ℤ pos (matchings c c j)
 abbrev pub positive_matchings : ℕ → ℕ → ℕ → ℤ
 positive_matchings a b j = pos (matchings a b j)
 
+-- a product of six, as the product of its two halves
 regroup : (s : ℤ) (x y f p q g : ℕ) → s *ℤ pos (x * y * f * p * q * g) ≡ (s *ℤ pos (x * y * f)) *ℤ pos (p * q * g)
 regroup s x y f p q g =
     let e : x * y * f * p * q * g ≡ (x * y * f) * (p * q * g) = omega arith in
     ap (λ m. s *ℤ pos m) e ∙ sym (int_mul_assoc s (pos (x * y * f)) (pos (p * q * g)))
 
+-- the sum is their convolution
 pub signed_matchings-convolution : (a b c k : ℕ) → signed_matchings a b c k ≡ convolution (negative_matchings c) (positive_matchings a b) k
 unfolding signed_matchings
 signed_matchings-convolution a b c k =
@@ -55,6 +57,7 @@ matchings-suc a b j =
 positive-suc : (a b j : ℕ) → pos (suc j) *ℤ positive_matchings a b (suc j) ≡ pos (a * b) *ℤ positive_matchings (a - 1) (b - 1) j
 positive-suc a b j = ap pos (matchings-suc a b j)
 
+-- an equation between two counts, with the sign of the next term on one side
 turn : (s : ℤ) (k x c y : ℕ) → k * x ≡ c * y → pos k *ℤ (neg_ℤ s *ℤ pos x) ≡ neg_ℤ (pos c) *ℤ (s *ℤ pos y)
 turn s k x c y e =
     ap (λ z. pos k *ℤ z) (int_mul_comm (neg_ℤ s) (pos x))
@@ -64,9 +67,11 @@ turn s k x c y e =
     ∙ ap neg_ℤ (int_mul_assoc (pos c) (pos y) s ∙ ap (λ z. pos c *ℤ z) (int_mul_comm (pos y) s))
     ∙ sym (int_neg_mul (pos c) (s *ℤ pos y))
 
+-- for the terms that count -1, too
 negative-suc : (c j : ℕ) → pos (suc j) *ℤ negative_matchings c (suc j) ≡ neg_ℤ (pos (c * c)) *ℤ negative_matchings (c - 1) j
 negative-suc c j = turn (sign j) (suc j) (matchings c c (suc j)) (c * c) (matchings (c - 1) (c - 1) j) (matchings-suc c c j)
 
+-- a negated number added is the number taken off
 add_negated : (x p q : ℤ) → x ≡ neg_ℤ p → x +ℤ q ≡ q -ℤ p
 add_negated x p q e = omega (arith, ints)
 

@@ -8,13 +8,14 @@ use Rattle.ct_counting.proofs.Totals.{total-map, total-congruence, total-scale}
 use Rattle.ct_counting.proofs.PartTotals.{total-flat_map}
 use Rattle.ct_counting.proofs.Products.{int_mul_assoc, int_mul_comm}
 
--- the product of a product of two terms
+-- four factors, the middle two exchanged
 exchange : (a b c d : ℤ) → (a *ℤ c) *ℤ (b *ℤ d) ≡ (a *ℤ b) *ℤ (c *ℤ d)
 exchange a b c d =
     int_mul_assoc a c (b *ℤ d)
     ∙ ap (λ z. a *ℤ z) (sym (int_mul_assoc c b d) ∙ ap (λ z. z *ℤ d) (int_mul_comm c b) ∙ int_mul_assoc b c d)
     ∙ sym (int_mul_assoc a b (c *ℤ d))
 
+-- the product of two products over a list
 pub product-mul : {X : Type 0} (f g : X → ℤ) (xs : List X) → product f xs *ℤ product g xs ≡ product (λ x. f x *ℤ g x) xs
 product-mul f g [] = refl
 product-mul f g (x ∷ xs) = exchange (f x) (g x) (product f xs) (product g xs) ∙ ap (λ z. (f x *ℤ g x) *ℤ z) (product-mul f g xs)
@@ -24,6 +25,7 @@ abbrev pub pair_list_total : {X : Type 0} → (X → X → ℤ) → ℕ → List
 pair_list_total h zero xs = pos 1
 pair_list_total h (suc k) xs = total (λ p. total (λ q. h p.0 q.0 *ℤ pair_list_total h k q.1) (picks p.1)) (picks xs)
 
+-- so are the lists of pairs made
 pub total-pair_lists : {X : Type 0} (h : X → X → ℤ) (k : ℕ) (xs : List X) → total (λ pairs. product (λ p. h p.0 p.1) pairs) (pair_lists k xs) ≡ pair_list_total h k xs
 total-pair_lists h zero xs = refl
 total-pair_lists {X} h (suc k) xs =

@@ -28,6 +28,7 @@ In-from_Contains x [] (k, l, at) = absurd (omega arith)
 In-from_Contains x (y ∷ ys) (zero, l, at) = inl at
 In-from_Contains x (y ∷ ys) (suc k, l, at) = inr (In-from_Contains x ys (k, omega arith, at))
 
+-- what holds of each element, in either form
 In-all : {X : Type 0} (P : X → Type 0) (xs : List X) → ((x : X) → In x xs → P x) → All P xs
 In-all P [] h = All-nil P
 In-all P (x ∷ xs) h = All-cons P x xs (h x (inl refl)) (In-all P xs (λ y i. h y (inr i)))
@@ -37,6 +38,7 @@ all_In P [] h x i = absurd i
 all_In P (y ∷ ys) h x (inl e) = subst P e (All-head P y ys h)
 all_In P (y ∷ ys) h x (inr i) = all_In P ys (All-tail P y ys h) x i
 
+-- no two elements equal, in either form
 Distinct-from_pairs : {X : Type 0} (xs : List X) → AllPairs (λ x y. x ≢ y) xs → Distinct xs
 Distinct-from_pairs [] h = tt
 Distinct-from_pairs {X} (x ∷ xs) h =
@@ -131,6 +133,7 @@ record AreOthers {X : Type 0} (xs : List X) (p : X × List X) : Type 0 where
   among : (y : X) → In y p.1 → In y xs
   other : (y : X) → In y p.1 → y ≢ p.0
 
+-- so it is with each way to take one out
 picks-others : {X : Type 0} (xs : List X) → Distinct xs → (p : X × List X) → In p (picks xs) → AreOthers xs p
 picks-others [] h p i = absurd i
 picks-others {X} (x ∷ xs) h p (inl e) =
@@ -180,6 +183,7 @@ record IsPaired {X : Type 0} (xs : List X) (k : ℕ) (pairs : List (X × X)) : T
   within : (y : X) → In y (ends pairs) → In y xs
   different : Distinct (ends pairs)
 
+-- each list of pairs is one of different elements, where the list has no repeats
 pair_lists-paired : {X : Type 0} (k : ℕ) (xs : List X) → Distinct xs → (pairs : List (X × X)) → In pairs (pair_lists k xs) → IsPaired xs k pairs
 pair_lists-paired zero xs h pairs (inl e) = subst (IsPaired xs 0) e (record { count = refl; within = λ y i. absurd i; different = tt })
 pair_lists-paired zero xs h pairs (inr i) = absurd i
@@ -204,6 +208,7 @@ pair_lists-paired {X} (suc k) xs h pairs i =
       );
     })
 
+-- and each list of pairs of different elements is there
 pair_lists-complete : {X : Type 0} (k : ℕ) (xs : List X) (pairs : List (X × X)) → IsPaired xs k pairs → In pairs (pair_lists k xs)
 pair_lists-complete zero xs [] h = inl refl
 pair_lists-complete zero xs (t ∷ rest) h = let c = h.count in absurd (omega arith)
@@ -232,6 +237,7 @@ second_of_pairs : {X : Type 0} → X → List (X × X) → X
 second_of_pairs d [] = d
 second_of_pairs d (p ∷ pairs) = p.1
 
+-- they tell it
 second_is : {X : Type 0} (d a b : X) (rest pairs : List (X × X)) → (a, b) ∷ rest ≡ pairs → second_of_pairs d pairs ≡ b
 unfolding second_of_pairs
 second_is d a b rest pairs e = ap (second_of_pairs d) (sym e)

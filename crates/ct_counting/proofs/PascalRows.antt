@@ -18,6 +18,7 @@ abbrev row : ℕ → List ℕ
 row zero = 1 ∷ []
 row (suc n) = 1 ∷ neighbours (row n)
 
+-- an element of it
 get_or-neighbours : (xs : List ℕ) (j : ℕ) → get_or (neighbours xs) j 0 ≡ get_or xs j 0 + get_or xs (suc j) 0
 get_or-neighbours [] j = refl
 get_or-neighbours (x ∷ []) zero = omega arith
@@ -25,6 +26,7 @@ get_or-neighbours (x ∷ []) (suc j) = refl
 get_or-neighbours (x ∷ y ∷ xs) zero = refl
 get_or-neighbours (x ∷ y ∷ xs) (suc j) = get_or-neighbours (y ∷ xs) j
 
+-- an element of a row is a binomial coefficient
 get_or-row : (n k : ℕ) → get_or (row n) k 0 ≡ choose n k
 get_or-row zero zero = refl
 get_or-row zero (suc k) = refl
@@ -36,6 +38,7 @@ abbrev all_below : (ℕ → Bool) → ℕ → Bool
 all_below p zero = true
 all_below p (suc n) = p n && all_below p n
 
+-- both sides of a conjunction hold
 and_first : (a b : Bool) → (a && b) ≡ true → a ≡ true
 and_first true b h = refl
 and_first false b h = h
@@ -44,6 +47,7 @@ and_second : (a b : Bool) → (a && b) ≡ true → b ≡ true
 and_second true b h = h
 and_second false b h = absurd cc
 
+-- what all pass, each passes
 passes : (p : ℕ → Bool) (n : ℕ) → all_below p n ≡ true → (k : ℕ) → k < n → p k ≡ true
 passes p zero h k l = absurd (omega arith)
 passes p (suc n) h k l =
@@ -53,9 +57,11 @@ passes p (suc n) h k l =
     ]
 
 -- in the row of 28: the coefficients at twice k, times the factorial of k
+-- whether the coefficient at 2k in the row of 28, times the factorial of k, is below 2^47
 abbrev is_bounded_at : ℕ → Bool
 is_bounded_at k = nat_lt (get_or (row 28) (k + k) 0 * factorial k) (2 ^ 47)
 
+-- up to k = 14 they are below 2^47
 all_bounded : all_below is_bounded_at 15 ≡ true
 all_bounded = refl
 

@@ -70,6 +70,7 @@ all_weaker P Q (x ∷ xs) f h = (f x h.0, all_weaker P Q xs f h.1)
 abbrev IsSplit : {X : Type 0} → (X → Kind) → List X → X × List X → Type 0
 IsSplit kind xs p = (K : Kind) → count kind xs K ≡ same K (kind p.0) + count kind p.1 K
 
+-- each way to take one out is such a split
 picks-split : {X : Type 0} (kind : X → Kind) (xs : List X) → AllByRecursion (IsSplit kind xs) (picks xs)
 picks-split kind [] = tt
 picks-split {X} kind (x ∷ xs) =
@@ -105,13 +106,14 @@ only first v first = v
 only second v second = v
 only _ v _ = pos 0
 
+-- its sum over the kinds
 by_kind-only : (q : Kind) (v : ℤ) (m : Kind → ℕ) → by_kind m (only q v) ≡ pos (m q) *ℤ v
 by_kind-only both v m = omega (arith, ints)
 by_kind-only neither v m = omega (arith, ints)
 by_kind-only first v m = omega (arith, ints)
 by_kind-only second v m = omega (arith, ints)
 
--- a place of a kind makes pairs with places of one other kind
+-- products with 0, 1 and -1
 times_zero : (z : ℤ) → pos 0 *ℤ z ≡ pos 0
 times_zero z = omega (arith, ints)
 
@@ -121,6 +123,7 @@ times_one z = omega (arith, ints)
 times_minus_one : (z : ℤ) → negsuc 0 *ℤ z ≡ neg_ℤ z
 times_minus_one z = omega (arith, ints)
 
+-- a place of a kind makes pairs with places of one other kind
 partner_of_both : (f : Kind → ℤ) (K : Kind) → weight_of_kinds both K *ℤ f K ≡ only neither (f neither) K
 partner_of_both f both = times_zero (f both)
 partner_of_both f neither = times_one (f neither)
@@ -186,6 +189,7 @@ row_total k m =
     (by_partner second first (less second m) (f second) (neg_ℤ b) (partner_of_second (f second))) in
     four (m both) (m neither) (m first) (m second) a b _ _ _ _ p q r s
 
+-- the sum over the lists of k pairs of elements, by the kinds of the elements
 pub pair_list_total-by_kinds : {X : Type 0} (kind : X → Kind) (k : ℕ) (xs : List X) → pair_list_total (λ a b. weight_of_kinds (kind a) (kind b)) k xs ≡ by_kinds k (count kind xs)
 pair_list_total-by_kinds kind zero xs = refl
 pair_list_total-by_kinds {X} kind (suc k) xs =

@@ -22,5 +22,11 @@ count-le n i j l short within =
 -- the sum so far leaves room for one step more
 pub sum_has_room : (n k i j : ℕ) → n ≤ MAX_N → i ≤ n → j ≤ MAX_N + 1 → unsigned_abs (total_below (term n k i) j) < 2 ^ 120
 sum_has_room n k i j short within few =
-    let bounded = total_below-bounded (term n k i) (2 ^ 28) j (λ a l. let size = unsigned_abs-signed a (choose i a * choose (n - i) (k - a)) in let most = count-le n i a (k - a) short within in omega arith) in
+    let bounded = total_below-bounded (term n k i) (2 ^ 28) j each in
     omega arith
+  where
+    each : (a : ℕ) → a < j → unsigned_abs (term n k i a) ≤ 2 ^ 28
+    each a less =
+        let size = unsigned_abs-signed a (choose i a * choose (n - i) (k - a)) in
+        let most = count-le n i a (k - a) short within in
+        omega arith

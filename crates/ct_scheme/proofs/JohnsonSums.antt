@@ -49,16 +49,16 @@ pub sum_has_room : (n w k i j : ℕ) → IsWithin n w k i → j ≤ suc k → un
 sum_has_room n w k i j h l =
     let row = h.row in
     let length = h.length in
-    let bounded = total_below-bounded (term n w k i) (2 ^ 47) j (each (count n w k i)) in
+    let bounded = total_below-bounded (term n w k i) (2 ^ 47) j each in
     omega arith
   where
-    each : (c : ℕ → ℕ) → (a : ℕ) → a < j → unsigned_abs (sign a *ℤ pos (count n w k i a)) ≤ 2 ^ 47
-    each c a less =
+    each : (a : ℕ) → a < j → unsigned_abs (sign a *ℤ pos (count n w k i a)) ≤ 2 ^ 47
+    each a less =
         let size = unsigned_abs-signed a (count n w k i a) in
         let small = count-small n w k i a h (omega arith) in
         omega arith
 
--- so do its two factors, and what they are made of
+-- a number of matchings fits, and so does the product before its last factor
 pub matchings-fit : (a b k : ℕ) → a + b ≤ MAX_N → 2 * k ≤ MAX_N → (choose a k * choose b k < 2 ^ 47) × (matchings a b k < 2 ^ 47)
 matchings-fit a b k h l =
     let small = matchings-small a b k h (omega arith) in

@@ -30,10 +30,11 @@ map-tabulate {Y} g h f a same = along g h f (λ i. i) a same
     along g h f e (suc a) same =
         ap₂ (λ y ys. y ∷ ys) (same 0 (omega arith)) (along g h (λ i. f (suc i)) (λ i. e (suc i)) a (λ i l. same (suc i) (omega arith)))
 
--- a digit of a word, and the same digit of it with a digit 1 put before
+-- a digit of a word that is read as one digit longer
 digit-lower : (n x p : ℕ) → digit (suc n) x (suc p) ≡ digit n x p
 digit-lower n x p = let e : suc n - 1 - suc p ≡ n - 1 - p = omega arith in ap (λ i. x / 2 ^ i % 2) e
 
+-- a digit 1 before the others leaves them
 digit-raised : (n x p : ℕ) → p < n → digit n (2 ^ n + x) p ≡ digit n x p
 digit-raised n x p l =
     let m = n - 1 - p in
@@ -64,6 +65,7 @@ digits_from-same : (p q : ℕ → Bool) (n : ℕ) → ((i : ℕ) → i < n → p
 digits_from-same p q zero h = refl
 digits_from-same p q (suc n) h = ap₂ (λ b x. b ∷ x) (h 0 (omega arith)) (digits_from-same (λ i. p (suc i)) (λ i. q (suc i)) n (λ i l. h (suc i) (omega arith)))
 
+-- the digits of a word below 2^n, and of one from 2^n on
 digits_of-low : (n x : ℕ) → x < 2 ^ n → digits_of (suc n) x ≡ false ∷ digits_of n x
 digits_of-low n x l =
     ap₂ (λ b y. b ∷ y) (ap (λ d. d == 1) (digit-first_zero n x l))

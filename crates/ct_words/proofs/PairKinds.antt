@@ -24,6 +24,7 @@ abbrev bit : Bool → ℕ
 bit true = 1
 bit false = 0
 
+-- a digit is that of its test
 bit_is : (d : ℕ) → d < 2 → d ≡ bit (d == 1)
 bit_is zero h = refl
 bit_is (suc zero) h = refl
@@ -48,6 +49,7 @@ differences false false true false = refl
 differences false false false true = refl
 differences false false false false = refl
 
+-- for two words of length n
 pub differences-kinds : (n x y a b : ℕ) → (pos (digit n x a) -ℤ pos (digit n x b)) *ℤ (pos (digit n y a) -ℤ pos (digit n y b)) ≡ weight_of_kinds (kind_at n x y a) (kind_at n x y b)
 differences-kinds n x y a b =
     ap₂ (λ s t. s *ℤ t)
@@ -62,12 +64,14 @@ record IsTally (m : Kind → ℕ) (x y : List Bool) (n : ℕ) : Type 0 where
   differences : m first + m second ≡ apart x y
   all : m both + m neither + m first + m second ≡ n
 
+-- with one place more
 tally-cons : (a b : Bool) (m : Kind → ℕ) (x y : List Bool) (n : ℕ) → IsTally m x y n → IsTally (λ K. same K (kind_of a b) + m K) (a ∷ x) (b ∷ y) (suc n)
 tally-cons true true m x y n t = record { ones_of_first = let e = t.ones_of_first in omega arith; ones_of_second = let e = t.ones_of_second in omega arith; differences = let e = t.differences in omega arith; all = let e = t.all in omega arith }
 tally-cons true false m x y n t = record { ones_of_first = let e = t.ones_of_first in omega arith; ones_of_second = let e = t.ones_of_second in omega arith; differences = let e = t.differences in omega arith; all = let e = t.all in omega arith }
 tally-cons false true m x y n t = record { ones_of_first = let e = t.ones_of_first in omega arith; ones_of_second = let e = t.ones_of_second in omega arith; differences = let e = t.differences in omega arith; all = let e = t.all in omega arith }
 tally-cons false false m x y n t = record { ones_of_first = let e = t.ones_of_first in omega arith; ones_of_second = let e = t.ones_of_second in omega arith; differences = let e = t.differences in omega arith; all = let e = t.all in omega arith }
 
+-- the counts of the places of two words
 tally : (p q : ℕ → Bool) (f : ℕ → ℕ) (n : ℕ) → IsTally (count (λ i. kind_of (p i) (q i)) (tabulate f n)) (digits_from (λ i. p (f i)) n) (digits_from (λ i. q (f i)) n) n
 tally p q f zero = record { ones_of_first = refl; ones_of_second = refl; differences = refl; all = refl }
 tally p q f (suc n) = tally-cons (p (f 0)) (q (f 0)) _ _ _ n (tally p q (λ k. f (suc k)) n)
@@ -81,6 +85,7 @@ pub record AreOneWeight (n w i : ℕ) (m : Kind → ℕ) : Type 0 where
   pub index_within : i ≤ w
   pub index_outside : w + i ≤ n
 
+-- by the four sums
 pub kinds_of_pair : (n w x y : ℕ) → weight n x ≡ w → weight n y ≡ w → AreOneWeight n w (distance n x y / 2) (count (kind_at n x y) (all_places n))
 kinds_of_pair n w x y p q =
     let t = tally (λ i. digit n x i == 1) (λ i. digit n y i == 1) (λ i. i) n in

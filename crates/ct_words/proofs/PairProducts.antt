@@ -56,6 +56,7 @@ nonneg_from_scaled zero z l h = absurd (omega arith)
 nonneg_from_scaled (suc m) (pos n) l h = omega (arith, ints)
 nonneg_from_scaled (suc m) (negsuc n) l h = absurd (omega (arith, ints))
 
+-- there is at least one order
 orders-pos : (k : ℕ) → 1 ≤ orders k
 orders-pos k =
     let p = pow_pos k in
