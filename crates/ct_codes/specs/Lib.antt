@@ -3,3 +3,4 @@ pub mod Code
 pub mod Pairs
 pub mod Check
 pub mod Claim
+pub mod Scheme

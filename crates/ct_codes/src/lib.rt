@@ -8,6 +8,7 @@ mod entry;
 mod fault;
 mod laws;
 mod pairs;
+mod scheme;
 #[cfg(test)]
 mod tests;
 
@@ -21,3 +22,4 @@ pub use laws::{
     least_pair_is_least,
 };
 pub use pairs::first_close_pair;
+pub use scheme::{Scheme, scheme_laws};

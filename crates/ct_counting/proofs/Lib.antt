@@ -5,3 +5,17 @@ pub mod DoubleCounting
 pub mod Binomials
 pub mod Words
 pub mod Distances
+pub mod Alternating
+pub mod Products
+pub mod Convolutions
+pub mod SignedBinomials
+pub mod PairTotals
+pub mod PartTotals
+pub mod Characters
+pub mod Choices
+pub mod Matchings
+pub mod PascalRows
+pub mod PairLists
+pub mod PlaceKinds
+pub mod KindMatchings
+pub mod Pairings

@@ -3,6 +3,7 @@
 ghost use Rattle.std.specs.Prelude.{◌≡◌, ◌≢◌, ℕ, suc, ◌+◌, ◌*◌, ◌^◌, ◌<◌, ◌==◌, nat_le, Bool, List, length, count_by};
 ghost use Rattle.std.specs.List.{All, AllPairs, Contains};
 ghost use Rattle.ct_counting.specs.Binomials.{choose, factorial, volume};
+ghost use Rattle.ct_counting.specs.PairLists.{pair_lists, IsPairing};
 ghost use Rattle.ct_counting.specs.Sums.{sum_below};
 ghost use Rattle.ct_counting.specs.Words.{all_words, apart, ones};
 
@@ -27,4 +28,15 @@ pub fn word_laws()
         count_by (λ x. apart c x == j) (all_words (length c)) ≡ choose (length c) j }
     ensures in_ball { (c : List Bool) (e : ℕ) →
         count_by (λ x. nat_le (apart c x) e) (all_words (length c)) ≡ volume (length c) e }
+{}
+
+/// The lists of k ordered pairs of a list without repeats: each has k pairs of its elements, all 2k elements different;
+/// each such list of pairs is among them; and no two of them are equal.
+pub fn pair_list_laws()
+    ensures each { (k : ℕ) (xs : List ℕ) → AllPairs (λ x y. x ≢ y) xs →
+        All (IsPairing xs k) (pair_lists k xs) }
+    ensures all { (k : ℕ) (xs : List ℕ) (pairs : List (ℕ × ℕ)) → IsPairing xs k pairs →
+        Contains (pair_lists k xs) pairs }
+    ensures once { (k : ℕ) (xs : List ℕ) → AllPairs (λ x y. x ≢ y) xs →
+        AllPairs (λ x y. x ≢ y) (pair_lists k xs) }
 {}

@@ -3,4 +3,4 @@
 
 mod laws;
 
-pub use laws::{binomial_laws, word_laws};
+pub use laws::{binomial_laws, pair_list_laws, word_laws};

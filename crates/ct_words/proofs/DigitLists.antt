@@ -21,7 +21,7 @@ length-digits_from p zero = refl
 length-digits_from p (suc n) = let ih = length-digits_from (λ k. p (suc k)) n in omega arith
 
 -- a count of places, with the first apart
-places-first : (p : ℕ → Bool) (n : ℕ) → places p (suc n) ≡ cond (p 0) 1 0 + places (λ k. p (suc k)) n
+pub places-first : (p : ℕ → Bool) (n : ℕ) → places p (suc n) ≡ cond (p 0) 1 0 + places (λ k. p (suc k)) n
 places-first p zero = refl
 places-first p (suc n) = let ih = places-first p n in omega arith
 

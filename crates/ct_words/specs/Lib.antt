@@ -1,2 +1,4 @@
 pub mod Word
 pub mod Text
+pub mod Characters
+pub mod PairProducts

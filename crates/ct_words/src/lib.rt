@@ -1,6 +1,7 @@
 //! Binary words of a code: their distance, weight and text, and the limits of the table.
 #![tactic(auto)]
 
+mod alternating;
 mod counts;
 mod laws;
 mod limits;
@@ -11,6 +12,7 @@ mod text;
 mod word;
 mod word_list;
 
+pub use alternating::add_alternating;
 pub use counts::{ball, binomial, factorial};
 pub use laws::{
     distance_is_metric, distance_is_weight_of_sum, golay_words, texts_are_words,

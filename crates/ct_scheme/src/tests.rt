@@ -1,0 +1,126 @@
+//! Johnson numbers against a table, values by hand and a direct count of pairs of places.
+
+use crate::Johnson;
+use ct_codes::{Scheme, scheme_laws};
+use ct_words::{MAX_N, Word, distance, weight};
+
+/// The number of a scheme at k and i, where both are up to its degree.
+fn number_of<S: Scheme>(scheme: &S, k: u32, i: u32) -> Option<i64> {
+    scheme_laws(scheme);
+    if k > scheme.degree() || i > scheme.degree() {
+        return None;
+    }
+    i64::try_from(scheme.number(k, i)).ok()
+}
+
+/// The Johnson number J_k(i) at length n and weight w.
+fn johnson(n: u32, w: u32, k: u32, i: u32) -> Option<i64> {
+    if n == 0 || n > MAX_N || w > n {
+        return None;
+    }
+    number_of(&Johnson { n, w }, k, i)
+}
+
+/// The table of Johnson numbers at n = 8 and w = 4, and first numbers of rows, which are C(w,k) C(n - w,k) k!.
+#[test]
+fn known_numbers(rt: HostRuntime) {
+    for (k, row) in [(1, [16, 8, 0, -8, -16]), (2, [72, 9, -12, 9, 72])] {
+        for (i, want) in row.iter().enumerate() {
+            assert_eq!(rt;
+                johnson(8, 4, k, i as u32),
+                Some(*want),
+                "J_{k}({i}) at 8, 4"
+            );
+        }
+    }
+    for (n, w, k, i, want) in [
+        (8, 4, 0, 3, 1),
+        (8, 3, 3, 0, 60),
+        (8, 3, 3, 3, -6),
+        (3, 1, 1, 1, -1),
+        (28, 14, 11, 0, 5288816332800),
+        (28, 14, 14, 0, 87178291200),
+        (28, 14, 14, 14, 87178291200),
+        (28, 14, 13, 14, -1220496076800),
+    ] {
+        assert_eq!(rt; johnson(n, w, k, i), Some(want), "J_{k}({i}) at {n}, {w}");
+    }
+    assert_eq!(rt; johnson(8, 3, 4, 0), None);
+    assert_eq!(rt; johnson(8, 3, 0, 4), None);
+    assert_eq!(rt; Johnson { n: 8, w: 3 }.degree(), 3);
+    assert_eq!(rt; Johnson { n: 8, w: 6 }.degree(), 2);
+    assert_eq!(rt; Johnson { n: 8, w: 0 }.degree(), 0);
+}
+
+/// The digit of a word at a place that is counted from its end.
+fn digit(x: Word, place: u32) -> i64 {
+    if place < 32 && x >> place & 1 == 1 {
+        1
+    } else {
+        0
+    }
+}
+
+/// What an ordered pair of places counts for two words: the product of their differences.
+fn pair_count(x: Word, y: Word, a: u32, b: u32) -> i64 {
+    let first = digit(x, a).wrapping_sub(digit(x, b));
+    let second = digit(y, a).wrapping_sub(digit(y, b));
+    first.wrapping_mul(second)
+}
+
+/// The counts of all ordered pairs of different places below n that are none of `used`.
+fn pairs_without(x: Word, y: Word, n: u32, used: &[u32]) -> i64 {
+    let mut sum = 0i64;
+    for a in 0..n {
+        for b in 0..n {
+            if a != b && !used.contains(&a) && !used.contains(&b) {
+                sum = sum.wrapping_add(pair_count(x, y, a, b));
+            }
+        }
+    }
+    sum
+}
+
+/// The products of the counts over all lists of two ordered pairs of places below n, four different places.
+fn two_pairs(x: Word, y: Word, n: u32) -> i64 {
+    let mut sum = 0i64;
+    for a in 0..n {
+        for b in 0..n {
+            if a != b {
+                let rest = pairs_without(x, y, n, &[a, b]);
+                sum = sum.wrapping_add(pair_count(x, y, a, b).wrapping_mul(rest));
+            }
+        }
+    }
+    sum
+}
+
+/// For all words of one weight up to length 6, counted pair by pair: one pair gives twice J_1, and two pairs eight
+/// times J_2.
+#[test]
+fn direct_counts(rt: HostRuntime) {
+    for n in 1..7u32 {
+        for x in 0..1u32 << n {
+            for y in 0..1u32 << n {
+                let w = weight(x);
+                if weight(y) == w {
+                    let i = distance(x, y) / 2;
+                    if let Some(first) = johnson(n, w, 1, i) {
+                        assert_eq!(rt;
+                            pairs_without(x, y, n, &[]),
+                            first.wrapping_mul(2),
+                            "{x} {y} at {n}"
+                        );
+                    }
+                    if let Some(second) = johnson(n, w, 2, i) {
+                        assert_eq!(rt;
+                            two_pairs(x, y, n),
+                            second.wrapping_mul(8),
+                            "{x} {y} at {n}"
+                        );
+                    }
+                }
+            }
+        }
+    }
+}
