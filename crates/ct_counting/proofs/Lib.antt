@@ -1,7 +1,12 @@
 pub mod Sums
 pub mod Totals
 pub mod Pairs
+pub mod PairSums
 pub mod DoubleCounting
 pub mod Binomials
 pub mod Words
 pub mod Distances
+pub mod Spread
+pub mod Places
+pub mod Parity
+pub mod Spheres

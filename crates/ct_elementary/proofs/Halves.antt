@@ -7,7 +7,7 @@ use Rattle.std.proofs.lemmas.List.Elements.{All-cons, All-head, All-tail}
 use Rattle.std.proofs.lemmas.List.Kept.{AllPairs-cons}
 use Rattle.ct_counting.specs.Words.{apart}
 use Rattle.ct_counting.proofs.Pairs.{AllPairs-head, AllPairs-tail}
-use Rattle.ct_elementary.proofs.Spread.{IsSpread}
+use Rattle.ct_counting.proofs.Spread.{IsSpread}
 use Rattle.ct_elementary.proofs.Averages.{spread_plotkin}
 
 -- the words of the list that begin with this digit, without it

@@ -12,16 +12,16 @@ use Rattle.ct_counting.proofs.Sums.{sum_by-congruence_within, sum_by-le_within, 
 use Rattle.ct_counting.proofs.DoubleCounting.{count_by-swap, count_by-le_one}
 use Rattle.ct_counting.proofs.Distances.{apart_symmetric, apart_triangle}
 use Rattle.ct_counting.proofs.Words.{length-all_words, lengths-all_words, count_in_ball}
-use Rattle.ct_elementary.proofs.Spread.{IsSpread}
+use Rattle.ct_counting.proofs.Spread.{IsSpread}
 
 -- the words in a ball about a word of n digits
-ball_size : (n e : ℕ) (c : List Bool) → length c ≡ n → count_by (λ x. nat_le (apart c x) e) (all_words n) ≡ volume n e
+pub ball_size : (n e : ℕ) (c : List Bool) → length c ≡ n → count_by (λ x. nat_le (apart c x) e) (all_words n) ≡ volume n e
 ball_size n e c h =
     let P : ℕ → Type 0 = λ m. count_by (λ x. nat_le (apart c x) e) (all_words m) ≡ volume m e in
     subst P h (count_in_ball c e)
 
 -- a word lies in at most one of the balls
-one_ball : (n d e : ℕ) (cs : List (List Bool)) → 2 * e < d → IsSpread n d cs → (x : List Bool) → length x ≡ n → count_by (λ c. nat_le (apart c x) e) cs ≤ 1
+pub one_ball : (n d e : ℕ) (cs : List (List Bool)) → 2 * e < d → IsSpread n d cs → (x : List Bool) → length x ≡ n → count_by (λ c. nat_le (apart c x) e) cs ≤ 1
 one_ball n d e cs small spread x long =
     count_by-le_one (λ c. nat_le (apart c x) e) cs
     (λ i j z l m first.

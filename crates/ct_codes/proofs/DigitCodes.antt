@@ -1,20 +1,14 @@
 -- Codes as lists of lists of digits, on which words are counted.
-use Rattle.std.proofs.Common.{◌≡◌, ℕ, ◌<◌, ◌≤◌, List, [], ◌∷◌, map, length, arith}
+use Rattle.std.proofs.Common.{◌≡◌, ℕ, ◌≤◌, List, map, length, arith}
 use Rattle.std.specs.Prelude.{Bool, None}
-use Rattle.std.specs.List.{All, AllPairs}
 use Rattle.std.proofs.lemmas.List.{length-map}
 use Rattle.std.proofs.lemmas.List.Elements.{All-map}
 use Rattle.ct_counting.specs.Words.{apart}
 use Rattle.ct_counting.proofs.Pairs.{AllPairs-map, AllPairs-weaker}
-use Rattle.ct_counting.proofs.Distances.{apart-le-length}
+use Rattle.ct_counting.proofs.Spread.{IsSpread}
 use Rattle.ct_words.specs.Word.{distance}
 use Rattle.ct_words.proofs.DigitLists.{digits_of, length-digits_of, apart-digits_of}
 use Rattle.ct_codes.specs.Code.{IsCode}
-
--- words of n digits, each two of which have distance at least d
-pub record IsSpread (n d : ℕ) (cs : List (List Bool)) : Type 0 where
-  pub lengths : All (λ x. length x ≡ n) cs
-  pub distances : AllPairs (λ x y. d ≤ apart x y) cs
 
 -- the words of a code, as lists of digits
 pub IsSpread-from_code : (n d : ℕ) (words : List ℕ) → IsCode n d None words → IsSpread n d (map (digits_of n) words)
@@ -34,13 +28,3 @@ bound_from_spread n d v bound words code =
     let least = bound (map (digits_of n) words) (IsSpread-from_code n d words code) in
     let same = length-map words (digits_of n) in
     omega arith
-
--- words of n digits differ at no more than n places, so at most one word has distance above n
-pub spread_far : (n d : ℕ) → n < d → (cs : List (List Bool)) → IsSpread n d cs → length cs ≤ 1
-spread_far n d h [] spread = omega arith
-spread_far n d h (x ∷ []) spread = omega arith
-spread_far n d h (x ∷ y ∷ cs) spread =
-    let long = spread.lengths 0 [] (omega arith) in
-    let far = spread.distances 0 1 [] (omega arith) (omega arith) in
-    let near = apart-le-length x y in
-    absurd (omega arith)

@@ -7,7 +7,7 @@ use Rattle.std.proofs.lemmas.List.Elements.{All-map}
 use Rattle.std.proofs.lemmas.List.Sums.{sum_by-cons}
 use Rattle.ct_counting.specs.Words.{apart, differ, ones}
 use Rattle.ct_counting.proofs.Sums.{sum_by-zero, sum_by-congruence}
-use Rattle.ct_elementary.proofs.PairSums.{pair_sum, pair_sum-cons, pair_sum-map, pair_sum-add, pair_sum-congruence_within}
+use Rattle.ct_counting.proofs.PairSums.{pair_sum, pair_sum-cons, pair_sum-map, pair_sum-add, pair_sum-congruence_within}
 
 -- 1 where two digits differ, and 0 where they are equal
 abbrev pub difference : Bool → Bool → ℕ

@@ -4,8 +4,8 @@ use Rattle.std.specs.Prelude.{Bool, true, false, not}
 use Rattle.std.proofs.lemmas.List.Elements.{All-map}
 use Rattle.ct_counting.specs.Words.{apart, differ}
 use Rattle.ct_counting.proofs.Pairs.{AllPairs-map}
-use Rattle.ct_elementary.proofs.Spread.{IsSpread}
-use Rattle.ct_elementary.proofs.Places.{difference}
+use Rattle.ct_counting.proofs.Spread.{IsSpread}
+use Rattle.ct_counting.proofs.Places.{difference}
 
 -- whether the number of ones is odd
 abbrev pub parity : List Bool → Bool
