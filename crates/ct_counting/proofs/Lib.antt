@@ -10,3 +10,6 @@ pub mod Spread
 pub mod Places
 pub mod Parity
 pub mod Spheres
+pub mod CommonOnes
+pub mod Translations
+pub mod Shortened

@@ -31,3 +31,7 @@ AllPairs-map R f (x ∷ xs) h =
 -- a relation that implies another
 pub AllPairs-weaker : {X : Type 0} (R S : X → X → Type 0) (xs : List X) → ((x y : X) → R x y → S x y) → AllPairs R xs → AllPairs S xs
 AllPairs-weaker R S xs f h = λ i j d l m. f _ _ (h i j d l m)
+
+-- a relation that implies another between elements of which something holds
+pub AllPairs-within : {X : Type 0} (P : X → Type 0) (R S : X → X → Type 0) (xs : List X) → ((x y : X) → P x → P y → R x y → S x y) → All P xs → AllPairs R xs → AllPairs S xs
+AllPairs-within P R S xs f each h = λ i j d l m. f _ _ (each i d (omega arith)) (each j d m) (h i j d l m)

@@ -2,9 +2,21 @@
 use Rattle.std.proofs.Common.{◌≡◌, ℕ, ◌≤◌, List, length}
 use Rattle.std.specs.Prelude.{Bool}
 use Rattle.std.specs.List.{All, AllPairs}
-use Rattle.ct_counting.specs.Words.{apart}
+use Rattle.ct_counting.specs.Words.{apart, ones}
 
 -- words of n digits, each two of which have distance at least d
 pub record IsSpread (n d : ℕ) (cs : List (List Bool)) : Type 0 where
   pub lengths : All (λ x. length x ≡ n) cs
   pub distances : AllPairs (λ x y. d ≤ apart x y) cs
+
+-- such words of one weight
+pub record IsSpreadOfWeight (n d w : ℕ) (cs : List (List Bool)) : Type 0 where
+  pub spread : IsSpread n d cs
+  pub weights : All (λ x. ones x ≡ w) cs
+
+-- no such list, without weight or of one weight, is longer than u
+abbrev pub IsSpreadBound : ℕ → ℕ → ℕ → Type 0
+IsSpreadBound n d u = (cs : List (List Bool)) → IsSpread n d cs → length cs ≤ u
+
+abbrev pub IsWeightBound : ℕ → ℕ → ℕ → ℕ → Type 0
+IsWeightBound n d w u = (cs : List (List Bool)) → IsSpreadOfWeight n d w cs → length cs ≤ u

@@ -2,3 +2,4 @@ pub mod DigitLists
 pub mod TextLemmas
 pub mod OrderLemmas
 pub mod WordLemmas
+pub mod DigitValues
