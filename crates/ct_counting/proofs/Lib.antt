@@ -10,6 +10,7 @@ pub mod Spread
 pub mod Places
 pub mod Parity
 pub mod Spheres
+pub mod Complements
 pub mod CommonOnes
 pub mod Translations
 pub mod Shortened

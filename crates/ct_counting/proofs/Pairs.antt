@@ -1,5 +1,6 @@
 -- Lists in which each element stands in a relation to each later one.
-use Rattle.std.proofs.Common.{suc, List, [], ◌∷◌, ◌++◌, map, arith}
+use Rattle.std.proofs.Common.{ℕ, suc, List, [], ◌∷◌, ◌++◌, map, take, length-take, arith}
+use Rattle.std.proofs.lemmas.List.{get_or-take}
 use Rattle.std.specs.List.{All, AllPairs}
 use Rattle.std.proofs.lemmas.List.Elements.{All-append, All-map, All-head, All-tail}
 use Rattle.std.proofs.lemmas.List.Kept.{AllPairs-cons}
@@ -35,3 +36,11 @@ AllPairs-weaker R S xs f h = λ i j d l m. f _ _ (h i j d l m)
 -- a relation that implies another between elements of which something holds
 pub AllPairs-within : {X : Type 0} (P : X → Type 0) (R S : X → X → Type 0) (xs : List X) → ((x y : X) → P x → P y → R x y → S x y) → All P xs → AllPairs R xs → AllPairs S xs
 AllPairs-within P R S xs f each h = λ i j d l m. f _ _ (each i d (omega arith)) (each j d m) (h i j d l m)
+
+-- the first elements of a list
+pub AllPairs-take : {X : Type 0} (R : X → X → Type 0) (k : ℕ) (xs : List X) → AllPairs R xs → AllPairs R (take k xs)
+AllPairs-take R k xs h = λ i j d l m.
+    let long = length-take k xs in
+    let a = get_or-take k xs i d (omega arith) in
+    let b = get_or-take k xs j d (omega arith) in
+    rw (a, b) (h i j d l (omega arith))

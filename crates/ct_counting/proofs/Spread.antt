@@ -1,8 +1,10 @@
 -- Words each two of which are far apart, as lists of digits.
-use Rattle.std.proofs.Common.{◌≡◌, ℕ, ◌≤◌, List, length}
+use Rattle.std.proofs.Common.{◌≡◌, ℕ, ◌≤◌, List, take, length}
 use Rattle.std.specs.Prelude.{Bool}
 use Rattle.std.specs.List.{All, AllPairs}
+use Rattle.std.proofs.lemmas.List.Elements.{All-take}
 use Rattle.ct_counting.specs.Words.{apart, ones}
+use Rattle.ct_counting.proofs.Pairs.{AllPairs-take}
 
 -- words of n digits, each two of which have distance at least d
 pub record IsSpread (n d : ℕ) (cs : List (List Bool)) : Type 0 where
@@ -20,3 +22,15 @@ IsSpreadBound n d u = (cs : List (List Bool)) → IsSpread n d cs → length cs 
 
 abbrev pub IsWeightBound : ℕ → ℕ → ℕ → ℕ → Type 0
 IsWeightBound n d w u = (cs : List (List Bool)) → IsSpreadOfWeight n d w cs → length cs ≤ u
+
+-- the first words of such a list
+pub spread-take : (n d w k : ℕ) (cs : List (List Bool)) → IsSpreadOfWeight n d w cs → IsSpreadOfWeight n d w (take k cs)
+spread-take n d w k cs code =
+    record {
+      spread =
+          record {
+            lengths = All-take (λ x. length x ≡ n) k cs code.spread.lengths;
+            distances = AllPairs-take (λ x y. d ≤ apart x y) k cs code.spread.distances;
+          };
+      weights = All-take (λ x. ones x ≡ w) k cs code.weights;
+    }
