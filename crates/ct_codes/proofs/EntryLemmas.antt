@@ -1,9 +1,9 @@
 -- The limits of the entries of the table.
-use Rattle.std.proofs.Common.{◌≡◌, ℕ, ◌%◌, ◌≤◌, ◌&&◌, ◌==◌, nat_le, true, Option, Some, None, IfSome, refl, eq-eqb, eqb-true, leb-true, le-leb, arith}
+use Rattle.std.proofs.Common.{◌≡◌, ℕ, ◌%◌, ◌≤◌, ◌&&◌, ◌==◌, nat_le, true, Option, Some, None, IfSome, refl, ap, eq-eqb, eqb-true, leb-true, le-leb, arith}
 use Rattle.std.proofs.lemmas.Bool.{and_parts, and_from}
 use Rattle.ct_words.specs.declared.limits.TheConstants.{MAX_N}
 use Rattle.ct_codes.specs.declared.entry.Entry.{Entry}
-use Rattle.ct_codes.specs.Entry.{IsEntry, weight_fits}
+use Rattle.ct_codes.specs.Entry.{IsEntry, weight_fits, same_weight, same_entry}
 
 -- what is asked of a weight that is given
 abbrev pub WeightFits : Entry → Option ℕ → Type 0
@@ -37,3 +37,27 @@ entry_from_limits e h =
     (and_from (nat_le 1 e.n && nat_le e.n MAX_N) (nat_le 3 e.d)
     (and_from (nat_le 1 e.n) (nat_le e.n MAX_N) (le-leb 1 e.n h.0) (le-leb e.n MAX_N h.1)) (le-leb 3 e.d h.2)) (le-leb e.d MAX_N h.3))
     (weight_fits_from e e.w h.4)
+
+weights_are : (v w : Option ℕ) → same_weight v w ≡ true → v ≡ w
+weights_are None None h = refl
+weights_are (Some v) (Some w) h = ap Some (eqb-true v w h)
+weights_are None (Some w) h = absurd cc
+weights_are (Some v) None h = absurd cc
+
+-- two entries that pass the test are one
+pub same_entry_is : (e f : Entry) → same_entry e f ≡ true → e ≡ f
+same_entry_is e f h =
+    let parts = and_parts (e.n == f.n && e.d == f.d) (same_weight e.w f.w) h in
+    let front = and_parts (e.n == f.n) (e.d == f.d) parts.0 in
+    let n = eqb-true e.n f.n front.0 in
+    let d = eqb-true e.d f.d front.1 in
+    let w = weights_are e.w f.w parts.1 in
+    λ i. record { n = n i; d = d i; w = w i }
+
+same_weight-self : (w : Option ℕ) → same_weight w w ≡ true
+same_weight-self None = refl
+same_weight-self (Some v) = eq-eqb v v refl
+
+-- an entry passes the test with itself
+pub same_entry-self : (e : Entry) → same_entry e e ≡ true
+same_entry-self e = and_from _ _ (and_from _ _ (eq-eqb e.n e.n refl) (eq-eqb e.d e.d refl)) (same_weight-self e.w)

@@ -7,7 +7,8 @@ use Rattle.std.proofs.lemmas.Nat.{le-div}
 use Rattle.std.proofs.lemmas.List.{length-map}
 use Rattle.ct_words.specs.declared.limits.TheConstants.{MAX_N, MAX_BOUND}
 use Rattle.ct_codes.specs.Code.{IsTrueUpper}
-use Rattle.ct_elementary.specs.Bounds.{plain, plotkin_even}
+use Rattle.ct_codes.specs.Entry.{unrestricted}
+use Rattle.ct_elementary.specs.Bounds.{plotkin_even}
 use Rattle.ct_counting.proofs.Spread.{IsSpread}
 use Rattle.ct_codes.proofs.DigitCodes.{bound_from_spread}
 use Rattle.ct_elementary.proofs.Averages.{spread_plotkin}
@@ -67,12 +68,12 @@ if_some None P h = tt
 if_some (Some x) P h = h x refl
 
 -- the value that the rule gives for an even distance is a true bound
-pub even_sound : (n d : ℕ) → 1 ≤ d → IfSome (plotkin_even n d) (IsTrueUpper (plain n d))
-even_sound n d h = if_some (plotkin_even n d) (IsTrueUpper (plain n d)) (λ v e. bound_from_spread n d v (even_bound n d v h e))
+pub even_sound : (n d : ℕ) → 1 ≤ d → IfSome (plotkin_even n d) (IsTrueUpper (unrestricted n d))
+even_sound n d h = if_some (plotkin_even n d) (IsTrueUpper (unrestricted n d)) (λ v e. bound_from_spread n d v (even_bound n d v h e))
 
 -- and the value for an odd one
-pub odd_sound : (n d : ℕ) → d % 2 ≡ 1 → IfSome (plotkin_even (n + 1) (d + 1)) (IsTrueUpper (plain n d))
-odd_sound n d odd = if_some (plotkin_even (n + 1) (d + 1)) (IsTrueUpper (plain n d)) (λ v e. bound_from_spread n d v (odd_bound n d v odd e))
+pub odd_sound : (n d : ℕ) → d % 2 ≡ 1 → IfSome (plotkin_even (n + 1) (d + 1)) (IsTrueUpper (unrestricted n d))
+odd_sound n d odd = if_some (plotkin_even (n + 1) (d + 1)) (IsTrueUpper (unrestricted n d)) (λ v e. bound_from_spread n d v (odd_bound n d v odd e))
 
 -- the value is at least 1, and at most 4d
 even_range : (n d v : ℕ) → 1 ≤ d → d ≤ MAX_N + 1 → plotkin_even n d ≡ Some v → (1 ≤ v) × (v ≤ MAX_BOUND)

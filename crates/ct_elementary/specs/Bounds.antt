@@ -2,11 +2,6 @@
 -- chapter 2, section 2).
 use Rattle.std.specs.Prelude.{ℕ, ◌+◌, ◌-◌, ◌*◌, ◌/◌, ◌%◌, ◌^◌, ◌==◌, ◌&&◌, nat_le, nat_lt, if◌then◌else◌, Option, Some, None}
 use Rattle.ct_counting.specs.Binomials.{volume}
-use Rattle.ct_codes.specs.declared.entry.Entry.{Entry}
-
--- the entry A(n,d), with no weight
-abbrev pub plain : ℕ → ℕ → Entry
-plain n d = record { n = n; d = d; w = None }
 
 -- where d is above n, a code has at most one word
 abbrev pub far_value : ℕ → ℕ → Option ℕ

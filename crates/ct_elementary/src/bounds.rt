@@ -2,17 +2,17 @@
 
 ghost use Rattle.std.specs.Prelude.{◌≡◌, ◌+◌, ◌≤◌, IfSome};
 ghost use Rattle.ct_codes.specs.Code.{IsTrueUpper};
-ghost use Rattle.ct_codes.specs.Entry.{IsEntry};
-ghost use Rattle.ct_elementary.specs.Bounds.{plain, far_value, plotkin_even as even_value, plotkin_value, hamming_value};
+ghost use Rattle.ct_codes.specs.Entry.{IsEntry, unrestricted};
+ghost use Rattle.ct_elementary.specs.Bounds.{far_value, plotkin_even as even_value, plotkin_value, hamming_value};
 
 use ct_words::{MAX_BOUND, MAX_N, ball};
 
 /// The bound 1 where d is above n, and `None` elsewhere: two words differ at no more than n places (MacWilliams and
 /// Sloane, chapter 1). The entry (n,d) is one of the table: n from 1 and d from 3, both to `MAX_N`.
 pub fn far(n: u32, d: u32) -> Option<u32>
-    requires { IsEntry (plain n d) }
+    requires { IsEntry (unrestricted n d) }
     ensures value { result ≡ far_value n d }
-    ensures sound { IfSome result (IsTrueUpper (plain n d)) }
+    ensures sound { IfSome result (IsTrueUpper (unrestricted n d)) }
 {
     if n < d { Some(1) } else { None }
 }
@@ -23,10 +23,10 @@ pub fn far(n: u32, d: u32) -> Option<u32>
 /// For an even d it is 2⌊d/(2d - n)⌋ where d ≤ n < 2d, and 4d where n = 2d; for an odd d it is that of (n + 1, d + 1).
 /// `None` elsewhere.
 pub fn plotkin(n: u32, d: u32) -> Option<u32>
-    requires { IsEntry (plain n d) }
+    requires { IsEntry (unrestricted n d) }
     ensures value { result ≡ plotkin_value n d }
     ensures range { IfSome result (λ v. (1 ≤ v) × (v ≤ MAX_BOUND)) }
-    ensures sound { IfSome result (IsTrueUpper (plain n d)) }
+    ensures sound { IfSome result (IsTrueUpper (unrestricted n d)) }
 {
     if d % 2 == 0 {
         plotkin_even(n, d)
@@ -53,10 +53,10 @@ fn plotkin_even(n: u32, d: u32) -> Option<u32>
 /// number of words in a ball of radius ⌊(d - 1) / 2⌋. Such balls about the words of a code have no word in common
 /// (Hamming 1950; MacWilliams and Sloane, chapter 1, section 5).
 pub fn hamming(n: u32, d: u32) -> u32
-    requires { IsEntry (plain n d) }
+    requires { IsEntry (unrestricted n d) }
     ensures value { result ≡ hamming_value n d }
     ensures range { (1 ≤ result) × (result ≤ MAX_BOUND) }
-    ensures sound { IsTrueUpper (plain n d) result }
+    ensures sound { IsTrueUpper (unrestricted n d) result }
 {
     let words = 1u64 << n;
     (words / ball(n, (d - 1) / 2)) as u32

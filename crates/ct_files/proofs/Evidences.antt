@@ -1,5 +1,5 @@
 -- What an evidence keeps that is read.
-use Rattle.std.proofs.Common.{◌≡◌, ℕ, ◌^◌, ◌<◌, ◌≤◌, Bool, true, false, ◌&&◌, nat_le, cond, eqb, pos, negsuc, List, [], ◌∷◌, length, codes, Option, Some, None, Result, Ok, Err, IfOk, refl, subst, le-leb}
+use Rattle.std.proofs.Common.{◌≡◌, ℕ, ◌^◌, ◌<◌, ◌≤◌, Bool, true, false, ◌&&◌, nat_le, cond, eqb, pos, negsuc, List, [], ◌∷◌, length, codes, Option, Some, None, Result, Ok, Err, IfOk, ok_or, ap, refl, subst, le-leb}
 use Rattle.std.specs.List.{list_all, AllByRecursion}
 use Rattle.std.proofs.lemmas.Bool.{and_parts, eqb-true, leb-true}
 use Rattle.std.proofs.lemmas.List.Elements.{All-from_recursion}
@@ -11,10 +11,11 @@ use Rattle.ct_words.proofs.TextLemmas.{binary_value-lt}
 use Rattle.ct_codes.specs.Entry.{IsEntry}
 use Rattle.ct_files.specs.Fields.{number_in, number_at, texts_at, words_of, holds_text, has_only}
 use Rattle.ct_files.specs.Document.{document_of}
-use Rattle.ct_files.specs.Evidence.{words_keys, words_evidence_of, evidence_of, IsSound}
+use Rattle.ct_files.specs.Evidence.{words_keys, words_evidence_of, evidence_of, read_of, IsSound}
 use Rattle.ct_files.specs.Reads.{Reads}
 use Rattle.ct_files.specs.declared.evidence.Evidence.{Evidence}
 use Rattle.ct_files.specs.declared.fault.FileFault.{FileFault}
+use Rattle.ct_files.specs.declared.fault.FileFault.TheVariants.{Kind}
 
 -- a word that a text writes is below 2 ^ n
 word_of-lt : (n : ℕ) (text : List ℕ) (x : ℕ) → word_of n text ≡ Some x → x < 2 ^ n
@@ -84,3 +85,10 @@ evidence_of-sound bytes e h =
 pub Reads-sound : (bytes : List ℕ) (answer : Result Evidence FileFault) → Reads (λ e. e) answer (evidence_of bytes) → IfOk answer IsSound
 Reads-sound bytes (Ok e) reads = evidence_of-sound bytes e reads
 Reads-sound bytes (Err fault) reads = tt
+
+-- what is read is sound
+pub read_of-sound : (bytes : List ℕ) (e : Evidence) → read_of bytes ≡ Ok e → IsSound e
+read_of-sound bytes e h = sound_of (evidence_of bytes) (evidence_of-sound bytes) e h where
+  sound_of : (read : Option Evidence) → ((e : Evidence) → read ≡ Some e → IsSound e) → (e : Evidence) → ok_or read Kind ≡ Ok e → IsSound e
+  sound_of None h e same = absurd cc
+  sound_of (Some f) h e same = h e (ap Some cc)

@@ -1,4 +1,3 @@
-mod Ids
 mod Documents
 pub mod Evidences
 pub mod OnLiterals

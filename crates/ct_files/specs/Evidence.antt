@@ -1,5 +1,5 @@
 -- The evidence that a document's bytes give.
-use Rattle.std.specs.Prelude.{◌≡◌, ℕ, ◌^◌, ◌<◌, if◌then◌else◌, List, [], ◌∷◌, Option, Some, None, All, codes}
+use Rattle.std.specs.Prelude.{◌≡◌, ℕ, ◌^◌, ◌<◌, if◌then◌else◌, List, [], ◌∷◌, Option, Some, None, Result, ok_or, All, codes}
 use Rattle.toml.specs.Data.{Data}
 use Rattle.ct_words.specs.declared.limits.TheConstants.{MAX_N}
 use Rattle.ct_codes.specs.Entry.{IsEntry}
@@ -7,6 +7,8 @@ use Rattle.ct_files.specs.Fields.{◌>>=◌, holds_text, number_at, texts_at, wo
 use Rattle.ct_files.specs.Document.{document_of}
 use Rattle.ct_files.specs.declared.evidence.Evidence.{Evidence}
 use Rattle.ct_files.specs.declared.evidence.Evidence.TheVariants.{Words}
+use Rattle.ct_files.specs.declared.fault.FileFault.{FileFault}
+use Rattle.ct_files.specs.declared.fault.FileFault.TheVariants.{Kind}
 
 -- the keys of a document of kind words
 abbrev pub words_keys : List (List ℕ)
@@ -26,6 +28,10 @@ unfoldable pub evidence_of : List ℕ → Option Evidence
 evidence_of bytes = do
   document ← document_of bytes
   if holds_text (codes "kind") (codes "words") document then words_evidence_of document else None
+
+-- what a document reads as: its evidence, or the fault of one that is of no kind that is read
+abbrev pub read_of : List ℕ → Result Evidence FileFault
+read_of bytes = ok_or (evidence_of bytes) Kind
 
 -- what each evidence that is read keeps: an entry of the table without weight, and words of its length
 abbrev pub IsSound : Evidence → Type 0

@@ -1,5 +1,3 @@
-pub mod Id
-pub mod IdBytes
 pub mod Fields
 pub mod Document
 pub mod Evidence

@@ -1,7 +1,7 @@
 //! Evidence for a bound, as a document states it.
 
-use crate::word_list::WordList;
 use ct_codes::Entry;
+use ct_words::WordList;
 
 /// The greatest number of bytes of a document.
 pub const MAX_DOCUMENT: usize = 4194304;

@@ -1,18 +1,17 @@
 //! The evidence of a document.
-ghost use Rattle.std.specs.Prelude.{◌≡◌, ◌≤◌, Some, None, IfOk};
+ghost use Rattle.std.specs.Prelude.{◌≡◌, ◌≢◌, ◌≤◌, Ok, Err, IfOk, IfErr};
 ghost use Rattle.toml.specs.View.{view};
 ghost use Rattle.ct_words.specs.declared.limits.TheConstants.{MAX_N};
 ghost use Rattle.ct_files.specs.Reads.{Reads, texts_behind};
 ghost use Rattle.ct_words.specs.Text.{word_of};
 ghost use Rattle.ct_files.specs.Fields.{words_of};
-ghost use Rattle.ct_files.specs.Evidence.{IsSound, words_evidence_of, evidence_of};
+ghost use Rattle.ct_files.specs.Evidence.{IsSound, words_evidence_of, evidence_of, read_of};
 
 use crate::document::{has_only, holds_text, number_at, read_document, texts_at};
 use crate::evidence::Evidence;
 use crate::fault::FileFault;
-use crate::word_list::WordList;
 use ct_codes::Entry;
-use ct_words::{MAX_N, Word, parse_word};
+use ct_words::{MAX_N, Word, WordList, parse_word};
 use std::alloc::Global;
 use toml::Value;
 
@@ -72,8 +71,8 @@ fn evidence(alloc: Global, bytes: &[u8]) -> Result<Evidence, FileFault>
 /// from 3 to `MAX_N`, and `words` a list, which may be empty, of texts of `n` digits `0` and `1`.
 /// `Kind` comes only where the bytes are no such document. `Memory` is want of memory.
 pub fn read_evidence(alloc: Global, bytes: &[u8]) -> Result<Evidence, FileFault>
-    ensures read { IfOk result (λ evidence. evidence_of bytes.now ≡ Some evidence) }
-    ensures kind { result ≡ Err FileFault.Kind → evidence_of bytes.now ≡ None }
+    ensures read { IfOk result (λ evidence. read_of bytes.now ≡ Ok evidence) }
+    ensures fault { IfErr result (λ fault. fault ≢ FileFault.Memory → read_of bytes.now ≡ Err fault) }
     ensures sound { IfOk result IsSound }
 {
     evidence(alloc, bytes)

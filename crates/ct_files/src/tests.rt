@@ -125,26 +125,3 @@ fn longest_document(rt: HostRuntime) -> Result<(), Fail> {
     assert!(rt; matches!(read_evidence(rt.alloc(), &bytes), Err(FileFault::Kind)));
     Ok(())
 }
-
-#[test]
-fn ids(rt: HostRuntime) {
-    let taken: [&[u8]; 4] = [b"a", b"z-_9", b"hexa", b"a2345678901234567890123456789012"];
-    for text in taken {
-        let id = Id::parse(text);
-        assert!(rt; matches!(id, Some(id) if id.text() == text), "{text:?}");
-    }
-    let refused: [&[u8]; 9] = [
-        b"",
-        b"b23456789012345678901234567890123",
-        b"A",
-        b"9a",
-        b"-a",
-        b"_a",
-        b"aB",
-        b"a b",
-        b"a\xc3\xa9",
-    ];
-    for text in refused {
-        assert!(rt; Id::parse(text).is_none(), "{text:?}");
-    }
-}

@@ -5,11 +5,12 @@ use Rattle.std.specs.Io.KnownBytes.{Consumes, IsAtEnd}
 use Rattle.std.proofs.KnownBytes.{Consumes-trans}
 use Rattle.std.proofs.lemmas.Bool.{eqb-true}
 use Rattle.std.proofs.lemmas.List.Elements.{All-contains, Contains-append_left}
-use Rattle.ct_io.specs.declared.TheConstants.{LINE_FEED, MAX_INPUT}
+use Rattle.ct_lines.specs.declared.TheConstants.{LINE_FEED}
+use Rattle.ct_io.specs.declared.TheConstants.{MAX_INPUT}
 use Rattle.ct_io.specs.declared.intake.Intake.{Intake}
 use Rattle.ct_io.specs.Filling.{FillsBy}
 use Rattle.ct_io.specs.Intake.{Gathers}
-use Rattle.ct_io.specs.Lines.{IsLine}
+use Rattle.ct_lines.specs.Lines.{IsLine}
 use Rattle.ct_io.specs.Reader.{NeedsNoRead}
 use Rattle.ct_io.proofs.FeedLemmas.{IsNoFeed}
 

@@ -6,7 +6,7 @@ use Rattle.ct_io.specs.declared.intake.Intake.{Intake}
 use Rattle.ct_io.specs.declared.line_fault.LineFault.{LineFault}
 use Rattle.ct_io.specs.declared.line_fault.LineFault.TheVariants.{ReadFault, TooLong, Memory}
 use Rattle.ct_io.specs.Faults.{Rose}
-use Rattle.ct_io.specs.Lines.{IsLine}
+use Rattle.ct_lines.specs.Lines.{IsLine}
 use Rattle.ct_io.specs.Reader.{Answer, Divides}
 
 -- bytes were taken, counted and put after those held, and the end was seen only where none is left

@@ -2,5 +2,5 @@ pub mod Faults
 pub mod Filling
 pub mod Inside
 pub mod Intake
-pub mod Lines
 pub mod Reader
+pub mod Told

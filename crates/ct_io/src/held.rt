@@ -1,12 +1,12 @@
 ghost use Rattle.std.specs.Prelude.{◌≡◌, ◌≢◌, ℕ, ◌+◌, ◌<◌, ◌≤◌, List, [], ◌∷◌, ◌++◌, IfOk, IfSome, IfNone, OnErr, MatchOption, length, take, drop, position, slice_get, vec_len, ◌==◌};
 ghost use Rattle.std.specs.Io.KnownBytes.{Keeps};
 ghost use Rattle.ct_io.specs.Faults.{Rose};
-ghost use Rattle.ct_io.specs.Lines.{IsLine};
+ghost use Rattle.ct_lines.specs.Lines.{IsLine};
 ghost use Rattle.ct_io.specs.Filling.{FillsBy};
 
-use crate::LINE_FEED;
 use crate::line_fault::LineFault;
 use crate::source::Source;
+use ct_lines::LINE_FEED;
 use std::alloc::{AllocError, Global};
 use std::marker::Model;
 

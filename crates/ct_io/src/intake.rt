@@ -1,12 +1,13 @@
 ghost use Rattle.std.specs.Prelude.{◌≡◌, ◌+◌, ◌≤◌, true, false, [], IfOk, IfErr, IfSome, IfNone, OnOk, length, max, take, slice_get, vec_len};
 ghost use Rattle.ct_io.specs.declared.TheConstants.{MAX_READ};
-ghost use Rattle.ct_io.specs.Lines.{IsLine};
+ghost use Rattle.ct_lines.specs.Lines.{IsLine};
 ghost use Rattle.ct_io.specs.Reader.{IfLine, NeedsNoRead};
 
 use crate::held::Held;
 use crate::line_fault::LineFault;
 use crate::source::Source;
-use crate::{LINE_FEED, MAX_INPUT, MAX_READ};
+use crate::{MAX_INPUT, MAX_READ};
+use ct_lines::LINE_FEED;
 use std::alloc::{AllocError, Global};
 
 /// What came from the source and was not yet given out, and what is known of the source.

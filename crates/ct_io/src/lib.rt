@@ -1,4 +1,4 @@
-//! The outside: sources of bytes, sinks of bytes, and the lines of an input.
+//! The outside: sources of bytes, sinks of bytes, and a reader of lines.
 //!
 //! A `Source` and a `Sink` each mean two things: the bytes that are left or held, where they are
 //! told, and a count of faults that never falls. So a caller can say which bytes became which, and
@@ -12,7 +12,6 @@ mod held;
 mod intake;
 mod line_fault;
 mod line_reader;
-mod lines;
 mod mem_sink;
 mod mem_source;
 mod sink;
@@ -23,16 +22,12 @@ mod std_source;
 pub use failed::Failed;
 pub use line_fault::LineFault;
 pub use line_reader::LineReader;
-pub use lines::lines_law;
 pub use mem_sink::MemSink;
 pub use mem_source::MemSource;
 pub use sink::{Sink, write_all};
 pub use source::Source;
 pub use std_sink::StdSink;
 pub use std_source::StdSource;
-
-/// The byte that ends a line.
-pub const LINE_FEED: u8 = b'\n';
 
 /// The most bytes of input, 64 MiB.
 pub const MAX_INPUT: u64 = 67_108_864;

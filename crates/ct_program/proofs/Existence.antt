@@ -4,7 +4,7 @@ use Rattle.std.specs.Prelude.{IfSome, fold}
 use Rattle.std.specs.List.{flat_map, AllByRecursion}
 use Rattle.std.specs.Option.{option_to_list}
 use Rattle.std.proofs.lemmas.List.Elements.{All-push}
-use Rattle.ct_io.specs.Lines.{lines_of}
+use Rattle.ct_lines.specs.Lines.{lines_of}
 use Rattle.ct_codes.specs.declared.entry.Entry.{Entry}
 use Rattle.ct_codes.specs.declared.fault.CodeFault.{CodeFault}
 use Rattle.ct_codes.specs.Check.{code_fault}

@@ -1,4 +1,3 @@
-pub mod Entries
 pub mod Forms
 pub mod Truth
 pub mod Commands

@@ -7,11 +7,12 @@ use Rattle.std.specs.Io.KnownBytes.{Appends, IsAtEnd, prepend_known}
 use Rattle.std.proofs.KnownBytes.{Appends-nil, Appends-trans}
 use Rattle.std.proofs.lemmas.Grind.{flat_map-append}
 use Rattle.std.proofs.lemmas.List.Folds.{list_any-append}
-use Rattle.ct_io.specs.Lines.{lines_of}
+use Rattle.ct_lines.specs.Lines.{lines_of}
 use Rattle.ct_io.specs.Reader.{LosesFirstLine}
 use Rattle.ct_program.specs.Command.{commands_from, commands_of, completed_by, open_after}
 use Rattle.ct_program.specs.Reply.{pieces_after, is_refusal}
-use Rattle.ct_program.specs.Session.{AreReplies, AppendsFront, IsRun, WritesFront, WritesRun, status_of}
+use Rattle.ct_io.specs.Told.{AppendsPrefix}
+use Rattle.ct_program.specs.Session.{AreReplies, IsRun, WritesFront, WritesRun, status_of}
 use Rattle.ct_program.specs.State.{AreTrue, State, fresh_state, TakesLine, TakesEnd, WritesRepliesFront}
 use Rattle.ct_program.specs.Text.{reply_text}
 use Rattle.ct_program.specs.declared.piece.Piece.{Piece}
@@ -96,7 +97,7 @@ ends (Some input) (Some now) old mid new s t h e k =
 
 -- what was written is the texts of some replies and a front of the texts of the next ones
 front_of : (input : List ℕ) (old mid new : Option (List ℕ)) (rs ws rest : List Reply) → AreReplies [] (commands_of (lines_of input)) (rs ++ (ws ++ rest))
-    → Appends old mid (flat_map reply_text rs) → AppendsFront mid new (flat_map reply_text ws) → WritesFront (Some input) old new
+    → Appends old mid (flat_map reply_text rs) → AppendsPrefix mid new (flat_map reply_text ws) → WritesFront (Some input) old new
 front_of input old mid new rs ws rest are written more =
     let all = rs ++ (ws ++ rest) in
     let run : IsRun input (flat_map reply_text all) (status_of all) = record { replies = all; are = are; text = refl; status = refl } in
@@ -104,7 +105,7 @@ front_of input old mid new rs ws rest are written more =
     let text = flat_map-append reply_text rs (ws ++ rest) ∙ ap (λ (text : List ℕ). flat_map reply_text rs ++ text) spelled ∙ sym (append_assoc (flat_map reply_text rs) more.0 (more.1 ++ flat_map reply_text rest)) in
     (flat_map reply_text all, status_of all, run, (flat_map reply_text rs ++ more.0, more.1 ++ flat_map reply_text rest, text, Appends-trans old mid new _ _ written more.3))
 
-nothing_more : (held : Option (List ℕ)) → AppendsFront held held []
+nothing_more : (held : Option (List ℕ)) → AppendsPrefix held held []
 nothing_more held = ([], [], refl, Appends-nil held)
 
 -- before a line was given

@@ -9,7 +9,7 @@ use Rattle.ct_io.specs.declared.line_fault.LineFault.TheVariants as line_fault
 use Rattle.ct_io.specs.Reader.{Reader, input_of, LosesFirstLine, Takes}
 use Rattle.std.specs.declared.alloc.Global.{Global}
 use Rattle.ct_io.proofs.ReaderLemmas.{Takes-line, Takes-within}
-use Rattle.ct_program.specs.Program.{WhereTold, IsAboveLimit}
+use Rattle.ct_io.specs.Told.{WhereTold, IsAboveLimit}
 use Rattle.ct_program.specs.State.{State, TakesLine, line_fault_status, reply_fault_status}
 use Rattle.ct_program.specs.declared.status.Status.{Status}
 use Rattle.ct_program.specs.declared.status.Status.TheVariants as status

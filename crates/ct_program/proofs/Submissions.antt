@@ -4,7 +4,7 @@ use Rattle.std.specs.Prelude.{All}
 use Rattle.std.specs.List.{join_with_byte, AllByRecursion, flat_map}
 use Rattle.std.proofs.lemmas.List.Elements.{recursion_from_All}
 use lib.Seq.{take-append_seam}
-use Rattle.ct_io.specs.declared.TheConstants.{LINE_FEED}
+use Rattle.ct_lines.specs.declared.TheConstants.{LINE_FEED}
 use Rattle.ct_program.specs.Form.{form_of}
 use Rattle.ct_program.specs.Command.{is_end, less_last, commands_from, commands_of}
 use Rattle.ct_program.specs.declared.form.Form.TheVariants.{Submit}

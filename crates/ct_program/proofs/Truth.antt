@@ -12,10 +12,11 @@ use Rattle.ct_codes.specs.Entry.{IsEntry}
 use Rattle.ct_codes.proofs.CheckLemmas.{code_size-le}
 use Rattle.ct_codes.proofs.BoundLemmas.{one_is_lower}
 use Rattle.ct_codes.proofs.EntryLemmas.{entry_limits}
-use Rattle.ct_program.specs.Bounds.{same_entry, sizes_at, best_lower, best_upper}
+use Rattle.ct_codes.specs.Entry.{same_entry}
+use Rattle.ct_program.specs.Bounds.{sizes_at, best_lower, best_upper}
 use Rattle.ct_program.specs.State.{AreTrue}
 use Rattle.ct_program.specs.declared.piece.Piece.{Piece}
-use Rattle.ct_program.proofs.Entries.{same_entry_is}
+use Rattle.ct_codes.proofs.EntryLemmas.{same_entry_is}
 
 -- what holds of two numbers holds of the greater
 of_max : (P : ℕ → Type 0) (a x : ℕ) → P a → P x → P (max a x)

@@ -1,7 +1,7 @@
 -- An input has one run: each command over the same pieces has one reply.
 use Rattle.std.proofs.Common.{◌≡◌, ℕ, List, [], ◌∷◌, Option, Some, None, refl, sym, ap, ◌∙◌}
 use Rattle.std.specs.List.{flat_map}
-use Rattle.ct_io.specs.Lines.{lines_of}
+use Rattle.ct_lines.specs.Lines.{lines_of}
 use Rattle.ct_codes.specs.declared.entry.Entry.{Entry}
 use Rattle.ct_program.specs.Command.{commands_of}
 use Rattle.ct_program.specs.Reply.{IsReply, IsEntryReply, pieces_after}

@@ -5,17 +5,8 @@ use Rattle.std.specs.List.{list_any}
 use Rattle.std.specs.Str.{bytes_eq}
 use Rattle.ct_words.specs.declared.limits.TheConstants.{MAX_BOUND}
 use Rattle.ct_codes.specs.declared.entry.Entry.{Entry}
+use Rattle.ct_codes.specs.Entry.{same_entry}
 use Rattle.ct_program.specs.declared.piece.Piece.{Piece}
-
--- the same weight, or none
-abbrev pub same_weight : Option ℕ → Option ℕ → Bool
-same_weight None None = true
-same_weight (Some v) (Some w) = v == w
-same_weight v w = false
-
--- the same entry
-abbrev pub same_entry : Entry → Entry → Bool
-same_entry e f = e.n == f.n && e.d == f.d && same_weight e.w f.w
 
 -- the sizes of the pieces at an entry
 abbrev pub sizes_at : Entry → List Piece → List ℕ

@@ -2,7 +2,7 @@
 use Rattle.std.specs.Prelude.{ℕ, ◌-◌, Bool, ◌||◌, if◌then◌else◌, List, [], ◌∷◌, ◌++◌, length, take, Option, Some, None, codes}
 use Rattle.std.specs.Str.{bytes_eq}
 use Rattle.std.specs.Option.{option_to_list}
-use Rattle.ct_io.specs.declared.TheConstants.{LINE_FEED}
+use Rattle.ct_lines.specs.declared.TheConstants.{LINE_FEED}
 use Rattle.ct_program.specs.Form.{form_of}
 use Rattle.ct_program.specs.declared.form.Form.{Form}
 use Rattle.ct_program.specs.declared.form.Form.TheVariants.{Submit, Show, Unknown}

@@ -5,7 +5,7 @@ use Rattle.ct_text.specs.Line.{words_of}
 use Rattle.ct_text.specs.Number.{number_of}
 use Rattle.ct_codes.specs.declared.entry.Entry.{Entry}
 use Rattle.ct_codes.specs.Entry.{is_entry}
-use Rattle.ct_files.specs.Id.{is_id}
+use Rattle.ct_text.specs.Id.{is_id}
 use Rattle.ct_program.specs.declared.form.Form.{Form}
 use Rattle.ct_program.specs.declared.form.Form.TheVariants.{Nothing, Submit, Show, Unknown}
 

@@ -2,7 +2,8 @@
 use Rattle.std.specs.Prelude.{◌≡◌, ℕ, ⊤, if◌then◌else◌, List, [], ◌∷◌, ◌++◌, Option, Some, None}
 use Rattle.std.specs.List.{flat_map, list_any}
 use Rattle.std.specs.Io.KnownBytes.{Appends}
-use Rattle.ct_io.specs.Lines.{lines_of}
+use Rattle.ct_lines.specs.Lines.{lines_of}
+use Rattle.ct_io.specs.Told.{AppendsPrefix}
 use Rattle.ct_program.specs.Command.{commands_of}
 use Rattle.ct_program.specs.Reply.{IsReply, pieces_after, is_refusal}
 use Rattle.ct_program.specs.Text.{reply_text}
@@ -35,11 +36,7 @@ abbrev pub WritesRun : Option (List ℕ) → Option (List ℕ) → Option (List 
 WritesRun None old new result = ⊤
 WritesRun (Some input) old new result = (output : List ℕ) × IsRun input output result × Appends old new output
 
--- known bytes grow by a front of the text: by all of it, a part from its beginning on, or nothing
-abbrev pub AppendsFront : Option (List ℕ) → Option (List ℕ) → List ℕ → Type 0
-AppendsFront old new text = (front back : List ℕ) × (text ≡ front ++ back) × Appends old new front
-
 -- what a sink held grew by a front of the output of a run on the bytes that the source had left, where the two tell their bytes
 abbrev pub WritesFront : Option (List ℕ) → Option (List ℕ) → Option (List ℕ) → Type 0
 WritesFront None old new = ⊤
-WritesFront (Some input) old new = (output : List ℕ) × (result : Status) × IsRun input output result × AppendsFront old new output
+WritesFront (Some input) old new = (output : List ℕ) × (result : Status) × IsRun input output result × AppendsPrefix old new output

@@ -7,7 +7,8 @@ use Rattle.ct_codes.specs.Entry.{is_entry}
 use Rattle.ct_codes.specs.Code.{IsTrueLower}
 use Rattle.ct_program.specs.Command.{completed_by, open_after, commands_from}
 use Rattle.ct_program.specs.Reply.{pieces_after, is_refusal}
-use Rattle.ct_program.specs.Session.{AreReplies, AppendsFront}
+use Rattle.ct_io.specs.Told.{AppendsPrefix}
+use Rattle.ct_program.specs.Session.{AreReplies}
 use Rattle.ct_program.specs.Text.{reply_text}
 use Rattle.ct_program.specs.declared.piece.Piece.{Piece}
 use Rattle.ct_program.specs.declared.command.Pending.{Pending}
@@ -52,7 +53,7 @@ pub record WritesReplies (old new : List Piece) (commands : List Command) (refus
 pub record WritesRepliesFront (pieces : List Piece) (commands : List Command) (before after : Option (List ℕ)) : Type 0 where
   pub replies : List Reply
   pub are : AreReplies pieces commands replies
-  pub written : AppendsFront before after (flat_map reply_text replies)
+  pub written : AppendsPrefix before after (flat_map reply_text replies)
 
 -- commands were answered: the replies were written, and the state remembers whether one was a refusal
 abbrev pub Answers : State → State → List Command → Option (List ℕ) → Option (List ℕ) → Type 0

@@ -1,7 +1,7 @@
 -- The texts of replies.
 use Rattle.std.specs.Prelude.{ℕ, ◌==◌, if◌then◌else◌, List, [], ◌∷◌, ◌++◌, Option, Some, None, codes}
 use Rattle.std.specs.Fmt.{decimal}
-use Rattle.ct_io.specs.declared.TheConstants.{LINE_FEED}
+use Rattle.ct_lines.specs.declared.TheConstants.{LINE_FEED}
 use Rattle.ct_codes.specs.declared.entry.Entry.{Entry}
 use Rattle.ct_codes.specs.declared.fault.CodeFault.{CodeFault}
 use Rattle.ct_codes.specs.declared.fault.CodeFault.TheVariants.{Size, Weight, Repeated, Close, Memory}

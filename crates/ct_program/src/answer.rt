@@ -14,7 +14,8 @@ use crate::document::Document;
 use crate::piece::{Piece, is_taken, lower_bound, upper_bound};
 use crate::reply::{Bounds, Refusal, Reply};
 use ct_codes::{CodeFault, Entry, check_words};
-use ct_files::{Evidence, FileFault, Id, read_evidence};
+use ct_files::{Evidence, FileFault, read_evidence};
+use ct_text::Id;
 use ct_words::Word;
 use std::alloc::{AllocError, Global};
 

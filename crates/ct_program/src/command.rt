@@ -7,7 +7,7 @@ ghost use Rattle.ct_program.specs.Command.{is_end, open_after, completed_by};
 use crate::document::Document;
 use crate::form::{Form, read_form};
 use ct_codes::Entry;
-use ct_files::Id;
+use ct_text::Id;
 use std::alloc::{AllocError, Global};
 
 /// A command of a session.

@@ -6,8 +6,7 @@ ghost use Rattle.ct_text.specs.Number.{number_of};
 ghost use Rattle.ct_program.specs.Form.{form_of, words_form, submit_form, show_form, entry_of, entry_form, id_of};
 
 use ct_codes::Entry;
-use ct_files::Id;
-use ct_text::{first_words, parse_number};
+use ct_text::{Id, first_words, parse_number};
 use std::alloc::{AllocError, Global};
 
 // So many words of a line tell what it asks for: no form has more than four, and a fifth shows that there are too many.

@@ -2,8 +2,8 @@
 
 ghost use Rattle.std.specs.Prelude.{◌≡◌, ◌≤◌, ◌⊎◌, Contains, ℕ, List, [], ◌∷◌, ◌++◌, All, Option, Some, None, false, true, codes};
 ghost use Rattle.std.specs.List.{join_with_byte};
-ghost use Rattle.ct_io.specs.Lines.{lines_of};
-ghost use Rattle.ct_io.specs.declared.TheConstants.{LINE_FEED};
+ghost use Rattle.ct_lines.specs.Lines.{lines_of};
+ghost use Rattle.ct_lines.specs.declared.TheConstants.{LINE_FEED};
 ghost use Rattle.ct_program.specs.Form.{form_of};
 ghost use Rattle.ct_program.specs.Command.{commands_of, is_end};
 ghost use Rattle.ct_program.specs.Session.{IsRun};

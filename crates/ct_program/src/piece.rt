@@ -1,11 +1,12 @@
 //! The pieces of evidence that stand, and the bounds that they give.
 
 ghost use Rattle.std.specs.Prelude.{◌≡◌, ◌≤◌, All};
-ghost use Rattle.ct_program.specs.Bounds.{best_lower, best_upper, has_id, same_entry};
+ghost use Rattle.ct_codes.specs.Entry.{same_entry};
+ghost use Rattle.ct_program.specs.Bounds.{best_lower, best_upper, has_id};
 ghost use Rattle.ct_words.specs.declared.limits.TheConstants.{MAX_N};
 
 use ct_codes::Entry;
-use ct_files::Id;
+use ct_text::Id;
 use ct_words::MAX_BOUND;
 
 /// A piece of evidence that was accepted: its id, its entry, and the number of its words.

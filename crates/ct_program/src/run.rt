@@ -3,9 +3,11 @@
 ghost use Rattle.std.specs.Prelude.{◌≡◌, ◌≢◌, ◌⊎◌, ◌↔◌, IsTrue, if◌then◌else◌};
 ghost use Rattle.std.specs.Io.KnownBytes.{Appends, IsAtEnd};
 ghost use Rattle.ct_io.specs.Faults.{Rose};
-ghost use Rattle.ct_program.specs.Session.{AppendsFront, WritesFront, WritesRun};
+ghost use Rattle.ct_io.specs.Told.{AppendsPrefix};
+ghost use Rattle.ct_program.specs.Session.{WritesFront, WritesRun};
 ghost use Rattle.ct_program.specs.State.{line_fault_status, reply_fault_status};
-ghost use Rattle.ct_program.specs.Program.{IsSession, IsRunStatus, IsAboveLimit, IsWithinLimit, WhereTold, usage_line};
+ghost use Rattle.ct_io.specs.Told.{IsAboveLimit, IsWithinLimit, WhereTold};
+ghost use Rattle.ct_program.specs.Program.{IsSession, IsRunStatus, usage_line};
 
 use crate::session::{ReplyFault, Session};
 use crate::status::Status;
@@ -124,7 +126,7 @@ pub fn run<S: Source, K: Sink>(
     ensures usage { result ≡ Status.Usage
         → Appends (K.holds sink.old) (K.holds sink.new) usage_line }
     ensures usage_front { ¬ IsSession words.now
-        → AppendsFront (K.holds sink.old) (K.holds sink.new) usage_line }
+        → AppendsPrefix (K.holds sink.old) (K.holds sink.new) usage_line }
     ensures command_known { result ≡ Status.Usage → ¬ IsSession words.now }
     ensures no_command { ¬ IsSession words.now
         → (result ≡ Status.Usage) ⊎ (result ≡ Status.WriteFault) }

@@ -5,7 +5,7 @@ ghost use Rattle.ct_program.specs.Text.{spaced, fault_text, refusal_text, weight
 
 use crate::reply::{Bounds, Refusal, Reply};
 use ct_codes::{CodeFault, Entry};
-use ct_io::LINE_FEED;
+use ct_lines::LINE_FEED;
 use ct_text::put_number;
 use std::alloc::{AllocError, Global};
 

@@ -1,2 +1,4 @@
 pub mod Line
 pub mod Number
+pub mod Id
+pub mod IdBytes

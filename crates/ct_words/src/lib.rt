@@ -9,6 +9,7 @@ mod metric;
 mod tests;
 mod text;
 mod word;
+mod word_list;
 
 pub use counts::{ball, binomial, factorial};
 pub use laws::{
@@ -19,3 +20,4 @@ pub use limits::{MAX_BOUND, MAX_N};
 pub use metric::{distance, weight};
 pub use text::{parse_word, print_word};
 pub use word::{Word, WordFault};
+pub use word_list::WordList;

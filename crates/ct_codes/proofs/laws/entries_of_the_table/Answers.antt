@@ -1,5 +1,10 @@
-use Rattle.ct_codes.proofs.EntryLemmas.{entry_limits, entry_from_limits}
+use Rattle.std.proofs.Common.{subst, ◌≡◌, true}
+use Rattle.ct_codes.specs.Entry.{same_entry}
+use Rattle.ct_codes.proofs.EntryLemmas.{entry_limits, entry_from_limits, same_entry_is, same_entry-self}
 use Rattle.ct_codes.proofs.laws.entries_of_the_table.Goals as goal
 
-pub returns : goal.returns
-returns c = λ e. (entry_limits e, entry_from_limits e)
+pub returns-clause-entries : goal.returns-clause-entries
+returns-clause-entries c = λ e. (entry_limits e, entry_from_limits e)
+
+pub returns-clause-same : goal.returns-clause-same
+returns-clause-same c = λ e f. (same_entry_is e f, λ same. subst (λ g. same_entry e g ≡ true) same (same_entry-self e))

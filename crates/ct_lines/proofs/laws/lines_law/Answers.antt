@@ -1,5 +1,5 @@
-use Rattle.ct_io.proofs.LinesLemmas.{AreLines-lines_of, lines_of-from_next}
-use Rattle.ct_io.proofs.lines.lines_law.Goals as goal
+use Rattle.ct_lines.proofs.LinesLemmas.{AreLines-lines_of, lines_of-from_next}
+use Rattle.ct_lines.proofs.laws.lines_law.Goals as goal
 
 pub returns-clause-made_of_lines : goal.returns-clause-made_of_lines
 returns-clause-made_of_lines c = AreLines-lines_of

@@ -1,7 +1,7 @@
 //! Words in a row.
 ghost use Rattle.std.specs.Prelude.{◌≡◌};
 
-use ct_words::Word;
+use crate::word::Word;
 use std::marker::Model;
 
 /// Words in the order in which they were handed in, repeats included. Contracts see the list of

@@ -1,5 +1,5 @@
 ghost use Rattle.std.specs.Prelude.{◌≡◌, ℕ, List, [], ◌∷◌, codes};
-ghost use Rattle.ct_io.specs.Lines.{lines_of, AreLines, IsNextLine};
+ghost use Rattle.ct_lines.specs.Lines.{lines_of, AreLines, IsNextLine};
 
 /// The law of lines, with no code: the lines of an input are what it is made of, and taking the
 /// next line off an input takes the first of its lines. The rest are worked examples.
