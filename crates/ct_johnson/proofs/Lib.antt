@@ -1,0 +1,3 @@
+pub mod Weights
+pub mod Capped
+pub mod OnePlace

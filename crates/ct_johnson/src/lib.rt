@@ -1,0 +1,9 @@
+//! Upper bounds of Johnson's kind, which rest on bounds of codes of constant weight: places and pairs of words are counted both ways.
+#![tactic(auto)]
+
+mod cap;
+mod laws;
+mod places;
+
+pub use laws::{bounds_by_weight, bounds_from_other_entries};
+pub use places::{drop_one, drop_zero, split};
