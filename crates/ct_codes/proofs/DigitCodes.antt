@@ -1,6 +1,6 @@
 -- Codes as lists of lists of digits, on which words are counted.
 use Rattle.std.proofs.Common.{◌≡◌, ◌≢◌, ℕ, ◌^◌, ◌<◌, ◌≤◌, List, map, length, get_or, ap, subst, ◌∙◌, arith}
-use Rattle.std.specs.List.{All, AllPairs}
+use Rattle.std.specs.List.{AllPairs}
 use Rattle.ct_words.proofs.WordLemmas.{distance_same}
 use Rattle.std.specs.Prelude.{Bool, None, Some}
 use Rattle.std.proofs.lemmas.List.{length-map}

@@ -1,12 +1,11 @@
 -- Words with each digit turned: zeros for ones and ones for zeros.
 use Rattle.std.proofs.Common.{◌≡◌, ℕ, ◌+◌, ◌≤◌, List, [], ◌∷◌, map, length, get_or, refl, arith}
 use Rattle.std.specs.Prelude.{Bool, true, false, not}
-use Rattle.std.specs.List.{All, AllPairs}
 use Rattle.std.proofs.lemmas.List.{length-map}
 use Rattle.std.proofs.lemmas.List.Elements.{All-map}
 use Rattle.ct_counting.specs.Words.{apart, ones}
 use Rattle.ct_counting.proofs.Pairs.{AllPairs-map, AllPairs-weaker}
-use Rattle.ct_counting.proofs.Spread.{IsSpread, IsSpreadOfWeight, IsWeightBound}
+use Rattle.ct_counting.proofs.Spread.{IsSpreadOfWeight, IsWeightBound}
 
 -- the word with each digit turned
 abbrev pub complement : List Bool → List Bool

@@ -1,14 +1,14 @@
 -- Words with one place taken out, and words counted by their digits at a place.
-use Rattle.std.proofs.Common.{◌≡◌, ℕ, zero, suc, ◌+◌, ◌*◌, ◌<◌, ◌≤◌, List, [], ◌∷◌, map, length, get_or, refl, ap, ◌∙◌, arith}
+use Rattle.std.proofs.Common.{◌≡◌, ℕ, zero, suc, ◌+◌, ◌<◌, ◌≤◌, List, [], ◌∷◌, map, length, get_or, refl, ap, ◌∙◌, arith}
 use Rattle.std.specs.Prelude.{Bool, true, false, cond, not, filter, count_by}
-use Rattle.std.specs.List.{All, AllPairs, sum_by}
+use Rattle.std.specs.List.{All, sum_by}
 use Rattle.std.proofs.lemmas.List.{length-map}
 use Rattle.std.proofs.lemmas.List.Elements.{All-map, All-filter, filter_passes, recursion_from_All}
 use Rattle.std.proofs.lemmas.List.Filters.{length-filter_both}
 use Rattle.std.proofs.lemmas.List.Kept.{AllPairs-filter}
 use Rattle.std.proofs.lemmas.List.Sums.{length-filter}
 use Rattle.ct_counting.specs.Sums.{sum_below}
-use Rattle.ct_counting.specs.Words.{apart, differ, ones}
+use Rattle.ct_counting.specs.Words.{apart, ones}
 use Rattle.ct_counting.proofs.Sums.{sum_by-add, sum_by-zero, sum_by-congruence_within, sum_below-first}
 use Rattle.ct_counting.proofs.Pairs.{AllPairs-map, AllPairs-within}
 use Rattle.ct_counting.proofs.Places.{difference}

@@ -1,3 +1,4 @@
 pub mod Weights
 pub mod Capped
 pub mod OnePlace
+pub mod PairCounts

@@ -2,13 +2,11 @@
 use Rattle.std.proofs.Common.{◌≡◌, ℕ, zero, suc, ◌+◌, ◌-◌, ◌*◌, ◌/◌, ◌<◌, ◌≤◌, List, length, refl, arith}
 use Rattle.std.proofs.lemmas.Nat.{le-div}
 use Rattle.std.proofs.lemmas.List.Elements.{recursion_from_All}
-use Rattle.std.specs.Prelude.{Bool, true, false, map}
-use Rattle.std.specs.List.{sum_by}
-use Rattle.std.proofs.lemmas.List.{length-map}
+use Rattle.std.specs.Prelude.{Bool, true, false}
 use Rattle.ct_counting.specs.Words.{ones}
 use Rattle.ct_counting.proofs.Sums.{sum_by-constant, sum_by-congruence_within, sum_below-bound}
 use Rattle.ct_counting.proofs.Spread.{IsSpreadOfWeight, IsWeightBound}
-use Rattle.ct_counting.proofs.Complements.{complement, spread-complement, complement_bound}
+use Rattle.ct_counting.proofs.Complements.{complement_bound}
 use Rattle.ct_counting.proofs.Shortened.{shortened, weight-shortened, length-halves, ones-by_places}
 
 -- the ones of all words: w for each word, and at most u at each place

@@ -1,7 +1,8 @@
 -- Johnson's bounds on A(n,d,w) and A(n,d) (Johnson 1962 and 1971; MacWilliams and Sloane, The Theory of Error-Correcting Codes, chapter
 -- 17, sections 2 and 3; Brouwer, Shearer, Sloane and Smith 1990). A bound above the greatest one of the table is taken as that.
-use Rattle.std.specs.Prelude.{ℕ, ◌+◌, ◌-◌, ◌*◌, ◌/◌, min}
+use Rattle.std.specs.Prelude.{ℕ, zero, suc, ◌+◌, ◌-◌, ◌*◌, ◌/◌, ◌%◌, ◌<◌, ◌≤◌, min, Bool, nat_lt, nat_le, if◌then◌else◌, Option, Some, None, IsTrue, IsFalse}
 use Rattle.ct_words.specs.declared.limits.TheConstants.{MAX_BOUND}
+use Rattle.ct_johnson.specs.declared.columns.TheConstants.{MAX_COUNTED}
 
 -- ⌊n·u / w⌋, where u bounds the words of weight w that have a one at a given place
 abbrev pub drop_one_value : ℕ → ℕ → ℕ → ℕ
@@ -14,3 +15,33 @@ drop_zero_value n w u = min (n * u / (n - w)) MAX_BOUND
 -- the sum of the bounds for the words with a zero and with a one at a place
 abbrev pub split_value : ℕ → ℕ → ℕ
 split_value u v = min (u + v) MAX_BOUND
+
+-- how many ordered pairs of two words hold a one at one place, over n places with t ones in all, at least: k(k - 1) at a place with k
+-- ones, and fewest where the t ones are spread as evenly as can be
+abbrev pub least_pairs : ℕ → ℕ → ℕ
+least_pairs n t = n * (t / n * (t / n - 1)) + 2 * (t / n * (t % n))
+
+-- m words of length n, weight w and distance 2δ are too many: each two of them have at most w - δ ones in common
+abbrev pub are_too_many : ℕ → ℕ → ℕ → ℕ → Bool
+are_too_many n δ w m = nat_lt ((w - δ) * (m * (m - 1))) (least_pairs n (w * m))
+
+-- the least of the k numbers m, m + 1, .. that passes the test
+unfoldable pub least_from : (ℕ → Bool) → ℕ → ℕ → Option ℕ
+least_from test m zero = None
+least_from test m (suc k) = if test m then Some m else least_from test (m + 1) k
+
+-- the least number of words, from 2 to 1,000, that is too many
+abbrev pub column_count_value : ℕ → ℕ → ℕ → Option ℕ
+column_count_value n d w = if nat_le (d / 2) w then least_from (are_too_many n (d / 2) w) 2 (MAX_COUNTED - 1) else None
+
+-- the same by its property: it is too many, and no smaller one is
+pub record IsLeastTooMany (n δ w m : ℕ) : Type 0 where
+  pub some : 2 ≤ m
+  pub counted : m ≤ MAX_COUNTED
+  pub fits : δ ≤ w
+  pub too_many : IsTrue (are_too_many n δ w m)
+  pub least : (k : ℕ) → 2 ≤ k → k < m → IsFalse (are_too_many n δ w k)
+
+-- there is none where w < δ, or no number from 2 to 1,000 is too many
+abbrev pub NoneTooMany : ℕ → ℕ → ℕ → Type 0
+NoneTooMany n δ w = δ ≤ w → (k : ℕ) → 2 ≤ k → k ≤ MAX_COUNTED → IsFalse (are_too_many n δ w k)

@@ -1,5 +1,5 @@
 -- The words with a zero and those with a one at the first place.
-use Rattle.std.proofs.Common.{ℕ, ◌-◌, ◌+◌, ◌≤◌, arith}
+use Rattle.std.proofs.Common.{◌-◌, ◌+◌, arith}
 use Rattle.std.specs.Prelude.{Some}
 use Rattle.ct_codes.proofs.DigitCodes.{bound_from_weight, weight_bound_from_codes}
 use Rattle.ct_johnson.proofs.Capped.{capped_bound}
