@@ -14,3 +14,4 @@ pub mod Complements
 pub mod CommonOnes
 pub mod Translations
 pub mod Shortened
+pub mod Between
