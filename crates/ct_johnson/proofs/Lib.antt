@@ -2,3 +2,4 @@ pub mod Weights
 pub mod Capped
 pub mod OnePlace
 pub mod PairCounts
+pub mod Average

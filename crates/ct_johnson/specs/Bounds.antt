@@ -1,6 +1,7 @@
 -- Johnson's bounds on A(n,d,w) and A(n,d) (Johnson 1962 and 1971; MacWilliams and Sloane, The Theory of Error-Correcting Codes, chapter
 -- 17, sections 2 and 3; Brouwer, Shearer, Sloane and Smith 1990). A bound above the greatest one of the table is taken as that.
-use Rattle.std.specs.Prelude.{ℕ, zero, suc, ◌+◌, ◌-◌, ◌*◌, ◌/◌, ◌%◌, ◌<◌, ◌≤◌, min, Bool, nat_lt, nat_le, if◌then◌else◌, Option, Some, None, IsTrue, IsFalse}
+use Rattle.std.specs.Prelude.{ℕ, zero, suc, ◌+◌, ◌-◌, ◌*◌, ◌/◌, ◌%◌, ◌^◌, ◌<◌, ◌≤◌, min, Bool, nat_lt, nat_le, if◌then◌else◌, Option, Some, None, IsTrue, IsFalse}
+use Rattle.ct_counting.specs.Binomials.{choose, volume}
 use Rattle.ct_words.specs.declared.limits.TheConstants.{MAX_BOUND}
 use Rattle.ct_johnson.specs.declared.columns.TheConstants.{MAX_COUNTED}
 
@@ -45,3 +46,7 @@ pub record IsLeastTooMany (n δ w m : ℕ) : Type 0 where
 -- there is none where w < δ, or no number from 2 to 1,000 is too many
 abbrev pub NoneTooMany : ℕ → ℕ → ℕ → Type 0
 NoneTooMany n δ w = δ ≤ w → (k : ℕ) → 2 ≤ k → k ≤ MAX_COUNTED → IsFalse (are_too_many n δ w k)
+
+-- ⌊2^(n - 1)·u / C(n,w)⌋, where u bounds A(n,d,w) for an even d
+abbrev pub averaging_value : ℕ → ℕ → ℕ → ℕ
+averaging_value n w u = min (2 ^ (n - 1) * u / choose n w) MAX_BOUND

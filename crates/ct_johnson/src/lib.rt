@@ -5,7 +5,9 @@ mod cap;
 mod columns;
 mod laws;
 mod places;
+mod unrestricted;
 
 pub use columns::{MAX_COUNTED, column_count};
 pub use laws::{bounds_by_weight, bounds_from_other_entries};
 pub use places::{drop_one, drop_zero, split};
+pub use unrestricted::averaging;
