@@ -1,13 +1,14 @@
 -- The places where two words both have a one.
-use Rattle.std.proofs.Common.{◌≡◌, ℕ, zero, suc, ◌+◌, ◌-◌, ◌*◌, ◌<◌, ◌≤◌, List, [], ◌∷◌, map, length, refl, ap, ◌∙◌, inl, inr, arith}
+use Rattle.std.proofs.Common.{◌≡◌, ℕ, zero, suc, ◌+◌, ◌-◌, ◌*◌, ◌%◌, ◌<◌, ◌≤◌, List, [], ◌∷◌, map, length, refl, sym, ap, ◌∙◌, inl, inr, arith}
 use Rattle.std.specs.Prelude.{Bool, true, false, cond, count_by}
 use Rattle.std.specs.List.{All, AllPairs, sum_by}
 use Rattle.std.proofs.lemmas.Bool.{cases_lt}
 use Rattle.std.proofs.lemmas.List.Elements.{All-map, recursion_from_All}
 use Rattle.std.proofs.lemmas.List.Sums.{sum_by-cons}
 use Rattle.ct_counting.specs.Words.{apart, ones}
-use Rattle.ct_counting.proofs.Sums.{sum_by-zero, sum_by-add, sum_by-map, sum_by-congruence_within}
-use Rattle.ct_counting.proofs.Pairs.{AllPairs-map, AllPairs-weaker}
+use Rattle.ct_counting.proofs.Sums.{sum_by-zero, sum_by-add, sum_by-map, sum_by-constant, sum_by-congruence_within}
+use Rattle.ct_counting.proofs.Pairs.{AllPairs-map, AllPairs-weaker, AllPairs-within}
+use Rattle.ct_counting.proofs.Spread.{IsSpreadOfWeight}
 use Rattle.ct_counting.proofs.PairSums.{pair_sum, pair_sum-cons, pair_sum-add, pair_sum-map, pair_sum-congruence_within}
 use Rattle.ct_counting.proofs.DoubleCounting.{count_by-le_one}
 use Rattle.ct_counting.proofs.Places.{first_digit, other_digits, other_length}
@@ -192,3 +193,33 @@ columns-ge (suc n) q cs lengths =
         let ih = ones-map p xs in
         let term : X → ℕ = λ y. cond (p y) 1 0 in
         omega (arith, sum_by-cons term x xs)
+
+-- two words of one weight differ at an even number of places, so an odd distance grows
+pub spread-even_distance : (n d w : ℕ) (cs : List (List Bool)) → d % 2 ≡ 1 → IsSpreadOfWeight n d w cs → IsSpreadOfWeight n (suc d) w cs
+spread-even_distance n d w cs odd code =
+    let P : List Bool → Type 0 = λ x. (length x ≡ n) × (ones x ≡ w) in
+    let each : All P cs = λ k z l. (code.spread.lengths k z l, code.weights k z l) in
+    record {
+      spread =
+          record {
+            lengths = code.spread.lengths;
+            distances =
+                AllPairs-within P (λ x y. d ≤ apart x y) (λ x y. suc d ≤ apart x y) cs
+                (λ x y p q far. let a = p.1 in let b = q.1 in let sum = ones-common x y (p.0 ∙ sym q.0) in omega arith) each code.spread.distances;
+          };
+      weights = code.weights;
+    }
+
+-- words of weight w at distance 2w - 1 at least have no one in common, so there is room for n / w
+pub disjoint_words : (n d w : ℕ) (cs : List (List Bool)) → 2 * w ≤ suc d → IsSpreadOfWeight n d w cs → length cs * w ≤ n
+disjoint_words n d w cs h code =
+    let P : List Bool → Type 0 = λ x. (length x ≡ n) × (ones x ≡ w) in
+    let each : All P cs = λ k z l. (code.spread.lengths k z l, code.weights k z l) in
+    let none =
+    AllPairs-within P (λ x y. d ≤ apart x y) (λ x y. common_ones x y ≡ 0) cs
+    (λ x y p q far. let a = p.1 in let b = q.1 in let sum = ones-common x y (p.0 ∙ sym q.0) in omega arith) each code.spread.distances in
+    let most = disjoint_ones n cs code.spread.lengths none in
+    let weight : List Bool → ℕ = λ x. w in
+    let same = sum_by-congruence_within ones weight cs (recursion_from_All (λ x. ones x ≡ w) cs code.weights) in
+    let sum = sum_by-constant w cs in
+    omega arith

@@ -1,6 +1,8 @@
 -- Lists in which each element stands in a relation to each later one.
-use Rattle.std.proofs.Common.{ℕ, suc, List, [], ◌∷◌, ◌++◌, map, take, length-take, arith}
-use Rattle.std.proofs.lemmas.List.{get_or-take}
+use Rattle.std.proofs.Common.{◌≡◌, ℕ, suc, ◌<◌, List, [], ◌∷◌, ◌++◌, map, take, length, get_or, length-take, subst, ap, ◌∙◌, inl, inr, arith}
+use Rattle.std.specs.Prelude.{◌⊎◌}
+use Rattle.std.proofs.lemmas.Bool.{cases_lt}
+use Rattle.std.proofs.lemmas.List.{get_or-take, get_or_default}
 use Rattle.std.specs.List.{All, AllPairs}
 use Rattle.std.proofs.lemmas.List.Elements.{All-append, All-map, All-head, All-tail}
 use Rattle.std.proofs.lemmas.List.Kept.{AllPairs-cons}
@@ -44,3 +46,15 @@ AllPairs-take R k xs h = λ i j d l m.
     let a = get_or-take k xs i d (omega arith) in
     let b = get_or-take k xs j d (omega arith) in
     rw (a, b) (h i j d l (omega arith))
+
+-- an element of such a list stands in the relation to each other one, where the relation goes both ways
+pub AllPairs-others : {X : Type 0} (R : X → X → Type 0) (xs : List X) → ((x y : X) → R x y → R y x) → AllPairs R xs → (i : ℕ) (d : X) → i < length xs → All (λ y. (get_or xs i d ≡ y) ⊎ R (get_or xs i d) y) xs
+AllPairs-others R xs turns h i d within = λ j e l.
+    let same = get_or_default xs j d e l in
+    elim (cases_lt i j) [
+      | inl before ↦ inr (subst (R (get_or xs i d)) same (h i j d before l))
+      | inr after ↦ elim (cases_lt j i) [
+        | inl less ↦ inr (subst (R (get_or xs i d)) same (turns (get_or xs j d) (get_or xs i d) (h j i d less within)))
+        | inr more ↦ let place : i ≡ j = omega arith in inl (ap (λ k. get_or xs k d) place ∙ same)
+      ]
+    ]

@@ -1,5 +1,5 @@
 -- A code translated by all words of one parity: on average so many of its words have a given weight.
-use Rattle.std.proofs.Common.{◌≡◌, ℕ, zero, suc, ◌+◌, ◌-◌, ◌*◌, ◌/◌, ◌%◌, ◌^◌, ◌<◌, ◌≤◌, List, map, length, get_or, subst, sym, ap, ◌∙◌, inl, inr, arith}
+use Rattle.std.proofs.Common.{◌≡◌, ℕ, zero, suc, ◌+◌, ◌-◌, ◌*◌, ◌/◌, ◌%◌, ◌^◌, ◌<◌, ◌≤◌, List, map, length, get_or, sym, ap, ◌∙◌, inl, inr, arith}
 use Rattle.std.specs.Prelude.{Bool, true, false, cond, ◌==◌, count_by}
 use Rattle.std.specs.List.{All, sum_by}
 use Rattle.std.proofs.lemmas.Bool.{cases_eq, eq-eqb, ne_eqb, cond-true, cond-false}
@@ -10,18 +10,13 @@ use Rattle.ct_counting.specs.Words.{all_words, apart, ones}
 use Rattle.ct_counting.proofs.Binomials.{one-le-choose}
 use Rattle.ct_counting.proofs.Sums.{sum_by-constant, sum_by-scale, sum_by-congruence}
 use Rattle.ct_counting.proofs.DoubleCounting.{double_count, count_by-none}
-use Rattle.ct_counting.proofs.Words.{lengths-all_words, count_at_distance}
+use Rattle.ct_counting.proofs.Words.{lengths-all_words}
 use Rattle.ct_counting.proofs.Distances.{apart_symmetric}
 use Rattle.ct_counting.proofs.Spread.{IsSpread, IsSpreadBound, IsWeightBound}
+use Rattle.ct_counting.proofs.Spheres.{sphere_size}
 use Rattle.ct_counting.proofs.CommonOnes.{common_ones, ones-common}
 use Rattle.ct_counting.proofs.Parity.{evened, spread-evened, weights-evened, half_have_parity}
 use Rattle.ct_counting.proofs.Translations.{around, length-around, spread-around}
-
--- choose n w words lie at distance w from a word of n digits
-words_at : (n w : ℕ) (x : List Bool) → length x ≡ n → count_by (λ v. apart x v == w) (all_words n) ≡ choose n w
-words_at n w x long =
-    let P : ℕ → Type 0 = λ m. count_by (λ v. apart x v == w) (all_words m) ≡ choose m w in
-    subst P long (count_at_distance x w)
 
 -- the words of a code of even weights at distance w from v are at most u, and none where v has not the parity of w
 words_near : (n d w u : ℕ) → IsWeightBound n d w u → (cs : List (List Bool)) → IsSpread n d cs → All (λ x. ones x % 2 ≡ 0) cs → (v : List Bool) → length v ≡ n
@@ -61,7 +56,7 @@ averaged m d w u bound cs spread even =
     let most : List Bool → ℕ = λ v. u * one v in
     let counted =
     double_count (λ x v. apart x v == w) each most cs (all_words n)
-    (λ k z l. let at = words_at n w (get_or cs k z) (spread.lengths k z l) in omega arith)
+    (λ k z l. let at = sphere_size n w (get_or cs k z) (spread.lengths k z l) in omega arith)
     (λ k z l. words_near n d w u bound cs spread even (get_or (all_words n) k z) (lengths-all_words n k z l)) in
     let words = sum_by-constant (choose n w) cs in
     let scaled = sum_by-scale u one (all_words n) in

@@ -3,3 +3,4 @@ pub mod Capped
 pub mod OnePlace
 pub mod PairCounts
 pub mod Average
+pub mod OutsideBalls

@@ -15,7 +15,7 @@ use Rattle.ct_counting.proofs.Distances.{same_from_apart}
 use Rattle.ct_counting.proofs.Spread.{IsSpreadOfWeight, IsWeightBound}
 use Rattle.ct_counting.proofs.Spheres.{ball_size, one_ball}
 use Rattle.ct_counting.proofs.Complements.{complement_bound}
-use Rattle.ct_counting.proofs.CommonOnes.{common_ones, ones-common, disjoint_ones}
+use Rattle.ct_counting.proofs.CommonOnes.{common_ones, ones-common, disjoint_words}
 use Rattle.ct_codes.specs.Code.{IsCode}
 
 -- two words that differ nowhere have one weight
@@ -101,17 +101,7 @@ weight_bound-apart n d w h =
 
 -- words of weight w at distance 2w have no one in common
 pub weight_bound-disjoint : (n w : ℕ) → 1 ≤ w → IsWeightBound n (2 * w) w (n / w)
-weight_bound-disjoint n w h cs code =
-    let P : List Bool → Type 0 = λ x. (length x ≡ n) × (ones x ≡ w) in
-    let each : All P cs = λ k z l. (code.spread.lengths k z l, code.weights k z l) in
-    let none =
-    AllPairs-within P (λ x y. 2 * w ≤ apart x y) (λ x y. common_ones x y ≡ 0) cs
-    (λ x y p q far. let a = p.1 in let b = q.1 in let sum = ones-common x y (p.0 ∙ sym q.0) in omega arith) each code.spread.distances in
-    let most = disjoint_ones n cs code.spread.lengths none in
-    let weight : List Bool → ℕ = λ x. w in
-    let same = sum_by-congruence_within ones weight cs (recursion_from_All (λ x. ones x ≡ w) cs code.weights) in
-    let sum = sum_by-constant w cs in
-    le-div (length cs) n w (omega arith) (omega arith)
+weight_bound-disjoint n w h cs code = le-div (length cs) n w (omega arith) (disjoint_words n (2 * w) w cs (omega arith) code)
 
 -- a code of distance d is one of a distance below
 pub code-nearer : (n d e w : ℕ) (words : List ℕ) → e ≤ d → IsCode n d (Some w) words → IsCode n e (Some w) words
