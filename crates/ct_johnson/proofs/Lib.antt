@@ -4,3 +4,4 @@ pub mod OnePlace
 pub mod PairCounts
 pub mod Average
 pub mod OutsideBalls
+pub mod JohnsonRule

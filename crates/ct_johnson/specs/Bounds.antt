@@ -1,6 +1,6 @@
 -- Johnson's bounds on A(n,d,w) and A(n,d) (Johnson 1962 and 1971; MacWilliams and Sloane, The Theory of Error-Correcting Codes, chapter
 -- 17, sections 2 and 3; Brouwer, Shearer, Sloane and Smith 1990). A bound above the greatest one of the table is taken as that.
-use Rattle.std.specs.Prelude.{ℕ, zero, suc, ◌+◌, ◌-◌, ◌*◌, ◌/◌, ◌%◌, ◌^◌, ◌<◌, ◌≤◌, min, Bool, nat_lt, nat_le, if◌then◌else◌, Option, Some, None, IsTrue, IsFalse}
+use Rattle.std.specs.Prelude.{ℕ, zero, suc, ◌+◌, ◌-◌, ◌*◌, ◌/◌, ◌%◌, ◌^◌, ◌<◌, ◌≤◌, min, Bool, ◌==◌, ◌&&◌, nat_lt, nat_le, if◌then◌else◌, Option, Some, None, IsTrue, IsFalse}
 use Rattle.ct_counting.specs.Binomials.{choose, volume}
 use Rattle.ct_words.specs.declared.limits.TheConstants.{MAX_BOUND}
 use Rattle.ct_johnson.specs.declared.columns.TheConstants.{MAX_COUNTED}
@@ -50,3 +50,14 @@ NoneTooMany n δ w = δ ≤ w → (k : ℕ) → 2 ≤ k → k ≤ MAX_COUNTED �
 -- ⌊2^(n - 1)·u / C(n,w)⌋, where u bounds A(n,d,w) for an even d
 abbrev pub averaging_value : ℕ → ℕ → ℕ → ℕ
 averaging_value n w u = min (2 ^ (n - 1) * u / choose n w) MAX_BOUND
+
+-- ⌊2^n·F / (F·V(n,δ - 1) + R)⌋ with F = ⌊n/δ⌋ and R = C(n,δ) - C(2δ - 1,δ - 1)·u, where R is above 0, for the distance 2δ - 1
+abbrev pub johnson_odd : ℕ → ℕ → ℕ → Option ℕ
+johnson_odd n δ u =
+    if nat_lt (choose (2 * δ - 1) (δ - 1) * u) (choose n δ)
+    then Some (2 ^ n * (n / δ) / (n / δ * volume n (δ - 1) + (choose n δ - choose (2 * δ - 1) (δ - 1) * u)))
+    else None
+
+-- Johnson's bound for an odd d ≤ n, where u bounds A(n,d + 1,d)
+abbrev pub johnson_value : ℕ → ℕ → ℕ → Option ℕ
+johnson_value n d u = if d % 2 == 1 && nat_le d n then johnson_odd n ((d + 1) / 2) u else None

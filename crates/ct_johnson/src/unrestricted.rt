@@ -1,12 +1,12 @@
 //! Bounds on A(n,d) from bounds on A(n,d,w).
 
-ghost use Rattle.std.specs.Prelude.{◌≡◌, ℕ, ◌%◌, ◌≤◌};
+ghost use Rattle.std.specs.Prelude.{◌≡◌, ℕ, ◌+◌, ◌*◌, ◌%◌, ◌≤◌, IfSome};
 ghost use Rattle.ct_codes.specs.Code.{IsTrueUpper};
-ghost use Rattle.ct_codes.specs.Entry.{constant_weight, unrestricted};
-ghost use Rattle.ct_johnson.specs.Bounds.{averaging_value};
+ghost use Rattle.ct_codes.specs.Entry.{IsEntry, constant_weight, unrestricted};
+ghost use Rattle.ct_johnson.specs.Bounds.{averaging_value, johnson_odd as odd_value, johnson_value};
 
 use crate::cap::capped;
-use ct_words::{MAX_BOUND, MAX_N, binomial};
+use ct_words::{MAX_BOUND, MAX_N, ball, binomial};
 
 /// The bound ⌊2^(n - 1)·u / C(n,w)⌋ on A(n,d) for an even d, for n from 1 to `MAX_N` and w up to n, where u, from 1 to `MAX_BOUND`,
 /// bounds A(n,d,w); at most `MAX_BOUND`.
@@ -25,4 +25,43 @@ pub fn averaging(n: u32, w: u32, u: u32) -> u32
 {
     let words = 1u64 << (n - 1);
     capped(words * u64::from(u) / binomial(n, w))
+}
+
+/// Johnson's bound on A(n,d) for an odd d = 2δ - 1 ≤ n, (n,d) an entry of the table, where u, from 1 to `MAX_BOUND`, bounds A(n,d + 1,d):
+/// ⌊2^n·F / (F·V + R)⌋, where F = ⌊n/δ⌋, V is the number of words in a ball of radius δ - 1, and R = C(n,δ) - C(2δ - 1,δ - 1)·u.
+/// `None` where d is even or above n, or R is not above 0.
+///
+/// The balls of radius δ - 1 about the words of a code have no word in common. Of the C(n,δ) words at distance δ from a word of the code
+/// at least R lie in no ball, and a word in no ball is at distance δ from at most F words of the code (Johnson 1962; MacWilliams and
+/// Sloane, chapter 17, theorem 12).
+pub fn johnson(n: u32, d: u32, u: u32) -> Option<u32>
+    requires entry { IsEntry (unrestricted n d) }
+    requires premise { (1 ≤ u) × (u ≤ MAX_BOUND) }
+    ensures value { result ≡ johnson_value n d u }
+    ensures range { IfSome result (λ v. (1 ≤ v) × (v ≤ MAX_BOUND)) }
+    ensures sound { IsTrueUpper (constant_weight n (d + 1) d) u → IfSome result (IsTrueUpper (unrestricted n d)) }
+{
+    if d % 2 == 1 && d <= n {
+        johnson_odd(n, (d + 1) / 2, u)
+    } else {
+        None
+    }
+}
+
+/// Johnson's bound for the distance 2·half - 1, at most n.
+fn johnson_odd(n: u32, half: u32, u: u32) -> Option<u32>
+    requires length { n ≤ MAX_N }
+    requires distance { (1 ≤ half) × (2 * half ≤ n + 1) }
+    requires premise { u ≤ MAX_BOUND }
+    ensures { result ≡ odd_value n half u }
+{
+    let next = binomial(n, half);
+    let taken = binomial(2 * half - 1, half - 1) * u64::from(u);
+    if taken < next {
+        let most = u64::from(n / half);
+        let balls = most * ball(n, half - 1);
+        Some(((1u64 << n) * most / (balls + (next - taken))) as u32)
+    } else {
+        None
+    }
 }
