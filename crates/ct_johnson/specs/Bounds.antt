@@ -1,5 +1,5 @@
--- Johnson's bounds on A(n,d,w) and A(n,d) (Johnson 1962 and 1971; MacWilliams and Sloane, The Theory of Error-Correcting Codes, chapter
--- 17, sections 2 and 3; Brouwer, Shearer, Sloane and Smith 1990). A bound above the greatest one of the table is taken as that.
+-- Johnson's bounds on A(n,d,w) and A(n,d) (Johnson 1962; MacWilliams and Sloane, The Theory of Error-Correcting Codes,
+-- chapter 17; Brouwer, Shearer, Sloane and Smith 1990). A bound above the greatest one of the table is taken as that one.
 use Rattle.std.specs.Prelude.{ℕ, zero, suc, ◌+◌, ◌-◌, ◌*◌, ◌/◌, ◌%◌, ◌^◌, ◌<◌, ◌≤◌, min, Bool, ◌==◌, ◌&&◌, nat_lt, nat_le, if◌then◌else◌, Option, Some, None, IsTrue, IsFalse}
 use Rattle.ct_counting.specs.Binomials.{choose, volume}
 use Rattle.ct_words.specs.declared.limits.TheConstants.{MAX_BOUND}
@@ -17,8 +17,8 @@ drop_zero_value n w u = min (n * u / (n - w)) MAX_BOUND
 abbrev pub split_value : ℕ → ℕ → ℕ
 split_value u v = min (u + v) MAX_BOUND
 
--- how many ordered pairs of two words hold a one at one place, over n places with t ones in all, at least: k(k - 1) at a place with k
--- ones, and fewest where the t ones are spread as evenly as can be
+-- how many ordered pairs of words both hold a one at a place, over n places with t ones in all, at least: k(k - 1) pairs
+-- at a place with k ones, and fewest in all where the t ones are spread as evenly as can be
 abbrev pub least_pairs : ℕ → ℕ → ℕ
 least_pairs n t = n * (t / n * (t / n - 1)) + 2 * (t / n * (t % n))
 
@@ -51,7 +51,7 @@ NoneTooMany n δ w = δ ≤ w → (k : ℕ) → 2 ≤ k → k ≤ MAX_COUNTED �
 abbrev pub averaging_value : ℕ → ℕ → ℕ → ℕ
 averaging_value n w u = min (2 ^ (n - 1) * u / choose n w) MAX_BOUND
 
--- ⌊2^n·F / (F·V(n,δ - 1) + R)⌋ with F = ⌊n/δ⌋ and R = C(n,δ) - C(2δ - 1,δ - 1)·u, where R is above 0, for the distance 2δ - 1
+-- for the distance 2δ - 1: ⌊2^n·F / (F·V(n,δ - 1) + R)⌋, where F = ⌊n/δ⌋ and R = C(n,δ) - C(2δ - 1,δ - 1)·u is above 0
 abbrev pub johnson_odd : ℕ → ℕ → ℕ → Option ℕ
 johnson_odd n δ u =
     if nat_lt (choose (2 * δ - 1) (δ - 1) * u) (choose n δ)

@@ -1,4 +1,5 @@
-//! Upper bounds of Johnson's kind, which rest on bounds of codes of constant weight: places and pairs of words are counted both ways.
+//! Johnson's upper bounds: codes of constant weight bounded by counting places and pairs of words both ways, and codes
+//! without weight by codes of constant weight.
 #![tactic(auto)]
 
 mod cap;

@@ -8,11 +8,11 @@ ghost use Rattle.ct_johnson.specs.Bounds.{drop_one_value, drop_zero_value, split
 use crate::cap::capped;
 use ct_words::{MAX_BOUND, MAX_N};
 
-/// The bound ⌊n·u/w⌋ on A(n,d,w), for n from 2 to `MAX_N` and w from 1 to n, where u, from 1 to `MAX_BOUND`, bounds A(n - 1,d,w - 1);
-/// at most `MAX_BOUND`.
+/// The bound ⌊n·u/w⌋ on A(n,d,w), at most `MAX_BOUND`, for n from 2 to `MAX_N` and w from 1 to n. The number u, from 1 to
+/// `MAX_BOUND`, bounds A(n - 1,d,w - 1).
 ///
-/// The words with a one at a given place, without it, are a code of (n - 1,d,w - 1), and each word has w ones (Johnson 1962;
-/// MacWilliams and Sloane, chapter 17, theorem 4).
+/// The words with a one at a given place, without it, are a code of (n - 1,d,w - 1), and each word has w ones (Johnson
+/// 1962; MacWilliams and Sloane, chapter 17, section 2).
 pub fn drop_one(n: u32, w: u32, u: u32) -> u32
     requires length { (2 ≤ n) × (n ≤ MAX_N) }
     requires weight { (1 ≤ w) × (w ≤ n) }
@@ -25,11 +25,11 @@ pub fn drop_one(n: u32, w: u32, u: u32) -> u32
     capped(u64::from(n) * u64::from(u) / u64::from(w))
 }
 
-/// The bound ⌊n·u/(n - w)⌋ on A(n,d,w), for n from 2 to `MAX_N` and w below n, where u, from 1 to `MAX_BOUND`, bounds A(n - 1,d,w);
-/// at most `MAX_BOUND`.
+/// The bound ⌊n·u/(n - w)⌋ on A(n,d,w), at most `MAX_BOUND`, for n from 2 to `MAX_N` and w below n. The number u, from 1 to
+/// `MAX_BOUND`, bounds A(n - 1,d,w).
 ///
-/// The words with a zero at a given place, without it, are a code of (n - 1,d,w), and each word has n - w zeros (Johnson 1962;
-/// MacWilliams and Sloane, chapter 17, theorem 4).
+/// The words with a zero at a given place, without it, are a code of (n - 1,d,w), and each word has n - w zeros (Johnson
+/// 1962; MacWilliams and Sloane, chapter 17, section 2).
 pub fn drop_zero(n: u32, w: u32, u: u32) -> u32
     requires length { (2 ≤ n) × (n ≤ MAX_N) }
     requires weight { w < n }
@@ -42,14 +42,14 @@ pub fn drop_zero(n: u32, w: u32, u: u32) -> u32
     capped(u64::from(n) * u64::from(u) / u64::from(n - w))
 }
 
-/// The bound u0 + u1 on A(n,d,w), for 1 ≤ w < n ≤ `MAX_N`, where u0 bounds A(n - 1,d,w) and u1 bounds A(n - 1,d,w - 1), both from 1 to
-/// `MAX_BOUND`; at most `MAX_BOUND`.
+/// The bound u0 + u1 on A(n,d,w), at most `MAX_BOUND`, for 1 ≤ w < n ≤ `MAX_N`. The numbers u0 and u1, from 1 to
+/// `MAX_BOUND`, bound A(n - 1,d,w) and A(n - 1,d,w - 1).
 ///
-/// The words with a zero at a place, without it, are a code of (n - 1,d,w), and the others one of (n - 1,d,w - 1) (Brouwer, Shearer,
-/// Sloane and Smith 1990).
+/// The words with a zero at a place, without it, are a code of (n - 1,d,w), and the others one of (n - 1,d,w - 1)
+/// (Brouwer, Shearer, Sloane and Smith 1990).
 pub fn split(u0: u32, u1: u32) -> u32
-    requires first { (1 ≤ u0) × (u0 ≤ MAX_BOUND) }
-    requires second { (1 ≤ u1) × (u1 ≤ MAX_BOUND) }
+    requires zeros { (1 ≤ u0) × (u0 ≤ MAX_BOUND) }
+    requires ones { (1 ≤ u1) × (u1 ≤ MAX_BOUND) }
     ensures value { result ≡ split_value u0 u1 }
     ensures range { (1 ≤ result) × (result ≤ MAX_BOUND) }
     ensures sound { (n d w : ℕ) → n ≤ MAX_N → 1 ≤ d → 1 ≤ w → w < n →
