@@ -1,11 +1,11 @@
--- The words that lie between two words: at distance i from the one and j from the other, where i and j add up to their distance.
-use Rattle.std.proofs.Common.{◌≡◌, ℕ, zero, suc, ◌+◌, ◌<◌, ◌≤◌, List, [], ◌∷◌, length, get_or, refl, ap, ◌∙◌, arith, zero-add}
+-- The words that lie between two words: at distance i from the one and j from the other, where i and j add up to their
+-- distance.
+use Rattle.std.proofs.Common.{◌≡◌, ℕ, zero, suc, ◌+◌, ◌≤◌, List, [], ◌∷◌, length, get_or, refl, ap, arith, zero-add}
 use Rattle.std.specs.Prelude.{Bool, true, false, cond, ◌==◌, ◌&&◌, nat_le, count_by}
-use Rattle.std.specs.List.{All, sum_by}
 use Rattle.std.proofs.lemmas.Bool.Decides.{nat_tests}
 use Rattle.ct_counting.specs.Binomials.{choose}
-use Rattle.ct_counting.specs.Words.{all_words, apart, differ}
-use Rattle.ct_counting.proofs.Sums.{sum_by-congruence, sum_by-zero}
+use Rattle.ct_counting.specs.Words.{all_words, apart}
+use Rattle.ct_counting.proofs.Sums.{sum_by-congruence}
 use Rattle.ct_counting.proofs.Binomials.{choose_past}
 use Rattle.ct_counting.proofs.DoubleCounting.{count_by-none}
 use Rattle.ct_counting.proofs.Distances.{apart_triangle, apart_symmetric}

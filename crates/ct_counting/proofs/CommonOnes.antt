@@ -166,8 +166,8 @@ square-ge q k =
     below_is : (q k : ℕ) → k ≤ q → q ≡ k + (q - k)
     below_is q k h = omega arith
 
--- the pairs of words that both hold a one, counted place by place: with the ones of all words spread as evenly as can be over the
--- places there are fewest
+-- the pairs of words that both hold a one, counted place by place: with the ones of all words spread as evenly as can
+-- be over the places there are fewest
 pub columns-ge : (n q : ℕ) (cs : List (List Bool)) → All (λ x. length x ≡ n) cs → suc (2 * q) * sum_by ones cs ≤ pair_sum common_ones cs + n * (q * suc q)
 columns-ge zero q cs lengths =
     let none = ap (λ s. suc (2 * q) * s) (none-empty cs lengths) in

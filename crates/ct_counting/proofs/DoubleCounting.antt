@@ -60,8 +60,8 @@ count_by-le {X} f xs (suc e) =
     let ih = count_by-le f xs e in
     omega arith
 
--- where each x is in the relation to at least f x of the list ys, and each y to at most g y of the list xs, the f x add up to
--- at most the g y
+-- where each x is in the relation to at least f x of the list ys, and each y to at most g y of the list xs, the f x add
+-- up to at most the g y
 pub double_count : {X Y : Type 0} (r : X → Y → Bool) (f : X → ℕ) (g : Y → ℕ) (xs : List X) (ys : List Y) → All (λ x. f x ≤ count_by (r x) ys) xs → All (λ y. count_by (λ x. r x y) xs ≤ g y) ys → sum_by f xs ≤ sum_by g ys
 double_count {X} {Y} r f g xs ys least most =
     let rows : X → ℕ = λ x. count_by (r x) ys in

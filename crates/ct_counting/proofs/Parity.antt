@@ -1,7 +1,7 @@
 -- A parity digit makes an odd distance one greater, and all weights even.
-use Rattle.std.proofs.Common.{◌≡◌, ℕ, suc, ◌+◌, ◌*◌, ◌%◌, ◌^◌, ◌<◌, ◌≤◌, List, [], ◌∷◌, map, length, get_or, refl, subst, arith}
+use Rattle.std.proofs.Common.{◌≡◌, ℕ, suc, ◌+◌, ◌%◌, ◌^◌, ◌<◌, ◌≤◌, List, [], ◌∷◌, map, length, get_or, refl, subst, arith}
 use Rattle.std.specs.Prelude.{Bool, true, false, cond, not, ◌==◌, count_by}
-use Rattle.std.specs.List.{All, sum_by}
+use Rattle.std.specs.List.{All}
 use Rattle.std.proofs.lemmas.Bool.Decides.{nat_tests}
 use Rattle.std.proofs.lemmas.Simd.{map-map}
 use Rattle.std.proofs.lemmas.List.Elements.{All-map}
@@ -105,8 +105,8 @@ spread-punctured n d cs spread =
 abbrev pub evened : List Bool → List Bool
 evened x = extended (other_digits x)
 
--- a code of even distance becomes one of the same length, size and distance whose weights are all even: a place is punctured, and a
--- parity digit put in front
+-- a code of even distance becomes one of the same length, size and distance whose weights are all even: a place is
+-- punctured, and a parity digit put in front
 pub spread-evened : (n d : ℕ) (cs : List (List Bool)) → d % 2 ≡ 1 → IsSpread (suc n) (suc d) cs → IsSpread (suc n) (suc d) (map evened cs)
 spread-evened n d cs odd spread =
     subst (IsSpread (suc n) (suc d)) (map-map extended other_digits cs)

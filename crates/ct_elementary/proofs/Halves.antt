@@ -1,5 +1,5 @@
 -- Plotkin's bound at n = 2d: the words that begin with one digit, without it, are a code one shorter.
-use Rattle.std.proofs.Common.{◌≡◌, ℕ, zero, suc, ◌+◌, ◌-◌, ◌*◌, ◌/◌, ◌≤◌, List, length, ap, ◌∙◌, arith}
+use Rattle.std.proofs.Common.{◌≡◌, ℕ, zero, suc, ◌-◌, ◌*◌, ◌/◌, ◌≤◌, List, length, ap, ◌∙◌, arith}
 use Rattle.std.proofs.Math.Nat.{div-one}
 use Rattle.std.specs.Prelude.{Bool, true, false}
 use Rattle.ct_counting.proofs.Spread.{IsSpread}

@@ -1,9 +1,9 @@
 -- Johnson's bound holds for every code, and stays within the table.
-use Rattle.std.proofs.Common.{◌≡◌, ℕ, zero, suc, ◌+◌, ◌-◌, ◌*◌, ◌/◌, ◌%◌, ◌^◌, ◌<◌, ◌≤◌, List, length, inl, inr, ap, ◌∙◌, arith}
+use Rattle.std.proofs.Common.{◌≡◌, ℕ, zero, suc, ◌+◌, ◌-◌, ◌*◌, ◌/◌, ◌%◌, ◌^◌, ◌<◌, ◌≤◌, inl, inr, arith}
 use Rattle.std.proofs.Math.Nat.{mul-le-mul, pow-le-pow_right, div-le_self, div-le_of_le-mul}
-use Rattle.std.specs.Prelude.{Bool, Option, Some, None, IfSome}
+use Rattle.std.specs.Prelude.{Option, Some, None, IfSome}
 use Rattle.std.proofs.lemmas.Bool.{cases_lt, lt-ltb, le-ltb}
-use Rattle.std.proofs.lemmas.Nat.{le-div, one_shl}
+use Rattle.std.proofs.lemmas.Nat.{le-div}
 use Rattle.ct_counting.specs.Binomials.{choose, volume}
 use Rattle.ct_counting.proofs.Binomials.{choose-le, volume-le, one-le-volume}
 use Rattle.ct_counting.proofs.Spread.{IsSpreadBound, IsWeightBound}

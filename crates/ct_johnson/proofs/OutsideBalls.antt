@@ -1,20 +1,20 @@
 -- The words outside the balls about the words of a code, counted by the words of the code that they are next to.
-use Rattle.std.proofs.Common.{◌≡◌, ℕ, zero, suc, ◌+◌, ◌-◌, ◌*◌, ◌/◌, ◌%◌, ◌^◌, ◌<◌, ◌≤◌, List, length, get_or, subst, refl, sym, ap, ◌∙◌, inl, inr, arith}
+use Rattle.std.proofs.Common.{◌≡◌, ℕ, suc, ◌+◌, ◌-◌, ◌*◌, ◌/◌, ◌^◌, ◌<◌, ◌≤◌, List, length, get_or, refl, sym, ap, ◌∙◌, inl, inr, arith}
 use Rattle.std.specs.Prelude.{Bool, true, false, cond, ◌==◌, ◌&&◌, nat_le, count_by, ◌⊎◌}
-use Rattle.std.specs.List.{All, AllPairs, sum_by}
-use Rattle.std.proofs.lemmas.Bool.{cases_Bool, cases_eq, cases_lt, eq-eqb, ne_eqb, eqb-true, eqb-false, cond-true, cond-false}
+use Rattle.std.specs.List.{All, sum_by}
+use Rattle.std.proofs.lemmas.Bool.{cases_eq, eq-eqb, cond-true}
 use Rattle.std.proofs.lemmas.Bool.Decides.{nat_tests}
 use Rattle.std.proofs.Math.Nat.{mul-le-mul}
 use Rattle.std.proofs.lemmas.List.Elements.{recursion_from_All}
 use Rattle.std.proofs.lemmas.List.Sums.{sum_by-le-sum_by}
 use Rattle.std.proofs.lemmas.Nat.{le-div}
 use Rattle.ct_counting.specs.Binomials.{choose, volume}
-use Rattle.ct_counting.specs.Words.{all_words, apart, ones}
+use Rattle.ct_counting.specs.Words.{all_words, apart}
 use Rattle.ct_counting.proofs.Binomials.{choose_symmetric_at}
 use Rattle.ct_counting.proofs.Sums.{sum_by-constant, sum_by-scale, sum_by-add, sum_by-congruence, sum_by-congruence_within, sum_by-le_within}
 use Rattle.ct_counting.proofs.Pairs.{AllPairs-others}
 use Rattle.ct_counting.proofs.DoubleCounting.{double_count, count_by-swap, count_by-none}
-use Rattle.ct_counting.proofs.Words.{length-all_words, lengths-all_words, count_at_distance}
+use Rattle.ct_counting.proofs.Words.{length-all_words, lengths-all_words}
 use Rattle.ct_counting.proofs.Distances.{apart_symmetric, apart_triangle}
 use Rattle.ct_counting.proofs.Between.{lies_between, count_between}
 use Rattle.ct_counting.proofs.Spread.{IsSpread, IsSpreadBound, IsWeightBound}
@@ -30,7 +30,8 @@ near e cs x = count_by (λ c. nat_le (apart c x) e) cs
 abbrev pub is_next_outside : ℕ → List (List Bool) → List Bool → List Bool → Bool
 is_next_outside e cs c x = apart c x == suc e && near e cs x == 0
 
--- a word has at most n / (e + 1) words of a code of distance 2e + 1 next to it: translated by it, these have disjoint ones
+-- a word has at most n / (e + 1) words of a code of distance 2e + 1 next to it, since these, translated by it, have
+-- disjoint ones
 next_to : (n e : ℕ) (cs : List (List Bool)) → IsSpread n (suc (2 * e)) cs → (x : List Bool) → length x ≡ n → count_by (λ c. apart c x == suc e) cs ≤ n / suc e
 next_to n e cs spread x long =
     let code = spread-around n (suc (2 * e)) (suc e) x cs long spread in
@@ -64,7 +65,8 @@ next_outside n e cs spread x long = by_cases (near e cs x == 0) (next_to n e cs 
         let none = count_by-none (λ c. apart c x == suc e && false) cs (λ k z l. and_false (apart _ x == suc e)) in
         omega arith
 
--- a word next to c and within distance e of another word c' of the code: there are some only where c' is at distance 2e + 1
+-- the words next to c that are within distance e of another word c' of the code: there are some only where the distance
+-- of c and c' is 2e + 1
 taken_by : (n e : ℕ) (c c' : List Bool) → length c ≡ n → length c' ≡ n → (c ≡ c') ⊎ (suc (2 * e) ≤ apart c c')
     → count_by (lies_between c c' (suc e) e) (all_words n) ≤ choose (suc (2 * e)) (suc e) * cond (apart c c' == suc (2 * e)) 1 0
 taken_by n e c c' long long_too apart_or_same =
@@ -175,8 +177,8 @@ balls_and_outside n e cs spread =
     in_or_out : (m : ℕ) → m ≤ 1 → m + cond {A = ℕ} (m == 0) 1 0 ≤ 1
     in_or_out m h = grind (arith, nat_tests)
 
--- the whole count: each word of the code has at least r words next to it outside the balls, and each of these has at most n / (e + 1)
--- words of the code next to it
+-- the whole count: each word of the code has at least r words next to it outside the balls, and each of these has at
+-- most n / (e + 1) words of the code next to it
 whole_count : (n e r : ℕ) (cs : List (List Bool)) → IsSpread n (suc (2 * e)) cs → ((i : ℕ) (z : List Bool) → i < length cs → r ≤ count_by (is_next_outside e cs (get_or cs i z)) (all_words n))
     → length cs * (n / suc e * volume n e + r) ≤ 2 ^ n * (n / suc e)
 whole_count n e r cs spread least =

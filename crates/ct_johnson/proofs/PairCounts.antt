@@ -15,7 +15,8 @@ use Rattle.ct_counting.proofs.CommonOnes.{common_ones, ones-common, common_self,
 use Rattle.ct_johnson.specs.declared.columns.TheConstants.{MAX_COUNTED}
 use Rattle.ct_johnson.specs.Bounds.{least_pairs, are_too_many, least_from, column_count_value}
 
--- both counts of the pairs together: s ones in all, p pairs, m words, q and r the quotient and the rest of the ones by the places
+-- both counts of the pairs together: s ones in all, p pairs, m words, q and r the quotient and the rest of the ones by
+-- the places
 counts_meet : (n q r b w m s p : ℕ) → s ≡ m * w → suc (2 * q) * s ≤ p + n * (q * suc q) → p + b * m ≤ b * (m * m) + w * m → w * m ≡ n * q + r → n * (q * (q - 1)) + 2 * (q * r) ≤ b * (m * (m - 1))
 counts_meet n zero r b w m s p ones_are low high split = omega arith
 counts_meet n (suc q) r b w zero s p ones_are low high split =

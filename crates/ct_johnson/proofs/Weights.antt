@@ -1,21 +1,18 @@
 -- Bounds of codes of constant weight that rest on the weight alone.
 use Rattle.std.proofs.Common.{◌≡◌, ℕ, ◌-◌, ◌*◌, ◌/◌, ◌<◌, ◌≤◌, min, List, [], ◌∷◌, length, get_or, ap, sym, ◌∙◌, inl, inr, arith}
 use Rattle.std.specs.Prelude.{Bool, true, false, cond, ◌==◌, nat_le, count_by, Some}
-use Rattle.std.specs.List.{All}
 use Rattle.std.proofs.lemmas.Bool.{cases_eq, cases_lt, eq-eqb, ne_eqb, cond-true, cond-false, lt-leb}
-use Rattle.std.proofs.lemmas.List.Elements.{recursion_from_All}
 use Rattle.std.proofs.lemmas.Nat.{le-div}
 use Rattle.ct_counting.specs.Binomials.{choose}
 use Rattle.ct_counting.specs.Words.{all_words, apart, ones}
-use Rattle.ct_counting.proofs.Sums.{sum_by-constant, sum_by-congruence_within}
-use Rattle.ct_counting.proofs.Pairs.{AllPairs-within}
+use Rattle.ct_counting.proofs.Sums.{sum_by-constant}
 use Rattle.ct_counting.proofs.DoubleCounting.{double_count, count_by-none}
 use Rattle.ct_counting.proofs.Words.{lengths-all_words, count_of_weight}
 use Rattle.ct_counting.proofs.Distances.{same_from_apart}
 use Rattle.ct_counting.proofs.Spread.{IsSpreadOfWeight, IsWeightBound}
 use Rattle.ct_counting.proofs.Spheres.{ball_size, one_ball}
 use Rattle.ct_counting.proofs.Complements.{complement_bound}
-use Rattle.ct_counting.proofs.CommonOnes.{common_ones, ones-common, disjoint_words}
+use Rattle.ct_counting.proofs.CommonOnes.{ones-common, disjoint_words}
 use Rattle.ct_codes.specs.Code.{IsCode}
 
 -- two words that differ nowhere have one weight

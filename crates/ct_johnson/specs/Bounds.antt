@@ -1,5 +1,5 @@
 -- Johnson's bounds on A(n,d,w) and A(n,d) (Johnson 1962; MacWilliams and Sloane, The Theory of Error-Correcting Codes,
--- chapter 17; Brouwer, Shearer, Sloane and Smith 1990). A bound above the greatest one of the table is taken as that one.
+-- chapter 17; Brouwer, Shearer, Sloane and Smith 1990). A bound above the greatest of the table is taken as that one.
 use Rattle.std.specs.Prelude.{ℕ, zero, suc, ◌+◌, ◌-◌, ◌*◌, ◌/◌, ◌%◌, ◌^◌, ◌<◌, ◌≤◌, min, Bool, ◌==◌, ◌&&◌, nat_lt, nat_le, if◌then◌else◌, Option, Some, None, IsTrue, IsFalse}
 use Rattle.ct_counting.specs.Binomials.{choose, volume}
 use Rattle.ct_words.specs.declared.limits.TheConstants.{MAX_BOUND}
@@ -17,8 +17,8 @@ drop_zero_value n w u = min (n * u / (n - w)) MAX_BOUND
 abbrev pub split_value : ℕ → ℕ → ℕ
 split_value u v = min (u + v) MAX_BOUND
 
--- how many ordered pairs of words both hold a one at a place, over n places with t ones in all, at least: k(k - 1) pairs
--- at a place with k ones, and fewest in all where the t ones are spread as evenly as can be
+-- how many ordered pairs of words both hold a one at a place, over n places with t ones in all, at least: k(k - 1)
+-- pairs at a place with k ones, and fewest in all where the t ones are spread as evenly as can be
 abbrev pub least_pairs : ℕ → ℕ → ℕ
 least_pairs n t = n * (t / n * (t / n - 1)) + 2 * (t / n * (t % n))
 

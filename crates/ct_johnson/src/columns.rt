@@ -12,9 +12,9 @@ pub const MAX_COUNTED: u32 = 1000;
 /// The least number of words, from 2 to `MAX_COUNTED`, that is too many for the entry (n,d,w) of the table; so A(n,d,w)
 /// is below it. `None` where w is below d/2, or no such number is too many.
 ///
-/// With wM = nq + r, 0 ≤ r < n, at least nq(q - 1) + 2qr ordered pairs of M words of weight w both hold a one at one place,
-/// each place counted, and two words of distance d have at most w - d/2 ones in common: M words are too many where
-/// nq(q - 1) + 2qr is above (w - d/2)·M(M - 1) (Johnson 1962; MacWilliams and Sloane, chapter 17, section 2).
+/// With wM = nq + r, 0 ≤ r < n, at least nq(q - 1) + 2qr ordered pairs of M words of weight w both hold a one at one
+/// place, each place counted, and two words of distance d have at most w - d/2 ones in common: M words are too many
+/// where nq(q - 1) + 2qr is above (w - d/2)·M(M - 1) (Johnson 1962; MacWilliams and Sloane, chapter 17, section 2).
 pub fn column_count(n: u32, d: u32, w: u32) -> Option<u32>
     requires { IsEntry (constant_weight n d w) }
     ensures value { result ≡ column_count_value n d w }

@@ -5,9 +5,10 @@ ghost use Rattle.ct_counting.specs.Binomials.{choose};
 ghost use Rattle.ct_codes.specs.Entry.{constant_weight};
 ghost use Rattle.ct_codes.specs.Code.{IsTrueUpper};
 
-/// Bounds by the weight alone: there are no more words than words of the weight (V0); two of them differ at no more places
-/// than twice the ones, or twice the zeros, of a word (V1); words of weight w at distance 2w have no one in common (V2).
-/// Sources: Johnson 1962; MacWilliams and Sloane, chapter 17, section 2; Brouwer, Shearer, Sloane and Smith 1990.
+/// Bounds by the weight alone: there are no more words than words of the weight (V0); two of them differ at no more
+/// places than twice the ones, or twice the zeros, of a word (V1); words of weight w at distance 2w have no one in
+/// common (V2). Sources: Johnson 1962; MacWilliams and Sloane, chapter 17, section 2; Brouwer, Shearer, Sloane and
+/// Smith 1990.
 pub fn bounds_by_weight()
     ensures all_words { (n d w : ℕ) → 1 ≤ d → IsTrueUpper (constant_weight n d w) (choose n w) }
     ensures far { (n d w : ℕ) → 2 * min w (n - w) < d → IsTrueUpper (constant_weight n d w) 1 }

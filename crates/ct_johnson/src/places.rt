@@ -8,8 +8,8 @@ ghost use Rattle.ct_johnson.specs.Bounds.{drop_one_value, drop_zero_value, split
 use crate::cap::capped;
 use ct_words::{MAX_BOUND, MAX_N};
 
-/// The bound ⌊n·u/w⌋ on A(n,d,w), at most `MAX_BOUND`, for n from 2 to `MAX_N` and w from 1 to n. The number u, from 1 to
-/// `MAX_BOUND`, bounds A(n - 1,d,w - 1).
+/// The bound ⌊n·u/w⌋ on A(n,d,w), at most `MAX_BOUND`, for n from 2 to `MAX_N` and w from 1 to n. The number u, from 1
+/// to `MAX_BOUND`, bounds A(n - 1,d,w - 1).
 ///
 /// The words with a one at a given place, without it, are a code of (n - 1,d,w - 1), and each word has w ones (Johnson
 /// 1962; MacWilliams and Sloane, chapter 17, section 2).
@@ -25,11 +25,11 @@ pub fn drop_one(n: u32, w: u32, u: u32) -> u32
     capped(u64::from(n) * u64::from(u) / u64::from(w))
 }
 
-/// The bound ⌊n·u/(n - w)⌋ on A(n,d,w), at most `MAX_BOUND`, for n from 2 to `MAX_N` and w below n. The number u, from 1 to
-/// `MAX_BOUND`, bounds A(n - 1,d,w).
+/// The bound ⌊n·u/(n - w)⌋ on A(n,d,w), at most `MAX_BOUND`, for n from 2 to `MAX_N` and w below n. The number u, from
+/// 1 to `MAX_BOUND`, bounds A(n - 1,d,w).
 ///
-/// The words with a zero at a given place, without it, are a code of (n - 1,d,w), and each word has n - w zeros (Johnson
-/// 1962; MacWilliams and Sloane, chapter 17, section 2).
+/// The words with a zero at a given place, without it, are a code of (n - 1,d,w), and each word has n - w zeros
+/// (Johnson 1962; MacWilliams and Sloane, chapter 17, section 2).
 pub fn drop_zero(n: u32, w: u32, u: u32) -> u32
     requires length { (2 ≤ n) × (n ≤ MAX_N) }
     requires weight { w < n }

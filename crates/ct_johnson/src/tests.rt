@@ -1,5 +1,5 @@
-//! The bounds at values from tables and by hand. Upper bounds of A(n,d,w) from Brouwer, Shearer, Sloane and Smith 1990 stand as
-//! premises; A(8,4,4) = 14, A(12,6,6) = 22 and others are met.
+//! The bounds at values from tables and by hand. Upper bounds of A(n,d,w) from Brouwer, Shearer, Sloane and Smith 1990
+//! stand as premises; A(8,4,4) = 14, A(12,6,6) = 22 and others are met.
 
 use super::*;
 use ct_codes::Entry;
@@ -72,7 +72,8 @@ fn both_halves(rt: HostRuntime) {
     }
 }
 
-// A(7,4,3) = 7, A(8,6,4) = 2, A(9,6,4) = 3, A(10,6,4) = 5, A(11,6,4) = 6, A(12,6,4) = 9, each by hand; A(28,14,13) is at most 196.
+// A(7,4,3) = 7, A(8,6,4) = 2, A(9,6,4) = 3, A(10,6,4) = 5, A(11,6,4) = 6, A(12,6,4) = 9, each by hand; A(28,14,13) is
+// at most 196.
 #[test]
 fn pairs_in_columns(rt: HostRuntime) {
     for (n, d, w, want) in [
@@ -117,7 +118,8 @@ fn averages(rt: HostRuntime) {
     }
 }
 
-// A(15,5) ≤ 256 (met by the code of Nordstrom and Robinson), A(6,3) ≤ 8 and others by hand; none where the excess is 0 or below.
+// A(15,5) ≤ 256 (met by the code of Nordstrom and Robinson), A(6,3) ≤ 8 and others by hand; none where the excess is 0
+// or below.
 #[test]
 fn outside_the_balls(rt: HostRuntime) {
     for (n, d, u, want) in [

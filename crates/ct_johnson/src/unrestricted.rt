@@ -8,12 +8,12 @@ ghost use Rattle.ct_johnson.specs.Bounds.{averaging_value, johnson_odd as odd_va
 use crate::cap::capped;
 use ct_words::{MAX_BOUND, MAX_N, ball, binomial};
 
-/// The bound ⌊2^(n - 1)·u / C(n,w)⌋ on A(n,d) for an even d, at most `MAX_BOUND`, for n from 1 to `MAX_N` and w up to n. The
-/// number u, from 1 to `MAX_BOUND`, bounds A(n,d,w).
+/// The bound ⌊2^(n - 1)·u / C(n,w)⌋ on A(n,d) for an even d, at most `MAX_BOUND`, for n from 1 to `MAX_N` and w up to
+/// n. The number u, from 1 to `MAX_BOUND`, bounds A(n,d,w).
 ///
-/// A code can be replaced by one of the same size whose weights are all even. Each word x of that one has C(n,w) sums
-/// x + v of weight w, all with words v whose weight has the parity of w; there are 2^(n - 1) such v, and the sums of weight
-/// w with one v are a code (Elias; Bassalygo 1965; MacWilliams and Sloane, chapter 17).
+/// A code can be replaced by one of the same size whose weights are all even. Each word x of that one has C(n,w) sums x
+/// + v of weight w, all with words v whose weight has the parity of w; there are 2^(n - 1) such v, and the sums of
+/// weight w with one v are a code (Elias; Bassalygo 1965; MacWilliams and Sloane, chapter 17).
 pub fn averaging(n: u32, w: u32, u: u32) -> u32
     requires length { (1 ≤ n) × (n ≤ MAX_N) }
     requires weight { w ≤ n }
@@ -27,13 +27,13 @@ pub fn averaging(n: u32, w: u32, u: u32) -> u32
     capped(words * u64::from(u) / binomial(n, w))
 }
 
-/// Johnson's bound on A(n,d), ⌊2^n·F / (F·V + R)⌋, for an odd d = 2δ - 1 ≤ n, (n,d) an entry of the table. F is ⌊n/δ⌋, V
-/// the number of words in a ball of radius δ - 1, R is C(n,δ) - C(2δ - 1,δ - 1)·u, and the number u, from 1 to `MAX_BOUND`,
-/// bounds A(n,d + 1,d). `None` where d is even or above n, or R is not above 0.
+/// Johnson's bound on A(n,d), ⌊2^n·F / (F·V + R)⌋, for an odd d = 2δ - 1 ≤ n, (n,d) an entry of the table. F is ⌊n/δ⌋,
+/// V the number of words in a ball of radius δ - 1, R is C(n,δ) - C(2δ - 1,δ - 1)·u, and the number u, from 1 to
+/// `MAX_BOUND`, bounds A(n,d + 1,d). `None` where d is even or above n, or R is not above 0.
 ///
-/// The balls of radius δ - 1 about the words of a code have no word in common. Of the C(n,δ) words at distance δ from a word
-/// of the code at least R lie in no ball, and a word in no ball is at distance δ from at most F words of the code (Johnson
-/// 1962; MacWilliams and Sloane, chapter 17, section 3).
+/// The balls of radius δ - 1 about the words of a code have no word in common. Of the C(n,δ) words at distance δ from a
+/// word of the code at least R lie in no ball, and a word in no ball is at distance δ from at most F words of the code
+/// (Johnson 1962; MacWilliams and Sloane, chapter 17, section 3).
 pub fn johnson(n: u32, d: u32, u: u32) -> Option<u32>
     requires entry { IsEntry (unrestricted n d) }
     requires premise { (1 ≤ u) × (u ≤ MAX_BOUND) }

@@ -1,5 +1,4 @@
 -- The words outside the balls.
-use Rattle.std.proofs.Common.{◌≤◌, arith}
 use Rattle.ct_codes.specs.Entry.{unrestricted}
 use Rattle.ct_codes.proofs.EntryLemmas.{entry_limits}
 use Rattle.ct_johnson.proofs.JohnsonRule.{johnson_sound, johnson_within}

@@ -1,5 +1,5 @@
 -- The products stay below 2^64, and the quotient at most 2^n.
-use Rattle.std.proofs.Common.{◌≡◌, ℕ, ◌+◌, ◌-◌, ◌*◌, ◌/◌, ◌%◌, ◌^◌, ◌≤◌, ap, arith}
+use Rattle.std.proofs.Common.{◌≡◌, ℕ, ◌+◌, ◌-◌, ◌*◌, ◌/◌, ◌^◌, ◌≤◌, ap, arith}
 use Rattle.std.proofs.lemmas.Nat.{one_shl}
 use Rattle.ct_counting.specs.Binomials.{choose, volume}
 use Rattle.ct_counting.proofs.Binomials.{choose-le, one-le-volume}
