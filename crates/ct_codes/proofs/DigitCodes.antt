@@ -58,21 +58,38 @@ different_from_apart n d x y h far same =
     omega arith
 
 -- lists of digits that are apart write the words of a code
-pub code_from_weight : (n d w : ℕ) (cs : List (List Bool)) → 1 ≤ d → IsSpreadOfWeight n d w cs → IsCode n d (Some w) (map word_value cs)
-code_from_weight n d w cs h spread =
-    let longs = spread.spread.lengths in
-    let apart_all : AllPairs (λ x y. d ≤ distance n x y) (map word_value cs) =
+pub code_from_spread : (n d : ℕ) (cs : List (List Bool)) → 1 ≤ d → IsSpread n d cs → IsCode n d None (map word_value cs)
+code_from_spread n d cs h spread =
+    let far : AllPairs (λ x y. d ≤ distance n x y) (map word_value cs) =
     AllPairs-map (λ x y. d ≤ distance n x y) word_value cs
     (AllPairs-within (λ x. length x ≡ n) (λ x y. d ≤ apart x y) (λ x y. d ≤ distance n (word_value x) (word_value y)) cs
-    (λ x y p q far. let same = distance-word_value n x y p q in omega arith) longs spread.spread.distances) in
+    (λ x y p q h'. let same = distance-word_value n x y p q in omega arith) spread.lengths spread.distances) in
     record {
       lengths =
           All-map (λ x. x < 2 ^ n) word_value cs
-          (λ k e l. let P : ℕ → Type 0 = λ m. word_value (get_or cs k e) < 2 ^ m in subst P (longs k e l) (word_value-lt _));
-      different = AllPairs-weaker (λ x y. d ≤ distance n x y) (λ x y. x ≢ y) (map word_value cs) (λ x y far. different_from_apart n d x y h far) apart_all;
-      apart = apart_all;
-      weights = All-map (λ x. weight n x ≡ w) word_value cs (λ k e l. weight-word_value n _ (longs k e l) ∙ spread.weights k e l);
+          (λ k e l. let P : ℕ → Type 0 = λ m. word_value (get_or cs k e) < 2 ^ m in subst P (spread.lengths k e l) (word_value-lt _));
+      different = AllPairs-weaker (λ x y. d ≤ distance n x y) (λ x y. x ≢ y) (map word_value cs) (λ x y h'. different_from_apart n d x y h h') far;
+      apart = far;
+      weights = tt;
     }
+
+-- those of one weight one of constant weight
+pub code_from_weight : (n d w : ℕ) (cs : List (List Bool)) → 1 ≤ d → IsSpreadOfWeight n d w cs → IsCode n d (Some w) (map word_value cs)
+code_from_weight n d w cs h code =
+    let words = code_from_spread n d cs h code.spread in
+    record {
+      lengths = words.lengths;
+      different = words.different;
+      apart = words.apart;
+      weights = All-map (λ x. weight n x ≡ w) word_value cs (λ k e l. weight-word_value n _ (code.spread.lengths k e l) ∙ code.weights k e l);
+    }
+
+-- what bounds each code bounds each list of digits
+pub spread_bound_from_codes : (n d u : ℕ) → 1 ≤ d → ((words : List ℕ) → IsCode n d None words → length words ≤ u) → IsSpreadBound n d u
+spread_bound_from_codes n d u h bound cs spread =
+    let most = bound (map word_value cs) (code_from_spread n d cs h spread) in
+    let same = length-map cs word_value in
+    omega arith
 
 -- what bounds each code of constant weight bounds each list of digits
 pub weight_bound_from_codes : (n d w u : ℕ) → 1 ≤ d → ((words : List ℕ) → IsCode n d (Some w) words → length words ≤ u) → IsWeightBound n d w u

@@ -1,6 +1,6 @@
 -- Johnson's bound holds for every code, and stays within the table.
 use Rattle.std.proofs.Common.{◌≡◌, ℕ, zero, suc, ◌+◌, ◌-◌, ◌*◌, ◌/◌, ◌%◌, ◌^◌, ◌<◌, ◌≤◌, inl, inr, arith}
-use Rattle.std.proofs.Math.Nat.{mul-le-mul, pow-le-pow_right, div-le_self, div-le_of_le-mul}
+use Rattle.std.proofs.Math.Nat.{mul-le-mul, mul-le-mul_left, pow-le-pow_right, div-le_self, div-le_of_le-mul}
 use Rattle.std.specs.Prelude.{Option, Some, None, IfSome}
 use Rattle.std.proofs.lemmas.Bool.{cases_lt, lt-ltb, le-ltb}
 use Rattle.std.proofs.lemmas.Nat.{le-div}
@@ -64,8 +64,7 @@ quotient-le p f v r h = div-le_of_le-mul (f * v + r) (scaled p f v r h)
 one-le-quotient : (p f v c r : ℕ) → 1 ≤ f → v + c ≤ p → r ≤ c → 1 ≤ r → 1 ≤ p * f / (f * v + r)
 one-le-quotient p zero v c r h k l m = absurd (omega arith)
 one-le-quotient p (suc f) v c r h k l m =
-    let same : suc f ≤ suc f = omega arith in
-    let times : suc f * (v + c) ≤ suc f * p = mul-le-mul same k in
+    let times = mul-le-mul_left (suc f) k in
     le-div 1 (p * suc f) (suc f * v + r) (omega arith) (omega arith)
 
 -- so the value is one of the table

@@ -1,10 +1,11 @@
 -- The words outside the balls about the words of a code, counted by the words of the code that they are next to.
-use Rattle.std.proofs.Common.{◌≡◌, ℕ, suc, ◌+◌, ◌-◌, ◌*◌, ◌/◌, ◌^◌, ◌<◌, ◌≤◌, List, length, get_or, refl, sym, ap, ◌∙◌, inl, inr, arith}
+use Rattle.std.proofs.Common.{◌≡◌, ℕ, suc, ◌+◌, ◌-◌, ◌*◌, ◌/◌, ◌^◌, ◌<◌, ◌≤◌, List, length, get_or, sym, ap, ◌∙◌, inl, inr, arith}
 use Rattle.std.specs.Prelude.{Bool, true, false, cond, ◌==◌, ◌&&◌, nat_le, count_by, ◌⊎◌}
 use Rattle.std.specs.List.{All, sum_by}
 use Rattle.std.proofs.lemmas.Bool.{cases_eq, eq-eqb, cond-true}
 use Rattle.std.proofs.lemmas.Bool.Decides.{nat_tests}
-use Rattle.std.proofs.Math.Nat.{mul-le-mul}
+use Rattle.std.proofs.Math.Bool.{and-true, and-false}
+use Rattle.std.proofs.Math.Nat.{mul-le-mul_left}
 use Rattle.std.proofs.lemmas.List.Elements.{recursion_from_All}
 use Rattle.std.proofs.lemmas.List.Sums.{sum_by-le-sum_by}
 use Rattle.std.proofs.lemmas.Nat.{le-div}
@@ -49,20 +50,12 @@ next_to n e cs spread x long =
 next_outside : (n e : ℕ) (cs : List (List Bool)) → IsSpread n (suc (2 * e)) cs → (x : List Bool) → length x ≡ n → count_by (λ c. is_next_outside e cs c x) cs ≤ n / suc e * cond (near e cs x == 0) 1 0
 next_outside n e cs spread x long = by_cases (near e cs x == 0) (next_to n e cs spread x long)
   where
-    and_true : (b : Bool) → (b && true) ≡ b
-    and_true false = refl
-    and_true true = refl
-
-    and_false : (b : Bool) → (b && false) ≡ false
-    and_false false = refl
-    and_false true = refl
-
     by_cases : (b : Bool) → count_by (λ c. apart c x == suc e) cs ≤ n / suc e → count_by (λ c. apart c x == suc e && b) cs ≤ n / suc e * cond b 1 0
     by_cases true h =
-        let same = sum_by-congruence (λ c. cond (apart c x == suc e && true) 1 0) (λ c. cond (apart c x == suc e) 1 0) cs (λ c. ap (λ t. cond {A = ℕ} t 1 0) (and_true (apart c x == suc e))) in
+        let same = sum_by-congruence (λ c. cond (apart c x == suc e && true) 1 0) (λ c. cond (apart c x == suc e) 1 0) cs (λ c. ap (λ t. cond {A = ℕ} t 1 0) (and-true (apart c x == suc e))) in
         omega arith
     by_cases false h =
-        let none = count_by-none (λ c. apart c x == suc e && false) cs (λ k z l. and_false (apart _ x == suc e)) in
+        let none = count_by-none (λ c. apart c x == suc e && false) cs (λ k z l. and-false (apart _ x == suc e)) in
         omega arith
 
 -- the words next to c that are within distance e of another word c' of the code: there are some only where the distance
@@ -119,11 +112,9 @@ taken_in_all n e u bound cs spread c long others =
     let count = length-around c (suc (2 * e)) cs in
     let code = spread-even_distance n (suc (2 * e)) (suc (2 * e)) (around c (suc (2 * e)) cs) (omega arith) (spread-around n (suc (2 * e)) (suc (2 * e)) c cs long spread) in
     let few = bound (around c (suc (2 * e)) cs) code in
-    let times : ways * count_by (λ y. apart c y == suc (2 * e)) cs ≤ ways * u = mul-le-mul_left' ways (count_by (λ y. apart c y == suc (2 * e)) cs) u (omega arith) in
+    let few_of_them : count_by (λ y. apart c y == suc (2 * e)) cs ≤ u = omega arith in
+    let times : ways * count_by (λ y. apart c y == suc (2 * e)) cs ≤ ways * u = mul-le-mul_left ways few_of_them in
     omega arith
-  where
-    mul-le-mul_left' : (k a b : ℕ) → a ≤ b → k * a ≤ k * b
-    mul-le-mul_left' k a b h = let same : k ≤ k = omega arith in mul-le-mul same h
 
 -- at a word next to c: it is outside all balls, or some word of the code takes it
 outside_or_taken : (e : ℕ) (cs : List (List Bool)) (c x : List Bool) → cond (apart c x == suc e) 1 0 ≤ cond (is_next_outside e cs c x) 1 0 + count_by (λ y. lies_between c y (suc e) e x) cs
@@ -196,8 +187,7 @@ whole_count n e r cs spread least =
   where
     meet : (m f v r o p : ℕ) → m * v + o ≤ p → m * r ≤ f * o → m * (f * v + r) ≤ p * f
     meet m f v r o p h k =
-        let same : f ≤ f = omega arith in
-        let times : f * (m * v + o) ≤ f * p = mul-le-mul same h in
+        let times = mul-le-mul_left f h in
         omega arith
 
 -- the bound for a code of distance 2e + 1, where the words of weight 2e + 1 at distance 2e + 2 are at most u

@@ -1,6 +1,6 @@
 -- Bounds of codes of constant weight that rest on the weight alone.
 use Rattle.std.proofs.Common.{◌≡◌, ℕ, ◌-◌, ◌*◌, ◌/◌, ◌<◌, ◌≤◌, min, List, [], ◌∷◌, length, get_or, ap, sym, ◌∙◌, inl, inr, arith}
-use Rattle.std.specs.Prelude.{Bool, true, false, cond, ◌==◌, nat_le, count_by, Some}
+use Rattle.std.specs.Prelude.{Bool, cond, ◌==◌, nat_le, count_by, Some}
 use Rattle.std.proofs.lemmas.Bool.{cases_eq, cases_lt, eq-eqb, ne_eqb, cond-true, cond-false, lt-leb}
 use Rattle.std.proofs.lemmas.Nat.{le-div}
 use Rattle.ct_counting.specs.Binomials.{choose}
@@ -9,6 +9,7 @@ use Rattle.ct_counting.proofs.Sums.{sum_by-constant}
 use Rattle.ct_counting.proofs.DoubleCounting.{double_count, count_by-none}
 use Rattle.ct_counting.proofs.Words.{lengths-all_words, count_of_weight}
 use Rattle.ct_counting.proofs.Distances.{same_from_apart}
+use Rattle.ct_counting.proofs.Places.{ones-zeros}
 use Rattle.ct_counting.proofs.Spread.{IsSpreadOfWeight, IsWeightBound}
 use Rattle.ct_counting.proofs.Spheres.{ball_size, one_ball}
 use Rattle.ct_counting.proofs.Complements.{complement_bound}
@@ -76,13 +77,8 @@ weight_bound-none n d w h [] code = omega arith
 weight_bound-none n d w h (x ∷ cs) code =
     let long = code.spread.lengths 0 [] (omega arith) in
     let weight = code.weights 0 [] (omega arith) in
-    let most = ones-le-length x in
+    let most = ones-zeros x in
     absurd (omega arith)
-  where
-    ones-le-length : (x : List Bool) → ones x ≤ length x
-    ones-le-length [] = omega arith
-    ones-le-length (false ∷ x) = let ih = ones-le-length x in omega arith
-    ones-le-length (true ∷ x) = let ih = ones-le-length x in omega arith
 
 -- nor at more than 2(n - w)
 pub weight_bound-apart : (n d w : ℕ) → 2 * min w (n - w) < d → IsWeightBound n d w 1

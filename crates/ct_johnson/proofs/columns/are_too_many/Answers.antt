@@ -1,16 +1,13 @@
 -- The numbers stay small: as many ones at a place as there are words, at most.
 use Rattle.std.proofs.Common.{ℕ, ◌*◌, ◌/◌, ◌≤◌, arith}
-use Rattle.std.proofs.Math.Nat.{div-le_of_le-mul, mul-le-mul}
+use Rattle.std.proofs.Math.Nat.{div-le_of_le-mul, mul-le-mul, mul-le-mul_right}
 use Rattle.ct_words.specs.declared.limits.TheConstants.{MAX_N}
 use Rattle.ct_johnson.specs.declared.columns.TheConstants.{MAX_COUNTED}
 use Rattle.ct_johnson.proofs.columns.are_too_many.Goals as goal
 
 -- there are no more ones at a place than words
 each_within : (n w m : ℕ) → w ≤ n → w * m / n ≤ m
-each_within n w m h = div-le_of_le-mul n (scaled n w m h)
-  where
-    scaled : (n w m : ℕ) → w ≤ n → w * m ≤ n * m
-    scaled n w m h = let same : m ≤ m = omega arith in mul-le-mul h same
+each_within n w m h = div-le_of_le-mul n (mul-le-mul_right m h)
 
 -- so their pairs are few
 pairs_within : (n w m s : ℕ) → w ≤ n → m ≤ MAX_COUNTED → s ≤ MAX_COUNTED → w * m / n * s ≤ MAX_COUNTED * MAX_COUNTED
