@@ -2,3 +2,4 @@ pub mod PairLemmas
 pub mod EntryLemmas
 pub mod CheckLemmas
 pub mod BoundLemmas
+pub mod DigitCodes

@@ -20,6 +20,10 @@ IsEntry e = IsTrue (is_entry e)
 abbrev pub unrestricted : ℕ → ℕ → Entry
 unrestricted n d = record { n = n; d = d; w = None }
 
+-- the entry A(n,d,w), of constant weight w
+abbrev pub constant_weight : ℕ → ℕ → ℕ → Entry
+constant_weight n d w = record { n = n; d = d; w = Some w }
+
 -- the same weight, or none
 abbrev pub same_weight : Option ℕ → Option ℕ → Bool
 same_weight None None = true

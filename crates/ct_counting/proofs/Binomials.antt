@@ -148,3 +148,14 @@ one-le-volume n e = let first = sum_below-first (choose n) e in omega arith
 -- a ball has no more words than there are
 pub volume-le : (n e : ℕ) → volume n e ≤ 2 ^ n
 volume-le n e = row_part n (suc e)
+
+-- there is a way to take k of n things, where k ≤ n
+pub one-le-choose : (n k : ℕ) → k ≤ n → 1 ≤ choose n k
+one-le-choose n zero h = omega arith
+one-le-choose zero (suc k) h = absurd (omega arith)
+one-le-choose (suc n) (suc k) h = let a = one-le-choose n k (omega arith) in omega arith
+
+-- a binomial coefficient is at most half the power of two
+pub choose-le-half : (n k : ℕ) → choose (suc n) k ≤ 2 ^ n
+choose-le-half n zero = let part = row_part n 1 in omega arith
+choose-le-half n (suc k) = let part = row_part n (suc (suc k)) in omega arith

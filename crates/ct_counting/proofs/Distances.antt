@@ -57,3 +57,13 @@ apart_triangle (a ∷ x) (b ∷ y) (c ∷ z) e f =
     let ih = apart_triangle x y z (omega arith) (omega arith) in
     let heads = differ_triangle a b c in
     omega arith
+
+-- words of one length that differ nowhere are equal
+pub same_from_apart : (x y : List Bool) → length x ≡ length y → apart x y ≡ 0 → x ≡ y
+same_from_apart [] [] e h = refl
+same_from_apart [] (b ∷ y) e h = absurd (omega arith)
+same_from_apart (a ∷ x) [] e h = absurd (omega arith)
+same_from_apart (false ∷ x) (false ∷ y) e h = ap (λ z. false ∷ z) (same_from_apart x y (omega arith) (omega arith))
+same_from_apart (false ∷ x) (true ∷ y) e h = absurd (omega arith)
+same_from_apart (true ∷ x) (false ∷ y) e h = absurd (omega arith)
+same_from_apart (true ∷ x) (true ∷ y) e h = ap (λ z. true ∷ z) (same_from_apart x y (omega arith) (omega arith))

@@ -4,10 +4,10 @@ use Rattle.std.specs.Prelude.{Bool, true, false, cond, ◌==◌, nat_le, count_b
 use Rattle.std.specs.List.{sum_by, All, AllPairs}
 use Rattle.std.proofs.lemmas.Bool.{cases_Bool, cond-true, cond-false}
 use Rattle.std.proofs.lemmas.Bool.Decides.{nat_tests}
-use Rattle.std.proofs.lemmas.List.Elements.{All-head, All-tail}
+use Rattle.std.proofs.lemmas.List.Elements.{All-head, All-tail, recursion_from_All}
 use Rattle.std.proofs.lemmas.List.Sums.{sum_by-cons}
 use Rattle.ct_counting.specs.Sums.{sum_below}
-use Rattle.ct_counting.proofs.Sums.{sum_by-swap, sum_by-add, sum_by-congruence}
+use Rattle.ct_counting.proofs.Sums.{sum_by-swap, sum_by-add, sum_by-congruence, sum_by-le_within}
 use Rattle.ct_counting.proofs.Pairs.{AllPairs-head, AllPairs-tail}
 
 -- the pairs of a relation between two lists, counted from either list
@@ -58,4 +58,15 @@ count_by-le {X} f xs (suc e) =
     let same : sum_by within xs ≡ sum_by both xs = sum_by-congruence within both xs (λ x. le_or_next (f x) e) in
     let split = sum_by-add before at xs in
     let ih = count_by-le f xs e in
+    omega arith
+
+-- where each x is in the relation to at least f x of the list ys, and each y to at most g y of the list xs, the f x add
+-- up to at most the g y
+pub double_count : {X Y : Type 0} (r : X → Y → Bool) (f : X → ℕ) (g : Y → ℕ) (xs : List X) (ys : List Y) → All (λ x. f x ≤ count_by (r x) ys) xs → All (λ y. count_by (λ x. r x y) xs ≤ g y) ys → sum_by f xs ≤ sum_by g ys
+double_count {X} {Y} r f g xs ys least most =
+    let rows : X → ℕ = λ x. count_by (r x) ys in
+    let columns : Y → ℕ = λ y. count_by (λ x. r x y) xs in
+    let low = sum_by-le_within f rows xs (recursion_from_All (λ x. f x ≤ rows x) xs least) in
+    let high = sum_by-le_within columns g ys (recursion_from_All (λ y. columns y ≤ g y) ys most) in
+    let both = count_by-swap r xs ys in
     omega arith

@@ -1,6 +1,7 @@
 pub mod Sums
 pub mod Totals
 pub mod Pairs
+pub mod PairSums
 pub mod DoubleCounting
 pub mod Binomials
 pub mod Words
@@ -19,3 +20,12 @@ pub mod PairLists
 pub mod PlaceKinds
 pub mod KindMatchings
 pub mod Pairings
+pub mod Spread
+pub mod Places
+pub mod Parity
+pub mod Spheres
+pub mod Complements
+pub mod CommonOnes
+pub mod Translations
+pub mod Shortened
+pub mod Between

@@ -1,5 +1,8 @@
 -- Lists in which each element stands in a relation to each later one.
-use Rattle.std.proofs.Common.{suc, List, [], ◌∷◌, ◌++◌, map, arith}
+use Rattle.std.proofs.Common.{◌≡◌, ℕ, suc, ◌<◌, List, [], ◌∷◌, ◌++◌, map, take, length, get_or, length-take, subst, ap, ◌∙◌, inl, inr, arith}
+use Rattle.std.specs.Prelude.{◌⊎◌}
+use Rattle.std.proofs.lemmas.Bool.{cases_lt}
+use Rattle.std.proofs.lemmas.List.{get_or-take, get_or_default}
 use Rattle.std.specs.List.{All, AllPairs}
 use Rattle.std.proofs.lemmas.List.Elements.{All-append, All-map, All-head, All-tail}
 use Rattle.std.proofs.lemmas.List.Kept.{AllPairs-cons}
@@ -31,3 +34,27 @@ AllPairs-map R f (x ∷ xs) h =
 -- a relation that implies another
 pub AllPairs-weaker : {X : Type 0} (R S : X → X → Type 0) (xs : List X) → ((x y : X) → R x y → S x y) → AllPairs R xs → AllPairs S xs
 AllPairs-weaker R S xs f h = λ i j d l m. f _ _ (h i j d l m)
+
+-- a relation that implies another between elements of which something holds
+pub AllPairs-within : {X : Type 0} (P : X → Type 0) (R S : X → X → Type 0) (xs : List X) → ((x y : X) → P x → P y → R x y → S x y) → All P xs → AllPairs R xs → AllPairs S xs
+AllPairs-within P R S xs f each h = λ i j d l m. f _ _ (each i d (omega arith)) (each j d m) (h i j d l m)
+
+-- the first elements of a list
+pub AllPairs-take : {X : Type 0} (R : X → X → Type 0) (k : ℕ) (xs : List X) → AllPairs R xs → AllPairs R (take k xs)
+AllPairs-take R k xs h = λ i j d l m.
+    let long = length-take k xs in
+    let a = get_or-take k xs i d (omega arith) in
+    let b = get_or-take k xs j d (omega arith) in
+    rw (a, b) (h i j d l (omega arith))
+
+-- an element of such a list stands in the relation to each other one, where the relation goes both ways
+pub AllPairs-others : {X : Type 0} (R : X → X → Type 0) (xs : List X) → ((x y : X) → R x y → R y x) → AllPairs R xs → (i : ℕ) (d : X) → i < length xs → All (λ y. (get_or xs i d ≡ y) ⊎ R (get_or xs i d) y) xs
+AllPairs-others R xs turns h i d within = λ j e l.
+    let same = get_or_default xs j d e l in
+    elim (cases_lt i j) [
+      | inl before ↦ inr (subst (R (get_or xs i d)) same (h i j d before l))
+      | inr after ↦ elim (cases_lt j i) [
+        | inl less ↦ inr (subst (R (get_or xs i d)) same (turns (get_or xs j d) (get_or xs i d) (h j i d less within)))
+        | inr more ↦ let place : i ≡ j = omega arith in inl (ap (λ k. get_or xs k d) place ∙ same)
+      ]
+    ]

@@ -113,3 +113,11 @@ sum_below-le f n (suc k) =
     let e : n + suc k ≡ suc (n + k) = omega arith in
     let same = ap (sum_below f) e in
     omega arith
+
+-- terms that are at most u
+pub sum_below-bound : (f : ℕ → ℕ) (u k : ℕ) → ((j : ℕ) → j < k → f j ≤ u) → sum_below f k ≤ k * u
+sum_below-bound f u zero h = omega arith
+sum_below-bound f u (suc k) h =
+    let ih = sum_below-bound f u k (λ j l. h j (omega arith)) in
+    let last = h k (omega arith) in
+    omega arith

@@ -63,7 +63,7 @@ all_words-distinct (suc n) =
     (λ k d l. All-map (R (false ∷ _)) (λ w. true ∷ w) ws (λ k' d' l' same. cc)))
 
 -- the words of n + 1 digits that pass a test, by their first digit
-count_by-all_words : (p : List Bool → Bool) (n : ℕ) → count_by p (all_words (suc n)) ≡ count_by (λ w. p (false ∷ w)) (all_words n) + count_by (λ w. p (true ∷ w)) (all_words n)
+pub count_by-all_words : (p : List Bool → Bool) (n : ℕ) → count_by p (all_words (suc n)) ≡ count_by (λ w. p (false ∷ w)) (all_words n) + count_by (λ w. p (true ∷ w)) (all_words n)
 count_by-all_words p n =
     let term : List Bool → ℕ = λ w. cond (p w) 1 0 in
     let low = sum_by-map term (λ w. false ∷ w) (all_words n) in

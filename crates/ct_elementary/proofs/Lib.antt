@@ -1,9 +1,5 @@
-pub mod Spread
-pub mod Spheres
+pub mod FarWords
 pub mod Entries
-pub mod PairSums
-pub mod Places
 pub mod Averages
 pub mod Halves
-pub mod Parity
 pub mod PlotkinRule

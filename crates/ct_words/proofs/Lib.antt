@@ -6,3 +6,4 @@ pub mod Characters
 pub mod PairKinds
 pub mod PairProducts
 pub mod AllWords
+pub mod DigitValues

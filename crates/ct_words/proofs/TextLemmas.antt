@@ -28,13 +28,13 @@ get_or-tabulate f (suc n) zero h = refl
 get_or-tabulate f (suc n) (suc p) h = get_or-tabulate (λ q. f (suc q)) n p (omega arith)
 
 -- the first digit of a word
-first_digit : (m c v : ℕ) → c < 2 → v < 2 ^ m → digit (suc m) (c * 2 ^ m + v) 0 ≡ c
+pub first_digit : (m c v : ℕ) → c < 2 → v < 2 ^ m → digit (suc m) (c * 2 ^ m + v) 0 ≡ c
 first_digit m c v small below =
     let place : suc m - 1 - 0 ≡ m = omega arith in
     rw place (ap (λ q. q % 2) (div-mul-add c (2 ^ m) v below) ∙ mod-eq_of_lt small)
 
 -- the digits after the first are those of the rest
-next_digit : (m c v p : ℕ) → p < m → digit (suc m) (c * 2 ^ m + v) (suc p) ≡ digit m v p
+pub next_digit : (m c v p : ℕ) → p < m → digit (suc m) (c * 2 ^ m + v) (suc p) ≡ digit m v p
 next_digit m c v p h =
     let place : suc m - 1 - suc p ≡ m - 1 - p = omega arith in
     rw place (bit_at_cat_low c m v (m - 1 - p) (omega arith))

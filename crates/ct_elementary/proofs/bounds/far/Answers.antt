@@ -1,5 +1,6 @@
 -- Two words differ at no more than n places.
-use Rattle.ct_elementary.proofs.Spread.{bound_from_spread, spread_far}
+use Rattle.ct_codes.proofs.DigitCodes.{bound_from_spread}
+use Rattle.ct_elementary.proofs.FarWords.{spread_far}
 use Rattle.ct_elementary.proofs.bounds.far.Goals as goal
 
 pub returns-then-n-d-clause-sound : goal.returns-then-n-d-clause-sound

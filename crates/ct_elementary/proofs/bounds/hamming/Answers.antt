@@ -7,8 +7,8 @@ use Rattle.ct_counting.proofs.Binomials.{one-le-volume, volume-le}
 use Rattle.ct_words.specs.declared.limits.TheConstants.{MAX_N, MAX_BOUND}
 use Rattle.ct_elementary.specs.Bounds.{hamming_value}
 use Rattle.ct_elementary.proofs.Entries.{IsWithin-from_entry}
-use Rattle.ct_elementary.proofs.Spread.{bound_from_spread}
-use Rattle.ct_elementary.proofs.Spheres.{spread_hamming}
+use Rattle.ct_codes.proofs.DigitCodes.{bound_from_spread}
+use Rattle.ct_counting.proofs.Spheres.{spread_hamming}
 use Rattle.ct_elementary.proofs.bounds.hamming.Goals as goal
 
 -- the quotient that the code computes is the bound

@@ -1,27 +1,33 @@
 -- Hamming's bound: the balls about the words of a code are disjoint parts of all words.
 use Rattle.std.proofs.Common.{◌≡◌, ℕ, ◌*◌, ◌-◌, ◌/◌, ◌^◌, ◌<◌, ◌≤◌, List, length, get_or, subst, arith}
-use Rattle.std.specs.Prelude.{Bool, nat_le, count_by}
+use Rattle.std.specs.Prelude.{Bool, ◌==◌, nat_le, count_by}
 use Rattle.std.specs.List.{sum_by}
 use Rattle.std.proofs.lemmas.Bool.{leb-true, lt-leb}
 use Rattle.std.proofs.lemmas.List.Elements.{recursion_from_All}
 use Rattle.std.proofs.lemmas.Nat.{le-div}
 use Rattle.ct_counting.proofs.Binomials.{one-le-volume}
-use Rattle.ct_counting.specs.Binomials.{volume}
+use Rattle.ct_counting.specs.Binomials.{choose, volume}
 use Rattle.ct_counting.specs.Words.{all_words, apart}
 use Rattle.ct_counting.proofs.Sums.{sum_by-congruence_within, sum_by-le_within, sum_by-constant}
 use Rattle.ct_counting.proofs.DoubleCounting.{count_by-swap, count_by-le_one}
 use Rattle.ct_counting.proofs.Distances.{apart_symmetric, apart_triangle}
-use Rattle.ct_counting.proofs.Words.{length-all_words, lengths-all_words, count_in_ball}
-use Rattle.ct_elementary.proofs.Spread.{IsSpread}
+use Rattle.ct_counting.proofs.Words.{length-all_words, lengths-all_words, count_at_distance, count_in_ball}
+use Rattle.ct_counting.proofs.Spread.{IsSpread}
 
 -- the words in a ball about a word of n digits
-ball_size : (n e : ℕ) (c : List Bool) → length c ≡ n → count_by (λ x. nat_le (apart c x) e) (all_words n) ≡ volume n e
+pub ball_size : (n e : ℕ) (c : List Bool) → length c ≡ n → count_by (λ x. nat_le (apart c x) e) (all_words n) ≡ volume n e
 ball_size n e c h =
     let P : ℕ → Type 0 = λ m. count_by (λ x. nat_le (apart c x) e) (all_words m) ≡ volume m e in
     subst P h (count_in_ball c e)
 
+-- the words at a distance from a word of n digits
+pub sphere_size : (n j : ℕ) (c : List Bool) → length c ≡ n → count_by (λ x. apart c x == j) (all_words n) ≡ choose n j
+sphere_size n j c h =
+    let P : ℕ → Type 0 = λ m. count_by (λ x. apart c x == j) (all_words m) ≡ choose m j in
+    subst P h (count_at_distance c j)
+
 -- a word lies in at most one of the balls
-one_ball : (n d e : ℕ) (cs : List (List Bool)) → 2 * e < d → IsSpread n d cs → (x : List Bool) → length x ≡ n → count_by (λ c. nat_le (apart c x) e) cs ≤ 1
+pub one_ball : (n d e : ℕ) (cs : List (List Bool)) → 2 * e < d → IsSpread n d cs → (x : List Bool) → length x ≡ n → count_by (λ c. nat_le (apart c x) e) cs ≤ 1
 one_ball n d e cs small spread x long =
     count_by-le_one (λ c. nat_le (apart c x) e) cs
     (λ i j z l m first.

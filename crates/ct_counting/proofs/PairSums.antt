@@ -1,8 +1,8 @@
 -- Sums over all ordered pairs of elements of a list, an element with itself too.
 use Rattle.std.proofs.Common.{◌≡◌, ℕ, ◌+◌, ◌*◌, ◌≤◌, List, [], ◌∷◌, map, length, ◌∙◌, arith}
 use Rattle.std.specs.List.{All, AllPairs, sum_by}
-use Rattle.std.proofs.lemmas.List.Elements.{recursion_from_All}
-use Rattle.std.proofs.lemmas.List.Sums.{sum_by-cons}
+use Rattle.std.proofs.lemmas.List.Elements.{All-head, All-tail, recursion_from_All}
+use Rattle.std.proofs.lemmas.List.Sums.{sum_by-cons, sum_by-le}
 use Rattle.ct_counting.proofs.Sums.{sum_by-congruence, sum_by-congruence_within, sum_by-le_within, sum_by-add, sum_by-constant, sum_by-map}
 use Rattle.ct_counting.proofs.Pairs.{AllPairs-head, AllPairs-tail}
 
@@ -58,6 +58,18 @@ pair_sum-ge {X} d f (x ∷ xs) flips h =
     let R : X → X → Type 0 = λ a b. d ≤ f a b in
     let ih = pair_sum-ge d f xs flips (AllPairs-tail R x xs h) in
     let after = sum_by-ge d (f x) xs (AllPairs-head R x xs h) in
+    let turned = sum_by-congruence (f x) (λ y. f y x) xs (λ y. flips x y) in
+    let more = pair_sum-cons f x xs in
+    omega arith
+
+-- where each element with itself gives at most w, and each two elements at most b
+pub pair_sum-le : {X : Type 0} (b w : ℕ) (f : X → X → ℕ) (xs : List X) → ((x y : X) → f x y ≡ f y x) → All (λ x. f x x ≤ w) xs → AllPairs (λ x y. f x y ≤ b) xs → pair_sum f xs + b * length xs ≤ b * (length xs * length xs) + w * length xs
+pair_sum-le b w f [] flips own h = omega arith
+pair_sum-le {X} b w f (x ∷ xs) flips own h =
+    let R : X → X → Type 0 = λ y z. f y z ≤ b in
+    let ih = pair_sum-le b w f xs flips (All-tail (λ y. f y y ≤ w) x xs own) (AllPairs-tail R x xs h) in
+    let self = All-head (λ y. f y y ≤ w) x xs own in
+    let after = sum_by-le (f x) b xs (AllPairs-head R x xs h) in
     let turned = sum_by-congruence (f x) (λ y. f y x) xs (λ y. flips x y) in
     let more = pair_sum-cons f x xs in
     omega arith

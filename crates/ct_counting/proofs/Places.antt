@@ -7,7 +7,7 @@ use Rattle.std.proofs.lemmas.List.Elements.{All-map}
 use Rattle.std.proofs.lemmas.List.Sums.{sum_by-cons}
 use Rattle.ct_counting.specs.Words.{apart, differ, ones}
 use Rattle.ct_counting.proofs.Sums.{sum_by-zero, sum_by-congruence}
-use Rattle.ct_elementary.proofs.PairSums.{pair_sum, pair_sum-cons, pair_sum-map, pair_sum-add, pair_sum-congruence_within}
+use Rattle.ct_counting.proofs.PairSums.{pair_sum, pair_sum-cons, pair_sum-map, pair_sum-add, pair_sum-congruence_within}
 
 -- 1 where two digits differ, and 0 where they are equal
 abbrev pub difference : Bool → Bool → ℕ
@@ -76,17 +76,17 @@ apart-first m [] y h k = absurd (omega arith)
 apart-first m (a ∷ x) [] h k = absurd (omega arith)
 apart-first m (a ∷ x) (b ∷ y) h k = refl
 
-other_length : (m : ℕ) (x : List Bool) → length x ≡ suc m → length (other_digits x) ≡ m
+pub other_length : (m : ℕ) (x : List Bool) → length x ≡ suc m → length (other_digits x) ≡ m
 other_length m [] h = absurd (omega arith)
 other_length m (a ∷ x) h = omega arith
 
 -- empty words differ nowhere
-apart-empty : (x y : List Bool) → length x ≡ 0 → length y ≡ 0 → apart x y ≡ 0
+pub apart-empty : (x y : List Bool) → length x ≡ 0 → length y ≡ 0 → apart x y ≡ 0
 apart-empty [] y h k = refl
 apart-empty (a ∷ x) y h k = absurd (omega arith)
 
 -- nothing over all pairs
-pair_sum-nothing : (cs : List (List Bool)) → pair_sum (λ x y. 0) cs ≡ 0
+pub pair_sum-nothing : (cs : List (List Bool)) → pair_sum (λ x y. 0) cs ≡ 0
 pair_sum-nothing cs =
     sum_by-congruence (λ x. sum_by (λ y. 0) cs) (λ x. 0) cs (λ x. sum_by-zero cs) ∙ sum_by-zero cs
 

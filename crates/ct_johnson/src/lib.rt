@@ -1,0 +1,17 @@
+//! Johnson's upper bounds: codes of constant weight bounded by counting places and pairs of words both ways, and codes
+//! without weight by codes of constant weight.
+#![tactic(auto)]
+
+mod cap;
+mod columns;
+mod laws;
+mod places;
+mod unrestricted;
+
+pub use columns::{MAX_COUNTED, column_count};
+pub use laws::{bounds_by_weight, bounds_from_other_entries};
+pub use places::{drop_one, drop_zero, split};
+pub use unrestricted::{averaging, johnson};
+
+#[cfg(test)]
+mod tests;
