@@ -28,7 +28,7 @@ type Line = (&'static [u8], &'static [u8]);
 
 // Lines that ask for nothing, and lines that ask for bounds: of the table, outside it, and with words that are no
 // numbers.
-const SHOW_LINES: [Line; 36] = [
+const SHOW_LINES: [Line; 43] = [
     (b"", b""),
     (b"   ", b""),
     (b"\r", b""),
@@ -58,6 +58,13 @@ const SHOW_LINES: [Line; 36] = [
     (b"show 18446744073709551626 6", b"refused command"),
     (b"show 100000000000000000010 6", b"refused command"),
     (b"show 8 4 18446744073709551616", b"refused command"),
+    (b"ledger", b"pieces 0"),
+    (b" ledger \r", b"pieces 0"),
+    (b"dump", b"# dump of 0 pieces"),
+    (b"withdraw hexa", b"refused nosuch hexa"),
+    (b"withdraw Hexa", b"refused command"),
+    (b"withdraw", b"refused command"),
+    (b"withdraw a b", b"refused command"),
     (b"show 28 x", b"refused command"),
     (b"show 007 4", b"refused command"),
     (b"show 00 4", b"refused command"),
@@ -68,7 +75,7 @@ const SHOW_LINES: [Line; 36] = [
 ];
 
 // Lines that are refused as commands: each is like one that isn't.
-const OTHER_LINES: [&[u8]; 32] = [
+const OTHER_LINES: [&[u8]; 33] = [
     b"show",
     b"show 10",
     b"show 10 6 3 1",
@@ -94,9 +101,10 @@ const OTHER_LINES: [&[u8]; 32] = [
     b"Submit a",
     b"end",
     b"end\r",
-    b"withdraw a",
-    b"ledger",
-    b"dump",
+    b"Ledger",
+    b"ledger 1",
+    b"dump a",
+    b"dumps",
     b"table 6",
     b"explain lower 10 6",
     b"list 10 6",
@@ -140,60 +148,115 @@ const DOCUMENTS: [Line; 24] = [
     (b"kind='words'\nn=10\nd=6\nwords=[]", b"refused size 0"),
     (
         b"kind='words'\nn=10\nd=6\nw=5\nwords=['0000000000']",
-        b"refused kind",
+        b"refused unknown",
     ),
     (
         b"kind='words'\nn=10\nd=6\nwords=['00000000a0','1111100000']",
-        b"refused kind",
+        b"refused digits 0",
     ),
     (
         b"kind='words'\nn=10\nd=6\nwords=['000000000']",
-        b"refused kind",
+        b"refused digits 0",
     ),
-    (b"kind='words'\nd=6\nwords=['0000000000']", b"refused kind"),
+    (
+        b"kind='words'\nd=6\nwords=['0000000000']",
+        b"refused field n",
+    ),
     (
         b"kind='words'\nn=10\nd=6\nwords=['0000000000']\ncolour=1",
-        b"refused kind",
+        b"refused unknown",
     ),
-    (b"kind='words'\nn=29\nd=6\nwords=[]", b"refused kind"),
-    (b"kind='words'\nn=10\nd=2\nwords=[]", b"refused kind"),
+    (b"kind='words'\nn=29\nd=6\nwords=[]", b"refused field n"),
+    (b"kind='words'\nn=10\nd=2\nwords=[]", b"refused field d"),
     (
         b"kind='words'\nn=9223372036854775807\nd=6\nwords=[]",
-        b"refused kind",
+        b"refused field n",
     ),
     (
         b"kind='words'\nn=9223372036854775808\nd=6\nwords=[]",
-        b"refused kind",
+        b"refused toml",
     ),
     (
         b"kind='words'\nn=-9223372036854775809\nd=6\nwords=[]",
-        b"refused kind",
+        b"refused toml",
     ),
     (b"kind = \"oracle\"", b"refused kind"),
-    (b"kind =", b"refused kind"),
+    (b"kind =", b"refused toml"),
     (b"", b"refused kind"),
     (
         b"kind='words'\nn=3\nd=3\nwords=['000'] # \xff",
-        b"refused kind",
+        b"refused toml",
     ),
-    (b"kind='words'\nn=3\nd=3\nwords=['000']\r", b"refused kind"),
+    (b"kind='words'\nn=3\nd=3\nwords=['000']\r", b"refused toml"),
 ];
 
 // A document of two words, and the line that ends it.
 const TWO_WORDS: &[u8] = b"kind='words'\nn=3\nd=3\nwords=['000','111']\nend\n";
 
 // Whole sessions, in which `@` stands for `TWO_WORDS`: the input, the replies, and the status.
-const SESSIONS: [(&str, &str, Status); 23] = [
+const SESSIONS: [(&str, &str, Status); 33] = [
+    (
+        "submit a lines 4\nkind='words'\nn=3\nd=3\nwords=['000','111']\nledger\n",
+        "accepted a size 2\na words 3 3 size 2\npieces 1\n",
+        Status::Done,
+    ),
+    (
+        "submit a lines 5\nkind='words'\nn=3\nd=3\nwords=['000','111']\n",
+        "refused cut\n",
+        Status::Refused,
+    ),
+    (
+        "submit A lines 2\nend\nshow 3 3\nshow 3 3\n",
+        "refused command\n1 <= A(3,3) <= 8\n",
+        Status::Refused,
+    ),
+    (
+        "submit a lines 0\nend\n",
+        "refused command\n",
+        Status::Refused,
+    ),
+    (
+        "submit a lines 01\nend\n",
+        "refused command\n",
+        Status::Refused,
+    ),
+    (
+        "submit a line 1\nend\n",
+        "refused command\n",
+        Status::Refused,
+    ),
+    (
+        "submit a\n@withdraw b\nshow 3 3\nwithdraw a\nshow 3 3\nledger\nwithdraw a\n",
+        "accepted a size 2\nrefused nosuch b\n2 <= A(3,3) <= 8\nwithdrawn a\n1 <= A(3,3) <= 8\npieces 0\nrefused nosuch a\n",
+        Status::Refused,
+    ),
+    (
+        "submit a\n@submit b\n@submit c\n@withdraw b\nsubmit b\n@ledger\n",
+        "accepted a size 2\naccepted b size 2\naccepted c size 2\nwithdrawn b\naccepted b size 2\n\
+        a words 3 3 size 2\nc words 3 3 size 2\nb words 3 3 size 2\npieces 3\n",
+        Status::Done,
+    ),
+    (
+        "submit refused\n@ledger\n",
+        "accepted refused size 2\nrefused words 3 3 size 2\npieces 1\n",
+        Status::Done,
+    ),
+    (
+        "submit a\n@submit b\nkind='words'\nn=3\nd=4\nwords=['010']\nend\r\ndump\n",
+        "accepted a size 2\naccepted b size 1\n# dump of 2 pieces\nsubmit a lines 4\nkind='words'\nn=3\nd=3\nwords=['000','111']\n\
+        submit b lines 4\nkind='words'\nn=3\nd=4\nwords=['010']\n",
+        Status::Done,
+    ),
     ("", "", Status::Done),
     ("\n\n", "", Status::Done),
     ("show 3 3", "1 <= A(3,3) <= 8\n", Status::Done),
     (
-        "show 3 3\nledger",
+        "show 3 3\ntable 3",
         "1 <= A(3,3) <= 8\nrefused command\n",
         Status::Refused,
     ),
     (
-        "ledger\nshow 3 3\n",
+        "table 3\nshow 3 3\n",
         "refused command\n1 <= A(3,3) <= 8\n",
         Status::Refused,
     ),
@@ -223,7 +286,7 @@ const SESSIONS: [(&str, &str, Status); 23] = [
     ),
     (
         "submit a lines 1\n@show 3 3\n",
-        "refused command\n1 <= A(3,3) <= 8\n",
+        "refused field n\nrefused command\nrefused command\nrefused command\nrefused command\n1 <= A(3,3) <= 8\n",
         Status::Refused,
     ),
     (
@@ -283,7 +346,7 @@ const SESSIONS: [(&str, &str, Status); 23] = [
     ),
     (
         "submit a\n end\nend \nEND\nend\r\r\nend\nshow 3 3",
-        "refused kind\n1 <= A(3,3) <= 8\n",
+        "refused toml\n1 <= A(3,3) <= 8\n",
         Status::Refused,
     ),
     (
@@ -479,6 +542,88 @@ fn faults_of_sources_and_sinks_end_the_run(rt: HostRuntime) -> Result<(), Fail> 
     let mut sink = MemSink::new(alloc, 4096, vec![in alloc; 0]?, 16)?;
     assert_eq!(rt; run(alloc, &[], &mut source, &mut sink), Status::WriteFault);
     assert!(rt; sink.bytes.is_empty());
+    Ok(())
+}
+
+/// The statuses of the program's ends, and their numbers.
+const NUMBERS: [(Status, u8); 7] = [
+    (Status::Done, 0),
+    (Status::Refused, 1),
+    (Status::Usage, 2),
+    (Status::ReadFault, 3),
+    (Status::WriteFault, 4),
+    (Status::TooLong, 5),
+    (Status::Memory, 6),
+];
+
+#[test]
+fn numbers_of_the_statuses(rt: HostRuntime) {
+    for (status, number) in NUMBERS {
+        assert_eq!(rt; status.number(), number, "{status:?}");
+    }
+}
+
+#[test]
+fn replies_are_written_before_the_source_is_read_again(rt: HostRuntime) -> Result<(), Fail> {
+    let alloc = rt.alloc();
+    let words = ["session".to_string(alloc)?];
+    let input = b"show 3 3\nshow 4 3\nshow 5".as_slice();
+    let written = [0, 0, 17, 17, 35, 35];
+    for failing in 0..6u32 {
+        let mut source = MemSource::new(input.to_vec(alloc)?, vec![in alloc; failing]?, 5);
+        let mut sink = MemSink::new(alloc, 4096, Vec::new(alloc), 4096)?;
+        let status = run(alloc, &words, &mut source, &mut sink);
+        assert_eq!(rt; status, Status::ReadFault, "at call {failing}");
+        assert_eq!(rt;
+            sink.bytes.len(),
+            written[failing as usize],
+            "at call {failing}"
+        );
+    }
+    Ok(())
+}
+
+#[test]
+fn a_dump_leads_to_the_same_ledger(rt: HostRuntime) -> Result<(), Fail> {
+    let alloc = rt.alloc();
+    let words = ["session".to_string(alloc)?];
+    let mut input = SIX_WORDS.to_vec(alloc)?;
+    input.extend_from_slice(b"submit two\n")?;
+    input.extend_from_slice(TWO_WORDS)?;
+    input.extend_from_slice(b"withdraw hexa\nsubmit hexa\n")?;
+    input.extend_from_slice(TWO_WORDS)?;
+    let (_, first) = run_in_pieces(alloc, &words, &input, 7)?;
+    input.extend_from_slice(b"dump\n")?;
+    let (status, all) = run_in_pieces(alloc, &words, &input, 7)?;
+    assert_eq!(rt; status, Status::Done);
+    let mut dump = Vec::from_slice(alloc, &all[first.len().min(all.len())..])?;
+    let accepted = b"accepted two size 2\naccepted hexa size 2\n".as_slice();
+    assert_session(&rt, alloc, &dump, accepted, Status::Done)?;
+
+    let mut again = accepted.to_vec(alloc)?;
+    again.extend_from_slice(&dump)?;
+    dump.extend_from_slice(b"dump\n")?;
+    assert_session(&rt, alloc, &dump, &again, Status::Done)?;
+    Ok(())
+}
+
+#[test]
+fn a_thousand_pieces_are_full(rt: HostRuntime) -> Result<(), Fail> {
+    let alloc = rt.alloc();
+    let words = ["session".to_string(alloc)?];
+    let mut input = Vec::new(alloc);
+    for i in 0..1000u32 {
+        input.extend_from_slice(format!(in alloc;
+            "submit p{i}\nkind='words'\nn=3\nd=3\nwords=['000']\nend\n"
+        )?.as_bytes())?;
+    }
+    input.extend_from_slice(b"submit z\nend\nwithdraw p7\nsubmit z\nend\nshow 3 3\n")?;
+    let mut source = MemSource::new(input, Vec::new(alloc), 4096);
+    let mut sink = MemSink::new(alloc, 65_536, Vec::new(alloc), 4096)?;
+    assert_eq!(rt; run(alloc, &words, &mut source, &mut sink), Status::Refused);
+    let last =
+        b"\nrefused full pieces 1000\nwithdrawn p7\nrefused kind\n1 <= A(3,3) <= 8\n".as_slice();
+    assert!(rt; sink.bytes.ends_with(last));
     Ok(())
 }
 

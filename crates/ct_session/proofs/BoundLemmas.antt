@@ -7,6 +7,7 @@ use Rattle.std.proofs.lemmas.Bool.Decides.{leb_tells}
 use Rattle.std.proofs.lemmas.List.Elements.{recursion_from_All, All-from_recursion, All-contains_itself, All-contains}
 use Rattle.ct_words.specs.declared.limits.TheConstants.{MAX_BOUND}
 use Rattle.ct_codes.specs.declared.entry.Entry.{Entry}
+use Rattle.ct_codes.specs.declared.claim.Side.{Side}
 use Rattle.ct_codes.specs.declared.claim.Side.TheVariants.{Lower, Upper}
 use Rattle.ct_codes.specs.Code.{IsTrueLower, IsTrueUpper}
 use Rattle.ct_codes.specs.Entry.{IsEntry, same_entry}
@@ -92,3 +93,8 @@ upper_shown pieces e entry =
       best = record { given = refl; none_better = λ u given. omega (arith, given) };
       truth = record { entry = entry; range = (omega (arith, some, cap), omega (arith, some, cap)); truth = λ words code. let size = code_size-le e.n e.d e.w words code in omega (arith, size, cap) };
     }
+
+-- each side of an entry of the table has a best bound, which is true
+pub shown : (pieces : List PieceValue) (side : Side) (e : Entry) → IsEntry e → All HasTrueSize pieces → (v : ℕ) × IsShownBound pieces side e v
+shown pieces Lower e entry h = (fold max 1 (sizes_at e pieces), lower_shown pieces e entry h)
+shown pieces Upper e entry h = (min (2 ^ e.n) MAX_BOUND, upper_shown pieces e entry)

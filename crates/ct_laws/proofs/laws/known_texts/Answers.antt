@@ -1,0 +1,80 @@
+use Rattle.std.proofs.Common.{refl}
+use Rattle.std.specs.Fmt.{digits}
+use Rattle.ct_session.specs.Text.{reply_text}
+use Rattle.ct_laws.proofs.laws.known_texts.Goals as goal
+
+pub returns-clause-bounds : goal.returns-clause-bounds
+unfolding reply_text digits
+returns-clause-bounds c = refl
+
+pub returns-clause-value : goal.returns-clause-value
+unfolding reply_text digits
+returns-clause-value c = refl
+
+pub returns-clause-cut : goal.returns-clause-cut
+unfolding reply_text digits
+returns-clause-cut c = refl
+
+pub returns-clause-command : goal.returns-clause-command
+unfolding reply_text digits
+returns-clause-command c = refl
+
+pub returns-clause-entry : goal.returns-clause-entry
+unfolding reply_text digits
+returns-clause-entry c = refl
+
+pub returns-clause-taken : goal.returns-clause-taken
+unfolding reply_text digits
+returns-clause-taken c = refl
+
+pub returns-clause-full_pieces : goal.returns-clause-full_pieces
+unfolding reply_text digits
+returns-clause-full_pieces c = refl
+
+pub returns-clause-full_words : goal.returns-clause-full_words
+unfolding reply_text digits
+returns-clause-full_words c = refl
+
+pub returns-clause-bytes : goal.returns-clause-bytes
+unfolding reply_text digits
+returns-clause-bytes c = refl
+
+pub returns-clause-toml : goal.returns-clause-toml
+unfolding reply_text digits
+returns-clause-toml c = refl
+
+pub returns-clause-kind : goal.returns-clause-kind
+unfolding reply_text digits
+returns-clause-kind c = refl
+
+pub returns-clause-unknown : goal.returns-clause-unknown
+unfolding reply_text digits
+returns-clause-unknown c = refl
+
+pub returns-clause-digits : goal.returns-clause-digits
+unfolding reply_text digits
+returns-clause-digits c = refl
+
+pub returns-clause-size : goal.returns-clause-size
+unfolding reply_text digits
+returns-clause-size c = refl
+
+pub returns-clause-weight : goal.returns-clause-weight
+unfolding reply_text digits
+returns-clause-weight c = refl
+
+pub returns-clause-repeated : goal.returns-clause-repeated
+unfolding reply_text digits
+returns-clause-repeated c = refl
+
+pub returns-clause-close : goal.returns-clause-close
+unfolding reply_text digits
+returns-clause-close c = refl
+
+pub returns-clause-nosuch : goal.returns-clause-nosuch
+unfolding reply_text digits
+returns-clause-nosuch c = refl
+
+pub returns-clause-inuse : goal.returns-clause-inuse
+unfolding reply_text digits
+returns-clause-inuse c = refl

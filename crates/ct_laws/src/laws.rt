@@ -1,0 +1,57 @@
+//! Sessions whose output is known, and texts of replies.
+
+ghost use Rattle.std.specs.Prelude.{◌≡◌, [], Some, None, false, true, codes};
+ghost use Rattle.ct_codes.specs.declared.fault.CodeFault.TheVariants as code;
+ghost use Rattle.ct_files.specs.declared.fault.FileFault.TheVariants as file;
+ghost use Rattle.ct_ledger.specs.declared.fault.SubmitFault.TheVariants as submit;
+ghost use Rattle.ct_ledger.specs.declared.fault.WithdrawFault.TheVariants as withdraw;
+ghost use Rattle.ct_session.specs.Run.{IsRun};
+ghost use Rattle.ct_session.specs.Text.{reply_text};
+ghost use Rattle.ct_session.specs.declared.reply.Reply.TheVariants.{Shown, Refused};
+ghost use Rattle.ct_session.specs.declared.reply.Refusal.TheVariants as refusal;
+ghost use Rattle.ct_laws.specs.Examples.{six_words, close_words, repeated_words, no_words};
+
+/// Inputs whose run is known: the empty one, an entry of the table and one outside it, a submission that is cut off, and the lists of
+/// no pieces.
+pub fn known_runs()
+    ensures empty { IsRun [] [] false }
+    ensures shown { IsRun (codes "show 10 6\n") (codes "1 <= A(10,6) <= 1024\n") false }
+    ensures outside { IsRun (codes "show 28 2\n") (codes "refused entry\n") true }
+    ensures cut { IsRun (codes "submit a\nkind = \"words\"") (codes "refused cut\n") true }
+    ensures ledger { IsRun (codes "ledger\n") (codes "pieces 0\n") false }
+    ensures dump { IsRun (codes "dump\n") (codes "# dump of 0 pieces\n") false }
+    ensures withdraw { IsRun (codes "withdraw hexa\n") (codes "refused nosuch hexa\n") true }
+{}
+
+/// Sessions with a submission whose run is known: six words that are a code, and words that are too close, repeated and none.
+pub fn known_submissions()
+    ensures accepted { IsRun six_words (codes "accepted hexa size 6\n6 <= A(10,6) <= 1024\n") false }
+    ensures close { IsRun close_words (codes "refused close 0 1 5\n") true }
+    ensures repeated { IsRun repeated_words (codes "refused repeated 0 1\n") true }
+    ensures empty { IsRun no_words (codes "refused size 0\n") true }
+{}
+
+/// Texts of replies that are known, those of every refusal among them.
+pub fn known_texts()
+    ensures bounds { reply_text (Shown (record { entry = record { n = 10; d = 6; w = None }; lower = 6; upper = 1024 }))
+        ≡ codes "6 <= A(10,6) <= 1024\n" }
+    ensures value { reply_text (Shown (record { entry = record { n = 24; d = 8; w = Some 8 }; lower = 759; upper = 759 }))
+        ≡ codes "A(24,8,8) = 759\n" }
+    ensures cut { reply_text (Refused refusal.CutOff) ≡ codes "refused cut\n" }
+    ensures command { reply_text (Refused refusal.NoCommand) ≡ codes "refused command\n" }
+    ensures entry { reply_text (Refused refusal.NoEntry) ≡ codes "refused entry\n" }
+    ensures taken { reply_text (Refused (refusal.Submission submit.Taken)) ≡ codes "refused taken\n" }
+    ensures full_pieces { reply_text (Refused (refusal.Submission (submit.FullPieces 1000))) ≡ codes "refused full pieces 1000\n" }
+    ensures full_words { reply_text (Refused (refusal.Submission (submit.FullWords 1003533))) ≡ codes "refused full words 1003533\n" }
+    ensures bytes { reply_text (Refused (refusal.Submission (submit.File (file.Bytes 4194305)))) ≡ codes "refused bytes 4194305\n" }
+    ensures toml { reply_text (Refused (refusal.Submission (submit.File file.NotToml))) ≡ codes "refused toml\n" }
+    ensures kind { reply_text (Refused (refusal.Submission (submit.File file.Kind))) ≡ codes "refused kind\n" }
+    ensures unknown { reply_text (Refused (refusal.Submission (submit.File file.Unknown))) ≡ codes "refused unknown\n" }
+    ensures digits { reply_text (Refused (refusal.Submission (submit.File (file.Digits 3)))) ≡ codes "refused digits 3\n" }
+    ensures size { reply_text (Refused (refusal.Submission (submit.File (file.Size 16385)))) ≡ codes "refused size 16385\n" }
+    ensures weight { reply_text (Refused (refusal.Submission (submit.Code (code.Weight 2)))) ≡ codes "refused weight 2\n" }
+    ensures repeated { reply_text (Refused (refusal.Submission (submit.Code (code.Repeated 0 1)))) ≡ codes "refused repeated 0 1\n" }
+    ensures close { reply_text (Refused (refusal.Submission (submit.Code (code.Close 0 32 6)))) ≡ codes "refused close 0 32 6\n" }
+    ensures nosuch { reply_text (Refused (refusal.Withdrawal (codes "hexa") withdraw.NoSuch)) ≡ codes "refused nosuch hexa\n" }
+    ensures inuse { reply_text (Refused (refusal.Withdrawal (codes "golay") (withdraw.InUse (codes "oct")))) ≡ codes "refused inuse oct\n" }
+{}

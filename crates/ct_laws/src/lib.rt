@@ -1,0 +1,7 @@
+//! Worked sessions and texts: what the definitions give for inputs whose replies are known. Nothing rests on them; each would notice
+//! a definition that is slightly wrong.
+#![tactic(auto)]
+
+mod laws;
+
+pub use laws::{known_runs, known_submissions, known_texts};
