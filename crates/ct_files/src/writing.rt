@@ -91,7 +91,8 @@ fn table_bytes(alloc: Global, members: &Table) -> Result<Vec<u8>, AllocError>
     }
 }
 
-/// The document of the evidence, whose fields have the forms, ranges and counts of its kind.
+/// The document of the evidence, whose fields have the forms, ranges and counts of its kind: a TOML table with its keys
+/// in the order of their bytes. `Err` is want of memory.
 ///
 /// It reads as the same evidence, but for the limit on the bytes of a document, which is no part of the form.
 pub fn write_evidence(alloc: Global, evidence: &Evidence) -> Result<Vec<u8>, AllocError>
