@@ -98,7 +98,8 @@ fn table_bytes(alloc: Global, members: &Table) -> Result<Vec<u8>, AllocError>
 pub fn write_evidence(alloc: Global, evidence: &Evidence) -> Result<Vec<u8>, AllocError>
     requires { IsSound evidence.now }
     ensures without_limit { IfOk result (λ bytes. read_without_limit bytes.items ≡ Ok evidence.now) }
-    ensures within_limit { IfOk result (λ bytes. length bytes.items ≤ MAX_DOCUMENT → read_of bytes.items ≡ Ok evidence.now) }
+    ensures within_limit { IfOk result (λ bytes. length bytes.items ≤ MAX_DOCUMENT
+        → read_of bytes.items ≡ Ok evidence.now) }
 {
     let table = evidence_table(alloc, evidence)?;
     table_bytes(alloc, &table)
