@@ -20,7 +20,8 @@ is_text text _ = false
 abbrev pub is_of_kind : List ℕ → Data → Bool
 is_of_kind kind document = option_map_or (is_text kind) (get (codes "kind") document) false
 
--- what stands at the key of the field, in the form that is asked; the fault of the field where it is missing or of another form
+-- what stands at the key of the field, in the form that is asked
+-- (the fault of the field where it is missing or of another form)
 abbrev pub field : {A : Type 0} → (Data → Option A) → FieldName → Data → Result A FileFault
 field form name document = ok_or (option_and_then form (get (field_text name) document)) (Field name)
 
@@ -65,7 +66,8 @@ has_only names _ = false
 abbrev pub no_other_key : List FieldName → Data → Result (Unit {0}) FileFault
 no_other_key names document = check (has_only names document) Unknown
 
--- the words of length n that the texts write; the fault of the first text that writes none, where the texts are counted from place
+-- the words of length n that the texts write
+-- (the fault of the first text that writes none, where the texts are counted from place)
 abbrev pub words_from : ℕ → ℕ → List (List ℕ) → Result (List ℕ) FileFault
 words_from n place [] = Ok []
 words_from n place (text ∷ texts) = do

@@ -37,7 +37,8 @@ pub fn wrong_fields()
     ensures d_missing { read_of (codes "kind = 'words'\nn = 1\nwords = 1") ≡ Err (Field name.D) }
     ensures d_below { read_of (words_document (codes "10") (codes "2") (codes "1") []) ≡ Err (Field name.D) }
     ensures words_missing { read_of (codes "kind = 'words'\nn = 1\nd = 3\nw = 1") ≡ Err (Field name.Words) }
-    ensures words_number { read_of (words_document (codes "2") (codes "3") (codes "['0', 10]") (codes "w = 1")) ≡ Err (Field name.Words) }
+    ensures words_number { read_of (words_document (codes "2") (codes "3") (codes "['0', 10]") (codes "w = 1"))
+        ≡ Err (Field name.Words) }
 {}
 
 /// Documents whose fields are right, and that have another key, or texts that are no words, or no word.
@@ -47,5 +48,6 @@ pub fn wrong_words()
     ensures length { read_of (words_document (codes "2") (codes "3") (codes "['01', '0', 'ab']") []) ≡ Err (Digits 1) }
     ensures letter { read_of (words_document (codes "2") (codes "3") (codes "['0a']") []) ≡ Err (Digits 0) }
     ensures none { read_of (words_document (codes "2") (codes "3") (codes "[]") []) ≡ Err (Size 0) }
-    ensures one { read_of (words_document (codes "0b10") (codes "3") (codes "['''01''', \"\\u00310\"]") []) ≡ Ok (Words (unrestricted 2 3) (1 ∷ 2 ∷ [])) }
+    ensures one { read_of (words_document (codes "0b10") (codes "3") (codes "['''01''', \"\\u00310\"]") [])
+        ≡ Ok (Words (unrestricted 2 3) (1 ∷ 2 ∷ [])) }
 {}

@@ -10,7 +10,7 @@ use std::alloc::{AllocError, AllocFailed};
 pub enum FileFault {
     /// The number of its bytes, which is above `MAX_DOCUMENT`.
     Bytes(u64),
-    /// The bytes are no TOML document.
+    /// The bytes are no TOML document, of version 1.1 in UTF-8.
     NotToml,
     /// The key `kind` is missing, or holds the text of no kind.
     Kind,

@@ -24,7 +24,8 @@ pub fn bytes_without_table()
     ensures bytes { (bytes : List ℕ) (b : ℕ) →
         (read_of bytes ≡ Err (Bytes b)) ↔ ((b ≡ length bytes) × (MAX_DOCUMENT < length bytes)) }
     ensures no_toml { (bytes : List ℕ) →
-        (read_of bytes ≡ Err NotToml) ↔ ((length bytes ≤ MAX_DOCUMENT) × ((document : Data) → ¬ (IsDocument bytes document))) }
+        (read_of bytes ≡ Err NotToml) ↔
+        ((length bytes ≤ MAX_DOCUMENT) × ((document : Data) → ¬ (IsDocument bytes document))) }
 {}
 
 /// Where the other answers come: `Kind` for a table of another kind than `words`, and for one of this kind each answer

@@ -223,7 +223,7 @@ fn many_words(alloc: Global, count: usize, last: &str) -> Result<String, AllocEr
 
 /// The greatest number of words, and one more: the count comes after the digits.
 #[test]
-fn many(rt: HostRuntime) -> Result<(), Fail> {
+fn greatest_number_of_words(rt: HostRuntime) -> Result<(), Fail> {
     let alloc = rt.alloc();
     let Evidence::Words { words, .. } = read_evidence(
         alloc,
@@ -239,7 +239,7 @@ fn many(rt: HostRuntime) -> Result<(), Fail> {
 
 /// What is written for two words, by the keys in their order, and read again.
 #[test]
-fn written(rt: HostRuntime) -> Result<(), Fail> {
+fn written_words(rt: HostRuntime) -> Result<(), Fail> {
     let alloc = rt.alloc();
     let text = document(alloc, "10", "6", "['0000000000', '1111100000']")?;
     let evidence = read_evidence(alloc, text.as_bytes())?;

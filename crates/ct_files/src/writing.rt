@@ -91,13 +91,15 @@ fn table_bytes(alloc: Global, members: &Table) -> Result<Vec<u8>, AllocError>
     }
 }
 
-/// The document of the evidence, whose fields have the forms, ranges and counts of its kind.
+/// The document of the evidence, whose fields have the forms, ranges and counts of its kind: a TOML table with its keys
+/// in the order of their bytes. `Err` is want of memory.
 ///
 /// It reads as the same evidence, but for the limit on the bytes of a document, which is no part of the form.
 pub fn write_evidence(alloc: Global, evidence: &Evidence) -> Result<Vec<u8>, AllocError>
     requires { IsSound evidence.now }
     ensures without_limit { IfOk result (λ bytes. read_without_limit bytes.items ≡ Ok evidence.now) }
-    ensures within_limit { IfOk result (λ bytes. length bytes.items ≤ MAX_DOCUMENT → read_of bytes.items ≡ Ok evidence.now) }
+    ensures within_limit { IfOk result (λ bytes. length bytes.items ≤ MAX_DOCUMENT
+        → read_of bytes.items ≡ Ok evidence.now) }
 {
     let table = evidence_table(alloc, evidence)?;
     table_bytes(alloc, &table)
