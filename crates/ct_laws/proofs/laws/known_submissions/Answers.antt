@@ -1,4 +1,9 @@
-use Rattle.std.proofs.Common.{refl, None, Some, [], ◌∷◌, codes}
+use Rattle.std.proofs.Common.{ℕ, ◌<◌, ◌^◌, List, refl, None, Some, [], ◌∷◌, codes, lit<}
+use Rattle.std.specs.Prelude.{All}
+use Rattle.std.proofs.lemmas.List.Elements.{All-from_recursion, All-cons, All-nil}
+use Rattle.ct_codes.specs.Code.{IsTrueLower}
+use Rattle.ct_codes.proofs.CheckLemmas.{code_from_no_fault}
+use Rattle.ct_ledger.specs.Standing.{HasTrueSize}
 use Rattle.std.specs.Fmt.{digits}
 use Rattle.ct_text.specs.Line.{words_of}
 use Rattle.ct_text.specs.Number.{number_of}
@@ -10,16 +15,13 @@ use Rattle.ct_files.proofs.OnLiterals.{evidence_on_literals}
 use Rattle.ct_files.specs.declared.evidence.Evidence.TheVariants.{Words}
 use Rattle.ct_files.specs.declared.fault.FileFault.TheVariants as file
 use Rattle.ct_commands.specs.Form.{form_of}
-use Rattle.ct_commands.specs.declared.command.Command.TheVariants as command
 use Rattle.ct_ledger.specs.Piece.{PieceValue}
 use Rattle.ct_ledger.specs.Submission.{submitted}
 use Rattle.ct_ledger.specs.declared.fault.SubmitFault.TheVariants as submit
-use Rattle.ct_ledger.proofs.StandingLemmas.{AreStanding-none, AreStanding-true}
 use Rattle.ct_session.specs.Text.{reply_text}
 use Rattle.ct_session.specs.declared.reply.Reply.TheVariants.{Accepted, Shown, Refused}
 use Rattle.ct_session.specs.declared.reply.Refusal.TheVariants as refusal
 use Rattle.ct_session.proofs.BoundLemmas.{lower_shown, upper_shown}
-use Rattle.ct_session.proofs.Existence.{AreStanding-fold}
 use Rattle.ct_laws.specs.Examples.{six_words_document}
 use Rattle.ct_laws.proofs.laws.known_submissions.Goals as goal
 
@@ -35,27 +37,34 @@ pub returns-clause-empty : goal.returns-clause-empty
 unfolding form_of words_of number_of reply_text digits submitted code_fault distance evidence_on_literals
 returns-clause-empty c = record { replies = Refused (refusal.Submission (submit.File (file.Size 0))) ∷ []; are = (refl, tt); texts = refl; mark = refl }
 
+abbrev entry : Entry
+entry = record { n = 10; d = 6; w = None }
+
+abbrev six : List ℕ
+six = 0b1111111111 ∷ 0b1111000000 ∷ 0b1000111000 ∷ 0b0100100110 ∷ 0b0010010101 ∷ 0b0001001011 ∷ []
+
+abbrev hexa : PieceValue
+hexa = record { id = codes "hexa"; document = six_words_document; evidence = Words entry six; entry = entry; size = Some 6 }
+
+-- the six words are a code
+six_code : IsTrueLower entry 6
+unfolding code_fault distance
+six_code = (six, (code_from_no_fault entry six (All-from_recursion (λ x. x < 2 ^ 10) six (lit< tt, (lit< tt, (lit< tt, (lit< tt, (lit< tt, (lit< tt, tt))))))) refl).2, refl)
+
+sizes_true : All HasTrueSize (hexa ∷ [])
+sizes_true = All-cons HasTrueSize hexa [] six_code (All-nil HasTrueSize)
+
 pub returns-clause-accepted : goal.returns-clause-accepted
 unfolding form_of words_of number_of reply_text digits submitted code_fault distance evidence_on_literals
-returns-clause-accepted c =
-    let e : Entry = record { n = 10; d = 6; w = None } in
-    let words = 0b1111111111 ∷ 0b1111000000 ∷ 0b1000111000 ∷ 0b0100100110 ∷ 0b0010010101 ∷ 0b0001001011 ∷ [] in
-    let hexa : PieceValue = record { id = codes "hexa"; document = six_words_document; evidence = Words e words; entry = e; size = Some 6 } in
-    record {
-      replies = Accepted (codes "hexa") (Some 6) ∷ Shown (record { entry = e; lower = 6; upper = 1024 }) ∷ [];
-      are = (
-        refl,
-        (
-          record {
-            below = 6;
-            above = 1024;
-            lower = lower_shown (hexa ∷ []) e refl (AreStanding-true (hexa ∷ []) (AreStanding-fold [] (command.Submission (Some (codes "hexa")) six_words_document ∷ []) AreStanding-none));
-            upper = upper_shown (hexa ∷ []) e refl;
-            shown = refl;
-          },
-          tt,
-        ),
-      );
-      texts = refl;
-      mark = refl;
-    }
+returns-clause-accepted c = record {
+  replies = Accepted (codes "hexa") (Some 6) ∷ Shown (record { entry = entry; lower = 6; upper = 1024 }) ∷ [];
+  are = (
+    refl,
+    (
+      record { below = 6; above = 1024; lower = lower_shown (hexa ∷ []) entry refl sizes_true; upper = upper_shown (hexa ∷ []) entry refl; shown = refl },
+      tt,
+    ),
+  );
+  texts = refl;
+  mark = refl;
+}
