@@ -1,1 +1,2 @@
 pub mod StandingLemmas
+mod Accepting

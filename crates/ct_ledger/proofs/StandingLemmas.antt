@@ -29,7 +29,7 @@ use Rattle.ct_ledger.specs.declared.fault.WithdrawFault.{WithdrawFault}
 use Rattle.ct_ledger.specs.declared.fault.WithdrawFault.TheVariants as withdraw
 
 -- what is made where no fault was found
-made_unless-ok : (reason : Option CodeFault) (q p : PieceValue) → made_unless reason q ≡ Ok p → (reason ≡ None) × (q ≡ p)
+pub made_unless-ok : (reason : Option CodeFault) (q p : PieceValue) → made_unless reason q ≡ Ok p → (reason ≡ None) × (q ≡ p)
 made_unless-ok None q p h = (refl, cc)
 made_unless-ok (Some reason) q p h = absurd cc
 

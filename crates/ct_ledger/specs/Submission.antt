@@ -1,7 +1,9 @@
 -- What a submission makes over the pieces that stand: a piece, or the first reason why it makes none.
-use Rattle.std.specs.Prelude.{ℕ, ◌+◌, Bool, nat_le, if◌then◌else◌, List, [], ◌∷◌, ◌++◌, length, Option, Some, None, Result, Ok, Err}
+use Rattle.std.specs.Prelude.{◌≡◌, ◌≢◌, ◌<◌, ◌≤◌, ℕ, ◌+◌, Bool, nat_le, if◌then◌else◌, List, [], ◌∷◌, ◌++◌, length, All, Option, Some, None, Result, Ok, Err}
 use Rattle.ct_codes.specs.declared.fault.CodeFault.{CodeFault}
 use Rattle.ct_codes.specs.Check.{code_fault}
+use Rattle.ct_codes.specs.Code.{IsCodeOf}
+use Rattle.ct_codes.specs.declared.entry.Entry.{Entry}
 use Rattle.ct_files.specs.declared.evidence.Evidence.{Evidence}
 use Rattle.ct_files.specs.declared.evidence.Evidence.TheVariants.{Words}
 use Rattle.ct_files.specs.declared.fault.FileFault.{FileFault}
@@ -48,3 +50,15 @@ submitted pieces id document =
 abbrev pub with_piece : List PieceValue → Result PieceValue SubmitFault → List PieceValue
 with_piece pieces (Ok piece) = pieces ++ piece ∷ []
 with_piece pieces (Err reason) = pieces
+
+-- a submission is accepted as this piece: no piece has its id, there is room for one more, its document states words that are a code of their entry, and they may be
+-- stored beside the others
+pub record IsAccepted (pieces : List PieceValue) (id document : List ℕ) (p : PieceValue) : Type 0 where
+  pub free : All (λ q. q.id ≢ id) pieces
+  pub room : length pieces < MAX_PIECES
+  pub entry : Entry
+  pub words : List ℕ
+  pub read : read_of document ≡ Ok (Words entry words)
+  pub code : IsCodeOf entry words
+  pub small : stored_words pieces + length words ≤ MAX_STORED
+  pub piece : p ≡ record { id = id; document = document; evidence = Words entry words; entry = entry; size = Some (length words) }

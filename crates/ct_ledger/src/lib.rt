@@ -5,12 +5,14 @@
 mod check;
 mod dump;
 mod fault;
+mod laws;
 mod ledger;
 mod limits;
 mod piece;
 mod text;
 
 pub use fault::{SubmitFault, WithdrawFault};
+pub use laws::submissions_that_are_accepted;
 pub use ledger::Ledger;
 pub use limits::{MAX_PIECES, MAX_STORED};
 pub use piece::Piece;

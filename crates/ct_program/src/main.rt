@@ -5,6 +5,7 @@ mod mode;
 mod run;
 mod status;
 
+use crate::mode::after_name;
 use crate::run::run;
 use crate::status::Status;
 use ct_io::{StdSink, StdSource};
@@ -12,12 +13,12 @@ use std::alloc::AllocError;
 use std::process::ExitCode;
 use std::{env, io};
 
-/// The words after the program's name. They are none where one is not UTF-8: no command has such a word.
-fn command_words(rt: &HostRuntime) -> Result<Vec<String>, AllocError> {
+/// The words of the command line, the program's name among them. They are none where one is not UTF-8: no command has such a word.
+fn command_line(rt: &HostRuntime) -> Result<Vec<String>, AllocError> {
     let mut words = Vec::new(rt.alloc());
     match env::args(rt) {
         Ok(all) => {
-            for word in all.skip(1) {
+            for word in all {
                 words.push(word)?;
             }
             Ok(words)
@@ -28,7 +29,7 @@ fn command_words(rt: &HostRuntime) -> Result<Vec<String>, AllocError> {
 }
 
 fn main(rt: HostRuntime) -> ExitCode {
-    let Ok(words) = command_words(&rt) else {
+    let Ok(words) = command_line(&rt) else {
         return ExitCode::from(Status::Memory.number());
     };
     let mut source = StdSource {
@@ -39,7 +40,7 @@ fn main(rt: HostRuntime) -> ExitCode {
         inner: rt.stdout(),
         faults: 0,
     };
-    let status = run(rt.alloc(), &words, &mut source, &mut sink);
+    let status = run(rt.alloc(), after_name(&words), &mut source, &mut sink);
     ExitCode::from(status.number())
 }
 

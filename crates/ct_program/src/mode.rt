@@ -1,6 +1,6 @@
 //! What the words of the command line ask for.
 
-ghost use Rattle.std.specs.Prelude.{◌≡◌};
+ghost use Rattle.std.specs.Prelude.{◌≡◌, drop};
 ghost use Rattle.ct_program.specs.Mode.{bytes_of, mode_of};
 
 /// A mode of the program.
@@ -17,5 +17,15 @@ pub fn named_mode(words: &[String]) -> Option<Mode>
     match words {
         [word] if word.as_str() == "session" => Some(Mode::Session),
         _ => None,
+    }
+}
+
+/// The words after the first one, which is the program's name.
+pub fn after_name(words: &[String]) -> &[String]
+    ensures { result.now ≡ drop 1 words.now }
+{
+    match words {
+        [_, rest @ ..] => rest,
+        [] => words,
     }
 }

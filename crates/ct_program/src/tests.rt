@@ -2,6 +2,7 @@
 
 ghost use Rattle.std.specs.Prelude.{◌≤◌};
 
+use crate::mode::after_name;
 use crate::run::run;
 use crate::status::Status;
 use ct_io::{MemSink, MemSource};
@@ -561,6 +562,20 @@ fn numbers_of_the_statuses(rt: HostRuntime) {
     for (status, number) in NUMBERS {
         assert_eq!(rt; status.number(), number, "{status:?}");
     }
+}
+
+#[test]
+fn the_words_after_the_name_are_the_command(rt: HostRuntime) -> Result<(), Fail> {
+    let alloc = rt.alloc();
+    let mut words = Vec::new(alloc);
+    assert!(rt; after_name(&words).is_empty());
+    for word in ["code_tables", "session", "x"] {
+        words.push(word.to_string(alloc)?)?;
+    }
+    let after = after_name(&words);
+    assert_eq!(rt; after.len(), 2);
+    assert_eq!(rt; (after[0].as_str(), after[1].as_str()), ("session", "x"));
+    Ok(())
 }
 
 #[test]

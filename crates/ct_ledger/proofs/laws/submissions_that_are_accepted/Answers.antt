@@ -1,0 +1,8 @@
+use Rattle.ct_ledger.proofs.Accepting.{accepted, taken}
+use Rattle.ct_ledger.proofs.laws.submissions_that_are_accepted.Goals as goal
+
+pub returns-clause-accepted : goal.returns-clause-accepted
+returns-clause-accepted c = accepted
+
+pub returns-clause-taken_ids : goal.returns-clause-taken_ids
+returns-clause-taken_ids c = taken
