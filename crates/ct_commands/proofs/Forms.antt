@@ -1,7 +1,10 @@
 -- The first words of a line tell what it asks for.
-use Rattle.std.proofs.Common.{◌≡◌, ℕ, List, [], ◌∷◌, take, refl}
+use Rattle.std.proofs.Common.{◌≡◌, ℕ, List, [], ◌∷◌, Option, None, length, take, refl, ap, arith}
 use Rattle.ct_commands.specs.declared.form.TheConstants.{MOST_WORDS}
-use Rattle.ct_commands.specs.Form.{words_form}
+use Rattle.ct_text.specs.Line.{words_of}
+use Rattle.ct_commands.specs.Form.{words_form, form_of}
+use Rattle.ct_commands.specs.Command.{open_after, completed_by, opened, asked}
+use Rattle.ct_commands.specs.declared.form.Form.TheVariants.{Nothing}
 
 -- more words than the first few change nothing: a line of so many is no form, or a submission without an id
 pub first_words_tell : (words : List (List ℕ)) → words_form (take MOST_WORDS words) ≡ words_form words
@@ -11,3 +14,13 @@ first_words_tell (v ∷ w ∷ []) = refl
 first_words_tell (v ∷ w ∷ x ∷ []) = refl
 first_words_tell (v ∷ w ∷ x ∷ y ∷ []) = refl
 first_words_tell (v ∷ w ∷ x ∷ y ∷ z ∷ rest) = refl
+
+-- an empty line asks for nothing
+pub nothing_asked : form_of [] ≡ Nothing
+unfolding form_of words_of
+nothing_asked = refl
+
+-- and opens no submission, where none is open
+pub idle : (line : List ℕ) → length line ≡ 0 → (open_after None line ≡ None) × (completed_by None line ≡ None)
+idle [] empty = (ap opened nothing_asked, ap asked nothing_asked)
+idle (b ∷ line) empty = absurd (omega arith)

@@ -1,6 +1,6 @@
 //! The commands of a session, line by line.
 
-ghost use Rattle.std.specs.Prelude.{◌≡◌, None, OnOk, IfOk};
+ghost use Rattle.std.specs.Prelude.{◌≡◌, true, None, OnOk, IfOk};
 ghost use Rattle.std.specs.Option.{option_to_list};
 ghost use Rattle.ct_commands.specs.Command.{open_after, completed_by, cut_off};
 
@@ -85,6 +85,17 @@ fn begin(alloc: Global, line: &[u8]) -> Result<(Option<Pending>, Option<Command>
     Ok((None, Some(command)))
 }
 
+/// Whether no submission is open and the line is empty, so that it asks for nothing.
+fn is_idle(pending: &Option<Pending>, line: &[u8]) -> bool
+    ensures open { result ≡ true → open_after pending.now line.now ≡ pending.now }
+    ensures none { result ≡ true → completed_by pending.now line.now ≡ None }
+{
+    match pending {
+        None => line.is_empty(),
+        Some(_) => false,
+    }
+}
+
 impl CommandReader {
     /// A reader before the first line.
     pub fn new() -> CommandReader
@@ -99,6 +110,9 @@ impl CommandReader {
         ensures command { IfOk result (λ command. command ≡ completed_by self.old line.now) }
         ensures pending { OnOk result (self.new ≡ open_after self.old line.now) }
     {
+        if is_idle(&self.pending, line) {
+            return Ok(None);
+        }
         let (pending, command) = match self.pending.take() {
             Some(pending) => go_on(pending, line)?,
             None => begin(alloc, line)?,
