@@ -1,5 +1,6 @@
 //! What the check of a large list of words costs, for comparison: `session` prints a session that submits 16,384 words of length 24 at
-//! distance at least 3, and `loop` times a plain double loop over the same words.
+//! distance at least 3, and `loop` times a plain double loop over the same words. `late` and `late-loop` do so for words of which the
+//! last two are close.
 
 use std::hint::black_box;
 use std::time::Instant;
@@ -17,6 +18,27 @@ fn words() -> Vec<u32> {
     words
 }
 
+fn late_words() -> Vec<u32> {
+    let mut words = words();
+    let last = words.len() - 1;
+    words[last] = words[last - 1] ^ 1;
+    words
+}
+
+fn print_session(words: &[u32]) {
+    println!("submit rows\nkind = \"words\"\nn = 24\nd = 3\nwords = [");
+    for word in words {
+        println!("\"{word:024b}\",");
+    }
+    println!("]\nend");
+}
+
+fn time_loop(words: &[u32]) {
+    let start = Instant::now();
+    let pair = first_close_pair(black_box(words), black_box(3));
+    println!("plain loop: {pair:?} after {:.2} s", start.elapsed().as_secs_f64());
+}
+
 fn first_close_pair(words: &[u32], d: u32) -> Option<(usize, usize)> {
     for i in 0..words.len() {
         for j in i + 1..words.len() {
@@ -29,20 +51,11 @@ fn first_close_pair(words: &[u32], d: u32) -> Option<(usize, usize)> {
 }
 
 fn main() {
-    let words = words();
     match std::env::args().nth(1).as_deref() {
-        Some("session") => {
-            println!("submit rows\nkind = \"words\"\nn = 24\nd = 3\nwords = [");
-            for word in &words {
-                println!("\"{word:024b}\",");
-            }
-            println!("]\nend");
-        }
-        Some("loop") => {
-            let start = Instant::now();
-            let pair = first_close_pair(black_box(&words), black_box(3));
-            println!("plain loop: {pair:?} after {:.2} s", start.elapsed().as_secs_f64());
-        }
-        _ => eprintln!("session, or loop"),
+        Some("session") => print_session(&words()),
+        Some("loop") => time_loop(&words()),
+        Some("late") => print_session(&late_words()),
+        Some("late-loop") => time_loop(&late_words()),
+        _ => eprintln!("session, loop, late or late-loop"),
     }
 }
