@@ -3,7 +3,7 @@ use Rattle.std.proofs.Common.{inl, inr, ◌≡◌, ◌≢◌, ℕ, List, Result,
 use Rattle.ct_codes.specs.Entry.{IsEntry, unrestricted}
 use Rattle.ct_codes.proofs.EntryLemmas.{entry_from_limits}
 use Rattle.ct_files.specs.Evidence.{read_of, IsSound}
-use Rattle.ct_files.specs.Reads.{Reads}
+use Rattle.ct_files.specs.Inside.Reads.{Reads}
 use Rattle.ct_files.specs.declared.evidence.Evidence.{Evidence}
 use Rattle.ct_files.specs.declared.evidence.Evidence.TheVariants.{Words}
 use Rattle.ct_files.specs.declared.fault.FileFault.{FileFault}

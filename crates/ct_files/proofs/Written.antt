@@ -14,7 +14,7 @@ use Rattle.ct_codes.proofs.EntryLemmas.{entry_limits}
 use Rattle.ct_files.specs.Document.{table_of}
 use Rattle.ct_files.specs.Evidence.{IsSound, evidence_of, read_without_limit}
 use Rattle.ct_files.specs.WordsDocument.{words_fields, StatesWords}
-use Rattle.ct_files.specs.Written.{words_table, evidence_table}
+use Rattle.ct_files.specs.Inside.Written.{words_table, evidence_table}
 use Rattle.ct_files.specs.declared.evidence.Evidence.{Evidence}
 use Rattle.ct_files.specs.declared.evidence.Evidence.TheVariants.{Words}
 use Rattle.ct_files.proofs.FieldLemmas.{has_only-true}

@@ -4,8 +4,7 @@ pub mod Fields
 pub mod Document
 pub mod Words
 pub mod Evidence
-pub mod Reads
 pub mod Examples
 pub mod Tables
 pub mod WordsDocument
-pub mod Written
+pub mod Inside

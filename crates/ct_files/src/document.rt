@@ -3,7 +3,7 @@ ghost use Rattle.std.specs.Prelude.{◌≡◌};
 ghost use Rattle.std.specs.List.{list_any};
 ghost use Rattle.std.specs.Str.{bytes_eq};
 ghost use Rattle.toml.specs.View.{view, table_view};
-ghost use Rattle.ct_files.specs.Reads.{Reads};
+ghost use Rattle.ct_files.specs.Inside.Reads.{Reads};
 ghost use Rattle.ct_files.specs.Field.{field_text};
 ghost use Rattle.ct_files.specs.Fields.{is_of_kind, is_named, keys_are_named, has_only, no_other_key};
 ghost use Rattle.ct_files.specs.Document.{document_of};

@@ -2,7 +2,7 @@
 ghost use Rattle.std.specs.Prelude.{◌≡◌, ◌+◌, ◌^◌, ◌<◌, ◌≤◌, length, IfOk, option_map};
 ghost use Rattle.toml.specs.View.{view, items_view};
 ghost use Rattle.ct_words.specs.declared.limits.TheConstants.{MAX_N};
-ghost use Rattle.ct_files.specs.Reads.{Reads, texts_behind};
+ghost use Rattle.ct_files.specs.Inside.Reads.{Reads, texts_behind};
 ghost use Rattle.ct_files.specs.Fields.{number_field, texts_of, texts_field, words_from};
 
 use crate::fault::FileFault;

@@ -1,7 +1,7 @@
 //! The evidence of a document.
 ghost use Rattle.std.specs.Prelude.{◌≡◌, ◌≢◌, Ok, Err, IfOk, IfErr};
 ghost use Rattle.toml.specs.View.{view};
-ghost use Rattle.ct_files.specs.Reads.{Reads};
+ghost use Rattle.ct_files.specs.Inside.Reads.{Reads};
 ghost use Rattle.ct_files.specs.Evidence.{IsSound, evidence_of, read_without_limit, read_of};
 
 use crate::document::{is_of_kind, read_document};

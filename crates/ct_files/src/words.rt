@@ -1,7 +1,7 @@
 //! The kind words: the words of a code, one by one.
 ghost use Rattle.std.specs.Prelude.{◌≡◌};
 ghost use Rattle.toml.specs.View.{view};
-ghost use Rattle.ct_files.specs.Reads.{Reads};
+ghost use Rattle.ct_files.specs.Inside.Reads.{Reads};
 ghost use Rattle.ct_files.specs.Words.{word_count, words_evidence_of};
 
 use crate::document::no_other_key;

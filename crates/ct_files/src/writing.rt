@@ -8,7 +8,7 @@ ghost use Rattle.ct_files.specs.declared.evidence.TheConstants.{MAX_DOCUMENT};
 ghost use Rattle.ct_files.specs.Field.{field_text};
 ghost use Rattle.ct_files.specs.Evidence.{IsSound, read_without_limit, read_of};
 ghost use Rattle.ct_files.specs.Document.{table_of};
-ghost use Rattle.ct_files.specs.Written.{word_texts, words_table, evidence_table};
+ghost use Rattle.ct_files.specs.Inside.Written.{word_texts, words_table, evidence_table};
 
 use crate::evidence::Evidence;
 use crate::field::FieldName;

@@ -8,8 +8,8 @@ use Rattle.std.proofs.lemmas.List.Elements.{All-contains, Contains-append_left}
 use Rattle.ct_lines.specs.declared.TheConstants.{LINE_FEED}
 use Rattle.ct_io.specs.declared.TheConstants.{MAX_INPUT}
 use Rattle.ct_io.specs.declared.intake.Intake.{Intake}
-use Rattle.ct_io.specs.Filling.{FillsBy}
-use Rattle.ct_io.specs.Intake.{Gathers}
+use Rattle.ct_io.specs.Inside.Filling.{FillsBy}
+use Rattle.ct_io.specs.Inside.Intake.{Gathers}
 use Rattle.ct_lines.specs.Lines.{IsLine}
 use Rattle.ct_io.specs.Reader.{NeedsNoRead}
 use Rattle.ct_io.proofs.FeedLemmas.{IsNoFeed, Contains-feed}

@@ -1,7 +1,4 @@
-pub mod Buffer
 pub mod Faults
-pub mod Filling
 pub mod Inside
-pub mod Intake
 pub mod Reader
 pub mod Told

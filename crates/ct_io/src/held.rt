@@ -1,9 +1,9 @@
 ghost use Rattle.std.specs.Prelude.{◌≡◌, ◌≢◌, ℕ, ◌+◌, ◌<◌, ◌≤◌, List, [], ◌∷◌, ◌++◌, max, IfOk, IfSome, IfNone, OnErr, MatchOption, length, take, drop, position, slice_get, vec_len, ◌==◌};
 ghost use Rattle.std.specs.Io.KnownBytes.{Keeps};
-ghost use Rattle.ct_io.specs.Buffer.{Buffer, empty_buffer};
+ghost use Rattle.ct_io.specs.Inside.Buffer.{Buffer, empty_buffer};
 ghost use Rattle.ct_io.specs.Faults.{Rose};
 ghost use Rattle.ct_lines.specs.Lines.{IsLine};
-ghost use Rattle.ct_io.specs.Filling.{FillsBy};
+ghost use Rattle.ct_io.specs.Inside.Filling.{FillsBy};
 
 use crate::line_fault::LineFault;
 use crate::source::Source;

@@ -1,7 +1,7 @@
 ghost use Rattle.std.specs.Prelude.{◌≡◌, ◌+◌, ◌≤◌, true, false, [], IfOk, IfErr, IfSome, IfNone, OnOk, length, max, take, slice_get, vec_len};
 ghost use Rattle.ct_io.specs.declared.TheConstants.{MAX_READ};
 ghost use Rattle.ct_lines.specs.Lines.{IsLine};
-ghost use Rattle.ct_io.specs.Buffer.{empty_buffer};
+ghost use Rattle.ct_io.specs.Inside.Buffer.{empty_buffer};
 ghost use Rattle.ct_io.specs.Reader.{IfLine, NeedsNoRead, given_size};
 
 use crate::held::Held;
@@ -25,7 +25,7 @@ pub(crate) struct Intake {
 }
 
 impl Intake {
-    ghost use Rattle.ct_io.specs.Intake.{Gathers, IsFaultAt, Passes};
+    ghost use Rattle.ct_io.specs.Inside.Intake.{Gathers, IsFaultAt, Passes};
 
     /// An intake that took nothing yet, with space for one read.
     pub(crate) fn new(alloc: Global) -> Result<Intake, AllocError>

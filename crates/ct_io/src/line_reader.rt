@@ -26,7 +26,7 @@ impl Model for LineReader {
     ghost Value = { Reader };
 
     ghost use Rattle.std.specs.Prelude.{◌≤◌, length};
-    ghost use Rattle.ct_io.specs.Inside.{reader_of, IsSettled};
+    ghost use Rattle.ct_io.specs.Inside.Settled.{reader_of, IsSettled};
 
     ghost view = { reader_of };
 

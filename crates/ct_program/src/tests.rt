@@ -195,7 +195,18 @@ const DOCUMENTS: [Line; 24] = [
 const TWO_WORDS: &[u8] = b"kind='words'\nn=3\nd=3\nwords=['000','111']\nend\n";
 
 // Whole sessions, in which `@` stands for `TWO_WORDS`: the input, the replies, and the status.
-const SESSIONS: [(&str, &str, Status); 33] = [
+const SESSIONS: [(&str, &str, Status); 35] = [
+    (
+        "submit a\nkind='words'\nn=3\nd=4\nwords=['000']\nend\nsubmit b\nkind='words'\nn=4\nd=4\nwords=['0000','1111']\nend\n\
+        show 4 3\nshow 4 4\nshow 4 5\n",
+        "accepted a size 1\naccepted b size 2\n1 <= A(4,3) <= 16\n2 <= A(4,4) <= 16\n1 <= A(4,5) <= 16\n",
+        Status::Done,
+    ),
+    (
+        "submit a\nend\t\nend\x0b\nend;\nend\n; show 3 3\n",
+        "refused toml\nrefused command\n",
+        Status::Refused,
+    ),
     (
         "submit a lines 4\nkind='words'\nn=3\nd=3\nwords=['000','111']\nledger\n",
         "accepted a size 2\na words 3 3 size 2\npieces 1\n",

@@ -7,7 +7,7 @@ use Rattle.std.proofs.lemmas.Bool.{and_parts, leb-true}
 use Rattle.std.proofs.lemmas.List.{take_at, drop_at, drop-replicate, length-append}
 use Rattle.ct_text.specs.declared.id.TheConstants.{MAX_ID}
 use Rattle.ct_text.specs.Id.{is_id, is_id_byte}
-use Rattle.ct_text.specs.IdBytes.{IsKept}
+use Rattle.ct_text.specs.Inside.IdBytes.{IsKept}
 
 -- an id is at most 32 bytes long
 pub is_id-short : (text : List ℕ) → IsTrue (is_id text) → length text ≤ MAX_ID

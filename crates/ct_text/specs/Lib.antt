@@ -1,7 +1,7 @@
 pub mod Line
 pub mod Number
 pub mod Id
-pub mod IdBytes
 pub mod EntryNumbers
 pub mod EntryText
 pub mod Gathering
+pub mod Inside

@@ -23,7 +23,7 @@ impl Model for Id {
 
     ghost Value = { List ℕ };
 
-    ghost use Rattle.ct_text.specs.IdBytes.{text_of, kept_of, kept_again, IsKept};
+    ghost use Rattle.ct_text.specs.Inside.IdBytes.{text_of, kept_of, kept_again, IsKept};
 
     ghost view = { text_of };
 

@@ -1,6 +1,6 @@
 use Rattle.std.proofs.Common.{◌≡◌, ◌++◌, drop, option_map}
 use Rattle.toml.specs.View.{items_view}
-use Rattle.ct_files.specs.Reads.{texts_behind}
+use Rattle.ct_files.specs.Inside.Reads.{texts_behind}
 use Rattle.ct_files.specs.Fields.{texts_of}
 use Rattle.ct_files.proofs.fields.texts_of.Given as goal
 

@@ -1,5 +1,5 @@
 use Rattle.std.proofs.Common.{◌≡◌, ◌+◌, ◌++◌, drop, Ok}
-use Rattle.ct_files.specs.Reads.{texts_behind}
+use Rattle.ct_files.specs.Inside.Reads.{texts_behind}
 use Rattle.ct_files.specs.Steps.{◌>>=◌}
 use Rattle.ct_files.specs.Fields.{words_from}
 use Rattle.ct_files.proofs.fields.words_from.Given as goal

@@ -1,6 +1,6 @@
 use Rattle.std.proofs.Common.{◌≡◌, ◌+◌, ◌-◌, ◌*◌, ◌≤◌, max, length, cond}
 use Rattle.ct_io.specs.declared.TheConstants.{MAX_INPUT}
-use Rattle.ct_io.specs.Intake.{LooksFirst}
+use Rattle.ct_io.specs.Inside.Intake.{LooksFirst}
 use Rattle.ct_io.specs.Reader.{NeedsNoRead}
 use Rattle.ct_io.proofs.IntakeLemmas.{IsGathering}
 use Rattle.ct_io.proofs.intake.Intake.gather_line.Given as goal

@@ -1,0 +1,2 @@
+-- Words that the contracts of inner functions, and the types themselves, alone cite.
+pub mod IdBytes
