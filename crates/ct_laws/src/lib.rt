@@ -2,6 +2,8 @@
 //! a definition that is slightly wrong.
 #![tactic(auto)]
 
+mod dump;
 mod laws;
 
+pub use dump::dumps_lead_back;
 pub use laws::{known_runs, known_submissions, known_texts};
