@@ -3,7 +3,7 @@ use Rattle.std.proofs.Common.{◌≡◌, ◌≢◌, ℕ, ◌^◌, ◌<◌, ◌�
 use Rattle.std.proofs.Math.ListN.{get_or-append}
 use Rattle.std.proofs.Math.Seq.{get_or-append_seam}
 use Rattle.std.specs.Prelude.{All, fold}
-use Rattle.std.specs.List.{flat_map}
+use Rattle.std.specs.List.{flat_map, list_any}
 use Rattle.std.specs.Str.{bytes_eq}
 use Rattle.std.proofs.lemmas.List.Elements.{All-head, All-tail, All-get_or}
 use Rattle.std.proofs.lemmas.List.Splits.{length-slice_split}
@@ -30,8 +30,11 @@ use Rattle.ct_ledger.specs.Standing.{AreStanding, IsMade}
 use Rattle.ct_ledger.specs.Dump.{line_count, piece_dump, dump_text}
 use Rattle.ct_ledger.specs.declared.fault.SubmitFault.{SubmitFault}
 use Rattle.ct_ledger.proofs.StandingLemmas.{WasMade, submitted-from, AreStanding-none}
-use Rattle.ct_session.specs.Reply.{pieces_after}
-use Rattle.ct_session.specs.Run.{pieces_of}
+use Rattle.ct_session.specs.Reply.{pieces_after, submission_reply, is_refusal}
+use Rattle.ct_session.specs.Run.{AreReplies, AnswersCommands, IsRun, pieces_of}
+use Rattle.ct_session.specs.Text.{reply_text}
+use Rattle.ct_session.specs.declared.reply.Reply.{Reply}
+use Rattle.ct_session.specs.declared.reply.Reply.TheVariants.{Accepted}
 use Rattle.ct_session.proofs.Existence.{AreStanding-fold}
 use Rattle.ct_laws.proofs.DumpCommands.{submission, nothing}
 use Rattle.ct_laws.proofs.DumpHeadings.{heading, comment, IsLine-heading, IsLine-comment, form_of-heading, form_of-comment}
@@ -111,8 +114,39 @@ dump_text-commands pieces h named =
     ∙ nothing (comment (length pieces)) (lines_of rest) (form_of-comment (length pieces))
     ∙ pieces_dump-commands pieces h.made named
 
+-- the pieces that an input leads to stand
+stands : (input : List ℕ) → AreStanding (pieces_of input)
+stands input = AreStanding-fold [] (commands_of (lines_of input)) AreStanding-none
+
+-- the commands of the dump of these pieces
+dump_of-commands : (input : List ℕ) → commands_of (lines_of (dump_text (pieces_of input))) ≡ map submission_of (pieces_of input)
+dump_of-commands input = dump_text-commands (pieces_of input) (stands input) (pieces_of-named input)
+
 -- the dump of the pieces that an input leads to leads to them
 pub dump_leads_back : (input : List ℕ) → pieces_of (dump_text (pieces_of input)) ≡ pieces_of input
-dump_leads_back input =
-    let stand = AreStanding-fold [] (commands_of (lines_of input)) AreStanding-none in
-    ap (fold pieces_after []) (dump_text-commands (pieces_of input) stand (pieces_of-named input)) ∙ brought_back [] (pieces_of input) stand
+dump_leads_back input = ap (fold pieces_after []) (dump_of-commands input) ∙ brought_back [] (pieces_of input) (stands input)
+
+-- the reply to the submission of a piece that is accepted
+abbrev pub acceptance : PieceValue → Reply
+acceptance p = Accepted p.id p.size
+
+-- submissions of pieces that stand after others are accepted
+accepted_again : (front back : List PieceValue) → AreStanding (front ++ back) → AreReplies front (map submission_of back) (map acceptance back)
+accepted_again front [] h = tt
+accepted_again front (p ∷ back) h =
+    let made = submitted-from front p.id p.document p (made_again front p back h) in (
+      ap (submission_reply p.id) (sym made),
+      subst (λ (r : Result PieceValue SubmitFault). AreReplies (with_piece front r) (map submission_of back) (map acceptance back)) (sym made)
+          (accepted_again (front ++ p ∷ []) back (subst AreStanding (sym (append_assoc front (p ∷ []) back)) h)),
+    )
+
+-- and no acceptance is a refusal
+none_refused : (pieces : List PieceValue) → false ≡ list_any is_refusal (map acceptance pieces)
+none_refused [] = refl
+none_refused (p ∷ pieces) = none_refused pieces
+
+-- the dump of the pieces that an input leads to is accepted, piece by piece
+pub dump_is_accepted : (input : List ℕ) → IsRun (dump_text (pieces_of input)) (flat_map reply_text (map acceptance (pieces_of input))) false
+dump_is_accepted input =
+    subst (λ (cs : List Command). AnswersCommands [] cs (flat_map reply_text (map acceptance (pieces_of input))) false) (sym (dump_of-commands input))
+    (record { replies = map acceptance (pieces_of input); are = accepted_again [] (pieces_of input) (stands input); texts = refl; mark = none_refused (pieces_of input) })
