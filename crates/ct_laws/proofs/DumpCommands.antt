@@ -93,7 +93,8 @@ lines_of-document (b ∷ bs) rest = first (is_feed b) refl (lines_of-document bs
       lines_of-onto_first b more e ∙ ap (onto_first b) h ∙ onto_first-append b (slice_split is_feed bs) (lines_of rest) (IsFilled-slice_split bs)
       ∙ ap (λ parts. parts ++ lines_of rest) (sym (slice_split-cons_no is_feed b bs e))
 
-pub regrouped : (heading document rest : List ℕ) → (((heading ++ LINE_FEED ∷ []) ++ document) ++ LINE_FEED ∷ []) ++ rest ≡ heading ++ LINE_FEED ∷ ((document ++ LINE_FEED ∷ []) ++ rest)
+-- the dump of a piece and what follows it, grouped both ways
+regrouped : (heading document rest : List ℕ) → (((heading ++ LINE_FEED ∷ []) ++ document) ++ LINE_FEED ∷ []) ++ rest ≡ heading ++ LINE_FEED ∷ ((document ++ LINE_FEED ∷ []) ++ rest)
 regrouped heading document rest =
     append_assoc ((heading ++ LINE_FEED ∷ []) ++ document) (LINE_FEED ∷ []) rest
     ∙ append_assoc (heading ++ LINE_FEED ∷ []) document (LINE_FEED ∷ rest)

@@ -38,6 +38,7 @@ AreVisible bytes = All (λ b. 32 < b) bytes
 abbrev ArePrinted : List ℕ → Type 0
 ArePrinted bytes = All (λ b. 31 < b) bytes
 
+-- digits are visible, and so are the bytes of an id
 visible_decimal : (n : ℕ) → n < 2 ^ 64 → AreVisible (decimal n)
 visible_decimal n small = decimal_by_steps (λ (m : ℕ) (ds : List ℕ). AreVisible ds) (λ m below. All-cons (λ b. 32 < b) (48 + m) [] (omega arith) (All-nil (λ b. 32 < b)))
     (λ m ds above h. All-push (λ b. 32 < b) ds (48 + m % 10) h (omega arith)) n small
@@ -60,6 +61,7 @@ visible_id (b ∷ bs) h =
 printed : (bytes : List ℕ) → AreVisible bytes → ArePrinted bytes
 printed bytes h = All-weaker (λ b. 32 < b) (λ b. 31 < b) (λ b k. omega arith) bytes h
 
+-- printed bytes have no line feed
 printed_line : (bytes : List ℕ) → ArePrinted bytes → IsLine bytes
 printed_line bytes h = All-weaker (λ b. 31 < b) (λ b. b ≢ LINE_FEED) (λ b k e. absurd (omega arith)) bytes h
 
@@ -96,6 +98,7 @@ not_stripped bytes h some =
     let last = All-get_or (λ b. 31 < b) bytes (length bytes - 1) 0 (omega arith) h in
     ap (λ (t : Bool). cond t (take (length bytes - 1) bytes) bytes) (ne_eqb (get_or bytes (length bytes - 1) 0) 13 (λ e. absurd (omega (arith, last))))
 
+-- the test that parts the words of a line, and the one that drops empty parts
 abbrev is_space : ℕ → Bool
 is_space b = eqb b 32
 

@@ -44,6 +44,7 @@ use Rattle.ct_laws.proofs.DumpNames.{IsNamed, pieces_of-named}
 abbrev pub submission_of : PieceValue → Command
 submission_of p = command.Submission (Some p.id) p.document
 
+-- an id that no piece has is not taken
 not_taken : (id : List ℕ) (pieces : List PieceValue) → All (λ (q : PieceValue). q.id ≢ id) pieces → has_id id pieces ≡ false
 not_taken id [] h = refl
 not_taken id (p ∷ pieces) h = at (bytes_eq p.id id) refl (not_taken id pieces (All-tail (λ (q : PieceValue). q.id ≢ id) p pieces h)) where
@@ -83,6 +84,7 @@ read-short document evidence h =
     let first = bind-ok (check (nat_le (length document) MAX_DOCUMENT) fault) (λ (x : Unit {0}). read_without_limit document) evidence h in
     leb-true (length document) MAX_DOCUMENT (check-ok (nat_le (length document) MAX_DOCUMENT) fault first.0 first.1)
 
+-- nor is one that makes a piece
 made-short : (id document : List ℕ) (p : PieceValue) (read : Result Evidence FileFault) → read_of document ≡ read → piece_from id document read ≡ Ok p → length document ≤ MAX_DOCUMENT
 made-short id document p (Ok evidence) is h = read-short document evidence is
 made-short id document p (Err reason) is h = absurd cc

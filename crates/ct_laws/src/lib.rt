@@ -1,5 +1,5 @@
-//! Worked sessions and texts: what the definitions give for inputs whose replies are known. Nothing rests on them; each would notice
-//! a definition that is slightly wrong.
+//! Worked sessions and texts: what the definitions give for inputs whose replies are known; and a law of every input: the dump of the
+//! pieces that it leads to leads back to them. Nothing rests on them; each would notice a definition that is slightly wrong.
 #![tactic(auto)]
 
 mod dump;
