@@ -1,0 +1,4 @@
+mod DumpCommands
+mod DumpHeadings
+mod DumpNames
+mod DumpPieces

@@ -1,7 +1,9 @@
-//! Worked sessions and texts: what the definitions give for inputs whose replies are known. Nothing rests on them; each would notice
-//! a definition that is slightly wrong.
+//! Worked sessions and texts: what the definitions give for inputs whose replies are known; and a law of every input: the dump of the
+//! pieces that it leads to leads back to them. Nothing rests on them; each would notice a definition that is slightly wrong.
 #![tactic(auto)]
 
+mod dump;
 mod laws;
 
+pub use dump::dumps_lead_back;
 pub use laws::{known_runs, known_submissions, known_texts};
