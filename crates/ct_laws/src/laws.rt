@@ -1,6 +1,7 @@
 //! Sessions whose output is known, and texts of replies.
 
-ghost use Rattle.std.specs.Prelude.{◌≡◌, [], Some, None, false, true, codes};
+ghost use Rattle.std.specs.Prelude.{◌≡◌, ◌⊎◌, ◌↔◌, ℕ, List, [], Some, None, IsTrue, false, true, codes};
+ghost use Rattle.ct_text.specs.Gathering.{is_end};
 ghost use Rattle.ct_codes.specs.declared.fault.CodeFault.TheVariants as code;
 ghost use Rattle.ct_files.specs.declared.fault.FileFault.TheVariants as file;
 ghost use Rattle.ct_ledger.specs.declared.fault.SubmitFault.TheVariants as submit;
@@ -54,4 +55,9 @@ pub fn known_texts()
     ensures close { reply_text (Refused (refusal.Submission (submit.Code (code.Close 0 32 6)))) ≡ codes "refused close 0 32 6\n" }
     ensures nosuch { reply_text (Refused (refusal.Withdrawal (codes "hexa") withdraw.NoSuch)) ≡ codes "refused nosuch hexa\n" }
     ensures inuse { reply_text (Refused (refusal.Withdrawal (codes "golay") (withdraw.InUse (codes "oct")))) ≡ codes "refused inuse oct\n" }
+{}
+
+/// The line that ends a document is exactly `end`, or `end` and one carriage return.
+pub fn documents_end_there()
+    ensures { (line : List ℕ) → IsTrue (is_end line) ↔ ((line ≡ codes "end") ⊎ (line ≡ codes "end\r")) }
 {}
