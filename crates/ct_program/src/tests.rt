@@ -442,6 +442,16 @@ fn lines_get_their_replies(rt: HostRuntime) -> Result<(), Fail> {
 }
 
 #[test]
+fn a_command_of_two_thousand_bytes_gets_its_reply(rt: HostRuntime) -> Result<(), Fail> {
+    let alloc = rt.alloc();
+    let mut line = b"show".to_vec(alloc)?;
+    line.resize(1994, b' ')?;
+    line.extend_from_slice(b"10 6\r")?;
+    assert_reply(&rt, alloc, &line, b"1 <= A(10,6) <= 1024")?;
+    Ok(())
+}
+
+#[test]
 fn submitted_documents_get_their_replies(rt: HostRuntime) -> Result<(), Fail> {
     let alloc = rt.alloc();
     for (document, reply) in DOCUMENTS {
