@@ -36,6 +36,7 @@ use Rattle.ct_session.specs.Text.{reply_text}
 use Rattle.ct_session.specs.declared.reply.Reply.{Reply}
 use Rattle.ct_session.specs.declared.reply.Reply.TheVariants.{Accepted}
 use Rattle.ct_session.proofs.Existence.{AreStanding-fold}
+use Rattle.ct_laws.specs.Acceptance.{acceptance_text}
 use Rattle.ct_laws.proofs.DumpCommands.{submission, nothing}
 use Rattle.ct_laws.proofs.DumpHeadings.{heading, comment, IsLine-heading, IsLine-comment, form_of-heading, form_of-comment}
 use Rattle.ct_laws.proofs.DumpNames.{IsNamed, pieces_of-named}
@@ -129,7 +130,7 @@ pub dump_leads_back : (input : List ℕ) → pieces_of (dump_text (pieces_of inp
 dump_leads_back input = ap (fold pieces_after []) (dump_of-commands input) ∙ brought_back [] (pieces_of input) (stands input)
 
 -- the reply to the submission of a piece that is accepted
-abbrev pub acceptance : PieceValue → Reply
+abbrev acceptance : PieceValue → Reply
 acceptance p = Accepted p.id p.size
 
 -- submissions of pieces that stand after others are accepted
@@ -147,8 +148,14 @@ none_refused : (pieces : List PieceValue) → false ≡ list_any is_refusal (map
 none_refused [] = refl
 none_refused (p ∷ pieces) = none_refused pieces
 
+-- the texts of acceptances, piece by piece
+texts_of : (pieces : List PieceValue) → flat_map acceptance_text pieces ≡ flat_map reply_text (map acceptance pieces)
+texts_of [] = refl
+texts_of (p ∷ pieces) = ap (λ t. acceptance_text p ++ t) (texts_of pieces)
+
 -- the dump of the pieces that an input leads to is accepted, piece by piece
-pub dump_is_accepted : (input : List ℕ) → IsRun (dump_text (pieces_of input)) (flat_map reply_text (map acceptance (pieces_of input))) false
+pub dump_is_accepted : (input : List ℕ) → IsRun (dump_text (pieces_of input)) (flat_map acceptance_text (pieces_of input)) false
 dump_is_accepted input =
-    subst (λ (cs : List Command). AnswersCommands [] cs (flat_map reply_text (map acceptance (pieces_of input))) false) (sym (dump_of-commands input))
-    (record { replies = map acceptance (pieces_of input); are = accepted_again [] (pieces_of input) (stands input); texts = refl; mark = none_refused (pieces_of input) })
+    let pieces = pieces_of input in
+    subst (λ (cs : List Command). AnswersCommands [] cs (flat_map acceptance_text pieces) false) (sym (dump_of-commands input))
+    (record { replies = map acceptance pieces; are = accepted_again [] pieces (stands input); texts = texts_of pieces; mark = none_refused pieces })
