@@ -4,3 +4,4 @@ pub mod Pairs
 pub mod Check
 pub mod Claim
 pub mod Scheme
+pub mod Inside

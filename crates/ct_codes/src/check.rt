@@ -10,7 +10,7 @@ ghost use Rattle.ct_codes.specs.Check.{code_fault, size_fault, weight_fault, rep
 use crate::code::Code;
 use crate::entry::Entry;
 use crate::fault::{CodeFault, MAX_WORDS};
-use crate::pairs::first_close_pair;
+use crate::pairs::{close_pair_from, first_close_pair};
 use ct_words::{Word, distance, weight};
 use std::alloc::Global;
 
@@ -34,7 +34,7 @@ pub fn check_words(_alloc: Global, entry: Entry, words: Vec<Word>) -> Result<Cod
     let mut words = words;
     words.sort_unstable();
     let Entry { n, d, w } = entry;
-    Ok(Code::from_checked(n, d, w, words))
+    Ok(Code::from_sorted(n, d, w, words))
 }
 
 /// The first reason why the words are no code of the entry.
@@ -77,14 +77,15 @@ fn weight_fault(words: &[Word], w: Option<u32>) -> Option<CodeFault>
     None
 }
 
-/// The least pair of equal words, or else the least pair that is closer than `d`.
+/// The least pair of equal words, or else the least pair that is closer than `d`: no word before that pair is equal to a
+/// later one.
 fn pair_fault(words: &[Word], d: u32) -> Option<CodeFault>
     requires { 1 ≤ d }
     ensures { (n : ℕ) → All (λ x. x < 2 ^ n) words.now →
         result ≡ first_of (repeated_fault words.now) (close_fault n d words.now) }
 {
     let (i, j) = first_close_pair(words, d)?;
-    match first_close_pair(words, 1) {
+    match close_pair_from(words, i, 1) {
         Some((first, again)) => Some(CodeFault::Repeated(first, again)),
         None => Some(CodeFault::Close(i, j, distance(words[i], words[j]))),
     }

@@ -1,9 +1,10 @@
 //! Codes.
 
-ghost use Rattle.std.specs.Prelude.{◌≡◌};
+ghost use Rattle.std.specs.Prelude.{◌≡◌, IfOk};
 ghost use Rattle.ct_codes.specs.Code.{CodeValue, IsSoundCode};
 
 use ct_words::Word;
+use std::alloc::AllocError;
 use std::marker::Model;
 
 /// The greatest distance of a code, 60. Distances of the table end at `MAX_N`; above it is room for codes that are put
@@ -29,10 +30,12 @@ impl Model for Code {
 }
 
 impl Code {
-    /// The code of words that were checked and are in order.
-    pub(crate) fn from_checked(n: u32, d: u32, w: Option<u32>, words: Vec<Word>) -> Code
-        requires { IsSoundCode (record { n = n; d = d; w = w; words = words.items }) }
-        ensures { result ≡ record { n = n; d = d; w = w; words = words.items } }
+    /// The code of words that are one: words of length n in strictly ascending order, each two at distance at least d, and
+    /// of weight w where it is given. Nothing is tested, and no memory taken; so a code is also read at a smaller
+    /// distance, or without its weight.
+    pub fn from_sorted(n: u32, d: u32, w: Option<u32>, words: Vec<Word>) -> Code
+        requires code { IsSoundCode (record { n = n; d = d; w = w; words = words.items }) }
+        ensures value { result ≡ record { n = n; d = d; w = w; words = words.items } }
     {
         Code { n, d, w, words }
     }
@@ -67,5 +70,26 @@ impl Code {
         ensures sound { IsSoundCode self.now }
     {
         &self.words
+    }
+
+    /// The words of the code, in ascending order, as a vector of their own. It takes no memory.
+    pub fn into_words(self) -> Vec<Word>
+        ensures value { result.items ≡ self.words }
+        ensures sound { IsSoundCode self }
+    {
+        self.words
+    }
+
+    /// A copy: the same length, distance, weight and words.
+    pub fn try_copy(&self) -> Result<Code, AllocError>
+        ensures { IfOk result (λ c. c ≡ self.now) }
+    {
+        let words = self.words.clone()?;
+        Ok(Code {
+            n: self.n,
+            d: self.d,
+            w: self.w,
+            words,
+        })
     }
 }

@@ -3,11 +3,14 @@ use Rattle.ct_codes.specs.Check.{code_fault}
 use Rattle.ct_codes.proofs.CheckLemmas.{sound_from_check, code_from_no_fault}
 use Rattle.ct_codes.proofs.check.check_words.Goals as goal
 
-pub from_checked-requires : goal.from_checked-requires
-from_checked-requires c =
+pub from_sorted-requires : goal.from_sorted-requires
+from_sorted-requires c =
     let no_fault = sym (ap (code_fault c.args.entry) c.deref.ensures.value) ∙ sym c.in_default.ensures in
-    sound_from_check c.args.entry c.args.words.items c.sort_unstable.new.self.items c.requires.entry c.requires.words no_fault
-    c.sort_unstable.ensures.permutation c.sort_unstable.ensures.sorted
+    record {
+      code =
+          sound_from_check c.args.entry c.args.words.items c.sort_unstable.new.self.items c.requires.entry c.requires.words no_fault
+          c.sort_unstable.ensures.permutation c.sort_unstable.ensures.sorted;
+    }
 
 pub returns-clause-code : goal.returns-clause-code
 returns-clause-code c =
