@@ -3,3 +3,4 @@ pub mod EntryLemmas
 pub mod CheckLemmas
 pub mod BoundLemmas
 pub mod DigitCodes
+mod NearLemmas

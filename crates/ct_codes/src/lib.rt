@@ -7,6 +7,7 @@ mod code;
 mod entry;
 mod fault;
 mod laws;
+mod near;
 mod pairs;
 mod scheme;
 #[cfg(test)]
