@@ -3,6 +3,9 @@
 /// The greatest number of words of a code that is handed in.
 pub const MAX_WORDS: usize = 16384;
 
+/// The greatest number of representatives of cosets.
+pub const MAX_REPRESENTATIVES: usize = 4096;
+
 /// Why a list of words is no code of an entry. Places count from 0, in the list as it was handed in.
 #[derive(Clone, Copy, Debug, PartialEq, Eq)]
 pub enum CodeFault {

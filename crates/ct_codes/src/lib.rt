@@ -17,7 +17,7 @@ pub use check::check_words;
 pub use claim::{Claim, Side};
 pub use code::{Code, MAX_CODE_DISTANCE};
 pub use entry::Entry;
-pub use fault::{CodeFault, MAX_WORDS};
+pub use fault::{CodeFault, MAX_REPRESENTATIVES, MAX_WORDS};
 pub use laws::{
     bounds_of_every_entry, entries_of_the_table, faultless_lists_are_codes, known_faults,
     least_pair_is_least,
