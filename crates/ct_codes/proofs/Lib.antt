@@ -3,3 +3,5 @@ pub mod EntryLemmas
 pub mod CheckLemmas
 pub mod BoundLemmas
 pub mod DigitCodes
+pub mod SpanLemmas
+pub mod CosetLemmas

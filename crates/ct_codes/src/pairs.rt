@@ -8,7 +8,7 @@ use ct_words::{Word, distance};
 
 /// The first place of `others` whose word has a distance below `d` from `word`. All are words of length 32, too.
 #[inline(never)]
-fn first_close(word: Word, others: &[Word], d: u32) -> Option<usize>
+pub(crate) fn first_close(word: Word, others: &[Word], d: u32) -> Option<usize>
     ensures { result ≡ position (λ x. nat_lt (distance 32 word x) d) others.now }
 {
     others.iter().position(|other| distance(word, *other) < d)
