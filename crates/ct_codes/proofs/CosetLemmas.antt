@@ -1,5 +1,5 @@
 -- Pairs of choices that are close, and what it means that a coset code has no fault.
-use Rattle.std.proofs.Common.{◌≡◌, ℕ, suc, ◌+◌, ◌-◌, ◌*◌, ◌/◌, ◌%◌, ◌^◌, ◌<◌, ◌≤◌, ◌||◌, ◌==◌, nat_lt, bit_xor, List, [], ◌∷◌, length, drop, get_or, position, slice_index, Option, Some, None, IfSome, IsFalse, All, AllPairs, IsPermutation, IsSorted, nat_cmp, subst, sym, refl, ap, ap₂, ◌∙◌, inl, inr, arith, pow_pos, length-drop, ne_eqb}
+use Rattle.std.proofs.Common.{◌≡◌, ℕ, suc, ◌+◌, ◌-◌, ◌*◌, ◌/◌, ◌%◌, ◌^◌, ◌<◌, ◌≤◌, ◌||◌, ◌==◌, nat_lt, Bool, false, bit_xor, List, [], ◌∷◌, length, drop, get_or, position, slice_index, Option, Some, None, IfSome, IsFalse, All, AllPairs, IsPermutation, IsSorted, nat_cmp, subst, sym, refl, ap, ap₂, ◌∙◌, inl, inr, arith, pow_pos, length-drop, ne_eqb}
 use Rattle.std.specs.Int.Bits.{xor_assoc, xor_self, xor_zero_l, xor_zero_r}
 use Rattle.std.proofs.Math.Nat.{mul-le-mul_left, mul-le-mul_right}
 use Rattle.std.proofs.lemmas.Nat.{xor_lt, shr_split, mod_below, div_below}
@@ -122,7 +122,7 @@ passes_with_none test xs i m none order within = elim (position_cases (test (get
 pub row-passed : (n d : ℕ) (basis representatives : List ℕ) (a s m : ℕ) → All (λ x. x < 2 ^ n) (coset_list basis representatives)
     → a < length representatives → s < 2 ^ length basis → a * 2 ^ length basis + s < m → m < length (coset_list basis representatives)
     → position (λ y. nat_lt (distance n (get_or (coset_list basis representatives) (a * 2 ^ length basis) 0) y) d)
-      (drop (a * 2 ^ length basis + 1) (coset_list basis representatives)) ≡ None
+    (drop (a * 2 ^ length basis + 1) (coset_list basis representatives)) ≡ None
     → nat_lt (distance n (get_or (coset_list basis representatives) (a * 2 ^ length basis + s) 0) (get_or (coset_list basis representatives) m 0)) d ≡ false
 row-passed n d basis representatives a s m below row column order within none =
     let words = coset_list basis representatives in
@@ -165,6 +165,15 @@ row-of_choices n d basis representatives a = λ below row before none k m sooner
       ∙ row-passed n d basis representatives a s m below row (omega arith) (omega arith) within none
 ]
 
+-- each row begins within the words of all choices
+pub row-within : (words basis representatives : List ℕ) (a span : ℕ) → words ≡ coset_list basis representatives → span ≡ 2 ^ length basis
+    → a < length representatives → a * span < length words
+row-within words basis representatives a span words_is span_is row =
+    let size = ap length words_is ∙ length-coset_list basis representatives in
+    let within = place_within a 0 (length representatives) (2 ^ length basis) row (pow_pos (length basis)) in
+    let start = ap (λ q. a * q) span_is in
+    omega arith
+
 -- the rows of the words of all choices, one for each representative
 pub rows-of_choices : (n d : ℕ) (words basis representatives : List ℕ) (a span : ℕ) → words ≡ coset_list basis representatives → span ≡ 2 ^ length basis
     → RowPasses n d (length representatives) a words span
@@ -191,7 +200,7 @@ size_fault-none_from : (basis representatives : List ℕ) → length basis ≤ M
 size_fault-none_from basis representatives few some not_many = rw (
   le-ltb MAX_N (length basis) few,
   or_from (length representatives == 0) (nat_lt MAX_REPRESENTATIVES (length representatives))
-    (ne_eqb (length representatives) 0 (omega arith)) (le-ltb MAX_REPRESENTATIVES (length representatives) not_many),
+      (ne_eqb (length representatives) 0 (omega arith)) (le-ltb MAX_REPRESENTATIVES (length representatives) not_many),
 )
 
 -- and so is the work
@@ -222,7 +231,7 @@ code_from_distances e words positive plain below far = record {
 pub cosets_from_no_fault : (e : Entry) (basis representatives : List ℕ) → 1 ≤ e.d → e.w ≡ None
     → All (λ x. x < 2 ^ e.n) basis → All (λ x. x < 2 ^ e.n) representatives → coset_fault e basis representatives ≡ None
     → (length basis ≤ MAX_N) × (1 ≤ length representatives) × (length representatives ≤ MAX_REPRESENTATIVES)
-      × (coset_work basis representatives ≤ MAX_COSET_WORK) × IsCodeOf e (coset_list basis representatives)
+    × (coset_work basis representatives ≤ MAX_COSET_WORK) × IsCodeOf e (coset_list basis representatives)
 unfolding coset_fault
 cosets_from_no_fault e basis representatives positive plain basis_below below no_fault =
     let first = first_of-None (coset_size_fault basis representatives) _ no_fault in
@@ -233,7 +242,7 @@ cosets_from_no_fault e basis representatives positive plain basis_below below no
       size.2,
       work_fault-none basis representatives second.0,
       code_from_distances e (coset_list basis representatives) positive plain (coset_list-lt e.n basis representatives basis_below below)
-        (close-none e.n e.d (coset_list basis representatives) second.1),
+          (close-none e.n e.d (coset_list basis representatives) second.1),
     )
 
 -- and where they are, there is no fault

@@ -1,5 +1,5 @@
 -- Sums over a basis, and the words of choices.
-use Rattle.std.proofs.Common.{◌≡◌, ℕ, zero, suc, ◌+◌, ◌*◌, ◌/◌, ◌%◌, ◌^◌, ◌<◌, ◌==◌, if◌then◌else◌, Bool, true, false, bit_xor, List, [], ◌∷◌, ◌++◌, length, map, get_or, All, subst, sym, refl, ap, ap₂, ◌∙◌, arith, pow-suc, pow_pos}
+use Rattle.std.proofs.Common.{◌≡◌, ℕ, zero, suc, ◌+◌, ◌*◌, ◌/◌, ◌%◌, ◌^◌, ◌<◌, ◌==◌, if◌then◌else◌, Bool, true, false, bit_xor, List, [], ◌∷◌, ◌++◌, length, map, get_or, All, subst, sym, refl, ap, ap₂, ◌∙◌, arith, add-one, pow-suc, pow_pos}
 use Rattle.std.specs.Int.Bits.{xor_assoc, xor_self, xor_zero_l, xor_zero_r}
 use Rattle.std.proofs.lemmas.Nat.{xor_comm, xor_lt, xor_mod, xor_shr, xor_block, div-mul-add, mod-mul-add, mod_below, div_below}
 use Rattle.std.proofs.lemmas.List.Elements.{All-head, All-tail, All-from_get_or}
@@ -90,12 +90,12 @@ pub translated-doubled : (basis : List ℕ) (x i : ℕ) → i < length basis
 translated-doubled basis x i within =
     let more = get_or basis i 0 in
     let word = λ (s : ℕ). bit_xor x (span_word basis s) in
-    let double = pow-suc 2 i in
+    let double = ap (λ j. 2 ^ j) (add-one i) ∙ pow-suc 2 i in
     let twice : 2 ^ i + 2 ^ i ≡ 2 ^ (i + 1) = omega arith in
     ap (λ ys. tabulate word (2 ^ i) ++ ys)
     (map-tabulate (λ y. bit_xor y more) word (2 ^ i)
     ∙ tabulate_same (λ s. bit_xor (word s) more) (λ s. word (2 ^ i + s)) (2 ^ i)
-      (λ s below. xor_assoc x (span_word basis s) more ∙ ap (bit_xor x) (sym (span_word-next basis i s within below))))
+    (λ s below. xor_assoc x (span_word basis s) more ∙ ap (bit_xor x) (sym (span_word-next basis i s within below))))
     ∙ sym (tabulate-add word (2 ^ i) (2 ^ i)) ∙ ap (tabulate word) twice
 
 -- the word of a choice, by the place of its representative and what it chooses of the basis
@@ -104,6 +104,10 @@ pub choice_word-at : (basis representatives : List ℕ) (a s : ℕ) → s < 2 ^ 
 choice_word-at basis representatives a s below =
     ap₂ (λ p q. bit_xor (get_or representatives p 0) (span_word basis q))
     (div-mul-add a (2 ^ length basis) s below) (mod-mul-add a (2 ^ length basis) s below)
+
+-- the sum of a word with no basis word
+pub translated-none : (basis : List ℕ) (x : ℕ) → x ≡ bit_xor x (span_word basis 0)
+translated-none basis x = sym (xor_zero_r x) ∙ ap (bit_xor x) (sym (span_word-zero basis))
 
 -- the choices of one representative more
 pub choices-more : (basis representatives : List ℕ) (a : ℕ)
@@ -115,7 +119,7 @@ choices-more basis representatives a =
     let total : a * span + span ≡ (a + 1) * span = omega arith in
     ap (λ ys. tabulate word (a * span) ++ ys)
     (tabulate_same (λ s. bit_xor (get_or representatives a 0) (span_word basis s)) (λ s. word (a * span + s)) span
-      (λ s below. sym (choice_word-at basis representatives a s below)))
+    (λ s below. sym (choice_word-at basis representatives a s below)))
     ∙ sym (tabulate-add word (a * span) span) ∙ ap (tabulate word) total
 
 -- the choices of all representatives
@@ -144,5 +148,5 @@ coset_list-lt n basis representatives basis_below below =
     let place = t / 2 ^ length basis in
     subst (λ z. z < 2 ^ n) (sym (get_or-coset_list basis representatives t within))
     (xor_lt n (get_or representatives place 0) (span_word basis (t % 2 ^ length basis))
-      (below place 0 (div_below t (2 ^ length basis) (length representatives) (pow_pos (length basis)) within))
-      (span_word-lt n basis (t % 2 ^ length basis) basis_below)))
+    (below place 0 (div_below t (2 ^ length basis) (length representatives) (pow_pos (length basis)) within))
+    (span_word-lt n basis (t % 2 ^ length basis) basis_below)))

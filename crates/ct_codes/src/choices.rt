@@ -1,6 +1,6 @@
 //! The words of all choices of a coset code, and the search for two that are too close.
 
-ghost use Rattle.std.specs.Prelude.{◌≡◌, ℕ, ◌+◌, ◌^◌, ◌<◌, ◌≤◌, ◌++◌, nat_lt, bit_xor, length, vec_len, drop, map, All, IfOk, OnOk, IfSome};
+ghost use Rattle.std.specs.Prelude.{◌≡◌, ℕ, ◌+◌, ◌^◌, ◌<◌, ◌≤◌, ◌++◌, nat_lt, bit_xor, length, slice_index, position, drop, map, All, IfOk, OnOk, IfSome};
 ghost use Rattle.ct_words.specs.declared.limits.TheConstants.{MAX_N};
 ghost use Rattle.ct_words.specs.Word.{distance};
 ghost use Rattle.ct_codes.specs.Pairs.{least_pair};
@@ -51,6 +51,15 @@ fn append_sums(words: &mut Vec<Word>, start: usize, word: Word) -> Result<(), Al
     Ok(())
 }
 
+/// How many places after the next one the first word stands that has a distance below `d` from the word at `place`. All
+/// are words of length 32, too.
+fn first_close_after(words: &[Word], place: usize, d: u32) -> Option<usize>
+    requires { place < length words.now }
+    ensures { result ≡ position (λ x. nat_lt (distance 32 (slice_index words.now place) x) d) (drop (place + 1) words.now) }
+{
+    first_close(words[place], &words[place + 1..], d)
+}
+
 /// The least pair of choices, in order of the first and then the second, whose words, all of which are handed in, have
 /// a distance below `d`.
 ///
@@ -71,7 +80,7 @@ pub(crate) fn close_choices(
     let span = 1usize << basis.len();
     for place in 0..representatives.len() {
         let first = place * span;
-        if let Some(more) = first_close(words[first], &words[first + 1..], d) {
+        if let Some(more) = first_close_after(words, first, d) {
             return Some((first, first + 1 + more));
         }
     }

@@ -57,7 +57,8 @@ pub fn check_cosets(
         record { entry = entry; basis = basis.items; representatives = representatives.items }) }
     ensures sound { IfOk result IsSoundCosetCode }
 {
-    match first_fault(alloc, entry, &basis, &representatives)? {
+    let fault = first_fault(alloc, entry, &basis, &representatives)?;
+    match fault {
         Some(fault) => Err(fault),
         None => Ok(CosetCode {
             entry,

@@ -122,8 +122,19 @@ fn limits_of_cosets(rt: HostRuntime) -> Result<(), Fail> {
         (1, 1, CodeFault::Close(0, 1, 0)),
     ];
     for (basis_words, representatives, wanted) in rows {
-        let refused = answer(&rt, alloc, 28, 3, &zeros[..basis_words], &zeros[..representatives])?;
-        assert_eq!(rt; refused.err(), Some(wanted), "{basis_words} and {representatives}");
+        let refused = answer(
+            &rt,
+            alloc,
+            28,
+            3,
+            &zeros[..basis_words],
+            &zeros[..representatives],
+        )?;
+        assert_eq!(rt;
+            refused.err(),
+            Some(wanted),
+            "{basis_words} and {representatives}"
+        );
     }
     Ok(())
 }
@@ -136,8 +147,16 @@ fn equal_choices(rt: HostRuntime) -> Result<(), Fail> {
         (&[0b00001111, 0b00001111], &[0], CodeFault::Close(0, 3, 0)),
         (&[0b00001111, 0], &[0], CodeFault::Close(0, 2, 0)),
         (&[0, 0b00001111], &[0], CodeFault::Close(0, 1, 0)),
-        (&[], &[0, 0b00001111, 0b11110000, 0b00001111], CodeFault::Close(1, 3, 0)),
-        (&[0b00001111], &[0, 0b11110000, 0b11111111], CodeFault::Close(2, 5, 0)),
+        (
+            &[],
+            &[0, 0b00001111, 0b11110000, 0b00001111],
+            CodeFault::Close(1, 3, 0),
+        ),
+        (
+            &[0b00001111],
+            &[0, 0b11110000, 0b11111111],
+            CodeFault::Close(2, 5, 0),
+        ),
     ];
     for (basis, representatives, wanted) in rows {
         let refused = answer(&rt, alloc, 8, 4, basis, representatives)?;

@@ -1,6 +1,6 @@
-use Rattle.std.proofs.Common.{◌≡◌, ◌∙◌, sym, ap, ℕ, ◌+◌, ◌-◌, ◌<◌, ◌≤◌, bit_xor, List, [], ◌∷◌, ◌++◌, length, map, take, drop, get_or, take_all, length-drop, append_assoc, arith}
+use Rattle.std.proofs.Common.{◌≡◌, ◌∙◌, sym, ap, ap₂, ℕ, ◌+◌, ◌-◌, ◌<◌, ◌≤◌, bit_xor, List, [], ◌∷◌, ◌++◌, length, map, take, drop, get_or, take_all, length-append, length-drop, append_assoc, arith}
 use Rattle.std.proofs.Math.ListN.{get_or-append}
-use Rattle.std.proofs.lemmas.List.{get_or-drop, take_more, map-append}
+use Rattle.std.proofs.lemmas.List.{get_or-drop, get_or_default, take_more, map-append}
 use Rattle.ct_codes.proofs.choices.append_sums.Goals as goal
 
 -- the image of one item more
@@ -26,3 +26,17 @@ image_all : (old : List ℕ) (f : ℕ → ℕ) (start place : ℕ) → length ol
 image_all old f start place all =
     let size = length-drop start old in
     ap (λ ys. old ++ map f ys) (take_all (place - start) (drop start old) (omega arith))
+
+pub loop-place-preserved : goal.loop-place-preserved
+loop-place-preserved c =
+    let old = c.args.words.now.items in
+    let f = λ (x : ℕ). bit_xor x c.args.word in
+    let start = c.args.start in
+    let place = c.loop-place.place in
+    let from : start ≤ place = omega arith in
+    let within : place < length old = omega arith in
+    let grown = ap length c.loop-place.invariant ∙ length-append old (map f (take (place - start) (drop start old))) in
+    let in_words : place < length c.loop-place.words.items = omega arith in
+    let read = c.index.ensures ∙ get_or_default c.loop-place.words.items place c.index.result.now 0 in_words
+    ∙ ap (λ xs. get_or xs place 0) c.loop-place.invariant in
+    c.in_ok-push.ensures.items ∙ ap₂ (λ xs y. xs ++ f y ∷ []) c.loop-place.invariant read ∙ image_more old f start place from within
