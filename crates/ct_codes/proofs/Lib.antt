@@ -4,3 +4,5 @@ pub mod CheckLemmas
 pub mod BoundLemmas
 pub mod DigitCodes
 mod NearLemmas
+pub mod SpanLemmas
+pub mod CosetLemmas
