@@ -1,5 +1,5 @@
 -- Which submissions are accepted.
-use Rattle.std.proofs.Common.{◌≡◌, ◌≢◌, ℕ, ◌+◌, ◌≤◌, Bool, true, false, ◌||◌, List, [], ◌∷◌, ◌++◌, length, map, Option, Some, None, Result, Ok, Err, refl, sym, ap, ◌∙◌, subst, inl, inr, ◌⊎◌, ◌↔◌, lit<, ◌<◌, arith}
+use Rattle.std.proofs.Common.{◌≡◌, ◌≢◌, ℕ, ◌+◌, ◌≤◌, Bool, true, false, ◌||◌, List, [], ◌∷◌, map, Option, Result, Ok, Err, refl, sym, ap, ◌∙◌, subst, inl, inr, ◌↔◌, lit<, arith}
 use Rattle.std.specs.Prelude.{All, Contains, IsTrue}
 use Rattle.std.specs.Str.{bytes_eq}
 use Rattle.std.proofs.lemmas.List.Elements.{All-head, All-tail, Contains-append_left, Contains-append_right, Contains-append_cases, All-contains, All-cons, All-nil}
@@ -12,7 +12,6 @@ use Rattle.ct_files.proofs.Evidences.{read_of-sound}
 use Rattle.ct_ledger.specs.Piece.{PieceValue, has_id, stored_by, stored_words}
 use Rattle.ct_ledger.specs.Submission.{evidence_fault, piece_of, made_unless, piece_from, submitted, IsAccepted}
 use Rattle.ct_ledger.specs.declared.limits.TheConstants.{MAX_STORED}
-use Rattle.ct_ledger.specs.declared.fault.SubmitFault.{SubmitFault}
 use Rattle.ct_ledger.proofs.StandingLemmas.{no_evidence_fault, no_fault_of_evidence, WasMade, submitted-ok, submitted-from, has_id-none, made_unless-ok}
 
 -- an id that no piece has is not taken

@@ -1,5 +1,5 @@
 -- The pieces of evidence that stand.
-use Rattle.std.specs.Prelude.{ℕ, ◌+◌, Bool, false, List, find, length, sum_by, Option, Some, None}
+use Rattle.std.specs.Prelude.{ℕ, ◌+◌, Bool, false, List, find, length, sum_by, Option}
 use Rattle.std.specs.List.{list_any}
 use Rattle.std.specs.Str.{bytes_eq}
 use Rattle.ct_codes.specs.declared.entry.Entry.{Entry}

@@ -1,6 +1,5 @@
 -- The texts of refusals and of the lines of a ledger.
-use Rattle.std.specs.Prelude.{ℕ, List, [], ◌∷◌, ◌++◌, Option, Some, None, codes}
-use Rattle.std.specs.Fmt.{decimal}
+use Rattle.std.specs.Prelude.{ℕ, List, [], ◌++◌, Option, Some, None, codes}
 use Rattle.ct_text.specs.Number.{spaced}
 use Rattle.ct_text.specs.EntryText.{entry_words}
 use Rattle.ct_codes.specs.declared.fault.CodeFault.{CodeFault}
