@@ -1,5 +1,5 @@
 -- Words with one more digit: their weights and distances, and the codes that they make.
-use Rattle.std.proofs.Common.{◌≡◌, ℕ, suc, ◌+◌, ◌*◌, ◌/◌, ◌%◌, ◌^◌, ◌<◌, ◌≤◌, Bool, not, ◌==◌, List, length, Option, subst, refl, sym, ap, ap₂, ◌∙◌, inl, inr, arith, pow-suc, add-one, eq-eqb, ne_eqb}
+use Rattle.std.proofs.Common.{◌≡◌, ℕ, suc, ◌+◌, ◌*◌, ◌/◌, ◌%◌, ◌^◌, ◌<◌, ◌≤◌, not, ◌==◌, List, length, Option, subst, refl, ap, ap₂, ◌∙◌, inl, inr, arith, pow-suc, add-one, eq-eqb, ne_eqb}
 use Rattle.std.specs.Option.{option_map}
 use Rattle.std.specs.List.Sorted.{IsStrictlyIncreasing}
 use Rattle.std.proofs.lemmas.Bool.{cases_eq}

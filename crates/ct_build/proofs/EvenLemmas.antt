@@ -1,12 +1,12 @@
 -- The words of even weight.
-use Rattle.std.proofs.Common.{◌≡◌, ◌≢◌, ℕ, zero, suc, ◌+◌, ◌-◌, ◌*◌, ◌%◌, ◌^◌, ◌<◌, ◌≤◌, Bool, true, cond, ◌==◌, List, [], ◌∷◌, ◌++◌, map, length, get_or, None, All, AllPairs, refl, sym, ap, ap₂, ◌∙◌, inl, inr, arith, append_assoc, append-nil, pow_pos, pow-suc, add-one, eq-eqb, ne_eqb, eqb-true}
+use Rattle.std.proofs.Common.{◌≡◌, ◌≢◌, ℕ, zero, suc, ◌+◌, ◌-◌, ◌*◌, ◌%◌, ◌^◌, ◌<◌, ◌≤◌, Bool, true, cond, ◌==◌, List, [], ◌∷◌, ◌++◌, length, None, All, AllPairs, refl, sym, ap, ap₂, ◌∙◌, inl, inr, arith, append_assoc, append-nil, pow_pos, pow-suc, add-one, eq-eqb, ne_eqb, eqb-true}
 use Rattle.std.specs.List.{filter}
 use Rattle.std.specs.List.Sorted.{IsStrictlyIncreasing}
 use Rattle.std.proofs.lemmas.Bool.{cases_eq}
 use Rattle.std.proofs.lemmas.Nat.{mod_below}
-use Rattle.std.proofs.lemmas.List.{get_or_default, map_push, length-map}
+use Rattle.std.proofs.lemmas.List.{map_push, length-map}
 use Rattle.std.proofs.lemmas.List.Elements.{All-from_get_or, All-filter, All-weaker, filter_passes, filter-append}
-use Rattle.std.proofs.lemmas.List.Kept.{AllPairs-filter, AllPairs-from_increasing, IsStrictlyIncreasing-filter}
+use Rattle.std.proofs.lemmas.List.Kept.{AllPairs-from_increasing, IsStrictlyIncreasing-filter}
 use Rattle.ct_counting.proofs.Pairs.{AllPairs-weaker, AllPairs-within}
 use Rattle.ct_words.specs.Word.{weight, distance}
 use Rattle.ct_words.specs.Text.{tabulate}

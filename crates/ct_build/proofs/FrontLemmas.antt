@@ -1,7 +1,7 @@
 -- The first words of a code, and codes that are read at less than they are.
-use Rattle.std.proofs.Common.{◌≡◌, ◌≢◌, ℕ, ◌+◌, ◌^◌, ◌<◌, ◌≤◌, List, take, length, get_or, length-take, Option, Some, None, IfSome, All, arith}
+use Rattle.std.proofs.Common.{◌≡◌, ◌≢◌, ℕ, ◌+◌, ◌^◌, ◌<◌, ◌≤◌, List, take, length-take, Option, Some, None, IfSome, All, arith}
 use Rattle.std.specs.List.Sorted.{IsStrictlyIncreasing}
-use Rattle.std.proofs.lemmas.List.{get_or-take, length-take-le}
+use Rattle.std.proofs.lemmas.List.{get_or-take}
 use Rattle.std.proofs.lemmas.List.Elements.{All-take}
 use Rattle.ct_counting.proofs.Pairs.{AllPairs-take, AllPairs-weaker}
 use Rattle.ct_words.specs.Word.{weight, distance}

@@ -1,11 +1,11 @@
 -- When a list of words is the value of a code.
-use Rattle.std.proofs.Common.{◌≡◌, ◌≢◌, ℕ, suc, ◌+◌, ◌^◌, ◌<◌, ◌≤◌, List, [], ◌∷◌, length, get_or, Option, Some, None, IfSome, All, AllPairs, IsPermutation, IsSorted, nat_cmp, sym, ap, ◌∙◌, arith, ne_eqb, eqb, pow_mono}
+use Rattle.std.proofs.Common.{◌≡◌, ℕ, ◌^◌, ◌<◌, ◌≤◌, List, length, get_or, Option, Some, None, IfSome, All, IsPermutation, IsSorted, nat_cmp, arith, ne_eqb, eqb, pow_mono}
 use Rattle.std.specs.Option.{ForSome}
 use Rattle.std.proofs.lemmas.List.Elements.{All-weaker}
 use Rattle.std.proofs.lemmas.List.Sorted.{length_permutation, IsNonDecreasingBy-from_sort}
 use Rattle.std.proofs.lemmas.Map.Keys.{IsDistinct-from_apart, IsStrictlyIncreasing-from_distinct}
 use Rattle.ct_words.specs.declared.limits.TheConstants.{MAX_N}
-use Rattle.ct_words.specs.Word.{weight, distance}
+use Rattle.ct_words.specs.Word.{weight}
 use Rattle.ct_words.proofs.WordLemmas.{weight-le}
 use Rattle.ct_codes.specs.declared.code.TheConstants.{MAX_CODE_DISTANCE}
 use Rattle.ct_codes.specs.Code.{IsCode, CodeValue, IsSoundCode}

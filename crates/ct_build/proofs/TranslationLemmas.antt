@@ -1,12 +1,13 @@
 -- Words with one word added to each, and the codes that they make.
-use Rattle.std.proofs.Common.{◌≡◌, ◌≢◌, ℕ, zero, suc, ◌+◌, ◌-◌, ◌*◌, ◌%◌, ◌^◌, ◌<◌, ◌≤◌, Bool, true, false, not, ◌==◌, bit_xor, List, length, Option, Some, None, All, AllPairs, IsPermutation, IsSorted, nat_cmp, refl, sym, ap, ap₂, ◌∙◌, arith, eqb-true}
+use Rattle.std.proofs.Common.{◌≡◌, ◌≢◌, ℕ, zero, suc, ◌+◌, ◌-◌, ◌*◌, ◌%◌, ◌^◌, ◌<◌, ◌≤◌, Bool, true, false, not, ◌==◌, bit_xor, cond, List, [], ◌∷◌, ◌++◌, take, length, get_or, Option, Some, None, All, IsPermutation, IsSorted, nat_cmp, refl, sym, ap, ◌∙◌, inl, inr, arith, append-nil, eq-eqb, ne_eqb, eqb-true}
 use Rattle.std.specs.Option.{option_map}
 use Rattle.std.specs.List.{filter}
 use Rattle.std.proofs.Math.Pow.{ones_lt}
 use Rattle.std.proofs.lemmas.Nat.{xor_lt}
 use Rattle.std.proofs.lemmas.Nat.Bits.{bit_at_ones}
-use Rattle.std.proofs.lemmas.List.{length-map}
-use Rattle.std.proofs.lemmas.List.Elements.{All-filter, All-weaker, filter_passes}
+use Rattle.std.proofs.lemmas.List.{length-map, map_more}
+use Rattle.std.proofs.lemmas.Bool.{cases_Bool}
+use Rattle.std.proofs.lemmas.List.Elements.{All-filter, All-weaker, filter_passes, filter-append}
 use Rattle.std.proofs.lemmas.List.Kept.{AllPairs-filter}
 use Rattle.ct_counting.proofs.Pairs.{AllPairs-within}
 use Rattle.ct_words.specs.Word.{places, digit, weight, distance}
@@ -128,3 +129,32 @@ sound-selected c by w ys sound below filled moved sorted =
     let high = far.1 in
     IsSoundCode-sorted c.n (even_from c.d) (Some w) (selected c.n by w c.words) ys sound.length_in_range (omega arith, omega arith) filled
     (IsCode-selected c.n c.d by w c.w c.words below sound.code) moved sorted
+
+-- one more word in the search for sums of one weight
+pub selected-more_yes : (n by w : ℕ) (words : List ℕ) (i : ℕ) → i < length words → weight n (bit_xor (get_or words i 0) by) ≡ w
+    → selected n by w (take (i + 1) words) ≡ selected n by w (take i words) ++ bit_xor (get_or words i 0) by ∷ []
+selected-more_yes n by w words i within is =
+    let passes : ℕ → Bool = λ x. weight n x == w in
+    ap (filter passes) (map_more (λ x. bit_xor x by) words i 0 within) ∙ filter-append passes (translated by (take i words)) (bit_xor (get_or words i 0) by ∷ [])
+    ∙ ap (λ b. selected n by w (take i words) ++ cond b (bit_xor (get_or words i 0) by ∷ []) []) (eq-eqb (weight n (bit_xor (get_or words i 0) by)) w is)
+
+pub selected-more_no : (n by w : ℕ) (words : List ℕ) (i : ℕ) → i < length words → weight n (bit_xor (get_or words i 0) by) ≢ w
+    → selected n by w (take (i + 1) words) ≡ selected n by w (take i words)
+selected-more_no n by w words i within other =
+    let passes : ℕ → Bool = λ x. weight n x == w in
+    ap (filter passes) (map_more (λ x. bit_xor x by) words i 0 within) ∙ filter-append passes (translated by (take i words)) (bit_xor (get_or words i 0) by ∷ [])
+    ∙ ap (λ b. selected n by w (take i words) ++ cond b (bit_xor (get_or words i 0) by ∷ []) []) (ne_eqb (weight n (bit_xor (get_or words i 0) by)) w other)
+    ∙ append-nil (selected n by w (take i words))
+
+-- a sum of the weight is among those that are selected
+pub selected-some : (n by w : ℕ) (words : List ℕ) (i : ℕ) → i < length words → weight n (bit_xor (get_or words i 0) by) ≡ w → selected n by w words ≢ []
+selected-some n by w [] i within is = absurd (omega arith)
+selected-some n by w (x ∷ xs) zero within is = λ none.
+    let first : selected n by w (x ∷ xs) ≡ bit_xor x by ∷ selected n by w xs = rw (eq-eqb (weight n (bit_xor x by)) w is) refl in
+    cc
+selected-some n by w (x ∷ xs) (suc i) within is = λ none. elim (cases_Bool (weight n (bit_xor x by) == w)) [
+  | inl passes ↦ let first : selected n by w (x ∷ xs) ≡ bit_xor x by ∷ selected n by w xs = rw passes refl in cc
+  | inr fails ↦
+      let rest : selected n by w (x ∷ xs) ≡ selected n by w xs = rw fails refl in
+      selected-some n by w xs i (omega arith) is (sym rest ∙ none)
+]

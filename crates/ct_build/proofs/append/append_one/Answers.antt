@@ -1,6 +1,5 @@
-use Rattle.std.proofs.Common.{subst, sym, ap, ◌∙◌, ◌+◌}
+use Rattle.std.proofs.Common.{sym, ap, ◌∙◌, ◌+◌}
 use Rattle.std.specs.Option.{option_map}
-use Rattle.ct_words.specs.declared.limits.TheConstants.{MAX_N}
 use Rattle.ct_build.specs.Append.{one_appended}
 use Rattle.ct_build.proofs.Sound.{IsSoundCode-same, weight_limit}
 use Rattle.ct_build.proofs.AppendLemmas.{sound-one_appended}

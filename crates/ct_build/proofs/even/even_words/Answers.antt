@@ -1,4 +1,4 @@
-use Rattle.std.proofs.Common.{refl, sym, ap, ◌∙◌, None, length}
+use Rattle.std.proofs.Common.{refl, ap, ◌∙◌, None, length}
 use Rattle.ct_build.specs.Even.{even_words}
 use Rattle.ct_build.proofs.Sound.{IsSoundCode-same}
 use Rattle.ct_build.proofs.EvenLemmas.{sound-even_words, length-even_words}

@@ -1,6 +1,6 @@
-use Rattle.std.proofs.Common.{refl, sym, ap, ap₂, ◌∙◌, ◌-◌, ◌≤◌, ℕ, subst, IsPermutation, arith}
+use Rattle.std.proofs.Common.{refl, sym, ap, ap₂, ◌∙◌, ◌-◌, subst, IsPermutation, arith}
 use Rattle.std.specs.Option.{option_map}
-use Rattle.ct_build.specs.Translation.{translated, all_ones, complemented}
+use Rattle.ct_build.specs.Translation.{translated, all_ones}
 use Rattle.ct_build.proofs.Sound.{IsSoundCode-same, weight_within}
 use Rattle.ct_build.proofs.TranslationLemmas.{sound-complemented}
 use Rattle.ct_build.proofs.translation.complement.Goals as goal

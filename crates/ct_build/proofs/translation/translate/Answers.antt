@@ -1,4 +1,4 @@
-use Rattle.std.proofs.Common.{refl, sym, ap, ◌∙◌, None, subst, IsPermutation}
+use Rattle.std.proofs.Common.{refl, None, subst, IsPermutation}
 use Rattle.ct_build.specs.Translation.{translated}
 use Rattle.ct_build.proofs.Sound.{IsSoundCode-same}
 use Rattle.ct_build.proofs.TranslationLemmas.{sound-translated}
