@@ -1,0 +1,6 @@
+pub mod Sound
+pub mod Images
+pub mod AppendLemmas
+pub mod TranslationLemmas
+pub mod FrontLemmas
+pub mod EvenLemmas

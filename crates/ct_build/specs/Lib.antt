@@ -1,1 +1,4 @@
 pub mod Joined
+pub mod Even
+pub mod Append
+pub mod Translation

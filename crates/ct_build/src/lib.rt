@@ -1,10 +1,25 @@
 //! Codes that are made from other codes: lengthened, punctured, shortened, put together, and so on.
 #![tactic(auto)]
 
+mod append;
+mod even;
 mod fault;
+mod front;
+mod laws;
 mod numbers;
 mod step;
+#[cfg(test)]
+mod tests_digits;
+mod translation;
 
+pub use append::{append_one, lengthen, parity};
+pub use even::even_words;
 pub use fault::BuildFault;
+pub use front::trim;
+pub use laws::{
+    digits_of_constructions, even_words_are_a_code, longer_words_are_codes,
+    parts_of_codes_are_codes, sizes_of_constructions, translated_words_are_codes,
+};
 pub use numbers::Numbers;
 pub use step::Step;
+pub use translation::{complement, select_weight, translate};
