@@ -1,0 +1,3 @@
+pub mod JoinedLemmas
+pub mod FarWords
+pub mod JuxtaposedCodes

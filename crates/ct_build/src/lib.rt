@@ -2,9 +2,11 @@
 #![tactic(auto)]
 
 mod fault;
+mod juxtaposed;
 mod numbers;
 mod step;
 
 pub use fault::BuildFault;
+pub use juxtaposed::{juxtapose, juxtaposed_codes};
 pub use numbers::Numbers;
 pub use step::Step;
