@@ -4,9 +4,12 @@
 mod fault;
 mod juxtaposed;
 mod numbers;
+mod parts_and_sums;
+mod sorted;
 mod step;
 
 pub use fault::BuildFault;
 pub use juxtaposed::{juxtapose, juxtaposed_codes};
 pub use numbers::Numbers;
+pub use parts_and_sums::{uuv, uuv_codes};
 pub use step::Step;
