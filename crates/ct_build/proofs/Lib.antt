@@ -3,3 +3,7 @@ pub mod FarWords
 pub mod SortedCodes
 pub mod JuxtaposedCodes
 pub mod UuvCodes
+pub mod PlaceLemmas
+pub mod ReadLemmas
+pub mod PuncturedCodes
+pub mod ShortenedCodes

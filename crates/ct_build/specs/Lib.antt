@@ -1,3 +1,6 @@
 pub mod Joined
 pub mod Juxtaposed
 pub mod Uuv
+pub mod Places
+pub mod Punctured
+pub mod Shortened
