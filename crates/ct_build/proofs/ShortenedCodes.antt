@@ -1,6 +1,6 @@
 -- A shortened code is a code.
-use Rattle.std.proofs.Common.{◌≡◌, ◌≢◌, ℕ, min, ◌-◌, ◌+◌, ◌*◌, ◌^◌, ◌<◌, ◌≤◌, List, [], ◌∷◌, length, get_or, map, All, refl, sym, ap, ap₂, subst, ◌∙◌, arith, eqb-true}
-use Rattle.std.specs.Prelude.{AllPairs, Bool, true, false, not, ◌==◌, cond, filter, count_by, Option, Some, None, IfSome}
+use Rattle.std.proofs.Common.{◌≡◌, ◌≢◌, ℕ, zero, suc, min, ◌-◌, ◌+◌, ◌*◌, ◌^◌, ◌<◌, ◌≤◌, List, [], ◌∷◌, length, get_or, map, All, refl, sym, ap, ap₂, subst, ◌∙◌, arith, eqb-true}
+use Rattle.std.specs.Prelude.{AllPairs, Bool, true, false, not, ◌&&◌, ◌==◌, cond, filter, count_by, Option, Some, None, IfSome}
 use Rattle.std.specs.List.{list_all, zip}
 use Rattle.std.proofs.lemmas.Bool.{and_parts, eq-eqb, ne_eqb}
 use Rattle.std.proofs.lemmas.List.{length-map}
@@ -9,8 +9,10 @@ use Rattle.std.proofs.lemmas.List.Kept.{AllPairs-filter}
 use Rattle.std.proofs.lemmas.List.Sums.{sum_by-cons, get_or-le-sum_by, length-filter, list_all-from_AllPass}
 use Rattle.std.proofs.lemmas.List.Folds.{list_all_at}
 use Rattle.std.proofs.lemmas.Slice.Zip.{length-zip, get_or-zip}
+use Rattle.std.proofs.lemmas.List.Filters.{length-filter_both}
 use Rattle.ct_counting.proofs.Pairs.{AllPairs-map, AllPairs-within}
 use Rattle.ct_words.specs.Word.{digit, weight, distance}
+use Rattle.ct_words.proofs.WordLemmas.{digit-lt}
 use Rattle.ct_codes.specs.Code.{IsCode}
 use Rattle.ct_build.specs.Places.{ArePlaces, other_places, read_at}
 use Rattle.ct_build.specs.Punctured.{punctured}
@@ -133,3 +135,28 @@ has_digits-not n x places digits k first second other =
     let long = length-zip places digits in
     list_all_at test (zip places digits) k (0, 0) (omega arith)
     (ap test (get_or-zip places digits k (0, 0) first second) ∙ ne_eqb (digit n x (get_or places k 0)) (get_or digits k 0) other)
+
+-- there are as many words as have the digits
+pub length-shortened : (n : ℕ) (places digits words : List ℕ) → length (shortened n places digits words) ≡ count_by (has_digits n places digits) words
+length-shortened n places digits words =
+    length-map (filter (has_digits n places digits) words) (λ x. read_at n x (other_places n places)) ∙ length-filter (has_digits n places digits) words
+
+-- a word has at one place either digit
+other_digit : (n x p : ℕ) → has_digits n (p ∷ []) (1 ∷ []) x ≡ not (has_digits n (p ∷ []) (0 ∷ []) x)
+other_digit n x p = go (digit n x p) (digit-lt n x p)
+  where
+    go : (a : ℕ) → a < 2 → (a == 1 && true) ≡ not (a == 0 && true)
+    go zero h = refl
+    go (suc zero) h = refl
+    go (suc (suc a)) h = absurd (omega arith)
+
+-- so the words with the one and those with the other are all
+pub halves-shortened : (n p : ℕ) (words : List ℕ)
+    → length (shortened n (p ∷ []) (0 ∷ []) words) + length (shortened n (p ∷ []) (1 ∷ []) words) ≡ length words
+halves-shortened n p words =
+    let zeros = length-shortened n (p ∷ []) (0 ∷ []) words in
+    let ones = length-shortened n (p ∷ []) (1 ∷ []) words in
+    let with_zero = length-filter (has_digits n (p ∷ []) (0 ∷ [])) words in
+    let with_one = length-filter (has_digits n (p ∷ []) (1 ∷ [])) words in
+    let both = length-filter_both (has_digits n (p ∷ []) (0 ∷ [])) (has_digits n (p ∷ []) (1 ∷ [])) (λ x. other_digit n x p) words in
+    omega arith

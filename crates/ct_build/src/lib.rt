@@ -10,6 +10,8 @@ mod punctured;
 mod shortened;
 mod sorted;
 mod step;
+#[cfg(test)]
+mod tests_places;
 
 pub use fault::BuildFault;
 pub use juxtaposed::{juxtapose, juxtaposed_codes};
