@@ -1,5 +1,5 @@
 -- Two codes put together word by word are a code.
-use Rattle.std.proofs.Common.{◌≡◌, ℕ, zero, suc, ◌+◌, ◌*◌, ◌^◌, ◌<◌, ◌≤◌, List, [], ◌∷◌, ◌++◌, length, take, get_or, map, min, All, refl, ap, ap₂, subst, ◌∙◌, arith}
+use Rattle.std.proofs.Common.{◌≡◌, ℕ, zero, suc, ◌+◌, ◌^◌, ◌<◌, ◌≤◌, List, [], ◌∷◌, ◌++◌, length, take, get_or, min, All, refl, ap, ap₂, subst, ◌∙◌, arith}
 use Rattle.std.specs.Prelude.{AllPairs, Option, Some, None, IfSome}
 use Rattle.std.specs.Option.{ForSome}
 use Rattle.std.specs.List.{zip}
@@ -10,7 +10,7 @@ use Rattle.std.proofs.lemmas.List.Elements.{All-nil, All-cons, All-head, All-tai
 use Rattle.std.proofs.lemmas.List.Kept.{AllPairs-cons, AllPairs-from_increasing}
 use Rattle.std.proofs.lemmas.Slice.Zip.{length-zip}
 use Rattle.ct_counting.proofs.Pairs.{AllPairs-head, AllPairs-tail}
-use Rattle.ct_words.specs.Word.{weight, distance}
+use Rattle.ct_words.specs.Word.{weight}
 use Rattle.ct_words.specs.declared.limits.TheConstants.{MAX_N}
 use Rattle.ct_words.proofs.WordLemmas.{weight-le}
 use Rattle.ct_codes.specs.declared.code.TheConstants.{MAX_CODE_DISTANCE}

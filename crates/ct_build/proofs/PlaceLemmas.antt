@@ -1,7 +1,7 @@
 -- Places of a word: some, and the others.
-use Rattle.std.proofs.Common.{◌≡◌, ◌≢◌, ℕ, zero, suc, ◌+◌, ◌-◌, ◌*◌, ◌<◌, ◌≤◌, List, [], ◌∷◌, ◌++◌, length, take, get_or, All, refl, sym, ap, ap₂, subst, ◌∙◌, lt_trans, arith, eq-eqb, ne_eqb, length-take}
+use Rattle.std.proofs.Common.{◌≡◌, ◌≢◌, ℕ, zero, suc, ◌+◌, ◌-◌, ◌<◌, ◌≤◌, List, [], ◌∷◌, ◌++◌, length, take, get_or, All, refl, sym, ap, ap₂, subst, ◌∙◌, arith, eq-eqb, ne_eqb, length-take}
 use Rattle.std.specs.Prelude.{Bool, true, false, cond, not, ◌==◌, ◌||◌, filter}
-use Rattle.std.specs.List.{sum_by, list_any}
+use Rattle.std.specs.List.{sum_by}
 use Rattle.std.proofs.Math.Bool.{or-false}
 use Rattle.std.proofs.lemmas.Bool.{or_left, or_right}
 use Rattle.std.proofs.lemmas.List.{take_more, take_all, get_or-take}

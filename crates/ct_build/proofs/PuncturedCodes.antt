@@ -1,6 +1,6 @@
 -- A punctured code is a code.
-use Rattle.std.proofs.Common.{◌≡◌, ℕ, ◌-◌, ◌+◌, ◌*◌, ◌^◌, ◌<◌, ◌≤◌, List, length, get_or, map, All, subst, arith}
-use Rattle.std.specs.Prelude.{AllPairs, not, ◌==◌, cond, count_by, Option, None}
+use Rattle.std.proofs.Common.{◌≡◌, ℕ, ◌-◌, ◌+◌, ◌^◌, ◌<◌, List, length, get_or, All, subst, arith}
+use Rattle.std.specs.Prelude.{not, ◌==◌, cond, count_by, Option, None}
 use Rattle.std.proofs.lemmas.List.{length-map}
 use Rattle.std.proofs.lemmas.List.Elements.{All-map}
 use Rattle.std.proofs.lemmas.List.Sums.{count_by-le-length}

@@ -1,7 +1,7 @@
 -- A shortened code is a code.
-use Rattle.std.proofs.Common.{◌≡◌, ◌≢◌, ℕ, zero, suc, min, ◌-◌, ◌+◌, ◌*◌, ◌^◌, ◌<◌, ◌≤◌, List, [], ◌∷◌, length, get_or, map, All, refl, sym, ap, ap₂, subst, ◌∙◌, arith, eqb-true}
-use Rattle.std.specs.Prelude.{AllPairs, Bool, true, false, not, ◌&&◌, ◌==◌, cond, filter, count_by, Option, Some, None, IfSome}
-use Rattle.std.specs.List.{list_all, zip}
+use Rattle.std.proofs.Common.{◌≡◌, ◌≢◌, ℕ, zero, suc, min, ◌-◌, ◌+◌, ◌<◌, List, [], ◌∷◌, length, get_or, All, refl, sym, ap, subst, ◌∙◌, arith, eqb-true}
+use Rattle.std.specs.Prelude.{Bool, true, false, not, ◌&&◌, ◌==◌, cond, filter, count_by, Option, Some, None, IfSome}
+use Rattle.std.specs.List.{zip}
 use Rattle.std.proofs.lemmas.Bool.{and_parts, eq-eqb, ne_eqb}
 use Rattle.std.proofs.lemmas.List.{length-map}
 use Rattle.std.proofs.lemmas.List.Elements.{All-from_get_or, All-map, All-filter, filter_passes}
@@ -11,11 +11,10 @@ use Rattle.std.proofs.lemmas.List.Folds.{list_all_at}
 use Rattle.std.proofs.lemmas.Slice.Zip.{length-zip, get_or-zip}
 use Rattle.std.proofs.lemmas.List.Filters.{length-filter_both}
 use Rattle.ct_counting.proofs.Pairs.{AllPairs-map, AllPairs-within}
-use Rattle.ct_words.specs.Word.{digit, weight, distance}
+use Rattle.ct_words.specs.Word.{digit, weight}
 use Rattle.ct_words.proofs.WordLemmas.{digit-lt}
 use Rattle.ct_codes.specs.Code.{IsCode}
 use Rattle.ct_build.specs.Places.{ArePlaces, other_places, read_at}
-use Rattle.ct_build.specs.Punctured.{punctured}
 use Rattle.ct_build.specs.Shortened.{has_digits, shortened, shortened_weight}
 use Rattle.ct_build.proofs.PlaceLemmas.{sum_by-other_places}
 use Rattle.ct_build.proofs.ReadLemmas.{weight-all, weight-read_at}

@@ -1,5 +1,5 @@
 -- The words of a code in order.
-use Rattle.std.proofs.Common.{ℕ, ◌≤◌, List, length, get_or, subst, sym, nat_cmp, arith}
+use Rattle.std.proofs.Common.{ℕ, ◌≤◌, List, length, get_or, nat_cmp, arith}
 use Rattle.std.specs.Prelude.{Option, IsPermutation, ◌==◌}
 use Rattle.std.specs.List.Sorted.{IsSorted, IsStrictlyIncreasing}
 use Rattle.std.proofs.lemmas.Bool.{ne_eqb}

@@ -1,5 +1,5 @@
-use Rattle.std.proofs.Common.{◌≡◌, ℕ, ◌+◌, ◌-◌, ◌^◌, ◌<◌, ◌≤◌, List, All, sym, ap₂, subst, ◌∙◌, arith}
-use Rattle.ct_codes.specs.Code.{CodeValue, IsSoundCode}
+use Rattle.std.proofs.Common.{◌≡◌, ℕ, ◌+◌, ◌-◌, ◌^◌, ◌<◌, List, All, sym, ap₂, subst, ◌∙◌, arith}
+use Rattle.ct_codes.specs.Code.{IsSoundCode}
 use Rattle.ct_build.specs.Juxtaposed.{juxtaposed, added_weights}
 use Rattle.ct_build.proofs.JoinedLemmas.{words_wider}
 use Rattle.ct_build.proofs.JuxtaposedCodes.{weight_of_code-le, IsSoundCode-juxtaposed}

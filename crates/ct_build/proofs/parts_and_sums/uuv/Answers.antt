@@ -1,4 +1,4 @@
-use Rattle.std.proofs.Common.{◌≡◌, ℕ, ◌*◌, min, sym, ap₂, subst, ◌∙◌}
+use Rattle.std.proofs.Common.{◌≡◌, ◌*◌, min, sym, ap₂, subst, ◌∙◌}
 use Rattle.std.specs.Prelude.{None}
 use Rattle.ct_codes.specs.Code.{IsCode, CodeValue}
 use Rattle.ct_build.specs.Uuv.{uuv_words}

@@ -1,4 +1,4 @@
-use Rattle.std.proofs.Common.{rules, ◌≡◌, ◌≢◌, ℕ, ◌-◌, ◌/◌, ◌%◌, ◌^◌, length, get_or, min, sym, ap, ◌∙◌}
+use Rattle.std.proofs.Common.{rules, ◌≡◌, ◌≢◌, length, get_or, min, sym, ap, ◌∙◌}
 use Rattle.std.proofs.lemmas.Slice.Zip.{zip_turn, zip_end}
 use Rattle.ct_words.specs.Word.{digit}
 use Rattle.ct_build.proofs.ShortenedCodes.{has_digits-all, has_digits-not}

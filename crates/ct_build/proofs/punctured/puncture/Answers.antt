@@ -1,4 +1,4 @@
-use Rattle.std.proofs.Common.{◌≡◌, ℕ, ◌-◌, List, length, sym, subst, ◌∙◌}
+use Rattle.std.proofs.Common.{◌≡◌, ◌-◌, length, sym, subst, ◌∙◌}
 use Rattle.std.specs.Prelude.{None}
 use Rattle.ct_codes.specs.Code.{IsCode, CodeValue}
 use Rattle.ct_build.specs.Punctured.{punctured}

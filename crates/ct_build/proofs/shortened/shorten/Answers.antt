@@ -1,5 +1,4 @@
-use Rattle.std.proofs.Common.{◌≡◌, ℕ, ◌-◌, List, length, sym, ap, subst, ◌∙◌}
-use Rattle.std.specs.Prelude.{Option}
+use Rattle.std.proofs.Common.{◌≡◌, ◌-◌, length, sym, ap, subst, ◌∙◌}
 use Rattle.ct_codes.specs.Code.{IsCode, CodeValue}
 use Rattle.ct_build.specs.Shortened.{shortened, shortened_weight}
 use Rattle.ct_build.proofs.ShortenedCodes.{IsCode-shortened}
