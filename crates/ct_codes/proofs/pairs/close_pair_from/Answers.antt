@@ -1,11 +1,7 @@
-use Rattle.std.proofs.Common.{◌≡◌, ◌∙◌, sym, ap, ℕ, ◌+◌, ◌-◌, nat_lt, List, length, take, drop, get_or, position, take_all, length-drop, arith}
+use Rattle.std.proofs.Common.{◌∙◌, sym, ap, ℕ, ◌+◌, nat_lt, get_or, position, arith}
 use Rattle.ct_words.specs.Word.{distance}
-use Rattle.ct_codes.proofs.PairLemmas.{shifted-row_found, shifted-row_passed, shifted-end}
+use Rattle.ct_codes.proofs.PairLemmas.{rest_is, shifted-row_found, shifted-row_passed, shifted-end}
 use Rattle.ct_codes.proofs.pairs.close_pair_from.Goals as goal
-
--- the rest of a slice, as a list
-rest_is : (words : List ℕ) (i : ℕ) → take (length words - i) (drop i words) ≡ drop i words
-rest_is words i = take_all (length words - i) (drop i words) (let e = length-drop i words in omega (arith, e))
 
 pub returns-in-Some-clause-least : goal.returns-in-Some-clause-least
 returns-in-Some-clause-least c =
