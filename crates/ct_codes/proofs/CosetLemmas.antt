@@ -1,5 +1,5 @@
 -- Pairs of choices that are close, and what it means that a coset code has no fault.
-use Rattle.std.proofs.Common.{◌≡◌, ℕ, suc, ◌+◌, ◌-◌, ◌*◌, ◌/◌, ◌%◌, ◌^◌, ◌<◌, ◌≤◌, ◌||◌, ◌==◌, nat_lt, Bool, false, bit_xor, List, [], ◌∷◌, length, drop, get_or, position, slice_index, Option, Some, None, IfSome, IsFalse, All, AllPairs, IsPermutation, IsSorted, nat_cmp, subst, sym, refl, ap, ap₂, ◌∙◌, inl, inr, arith, pow_pos, length-drop, ne_eqb}
+use Rattle.std.proofs.Common.{◌≡◌, ℕ, ◌+◌, ◌-◌, ◌*◌, ◌/◌, ◌%◌, ◌^◌, ◌<◌, ◌≤◌, ◌||◌, ◌==◌, nat_lt, Bool, false, bit_xor, List, [], ◌∷◌, length, drop, get_or, position, slice_index, Some, None, IfSome, IsFalse, All, AllPairs, IsPermutation, IsSorted, nat_cmp, subst, sym, ap, ap₂, ◌∙◌, inl, inr, arith, pow_pos, length-drop, ne_eqb}
 use Rattle.std.specs.Int.Bits.{xor_assoc, xor_self, xor_zero_l, xor_zero_r}
 use Rattle.std.proofs.Math.Nat.{mul-le-mul_left, mul-le-mul_right}
 use Rattle.std.proofs.lemmas.Nat.{xor_lt, shr_split, mod_below, div_below}
@@ -11,13 +11,12 @@ use Rattle.ct_words.specs.declared.limits.TheConstants.{MAX_N}
 use Rattle.ct_words.specs.Word.{distance, weight}
 use Rattle.ct_words.proofs.WordLemmas.{IsSum-bit_xor, distance-is_weight, distance_same}
 use Rattle.ct_codes.specs.declared.entry.Entry.{Entry}
-use Rattle.ct_codes.specs.declared.fault.CodeFault.{CodeFault}
 use Rattle.ct_codes.specs.declared.fault.CodeFault.TheVariants.{Size, Work}
 use Rattle.ct_codes.specs.declared.fault.TheConstants.{MAX_REPRESENTATIVES, MAX_COSET_WORK}
 use Rattle.ct_codes.specs.Entry.{IsEntry}
 use Rattle.ct_codes.specs.Code.{IsCodeOf, IsSoundCode}
 use Rattle.ct_codes.specs.Check.{close_fault}
-use Rattle.ct_codes.specs.Coset.{span_word, choice_count, choice_word, coset_list, coset_work, coset_size_fault, coset_work_fault, coset_fault, CosetValue, IsSoundCosetCode}
+use Rattle.ct_codes.specs.Coset.{span_word, choice_count, coset_list, coset_work, coset_size_fault, coset_work_fault, coset_fault, CosetValue, IsSoundCosetCode}
 use Rattle.ct_codes.proofs.PairLemmas.{position_cases}
 use Rattle.ct_codes.proofs.EntryLemmas.{entry_limits}
 use Rattle.ct_codes.proofs.CheckLemmas.{first_of-None, close-none, close_none_from, sound_from_code}

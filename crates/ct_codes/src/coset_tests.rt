@@ -104,7 +104,6 @@ fn nordstrom_robinson_code(rt: HostRuntime) -> Result<(), Fail> {
 fn limits_of_cosets(rt: HostRuntime) -> Result<(), Fail> {
     let alloc = rt.alloc();
     assert_eq!(rt; (MAX_REPRESENTATIVES, MAX_COSET_WORK), (4096, 16777216));
-    let zeros = [0; 4097];
     let rows = [
         (29, 4097, CodeFault::Size(29)),
         (29, 0, CodeFault::Size(29)),
@@ -121,20 +120,11 @@ fn limits_of_cosets(rt: HostRuntime) -> Result<(), Fail> {
         (22, 2, CodeFault::Close(0, 1, 0)),
         (1, 1, CodeFault::Close(0, 1, 0)),
     ];
-    for (basis_words, representatives, wanted) in rows {
-        let refused = answer(
-            &rt,
-            alloc,
-            28,
-            3,
-            &zeros[..basis_words],
-            &zeros[..representatives],
-        )?;
-        assert_eq!(rt;
-            refused.err(),
-            Some(wanted),
-            "{basis_words} and {representatives}"
-        );
+    for (basis_size, size, wanted) in rows {
+        let basis = vec![in alloc; 0; basis_size]?;
+        let representatives = vec![in alloc; 0; size]?;
+        let refused = answer(&rt, alloc, 28, 3, &basis, &representatives)?;
+        assert_eq!(rt; refused.err(), Some(wanted), "{basis_size} and {size}");
     }
     Ok(())
 }

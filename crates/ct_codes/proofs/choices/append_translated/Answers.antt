@@ -1,4 +1,4 @@
-use Rattle.std.proofs.Common.{◌≡◌, ◌∙◌, sym, ap, ap₂, ℕ, ◌+◌, ◌<◌, ◌^◌, bit_xor, List, [], ◌∷◌, ◌++◌, length, map, drop, get_or, append_assoc, arith}
+use Rattle.std.proofs.Common.{◌≡◌, ◌∙◌, ap, ℕ, ◌+◌, ◌<◌, ◌^◌, bit_xor, List, [], ◌∷◌, ◌++◌, length, map, drop, get_or, append_assoc, arith}
 use Rattle.std.proofs.Math.Seq.{drop-append_seam}
 use Rattle.ct_words.specs.Text.{tabulate}
 use Rattle.ct_codes.specs.Coset.{span_word}

@@ -1,4 +1,4 @@
-use Rattle.std.proofs.Common.{◌≡◌, ◌∙◌, sym, ap, ap₂, ℕ, ◌*◌, ◌^◌, List, ◌++◌, length, get_or, arith}
+use Rattle.std.proofs.Common.{◌≡◌, ◌∙◌, ap, ◌*◌, ◌^◌, ◌++◌, length, get_or, arith}
 use Rattle.ct_words.specs.Text.{tabulate}
 use Rattle.ct_codes.specs.Coset.{choice_word}
 use Rattle.ct_codes.specs.Inside.Translated.{translated}

@@ -1,4 +1,4 @@
-use Rattle.std.proofs.Common.{◌≡◌, ◌∙◌, sym, subst, ap, ap₂, ℕ, List, IsPermutation}
+use Rattle.std.proofs.Common.{◌∙◌, subst, ap₂, ℕ, List, IsPermutation}
 use Rattle.ct_codes.specs.Coset.{coset_list}
 use Rattle.ct_codes.proofs.CosetLemmas.{sound_listed}
 use Rattle.ct_codes.proofs.coset.CosetCode.list.Goals as goal
