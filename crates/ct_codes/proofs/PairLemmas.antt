@@ -1,5 +1,5 @@
 -- The least pair of places whose items pass a test.
-use Rattle.std.proofs.Common.{◌≡◌, ℕ, ◌^◌, nat_lt, zero, suc, ◌+◌, ◌-◌, ◌<◌, ◌≤◌, ◌⊎◌, Bool, true, false, List, [], ◌∷◌, length, take, drop, get_or, position, Option, Some, None, IsTrue, IsFalse, All, slice_index, subst, lt_trans, sym, refl, ap, ap₂, ◌∙◌, inl, inr, arith, take_all, length-drop}
+use Rattle.std.proofs.Common.{◌≡◌, ℕ, ◌^◌, nat_lt, zero, suc, ◌+◌, ◌<◌, ◌≤◌, ◌⊎◌, Bool, true, false, List, [], ◌∷◌, length, drop, get_or, position, Option, Some, None, IsTrue, IsFalse, All, slice_index, subst, lt_trans, sym, refl, ap, ap₂, ◌∙◌, inl, inr, arith}
 use Rattle.std.specs.List.{position_or_len}
 use Rattle.std.specs.Option.{option_map}
 use Rattle.std.proofs.lemmas.Bool.{cases_lt, cases_Bool, both_ways, le-ltb, lt-ltb}
@@ -204,7 +204,3 @@ shifted-stricter strict test xs i j stricter least = shifted-none_before strict 
           ((IsLeastPair-from test xs i j least).least k m order within (stricter (slice_index xs k) (slice_index xs m) passes)))
       | inr not_passed ↦ not_passed
     ]
-
--- the rest of a slice, as a list
-pub rest_is : (words : List ℕ) (i : ℕ) → take (length words - i) (drop i words) ≡ drop i words
-rest_is words i = take_all (length words - i) (drop i words) (let e = length-drop i words in omega (arith, e))

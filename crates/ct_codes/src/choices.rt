@@ -7,7 +7,7 @@ ghost use Rattle.ct_codes.specs.Pairs.{least_pair};
 ghost use Rattle.ct_codes.specs.Coset.{coset_list};
 ghost use Rattle.ct_codes.specs.Inside.Translated.{translated};
 
-use crate::pairs::first_close;
+use crate::near::first_close;
 use ct_words::Word;
 use std::alloc::{AllocError, Global};
 

@@ -12,6 +12,7 @@ mod coset_tests;
 mod entry;
 mod fault;
 mod laws;
+mod near;
 mod pairs;
 mod scheme;
 #[cfg(test)]
