@@ -27,7 +27,8 @@ IsSoundCode-sorted n d w xs ys long far filled code moved sorted =
     }
 
 -- the same value, told by its four parts
-pub IsSoundCode-same : (c : CodeValue) (n d : ℕ) (w : Option ℕ) (words : List ℕ) → n ≡ c.n → d ≡ c.d → w ≡ c.w → words ≡ c.words → IsSoundCode c
+pub IsSoundCode-same : (c : CodeValue) (n d : ℕ) (w : Option ℕ) (words : List ℕ) → n ≡ c.n → d ≡ c.d → w ≡ c.w → words ≡ c.words
+    → IsSoundCode c
     → IsSoundCode (record { n = n; d = d; w = w; words = words })
 IsSoundCode-same c n d w words same_n same_d same_w same_words sound = rw (same_n, same_d, same_w, same_words) sound
 
