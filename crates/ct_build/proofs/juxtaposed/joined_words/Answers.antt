@@ -1,0 +1,37 @@
+use Rattle.std.proofs.Common.{rules, ◌≡◌, ℕ, suc, ◌-◌, ◌*◌, ◌%◌, ◌^◌, List, [], ◌∷◌, ◌++◌, length, take, get_or, min, bit_or, sym, ap, ap₂, ◌∙◌, arith}
+use Rattle.std.proofs.lemmas.List.{length_push}
+use Rattle.std.proofs.lemmas.Slice.Zip.{zip_turn, zip_end}
+use Rattle.ct_build.specs.Joined.{followed_by}
+use Rattle.ct_build.specs.Juxtaposed.{juxtaposed}
+use Rattle.ct_build.proofs.JoinedLemmas.{or-followed_by}
+use Rattle.ct_build.proofs.JuxtaposedCodes.{juxtaposed-more, juxtaposed-all}
+use Rattle.ct_build.proofs.juxtaposed.joined_words.Goals as goal
+
+pub loop-x-preserved : goal.loop-x-preserved
+loop-x-preserved c =
+    let xs = c.args.first.now in
+    let ys = c.args.second.now in
+    let m = c.args.m in
+    let k = length c.loop-x.yielded in
+    let turn =
+    zip_turn xs ys c.loop-x.yielded c.into_iter-x-iterator.result c.loop-x.x-iterator c.next.new.self c.next.result (search rules) (search rules)
+    c.loop-x.yielded_by (c.in-Some.x, c.in-Some.y) c.in-Some.is c.next.ensures.steps in
+    let short = c.requires.length in
+    let pushed : bit_or (c.in-Some.x.now * 2 ^ m % 2 ^ 32) c.in-Some.y.now ≡ followed_by m (get_or xs k 0) (get_or ys k 0) =
+    ap₂ (λ (a b : ℕ). bit_or (a * 2 ^ m % 2 ^ 32) b) (turn.2 0) (turn.3 0)
+    ∙ or-followed_by (32 - m) m (get_or xs k 0) (get_or ys k 0) (c.requires.first k 0 turn.0) (c.requires.second k 0 turn.1) (omega (arith, short)) in
+    let long : length (c.loop-x.yielded ++ (c.in-Some.x, c.in-Some.y) ∷ []) ≡ suc k =
+    let one = length_push c.loop-x.yielded (c.in-Some.x, c.in-Some.y) in omega (arith, one) in
+    c.in_ok-push.ensures.items
+    ∙ ap₂ (λ (ws : List ℕ) (w : ℕ). ws ++ w ∷ []) c.loop-x.invariant pushed
+    ∙ sym (juxtaposed-more m xs ys k turn.0 turn.1)
+    ∙ ap (λ j. juxtaposed m (take j xs) (take j ys)) (sym long)
+
+pub returns : goal.returns
+returns c =
+    let xs = c.args.first.now in
+    let ys = c.args.second.now in
+    let all =
+    zip_end xs ys c.loop-x.yielded c.into_iter-x-iterator.result c.loop-x.x-iterator c.next.new.self c.next.result (search rules) (search rules)
+    c.loop-x.yielded_by c.in-None.is c.next.ensures.steps in
+    c.loop-x.invariant ∙ juxtaposed-all c.args.m xs ys (length c.loop-x.yielded) (let whole : length c.loop-x.yielded ≡ min (length xs) (length ys) = all in omega (arith, whole))

@@ -1,0 +1,22 @@
+use Rattle.std.proofs.Common.{List, ℕ, ◌-◌, take, get_or, sym, ap, ◌∙◌}
+use Rattle.std.proofs.lemmas.List.{take_more}
+use Rattle.ct_build.specs.Places.{other_places, read_at}
+use Rattle.ct_build.proofs.PlaceLemmas.{other_places-none, places-below}
+use Rattle.ct_build.proofs.ReadLemmas.{without_digit, read_at-all, read_at-without}
+use Rattle.ct_build.proofs.places.without_places.Goals as goal
+
+pub loop-place-init : goal.loop-place-init
+loop-place-init c = sym (ap (read_at c.args.n c.args.word) (other_places-none c.args.n) ∙ read_at-all c.args.n c.args.word c.requires.word)
+
+pub loop-place-preserved : goal.loop-place-preserved
+loop-place-preserved c =
+    let n = c.args.n in
+    let x = c.args.word in
+    let places = c.args.places.now in
+    let i = c.loop-place.place-index in
+    let p = get_or places i 0 in
+    let within = c.loop-place-test.true in
+    c.without_digit-rest.ensures
+    ∙ ap (without_digit (n - 1 - p)) c.loop-place.invariant
+    ∙ sym (read_at-without n x p (take i places) (c.requires.places.within i 0 within) (places-below n places i c.requires.places within))
+    ∙ ap (λ (qs : List ℕ). read_at n x (other_places n qs)) (sym (take_more places i 0 within))

@@ -1,0 +1,66 @@
+//! The (u | u + v) construction.
+
+ghost use Rattle.std.specs.Prelude.{◌≡◌, ℕ, ◌+◌, ◌*◌, ◌^◌, ◌<◌, ◌≤◌, List, length, map, ◌++◌, min, bit_xor, Option, All, IfOk, OnOk, IsPermutation};
+ghost use Rattle.ct_words.specs.declared.limits.TheConstants.{MAX_N};
+ghost use Rattle.ct_codes.specs.Code.{IsCode, IsSoundCode};
+ghost use Rattle.ct_build.specs.Joined.{followed_by};
+ghost use Rattle.ct_build.specs.Uuv.{uuv_words};
+
+use crate::sorted::code_of;
+use ct_codes::Code;
+use ct_words::Word;
+use std::alloc::{AllocError, Global};
+
+/// The code of the words u followed by u + v, for each word u of the part and v of the other, two codes of one length n
+/// with 2n at most `MAX_N`. Its distance is the least of twice that of the part and that of the other; it has no weight.
+pub fn uuv(alloc: Global, part: &Code, other: &Code) -> Result<Code, AllocError>
+    requires lengths { part.now.n ≡ other.now.n }
+    requires room { 2 * part.now.n ≤ MAX_N }
+    ensures n { IfOk result (λ c. c.n ≡ 2 * part.now.n) }
+    ensures d { IfOk result (λ c. c.d ≡ min (2 * part.now.d) other.now.d) }
+    ensures w { IfOk result (λ c. c.w ≡ None) }
+    ensures words { IfOk result (λ c. IsPermutation (uuv_words part.now.n part.now.words other.now.words) c.words) }
+    ensures sound { IfOk result IsSoundCode }
+{
+    let n = part.n();
+    let words = words_and_sums(alloc, n, part.words(), other.words())?;
+    let d = (2 * part.d()).min(other.d());
+    Ok(code_of(2 * n, d, None, words))
+}
+
+/// The words u followed by u + v, of words u and v of length n.
+fn words_and_sums(alloc: Global, n: u32, us: &[Word], vs: &[Word]) -> Result<Vec<Word>, AllocError>
+    requires length { 2 * n ≤ MAX_N }
+    requires first { All (λ u. u < 2 ^ n) us.now }
+    requires second { All (λ v. v < 2 ^ n) vs.now }
+    ensures { IfOk result (λ w. w.items ≡ uuv_words n us.now vs.now) }
+{
+    let mut words = Vec::new(alloc);
+    for u in us {
+        push_sums(&mut words, n, *u, vs)?;
+    }
+    Ok(words)
+}
+
+/// Puts the word u, followed by its sum with each of the words v, to the end of the words. All have length n.
+fn push_sums(words: &mut Vec<Word>, n: u32, u: Word, vs: &[Word]) -> Result<(), AllocError>
+    requires length { 2 * n ≤ MAX_N }
+    requires first { u < 2 ^ n }
+    requires second { All (λ v. v < 2 ^ n) vs.now }
+    ensures { OnOk result (words.new.items ≡ words.old.items ++ map (λ v. followed_by n u (bit_xor u v)) vs.now) }
+{
+    for v in vs {
+        words.push((u << n) | (u ^ *v))?;
+    }
+    Ok(())
+}
+
+/// The words u followed by u + v, for u and v of two codes, are a code, whatever lists of words these are; there is one
+/// for each pair of words.
+pub fn uuv_codes()
+    ensures code { (n d : ℕ) (v : Option ℕ) (us : List ℕ) (e : ℕ) (w : Option ℕ) (vs : List ℕ) →
+        IsCode n d v us → IsCode n e w vs →
+        IsCode (2 * n) (min (2 * d) e) None (uuv_words n us vs) }
+    ensures size { (n : ℕ) (us vs : List ℕ) →
+        length (uuv_words n us vs) ≡ length us * length vs }
+{}

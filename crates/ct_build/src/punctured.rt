@@ -1,0 +1,59 @@
+//! Codes without some of their places.
+
+ghost use Rattle.std.specs.Prelude.{◌≡◌, ℕ, ◌-◌, ◌^◌, ◌<◌, ◌≤◌, List, length, Option, All, IfOk, IsPermutation};
+ghost use Rattle.ct_words.specs.declared.limits.TheConstants.{MAX_N};
+ghost use Rattle.ct_codes.specs.Code.{IsCode, IsSoundCode};
+ghost use Rattle.ct_build.specs.Places.{ArePlaces};
+ghost use Rattle.ct_build.specs.Punctured.{punctured};
+
+use crate::places::without_places;
+use crate::sorted::code_of;
+use ct_codes::Code;
+use ct_words::Word;
+use std::alloc::{AllocError, Global};
+
+/// The code of the words of the part without the p places, which are distinct places of its words, in ascending order,
+/// fewer than its distance and than its length. Length and distance are p less; it has as many words, and no weight.
+pub fn puncture(alloc: Global, part: &Code, places: &[u32]) -> Result<Code, AllocError>
+    requires places { ArePlaces part.now.n places.now }
+    requires few { length places.now < part.now.d }
+    requires some { length places.now < part.now.n }
+    ensures n { IfOk result (λ c. c.n ≡ part.now.n - length places.now) }
+    ensures d { IfOk result (λ c. c.d ≡ part.now.d - length places.now) }
+    ensures w { IfOk result (λ c. c.w ≡ None) }
+    ensures words { IfOk result (λ c. IsPermutation (punctured part.now.n places.now part.now.words) c.words) }
+    ensures sound { IfOk result IsSoundCode }
+{
+    let words = punctured_words(alloc, part.n(), places, part.words())?;
+    let p = places.len() as u32;
+    Ok(code_of(part.n() - p, part.d() - p, None, words))
+}
+
+/// The words of length n without the places.
+fn punctured_words(
+    alloc: Global,
+    n: u32,
+    places: &[u32],
+    words: &[Word],
+) -> Result<Vec<Word>, AllocError>
+    requires length { n ≤ MAX_N }
+    requires places { ArePlaces n places.now }
+    requires words { All (λ x. x < 2 ^ n) words.now }
+    ensures { IfOk result (λ v. v.items ≡ punctured n places.now words.now) }
+{
+    let mut rest = Vec::new(alloc);
+    for word in words {
+        rest.push(without_places(*word, n, places))?;
+    }
+    Ok(rest)
+}
+
+/// A punctured code is a code, whatever list of words it is, where the places are fewer than its distance; it has as many
+/// words.
+pub fn punctured_codes()
+    ensures code { (n d : ℕ) (w : Option ℕ) (words places : List ℕ) →
+        ArePlaces n places → length places < d → IsCode n d w words →
+        IsCode (n - length places) (d - length places) None (punctured n places words) }
+    ensures size { (n : ℕ) (places words : List ℕ) →
+        length (punctured n places words) ≡ length words }
+{}

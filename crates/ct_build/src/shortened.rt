@@ -1,0 +1,92 @@
+//! Shortened codes.
+
+ghost use Rattle.std.specs.Prelude.{◌≡◌, ◌↔◌, ℕ, ◌+◌, ◌-◌, ◌^◌, ◌<◌, ◌≤◌, ◌==◌, List, [], ◌∷◌, length, count_by, Option, All, IfOk, IfErr, IsOk, IsPermutation, ◌⊎◌};
+ghost use Rattle.ct_words.specs.declared.limits.TheConstants.{MAX_N};
+ghost use Rattle.ct_codes.specs.Code.{IsCode, IsSoundCode};
+ghost use Rattle.ct_build.specs.declared.fault.BuildFault.TheVariants.{Empty, Memory};
+ghost use Rattle.ct_build.specs.Places.{ArePlaces};
+ghost use Rattle.ct_build.specs.Shortened.{has_digits, shortened, shortened_weight};
+
+use crate::fault::BuildFault;
+use crate::places::{has_digits, without_places};
+use crate::sorted::code_of;
+use ct_codes::Code;
+use ct_words::Word;
+use std::alloc::{AllocError, Global};
+
+/// The code of the words of the part that have the digits, each 0 or 1, at the p places, without these places. The places
+/// are distinct places of its words, in ascending order, fewer than its length, and there are as many digits. The length
+/// is p less; a weight is less by the ones among the digits.
+///
+/// It is `Empty` exactly where no word of the part has the digits at the places.
+pub fn shorten(
+    alloc: Global,
+    part: &Code,
+    places: &[u32],
+    digits: &[u32],
+) -> Result<Code, BuildFault>
+    requires places { ArePlaces part.now.n places.now }
+    requires some { length places.now < part.now.n }
+    requires digits { length digits.now ≡ length places.now }
+    requires binary { All (λ a. a < 2) digits.now }
+    ensures n { IfOk result (λ c. c.n ≡ part.now.n - length places.now) }
+    ensures d { IfOk result (λ c. c.d ≡ part.now.d) }
+    ensures w { IfOk result (λ c. c.w ≡ shortened_weight digits.now part.now.w) }
+    ensures words { IfOk result (λ c. IsPermutation (shortened part.now.n places.now digits.now part.now.words) c.words) }
+    ensures empty { (result ≡ Err Empty) ↔ (shortened part.now.n places.now digits.now part.now.words ≡ []) }
+    ensures faults { IfErr result (λ e. (e ≡ Empty) ⊎ (e ≡ Memory)) }
+    ensures sound { IfOk result IsSoundCode }
+{
+    let words = shortened_words(alloc, part.n(), places, digits, part.words())?;
+    if words.is_empty() {
+        return Err(BuildFault::Empty);
+    }
+    let n = part.n() - places.len() as u32;
+    let w = weight_without(part.w(), digits);
+    Ok(code_of(n, part.d(), w, words))
+}
+
+/// The words of length n that have the digits at the places, without these places. Want of memory never comes where there
+/// is none.
+fn shortened_words(
+    alloc: Global,
+    n: u32,
+    places: &[u32],
+    digits: &[u32],
+    words: &[Word],
+) -> Result<Vec<Word>, AllocError>
+    requires length { n ≤ MAX_N }
+    requires places { ArePlaces n places.now }
+    requires words { All (λ x. x < 2 ^ n) words.now }
+    ensures words { IfOk result (λ v. v.items ≡ shortened n places.now digits.now words.now) }
+    ensures none { shortened n places.now digits.now words.now ≡ [] → IsOk result }
+{
+    let mut rest = Vec::new(alloc);
+    for word in words {
+        if has_digits(*word, n, places, digits) {
+            rest.push(without_places(*word, n, places))?;
+        }
+    }
+    Ok(rest)
+}
+
+/// The weight less the ones among the digits.
+fn weight_without(w: Option<u32>, digits: &[u32]) -> Option<u32>
+    requires { length digits.now ≤ MAX_N }
+    ensures { result ≡ shortened_weight digits.now w }
+{
+    let ones = digits.iter().filter(|a| **a == 1).count() as u32;
+    w.map(|k| k.saturating_sub(ones))
+}
+
+/// A shortened code is a code, whatever list of words it is. It has as many words as have the digits at the places; at one
+/// place, the words with a 0 and those with a 1 are all.
+pub fn shortened_codes()
+    ensures code { (n d : ℕ) (w : Option ℕ) (words places digits : List ℕ) →
+        ArePlaces n places → length digits ≡ length places → IsCode n d w words →
+        IsCode (n - length places) d (shortened_weight digits w) (shortened n places digits words) }
+    ensures size { (n : ℕ) (places digits words : List ℕ) →
+        length (shortened n places digits words) ≡ count_by (has_digits n places digits) words }
+    ensures halves { (n p : ℕ) (words : List ℕ) →
+        length (shortened n (p ∷ []) (0 ∷ []) words) + length (shortened n (p ∷ []) (1 ∷ []) words) ≡ length words }
+{}
