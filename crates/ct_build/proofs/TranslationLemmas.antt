@@ -15,7 +15,7 @@ use Rattle.ct_words.proofs.WordLemmas.{one, digit-lt, weights_of_pair, IsSum-bit
 use Rattle.ct_codes.specs.Code.{IsCode, CodeValue, IsSoundCode}
 use Rattle.ct_build.specs.Even.{even_from}
 use Rattle.ct_build.specs.Translation.{translated, all_ones, complemented, selected}
-use Rattle.ct_build.proofs.Sound.{IsSoundCode-sorted}
+use Rattle.ct_build.proofs.SortedCodes.{sound_from_sort}
 use Rattle.ct_build.proofs.Images.{IsCodeMap, IsCode-image, IsCode-image_weighted}
 
 -- a word added to two words keeps their distance
@@ -112,7 +112,7 @@ pub sound-translated : (c : CodeValue) (by : ℕ) (ys : List ℕ) → IsSoundCod
 sound-translated c by ys sound below moved sorted =
     let filled = sound.some in
     let as_many = length-translated by c.words in
-    IsSoundCode-sorted c.n c.d None (translated by c.words) ys sound.length_in_range sound.distance_in_range (omega arith)
+    sound_from_sort c.n c.d None (translated by c.words) ys sound.length_in_range sound.distance_in_range (omega arith)
     (IsCode-translated c.n c.d by c.w c.words below sound.code) moved sorted
 
 -- the complements of a code's words, sorted
@@ -121,7 +121,7 @@ pub sound-complemented : (c : CodeValue) (ys : List ℕ) → IsSoundCode c → I
 sound-complemented c ys sound moved sorted =
     let filled = sound.some in
     let as_many = length-complemented c.n c.words in
-    IsSoundCode-sorted c.n c.d (option_map (λ k. c.n - k) c.w) (complemented c.n c.words) ys sound.length_in_range sound.distance_in_range (omega arith)
+    sound_from_sort c.n c.d (option_map (λ k. c.n - k) c.w) (complemented c.n c.words) ys sound.length_in_range sound.distance_in_range (omega arith)
     (IsCode-complemented c.n c.d c.w c.words sound.code) moved sorted
 
 -- the words of one weight among such sums, where there is one, sorted
@@ -132,7 +132,7 @@ sound-selected c by w ys sound below filled moved sorted =
     let far = sound.distance_in_range in
     let low = far.0 in
     let high = far.1 in
-    IsSoundCode-sorted c.n (even_from c.d) (Some w) (selected c.n by w c.words) ys sound.length_in_range (omega arith, omega arith) filled
+    sound_from_sort c.n (even_from c.d) (Some w) (selected c.n by w c.words) ys sound.length_in_range (omega arith, omega arith) filled
     (IsCode-selected c.n c.d by w c.w c.words below sound.code) moved sorted
 
 -- one more word in the search for sums of one weight
