@@ -68,7 +68,8 @@ IsCode-juxtaposed n d v xs m e w ys first second =
     (far_from_code n d v xs first) (far_from_code m e w ys second))
     (weights-juxtaposed n m v w xs ys second.lengths first.weights second.weights)
   where
-    far : (x y x' y' : ℕ) → y < 2 ^ m → y' < 2 ^ m → AreFar n d x x' → AreFar m e y y' → AreFar (n + m) (d + e) (followed_by m x y) (followed_by m x' y')
+    far : (x y x' y' : ℕ) → y < 2 ^ m → y' < 2 ^ m → AreFar n d x x' → AreFar m e y y'
+        → AreFar (n + m) (d + e) (followed_by m x y) (followed_by m x' y')
     far x y x' y' below below' one two =
         let sum = distance-followed_by n m x y x' y' below below' in
         let a = one.0 in
@@ -84,7 +85,8 @@ followed_by-order m x y x' y' below less =
     omega arith
 
 -- the words ascend where the first ones do
-pub IsStrictlyIncreasing-juxtaposed : (m : ℕ) (xs ys : List ℕ) → IsStrictlyIncreasing xs → All (λ y. y < 2 ^ m) ys → IsStrictlyIncreasing (juxtaposed m xs ys)
+pub IsStrictlyIncreasing-juxtaposed : (m : ℕ) (xs ys : List ℕ) → IsStrictlyIncreasing xs → All (λ y. y < 2 ^ m) ys
+    → IsStrictlyIncreasing (juxtaposed m xs ys)
 IsStrictlyIncreasing-juxtaposed m xs ys ascending below = λ k within.
     AllPairs-juxtaposed (λ y. y < 2 ^ m) (λ x x'. x < x') (λ y y'. Unit {0}) (λ z z'. z < z') m
     (λ x y x' y' h h' less any. followed_by-order m x y x' y' h less) xs ys below
@@ -100,7 +102,8 @@ juxtaposed-more m (x ∷ xs) (y ∷ ys) (suc k) first second =
     ap (λ (zs : List ℕ). followed_by m x y ∷ zs) (juxtaposed-more m xs ys k (omega arith) (omega arith))
 
 -- and all of them
-pub juxtaposed-all : (m : ℕ) (xs ys : List ℕ) (k : ℕ) → min (length xs) (length ys) ≤ k → juxtaposed m (take k xs) (take k ys) ≡ juxtaposed m xs ys
+pub juxtaposed-all : (m : ℕ) (xs ys : List ℕ) (k : ℕ) → min (length xs) (length ys) ≤ k
+    → juxtaposed m (take k xs) (take k ys) ≡ juxtaposed m xs ys
 juxtaposed-all m [] ys zero all = refl
 juxtaposed-all m [] ys (suc k) all = refl
 juxtaposed-all m (x ∷ xs) [] zero all = refl
