@@ -1,3 +1,9 @@
+pub mod Sound
+pub mod Images
+pub mod AppendLemmas
+pub mod TranslationLemmas
+pub mod FrontLemmas
+pub mod EvenLemmas
 pub mod JoinedLemmas
 pub mod FarWords
 pub mod SortedCodes

@@ -1,4 +1,7 @@
 pub mod Joined
+pub mod Even
+pub mod Append
+pub mod Translation
 pub mod Juxtaposed
 pub mod Uuv
 pub mod Places

@@ -1,7 +1,11 @@
 //! Codes that are made from other codes: lengthened, punctured, shortened, put together, and so on.
 #![tactic(auto)]
 
+mod append;
+mod even;
 mod fault;
+mod front;
+mod laws;
 mod juxtaposed;
 mod numbers;
 mod parts_and_sums;
@@ -11,12 +15,23 @@ mod shortened;
 mod sorted;
 mod step;
 #[cfg(test)]
+mod tests_digits;
+#[cfg(test)]
 mod tests_places;
+mod translation;
 
+pub use append::{append_one, lengthen, parity};
+pub use even::even_words;
 pub use fault::BuildFault;
+pub use front::trim;
+pub use laws::{
+    digits_of_constructions, even_words_are_a_code, longer_words_are_codes,
+    parts_of_codes_are_codes, sizes_of_constructions, translated_words_are_codes,
+};
 pub use juxtaposed::{juxtapose, juxtaposed_codes};
 pub use numbers::Numbers;
 pub use parts_and_sums::{uuv, uuv_codes};
 pub use punctured::{puncture, punctured_codes};
 pub use shortened::{shorten, shortened_codes};
 pub use step::Step;
+pub use translation::{complement, select_weight, translate};

@@ -29,7 +29,7 @@ AllPairs-from_get_or R xs each = λ i j d order within.
     (subst (λ a. R a (get_or xs j 0)) (get_or_default xs i 0 d (lt_trans order within)) (each i j order within))
 
 -- neither of two options where there is no first of them
-first_of-None : {X : Type 0} (a b : Option X) → first_of a b ≡ None → (a ≡ None) × (b ≡ None)
+pub first_of-None : {X : Type 0} (a b : Option X) → first_of a b ≡ None → (a ≡ None) × (b ≡ None)
 first_of-None None b e = (refl, e)
 first_of-None (Some x) b e = cc
 
@@ -50,12 +50,12 @@ repeated_none_from words different =
     (least_pair-none (λ x y. x == y) words (λ i j order within. ne_eqb (get_or words i 0) (get_or words j 0) (different i j 0 order within)))
 
 -- two close words, or none
-close-none : (n d : ℕ) (words : List ℕ) → close_fault n d words ≡ None → AllPairs (λ x y. d ≤ distance n x y) words
+pub close-none : (n d : ℕ) (words : List ℕ) → close_fault n d words ≡ None → AllPairs (λ x y. d ≤ distance n x y) words
 close-none n d words e =
     let none = NoPair-from (λ x y. nat_lt (distance n x y) d) words (option_map-None (λ p. Close p.0 p.1 (distance n (slice_index words p.0) (slice_index words p.1))) (least_pair (λ x y. nat_lt (distance n x y) d) words) e) in
     AllPairs-from_get_or (λ x y. d ≤ distance n x y) words (λ i j order within. ltb-false (distance n (get_or words i 0) (get_or words j 0)) d (none i j order within))
 
-close_none_from : (n d : ℕ) (words : List ℕ) → AllPairs (λ x y. d ≤ distance n x y) words → close_fault n d words ≡ None
+pub close_none_from : (n d : ℕ) (words : List ℕ) → AllPairs (λ x y. d ≤ distance n x y) words → close_fault n d words ≡ None
 close_none_from n d words apart =
     ap (option_map (λ p. Close p.0 p.1 (distance n (slice_index words p.0) (slice_index words p.1))))
     (least_pair-none (λ x y. nat_lt (distance n x y) d) words (λ i j order within. le-ltb (distance n (get_or words i 0) (get_or words j 0)) d (apart i j 0 order within)))
@@ -215,14 +215,12 @@ pub fault_of_pairs : (e : Entry) (words : List ℕ) → size_fault words ≡ Non
 unfolding code_fault
 fault_of_pairs e words none none_too = ap₂ (λ o p. first_of o (first_of p (first_of (repeated_fault words) (close_fault e.n e.d words)))) none none_too
 
--- checked words in order are a code
-pub sound_from_check : (e : Entry) (xs ys : List ℕ) → IsEntry e → All (λ x. x < 2 ^ e.n) xs → code_fault e xs ≡ None → IsPermutation xs ys → IsSorted nat_cmp ys
+-- the words of a code of an entry, in order, are a code as callers see it
+pub sound_from_code : (e : Entry) (xs ys : List ℕ) → IsEntry e → 1 ≤ length xs → IsCodeOf e xs → IsPermutation xs ys → IsSorted nat_cmp ys
     → IsSoundCode (record { n = e.n; d = e.d; w = e.w; words = ys })
-sound_from_check e xs ys entry below no_fault moved sorted =
-    let whole = code_from_no_fault e xs below no_fault in
+sound_from_code e xs ys entry some_is code moved sorted =
     let same_length = length_permutation xs ys moved in
-    let some_is = whole.0 in
-    let code_is = IsCode-permutation e.n e.d e.w xs ys moved whole.2 in
+    let code_is = IsCode-permutation e.n e.d e.w xs ys moved code in
     let limits = entry_limits e entry in
     let l0 = limits.0 in
     let l1 = limits.1 in
@@ -236,6 +234,13 @@ sound_from_check e xs ys entry below no_fault moved sorted =
           (IsDistinct-from_apart eqb ys (λ i j z order within. ne_eqb (get_or ys i z) (get_or ys j z) (code_is.different i j z order within)));
       code = code_is;
     }
+
+-- checked words in order are a code
+pub sound_from_check : (e : Entry) (xs ys : List ℕ) → IsEntry e → All (λ x. x < 2 ^ e.n) xs → code_fault e xs ≡ None → IsPermutation xs ys → IsSorted nat_cmp ys
+    → IsSoundCode (record { n = e.n; d = e.d; w = e.w; words = ys })
+sound_from_check e xs ys entry below no_fault moved sorted =
+    let whole = code_from_no_fault e xs below no_fault in
+    sound_from_code e xs ys entry whole.0 whole.2 moved sorted
 
 -- different words are distinct by the test of equality
 distinct_from_different : (xs : List ℕ) → AllPairs (λ x y. x ≢ y) xs → IsDistinct eqb xs

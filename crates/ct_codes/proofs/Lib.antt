@@ -3,3 +3,6 @@ pub mod EntryLemmas
 pub mod CheckLemmas
 pub mod BoundLemmas
 pub mod DigitCodes
+mod NearLemmas
+pub mod SpanLemmas
+pub mod CosetLemmas

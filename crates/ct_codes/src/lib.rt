@@ -2,11 +2,17 @@
 #![tactic(auto)]
 
 mod check;
+mod choices;
 mod claim;
 mod code;
+mod coset;
+mod coset_laws;
+#[cfg(test)]
+mod coset_tests;
 mod entry;
 mod fault;
 mod laws;
+mod near;
 mod pairs;
 mod scheme;
 #[cfg(test)]
@@ -15,8 +21,13 @@ mod tests;
 pub use check::check_words;
 pub use claim::{Claim, Side};
 pub use code::{Code, MAX_CODE_DISTANCE};
+pub use coset::{CosetCode, check_cosets};
+pub use coset_laws::{
+    choices_are_sums, coset_lists_hold_all_choices, faultless_cosets_are_codes, known_cosets,
+    one_coset_is_linear,
+};
 pub use entry::Entry;
-pub use fault::{CodeFault, MAX_WORDS};
+pub use fault::{CodeFault, MAX_COSET_WORK, MAX_REPRESENTATIVES, MAX_WORDS};
 pub use laws::{
     bounds_of_every_entry, entries_of_the_table, faultless_lists_are_codes, known_faults,
     least_pair_is_least,

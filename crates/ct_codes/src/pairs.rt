@@ -1,18 +1,11 @@
 //! The search for two words that are too close.
-ghost use Rattle.std.specs.Prelude.{◌≡◌, ℕ, ◌^◌, ◌<◌, nat_lt, length, position, drop, All, IfSome};
+ghost use Rattle.std.specs.Prelude.{◌≡◌, ℕ, ◌^◌, ◌<◌, nat_lt, length, drop, All, IfSome};
 ghost use Rattle.ct_words.specs.Word.{distance};
 ghost use Rattle.ct_codes.specs.Pairs.{least_pair};
 ghost use Rattle.ct_codes.specs.Inside.Shifted.{shifted};
 
-use ct_words::{Word, distance};
-
-/// The first place of `others` whose word has a distance below `d` from `word`. All are words of length 32, too.
-#[inline(never)]
-fn first_close(word: Word, others: &[Word], d: u32) -> Option<usize>
-    ensures { result ≡ position (λ x. nat_lt (distance 32 word x) d) others.now }
-{
-    others.iter().position(|other| distance(word, *other) < d)
-}
+use crate::near::first_close;
+use ct_words::Word;
 
 /// The least pair of places i < j, in order of i and then j, whose words have a distance below `d`.
 ///

@@ -1,5 +1,5 @@
 -- Where each answer comes for bytes and for the table that they write.
-use Rattle.std.proofs.Common.{◌≡◌, ℕ, ◌<◌, ◌≤◌, nat_le, List, length, codes, Option, Some, None, option_map, Result, Ok, Err, ◌⊎◌, inl, inr, refl, sym, ap, ◌∙◌, subst, le-leb, leb-false}
+use Rattle.std.proofs.Common.{◌≡◌, ℕ, ◌<◌, ◌≤◌, false, nat_le, List, length, codes, Option, Some, None, option_map, Result, Ok, Err, ◌⊎◌, inl, inr, refl, sym, ap, ◌∙◌, subst, le-leb, leb-false}
 use Rattle.std.specs.Prelude.{◌↔◌}
 use Rattle.std.specs.Str.{is_utf8}
 use Rattle.std.proofs.lemmas.Bool.{cases_Bool, leb-true, lt-leb, false≢true}
@@ -10,9 +10,11 @@ use Rattle.ct_codes.specs.declared.entry.Entry.{Entry}
 use Rattle.ct_files.specs.Fields.{is_of_kind}
 use Rattle.ct_files.specs.Document.{table_of}
 use Rattle.ct_files.specs.Words.{words_evidence_of}
+use Rattle.ct_files.specs.Cosets.{cosets_evidence_of}
 use Rattle.ct_files.specs.Evidence.{evidence_of, read_without_limit, read_of}
 use Rattle.ct_files.specs.Tables.{IsDocument, IsOfKind}
 use Rattle.ct_files.specs.WordsDocument.{StatesWords, IsWordsAnswer, AcceptsWords}
+use Rattle.ct_files.specs.CosetsDocument.{StatesCosets, IsCosetsAnswer, AcceptsCosets}
 use Rattle.ct_files.specs.declared.evidence.TheConstants.{MAX_DOCUMENT}
 use Rattle.ct_files.specs.declared.evidence.Evidence.{Evidence}
 use Rattle.ct_files.specs.declared.evidence.Evidence.TheVariants as evidence
@@ -20,20 +22,27 @@ use Rattle.ct_files.specs.declared.fault.FileFault.{FileFault}
 use Rattle.ct_files.specs.declared.fault.FileFault.TheVariants.{Bytes, NotToml, Kind}
 use Rattle.ct_files.proofs.FieldLemmas.{is_of_kind-true, is_of_kind-from}
 use Rattle.ct_files.proofs.WordsAnswers.{words_answer, words_answer-from, words_answers}
+use Rattle.ct_files.proofs.CosetsAnswers.{cosets_answer, cosets_answer-from, cosets_answers}
 
 -- what a document of kind words reads as is the evidence of words
 pub evidence_of-words : (document : Data) → IsOfKind (codes "words") document → evidence_of document ≡ words_evidence_of document
 unfolding evidence_of
 evidence_of-words document of_kind = rw (is_of_kind-from (codes "words") document of_kind) refl
 
--- a document of another kind is refused
-evidence_of-other : (document : Data) → ¬ (IsOfKind (codes "words") document) → evidence_of document ≡ Err Kind
+-- what a document of kind cosets reads as is the evidence of cosets
+pub evidence_of-cosets : (document : Data) → IsOfKind (codes "cosets") document → evidence_of document ≡ cosets_evidence_of document
 unfolding evidence_of
-evidence_of-other document other =
-    elim (cases_Bool (is_of_kind (codes "words") document)) [
-      | inl words ↦ absurd (other (is_of_kind-true (codes "words") document words))
-      | inr none ↦ rw none refl
-    ]
+evidence_of-cosets document of_kind = rw of_kind refl
+
+-- a kind that does not stand fails its test
+other_kind : (kind : List ℕ) (document : Data) → ¬ (IsOfKind kind document) → is_of_kind kind document ≡ false
+other_kind kind document other =
+    elim (cases_Bool (is_of_kind kind document)) [ inl same ↦ absurd (other (is_of_kind-true kind document same)) | inr none ↦ none ]
+
+-- a document of another kind is refused
+evidence_of-other : (document : Data) → ¬ (IsOfKind (codes "words") document) → ¬ (IsOfKind (codes "cosets") document) → evidence_of document ≡ Err Kind
+unfolding evidence_of
+evidence_of-other document no_words no_cosets = rw (other_kind (codes "words") document no_words, other_kind (codes "cosets") document no_cosets) refl
 
 -- bytes that are not too many read as without the limit
 pub read_of-short : (bytes : List ℕ) → length bytes ≤ MAX_DOCUMENT → read_of bytes ≡ read_without_limit bytes
@@ -87,50 +96,97 @@ unfolding read_without_limit
 read_of-no_table bytes short none = read_of-short bytes short ∙ rw none refl
 
 -- a document says that it is of the kind, or it doesn't
-kind_or_none : (document : Data) → IsOfKind (codes "words") document ⊎ ¬ (IsOfKind (codes "words") document)
-kind_or_none document =
-    elim (cases_Bool (is_of_kind (codes "words") document)) [
-      | inl words ↦ inl (is_of_kind-true (codes "words") document words)
-      | inr none ↦ inr (λ of_kind. false≢true (sym none ∙ is_of_kind-from (codes "words") document of_kind))
+kind_or_none : (kind : List ℕ) (document : Data) → IsOfKind kind document ⊎ ¬ (IsOfKind kind document)
+kind_or_none kind document =
+    elim (cases_Bool (is_of_kind kind document)) [
+      | inl same ↦ inl (is_of_kind-true kind document same)
+      | inr none ↦ inr (λ of_kind. false≢true (sym none ∙ is_of_kind-from kind document of_kind))
     ]
+
+-- where the answer to a document comes, which is of one of the kinds or of none
+pub data DocumentAnswer (document : Data) (answer : Result Evidence FileFault) : Type 0 where
+  words : IsOfKind (codes "words") document → IsWordsAnswer document answer → DocumentAnswer document answer
+  cosets : IsOfKind (codes "cosets") document → IsCosetsAnswer document answer → DocumentAnswer document answer
+  of_no_kind : ¬ (IsOfKind (codes "words") document) → ¬ (IsOfKind (codes "cosets") document) → answer ≡ Err Kind → DocumentAnswer document answer
 
 -- the answer to a document comes where it is said to come, or the kind is refused
-pub document_answer : (bytes : List ℕ) (document : Data) → IsDocument bytes document → (IsOfKind (codes "words") document × IsWordsAnswer document (read_of bytes)) ⊎ (¬ (IsOfKind (codes "words") document) × (read_of bytes ≡ Err Kind))
+pub document_answer : (bytes : List ℕ) (document : Data) → IsDocument bytes document → DocumentAnswer document (read_of bytes)
 document_answer bytes document written =
     let (ms, parsed, same) = written.written in
-    elim (kind_or_none document) [
+    let read = read_of-document bytes document written in
+    elim (kind_or_none (codes "words") document) [
       | inl of_kind ↦
           let answer = subst (λ d. IsOfKind (codes "words") d → IsWordsAnswer d (words_evidence_of d)) (sym same) (words_answer ms) of_kind in
-          inl (of_kind, rw (read_of-document bytes document written, evidence_of-words document of_kind) answer)
-      | inr other ↦ inr (other, read_of-document bytes document written ∙ evidence_of-other document other)
-    ]
-
--- a document is accepted as words exactly where it states them
-pub accepted : (bytes : List ℕ) (e : Entry) (words : List ℕ) → read_of bytes ≡ Ok (evidence.Words e words) → AcceptsWords bytes e words
-accepted bytes e words read =
-    elim (short_or_long bytes) [
-      | inr long ↦ let other = read_of-long bytes long in absurd cc
-      | inl short ↦
-          elim (document_or_none bytes short) [
-            | inr none ↦ let other = read_of-no_table bytes short none in absurd cc
-            | inl (document, written) ↦
-                elim (document_answer bytes document written) [
-                  | inr (_, other) ↦ absurd cc
-                  | inl (of_kind, answer) ↦
-                      let (states, plain, some, few) = rw read at answer in
-                      record { document = document; written = written; states = states; plain = plain; some = some; few = few }
-                ]
+          words of_kind (rw (read, evidence_of-words document of_kind) answer)
+      | inr no_words ↦
+          elim (kind_or_none (codes "cosets") document) [
+            | inl of_kind ↦
+                let answer = subst (λ d. IsOfKind (codes "cosets") d → IsCosetsAnswer d (cosets_evidence_of d)) (sym same) (cosets_answer ms) of_kind in
+                cosets of_kind (rw (read, evidence_of-cosets document of_kind) answer)
+            | inr no_cosets ↦ of_no_kind no_words no_cosets (read ∙ evidence_of-other document no_words no_cosets)
           ]
     ]
 
-pub accepted-from : (bytes : List ℕ) (e : Entry) (words : List ℕ) → AcceptsWords bytes e words → read_of bytes ≡ Ok (evidence.Words e words)
-accepted-from bytes e words accepts =
+-- where the answer to bytes comes: they are too many, or write no table, or it is that to a document
+pub data BytesAnswer (bytes : List ℕ) (answer : Result Evidence FileFault) : Type 0 where
+  long : MAX_DOCUMENT < length bytes → answer ≡ Err (Bytes (length bytes)) → BytesAnswer bytes answer
+  no_table : length bytes ≤ MAX_DOCUMENT → table_of bytes ≡ None → answer ≡ Err NotToml → BytesAnswer bytes answer
+  of_document : (document : Data) → IsDocument bytes document → DocumentAnswer document answer → BytesAnswer bytes answer
+
+pub bytes_answer : (bytes : List ℕ) → BytesAnswer bytes (read_of bytes)
+bytes_answer bytes =
+    elim (short_or_long bytes) [
+      | inr many ↦ long many (read_of-long bytes many)
+      | inl short ↦
+          elim (document_or_none bytes short) [
+            | inr none ↦ no_table short none (read_of-no_table bytes short none)
+            | inl (document, written) ↦ of_document document written (document_answer bytes document written)
+          ]
+    ]
+
+-- a document is accepted as words exactly where it states them
+pub accepted : (bytes : List ℕ) (e : Entry) (listed : List ℕ) → read_of bytes ≡ Ok (evidence.Words e listed) → AcceptsWords bytes e listed
+accepted bytes e listed read = at (rw read at (bytes_answer bytes))
+  where
+    at : BytesAnswer bytes (Ok (evidence.Words e listed)) → AcceptsWords bytes e listed
+    at (long many other) = absurd cc
+    at (no_table short none other) = absurd cc
+    at (of_document document written (of_no_kind no_words no_cosets other)) = absurd cc
+    at (of_document document written (cosets of_kind never)) = absurd never
+    at (of_document document written (words of_kind (states, some, few))) =
+        record { document = document; written = written; states = states; some = some; few = few }
+
+pub accepted-from : (bytes : List ℕ) (e : Entry) (listed : List ℕ) → AcceptsWords bytes e listed → read_of bytes ≡ Ok (evidence.Words e listed)
+accepted-from bytes e listed accepts =
     let (ms, parsed, same) = accepts.written.written in
     let of_kind = accepts.states.form.fields.of_kind in
     read_of-document bytes accepts.document accepts.written
     ∙ evidence_of-words accepts.document of_kind
-    ∙ subst (λ d. IsOfKind (codes "words") d → StatesWords d e.n e.d words → words_evidence_of d ≡ Ok (evidence.Words e words)) (sym same)
-    (λ of_kind states. words_answer-from ms of_kind (Ok (evidence.Words e words)) (states, accepts.plain, accepts.some, accepts.few)) of_kind accepts.states
+    ∙ subst (λ d. StatesWords d e listed → words_evidence_of d ≡ Ok (evidence.Words e listed)) (sym same)
+    (λ states. words_answer-from ms (Ok (evidence.Words e listed)) (states, accepts.some, accepts.few)) accepts.states
+
+-- a document is accepted as cosets exactly where it states them
+pub accepted_cosets : (bytes : List ℕ) (e : Entry) (basis representatives : List ℕ) → read_of bytes ≡ Ok (evidence.Cosets e basis representatives)
+    → AcceptsCosets bytes e basis representatives
+accepted_cosets bytes e basis representatives read = at (rw read at (bytes_answer bytes))
+  where
+    at : BytesAnswer bytes (Ok (evidence.Cosets e basis representatives)) → AcceptsCosets bytes e basis representatives
+    at (long many other) = absurd cc
+    at (no_table short none other) = absurd cc
+    at (of_document document written (of_no_kind no_words no_cosets other)) = absurd cc
+    at (of_document document written (words of_kind never)) = absurd never
+    at (of_document document written (cosets of_kind (states, few_basis, some, few))) =
+        record { document = document; written = written; states = states; few_basis = few_basis; some = some; few = few }
+
+pub accepted_cosets-from : (bytes : List ℕ) (e : Entry) (basis representatives : List ℕ) → AcceptsCosets bytes e basis representatives
+    → read_of bytes ≡ Ok (evidence.Cosets e basis representatives)
+accepted_cosets-from bytes e basis representatives accepts =
+    let (ms, parsed, same) = accepts.written.written in
+    let of_kind = accepts.states.form.fields.of_kind in
+    read_of-document bytes accepts.document accepts.written
+    ∙ evidence_of-cosets accepts.document of_kind
+    ∙ subst (λ d. StatesCosets d e basis representatives → cosets_evidence_of d ≡ Ok (evidence.Cosets e basis representatives)) (sym same)
+    (λ states. cosets_answer-from ms (Ok (evidence.Cosets e basis representatives)) (states, accepts.few_basis, accepts.some, accepts.few)) accepts.states
 
 -- what is said of each answer to a document of kind words
 pub answers : (bytes : List ℕ) (document : Data) (answer : Result Evidence FileFault) → IsDocument bytes document → IsOfKind (codes "words") document → (read_of bytes ≡ answer) ↔ IsWordsAnswer document answer
@@ -140,49 +196,50 @@ answers bytes document answer written of_kind =
     let (to, from) = subst (λ d. IsOfKind (codes "words") d → (words_evidence_of d ≡ answer) ↔ IsWordsAnswer d answer) (sym same) (λ here. words_answers ms here answer) of_kind in
     (λ e. to (sym read ∙ e), λ h. read ∙ from h)
 
+-- what is said of each answer to a document of kind cosets
+pub answers_cosets : (bytes : List ℕ) (document : Data) (answer : Result Evidence FileFault) → IsDocument bytes document → IsOfKind (codes "cosets") document → (read_of bytes ≡ answer) ↔ IsCosetsAnswer document answer
+answers_cosets bytes document answer written of_kind =
+    let (ms, parsed, same) = written.written in
+    let read = read_of-document bytes document written ∙ evidence_of-cosets document of_kind in
+    let (to, from) = subst (λ d. IsOfKind (codes "cosets") d → (cosets_evidence_of d ≡ answer) ↔ IsCosetsAnswer d answer) (sym same) (λ here. cosets_answers ms here answer) of_kind in
+    (λ e. to (sym read ∙ e), λ h. read ∙ from h)
+
 -- the kind of a document is refused exactly where it is another one
-pub kinds : (bytes : List ℕ) (document : Data) → IsDocument bytes document → (read_of bytes ≡ Err Kind) ↔ ¬ (IsOfKind (codes "words") document)
-kinds bytes document written =
-    (λ e of_kind. (answers bytes document (Err Kind) written of_kind).0 e, λ other. read_of-document bytes document written ∙ evidence_of-other document other)
+pub kinds : (bytes : List ℕ) (document : Data) → IsDocument bytes document
+    → (read_of bytes ≡ Err Kind) ↔ (¬ (IsOfKind (codes "words") document) × ¬ (IsOfKind (codes "cosets") document))
+kinds bytes document written = (
+  λ e. (λ of_kind. (answers bytes document (Err Kind) written of_kind).0 e, λ of_kind. (answers_cosets bytes document (Err Kind) written of_kind).0 e),
+  λ other. read_of-document bytes document written ∙ evidence_of-other document other.0 other.1,
+)
 
 -- bytes are refused for their number exactly where they are too many
 pub too_many : (bytes : List ℕ) (b : ℕ) → (read_of bytes ≡ Err (Bytes b)) ↔ ((b ≡ length bytes) × (MAX_DOCUMENT < length bytes))
-too_many bytes b = (only, λ h. read_of-long bytes h.1 ∙ ap (λ k. Err (Bytes k)) (sym h.0)) where
-  only : read_of bytes ≡ Err (Bytes b) → (b ≡ length bytes) × (MAX_DOCUMENT < length bytes)
-  only e =
-      elim (short_or_long bytes) [
-        | inr long ↦ let is = read_of-long bytes long in let same : b ≡ length bytes = cc in (same, long)
-        | inl short ↦
-            elim (document_or_none bytes short) [
-              | inr none ↦ let other = read_of-no_table bytes short none in absurd cc
-              | inl (document, written) ↦
-                  elim (document_answer bytes document written) [
-                    | inr (_, other) ↦ absurd cc
-                    | inl (of_kind, answer) ↦ absurd (rw e at answer)
-                  ]
-            ]
-      ]
+too_many bytes b = (λ e. only (rw e at (bytes_answer bytes)), λ h. read_of-long bytes h.1 ∙ ap (λ k. Err (Bytes k)) (sym h.0))
+  where
+    only : BytesAnswer bytes (Err (Bytes b)) → (b ≡ length bytes) × (MAX_DOCUMENT < length bytes)
+    only (long many is) = let same : b ≡ length bytes = cc in (same, many)
+    only (no_table short none other) = absurd cc
+    only (of_document document written (of_no_kind no_words no_cosets other)) = absurd cc
+    only (of_document document written (words of_kind never)) = absurd never
+    only (of_document document written (cosets of_kind never)) = absurd never
 
 -- bytes are refused as no TOML exactly where they are not too many and write no table
 pub no_tables : (bytes : List ℕ) → (read_of bytes ≡ Err NotToml) ↔ ((length bytes ≤ MAX_DOCUMENT) × ((document : Data) → ¬ (IsDocument bytes document)))
-no_tables bytes = (only, from) where
-  only : read_of bytes ≡ Err NotToml → (length bytes ≤ MAX_DOCUMENT) × ((document : Data) → ¬ (IsDocument bytes document))
-  only e =
-      elim (short_or_long bytes) [
-        | inr long ↦ let other = read_of-long bytes long in absurd cc
-        | inl short ↦ (
-          short,
-          λ document written.
-              elim (document_answer bytes document written) [
-                | inr (_, other) ↦ absurd cc
-                | inl (of_kind, answer) ↦ absurd (rw e at answer)
-              ],
-        )
-      ]
+no_tables bytes = (λ e. (only (rw e at (bytes_answer bytes)), λ document written. never (rw e at (document_answer bytes document written))), from)
+  where
+    never : {document : Data} → DocumentAnswer document (Err NotToml) → ⊥
+    never (words of_kind wrong) = wrong
+    never (cosets of_kind wrong) = wrong
+    never (of_no_kind no_words no_cosets other) = absurd cc
 
-  from : (length bytes ≤ MAX_DOCUMENT) × ((document : Data) → ¬ (IsDocument bytes document)) → read_of bytes ≡ Err NotToml
-  from (short, none) =
-      elim (document_or_none bytes short) [
-        | inr no_table ↦ read_of-no_table bytes short no_table
-        | inl (document, written) ↦ absurd (none document written)
-      ]
+    only : BytesAnswer bytes (Err NotToml) → length bytes ≤ MAX_DOCUMENT
+    only (long many other) = absurd cc
+    only (no_table short none is) = short
+    only (of_document document written answer) = absurd (never answer)
+
+    from : (length bytes ≤ MAX_DOCUMENT) × ((document : Data) → ¬ (IsDocument bytes document)) → read_of bytes ≡ Err NotToml
+    from (short, none) =
+        elim (document_or_none bytes short) [
+          | inr nothing ↦ read_of-no_table bytes short nothing
+          | inl (document, written) ↦ absurd (none document written)
+        ]

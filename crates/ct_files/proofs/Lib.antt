@@ -1,8 +1,10 @@
 mod Documents
 pub mod StepLemmas
 pub mod FieldLemmas
+pub mod EntryAnswers
 pub mod WordsLemmas
 pub mod WordsAnswers
+pub mod CosetsAnswers
 pub mod DocumentAnswers
 pub mod Evidences
 mod Written

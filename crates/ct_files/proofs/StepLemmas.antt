@@ -1,5 +1,5 @@
 -- What is known of a step when it is known what the steps together give.
-use Rattle.std.proofs.Common.{◌≡◌, Bool, true, false, Option, Some, None, Result, Ok, Err, ok_or, ◌⊎◌, inl, inr, refl, ap}
+use Rattle.std.proofs.Common.{◌≡◌, ◌≢◌, Bool, true, false, Option, Some, None, Result, Ok, Err, ok_or, ◌⊎◌, inl, inr, refl, sym, ap}
 use Rattle.ct_files.specs.Steps.{◌>>=◌, check}
 use Rattle.ct_files.specs.declared.fault.FileFault.{FileFault}
 
@@ -47,3 +47,8 @@ pub bind-cases : {A B : Type 0} (P : Result B FileFault → Type 0) (step : Resu
     → ((x : A) → step ≡ Ok x → P (next x)) → ((fault : FileFault) → step ≡ Err fault → P (Err fault)) → P (step >>= next)
 bind-cases P (Ok x) next ok err = ok x refl
 bind-cases P (Err fault) next ok err = err fault refl
+
+-- a step that gives nothing, and whose faults are all one, gives that fault
+pub only_fault : {A : Type 0} (step : Result A FileFault) (own : FileFault) → ((x : A) → step ≢ Ok x) → ((fault : FileFault) → step ≡ Err fault → own ≡ fault) → step ≡ Err own
+only_fault (Ok x) own none same = absurd (none x refl)
+only_fault (Err fault) own none same = ap Err (sym (same fault refl))

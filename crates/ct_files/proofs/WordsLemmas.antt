@@ -1,9 +1,10 @@
 -- The words of texts: what they are where they are read, and where the first text is that is none.
-use Rattle.std.proofs.Common.{◌≡◌, ℕ, zero, suc, ◌+◌, ◌^◌, ◌<◌, List, [], ◌∷◌, map, Option, Some, None, Ok, Err, ok_or, inl, inr, refl, ap, ◌∙◌, subst, arith}
+use Rattle.std.proofs.Common.{◌≡◌, ℕ, zero, suc, ◌+◌, ◌^◌, ◌<◌, List, [], ◌∷◌, ◌++◌, length, map, Option, Some, None, Result, Ok, Err, ok_or, inl, inr, refl, sym, ap, ◌∙◌, subst, arith}
 use Rattle.std.specs.Prelude.{slice_get}
 use Rattle.std.specs.List.{AllByRecursion}
 use Rattle.ct_words.specs.Text.{word_of, word_text}
 use Rattle.ct_words.proofs.TextLemmas.{word_of-word_text, word_from_text}
+use Rattle.ct_files.specs.Steps.{◌>>=◌}
 use Rattle.ct_files.specs.Fields.{words_from}
 use Rattle.ct_files.specs.Tables.{IsWordText, IsFirstWrong}
 use Rattle.ct_files.specs.declared.fault.FileFault.{FileFault}
@@ -78,3 +79,38 @@ words_from-wrong n place (text ∷ texts) (suc i) first =
     let found : word_of n text ≡ Some x = ap (word_of n) is ∙ word_of-word_text n x small in
     let rest = words_from-wrong n (suc place) texts i (record { wrong = first.wrong; before = λ j t below. first.before (suc j) t (omega arith) }) in
     rw (found, rest) (ap (λ p. Err (Digits p)) (omega arith))
+
+-- the words of two lists of texts, one after the other
+abbrev pub both_words : Result (List ℕ) FileFault → Result (List ℕ) FileFault → Result (List ℕ) FileFault
+both_words first second = first >>= (λ xs. second >>= (λ ys. Ok (xs ++ ys)))
+
+-- none before
+none_before : (second : Result (List ℕ) FileFault) → both_words (Ok []) second ≡ second
+none_before (Ok ys) = refl
+none_before (Err fault) = refl
+
+-- one word before
+one_before : (x : ℕ) (first second : Result (List ℕ) FileFault)
+    → (both_words first second >>= (λ ws. Ok (x ∷ ws))) ≡ both_words (first >>= (λ xs. Ok (x ∷ xs))) second
+one_before x (Ok xs) (Ok ys) = refl
+one_before x (Ok xs) (Err fault) = refl
+one_before x (Err fault) second = refl
+
+-- the text of a word, or of none, before those of two lists
+one_more : (n place : ℕ) (read : Option ℕ) (texts more : List (List ℕ)) (after : Result (List ℕ) FileFault)
+    → words_from n (suc place) (texts ++ more) ≡ both_words (words_from n (suc place) texts) after
+    → (ok_or read (Digits place) >>= (λ x. words_from n (suc place) (texts ++ more) >>= (λ ws. Ok (x ∷ ws))))
+    ≡ both_words (ok_or read (Digits place) >>= (λ x. words_from n (suc place) texts >>= (λ ws. Ok (x ∷ ws)))) after
+one_more n place None texts more after rest = refl
+one_more n place (Some x) texts more after rest =
+    ap (λ r. r >>= (λ ws. Ok (x ∷ ws))) rest ∙ one_before x (words_from n (suc place) texts) after
+
+-- the texts of two lists are read as those of one
+pub words_from-append : (n place : ℕ) (texts more : List (List ℕ))
+    → words_from n place (texts ++ more) ≡ both_words (words_from n place texts) (words_from n (place + length texts) more)
+words_from-append n place [] more =
+    ap (λ k. words_from n k more) (omega arith) ∙ sym (none_before (words_from n (place + 0) more))
+words_from-append n place (text ∷ texts) more =
+    let rest = words_from-append n (suc place) texts more
+    ∙ ap (λ k. both_words (words_from n (suc place) texts) (words_from n k more)) (omega arith) in
+    one_more n place (word_of n text) texts more (words_from n (place + length (text ∷ texts)) more) rest

@@ -8,6 +8,12 @@ use Rattle.ct_files.specs.declared.evidence.Evidence.TheVariants.{Words}
 abbrev pub words_document : List ℕ → List ℕ → List ℕ → List ℕ → List ℕ
 words_document n d words more = codes "kind = \"words\"\nn = " ++ n ++ codes "\nd = " ++ d ++ codes "\nwords = " ++ words ++ codes "\n" ++ more
 
+-- a document of kind cosets, with these texts at n, d, basis and representatives, and more after it
+abbrev pub cosets_document : List ℕ → List ℕ → List ℕ → List ℕ → List ℕ → List ℕ
+cosets_document n d basis representatives more =
+    codes "kind = 'cosets'\nn = " ++ n ++ codes "\nd = " ++ d ++ codes "\nbasis = " ++ basis ++ codes "\nrepresentatives = " ++ representatives
+    ++ codes "\n" ++ more
+
 -- two words of length 10, stated for distance 6
 abbrev pub two_words : List ℕ
 two_words = codes "kind = \"words\"\nn = 10\nd = 6\nwords = [\"0000000000\", \"1111100000\"]\n"

@@ -1,10 +1,13 @@
 -- The keys of the fields of evidence documents.
 use Rattle.std.specs.Prelude.{ℕ, List, codes}
 use Rattle.ct_files.specs.declared.field.FieldName.{FieldName}
-use Rattle.ct_files.specs.declared.field.FieldName.TheVariants.{N, D, Words}
+use Rattle.ct_files.specs.declared.field.FieldName.TheVariants.{N, D, W, Words, Basis, Representatives}
 
 -- the key of a field
 abbrev pub field_text : FieldName → List ℕ
 field_text N = codes "n"
 field_text D = codes "d"
+field_text W = codes "w"
 field_text Words = codes "words"
+field_text Basis = codes "basis"
+field_text Representatives = codes "representatives"

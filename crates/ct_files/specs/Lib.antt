@@ -2,9 +2,13 @@ pub mod Field
 pub mod Steps
 pub mod Fields
 pub mod Document
+pub mod StatedEntry
 pub mod Words
+pub mod Cosets
 pub mod Evidence
 pub mod Examples
 pub mod Tables
+pub mod StatesEntry
 pub mod WordsDocument
+pub mod CosetsDocument
 pub mod Inside

@@ -1,11 +1,10 @@
 -- The evidence of a document of kind words, or its first fault.
 use Rattle.std.specs.Prelude.{ℕ, nat_le, ◌&&◌, List, [], ◌∷◌, length, Result, Ok}
 use Rattle.toml.specs.Data.{Data}
-use Rattle.ct_words.specs.declared.limits.TheConstants.{MAX_N}
-use Rattle.ct_codes.specs.Entry.{unrestricted}
 use Rattle.ct_codes.specs.declared.fault.TheConstants.{MAX_WORDS}
 use Rattle.ct_files.specs.Steps.{◌>>=◌, ◌>>◌, check}
-use Rattle.ct_files.specs.Fields.{number_field, texts_field, no_other_key, words_from}
+use Rattle.ct_files.specs.Fields.{texts_field, no_other_key, words_from}
+use Rattle.ct_files.specs.StatedEntry.{entry_of}
 use Rattle.ct_files.specs.declared.evidence.Evidence.{Evidence}
 use Rattle.ct_files.specs.declared.evidence.Evidence.TheVariants.{Words}
 use Rattle.ct_files.specs.declared.field.FieldName.TheVariants as name
@@ -19,10 +18,9 @@ word_count words = check (nat_le 1 (length words) && nat_le (length words) MAX_W
 -- the evidence of a document of kind words
 unfoldable pub words_evidence_of : Data → Result Evidence FileFault
 words_evidence_of document = do
-  n ← number_field name.N 1 MAX_N document
-  d ← number_field name.D 3 MAX_N document
+  e ← entry_of document
   texts ← texts_field name.Words document
-  no_other_key (name.N ∷ name.D ∷ name.Words ∷ []) document
-  words ← words_from n 0 texts
+  no_other_key (name.N ∷ name.D ∷ name.W ∷ name.Words ∷ []) document
+  words ← words_from e.n 0 texts
   word_count words
-  Ok (Words (unrestricted n d) words)
+  Ok (Words e words)

@@ -10,5 +10,15 @@ pub const MAX_DOCUMENT: usize = 4194304;
 #[derive(Debug, Drop)]
 pub enum Evidence {
     /// Words that are stated as a code of the entry, in the order of the document.
-    Words { entry: Entry, words: WordList },
+    Words {
+        entry: Entry,
+        words: WordList,
+    },
+    /// A basis and representatives: the sums of each representative with all sums of basis words are stated as a code of
+    /// the entry, which has no weight.
+    Cosets {
+        entry: Entry,
+        basis: WordList,
+        representatives: WordList,
+    },
 }

@@ -9,8 +9,14 @@ pub enum FieldName {
     N,
     /// The distance, `d`.
     D,
+    /// The weight of the words, `w`.
+    W,
     /// The list of words, `words`.
     Words,
+    /// The words of a basis, `basis`.
+    Basis,
+    /// The representatives of cosets, `representatives`.
+    Representatives,
 }
 
 impl FieldName {
@@ -21,7 +27,10 @@ impl FieldName {
         match self {
             FieldName::N => "n",
             FieldName::D => "d",
+            FieldName::W => "w",
             FieldName::Words => "words",
+            FieldName::Basis => "basis",
+            FieldName::Representatives => "representatives",
         }
     }
 }

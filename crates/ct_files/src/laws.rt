@@ -4,19 +4,23 @@ ghost use Rattle.toml.specs.Data.{Data};
 ghost use Rattle.ct_codes.specs.declared.entry.Entry.{Entry};
 ghost use Rattle.ct_files.specs.declared.evidence.TheConstants.{MAX_DOCUMENT};
 ghost use Rattle.ct_files.specs.declared.evidence.Evidence.{Evidence};
-ghost use Rattle.ct_files.specs.declared.evidence.Evidence.TheVariants.{Words};
+ghost use Rattle.ct_files.specs.declared.evidence.Evidence.TheVariants.{Words, Cosets};
 ghost use Rattle.ct_files.specs.declared.fault.FileFault.{FileFault};
 ghost use Rattle.ct_files.specs.declared.fault.FileFault.TheVariants.{Bytes, NotToml, Kind};
 ghost use Rattle.ct_files.specs.Evidence.{read_of};
 ghost use Rattle.ct_files.specs.Tables.{IsDocument, IsOfKind};
 ghost use Rattle.ct_files.specs.WordsDocument.{IsWordsAnswer, AcceptsWords};
+ghost use Rattle.ct_files.specs.CosetsDocument.{IsCosetsAnswer, AcceptsCosets};
 
 /// Bytes are accepted as these words for this entry exactly where they are at most `MAX_DOCUMENT`, are UTF-8 and write
-/// by the grammar of TOML 1.1 a table of kind `words` that has n and d of the entry, each in its range, the texts of
-/// the words, each of length n, at `words`, and no other key, and where the words are 1 to `MAX_WORDS`.
+/// by the grammar of TOML 1.1 a table of kind `words` that has n, d and, where there is one, w of the entry, each in its
+/// range, the texts of the words, each of length n, at `words`, and no other key, and where the words are 1 to
+/// `MAX_WORDS`; and so for cosets, whose table has the texts of the basis words and of the representatives.
 pub fn accepted_documents()
-    ensures { (bytes : List ℕ) (e : Entry) (words : List ℕ) →
+    ensures words { (bytes : List ℕ) (e : Entry) (words : List ℕ) →
         (read_of bytes ≡ Ok (Words e words)) ↔ AcceptsWords bytes e words }
+    ensures cosets { (bytes : List ℕ) (e : Entry) (basis representatives : List ℕ) →
+        (read_of bytes ≡ Ok (Cosets e basis representatives)) ↔ AcceptsCosets bytes e basis representatives }
 {}
 
 /// Where bytes are refused that are too many, or that write no table.
@@ -28,12 +32,16 @@ pub fn bytes_without_table()
         ((length bytes ≤ MAX_DOCUMENT) × ((document : Data) → ¬ (IsDocument bytes document))) }
 {}
 
-/// Where the other answers come: `Kind` for a table of another kind than `words`, and for one of this kind each answer
-/// exactly where `IsWordsAnswer` says.
+/// Where the other answers come: `Kind` for a table of another kind than `words` and `cosets`, and for one of these kinds
+/// each answer exactly where `IsWordsAnswer` or `IsCosetsAnswer` says.
 pub fn answers_to_documents()
     ensures kind { (bytes : List ℕ) (document : Data) → IsDocument bytes document →
-        (read_of bytes ≡ Err Kind) ↔ ¬ (IsOfKind (codes "words") document) }
+        (read_of bytes ≡ Err Kind)
+        ↔ (¬ (IsOfKind (codes "words") document) × ¬ (IsOfKind (codes "cosets") document)) }
     ensures words { (bytes : List ℕ) (document : Data) (answer : Result Evidence FileFault) →
         IsDocument bytes document → IsOfKind (codes "words") document →
         (read_of bytes ≡ answer) ↔ IsWordsAnswer document answer }
+    ensures cosets { (bytes : List ℕ) (document : Data) (answer : Result Evidence FileFault) →
+        IsDocument bytes document → IsOfKind (codes "cosets") document →
+        (read_of bytes ≡ answer) ↔ IsCosetsAnswer document answer }
 {}

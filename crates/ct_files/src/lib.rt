@@ -1,6 +1,7 @@
 //! Documents of evidence: the reading of a document's bytes.
 #![tactic(auto)]
 
+mod cosets;
 mod document;
 mod evidence;
 pub mod examples;
@@ -9,6 +10,7 @@ mod field;
 mod fields;
 mod laws;
 mod reading;
+mod stated_entry;
 mod words;
 mod writing;
 

@@ -4,6 +4,7 @@ ghost use Rattle.toml.specs.View.{view};
 ghost use Rattle.ct_files.specs.Inside.Reads.{Reads};
 ghost use Rattle.ct_files.specs.Evidence.{IsSound, evidence_of, read_without_limit, read_of};
 
+use crate::cosets::cosets_evidence;
 use crate::document::{is_of_kind, read_document};
 use crate::evidence::{Evidence, MAX_DOCUMENT};
 use crate::fault::FileFault;
@@ -17,6 +18,9 @@ fn evidence(alloc: Global, document: &Value) -> Result<Evidence, FileFault>
 {
     if is_of_kind(document, "words") {
         return words_evidence(alloc, document);
+    }
+    if is_of_kind(document, "cosets") {
+        return cosets_evidence(alloc, document);
     }
     Err(FileFault::Kind)
 }
@@ -41,11 +45,16 @@ fn read(alloc: Global, bytes: &[u8]) -> Result<Evidence, FileFault>
 
 /// The evidence that a document states, as its bytes give it.
 ///
-/// The bytes are at most `MAX_DOCUMENT`, and a TOML document whose keys are `kind`, `n`, `d` and
-/// `words` and no others: `kind` is the text `words`, `n` an integer from 1 to `MAX_N`, `d` one
-/// from 3 to `MAX_N`, and `words` a list of 1 to `ct_codes::MAX_WORDS` texts of `n` digits `0` and
-/// `1`. For every other document the answer is its first fault, in the order of `FileFault`.
-/// `Memory` is want of memory.
+/// The bytes are at most `MAX_DOCUMENT`, and a TOML document with the keys `kind`, `n`, an integer from 1 to `MAX_N`, `d`,
+/// one from 3 to `MAX_N`, those of its kind, and no others. Words are texts of `n` digits `0` and `1`. Where the key `w`
+/// stands, the weight, it is an integer from 0 to n, and d is even.
+///
+/// | `kind` | further keys |
+/// |---|---|
+/// | `words` | `w`, which may be left out; `words`, a list of 1 to `ct_codes::MAX_WORDS` words |
+/// | `cosets` | `basis`, a list of at most `MAX_N` words; `representatives`, one of 1 to `ct_codes::MAX_REPRESENTATIVES` |
+///
+/// For every other document the answer is its first fault, in the order of `FileFault`. `Memory` is want of memory.
 pub fn read_evidence(alloc: Global, bytes: &[u8]) -> Result<Evidence, FileFault>
     ensures read { IfOk result (λ evidence. read_of bytes.now ≡ Ok evidence) }
     ensures fault { IfErr result (λ fault. fault ≢ FileFault.Memory → read_of bytes.now ≡ Err fault) }

@@ -1,6 +1,8 @@
 //! Documents at the edges of the form, and what they read as.
 
 use super::*;
+use ct_codes::Entry;
+use ct_words::WordList;
 use std::alloc::{AllocError, Global};
 use std::process::Abort;
 use std::test::Fail;
@@ -48,7 +50,7 @@ const READ: [Row; 7] = [
 ];
 
 // Values of n, d and words, further lines, and the fault.
-const REFUSED: [(&str, &str, &str, FileFault); 41] = [
+const REFUSED: [(&str, &str, &str, FileFault); 46] = [
     ("9223372036854775808", "4", "[]", FileFault::NotToml),
     ("6", "-9223372036854775809", "[]", FileFault::NotToml),
     ("06", "4", "[]", FileFault::NotToml),
@@ -96,7 +98,37 @@ const REFUSED: [(&str, &str, &str, FileFault); 41] = [
     ("6", "4", "[['111100']]", FileFault::Field(FieldName::Words)),
     ("6", "4", "{ }", FileFault::Field(FieldName::Words)),
     ("6", "4", "6\nw = 3", FileFault::Field(FieldName::Words)),
-    ("6", "4", "['111000']\nw = 3", FileFault::Unknown),
+    (
+        "6",
+        "3",
+        "['111000']\nw = 3",
+        FileFault::Field(FieldName::D),
+    ),
+    (
+        "6",
+        "3",
+        "['111000']\nw = []",
+        FileFault::Field(FieldName::D),
+    ),
+    ("6", "4", "6\nw = 7", FileFault::Field(FieldName::W)),
+    (
+        "6",
+        "4",
+        "['111000']\nw = -1",
+        FileFault::Field(FieldName::W),
+    ),
+    (
+        "6",
+        "4",
+        "['111000']\nw = 3.0",
+        FileFault::Field(FieldName::W),
+    ),
+    (
+        "6",
+        "4",
+        "['111000']\nw = 3\nbasis = []",
+        FileFault::Unknown,
+    ),
     ("6", "4", "['111']\nword = 'x'", FileFault::Unknown),
     ("6", "4", "[]\n[notes]", FileFault::Unknown),
     ("6", "4", "[]\n'' = 0", FileFault::Unknown),
@@ -150,10 +182,30 @@ fn document(alloc: Global, n: &str, d: &str, words: &str) -> Result<String, Allo
     format!(in alloc; "kind = 'words'\nn = {n}\nd = {d}\nwords = {words}\n")
 }
 
+// The entry and the words of a document of kind words.
+fn read_words(alloc: Global, bytes: &[u8]) -> Result<(Entry, WordList), FileFault> {
+    match read_evidence(alloc, bytes)? {
+        Evidence::Words { entry, words } => Ok((entry, words)),
+        Evidence::Cosets { .. } => Err(FileFault::Kind),
+    }
+}
+
+// The entry, the basis and the representatives of a document of kind cosets.
+fn read_cosets(alloc: Global, bytes: &[u8]) -> Result<(Entry, WordList, WordList), FileFault> {
+    match read_evidence(alloc, bytes)? {
+        Evidence::Cosets {
+            entry,
+            basis,
+            representatives,
+        } => Ok((entry, basis, representatives)),
+        Evidence::Words { .. } => Err(FileFault::Kind),
+    }
+}
+
 fn assert_read(rt: &impl Abort, alloc: Global, rows: &[Row]) -> Result<(), FileFault> {
     for (n_text, d_text, list_text, n, d, list) in rows {
         let text = document(alloc, *n_text, *d_text, *list_text)?;
-        let Evidence::Words { entry, words } = read_evidence(alloc, text.as_bytes())?;
+        let (entry, words) = read_words(alloc, text.as_bytes())?;
         assert_eq!(rt; (entry.n, entry.d, entry.w), (*n, *d, None), "{text}");
         assert_eq!(rt; words.as_slice(), *list, "{text}");
     }
@@ -225,10 +277,7 @@ fn many_words(alloc: Global, count: usize, last: &str) -> Result<String, AllocEr
 #[test]
 fn greatest_number_of_words(rt: HostRuntime) -> Result<(), Fail> {
     let alloc = rt.alloc();
-    let Evidence::Words { words, .. } = read_evidence(
-        alloc,
-        many_words(alloc, 16384, "'0'")?.as_bytes(),
-    )?;
+    let (_, words) = read_words(alloc, many_words(alloc, 16384, "'0'")?.as_bytes())?;
     assert_eq!(rt; words.as_slice().len(), 16384);
     let above = many_words(alloc, 16385, "'0'")?;
     assert_refused(&rt, alloc, above.as_bytes(), FileFault::Size(16385));
@@ -246,9 +295,79 @@ fn written_words(rt: HostRuntime) -> Result<(), Fail> {
     let bytes = write_evidence(alloc, &evidence)?;
     let expected = b"d = 6\nkind = \"words\"\nn = 10\nwords = [\"0000000000\", \"1111100000\"]\n";
     assert_eq!(rt; bytes.as_slice(), expected.as_slice());
-    let Evidence::Words { entry, words } = read_evidence(alloc, &bytes)?;
+    let (entry, words) = read_words(alloc, &bytes)?;
     assert_eq!(rt; (entry.n, entry.d, entry.w), (10, 6, None));
     assert_eq!(rt; words.as_slice(), [0, 992].as_slice());
+    Ok(())
+}
+
+/// What is written for words with a weight, and read again.
+#[test]
+fn written_weight(rt: HostRuntime) -> Result<(), Fail> {
+    let alloc = rt.alloc();
+    let text = document(alloc, "4", "4", "['0011', '1100']\nw = 2")?;
+    let evidence = read_evidence(alloc, text.as_bytes())?;
+    let bytes = write_evidence(alloc, &evidence)?;
+    let expected = b"d = 4\nkind = \"words\"\nn = 4\nw = 2\nwords = [\"0011\", \"1100\"]\n";
+    assert_eq!(rt; bytes.as_slice(), expected.as_slice());
+    let (entry, words) = read_words(alloc, &bytes)?;
+    assert_eq!(rt; (entry.n, entry.d, entry.w), (4, 4, Some(2)));
+    assert_eq!(rt; words.as_slice(), [3, 12].as_slice());
+    Ok(())
+}
+
+/// What is written for cosets, and read again.
+#[test]
+fn written_cosets(rt: HostRuntime) -> Result<(), Fail> {
+    let alloc = rt.alloc();
+    let text =
+        "n=6\nkind='cosets'\nbasis=['100011','010101','001110']\nrepresentatives=['000000']\nd=3";
+    let evidence = read_evidence(alloc, text.as_bytes())?;
+    let bytes = write_evidence(alloc, &evidence)?;
+    let expected =
+        b"basis = [\"100011\", \"010101\", \"001110\"]\nd = 3\nkind = \"cosets\"\nn = 6\nrepresentatives = [\"000000\"]\n";
+    assert_eq!(rt; bytes.as_slice(), expected.as_slice());
+    let (entry, basis, representatives) = read_cosets(alloc, &bytes)?;
+    assert_eq!(rt; (entry.n, entry.d, entry.w), (6, 3, None));
+    assert_eq!(rt; basis.as_slice(), [35, 21, 14].as_slice());
+    assert_eq!(rt; representatives.as_slice(), [0].as_slice());
+    Ok(())
+}
+
+// A document of cosets of length 1 with so many basis words and representatives.
+fn many_cosets(alloc: Global, basis: usize, representatives: usize) -> Result<String, AllocError> {
+    let mut text = String::from_str(alloc, "kind = 'cosets'\nn = 1\nd = 3\nbasis = [")?;
+    for _ in 0..basis {
+        text.push_str("'1',")?;
+    }
+    text.push_str("]\nrepresentatives = [")?;
+    for _ in 0..representatives {
+        text.push_str("'0',")?;
+    }
+    text.push(']')?;
+    Ok(text)
+}
+
+/// The greatest numbers of basis words and representatives, and one more: the basis is counted first.
+#[test]
+fn numbers_of_cosets(rt: HostRuntime) -> Result<(), Fail> {
+    let alloc = rt.alloc();
+    let rows = [
+        (0, 1, None),
+        (28, 4096, None),
+        (29, 1, Some(FileFault::Size(29))),
+        (29, 0, Some(FileFault::Size(29))),
+        (28, 0, Some(FileFault::Size(0))),
+        (28, 4097, Some(FileFault::Size(4097))),
+    ];
+    for (basis, representatives, fault) in rows {
+        let text = many_cosets(alloc, basis, representatives)?;
+        assert_eq!(rt;
+            read_evidence(alloc, text.as_bytes()).err(),
+            fault,
+            "{basis} {representatives}"
+        );
+    }
     Ok(())
 }
 
@@ -258,7 +377,10 @@ fn field_texts(rt: HostRuntime) {
     let texts = [
         (FieldName::N, "n"),
         (FieldName::D, "d"),
+        (FieldName::W, "w"),
         (FieldName::Words, "words"),
+        (FieldName::Basis, "basis"),
+        (FieldName::Representatives, "representatives"),
     ];
     for (name, text) in texts {
         assert_eq!(rt; name.text(), text);

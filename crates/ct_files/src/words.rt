@@ -8,9 +8,10 @@ use crate::document::no_other_key;
 use crate::evidence::Evidence;
 use crate::fault::FileFault;
 use crate::field::FieldName;
-use crate::fields::{number_field, texts_field, words_from};
-use ct_codes::{Entry, MAX_WORDS};
-use ct_words::{MAX_N, Word, WordList};
+use crate::fields::{texts_field, words_from};
+use crate::stated_entry::stated_entry;
+use ct_codes::MAX_WORDS;
+use ct_words::{Word, WordList};
 use std::alloc::Global;
 use toml::Value;
 
@@ -30,13 +31,12 @@ fn word_count(words: &[Word]) -> Result<(), FileFault>
 pub fn words_evidence(alloc: Global, document: &Value) -> Result<Evidence, FileFault>
     ensures { Reads (λ evidence. evidence) result (words_evidence_of (view document.now)) }
 {
-    let n = number_field(document, FieldName::N, 1, MAX_N)?;
-    let d = number_field(document, FieldName::D, 3, MAX_N)?;
+    let entry = stated_entry(document)?;
     let texts = texts_field(alloc, document, FieldName::Words)?;
-    no_other_key(document, &[FieldName::N, FieldName::D, FieldName::Words])?;
-    let words = words_from(alloc, n, 0, &texts)?;
+    let names = [FieldName::N, FieldName::D, FieldName::W, FieldName::Words];
+    no_other_key(document, &names)?;
+    let words = words_from(alloc, entry.n, 0, &texts)?;
     word_count(&words)?;
-    let entry = Entry { n, d, w: None };
     let words = WordList::from_vec(words);
     Ok(Evidence::Words { entry, words })
 }

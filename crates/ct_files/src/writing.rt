@@ -8,10 +8,11 @@ ghost use Rattle.ct_files.specs.declared.evidence.TheConstants.{MAX_DOCUMENT};
 ghost use Rattle.ct_files.specs.Field.{field_text};
 ghost use Rattle.ct_files.specs.Evidence.{IsSound, read_without_limit, read_of};
 ghost use Rattle.ct_files.specs.Document.{table_of};
-ghost use Rattle.ct_files.specs.Inside.Written.{word_texts, words_table, evidence_table};
+ghost use Rattle.ct_files.specs.Inside.Written.{word_texts, words_table, cosets_table, evidence_table};
 
 use crate::evidence::Evidence;
 use crate::field::FieldName;
+use ct_codes::Entry;
 use ct_words::{Word, print_word};
 use std::alloc::{AllocError, Global};
 use toml::{Table, Value};
@@ -53,10 +54,11 @@ fn word_values(alloc: Global, n: u32, words: &[Word]) -> Result<Value, AllocErro
     Ok(Value::Array(values))
 }
 
-fn words_table(alloc: Global, n: u32, d: u32, words: &[Word]) -> Result<Table, AllocError>
+/// The table of words, whose entry has no weight.
+fn plain_words_table(alloc: Global, n: u32, d: u32, words: &[Word]) -> Result<Table, AllocError>
     requires room { n ≤ MAX_N }
     requires words { All (λ x. x < 2 ^ n) words.now }
-    ensures { IfOk result (λ table. table_view table ≡ words_table n d words.now) }
+    ensures { IfOk result (λ table. table_view table ≡ words_table (record { n = n; d = d; w = None }) words.now) }
 {
     let mut table = Table::new(alloc);
     table.insert(
@@ -69,14 +71,77 @@ fn words_table(alloc: Global, n: u32, d: u32, words: &[Word]) -> Result<Table, A
     Ok(table)
 }
 
+/// The table of words, whose entry has the weight `w`.
+fn weighted_words_table(
+    alloc: Global,
+    n: u32,
+    d: u32,
+    w: u32,
+    words: &[Word],
+) -> Result<Table, AllocError>
+    requires room { n ≤ MAX_N }
+    requires words { All (λ x. x < 2 ^ n) words.now }
+    ensures { IfOk result (λ table. table_view table ≡ words_table (record { n = n; d = d; w = Some w }) words.now) }
+{
+    let mut table = Table::new(alloc);
+    table.insert(
+        String::from_str(alloc, "kind")?,
+        Value::string(alloc, "words")?,
+    )?;
+    table.insert(key(alloc, FieldName::N)?, Value::from(n))?;
+    table.insert(key(alloc, FieldName::D)?, Value::from(d))?;
+    table.insert(key(alloc, FieldName::W)?, Value::from(w))?;
+    table.insert(key(alloc, FieldName::Words)?, word_values(alloc, n, words)?)?;
+    Ok(table)
+}
+
+fn words_table(alloc: Global, entry: Entry, words: &[Word]) -> Result<Table, AllocError>
+    requires room { entry.n ≤ MAX_N }
+    requires words { All (λ x. x < 2 ^ entry.n) words.now }
+    ensures { IfOk result (λ table. table_view table ≡ words_table entry words.now) }
+{
+    match entry.w {
+        None => plain_words_table(alloc, entry.n, entry.d, words),
+        Some(w) => weighted_words_table(alloc, entry.n, entry.d, w, words),
+    }
+}
+
+fn cosets_table(
+    alloc: Global,
+    entry: Entry,
+    basis: &[Word],
+    representatives: &[Word],
+) -> Result<Table, AllocError>
+    requires room { entry.n ≤ MAX_N }
+    requires basis { All (λ x. x < 2 ^ entry.n) basis.now }
+    requires representatives { All (λ x. x < 2 ^ entry.n) representatives.now }
+    ensures { IfOk result (λ table. table_view table ≡ cosets_table entry basis.now representatives.now) }
+{
+    let Entry { n, d, .. } = entry;
+    let mut table = Table::new(alloc);
+    table.insert(
+        String::from_str(alloc, "kind")?,
+        Value::string(alloc, "cosets")?,
+    )?;
+    table.insert(key(alloc, FieldName::N)?, Value::from(n))?;
+    table.insert(key(alloc, FieldName::D)?, Value::from(d))?;
+    table.insert(key(alloc, FieldName::Basis)?, word_values(alloc, n, basis)?)?;
+    let words = word_values(alloc, n, representatives)?;
+    table.insert(key(alloc, FieldName::Representatives)?, words)?;
+    Ok(table)
+}
+
 fn evidence_table(alloc: Global, evidence: &Evidence) -> Result<Table, AllocError>
     requires { IsSound evidence.now }
     ensures { IfOk result (λ table. table_view table ≡ evidence_table evidence.now) }
 {
     match evidence {
-        Evidence::Words { entry, words } => {
-            words_table(alloc, entry.n, entry.d, words.as_slice())
-        }
+        Evidence::Words { entry, words } => { words_table(alloc, *entry, words.as_slice()) }
+        Evidence::Cosets {
+            entry,
+            basis,
+            representatives,
+        } => cosets_table(alloc, *entry, basis.as_slice(), representatives.as_slice()),
     }
 }
 

@@ -1,23 +1,18 @@
 -- Which submissions are accepted.
-use Rattle.std.proofs.Common.{◌≡◌, ◌≢◌, ℕ, ◌+◌, ◌≤◌, Bool, true, false, ◌||◌, List, [], ◌∷◌, ◌++◌, length, map, Option, Some, None, Result, Ok, Err, refl, sym, ap, ◌∙◌, subst, inl, inr, ◌⊎◌, ◌↔◌, lit<, ◌<◌, arith}
+use Rattle.std.proofs.Common.{◌≡◌, ◌≢◌, ℕ, ◌+◌, ◌≤◌, Bool, true, false, ◌||◌, List, [], ◌∷◌, map, Option, Result, Ok, Err, refl, sym, ap, ◌∙◌, subst, inl, inr, ◌↔◌, lit<, arith}
 use Rattle.std.specs.Prelude.{All, Contains, IsTrue}
 use Rattle.std.specs.Str.{bytes_eq}
 use Rattle.std.proofs.lemmas.List.Elements.{All-head, All-tail, Contains-append_left, Contains-append_right, Contains-append_cases, All-contains, All-cons, All-nil}
 use Rattle.std.proofs.lemmas.Slice.Eq.{bytes_eq-Decides}
-use Rattle.ct_codes.specs.declared.entry.Entry.{Entry}
 use Rattle.ct_codes.specs.declared.fault.CodeFault.{CodeFault}
-use Rattle.ct_codes.specs.Check.{code_fault}
-use Rattle.ct_codes.proofs.CheckLemmas.{code_from_no_fault, no_fault_of_code}
 use Rattle.ct_files.specs.declared.evidence.Evidence.{Evidence}
-use Rattle.ct_files.specs.declared.evidence.Evidence.TheVariants.{Words}
 use Rattle.ct_files.specs.declared.fault.FileFault.{FileFault}
 use Rattle.ct_files.specs.Evidence.{read_of}
 use Rattle.ct_files.proofs.Evidences.{read_of-sound}
 use Rattle.ct_ledger.specs.Piece.{PieceValue, has_id, stored_by, stored_words}
-use Rattle.ct_ledger.specs.Submission.{made_unless, piece_from, submitted, IsAccepted}
+use Rattle.ct_ledger.specs.Submission.{evidence_fault, piece_of, made_unless, piece_from, submitted, IsAccepted}
 use Rattle.ct_ledger.specs.declared.limits.TheConstants.{MAX_STORED}
-use Rattle.ct_ledger.specs.declared.fault.SubmitFault.{SubmitFault}
-use Rattle.ct_ledger.proofs.StandingLemmas.{WasMade, submitted-ok, submitted-from, has_id-none, made_unless-ok}
+use Rattle.ct_ledger.proofs.StandingLemmas.{no_evidence_fault, no_fault_of_evidence, WasMade, submitted-ok, submitted-from, has_id-none, made_unless-ok}
 
 -- an id that no piece has is not taken
 not_taken : (id : List ℕ) (pieces : List PieceValue) → All (λ (q : PieceValue). q.id ≢ id) pieces → has_id id pieces ≡ false
@@ -28,16 +23,16 @@ not_taken id (p ∷ pieces) h = at (bytes_eq p.id id) refl (not_taken id pieces 
   at false e rest = rest
 
 accepted_from : (pieces : List PieceValue) (id document : List ℕ) (p : PieceValue) (read : Result Evidence FileFault) → read_of document ≡ read → piece_from id document read ≡ Ok p → WasMade pieces id document p → IsAccepted pieces id document p
-accepted_from pieces id document p (Ok (Words e words)) is made w =
-    let both = made_unless-ok (code_fault e words) _ p made in
-    let sound = read_of-sound document (Words e words) is in
+accepted_from pieces id document p (Ok evidence) is made w =
+    let both = made_unless-ok (evidence_fault evidence) (piece_of id document evidence) p made in
+    let faultless = no_evidence_fault evidence (read_of-sound document evidence is) both.0 in
     record {
       free = has_id-none id pieces w.free;
       room = w.room;
-      entry = e;
-      words = words;
+      evidence = evidence;
       read = is;
-      code = (code_from_no_fault e words sound.2 both.0).2;
+      checked = faultless.0;
+      code = faultless.1;
       small = subst (λ (q : PieceValue). stored_words pieces + stored_by q.evidence ≤ MAX_STORED) (sym both.1) w.small;
       piece = sym both.1;
     }
@@ -47,9 +42,8 @@ pub accepted : (pieces : List PieceValue) (id document : List ℕ) (p : PieceVal
 accepted pieces id document p = (
   λ h. let w = submitted-ok pieces id document p h in accepted_from pieces id document p (read_of document) refl w.made w,
   λ h.
-      let q : PieceValue = record { id = id; document = document; evidence = Words h.entry h.words; entry = h.entry; size = Some (length h.words) } in
-      let sound = read_of-sound document (Words h.entry h.words) h.read in
-      let none = no_fault_of_code h.entry h.words sound.3 sound.4 h.code in
+      let q = piece_of id document h.evidence in
+      let none = no_fault_of_evidence h.evidence (read_of-sound document h.evidence h.read) h.checked h.code in
       let made : piece_from id document (read_of document) ≡ Ok q = ap (piece_from id document) h.read ∙ ap (λ (reason : Option CodeFault). made_unless reason q) none in
       subst (λ (r : PieceValue). submitted pieces id document ≡ Ok r) (sym h.piece)
       (submitted-from pieces id document q (record { free = not_taken id pieces h.free; room = h.room; made = made; small = h.small })),

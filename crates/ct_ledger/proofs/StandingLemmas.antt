@@ -1,25 +1,25 @@
 -- What holds of the pieces of a ledger is kept as pieces come and go.
-use Rattle.std.proofs.Common.{◌≡◌, ◌≢◌, ℕ, ◌+◌, ◌≤◌, ◌<◌, Bool, true, false, ◌||◌, cond, not, List, [], ◌∷◌, ◌++◌, length, Option, Some, None, Result, Ok, Err, IfSome, refl, sym, ap, subst, ◌∙◌, arith, nat_le, leb-true, get_or, length-append}
+use Rattle.std.proofs.Common.{◌≡◌, ◌≢◌, ℕ, ◌+◌, ◌≤◌, ◌<◌, Bool, true, false, ◌||◌, cond, not, List, [], ◌∷◌, ◌++◌, length, Option, Some, None, Result, Ok, Err, refl, sym, ap, subst, ◌∙◌, arith, nat_le, leb-true, length-append}
 use Rattle.std.proofs.lemmas.Bool.{lt-leb, le-leb, leb-false}
-use Rattle.std.specs.Prelude.{All, AllPairs, filter, sum_by}
-use Rattle.std.specs.List.{list_any}
+use Rattle.std.specs.Prelude.{All, filter}
 use Rattle.std.specs.Str.{bytes_eq}
 use Rattle.std.proofs.lemmas.List.Elements.{All-push, All-filter, All-weaker, All-nil, All-cons, All-get_or}
 use Rattle.std.proofs.lemmas.List.Kept.{AllPairs-filter}
 use Rattle.std.proofs.lemmas.List.Quantifiers.{all_pairs_push}
 use Rattle.std.proofs.lemmas.List.Sums.{sum_by_push, sum_by-cons}
 use Rattle.std.proofs.lemmas.Slice.Eq.{bytes_eq-Decides}
-use Rattle.ct_codes.specs.declared.entry.Entry.{Entry}
 use Rattle.ct_codes.specs.declared.fault.CodeFault.{CodeFault}
-use Rattle.ct_codes.specs.Check.{code_fault}
-use Rattle.ct_codes.proofs.CheckLemmas.{code_from_no_fault}
+use Rattle.ct_codes.specs.Code.{IsCodeOf}
+use Rattle.ct_codes.proofs.EntryLemmas.{entry_limits}
+use Rattle.ct_codes.proofs.CheckLemmas.{code_from_no_fault, no_fault_of_code}
+use Rattle.ct_codes.proofs.CosetLemmas.{cosets_from_no_fault, no_fault_of_cosets}
 use Rattle.ct_files.specs.declared.evidence.Evidence.{Evidence}
-use Rattle.ct_files.specs.declared.evidence.Evidence.TheVariants.{Words}
+use Rattle.ct_files.specs.declared.evidence.Evidence.TheVariants.{Words, Cosets}
 use Rattle.ct_files.specs.declared.fault.FileFault.{FileFault}
 use Rattle.ct_files.specs.Evidence.{read_of, IsSound}
 use Rattle.ct_files.proofs.Evidences.{read_of-sound}
 use Rattle.ct_ledger.specs.Piece.{PieceValue, has_id, stored_by, stored_words, first_user}
-use Rattle.ct_ledger.specs.Submission.{made_unless, made_of, piece_from, if_stored, stored_beside, unless_full, submitted, with_piece}
+use Rattle.ct_ledger.specs.Submission.{stated_entry, code_of, evidence_fault, piece_of, IsChecked, made_unless, made_of, piece_from, if_stored, stored_beside, unless_full, submitted, with_piece}
 use Rattle.ct_ledger.specs.Withdrawal.{without, withdrawn, unless_used, left_by}
 use Rattle.ct_ledger.specs.Standing.{AreStanding, IsMade, HasTrueSize}
 use Rattle.ct_ledger.specs.declared.limits.TheConstants.{MAX_PIECES, MAX_STORED}
@@ -35,8 +35,8 @@ made_unless-ok (Some reason) q p h = absurd cc
 
 -- a piece that is made has the id and the document that it is made of
 pub made_of-names : (id document : List ℕ) (evidence : Evidence) (p : PieceValue) → made_of id document evidence ≡ Ok p → (p.id ≡ id) × (p.document ≡ document)
-made_of-names id document (Words e words) p h =
-    let made = (made_unless-ok (code_fault e words) _ p h).1 in
+made_of-names id document evidence p h =
+    let made = (made_unless-ok (evidence_fault evidence) (piece_of id document evidence) p h).1 in
     (ap (λ (q : PieceValue). q.id) (sym made), ap (λ (q : PieceValue). q.document) (sym made))
 
 pub piece_from-names : (id document : List ℕ) (read : Result Evidence FileFault) (p : PieceValue) → piece_from id document read ≡ Ok p → (p.id ≡ id) × (p.document ≡ document)
@@ -50,10 +50,25 @@ piece_from-made id document p h =
     subst (λ (i : List ℕ). piece_from i p.document (read_of p.document) ≡ Ok p) (sym names.0)
     (subst (λ (d : List ℕ). piece_from id d (read_of d) ≡ Ok p) (sym names.1) h)
 
+-- evidence in which no fault is found states a code of its entry, and its check is within the limit
+pub no_evidence_fault : (evidence : Evidence) → IsSound evidence → evidence_fault evidence ≡ None → IsChecked evidence × IsCodeOf (stated_entry evidence) (code_of evidence)
+no_evidence_fault (Words e words) sound none = (tt, (code_from_no_fault e words sound.1 none).2)
+no_evidence_fault (Cosets e basis representatives) sound none =
+    let limits = entry_limits e sound.0 in
+    let far = limits.2 in
+    let whole = cosets_from_no_fault e basis representatives (omega arith) sound.1 sound.2 sound.3 none in
+    (whole.3, whole.4)
+
+-- and in such evidence none is found
+pub no_fault_of_evidence : (evidence : Evidence) → IsSound evidence → IsChecked evidence → IsCodeOf (stated_entry evidence) (code_of evidence) → evidence_fault evidence ≡ None
+no_fault_of_evidence (Words e words) sound checked code = no_fault_of_code e words sound.2 sound.3 code
+no_fault_of_evidence (Cosets e basis representatives) sound checked code =
+    no_fault_of_cosets e basis representatives sound.4 sound.5 sound.6 checked code
+
 made_of-true : (id document : List ℕ) (evidence : Evidence) (p : PieceValue) → IsSound evidence → made_of id document evidence ≡ Ok p → HasTrueSize p
-made_of-true id document (Words e words) p sound h =
-    let made = made_unless-ok (code_fault e words) _ p h in
-    subst HasTrueSize made.1 (let code = code_from_no_fault e words sound.2 made.0 in (words, code.2, refl))
+made_of-true id document evidence p sound h =
+    let made = made_unless-ok (evidence_fault evidence) (piece_of id document evidence) p h in
+    subst HasTrueSize made.1 (code_of evidence, (no_evidence_fault evidence sound made.0).1, refl)
 
 read-true : (id document : List ℕ) (read : Result Evidence FileFault) (p : PieceValue) → read_of document ≡ read → piece_from id document read ≡ Ok p → HasTrueSize p
 read-true id document (Ok evidence) p is h = made_of-true id document evidence p (read_of-sound document evidence is) h

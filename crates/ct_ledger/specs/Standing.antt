@@ -1,5 +1,5 @@
 -- What holds of the pieces that stand.
-use Rattle.std.specs.Prelude.{◌≡◌, ◌≢◌, ◌≤◌, ℕ, List, length, All, AllPairs, Ok, IfSome}
+use Rattle.std.specs.Prelude.{◌≡◌, ◌≢◌, ◌≤◌, List, length, All, AllPairs, Ok, IfSome}
 use Rattle.ct_codes.specs.Code.{IsTrueLower}
 use Rattle.ct_files.specs.Evidence.{read_of}
 use Rattle.ct_ledger.specs.Piece.{PieceValue, stored_words}

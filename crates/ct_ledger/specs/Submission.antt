@@ -2,10 +2,12 @@
 use Rattle.std.specs.Prelude.{◌≡◌, ◌≢◌, ◌<◌, ◌≤◌, ℕ, ◌+◌, Bool, nat_le, if◌then◌else◌, List, [], ◌∷◌, ◌++◌, length, All, Option, Some, None, Result, Ok, Err}
 use Rattle.ct_codes.specs.declared.fault.CodeFault.{CodeFault}
 use Rattle.ct_codes.specs.Check.{code_fault}
+use Rattle.ct_codes.specs.Coset.{coset_list, coset_work, coset_fault}
+use Rattle.ct_codes.specs.declared.fault.TheConstants.{MAX_COSET_WORK}
 use Rattle.ct_codes.specs.Code.{IsCodeOf}
 use Rattle.ct_codes.specs.declared.entry.Entry.{Entry}
 use Rattle.ct_files.specs.declared.evidence.Evidence.{Evidence}
-use Rattle.ct_files.specs.declared.evidence.Evidence.TheVariants.{Words}
+use Rattle.ct_files.specs.declared.evidence.Evidence.TheVariants.{Words, Cosets}
 use Rattle.ct_files.specs.declared.fault.FileFault.{FileFault}
 use Rattle.ct_files.specs.Evidence.{read_of}
 use Rattle.ct_ledger.specs.Piece.{PieceValue, has_id, stored_by, stored_words}
@@ -18,10 +20,29 @@ abbrev pub made_unless : Option CodeFault → PieceValue → Result PieceValue S
 made_unless None piece = Ok piece
 made_unless (Some reason) piece = Err (fault.Code reason)
 
--- the piece that evidence makes: words make one where they are a code of the entry
+-- the entry that evidence is about
+abbrev pub stated_entry : Evidence → Entry
+stated_entry (Words e words) = e
+stated_entry (Cosets e basis representatives) = e
+
+-- the words of the code that evidence states: words themselves, and for cosets the words of all choices
+abbrev pub code_of : Evidence → List ℕ
+code_of (Words e words) = words
+code_of (Cosets e basis representatives) = coset_list basis representatives
+
+-- the first reason why the words are no code of the entry, or why they are not looked at
+abbrev pub evidence_fault : Evidence → Option CodeFault
+evidence_fault (Words e words) = code_fault e words
+evidence_fault (Cosets e basis representatives) = coset_fault e basis representatives
+
+-- the piece of evidence, with the number of words of its code
+abbrev pub piece_of : List ℕ → List ℕ → Evidence → PieceValue
+piece_of id document evidence =
+    record { id = id; document = document; evidence = evidence; entry = stated_entry evidence; size = Some (length (code_of evidence)) }
+
+-- the piece that evidence makes, where its own check finds no fault
 abbrev pub made_of : List ℕ → List ℕ → Evidence → Result PieceValue SubmitFault
-made_of id document (Words e words) =
-    made_unless (code_fault e words) (record { id = id; document = document; evidence = Words e words; entry = e; size = Some (length words) })
+made_of id document evidence = made_unless (evidence_fault evidence) (piece_of id document evidence)
 
 -- the piece of a document that was read
 abbrev pub piece_from : List ℕ → List ℕ → Result Evidence FileFault → Result PieceValue SubmitFault
@@ -51,14 +72,19 @@ abbrev pub with_piece : List PieceValue → Result PieceValue SubmitFault → Li
 with_piece pieces (Ok piece) = pieces ++ piece ∷ []
 with_piece pieces (Err reason) = pieces
 
--- a submission is accepted as this piece: no piece has its id, there is room for one more, its document states words that are a code of their entry, and they may be
--- stored beside the others
+-- the work of the check of evidence is within the limit
+abbrev pub IsChecked : Evidence → Type 0
+IsChecked (Words e words) = Unit {0}
+IsChecked (Cosets e basis representatives) = coset_work basis representatives ≤ MAX_COSET_WORK
+
+-- a submission is accepted as this piece: no piece has its id, there is room for one more, its document states a code of its entry, whose check is
+-- within the limit, and its words may be stored beside the others
 pub record IsAccepted (pieces : List PieceValue) (id document : List ℕ) (p : PieceValue) : Type 0 where
   pub free : All (λ q. q.id ≢ id) pieces
   pub room : length pieces < MAX_PIECES
-  pub entry : Entry
-  pub words : List ℕ
-  pub read : read_of document ≡ Ok (Words entry words)
-  pub code : IsCodeOf entry words
-  pub small : stored_words pieces + length words ≤ MAX_STORED
-  pub piece : p ≡ record { id = id; document = document; evidence = Words entry words; entry = entry; size = Some (length words) }
+  pub evidence : Evidence
+  pub read : read_of document ≡ Ok evidence
+  pub checked : IsChecked evidence
+  pub code : IsCodeOf (stated_entry evidence) (code_of evidence)
+  pub small : stored_words pieces + stored_by evidence ≤ MAX_STORED
+  pub piece : p ≡ piece_of id document evidence

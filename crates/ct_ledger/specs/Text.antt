@@ -1,13 +1,12 @@
 -- The texts of refusals and of the lines of a ledger.
-use Rattle.std.specs.Prelude.{ℕ, List, [], ◌∷◌, ◌++◌, Option, Some, None, codes}
-use Rattle.std.specs.Fmt.{decimal}
+use Rattle.std.specs.Prelude.{ℕ, List, [], ◌++◌, Option, Some, None, codes}
 use Rattle.ct_text.specs.Number.{spaced}
 use Rattle.ct_text.specs.EntryText.{entry_words}
 use Rattle.ct_codes.specs.declared.fault.CodeFault.{CodeFault}
 use Rattle.ct_codes.specs.declared.fault.CodeFault.TheVariants as code
 use Rattle.ct_files.specs.Field.{field_text}
 use Rattle.ct_files.specs.declared.evidence.Evidence.{Evidence}
-use Rattle.ct_files.specs.declared.evidence.Evidence.TheVariants.{Words}
+use Rattle.ct_files.specs.declared.evidence.Evidence.TheVariants.{Words, Cosets}
 use Rattle.ct_files.specs.declared.fault.FileFault.{FileFault}
 use Rattle.ct_files.specs.declared.fault.FileFault.TheVariants as file
 use Rattle.ct_ledger.specs.Piece.{PieceValue}
@@ -22,6 +21,7 @@ code_fault_text (code.Size c) = codes "size" ++ spaced c
 code_fault_text (code.Weight i) = codes "weight" ++ spaced i
 code_fault_text (code.Repeated i j) = codes "repeated" ++ spaced i ++ spaced j
 code_fault_text (code.Close i j t) = codes "close" ++ spaced i ++ spaced j ++ spaced t
+code_fault_text (code.Work v) = codes "work" ++ spaced v
 code_fault_text code.Memory = []
 
 -- why a document is not read; want of memory has no text
@@ -53,6 +53,7 @@ withdraw_fault_text id withdraw.Memory = []
 -- the kind of evidence
 abbrev pub kind_text : Evidence → List ℕ
 kind_text (Words e words) = codes "words"
+kind_text (Cosets e basis representatives) = codes "cosets"
 
 -- a size, where there is one
 abbrev pub size_text : Option ℕ → List ℕ

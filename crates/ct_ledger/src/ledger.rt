@@ -49,6 +49,11 @@ fn stored_by(evidence: &Evidence) -> u64
 {
     match evidence {
         Evidence::Words { words, .. } => words.as_slice().len() as u64,
+        Evidence::Cosets {
+            basis,
+            representatives,
+            ..
+        } => basis.as_slice().len() as u64 + representatives.as_slice().len() as u64,
     }
 }
 
@@ -88,7 +93,7 @@ fn names(evidence: &Evidence, _id: Id) -> bool
     ensures { result ≡ names evidence.now _id }
 {
     match evidence {
-        Evidence::Words { .. } => false,
+        Evidence::Words { .. } | Evidence::Cosets { .. } => false,
     }
 }
 

@@ -42,6 +42,7 @@ fn put_code_fault(alloc: Global, text: &mut Vec<u8>, fault: CodeFault) -> Result
             put_spaced(alloc, text, j as u64)?;
             put_spaced(alloc, text, u64::from(distance))
         }
+        CodeFault::Work(work) => put_numbered(alloc, text, b"work", work),
         CodeFault::Memory => Ok(()),
     }
 }
@@ -113,6 +114,7 @@ fn put_kind(text: &mut Vec<u8>, evidence: &Evidence) -> Result<(), AllocError>
 {
     match evidence {
         Evidence::Words { .. } => text.extend_from_slice(b"words"),
+        Evidence::Cosets { .. } => text.extend_from_slice(b"cosets"),
     }
 }
 

@@ -11,7 +11,7 @@ use Rattle.ct_words.specs.Characters.{words_of_length}
 use Rattle.ct_words.proofs.DigitLists.{digits_from, digits_of}
 
 -- a table of two parts
-tabulate-add : (f : ℕ → ℕ) (a b : ℕ) → tabulate f (a + b) ≡ tabulate f a ++ tabulate (λ i. f (a + i)) b
+pub tabulate-add : (f : ℕ → ℕ) (a b : ℕ) → tabulate f (a + b) ≡ tabulate f a ++ tabulate (λ i. f (a + i)) b
 tabulate-add f zero b =
     let b_is : 0 + b ≡ b = omega arith in
     let f_is : (i : ℕ) → f i ≡ f (0 + i) = λ i. let e : i ≡ 0 + i = omega arith in ap f e in

@@ -1,10 +1,11 @@
 -- The table that is written for an evidence: its keys ascend.
-use Rattle.std.specs.Prelude.{ℕ, pos, List, map, codes}
+use Rattle.std.specs.Prelude.{ℕ, pos, List, map, Option, Some, None, codes}
 use Rattle.toml.specs.Data.{Data, string, integer, array, Members, no_members, member}
 use Rattle.toml.specs.View.{items_of}
 use Rattle.ct_words.specs.Text.{word_text}
+use Rattle.ct_codes.specs.declared.entry.Entry.{Entry}
 use Rattle.ct_files.specs.Field.{field_text}
-use Rattle.ct_files.specs.declared.field.FieldName.TheVariants.{N, D, Words}
+use Rattle.ct_files.specs.declared.field.FieldName.TheVariants.{N, D, W, Words, Basis, Representatives}
 use Rattle.ct_files.specs.declared.evidence.Evidence.{Evidence}
 use Rattle.ct_files.specs.declared.evidence.Evidence.TheVariants as evidence
 
@@ -12,12 +13,24 @@ use Rattle.ct_files.specs.declared.evidence.Evidence.TheVariants as evidence
 abbrev pub word_texts : ℕ → List ℕ → Data
 word_texts n words = array (items_of (map (λ x. string (word_text n x)) words))
 
+-- the weight, where there is one, and what comes after it
+abbrev pub with_weight : Option ℕ → Members → Members
+with_weight None rest = rest
+with_weight (Some w) rest = member (field_text W) (integer (pos w)) rest
+
 -- the table of words
-abbrev pub words_table : ℕ → ℕ → List ℕ → Members
-words_table n d words =
-    member (field_text D) (integer (pos d)) (member (codes "kind") (string (codes "words"))
-    (member (field_text N) (integer (pos n)) (member (field_text Words) (word_texts n words) no_members)))
+abbrev pub words_table : Entry → List ℕ → Members
+words_table e words =
+    member (field_text D) (integer (pos e.d)) (member (codes "kind") (string (codes "words"))
+    (member (field_text N) (integer (pos e.n)) (with_weight e.w (member (field_text Words) (word_texts e.n words) no_members))))
+
+-- the table of cosets
+abbrev pub cosets_table : Entry → List ℕ → List ℕ → Members
+cosets_table e basis representatives =
+    member (field_text Basis) (word_texts e.n basis) (member (field_text D) (integer (pos e.d)) (member (codes "kind") (string (codes "cosets"))
+    (member (field_text N) (integer (pos e.n)) (member (field_text Representatives) (word_texts e.n representatives) no_members))))
 
 -- the table of an evidence
 abbrev pub evidence_table : Evidence → Members
-evidence_table (evidence.Words e words) = words_table e.n e.d words
+evidence_table (evidence.Words e words) = words_table e words
+evidence_table (evidence.Cosets e basis representatives) = cosets_table e basis representatives

@@ -5,7 +5,7 @@ use Rattle.ct_files.proofs.examples.wrong_words.Goals as goal
 pub returns : goal.returns
 unfolding evidence_on_literals
 returns c = record {
-  weight = refl;
+  basis = refl;
   table = refl;
   length = refl;
   letter = refl;

@@ -1,5 +1,8 @@
-use Rattle.ct_files.proofs.DocumentAnswers.{accepted, accepted-from}
+use Rattle.ct_files.proofs.DocumentAnswers.{accepted, accepted-from, accepted_cosets, accepted_cosets-from}
 use Rattle.ct_files.proofs.laws.accepted_documents.Goals as goal
 
 pub returns : goal.returns
-returns c = λ bytes e words. (accepted bytes e words, accepted-from bytes e words)
+returns c = record {
+  words = λ bytes e words. (accepted bytes e words, accepted-from bytes e words);
+  cosets = λ bytes e basis representatives. (accepted_cosets bytes e basis representatives, accepted_cosets-from bytes e basis representatives);
+}

@@ -1,0 +1,20 @@
+use Rattle.std.proofs.Common.{length, subst, refl, sym, ap, ◌∙◌, Some, IsPermutation, arith}
+use Rattle.std.proofs.lemmas.Bool.{eqb-false}
+use Rattle.ct_build.specs.Even.{even_from}
+use Rattle.ct_build.proofs.Sound.{IsSoundCode-same}
+use Rattle.ct_build.proofs.TranslationLemmas.{sound-selected}
+use Rattle.ct_build.proofs.translation.select_weight.Goals as goal
+
+pub from_sorted-requires : goal.from_sorted-requires
+from_sorted-requires c =
+    let part = c.args.part.now in
+    let words = c.in_ok-words.words in
+    let some = eqb-false _ 0 (sym c.is_empty.ensures ∙ c.if-is_empty.false) in
+    let long = words.ok.0 in
+    let as_many = ap length c.in_ok-words.ensures.words in
+    let moved = subst (λ ws. IsPermutation ws c.sort_unstable.new.self.items) c.in_ok-words.ensures.words c.sort_unstable.ensures.permutation in
+    record {
+      code = IsSoundCode-same (record { n = part.n; d = even_from part.d; w = Some c.args.w; words = c.sort_unstable.new.self.items }) _ _ _ _
+          c.n.ensures.value (c.even_from.ensures ∙ ap even_from c.d.ensures.value) refl refl
+          (sound-selected part c.args.by c.args.w c.sort_unstable.new.self.items c.n.ensures.sound c.requires.by (omega arith) moved c.sort_unstable.ensures.sorted);
+    }
