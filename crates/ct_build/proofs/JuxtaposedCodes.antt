@@ -1,7 +1,6 @@
 -- Two codes put together word by word are a code.
-use Rattle.std.proofs.Common.{◌≡◌, ℕ, zero, suc, ◌+◌, ◌^◌, ◌<◌, ◌≤◌, List, [], ◌∷◌, ◌++◌, length, take, get_or, min, All, refl, ap, ap₂, subst, ◌∙◌, arith}
+use Rattle.std.proofs.Common.{◌≡◌, ℕ, zero, suc, ◌+◌, ◌^◌, ◌<◌, ◌≤◌, List, [], ◌∷◌, ◌++◌, length, take, get_or, min, All, refl, ap, ap₂, ◌∙◌, arith}
 use Rattle.std.specs.Prelude.{AllPairs, Option, Some, None, IfSome}
-use Rattle.std.specs.Option.{ForSome}
 use Rattle.std.specs.List.{zip}
 use Rattle.std.specs.List.Sorted.{IsStrictlyIncreasing}
 use Rattle.std.proofs.Math.Nat.{mul-le-mul_left}
@@ -12,7 +11,6 @@ use Rattle.std.proofs.lemmas.Slice.Zip.{length-zip}
 use Rattle.ct_counting.proofs.Pairs.{AllPairs-head, AllPairs-tail}
 use Rattle.ct_words.specs.Word.{weight}
 use Rattle.ct_words.specs.declared.limits.TheConstants.{MAX_N}
-use Rattle.ct_words.proofs.WordLemmas.{weight-le}
 use Rattle.ct_codes.specs.declared.code.TheConstants.{MAX_CODE_DISTANCE}
 use Rattle.ct_codes.specs.Code.{IsCode, CodeValue, IsSoundCode}
 use Rattle.ct_build.specs.Joined.{followed_by}
@@ -110,15 +108,6 @@ juxtaposed-all m (x ∷ xs) [] zero all = refl
 juxtaposed-all m (x ∷ xs) [] (suc k) all = refl
 juxtaposed-all m (x ∷ xs) (y ∷ ys) zero all = absurd (omega arith)
 juxtaposed-all m (x ∷ xs) (y ∷ ys) (suc k) all = ap (λ (zs : List ℕ). followed_by m x y ∷ zs) (juxtaposed-all m xs ys k (omega arith))
-
--- the weight of a code is at most its length
-pub weight_of_code-le : (c : CodeValue) → IsSoundCode c → ForSome c.w (λ k. k ≤ MAX_N)
-weight_of_code-le c sound = λ k is.
-    let weights = subst (λ w. IfSome w (λ k. All (λ x. weight c.n x ≡ k) c.words)) is sound.code.weights in
-    let first = weights 0 0 sound.some in
-    let most = weight-le c.n (get_or c.words 0 0) in
-    let short = sound.length_in_range.1 in
-    omega arith
 
 -- two codes of the program make one
 pub IsSoundCode-juxtaposed : (a b : CodeValue) → IsSoundCode a → IsSoundCode b → a.n + b.n ≤ MAX_N → a.d + b.d ≤ MAX_CODE_DISTANCE
