@@ -29,7 +29,8 @@ different_from_far n d x y far same =
 -- the words of a code
 pub far_from_code : (n d : ℕ) (w : Option ℕ) (words : List ℕ) → IsCode n d w words → AllPairs (AreFar n d) words
 far_from_code n d w words code = λ i j e order within. (
-  distance-pos n (get_or words i e) (get_or words j e) (code.lengths i e (lt_trans order within)) (code.lengths j e within) (code.different i j e order within),
+  distance-pos n (get_or words i e) (get_or words j e) (code.lengths i e (lt_trans order within)) (code.lengths j e within)
+      (code.different i j e order within),
   code.apart i j e order within,
 )
 

@@ -1,7 +1,6 @@
 -- Two codes put together word by word are a code.
-use Rattle.std.proofs.Common.{◌≡◌, ℕ, zero, suc, ◌+◌, ◌^◌, ◌<◌, ◌≤◌, List, [], ◌∷◌, ◌++◌, length, take, get_or, min, All, refl, ap, ap₂, subst, ◌∙◌, arith}
+use Rattle.std.proofs.Common.{◌≡◌, ℕ, zero, suc, ◌+◌, ◌^◌, ◌<◌, ◌≤◌, List, [], ◌∷◌, ◌++◌, length, take, get_or, min, All, refl, ap, ap₂, ◌∙◌, arith}
 use Rattle.std.specs.Prelude.{AllPairs, Option, Some, None, IfSome}
-use Rattle.std.specs.Option.{ForSome}
 use Rattle.std.specs.List.{zip}
 use Rattle.std.specs.List.Sorted.{IsStrictlyIncreasing}
 use Rattle.std.proofs.Math.Nat.{mul-le-mul_left}
@@ -12,7 +11,6 @@ use Rattle.std.proofs.lemmas.Slice.Zip.{length-zip}
 use Rattle.ct_counting.proofs.Pairs.{AllPairs-head, AllPairs-tail}
 use Rattle.ct_words.specs.Word.{weight}
 use Rattle.ct_words.specs.declared.limits.TheConstants.{MAX_N}
-use Rattle.ct_words.proofs.WordLemmas.{weight-le}
 use Rattle.ct_codes.specs.declared.code.TheConstants.{MAX_CODE_DISTANCE}
 use Rattle.ct_codes.specs.Code.{IsCode, CodeValue, IsSoundCode}
 use Rattle.ct_build.specs.Joined.{followed_by}
@@ -68,7 +66,8 @@ IsCode-juxtaposed n d v xs m e w ys first second =
     (far_from_code n d v xs first) (far_from_code m e w ys second))
     (weights-juxtaposed n m v w xs ys second.lengths first.weights second.weights)
   where
-    far : (x y x' y' : ℕ) → y < 2 ^ m → y' < 2 ^ m → AreFar n d x x' → AreFar m e y y' → AreFar (n + m) (d + e) (followed_by m x y) (followed_by m x' y')
+    far : (x y x' y' : ℕ) → y < 2 ^ m → y' < 2 ^ m → AreFar n d x x' → AreFar m e y y'
+        → AreFar (n + m) (d + e) (followed_by m x y) (followed_by m x' y')
     far x y x' y' below below' one two =
         let sum = distance-followed_by n m x y x' y' below below' in
         let a = one.0 in
@@ -84,7 +83,8 @@ followed_by-order m x y x' y' below less =
     omega arith
 
 -- the words ascend where the first ones do
-pub IsStrictlyIncreasing-juxtaposed : (m : ℕ) (xs ys : List ℕ) → IsStrictlyIncreasing xs → All (λ y. y < 2 ^ m) ys → IsStrictlyIncreasing (juxtaposed m xs ys)
+pub IsStrictlyIncreasing-juxtaposed : (m : ℕ) (xs ys : List ℕ) → IsStrictlyIncreasing xs → All (λ y. y < 2 ^ m) ys
+    → IsStrictlyIncreasing (juxtaposed m xs ys)
 IsStrictlyIncreasing-juxtaposed m xs ys ascending below = λ k within.
     AllPairs-juxtaposed (λ y. y < 2 ^ m) (λ x x'. x < x') (λ y y'. Unit {0}) (λ z z'. z < z') m
     (λ x y x' y' h h' less any. followed_by-order m x y x' y' h less) xs ys below
@@ -100,22 +100,14 @@ juxtaposed-more m (x ∷ xs) (y ∷ ys) (suc k) first second =
     ap (λ (zs : List ℕ). followed_by m x y ∷ zs) (juxtaposed-more m xs ys k (omega arith) (omega arith))
 
 -- and all of them
-pub juxtaposed-all : (m : ℕ) (xs ys : List ℕ) (k : ℕ) → min (length xs) (length ys) ≤ k → juxtaposed m (take k xs) (take k ys) ≡ juxtaposed m xs ys
+pub juxtaposed-all : (m : ℕ) (xs ys : List ℕ) (k : ℕ) → min (length xs) (length ys) ≤ k
+    → juxtaposed m (take k xs) (take k ys) ≡ juxtaposed m xs ys
 juxtaposed-all m [] ys zero all = refl
 juxtaposed-all m [] ys (suc k) all = refl
 juxtaposed-all m (x ∷ xs) [] zero all = refl
 juxtaposed-all m (x ∷ xs) [] (suc k) all = refl
 juxtaposed-all m (x ∷ xs) (y ∷ ys) zero all = absurd (omega arith)
 juxtaposed-all m (x ∷ xs) (y ∷ ys) (suc k) all = ap (λ (zs : List ℕ). followed_by m x y ∷ zs) (juxtaposed-all m xs ys k (omega arith))
-
--- the weight of a code is at most its length
-pub weight_of_code-le : (c : CodeValue) → IsSoundCode c → ForSome c.w (λ k. k ≤ MAX_N)
-weight_of_code-le c sound = λ k is.
-    let weights = subst (λ w. IfSome w (λ k. All (λ x. weight c.n x ≡ k) c.words)) is sound.code.weights in
-    let first = weights 0 0 sound.some in
-    let most = weight-le c.n (get_or c.words 0 0) in
-    let short = sound.length_in_range.1 in
-    omega arith
 
 -- two codes of the program make one
 pub IsSoundCode-juxtaposed : (a b : CodeValue) → IsSoundCode a → IsSoundCode b → a.n + b.n ≤ MAX_N → a.d + b.d ≤ MAX_CODE_DISTANCE

@@ -82,7 +82,8 @@ abbrev pub earlier_places : List ℕ → ℕ → List ℕ
 earlier_places qs p = filter (λ r. not (is_among qs r)) (all_places p)
 
 -- the other places, where p is above all of these: some before p, it, and all after it
-pub other_places-before : (n p : ℕ) (qs : List ℕ) → p < n → All (λ q. q < p) qs → other_places n qs ≡ earlier_places qs p ++ p ∷ later_places n p
+pub other_places-before : (n p : ℕ) (qs : List ℕ) → p < n → All (λ q. q < p) qs
+    → other_places n qs ≡ earlier_places qs p ++ p ∷ later_places n p
 other_places-before n p qs within below =
     let keeps : ℕ → Bool = λ r. not (is_among qs r) in
     ap (filter keeps) (all_places-split n p within)
@@ -94,7 +95,8 @@ other_places-before n p qs within below =
     (λ i h. ap not (not_among qs (suc (p + i)) (λ k d l. let less = below k d l in omega arith))))))
 
 -- and with p among them: the same without p
-pub other_places-after : (n p : ℕ) (qs : List ℕ) → p < n → All (λ q. q < p) qs → other_places n (qs ++ p ∷ []) ≡ earlier_places qs p ++ later_places n p
+pub other_places-after : (n p : ℕ) (qs : List ℕ) → p < n → All (λ q. q < p) qs
+    → other_places n (qs ++ p ∷ []) ≡ earlier_places qs p ++ later_places n p
 other_places-after n p qs within below =
     let keeps : ℕ → Bool = λ r. not (is_among (qs ++ p ∷ []) r) in
     let kept : ℕ → Bool = λ r. not (is_among qs r) in
@@ -104,7 +106,8 @@ other_places-after n p qs within below =
     let back : filter keeps (later_places n p) ≡ later_places n p =
     filter-whole keeps (later_places n p)
     (All-tabulate (λ r. keeps r ≡ true) (λ i. suc (p + i)) (n - 1 - p)
-    (λ i h. ap not (among-other qs p (suc (p + i)) (λ same. omega arith) ∙ not_among qs (suc (p + i)) (λ k d l. let less = below k d l in omega arith)))) in
+    (λ i h. ap not (among-other qs p (suc (p + i)) (λ same. omega arith)
+    ∙ not_among qs (suc (p + i)) (λ k d l. let less = below k d l in omega arith)))) in
     ap (filter keeps) (all_places-split n p within)
     ∙ filter-append keeps (all_places p) (p ∷ later_places n p)
     ∙ ap₂ (λ (xs ys : List ℕ). xs ++ ys) front

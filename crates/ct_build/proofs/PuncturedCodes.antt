@@ -34,12 +34,14 @@ punctured-lengths n places words are =
 
 -- their distance and the differences at the places are the distance of the words
 pub distance-without : (n x y : ℕ) (places : List ℕ) → ArePlaces n places
-    → distance (n - length places) (read_at n x (other_places n places)) (read_at n y (other_places n places)) + differing n x y places ≡ distance n x y
+    → distance (n - length places) (read_at n x (other_places n places)) (read_at n y (other_places n places)) + differing n x y places
+    ≡ distance n x y
 distance-without n x y places are =
     let ps = other_places n places in
     let split = sum_by-other_places (λ p. cond {A = ℕ} (not (digit n x p == digit n y p)) 1 0) n places are in
     let others : distance (n - length places) (read_at n x ps) (read_at n y ps) ≡ differing n x y ps =
-    subst (λ m. distance m (read_at n x ps) (read_at n y ps) ≡ differing n x y ps) (other_places-size n places are) (distance-read_at n x y ps) in
+    subst (λ m. distance m (read_at n x ps) (read_at n y ps) ≡ differing n x y ps) (other_places-size n places are)
+    (distance-read_at n x y ps) in
     let all = distance-all n x y in
     omega arith
 
@@ -61,5 +63,6 @@ IsCode-punctured n d w words places are few code =
     code_from_far (n - length places) (d - length places) None (punctured n places words)
     (punctured-lengths n places words are)
     (AllPairs-map R (λ x. read_at n x ps) words
-    (AllPairs-weaker (AreFar n d) (λ x y. R (read_at n x ps) (read_at n y ps)) words (λ x y far. far_punctured n d x y places are few far) (far_from_code n d w words code)))
+    (AllPairs-weaker (AreFar n d) (λ x y. R (read_at n x ps) (read_at n y ps)) words
+    (λ x y far. far_punctured n d x y places are few far) (far_from_code n d w words code)))
     tt

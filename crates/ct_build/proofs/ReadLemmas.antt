@@ -124,7 +124,9 @@ read_at-without n x p qs within below =
     let long : length (later_places n p) ≡ k = length-tabulate (λ i. suc (p + i)) k in
     let small : b < 2 ^ k = subst (λ m. b < 2 ^ m) long (read_at-lt n x (later_places n p)) in
     let after : read_at n x (other_places n (qs ++ p ∷ [])) ≡ followed_by k a b =
-    ap (read_at n x) (other_places-after n p qs within below) ∙ read_at-append n x (earlier_places qs p) (later_places n p) ∙ ap (λ m. followed_by m a b) long in
+    ap (read_at n x) (other_places-after n p qs within below)
+    ∙ read_at-append n x (earlier_places qs p) (later_places n p)
+    ∙ ap (λ m. followed_by m a b) long in
     let before : read_at n x (other_places n qs) ≡ followed_by (suc k) a (followed_by k (digit n x p) b) =
     ap (read_at n x) (other_places-before n p qs within below)
     ∙ read_at-append n x (earlier_places qs p) (p ∷ later_places n p)

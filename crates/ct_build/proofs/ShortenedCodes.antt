@@ -22,15 +22,16 @@ use Rattle.ct_build.proofs.PuncturedCodes.{differing, other_places-size, punctur
 use Rattle.ct_build.proofs.FarWords.{AreFar, far_from_code, code_from_far}
 
 -- two words with the same digits at the places do not differ there
-differing-none : (n x y : ℕ) (places digits : List ℕ) → length digits ≡ length places → has_digits n places digits x ≡ true → has_digits n places digits y ≡ true
-    → differing n x y places ≡ 0
+differing-none : (n x y : ℕ) (places digits : List ℕ) → length digits ≡ length places
+    → has_digits n places digits x ≡ true → has_digits n places digits y ≡ true → differing n x y places ≡ 0
 differing-none n x y [] digits long first second = refl
 differing-none n x y (p ∷ ps) [] long first second = absurd (omega arith)
 differing-none n x y (p ∷ ps) (a ∷ bs) long first second =
     let at_x = and_parts (digit n x p == a) (has_digits n ps bs x) first in
     let at_y = and_parts (digit n y p == a) (has_digits n ps bs y) second in
     let same : digit n x p ≡ digit n y p = eqb-true (digit n x p) a at_x.0 ∙ sym (eqb-true (digit n y p) a at_y.0) in
-    let here : cond {A = ℕ} (not (digit n x p == digit n y p)) 1 0 ≡ 0 = ap (λ b. cond {A = ℕ} (not b) 1 0) (eq-eqb (digit n x p) (digit n y p) same) in
+    let here : cond {A = ℕ} (not (digit n x p == digit n y p)) 1 0 ≡ 0 =
+    ap (λ b. cond {A = ℕ} (not b) 1 0) (eq-eqb (digit n x p) (digit n y p) same) in
     let rest = differing-none n x y ps bs (omega arith) at_x.1 at_y.1 in
     let sum = sum_by-cons (λ q. cond {A = ℕ} (not (digit n x q == digit n y q)) 1 0) p ps in
     omega arith
@@ -43,7 +44,8 @@ ones-there n x [] (a ∷ bs) long has = absurd (omega arith)
 ones-there n x (p ∷ ps) [] long has = absurd (omega arith)
 ones-there n x (p ∷ ps) (a ∷ bs) long has =
     let at = and_parts (digit n x p == a) (has_digits n ps bs x) has in
-    let here : cond {A = ℕ} (digit n x p == 1) 1 0 ≡ cond {A = ℕ} (a == 1) 1 0 = ap (λ b. cond {A = ℕ} (b == 1) 1 0) (eqb-true (digit n x p) a at.0) in
+    let here : cond {A = ℕ} (digit n x p == 1) 1 0 ≡ cond {A = ℕ} (a == 1) 1 0 =
+    ap (λ b. cond {A = ℕ} (b == 1) 1 0) (eqb-true (digit n x p) a at.0) in
     let rest = ones-there n x ps bs (omega arith) at.1 in
     let sum = sum_by-cons (λ q. cond {A = ℕ} (digit n x q == 1) 1 0) p ps in
     let total = sum_by-cons (λ b. cond {A = ℕ} (b == 1) 1 0) a bs in
@@ -86,8 +88,8 @@ weights-shortened n (Some w) words places digits are long weights =
     ∙ ap (λ v. v - ones) (All-filter test (λ x. weight n x ≡ w) words weights k d l))
 
 -- the words with the digits at the places, without these, are a code of the same distance
-pub IsCode-shortened : (n d : ℕ) (w : Option ℕ) (words places digits : List ℕ) → ArePlaces n places → length digits ≡ length places → IsCode n d w words
-    → IsCode (n - length places) d (shortened_weight digits w) (shortened n places digits words)
+pub IsCode-shortened : (n d : ℕ) (w : Option ℕ) (words places digits : List ℕ) → ArePlaces n places → length digits ≡ length places
+    → IsCode n d w words → IsCode (n - length places) d (shortened_weight digits w) (shortened n places digits words)
 IsCode-shortened n d w words places digits are long code =
     let ps = other_places n places in
     let test = has_digits n places digits in
@@ -124,7 +126,8 @@ has_digits-all n x places digits m all same =
     let long = length-zip places digits in
     let first : k < length places = omega arith in
     let second : k < length digits = omega arith in
-    ap test (get_or-zip places digits k (0, 0) first second) ∙ eq-eqb (digit n x (get_or places k 0)) (get_or digits k 0) (same k (omega arith))))
+    ap test (get_or-zip places digits k (0, 0) first second)
+    ∙ eq-eqb (digit n x (get_or places k 0)) (get_or digits k 0) (same k (omega arith))))
 
 -- or one is not
 pub has_digits-not : (n x : ℕ) (places digits : List ℕ) (k : ℕ) → k < length places → k < length digits

@@ -26,7 +26,8 @@ length-uuv_words n (u ∷ us) vs =
     length-append (map (uuv_word n u) vs) (uuv_words n us vs) ∙ omega arith
 
 -- what holds of each pair of words holds of all words that they give
-All-uuv : (P Q R : ℕ → Type 0) (n : ℕ) → ((u v : ℕ) → P u → Q v → R (uuv_word n u v)) → (us vs : List ℕ) → All P us → All Q vs → All R (uuv_words n us vs)
+All-uuv : (P Q R : ℕ → Type 0) (n : ℕ) → ((u v : ℕ) → P u → Q v → R (uuv_word n u v))
+    → (us vs : List ℕ) → All P us → All Q vs → All R (uuv_words n us vs)
 All-uuv P Q R n given [] vs first second = All-nil R
 All-uuv P Q R n given (u ∷ us) vs first second =
     All-append R (map (uuv_word n u) vs) (uuv_words n us vs)
@@ -63,7 +64,8 @@ distance-uuv n u v u' v' h k h' k' =
     ∙ distance-followed_by n n u (bit_xor u v) u' (bit_xor u' v') (xor_lt n u v h k) (xor_lt n u' v' h' k')
 
 -- two words with the same u
-far_same_first : (n d e u v v' : ℕ) → u < 2 ^ n → v < 2 ^ n → v' < 2 ^ n → AreFar n e v v' → AreFar (2 * n) (min (2 * d) e) (uuv_word n u v) (uuv_word n u v')
+far_same_first : (n d e u v v' : ℕ) → u < 2 ^ n → v < 2 ^ n → v' < 2 ^ n → AreFar n e v v'
+    → AreFar (2 * n) (min (2 * d) e) (uuv_word n u v) (uuv_word n u v')
 far_same_first n d e u v v' h k k' far =
     let whole = distance-uuv n u v u v' h k h k' in
     let none = distance_same n u in
@@ -73,8 +75,8 @@ far_same_first n d e u v v' h k k' far =
     (omega arith, omega arith)
 
 -- two words with different u
-far_other_first : (n d e u v u' v' : ℕ) → u < 2 ^ n → v < 2 ^ n → u' < 2 ^ n → v' < 2 ^ n → AreFar n d u u' → (v ≡ v') ⊎ AreFar n e v v'
-    → AreFar (2 * n) (min (2 * d) e) (uuv_word n u v) (uuv_word n u' v')
+far_other_first : (n d e u v u' v' : ℕ) → u < 2 ^ n → v < 2 ^ n → u' < 2 ^ n → v' < 2 ^ n
+    → AreFar n d u u' → (v ≡ v') ⊎ AreFar n e v v' → AreFar (2 * n) (min (2 * d) e) (uuv_word n u v) (uuv_word n u' v')
 far_other_first n d e u v u' v' h k h' k' far (inl same) =
     let whole = distance-uuv n u v u' v' h k h' k' in
     let sums = ap (λ z. distance n (bit_xor u v) (bit_xor u' z)) (sym same) ∙ distance-same_second n u u' v h h' k in

@@ -19,7 +19,8 @@ loop-x-preserved c =
     let short = c.requires.length in
     let pushed : bit_or (c.in-Some.x.now * 2 ^ m % 2 ^ 32) c.in-Some.y.now ≡ followed_by m (get_or xs k 0) (get_or ys k 0) =
     ap₂ (λ (a b : ℕ). bit_or (a * 2 ^ m % 2 ^ 32) b) (turn.2 0) (turn.3 0)
-    ∙ or-followed_by (32 - m) m (get_or xs k 0) (get_or ys k 0) (c.requires.first k 0 turn.0) (c.requires.second k 0 turn.1) (omega (arith, short)) in
+    ∙ or-followed_by (32 - m) m (get_or xs k 0) (get_or ys k 0) (c.requires.first k 0 turn.0) (c.requires.second k 0 turn.1)
+    (omega (arith, short)) in
     let long : length (c.loop-x.yielded ++ (c.in-Some.x, c.in-Some.y) ∷ []) ≡ suc k =
     let one = length_push c.loop-x.yielded (c.in-Some.x, c.in-Some.y) in omega (arith, one) in
     c.in_ok-push.ensures.items
@@ -34,4 +35,5 @@ returns c =
     let all =
     zip_end xs ys c.loop-x.yielded c.into_iter-x-iterator.result c.loop-x.x-iterator c.next.new.self c.next.result (search rules) (search rules)
     c.loop-x.yielded_by c.in-None.is c.next.ensures.steps in
-    c.loop-x.invariant ∙ juxtaposed-all c.args.m xs ys (length c.loop-x.yielded) (let whole : length c.loop-x.yielded ≡ min (length xs) (length ys) = all in omega (arith, whole))
+    let whole : length c.loop-x.yielded ≡ min (length xs) (length ys) = all in
+    c.loop-x.invariant ∙ juxtaposed-all c.args.m xs ys (length c.loop-x.yielded) (omega (arith, whole))

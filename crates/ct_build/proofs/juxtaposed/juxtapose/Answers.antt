@@ -2,7 +2,8 @@ use Rattle.std.proofs.Common.{◌≡◌, ℕ, ◌+◌, ◌-◌, ◌^◌, ◌<◌
 use Rattle.ct_codes.specs.Code.{IsSoundCode}
 use Rattle.ct_build.specs.Juxtaposed.{juxtaposed, added_weights}
 use Rattle.ct_build.proofs.JoinedLemmas.{words_wider}
-use Rattle.ct_build.proofs.JuxtaposedCodes.{weight_of_code-le, IsSoundCode-juxtaposed}
+use Rattle.ct_build.proofs.Sound.{weight_limit}
+use Rattle.ct_build.proofs.JuxtaposedCodes.{IsSoundCode-juxtaposed}
 use Rattle.ct_build.proofs.juxtaposed.juxtapose.Goals as goal
 
 pub joined_words-requires-clause-first : goal.joined_words-requires-clause-first
@@ -13,10 +14,10 @@ joined_words-requires-clause-first c =
     (words_wider c.args.part.now.n (32 - c.n.result) c.args.part.now.words (omega arith) c.words.ensures.sound.code.lengths)
 
 pub added_weight-w-requires-clause-v : goal.added_weight-w-requires-clause-v
-added_weight-w-requires-clause-v c = λ k is. weight_of_code-le c.args.part.now c.words.ensures.sound k (sym c.w.ensures.value ∙ is)
+added_weight-w-requires-clause-v c = λ k is. weight_limit c.args.part.now c.words.ensures.sound k (sym c.w.ensures.value ∙ is)
 
 pub added_weight-w-requires-clause-w : goal.added_weight-w-requires-clause-w
-added_weight-w-requires-clause-w c = λ k is. weight_of_code-le c.args.other.now c.n.ensures.sound k (sym c.w-2.ensures.value ∙ is)
+added_weight-w-requires-clause-w c = λ k is. weight_limit c.args.other.now c.n.ensures.sound k (sym c.w-2.ensures.value ∙ is)
 
 pub from_sorted-requires : goal.from_sorted-requires
 from_sorted-requires c =

@@ -15,7 +15,8 @@ loop-v-preserved c =
     let f : ℕ → ℕ = λ x. followed_by n u (bit_xor u x) in
     let short = c.requires.length in
     let pushed : bit_or (u * 2 ^ n % 2 ^ 32) (bit_xor u v) ≡ f v =
-    or-followed_by n n u (bit_xor u v) c.requires.first (xor_lt n u v c.requires.first (c.requires.second i 0 c.loop-v-test.true)) (omega (arith, short)) in
+    or-followed_by n n u (bit_xor u v) c.requires.first (xor_lt n u v c.requires.first (c.requires.second i 0 c.loop-v-test.true))
+    (omega (arith, short)) in
     c.in_ok-push.ensures.items
     ∙ ap₂ (λ (ws : List ℕ) (w : ℕ). ws ++ w ∷ []) c.loop-v.invariant pushed
     ∙ append_assoc c.args.words.now.items (map f (take i vs)) (f v ∷ [])

@@ -9,7 +9,8 @@ code_of-requires-clause-code c =
     let a = c.args.part.now in
     let places = c.args.places.now in
     let digits = c.args.digits.now in
-    let w_is : shortened_weight digits a.w ≡ c.weight_without-w.result = ap (shortened_weight digits) (sym c.w.ensures.value) ∙ sym c.weight_without-w.ensures in
+    let w_is : shortened_weight digits a.w ≡ c.weight_without-w.result =
+    ap (shortened_weight digits) (sym c.w.ensures.value) ∙ sym c.weight_without-w.ensures in
     let words_are : shortened a.n places digits a.words ≡ c.in_ok-words.words.items =
     (λ i. shortened (sym c.n.ensures.value i) places digits (sym c.words.ensures.value i)) ∙ sym c.in_ok-words.ensures.words in
     let Q : CodeValue → Type 0 = λ v. IsCode v.n v.d v.w v.words in
