@@ -21,3 +21,19 @@ repeated_words = codes "submit a\nkind = \"words\"\nn = 10\nd = 6\nwords = [\"00
 -- no words
 abbrev pub no_words : List ℕ
 no_words = codes "submit a\nkind = \"words\"\nn = 10\nd = 6\nwords = []\nend\n"
+
+-- the shortened Hamming code of length 6, 8 words at distance 3, by its basis
+abbrev pub linear_code_document : List ℕ
+linear_code_document = codes "kind = 'cosets'\nn = 6\nd = 3\nbasis = ['100011', '010101', '001110']\nrepresentatives = ['000000']"
+
+-- it is submitted, and the bounds of A(6,3) asked for
+abbrev pub linear_code : List ℕ
+linear_code = codes "submit linear\n" ++ linear_code_document ++ codes "\nend\nshow 6 3\n"
+
+-- two basis words of weight 4 whose sum has weight 2, stated for distance 4
+abbrev pub close_choices : List ℕ
+close_choices = codes "submit a\nkind = 'cosets'\nn = 6\nd = 4\nbasis = ['111100', '111010']\nrepresentatives = ['000000']\nend\n"
+
+-- words that are stated to have weight 3, of which the third has another
+abbrev pub heavier_word : List ℕ
+heavier_word = codes "submit a\nkind = 'words'\nn = 6\nd = 4\nw = 3\nwords = ['000111', '011100', '101011']\nend\n"

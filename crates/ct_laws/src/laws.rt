@@ -3,6 +3,7 @@
 ghost use Rattle.std.specs.Prelude.{◌≡◌, ◌⊎◌, ◌↔◌, ℕ, List, [], Some, None, IsTrue, false, true, codes};
 ghost use Rattle.ct_text.specs.Gathering.{is_end};
 ghost use Rattle.ct_codes.specs.declared.fault.CodeFault.TheVariants as code;
+ghost use Rattle.ct_files.specs.declared.field.FieldName.TheVariants as name;
 ghost use Rattle.ct_files.specs.declared.fault.FileFault.TheVariants as file;
 ghost use Rattle.ct_ledger.specs.declared.fault.SubmitFault.TheVariants as submit;
 ghost use Rattle.ct_ledger.specs.declared.fault.WithdrawFault.TheVariants as withdraw;
@@ -10,7 +11,7 @@ ghost use Rattle.ct_session.specs.Run.{IsRun};
 ghost use Rattle.ct_session.specs.Text.{reply_text};
 ghost use Rattle.ct_session.specs.declared.reply.Reply.TheVariants.{Shown, Refused};
 ghost use Rattle.ct_session.specs.declared.reply.Refusal.TheVariants as refusal;
-ghost use Rattle.ct_laws.specs.Examples.{six_words, close_words, repeated_words, no_words};
+ghost use Rattle.ct_laws.specs.Examples.{six_words, close_words, repeated_words, no_words, linear_code, close_choices, heavier_word};
 
 /// Inputs whose run is known: the empty one, an entry of the table and one outside it, a submission that is cut off, and the lists of
 /// no pieces.
@@ -24,12 +25,16 @@ pub fn known_runs()
     ensures withdraw { IsRun (codes "withdraw hexa\n") (codes "refused nosuch hexa\n") true }
 {}
 
-/// Sessions with a submission whose run is known: six words that are a code, and words that are too close, repeated and none.
+/// Sessions with a submission whose run is known: six words that are a code, and words that are too close, repeated and none; a linear
+/// code by its basis, and a basis whose words are heavy enough but not their sum; a word of another weight than is stated.
 pub fn known_submissions()
     ensures accepted { IsRun six_words (codes "accepted hexa size 6\n6 <= A(10,6) <= 1024\n") false }
     ensures close { IsRun close_words (codes "refused close 0 1 5\n") true }
     ensures repeated { IsRun repeated_words (codes "refused repeated 0 1\n") true }
     ensures empty { IsRun no_words (codes "refused size 0\n") true }
+    ensures linear { IsRun linear_code (codes "accepted linear size 8\n8 <= A(6,3) <= 64\n") false }
+    ensures choices { IsRun close_choices (codes "refused close 0 3 2\n") true }
+    ensures weight { IsRun heavier_word (codes "refused weight 2\n") true }
 {}
 
 /// Texts of replies that are known, those of every refusal among them.
@@ -53,6 +58,10 @@ pub fn known_texts()
     ensures weight { reply_text (Refused (refusal.Submission (submit.Code (code.Weight 2)))) ≡ codes "refused weight 2\n" }
     ensures repeated { reply_text (Refused (refusal.Submission (submit.Code (code.Repeated 0 1)))) ≡ codes "refused repeated 0 1\n" }
     ensures close { reply_text (Refused (refusal.Submission (submit.Code (code.Close 0 32 6)))) ≡ codes "refused close 0 32 6\n" }
+    ensures work { reply_text (Refused (refusal.Submission (submit.Code (code.Work 33554432)))) ≡ codes "refused work 33554432\n" }
+    ensures field { reply_text (Refused (refusal.Submission (submit.File (file.Field name.D)))) ≡ codes "refused field d\n" }
+    ensures longest_field { reply_text (Refused (refusal.Submission (submit.File (file.Field name.Representatives))))
+        ≡ codes "refused field representatives\n" }
     ensures nosuch { reply_text (Refused (refusal.Withdrawal (codes "hexa") withdraw.NoSuch)) ≡ codes "refused nosuch hexa\n" }
     ensures inuse { reply_text (Refused (refusal.Withdrawal (codes "golay") (withdraw.InUse (codes "oct")))) ≡ codes "refused inuse oct\n" }
 {}

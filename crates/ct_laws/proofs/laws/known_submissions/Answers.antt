@@ -1,4 +1,4 @@
-use Rattle.std.proofs.Common.{ℕ, ◌<◌, ◌^◌, List, refl, None, Some, [], ◌∷◌, codes, lit<}
+use Rattle.std.proofs.Common.{ℕ, ◌<◌, ◌^◌, List, refl, None, Some, [], ◌∷◌, codes, lit<, lit≤}
 use Rattle.std.specs.Prelude.{All}
 use Rattle.std.proofs.lemmas.List.Elements.{All-from_recursion, All-cons, All-nil}
 use Rattle.ct_codes.specs.Code.{IsTrueLower}
@@ -7,12 +7,14 @@ use Rattle.ct_ledger.specs.Standing.{HasTrueSize}
 use Rattle.std.specs.Fmt.{digits}
 use Rattle.ct_text.specs.Line.{words_of}
 use Rattle.ct_text.specs.Number.{number_of}
-use Rattle.ct_words.specs.Word.{distance}
+use Rattle.ct_words.specs.Word.{weight, distance}
+use Rattle.ct_codes.specs.Coset.{coset_fault, coset_list}
+use Rattle.ct_codes.proofs.CosetLemmas.{cosets_from_no_fault}
 use Rattle.ct_codes.specs.Check.{code_fault}
 use Rattle.ct_codes.specs.declared.fault.CodeFault.TheVariants as fault
 use Rattle.ct_codes.specs.declared.entry.Entry.{Entry}
 use Rattle.ct_files.proofs.OnLiterals.{evidence_on_literals}
-use Rattle.ct_files.specs.declared.evidence.Evidence.TheVariants.{Words}
+use Rattle.ct_files.specs.declared.evidence.Evidence.TheVariants.{Words, Cosets}
 use Rattle.ct_files.specs.declared.fault.FileFault.TheVariants as file
 use Rattle.ct_commands.specs.Form.{form_of}
 use Rattle.ct_ledger.specs.Piece.{PieceValue}
@@ -22,7 +24,7 @@ use Rattle.ct_session.specs.Text.{reply_text}
 use Rattle.ct_session.specs.declared.reply.Reply.TheVariants.{Accepted, Shown, Refused}
 use Rattle.ct_session.specs.declared.reply.Refusal.TheVariants as refusal
 use Rattle.ct_session.proofs.BoundLemmas.{lower_shown, upper_shown}
-use Rattle.ct_laws.specs.Examples.{six_words_document}
+use Rattle.ct_laws.specs.Examples.{six_words_document, linear_code_document}
 use Rattle.ct_laws.proofs.laws.known_submissions.Goals as goal
 
 pub returns-clause-close : goal.returns-clause-close
@@ -62,6 +64,51 @@ returns-clause-accepted c = record {
     refl,
     (
       record { below = 6; above = 1024; lower = lower_shown (hexa ∷ []) entry refl sizes_true; upper = upper_shown (hexa ∷ []) entry refl; shown = refl },
+      tt,
+    ),
+  );
+  texts = refl;
+  mark = refl;
+}
+
+pub returns-clause-choices : goal.returns-clause-choices
+unfolding form_of words_of number_of reply_text digits submitted coset_fault coset_list distance evidence_on_literals
+returns-clause-choices c = record { replies = Refused (refusal.Submission (submit.Code (fault.Close 0 3 2))) ∷ []; are = (refl, tt); texts = refl; mark = refl }
+
+pub returns-clause-weight : goal.returns-clause-weight
+unfolding form_of words_of number_of reply_text digits submitted code_fault weight distance evidence_on_literals
+returns-clause-weight c = record { replies = Refused (refusal.Submission (submit.Code (fault.Weight 2))) ∷ []; are = (refl, tt); texts = refl; mark = refl }
+
+abbrev short_entry : Entry
+short_entry = record { n = 6; d = 3; w = None }
+
+abbrev basis : List ℕ
+basis = 0b100011 ∷ 0b010101 ∷ 0b001110 ∷ []
+
+abbrev linear_piece : PieceValue
+linear_piece = record { id = codes "linear"; document = linear_code_document; evidence = Cosets short_entry basis (0 ∷ []); entry = short_entry; size = Some 8 }
+
+-- the eight sums of basis words are a code
+linear_is_code : IsTrueLower short_entry 8
+unfolding coset_fault coset_list distance
+linear_is_code = (
+  coset_list basis (0 ∷ []),
+  (cosets_from_no_fault short_entry basis (0 ∷ []) (lit≤ tt) refl (All-from_recursion (λ x. x < 2 ^ 6) basis (lit< tt, (lit< tt, (lit< tt, tt))))
+      (All-from_recursion (λ x. x < 2 ^ 6) (0 ∷ []) (lit< tt, tt)) refl).4,
+  refl,
+)
+
+linear_sizes : All HasTrueSize (linear_piece ∷ [])
+linear_sizes = All-cons HasTrueSize linear_piece [] linear_is_code (All-nil HasTrueSize)
+
+pub returns-clause-linear : goal.returns-clause-linear
+unfolding form_of words_of number_of reply_text digits submitted coset_fault coset_list distance evidence_on_literals
+returns-clause-linear c = record {
+  replies = Accepted (codes "linear") (Some 8) ∷ Shown (record { entry = short_entry; lower = 8; upper = 64 }) ∷ [];
+  are = (
+    refl,
+    (
+      record { below = 8; above = 64; lower = lower_shown (linear_piece ∷ []) short_entry refl linear_sizes; upper = upper_shown (linear_piece ∷ []) short_entry refl; shown = refl },
       tt,
     ),
   );

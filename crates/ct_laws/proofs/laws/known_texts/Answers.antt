@@ -78,3 +78,15 @@ returns-clause-nosuch c = refl
 pub returns-clause-inuse : goal.returns-clause-inuse
 unfolding reply_text digits
 returns-clause-inuse c = refl
+
+pub returns-clause-work : goal.returns-clause-work
+unfolding reply_text digits
+returns-clause-work c = refl
+
+pub returns-clause-field : goal.returns-clause-field
+unfolding reply_text digits
+returns-clause-field c = refl
+
+pub returns-clause-longest_field : goal.returns-clause-longest_field
+unfolding reply_text digits
+returns-clause-longest_field c = refl
