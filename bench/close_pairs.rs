@@ -1,6 +1,7 @@
-//! What the check of a large list of words costs, for comparison: `session` prints a session that submits 16,384 words of length 24 at
-//! distance at least 4, for distance 3, and `loop` times a plain double loop over the same words. `late` and `late-loop` do so for words
-//! of which the last two alone are close.
+//! What the check of a large code costs, for comparison: `session` prints a session that submits 16,384 words of length 24 at distance at
+//! least 4, for distance 3, and `session-loop` times a plain double loop over the same words. `late` and `late-loop` do so for words of which the
+//! last two alone are close, `weighted` and `weighted-loop` for 16,384 words of length 28 and weight 14 at distance 4, and `cosets` and
+//! `cosets-loop` for five cosets of a linear code of 2^20 words, whose check takes 15,728,640 comparisons.
 
 use std::hint::black_box;
 use std::time::Instant;
@@ -24,6 +25,74 @@ fn late_words() -> Vec<u32> {
     let last = words.len() - 1;
     words[last] = words[last - 1] ^ 1;
     words
+}
+
+/// The first words of length 28 and weight 14 whose places of ones add up to a multiple of 28: each two are at distance at least 4, since
+/// two places that change one word into another at distance 2 would be equal modulo 28.
+fn weighted_words() -> Vec<u32> {
+    let sum_of_places = |word: u32| (0..28).filter(|place| word >> (27 - place) & 1 == 1).sum::<u32>();
+    (0..1 << 28)
+        .filter(|word: &u32| word.count_ones() == 14 && sum_of_places(*word) % 28 == 0)
+        .take(16384)
+        .collect()
+}
+
+/// A basis of a shortened Hamming code of length 28 with 2^23 words at distance 3: a one at place i, and at the last five places the
+/// i-th number with at least two ones.
+fn hamming_basis() -> Vec<u32> {
+    let tails = (1..32u32).filter(|tail| tail.count_ones() >= 2);
+    tails.take(23).enumerate().map(|(i, tail)| 1 << (27 - i) | tail).collect()
+}
+
+/// The first 20 words of that basis, and the sums of the others that stand for five cosets.
+fn cosets() -> (Vec<u32>, Vec<u32>) {
+    let mut basis = hamming_basis();
+    let rest = basis.split_off(20);
+    let representatives = vec![0, rest[0], rest[1], rest[0] ^ rest[1], rest[2]];
+    (basis, representatives)
+}
+
+fn print_cosets(basis: &[u32], representatives: &[u32]) {
+    println!("submit rows\nkind = \"cosets\"\nn = 28\nd = 3\nbasis = [");
+    basis.iter().for_each(|word| println!("\"{word:028b}\","));
+    println!("]\nrepresentatives = [");
+    representatives.iter().for_each(|word| println!("\"{word:028b}\","));
+    println!("]\nend");
+}
+
+/// All words by doubling, and each representative against all words after it.
+fn time_cosets(basis: &[u32], representatives: &[u32]) {
+    let start = Instant::now();
+    let mut words = Vec::with_capacity(representatives.len() << basis.len());
+    for representative in representatives {
+        let first = words.len();
+        words.push(*representative);
+        for word in basis {
+            for place in first..words.len() {
+                words.push(words[place] ^ word);
+            }
+        }
+    }
+    let words = black_box(words);
+    let d = black_box(3);
+    let pair = (0..representatives.len()).map(|a| a << basis.len()).find_map(|i| {
+        let more = words[i + 1..].iter().position(|word| (words[i] ^ word).count_ones() < d)?;
+        Some((i, i + 1 + more))
+    });
+    println!("plain loop: {pair:?} after {:.3} s", start.elapsed().as_secs_f64());
+}
+
+fn print_weighted(words: &[u32]) {
+    println!("submit rows\nkind = \"words\"\nn = 28\nd = 4\nw = 14\nwords = [");
+    words.iter().for_each(|word| println!("\"{word:028b}\","));
+    println!("]\nend");
+}
+
+fn time_weighted(words: &[u32]) {
+    let start = Instant::now();
+    let wrong = black_box(words).iter().position(|word| word.count_ones() != 14);
+    let pair = first_close_pair(black_box(words), black_box(4));
+    println!("plain loop: {wrong:?} {pair:?} after {:.2} s", start.elapsed().as_secs_f64());
 }
 
 fn print_session(words: &[u32]) {
@@ -54,9 +123,13 @@ fn first_close_pair(words: &[u32], d: u32) -> Option<(usize, usize)> {
 fn main() {
     match std::env::args().nth(1).as_deref() {
         Some("session") => print_session(&words()),
-        Some("loop") => time_loop(&words()),
+        Some("session-loop") => time_loop(&words()),
         Some("late") => print_session(&late_words()),
         Some("late-loop") => time_loop(&late_words()),
-        _ => eprintln!("session, loop, late or late-loop"),
+        Some("weighted") => print_weighted(&weighted_words()),
+        Some("weighted-loop") => time_weighted(&weighted_words()),
+        Some("cosets") => print_cosets(&cosets().0, &cosets().1),
+        Some("cosets-loop") => time_cosets(&cosets().0, &cosets().1),
+        _ => eprintln!("session, late, weighted or cosets, each also with -loop"),
     }
 }

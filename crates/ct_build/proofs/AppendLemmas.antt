@@ -25,7 +25,8 @@ distance-suc n x y =
     (λ p h. ap₂ (λ i j. not (i == j)) (digit_half n x p h) (digit_half n y p h)))
 
 -- the distance of two words, each followed by a digit
-pub distance-followed : (n x y a b : ℕ) → a < 2 → b < 2 → distance (suc n) (followed_by 1 x a) (followed_by 1 y b) ≡ one (not (a == b)) + distance n x y
+pub distance-followed : (n x y a b : ℕ) → a < 2 → b < 2
+    → distance (suc n) (followed_by 1 x a) (followed_by 1 y b) ≡ one (not (a == b)) + distance n x y
 distance-followed n x y a b h k =
     distance-suc n (x * 2 + a) (y * 2 + b)
     ∙ ap₂ (λ i j. i + j) (ap₂ (λ i j. one (not (i == j))) (mod-mul-add x 2 a h) (mod-mul-add y 2 b k))
@@ -87,14 +88,16 @@ IsCode-lengthened n d w words code =
     (λ x below. weight-followed n x 0 (omega arith) ∙ omega arith) code))
 
 -- each followed by the digit 1
-pub IsCode-one_appended : (n d : ℕ) (w : Option ℕ) (words : List ℕ) → IsCode n d w words → IsCode (n + 1) d (option_map (λ k. k + 1) w) (one_appended words)
+pub IsCode-one_appended : (n d : ℕ) (w : Option ℕ) (words : List ℕ) → IsCode n d w words
+    → IsCode (n + 1) d (option_map (λ k. k + 1) w) (one_appended words)
 IsCode-one_appended n d w words code =
     at_next n d (option_map (λ k. k + 1) w) (one_appended words)
     (IsCode-image_weighted n d (suc n) d (λ k. k + 1) w (λ x. followed_by 1 x 1) words (IsCodeMap-digit n d 1 (omega arith))
     (λ x below. weight-followed n x 1 (omega arith)) code)
 
 -- each followed by the parity of its weight
-pub IsCode-with_parity : (n d : ℕ) (w : Option ℕ) (words : List ℕ) → IsCode n d w words → IsCode (n + 1) (even_from d) (option_map even_from w) (with_parity n words)
+pub IsCode-with_parity : (n d : ℕ) (w : Option ℕ) (words : List ℕ) → IsCode n d w words
+    → IsCode (n + 1) (even_from d) (option_map even_from w) (with_parity n words)
 IsCode-with_parity n d w words code =
     at_next n (even_from d) (option_map even_from w) (with_parity n words)
     (IsCode-image_weighted n d (suc n) (even_from d) even_from w (λ x. followed_by 1 x (weight n x % 2)) words (IsCodeMap-parity n d)
@@ -132,17 +135,20 @@ digit-followed_last n x a h = rw add-one (last_digit n (x * 2 + a) ∙ mod-mul-a
 -- with its parity a word has even weight
 pub weight-with_parity : (n x : ℕ) → weight (n + 1) (followed_by 1 x (weight n x % 2)) % 2 ≡ 0
 weight-with_parity n x =
-    let here = ap (λ m. weight m (followed_by 1 x (weight n x % 2))) (add-one n) ∙ weight-followed n x (weight n x % 2) (mod_below (weight n x) 2 (omega arith)) in
+    let here = ap (λ m. weight m (followed_by 1 x (weight n x % 2))) (add-one n)
+    ∙ weight-followed n x (weight n x % 2) (mod_below (weight n x) 2 (omega arith)) in
     omega arith
 
 -- a code of one digit more, told by its distance, weight and words
-sound_next : (c : CodeValue) (e : ℕ) (w : Option ℕ) (words : List ℕ) → IsSoundCode c → c.n < MAX_N → (1 ≤ e) × (e ≤ MAX_CODE_DISTANCE) → length words ≡ length c.words
+sound_next : (c : CodeValue) (e : ℕ) (w : Option ℕ) (words : List ℕ) → IsSoundCode c → c.n < MAX_N → (1 ≤ e) × (e ≤ MAX_CODE_DISTANCE)
+    → length words ≡ length c.words
     → IsStrictlyIncreasing words → IsCode (c.n + 1) e w words → IsSoundCode (record { n = c.n + 1; d = e; w = w; words = words })
 sound_next c e w words sound short far as_many up code =
     let filled = sound.some in
     record { length_in_range = (omega arith, omega arith); distance_in_range = far; some = omega arith; ascending = up; code = code }
 
-pub sound-lengthened : (c : CodeValue) → IsSoundCode c → c.n < MAX_N → IsSoundCode (record { n = c.n + 1; d = c.d; w = c.w; words = lengthened c.words })
+pub sound-lengthened : (c : CodeValue) → IsSoundCode c → c.n < MAX_N
+    → IsSoundCode (record { n = c.n + 1; d = c.d; w = c.w; words = lengthened c.words })
 sound-lengthened c sound short =
     sound_next c c.d c.w (lengthened c.words) sound short sound.distance_in_range (length-lengthened c.words)
     (ascending-lengthened c.words sound.ascending) (IsCode-lengthened c.n c.d c.w c.words sound.code)

@@ -69,7 +69,8 @@ IsCode-even_words n =
     }
 
 -- of the two words that a word followed by a digit is, one has even weight
-one_of_two : (n k : ℕ) → filter (λ x. weight (suc n) x % 2 == 0) (followed_by 1 k 0 ∷ followed_by 1 k 1 ∷ []) ≡ followed_by 1 k (weight n k % 2) ∷ []
+one_of_two : (n k : ℕ)
+    → filter (λ x. weight (suc n) x % 2 == 0) (followed_by 1 k 0 ∷ followed_by 1 k 1 ∷ []) ≡ followed_by 1 k (weight n k % 2) ∷ []
 one_of_two n k = elim (cases_eq (weight n k % 2) 0) [
   | inl even ↦
       let first = weight-followed n k 0 (omega arith) in
@@ -86,6 +87,12 @@ one_of_two n k = elim (cases_eq (weight n k % 2) 0) [
       rw (drops, keeps, digit_is)
 ]
 
+-- the first m + 2 numbers end with m and m + 1
+two_more : (m : ℕ) → tabulate (λ x. x) (suc (suc m)) ≡ tabulate (λ x. x) m ++ (m ∷ suc m ∷ [])
+two_more m =
+    tabulate-push (λ x. x) (suc m) ∙ ap (λ z. z ++ suc m ∷ []) (tabulate-push (λ x. x) m)
+    ∙ append_assoc (tabulate (λ x. x) m) (m ∷ []) (suc m ∷ [])
+
 -- the words of even weight among the first 2k words are the first k words, each followed by its parity
 even_words-from : (n k : ℕ) → filter (λ x. weight (suc n) x % 2 == 0) (tabulate (λ x. x) (k * 2)) ≡ with_parity n (tabulate (λ x. x) k)
 even_words-from n zero = refl
@@ -95,7 +102,7 @@ even_words-from n (suc k) =
     let last : k * 2 ≡ followed_by 1 k 0 = omega arith in
     let next : suc (k * 2) ≡ followed_by 1 k 1 = omega arith in
     ap (λ m. filter is_even (tabulate (λ x. x) m)) twice
-    ∙ ap (filter is_even) (tabulate-push (λ x. x) (suc (k * 2)) ∙ ap (λ z. z ++ suc (k * 2) ∷ []) (tabulate-push (λ x. x) (k * 2)) ∙ append_assoc (tabulate (λ x. x) (k * 2)) (k * 2 ∷ []) (suc (k * 2) ∷ []))
+    ∙ ap (filter is_even) (two_more (k * 2))
     ∙ filter-append is_even (tabulate (λ x. x) (k * 2)) (k * 2 ∷ suc (k * 2) ∷ [])
     ∙ ap₂ (λ (a b : List ℕ). a ++ b) (even_words-from n k) (ap₂ (λ (a b : ℕ). filter is_even (a ∷ b ∷ [])) last next ∙ one_of_two n k)
     ∙ sym (map_push (λ x. followed_by 1 x (weight n x % 2)) (tabulate (λ x. x) k) k)
@@ -103,7 +110,9 @@ even_words-from n (suc k) =
 
 -- the words of even weight of length n + 1 are all words of length n, each followed by its parity
 pub even_words-suc : (n : ℕ) → even_words (n + 1) ≡ with_parity n (words_of_length n)
-even_words-suc n = ap even_words (add-one n) ∙ ap (λ m. filter (λ x. weight (suc n) x % 2 == 0) (tabulate (λ x. x) m)) (pow-suc 2 n) ∙ even_words-from n (2 ^ n)
+even_words-suc n =
+    ap even_words (add-one n) ∙ ap (λ m. filter (λ x. weight (suc n) x % 2 == 0) (tabulate (λ x. x) m)) (pow-suc 2 n)
+    ∙ even_words-from n (2 ^ n)
 
 -- so half of all words have even weight
 pub length-even_words : (n : ℕ) → 1 ≤ n → length (even_words n) ≡ 2 ^ (n - 1)
@@ -130,14 +139,16 @@ sound-even_words n some few =
 pub even_words-more_yes : (n k : ℕ) → weight n k % 2 ≡ 0
     → filter (λ x. weight n x % 2 == 0) (tabulate (λ x. x) (k + 1)) ≡ filter (λ x. weight n x % 2 == 0) (tabulate (λ x. x) k) ++ k ∷ []
 even_words-more_yes n k even =
-    ap (λ m. filter (λ x. weight n x % 2 == 0) (tabulate (λ x. x) m)) (add-one k) ∙ ap (filter (λ x. weight n x % 2 == 0)) (tabulate-push (λ x. x) k)
+    ap (λ m. filter (λ x. weight n x % 2 == 0) (tabulate (λ x. x) m)) (add-one k)
+    ∙ ap (filter (λ x. weight n x % 2 == 0)) (tabulate-push (λ x. x) k)
     ∙ filter-append (λ x. weight n x % 2 == 0) (tabulate (λ x. x) k) (k ∷ [])
     ∙ ap (λ b. filter (λ x. weight n x % 2 == 0) (tabulate (λ x. x) k) ++ cond b (k ∷ []) []) (eq-eqb (weight n k % 2) 0 even)
 
 pub even_words-more_no : (n k : ℕ) → weight n k % 2 ≢ 0
     → filter (λ x. weight n x % 2 == 0) (tabulate (λ x. x) (k + 1)) ≡ filter (λ x. weight n x % 2 == 0) (tabulate (λ x. x) k)
 even_words-more_no n k odd =
-    ap (λ m. filter (λ x. weight n x % 2 == 0) (tabulate (λ x. x) m)) (add-one k) ∙ ap (filter (λ x. weight n x % 2 == 0)) (tabulate-push (λ x. x) k)
+    ap (λ m. filter (λ x. weight n x % 2 == 0) (tabulate (λ x. x) m)) (add-one k)
+    ∙ ap (filter (λ x. weight n x % 2 == 0)) (tabulate-push (λ x. x) k)
     ∙ filter-append (λ x. weight n x % 2 == 0) (tabulate (λ x. x) k) (k ∷ [])
     ∙ ap (λ b. filter (λ x. weight n x % 2 == 0) (tabulate (λ x. x) k) ++ cond b (k ∷ []) []) (ne_eqb (weight n k % 2) 0 odd)
     ∙ append-nil (filter (λ x. weight n x % 2 == 0) (tabulate (λ x. x) k))

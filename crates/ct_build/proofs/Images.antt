@@ -16,7 +16,8 @@ pub record IsCodeMap (n d m e : ℕ) (f : ℕ → ℕ) : Type 0 where
   pub apart : (x y : ℕ) → x < 2 ^ n → y < 2 ^ n → d ≤ distance n x y → e ≤ distance m (f x) (f y)
 
 -- the images of a code's words, without a weight
-pub IsCode-image : (n d m e : ℕ) (w : Option ℕ) (f : ℕ → ℕ) (words : List ℕ) → IsCodeMap n d m e f → IsCode n d w words → IsCode m e None (map f words)
+pub IsCode-image : (n d m e : ℕ) (w : Option ℕ) (f : ℕ → ℕ) (words : List ℕ) → IsCodeMap n d m e f → IsCode n d w words
+    → IsCode m e None (map f words)
 IsCode-image n d m e w f words maps code = record {
   lengths = All-map (λ x. x < 2 ^ m) f words (λ k z h. maps.lengths (get_or words k z) (code.lengths k z h));
   different = AllPairs-map (λ x y. x ≢ y) f words
@@ -27,11 +28,13 @@ IsCode-image n d m e w f words maps code = record {
 }
 
 -- a code without a weight whose words have one
-pub IsCode-weighted : (n d : ℕ) (w : Option ℕ) (words : List ℕ) → IsCode n d None words → IfSome w (λ k. All (λ x. weight n x ≡ k) words) → IsCode n d w words
+pub IsCode-weighted : (n d : ℕ) (w : Option ℕ) (words : List ℕ) → IsCode n d None words → IfSome w (λ k. All (λ x. weight n x ≡ k) words)
+    → IsCode n d w words
 IsCode-weighted n d w words code each = record { lengths = code.lengths; different = code.different; apart = code.apart; weights = each }
 
 -- the weights of the images, where they are told by those of the words
-pub weights-image : (n m : ℕ) (g f : ℕ → ℕ) (w : Option ℕ) (words : List ℕ) → ((x : ℕ) → x < 2 ^ n → weight m (f x) ≡ g (weight n x)) → All (λ x. x < 2 ^ n) words
+pub weights-image : (n m : ℕ) (g f : ℕ → ℕ) (w : Option ℕ) (words : List ℕ) → ((x : ℕ) → x < 2 ^ n → weight m (f x) ≡ g (weight n x))
+    → All (λ x. x < 2 ^ n) words
     → IfSome w (λ k. All (λ x. weight n x ≡ k) words) → IfSome (option_map g w) (λ k. All (λ x. weight m x ≡ k) (map f words))
 weights-image n m g f None words told below each = tt
 weights-image n m g f (Some k) words told below each =
@@ -45,7 +48,8 @@ IsCode-image_weighted n d m e g w f words maps told code =
     (weights-image n m g f w words told code.lengths code.weights)
 
 -- a map that keeps the order keeps an ascending list ascending
-pub IsStrictlyIncreasing-map : (f : ℕ → ℕ) (words : List ℕ) → ((x y : ℕ) → x < y → f x < f y) → IsStrictlyIncreasing words → IsStrictlyIncreasing (map f words)
+pub IsStrictlyIncreasing-map : (f : ℕ → ℕ) (words : List ℕ) → ((x y : ℕ) → x < y → f x < f y) → IsStrictlyIncreasing words
+    → IsStrictlyIncreasing (map f words)
 IsStrictlyIncreasing-map f words rises up = λ k h.
     let long = length-map words f in
     let here = get_or-map f words k 0 0 (omega arith) in

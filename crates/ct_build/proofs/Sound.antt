@@ -1,33 +1,15 @@
 -- When a list of words is the value of a code.
-use Rattle.std.proofs.Common.{◌≡◌, ℕ, ◌^◌, ◌<◌, ◌≤◌, List, length, get_or, Option, Some, None, IfSome, All, IsPermutation, IsSorted, nat_cmp, arith, ne_eqb, eqb, pow_mono}
+use Rattle.std.proofs.Common.{◌≡◌, ℕ, ◌^◌, ◌<◌, ◌≤◌, List, get_or, Option, Some, None, IfSome, All, arith, pow_mono}
 use Rattle.std.specs.Option.{ForSome}
 use Rattle.std.proofs.lemmas.List.Elements.{All-weaker}
-use Rattle.std.proofs.lemmas.List.Sorted.{length_permutation, IsNonDecreasingBy-from_sort}
-use Rattle.std.proofs.lemmas.Map.Keys.{IsDistinct-from_apart, IsStrictlyIncreasing-from_distinct}
 use Rattle.ct_words.specs.declared.limits.TheConstants.{MAX_N}
 use Rattle.ct_words.specs.Word.{weight}
 use Rattle.ct_words.proofs.WordLemmas.{weight-le}
-use Rattle.ct_codes.specs.declared.code.TheConstants.{MAX_CODE_DISTANCE}
-use Rattle.ct_codes.specs.Code.{IsCode, CodeValue, IsSoundCode}
-use Rattle.ct_codes.proofs.CheckLemmas.{IsCode-permutation}
-
--- the words of a code, sorted, are the value of a code
-pub IsSoundCode-sorted : (n d : ℕ) (w : Option ℕ) (xs ys : List ℕ) → (1 ≤ n) × (n ≤ MAX_N) → (1 ≤ d) × (d ≤ MAX_CODE_DISTANCE) → 1 ≤ length xs
-    → IsCode n d w xs → IsPermutation xs ys → IsSorted nat_cmp ys → IsSoundCode (record { n = n; d = d; w = w; words = ys })
-IsSoundCode-sorted n d w xs ys long far filled code moved sorted =
-    let same_length = length_permutation xs ys moved in
-    let code_is = IsCode-permutation n d w xs ys moved code in
-    record {
-      length_in_range = long;
-      distance_in_range = far;
-      some = omega arith;
-      ascending = IsStrictlyIncreasing-from_distinct ys (IsNonDecreasingBy-from_sort (λ x. x) ys sorted)
-          (IsDistinct-from_apart eqb ys (λ i j z order within. ne_eqb _ _ (code_is.different i j z order within)));
-      code = code_is;
-    }
+use Rattle.ct_codes.specs.Code.{CodeValue, IsSoundCode}
 
 -- the same value, told by its four parts
-pub IsSoundCode-same : (c : CodeValue) (n d : ℕ) (w : Option ℕ) (words : List ℕ) → n ≡ c.n → d ≡ c.d → w ≡ c.w → words ≡ c.words → IsSoundCode c
+pub IsSoundCode-same : (c : CodeValue) (n d : ℕ) (w : Option ℕ) (words : List ℕ) → n ≡ c.n → d ≡ c.d → w ≡ c.w → words ≡ c.words
+    → IsSoundCode c
     → IsSoundCode (record { n = n; d = d; w = w; words = words })
 IsSoundCode-same c n d w words same_n same_d same_w same_words sound = rw (same_n, same_d, same_w, same_words) sound
 

@@ -15,7 +15,7 @@ use Rattle.ct_words.proofs.WordLemmas.{one, digit-lt, weights_of_pair, IsSum-bit
 use Rattle.ct_codes.specs.Code.{IsCode, CodeValue, IsSoundCode}
 use Rattle.ct_build.specs.Even.{even_from}
 use Rattle.ct_build.specs.Translation.{translated, all_ones, complemented, selected}
-use Rattle.ct_build.proofs.Sound.{IsSoundCode-sorted}
+use Rattle.ct_build.proofs.SortedCodes.{sound_from_sort}
 use Rattle.ct_build.proofs.Images.{IsCodeMap, IsCode-image, IsCode-image_weighted}
 
 -- a word added to two words keeps their distance
@@ -71,7 +71,8 @@ weight-complement n x below =
     turned (suc (suc q)) h = absurd (omega arith)
 
 -- the complements of a code's words
-pub IsCode-complemented : (n d : ℕ) (w : Option ℕ) (words : List ℕ) → IsCode n d w words → IsCode n d (option_map (λ k. n - k) w) (complemented n words)
+pub IsCode-complemented : (n d : ℕ) (w : Option ℕ) (words : List ℕ) → IsCode n d w words
+    → IsCode n d (option_map (λ k. n - k) w) (complemented n words)
 IsCode-complemented n d w words code =
     IsCode-image_weighted n d n d (λ k. n - k) w (λ x. bit_xor x (all_ones n)) words (IsCodeMap-translation n d (all_ones n) (ones_lt n)) (weight-complement n) code
 
@@ -80,7 +81,8 @@ even_gap : (d s k v w : ℕ) → v + w ≡ s + 2 * k → v ≡ w → d ≤ s →
 even_gap d s k v w both same far = omega arith
 
 -- the words of one weight of a code
-pub IsCode-of_weight : (n d w : ℕ) (words : List ℕ) → IsCode n d None words → IsCode n (even_from d) (Some w) (filter (λ x. weight n x == w) words)
+pub IsCode-of_weight : (n d w : ℕ) (words : List ℕ) → IsCode n d None words
+    → IsCode n (even_from d) (Some w) (filter (λ x. weight n x == w) words)
 IsCode-of_weight n d w words code =
     let passes : ℕ → Bool = λ x. weight n x == w in
     let each : All (λ x. weight n x ≡ w) (filter passes words) =
@@ -95,7 +97,8 @@ IsCode-of_weight n d w words code =
     }
 
 -- the words of one weight, after a word is added to each
-pub IsCode-selected : (n d by w : ℕ) (v : Option ℕ) (words : List ℕ) → by < 2 ^ n → IsCode n d v words → IsCode n (even_from d) (Some w) (selected n by w words)
+pub IsCode-selected : (n d by w : ℕ) (v : Option ℕ) (words : List ℕ) → by < 2 ^ n → IsCode n d v words
+    → IsCode n (even_from d) (Some w) (selected n by w words)
 IsCode-selected n d by w v words below code = IsCode-of_weight n d w (translated by words) (IsCode-translated n d by v words below code)
 
 -- the digits of the all-one word
@@ -103,12 +106,13 @@ pub digit-all_ones : (n p : ℕ) → p < n → digit n (all_ones n) p ≡ 1
 digit-all_ones n p within = bit_at_ones n (n - 1 - p) (omega arith)
 
 -- the sums of a code's words and a word, sorted
-pub sound-translated : (c : CodeValue) (by : ℕ) (ys : List ℕ) → IsSoundCode c → by < 2 ^ c.n → IsPermutation (translated by c.words) ys → IsSorted nat_cmp ys
+pub sound-translated : (c : CodeValue) (by : ℕ) (ys : List ℕ) → IsSoundCode c → by < 2 ^ c.n → IsPermutation (translated by c.words) ys
+    → IsSorted nat_cmp ys
     → IsSoundCode (record { n = c.n; d = c.d; w = None; words = ys })
 sound-translated c by ys sound below moved sorted =
     let filled = sound.some in
     let as_many = length-translated by c.words in
-    IsSoundCode-sorted c.n c.d None (translated by c.words) ys sound.length_in_range sound.distance_in_range (omega arith)
+    sound_from_sort c.n c.d None (translated by c.words) ys sound.length_in_range sound.distance_in_range (omega arith)
     (IsCode-translated c.n c.d by c.w c.words below sound.code) moved sorted
 
 -- the complements of a code's words, sorted
@@ -117,17 +121,18 @@ pub sound-complemented : (c : CodeValue) (ys : List ℕ) → IsSoundCode c → I
 sound-complemented c ys sound moved sorted =
     let filled = sound.some in
     let as_many = length-complemented c.n c.words in
-    IsSoundCode-sorted c.n c.d (option_map (λ k. c.n - k) c.w) (complemented c.n c.words) ys sound.length_in_range sound.distance_in_range (omega arith)
+    sound_from_sort c.n c.d (option_map (λ k. c.n - k) c.w) (complemented c.n c.words) ys sound.length_in_range sound.distance_in_range (omega arith)
     (IsCode-complemented c.n c.d c.w c.words sound.code) moved sorted
 
 -- the words of one weight among such sums, where there is one, sorted
 pub sound-selected : (c : CodeValue) (by w : ℕ) (ys : List ℕ) → IsSoundCode c → by < 2 ^ c.n → 1 ≤ length (selected c.n by w c.words)
-    → IsPermutation (selected c.n by w c.words) ys → IsSorted nat_cmp ys → IsSoundCode (record { n = c.n; d = even_from c.d; w = Some w; words = ys })
+    → IsPermutation (selected c.n by w c.words) ys → IsSorted nat_cmp ys
+    → IsSoundCode (record { n = c.n; d = even_from c.d; w = Some w; words = ys })
 sound-selected c by w ys sound below filled moved sorted =
     let far = sound.distance_in_range in
     let low = far.0 in
     let high = far.1 in
-    IsSoundCode-sorted c.n (even_from c.d) (Some w) (selected c.n by w c.words) ys sound.length_in_range (omega arith, omega arith) filled
+    sound_from_sort c.n (even_from c.d) (Some w) (selected c.n by w c.words) ys sound.length_in_range (omega arith, omega arith) filled
     (IsCode-selected c.n c.d by w c.w c.words below sound.code) moved sorted
 
 -- one more word in the search for sums of one weight
@@ -135,19 +140,22 @@ pub selected-more_yes : (n by w : ℕ) (words : List ℕ) (i : ℕ) → i < leng
     → selected n by w (take (i + 1) words) ≡ selected n by w (take i words) ++ bit_xor (get_or words i 0) by ∷ []
 selected-more_yes n by w words i within is =
     let passes : ℕ → Bool = λ x. weight n x == w in
-    ap (filter passes) (map_more (λ x. bit_xor x by) words i 0 within) ∙ filter-append passes (translated by (take i words)) (bit_xor (get_or words i 0) by ∷ [])
+    ap (filter passes) (map_more (λ x. bit_xor x by) words i 0 within)
+    ∙ filter-append passes (translated by (take i words)) (bit_xor (get_or words i 0) by ∷ [])
     ∙ ap (λ b. selected n by w (take i words) ++ cond b (bit_xor (get_or words i 0) by ∷ []) []) (eq-eqb (weight n (bit_xor (get_or words i 0) by)) w is)
 
 pub selected-more_no : (n by w : ℕ) (words : List ℕ) (i : ℕ) → i < length words → weight n (bit_xor (get_or words i 0) by) ≢ w
     → selected n by w (take (i + 1) words) ≡ selected n by w (take i words)
 selected-more_no n by w words i within other =
     let passes : ℕ → Bool = λ x. weight n x == w in
-    ap (filter passes) (map_more (λ x. bit_xor x by) words i 0 within) ∙ filter-append passes (translated by (take i words)) (bit_xor (get_or words i 0) by ∷ [])
+    ap (filter passes) (map_more (λ x. bit_xor x by) words i 0 within)
+    ∙ filter-append passes (translated by (take i words)) (bit_xor (get_or words i 0) by ∷ [])
     ∙ ap (λ b. selected n by w (take i words) ++ cond b (bit_xor (get_or words i 0) by ∷ []) []) (ne_eqb (weight n (bit_xor (get_or words i 0) by)) w other)
     ∙ append-nil (selected n by w (take i words))
 
 -- a sum of the weight is among those that are selected
-pub selected-some : (n by w : ℕ) (words : List ℕ) (i : ℕ) → i < length words → weight n (bit_xor (get_or words i 0) by) ≡ w → selected n by w words ≢ []
+pub selected-some : (n by w : ℕ) (words : List ℕ) (i : ℕ) → i < length words → weight n (bit_xor (get_or words i 0) by) ≡ w
+    → selected n by w words ≢ []
 selected-some n by w [] i within is = absurd (omega arith)
 selected-some n by w (x ∷ xs) zero within is = λ none.
     let first : selected n by w (x ∷ xs) ≡ bit_xor x by ∷ selected n by w xs = rw (eq-eqb (weight n (bit_xor x by)) w is) refl in

@@ -92,10 +92,7 @@ fn one_heavier(w: Option<u32>) -> Option<u32>
     requires { ForSome w (λ k. k ≤ MAX_N) }
     ensures { result ≡ option_map (λ k. k + 1) w }
 {
-    match w {
-        Some(w) => Some(w + 1),
-        None => None,
-    }
+    w.map(|k| k + 1)
 }
 
 /// The least even weight from the weight on, where there is one.
@@ -103,8 +100,5 @@ fn even_weight(w: Option<u32>) -> Option<u32>
     requires { ForSome w (λ k. k ≤ MAX_N) }
     ensures { result ≡ option_map even_from w }
 {
-    match w {
-        Some(w) => Some(even_from(w)),
-        None => None,
-    }
+    w.map(even_from)
 }

@@ -162,5 +162,9 @@ fn two_words(rt: HostRuntime) -> Result<(), Fail> {
     let part = code_of(alloc, entry, &[0x7fffffe, 0x0000001])?;
     let made = parity(alloc, &part)?;
     assert!(rt; shows(&made, 28, 28, None, &[0x0000003, 0xffffffc]));
+    let made = translate(alloc, &made, 0xfffffff)?;
+    assert!(rt; shows(&made, 28, 28, None, &[0x0000003, 0xffffffc]));
+    let made = complement(alloc, &made)?;
+    assert!(rt; shows(&made, 28, 28, None, &[0x0000003, 0xffffffc]));
     Ok(())
 }

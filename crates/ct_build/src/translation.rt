@@ -107,8 +107,5 @@ fn complement_weight(n: u32, w: Option<u32>) -> Option<u32>
     requires { ForSome w (λ k. k ≤ n) }
     ensures { result ≡ option_map (λ k. n - k) w }
 {
-    match w {
-        Some(w) => Some(n - w),
-        None => None,
-    }
+    w.map(|k| n - k)
 }

@@ -14,7 +14,7 @@ use Rattle.ct_codes.specs.declared.entry.Entry.{Entry}
 use Rattle.ct_codes.specs.declared.fault.CodeFault.TheVariants.{Size, Work}
 use Rattle.ct_codes.specs.declared.fault.TheConstants.{MAX_REPRESENTATIVES, MAX_COSET_WORK}
 use Rattle.ct_codes.specs.Entry.{IsEntry}
-use Rattle.ct_codes.specs.Code.{IsCodeOf, IsSoundCode}
+use Rattle.ct_codes.specs.Code.{IsCodeOf, IsSoundCode, IsTrueLower}
 use Rattle.ct_codes.specs.Check.{close_fault}
 use Rattle.ct_codes.specs.Coset.{span_word, choice_count, coset_list, coset_work, coset_size_fault, coset_work_fault, coset_fault, CosetValue, IsSoundCosetCode}
 use Rattle.ct_codes.proofs.PairLemmas.{position_cases}
@@ -288,6 +288,10 @@ choice_count-pos basis representatives some =
     let more : 1 * 2 ^ length basis ≤ length representatives * 2 ^ length basis = mul-le-mul_right (2 ^ length basis) some in
     let span = pow_pos (length basis) in
     omega arith
+
+-- their number is a true lower bound of the entry
+pub choice_count-lower : (c : CosetValue) → IsSoundCosetCode c → IsTrueLower c.entry (choice_count c.basis c.representatives)
+choice_count-lower c sound = (coset_list c.basis c.representatives, sound.code, length-coset_list c.basis c.representatives)
 
 -- the words of all choices in order are a code
 pub sound_listed : (c : CosetValue) (words : List ℕ) → IsSoundCosetCode c → IsPermutation (coset_list c.basis c.representatives) words → IsSorted nat_cmp words

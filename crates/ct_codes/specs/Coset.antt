@@ -29,7 +29,7 @@ choice_word basis representatives t =
 unfoldable pub coset_list : List ℕ → List ℕ → List ℕ
 coset_list basis representatives = tabulate (choice_word basis representatives) (choice_count basis representatives)
 
--- r(r + 1)/2 · 2^k: how many sums of two of the r representatives, and of one with itself, and of basis words there are
+-- r(r + 1)/2 · 2^k over r representatives and k basis words: the pairs of a representative with itself or a later one, for each sum of basis words
 abbrev pub coset_work : List ℕ → List ℕ → ℕ
 coset_work basis representatives = length representatives * (length representatives + 1) / 2 * 2 ^ length basis
 

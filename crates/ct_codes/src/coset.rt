@@ -3,7 +3,7 @@
 ghost use Rattle.std.specs.Prelude.{◌≡◌, ◌≢◌, ◌^◌, ◌<◌, ◌≤◌, length, All, IfOk, IfErr, OnOk, IsPermutation};
 ghost use Rattle.ct_words.specs.declared.limits.TheConstants.{MAX_N};
 ghost use Rattle.ct_codes.specs.Entry.{IsEntry};
-ghost use Rattle.ct_codes.specs.Code.{IsSoundCode};
+ghost use Rattle.ct_codes.specs.Code.{IsSoundCode, IsTrueLower};
 ghost use Rattle.ct_codes.specs.Check.{close_fault};
 ghost use Rattle.ct_codes.specs.Coset.{choice_count, coset_list, coset_size_fault, coset_work_fault, coset_fault, CosetValue, IsSoundCosetCode};
 
@@ -151,6 +151,7 @@ impl CosetCode {
     /// The number of choices, from 1 to `MAX_COSET_WORK`: so many words the code has.
     pub fn size(&self) -> u32
         ensures value { result ≡ choice_count self.now.basis self.now.representatives }
+        ensures lower { IsTrueLower self.now.entry result }
         ensures sound { IsSoundCosetCode self.now }
     {
         (self.representatives.len() << self.basis.len()) as u32

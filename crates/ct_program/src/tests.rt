@@ -149,7 +149,7 @@ const DOCUMENTS: [Line; 24] = [
     (b"kind='words'\nn=10\nd=6\nwords=[]", b"refused size 0"),
     (
         b"kind='words'\nn=10\nd=6\nw=5\nwords=['0000000000']",
-        b"refused unknown",
+        b"refused weight 0",
     ),
     (
         b"kind='words'\nn=10\nd=6\nwords=['00000000a0','1111100000']",

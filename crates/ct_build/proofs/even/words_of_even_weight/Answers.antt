@@ -16,5 +16,6 @@ loop-word-preserved c =
           ap (λ v. v.items) w.words-is ∙ w.in_ok-push.ensures.items ∙ ap (λ z. z ++ word ∷ []) c.loop-word.invariant
           ∙ sym (even_words-more_yes n word (parity_is ∙ w.if-weight-eq0.true))
       | else-weight-eq0 w ↦
-          ap (λ v. v.items) w.words-is ∙ c.loop-word.invariant ∙ sym (even_words-more_no n word (λ even. w.if-weight-eq0.false (sym parity_is ∙ even)))
+          ap (λ v. v.items) w.words-is ∙ c.loop-word.invariant
+          ∙ sym (even_words-more_no n word (λ even. w.if-weight-eq0.false (sym parity_is ∙ even)))
     ]

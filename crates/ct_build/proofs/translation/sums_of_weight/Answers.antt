@@ -10,7 +10,8 @@ use Rattle.ct_build.proofs.translation.sums_of_weight.Goals as goal
 use Rattle.ct_build.proofs.translation.sums_of_weight.Goals.{then-weight-w+in_ok-push, else-weight-w}
 
 -- a sum of a word of a code and a word is a word of the code's length
-sum_below : (code : CodeValue) (by i : ℕ) → IsSoundCode code → by < 2 ^ code.n → i < length code.words → bit_xor (get_or code.words i 0) by < 2 ^ code.n
+sum_below : (code : CodeValue) (by i : ℕ) → IsSoundCode code → by < 2 ^ code.n → i < length code.words
+    → bit_xor (get_or code.words i 0) by < 2 ^ code.n
 sum_below code by i sound below within = xor_lt code.n (get_or code.words i 0) by (sound.code.lengths i 0 within) below
 
 pub returns-in_err-push-clause-some : goal.returns-in_err-push-clause-some
@@ -35,7 +36,8 @@ loop-word-preserved c =
     let is = sym (c.weight.ensures part.n (subst (λ x. bit_xor x c.args.by < 2 ^ part.n) (sym word_is) below)) in
     elim c.if-weight-w.branch [
       | then-weight-w+in_ok-push w ↦
-          ap (λ v. v.items) w.chosen-is ∙ w.in_ok-push.ensures.items ∙ ap (λ z. z ++ bit_xor (get_or words i 0) c.args.by ∷ []) c.loop-word.invariant
+          ap (λ v. v.items) w.chosen-is ∙ w.in_ok-push.ensures.items
+          ∙ ap (λ z. z ++ bit_xor (get_or words i 0) c.args.by ∷ []) c.loop-word.invariant
           ∙ sym (selected-more_yes part.n c.args.by c.args.w words i c.loop-word-test.true (is ∙ w.if-weight-w.true))
       | else-weight-w w ↦
           ap (λ v. v.items) w.chosen-is ∙ c.loop-word.invariant
