@@ -6,6 +6,7 @@ pub mod FrontLemmas
 pub mod EvenLemmas
 pub mod JoinedLemmas
 pub mod FarWords
+pub mod SortedCodes
 pub mod JuxtaposedCodes
 pub mod UuvCodes
 pub mod PlaceLemmas

@@ -31,6 +31,7 @@ pub use laws::{
 };
 pub use numbers::Numbers;
 pub use parts_and_sums::{uuv, uuv_codes};
+pub use places::digits_at_places;
 pub use punctured::{puncture, punctured_codes};
 pub use shortened::{shorten, shortened_codes};
 pub use step::Step;
