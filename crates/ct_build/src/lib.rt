@@ -2,15 +2,19 @@
 #![tactic(auto)]
 
 mod append;
+mod build_faults;
+mod building;
+mod built_words;
 mod even;
 mod fault;
 mod front;
-mod laws;
 mod juxtaposed;
+mod laws;
 mod numbers;
 mod parts_and_sums;
 mod places;
 mod punctured;
+mod right_parts;
 mod shortened;
 mod sorted;
 mod step;
@@ -21,14 +25,15 @@ mod tests_places;
 mod translation;
 
 pub use append::{append_one, lengthen, parity};
+pub use building::{MAX_BUILT, apply};
 pub use even::even_words;
 pub use fault::BuildFault;
 pub use front::trim;
+pub use juxtaposed::{juxtapose, juxtaposed_codes};
 pub use laws::{
     digits_of_constructions, even_words_are_a_code, longer_words_are_codes,
     parts_of_codes_are_codes, sizes_of_constructions, translated_words_are_codes,
 };
-pub use juxtaposed::{juxtapose, juxtaposed_codes};
 pub use numbers::Numbers;
 pub use parts_and_sums::{uuv, uuv_codes};
 pub use punctured::{puncture, punctured_codes};
