@@ -1,7 +1,8 @@
 //! Why a step does not build a code of a stated entry.
 
-ghost use Rattle.std.specs.Prelude.{◌≡◌, ◌≤◌, nat_lt, if◌then◌else◌, length, Some, None};
-ghost use Rattle.std.specs.Option.{option_copied};
+ghost use Rattle.std.specs.Prelude.{◌≡◌, ◌≤◌, nat_lt, if◌then◌else◌, length, Some, None, IfNone};
+ghost use Rattle.std.specs.Option.{option_copied, ForSome};
+ghost use Rattle.ct_codes.specs.Code.{IsSoundCode};
 ghost use Rattle.ct_codes.specs.declared.code.TheConstants.{MAX_CODE_DISTANCE};
 ghost use Rattle.ct_codes.specs.declared.entry.Entry.{Entry};
 ghost use Rattle.ct_build.specs.declared.fault.BuildFault.TheVariants.{Few};
@@ -23,7 +24,9 @@ pub(crate) fn early_fault(
     other: Option<&Code>,
 ) -> Option<BuildFault>
     requires fits { FitsStated step.now stated }
-    ensures { result ≡ early_fault step.now stated part.now (option_copied other.entry) }
+    ensures fault { result ≡ early_fault step.now stated part.now (option_copied other.entry) }
+    ensures part { IfNone result (IsSoundCode part.now) }
+    ensures other { IfNone result (ForSome (option_copied other.entry) IsSoundCode) }
 {
     if let Some(fault) = part_fault(step, stated, part) {
         return Some(fault);
@@ -86,7 +89,7 @@ fn step_distance(step: &Step, d: u32, e: u32) -> u32
 {
     match step {
         Step::Parity | Step::Select(_) => even_from(d),
-        Step::Puncture(places) => d.saturating_sub(places.as_slice().len() as u32),
+        Step::Puncture(places) => (d as usize).saturating_sub(places.as_slice().len()) as u32,
         Step::Uuv => (2 * d).min(e),
         Step::Juxtapose => d + e,
         _ => d,
@@ -97,6 +100,7 @@ fn step_distance(step: &Step, d: u32, e: u32) -> u32
 fn distance_of(other: Option<&Code>) -> u32
     ensures value { result ≡ distance_of (option_copied other.entry) }
     ensures limit { result ≤ MAX_CODE_DISTANCE }
+    ensures sound { ForSome (option_copied other.entry) IsSoundCode }
 {
     match other {
         Some(code) => code.d(),

@@ -75,7 +75,7 @@ fn words_with_sums(
 ) -> Result<Vec<Word>, AllocError>
     requires room { 2 * part.now.n ≤ MAX_N }
     requires lengths { ForSome (option_copied other) (λ o. o.n ≡ part.now.n) }
-    ensures { (e : Entry) → IfOk result (λ v. v.items ≡ built Uuv e part.now (option_copied other.entry)) }
+    ensures { (e : Entry) → IfOk result (λ v. IsPermutation (built Uuv e part.now (option_copied other.entry)) v.items) }
 {
     match other {
         Some(other) => words_and_sums(alloc, part.n(), part.words(), other.words()),
@@ -91,7 +91,7 @@ fn words_side_by_side(
     other: Option<&Code>,
 ) -> Result<Vec<Word>, AllocError>
     requires { ForSome (option_copied other) (λ o. part.now.n + o.n ≤ MAX_N) }
-    ensures { (e : Entry) → IfOk result (λ v. v.items ≡ built Juxtapose e part.now (option_copied other.entry)) }
+    ensures { (e : Entry) → IfOk result (λ v. IsPermutation (built Juxtapose e part.now (option_copied other.entry)) v.items) }
 {
     match other {
         Some(other) => joined_words(alloc, part.words(), other.n(), other.words()),
