@@ -5,6 +5,7 @@ use Rattle.ct_words.specs.Word.{weight}
 use Rattle.ct_codes.specs.declared.entry.Entry.{Entry}
 use Rattle.ct_codes.specs.Code.{CodeValue}
 use Rattle.ct_codes.specs.Pairs.{first_of}
+use Rattle.ct_codes.proofs.CheckLemmas.{first_of-None}
 use Rattle.ct_build.specs.declared.building.TheConstants.{MAX_BUILT}
 use Rattle.ct_build.specs.declared.fault.BuildFault.{BuildFault}
 use Rattle.ct_build.specs.declared.fault.BuildFault.TheVariants.{Size, Empty}
@@ -12,7 +13,7 @@ use Rattle.ct_build.specs.declared.step.Step.{Step}
 use Rattle.ct_build.specs.declared.step.Step.TheVariants.{Lengthen, AppendOne, Parity, Puncture, Shorten, Translate, Complement, Select, Uuv, Juxtapose, Trim}
 use Rattle.ct_build.specs.Translation.{translated}
 use Rattle.ct_build.specs.Shortened.{has_digits, shortened}
-use Rattle.ct_build.specs.Build.{words_of, other_of, above_limit, selected_of, built, size_fault, empty_fault, early_fault, build_fault}
+use Rattle.ct_build.specs.Build.{words_of, distance_of, other_of, is_right_other, step_distance, part_fault, other_fault, short_fault, above_limit, selected_of, built, size_fault, empty_fault, early_fault, build_fault}
 use Rattle.ct_build.proofs.AppendLemmas.{length-lengthened, length-one_appended, length-with_parity}
 use Rattle.ct_build.proofs.TranslationLemmas.{length-translated, length-complemented}
 use Rattle.ct_build.proofs.PuncturedCodes.{length-punctured}
@@ -110,3 +111,66 @@ fault_none step e part other is some = rw is (go (built step e part other) some)
     go : (words : List ℕ) → 1 ≤ length words → empty_fault words ≡ None
     go [] h = absurd (omega arith)
     go (x ∷ xs) h = refl
+
+-- what is known where there is no reason
+pub early_none : (step : Step) (e : Entry) (part : CodeValue) (other : Option CodeValue) → build_fault step e part other ≡ None
+    → (early_fault step e part other ≡ None) × (empty_fault (built step e part other) ≡ None)
+unfolding build_fault
+early_none step e part other none = first_of-None (early_fault step e part other) (empty_fault (built step e part other)) none
+
+some_words : (words : List ℕ) → empty_fault words ≡ None → 1 ≤ length words
+some_words [] h = cc
+some_words (x ∷ xs) h = omega arith
+
+size_none : (step : Step) (e : Entry) (part : CodeValue) (other : Option CodeValue) → early_fault step e part other ≡ None → size_fault step e part other ≡ None
+unfolding early_fault
+size_none step e part other none =
+    let one = first_of-None (part_fault step e part) _ none in
+    let two = first_of-None (other_fault step e part other) _ one.1 in
+    let three = first_of-None (short_fault (step_distance step part.d (distance_of other)) e.d) _ two.1 in
+    let four = first_of-None (size_fault step e part other) _ three.1 in
+    four.0
+
+few_words : (step : Step) (e : Entry) (part : CodeValue) (other : Option CodeValue) → size_fault step e part other ≡ None → length (built step e part other) ≤ MAX_BUILT
+unfolding size_fault
+few_words step e part other none =
+    let one = first_of-None (above_limit (length part.words)) _ none in
+    let two = first_of-None (above_limit (length (words_of (other_of step other)))) _ one.1 in
+    few_from (length (built step e part other)) two.1
+
+-- a step against which there is no reason makes 1 to MAX_BUILT words
+pub built-size : (step : Step) (e : Entry) (part : CodeValue) (other : Option CodeValue) → build_fault step e part other ≡ None
+    → (1 ≤ length (built step e part other)) × (length (built step e part other) ≤ MAX_BUILT)
+built-size step e part other none =
+    let both = early_none step e part other none in
+    (some_words (built step e part other) both.1, few_words step e part other (size_none step e part other both.0))
+
+-- a step that needs no other code does not look at one
+pub built-alone : (step : Step) (e : Entry) (part : CodeValue) (other : Option CodeValue) → step ≢ Uuv → step ≢ Juxtapose → built step e part other ≡ built step e part None
+unfolding built
+built-alone Lengthen e part other u j = refl
+built-alone AppendOne e part other u j = refl
+built-alone Parity e part other u j = refl
+built-alone (Puncture places) e part other u j = refl
+built-alone (Shorten places digits) e part other u j = refl
+built-alone (Translate by) e part other u j = refl
+built-alone Complement e part other u j = refl
+built-alone (Select by) e part other u j = refl
+built-alone Uuv e part other u j = absurd (u refl)
+built-alone Juxtapose e part other u j = absurd (j refl)
+built-alone (Trim size) e part other u j = refl
+
+pub fault-alone : (step : Step) (e : Entry) (part : CodeValue) (other : Option CodeValue) → step ≢ Uuv → step ≢ Juxtapose
+    → build_fault step e part other ≡ build_fault step e part None
+unfolding built is_right_other other_of step_distance size_fault early_fault build_fault
+fault-alone Lengthen e part other u j = refl
+fault-alone AppendOne e part other u j = refl
+fault-alone Parity e part other u j = refl
+fault-alone (Puncture places) e part other u j = refl
+fault-alone (Shorten places digits) e part other u j = refl
+fault-alone (Translate by) e part other u j = refl
+fault-alone Complement e part other u j = refl
+fault-alone (Select by) e part other u j = refl
+fault-alone Uuv e part other u j = absurd (u refl)
+fault-alone Juxtapose e part other u j = absurd (j refl)
+fault-alone (Trim size) e part other u j = refl

@@ -4,6 +4,7 @@
 mod append;
 mod build_faults;
 mod building;
+mod building_laws;
 mod built_words;
 mod even;
 mod fault;
@@ -26,6 +27,7 @@ mod translation;
 
 pub use append::{append_one, lengthen, parity};
 pub use building::{MAX_BUILT, apply};
+pub use building_laws::{builds_are_codes_of_the_entry, known_builds};
 pub use even::even_words;
 pub use fault::BuildFault;
 pub use front::trim;
