@@ -20,6 +20,8 @@ mod shortened;
 mod sorted;
 mod step;
 #[cfg(test)]
+mod tests_apply;
+#[cfg(test)]
 mod tests_digits;
 #[cfg(test)]
 mod tests_places;
