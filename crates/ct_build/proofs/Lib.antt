@@ -13,3 +13,6 @@ pub mod PlaceLemmas
 pub mod ReadLemmas
 pub mod PuncturedCodes
 pub mod ShortenedCodes
+pub mod StepLemmas
+pub mod BuiltCodes
+pub mod BuildFaults

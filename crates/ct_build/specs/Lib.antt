@@ -7,3 +7,4 @@ pub mod Uuv
 pub mod Places
 pub mod Punctured
 pub mod Shortened
+pub mod Build

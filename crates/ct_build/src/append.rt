@@ -61,7 +61,11 @@ pub fn parity(alloc: Global, part: &Code) -> Result<Code, AllocError>
 }
 
 /// The words of the part, each followed by the digit.
-fn followed_by_digit(alloc: Global, part: &Code, digit: u32) -> Result<Vec<Word>, AllocError>
+pub(crate) fn followed_by_digit(
+    alloc: Global,
+    part: &Code,
+    digit: u32,
+) -> Result<Vec<Word>, AllocError>
     requires short { part.now.n < MAX_N }
     requires digit { digit < 2 }
     ensures { IfOk result (λ v. v.items ≡ map (λ x. followed_by 1 x digit) part.now.words) }
@@ -75,7 +79,7 @@ fn followed_by_digit(alloc: Global, part: &Code, digit: u32) -> Result<Vec<Word>
 }
 
 /// The words of the part, each followed by the parity of its weight.
-fn followed_by_parity(alloc: Global, part: &Code) -> Result<Vec<Word>, AllocError>
+pub(crate) fn followed_by_parity(alloc: Global, part: &Code) -> Result<Vec<Word>, AllocError>
     requires { part.now.n < MAX_N }
     ensures { IfOk result (λ v. v.items ≡ with_parity part.now.n part.now.words) }
 {

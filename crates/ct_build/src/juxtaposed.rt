@@ -31,7 +31,7 @@ pub fn juxtapose(alloc: Global, part: &Code, other: &Code) -> Result<Code, Alloc
 }
 
 /// The words of the first list, each followed by the word of length m of the second at the same place.
-fn joined_words(
+pub(crate) fn joined_words(
     alloc: Global,
     first: &[Word],
     m: u32,

@@ -2,6 +2,10 @@
 #![tactic(auto)]
 
 mod append;
+mod build_faults;
+mod building;
+mod building_laws;
+mod built_words;
 mod even;
 mod fault;
 mod front;
@@ -11,9 +15,12 @@ mod numbers;
 mod parts_and_sums;
 mod places;
 mod punctured;
+mod right_parts;
 mod shortened;
 mod sorted;
 mod step;
+#[cfg(test)]
+mod tests_apply;
 #[cfg(test)]
 mod tests_digits;
 #[cfg(test)]
@@ -21,6 +28,8 @@ mod tests_places;
 mod translation;
 
 pub use append::{append_one, lengthen, parity};
+pub use building::{MAX_BUILT, apply};
+pub use building_laws::{builds_are_codes_of_the_entry, known_builds};
 pub use even::even_words;
 pub use fault::BuildFault;
 pub use front::trim;

@@ -29,7 +29,12 @@ pub fn uuv(alloc: Global, part: &Code, other: &Code) -> Result<Code, AllocError>
 }
 
 /// The words u followed by u + v, of words u and v of length n.
-fn words_and_sums(alloc: Global, n: u32, us: &[Word], vs: &[Word]) -> Result<Vec<Word>, AllocError>
+pub(crate) fn words_and_sums(
+    alloc: Global,
+    n: u32,
+    us: &[Word],
+    vs: &[Word],
+) -> Result<Vec<Word>, AllocError>
     requires length { 2 * n ≤ MAX_N }
     requires first { All (λ u. u < 2 ^ n) us.now }
     requires second { All (λ v. v < 2 ^ n) vs.now }

@@ -30,7 +30,7 @@ pub fn puncture(alloc: Global, part: &Code, places: &[u32]) -> Result<Code, Allo
 }
 
 /// The words of length n without the places.
-fn punctured_words(
+pub(crate) fn punctured_words(
     alloc: Global,
     n: u32,
     places: &[u32],

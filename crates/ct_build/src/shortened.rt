@@ -48,7 +48,7 @@ pub fn shorten(
 
 /// The words of length n that have the digits at the places, without these places. Want of memory never comes where there
 /// is none.
-fn shortened_words(
+pub(crate) fn shortened_words(
     alloc: Global,
     n: u32,
     places: &[u32],
@@ -75,8 +75,15 @@ fn weight_without(w: Option<u32>, digits: &[u32]) -> Option<u32>
     requires { length digits.now ≤ MAX_N }
     ensures { result ≡ shortened_weight digits.now w }
 {
-    let ones = digits.iter().filter(|a| **a == 1).count() as u32;
+    let ones = ones_among(digits) as u32;
     w.map(|k| k.saturating_sub(ones))
+}
+
+/// The number of ones among the digits.
+pub(crate) fn ones_among(digits: &[u32]) -> usize
+    ensures { result ≡ count_by (λ a. a == 1) digits.now }
+{
+    digits.iter().filter(|a| **a == 1).count()
 }
 
 /// A shortened code is a code, whatever list of words it is. It has as many words as have the digits at the places; at one

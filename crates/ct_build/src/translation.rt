@@ -68,7 +68,7 @@ pub fn select_weight(alloc: Global, part: &Code, by: Word, w: u32) -> Result<Cod
 }
 
 /// The sums of each word and the word `by`, in ascending order.
-fn sorted_sums(alloc: Global, words: &[Word], by: Word) -> Result<Vec<Word>, AllocError>
+pub(crate) fn sorted_sums(alloc: Global, words: &[Word], by: Word) -> Result<Vec<Word>, AllocError>
     ensures permutation { IfOk result (λ v. IsPermutation (translated by words.now) v.items) }
     ensures sorted { IfOk result (λ v. IsSorted nat_cmp v.items) }
 {
@@ -78,7 +78,12 @@ fn sorted_sums(alloc: Global, words: &[Word], by: Word) -> Result<Vec<Word>, All
 }
 
 /// The words of weight w among the sums of each word of the part and the word `by`. It fails only where there is one.
-fn sums_of_weight(alloc: Global, part: &Code, by: Word, w: u32) -> Result<Vec<Word>, AllocError>
+pub(crate) fn sums_of_weight(
+    alloc: Global,
+    part: &Code,
+    by: Word,
+    w: u32,
+) -> Result<Vec<Word>, AllocError>
     requires { by < 2 ^ part.now.n }
     ensures words { IfOk result (λ v. v.items ≡ selected part.now.n by w part.now.words) }
     ensures some { OnErr result (selected part.now.n by w part.now.words ≢ []) }
@@ -95,7 +100,7 @@ fn sums_of_weight(alloc: Global, part: &Code, by: Word, w: u32) -> Result<Vec<Wo
 }
 
 /// The word of length n with the digit 1 at each place.
-fn all_ones(n: u32) -> Word
+pub(crate) fn all_ones(n: u32) -> Word
     requires { n ≤ MAX_N }
     ensures { result ≡ all_ones n }
 {

@@ -1,0 +1,176 @@
+-- How many words a step makes, and when nothing is told against it.
+use Rattle.std.proofs.Common.{◌≡◌, ◌≢◌, ℕ, suc, ◌+◌, ◌*◌, ◌-◌, ◌<◌, ◌≤◌, ◌==◌, Bool, true, false, nat_lt, if◌then◌else◌, List, [], ◌∷◌, length, take, filter, min, Option, Some, None, refl, ap, sym, subst, ◌∙◌, arith, ltb-true, ltb-false, length-take}
+use Rattle.std.proofs.lemmas.List.Sums.{length-filter, count_by-le-length}
+use Rattle.ct_words.specs.Word.{weight}
+use Rattle.ct_codes.specs.declared.entry.Entry.{Entry}
+use Rattle.ct_codes.specs.Code.{CodeValue}
+use Rattle.ct_codes.specs.Pairs.{first_of}
+use Rattle.ct_codes.proofs.CheckLemmas.{first_of-None}
+use Rattle.ct_build.specs.declared.building.TheConstants.{MAX_BUILT}
+use Rattle.ct_build.specs.declared.fault.BuildFault.{BuildFault}
+use Rattle.ct_build.specs.declared.fault.BuildFault.TheVariants.{Size, Empty}
+use Rattle.ct_build.specs.declared.step.Step.{Step}
+use Rattle.ct_build.specs.declared.step.Step.TheVariants.{Lengthen, AppendOne, Parity, Puncture, Shorten, Translate, Complement, Select, Uuv, Juxtapose, Trim}
+use Rattle.ct_build.specs.Translation.{translated}
+use Rattle.ct_build.specs.Shortened.{has_digits, shortened}
+use Rattle.ct_build.specs.Build.{words_of, distance_of, other_of, is_right_other, step_distance, part_fault, other_fault, short_fault, above_limit, selected_of, built, size_fault, empty_fault, early_fault, build_fault}
+use Rattle.ct_build.proofs.AppendLemmas.{length-lengthened, length-one_appended, length-with_parity}
+use Rattle.ct_build.proofs.TranslationLemmas.{length-translated, length-complemented}
+use Rattle.ct_build.proofs.PuncturedCodes.{length-punctured}
+use Rattle.ct_build.proofs.ShortenedCodes.{length-shortened}
+use Rattle.ct_build.proofs.UuvCodes.{length-uuv_words}
+use Rattle.ct_build.proofs.JuxtaposedCodes.{length-juxtaposed}
+
+shortened-few : (n : ℕ) (places digits words : List ℕ) → length (shortened n places digits words) ≤ length words
+shortened-few n places digits words =
+    let is = length-shortened n places digits words in
+    let few = count_by-le-length (has_digits n places digits) words in
+    omega arith
+
+selected-few : (w : Option ℕ) (n by : ℕ) (words : List ℕ) → length (selected_of w n by words) ≤ length words
+selected-few None n by words = omega arith
+selected-few (Some w) n by words =
+    let is = length-filter (λ x. weight n x == w) (translated by words) in
+    let few = count_by-le-length (λ x. weight n x == w) (translated by words) in
+    let all = length-translated by words in
+    omega arith
+
+-- no step but u | u + v makes more words than the part has
+pub built-few : (step : Step) (e : Entry) (part : CodeValue) (other : Option CodeValue) → step ≢ Uuv → length (built step e part other) ≤ length part.words
+unfolding built
+built-few Lengthen e part other unlike = let is = length-lengthened part.words in omega arith
+built-few AppendOne e part other unlike = let is = length-one_appended part.words in omega arith
+built-few Parity e part other unlike = let is = length-with_parity part.n part.words in omega arith
+built-few (Puncture places) e part other unlike = let is = length-punctured part.n places part.words in omega arith
+built-few (Shorten places digits) e part other unlike = shortened-few part.n places digits part.words
+built-few (Translate by) e part other unlike = let is = length-translated by part.words in omega arith
+built-few Complement e part other unlike = let is = length-complemented part.n part.words in omega arith
+built-few (Select by) e part other unlike = selected-few e.w part.n by part.words
+built-few Uuv e part other unlike = absurd (unlike refl)
+built-few Juxtapose e part None unlike = omega arith
+built-few Juxtapose e part (Some o) unlike = let is = length-juxtaposed o.n part.words o.words in omega arith
+built-few (Trim size) e part other unlike = let is = length-take size part.words in omega arith
+
+-- and that one a word for each pair
+pub built-uuv : (e : Entry) (part : CodeValue) (other : Option CodeValue)
+    → length (built Uuv e part other) ≡ length part.words * length (words_of (other_of Uuv other))
+unfolding built other_of
+built-uuv e part None = omega arith
+built-uuv e part (Some o) = length-uuv_words part.n part.words o.words
+
+none_above : (count : ℕ) → count ≤ MAX_BUILT → above_limit count ≡ None
+none_above count few = go (nat_lt MAX_BUILT count) refl
+  where
+    go : (b : Bool) → nat_lt MAX_BUILT count ≡ b → (if b then Some (Size count) else None) ≡ None
+    go true h = absurd (omega (arith, ltb-true MAX_BUILT count h))
+    go false h = refl
+
+few_from : (count : ℕ) → above_limit count ≡ None → count ≤ MAX_BUILT
+few_from count none = go (nat_lt MAX_BUILT count) refl none
+  where
+    go : (b : Bool) → nat_lt MAX_BUILT count ≡ b → (if b then Some (Size count) else None) ≡ None → count ≤ MAX_BUILT
+    go true h none' = cc
+    go false h none' = ltb-false MAX_BUILT count h
+
+-- the sizes, where those of the parts are within the limit
+pub size_of_uuv : (e : Entry) (part : CodeValue) (other : Option CodeValue) → above_limit (length part.words) ≡ None
+    → above_limit (length (words_of (other_of Uuv other))) ≡ None
+    → size_fault Uuv e part other ≡ above_limit (length part.words * length (words_of (other_of Uuv other)))
+unfolding size_fault
+size_of_uuv e part other first second = rw (first, second) (ap above_limit (built-uuv e part other))
+
+pub size_of_others : (step : Step) (e : Entry) (part : CodeValue) (other : Option CodeValue) → step ≢ Uuv → above_limit (length part.words) ≡ None
+    → above_limit (length (words_of (other_of step other))) ≡ None
+    → size_fault step e part other ≡ None
+unfolding size_fault
+size_of_others step e part other unlike first second =
+    let few = built-few step e part other unlike in
+    let within = few_from (length part.words) first in
+    rw (first, second) (none_above (length (built step e part other)) (omega arith))
+
+-- the first reason, told from the earlier ones and the number of words
+pub fault_early : (step : Step) (e : Entry) (part : CodeValue) (other : Option CodeValue) (f : BuildFault) → early_fault step e part other ≡ Some f
+    → build_fault step e part other ≡ Some f
+unfolding build_fault
+fault_early step e part other f is = rw is refl
+
+pub fault_empty : (step : Step) (e : Entry) (part : CodeValue) (other : Option CodeValue) → early_fault step e part other ≡ None
+    → length (built step e part other) ≡ 0 → build_fault step e part other ≡ Some Empty
+unfolding build_fault
+fault_empty step e part other is none = rw is (go (built step e part other) none)
+  where
+    go : (words : List ℕ) → length words ≡ 0 → empty_fault words ≡ Some Empty
+    go [] h = refl
+    go (x ∷ xs) h = absurd (omega arith)
+
+pub fault_none : (step : Step) (e : Entry) (part : CodeValue) (other : Option CodeValue) → early_fault step e part other ≡ None
+    → 1 ≤ length (built step e part other) → build_fault step e part other ≡ None
+unfolding build_fault
+fault_none step e part other is some = rw is (go (built step e part other) some)
+  where
+    go : (words : List ℕ) → 1 ≤ length words → empty_fault words ≡ None
+    go [] h = absurd (omega arith)
+    go (x ∷ xs) h = refl
+
+-- what is known where there is no reason
+pub early_none : (step : Step) (e : Entry) (part : CodeValue) (other : Option CodeValue) → build_fault step e part other ≡ None
+    → (early_fault step e part other ≡ None) × (empty_fault (built step e part other) ≡ None)
+unfolding build_fault
+early_none step e part other none = first_of-None (early_fault step e part other) (empty_fault (built step e part other)) none
+
+some_words : (words : List ℕ) → empty_fault words ≡ None → 1 ≤ length words
+some_words [] h = cc
+some_words (x ∷ xs) h = omega arith
+
+size_none : (step : Step) (e : Entry) (part : CodeValue) (other : Option CodeValue) → early_fault step e part other ≡ None → size_fault step e part other ≡ None
+unfolding early_fault
+size_none step e part other none =
+    let one = first_of-None (part_fault step e part) _ none in
+    let two = first_of-None (other_fault step e part other) _ one.1 in
+    let three = first_of-None (short_fault (step_distance step part.d (distance_of other)) e.d) _ two.1 in
+    let four = first_of-None (size_fault step e part other) _ three.1 in
+    four.0
+
+few_words : (step : Step) (e : Entry) (part : CodeValue) (other : Option CodeValue) → size_fault step e part other ≡ None → length (built step e part other) ≤ MAX_BUILT
+unfolding size_fault
+few_words step e part other none =
+    let one = first_of-None (above_limit (length part.words)) _ none in
+    let two = first_of-None (above_limit (length (words_of (other_of step other)))) _ one.1 in
+    few_from (length (built step e part other)) two.1
+
+-- a step against which there is no reason makes 1 to MAX_BUILT words
+pub built-size : (step : Step) (e : Entry) (part : CodeValue) (other : Option CodeValue) → build_fault step e part other ≡ None
+    → (1 ≤ length (built step e part other)) × (length (built step e part other) ≤ MAX_BUILT)
+built-size step e part other none =
+    let both = early_none step e part other none in
+    (some_words (built step e part other) both.1, few_words step e part other (size_none step e part other both.0))
+
+-- a step that needs no other code does not look at one
+pub built-alone : (step : Step) (e : Entry) (part : CodeValue) (other : Option CodeValue) → step ≢ Uuv → step ≢ Juxtapose → built step e part other ≡ built step e part None
+unfolding built
+built-alone Lengthen e part other u j = refl
+built-alone AppendOne e part other u j = refl
+built-alone Parity e part other u j = refl
+built-alone (Puncture places) e part other u j = refl
+built-alone (Shorten places digits) e part other u j = refl
+built-alone (Translate by) e part other u j = refl
+built-alone Complement e part other u j = refl
+built-alone (Select by) e part other u j = refl
+built-alone Uuv e part other u j = absurd (u refl)
+built-alone Juxtapose e part other u j = absurd (j refl)
+built-alone (Trim size) e part other u j = refl
+
+pub fault-alone : (step : Step) (e : Entry) (part : CodeValue) (other : Option CodeValue) → step ≢ Uuv → step ≢ Juxtapose
+    → build_fault step e part other ≡ build_fault step e part None
+unfolding built is_right_other other_of step_distance size_fault early_fault build_fault
+fault-alone Lengthen e part other u j = refl
+fault-alone AppendOne e part other u j = refl
+fault-alone Parity e part other u j = refl
+fault-alone (Puncture places) e part other u j = refl
+fault-alone (Shorten places digits) e part other u j = refl
+fault-alone (Translate by) e part other u j = refl
+fault-alone Complement e part other u j = refl
+fault-alone (Select by) e part other u j = refl
+fault-alone Uuv e part other u j = absurd (u refl)
+fault-alone Juxtapose e part other u j = absurd (j refl)
+fault-alone (Trim size) e part other u j = refl

@@ -1,0 +1,60 @@
+//! What building by a step gives, whatever the step, the stated entry and the codes, and builds whose answer is known.
+
+ghost use Rattle.std.specs.Prelude.{◌≡◌, ◌≢◌, ℕ, ◌≤◌, List, [], ◌∷◌, length, Option, Some, None, IfSome};
+ghost use Rattle.ct_codes.specs.declared.entry.Entry.{Entry};
+ghost use Rattle.ct_codes.specs.Entry.{unrestricted, constant_weight};
+ghost use Rattle.ct_codes.specs.Code.{CodeValue, IsCode, IsCodeOf};
+ghost use Rattle.ct_build.specs.declared.building.TheConstants.{MAX_BUILT};
+ghost use Rattle.ct_build.specs.declared.fault.BuildFault.TheVariants.{WrongPart, Short, Few, Empty};
+ghost use Rattle.ct_build.specs.declared.step.Step.{Step};
+ghost use Rattle.ct_build.specs.declared.step.Step.TheVariants.{Lengthen, AppendOne, Parity, Puncture, Select, Uuv, Juxtapose, Trim};
+ghost use Rattle.ct_build.specs.Build.{FitsStated, built, build_fault};
+
+/// Where the step fits the stated entry and there is no reason against it, it makes 1 to `MAX_BUILT` words, which are a
+/// code of the entry. A step that needs no other code does not look at one.
+pub fn builds_are_codes_of_the_entry()
+    ensures code { (step : Step) (e : Entry) (part : CodeValue) (other : Option CodeValue) → FitsStated step e →
+        IsCode part.n part.d part.w part.words → IfSome other (λ o. IsCode o.n o.d o.w o.words) →
+        build_fault step e part other ≡ None → IsCodeOf e (built step e part other) }
+    ensures size { (step : Step) (e : Entry) (part : CodeValue) (other : Option CodeValue) →
+        build_fault step e part other ≡ None →
+        (1 ≤ length (built step e part other)) × (length (built step e part other) ≤ MAX_BUILT) }
+    ensures alone_fault { (step : Step) (e : Entry) (part : CodeValue) (other : Option CodeValue) →
+        step ≢ Uuv → step ≢ Juxtapose → build_fault step e part other ≡ build_fault step e part None }
+    ensures alone_words { (step : Step) (e : Entry) (part : CodeValue) (other : Option CodeValue) →
+        step ≢ Uuv → step ≢ Juxtapose → built step e part other ≡ built step e part None }
+{}
+
+/// Builds from the words 000 and 111, a code of distance 3, and from 0011 and 1100, a code of distance 4 and weight 2.
+/// Where two reasons hold, the answer is the first one.
+pub fn known_builds()
+    ensures accepted { build_fault Parity (unrestricted 4 4)
+        (record { n = 3; d = 3; w = None; words = 0b000 ∷ 0b111 ∷ [] }) None ≡ None }
+    ensures words { built Parity (unrestricted 4 4)
+        (record { n = 3; d = 3; w = None; words = 0b000 ∷ 0b111 ∷ [] }) None ≡ 0b0000 ∷ 0b1111 ∷ [] }
+    ensures nearer { build_fault Parity (unrestricted 4 3)
+        (record { n = 3; d = 3; w = None; words = 0b000 ∷ 0b111 ∷ [] }) None ≡ None }
+    // No other code is handed in.
+    ensures part_before_other { build_fault Uuv (unrestricted 8 6)
+        (record { n = 3; d = 3; w = None; words = 0b000 ∷ 0b111 ∷ [] }) None ≡ Some (WrongPart 0) }
+    // The distance is 6, and 7 is wanted.
+    ensures other_before_short { build_fault Juxtapose (unrestricted 7 7)
+        (record { n = 3; d = 3; w = None; words = 0b000 ∷ 0b111 ∷ [] })
+        (Some (record { n = 3; d = 3; w = None; words = 0b000 ∷ 0b111 ∷ [] })) ≡ Some (WrongPart 1) }
+    // There are two words, and three are wanted.
+    ensures short_before_few { build_fault (Trim 3) (unrestricted 3 4)
+        (record { n = 3; d = 3; w = None; words = 0b000 ∷ 0b111 ∷ [] }) None ≡ Some (Short 3 4) }
+    ensures few { build_fault (Trim 3) (unrestricted 3 3)
+        (record { n = 3; d = 3; w = None; words = 0b000 ∷ 0b111 ∷ [] }) None ≡ Some (Few 2 3) }
+    ensures empty { build_fault (Select 0b000) (constant_weight 3 4 2)
+        (record { n = 3; d = 3; w = None; words = 0b000 ∷ 0b111 ∷ [] }) None ≡ Some Empty }
+    ensures weighted { build_fault (Select 0b0000) (constant_weight 4 4 2)
+        (record { n = 4; d = 4; w = Some 2; words = 0b0011 ∷ 0b1100 ∷ [] }) None ≡ Some (WrongPart 0) }
+    ensures weightless { build_fault Lengthen (constant_weight 4 4 0)
+        (record { n = 3; d = 3; w = None; words = 0b000 ∷ 0b111 ∷ [] }) None ≡ Some (WrongPart 0) }
+    ensures one_more { build_fault AppendOne (constant_weight 5 4 3)
+        (record { n = 4; d = 4; w = Some 2; words = 0b0011 ∷ 0b1100 ∷ [] }) None ≡ None }
+    // Four places are left out of words at distance 3.
+    ensures no_distance { build_fault (Puncture (0 ∷ 1 ∷ 2 ∷ 3 ∷ [])) (unrestricted 3 3)
+        (record { n = 7; d = 3; w = None; words = 0b0000000 ∷ 0b1111111 ∷ [] }) None ≡ Some (Short 0 3) }
+{}
