@@ -1,18 +1,20 @@
 -- How many words a step makes, and when nothing is told against it.
-use Rattle.std.proofs.Common.{◌≡◌, ◌≢◌, ℕ, ◌*◌, ◌≤◌, ◌==◌, Bool, true, false, nat_lt, if◌then◌else◌, List, [], ◌∷◌, length, Option, Some, None, refl, ap, arith, ltb-true, ltb-false, length-take}
+use Rattle.std.specs.Prelude.{IfErr}
+use Rattle.std.proofs.Common.{◌&&◌, Result, Ok, Err, ◌≡◌, ◌≢◌, ℕ, ◌*◌, ◌≤◌, ◌==◌, Bool, true, false, nat_lt, if◌then◌else◌, List, [], ◌∷◌, length, take, Option, Some, None, refl, ap, sym, subst, ◌∙◌, arith, ltb-true, ltb-false, length-take}
 use Rattle.std.proofs.lemmas.List.Sums.{length-filter, count_by-le-length}
 use Rattle.ct_words.specs.Word.{weight}
 use Rattle.ct_codes.specs.declared.entry.Entry.{Entry}
 use Rattle.ct_codes.specs.Code.{CodeValue}
+use Rattle.ct_codes.specs.Pairs.{first_of}
 use Rattle.ct_codes.proofs.CheckLemmas.{first_of-None}
 use Rattle.ct_build.specs.declared.building.TheConstants.{MAX_BUILT}
 use Rattle.ct_build.specs.declared.fault.BuildFault.{BuildFault}
-use Rattle.ct_build.specs.declared.fault.BuildFault.TheVariants.{Size, Empty}
+use Rattle.ct_build.specs.declared.fault.BuildFault.TheVariants.{Size, Few, Empty, Memory}
 use Rattle.ct_build.specs.declared.step.Step.{Step}
 use Rattle.ct_build.specs.declared.step.Step.TheVariants.{Lengthen, AppendOne, Parity, Puncture, Shorten, Translate, Complement, Select, Uuv, Juxtapose, Trim}
 use Rattle.ct_build.specs.Translation.{translated}
 use Rattle.ct_build.specs.Shortened.{has_digits, shortened}
-use Rattle.ct_build.specs.Build.{words_of, distance_of, other_of, is_right_other, step_distance, part_fault, other_fault, short_fault, above_limit, selected_of, built, size_fault, empty_fault, early_fault, build_fault}
+use Rattle.ct_build.specs.Build.{FieldsFit, FitsStated, is_right_length, is_right_weight, few_fault, words_of, distance_of, other_of, is_right_other, step_distance, part_fault, other_fault, short_fault, above_limit, selected_of, built, size_fault, empty_fault, early_fault, build_fault}
 use Rattle.ct_build.proofs.AppendLemmas.{length-lengthened, length-one_appended, length-with_parity}
 use Rattle.ct_build.proofs.TranslationLemmas.{length-translated, length-complemented}
 use Rattle.ct_build.proofs.PuncturedCodes.{length-punctured}
@@ -173,3 +175,75 @@ fault-alone (Select by) e part other u j = refl
 fault-alone Uuv e part other u j = absurd (u refl)
 fault-alone Juxtapose e part other u j = absurd (j refl)
 fault-alone (Trim size) e part other u j = refl
+
+-- what two options hold, where they are the same
+Some-fault : (f g : BuildFault) → ◌≡◌ {A = Option BuildFault} (Some f) (Some g) → f ≡ g
+Some-fault f g is = cc
+
+-- no reason is want of memory
+NotMemory : Option BuildFault → Type 0
+NotMemory o = o ≢ Some Memory
+
+first_NotMemory : (a b : Option BuildFault) → NotMemory a → NotMemory b → NotMemory (first_of a b)
+unfolding NotMemory
+first_NotMemory None b first second = second
+first_NotMemory (Some f) b first second = first
+
+if_NotMemory : (b : Bool) (f : BuildFault) → f ≢ Memory → NotMemory (if b then Some f else None)
+unfolding NotMemory
+if_NotMemory true f other = λ is. other (Some-fault f Memory is)
+if_NotMemory false f other = λ is. cc
+
+unless_NotMemory : (b : Bool) (f : BuildFault) → f ≢ Memory → NotMemory (if b then None else Some f)
+unfolding NotMemory
+unless_NotMemory true f other = λ is. cc
+unless_NotMemory false f other = λ is. other (Some-fault f Memory is)
+
+few_NotMemory : (step : Step) (words : List ℕ) → NotMemory (few_fault step words)
+unfolding few_fault NotMemory
+few_NotMemory (Trim size) words = if_NotMemory (nat_lt (length words) size) (Few (length words) size) (λ is. cc)
+few_NotMemory step words = λ is. cc
+
+size_NotMemory : (step : Step) (e : Entry) (part : CodeValue) (other : Option CodeValue) → NotMemory (size_fault step e part other)
+unfolding size_fault
+size_NotMemory step e part other =
+    first_NotMemory (above_limit (length part.words)) _ (if_NotMemory (nat_lt MAX_BUILT (length part.words)) _ (λ is. cc))
+    (first_NotMemory (above_limit (length (words_of (other_of step other)))) _ (if_NotMemory (nat_lt MAX_BUILT (length (words_of (other_of step other)))) _ (λ is. cc))
+    (if_NotMemory (nat_lt MAX_BUILT (length (built step e part other))) _ (λ is. cc)))
+
+pub early_not_memory : (step : Step) (e : Entry) (part : CodeValue) (other : Option CodeValue) (f : BuildFault) → early_fault step e part other ≡ Some f → f ≢ Memory
+unfolding early_fault NotMemory
+early_not_memory step e part other f is memory =
+    let have = step_distance step part.d (distance_of other) in
+    let never : NotMemory (early_fault step e part other) =
+    first_NotMemory (part_fault step e part) _ (unless_NotMemory (is_right_length step e.n part.n && is_right_weight step e.n e.w part.w) _ (λ q. cc))
+    (first_NotMemory (other_fault step e part other) _ (unless_NotMemory (is_right_other step e part other) _ (λ q. cc))
+    (first_NotMemory (short_fault have e.d) _ (if_NotMemory (nat_lt have e.d) _ (λ q. cc))
+    (first_NotMemory (size_fault step e part other) _ (size_NotMemory step e part other) (few_NotMemory step part.words)))) in
+    never (is ∙ ap Some memory)
+
+-- a list with something in it
+pub length_of_some : (words : List ℕ) → words ≢ [] → 1 ≤ length words
+length_of_some [] some = absurd (some refl)
+length_of_some (x ∷ xs) some = omega arith
+
+-- what holds anyway holds of each error
+pub IfErr-anyway : {T E : Type 0} (r : Result T E) (Q : E → Type 0) → ((e : E) → Q e) → IfErr r Q
+IfErr-anyway (Ok v) Q each = tt
+IfErr-anyway (Err e) Q each = each e
+
+-- some words come first where there are some
+take_some : (size : ℕ) (words : List ℕ) → 1 ≤ size → 1 ≤ length words → take size words ≢ []
+take_some size words positive some is =
+    let long = length-take size words in
+    let none : length (take size words) ≡ 0 = ap length is in
+    omega arith
+
+trimmed_some : (size : ℕ) (e : Entry) (part : CodeValue) (other : Option CodeValue) → FitsStated (Trim size) e → 1 ≤ length part.words → built (Trim size) e part other ≢ []
+unfolding FieldsFit built
+trimmed_some size e part other fits some = take_some size part.words fits.fields.0 some
+
+pub trim_some : (step : Step) (size : ℕ) (e : Entry) (part : CodeValue) (other : Option CodeValue) → step ≡ Trim size → FitsStated step e → 1 ≤ length part.words
+    → built step e part other ≢ []
+trim_some step size e part other is fits some =
+    subst (λ s. built s e part other ≢ []) (sym is) (trimmed_some size e part other (subst (λ s. FitsStated s e) is fits) some)

@@ -23,7 +23,8 @@ pub const MAX_BUILT: usize = 262_144;
 /// stated, not the weight; `WrongPart(1)` where the step needs another code and none is handed in, or one of a wrong
 /// length or weight; `Short` with the distance that the step gives and the stated one, which is greater; `Size` with the
 /// first number of words above `MAX_BUILT`, of the part, the other code and the result; `Few` where a trim wants more
-/// words than the part has; `Empty` where no word results. `Memory` means that the words could not be stored.
+/// words than the part has; `Empty` where no word results. `Memory` comes only where there is none of these reasons: the
+/// words could not be stored.
 ///
 /// The code has the stated distance, which may be smaller than the one that the step gives, and no weight where none is
 /// stated.
@@ -37,6 +38,8 @@ pub fn apply(
     requires fits { FitsStated step.now stated }
     ensures fault { IfErr result (λ fault. fault ≢ BuildFault.Memory
         → build_fault step.now stated part.now (option_copied other.entry) ≡ Some fault) }
+    ensures memory { IfErr result (λ fault. fault ≡ BuildFault.Memory
+        → build_fault step.now stated part.now (option_copied other.entry) ≡ None) }
     ensures accepted { OnOk result (build_fault step.now stated part.now (option_copied other.entry) ≡ None) }
     ensures words { IfOk result (λ c. IsPermutation (built step.now stated part.now (option_copied other.entry)) c.words) }
     ensures n { IfOk result (λ c. c.n ≡ stated.n) }

@@ -1,6 +1,6 @@
 //! The words that a step makes.
 
-ghost use Rattle.std.specs.Prelude.{◌≡◌, ◌+◌, ◌*◌, ◌^◌, ◌<◌, ◌≤◌, take, None, IfOk, IsPermutation};
+ghost use Rattle.std.specs.Prelude.{◌≡◌, ◌+◌, ◌*◌, ◌^◌, ◌<◌, ◌≤◌, ◌≢◌, [], take, None, IfOk, OnErr, IsPermutation};
 ghost use Rattle.std.specs.Option.{option_copied, ForSome};
 ghost use Rattle.ct_words.specs.declared.limits.TheConstants.{MAX_N};
 ghost use Rattle.ct_codes.specs.declared.entry.Entry.{Entry};
@@ -18,7 +18,7 @@ use ct_codes::{Code, Entry};
 use ct_words::Word;
 use std::alloc::{AllocError, Global};
 
-/// The words that the step makes, which nothing is told against before it is taken.
+/// The words that the step makes, which nothing is told against before it is taken. It fails only where there is one.
 #[tactic(auto, unfolding(crate::specs::Build::built))]
 pub(crate) fn built_words(
     alloc: Global,
@@ -29,7 +29,8 @@ pub(crate) fn built_words(
 ) -> Result<Vec<Word>, AllocError>
     requires fits { FitsStated step.now stated }
     requires faultless { early_fault step.now stated part.now (option_copied other) ≡ None }
-    ensures { IfOk result (λ v. IsPermutation (built step.now stated part.now (option_copied other.entry)) v.items) }
+    ensures words { IfOk result (λ v. IsPermutation (built step.now stated part.now (option_copied other.entry)) v.items) }
+    ensures some { OnErr result (built step.now stated part.now (option_copied other.entry) ≢ []) }
 {
     let n = part.n();
     let words = part.words();
@@ -58,7 +59,8 @@ fn selected_words(
     w: Option<u32>,
 ) -> Result<Vec<Word>, AllocError>
     requires { by < 2 ^ part.now.n }
-    ensures { IfOk result (λ v. v.items ≡ selected_of w part.now.n by part.now.words) }
+    ensures words { IfOk result (λ v. v.items ≡ selected_of w part.now.n by part.now.words) }
+    ensures some { OnErr result (selected_of w part.now.n by part.now.words ≢ []) }
 {
     match w {
         Some(w) => sums_of_weight(alloc, part, by, w),
@@ -75,7 +77,8 @@ fn words_with_sums(
 ) -> Result<Vec<Word>, AllocError>
     requires room { 2 * part.now.n ≤ MAX_N }
     requires lengths { ForSome (option_copied other) (λ o. o.n ≡ part.now.n) }
-    ensures { (e : Entry) → IfOk result (λ v. IsPermutation (built Uuv e part.now (option_copied other.entry)) v.items) }
+    ensures words { (e : Entry) → IfOk result (λ v. IsPermutation (built Uuv e part.now (option_copied other.entry)) v.items) }
+    ensures some { (e : Entry) → OnErr result (built Uuv e part.now (option_copied other.entry) ≢ []) }
 {
     match other {
         Some(other) => words_and_sums(alloc, part.n(), part.words(), other.words()),
@@ -91,7 +94,8 @@ fn words_side_by_side(
     other: Option<&Code>,
 ) -> Result<Vec<Word>, AllocError>
     requires { ForSome (option_copied other) (λ o. part.now.n + o.n ≤ MAX_N) }
-    ensures { (e : Entry) → IfOk result (λ v. IsPermutation (built Juxtapose e part.now (option_copied other.entry)) v.items) }
+    ensures words { (e : Entry) → IfOk result (λ v. IsPermutation (built Juxtapose e part.now (option_copied other.entry)) v.items) }
+    ensures some { (e : Entry) → OnErr result (built Juxtapose e part.now (option_copied other.entry) ≢ []) }
 {
     match other {
         Some(other) => joined_words(alloc, part.words(), other.n(), other.words()),

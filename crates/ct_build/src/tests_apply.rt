@@ -6,7 +6,7 @@ ghost use Rattle.ct_build.specs.Build.{FitsStated};
 
 use crate::{BuildFault, Numbers, Step, apply, even_words};
 use ct_codes::{Code, Entry, check_cosets, check_words};
-use ct_words::Word;
+use ct_words::{MAX_N, Word};
 use std::alloc::Global;
 use std::process::Abort;
 use std::test::Fail;
@@ -74,6 +74,12 @@ fn linear_code(
     assert!(rt; basis.iter().all(|word| *word < 1 << n));
     let cosets = check_cosets(alloc, entry, basis.to_vec(alloc)?, [0].to_vec(alloc)?)?;
     Ok(cosets.list(alloc)?)
+}
+
+/// All words of even weight of length n.
+fn evens(rt: &impl Abort, alloc: Global, n: u32) -> Result<Code, Fail> {
+    assert!(rt; 1 <= n && n <= MAX_N);
+    Ok(even_words(alloc, n)?)
 }
 
 /// Why the step does not build a code of the entry.
@@ -204,7 +210,7 @@ fn shorter_codes(rt: HostRuntime) -> Result<(), Fail> {
 #[tactic(auto, unfolding(crate::specs::Build::FieldsFit))]
 fn codes_of_two_parts(rt: HostRuntime) -> Result<(), Fail> {
     let alloc = rt.alloc();
-    let even = even_words(alloc, 3)?;
+    let even = evens(&rt, alloc, 3)?;
     let ends = code_of(&rt, alloc, (3, 3, None), &[0b000, 0b111])?;
     let pairs = code_of(&rt, alloc, (4, 4, Some(2)), &[0b0011, 0b1100])?;
     let ones = code_of(&rt, alloc, (3, 4, Some(1)), &[0b010])?;
@@ -496,30 +502,30 @@ fn many_words(rt: HostRuntime) -> Result<(), Fail> {
 #[tactic(auto, unfolding(crate::specs::Build::FieldsFit))]
 fn sizes_at_the_limit(rt: HostRuntime) -> Result<(), Fail> {
     let alloc = rt.alloc();
-    let most = even_words(alloc, 19)?;
-    let evens = even_words(alloc, 9)?;
+    let most = evens(&rt, alloc, 19)?;
+    let half = evens(&rt, alloc, 9)?;
     let code = apply(
         alloc,
         &Step::Juxtapose,
         entry(28, 4, None),
         &most,
-        Some(&evens),
+        Some(&half),
     )?;
     assert_eq!(rt; code.words().len(), 256);
-    let evens = even_words(alloc, 14)?;
+    let half = evens(&rt, alloc, 14)?;
     let basis = [0x2007, 0x100b, 0x80d, 0x40e, 0x213, 0x115];
     let five = linear_code(&rt, alloc, 14, 4, &basis[..5])?;
-    let code = apply(alloc, &Step::Uuv, entry(28, 4, None), &evens, Some(&five))?;
+    let code = apply(alloc, &Step::Uuv, entry(28, 4, None), &half, Some(&five))?;
     assert_eq!(rt; code.words().len(), 262_144);
     let six = linear_code(&rt, alloc, 14, 4, &basis)?;
     let many = Some(BuildFault::Size(524_288));
     let short = Some(BuildFault::Short(4, 5));
     assert_eq!(rt;
-        reason(alloc, &Step::Uuv, entry(28, 4, None), &evens, Some(&six)),
+        reason(alloc, &Step::Uuv, entry(28, 4, None), &half, Some(&six)),
         many
     );
     assert_eq!(rt;
-        reason(alloc, &Step::Uuv, entry(28, 5, None), &evens, Some(&six)),
+        reason(alloc, &Step::Uuv, entry(28, 5, None), &half, Some(&six)),
         short
     );
     Ok(())

@@ -1,10 +1,11 @@
 use Rattle.std.proofs.Common.{ℕ, List, sym, subst, option_copied, IsPermutation}
-use Rattle.std.specs.Prelude.{IfOk}
+use Rattle.std.specs.Prelude.{IfOk, OnErr, ◌≢◌, []}
 use Rattle.ct_build.specs.declared.step.Step.{Step}
 use Rattle.ct_build.specs.declared.step.Step.TheVariants.{Lengthen, AppendOne, Parity, Puncture, Shorten, Select, Uuv, Juxtapose}
 use Rattle.ct_build.specs.Places.{ArePlaces}
 use Rattle.ct_build.specs.Build.{built}
 use Rattle.ct_build.proofs.StepLemmas.{ready_at, fits_at, room_lengthen, room_append_one, room_parity, places_puncture, places_shorten, below_select, room_uuv, same_uuv, room_juxtapose}
+use Rattle.ct_build.proofs.BuildFaults.{IfErr-anyway, trim_some}
 use Rattle.ct_build.proofs.built_words.built_words.Goals as goal
 
 pub followed_by_digit-requires-clause-short : goal.followed_by_digit-requires-clause-short
@@ -76,12 +77,28 @@ words_side_by_side-requires c =
     room_juxtapose c.args.stated c.args.part.now other c.requires.fits.entry
     (ready_at c.args.step.now Juxtapose c.args.stated c.args.part.now other c.in-Juxtapose.is c.requires.faultless)
 
-pub returns-in-Uuv : goal.returns-in-Uuv
-returns-in-Uuv c =
+pub returns-in-Uuv-clause-words : goal.returns-in-Uuv-clause-words
+returns-in-Uuv-clause-words c =
     subst (λ (s : Step). IfOk c.words_with_sums.result (λ v. IsPermutation (built s c.args.stated c.args.part.now (option_copied c.args.other)) v.items))
-    (sym c.in-Uuv.is) (c.words_with_sums.ensures c.args.stated)
+    (sym c.in-Uuv.is) (c.words_with_sums.ensures.words c.args.stated)
 
-pub returns-in-Juxtapose : goal.returns-in-Juxtapose
-returns-in-Juxtapose c =
+pub returns-in-Juxtapose-clause-words : goal.returns-in-Juxtapose-clause-words
+returns-in-Juxtapose-clause-words c =
     subst (λ (s : Step). IfOk c.words_side_by_side.result (λ v. IsPermutation (built s c.args.stated c.args.part.now (option_copied c.args.other)) v.items))
-    (sym c.in-Juxtapose.is) (c.words_side_by_side.ensures c.args.stated)
+    (sym c.in-Juxtapose.is) (c.words_side_by_side.ensures.words c.args.stated)
+
+pub returns-in-Uuv-clause-some : goal.returns-in-Uuv-clause-some
+returns-in-Uuv-clause-some c =
+    subst (λ (s : Step). OnErr c.words_with_sums.result (built s c.args.stated c.args.part.now (option_copied c.args.other) ≢ []))
+    (sym c.in-Uuv.is) (c.words_with_sums.ensures.some c.args.stated)
+
+pub returns-in-Juxtapose-clause-some : goal.returns-in-Juxtapose-clause-some
+returns-in-Juxtapose-clause-some c =
+    subst (λ (s : Step). OnErr c.words_side_by_side.result (built s c.args.stated c.args.part.now (option_copied c.args.other) ≢ []))
+    (sym c.in-Juxtapose.is) (c.words_side_by_side.ensures.some c.args.stated)
+
+pub returns-in-Trim-clause-some : goal.returns-in-Trim-clause-some
+returns-in-Trim-clause-some c =
+    let other = option_copied c.args.other in
+    IfErr-anyway c.first_words.result (λ _. built c.args.step.now c.args.stated c.args.part.now other ≢ [])
+    (λ _. trim_some c.args.step.now c.in-Trim.size c.args.stated c.args.part.now other c.in-Trim.is c.requires.fits c.n-n.ensures.sound.some)
