@@ -5,6 +5,7 @@ pub mod Document
 pub mod StatedEntry
 pub mod Words
 pub mod Cosets
+pub mod Operation
 pub mod Evidence
 pub mod Examples
 pub mod Tables
