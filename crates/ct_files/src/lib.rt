@@ -1,6 +1,8 @@
 //! Documents of evidence: the reading of a document's bytes.
 #![tactic(auto)]
 
+mod build;
+mod build_fields;
 mod cosets;
 mod document;
 mod evidence;
@@ -9,10 +11,12 @@ mod fault;
 mod field;
 mod fields;
 mod laws;
+mod operation;
 mod reading;
 mod stated_entry;
 mod words;
 mod writing;
+mod written_build;
 
 pub use evidence::{Evidence, MAX_DOCUMENT};
 pub use fault::FileFault;

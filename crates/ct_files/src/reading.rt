@@ -4,6 +4,7 @@ ghost use Rattle.toml.specs.View.{view};
 ghost use Rattle.ct_files.specs.Inside.Reads.{Reads};
 ghost use Rattle.ct_files.specs.Evidence.{IsSound, evidence_of, read_without_limit, read_of};
 
+use crate::build::build_evidence;
 use crate::cosets::cosets_evidence;
 use crate::document::{is_of_kind, read_document};
 use crate::evidence::{Evidence, MAX_DOCUMENT};
@@ -21,6 +22,9 @@ fn evidence(alloc: Global, document: &Value) -> Result<Evidence, FileFault>
     }
     if is_of_kind(document, "cosets") {
         return cosets_evidence(alloc, document);
+    }
+    if is_of_kind(document, "build") {
+        return build_evidence(alloc, document);
     }
     Err(FileFault::Kind)
 }
