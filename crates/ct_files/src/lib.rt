@@ -2,6 +2,7 @@
 #![tactic(auto)]
 
 mod build;
+pub mod build_examples;
 mod build_fields;
 mod cosets;
 mod document;
@@ -27,3 +28,5 @@ pub use writing::write_evidence;
 
 #[cfg(test)]
 mod tests;
+#[cfg(test)]
+mod tests_build;
