@@ -18,7 +18,7 @@ use Rattle.ct_files.specs.BuildFields.{operation_field, places_in, digits_of, by
 use Rattle.ct_files.specs.Build.{build_evidence_of}
 use Rattle.ct_files.specs.Tables.{IsOfKind, IsNamed}
 use Rattle.ct_files.specs.StatesEntry.{HasWeight, StatesEntry}
-use Rattle.ct_files.specs.BuildDocument.{HasText, HasNumbers, HasId, HasStepFields, NamesOther, StatesBuild}
+use Rattle.ct_files.specs.BuildDocument.{HasText, HasNumbers, HasId, HasStepFields, NamesOther, StatesBuild, IsBuildFault}
 use Rattle.ct_files.specs.declared.evidence.Evidence.{Evidence}
 use Rattle.ct_files.specs.declared.evidence.Evidence.TheVariants.{Build}
 use Rattle.ct_files.specs.declared.field.FieldName.{FieldName}
@@ -256,10 +256,7 @@ other_named s document (Some id) some = some
 abbrev pub IsBuildAnswer : Data → Result Evidence FileFault → Type 0
 IsBuildAnswer document (Ok (Build e s part other)) = StatesBuild document e s part other
 IsBuildAnswer document (Ok other) = ⊥
-IsBuildAnswer document (Err (Field name)) = ⊤
-IsBuildAnswer document (Err Unknown) = ⊤
-IsBuildAnswer document (Err (Digits i)) = i ≡ 0
-IsBuildAnswer document (Err fault) = ⊥
+IsBuildAnswer document (Err fault) = IsBuildFault fault
 
 field_answer : (document : Data) (fault : FileFault) → IsFieldFault fault → IsBuildAnswer document (Err fault)
 field_answer document fault (name, is) = subst (λ f. IsBuildAnswer document (Err f)) is tt

@@ -17,7 +17,7 @@ use Rattle.ct_files.specs.Evidence.{evidence_of, read_without_limit, read_of}
 use Rattle.ct_files.specs.Tables.{IsDocument, IsOfKind}
 use Rattle.ct_files.specs.WordsDocument.{StatesWords, IsWordsAnswer, AcceptsWords}
 use Rattle.ct_files.specs.CosetsDocument.{StatesCosets, IsCosetsAnswer, AcceptsCosets}
-use Rattle.ct_files.specs.BuildDocument.{StatesBuild, AcceptsBuild}
+use Rattle.ct_files.specs.BuildDocument.{StatesBuild, AcceptsBuild, IsBuildFault}
 use Rattle.ct_files.specs.declared.evidence.TheConstants.{MAX_DOCUMENT}
 use Rattle.ct_files.specs.declared.evidence.Evidence.{Evidence}
 use Rattle.ct_files.specs.declared.evidence.Evidence.TheVariants as evidence
@@ -247,6 +247,14 @@ answers_cosets bytes document answer written of_kind =
     let (to, from) = subst (λ d. IsOfKind (codes "cosets") d → (cosets_evidence_of d ≡ answer) ↔ IsCosetsAnswer d answer) (sym same) (λ here. cosets_answers ms here answer) of_kind in
     (λ e. to (sym read ∙ e), λ h. read ∙ from h)
 
+-- a document of kind build has one of the faults that it may have
+pub faults_of_build : (bytes : List ℕ) (document : Data) (fault : FileFault) → IsDocument bytes document → IsOfKind (codes "build") document
+    → read_of bytes ≡ Err fault → IsBuildFault fault
+faults_of_build bytes document fault written of_kind e =
+    let (ms, parsed, same) = written.written in
+    let answer = subst (λ d. IsOfKind (codes "build") d → IsBuildAnswer d (build_evidence_of d)) (sym same) (build_answer ms) of_kind in
+    subst (IsBuildAnswer document) (sym (read_of-document bytes document written ∙ evidence_of-build document of_kind) ∙ e) answer
+
 -- the kind of a document is refused exactly where it is another one
 pub kinds : (bytes : List ℕ) (document : Data) → IsDocument bytes document
     → (read_of bytes ≡ Err Kind) ↔ (¬ (IsOfKind (codes "words") document) × ¬ (IsOfKind (codes "cosets") document) × ¬ (IsOfKind (codes "build") document))
@@ -254,15 +262,10 @@ kinds bytes document written = (
   λ e. (
     λ of_kind. (answers bytes document (Err Kind) written of_kind).0 e,
     λ of_kind. (answers_cosets bytes document (Err Kind) written of_kind).0 e,
-    λ of_kind. no_build of_kind e,
+    λ of_kind. faults_of_build bytes document Kind written of_kind e,
   ),
   λ other. read_of-document bytes document written ∙ evidence_of-other document other.0 other.1 other.2,
-) where
-  no_build : IsOfKind (codes "build") document → read_of bytes ≡ Err Kind → ⊥
-  no_build of_kind e =
-      let (ms, parsed, same) = written.written in
-      let answer = subst (λ d. IsOfKind (codes "build") d → IsBuildAnswer d (build_evidence_of d)) (sym same) (build_answer ms) of_kind in
-      subst (IsBuildAnswer document) (sym (read_of-document bytes document written ∙ evidence_of-build document of_kind) ∙ e) answer
+)
 
 -- bytes are refused for their number exactly where they are too many
 pub too_many : (bytes : List ℕ) (b : ℕ) → (read_of bytes ≡ Err (Bytes b)) ↔ ((b ≡ length bytes) × (MAX_DOCUMENT < length bytes))

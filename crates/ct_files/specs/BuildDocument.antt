@@ -14,6 +14,8 @@ use Rattle.ct_files.specs.Tables.{IsDocument, IsOfKind, IsNamed}
 use Rattle.ct_files.specs.StatesEntry.{StatesEntry}
 use Rattle.ct_files.specs.declared.field.FieldName.{FieldName}
 use Rattle.ct_files.specs.declared.field.FieldName.TheVariants as name
+use Rattle.ct_files.specs.declared.fault.FileFault.{FileFault}
+use Rattle.ct_files.specs.declared.fault.FileFault.TheVariants.{Field, Unknown, Digits}
 
 -- the field is the text
 abbrev pub HasText : FieldName → Data → List ℕ → Type 0
@@ -57,3 +59,10 @@ pub record AcceptsBuild (bytes : List ℕ) (e : Entry) (step : Step) (part : Lis
   pub document : Data
   pub written : IsDocument bytes document
   pub states : StatesBuild document e step part other
+
+-- the faults that a document of kind build may have: of a field, of a further key, of its one text of digits
+abbrev pub IsBuildFault : FileFault → Type 0
+IsBuildFault (Field name) = ⊤
+IsBuildFault Unknown = ⊤
+IsBuildFault (Digits i) = i ≡ 0
+IsBuildFault fault = ⊥

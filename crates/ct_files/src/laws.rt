@@ -12,7 +12,7 @@ ghost use Rattle.ct_files.specs.Evidence.{read_of};
 ghost use Rattle.ct_files.specs.Tables.{IsDocument, IsOfKind};
 ghost use Rattle.ct_files.specs.WordsDocument.{IsWordsAnswer, AcceptsWords};
 ghost use Rattle.ct_files.specs.CosetsDocument.{IsCosetsAnswer, AcceptsCosets};
-ghost use Rattle.ct_files.specs.BuildDocument.{AcceptsBuild};
+ghost use Rattle.ct_files.specs.BuildDocument.{AcceptsBuild, IsBuildFault};
 
 /// Bytes are accepted as these words for this entry exactly where they are at most `MAX_DOCUMENT`, are UTF-8 and write
 /// by the grammar of TOML 1.1 a table of kind `words` that has n, d and, where there is one, w of the entry, each in its
@@ -39,7 +39,8 @@ pub fn bytes_without_table()
 {}
 
 /// Where the other answers come: `Kind` for a table of another kind than `words`, `cosets` and `build`, and for one of the
-/// first two kinds each answer exactly where `IsWordsAnswer` or `IsCosetsAnswer` says.
+/// first two kinds each answer exactly where `IsWordsAnswer` or `IsCosetsAnswer` says. A build is refused for a field, for a
+/// further key or for its one text of digits; which one comes first is shown by the documents of `build_examples`.
 pub fn answers_to_documents()
     ensures kind { (bytes : List ℕ) (document : Data) → IsDocument bytes document →
         (read_of bytes ≡ Err Kind)
@@ -51,4 +52,7 @@ pub fn answers_to_documents()
     ensures cosets { (bytes : List ℕ) (document : Data) (answer : Result Evidence FileFault) →
         IsDocument bytes document → IsOfKind (codes "cosets") document →
         (read_of bytes ≡ answer) ↔ IsCosetsAnswer document answer }
+    ensures build { (bytes : List ℕ) (document : Data) (fault : FileFault) →
+        IsDocument bytes document → IsOfKind (codes "build") document →
+        read_of bytes ≡ Err fault → IsBuildFault fault }
 {}

@@ -1,7 +1,7 @@
 //! Documents of kind build: what is read, refused and written.
 
 use super::*;
-use ct_build::{Numbers, Step};
+use ct_build::Step;
 use ct_codes::Entry;
 use ct_text::Id;
 use std::alloc::{AllocError, Global};
@@ -152,16 +152,24 @@ fn refused_builds(rt: HostRuntime) -> Result<(), Fail> {
     Ok(())
 }
 
-// The entry, the places, the digits and the part of a build by `shorten`.
-fn read_shorten(alloc: Global, bytes: &[u8]) -> Result<(Entry, Numbers, Numbers, Id), FileFault> {
+// The entry, the step and the part of a build.
+fn read_build(alloc: Global, bytes: &[u8]) -> Result<(Entry, Step, Id), FileFault> {
     match read_evidence(alloc, bytes)? {
         Evidence::Build {
             entry,
-            step: Step::Shorten(places, digits),
+            step,
             part,
             ..
-        } => Ok((entry, places, digits, part)),
+        } => Ok((entry, step, part)),
         _ => Err(FileFault::Kind),
+    }
+}
+
+// Whether the step shortens at these places with these digits.
+fn shortens(step: &Step, at: &[u32], with: &[u32]) -> bool {
+    match step {
+        Step::Shorten(places, digits) => places.as_slice() == at && digits.as_slice() == with,
+        _ => false,
     }
 }
 
@@ -173,10 +181,9 @@ fn fields_of_a_build(rt: HostRuntime) -> Result<(), Fail> {
         alloc,
         "d = 6\nw = 1\nop = 'shorten'\nplaces = [1, 4]\ndigits = '10'",
     )?;
-    let (entry, places, digits, part) = read_shorten(alloc, text.as_bytes())?;
+    let (entry, step, part) = read_build(alloc, text.as_bytes())?;
     assert_eq!(rt; (entry.n, entry.d, entry.w), (4, 6, Some(1)));
-    assert_eq!(rt; places.as_slice(), [1, 4].as_slice());
-    assert_eq!(rt; digits.as_slice(), [1, 0].as_slice());
+    assert!(rt; shortens(&step, &[1, 4], &[1, 0]));
     assert_eq!(rt; part.text(), b"a".as_slice());
     Ok(())
 }
