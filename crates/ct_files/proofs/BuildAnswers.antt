@@ -1,6 +1,6 @@
 -- Which documents are read as a build, and which faults a document of kind build has.
-use Rattle.std.proofs.Common.{◌≡◌, ◌≢◌, ℕ, ◌^◌, ◌<◌, ◌≤◌, ◌%◌, ◌==◌, Bool, true, false, nat_le, List, length, codes, IsTrue, Option, Some, None, Result, Ok, Err, ok_or, option_map, inl, inr, refl, sym, ap, ◌∙◌, subst, le-leb, eq-eqb, eqb-true}
-use Rattle.std.specs.Prelude.{is_some, is_none, IsSome, ⊤, if◌then◌else◌}
+use Rattle.std.proofs.Common.{◌≡◌, ◌≢◌, ℕ, ◌^◌, ◌<◌, ◌%◌, Bool, true, false, List, length, codes, Option, Some, None, Result, Ok, Err, ok_or, option_map, inl, inr, refl, sym, ap, ◌∙◌, subst, le-leb, eq-eqb, eqb-true}
+use Rattle.std.specs.Prelude.{is_some, is_none, IsSome, if◌then◌else◌}
 use Rattle.std.proofs.lemmas.Bool.{leb-true, false≢true}
 use Rattle.toml.specs.Data.{Data, string, table, Members, get, as_str}
 use Rattle.ct_words.specs.Text.{word_of, word_text}
@@ -13,12 +13,12 @@ use Rattle.ct_build.specs.Build.{FieldsFit}
 use Rattle.ct_files.specs.Steps.{◌>>=◌, check}
 use Rattle.ct_files.specs.Fields.{is_text, field, number_field, has_only, no_other_key}
 use Rattle.ct_files.specs.StatedEntry.{selects, build_entry_of}
-use Rattle.ct_files.specs.Operation.{operation_text, operation_of, makes_length, takes_weight, takes_other, needs_other, build_fields}
+use Rattle.ct_files.specs.Operation.{operation_text, operation_of, makes_length, takes_weight, takes_other, build_fields}
 use Rattle.ct_files.specs.BuildFields.{operation_field, places_in, digits_of, by_field, step_fields, id_in, id_field, other_field}
 use Rattle.ct_files.specs.Build.{build_evidence_of}
 use Rattle.ct_files.specs.Tables.{IsOfKind, IsNamed}
 use Rattle.ct_files.specs.StatesEntry.{HasWeight, StatesEntry}
-use Rattle.ct_files.specs.BuildDocument.{HasText, HasNumbers, HasId, HasStepFields, NamesOther, StatesBuild, IsBuildFault}
+use Rattle.ct_files.specs.BuildDocument.{HasText, HasId, HasStepFields, NamesOther, StatesBuild, IsBuildFault}
 use Rattle.ct_files.specs.declared.evidence.Evidence.{Evidence}
 use Rattle.ct_files.specs.declared.evidence.Evidence.TheVariants.{Build}
 use Rattle.ct_files.specs.declared.field.FieldName.{FieldName}

@@ -1,5 +1,5 @@
 -- What the own fields of a build are, where they are read.
-use Rattle.std.proofs.Common.{◌≡◌, ◌≢◌, ℕ, zero, suc, ◌+◌, ◌-◌, ◌^◌, ◌<◌, ◌≤◌, get_or, Bool, true, false, ◌&&◌, ◌||◌, ◌==◌, nat_le, nat_lt, pos, List, [], ◌∷◌, length, map, All, IsTrue, Option, Some, None, Result, Ok, Err, ok_or, option_and_then, option_map, codes, inl, inr, refl, sym, ap, ◌∙◌, subst, le-leb, eq-eqb, eqb-true, arith}
+use Rattle.std.proofs.Common.{◌≡◌, ℕ, zero, suc, ◌+◌, ◌-◌, ◌<◌, ◌≤◌, get_or, true, ◌&&◌, ◌==◌, nat_le, nat_lt, pos, List, [], ◌∷◌, length, map, All, IsTrue, Some, Ok, inl, inr, refl, ap, ◌∙◌, subst, le-leb, eq-eqb, eqb-true, arith}
 use Rattle.std.specs.List.{list_all}
 use Rattle.std.specs.List.Sorted.{IsStrictlyIncreasing}
 use Rattle.std.specs.Str.{bytes_eq}
@@ -23,7 +23,7 @@ use Rattle.ct_files.specs.declared.operation.Operation.{Operation}
 use Rattle.ct_files.specs.declared.operation.Operation.TheVariants.{Lengthen, AppendOne, Parity, Puncture, Shorten, Translate, Complement, Select, Uuv, Juxtapose, Trim}
 use Rattle.ct_files.specs.declared.fault.FileFault.TheVariants.{Field}
 use Rattle.ct_files.proofs.StepLemmas.{ok_or-ok}
-use Rattle.ct_files.proofs.FieldLemmas.{bytes_eq-true, bytes_eq-self, number_in-some}
+use Rattle.ct_files.proofs.FieldLemmas.{bytes_eq-true, number_in-some}
 
 -- a value that is a text
 as_str-some : (d : Data) (text : List ℕ) → as_str d ≡ Some text → d ≡ string text

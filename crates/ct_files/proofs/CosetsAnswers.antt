@@ -18,8 +18,7 @@ use Rattle.ct_files.specs.CosetsDocument.{HasCosets, cosets_fields, IsCosetsDocu
 use Rattle.ct_files.specs.declared.evidence.Evidence.{Evidence}
 use Rattle.ct_files.specs.declared.evidence.Evidence.TheVariants as evidence
 use Rattle.ct_files.specs.declared.field.FieldName.{FieldName}
-use Rattle.ct_files.specs.declared.field.FieldName.TheVariants as name
-use Rattle.ct_files.specs.declared.field.FieldName.TheVariants.{N, D, W, Basis, Representatives}
+use Rattle.ct_files.specs.declared.field.FieldName.TheVariants.{N, D, Basis, Representatives}
 use Rattle.ct_files.specs.declared.fault.FileFault.{FileFault}
 use Rattle.ct_files.specs.declared.fault.FileFault.TheVariants.{Bytes, NotToml, Kind, Field, Unknown, Digits, Size, Memory}
 use Rattle.ct_files.proofs.StepLemmas.{bind-ok, bind-err, bind-at, bind-at_err, bind-cases, check-ok, check-err}

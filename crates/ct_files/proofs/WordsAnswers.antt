@@ -17,7 +17,6 @@ use Rattle.ct_files.specs.WordsDocument.{HasWords, words_fields, IsWordsDocument
 use Rattle.ct_files.specs.declared.evidence.Evidence.{Evidence}
 use Rattle.ct_files.specs.declared.evidence.Evidence.TheVariants as evidence
 use Rattle.ct_files.specs.declared.field.FieldName.{FieldName}
-use Rattle.ct_files.specs.declared.field.FieldName.TheVariants as name
 use Rattle.ct_files.specs.declared.field.FieldName.TheVariants.{N, D, W, Words}
 use Rattle.ct_files.specs.declared.fault.FileFault.{FileFault}
 use Rattle.ct_files.specs.declared.fault.FileFault.TheVariants.{Bytes, NotToml, Kind, Field, Unknown, Digits, Size, Memory}

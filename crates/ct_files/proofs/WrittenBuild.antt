@@ -1,5 +1,5 @@
 -- The table that is written for a build.
-use Rattle.std.proofs.Common.{◌≡◌, ℕ, suc, zero, ◌+◌, ◌^◌, ◌%◌, ◌<◌, ◌≤◌, lit≤, Bool, true, false, ◌&&◌, ◌==◌, nat_le, length, inl, inr, pos, List, [], ◌∷◌, map, All, IsTrue, codes, Option, Some, None, IfSome, is_eq, nat_cmp, refl, sym, ap, ◌∙◌, arith}
+use Rattle.std.proofs.Common.{◌≡◌, ℕ, ◌+◌, ◌%◌, ◌<◌, ◌≤◌, lit≤, true, false, ◌&&◌, ◌==◌, nat_le, length, inl, inr, pos, List, [], ◌∷◌, map, All, IsTrue, codes, Option, Some, None, IfSome, is_eq, nat_cmp, refl, sym, ap, ◌∙◌, arith}
 use Rattle.std.specs.Prelude.{is_some}
 use Rattle.std.specs.List.{list_all}
 use Rattle.std.specs.Char.{is_ascii_lowercase, is_ascii_digit}
@@ -9,20 +9,19 @@ use Rattle.std.proofs.lemmas.Bool.{and_parts, cases_Bool, false≢true, eqb-true
 use Rattle.std.proofs.Math.Bool.{or-false}
 use Rattle.std.proofs.lemmas.List.Elements.{All-head, All-tail}
 use Rattle.std.proofs.lemmas.Str.Ascii.{IsAscii-nil, IsAscii-cons}
-use Rattle.toml.specs.Data.{Data, string, integer, table, Members, get_member, items_depth, members_depth}
+use Rattle.toml.specs.Data.{string, integer, table, Members, get_member, items_depth, members_depth}
 use Rattle.toml.specs.View.{items_of}
 use Rattle.ct_text.specs.declared.id.TheConstants.{MAX_ID}
 use Rattle.ct_text.specs.Id.{is_id, is_id_byte}
 use Rattle.ct_words.specs.Text.{word_text}
 use Rattle.ct_codes.specs.declared.entry.Entry.{Entry}
 use Rattle.ct_codes.proofs.EntryLemmas.{WeightFits, entry_limits}
-use Rattle.ct_build.specs.Build.{FitsStated, FieldsFit}
+use Rattle.ct_build.specs.Build.{FitsStated}
 use Rattle.ct_build.specs.declared.step.Step.{Step}
 use Rattle.ct_build.specs.declared.step.Step.TheVariants.{Lengthen, AppendOne, Parity, Puncture, Shorten, Translate, Complement, Select, Uuv, Juxtapose, Trim}
-use Rattle.ct_files.specs.Field.{field_text}
-use Rattle.ct_files.specs.Fields.{is_named, keys_are_named}
-use Rattle.ct_files.specs.Operation.{operation_text, operation_of, needs_other, build_fields}
-use Rattle.ct_files.specs.StatesEntry.{HasWeight, StatesEntry}
+use Rattle.ct_files.specs.Fields.{keys_are_named}
+use Rattle.ct_files.specs.Operation.{operation_of, needs_other, build_fields}
+use Rattle.ct_files.specs.StatesEntry.{HasWeight}
 use Rattle.ct_files.specs.BuildDocument.{HasStepFields, NamesOther, StatesBuild}
 use Rattle.ct_files.specs.Inside.WrittenBuild.{put, number_list, digits_text, put_step, put_other, put_weight, base_table, build_table}
 use Rattle.ct_files.specs.declared.field.FieldName.TheVariants as name
