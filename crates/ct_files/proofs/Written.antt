@@ -19,15 +19,18 @@ use Rattle.ct_files.specs.Tables.{IsOfKind, HasTexts}
 use Rattle.ct_files.specs.StatesEntry.{StatesEntry}
 use Rattle.ct_files.specs.WordsDocument.{words_fields, StatesWords}
 use Rattle.ct_files.specs.CosetsDocument.{cosets_fields, StatesCosets}
-use Rattle.ct_files.specs.Inside.Written.{words_table, cosets_table, evidence_table}
+use Rattle.ct_files.specs.Inside.Written.{words_table, cosets_table, evidence_table, HasIds}
+use Rattle.ct_files.specs.Inside.WrittenBuild.{build_table}
 use Rattle.ct_files.specs.declared.field.FieldName.TheVariants as name
 use Rattle.ct_files.specs.declared.field.FieldName.TheVariants.{N, D}
 use Rattle.ct_files.specs.declared.evidence.Evidence.{Evidence}
-use Rattle.ct_files.specs.declared.evidence.Evidence.TheVariants.{Words, Cosets}
+use Rattle.ct_files.specs.declared.evidence.Evidence.TheVariants.{Words, Cosets, Build}
 use Rattle.ct_files.proofs.FieldLemmas.{has_only-true}
 use Rattle.ct_files.proofs.WordsAnswers.{words_answer-from}
 use Rattle.ct_files.proofs.CosetsAnswers.{cosets_answer-from}
-use Rattle.ct_files.proofs.DocumentAnswers.{evidence_of-words, evidence_of-cosets}
+use Rattle.ct_files.proofs.BuildAnswers.{build_answer-from}
+use Rattle.ct_files.proofs.WrittenBuild.{states_build, build_depth}
+use Rattle.ct_files.proofs.DocumentAnswers.{evidence_of-words, evidence_of-cosets, evidence_of-build}
 use Rattle.ct_words.specs.Text.{word_text, is_binary_digit}
 use Rattle.ct_words.proofs.TextLemmas.{digits-word_text}
 
@@ -62,6 +65,7 @@ evidence_depth (Words e words) = at e.w
     at : (w : Option ℕ) → members_depth (words_table (record { n = e.n; d = e.d; w = w }) words) ≤ 80
     at None = rw (texts_depth e.n words) (lit≤ tt)
     at (Some w) = rw (texts_depth e.n words) (lit≤ tt)
+evidence_depth (Build e step part other) = build_depth e step part other
 evidence_depth (Cosets e basis representatives) = rw (texts_depth e.n basis, texts_depth e.n representatives) (lit≤ tt)
 
 -- the table of words states their entry
@@ -135,17 +139,20 @@ states_cosets e basis representatives entry plain short_basis short =
     }
 
 -- the table of an evidence reads as the evidence
-evidence_of-evidence_table : (e : Evidence) → IsSound e → evidence_of (table (evidence_table e)) ≡ Ok e
-evidence_of-evidence_table (Words e words) (entry, short, some, few) =
+evidence_of-evidence_table : (e : Evidence) → IsSound e → HasIds e → evidence_of (table (evidence_table e)) ≡ Ok e
+evidence_of-evidence_table (Words e words) (entry, short, some, few) ids =
     let states = states_words e words entry short in
     evidence_of-words (table (words_table e words)) states.form.fields.of_kind
     ∙ words_answer-from (words_table e words) (Ok (Words e words)) (states, some, few)
-evidence_of-evidence_table (Cosets e basis representatives) (entry, plain, short_basis, short, few_basis, some, few) =
+evidence_of-evidence_table (Cosets e basis representatives) (entry, plain, short_basis, short, few_basis, some, few) ids =
     let states = states_cosets e basis representatives entry plain short_basis short in
     evidence_of-cosets (table (cosets_table e basis representatives)) states.form.fields.of_kind
     ∙ cosets_answer-from (cosets_table e basis representatives) (Ok (Cosets e basis representatives)) (states, few_basis, some, few)
+evidence_of-evidence_table (Build e step part other) (fits, named) (id, ids) =
+    let states = states_build e step part other fits named id ids in
+    evidence_of-build (table (build_table e step part other)) states.of_kind ∙ build_answer-from (build_table e step part other) e step part other states
 
 -- bytes that write the table of an evidence read as the evidence
-pub read-written : (e : Evidence) (bytes : List ℕ) → IsSound e → table_of bytes ≡ Some (table (evidence_table e)) → read_without_limit bytes ≡ Ok e
+pub read-written : (e : Evidence) (bytes : List ℕ) → IsSound e → HasIds e → table_of bytes ≡ Some (table (evidence_table e)) → read_without_limit bytes ≡ Ok e
 unfolding read_without_limit
-read-written e bytes sound written = rw written (evidence_of-evidence_table e sound)
+read-written e bytes sound ids written = rw written (evidence_of-evidence_table e sound ids)

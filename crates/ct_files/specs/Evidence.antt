@@ -1,17 +1,20 @@
 -- The evidence that a document's bytes give, or the first fault of the document.
-use Rattle.std.specs.Prelude.{◌≡◌, ℕ, ◌^◌, ◌<◌, ◌≤◌, nat_le, if◌then◌else◌, List, length, None, Result, Err, All, codes}
+use Rattle.std.specs.Prelude.{◌≡◌, ℕ, ◌^◌, ◌<◌, ◌≤◌, nat_le, if◌then◌else◌, List, length, None, is_some, Result, Err, All, codes}
 use Rattle.toml.specs.Data.{Data}
 use Rattle.ct_words.specs.declared.limits.TheConstants.{MAX_N}
 use Rattle.ct_codes.specs.Entry.{IsEntry}
 use Rattle.ct_codes.specs.declared.fault.TheConstants.{MAX_WORDS, MAX_REPRESENTATIVES}
+use Rattle.ct_build.specs.Build.{FitsStated}
 use Rattle.ct_files.specs.Steps.{◌>>=◌, ◌>>◌, check}
 use Rattle.ct_files.specs.Fields.{is_of_kind}
 use Rattle.ct_files.specs.Words.{words_evidence_of}
 use Rattle.ct_files.specs.Cosets.{cosets_evidence_of}
+use Rattle.ct_files.specs.Operation.{needs_other}
+use Rattle.ct_files.specs.Build.{build_evidence_of}
 use Rattle.ct_files.specs.Document.{document_of}
 use Rattle.ct_files.specs.declared.evidence.TheConstants.{MAX_DOCUMENT}
 use Rattle.ct_files.specs.declared.evidence.Evidence.{Evidence}
-use Rattle.ct_files.specs.declared.evidence.Evidence.TheVariants.{Words, Cosets}
+use Rattle.ct_files.specs.declared.evidence.Evidence.TheVariants.{Words, Cosets, Build}
 use Rattle.ct_files.specs.declared.fault.FileFault.{FileFault}
 use Rattle.ct_files.specs.declared.fault.FileFault.TheVariants.{Bytes, Kind}
 
@@ -20,6 +23,7 @@ unfoldable pub evidence_of : Data → Result Evidence FileFault
 evidence_of document =
     if is_of_kind (codes "words") document then words_evidence_of document
     else if is_of_kind (codes "cosets") document then cosets_evidence_of document
+    else if is_of_kind (codes "build") document then build_evidence_of document
     else Err Kind
 
 -- what the bytes of a document read as, however many they are
@@ -35,9 +39,11 @@ read_of bytes = do
   read_without_limit bytes
 
 -- what evidence keeps that is read: an entry of the table, and words of its length, 1 to MAX_WORDS of them; of cosets, whose entry has no
--- weight, at most MAX_N basis words and 1 to MAX_REPRESENTATIVES representatives
+-- weight, at most MAX_N basis words and 1 to MAX_REPRESENTATIVES representatives; of a build, a step that fits the entry, and another part exactly
+-- where the step needs one
 abbrev pub IsSound : Evidence → Type 0
 IsSound (Words e words) = IsEntry e × All (λ x. x < 2 ^ e.n) words × (1 ≤ length words) × (length words ≤ MAX_WORDS)
 IsSound (Cosets e basis representatives) =
     IsEntry e × (e.w ≡ None) × All (λ x. x < 2 ^ e.n) basis × All (λ x. x < 2 ^ e.n) representatives × (length basis ≤ MAX_N)
     × (1 ≤ length representatives) × (length representatives ≤ MAX_REPRESENTATIVES)
+IsSound (Build e step part other) = FitsStated step e × (is_some other ≡ needs_other step)

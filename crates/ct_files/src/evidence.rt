@@ -1,6 +1,8 @@
 //! Evidence for a bound, as a document states it.
 
+use ct_build::Step;
 use ct_codes::Entry;
+use ct_text::Id;
 use ct_words::WordList;
 
 /// The greatest number of bytes of a document.
@@ -20,5 +22,13 @@ pub enum Evidence {
         entry: Entry,
         basis: WordList,
         representatives: WordList,
+    },
+    /// A step that is stated to make a code of the entry of the code of the piece `part` and, where the step needs another
+    /// code, of that of the piece `other`, which is named exactly there.
+    Build {
+        entry: Entry,
+        step: Step,
+        part: Id,
+        other: Option<Id>,
     },
 }

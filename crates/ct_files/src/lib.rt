@@ -1,6 +1,9 @@
 //! Documents of evidence: the reading of a document's bytes.
 #![tactic(auto)]
 
+mod build;
+pub mod build_examples;
+mod build_fields;
 mod cosets;
 mod document;
 mod evidence;
@@ -9,10 +12,12 @@ mod fault;
 mod field;
 mod fields;
 mod laws;
+mod operation;
 mod reading;
 mod stated_entry;
 mod words;
 mod writing;
+mod written_build;
 
 pub use evidence::{Evidence, MAX_DOCUMENT};
 pub use fault::FileFault;
@@ -23,3 +28,5 @@ pub use writing::write_evidence;
 
 #[cfg(test)]
 mod tests;
+#[cfg(test)]
+mod tests_build;

@@ -186,7 +186,7 @@ fn document(alloc: Global, n: &str, d: &str, words: &str) -> Result<String, Allo
 fn read_words(alloc: Global, bytes: &[u8]) -> Result<(Entry, WordList), FileFault> {
     match read_evidence(alloc, bytes)? {
         Evidence::Words { entry, words } => Ok((entry, words)),
-        Evidence::Cosets { .. } => Err(FileFault::Kind),
+        _ => Err(FileFault::Kind),
     }
 }
 
@@ -198,7 +198,7 @@ fn read_cosets(alloc: Global, bytes: &[u8]) -> Result<(Entry, WordList, WordList
             basis,
             representatives,
         } => Ok((entry, basis, representatives)),
-        Evidence::Words { .. } => Err(FileFault::Kind),
+        _ => Err(FileFault::Kind),
     }
 }
 
@@ -381,6 +381,13 @@ fn field_texts(rt: HostRuntime) {
         (FieldName::Words, "words"),
         (FieldName::Basis, "basis"),
         (FieldName::Representatives, "representatives"),
+        (FieldName::Op, "op"),
+        (FieldName::Places, "places"),
+        (FieldName::Digits, "digits"),
+        (FieldName::By, "by"),
+        (FieldName::Size, "size"),
+        (FieldName::Part, "part"),
+        (FieldName::Other, "other"),
     ];
     for (name, text) in texts {
         assert_eq!(rt; name.text(), text);

@@ -8,16 +8,17 @@ ghost use Rattle.ct_files.specs.declared.evidence.TheConstants.{MAX_DOCUMENT};
 ghost use Rattle.ct_files.specs.Field.{field_text};
 ghost use Rattle.ct_files.specs.Evidence.{IsSound, read_without_limit, read_of};
 ghost use Rattle.ct_files.specs.Document.{table_of};
-ghost use Rattle.ct_files.specs.Inside.Written.{word_texts, words_table, cosets_table, evidence_table};
+ghost use Rattle.ct_files.specs.Inside.Written.{word_texts, words_table, cosets_table, evidence_table, HasIds};
 
 use crate::evidence::Evidence;
 use crate::field::FieldName;
+use crate::written_build::build_table;
 use ct_codes::Entry;
 use ct_words::{Word, print_word};
 use std::alloc::{AllocError, Global};
 use toml::{Table, Value};
 
-fn key(alloc: Global, name: FieldName) -> Result<String, AllocError>
+pub(crate) fn key(alloc: Global, name: FieldName) -> Result<String, AllocError>
     ensures { IfOk result (λ key. string_bytes key ≡ field_text name) }
 {
     String::from_str(alloc, name.text())
@@ -33,7 +34,7 @@ fn word_text(alloc: Global, n: u32, word: Word) -> Result<Vec<u8>, AllocError>
     Ok(text)
 }
 
-fn word_value(alloc: Global, n: u32, word: Word) -> Result<Value, AllocError>
+pub(crate) fn word_value(alloc: Global, n: u32, word: Word) -> Result<Value, AllocError>
     requires room { n ≤ MAX_N }
     requires word { word < 2 ^ n }
     ensures { IfOk result (λ value. view value ≡ string (word_text n word)) }
@@ -133,7 +134,8 @@ fn cosets_table(
 
 fn evidence_table(alloc: Global, evidence: &Evidence) -> Result<Table, AllocError>
     requires { IsSound evidence.now }
-    ensures { IfOk result (λ table. table_view table ≡ evidence_table evidence.now) }
+    ensures table { IfOk result (λ table. table_view table ≡ evidence_table evidence.now) }
+    ensures ids { IfOk result (λ table. HasIds evidence.now) }
 {
     match evidence {
         Evidence::Words { entry, words } => { words_table(alloc, *entry, words.as_slice()) }
@@ -142,6 +144,12 @@ fn evidence_table(alloc: Global, evidence: &Evidence) -> Result<Table, AllocErro
             basis,
             representatives,
         } => cosets_table(alloc, *entry, basis.as_slice(), representatives.as_slice()),
+        Evidence::Build {
+            entry,
+            step,
+            part,
+            other,
+        } => build_table(alloc, *entry, step, *part, *other),
     }
 }
 
