@@ -7,17 +7,26 @@ use std::alloc::{AllocError, Global};
 use std::process::Abort;
 use std::test::Fail;
 
-// A linear code: its id, length, distance and basis.
-type Linear = (&'static str, u32, u32, &'static [&'static str]);
+// A linear code: its length and distance, its basis, how many words it has, and how many words of its length there are.
+struct Linear {
+    id: &'static str,
+    n: u32,
+    d: u32,
+    size: u32,
+    all: u32,
+    basis: &'static [&'static str],
+}
 
 // Eleven binary linear codes, of which no greater one of their length and distance is known.
 const LINEAR: [Linear; 11] = [
     // Golay 1949.
-    (
-        "golay",
-        24,
-        8,
-        &[
+    Linear {
+        id: "golay",
+        n: 24,
+        d: 8,
+        size: 4096,
+        all: 16777216,
+        basis: &[
             "101011100011000000000001",
             "010101110001100000000001",
             "001010111000110000000001",
@@ -31,13 +40,15 @@ const LINEAR: [Linear; 11] = [
             "000000000010101110001101",
             "000000000001010111000111",
         ],
-    ),
+    },
     // The extended quadratic residue code as a double circulant code; MacWilliams and Sloane, chapter 16.
-    (
-        "qr18",
-        18,
-        6,
-        &[
+    Linear {
+        id: "qr18",
+        n: 18,
+        d: 6,
+        size: 512,
+        all: 262144,
+        basis: &[
             "100000011101011111",
             "110000001110101111",
             "111000000111010111",
@@ -48,13 +59,15 @@ const LINEAR: [Linear; 11] = [
             "000001110101111110",
             "000000111010111111",
         ],
-    ),
+    },
     // The even words of the Zetterberg code of length 33, shortened at four places and punctured at one.
-    (
-        "cyclic33",
-        28,
-        5,
-        &[
+    Linear {
+        id: "cyclic33",
+        n: 28,
+        d: 5,
+        size: 262144,
+        all: 268435456,
+        basis: &[
             "1011111101100000000000000000",
             "1101111110110000000000000000",
             "0110111111011000000000000000",
@@ -74,13 +87,15 @@ const LINEAR: [Linear; 11] = [
             "0000000000000001101111110110",
             "0000000000000000110111111011",
         ],
-    ),
+    },
     // Wagner 1965, with a parity digit, in a quasi-cyclic form.
-    (
-        "wagner",
-        24,
-        6,
-        &[
+    Linear {
+        id: "wagner",
+        n: 24,
+        d: 6,
+        size: 16384,
+        all: 16777216,
+        basis: &[
             "110000011011001101011100",
             "111000001101100100101110",
             "011100001110110000010111",
@@ -96,13 +111,15 @@ const LINEAR: [Linear; 11] = [
             "100100001001000010000111",
             "010010000100100011000011",
         ],
-    ),
+    },
     // A double circulant code; MacWilliams and Sloane, chapter 16.
-    (
-        "double14",
-        28,
-        8,
-        &[
+    Linear {
+        id: "double14",
+        n: 28,
+        d: 8,
+        size: 16384,
+        all: 268435456,
+        basis: &[
             "1110001001011010101010010101",
             "0111000100101111010101001010",
             "1011100010010101101010100101",
@@ -118,13 +135,15 @@ const LINEAR: [Linear; 11] = [
             "1000100101101110101001010110",
             "1100010010110101010100101011",
         ],
-    ),
+    },
     // A quasi-cyclic code in blocks of 7.
-    (
-        "quasi28-10",
-        28,
-        10,
-        &[
+    Linear {
+        id: "quasi28-10",
+        n: 28,
+        d: 10,
+        size: 1024,
+        all: 268435456,
+        basis: &[
             "0011000101001100011000000101",
             "0001100110100100001101000010",
             "0000110111010000000110100001",
@@ -136,13 +155,15 @@ const LINEAR: [Linear; 11] = [
             "1101110001110001000001110000",
             "0110111000111000100000111000",
         ],
-    ),
+    },
     // A quasi-cyclic code in blocks of 8.
-    (
-        "quasi24-7",
-        24,
-        10,
-        &[
+    Linear {
+        id: "quasi24-7",
+        n: 24,
+        d: 10,
+        size: 128,
+        all: 16777216,
+        basis: &[
             "000010010000001111110101",
             "100001001000000111111010",
             "010000101100000001111101",
@@ -151,13 +172,15 @@ const LINEAR: [Linear; 11] = [
             "010010000001100010101111",
             "001001000000110011010111",
         ],
-    ),
+    },
     // The BCH code [31,11,11], shortened at three places.
-    (
-        "bch28-8",
-        28,
-        11,
-        &[
+    Linear {
+        id: "bch28-8",
+        n: 28,
+        d: 11,
+        size: 256,
+        all: 268435456,
+        basis: &[
             "1010101101100100011010000000",
             "0101010110110010001101000000",
             "0010101011011001000110100000",
@@ -167,13 +190,15 @@ const LINEAR: [Linear; 11] = [
             "0000001010101101100100011010",
             "0000000101010110110010001101",
         ],
-    ),
+    },
     // A residue of the punctured BCH code [50,8,23].
-    (
-        "residue27-7",
-        27,
-        12,
-        &[
+    Linear {
+        id: "residue27-7",
+        n: 27,
+        d: 12,
+        size: 128,
+        all: 134217728,
+        basis: &[
             "010010011110110111111011000",
             "101001001101010101111000000",
             "000110111001000101000110110",
@@ -182,22 +207,30 @@ const LINEAR: [Linear; 11] = [
             "000001001011100100011111010",
             "001000010101101111100010100",
         ],
-    ),
+    },
     // A cyclic code.
-    (
-        "quasi21-5",
-        21,
-        10,
-        &[
+    Linear {
+        id: "quasi21-5",
+        n: 21,
+        d: 10,
+        size: 32,
+        all: 2097152,
+        basis: &[
             "110000100011001010111",
             "111000010001100101011",
             "111100001000110010101",
             "111110000100011001010",
             "011111000010001100101",
         ],
-    ),
+    },
     // Each place of the even code of length 3, three times.
-    ("tri9", 9, 6, &["111111000", "000111111"]),
+    Linear {
+        id: "tri9",
+        n: 9,
+        d: 6,
+        size: 4,
+        all: 512,
+        basis: &["111111000", "000111111"]),
 ];
 
 // The extended Golay code, the Nordstrom-Robinson code, and the latter stated for distance 7.
@@ -342,9 +375,9 @@ fn assert_replies(
 
 /// A session that hands in the linear code with the zero word, and asks for its bounds.
 fn linear_session(alloc: Global, code: &Linear) -> Result<String, AllocError> {
-    let (id, n, d, basis) = *code;
+    let Linear { id, n, d, .. } = *code;
     let mut text = format!(in alloc; "submit {id}\nkind = 'cosets'\nn = {n}\nd = {d}\nbasis = [")?;
-    for word in basis {
+    for word in code.basis {
         text.push('\'')?;
         text.push_str(word)?;
         text.push_str("',")?;
@@ -364,13 +397,12 @@ fn linear_session(alloc: Global, code: &Linear) -> Result<String, AllocError> {
 fn linear_codes_are_accepted_with_their_sizes(rt: HostRuntime) -> Result<(), Fail> {
     let alloc = rt.alloc();
     for code in &LINEAR {
-        let (id, n, d, basis) = *code;
-        let size = 1u64 << basis.len();
-        let all = 1u64 << n;
+        let Linear {
+            id, n, d, size, all, ..
+        } = *code;
         let input = linear_session(alloc, code)?;
-        let replies = format!(in alloc;
-            "accepted {id} size {size}\n{size} <= A({n},{d}) <= {all}\n"
-        )?;
+        let replies =
+            format!(in alloc; "accepted {id} size {size}\n{size} <= A({n},{d}) <= {all}\n")?;
         assert_replies(&rt, alloc, &input, &replies)?;
     }
     Ok(())
