@@ -230,7 +230,8 @@ const LINEAR: [Linear; 11] = [
         d: 6,
         size: 4,
         all: 512,
-        basis: &["111111000", "000111111"]),
+        basis: &["111111000", "000111111"],
+    },
 ];
 
 // The extended Golay code, the Nordstrom-Robinson code, and the latter stated for distance 7.
@@ -348,7 +349,7 @@ const DOCUMENTS: [(&str, &str); 21] = [
 fn run_session(alloc: Global, input: &[u8]) -> Result<(Status, Vec<u8>), AllocError> {
     let words = ["session".to_string(alloc)?];
     let mut source = MemSource::new(input.to_vec(alloc)?, Vec::new(alloc), 4096);
-    let mut sink = MemSink::new(alloc, 4096, Vec::new(alloc), 4096)?;
+    let mut sink = MemSink::new(alloc, 65536, Vec::new(alloc), 65536)?;
     let status = run(alloc, &words, &mut source, &mut sink);
     let written = sink.bytes.to_vec(alloc)?;
     Ok((status, written))
