@@ -7,5 +7,4 @@ pub mod WordsAnswers
 pub mod CosetsAnswers
 pub mod DocumentAnswers
 pub mod Evidences
-mod Written
 pub mod OnLiterals

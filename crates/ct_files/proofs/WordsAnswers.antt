@@ -134,6 +134,7 @@ pub words_answer-from : (ms : Members) → (answer : Result Evidence FileFault) 
 words_answer-from ms (Ok (evidence.Words e words)) (states, some, few) =
     reads_words ms e words (Ok (evidence.Words e words)) states (rw (le-leb 1 (length words) some, le-leb (length words) MAX_WORDS few) refl)
 words_answer-from ms (Ok (evidence.Cosets e basis words)) never = absurd never
+words_answer-from ms (Ok (evidence.Build e step part other)) never = absurd never
 words_answer-from ms (Err (Field N)) first = without_entry (table ms) N first
 words_answer-from ms (Err (Field D)) first = without_entry (table ms) D first
 words_answer-from ms (Err (Field W)) first = without_entry (table ms) W first

@@ -12,14 +12,10 @@ mod laws;
 mod reading;
 mod stated_entry;
 mod words;
-mod writing;
 
 pub use evidence::{Evidence, MAX_DOCUMENT};
 pub use fault::FileFault;
 pub use field::FieldName;
 pub use laws::{accepted_documents, answers_to_documents, bytes_without_table};
 pub use reading::read_evidence;
-pub use writing::write_evidence;
 
-#[cfg(test)]
-mod tests;

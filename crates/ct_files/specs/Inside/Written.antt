@@ -34,3 +34,4 @@ cosets_table e basis representatives =
 abbrev pub evidence_table : Evidence → Members
 evidence_table (evidence.Words e words) = words_table e words
 evidence_table (evidence.Cosets e basis representatives) = cosets_table e basis representatives
+evidence_table (evidence.Build e step part other) = no_members
