@@ -1,7 +1,6 @@
 -- The words that a step makes are a code of the stated entry.
-use Rattle.std.proofs.Common.{◌≡◌, ◌≢◌, ℕ, ◌+◌, ◌*◌, ◌-◌, ◌%◌, ◌^◌, ◌<◌, ◌≤◌, Bool, true, false, ◌==◌, List, length, min, Option, Some, None, IfSome, refl, ap, sym, subst, ◌∙◌, arith, eqb-true}
+use Rattle.std.proofs.Common.{◌≡◌, ◌≢◌, ℕ, ◌+◌, ◌*◌, ◌-◌, ◌^◌, ◌<◌, ◌≤◌, List, length, min, Option, Some, None, IfSome, refl, sym, subst, arith, eqb-true}
 use Rattle.std.specs.Option.{option_map, ForSome}
-use Rattle.ct_words.specs.declared.limits.TheConstants.{MAX_N}
 use Rattle.ct_codes.specs.declared.entry.Entry.{Entry}
 use Rattle.ct_codes.specs.Code.{CodeValue, IsCode, IsCodeOf, IsSoundCode}
 use Rattle.ct_codes.proofs.EntryLemmas.{entry_limits}
@@ -12,7 +11,7 @@ use Rattle.ct_build.specs.Juxtaposed.{added_weights}
 use Rattle.ct_build.specs.Shortened.{shortened_weight}
 use Rattle.ct_build.specs.Places.{ArePlaces}
 use Rattle.ct_build.specs.Translation.{selected}
-use Rattle.ct_build.specs.Build.{FieldsFit, FitsStated, is_right_length, is_right_weight, is_right_other, distance_of, step_distance, selected_of, built}
+use Rattle.ct_build.specs.Build.{FieldsFit, FitsStated, is_right_length, is_right_other, step_distance, selected_of, built}
 use Rattle.ct_build.proofs.FrontLemmas.{IsCode-take, IsCode-nearer, IsCode-unweighted}
 use Rattle.ct_build.proofs.AppendLemmas.{IsCode-lengthened, IsCode-one_appended, IsCode-with_parity}
 use Rattle.ct_build.proofs.TranslationLemmas.{IsCode-translated, IsCode-complemented, IsCode-selected}

@@ -1,5 +1,5 @@
 -- What is known of a step against which nothing is told before it is taken.
-use Rattle.std.proofs.Common.{◌≡◌, ◌≢◌, ℕ, ◌+◌, ◌*◌, ◌-◌, ◌%◌, ◌^◌, ◌<◌, ◌≤◌, Bool, true, false, nat_lt, ◌==◌, ◌&&◌, if◌then◌else◌, List, length, Option, Some, None, IfSome, refl, ap, sym, subst, ◌∙◌, arith, eqb-true, leb-true, ltb-true, ltb-false}
+use Rattle.std.proofs.Common.{◌≡◌, ℕ, ◌+◌, ◌*◌, ◌-◌, ◌^◌, ◌<◌, ◌≤◌, Bool, true, false, ◌==◌, if◌then◌else◌, List, length, Option, Some, None, IfSome, refl, ap, sym, subst, arith, eqb-true, ltb-false}
 use Rattle.std.specs.Prelude.{count_by}
 use Rattle.std.specs.Option.{option_map, ForSome}
 use Rattle.std.proofs.lemmas.Bool.{and_parts}
@@ -7,7 +7,6 @@ use Rattle.ct_words.specs.declared.limits.TheConstants.{MAX_N}
 use Rattle.ct_codes.specs.declared.entry.Entry.{Entry}
 use Rattle.ct_codes.specs.Entry.{IsEntry, same_weight}
 use Rattle.ct_codes.specs.Code.{CodeValue}
-use Rattle.ct_codes.specs.Pairs.{first_of}
 use Rattle.ct_codes.proofs.CheckLemmas.{first_of-None}
 use Rattle.ct_codes.proofs.EntryLemmas.{entry_limits}
 use Rattle.ct_build.specs.declared.step.Step.{Step}
@@ -16,7 +15,7 @@ use Rattle.ct_build.specs.Even.{even_from}
 use Rattle.ct_build.specs.Juxtaposed.{added_weights}
 use Rattle.ct_build.specs.Shortened.{shortened_weight}
 use Rattle.ct_build.specs.Places.{ArePlaces}
-use Rattle.ct_build.specs.Build.{FieldsFit, FitsStated, is_right_length, gives_weight, is_right_weight, add_up, is_right_other, distance_of, step_distance, part_fault, other_fault, short_fault, size_fault, few_fault, early_fault}
+use Rattle.ct_build.specs.Build.{FieldsFit, FitsStated, is_right_length, gives_weight, is_right_weight, add_up, is_right_other, distance_of, step_distance, part_fault, other_fault, short_fault, early_fault}
 
 -- the parts are such as the step asks for, and it gives the stated distance
 pub record IsReady (step : Step) (e : Entry) (part : CodeValue) (other : Option CodeValue) : Type 0 where

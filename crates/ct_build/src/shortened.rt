@@ -1,6 +1,6 @@
 //! Shortened codes.
 
-ghost use Rattle.std.specs.Prelude.{◌≡◌, ◌↔◌, ℕ, ◌+◌, ◌-◌, ◌^◌, ◌<◌, ◌≤◌, List, [], ◌∷◌, length, count_by, Option, All, IfOk, IfErr, IsOk, IsPermutation, ◌⊎◌};
+ghost use Rattle.std.specs.Prelude.{◌≡◌, ◌↔◌, ℕ, ◌+◌, ◌-◌, ◌^◌, ◌<◌, ◌≤◌, ◌==◌, List, [], ◌∷◌, length, count_by, Option, All, IfOk, IfErr, IsOk, IsPermutation, ◌⊎◌};
 ghost use Rattle.ct_words.specs.declared.limits.TheConstants.{MAX_N};
 ghost use Rattle.ct_codes.specs.Code.{IsCode, IsSoundCode};
 ghost use Rattle.ct_build.specs.declared.fault.BuildFault.TheVariants.{Empty, Memory};

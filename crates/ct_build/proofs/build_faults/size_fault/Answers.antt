@@ -1,4 +1,4 @@
-use Rattle.std.proofs.Common.{sym, ap, ap₂, length, ◌*◌, ◌∙◌, ◌≡◌, None, subst, option_copied, ℕ}
+use Rattle.std.proofs.Common.{sym, ap, ap₂, length, ◌*◌, ◌∙◌, ◌≡◌, None, option_copied, ℕ}
 use Rattle.ct_build.specs.declared.step.Step.{Step}
 use Rattle.ct_build.specs.declared.step.Step.TheVariants.{Uuv}
 use Rattle.ct_build.specs.Build.{above_limit, words_of, other_of, size_fault}

@@ -1,8 +1,7 @@
-use Rattle.std.proofs.Common.{◌≡◌, ℕ, ◌≤◌, List, length, Option, Some, None, sym, ap, subst, ◌∙◌, option_copied, IsPermutation, arith, rules, eqb-true, false-eqb}
+use Rattle.std.proofs.Common.{◌≡◌, length, sym, ◌∙◌, option_copied, arith, rules, eqb-true, false-eqb}
 use Rattle.std.proofs.lemmas.List.Sorted.{length_permutation, IsPermutation-trans}
-use Rattle.ct_codes.specs.Code.{IsCodeOf, IsSoundCode}
 use Rattle.ct_codes.proofs.CheckLemmas.{IsCode-permutation}
-use Rattle.ct_build.specs.Build.{built, early_fault, build_fault}
+use Rattle.ct_build.specs.Build.{built}
 use Rattle.ct_build.proofs.StepLemmas.{ready}
 use Rattle.ct_build.proofs.BuiltCodes.{built_code, codes_of_sound}
 use Rattle.ct_build.proofs.BuildFaults.{fault_early, fault_empty, fault_none}

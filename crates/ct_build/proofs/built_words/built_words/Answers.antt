@@ -1,4 +1,4 @@
-use Rattle.std.proofs.Common.{◌≡◌, ℕ, List, sym, ap, subst, ◌∙◌, option_copied, IsPermutation}
+use Rattle.std.proofs.Common.{ℕ, List, sym, subst, option_copied, IsPermutation}
 use Rattle.std.specs.Prelude.{IfOk}
 use Rattle.ct_build.specs.declared.step.Step.{Step}
 use Rattle.ct_build.specs.declared.step.Step.TheVariants.{Lengthen, AppendOne, Parity, Puncture, Shorten, Select, Uuv, Juxtapose}

@@ -1,4 +1,4 @@
-use Rattle.std.proofs.Common.{◌≡◌, ℕ, ◌+◌, ◌-◌, ◌^◌, ◌<◌, ◌≤◌, List, All, sym, ap, subst, ◌∙◌, arith, option_copied}
+use Rattle.std.proofs.Common.{ℕ, ◌-◌, ◌^◌, ◌<◌, List, All, sym, ap, subst, arith, option_copied}
 use Rattle.ct_build.proofs.JoinedLemmas.{words_wider}
 use Rattle.ct_build.proofs.built_words.words_side_by_side.Goals as goal
 

@@ -1,4 +1,4 @@
-use Rattle.std.proofs.Common.{◌≡◌, ℕ, ◌^◌, ◌<◌, List, All, sym, ap, subst, ◌∙◌, option_copied}
+use Rattle.std.proofs.Common.{ℕ, ◌^◌, ◌<◌, List, All, sym, ap, subst, ◌∙◌, option_copied}
 use Rattle.ct_build.proofs.built_words.words_with_sums.Goals as goal
 
 pub words_and_sums-requires-clause-second : goal.words_and_sums-requires-clause-second
