@@ -203,6 +203,7 @@ cosets_answer-from ms (Ok (evidence.Cosets e basis words)) (states, few_basis, s
     reads_words ms e basis words (Ok (evidence.Cosets e basis words)) states
     (rw (le-leb (length basis) MAX_N few_basis, le-leb 1 (length words) some, le-leb (length words) MAX_REPRESENTATIVES few) refl)
 cosets_answer-from ms (Ok (evidence.Words e words)) never = absurd never
+cosets_answer-from ms (Ok (evidence.Build e step part other)) never = absurd never
 cosets_answer-from ms (Err (Field N)) first = without_entry (table ms) N first
 cosets_answer-from ms (Err (Field D)) first = without_entry (table ms) D first
 cosets_answer-from ms (Err (Field W)) never = absurd never
