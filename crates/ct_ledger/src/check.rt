@@ -1,16 +1,21 @@
 //! The check of evidence that is handed in.
 
-ghost use Rattle.std.specs.Prelude.{◌≡◌, ◌≢◌, ◌<◌, ◌^◌, All, Ok, Err, IfOk, IfErr, length};
+ghost use Rattle.std.specs.Prelude.{◌≡◌, ◌≢◌, ◌<◌, ◌^◌, All, Ok, Err, Some, None, IfOk, IfErr, OnOk, List, [], length};
 ghost use Rattle.std.specs.Result.{result_err};
 ghost use Rattle.ct_codes.specs.Check.{code_fault};
 ghost use Rattle.ct_codes.specs.Coset.{coset_list, coset_fault};
 ghost use Rattle.ct_codes.specs.Entry.{IsEntry};
+ghost use Rattle.ct_build.specs.Build.{FitsStated};
 ghost use Rattle.ct_files.specs.Evidence.{IsSound, read_of};
-ghost use Rattle.ct_ledger.specs.Submission.{made_of, piece_from};
+ghost use Rattle.ct_ledger.specs.Codes.{NamedCode, code_named, code_over, codes_of};
+ghost use Rattle.ct_ledger.specs.Standing.{AreMade};
+ghost use Rattle.ct_ledger.specs.Submission.{build_refusal, evidence_reason, piece_of, made_of, piece_from};
 
+use crate::codes::{built_alone, built_beside, code_named};
 use crate::fault::SubmitFault;
 use crate::piece::Piece;
-use ct_codes::{CodeFault, Entry, check_cosets, check_words};
+use ct_build::{BuildFault, Step};
+use ct_codes::{Code, CodeFault, Entry, check_cosets, check_words};
 use ct_files::{Evidence, FileFault, read_evidence};
 use ct_text::{Id, Text};
 use ct_words::{Word, WordList};
@@ -49,7 +54,7 @@ fn coset_size(
     Ok(code.size())
 }
 
-/// The piece that words make under the id, or why they make none.
+/// The piece that words make under the id, whatever pieces stand, or why they make none.
 fn words_piece(
     alloc: Global,
     id: Id,
@@ -58,9 +63,10 @@ fn words_piece(
     words: WordList,
 ) -> Result<Piece, SubmitFault>
     requires { IsSound (Evidence.Words entry words) }
-    ensures made { IfOk result (λ piece. made_of id document (Evidence.Words entry words) ≡ Ok piece) }
-    ensures fault { IfErr result (λ fault. fault ≢ SubmitFault.Memory
-        → made_of id document (Evidence.Words entry words) ≡ Err fault) }
+    ensures made { IfOk result (λ piece. (known : List NamedCode)
+        → made_of known id document (Evidence.Words entry words) ≡ Ok piece) }
+    ensures fault { IfErr result (λ fault. (known : List NamedCode) → fault ≢ SubmitFault.Memory
+        → made_of known id document (Evidence.Words entry words) ≡ Err fault) }
 {
     let listed = Vec::from_slice(alloc, words.as_slice())?;
     match checked_size(alloc, entry, listed) {
@@ -72,7 +78,7 @@ fn words_piece(
     }
 }
 
-/// The piece that cosets make under the id, or why they make none.
+/// The piece that cosets make under the id, whatever pieces stand, or why they make none.
 fn cosets_piece(
     alloc: Global,
     id: Id,
@@ -82,9 +88,10 @@ fn cosets_piece(
     representatives: WordList,
 ) -> Result<Piece, SubmitFault>
     requires { IsSound (Evidence.Cosets entry basis representatives) }
-    ensures made { IfOk result (λ piece. made_of id document (Evidence.Cosets entry basis representatives) ≡ Ok piece) }
-    ensures fault { IfErr result (λ fault. fault ≢ SubmitFault.Memory
-        → made_of id document (Evidence.Cosets entry basis representatives) ≡ Err fault) }
+    ensures made { IfOk result (λ piece. (known : List NamedCode)
+        → made_of known id document (Evidence.Cosets entry basis representatives) ≡ Ok piece) }
+    ensures fault { IfErr result (λ fault. (known : List NamedCode) → fault ≢ SubmitFault.Memory
+        → made_of known id document (Evidence.Cosets entry basis representatives) ≡ Err fault) }
 {
     match coset_size(alloc, entry, basis.as_slice(), representatives.as_slice()) {
         Ok(size) => {
@@ -100,16 +107,96 @@ fn cosets_piece(
     }
 }
 
-/// The piece that the evidence makes under the id, or why it makes none.
-pub(crate) fn make_piece(
+/// The code of the piece of this id, which is a part, or that it does not stand.
+fn standing_code(alloc: Global, pieces: &[Piece], id: Id) -> Result<Code, SubmitFault>
+    requires { AreMade [] pieces.now }
+    ensures code { IfOk result (λ code. code_named id (codes_of pieces.now) ≡ Some code) }
+    ensures fault { IfErr result (λ fault. fault ≢ SubmitFault.Memory
+        → (code_named id (codes_of pieces.now) ≡ None) × (fault ≡ SubmitFault.NoSuch id)) }
+{
+    match code_named(alloc, pieces, id)? {
+        Some(code) => Ok(code),
+        None => Err(SubmitFault::NoSuch(id)),
+    }
+}
+
+/// Why the step is refused over parts of these ids.
+fn build_refusal(part: Id, other: Option<Id>, fault: BuildFault) -> SubmitFault
+    ensures memory { result ≢ SubmitFault.Memory → fault ≢ BuildFault.Memory }
+    ensures refusal { fault ≢ BuildFault.Memory → result ≡ build_refusal part other fault }
+{
+    match fault {
+        BuildFault::WrongPart(0) => SubmitFault::WrongPart(part),
+        BuildFault::WrongPart(_) => SubmitFault::WrongPart(other.unwrap_or(part)),
+        BuildFault::Memory => SubmitFault::Memory,
+        BuildFault::Short(_, _) | BuildFault::Size(_) | BuildFault::Few(_, _) | BuildFault::Empty => {
+            SubmitFault::Build(fault)
+        }
+    }
+}
+
+/// The code that the step makes over the pieces, or why it makes none.
+fn build_code(
     alloc: Global,
+    pieces: &[Piece],
+    entry: Entry,
+    step: &Step,
+    part: Id,
+    other: Option<Id>,
+) -> Result<Code, SubmitFault>
+    requires made { AreMade [] pieces.now }
+    requires sound { FitsStated step.now entry }
+    ensures code { IfOk result (λ code. code ≡ code_over (codes_of pieces.now) (Evidence.Build entry step.now part other)) }
+    ensures accepted { OnOk result (evidence_reason (codes_of pieces.now) (Evidence.Build entry step.now part other) ≡ None) }
+    ensures fault { IfErr result (λ fault. fault ≢ SubmitFault.Memory
+        → evidence_reason (codes_of pieces.now) (Evidence.Build entry step.now part other) ≡ Some fault) }
+{
+    let first = standing_code(alloc, pieces, part)?;
+    let Some(id) = other else {
+        return built_alone(alloc, step, entry, &first)
+            .map_err(|fault| build_refusal(part, None, fault));
+    };
+    let second = standing_code(alloc, pieces, id)?;
+    built_beside(alloc, step, entry, &first, &second)
+        .map_err(|fault| build_refusal(part, other, fault))
+}
+
+/// The piece of a build whose code this is.
+fn build_piece(
+    id: Id,
+    document: Text,
+    entry: Entry,
+    step: Step,
+    part: Id,
+    other: Option<Id>,
+    code: &Code,
+) -> Piece
+    ensures { (known : List NamedCode) → code.now ≡ code_over known (Evidence.Build entry step part other)
+        → result ≡ piece_of known id document (Evidence.Build entry step part other) }
+{
+    let size = code.words().len() as u32;
+    let evidence = Evidence::Build {
+        entry,
+        step,
+        part,
+        other,
+    };
+    Piece::new(id, document, evidence, entry, Some(size))
+}
+
+/// The piece that the evidence makes under the id over the pieces, or why it makes none.
+fn make_piece(
+    alloc: Global,
+    pieces: &[Piece],
     id: Id,
     document: Text,
     evidence: Evidence,
 ) -> Result<Piece, SubmitFault>
-    requires { IsSound evidence }
-    ensures made { IfOk result (λ piece. made_of id document evidence ≡ Ok piece) }
-    ensures fault { IfErr result (λ fault. fault ≢ SubmitFault.Memory → made_of id document evidence ≡ Err fault) }
+    requires standing { AreMade [] pieces.now }
+    requires sound { IsSound evidence }
+    ensures made { IfOk result (λ piece. made_of (codes_of pieces.now) id document evidence ≡ Ok piece) }
+    ensures fault { IfErr result (λ fault. fault ≢ SubmitFault.Memory
+        → made_of (codes_of pieces.now) id document evidence ≡ Err fault) }
 {
     match evidence {
         Evidence::Words { entry, words } => words_piece(alloc, id, document, entry, words),
@@ -118,17 +205,33 @@ pub(crate) fn make_piece(
             basis,
             representatives,
         } => cosets_piece(alloc, id, document, entry, basis, representatives),
+        Evidence::Build {
+            entry,
+            step,
+            part,
+            other,
+        } => {
+            let code = build_code(alloc, pieces, entry, &step, part, other)?;
+            Ok(build_piece(id, document, entry, step, part, other, &code))
+        }
     }
 }
 
-/// The piece that the document makes under the id, or why it makes none. No piece that stands is looked at.
-pub(crate) fn check_document(alloc: Global, id: Id, document: Text) -> Result<Piece, SubmitFault>
-    ensures made { IfOk result (λ piece. piece_from id document (read_of document) ≡ Ok piece) }
+/// The piece that the document makes under the id over the pieces, or why it makes none. Whether its id is taken is not
+/// looked at.
+pub(crate) fn check_document(
+    alloc: Global,
+    pieces: &[Piece],
+    id: Id,
+    document: Text,
+) -> Result<Piece, SubmitFault>
+    requires { AreMade [] pieces.now }
+    ensures made { IfOk result (λ piece. piece_from (codes_of pieces.now) id document (read_of document) ≡ Ok piece) }
     ensures fault { IfErr result (λ fault. fault ≢ SubmitFault.Memory
-        → piece_from id document (read_of document) ≡ Err fault) }
+        → piece_from (codes_of pieces.now) id document (read_of document) ≡ Err fault) }
 {
     match read_evidence(alloc, document.bytes()) {
-        Ok(evidence) => make_piece(alloc, id, document, evidence),
+        Ok(evidence) => make_piece(alloc, pieces, id, document, evidence),
         Err(FileFault::Memory) => Err(SubmitFault::Memory),
         Err(fault) => Err(SubmitFault::File(fault)),
     }
