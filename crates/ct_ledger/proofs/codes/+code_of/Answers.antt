@@ -1,12 +1,13 @@
-use Rattle.std.proofs.Common.{◌≡◌, List, ℕ, Option, Some, None, length, take, get_or, refl, sym, ap, ap₂, subst, ◌∙◌, arith, length-take}
+use Rattle.std.proofs.Common.{◌≡◌, List, [], ℕ, Option, Some, None, length, take, get_or, refl, sym, ap, ap₂, subst, ◌∙◌, arith, length-take}
 use Rattle.std.specs.Prelude.{All, ◌^◌, ◌<◌}
 use Rattle.ct_codes.specs.Check.{code_fault}
 use Rattle.ct_codes.specs.Coset.{coset_fault, coset_list}
 use Rattle.ct_codes.specs.Code.{CodeValue}
+use Rattle.ct_build.specs.Build.{built}
 use Rattle.ct_files.specs.declared.evidence.Evidence.{Evidence}
 use Rattle.ct_files.specs.declared.evidence.Evidence.TheVariants.{Words, Cosets, Build}
 use Rattle.ct_ledger.specs.Piece.{PieceValue}
-use Rattle.ct_ledger.specs.Codes.{codes_of, built_over, code_of_place}
+use Rattle.ct_ledger.specs.Codes.{codes_of, other_named, built_over}
 use Rattle.ct_ledger.proofs.CodeLemmas.{AreMade-take, position-some, position-none}
 use Rattle.ct_ledger.proofs.MakingLemmas.{IsRight, placed_evidence, placed_right, words_right, cosets_right, part_missing, other_missing, build_at, placed_answer}
 use Rattle.ct_ledger.proofs.codes.+code_of.Goals as goal
@@ -79,4 +80,82 @@ code_of-requires t c =
     let within = found.0 in
     let fewer = length-take c.args.place c.args.pieces.now in
     let measure = c.decreases in
-    (omega arith, AreMade-take [] c.args.pieces.now c.args.place c.requires.made, within)
+    (omega arith, (AreMade-take [] c.args.pieces.now c.args.place c.requires.made, within))
+
+pub rebuilt_alone-requires-clause-fits : goal.rebuilt_alone-requires-clause-fits
+rebuilt_alone-requires-clause-fits t c =
+    let evidence = Build c.in-Build.entry c.in-Build.step c.in-Build.part c.in-Build.other in
+    let right = placed_right c.args.pieces.now c.args.place c.index-pieces-place.result c.evidence.result.now evidence c.requires.made c.requires.place c.index-pieces-place.is c.evidence.ensures c.in-Build.is in
+    let before = take c.args.place c.args.pieces.now in
+    right.sound.0
+
+pub rebuilt_alone-requires-clause-faultless : goal.rebuilt_alone-requires-clause-faultless
+rebuilt_alone-requires-clause-faultless t c =
+    let evidence = Build c.in-Build.entry c.in-Build.step c.in-Build.part c.in-Build.other in
+    let right = placed_right c.args.pieces.now c.args.place c.index-pieces-place.result c.evidence.result.now evidence c.requires.made c.requires.place c.index-pieces-place.is c.evidence.ensures c.in-Build.is in
+    let before = take c.args.place c.args.pieces.now in
+    let found = position-some c.in-Build.part before c.in-Some.first (sym c.place_of.ensures ∙ c.in-Some.is) in
+    let part_is = found.1 ∙ c.in_ok-part-in-Build.ensures.code in
+    let other_is = ap (λ (o : Option (List ℕ)). other_named o (codes_of before)) c.in_default-other.is in
+    build_at (codes_of before) c.in-Build.entry c.in-Build.step c.in-Build.part c.in-Build.other c.in_ok-part-in-Build.part None right part_is other_is
+
+pub returns-in_default-other : goal.returns-in_default-other
+returns-in_default-other t c =
+    let evidence = Build c.in-Build.entry c.in-Build.step c.in-Build.part c.in-Build.other in
+    let right = placed_right c.args.pieces.now c.args.place c.index-pieces-place.result c.evidence.result.now evidence c.requires.made c.requires.place c.index-pieces-place.is c.evidence.ensures c.in-Build.is in
+    let before = take c.args.place c.args.pieces.now in
+    let found = position-some c.in-Build.part before c.in-Some.first (sym c.place_of.ensures ∙ c.in-Some.is) in
+    let part_is = found.1 ∙ c.in_ok-part-in-Build.ensures.code in
+    let other_is = ap (λ (o : Option (List ℕ)). other_named o (codes_of before)) c.in_default-other.is in
+    let words = sym (ap₂ (built_over c.in-Build.entry c.in-Build.step) part_is other_is) in
+    let is = placed_evidence c.args.pieces.now c.args.place c.index-pieces-place.result c.evidence.result.now evidence c.index-pieces-place.is c.evidence.ensures c.in-Build.is in
+    record { code = placed_answer c.args.pieces.now c.args.place c.index-pieces-place.result evidence (built c.in-Build.step c.in-Build.entry c.in_ok-part-in-Build.part None) c.rebuilt_alone.result c.requires.place is words c.rebuilt_alone.ensures }
+
+pub unreachable-requires-in_default-place_of : goal.unreachable-requires-in_default-place_of
+unreachable-requires-in_default-place_of t c =
+    let evidence = Build c.in-Build.entry c.in-Build.step c.in-Build.part c.in-Build.other in
+    let right = placed_right c.args.pieces.now c.args.place c.index-pieces-place.result c.evidence.result.now evidence c.requires.made c.requires.place c.index-pieces-place.is c.evidence.ensures c.in-Build.is in
+    let before = take c.args.place c.args.pieces.now in
+    let named = subst (λ (o : Option (List ℕ)). IsRight (codes_of before) (Build c.in-Build.entry c.in-Build.step c.in-Build.part o)) c.in-Some-other.is right in
+    other_missing (codes_of before) c.in-Build.entry c.in-Build.step c.in-Build.part c.in-Some-other.other named
+    (position-none c.in-Some-other.other before (sym c.place_of-in-Build.ensures ∙ c.in_default-place_of.is))
+
+pub code_of-requires-in-Build : goal.code_of-requires-in-Build
+code_of-requires-in-Build t c =
+    let before = take c.args.place c.args.pieces.now in
+    let found = position-some c.in-Some-other.other before c.in-Some-place_of.second (sym c.place_of-in-Build.ensures ∙ c.in-Some-place_of.is) in
+    let within = found.0 in
+    let fewer = length-take c.args.place c.args.pieces.now in
+    let measure = c.decreases in
+    (omega arith, (AreMade-take [] c.args.pieces.now c.args.place c.requires.made, within))
+
+pub rebuilt_beside-requires-clause-fits : goal.rebuilt_beside-requires-clause-fits
+rebuilt_beside-requires-clause-fits t c =
+    let evidence = Build c.in-Build.entry c.in-Build.step c.in-Build.part c.in-Build.other in
+    let right = placed_right c.args.pieces.now c.args.place c.index-pieces-place.result c.evidence.result.now evidence c.requires.made c.requires.place c.index-pieces-place.is c.evidence.ensures c.in-Build.is in
+    let before = take c.args.place c.args.pieces.now in
+    right.sound.0
+
+pub rebuilt_beside-requires-clause-faultless : goal.rebuilt_beside-requires-clause-faultless
+rebuilt_beside-requires-clause-faultless t c =
+    let evidence = Build c.in-Build.entry c.in-Build.step c.in-Build.part c.in-Build.other in
+    let right = placed_right c.args.pieces.now c.args.place c.index-pieces-place.result c.evidence.result.now evidence c.requires.made c.requires.place c.index-pieces-place.is c.evidence.ensures c.in-Build.is in
+    let before = take c.args.place c.args.pieces.now in
+    let found = position-some c.in-Build.part before c.in-Some.first (sym c.place_of.ensures ∙ c.in-Some.is) in
+    let part_is = found.1 ∙ c.in_ok-part-in-Build.ensures.code in
+    let beside = position-some c.in-Some-other.other before c.in-Some-place_of.second (sym c.place_of-in-Build.ensures ∙ c.in-Some-place_of.is) in
+    let other_is = ap (λ (o : Option (List ℕ)). other_named o (codes_of before)) c.in-Some-other.is ∙ beside.1 ∙ c.in_ok-other-in-Build.ensures.code in
+    build_at (codes_of before) c.in-Build.entry c.in-Build.step c.in-Build.part c.in-Build.other c.in_ok-part-in-Build.part (Some c.in_ok-other-in-Build.other) right part_is other_is
+
+pub returns-in_ok-other-in-Build : goal.returns-in_ok-other-in-Build
+returns-in_ok-other-in-Build t c =
+    let evidence = Build c.in-Build.entry c.in-Build.step c.in-Build.part c.in-Build.other in
+    let right = placed_right c.args.pieces.now c.args.place c.index-pieces-place.result c.evidence.result.now evidence c.requires.made c.requires.place c.index-pieces-place.is c.evidence.ensures c.in-Build.is in
+    let before = take c.args.place c.args.pieces.now in
+    let found = position-some c.in-Build.part before c.in-Some.first (sym c.place_of.ensures ∙ c.in-Some.is) in
+    let part_is = found.1 ∙ c.in_ok-part-in-Build.ensures.code in
+    let beside = position-some c.in-Some-other.other before c.in-Some-place_of.second (sym c.place_of-in-Build.ensures ∙ c.in-Some-place_of.is) in
+    let other_is = ap (λ (o : Option (List ℕ)). other_named o (codes_of before)) c.in-Some-other.is ∙ beside.1 ∙ c.in_ok-other-in-Build.ensures.code in
+    let words = sym (ap₂ (built_over c.in-Build.entry c.in-Build.step) part_is other_is) in
+    let is = placed_evidence c.args.pieces.now c.args.place c.index-pieces-place.result c.evidence.result.now evidence c.index-pieces-place.is c.evidence.ensures c.in-Build.is in
+    record { code = placed_answer c.args.pieces.now c.args.place c.index-pieces-place.result evidence (built c.in-Build.step c.in-Build.entry c.in_ok-part-in-Build.part (Some c.in_ok-other-in-Build.other)) c.rebuilt_beside.result c.requires.place is words c.rebuilt_beside.ensures }
