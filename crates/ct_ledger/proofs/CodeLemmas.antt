@@ -175,3 +175,8 @@ named_where_taken id known (p ∷ ps) = at (bytes_eq p.id id) (named_where_taken
   at : (b : Bool) → is_some (code_named id (codes_after next ps)) ≡ has_id id ps → is_some (cond b (Some (own.code)) (code_named id (codes_after next ps))) ≡ (b || has_id id ps)
   at true rest = refl
   at false rest = rest
+
+-- the codes have the ids of the pieces
+pub ids_of_codes : (known : List NamedCode) (ps : List PieceValue) → map (λ (k : NamedCode). k.id) (codes_after known ps) ≡ map (λ (p : PieceValue). p.id) ps
+ids_of_codes known [] = refl
+ids_of_codes known (p ∷ ps) = ap (λ (ids : List (List ℕ)). p.id ∷ ids) (ids_of_codes (known ++ named_code known p ∷ []) ps)

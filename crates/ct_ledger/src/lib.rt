@@ -13,7 +13,7 @@ mod piece;
 mod text;
 
 pub use fault::{SubmitFault, WithdrawFault};
-pub use laws::submissions_that_are_accepted;
+pub use laws::{pieces_have_codes, submissions_that_are_accepted};
 pub use ledger::Ledger;
 pub use limits::{MAX_PIECES, MAX_STORED};
 pub use piece::Piece;
