@@ -10,6 +10,8 @@ mod laws;
 mod ledger;
 mod limits;
 mod piece;
+#[cfg(test)]
+mod tests;
 mod text;
 
 pub use fault::{SubmitFault, WithdrawFault};

@@ -201,7 +201,7 @@ const LINEAR: [Linear; 11] = [
 ];
 
 // The extended Golay code, the Nordstrom-Robinson code, and the latter stated for distance 7.
-const GOLAY: &str = "\
+pub(crate) const GOLAY: &str = "\
 kind = \"cosets\"
 n = 24
 d = 8
@@ -322,7 +322,7 @@ fn run_session(alloc: Global, input: &[u8]) -> Result<(Status, Vec<u8>), AllocEr
 }
 
 /// The session on the input writes the replies; it ends as Refused where one of them is a refusal.
-fn assert_replies(
+pub(crate) fn assert_replies(
     rt: &impl Abort,
     alloc: Global,
     input: &str,
