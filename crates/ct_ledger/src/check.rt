@@ -116,9 +116,8 @@ fn build_refusal(part: Id, other: Option<Id>, fault: BuildFault) -> SubmitFault
         BuildFault::WrongPart(0) => SubmitFault::WrongPart(part),
         BuildFault::WrongPart(_) => SubmitFault::WrongPart(other.unwrap_or(part)),
         BuildFault::Memory => SubmitFault::Memory,
-        BuildFault::Short(_, _) | BuildFault::Size(_) | BuildFault::Few(_, _) | BuildFault::Empty => {
-            SubmitFault::Build(fault)
-        }
+        BuildFault::Short(_, _) | BuildFault::Size(_) | BuildFault::Few(_, _) | BuildFault::Empty =>
+            { SubmitFault::Build(fault) }
     }
 }
 
@@ -140,12 +139,14 @@ fn build_code(
 {
     let first = standing_code(alloc, pieces, part)?;
     let Some(id) = other else {
-        return built_alone(alloc, step, entry, &first)
-            .map_err(|fault| build_refusal(part, None, fault));
+        return built_alone(alloc, step, entry, &first).map_err(|fault| build_refusal(
+            part, None, fault,
+        ));
     };
     let second = standing_code(alloc, pieces, id)?;
-    built_beside(alloc, step, entry, &first, &second)
-        .map_err(|fault| build_refusal(part, other, fault))
+    built_beside(alloc, step, entry, &first, &second).map_err(|fault| build_refusal(
+        part, other, fault,
+    ))
 }
 
 /// The number of the words of the code.
@@ -176,11 +177,7 @@ fn build_size(
 }
 
 /// The number of the words of the code that the evidence states over the pieces, or why it states none.
-fn evidence_size(
-    alloc: Global,
-    pieces: &[Piece],
-    evidence: &Evidence,
-) -> Result<u32, SubmitFault>
+fn evidence_size(alloc: Global, pieces: &[Piece], evidence: &Evidence) -> Result<u32, SubmitFault>
     requires standing { AreMade [] pieces.now }
     requires sound { IsSound evidence.now }
     ensures size { IfOk result (λ size. size ≡ length (words_over (codes_of pieces.now) evidence.now)) }

@@ -90,12 +90,7 @@ pub(crate) fn built_beside(
 }
 
 /// The code of the entry that a step makes of one part, which it was found to make.
-fn rebuilt_alone(
-    alloc: Global,
-    step: &Step,
-    entry: Entry,
-    part: &Code,
-) -> Result<Code, AllocError>
+fn rebuilt_alone(alloc: Global, step: &Step, entry: Entry, part: &Code) -> Result<Code, AllocError>
     requires fits { FitsStated step.now entry }
     requires faultless { build_fault step.now entry part.now None ≡ None }
     ensures { IfOk result (λ code. code ≡ code_at entry (built step.now entry part.now None)) }

@@ -1,13 +1,11 @@
 //! Facts about every submission.
 
-ghost use Rattle.std.specs.Prelude.{◌≡◌, ◌≢◌, ◌↔◌, ℕ, List, [], Option, Some, None, Err, Ok, All, Contains, IsTrue, map};
+ghost use Rattle.std.specs.Prelude.{◌≡◌, ◌↔◌, ℕ, List, Ok, All, Contains, IsTrue, map};
 ghost use Rattle.ct_codes.specs.Code.{IsSoundCode};
-ghost use Rattle.ct_build.specs.declared.fault.BuildFault.TheVariants as build;
-ghost use Rattle.ct_ledger.specs.Codes.{NamedCode, codes_of};
+ghost use Rattle.ct_ledger.specs.Codes.{codes_of};
 ghost use Rattle.ct_ledger.specs.Piece.{PieceValue, has_id};
 ghost use Rattle.ct_ledger.specs.Standing.{AreStanding};
 ghost use Rattle.ct_ledger.specs.Submission.{submitted, IsAccepted};
-ghost use Rattle.ct_ledger.specs.declared.fault.SubmitFault.TheVariants as fault;
 
 /// A submission over pieces that stand makes a piece exactly where its id is free, there is room, each part that its
 /// document names stands and is right, the document states a code of its entry, whose check is within the limit, and the

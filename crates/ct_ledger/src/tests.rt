@@ -7,13 +7,7 @@ use std::process::Abort;
 use std::test::Fail;
 
 // Documents, the lengths, distances and weights of their codes, and their words in ascending order.
-type Row = (
-    &'static str,
-    u32,
-    u32,
-    Option<u32>,
-    &'static [u32],
-);
+type Row = (&'static str, u32, u32, Option<u32>, &'static [u32]);
 
 const CODES: [Row; 3] = [
     (
