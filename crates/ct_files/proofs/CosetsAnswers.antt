@@ -18,8 +18,7 @@ use Rattle.ct_files.specs.CosetsDocument.{HasCosets, cosets_fields, IsCosetsDocu
 use Rattle.ct_files.specs.declared.evidence.Evidence.{Evidence}
 use Rattle.ct_files.specs.declared.evidence.Evidence.TheVariants as evidence
 use Rattle.ct_files.specs.declared.field.FieldName.{FieldName}
-use Rattle.ct_files.specs.declared.field.FieldName.TheVariants as name
-use Rattle.ct_files.specs.declared.field.FieldName.TheVariants.{N, D, W, Basis, Representatives}
+use Rattle.ct_files.specs.declared.field.FieldName.TheVariants.{N, D, Basis, Representatives}
 use Rattle.ct_files.specs.declared.fault.FileFault.{FileFault}
 use Rattle.ct_files.specs.declared.fault.FileFault.TheVariants.{Bytes, NotToml, Kind, Field, Unknown, Digits, Size, Memory}
 use Rattle.ct_files.proofs.StepLemmas.{bind-ok, bind-err, bind-at, bind-at_err, bind-cases, check-ok, check-err}
@@ -77,10 +76,7 @@ first_wrong document e basis texts fault form read =
 entry_answer : (document : Data) (name : FieldName) → IsPlainEntryFault document name → IsCosetsAnswer document (Err (Field name))
 entry_answer document N none = none
 entry_answer document D none = none
-entry_answer document W never = absurd never
-entry_answer document name.Words never = absurd never
-entry_answer document Basis never = absurd never
-entry_answer document Representatives never = absurd never
+entry_answer document name never = absurd never
 
 -- the answer to a document of kind cosets comes where it is said to come
 pub cosets_answer : (ms : Members) → IsOfKind (codes "cosets") (table ms) → IsCosetsAnswer (table ms) (cosets_evidence_of (table ms))
@@ -202,14 +198,12 @@ pub cosets_answer-from : (ms : Members) → (answer : Result Evidence FileFault)
 cosets_answer-from ms (Ok (evidence.Cosets e basis words)) (states, few_basis, some, few) =
     reads_words ms e basis words (Ok (evidence.Cosets e basis words)) states
     (rw (le-leb (length basis) MAX_N few_basis, le-leb 1 (length words) some, le-leb (length words) MAX_REPRESENTATIVES few) refl)
-cosets_answer-from ms (Ok (evidence.Words e words)) never = absurd never
-cosets_answer-from ms (Ok (evidence.Build e step part other)) never = absurd never
+cosets_answer-from ms (Ok other) never = absurd never
 cosets_answer-from ms (Err (Field N)) first = without_entry (table ms) N first
 cosets_answer-from ms (Err (Field D)) first = without_entry (table ms) D first
-cosets_answer-from ms (Err (Field W)) never = absurd never
-cosets_answer-from ms (Err (Field name.Words)) never = absurd never
 cosets_answer-from ms (Err (Field Basis)) ((e, entry), none) = without_basis (table ms) e entry none
 cosets_answer-from ms (Err (Field Representatives)) ((e, entry), (basis, at_basis), none) = without_representatives (table ms) e basis entry at_basis none
+cosets_answer-from ms (Err (Field name)) never = absurd never
 cosets_answer-from ms (Err Unknown) (e, basis, texts, key, fields, other) =
     reads_fields (table ms) e basis texts (Err Unknown) fields (rw (has_only-from_other cosets_fields ms key other) refl)
 cosets_answer-from ms (Err (Digits i)) (e, basis, texts, form, first) = with_wrong_text ms e basis texts i form first

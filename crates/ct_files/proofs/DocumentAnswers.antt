@@ -7,14 +7,17 @@ use Rattle.std.proofs.lemmas.Str.{IsUtf8-from_is_utf8, is_utf8-from_IsUtf8}
 use Rattle.toml.specs.Data.{Data, table, Members}
 use Rattle.toml.specs.Parse.{parse_document}
 use Rattle.ct_codes.specs.declared.entry.Entry.{Entry}
+use Rattle.ct_build.specs.declared.step.Step.{Step}
 use Rattle.ct_files.specs.Fields.{is_of_kind}
 use Rattle.ct_files.specs.Document.{table_of}
 use Rattle.ct_files.specs.Words.{words_evidence_of}
 use Rattle.ct_files.specs.Cosets.{cosets_evidence_of}
+use Rattle.ct_files.specs.Build.{build_evidence_of}
 use Rattle.ct_files.specs.Evidence.{evidence_of, read_without_limit, read_of}
 use Rattle.ct_files.specs.Tables.{IsDocument, IsOfKind}
 use Rattle.ct_files.specs.WordsDocument.{StatesWords, IsWordsAnswer, AcceptsWords}
 use Rattle.ct_files.specs.CosetsDocument.{StatesCosets, IsCosetsAnswer, AcceptsCosets}
+use Rattle.ct_files.specs.BuildDocument.{StatesBuild, AcceptsBuild, IsBuildFault}
 use Rattle.ct_files.specs.declared.evidence.TheConstants.{MAX_DOCUMENT}
 use Rattle.ct_files.specs.declared.evidence.Evidence.{Evidence}
 use Rattle.ct_files.specs.declared.evidence.Evidence.TheVariants as evidence
@@ -23,6 +26,7 @@ use Rattle.ct_files.specs.declared.fault.FileFault.TheVariants.{Bytes, NotToml, 
 use Rattle.ct_files.proofs.FieldLemmas.{is_of_kind-true, is_of_kind-from}
 use Rattle.ct_files.proofs.WordsAnswers.{words_answer, words_answer-from, words_answers}
 use Rattle.ct_files.proofs.CosetsAnswers.{cosets_answer, cosets_answer-from, cosets_answers}
+use Rattle.ct_files.proofs.BuildAnswers.{IsBuildAnswer, build_answer, build_answer-from}
 
 -- what a document of kind words reads as is the evidence of words
 pub evidence_of-words : (document : Data) → IsOfKind (codes "words") document → evidence_of document ≡ words_evidence_of document
@@ -34,15 +38,22 @@ pub evidence_of-cosets : (document : Data) → IsOfKind (codes "cosets") documen
 unfolding evidence_of
 evidence_of-cosets document of_kind = rw of_kind refl
 
+-- what a document of kind build reads as is the evidence of a build
+pub evidence_of-build : (document : Data) → IsOfKind (codes "build") document → evidence_of document ≡ build_evidence_of document
+unfolding evidence_of
+evidence_of-build document of_kind = rw of_kind refl
+
 -- a kind that does not stand fails its test
 other_kind : (kind : List ℕ) (document : Data) → ¬ (IsOfKind kind document) → is_of_kind kind document ≡ false
 other_kind kind document other =
     elim (cases_Bool (is_of_kind kind document)) [ inl same ↦ absurd (other (is_of_kind-true kind document same)) | inr none ↦ none ]
 
 -- a document of another kind is refused
-evidence_of-other : (document : Data) → ¬ (IsOfKind (codes "words") document) → ¬ (IsOfKind (codes "cosets") document) → evidence_of document ≡ Err Kind
+evidence_of-other : (document : Data) → ¬ (IsOfKind (codes "words") document) → ¬ (IsOfKind (codes "cosets") document) → ¬ (IsOfKind (codes "build") document)
+    → evidence_of document ≡ Err Kind
 unfolding evidence_of
-evidence_of-other document no_words no_cosets = rw (other_kind (codes "words") document no_words, other_kind (codes "cosets") document no_cosets) refl
+evidence_of-other document no_words no_cosets no_build =
+    rw (other_kind (codes "words") document no_words, other_kind (codes "cosets") document no_cosets, other_kind (codes "build") document no_build) refl
 
 -- bytes that are not too many read as without the limit
 pub read_of-short : (bytes : List ℕ) → length bytes ≤ MAX_DOCUMENT → read_of bytes ≡ read_without_limit bytes
@@ -107,7 +118,9 @@ kind_or_none kind document =
 pub data DocumentAnswer (document : Data) (answer : Result Evidence FileFault) : Type 0 where
   words : IsOfKind (codes "words") document → IsWordsAnswer document answer → DocumentAnswer document answer
   cosets : IsOfKind (codes "cosets") document → IsCosetsAnswer document answer → DocumentAnswer document answer
-  of_no_kind : ¬ (IsOfKind (codes "words") document) → ¬ (IsOfKind (codes "cosets") document) → answer ≡ Err Kind → DocumentAnswer document answer
+  build : IsOfKind (codes "build") document → IsBuildAnswer document answer → DocumentAnswer document answer
+  of_no_kind : ¬ (IsOfKind (codes "words") document) → ¬ (IsOfKind (codes "cosets") document) → ¬ (IsOfKind (codes "build") document) → answer ≡ Err Kind
+      → DocumentAnswer document answer
 
 -- the answer to a document comes where it is said to come, or the kind is refused
 pub document_answer : (bytes : List ℕ) (document : Data) → IsDocument bytes document → DocumentAnswer document (read_of bytes)
@@ -123,7 +136,13 @@ document_answer bytes document written =
             | inl of_kind ↦
                 let answer = subst (λ d. IsOfKind (codes "cosets") d → IsCosetsAnswer d (cosets_evidence_of d)) (sym same) (cosets_answer ms) of_kind in
                 cosets of_kind (rw (read, evidence_of-cosets document of_kind) answer)
-            | inr no_cosets ↦ of_no_kind no_words no_cosets (read ∙ evidence_of-other document no_words no_cosets)
+            | inr no_cosets ↦
+                elim (kind_or_none (codes "build") document) [
+                  | inl of_kind ↦
+                      let answer = subst (λ d. IsOfKind (codes "build") d → IsBuildAnswer d (build_evidence_of d)) (sym same) (build_answer ms) of_kind in
+                      build of_kind (rw (read, evidence_of-build document of_kind) answer)
+                  | inr no_build ↦ of_no_kind no_words no_cosets no_build (read ∙ evidence_of-other document no_words no_cosets no_build)
+                ]
           ]
     ]
 
@@ -151,7 +170,8 @@ accepted bytes e listed read = at (rw read at (bytes_answer bytes))
     at : BytesAnswer bytes (Ok (evidence.Words e listed)) → AcceptsWords bytes e listed
     at (long many other) = absurd cc
     at (no_table short none other) = absurd cc
-    at (of_document document written (of_no_kind no_words no_cosets other)) = absurd cc
+    at (of_document document written (of_no_kind no_words no_cosets no_build other)) = absurd cc
+    at (of_document document written (build of_kind never)) = absurd never
     at (of_document document written (cosets of_kind never)) = absurd never
     at (of_document document written (words of_kind (states, some, few))) =
         record { document = document; written = written; states = states; some = some; few = few }
@@ -173,7 +193,8 @@ accepted_cosets bytes e basis representatives read = at (rw read at (bytes_answe
     at : BytesAnswer bytes (Ok (evidence.Cosets e basis representatives)) → AcceptsCosets bytes e basis representatives
     at (long many other) = absurd cc
     at (no_table short none other) = absurd cc
-    at (of_document document written (of_no_kind no_words no_cosets other)) = absurd cc
+    at (of_document document written (of_no_kind no_words no_cosets no_build other)) = absurd cc
+    at (of_document document written (build of_kind never)) = absurd never
     at (of_document document written (words of_kind never)) = absurd never
     at (of_document document written (cosets of_kind (states, few_basis, some, few))) =
         record { document = document; written = written; states = states; few_basis = few_basis; some = some; few = few }
@@ -187,6 +208,28 @@ accepted_cosets-from bytes e basis representatives accepts =
     ∙ evidence_of-cosets accepts.document of_kind
     ∙ subst (λ d. StatesCosets d e basis representatives → cosets_evidence_of d ≡ Ok (evidence.Cosets e basis representatives)) (sym same)
     (λ states. cosets_answer-from ms (Ok (evidence.Cosets e basis representatives)) (states, accepts.few_basis, accepts.some, accepts.few)) accepts.states
+
+-- a document is accepted as a build exactly where it states it
+pub accepted_build : (bytes : List ℕ) (e : Entry) (step : Step) (part : List ℕ) (other : Option (List ℕ)) → read_of bytes ≡ Ok (evidence.Build e step part other)
+    → AcceptsBuild bytes e step part other
+accepted_build bytes e step part other read = at (rw read at (bytes_answer bytes))
+  where
+    at : BytesAnswer bytes (Ok (evidence.Build e step part other)) → AcceptsBuild bytes e step part other
+    at (long many wrong) = absurd cc
+    at (no_table short none wrong) = absurd cc
+    at (of_document document written (of_no_kind no_words no_cosets no_build wrong)) = absurd cc
+    at (of_document document written (words of_kind never)) = absurd never
+    at (of_document document written (cosets of_kind never)) = absurd never
+    at (of_document document written (build of_kind states)) = record { document = document; written = written; states = states }
+
+pub accepted_build-from : (bytes : List ℕ) (e : Entry) (step : Step) (part : List ℕ) (other : Option (List ℕ)) → AcceptsBuild bytes e step part other
+    → read_of bytes ≡ Ok (evidence.Build e step part other)
+accepted_build-from bytes e step part other accepts =
+    let (ms, parsed, same) = accepts.written.written in
+    read_of-document bytes accepts.document accepts.written
+    ∙ evidence_of-build accepts.document accepts.states.of_kind
+    ∙ subst (λ d. StatesBuild d e step part other → build_evidence_of d ≡ Ok (evidence.Build e step part other)) (sym same)
+    (build_answer-from ms e step part other) accepts.states
 
 -- what is said of each answer to a document of kind words
 pub answers : (bytes : List ℕ) (document : Data) (answer : Result Evidence FileFault) → IsDocument bytes document → IsOfKind (codes "words") document → (read_of bytes ≡ answer) ↔ IsWordsAnswer document answer
@@ -204,12 +247,24 @@ answers_cosets bytes document answer written of_kind =
     let (to, from) = subst (λ d. IsOfKind (codes "cosets") d → (cosets_evidence_of d ≡ answer) ↔ IsCosetsAnswer d answer) (sym same) (λ here. cosets_answers ms here answer) of_kind in
     (λ e. to (sym read ∙ e), λ h. read ∙ from h)
 
+-- a document of kind build has one of the faults that it may have
+pub faults_of_build : (bytes : List ℕ) (document : Data) (fault : FileFault) → IsDocument bytes document → IsOfKind (codes "build") document
+    → read_of bytes ≡ Err fault → IsBuildFault fault
+faults_of_build bytes document fault written of_kind e =
+    let (ms, parsed, same) = written.written in
+    let answer = subst (λ d. IsOfKind (codes "build") d → IsBuildAnswer d (build_evidence_of d)) (sym same) (build_answer ms) of_kind in
+    subst (IsBuildAnswer document) (sym (read_of-document bytes document written ∙ evidence_of-build document of_kind) ∙ e) answer
+
 -- the kind of a document is refused exactly where it is another one
 pub kinds : (bytes : List ℕ) (document : Data) → IsDocument bytes document
-    → (read_of bytes ≡ Err Kind) ↔ (¬ (IsOfKind (codes "words") document) × ¬ (IsOfKind (codes "cosets") document))
+    → (read_of bytes ≡ Err Kind) ↔ (¬ (IsOfKind (codes "words") document) × ¬ (IsOfKind (codes "cosets") document) × ¬ (IsOfKind (codes "build") document))
 kinds bytes document written = (
-  λ e. (λ of_kind. (answers bytes document (Err Kind) written of_kind).0 e, λ of_kind. (answers_cosets bytes document (Err Kind) written of_kind).0 e),
-  λ other. read_of-document bytes document written ∙ evidence_of-other document other.0 other.1,
+  λ e. (
+    λ of_kind. (answers bytes document (Err Kind) written of_kind).0 e,
+    λ of_kind. (answers_cosets bytes document (Err Kind) written of_kind).0 e,
+    λ of_kind. faults_of_build bytes document Kind written of_kind e,
+  ),
+  λ other. read_of-document bytes document written ∙ evidence_of-other document other.0 other.1 other.2,
 )
 
 -- bytes are refused for their number exactly where they are too many
@@ -219,7 +274,8 @@ too_many bytes b = (λ e. only (rw e at (bytes_answer bytes)), λ h. read_of-lon
     only : BytesAnswer bytes (Err (Bytes b)) → (b ≡ length bytes) × (MAX_DOCUMENT < length bytes)
     only (long many is) = let same : b ≡ length bytes = cc in (same, many)
     only (no_table short none other) = absurd cc
-    only (of_document document written (of_no_kind no_words no_cosets other)) = absurd cc
+    only (of_document document written (of_no_kind no_words no_cosets no_build other)) = absurd cc
+    only (of_document document written (build of_kind never)) = absurd never
     only (of_document document written (words of_kind never)) = absurd never
     only (of_document document written (cosets of_kind never)) = absurd never
 
@@ -230,7 +286,8 @@ no_tables bytes = (λ e. (only (rw e at (bytes_answer bytes)), λ document writt
     never : {document : Data} → DocumentAnswer document (Err NotToml) → ⊥
     never (words of_kind wrong) = wrong
     never (cosets of_kind wrong) = wrong
-    never (of_no_kind no_words no_cosets other) = absurd cc
+    never (build of_kind wrong) = wrong
+    never (of_no_kind no_words no_cosets no_build other) = absurd cc
 
     only : BytesAnswer bytes (Err NotToml) → length bytes ≤ MAX_DOCUMENT
     only (long many other) = absurd cc

@@ -1,7 +1,7 @@
 -- The entry that is stated, and the first field that is missing or wrong.
-use Rattle.std.proofs.Common.{◌≡◌, ℕ, ◌%◌, ◌==◌, Bool, true, false, not, ◌&&◌, Option, Some, None, Ok, Err, inl, inr, refl, sym, ap, ◌∙◌, subst, le-leb, arith}
+use Rattle.std.proofs.Common.{◌≡◌, ℕ, ◌%◌, ◌==◌, Bool, true, false, not, ◌&&◌, ◌||◌, Option, Some, None, Ok, Err, inl, inr, refl, sym, ap, ◌∙◌, subst, le-leb, arith}
 use Rattle.std.specs.Prelude.{if◌then◌else◌, is_some}
-use Rattle.std.proofs.lemmas.Bool.{cases_eq, false≢true}
+use Rattle.std.proofs.lemmas.Bool.{cases_eq, false≢true, or_left}
 use Rattle.toml.specs.Data.{Data, get}
 use Rattle.ct_words.specs.declared.limits.TheConstants.{MAX_N}
 use Rattle.ct_codes.specs.declared.entry.Entry.{Entry}
@@ -9,10 +9,9 @@ use Rattle.ct_codes.specs.Entry.{unrestricted}
 use Rattle.ct_files.specs.Field.{field_text}
 use Rattle.ct_files.specs.Steps.{◌>>=◌, check}
 use Rattle.ct_files.specs.Fields.{number_field}
-use Rattle.ct_files.specs.StatedEntry.{has_field, distance_beside, weight_field, entry_of, plain_entry_of}
-use Rattle.ct_files.specs.StatesEntry.{HasDistanceBeside, HasWeight, StatesEntry, StatesPlainEntry, IsEntryFault, IsPlainEntryFault}
+use Rattle.ct_files.specs.StatedEntry.{has_field, distance_beside, weight_field, entry_of, plain_entry_of, selects, build_entry_of}
+use Rattle.ct_files.specs.StatesEntry.{HasDistance, HasDistanceBeside, HasWeight, StatesEntry, StatesPlainEntry, IsEntryFault, IsPlainEntryFault}
 use Rattle.ct_files.specs.declared.field.FieldName.{FieldName}
-use Rattle.ct_files.specs.declared.field.FieldName.TheVariants as name
 use Rattle.ct_files.specs.declared.field.FieldName.TheVariants.{N, D, W}
 use Rattle.ct_files.specs.declared.fault.FileFault.{FileFault}
 use Rattle.ct_files.specs.declared.fault.FileFault.TheVariants.{Field}
@@ -20,7 +19,7 @@ use Rattle.ct_files.proofs.StepLemmas.{bind-ok, bind-err, bind-at, bind-at_err, 
 use Rattle.ct_files.proofs.FieldLemmas.{number_field-ok, number_field-from}
 
 -- the fault of a number is its field's
-number_field-err : (name : FieldName) (low high : ℕ) (document : Data) (fault : FileFault) → number_field name low high document ≡ Err fault → Field name ≡ fault
+pub number_field-err : (name : FieldName) (low high : ℕ) (document : Data) (fault : FileFault) → number_field name low high document ≡ Err fault → Field name ≡ fault
 number_field-err name low high document fault e = (ok_or-err _ (Field name) fault e).1
 
 -- a distance that passes is even where it has to be
@@ -141,9 +140,7 @@ entry_of-fault document W (n, at_n, (d, at_d), none) =
     ∙ bind-at (distance_beside (has_field W document) document) _ d (distance_beside-from document d at_d)
     ∙ bind-at_err (weight_field n document) _ (Field W)
     (only_fault _ (Field W) (λ w e. none w (weight_field-ok n document w e)) (weight_field-err n document))
-entry_of-fault document name.Words never = absurd never
-entry_of-fault document name.Basis never = absurd never
-entry_of-fault document name.Representatives never = absurd never
+entry_of-fault document name never = absurd never
 
 -- an entry without weight is read exactly where it is stated
 pub plain_entry_of-ok : (document : Data) (e : Entry) → plain_entry_of document ≡ Ok e → StatesPlainEntry document e
@@ -192,7 +189,61 @@ plain_entry_of-fault document D ((n, at_n), none) =
     bind-at (number_field N 1 MAX_N document) _ n (number_field-from N 1 MAX_N document n at_n)
     ∙ bind-at_err (number_field D 3 MAX_N document) _ (Field D)
     (only_fault _ (Field D) (λ d e. none d (number_field-ok D 3 MAX_N document d e)) (number_field-err D 3 MAX_N document))
-plain_entry_of-fault document W never = absurd never
-plain_entry_of-fault document name.Words never = absurd never
-plain_entry_of-fault document name.Basis never = absurd never
-plain_entry_of-fault document name.Representatives never = absurd never
+plain_entry_of-fault document name never = absurd never
+
+-- the entry of a build is read exactly where it is stated, its distance even where it has to be
+distance-ok : (b : Bool) (document : Data) (d : ℕ) → distance_beside b document ≡ Ok d → HasDistance document d × (b ≡ true → d % 2 ≡ 0)
+distance-ok b document d read =
+    let (k, k-is, next) = bind-ok (number_field D 3 MAX_N document) _ d read in
+    let (x, passes, last) = bind-ok (check (not (b && k % 2 == 1)) (Field D)) _ d next in
+    let same : k ≡ d = cc in
+    subst (λ m. HasDistance document m × (b ≡ true → m % 2 ≡ 0)) same (number_field-ok D 3 MAX_N document k k-is, even_from b k (check-ok _ (Field D) x passes))
+
+distance-from : (b : Bool) (document : Data) (d : ℕ) → HasDistance document d → (b ≡ true → d % 2 ≡ 0) → distance_beside b document ≡ Ok d
+distance-from b document d has even =
+    bind-at (number_field D 3 MAX_N document) _ d (number_field-from D 3 MAX_N document d has)
+    ∙ rw (passes_even b d even) refl
+
+pub build_entry_of-ok : (document : Data) (e : Entry) → build_entry_of document ≡ Ok e → StatesEntry document e
+unfolding build_entry_of
+build_entry_of-ok document e read =
+    let (n, n-is, next) = bind-ok (number_field N 1 MAX_N document) _ e read in
+    let (d, d-is, after) = bind-ok (distance_beside (has_field W document || selects document) document) _ e next in
+    let (w, w-is, last) = bind-ok (weight_field n document) _ e after in
+    let stated : Entry = record { n = n; d = d; w = w } in
+    let same : stated ≡ e = cc in
+    let (far, even) = distance-ok (has_field W document || selects document) document d d-is in
+    subst (StatesEntry document) same (record {
+      with_length = number_field-ok N 1 MAX_N document n n-is;
+      with_distance = (far, λ weighted. even (or_left (has_field W document) (selects document) weighted));
+      with_weight = weight_field-ok n document w w-is;
+    })
+
+pub build_entry_of-from : (document : Data) (e : Entry) → StatesEntry document e → (selects document ≡ true → e.d % 2 ≡ 0) → build_entry_of document ≡ Ok e
+unfolding build_entry_of
+build_entry_of-from document e states selected =
+    bind-at (number_field N 1 MAX_N document) _ e.n (number_field-from N 1 MAX_N document e.n states.with_length)
+    ∙ bind-at (distance_beside (has_field W document || selects document) document) _ e.d
+    (distance-from (has_field W document || selects document) document e.d states.with_distance.0 (either (has_field W document) (selects document) states.with_distance.1 selected))
+    ∙ bind-at (weight_field e.n document) _ e.w (weight_field-from e.n document e.w states.with_weight)
+  where
+    either : (a b : Bool) → (a ≡ true → e.d % 2 ≡ 0) → (b ≡ true → e.d % 2 ≡ 0) → (a || b) ≡ true → e.d % 2 ≡ 0
+    either true b first second h = first refl
+    either false b first second h = second h
+
+-- its fault is that of a field
+pub build_entry_of-err : (document : Data) (fault : FileFault) → build_entry_of document ≡ Err fault → (name : FieldName) × (Field name ≡ fault)
+unfolding build_entry_of
+build_entry_of-err document fault read =
+    elim (bind-err (number_field N 1 MAX_N document) _ fault read) [
+      | inl none ↦ (N, number_field-err N 1 MAX_N document fault none)
+      | inr (n, n-is, next) ↦
+          elim (bind-err (distance_beside (has_field W document || selects document) document) _ fault next) [
+            | inl none ↦ (D, distance_beside-err (has_field W document || selects document) document fault none)
+            | inr (d, d-is, after) ↦
+                elim (bind-err (weight_field n document) _ fault after) [
+                  | inl none ↦ (W, weight_field-err n document fault none)
+                  | inr (w, w-is, last) ↦ absurd cc
+                ]
+          ]
+    ]

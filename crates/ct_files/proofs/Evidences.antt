@@ -1,18 +1,21 @@
 -- What an evidence keeps that is read.
 use Rattle.std.proofs.Common.{◌≡◌, ◌≢◌, ℕ, List, Option, Some, None, Result, Ok, Err, IfOk, refl, sym, subst, ap, arith}
+use Rattle.std.specs.Prelude.{is_some}
 use Rattle.ct_codes.specs.declared.entry.Entry.{Entry}
-use Rattle.ct_build.specs.declared.step.Step.{Step}
 use Rattle.ct_codes.specs.Entry.{IsEntry, unrestricted}
+use Rattle.ct_build.specs.declared.step.Step.{Step}
 use Rattle.ct_codes.proofs.EntryLemmas.{WeightFits, entry_from_limits}
 use Rattle.toml.specs.Data.{Data}
 use Rattle.ct_files.specs.Evidence.{read_of, IsSound}
 use Rattle.ct_files.specs.StatesEntry.{HasWeight, StatesEntry}
+use Rattle.ct_files.specs.Operation.{needs_other}
+use Rattle.ct_files.specs.BuildDocument.{NamesOther}
 use Rattle.ct_files.specs.Inside.Reads.{Reads}
 use Rattle.ct_files.specs.declared.evidence.Evidence.{Evidence}
 use Rattle.ct_files.specs.declared.evidence.Evidence.TheVariants.{Words, Cosets, Build}
 use Rattle.ct_files.specs.declared.fault.FileFault.{FileFault}
 use Rattle.ct_files.specs.declared.fault.FileFault.TheVariants.{Memory}
-use Rattle.ct_files.proofs.DocumentAnswers.{BytesAnswer, long, no_table, of_document, DocumentAnswer, words, cosets, of_no_kind, bytes_answer, accepted, accepted_cosets}
+use Rattle.ct_files.proofs.DocumentAnswers.{BytesAnswer, long, no_table, of_document, DocumentAnswer, words, cosets, build, of_no_kind, bytes_answer, accepted, accepted_cosets, accepted_build}
 
 -- a stated weight is one of the table beside the distance
 weight_of_stated : (document : Data) (e : Entry) (w : Option ℕ) → StatesEntry document e → HasWeight document e.n w → WeightFits e w
@@ -27,18 +30,10 @@ pub entry_of_stated : (document : Data) (e : Entry) → StatesEntry document e �
 entry_of_stated document e states =
     entry_from_limits e (states.with_length.1, states.with_length.2, states.with_distance.0.1, states.with_distance.0.2, weight_of_stated document e e.w states states.with_weight)
 
--- no build is read
-no_build : (bytes : List ℕ) (e : Entry) (step : Step) (part : List ℕ) (other : Option (List ℕ)) → read_of bytes ≡ Ok (Build e step part other) → ⊥
-no_build bytes e step part other read = never (rw read at (bytes_answer bytes)) where
-  never_of_document : {document : Data} → DocumentAnswer document (Ok (Build e step part other)) → ⊥
-  never_of_document (words of_kind wrong) = wrong
-  never_of_document (cosets of_kind wrong) = wrong
-  never_of_document (of_no_kind no_words no_cosets kind) = absurd cc
-
-  never : BytesAnswer bytes (Ok (Build e step part other)) → ⊥
-  never (long many kind) = absurd cc
-  never (no_table short none kind) = absurd cc
-  never (of_document document written answer) = never_of_document answer
+-- another piece is named exactly where the step needs one
+named_where_needed : (step : Step) (document : Data) (other : Option (List ℕ)) → NamesOther step document other → is_some other ≡ needs_other step
+named_where_needed step document None none = sym none
+named_where_needed step document (Some id) some = sym some.0
 
 -- evidence that is read is sound
 pub read_of-sound : (bytes : List ℕ) (e : Evidence) → read_of bytes ≡ Ok e → IsSound e
@@ -57,8 +52,11 @@ read_of-sound bytes (Cosets e basis representatives) read =
       accepts.some,
       accepts.few,
     )
-
-read_of-sound bytes (Build e step part other) read = absurd (no_build bytes e step part other read)
+read_of-sound bytes (Build e step part other) read =
+    let states = (accepted_build bytes e step part other read).states in (
+      record { entry = entry_of_stated (accepted_build bytes e step part other read).document e states.entry; fields = states.fits },
+      named_where_needed step (accepted_build bytes e step part other read).document other states.other_named,
+    )
 
 -- what bytes read as is never want of memory
 pub read_of-no_memory : (bytes : List ℕ) → read_of bytes ≢ Err Memory
@@ -67,7 +65,8 @@ read_of-no_memory bytes = λ e. never (rw e at (bytes_answer bytes))
     never_of_document : {document : Data} → DocumentAnswer document (Err Memory) → ⊥
     never_of_document (words of_kind wrong) = wrong
     never_of_document (cosets of_kind wrong) = wrong
-    never_of_document (of_no_kind no_words no_cosets other) = absurd cc
+    never_of_document (build of_kind wrong) = wrong
+    never_of_document (of_no_kind no_words no_cosets no_build other) = absurd cc
 
     never : BytesAnswer bytes (Err Memory) → ⊥
     never (long many other) = absurd cc

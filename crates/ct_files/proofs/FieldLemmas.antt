@@ -49,7 +49,7 @@ pub is_of_kind-from : (kind : List ℕ) (document : Data) → IsOfKind kind docu
 is_of_kind-from kind document h = rw h (bytes_eq-self kind)
 
 -- a number that is read is an integer in the range
-number_in-some : (low high : ℕ) (d : Data) (k : ℕ) → number_in low high d ≡ Some k → (d ≡ integer (pos k)) × (low ≤ k) × (k ≤ high)
+pub number_in-some : (low high : ℕ) (d : Data) (k : ℕ) → number_in low high d ≡ Some k → (d ≡ integer (pos k)) × (low ≤ k) × (k ≤ high)
 number_in-some low high (integer (pos m)) k e =
     let (test, same) = cond_some (nat_le low m && nat_le m high) m k e in
     let (above, below) = and_parts (nat_le low m) (nat_le m high) test in
@@ -127,7 +127,7 @@ is_named-from names key h =
     ap (λ b. bytes_eq key (codes "kind") || b) (sym (list_any-map (bytes_eq key) field_text names)) ∙ list_any-from_Contains nat_list_eq_equiv key (codes "kind" ∷ map field_text names) h
 
 -- keys that compare as equal are one
-same_key : (key l : List ℕ) → slice_cmp nat_cmp key l ≡ Equal → key ≡ l
+pub same_key : (key l : List ℕ) → slice_cmp nat_cmp key l ≡ Equal → key ≡ l
 same_key key l e = bytes_eq-true key l (sym (is_eq-slice_cmp key l) ∙ ap is_eq e)
 
 -- where each key is named, what the members have at a key is at a named one

@@ -5,6 +5,11 @@ pub mod EntryAnswers
 pub mod WordsLemmas
 pub mod WordsAnswers
 pub mod CosetsAnswers
+pub mod BuildFieldLemmas
+pub mod BuildAnswers
+mod MemberLemmas
+mod WrittenBuild
 pub mod DocumentAnswers
 pub mod Evidences
+mod Written
 pub mod OnLiterals

@@ -17,7 +17,6 @@ use Rattle.ct_files.specs.WordsDocument.{HasWords, words_fields, IsWordsDocument
 use Rattle.ct_files.specs.declared.evidence.Evidence.{Evidence}
 use Rattle.ct_files.specs.declared.evidence.Evidence.TheVariants as evidence
 use Rattle.ct_files.specs.declared.field.FieldName.{FieldName}
-use Rattle.ct_files.specs.declared.field.FieldName.TheVariants as name
 use Rattle.ct_files.specs.declared.field.FieldName.TheVariants.{N, D, W, Words}
 use Rattle.ct_files.specs.declared.fault.FileFault.{FileFault}
 use Rattle.ct_files.specs.declared.fault.FileFault.TheVariants.{Bytes, NotToml, Kind, Field, Unknown, Digits, Size, Memory}
@@ -55,9 +54,7 @@ entry_answer : (document : Data) (name : FieldName) → IsEntryFault document na
 entry_answer document N none = none
 entry_answer document D none = none
 entry_answer document W none = none
-entry_answer document Words never = absurd never
-entry_answer document name.Basis never = absurd never
-entry_answer document name.Representatives never = absurd never
+entry_answer document name never = absurd never
 
 -- the answer to a document of kind words comes where it is said to come
 pub words_answer : (ms : Members) → IsOfKind (codes "words") (table ms) → IsWordsAnswer (table ms) (words_evidence_of (table ms))
@@ -133,14 +130,12 @@ without_texts document e entry none =
 pub words_answer-from : (ms : Members) → (answer : Result Evidence FileFault) → IsWordsAnswer (table ms) answer → words_evidence_of (table ms) ≡ answer
 words_answer-from ms (Ok (evidence.Words e words)) (states, some, few) =
     reads_words ms e words (Ok (evidence.Words e words)) states (rw (le-leb 1 (length words) some, le-leb (length words) MAX_WORDS few) refl)
-words_answer-from ms (Ok (evidence.Cosets e basis words)) never = absurd never
-words_answer-from ms (Ok (evidence.Build e step part other)) never = absurd never
+words_answer-from ms (Ok other) never = absurd never
 words_answer-from ms (Err (Field N)) first = without_entry (table ms) N first
 words_answer-from ms (Err (Field D)) first = without_entry (table ms) D first
 words_answer-from ms (Err (Field W)) first = without_entry (table ms) W first
-words_answer-from ms (Err (Field name.Basis)) never = absurd never
-words_answer-from ms (Err (Field name.Representatives)) never = absurd never
 words_answer-from ms (Err (Field Words)) ((e, entry), none) = without_texts (table ms) e entry none
+words_answer-from ms (Err (Field name)) never = absurd never
 words_answer-from ms (Err Unknown) (e, texts, key, fields, other) =
     reads_fields (table ms) e texts (Err Unknown) fields (rw (has_only-from_other words_fields ms key other) refl)
 words_answer-from ms (Err (Digits i)) (e, texts, form, first) =

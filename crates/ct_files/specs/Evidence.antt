@@ -10,6 +10,7 @@ use Rattle.ct_files.specs.Fields.{is_of_kind}
 use Rattle.ct_files.specs.Words.{words_evidence_of}
 use Rattle.ct_files.specs.Cosets.{cosets_evidence_of}
 use Rattle.ct_files.specs.Operation.{needs_other}
+use Rattle.ct_files.specs.Build.{build_evidence_of}
 use Rattle.ct_files.specs.Document.{document_of}
 use Rattle.ct_files.specs.declared.evidence.TheConstants.{MAX_DOCUMENT}
 use Rattle.ct_files.specs.declared.evidence.Evidence.{Evidence}
@@ -22,6 +23,7 @@ unfoldable pub evidence_of : Data → Result Evidence FileFault
 evidence_of document =
     if is_of_kind (codes "words") document then words_evidence_of document
     else if is_of_kind (codes "cosets") document then cosets_evidence_of document
+    else if is_of_kind (codes "build") document then build_evidence_of document
     else Err Kind
 
 -- what the bytes of a document read as, however many they are

@@ -21,3 +21,8 @@ two_words = codes "kind = \"words\"\nn = 10\nd = 6\nwords = [\"0000000000\", \"1
 -- what it states: the words 0 and 2^9 + 2^8 + 2^7 + 2^6 + 2^5
 abbrev pub two_words_evidence : Evidence
 two_words_evidence = Words (unrestricted 10 6) (0 ∷ 992 ∷ [])
+
+-- a document of kind build, with these texts at n, d, op and part, and more after it
+abbrev pub build_document : List ℕ → List ℕ → List ℕ → List ℕ → List ℕ → List ℕ
+build_document n d op part more =
+    codes "kind = 'build'\nn = " ++ n ++ codes "\nd = " ++ d ++ codes "\nop = " ++ op ++ codes "\npart = " ++ part ++ codes "\n" ++ more

@@ -6,10 +6,13 @@ pub mod StatedEntry
 pub mod Words
 pub mod Cosets
 pub mod Operation
+pub mod BuildFields
+pub mod Build
 pub mod Evidence
 pub mod Examples
 pub mod Tables
 pub mod StatesEntry
 pub mod WordsDocument
 pub mod CosetsDocument
+pub mod BuildDocument
 pub mod Inside

@@ -1,12 +1,13 @@
 -- The entry that the fields of a document state.
-use Rattle.std.specs.Prelude.{ℕ, ◌%◌, ◌==◌, not, ◌&&◌, Bool, if◌then◌else◌, Option, Some, None, Result, Ok, is_some}
+use Rattle.std.specs.Prelude.{ℕ, ◌%◌, ◌==◌, not, ◌&&◌, Bool, if◌then◌else◌, ◌||◌, Option, Some, None, Result, Ok, is_some, false, codes}
+use Rattle.std.specs.Option.{option_map_or}
 use Rattle.toml.specs.Data.{Data, get}
 use Rattle.ct_words.specs.declared.limits.TheConstants.{MAX_N}
 use Rattle.ct_codes.specs.declared.entry.Entry.{Entry}
 use Rattle.ct_codes.specs.Entry.{unrestricted}
 use Rattle.ct_files.specs.Field.{field_text}
 use Rattle.ct_files.specs.Steps.{◌>>=◌, ◌>>◌, check}
-use Rattle.ct_files.specs.Fields.{number_field}
+use Rattle.ct_files.specs.Fields.{is_text, number_field}
 use Rattle.ct_files.specs.declared.field.FieldName.{FieldName}
 use Rattle.ct_files.specs.declared.field.FieldName.TheVariants as name
 use Rattle.ct_files.specs.declared.fault.FileFault.{FileFault}
@@ -42,3 +43,15 @@ plain_entry_of document = do
   n ← number_field name.N 1 MAX_N document
   d ← number_field name.D 3 MAX_N document
   Ok (unrestricted n d)
+
+-- whether the operation of the document is the text `select`
+abbrev pub selects : Data → Bool
+selects document = option_map_or (is_text (codes "select")) (get (field_text name.Op) document) false
+
+-- the entry that the fields n, d and w of a build state, of which w may be left out: d is even where the key w is there, and for `select`
+unfoldable pub build_entry_of : Data → Result Entry FileFault
+build_entry_of document = do
+  n ← number_field name.N 1 MAX_N document
+  d ← distance_beside (has_field name.W document || selects document) document
+  w ← weight_field n document
+  Ok (record { n = n; d = d; w = w })

@@ -18,7 +18,8 @@ pub enum FileFault {
     Field(FieldName),
     /// There is a key that the kind doesn't name.
     Unknown,
-    /// The place, counted from 0, of the first text of a word that isn't of its length in digits `0` and `1`.
+    /// The place, counted from 0, of the first text of a word that isn't of its length in digits `0` and `1`. The one text of
+    /// digits of a build, `by` or `digits`, has place 0.
     Digits(usize),
     /// The number of words, which is 0 or above `ct_codes::MAX_WORDS`.
     Size(u64),

@@ -17,6 +17,20 @@ pub enum FieldName {
     Basis,
     /// The representatives of cosets, `representatives`.
     Representatives,
+    /// The operation of a build, `op`.
+    Op,
+    /// The places of a build, `places`.
+    Places,
+    /// The digits at the places of a build, `digits`.
+    Digits,
+    /// The word that a build adds, `by`.
+    By,
+    /// The number of words that a build takes, `size`.
+    Size,
+    /// The piece whose code a build is made from, `part`.
+    Part,
+    /// The other piece whose code a build is made from, `other`.
+    Other,
 }
 
 impl FieldName {
@@ -31,6 +45,13 @@ impl FieldName {
             FieldName::Words => "words",
             FieldName::Basis => "basis",
             FieldName::Representatives => "representatives",
+            FieldName::Op => "op",
+            FieldName::Places => "places",
+            FieldName::Digits => "digits",
+            FieldName::By => "by",
+            FieldName::Size => "size",
+            FieldName::Part => "part",
+            FieldName::Other => "other",
         }
     }
 }

@@ -1,26 +1,32 @@
 //! Which documents are accepted as which evidence, and where each fault comes.
-ghost use Rattle.std.specs.Prelude.{◌≡◌, ◌↔◌, ℕ, ◌<◌, ◌≤◌, List, length, Result, Ok, Err, codes};
+ghost use Rattle.std.specs.Prelude.{◌≡◌, ◌↔◌, ℕ, ◌<◌, ◌≤◌, List, length, Option, Result, Ok, Err, codes};
 ghost use Rattle.toml.specs.Data.{Data};
+ghost use Rattle.ct_build.specs.declared.step.Step.{Step};
 ghost use Rattle.ct_codes.specs.declared.entry.Entry.{Entry};
 ghost use Rattle.ct_files.specs.declared.evidence.TheConstants.{MAX_DOCUMENT};
 ghost use Rattle.ct_files.specs.declared.evidence.Evidence.{Evidence};
-ghost use Rattle.ct_files.specs.declared.evidence.Evidence.TheVariants.{Words, Cosets};
+ghost use Rattle.ct_files.specs.declared.evidence.Evidence.TheVariants.{Words, Cosets, Build};
 ghost use Rattle.ct_files.specs.declared.fault.FileFault.{FileFault};
 ghost use Rattle.ct_files.specs.declared.fault.FileFault.TheVariants.{Bytes, NotToml, Kind};
 ghost use Rattle.ct_files.specs.Evidence.{read_of};
 ghost use Rattle.ct_files.specs.Tables.{IsDocument, IsOfKind};
 ghost use Rattle.ct_files.specs.WordsDocument.{IsWordsAnswer, AcceptsWords};
 ghost use Rattle.ct_files.specs.CosetsDocument.{IsCosetsAnswer, AcceptsCosets};
+ghost use Rattle.ct_files.specs.BuildDocument.{AcceptsBuild, IsBuildFault};
 
 /// Bytes are accepted as these words for this entry exactly where they are at most `MAX_DOCUMENT`, are UTF-8 and write
 /// by the grammar of TOML 1.1 a table of kind `words` that has n, d and, where there is one, w of the entry, each in its
 /// range, the texts of the words, each of length n, at `words`, and no other key, and where the words are 1 to
-/// `MAX_WORDS`; and so for cosets, whose table has the texts of the basis words and of the representatives.
+/// `MAX_WORDS`; and so for cosets, whose table has the texts of the basis words and of the representatives, and for a
+/// build, whose table has the text of the step's operation, the fields of the step, which fits the entry, the id of the
+/// part and, exactly where the step needs another code, that of the other piece.
 pub fn accepted_documents()
     ensures words { (bytes : List ℕ) (e : Entry) (words : List ℕ) →
         (read_of bytes ≡ Ok (Words e words)) ↔ AcceptsWords bytes e words }
     ensures cosets { (bytes : List ℕ) (e : Entry) (basis representatives : List ℕ) →
         (read_of bytes ≡ Ok (Cosets e basis representatives)) ↔ AcceptsCosets bytes e basis representatives }
+    ensures build { (bytes : List ℕ) (e : Entry) (step : Step) (part : List ℕ) (other : Option (List ℕ)) →
+        (read_of bytes ≡ Ok (Build e step part other)) ↔ AcceptsBuild bytes e step part other }
 {}
 
 /// Where bytes are refused that are too many, or that write no table.
@@ -32,16 +38,21 @@ pub fn bytes_without_table()
         ((length bytes ≤ MAX_DOCUMENT) × ((document : Data) → ¬ (IsDocument bytes document))) }
 {}
 
-/// Where the other answers come: `Kind` for a table of another kind than `words` and `cosets`, and for one of these kinds
-/// each answer exactly where `IsWordsAnswer` or `IsCosetsAnswer` says.
+/// Where the other answers come: `Kind` for a table of another kind than `words`, `cosets` and `build`, and for one of the
+/// first two kinds each answer exactly where `IsWordsAnswer` or `IsCosetsAnswer` says. A build is refused for a field, for a
+/// further key or for its one text of digits; which one comes first is shown by the documents of `build_examples`.
 pub fn answers_to_documents()
     ensures kind { (bytes : List ℕ) (document : Data) → IsDocument bytes document →
         (read_of bytes ≡ Err Kind)
-        ↔ (¬ (IsOfKind (codes "words") document) × ¬ (IsOfKind (codes "cosets") document)) }
+        ↔ (¬ (IsOfKind (codes "words") document) × ¬ (IsOfKind (codes "cosets") document)
+        × ¬ (IsOfKind (codes "build") document)) }
     ensures words { (bytes : List ℕ) (document : Data) (answer : Result Evidence FileFault) →
         IsDocument bytes document → IsOfKind (codes "words") document →
         (read_of bytes ≡ answer) ↔ IsWordsAnswer document answer }
     ensures cosets { (bytes : List ℕ) (document : Data) (answer : Result Evidence FileFault) →
         IsDocument bytes document → IsOfKind (codes "cosets") document →
         (read_of bytes ≡ answer) ↔ IsCosetsAnswer document answer }
+    ensures build { (bytes : List ℕ) (document : Data) (fault : FileFault) →
+        IsDocument bytes document → IsOfKind (codes "build") document →
+        read_of bytes ≡ Err fault → IsBuildFault fault }
 {}

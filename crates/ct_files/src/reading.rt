@@ -4,6 +4,7 @@ ghost use Rattle.toml.specs.View.{view};
 ghost use Rattle.ct_files.specs.Inside.Reads.{Reads};
 ghost use Rattle.ct_files.specs.Evidence.{IsSound, evidence_of, read_without_limit, read_of};
 
+use crate::build::build_evidence;
 use crate::cosets::cosets_evidence;
 use crate::document::{is_of_kind, read_document};
 use crate::evidence::{Evidence, MAX_DOCUMENT};
@@ -21,6 +22,9 @@ fn evidence(alloc: Global, document: &Value) -> Result<Evidence, FileFault>
     }
     if is_of_kind(document, "cosets") {
         return cosets_evidence(alloc, document);
+    }
+    if is_of_kind(document, "build") {
+        return build_evidence(alloc, document);
     }
     Err(FileFault::Kind)
 }
@@ -53,6 +57,13 @@ fn read(alloc: Global, bytes: &[u8]) -> Result<Evidence, FileFault>
 /// |---|---|
 /// | `words` | `w`, which may be left out; `words`, a list of 1 to `ct_codes::MAX_WORDS` words |
 /// | `cosets` | `basis`, a list of at most `MAX_N` words; `representatives`, one of 1 to `ct_codes::MAX_REPRESENTATIVES` |
+/// | `build` | `w`, as the operation has it; `op`, the operation; the fields of the operation; `part`, an id; `other`, an id |
+///
+/// An operation is named for the `Step` that it is. `append_one`, `lengthen`, `parity` and `juxtapose` make words of at least
+/// 2 digits, `uuv` of an even number. `puncture`, `translate` and `uuv` take no weight, `select` takes one. `puncture` and
+/// `shorten` have `places`, a list of 1 or more places, distinct and ascending, of words with so many digits more, at most
+/// `MAX_N`; `shorten` has `digits`, a text of as many digits; `translate` and `select` have `by`, a word; `trim` has `size`,
+/// from 1 to `ct_build::MAX_BUILT`. `uuv` and `juxtapose` have `other`. Of a build by `select` d is even in any case.
 ///
 /// For every other document the answer is its first fault, in the order of `FileFault`. `Memory` is want of memory.
 pub fn read_evidence(alloc: Global, bytes: &[u8]) -> Result<Evidence, FileFault>

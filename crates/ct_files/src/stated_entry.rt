@@ -4,7 +4,7 @@ ghost use Rattle.toml.specs.View.{view};
 ghost use Rattle.ct_words.specs.declared.limits.TheConstants.{MAX_N};
 ghost use Rattle.ct_files.specs.Fields.{number_field};
 ghost use Rattle.ct_files.specs.declared.field.FieldName.TheVariants as name;
-ghost use Rattle.ct_files.specs.StatedEntry.{has_field, distance_beside, weight_field, entry_of, plain_entry_of};
+ghost use Rattle.ct_files.specs.StatedEntry.{has_field, distance_beside, weight_field, entry_of, plain_entry_of, selects, build_entry_of};
 
 use crate::fault::FileFault;
 use crate::field::FieldName;
@@ -77,4 +77,27 @@ pub fn plain_entry(document: &Value) -> Result<Entry, FileFault>
     let n = length_field(document)?;
     let d = distance_field(document)?;
     Ok(Entry { n, d, w: None })
+}
+
+/// Whether the operation of the document is the text `select`.
+fn selects(document: &Value) -> bool
+    ensures { result ≡ selects (view document.now) }
+{
+    match document.get(FieldName::Op.text()) {
+        Some(Value::String(found)) => found.as_str() == "select",
+        _ => false,
+    }
+}
+
+/// The entry of the fields `n`, `d` and `w` of a build, of which `w` may be left out.
+#[tactic(auto, unfolding(crate::specs::StatedEntry::build_entry_of))]
+pub fn build_entry(document: &Value) -> Result<Entry, FileFault>
+    ensures entry { result ≡ build_entry_of (view document.now) }
+    ensures length { IfOk result (λ e. (1 ≤ e.n) × (e.n ≤ MAX_N)) }
+{
+    let n = length_field(document)?;
+    let even = has_field(document, FieldName::W) || selects(document);
+    let d = distance_beside(even, document)?;
+    let w = weight_field(n, document)?;
+    Ok(Entry { n, d, w })
 }

@@ -1,10 +1,12 @@
 -- The table that is written for an evidence: its keys ascend.
-use Rattle.std.specs.Prelude.{ℕ, pos, List, map, Option, Some, None, codes}
+use Rattle.std.specs.Prelude.{ℕ, pos, List, map, Option, Some, None, IfSome, IsTrue, ⊤, codes}
 use Rattle.toml.specs.Data.{Data, string, integer, array, Members, no_members, member}
 use Rattle.toml.specs.View.{items_of}
 use Rattle.ct_words.specs.Text.{word_text}
 use Rattle.ct_codes.specs.declared.entry.Entry.{Entry}
+use Rattle.ct_text.specs.Id.{is_id}
 use Rattle.ct_files.specs.Field.{field_text}
+use Rattle.ct_files.specs.Inside.WrittenBuild.{build_table}
 use Rattle.ct_files.specs.declared.field.FieldName.TheVariants.{N, D, W, Words, Basis, Representatives}
 use Rattle.ct_files.specs.declared.evidence.Evidence.{Evidence}
 use Rattle.ct_files.specs.declared.evidence.Evidence.TheVariants as evidence
@@ -34,4 +36,9 @@ cosets_table e basis representatives =
 abbrev pub evidence_table : Evidence → Members
 evidence_table (evidence.Words e words) = words_table e words
 evidence_table (evidence.Cosets e basis representatives) = cosets_table e basis representatives
-evidence_table (evidence.Build e step part other) = no_members
+evidence_table (evidence.Build e step part other) = build_table e step part other
+
+-- the names of pieces in an evidence are ids
+abbrev pub HasIds : Evidence → Type 0
+HasIds (evidence.Build e step part other) = IsTrue (is_id part) × IfSome other (λ id. IsTrue (is_id id))
+HasIds e = ⊤
