@@ -30,6 +30,7 @@ use Rattle.ct_ledger.specs.Withdrawal.{without, withdrawn, unless_used, left_by}
 use Rattle.ct_ledger.specs.declared.fault.SubmitFault.{SubmitFault}
 use Rattle.ct_ledger.specs.declared.fault.WithdrawFault.{WithdrawFault}
 use Rattle.ct_ledger.specs.declared.fault.WithdrawFault.TheVariants as withdraw
+use Rattle.ct_ledger.specs.Codes.{codes_of}
 use Rattle.ct_ledger.proofs.StandingLemmas.{submitted-ok, piece_from-names}
 use Rattle.ct_session.specs.Reply.{pieces_after}
 use Rattle.ct_session.specs.Run.{pieces_of}
@@ -160,7 +161,7 @@ commands_of-named lines = both (completed None lines) (cut_off (open_after_all N
 with_piece-named : (pieces : List PieceValue) (id document : List ℕ) (made : Result PieceValue SubmitFault) → submitted pieces id document ≡ made → is_id id ≡ true → All IsNamed pieces → All IsNamed (with_piece pieces made)
 with_piece-named pieces id document (Ok p) is named h =
     let was = submitted-ok pieces id document p is in
-    All-push IsNamed pieces p h (subst (λ i. is_id i ≡ true) (sym (piece_from-names id document (read_of document) p was.made).0) named)
+    All-push IsNamed pieces p h (subst (λ i. is_id i ≡ true) (sym (piece_from-names (codes_of pieces) id document p was.made).0) named)
 with_piece-named pieces id document (Err reason) is named h = h
 
 left_by-named : (user : Option PieceValue) (pieces rest : List PieceValue) → All IsNamed pieces → All IsNamed rest → All IsNamed (left_by pieces (unless_used user rest))

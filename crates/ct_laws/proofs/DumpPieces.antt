@@ -25,10 +25,13 @@ use Rattle.ct_commands.specs.declared.form.Form.TheVariants.{Submit}
 use Rattle.ct_commands.specs.declared.command.Command.{Command}
 use Rattle.ct_commands.specs.declared.command.Command.TheVariants as command
 use Rattle.ct_ledger.specs.Piece.{PieceValue, has_id, stored_by}
-use Rattle.ct_ledger.specs.Submission.{piece_from, with_piece}
-use Rattle.ct_ledger.specs.Standing.{AreStanding, IsMade}
+use Rattle.ct_ledger.specs.Codes.{NamedCode, named_code}
+use Rattle.ct_ledger.specs.Submission.{with_piece}
+use Rattle.ct_ledger.specs.Standing.{AreStanding, IsMade, AreMade}
 use Rattle.ct_ledger.specs.Dump.{line_count, piece_dump, dump_text}
 use Rattle.ct_ledger.specs.declared.fault.SubmitFault.{SubmitFault}
+use Rattle.ct_ledger.proofs.CodeLemmas.{AreMade-back}
+use Rattle.ct_ledger.proofs.MakingLemmas.{making-of}
 use Rattle.ct_ledger.proofs.StandingLemmas.{WasMade, submitted-from, AreStanding-none}
 use Rattle.ct_session.specs.Reply.{pieces_after, submission_reply, is_refusal}
 use Rattle.ct_session.specs.Run.{AreReplies, AnswersCommands, IsRun, pieces_of}
@@ -57,15 +60,15 @@ not_taken id (p ∷ pieces) h = at (bytes_eq p.id id) refl (not_taken id pieces 
 made_again : (front : List PieceValue) (p : PieceValue) (back : List PieceValue) → AreStanding (front ++ p ∷ back) → WasMade front p.id p.document p
 made_again front p back h =
     let all = length-append front (p ∷ back) in
-    let stored = sum_by-append (λ (q : PieceValue). stored_by q.evidence) front (p ∷ back) in
-    let stored_back = sum_by-cons (λ (q : PieceValue). stored_by q.evidence) p back in
+    let stored = sum_by-append stored_by front (p ∷ back) in
+    let stored_back = sum_by-cons stored_by p back in
     let within : length front < length (front ++ p ∷ back) = omega (arith, all) in
     record {
       free = not_taken p.id front
           (λ k d below same. h.different k (length front) d below within
           (ap (λ (q : PieceValue). q.id) (get_or-append front (p ∷ back) d k below) ∙ same ∙ ap (λ (q : PieceValue). q.id) (sym (get_or-append_seam front p back d))));
       room = omega (arith, all, h.few);
-      made = subst IsMade (get_or-append_seam front p back p) (All-get_or IsMade (front ++ p ∷ back) (length front) p within h.made);
+      made = let own = AreMade-back [] front (p ∷ back) h.made in own.0;
       small = omega (arith, stored, stored_back, h.small);
     }
 
@@ -86,14 +89,13 @@ read-short document evidence h =
     leb-true (length document) MAX_DOCUMENT (check-ok (nat_le (length document) MAX_DOCUMENT) fault first.0 first.1)
 
 -- nor is one that makes a piece
-made-short : (id document : List ℕ) (p : PieceValue) (read : Result Evidence FileFault) → read_of document ≡ read → piece_from id document read ≡ Ok p → length document ≤ MAX_DOCUMENT
-made-short id document p (Ok evidence) is h = read-short document evidence is
-made-short id document p (Err reason) is h = absurd cc
+made-short : (known : List NamedCode) (p : PieceValue) → IsMade known p → length p.document ≤ MAX_DOCUMENT
+made-short known p h = let m = making-of known p h in read-short p.document m.evidence m.read
 
 -- the dump of a piece is a submission
-piece_dump-command : (p : PieceValue) (rest : List ℕ) → IsMade p → IsNamed p → commands_of (lines_of (piece_dump p ++ rest)) ≡ submission_of p ∷ commands_of (lines_of rest)
-piece_dump-command p rest made named =
-    let short = made-short p.id p.document p (read_of p.document) refl made in
+piece_dump-command : (known : List NamedCode) (p : PieceValue) (rest : List ℕ) → IsMade known p → IsNamed p → commands_of (lines_of (piece_dump p ++ rest)) ≡ submission_of p ∷ commands_of (lines_of rest)
+piece_dump-command known p rest made named =
+    let short = made-short known p made in
     let feeds = count_by-le-length is_feed p.document in
     let some : 0 < line_count p.document = omega arith in
     let small : line_count p.document < 2 ^ 64 = omega (arith, short, feeds) in
@@ -101,11 +103,11 @@ piece_dump-command p rest made named =
     (form_of-heading p.id (line_count p.document) named some small ∙ ap (λ k. Submit (Some p.id) (Lines k)) (sym (length-slice_split is_feed p.document)))
 
 -- and those of pieces are theirs
-pieces_dump-commands : (pieces : List PieceValue) → All IsMade pieces → All IsNamed pieces → commands_of (lines_of (flat_map piece_dump pieces)) ≡ map submission_of pieces
-pieces_dump-commands [] made named = refl
-pieces_dump-commands (p ∷ pieces) made named =
-    piece_dump-command p (flat_map piece_dump pieces) (All-head IsMade p pieces made) (All-head IsNamed p pieces named)
-    ∙ ap (λ cs. submission_of p ∷ cs) (pieces_dump-commands pieces (All-tail IsMade p pieces made) (All-tail IsNamed p pieces named))
+pieces_dump-commands : (known : List NamedCode) (pieces : List PieceValue) → AreMade known pieces → All IsNamed pieces → commands_of (lines_of (flat_map piece_dump pieces)) ≡ map submission_of pieces
+pieces_dump-commands known [] made named = refl
+pieces_dump-commands known (p ∷ pieces) made named =
+    piece_dump-command known p (flat_map piece_dump pieces) made.0 (All-head IsNamed p pieces named)
+    ∙ ap (λ cs. submission_of p ∷ cs) (pieces_dump-commands (known ++ named_code known p ∷ []) pieces made.1 (All-tail IsNamed p pieces named))
 
 -- the commands of a dump are the submissions of its pieces
 dump_text-commands : (pieces : List PieceValue) → AreStanding pieces → All IsNamed pieces → commands_of (lines_of (dump_text pieces)) ≡ map submission_of pieces
@@ -115,7 +117,7 @@ dump_text-commands pieces h named =
     ap (λ t. commands_of (lines_of t)) (append_assoc (comment (length pieces)) (LINE_FEED ∷ []) rest)
     ∙ ap commands_of (lines_of-next (comment (length pieces)) rest (IsLine-comment (length pieces) small))
     ∙ nothing (comment (length pieces)) (lines_of rest) (form_of-comment (length pieces))
-    ∙ pieces_dump-commands pieces h.made named
+    ∙ pieces_dump-commands [] pieces h.made named
 
 -- the pieces that an input leads to stand
 stands : (input : List ℕ) → AreStanding (pieces_of input)

@@ -3,6 +3,7 @@
 ghost use Rattle.std.specs.Prelude.{◌≡◌, ◌⊎◌, ◌↔◌, ℕ, List, [], Some, None, IsTrue, false, true, codes};
 ghost use Rattle.ct_text.specs.Gathering.{is_end};
 ghost use Rattle.ct_codes.specs.declared.fault.CodeFault.TheVariants as code;
+ghost use Rattle.ct_build.specs.declared.fault.BuildFault.TheVariants as build;
 ghost use Rattle.ct_files.specs.declared.field.FieldName.TheVariants as name;
 ghost use Rattle.ct_files.specs.declared.fault.FileFault.TheVariants as file;
 ghost use Rattle.ct_ledger.specs.declared.fault.SubmitFault.TheVariants as submit;
@@ -62,6 +63,12 @@ pub fn known_texts()
     ensures field { reply_text (Refused (refusal.Submission (submit.File (file.Field name.D)))) ≡ codes "refused field d\n" }
     ensures longest_field { reply_text (Refused (refusal.Submission (submit.File (file.Field name.Representatives))))
         ≡ codes "refused field representatives\n" }
+    ensures no_part { reply_text (Refused (refusal.Submission (submit.NoSuch (codes "golay")))) ≡ codes "refused nosuch golay\n" }
+    ensures wrong_part { reply_text (Refused (refusal.Submission (submit.WrongPart (codes "golay")))) ≡ codes "refused part golay\n" }
+    ensures short { reply_text (Refused (refusal.Submission (submit.Build (build.Short 8 10)))) ≡ codes "refused short 8 10\n" }
+    ensures built_size { reply_text (Refused (refusal.Submission (submit.Build (build.Size 262145)))) ≡ codes "refused size 262145\n" }
+    ensures few { reply_text (Refused (refusal.Submission (submit.Build (build.Few 2048 2049)))) ≡ codes "refused few 2048 2049\n" }
+    ensures empty { reply_text (Refused (refusal.Submission (submit.Build build.Empty))) ≡ codes "refused empty\n" }
     ensures nosuch { reply_text (Refused (refusal.Withdrawal (codes "hexa") withdraw.NoSuch)) ≡ codes "refused nosuch hexa\n" }
     ensures inuse { reply_text (Refused (refusal.Withdrawal (codes "golay") (withdraw.InUse (codes "oct")))) ≡ codes "refused inuse oct\n" }
 {}

@@ -1,2 +1,6 @@
+pub mod AscendingLemmas
+pub mod CodeLemmas
+pub mod MakingLemmas
+pub mod LeavingLemmas
 pub mod StandingLemmas
 mod Accepting

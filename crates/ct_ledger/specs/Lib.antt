@@ -1,4 +1,6 @@
 pub mod Piece
+pub mod Ascending
+pub mod Codes
 pub mod Submission
 pub mod Withdrawal
 pub mod Standing

@@ -4,9 +4,11 @@ use Rattle.ct_text.specs.Number.{spaced}
 use Rattle.ct_text.specs.EntryText.{entry_words}
 use Rattle.ct_codes.specs.declared.fault.CodeFault.{CodeFault}
 use Rattle.ct_codes.specs.declared.fault.CodeFault.TheVariants as code
+use Rattle.ct_build.specs.declared.fault.BuildFault.{BuildFault}
+use Rattle.ct_build.specs.declared.fault.BuildFault.TheVariants as build
 use Rattle.ct_files.specs.Field.{field_text}
 use Rattle.ct_files.specs.declared.evidence.Evidence.{Evidence}
-use Rattle.ct_files.specs.declared.evidence.Evidence.TheVariants.{Words, Cosets}
+use Rattle.ct_files.specs.declared.evidence.Evidence.TheVariants.{Words, Cosets, Build}
 use Rattle.ct_files.specs.declared.fault.FileFault.{FileFault}
 use Rattle.ct_files.specs.declared.fault.FileFault.TheVariants as file
 use Rattle.ct_ledger.specs.Piece.{PieceValue}
@@ -35,12 +37,24 @@ file_fault_text (file.Digits i) = codes "digits" ++ spaced i
 file_fault_text (file.Size c) = codes "size" ++ spaced c
 file_fault_text file.Memory = []
 
+-- why a build makes no code; a wrong part is told by its id, and so it and want of memory have no text here
+abbrev pub build_fault_text : BuildFault → List ℕ
+build_fault_text (build.WrongPart i) = []
+build_fault_text (build.Short have want) = codes "short" ++ spaced have ++ spaced want
+build_fault_text (build.Size c) = codes "size" ++ spaced c
+build_fault_text (build.Few have want) = codes "few" ++ spaced have ++ spaced want
+build_fault_text build.Empty = codes "empty"
+build_fault_text build.Memory = []
+
 -- why a submission makes no piece; want of memory has no text
 abbrev pub submit_fault_text : SubmitFault → List ℕ
 submit_fault_text submit.Taken = codes "taken"
 submit_fault_text (submit.FullPieces count) = codes "full pieces" ++ spaced count
 submit_fault_text (submit.File reason) = file_fault_text reason
+submit_fault_text (submit.NoSuch part) = codes "nosuch " ++ part
+submit_fault_text (submit.WrongPart part) = codes "part " ++ part
 submit_fault_text (submit.Code reason) = code_fault_text reason
+submit_fault_text (submit.Build reason) = build_fault_text reason
 submit_fault_text (submit.FullWords total) = codes "full words" ++ spaced total
 submit_fault_text submit.Memory = []
 
@@ -54,6 +68,7 @@ withdraw_fault_text id withdraw.Memory = []
 abbrev pub kind_text : Evidence → List ℕ
 kind_text (Words e words) = codes "words"
 kind_text (Cosets e basis representatives) = codes "cosets"
+kind_text (Build e step part other) = codes "build"
 
 -- a size, where there is one
 abbrev pub size_text : Option ℕ → List ℕ

@@ -2,6 +2,7 @@
 
 ghost use Rattle.std.specs.Prelude.{◌≡◌};
 
+use ct_build::BuildFault;
 use ct_codes::CodeFault;
 use ct_files::FileFault;
 use ct_text::Id;
@@ -16,8 +17,14 @@ pub enum SubmitFault {
     FullPieces(u64),
     /// The document is not read. The fault is never want of memory.
     File(FileFault),
+    /// The first part that is named, in the order of the document, and that does not stand.
+    NoSuch(Id),
+    /// The first part that is named and that has not the length and weight that the step asks for.
+    WrongPart(Id),
     /// The words are no code of the entry. The fault is never want of memory.
     Code(CodeFault),
+    /// The step makes no code of the entry. The fault is never a wrong part nor want of memory.
+    Build(BuildFault),
     /// With the piece so many words would be stored, which is more than `MAX_STORED`.
     FullWords(u64),
     /// Memory ran out.

@@ -1,9 +1,13 @@
 //! The ledger.
 
-ghost use Rattle.std.specs.Prelude.{◌≡◌, ◌≢◌, ◌≤◌, ◌<◌, ◌+◌, ◌^◌, ◌∷◌, ◌++◌, Result, Ok, Err, false, IfOk, IfErr, IfNone, OnOk, OnErr, [], All, filter, find, length, not, option_map};
+ghost use Rattle.std.specs.Prelude.{◌≡◌, ◌≢◌, ◌≤◌, ◌<◌, ◌+◌, ◌^◌, ◌∷◌, ◌++◌, Result, Ok, Err, Some, false, IfOk, IfErr, IfNone, OnOk, OnErr, [], All, filter, find, length, not, option_map};
+ghost use Rattle.std.specs.List.{list_any};
+ghost use Rattle.std.specs.Option.{option_to_list};
 ghost use Rattle.std.specs.Str.{bytes_eq};
+ghost use Rattle.ct_codes.specs.Code.{IsSoundCode};
 ghost use Rattle.ct_files.specs.Evidence.{read_of};
 ghost use Rattle.ct_ledger.specs.Piece.{PieceValue, has_id, stored_by, stored_words, names, first_user};
+ghost use Rattle.ct_ledger.specs.Codes.{code_of_place};
 ghost use Rattle.ct_ledger.specs.Submission.{submitted, piece_from, if_stored, unless_full};
 ghost use Rattle.ct_ledger.specs.declared.fault.SubmitFault.{SubmitFault};
 ghost use Rattle.ct_ledger.specs.Withdrawal.{withdrawn, without};
@@ -12,10 +16,12 @@ ghost use Rattle.ct_ledger.specs.Ledger.{AddsPiece};
 ghost use Rattle.ct_ledger.specs.Dump.{dump_text};
 
 use crate::check::check_document;
+use crate::codes::code_of;
 use crate::dump::put_dump;
 use crate::fault::{SubmitFault, WithdrawFault};
 use crate::limits::{MAX_PIECES, MAX_STORED};
 use crate::piece::Piece;
+use ct_codes::Code;
 use ct_files::Evidence;
 use ct_text::{Id, Text};
 use std::alloc::{AllocError, Global};
@@ -42,18 +48,19 @@ impl Model for Ledger {
     ghost invariant = { λ l. AreStanding l.pieces.items × (l.stored ≡ stored_words l.pieces.items) };
 }
 
-/// How many words the evidence stores.
-fn stored_by(evidence: &Evidence) -> u64
-    ensures words { result ≡ stored_by evidence.now }
+/// How many words the piece stores.
+fn stored_by(piece: &Piece) -> u64
+    ensures words { result ≡ stored_by piece.now }
     ensures bound { result < 2 ^ 63 }
 {
-    match evidence {
+    match piece.evidence() {
         Evidence::Words { words, .. } => words.as_slice().len() as u64,
         Evidence::Cosets {
             basis,
             representatives,
             ..
         } => basis.as_slice().len() as u64 + representatives.as_slice().len() as u64,
+        Evidence::Build { .. } => u64::from(piece.size().unwrap_or(0)),
     }
 }
 
@@ -67,11 +74,11 @@ fn has_id(pieces: &[Piece], id: Id) -> bool
 /// How many words are stored with the piece beside so many others, or that they are too many.
 fn stored_with(stored: u64, piece: &Piece) -> Result<u64, SubmitFault>
     requires { stored ≤ MAX_STORED }
-    ensures total { IfOk result (λ total. (total ≡ stored + stored_by piece.now.evidence) × (total ≤ MAX_STORED)) }
-    ensures room { IfOk result (λ _. if_stored (stored + stored_by piece.now.evidence) piece.now ≡ Ok piece.now) }
-    ensures fault { IfErr result (λ fault. if_stored (stored + stored_by piece.now.evidence) piece.now ≡ Err fault) }
+    ensures total { IfOk result (λ total. (total ≡ stored + stored_by piece.now) × (total ≤ MAX_STORED)) }
+    ensures room { IfOk result (λ _. if_stored (stored + stored_by piece.now) piece.now ≡ Ok piece.now) }
+    ensures fault { IfErr result (λ fault. if_stored (stored + stored_by piece.now) piece.now ≡ Err fault) }
 {
-    let total = stored + stored_by(piece.evidence());
+    let total = stored + stored_by(piece);
     if total > MAX_STORED {
         return Err(SubmitFault::FullWords(total));
     }
@@ -89,11 +96,22 @@ fn first_user(pieces: &[Piece], id: Id) -> Option<Id>
 }
 
 /// Whether the evidence names the piece of this id as a part of its own.
-fn names(evidence: &Evidence, _id: Id) -> bool
-    ensures { result ≡ names evidence.now _id }
+fn names(evidence: &Evidence, id: Id) -> bool
+    ensures { result ≡ names evidence.now id }
 {
     match evidence {
         Evidence::Words { .. } | Evidence::Cosets { .. } => false,
+        Evidence::Build { part, other, .. } => *part == id || is_other(*other, id),
+    }
+}
+
+/// Whether another part is named, and has the id.
+fn is_other(other: Option<Id>, id: Id) -> bool
+    ensures { result ≡ list_any (λ part. bytes_eq part id) (option_to_list other) }
+{
+    match other {
+        Some(other) => other == id,
+        None => false,
     }
 }
 
@@ -111,7 +129,7 @@ fn stored_by_all(pieces: &[Piece]) -> u64
 {
     let mut total = 0;
     for piece in pieces {
-        total += stored_by(piece.evidence());
+        total += stored_by(piece);
     }
     total
 }
@@ -181,7 +199,7 @@ impl Ledger {
         ensures unchanged { OnErr result (self.new ≡ self.old) }
     {
         room_for(&self.pieces, id)?;
-        let piece = check_document(*self.pieces.allocator(), id, document)?;
+        let piece = check_document(*self.pieces.allocator(), &self.pieces, id, document)?;
         let stored = stored_with(self.stored, &piece)?;
         let size = piece.size();
         self.pieces.push(piece)?;
@@ -207,6 +225,17 @@ impl Ledger {
         take_out(&mut self.pieces, id);
         self.stored = stored_by_all(&self.pieces);
         Ok(())
+    }
+
+    /// The code of the piece at the place, over the codes of its parts: its length, distance and weight are those of the
+    /// piece's entry, and its words are those of the document, of all choices of cosets, or those that the step makes. `Err`
+    /// is want of memory.
+    pub fn code(&self, alloc: Global, place: usize) -> Result<Code, AllocError>
+        requires place { place < length self.now.pieces }
+        ensures code { IfOk result (λ code. code_of_place self.now.pieces place ≡ Some code) }
+        ensures sound { IfOk result IsSoundCode }
+    {
+        code_of(alloc, &self.pieces, place)
     }
 
     /// The dump of the pieces: a session whose commands lead to them, with their own documents. `Err` is want of memory.

@@ -3,16 +3,19 @@
 #![tactic(auto)]
 
 mod check;
+mod codes;
 mod dump;
 mod fault;
 mod laws;
 mod ledger;
 mod limits;
 mod piece;
+#[cfg(test)]
+mod tests;
 mod text;
 
 pub use fault::{SubmitFault, WithdrawFault};
-pub use laws::submissions_that_are_accepted;
+pub use laws::{pieces_have_codes, submissions_that_are_accepted};
 pub use ledger::Ledger;
 pub use limits::{MAX_PIECES, MAX_STORED};
 pub use piece::Piece;

@@ -2,10 +2,11 @@
 
 ghost use Rattle.std.specs.Prelude.{◌≡◌, ◌++◌, OnOk, IfOk};
 ghost use Rattle.ct_text.specs.Number.{spaced};
-ghost use Rattle.ct_ledger.specs.Text.{code_fault_text, file_fault_text, submit_fault_text, withdraw_fault_text, kind_text, size_text, piece_text};
+ghost use Rattle.ct_ledger.specs.Text.{code_fault_text, file_fault_text, build_fault_text, submit_fault_text, withdraw_fault_text, kind_text, size_text, piece_text};
 
 use crate::fault::{SubmitFault, WithdrawFault};
 use crate::piece::Piece;
+use ct_build::BuildFault;
 use ct_codes::CodeFault;
 use ct_files::{Evidence, FileFault};
 use ct_text::{Id, put_entry_words, put_spaced};
@@ -66,6 +67,35 @@ fn put_file_fault(alloc: Global, text: &mut Vec<u8>, fault: FileFault) -> Result
     }
 }
 
+/// Puts at the end of the text why a build makes no code.
+fn put_build_fault(alloc: Global, text: &mut Vec<u8>, fault: BuildFault) -> Result<(), AllocError>
+    ensures { OnOk result (text.new.items ≡ text.old.items ++ build_fault_text fault) }
+{
+    match fault {
+        BuildFault::Short(have, want) => {
+            text.extend_from_slice(b"short")?;
+            put_spaced(alloc, text, u64::from(have))?;
+            put_spaced(alloc, text, u64::from(want))
+        }
+        BuildFault::Size(count) => put_numbered(alloc, text, b"size", count),
+        BuildFault::Few(have, want) => {
+            text.extend_from_slice(b"few")?;
+            put_spaced(alloc, text, have)?;
+            put_spaced(alloc, text, want)
+        }
+        BuildFault::Empty => text.extend_from_slice(b"empty"),
+        BuildFault::WrongPart(_) | BuildFault::Memory => Ok(()),
+    }
+}
+
+/// Puts the name of a fault and an id at the end of the text.
+fn put_named(text: &mut Vec<u8>, name: &[u8], id: Id) -> Result<(), AllocError>
+    ensures { OnOk result (text.new.items ≡ text.old.items ++ (name.now ++ id)) }
+{
+    text.extend_from_slice(name)?;
+    text.extend_from_slice(id.text())
+}
+
 /// Puts at the end of the text why a submission makes no piece.
 fn put_submit_fault(alloc: Global, text: &mut Vec<u8>, fault: SubmitFault) -> Result<(), AllocError>
     ensures { OnOk result (text.new.items ≡ text.old.items ++ submit_fault_text fault) }
@@ -74,7 +104,10 @@ fn put_submit_fault(alloc: Global, text: &mut Vec<u8>, fault: SubmitFault) -> Re
         SubmitFault::Taken => text.extend_from_slice(b"taken"),
         SubmitFault::FullPieces(count) => put_numbered(alloc, text, b"full pieces", count),
         SubmitFault::File(reason) => put_file_fault(alloc, text, reason),
+        SubmitFault::NoSuch(part) => put_named(text, b"nosuch ", part),
+        SubmitFault::WrongPart(part) => put_named(text, b"part ", part),
         SubmitFault::Code(reason) => put_code_fault(alloc, text, reason),
+        SubmitFault::Build(reason) => put_build_fault(alloc, text, reason),
         SubmitFault::FullWords(total) => put_numbered(alloc, text, b"full words", total),
         SubmitFault::Memory => Ok(()),
     }
@@ -115,6 +148,7 @@ fn put_kind(text: &mut Vec<u8>, evidence: &Evidence) -> Result<(), AllocError>
     match evidence {
         Evidence::Words { .. } => text.extend_from_slice(b"words"),
         Evidence::Cosets { .. } => text.extend_from_slice(b"cosets"),
+        Evidence::Build { .. } => text.extend_from_slice(b"build"),
     }
 }
 

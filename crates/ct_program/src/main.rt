@@ -49,4 +49,6 @@ mod tests;
 #[cfg(test)]
 mod tests_builds;
 #[cfg(test)]
+mod tests_builds;
+#[cfg(test)]
 mod tests_codes;

@@ -1,22 +1,202 @@
-//! Codes that are built from pieces, and pieces that others name.
+//! Codes that are built from others in a session: what is accepted, what is refused, and what may be withdrawn.
 
-use crate::run::run;
-use crate::status::Status;
-use ct_io::{MemSink, MemSource};
+use crate::tests_codes::{GOLAY, assert_replies, run_session};
 use std::alloc::{AllocError, Global};
-use std::process::Abort;
 use std::test::Fail;
 
-// The extended Golay code, of 4,096 words, 759 of them of weight 8.
-const GOLAY: &str = "submit golay\nkind='cosets'\nn=24\nd=8\nbasis=[\
-'101011100011000000000001','010101110001100000000001','001010111000110000000001','000101011100011000000001',\
-'000010101110001100000001','000001010111000110000001','000000101011100011000001','000000010101110001100001',\
-'000000001010111000110001','000000000101011100011001','000000000010101110001101','000000000001010111000111']\n\
-representatives=['000000000000000000000000']\nend\n";
-
-// Its words of weight 8.
+/// The 759 words of weight 8 of the Golay code (MacWilliams and Sloane, chapter 2), as a build.
 const OCTADS: &str =
-    "submit oct\nkind='build'\nop='select'\nn=24\nd=8\nw=8\nby='000000000000000000000000'\npart='golay'\nend\n";
+    "kind = 'build'\nop = 'select'\nn = 24\nd = 8\nw = 8\nby = '000000000000000000000000'\npart = 'golay'\n";
+
+/// The Golay code shortened at its first place.
+const SHORTENED: &str =
+    "kind = 'build'\nop = 'shorten'\nn = 23\nd = 8\nplaces = [0]\ndigits = '0'\npart = 'golay'\n";
+
+/// A session that hands in the Golay code as `golay`, and then goes on with these lines.
+fn after_golay(alloc: Global, lines: &str) -> Result<String, AllocError> {
+    format!(in alloc; "submit golay\n{GOLAY}end\n{lines}")
+}
+
+/// The replies to it, where these lines get such.
+fn golay_replies(alloc: Global, replies: &str) -> Result<String, AllocError> {
+    format!(in alloc; "accepted golay size 4096\n{replies}")
+}
+
+// Lines after the Golay code and its octads, and their replies.
+const AFTER_OCTADS: [(&str, &str); 6] = [
+    (
+        "ledger\n",
+        "golay cosets 24 8 size 4096\noct build 24 8 8 size 759\npieces 2\n",
+    ),
+    ("withdraw golay\n", "refused inuse oct\n"),
+    (
+        "withdraw golay\nwithdraw oct\nwithdraw golay\nshow 24 8\nwithdraw golay\nledger\n",
+        "refused inuse oct\nwithdrawn oct\nwithdrawn golay\n1 <= A(24,8) <= 16777216\nrefused nosuch golay\npieces 0\n",
+    ),
+    ("show 24 8\n", "4096 <= A(24,8) <= 16777216\n"),
+    (
+        "withdraw oct\nledger\n",
+        "withdrawn oct\ngolay cosets 24 8 size 4096\npieces 1\n",
+    ),
+    ("withdraw none\n", "refused nosuch none\n"),
+];
+
+#[test]
+fn octads_stand_on_the_golay_code(rt: HostRuntime) -> Result<(), Fail> {
+    let alloc = rt.alloc();
+    for (lines, replies) in AFTER_OCTADS {
+        let lines = format!(in alloc; "submit oct\n{OCTADS}end\n{lines}")?;
+        let replies = format!(in alloc; "accepted oct size 759\n{replies}")?;
+        assert_replies(
+            &rt,
+            alloc,
+            &after_golay(alloc, &lines)?,
+            &golay_replies(alloc, &replies)?,
+        )?;
+    }
+    Ok(())
+}
+
+// Builds after the Golay code `golay`, its octads `oct` and the shortened code `g23`, and their replies.
+const BUILDS: [(&str, &str); 17] = [
+    (
+        "op = 'trim'\nn = 23\nd = 8\nsize = 2048\npart = 'g23'",
+        "accepted b size 2048",
+    ),
+    (
+        "op = 'trim'\nn = 23\nd = 8\nsize = 2049\npart = 'g23'",
+        "refused few 2048 2049",
+    ),
+    // No word of the code has weight 1.
+    (
+        "op = 'select'\nn = 24\nd = 8\nw = 1\nby = '000000000000000000000000'\npart = 'golay'",
+        "refused empty",
+    ),
+    (
+        "op = 'select'\nn = 24\nd = 10\nw = 8\nby = '000000000000000000000000'\npart = 'golay'",
+        "refused short 8 10",
+    ),
+    (
+        "op = 'select'\nn = 23\nd = 8\nw = 8\nby = '00000000000000000000000'\npart = 'golay'",
+        "refused part golay",
+    ),
+    // The octads are of weight 8, and a selection asks for a part without one.
+    (
+        "op = 'select'\nn = 24\nd = 8\nw = 8\nby = '000000000000000000000000'\npart = 'oct'",
+        "refused part oct",
+    ),
+    (
+        "op = 'lengthen'\nn = 25\nd = 8\npart = 'b'",
+        "refused nosuch b",
+    ),
+    (
+        "op = 'lengthen'\nn = 25\nd = 8\npart = 'none'",
+        "refused nosuch none",
+    ),
+    (
+        "op = 'lengthen'\nn = 24\nd = 8\npart = 'golay'",
+        "refused part golay",
+    ),
+    (
+        "op = 'lengthen'\nn = 24\nd = 8\npart = 'g23'",
+        "accepted b size 2048",
+    ),
+    // Parts that stand come before parts that are right, and the part before the other.
+    (
+        "op = 'uuv'\nn = 24\nd = 8\npart = 'golay'\nother = 'none'",
+        "refused nosuch none",
+    ),
+    (
+        "op = 'uuv'\nn = 24\nd = 8\npart = 'first'\nother = 'second'",
+        "refused nosuch first",
+    ),
+    (
+        "op = 'uuv'\nn = 24\nd = 8\npart = 'golay'\nother = 'g23'",
+        "refused part golay",
+    ),
+    (
+        "op = 'juxtapose'\nn = 28\nd = 8\npart = 'g23'\nother = 'golay'",
+        "refused part golay",
+    ),
+    (
+        "op = 'complement'\nn = 24\nd = 8\nw = 16\npart = 'oct'",
+        "accepted b size 759",
+    ),
+    (
+        "op = 'complement'\nn = 24\nd = 8\nw = 8\npart = 'oct'",
+        "refused part oct",
+    ),
+    (
+        "op = 'puncture'\nn = 23\nd = 8\nplaces = [3]\npart = 'golay'",
+        "refused short 7 8",
+    ),
+];
+
+#[test]
+fn builds_get_their_replies(rt: HostRuntime) -> Result<(), Fail> {
+    let alloc = rt.alloc();
+    for (document, reply) in BUILDS {
+        let lines = format!(in alloc;
+            "submit oct\n{OCTADS}end\nsubmit g23\n{SHORTENED}end\nsubmit b\nkind = 'build'\n{document}\nend\n"
+        )?;
+        let replies = format!(in alloc;
+            "accepted oct size 759\naccepted g23 size 2048\n{reply}\n"
+        )?;
+        assert_replies(
+            &rt,
+            alloc,
+            &after_golay(alloc, &lines)?,
+            &golay_replies(alloc, &replies)?,
+        )?;
+    }
+    Ok(())
+}
+
+/// A part may be its other too, and a piece in use stays until its last user has gone.
+#[test]
+fn a_piece_in_use_is_told_by_its_first_user(rt: HostRuntime) -> Result<(), Fail> {
+    let alloc = rt.alloc();
+    let build = "kind = 'build'\nn = 8\nd = 4\n";
+    let input = format!(in alloc;
+        "submit even\nkind = 'cosets'\nn = 4\nd = 3\nbasis = []\nrepresentatives = ['0000', '1111']\nend\n\
+        submit twice\n{build}op = 'juxtapose'\npart = 'even'\nother = 'even'\nend\n\
+        submit moved\n{build}op = 'translate'\nby = '11111111'\npart = 'twice'\nend\n\
+        withdraw even\nwithdraw twice\nwithdraw moved\nwithdraw even\nwithdraw twice\nwithdraw even\nledger\n"
+    )?;
+    let replies = "accepted even size 2\naccepted twice size 2\naccepted moved size 2\n\
+        refused inuse twice\nrefused inuse moved\nwithdrawn moved\nrefused inuse twice\nwithdrawn twice\nwithdrawn even\n\
+        pieces 0\n";
+    assert_replies(&rt, alloc, &input, replies)?;
+    Ok(())
+}
+
+/// The Golay code stores 13 words and each code built from it 4096: 244 of these are 999437 words in all, and one more is
+/// too many.
+#[test]
+fn built_codes_are_stored_by_their_sizes(rt: HostRuntime) -> Result<(), Fail> {
+    let alloc = rt.alloc();
+    let mut lines = String::new(alloc);
+    let mut replies = String::new(alloc);
+    for number in 1..=245u32 {
+        let text = format!(in alloc;
+            "submit l{number}\nkind = 'build'\nop = 'lengthen'\nn = 25\nd = 8\npart = 'golay'\nend\n"
+        )?;
+        lines.push_str(&text)?;
+        let reply = if number <= 244 {
+            format!(in alloc; "accepted l{number} size 4096\n")?
+        } else {
+            "refused full words 1003533\n".to_string(alloc)?
+        };
+        replies.push_str(&reply)?;
+    }
+    assert_replies(
+        &rt,
+        alloc,
+        &after_golay(alloc, &lines)?,
+        &golay_replies(alloc, &replies)?,
+    )?;
+    Ok(())
+}
 
 // Two words of length 4 at distance 4, and four of length 5 at distance 3.
 const SMALL: &str = "submit a\nkind='words'\nn=4\nd=4\nwords=['0000','1111']\nend\n\
@@ -24,46 +204,6 @@ submit b\nkind='words'\nn=5\nd=3\nwords=['00000','11100','00111','11011']\nend\n
 
 // The replies to these.
 const SMALL_REPLIES: &str = "accepted a size 2\naccepted b size 4\n";
-
-// Builds after the Golay code, its octads, and `g23`, the Golay code shortened at place 0.
-const AFTER_GOLAY: [(&str, &str); 9] = [
-    (
-        "op='trim'\nn=23\nd=8\nsize=2049\npart='g23'",
-        "refused few 2048 2049",
-    ),
-    (
-        "op='trim'\nn=23\nd=8\nsize=2048\npart='g23'",
-        "accepted x size 2048",
-    ),
-    (
-        "op='select'\nn=24\nd=8\nw=1\nby='000000000000000000000000'\npart='golay'",
-        "refused empty",
-    ),
-    (
-        "op='select'\nn=24\nd=10\nw=8\nby='000000000000000000000000'\npart='golay'",
-        "refused short 8 10",
-    ),
-    (
-        "op='select'\nn=23\nd=8\nw=8\nby='00000000000000000000000'\npart='golay'",
-        "refused part golay",
-    ),
-    (
-        "op='select'\nn=24\nd=8\nw=8\nby='000000000000000000000000'\npart='oct'",
-        "refused part oct",
-    ),
-    (
-        "op='puncture'\nn=23\nd=7\nplaces=[23]\npart='golay'",
-        "accepted x size 4096",
-    ),
-    (
-        "op='complement'\nn=24\nd=8\nw=16\npart='oct'",
-        "accepted x size 759",
-    ),
-    (
-        "op='shorten'\nn=23\nd=8\nw=7\nplaces=[0]\ndigits='1'\npart='oct'",
-        "accepted x size 253",
-    ),
-];
 
 // Builds after the two small codes.
 const AFTER_SMALL: [(&str, &str); 16] = [
@@ -113,60 +253,9 @@ const AFTER_SMALL: [(&str, &str); 16] = [
     ("op='lengthen'\nn=5\nd=4\npart='x'", "refused nosuch x"),
 ];
 
-/// How a session on the input ends, and what it writes.
-fn run_session(alloc: Global, input: &[u8]) -> Result<(Status, Vec<u8>), AllocError> {
-    let words = ["session".to_string(alloc)?];
-    let mut source = MemSource::new(input.to_vec(alloc)?, Vec::new(alloc), 4096);
-    let mut sink = MemSink::new(alloc, 65536, Vec::new(alloc), 65536)?;
-    let status = run(alloc, &words, &mut source, &mut sink);
-    let written = sink.bytes.to_vec(alloc)?;
-    Ok((status, written))
-}
-
-/// The session on the input writes the replies.
-fn assert_replies(
-    rt: &impl Abort,
-    alloc: Global,
-    input: &str,
-    replies: &str,
-) -> Result<(), AllocError> {
-    let (_, written) = run_session(alloc, input.as_bytes())?;
-    assert_eq!(rt; written.as_slice(), replies.as_bytes(), "to {input}");
-    Ok(())
-}
-
 /// The rest of the document of a build is submitted as `x` after the input.
 fn with_build(alloc: Global, input: &str, rest: &str) -> Result<String, AllocError> {
     format!(in alloc; "{input}submit x\nkind='build'\n{rest}\nend\n")
-}
-
-#[test]
-fn octads_are_built_and_keep_the_golay_code(rt: HostRuntime) -> Result<(), Fail> {
-    let alloc = rt.alloc();
-    let input = format!(in alloc;
-        "{GOLAY}{OCTADS}show 24 8\nledger\nwithdraw golay\nwithdraw oct\nwithdraw golay\nshow 24 8\nwithdraw golay\n"
-    )?;
-    let replies = "accepted golay size 4096\naccepted oct size 759\n4096 <= A(24,8) <= 16777216\n\
-        golay cosets 24 8 size 4096\noct build 24 8 8 size 759\npieces 2\nrefused inuse oct\nwithdrawn oct\nwithdrawn golay\n\
-        1 <= A(24,8) <= 16777216\nrefused nosuch golay\n";
-    assert_replies(&rt, alloc, &input, replies)?;
-    Ok(())
-}
-
-#[test]
-fn builds_after_the_golay_code(rt: HostRuntime) -> Result<(), Fail> {
-    let alloc = rt.alloc();
-    let shorten =
-        "submit g23\nkind='build'\nop='shorten'\nn=23\nd=8\nplaces=[0]\ndigits='0'\npart='golay'\nend\n";
-    let before = format!(in alloc; "{GOLAY}{OCTADS}{shorten}")?;
-    for (rest, reply) in AFTER_GOLAY {
-        let input = with_build(alloc, &before, rest)?;
-        let replies = format!(in alloc;
-            "accepted golay size 4096\naccepted oct size 759\naccepted g23 size 2048\n{reply}\n"
-        )?;
-        assert_replies(&rt, alloc, &input, &replies)?;
-    }
-    Ok(())
 }
 
 #[test]
@@ -177,27 +266,6 @@ fn builds_after_small_codes(rt: HostRuntime) -> Result<(), Fail> {
         let replies = format!(in alloc; "{SMALL_REPLIES}{reply}\n")?;
         assert_replies(&rt, alloc, &input, &replies)?;
     }
-    Ok(())
-}
-
-/// The words of builds are stored: 13 words of the Golay code's document, and 244 times 4,096. One build more is refused.
-#[test]
-fn built_words_are_stored(rt: HostRuntime) -> Result<(), Fail> {
-    let alloc = rt.alloc();
-    let mut input = String::from_str(alloc, GOLAY)?;
-    let mut replies = String::from_str(alloc, "accepted golay size 4096\n")?;
-    for number in 1..246 {
-        let build = format!(in alloc;
-            "submit l{number}\nkind='build'\nop='lengthen'\nn=25\nd=8\npart='golay'\nend\n"
-        )?;
-        input.push_str(&build)?;
-        if number < 245 {
-            let reply = format!(in alloc; "accepted l{number} size 4096\n")?;
-            replies.push_str(&reply)?;
-        }
-    }
-    replies.push_str("refused full words 1003533\n")?;
-    assert_replies(&rt, alloc, &input, &replies)?;
     Ok(())
 }
 

@@ -235,7 +235,7 @@ const LINEAR: [Linear; 11] = [
 ];
 
 // The extended Golay code, the Nordstrom-Robinson code, and the latter stated for distance 7.
-const GOLAY: &str = "\
+pub(crate) const GOLAY: &str = "\
 kind = \"cosets\"
 n = 24
 d = 8
@@ -346,7 +346,7 @@ const DOCUMENTS: [(&str, &str); 21] = [
 ];
 
 /// How a session on the input ends, and what it writes.
-fn run_session(alloc: Global, input: &[u8]) -> Result<(Status, Vec<u8>), AllocError> {
+pub(crate) fn run_session(alloc: Global, input: &[u8]) -> Result<(Status, Vec<u8>), AllocError> {
     let words = ["session".to_string(alloc)?];
     let mut source = MemSource::new(input.to_vec(alloc)?, Vec::new(alloc), 4096);
     let mut sink = MemSink::new(alloc, 65536, Vec::new(alloc), 65536)?;
@@ -356,7 +356,7 @@ fn run_session(alloc: Global, input: &[u8]) -> Result<(Status, Vec<u8>), AllocEr
 }
 
 /// The session on the input writes the replies; it ends as Refused where one of them is a refusal.
-fn assert_replies(
+pub(crate) fn assert_replies(
     rt: &impl Abort,
     alloc: Global,
     input: &str,
@@ -399,11 +399,17 @@ fn linear_codes_are_accepted_with_their_sizes(rt: HostRuntime) -> Result<(), Fai
     let alloc = rt.alloc();
     for code in &LINEAR {
         let Linear {
-            id, n, d, size, all, ..
+            id,
+            n,
+            d,
+            size,
+            all,
+            ..
         } = *code;
         let input = linear_session(alloc, code)?;
-        let replies =
-            format!(in alloc; "accepted {id} size {size}\n{size} <= A({n},{d}) <= {all}\n")?;
+        let replies = format!(in alloc;
+            "accepted {id} size {size}\n{size} <= A({n},{d}) <= {all}\n"
+        )?;
         assert_replies(&rt, alloc, &input, &replies)?;
     }
     Ok(())

@@ -90,3 +90,27 @@ returns-clause-field c = refl
 pub returns-clause-longest_field : goal.returns-clause-longest_field
 unfolding reply_text digits
 returns-clause-longest_field c = refl
+
+pub returns-clause-no_part : goal.returns-clause-no_part
+unfolding reply_text digits
+returns-clause-no_part c = refl
+
+pub returns-clause-wrong_part : goal.returns-clause-wrong_part
+unfolding reply_text digits
+returns-clause-wrong_part c = refl
+
+pub returns-clause-short : goal.returns-clause-short
+unfolding reply_text digits
+returns-clause-short c = refl
+
+pub returns-clause-built_size : goal.returns-clause-built_size
+unfolding reply_text digits
+returns-clause-built_size c = refl
+
+pub returns-clause-few : goal.returns-clause-few
+unfolding reply_text digits
+returns-clause-few c = refl
+
+pub returns-clause-empty : goal.returns-clause-empty
+unfolding reply_text digits
+returns-clause-empty c = refl

@@ -1,6 +1,9 @@
-use Rattle.std.proofs.Common.{rules, ◌≡◌, ◌≤◌, ◌+◌, ap, sym, ◌∙◌, subst, ℕ}
+use Rattle.std.proofs.Common.{rules, List, Ok, ◌≡◌, ◌≤◌, ◌+◌, ap, sym, ◌∙◌, subst, ℕ}
 use Rattle.std.proofs.lemmas.List.Sums.{sum_by_push}
 use Rattle.ct_ledger.specs.Piece.{PieceValue, stored_by, stored_words}
+use Rattle.ct_files.specs.Evidence.{read_of}
+use Rattle.ct_ledger.specs.Codes.{codes_of}
+use Rattle.ct_ledger.specs.Submission.{piece_from}
 use Rattle.ct_ledger.specs.Ledger.{LedgerValue}
 use Rattle.ct_ledger.specs.declared.limits.TheConstants.{MAX_STORED}
 use Rattle.ct_ledger.proofs.StandingLemmas.{submitted-beside, AreStanding-made}
@@ -12,7 +15,8 @@ returns-in_err-stored-clause-fault c =
     let free = rw (c.deref.ensures.value, pieces) at c.in_ok-room_for.ensures.free in
     let room = rw (c.deref.ensures.value, pieces) at c.in_ok-room_for.ensures.room in
     let stored = c.self.invariant.1 ∙ ap stored_words pieces in
-    let beside = submitted-beside c.args.self.now.pieces c.args.id c.args.document c.in_ok-piece.piece free room c.in_ok-piece.ensures.made in
+    let made = subst (λ (ps : List PieceValue). piece_from (codes_of ps) c.args.id c.args.document (read_of c.args.document) ≡ Ok c.in_ok-piece.piece) (c.deref-2.ensures.value ∙ pieces) c.in_ok-piece.ensures.made in
+    let beside = submitted-beside c.args.self.now.pieces c.args.id c.args.document c.in_ok-piece.piece free room made in
     let full = rw stored at c.in_err-stored.ensures.fault in
     search rules
 
@@ -22,7 +26,8 @@ invariant_of-self-2 c =
     let p = c.in_ok-piece.piece in
     let free = rw c.deref.ensures.value at c.in_ok-room_for.ensures.free in
     let room = rw c.deref.ensures.value at c.in_ok-room_for.ensures.room in
-    let total : c.in_ok-stored.stored ≡ stored_words items + stored_by p.evidence = c.in_ok-stored.ensures.total.0 ∙ ap (λ (s : ℕ). s + stored_by p.evidence) c.self.invariant.1 in
-    let small : stored_words items + stored_by p.evidence ≤ MAX_STORED = subst (λ (t : ℕ). t ≤ MAX_STORED) total c.in_ok-stored.ensures.total.1 in
-    let made = AreStanding-made items c.args.id c.args.document p c.self.invariant.0 c.in_ok-piece.ensures.made free room small in
-    rw c.in_ok-push.ensures.items (made, total ∙ sym (sum_by_push (λ (q : PieceValue). stored_by q.evidence) items p))
+    let total : c.in_ok-stored.stored ≡ stored_words items + stored_by p = c.in_ok-stored.ensures.total.0 ∙ ap (λ (s : ℕ). s + stored_by p) c.self.invariant.1 in
+    let small : stored_words items + stored_by p ≤ MAX_STORED = subst (λ (t : ℕ). t ≤ MAX_STORED) total c.in_ok-stored.ensures.total.1 in
+    let piece = subst (λ (ps : List PieceValue). piece_from (codes_of ps) c.args.id c.args.document (read_of c.args.document) ≡ Ok p) c.deref-2.ensures.value c.in_ok-piece.ensures.made in
+    let made = AreStanding-made items c.args.id c.args.document p c.self.invariant.0 piece free room small in
+    rw c.in_ok-push.ensures.items (made, total ∙ sym (sum_by_push stored_by items p))

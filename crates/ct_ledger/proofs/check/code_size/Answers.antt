@@ -1,0 +1,19 @@
+use Rattle.std.proofs.Common.{ℕ, ◌≤◌, ◌^◌, Some, length, ap, ◌∙◌, arith, lit≤}
+use Rattle.std.proofs.Math.Nat.{pow-le-pow_right}
+use Rattle.std.proofs.lemmas.List.Sorted.{length_permutation}
+use Rattle.ct_words.specs.declared.limits.TheConstants.{MAX_BOUND}
+use Rattle.ct_codes.specs.Code.{CodeValue}
+use Rattle.ct_codes.proofs.CheckLemmas.{code_size-le}
+use Rattle.ct_files.specs.declared.evidence.Evidence.TheVariants.{Build}
+use Rattle.ct_ledger.specs.Ascending.{ascending}
+use Rattle.ct_ledger.specs.Codes.{words_over}
+use Rattle.ct_ledger.specs.Piece.{PieceValue}
+use Rattle.ct_ledger.proofs.AscendingLemmas.{ascending-moved}
+use Rattle.ct_ledger.proofs.check.code_size.Goals as goal
+
+pub overflow_cast-result : goal.overflow_cast-result
+overflow_cast-result c =
+    let size = code_size-le _ _ _ _ c.words.ensures.sound.code in
+    let cap : 2 ^ c.args.code.now.n ≤ MAX_BOUND = pow-le-pow_right (lit≤ tt) c.words.ensures.sound.length_in_range.1 in
+    let same = ap length c.words.ensures.value in
+    omega (arith, size, cap, same)

@@ -1,0 +1,11 @@
+use Rattle.std.proofs.Common.{[]}
+use Rattle.std.proofs.lemmas.List.Elements.{All-nil}
+use Rattle.ct_ledger.proofs.CodeLemmas.{ids_of_codes}
+use Rattle.ct_ledger.proofs.MakingLemmas.{HasSoundCode, codes_after-sound}
+use Rattle.ct_ledger.proofs.laws.pieces_have_codes.Goals as goal
+
+pub returns-clause-codes : goal.returns-clause-codes
+returns-clause-codes c = λ pieces h. codes_after-sound [] pieces (All-nil HasSoundCode) h.made
+
+pub returns-clause-ids : goal.returns-clause-ids
+returns-clause-ids c = ids_of_codes []
