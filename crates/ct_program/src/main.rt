@@ -49,6 +49,4 @@ mod tests;
 #[cfg(test)]
 mod tests_builds;
 #[cfg(test)]
-mod tests_builds;
-#[cfg(test)]
 mod tests_codes;
