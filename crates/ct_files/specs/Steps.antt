@@ -2,14 +2,14 @@
 use Rattle.std.specs.Prelude.{Bool, if◌then◌else◌, Result, Ok, Err}
 use Rattle.ct_files.specs.declared.fault.FileFault.{FileFault}
 
--- a step, and what follows with what it gives
 infixl 10 ◌>>=◌
+-- a step, and what follows with what it gives
 abbrev pub ◌>>=◌ : {A B : Type 0} → Result A FileFault → (A → Result B FileFault) → Result B FileFault
 (Ok x) >>= next = next x
 (Err fault) >>= next = Err fault
 
--- a step, and what follows after it
 infixl 10 ◌>>◌
+-- a step, and what follows after it
 abbrev pub ◌>>◌ : {A B : Type 0} → Result A FileFault → Result B FileFault → Result B FileFault
 step >> next = step >>= (λ _. next)
 

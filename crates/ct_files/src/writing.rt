@@ -18,6 +18,7 @@ use ct_words::{Word, print_word};
 use std::alloc::{AllocError, Global};
 use toml::{Table, Value};
 
+/// The key of the field, as a text of its own.
 pub(crate) fn key(alloc: Global, name: FieldName) -> Result<String, AllocError>
     ensures { IfOk result (λ key. string_bytes key ≡ field_text name) }
 {
@@ -34,6 +35,7 @@ fn word_text(alloc: Global, n: u32, word: Word) -> Result<Vec<u8>, AllocError>
     Ok(text)
 }
 
+/// The text of the word of length `n`, as a value of a document.
 pub(crate) fn word_value(alloc: Global, n: u32, word: Word) -> Result<Value, AllocError>
     requires room { n ≤ MAX_N }
     requires word { word < 2 ^ n }
