@@ -28,7 +28,7 @@ use Rattle.ct_files.specs.declared.operation.Operation.TheVariants.{Lengthen, Ap
 use Rattle.ct_files.specs.declared.fault.FileFault.{FileFault}
 use Rattle.ct_files.specs.declared.fault.FileFault.TheVariants.{Field, Unknown, Digits}
 use Rattle.ct_files.proofs.StepLemmas.{bind-ok, bind-err, bind-at, bind-cases, check-ok, check-err, ok_or-ok, ok_or-err}
-use Rattle.ct_files.proofs.FieldLemmas.{number_field-ok, number_field-from, has_only-true, has_only-from}
+use Rattle.ct_files.proofs.FieldLemmas.{number_field-ok, number_field-from, has_only-true, has_only-false, has_only-from}
 use Rattle.ct_files.proofs.EntryAnswers.{number_field-err, build_entry_of-ok, build_entry_of-from, build_entry_of-err}
 use Rattle.ct_files.proofs.BuildFieldLemmas.{text_field-ok, text_field-from, operation_field-ok, operation_field-from, id_field-ok, id_field-from, left_out-true, places_field-ok, places_field-from, digits_of-some, digits_of-text}
 
@@ -52,34 +52,58 @@ weight_there None h = absurd (h refl)
 weight_there (Some w) h = refl
 
 -- the word that a text writes, in what is found
-word_found : (make : ℕ → Step) (n : ℕ) (text : List ℕ) (s : Step) → option_map make (word_of n text) ≡ Some s → (x : ℕ) × (make x ≡ s) × (x < 2 ^ n) × (text ≡ word_text n x)
+word_found : (make : ℕ → Step) (n : ℕ) (text : List ℕ) (s : Step) → option_map make (word_of n text) ≡ Some s
+    → (x : ℕ) × (make x ≡ s) × (x < 2 ^ n) × (text ≡ word_text n x)
 word_found make n text s e = at (word_of n text) refl e where
   at : (o : Option ℕ) → word_of n text ≡ o → option_map make o ≡ Some s → (x : ℕ) × (make x ≡ s) × (x < 2 ^ n) × (text ≡ word_text n x)
   at None is h = absurd cc
   at (Some x) is h = let same : make x ≡ s = cc in let (small, text-is) = word_from_text n x text is in (x, same, small, text-is)
 
 -- the digits that a text writes, in what is found
-digits_found : (make : List ℕ → Step) (count : ℕ) (text : List ℕ) (s : Step) → option_map make (digits_of count text) ≡ Some s → (ds : List ℕ) × (make ds ≡ s) × (digits_of count text ≡ Some ds)
+digits_found : (make : List ℕ → Step) (count : ℕ) (text : List ℕ) (s : Step) → option_map make (digits_of count text) ≡ Some s
+    → (ds : List ℕ) × (make ds ≡ s) × (digits_of count text ≡ Some ds)
 digits_found make count text s e = at (digits_of count text) refl e where
-  at : (o : Option (List ℕ)) → digits_of count text ≡ o → option_map make o ≡ Some s → (ds : List ℕ) × (make ds ≡ s) × (digits_of count text ≡ Some ds)
+  at : (o : Option (List ℕ)) → digits_of count text ≡ o → option_map make o ≡ Some s
+      → (ds : List ℕ) × (make ds ≡ s) × (digits_of count text ≡ Some ds)
   at None is h = absurd cc
   at (Some ds) is h = let same : make ds ≡ s = cc in (ds, same, is)
 
 -- a step without fields
-plain_step : (o : Operation) (e : Entry) (document : Data) (s t : Step) → ◌≡◌ {A = Result (Option Step) FileFault} (Ok (Some s)) (Ok (Some t)) → IsStep o e document s → IsStep o e document t
+plain_step : (o : Operation) (e : Entry) (document : Data) (s t : Step)
+    → ◌≡◌ {A = Result (Option Step) FileFault} (Ok (Some s)) (Ok (Some t)) → IsStep o e document s → IsStep o e document t
 plain_step o e document s t read is = let same : s ≡ t = cc in subst (IsStep o e document) same is
 
 -- a step that is read has its fields in the document and fits the entry
-step_ok : (o : Operation) (e : Entry) (document : Data) (s : Step) → makes_length o e.n ≡ true → takes_weight o e.w ≡ true → step_fields o e.n document ≡ Ok (Some s) → IsStep o e document s
+step_ok : (o : Operation) (e : Entry) (document : Data) (s : Step) → makes_length o e.n ≡ true → takes_weight o e.w ≡ true
+    → step_fields o e.n document ≡ Ok (Some s) → IsStep o e document s
 unfolding step_fields FieldsFit
-step_ok Lengthen e document s long takes read = plain_step Lengthen e document step.Lengthen s read (record { same = refl; fields = tt; fits = leb-true 2 e.n long })
-step_ok AppendOne e document s long takes read = plain_step AppendOne e document step.AppendOne s read (record { same = refl; fields = tt; fits = leb-true 2 e.n long })
-step_ok Parity e document s long takes read = plain_step Parity e document step.Parity s read (record { same = refl; fields = tt; fits = leb-true 2 e.n long })
+step_ok Lengthen e document s long takes read =
+    plain_step Lengthen e document step.Lengthen s read (record {
+      same = refl;
+      fields = tt;
+      fits = leb-true 2 e.n long;
+    })
+step_ok AppendOne e document s long takes read =
+    plain_step AppendOne e document step.AppendOne s read (record {
+      same = refl;
+      fields = tt;
+      fits = leb-true 2 e.n long;
+    })
+step_ok Parity e document s long takes read =
+    plain_step Parity e document step.Parity s read (record {
+      same = refl;
+      fields = tt;
+      fits = leb-true 2 e.n long;
+    })
 step_ok Puncture e document s long takes read =
     let (places, places-are, last) = bind-ok (field (places_in e.n) name.Places document) _ (Some s) read in
     let (has, passes) = places_field-ok e.n document places places-are in
     let (some, are, few) = left_out-true e.n places passes in
-    plain_step Puncture e document (step.Puncture places) s last (record { same = refl; fields = has; fits = (no_weight e.w takes, some, are, few) })
+    plain_step Puncture e document (step.Puncture places) s last (record {
+      same = refl;
+      fields = has;
+      fits = (no_weight e.w takes, some, are, few);
+    })
 step_ok Shorten e document s long takes read =
     let (places, places-are, next) = bind-ok (field (places_in e.n) name.Places document) _ (Some s) read in
     let (text, text-is, last) = bind-ok (field as_str name.Digits document) _ (Some s) next in
@@ -88,23 +112,45 @@ step_ok Shorten e document s long takes read =
     let (is, kept, small) = digits_of-some (length places) text digits digits-are in
     let (has, passes) = places_field-ok e.n document places places-are in
     let (some, are, few) = left_out-true e.n places passes in
-    subst (IsStep Shorten e document) same (record { same = refl; fields = (has, subst (HasText name.Digits document) is (text_field-ok name.Digits document text text-is)); fits = (some, are, few, kept, small) })
+    subst (IsStep Shorten e document) same (record {
+      same = refl;
+      fields = (has, subst (HasText name.Digits document) is (text_field-ok name.Digits document text text-is));
+      fits = (some, are, few, kept, small);
+    })
 step_ok Translate e document s long takes read =
     let (found_by, by-is, next) = bind-ok (by_field e.n document) _ (Some s) read in
     let (text, text-is, last) = bind-ok (field as_str name.By document) _ found_by by-is in
     let found : option_map step.Translate (word_of e.n text) ≡ Some s = cc in
     let (by, same, small, is) = word_found step.Translate e.n text s found in
-    subst (IsStep Translate e document) same (record { same = refl; fields = subst (HasText name.By document) is (text_field-ok name.By document text text-is); fits = (no_weight e.w takes, small) })
-step_ok Complement e document s long takes read = plain_step Complement e document step.Complement s read (record { same = refl; fields = tt; fits = tt })
+    subst (IsStep Translate e document) same (record {
+      same = refl;
+      fields = subst (HasText name.By document) is (text_field-ok name.By document text text-is);
+      fits = (no_weight e.w takes, small);
+    })
+step_ok Complement e document s long takes read =
+    plain_step Complement e document step.Complement s read (record {
+      same = refl;
+      fields = tt;
+      fits = tt;
+    })
 step_ok Select e document s long takes read =
     let (found_by, by-is, next) = bind-ok (by_field e.n document) _ (Some s) read in
     let (text, text-is, last) = bind-ok (field as_str name.By document) _ found_by by-is in
     let found : option_map step.Select (word_of e.n text) ≡ Some s = cc in
     let (by, same, small, is) = word_found step.Select e.n text s found in
-    subst (IsStep Select e document) same (record { same = refl; fields = subst (HasText name.By document) is (text_field-ok name.By document text text-is); fits = (some_weight e.w takes, small) })
+    subst (IsStep Select e document) same (record {
+      same = refl;
+      fields = subst (HasText name.By document) is (text_field-ok name.By document text text-is);
+      fits = (some_weight e.w takes, small);
+    })
 step_ok Uuv e document s long takes read =
     plain_step Uuv e document step.Uuv s read (record { same = refl; fields = tt; fits = (no_weight e.w takes, eqb-true (e.n % 2) 0 long) })
-step_ok Juxtapose e document s long takes read = plain_step Juxtapose e document step.Juxtapose s read (record { same = refl; fields = tt; fits = leb-true 2 e.n long })
+step_ok Juxtapose e document s long takes read =
+    plain_step Juxtapose e document step.Juxtapose s read (record {
+      same = refl;
+      fields = tt;
+      fits = leb-true 2 e.n long;
+    })
 step_ok Trim e document s long takes read =
     let (size, size-is, last) = bind-ok (number_field name.Size 1 MAX_BUILT document) _ (Some s) read in
     let (has, some, few) = number_field-ok name.Size 1 MAX_BUILT document size size-is in
@@ -117,7 +163,8 @@ by_from n document by has small =
     ∙ ap (λ o. Ok o) (word_of-word_text n by small)
 
 -- the fields of a step are read where they stand in the document and fit the entry
-step_from : (s : Step) (e : Entry) (document : Data) → HasStepFields s e.n document → FieldsFit s e → step_fields (operation_of s) e.n document ≡ Ok (Some s)
+step_from : (s : Step) (e : Entry) (document : Data) → HasStepFields s e.n document → FieldsFit s e
+    → step_fields (operation_of s) e.n document ≡ Ok (Some s)
 unfolding step_fields FieldsFit
 step_from step.Lengthen e document has fits = refl
 step_from step.AppendOne e document has fits = refl
@@ -169,7 +216,8 @@ weight_taken (step.Trim size) e fits = refl
 abbrev IsFieldFault : FileFault → Type 0
 IsFieldFault fault = (name : FieldName) × (Field name ≡ fault)
 
-field_err : {A : Type 0} (form : Data → Option A) (name : FieldName) (document : Data) (fault : FileFault) → field form name document ≡ Err fault → IsFieldFault fault
+field_err : {A : Type 0} (form : Data → Option A) (name : FieldName) (document : Data) (fault : FileFault)
+    → field form name document ≡ Err fault → IsFieldFault fault
 field_err form name document fault e = (name, (ok_or-err _ (Field name) fault e).1)
 
 by_err : (n : ℕ) (document : Data) (fault : FileFault) → by_field n document ≡ Err fault → IsFieldFault fault
@@ -222,18 +270,22 @@ abbrev OtherNamed : Operation → Data → Option (List ℕ) → Type 0
 OtherNamed o document None = takes_other o ≡ false
 OtherNamed o document (Some id) = (takes_other o ≡ true) × HasId name.Other document id
 
-other_field-ok : (o : Operation) (document : Data) (other : Option (List ℕ)) → other_field o document ≡ Ok other → OtherNamed o document other
+other_field-ok : (o : Operation) (document : Data) (other : Option (List ℕ)) → other_field o document ≡ Ok other
+    → OtherNamed o document other
 other_field-ok o document other e = at (takes_other o) refl e where
-  at : (b : Bool) → takes_other o ≡ b → (if b then (id_field name.Other document >>= (λ id. Ok (Some id))) else Ok None) ≡ Ok other → OtherNamed o document other
+  at : (b : Bool) → takes_other o ≡ b → (if b then (id_field name.Other document >>= (λ id. Ok (Some id))) else Ok None) ≡ Ok other
+      → OtherNamed o document other
   at false is h = let same : None ≡ other = cc in subst (OtherNamed o document) same is
   at true is h =
       let (id, id-is, last) = bind-ok (id_field name.Other document) _ other h in
       let same : Some id ≡ other = cc in
       subst (OtherNamed o document) same (is, id_field-ok name.Other document id id-is)
 
-other_field-from : (o : Operation) (document : Data) (other : Option (List ℕ)) → OtherNamed o document other → other_field o document ≡ Ok other
+other_field-from : (o : Operation) (document : Data) (other : Option (List ℕ)) → OtherNamed o document other
+    → other_field o document ≡ Ok other
 other_field-from o document None none = rw none refl
-other_field-from o document (Some id) (some, has) = rw some (bind-at (id_field name.Other document) _ id (id_field-from name.Other document id has))
+other_field-from o document (Some id) (some, has) =
+    rw some (bind-at (id_field name.Other document) _ id (id_field-from name.Other document id has))
 
 other_field-err : (o : Operation) (document : Data) (fault : FileFault) → other_field o document ≡ Err fault → IsFieldFault fault
 other_field-err o document fault e = at (takes_other o) e where
@@ -244,11 +296,13 @@ other_field-err o document fault e = at (takes_other o) e where
     | inr (id, is, last) ↦ absurd cc
   ]
 
-names_other : (s : Step) (o : Operation) (document : Data) (other : Option (List ℕ)) → operation_of s ≡ o → OtherNamed o document other → NamesOther s document other
+names_other : (s : Step) (o : Operation) (document : Data) (other : Option (List ℕ)) → operation_of s ≡ o → OtherNamed o document other
+    → NamesOther s document other
 names_other s o document None same none = ap takes_other same ∙ none
 names_other s o document (Some id) same (some, has) = (ap takes_other same ∙ some, has)
 
-other_named : (s : Step) (document : Data) (other : Option (List ℕ)) → NamesOther s document other → OtherNamed (operation_of s) document other
+other_named : (s : Step) (document : Data) (other : Option (List ℕ)) → NamesOther s document other
+    → OtherNamed (operation_of s) document other
 other_named s document None none = none
 other_named s document (Some id) some = some
 
@@ -256,7 +310,7 @@ other_named s document (Some id) some = some
 abbrev pub IsBuildAnswer : Data → Result Evidence FileFault → Type 0
 IsBuildAnswer document (Ok (Build e s part other)) = StatesBuild document e s part other
 IsBuildAnswer document (Ok other) = ⊥
-IsBuildAnswer document (Err fault) = IsBuildFault fault
+IsBuildAnswer document (Err fault) = IsBuildFault document fault
 
 field_answer : (document : Data) (fault : FileFault) → IsFieldFault fault → IsBuildAnswer document (Err fault)
 field_answer document fault (name, is) = subst (λ f. IsBuildAnswer document (Err f)) is tt
@@ -290,7 +344,10 @@ build_answer ms of_kind =
     } in
     states)
     (λ fault f-is. subst (λ f. P (Err f)) (ok_or-err found (Digits 0) fault f-is).1 refl))
-    (λ fault f-is. subst (λ f. P (Err f)) (check-err (has_only (build_fields o) document) Unknown fault f-is).1 tt))
+    (λ fault f-is.
+    let (out, is) = check-err (has_only (build_fields o) document) Unknown fault f-is in
+    let (key, further) = has_only-false (build_fields o) ms out in
+    subst (λ f. P (Err f)) is (o, key, operation_field-ok document o o-is, further)))
     (λ fault f-is. field_answer document fault (other_field-err o document fault f-is)))
     (λ fault f-is. field_answer document fault (field_err id_in name.Part document fault f-is)))
     (λ fault f-is. field_answer document fault (step_err o e.n document fault f-is)))
@@ -300,7 +357,8 @@ build_answer ms of_kind =
     (λ fault f-is. field_answer document fault (build_entry_of-err document fault f-is))
 
 -- where the operation is `select`, a weight stands beside the distance
-even_selected : (s : Step) (e : Entry) (document : Data) → StatesEntry document e → FieldsFit s e → HasText name.Op document (operation_text (operation_of s)) → selects document ≡ true → e.d % 2 ≡ 0
+even_selected : (s : Step) (e : Entry) (document : Data) → StatesEntry document e → FieldsFit s e
+    → HasText name.Op document (operation_text (operation_of s)) → selects document ≡ true → e.d % 2 ≡ 0
 unfolding FieldsFit
 even_selected s e document states fits has selected = at s fits (rw has at selected) where
   even : (w : Option ℕ) → HasWeight document e.n w → w ≢ None → e.d % 2 ≡ 0
@@ -312,13 +370,15 @@ even_selected s e document states fits has selected = at s fits (rw has at selec
   at other fits h = absurd (false≢true h)
 
 -- a build that a document states is read
-pub build_answer-from : (ms : Members) (e : Entry) (s : Step) (part : List ℕ) (other : Option (List ℕ)) → StatesBuild (table ms) e s part other
+pub build_answer-from : (ms : Members) (e : Entry) (s : Step) (part : List ℕ) (other : Option (List ℕ))
+    → StatesBuild (table ms) e s part other
     → build_evidence_of (table ms) ≡ Ok (Build e s part other)
 unfolding build_evidence_of
 build_answer-from ms e s part other states =
     let document = table ms in
     let o = operation_of s in
-    bind-at (build_entry_of document) _ e (build_entry_of-from document e states.entry (even_selected s e document states.entry states.fits states.operation))
+    bind-at (build_entry_of document) _ e
+    (build_entry_of-from document e states.entry (even_selected s e document states.entry states.fits states.operation))
     ∙ bind-at (operation_field document) _ o (operation_field-from document o states.operation)
     ∙ bind-at (check (makes_length o e.n) (Field name.N)) _ tt (ap (λ b. check b (Field name.N)) (length_made s e states.fits))
     ∙ bind-at (check (takes_weight o e.w) (Field name.W)) _ tt (ap (λ b. check b (Field name.W)) (weight_taken s e states.fits))

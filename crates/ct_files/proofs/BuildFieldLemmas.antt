@@ -40,7 +40,8 @@ pub text_field-ok : (name : FieldName) (document : Data) (text : List ℕ) → f
 text_field-ok name document text e =
     option_and_then_some as_str (get (field_text name) document) text (ok_or-ok _ (Field name) text e) (λ d found h. found ∙ ap Some (as_str-some d text h))
 
-pub text_field-from : (name : FieldName) (document : Data) (text : List ℕ) → HasText name document text → field as_str name document ≡ Ok text
+pub text_field-from : (name : FieldName) (document : Data) (text : List ℕ) → HasText name document text
+    → field as_str name document ≡ Ok text
 text_field-from name document text h = rw h refl
 
 -- an operation that is found has the text
@@ -139,7 +140,8 @@ ascend-increasing low high (k ∷ j ∷ js) e = at (ascend-increasing (suc k) hi
       subst (λ m. get_or (j ∷ js) i 0 < get_or (k ∷ j ∷ js) m 0) step (later i (omega arith))
 
 -- numbers that ascend below the limit pass the test
-ascend-from : (low high : ℕ) (ks : List ℕ) → (0 < length ks → low ≤ get_or ks 0 0) → IsStrictlyIncreasing ks → All (λ k. k < high) ks → ascend low high ks ≡ true
+ascend-from : (low high : ℕ) (ks : List ℕ) → (0 < length ks → low ≤ get_or ks 0 0) → IsStrictlyIncreasing ks → All (λ k. k < high) ks
+    → ascend low high ks ≡ true
 ascend-from low high [] least rises below = refl
 ascend-from low high (k ∷ ks) least rises below =
     let first : low ≤ k = least (omega arith) in
@@ -162,7 +164,8 @@ left_out-true n places e =
       leb-true (n + length places) MAX_N few,
     )
 
-left_out-from : (n : ℕ) (places : List ℕ) → 1 ≤ length places → ArePlaces (n + length places) places → n + length places ≤ MAX_N → are_left_out n places ≡ true
+left_out-from : (n : ℕ) (places : List ℕ) → 1 ≤ length places → ArePlaces (n + length places) places → n + length places ≤ MAX_N
+    → are_left_out n places ≡ true
 left_out-from n places some are few =
     rw (le-leb 1 (length places) some, le-leb (n + length places) MAX_N few)
     (ascend-from 0 (n + length places) places (λ h. omega arith) are.ascending are.within)
@@ -241,7 +244,8 @@ characters-digits (a ∷ digits) small =
     character (suc zero) h = refl
     character (suc (suc a)) h = absurd (omega arith)
 
-pub digits_of-text : (count : ℕ) (digits : List ℕ) → length digits ≡ count → All (λ a. a < 2) digits → digits_of count (map (λ a. 48 + a) digits) ≡ Some digits
+pub digits_of-text : (count : ℕ) (digits : List ℕ) → length digits ≡ count → All (λ a. a < 2) digits
+    → digits_of count (map (λ a. 48 + a) digits) ≡ Some digits
 unfolding digits_of
 digits_of-text count digits long small =
     let (binary, same, kept) = characters-digits digits small in

@@ -249,7 +249,7 @@ answers_cosets bytes document answer written of_kind =
 
 -- a document of kind build has one of the faults that it may have
 pub faults_of_build : (bytes : List ℕ) (document : Data) (fault : FileFault) → IsDocument bytes document → IsOfKind (codes "build") document
-    → read_of bytes ≡ Err fault → IsBuildFault fault
+    → read_of bytes ≡ Err fault → IsBuildFault document fault
 faults_of_build bytes document fault written of_kind e =
     let (ms, parsed, same) = written.written in
     let answer = subst (λ d. IsOfKind (codes "build") d → IsBuildAnswer d (build_evidence_of d)) (sym same) (build_answer ms) of_kind in

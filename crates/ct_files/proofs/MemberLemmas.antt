@@ -44,7 +44,8 @@ passed Equal x y other = absurd cc
 passed Greater x y other = refl
 
 -- what stands at another key stays
-pub get_member-other : (k l : List ℕ) (d : Data) (ms : Members) → is_eq (slice_cmp nat_cmp k l) ≡ false → get_member k (set_member l d ms) ≡ get_member k ms
+pub get_member-other : (k l : List ℕ) (d : Data) (ms : Members) → is_eq (slice_cmp nat_cmp k l) ≡ false
+    → get_member k (set_member l d ms) ≡ get_member k ms
 get_member-other k l d no_members other = passed (slice_cmp nat_cmp k l) _ (Some d) other
 get_member-other k l d (member m e ms) other = at (slice_cmp nat_cmp l m) refl (get_member-other k l d ms other) where
   at : (o : Ordering) → slice_cmp nat_cmp l m ≡ o → get_member k (set_member l d ms) ≡ get_member k ms
@@ -56,7 +57,8 @@ get_member-other k l d (member m e ms) other = at (slice_cmp nat_cmp l m) refl (
   at Greater same rest = ap (λ r. match_ordering (slice_cmp nat_cmp k m) r (Some e) r) rest
 
 -- the keys are named where the one that is put is
-pub keys_are_named-put : (names : List FieldName) (k : List ℕ) (d : Data) (ms : Members) → is_named names k ≡ true → keys_are_named names ms ≡ true
+pub keys_are_named-put : (names : List FieldName) (k : List ℕ) (d : Data) (ms : Members) → is_named names k ≡ true
+    → keys_are_named names ms ≡ true
     → keys_are_named names (set_member k d ms) ≡ true
 keys_are_named-put names k d no_members here all = and_from (is_named names k) true here refl
 keys_are_named-put names k d (member l e ms) here all =
@@ -70,7 +72,8 @@ keys_are_named-put names k d (member l e ms) here all =
     at Greater first rest more = and_from (is_named names l) (keys_are_named names (set_member k d ms)) first more
 
 -- the table is no deeper than what is put and what was there
-pub members_depth-put : (m : ℕ) (k : List ℕ) (d : Data) (ms : Members) → depth d ≤ m → members_depth ms ≤ m → members_depth (set_member k d ms) ≤ m
+pub members_depth-put : (m : ℕ) (k : List ℕ) (d : Data) (ms : Members) → depth d ≤ m → members_depth ms ≤ m
+    → members_depth (set_member k d ms) ≤ m
 members_depth-put m k d no_members here all = omega arith
 members_depth-put m k d (member l e ms) here all = at (slice_cmp nat_cmp k l) (members_depth-put m k d ms here (omega arith)) where
   at : (o : Ordering) → members_depth (set_member k d ms) ≤ m

@@ -79,11 +79,13 @@ past_other : (k : List ℕ) (id : Option (List ℕ)) (ms : Members) → Apart k 
 past_other k None ms other = refl
 past_other k (Some id) ms other = get_member-other k (codes "other") (string id) ms other
 
-past_step : (k : List ℕ) (s : Step) (n : ℕ) (ms : Members) → Apart k (codes "places") → Apart k (codes "digits") → Apart k (codes "by") → Apart k (codes "size")
+past_step : (k : List ℕ) (s : Step) (n : ℕ) (ms : Members) → Apart k (codes "places") → Apart k (codes "digits") → Apart k (codes "by")
+    → Apart k (codes "size")
     → get_member k (put_step s n ms) ≡ get_member k ms
 past_step k (Puncture places) n ms p d b z = get_member-other k (codes "places") (number_list places) ms p
 past_step k (Shorten places digits) n ms p d b z =
-    get_member-other k (codes "digits") (string (digits_text digits)) (put name.Places (number_list places) ms) d ∙ get_member-other k (codes "places") (number_list places) ms p
+    get_member-other k (codes "digits") (string (digits_text digits)) (put name.Places (number_list places) ms) d
+    ∙ get_member-other k (codes "places") (number_list places) ms p
 past_step k (Translate by) n ms p d b z = get_member-other k (codes "by") (string (word_text n by)) ms b
 past_step k (Select by) n ms p d b z = get_member-other k (codes "by") (string (word_text n by)) ms b
 past_step k (Trim size) n ms p d b z = get_member-other k (codes "size") (integer (pos size)) ms z
@@ -94,19 +96,23 @@ past_step k Complement n ms p d b z = refl
 past_step k Uuv n ms p d b z = refl
 past_step k Juxtapose n ms p d b z = refl
 
--- what stands in the table of every build
-at_base : (k : List ℕ) (e : Entry) (s : Step) (part : List ℕ) (other : Option (List ℕ)) → Apart k (codes "w") → Apart k (codes "other")
-    → Apart k (codes "places") → Apart k (codes "digits") → Apart k (codes "by") → Apart k (codes "size")
-    → get_member k (build_table e s part other) ≡ get_member k (base_table e s part)
-at_base k e s part other w o p d b z =
-    past_weight k e.w (put_other other (put_step s e.n (base_table e s part))) w ∙ past_other k other (put_step s e.n (base_table e s part)) o ∙ past_step k s e.n (base_table e s part) p d b z
-
 -- the tables before the weight, and before the other piece
 abbrev before_other : Entry → Step → List ℕ → Members
 before_other e s part = put_step s e.n (base_table e s part)
 
 abbrev before_weight : Entry → Step → List ℕ → Option (List ℕ) → Members
 before_weight e s part other = put_other other (before_other e s part)
+
+-- what stands in the table at a key that another piece and a weight leave alone
+at_step : (k : List ℕ) (e : Entry) (s : Step) (part : List ℕ) (other : Option (List ℕ)) → Apart k (codes "w") → Apart k (codes "other")
+    → get_member k (build_table e s part other) ≡ get_member k (before_other e s part)
+at_step k e s part other w o = past_weight k e.w (before_weight e s part other) w ∙ past_other k other (before_other e s part) o
+
+-- what stands in the table of every build
+at_base : (k : List ℕ) (e : Entry) (s : Step) (part : List ℕ) (other : Option (List ℕ)) → Apart k (codes "w") → Apart k (codes "other")
+    → Apart k (codes "places") → Apart k (codes "digits") → Apart k (codes "by") → Apart k (codes "size")
+    → get_member k (build_table e s part other) ≡ get_member k (base_table e s part)
+at_base k e s part other w o p d b z = at_step k e s part other w o ∙ past_step k s e.n (base_table e s part) p d b z
 
 -- the table states the weight
 states_weight : (e : Entry) (s : Step) (part : List ℕ) (other : Option (List ℕ)) (w : Option ℕ) → WeightFits e w
@@ -126,18 +132,25 @@ even_beside e s part other (Some w) fits some = fits.0
 -- the table states the fields of the step
 states_step : (e : Entry) (s : Step) (part : List ℕ) (other : Option (List ℕ)) → HasStepFields s e.n (table (build_table e s part other))
 states_step e (Puncture places) part other =
-    past_weight (codes "places") e.w (before_weight e (Puncture places) part other) refl ∙ past_other (codes "places") other (before_other e (Puncture places) part) refl ∙ get_member-same (codes "places") (number_list places) (base_table e (Puncture places) part)
-states_step e (Shorten places digits) part other = (
-  past_weight (codes "places") e.w (before_weight e (Shorten places digits) part other) refl ∙ past_other (codes "places") other (before_other e (Shorten places digits) part) refl
-      ∙ get_member-other (codes "places") (codes "digits") (string (digits_text digits)) (put name.Places (number_list places) (base_table e (Shorten places digits) part)) refl ∙ get_member-same (codes "places") (number_list places) (base_table e (Shorten places digits) part),
-  past_weight (codes "digits") e.w (before_weight e (Shorten places digits) part other) refl ∙ past_other (codes "digits") other (before_other e (Shorten places digits) part) refl ∙ get_member-same (codes "digits") (string (digits_text digits)) (put name.Places (number_list places) (base_table e (Shorten places digits) part)),
-)
+    at_step (codes "places") e (Puncture places) part other refl refl
+    ∙ get_member-same (codes "places") (number_list places) (base_table e (Puncture places) part)
+states_step e (Shorten places digits) part other =
+    let s = Shorten places digits in
+    let base = base_table e s part in (
+      at_step (codes "places") e s part other refl refl
+          ∙ get_member-other (codes "places") (codes "digits") (string (digits_text digits)) (put name.Places (number_list places) base) refl
+          ∙ get_member-same (codes "places") (number_list places) base,
+      at_step (codes "digits") e s part other refl refl
+          ∙ get_member-same (codes "digits") (string (digits_text digits)) (put name.Places (number_list places) base),
+    )
 states_step e (Translate by) part other =
-    past_weight (codes "by") e.w (before_weight e (Translate by) part other) refl ∙ past_other (codes "by") other (before_other e (Translate by) part) refl ∙ get_member-same (codes "by") (string (word_text e.n by)) (base_table e (Translate by) part)
+    at_step (codes "by") e (Translate by) part other refl refl
+    ∙ get_member-same (codes "by") (string (word_text e.n by)) (base_table e (Translate by) part)
 states_step e (Select by) part other =
-    past_weight (codes "by") e.w (before_weight e (Select by) part other) refl ∙ past_other (codes "by") other (before_other e (Select by) part) refl ∙ get_member-same (codes "by") (string (word_text e.n by)) (base_table e (Select by) part)
+    at_step (codes "by") e (Select by) part other refl refl
+    ∙ get_member-same (codes "by") (string (word_text e.n by)) (base_table e (Select by) part)
 states_step e (Trim size) part other =
-    past_weight (codes "size") e.w (before_weight e (Trim size) part other) refl ∙ past_other (codes "size") other (before_other e (Trim size) part) refl ∙ get_member-same (codes "size") (integer (pos size)) (base_table e (Trim size) part)
+    at_step (codes "size") e (Trim size) part other refl refl ∙ get_member-same (codes "size") (integer (pos size)) (base_table e (Trim size) part)
 states_step e Lengthen part other = tt
 states_step e AppendOne part other = tt
 states_step e Parity part other = tt
@@ -146,17 +159,26 @@ states_step e Uuv part other = tt
 states_step e Juxtapose part other = tt
 
 -- the table names the other piece
-states_other : (e : Entry) (s : Step) (part : List ℕ) (other : Option (List ℕ)) → is_some other ≡ needs_other s → IfSome other (λ id. IsTrue (is_id id))
+states_other : (e : Entry) (s : Step) (part : List ℕ) (other : Option (List ℕ)) → is_some other ≡ needs_other s
+    → IfSome other (λ id. IsTrue (is_id id))
     → NamesOther s (table (build_table e s part other)) other
 states_other e s part None named ids = sym named
-states_other e s part (Some id) named ids =
-    (sym named, (past_weight (codes "other") e.w (before_weight e s part (Some id)) refl ∙ get_member-same (codes "other") (string id) (before_other e s part), ids))
+states_other e s part (Some id) named ids = (
+  sym named,
+  (
+    past_weight (codes "other") e.w (before_weight e s part (Some id)) refl
+        ∙ get_member-same (codes "other") (string id) (before_other e s part),
+    ids,
+  ),
+)
 
 -- its keys are those of the step
-step_keys : (s : Step) (n : ℕ) (ms : Members) → keys_are_named (build_fields (operation_of s)) ms ≡ true → keys_are_named (build_fields (operation_of s)) (put_step s n ms) ≡ true
+step_keys : (s : Step) (n : ℕ) (ms : Members) → keys_are_named (build_fields (operation_of s)) ms ≡ true
+    → keys_are_named (build_fields (operation_of s)) (put_step s n ms) ≡ true
 step_keys (Puncture places) n ms named = keys_are_named-put (build_fields operation.Puncture) (codes "places") (number_list places) ms refl named
 step_keys (Shorten places digits) n ms named =
-    keys_are_named-put (build_fields operation.Shorten) (codes "digits") (string (digits_text digits)) (put name.Places (number_list places) ms) refl (keys_are_named-put (build_fields operation.Shorten) (codes "places") (number_list places) ms refl named)
+    keys_are_named-put (build_fields operation.Shorten) (codes "digits") (string (digits_text digits)) (put name.Places (number_list places) ms) refl
+    (keys_are_named-put (build_fields operation.Shorten) (codes "places") (number_list places) ms refl named)
 step_keys (Translate by) n ms named = keys_are_named-put (build_fields operation.Translate) (codes "by") (string (word_text n by)) ms refl named
 step_keys (Select by) n ms named = keys_are_named-put (build_fields operation.Select) (codes "by") (string (word_text n by)) ms refl named
 step_keys (Trim size) n ms named = keys_are_named-put (build_fields operation.Trim) (codes "size") (integer (pos size)) ms refl named
@@ -167,19 +189,22 @@ step_keys Complement n ms named = named
 step_keys Uuv n ms named = named
 step_keys Juxtapose n ms named = named
 
-other_keys : (s : Step) (other : Option (List ℕ)) (ms : Members) → is_some other ≡ needs_other s → keys_are_named (build_fields (operation_of s)) ms ≡ true
+other_keys : (s : Step) (other : Option (List ℕ)) (ms : Members) → is_some other ≡ needs_other s
+    → keys_are_named (build_fields (operation_of s)) ms ≡ true
     → keys_are_named (build_fields (operation_of s)) (put_other other ms) ≡ true
 other_keys s None ms same named = named
 other_keys Uuv (Some id) ms same named = keys_are_named-put (build_fields operation.Uuv) (codes "other") (string id) ms refl named
 other_keys Juxtapose (Some id) ms same named = keys_are_named-put (build_fields operation.Juxtapose) (codes "other") (string id) ms refl named
 other_keys s (Some id) ms same named = absurd (false≢true (sym same))
 
-weight_keys : (s : Step) (w : Option ℕ) (ms : Members) → keys_are_named (build_fields (operation_of s)) ms ≡ true → keys_are_named (build_fields (operation_of s)) (put_weight w ms) ≡ true
+weight_keys : (s : Step) (w : Option ℕ) (ms : Members) → keys_are_named (build_fields (operation_of s)) ms ≡ true
+    → keys_are_named (build_fields (operation_of s)) (put_weight w ms) ≡ true
 weight_keys s None ms named = named
 weight_keys s (Some w) ms named = keys_are_named-put (build_fields (operation_of s)) (codes "w") (integer (pos w)) ms refl named
 
 -- the table of a build states it
-pub states_build : (e : Entry) (s : Step) (part : List ℕ) (other : Option (List ℕ)) → FitsStated s e → is_some other ≡ needs_other s → IsTrue (is_id part)
+pub states_build : (e : Entry) (s : Step) (part : List ℕ) (other : Option (List ℕ)) → FitsStated s e → is_some other ≡ needs_other s
+    → IsTrue (is_id part)
     → IfSome other (λ id. IsTrue (is_id id)) → StatesBuild (table (build_table e s part other)) e s part other
 states_build e s part other fits named id ids =
     let limits = entry_limits e fits.entry in
@@ -229,4 +254,6 @@ weight_depth None ms shallow = shallow
 weight_depth (Some w) ms shallow = members_depth-put 80 (codes "w") (integer (pos w)) ms (lit≤ tt) shallow
 
 pub build_depth : (e : Entry) (s : Step) (part : List ℕ) (other : Option (List ℕ)) → members_depth (build_table e s part other) ≤ 80
-build_depth e s part other = weight_depth e.w (before_weight e s part other) (other_depth other (before_other e s part) (step_depth s e.n (base_table e s part) (lit≤ tt)))
+build_depth e s part other =
+    weight_depth e.w (before_weight e s part other)
+    (other_depth other (before_other e s part) (step_depth s e.n (base_table e s part) (lit≤ tt)))

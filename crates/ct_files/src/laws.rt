@@ -40,7 +40,8 @@ pub fn bytes_without_table()
 
 /// Where the other answers come: `Kind` for a table of another kind than `words`, `cosets` and `build`, and for one of the
 /// first two kinds each answer exactly where `IsWordsAnswer` or `IsCosetsAnswer` says. A build is refused for a field, for a
-/// further key or for its one text of digits; which one comes first is shown by the documents of `build_examples`.
+/// further key than those of its operation or for its one text of digits; which one comes first is shown by the documents
+/// of `build_examples`.
 pub fn answers_to_documents()
     ensures kind { (bytes : List ℕ) (document : Data) → IsDocument bytes document →
         (read_of bytes ≡ Err Kind)
@@ -54,5 +55,5 @@ pub fn answers_to_documents()
         (read_of bytes ≡ answer) ↔ IsCosetsAnswer document answer }
     ensures build { (bytes : List ℕ) (document : Data) (fault : FileFault) →
         IsDocument bytes document → IsOfKind (codes "build") document →
-        read_of bytes ≡ Err fault → IsBuildFault fault }
+        read_of bytes ≡ Err fault → IsBuildFault document fault }
 {}
