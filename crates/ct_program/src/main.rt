@@ -47,6 +47,6 @@ fn main(rt: HostRuntime) -> ExitCode {
 #[cfg(test)]
 mod tests;
 #[cfg(test)]
-mod tests_codes;
-#[cfg(test)]
 mod tests_builds;
+#[cfg(test)]
+mod tests_codes;

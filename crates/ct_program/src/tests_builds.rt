@@ -5,7 +5,8 @@ use std::alloc::{AllocError, Global};
 use std::test::Fail;
 
 /// The 759 words of weight 8 of the Golay code (MacWilliams and Sloane, chapter 2), as a build.
-const OCTADS: &str = "kind = 'build'\nop = 'select'\nn = 24\nd = 8\nw = 8\nby = '000000000000000000000000'\npart = 'golay'\n";
+const OCTADS: &str =
+    "kind = 'build'\nop = 'select'\nn = 24\nd = 8\nw = 8\nby = '000000000000000000000000'\npart = 'golay'\n";
 
 /// The Golay code shortened at its first place.
 const SHORTENED: &str =
@@ -33,7 +34,10 @@ const AFTER_OCTADS: [(&str, &str); 6] = [
         "refused inuse oct\nwithdrawn oct\nwithdrawn golay\n1 <= A(24,8) <= 16777216\nrefused nosuch golay\npieces 0\n",
     ),
     ("show 24 8\n", "4096 <= A(24,8) <= 16777216\n"),
-    ("withdraw oct\nledger\n", "withdrawn oct\ngolay cosets 24 8 size 4096\npieces 1\n"),
+    (
+        "withdraw oct\nledger\n",
+        "withdrawn oct\ngolay cosets 24 8 size 4096\npieces 1\n",
+    ),
     ("withdraw none\n", "refused nosuch none\n"),
 ];
 
@@ -81,10 +85,22 @@ const BUILDS: [(&str, &str); 17] = [
         "op = 'select'\nn = 24\nd = 8\nw = 8\nby = '000000000000000000000000'\npart = 'oct'",
         "refused part oct",
     ),
-    ("op = 'lengthen'\nn = 25\nd = 8\npart = 'b'", "refused nosuch b"),
-    ("op = 'lengthen'\nn = 25\nd = 8\npart = 'none'", "refused nosuch none"),
-    ("op = 'lengthen'\nn = 24\nd = 8\npart = 'golay'", "refused part golay"),
-    ("op = 'lengthen'\nn = 24\nd = 8\npart = 'g23'", "accepted b size 2048"),
+    (
+        "op = 'lengthen'\nn = 25\nd = 8\npart = 'b'",
+        "refused nosuch b",
+    ),
+    (
+        "op = 'lengthen'\nn = 25\nd = 8\npart = 'none'",
+        "refused nosuch none",
+    ),
+    (
+        "op = 'lengthen'\nn = 24\nd = 8\npart = 'golay'",
+        "refused part golay",
+    ),
+    (
+        "op = 'lengthen'\nn = 24\nd = 8\npart = 'g23'",
+        "accepted b size 2048",
+    ),
     // Parts that stand come before parts that are right, and the part before the other.
     (
         "op = 'uuv'\nn = 24\nd = 8\npart = 'golay'\nother = 'none'",
@@ -106,8 +122,14 @@ const BUILDS: [(&str, &str); 17] = [
         "op = 'complement'\nn = 24\nd = 8\nw = 16\npart = 'oct'",
         "accepted b size 759",
     ),
-    ("op = 'complement'\nn = 24\nd = 8\nw = 8\npart = 'oct'", "refused part oct"),
-    ("op = 'puncture'\nn = 23\nd = 8\nplaces = [3]\npart = 'golay'", "refused short 7 8"),
+    (
+        "op = 'complement'\nn = 24\nd = 8\nw = 8\npart = 'oct'",
+        "refused part oct",
+    ),
+    (
+        "op = 'puncture'\nn = 23\nd = 8\nplaces = [3]\npart = 'golay'",
+        "refused short 7 8",
+    ),
 ];
 
 #[test]
@@ -117,8 +139,9 @@ fn builds_get_their_replies(rt: HostRuntime) -> Result<(), Fail> {
         let lines = format!(in alloc;
             "submit oct\n{OCTADS}end\nsubmit g23\n{SHORTENED}end\nsubmit b\nkind = 'build'\n{document}\nend\n"
         )?;
-        let replies =
-            format!(in alloc; "accepted oct size 759\naccepted g23 size 2048\n{reply}\n")?;
+        let replies = format!(in alloc;
+            "accepted oct size 759\naccepted g23 size 2048\n{reply}\n"
+        )?;
         assert_replies(
             &rt,
             alloc,
