@@ -1,0 +1,5 @@
+pub mod Support
+pub mod Slot
+pub mod Rule
+pub mod Derivation
+pub mod Closed

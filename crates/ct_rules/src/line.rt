@@ -1,0 +1,26 @@
+//! The lines of derivations.
+
+use crate::rule::Rule;
+use ct_codes::Claim;
+use std::alloc::Global;
+use std::marker::Model;
+
+/// A line of a derivation: a claim, the rule that gives it, and the places, from 0, of the lines whose claims are the
+/// rule's premises, in their order.
+#[derive(Debug, Drop)]
+pub struct Line {
+    /// What is claimed.
+    pub claim: Claim,
+    /// The rule that gives the claim.
+    pub rule: Rule,
+    /// The places of the lines that the rule rests on, each below the line's own.
+    pub from: Vec<usize>,
+}
+
+impl Model for Line {
+    ghost use Rattle.ct_rules.specs.Derivation.{LineValue};
+
+    ghost Value = { LineValue };
+
+    ghost view = { λ l. record { claim = l.claim; rule = l.rule; from = l.from.items } };
+}
