@@ -1,0 +1,44 @@
+-- What the laws of derivations and every table rest on: five laws of the rules. Nothing above this file looks into a rule.
+use Rattle.std.specs.Prelude.{◌≡◌, ℕ, ◌≤◌, List, length, map, All, Some}
+use Rattle.ct_words.specs.declared.limits.TheConstants.{MAX_BOUND}
+use Rattle.ct_codes.specs.declared.entry.Entry.{Entry}
+use Rattle.ct_codes.specs.declared.claim.Claim.{Claim}
+use Rattle.ct_codes.specs.Claim.{IsTrueClaim}
+use Rattle.ct_codes.specs.Entry.{IsEntry}
+use Rattle.ct_rules.specs.declared.rule.Rule.{Rule}
+use Rattle.ct_rules.specs.declared.support.Support.{Support}
+use Rattle.ct_rules.specs.Support.{AllStand}
+use Rattle.ct_rules.specs.Rule.{rule_side, premises_of, value_of}
+use Rattle.ct_rules.specs.Slot.{Slot, slot_of, claim_at, IsNoBetter, AreNoBetter}
+
+-- a rule that is defined at an entry is defined at an entry of the table
+pub rule_entry : (supports : List Support) (r : Rule) (e : Entry) (slots : List Slot) → premises_of supports r e ≡ Some slots → IsEntry e
+rule_entry supports r e slots h = ?
+
+-- what a rule rests on are entries of the table
+pub premises_in_table : (supports : List Support) (r : Rule) (e : Entry) (slots : List Slot) →
+    premises_of supports r e ≡ Some slots → All (λ s. IsEntry s.1) slots
+premises_in_table supports r e slots h = ?
+
+-- the premises of a rule have its side
+pub premises_on_side : (supports : List Support) (r : Rule) (e : Entry) (slots : List Slot) →
+    premises_of supports r e ≡ Some slots → All (λ s. s.0 ≡ rule_side r) slots
+premises_on_side supports r e slots h = ?
+
+-- a rule rests on two slots at most
+pub premises_are_few : (supports : List Support) (r : Rule) (e : Entry) (slots : List Slot) →
+    premises_of supports r e ≡ Some slots → length slots ≤ 2
+premises_are_few supports r e slots h = ?
+
+-- a rule gives a true claim where its premises are true
+pub value_is_sound : (supports : List Support) (r : Rule) (e : Entry) (claims : List Claim) (v : ℕ) → AllStand supports →
+    premises_of supports r e ≡ Some (map slot_of claims) → All IsTrueClaim claims →
+    value_of supports r e (map (λ c. c.value) claims) ≡ Some v → IsTrueClaim (claim_at (rule_side r, e) v)
+value_is_sound supports r e claims v stand premises true_claims value = ?
+
+-- better true premises give a value that is no worse
+pub value_is_monotone : (supports : List Support) (r : Rule) (e : Entry) (claims : List Claim) (us : List ℕ) (u : ℕ) → AllStand supports →
+    premises_of supports r e ≡ Some (map slot_of claims) → All IsTrueClaim claims →
+    AreNoBetter (rule_side r) us (map (λ c. c.value) claims) → value_of supports r e us ≡ Some u →
+    (v : ℕ) × (value_of supports r e (map (λ c. c.value) claims) ≡ Some v) × IsNoBetter (rule_side r) u v
+value_is_monotone supports r e claims us u stand premises true_claims worse value = ?
