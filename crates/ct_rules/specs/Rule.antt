@@ -1,6 +1,6 @@
 -- The rules of the table: where each is defined, what it rests on, and the bound that it gives (MacWilliams and Sloane; Brouwer, Shearer, Sloane
 -- and Smith 1990).
-use Rattle.std.specs.Prelude.{ℕ, ◌+◌, ◌-◌, ◌*◌, ◌/◌, ◌%◌, ◌^◌, ◌==◌, ◌&&◌, nat_le, nat_lt, min, not, Bool, if◌then◌else◌, List, [], ◌∷◌, slice_get, is_some, Option, Some, None}
+use Rattle.std.specs.Prelude.{ℕ, ◌+◌, ◌-◌, ◌*◌, ◌/◌, ◌%◌, ◌^◌, ◌==◌, ◌&&◌, nat_le, nat_lt, min, not, Bool, if◌then◌else◌, List, [], ◌∷◌, length, slice_get, is_some, Option, Some, None}
 use Rattle.std.specs.Option.{unwrap_or}
 use Rattle.ct_words.specs.declared.limits.TheConstants.{MAX_N, MAX_BOUND}
 use Rattle.ct_counting.specs.Binomials.{choose}
@@ -107,3 +107,11 @@ premises_of supports r e = if applies supports r e then Some (premises_at (cited
 -- the bound that a rule gives at an entry where its premises have these values, none where it is not defined there or gives none
 abbrev pub value_of : List Support → Rule → Entry → List ℕ → Option ℕ
 value_of supports r e vs = if applies supports r e then within_limit (rule_side r) (formula (cited supports r) r e vs) else None
+
+-- how many premises a rule has at an entry, none where it is not defined there
+abbrev pub count_of : List Support → Rule → Entry → Option ℕ
+count_of supports r e = if applies supports r e then Some (length (premises_at (cited supports r) r e)) else None
+
+-- the premise at the place j, counted from 0, none where there is none
+abbrev pub premise_of : List Support → Rule → Entry → ℕ → Option Slot
+premise_of supports r e j = if applies supports r e then slice_get (premises_at (cited supports r) r e) j else None
