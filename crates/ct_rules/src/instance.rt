@@ -1,6 +1,6 @@
 //! What a rule rests on, and the bound that it gives.
 
-ghost use Rattle.std.specs.Prelude.{◌≡◌, ◌∷◌, [], ◌<◌, ◌≤◌, ◌^◌, ◌&&◌, true, length, slice_get};
+ghost use Rattle.std.specs.Prelude.{◌≡◌, ◌∷◌, [], ◌<◌, ◌≤◌, ◌^◌, ◌&&◌, true, length, slice_get, IfSome};
 ghost use Rattle.ct_codes.specs.Entry.{IsEntry};
 ghost use Rattle.ct_rules.specs.Rule.{rule_side, cited, in_range, premises_at, formula, first, second, within_limit, applies, count_of, premise_of, value_of};
 ghost use Rattle.ct_rules.specs.Slot.{lower_at};
@@ -10,6 +10,9 @@ use crate::rule::Rule;
 use crate::support::Support;
 use ct_codes::{Entry, Side};
 use ct_words::{MAX_BOUND, MAX_N, binomial};
+
+/// How many premises a rule has at most.
+pub const MOST_PREMISES: usize = 2;
 
 /// The side of the bounds that the rule gives.
 pub fn rule_side(rule: Rule) -> Side
@@ -103,7 +106,9 @@ fn one_of(first: (Side, Entry), second: (Side, Entry), j: usize) -> Option<(Side
 fn premise_at(support: Option<Support>, rule: Rule, entry: Entry, j: usize) -> Option<(Side, Entry)>
     requires entry { IsEntry entry }
     requires range { in_range support rule entry ≡ true }
-    ensures { result ≡ slice_get (premises_at support rule entry) j }
+    ensures premise { result ≡ slice_get (premises_at support rule entry) j }
+    ensures side { IfSome result (λ s. s.0 ≡ rule_side rule) }
+    ensures entry { IfSome result (λ s. IsEntry s.1) }
 {
     let Entry { n, d, .. } = entry;
     match rule {
@@ -122,7 +127,8 @@ fn premise_at(support: Option<Support>, rule: Rule, entry: Entry, j: usize) -> O
 /// How many premises a rule that is defined at the entry has there.
 #[tactic(auto, unfolding(crate::specs::Rule::premises_at))]
 fn count_at(support: Option<Support>, rule: Rule, entry: Entry) -> usize
-    ensures { result ≡ length (premises_at support rule entry) }
+    ensures count { result ≡ length (premises_at support rule entry) }
+    ensures few { result ≤ MOST_PREMISES }
 {
     match rule {
         Rule::L3 | Rule::L4 | Rule::L5 | Rule::L6 | Rule::L7 => 1,
@@ -135,7 +141,8 @@ fn count_at(support: Option<Support>, rule: Rule, entry: Entry) -> usize
 /// How many premises the rule has at the entry. `None` comes exactly where the rule, with its argument and the support
 /// that it names, is not defined there.
 pub fn premise_count(supports: &[Support], rule: Rule, entry: Entry) -> Option<usize>
-    ensures { result ≡ count_of supports.now rule entry }
+    ensures count { result ≡ count_of supports.now rule entry }
+    ensures few { IfSome result (λ count. count ≤ MOST_PREMISES) }
 {
     if applies(supports, rule, entry) {
         Some(count_at(cited(supports, rule), rule, entry))
@@ -147,7 +154,9 @@ pub fn premise_count(supports: &[Support], rule: Rule, entry: Entry) -> Option<u
 /// The premise of the rule at the entry at the place j, from 0: a side of an entry. `None` comes exactly where the rule,
 /// with its argument and the support that it names, is not defined there, and where it has no more than j premises.
 pub fn premise(supports: &[Support], rule: Rule, entry: Entry, j: usize) -> Option<(Side, Entry)>
-    ensures { result ≡ premise_of supports.now rule entry j }
+    ensures premise { result ≡ premise_of supports.now rule entry j }
+    ensures side { IfSome result (λ s. s.0 ≡ rule_side rule) }
+    ensures entry { IfSome result (λ s. IsEntry s.1) }
 {
     if applies(supports, rule, entry) {
         premise_at(cited(supports, rule), rule, entry, j)
@@ -195,7 +204,8 @@ fn formula(support: Option<Support>, rule: Rule, entry: Entry, values: &[u32]) -
 
 /// The number as a bound of the side: a lower one above `MAX_BOUND` is none, an upper one is taken as `MAX_BOUND`.
 fn within_limit(side: Side, number: u64) -> Option<u32>
-    ensures { result ≡ within_limit side (Some number) }
+    ensures value { result ≡ within_limit side (Some number) }
+    ensures limit { IfSome result (λ v. v ≤ MAX_BOUND) }
 {
     if number <= u64::from(MAX_BOUND) {
         return Some(number as u32);
@@ -210,7 +220,8 @@ fn within_limit(side: Side, number: u64) -> Option<u32>
 /// comes exactly where the rule, with its argument and the support that it names, is not defined there, or gives no number,
 /// or, for a lower bound, a number above `MAX_BOUND`, which true premises never give. Any missing value counts as 0.
 pub fn value(supports: &[Support], rule: Rule, entry: Entry, premises: &[u32]) -> Option<u32>
-    ensures { result ≡ value_of supports.now rule entry premises.now }
+    ensures value { result ≡ value_of supports.now rule entry premises.now }
+    ensures limit { IfSome result (λ v. v ≤ MAX_BOUND) }
 {
     if !applies(supports, rule, entry) {
         return None;

@@ -6,7 +6,7 @@ mod line;
 mod rule;
 mod support;
 
-pub use instance::{premise, premise_count, rule_side, value};
+pub use instance::{MOST_PREMISES, premise, premise_count, rule_side, value};
 pub use line::Line;
 pub use rule::Rule;
 pub use support::Support;
