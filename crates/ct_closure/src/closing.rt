@@ -59,7 +59,8 @@ fn reasons(
         ≡ map (reason_of kept.now) (premises_at (cited supports.now instance.rule) instance.rule instance.entry)) }
 {
     let mut from = Vec::new(alloc);
-    for j in 0..MOST_PREMISES {
+    let count = premise_count(supports, instance.rule, instance.entry).unwrap_or(0);
+    for j in 0..count {
         if let Some((side, entry)) = premise(supports, instance.rule, instance.entry, j) {
             from.push(kept.reason(side, entry))?;
         }
