@@ -1,1 +1,3 @@
+pub mod Applied
+pub mod RuleRanges
 pub mod RuleLaws

@@ -1,5 +1,6 @@
 -- What the laws of derivations and every table rest on: five laws of the rules. Nothing above this file looks into a rule.
 use Rattle.std.specs.Prelude.{◌≡◌, ℕ, ◌≤◌, List, length, map, All, Some}
+use Rattle.std.proofs.Common.{subst}
 use Rattle.ct_words.specs.declared.limits.TheConstants.{MAX_BOUND}
 use Rattle.ct_codes.specs.declared.entry.Entry.{Entry}
 use Rattle.ct_codes.specs.declared.claim.Claim.{Claim}
@@ -8,27 +9,35 @@ use Rattle.ct_codes.specs.Entry.{IsEntry}
 use Rattle.ct_rules.specs.declared.rule.Rule.{Rule}
 use Rattle.ct_rules.specs.declared.support.Support.{Support}
 use Rattle.ct_rules.specs.Support.{AllStand}
-use Rattle.ct_rules.specs.Rule.{rule_side, premises_of, value_of}
+use Rattle.ct_rules.specs.Rule.{rule_side, cited, premises_of, value_of}
 use Rattle.ct_rules.specs.Slot.{Slot, slot_of, claim_at, IsNoBetter, AreNoBetter}
+use Rattle.ct_rules.proofs.Applied.{premises-defined}
+use Rattle.ct_rules.proofs.RuleRanges.{premises_at-entries, premises_at-side, premises_at-few}
 
 -- a rule that is defined at an entry is defined at an entry of the table
 pub rule_entry : (supports : List Support) (r : Rule) (e : Entry) (slots : List Slot) → premises_of supports r e ≡ Some slots → IsEntry e
-rule_entry supports r e slots h = ?
+rule_entry supports r e slots h = let known = premises-defined supports r e slots h in known.0.entry
 
 -- what a rule rests on are entries of the table
 pub premises_in_table : (supports : List Support) (r : Rule) (e : Entry) (slots : List Slot) →
     premises_of supports r e ≡ Some slots → All (λ s. IsEntry s.1) slots
-premises_in_table supports r e slots h = ?
+premises_in_table supports r e slots h =
+    let known = premises-defined supports r e slots h in
+    subst (λ these. All (λ s. IsEntry s.1) these) known.1 (premises_at-entries (cited supports r) r e known.0)
 
 -- the premises of a rule have its side
 pub premises_on_side : (supports : List Support) (r : Rule) (e : Entry) (slots : List Slot) →
     premises_of supports r e ≡ Some slots → All (λ s. s.0 ≡ rule_side r) slots
-premises_on_side supports r e slots h = ?
+premises_on_side supports r e slots h =
+    let known = premises-defined supports r e slots h in
+    subst (λ these. All (λ s. s.0 ≡ rule_side r) these) known.1 (premises_at-side (cited supports r) r e)
 
 -- a rule rests on two slots at most
 pub premises_are_few : (supports : List Support) (r : Rule) (e : Entry) (slots : List Slot) →
     premises_of supports r e ≡ Some slots → length slots ≤ 2
-premises_are_few supports r e slots h = ?
+premises_are_few supports r e slots h =
+    let known = premises-defined supports r e slots h in
+    subst (λ (these : List Slot). length these ≤ 2) known.1 (premises_at-few (cited supports r) r e)
 
 -- a rule gives a true claim where its premises are true
 pub value_is_sound : (supports : List Support) (r : Rule) (e : Entry) (claims : List Claim) (v : ℕ) → AllStand supports →
