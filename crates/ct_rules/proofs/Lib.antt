@@ -1,3 +1,4 @@
 pub mod Applied
 pub mod RuleRanges
+pub mod Constructions
 pub mod RuleLaws
