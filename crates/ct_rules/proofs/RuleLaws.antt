@@ -9,10 +9,11 @@ use Rattle.ct_codes.specs.Entry.{IsEntry}
 use Rattle.ct_rules.specs.declared.rule.Rule.{Rule}
 use Rattle.ct_rules.specs.declared.support.Support.{Support}
 use Rattle.ct_rules.specs.Support.{AllStand}
-use Rattle.ct_rules.specs.Rule.{rule_side, cited, premises_of, value_of}
+use Rattle.ct_rules.specs.Rule.{rule_side, cited, formula, premises_of, value_of}
 use Rattle.ct_rules.specs.Slot.{Slot, slot_of, claim_at, IsNoBetter, AreNoBetter}
-use Rattle.ct_rules.proofs.Applied.{premises-defined}
-use Rattle.ct_rules.proofs.RuleRanges.{premises_at-entries, premises_at-side, premises_at-few}
+use Rattle.ct_rules.proofs.Applied.{premises-defined, value-defined, limit_of, cited-stands}
+use Rattle.ct_rules.proofs.RuleRanges.{range_of, premises_at-entries, premises_at-side, premises_at-few}
+use Rattle.ct_rules.proofs.RuleSound.{number-sound, claim_from_number, known_premises}
 
 -- a rule that is defined at an entry is defined at an entry of the table
 pub rule_entry : (supports : List Support) (r : Rule) (e : Entry) (slots : List Slot) → premises_of supports r e ≡ Some slots → IsEntry e
@@ -43,7 +44,16 @@ premises_are_few supports r e slots h =
 pub value_is_sound : (supports : List Support) (r : Rule) (e : Entry) (claims : List Claim) (v : ℕ) → AllStand supports →
     premises_of supports r e ≡ Some (map slot_of claims) → All IsTrueClaim claims →
     value_of supports r e (map (λ c. c.value) claims) ≡ Some v → IsTrueClaim (claim_at (rule_side r, e) v)
-value_is_sound supports r e claims v stand premises true_claims value = ?
+value_is_sound supports r e claims v stand premises true_claims value =
+    let c = cited supports r in
+    let values = map (λ c. c.value) claims in
+    let known = premises-defined supports r e (map slot_of claims) premises in
+    let given = value-defined supports r e values v value in
+    let number = limit_of (rule_side r) (formula c r e values) v given.1 in
+    claim_from_number (rule_side r) e number.0 v known.0.entry
+    (number-sound c r e values number.0 (cited-stands supports r stand) known.0.entry (range_of c r e known.0.range)
+    (known_premises c r e claims known.1 true_claims) number.1.number)
+    number.1.least
 
 -- better true premises give a value that is no worse
 pub value_is_monotone : (supports : List Support) (r : Rule) (e : Entry) (claims : List Claim) (us : List ℕ) (u : ℕ) → AllStand supports →
