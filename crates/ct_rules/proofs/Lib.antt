@@ -5,4 +5,5 @@ pub mod Premises
 pub mod LowerRules
 pub mod UpperRules
 pub mod RuleSound
+pub mod RuleMonotone
 pub mod RuleLaws

@@ -13,7 +13,8 @@ use Rattle.ct_rules.specs.Rule.{rule_side, cited, formula, premises_of, value_of
 use Rattle.ct_rules.specs.Slot.{Slot, slot_of, claim_at, IsNoBetter, AreNoBetter}
 use Rattle.ct_rules.proofs.Applied.{premises-defined, value-defined, limit_of, cited-stands}
 use Rattle.ct_rules.proofs.RuleRanges.{range_of, premises_at-entries, premises_at-side, premises_at-few}
-use Rattle.ct_rules.proofs.RuleSound.{number-sound, claim_from_number, known_premises}
+use Rattle.ct_rules.proofs.RuleSound.{number-sound, number-le, claim_from_number, known_premises}
+use Rattle.ct_rules.proofs.RuleMonotone.{value-no_worse}
 
 -- a rule that is defined at an entry is defined at an entry of the table
 pub rule_entry : (supports : List Support) (r : Rule) (e : Entry) (slots : List Slot) → premises_of supports r e ≡ Some slots → IsEntry e
@@ -60,4 +61,12 @@ pub value_is_monotone : (supports : List Support) (r : Rule) (e : Entry) (claims
     premises_of supports r e ≡ Some (map slot_of claims) → All IsTrueClaim claims →
     AreNoBetter (rule_side r) us (map (λ c. c.value) claims) → value_of supports r e us ≡ Some u →
     (v : ℕ) × (value_of supports r e (map (λ c. c.value) claims) ≡ Some v) × IsNoBetter (rule_side r) u v
-value_is_monotone supports r e claims us u stand premises true_claims worse value = ?
+value_is_monotone supports r e claims us u stand premises true_claims worse value =
+    let c = cited supports r in
+    let values = map (λ c. c.value) claims in
+    let known = premises-defined supports r e (map slot_of claims) premises in
+    value-no_worse supports r e us values u worse value (λ y is lower.
+    number-le (rule_side r) e y known.0.entry
+    (number-sound c r e values y (cited-stands supports r stand) known.0.entry (range_of c r e known.0.range)
+    (known_premises c r e claims known.1 true_claims) is)
+    lower)
