@@ -1,6 +1,6 @@
 -- What is known where a rule is defined: its premises, its value, the support that it names.
-use Rattle.std.proofs.Common.{◌≡◌, ℕ, ◌≤◌, List, get_or, All, refl, sym, ap, subst, arith, leb-true, le-leb}
-use Rattle.std.specs.Prelude.{Bool, true, false, if◌then◌else◌, nat_le, min, slice_get, Option, Some, None}
+use Rattle.std.proofs.Common.{◌≡◌, ℕ, ◌≤◌, List, All, refl, sym, ap, subst, arith, leb-true, le-leb}
+use Rattle.std.specs.Prelude.{Bool, true, false, if◌then◌else◌, nat_le, min, slice_get, Option, Some, None, IsSome}
 use Rattle.std.specs.Option.{ForSome}
 use Rattle.std.proofs.lemmas.Bool.{and_parts, and_from}
 use Rattle.std.proofs.lemmas.Option.{cond_some, none-some, same_Some, slice_get_within, get_or_from_slice_get}
@@ -10,7 +10,7 @@ use Rattle.ct_codes.specs.declared.claim.Side.{Side}
 use Rattle.ct_codes.specs.declared.claim.Side.TheVariants.{Lower, Upper}
 use Rattle.ct_codes.specs.Entry.{IsEntry, is_entry}
 use Rattle.ct_rules.specs.declared.rule.Rule.{Rule}
-use Rattle.ct_rules.specs.declared.rule.Rule.TheVariants.{L1, L2, L3, L4, L5, L6, L7, L8, L10, L11, M1, M10, U0, V0}
+use Rattle.ct_rules.specs.declared.rule.Rule.TheVariants.{L10, M10}
 use Rattle.ct_rules.specs.declared.support.Support.{Support}
 use Rattle.ct_rules.specs.Support.{Stands, AllStand}
 use Rattle.ct_rules.specs.Slot.{Slot}
@@ -50,6 +50,15 @@ pub value-defined : (supports : List Support) (r : Rule) (e : Entry) (vs : List 
 value-defined supports r e vs v h =
     let both = let_through (applies supports r e) (within_limit (rule_side r) (formula (cited supports r) r e vs)) v h in
     (defined_from_applies supports r e both.0, both.1)
+
+-- so a value comes only where it has premises
+pub value-premises : (supports : List Support) (r : Rule) (e : Entry) (vs : List ℕ) → IsSome (value_of supports r e vs) → IsSome (premises_of supports r e)
+value-premises supports r e vs some = go (applies supports r e) some
+  where
+    go : (b : Bool) → IsSome (if b then within_limit (rule_side r) (formula (cited supports r) r e vs) else None)
+        → IsSome (if b then Some (premises_at (cited supports r) r e) else None)
+    go true h = refl
+    go false h = absurd cc
 
 -- and the other way round
 pub value_from-defined : (supports : List Support) (r : Rule) (e : Entry) (vs : List ℕ) → IsDefined (cited supports r) r e

@@ -1,12 +1,12 @@
 -- Codes without weight from codes without weight, as claims: there is a code of so many words.
-use Rattle.std.proofs.Common.{◌≡◌, ℕ, ◌+◌, ◌-◌, ◌*◌, ◌/◌, ◌%◌, ◌^◌, ◌<◌, ◌≤◌, min, List, [], ◌∷◌, length, take, All, refl, ap₂, subst, ◌∙◌, inl, inr, arith, pow_pos}
-use Rattle.std.specs.Prelude.{AllPairs, None, ◌⊎◌}
+use Rattle.std.proofs.Common.{◌≡◌, ℕ, ◌+◌, ◌-◌, ◌*◌, ◌^◌, ◌<◌, ◌≤◌, min, List, [], ◌∷◌, length, take, refl, ap₂, subst, ◌∙◌, inl, inr, arith, pow_pos}
+use Rattle.std.specs.Prelude.{None}
 use Rattle.std.proofs.Math.Pow.{ones_lt}
 use Rattle.std.proofs.lemmas.Bool.{cases_lt}
 use Rattle.std.proofs.lemmas.Nat.Bits.{bit_at-zero, bit_at-lt}
 use Rattle.std.proofs.lemmas.List.{length-take-le}
 use Rattle.std.proofs.lemmas.List.Elements.{All-nil, All-cons}
-use Rattle.std.proofs.lemmas.List.Kept.{AllPairs-cons, AllPairs-from_increasing}
+use Rattle.std.proofs.lemmas.List.Kept.{AllPairs-cons}
 use Rattle.ct_words.specs.Word.{digit, distance, IsSum}
 use Rattle.ct_words.proofs.WordLemmas.{distance-is_weight, weight-ones}
 use Rattle.ct_codes.specs.Entry.{unrestricted}
@@ -16,9 +16,9 @@ use Rattle.ct_build.specs.Append.{lengthened, with_parity}
 use Rattle.ct_build.specs.Translation.{all_ones}
 use Rattle.ct_build.specs.Places.{ArePlaces}
 use Rattle.ct_build.specs.Punctured.{punctured}
-use Rattle.ct_build.specs.Shortened.{shortened, shortened_weight}
+use Rattle.ct_build.specs.Shortened.{shortened}
 use Rattle.ct_build.specs.Uuv.{uuv_words}
-use Rattle.ct_build.specs.Juxtaposed.{juxtaposed, added_weights}
+use Rattle.ct_build.specs.Juxtaposed.{juxtaposed}
 use Rattle.ct_build.proofs.FarWords.{AreFar, code_from_far}
 use Rattle.ct_build.proofs.FrontLemmas.{IsCode-take, IsCode-nearer}
 use Rattle.ct_build.proofs.AppendLemmas.{IsCode-lengthened, IsCode-with_parity, length-lengthened, length-with_parity}
@@ -57,14 +57,15 @@ pub HasCode-two : (n d : ℕ) → 1 ≤ n → d ≤ n → HasCode n d 2
 HasCode-two n d some near =
     let y = all_ones n in
     let apart : distance n 0 y ≡ n = distance-is_weight n 0 y y (zero_sum n y (ones_lt n)) ∙ weight-ones n n (omega arith) in
-    let words : List ℕ = 0 ∷ y ∷ [] in
-    (words,
-    code_from_far n d None words
-    (All-cons (λ x. x < 2 ^ n) 0 (y ∷ []) (pow_pos n) (All-cons (λ x. x < 2 ^ n) y [] (ones_lt n) (All-nil (λ x. x < 2 ^ n))))
-    (AllPairs-cons (AreFar n d) 0 (y ∷ []) (All-cons (AreFar n d 0) y [] (omega arith, omega arith) (All-nil (AreFar n d 0)))
-    (λ i j z order within. absurd (omega arith)))
-    tt,
-    refl)
+    let words : List ℕ = 0 ∷ y ∷ [] in (
+      words,
+      code_from_far n d None words
+          (All-cons (λ x. x < 2 ^ n) 0 (y ∷ []) (pow_pos n) (All-cons (λ x. x < 2 ^ n) y [] (ones_lt n) (All-nil (λ x. x < 2 ^ n))))
+          (AllPairs-cons (AreFar n d) 0 (y ∷ []) (All-cons (AreFar n d 0) y [] (omega arith, omega arith) (All-nil (AreFar n d 0)))
+          (λ i j z order within. absurd (omega arith)))
+          tt,
+      refl,
+    )
 
 -- a 0 is added to each word
 pub HasCode-lengthened : (n d v : ℕ) → HasCode n d v → HasCode (n + 1) d v
@@ -86,11 +87,12 @@ pub HasCode-punctured : (n d v : ℕ) → 1 ≤ d → HasCode (n + 1) (d + 1) v 
 HasCode-punctured n d v some code =
     let words = punctured (n + 1) (0 ∷ []) code.0 in
     let shorter : n + 1 - 1 ≡ n = omega arith in
-    let nearer : d + 1 - 1 ≡ d = omega arith in
-    (words,
-    subst (λ m. IsCode m d None words) shorter (subst (λ e. IsCode (n + 1 - 1) e None words) nearer
-    (IsCode-punctured (n + 1) (d + 1) None code.0 (0 ∷ []) (first_place n) (omega arith) code.1)),
-    length-punctured (n + 1) (0 ∷ []) code.0 ∙ code.2)
+    let nearer : d + 1 - 1 ≡ d = omega arith in (
+      words,
+      subst (λ m. IsCode m d None words) shorter (subst (λ e. IsCode (n + 1 - 1) e None words) nearer
+          (IsCode-punctured (n + 1) (d + 1) None code.0 (0 ∷ []) (first_place n) (omega arith) code.1)),
+      length-punctured (n + 1) (0 ∷ []) code.0 ∙ code.2,
+    )
 
 -- of the words with a 0 and those with a 1 at the first place, the more frequent ones, without it
 pub HasCode-shortened : (n d v : ℕ) → HasCode (n + 1) d v → HasCode n d (half_up v)
@@ -108,17 +110,20 @@ HasCode-shortened n d v code =
 
     part : (a : ℕ) → HasCode n d (length (with_first a))
     part a =
-        let shorter : n + 1 - 1 ≡ n = omega arith in
-        (with_first a,
-        subst (λ m. IsCode m d None (with_first a)) shorter
-        (IsCode-shortened (n + 1) d None code.0 (0 ∷ []) (a ∷ []) (first_place n) refl code.1),
-        refl)
+        let shorter : n + 1 - 1 ≡ n = omega arith in (
+          with_first a,
+          subst (λ m. IsCode m d None (with_first a)) shorter
+              (IsCode-shortened (n + 1) d None code.0 (0 ∷ []) (a ∷ []) (first_place n) refl code.1),
+          refl,
+        )
 
 -- u followed by u + v
 pub HasCode-uuv : (n d e u v : ℕ) → HasCode n d u → HasCode n e v → HasCode (2 * n) (min (2 * d) e) (u * v)
-HasCode-uuv n d e u v first second =
-    (uuv_words n first.0 second.0, IsCode-uuv n d None first.0 e None second.0 first.1 second.1,
-    length-uuv_words n first.0 second.0 ∙ ap₂ (λ (i j : ℕ). i * j) first.2 second.2)
+HasCode-uuv n d e u v first second = (
+  uuv_words n first.0 second.0,
+  IsCode-uuv n d None first.0 e None second.0 first.1 second.1,
+  length-uuv_words n first.0 second.0 ∙ ap₂ (λ (i j : ℕ). i * j) first.2 second.2,
+)
 
 -- the words of even weight
 pub HasCode-even : (n : ℕ) → 1 ≤ n → HasCode n 2 (2 ^ (n - 1))
@@ -126,6 +131,8 @@ HasCode-even n some = (even_words n, IsCode-even_words n, length-even_words n so
 
 -- the words of one code side by side with those of another
 pub HasCode-juxtaposed : (n d m e u v : ℕ) → HasCode n d u → HasCode m e v → HasCode (n + m) (d + e) (min u v)
-HasCode-juxtaposed n d m e u v first second =
-    (juxtaposed m first.0 second.0, IsCode-juxtaposed n d None first.0 m e None second.0 first.1 second.1,
-    length-juxtaposed m first.0 second.0 ∙ ap₂ (λ (i j : ℕ). min i j) first.2 second.2)
+HasCode-juxtaposed n d m e u v first second = (
+  juxtaposed m first.0 second.0,
+  IsCode-juxtaposed n d None first.0 m e None second.0 first.1 second.1,
+  length-juxtaposed m first.0 second.0 ∙ ap₂ (λ (i j : ℕ). min i j) first.2 second.2,
+)

@@ -1,5 +1,5 @@
 -- What each rule for lower bounds gives is the number of words of a code, for every code of its premises.
-use Rattle.std.proofs.Common.{◌≡◌, ℕ, ◌+◌, ◌-◌, ◌*◌, ◌/◌, ◌%◌, ◌^◌, ◌<◌, ◌≤◌, min, true, refl, sym, subst, arith, pow_pos, mul-pos, ltb-true, ltb-false}
+use Rattle.std.proofs.Common.{◌≡◌, ℕ, ◌+◌, ◌-◌, ◌*◌, ◌/◌, ◌^◌, ◌≤◌, min, true, refl, sym, subst, arith, pow_pos, mul-pos, ltb-true}
 use Rattle.std.specs.Prelude.{nat_lt, Option, Some, None}
 use Rattle.std.specs.Option.{ForSome}
 use Rattle.ct_codes.specs.declared.entry.Entry.{Entry}

@@ -1,5 +1,5 @@
 -- The values of premises that are true.
-use Rattle.std.proofs.Common.{◌≡◌, ℕ, ◌≤◌, List, [], ◌∷◌, map, All}
+use Rattle.std.proofs.Common.{ℕ, ◌≤◌, List, [], ◌∷◌, map, All}
 use Rattle.std.proofs.lemmas.List.Elements.{All-head, All-tail}
 use Rattle.ct_codes.specs.declared.claim.Side.{Side}
 use Rattle.ct_codes.specs.declared.claim.Claim.{Claim}

@@ -1,7 +1,6 @@
 -- What the laws of derivations and every table rest on: five laws of the rules. Nothing above this file looks into a rule.
 use Rattle.std.specs.Prelude.{◌≡◌, ℕ, ◌≤◌, List, length, map, All, Some}
 use Rattle.std.proofs.Common.{subst}
-use Rattle.ct_words.specs.declared.limits.TheConstants.{MAX_BOUND}
 use Rattle.ct_codes.specs.declared.entry.Entry.{Entry}
 use Rattle.ct_codes.specs.declared.claim.Claim.{Claim}
 use Rattle.ct_codes.specs.Claim.{IsTrueClaim}

@@ -1,6 +1,6 @@
 -- Better premises give a number that is no worse, whatever the rule.
-use Rattle.std.proofs.Common.{◌≡◌, ℕ, ◌+◌, ◌-◌, ◌*◌, ◌/◌, ◌^◌, ◌≤◌, min, List, [], ◌∷◌, refl, sym, ap, subst, ◌∙◌, arith}
-use Rattle.std.specs.Prelude.{nat_lt, cond, Bool, true, false, Option, Some}
+use Rattle.std.proofs.Common.{◌≡◌, ℕ, ◌-◌, ◌*◌, ◌/◌, ◌^◌, ◌≤◌, min, List, [], ◌∷◌, refl, sym, ap, subst, ◌∙◌, arith}
+use Rattle.std.specs.Prelude.{nat_lt, cond, Bool, true, false, Option, Some, None, IsSome, is_some}
 use Rattle.std.proofs.Math.Nat.{mul-le-mul, mul-le-mul_left}
 use Rattle.std.proofs.lemmas.Option.{same_Some}
 use Rattle.ct_words.specs.declared.limits.TheConstants.{MAX_BOUND}
@@ -87,10 +87,11 @@ value-no_worse supports r e us vs u worse value few =
     let c = cited supports r in
     let given = value-defined supports r e us u value in
     let number = limit_of (rule_side r) (formula c r e us) u given.1 in
-    let other = number-monotone c r e us vs number.0 worse number.1.number in
-    (min other.0 MAX_BOUND,
-    value_from-defined supports r e vs given.0 ∙ ap (within_limit (rule_side r)) other.1 ∙ limit_from (rule_side r) other.0 (few other.0 other.1),
-    cut-no_better (rule_side r) number.0 other.0 u (min other.0 MAX_BOUND) other.2 number.1.least refl)
+    let other = number-monotone c r e us vs number.0 worse number.1.number in (
+      min other.0 MAX_BOUND,
+      value_from-defined supports r e vs given.0 ∙ ap (within_limit (rule_side r)) other.1 ∙ limit_from (rule_side r) other.0 (few other.0 other.1),
+      cut-no_better (rule_side r) number.0 other.0 u (min other.0 MAX_BOUND) other.2 number.1.least refl,
+    )
 
 -- where both give a value, that from the first is no better
 pub value_of-monotone : (supports : List Support) (r : Rule) (e : Entry) (us vs : List ℕ) (u v : ℕ) → AreNoBetter (rule_side r) us vs
@@ -103,8 +104,16 @@ value_of-monotone supports r e us vs u v worse value value_too =
     (λ y is lower. subst (λ x. x ≤ MAX_BOUND) (same_Some number.0 y (sym number.1.number ∙ is)) (number.1.whole lower)) in
     subst (IsNoBetter (rule_side r) u) (same_Some better.0 v (sym better.1 ∙ value_too)) better.2
 
+-- what is there
+pub some_value : {X : Type 0} (o : Option X) → IsSome o → (x : X) × (o ≡ Some x)
+some_value None h = absurd cc
+some_value (Some x) h = (x, refl)
+
 -- an upper rule gives a value wherever it does for worse premises
-pub value_of-upper : (supports : List Support) (r : Rule) (e : Entry) (us vs : List ℕ) (u : ℕ) → rule_side r ≡ Upper → AreNoBetter (rule_side r) us vs
-    → value_of supports r e us ≡ Some u → NoWorse (rule_side r) (value_of supports r e vs) u
-value_of-upper supports r e us vs u upper worse value =
-    value-no_worse supports r e us vs u worse value (λ y is lower. absurd (let clash : Upper ≡ Lower = sym upper ∙ lower in cc))
+pub value_of-upper : (supports : List Support) (r : Rule) (e : Entry) (us vs : List ℕ) → rule_side r ≡ Upper → AreNoBetter Upper us vs
+    → IsSome (value_of supports r e us) → IsSome (value_of supports r e vs)
+value_of-upper supports r e us vs upper worse some =
+    let value = some_value (value_of supports r e us) some in
+    let better = value-no_worse supports r e us vs value.0 (subst (λ side. AreNoBetter side us vs) (sym upper) worse) value.1
+    (λ y is lower. absurd (let clash : Upper ≡ Lower = sym upper ∙ lower in cc)) in
+    ap is_some better.1

@@ -1,6 +1,6 @@
 -- Where each rule is defined, as facts, and that what it rests on are entries of the table of its side.
-use Rattle.std.proofs.Common.{◌≡◌, ℕ, ◌+◌, ◌-◌, ◌/◌, ◌%◌, ◌<◌, ◌≤◌, true, List, [], ◌∷◌, length, All, refl, sym, subst, arith, leb-true, ltb-true, ltb-false, eqb-true}
-use Rattle.std.specs.Prelude.{◌&&◌, ◌==◌, not, is_some, nat_le, nat_lt, cond, Option, Some, None}
+use Rattle.std.proofs.Common.{◌≡◌, ℕ, ◌+◌, ◌-◌, ◌/◌, ◌%◌, ◌<◌, ◌≤◌, true, List, [], ◌∷◌, length, All, refl, arith, leb-true, ltb-true, ltb-false, eqb-true}
+use Rattle.std.specs.Prelude.{not, is_some, nat_lt, cond, Option, Some, None}
 use Rattle.std.proofs.lemmas.Bool.{and_parts, cond_both}
 use Rattle.std.proofs.lemmas.List.Elements.{All-nil, All-cons}
 use Rattle.ct_words.specs.declared.limits.TheConstants.{MAX_N}

@@ -1,10 +1,9 @@
 -- What a rule gives of true premises is true, whatever the rule.
 use Rattle.std.proofs.Common.{◌≡◌, ℕ, ◌-◌, ◌*◌, ◌/◌, ◌^◌, ◌≤◌, min, List, [], ◌∷◌, map, All, refl, sym, subst, arith}
-use Rattle.std.specs.Prelude.{nat_lt, cond, Bool, true, false, Option, Some, None}
+use Rattle.std.specs.Prelude.{nat_lt, cond, Bool, true, false, Option, Some}
 use Rattle.std.specs.Option.{ForSome}
 use Rattle.std.proofs.Math.Nat.{pow-le-pow_right}
 use Rattle.std.proofs.lemmas.Option.{same_Some}
-use Rattle.std.proofs.lemmas.Bool.{cases_Bool}
 use Rattle.ct_words.specs.declared.limits.TheConstants.{MAX_N, MAX_BOUND}
 use Rattle.ct_codes.specs.declared.entry.Entry.{Entry}
 use Rattle.ct_codes.specs.declared.claim.Side.{Side}
@@ -21,9 +20,8 @@ use Rattle.ct_rules.specs.declared.rule.Rule.TheVariants.{L1, L2, L3, L4, L5, L6
 use Rattle.ct_rules.specs.declared.support.Support.{Support}
 use Rattle.ct_rules.specs.Support.{Stands}
 use Rattle.ct_rules.specs.Slot.{slot_of, lower_at, claim_at}
-use Rattle.ct_rules.specs.Rule.{rule_side, half_up, first, second, premises_at, formula, within_limit}
-use Rattle.ct_rules.proofs.Applied.{IsDefined, limit_of}
-use Rattle.ct_rules.proofs.RuleRanges.{Range, range_of}
+use Rattle.ct_rules.specs.Rule.{rule_side, half_up, first, second, premises_at, formula}
+use Rattle.ct_rules.proofs.RuleRanges.{Range}
 use Rattle.ct_rules.proofs.Premises.{AreTrueAt, true_values, only_value, both_values, IsTrueNumber}
 use Rattle.ct_rules.proofs.LowerRules.{one-sound, L2-sound, L3-sound, L4-sound, L5-sound, L6-sound, L7-sound, L8-sound_near, L8-sound_far, L11-sound, support-sound}
 use Rattle.ct_rules.proofs.UpperRules.{U0-sound, V0-sound}

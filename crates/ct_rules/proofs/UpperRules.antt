@@ -1,6 +1,6 @@
 -- What each rule for upper bounds gives no code exceeds.
-use Rattle.std.proofs.Common.{◌≡◌, ℕ, ◌^◌, ◌≤◌, sym, subst, arith, pow_pos}
-use Rattle.std.specs.Prelude.{Option, Some}
+use Rattle.std.proofs.Common.{◌^◌, ◌≤◌, sym, subst, arith, pow_pos}
+use Rattle.std.specs.Prelude.{Some}
 use Rattle.std.specs.Option.{unwrap_or}
 use Rattle.ct_counting.specs.Binomials.{choose}
 use Rattle.ct_counting.proofs.Binomials.{one-le-choose}
