@@ -27,32 +27,38 @@ at_place P xs i all = λ x found.
     subst P (get_or_from_slice_get xs i x x found) (all i x (slice_get_within xs i x found))
 
 -- where it applies
-defined_from_applies : (supports : List Support) (r : Rule) (e : Entry) → applies supports r e ≡ true → IsDefined (cited supports r) r e
+defined_from_applies : (supports : List Support) (r : Rule) (e : Entry) → applies supports r e ≡ true
+    → IsDefined (cited supports r) r e
 defined_from_applies supports r e h =
     let both = and_parts (is_entry e) (in_range (cited supports r) r e) h in
     record { entry = both.0; range = both.1 }
 
 -- where it has premises it is defined, and they are those of the definition
-pub premises-defined : (supports : List Support) (r : Rule) (e : Entry) (slots : List Slot) → premises_of supports r e ≡ Some slots
+pub premises-defined : (supports : List Support) (r : Rule) (e : Entry) (slots : List Slot)
+    → premises_of supports r e ≡ Some slots
     → IsDefined (cited supports r) r e × (premises_at (cited supports r) r e ≡ slots)
 premises-defined supports r e slots h =
     let both = cond_some (applies supports r e) (premises_at (cited supports r) r e) slots h in
     (defined_from_applies supports r e both.0, both.1)
 
 -- an option is there where a test lets it through and it was there
-let_through : {X : Type 0} (b : Bool) (o : Option X) (x : X) → (if b then o else None) ≡ Some x → (b ≡ true) × (o ≡ Some x)
+let_through : {X : Type 0} (b : Bool) (o : Option X) (x : X) → (if b then o else None) ≡ Some x
+    → (b ≡ true) × (o ≡ Some x)
 let_through true o x h = (refl, h)
 let_through false o x h = absurd (none-some x h)
 
 -- where it gives a value it is defined, and that is its number within the limits of a bound
-pub value-defined : (supports : List Support) (r : Rule) (e : Entry) (vs : List ℕ) (v : ℕ) → value_of supports r e vs ≡ Some v
+pub value-defined : (supports : List Support) (r : Rule) (e : Entry) (vs : List ℕ) (v : ℕ)
+    → value_of supports r e vs ≡ Some v
     → IsDefined (cited supports r) r e × (within_limit (rule_side r) (formula (cited supports r) r e vs) ≡ Some v)
 value-defined supports r e vs v h =
-    let both = let_through (applies supports r e) (within_limit (rule_side r) (formula (cited supports r) r e vs)) v h in
+    let number = formula (cited supports r) r e vs in
+    let both = let_through (applies supports r e) (within_limit (rule_side r) number) v h in
     (defined_from_applies supports r e both.0, both.1)
 
 -- so a value comes only where it has premises
-pub value-premises : (supports : List Support) (r : Rule) (e : Entry) (vs : List ℕ) → IsSome (value_of supports r e vs) → IsSome (premises_of supports r e)
+pub value-premises : (supports : List Support) (r : Rule) (e : Entry) (vs : List ℕ)
+    → IsSome (value_of supports r e vs) → IsSome (premises_of supports r e)
 value-premises supports r e vs some = go (applies supports r e) some
   where
     go : (b : Bool) → IsSome (if b then within_limit (rule_side r) (formula (cited supports r) r e vs) else None)
@@ -61,12 +67,13 @@ value-premises supports r e vs some = go (applies supports r e) some
     go false h = absurd cc
 
 -- and the other way round
-pub value_from-defined : (supports : List Support) (r : Rule) (e : Entry) (vs : List ℕ) → IsDefined (cited supports r) r e
+pub value_from-defined : (supports : List Support) (r : Rule) (e : Entry) (vs : List ℕ)
+    → IsDefined (cited supports r) r e
     → value_of supports r e vs ≡ within_limit (rule_side r) (formula (cited supports r) r e vs)
 value_from-defined supports r e vs defined =
     rw (and_from (is_entry e) (in_range (cited supports r) r e) defined.entry defined.range) refl
 
--- what a bound within the limits is of: the number x itself, from below at most the greatest bound, from above cut there
+-- the number x whose bound within the limits is v: x, from below at most the greatest bound, from above cut there
 pub record IsLimitOf (side : Side) (o : Option ℕ) (x v : ℕ) : Type 0 where
   pub number : o ≡ Some x
   pub least : v ≡ min x MAX_BOUND
@@ -79,10 +86,12 @@ limit_of Lower (Some x) v h =
     let both = cond_some (nat_le x MAX_BOUND) x v h in
     let few = leb-true x MAX_BOUND both.0 in
     (x, record { number = refl; least = omega (arith, both.1); whole = λ s. few })
-limit_of Upper (Some x) v h = (x, record { number = refl; least = sym (same_Some (min x MAX_BOUND) v h); whole = λ s. absurd cc })
+limit_of Upper (Some x) v h =
+    (x, record { number = refl; least = sym (same_Some (min x MAX_BOUND) v h); whole = λ s. absurd cc })
 
--- the number of a lower bound is within the limits where it is not above the greatest one, that of an upper bound always
-pub limit_from : (side : Side) (x : ℕ) → (side ≡ Lower → x ≤ MAX_BOUND) → within_limit side (Some x) ≡ Some (min x MAX_BOUND)
+-- a number not above the greatest bound is within the limits, from above each
+pub limit_from : (side : Side) (x : ℕ) → (side ≡ Lower → x ≤ MAX_BOUND)
+    → within_limit side (Some x) ≡ Some (min x MAX_BOUND)
 limit_from Lower x few =
     let h = few refl in
     let same : x ≡ min x MAX_BOUND = omega arith in

@@ -1,5 +1,5 @@
 -- Codes without weight from codes without weight, as claims: there is a code of so many words.
-use Rattle.std.proofs.Common.{◌≡◌, ℕ, ◌+◌, ◌-◌, ◌*◌, ◌^◌, ◌<◌, ◌≤◌, min, List, [], ◌∷◌, length, take, refl, ap₂, subst, ◌∙◌, inl, inr, arith, pow_pos}
+use Rattle.std.proofs.Common.{◌≡◌, ℕ, ◌+◌, ◌-◌, ◌*◌, ◌^◌, ◌<◌, ◌≤◌, min, List, [], ◌∷◌, length, take, All, AllPairs, refl, ap₂, subst, ◌∙◌, inl, inr, arith, pow_pos}
 use Rattle.std.specs.Prelude.{None}
 use Rattle.std.proofs.Math.Pow.{ones_lt}
 use Rattle.std.proofs.lemmas.Bool.{cases_lt}
@@ -56,24 +56,26 @@ zero_sum n x below = record {
 pub HasCode-two : (n d : ℕ) → 1 ≤ n → d ≤ n → HasCode n d 2
 HasCode-two n d some near =
     let y = all_ones n in
-    let apart : distance n 0 y ≡ n = distance-is_weight n 0 y y (zero_sum n y (ones_lt n)) ∙ weight-ones n n (omega arith) in
-    let words : List ℕ = 0 ∷ y ∷ [] in (
-      words,
-      code_from_far n d None words
-          (All-cons (λ x. x < 2 ^ n) 0 (y ∷ []) (pow_pos n) (All-cons (λ x. x < 2 ^ n) y [] (ones_lt n) (All-nil (λ x. x < 2 ^ n))))
-          (AllPairs-cons (AreFar n d) 0 (y ∷ []) (All-cons (AreFar n d 0) y [] (omega arith, omega arith) (All-nil (AreFar n d 0)))
-          (λ i j z order within. absurd (omega arith)))
-          tt,
-      refl,
-    )
+    let apart : distance n 0 y ≡ n =
+    distance-is_weight n 0 y y (zero_sum n y (ones_lt n)) ∙ weight-ones n n (omega arith) in
+    let below : All (λ x. x < 2 ^ n) (0 ∷ y ∷ []) =
+    All-cons (λ x. x < 2 ^ n) 0 (y ∷ []) (pow_pos n)
+    (All-cons (λ x. x < 2 ^ n) y [] (ones_lt n) (All-nil (λ x. x < 2 ^ n))) in
+    let far : All (AreFar n d 0) (y ∷ []) =
+    All-cons (AreFar n d 0) y [] (omega arith, omega arith) (All-nil (AreFar n d 0)) in
+    let pairs : AllPairs (AreFar n d) (0 ∷ y ∷ []) =
+    AllPairs-cons (AreFar n d) 0 (y ∷ []) far (λ i j z order within. absurd (omega arith)) in
+    (0 ∷ y ∷ [], code_from_far n d None (0 ∷ y ∷ []) below pairs tt, refl)
 
 -- a 0 is added to each word
 pub HasCode-lengthened : (n d v : ℕ) → HasCode n d v → HasCode (n + 1) d v
-HasCode-lengthened n d v code = (lengthened code.0, IsCode-lengthened n d None code.0 code.1, length-lengthened code.0 ∙ code.2)
+HasCode-lengthened n d v code =
+    (lengthened code.0, IsCode-lengthened n d None code.0 code.1, length-lengthened code.0 ∙ code.2)
 
 -- the parity of its weight is added to each word
 pub HasCode-parity : (n d v : ℕ) → HasCode n d v → HasCode (n + 1) (even_from d) v
-HasCode-parity n d v code = (with_parity n code.0, IsCode-with_parity n d None code.0 code.1, length-with_parity n code.0 ∙ code.2)
+HasCode-parity n d v code =
+    (with_parity n code.0, IsCode-with_parity n d None code.0 code.1, length-with_parity n code.0 ∙ code.2)
 
 -- the first place of a word
 first_place : (n : ℕ) → ArePlaces (n + 1) (0 ∷ [])

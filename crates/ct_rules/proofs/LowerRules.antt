@@ -57,10 +57,12 @@ L3-sound e v range premise =
 
 -- a code of a greater distance
 pub L4-sound : (e : Entry) (v : ℕ) → Range L4 e → IsPremise e.n (e.d + 1) v → IsTrueNumber Lower e v
-L4-sound e v range premise = lower_number e v range.0 premise.range.0 (HasCode-nearer e.n (e.d + 1) e.d v (omega arith) premise.truth)
+L4-sound e v range premise =
+    lower_number e v range.0 premise.range.0 (HasCode-nearer e.n (e.d + 1) e.d v (omega arith) premise.truth)
 
 -- words with the parity of their weight added
-pub L5-sound : (e : Entry) (v : ℕ) → IsEntry e → Range L5 e → IsPremise (e.n - 1) (e.d - 1) v → IsTrueNumber Lower e v
+pub L5-sound : (e : Entry) (v : ℕ) → IsEntry e → Range L5 e → IsPremise (e.n - 1) (e.d - 1) v
+    → IsTrueNumber Lower e v
 L5-sound e v entry range premise =
     let limits = entry_limits e entry in
     let least = limits.2 in
@@ -74,7 +76,8 @@ L5-sound e v entry range premise =
     (HasCode-parity (e.n - 1) (e.d - 1) v premise.truth)))
 
 -- words without a place
-pub L6-sound : (e : Entry) (v : ℕ) → IsEntry e → Range L6 e → IsPremise (e.n + 1) (e.d + 1) v → IsTrueNumber Lower e v
+pub L6-sound : (e : Entry) (v : ℕ) → IsEntry e → Range L6 e → IsPremise (e.n + 1) (e.d + 1) v
+    → IsTrueNumber Lower e v
 L6-sound e v entry range premise =
     let limits = entry_limits e entry in
     let least = limits.2 in
@@ -87,14 +90,16 @@ L7-sound e v range premise =
     lower_number e (half_up v) range.0 (omega arith) (HasCode-shortened e.n e.d v premise.truth)
 
 -- u followed by u + v
-uuv_number : (e : Entry) (d u v : ℕ) → Range L8 e → e.d ≤ 2 * d → 1 ≤ u * v → HasCode (e.n / 2) d u → HasCode (e.n / 2) e.d v
+uuv_number : (e : Entry) (d u v : ℕ) → Range L8 e → e.d ≤ 2 * d → 1 ≤ u * v → HasCode (e.n / 2) d u
+    → HasCode (e.n / 2) e.d v
     → IsTrueNumber Lower e (u * v)
 uuv_number e d u v range near some first second =
     let even = range.1 in
     let twice : 2 * (e.n / 2) ≡ e.n = omega arith in
     lower_number e (u * v) range.0 some
     (of_length (2 * (e.n / 2)) e.n e.d (u * v) twice
-    (HasCode-nearer (2 * (e.n / 2)) (min (2 * d) e.d) e.d (u * v) (omega arith) (HasCode-uuv (e.n / 2) d e.d u v first second)))
+    (HasCode-nearer (2 * (e.n / 2)) (min (2 * d) e.d) e.d (u * v) (omega arith)
+    (HasCode-uuv (e.n / 2) d e.d u v first second)))
 
 -- at distances 3 and 4, for u all words of even weight
 pub L8-sound_near : (e : Entry) (v : ℕ) → IsEntry e → Range L8 e → nat_lt e.d 5 ≡ true → IsPremise (e.n / 2) e.d v
@@ -108,13 +113,15 @@ L8-sound_near e v entry range near premise =
     (HasCode-even (e.n / 2) (omega arith)) premise.truth
 
 -- at distances from 5 on
-pub L8-sound_far : (e : Entry) (u v : ℕ) → Range L8 e → IsPremise (e.n / 2) (half_up e.d) u → IsPremise (e.n / 2) e.d v
+pub L8-sound_far : (e : Entry) (u v : ℕ) → Range L8 e → IsPremise (e.n / 2) (half_up e.d) u
+    → IsPremise (e.n / 2) e.d v
     → IsTrueNumber Lower e (u * v)
 L8-sound_far e u v range first second =
     uuv_number e (half_up e.d) u v range (omega arith) (mul-pos first.range.0 second.range.0) first.truth second.truth
 
 -- the words of two codes side by side
-pub L11-sound : (n d : ℕ) (e : Entry) (u v : ℕ) → Range (L11 n d) e → IsPremise n d u → IsPremise (e.n - n) (e.d - d) v
+pub L11-sound : (n d : ℕ) (e : Entry) (u v : ℕ) → Range (L11 n d) e → IsPremise n d u
+    → IsPremise (e.n - n) (e.d - d) v
     → IsTrueNumber Lower e (min u v)
 L11-sound n d e u v range first second =
     let short = range.2 in
@@ -129,7 +136,8 @@ L11-sound n d e u v range first second =
     (HasCode-juxtaposed n d (e.n - n) (e.d - d) u v first.truth second.truth)))
 
 -- the code of a support that stands
-pub support-sound : (c : Option Support) (e : Entry) (x : ℕ) → ForSome c Stands → size_at c e ≡ Some x → IsTrueNumber Lower e x
+pub support-sound : (c : Option Support) (e : Entry) (x : ℕ) → ForSome c Stands → size_at c e ≡ Some x
+    → IsTrueNumber Lower e x
 support-sound None e x stand size = absurd (none-some x size)
 support-sound (Some Nothing) e x stand size = absurd (none-some x size)
 support-sound (Some (Size f s)) e x stand size =

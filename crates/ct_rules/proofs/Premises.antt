@@ -15,9 +15,11 @@ AreTrueAt (s ∷ slots) (v ∷ vs) = IsTrueClaim (claim_at s v) × AreTrueAt slo
 AreTrueAt slots vs = ⊥
 
 -- the values of true claims
-pub true_values : (claims : List Claim) → All IsTrueClaim claims → AreTrueAt (map slot_of claims) (map (λ c. c.value) claims)
+pub true_values : (claims : List Claim) → All IsTrueClaim claims
+    → AreTrueAt (map slot_of claims) (map (λ c. c.value) claims)
 true_values [] each = tt
-true_values (c ∷ claims) each = (All-head IsTrueClaim c claims each, true_values claims (All-tail IsTrueClaim c claims each))
+true_values (c ∷ claims) each =
+    (All-head IsTrueClaim c claims each, true_values claims (All-tail IsTrueClaim c claims each))
 
 -- the only value
 pub only_value : (s : Slot) (vs : List ℕ) → AreTrueAt (s ∷ []) vs → IsTrueClaim (claim_at s (first vs))
@@ -25,7 +27,8 @@ only_value s [] h = absurd h
 only_value s (v ∷ vs) h = h.0
 
 -- both values
-pub both_values : (s t : Slot) (vs : List ℕ) → AreTrueAt (s ∷ t ∷ []) vs → IsTrueClaim (claim_at s (first vs)) × IsTrueClaim (claim_at t (second vs))
+pub both_values : (s t : Slot) (vs : List ℕ) → AreTrueAt (s ∷ t ∷ []) vs
+    → IsTrueClaim (claim_at s (first vs)) × IsTrueClaim (claim_at t (second vs))
 both_values s t [] h = absurd h
 both_values s t (v ∷ []) h = absurd h.1
 both_values s t (v ∷ w ∷ vs) h = (h.0, h.1.0)

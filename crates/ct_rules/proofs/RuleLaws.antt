@@ -1,4 +1,4 @@
--- What the laws of derivations and every table rest on: five laws of the rules. Nothing above this file looks into a rule.
+-- What the laws of derivations and every table rest on: six laws of the rules. Nothing above this file looks into one.
 use Rattle.std.specs.Prelude.{◌≡◌, ℕ, ◌≤◌, List, length, map, All, Some}
 use Rattle.std.proofs.Common.{subst}
 use Rattle.ct_codes.specs.declared.entry.Entry.{Entry}
@@ -16,7 +16,8 @@ use Rattle.ct_rules.proofs.RuleSound.{number-sound, number-le, claim_from_number
 use Rattle.ct_rules.proofs.RuleMonotone.{value-no_worse}
 
 -- a rule that is defined at an entry is defined at an entry of the table
-pub rule_entry : (supports : List Support) (r : Rule) (e : Entry) (slots : List Slot) → premises_of supports r e ≡ Some slots → IsEntry e
+pub rule_entry : (supports : List Support) (r : Rule) (e : Entry) (slots : List Slot)
+    → premises_of supports r e ≡ Some slots → IsEntry e
 rule_entry supports r e slots h = let known = premises-defined supports r e slots h in known.0.entry
 
 -- what a rule rests on are entries of the table
@@ -41,7 +42,8 @@ premises_are_few supports r e slots h =
     subst (λ (these : List Slot). length these ≤ 2) known.1 (premises_at-few (cited supports r) r e)
 
 -- a rule gives a true claim where its premises are true
-pub value_is_sound : (supports : List Support) (r : Rule) (e : Entry) (claims : List Claim) (v : ℕ) → AllStand supports →
+pub value_is_sound : (supports : List Support) (r : Rule) (e : Entry) (claims : List Claim) (v : ℕ)
+    → AllStand supports →
     premises_of supports r e ≡ Some (map slot_of claims) → All IsTrueClaim claims →
     value_of supports r e (map (λ c. c.value) claims) ≡ Some v → IsTrueClaim (claim_at (rule_side r, e) v)
 value_is_sound supports r e claims v stand premises true_claims value =
@@ -56,8 +58,8 @@ value_is_sound supports r e claims v stand premises true_claims value =
     number.1.least
 
 -- better true premises give a value that is no worse
-pub value_is_monotone : (supports : List Support) (r : Rule) (e : Entry) (claims : List Claim) (us : List ℕ) (u : ℕ) → AllStand supports →
-    premises_of supports r e ≡ Some (map slot_of claims) → All IsTrueClaim claims →
+pub value_is_monotone : (supports : List Support) (r : Rule) (e : Entry) (claims : List Claim) (us : List ℕ) (u : ℕ) →
+    AllStand supports → premises_of supports r e ≡ Some (map slot_of claims) → All IsTrueClaim claims →
     AreNoBetter (rule_side r) us (map (λ c. c.value) claims) → value_of supports r e us ≡ Some u →
     (v : ℕ) × (value_of supports r e (map (λ c. c.value) claims) ≡ Some v) × IsNoBetter (rule_side r) u v
 value_is_monotone supports r e claims us u stand premises true_claims worse value =

@@ -91,21 +91,27 @@ AreLimits n d = (1 ≤ n) × (n ≤ MAX_N) × (3 ≤ d) × (d ≤ MAX_N)
 abbrev AreEntries : List Slot → Type 0
 AreEntries slots = All (λ s. IsEntry s.1) slots
 
+limits_entry : (n d : ℕ) → AreLimits n d → IsEntry (unrestricted n d)
+limits_entry n d h = entry_from_limits (unrestricted n d) (h.0, h.1, h.2, h.3, tt)
+
 one_entry : (n d : ℕ) → AreLimits n d → AreEntries (lower_at n d ∷ [])
 one_entry n d h =
-    All-cons (λ s. IsEntry s.1) (lower_at n d) [] (entry_from_limits (unrestricted n d) (h.0, h.1, h.2, h.3, tt)) (All-nil (λ s. IsEntry s.1))
+    All-cons (λ s. IsEntry s.1) (lower_at n d) [] (limits_entry n d h) (All-nil (λ s. IsEntry s.1))
 
 two_entries : (n d m f : ℕ) → AreLimits n d → AreLimits m f → AreEntries (lower_at n d ∷ lower_at m f ∷ [])
 two_entries n d m f first second =
-    All-cons (λ s. IsEntry s.1) (lower_at n d) (lower_at m f ∷ []) (entry_from_limits (unrestricted n d) (first.0, first.1, first.2, first.3, tt))
-    (one_entry m f second)
+    All-cons (λ s. IsEntry s.1) (lower_at n d) (lower_at m f ∷ []) (limits_entry n d first) (one_entry m f second)
 
 -- half of an even length, and half of a distance that is not small, are within the limits
 half_limits : (n : ℕ) → 1 ≤ n → n ≤ MAX_N → n % 2 ≡ 0 → (1 ≤ n / 2) × (n / 2 ≤ MAX_N)
 half_limits n some long even = (omega arith, omega arith)
 
+-- A(n/2,d), the premises of u | u + v
+abbrev pub half_at : Entry → ℕ → Slot
+half_at e d = lower_at (e.n / 2) d
+
 entries_L8 : (e : Entry) → AreLimits e.n e.d → e.n % 2 ≡ 0
-    → AreEntries (cond (nat_lt e.d 5) (lower_at (e.n / 2) e.d ∷ []) (lower_at (e.n / 2) (half_up e.d) ∷ lower_at (e.n / 2) e.d ∷ []))
+    → AreEntries (cond (nat_lt e.d 5) (half_at e e.d ∷ []) (half_at e (half_up e.d) ∷ half_at e e.d ∷ []))
 entries_L8 e limits even =
     let half = half_limits e.n limits.0 limits.1 even in
     let most = limits.3 in
@@ -113,10 +119,12 @@ entries_L8 e limits even =
     (λ near. one_entry (e.n / 2) e.d (half.0, half.1, limits.2, limits.3))
     (λ far.
     let least = ltb-false e.d 5 far in
-    two_entries (e.n / 2) (half_up e.d) (e.n / 2) e.d (half.0, half.1, omega arith, omega arith) (half.0, half.1, limits.2, limits.3))
+    two_entries (e.n / 2) (half_up e.d) (e.n / 2) e.d (half.0, half.1, omega arith, omega arith)
+    (half.0, half.1, limits.2, limits.3))
 
 -- what a rule rests on are entries of the table
-entries_at : (c : Option Support) (r : Rule) (e : Entry) → AreLimits e.n e.d → Range r e → AreEntries (premises_at c r e)
+entries_at : (c : Option Support) (r : Rule) (e : Entry) → AreLimits e.n e.d → Range r e
+    → AreEntries (premises_at c r e)
 unfolding premises_at
 entries_at c L3 e limits range = one_entry (e.n - 1) e.d (omega arith, omega arith, limits.2, limits.3)
 entries_at c L4 e limits range = one_entry e.n (e.d + 1) (limits.0, limits.1, omega arith, omega arith)
@@ -124,10 +132,13 @@ entries_at c L5 e limits range = one_entry (e.n - 1) (e.d - 1) (omega arith, ome
 entries_at c L6 e limits range = one_entry (e.n + 1) (e.d + 1) (omega arith, omega arith, omega arith, omega arith)
 entries_at c L7 e limits range = one_entry (e.n + 1) e.d (omega arith, omega arith, limits.2, limits.3)
 entries_at c L8 e limits range = entries_L8 e limits range.1
-entries_at c (L11 n d) e limits range = two_entries n d (e.n - n) (e.d - d) (range.1, omega arith, range.3, omega arith) (omega arith, omega arith, omega arith, omega arith)
+entries_at c (L11 n d) e limits range =
+    two_entries n d (e.n - n) (e.d - d) (range.1, omega arith, range.3, omega arith)
+    (omega arith, omega arith, omega arith, omega arith)
 entries_at c r e limits range = All-nil (λ s. IsEntry s.1)
 
-pub premises_at-entries : (c : Option Support) (r : Rule) (e : Entry) → IsDefined c r e → AreEntries (premises_at c r e)
+pub premises_at-entries : (c : Option Support) (r : Rule) (e : Entry) → IsDefined c r e
+    → AreEntries (premises_at c r e)
 premises_at-entries c r e defined =
     let limits = entry_limits e defined.entry in
     entries_at c r e (limits.0, limits.1, limits.2, limits.3) (range_of c r e defined.range)
@@ -139,7 +150,8 @@ one_lower n d = All-cons (λ s. s.0 ≡ Lower) (lower_at n d) [] refl (All-nil (
 two_lower : (n d m f : ℕ) → All (λ s. s.0 ≡ Lower) (lower_at n d ∷ lower_at m f ∷ [])
 two_lower n d m f = All-cons (λ s. s.0 ≡ Lower) (lower_at n d) (lower_at m f ∷ []) refl (one_lower m f)
 
-pub premises_at-side : (c : Option Support) (r : Rule) (e : Entry) → All (λ s. s.0 ≡ rule_side r) (premises_at c r e)
+pub premises_at-side : (c : Option Support) (r : Rule) (e : Entry)
+    → All (λ s. s.0 ≡ rule_side r) (premises_at c r e)
 unfolding premises_at
 premises_at-side c L3 e = one_lower (e.n - 1) e.d
 premises_at-side c L4 e = one_lower e.n (e.d + 1)
@@ -147,12 +159,14 @@ premises_at-side c L5 e = one_lower (e.n - 1) (e.d - 1)
 premises_at-side c L6 e = one_lower (e.n + 1) (e.d + 1)
 premises_at-side c L7 e = one_lower (e.n + 1) e.d
 premises_at-side c L8 e =
-    cond_both (nat_lt e.d 5) _ _ (All (λ s. s.0 ≡ Lower)) (λ near. one_lower (e.n / 2) e.d) (λ far. two_lower (e.n / 2) (half_up e.d) (e.n / 2) e.d)
+    cond_both (nat_lt e.d 5) _ _ (All (λ s. s.0 ≡ Lower)) (λ near. one_lower (e.n / 2) e.d)
+    (λ far. two_lower (e.n / 2) (half_up e.d) (e.n / 2) e.d)
 premises_at-side c (L11 n d) e = two_lower n d (e.n - n) (e.d - d)
 premises_at-side c r e = All-nil (λ s. s.0 ≡ rule_side r)
 
 -- there are two at most
 pub premises_at-few : (c : Option Support) (r : Rule) (e : Entry) → length (premises_at c r e) ≤ 2
 unfolding premises_at
-premises_at-few c L8 e = cond_both (nat_lt e.d 5) _ _ (λ (slots : List Slot). length slots ≤ 2) (λ near. omega arith) (λ far. omega arith)
+premises_at-few c L8 e =
+    cond_both (nat_lt e.d 5) _ _ (λ (slots : List Slot). length slots ≤ 2) (λ near. omega arith) (λ far. omega arith)
 premises_at-few c r e = omega arith

@@ -3,4 +3,10 @@ use Rattle.ct_rules.proofs.Applied.{value-premises}
 use Rattle.ct_rules.proofs.rule_laws.premises_are_entries.Goals as goal
 
 pub returns : goal.returns
-returns c = record { entry = rule_entry; premises = premises_in_table; side = premises_on_side; few = premises_are_few; defined = value-premises }
+returns c = record {
+  entry = rule_entry;
+  premises = premises_in_table;
+  side = premises_on_side;
+  few = premises_are_few;
+  defined = value-premises;
+}
