@@ -4,9 +4,14 @@
 mod instance;
 mod line;
 mod rule;
+mod rule_laws;
 mod support;
 
 pub use instance::{MOST_PREMISES, premise, premise_count, rule_side, value};
 pub use line::Line;
 pub use rule::Rule;
+pub use rule_laws::{
+    known_premises, known_ranges, known_supports, known_values, premises_are_entries,
+    rules_are_monotone, rules_are_sound,
+};
 pub use support::Support;
