@@ -53,6 +53,12 @@ slice_get-append_cases (y ∷ xs) ys (suc i) x h = go (slice_get-append_cases xs
     go (inl here) = inl (omega arith, here.1)
     go (inr past) = let at = past.1 in inr (past.0, omega arith, past.2)
 
+-- the last item stands at the length of those before it
+pub slice_get_last : {X : Type 0} (xs : List X) (x : X) → slice_get (xs ++ x ∷ []) (length xs) ≡ Some x
+slice_get_last xs x =
+    let same : length xs ≡ length xs + 0 = omega arith in
+    ap (slice_get (xs ++ x ∷ [])) same ∙ slice_get-append_right xs (x ∷ []) 0
+
 -- the claims at places have what the claims of the lines have
 pub All-claims_at : (P : Claim → Type 0) (lines : List LineValue) (places : List ℕ)
     → ((p : ℕ) (line : LineValue) → slice_get lines p ≡ Some line → P line.claim) → All P (claims_at lines places)
@@ -110,11 +116,6 @@ each_derived P supports step c derived =
     subst P derived.claim
     (each_line P supports (derived.before ++ derived.last ∷ []) derived.derivation step (length derived.before) derived.last
     (slice_get_last derived.before derived.last))
-  where
-    slice_get_last : (lines : List LineValue) (line : LineValue) → slice_get (lines ++ line ∷ []) (length lines) ≡ Some line
-    slice_get_last lines line =
-        let same : length lines ≡ length lines + 0 = omega arith in
-        ap (slice_get (lines ++ line ∷ [])) same ∙ slice_get-append_right lines (line ∷ []) 0
 
 -- over supports that stand, derived claims are true
 pub derived_claims_are_true : (supports : List Support) → AllStand supports → (c : Claim) → IsDerived supports c → IsTrueClaim c

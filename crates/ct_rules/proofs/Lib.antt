@@ -1,2 +1,4 @@
 pub mod RuleLaws
 pub mod Derivations
+pub mod MoreSupports
+pub mod JoinedDerivations
