@@ -2,3 +2,4 @@ pub mod RuleLaws
 pub mod Derivations
 pub mod MoreSupports
 pub mod JoinedDerivations
+pub mod ClosedBounds
