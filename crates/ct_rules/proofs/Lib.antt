@@ -3,3 +3,4 @@ pub mod Derivations
 pub mod MoreSupports
 pub mod JoinedDerivations
 pub mod ClosedBounds
+pub mod RuleLists

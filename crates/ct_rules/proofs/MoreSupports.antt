@@ -33,7 +33,7 @@ applies_from_value supports r e vs v h = go (applies supports r e) h
     go false is = absurd (none-some v is)
 
 -- a rule that needs a size at the entry cites a support that is there
-cited_there : (supports : List Support) (place : ℕ) (e : Entry) → is_some (size_at (slice_get supports place) e) ≡ true
+pub cited_there : (supports : List Support) (place : ℕ) (e : Entry) → is_some (size_at (slice_get supports place) e) ≡ true
     → (support : Support) × (slice_get supports place ≡ Some support)
 cited_there supports place e h = go (slice_get supports place) h
   where
