@@ -4,3 +4,6 @@ pub mod MoreSupports
 pub mod JoinedDerivations
 pub mod ClosedBounds
 pub mod RuleLists
+pub mod TableLists
+pub mod Improvements
+pub mod BestValues
