@@ -68,11 +68,12 @@ improved supports bounds stand derived better = (
   replaced bounds at better.value,
   AreDerived-replaced supports bounds at better.value derived new,
   slack-replaced bounds at better.value table_slots (derived_claims_are_true supports stand (claim_at at better.value) new).range.1 better.better
-  (table_slots-complete at (rule_entry supports better.rule better.entry better.slots better.premises))
+      (table_slots-complete at (rule_entry supports better.rule better.entry better.slots better.premises)),
 )
   where
     at : Slot
     at = (rule_side better.rule, better.entry)
+
     new : IsDerived supports (claim_at at better.value)
     new = improvement_is_derived supports bounds derived better
 
@@ -90,8 +91,8 @@ closed_from (suc n) supports bounds stand derived h =
     go (closed_or_better supports bounds) (λ next more less. closed_from n supports next stand more (omega arith))
   where
     go : IsClosed supports bounds ⊎ Improvement supports bounds
-      → ((next : Slot → ℕ) → AreDerived supports next → slack next table_slots < slack bounds table_slots → ClosedBounds supports)
-      → ClosedBounds supports
+        → ((next : Slot → ℕ) → AreDerived supports next → slack next table_slots < slack bounds table_slots → ClosedBounds supports)
+        → ClosedBounds supports
     go (inl closed) on = record { bounds = bounds; derived = derived; closed = closed }
     go (inr better) on = let next = improved supports bounds stand derived better in on next.0 next.1 next.2
 
@@ -109,3 +110,11 @@ best_exists supports s stand entry =
 -- a best value is true
 pub best_is_true : (supports : List Support) (s : Slot) (v : ℕ) → AllStand supports → IsBest supports s v → IsTrueClaim (claim_at s v)
 best_is_true supports s v stand best = derived_claims_are_true supports stand (claim_at s v) best.derived
+
+-- so the best lower value of an entry is at most the best upper one
+pub best_in_order : (supports : List Support) (e : Entry) (u v : ℕ) → AllStand supports → IsBest supports (Lower, e) u → IsBest supports (Upper, e) v → u ≤ v
+best_in_order supports e u v stand lower upper =
+    let code = (best_is_true supports (Lower, e) u stand lower).truth in
+    let bound = (best_is_true supports (Upper, e) v stand upper).truth code.0 code.1 in
+    let size = code.2 in
+    omega arith

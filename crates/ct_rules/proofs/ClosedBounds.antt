@@ -58,8 +58,8 @@ values_within : (side : Side) (bounds : Slot → ℕ) (claims : List Claim) → 
 values_within side bounds [] sides within = tt
 values_within side bounds (c ∷ claims) sides within = (
   subst (λ (s : Side). IsNoBetter s c.value (bounds (slot_of c))) (All-head (λ s. s.0 ≡ side) (slot_of c) (map slot_of claims) sides)
-  (All-head (IsWithin bounds) c claims within),
-  values_within side bounds claims (All-tail (λ s. s.0 ≡ side) (slot_of c) (map slot_of claims) sides) (All-tail (IsWithin bounds) c claims within)
+      (All-head (IsWithin bounds) c claims within),
+  values_within side bounds claims (All-tail (λ s. s.0 ≡ side) (slot_of c) (map slot_of claims) sides) (All-tail (IsWithin bounds) c claims within),
 )
 
 -- a line is within closed true bounds where the lines that it rests on are
@@ -72,12 +72,16 @@ line_within supports bounds before line stand true_bounds closed follows within 
   where
     r : Rule
     r = line.rule
+
     e : Entry
     e = line.claim.entry
+
     claims : List Claim
     claims = claims_at before line.from
+
     slots : List Slot
     slots = map slot_of claims
+
     better : (v : ℕ) × (value_of supports r e (map (λ c. c.value) (claims_of bounds slots)) ≡ Some v) × IsNoBetter (rule_side r) line.claim.value v
     better =
         value_is_monotone supports r e (claims_of bounds slots) (map (λ c. c.value) claims) line.claim.value stand

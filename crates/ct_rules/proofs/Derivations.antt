@@ -1,9 +1,9 @@
 -- Lines of derivations: what a line rests on, prefixes, one more line, and the truth of what is derived.
-use Rattle.std.proofs.Common.{◌≡◌, ℕ, zero, suc, ◌+◌, ◌<◌, ◌≤◌, List, [], ◌∷◌, ◌++◌, length, take, map, All, slice_get, Option, Some, None, option_map, filter_map, refl, sym, ap, ◌∙◌, subst, inl, inr, ◌⊎◌, arith}
+use Rattle.std.proofs.Common.{◌≡◌, ℕ, zero, suc, ◌+◌, ◌<◌, ◌≤◌, List, [], ◌∷◌, ◌++◌, length, get_or, take, map, All, slice_get, Option, Some, None, option_map, filter_map, refl, sym, ap, ◌∙◌, subst, inl, inr, ◌⊎◌, arith}
 use Rattle.std.specs.List.{cons_option}
 use Rattle.std.proofs.lemmas.List.{take-append-le, take-take, take_at}
 use Rattle.std.proofs.lemmas.List.Elements.{All-nil, All-cons}
-use Rattle.std.proofs.lemmas.Option.{slice_get_within, slice_get_past, none-some, same_Some}
+use Rattle.std.proofs.lemmas.Option.{slice_get-get_or, none-some, same_Some}
 use Rattle.ct_codes.specs.declared.claim.Claim.{Claim}
 use Rattle.ct_codes.specs.declared.claim.Side.{Side}
 use Rattle.ct_codes.specs.Claim.{IsTrueClaim}
@@ -49,7 +49,7 @@ slice_get-append_cases (y ∷ xs) ys zero x h = inl (omega arith, h)
 slice_get-append_cases (y ∷ xs) ys (suc i) x h = go (slice_get-append_cases xs ys i x h)
   where
     go : ((i < length xs) × (slice_get xs i ≡ Some x)) ⊎ ((j : ℕ) × (i ≡ length xs + j) × (slice_get ys j ≡ Some x))
-      → ((suc i < suc (length xs)) × (slice_get xs i ≡ Some x)) ⊎ ((j : ℕ) × (suc i ≡ suc (length xs) + j) × (slice_get ys j ≡ Some x))
+        → ((suc i < suc (length xs)) × (slice_get xs i ≡ Some x)) ⊎ ((j : ℕ) × (suc i ≡ suc (length xs) + j) × (slice_get ys j ≡ Some x))
     go (inl here) = inl (omega arith, here.1)
     go (inr past) = let at = past.1 in inr (past.0, omega arith, past.2)
 
@@ -66,7 +66,7 @@ All-claims_at P lines [] each = All-nil P
 All-claims_at P lines (p ∷ places) each = go (slice_get lines p) refl (All-claims_at P lines places each)
   where
     go : (at : Option LineValue) → slice_get lines p ≡ at → All P (claims_at lines places)
-      → All P (cons_option (option_map (λ l. l.claim) at) (claims_at lines places))
+        → All P (cons_option (option_map (λ l. l.claim) at) (claims_at lines places))
     go None is rest = rest
     go (Some line) is rest = All-cons P line.claim (claims_at lines places) (each p line is) rest
 
@@ -101,12 +101,17 @@ each_line P supports lines derivation step i line is = below (suc i) i line (ome
         step (take i lines) line (derivation i line is)
         (All-premises P lines i line.from (λ p earlier before at. below n p earlier (omega arith) at))
 
+-- what holds of the line at each place holds of all lines
+All-lines : (P : LineValue → Type 0) (lines : List LineValue) → ((i : ℕ) (line : LineValue) → slice_get lines i ≡ Some line → P line) → All P lines
+All-lines P lines each k d within = each k (get_or lines k d) (slice_get-get_or lines k d within)
+
 -- over supports that stand, all lines of a derivation claim what is true
 pub lines_are_true : (supports : List Support) (lines : List LineValue) → AllStand supports → IsDerivation supports lines
-    → (i : ℕ) (line : LineValue) → slice_get lines i ≡ Some line → IsTrueClaim line.claim
+    → All (λ line. IsTrueClaim line.claim) lines
 lines_are_true supports lines stand derivation =
-    each_line IsTrueClaim supports lines derivation
-    (λ before line follows premises. following_line_is_true supports before line stand premises follows)
+    All-lines (λ line. IsTrueClaim line.claim) lines
+    (each_line IsTrueClaim supports lines derivation
+    (λ before line follows premises. following_line_is_true supports before line stand premises follows))
 
 -- what all lines of derivations have, each derived claim has
 pub each_derived : (P : Claim → Type 0) (supports : List Support)
@@ -144,7 +149,7 @@ pub derivation-push : (supports : List Support) (lines : List LineValue) (line :
 derivation-push supports lines line derivation follows i item is = go (slice_get-append_cases lines (line ∷ []) i item is)
   where
     go : ((i < length lines) × (slice_get lines i ≡ Some item)) ⊎ ((j : ℕ) × (i ≡ length lines + j) × (slice_get (line ∷ []) j ≡ Some item))
-      → Follows supports (take i (lines ++ line ∷ [])) item
+        → Follows supports (take i (lines ++ line ∷ [])) item
     go (inl here) =
         let same : take i (lines ++ line ∷ []) ≡ take i lines = take-append-le i lines (line ∷ []) (omega arith) in
         subst (λ (before : List LineValue). Follows supports before item) (sym same) (derivation i item here.1)
@@ -163,3 +168,8 @@ derived_from_line supports lines i line is derivation = record {
   derivation = derivation-push supports (take i lines) line (derivation-take supports i lines derivation) (derivation i line is);
   claim = refl;
 }
+
+-- all lines of a derivation are derived
+pub lines_are_derived : (supports : List Support) (lines : List LineValue) → IsDerivation supports lines → All (λ line. IsDerived supports line.claim) lines
+lines_are_derived supports lines derivation =
+    All-lines (λ line. IsDerived supports line.claim) lines (λ i line is. derived_from_line supports lines i line is derivation)

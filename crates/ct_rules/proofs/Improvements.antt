@@ -59,21 +59,23 @@ satisfied_or_better : (supports : List Support) (bounds : Slot → ℕ) (r : Rul
 satisfied_or_better supports bounds r e = by_premises (premises_of supports r e) refl
   where
     by_comparison : (slots : List Slot) (v : ℕ) → premises_of supports r e ≡ Some slots → value_of supports r e (map bounds slots) ≡ Some v
-      → IsNoBetter (rule_side r) v (bounds (rule_side r, e)) ⊎ IsBetter (rule_side r) v (bounds (rule_side r, e))
-      → IsSatisfied supports bounds r e ⊎ Improvement supports bounds
+        → IsNoBetter (rule_side r) v (bounds (rule_side r, e)) ⊎ IsBetter (rule_side r) v (bounds (rule_side r, e))
+        → IsSatisfied supports bounds r e ⊎ Improvement supports bounds
     by_comparison slots v premises value (inl worse) = inl (λ others u there given.
-      let same : slots ≡ others = same_Some slots others (sym premises ∙ there) in
-      let same_value : v ≡ u = same_Some v u (sym value ∙ (ap (λ (all : List Slot). value_of supports r e (map bounds all)) same ∙ given)) in
-      subst (λ (x : ℕ). IsNoBetter (rule_side r) x (bounds (rule_side r, e))) same_value worse)
+        let same : slots ≡ others = same_Some slots others (sym premises ∙ there) in
+        let same_value : v ≡ u = same_Some v u (sym value ∙ (ap (λ (all : List Slot). value_of supports r e (map bounds all)) same ∙ given)) in
+        subst (λ (x : ℕ). IsNoBetter (rule_side r) x (bounds (rule_side r, e))) same_value worse)
     by_comparison slots v premises value (inr better) =
         inr (record { rule = r; entry = e; slots = slots; value = v; premises = premises; value_is = value; better = better })
+
     by_value : (slots : List Slot) (o : Option ℕ) → premises_of supports r e ≡ Some slots → value_of supports r e (map bounds slots) ≡ o
-      → IsSatisfied supports bounds r e ⊎ Improvement supports bounds
+        → IsSatisfied supports bounds r e ⊎ Improvement supports bounds
     by_value slots None premises value = inl (λ others u there given.
-      let same : slots ≡ others = same_Some slots others (sym premises ∙ there) in
-      absurd (none-some u (sym value ∙ (ap (λ (all : List Slot). value_of supports r e (map bounds all)) same ∙ given))))
+        let same : slots ≡ others = same_Some slots others (sym premises ∙ there) in
+        absurd (none-some u (sym value ∙ (ap (λ (all : List Slot). value_of supports r e (map bounds all)) same ∙ given))))
     by_value slots (Some v) premises value =
         by_comparison slots v premises value (better_or_not (rule_side r) v (bounds (rule_side r, e)))
+
     by_premises : (o : Option (List Slot)) → premises_of supports r e ≡ o → IsSatisfied supports bounds r e ⊎ Improvement supports bounds
     by_premises None premises = inl (λ others u there given. absurd (none-some others (sym premises ∙ there)))
     by_premises (Some slots) premises = by_value slots (value_of supports r e (map bounds slots)) premises refl
@@ -86,8 +88,8 @@ all_satisfied_or_better supports bounds (i ∷ instances) =
     go (satisfied_or_better supports bounds i.0 i.1) (all_satisfied_or_better supports bounds instances)
   where
     go : IsSatisfied supports bounds i.0 i.1 ⊎ Improvement supports bounds
-      → All (λ i. IsSatisfied supports bounds i.0 i.1) instances ⊎ Improvement supports bounds
-      → All (λ i. IsSatisfied supports bounds i.0 i.1) (i ∷ instances) ⊎ Improvement supports bounds
+        → All (λ i. IsSatisfied supports bounds i.0 i.1) instances ⊎ Improvement supports bounds
+        → All (λ i. IsSatisfied supports bounds i.0 i.1) (i ∷ instances) ⊎ Improvement supports bounds
     go (inr better) rest = inr better
     go (inl here) (inr better) = inr better
     go (inl here) (inl rest) = inl (All-cons (λ i. IsSatisfied supports bounds i.0 i.1) i instances here rest)
@@ -97,11 +99,11 @@ pub closed_or_better : (supports : List Support) (bounds : Slot → ℕ) → IsC
 closed_or_better supports bounds = go (all_satisfied_or_better supports bounds (table_instances (length supports)))
   where
     go : All (λ i. IsSatisfied supports bounds i.0 i.1) (table_instances (length supports)) ⊎ Improvement supports bounds
-      → IsClosed supports bounds ⊎ Improvement supports bounds
+        → IsClosed supports bounds ⊎ Improvement supports bounds
     go (inr better) = inr better
     go (inl all) = inl (λ r e slots v premises value.
-      All-contains (λ i. IsSatisfied supports bounds i.0 i.1) (table_instances (length supports)) (r, e) all
-      (table_instances-complete supports r e (applies_from_premises supports r e slots premises)) slots v premises value)
+        All-contains (λ i. IsSatisfied supports bounds i.0 i.1) (table_instances (length supports)) (r, e) all
+        (table_instances-complete supports r e (applies_from_premises supports r e slots premises)) slots v premises value)
 
 -- whether two slots are one
 same_side : Side → Side → Bool
@@ -187,8 +189,10 @@ slack-replaced bounds at v slots limit better here =
   where
     drop_here : room at.0 v < room at.0 (bounds at)
     drop_here = less_room at.0 v (bounds at) limit better
+
     less : room at.0 (replaced bounds at v at) < room at.0 (bounds at)
     less = rw (replaced-same bounds at v) drop_here
+
     no_more : (s : Slot) → room s.0 (replaced bounds at v s) ≤ room s.0 (bounds s)
     no_more s =
         replaced-each (λ t x. room t.0 x ≤ room t.0 (bounds t)) bounds at v s (let h = drop_here in omega arith) (le_refl (room s.0 (bounds s)))

@@ -32,9 +32,9 @@ pub claims_at-moved : (first second : List LineValue) (places : List ℕ)
 claims_at-moved first second [] = refl
 claims_at-moved first second (p ∷ places) =
     let there : slice_get (followed_by first second) (length first + p) ≡ option_map (moved (length first)) (slice_get second p) =
-      slice_get-append_right first (map (moved (length first)) second) p ∙ slice_get-map (moved (length first)) second p in
+    slice_get-append_right first (map (moved (length first)) second) p ∙ slice_get-map (moved (length first)) second p in
     let here : option_map (λ (l : LineValue). l.claim) (slice_get (followed_by first second) (length first + p)) ≡ option_map (λ l. l.claim) (slice_get second p) =
-      ap (option_map (λ (l : LineValue). l.claim)) there ∙ claim_of_moved (length first) (slice_get second p) in
+    ap (option_map (λ (l : LineValue). l.claim)) there ∙ claim_of_moved (length first) (slice_get second p) in
     let rest = claims_at-moved first second places in
     rw (here, rest) refl
 
@@ -56,9 +56,9 @@ within-moved first second places within =
     All-map (λ p. p < length (followed_by first second)) (λ p. length first + p) places
     (All-weaker (λ p. p < length second) (λ p. length first + p < length (followed_by first second))
     (λ p below.
-      let both = length-append first (map (moved (length first)) second) in
-      let last = length-map second (moved (length first)) in
-      omega arith)
+    let both = length-append first (map (moved (length first)) second) in
+    let last = length-map second (moved (length first)) in
+    omega arith)
     places within)
 
 -- a line of the second derivation follows from the lines before it, moved
@@ -77,14 +77,15 @@ pub derivation-followed_by : (supports : List Support) (first second : List Line
 derivation-followed_by supports first second derivation other i line is = go (slice_get-append_cases first (map (moved (length first)) second) i line is)
   where
     moved_line : (j : ℕ) (at : Option LineValue) → slice_get second j ≡ at → option_map (moved (length first)) at ≡ Some line
-      → Follows supports (take (length first + j) (followed_by first second)) line
+        → Follows supports (take (length first + j) (followed_by first second)) line
     moved_line j None at is = absurd (none-some line is)
     moved_line j (Some original) at is =
         subst (λ (l : LineValue). Follows supports (take (length first + j) (followed_by first second)) l) (same_Some (moved (length first) original) line is)
         (subst (λ (before : List LineValue). Follows supports before (moved (length first) original)) (sym (take-past first second j))
         (follows-moved supports first (take j second) original (other j original at)))
+
     go : ((i < length first) × (slice_get first i ≡ Some line)) ⊎ ((j : ℕ) × (i ≡ length first + j) × (slice_get (map (moved (length first)) second) j ≡ Some line))
-      → Follows supports (take i (followed_by first second)) line
+        → Follows supports (take i (followed_by first second)) line
     go (inl here) =
         let same : take i (followed_by first second) ≡ take i first = take-append-le i first (map (moved (length first)) second) (omega arith) in
         subst (λ (before : List LineValue). Follows supports before line) (sym same) (derivation i line here.1)
@@ -108,14 +109,15 @@ gathered-cons supports c claims one rest = record {
   derivation = derivation-followed_by supports first rest.lines one.derivation rest.derivation;
   places = length one.before ∷ map (λ p. length first + p) rest.places;
   within =
-    All-cons (λ p. p < length (followed_by first rest.lines)) (length one.before) (map (λ p. length first + p) rest.places)
-    (omega (arith, length-append first (map (moved (length first)) rest.lines), length-append one.before (one.last ∷ [])))
-    (within-moved first rest.lines rest.places rest.within);
+      All-cons (λ p. p < length (followed_by first rest.lines)) (length one.before) (map (λ p. length first + p) rest.places)
+      (omega (arith, length-append first (map (moved (length first)) rest.lines), length-append one.before (one.last ∷ [])))
+      (within-moved first rest.lines rest.places rest.within);
   claims_are = rw (last, claims_at-moved first rest.lines rest.places, rest.claims_are) (ap (λ (x : Claim). x ∷ claims) one.claim);
 }
   where
     first : List LineValue
     first = one.before ++ one.last ∷ []
+
     last : slice_get (followed_by first rest.lines) (length one.before) ≡ Some one.last
     last =
         slice_get-append_left first (map (moved (length first)) rest.lines) (length one.before)

@@ -10,8 +10,8 @@ use Rattle.ct_rules.specs.declared.rule.Rule.TheVariants.{L10, M10}
 use Rattle.ct_rules.specs.declared.support.Support.{Support}
 use Rattle.ct_rules.specs.Support.{size_at}
 use Rattle.ct_rules.specs.Rule.{rule_side, cited, has_weight, in_range, premises_at, formula, within_limit, applies, premises_of, value_of}
-use Rattle.ct_rules.specs.Slot.{Slot, slot_of}
-use Rattle.ct_rules.specs.Derivation.{LineValue, claims_at, Follows, IsDerivation, IsDerived}
+use Rattle.ct_rules.specs.Slot.{Slot, slot_of, claim_at, IsNoBetter}
+use Rattle.ct_rules.specs.Derivation.{LineValue, claims_at, Follows, IsDerivation, IsDerived, IsBest}
 use Rattle.ct_rules.proofs.Derivations.{slice_get-append_left}
 
 -- a rule that rests on something at an entry is defined there
@@ -96,3 +96,7 @@ derived_over_more supports more c derived = record {
   derivation = derivation_over_more supports more (derived.before ++ derived.last ∷ []) derived.derivation;
   claim = derived.claim;
 }
+
+-- so a best value over more supports is at least as good
+pub best_over_more : (supports more : List Support) (s : Slot) (u v : ℕ) → IsBest supports s u → IsBest (supports ++ more) s v → IsNoBetter s.0 u v
+best_over_more supports more s u v best over = over.none_better u (derived_over_more supports more (claim_at s u) best.derived)

@@ -21,7 +21,7 @@ pub Contains-range_with_len : (low count i : ℕ) → low ≤ i → i < low + co
 Contains-range_with_len low count i h k = (
   i - low,
   omega (arith, length-range_with_len low count),
-  omega (arith, get_or-range_with_len low count (i - low) i (omega arith))
+  omega (arith, get_or-range_with_len low count (i - low) i (omega arith)),
 )
 
 -- what stands in a list that is put together from others stands in it

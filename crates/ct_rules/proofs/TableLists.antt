@@ -48,6 +48,7 @@ entries_to-complete limit e long far weight =
   where
     with_distance : ℕ → ℕ → List Entry
     with_distance n d = map (λ w. record { n = n; d = d; w = w }) (weights_to limit)
+
     with_length : ℕ → List Entry
     with_length n = flat_map (with_distance n) (up_to limit)
 
