@@ -1,5 +1,5 @@
 -- True bounds to which no rule gives anything better are best possible; and there is one best value.
-use Rattle.std.proofs.Common.{◌≡◌, ℕ, ◌≤◌, List, [], ◌∷◌, length, take, map, All, slice_get, Some, refl, sym, ap, ◌∙◌, subst, arith}
+use Rattle.std.proofs.Common.{◌≡◌, ℕ, List, [], ◌∷◌, map, All, Some, refl, sym, ap, ◌∙◌, subst, arith}
 use Rattle.std.proofs.lemmas.List.Elements.{All-nil, All-cons, All-head, All-tail}
 use Rattle.ct_codes.specs.declared.entry.Entry.{Entry}
 use Rattle.ct_codes.specs.declared.claim.Claim.{Claim}
@@ -10,9 +10,9 @@ use Rattle.ct_codes.specs.Entry.{IsEntry}
 use Rattle.ct_rules.specs.declared.rule.Rule.{Rule}
 use Rattle.ct_rules.specs.declared.support.Support.{Support}
 use Rattle.ct_rules.specs.Support.{AllStand}
-use Rattle.ct_rules.specs.Rule.{rule_side, premises_of, value_of}
+use Rattle.ct_rules.specs.Rule.{rule_side, value_of}
 use Rattle.ct_rules.specs.Slot.{Slot, slot_of, claim_at, IsNoBetter, AreNoBetter}
-use Rattle.ct_rules.specs.Derivation.{LineValue, claims_at, Follows, IsDerivation, IsDerived, IsBest}
+use Rattle.ct_rules.specs.Derivation.{LineValue, claims_at, Follows, IsDerived, IsBest}
 use Rattle.ct_rules.specs.Closed.{AreTrue, IsClosed}
 use Rattle.ct_rules.proofs.RuleLaws.{premises_in_table, premises_on_side, value_is_monotone}
 use Rattle.ct_rules.proofs.Derivations.{each_derived, claim_of_line}
@@ -35,7 +35,8 @@ pub slots_of_claims : (bounds : Slot → ℕ) (slots : List Slot) → map slot_o
 slots_of_claims bounds [] = refl
 slots_of_claims bounds (s ∷ slots) = ap (λ (rest : List Slot). s ∷ rest) (slots_of_claims bounds slots)
 
-pub values_of_claims : (bounds : Slot → ℕ) (slots : List Slot) → map (λ c. c.value) (claims_of bounds slots) ≡ map bounds slots
+pub values_of_claims : (bounds : Slot → ℕ) (slots : List Slot)
+    → map (λ c. c.value) (claims_of bounds slots) ≡ map bounds slots
 values_of_claims bounds [] = refl
 values_of_claims bounds (s ∷ slots) = ap (λ (rest : List ℕ). bounds s ∷ rest) (values_of_claims bounds slots)
 
@@ -53,18 +54,24 @@ abbrev pub IsWithin : (Slot → ℕ) → Claim → Type 0
 IsWithin bounds c = IsNoBetter c.side c.value (bounds (slot_of c))
 
 -- claims of one side, none better than what stands, have values that are no better
-values_within : (side : Side) (bounds : Slot → ℕ) (claims : List Claim) → All (λ s. s.0 ≡ side) (map slot_of claims) → All (IsWithin bounds) claims
+values_within : (side : Side) (bounds : Slot → ℕ) (claims : List Claim) → All (λ s. s.0 ≡ side) (map slot_of claims)
+    → All (IsWithin bounds) claims
     → AreNoBetter side (map (λ c. c.value) claims) (map bounds (map slot_of claims))
 values_within side bounds [] sides within = tt
-values_within side bounds (c ∷ claims) sides within = (
-  subst (λ (s : Side). IsNoBetter s c.value (bounds (slot_of c))) (All-head (λ s. s.0 ≡ side) (slot_of c) (map slot_of claims) sides)
-      (All-head (IsWithin bounds) c claims within),
-  values_within side bounds claims (All-tail (λ s. s.0 ≡ side) (slot_of c) (map slot_of claims) sides) (All-tail (IsWithin bounds) c claims within),
-)
+values_within side bounds (c ∷ claims) sides within =
+    let here : c.side ≡ side = All-head (λ s. s.0 ≡ side) (slot_of c) (map slot_of claims) sides in
+    let others = All-tail (λ s. s.0 ≡ side) (slot_of c) (map slot_of claims) sides in
+    let first = All-head (IsWithin bounds) c claims within in
+    let rest = All-tail (IsWithin bounds) c claims within in (
+      subst (λ (s : Side). IsNoBetter s c.value (bounds (slot_of c))) here first,
+      values_within side bounds claims others rest,
+    )
 
 -- a line is within closed true bounds where the lines that it rests on are
-line_within : (supports : List Support) (bounds : Slot → ℕ) (before : List LineValue) (line : LineValue) → AllStand supports → AreTrue bounds
-    → IsClosed supports bounds → Follows supports before line → All (IsWithin bounds) (claims_at before line.from) → IsWithin bounds line.claim
+line_within : (supports : List Support) (bounds : Slot → ℕ) (before : List LineValue) (line : LineValue)
+    → AllStand supports → AreTrue bounds
+    → IsClosed supports bounds → Follows supports before line → All (IsWithin bounds) (claims_at before line.from)
+    → IsWithin bounds line.claim
 line_within supports bounds before line stand true_bounds closed follows within =
     claim_of_line (IsWithin bounds) supports before line follows
     (no_better-trans (rule_side r) line.claim.value better.0 (bounds (rule_side r, e)) better.2
@@ -82,27 +89,31 @@ line_within supports bounds before line stand true_bounds closed follows within 
     slots : List Slot
     slots = map slot_of claims
 
-    better : (v : ℕ) × (value_of supports r e (map (λ c. c.value) (claims_of bounds slots)) ≡ Some v) × IsNoBetter (rule_side r) line.claim.value v
+    better : (v : ℕ) × (value_of supports r e (map (λ c. c.value) (claims_of bounds slots)) ≡ Some v)
+        × IsNoBetter (rule_side r) line.claim.value v
     better =
         value_is_monotone supports r e (claims_of bounds slots) (map (λ c. c.value) claims) line.claim.value stand
         (follows.premises ∙ ap Some (sym (slots_of_claims bounds slots)))
         (All-claims_of IsTrueClaim bounds slots (premises_in_table supports r e slots follows.premises) true_bounds)
-        (rw values_of_claims (values_within (rule_side r) bounds claims (premises_on_side supports r e slots follows.premises) within))
+        (rw values_of_claims
+        (values_within (rule_side r) bounds claims (premises_on_side supports r e slots follows.premises) within))
         follows.value
 
 -- over supports that stand, nothing better than closed true bounds is derived
-pub closed_bounds_are_best_possible : (supports : List Support) (bounds : Slot → ℕ) → AllStand supports → AreTrue bounds → IsClosed supports bounds
+pub closed_bounds_are_best_possible : (supports : List Support) (bounds : Slot → ℕ) → AllStand supports
+    → AreTrue bounds → IsClosed supports bounds
     → (c : Claim) → IsDerived supports c → IsNoBetter c.side c.value (bounds (slot_of c))
 closed_bounds_are_best_possible supports bounds stand true_bounds closed =
     each_derived (IsWithin bounds) supports
     (λ before line follows within. line_within supports bounds before line stand true_bounds closed follows within)
 
 -- a closed true bound that is derived is best
-pub closed_bound_is_best : (supports : List Support) (bounds : Slot → ℕ) (s : Slot) → AllStand supports → AreTrue bounds → IsClosed supports bounds
+pub closed_bound_is_best : (supports : List Support) (bounds : Slot → ℕ) (s : Slot) → AllStand supports
+    → AreTrue bounds → IsClosed supports bounds
     → IsDerived supports (claim_at s (bounds s)) → IsBest supports s (bounds s)
 closed_bound_is_best supports bounds s stand true_bounds closed derived = record {
   derived = derived;
-  none_better = λ u better. closed_bounds_are_best_possible supports bounds stand true_bounds closed (claim_at s u) better;
+  none_better = λ u. closed_bounds_are_best_possible supports bounds stand true_bounds closed (claim_at s u);
 }
 
 -- there is at most one best value

@@ -1,25 +1,23 @@
 -- Bounds to which a rule gives something better, and the bounds with that in their place.
-use Rattle.std.proofs.Common.{◌≡◌, ℕ, zero, suc, ◌+◌, ◌-◌, ◌<◌, ◌≤◌, Bool, true, false, ◌&&◌, if◌then◌else◌, List, [], ◌∷◌, length, map, All, Contains, sum_by, Option, Some, None, refl, sym, ap, ◌∙◌, subst, inl, inr, ◌⊎◌, le_refl, arith}
+use Rattle.std.proofs.Common.{◌≡◌, ℕ, zero, suc, ◌-◌, ◌<◌, ◌≤◌, Bool, true, false, ◌&&◌, if◌then◌else◌, List, [], ◌∷◌, length, map, All, Contains, sum_by, Option, Some, None, refl, sym, ap, ◌∙◌, subst, inl, inr, ◌⊎◌, le_refl, arith}
 use Rattle.std.proofs.lemmas.Bool.{and_parts, and_from, cases_lt}
 use Rattle.std.proofs.lemmas.List.Elements.{All-nil, All-cons, All-contains}
 use Rattle.std.proofs.lemmas.List.Sums.{sum_by-cons, sum_by-le-sum_by}
 use Rattle.std.proofs.lemmas.Option.{none-some, same_Some}
 use Rattle.ct_words.specs.declared.limits.TheConstants.{MAX_BOUND}
 use Rattle.ct_codes.specs.declared.entry.Entry.{Entry}
-use Rattle.ct_codes.specs.declared.claim.Claim.{Claim}
 use Rattle.ct_codes.specs.declared.claim.Side.{Side}
 use Rattle.ct_codes.specs.declared.claim.Side.TheVariants.{Lower, Upper}
-use Rattle.ct_codes.specs.Claim.{IsTrueClaim}
 use Rattle.ct_codes.specs.Entry.{IsEntry, same_entry}
 use Rattle.ct_codes.proofs.EntryLemmas.{same_entry_is, same_entry-self}
 use Rattle.ct_rules.specs.declared.rule.Rule.{Rule}
 use Rattle.ct_rules.specs.declared.support.Support.{Support}
 use Rattle.ct_rules.specs.Support.{AllStand}
 use Rattle.ct_rules.specs.Rule.{rule_side, premises_of, value_of}
-use Rattle.ct_rules.specs.Slot.{Slot, slot_of, claim_at, IsNoBetter}
+use Rattle.ct_rules.specs.Slot.{Slot, claim_at, IsNoBetter}
 use Rattle.ct_rules.specs.Derivation.{IsDerived}
 use Rattle.ct_rules.specs.Closed.{AreTrue, IsSatisfied, IsClosed}
-use Rattle.ct_rules.proofs.RuleLaws.{rule_entry, premises_in_table}
+use Rattle.ct_rules.proofs.RuleLaws.{premises_in_table}
 use Rattle.ct_rules.proofs.Derivations.{derived_claims_are_true}
 use Rattle.ct_rules.proofs.MoreSupports.{applies_from_premises}
 use Rattle.ct_rules.proofs.JoinedDerivations.{derived_by_rule}
@@ -58,25 +56,39 @@ satisfied_or_better : (supports : List Support) (bounds : Slot → ℕ) (r : Rul
     → IsSatisfied supports bounds r e ⊎ Improvement supports bounds
 satisfied_or_better supports bounds r e = by_premises (premises_of supports r e) refl
   where
-    by_comparison : (slots : List Slot) (v : ℕ) → premises_of supports r e ≡ Some slots → value_of supports r e (map bounds slots) ≡ Some v
+    value_over : (slots others : List Slot) → premises_of supports r e ≡ Some slots
+        → premises_of supports r e ≡ Some others
+        → value_of supports r e (map bounds slots) ≡ value_of supports r e (map bounds others)
+    value_over slots others premises there =
+        ap (λ (all : List Slot). value_of supports r e (map bounds all)) (same_Some slots others (sym premises ∙ there))
+
+    by_comparison : (slots : List Slot) (v : ℕ) → premises_of supports r e ≡ Some slots
+        → value_of supports r e (map bounds slots) ≡ Some v
         → IsNoBetter (rule_side r) v (bounds (rule_side r, e)) ⊎ IsBetter (rule_side r) v (bounds (rule_side r, e))
         → IsSatisfied supports bounds r e ⊎ Improvement supports bounds
     by_comparison slots v premises value (inl worse) = inl (λ others u there given.
-        let same : slots ≡ others = same_Some slots others (sym premises ∙ there) in
-        let same_value : v ≡ u = same_Some v u (sym value ∙ (ap (λ (all : List Slot). value_of supports r e (map bounds all)) same ∙ given)) in
-        subst (λ (x : ℕ). IsNoBetter (rule_side r) x (bounds (rule_side r, e))) same_value worse)
+        let same : v ≡ u = same_Some v u (sym value ∙ value_over slots others premises there ∙ given) in
+        subst (λ (x : ℕ). IsNoBetter (rule_side r) x (bounds (rule_side r, e))) same worse)
     by_comparison slots v premises value (inr better) =
-        inr (record { rule = r; entry = e; slots = slots; value = v; premises = premises; value_is = value; better = better })
+        inr (record {
+          rule = r;
+          entry = e;
+          slots = slots;
+          value = v;
+          premises = premises;
+          value_is = value;
+          better = better;
+        })
 
-    by_value : (slots : List Slot) (o : Option ℕ) → premises_of supports r e ≡ Some slots → value_of supports r e (map bounds slots) ≡ o
-        → IsSatisfied supports bounds r e ⊎ Improvement supports bounds
+    by_value : (slots : List Slot) (o : Option ℕ) → premises_of supports r e ≡ Some slots
+        → value_of supports r e (map bounds slots) ≡ o → IsSatisfied supports bounds r e ⊎ Improvement supports bounds
     by_value slots None premises value = inl (λ others u there given.
-        let same : slots ≡ others = same_Some slots others (sym premises ∙ there) in
-        absurd (none-some u (sym value ∙ (ap (λ (all : List Slot). value_of supports r e (map bounds all)) same ∙ given))))
+        absurd (none-some u (sym value ∙ value_over slots others premises there ∙ given)))
     by_value slots (Some v) premises value =
         by_comparison slots v premises value (better_or_not (rule_side r) v (bounds (rule_side r, e)))
 
-    by_premises : (o : Option (List Slot)) → premises_of supports r e ≡ o → IsSatisfied supports bounds r e ⊎ Improvement supports bounds
+    by_premises : (o : Option (List Slot)) → premises_of supports r e ≡ o
+        → IsSatisfied supports bounds r e ⊎ Improvement supports bounds
     by_premises None premises = inl (λ others u there given. absurd (none-some others (sym premises ∙ there)))
     by_premises (Some slots) premises = by_value slots (value_of supports r e (map bounds slots)) premises refl
 
@@ -95,15 +107,18 @@ all_satisfied_or_better supports bounds (i ∷ instances) =
     go (inl here) (inl rest) = inl (All-cons (λ i. IsSatisfied supports bounds i.0 i.1) i instances here rest)
 
 -- bounds are closed, or some rule gives something better
-pub closed_or_better : (supports : List Support) (bounds : Slot → ℕ) → IsClosed supports bounds ⊎ Improvement supports bounds
+pub closed_or_better : (supports : List Support) (bounds : Slot → ℕ)
+    → IsClosed supports bounds ⊎ Improvement supports bounds
 closed_or_better supports bounds = go (all_satisfied_or_better supports bounds (table_instances (length supports)))
   where
-    go : All (λ i. IsSatisfied supports bounds i.0 i.1) (table_instances (length supports)) ⊎ Improvement supports bounds
+    go : All (λ i. IsSatisfied supports bounds i.0 i.1) (table_instances (length supports))
+        ⊎ Improvement supports bounds
         → IsClosed supports bounds ⊎ Improvement supports bounds
     go (inr better) = inr better
     go (inl all) = inl (λ r e slots v premises value.
         All-contains (λ i. IsSatisfied supports bounds i.0 i.1) (table_instances (length supports)) (r, e) all
-        (table_instances-complete supports r e (applies_from_premises supports r e slots premises)) slots v premises value)
+        (table_instances-complete supports r e (applies_from_premises supports r e slots premises))
+        slots v premises value)
 
 -- whether two slots are one
 same_side : Side → Side → Bool
@@ -147,7 +162,8 @@ unfolding replaced
 replaced-same bounds at v = rw (same_slot-self at) refl
 
 -- what holds of v at its slot and of the other bounds at theirs holds of the new bounds
-replaced-each : (P : Slot → ℕ → Type 0) (bounds : Slot → ℕ) (at : Slot) (v : ℕ) (s : Slot) → P at v → P s (bounds s) → P s (replaced bounds at v s)
+replaced-each : (P : Slot → ℕ → Type 0) (bounds : Slot → ℕ) (at : Slot) (v : ℕ) (s : Slot) → P at v → P s (bounds s)
+    → P s (replaced bounds at v s)
 unfolding replaced
 replaced-each P bounds at v s new old = go (same_slot s at) refl
   where
@@ -169,7 +185,8 @@ less_room Lower u v limit better = omega arith
 less_room Upper u v limit better = better
 
 -- a sum of terms none of which is greater, and one of which is less, is less
-sum_by-lt : {X : Type 0} (f g : X → ℕ) (xs : List X) (x : X) → ((y : X) → f y ≤ g y) → f x < g x → Contains xs x → sum_by f xs < sum_by g xs
+sum_by-lt : {X : Type 0} (f g : X → ℕ) (xs : List X) (x : X) → ((y : X) → f y ≤ g y) → f x < g x → Contains xs x
+    → sum_by f xs < sum_by g xs
 sum_by-lt f g [] x all less (k, within, is) = absurd (omega arith)
 sum_by-lt f g (y ∷ ys) x all less (zero, within, is) =
     let here : f y < g y = subst (λ z. f z < g z) (sym is) less in
@@ -181,7 +198,8 @@ sum_by-lt f g (y ∷ ys) x all less (suc k, within, is) =
     omega (arith, sum_by-cons f y ys, sum_by-cons g y ys)
 
 -- a better bound leaves less slack
-pub slack-replaced : (bounds : Slot → ℕ) (at : Slot) (v : ℕ) (slots : List Slot) → v ≤ MAX_BOUND → IsBetter at.0 v (bounds at) → Contains slots at
+pub slack-replaced : (bounds : Slot → ℕ) (at : Slot) (v : ℕ) (slots : List Slot) → v ≤ MAX_BOUND
+    → IsBetter at.0 v (bounds at) → Contains slots at
     → slack (replaced bounds at v) slots < slack bounds slots
 unfolding slack
 slack-replaced bounds at v slots limit better here =
@@ -195,19 +213,22 @@ slack-replaced bounds at v slots limit better here =
 
     no_more : (s : Slot) → room s.0 (replaced bounds at v s) ≤ room s.0 (bounds s)
     no_more s =
-        replaced-each (λ t x. room t.0 x ≤ room t.0 (bounds t)) bounds at v s (let h = drop_here in omega arith) (le_refl (room s.0 (bounds s)))
+        replaced-each (λ t x. room t.0 x ≤ room t.0 (bounds t)) bounds at v s
+        (let h = drop_here in omega arith) (le_refl (room s.0 (bounds s)))
 
 -- each bound of a slot of the table is derived
 abbrev pub AreDerived : List Support → (Slot → ℕ) → Type 0
 AreDerived supports bounds = (s : Slot) → IsEntry s.1 → IsDerived supports (claim_at s (bounds s))
 
 -- derived bounds are true
-pub AreTrue-from_derived : (supports : List Support) (bounds : Slot → ℕ) → AllStand supports → AreDerived supports bounds → AreTrue bounds
+pub AreTrue-from_derived : (supports : List Support) (bounds : Slot → ℕ) → AllStand supports
+    → AreDerived supports bounds → AreTrue bounds
 AreTrue-from_derived supports bounds stand derived s entry =
     derived_claims_are_true supports stand (claim_at s (bounds s)) (derived s entry)
 
 -- what is better is derived
-pub improvement_is_derived : (supports : List Support) (bounds : Slot → ℕ) → AreDerived supports bounds → (better : Improvement supports bounds)
+pub improvement_is_derived : (supports : List Support) (bounds : Slot → ℕ) → AreDerived supports bounds
+    → (better : Improvement supports bounds)
     → IsDerived supports (claim_at (rule_side better.rule, better.entry) better.value)
 improvement_is_derived supports bounds derived better =
     derived_by_rule supports better.rule better.entry (claims_of bounds better.slots) better.value

@@ -1,4 +1,5 @@
 pub mod RuleLaws
+pub mod Places
 pub mod Derivations
 pub mod MoreSupports
 pub mod JoinedDerivations

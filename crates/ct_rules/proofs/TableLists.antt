@@ -1,12 +1,11 @@
 -- Lists that have each entry of the table, each slot, and each rule with an entry where it is defined.
-use Rattle.std.proofs.Common.{◌≡◌, ℕ, ◌+◌, ◌<◌, ◌≤◌, true, List, [], ◌∷◌, ◌++◌, length, map, Contains, flat_map, Option, Some, None, IfSome, refl, arith}
+use Rattle.std.proofs.Common.{◌≡◌, ℕ, ◌+◌, ◌≤◌, true, List, [], ◌∷◌, ◌++◌, length, map, Contains, flat_map, Option, Some, None, IfSome, refl, arith}
 use Rattle.std.specs.List.{range_with_len}
 use Rattle.std.proofs.lemmas.Bool.{and_parts}
 use Rattle.std.proofs.lemmas.List.Elements.{Contains-append_left, Contains-append_right}
 use Rattle.ct_words.specs.declared.limits.TheConstants.{MAX_N}
 use Rattle.ct_counting.proofs.Words.{Contains-map}
 use Rattle.ct_codes.specs.declared.entry.Entry.{Entry}
-use Rattle.ct_codes.specs.declared.claim.Side.{Side}
 use Rattle.ct_codes.specs.declared.claim.Side.TheVariants.{Lower, Upper}
 use Rattle.ct_codes.specs.Entry.{IsEntry, is_entry}
 use Rattle.ct_codes.proofs.EntryLemmas.{WeightFits, entry_limits}
@@ -33,18 +32,23 @@ weights_to-complete : (limit : ℕ) (w : Option ℕ) → IfSome w (λ k. k ≤ l
 unfolding weights_to
 weights_to-complete limit None h = (0, omega arith, refl)
 weights_to-complete limit (Some k) h =
-    Contains-append_right (None ∷ []) (map Some (up_to limit)) (Some k) (Contains-map Some (up_to limit) k (up_to-complete limit k h))
+    Contains-append_right (None ∷ []) (map Some (up_to limit)) (Some k)
+    (Contains-map Some (up_to limit) k (up_to-complete limit k h))
 
 -- all entries whose numbers are at most a limit
 entries_to : ℕ → List Entry
-entries_to limit = flat_map (λ n. flat_map (λ d. map (λ w. record { n = n; d = d; w = w }) (weights_to limit)) (up_to limit)) (up_to limit)
+entries_to limit =
+    flat_map (λ n. flat_map (λ d. map (λ w. record { n = n; d = d; w = w }) (weights_to limit)) (up_to limit))
+    (up_to limit)
 
-entries_to-complete : (limit : ℕ) (e : Entry) → e.n ≤ limit → e.d ≤ limit → IfSome e.w (λ k. k ≤ limit) → Contains (entries_to limit) e
+entries_to-complete : (limit : ℕ) (e : Entry) → e.n ≤ limit → e.d ≤ limit → IfSome e.w (λ k. k ≤ limit)
+    → Contains (entries_to limit) e
 unfolding entries_to
 entries_to-complete limit e long far weight =
     Contains-flat_map with_length (up_to limit) e.n e (up_to-complete limit e.n long)
     (Contains-flat_map (with_distance e.n) (up_to limit) e.d e (up_to-complete limit e.d far)
-    (Contains-map (λ w. record { n = e.n; d = e.d; w = w }) (weights_to limit) e.w (weights_to-complete limit e.w weight)))
+    (Contains-map (λ w. record { n = e.n; d = e.d; w = w }) (weights_to limit) e.w
+    (weights_to-complete limit e.w weight)))
   where
     with_distance : ℕ → ℕ → List Entry
     with_distance n d = map (λ w. record { n = n; d = d; w = w }) (weights_to limit)

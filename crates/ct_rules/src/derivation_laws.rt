@@ -7,7 +7,7 @@ ghost use Rattle.ct_codes.specs.declared.entry.Entry.{Entry};
 ghost use Rattle.ct_codes.specs.Claim.{IsTrueClaim};
 ghost use Rattle.ct_codes.specs.Entry.{IsEntry, unrestricted, constant_weight};
 ghost use Rattle.ct_rules.specs.declared.rule.Rule.{Rule};
-ghost use Rattle.ct_rules.specs.declared.rule.Rule.TheVariants.{L1, L6, L8, L10, L11, U0};
+ghost use Rattle.ct_rules.specs.declared.rule.Rule.TheVariants.{L1, L6, L8, L10, L11};
 ghost use Rattle.ct_rules.specs.declared.support.Support.{Support};
 ghost use Rattle.ct_rules.specs.declared.support.Support.TheVariants.{Size};
 ghost use Rattle.ct_rules.specs.Closed.{AreTrue, IsClosed};
@@ -24,8 +24,8 @@ pub fn derived_claims_are_true()
         IsDerivation supports lines → All (λ line. IsTrueClaim line.claim) lines }
 {}
 
-/// A derivation grows by a line that follows from its lines, and is one up to each of them. Each of its lines is derived;
-/// so is what a rule gives at an entry, where each premise of it is derived, whatever the derivations.
+/// A derivation grows by a line that follows from its lines, and is one up to each of them. Each of its lines is
+/// derived; so is what a rule gives at an entry, where each premise of it is derived, whatever the derivations.
 pub fn derivations_grow_by_rules()
     ensures empty { (supports : List Support) → IsDerivation supports [] }
     ensures grown { (supports : List Support) (lines : List LineValue) (line : LineValue) →
@@ -40,7 +40,7 @@ pub fn derivations_grow_by_rules()
         IsDerived supports (claim_at (rule_side r, e) v) }
 {}
 
-/// A line that names its own place or a later one follows from nothing, and the rule, the entry and the places of a line
+/// A line that names its own place or a later one does not follow, and the rule, the entry and the places of a line
 /// leave it one claim.
 pub fn lines_follow_from_earlier_lines()
     ensures earlier { (supports : List Support) (before : List LineValue) (line : LineValue) (place : ℕ) →

@@ -73,11 +73,13 @@ returns-clause-no_premise c follows = absurd cc
 
 pub returns-clause-other_premise : goal.returns-clause-other_premise
 unfolding in_range premises_at first_distance
-returns-clause-other_premise c follows = let same : ◌≡◌ {A = ℕ} 4 3 = ap first_distance follows.premises in absurd (omega arith)
+returns-clause-other_premise c follows =
+    let same : ◌≡◌ {A = ℕ} 4 3 = ap first_distance follows.premises in absurd (omega arith)
 
 pub returns-clause-other_order : goal.returns-clause-other_order
 unfolding in_range premises_at first_distance
-returns-clause-other_order c follows = let same : ◌≡◌ {A = ℕ} 3 5 = ap first_distance follows.premises in absurd (omega arith)
+returns-clause-other_order c follows =
+    let same : ◌≡◌ {A = ℕ} 3 5 = ap first_distance follows.premises in absurd (omega arith)
 
 pub returns-clause-smaller_value : goal.returns-clause-smaller_value
 unfolding in_range premises_at formula
