@@ -16,13 +16,13 @@ use Rattle.ct_rules.specs.Support.{AllStand}
 use Rattle.ct_rules.specs.Rule.{rule_side, cited, in_range, premises_at, formula, within_limit, applies}
 use Rattle.ct_rules.specs.Slot.{Slot, claim_at}
 use Rattle.ct_rules.specs.Derivation.{IsDerived, IsBest}
-use Rattle.ct_rules.specs.Closed.{IsClosed}
+use Rattle.ct_rules.specs.Closed.{AreTrue, IsClosed}
 use Rattle.ct_rules.proofs.RuleLaws.{rule_entry}
 use Rattle.ct_rules.proofs.Derivations.{derived_claims_are_true}
 use Rattle.ct_rules.proofs.JoinedDerivations.{derived_by_rule}
-use Rattle.ct_rules.proofs.ClosedBounds.{closed_bound_is_best}
+use Rattle.ct_rules.proofs.ClosedBounds.{AreDerived, AreTrue-from_derived, closed_bound_is_best}
 use Rattle.ct_rules.proofs.TableLists.{table_slots, table_slots-complete}
-use Rattle.ct_rules.proofs.Improvements.{Improvement, closed_or_better, replaced, slack, slack-replaced, AreDerived, AreTrue-from_derived, improvement_is_derived, AreDerived-replaced}
+use Rattle.ct_rules.proofs.Improvements.{Improvement, closed_or_better, replaced, slack, slack-replaced, improvement_is_derived, AreDerived-replaced}
 
 -- how many words there are of the length, or of the length and the weight
 word_count : ℕ → Option ℕ → ℕ
@@ -111,6 +111,13 @@ pub closed_bounds_exist : (supports : List Support) → AllStand supports → Cl
 closed_bounds_exist supports stand =
     closed_from (suc (slack first_bounds table_slots)) supports first_bounds stand (first_bounds_are_derived supports)
     (omega arith)
+
+-- so there are closed true bounds
+pub closed_true_bounds_exist : (supports : List Support) → AllStand supports
+    → (bounds : Slot → ℕ) × AreTrue bounds × IsClosed supports bounds
+closed_true_bounds_exist supports stand =
+    let all = closed_bounds_exist supports stand in
+    (all.bounds, AreTrue-from_derived supports all.bounds stand all.derived, all.closed)
 
 -- each slot of the table has a best value
 pub best_exists : (supports : List Support) (s : Slot) → AllStand supports → IsEntry s.1 → (v : ℕ) × IsBest supports s v

@@ -10,12 +10,13 @@ use Rattle.ct_codes.specs.Entry.{IsEntry}
 use Rattle.ct_rules.specs.declared.rule.Rule.{Rule}
 use Rattle.ct_rules.specs.declared.support.Support.{Support}
 use Rattle.ct_rules.specs.Support.{AllStand}
-use Rattle.ct_rules.specs.Rule.{rule_side, value_of}
+use Rattle.ct_rules.specs.Rule.{rule_side, premises_of, value_of}
 use Rattle.ct_rules.specs.Slot.{Slot, slot_of, claim_at, IsNoBetter, AreNoBetter}
 use Rattle.ct_rules.specs.Derivation.{LineValue, claims_at, Follows, IsDerived, IsBest}
 use Rattle.ct_rules.specs.Closed.{AreTrue, IsClosed}
-use Rattle.ct_rules.proofs.RuleLaws.{premises_in_table, premises_on_side, value_is_monotone}
-use Rattle.ct_rules.proofs.Derivations.{each_derived, claim_of_line}
+use Rattle.ct_rules.proofs.RuleLaws.{rule_entry, premises_in_table, premises_on_side, value_is_monotone}
+use Rattle.ct_rules.proofs.Derivations.{each_derived, claim_of_line, derived_claims_are_true}
+use Rattle.ct_rules.proofs.JoinedDerivations.{derived_by_rule}
 
 -- what is no better than what is no better
 pub no_better-trans : (side : Side) (u v w : ℕ) → IsNoBetter side u v → IsNoBetter side v w → IsNoBetter side u w
@@ -48,6 +49,26 @@ All-claims_of P bounds (s ∷ slots) inside each =
     All-cons P (claim_at s (bounds s)) (claims_of bounds slots)
     (each s (All-head (λ t. IsEntry t.1) s slots inside))
     (All-claims_of P bounds slots (All-tail (λ t. IsEntry t.1) s slots inside) each)
+
+-- each bound of a slot of the table is derived
+abbrev pub AreDerived : List Support → (Slot → ℕ) → Type 0
+AreDerived supports bounds = (s : Slot) → IsEntry s.1 → IsDerived supports (claim_at s (bounds s))
+
+-- derived bounds are true
+pub AreTrue-from_derived : (supports : List Support) (bounds : Slot → ℕ) → AllStand supports
+    → AreDerived supports bounds → AreTrue bounds
+AreTrue-from_derived supports bounds stand derived s entry =
+    derived_claims_are_true supports stand (claim_at s (bounds s)) (derived s entry)
+
+-- what a rule gives from derived bounds is derived
+pub derived_from_bounds : (supports : List Support) (bounds : Slot → ℕ) (r : Rule) (e : Entry) (slots : List Slot) (v : ℕ)
+    → AreDerived supports bounds → premises_of supports r e ≡ Some slots
+    → value_of supports r e (map bounds slots) ≡ Some v → IsDerived supports (claim_at (rule_side r, e) v)
+derived_from_bounds supports bounds r e slots v derived premises value =
+    derived_by_rule supports r e (claims_of bounds slots) v
+    (premises ∙ ap Some (sym (slots_of_claims bounds slots)))
+    (All-claims_of (IsDerived supports) bounds slots (premises_in_table supports r e slots premises) derived)
+    (rw values_of_claims value)
 
 -- a claim is no better than what stands at its slot
 abbrev pub IsWithin : (Slot → ℕ) → Claim → Type 0
@@ -115,6 +136,21 @@ closed_bound_is_best supports bounds s stand true_bounds closed derived = record
   derived = derived;
   none_better = λ u. closed_bounds_are_best_possible supports bounds stand true_bounds closed (claim_at s u);
 }
+
+-- each bound of a slot of the table is the best value of its slot
+abbrev pub AreBest : List Support → (Slot → ℕ) → Type 0
+AreBest supports bounds = (s : Slot) → IsEntry s.1 → IsBest supports s (bounds s)
+
+AreDerived-from_best : (supports : List Support) (bounds : Slot → ℕ) → AreBest supports bounds
+    → AreDerived supports bounds
+AreDerived-from_best supports bounds best s entry = (best s entry).derived
+
+-- best values are closed
+pub best_values_are_closed : (supports : List Support) (bounds : Slot → ℕ) → AreBest supports bounds
+    → IsClosed supports bounds
+best_values_are_closed supports bounds best r e slots v premises value =
+    (best (rule_side r, e) (rule_entry supports r e slots premises)).none_better v
+    (derived_from_bounds supports bounds r e slots v (AreDerived-from_best supports bounds best) premises value)
 
 -- there is at most one best value
 pub best_is_one : (supports : List Support) (s : Slot) (u v : ℕ) → IsBest supports s u → IsBest supports s v → u ≡ v

@@ -8,20 +8,16 @@ use Rattle.ct_words.specs.declared.limits.TheConstants.{MAX_BOUND}
 use Rattle.ct_codes.specs.declared.entry.Entry.{Entry}
 use Rattle.ct_codes.specs.declared.claim.Side.{Side}
 use Rattle.ct_codes.specs.declared.claim.Side.TheVariants.{Lower, Upper}
-use Rattle.ct_codes.specs.Entry.{IsEntry, same_entry}
+use Rattle.ct_codes.specs.Entry.{same_entry}
 use Rattle.ct_codes.proofs.EntryLemmas.{same_entry_is, same_entry-self}
 use Rattle.ct_rules.specs.declared.rule.Rule.{Rule}
 use Rattle.ct_rules.specs.declared.support.Support.{Support}
-use Rattle.ct_rules.specs.Support.{AllStand}
 use Rattle.ct_rules.specs.Rule.{rule_side, premises_of, value_of}
 use Rattle.ct_rules.specs.Slot.{Slot, claim_at, IsNoBetter}
 use Rattle.ct_rules.specs.Derivation.{IsDerived}
-use Rattle.ct_rules.specs.Closed.{AreTrue, IsSatisfied, IsClosed}
-use Rattle.ct_rules.proofs.RuleLaws.{premises_in_table}
-use Rattle.ct_rules.proofs.Derivations.{derived_claims_are_true}
+use Rattle.ct_rules.specs.Closed.{IsSatisfied, IsClosed}
 use Rattle.ct_rules.proofs.MoreSupports.{applies_from_premises}
-use Rattle.ct_rules.proofs.JoinedDerivations.{derived_by_rule}
-use Rattle.ct_rules.proofs.ClosedBounds.{claims_of, slots_of_claims, values_of_claims, All-claims_of}
+use Rattle.ct_rules.proofs.ClosedBounds.{AreDerived, derived_from_bounds}
 use Rattle.ct_rules.proofs.TableLists.{Instance, table_instances, table_instances-complete}
 
 -- a bound is better than another: from below greater, from above smaller
@@ -216,26 +212,13 @@ slack-replaced bounds at v slots limit better here =
         replaced-each (λ t x. room t.0 x ≤ room t.0 (bounds t)) bounds at v s
         (let h = drop_here in omega arith) (le_refl (room s.0 (bounds s)))
 
--- each bound of a slot of the table is derived
-abbrev pub AreDerived : List Support → (Slot → ℕ) → Type 0
-AreDerived supports bounds = (s : Slot) → IsEntry s.1 → IsDerived supports (claim_at s (bounds s))
-
--- derived bounds are true
-pub AreTrue-from_derived : (supports : List Support) (bounds : Slot → ℕ) → AllStand supports
-    → AreDerived supports bounds → AreTrue bounds
-AreTrue-from_derived supports bounds stand derived s entry =
-    derived_claims_are_true supports stand (claim_at s (bounds s)) (derived s entry)
-
 -- what is better is derived
 pub improvement_is_derived : (supports : List Support) (bounds : Slot → ℕ) → AreDerived supports bounds
     → (better : Improvement supports bounds)
     → IsDerived supports (claim_at (rule_side better.rule, better.entry) better.value)
 improvement_is_derived supports bounds derived better =
-    derived_by_rule supports better.rule better.entry (claims_of bounds better.slots) better.value
-    (better.premises ∙ ap Some (sym (slots_of_claims bounds better.slots)))
-    (All-claims_of (IsDerived supports) bounds better.slots
-    (premises_in_table supports better.rule better.entry better.slots better.premises) derived)
-    (rw values_of_claims better.value_is)
+    derived_from_bounds supports bounds better.rule better.entry better.slots better.value derived
+    better.premises better.value_is
 
 -- so are the bounds with it in its place
 pub AreDerived-replaced : (supports : List Support) (bounds : Slot → ℕ) (at : Slot) (v : ℕ) → AreDerived supports bounds

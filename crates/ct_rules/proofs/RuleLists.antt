@@ -1,19 +1,21 @@
 -- The list of the rules that can be defined at an entry has each that is defined there.
-use Rattle.std.proofs.Common.{◌≡◌, ℕ, zero, suc, ◌+◌, ◌-◌, ◌<◌, ◌≤◌, nat_le, nat_lt, Bool, true, false, ◌&&◌, List, [], ◌∷◌, length, map, Contains, flat_map, Option, Some, None, refl, ltb-true, leb-true, arith}
+use Rattle.std.proofs.Common.{◌≡◌, ℕ, zero, suc, ◌+◌, ◌-◌, ◌<◌, ◌≤◌, nat_le, nat_lt, Bool, true, false, ◌&&◌, List, [], ◌∷◌, length, map, All, Contains, flat_map, Option, Some, None, refl, ltb-true, leb-true, arith}
 use Rattle.std.specs.List.{range_with_len}
 use Rattle.std.proofs.lemmas.Bool.{and_parts, false≢true}
-use Rattle.std.proofs.lemmas.List.Elements.{Contains-append_left, Contains-append_right}
+use Rattle.std.proofs.lemmas.List.Elements.{All-contains, Contains-append_left, Contains-append_right}
 use Rattle.std.proofs.lemmas.List.FromFn.{length-range_with_len, get_or-range_with_len}
 use Rattle.std.proofs.lemmas.Option.{slice_get_within}
 use Rattle.ct_counting.proofs.Words.{Contains-map}
 use Rattle.ct_codes.specs.declared.entry.Entry.{Entry}
-use Rattle.ct_codes.specs.Entry.{is_entry}
+use Rattle.ct_codes.specs.Entry.{IsEntry, is_entry}
 use Rattle.ct_rules.specs.declared.rule.Rule.{Rule}
 use Rattle.ct_rules.specs.declared.rule.Rule.TheVariants.{L1, L2, L3, L4, L5, L6, L7, L8, L10, L11, M1, M10, U0, V0}
 use Rattle.ct_rules.specs.declared.support.Support.{Support}
 use Rattle.ct_rules.specs.Rule.{cited, in_range, applies}
+use Rattle.ct_rules.specs.Slot.{Slot}
+use Rattle.ct_rules.specs.Closed.{IsSatisfied, IsClosed}
 use Rattle.ct_rules.specs.Inside.Listing.{names_support, plain_rules, side_by_side_rules, fixed_rules, supported_rules, rules_at}
-use Rattle.ct_rules.proofs.MoreSupports.{cited_there}
+use Rattle.ct_rules.proofs.MoreSupports.{cited_there, applies_from_premises}
 
 -- a number between the ends of a range stands in it
 pub Contains-range_with_len : (low count i : ℕ) → low ≤ i → i < low + count → Contains (range_with_len low count) i
@@ -115,3 +117,13 @@ rules_at-complete supports r e h = go (names_support r) refl
     go false is =
         Contains-append_left (fixed_rules e) (supported_rules (length supports) e) r
         (fixed_rules-complete supports r e is h)
+
+-- bounds are closed where no rule of the list of any entry of the table gives anything better
+pub closed_from_lists : (supports : List Support) (bounds : Slot → ℕ)
+    → ((e : Entry) → IsEntry e → All (λ r. IsSatisfied supports bounds r e) (rules_at (length supports) e))
+    → IsClosed supports bounds
+closed_from_lists supports bounds satisfied r e slots v premises value =
+    let defined = applies_from_premises supports r e slots premises in
+    let entry = (and_parts (is_entry e) (in_range (cited supports r) r e) defined).0 in
+    All-contains (λ q. IsSatisfied supports bounds q e) (rules_at (length supports) e) r (satisfied e entry)
+    (rules_at-complete supports r e defined) slots v premises value

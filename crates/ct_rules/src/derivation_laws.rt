@@ -63,8 +63,8 @@ pub fn more_supports_keep_derivations()
         IsBest supports s u → IsBest (supports ++ more) s v → IsNoBetter s.0 u v }
 {}
 
-/// Bounds of all entries that are true, and to which no rule gives anything better, are as good as each bound that is
-/// derived, where each support stands. So each of them that is derived is the best value of its slot.
+/// Where each support stands, true bounds of all entries to which no rule gives anything better are as good as each bound
+/// that is derived, so those that are derived are best values. The best values of all slots are such bounds.
 pub fn closed_bounds_are_best()
     ensures within { (supports : List Support) (bounds : Slot → ℕ) → AllStand supports → AreTrue bounds →
         IsClosed supports bounds → (c : Claim) →
@@ -72,6 +72,10 @@ pub fn closed_bounds_are_best()
     ensures best { (supports : List Support) (bounds : Slot → ℕ) (s : Slot) → AllStand supports →
         AreTrue bounds → IsClosed supports bounds →
         IsDerived supports (claim_at s (bounds s)) → IsBest supports s (bounds s) }
+    ensures closed { (supports : List Support) (bounds : Slot → ℕ) →
+        ((s : Slot) → IsEntry s.1 → IsBest supports s (bounds s)) → IsClosed supports bounds }
+    ensures exist { (supports : List Support) → AllStand supports →
+        (bounds : Slot → ℕ) × AreTrue bounds × IsClosed supports bounds }
 {}
 
 /// Where each support stands, each slot of the table has a best value, and no slot has two.
