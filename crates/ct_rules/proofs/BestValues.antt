@@ -22,7 +22,8 @@ use Rattle.ct_rules.proofs.Derivations.{derived_claims_are_true}
 use Rattle.ct_rules.proofs.JoinedDerivations.{derived_by_rule}
 use Rattle.ct_rules.proofs.ClosedBounds.{AreDerived, AreTrue-from_derived, closed_bound_is_best}
 use Rattle.ct_rules.proofs.TableLists.{table_slots, table_slots-complete}
-use Rattle.ct_rules.proofs.Improvements.{Improvement, closed_or_better, replaced, slack, slack-replaced, improvement_is_derived, AreDerived-replaced}
+use Rattle.ct_rules.proofs.Slack.{replaced, slack, slack-replaced}
+use Rattle.ct_rules.proofs.Improvements.{Improvement, closed_or_better, improvement_is_derived, AreDerived-replaced}
 
 -- how many words there are of the length, or of the length and the weight
 word_count : ℕ → Option ℕ → ℕ

@@ -61,8 +61,8 @@ AreTrue-from_derived supports bounds stand derived s entry =
     derived_claims_are_true supports stand (claim_at s (bounds s)) (derived s entry)
 
 -- what a rule gives from derived bounds is derived
-pub derived_from_bounds : (supports : List Support) (bounds : Slot → ℕ) (r : Rule) (e : Entry) (slots : List Slot) (v : ℕ)
-    → AreDerived supports bounds → premises_of supports r e ≡ Some slots
+pub derived_from_bounds : (supports : List Support) (bounds : Slot → ℕ) (r : Rule) (e : Entry) (slots : List Slot)
+    (v : ℕ) → AreDerived supports bounds → premises_of supports r e ≡ Some slots
     → value_of supports r e (map bounds slots) ≡ Some v → IsDerived supports (claim_at (rule_side r, e) v)
 derived_from_bounds supports bounds r e slots v derived premises value =
     derived_by_rule supports r e (claims_of bounds slots) v

@@ -6,5 +6,6 @@ pub mod JoinedDerivations
 pub mod ClosedBounds
 pub mod RuleLists
 pub mod TableLists
+pub mod Slack
 pub mod Improvements
 pub mod BestValues

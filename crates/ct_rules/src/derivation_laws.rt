@@ -63,8 +63,8 @@ pub fn more_supports_keep_derivations()
         IsBest supports s u → IsBest (supports ++ more) s v → IsNoBetter s.0 u v }
 {}
 
-/// Where each support stands, true bounds of all entries to which no rule gives anything better are as good as each bound
-/// that is derived, so those that are derived are best values. The best values of all slots are such bounds.
+/// Where each support stands, true bounds of all entries to which no rule gives anything better are as good as each
+/// bound that is derived, so those that are derived are best values. The best values of all slots are such bounds.
 pub fn closed_bounds_are_best()
     ensures within { (supports : List Support) (bounds : Slot → ℕ) → AllStand supports → AreTrue bounds →
         IsClosed supports bounds → (c : Claim) →
