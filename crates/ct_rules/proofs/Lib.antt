@@ -7,3 +7,13 @@ pub mod UpperRules
 pub mod RuleSound
 pub mod RuleMonotone
 pub mod RuleLaws
+pub mod Places
+pub mod Derivations
+pub mod MoreSupports
+pub mod JoinedDerivations
+pub mod ClosedBounds
+pub mod RuleLists
+pub mod TableLists
+pub mod Slack
+pub mod Improvements
+pub mod BestValues

@@ -3,3 +3,4 @@ pub mod Slot
 pub mod Rule
 pub mod Derivation
 pub mod Closed
+pub mod Inside
