@@ -1,17 +1,17 @@
 -- Bounds to which a rule gives something better, and the bounds with that in their place.
-use Rattle.std.proofs.Common.{◌≡◌, ℕ, ◌-◌, List, [], ◌∷◌, length, map, All, Option, Some, None, refl, sym, ap, ◌∙◌, subst, inl, inr, ◌⊎◌}
+use Rattle.std.proofs.Common.{◌≡◌, ℕ, List, [], ◌∷◌, length, map, All, Option, Some, None, refl, sym, ap, ◌∙◌, subst, inl, inr, ◌⊎◌}
 use Rattle.std.proofs.lemmas.List.Elements.{All-nil, All-cons, All-contains}
 use Rattle.std.proofs.lemmas.Option.{none-some, same_Some}
 use Rattle.ct_codes.specs.declared.entry.Entry.{Entry}
 use Rattle.ct_rules.specs.declared.rule.Rule.{Rule}
 use Rattle.ct_rules.specs.declared.support.Support.{Support}
 use Rattle.ct_rules.specs.Rule.{rule_side, premises_of, value_of}
-use Rattle.ct_rules.specs.Slot.{Slot, claim_at, IsNoBetter}
+use Rattle.ct_rules.specs.Slot.{IsBetter, Slot, claim_at, IsNoBetter}
 use Rattle.ct_rules.specs.Derivation.{IsDerived}
 use Rattle.ct_rules.specs.Closed.{IsSatisfied, IsClosed}
 use Rattle.ct_rules.proofs.MoreSupports.{applies_from_premises}
 use Rattle.ct_rules.proofs.ClosedBounds.{AreDerived, derived_from_bounds}
-use Rattle.ct_rules.proofs.Slack.{IsBetter, better_or_not, replaced, replaced-each}
+use Rattle.ct_rules.proofs.Slack.{better_or_not, replaced, replaced-each}
 use Rattle.ct_rules.proofs.TableLists.{Instance, table_instances, table_instances-complete}
 
 -- a rule gives something better than what stands

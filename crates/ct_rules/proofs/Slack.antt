@@ -7,13 +7,9 @@ use Rattle.ct_codes.specs.declared.claim.Side.{Side}
 use Rattle.ct_codes.specs.declared.claim.Side.TheVariants.{Lower, Upper}
 use Rattle.ct_codes.specs.Entry.{same_entry}
 use Rattle.ct_codes.proofs.EntryLemmas.{same_entry_is, same_entry-self}
-use Rattle.ct_rules.specs.Slot.{Slot, IsNoBetter}
+use Rattle.ct_rules.specs.Slot.{IsBetter, Slot, IsNoBetter}
 
--- a bound is better than another: from below greater, from above smaller
-abbrev pub IsBetter : Side → ℕ → ℕ → Type 0
-IsBetter Lower u v = v < u
-IsBetter Upper u v = u < v
-
+-- a bound is better than another or not
 pub better_or_not : (side : Side) (u v : ℕ) → IsNoBetter side u v ⊎ IsBetter side u v
 better_or_not Lower u v = go (cases_lt v u)
   where
