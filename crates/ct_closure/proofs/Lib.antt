@@ -1,1 +1,3 @@
 pub mod PremiseLemmas
+pub mod NumberLemmas
+pub mod SatisfiedLemmas
