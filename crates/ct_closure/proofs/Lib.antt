@@ -1,3 +1,4 @@
 pub mod PremiseLemmas
 pub mod NumberLemmas
 pub mod SatisfiedLemmas
+pub mod PendingLemmas

@@ -18,6 +18,7 @@ use Rattle.ct_rules.proofs.Applied.{premises-defined}
 use Rattle.ct_rules.proofs.ClosedBounds.{no_better-trans}
 use Rattle.ct_rules.proofs.MoreSupports.{applies_from_premises}
 use Rattle.ct_rules.proofs.RuleLaws.{premises_in_table, rule_entry}
+use Rattle.ct_closure.specs.declared.instance.Instance.{Instance}
 use Rattle.ct_closure.specs.Closing.{value_over}
 use Rattle.ct_closure.specs.Number.{slot_number, bound_of, side_size}
 use Rattle.ct_closure.proofs.NumberLemmas.{slot_number-bound, slot_number-injective}
@@ -92,3 +93,21 @@ satisfied_after supports bounds s v r e count entry better apart before slots u 
     no_better-trans (rule_side r) u (bound_of bounds (rule_side r, e)) (bound_of (slice_set bounds (slot_number s) v) (rule_side r, e))
       (before slots u premises (subst (λ z. value_of supports r e z ≡ Some u) others value))
       (bounds_no_worse bounds s (rule_side r, e) v count entry (rule_entry supports r e slots premises) better)
+
+-- the instance that gave the better bound gives nothing better than it, where it does not rest on its own slot
+pub satisfied_own : (supports : List Support) (bounds : List ℕ) (i : Instance) (v : ℕ) → length bounds ≡ 2 * side_size → IsEntry i.entry →
+    value_over supports (bound_of bounds) i.rule i.entry ≡ Some v →
+    (applies supports i.rule i.entry ≡ true → (j : ℕ) →
+      slice_get (premises_at (cited supports i.rule) i.rule i.entry) j ≡ Some (rule_side i.rule, i.entry) → ⊥) →
+    IsSatisfied supports (bound_of (slice_set bounds (slot_number (rule_side i.rule, i.entry)) v)) i.rule i.entry
+satisfied_own supports bounds i v count entry value apart slots u premises given =
+    let there = applies_from_premises supports i.rule i.entry slots premises in
+    let same = (premises-defined supports i.rule i.entry slots premises).1 in
+    let s : Slot = (rule_side i.rule, i.entry) in
+    let others = bounds_of_others bounds s v slots entry (premises_in_table supports i.rule i.entry slots premises)
+      (λ j h. apart there j (subst (λ z. slice_get z j ≡ Some s) (sym same) h)) in
+    let old = over_from_premises supports (bound_of bounds) i.rule i.entry slots u premises
+      (subst (λ z. value_of supports i.rule i.entry z ≡ Some u) others given) in
+    let now : bound_of (slice_set bounds (slot_number s) v) s ≡ v =
+      get_or-set_same bounds (slot_number s) v 0 (subst (λ m. slot_number s < m) (sym count) (slot_number-bound s entry)) in
+    subst (λ m. IsNoBetter s.0 u m) (sym now) (subst (λ m. IsNoBetter s.0 u m) (same_Some u v (sym old ∙ value)) (no_better-self s.0 u))
