@@ -2,3 +2,4 @@ pub mod PremiseLemmas
 pub mod NumberLemmas
 pub mod SatisfiedLemmas
 pub mod PendingLemmas
+pub mod GetLemmas

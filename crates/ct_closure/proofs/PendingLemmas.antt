@@ -1,10 +1,11 @@
 -- Which instances are still to be tried, after one was.
-use Rattle.std.proofs.Common.{◌≡◌, ℕ, zero, suc, ◌+◌, ◌-◌, ◌*◌, ◌<◌, ◌≤◌, List, [], ◌∷◌, length, map, All, Option, Some, None, Bool, true, false, refl, sym, ap, subst, ◌∙◌, arith, inl, inr, slice_get, slice_set, if◌then◌else◌, ◌&&◌, nat_lt, sum_by, Contains}
-use Rattle.std.proofs.lemmas.Option.{none-some, same_Some, slice_get_within, slice_get_past, get_or_from_slice_get}
-use Rattle.std.proofs.lemmas.Bool.{cases_eq, cases_lt, false≢true}
+use Rattle.std.proofs.Common.{◌≡◌, ℕ, zero, suc, ◌+◌, ◌-◌, ◌*◌, ◌<◌, ◌≤◌, List, [], ◌∷◌, length, map, All, Option, Some, None, Bool, true, false, refl, sym, ap, subst, ◌∙◌, arith, mul-le-mul_right, inl, inr, slice_get, slice_set, if◌then◌else◌, ◌&&◌, nat_lt, is_some, sum_by, Contains}
+use Rattle.std.proofs.lemmas.Option.{none-some, same_Some, slice_get_within, slice_get_past, slice_get_read, get_or_from_slice_get}
+use Rattle.std.proofs.lemmas.Bool.{cases_eq, cases_lt, false≢true, and_parts, lt-ltb, le-ltb}
 use mathlib.Core.Logic.{◌⊎◌, ◌≢◌}
 use Rattle.ct_codes.specs.declared.entry.Entry.{Entry}
-use Rattle.ct_codes.specs.Entry.{IsEntry, is_entry}
+use Rattle.ct_codes.specs.Entry.{IsEntry, is_entry, same_entry}
+use Rattle.ct_codes.proofs.EntryLemmas.{same_entry_is}
 use Rattle.ct_rules.specs.declared.rule.Rule.{Rule}
 use Rattle.ct_rules.specs.declared.rule.Rule.TheVariants.{L10, M10}
 use Rattle.ct_rules.specs.declared.support.Support.{Support}
@@ -12,12 +13,17 @@ use Rattle.ct_rules.specs.declared.support.Support.TheVariants.{Nothing, Size}
 use Rattle.ct_rules.specs.Closed.{IsSatisfied, IsClosed}
 use Rattle.ct_rules.specs.Inside.Listing.{names_support}
 use Rattle.ct_rules.specs.Rule.{rule_side, cited, in_range, premises_at, applies, premises_of, premise_of, value_of}
+use Rattle.ct_rules.specs.Support.{size_at}
+use Rattle.ct_rules.proofs.MoreSupports.{applies_from_premises}
 use Rattle.ct_rules.specs.Slot.{Slot, IsBetter, IsNoBetter}
 use Rattle.ct_closure.specs.declared.instance.Instance.{Instance}
-use Rattle.ct_closure.specs.Closing.{value_over, IsPending, IsPendingBut}
-use Rattle.ct_closure.specs.Instance.{AreUsers, HasUser, RestsOn, size_rule, instance_of, instance_at}
+use Rattle.ct_closure.specs.Closing.{value_over, IsPending, IsPendingBut, slack, potential}
+use Rattle.ct_closure.specs.Instance.{AreAllFixed, AreUsers, HasUser, RestsOn, size_rule, instance_of, instance_at}
 use Rattle.ct_closure.specs.Number.{slot_number, bound_of, side_size}
 use Rattle.ct_closure.specs.Worklist.{WorkValue, IsMarked}
+use Rattle.std.proofs.lemmas.List.{length-set}
+use Rattle.std.proofs.lemmas.List.Sums.{sum_by-cons}
+use Rattle.ct_closure.proofs.GetLemmas.{slice_get-set_other}
 use Rattle.ct_closure.proofs.SatisfiedLemmas.{satisfied_by_value, satisfied_after, satisfied_own, no_better-self}
 
 -- a rule that names no support sees none
@@ -117,3 +123,108 @@ IsPending-improved fixed supports users bounds number i v list work new unsuppor
               (same_Some i j (sym at ∙ ap (instance_at fixed supports) (sym same) ∙ is))
               (own (subst (λ m. ¬ (IsMarked new m)) same unmarked))
         go (inr apart) = other k j apart is unmarked
+
+-- after an instance that gives nothing better was tried
+pub IsPending-tried : (fixed : List Instance) (supports : List Support) (bounds : List ℕ) (number : ℕ) (work : WorkValue) →
+    ((i : Instance) → instance_at fixed supports number ≡ Some i → IsSatisfied supports (bound_of bounds) i.rule i.entry) →
+    IsPendingBut number fixed supports bounds work → IsPending fixed supports bounds work
+IsPending-tried fixed supports bounds number work own pending = record { marks = pending.marks; satisfied = each }
+  where
+    each : (k : ℕ) (j : Instance) → instance_at fixed supports k ≡ Some j → ¬ (IsMarked work k) → IsSatisfied supports (bound_of bounds) j.rule j.entry
+    each k j is unmarked = go (cases_eq k number)
+      where
+        go : ((k ≡ number) ⊎ (k ≡ number → ⊥)) → IsSatisfied supports (bound_of bounds) j.rule j.entry
+        go (inl same) = own j (ap (instance_at fixed supports) (sym same) ∙ is)
+        go (inr apart) = pending.satisfied k j apart is unmarked
+
+-- once an instance is taken, each other one is marked or gives nothing better
+pub IsPendingBut-taken : (fixed : List Instance) (supports : List Support) (bounds : List ℕ) (number : ℕ) (work new : WorkValue) →
+    new.marks ≡ slice_set work.marks number false → IsPending fixed supports bounds work → IsPendingBut number fixed supports bounds new
+IsPendingBut-taken fixed supports bounds number work new marks pending = record {
+  marks = ap (λ (m : List Bool). length m) marks ∙ length-set work.marks number false ∙ pending.marks;
+  satisfied = λ k i apart is unmarked. pending.satisfied k i is
+    (λ h. unmarked (ap (λ (m : List Bool). slice_get m k) marks ∙ slice_get-set_other work.marks number k false apart ∙ h)) }
+
+-- a support that gives a size at an entry is one of the entry
+pub sized : (c : Option Support) (e : Entry) → is_some (size_at c e) ≡ true → (size : ℕ) × (c ≡ Some (Size e size))
+sized None e h = absurd (false≢true h)
+sized (Some Nothing) e h = absurd (false≢true h)
+sized (Some (Size f size)) e h = go (same_entry f e) refl h
+  where
+    go : (b : Bool) → same_entry f e ≡ b → is_some (if b then Some size else None) ≡ true → (m : ℕ) × (Some (Size f size) ≡ Some (Size e m))
+    go true is k = (size, ap (λ g. Some (Size g size)) (same_entry_is f e is))
+    go false is k = absurd (false≢true k)
+
+-- the instance by which a support that a rule names is used
+support_at : (supports : List Support) (r : Rule) (n d : ℕ) (w : Option ℕ) → names_support r ≡ true →
+    in_range (cited supports r) r (record { n = n; d = d; w = w }) ≡ true →
+    (place : ℕ) × (place < length supports) ×
+    (instance_of (slice_get supports place) place ≡ Some (record { rule = r; entry = record { n = n; d = d; w = w } }))
+unfolding in_range
+support_at supports (L10 place) n d None h k =
+    let found = sized (slice_get supports place) (record { n = n; d = d; w = None }) k in
+    (place, slice_get_within supports place _ found.1, ap (λ c. instance_of c place) found.1)
+support_at supports (M10 place) n d (Some w) h k =
+    let found = sized (slice_get supports place) (record { n = n; d = d; w = Some w }) k in
+    (place, slice_get_within supports place _ found.1, ap (λ c. instance_of c place) found.1)
+support_at supports (L10 place) n d (Some w) h k = absurd (false≢true k)
+support_at supports (M10 place) n d None h k = absurd (false≢true k)
+support_at supports r n d w h k = absurd (false≢true h)
+
+pub support_instance : (supports : List Support) (r : Rule) (e : Entry) → names_support r ≡ true → applies supports r e ≡ true →
+    (place : ℕ) × (place < length supports) × (instance_of (slice_get supports place) place ≡ Some (record { rule = r; entry = e }))
+support_instance supports r e named defined =
+    support_at supports r e.n e.d e.w named (and_parts (is_entry e) (in_range (cited supports r) r e) defined).1
+
+-- each rule that is defined at an entry is there an instance with a number
+pub numbered : (fixed : List Instance) (supports : List Support) (r : Rule) (e : Entry) → AreAllFixed fixed → applies supports r e ≡ true →
+    (k : ℕ) × (instance_at fixed supports k ≡ Some (record { rule = r; entry = e }))
+numbered fixed supports r e all defined = go (names_support r) refl
+  where
+    i : Instance
+    i = record { rule = r; entry = e }
+    go : (named : Bool) → names_support r ≡ named → (k : ℕ) × (instance_at fixed supports k ≡ Some i)
+    go false is =
+        let same = cited_unsupported supports r is ∙ sym (cited_unsupported [] r is) in
+        let held = all r e is (subst (λ c. (is_entry e && in_range c r e) ≡ true) same defined) in
+        (held.0, ap (λ b. if b then slice_get fixed held.0 else instance_of (slice_get supports (held.0 - length fixed)) (held.0 - length fixed)) (lt-ltb held.0 (length fixed) held.1)
+          ∙ slice_get_read fixed (length fixed) held.0 i refl held.1 (sym held.2))
+    go true is =
+        let held = support_instance supports r e is defined in
+        let number = length fixed + held.0 in
+        let place : number - length fixed ≡ held.0 = omega arith in
+        (number, ap (λ b. if b then slice_get fixed number else instance_of (slice_get supports (number - length fixed)) (number - length fixed)) (le-ltb number (length fixed) (omega arith))
+          ∙ ap (λ p. instance_of (slice_get supports p) p) place ∙ held.2)
+
+-- where no instance is marked, no rule gives anything better than what stands
+pub IsClosed-from_pending : (fixed : List Instance) (supports : List Support) (bounds : List ℕ) (work : WorkValue) → AreAllFixed fixed →
+    IsPending fixed supports bounds work → ((k : ℕ) → ¬ (IsMarked work k)) → IsClosed supports (bound_of bounds)
+IsClosed-from_pending fixed supports bounds work all pending none r e slots v premises value =
+    let there = applies_from_premises supports r e slots premises in
+    let found = numbered fixed supports r e all there in
+    pending.satisfied found.0 (record { rule = r; entry = e }) found.1 (none found.0) slots v premises value
+
+-- a list of lists holds at least as many numbers as each of its lists
+pub length_of_one : (users : List (List ℕ)) (m : ℕ) (list : List ℕ) → slice_get users m ≡ Some list → length list ≤ sum_by length users
+length_of_one [] m list h = absurd (none-some list h)
+length_of_one (l ∷ users) zero list h =
+    let same : length l ≡ length list = ap (λ (x : List ℕ). length x) (same_Some l list h) in
+    let sum = sum_by-cons (λ (x : List ℕ). length x) l users in
+    omega arith
+length_of_one (l ∷ users) (suc m) list h =
+    let rest = length_of_one users m list h in
+    let sum = sum_by-cons (λ (x : List ℕ). length x) l users in
+    omega arith
+
+-- an improvement leaves fewer turns, whatever it marks
+pub potential-improved : (bounds better : List ℕ) (users : List (List ℕ)) (m : ℕ) (list : List ℕ) (work new : WorkValue) →
+    slack better < slack bounds → slice_get users m ≡ Some list → length new.queue ≤ length work.queue + length list →
+    potential better users new ≤ potential bounds users work
+potential-improved bounds better users m list work new less there more =
+    let few = length_of_one users m list there in
+    fewer (slack better) (slack bounds) (sum_by length users) (length list) (length work.queue) (length new.queue) less few more
+  where
+    fewer : (a b t l q p : ℕ) → a < b → l ≤ t → p ≤ q + l → a * (t + 1) + p ≤ b * (t + 1) + q
+    fewer a b t l q p h k j =
+        let product = mul-le-mul_right {m = suc a} {n = b} (t + 1) h in
+        omega (arith, product)

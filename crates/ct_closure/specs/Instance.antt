@@ -50,3 +50,10 @@ AreNumbersBelow count users = All (λ list. All (λ k. k < count) list) users
 pub record InstancesValue : Type 0 where
   pub fixed : List Instance
   pub users : List (List ℕ)
+
+-- they are all the instances that name no support, and the lists hold those that rest on a slot
+pub record AreInstances (i : InstancesValue) : Type 0 where
+  pub all : AreAllFixed i.fixed
+  pub unsupported : All (λ j. names_support j.rule ≡ false) i.fixed
+  pub users : AreUsers i.fixed i.users
+  pub numbers : AreNumbersBelow (length i.fixed) i.users

@@ -8,7 +8,7 @@ ghost use Rattle.ct_rules.specs.Closed.{IsClosed};
 ghost use Rattle.ct_rules.specs.Rule.{rule_side, cited, premises_at, applies};
 ghost use Rattle.ct_rules.specs.Slot.{IsBetter, IsNoBetter};
 ghost use Rattle.ct_closure.specs.Number.{bound_of};
-ghost use Rattle.ct_closure.specs.Instance.{instance_at};
+ghost use Rattle.ct_closure.specs.Instance.{AreInstances};
 ghost use Rattle.ct_closure.specs.Kept.{IsKept, Grew, with_line, reason_of};
 ghost use Rattle.ct_closure.specs.Closing.{value_over, IsPending, IsPendingBut, potential, line_by};
 
@@ -101,6 +101,7 @@ fn try_instance(
     work: &mut Worklist,
     number: usize,
 ) -> Result<(), AllocError>
+    requires instances { AreInstances instances.now }
     requires few { length supports.now < 2 ^ 32 }
     requires kept { IsKept supports.now kept.now }
     requires pending { IsPendingBut number instances.now.fixed supports.now kept.now.bounds work.now }
@@ -134,6 +135,7 @@ pub(crate) fn close(
     work: &mut Worklist,
     evaluations: &mut u64,
 ) -> Result<(), AllocError>
+    requires instances { AreInstances instances.now }
     requires few { length supports.now < 2 ^ 32 }
     requires kept { IsKept supports.now kept.now }
     requires pending { IsPending instances.now.fixed supports.now kept.now.bounds work.now }

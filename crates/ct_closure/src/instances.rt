@@ -1,9 +1,9 @@
 //! The instances of the rules, by numbers.
 
-ghost use Rattle.std.specs.Prelude.{◌≡◌, ◌<◌, ◌^◌, Some, All, length, slice_get};
+ghost use Rattle.std.specs.Prelude.{◌≡◌, ◌<◌, ◌^◌, Some, IfOk, All, length, slice_get};
 ghost use Rattle.ct_codes.specs.Entry.{IsEntry};
 ghost use Rattle.ct_closure.specs.Number.{slot_number};
-ghost use Rattle.ct_closure.specs.Instance.{size_rule, instance_of, instance_at, AreAllFixed, AreUsers, AreNumbersBelow};
+ghost use Rattle.ct_closure.specs.Instance.{size_rule, instance_of, instance_at, AreInstances};
 
 use crate::instance::Instance;
 use crate::listing::fixed_instances;
@@ -22,14 +22,13 @@ pub struct Instances {
 }
 
 impl Model for Instances {
-    ghost use Rattle.ct_closure.specs.Instance.{InstancesValue, AreAllFixed, AreUsers, AreNumbersBelow};
-    ghost use Rattle.std.specs.Prelude.{length};
+    ghost use Rattle.ct_closure.specs.Instance.{InstancesValue, AreInstances};
 
     ghost Value = { InstancesValue };
 
     ghost view = { λ i. record { fixed = i.fixed.items; users = i.users } };
 
-    ghost invariant = { λ i. AreAllFixed i.fixed.items × AreUsers i.fixed.items i.users × AreNumbersBelow (length i.fixed.items) i.users };
+    ghost invariant = { λ i. AreInstances (record { fixed = i.fixed.items; users = i.users }) };
 }
 
 /// The instance of the support at the place, where it gives something.
@@ -49,7 +48,9 @@ fn instance_of(support: Support, place: usize) -> Option<Instance>
 
 impl Instances {
     /// The instances that name no support. `Err` is want of memory.
-    pub fn new(alloc: Global) -> Result<Instances, AllocError> {
+    pub fn new(alloc: Global) -> Result<Instances, AllocError>
+        ensures { IfOk result AreInstances }
+    {
         let fixed = fixed_instances(alloc)?;
         let users = Users::of(alloc, &fixed)?;
         Ok(Instances { fixed, users })

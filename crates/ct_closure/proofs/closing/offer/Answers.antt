@@ -1,4 +1,4 @@
-use Rattle.std.proofs.Common.{rules, ◌≡◌, sym, ◌∙◌}
+use Rattle.std.proofs.Common.{rules, sym, ◌∙◌}
 use Rattle.ct_rules.specs.Rule.{cited, premises_at}
 use Rattle.ct_rules.specs.Slot.{Slot}
 use Rattle.ct_closure.specs.Number.{bound_of}
