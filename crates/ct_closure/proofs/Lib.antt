@@ -1,0 +1,2 @@
+pub mod GetLemmas
+pub mod WorklistLemmas
