@@ -1,2 +1,4 @@
 pub mod GetLemmas
 pub mod WorklistLemmas
+pub mod GroundLemmas
+pub mod StartLemmas

@@ -25,13 +25,13 @@ IsSoundWork-taken marks queue rest number sound same =
     let numbers = subst (All (λ k. k < length marks)) same sound.numbers in
     let inside : number < length marks = All-head (λ k. k < length marks) number rest numbers in
     record {
-  queued = λ k marked. elim (cases_eq k number) [
-    | inl here ↦
-        let unset = slice_get-set_same marks number false inside in
-        let set : slice_get (slice_set marks number false) number ≡ Some true = subst (λ n. slice_get (slice_set marks number false) n ≡ Some true) here marked in
-        cc
-    | inr other ↦
-        Contains-rest number rest k (subst (λ q. Contains q k) same (sound.queued k (sym (slice_get-set_other marks number k false other) ∙ marked))) other
-  ];
-  numbers = rw length-set (All-tail (λ k. k < length marks) number rest numbers);
-}
+      queued = λ k marked. elim (cases_eq k number) [
+        | inl here ↦
+            let unset = slice_get-set_same marks number false inside in
+            let set : slice_get (slice_set marks number false) number ≡ Some true = subst (λ n. slice_get (slice_set marks number false) n ≡ Some true) here marked in
+            cc
+        | inr other ↦
+            Contains-rest number rest k (subst (λ q. Contains q k) same (sound.queued k (sym (slice_get-set_other marks number k false other) ∙ marked))) other
+      ];
+      numbers = rw length-set (All-tail (λ k. k < length marks) number rest numbers);
+    }
