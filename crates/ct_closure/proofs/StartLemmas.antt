@@ -8,7 +8,7 @@ use Rattle.ct_rules.specs.declared.support.Support.{Support}
 use Rattle.ct_rules.specs.Derivation.{LineValue, Follows}
 use Rattle.ct_rules.specs.Slot.{Slot, slot_of}
 use Rattle.ct_rules.proofs.Places.{slice_get-append_left, slice_get_last}
-use Rattle.ct_closure.specs.Kept.{KeptValue, IsKept, IsGround, IsBetter, reason_of, with_line, ground_value, ground_line}
+use Rattle.ct_closure.specs.Kept.{KeptValue, IsKept, IsGround, reason_of, with_line, ground_value, ground_line}
 use Rattle.ct_closure.specs.Number.{bound_of, side_size, slot_number, slot_at}
 use Rattle.ct_closure.proofs.GetLemmas.{IsOldOrNew, slice_get_push_cases}
 use Rattle.ct_closure.proofs.GroundLemmas.{Follows-ground, IsGround-ground_line}

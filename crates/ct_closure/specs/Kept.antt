@@ -7,7 +7,7 @@ use Rattle.ct_rules.specs.declared.support.Support.{Support}
 use Rattle.ct_rules.specs.declared.rule.Rule.{Rule}
 use Rattle.ct_rules.specs.declared.rule.Rule.TheVariants.{L1, M1, U0, V0}
 use Rattle.ct_rules.specs.Rule.{has_weight, value_of}
-use Rattle.ct_rules.specs.Slot.{Slot, slot_of, claim_at}
+use Rattle.ct_rules.specs.Slot.{IsBetter, Slot, slot_of, claim_at}
 use Rattle.ct_rules.specs.Derivation.{LineValue, IsDerivation}
 use Rattle.ct_closure.specs.Number.{slot_number, bound_of, side_size}
 use Rattle.ct_rules.specs.Inside.Listing.{names_support}
@@ -17,11 +17,6 @@ pub record KeptValue : Type 0 where
   pub bounds : List ℕ
   pub reasons : List ℕ
   pub lines : List LineValue
-
--- a bound is better than another: from below greater, from above smaller
-abbrev pub IsBetter : Side → ℕ → ℕ → Type 0
-IsBetter Lower v u = u < v
-IsBetter Upper v u = v < u
 
 -- the place of the line that gives the bound of a slot
 abbrev pub reason_of : KeptValue → Slot → ℕ

@@ -6,10 +6,10 @@ ghost use Rattle.ct_codes.specs.Entry.{IsEntry};
 ghost use Rattle.ct_rules.specs.Derivation.{LineValue};
 ghost use Rattle.ct_rules.specs.Closed.{IsClosed};
 ghost use Rattle.ct_rules.specs.Rule.{rule_side, cited, premises_at, applies};
-ghost use Rattle.ct_rules.specs.Slot.{IsNoBetter};
+ghost use Rattle.ct_rules.specs.Slot.{IsBetter, IsNoBetter};
 ghost use Rattle.ct_closure.specs.Number.{bound_of};
 ghost use Rattle.ct_closure.specs.Instance.{instance_at};
-ghost use Rattle.ct_closure.specs.Kept.{IsBetter, IsKept, Grew, with_line, reason_of};
+ghost use Rattle.ct_closure.specs.Kept.{IsKept, Grew, with_line, reason_of};
 ghost use Rattle.ct_closure.specs.Closing.{value_over, IsPending, IsPendingBut, potential, line_by};
 
 use crate::instance::Instance;
@@ -59,7 +59,8 @@ fn reasons(
         ≡ map (reason_of kept.now) (premises_at (cited supports.now instance.rule) instance.rule instance.entry)) }
 {
     let mut from = Vec::new(alloc);
-    for j in 0..MOST_PREMISES {
+    let count = premise_count(supports, instance.rule, instance.entry).unwrap_or(0);
+    for j in 0..count {
         if let Some((side, entry)) = premise(supports, instance.rule, instance.entry, j) {
             from.push(kept.reason(side, entry))?;
         }

@@ -1,5 +1,5 @@
 -- The places of a table that hold a bound: a side of an entry.
-use Rattle.std.specs.Prelude.{ℕ, ◌≤◌, List, [], ◌∷◌}
+use Rattle.std.specs.Prelude.{ℕ, ◌<◌, ◌≤◌, List, [], ◌∷◌}
 use Rattle.ct_codes.specs.declared.entry.Entry.{Entry}
 use Rattle.ct_codes.specs.declared.claim.Side.{Side}
 use Rattle.ct_codes.specs.declared.claim.Side.TheVariants.{Lower, Upper}
@@ -26,6 +26,11 @@ lower_at n d = (Lower, unrestricted n d)
 abbrev pub IsNoBetter : Side → ℕ → ℕ → Type 0
 IsNoBetter Lower u v = u ≤ v
 IsNoBetter Upper u v = v ≤ u
+
+-- a bound is better than another: from below greater, from above smaller
+abbrev pub IsBetter : Side → ℕ → ℕ → Type 0
+IsBetter Lower u v = v < u
+IsBetter Upper u v = u < v
 
 -- as many bounds as others, and none better than the one at its place among the others
 abbrev pub AreNoBetter : Side → List ℕ → List ℕ → Type 0

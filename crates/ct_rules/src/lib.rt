@@ -1,12 +1,23 @@
 //! The rules of the table, derivations by them from what evidence supports, and best values.
 #![tactic(auto)]
 
+mod derivation_laws;
 mod instance;
 mod line;
 mod rule;
+mod rule_laws;
 mod support;
 
+pub use derivation_laws::{
+    best_values_are_true, closed_bounds_are_best, derivations_grow_by_rules,
+    derived_claims_are_true, each_slot_has_one_best_value, known_derivations,
+    lines_follow_from_earlier_lines, more_supports_keep_derivations,
+};
 pub use instance::{MOST_PREMISES, premise, premise_count, rule_side, value};
 pub use line::Line;
 pub use rule::Rule;
+pub use rule_laws::{
+    known_premises, known_ranges, known_supports, known_values, premises_are_entries,
+    rules_are_monotone, rules_are_sound,
+};
 pub use support::Support;

@@ -1,0 +1,26 @@
+use Rattle.std.proofs.Common.{refl}
+use Rattle.ct_rules.specs.Rule.{in_range, premises_at, formula}
+use Rattle.ct_rules.proofs.rule_laws.known_premises.Goals as goal
+
+pub returns : goal.returns
+unfolding in_range premises_at formula
+returns c = record {
+  one_word = refl;
+  one_word_of_weight = refl;
+  opposite_words = refl;
+  lengthened = refl;
+  nearer = refl;
+  with_parity = refl;
+  punctured = refl;
+  shortened = refl;
+  sums = refl;
+  sums_last = refl;
+  sums_odd = refl;
+  sums_even = refl;
+  sums_up = refl;
+  side_by_side = refl;
+  first_short = refl;
+  second_short = refl;
+  all_words = refl;
+  all_words_of_weight = refl;
+}

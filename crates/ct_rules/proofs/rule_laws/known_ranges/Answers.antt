@@ -1,0 +1,25 @@
+use Rattle.std.proofs.Common.{refl}
+use Rattle.ct_rules.specs.Rule.{in_range, premises_at, formula}
+use Rattle.ct_rules.proofs.rule_laws.known_ranges.Goals as goal
+
+pub returns : goal.returns
+unfolding in_range premises_at formula
+returns c = record {
+  no_weight = refl;
+  weight = refl;
+  no_entry = refl;
+  no_bound = refl;
+  opposite_words = refl;
+  lengthened = refl;
+  nearer = refl;
+  parity_of_one = refl;
+  parity_odd = refl;
+  punctured_long = refl;
+  punctured_far = refl;
+  shortened = refl;
+  sums_odd_length = refl;
+  no_first = refl;
+  no_second = refl;
+  first_near = refl;
+  second_near = refl;
+}

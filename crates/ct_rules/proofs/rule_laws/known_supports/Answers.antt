@@ -1,0 +1,19 @@
+use Rattle.std.proofs.Common.{refl}
+use Rattle.ct_rules.specs.Rule.{in_range, premises_at, formula}
+use Rattle.ct_rules.proofs.rule_laws.known_supports.Goals as goal
+
+pub returns : goal.returns
+unfolding in_range premises_at formula
+returns c = record {
+  code = refl;
+  premises = refl;
+  nothing = refl;
+  no_support = refl;
+  other_length = refl;
+  other_distance = refl;
+  of_weight = refl;
+  other_weight = refl;
+  without_weight = refl;
+  weight_by_code = refl;
+  code_by_weight = refl;
+}

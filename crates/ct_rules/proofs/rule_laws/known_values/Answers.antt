@@ -1,0 +1,29 @@
+use Rattle.std.proofs.Common.{refl}
+use Rattle.ct_rules.specs.Rule.{in_range, premises_at, formula}
+use Rattle.ct_rules.proofs.rule_laws.known_values.Goals as goal
+
+pub returns : goal.returns
+unfolding in_range premises_at formula
+returns c = record {
+  one_word = refl;
+  one_word_of_weight = refl;
+  opposite_words = refl;
+  lengthened = refl;
+  nearer = refl;
+  with_parity = refl;
+  punctured = refl;
+  shortened = refl;
+  shortened_odd = refl;
+  sums_of_one = refl;
+  sums_near = refl;
+  sums_far = refl;
+  sums_at_five = refl;
+  side_by_side = refl;
+  side_by_side_turned = refl;
+  all_words = refl;
+  all_words_of_weight = refl;
+  greatest = refl;
+  above = refl;
+  far_above = refl;
+  cut = refl;
+}

@@ -1,0 +1,148 @@
+//! What the rules of the table mean: what they rest on, that they are sound and monotone, for all entries and all premises;
+//! and where they are defined, what they rest on and what they give, at entries where it is known.
+
+ghost use Rattle.std.specs.Prelude.{◌≡◌, ℕ, ◌^◌, ◌*◌, ◌+◌, ◌≤◌, List, [], ◌∷◌, length, map, filter, All, Option, Some, None, IsSome, is_some};
+ghost use Rattle.ct_words.specs.declared.limits.TheConstants.{MAX_BOUND};
+ghost use Rattle.ct_codes.specs.declared.entry.Entry.{Entry};
+ghost use Rattle.ct_codes.specs.declared.claim.Claim.{Claim};
+ghost use Rattle.ct_codes.specs.declared.claim.Side.TheVariants.{Lower, Upper};
+ghost use Rattle.ct_codes.specs.Claim.{IsTrueClaim};
+ghost use Rattle.ct_codes.specs.Entry.{IsEntry, unrestricted, constant_weight};
+ghost use Rattle.ct_rules.specs.declared.rule.Rule.{Rule};
+ghost use Rattle.ct_rules.specs.declared.rule.Rule.TheVariants.{L1, L2, L3, L4, L5, L6, L7, L8, L10, L11, M1, M10, U0, V0};
+ghost use Rattle.ct_rules.specs.declared.support.Support.{Support};
+ghost use Rattle.ct_rules.specs.declared.support.Support.TheVariants.{Nothing, Size};
+ghost use Rattle.ct_rules.specs.Support.{AllStand};
+ghost use Rattle.ct_rules.specs.Slot.{Slot, slot_of, claim_at, lower_at, IsNoBetter, AreNoBetter};
+ghost use Rattle.ct_rules.specs.Rule.{rule_side, within_limit, premises_of, value_of};
+
+/// A rule is defined at entries of the table alone. It rests on two bounds at most, each of an entry of the table and
+/// from the side that the rule bounds from, and it gives nothing where it is not defined.
+pub fn premises_are_entries()
+    ensures entry { (supports : List Support) (r : Rule) (e : Entry) (slots : List Slot) →
+        premises_of supports r e ≡ Some slots → IsEntry e }
+    ensures premises { (supports : List Support) (r : Rule) (e : Entry) (slots : List Slot) →
+        premises_of supports r e ≡ Some slots → All (λ s. IsEntry s.1) slots }
+    ensures side { (supports : List Support) (r : Rule) (e : Entry) (slots : List Slot) →
+        premises_of supports r e ≡ Some slots → All (λ s. s.0 ≡ rule_side r) slots }
+    ensures few { (supports : List Support) (r : Rule) (e : Entry) (slots : List Slot) →
+        premises_of supports r e ≡ Some slots → length slots ≤ 2 }
+    ensures defined { (supports : List Support) (r : Rule) (e : Entry) (vs : List ℕ) →
+        IsSome (value_of supports r e vs) → IsSome (premises_of supports r e) }
+{}
+
+/// What a rule gives is true where its premises are: of a lower bound v some code of the entry has exactly v words, and of
+/// an upper bound no code of it has more.
+pub fn rules_are_sound()
+    ensures { (supports : List Support) (r : Rule) (e : Entry) (claims : List Claim) (v : ℕ) → AllStand supports →
+        premises_of supports r e ≡ Some (map slot_of claims) → All IsTrueClaim claims →
+        value_of supports r e (map (λ c. c.value) claims) ≡ Some v → IsTrueClaim (claim_at (rule_side r, e) v) }
+{}
+
+/// Premises that are no better give a value that is no better, whatever the premises are. A rule for upper bounds gives a
+/// value wherever it does for premises that are no better; a rule for lower bounds gives one where its premises are true,
+/// since it gives none above the greatest bound.
+pub fn rules_are_monotone()
+    ensures no_better { (supports : List Support) (r : Rule) (e : Entry) (us vs : List ℕ) (u v : ℕ) →
+        AreNoBetter (rule_side r) us vs → value_of supports r e us ≡ Some u → value_of supports r e vs ≡ Some v →
+        IsNoBetter (rule_side r) u v }
+    ensures upper { (supports : List Support) (r : Rule) (e : Entry) (us vs : List ℕ) →
+        rule_side r ≡ Upper → AreNoBetter Upper us vs →
+        IsSome (value_of supports r e us) → IsSome (value_of supports r e vs) }
+    ensures true_premises { (supports : List Support) (r : Rule) (e : Entry) (claims : List Claim) (us : List ℕ) →
+        AllStand supports → premises_of supports r e ≡ Some (map slot_of claims) → All IsTrueClaim claims →
+        AreNoBetter (rule_side r) us (map (λ c. c.value) claims) →
+        IsSome (value_of supports r e us) → IsSome (value_of supports r e (map (λ c. c.value) claims)) }
+{}
+
+/// What rules rest on, in order, with the least and the greatest lengths and distances at which they are defined.
+pub fn known_premises()
+    ensures one_word { premises_of [] L1 (unrestricted 28 28) ≡ Some [] }
+    ensures one_word_of_weight { premises_of [] M1 (constant_weight 4 4 4) ≡ Some [] }
+    ensures opposite_words { premises_of [] L2 (unrestricted 5 5) ≡ Some [] }
+    ensures lengthened { premises_of [] L3 (unrestricted 2 3) ≡ Some (lower_at 1 3 ∷ []) }
+    ensures nearer { premises_of [] L4 (unrestricted 28 27) ≡ Some (lower_at 28 28 ∷ []) }
+    ensures with_parity { premises_of [] L5 (unrestricted 2 4) ≡ Some (lower_at 1 3 ∷ []) }
+    ensures punctured { premises_of [] L6 (unrestricted 27 27) ≡ Some (lower_at 28 28 ∷ []) }
+    ensures shortened { premises_of [] L7 (unrestricted 27 28) ≡ Some (lower_at 28 28 ∷ []) }
+    // At distances 3 and 4 the words u are all words of even weight.
+    ensures sums { premises_of [] L8 (unrestricted 2 3) ≡ Some (lower_at 1 3 ∷ []) }
+    ensures sums_last { premises_of [] L8 (unrestricted 8 4) ≡ Some (lower_at 4 4 ∷ []) }
+    ensures sums_odd { premises_of [] L8 (unrestricted 8 5) ≡ Some (lower_at 4 3 ∷ lower_at 4 5 ∷ []) }
+    ensures sums_even { premises_of [] L8 (unrestricted 8 6) ≡ Some (lower_at 4 3 ∷ lower_at 4 6 ∷ []) }
+    ensures sums_up { premises_of [] L8 (unrestricted 8 7) ≡ Some (lower_at 4 4 ∷ lower_at 4 7 ∷ []) }
+    ensures side_by_side { premises_of [] (L11 5 3) (unrestricted 12 7) ≡ Some (lower_at 5 3 ∷ lower_at 7 4 ∷ []) }
+    ensures first_short { premises_of [] (L11 1 4) (unrestricted 12 7) ≡ Some (lower_at 1 4 ∷ lower_at 11 3 ∷ []) }
+    ensures second_short { premises_of [] (L11 11 3) (unrestricted 12 6) ≡ Some (lower_at 11 3 ∷ lower_at 1 3 ∷ []) }
+    ensures all_words { premises_of [] U0 (unrestricted 1 28) ≡ Some [] }
+    ensures all_words_of_weight { premises_of [] V0 (constant_weight 28 28 0) ≡ Some [] }
+{}
+
+/// Where rules are not defined: beyond the greatest and below the least lengths and distances, and at entries with and
+/// without a weight.
+pub fn known_ranges()
+    ensures no_weight { filter (λ r. is_some (premises_of [] r (unrestricted 8 6)))
+        (L1 ∷ L2 ∷ L3 ∷ L4 ∷ L5 ∷ L6 ∷ L7 ∷ L8 ∷ L11 4 3 ∷ M1 ∷ U0 ∷ V0 ∷ []) ≡
+        L1 ∷ L2 ∷ L3 ∷ L4 ∷ L5 ∷ L6 ∷ L7 ∷ L8 ∷ L11 4 3 ∷ U0 ∷ [] }
+    ensures weight { filter (λ r. is_some (premises_of [] r (constant_weight 8 6 4)))
+        (L1 ∷ L2 ∷ L3 ∷ L4 ∷ L5 ∷ L6 ∷ L7 ∷ L8 ∷ L11 4 3 ∷ M1 ∷ U0 ∷ V0 ∷ []) ≡ M1 ∷ V0 ∷ [] }
+    ensures no_entry { filter (λ r. is_some (premises_of [] r (unrestricted 29 6)))
+        (L1 ∷ L2 ∷ L3 ∷ L4 ∷ L5 ∷ L6 ∷ L7 ∷ L8 ∷ L11 4 3 ∷ M1 ∷ U0 ∷ V0 ∷ []) ≡ [] }
+    ensures no_bound { value_of [] L1 (unrestricted 29 6) [] ≡ None }
+    ensures opposite_words { premises_of [] L2 (unrestricted 5 6) ≡ None }
+    ensures lengthened { premises_of [] L3 (unrestricted 1 3) ≡ None }
+    ensures nearer { premises_of [] L4 (unrestricted 28 28) ≡ None }
+    ensures parity_of_one { premises_of [] L5 (unrestricted 1 4) ≡ None }
+    ensures parity_odd { premises_of [] L5 (unrestricted 8 5) ≡ None }
+    ensures punctured_long { premises_of [] L6 (unrestricted 28 27) ≡ None }
+    ensures punctured_far { premises_of [] L6 (unrestricted 27 28) ≡ None }
+    ensures shortened { premises_of [] L7 (unrestricted 28 28) ≡ None }
+    ensures sums_odd_length { premises_of [] L8 (unrestricted 7 4) ≡ None }
+    ensures no_first { premises_of [] (L11 0 3) (unrestricted 12 6) ≡ None }
+    ensures no_second { premises_of [] (L11 12 3) (unrestricted 12 6) ≡ None }
+    ensures first_near { premises_of [] (L11 5 2) (unrestricted 12 6) ≡ None }
+    ensures second_near { premises_of [] (L11 5 4) (unrestricted 12 6) ≡ None }
+{}
+
+/// What rules give: A(8,4) = 16 and A(7,3) = 16 each from the other, A(16,4) ≥ 2048 and A(16,8) ≥ 32 from A(8,4) = 16
+/// and A(8,8) = 2, and so on. A number above `MAX_BOUND` is no lower bound, and as an upper bound it is `MAX_BOUND`.
+pub fn known_values()
+    ensures one_word { value_of [] L1 (unrestricted 1 3) [] ≡ Some 1 }
+    ensures one_word_of_weight { value_of [] M1 (constant_weight 4 4 2) [] ≡ Some 1 }
+    ensures opposite_words { value_of [] L2 (unrestricted 5 5) [] ≡ Some 2 }
+    ensures lengthened { value_of [] L3 (unrestricted 8 3) (16 ∷ []) ≡ Some 16 }
+    ensures nearer { value_of [] L4 (unrestricted 8 3) (16 ∷ []) ≡ Some 16 }
+    ensures with_parity { value_of [] L5 (unrestricted 8 4) (16 ∷ []) ≡ Some 16 }
+    ensures punctured { value_of [] L6 (unrestricted 7 3) (16 ∷ []) ≡ Some 16 }
+    ensures shortened { value_of [] L7 (unrestricted 7 4) (16 ∷ []) ≡ Some 8 }
+    ensures shortened_odd { value_of [] L7 (unrestricted 7 4) (5 ∷ []) ≡ Some 3 }
+    ensures sums_of_one { value_of [] L8 (unrestricted 6 4) (1 ∷ []) ≡ Some 4 }
+    ensures sums_near { value_of [] L8 (unrestricted 16 4) (16 ∷ []) ≡ Some 2048 }
+    ensures sums_far { value_of [] L8 (unrestricted 16 8) (16 ∷ 2 ∷ []) ≡ Some 32 }
+    ensures sums_at_five { value_of [] L8 (unrestricted 6 5) (2 ∷ 1 ∷ []) ≡ Some 2 }
+    ensures side_by_side { value_of [] (L11 5 3) (unrestricted 12 7) (4 ∷ 8 ∷ []) ≡ Some 4 }
+    ensures side_by_side_turned { value_of [] (L11 7 4) (unrestricted 12 7) (8 ∷ 4 ∷ []) ≡ Some 4 }
+    ensures all_words { value_of [] U0 (unrestricted 28 3) [] ≡ Some (2 ^ 28) }
+    ensures all_words_of_weight { value_of [] V0 (constant_weight 4 4 2) [] ≡ Some 6 }
+    ensures greatest { value_of [] L8 (unrestricted 28 6) (2 ^ 27 ∷ 2 ∷ []) ≡ Some (2 ^ 28) }
+    // 17 · 15,790,321 is 2^28 + 1.
+    ensures above { value_of [] L8 (unrestricted 28 6) (17 ∷ 15790321 ∷ []) ≡ None }
+    ensures far_above { value_of [] L8 (unrestricted 28 6) (2 ^ 27 ∷ 4 ∷ []) ≡ None }
+    ensures cut { within_limit Upper (Some (2 ^ 28 + 1)) ≡ Some (2 ^ 28) }
+{}
+
+/// What supports give: to the entry that they name and to no other, at the place that the rule names.
+pub fn known_supports()
+    ensures code { value_of (Nothing ∷ Size (unrestricted 5 3) 4 ∷ []) (L10 1) (unrestricted 5 3) [] ≡ Some 4 }
+    ensures premises { premises_of (Nothing ∷ Size (unrestricted 5 3) 4 ∷ []) (L10 1) (unrestricted 5 3) ≡ Some [] }
+    ensures nothing { premises_of (Nothing ∷ Size (unrestricted 5 3) 4 ∷ []) (L10 0) (unrestricted 5 3) ≡ None }
+    ensures no_support { premises_of (Nothing ∷ Size (unrestricted 5 3) 4 ∷ []) (L10 2) (unrestricted 5 3) ≡ None }
+    ensures other_length { premises_of (Size (unrestricted 5 3) 4 ∷ []) (L10 0) (unrestricted 6 3) ≡ None }
+    ensures other_distance { premises_of (Size (unrestricted 5 4) 2 ∷ []) (L10 0) (unrestricted 5 3) ≡ None }
+    ensures of_weight { value_of (Size (constant_weight 8 4 4) 14 ∷ []) (M10 0) (constant_weight 8 4 4) [] ≡ Some 14 }
+    ensures other_weight { premises_of (Size (constant_weight 8 4 4) 14 ∷ []) (M10 0) (constant_weight 8 4 3) ≡ None }
+    ensures without_weight { premises_of (Size (constant_weight 8 4 4) 14 ∷ []) (L10 0) (unrestricted 8 4) ≡ None }
+    // Each of the two rules is for its own entries.
+    ensures weight_by_code { premises_of (Size (constant_weight 8 4 4) 14 ∷ []) (L10 0) (constant_weight 8 4 4) ≡ None }
+    ensures code_by_weight { premises_of (Size (unrestricted 5 3) 4 ∷ []) (M10 0) (unrestricted 5 3) ≡ None }
+{}
