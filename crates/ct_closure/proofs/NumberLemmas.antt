@@ -1,5 +1,5 @@
 -- Each slot of the table has a number of its own.
-use Rattle.std.proofs.Common.{◌≡◌, ℕ, zero, suc, ◌+◌, ◌-◌, ◌*◌, ◌/◌, ◌%◌, ◌<◌, ◌≤◌, true, if◌then◌else◌, Option, Some, None, refl, ap, subst, sym, ◌∙◌, arith}
+use Rattle.std.proofs.Common.{◌≡◌, ℕ, zero, suc, ◌+◌, ◌*◌, ◌/◌, ◌%◌, ◌<◌, ◌≤◌, true, if◌then◌else◌, Option, Some, None, refl, ap, subst, sym, ◌∙◌, arith}
 use Rattle.std.proofs.lemmas.Bool.Decides.{nat_tests}
 use Rattle.std.proofs.lemmas.Option.{cond_some, same_Some}
 use Rattle.ct_words.specs.declared.limits.TheConstants.{MAX_N}
@@ -116,3 +116,8 @@ slot_number-slot_at k s within h = ap slot_number (sym (at_parts k s h).1) ∙ n
 pub slot_number-injective : (s t : Slot) → IsEntry s.1 → IsEntry t.1 → slot_number s ≡ slot_number t → s ≡ t
 slot_number-injective s t h k same =
     same_Some s t (sym (slot_at-slot_number s h) ∙ ap slot_at same ∙ slot_at-slot_number t k)
+
+-- the numbers of the lower sides come first
+pub lower_number-bound : (e : Entry) → IsEntry e → slot_number (Lower, e) < side_size
+unfolding slot_number
+lower_number-bound e h = let entry = entry_number-bound e h in omega arith
