@@ -6,4 +6,5 @@ pub mod PremiseLemmas
 pub mod NumberLemmas
 pub mod SatisfiedLemmas
 pub mod PendingLemmas
-pub mod GetLemmas
+pub mod ListingLemmas
+pub mod UserLemmas

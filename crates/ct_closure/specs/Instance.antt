@@ -1,10 +1,10 @@
 -- The instances of the rules: a rule at an entry.
-use Rattle.std.specs.Prelude.{◌≡◌, ℕ, ◌-◌, ◌<◌, Bool, true, false, nat_lt, if◌then◌else◌, is_some, List, [], length, Contains, All, slice_get, Option, Some, None}
+use Rattle.std.specs.Prelude.{◌≡◌, ℕ, ◌-◌, ◌<◌, true, false, nat_lt, if◌then◌else◌, List, [], length, Contains, All, slice_get, Option, Some, None}
 use Rattle.ct_codes.specs.declared.entry.Entry.{Entry}
 use Rattle.ct_rules.specs.declared.rule.Rule.{Rule}
 use Rattle.ct_rules.specs.declared.rule.Rule.TheVariants.{L10, M10}
 use Rattle.ct_rules.specs.declared.support.Support.{Support}
-use Rattle.ct_rules.specs.declared.support.Support.TheVariants.{Nothing, Size}
+use Rattle.ct_rules.specs.declared.support.Support.TheVariants.{Size}
 use Rattle.ct_rules.specs.Inside.Listing.{names_support}
 use Rattle.ct_rules.specs.Rule.{applies, premise_of}
 use Rattle.ct_rules.specs.Slot.{Slot}

@@ -1,0 +1,8 @@
+use Rattle.ct_closure.proofs.instances.Instances.new.Goals as goal
+
+pub invariant_of-result : goal.invariant_of-result
+invariant_of-result c = (
+  c.in_ok-fixed.ensures.all,
+  rw c.deref.ensures.value at c.in_ok-users.ensures.users,
+  rw c.deref.ensures.value at c.in_ok-users.ensures.bound,
+)
