@@ -3,7 +3,7 @@
 ghost use Rattle.std.specs.Prelude.{◌≡◌, ◌<◌, ◌^◌, Some, All, length, slice_get};
 ghost use Rattle.ct_codes.specs.Entry.{IsEntry};
 ghost use Rattle.ct_closure.specs.Number.{slot_number};
-ghost use Rattle.ct_closure.specs.Instance.{size_rule, instance_of, instance_at, AreAllFixed, AreUsers, AreNumbersBelow};
+ghost use Rattle.ct_closure.specs.Instance.{size_rule, instance_of, instance_at, AreInstances};
 
 use crate::instance::Instance;
 use crate::listing::fixed_instances;
@@ -22,14 +22,13 @@ pub struct Instances {
 }
 
 impl Model for Instances {
-    ghost use Rattle.ct_closure.specs.Instance.{InstancesValue, AreAllFixed, AreUsers, AreNumbersBelow};
-    ghost use Rattle.std.specs.Prelude.{length};
+    ghost use Rattle.ct_closure.specs.Instance.{InstancesValue, AreInstances};
 
     ghost Value = { InstancesValue };
 
     ghost view = { λ i. record { fixed = i.fixed.items; users = i.users } };
 
-    ghost invariant = { λ i. AreAllFixed i.fixed.items × AreUsers i.fixed.items i.users × AreNumbersBelow (length i.fixed.items) i.users };
+    ghost invariant = { λ i. AreInstances (record { fixed = i.fixed.items; users = i.users }) };
 }
 
 /// The instance of the support at the place, where it gives something.
@@ -57,7 +56,8 @@ impl Instances {
 
     /// How many instances name no support.
     pub fn len(&self) -> usize
-        ensures { result ≡ length self.now.fixed }
+        ensures count { result ≡ length self.now.fixed }
+        ensures instances { AreInstances self.now }
     {
         self.fixed.len()
     }
@@ -65,7 +65,8 @@ impl Instances {
     /// The instance of the number: first those that name no support, then one for each support that gives something.
     pub fn at(&self, supports: &[Support], number: usize) -> Option<Instance>
         requires { length supports.now < 2 ^ 32 }
-        ensures { result ≡ instance_at self.now.fixed supports.now number }
+        ensures instance { result ≡ instance_at self.now.fixed supports.now number }
+        ensures instances { AreInstances self.now }
     {
         let count = self.fixed.len();
         if number < count {
@@ -81,6 +82,7 @@ impl Instances {
         requires { IsEntry entry }
         ensures users { slice_get self.now.users (slot_number (side, entry)) ≡ Some result.now }
         ensures bound { All (λ k. k < length self.now.fixed) result.now }
+        ensures instances { AreInstances self.now }
     {
         self.users.of_slot(side, entry)
     }
