@@ -1,8 +1,9 @@
 -- The list of the instances that name no support, as it grows.
-use Rattle.std.proofs.Common.{◌≡◌, ℕ, zero, suc, ◌+◌, ◌-◌, ◌<◌, ◌≤◌, false, true, if◌then◌else◌, List, [], ◌∷◌, ◌++◌, map, flat_map, Contains, ap, subst, sym, ◌∙◌, append-nil, append_assoc, arith, Option, Some}
+use Rattle.std.proofs.Common.{◌≡◌, ℕ, zero, suc, ◌+◌, ◌-◌, ◌<◌, ◌≤◌, false, true, if◌then◌else◌, List, [], ◌∷◌, ◌++◌, map, flat_map, All, Contains, Bool, ap, subst, sym, ◌∙◌, append-nil, append_assoc, arith, refl, Option, Some, None}
 use Rattle.std.specs.List.{range_with_len}
 use Rattle.std.proofs.lemmas.Bool.{and_parts}
 use Rattle.std.proofs.lemmas.List.{map-append}
+use Rattle.std.proofs.lemmas.List.Elements.{All-append, All-from_recursion, All-map, All-nil}
 use Rattle.std.proofs.lemmas.List.FromFn.{map-range_with_len_more}
 use Rattle.ct_counting.proofs.Words.{Contains-map}
 use Rattle.ct_codes.specs.declared.claim.Side.TheVariants.{Lower}
@@ -10,12 +11,12 @@ use Rattle.ct_codes.specs.declared.entry.Entry.{Entry}
 use Rattle.ct_codes.specs.Entry.{is_entry}
 use Rattle.ct_rules.specs.declared.rule.Rule.{Rule}
 use Rattle.ct_rules.specs.declared.rule.Rule.TheVariants.{L11}
-use Rattle.ct_rules.specs.Inside.Listing.{plain_rules, weight_rules, side_by_side_rules, fixed_rules}
+use Rattle.ct_rules.specs.Inside.Listing.{names_support, plain_rules, weight_rules, side_by_side_rules, fixed_rules}
 use Rattle.ct_rules.specs.Rule.{has_weight, cited, in_range}
 use Rattle.ct_rules.specs.Slot.{Slot}
 use Rattle.ct_rules.proofs.RuleLists.{Contains-range_with_len, Contains-flat_map, fixed_rules-complete}
 use Rattle.ct_closure.specs.declared.instance.Instance.{Instance}
-use Rattle.ct_closure.specs.Instance.{AreAllFixed}
+use Rattle.ct_closure.specs.Instance.{AreAllFixed, AreUnsupported}
 use Rattle.ct_closure.specs.Number.{side_size, slot_number, slot_at}
 use Rattle.ct_closure.specs.Inside.Listing.{instances_of, instances_there, instances_below}
 use Rattle.ct_closure.proofs.NumberLemmas.{lower_number-bound, slot_at-slot_number}
@@ -118,3 +119,42 @@ all_below count enough r e plain defined =
 -- the instances at all entries of the table are all that name no support
 pub AreAllFixed-instances_below : AreAllFixed (instances_below side_size)
 AreAllFixed-instances_below = all_below side_size (omega arith)
+
+All-flat_map : {X Y : Type 0} (P : Y → Type 0) (f : X → List Y) (xs : List X) → ((x : X) → All P (f x))
+    → All P (flat_map f xs)
+All-flat_map P f [] h = All-nil P
+All-flat_map P f (x ∷ xs) h = All-append P (f x) (flat_map f xs) (h x) (All-flat_map P f xs h)
+
+-- the rules of the lists name no support
+abbrev IsUnsupported : Rule → Type 0
+IsUnsupported r = names_support r ≡ false
+
+side_by_side_unsupported : (e : Entry) → All IsUnsupported (side_by_side_rules e)
+side_by_side_unsupported e =
+    All-flat_map IsUnsupported (λ n. side_by_side_row n (e.d - 5)) (range_with_len 1 (e.n - 1))
+    (λ n. All-map IsUnsupported (λ d. L11 n d) (range_with_len 3 (e.d - 5)) (λ k d h. refl))
+
+plain_unsupported : All IsUnsupported plain_rules
+plain_unsupported = All-from_recursion IsUnsupported plain_rules (refl, (refl, (refl, (refl, (refl, (refl, (refl, (refl, (refl, tt)))))))))
+
+weight_unsupported : All IsUnsupported weight_rules
+weight_unsupported = All-from_recursion IsUnsupported weight_rules (refl, (refl, tt))
+
+fixed_rules_unsupported : (e : Entry) → All IsUnsupported (fixed_rules e)
+unfolding fixed_rules
+fixed_rules_unsupported e = go (has_weight e)
+  where
+    go : (b : Bool) → All IsUnsupported (if b then weight_rules else plain_rules ++ side_by_side_rules e)
+    go true = weight_unsupported
+    go false = All-append IsUnsupported plain_rules (side_by_side_rules e) plain_unsupported (side_by_side_unsupported e)
+
+unsupported_there : (slot : Option Slot) → AreUnsupported (instances_there slot)
+unsupported_there None = All-nil (λ (i : Instance). IsUnsupported i.rule)
+unsupported_there (Some s) =
+    All-map (λ (i : Instance). IsUnsupported i.rule) (instance_with s.1) (fixed_rules s.1) (fixed_rules_unsupported s.1)
+
+-- the instances at the entries of the table name no support
+pub AreUnsupported-instances_below : (count : ℕ) → AreUnsupported (instances_below count)
+AreUnsupported-instances_below count =
+    All-flat_map (λ (i : Instance). IsUnsupported i.rule) (λ k. instances_there (slot_at k)) (range_with_len 0 count)
+    (λ k. unsupported_there (slot_at k))

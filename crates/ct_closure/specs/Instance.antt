@@ -15,6 +15,10 @@ use Rattle.ct_closure.specs.Number.{slot_number}
 abbrev pub AreAllFixed : List Instance → Type 0
 AreAllFixed fixed = (r : Rule) (e : Entry) → names_support r ≡ false → applies [] r e ≡ true → Contains fixed (record { rule = r; entry = e })
 
+-- none of the instances names a support
+abbrev pub AreUnsupported : List Instance → Type 0
+AreUnsupported fixed = All (λ i. names_support i.rule ≡ false) fixed
+
 -- the rule by which a support at a place gives its size
 abbrev pub size_rule : Option ℕ → ℕ → Rule
 size_rule None place = L10 place
@@ -51,9 +55,11 @@ pub record InstancesValue : Type 0 where
   pub fixed : List Instance
   pub users : List (List ℕ)
 
--- they are all the instances that name no support, and the lists hold those that rest on a slot
-pub record AreInstances (i : InstancesValue) : Type 0 where
-  pub all : AreAllFixed i.fixed
-  pub unsupported : All (λ j. names_support j.rule ≡ false) i.fixed
-  pub users : AreUsers i.fixed i.users
-  pub numbers : AreNumbersBelow (length i.fixed) i.users
+-- all instances that name no support and no others, and for each slot the numbers of those that rest on it
+pub record AreInstances (instances : InstancesValue) : Type 0 where
+  -- each rule that names no support, wherever it is defined, and none that names one
+  pub all : AreAllFixed instances.fixed
+  pub unsupported : AreUnsupported instances.fixed
+  -- those that rest on a slot, in its list, which has numbers of instances alone
+  pub users : AreUsers instances.fixed instances.users
+  pub numbers : AreNumbersBelow (length instances.fixed) instances.users

@@ -58,7 +58,8 @@ impl Instances {
 
     /// How many instances name no support.
     pub fn len(&self) -> usize
-        ensures { result ≡ length self.now.fixed }
+        ensures count { result ≡ length self.now.fixed }
+        ensures instances { AreInstances self.now }
     {
         self.fixed.len()
     }
@@ -66,7 +67,8 @@ impl Instances {
     /// The instance of the number: first those that name no support, then one for each support that gives something.
     pub fn at(&self, supports: &[Support], number: usize) -> Option<Instance>
         requires { length supports.now < 2 ^ 32 }
-        ensures { result ≡ instance_at self.now.fixed supports.now number }
+        ensures instance { result ≡ instance_at self.now.fixed supports.now number }
+        ensures instances { AreInstances self.now }
     {
         let count = self.fixed.len();
         if number < count {
@@ -82,6 +84,7 @@ impl Instances {
         requires { IsEntry entry }
         ensures users { slice_get self.now.users (slot_number (side, entry)) ≡ Some result.now }
         ensures bound { All (λ k. k < length self.now.fixed) result.now }
+        ensures instances { AreInstances self.now }
     {
         self.users.of_slot(side, entry)
     }

@@ -6,7 +6,7 @@ ghost use Rattle.ct_codes.specs.Entry.{IsEntry};
 ghost use Rattle.ct_rules.specs.declared.rule.Rule.{Rule};
 ghost use Rattle.ct_rules.specs.Inside.Listing.{plain_rules, weight_rules, side_by_side_rules, fixed_rules};
 ghost use Rattle.ct_closure.specs.declared.instance.Instance.{Instance};
-ghost use Rattle.ct_closure.specs.Instance.{AreAllFixed};
+ghost use Rattle.ct_closure.specs.Instance.{AreAllFixed, AreUnsupported};
 ghost use Rattle.ct_closure.specs.Number.{side_size};
 ghost use Rattle.ct_closure.specs.Inside.Listing.{instances_of, instances_below};
 
@@ -67,6 +67,7 @@ fn add_fixed(list: &mut Vec<Instance>, entry: Entry) -> Result<(), AllocError>
 pub(crate) fn fixed_instances(alloc: Global) -> Result<Vec<Instance>, AllocError>
     ensures list { IfOk result (λ list. list.items ≡ instances_below side_size) }
     ensures all { IfOk result (λ list. AreAllFixed list.items) }
+    ensures unsupported { IfOk result (λ list. AreUnsupported list.items) }
 {
     let mut list = Vec::new(alloc);
     for number in 0..ENTRIES {

@@ -1,10 +1,10 @@
 use Rattle.std.proofs.Common.{◌≡◌, ◌++◌, Some, None, Vec, Global, append-nil, ap, subst, sym, ◌∙◌, arith}
-use Rattle.ct_closure.specs.Instance.{AreAllFixed}
+use Rattle.ct_closure.specs.Instance.{AreAllFixed, AreUnsupported}
 use Rattle.ct_closure.specs.declared.instance.Instance.{Instance}
 use Rattle.ct_closure.specs.Number.{side_size, slot_at}
 use Rattle.ct_closure.specs.Inside.Listing.{instances_of, instances_below}
 use Rattle.ct_closure.proofs.NumberLemmas.{slot_at-IsEntry}
-use Rattle.ct_closure.proofs.ListingLemmas.{instances_below-more, AreAllFixed-instances_below}
+use Rattle.ct_closure.proofs.ListingLemmas.{instances_below-more, AreAllFixed-instances_below, AreUnsupported-instances_below}
 use Rattle.ct_closure.proofs.listing.fixed_instances.Goals as goal
 use Rattle.ct_closure.proofs.listing.fixed_instances.Goals.{in-Some+in_ok-add_fixed, in_default}
 
@@ -35,3 +35,7 @@ pub returns-clause-all : goal.returns-clause-all
 returns-clause-all c =
     let all : c.loop-number.number ≡ side_size = omega arith in
     subst AreAllFixed (sym (c.loop-number.invariant ∙ ap instances_below all)) AreAllFixed-instances_below
+
+pub returns-clause-unsupported : goal.returns-clause-unsupported
+returns-clause-unsupported c =
+    subst AreUnsupported (sym c.loop-number.invariant) (AreUnsupported-instances_below c.loop-number.number)
