@@ -8,3 +8,7 @@ pub mod SatisfiedLemmas
 pub mod PendingLemmas
 pub mod ListingLemmas
 pub mod UserLemmas
+pub mod KeptLemmas
+pub mod PutLemmas
+pub mod SlackLemmas
+pub mod TurnLemmas

@@ -122,7 +122,8 @@ fn try_instance(
         return Ok(());
     }
     improve(alloc, supports, kept, instance, value)?;
-    work.mark_all(instances.users(side, instance.entry))
+    work.mark_all(instances.users(side, instance.entry))?;
+    Ok(())
 }
 
 /// Takes instances until none is marked, and follows what they improve: then no rule gives anything better than what stands.

@@ -1,3 +1,5 @@
+use Rattle.ct_closure.proofs.SlackLemmas.{slack-set}
+use Rattle.ct_closure.proofs.KeptLemmas.{Grew-trans}
 use Rattle.std.proofs.Common.{◌≡◌, Some, None, [], sym, ap, ◌∙◌}
 use Rattle.std.proofs.lemmas.Option.{none-some}
 use Rattle.ct_rules.specs.Rule.{value_of}
