@@ -1,14 +1,11 @@
 -- Lines that rest on nothing: each slot of the table has one, by a rule that rests on no line and on no support.
-use Rattle.std.proofs.Common.{◌≡◌, ℕ, ◌<◌, ◌^◌, length, min, ◌&&◌, true, false, if◌then◌else◌, List, [], Option, Some, None, refl, sym, ap, ◌∙◌, All}
+use Rattle.std.proofs.Common.{◌≡◌, ℕ, ◌<◌, ◌^◌, length, min, ◌&&◌, true, false, if◌then◌else◌, List, [], Option, Some, None, refl, ap, ◌∙◌}
 use Rattle.std.proofs.lemmas.List.Elements.{All-nil}
-use Rattle.std.specs.Option.{unwrap_or}
 use Rattle.ct_words.specs.declared.limits.TheConstants.{MAX_BOUND}
 use Rattle.ct_counting.specs.Binomials.{choose}
-use Rattle.ct_codes.specs.declared.entry.Entry.{Entry}
 use Rattle.ct_codes.specs.declared.claim.Side.{Side}
 use Rattle.ct_codes.specs.declared.claim.Side.TheVariants.{Lower, Upper}
-use Rattle.ct_codes.specs.Entry.{IsEntry, is_entry}
-use Rattle.ct_rules.specs.declared.rule.Rule.{Rule}
+use Rattle.ct_codes.specs.Entry.{IsEntry}
 use Rattle.ct_rules.specs.declared.support.Support.{Support}
 use Rattle.ct_rules.specs.Derivation.{LineValue, Follows}
 use Rattle.ct_rules.specs.Inside.Listing.{names_support}

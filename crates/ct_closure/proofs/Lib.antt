@@ -1,8 +1,11 @@
 pub mod GetLemmas
 pub mod WorklistLemmas
 pub mod GroundLemmas
+pub mod PutLemmas
 pub mod StartLemmas
 pub mod PremiseLemmas
 pub mod NumberLemmas
 pub mod SatisfiedLemmas
 pub mod PendingLemmas
+pub mod KeptLemmas
+pub mod SlackLemmas

@@ -1,17 +1,17 @@
 -- A table that is started: the slots with smaller numbers have their ground lines, and there are no other lines.
-use Rattle.std.proofs.Common.{◌≡◌, ◌≢◌, ℕ, ◌+◌, ◌*◌, ◌<◌, ◌≤◌, List, [], ◌∷◌, ◌++◌, length, take, slice_get, slice_index, slice_set, Option, Some, None, option_map, refl, sym, ap, subst, ◌∙◌, inl, inr, arith, length-set}
+use Rattle.std.proofs.Common.{◌≡◌, ◌≢◌, ℕ, ◌+◌, ◌*◌, ◌<◌, List, [], ◌∷◌, length, take, slice_get, Some, None, option_map, refl, sym, ap, subst, ◌∙◌, inl, inr, arith, length-set}
 use Rattle.std.proofs.lemmas.Bool.{cases_eq}
-use Rattle.std.proofs.lemmas.List.{get_or-set_same, get_or-set_other}
 use Rattle.std.proofs.lemmas.Option.{none-some, slice_get_within}
 use Rattle.ct_codes.specs.Entry.{IsEntry}
 use Rattle.ct_rules.specs.declared.support.Support.{Support}
 use Rattle.ct_rules.specs.Derivation.{LineValue, Follows}
 use Rattle.ct_rules.specs.Slot.{Slot, slot_of}
 use Rattle.ct_rules.proofs.Places.{slice_get-append_left, slice_get_last}
-use Rattle.ct_closure.specs.Kept.{KeptValue, IsKept, IsGround, reason_of, with_line, ground_value, ground_line}
+use Rattle.ct_closure.specs.Kept.{KeptValue, IsKept, reason_of, with_line, ground_value, ground_line}
 use Rattle.ct_closure.specs.Number.{bound_of, side_size, slot_number, slot_at}
 use Rattle.ct_closure.proofs.GetLemmas.{IsOldOrNew, slice_get_push_cases}
 use Rattle.ct_closure.proofs.GroundLemmas.{Follows-ground, IsGround-ground_line}
+use Rattle.ct_closure.proofs.PutLemmas.{bound-put, reason-put, bound-put_other, reason-put_other}
 use Rattle.ct_closure.proofs.NumberLemmas.{slot_at-IsEntry, slot_at-slot_number, slot_number-bound, slot_number-slot_at, slot_number-injective}
 
 -- a slot has its ground line for its reason
@@ -86,10 +86,10 @@ IsStarted-put count kept s v within at given started = record {
     number = slot_number-slot_at count s within at
 
     bound : bound_of new.bounds s ≡ v
-    bound = get_or-set_same kept.bounds (slot_number s) v 0 (let h = slot_number-bound s entry in omega (arith, started.bound_count))
+    bound = bound-put kept (ground_line s v) started.bound_count entry
 
     reason : reason_of new s ≡ length kept.lines
-    reason = get_or-set_same kept.reasons (slot_number s) (length kept.lines) 0 (let h = slot_number-bound s entry in omega (arith, started.reason_count))
+    reason = reason-put kept (ground_line s v) started.reason_count entry
 
     here : HasGround new s
     here = record {
@@ -98,10 +98,10 @@ IsStarted-put count kept s v within at given started = record {
     }
 
     same_bound : (t : Slot) → slot_number t ≢ slot_number s → bound_of new.bounds t ≡ bound_of kept.bounds t
-    same_bound t other = get_or-set_other kept.bounds (slot_number s) (slot_number t) v 0 other
+    same_bound t other = bound-put_other kept (ground_line s v) t other
 
     same_reason : (t : Slot) → slot_number t ≢ slot_number s → reason_of new t ≡ reason_of kept t
-    same_reason t other = get_or-set_other kept.reasons (slot_number s) (slot_number t) (length kept.lines) 0 other
+    same_reason t other = reason-put_other kept (ground_line s v) t other
 
     kept_ground : (t : Slot) → slot_number t ≢ slot_number s → HasGround kept t → HasGround new t
     kept_ground t other old = record {

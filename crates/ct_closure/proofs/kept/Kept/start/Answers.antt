@@ -1,10 +1,10 @@
-use Rattle.std.proofs.Common.{◌≡◌, ◌+◌, ◌*◌, ℕ, List, [], length, replicate, sym, ap, subst, ◌∙◌, arith}
+use Rattle.std.proofs.Common.{◌≡◌, ◌+◌, ◌*◌, ℕ, List, length, replicate, sym, ap, subst, ◌∙◌, arith}
 use Rattle.std.proofs.lemmas.List.{length-replicate}
 use Rattle.std.proofs.lemmas.Result.{IfOk-from_err}
 use Rattle.ct_codes.specs.Entry.{IsEntry}
 use Rattle.ct_rules.specs.declared.support.Support.{Support}
 use Rattle.ct_rules.specs.Derivation.{LineValue}
-use Rattle.ct_closure.specs.Kept.{KeptValue, IsKept, with_line}
+use Rattle.ct_closure.specs.Kept.{IsKept, with_line}
 use Rattle.ct_closure.specs.Number.{side_size}
 use Rattle.ct_closure.proofs.NumberLemmas.{slot_at-IsEntry}
 use Rattle.ct_closure.proofs.StartLemmas.{IsStarted, IsStarted-none, IsStarted-skip, IsStarted-put, IsKept-started}
