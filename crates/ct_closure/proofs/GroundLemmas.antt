@@ -57,7 +57,8 @@ ground_value-given s = given s.0 s.1.n s.1.d s.1.w
         → (v : ℕ) × (ground_value (side, record { n = n; d = d; w = w }) ≡ Some v)
     given Lower n d None h = (1, ap (λ b. if b && true then Some 1 else None) h)
     given Lower n d (Some w) h = (1, ap (λ b. if b && true then Some 1 else None) h)
-    given Upper n d None h = (min (2 ^ n) MAX_BOUND, ap (λ b. if b && true then Some (min (2 ^ n) MAX_BOUND) else None) h)
+    given Upper n d None h =
+        (min (2 ^ n) MAX_BOUND, ap (λ b. if b && true then Some (min (2 ^ n) MAX_BOUND) else None) h)
     given Upper n d (Some w) h =
         (min (choose n w) MAX_BOUND, ap (λ b. if b && true then Some (min (choose n w) MAX_BOUND) else None) h)
 

@@ -24,8 +24,11 @@ pub loop-number-init : goal.loop-number-init
 loop-number-init c =
     let bounds = c.in_ok-no_bounds.field-0.items in
     let reasons = c.in_ok-zeros.field-0.items in
-    subst (λ (lines : List LineValue). IsStarted 0 (record { bounds = bounds; reasons = reasons; lines = lines })) (sym c.new.ensures.items)
-    (IsStarted-none bounds reasons (all_zeros (2 * side_size) bounds c.in_ok-no_bounds.ensures) (all_zeros (2 * side_size) reasons c.in_ok-zeros.ensures))
+    let started =
+    IsStarted-none bounds reasons (all_zeros (2 * side_size) bounds c.in_ok-no_bounds.ensures)
+    (all_zeros (2 * side_size) reasons c.in_ok-zeros.ensures) in
+    subst (λ (lines : List LineValue). IsStarted 0 (record { bounds = bounds; reasons = reasons; lines = lines }))
+    (sym c.new.ensures.items) started
 
 pub ground_line-requires : goal.ground_line-requires
 ground_line-requires c = slot_at-IsEntry c.loop-number.number (c.in-Some.side, c.in-Some.entry) (sym c.in-Some.ensures)
