@@ -1,8 +1,8 @@
 -- The elements of a list that is written at a place, or grows at its end.
-use Rattle.std.proofs.Common.{◌≡◌, ℕ, zero, suc, ◌<◌, List, [], ◌∷◌, ◌++◌, length, slice_index_or, Some, refl, ap, sym, arith, inl, inr, ◌⊎◌}
+use Rattle.std.proofs.Common.{◌≡◌, ℕ, zero, suc, ◌<◌, List, [], ◌∷◌, ◌++◌, length, Some, refl, ap, sym, ◌∙◌, arith, inl, inr, ◌⊎◌}
 use Rattle.std.specs.Prelude.{◌≢◌, slice_get, slice_set, Contains}
-use Rattle.std.proofs.lemmas.Option.{none-some, same_Some}
-use Rattle.ct_rules.proofs.Places.{IsAtSeam, slice_get-append_cases}
+use Rattle.std.proofs.lemmas.Option.{none-some, same_Some, slice_get_within}
+use Rattle.ct_rules.proofs.Places.{IsAtSeam, slice_get-append_left, slice_get-append_cases}
 
 -- the element at the place that is written
 pub slice_get-set_same : {X : Type 0} (xs : List X) (i : ℕ) (v : X) → i < length xs
@@ -19,6 +19,11 @@ slice_get-set_other (x ∷ xs) zero zero v other = absurd (other refl)
 slice_get-set_other (x ∷ xs) zero (suc j) v other = refl
 slice_get-set_other (x ∷ xs) (suc i) zero v other = refl
 slice_get-set_other (x ∷ xs) (suc i) (suc j) v other = slice_get-set_other xs i j v (λ e. other (ap suc e))
+
+-- an element of a list is one of the list with more at its end
+pub slice_get-append_some : {X : Type 0} (xs ys : List X) (i : ℕ) (x : X) → slice_get xs i ≡ Some x
+    → slice_get (xs ++ ys) i ≡ Some x
+slice_get-append_some xs ys i x found = slice_get-append_left xs ys i (slice_get_within xs i x found) ∙ found
 
 -- an element of a list with one more is one of the list, or the one more
 abbrev pub IsOldOrNew : {X : Type 0} → List X → X → ℕ → X → Type 0

@@ -1,14 +1,11 @@
 -- Lines that rest on nothing: each slot of the table has one, by a rule that rests on no line and on no support.
-use Rattle.std.proofs.Common.{◌≡◌, ℕ, ◌<◌, ◌^◌, length, min, ◌&&◌, true, false, if◌then◌else◌, List, [], Option, Some, None, refl, sym, ap, ◌∙◌, All}
+use Rattle.std.proofs.Common.{◌≡◌, ℕ, ◌<◌, ◌^◌, length, min, ◌&&◌, true, false, if◌then◌else◌, List, [], Option, Some, None, refl, ap, ◌∙◌}
 use Rattle.std.proofs.lemmas.List.Elements.{All-nil}
-use Rattle.std.specs.Option.{unwrap_or}
 use Rattle.ct_words.specs.declared.limits.TheConstants.{MAX_BOUND}
 use Rattle.ct_counting.specs.Binomials.{choose}
-use Rattle.ct_codes.specs.declared.entry.Entry.{Entry}
 use Rattle.ct_codes.specs.declared.claim.Side.{Side}
 use Rattle.ct_codes.specs.declared.claim.Side.TheVariants.{Lower, Upper}
-use Rattle.ct_codes.specs.Entry.{IsEntry, is_entry}
-use Rattle.ct_rules.specs.declared.rule.Rule.{Rule}
+use Rattle.ct_codes.specs.Entry.{IsEntry}
 use Rattle.ct_rules.specs.declared.support.Support.{Support}
 use Rattle.ct_rules.specs.Derivation.{LineValue, Follows}
 use Rattle.ct_rules.specs.Inside.Listing.{names_support}
@@ -60,7 +57,8 @@ ground_value-given s = given s.0 s.1.n s.1.d s.1.w
         → (v : ℕ) × (ground_value (side, record { n = n; d = d; w = w }) ≡ Some v)
     given Lower n d None h = (1, ap (λ b. if b && true then Some 1 else None) h)
     given Lower n d (Some w) h = (1, ap (λ b. if b && true then Some 1 else None) h)
-    given Upper n d None h = (min (2 ^ n) MAX_BOUND, ap (λ b. if b && true then Some (min (2 ^ n) MAX_BOUND) else None) h)
+    given Upper n d None h =
+        (min (2 ^ n) MAX_BOUND, ap (λ b. if b && true then Some (min (2 ^ n) MAX_BOUND) else None) h)
     given Upper n d (Some w) h =
         (min (choose n w) MAX_BOUND, ap (λ b. if b && true then Some (min (choose n w) MAX_BOUND) else None) h)
 

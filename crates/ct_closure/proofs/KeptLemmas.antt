@@ -1,5 +1,5 @@
 -- A table that is kept well: its lines, one more line that gives a better bound, and how tables grow.
-use Rattle.std.proofs.Common.{◌≡◌, ℕ, ◌+◌, ◌*◌, ◌<◌, ◌≤◌, List, [], ◌∷◌, ◌++◌, length, map, take, All, slice_get, slice_index, slice_index_or, Option, Some, None, option_map, refl, sym, ap, subst, ◌∙◌, inl, inr, arith, length-set, append-nil, append_assoc}
+use Rattle.std.proofs.Common.{◌≡◌, ℕ, ◌+◌, ◌<◌, ◌≤◌, List, [], ◌∷◌, ◌++◌, length, map, take, All, slice_get, slice_index, slice_index_or, Option, Some, None, option_map, refl, sym, ap, subst, ◌∙◌, inl, inr, arith, length-set, append-nil, append_assoc}
 use Rattle.std.specs.Prelude.{◌≢◌, true, if◌then◌else◌}
 use Rattle.std.specs.List.{cons_option}
 use Rattle.std.proofs.lemmas.Bool.{cases_eq}
@@ -20,8 +20,8 @@ use Rattle.ct_rules.proofs.RuleLaws.{rule_entry, premises_in_table}
 use Rattle.ct_closure.specs.declared.instance.Instance.{Instance}
 use Rattle.ct_closure.specs.Closing.{value_over, line_by}
 use Rattle.ct_closure.specs.Kept.{KeptValue, IsKept, Grew, reason_of, with_line}
-use Rattle.ct_closure.specs.Number.{bound_of, side_size, slot_number}
-use Rattle.ct_closure.proofs.GetLemmas.{IsOldOrNew, slice_get_push_cases}
+use Rattle.ct_closure.specs.Number.{bound_of, slot_number}
+use Rattle.ct_closure.proofs.GetLemmas.{IsOldOrNew, slice_get-append_some, slice_get_push_cases}
 use Rattle.ct_closure.proofs.NumberLemmas.{slot_number-injective}
 use Rattle.ct_closure.proofs.PremiseLemmas.{value_over_is}
 use Rattle.ct_closure.proofs.PutLemmas.{bound-put, reason-put, bound-put_other, reason-put_other}
@@ -38,9 +38,18 @@ no_better_than_itself Lower v better = omega arith
 no_better_than_itself Upper v better = omega arith
 
 -- what stands where an option that is mapped stands
-mapped : {X Y : Type 0} (f : X → Y) (o : Option X) (y : Y) → option_map f o ≡ Some y → (x : X) × (o ≡ Some x) × (f x ≡ y)
+mapped : {X Y : Type 0} (f : X → Y) (o : Option X) (y : Y) → option_map f o ≡ Some y
+    → (x : X) × (o ≡ Some x) × (f x ≡ y)
 mapped f None y h = absurd (none-some y h)
 mapped f (Some x) y h = (x, refl, same_Some (f x) y h)
+
+-- the claim of the line at a place
+abbrev claim_in : List LineValue → ℕ → Option Claim
+claim_in lines place = option_map (λ l. l.claim) (slice_get lines place)
+
+-- a line gives a better bound of its slot
+abbrev IsImproved : List ℕ → LineValue → Type 0
+IsImproved bounds l = IsBetter l.claim.side l.claim.value (bound_of bounds (slot_of l.claim))
 
 -- the line that gives the bound of a slot
 pub record IsReasonLine (kept : KeptValue) (s : Slot) (l : LineValue) : Type 0 where
@@ -51,8 +60,8 @@ pub reason_line : (supports : List Support) (kept : KeptValue) (s : Slot) → Is
     → (l : LineValue) × IsReasonLine kept s l
 reason_line supports kept s good entry =
     let found =
-        mapped (λ (l : LineValue). l.claim) (slice_get kept.lines (reason_of kept s)) (claim_at s (bound_of kept.bounds s))
-        (good.reasoned s entry) in
+    mapped (λ (l : LineValue). l.claim) (slice_get kept.lines (reason_of kept s)) (claim_at s (bound_of kept.bounds s))
+    (good.reasoned s entry) in
     (found.0, record { there = found.1; claim = found.2 })
 
 -- it is there
@@ -73,7 +82,8 @@ line_entry supports kept i l good found =
 pub line-no_better : (supports : List Support) (kept : KeptValue) (i : ℕ) (l : LineValue) → IsKept supports kept
     → slice_get kept.lines i ≡ Some l
     → IsNoBetter l.claim.side l.claim.value (bound_of kept.bounds (slot_of l.claim))
-line-no_better supports kept i l good found = go (reason_line supports kept s good (line_entry supports kept i l good found))
+line-no_better supports kept i l good found =
+    go (reason_line supports kept s good (line_entry supports kept i l good found))
   where
     s : Slot
     s = slot_of l.claim
@@ -109,10 +119,10 @@ IsKept-with_line supports kept line good entry follows better = record {
   ];
   last = λ i l found. last_line i l (slice_get_push_cases kept.lines line i l found);
   rise = λ i j l m before first second same.
-    rises i j l m before (slice_get_push_cases kept.lines line i l first) (slice_get_push_cases kept.lines line j m second)
-    same;
+      rises i j l m before (slice_get_push_cases kept.lines line i l first)
+      (slice_get_push_cases kept.lines line j m second) same;
   grounded = λ s s_entry. let ground = good.grounded s s_entry in
-    (ground.0, ground.1, still ground.0 ground.1 ground.2, ground.3, ground.4);
+      (ground.0, ground.1, slice_get-append_some kept.lines (line ∷ []) ground.0 ground.1 ground.2, ground.3, ground.4);
 }
   where
     at : Slot
@@ -122,7 +132,7 @@ IsKept-with_line supports kept line good entry follows better = record {
     new = with_line kept line
 
     IsReasoned : Slot → Type 0
-    IsReasoned s = option_map (λ l. l.claim) (slice_get new.lines (reason_of new s)) ≡ Some (claim_at s (bound_of new.bounds s))
+    IsReasoned s = claim_in new.lines (reason_of new s) ≡ Some (claim_at s (bound_of new.bounds s))
 
     bound : bound_of new.bounds at ≡ line.claim.value
     bound = bound-put kept line good.bound_count entry
@@ -130,24 +140,22 @@ IsKept-with_line supports kept line good entry follows better = record {
     reason : reason_of new at ≡ length kept.lines
     reason = reason-put kept line good.reason_count entry
 
-    still : (i : ℕ) (l : LineValue) → slice_get kept.lines i ≡ Some l → slice_get new.lines i ≡ Some l
-    still i l found = slice_get-append_left kept.lines (line ∷ []) i (slice_get_within kept.lines i l found) ∙ found
-
     reasoned_here : IsReasoned at
     reasoned_here =
-        ap (λ r. option_map (λ l. l.claim) (slice_get new.lines r)) reason
-        ∙ ap (option_map (λ l. l.claim)) (slice_get_last kept.lines line) ∙ ap (λ v. Some (claim_at at v)) (sym bound)
+        ap (claim_in new.lines) reason ∙ ap (option_map (λ l. l.claim)) (slice_get_last kept.lines line)
+        ∙ ap (λ v. Some (claim_at at v)) (sym bound)
 
     reasoned_there : (s : Slot) → IsEntry s.1 → slot_number s ≢ slot_number at → IsReasoned s
     reasoned_there s s_entry other =
-        ap (λ r. option_map (λ l. l.claim) (slice_get new.lines r)) (reason-put_other kept line s other)
-        ∙ ap (option_map (λ l. l.claim)) (slice_get-append_left kept.lines (line ∷ []) (reason_of kept s) (reason-within supports kept s good s_entry))
+        let inside = reason-within supports kept s good s_entry in
+        ap (claim_in new.lines) (reason-put_other kept line s other)
+        ∙ ap (option_map (λ l. l.claim)) (slice_get-append_left kept.lines (line ∷ []) (reason_of kept s) inside)
         ∙ good.reasoned s s_entry ∙ ap (λ v. Some (claim_at s v)) (sym (bound-put_other kept line s other))
 
     last_line : (i : ℕ) (l : LineValue) → IsOldOrNew kept.lines line i l → i ≤ reason_of new (slot_of l.claim)
     last_line i l (inl old) = elim (cases_eq (slot_number (slot_of l.claim)) (slot_number at)) [
       | inl same ↦
-          let place : reason_of new (slot_of l.claim) ≡ length kept.lines = ap (slice_index new.reasons) same ∙ reason in
+          let place = ap (slice_index new.reasons) same ∙ reason in
           omega (arith, old.0)
       | inr other ↦
           let place = reason-put_other kept line (slot_of l.claim) other in
@@ -162,8 +170,8 @@ IsKept-with_line supports kept line good entry follows better = record {
     above i l found same =
         let side : l.claim.side ≡ line.claim.side = ap (λ (s : Slot). s.0) same in
         let worse : IsNoBetter l.claim.side l.claim.value (bound_of kept.bounds at) =
-            subst (λ (s : Slot). IsNoBetter l.claim.side l.claim.value (bound_of kept.bounds s)) same
-            (line-no_better supports kept i l good found) in
+        subst (λ (s : Slot). IsNoBetter l.claim.side l.claim.value (bound_of kept.bounds s)) same
+        (line-no_better supports kept i l good found) in
         better-trans_no_better l.claim.side line.claim.value (bound_of kept.bounds at) l.claim.value
         (subst (λ (s : Side). IsBetter s line.claim.value (bound_of kept.bounds at)) (sym side) better) worse
 
@@ -182,13 +190,14 @@ pub Grew-with_line : (supports : List Support) (kept : KeptValue) (line : LineVa
     → IsBetter line.claim.side line.claim.value (bound_of kept.bounds (slot_of line.claim))
     → Grew kept (with_line kept line)
 Grew-with_line supports kept line good entry follows better = record {
-  more = (line ∷ [], refl, All-cons IsImproved line [] better (All-nil IsImproved));
+  more = (line ∷ [], refl, All-cons (IsImproved kept.bounds) line [] better (All-nil (IsImproved kept.bounds)));
   same = λ s s_entry stays. elim (cases_eq (slot_number s) (slot_number at)) [
     | inl same ↦
         let one : s ≡ at = slot_number-injective s at s_entry entry same in
-        let stays_at = subst (λ (t : Slot). bound_of (with_line kept line).bounds t ≡ bound_of kept.bounds t) one stays in
+        let here = subst (λ (t : Slot). bound_of new.bounds t ≡ bound_of kept.bounds t) one stays in
+        let value = sym here ∙ bound-put kept line good.bound_count entry in
         absurd (no_better_than_itself line.claim.side line.claim.value
-        (subst (IsBetter line.claim.side line.claim.value) (sym stays_at ∙ bound-put kept line good.bound_count entry) better))
+        (subst (IsBetter line.claim.side line.claim.value) value better))
     | inr other ↦ reason-put_other kept line s other
   ];
 }
@@ -196,27 +205,27 @@ Grew-with_line supports kept line good entry follows better = record {
     at : Slot
     at = slot_of line.claim
 
-    IsImproved : LineValue → Type 0
-    IsImproved l = IsBetter l.claim.side l.claim.value (bound_of kept.bounds (slot_of l.claim))
+    new : KeptValue
+    new = with_line kept line
 
 -- a table grew from itself
 pub Grew-refl : (kept : KeptValue) → Grew kept kept
 Grew-refl kept = record {
-  more = ([], sym (append-nil kept.lines), All-nil (λ l. IsBetter l.claim.side l.claim.value (bound_of kept.bounds (slot_of l.claim))));
+  more = ([], sym (append-nil kept.lines), All-nil (IsImproved kept.bounds));
   same = λ s entry stays. refl;
 }
 
 -- along a growth no bound gets worse
-pub Grew-no_worse : (supports : List Support) (old new : KeptValue) (s : Slot) → IsKept supports old → IsKept supports new
-    → Grew old new → IsEntry s.1 → IsNoBetter s.0 (bound_of old.bounds s) (bound_of new.bounds s)
+pub Grew-no_worse : (supports : List Support) (old new : KeptValue) (s : Slot) → IsKept supports old
+    → IsKept supports new → Grew old new → IsEntry s.1 → IsNoBetter s.0 (bound_of old.bounds s) (bound_of new.bounds s)
 Grew-no_worse supports old new s before after grew entry = go (reason_line supports old s before entry)
   where
     go : ((l : LineValue) × IsReasonLine old s l) → IsNoBetter s.0 (bound_of old.bounds s) (bound_of new.bounds s)
     go (l, is) =
         let place = reason_of old s in
         let there : slice_get new.lines place ≡ Some l =
-            ap (λ lines. slice_get lines place) grew.more.1
-            ∙ slice_get-append_left old.lines grew.more.0 place (reason-within supports old s before entry) ∙ is.there in
+        ap (λ lines. slice_get lines place) grew.more.1
+        ∙ slice_get-append_some old.lines grew.more.0 place l is.there in
         subst (λ (c : Claim). IsNoBetter c.side c.value (bound_of new.bounds (slot_of c))) is.claim
         (line-no_better supports new place l after there)
 
@@ -224,34 +233,33 @@ Grew-no_worse supports old new s before after grew entry = go (reason_line suppo
 pub Grew-trans : (supports : List Support) (old middle new : KeptValue) → IsKept supports old → IsKept supports middle
     → IsKept supports new → Grew old middle → Grew middle new → Grew old new
 Grew-trans supports old middle new good_old good_middle good_new first second = record {
-  more = (first.more.0 ++ second.more.0,
-    second.more.1 ∙ ap (λ lines. lines ++ second.more.0) first.more.1 ∙ append_assoc old.lines first.more.0 second.more.0,
-    All-append IsImproved first.more.0 second.more.0 first.more.2 improved);
+  more = (
+    first.more.0 ++ second.more.0,
+    second.more.1 ∙ ap (λ lines. lines ++ added) first.more.1 ∙ append_assoc old.lines first.more.0 added,
+    All-append (IsImproved old.bounds) first.more.0 second.more.0 first.more.2 improved,
+  );
   same = λ s entry stays.
-    let worse = Grew-no_worse supports old middle s good_old good_middle first entry in
-    let later = Grew-no_worse supports middle new s good_middle good_new second entry in
-    let back : IsNoBetter s.0 (bound_of middle.bounds s) (bound_of old.bounds s) =
-        subst (IsNoBetter s.0 (bound_of middle.bounds s)) stays later in
-    let one = no_better-antisymmetric s.0 (bound_of old.bounds s) (bound_of middle.bounds s) worse back in
-    second.same s entry (stays ∙ one) ∙ first.same s entry (sym one);
+      let worse = Grew-no_worse supports old middle s good_old good_middle first entry in
+      let later = Grew-no_worse supports middle new s good_middle good_new second entry in
+      let back : IsNoBetter s.0 (bound_of middle.bounds s) (bound_of old.bounds s) =
+      subst (IsNoBetter s.0 (bound_of middle.bounds s)) stays later in
+      let one = no_better-antisymmetric s.0 (bound_of old.bounds s) (bound_of middle.bounds s) worse back in
+      second.same s entry (stays ∙ one) ∙ first.same s entry (sym one);
 }
   where
-    IsImproved : LineValue → Type 0
-    IsImproved l = IsBetter l.claim.side l.claim.value (bound_of old.bounds (slot_of l.claim))
-
     added : List LineValue
     added = second.more.0
 
-    improved : All IsImproved added
+    improved : All (IsImproved old.bounds) added
     improved k d within =
         let l = slice_index_or added k d in
         let there : slice_get new.lines (length middle.lines + k) ≡ Some l =
-            ap (λ lines. slice_get lines (length middle.lines + k)) second.more.1
-            ∙ slice_get-append_right middle.lines added k ∙ slice_get-get_or added k d within in
+        ap (λ lines. slice_get lines (length middle.lines + k)) second.more.1
+        ∙ slice_get-append_right middle.lines added k ∙ slice_get-get_or added k d within in
         let entry = line_entry supports new (length middle.lines + k) l good_new there in
-        better-trans_no_better l.claim.side l.claim.value (bound_of middle.bounds (slot_of l.claim)) (bound_of old.bounds (slot_of l.claim))
-        (second.more.2 k d within)
-        (Grew-no_worse supports old middle (slot_of l.claim) good_old good_middle first entry)
+        let s = slot_of l.claim in
+        better-trans_no_better s.0 l.claim.value (bound_of middle.bounds s) (bound_of old.bounds s)
+        (second.more.2 k d within) (Grew-no_worse supports old middle s good_old good_middle first entry)
 
 -- the claims of the lines that give the bounds of slots of the table are those of the bounds
 claims_at-reasons : (supports : List Support) (kept : KeptValue) (slots : List Slot) → IsKept supports kept
@@ -271,7 +279,8 @@ pub Follows-line_by : (supports : List Support) (kept : KeptValue) (i : Instance
 Follows-line_by supports kept i v good defined given =
     let bounds = bound_of kept.bounds in
     let slots = premises_at (cited supports i.rule) i.rule i.entry in
-    let premises : premises_of supports i.rule i.entry ≡ Some slots = ap (λ b. if b then Some slots else None) defined in
+    let premises : premises_of supports i.rule i.entry ≡ Some slots =
+    ap (λ b. if b then Some slots else None) defined in
     let entries = premises_in_table supports i.rule i.entry slots premises in
     let claims = claims_at-reasons supports kept slots good entries in
     record {

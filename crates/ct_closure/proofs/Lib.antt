@@ -1,6 +1,7 @@
 pub mod GetLemmas
 pub mod WorklistLemmas
 pub mod GroundLemmas
+pub mod PutLemmas
 pub mod StartLemmas
 pub mod PremiseLemmas
 pub mod NumberLemmas
@@ -9,6 +10,5 @@ pub mod PendingLemmas
 pub mod ListingLemmas
 pub mod UserLemmas
 pub mod KeptLemmas
-pub mod PutLemmas
 pub mod SlackLemmas
 pub mod TurnLemmas

@@ -23,20 +23,22 @@ left n bounds = sum_by (λ v. MAX_BOUND - v) (take n bounds) + sum_by (λ v. v) 
 
 left-first : (n : ℕ) (bounds : List ℕ) (k v : ℕ) → k < n → k < length bounds → slice_index bounds k < v → v ≤ MAX_BOUND
     → left n (slice_set bounds k v) < left n bounds
-left-first n bounds k v first inside better limit =
+left-first n bounds k v first within better limit =
     let front = ap (sum_by (λ u. MAX_BOUND - u)) (take-set-lt n bounds k v first) in
     let back = ap (sum_by (λ u. u)) (drop-set-lt n bounds k v first) in
     let here = get_or-take n bounds k 0 first in
-    let less = sum_by-smaller (λ u. MAX_BOUND - u) (take n bounds) k v (omega (arith, length-take n bounds)) (omega arith) in
+    let inside : k < length (take n bounds) = omega (arith, length-take n bounds) in
+    let less = sum_by-smaller (λ u. MAX_BOUND - u) (take n bounds) k v inside (omega arith) in
     omega arith
 
 left-other : (n : ℕ) (bounds : List ℕ) (j v : ℕ) → n + j < length bounds → v < slice_index bounds (n + j)
     → left n (slice_set bounds (n + j) v) < left n bounds
-left-other n bounds j v inside better =
+left-other n bounds j v within better =
     let front = ap (sum_by (λ u. MAX_BOUND - u)) (take-set-le n bounds (n + j) v (omega arith)) in
     let back = ap (sum_by (λ u. u)) (drop-set-add n bounds j v) in
     let here = get_or-drop n bounds j 0 in
-    let less = sum_by-smaller (λ u. u) (drop n bounds) j v (omega (arith, length-drop n bounds)) (omega arith) in
+    let inside : j < length (drop n bounds) = omega (arith, length-drop n bounds) in
+    let less = sum_by-smaller (λ u. u) (drop n bounds) j v inside (omega arith) in
     omega arith
 
 -- the numbers of the upper sides come last

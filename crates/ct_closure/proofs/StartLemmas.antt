@@ -1,15 +1,15 @@
 -- A table that is started: the slots with smaller numbers have their ground lines, and there are no other lines.
-use Rattle.std.proofs.Common.{◌≡◌, ◌≢◌, ℕ, ◌+◌, ◌*◌, ◌<◌, ◌≤◌, List, [], ◌∷◌, ◌++◌, length, take, slice_get, slice_index, slice_set, Option, Some, None, option_map, refl, sym, ap, subst, ◌∙◌, inl, inr, arith, length-set}
+use Rattle.std.proofs.Common.{◌≡◌, ◌≢◌, ℕ, ◌+◌, ◌*◌, ◌<◌, List, [], ◌∷◌, length, take, slice_get, Some, None, option_map, refl, sym, ap, subst, ◌∙◌, inl, inr, arith, length-set}
 use Rattle.std.proofs.lemmas.Bool.{cases_eq}
-use Rattle.std.proofs.lemmas.Option.{none-some, slice_get_within}
+use Rattle.std.proofs.lemmas.Option.{none-some}
 use Rattle.ct_codes.specs.Entry.{IsEntry}
 use Rattle.ct_rules.specs.declared.support.Support.{Support}
 use Rattle.ct_rules.specs.Derivation.{LineValue, Follows}
 use Rattle.ct_rules.specs.Slot.{Slot, slot_of}
-use Rattle.ct_rules.proofs.Places.{slice_get-append_left, slice_get_last}
-use Rattle.ct_closure.specs.Kept.{KeptValue, IsKept, IsGround, reason_of, with_line, ground_value, ground_line}
+use Rattle.ct_rules.proofs.Places.{slice_get_last}
+use Rattle.ct_closure.specs.Kept.{KeptValue, IsKept, reason_of, with_line, ground_value, ground_line}
 use Rattle.ct_closure.specs.Number.{bound_of, side_size, slot_number, slot_at}
-use Rattle.ct_closure.proofs.GetLemmas.{IsOldOrNew, slice_get_push_cases}
+use Rattle.ct_closure.proofs.GetLemmas.{IsOldOrNew, slice_get-append_some, slice_get_push_cases}
 use Rattle.ct_closure.proofs.GroundLemmas.{Follows-ground, IsGround-ground_line}
 use Rattle.ct_closure.proofs.PutLemmas.{bound-put, reason-put, bound-put_other, reason-put_other}
 use Rattle.ct_closure.proofs.NumberLemmas.{slot_at-IsEntry, slot_at-slot_number, slot_number-bound, slot_number-slot_at, slot_number-injective}
@@ -73,11 +73,14 @@ IsStarted-put count kept s v within at given started = record {
     | inl same ↦ subst (HasGround new) (sym (slot_number-injective t s t_entry entry same)) here
     | inr other ↦ kept_ground t other (started.grounded t t_entry (omega (arith, number)))
   ];
-  lines = λ i l found. line i l (slice_get_push_cases kept.lines (ground_line s v) i l found);
+  lines = λ i l found. line i l (slice_get_push_cases kept.lines put i l found);
 }
   where
+    put : LineValue
+    put = ground_line s v
+
     new : KeptValue
-    new = with_line kept (ground_line s v)
+    new = with_line kept put
 
     entry : IsEntry s.1
     entry = slot_at-IsEntry count s at
@@ -86,33 +89,32 @@ IsStarted-put count kept s v within at given started = record {
     number = slot_number-slot_at count s within at
 
     bound : bound_of new.bounds s ≡ v
-    bound = bound-put kept (ground_line s v) started.bound_count entry
+    bound = bound-put kept put started.bound_count entry
 
     reason : reason_of new s ≡ length kept.lines
-    reason = reason-put kept (ground_line s v) started.reason_count entry
+    reason = reason-put kept put started.reason_count entry
 
     here : HasGround new s
     here = record {
       value = given ∙ ap Some (sym bound);
-      line = ap (slice_get new.lines) reason ∙ slice_get_last kept.lines (ground_line s v) ∙ ap (λ x. Some (ground_line s x)) (sym bound);
+      line =
+          ap (slice_get new.lines) reason ∙ slice_get_last kept.lines put
+          ∙ ap (λ x. Some (ground_line s x)) (sym bound);
     }
-
-    same_bound : (t : Slot) → slot_number t ≢ slot_number s → bound_of new.bounds t ≡ bound_of kept.bounds t
-    same_bound t other = bound-put_other kept (ground_line s v) t other
-
-    same_reason : (t : Slot) → slot_number t ≢ slot_number s → reason_of new t ≡ reason_of kept t
-    same_reason t other = reason-put_other kept (ground_line s v) t other
 
     kept_ground : (t : Slot) → slot_number t ≢ slot_number s → HasGround kept t → HasGround new t
-    kept_ground t other old = record {
-      value = old.value ∙ ap Some (sym (same_bound t other));
-      line =
-          ap (slice_get new.lines) (same_reason t other)
-          ∙ slice_get-append_left kept.lines (ground_line s v ∷ []) (reason_of kept t) (slice_get_within kept.lines (reason_of kept t) (ground_line t (bound_of kept.bounds t)) old.line)
-          ∙ old.line ∙ ap (λ x. Some (ground_line t x)) (sym (same_bound t other));
-    }
+    kept_ground t other old =
+        let stays = bound-put_other kept put t other in
+        let ground = ground_line t (bound_of kept.bounds t) in
+        record {
+          value = old.value ∙ ap Some (sym stays);
+          line =
+              ap (slice_get new.lines) (reason-put_other kept put t other)
+              ∙ slice_get-append_some kept.lines (put ∷ []) (reason_of kept t) ground old.line
+              ∙ ap (λ x. Some (ground_line t x)) (sym stays);
+        }
 
-    line : (i : ℕ) (l : LineValue) → IsOldOrNew kept.lines (ground_line s v) i l → IsGroundBelow new (count + 1) i l
+    line : (i : ℕ) (l : LineValue) → IsOldOrNew kept.lines put i l → IsGroundBelow new (count + 1) i l
     line i l (inl found) =
         let old = started.lines i l found.1 in
         let below = old.below in
@@ -120,7 +122,7 @@ IsStarted-put count kept s v within at given started = record {
         record {
           entry = old.entry;
           below = omega arith;
-          reason = old.reason ∙ sym (same_reason (slot_of l.claim) other);
+          reason = old.reason ∙ sym (reason-put_other kept put (slot_of l.claim) other);
           value = old.value;
           line = old.line;
         }
@@ -144,7 +146,8 @@ IsKept-started kept started supports = record {
   rise = λ i j l m before first second same.
       absurd (apart i j l m before (started.lines i l first).reason (started.lines j m second).reason same);
   grounded = λ s entry.
-      (reason_of kept s, ground_line s (bound_of kept.bounds s), (ground s entry).line, refl, IsGround-ground_line s (bound_of kept.bounds s));
+      let v = bound_of kept.bounds s in
+      (reason_of kept s, ground_line s v, (ground s entry).line, refl, IsGround-ground_line s v);
 }
   where
     ground : (s : Slot) → IsEntry s.1 → HasGround kept s
@@ -155,7 +158,8 @@ IsKept-started kept started supports = record {
         subst (Follows supports (take i kept.lines)) (sym line.line)
         (Follows-ground supports (take i kept.lines) (slot_of l.claim) l.claim.value line.entry line.value)
 
-    apart : (i j : ℕ) (l m : LineValue) → i < j → i ≡ reason_of kept (slot_of l.claim) → j ≡ reason_of kept (slot_of m.claim)
+    apart : (i j : ℕ) (l m : LineValue) → i < j → i ≡ reason_of kept (slot_of l.claim)
+        → j ≡ reason_of kept (slot_of m.claim)
         → slot_of l.claim ≡ slot_of m.claim → ⊥
     apart i j l m before first second same =
         let e : reason_of kept (slot_of l.claim) ≡ reason_of kept (slot_of m.claim) = ap (reason_of kept) same in

@@ -1,6 +1,4 @@
-use Rattle.ct_closure.proofs.SlackLemmas.{slack-set}
-use Rattle.ct_closure.proofs.KeptLemmas.{Grew-trans}
-use Rattle.std.proofs.Common.{◌≡◌, Some, None, [], sym, ap, ◌∙◌}
+use Rattle.std.proofs.Common.{[], sym, ap, ◌∙◌}
 use Rattle.std.proofs.lemmas.Option.{none-some}
 use Rattle.ct_rules.specs.Rule.{value_of}
 use Rattle.ct_closure.proofs.GroundLemmas.{ground_value-given}
@@ -9,4 +7,5 @@ use Rattle.ct_closure.proofs.kept.ground_line.Goals as goal
 pub unreachable-requires : goal.unreachable-requires
 unreachable-requires c =
     let given = ground_value-given (c.args.side, c.args.entry) c.requires in
-    none-some given.0 (sym c.in_default.is ∙ c.value.ensures.value ∙ ap (λ r. value_of [] r c.args.entry []) c.ground_rule-rule.ensures ∙ given.1)
+    let rule = ap (λ r. value_of [] r c.args.entry []) c.ground_rule-rule.ensures in
+    none-some given.0 (sym c.in_default.is ∙ c.value.ensures.value ∙ rule ∙ given.1)

@@ -1,10 +1,10 @@
-use Rattle.std.proofs.Common.{◌≡◌, ◌+◌, ◌*◌, ℕ, List, [], length, replicate, sym, ap, subst, ◌∙◌, arith}
+use Rattle.std.proofs.Common.{◌≡◌, ◌+◌, ◌*◌, ℕ, List, length, replicate, sym, ap, subst, ◌∙◌, arith}
 use Rattle.std.proofs.lemmas.List.{length-replicate}
 use Rattle.std.proofs.lemmas.Result.{IfOk-from_err}
 use Rattle.ct_codes.specs.Entry.{IsEntry}
 use Rattle.ct_rules.specs.declared.support.Support.{Support}
 use Rattle.ct_rules.specs.Derivation.{LineValue}
-use Rattle.ct_closure.specs.Kept.{KeptValue, IsKept, with_line}
+use Rattle.ct_closure.specs.Kept.{IsKept, with_line}
 use Rattle.ct_closure.specs.Number.{side_size}
 use Rattle.ct_closure.proofs.NumberLemmas.{slot_at-IsEntry}
 use Rattle.ct_closure.proofs.StartLemmas.{IsStarted, IsStarted-none, IsStarted-skip, IsStarted-put, IsKept-started}
@@ -24,8 +24,11 @@ pub loop-number-init : goal.loop-number-init
 loop-number-init c =
     let bounds = c.in_ok-no_bounds.field-0.items in
     let reasons = c.in_ok-zeros.field-0.items in
-    subst (λ (lines : List LineValue). IsStarted 0 (record { bounds = bounds; reasons = reasons; lines = lines })) (sym c.new.ensures.items)
-    (IsStarted-none bounds reasons (all_zeros (2 * side_size) bounds c.in_ok-no_bounds.ensures) (all_zeros (2 * side_size) reasons c.in_ok-zeros.ensures))
+    let started =
+    IsStarted-none bounds reasons (all_zeros (2 * side_size) bounds c.in_ok-no_bounds.ensures)
+    (all_zeros (2 * side_size) reasons c.in_ok-zeros.ensures) in
+    subst (λ (lines : List LineValue). IsStarted 0 (record { bounds = bounds; reasons = reasons; lines = lines }))
+    (sym c.new.ensures.items) started
 
 pub ground_line-requires : goal.ground_line-requires
 ground_line-requires c = slot_at-IsEntry c.loop-number.number (c.in-Some.side, c.in-Some.entry) (sym c.in-Some.ensures)
