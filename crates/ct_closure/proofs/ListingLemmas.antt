@@ -135,7 +135,9 @@ side_by_side_unsupported e =
     (λ n. All-map IsUnsupported (λ d. L11 n d) (range_with_len 3 (e.d - 5)) (λ k d h. refl))
 
 plain_unsupported : All IsUnsupported plain_rules
-plain_unsupported = All-from_recursion IsUnsupported plain_rules (refl, (refl, (refl, (refl, (refl, (refl, (refl, (refl, (refl, tt)))))))))
+plain_unsupported =
+    All-from_recursion IsUnsupported plain_rules
+    (refl, (refl, (refl, (refl, (refl, (refl, (refl, (refl, (refl, tt)))))))))
 
 weight_unsupported : All IsUnsupported weight_rules
 weight_unsupported = All-from_recursion IsUnsupported weight_rules (refl, (refl, tt))
@@ -146,7 +148,8 @@ fixed_rules_unsupported e = go (has_weight e)
   where
     go : (b : Bool) → All IsUnsupported (if b then weight_rules else plain_rules ++ side_by_side_rules e)
     go true = weight_unsupported
-    go false = All-append IsUnsupported plain_rules (side_by_side_rules e) plain_unsupported (side_by_side_unsupported e)
+    go false =
+        All-append IsUnsupported plain_rules (side_by_side_rules e) plain_unsupported (side_by_side_unsupported e)
 
 unsupported_there : (slot : Option Slot) → AreUnsupported (instances_there slot)
 unsupported_there None = All-nil (λ (i : Instance). IsUnsupported i.rule)

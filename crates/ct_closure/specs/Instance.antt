@@ -38,6 +38,10 @@ instance_at fixed supports k =
 abbrev pub RestsOn : Instance → Slot → Type 0
 RestsOn i s = (j : ℕ) × (premise_of [] i.rule i.entry j ≡ Some s)
 
+-- an instance rests on a slot of the number
+abbrev pub RestsAt : Instance → ℕ → Type 0
+RestsAt i m = (s : Slot) × RestsOn i s × (slot_number s ≡ m)
+
 -- the list of a number holds the number of an instance
 abbrev pub HasUser : List (List ℕ) → ℕ → ℕ → Type 0
 HasUser users m k = (list : List ℕ) × (slice_get users m ≡ Some list) × Contains list k
@@ -45,6 +49,10 @@ HasUser users m k = (list : List ℕ) × (slice_get users m ≡ Some list) × Co
 -- the lists, by the numbers of the slots, hold the numbers of all instances that rest on the slot
 abbrev pub AreUsers : List Instance → List (List ℕ) → Type 0
 AreUsers fixed users = (k : ℕ) (i : Instance) (s : Slot) → slice_get fixed k ≡ Some i → RestsOn i s → HasUser users (slot_number s) k
+
+-- and of no others
+abbrev pub AreOnlyUsers : List Instance → List (List ℕ) → Type 0
+AreOnlyUsers fixed users = (m k : ℕ) → HasUser users m k → (i : Instance) × (slice_get fixed k ≡ Some i) × RestsAt i m
 
 -- the lists hold numbers below a number
 abbrev pub AreNumbersBelow : ℕ → List (List ℕ) → Type 0
@@ -60,6 +68,7 @@ pub record AreInstances (instances : InstancesValue) : Type 0 where
   -- each rule that names no support, wherever it is defined, and none that names one
   pub all : AreAllFixed instances.fixed
   pub unsupported : AreUnsupported instances.fixed
-  -- those that rest on a slot, in its list, which has numbers of instances alone
+  -- those that rest on a slot, and no others, in its list, which has numbers of instances alone
   pub users : AreUsers instances.fixed instances.users
+  pub only : AreOnlyUsers instances.fixed instances.users
   pub numbers : AreNumbersBelow (length instances.fixed) instances.users

@@ -1,10 +1,10 @@
 //! Which instances rest on a slot.
 
-ghost use Rattle.std.specs.Prelude.{◌≡◌, ◌*◌, ◌<◌, ◌++◌, ◌∷◌, [], ℕ, OnOk, IfOk, List, length, All, slice_get, Some};
+ghost use Rattle.std.specs.Prelude.{◌≡◌, ◌⊎◌, ◌*◌, ◌<◌, ◌++◌, ◌∷◌, [], ℕ, OnOk, IfOk, List, length, All, slice_get, Some};
 ghost use Rattle.ct_codes.specs.Entry.{IsEntry};
 ghost use Rattle.ct_rules.specs.Slot.{Slot};
 ghost use Rattle.ct_closure.specs.Number.{slot_number, side_size};
-ghost use Rattle.ct_closure.specs.Instance.{RestsOn, HasUser, AreUsers, AreNumbersBelow};
+ghost use Rattle.ct_closure.specs.Instance.{RestsOn, RestsAt, HasUser, AreUsers, AreOnlyUsers, AreNumbersBelow};
 
 use crate::instance::Instance;
 use crate::number::{SLOTS, slot_number};
@@ -86,6 +86,7 @@ impl Users {
     fn add(&mut self, side: Side, entry: Entry, number: usize) -> Result<(), AllocError>
         requires entry { IsEntry entry }
         ensures added { OnOk result (HasUser self.new (slot_number (side, entry)) number) }
+        ensures only { OnOk result ((m k : ℕ) → HasUser self.new m k → HasUser self.old m k ⊎ ((m ≡ slot_number (side, entry)) × (k ≡ number))) }
         ensures kept { OnOk result ((m k : ℕ) → HasUser self.old m k → HasUser self.new m k) }
         ensures bound { OnOk result ((count : ℕ) → number < count → AreNumbersBelow count self.old → AreNumbersBelow count self.new) }
     {
@@ -95,6 +96,7 @@ impl Users {
     /// Puts the instance of the number to those of each slot that it rests on.
     fn add_instance(&mut self, instance: Instance, number: usize) -> Result<(), AllocError>
         ensures added { OnOk result ((s : Slot) → RestsOn instance s → HasUser self.new (slot_number s) number) }
+        ensures only { OnOk result ((m k : ℕ) → HasUser self.new m k → HasUser self.old m k ⊎ (RestsAt instance m × (k ≡ number))) }
         ensures kept { OnOk result ((m k : ℕ) → HasUser self.old m k → HasUser self.new m k) }
         ensures bound { OnOk result ((count : ℕ) → number < count → AreNumbersBelow count self.old → AreNumbersBelow count self.new) }
     {
@@ -110,6 +112,7 @@ impl Users {
     /// The numbers of all instances of the list that rest on a slot. `Err` is want of memory.
     pub(crate) fn of(alloc: Global, fixed: &[Instance]) -> Result<Users, AllocError>
         ensures users { IfOk result (λ users. AreUsers fixed.now users) }
+        ensures only { IfOk result (λ users. AreOnlyUsers fixed.now users) }
         ensures bound { IfOk result (λ users. AreNumbersBelow (length fixed.now) users) }
     {
         let mut users = Users::none(alloc)?;

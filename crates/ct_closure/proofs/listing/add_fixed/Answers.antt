@@ -15,6 +15,7 @@ returns c =
     let e = c.args.entry in
     let start = c.args.list.now.items in
     let plain = c.add_rules-2.new.list.items in
-    let both = instances_of_without_weight e start plain (sym c.is_some.ensures ∙ c.if-is_some.false) c.in_ok-add_rules.ensures in
+    let none = sym c.is_some.ensures ∙ c.if-is_some.false in
+    let both = instances_of_without_weight e start plain none c.in_ok-add_rules.ensures in
     subst (λ (z : List Instance). OnOk c.add_side_by_side.result (c.add_side_by_side.new.list.items ≡ z)) both
     c.add_side_by_side.ensures

@@ -4,7 +4,9 @@ use Rattle.ct_closure.proofs.listing.add_side_by_side.Goals as goal
 
 pub loop-d-preserved : goal.loop-d-preserved
 loop-d-preserved c = record {
-  row = c.in_ok-push.ensures.items ∙ row-more c.args.entry c.loop-n.n c.loop-d.d c.loop-n.list.items c.loop-d.list.items (omega arith)
+  row =
+      c.in_ok-push.ensures.items
+      ∙ row-more c.args.entry c.loop-n.n c.loop-d.d c.loop-n.list.items c.loop-d.list.items (omega arith)
       c.loop-d.invariant.row;
   within = omega (arith, c.saturating_sub-d-end.ensures);
 }

@@ -17,9 +17,10 @@ loop-number-preserved c =
     let k = c.loop-number.number in
     elim c.match-slot_at.branch [
       | in-Some+in_ok-add_fixed w ↦
+          let slot = Some (w.in-Some.field-0-0, w.in-Some.entry) in
           ap (λ (v : Vec Instance Global). v.items) w.list-is ∙ w.in_ok-add_fixed.ensures
           ∙ ap (λ z. z ++ instances_of w.in-Some.entry) c.loop-number.invariant
-          ∙ sym (instances_below-more k (Some (w.in-Some.field-0-0, w.in-Some.entry)) (sym c.slot_at.ensures ∙ w.in-Some.is))
+          ∙ sym (instances_below-more k slot (sym c.slot_at.ensures ∙ w.in-Some.is))
       | in_default w ↦
           let none : slot_at k ≡ None = sym c.slot_at.ensures ∙ w.in_default.is in
           ap (λ (v : Vec Instance Global). v.items) w.list-is ∙ c.loop-number.invariant

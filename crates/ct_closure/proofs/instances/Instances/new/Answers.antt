@@ -5,5 +5,6 @@ invariant_of-result c = record {
   all = c.in_ok-fixed.ensures.all;
   unsupported = c.in_ok-fixed.ensures.unsupported;
   users = rw c.deref.ensures.value at c.in_ok-users.ensures.users;
+  only = rw c.deref.ensures.value at c.in_ok-users.ensures.only;
   numbers = rw c.deref.ensures.value at c.in_ok-users.ensures.bound;
 }

@@ -16,7 +16,7 @@ loop-j-preserved c =
           let more = w.in_ok-add.ensures in
           subst (λ (u : List (List ℕ)). IsAddedBelow i number (j + 1) start u) (sym w.self-is)
           (one_more i number j start c.loop-j.self w.add.new.self (w.in-Some.side, w.in-Some.entry) before
-          (sym c.premise.ensures.premise ∙ w.in-Some.is) more.added more.kept more.bound)
+          (sym c.premise.ensures.premise ∙ w.in-Some.is) more.added more.only more.kept more.bound)
       | in_default w ↦
           subst (λ (u : List (List ℕ)). IsAddedBelow i number (j + 1) start u) (sym w.self-is)
           (none_there i number j start c.loop-j.self before (sym c.premise.ensures.premise ∙ w.in_default.is))
