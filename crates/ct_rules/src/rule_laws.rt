@@ -1,8 +1,7 @@
 //! What the rules of the table mean, for all entries and all premises: what they rest on, that they are sound and
 //! monotone. And, at entries where it is known, where they are defined, what they rest on and what they give.
 
-ghost use Rattle.std.specs.Prelude.{◌≡◌, ◌↔◌, ◌⊎◌, EachIndex, slice_index, ℕ, ◌^◌, ◌*◌, ◌+◌, ◌≤◌, List, [], ◌∷◌, length, map, filter, All, Option, Some, None, IsSome, is_some};
-ghost use Rattle.ct_words.specs.declared.limits.TheConstants.{MAX_BOUND};
+ghost use Rattle.std.specs.Prelude.{◌≡◌, ◌↔◌, ◌⊎◌, EachIndex, slice_index, ℕ, ◌^◌, ◌+◌, ◌≤◌, List, [], ◌∷◌, length, map, filter, All, Some, None, IsSome, is_some};
 ghost use Rattle.ct_codes.specs.declared.entry.Entry.{Entry};
 ghost use Rattle.ct_codes.specs.declared.claim.Claim.{Claim};
 ghost use Rattle.ct_codes.specs.declared.claim.Side.{Side};
