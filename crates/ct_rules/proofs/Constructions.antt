@@ -1,10 +1,9 @@
 -- Codes without weight from codes without weight, as claims: there is a code of so many words.
-use Rattle.std.proofs.Common.{◌≡◌, ℕ, ◌+◌, ◌-◌, ◌*◌, ◌^◌, ◌<◌, ◌≤◌, min, List, [], ◌∷◌, length, take, All, AllPairs, refl, ap₂, subst, ◌∙◌, inl, inr, arith, pow_pos}
+use Rattle.std.proofs.Common.{◌≡◌, ℕ, ◌+◌, ◌-◌, ◌*◌, ◌^◌, ◌<◌, ◌≤◌, min, List, [], ◌∷◌, length, All, AllPairs, refl, ap₂, subst, ◌∙◌, inl, inr, arith, pow_pos}
 use Rattle.std.specs.Prelude.{None}
 use Rattle.std.proofs.Math.Pow.{ones_lt}
 use Rattle.std.proofs.lemmas.Bool.{cases_lt}
 use Rattle.std.proofs.lemmas.Nat.Bits.{bit_at-zero, bit_at-lt}
-use Rattle.std.proofs.lemmas.List.{length-take-le}
 use Rattle.std.proofs.lemmas.List.Elements.{All-nil, All-cons}
 use Rattle.std.proofs.lemmas.List.Kept.{AllPairs-cons}
 use Rattle.ct_words.specs.Word.{digit, distance, IsSum}
@@ -20,7 +19,7 @@ use Rattle.ct_build.specs.Shortened.{shortened}
 use Rattle.ct_build.specs.Uuv.{uuv_words}
 use Rattle.ct_build.specs.Juxtaposed.{juxtaposed}
 use Rattle.ct_build.proofs.FarWords.{AreFar, code_from_far}
-use Rattle.ct_build.proofs.FrontLemmas.{IsCode-take, IsCode-nearer}
+use Rattle.ct_build.proofs.FrontLemmas.{IsCode-nearer}
 use Rattle.ct_build.proofs.AppendLemmas.{IsCode-lengthened, IsCode-with_parity, length-lengthened, length-with_parity}
 use Rattle.ct_build.proofs.EvenLemmas.{IsCode-even_words, length-even_words}
 use Rattle.ct_build.proofs.PuncturedCodes.{IsCode-punctured, length-punctured}
@@ -28,6 +27,7 @@ use Rattle.ct_build.proofs.ShortenedCodes.{IsCode-shortened, halves-shortened}
 use Rattle.ct_build.proofs.UuvCodes.{IsCode-uuv, length-uuv_words}
 use Rattle.ct_build.proofs.JuxtaposedCodes.{IsCode-juxtaposed, length-juxtaposed}
 use Rattle.ct_rules.specs.Rule.{half_up}
+use Rattle.ct_rules.proofs.SlotLemmas.{IsTrueLower-fewer}
 
 -- some code of length n and distance d has exactly v words
 abbrev pub HasCode : ℕ → ℕ → ℕ → Type 0
@@ -36,7 +36,7 @@ HasCode n d v = IsTrueLower (unrestricted n d) v
 -- it has fewer
 pub HasCode-fewer : (n d u v : ℕ) → v ≤ u → HasCode n d u → HasCode n d v
 HasCode-fewer n d u v few code =
-    (take v code.0, IsCode-take n d None v code.0 code.1, length-take-le v code.0 (let size = code.2 in omega arith))
+    IsTrueLower-fewer (unrestricted n d) u v few code
 
 -- it has a smaller distance
 pub HasCode-nearer : (n d e v : ℕ) → e ≤ d → HasCode n d v → HasCode n e v

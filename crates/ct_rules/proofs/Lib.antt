@@ -1,3 +1,4 @@
+pub mod SlotLemmas
 pub mod Applied
 pub mod RuleRanges
 pub mod Constructions

@@ -12,12 +12,8 @@ use Rattle.ct_rules.specs.declared.rule.Rule.TheVariants.{L1, L2, L3, L4, L5, L6
 use Rattle.ct_rules.specs.declared.support.Support.{Support}
 use Rattle.ct_rules.specs.Slot.{IsNoBetter, AreNoBetter}
 use Rattle.ct_rules.specs.Rule.{rule_side, cited, half_up, first, second, formula, within_limit, value_of}
+use Rattle.ct_rules.proofs.SlotLemmas.{IsNoBetter-self}
 use Rattle.ct_rules.proofs.Applied.{value-defined, value_from-defined, limit_of, limit_from}
-
--- a bound is no better than itself
-IsNoBetter-self : (side : Side) (v : ℕ) → IsNoBetter side v v
-IsNoBetter-self Lower v = omega arith
-IsNoBetter-self Upper v = omega arith
 
 -- the first of the values, and the second
 first-no_better : (side : Side) (us vs : List ℕ) → AreNoBetter side us vs → IsNoBetter side (first us) (first vs)

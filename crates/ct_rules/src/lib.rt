@@ -17,7 +17,7 @@ pub use instance::{MOST_PREMISES, premise, premise_count, rule_side, value};
 pub use line::Line;
 pub use rule::Rule;
 pub use rule_laws::{
-    known_premises, known_ranges, known_supports, known_values, premises_are_entries,
-    rules_are_monotone, rules_are_sound,
+    better_bounds_say_more, claims_bound_slots, known_premises, known_ranges, known_supports,
+    known_values, premises_are_entries, rules_are_monotone, rules_are_sound,
 };
 pub use support::Support;

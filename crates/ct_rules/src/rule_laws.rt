@@ -1,12 +1,12 @@
-//! What the rules of the table mean: what they rest on, that they are sound and monotone, for all entries and all premises;
-//! and where they are defined, what they rest on and what they give, at entries where it is known.
+//! What the rules of the table mean, for all entries and all premises: what they rest on, that they are sound and
+//! monotone. And, at entries where it is known, where they are defined, what they rest on and what they give.
 
-ghost use Rattle.std.specs.Prelude.{◌≡◌, ℕ, ◌^◌, ◌*◌, ◌+◌, ◌≤◌, List, [], ◌∷◌, length, map, filter, All, Option, Some, None, IsSome, is_some};
-ghost use Rattle.ct_words.specs.declared.limits.TheConstants.{MAX_BOUND};
+ghost use Rattle.std.specs.Prelude.{◌≡◌, ◌↔◌, ◌⊎◌, EachIndex, slice_index, ℕ, ◌^◌, ◌+◌, ◌≤◌, List, [], ◌∷◌, length, map, filter, All, Some, None, IsSome, is_some};
 ghost use Rattle.ct_codes.specs.declared.entry.Entry.{Entry};
 ghost use Rattle.ct_codes.specs.declared.claim.Claim.{Claim};
-ghost use Rattle.ct_codes.specs.declared.claim.Side.TheVariants.{Lower, Upper};
-ghost use Rattle.ct_codes.specs.Claim.{IsTrueClaim};
+ghost use Rattle.ct_codes.specs.declared.claim.Side.{Side};
+ghost use Rattle.ct_codes.specs.declared.claim.Side.TheVariants.{Upper};
+ghost use Rattle.ct_codes.specs.Claim.{IsTrueOn, IsTrueClaim};
 ghost use Rattle.ct_codes.specs.Entry.{IsEntry, unrestricted, constant_weight};
 ghost use Rattle.ct_rules.specs.declared.rule.Rule.{Rule};
 ghost use Rattle.ct_rules.specs.declared.rule.Rule.TheVariants.{L1, L2, L3, L4, L5, L6, L7, L8, L10, L11, M1, M10, U0, V0};
@@ -15,6 +15,22 @@ ghost use Rattle.ct_rules.specs.declared.support.Support.TheVariants.{Nothing, S
 ghost use Rattle.ct_rules.specs.Support.{AllStand};
 ghost use Rattle.ct_rules.specs.Slot.{Slot, slot_of, claim_at, lower_at, IsNoBetter, AreNoBetter};
 ghost use Rattle.ct_rules.specs.Rule.{rule_side, within_limit, premises_of, value_of};
+
+/// A claim is a bound of a slot, and a bound of a slot is a claim.
+pub fn claims_bound_slots()
+    ensures claim { (c : Claim) → claim_at (slot_of c) c.value ≡ c }
+    ensures slot { (s : Slot) (v : ℕ) → slot_of (claim_at s v) ≡ s }
+{}
+
+/// A better bound says more: where it is true, so is each bound that is no better. Of two bounds one is no better than the
+/// other. Bounds are no better than others where they are as many, and none is better than the one at its place.
+pub fn better_bounds_say_more()
+    ensures says_more { (side : Side) (e : Entry) (u v : ℕ) →
+        IsNoBetter side u v → IsTrueOn side e v → IsTrueOn side e u }
+    ensures either { (side : Side) (u v : ℕ) → IsNoBetter side u v ⊎ IsNoBetter side v u }
+    ensures each { (side : Side) (us vs : List ℕ) → AreNoBetter side us vs ↔
+        ((length us ≡ length vs) × EachIndex us (λ i. IsNoBetter side (slice_index us i) (slice_index vs i))) }
+{}
 
 /// A rule is defined at entries of the table alone. It rests on two bounds at most, each of an entry of the table and
 /// from the side that the rule bounds from, and it gives nothing where it is not defined.
@@ -39,9 +55,9 @@ pub fn rules_are_sound()
         value_of supports r e (map (λ c. c.value) claims) ≡ Some v → IsTrueClaim (claim_at (rule_side r, e) v) }
 {}
 
-/// Premises that are no better give a value that is no better, whatever the premises are. A rule for upper bounds gives a
-/// value wherever it does for premises that are no better; a rule for lower bounds gives one where its premises are true,
-/// since it gives none above the greatest bound.
+/// Where no premise is better than the one at its place among others, the value is no better than theirs, whatever
+/// numbers these are. No value is lost when premises become better: with a rule for upper bounds in any case, since too
+/// great a number is cut; with one for lower bounds where the better premises are true, since then it is not too great.
 pub fn rules_are_monotone()
     ensures no_better { (supports : List Support) (r : Rule) (e : Entry) (us vs : List ℕ) (u v : ℕ) →
         AreNoBetter (rule_side r) us vs → value_of supports r e us ≡ Some u → value_of supports r e vs ≡ Some v →
@@ -122,7 +138,8 @@ pub fn known_values()
     ensures sums_at_five { value_of [] L8 (unrestricted 6 5) (2 ∷ 1 ∷ []) ≡ Some 2 }
     ensures side_by_side { value_of [] (L11 5 3) (unrestricted 12 7) (4 ∷ 8 ∷ []) ≡ Some 4 }
     ensures side_by_side_turned { value_of [] (L11 7 4) (unrestricted 12 7) (8 ∷ 4 ∷ []) ≡ Some 4 }
-    ensures all_words { value_of [] U0 (unrestricted 28 3) [] ≡ Some (2 ^ 28) }
+    ensures all_words { value_of [] U0 (unrestricted 3 3) [] ≡ Some 8 }
+    ensures all_longest_words { value_of [] U0 (unrestricted 28 3) [] ≡ Some (2 ^ 28) }
     ensures all_words_of_weight { value_of [] V0 (constant_weight 4 4 2) [] ≡ Some 6 }
     ensures greatest { value_of [] L8 (unrestricted 28 6) (2 ^ 27 ∷ 2 ∷ []) ≡ Some (2 ^ 28) }
     // 17 · 15,790,321 is 2^28 + 1.
@@ -139,7 +156,8 @@ pub fn known_supports()
     ensures no_support { premises_of (Nothing ∷ Size (unrestricted 5 3) 4 ∷ []) (L10 2) (unrestricted 5 3) ≡ None }
     ensures other_length { premises_of (Size (unrestricted 5 3) 4 ∷ []) (L10 0) (unrestricted 6 3) ≡ None }
     ensures other_distance { premises_of (Size (unrestricted 5 4) 2 ∷ []) (L10 0) (unrestricted 5 3) ≡ None }
-    ensures of_weight { value_of (Size (constant_weight 8 4 4) 14 ∷ []) (M10 0) (constant_weight 8 4 4) [] ≡ Some 14 }
+    ensures of_weight { value_of (Nothing ∷ Size (constant_weight 8 4 4) 14 ∷ []) (M10 1) (constant_weight 8 4 4) [] ≡
+        Some 14 }
     ensures other_weight { premises_of (Size (constant_weight 8 4 4) 14 ∷ []) (M10 0) (constant_weight 8 4 3) ≡ None }
     ensures without_weight { premises_of (Size (constant_weight 8 4 4) 14 ∷ []) (L10 0) (unrestricted 8 4) ≡ None }
     // Each of the two rules is for its own entries.

@@ -21,6 +21,7 @@ returns c = record {
   side_by_side = refl;
   side_by_side_turned = refl;
   all_words = refl;
+  all_longest_words = refl;
   all_words_of_weight = refl;
   greatest = refl;
   above = refl;
