@@ -1,7 +1,7 @@
 -- Which instances are still to be tried, after one was.
-use Rattle.std.proofs.Common.{◌≡◌, ℕ, zero, suc, ◌+◌, ◌-◌, ◌*◌, ◌<◌, ◌≤◌, List, [], ◌∷◌, length, map, All, Option, Some, None, Bool, true, false, refl, sym, ap, subst, ◌∙◌, arith, mul-le-mul_right, inl, inr, slice_get, slice_set, if◌then◌else◌, ◌&&◌, nat_lt, is_some, sum_by, Contains}
-use Rattle.std.proofs.lemmas.Option.{none-some, same_Some, slice_get_within, slice_get_past, slice_get_read, get_or_from_slice_get}
-use Rattle.std.proofs.lemmas.Bool.{cases_eq, cases_lt, false≢true, and_parts, lt-ltb, le-ltb}
+use Rattle.std.proofs.Common.{◌≡◌, ℕ, zero, suc, ◌+◌, ◌-◌, ◌*◌, ◌<◌, ◌≤◌, List, [], ◌∷◌, length, All, Option, Some, None, Bool, true, false, refl, sym, ap, subst, ◌∙◌, arith, mul-le-mul_right, inl, inr, slice_get, slice_set, if◌then◌else◌, ◌&&◌, nat_lt, is_some, sum_by, Contains}
+use Rattle.std.proofs.lemmas.Option.{none-some, same_Some, slice_get_within, slice_get_read, get_or_from_slice_get}
+use Rattle.std.proofs.lemmas.Bool.{cases_eq, false≢true, and_parts, lt-ltb, le-ltb}
 use mathlib.Core.Logic.{◌⊎◌, ◌≢◌}
 use Rattle.ct_codes.specs.declared.entry.Entry.{Entry}
 use Rattle.ct_codes.specs.Entry.{IsEntry, is_entry, same_entry}
@@ -12,19 +12,19 @@ use Rattle.ct_rules.specs.declared.support.Support.{Support}
 use Rattle.ct_rules.specs.declared.support.Support.TheVariants.{Nothing, Size}
 use Rattle.ct_rules.specs.Closed.{IsSatisfied, IsClosed}
 use Rattle.ct_rules.specs.Inside.Listing.{names_support}
-use Rattle.ct_rules.specs.Rule.{rule_side, cited, in_range, premises_at, applies, premises_of, premise_of, value_of}
+use Rattle.ct_rules.specs.Rule.{rule_side, cited, in_range, premises_at, applies, premise_of}
 use Rattle.ct_rules.specs.Support.{size_at}
 use Rattle.ct_rules.proofs.MoreSupports.{applies_from_premises}
-use Rattle.ct_rules.specs.Slot.{Slot, IsBetter, IsNoBetter}
+use Rattle.ct_rules.specs.Slot.{Slot, IsBetter}
 use Rattle.ct_closure.specs.declared.instance.Instance.{Instance}
 use Rattle.ct_closure.specs.Closing.{value_over, IsPending, IsPendingBut, slack, potential}
-use Rattle.ct_closure.specs.Instance.{AreAllFixed, AreUsers, HasUser, RestsOn, size_rule, instance_of, instance_at}
+use Rattle.ct_closure.specs.Instance.{AreAllFixed, AreUsers, size_rule, instance_of, instance_at}
 use Rattle.ct_closure.specs.Number.{slot_number, bound_of, side_size}
 use Rattle.ct_closure.specs.Worklist.{WorkValue, IsMarked}
 use Rattle.std.proofs.lemmas.List.{length-set}
 use Rattle.std.proofs.lemmas.List.Sums.{sum_by-cons}
 use Rattle.ct_closure.proofs.GetLemmas.{slice_get-set_other}
-use Rattle.ct_closure.proofs.SatisfiedLemmas.{satisfied_by_value, satisfied_after, satisfied_own, no_better-self}
+use Rattle.ct_closure.proofs.SatisfiedLemmas.{satisfied_after, satisfied_own}
 
 -- a rule that names no support sees none
 pub cited_unsupported : (supports : List Support) (r : Rule) → names_support r ≡ false → cited supports r ≡ None

@@ -1,10 +1,10 @@
 -- When an instance gives nothing better than what stands, and when it still does so after one bound got better.
-use Rattle.std.proofs.Common.{◌≡◌, ℕ, suc, ◌+◌, ◌*◌, ◌<◌, ◌≤◌, List, [], ◌∷◌, length, map, All, Option, Some, None, true, false, refl, sym, ap, subst, ◌∙◌, arith, inl, inr, le_refl, slice_get, slice_set, slice_index}
+use Rattle.std.proofs.Common.{◌≡◌, ℕ, suc, ◌*◌, ◌<◌, List, [], ◌∷◌, length, map, All, Some, None, true, refl, sym, ap, subst, ◌∙◌, arith, inl, inr, le_refl, slice_get, slice_set}
 use Rattle.std.proofs.lemmas.List.{get_or-set_same, get_or-set_other}
 use Rattle.std.proofs.lemmas.List.Elements.{All-head, All-tail}
 use Rattle.std.proofs.lemmas.Option.{none-some, same_Some}
 use Rattle.std.proofs.lemmas.Bool.{cases_eq}
-use mathlib.Core.Logic.{◌⊎◌, ◌≢◌}
+use mathlib.Core.Logic.{◌⊎◌}
 use Rattle.ct_codes.specs.declared.entry.Entry.{Entry}
 use Rattle.ct_codes.specs.declared.claim.Side.{Side}
 use Rattle.ct_codes.specs.declared.claim.Side.TheVariants.{Lower, Upper}

@@ -1,5 +1,5 @@
 -- A turn of the closing, case by case.
-use Rattle.std.proofs.Common.{◌≡◌, ℕ, ◌+◌, ◌*◌, ◌<◌, ◌≤◌, List, length, All, Option, Some, None, true, false, refl, sym, ap, subst, ◌∙◌, slice_get, Contains}
+use Rattle.std.proofs.Common.{◌≡◌, ℕ, ◌+◌, ◌≤◌, List, length, Some, None, true, sym, subst, ◌∙◌, slice_get, Contains}
 use Rattle.std.proofs.lemmas.Option.{none-some, same_Some}
 use Rattle.ct_words.specs.declared.limits.TheConstants.{MAX_BOUND}
 use Rattle.ct_codes.specs.declared.claim.Side.{Side}
@@ -7,7 +7,7 @@ use Rattle.ct_codes.specs.Entry.{IsEntry}
 use Rattle.ct_rules.specs.declared.support.Support.{Support}
 use Rattle.ct_rules.specs.Closed.{IsSatisfied}
 use Rattle.ct_rules.specs.Rule.{rule_side, applies}
-use Rattle.ct_rules.specs.Slot.{Slot, IsBetter, IsNoBetter}
+use Rattle.ct_rules.specs.Slot.{IsBetter, IsNoBetter}
 use Rattle.ct_closure.specs.declared.instance.Instance.{Instance}
 use Rattle.ct_closure.specs.Closing.{value_over, IsPending, IsPendingBut, line_by, potential}
 use Rattle.ct_closure.specs.Instance.{InstancesValue, AreInstances, instance_at}

@@ -8,3 +8,11 @@ invariant_of-result c = record {
   only = rw c.deref.ensures.value at c.in_ok-users.ensures.only;
   numbers = rw c.deref.ensures.value at c.in_ok-users.ensures.bound;
 }
+
+pub returns : goal.returns
+returns c = record {
+  all = c.in_ok-fixed.ensures.all;
+  unsupported = c.in_ok-fixed.ensures.unsupported;
+  users = rw c.deref.ensures.value at c.in_ok-users.ensures.users;
+  only = rw c.deref.ensures.value at c.in_ok-users.ensures.only;
+  numbers = rw c.deref.ensures.value at c.in_ok-users.ensures.bound }
