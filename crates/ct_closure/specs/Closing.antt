@@ -46,3 +46,13 @@ slack bounds = sum_by (λ v. MAX_BOUND - v) (take side_size bounds) + sum_by (λ
 -- how many turns are left at most
 abbrev pub potential : List ℕ → List (List ℕ) → WorkValue → ℕ
 potential bounds users work = slack bounds * (sum_by length users + 1) + length work.queue
+
+-- each instance but that of one number gives nothing better than what stands
+abbrev pub AreSatisfiedBut : ℕ → List Instance → List Support → (Slot → ℕ) → Type 0
+AreSatisfiedBut number fixed supports bounds = (k : ℕ) (i : Instance) → k ≢ number → instance_at fixed supports k ≡ Some i →
+    IsSatisfied supports bounds i.rule i.entry
+
+-- each instance of a slot that has the same bound as before gives nothing better than it
+abbrev pub AreSatisfiedWhereSame : List Instance → List Support → (Slot → ℕ) → (Slot → ℕ) → Type 0
+AreSatisfiedWhereSame fixed supports before bounds = (k : ℕ) (i : Instance) → instance_at fixed supports k ≡ Some i →
+    before (rule_side i.rule, i.entry) ≡ bounds (rule_side i.rule, i.entry) → IsSatisfied supports bounds i.rule i.entry

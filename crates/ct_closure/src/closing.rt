@@ -1,14 +1,15 @@
 //! Closing a table under the rules.
 
-ghost use Rattle.std.specs.Prelude.{◌≡◌, ◌+◌, ◌<◌, ◌≤◌, ◌++◌, ◌^◌, ℕ, List, true, Some, OnOk, OnErr, IfOk, IfSome, IfNone, MatchBool, length, map};
+ghost use Rattle.std.specs.Prelude.{◌≡◌, ◌+◌, ◌<◌, ◌≤◌, ◌++◌, ◌^◌, ℕ, List, true, false, Some, OnOk, OnErr, IfOk, IfSome, IfNone, MatchBool, length, map};
 ghost use Rattle.ct_words.specs.declared.limits.TheConstants.{MAX_BOUND};
 ghost use Rattle.ct_codes.specs.Entry.{IsEntry};
 ghost use Rattle.ct_rules.specs.Derivation.{LineValue};
-ghost use Rattle.ct_rules.specs.Closed.{IsClosed};
+ghost use Rattle.ct_rules.specs.Closed.{IsSatisfied, IsClosed};
 ghost use Rattle.ct_rules.specs.Rule.{rule_side, cited, premises_at, applies};
 ghost use Rattle.ct_rules.specs.Slot.{IsBetter, IsNoBetter};
 ghost use Rattle.ct_closure.specs.Number.{bound_of};
-ghost use Rattle.ct_closure.specs.Instance.{AreInstances};
+ghost use Rattle.ct_closure.specs.Instance.{AreInstances, instance_at};
+ghost use Rattle.ct_closure.specs.declared.instance.Instance.{Instance};
 ghost use Rattle.ct_closure.specs.Kept.{IsKept, Grew, with_line, reason_of};
 ghost use Rattle.ct_closure.specs.Closing.{value_over, IsPending, IsPendingBut, potential, line_by};
 
@@ -66,6 +67,27 @@ fn reasons(
         }
     }
     Ok(from)
+}
+
+/// Whether the instance of the number gives a better bound than stands.
+pub(crate) fn gives_better(
+    instances: &Instances,
+    supports: &[Support],
+    kept: &Kept,
+    number: usize,
+) -> bool
+    requires few { length supports.now < 2 ^ 32 }
+    ensures { result ≡ false → (i : Instance) → instance_at instances.now.fixed supports.now number ≡ Some i →
+        IsSatisfied supports.now (bound_of kept.now.bounds) i.rule i.entry }
+{
+    let Some(instance) = instances.at(supports, number) else {
+        return false;
+    };
+    let Some(value) = offer(supports, kept, instance) else {
+        return false;
+    };
+    let side = rule_side(instance.rule);
+    is_better(side, value, kept.bound(side, instance.entry))
 }
 
 /// Puts the line by which the instance gives a better bound. After an `Err`, which is want of memory, all is as before.

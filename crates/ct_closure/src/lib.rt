@@ -1,6 +1,7 @@
 //! Tables of bounds that are closed under the rules, and the derivations that they keep.
 #![tactic(auto)]
 
+mod close;
 mod closing;
 mod instance;
 mod instances;
@@ -10,6 +11,7 @@ mod number;
 mod users;
 mod worklist;
 
+pub use close::{close_all, close_changed, close_support, support_improves};
 pub use instance::Instance;
 pub use instances::Instances;
 pub use kept::Kept;
