@@ -1,6 +1,6 @@
 //! The instances of the rules, by numbers.
 
-ghost use Rattle.std.specs.Prelude.{◌≡◌, ◌<◌, ◌^◌, Some, All, length, slice_get};
+ghost use Rattle.std.specs.Prelude.{◌≡◌, ◌<◌, ◌^◌, IfOk, Some, All, length, slice_get};
 ghost use Rattle.ct_codes.specs.Entry.{IsEntry};
 ghost use Rattle.ct_closure.specs.Number.{slot_number};
 ghost use Rattle.ct_closure.specs.Instance.{size_rule, instance_of, instance_at, AreInstances};
@@ -48,7 +48,9 @@ fn instance_of(support: Support, place: usize) -> Option<Instance>
 
 impl Instances {
     /// The instances that name no support. `Err` is want of memory.
-    pub fn new(alloc: Global) -> Result<Instances, AllocError> {
+    pub fn new(alloc: Global) -> Result<Instances, AllocError>
+        ensures { IfOk result (λ instances. AreInstances instances) }
+    {
         let fixed = fixed_instances(alloc)?;
         let users = Users::of(alloc, &fixed)?;
         Ok(Instances { fixed, users })

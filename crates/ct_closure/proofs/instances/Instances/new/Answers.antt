@@ -8,3 +8,6 @@ invariant_of-result c = record {
   only = rw c.deref.ensures.value at c.in_ok-users.ensures.only;
   numbers = rw c.deref.ensures.value at c.in_ok-users.ensures.bound;
 }
+
+pub returns : goal.returns
+returns c = invariant_of-result c
