@@ -1,6 +1,6 @@
 //! The instances of the rules, by numbers.
 
-ghost use Rattle.std.specs.Prelude.{◌≡◌, ◌<◌, ◌^◌, Some, IfOk, All, length, slice_get};
+ghost use Rattle.std.specs.Prelude.{◌≡◌, ◌<◌, ◌^◌, IfOk, Some, All, length, slice_get};
 ghost use Rattle.ct_codes.specs.Entry.{IsEntry};
 ghost use Rattle.ct_closure.specs.Number.{slot_number};
 ghost use Rattle.ct_closure.specs.Instance.{size_rule, instance_of, instance_at, AreInstances};
@@ -49,7 +49,7 @@ fn instance_of(support: Support, place: usize) -> Option<Instance>
 impl Instances {
     /// The instances that name no support. `Err` is want of memory.
     pub fn new(alloc: Global) -> Result<Instances, AllocError>
-        ensures { IfOk result AreInstances }
+        ensures { IfOk result (λ instances. AreInstances instances) }
     {
         let fixed = fixed_instances(alloc)?;
         let users = Users::of(alloc, &fixed)?;
@@ -59,6 +59,7 @@ impl Instances {
     /// How many instances name no support.
     pub fn len(&self) -> usize
         ensures count { result ≡ length self.now.fixed }
+        ensures small { result < 2 ^ 63 }
         ensures instances { AreInstances self.now }
     {
         self.fixed.len()

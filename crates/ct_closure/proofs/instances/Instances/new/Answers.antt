@@ -10,9 +10,4 @@ invariant_of-result c = record {
 }
 
 pub returns : goal.returns
-returns c = record {
-  all = c.in_ok-fixed.ensures.all;
-  unsupported = c.in_ok-fixed.ensures.unsupported;
-  users = rw c.deref.ensures.value at c.in_ok-users.ensures.users;
-  only = rw c.deref.ensures.value at c.in_ok-users.ensures.only;
-  numbers = rw c.deref.ensures.value at c.in_ok-users.ensures.bound }
+returns c = invariant_of-result c
