@@ -17,6 +17,12 @@ pub record KeptValue : Type 0 where
   pub reasons : List ℕ
   pub lines : List LineValue
 
+-- bounds and reasons at one time, and how many lines there were
+pub record SavedValue : Type 0 where
+  pub bounds : List ℕ
+  pub reasons : List ℕ
+  pub count : ℕ
+
 -- the place of the line that gives the bound of a slot
 abbrev pub reason_of : KeptValue → Slot → ℕ
 reason_of kept s = slice_index kept.reasons (slot_number s)

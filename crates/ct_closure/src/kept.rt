@@ -1,9 +1,9 @@
 //! What a table keeps: the lines of a derivation, and for each slot its bound and the line that gives it.
 
-ghost use Rattle.std.specs.Prelude.{◌≡◌, ◌≢◌, ◌*◌, ◌++◌, ◌∷◌, [], ℕ, List, OnOk, OnErr, IfOk, length, replicate, Some};
+ghost use Rattle.std.specs.Prelude.{◌≡◌, ◌≢◌, ◌*◌, ◌++◌, ◌∷◌, [], ℕ, List, OnOk, OnErr, IfOk, length, replicate, take, Some};
 ghost use Rattle.ct_codes.specs.Entry.{IsEntry};
 ghost use Rattle.ct_rules.specs.declared.support.Support.{Support};
-ghost use Rattle.ct_closure.specs.Number.{bound_of};
+ghost use Rattle.ct_closure.specs.Number.{bound_of, side_size};
 ghost use Rattle.ct_closure.specs.Kept.{with_line, reason_of, IsKept, ground_rule, ground_value, ground_line};
 
 use crate::number::{SLOTS, slot_at, slot_number};
@@ -31,6 +31,26 @@ impl Model for Kept {
     ghost view = { λ k. record { bounds = k.bounds.items; reasons = k.reasons.items; lines = k.lines.items } };
 
     ghost invariant = { λ k. (length k.bounds.items ≡ 2 * side_size) × (length k.reasons.items ≡ 2 * side_size) };
+}
+
+/// The bounds and reasons of a table at one time, and how many lines it had.
+#[derive(Debug, Drop)]
+pub struct Saved {
+    bounds: Vec<u32>,
+    reasons: Vec<usize>,
+    count: usize,
+}
+
+impl Model for Saved {
+    ghost use Rattle.std.specs.Prelude.{◌≡◌, ◌*◌, length};
+    ghost use Rattle.ct_closure.specs.Number.{side_size};
+    ghost use Rattle.ct_closure.specs.Kept.{SavedValue};
+
+    ghost Value = { SavedValue };
+
+    ghost view = { λ s. record { bounds = s.bounds.items; reasons = s.reasons.items; count = s.count } };
+
+    ghost invariant = { λ s. (length s.bounds.items ≡ 2 * side_size) × (length s.reasons.items ≡ 2 * side_size) };
 }
 
 /// So many numbers, all 0. `Err` is want of memory.
@@ -122,6 +142,37 @@ impl Kept {
         self.bounds[number] = value;
         self.reasons[number] = place;
         Ok(())
+    }
+
+    /// No lines, and 0 for each bound and reason. `Err` is want of memory.
+    pub fn empty(alloc: Global) -> Result<Kept, AllocError>
+        ensures { IfOk result (λ kept. kept ≡ record { bounds = replicate (2 * side_size) 0; reasons = replicate (2 * side_size) 0; lines = [] }) }
+    {
+        Ok(Kept {
+            bounds: no_bounds(alloc, SLOTS)?,
+            reasons: zeros(alloc, SLOTS)?,
+            lines: Vec::new(alloc),
+        })
+    }
+
+    /// What is needed to take back what comes after. `Err` is want of memory.
+    pub fn save(&self, alloc: Global) -> Result<Saved, AllocError>
+        ensures { IfOk result (λ saved. saved ≡ record { bounds = self.now.bounds; reasons = self.now.reasons; count = length self.now.lines }) }
+    {
+        Ok(Saved {
+            bounds: Vec::from_slice(alloc, &self.bounds)?,
+            reasons: Vec::from_slice(alloc, &self.reasons)?,
+            count: self.lines.len(),
+        })
+    }
+
+    /// Takes back all that came after: the bounds and reasons are those that were saved, and the lines are as many as then.
+    pub fn restore(&mut self, saved: Saved)
+        ensures { self.new ≡ record { bounds = saved.bounds; reasons = saved.reasons; lines = take saved.count self.old.lines } }
+    {
+        self.bounds = saved.bounds;
+        self.reasons = saved.reasons;
+        self.lines.truncate(saved.count);
     }
 
     /// A bound for each side of each entry of the table, by a rule that rests on nothing. `Err` is want of memory.

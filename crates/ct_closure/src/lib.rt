@@ -14,7 +14,7 @@ mod worklist;
 pub use close::{close_all, close_changed, close_support, support_improves};
 pub use instance::Instance;
 pub use instances::Instances;
-pub use kept::Kept;
+pub use kept::{Kept, Saved};
 pub use number::{ENTRIES, SLOTS, slot_at, slot_number, slots_have_numbers};
 
 #[cfg(test)]
