@@ -146,7 +146,9 @@ impl Kept {
 
     /// No lines, and 0 for each bound and reason. `Err` is want of memory.
     pub fn empty(alloc: Global) -> Result<Kept, AllocError>
-        ensures { IfOk result (λ kept. kept ≡ record { bounds = replicate (2 * side_size) 0; reasons = replicate (2 * side_size) 0; lines = [] }) }
+        ensures bounds { IfOk result (λ kept. length kept.bounds ≡ 2 * side_size) }
+        ensures reasons { IfOk result (λ kept. length kept.reasons ≡ 2 * side_size) }
+        ensures lines { IfOk result (λ kept. kept.lines ≡ []) }
     {
         Ok(Kept {
             bounds: no_bounds(alloc, SLOTS)?,
@@ -179,11 +181,7 @@ impl Kept {
     pub fn start(alloc: Global) -> Result<Kept, AllocError>
         ensures { IfOk result (λ kept. (supports : List Support) → IsKept supports kept) }
     {
-        let mut kept = Kept {
-            bounds: no_bounds(alloc, SLOTS)?,
-            reasons: zeros(alloc, SLOTS)?,
-            lines: Vec::new(alloc),
-        };
+        let mut kept = Kept::empty(alloc)?;
         for number in 0..SLOTS {
             if let Some((side, entry)) = slot_at(number) {
                 kept.put(ground_line(alloc, side, entry))?;

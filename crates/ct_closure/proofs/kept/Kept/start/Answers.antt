@@ -1,5 +1,4 @@
-use Rattle.std.proofs.Common.{◌≡◌, ◌+◌, ◌*◌, ℕ, List, length, replicate, sym, ap, subst, ◌∙◌, arith}
-use Rattle.std.proofs.lemmas.List.{length-replicate}
+use Rattle.std.proofs.Common.{◌≡◌, ◌+◌, ◌*◌, ℕ, List, sym, ap, subst, ◌∙◌, arith}
 use Rattle.std.proofs.lemmas.Result.{IfOk-from_err}
 use Rattle.ct_codes.specs.Entry.{IsEntry}
 use Rattle.ct_rules.specs.declared.support.Support.{Support}
@@ -11,24 +10,13 @@ use Rattle.ct_closure.proofs.StartLemmas.{IsStarted, IsStarted-none, IsStarted-s
 use Rattle.ct_closure.proofs.kept.Kept.start.Goals as goal
 use Rattle.ct_closure.proofs.kept.Kept.start.Goals.{in-Some+in_ok-put, in_default}
 
-all_zeros : (n : ℕ) (xs : List ℕ) → xs ≡ replicate n 0 → length xs ≡ n
-all_zeros n xs same = ap length same ∙ length-replicate n 0
-
-pub invariant_of-kept : goal.invariant_of-kept
-invariant_of-kept c = (
-  all_zeros (2 * side_size) c.in_ok-no_bounds.field-0.items c.in_ok-no_bounds.ensures,
-  all_zeros (2 * side_size) c.in_ok-zeros.field-0.items c.in_ok-zeros.ensures,
-)
-
 pub loop-number-init : goal.loop-number-init
 loop-number-init c =
-    let bounds = c.in_ok-no_bounds.field-0.items in
-    let reasons = c.in_ok-zeros.field-0.items in
-    let started =
-    IsStarted-none bounds reasons (all_zeros (2 * side_size) bounds c.in_ok-no_bounds.ensures)
-    (all_zeros (2 * side_size) reasons c.in_ok-zeros.ensures) in
+    let bounds = c.in_ok-kept.kept.bounds in
+    let reasons = c.in_ok-kept.kept.reasons in
+    let started = IsStarted-none bounds reasons c.in_ok-kept.ensures.bounds c.in_ok-kept.ensures.reasons in
     subst (λ (lines : List LineValue). IsStarted 0 (record { bounds = bounds; reasons = reasons; lines = lines }))
-    (sym c.new.ensures.items) started
+    (sym c.in_ok-kept.ensures.lines) started
 
 pub ground_line-requires : goal.ground_line-requires
 ground_line-requires c = slot_at-IsEntry c.loop-number.number (c.in-Some.side, c.in-Some.entry) (sym c.in-Some.ensures)
