@@ -58,10 +58,14 @@ instance_cases fixed supports k i unsupported at = go (nat_lt k (length fixed)) 
     supported (Some Nothing) place h = absurd (none-some i h)
     supported (Some (Size e size)) place h =
         inr (record { weight = e.w; place = place; rule = sym (ap (λ (j : Instance). j.rule) (same_Some (record { rule = size_rule e.w place; entry = e }) i h)) })
+
     go : (b : Bool) → (if b then slice_get fixed k else instance_of (slice_get supports (k - length fixed)) (k - length fixed)) ≡ Some i →
         IsFixedInstance fixed k i ⊎ IsSupportInstance i
-    go true h = inl (record { there = h; unsupported =
-        subst (λ (j : Instance). names_support j.rule ≡ false) (get_or_from_slice_get fixed k i i h) (unsupported k i (slice_get_within fixed k i h)) })
+    go true h = inl (record {
+      there = h;
+      unsupported =
+          subst (λ (j : Instance). names_support j.rule ≡ false) (get_or_from_slice_get fixed k i i h) (unsupported k i (slice_get_within fixed k i h));
+    })
     go false h = supported (slice_get supports (k - length fixed)) (k - length fixed) h
 
 -- a premise over some supports of a rule that names none is one over no supports
@@ -71,7 +75,7 @@ fixed_premise supports r e j s unsupported defined h =
     let same = cited_unsupported supports r unsupported ∙ sym (cited_unsupported [] r unsupported) in
     let there : applies [] r e ≡ true = subst (λ c. (is_entry e && in_range c r e) ≡ true) same defined in
     ap (λ b. if b then slice_get (premises_at (cited [] r) r e) j else None) there
-      ∙ subst (λ c. slice_get (premises_at c r e) j ≡ Some s) same h
+    ∙ subst (λ c. slice_get (premises_at c r e) j ≡ Some s) same h
 
 -- an instance that is not marked, where those that rest on a slot are, does not rest on it
 pub not_resting : (fixed : List Instance) (supports : List Support) (users : List (List ℕ)) (s : Slot) (list : List ℕ) (work : WorkValue) (k : ℕ)
@@ -103,16 +107,19 @@ IsPending-improved fixed supports users bounds number i v list work new unsuppor
   where
     s : Slot
     s = (rule_side i.rule, i.entry)
+
     other : (k : ℕ) (j : Instance) → k ≢ number → instance_at fixed supports k ≡ Some j → ¬ (IsMarked new k) →
         IsSatisfied supports (bound_of (slice_set bounds (slot_number s) v)) j.rule j.entry
     other k j apart is unmarked =
         satisfied_after supports bounds s v j.rule j.entry count entry better
-          (not_resting fixed supports users s list new k j unsupported are there marked is unmarked)
-          (pending.satisfied k j apart is (λ h. unmarked (kept k h)))
+        (not_resting fixed supports users s list new k j unsupported are there marked is unmarked)
+        (pending.satisfied k j apart is (λ h. unmarked (kept k h)))
+
     own : ¬ (IsMarked new number) → IsSatisfied supports (bound_of (slice_set bounds (slot_number s) v)) i.rule i.entry
     own unmarked =
         satisfied_own supports bounds i v count entry value
-          (not_resting fixed supports users s list new number i unsupported are there marked at unmarked)
+        (not_resting fixed supports users s list new number i unsupported are there marked at unmarked)
+
     each : (k : ℕ) (j : Instance) → instance_at fixed supports k ≡ Some j → ¬ (IsMarked new k) →
         IsSatisfied supports (bound_of (slice_set bounds (slot_number s) v)) j.rule j.entry
     each k j is unmarked = go (cases_eq k number)
@@ -120,8 +127,8 @@ IsPending-improved fixed supports users bounds number i v list work new unsuppor
         go : ((k ≡ number) ⊎ (k ≡ number → ⊥)) → IsSatisfied supports (bound_of (slice_set bounds (slot_number s) v)) j.rule j.entry
         go (inl same) =
             subst (λ (l : Instance). IsSatisfied supports (bound_of (slice_set bounds (slot_number s) v)) l.rule l.entry)
-              (same_Some i j (sym at ∙ ap (instance_at fixed supports) (sym same) ∙ is))
-              (own (subst (λ m. ¬ (IsMarked new m)) same unmarked))
+            (same_Some i j (sym at ∙ ap (instance_at fixed supports) (sym same) ∙ is))
+            (own (subst (λ m. ¬ (IsMarked new m)) same unmarked))
         go (inr apart) = other k j apart is unmarked
 
 -- after an instance that gives nothing better was tried
@@ -143,7 +150,8 @@ pub IsPendingBut-taken : (fixed : List Instance) (supports : List Support) (boun
 IsPendingBut-taken fixed supports bounds number work new marks pending = record {
   marks = ap (λ (m : List Bool). length m) marks ∙ length-set work.marks number false ∙ pending.marks;
   satisfied = λ k i apart is unmarked. pending.satisfied k i is
-    (λ h. unmarked (ap (λ (m : List Bool). slice_get m k) marks ∙ slice_get-set_other work.marks number k false apart ∙ h)) }
+      (λ h. unmarked (ap (λ (m : List Bool). slice_get m k) marks ∙ slice_get-set_other work.marks number k false apart ∙ h));
+}
 
 -- a support that gives a size at an entry is one of the entry
 pub sized : (c : Option Support) (e : Entry) → is_some (size_at c e) ≡ true → (size : ℕ) × (c ≡ Some (Size e size))
@@ -183,18 +191,23 @@ numbered fixed supports r e all defined = go (names_support r) refl
   where
     i : Instance
     i = record { rule = r; entry = e }
+
     go : (named : Bool) → names_support r ≡ named → (k : ℕ) × (instance_at fixed supports k ≡ Some i)
     go false is =
         let same = cited_unsupported supports r is ∙ sym (cited_unsupported [] r is) in
-        let held = all r e is (subst (λ c. (is_entry e && in_range c r e) ≡ true) same defined) in
-        (held.0, ap (λ b. if b then slice_get fixed held.0 else instance_of (slice_get supports (held.0 - length fixed)) (held.0 - length fixed)) (lt-ltb held.0 (length fixed) held.1)
-          ∙ slice_get_read fixed (length fixed) held.0 i refl held.1 (sym held.2))
+        let held = all r e is (subst (λ c. (is_entry e && in_range c r e) ≡ true) same defined) in (
+          held.0,
+          ap (λ b. if b then slice_get fixed held.0 else instance_of (slice_get supports (held.0 - length fixed)) (held.0 - length fixed)) (lt-ltb held.0 (length fixed) held.1)
+              ∙ slice_get_read fixed (length fixed) held.0 i refl held.1 (sym held.2),
+        )
     go true is =
         let held = support_instance supports r e is defined in
         let number = length fixed + held.0 in
-        let place : number - length fixed ≡ held.0 = omega arith in
-        (number, ap (λ b. if b then slice_get fixed number else instance_of (slice_get supports (number - length fixed)) (number - length fixed)) (le-ltb number (length fixed) (omega arith))
-          ∙ ap (λ p. instance_of (slice_get supports p) p) place ∙ held.2)
+        let place : number - length fixed ≡ held.0 = omega arith in (
+          number,
+          ap (λ b. if b then slice_get fixed number else instance_of (slice_get supports (number - length fixed)) (number - length fixed)) (le-ltb number (length fixed) (omega arith))
+              ∙ ap (λ p. instance_of (slice_get supports p) p) place ∙ held.2,
+        )
 
 -- where no instance is marked, no rule gives anything better than what stands
 pub IsClosed-from_pending : (fixed : List Instance) (supports : List Support) (bounds : List ℕ) (work : WorkValue) → AreAllFixed fixed →

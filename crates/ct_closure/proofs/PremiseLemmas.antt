@@ -20,15 +20,16 @@ pub more_values : (f : Slot → ℕ) (slots : List Slot) (vs : List ℕ) (j : �
     take j vs ≡ map f (take j slots) → take (j + 1) (slice_set vs j (f s)) ≡ map f (take (j + 1) slots)
 more_values f slots vs j s there inside before =
     take_more_set vs j (f s) inside ∙ ap (λ z. z ++ f s ∷ []) before ∙ sym (map-append f (take j slots) (s ∷ []))
-      ∙ ap (map f) (sym (take_more_read slots j s there))
+    ∙ ap (map f) (sym (take_more_read slots j s there))
 
 -- as a step of a loop that gathers the values
 pub values_step : (f : Slot → ℕ) (slots : List Slot) (vs : List ℕ) (j : ℕ) (s : Slot) (v n : ℕ) → v ≡ f s → slice_get slots j ≡ Some s →
     length vs ≡ n → j < n → take j vs ≡ map f (take j slots) →
     (length (slice_set vs j v) ≡ n) × (take (j + 1) (slice_set vs j v) ≡ map f (take (j + 1) slots))
-values_step f slots vs j s v n value there count inside before =
-    (length-set vs j v ∙ count,
-     ap (λ z. take (j + 1) (slice_set vs j z)) value ∙ more_values f slots vs j s there (subst (λ m. j < m) (sym count) inside) before)
+values_step f slots vs j s v n value there count inside before = (
+  length-set vs j v ∙ count,
+  ap (λ z. take (j + 1) (slice_set vs j z)) value ∙ more_values f slots vs j s there (subst (λ m. j < m) (sym count) inside) before,
+)
 
 -- what is given where a test holds is given only where it holds
 pub where_defined : {X : Type 0} (b : Bool) (o : Option X) (x : X) → (if b then o else None) ≡ Some x → (b ≡ true) × (o ≡ Some x)

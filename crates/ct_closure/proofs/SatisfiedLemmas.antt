@@ -41,7 +41,7 @@ pub satisfied_by_value : (supports : List Support) (f : Slot → ℕ) (r : Rule)
     IsNoBetter (rule_side r) u (f (rule_side r, e)) → IsSatisfied supports f r e
 satisfied_by_value supports f r e u given worse slots v premises value =
     subst (λ z. IsNoBetter (rule_side r) z (f (rule_side r, e)))
-      (same_Some u v (sym given ∙ over_from_premises supports f r e slots v premises value)) worse
+    (same_Some u v (sym given ∙ over_from_premises supports f r e slots v premises value)) worse
 
 -- bounds that differ at one slot alone give the same for slots among which it isn't
 pub bounds_of_others : (bounds : List ℕ) (s : Slot) (v : ℕ) (slots : List Slot) → IsEntry s.1 → All (λ t. IsEntry t.1) slots →
@@ -50,8 +50,8 @@ pub bounds_of_others : (bounds : List ℕ) (s : Slot) (v : ℕ) (slots : List Sl
 bounds_of_others bounds s v [] entry entries apart = refl
 bounds_of_others bounds s v (t ∷ slots) entry entries apart =
     let here : bound_of (slice_set bounds (slot_number s) v) t ≡ bound_of bounds t =
-      get_or-set_other bounds (slot_number s) (slot_number t) v 0
-        (λ same. apart 0 (ap Some (slot_number-injective t s (All-head (λ u. IsEntry u.1) t slots entries) entry same))) in
+    get_or-set_other bounds (slot_number s) (slot_number t) v 0
+    (λ same. apart 0 (ap Some (slot_number-injective t s (All-head (λ u. IsEntry u.1) t slots entries) entry same))) in
     let rest = bounds_of_others bounds s v slots entry (All-tail (λ u. IsEntry u.1) t slots entries) (λ j h. apart (suc j) h) in
     ap (λ z. z ∷ map (bound_of (slice_set bounds (slot_number s) v)) slots) here ∙ ap (λ z. bound_of bounds t ∷ z) rest
 
@@ -74,9 +74,9 @@ bounds_no_worse bounds s t v count entry other better = go (cases_eq (slot_numbe
     go (inl same) =
         let one = slot_number-injective t s other entry same in
         let now : bound_of (slice_set bounds (slot_number s) v) s ≡ v =
-          get_or-set_same bounds (slot_number s) v 0 (subst (λ m. slot_number s < m) (sym count) (slot_number-bound s entry)) in
+        get_or-set_same bounds (slot_number s) v 0 (subst (λ m. slot_number s < m) (sym count) (slot_number-bound s entry)) in
         subst (λ u. IsNoBetter u.0 (bound_of bounds u) (bound_of (slice_set bounds (slot_number s) v) u)) (sym one)
-          (subst (λ m. IsNoBetter s.0 (bound_of bounds s) m) (sym now) (better-no_worse s.0 v (bound_of bounds s) better))
+        (subst (λ m. IsNoBetter s.0 (bound_of bounds s) m) (sym now) (better-no_worse s.0 v (bound_of bounds s) better))
     go (inr apart) = subst (λ m. IsNoBetter t.0 (bound_of bounds t) m) (sym (get_or-set_other bounds (slot_number s) (slot_number t) v 0 apart))
         (no_better-self t.0 (bound_of bounds t))
 
@@ -89,25 +89,25 @@ satisfied_after supports bounds s v r e count entry better apart before slots u 
     let there = applies_from_premises supports r e slots premises in
     let same = (premises-defined supports r e slots premises).1 in
     let others = bounds_of_others bounds s v slots entry (premises_in_table supports r e slots premises)
-      (λ j h. apart there j (subst (λ z. slice_get z j ≡ Some s) (sym same) h)) in
+    (λ j h. apart there j (subst (λ z. slice_get z j ≡ Some s) (sym same) h)) in
     no_better-trans (rule_side r) u (bound_of bounds (rule_side r, e)) (bound_of (slice_set bounds (slot_number s) v) (rule_side r, e))
-      (before slots u premises (subst (λ z. value_of supports r e z ≡ Some u) others value))
-      (bounds_no_worse bounds s (rule_side r, e) v count entry (rule_entry supports r e slots premises) better)
+    (before slots u premises (subst (λ z. value_of supports r e z ≡ Some u) others value))
+    (bounds_no_worse bounds s (rule_side r, e) v count entry (rule_entry supports r e slots premises) better)
 
 -- the instance that gave the better bound gives nothing better than it, where it does not rest on its own slot
 pub satisfied_own : (supports : List Support) (bounds : List ℕ) (i : Instance) (v : ℕ) → length bounds ≡ 2 * side_size → IsEntry i.entry →
     value_over supports (bound_of bounds) i.rule i.entry ≡ Some v →
     (applies supports i.rule i.entry ≡ true → (j : ℕ) →
-      slice_get (premises_at (cited supports i.rule) i.rule i.entry) j ≡ Some (rule_side i.rule, i.entry) → ⊥) →
+    slice_get (premises_at (cited supports i.rule) i.rule i.entry) j ≡ Some (rule_side i.rule, i.entry) → ⊥) →
     IsSatisfied supports (bound_of (slice_set bounds (slot_number (rule_side i.rule, i.entry)) v)) i.rule i.entry
 satisfied_own supports bounds i v count entry value apart slots u premises given =
     let there = applies_from_premises supports i.rule i.entry slots premises in
     let same = (premises-defined supports i.rule i.entry slots premises).1 in
     let s : Slot = (rule_side i.rule, i.entry) in
     let others = bounds_of_others bounds s v slots entry (premises_in_table supports i.rule i.entry slots premises)
-      (λ j h. apart there j (subst (λ z. slice_get z j ≡ Some s) (sym same) h)) in
+    (λ j h. apart there j (subst (λ z. slice_get z j ≡ Some s) (sym same) h)) in
     let old = over_from_premises supports (bound_of bounds) i.rule i.entry slots u premises
-      (subst (λ z. value_of supports i.rule i.entry z ≡ Some u) others given) in
+    (subst (λ z. value_of supports i.rule i.entry z ≡ Some u) others given) in
     let now : bound_of (slice_set bounds (slot_number s) v) s ≡ v =
-      get_or-set_same bounds (slot_number s) v 0 (subst (λ m. slot_number s < m) (sym count) (slot_number-bound s entry)) in
+    get_or-set_same bounds (slot_number s) v 0 (subst (λ m. slot_number s < m) (sym count) (slot_number-bound s entry)) in
     subst (λ m. IsNoBetter s.0 u m) (sym now) (subst (λ m. IsNoBetter s.0 u m) (same_Some u v (sym old ∙ value)) (no_better-self s.0 u))

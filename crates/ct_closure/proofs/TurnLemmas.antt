@@ -31,9 +31,9 @@ pub pending-no_value : (fixed : List Instance) (supports : List Support) (bounds
     IsPendingBut number fixed supports bounds work → IsPending fixed supports bounds work
 pending-no_value fixed supports bounds number work i at none pending =
     IsPending-tried fixed supports bounds number work
-      (λ j h. satisfied_by_none supports (bound_of bounds) j.rule j.entry
-        (subst (λ (k : Instance). value_over supports (bound_of bounds) k.rule k.entry ≡ None) (same_Some i j (sym at ∙ h)) none))
-      pending
+    (λ j h. satisfied_by_none supports (bound_of bounds) j.rule j.entry
+    (subst (λ (k : Instance). value_over supports (bound_of bounds) k.rule k.entry ≡ None) (same_Some i j (sym at ∙ h)) none))
+    pending
 
 -- it gives nothing better
 pub pending-no_better : (fixed : List Instance) (supports : List Support) (bounds : List ℕ) (number : ℕ) (work : WorkValue) (i : Instance)
@@ -42,11 +42,11 @@ pub pending-no_better : (fixed : List Instance) (supports : List Support) (bound
     IsPendingBut number fixed supports bounds work → IsPending fixed supports bounds work
 pending-no_better fixed supports bounds number work i v side bound at value same stands worse pending =
     IsPending-tried fixed supports bounds number work
-      (λ j h. subst (λ (k : Instance). IsSatisfied supports (bound_of bounds) k.rule k.entry) (same_Some i j (sym at ∙ h)) own) pending
+    (λ j h. subst (λ (k : Instance). IsSatisfied supports (bound_of bounds) k.rule k.entry) (same_Some i j (sym at ∙ h)) own) pending
   where
     own : IsSatisfied supports (bound_of bounds) i.rule i.entry
     own = satisfied_by_value supports (bound_of bounds) i.rule i.entry v value
-      (subst (λ (s : Side). IsNoBetter s v (bound_of bounds (s, i.entry))) same (subst (λ b. IsNoBetter side v b) stands worse))
+        (subst (λ (s : Side). IsNoBetter s v (bound_of bounds (s, i.entry))) same (subst (λ b. IsNoBetter side v b) stands worse))
 
 -- it gives something better, which is put with its line, and the instances that rest on it are marked
 pub record IsImprovement (instances : InstancesValue) (supports : List Support) (kept : KeptValue) (number : ℕ) (i : Instance) (v : ℕ) : Type 0 where
@@ -63,8 +63,13 @@ pub improvement : (instances : InstancesValue) (supports : List Support) (kept :
     side ≡ rule_side i.rule → bound ≡ bound_of kept.bounds (side, i.entry) → IsBetter side v bound →
     IsImprovement instances supports kept number i v
 improvement instances supports kept number i v side bound at value limit defined entry same stands better = record {
-  at = at; value = value; limit = limit; defined = defined; entry = entry;
-  better = subst (λ (s : Side). IsBetter s v (bound_of kept.bounds (s, i.entry))) same (subst (λ b. IsBetter side v b) stands better) }
+  at = at;
+  value = value;
+  limit = limit;
+  defined = defined;
+  entry = entry;
+  better = subst (λ (s : Side). IsBetter s v (bound_of kept.bounds (s, i.entry))) same (subst (λ b. IsBetter side v b) stands better);
+}
 
 pub kept-improved : (instances : InstancesValue) (supports : List Support) (kept : KeptValue) (number : ℕ) (i : Instance) (v : ℕ) →
     IsKept supports kept → IsImprovement instances supports kept number i v →
@@ -89,8 +94,8 @@ pub pending-improved : (instances : InstancesValue) (supports : List Support) (k
     IsPending instances.fixed supports (with_line kept (line_by supports kept i v)).bounds new
 pending-improved instances supports kept number i v side list work new are good is for pending =
     IsPending-improved instances.fixed supports instances.users kept.bounds number i v list work new are.unsupported are.users good.bound_count
-      is.entry is.at is.value is.better (subst (λ (s : Side). slice_get instances.users (slot_number (s, i.entry)) ≡ Some list) for.same for.there)
-      for.marked for.kept for.count pending
+    is.entry is.at is.value is.better (subst (λ (s : Side). slice_get instances.users (slot_number (s, i.entry)) ≡ Some list) for.same for.there)
+    for.marked for.kept for.count pending
 
 pub turns-improved : (instances : InstancesValue) (supports : List Support) (kept : KeptValue) (number : ℕ) (i : Instance) (v : ℕ) (side : Side)
     (list : List ℕ) (work new : WorkValue) → IsKept supports kept → IsImprovement instances supports kept number i v →
@@ -98,4 +103,4 @@ pub turns-improved : (instances : InstancesValue) (supports : List Support) (kep
     potential (with_line kept (line_by supports kept i v)).bounds instances.users new ≤ potential kept.bounds instances.users work
 turns-improved instances supports kept number i v side list work new good is for =
     potential-improved kept.bounds (with_line kept (line_by supports kept i v)).bounds instances.users (slot_number (side, i.entry)) list work new
-      (slack-set kept.bounds (rule_side i.rule, i.entry) v good.bound_count is.entry is.limit is.better) for.there for.no_more
+    (slack-set kept.bounds (rule_side i.rule, i.entry) v good.bound_count is.entry is.limit is.better) for.there for.no_more

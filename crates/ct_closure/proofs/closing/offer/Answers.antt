@@ -13,7 +13,7 @@ loop-j-preserved c =
     let slot : Slot = (c.in_ok-side.side, c.in_ok-side.other) in
     let there = premise_there supports rule entry c.loop-j.j slot (sym c.in_ok-side.ensures.premise) in
     values_step (bound_of c.args.kept.now.bounds) (premises_at (cited supports rule) rule entry) c.loop-j.values c.loop-j.j slot
-      c.bound.result 2 c.bound.ensures there.1 c.loop-j.invariant.0 (search rules) c.loop-j.invariant.1
+    c.bound.result 2 c.bound.ensures there.1 c.loop-j.invariant.0 (search rules) c.loop-j.invariant.1
 
 pub returns-clause-value : goal.returns-clause-value
 returns-clause-value c =
@@ -22,4 +22,4 @@ returns-clause-value c =
     let entry = c.args.instance.entry in
     let there = count_there supports rule entry c.in_ok-count.count (sym c.in_ok-count.ensures.count) in
     c.value.ensures.value ∙ values_are supports rule entry (bound_of c.args.kept.now.bounds) c.loop-j.values c.in_ok-count.count c.loop-j.j there
-      c.loop-j-test.false c.loop-j.auto.j-end c.loop-j.invariant.1
+    c.loop-j-test.false c.loop-j.auto.j-end c.loop-j.invariant.1

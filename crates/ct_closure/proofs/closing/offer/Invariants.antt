@@ -6,4 +6,4 @@ use Rattle.ct_closure.proofs.closing.offer.Given as goal
 abbrev pub invariant-loop-j : goal.invariant-loop-j
 invariant-loop-j l =
     (length l.values ≡ 2)
-  × (take l.j l.values ≡ map (bound_of l.kept.bounds) (take l.j (premises_at (cited l.supports l.rule) l.rule l.entry)))
+    × (take l.j l.values ≡ map (bound_of l.kept.bounds) (take l.j (premises_at (cited l.supports l.rule) l.rule l.entry)))
