@@ -12,3 +12,4 @@ pub mod UserLemmas
 pub mod KeptLemmas
 pub mod SlackLemmas
 pub mod TurnLemmas
+pub mod BeginLemmas

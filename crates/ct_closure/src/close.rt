@@ -1,14 +1,12 @@
 //! Where the closing of a table begins: from all instances, from that of one support, or from those of slots that lost their bound.
 
-ghost use Rattle.std.specs.Prelude.{◌≡◌, ◌≢◌, ◌+◌, ◌<◌, ◌++◌, ◌^◌, ℕ, List, false, OnOk, length};
-ghost use Rattle.ct_rules.specs.Closed.{IsSatisfied, IsClosed};
+ghost use Rattle.std.specs.Prelude.{◌≡◌, ◌+◌, ◌<◌, ◌++◌, ◌^◌, List, false, OnOk, length};
+ghost use Rattle.ct_rules.specs.Closed.{IsClosed};
 ghost use Rattle.ct_rules.specs.Derivation.{LineValue};
-ghost use Rattle.ct_closure.specs.declared.instance.Instance.{Instance};
 ghost use Rattle.ct_closure.specs.Closing.{IsPending, AreSatisfiedBut, AreSatisfiedWhereSame};
 ghost use Rattle.ct_closure.specs.Instance.{AreInstances};
 ghost use Rattle.ct_closure.specs.Kept.{IsKept, Grew};
 ghost use Rattle.ct_closure.specs.Number.{bound_of};
-ghost use Rattle.ct_closure.specs.Worklist.{IsMarked};
 
 use crate::closing::{close, gives_better};
 use crate::instances::Instances;
@@ -96,7 +94,6 @@ fn mark_changed(
 ) -> Result<(), AllocError>
     requires few { length supports.now < 2 ^ 32 }
     requires count { length work.now.marks ≡ length instances.now.fixed + length supports.now }
-    requires unmarked { (k : ℕ) → ¬ (IsMarked work.now k) }
     requires satisfied { AreSatisfiedWhereSame instances.now.fixed supports.now (bound_of before.now.bounds) (bound_of kept.now.bounds) }
     ensures { OnOk result (IsPending instances.now.fixed supports.now kept.now.bounds work.new) }
 {
