@@ -1,5 +1,5 @@
 -- The table of bounds.
-use Rattle.std.specs.Prelude.{ℕ, ◌<◌, ◌^◌, List, length}
+use Rattle.std.specs.Prelude.{◌<◌, ◌^◌, List, length}
 use Rattle.ct_rules.specs.declared.support.Support.{Support}
 use Rattle.ct_rules.specs.Closed.{IsClosed}
 use Rattle.ct_rules.specs.Support.{AllStand}

@@ -91,10 +91,13 @@ impl Table {
             place,
             &mut self.evaluations,
         );
-        if done.is_err() {
-            self.supports.truncate(place);
+        match done {
+            Ok(()) => Ok(()),
+            Err(error) => {
+                self.supports.truncate(place);
+                Err(error)
+            }
         }
-        done
     }
 
     /// Takes out the support at the place; the later ones move down by one. Where a reason did not rest on it, neither by its rule
