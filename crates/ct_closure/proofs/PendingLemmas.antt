@@ -17,7 +17,7 @@ use Rattle.ct_rules.specs.Support.{size_at}
 use Rattle.ct_rules.proofs.MoreSupports.{applies_from_premises}
 use Rattle.ct_rules.specs.Slot.{Slot, IsBetter}
 use Rattle.ct_closure.specs.declared.instance.Instance.{Instance}
-use Rattle.ct_closure.specs.Closing.{value_over, IsPending, IsPendingBut, slack, potential}
+use Rattle.ct_closure.specs.Closing.{value_over, IsPending, IsPendingBut, IsSatisfiedAt, slack, potential}
 use Rattle.ct_closure.specs.Instance.{AreAllFixed, AreUsers, size_rule, instance_of, instance_at}
 use Rattle.ct_closure.specs.Number.{slot_number, bound_of, side_size}
 use Rattle.ct_closure.specs.Worklist.{WorkValue, IsMarked}
@@ -133,8 +133,8 @@ IsPending-improved fixed supports users bounds number i v list work new unsuppor
 
 -- after an instance that gives nothing better was tried
 pub IsPending-tried : (fixed : List Instance) (supports : List Support) (bounds : List ℕ) (number : ℕ) (work : WorkValue) →
-    ((i : Instance) → instance_at fixed supports number ≡ Some i → IsSatisfied supports (bound_of bounds) i.rule i.entry) →
-    IsPendingBut number fixed supports bounds work → IsPending fixed supports bounds work
+    IsSatisfiedAt number fixed supports (bound_of bounds) → IsPendingBut number fixed supports bounds work →
+    IsPending fixed supports bounds work
 IsPending-tried fixed supports bounds number work own pending = record { marks = pending.marks; satisfied = each }
   where
     each : (k : ℕ) (j : Instance) → instance_at fixed supports k ≡ Some j → ¬ (IsMarked work k) → IsSatisfied supports (bound_of bounds) j.rule j.entry

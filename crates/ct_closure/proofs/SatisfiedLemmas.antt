@@ -19,7 +19,8 @@ use Rattle.ct_rules.proofs.ClosedBounds.{no_better-trans}
 use Rattle.ct_rules.proofs.MoreSupports.{applies_from_premises}
 use Rattle.ct_rules.proofs.RuleLaws.{premises_in_table, rule_entry}
 use Rattle.ct_closure.specs.declared.instance.Instance.{Instance}
-use Rattle.ct_closure.specs.Closing.{value_over}
+use Rattle.ct_closure.specs.Closing.{IsSatisfiedAt, value_over}
+use Rattle.ct_closure.specs.Instance.{instance_at}
 use Rattle.ct_closure.specs.Number.{slot_number, bound_of, side_size}
 use Rattle.ct_closure.proofs.NumberLemmas.{slot_number-bound, slot_number-injective}
 use Rattle.ct_closure.proofs.PremiseLemmas.{value_over_is}
@@ -42,6 +43,17 @@ pub satisfied_by_value : (supports : List Support) (f : Slot → ℕ) (r : Rule)
 satisfied_by_value supports f r e u given worse slots v premises value =
     subst (λ z. IsNoBetter (rule_side r) z (f (rule_side r, e)))
     (same_Some u v (sym given ∙ over_from_premises supports f r e slots v premises value)) worse
+
+-- where the instance of a number gives nothing better, and where there is none
+pub satisfied_by_instance : (number : ℕ) (fixed : List Instance) (supports : List Support) (bounds : Slot → ℕ)
+    (i : Instance) → instance_at fixed supports number ≡ Some i → IsSatisfied supports bounds i.rule i.entry
+    → IsSatisfiedAt number fixed supports bounds
+satisfied_by_instance number fixed supports bounds i at own j again =
+    subst (λ (k : Instance). IsSatisfied supports bounds k.rule k.entry) (same_Some i j (sym at ∙ again)) own
+
+pub satisfied_by_no_instance : (number : ℕ) (fixed : List Instance) (supports : List Support) (bounds : Slot → ℕ)
+    → instance_at fixed supports number ≡ None → IsSatisfiedAt number fixed supports bounds
+satisfied_by_no_instance number fixed supports bounds none i at = absurd (none-some i (sym none ∙ at))
 
 -- bounds that differ at one slot alone give the same for slots among which it isn't
 pub bounds_of_others : (bounds : List ℕ) (s : Slot) (v : ℕ) (slots : List Slot) → IsEntry s.1 → All (λ t. IsEntry t.1) slots →

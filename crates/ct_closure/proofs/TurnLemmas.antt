@@ -1,6 +1,5 @@
 -- A turn of the closing, case by case.
-use Rattle.std.proofs.Common.{◌≡◌, ℕ, ◌+◌, ◌≤◌, List, length, Some, None, true, sym, subst, ◌∙◌, slice_get, Contains}
-use Rattle.std.proofs.lemmas.Option.{none-some, same_Some}
+use Rattle.std.proofs.Common.{◌≡◌, ℕ, ◌+◌, ◌≤◌, List, length, Some, None, true, subst, slice_get, Contains}
 use Rattle.ct_words.specs.declared.limits.TheConstants.{MAX_BOUND}
 use Rattle.ct_codes.specs.declared.claim.Side.{Side}
 use Rattle.ct_codes.specs.Entry.{IsEntry}
@@ -16,14 +15,15 @@ use Rattle.ct_closure.specs.Number.{slot_number, bound_of}
 use Rattle.ct_closure.specs.Worklist.{WorkValue, IsMarked}
 use Rattle.ct_closure.proofs.KeptLemmas.{IsKept-with_line, Grew-with_line, Follows-line_by}
 use Rattle.ct_closure.proofs.PendingLemmas.{IsPending-tried, IsPending-improved, potential-improved}
-use Rattle.ct_closure.proofs.SatisfiedLemmas.{satisfied_by_none, satisfied_by_value}
+use Rattle.ct_closure.proofs.SatisfiedLemmas.{satisfied_by_none, satisfied_by_value, satisfied_by_instance, satisfied_by_no_instance}
 use Rattle.ct_closure.proofs.SlackLemmas.{slack-set}
 
 -- the number is that of no instance
 pub pending-no_instance : (fixed : List Instance) (supports : List Support) (bounds : List ℕ) (number : ℕ) (work : WorkValue) →
     instance_at fixed supports number ≡ None → IsPendingBut number fixed supports bounds work → IsPending fixed supports bounds work
 pending-no_instance fixed supports bounds number work none pending =
-    IsPending-tried fixed supports bounds number work (λ i h. absurd (none-some i (sym none ∙ h))) pending
+    IsPending-tried fixed supports bounds number work
+    (satisfied_by_no_instance number fixed supports (bound_of bounds) none) pending
 
 -- the instance gives nothing
 pub pending-no_value : (fixed : List Instance) (supports : List Support) (bounds : List ℕ) (number : ℕ) (work : WorkValue) (i : Instance) →
@@ -31,8 +31,8 @@ pub pending-no_value : (fixed : List Instance) (supports : List Support) (bounds
     IsPendingBut number fixed supports bounds work → IsPending fixed supports bounds work
 pending-no_value fixed supports bounds number work i at none pending =
     IsPending-tried fixed supports bounds number work
-    (λ j h. satisfied_by_none supports (bound_of bounds) j.rule j.entry
-    (subst (λ (k : Instance). value_over supports (bound_of bounds) k.rule k.entry ≡ None) (same_Some i j (sym at ∙ h)) none))
+    (satisfied_by_instance number fixed supports (bound_of bounds) i at
+    (satisfied_by_none supports (bound_of bounds) i.rule i.entry none))
     pending
 
 -- it gives nothing better
@@ -42,7 +42,7 @@ pub pending-no_better : (fixed : List Instance) (supports : List Support) (bound
     IsPendingBut number fixed supports bounds work → IsPending fixed supports bounds work
 pending-no_better fixed supports bounds number work i v side bound at value same stands worse pending =
     IsPending-tried fixed supports bounds number work
-    (λ j h. subst (λ (k : Instance). IsSatisfied supports (bound_of bounds) k.rule k.entry) (same_Some i j (sym at ∙ h)) own) pending
+    (satisfied_by_instance number fixed supports (bound_of bounds) i at own) pending
   where
     own : IsSatisfied supports (bound_of bounds) i.rule i.entry
     own = satisfied_by_value supports (bound_of bounds) i.rule i.entry v value

@@ -47,6 +47,11 @@ slack bounds = sum_by (λ v. MAX_BOUND - v) (take side_size bounds) + sum_by (λ
 abbrev pub potential : List ℕ → List (List ℕ) → WorkValue → ℕ
 potential bounds users work = slack bounds * (sum_by length users + 1) + length work.queue
 
+-- the instance of a number, where there is one, gives nothing better than what stands
+abbrev pub IsSatisfiedAt : ℕ → List Instance → List Support → (Slot → ℕ) → Type 0
+IsSatisfiedAt number fixed supports bounds = (i : Instance) → instance_at fixed supports number ≡ Some i →
+    IsSatisfied supports bounds i.rule i.entry
+
 -- each instance but that of one number gives nothing better than what stands
 abbrev pub AreSatisfiedBut : ℕ → List Instance → List Support → (Slot → ℕ) → Type 0
 AreSatisfiedBut number fixed supports bounds = (k : ℕ) (i : Instance) → k ≢ number → instance_at fixed supports k ≡ Some i →

@@ -1,6 +1,6 @@
 //! Where the closing of a table begins: from all instances, from that of one support, or from those of slots that lost their bound.
 
-ghost use Rattle.std.specs.Prelude.{◌≡◌, ◌+◌, ◌<◌, ◌++◌, ◌^◌, List, false, OnOk, length};
+ghost use Rattle.std.specs.Prelude.{◌≡◌, ◌+◌, ◌<◌, ◌++◌, ◌^◌, List, true, false, OnOk, length};
 ghost use Rattle.ct_rules.specs.Closed.{IsClosed};
 ghost use Rattle.ct_rules.specs.Derivation.{LineValue};
 ghost use Rattle.ct_closure.specs.Closing.{IsPending, AreSatisfiedBut, AreSatisfiedWhereSame};
@@ -53,6 +53,7 @@ pub fn support_improves(
     requires place { place < length supports.now }
     requires others { AreSatisfiedBut (length instances.now.fixed + place) instances.now.fixed supports.now (bound_of kept.now.bounds) }
     ensures closed { result ≡ false → IsClosed supports.now (bound_of kept.now.bounds) }
+    ensures improves { result ≡ true → ¬ (IsClosed supports.now (bound_of kept.now.bounds)) }
 {
     gives_better(instances, supports, kept, instances.len() + place)
 }

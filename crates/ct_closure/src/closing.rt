@@ -4,14 +4,14 @@ ghost use Rattle.std.specs.Prelude.{◌≡◌, ◌+◌, ◌<◌, ◌≤◌, ◌+
 ghost use Rattle.ct_words.specs.declared.limits.TheConstants.{MAX_BOUND};
 ghost use Rattle.ct_codes.specs.Entry.{IsEntry};
 ghost use Rattle.ct_rules.specs.Derivation.{LineValue};
-ghost use Rattle.ct_rules.specs.Closed.{IsSatisfied, IsClosed};
+ghost use Rattle.ct_rules.specs.Closed.{IsClosed};
 ghost use Rattle.ct_rules.specs.Rule.{rule_side, cited, premises_at, applies};
 ghost use Rattle.ct_rules.specs.Slot.{IsBetter, IsNoBetter};
 ghost use Rattle.ct_closure.specs.Number.{bound_of};
 ghost use Rattle.ct_closure.specs.Instance.{AreInstances, instance_at};
 ghost use Rattle.ct_closure.specs.declared.instance.Instance.{Instance};
 ghost use Rattle.ct_closure.specs.Kept.{IsKept, Grew, with_line, reason_of};
-ghost use Rattle.ct_closure.specs.Closing.{value_over, IsPending, IsPendingBut, potential, line_by};
+ghost use Rattle.ct_closure.specs.Closing.{value_over, IsPending, IsPendingBut, IsSatisfiedAt, potential, line_by};
 
 use crate::instance::Instance;
 use crate::instances::Instances;
@@ -69,7 +69,7 @@ fn reasons(
     Ok(from)
 }
 
-/// Whether the instance of the number gives a better bound than stands.
+/// Whether there is an instance of the number and it gives a better bound than stands.
 pub(crate) fn gives_better(
     instances: &Instances,
     supports: &[Support],
@@ -77,8 +77,9 @@ pub(crate) fn gives_better(
     number: usize,
 ) -> bool
     requires few { length supports.now < 2 ^ 32 }
-    ensures { result ≡ false → (i : Instance) → instance_at instances.now.fixed supports.now number ≡ Some i →
-        IsSatisfied supports.now (bound_of kept.now.bounds) i.rule i.entry }
+    ensures { MatchBool result
+        (¬ (IsSatisfiedAt number instances.now.fixed supports.now (bound_of kept.now.bounds)))
+        (IsSatisfiedAt number instances.now.fixed supports.now (bound_of kept.now.bounds)) }
 {
     let Some(instance) = instances.at(supports, number) else {
         return false;

@@ -2,7 +2,8 @@ use Rattle.std.proofs.Common.{◌≡◌, ◌+◌, sym, subst, ◌∙◌, arith}
 use Rattle.std.proofs.lemmas.Bool.{false≢true}
 use Rattle.ct_codes.specs.declared.claim.Side.{Side}
 use Rattle.ct_closure.specs.Number.{bound_of}
-use Rattle.ct_closure.proofs.BeginLemmas.{IsPendingBelow, IsPendingBelow-no_instance, IsPendingBelow-satisfied, IsPendingBelow-marked, IsPending-below, satisfied_outside}
+use Rattle.ct_closure.proofs.BeginLemmas.{IsPendingBelow, IsPendingBelow-kept, IsPendingBelow-marked, IsPending-below, satisfied_outside}
+use Rattle.ct_closure.proofs.SatisfiedLemmas.{satisfied_by_instance, satisfied_by_no_instance}
 use Rattle.ct_closure.proofs.close.mark_changed.Goals as goal
 use Rattle.ct_closure.proofs.close.mark_changed.Goals.{in-Some+then-in_table+then-bound+in_ok-mark, in-Some+else-in_table, else-in_table-via-then-in_table+else-bound, else-in_table-via-else-in_table, in_default}
 
@@ -27,19 +28,23 @@ loop-number-preserved c =
           (elim w.else-in_table.branch [
             | else-in_table-via-then-in_table+else-bound w' ↦
                 let same =
-                subst (λ (s : Side). bound_of before (s, i.entry) ≡ bound_of bounds (s, i.entry)) w.rule_side-side.ensures
-                (sym w'.bound.ensures ∙ w'.if-bound.false ∙ w'.bound-then-in_table.ensures) in
-                IsPendingBelow-satisfied number fixed supports bounds work i at (c.requires.satisfied number i at same)
+                subst (λ (s : Side). bound_of before (s, i.entry) ≡ bound_of bounds (s, i.entry))
+                w.rule_side-side.ensures (sym w'.bound.ensures ∙ w'.if-bound.false ∙ w'.bound-then-in_table.ensures) in
+                IsPendingBelow-kept number fixed supports bounds work
+                (satisfied_by_instance number fixed supports (bound_of bounds) i at
+                (c.requires.satisfied number i at same))
                 pending
             | else-in_table-via-else-in_table w' ↦
                 let outside = satisfied_outside supports (bound_of bounds) i.rule i.entry
                 (λ entry. false≢true (w'.if-in_table.ensures ∙ entry)) in
-                IsPendingBelow-satisfied number fixed supports bounds work i at outside pending
+                IsPendingBelow-kept number fixed supports bounds work
+                (satisfied_by_instance number fixed supports (bound_of bounds) i at outside) pending
           ])
       | in_default w ↦
           subst (IsPendingBelow (number + 1) fixed supports bounds) (sym w.work-is)
-          (IsPendingBelow-no_instance number fixed supports bounds work
-          (sym c.at.ensures.instance ∙ w.in_default.is) pending)
+          (IsPendingBelow-kept number fixed supports bounds work
+          (satisfied_by_no_instance number fixed supports (bound_of bounds)
+          (sym c.at.ensures.instance ∙ w.in_default.is)) pending)
     ]
 
 pub returns : goal.returns
