@@ -43,4 +43,4 @@ claim_and_lowered_rule place l = (l.claim, lowered place l.rule)
 abbrev pub KeepsReasons : ℕ → KeptValue → KeptValue → Type 0
 KeepsReasons place old new = (s : Slot) → IsEntry s.1 → ¬ (RestsOnPlace old.lines place (reason_of old s)) →
     option_map claim_and_rule (slice_get new.lines (reason_of new s))
-      ≡ option_map (claim_and_lowered_rule place) (slice_get old.lines (reason_of old s))
+    ≡ option_map (claim_and_lowered_rule place) (slice_get old.lines (reason_of old s))
