@@ -1,4 +1,11 @@
 pub mod TableLemmas
 pub mod MoreLemmas
-pub mod RaisedLemmas
+pub mod FewerSupports
 pub mod RemovalLemmas
+pub mod MovedPlaces
+pub mod RemovedSupports
+pub mod WalkLemmas
+pub mod RestingLemmas
+pub mod LeftLemmas
+pub mod LeftReasons
+pub mod LeftBounds

@@ -16,15 +16,15 @@ use Rattle.ct_closure.specs.Number.{bound_of}
 use Rattle.ct_closure.proofs.KeptLemmas.{reason_line, reason-within, Grew-no_worse}
 use Rattle.ct_table.specs.Removal.{RestsOnPlace, claim_and_rule, claim_and_lowered_rule, KeepsReasons}
 use Rattle.ct_table.specs.Table.{TableValue, IsTable}
-use Rattle.ct_table.proofs.RaisedLemmas.{IsClosed-removed, AllStand-removed, fewer-removed}
+use Rattle.ct_table.proofs.FewerSupports.{IsClosed-removed, AllStand-removed, fewer-removed}
 use Rattle.ct_table.proofs.TableLemmas.{bounds_are_derived, bounds_are_true}
 
 -- no bound that is kept over what is left is better than the one before
-pub left-no_better : (t : TableValue) (place : ℕ) (new : KeptValue) (s : Slot) → IsTable t → place < length t.supports →
+pub left-no_better : (t : TableValue) (place : ℕ) (new : KeptValue) (s : Slot) → IsTable t →
     IsKept (remove t.supports place) new → IsEntry s.1 → IsNoBetter s.0 (bound_of new.bounds s) (bound_of t.kept.bounds s)
-left-no_better t place new s good inside good_new entry =
+left-no_better t place new s good good_new entry =
     closed_bounds_are_best_possible (remove t.supports place) (bound_of t.kept.bounds) (AllStand-removed t.supports place good.stand)
-      (bounds_are_true t good) (IsClosed-removed t.supports place (bound_of t.kept.bounds) inside good.closed) (claim_at s (bound_of new.bounds s))
+      (bounds_are_true t good) (IsClosed-removed t.supports place (bound_of t.kept.bounds) good.closed) (claim_at s (bound_of new.bounds s))
       (bounds_are_derived (remove t.supports place) new good_new s entry)
 
 -- where a slot keeps the claim of its reason, it keeps its bound
@@ -40,14 +40,14 @@ kept_bound supports left place old rest s good_old good_rest entry same =
     ap (λ (c : Claim). c.value) (sym after.1.claim ∙ ap (λ (p : Claim × Rule). p.0) lines ∙ before.1.claim)
 
 -- what was kept is kept still once what is left is closed again
-pub KeepsReasons-closed : (t : TableValue) (place : ℕ) (rest new : KeptValue) → IsTable t → place < length t.supports →
+pub KeepsReasons-closed : (t : TableValue) (place : ℕ) (rest new : KeptValue) → IsTable t →
     IsKept (remove t.supports place) rest → IsKept (remove t.supports place) new → KeepsReasons place t.kept rest → Grew rest new →
     KeepsReasons place t.kept new
-KeepsReasons-closed t place rest new good inside good_rest good_new keeps grew s entry apart =
+KeepsReasons-closed t place rest new good good_rest good_new keeps grew s entry apart =
     let left = remove t.supports place in
     let before = keeps s entry apart in
     let bound = kept_bound t.supports left place t.kept rest s good.kept good_rest entry before in
-    let worse = subst (λ v. IsNoBetter s.0 (bound_of new.bounds s) v) (sym bound) (left-no_better t place new s good inside good_new entry) in
+    let worse = subst (λ v. IsNoBetter s.0 (bound_of new.bounds s) v) (sym bound) (left-no_better t place new s good good_new entry) in
     let stays = no_better-antisymmetric s.0 (bound_of new.bounds s) (bound_of rest.bounds s) worse (Grew-no_worse left rest new s good_rest good_new grew entry) in
     let reason = grew.same s entry stays in
     let within = reason-within left rest s good_rest entry in

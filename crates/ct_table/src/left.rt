@@ -1,6 +1,6 @@
 //! What is left of the lines once a support is taken out.
 
-ghost use Rattle.std.specs.Prelude.{◌≡◌, ◌<◌, ℕ, List, IfOk, length, remove};
+ghost use Rattle.std.specs.Prelude.{◌≡◌, ◌<◌, ℕ, List, IfOk, OnOk, OnErr, length, remove, option_map};
 ghost use Rattle.ct_rules.specs.declared.support.Support.{Support};
 ghost use Rattle.ct_rules.specs.Closed.{IsClosed};
 ghost use Rattle.ct_rules.specs.Support.{AllStand};
@@ -9,6 +9,7 @@ ghost use Rattle.ct_closure.specs.Closing.{AreSatisfiedWhereSame};
 ghost use Rattle.ct_closure.specs.Kept.{IsKept};
 ghost use Rattle.ct_closure.specs.Number.{bound_of};
 ghost use Rattle.ct_table.specs.Removal.{names_place, lowered_place, lowered, KeepsReasons};
+ghost use Rattle.ct_table.specs.Inside.Walk.{moved_places, may_move, moved_line, with_moved};
 
 use ct_closure::Kept;
 use ct_rules::{Line, Rule, Support};
@@ -60,31 +61,45 @@ fn lowered(rule: Rule, place: usize) -> Rule
     }
 }
 
-/// The places to which lines have moved, where each of them is left.
+/// The places to which lines have moved, where each of them has. `Err` is want of memory.
 fn moved_places(
     alloc: Global,
     moved: &[Option<usize>],
     from: &[usize],
-) -> Result<Option<Vec<usize>>, AllocError> {
+) -> Result<Option<Vec<usize>>, AllocError>
+    ensures { IfOk result (λ places. option_map (λ v. v.items) places ≡ moved_places moved.now from.now) }
+{
     let mut places = Vec::new(alloc);
     for place in from {
-        match moved[*place] {
-            Some(there) => places.push(there)?,
-            None => return Ok(None),
-        }
+        let Some(there) = moved.get(*place).copied().flatten() else {
+            return Ok(None);
+        };
+        places.push(there)?;
     }
     Ok(Some(places))
 }
 
-/// Puts a line to those that are left, unless it rests on the support at the place: where it has moved.
+/// Whether a line is about an entry of the table, and does not name the support at the place.
+fn may_move(line: &Line, place: usize) -> bool
+    ensures { result ≡ may_move place line.now }
+{
+    line.claim.entry.in_table() && !names_place(line.rule, place)
+}
+
+/// Puts a line to those that are left, unless it names the support at the place or a line that has not moved: the place where
+/// it is now. After an `Err`, which is want of memory, all is as before.
 fn move_line(
     alloc: Global,
     rest: &mut Kept,
     moved: &[Option<usize>],
     line: &Line,
     place: usize,
-) -> Result<Option<usize>, AllocError> {
-    if names_place(line.rule, place) {
+) -> Result<Option<usize>, AllocError>
+    ensures rest { OnOk result (rest.new ≡ with_moved rest.old (moved_line place moved.now line.now)) }
+    ensures there { IfOk result (λ there. there ≡ option_map (λ _. length rest.old.lines) (moved_line place moved.now line.now)) }
+    ensures unchanged { OnErr result (rest.new ≡ rest.old) }
+{
+    if !may_move(line, place) {
         return Ok(None);
     }
     let Some(from) = moved_places(alloc, moved, &line.from)? else {
