@@ -1,5 +1,5 @@
 -- What stood closed over supports is closed over all but one of them.
-use Rattle.std.proofs.Common.{◌≡◌, ℕ, suc, ◌+◌, ◌<◌, ◌^◌, List, length, map, subst, ◌∙◌, arith}
+use Rattle.std.proofs.Common.{ℕ, suc, ◌<◌, ◌^◌, List, length, map, subst, ◌∙◌, arith}
 use Rattle.std.specs.Prelude.{take, drop, remove}
 use Rattle.std.proofs.lemmas.List.Edits.{length-remove}
 use Rattle.std.proofs.lemmas.List.Elements.{All-take, All-drop, All-append}
@@ -25,7 +25,7 @@ IsClosed-removed supports place bounds closed r e slots v given_premises given_v
 pub AllStand-removed : (supports : List Support) (place : ℕ) → AllStand supports → AllStand (remove supports place)
 AllStand-removed supports place stand =
     All-append Stands (take place supports) (drop (suc place) supports) (All-take Stands place supports stand)
-      (All-drop Stands (suc place) supports stand)
+    (All-drop Stands (suc place) supports stand)
 
 pub fewer-removed : (supports : List Support) (place : ℕ) → place < length supports → length supports < 2 ^ 32 →
     length (remove supports place) < 2 ^ 32

@@ -10,12 +10,10 @@ use Rattle.ct_codes.specs.Entry.{IsEntry}
 use Rattle.ct_rules.specs.declared.rule.Rule.{Rule}
 use Rattle.ct_rules.specs.declared.support.Support.{Support}
 use Rattle.ct_rules.specs.Closed.{IsSatisfied, IsClosed}
-use Rattle.ct_rules.specs.Derivation.{IsDerived}
 use Rattle.ct_rules.specs.Rule.{rule_side, value_of}
 use Rattle.ct_rules.specs.Slot.{Slot, slot_of, IsNoBetter, AreNoBetter}
 use Rattle.ct_rules.specs.Support.{AllStand}
-use Rattle.ct_rules.proofs.ClosedBounds.{no_better-trans, claims_of, slots_of_claims, values_of_claims, All-claims_of, AreDerived, AreTrue-from_derived}
-use Rattle.ct_rules.proofs.Derivations.{derived_from_line}
+use Rattle.ct_rules.proofs.ClosedBounds.{no_better-trans, claims_of, slots_of_claims, values_of_claims, All-claims_of, AreTrue-from_derived}
 use Rattle.ct_rules.proofs.RuleLaws.{premises_in_table, premises_on_side, value_is_monotone}
 use Rattle.ct_closure.specs.Kept.{KeptValue, IsKept, reason_of}
 use Rattle.ct_closure.specs.Number.{bound_of}

@@ -1,5 +1,5 @@
-use Rattle.std.proofs.Common.{sym, subst}
-use Rattle.ct_table.specs.Table.{TableValue, IsTable}
+use Rattle.std.proofs.Common.{subst}
+use Rattle.ct_table.specs.Table.{TableValue}
 use Rattle.ct_rules.specs.Derivation.{IsDerivation}
 use Rattle.ct_table.proofs.table.Table.line.Goals as goal
 
