@@ -1,0 +1,15 @@
+pub mod GetLemmas
+pub mod WorklistLemmas
+pub mod GroundLemmas
+pub mod PutLemmas
+pub mod StartLemmas
+pub mod PremiseLemmas
+pub mod NumberLemmas
+pub mod SatisfiedLemmas
+pub mod PendingLemmas
+pub mod ListingLemmas
+pub mod UserLemmas
+pub mod KeptLemmas
+pub mod SlackLemmas
+pub mod TurnLemmas
+pub mod BeginLemmas

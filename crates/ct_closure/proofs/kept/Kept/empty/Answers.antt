@@ -1,0 +1,19 @@
+use Rattle.std.proofs.Common.{◌≡◌, ◌*◌, ℕ, List, length, replicate, ap, ◌∙◌}
+use Rattle.std.proofs.lemmas.List.{length-replicate}
+use Rattle.ct_closure.specs.Number.{side_size}
+use Rattle.ct_closure.proofs.kept.Kept.empty.Goals as goal
+
+all_zeros : (n : ℕ) (xs : List ℕ) → xs ≡ replicate n 0 → length xs ≡ n
+all_zeros n xs same = ap length same ∙ length-replicate n 0
+
+pub invariant_of-result : goal.invariant_of-result
+invariant_of-result c = (
+  all_zeros (2 * side_size) c.in_ok-no_bounds.field-0.items c.in_ok-no_bounds.ensures,
+  all_zeros (2 * side_size) c.in_ok-zeros.field-0.items c.in_ok-zeros.ensures,
+)
+
+pub returns-clause-bounds : goal.returns-clause-bounds
+returns-clause-bounds c = all_zeros (2 * side_size) c.in_ok-no_bounds.field-0.items c.in_ok-no_bounds.ensures
+
+pub returns-clause-reasons : goal.returns-clause-reasons
+returns-clause-reasons c = all_zeros (2 * side_size) c.in_ok-zeros.field-0.items c.in_ok-zeros.ensures

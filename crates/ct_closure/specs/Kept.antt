@@ -1,0 +1,79 @@
+-- What a table keeps: the lines of a derivation, and for each slot its bound and the place of the line that gives it.
+use Rattle.std.specs.Prelude.{◌≡◌, ℕ, ◌*◌, ◌<◌, ◌≤◌, false, if◌then◌else◌, List, [], ◌∷◌, ◌++◌, length, slice_get, slice_set, slice_index, All, Option, Some, option_map}
+use Rattle.ct_codes.specs.Entry.{IsEntry}
+use Rattle.ct_codes.specs.declared.claim.Side.TheVariants.{Lower, Upper}
+use Rattle.ct_rules.specs.declared.support.Support.{Support}
+use Rattle.ct_rules.specs.declared.rule.Rule.{Rule}
+use Rattle.ct_rules.specs.declared.rule.Rule.TheVariants.{L1, M1, U0, V0}
+use Rattle.ct_rules.specs.Rule.{has_weight, value_of}
+use Rattle.ct_rules.specs.Slot.{IsBetter, Slot, slot_of, claim_at}
+use Rattle.ct_rules.specs.Derivation.{LineValue, IsDerivation}
+use Rattle.ct_closure.specs.Number.{slot_number, bound_of, side_size}
+use Rattle.ct_rules.specs.Inside.Listing.{names_support}
+
+-- what a table keeps, as callers see it: bounds and reasons by the numbers of the slots, and lines
+pub record KeptValue : Type 0 where
+  pub bounds : List ℕ
+  pub reasons : List ℕ
+  pub lines : List LineValue
+
+-- bounds and reasons at one time, and how many lines there were
+pub record SavedValue : Type 0 where
+  pub bounds : List ℕ
+  pub reasons : List ℕ
+  pub count : ℕ
+
+-- the place of the line that gives the bound of a slot
+abbrev pub reason_of : KeptValue → Slot → ℕ
+reason_of kept s = slice_index kept.reasons (slot_number s)
+
+-- one more line, whose claim is now the bound of its slot
+abbrev pub with_line : KeptValue → LineValue → KeptValue
+with_line kept line = record {
+  bounds = slice_set kept.bounds (slot_number (slot_of line.claim)) line.claim.value;
+  reasons = slice_set kept.reasons (slot_number (slot_of line.claim)) (length kept.lines);
+  lines = kept.lines ++ line ∷ [];
+}
+
+-- a line that rests on no line and on no support
+pub record IsGround (line : LineValue) : Type 0 where
+  pub no_lines : line.from ≡ []
+  pub no_support : names_support line.rule ≡ false
+
+-- the rule that gives a bound of a slot whatever the supports
+abbrev pub ground_rule : Slot → Rule
+ground_rule (Lower, e) = if has_weight e then M1 else L1
+ground_rule (Upper, e) = if has_weight e then V0 else U0
+
+-- the bound that it gives, and its line
+abbrev pub ground_value : Slot → Option ℕ
+ground_value s = value_of [] (ground_rule s) s.1 []
+
+abbrev pub ground_line : Slot → ℕ → LineValue
+ground_line s v = record { claim = claim_at s v; rule = ground_rule s; from = [] }
+
+-- two lines at different places bound one slot: the later does it better
+abbrev pub Rise : List LineValue → Type 0
+Rise lines = (i j : ℕ) (l m : LineValue) → i < j → slice_get lines i ≡ Some l → slice_get lines j ≡ Some m →
+    slot_of l.claim ≡ slot_of m.claim → IsBetter l.claim.side m.claim.value l.claim.value
+
+-- a table that is kept well over its supports
+pub record IsKept (supports : List Support) (kept : KeptValue) : Type 0 where
+  -- there is a bound and a reason for each number
+  pub bound_count : length kept.bounds ≡ 2 * side_size
+  pub reason_count : length kept.reasons ≡ 2 * side_size
+  -- the lines are a derivation
+  pub derivation : IsDerivation supports kept.lines
+  -- the reason of a slot is a line that gives its bound
+  pub reasoned : (s : Slot) → IsEntry s.1 →
+      option_map (λ l. l.claim) (slice_get kept.lines (reason_of kept s)) ≡ Some (claim_at s (bound_of kept.bounds s))
+  -- it is the last line of its slot, and the lines of one slot rise
+  pub last : (i : ℕ) (l : LineValue) → slice_get kept.lines i ≡ Some l → i ≤ reason_of kept (slot_of l.claim)
+  pub rise : Rise kept.lines
+  -- each slot has a line that rests on nothing
+  pub grounded : (s : Slot) → IsEntry s.1 → (i : ℕ) × (l : LineValue) × (slice_get kept.lines i ≡ Some l) × (slot_of l.claim ≡ s) × IsGround l
+
+-- it grew: lines were put at its end, each better than the bound that its slot had; and a slot whose bound stayed has the same reason
+pub record Grew (old new : KeptValue) : Type 0 where
+  pub more : (added : List LineValue) × (new.lines ≡ old.lines ++ added) × All (λ l. IsBetter l.claim.side l.claim.value (bound_of old.bounds (slot_of l.claim))) added
+  pub same : (s : Slot) → IsEntry s.1 → bound_of new.bounds s ≡ bound_of old.bounds s → reason_of new s ≡ reason_of old s

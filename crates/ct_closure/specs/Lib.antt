@@ -1,0 +1,6 @@
+pub mod Number
+pub mod Instance
+pub mod Kept
+pub mod Worklist
+pub mod Closing
+pub mod Inside

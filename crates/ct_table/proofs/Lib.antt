@@ -1,0 +1,4 @@
+pub mod TableLemmas
+pub mod MoreLemmas
+pub mod RaisedLemmas
+pub mod RemovalLemmas

@@ -1,0 +1,47 @@
+-- What a table gives: best and true bounds.
+use Rattle.std.proofs.Common.{◌≡◌, ◌∙◌, ℕ, List, Some, subst, sym, ap, option_map, slice_get}
+use Rattle.ct_codes.specs.Claim.{IsTrueClaim}
+use Rattle.ct_codes.specs.Entry.{IsEntry}
+use Rattle.ct_rules.specs.declared.support.Support.{Support}
+use Rattle.ct_rules.specs.Closed.{AreTrue}
+use Rattle.ct_rules.specs.Derivation.{LineValue, IsDerived, IsBest}
+use Rattle.ct_rules.specs.Slot.{Slot, claim_at}
+use Rattle.ct_rules.proofs.ClosedBounds.{AreDerived, AreTrue-from_derived, closed_bound_is_best, best_is_one}
+use Rattle.ct_rules.proofs.Derivations.{derived_from_line}
+use Rattle.ct_closure.specs.Kept.{KeptValue, IsKept, reason_of}
+use Rattle.ct_closure.specs.Number.{bound_of}
+use Rattle.ct_closure.proofs.KeptLemmas.{reason_line}
+use Rattle.ct_table.specs.Table.{TableValue, IsTable}
+
+-- each bound that is kept is derived
+pub bounds_are_derived : (supports : List Support) (kept : KeptValue) → IsKept supports kept → AreDerived supports (bound_of kept.bounds)
+bounds_are_derived supports kept good s entry =
+    let found = reason_line supports kept s good entry in
+    subst (IsDerived supports) found.1.claim
+    (derived_from_line supports kept.lines (reason_of kept s) found.0 found.1.there good.derivation)
+
+-- so they are true
+pub bounds_are_true : (t : TableValue) → IsTable t → AreTrue (bound_of t.kept.bounds)
+bounds_are_true t good =
+    AreTrue-from_derived t.supports (bound_of t.kept.bounds) good.stand (bounds_are_derived t.supports t.kept good.kept)
+
+-- and best
+pub bounds_are_best : (t : TableValue) (s : Slot) → IsTable t → IsEntry s.1 → IsBest t.supports s (bound_of t.kept.bounds s)
+bounds_are_best t s good entry =
+    closed_bound_is_best t.supports (bound_of t.kept.bounds) s good.stand (bounds_are_true t good) good.closed
+    (bounds_are_derived t.supports t.kept good.kept s entry)
+
+-- as clauses on a bound that is read
+pub read_best : (t : TableValue) (s : Slot) (v : ℕ) → IsTable t → IsEntry s.1 → v ≡ bound_of t.kept.bounds s → IsBest t.supports s v
+read_best t s v good entry is = subst (IsBest t.supports s) (sym is) (bounds_are_best t s good entry)
+
+pub read_true : (t : TableValue) (s : Slot) (v : ℕ) → IsTable t → IsEntry s.1 → v ≡ bound_of t.kept.bounds s → IsTrueClaim (claim_at s v)
+read_true t s v good entry is = subst (λ m. IsTrueClaim (claim_at s m)) (sym is) (bounds_are_true t good s entry)
+
+-- the line of the reason claims the best value
+pub reason_claims : (t : TableValue) (s : Slot) (r v : ℕ) → IsTable t → IsEntry s.1 → r ≡ reason_of t.kept s → IsBest t.supports s v →
+    option_map (λ l. l.claim) (slice_get t.kept.lines r) ≡ Some (claim_at s v)
+reason_claims t s r v good entry is best =
+    let same = best_is_one t.supports s (bound_of t.kept.bounds s) v (bounds_are_best t s good entry) best in
+    ap (λ n. option_map (λ (l : LineValue). l.claim) (slice_get t.kept.lines n)) is ∙ good.kept.reasoned s entry
+    ∙ ap (λ m. Some (claim_at s m)) same

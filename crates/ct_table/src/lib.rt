@@ -1,0 +1,8 @@
+//! The table: for each entry the best bounds that any derivation from its supports gives, kept while supports come and go.
+#![tactic(auto)]
+
+mod follow;
+mod left;
+mod table;
+
+pub use table::Table;
