@@ -11,7 +11,8 @@ close-requires-clause-pending c =
     let number = length fixed + c.args.place in
     let marks = c.in_ok-work.work.marks in
     let count : length marks ≡ length fixed + length supports =
-    ap (λ (m : List Bool). length m) c.in_ok-work.ensures.marks ∙ length-replicate (c.len.result + length supports) false
+    ap (λ (m : List Bool). length m) c.in_ok-work.ensures.marks
+    ∙ length-replicate (c.len.result + length supports) false
     ∙ ap (λ k. k + length supports) c.len.ensures.count in
     let marked : c.mark.new.self.marks ≡ slice_set marks number true =
     rw c.len-2.ensures.count at c.in_ok-mark.ensures.marked in

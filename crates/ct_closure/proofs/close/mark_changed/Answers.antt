@@ -27,8 +27,8 @@ loop-number-preserved c =
           (elim w.else-in_table.branch [
             | else-in_table-via-then-in_table+else-bound w' ↦
                 let same =
-                subst (λ (s : Side). bound_of before (s, i.entry) ≡ bound_of bounds (s, i.entry)) w.rule_side-side.ensures
-                (sym w'.bound.ensures ∙ w'.if-bound.false ∙ w'.bound-then-in_table.ensures) in
+                subst (λ (s : Side). bound_of before (s, i.entry) ≡ bound_of bounds (s, i.entry))
+                w.rule_side-side.ensures (sym w'.bound.ensures ∙ w'.if-bound.false ∙ w'.bound-then-in_table.ensures) in
                 IsPendingBelow-satisfied number fixed supports bounds work i at (c.requires.satisfied number i at same)
                 pending
             | else-in_table-via-else-in_table w' ↦
