@@ -1,5 +1,6 @@
 -- Codes whose words are the images of a code's words.
 use Rattle.std.proofs.Common.{◌≡◌, ◌≢◌, ℕ, ◌+◌, ◌^◌, ◌<◌, ◌≤◌, List, get_or, map, Option, Some, None, IfSome, All, ap, ◌∙◌, arith}
+use Rattle.std.specs.Prelude.{⊤}
 use Rattle.std.specs.Option.{option_map}
 use Rattle.std.specs.List.Sorted.{IsStrictlyIncreasing}
 use Rattle.std.proofs.lemmas.List.{length-map, get_or-map}
@@ -47,11 +48,20 @@ IsCode-image_weighted n d m e g w f words maps told code =
     IsCode-weighted m e (option_map g w) (map f words) (IsCode-image n d m e w f words maps code)
     (weights-image n m g f w words told code.lengths code.weights)
 
--- a map that keeps the order keeps an ascending list ascending
-pub IsStrictlyIncreasing-map : (f : ℕ → ℕ) (words : List ℕ) → ((x y : ℕ) → x < y → f x < f y) → IsStrictlyIncreasing words
+-- a map that keeps the order of words of which P holds keeps an ascending list of such words ascending
+pub IsStrictlyIncreasing-map_within : (P : ℕ → Type 0) (f : ℕ → ℕ) (words : List ℕ)
+    → ((x y : ℕ) → P x → P y → x < y → f x < f y) → All P words → IsStrictlyIncreasing words
     → IsStrictlyIncreasing (map f words)
-IsStrictlyIncreasing-map f words rises up = λ k h.
+IsStrictlyIncreasing-map_within P f words rises each up = λ k h.
     let long = length-map words f in
     let here = get_or-map f words k 0 0 (omega arith) in
     let next = get_or-map f words (k + 1) 0 0 (omega arith) in
-    rw (here, next) (rises (get_or words k 0) (get_or words (k + 1) 0) (up k (omega arith)))
+    let first = each k 0 (omega arith) in
+    let second = each (k + 1) 0 (omega arith) in
+    rw (here, next) (rises (get_or words k 0) (get_or words (k + 1) 0) first second (up k (omega arith)))
+
+-- a map that keeps the order keeps an ascending list ascending
+pub IsStrictlyIncreasing-map : (f : ℕ → ℕ) (words : List ℕ) → ((x y : ℕ) → x < y → f x < f y) → IsStrictlyIncreasing words
+    → IsStrictlyIncreasing (map f words)
+IsStrictlyIncreasing-map f words rises up =
+    IsStrictlyIncreasing-map_within (λ x. ⊤) f words (λ x y p q less. rises x y less) (λ k d l. tt) up

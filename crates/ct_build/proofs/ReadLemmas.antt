@@ -1,6 +1,9 @@
 -- Words that are read at some places of others: digits, weights, distances, and a place that is left out.
-use Rattle.std.proofs.Common.{◌≡◌, ℕ, zero, suc, ◌+◌, ◌-◌, ◌*◌, ◌/◌, ◌%◌, ◌^◌, ◌<◌, List, [], ◌∷◌, ◌++◌, length, get_or, All, refl, sym, ap, ap₂, subst, ◌∙◌, arith, pow-suc, pow-add, length-append}
+use Rattle.std.proofs.Common.{◌≡◌, ℕ, zero, suc, ◌+◌, ◌-◌, ◌*◌, ◌/◌, ◌%◌, ◌^◌, ◌<◌, ◌≤◌, List, [], ◌∷◌, ◌++◌, length, take, get_or, All, refl, sym, ap, ap₂, subst, ◌∙◌, inl, inr, arith, pow-suc, pow-add, length-append}
 use Rattle.std.specs.Prelude.{Bool, not, ◌==◌, cond, count_by, bit_and, bit_or}
+use Rattle.std.proofs.Math.Nat.{mul-le-mul_left}
+use Rattle.std.proofs.lemmas.Bool.{cases_order}
+use Rattle.std.proofs.lemmas.List.{take_all}
 use Rattle.std.proofs.lemmas.Nat.{mul-add-lt, div-mul-add, mod-mul-add, one_shl, and_mask, shr_below, shl_whole, or_shifted, mod_below, pow_pos}
 use Rattle.std.proofs.lemmas.List.Sums.{sum_by-cons}
 use Rattle.ct_words.specs.Word.{places, digit, weight, distance}
@@ -9,8 +12,8 @@ use Rattle.ct_words.proofs.WordLemmas.{places_same, digit-lt, same_from_digits}
 use Rattle.ct_words.proofs.TextLemmas.{first_digit, next_digit, length-tabulate, get_or-tabulate}
 use Rattle.ct_words.proofs.DigitLists.{places-first}
 use Rattle.ct_build.specs.Joined.{followed_by}
-use Rattle.ct_build.specs.Places.{other_places, read_at}
-use Rattle.ct_build.proofs.PlaceLemmas.{earlier_places, later_places, other_places-before, other_places-after}
+use Rattle.ct_build.specs.Places.{ArePlaces, other_places, read_at}
+use Rattle.ct_build.proofs.PlaceLemmas.{earlier_places, later_places, other_places-none, other_places-before, other_places-after, places-below, take-next}
 
 -- a count of places by a list of them
 places-list : (f : ℕ → Bool) (ps : List ℕ) → places (λ k. f (get_or ps k 0)) (length ps) ≡ count_by f ps
@@ -114,21 +117,88 @@ without_digit-middle k a d b small below =
     let low = ap (λ z. z % 2 ^ k) regrouped ∙ mod-mul-add (a * 2 + d) (2 ^ k) b below in
     ap₂ (λ i j. i * 2 ^ k + j) high low
 
--- the word without these places, and then without a place that is above them
+-- two words with the same digit there keep their order
+without_digit-order : (k a b d x y : ℕ) → x < 2 ^ k → y < 2 ^ k
+    → followed_by (suc k) a (followed_by k d x) < followed_by (suc k) b (followed_by k d y) → followed_by k a x < followed_by k b y
+without_digit-order k a b d x y below above less =
+    let double = pow-suc 2 k in
+    let first = ap (λ z. a * z) double in
+    let second = ap (λ z. b * z) double in
+    elim (cases_order a b) [
+      | inl same ↦ let level = ap (λ z. z * 2 ^ k) same in omega arith
+      | inr (inl smaller) ↦ let more = mul-le-mul_left (2 ^ k) smaller in omega arith
+      | inr (inr greater) ↦ let more = mul-le-mul_left (2 ^ k) greater in omega arith
+    ]
+
+-- what the word x has at the places before p that are none of these, and at those after p
+abbrev earlier_word : ℕ → ℕ → List ℕ → ℕ → ℕ
+earlier_word n x qs p = read_at n x (earlier_places qs p)
+
+abbrev later_word : ℕ → ℕ → ℕ → ℕ
+later_word n x p = read_at n x (later_places n p)
+
+later_word-lt : (n x p : ℕ) → later_word n x p < 2 ^ (n - 1 - p)
+later_word-lt n x p =
+    subst (λ m. later_word n x p < 2 ^ m) (length-tabulate (λ i. suc (p + i)) (n - 1 - p))
+    (read_at-lt n x (later_places n p))
+
+-- the word without these places, where a place is above them: what it has before the place, at it, and after it
+read_at-around : (n x p : ℕ) (qs : List ℕ) → p < n → All (λ q. q < p) qs
+    → read_at n x (other_places n qs)
+    ≡ followed_by (suc (n - 1 - p)) (earlier_word n x qs p) (followed_by (n - 1 - p) (digit n x p) (later_word n x p))
+read_at-around n x p qs within below =
+    ap (read_at n x) (other_places-before n p qs within below)
+    ∙ read_at-append n x (earlier_places qs p) (p ∷ later_places n p)
+    ∙ ap (λ m. followed_by (suc m) (earlier_word n x qs p) (followed_by m (digit n x p) (later_word n x p)))
+    (length-tabulate (λ i. suc (p + i)) (n - 1 - p))
+
+-- and the same without the place
+read_at-beside : (n x p : ℕ) (qs : List ℕ) → p < n → All (λ q. q < p) qs
+    → read_at n x (other_places n (qs ++ p ∷ [])) ≡ followed_by (n - 1 - p) (earlier_word n x qs p) (later_word n x p)
+read_at-beside n x p qs within below =
+    ap (read_at n x) (other_places-after n p qs within below)
+    ∙ read_at-append n x (earlier_places qs p) (later_places n p)
+    ∙ ap (λ m. followed_by m (earlier_word n x qs p) (later_word n x p)) (length-tabulate (λ i. suc (p + i)) (n - 1 - p))
+
+-- so the place's digit is left out
 pub read_at-without : (n x p : ℕ) (qs : List ℕ) → p < n → All (λ q. q < p) qs
     → read_at n x (other_places n (qs ++ p ∷ [])) ≡ without_digit (n - 1 - p) (read_at n x (other_places n qs))
 read_at-without n x p qs within below =
     let k = n - 1 - p in
-    let a = read_at n x (earlier_places qs p) in
-    let b = read_at n x (later_places n p) in
-    let long : length (later_places n p) ≡ k = length-tabulate (λ i. suc (p + i)) k in
-    let small : b < 2 ^ k = subst (λ m. b < 2 ^ m) long (read_at-lt n x (later_places n p)) in
-    let after : read_at n x (other_places n (qs ++ p ∷ [])) ≡ followed_by k a b =
-    ap (read_at n x) (other_places-after n p qs within below)
-    ∙ read_at-append n x (earlier_places qs p) (later_places n p)
-    ∙ ap (λ m. followed_by m a b) long in
-    let before : read_at n x (other_places n qs) ≡ followed_by (suc k) a (followed_by k (digit n x p) b) =
-    ap (read_at n x) (other_places-before n p qs within below)
-    ∙ read_at-append n x (earlier_places qs p) (p ∷ later_places n p)
-    ∙ ap (λ m. followed_by (suc m) a (followed_by m (digit n x p) b)) long in
-    after ∙ sym (without_digit-middle k a (digit n x p) b (digit-lt n x p) small) ∙ ap (without_digit k) (sym before)
+    read_at-beside n x p qs within below
+    ∙ sym (without_digit-middle k (earlier_word n x qs p) (digit n x p) (later_word n x p) (digit-lt n x p) (later_word-lt n x p))
+    ∙ ap (without_digit k) (sym (read_at-around n x p qs within below))
+
+-- and two words with the same digit at the place keep their order
+read_at-order : (n x y p : ℕ) (qs : List ℕ) → p < n → All (λ q. q < p) qs → digit n x p ≡ digit n y p
+    → read_at n x (other_places n qs) < read_at n y (other_places n qs)
+    → read_at n x (other_places n (qs ++ p ∷ [])) < read_at n y (other_places n (qs ++ p ∷ []))
+read_at-order n x y p qs within below same less =
+    let k = n - 1 - p in
+    let here = read_at-around n x p qs within below in
+    let there = read_at-around n y p qs within below
+    ∙ ap (λ d. followed_by (suc k) (earlier_word n y qs p) (followed_by k d (later_word n y p))) (sym same) in
+    rw (read_at-beside n x p qs within below, read_at-beside n y p qs within below)
+    (without_digit-order k (earlier_word n x qs p) (earlier_word n y qs p) (digit n x p) (later_word n x p) (later_word n y p)
+    (later_word-lt n x p) (later_word-lt n y p) (rw (here, there) at less))
+
+-- and so do two words with the same digits at all of some places
+pub read_at-others_order : (n x y : ℕ) (places : List ℕ) → ArePlaces n places
+    → All (λ p. digit n x p ≡ digit n y p) places → x < 2 ^ n → y < 2 ^ n → x < y
+    → read_at n x (other_places n places) < read_at n y (other_places n places)
+read_at-others_order n x y places are same first second less =
+    let whole = take_all (length places) places (omega arith) in
+    let P : List ℕ → Type 0 = λ qs. read_at n x (other_places n qs) < read_at n y (other_places n qs) in
+    subst P whole (so_far (length places) (omega arith))
+  where
+    all : (z : ℕ) → z < 2 ^ n → read_at n z (other_places n []) ≡ z
+    all z below = ap (read_at n z) (other_places-none n) ∙ read_at-all n z below
+
+    so_far : (i : ℕ) → i ≤ length places
+        → read_at n x (other_places n (take i places)) < read_at n y (other_places n (take i places))
+    so_far zero h = rw (all x first, all y second) less
+    so_far (suc i) h =
+        let within : i < length places = omega arith in
+        let below = places-below n places i are within in
+        rw (take-next places i within)
+        (read_at-order n x y (get_or places i 0) (take i places) (are.within i 0 within) below (same i 0 within) (so_far i (omega arith)))

@@ -1,11 +1,12 @@
 -- A shortened code is a code.
-use Rattle.std.proofs.Common.{◌≡◌, ◌≢◌, ℕ, zero, suc, min, ◌-◌, ◌+◌, ◌<◌, List, [], ◌∷◌, length, get_or, All, refl, sym, ap, subst, ◌∙◌, arith, eqb-true}
+use Rattle.std.proofs.Common.{◌≡◌, ◌≢◌, ℕ, zero, suc, min, ◌-◌, ◌+◌, ◌^◌, ◌<◌, ◌≤◌, List, [], ◌∷◌, length, get_or, All, refl, sym, ap, subst, ◌∙◌, arith, eqb-true}
 use Rattle.std.specs.Prelude.{Bool, true, false, not, ◌&&◌, ◌==◌, cond, filter, count_by, Option, Some, None, IfSome}
 use Rattle.std.specs.List.{zip}
+use Rattle.std.specs.List.Sorted.{IsStrictlyIncreasing}
 use Rattle.std.proofs.lemmas.Bool.{and_parts, eq-eqb, ne_eqb}
 use Rattle.std.proofs.lemmas.List.{length-map}
-use Rattle.std.proofs.lemmas.List.Elements.{All-from_get_or, All-map, All-filter, filter_passes}
-use Rattle.std.proofs.lemmas.List.Kept.{AllPairs-filter}
+use Rattle.std.proofs.lemmas.List.Elements.{All-from_get_or, All-nil, All-cons, All-head, All-tail, All-map, All-filter, filter_passes}
+use Rattle.std.proofs.lemmas.List.Kept.{AllPairs-filter, IsStrictlyIncreasing-filter}
 use Rattle.std.proofs.lemmas.List.Sums.{sum_by-cons, get_or-le-sum_by, length-filter, list_all-from_AllPass}
 use Rattle.std.proofs.lemmas.List.Folds.{list_all_at}
 use Rattle.std.proofs.lemmas.Slice.Zip.{length-zip, get_or-zip}
@@ -13,26 +14,35 @@ use Rattle.std.proofs.lemmas.List.Filters.{length-filter_both}
 use Rattle.ct_counting.proofs.Pairs.{AllPairs-map, AllPairs-within}
 use Rattle.ct_words.specs.Word.{digit, weight}
 use Rattle.ct_words.proofs.WordLemmas.{digit-lt}
-use Rattle.ct_codes.specs.Code.{IsCode}
+use Rattle.ct_codes.specs.Code.{IsCode, CodeValue, IsSoundCode}
 use Rattle.ct_build.specs.Places.{ArePlaces, other_places, read_at}
 use Rattle.ct_build.specs.Shortened.{has_digits, shortened, shortened_weight}
+use Rattle.ct_build.proofs.Images.{IsStrictlyIncreasing-map_within}
 use Rattle.ct_build.proofs.PlaceLemmas.{sum_by-other_places}
-use Rattle.ct_build.proofs.ReadLemmas.{weight-all, weight-read_at}
+use Rattle.ct_build.proofs.ReadLemmas.{weight-all, weight-read_at, read_at-others_order}
 use Rattle.ct_build.proofs.PuncturedCodes.{differing, other_places-size, punctured-lengths, distance-without}
 use Rattle.ct_build.proofs.FarWords.{AreFar, far_from_code, code_from_far}
 
--- two words with the same digits at the places do not differ there
-differing-none : (n x y : ℕ) (places digits : List ℕ) → length digits ≡ length places
-    → has_digits n places digits x ≡ true → has_digits n places digits y ≡ true → differing n x y places ≡ 0
-differing-none n x y [] digits long first second = refl
-differing-none n x y (p ∷ ps) [] long first second = absurd (omega arith)
-differing-none n x y (p ∷ ps) (a ∷ bs) long first second =
+-- two words that have the digits at the places have the same there
+same_digits : (n x y : ℕ) (places digits : List ℕ) → length digits ≡ length places
+    → has_digits n places digits x ≡ true → has_digits n places digits y ≡ true
+    → All (λ p. digit n x p ≡ digit n y p) places
+same_digits n x y [] digits long first second = All-nil (λ p. digit n x p ≡ digit n y p)
+same_digits n x y (p ∷ ps) [] long first second = absurd (omega arith)
+same_digits n x y (p ∷ ps) (a ∷ bs) long first second =
     let at_x = and_parts (digit n x p == a) (has_digits n ps bs x) first in
     let at_y = and_parts (digit n y p == a) (has_digits n ps bs y) second in
-    let same : digit n x p ≡ digit n y p = eqb-true (digit n x p) a at_x.0 ∙ sym (eqb-true (digit n y p) a at_y.0) in
+    All-cons (λ q. digit n x q ≡ digit n y q) p ps (eqb-true (digit n x p) a at_x.0 ∙ sym (eqb-true (digit n y p) a at_y.0))
+    (same_digits n x y ps bs (omega arith) at_x.1 at_y.1)
+
+-- so they do not differ there
+differing-none : (n x y : ℕ) (places : List ℕ) → All (λ p. digit n x p ≡ digit n y p) places → differing n x y places ≡ 0
+differing-none n x y [] same = refl
+differing-none n x y (p ∷ ps) same =
+    let P : ℕ → Type 0 = λ q. digit n x q ≡ digit n y q in
     let here : cond {A = ℕ} (not (digit n x p == digit n y p)) 1 0 ≡ 0 =
-    ap (λ b. cond {A = ℕ} (not b) 1 0) (eq-eqb (digit n x p) (digit n y p) same) in
-    let rest = differing-none n x y ps bs (omega arith) at_x.1 at_y.1 in
+    ap (λ b. cond {A = ℕ} (not b) 1 0) (eq-eqb (digit n x p) (digit n y p) (All-head P p ps same)) in
+    let rest = differing-none n x y ps (All-tail P p ps same) in
     let sum = sum_by-cons (λ q. cond {A = ℕ} (not (digit n x q == digit n y q)) 1 0) p ps in
     omega arith
 
@@ -57,7 +67,7 @@ far_shortened : (n d x y : ℕ) (places digits : List ℕ) → ArePlaces n place
     → AreFar (n - length places) d (read_at n x (other_places n places)) (read_at n y (other_places n places))
 far_shortened n d x y places digits are long first second far =
     let split = distance-without n x y places are in
-    let none = differing-none n x y places digits long first second in
+    let none = differing-none n x y places (same_digits n x y places digits long first second) in
     let some = far.0 in
     let apart = far.1 in
     (omega arith, omega arith)
@@ -102,6 +112,32 @@ IsCode-shortened n d w words places digits are long code =
     (filter_passes test words)
     (AllPairs-filter (AreFar n d) test words (far_from_code n d w words code))))
     (weights-shortened n w words places digits are long code.weights)
+
+-- they ascend where all words do
+pub ascending-shortened : (n : ℕ) (words places digits : List ℕ) → ArePlaces n places → length digits ≡ length places
+    → All (λ x. x < 2 ^ n) words → IsStrictlyIncreasing words → IsStrictlyIncreasing (shortened n places digits words)
+ascending-shortened n words places digits are long lengths up =
+    let test = has_digits n places digits in
+    IsStrictlyIncreasing-map_within (λ x. (x < 2 ^ n) × (test x ≡ true)) (λ x. read_at n x (other_places n places))
+    (filter test words)
+    (λ x y p q less. read_at-others_order n x y places are (same_digits n x y places digits long p.1 q.1) p.0 q.0 less)
+    (λ k d l. (All-filter test (λ x. x < 2 ^ n) words lengths k d l, filter_passes test words k d l))
+    (IsStrictlyIncreasing-filter test words up)
+
+-- where there are some, they are a code as the program keeps it
+pub IsSoundCode-shortened : (c : CodeValue) (places digits : List ℕ) → IsSoundCode c → ArePlaces c.n places → length places < c.n
+    → length digits ≡ length places → 1 ≤ length (shortened c.n places digits c.words)
+    → IsSoundCode
+    (record { n = c.n - length places; d = c.d; w = shortened_weight digits c.w; words = shortened c.n places digits c.words })
+IsSoundCode-shortened c places digits sound are fewer long some =
+    let lengths = sound.length_in_range in
+    record {
+      length_in_range = (omega arith, omega arith);
+      distance_in_range = sound.distance_in_range;
+      some = some;
+      ascending = ascending-shortened c.n c.words places digits are long sound.code.lengths sound.ascending;
+      code = IsCode-shortened c.n c.d c.w c.words places digits are long sound.code;
+    }
 
 -- where a word has the digits, words are left
 pub shortened-some : (n : ℕ) (places digits words : List ℕ) (i d : ℕ) → i < length words → has_digits n places digits (get_or words i d) ≡ true

@@ -1,6 +1,6 @@
 //! Shortened codes.
 
-ghost use Rattle.std.specs.Prelude.{◌≡◌, ◌↔◌, ℕ, ◌+◌, ◌-◌, ◌^◌, ◌<◌, ◌≤◌, ◌==◌, List, [], ◌∷◌, length, count_by, Option, All, IfOk, IfErr, IsOk, IsPermutation, ◌⊎◌};
+ghost use Rattle.std.specs.Prelude.{◌≡◌, ◌↔◌, ℕ, ◌+◌, ◌-◌, ◌^◌, ◌<◌, ◌≤◌, ◌==◌, List, [], ◌∷◌, length, count_by, Option, All, IfOk, IfErr, IsOk, ◌⊎◌};
 ghost use Rattle.ct_words.specs.declared.limits.TheConstants.{MAX_N};
 ghost use Rattle.ct_codes.specs.Code.{IsCode, IsSoundCode};
 ghost use Rattle.ct_build.specs.declared.fault.BuildFault.TheVariants.{Empty, Memory};
@@ -9,7 +9,6 @@ ghost use Rattle.ct_build.specs.Shortened.{has_digits, shortened, shortened_weig
 
 use crate::fault::BuildFault;
 use crate::places::{has_digits, without_places};
-use crate::sorted::code_of;
 use ct_codes::Code;
 use ct_words::Word;
 use std::alloc::{AllocError, Global};
@@ -32,7 +31,7 @@ pub fn shorten(
     ensures n { IfOk result (λ c. c.n ≡ part.now.n - length places.now) }
     ensures d { IfOk result (λ c. c.d ≡ part.now.d) }
     ensures w { IfOk result (λ c. c.w ≡ shortened_weight digits.now part.now.w) }
-    ensures words { IfOk result (λ c. IsPermutation (shortened part.now.n places.now digits.now part.now.words) c.words) }
+    ensures words { IfOk result (λ c. c.words ≡ shortened part.now.n places.now digits.now part.now.words) }
     ensures empty { (result ≡ Err Empty) ↔ (shortened part.now.n places.now digits.now part.now.words ≡ []) }
     ensures faults { IfErr result (λ e. (e ≡ Empty) ⊎ (e ≡ Memory)) }
     ensures sound { IfOk result IsSoundCode }
@@ -43,7 +42,7 @@ pub fn shorten(
     }
     let n = part.n() - places.len() as u32;
     let w = weight_without(part.w(), digits);
-    Ok(code_of(n, part.d(), w, words))
+    Ok(Code::from_sorted(n, part.d(), w, words))
 }
 
 /// The words of length n that have the digits at the places, without these places. Want of memory never comes where there

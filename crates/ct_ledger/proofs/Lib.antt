@@ -1,6 +1,7 @@
 pub mod AscendingLemmas
 pub mod CodeLemmas
 pub mod MakingLemmas
+pub mod NeededLemmas
 pub mod LeavingLemmas
 pub mod StandingLemmas
 mod Accepting

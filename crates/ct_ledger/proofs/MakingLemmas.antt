@@ -1,5 +1,5 @@
 -- What holds of evidence that makes a piece, and that its code is one.
-use Rattle.std.proofs.Common.{◌≡◌, ◌≢◌, ℕ, ◌+◌, ◌<◌, ◌≤◌, Bool, true, false, cond, List, [], ◌∷◌, ◌++◌, length, take, get_or, Option, Some, None, is_some, option_map, Result, Ok, Err, IfOk, refl, sym, ap, subst, ◌∙◌, arith}
+use Rattle.std.proofs.Common.{◌≡◌, ℕ, ◌<◌, ◌≤◌, Bool, true, false, cond, List, [], ◌∷◌, ◌++◌, length, take, get_or, Option, Some, None, is_some, option_map, Result, Ok, Err, refl, sym, ap, subst, ◌∙◌, arith}
 use Rattle.std.specs.Prelude.{All, IfSome}
 use Rattle.std.specs.Option.{option_to_list}
 use Rattle.std.specs.Str.{bytes_eq}
@@ -7,14 +7,12 @@ use Rattle.std.proofs.lemmas.List.Elements.{All-push, All-nil, All-cons, All-hea
 use Rattle.ct_codes.specs.declared.entry.Entry.{Entry}
 use Rattle.ct_codes.specs.Entry.{IsEntry}
 use Rattle.ct_codes.specs.Code.{CodeValue, IsCode, IsCodeOf, IsSoundCode}
-use Rattle.ct_codes.specs.Coset.{coset_list, coset_fault}
-use Rattle.ct_codes.specs.Check.{code_fault}
 use Rattle.ct_codes.proofs.EntryLemmas.{entry_limits}
-use Rattle.ct_codes.proofs.CheckLemmas.{first_of-None, code_from_no_fault, no_fault_of_code}
-use Rattle.ct_codes.proofs.CosetLemmas.{cosets_from_no_fault, no_fault_of_cosets, choice_count-pos}
+use Rattle.ct_codes.proofs.CheckLemmas.{first_of-None, code_from_no_fault}
+use Rattle.ct_codes.proofs.CosetLemmas.{cosets_from_no_fault, choice_count-pos}
 use Rattle.ct_codes.proofs.SpanLemmas.{length-coset_list}
 use Rattle.ct_build.specs.declared.step.Step.{Step}
-use Rattle.ct_build.specs.Build.{FitsStated, built, build_fault}
+use Rattle.ct_build.specs.Build.{FitsStated, build_fault}
 use Rattle.ct_build.proofs.StepLemmas.{ready}
 use Rattle.ct_build.proofs.BuiltCodes.{built_code}
 use Rattle.ct_build.proofs.BuildFaults.{early_none, built-size}
@@ -23,9 +21,9 @@ use Rattle.ct_files.specs.declared.evidence.Evidence.TheVariants.{Words, Cosets,
 use Rattle.ct_files.specs.declared.fault.FileFault.{FileFault}
 use Rattle.ct_files.specs.Evidence.{read_of, IsSound}
 use Rattle.ct_files.proofs.Evidences.{read_of-sound}
-use Rattle.ct_ledger.specs.Piece.{PieceValue, stated_entry, parts_of}
-use Rattle.ct_ledger.specs.Codes.{NamedCode, code_named, other_named, built_over, words_over, code_at, code_over, named_code, codes_after, codes_of, code_of_place}
-use Rattle.ct_ledger.specs.Submission.{unless_known, first_missing, build_refusal, build_reason, own_reason, evidence_reason, piece_of, made_unless, made_of, piece_from, IsRightPart, IsChecked}
+use Rattle.ct_ledger.specs.Piece.{PieceValue, stated_entry}
+use Rattle.ct_ledger.specs.Codes.{NamedCode, code_named, other_named, built_over, words_over, code_over, named_code, codes_after, codes_of, code_of_place}
+use Rattle.ct_ledger.specs.Submission.{unless_known, first_missing, build_refusal, build_reason, evidence_reason, piece_of, made_unless, piece_from, IsRightPart, IsChecked}
 use Rattle.ct_ledger.specs.Standing.{IsMade, AreMade}
 use Rattle.ct_ledger.specs.declared.fault.SubmitFault.{SubmitFault}
 use Rattle.ct_ledger.specs.declared.fault.SubmitFault.TheVariants as fault
@@ -186,52 +184,20 @@ codes_after-sound known (p ∷ ps) sound h =
     All-cons HasSoundCode own (codes_after (known ++ own ∷ []) ps) first (codes_after-sound (known ++ own ∷ []) ps (All-push HasSoundCode known own sound first) h.1)
 
 -- the piece at a place is right over the codes of those before it
-pub right_at : (ps : List PieceValue) (k : ℕ) (d : PieceValue) → AreMade [] ps → k < length ps → IsRight (codes_of (take k ps)) (get_or ps k d).evidence
+right_at : (ps : List PieceValue) (k : ℕ) (d : PieceValue) → AreMade [] ps → k < length ps → IsRight (codes_of (take k ps)) (get_or ps k d).evidence
 right_at ps k d h below = IsMade-right (codes_of (take k ps)) (get_or ps k d) (made_at [] ps k d h below)
 
 -- and its code is that of its evidence over them
 pub code_of_place-is : (ps : List PieceValue) (k : ℕ) (d : PieceValue) (c : CodeValue) → k < length ps → c ≡ code_over (codes_of (take k ps)) (get_or ps k d).evidence → code_of_place ps k ≡ Some c
 code_of_place-is ps k d c below is = ap (option_map (λ (l : NamedCode). l.code)) (code_at_place [] ps k d below) ∙ ap Some (sym is)
 
--- words that are right have no fault
-pub words_right : (known : List NamedCode) (e : Entry) (words : List ℕ) → IsRight known (Words e words) → code_fault e words ≡ None
-words_right known e words h = option_map-none fault.Code (code_fault e words) h.faultless
-
--- nor have cosets
-pub cosets_right : (known : List NamedCode) (e : Entry) (basis representatives : List ℕ) → IsRight known (Cosets e basis representatives) → coset_fault e basis representatives ≡ None
-cosets_right known e basis representatives h = option_map-none fault.Code (coset_fault e basis representatives) h.faultless
-
--- the part of a build that is right has a code, and so has the other
-pub part_missing : (known : List NamedCode) (e : Entry) (step : Step) (part : List ℕ) (other : Option (List ℕ)) → IsRight known (Build e step part other) → code_named part known ≡ None → ⊥
-part_missing known e step part other h none = let right = right_build known e step part other h in let both = sym right.code_is ∙ none in cc
-
-pub other_missing : (known : List NamedCode) (e : Entry) (step : Step) (part id : List ℕ) → IsRight known (Build e step part (Some id)) → code_named id known ≡ None → ⊥
-other_missing known e step part id h none =
-    let right = right_build known e step part (Some id) h in
-    let some = subst (λ (o : Option CodeValue). is_some o ≡ true) none (All-head (λ (x : List ℕ). is_some (code_named x known) ≡ true) id [] right.others) in
-    cc
-
--- the step of a build that is right finds nothing against the codes of its parts
-pub build_at : (known : List NamedCode) (e : Entry) (step : Step) (part : List ℕ) (other : Option (List ℕ)) (c : CodeValue) (beside : Option CodeValue) → IsRight known (Build e step part other) → code_named part known ≡ Some c
-    → other_named other known ≡ beside → build_fault step e c beside ≡ None
-build_at known e step part other c beside h is other_is =
-    let right = right_build known e step part other h in
-    let both : Some right.code ≡ Some c = sym right.code_is ∙ is in
-    let same : right.code ≡ c = cc in
-    subst (λ (o : Option CodeValue). build_fault step e c o ≡ None) other_is (subst (λ (d : CodeValue). build_fault step e d (other_named other known) ≡ None) same right.faultless)
-
--- an answer that is the code of the evidence of the piece at the place is the code at the place
-pub placed_answer : {E : Type 0} (ps : List PieceValue) (k : ℕ) (d : PieceValue) (evidence : Evidence) (words : List ℕ) (answer : Result CodeValue E) → k < length ps → (get_or ps k d).evidence ≡ evidence
-    → words ≡ words_over (codes_of (take k ps)) evidence → IfOk answer (λ (c : CodeValue). c ≡ code_at (stated_entry evidence) words) → IfOk answer (λ (c : CodeValue). code_of_place ps k ≡ Some c)
-placed_answer ps k d evidence words (Ok c) below is words_are h =
-    let known = codes_of (take k ps) in
-    code_of_place-is ps k d c below (h ∙ ap (code_at (stated_entry evidence)) words_are ∙ ap (code_over known) (sym is))
-placed_answer ps k d evidence words (Err reason) below is words_are h = tt
-
 -- the evidence of the piece at a place, as it was read there
-pub placed_evidence : (ps : List PieceValue) (k : ℕ) (d : PieceValue) (now evidence : Evidence) → d ≡ get_or ps k d → now ≡ d.evidence → now ≡ evidence → (get_or ps k d).evidence ≡ evidence
-placed_evidence ps k d now evidence at is same = ap (λ (p : PieceValue). p.evidence) (sym at) ∙ sym is ∙ same
+pub placed_evidence : (ps : List PieceValue) (k : ℕ) (d : PieceValue) (evidence : Evidence) → d ≡ get_or ps k d
+    → evidence ≡ d.evidence → (get_or ps k d).evidence ≡ evidence
+placed_evidence ps k d evidence at is = ap (λ (p : PieceValue). p.evidence) (sym at) ∙ sym is
 
 -- it is right over the codes of the pieces before
-pub placed_right : (ps : List PieceValue) (k : ℕ) (d : PieceValue) (now evidence : Evidence) → AreMade [] ps → k < length ps → d ≡ get_or ps k d → now ≡ d.evidence → now ≡ evidence → IsRight (codes_of (take k ps)) evidence
-placed_right ps k d now evidence made below at is same = subst (IsRight (codes_of (take k ps))) (placed_evidence ps k d now evidence at is same) (right_at ps k d made below)
+pub placed_right : (ps : List PieceValue) (k : ℕ) (d : PieceValue) (evidence : Evidence) → AreMade [] ps
+    → k < length ps → d ≡ get_or ps k d → evidence ≡ d.evidence → IsRight (codes_of (take k ps)) evidence
+placed_right ps k d evidence made below at is =
+    subst (IsRight (codes_of (take k ps))) (placed_evidence ps k d evidence at is) (right_at ps k d made below)

@@ -7,3 +7,4 @@ pub mod Standing
 pub mod Text
 pub mod Dump
 pub mod Ledger
+pub mod Inside

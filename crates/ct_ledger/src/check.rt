@@ -8,12 +8,14 @@ ghost use Rattle.ct_codes.specs.Entry.{IsEntry};
 ghost use Rattle.ct_build.specs.Build.{FitsStated};
 ghost use Rattle.ct_files.specs.Evidence.{IsSound, read_of};
 ghost use Rattle.ct_ledger.specs.Codes.{code_named, code_over, codes_of, words_over};
-ghost use Rattle.ct_ledger.specs.Piece.{stated_entry};
+ghost use Rattle.ct_ledger.specs.Inside.Needed.{IsKnown, AreKnown};
+ghost use Rattle.ct_ledger.specs.Piece.{parts_of, stated_entry};
 ghost use Rattle.ct_ledger.specs.Standing.{AreMade};
 ghost use Rattle.ct_ledger.specs.Submission.{build_refusal, evidence_reason, made_of, piece_from};
 
-use crate::codes::{built_alone, built_beside, code_named};
+use crate::codes::{built_alone, built_beside, known_code};
 use crate::fault::SubmitFault;
+use crate::needed::part_codes;
 use crate::piece::Piece;
 use ct_build::{BuildFault, Step};
 use ct_codes::{Code, CodeFault, Entry, check_cosets, check_words};
@@ -94,14 +96,18 @@ fn cosets_size(
     }
 }
 
-/// The code of the piece of this id, which is a part, or that it does not stand.
-fn standing_code(alloc: Global, pieces: &[Piece], id: Id) -> Result<Code, SubmitFault>
-    requires { AreMade [] pieces.now }
-    ensures code { IfOk result (λ code. code_named id (codes_of pieces.now) ≡ Some code) }
-    ensures fault { IfErr result (λ fault. fault ≢ SubmitFault.Memory
-        → (code_named id (codes_of pieces.now) ≡ None) × (fault ≡ SubmitFault.NoSuch id)) }
+/// The code of the piece of this id, which is a part, or that it does not stand. The code stands at the place of the
+/// piece.
+fn standing_code<'a>(
+    pieces: &[Piece],
+    known: &'a [Option<Code>],
+    id: Id,
+) -> Result<&'a Code, SubmitFault>
+    requires { IsKnown pieces.now known.now id }
+    ensures code { IfOk result (λ code. code_named id (codes_of pieces.now) ≡ Some code.now) }
+    ensures fault { IfErr result (λ fault. (code_named id (codes_of pieces.now) ≡ None) × (fault ≡ SubmitFault.NoSuch id)) }
 {
-    match code_named(alloc, pieces, id)? {
+    match known_code(pieces, known, id) {
         Some(code) => Ok(code),
         None => Err(SubmitFault::NoSuch(id)),
     }
@@ -121,30 +127,31 @@ fn build_refusal(part: Id, other: Option<Id>, fault: BuildFault) -> SubmitFault
     }
 }
 
-/// The code that the step makes over the pieces, or why it makes none.
+/// The code that the step makes over the pieces, or why it makes none. The codes of its parts stand at the places of these.
 fn build_code(
     alloc: Global,
     pieces: &[Piece],
+    known: &[Option<Code>],
     entry: Entry,
     step: &Step,
     part: Id,
     other: Option<Id>,
 ) -> Result<Code, SubmitFault>
-    requires made { AreMade [] pieces.now }
-    requires sound { FitsStated step.now entry }
+    requires known { AreKnown pieces.now known.now (parts_of (Evidence.Build entry step.now part other)) }
+    requires fits { FitsStated step.now entry }
     ensures code { IfOk result (λ code. code ≡ code_over (codes_of pieces.now) (Evidence.Build entry step.now part other)) }
     ensures accepted { OnOk result (evidence_reason (codes_of pieces.now) (Evidence.Build entry step.now part other) ≡ None) }
     ensures fault { IfErr result (λ fault. fault ≢ SubmitFault.Memory
         → evidence_reason (codes_of pieces.now) (Evidence.Build entry step.now part other) ≡ Some fault) }
 {
-    let first = standing_code(alloc, pieces, part)?;
+    let first = standing_code(pieces, known, part)?;
     let Some(id) = other else {
-        return built_alone(alloc, step, entry, &first).map_err(|fault| build_refusal(
+        return built_alone(alloc, step, entry, first).map_err(|fault| build_refusal(
             part, None, fault,
         ));
     };
-    let second = standing_code(alloc, pieces, id)?;
-    built_beside(alloc, step, entry, &first, &second).map_err(|fault| build_refusal(
+    let second = standing_code(pieces, known, id)?;
+    built_beside(alloc, step, entry, first, second).map_err(|fault| build_refusal(
         part, other, fault,
     ))
 }
@@ -156,23 +163,25 @@ fn code_size(code: &Code) -> u32
     code.words().len() as u32
 }
 
-/// The number of the words that the step makes over the pieces, or why it makes no code.
+/// The number of the words that the step makes over the pieces, or why it makes no code. The codes of its parts stand at the
+/// places of these.
 fn build_size(
     alloc: Global,
     pieces: &[Piece],
+    known: &[Option<Code>],
     entry: Entry,
     step: &Step,
     part: Id,
     other: Option<Id>,
 ) -> Result<u32, SubmitFault>
-    requires standing { AreMade [] pieces.now }
+    requires known { AreKnown pieces.now known.now (parts_of (Evidence.Build entry step.now part other)) }
     requires fits { FitsStated step.now entry }
     ensures size { IfOk result (λ size. size ≡ length (words_over (codes_of pieces.now) (Evidence.Build entry step.now part other))) }
     ensures accepted { OnOk result (evidence_reason (codes_of pieces.now) (Evidence.Build entry step.now part other) ≡ None) }
     ensures fault { IfErr result (λ fault. fault ≢ SubmitFault.Memory
         → evidence_reason (codes_of pieces.now) (Evidence.Build entry step.now part other) ≡ Some fault) }
 {
-    let code = build_code(alloc, pieces, entry, step, part, other)?;
+    let code = build_code(alloc, pieces, known, entry, step, part, other)?;
     Ok(code_size(&code))
 }
 
@@ -197,7 +206,10 @@ fn evidence_size(alloc: Global, pieces: &[Piece], evidence: &Evidence) -> Result
             step,
             part,
             other,
-        } => build_size(alloc, pieces, *entry, step, *part, *other),
+        } => {
+            let known = part_codes(alloc, pieces, evidence)?;
+            build_size(alloc, pieces, &known, *entry, step, *part, *other)
+        }
     }
 }
 

@@ -1,15 +1,16 @@
-//! The codes of pieces.
+//! The codes that evidence states, over the codes of its parts.
 
-ghost use Rattle.std.specs.Prelude.{◌≡◌, ◌≢◌, ◌<◌, ◌≤◌, ◌^◌, All, Some, None, IfOk, IfErr, MatchOption, OnOk, [], length, option_map, position};
-ghost use Rattle.std.specs.Str.{bytes_eq};
+ghost use Rattle.std.specs.Prelude.{◌≡◌, ◌≢◌, ◌<◌, ◌^◌, All, Some, None, IfOk, IfErr, OnOk};
+ghost use Rattle.std.specs.Option.{option_copied};
 ghost use Rattle.ct_codes.specs.Check.{code_fault};
-ghost use Rattle.ct_codes.specs.Code.{CodeValue, IsSoundCode};
 ghost use Rattle.ct_codes.specs.Coset.{coset_list, coset_fault};
 ghost use Rattle.ct_codes.specs.Entry.{IsEntry};
 ghost use Rattle.ct_build.specs.Build.{FitsStated, built, build_fault};
 ghost use Rattle.ct_files.specs.Evidence.{IsSound};
-ghost use Rattle.ct_ledger.specs.Codes.{code_at, code_named, codes_of, code_of_place};
-ghost use Rattle.ct_ledger.specs.Standing.{AreMade};
+ghost use Rattle.ct_ledger.specs.Codes.{code_at, code_named, code_over, codes_of};
+ghost use Rattle.ct_ledger.specs.Piece.{parts_of};
+ghost use Rattle.ct_ledger.specs.Submission.{evidence_reason};
+ghost use Rattle.ct_ledger.specs.Inside.Needed.{place_of, IsKnown, AreKnown};
 
 use crate::piece::Piece;
 use ct_build::{BuildFault, Step, apply};
@@ -122,20 +123,41 @@ fn rebuilt_beside(
 }
 
 /// The place of the first piece with the id.
-fn place_of(pieces: &[Piece], id: Id) -> Option<usize>
-    ensures { result ≡ position (λ p. bytes_eq p.id id) pieces.now }
+pub(crate) fn place_of(pieces: &[Piece], id: Id) -> Option<usize>
+    ensures { result ≡ place_of id pieces.now }
 {
     pieces.iter().position(|piece| piece.id() == id)
 }
 
-/// The code of the piece at the place, over the codes of those before it.
-pub(crate) fn code_of(alloc: Global, pieces: &[Piece], place: usize) -> Result<Code, AllocError>
-    requires made { AreMade [] pieces.now }
-    requires place { place < length pieces.now }
-    ensures code { IfOk result (λ code. code_of_place pieces.now place ≡ Some code) }
+/// The code of the first piece with the id, where there is one; it stands at the place of the piece.
+pub(crate) fn known_code<'a>(
+    pieces: &[Piece],
+    known: &'a [Option<Code>],
+    id: Id,
+) -> Option<&'a Code>
+    requires { IsKnown pieces.now known.now id }
+    ensures { option_copied result ≡ code_named id (codes_of pieces.now) }
 {
-    let before = &pieces[..place];
-    match pieces[place].evidence() {
+    match place_of(pieces, id) {
+        Some(place) => known[place].as_ref(),
+        None => None,
+    }
+}
+
+/// The code that the evidence states over the pieces, against which there is no reason. The codes of its parts stand at the
+/// places of these.
+pub(crate) fn code_over(
+    alloc: Global,
+    pieces: &[Piece],
+    known: &[Option<Code>],
+    evidence: &Evidence,
+) -> Result<Code, AllocError>
+    requires sound { IsSound evidence.now }
+    requires faultless { evidence_reason (codes_of pieces.now) evidence.now ≡ None }
+    requires known { AreKnown pieces.now known.now (parts_of evidence.now) }
+    ensures { IfOk result (λ code. code ≡ code_over (codes_of pieces.now) evidence.now) }
+{
+    match evidence {
         Evidence::Words { entry, words } => words_code(alloc, *entry, words.as_slice()),
         Evidence::Cosets {
             entry,
@@ -148,33 +170,16 @@ pub(crate) fn code_of(alloc: Global, pieces: &[Piece], place: usize) -> Result<C
             part,
             other,
         } => {
-            let Some(first) = place_of(before, *part) else {
+            let Some(part) = known_code(pieces, known, *part) else {
                 unreachable!()
             };
-            let part = code_of(alloc, before, first)?;
             let Some(other) = other else {
-                return rebuilt_alone(alloc, step, *entry, &part);
+                return rebuilt_alone(alloc, step, *entry, part);
             };
-            let Some(second) = place_of(before, *other) else {
+            let Some(other) = known_code(pieces, known, *other) else {
                 unreachable!()
             };
-            let other = code_of(alloc, before, second)?;
-            rebuilt_beside(alloc, step, *entry, &part, &other)
+            rebuilt_beside(alloc, step, *entry, part, other)
         }
-    }
-}
-
-/// The code of the first piece with the id, where there is one.
-pub(crate) fn code_named(
-    alloc: Global,
-    pieces: &[Piece],
-    id: Id,
-) -> Result<Option<Code>, AllocError>
-    requires made { AreMade [] pieces.now }
-    ensures code { IfOk result (λ code. code ≡ code_named id (codes_of pieces.now)) }
-{
-    match place_of(pieces, id) {
-        Some(place) => Ok(Some(code_of(alloc, pieces, place)?)),
-        None => Ok(None),
     }
 }

@@ -16,10 +16,10 @@ ghost use Rattle.ct_ledger.specs.Ledger.{AddsPiece};
 ghost use Rattle.ct_ledger.specs.Dump.{dump_text};
 
 use crate::check::check_document;
-use crate::codes::code_of;
 use crate::dump::put_dump;
 use crate::fault::{SubmitFault, WithdrawFault};
 use crate::limits::{MAX_PIECES, MAX_STORED};
+use crate::needed::code_of;
 use crate::piece::Piece;
 use ct_codes::Code;
 use ct_files::Evidence;

@@ -9,6 +9,7 @@ mod fault;
 mod laws;
 mod ledger;
 mod limits;
+mod needed;
 mod piece;
 #[cfg(test)]
 mod tests;

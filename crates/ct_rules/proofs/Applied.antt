@@ -33,13 +33,20 @@ defined_from_applies supports r e h =
     let both = and_parts (is_entry e) (in_range (cited supports r) r e) h in
     record { entry = both.0; range = both.1 }
 
--- where it has premises it is defined, and they are those of the definition
+-- where it has premises it applies
+pub applies_from_premises : (supports : List Support) (r : Rule) (e : Entry) (slots : List Slot)
+    → premises_of supports r e ≡ Some slots → applies supports r e ≡ true
+applies_from_premises supports r e slots h =
+    (cond_some (applies supports r e) (premises_at (cited supports r) r e) slots h).0
+
+-- so it is defined there, and they are those of the definition
 pub premises-defined : (supports : List Support) (r : Rule) (e : Entry) (slots : List Slot)
     → premises_of supports r e ≡ Some slots
     → IsDefined (cited supports r) r e × (premises_at (cited supports r) r e ≡ slots)
-premises-defined supports r e slots h =
-    let both = cond_some (applies supports r e) (premises_at (cited supports r) r e) slots h in
-    (defined_from_applies supports r e both.0, both.1)
+premises-defined supports r e slots h = (
+  defined_from_applies supports r e (applies_from_premises supports r e slots h),
+  (cond_some (applies supports r e) (premises_at (cited supports r) r e) slots h).1,
+)
 
 -- an option is there where a test lets it through and it was there
 let_through : {X : Type 0} (b : Bool) (o : Option X) (x : X) → (if b then o else None) ≡ Some x
@@ -47,16 +54,23 @@ let_through : {X : Type 0} (b : Bool) (o : Option X) (x : X) → (if b then o el
 let_through true o x h = (refl, h)
 let_through false o x h = absurd (none-some x h)
 
--- where it gives a value it is defined, and that is its number within the limits of a bound
+-- where it gives a value it applies
+pub applies_from_value : (supports : List Support) (r : Rule) (e : Entry) (vs : List ℕ) (v : ℕ)
+    → value_of supports r e vs ≡ Some v → applies supports r e ≡ true
+applies_from_value supports r e vs v h =
+    (let_through (applies supports r e) (within_limit (rule_side r) (formula (cited supports r) r e vs)) v h).0
+
+-- so it is defined there, and that is its number within the limits of a bound
 pub value-defined : (supports : List Support) (r : Rule) (e : Entry) (vs : List ℕ) (v : ℕ)
     → value_of supports r e vs ≡ Some v
     → IsDefined (cited supports r) r e × (within_limit (rule_side r) (formula (cited supports r) r e vs) ≡ Some v)
 value-defined supports r e vs v h =
-    let number = formula (cited supports r) r e vs in
-    let both = let_through (applies supports r e) (within_limit (rule_side r) number) v h in
-    (defined_from_applies supports r e both.0, both.1)
+    let number = formula (cited supports r) r e vs in (
+      defined_from_applies supports r e (applies_from_value supports r e vs v h),
+      (let_through (applies supports r e) (within_limit (rule_side r) number) v h).1,
+    )
 
--- so a value comes only where it has premises
+-- a value comes only where it has premises
 pub value-premises : (supports : List Support) (r : Rule) (e : Entry) (vs : List ℕ)
     → IsSome (value_of supports r e vs) → IsSome (premises_of supports r e)
 value-premises supports r e vs some = go (applies supports r e) some

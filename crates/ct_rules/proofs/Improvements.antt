@@ -9,7 +9,7 @@ use Rattle.ct_rules.specs.Rule.{rule_side, premises_of, value_of}
 use Rattle.ct_rules.specs.Slot.{IsBetter, Slot, claim_at, IsNoBetter}
 use Rattle.ct_rules.specs.Derivation.{IsDerived}
 use Rattle.ct_rules.specs.Closed.{IsSatisfied, IsClosed}
-use Rattle.ct_rules.proofs.MoreSupports.{applies_from_premises}
+use Rattle.ct_rules.proofs.Applied.{applies_from_premises}
 use Rattle.ct_rules.proofs.ClosedBounds.{AreDerived, derived_from_bounds}
 use Rattle.ct_rules.proofs.Slack.{better_or_not, replaced, replaced-each}
 use Rattle.ct_rules.proofs.TableLists.{Instance, table_instances, table_instances-complete}

@@ -1,7 +1,7 @@
 -- Derivations over more supports: a rule that is defined over the first supports cites one of them, or none.
-use Rattle.std.proofs.Common.{◌≡◌, ℕ, Bool, true, false, ◌&&◌, if◌then◌else◌, not, is_some, List, [], ◌∷◌, ◌++◌, take, map, slice_get, Option, Some, None, refl, ap, ◌∙◌}
+use Rattle.std.proofs.Common.{◌≡◌, ℕ, true, ◌&&◌, if◌then◌else◌, not, is_some, List, [], ◌∷◌, ◌++◌, take, map, slice_get, Option, Some, None, refl, ap, ◌∙◌}
 use Rattle.std.proofs.lemmas.Bool.{and_parts, false≢true}
-use Rattle.std.proofs.lemmas.Option.{slice_get_within, none-some}
+use Rattle.std.proofs.lemmas.Option.{slice_get_within}
 use Rattle.ct_codes.specs.declared.entry.Entry.{Entry}
 use Rattle.ct_codes.specs.declared.claim.Claim.{Claim}
 use Rattle.ct_codes.specs.Entry.{is_entry}
@@ -13,27 +13,8 @@ use Rattle.ct_rules.specs.Rule.{rule_side, cited, has_weight, in_range, premises
 use Rattle.ct_rules.specs.Slot.{Slot, slot_of, claim_at, IsNoBetter}
 use Rattle.ct_rules.specs.Derivation.{LineValue, claims_at, Follows, IsDerivation, IsDerived, IsBest}
 use Rattle.ct_rules.proofs.Places.{slice_get-append_left}
-
--- a rule that rests on something at an entry is defined there
-pub applies_from_premises : (supports : List Support) (r : Rule) (e : Entry) (slots : List Slot)
-    → premises_of supports r e ≡ Some slots
-    → applies supports r e ≡ true
-applies_from_premises supports r e slots h = go (applies supports r e) h
-  where
-    go : (b : Bool) → (if b then Some (premises_at (cited supports r) r e) else None) ≡ Some slots → b ≡ true
-    go true is = refl
-    go false is = absurd (none-some slots is)
-
--- a rule that gives a value at an entry is defined there
-pub applies_from_value : (supports : List Support) (r : Rule) (e : Entry) (vs : List ℕ) (v : ℕ)
-    → value_of supports r e vs ≡ Some v
-    → applies supports r e ≡ true
-applies_from_value supports r e vs v h = go (applies supports r e) h
-  where
-    go : (b : Bool) → (if b then within_limit (rule_side r) (formula (cited supports r) r e vs) else None) ≡ Some v
-        → b ≡ true
-    go true is = refl
-    go false is = absurd (none-some v is)
+pub use Rattle.ct_rules.proofs.Applied.{applies_from_premises}
+use Rattle.ct_rules.proofs.Applied.{applies_from_value}
 
 -- a rule that needs a size at the entry cites a support that is there
 pub cited_there : (supports : List Support) (place : ℕ) (e : Entry)

@@ -15,7 +15,8 @@ use Rattle.ct_rules.specs.Rule.{cited, in_range, applies}
 use Rattle.ct_rules.specs.Slot.{Slot}
 use Rattle.ct_rules.specs.Closed.{IsSatisfied, IsClosed}
 use Rattle.ct_rules.specs.Inside.Listing.{names_support, plain_rules, side_by_side_rules, fixed_rules, supported_rules, rules_at}
-use Rattle.ct_rules.proofs.MoreSupports.{cited_there, applies_from_premises}
+use Rattle.ct_rules.proofs.Applied.{applies_from_premises}
+use Rattle.ct_rules.proofs.MoreSupports.{cited_there}
 
 -- a number between the ends of a range stands in it
 pub Contains-range_with_len : (low count i : ℕ) → low ≤ i → i < low + count → Contains (range_with_len low count) i

@@ -17,8 +17,8 @@ pub record LineValue : Type 0 where
 abbrev pub claims_at : List LineValue → List ℕ → List Claim
 claims_at lines places = filter_map (λ p. option_map (λ l. l.claim) (slice_get lines p)) places
 
--- a line follows from the lines before it: it names places among them, their claims bound the premises of its rule in order, and its claim has
--- the rule's side and the rule's value of theirs
+-- a line follows from the lines before it: it names places among them, their claims bound the premises of its rule in order, and its claim
+-- has the rule's side and the rule's value of theirs
 pub record Follows (supports : List Support) (before : List LineValue) (line : LineValue) : Type 0 where
   pub earlier : All (λ p. p < length before) line.from
   pub side : line.claim.side ≡ rule_side line.rule

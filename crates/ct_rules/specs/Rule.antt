@@ -1,5 +1,5 @@
--- The rules of the table: where each is defined, what it rests on, and the bound that it gives (MacWilliams and Sloane; Brouwer, Shearer, Sloane
--- and Smith 1990).
+-- The rules of the table: where each is defined, what it rests on, and the bound that it gives (MacWilliams and Sloane; Brouwer, Shearer,
+-- Sloane and Smith 1990).
 use Rattle.std.specs.Prelude.{ℕ, ◌+◌, ◌-◌, ◌*◌, ◌/◌, ◌%◌, ◌^◌, ◌==◌, ◌&&◌, nat_le, nat_lt, min, not, Bool, if◌then◌else◌, List, [], ◌∷◌, length, slice_get, is_some, Option, Some, None}
 use Rattle.std.specs.Option.{unwrap_or}
 use Rattle.ct_words.specs.declared.limits.TheConstants.{MAX_N, MAX_BOUND}
@@ -64,11 +64,12 @@ premises_at c L8 e =
 premises_at c (L11 n d) e = lower_at n d ∷ lower_at (e.n - n) (e.d - d) ∷ []
 premises_at c r e = []
 
--- the first and the second of the values
+-- the first of the values, 0 where there is none
 abbrev pub first : List ℕ → ℕ
 first [] = 0
 first (v ∷ vs) = v
 
+-- the second of the values, 0 where there is none
 abbrev pub second : List ℕ → ℕ
 second [] = 0
 second (v ∷ vs) = first vs

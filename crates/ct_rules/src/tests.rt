@@ -1,0 +1,237 @@
+//! The rules at the ends of their ranges, and outside of them, with numbers that are worked out by hand.
+
+use super::*;
+use ct_codes::{Entry, Side};
+use ct_words::MAX_BOUND;
+
+/// Each rule, with the first support, and a length and a distance, where it names any.
+const RULES: [Rule; 14] = [
+    Rule::L1,
+    Rule::L2,
+    Rule::L3,
+    Rule::L4,
+    Rule::L5,
+    Rule::L6,
+    Rule::L7,
+    Rule::L8,
+    Rule::L10(0),
+    Rule::L11(1, 3),
+    Rule::M1,
+    Rule::M10(0),
+    Rule::U0,
+    Rule::V0,
+];
+
+/// A(n,d).
+fn plain(n: u32, d: u32) -> Entry {
+    Entry { n, d, w: None }
+}
+
+/// A(n,d,w).
+fn weighted(n: u32, d: u32, w: u32) -> Entry {
+    Entry { n, d, w: Some(w) }
+}
+
+/// A(n,d) from below, where a length and a distance are given.
+fn from_below(numbers: Option<(u32, u32)>) -> Option<(Side, Entry)> {
+    numbers.map(|(n, d)| (Side::Lower, plain(n, d)))
+}
+
+/// Whether each call answers that the rule is not defined at the entry.
+fn is_undefined(supports: &[Support], rule: Rule, entry: Entry) -> bool {
+    premise_count(supports, rule, entry).is_none()
+        && premise(supports, rule, entry, 0).is_none()
+        && value(supports, rule, entry, &[1, 1]).is_none()
+}
+
+// A premise is read off the rule: for L5 at (2,4) it is A(2 - 1,4 - 1), for L8 at (28,27) the lengths are 28/2 = 14 and
+// the distances (27 + 1)/2 = 14 and 27.
+#[test]
+fn premises_at_the_ends(rt: HostRuntime) {
+    for (rule, n, d, count, first, second) in [
+        (Rule::L1, 28, 28, 0, None, None),
+        (Rule::L2, 28, 28, 0, None, None),
+        (Rule::L3, 2, 28, 1, Some((1, 28)), None),
+        (Rule::L4, 1, 27, 1, Some((1, 28)), None),
+        (Rule::L5, 2, 4, 1, Some((1, 3)), None),
+        (Rule::L5, 28, 28, 1, Some((27, 27)), None),
+        (Rule::L6, 27, 27, 1, Some((28, 28)), None),
+        (Rule::L7, 27, 28, 1, Some((28, 28)), None),
+        (Rule::L8, 2, 3, 1, Some((1, 3)), None),
+        (Rule::L8, 28, 4, 1, Some((14, 4)), None),
+        (Rule::L8, 28, 5, 2, Some((14, 3)), Some((14, 5))),
+        (Rule::L8, 28, 27, 2, Some((14, 14)), Some((14, 27))),
+        (Rule::L11(1, 3), 2, 6, 2, Some((1, 3)), Some((1, 3))),
+        (Rule::L11(9, 25), 28, 28, 2, Some((9, 25)), Some((19, 3))),
+        (Rule::U0, 1, 28, 0, None, None),
+    ] {
+        let at = |j| premise(&[], rule, plain(n, d), j);
+        let wanted = (Some(count), from_below(first), from_below(second));
+        assert_eq!(rt;
+            (premise_count(&[], rule, plain(n, d)), at(0), at(1)),
+            wanted,
+            "{rule:?}"
+        );
+        assert_eq!(rt;
+            (at(2), at(usize::MAX)),
+            (None, None),
+            "{rule:?} at ({n},{d})"
+        );
+        assert!(rt; value(&[], rule, plain(n, d), &[1, 1]).is_some());
+    }
+}
+
+// One step past the ends of each range, and the greatest numbers that L11 can name.
+#[test]
+fn past_the_ends(rt: HostRuntime) {
+    for (rule, n, d) in [
+        (Rule::L2, 27, 28),
+        (Rule::L3, 1, 28),
+        (Rule::L4, 1, 28),
+        (Rule::L5, 28, 27),
+        (Rule::L5, 1, 4),
+        (Rule::L6, 28, 27),
+        (Rule::L6, 27, 28),
+        (Rule::L7, 28, 28),
+        (Rule::L8, 27, 4),
+        (Rule::L11(0, 25), 28, 28),
+        (Rule::L11(28, 25), 28, 28),
+        (Rule::L11(9, 2), 28, 28),
+        (Rule::L11(9, 26), 28, 28),
+        (Rule::L11(u32::MAX, 3), 28, 28),
+        (Rule::L11(1, u32::MAX), 28, 28),
+        (Rule::L11(u32::MAX, u32::MAX), 28, 28),
+        (Rule::M1, 28, 28),
+        (Rule::V0, 28, 28),
+    ] {
+        assert!(rt;
+            is_undefined(&[], rule, plain(n, d)),
+            "{rule:?} at ({n},{d})"
+        );
+    }
+    for rule in [Rule::L1, Rule::L2, Rule::L8, Rule::L11(1, 3), Rule::U0] {
+        assert!(rt;
+            is_undefined(&[], rule, weighted(28, 6, 3)),
+            "{rule:?} with a weight"
+        );
+    }
+}
+
+// No rule is defined outside of the table, whatever it names, though its support is of just that entry.
+#[test]
+fn nothing_outside_the_table(rt: HostRuntime) {
+    let most = u32::MAX;
+    for entry in [
+        plain(0, 3),
+        plain(29, 3),
+        plain(28, 2),
+        plain(28, 29),
+        plain(most, most),
+        weighted(28, 5, 2),
+        weighted(28, 4, 29),
+        weighted(most, 4, most),
+    ] {
+        let supports = [Support::Size { entry, size: 1 }];
+        for rule in RULES {
+            assert!(rt;
+                is_undefined(&supports, rule, entry),
+                "{rule:?} at {entry:?}"
+            );
+        }
+    }
+}
+
+// Half of 2^28 - 1, rounded up, is 2^27. At (28,4) the factor of L8 is 2^13, and 2^13 · 2^15 = 2^28; at (28,5) 2^14 · 2^14
+// is 2^28. There are 2^28 words of length 28. A rule looks at no more values than it has premises.
+#[test]
+fn values_at_the_ends(rt: HostRuntime) {
+    for (rule, n, d, first, second, want) in [
+        (Rule::L1, 1, 3, 0, 0, Some(1)),
+        (Rule::L2, 3, 3, 0, 0, Some(2)),
+        (Rule::L3, 28, 3, MAX_BOUND, 0, Some(MAX_BOUND)),
+        (Rule::L3, 28, 3, MAX_BOUND + 1, 0, None),
+        (Rule::L4, 28, 27, 2, 9, Some(2)),
+        (Rule::L5, 28, 28, 2, 9, Some(2)),
+        (Rule::L6, 1, 3, 1, 9, Some(1)),
+        (Rule::L6, 1, 3, u32::MAX, 0, None),
+        (Rule::L7, 27, 3, 0, 0, Some(0)),
+        (Rule::L7, 27, 3, 1, 0, Some(1)),
+        (Rule::L7, 27, 3, MAX_BOUND - 1, 0, Some(1 << 27)),
+        (Rule::L7, 27, 3, MAX_BOUND, 0, Some(1 << 27)),
+        (Rule::L7, 27, 3, u32::MAX, 0, None),
+        (Rule::L8, 2, 4, 1, 9, Some(1)),
+        (Rule::L8, 28, 4, 1 << 15, 9, Some(MAX_BOUND)),
+        (Rule::L8, 28, 4, (1 << 15) + 1, 0, None),
+        (Rule::L8, 28, 5, 1 << 14, 1 << 14, Some(MAX_BOUND)),
+        (Rule::L8, 28, 5, 1 << 14, (1 << 14) + 1, None),
+        (Rule::L8, 28, 5, u32::MAX, u32::MAX, None),
+        (Rule::L11(14, 14), 28, 28, 5, 7, Some(5)),
+        (Rule::L11(14, 14), 28, 28, 7, 5, Some(5)),
+        (Rule::L11(14, 14), 28, 28, u32::MAX, 1 << 28, Some(1 << 28)),
+        (Rule::U0, 1, 28, 9, 9, Some(2)),
+        (Rule::U0, 28, 3, 9, 9, Some(MAX_BOUND)),
+    ] {
+        let given = value(&[], rule, plain(n, d), &[first, second, 3]);
+        assert_eq!(rt; given, want, "{rule:?} of {first}, {second}");
+    }
+}
+
+// There are 28!/14!^2 = 40,116,600 words of length 28 and weight 14. A value that is missing counts as 0.
+#[test]
+fn values_by_weight_and_without_premises(rt: HostRuntime) {
+    for (rule, entry, want) in [
+        (Rule::M1, weighted(28, 28, 28), 1),
+        (Rule::V0, weighted(28, 28, 0), 1),
+        (Rule::V0, weighted(28, 28, 14), 40116600),
+        (Rule::V0, weighted(28, 28, 28), 1),
+        (Rule::L3, plain(28, 28), 0),
+        (Rule::L11(14, 14), plain(28, 28), 0),
+    ] {
+        assert_eq!(rt;
+            value(&[], rule, entry, &[]),
+            Some(want),
+            "{rule:?} at {entry:?}"
+        );
+    }
+    assert_eq!(rt; value(&[], Rule::L8, plain(28, 5), &[7]), Some(0));
+}
+
+// A support gives its own size at its own entry, where the rule names its place and the size is a bound of the table.
+#[test]
+fn sizes_of_supports(rt: HostRuntime) {
+    let size_of = |entry, size| Support::Size { entry, size };
+    let supports = [
+        Support::Nothing,
+        size_of(plain(28, 3), MAX_BOUND),
+        size_of(plain(28, 3), MAX_BOUND + 1),
+        size_of(weighted(28, 4, 2), 14),
+        size_of(plain(29, 3), 2),
+    ];
+    for (rule, entry, count, want) in [
+        (Rule::L10(0), plain(28, 3), None, None),
+        (Rule::L10(1), plain(28, 3), Some(0), Some(MAX_BOUND)),
+        (Rule::L10(1), plain(28, 4), None, None),
+        (Rule::L10(1), plain(27, 3), None, None),
+        (Rule::L10(2), plain(28, 3), Some(0), None),
+        (Rule::L10(3), weighted(28, 4, 2), None, None),
+        (Rule::L10(4), plain(29, 3), None, None),
+        (Rule::L10(5), plain(28, 3), None, None),
+        (Rule::L10(u32::MAX), plain(28, 3), None, None),
+        (Rule::M10(3), weighted(28, 4, 2), Some(0), Some(14)),
+        (Rule::M10(3), weighted(28, 4, 26), None, None),
+        (Rule::M10(1), plain(28, 3), None, None),
+        (Rule::M10(u32::MAX), weighted(28, 4, 2), None, None),
+    ] {
+        assert_eq!(rt;
+            premise_count(&supports, rule, entry),
+            count,
+            "{rule:?} at {entry:?}"
+        );
+        assert_eq!(rt;
+            value(&supports, rule, entry, &[]),
+            want,
+            "{rule:?} at {entry:?}"
+        );
+        assert_eq!(rt; premise(&supports, rule, entry, 0), None);
+    }
+}
