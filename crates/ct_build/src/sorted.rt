@@ -1,6 +1,8 @@
 //! Words that are a code, put into order.
 
 ghost use Rattle.std.specs.Prelude.{◌≡◌, ◌≤◌, length, IsPermutation};
+ghost use Rattle.std.specs.List.Sorted.{IsSorted};
+ghost use Rattle.std.proofs.Common.{nat_cmp};
 ghost use Rattle.ct_words.specs.declared.limits.TheConstants.{MAX_N};
 ghost use Rattle.ct_codes.specs.declared.code.TheConstants.{MAX_CODE_DISTANCE};
 ghost use Rattle.ct_codes.specs.Code.{IsCode, IsSoundCode};
@@ -8,8 +10,20 @@ ghost use Rattle.ct_codes.specs.Code.{IsCode, IsSoundCode};
 use ct_codes::Code;
 use ct_words::Word;
 
+/// The words in ascending order. No sort is made where they are in order already. It takes no memory.
+fn in_order(words: Vec<Word>) -> Vec<Word>
+    ensures permutation { IsPermutation words.items result.items }
+    ensures sorted { IsSorted nat_cmp result.items }
+{
+    let mut words = words;
+    if !words.is_sorted() {
+        words.sort_unstable();
+    }
+    words
+}
+
 /// The code of these words, which are one: words of length n, all different, each two at distance at least d, and of
-/// weight w where it is given. It takes no memory.
+/// weight w where it is given. It sorts them only where they do not ascend already, and takes no memory.
 pub(crate) fn code_of(n: u32, d: u32, w: Option<u32>, words: Vec<Word>) -> Code
     requires length { (1 ≤ n) × (n ≤ MAX_N) }
     requires distance { (1 ≤ d) × (d ≤ MAX_CODE_DISTANCE) }
@@ -21,7 +35,5 @@ pub(crate) fn code_of(n: u32, d: u32, w: Option<u32>, words: Vec<Word>) -> Code
     ensures words { IsPermutation words.items result.words }
     ensures sound { IsSoundCode result }
 {
-    let mut words = words;
-    words.sort_unstable();
-    Code::from_sorted(n, d, w, words)
+    Code::from_sorted(n, d, w, in_order(words))
 }

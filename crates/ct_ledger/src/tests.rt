@@ -100,6 +100,7 @@ fn codes_of_a_chain(rt: HostRuntime) -> Result<(), Fail> {
         let id = format!(in alloc; "c{}", count + 1)?;
         let (document, n) = doubled_or_punctured(alloc, count, &before)?;
         submit(&rt, &mut ledger, id.as_bytes(), &document)?;
+        assert_eq!(rt; ledger.pieces().len(), count as usize + 2);
         let code = ledger.code(alloc, count as usize + 1)?;
         assert_eq!(rt; (code.n(), code.d(), code.w()), (n, n, None), "{id}");
         assert_eq!(rt; code.words(), [0, (1 << n) - 1].as_slice(), "{id}");
