@@ -43,7 +43,8 @@ module _ (supports : List Support) (place : ℕ) (old : KeptValue) (moved : List
       let left = IsKept-left supports place old moved rest good walked in
       let reason = reason_line (remove supports place) rest s left entry in
       let from = came_from supports place old moved rest good walked (reason_of rest s) reason.0 reason.1.there in
-      let claim = sym (claim-left place old.lines moved (reason_of rest s) reason.0 from.0 from.1 from.2) ∙ reason.1.claim in
+      let claim =
+      sym (claim-left place old.lines moved (reason_of rest s) reason.0 from.0 from.1 from.2) ∙ reason.1.claim in
       subst (λ (c : Claim). IsNoBetter c.side c.value (bound_of old.bounds (slot_of c))) claim
       (line-no_better supports old from.0 from.1 good from.2.line)
 

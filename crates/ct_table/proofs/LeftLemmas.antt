@@ -19,7 +19,9 @@ use Rattle.ct_closure.proofs.KeptLemmas.{line_entry}
 use Rattle.ct_table.specs.Removal.{names_place, lowered}
 use Rattle.ct_table.specs.Inside.Walk.{and_places, moved_places, moved_to, may_move, moved_line}
 use Rattle.ct_table.proofs.RemovedSupports.{cited-lowered, IsAlike-lowered, premises_of-alike, value_of-alike, lowered-unsupported, names_place-unsupported}
-use Rattle.ct_table.proofs.WalkLemmas.{IsMoved, moved_line-some, IsMark, IsMark-some, IsWalked, marked-within}
+use Rattle.ct_table.proofs.MarkLemmas.{IsMoved, moved_line-some, IsMark, IsMark-some, marked-within}
+use Rattle.ct_table.proofs.PartlyKept.{claim_in}
+use Rattle.ct_table.proofs.WalkLemmas.{IsWalked}
 
 -- an element at each place of a list
 pub item_there : {X : Type 0} (xs : List X) (i : ℕ) → i < length xs → (x : X) × (slice_get xs i ≡ Some x)
@@ -47,26 +49,28 @@ moved_line-ground : (place : ℕ) (moved : List (Option ℕ)) (l : LineValue) �
     → moved_line place moved l ≡ Some (moved_to place l [])
 moved_line-ground place moved l entry ground =
     let apart = not_from_false (names_place place l.rule) (names_place-unsupported place l.rule ground.no_support) in
-    let may : may_move place l ≡ true = and_from (is_entry l.claim.entry) (not (names_place place l.rule)) entry apart in
+    let may : may_move place l ≡ true =
+    and_from (is_entry l.claim.entry) (not (names_place place l.rule)) entry apart in
     ap (λ (b : Bool). if b then option_map (moved_to place l) (moved_places moved l.from) else None) may
     ∙ ap (λ (from : List ℕ). option_map (moved_to place l) (moved_places moved from)) ground.no_lines
 
 -- a line that moves is at its mark
-IsMark-there : (rest : List LineValue) (o : Option LineValue) (p : Option ℕ) (k : LineValue) → IsMark rest o p → o ≡ Some k
-    → (m : ℕ) × (slice_get rest m ≡ Some k)
+IsMark-there : (rest : List LineValue) (o : Option LineValue) (p : Option ℕ) (k : LineValue) → IsMark rest o p
+    → o ≡ Some k → (m : ℕ) × (slice_get rest m ≡ Some k)
 IsMark-there rest None p k mark is = absurd (none-some k is)
 IsMark-there rest (Some l) None k mark is = absurd mark
 IsMark-there rest (Some l) (Some m) k mark is = (m, mark ∙ is)
 
 -- a line that is left, at m, is one of the lines, at i, as it moved
-pub record IsLeft (place : ℕ) (lines : List LineValue) (moved : List (Option ℕ)) (m : ℕ) (k : LineValue) (i : ℕ) (l : LineValue) : Type 0 where
+pub record IsLeft (place : ℕ) (lines : List LineValue) (moved : List (Option ℕ)) (m : ℕ) (k : LineValue) (i : ℕ)
+    (l : LineValue) : Type 0 where
   pub line : slice_get lines i ≡ Some l
   pub mark : get_or moved i None ≡ Some m
   pub is : IsMoved place (take i moved) l k
 
 -- its claim is the same
-pub claim-left : (place : ℕ) (lines : List LineValue) (moved : List (Option ℕ)) (m : ℕ) (k : LineValue) (i : ℕ) (l : LineValue)
-    → IsLeft place lines moved m k i l → k.claim ≡ l.claim
+pub claim-left : (place : ℕ) (lines : List LineValue) (moved : List (Option ℕ)) (m : ℕ) (k : LineValue) (i : ℕ)
+    (l : LineValue) → IsLeft place lines moved m k i l → k.claim ≡ l.claim
 claim-left place lines moved m k i l left = ap (λ (h : LineValue). h.claim) left.is.is
 
 -- the lines at places before i, as they moved, stand before m and have the same claims
@@ -133,7 +137,8 @@ module _ (supports : List Support) (place : ℕ) (old : KeptValue) (moved : List
       subst (AreCarried old.lines rest.lines i m []) (same_Some [] to h)
       (record { earlier = All-nil (λ q. q < m); claims = refl })
   carried i m (p ∷ from) to at h =
-      go (get_or (take i moved) p None) (moved_places (take i moved) from) refl h (λ (qs : List ℕ) e. carried i m from qs at e)
+      go (get_or (take i moved) p None) (moved_places (take i moved) from) refl h
+      (λ (qs : List ℕ) e. carried i m from qs at e)
     where
       go : (o : Option ℕ) (ps : Option (List ℕ)) → get_or (take i moved) p None ≡ o → and_places o ps ≡ Some to
           → ((qs : List ℕ) → ps ≡ Some qs → AreCarried old.lines rest.lines i m from qs)
@@ -165,7 +170,8 @@ module _ (supports : List Support) (place : ℕ) (old : KeptValue) (moved : List
             ∙ ap (λ (claims : List Claim). Some (map slot_of claims)) (sym lines.claims);
         value =
             ap (λ (claims : List Claim). value_of others r e (map (λ c. c.value) claims)) lines.claims
-            ∙ value_of-alike others supports r l.rule e (map (λ c. c.value) (claims_at (take i old.lines) l.from)) alike same
+            ∙ value_of-alike others supports r l.rule e (map (λ c. c.value) (claims_at (take i old.lines) l.from)) alike
+            same
             ∙ follows.value;
       })
 
@@ -209,7 +215,8 @@ module _ (supports : List Support) (place : ℕ) (old : KeptValue) (moved : List
                 same_Some m n (sym left.mark ∙ ap (λ (x : ℕ). get_or moved x None) same_line ∙ right.mark) in
                 absurd (omega arith)
             | inr (inl below) ↦
-                let better = good.rise i j l g below left.line right.line (sym (ap slot_of one) ∙ same ∙ ap slot_of two) in
+                let better =
+                good.rise i j l g below left.line right.line (sym (ap slot_of one) ∙ same ∙ ap slot_of two) in
                 subst (λ (c : Claim). IsBetter c.side h.claim.value c.value) (sym one)
                 (subst (λ (c : Claim). IsBetter l.claim.side c.value l.claim.value) (sym two) better)
             | inr (inr above) ↦ absurd (let after = walked.rising j i n m above right.mark left.mark in omega arith)
@@ -223,7 +230,7 @@ module _ (supports : List Support) (place : ℕ) (old : KeptValue) (moved : List
     derivation = λ m k found. let from = came_from m k found in follows-left m k from.0 from.1 found from.2;
     reasoned = λ s entry. let ground = ground-left s entry in
         subst
-        (λ (t : Slot). option_map (λ l. l.claim) (slice_get rest.lines (reason_of rest t)) ≡ Some (claim_at t (bound_of rest.bounds t)))
+        (λ (t : Slot). claim_in rest.lines (reason_of rest t) ≡ Some (claim_at t (bound_of rest.bounds t)))
         ground.3 (walked.kept.reasons ground.0 ground.1 ground.2).claim;
     last = λ m k found. (walked.kept.reasons m k found).after;
     rise = rise-left;

@@ -17,8 +17,8 @@ use Rattle.ct_table.proofs.RestingLemmas.{rests_on_place}
 module _ (supports : List Support) (place : ℕ) (old : KeptValue) (moved : List (Option ℕ)) (rest : KeptValue)
     (good : IsKept supports old) (walked : IsWalked place old.lines moved rest) where
   -- where the reason of a slot moved to is the reason of the slot: no later line of the slot moved
-  reason_moved : (s : Slot) (m : ℕ) (k : LineValue) → IsEntry s.1 → slice_get rest.lines m ≡ Some k → slot_of k.claim ≡ s
-      → get_or moved (reason_of old s) None ≡ Some m → reason_of rest s ≡ m
+  reason_moved : (s : Slot) (m : ℕ) (k : LineValue) → IsEntry s.1 → slice_get rest.lines m ≡ Some k
+      → slot_of k.claim ≡ s → get_or moved (reason_of old s) None ≡ Some m → reason_of rest s ≡ m
   reason_moved s m k entry found slot mark =
       let left = IsKept-left supports place old moved rest good walked in
       let after = subst (λ (t : Slot). m ≤ reason_of rest t) slot (left.last m k found) in
@@ -35,7 +35,8 @@ module _ (supports : List Support) (place : ℕ) (old : KeptValue) (moved : List
             | inl same ↦
                 same_Some (reason_of rest s) m (sym from.mark ∙ ap (λ (x : ℕ). get_or moved x None) same ∙ mark)
             | inr (inl below) ↦
-                absurd (let before = walked.rising j (reason_of old s) (reason_of rest s) m below from.mark mark in omega arith)
+                let before = walked.rising j (reason_of old s) (reason_of rest s) m below from.mark mark in
+                absurd (omega arith)
             | inr (inr above) ↦ absurd (omega arith)
           ]
 
@@ -48,7 +49,9 @@ module _ (supports : List Support) (place : ℕ) (old : KeptValue) (moved : List
       go : (l : LineValue) → IsReasonLine old s l → (o : Option ℕ) → get_or moved (reason_of old s) None ≡ o
           → option_map claim_and_rule (slice_get rest.lines (reason_of rest s))
           ≡ option_map (claim_and_lowered_rule place) (slice_get old.lines (reason_of old s))
-      go l is None stays = absurd (free (rests_on_place supports place old moved rest good walked (reason_of old s) l is.there stays))
+      go l is None stays =
+          absurd (free
+          (rests_on_place supports place old moved rest good walked (reason_of old s) l is.there stays))
       go l is (Some m) mark =
           let i = reason_of old s in
           let to = went_to supports place old moved rest good walked i m l is.there mark in

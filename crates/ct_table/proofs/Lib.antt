@@ -4,8 +4,10 @@ pub mod FewerSupports
 pub mod RemovalLemmas
 pub mod MovedPlaces
 pub mod RemovedSupports
+pub mod MarkLemmas
+pub mod PartlyKept
 pub mod WalkLemmas
-pub mod RestingLemmas
 pub mod LeftLemmas
+pub mod RestingLemmas
 pub mod LeftReasons
 pub mod LeftBounds

@@ -38,6 +38,12 @@ moved_places-none moved from so_far i within found before =
     before ∙ ap (option_map (λ more. so_far ++ more)) (from_here moved from i None within found)
 
 -- none in place of an option that isn't there
-pub flattened : {X : Type 0} (o : Option (Option X)) → option_flatten o ≡ unwrap_or o None
+flattened : {X : Type 0} (o : Option (Option X)) → option_flatten o ≡ unwrap_or o None
 flattened None = refl
 flattened (Some p) = refl
+
+-- the mark that is read
+pub mark_read : (o r : Option (Option ℕ)) (mark p : Option ℕ) → unwrap_or r None ≡ mark → o ≡ r → p ≡ option_flatten o
+    → mark ≡ p
+mark_read o r mark p read same found =
+    sym read ∙ ap (λ (q : Option (Option ℕ)). unwrap_or q None) (sym same) ∙ sym (flattened o) ∙ sym found

@@ -12,14 +12,16 @@ use Rattle.ct_closure.specs.Kept.{KeptValue, IsKept}
 use Rattle.ct_closure.proofs.KeptLemmas.{line_entry}
 use Rattle.ct_table.specs.Removal.{names_place, RestsOnPlace}
 use Rattle.ct_table.specs.Inside.Walk.{and_places, moved_places, moved_to, may_move, moved_line}
-use Rattle.ct_table.proofs.WalkLemmas.{IsMark-none, IsWalked}
+use Rattle.ct_table.proofs.MarkLemmas.{IsMark-none}
+use Rattle.ct_table.proofs.WalkLemmas.{IsWalked}
 use Rattle.ct_table.proofs.LeftLemmas.{item_there}
 
 -- one of the places has no mark
 abbrev HasUnmoved : List (Option ℕ) → List ℕ → Type 0
 HasUnmoved moved from = (p : ℕ) × Contains from p × (get_or moved p None ≡ None)
 
-moved_places-unmoved : (moved : List (Option ℕ)) (from : List ℕ) → moved_places moved from ≡ None → HasUnmoved moved from
+moved_places-unmoved : (moved : List (Option ℕ)) (from : List ℕ) → moved_places moved from ≡ None
+    → HasUnmoved moved from
 moved_places-unmoved moved [] h = absurd (none-some [] (sym h))
 moved_places-unmoved moved (p ∷ from) h =
     go (get_or moved p None) (moved_places moved from) refl h (λ e. moved_places-unmoved moved from e)
@@ -41,8 +43,9 @@ moved_line-none place moved l entry none = elim (cases_Bool (names_place place l
       let may : may_move place l ≡ true =
       and_from (is_entry l.claim.entry) (not (names_place place l.rule)) entry
       (not_from_false (names_place place l.rule) apart) in
-      inr (moved_places-unmoved moved l.from (go (moved_places moved l.from)
-      (sym (ap (λ (b : Bool). if b then option_map (moved_to place l) (moved_places moved l.from) else None) may) ∙ none)))
+      let places = moved_places moved l.from in
+      inr (moved_places-unmoved moved l.from
+      (go places (sym (ap (λ (b : Bool). if b then option_map (moved_to place l) places else None) may) ∙ none)))
 ]
   where
     go : (o : Option (List ℕ)) → option_map (moved_to place l) o ≡ None → o ≡ None
@@ -50,8 +53,8 @@ moved_line-none place moved l entry none = elim (cases_Bool (names_place place l
     go (Some places) is = absurd (none-some (moved_to place l places) (sym is))
 
 -- a line that stays behind names the place, or a line that stays behind
-pub rests_on_place : (supports : List Support) (place : ℕ) (old : KeptValue) (moved : List (Option ℕ)) (rest : KeptValue)
-    → IsKept supports old → IsWalked place old.lines moved rest
+pub rests_on_place : (supports : List Support) (place : ℕ) (old : KeptValue) (moved : List (Option ℕ))
+    (rest : KeptValue) → IsKept supports old → IsWalked place old.lines moved rest
     → (i : ℕ) (l : LineValue) → slice_get old.lines i ≡ Some l → get_or moved i None ≡ None
     → RestsOnPlace old.lines place i
 rests_on_place supports place old moved rest good walked i l found stays = below (suc i) i l (omega arith) found stays
@@ -60,7 +63,8 @@ rests_on_place supports place old moved rest good walked i l found stays = below
         → (names_place place l.rule ≡ true) ⊎ HasUnmoved (take i moved) l.from
     why i l found stays =
         moved_line-none place (take i moved) l (line_entry supports old i l good found)
-        (IsMark-none rest.lines (moved_line place (take i moved) l) (get_or moved i None) (walked.marked i l found) stays)
+        (IsMark-none rest.lines (moved_line place (take i moved) l) (get_or moved i None) (walked.marked i l found)
+        stays)
 
     below : (n i : ℕ) (l : LineValue) → i < n → slice_get old.lines i ≡ Some l → get_or moved i None ≡ None
         → RestsOnPlace old.lines place i
@@ -68,11 +72,13 @@ rests_on_place supports place old moved rest good walked i l found stays = below
     below (suc n) i l h found stays = go (why i l found stays) (λ (p : ℕ) (k : LineValue). below n p k)
       where
         go : ((names_place place l.rule ≡ true) ⊎ HasUnmoved (take i moved) l.from)
-            → ((p : ℕ) (k : LineValue) → p < n → slice_get old.lines p ≡ Some k → get_or moved p None ≡ None → RestsOnPlace old.lines place p)
+            → ((p : ℕ) (k : LineValue) → p < n → slice_get old.lines p ≡ Some k → get_or moved p None ≡ None
+            → RestsOnPlace old.lines place p)
             → RestsOnPlace old.lines place i
         go (inl names) earlier = ([], (l, found, names))
         go (inr (p, within, none)) earlier =
-            let before = All-contains (λ q. q < length (take i old.lines)) l.from p (good.derivation i l found).earlier within in
+            let before =
+            All-contains (λ q. q < length (take i old.lines)) l.from p (good.derivation i l found).earlier within in
             let count = length-take i old.lines in
             let k = item_there old.lines p (omega arith) in
             let there = sym (get_or-take i moved p None (omega arith)) ∙ none in

@@ -86,8 +86,8 @@ fn may_move(line: &Line, place: usize) -> bool
     line.claim.entry.in_table() && !names_place(line.rule, place)
 }
 
-/// Puts a line to those that are left, unless it names the support at the place or a line that has not moved: the place where
-/// it is now. After an `Err`, which is want of memory, all is as before.
+/// Puts a line to those that are left, unless it names the support at the place or a line that has not moved: the place
+/// where it is now. After an `Err`, which is want of memory, all is as before.
 fn move_line(
     alloc: Global,
     rest: &mut Kept,
@@ -96,7 +96,8 @@ fn move_line(
     place: usize,
 ) -> Result<Option<usize>, AllocError>
     ensures rest { OnOk result (rest.new ≡ with_moved rest.old (moved_line place moved.now line.now)) }
-    ensures there { IfOk result (λ there. there ≡ option_map (λ _. length rest.old.lines) (moved_line place moved.now line.now)) }
+    ensures there { IfOk result (λ there. there
+        ≡ option_map (λ _. length rest.old.lines) (moved_line place moved.now line.now)) }
     ensures unchanged { OnErr result (rest.new ≡ rest.old) }
 {
     if !may_move(line, place) {

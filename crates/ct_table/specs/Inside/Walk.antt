@@ -1,4 +1,4 @@
--- One walk over the lines of a table, once a support is taken out: each line moves, with the places that it names, or stays behind.
+-- One walk over the lines of a table, once a support is taken out: each line moves, or stays behind.
 use Rattle.std.specs.Prelude.{ℕ, ◌&&◌, not, if◌then◌else◌, Bool, List, [], ◌∷◌, slice_index_or, Option, Some, None, option_map}
 use Rattle.ct_codes.specs.Entry.{is_entry}
 use Rattle.ct_rules.specs.Derivation.{LineValue}
