@@ -13,10 +13,11 @@ use Rattle.ct_rules.specs.Slot.{Slot, IsBetter, IsNoBetter}
 use Rattle.ct_rules.proofs.MoreSupports.{applies_from_premises}
 use Rattle.ct_rules.proofs.RuleLaws.{rule_entry}
 use Rattle.ct_closure.specs.declared.instance.Instance.{Instance}
-use Rattle.ct_closure.specs.Closing.{IsPending, AreSatisfiedBut, IsSatisfiedAt, value_over}
+use Rattle.ct_closure.specs.Inside.Closing.{IsPending, IsSatisfiedAt, value_over}
+use Rattle.ct_closure.specs.Satisfied.{AreSatisfiedBut}
 use Rattle.ct_closure.specs.Instance.{AreAllFixed, instance_of, instance_at}
 use Rattle.ct_closure.specs.Number.{bound_of}
-use Rattle.ct_closure.specs.Worklist.{WorkValue, IsMarked}
+use Rattle.ct_closure.specs.Inside.Worklist.{WorkValue, IsMarked}
 use Rattle.ct_closure.proofs.GetLemmas.{slice_get-set_same, slice_get-set_other}
 use Rattle.ct_closure.proofs.KeptLemmas.{better-trans_no_better, no_better_than_itself}
 use Rattle.ct_closure.proofs.PendingLemmas.{numbered}

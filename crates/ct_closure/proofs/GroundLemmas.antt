@@ -8,10 +8,11 @@ use Rattle.ct_codes.specs.declared.claim.Side.TheVariants.{Lower, Upper}
 use Rattle.ct_codes.specs.Entry.{IsEntry}
 use Rattle.ct_rules.specs.declared.support.Support.{Support}
 use Rattle.ct_rules.specs.Derivation.{LineValue, Follows}
-use Rattle.ct_rules.specs.Inside.Listing.{names_support}
+use Rattle.ct_rules.specs.Rule.{names_support}
 use Rattle.ct_rules.specs.Rule.{rule_side, in_range, premises_at, formula, premises_of, value_of}
 use Rattle.ct_rules.specs.Slot.{Slot}
-use Rattle.ct_closure.specs.Kept.{IsGround, ground_rule, ground_value, ground_line}
+use Rattle.ct_closure.specs.Kept.{IsGround}
+use Rattle.ct_closure.specs.Inside.Ground.{ground_rule, ground_value, ground_line}
 
 -- the rule of a slot gives a bound of its side whatever the supports, and rests on nothing
 record IsGroundRule (supports : List Support) (s : Slot) : Type 0 where

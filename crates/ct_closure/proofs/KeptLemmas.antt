@@ -18,7 +18,7 @@ use Rattle.ct_rules.proofs.Derivations.{derivation-push}
 use Rattle.ct_rules.proofs.Places.{slice_get-append_left, slice_get-append_right, slice_get_last}
 use Rattle.ct_rules.proofs.RuleLaws.{rule_entry, premises_in_table}
 use Rattle.ct_closure.specs.declared.instance.Instance.{Instance}
-use Rattle.ct_closure.specs.Closing.{value_over, line_by}
+use Rattle.ct_closure.specs.Inside.Closing.{value_over, line_by}
 use Rattle.ct_closure.specs.Kept.{KeptValue, IsKept, Grew, reason_of, with_line}
 use Rattle.ct_closure.specs.Number.{bound_of, slot_number}
 use Rattle.ct_closure.proofs.GetLemmas.{IsOldOrNew, slice_get-append_some, slice_get_push_cases}

@@ -11,7 +11,8 @@ use Rattle.ct_codes.specs.declared.entry.Entry.{Entry}
 use Rattle.ct_codes.specs.Entry.{is_entry}
 use Rattle.ct_rules.specs.declared.rule.Rule.{Rule}
 use Rattle.ct_rules.specs.declared.rule.Rule.TheVariants.{L11}
-use Rattle.ct_rules.specs.Inside.Listing.{names_support, plain_rules, weight_rules, side_by_side_rules, fixed_rules}
+use Rattle.ct_rules.specs.Rule.{names_support}
+use Rattle.ct_rules.specs.Inside.Listing.{plain_rules, weight_rules, side_by_side_rules, fixed_rules}
 use Rattle.ct_rules.specs.Rule.{has_weight, cited, in_range}
 use Rattle.ct_rules.specs.Slot.{Slot}
 use Rattle.ct_rules.proofs.RuleLists.{Contains-range_with_len, Contains-flat_map, fixed_rules-complete}

@@ -11,16 +11,16 @@ use Rattle.ct_rules.specs.declared.rule.Rule.TheVariants.{L10, M10}
 use Rattle.ct_rules.specs.declared.support.Support.{Support}
 use Rattle.ct_rules.specs.declared.support.Support.TheVariants.{Nothing, Size}
 use Rattle.ct_rules.specs.Closed.{IsSatisfied, IsClosed}
-use Rattle.ct_rules.specs.Inside.Listing.{names_support}
+use Rattle.ct_rules.specs.Rule.{names_support}
 use Rattle.ct_rules.specs.Rule.{rule_side, cited, in_range, premises_at, applies, premise_of}
 use Rattle.ct_rules.specs.Support.{size_at}
 use Rattle.ct_rules.proofs.MoreSupports.{applies_from_premises}
 use Rattle.ct_rules.specs.Slot.{Slot, IsBetter}
 use Rattle.ct_closure.specs.declared.instance.Instance.{Instance}
-use Rattle.ct_closure.specs.Closing.{value_over, IsPending, IsPendingBut, IsSatisfiedAt, slack, potential}
+use Rattle.ct_closure.specs.Inside.Closing.{value_over, IsPending, IsPendingBut, IsSatisfiedAt, slack, potential}
 use Rattle.ct_closure.specs.Instance.{AreAllFixed, AreUsers, size_rule, instance_of, instance_at}
 use Rattle.ct_closure.specs.Number.{slot_number, bound_of, side_size}
-use Rattle.ct_closure.specs.Worklist.{WorkValue, IsMarked}
+use Rattle.ct_closure.specs.Inside.Worklist.{WorkValue, IsMarked}
 use Rattle.std.proofs.lemmas.List.{length-set}
 use Rattle.std.proofs.lemmas.List.Sums.{sum_by-cons}
 use Rattle.ct_closure.proofs.GetLemmas.{slice_get-set_other}

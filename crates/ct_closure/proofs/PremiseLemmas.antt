@@ -7,7 +7,7 @@ use Rattle.ct_codes.specs.declared.entry.Entry.{Entry}
 use Rattle.ct_rules.specs.declared.rule.Rule.{Rule}
 use Rattle.ct_rules.specs.declared.support.Support.{Support}
 use Rattle.ct_rules.specs.Rule.{cited, premises_at, applies, count_of, premise_of, value_of}
-use Rattle.ct_closure.specs.Closing.{value_over}
+use Rattle.ct_closure.specs.Inside.Closing.{value_over}
 use Rattle.ct_rules.specs.Slot.{Slot}
 
 -- one more item of a list

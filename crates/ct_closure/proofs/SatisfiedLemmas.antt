@@ -19,7 +19,7 @@ use Rattle.ct_rules.proofs.ClosedBounds.{no_better-trans}
 use Rattle.ct_rules.proofs.MoreSupports.{applies_from_premises}
 use Rattle.ct_rules.proofs.RuleLaws.{premises_in_table, rule_entry}
 use Rattle.ct_closure.specs.declared.instance.Instance.{Instance}
-use Rattle.ct_closure.specs.Closing.{IsSatisfiedAt, value_over}
+use Rattle.ct_closure.specs.Inside.Closing.{IsSatisfiedAt, value_over}
 use Rattle.ct_closure.specs.Instance.{instance_at}
 use Rattle.ct_closure.specs.Number.{slot_number, bound_of, side_size}
 use Rattle.ct_closure.proofs.NumberLemmas.{slot_number-bound, slot_number-injective}

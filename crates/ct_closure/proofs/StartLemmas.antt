@@ -7,7 +7,8 @@ use Rattle.ct_rules.specs.declared.support.Support.{Support}
 use Rattle.ct_rules.specs.Derivation.{LineValue, Follows}
 use Rattle.ct_rules.specs.Slot.{Slot, slot_of}
 use Rattle.ct_rules.proofs.Places.{slice_get_last}
-use Rattle.ct_closure.specs.Kept.{KeptValue, IsKept, reason_of, with_line, ground_value, ground_line}
+use Rattle.ct_closure.specs.Kept.{KeptValue, IsKept, reason_of, with_line}
+use Rattle.ct_closure.specs.Inside.Ground.{ground_value, ground_line}
 use Rattle.ct_closure.specs.Number.{bound_of, side_size, slot_number, slot_at}
 use Rattle.ct_closure.proofs.GetLemmas.{IsOldOrNew, slice_get-append_some, slice_get_push_cases}
 use Rattle.ct_closure.proofs.GroundLemmas.{Follows-ground, IsGround-ground_line}

@@ -8,11 +8,11 @@ use Rattle.ct_rules.specs.Closed.{IsSatisfied}
 use Rattle.ct_rules.specs.Rule.{rule_side, applies}
 use Rattle.ct_rules.specs.Slot.{IsBetter, IsNoBetter}
 use Rattle.ct_closure.specs.declared.instance.Instance.{Instance}
-use Rattle.ct_closure.specs.Closing.{value_over, IsPending, IsPendingBut, line_by, potential}
+use Rattle.ct_closure.specs.Inside.Closing.{value_over, IsPending, IsPendingBut, line_by, potential}
 use Rattle.ct_closure.specs.Instance.{InstancesValue, AreInstances, instance_at}
 use Rattle.ct_closure.specs.Kept.{KeptValue, IsKept, Grew, with_line}
 use Rattle.ct_closure.specs.Number.{slot_number, bound_of}
-use Rattle.ct_closure.specs.Worklist.{WorkValue, IsMarked}
+use Rattle.ct_closure.specs.Inside.Worklist.{WorkValue, IsMarked}
 use Rattle.ct_closure.proofs.KeptLemmas.{IsKept-with_line, Grew-with_line, Follows-line_by}
 use Rattle.ct_closure.proofs.PendingLemmas.{IsPending-tried, IsPending-improved, potential-improved}
 use Rattle.ct_closure.proofs.SatisfiedLemmas.{satisfied_by_none, satisfied_by_value, satisfied_by_instance, satisfied_by_no_instance}

@@ -3,7 +3,7 @@ use Rattle.std.proofs.Common.{◌≡◌, ℕ, ◌<◌, Bool, true, false, List, 
 use Rattle.std.specs.Prelude.{slice_get, slice_set, Contains, All}
 use Rattle.std.proofs.lemmas.Bool.{cases_eq}
 use Rattle.std.proofs.lemmas.List.Elements.{All-push, All-head, All-tail, Contains-push, Contains-append_left}
-use Rattle.ct_closure.specs.Worklist.{IsSoundWork}
+use Rattle.ct_closure.specs.Inside.Worklist.{IsSoundWork}
 use Rattle.ct_closure.proofs.GetLemmas.{slice_get-set_same, slice_get-set_other, Contains-rest}
 
 -- one more mark, and its number at the end of the queue

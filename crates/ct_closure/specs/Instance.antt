@@ -5,7 +5,7 @@ use Rattle.ct_rules.specs.declared.rule.Rule.{Rule}
 use Rattle.ct_rules.specs.declared.rule.Rule.TheVariants.{L10, M10}
 use Rattle.ct_rules.specs.declared.support.Support.{Support}
 use Rattle.ct_rules.specs.declared.support.Support.TheVariants.{Size}
-use Rattle.ct_rules.specs.Inside.Listing.{names_support}
+use Rattle.ct_rules.specs.Rule.{names_support}
 use Rattle.ct_rules.specs.Rule.{applies, premise_of}
 use Rattle.ct_rules.specs.Slot.{Slot}
 use Rattle.ct_closure.specs.declared.instance.Instance.{Instance}

@@ -1,15 +1,11 @@
 -- What a table keeps: the lines of a derivation, and for each slot its bound and the place of the line that gives it.
-use Rattle.std.specs.Prelude.{◌≡◌, ℕ, ◌*◌, ◌<◌, ◌≤◌, false, if◌then◌else◌, List, [], ◌∷◌, ◌++◌, length, slice_get, slice_set, slice_index, All, Option, Some, option_map}
+use Rattle.std.specs.Prelude.{◌≡◌, ℕ, ◌*◌, ◌<◌, ◌≤◌, false, List, [], ◌∷◌, ◌++◌, length, slice_get, slice_set, slice_index, All, Some, option_map}
 use Rattle.ct_codes.specs.Entry.{IsEntry}
-use Rattle.ct_codes.specs.declared.claim.Side.TheVariants.{Lower, Upper}
 use Rattle.ct_rules.specs.declared.support.Support.{Support}
-use Rattle.ct_rules.specs.declared.rule.Rule.{Rule}
-use Rattle.ct_rules.specs.declared.rule.Rule.TheVariants.{L1, M1, U0, V0}
-use Rattle.ct_rules.specs.Rule.{has_weight, value_of}
 use Rattle.ct_rules.specs.Slot.{IsBetter, Slot, slot_of, claim_at}
 use Rattle.ct_rules.specs.Derivation.{LineValue, IsDerivation}
 use Rattle.ct_closure.specs.Number.{slot_number, bound_of, side_size}
-use Rattle.ct_rules.specs.Inside.Listing.{names_support}
+use Rattle.ct_rules.specs.Rule.{names_support}
 
 -- what a table keeps, as callers see it: bounds and reasons by the numbers of the slots, and lines
 pub record KeptValue : Type 0 where
@@ -39,18 +35,6 @@ with_line kept line = record {
 pub record IsGround (line : LineValue) : Type 0 where
   pub no_lines : line.from ≡ []
   pub no_support : names_support line.rule ≡ false
-
--- the rule that gives a bound of a slot whatever the supports
-abbrev pub ground_rule : Slot → Rule
-ground_rule (Lower, e) = if has_weight e then M1 else L1
-ground_rule (Upper, e) = if has_weight e then V0 else U0
-
--- the bound that it gives, and its line
-abbrev pub ground_value : Slot → Option ℕ
-ground_value s = value_of [] (ground_rule s) s.1 []
-
-abbrev pub ground_line : Slot → ℕ → LineValue
-ground_line s v = record { claim = claim_at s v; rule = ground_rule s; from = [] }
 
 -- two lines at different places bound one slot: the later does it better
 abbrev pub Rise : List LineValue → Type 0

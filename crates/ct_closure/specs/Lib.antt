@@ -1,6 +1,5 @@
 pub mod Number
 pub mod Instance
 pub mod Kept
-pub mod Worklist
-pub mod Closing
+pub mod Satisfied
 pub mod Inside

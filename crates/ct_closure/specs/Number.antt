@@ -7,10 +7,11 @@ use Rattle.ct_codes.specs.declared.claim.Side.TheVariants.{Lower, Upper}
 use Rattle.ct_codes.specs.Entry.{is_entry}
 use Rattle.ct_rules.specs.Slot.{Slot}
 
--- how many distances and how many weights, and no weight, there are numbers for
+-- how many distances there are numbers for
 abbrev pub distances : ℕ
 distances = MAX_N - 2
 
+-- how many weights there are numbers for, and one for no weight
 abbrev pub weights : ℕ
 weights = MAX_N + 2
 
@@ -18,14 +19,17 @@ weights = MAX_N + 2
 abbrev pub side_size : ℕ
 side_size = MAX_N * distances * weights
 
+-- the numbers of the sides
 abbrev pub side_number : Side → ℕ
 side_number Lower = 0
 side_number Upper = 1
 
+-- the numbers of the weights, no weight first
 abbrev pub weight_number : Option ℕ → ℕ
 weight_number None = 0
 weight_number (Some w) = w + 1
 
+-- the number of an entry among those of one side
 abbrev pub entry_number : Entry → ℕ
 entry_number e = ((e.n - 1) * distances + (e.d - 3)) * weights + weight_number e.w
 
@@ -33,12 +37,15 @@ entry_number e = ((e.n - 1) * distances + (e.d - 3)) * weights + weight_number e
 unfoldable pub slot_number : Slot → ℕ
 slot_number s = side_number s.0 * side_size + entry_number s.1
 
+-- the side that a number is of
 abbrev pub side_from : ℕ → Side
 side_from k = if k == 0 then Lower else Upper
 
+-- the weight that has a number
 abbrev pub weight_from : ℕ → Option ℕ
 weight_from k = if k == 0 then None else Some (k - 1)
 
+-- the entry that would have a number among those of one side
 abbrev pub entry_from : ℕ → Entry
 entry_from k = record { n = k / weights / distances + 1; d = k / weights % distances + 3; w = weight_from (k % weights) }
 

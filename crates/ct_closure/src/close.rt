@@ -3,7 +3,8 @@
 ghost use Rattle.std.specs.Prelude.{◌≡◌, ◌+◌, ◌<◌, ◌++◌, ◌^◌, List, true, false, OnOk, length};
 ghost use Rattle.ct_rules.specs.Closed.{IsClosed};
 ghost use Rattle.ct_rules.specs.Derivation.{LineValue};
-ghost use Rattle.ct_closure.specs.Closing.{IsPending, AreSatisfiedBut, AreSatisfiedWhereSame};
+ghost use Rattle.ct_closure.specs.Inside.Closing.{IsPending};
+ghost use Rattle.ct_closure.specs.Satisfied.{AreSatisfiedBut, AreSatisfiedWhereSame};
 ghost use Rattle.ct_closure.specs.Instance.{AreInstances};
 ghost use Rattle.ct_closure.specs.Kept.{IsKept, Grew};
 ghost use Rattle.ct_closure.specs.Number.{bound_of};

@@ -11,7 +11,7 @@ ghost use Rattle.ct_closure.specs.Number.{bound_of};
 ghost use Rattle.ct_closure.specs.Instance.{AreInstances, instance_at};
 ghost use Rattle.ct_closure.specs.declared.instance.Instance.{Instance};
 ghost use Rattle.ct_closure.specs.Kept.{IsKept, Grew, with_line, reason_of};
-ghost use Rattle.ct_closure.specs.Closing.{value_over, IsPending, IsPendingBut, IsSatisfiedAt, potential, line_by};
+ghost use Rattle.ct_closure.specs.Inside.Closing.{value_over, IsPending, IsPendingBut, IsSatisfiedAt, potential, line_by};
 
 use crate::instance::Instance;
 use crate::instances::Instances;

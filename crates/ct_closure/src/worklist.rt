@@ -1,7 +1,7 @@
 //! The instances that are still to be tried.
 
 ghost use Rattle.std.specs.Prelude.{◌≡◌, ◌+◌, ◌<◌, ◌≤◌, ℕ, true, false, OnOk, OnErr, IfOk, IfSome, IfNone, length, All, Contains, replicate, slice_set};
-ghost use Rattle.ct_closure.specs.Worklist.{IsMarked};
+ghost use Rattle.ct_closure.specs.Inside.Worklist.{IsMarked};
 
 use std::alloc::{AllocError, Global};
 use std::collections::VecDeque;
@@ -16,7 +16,7 @@ pub(crate) struct Worklist {
 }
 
 impl Model for Worklist {
-    ghost use Rattle.ct_closure.specs.Worklist.{WorkValue, IsSoundWork};
+    ghost use Rattle.ct_closure.specs.Inside.Worklist.{WorkValue, IsSoundWork};
 
     ghost Value = { WorkValue };
 

@@ -14,7 +14,8 @@ use Rattle.ct_rules.specs.declared.support.Support.{Support}
 use Rattle.ct_rules.specs.Rule.{cited, in_range, applies}
 use Rattle.ct_rules.specs.Slot.{Slot}
 use Rattle.ct_rules.specs.Closed.{IsSatisfied, IsClosed}
-use Rattle.ct_rules.specs.Inside.Listing.{names_support, plain_rules, side_by_side_rules, fixed_rules, supported_rules, rules_at}
+use Rattle.ct_rules.specs.Rule.{names_support}
+use Rattle.ct_rules.specs.Inside.Listing.{plain_rules, side_by_side_rules, fixed_rules, supported_rules, rules_at}
 use Rattle.ct_rules.proofs.Applied.{applies_from_premises}
 use Rattle.ct_rules.proofs.MoreSupports.{cited_there}
 

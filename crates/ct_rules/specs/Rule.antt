@@ -1,6 +1,6 @@
 -- The rules of the table: where each is defined, what it rests on, and the bound that it gives (MacWilliams and Sloane; Brouwer, Shearer,
 -- Sloane and Smith 1990).
-use Rattle.std.specs.Prelude.{ℕ, ◌+◌, ◌-◌, ◌*◌, ◌/◌, ◌%◌, ◌^◌, ◌==◌, ◌&&◌, nat_le, nat_lt, min, not, Bool, if◌then◌else◌, List, [], ◌∷◌, length, slice_get, is_some, Option, Some, None}
+use Rattle.std.specs.Prelude.{ℕ, ◌+◌, ◌-◌, ◌*◌, ◌/◌, ◌%◌, ◌^◌, ◌==◌, ◌&&◌, nat_le, nat_lt, min, not, Bool, true, false, if◌then◌else◌, List, [], ◌∷◌, length, slice_get, is_some, Option, Some, None}
 use Rattle.std.specs.Option.{unwrap_or}
 use Rattle.ct_words.specs.declared.limits.TheConstants.{MAX_N, MAX_BOUND}
 use Rattle.ct_counting.specs.Binomials.{choose}
@@ -19,6 +19,12 @@ abbrev pub rule_side : Rule → Side
 rule_side U0 = Upper
 rule_side V0 = Upper
 rule_side r = Lower
+
+-- whether a rule names a support
+abbrev pub names_support : Rule → Bool
+names_support (L10 place) = true
+names_support (M10 place) = true
+names_support r = false
 
 -- the support at the place that a rule names, where it names one that is there
 abbrev pub cited : List Support → Rule → Option Support

@@ -10,7 +10,7 @@ use Rattle.ct_codes.specs.declared.claim.Claim.{Claim}
 use Rattle.ct_codes.specs.Entry.{IsEntry, is_entry}
 use Rattle.ct_rules.specs.declared.support.Support.{Support}
 use Rattle.ct_rules.specs.Derivation.{LineValue, claims_at, Follows}
-use Rattle.ct_rules.specs.Inside.Listing.{names_support}
+use Rattle.ct_rules.specs.Rule.{names_support}
 use Rattle.ct_rules.specs.Rule.{value_of}
 use Rattle.ct_rules.specs.Slot.{Slot, slot_of, claim_at, IsBetter}
 use Rattle.ct_closure.specs.Kept.{KeptValue, IsKept, IsGround, reason_of}

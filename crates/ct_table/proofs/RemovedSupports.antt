@@ -9,7 +9,7 @@ use Rattle.ct_codes.specs.Entry.{is_entry}
 use Rattle.ct_rules.specs.declared.rule.Rule.{Rule}
 use Rattle.ct_rules.specs.declared.rule.Rule.TheVariants.{L10, M10}
 use Rattle.ct_rules.specs.declared.support.Support.{Support}
-use Rattle.ct_rules.specs.Inside.Listing.{names_support}
+use Rattle.ct_rules.specs.Rule.{names_support}
 use Rattle.ct_rules.specs.Rule.{rule_side, cited, in_range, premises_at, formula, within_limit, premises_of, value_of}
 use Rattle.ct_rules.specs.Slot.{Slot}
 use Rattle.ct_table.specs.Removal.{names_place, lowered_place, lowered}

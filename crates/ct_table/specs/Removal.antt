@@ -18,6 +18,7 @@ names_place place r = false
 abbrev pub lowered_place : ℕ → ℕ → ℕ
 lowered_place place p = if nat_lt place p then p - 1 else p
 
+-- a rule that names a support, over the supports that are left
 abbrev pub lowered : ℕ → Rule → Rule
 lowered place (L10 p) = L10 (lowered_place place p)
 lowered place (M10 p) = M10 (lowered_place place p)
@@ -36,6 +37,7 @@ RestsOnPlace lines place i = (chain : List ℕ) × IsChain lines place i chain
 abbrev pub claim_and_rule : LineValue → Claim × Rule
 claim_and_rule l = (l.claim, l.rule)
 
+-- and with its rule as it is over the supports that are left
 abbrev pub claim_and_lowered_rule : ℕ → LineValue → Claim × Rule
 claim_and_lowered_rule place l = (l.claim, lowered place l.rule)
 

@@ -2,7 +2,7 @@
 
 ghost use Rattle.std.specs.Prelude.{◌≡◌, ◌+◌, ◌<◌, ◌^◌, OnOk, OnErr, length};
 ghost use Rattle.ct_rules.specs.Closed.{IsClosed};
-ghost use Rattle.ct_closure.specs.Closing.{AreSatisfiedBut};
+ghost use Rattle.ct_closure.specs.Satisfied.{AreSatisfiedBut};
 ghost use Rattle.ct_closure.specs.Instance.{AreInstances};
 ghost use Rattle.ct_closure.specs.Kept.{IsKept, Grew};
 ghost use Rattle.ct_closure.specs.Number.{bound_of};

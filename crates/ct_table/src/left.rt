@@ -5,7 +5,7 @@ ghost use Rattle.ct_rules.specs.declared.support.Support.{Support};
 ghost use Rattle.ct_rules.specs.Closed.{IsClosed};
 ghost use Rattle.ct_rules.specs.Support.{AllStand};
 ghost use Rattle.ct_closure.specs.declared.instance.Instance.{Instance};
-ghost use Rattle.ct_closure.specs.Closing.{AreSatisfiedWhereSame};
+ghost use Rattle.ct_closure.specs.Satisfied.{AreSatisfiedWhereSame};
 ghost use Rattle.ct_closure.specs.Kept.{IsKept};
 ghost use Rattle.ct_closure.specs.Number.{bound_of};
 ghost use Rattle.ct_table.specs.Removal.{names_place, lowered_place, lowered, KeepsReasons};

@@ -1,16 +1,10 @@
 -- The rules that can be defined at an entry, one after the other.
-use Rattle.std.specs.Prelude.{ℕ, ◌-◌, Bool, true, false, if◌then◌else◌, List, [], ◌∷◌, ◌++◌, map}
+use Rattle.std.specs.Prelude.{ℕ, ◌-◌, if◌then◌else◌, List, [], ◌∷◌, ◌++◌, map}
 use Rattle.std.specs.List.{flat_map, range_with_len}
 use Rattle.ct_codes.specs.declared.entry.Entry.{Entry}
 use Rattle.ct_rules.specs.declared.rule.Rule.{Rule}
 use Rattle.ct_rules.specs.declared.rule.Rule.TheVariants.{L1, L2, L3, L4, L5, L6, L7, L8, L10, L11, M1, M10, U0, V0}
 use Rattle.ct_rules.specs.Rule.{has_weight}
-
--- whether a rule names a support
-abbrev pub names_support : Rule → Bool
-names_support (L10 place) = true
-names_support (M10 place) = true
-names_support r = false
 
 -- the rules of A(n,d) that name nothing
 abbrev pub plain_rules : List Rule

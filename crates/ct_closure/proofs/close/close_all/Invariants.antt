@@ -1,5 +1,5 @@
 use Rattle.std.proofs.Common.{◌≡◌, ℕ, ◌<◌, length}
-use Rattle.ct_closure.specs.Worklist.{IsMarked}
+use Rattle.ct_closure.specs.Inside.Worklist.{IsMarked}
 use Rattle.ct_closure.proofs.close.close_all.Given as goal
 
 -- those of smaller numbers are marked

@@ -1,9 +1,9 @@
 use Rattle.std.proofs.Common.{List}
 use Rattle.ct_rules.specs.declared.support.Support.{Support}
 use Rattle.ct_closure.specs.declared.instance.Instance.{Instance}
-use Rattle.ct_closure.specs.Closing.{IsPending, potential}
+use Rattle.ct_closure.specs.Inside.Closing.{IsPending, potential}
 use Rattle.ct_closure.specs.Kept.{KeptValue, IsKept, Grew}
-use Rattle.ct_closure.specs.Worklist.{WorkValue}
+use Rattle.ct_closure.specs.Inside.Worklist.{WorkValue}
 use Rattle.ct_closure.proofs.closing.close.Given as goal
 
 -- what holds each time that an instance is taken

@@ -1,5 +1,5 @@
 use Rattle.std.proofs.Common.{◌≡◌, ◌≤◌, sym, ◌∙◌, subst}
-use Rattle.ct_closure.specs.Closing.{IsPending, line_by, potential}
+use Rattle.ct_closure.specs.Inside.Closing.{IsPending, line_by, potential}
 use Rattle.ct_closure.specs.Kept.{KeptValue, IsKept, Grew, with_line}
 use Rattle.ct_closure.proofs.TurnLemmas.{pending-no_instance, pending-no_value, pending-no_better, IsImprovement, improvement, IsMarkedFor, kept-improved, pending-improved, turns-improved}
 use Rattle.ct_closure.proofs.closing.try_instance.Goals as goal

@@ -1,6 +1,6 @@
 use Rattle.std.proofs.Common.{◌≡◌, ℕ, ◌+◌, ◌<◌, ◌≤◌, length}
 use Rattle.std.specs.Prelude.{slice_index}
-use Rattle.ct_closure.specs.Worklist.{IsMarked}
+use Rattle.ct_closure.specs.Inside.Worklist.{IsMarked}
 use Rattle.ct_closure.proofs.worklist.Worklist.mark_all.Given as goal
 
 abbrev pub invariant-loop-number : goal.invariant-loop-number

@@ -12,7 +12,7 @@ use Rattle.ct_closure.specs.declared.instance.Instance.{Instance}
 use Rattle.ct_closure.specs.Instance.{instance_at}
 use Rattle.ct_closure.specs.Kept.{KeptValue, reason_of}
 use Rattle.ct_closure.specs.Number.{bound_of, side_size}
-use Rattle.ct_closure.specs.Worklist.{WorkValue, IsMarked}
+use Rattle.ct_closure.specs.Inside.Worklist.{WorkValue, IsMarked}
 
 -- the bound that a rule gives at an entry over the bounds that stand
 abbrev pub value_over : List Support → (Slot → ℕ) → Rule → Entry → Option ℕ
@@ -51,13 +51,3 @@ potential bounds users work = slack bounds * (sum_by length users + 1) + length 
 abbrev pub IsSatisfiedAt : ℕ → List Instance → List Support → (Slot → ℕ) → Type 0
 IsSatisfiedAt number fixed supports bounds = (i : Instance) → instance_at fixed supports number ≡ Some i →
     IsSatisfied supports bounds i.rule i.entry
-
--- each instance but that of one number gives nothing better than what stands
-abbrev pub AreSatisfiedBut : ℕ → List Instance → List Support → (Slot → ℕ) → Type 0
-AreSatisfiedBut number fixed supports bounds = (k : ℕ) (i : Instance) → k ≢ number → instance_at fixed supports k ≡ Some i →
-    IsSatisfied supports bounds i.rule i.entry
-
--- each instance of a slot that has the same bound as before gives nothing better than it
-abbrev pub AreSatisfiedWhereSame : List Instance → List Support → (Slot → ℕ) → (Slot → ℕ) → Type 0
-AreSatisfiedWhereSame fixed supports before bounds = (k : ℕ) (i : Instance) → instance_at fixed supports k ≡ Some i →
-    before (rule_side i.rule, i.entry) ≡ bounds (rule_side i.rule, i.entry) → IsSatisfied supports bounds i.rule i.entry
