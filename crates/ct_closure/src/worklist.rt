@@ -1,6 +1,6 @@
 //! The instances that are still to be tried.
 
-ghost use Rattle.std.specs.Prelude.{◌≡◌, ◌+◌, ◌<◌, ◌≤◌, ℕ, true, false, OnOk, OnErr, IfOk, IfSome, IfNone, length, All, Contains, replicate, slice_set};
+ghost use Rattle.std.specs.Prelude.{◌≡◌, ◌+◌, ◌<◌, ◌≤◌, ℕ, true, false, OnOk, OnErr, IfOk, IfSome, IfNone, length, All, Contains, replicate, slice_set, slice_index_or, if◌then◌else◌, ◌∷◌, ◌++◌, []};
 ghost use Rattle.ct_closure.specs.Inside.Worklist.{IsMarked};
 
 use std::alloc::{AllocError, Global};
@@ -46,6 +46,8 @@ impl Worklist {
         requires { number < length self.now.marks }
         ensures marked { OnOk result (self.new.marks ≡ slice_set self.old.marks number true) }
         ensures unchanged { OnErr result (self.new ≡ self.old) }
+        ensures last { OnOk result (self.new.queue
+            ≡ (if slice_index_or self.old.marks number false then self.old.queue else self.old.queue ++ number ∷ [])) }
         ensures one_more { length self.new.queue ≤ length self.old.queue + 1 }
     {
         if self.marks[number] {
@@ -76,6 +78,7 @@ impl Worklist {
         ensures unchanged { IfNone result (self.new ≡ self.old) }
         ensures unmarked { IfSome result (λ k. self.new.marks ≡ slice_set self.old.marks k false) }
         ensures number { IfSome result (λ k. k < length self.old.marks) }
+        ensures first { IfSome result (λ k. self.old.queue ≡ k ∷ self.new.queue) }
         ensures one_less { IfSome result (λ _. length self.new.queue + 1 ≡ length self.old.queue) }
     {
         let number = self.queue.pop_front()?;
