@@ -1,4 +1,4 @@
-//! Numbers of slots, and the instances of an entry, by hand.
+//! Numbers of slots, the instances of an entry, and closed tables, by hand.
 
 ghost use Rattle.std.specs.Prelude.{[], IfOk};
 ghost use Rattle.ct_rules.specs.Closed.{IsClosed};
@@ -139,9 +139,9 @@ fn lower(kept: &Kept, n: u32, d: u32) -> Option<u32> {
     }
 }
 
-// Over no supports, by hand. One word is at A(1,3), and two where d ≤ n. By u followed by u + v, with all u of even weight,
-// A(6,4) has 2^2, A(8,4) has 2^3 · 2, A(12,4) has 2^5 · 2^2 and A(16,4) has 2^7 · 2^4 words; with u of half the distance, A(16,8)
-// has 2^4 · 2 and A(24,8) has 2^7 · 2^2. Less a place, they give A(5,3), A(7,3) and A(15,3).
+// Over no supports, by hand. One word is at A(1,3), and two where d ≤ n. By u followed by u + v, with all u of even weight, A(6,4)
+// has 2^2, A(8,4) has 2^3 · 2, A(12,4) has 2^5 · 2^2 and A(16,4) has 2^7 · 2^4 words; with u of half the distance, A(16,8) has
+// 2^4 · 2 and A(24,8) has 2^7 · 2^2. Less a place, they give A(5,3), A(7,3) and A(15,3).
 #[test]
 fn closes_over_no_supports(rt: HostRuntime) -> Result<(), Fail> {
     let alloc = rt.alloc();
@@ -166,8 +166,8 @@ fn closes_over_no_supports(rt: HostRuntime) -> Result<(), Fail> {
     Ok(())
 }
 
-// A code of 4096 words at A(24,8), as the Golay code, is one at A(24,7) and, less a place, gives as many at A(23,7). Its words that
-// begin with the same digit give half as many at A(23,8) and A(22,7).
+// A code of 4096 words at A(24,8), as the Golay code, is one at A(24,7), and less a place gives as many at A(23,7). Its words
+// that begin with the same digit give half as many at A(23,8) and A(22,7).
 #[test]
 fn closes_over_a_support(rt: HostRuntime) -> Result<(), Fail> {
     let alloc = rt.alloc();
