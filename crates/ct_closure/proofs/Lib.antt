@@ -13,3 +13,4 @@ pub mod KeptLemmas
 pub mod SlackLemmas
 pub mod TurnLemmas
 pub mod BeginLemmas
+pub mod SupportLemmas

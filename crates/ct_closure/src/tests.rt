@@ -1,7 +1,15 @@
-//! Numbers of slots, and the instances of an entry, by hand.
+//! Numbers of slots, the instances of an entry, and closed tables, by hand.
+
+ghost use Rattle.std.specs.Prelude.{[], IfOk};
+ghost use Rattle.ct_rules.specs.Closed.{IsClosed};
+ghost use Rattle.ct_closure.specs.Instance.{AreInstances};
+ghost use Rattle.ct_closure.specs.Kept.{IsKept};
+ghost use Rattle.ct_closure.specs.Number.{bound_of};
 
 use super::*;
 use ct_codes::{Entry, Side};
+use ct_rules::Support;
+use std::alloc::{AllocError, Global};
 use std::test::Fail;
 
 // The first and the last entries of the table, by hand: a row of 30 weights for each of 26 distances at each of 28 lengths.
@@ -88,5 +96,99 @@ fn users_of_a_slot(rt: HostRuntime) -> Result<(), Fail> {
     assert_eq!(rt; lower, 7 + 2 * 23 * 22);
     let upper = instances.users(Side::Upper, entry).len();
     assert_eq!(rt; upper, 0);
+    Ok(())
+}
+
+/// The bounds closed over no supports.
+fn closed(alloc: Global, instances: &Instances) -> Result<Kept, AllocError>
+    requires { AreInstances instances.now }
+    ensures kept { IfOk result (λ kept. IsKept [] kept) }
+    ensures closed { IfOk result (λ kept. IsClosed [] (bound_of kept.bounds)) }
+{
+    let mut kept = Kept::start(alloc)?;
+    close_all(alloc, instances, &[], &mut kept, &mut 0)?;
+    Ok(kept)
+}
+
+/// Closes them over one support, and then once more, and says whether it gave anything.
+fn close_over(
+    alloc: Global,
+    instances: &Instances,
+    kept: &mut Kept,
+    support: Support,
+) -> Result<bool, AllocError>
+    requires instances { AreInstances instances.now }
+    requires kept { IsKept [] kept.now }
+    requires closed { IsClosed [] (bound_of kept.now.bounds) }
+{
+    let supports = [support];
+    let improves = support_improves(instances, &supports, kept, 0);
+    close_support(alloc, instances, &supports, kept, 0, &mut 0)?;
+    let start = Kept::start(alloc)?;
+    close_changed(alloc, instances, &supports, &start, kept, &mut 0)?;
+    Ok(improves)
+}
+
+/// The lower bound that stands at A(n,d).
+fn lower(kept: &Kept, n: u32, d: u32) -> Option<u32> {
+    let entry = Entry { n, d, w: None };
+    if entry.in_table() {
+        Some(kept.bound(Side::Lower, entry))
+    } else {
+        None
+    }
+}
+
+// Over no supports, by hand. One word is at A(1,3), and two where d ≤ n. By u followed by u + v, with all u of even weight, A(6,4)
+// has 2^2, A(8,4) has 2^3 · 2, A(12,4) has 2^5 · 2^2 and A(16,4) has 2^7 · 2^4 words; with u of half the distance, A(16,8) has
+// 2^4 · 2 and A(24,8) has 2^7 · 2^2. Less a place, they give A(5,3), A(7,3) and A(15,3).
+#[test]
+fn closes_over_no_supports(rt: HostRuntime) -> Result<(), Fail> {
+    let alloc = rt.alloc();
+    let instances = Instances::new(alloc)?;
+    let kept = closed(alloc, &instances)?;
+    for (n, d, want) in [
+        (1, 3, 1),
+        (3, 3, 2),
+        (28, 28, 2),
+        (5, 3, 4),
+        (6, 4, 4),
+        (7, 3, 16),
+        (8, 4, 16),
+        (12, 4, 128),
+        (15, 3, 2048),
+        (16, 4, 2048),
+        (16, 8, 32),
+        (24, 8, 512),
+    ] {
+        assert_eq!(rt; lower(&kept, n, d), Some(want), "{n} {d}");
+    }
+    Ok(())
+}
+
+// A code of 4096 words at A(24,8), as the Golay code, is one at A(24,7), and less a place gives as many at A(23,7). Its words
+// that begin with the same digit give half as many at A(23,8) and A(22,7).
+#[test]
+fn closes_over_a_support(rt: HostRuntime) -> Result<(), Fail> {
+    let alloc = rt.alloc();
+    let instances = Instances::new(alloc)?;
+    let mut kept = closed(alloc, &instances)?;
+    let entry = Entry {
+        n: 24,
+        d: 8,
+        w: None,
+    };
+    let support = Support::Size { entry, size: 4096 };
+    assert!(rt; close_over(alloc, &instances, &mut kept, support)?);
+    for (n, d, want) in [
+        (24, 8, 4096),
+        (24, 7, 4096),
+        (23, 7, 4096),
+        (23, 8, 2048),
+        (22, 7, 2048),
+        (12, 4, 128),
+    ] {
+        assert_eq!(rt; lower(&kept, n, d), Some(want), "{n} {d}");
+    }
     Ok(())
 }
