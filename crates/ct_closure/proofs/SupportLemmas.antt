@@ -10,12 +10,12 @@ use Rattle.ct_rules.specs.Closed.{IsSatisfied, IsClosed}
 use Rattle.ct_rules.specs.declared.rule.Rule.{Rule}
 use Rattle.ct_rules.specs.declared.support.Support.{Support}
 use Rattle.ct_rules.specs.declared.support.Support.TheVariants.{Nothing, Size}
-use Rattle.ct_rules.specs.Inside.Listing.{names_support}
+use Rattle.ct_rules.specs.Rule.{names_support}
 use Rattle.ct_rules.specs.Rule.{rule_side, cited, in_range, premises_at, formula, within_limit}
 use Rattle.ct_rules.specs.Slot.{Slot, IsNoBetter}
 use Rattle.ct_rules.proofs.MoreSupports.{derivation_over_more}
 use Rattle.ct_rules.proofs.Places.{slice_get-append_left}
-use Rattle.ct_closure.specs.Closing.{AreSatisfiedBut}
+use Rattle.ct_closure.specs.Satisfied.{AreSatisfiedBut}
 use Rattle.ct_closure.specs.Instance.{AreUnsupported, size_rule, instance_of, instance_at}
 use Rattle.ct_closure.specs.Kept.{KeptValue, IsKept}
 use Rattle.ct_closure.specs.declared.instance.Instance.{Instance}
