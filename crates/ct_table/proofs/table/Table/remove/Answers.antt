@@ -14,7 +14,8 @@ close_changed-requires-clause-few c =
 
 pub close_changed-requires-clause-stand : goal.close_changed-requires-clause-stand
 close_changed-requires-clause-stand c =
-    removed_stand (record { supports = c.self.inside.supports.items; kept = c.self.inside.kept }) c.args.place c.deref-2.result.now c.self.invariant.0
+    removed_stand (record { supports = c.self.inside.supports.items; kept = c.self.inside.kept }) c.args.place c.deref-2.result.now
+    c.self.invariant.0
     (c.deref-2.ensures.value ∙ c.in_ok-supports.ensures ∙ ap (λ (s : List Support). remove s c.args.place) c.deref.ensures.value)
 
 removal : (c : goal.After-drop-self-inside-4) → IsRemoval (record { supports = c.self.inside.supports.items; kept = c.self.inside.kept }) c.args.place
