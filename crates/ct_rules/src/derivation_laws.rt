@@ -7,13 +7,13 @@ ghost use Rattle.ct_codes.specs.declared.entry.Entry.{Entry};
 ghost use Rattle.ct_codes.specs.Claim.{IsTrueClaim};
 ghost use Rattle.ct_codes.specs.Entry.{IsEntry, unrestricted, constant_weight};
 ghost use Rattle.ct_rules.specs.declared.rule.Rule.{Rule};
-ghost use Rattle.ct_rules.specs.declared.rule.Rule.TheVariants.{L1, L6, L8, L10, L11};
+ghost use Rattle.ct_rules.specs.declared.rule.Rule.TheVariants.{L1, L6, L8, L10, L11, U2, U4, U6};
 ghost use Rattle.ct_rules.specs.declared.support.Support.{Support};
 ghost use Rattle.ct_rules.specs.declared.support.Support.TheVariants.{Size};
 ghost use Rattle.ct_rules.specs.Closed.{AreTrue, IsClosed};
 ghost use Rattle.ct_rules.specs.Derivation.{LineValue, Follows, IsDerivation, IsDerived, IsBest};
 ghost use Rattle.ct_rules.specs.Rule.{rule_side, premises_of, value_of};
-ghost use Rattle.ct_rules.specs.Slot.{Slot, slot_of, claim_at, lower_at, IsNoBetter};
+ghost use Rattle.ct_rules.specs.Slot.{Slot, slot_of, claim_at, lower_at, upper_at, IsNoBetter};
 ghost use Rattle.ct_rules.specs.Support.{AllStand};
 
 /// Where each support stands, what derivations claim is true: the claim with which one ends, and that of each line.
@@ -94,13 +94,17 @@ pub fn best_values_are_true()
         IsBest supports (Lower, e) u → IsBest supports (Upper, e) v → u ≤ v }
 {}
 
-/// Derivations of A(6,4) ≥ 4 and A(5,3) ≥ 4 with no support, and of the first with a support that gives it; and lines
-/// that follow from no lines, or not from these.
+/// Derivations of A(6,4) ≥ 4, A(5,3) ≥ 4 and A(8,3) ≤ 32 with no support, and of the first with a support that gives it;
+/// and lines that follow from no lines, or not from these.
 pub fn known_derivations()
     ensures three_lines { IsDerivation [] (
         record { claim = claim_at (lower_at 3 4) 1; rule = L1; from = [] } ∷
         record { claim = claim_at (lower_at 6 4) 4; rule = L8; from = 0 ∷ [] } ∷
         record { claim = claim_at (lower_at 5 3) 4; rule = L6; from = 1 ∷ [] } ∷ []) }
+    ensures from_above { IsDerivation [] (
+        record { claim = claim_at (upper_at 8 4) 16; rule = U2; from = [] } ∷
+        record { claim = claim_at (upper_at 7 3) 16; rule = U4; from = 0 ∷ [] } ∷
+        record { claim = claim_at (upper_at 8 3) 32; rule = U6; from = 1 ∷ [] } ∷ []) }
     ensures place_named_twice { IsDerivation [] (
         record { claim = claim_at (lower_at 3 3) 1; rule = L1; from = [] } ∷
         record { claim = claim_at (lower_at 6 6) 1; rule = L11 3 3; from = 0 ∷ 0 ∷ [] } ∷ []) }
