@@ -86,12 +86,16 @@ pub fn each_slot_has_one_best_value()
         IsBest supports s u → IsBest supports s v → u ≡ v }
 {}
 
-/// Where each support stands, best values are true bounds, so the lower one of an entry is at most the upper one.
+/// Where each support stands, best values are true bounds, so the lower one of an entry is at most the upper one; and
+/// where a lower and an upper bound of one value are derived, both are best: the value is A(n,d) or A(n,d,w).
 pub fn best_values_are_true()
     ensures true_bound { (supports : List Support) (s : Slot) (v : ℕ) → AllStand supports →
         IsBest supports s v → IsTrueClaim (claim_at s v) }
     ensures in_order { (supports : List Support) (e : Entry) (u v : ℕ) → AllStand supports →
         IsBest supports (Lower, e) u → IsBest supports (Upper, e) v → u ≤ v }
+    ensures equal { (supports : List Support) (e : Entry) (v : ℕ) → AllStand supports →
+        IsDerived supports (claim_at (Lower, e) v) → IsDerived supports (claim_at (Upper, e) v) →
+        IsBest supports (Lower, e) v × IsBest supports (Upper, e) v }
 {}
 
 /// Derivations of A(6,4) ≥ 4, A(5,3) ≥ 4 and A(8,3) ≤ 32 with no support, and of the first with a support that gives it;
