@@ -10,7 +10,6 @@ use Rattle.ct_rules.specs.declared.support.Support.{Support}
 use Rattle.ct_rules.specs.Closed.{IsSatisfied, IsClosed}
 use Rattle.ct_rules.specs.Rule.{rule_side, cited, premises_at, premises_of, applies}
 use Rattle.ct_rules.specs.Slot.{Slot, IsBetter, IsNoBetter}
-use Rattle.ct_rules.proofs.MoreSupports.{applies_from_premises}
 use Rattle.ct_rules.proofs.RuleLaws.{rule_entry}
 use Rattle.ct_closure.specs.declared.instance.Instance.{Instance}
 use Rattle.ct_closure.specs.Inside.Closing.{IsPending, IsSatisfiedAt, value_over}
@@ -20,7 +19,7 @@ use Rattle.ct_closure.specs.Number.{bound_of}
 use Rattle.ct_closure.specs.Inside.Worklist.{WorkValue, IsMarked}
 use Rattle.ct_closure.proofs.GetLemmas.{slice_get-set_same, slice_get-set_other}
 use Rattle.ct_closure.proofs.KeptLemmas.{better-trans_no_better, no_better_than_itself}
-use Rattle.ct_closure.proofs.PendingLemmas.{numbered}
+use Rattle.ct_closure.proofs.PendingLemmas.{AreIdleSatisfied, IsClosed-from_instances}
 use Rattle.ct_closure.proofs.PremiseLemmas.{value_over_is}
 use Rattle.ct_closure.proofs.SatisfiedLemmas.{satisfied_by_value, satisfied_by_instance}
 
@@ -59,29 +58,25 @@ IsPending-one fixed supports bounds number work count marked others = record {
 
 -- where each but that of one number gives nothing better, and that one does not either, no rule gives anything better
 pub IsClosed-from_others : (fixed : List Instance) (supports : List Support) (bounds : Slot → ℕ) (number : ℕ)
-    → AreAllFixed fixed → AreSatisfiedBut number fixed supports bounds → IsSatisfiedAt number fixed supports bounds
-    → IsClosed supports bounds
-IsClosed-from_others fixed supports bounds number all others own r e slots v premises value =
-    let found = numbered fixed supports r e all (applies_from_premises supports r e slots premises) in
-    satisfied found.0 found.1 (cases_eq found.0 number) slots v premises value
+    → AreAllFixed fixed → AreIdleSatisfied supports bounds → AreSatisfiedBut number fixed supports bounds
+    → IsSatisfiedAt number fixed supports bounds → IsClosed supports bounds
+IsClosed-from_others fixed supports bounds number all idle others own =
+    IsClosed-from_instances fixed supports bounds all idle (λ k i at. satisfied k i at (cases_eq k number))
   where
-    i : Instance
-    i = record { rule = r; entry = e }
-
-    satisfied : (k : ℕ) → instance_at fixed supports k ≡ Some i → ((k ≡ number) ⊎ (k ≡ number → ⊥))
-        → IsSatisfied supports bounds r e
-    satisfied k at (inl same) = own i (ap (instance_at fixed supports) (sym same) ∙ at)
-    satisfied k at (inr other) = others k i other at
+    satisfied : (k : ℕ) (i : Instance) → instance_at fixed supports k ≡ Some i → ((k ≡ number) ⊎ (k ≡ number → ⊥))
+        → IsSatisfied supports bounds i.rule i.entry
+    satisfied k i at (inl same) = own i (ap (instance_at fixed supports) (sym same) ∙ at)
+    satisfied k i at (inr other) = others k i other at
 
 -- so it is known whether one does, once it is known of the instance of that number
 pub closed_by_others : (b : Bool) (number : ℕ) (fixed : List Instance) (supports : List Support) (bounds : Slot → ℕ)
-    → AreAllFixed fixed → AreSatisfiedBut number fixed supports bounds
+    → AreAllFixed fixed → AreIdleSatisfied supports bounds → AreSatisfiedBut number fixed supports bounds
     → MatchBool b (¬ (IsSatisfiedAt number fixed supports bounds)) (IsSatisfiedAt number fixed supports bounds)
     → (b ≡ false → IsClosed supports bounds) × (b ≡ true → ¬ (IsClosed supports bounds))
-closed_by_others true number fixed supports bounds all others unsatisfied =
+closed_by_others true number fixed supports bounds all idle others unsatisfied =
     (λ no. absurd (false≢true (sym no)), λ yes closed. unsatisfied (λ i at. closed i.rule i.entry))
-closed_by_others false number fixed supports bounds all others satisfied =
-    (λ no. IsClosed-from_others fixed supports bounds number all others satisfied, λ yes. absurd (false≢true yes))
+closed_by_others false number fixed supports bounds all idle others satisfied =
+    (λ no. IsClosed-from_others fixed supports bounds number all idle others satisfied, λ yes. absurd (false≢true yes))
 
 -- an instance that gives a better bound than stands
 pub unsatisfied_by_better : (supports : List Support) (f : Slot → ℕ) (r : Rule) (e : Entry) (v : ℕ)

@@ -11,8 +11,8 @@ use Rattle.ct_rules.specs.Derivation.{LineValue, Follows}
 use Rattle.ct_rules.specs.Rule.{names_support}
 use Rattle.ct_rules.specs.Rule.{rule_side, in_range, premises_at, formula, premises_of, value_of}
 use Rattle.ct_rules.specs.Slot.{Slot}
-use Rattle.ct_closure.specs.Kept.{IsGround}
-use Rattle.ct_closure.specs.Inside.Ground.{ground_rule, ground_value, ground_line}
+use Rattle.ct_closure.specs.Kept.{ground_rule, IsGround}
+use Rattle.ct_closure.specs.Inside.Ground.{ground_value, ground_line}
 
 -- the rule of a slot gives a bound of its side whatever the supports, and rests on nothing
 record IsGroundRule (supports : List Support) (s : Slot) : Type 0 where
@@ -79,4 +79,4 @@ Follows-ground supports before s v entry given =
 pub IsGround-ground_line : (s : Slot) (v : ℕ) → IsGround (ground_line s v)
 IsGround-ground_line s v =
     let rule = is_ground_rule [] s.0 s.1.n s.1.d s.1.w in
-    record { no_lines = refl; no_support = rule.no_support }
+    record { rule = refl; no_lines = refl; no_support = rule.no_support }

@@ -10,6 +10,7 @@ pub mod PendingLemmas
 pub mod ListingLemmas
 pub mod UserLemmas
 pub mod KeptLemmas
+pub mod IdleLemmas
 pub mod SlackLemmas
 pub mod TurnLemmas
 pub mod BeginLemmas

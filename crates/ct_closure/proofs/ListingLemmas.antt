@@ -1,11 +1,10 @@
 -- The list of the instances that name no support, as it grows.
-use Rattle.std.proofs.Common.{◌≡◌, ℕ, zero, suc, ◌+◌, ◌-◌, ◌<◌, ◌≤◌, false, true, if◌then◌else◌, List, [], ◌∷◌, ◌++◌, map, flat_map, All, Contains, Bool, ap, subst, sym, ◌∙◌, append-nil, append_assoc, arith, refl, Option, Some, None}
+use Rattle.std.proofs.Common.{◌≡◌, ℕ, zero, suc, ◌+◌, ◌-◌, ◌<◌, ◌≤◌, false, true, if◌then◌else◌, List, [], ◌∷◌, ◌++◌, map, flat_map, All, Contains, Bool, not, ap, subst, sym, ◌∙◌, append-nil, append_assoc, arith, refl, Option, Some, None}
 use Rattle.std.specs.List.{range_with_len}
-use Rattle.std.proofs.lemmas.Bool.{and_parts}
-use Rattle.std.proofs.lemmas.List.{map-append}
-use Rattle.std.proofs.lemmas.List.Elements.{All-append, All-from_recursion, All-map, All-nil}
+use Rattle.std.proofs.lemmas.Bool.{and_from, and_parts, not_from_false}
+use Rattle.std.proofs.lemmas.Grind.{flat_map-append}
+use Rattle.std.proofs.lemmas.List.Elements.{All-append, All-cons, All-from_recursion, All-head, All-map, All-nil, All-tail}
 use Rattle.std.proofs.lemmas.List.FromFn.{map-range_with_len_more}
-use Rattle.ct_counting.proofs.Words.{Contains-map}
 use Rattle.ct_codes.specs.declared.claim.Side.TheVariants.{Lower}
 use Rattle.ct_codes.specs.declared.entry.Entry.{Entry}
 use Rattle.ct_codes.specs.Entry.{is_entry}
@@ -13,13 +12,13 @@ use Rattle.ct_rules.specs.declared.rule.Rule.{Rule}
 use Rattle.ct_rules.specs.declared.rule.Rule.TheVariants.{L11}
 use Rattle.ct_rules.specs.Rule.{names_support}
 use Rattle.ct_rules.specs.Inside.Listing.{plain_rules, weight_rules, side_by_side_rules, fixed_rules}
-use Rattle.ct_rules.specs.Rule.{has_weight, cited, in_range}
+use Rattle.ct_rules.specs.Rule.{has_weight, cited, in_range, applies}
 use Rattle.ct_rules.specs.Slot.{Slot}
 use Rattle.ct_rules.proofs.RuleLists.{Contains-range_with_len, Contains-flat_map, fixed_rules-complete}
 use Rattle.ct_closure.specs.declared.instance.Instance.{Instance}
-use Rattle.ct_closure.specs.Instance.{AreAllFixed, AreUnsupported}
+use Rattle.ct_closure.specs.Instance.{is_idle, AreAllFixed, AreUnsupported}
 use Rattle.ct_closure.specs.Number.{side_size, slot_number, slot_at}
-use Rattle.ct_closure.specs.Inside.Listing.{instances_of, instances_there, instances_below}
+use Rattle.ct_closure.specs.Inside.Listing.{is_useful, instance_if_useful, useful_instances, instances_of, instances_there, instances_below}
 use Rattle.ct_closure.proofs.NumberLemmas.{lower_number-bound, slot_at-slot_number}
 
 -- a rule at an entry
@@ -46,35 +45,41 @@ flat_map-range_with_len_more f a (suc n) j h =
     ap (λ m. flat_map f (range_with_len a m)) more ∙ ap (λ z. f a ++ z) rest
     ∙ sym (append_assoc (f a) (flat_map f (range_with_len (a + 1) n)) (f j))
 
+-- one more rule
+useful_instances-more : (e : Entry) (rules more : List Rule) (r : Rule) → more ≡ rules ++ r ∷ []
+    → useful_instances e rules ++ instance_if_useful e r ≡ useful_instances e more
+useful_instances-more e rules more r is =
+    ap (λ z. useful_instances e rules ++ z) (sym (append-nil (instance_if_useful e r)))
+    ∙ sym (flat_map-append (instance_if_useful e) rules (r ∷ [])) ∙ ap (useful_instances e) (sym is)
+
 -- one more distance
 pub row-more : (e : Entry) (n d : ℕ) (start list : List Instance) → 3 ≤ d
-    → list ≡ start ++ map (instance_with e) (side_by_side_row n (d - 3))
-    → list ++ instance_with e (L11 n d) ∷ [] ≡ start ++ map (instance_with e) (side_by_side_row n (d + 1 - 3))
+    → list ≡ start ++ useful_instances e (side_by_side_row n (d - 3))
+    → list ++ instance_if_useful e (L11 n d) ≡ start ++ useful_instances e (side_by_side_row n (d + 1 - 3))
 row-more e n d start list h is =
     let more : d + 1 - 3 ≡ d - 3 + 1 = omega arith in
-    let row = map-range_with_len_more (λ c. L11 n c) 3 (d - 3) d (omega arith) in
-    let all = map-append (instance_with e) (side_by_side_row n (d - 3)) (L11 n d ∷ []) in
-    ap (λ z. z ++ instance_with e (L11 n d) ∷ []) is
-    ∙ append_assoc start (map (instance_with e) (side_by_side_row n (d - 3))) (instance_with e (L11 n d) ∷ [])
+    let row = ap (side_by_side_row n) more ∙ map-range_with_len_more (λ c. L11 n c) 3 (d - 3) d (omega arith) in
+    ap (λ z. z ++ instance_if_useful e (L11 n d)) is
+    ∙ append_assoc start (useful_instances e (side_by_side_row n (d - 3))) (instance_if_useful e (L11 n d))
     ∙ ap (λ z. start ++ z)
-    (sym all ∙ ap (map (instance_with e)) (sym row)
-    ∙ ap (λ k. map (instance_with e) (side_by_side_row n k)) (sym more))
+    (useful_instances-more e (side_by_side_row n (d - 3)) (side_by_side_row n (d + 1 - 3)) (L11 n d) row)
 
 -- one more length
 pub rows-more : (e : Entry) (n : ℕ) (start list : List Instance) → 1 ≤ n
-    → list ≡ start ++ map (instance_with e) (side_by_side_rows e (n - 1))
-    → list ++ map (instance_with e) (side_by_side_row n (e.d - 5))
-    ≡ start ++ map (instance_with e) (side_by_side_rows e (n + 1 - 1))
+    → list ≡ start ++ useful_instances e (side_by_side_rows e (n - 1))
+    → list ++ useful_instances e (side_by_side_row n (e.d - 5))
+    ≡ start ++ useful_instances e (side_by_side_rows e (n + 1 - 1))
 rows-more e n start list h is =
     let more : n + 1 - 1 ≡ n - 1 + 1 = omega arith in
     let rows = flat_map-range_with_len_more (λ m. side_by_side_row m (e.d - 5)) 1 (n - 1) n (omega arith) in
-    let all = map-append (instance_with e) (side_by_side_rows e (n - 1)) (side_by_side_row n (e.d - 5)) in
-    ap (λ z. z ++ map (instance_with e) (side_by_side_row n (e.d - 5))) is
-    ∙ append_assoc start (map (instance_with e) (side_by_side_rows e (n - 1)))
-    (map (instance_with e) (side_by_side_row n (e.d - 5)))
+    let all =
+    flat_map-append (instance_if_useful e) (side_by_side_rows e (n - 1)) (side_by_side_row n (e.d - 5)) in
+    ap (λ z. z ++ useful_instances e (side_by_side_row n (e.d - 5))) is
+    ∙ append_assoc start (useful_instances e (side_by_side_rows e (n - 1)))
+    (useful_instances e (side_by_side_row n (e.d - 5)))
     ∙ ap (λ z. start ++ z)
-    (sym all ∙ ap (map (instance_with e)) (sym rows)
-    ∙ ap (λ k. map (instance_with e) (side_by_side_rows e k)) (sym more))
+    (sym all ∙ ap (useful_instances e) (sym rows)
+    ∙ ap (λ k. useful_instances e (side_by_side_rows e k)) (sym more))
 
 -- the rules at an entry with a weight, and at one without
 pub fixed_rules_with_weight : (e : Entry) → has_weight e ≡ true → fixed_rules e ≡ weight_rules
@@ -86,13 +91,13 @@ unfolding fixed_rules
 fixed_rules_without_weight e h = ap (λ b. if b then weight_rules else plain_rules ++ side_by_side_rules e) h
 
 pub instances_of_without_weight : (e : Entry) (start plain : List Instance) → has_weight e ≡ false
-    → plain ≡ start ++ map (instance_with e) plain_rules
-    → plain ++ map (instance_with e) (side_by_side_rules e) ≡ start ++ instances_of e
+    → plain ≡ start ++ useful_instances e plain_rules
+    → plain ++ useful_instances e (side_by_side_rules e) ≡ start ++ instances_of e
 instances_of_without_weight e start plain h is =
-    let all = map-append (instance_with e) plain_rules (side_by_side_rules e) in
-    ap (λ z. z ++ map (instance_with e) (side_by_side_rules e)) is
-    ∙ append_assoc start (map (instance_with e) plain_rules) (map (instance_with e) (side_by_side_rules e))
-    ∙ ap (λ z. start ++ z) (sym all ∙ ap (map (instance_with e)) (sym (fixed_rules_without_weight e h)))
+    let all = flat_map-append (instance_if_useful e) plain_rules (side_by_side_rules e) in
+    ap (λ z. z ++ useful_instances e (side_by_side_rules e)) is
+    ∙ append_assoc start (useful_instances e plain_rules) (useful_instances e (side_by_side_rules e))
+    ∙ ap (λ z. start ++ z) (sym all ∙ ap (useful_instances e) (sym (fixed_rules_without_weight e h)))
 
 -- the instances at one more number
 pub instances_below-more : (k : ℕ) (slot : Option Slot) → slot_at k ≡ slot
@@ -109,15 +114,25 @@ Contains-instances_below count k s i h at k-in =
     (Contains-range_with_len 0 count k (omega arith) (omega arith))
     (subst (λ (o : Option Slot). Contains (instances_there o) i) (sym at) k-in)
 
+-- a rule that is to be tried is among those that are
+useful_one : (r : Rule) (e : Entry) → is_idle r e ≡ false → applies [] r e ≡ true
+    → Contains (instance_if_useful e r) (instance_with e r)
+useful_one r e useful defined =
+    let tried : is_useful r e ≡ true =
+    and_from (not (is_idle r e)) (applies [] r e) (not_from_false (is_idle r e) useful) defined in
+    subst (λ (b : Bool). Contains (if b then instance_with e r ∷ [] else []) (instance_with e r)) (sym tried)
+    (0, omega arith, refl)
+
 all_below : (count : ℕ) → side_size ≤ count → AreAllFixed (instances_below count)
-all_below count enough r e plain defined =
+all_below count enough r e plain useful defined =
     let entry = (and_parts (is_entry e) (in_range (cited [] r) r e) defined).0 in
     let bound = lower_number-bound e entry in
     Contains-instances_below count (slot_number (Lower, e)) (Lower, e) (instance_with e r) (omega arith)
     (slot_at-slot_number (Lower, e) entry)
-    (Contains-map (instance_with e) (fixed_rules e) r (fixed_rules-complete [] r e plain defined))
+    (Contains-flat_map (instance_if_useful e) (fixed_rules e) r (instance_with e r)
+    (fixed_rules-complete [] r e plain defined) (useful_one r e useful defined))
 
--- the instances at all entries of the table are all that name no support
+-- the instances at all entries of the table are all that name no support and are not idle
 pub AreAllFixed-instances_below : AreAllFixed (instances_below side_size)
 AreAllFixed-instances_below = all_below side_size (omega arith)
 
@@ -125,6 +140,13 @@ All-flat_map : {X Y : Type 0} (P : Y → Type 0) (f : X → List Y) (xs : List X
     → All P (flat_map f xs)
 All-flat_map P f [] h = All-nil P
 All-flat_map P f (x ∷ xs) h = All-append P (f x) (flat_map f xs) (h x) (All-flat_map P f xs h)
+
+All-flat_map_where : {X Y : Type 0} (P : Y → Type 0) (Q : X → Type 0) (f : X → List Y) (xs : List X) → All Q xs
+    → ((x : X) → Q x → All P (f x)) → All P (flat_map f xs)
+All-flat_map_where P Q f [] all h = All-nil P
+All-flat_map_where P Q f (x ∷ xs) all h =
+    All-append P (f x) (flat_map f xs) (h x (All-head Q x xs all))
+    (All-flat_map_where P Q f xs (All-tail Q x xs all) h)
 
 -- the rules of the lists name no support
 abbrev IsUnsupported : Rule → Type 0
@@ -152,10 +174,20 @@ fixed_rules_unsupported e = go (has_weight e)
     go false =
         All-append IsUnsupported plain_rules (side_by_side_rules e) plain_unsupported (side_by_side_unsupported e)
 
+unsupported_one : (e : Entry) (r : Rule) → IsUnsupported r → AreUnsupported (instance_if_useful e r)
+unsupported_one e r h = go (is_useful r e)
+  where
+    go : (b : Bool) → AreUnsupported (if b then instance_with e r ∷ [] else [])
+    go true =
+        All-cons (λ (i : Instance). IsUnsupported i.rule) (instance_with e r) [] h
+        (All-nil (λ (i : Instance). IsUnsupported i.rule))
+    go false = All-nil (λ (i : Instance). IsUnsupported i.rule)
+
 unsupported_there : (slot : Option Slot) → AreUnsupported (instances_there slot)
 unsupported_there None = All-nil (λ (i : Instance). IsUnsupported i.rule)
 unsupported_there (Some s) =
-    All-map (λ (i : Instance). IsUnsupported i.rule) (instance_with s.1) (fixed_rules s.1) (fixed_rules_unsupported s.1)
+    All-flat_map_where (λ (i : Instance). IsUnsupported i.rule) IsUnsupported (instance_if_useful s.1)
+    (fixed_rules s.1) (fixed_rules_unsupported s.1) (unsupported_one s.1)
 
 -- the instances at the entries of the table name no support
 pub AreUnsupported-instances_below : (count : ℕ) → AreUnsupported (instances_below count)

@@ -15,10 +15,10 @@ use Rattle.ct_rules.specs.Rule.{names_support}
 use Rattle.ct_rules.specs.Rule.{rule_side, cited, in_range, premises_at, applies, premise_of}
 use Rattle.ct_rules.specs.Support.{size_at}
 use Rattle.ct_rules.proofs.MoreSupports.{applies_from_premises}
-use Rattle.ct_rules.specs.Slot.{Slot, IsBetter}
+use Rattle.ct_rules.specs.Slot.{Slot, IsBetter, IsNoBetter}
 use Rattle.ct_closure.specs.declared.instance.Instance.{Instance}
 use Rattle.ct_closure.specs.Inside.Closing.{value_over, IsPending, IsPendingBut, IsSatisfiedAt, slack, potential}
-use Rattle.ct_closure.specs.Instance.{AreAllFixed, AreUsers, size_rule, instance_of, instance_at}
+use Rattle.ct_closure.specs.Instance.{is_idle, AreAllFixed, AreUsers, size_rule, instance_of, instance_at}
 use Rattle.ct_closure.specs.Number.{slot_number, bound_of, side_size}
 use Rattle.ct_closure.specs.Inside.Worklist.{WorkValue, IsMarked}
 use Rattle.std.proofs.lemmas.List.{length-set}
@@ -184,10 +184,10 @@ pub support_instance : (supports : List Support) (r : Rule) (e : Entry) → name
 support_instance supports r e named defined =
     support_at supports r e.n e.d e.w named (and_parts (is_entry e) (in_range (cited supports r) r e) defined).1
 
--- each rule that is defined at an entry is there an instance with a number
-pub numbered : (fixed : List Instance) (supports : List Support) (r : Rule) (e : Entry) → AreAllFixed fixed → applies supports r e ≡ true →
-    (k : ℕ) × (instance_at fixed supports k ≡ Some (record { rule = r; entry = e }))
-numbered fixed supports r e all defined = go (names_support r) refl
+-- each rule that is defined at an entry and not idle is there an instance with a number
+pub numbered : (fixed : List Instance) (supports : List Support) (r : Rule) (e : Entry) → AreAllFixed fixed → is_idle r e ≡ false →
+    applies supports r e ≡ true → (k : ℕ) × (instance_at fixed supports k ≡ Some (record { rule = r; entry = e }))
+numbered fixed supports r e all useful defined = go (names_support r) refl
   where
     i : Instance
     i = record { rule = r; entry = e }
@@ -195,7 +195,7 @@ numbered fixed supports r e all defined = go (names_support r) refl
     go : (named : Bool) → names_support r ≡ named → (k : ℕ) × (instance_at fixed supports k ≡ Some i)
     go false is =
         let same = cited_unsupported supports r is ∙ sym (cited_unsupported [] r is) in
-        let held = all r e is (subst (λ c. (is_entry e && in_range c r e) ≡ true) same defined) in (
+        let held = all r e is useful (subst (λ c. (is_entry e && in_range c r e) ≡ true) same defined) in (
           held.0,
           ap (λ b. if b then slice_get fixed held.0 else instance_of (slice_get supports (held.0 - length fixed)) (held.0 - length fixed)) (lt-ltb held.0 (length fixed) held.1)
               ∙ slice_get_read fixed (length fixed) held.0 i refl held.1 (sym held.2),
@@ -209,13 +209,28 @@ numbered fixed supports r e all defined = go (names_support r) refl
               ∙ ap (λ p. instance_of (slice_get supports p) p) place ∙ held.2,
         )
 
+-- the idle rules give nothing better than what stands
+abbrev pub AreIdleSatisfied : List Support → (Slot → ℕ) → Type 0
+AreIdleSatisfied supports bounds = (r : Rule) (e : Entry) → is_idle r e ≡ true → IsSatisfied supports bounds r e
+
+-- where no instance does either, no rule does
+pub IsClosed-from_instances : (fixed : List Instance) (supports : List Support) (bounds : Slot → ℕ) → AreAllFixed fixed →
+    AreIdleSatisfied supports bounds →
+    ((k : ℕ) (i : Instance) → instance_at fixed supports k ≡ Some i → IsSatisfied supports bounds i.rule i.entry) → IsClosed supports bounds
+IsClosed-from_instances fixed supports bounds all idle each r e slots v premises value = go (is_idle r e) refl
+  where
+    go : (b : Bool) → is_idle r e ≡ b → IsNoBetter (rule_side r) v (bounds (rule_side r, e))
+    go true is = idle r e is slots v premises value
+    go false is =
+        let found = numbered fixed supports r e all is (applies_from_premises supports r e slots premises) in
+        each found.0 (record { rule = r; entry = e }) found.1 slots v premises value
+
 -- where no instance is marked, no rule gives anything better than what stands
 pub IsClosed-from_pending : (fixed : List Instance) (supports : List Support) (bounds : List ℕ) (work : WorkValue) → AreAllFixed fixed →
-    IsPending fixed supports bounds work → ((k : ℕ) → ¬ (IsMarked work k)) → IsClosed supports (bound_of bounds)
-IsClosed-from_pending fixed supports bounds work all pending none r e slots v premises value =
-    let there = applies_from_premises supports r e slots premises in
-    let found = numbered fixed supports r e all there in
-    pending.satisfied found.0 (record { rule = r; entry = e }) found.1 (none found.0) slots v premises value
+    AreIdleSatisfied supports (bound_of bounds) → IsPending fixed supports bounds work → ((k : ℕ) → ¬ (IsMarked work k)) →
+    IsClosed supports (bound_of bounds)
+IsClosed-from_pending fixed supports bounds work all idle pending none =
+    IsClosed-from_instances fixed supports (bound_of bounds) all idle (λ k i at. pending.satisfied k i at (none k))
 
 -- a list of lists holds at least as many numbers as each of its lists
 pub length_of_one : (users : List (List ℕ)) (m : ℕ) (list : List ℕ) → slice_get users m ≡ Some list → length list ≤ sum_by length users

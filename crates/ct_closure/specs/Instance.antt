@@ -1,8 +1,8 @@
 -- The instances of the rules: a rule at an entry.
-use Rattle.std.specs.Prelude.{◌≡◌, ℕ, ◌-◌, ◌<◌, true, false, nat_lt, if◌then◌else◌, List, [], length, Contains, All, slice_get, Option, Some, None}
+use Rattle.std.specs.Prelude.{◌≡◌, ℕ, ◌-◌, ◌<◌, Bool, true, false, nat_lt, ◌||◌, if◌then◌else◌, List, [], length, Contains, All, slice_get, Option, Some, None}
 use Rattle.ct_codes.specs.declared.entry.Entry.{Entry}
 use Rattle.ct_rules.specs.declared.rule.Rule.{Rule}
-use Rattle.ct_rules.specs.declared.rule.Rule.TheVariants.{L10, M10}
+use Rattle.ct_rules.specs.declared.rule.Rule.TheVariants.{L1, L10, L11, M1, M10, U0, V0}
 use Rattle.ct_rules.specs.declared.support.Support.{Support}
 use Rattle.ct_rules.specs.declared.support.Support.TheVariants.{Size}
 use Rattle.ct_rules.specs.Rule.{names_support}
@@ -11,9 +11,20 @@ use Rattle.ct_rules.specs.Slot.{Slot}
 use Rattle.ct_closure.specs.declared.instance.Instance.{Instance}
 use Rattle.ct_closure.specs.Number.{slot_number}
 
--- every rule that names no support stands in the list at each entry where it is defined
+-- whether a rule betters no true bound of the table: each slot has what the rules that rest on nothing give it from the start; and words
+-- side by side are one at most where those of one code would differ at more places than they have
+abbrev pub is_idle : Rule → Entry → Bool
+is_idle L1 e = true
+is_idle M1 e = true
+is_idle U0 e = true
+is_idle V0 e = true
+is_idle (L11 n d) e = nat_lt n d || nat_lt (e.n - n) (e.d - d)
+is_idle r e = false
+
+-- every rule that names no support stands in the list at each entry where it is defined and not idle
 abbrev pub AreAllFixed : List Instance → Type 0
-AreAllFixed fixed = (r : Rule) (e : Entry) → names_support r ≡ false → applies [] r e ≡ true → Contains fixed (record { rule = r; entry = e })
+AreAllFixed fixed = (r : Rule) (e : Entry) → names_support r ≡ false → is_idle r e ≡ false → applies [] r e ≡ true →
+    Contains fixed (record { rule = r; entry = e })
 
 -- none of the instances names a support
 abbrev pub AreUnsupported : List Instance → Type 0
@@ -65,7 +76,7 @@ pub record InstancesValue : Type 0 where
 
 -- all instances that name no support and no others, and for each slot the numbers of those that rest on it
 pub record AreInstances (instances : InstancesValue) : Type 0 where
-  -- each rule that names no support, wherever it is defined, and none that names one
+  -- each rule that names no support, wherever it is defined and not idle, and none that names one
   pub all : AreAllFixed instances.fixed
   pub unsupported : AreUnsupported instances.fixed
   -- those that rest on a slot, and no others, in its list, which has numbers of instances alone

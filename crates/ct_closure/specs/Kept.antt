@@ -1,11 +1,14 @@
 -- What a table keeps: the lines of a derivation, and for each slot its bound and the place of the line that gives it.
-use Rattle.std.specs.Prelude.{◌≡◌, ℕ, ◌*◌, ◌<◌, ◌≤◌, false, List, [], ◌∷◌, ◌++◌, length, slice_get, slice_set, slice_index, All, Some, option_map}
+use Rattle.std.specs.Prelude.{◌≡◌, ℕ, ◌*◌, ◌<◌, ◌≤◌, false, if◌then◌else◌, List, [], ◌∷◌, ◌++◌, length, slice_get, slice_set, slice_index, All, Some, option_map}
 use Rattle.ct_codes.specs.Entry.{IsEntry}
+use Rattle.ct_codes.specs.declared.claim.Side.TheVariants.{Lower, Upper}
+use Rattle.ct_rules.specs.declared.rule.Rule.{Rule}
+use Rattle.ct_rules.specs.declared.rule.Rule.TheVariants.{L1, M1, U0, V0}
 use Rattle.ct_rules.specs.declared.support.Support.{Support}
 use Rattle.ct_rules.specs.Slot.{IsBetter, Slot, slot_of, claim_at}
 use Rattle.ct_rules.specs.Derivation.{LineValue, IsDerivation}
 use Rattle.ct_closure.specs.Number.{slot_number, bound_of, side_size}
-use Rattle.ct_rules.specs.Rule.{names_support}
+use Rattle.ct_rules.specs.Rule.{names_support, has_weight}
 
 -- what a table keeps, as callers see it: bounds and reasons by the numbers of the slots, and lines
 pub record KeptValue : Type 0 where
@@ -31,8 +34,14 @@ with_line kept line = record {
   lines = kept.lines ++ line ∷ [];
 }
 
--- a line that rests on no line and on no support
+-- the rule that gives a bound of a slot whatever the supports
+abbrev pub ground_rule : Slot → Rule
+ground_rule (Lower, e) = if has_weight e then M1 else L1
+ground_rule (Upper, e) = if has_weight e then V0 else U0
+
+-- a line by that rule of its slot: it rests on no line and on no support
 pub record IsGround (line : LineValue) : Type 0 where
+  pub rule : line.rule ≡ ground_rule (slot_of line.claim)
   pub no_lines : line.from ≡ []
   pub no_support : names_support line.rule ≡ false
 

@@ -3,6 +3,7 @@
 ghost use Rattle.std.specs.Prelude.{◌≡◌, ◌+◌, ◌<◌, ◌++◌, ◌^◌, List, true, false, OnOk, length};
 ghost use Rattle.ct_rules.specs.Closed.{IsClosed};
 ghost use Rattle.ct_rules.specs.Derivation.{LineValue};
+ghost use Rattle.ct_rules.specs.Support.{AllStand};
 ghost use Rattle.ct_closure.specs.Inside.Closing.{IsPending};
 ghost use Rattle.ct_closure.specs.Satisfied.{AreSatisfiedBut, AreSatisfiedWhereSame};
 ghost use Rattle.ct_closure.specs.Instance.{AreInstances};
@@ -28,6 +29,7 @@ pub fn close_all(
 ) -> Result<(), AllocError>
     requires instances { AreInstances instances.now }
     requires few { length supports.now < 2 ^ 32 }
+    requires stand { AllStand supports.now }
     requires kept { IsKept supports.now kept.now }
     ensures kept { OnOk result (IsKept supports.now kept.new) }
     ensures grew { OnOk result (Grew kept.old kept.new) }
@@ -51,6 +53,8 @@ pub fn support_improves(
 ) -> bool
     requires instances { AreInstances instances.now }
     requires few { length supports.now < 2 ^ 32 }
+    requires stand { AllStand supports.now }
+    requires kept { IsKept supports.now kept.now }
     requires place { place < length supports.now }
     requires others { AreSatisfiedBut (length instances.now.fixed + place) instances.now.fixed supports.now (bound_of kept.now.bounds) }
     ensures closed { result ≡ false → IsClosed supports.now (bound_of kept.now.bounds) }
@@ -72,6 +76,7 @@ pub fn close_support(
 ) -> Result<(), AllocError>
     requires instances { AreInstances instances.now }
     requires few { length supports.now < 2 ^ 32 }
+    requires stand { AllStand supports.now }
     requires kept { IsKept supports.now kept.now }
     requires place { place < length supports.now }
     requires others { AreSatisfiedBut (length instances.now.fixed + place) instances.now.fixed supports.now (bound_of kept.now.bounds) }
@@ -124,6 +129,7 @@ pub fn close_changed(
 ) -> Result<(), AllocError>
     requires instances { AreInstances instances.now }
     requires few { length supports.now < 2 ^ 32 }
+    requires stand { AllStand supports.now }
     requires kept { IsKept supports.now kept.now }
     requires satisfied { AreSatisfiedWhereSame instances.now.fixed supports.now (bound_of before.now.bounds) (bound_of kept.now.bounds) }
     ensures kept { OnOk result (IsKept supports.now kept.new) }

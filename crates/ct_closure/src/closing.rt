@@ -7,6 +7,7 @@ ghost use Rattle.ct_rules.specs.Derivation.{LineValue};
 ghost use Rattle.ct_rules.specs.Closed.{IsClosed};
 ghost use Rattle.ct_rules.specs.Rule.{rule_side, cited, premises_at, applies};
 ghost use Rattle.ct_rules.specs.Slot.{IsBetter, IsNoBetter};
+ghost use Rattle.ct_rules.specs.Support.{AllStand};
 ghost use Rattle.ct_closure.specs.Number.{bound_of};
 ghost use Rattle.ct_closure.specs.Instance.{AreInstances, instance_at};
 ghost use Rattle.ct_closure.specs.declared.instance.Instance.{Instance};
@@ -18,7 +19,10 @@ use crate::instances::Instances;
 use crate::kept::Kept;
 use crate::worklist::Worklist;
 use ct_codes::{Claim, Side};
-use ct_rules::{Line, MOST_PREMISES, Support, premise, premise_count, rule_side, value};
+use ct_rules::{
+    Line, PremiseSlots, Support, all_premises, premise, premise_count, rule_side,
+    value_where_defined,
+};
 use std::alloc::{AllocError, Global};
 
 /// Whether the first bound is better than the second: from below greater, from above smaller.
@@ -39,13 +43,17 @@ fn offer(supports: &[Support], kept: &Kept, instance: Instance) -> Option<u32>
     ensures entry { IfSome result (λ _. IsEntry instance.entry) }
 {
     let Instance { rule, entry } = instance;
-    let count = premise_count(supports, rule, entry)?;
-    let mut values = [0; MOST_PREMISES];
-    for j in 0..count {
-        let (side, other) = premise(supports, rule, entry, j)?;
-        values[j] = kept.bound(side, other);
+    match all_premises(supports, rule, entry)? {
+        PremiseSlots::Nothing => value_where_defined(supports, rule, entry, &[]),
+        PremiseSlots::One(only) => {
+            let values = [kept.bound(only.0, only.1)];
+            value_where_defined(supports, rule, entry, &values)
+        }
+        PremiseSlots::Two(first, second) => {
+            let values = [kept.bound(first.0, first.1), kept.bound(second.0, second.1)];
+            value_where_defined(supports, rule, entry, &values)
+        }
     }
-    value(supports, rule, entry, &values[..count])
 }
 
 /// The places of the lines that give the bounds that the instance rests on.
@@ -161,6 +169,7 @@ pub(crate) fn close(
 ) -> Result<(), AllocError>
     requires instances { AreInstances instances.now }
     requires few { length supports.now < 2 ^ 32 }
+    requires stand { AllStand supports.now }
     requires kept { IsKept supports.now kept.now }
     requires pending { IsPending instances.now.fixed supports.now kept.now.bounds work.now }
     ensures kept { OnOk result (IsKept supports.now kept.new) }

@@ -4,8 +4,8 @@ ghost use Rattle.std.specs.Prelude.{◌≡◌, ◌≢◌, ◌*◌, ◌++◌, ◌
 ghost use Rattle.ct_codes.specs.Entry.{IsEntry};
 ghost use Rattle.ct_rules.specs.declared.support.Support.{Support};
 ghost use Rattle.ct_closure.specs.Number.{bound_of, side_size};
-ghost use Rattle.ct_closure.specs.Kept.{with_line, reason_of, IsKept};
-ghost use Rattle.ct_closure.specs.Inside.Ground.{ground_rule, ground_value, ground_line};
+ghost use Rattle.ct_closure.specs.Kept.{with_line, reason_of, ground_rule, IsKept};
+ghost use Rattle.ct_closure.specs.Inside.Ground.{ground_value, ground_line};
 
 use crate::number::{SLOTS, slot_at, slot_number};
 use ct_codes::{Claim, Entry, Side};

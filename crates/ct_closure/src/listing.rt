@@ -1,46 +1,74 @@
 //! The list of the instances that name no support.
 
-ghost use Rattle.std.specs.Prelude.{◌≡◌, ◌++◌, ◌-◌, ℕ, OnOk, IfOk, List, map};
+ghost use Rattle.std.specs.Prelude.{◌≡◌, ◌++◌, ◌-◌, ℕ, OnOk, IfOk, List};
 ghost use Rattle.std.specs.List.{flat_map, range_with_len};
 ghost use Rattle.ct_codes.specs.Entry.{IsEntry};
 ghost use Rattle.ct_rules.specs.declared.rule.Rule.{Rule};
 ghost use Rattle.ct_rules.specs.Inside.Listing.{plain_rules, weight_rules, side_by_side_rules, fixed_rules};
 ghost use Rattle.ct_closure.specs.declared.instance.Instance.{Instance};
-ghost use Rattle.ct_closure.specs.Instance.{AreAllFixed, AreUnsupported};
+ghost use Rattle.ct_closure.specs.Instance.{is_idle, AreAllFixed, AreUnsupported};
 ghost use Rattle.ct_closure.specs.Number.{side_size};
-ghost use Rattle.ct_closure.specs.Inside.Listing.{instances_of, instances_below};
+ghost use Rattle.ct_closure.specs.Inside.Listing.{is_useful, instance_if_useful, useful_instances, instances_of, instances_below};
 
 use crate::instance::Instance;
 use crate::number::{ENTRIES, slot_at};
 use ct_codes::Entry;
-use ct_rules::Rule;
+use ct_rules::{Rule, applies};
 use std::alloc::{AllocError, Global};
 
-/// Puts the rules, in order, at the entry to the list.
-fn add_rules(list: &mut Vec<Instance>, rules: &[Rule], entry: Entry) -> Result<(), AllocError>
-    ensures { OnOk result (list.new.items ≡ list.old.items ++ map (λ r. record { rule = r; entry = entry }) rules.now) }
+/// Whether the rule betters no true bound of the table at the entry: one that each slot has from the start, or words side by
+/// side of which one code has at most one.
+fn is_idle(rule: Rule, entry: Entry) -> bool
+    ensures { result ≡ is_idle rule entry }
 {
-    for rule in rules {
-        list.push(Instance { rule: *rule, entry })?;
+    match rule {
+        Rule::L1 | Rule::M1 | Rule::U0 | Rule::V0 => true,
+        Rule::L11(n, d) => n < d || entry.n.saturating_sub(n) < entry.d.saturating_sub(d),
+        _ => false,
+    }
+}
+
+/// Whether the rule is to be tried at the entry.
+fn is_useful(rule: Rule, entry: Entry) -> bool
+    ensures { result ≡ is_useful rule entry }
+{
+    !is_idle(rule, entry) && applies(&[], rule, entry)
+}
+
+/// Puts the rule at the entry to the list, where it is to be tried there.
+fn add_rule(list: &mut Vec<Instance>, rule: Rule, entry: Entry) -> Result<(), AllocError>
+    ensures { OnOk result (list.new.items ≡ list.old.items ++ instance_if_useful entry rule) }
+{
+    if is_useful(rule, entry) {
+        list.push(Instance { rule, entry })?;
     }
     Ok(())
 }
 
-/// Puts the rules that lay words of two codes side by side, at the entry, to the list.
+/// Puts the rules that are to be tried at the entry, in order, to the list.
+fn add_rules(list: &mut Vec<Instance>, rules: &[Rule], entry: Entry) -> Result<(), AllocError>
+    ensures { OnOk result (list.new.items ≡ list.old.items ++ useful_instances entry rules.now) }
+{
+    for rule in rules {
+        add_rule(list, *rule, entry)?;
+    }
+    Ok(())
+}
+
+/// Puts the rules that lay words of two codes side by side and are to be tried at the entry to the list.
 fn add_side_by_side(list: &mut Vec<Instance>, entry: Entry) -> Result<(), AllocError>
     requires { IsEntry entry }
-    ensures { OnOk result (list.new.items ≡ list.old.items ++ map (λ r. record { rule = r; entry = entry }) (side_by_side_rules entry)) }
+    ensures { OnOk result (list.new.items ≡ list.old.items ++ useful_instances entry (side_by_side_rules entry)) }
 {
     for n in 1..entry.n {
         for d in 3..entry.d.saturating_sub(2) {
-            let rule = Rule::L11(n, d);
-            list.push(Instance { rule, entry })?;
+            add_rule(list, Rule::L11(n, d), entry)?;
         }
     }
     Ok(())
 }
 
-/// Puts the rules that can be defined at the entry and name no support to the list.
+/// Puts the rules that name no support and are to be tried at the entry to the list.
 fn add_fixed(list: &mut Vec<Instance>, entry: Entry) -> Result<(), AllocError>
     requires { IsEntry entry }
     ensures { OnOk result (list.new.items ≡ list.old.items ++ instances_of entry) }
@@ -71,7 +99,7 @@ fn add_fixed(list: &mut Vec<Instance>, entry: Entry) -> Result<(), AllocError>
     add_side_by_side(list, entry)
 }
 
-/// The rules that can be defined at an entry and name no support, at each entry of the table. `Err` is want of memory.
+/// The rules that name no support and are to be tried at an entry, at each entry of the table. `Err` is want of memory.
 pub(crate) fn fixed_instances(alloc: Global) -> Result<Vec<Instance>, AllocError>
     ensures list { IfOk result (λ list. list.items ≡ instances_below side_size) }
     ensures all { IfOk result (λ list. AreAllFixed list.items) }

@@ -2,15 +2,34 @@
 
 ghost use Rattle.std.specs.Prelude.{[], IfOk};
 ghost use Rattle.ct_rules.specs.Closed.{IsClosed};
+ghost use Rattle.ct_rules.specs.Support.{Stands};
 ghost use Rattle.ct_closure.specs.Instance.{AreInstances};
 ghost use Rattle.ct_closure.specs.Kept.{IsKept};
 ghost use Rattle.ct_closure.specs.Number.{bound_of};
 
 use super::*;
-use ct_codes::{Entry, Side};
+use ct_codes::{Entry, Side, check_cosets};
 use ct_rules::Support;
+use ct_words::{MAX_BOUND, Word};
 use std::alloc::{AllocError, Global};
+use std::process::Abort;
 use std::test::Fail;
+
+/// A basis of the extended Golay code of length 24 and distance 8 (Golay 1949).
+const GOLAY: [Word; 12] = [
+    0b101011100011000000000001,
+    0b010101110001100000000001,
+    0b001010111000110000000001,
+    0b000101011100011000000001,
+    0b000010101110001100000001,
+    0b000001010111000110000001,
+    0b000000101011100011000001,
+    0b000000010101110001100001,
+    0b000000001010111000110001,
+    0b000000000101011100011001,
+    0b000000000010101110001101,
+    0b000000000001010111000111,
+];
 
 // The first and the last entries of the table, by hand: a row of 30 weights for each of 26 distances at each of 28 lengths.
 #[test]
@@ -64,16 +83,19 @@ fn count_at(instances: &Instances, entry: Entry) -> u32 {
     count
 }
 
-// At A(4,8) seventeen rules that name nothing, and words side by side of the lengths 1, 2 and 3 and the distances 3, 4 and 5.
+// At A(1,3) L4, L6, L7, U1, U3, U4 and U8 are defined, beside those that each slot has from the start; at A(4,5) L3, L4, L6 to
+// L8, U1 and U3 to U8; at A(4,8) L3 to L8, U1, U3 and U5 to U8; at A(8,6) L2 to L8, U2, U3 and U5 to U8. Words side by side are
+// more than one at A(4,8) nowhere, and at A(8,6) of the lengths 3 and 5, 4 and 4, 5 and 3.
 #[test]
 fn instances_of_entries(rt: HostRuntime) -> Result<(), Fail> {
     let alloc = rt.alloc();
     let instances = Instances::new(alloc)?;
     for (n, d, w, want) in [
-        (1, 3, None, 17),
-        (4, 5, None, 17),
-        (4, 8, None, 26),
-        (4, 8, Some(2), 2),
+        (1, 3, None, 7),
+        (4, 5, None, 12),
+        (4, 8, None, 12),
+        (8, 6, None, 16),
+        (4, 8, Some(2), 0),
     ] {
         let entry = Entry { n, d, w };
         assert_eq!(rt; count_at(&instances, entry), want);
@@ -82,8 +104,8 @@ fn instances_of_entries(rt: HostRuntime) -> Result<(), Fail> {
 }
 
 // On A(5,4) from below rest A(6,4), A(5,3), A(4,3), A(4,4), and by u followed by u + v A(10,4), A(10,7) and A(10,8). Words
-// side by side have it as the first at 23 lengths and 22 distances, and as the second as often. On A(5,4) from above rest
-// A(4,3), A(6,5), A(6,4), A(5,5) and A(4,4).
+// side by side have it as the first at the lengths n from 8 to 28, each with the distances from 7 to n - 1, and as the second as
+// often. On A(5,4) from above rest A(4,3), A(6,5), A(6,4), A(5,5) and A(4,4).
 #[test]
 fn users_of_a_slot(rt: HostRuntime) -> Result<(), Fail> {
     let alloc = rt.alloc();
@@ -94,7 +116,7 @@ fn users_of_a_slot(rt: HostRuntime) -> Result<(), Fail> {
         w: None,
     };
     let lower = instances.users(Side::Lower, entry).len();
-    assert_eq!(rt; lower, 7 + 2 * 23 * 22);
+    assert_eq!(rt; lower, 7 + 2 * 21 * 22 / 2);
     let upper = instances.users(Side::Upper, entry).len();
     assert_eq!(rt; upper, 5);
     Ok(())
@@ -111,6 +133,26 @@ fn closed(alloc: Global, instances: &Instances) -> Result<Kept, AllocError>
     Ok(kept)
 }
 
+/// What Golay's code gives.
+fn golay(rt: &impl Abort, alloc: Global) -> Result<Support, Fail>
+    ensures { IfOk result Stands }
+{
+    let entry = Entry {
+        n: 24,
+        d: 8,
+        w: None,
+    };
+    let basis = Vec::from_slice(alloc, &GOLAY)?;
+    let representatives = Vec::from_slice(alloc, &[0])?;
+    assert!(rt; basis.iter().all(|word| *word < 1 << 24));
+    assert!(rt; representatives.iter().all(|word| *word < 1 << 24));
+    let code = check_cosets(alloc, entry, basis, representatives)?;
+    let size = code.size();
+    assert!(rt; 1 <= size && size <= MAX_BOUND);
+    let entry = code.entry();
+    Ok(Support::Size { entry, size })
+}
+
 /// Closes them over one support, and then once more, and says whether it gave anything.
 fn close_over(
     alloc: Global,
@@ -118,6 +160,7 @@ fn close_over(
     kept: &mut Kept,
     support: Support,
 ) -> Result<bool, AllocError>
+    requires stands { Stands support }
     requires instances { AreInstances instances.now }
     requires kept { IsKept [] kept.now }
     requires closed { IsClosed [] (bound_of kept.now.bounds) }
@@ -167,19 +210,14 @@ fn closes_over_no_supports(rt: HostRuntime) -> Result<(), Fail> {
     Ok(())
 }
 
-// A code of 4096 words at A(24,8), as the Golay code, is one at A(24,7), and less a place gives as many at A(23,7). Its words
+// The Golay code of 4096 words at A(24,8) is one at A(24,7), and less a place gives as many at A(23,7). Its words
 // that begin with the same digit give half as many at A(23,8) and A(22,7).
 #[test]
 fn closes_over_a_support(rt: HostRuntime) -> Result<(), Fail> {
     let alloc = rt.alloc();
     let instances = Instances::new(alloc)?;
     let mut kept = closed(alloc, &instances)?;
-    let entry = Entry {
-        n: 24,
-        d: 8,
-        w: None,
-    };
-    let support = Support::Size { entry, size: 4096 };
+    let support = golay(&rt, alloc)?;
     assert!(rt; close_over(alloc, &instances, &mut kept, support)?);
     for (n, d, want) in [
         (24, 8, 4096),

@@ -9,6 +9,7 @@ pub mod RuleSound
 pub mod RuleMonotone
 pub mod RuleLaws
 pub mod Places
+pub mod PremiseCases
 pub mod Derivations
 pub mod MoreSupports
 pub mod JoinedDerivations

@@ -3,4 +3,5 @@ pub mod Slot
 pub mod Rule
 pub mod Derivation
 pub mod Closed
+pub mod Evaluation
 pub mod Inside

@@ -35,7 +35,7 @@ pub fn rule_side(rule: Rule) -> Side
 }
 
 /// The support that the rule names, where it names one that is there.
-fn cited(supports: &[Support], rule: Rule) -> Option<Support>
+pub(crate) fn cited(supports: &[Support], rule: Rule) -> Option<Support>
     ensures { result ≡ cited supports.now rule }
 {
     match rule {
@@ -88,7 +88,7 @@ fn in_range(support: Option<Support>, rule: Rule, entry: Entry) -> bool
 }
 
 /// Whether the rule is defined at the entry, which has to be one of the table.
-fn applies(supports: &[Support], rule: Rule, entry: Entry) -> bool
+pub fn applies(supports: &[Support], rule: Rule, entry: Entry) -> bool
     ensures { result ≡ applies supports.now rule entry }
 {
     entry.in_table() && in_range(cited(supports, rule), rule, entry)
@@ -128,7 +128,12 @@ fn one_of(first: (Side, Entry), second: (Side, Entry), j: usize) -> Option<(Side
 
 /// The premise at the place j of a rule that is defined at the entry.
 #[tactic(auto, unfolding(crate::specs::Rule::in_range, crate::specs::Rule::premises_at))]
-fn premise_at(support: Option<Support>, rule: Rule, entry: Entry, j: usize) -> Option<(Side, Entry)>
+pub(crate) fn premise_at(
+    support: Option<Support>,
+    rule: Rule,
+    entry: Entry,
+    j: usize,
+) -> Option<(Side, Entry)>
     requires entry { IsEntry entry }
     requires range { in_range support rule entry ≡ true }
     ensures premise { result ≡ slice_get (premises_at support rule entry) j }
@@ -214,7 +219,12 @@ fn second(values: &[u32]) -> u64
 
 /// The number that the rule gives at an entry where it is defined.
 #[tactic(auto, unfolding(crate::specs::Rule::in_range, crate::specs::Rule::formula))]
-fn formula(support: Option<Support>, rule: Rule, entry: Entry, values: &[u32]) -> Option<u64>
+pub(crate) fn formula(
+    support: Option<Support>,
+    rule: Rule,
+    entry: Entry,
+    values: &[u32],
+) -> Option<u64>
     requires entry { IsEntry entry }
     requires range { in_range support rule entry ≡ true }
     ensures { result ≡ formula support rule entry values.now }
@@ -240,7 +250,7 @@ fn formula(support: Option<Support>, rule: Rule, entry: Entry, values: &[u32]) -
 }
 
 /// The number as a bound of the side: a lower one above `MAX_BOUND` is none, an upper one is taken as `MAX_BOUND`.
-fn within_limit(side: Side, number: u64) -> Option<u32>
+pub(crate) fn within_limit(side: Side, number: u64) -> Option<u32>
     ensures value { result ≡ within_limit side (Some number) }
     ensures limit { IfSome result (λ v. v ≤ MAX_BOUND) }
 {

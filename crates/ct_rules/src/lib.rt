@@ -2,6 +2,7 @@
 #![tactic(auto)]
 
 mod derivation_laws;
+mod evaluation;
 mod instance;
 mod line;
 mod rule;
@@ -13,7 +14,8 @@ pub use derivation_laws::{
     derived_claims_are_true, each_slot_has_one_best_value, known_derivations,
     lines_follow_from_earlier_lines, more_supports_keep_derivations,
 };
-pub use instance::{MOST_PREMISES, premise, premise_count, rule_side, value};
+pub use evaluation::{PremiseSlots, all_premises, value_where_defined};
+pub use instance::{MOST_PREMISES, applies, premise, premise_count, rule_side, value};
 pub use line::Line;
 pub use rule::Rule;
 pub use rule_laws::{

@@ -193,6 +193,7 @@ module _ (supports : List Support) (place : ℕ) (old : KeptValue) (moved : List
         there.1,
         ground.3,
         record {
+          rule = lowered-unsupported place l.rule rests.no_support ∙ rests.rule;
           no_lines = refl;
           no_support = ap names_support (lowered-unsupported place l.rule rests.no_support) ∙ rests.no_support;
         },

@@ -12,12 +12,18 @@ use Rattle.std.proofs.lemmas.List.Elements.{All-nil, All-cons, All-append}
 use Rattle.ct_closure.specs.Instance.{InstancesValue, AreInstances}
 use Rattle.ct_closure.specs.Kept.{KeptValue, IsKept}
 
+-- the supports with one more
+pub AllStand-more : (supports longer : List Support) (x : Support) → AllStand supports → Stands x → longer ≡ supports ++ x ∷ [] →
+    AllStand longer
+AllStand-more supports longer x stand stands is =
+    subst AllStand (sym is) (All-append Stands supports (x ∷ []) stand (All-cons Stands x [] stands (All-nil Stands)))
+
 -- a table with one more support
 pub IsTable-more : (supports longer : List Support) (x : Support) (kept new : KeptValue) → IsTable (record { supports = supports; kept = kept }) →
     Stands x → length supports + 1 < 2 ^ 32 → longer ≡ supports ++ x ∷ [] → IsKept longer new → IsClosed longer (bound_of new.bounds) →
     IsTable (record { supports = longer; kept = new })
 IsTable-more supports longer x kept new good stands few is good_new closed = record {
-  stand = subst AllStand (sym is) (All-append Stands supports (x ∷ []) good.stand (All-cons Stands x [] stands (All-nil Stands)));
+  stand = AllStand-more supports longer x good.stand stands is;
   few = subst (λ m. m < 2 ^ 32) (sym (ap (λ (s : List Support). length s) is ∙ length_push supports x)) few;
   kept = good_new;
   closed = closed;

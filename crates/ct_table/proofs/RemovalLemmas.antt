@@ -82,6 +82,9 @@ pub removed_few : (t : TableValue) (place : ℕ) (left : List Support) → IsTab
 removed_few t place left good inside is =
     subst (λ (s : List Support). length s < 2 ^ 32) (sym is) (fewer-removed t.supports place inside good.few)
 
+pub removed_stand : (t : TableValue) (place : ℕ) (left : List Support) → IsTable t → left ≡ remove t.supports place → AllStand left
+removed_stand t place left good is = subst AllStand (sym is) (AllStand-removed t.supports place good.stand)
+
 pub removed_table : (t : TableValue) (place : ℕ) (left : List Support) (rest new : KeptValue) → IsRemoval t place left rest new →
     IsTable (record { supports = left; kept = new })
 removed_table t place left rest new r = IsTable-removed t place left new r.good r.inside r.left_is r.new_kept r.closed

@@ -1,26 +1,17 @@
 -- What a table gives: best and true bounds.
-use Rattle.std.proofs.Common.{◌≡◌, ◌∙◌, ℕ, List, Some, subst, sym, ap, option_map, slice_get}
+use Rattle.std.proofs.Common.{◌≡◌, ◌∙◌, ℕ, Some, subst, sym, ap, option_map, slice_get}
 use Rattle.ct_codes.specs.Claim.{IsTrueClaim}
 use Rattle.ct_codes.specs.Entry.{IsEntry}
-use Rattle.ct_rules.specs.declared.support.Support.{Support}
 use Rattle.ct_rules.specs.Closed.{AreTrue}
-use Rattle.ct_rules.specs.Derivation.{LineValue, IsDerived, IsBest}
+use Rattle.ct_rules.specs.Derivation.{LineValue, IsBest}
 use Rattle.ct_rules.specs.Slot.{Slot, claim_at}
-use Rattle.ct_rules.proofs.ClosedBounds.{AreDerived, AreTrue-from_derived, closed_bound_is_best, best_is_one}
-use Rattle.ct_rules.proofs.Derivations.{derived_from_line}
-use Rattle.ct_closure.specs.Kept.{KeptValue, IsKept, reason_of}
+use Rattle.ct_rules.proofs.ClosedBounds.{AreTrue-from_derived, closed_bound_is_best, best_is_one}
+use Rattle.ct_closure.specs.Kept.{reason_of}
 use Rattle.ct_closure.specs.Number.{bound_of}
-use Rattle.ct_closure.proofs.KeptLemmas.{reason_line}
+pub use Rattle.ct_closure.proofs.IdleLemmas.{bounds_are_derived}
 use Rattle.ct_table.specs.Table.{TableValue, IsTable}
 
--- each bound that is kept is derived
-pub bounds_are_derived : (supports : List Support) (kept : KeptValue) → IsKept supports kept → AreDerived supports (bound_of kept.bounds)
-bounds_are_derived supports kept good s entry =
-    let found = reason_line supports kept s good entry in
-    subst (IsDerived supports) found.1.claim
-    (derived_from_line supports kept.lines (reason_of kept s) found.0 found.1.there good.derivation)
-
--- so they are true
+-- each bound that is kept is true
 pub bounds_are_true : (t : TableValue) → IsTable t → AreTrue (bound_of t.kept.bounds)
 bounds_are_true t good =
     AreTrue-from_derived t.supports (bound_of t.kept.bounds) good.stand (bounds_are_derived t.supports t.kept good.kept)

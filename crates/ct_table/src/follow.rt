@@ -2,6 +2,7 @@
 
 ghost use Rattle.std.specs.Prelude.{◌≡◌, ◌+◌, ◌<◌, ◌^◌, OnOk, OnErr, length};
 ghost use Rattle.ct_rules.specs.Closed.{IsClosed};
+ghost use Rattle.ct_rules.specs.Support.{AllStand};
 ghost use Rattle.ct_closure.specs.Satisfied.{AreSatisfiedBut};
 ghost use Rattle.ct_closure.specs.Instance.{AreInstances};
 ghost use Rattle.ct_closure.specs.Kept.{IsKept, Grew};
@@ -22,6 +23,7 @@ pub(crate) fn follow(
 ) -> Result<(), AllocError>
     requires instances { AreInstances instances.now }
     requires few { length supports.now < 2 ^ 32 }
+    requires stand { AllStand supports.now }
     requires kept { IsKept supports.now kept.now }
     requires place { place < length supports.now }
     requires others { AreSatisfiedBut (length instances.now.fixed + place) instances.now.fixed supports.now (bound_of kept.now.bounds) }

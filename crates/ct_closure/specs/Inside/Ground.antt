@@ -1,18 +1,11 @@
 -- The lines with which a table begins: one for each slot, by a rule that rests on nothing.
-use Rattle.std.specs.Prelude.{ℕ, if◌then◌else◌, [], Option}
-use Rattle.ct_codes.specs.declared.claim.Side.TheVariants.{Lower, Upper}
-use Rattle.ct_rules.specs.declared.rule.Rule.{Rule}
-use Rattle.ct_rules.specs.declared.rule.Rule.TheVariants.{L1, M1, U0, V0}
+use Rattle.std.specs.Prelude.{ℕ, [], Option}
 use Rattle.ct_rules.specs.Derivation.{LineValue}
-use Rattle.ct_rules.specs.Rule.{has_weight, value_of}
+use Rattle.ct_rules.specs.Rule.{value_of}
 use Rattle.ct_rules.specs.Slot.{Slot, claim_at}
+use Rattle.ct_closure.specs.Kept.{ground_rule}
 
--- the rule that gives a bound of a slot whatever the supports
-abbrev pub ground_rule : Slot → Rule
-ground_rule (Lower, e) = if has_weight e then M1 else L1
-ground_rule (Upper, e) = if has_weight e then V0 else U0
-
--- the bound that it gives
+-- the bound that the rule of a slot gives whatever the supports
 abbrev pub ground_value : Slot → Option ℕ
 ground_value s = value_of [] (ground_rule s) s.1 []
 

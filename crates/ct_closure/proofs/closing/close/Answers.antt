@@ -1,3 +1,4 @@
+use Rattle.ct_closure.proofs.IdleLemmas.{idle_satisfied}
 use Rattle.ct_closure.proofs.KeptLemmas.{Grew-trans}
 use Rattle.ct_closure.proofs.PendingLemmas.{IsPendingBut-taken, IsClosed-from_pending}
 use Rattle.ct_closure.proofs.closing.close.Goals as goal
@@ -18,4 +19,6 @@ loop-number-preserved c = record {
 pub returns-clause-closed : goal.returns-clause-closed
 returns-clause-closed c =
     IsClosed-from_pending c.args.instances.now.fixed c.args.supports.now c.loop-number.kept.bounds c.loop-number.work
-    c.requires.instances.all c.loop-number.invariant.pending c.in_default.ensures.none_marked
+    c.requires.instances.all
+    (idle_satisfied c.args.supports.now c.loop-number.kept c.requires.stand c.loop-number.invariant.kept)
+    c.loop-number.invariant.pending c.in_default.ensures.none_marked

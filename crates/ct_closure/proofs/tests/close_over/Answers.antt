@@ -3,6 +3,10 @@ use Rattle.ct_closure.specs.Number.{bound_of}
 use Rattle.ct_closure.proofs.SupportLemmas.{IsKept-over_more, AreSatisfiedBut-last}
 use Rattle.ct_closure.proofs.tests.close_over.Goals as goal
 
+pub support_improves-improves-requires-clause-kept : goal.support_improves-improves-requires-clause-kept
+support_improves-improves-requires-clause-kept c =
+    IsKept-over_more [] (c.args.support ∷ []) c.args.kept.now c.requires.kept
+
 pub support_improves-improves-requires-clause-others : goal.support_improves-improves-requires-clause-others
 support_improves-improves-requires-clause-others c =
     AreSatisfiedBut-last c.args.instances.now.fixed [] c.args.support (bound_of c.args.kept.now.bounds)

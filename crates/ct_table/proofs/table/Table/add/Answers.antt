@@ -1,7 +1,17 @@
 use Rattle.std.proofs.Common.{◌≡◌, ◌∙◌, ◌+◌, ◌<◌, ◌^◌, ◌++◌, ◌∷◌, [], length, refl, rules, sym, subst}
 use Rattle.ct_table.specs.Table.{TableValue}
-use Rattle.ct_table.proofs.MoreLemmas.{IsTable-more, kept_more, satisfied_more}
+use Rattle.ct_table.proofs.MoreLemmas.{AllStand-more, IsTable-more, kept_more, satisfied_more}
 use Rattle.ct_table.proofs.table.Table.add.Goals as goal
+
+pub support_improves-requires-clause-stand : goal.support_improves-requires-clause-stand
+support_improves-requires-clause-stand c =
+    AllStand-more c.self.inside.supports.items c.deref.result.now c.args.support c.self.invariant.0.stand c.requires.stands
+    (c.deref.ensures.value ∙ c.in_ok-push.ensures.items)
+
+pub support_improves-requires-clause-kept : goal.support_improves-requires-clause-kept
+support_improves-requires-clause-kept c =
+    kept_more c.self.inside.supports.items c.deref.result.now c.args.support c.self.inside.kept c.self.invariant.0
+    (c.deref.ensures.value ∙ c.in_ok-push.ensures.items)
 
 pub support_improves-requires-clause-others : goal.support_improves-requires-clause-others
 support_improves-requires-clause-others c =
@@ -18,6 +28,11 @@ invariant_of-self-then-not-support_improves c =
           (rw c.deref.ensures.value at (c.if-not-support_improves.ensures.closed refl)),
       c.self.invariant.1,
     )
+
+pub follow-done-requires-clause-stand : goal.follow-done-requires-clause-stand
+follow-done-requires-clause-stand c =
+    AllStand-more c.self.inside.supports.items c.deref-2.result.now c.args.support c.self.invariant.0.stand c.requires.stands
+    (c.deref-2.ensures.value ∙ c.in_ok-push.ensures.items)
 
 pub follow-done-requires-clause-kept : goal.follow-done-requires-clause-kept
 follow-done-requires-clause-kept c =

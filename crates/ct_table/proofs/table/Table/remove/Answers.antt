@@ -3,7 +3,7 @@ use Rattle.std.specs.Prelude.{remove}
 use Rattle.ct_rules.specs.declared.support.Support.{Support}
 use Rattle.ct_table.specs.Removal.{KeepsReasons}
 use Rattle.ct_table.specs.Table.{TableValue}
-use Rattle.ct_table.proofs.RemovalLemmas.{IsRemoval, removed_few, removed_table, removed_reasons}
+use Rattle.ct_table.proofs.RemovalLemmas.{IsRemoval, removed_few, removed_stand, removed_table, removed_reasons}
 use Rattle.ct_table.proofs.table.Table.remove.Goals as goal
 
 pub close_changed-requires-clause-few : goal.close_changed-requires-clause-few
@@ -11,6 +11,11 @@ close_changed-requires-clause-few c =
     let inside = subst (λ (t : TableValue). c.args.place < length t.supports) (sym c.self.view_is) c.requires in
     removed_few (record { supports = c.self.inside.supports.items; kept = c.self.inside.kept }) c.args.place c.deref-2.result.now c.self.invariant.0
     inside (c.deref-2.ensures.value ∙ c.in_ok-supports.ensures ∙ ap (λ (s : List Support). remove s c.args.place) c.deref.ensures.value)
+
+pub close_changed-requires-clause-stand : goal.close_changed-requires-clause-stand
+close_changed-requires-clause-stand c =
+    removed_stand (record { supports = c.self.inside.supports.items; kept = c.self.inside.kept }) c.args.place c.deref-2.result.now c.self.invariant.0
+    (c.deref-2.ensures.value ∙ c.in_ok-supports.ensures ∙ ap (λ (s : List Support). remove s c.args.place) c.deref.ensures.value)
 
 removal : (c : goal.After-drop-self-inside-4) → IsRemoval (record { supports = c.self.inside.supports.items; kept = c.self.inside.kept }) c.args.place
     c.in_ok-supports.supports.items c.in_ok-kept.kept c.close_changed.new.kept
