@@ -1,5 +1,4 @@
 use Rattle.std.proofs.Common.{ℕ, ◌<◌, ◌^◌, List, refl, None, Some, [], ◌∷◌, codes, lit<, lit≤}
-use Rattle.std.specs.Prelude.{All}
 use Rattle.std.proofs.lemmas.List.Elements.{All-from_recursion, All-cons, All-nil}
 use Rattle.ct_codes.specs.Code.{IsTrueLower}
 use Rattle.ct_codes.proofs.CheckLemmas.{code_from_no_fault}
