@@ -1,26 +1,24 @@
 -- The instances that rest on a slot, as they are put to the lists of the slots.
-use Rattle.std.proofs.Common.{◌≡◌, ◌⊎◌, inl, inr, All, ap, arith, ℕ, ◌+◌, ◌<◌, Bool, true, false, if◌then◌else◌, List, [], length, get_or, slice_get, Some, None, subst, sym, ◌∙◌, below_more}
-use Rattle.std.specs.Option.{unwrap_or}
-use Rattle.std.proofs.lemmas.Option.{slice_get_within, slice_get-get_or, none-some, same_Some, get_or_from_slice_get}
+use Rattle.std.proofs.Common.{◌≡◌, ◌⊎◌, inl, inr, All, ap, arith, ℕ, ◌+◌, ◌<◌, if◌then◌else◌, List, [], ◌∷◌, length, get_or, slice_get, Some, None, refl, subst, sym, ◌∙◌, below_more}
+use Rattle.std.proofs.lemmas.Option.{slice_get_within, slice_get-get_or, same_Some, get_or_from_slice_get}
 use Rattle.std.proofs.lemmas.List.Elements.{All-weaker}
 use Rattle.ct_codes.specs.declared.entry.Entry.{Entry}
 use Rattle.ct_rules.specs.declared.rule.Rule.{Rule}
-use Rattle.ct_rules.specs.Rule.{cited, applies, premises_at, count_of, premise_of}
+use Rattle.ct_rules.specs.Rule.{cited, applies, premises_at, premises_of, premise_of}
 use Rattle.ct_rules.specs.Slot.{Slot}
 use Rattle.ct_closure.specs.declared.instance.Instance.{Instance}
 use Rattle.ct_closure.specs.Instance.{RestsOn, RestsAt, HasUser, AreOnlyUsers, AreNumbersBelow}
 use Rattle.ct_closure.specs.Number.{slot_number}
+use Rattle.ct_closure.proofs.PremiseLemmas.{where_defined}
 
-within_where : (b : Bool) (slots : List Slot) (j : ℕ) (s : Slot)
-    → (if b then slice_get slots j else None) ≡ Some s
-    → j < unwrap_or (if b then Some (length slots) else None) 0
-within_where true slots j s h = slice_get_within slots j s h
-within_where false slots j s h = absurd (none-some s h)
-
--- the place of a premise is below the number of premises
-pub premise_of-within : (r : Rule) (e : Entry) (j : ℕ) (s : Slot) → premise_of [] r e j ≡ Some s
-    → j < unwrap_or (count_of [] r e) 0
-premise_of-within r e j s h = within_where (applies [] r e) (premises_at (cited [] r) r e) j s h
+-- the premises of an instance, one after the other
+premises_one_by_one : (r : Rule) (e : Entry) (slots : List Slot) (j : ℕ) → Some slots ≡ premises_of [] r e
+    → premise_of [] r e j ≡ slice_get slots j
+premises_one_by_one r e slots j h =
+    let there = where_defined (applies [] r e) (Some (premises_at (cited [] r) r e)) slots (sym h) in
+    let same : premises_at (cited [] r) r e ≡ slots = same_Some (premises_at (cited [] r) r e) slots there.1 in
+    ap (λ b. if b then slice_get (premises_at (cited [] r) r e) j else None) there.0
+    ∙ ap (λ (z : List Slot). slice_get z j) same
 
 -- the lists of the first premises of an instance have its number, and no list lost one
 pub record IsAddedBelow (i : Instance) (number j : ℕ) (old new : List (List ℕ)) : Type 0 where
@@ -54,26 +52,65 @@ one_more i number j old mid new s before is here only kept bound = record {
     go m k (inl there) = before.only m k there
     go m k (inr at) = inr ((s, (j, is), sym at.0), at.1)
 
--- no premise at the place
-pub none_there : (i : Instance) (number j : ℕ) (old new : List (List ℕ)) → IsAddedBelow i number j old new
-    → premise_of [] i.rule i.entry j ≡ None
-    → IsAddedBelow i number (j + 1) old new
-none_there i number j old new before none = record {
-  added =
-      below_more (λ k. (t : Slot) → premise_of [] i.rule i.entry k ≡ Some t → HasUser new (slot_number t) number) j
-      before.added (λ t at. absurd (none-some t (sym none ∙ at)));
+-- an instance is put to those of each slot that it rests on, and to no others
+pub record IsAddedAll (i : Instance) (number : ℕ) (old new : List (List ℕ)) : Type 0 where
+  pub added : (s : Slot) → RestsOn i s → HasUser new (slot_number s) number
+  pub only : (m k : ℕ) → HasUser new m k → HasUser old m k ⊎ (RestsAt i m × (k ≡ number))
+  pub kept : (m k : ℕ) → HasUser old m k → HasUser new m k
+  pub bound : (count : ℕ) → number < count → AreNumbersBelow count old → AreNumbersBelow count new
+
+-- nothing is added yet
+added_none : (i : Instance) (number : ℕ) (lists : List (List ℕ)) → IsAddedBelow i number 0 lists lists
+added_none i number lists = record {
+  added = λ k below. absurd (omega arith);
+  only = λ m k h. inl h;
+  kept = λ m k h. h;
+  bound = λ count h all. all;
+}
+
+-- where all premises are added
+added_all : (i : Instance) (number : ℕ) (old new : List (List ℕ)) (slots : List Slot)
+    → Some slots ≡ premises_of [] i.rule i.entry → IsAddedBelow i number (length slots) old new
+    → IsAddedAll i number old new
+added_all i number old new slots premises before = record {
+  added = λ s rests.
+      let at : slice_get slots rests.0 ≡ Some s =
+      sym (premises_one_by_one i.rule i.entry slots rests.0 premises) ∙ rests.1 in
+      before.added rests.0 (slice_get_within slots rests.0 s at) s rests.1;
   only = before.only;
   kept = before.kept;
   bound = before.bound;
 }
 
--- where all premises are added, the instance is among those of each slot that it rests on
-pub all_added : (i : Instance) (number j : ℕ) (old new : List (List ℕ)) → IsAddedBelow i number j old new
-    → j ≡ unwrap_or (count_of [] i.rule i.entry) 0
-    → (s : Slot) → RestsOn i s → HasUser new (slot_number s) number
-all_added i number j old new before all s rests =
-    let within = premise_of-within i.rule i.entry rests.0 s rests.1 in
-    before.added rests.0 (subst (λ (k : ℕ). rests.0 < k) (sym all) within) s rests.1
+-- what one turn of adding says
+pub record IsAddedAt (s : Slot) (number : ℕ) (old new : List (List ℕ)) : Type 0 where
+  pub added : HasUser new (slot_number s) number
+  pub only : (m k : ℕ) → HasUser new m k → HasUser old m k ⊎ ((m ≡ slot_number s) × (k ≡ number))
+  pub kept : (m k : ℕ) → HasUser old m k → HasUser new m k
+  pub bound : (count : ℕ) → number < count → AreNumbersBelow count old → AreNumbersBelow count new
+
+one_more_at : (i : Instance) (number j : ℕ) (old mid new : List (List ℕ)) (s : Slot) (slots : List Slot)
+    → Some slots ≡ premises_of [] i.rule i.entry → slice_get slots j ≡ Some s → IsAddedBelow i number j old mid
+    → IsAddedAt s number mid new → IsAddedBelow i number (j + 1) old new
+one_more_at i number j old mid new s slots premises at before more =
+    one_more i number j old mid new s before (premises_one_by_one i.rule i.entry slots j premises ∙ at) more.added
+    more.only more.kept more.bound
+
+-- one premise, and two
+pub added_one : (i : Instance) (number : ℕ) (old new : List (List ℕ)) (s : Slot)
+    → Some (s ∷ []) ≡ premises_of [] i.rule i.entry → IsAddedAt s number old new → IsAddedAll i number old new
+added_one i number old new s premises more =
+    added_all i number old new (s ∷ []) premises
+    (one_more_at i number 0 old old new s (s ∷ []) premises refl (added_none i number old) more)
+
+pub added_two : (i : Instance) (number : ℕ) (old mid new : List (List ℕ)) (s t : Slot)
+    → Some (s ∷ t ∷ []) ≡ premises_of [] i.rule i.entry → IsAddedAt s number old mid → IsAddedAt t number mid new
+    → IsAddedAll i number old new
+added_two i number old mid new s t premises first second =
+    let slots : List Slot = s ∷ t ∷ [] in
+    added_all i number old new slots premises
+    (one_more_at i number 1 old mid new t slots premises refl
+    (one_more_at i number 0 old old mid s slots premises refl (added_none i number old) first) second)
 
 -- the lists have the numbers of the first instances
 abbrev pub AreUsersBelow : List Instance → ℕ → List (List ℕ) → Type 0

@@ -9,7 +9,7 @@ ghost use Rattle.ct_closure.specs.Instance.{RestsOn, RestsAt, HasUser, AreUsers,
 use crate::instance::Instance;
 use crate::number::{SLOTS, slot_number};
 use ct_codes::{Entry, Side};
-use ct_rules::{premise, premise_count};
+use ct_rules::{PremiseSlots, all_premises};
 use std::alloc::{AllocError, Global};
 use std::marker::Model;
 
@@ -100,10 +100,12 @@ impl Users {
         ensures kept { OnOk result ((m k : ℕ) → HasUser self.old m k → HasUser self.new m k) }
         ensures bound { OnOk result ((count : ℕ) → number < count → AreNumbersBelow count self.old → AreNumbersBelow count self.new) }
     {
-        let count = premise_count(&[], instance.rule, instance.entry).unwrap_or(0);
-        for j in 0..count {
-            if let Some((side, entry)) = premise(&[], instance.rule, instance.entry, j) {
-                self.add(side, entry, number)?;
+        match all_premises(&[], instance.rule, instance.entry) {
+            None | Some(PremiseSlots::Nothing) => {}
+            Some(PremiseSlots::One(only)) => self.add(only.0, only.1, number)?,
+            Some(PremiseSlots::Two(first, second)) => {
+                self.add(first.0, first.1, number)?;
+                self.add(second.0, second.1, number)?;
             }
         }
         Ok(())
