@@ -1,6 +1,6 @@
 //! What derivations give, for every list of supports, and derivations that are known.
 
-ghost use Rattle.std.specs.Prelude.{◌≡◌, ℕ, ◌≤◌, List, [], ◌∷◌, ◌++◌, length, map, All, Contains, Some};
+ghost use Rattle.std.specs.Prelude.{◌≡◌, ℕ, ◌+◌, ◌^◌, ◌≤◌, List, [], ◌∷◌, ◌++◌, length, map, All, Contains, Some};
 ghost use Rattle.ct_codes.specs.declared.claim.Claim.{Claim};
 ghost use Rattle.ct_codes.specs.declared.claim.Side.TheVariants.{Lower, Upper};
 ghost use Rattle.ct_codes.specs.declared.entry.Entry.{Entry};
@@ -139,4 +139,18 @@ pub fn known_derivations()
         (record { claim = claim_at (Upper, unrestricted 3 4) 1; rule = L1; from = [] }) }
     ensures other_entry { ¬ Follows [] []
         (record { claim = claim_at (Lower, constant_weight 4 4 2) 1; rule = L1; from = [] }) }
+{}
+
+/// Claims that are true, and such that are false: A(5,3) is 4, and so neither at least 5 nor at most 3; no claim is true
+/// of an entry outside of the table, of a number that is no bound, or of a distance and a weight that no entry has.
+pub fn known_claims()
+    ensures from_below { IsTrueClaim (claim_at (lower_at 5 3) 4) }
+    ensures from_above { IsTrueClaim (claim_at (upper_at 5 3) 4) }
+    ensures too_great { ¬ IsTrueClaim (claim_at (lower_at 5 3) 5) }
+    ensures too_small { ¬ IsTrueClaim (claim_at (upper_at 5 3) 3) }
+    ensures no_words { ¬ IsTrueClaim (claim_at (lower_at 5 3) 0) }
+    ensures above_limit { ¬ IsTrueClaim (claim_at (upper_at 5 3) (2 ^ 28 + 1)) }
+    ensures too_long { ¬ IsTrueClaim (claim_at (upper_at 29 3) 4) }
+    ensures too_near { ¬ IsTrueClaim (claim_at (lower_at 5 2) 1) }
+    ensures odd_beside_weight { ¬ IsTrueClaim (claim_at (Lower, constant_weight 5 3 2) 1) }
 {}
