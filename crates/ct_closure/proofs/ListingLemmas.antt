@@ -160,7 +160,7 @@ side_by_side_unsupported e =
 plain_unsupported : All IsUnsupported plain_rules
 plain_unsupported =
     All-from_recursion IsUnsupported plain_rules
-    (refl, (refl, (refl, (refl, (refl, (refl, (refl, (refl, (refl, tt)))))))))
+    (refl, (refl, (refl, (refl, (refl, (refl, (refl, (refl, (refl, (refl, (refl, (refl, (refl, (refl, (refl, (refl, (refl, tt)))))))))))))))))
 
 weight_unsupported : All IsUnsupported weight_rules
 weight_unsupported = All-from_recursion IsUnsupported weight_rules (refl, (refl, tt))

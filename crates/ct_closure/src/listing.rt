@@ -86,6 +86,14 @@ fn add_fixed(list: &mut Vec<Instance>, entry: Entry) -> Result<(), AllocError>
         Rule::L7,
         Rule::L8,
         Rule::U0,
+        Rule::U1,
+        Rule::U2,
+        Rule::U3,
+        Rule::U4,
+        Rule::U5,
+        Rule::U6,
+        Rule::U7,
+        Rule::U8,
     ];
     add_rules(list, &rules, entry)?;
     add_side_by_side(list, entry)

@@ -83,17 +83,18 @@ fn count_at(instances: &Instances, entry: Entry) -> u32 {
     count
 }
 
-// At A(1,3) L4, L6 and L7 are defined, beside those that each slot has from the start; at A(4,5) also L3 and L8, and at A(4,8)
-// L5. Words side by side are more than one at A(4,8) nowhere, and at A(8,6) of the lengths 3 and 5, 4 and 4, 5 and 3.
+// At A(1,3) L4, L6, L7, U1, U3, U4 and U8 are defined, beside those that each slot has from the start; at A(4,5) L3, L4, L6 to
+// L8, U1 and U3 to U8; at A(4,8) L3 to L8, U1, U3 and U5 to U8; at A(8,6) L2 to L8, U2, U3 and U5 to U8. Words side by side are
+// more than one at A(4,8) nowhere, and at A(8,6) of the lengths 3 and 5, 4 and 4, 5 and 3.
 #[test]
 fn instances_of_entries(rt: HostRuntime) -> Result<(), Fail> {
     let alloc = rt.alloc();
     let instances = Instances::new(alloc)?;
     for (n, d, w, want) in [
-        (1, 3, None, 3),
-        (4, 5, None, 5),
-        (4, 8, None, 6),
-        (8, 6, None, 10),
+        (1, 3, None, 7),
+        (4, 5, None, 12),
+        (4, 8, None, 12),
+        (8, 6, None, 16),
         (4, 8, Some(2), 0),
     ] {
         let entry = Entry { n, d, w };
@@ -104,7 +105,7 @@ fn instances_of_entries(rt: HostRuntime) -> Result<(), Fail> {
 
 // On A(5,4) from below rest A(6,4), A(5,3), A(4,3), A(4,4), and by u followed by u + v A(10,4), A(10,7) and A(10,8). Words
 // side by side have it as the first at the lengths n from 8 to 28, each with the distances from 7 to n - 1, and as the second as
-// often.
+// often. On A(5,4) from above rest A(4,3), A(6,5), A(6,4), A(5,5) and A(4,4).
 #[test]
 fn users_of_a_slot(rt: HostRuntime) -> Result<(), Fail> {
     let alloc = rt.alloc();
@@ -117,7 +118,7 @@ fn users_of_a_slot(rt: HostRuntime) -> Result<(), Fail> {
     let lower = instances.users(Side::Lower, entry).len();
     assert_eq!(rt; lower, 7 + 2 * 21 * 22 / 2);
     let upper = instances.users(Side::Upper, entry).len();
-    assert_eq!(rt; upper, 0);
+    assert_eq!(rt; upper, 5);
     Ok(())
 }
 

@@ -6,7 +6,7 @@ use Rattle.ct_text.specs.declared.gathering.Gathered.{Gathered}
 use Rattle.ct_text.specs.declared.gathering.Gathered.TheVariants.{More, Whole}
 use Rattle.ct_commands.specs.Form.{form_of}
 use Rattle.ct_commands.specs.declared.form.Form.{Form}
-use Rattle.ct_commands.specs.declared.form.Form.TheVariants.{Submit, Withdraw, Show, Ledger, Dump, Unknown}
+use Rattle.ct_commands.specs.declared.form.Form.TheVariants.{Submit, Withdraw, Show, Table, Ledger, Dump, Unknown}
 use Rattle.ct_commands.specs.declared.command.Command.{Command}
 use Rattle.ct_commands.specs.declared.command.Command.TheVariants as command
 use Rattle.ct_commands.specs.declared.command.Pending.{Pending}
@@ -30,6 +30,7 @@ open_after (Some p) line = going_on p.id (gathered p.document line)
 abbrev pub asked : Form → Option Command
 asked (Withdraw id) = Some (command.Withdraw id)
 asked (Show numbers) = Some (command.Show numbers)
+asked (Table numbers) = Some (command.Table numbers)
 asked Ledger = Some command.Ledger
 asked Dump = Some command.Dump
 asked Unknown = Some command.Unknown

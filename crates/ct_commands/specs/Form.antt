@@ -6,10 +6,12 @@ use Rattle.ct_text.specs.Number.{number_of}
 use Rattle.ct_text.specs.Id.{is_id}
 use Rattle.ct_text.specs.EntryNumbers.{entry_numbers_of}
 use Rattle.ct_text.specs.declared.entry_numbers.EntryNumbers.{EntryNumbers}
+use Rattle.ct_text.specs.TableNumbers.{table_numbers_of}
+use Rattle.ct_text.specs.declared.table_numbers.TableNumbers.{TableNumbers}
 use Rattle.ct_text.specs.declared.gathering.Extent.{Extent}
 use Rattle.ct_text.specs.declared.gathering.Extent.TheVariants.{ToEnd, Lines}
 use Rattle.ct_commands.specs.declared.form.Form.{Form}
-use Rattle.ct_commands.specs.declared.form.Form.TheVariants.{Nothing, Submit, Withdraw, Show, Ledger, Dump, Unknown}
+use Rattle.ct_commands.specs.declared.form.Form.TheVariants.{Nothing, Submit, Withdraw, Show, Table, Ledger, Dump, Unknown}
 
 -- the id that a word is, if it is one
 abbrev pub id_of : List ℕ → Option (List ℕ)
@@ -41,6 +43,11 @@ abbrev pub show_form : Option EntryNumbers → Form
 show_form (Some numbers) = Show numbers
 show_form None = Unknown
 
+-- the bounds of a part of the table, where numbers name one
+abbrev pub table_form : Option TableNumbers → Form
+table_form (Some numbers) = Table numbers
+table_form None = Unknown
+
 -- what the words of a line ask for, by the first of them
 abbrev pub words_form : List (List ℕ) → Form
 words_form [] = Nothing
@@ -48,9 +55,10 @@ words_form (first ∷ rest) =
     if bytes_eq first (codes "submit") then submit_form rest
     else (if bytes_eq first (codes "withdraw") then withdraw_form rest
     else (if bytes_eq first (codes "show") then show_form (entry_numbers_of rest)
+    else (if bytes_eq first (codes "table") then table_form (table_numbers_of rest)
     else (if bytes_eq first (codes "ledger") then bare_form Ledger rest
     else (if bytes_eq first (codes "dump") then bare_form Dump rest
-    else Unknown))))
+    else Unknown)))))
 
 -- what a line asks for: nothing where its first byte is `#` (35) or where it has no words
 unfoldable pub form_of : List ℕ → Form

@@ -5,7 +5,7 @@ ghost use Rattle.std.specs.Option.{option_to_list};
 ghost use Rattle.ct_commands.specs.Command.{open_after, completed_by, cut_off};
 
 use crate::form::{Form, read_form};
-use ct_text::{EntryNumbers, Gathered, Gathering, Id, Text};
+use ct_text::{EntryNumbers, Gathered, Gathering, Id, TableNumbers, Text};
 use std::alloc::{AllocError, Global};
 use std::marker::Model;
 
@@ -20,6 +20,8 @@ pub enum Command {
     Withdraw(Id),
     /// The bounds of the entry with these numbers.
     Show(EntryNumbers),
+    /// The bounds of the entries in the part of the table with these numbers.
+    Table(TableNumbers),
     /// A line for each piece.
     Ledger,
     /// The commands that lead to the pieces.
@@ -78,6 +80,7 @@ fn begin(alloc: Global, line: &[u8]) -> Result<(Option<Pending>, Option<Command>
         }
         Form::Withdraw(id) => Command::Withdraw(id),
         Form::Show(numbers) => Command::Show(numbers),
+        Form::Table(numbers) => Command::Table(numbers),
         Form::Ledger => Command::Ledger,
         Form::Dump => Command::Dump,
         Form::Unknown => Command::Unknown,

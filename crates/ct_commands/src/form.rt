@@ -3,9 +3,13 @@
 ghost use Rattle.std.specs.Prelude.{◌≡◌, ◌==◌, IfOk, map, slice_index};
 ghost use Rattle.ct_text.specs.Number.{number_of};
 ghost use Rattle.ct_text.specs.EntryNumbers.{entry_numbers_of};
-ghost use Rattle.ct_commands.specs.Form.{form_of, words_form, submit_form, lines_form, withdraw_form, bare_form, show_form};
+ghost use Rattle.ct_text.specs.TableNumbers.{table_numbers_of};
+ghost use Rattle.ct_commands.specs.Form.{form_of, words_form, submit_form, lines_form, withdraw_form, bare_form, show_form, table_form};
 
-use ct_text::{EntryNumbers, Extent, Id, first_words, parse_entry_numbers, parse_number};
+use ct_text::{
+    EntryNumbers, Extent, Id, TableNumbers, first_words, parse_entry_numbers, parse_number,
+    parse_table_numbers,
+};
 use std::alloc::{AllocError, Global};
 
 // So many words of a line tell what it asks for: no form has more than five, and a sixth shows that there are too many.
@@ -23,6 +27,8 @@ pub enum Form {
     Withdraw(Id),
     /// The bounds of the entry with these numbers.
     Show(EntryNumbers),
+    /// The bounds of the entries in the part of the table with these numbers.
+    Table(TableNumbers),
     /// A line for each piece.
     Ledger,
     /// The commands that lead to the pieces.
@@ -88,6 +94,16 @@ fn show(numbers: Option<EntryNumbers>) -> Form
     }
 }
 
+/// The bounds of a part of the table, where numbers name one.
+fn table(numbers: Option<TableNumbers>) -> Form
+    ensures { result ≡ table_form numbers }
+{
+    match numbers {
+        Some(numbers) => Form::Table(numbers),
+        None => Form::Unknown,
+    }
+}
+
 /// What the words of a line ask for.
 fn form_of_words(words: &[&[u8]]) -> Form
     ensures { result ≡ words_form (map (λ word. word.now) words.now) }
@@ -101,6 +117,8 @@ fn form_of_words(words: &[&[u8]]) -> Form
         withdrawal(rest)
     } else if *first == b"show".as_slice() {
         show(parse_entry_numbers(rest))
+    } else if *first == b"table".as_slice() {
+        table(parse_table_numbers(rest))
     } else if *first == b"ledger".as_slice() {
         bare(Form::Ledger, rest)
     } else if *first == b"dump".as_slice() {

@@ -7,9 +7,10 @@ ghost use Rattle.ct_text.specs.Gathering.{is_end};
 ghost use Rattle.ct_text.specs.declared.entry_numbers.EntryNumbers.{EntryNumbers};
 ghost use Rattle.ct_text.specs.declared.gathering.Extent.{Extent};
 ghost use Rattle.ct_text.specs.declared.gathering.Extent.TheVariants.{ToEnd, Lines};
+ghost use Rattle.ct_text.specs.declared.table_numbers.TableNumbers.{TableNumbers};
 ghost use Rattle.ct_commands.specs.Form.{form_of};
 ghost use Rattle.ct_commands.specs.Command.{commands_of};
-ghost use Rattle.ct_commands.specs.declared.form.Form.TheVariants.{Nothing, Submit, Withdraw, Show, Ledger, Dump, Unknown};
+ghost use Rattle.ct_commands.specs.declared.form.Form.TheVariants.{Nothing, Submit, Withdraw, Show, Table, Ledger, Dump, Unknown};
 ghost use Rattle.ct_commands.specs.declared.command.Command.TheVariants as command;
 
 /// A submission takes the lines of its document with it, up to the line `end` or so many as it says; where the input has
@@ -38,6 +39,8 @@ pub fn other_lines_stand_alone()
         → commands_of (line ∷ rest) ≡ commands_of rest }
     ensures show { (line : List ℕ) (numbers : EntryNumbers) (rest : List (List ℕ)) → form_of line ≡ Show numbers
         → commands_of (line ∷ rest) ≡ command.Show numbers ∷ commands_of rest }
+    ensures table { (line : List ℕ) (numbers : TableNumbers) (rest : List (List ℕ)) → form_of line ≡ Table numbers
+        → commands_of (line ∷ rest) ≡ command.Table numbers ∷ commands_of rest }
     ensures withdraw { (line : List ℕ) (id : List ℕ) (rest : List (List ℕ)) → form_of line ≡ Withdraw id
         → commands_of (line ∷ rest) ≡ command.Withdraw id ∷ commands_of rest }
     ensures ledger { (line : List ℕ) (rest : List (List ℕ)) → form_of line ≡ Ledger

@@ -10,20 +10,21 @@ use Rattle.ct_text.specs.Id.{is_id}
 use Rattle.ct_text.specs.Line.{words_of}
 use Rattle.ct_text.specs.Number.{number_of}
 use Rattle.ct_text.specs.EntryNumbers.{entry_numbers_of}
+use Rattle.ct_text.specs.TableNumbers.{table_numbers_of}
 use Rattle.ct_text.specs.Gathering.{gathered}
 use Rattle.ct_text.specs.declared.entry_numbers.EntryNumbers.{EntryNumbers}
+use Rattle.ct_text.specs.declared.table_numbers.TableNumbers.{TableNumbers}
 use Rattle.ct_text.specs.declared.gathering.Gathered.{Gathered}
 use Rattle.ct_text.specs.declared.gathering.Gathered.TheVariants.{More, Whole}
 use Rattle.ct_text.specs.declared.gathering.Extent.TheVariants.{ToEnd}
 use Rattle.ct_lines.specs.Lines.{lines_of}
-use Rattle.ct_commands.specs.Form.{form_of, id_of, lines_form, submit_form, withdraw_form, show_form, bare_form, words_form}
+use Rattle.ct_commands.specs.Form.{form_of, id_of, lines_form, submit_form, withdraw_form, show_form, table_form, bare_form, words_form}
 use Rattle.ct_commands.specs.Command.{opened, going_on, open_after, asked, finished, completed_by, completed, open_after_all, cut_off, commands_of}
 use Rattle.ct_commands.specs.declared.form.Form.{Form}
-use Rattle.ct_commands.specs.declared.form.Form.TheVariants.{Nothing, Submit, Withdraw, Show, Ledger, Dump, Unknown}
+use Rattle.ct_commands.specs.declared.form.Form.TheVariants.{Nothing, Submit, Withdraw, Show, Table, Ledger, Dump, Unknown}
 use Rattle.ct_commands.specs.declared.command.Command.{Command}
 use Rattle.ct_commands.specs.declared.command.Command.TheVariants as command
 use Rattle.ct_commands.specs.declared.command.Pending.{Pending}
-use Rattle.ct_files.specs.Evidence.{read_of}
 use Rattle.ct_ledger.specs.Piece.{PieceValue, has_id, first_user}
 use Rattle.ct_ledger.specs.Submission.{submitted, with_piece}
 use Rattle.ct_ledger.specs.Withdrawal.{without, withdrawn, unless_used, left_by}
@@ -83,6 +84,10 @@ show_form-named : (numbers : Option EntryNumbers) → FormIsNamed (show_form num
 show_form-named None = tt
 show_form-named (Some numbers) = tt
 
+table_form-named : (numbers : Option TableNumbers) → FormIsNamed (table_form numbers)
+table_form-named None = tt
+table_form-named (Some numbers) = tt
+
 bare_form-named : (form : Form) (words : List (List ℕ)) → FormIsNamed form → FormIsNamed (bare_form form words)
 bare_form-named form [] h = h
 bare_form-named form (word ∷ words) h = tt
@@ -97,8 +102,9 @@ words_form-named (first ∷ rest) =
     chosen (bytes_eq first (codes "submit")) _ _ (submit_form-named rest)
     (chosen (bytes_eq first (codes "withdraw")) _ _ (withdraw_form-named rest)
     (chosen (bytes_eq first (codes "show")) _ _ (show_form-named (entry_numbers_of rest))
+    (chosen (bytes_eq first (codes "table")) _ _ (table_form-named (table_numbers_of rest))
     (chosen (bytes_eq first (codes "ledger")) _ _ (bare_form-named Ledger rest tt)
-    (chosen (bytes_eq first (codes "dump")) _ _ (bare_form-named Dump rest tt) tt))))
+    (chosen (bytes_eq first (codes "dump")) _ _ (bare_form-named Dump rest tt) tt)))))
 
 form_of-named : (line : List ℕ) → FormIsNamed (form_of line)
 unfolding form_of
@@ -109,6 +115,7 @@ opened-named Nothing h = tt
 opened-named (Submit id extent) h = h
 opened-named (Withdraw id) h = tt
 opened-named (Show numbers) h = tt
+opened-named (Table numbers) h = tt
 opened-named Ledger h = tt
 opened-named Dump h = tt
 opened-named Unknown h = tt
@@ -133,6 +140,7 @@ asked-named Nothing = tt
 asked-named (Submit id extent) = tt
 asked-named (Withdraw id) = (tt, tt)
 asked-named (Show numbers) = (tt, tt)
+asked-named (Table numbers) = (tt, tt)
 asked-named Ledger = (tt, tt)
 asked-named Dump = (tt, tt)
 asked-named Unknown = (tt, tt)
@@ -184,6 +192,7 @@ pieces_after-named pieces (command.Submission (Some id) document) named h = with
 pieces_after-named pieces (command.Withdraw id) named h = withdrawn-named pieces id h
 pieces_after-named pieces command.CutOff named h = h
 pieces_after-named pieces (command.Show numbers) named h = h
+pieces_after-named pieces (command.Table numbers) named h = h
 pieces_after-named pieces command.Ledger named h = h
 pieces_after-named pieces command.Dump named h = h
 pieces_after-named pieces command.Unknown named h = h

@@ -1,3 +1,4 @@
+mod EqualBounds
 mod DumpCommands
 mod DumpHeadings
 mod DumpNames

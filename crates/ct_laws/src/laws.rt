@@ -1,6 +1,6 @@
 //! Sessions whose output is known, and texts of replies.
 
-ghost use Rattle.std.specs.Prelude.{◌≡◌, ◌⊎◌, ◌↔◌, ℕ, List, [], Some, None, IsTrue, false, true, codes};
+ghost use Rattle.std.specs.Prelude.{◌≡◌, ◌⊎◌, ◌↔◌, ◌∷◌, ℕ, List, [], slice_get, Some, None, IsTrue, false, true, codes};
 ghost use Rattle.ct_text.specs.Gathering.{is_end};
 ghost use Rattle.ct_codes.specs.declared.fault.CodeFault.TheVariants as code;
 ghost use Rattle.ct_build.specs.declared.fault.BuildFault.TheVariants as build;
@@ -8,9 +8,11 @@ ghost use Rattle.ct_files.specs.declared.field.FieldName.TheVariants as name;
 ghost use Rattle.ct_files.specs.declared.fault.FileFault.TheVariants as file;
 ghost use Rattle.ct_ledger.specs.declared.fault.SubmitFault.TheVariants as submit;
 ghost use Rattle.ct_ledger.specs.declared.fault.WithdrawFault.TheVariants as withdraw;
+ghost use Rattle.ct_codes.specs.Entry.{unrestricted};
+ghost use Rattle.ct_session.specs.Reply.{column};
 ghost use Rattle.ct_session.specs.Run.{IsRun};
 ghost use Rattle.ct_session.specs.Text.{reply_text};
-ghost use Rattle.ct_session.specs.declared.reply.Reply.TheVariants.{Shown, Refused};
+ghost use Rattle.ct_session.specs.declared.reply.Reply.TheVariants.{Shown, Table, Refused};
 ghost use Rattle.ct_session.specs.declared.reply.Refusal.TheVariants as refusal;
 ghost use Rattle.ct_laws.specs.Examples.{six_words, close_words, repeated_words, no_words, linear_code, close_choices, heavier_word};
 
@@ -18,7 +20,10 @@ ghost use Rattle.ct_laws.specs.Examples.{six_words, close_words, repeated_words,
 /// no pieces.
 pub fn known_runs()
     ensures empty { IsRun [] [] false }
-    ensures shown { IsRun (codes "show 10 6\n") (codes "1 <= A(10,6) <= 1024\n") false }
+    ensures shown { IsRun (codes "show 5 3\n") (codes "A(5,3) = 4\n") false }
+    ensures no_table { IsRun (codes "table 2\n") (codes "refused entry\n") true }
+    ensures no_weight { IsRun (codes "table 28 14\n") (codes "refused entry\n") true }
+    ensures no_number { IsRun (codes "table x\n") (codes "refused command\n") true }
     ensures outside { IsRun (codes "show 28 2\n") (codes "refused entry\n") true }
     ensures cut { IsRun (codes "submit a\nkind = \"words\"") (codes "refused cut\n") true }
     ensures ledger { IsRun (codes "ledger\n") (codes "pieces 0\n") false }
@@ -29,13 +34,21 @@ pub fn known_runs()
 /// Sessions with a submission whose run is known: six words that are a code, and words that are too close, repeated and none; a linear
 /// code by its basis, and a basis whose words are heavy enough but not their sum; a word of another weight than is stated.
 pub fn known_submissions()
-    ensures accepted { IsRun six_words (codes "accepted hexa size 6\n6 <= A(10,6) <= 1024\n") false }
+    ensures accepted { IsRun six_words (codes "accepted hexa size 6\nA(10,6) = 6\n") false }
     ensures close { IsRun close_words (codes "refused close 0 1 5\n") true }
     ensures repeated { IsRun repeated_words (codes "refused repeated 0 1\n") true }
     ensures empty { IsRun no_words (codes "refused size 0\n") true }
-    ensures linear { IsRun linear_code (codes "accepted linear size 8\n8 <= A(6,3) <= 64\n") false }
+    ensures linear { IsRun linear_code (codes "accepted linear size 8\nA(6,3) = 8\n") false }
     ensures choices { IsRun close_choices (codes "refused close 0 3 2\n") true }
     ensures weight { IsRun heavier_word (codes "refused weight 2\n") true }
+{}
+
+/// The entries of a column of the table: one of each length, from 1 to `MAX_N`, without weight.
+pub fn known_columns()
+    ensures first { slice_get (column 3) 0 ≡ Some (unrestricted 1 3) }
+    ensures second { slice_get (column 28) 1 ≡ Some (unrestricted 2 28) }
+    ensures last { slice_get (column 28) 27 ≡ Some (unrestricted 28 28) }
+    ensures end { slice_get (column 3) 28 ≡ None }
 {}
 
 /// Texts of replies that are known, those of every refusal among them.
@@ -44,6 +57,9 @@ pub fn known_texts()
         ≡ codes "6 <= A(10,6) <= 1024\n" }
     ensures value { reply_text (Shown (record { entry = record { n = 24; d = 8; w = Some 8 }; lower = 759; upper = 759 }))
         ≡ codes "A(24,8,8) = 759\n" }
+    ensures table { reply_text (Table (record { entry = unrestricted 27 28; lower = 1; upper = 1 }
+        ∷ record { entry = unrestricted 28 3; lower = 8388608; upper = 9256395 } ∷ []))
+        ≡ codes "A(27,28) = 1\n8388608 <= A(28,3) <= 9256395\n" }
     ensures cut { reply_text (Refused refusal.CutOff) ≡ codes "refused cut\n" }
     ensures command { reply_text (Refused refusal.NoCommand) ≡ codes "refused command\n" }
     ensures entry { reply_text (Refused refusal.NoEntry) ≡ codes "refused entry\n" }

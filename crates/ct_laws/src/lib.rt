@@ -6,4 +6,4 @@ mod dump;
 mod laws;
 
 pub use dump::dumps_lead_back;
-pub use laws::{documents_end_there, known_runs, known_submissions, known_texts};
+pub use laws::{documents_end_there, known_columns, known_runs, known_submissions, known_texts};

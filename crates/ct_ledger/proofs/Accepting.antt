@@ -1,7 +1,6 @@
 -- Which submissions are accepted.
-use Rattle.std.proofs.Common.{◌≡◌, ◌≢◌, ℕ, ◌+◌, ◌≤◌, Bool, true, false, ◌||◌, List, [], ◌∷◌, map, Option, Some, None, is_some, option_map, Result, Ok, Err, refl, sym, ap, ◌∙◌, subst, inl, inr, ◌↔◌, lit<, arith}
+use Rattle.std.proofs.Common.{◌≡◌, ◌≢◌, ℕ, Bool, true, false, ◌||◌, List, [], ◌∷◌, map, Option, Some, None, is_some, option_map, Ok, refl, sym, ap, ◌∙◌, subst, inl, inr, ◌↔◌, lit<, arith}
 use Rattle.std.specs.Prelude.{All, Contains, IsTrue}
-use Rattle.std.specs.Option.{option_to_list}
 use Rattle.std.specs.Str.{bytes_eq}
 use Rattle.std.proofs.lemmas.List.Elements.{All-head, All-tail, All-weaker, Contains-append_left, Contains-append_right, Contains-append_cases, All-contains, All-cons, All-nil}
 use Rattle.std.proofs.lemmas.Slice.Eq.{bytes_eq-Decides}
@@ -15,15 +14,14 @@ use Rattle.ct_files.specs.declared.evidence.Evidence.{Evidence}
 use Rattle.ct_files.specs.declared.evidence.Evidence.TheVariants.{Words, Cosets, Build}
 use Rattle.ct_files.specs.Evidence.{read_of, IsSound}
 use Rattle.ct_files.proofs.Evidences.{read_of-sound}
-use Rattle.ct_ledger.specs.Piece.{PieceValue, has_id, stated_entry, parts_of, stored_by, stored_words}
+use Rattle.ct_ledger.specs.Piece.{PieceValue, has_id, stated_entry, parts_of}
 use Rattle.ct_ledger.specs.Codes.{NamedCode, code_named, other_named, words_over, codes_of}
-use Rattle.ct_ledger.specs.Submission.{first_missing, build_refusal, build_reason, own_reason, evidence_reason, piece_of, made_unless, piece_from, submitted, IsRightPart, IsChecked, IsAccepted}
+use Rattle.ct_ledger.specs.Submission.{first_missing, build_refusal, build_reason, own_reason, piece_of, made_unless, piece_from, submitted, IsRightPart, IsChecked, IsAccepted}
 use Rattle.ct_ledger.specs.Standing.{AreStanding}
-use Rattle.ct_ledger.specs.declared.limits.TheConstants.{MAX_STORED}
 use Rattle.ct_ledger.specs.declared.fault.SubmitFault.{SubmitFault}
 use Rattle.ct_ledger.specs.declared.fault.SubmitFault.TheVariants as fault
 use Rattle.ct_ledger.proofs.CodeLemmas.{named_where_taken}
-use Rattle.ct_ledger.proofs.MakingLemmas.{AreSound, HasSoundCode, IsRight, option_map-none, none_missing, none_missing-from, states_code, making, codes_after-sound}
+use Rattle.ct_ledger.proofs.MakingLemmas.{HasSoundCode, option_map-none, none_missing, none_missing-from, states_code, making, codes_after-sound}
 use Rattle.ct_ledger.proofs.StandingLemmas.{WasMade, submitted-ok, submitted-from, has_id-none}
 
 -- an id that no piece has is not taken

@@ -1,17 +1,15 @@
 -- The codes of pieces: those of a list with more pieces, the one at a place, the one of an id; and that each is a code.
-use Rattle.std.proofs.Common.{◌≡◌, ◌≢◌, ℕ, zero, suc, ◌+◌, ◌<◌, ◌≤◌, Bool, true, false, ◌||◌, cond, not, List, [], ◌∷◌, ◌++◌, length, take, get_or, map, Option, Some, None, is_some, option_map, Result, Ok, Err, IfOk, refl, sym, ap, ap₂, subst, ◌∙◌, arith, append_assoc, append-nil, nat_lt}
-use Rattle.std.specs.Prelude.{All, position, slice_get}
-use Rattle.std.specs.List.{list_any, position_or_len}
+use Rattle.std.proofs.Common.{◌≡◌, ℕ, zero, suc, ◌+◌, ◌<◌, ◌≤◌, Bool, true, false, ◌||◌, cond, not, List, [], ◌∷◌, ◌++◌, length, take, get_or, map, Some, None, is_some, option_map, Result, Ok, Err, IfOk, refl, sym, ap, subst, ◌∙◌, arith, append_assoc, append-nil, nat_lt}
+use Rattle.std.specs.Prelude.{position, slice_get}
+use Rattle.std.specs.List.{position_or_len}
 use Rattle.std.specs.List.Sorted.{IsPermutation}
 use Rattle.std.specs.Str.{bytes_eq}
 use Rattle.std.proofs.lemmas.Bool.{ltb-true, ltb-false}
-use Rattle.std.proofs.lemmas.List.Elements.{All-push, All-nil, All-cons, All-head, All-tail}
 use Rattle.ct_codes.specs.declared.entry.Entry.{Entry}
 use Rattle.ct_codes.specs.Entry.{IsEntry}
 use Rattle.ct_codes.specs.Code.{CodeValue, IsCodeOf, IsSoundCode}
 use Rattle.ct_codes.specs.Coset.{CosetValue, coset_list}
 use Rattle.ct_codes.proofs.CheckLemmas.{sound_from_code}
-use Rattle.ct_files.specs.declared.evidence.Evidence.{Evidence}
 use Rattle.ct_ledger.specs.Ascending.{ascending}
 use Rattle.ct_ledger.specs.Piece.{PieceValue, has_id}
 use Rattle.ct_ledger.specs.Codes.{NamedCode, code_named, code_at, named_code, codes_after, codes_of, code_of_place}

@@ -1,8 +1,6 @@
 -- Where a piece leaves that none names, the others are made as before.
-use Rattle.std.proofs.Common.{◌≡◌, ◌≢◌, ℕ, Bool, true, false, ◌||◌, cond, not, List, [], ◌∷◌, ◌++◌, length, Option, Some, None, option_map, Result, Ok, refl, sym, ap, ap₂, subst, ◌∙◌, append-nil}
+use Rattle.std.proofs.Common.{◌≡◌, ℕ, Bool, true, false, ◌||◌, cond, not, List, [], ◌∷◌, ◌++◌, length, Option, Some, None, option_map, Ok, refl, sym, ap, ap₂, subst, ◌∙◌, append-nil}
 use Rattle.std.specs.Prelude.{filter, find}
-use Rattle.std.specs.List.{list_any}
-use Rattle.std.specs.Option.{option_to_list}
 use Rattle.std.specs.Str.{bytes_eq}
 use Rattle.std.proofs.lemmas.List.Elements.{filter-append}
 use Rattle.std.proofs.lemmas.Slice.Eq.{bytes_eq-Decides}
@@ -12,16 +10,14 @@ use Rattle.ct_codes.specs.Pairs.{first_of}
 use Rattle.ct_build.specs.declared.step.Step.{Step}
 use Rattle.ct_files.specs.declared.evidence.Evidence.{Evidence}
 use Rattle.ct_files.specs.declared.evidence.Evidence.TheVariants.{Words, Cosets, Build}
-use Rattle.ct_files.specs.declared.fault.FileFault.{FileFault}
-use Rattle.ct_files.specs.Evidence.{read_of}
 use Rattle.ct_ledger.specs.Piece.{PieceValue, stated_entry, names, first_user}
-use Rattle.ct_ledger.specs.Codes.{NamedCode, code_named, other_named, built_over, words_over, code_at, named_code}
-use Rattle.ct_ledger.specs.Submission.{unless_known, build_reason, evidence_reason, made_unless, made_of, piece_of, piece_from}
+use Rattle.ct_ledger.specs.Codes.{NamedCode, code_named, built_over, words_over, code_at, named_code}
+use Rattle.ct_ledger.specs.Submission.{unless_known, build_reason, evidence_reason, made_unless, piece_from}
 use Rattle.ct_ledger.specs.Withdrawal.{without}
 use Rattle.ct_ledger.specs.Standing.{IsMade, AreMade}
 use Rattle.ct_ledger.specs.declared.fault.SubmitFault.{SubmitFault}
 use Rattle.ct_ledger.specs.declared.fault.SubmitFault.TheVariants as fault
-use Rattle.ct_ledger.proofs.MakingLemmas.{IsMaking, making-of}
+use Rattle.ct_ledger.proofs.MakingLemmas.{making-of}
 
 -- the codes but for those of the id
 abbrev others : List ℕ → List NamedCode → List NamedCode

@@ -4,4 +4,5 @@ pub mod MakingLemmas
 pub mod NeededLemmas
 pub mod LeavingLemmas
 pub mod StandingLemmas
+pub mod SupportLemmas
 mod Accepting

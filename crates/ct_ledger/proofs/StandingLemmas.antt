@@ -8,13 +8,10 @@ use Rattle.std.proofs.lemmas.List.Kept.{AllPairs-filter}
 use Rattle.std.proofs.lemmas.List.Quantifiers.{all_pairs_push}
 use Rattle.std.proofs.lemmas.List.Sums.{sum_by_push, sum_by-cons}
 use Rattle.std.proofs.lemmas.Slice.Eq.{bytes_eq-Decides}
-use Rattle.ct_codes.specs.Code.{IsTrueLower}
-use Rattle.ct_files.specs.declared.evidence.Evidence.{Evidence}
-use Rattle.ct_files.specs.declared.fault.FileFault.{FileFault}
 use Rattle.ct_files.specs.Evidence.{read_of}
 use Rattle.ct_ledger.specs.Piece.{PieceValue, has_id, stored_by, stored_words, first_user}
-use Rattle.ct_ledger.specs.Codes.{NamedCode, words_over, named_code, codes_after, codes_of}
-use Rattle.ct_ledger.specs.Submission.{piece_of, made_of, piece_from, if_stored, stored_beside, unless_full, submitted, with_piece}
+use Rattle.ct_ledger.specs.Codes.{NamedCode, words_over, named_code, codes_of}
+use Rattle.ct_ledger.specs.Submission.{piece_from, if_stored, stored_beside, unless_full, submitted, with_piece}
 use Rattle.ct_ledger.specs.Withdrawal.{without, withdrawn, unless_used, left_by}
 use Rattle.ct_ledger.specs.Standing.{AreStanding, IsMade, AreMade, HasTrueSize}
 use Rattle.ct_ledger.specs.declared.limits.TheConstants.{MAX_PIECES, MAX_STORED}
@@ -23,7 +20,7 @@ use Rattle.ct_ledger.specs.declared.fault.SubmitFault.TheVariants as fault
 use Rattle.ct_ledger.specs.declared.fault.WithdrawFault.{WithdrawFault}
 use Rattle.ct_ledger.specs.declared.fault.WithdrawFault.TheVariants as withdraw
 use Rattle.ct_ledger.proofs.CodeLemmas.{AreMade-append}
-use Rattle.ct_ledger.proofs.MakingLemmas.{AreSound, HasSoundCode, IsMaking, making, making-of, states_code, IsMade-sound}
+use Rattle.ct_ledger.proofs.MakingLemmas.{AreSound, HasSoundCode, making, making-of, states_code, IsMade-sound}
 use Rattle.ct_ledger.proofs.LeavingLemmas.{AreMade-without}
 
 -- a piece that is made has the id and the document that it is made of

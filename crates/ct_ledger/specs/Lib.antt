@@ -6,5 +6,6 @@ pub mod Withdrawal
 pub mod Standing
 pub mod Text
 pub mod Dump
+pub mod Supports
 pub mod Ledger
 pub mod Inside

@@ -63,3 +63,14 @@ pub enum WithdrawFault {
     /// Memory ran out.
     Memory,
 }
+
+impl From<AllocError> for WithdrawFault {
+    ghost use Rattle.std.specs.Prelude.{◌≡◌};
+    ghost use Rattle.ct_ledger.specs.declared.fault.WithdrawFault.TheVariants.{Memory};
+
+    ghost from_gives = { λ _ e. e ≡ Memory };
+
+    fn from(_error: AllocError) -> WithdrawFault {
+        WithdrawFault::Memory
+    }
+}

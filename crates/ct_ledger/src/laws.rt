@@ -6,6 +6,8 @@ ghost use Rattle.ct_ledger.specs.Codes.{codes_of};
 ghost use Rattle.ct_ledger.specs.Piece.{PieceValue, has_id};
 ghost use Rattle.ct_ledger.specs.Standing.{AreStanding};
 ghost use Rattle.ct_ledger.specs.Submission.{submitted, IsAccepted};
+ghost use Rattle.ct_ledger.specs.Supports.{supports_of};
+ghost use Rattle.ct_rules.specs.Support.{AllStand};
 
 /// A submission over pieces that stand makes a piece exactly where its id is free, there is room, each part that its
 /// document names stands and is right, the document states a code of its entry, whose check is within the limit, and the
@@ -21,4 +23,9 @@ pub fn submissions_that_are_accepted()
 pub fn pieces_have_codes()
     ensures codes { (pieces : List PieceValue) → AreStanding pieces → All (λ k. IsSoundCode k.code) (codes_of pieces) }
     ensures ids { (pieces : List PieceValue) → map (λ k. k.id) (codes_of pieces) ≡ map (λ p. p.id) pieces }
+{}
+
+/// What pieces that stand give to the table stands: each size is that of a code of its entry, from 1 to `MAX_BOUND`.
+pub fn pieces_give_supports()
+    ensures { (pieces : List PieceValue) → AreStanding pieces → AllStand (supports_of pieces) }
 {}

@@ -10,42 +10,49 @@ ghost use Rattle.ct_ledger.specs.Piece.{PieceValue, has_id, stored_by, stored_wo
 ghost use Rattle.ct_ledger.specs.Codes.{code_of_place};
 ghost use Rattle.ct_ledger.specs.Submission.{submitted, piece_from, if_stored, unless_full};
 ghost use Rattle.ct_ledger.specs.declared.fault.SubmitFault.{SubmitFault};
-ghost use Rattle.ct_ledger.specs.Withdrawal.{withdrawn, without};
+ghost use Rattle.ct_ledger.specs.Withdrawal.{withdrawn};
+ghost use Rattle.ct_ledger.specs.Supports.{supports_of};
 ghost use Rattle.ct_ledger.specs.Standing.{AreStanding, HasTrueSize};
 ghost use Rattle.ct_ledger.specs.Ledger.{AddsPiece};
 ghost use Rattle.ct_ledger.specs.Dump.{dump_text};
 
 use crate::check::check_document;
+use crate::codes::place_of;
 use crate::dump::put_dump;
 use crate::fault::{SubmitFault, WithdrawFault};
 use crate::limits::{MAX_PIECES, MAX_STORED};
 use crate::needed::code_of;
 use crate::piece::Piece;
+use crate::support::support_of;
 use ct_codes::Code;
 use ct_files::Evidence;
+use ct_table::Table;
 use ct_text::{Id, Text};
 use std::alloc::{AllocError, Global};
 use std::marker::Model;
 
-/// The pieces of evidence that were accepted and not withdrawn, in the order in which they were accepted. Contracts see
-/// the list of the pieces and the number of words that they store.
+/// The pieces of evidence that were accepted and not withdrawn, in the order in which they were accepted, and the table of
+/// the bounds that they give. Contracts see the list of the pieces, the number of words that they store, and the table.
 #[derive(Debug, Drop)]
 pub struct Ledger {
     pieces: Vec<Piece>,
     stored: u64,
+    table: Table,
 }
 
 impl Model for Ledger {
     ghost use Rattle.std.specs.Prelude.{◌≡◌};
     ghost use Rattle.ct_ledger.specs.Piece.{stored_words};
     ghost use Rattle.ct_ledger.specs.Standing.{AreStanding};
+    ghost use Rattle.ct_ledger.specs.Supports.{supports_of};
     ghost use Rattle.ct_ledger.specs.Ledger.{LedgerValue};
 
     ghost Value = { LedgerValue };
 
-    ghost view = { λ l. record { pieces = l.pieces.items; stored = l.stored } };
+    ghost view = { λ l. record { pieces = l.pieces.items; stored = l.stored; table = l.table } };
 
-    ghost invariant = { λ l. AreStanding l.pieces.items × (l.stored ≡ stored_words l.pieces.items) };
+    ghost invariant = { λ l. AreStanding l.pieces.items × (l.stored ≡ stored_words l.pieces.items)
+        × (l.table.supports ≡ supports_of l.pieces.items) };
 }
 
 /// How many words the piece stores.
@@ -115,13 +122,6 @@ fn is_other(other: Option<Id>, id: Id) -> bool
     }
 }
 
-/// Takes out the pieces with the id.
-fn take_out(pieces: &mut Vec<Piece>, id: Id)
-    ensures { pieces.new.items ≡ without id pieces.old.items }
-{
-    pieces.retain(|piece| !(piece.id() == id));
-}
-
 /// How many words the pieces store.
 fn stored_by_all(pieces: &[Piece]) -> u64
     requires { stored_words pieces.now ≤ MAX_STORED }
@@ -153,11 +153,12 @@ fn room_for(pieces: &[Piece], id: Id) -> Result<(), SubmitFault>
 impl Ledger {
     /// A ledger without pieces. `Err` is want of memory.
     pub fn new(alloc: Global) -> Result<Ledger, AllocError>
-        ensures { IfOk result (λ ledger. ledger ≡ record { pieces = []; stored = 0 }) }
+        ensures { IfOk result (λ ledger. ledger.pieces ≡ []) }
     {
         Ok(Ledger {
             pieces: Vec::new(alloc),
             stored: 0,
+            table: Table::new(alloc)?,
         })
     }
 
@@ -168,6 +169,14 @@ impl Ledger {
         ensures sizes { All HasTrueSize self.now.pieces }
     {
         &self.pieces
+    }
+
+    /// The table of the bounds that the pieces give: its supports are theirs, place by place.
+    pub fn table(&self) -> &Table
+        ensures table { result.now ≡ self.now.table }
+        ensures supports { result.now.supports ≡ supports_of self.now.pieces }
+    {
+        &self.table
     }
 
     /// How many words the pieces store: those of their documents.
@@ -202,13 +211,23 @@ impl Ledger {
         let piece = check_document(*self.pieces.allocator(), &self.pieces, id, document)?;
         let stored = stored_with(self.stored, &piece)?;
         let size = piece.size();
+        let support = support_of(&piece);
+        let count = self.pieces.len();
         self.pieces.push(piece)?;
-        self.stored = stored;
-        Ok(size)
+        match self.table.add(support) {
+            Ok(()) => {
+                self.stored = stored;
+                Ok(size)
+            }
+            Err(error) => {
+                self.pieces.truncate(count);
+                Err(error.into())
+            }
+        }
     }
 
     /// Takes the piece of the id out. `NoSuch` comes exactly where no piece has it, and `InUse` where another names it. After an
-    /// `Err` the ledger is as before.
+    /// `Err` the ledger is as before, its table too.
     #[tactic(auto, unfolding(crate::specs::Withdrawal::withdrawn))]
     pub fn withdraw(&mut self, id: Id) -> Result<(), WithdrawFault>
         ensures left { OnOk result (withdrawn self.old.pieces id ≡ Ok self.new.pieces) }
@@ -216,13 +235,14 @@ impl Ledger {
             → withdrawn self.old.pieces id ≡ Err fault) }
         ensures unchanged { OnErr result (self.new ≡ self.old) }
     {
-        if !has_id(&self.pieces, id) {
+        let Some(place) = place_of(&self.pieces, id) else {
             return Err(WithdrawFault::NoSuch);
-        }
+        };
         if let Some(user) = first_user(&self.pieces, id) {
             return Err(WithdrawFault::InUse(user));
         }
-        take_out(&mut self.pieces, id);
+        self.table.remove(place)?;
+        self.pieces.remove(place);
         self.stored = stored_by_all(&self.pieces);
         Ok(())
     }

@@ -11,12 +11,13 @@ mod ledger;
 mod limits;
 mod needed;
 mod piece;
+mod support;
 #[cfg(test)]
 mod tests;
 mod text;
 
 pub use fault::{SubmitFault, WithdrawFault};
-pub use laws::{pieces_have_codes, submissions_that_are_accepted};
+pub use laws::{pieces_give_supports, pieces_have_codes, submissions_that_are_accepted};
 pub use ledger::Ledger;
 pub use limits::{MAX_PIECES, MAX_STORED};
 pub use piece::Piece;

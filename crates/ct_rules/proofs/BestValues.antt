@@ -132,7 +132,30 @@ pub best_is_true : (supports : List Support) (s : Slot) (v : ℕ) → AllStand s
     → IsTrueClaim (claim_at s v)
 best_is_true supports s v stand best = derived_claims_are_true supports stand (claim_at s v) best.derived
 
--- so the best lower value of an entry is at most the best upper one
+-- so a lower and an upper bound of one value are the best of an entry, where both are derived
+pub equal_is_best : (supports : List Support) (e : Entry) (v : ℕ) → AllStand supports → IsDerived supports (claim_at (Lower, e) v)
+    → IsDerived supports (claim_at (Upper, e) v) → IsBest supports (Lower, e) v × IsBest supports (Upper, e) v
+equal_is_best supports e v stand lower upper =
+    let below = (derived_claims_are_true supports stand (claim_at (Lower, e) v) lower).truth in
+    let above = (derived_claims_are_true supports stand (claim_at (Upper, e) v) upper).truth in (
+      record {
+        derived = lower;
+        none_better = λ u derived.
+            let code = (derived_claims_are_true supports stand (claim_at (Lower, e) u) derived).truth in
+            let most = above code.0 code.1 in
+            let size = code.2 in
+            omega arith;
+      },
+      record {
+        derived = upper;
+        none_better = λ u derived.
+            let most = (derived_claims_are_true supports stand (claim_at (Upper, e) u) derived).truth below.0 below.1 in
+            let size = below.2 in
+            omega arith;
+      },
+    )
+
+-- and the best lower value of an entry is at most the best upper one
 pub best_in_order : (supports : List Support) (e : Entry) (u v : ℕ) → AllStand supports
     → IsBest supports (Lower, e) u → IsBest supports (Upper, e) v → u ≤ v
 best_in_order supports e u v stand lower upper =

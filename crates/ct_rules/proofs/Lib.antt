@@ -19,3 +19,4 @@ pub mod TableLists
 pub mod Slack
 pub mod Improvements
 pub mod BestValues
+pub mod KnownClaims

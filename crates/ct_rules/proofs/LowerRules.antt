@@ -33,10 +33,10 @@ lower_number e v none some code = record {
 }
 
 -- the length of a code, or its distance, written otherwise
-of_length : (n m d v : ℕ) → n ≡ m → HasCode n d v → HasCode m d v
+pub of_length : (n m d v : ℕ) → n ≡ m → HasCode n d v → HasCode m d v
 of_length n m d v same code = subst (λ k. HasCode k d v) same code
 
-of_distance : (n d f v : ℕ) → d ≡ f → HasCode n d v → HasCode n f v
+pub of_distance : (n d f v : ℕ) → d ≡ f → HasCode n d v → HasCode n f v
 of_distance n d f v same code = subst (λ k. HasCode n k v) same code
 
 -- one word

@@ -9,7 +9,7 @@ use Rattle.ct_counting.proofs.Words.{Contains-map}
 use Rattle.ct_codes.specs.declared.entry.Entry.{Entry}
 use Rattle.ct_codes.specs.Entry.{IsEntry, is_entry}
 use Rattle.ct_rules.specs.declared.rule.Rule.{Rule}
-use Rattle.ct_rules.specs.declared.rule.Rule.TheVariants.{L1, L2, L3, L4, L5, L6, L7, L8, L10, L11, M1, M10, U0, V0}
+use Rattle.ct_rules.specs.declared.rule.Rule.TheVariants.{L1, L2, L3, L4, L5, L6, L7, L8, L10, L11, M1, M10, U0, U1, U2, U3, U4, U5, U6, U7, U8, V0}
 use Rattle.ct_rules.specs.declared.support.Support.{Support}
 use Rattle.ct_rules.specs.Rule.{cited, in_range, applies}
 use Rattle.ct_rules.specs.Slot.{Slot}
@@ -59,6 +59,14 @@ fixed_at c L6 n d None h k = (5, omega arith, refl)
 fixed_at c L7 n d None h k = (6, omega arith, refl)
 fixed_at c L8 n d None h k = (7, omega arith, refl)
 fixed_at c U0 n d None h k = (8, omega arith, refl)
+fixed_at c U1 n d None h k = (9, omega arith, refl)
+fixed_at c U2 n d None h k = (10, omega arith, refl)
+fixed_at c U3 n d None h k = (11, omega arith, refl)
+fixed_at c U4 n d None h k = (12, omega arith, refl)
+fixed_at c U5 n d None h k = (13, omega arith, refl)
+fixed_at c U6 n d None h k = (14, omega arith, refl)
+fixed_at c U7 n d None h k = (15, omega arith, refl)
+fixed_at c U8 n d None h k = (16, omega arith, refl)
 fixed_at c (L11 m b) n d None h k =
     let last = and_parts (nat_le 1 m && nat_lt m n && nat_le 3 b) (nat_le (b + 3) d) k in
     let third = and_parts (nat_le 1 m && nat_lt m n) (nat_le 3 b) last.0 in

@@ -8,7 +8,7 @@ use Rattle.ct_codes.specs.declared.entry.Entry.{Entry}
 use Rattle.ct_codes.specs.declared.claim.Side.{Side}
 use Rattle.ct_codes.specs.declared.claim.Side.TheVariants.{Lower, Upper}
 use Rattle.ct_rules.specs.declared.rule.Rule.{Rule}
-use Rattle.ct_rules.specs.declared.rule.Rule.TheVariants.{L1, L2, L3, L4, L5, L6, L7, L8, L10, L11, M1, M10, U0, V0}
+use Rattle.ct_rules.specs.declared.rule.Rule.TheVariants.{L1, L2, L3, L4, L5, L6, L7, L8, L10, L11, M1, M10, U0, U1, U2, U3, U4, U5, U6, U7, U8, V0}
 use Rattle.ct_rules.specs.declared.support.Support.{Support}
 use Rattle.ct_rules.specs.Slot.{IsNoBetter, AreNoBetter}
 use Rattle.ct_rules.specs.Rule.{rule_side, cited, half_up, first, second, formula, within_limit, value_of}
@@ -71,6 +71,16 @@ number-monotone c (L11 n d) e us vs x h is =
 number-monotone c M1 e us vs x h is = no_worse-same Lower (Some 1) x is
 number-monotone c (M10 place) e us vs x h is = no_worse-same Lower _ x is
 number-monotone c U0 e us vs x h is = no_worse-same Upper _ x is
+number-monotone c U1 e us vs x h is = no_worse-same Upper _ x is
+number-monotone c U2 e us vs x h is = no_worse-same Upper _ x is
+number-monotone c U3 e us vs x h is = no_worse-same Upper _ x is
+number-monotone c U4 e us vs x h is = no_worse-other Upper (first us) (first vs) x (first-no_better Upper us vs h) is
+number-monotone c U5 e us vs x h is = no_worse-other Upper (first us) (first vs) x (first-no_better Upper us vs h) is
+number-monotone c U6 e us vs x h is =
+    let worse = first-no_better Upper us vs h in
+    no_worse-other Upper (2 * first us) (2 * first vs) x (omega arith) is
+number-monotone c U7 e us vs x h is = no_worse-other Upper (first us) (first vs) x (first-no_better Upper us vs h) is
+number-monotone c U8 e us vs x h is = no_worse-other Upper (first us) (first vs) x (first-no_better Upper us vs h) is
 number-monotone c V0 e us vs x h is = no_worse-same Upper _ x is
 
 -- numbers cut at the greatest bound keep their order

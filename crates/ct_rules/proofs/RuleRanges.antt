@@ -5,13 +5,14 @@ use Rattle.std.proofs.lemmas.Bool.{and_parts, cond_both}
 use Rattle.std.proofs.lemmas.List.Elements.{All-nil, All-cons}
 use Rattle.ct_words.specs.declared.limits.TheConstants.{MAX_N}
 use Rattle.ct_codes.specs.declared.entry.Entry.{Entry}
-use Rattle.ct_codes.specs.declared.claim.Side.TheVariants.{Lower}
+use Rattle.ct_codes.specs.declared.claim.Side.{Side}
+use Rattle.ct_codes.specs.declared.claim.Side.TheVariants.{Lower, Upper}
 use Rattle.ct_codes.specs.Entry.{IsEntry, unrestricted}
 use Rattle.ct_codes.proofs.EntryLemmas.{entry_limits, entry_from_limits}
 use Rattle.ct_rules.specs.declared.rule.Rule.{Rule}
-use Rattle.ct_rules.specs.declared.rule.Rule.TheVariants.{L1, L2, L3, L4, L5, L6, L7, L8, L10, L11, M1, M10, U0, V0}
+use Rattle.ct_rules.specs.declared.rule.Rule.TheVariants.{L1, L2, L3, L4, L5, L6, L7, L8, L10, L11, M1, M10, U0, U1, U2, U3, U4, U5, U6, U7, U8, V0}
 use Rattle.ct_rules.specs.declared.support.Support.{Support}
-use Rattle.ct_rules.specs.Slot.{Slot, lower_at}
+use Rattle.ct_rules.specs.Slot.{Slot, lower_at, upper_at}
 use Rattle.ct_rules.specs.Rule.{rule_side, has_weight, half_up, in_range, premises_at}
 use Rattle.ct_rules.proofs.Applied.{IsDefined}
 
@@ -38,6 +39,14 @@ Range (L11 n d) e = Weightless e × (1 ≤ n) × (n < e.n) × (3 ≤ d) × (d + 
 Range M1 e = Weighted e
 Range (M10 place) e = Weighted e
 Range U0 e = Weightless e
+Range U1 e = Weightless e × (e.n < e.d)
+Range U2 e = Weightless e
+Range U3 e = Weightless e
+Range U4 e = Weightless e × (e.d % 2 ≡ 1) × (e.n < MAX_N)
+Range U5 e = Weightless e × (2 ≤ e.n) × (4 ≤ e.d)
+Range U6 e = Weightless e × (2 ≤ e.n)
+Range U7 e = Weightless e × (4 ≤ e.d)
+Range U8 e = Weightless e × (e.n < MAX_N)
 Range V0 e = Weighted e
 
 no_weight : (e : Entry) → not (has_weight e) ≡ true → Weightless e
@@ -81,6 +90,20 @@ range_of c (L11 n d) e h =
 range_of c M1 e h = a_weight e h
 range_of c (M10 place) e h = let p = and_parts _ _ h in a_weight e p.0
 range_of c U0 e h = no_weight e h
+range_of c U1 e h = let p = and_parts _ _ h in (no_weight e p.0, ltb-true e.n e.d p.1)
+range_of c U2 e h = let p = and_parts _ _ h in no_weight e p.0
+range_of c U3 e h = no_weight e h
+range_of c U4 e h =
+    let p = and_parts _ _ h in
+    let q = and_parts _ _ p.0 in
+    (no_weight e q.0, eqb-true (e.d % 2) 1 q.1, ltb-true e.n MAX_N p.1)
+range_of c U5 e h =
+    let p = and_parts _ _ h in
+    let q = and_parts _ _ p.0 in
+    (no_weight e q.0, leb-true 2 e.n q.1, leb-true 4 e.d p.1)
+range_of c U6 e h = let p = and_parts _ _ h in (no_weight e p.0, leb-true 2 e.n p.1)
+range_of c U7 e h = let p = and_parts _ _ h in (no_weight e p.0, leb-true 4 e.d p.1)
+range_of c U8 e h = let p = and_parts _ _ h in (no_weight e p.0, ltb-true e.n MAX_N p.1)
 range_of c V0 e h = a_weight e h
 
 -- the limits of the entry A(n,d)
@@ -94,9 +117,15 @@ AreEntries slots = All (λ s. IsEntry s.1) slots
 limits_entry : (n d : ℕ) → AreLimits n d → IsEntry (unrestricted n d)
 limits_entry n d h = entry_from_limits (unrestricted n d) (h.0, h.1, h.2, h.3, tt)
 
+one_of_side : (side : Side) (n d : ℕ) → AreLimits n d → AreEntries ((side, unrestricted n d) ∷ [])
+one_of_side side n d h =
+    All-cons (λ s. IsEntry s.1) (side, unrestricted n d) [] (limits_entry n d h) (All-nil (λ s. IsEntry s.1))
+
 one_entry : (n d : ℕ) → AreLimits n d → AreEntries (lower_at n d ∷ [])
-one_entry n d h =
-    All-cons (λ s. IsEntry s.1) (lower_at n d) [] (limits_entry n d h) (All-nil (λ s. IsEntry s.1))
+one_entry n d h = one_of_side Lower n d h
+
+one_upper_entry : (n d : ℕ) → AreLimits n d → AreEntries (upper_at n d ∷ [])
+one_upper_entry n d h = one_of_side Upper n d h
 
 two_entries : (n d m f : ℕ) → AreLimits n d → AreLimits m f → AreEntries (lower_at n d ∷ lower_at m f ∷ [])
 two_entries n d m f first second =
@@ -135,6 +164,14 @@ entries_at c L8 e limits range = entries_L8 e limits range.1
 entries_at c (L11 n d) e limits range =
     two_entries n d (e.n - n) (e.d - d) (range.1, omega arith, range.3, omega arith)
     (omega arith, omega arith, omega arith, omega arith)
+entries_at c U4 e limits range =
+    let odd = range.1 in
+    one_upper_entry (e.n + 1) (e.d + 1) (omega arith, omega arith, omega arith, omega arith)
+entries_at c U5 e limits range =
+    one_upper_entry (e.n - 1) (e.d - 1) (omega arith, omega arith, omega arith, omega arith)
+entries_at c U6 e limits range = one_upper_entry (e.n - 1) e.d (omega arith, omega arith, limits.2, limits.3)
+entries_at c U7 e limits range = one_upper_entry e.n (e.d - 1) (limits.0, limits.1, omega arith, omega arith)
+entries_at c U8 e limits range = one_upper_entry (e.n + 1) e.d (omega arith, omega arith, limits.2, limits.3)
 entries_at c r e limits range = All-nil (λ s. IsEntry s.1)
 
 pub premises_at-entries : (c : Option Support) (r : Rule) (e : Entry) → IsDefined c r e
@@ -146,6 +183,9 @@ premises_at-entries c r e defined =
 -- each is a lower bound where the rule gives one, and an upper one where it gives one
 one_lower : (n d : ℕ) → All (λ s. s.0 ≡ Lower) (lower_at n d ∷ [])
 one_lower n d = All-cons (λ s. s.0 ≡ Lower) (lower_at n d) [] refl (All-nil (λ s. s.0 ≡ Lower))
+
+one_upper : (n d : ℕ) → All (λ s. s.0 ≡ Upper) (upper_at n d ∷ [])
+one_upper n d = All-cons (λ s. s.0 ≡ Upper) (upper_at n d) [] refl (All-nil (λ s. s.0 ≡ Upper))
 
 two_lower : (n d m f : ℕ) → All (λ s. s.0 ≡ Lower) (lower_at n d ∷ lower_at m f ∷ [])
 two_lower n d m f = All-cons (λ s. s.0 ≡ Lower) (lower_at n d) (lower_at m f ∷ []) refl (one_lower m f)
@@ -162,6 +202,11 @@ premises_at-side c L8 e =
     cond_both (nat_lt e.d 5) _ _ (All (λ s. s.0 ≡ Lower)) (λ near. one_lower (e.n / 2) e.d)
     (λ far. two_lower (e.n / 2) (half_up e.d) (e.n / 2) e.d)
 premises_at-side c (L11 n d) e = two_lower n d (e.n - n) (e.d - d)
+premises_at-side c U4 e = one_upper (e.n + 1) (e.d + 1)
+premises_at-side c U5 e = one_upper (e.n - 1) (e.d - 1)
+premises_at-side c U6 e = one_upper (e.n - 1) e.d
+premises_at-side c U7 e = one_upper e.n (e.d - 1)
+premises_at-side c U8 e = one_upper (e.n + 1) e.d
 premises_at-side c r e = All-nil (λ s. s.0 ≡ rule_side r)
 
 -- there are two at most

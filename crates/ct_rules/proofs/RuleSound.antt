@@ -16,7 +16,7 @@ use Rattle.ct_codes.proofs.EntryLemmas.{entry_limits}
 use Rattle.ct_codes.proofs.CheckLemmas.{code_size-le}
 use Rattle.ct_johnson.proofs.Capped.{capped_bound}
 use Rattle.ct_rules.specs.declared.rule.Rule.{Rule}
-use Rattle.ct_rules.specs.declared.rule.Rule.TheVariants.{L1, L2, L3, L4, L5, L6, L7, L8, L10, L11, M1, M10, U0, V0}
+use Rattle.ct_rules.specs.declared.rule.Rule.TheVariants.{L1, L2, L3, L4, L5, L6, L7, L8, L10, L11, M1, M10, U0, U1, U2, U3, U4, U5, U6, U7, U8, V0}
 use Rattle.ct_rules.specs.declared.support.Support.{Support}
 use Rattle.ct_rules.specs.Support.{Stands}
 use Rattle.ct_rules.specs.Slot.{slot_of, claim_at}
@@ -24,7 +24,7 @@ use Rattle.ct_rules.specs.Rule.{rule_side, half_up, first, second, premises_at, 
 use Rattle.ct_rules.proofs.RuleRanges.{half_at, Range}
 use Rattle.ct_rules.proofs.Premises.{AreTrueAt, true_values, only_value, both_values, IsTrueNumber}
 use Rattle.ct_rules.proofs.LowerRules.{one-sound, L2-sound, L3-sound, L4-sound, L5-sound, L6-sound, L7-sound, L8-sound_near, L8-sound_far, L11-sound, support-sound}
-use Rattle.ct_rules.proofs.UpperRules.{U0-sound, V0-sound}
+use Rattle.ct_rules.proofs.UpperRules.{U0-sound, U1-sound, U2-sound, U3-sound, U4-sound, U5-sound, U6-sound, U7-sound, U8-sound, V0-sound}
 
 -- u followed by u + v, at either distance
 L8-sound : (e : Entry) (vs : List ℕ) → IsEntry e → Range L8 e
@@ -68,6 +68,19 @@ number-sound c (L11 n d) e vs x stand entry range known is =
 number-sound c M1 e vs x stand entry range known is = same_number Lower e 1 x is (one-sound e entry)
 number-sound c (M10 place) e vs x stand entry range known is = support-sound c e x stand is
 number-sound c U0 e vs x stand entry range known is = same_number Upper e _ x is (U0-sound e)
+number-sound c U1 e vs x stand entry range known is = U1-sound e x range is
+number-sound c U2 e vs x stand entry range known is = U2-sound e x entry range is
+number-sound c U3 e vs x stand entry range known is = same_number Upper e _ x is (U3-sound e entry range)
+number-sound c U4 e vs x stand entry range known is =
+    same_number Upper e (first vs) x is (U4-sound e (first vs) range (only_value _ vs known))
+number-sound c U5 e vs x stand entry range known is =
+    same_number Upper e (first vs) x is (U5-sound e (first vs) range (only_value _ vs known))
+number-sound c U6 e vs x stand entry range known is =
+    same_number Upper e (2 * first vs) x is (U6-sound e (first vs) range (only_value _ vs known))
+number-sound c U7 e vs x stand entry range known is =
+    same_number Upper e (first vs) x is (U7-sound e (first vs) range (only_value _ vs known))
+number-sound c U8 e vs x stand entry range known is =
+    same_number Upper e (first vs) x is (U8-sound e (first vs) range (only_value _ vs known))
 number-sound c V0 e vs x stand entry range known is = same_number Upper e _ x is (V0-sound e entry range)
 
 -- a true number of a lower bound is at most the greatest bound

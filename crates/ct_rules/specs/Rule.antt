@@ -4,19 +4,28 @@ use Rattle.std.specs.Prelude.{ℕ, ◌+◌, ◌-◌, ◌*◌, ◌/◌, ◌%◌, 
 use Rattle.std.specs.Option.{unwrap_or}
 use Rattle.ct_words.specs.declared.limits.TheConstants.{MAX_N, MAX_BOUND}
 use Rattle.ct_counting.specs.Binomials.{choose}
+use Rattle.ct_elementary.specs.Bounds.{far_value, plotkin_value, hamming_value}
 use Rattle.ct_codes.specs.declared.entry.Entry.{Entry}
 use Rattle.ct_codes.specs.declared.claim.Side.{Side}
 use Rattle.ct_codes.specs.declared.claim.Side.TheVariants.{Lower, Upper}
 use Rattle.ct_codes.specs.Entry.{is_entry}
 use Rattle.ct_rules.specs.declared.rule.Rule.{Rule}
-use Rattle.ct_rules.specs.declared.rule.Rule.TheVariants.{L1, L2, L3, L4, L5, L6, L7, L8, L10, L11, M1, M10, U0, V0}
+use Rattle.ct_rules.specs.declared.rule.Rule.TheVariants.{L1, L2, L3, L4, L5, L6, L7, L8, L10, L11, M1, M10, U0, U1, U2, U3, U4, U5, U6, U7, U8, V0}
 use Rattle.ct_rules.specs.declared.support.Support.{Support}
 use Rattle.ct_rules.specs.Support.{size_at}
-use Rattle.ct_rules.specs.Slot.{Slot, lower_at}
+use Rattle.ct_rules.specs.Slot.{Slot, lower_at, upper_at}
 
 -- the side of the bounds that a rule gives
 abbrev pub rule_side : Rule → Side
 rule_side U0 = Upper
+rule_side U1 = Upper
+rule_side U2 = Upper
+rule_side U3 = Upper
+rule_side U4 = Upper
+rule_side U5 = Upper
+rule_side U6 = Upper
+rule_side U7 = Upper
+rule_side U8 = Upper
 rule_side V0 = Upper
 rule_side r = Lower
 
@@ -55,6 +64,14 @@ in_range c (L11 n d) e = not (has_weight e) && nat_le 1 n && nat_lt n e.n && nat
 in_range c M1 e = has_weight e
 in_range c (M10 place) e = has_weight e && is_some (size_at c e)
 in_range c U0 e = not (has_weight e)
+in_range c U1 e = not (has_weight e) && nat_lt e.n e.d
+in_range c U2 e = not (has_weight e) && is_some (plotkin_value e.n e.d)
+in_range c U3 e = not (has_weight e)
+in_range c U4 e = not (has_weight e) && e.d % 2 == 1 && nat_lt e.n MAX_N
+in_range c U5 e = not (has_weight e) && nat_le 2 e.n && nat_le 4 e.d
+in_range c U6 e = not (has_weight e) && nat_le 2 e.n
+in_range c U7 e = not (has_weight e) && nat_le 4 e.d
+in_range c U8 e = not (has_weight e) && nat_lt e.n MAX_N
 in_range c V0 e = has_weight e
 
 -- what a rule rests on at an entry, in order
@@ -68,6 +85,11 @@ premises_at c L8 e =
     if nat_lt e.d 5 then lower_at (e.n / 2) e.d ∷ []
     else lower_at (e.n / 2) (half_up e.d) ∷ lower_at (e.n / 2) e.d ∷ []
 premises_at c (L11 n d) e = lower_at n d ∷ lower_at (e.n - n) (e.d - d) ∷ []
+premises_at c U4 e = upper_at (e.n + 1) (e.d + 1) ∷ []
+premises_at c U5 e = upper_at (e.n - 1) (e.d - 1) ∷ []
+premises_at c U6 e = upper_at (e.n - 1) e.d ∷ []
+premises_at c U7 e = upper_at e.n (e.d - 1) ∷ []
+premises_at c U8 e = upper_at (e.n + 1) e.d ∷ []
 premises_at c r e = []
 
 -- the first of the values, 0 where there is none
@@ -95,6 +117,14 @@ formula c (L11 n d) e vs = Some (min (first vs) (second vs))
 formula c M1 e vs = Some 1
 formula c (M10 place) e vs = size_at c e
 formula c U0 e vs = Some (2 ^ e.n)
+formula c U1 e vs = far_value e.n e.d
+formula c U2 e vs = plotkin_value e.n e.d
+formula c U3 e vs = Some (hamming_value e.n e.d)
+formula c U4 e vs = Some (first vs)
+formula c U5 e vs = Some (first vs)
+formula c U6 e vs = Some (2 * first vs)
+formula c U7 e vs = Some (first vs)
+formula c U8 e vs = Some (first vs)
 formula c V0 e vs = Some (choose e.n (unwrap_or e.w 0))
 
 -- a number within the limits of a bound: a greater one is no lower bound, and as an upper bound it is MAX_BOUND

@@ -22,6 +22,10 @@ claim_at s v = record { side = s.0; entry = s.1; value = v }
 abbrev pub lower_at : ℕ → ℕ → Slot
 lower_at n d = (Lower, unrestricted n d)
 
+-- A(n,d) from above
+abbrev pub upper_at : ℕ → ℕ → Slot
+upper_at n d = (Upper, unrestricted n d)
+
 -- a bound is no better than another: from below no greater, from above no smaller
 abbrev pub IsNoBetter : Side → ℕ → ℕ → Type 0
 IsNoBetter Lower u v = u ≤ v

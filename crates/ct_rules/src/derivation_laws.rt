@@ -1,19 +1,19 @@
 //! What derivations give, for every list of supports, and derivations that are known.
 
-ghost use Rattle.std.specs.Prelude.{◌≡◌, ℕ, ◌≤◌, List, [], ◌∷◌, ◌++◌, length, map, All, Contains, Some};
+ghost use Rattle.std.specs.Prelude.{◌≡◌, ℕ, ◌+◌, ◌^◌, ◌≤◌, List, [], ◌∷◌, ◌++◌, length, map, All, Contains, Some};
 ghost use Rattle.ct_codes.specs.declared.claim.Claim.{Claim};
 ghost use Rattle.ct_codes.specs.declared.claim.Side.TheVariants.{Lower, Upper};
 ghost use Rattle.ct_codes.specs.declared.entry.Entry.{Entry};
 ghost use Rattle.ct_codes.specs.Claim.{IsTrueClaim};
 ghost use Rattle.ct_codes.specs.Entry.{IsEntry, unrestricted, constant_weight};
 ghost use Rattle.ct_rules.specs.declared.rule.Rule.{Rule};
-ghost use Rattle.ct_rules.specs.declared.rule.Rule.TheVariants.{L1, L6, L8, L10, L11};
+ghost use Rattle.ct_rules.specs.declared.rule.Rule.TheVariants.{L1, L6, L8, L10, L11, U2, U4, U6};
 ghost use Rattle.ct_rules.specs.declared.support.Support.{Support};
 ghost use Rattle.ct_rules.specs.declared.support.Support.TheVariants.{Size};
 ghost use Rattle.ct_rules.specs.Closed.{AreTrue, IsClosed};
 ghost use Rattle.ct_rules.specs.Derivation.{LineValue, Follows, IsDerivation, IsDerived, IsBest};
 ghost use Rattle.ct_rules.specs.Rule.{rule_side, premises_of, value_of};
-ghost use Rattle.ct_rules.specs.Slot.{Slot, slot_of, claim_at, lower_at, IsNoBetter};
+ghost use Rattle.ct_rules.specs.Slot.{Slot, slot_of, claim_at, lower_at, upper_at, IsNoBetter};
 ghost use Rattle.ct_rules.specs.Support.{AllStand};
 
 /// Where each support stands, what derivations claim is true: the claim with which one ends, and that of each line.
@@ -86,21 +86,29 @@ pub fn each_slot_has_one_best_value()
         IsBest supports s u → IsBest supports s v → u ≡ v }
 {}
 
-/// Where each support stands, best values are true bounds, so the lower one of an entry is at most the upper one.
+/// Where each support stands, best values are true bounds, so the lower one of an entry is at most the upper one; and
+/// where a lower and an upper bound of one value are derived, both are best: the value is A(n,d) or A(n,d,w).
 pub fn best_values_are_true()
     ensures true_bound { (supports : List Support) (s : Slot) (v : ℕ) → AllStand supports →
         IsBest supports s v → IsTrueClaim (claim_at s v) }
     ensures in_order { (supports : List Support) (e : Entry) (u v : ℕ) → AllStand supports →
         IsBest supports (Lower, e) u → IsBest supports (Upper, e) v → u ≤ v }
+    ensures equal { (supports : List Support) (e : Entry) (v : ℕ) → AllStand supports →
+        IsDerived supports (claim_at (Lower, e) v) → IsDerived supports (claim_at (Upper, e) v) →
+        IsBest supports (Lower, e) v × IsBest supports (Upper, e) v }
 {}
 
-/// Derivations of A(6,4) ≥ 4 and A(5,3) ≥ 4 with no support, and of the first with a support that gives it; and lines
-/// that follow from no lines, or not from these.
+/// Derivations of A(6,4) ≥ 4, A(5,3) ≥ 4 and A(8,3) ≤ 32 with no support, and of the first with a support that gives it;
+/// and lines that follow from no lines, or not from these.
 pub fn known_derivations()
     ensures three_lines { IsDerivation [] (
         record { claim = claim_at (lower_at 3 4) 1; rule = L1; from = [] } ∷
         record { claim = claim_at (lower_at 6 4) 4; rule = L8; from = 0 ∷ [] } ∷
         record { claim = claim_at (lower_at 5 3) 4; rule = L6; from = 1 ∷ [] } ∷ []) }
+    ensures from_above { IsDerivation [] (
+        record { claim = claim_at (upper_at 8 4) 16; rule = U2; from = [] } ∷
+        record { claim = claim_at (upper_at 7 3) 16; rule = U4; from = 0 ∷ [] } ∷
+        record { claim = claim_at (upper_at 8 3) 32; rule = U6; from = 1 ∷ [] } ∷ []) }
     ensures place_named_twice { IsDerivation [] (
         record { claim = claim_at (lower_at 3 3) 1; rule = L1; from = [] } ∷
         record { claim = claim_at (lower_at 6 6) 1; rule = L11 3 3; from = 0 ∷ 0 ∷ [] } ∷ []) }
@@ -131,4 +139,18 @@ pub fn known_derivations()
         (record { claim = claim_at (Upper, unrestricted 3 4) 1; rule = L1; from = [] }) }
     ensures other_entry { ¬ Follows [] []
         (record { claim = claim_at (Lower, constant_weight 4 4 2) 1; rule = L1; from = [] }) }
+{}
+
+/// Claims that are true, and such that are false: A(5,3) is 4, and so neither at least 5 nor at most 3; no claim is true
+/// of an entry outside of the table, of a number that is no bound, or of a distance and a weight that no entry has.
+pub fn known_claims()
+    ensures from_below { IsTrueClaim (claim_at (lower_at 5 3) 4) }
+    ensures from_above { IsTrueClaim (claim_at (upper_at 5 3) 4) }
+    ensures too_great { ¬ IsTrueClaim (claim_at (lower_at 5 3) 5) }
+    ensures too_small { ¬ IsTrueClaim (claim_at (upper_at 5 3) 3) }
+    ensures no_words { ¬ IsTrueClaim (claim_at (lower_at 5 3) 0) }
+    ensures above_limit { ¬ IsTrueClaim (claim_at (upper_at 5 3) (2 ^ 28 + 1)) }
+    ensures too_long { ¬ IsTrueClaim (claim_at (upper_at 29 3) 4) }
+    ensures too_near { ¬ IsTrueClaim (claim_at (lower_at 5 2) 1) }
+    ensures odd_beside_weight { ¬ IsTrueClaim (claim_at (Lower, constant_weight 5 3 2) 1) }
 {}

@@ -3,12 +3,13 @@
 ghost use Rattle.std.specs.Prelude.{◌≡◌, ◌∷◌, [], ◌<◌, ◌≤◌, ◌^◌, ◌&&◌, true, length, slice_get, IfSome};
 ghost use Rattle.ct_codes.specs.Entry.{IsEntry};
 ghost use Rattle.ct_rules.specs.Rule.{rule_side, cited, in_range, premises_at, formula, first, second, within_limit, applies, count_of, premise_of, value_of};
-ghost use Rattle.ct_rules.specs.Slot.{lower_at};
+ghost use Rattle.ct_rules.specs.Slot.{lower_at, upper_at};
 ghost use Rattle.ct_rules.specs.Support.{size_at};
 
 use crate::rule::Rule;
 use crate::support::Support;
 use ct_codes::{Entry, Side};
+use ct_elementary::{far, hamming, plotkin};
 use ct_words::{MAX_BOUND, MAX_N, binomial};
 
 /// How many premises a rule has at most.
@@ -19,7 +20,16 @@ pub fn rule_side(rule: Rule) -> Side
     ensures { result ≡ rule_side rule }
 {
     match rule {
-        Rule::U0 | Rule::V0 => Side::Upper,
+        Rule::U0
+        | Rule::U1
+        | Rule::U2
+        | Rule::U3
+        | Rule::U4
+        | Rule::U5
+        | Rule::U6
+        | Rule::U7
+        | Rule::U8
+        | Rule::V0 => Side::Upper,
         _ => Side::Lower,
     }
 }
@@ -44,9 +54,10 @@ fn size_at(support: Option<Support>, entry: Entry) -> Option<u32>
     }
 }
 
-/// Whether the rule is defined at the entry, over the support that it names.
+/// Whether the rule is defined at the entry, which is one of the table, over the support that it names.
 #[tactic(auto, unfolding(crate::specs::Rule::in_range))]
 fn in_range(support: Option<Support>, rule: Rule, entry: Entry) -> bool
+    requires { IsEntry entry }
     ensures { result ≡ in_range support rule entry }
 {
     let Entry { n, d, w } = entry;
@@ -64,7 +75,14 @@ fn in_range(support: Option<Support>, rule: Rule, entry: Entry) -> bool
         Rule::L11(m, c) => plain && 1 <= m && m < n && 3 <= c && u64::from(c) + 3 <= u64::from(d),
         Rule::M1 => !plain,
         Rule::M10(_) => !plain && size_at(support, entry).is_some(),
-        Rule::U0 => plain,
+        Rule::U0 | Rule::U3 => plain,
+        Rule::U1 => plain && n < d,
+        Rule::U2 => plain && plotkin(n, d).is_some(),
+        Rule::U4 => plain && d % 2 == 1 && n < MAX_N,
+        Rule::U5 => plain && 2 <= n && 4 <= d,
+        Rule::U6 => plain && 2 <= n,
+        Rule::U7 => plain && 4 <= d,
+        Rule::U8 => plain && n < MAX_N,
         Rule::V0 => !plain,
     }
 }
@@ -81,6 +99,13 @@ fn lower_at(n: u32, d: u32) -> (Side, Entry)
     ensures { result ≡ lower_at n d }
 {
     (Side::Lower, Entry { n, d, w: None })
+}
+
+/// A(n,d) from above.
+fn upper_at(n: u32, d: u32) -> (Side, Entry)
+    ensures { result ≡ upper_at n d }
+{
+    (Side::Upper, Entry { n, d, w: None })
 }
 
 /// The one premise, at place 0.
@@ -125,6 +150,11 @@ pub(crate) fn premise_at(
         Rule::L8 if d < 5 => only(lower_at(n / 2, d), j),
         Rule::L8 => one_of(lower_at(n / 2, d.div_ceil(2)), lower_at(n / 2, d), j),
         Rule::L11(m, c) => one_of(lower_at(m, c), lower_at(n - m, d - c), j),
+        Rule::U4 => only(upper_at(n + 1, d + 1), j),
+        Rule::U5 => only(upper_at(n - 1, d - 1), j),
+        Rule::U6 => only(upper_at(n - 1, d), j),
+        Rule::U7 => only(upper_at(n, d - 1), j),
+        Rule::U8 => only(upper_at(n + 1, d), j),
         _ => None,
     }
 }
@@ -139,6 +169,7 @@ fn count_at(support: Option<Support>, rule: Rule, entry: Entry) -> usize
         Rule::L3 | Rule::L4 | Rule::L5 | Rule::L6 | Rule::L7 => 1,
         Rule::L8 if entry.d < 5 => 1,
         Rule::L8 | Rule::L11(_, _) => 2,
+        Rule::U4 | Rule::U5 | Rule::U6 | Rule::U7 | Rule::U8 => 1,
         _ => 0,
     }
 }
@@ -198,17 +229,23 @@ pub(crate) fn formula(
     requires range { in_range support rule entry ≡ true }
     ensures { result ≡ formula support rule entry values.now }
 {
+    let Entry { n, d, .. } = entry;
     match rule {
         Rule::L1 | Rule::M1 => Some(1),
         Rule::L2 => Some(2),
         Rule::L3 | Rule::L4 | Rule::L5 | Rule::L6 => Some(first(values)),
         Rule::L7 => Some(first(values).div_ceil(2)),
-        Rule::L8 if entry.d < 5 => Some((1 << (entry.n / 2 - 1)) * first(values)),
+        Rule::L8 if d < 5 => Some((1 << (n / 2 - 1)) * first(values)),
         Rule::L8 => Some(first(values) * second(values)),
         Rule::L10(_) | Rule::M10(_) => size_at(support, entry).map(u64::from),
         Rule::L11(_, _) => Some(first(values).min(second(values))),
-        Rule::U0 => Some(1 << entry.n),
-        Rule::V0 => Some(binomial(entry.n, entry.w.unwrap_or(0))),
+        Rule::U0 => Some(1 << n),
+        Rule::U1 => far(n, d).map(u64::from),
+        Rule::U2 => plotkin(n, d).map(u64::from),
+        Rule::U3 => Some(u64::from(hamming(n, d))),
+        Rule::U4 | Rule::U5 | Rule::U7 | Rule::U8 => Some(first(values)),
+        Rule::U6 => Some(2 * first(values)),
+        Rule::V0 => Some(binomial(n, entry.w.unwrap_or(0))),
     }
 }
 

@@ -11,7 +11,7 @@ mod support;
 
 pub use derivation_laws::{
     best_values_are_true, closed_bounds_are_best, derivations_grow_by_rules,
-    derived_claims_are_true, each_slot_has_one_best_value, known_derivations,
+    derived_claims_are_true, each_slot_has_one_best_value, known_claims, known_derivations,
     lines_follow_from_earlier_lines, more_supports_keep_derivations,
 };
 pub use evaluation::{PremiseSlots, all_premises, value_where_defined};

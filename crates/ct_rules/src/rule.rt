@@ -30,6 +30,22 @@ pub enum Rule {
     M10(u32),
     /// All words.
     U0,
+    /// Two words differ at no more places than there are (MacWilliams and Sloane, chapter 1).
+    U1,
+    /// The average distance of the words (Plotkin 1960; MacWilliams and Sloane, chapter 2).
+    U2,
+    /// Balls about the words have no word in common (Hamming 1950; MacWilliams and Sloane, chapter 1).
+    U3,
+    /// Words with the parity of their weight added (MacWilliams and Sloane, chapter 1).
+    U4,
+    /// Words without a place (MacWilliams and Sloane, chapter 1).
+    U5,
+    /// The words with a 0 and those with a 1 at a place, without it (MacWilliams and Sloane, chapter 1).
+    U6,
+    /// A code of a smaller distance.
+    U7,
+    /// Words with a 0 added.
+    U8,
     /// All words of the weight.
     V0,
 }

@@ -9,11 +9,11 @@ ghost use Rattle.ct_codes.specs.declared.claim.Side.TheVariants.{Upper};
 ghost use Rattle.ct_codes.specs.Claim.{IsTrueOn, IsTrueClaim};
 ghost use Rattle.ct_codes.specs.Entry.{IsEntry, unrestricted, constant_weight};
 ghost use Rattle.ct_rules.specs.declared.rule.Rule.{Rule};
-ghost use Rattle.ct_rules.specs.declared.rule.Rule.TheVariants.{L1, L2, L3, L4, L5, L6, L7, L8, L10, L11, M1, M10, U0, V0};
+ghost use Rattle.ct_rules.specs.declared.rule.Rule.TheVariants.{L1, L2, L3, L4, L5, L6, L7, L8, L10, L11, M1, M10, U0, U1, U2, U3, U4, U5, U6, U7, U8, V0};
 ghost use Rattle.ct_rules.specs.declared.support.Support.{Support};
 ghost use Rattle.ct_rules.specs.declared.support.Support.TheVariants.{Nothing, Size};
 ghost use Rattle.ct_rules.specs.Support.{AllStand};
-ghost use Rattle.ct_rules.specs.Slot.{Slot, slot_of, claim_at, lower_at, IsNoBetter, AreNoBetter};
+ghost use Rattle.ct_rules.specs.Slot.{Slot, slot_of, claim_at, lower_at, upper_at, IsNoBetter, AreNoBetter};
 ghost use Rattle.ct_rules.specs.Rule.{rule_side, within_limit, premises_of, value_of};
 
 /// A claim is a bound of a slot, and a bound of a slot is a claim.
@@ -92,18 +92,29 @@ pub fn known_premises()
     ensures second_short { premises_of [] (L11 11 3) (unrestricted 12 6) ≡ Some (lower_at 11 3 ∷ lower_at 1 3 ∷ []) }
     ensures all_words { premises_of [] U0 (unrestricted 1 28) ≡ Some [] }
     ensures all_words_of_weight { premises_of [] V0 (constant_weight 28 28 0) ≡ Some [] }
+    ensures far_words { premises_of [] U1 (unrestricted 27 28) ≡ Some [] }
+    ensures average { premises_of [] U2 (unrestricted 10 6) ≡ Some [] }
+    ensures balls { premises_of [] U3 (unrestricted 1 28) ≡ Some [] }
+    ensures parity_above { premises_of [] U4 (unrestricted 7 3) ≡ Some (upper_at 8 4 ∷ []) }
+    ensures parity_above_last { premises_of [] U4 (unrestricted 27 27) ≡ Some (upper_at 28 28 ∷ []) }
+    ensures punctured_above { premises_of [] U5 (unrestricted 8 4) ≡ Some (upper_at 7 3 ∷ []) }
+    ensures punctured_above_first { premises_of [] U5 (unrestricted 2 28) ≡ Some (upper_at 1 27 ∷ []) }
+    ensures halves { premises_of [] U6 (unrestricted 8 3) ≡ Some (upper_at 7 3 ∷ []) }
+    ensures halves_first { premises_of [] U6 (unrestricted 2 28) ≡ Some (upper_at 1 28 ∷ []) }
+    ensures nearer_above { premises_of [] U7 (unrestricted 28 4) ≡ Some (upper_at 28 3 ∷ []) }
+    ensures lengthened_above { premises_of [] U8 (unrestricted 27 28) ≡ Some (upper_at 28 28 ∷ []) }
 {}
 
 /// Where rules are not defined: beyond the greatest and below the least lengths and distances, and at entries with and
 /// without a weight.
 pub fn known_ranges()
     ensures no_weight { filter (λ r. is_some (premises_of [] r (unrestricted 8 6)))
-        (L1 ∷ L2 ∷ L3 ∷ L4 ∷ L5 ∷ L6 ∷ L7 ∷ L8 ∷ L11 4 3 ∷ M1 ∷ U0 ∷ V0 ∷ []) ≡
-        L1 ∷ L2 ∷ L3 ∷ L4 ∷ L5 ∷ L6 ∷ L7 ∷ L8 ∷ L11 4 3 ∷ U0 ∷ [] }
+        (L1 ∷ L2 ∷ L3 ∷ L4 ∷ L5 ∷ L6 ∷ L7 ∷ L8 ∷ L11 4 3 ∷ M1 ∷ U0 ∷ U1 ∷ U2 ∷ U3 ∷ U4 ∷ U5 ∷ U6 ∷ U7 ∷ U8 ∷ V0 ∷ []) ≡
+        L1 ∷ L2 ∷ L3 ∷ L4 ∷ L5 ∷ L6 ∷ L7 ∷ L8 ∷ L11 4 3 ∷ U0 ∷ U2 ∷ U3 ∷ U5 ∷ U6 ∷ U7 ∷ U8 ∷ [] }
     ensures weight { filter (λ r. is_some (premises_of [] r (constant_weight 8 6 4)))
-        (L1 ∷ L2 ∷ L3 ∷ L4 ∷ L5 ∷ L6 ∷ L7 ∷ L8 ∷ L11 4 3 ∷ M1 ∷ U0 ∷ V0 ∷ []) ≡ M1 ∷ V0 ∷ [] }
+        (L1 ∷ L2 ∷ L3 ∷ L4 ∷ L5 ∷ L6 ∷ L7 ∷ L8 ∷ L11 4 3 ∷ M1 ∷ U0 ∷ U1 ∷ U2 ∷ U3 ∷ U4 ∷ U5 ∷ U6 ∷ U7 ∷ U8 ∷ V0 ∷ []) ≡ M1 ∷ V0 ∷ [] }
     ensures no_entry { filter (λ r. is_some (premises_of [] r (unrestricted 29 6)))
-        (L1 ∷ L2 ∷ L3 ∷ L4 ∷ L5 ∷ L6 ∷ L7 ∷ L8 ∷ L11 4 3 ∷ M1 ∷ U0 ∷ V0 ∷ []) ≡ [] }
+        (L1 ∷ L2 ∷ L3 ∷ L4 ∷ L5 ∷ L6 ∷ L7 ∷ L8 ∷ L11 4 3 ∷ M1 ∷ U0 ∷ U1 ∷ U2 ∷ U3 ∷ U4 ∷ U5 ∷ U6 ∷ U7 ∷ U8 ∷ V0 ∷ []) ≡ [] }
     ensures no_bound { value_of [] L1 (unrestricted 29 6) [] ≡ None }
     ensures opposite_words { premises_of [] L2 (unrestricted 5 6) ≡ None }
     ensures lengthened { premises_of [] L3 (unrestricted 1 3) ≡ None }
@@ -118,10 +129,23 @@ pub fn known_ranges()
     ensures no_second { premises_of [] (L11 12 3) (unrestricted 12 6) ≡ None }
     ensures first_near { premises_of [] (L11 5 2) (unrestricted 12 6) ≡ None }
     ensures second_near { premises_of [] (L11 5 4) (unrestricted 12 6) ≡ None }
+    ensures not_far { premises_of [] U1 (unrestricted 6 6) ≡ None }
+    ensures average_short { premises_of [] U2 (unrestricted 5 6) ≡ None }
+    ensures average_short_odd { premises_of [] U2 (unrestricted 4 5) ≡ None }
+    ensures average_long { premises_of [] U2 (unrestricted 13 6) ≡ None }
+    ensures average_long_odd { premises_of [] U2 (unrestricted 12 5) ≡ None }
+    ensures parity_above_even { premises_of [] U4 (unrestricted 8 4) ≡ None }
+    ensures parity_above_long { premises_of [] U4 (unrestricted 28 5) ≡ None }
+    ensures punctured_above_short { premises_of [] U5 (unrestricted 1 4) ≡ None }
+    ensures punctured_above_near { premises_of [] U5 (unrestricted 8 3) ≡ None }
+    ensures halves_short { premises_of [] U6 (unrestricted 1 3) ≡ None }
+    ensures nearer_above { premises_of [] U7 (unrestricted 8 3) ≡ None }
+    ensures lengthened_above { premises_of [] U8 (unrestricted 28 3) ≡ None }
 {}
 
-/// What rules give: A(8,4) = 16 and A(7,3) = 16 each from the other, A(16,4) ≥ 2048 and A(16,8) ≥ 32 from A(8,4) = 16
-/// and A(8,8) = 2, and so on. A number above `MAX_BOUND` is no lower bound, and as an upper bound it is `MAX_BOUND`.
+/// What rules give: A(8,4) = 16 and A(7,3) = 16 each from the other, from below and from above, A(16,4) ≥ 2048 and
+/// A(16,8) ≥ 32 from A(8,4) = 16 and A(8,8) = 2, A(23,7) ≤ 4096, which Golay's code has, and so on. A number above
+/// `MAX_BOUND` is no lower bound, and as an upper bound it is `MAX_BOUND`.
 pub fn known_values()
     ensures one_word { value_of [] L1 (unrestricted 1 3) [] ≡ Some 1 }
     ensures one_word_of_weight { value_of [] M1 (constant_weight 4 4 2) [] ≡ Some 1 }
@@ -146,6 +170,28 @@ pub fn known_values()
     ensures above { value_of [] L8 (unrestricted 28 6) (17 ∷ 15790321 ∷ []) ≡ None }
     ensures far_above { value_of [] L8 (unrestricted 28 6) (2 ^ 27 ∷ 4 ∷ []) ≡ None }
     ensures cut { within_limit Upper (Some (2 ^ 28 + 1)) ≡ Some (2 ^ 28) }
+    ensures far_words { value_of [] U1 (unrestricted 5 6) [] ≡ Some 1 }
+    ensures average { value_of [] U2 (unrestricted 10 6) [] ≡ Some 6 }
+    ensures average_near { value_of [] U2 (unrestricted 6 4) [] ≡ Some 4 }
+    ensures average_shortest { value_of [] U2 (unrestricted 6 6) [] ≡ Some 2 }
+    ensures average_below { value_of [] U2 (unrestricted 11 6) [] ≡ Some 12 }
+    ensures average_longest { value_of [] U2 (unrestricted 8 4) [] ≡ Some 16 }
+    ensures average_odd { value_of [] U2 (unrestricted 5 3) [] ≡ Some 4 }
+    ensures average_shortest_odd { value_of [] U2 (unrestricted 5 5) [] ≡ Some 2 }
+    ensures average_below_odd { value_of [] U2 (unrestricted 10 5) [] ≡ Some 12 }
+    ensures average_longest_odd { value_of [] U2 (unrestricted 11 5) [] ≡ Some 24 }
+    ensures balls { value_of [] U3 (unrestricted 7 3) [] ≡ Some 16 }
+    ensures balls_even { value_of [] U3 (unrestricted 7 4) [] ≡ Some 16 }
+    ensures balls_of_three { value_of [] U3 (unrestricted 23 7) [] ≡ Some 4096 }
+    ensures balls_rounded_down { value_of [] U3 (unrestricted 28 3) [] ≡ Some 9256395 }
+    ensures parity_above { value_of [] U4 (unrestricted 7 3) (16 ∷ []) ≡ Some 16 }
+    ensures punctured_above { value_of [] U5 (unrestricted 8 4) (16 ∷ []) ≡ Some 16 }
+    ensures halves { value_of [] U6 (unrestricted 8 3) (16 ∷ []) ≡ Some 32 }
+    ensures halves_greatest { value_of [] U6 (unrestricted 28 3) (2 ^ 27 ∷ []) ≡ Some (2 ^ 28) }
+    ensures halves_cut { value_of [] U6 (unrestricted 28 3) ((2 ^ 27 + 1) ∷ []) ≡ Some (2 ^ 28) }
+    ensures nearer_above { value_of [] U7 (unrestricted 8 4) (20 ∷ []) ≡ Some 20 }
+    ensures lengthened_above { value_of [] U8 (unrestricted 7 3) (20 ∷ []) ≡ Some 20 }
+    ensures lengthened_cut { value_of [] U8 (unrestricted 7 3) ((2 ^ 28 + 1) ∷ []) ≡ Some (2 ^ 28) }
 {}
 
 /// What supports give: to the entry that they name and to no other, at the place that the rule names.

@@ -5,7 +5,7 @@ use ct_codes::{Entry, Side};
 use ct_words::MAX_BOUND;
 
 /// Each rule, with the first support, and a length and a distance, where it names any.
-const RULES: [Rule; 14] = [
+const RULES: [Rule; 22] = [
     Rule::L1,
     Rule::L2,
     Rule::L3,
@@ -19,6 +19,14 @@ const RULES: [Rule; 14] = [
     Rule::M1,
     Rule::M10(0),
     Rule::U0,
+    Rule::U1,
+    Rule::U2,
+    Rule::U3,
+    Rule::U4,
+    Rule::U5,
+    Rule::U6,
+    Rule::U7,
+    Rule::U8,
     Rule::V0,
 ];
 
@@ -32,9 +40,9 @@ fn weighted(n: u32, d: u32, w: u32) -> Entry {
     Entry { n, d, w: Some(w) }
 }
 
-/// A(n,d) from below, where a length and a distance are given.
-fn from_below(numbers: Option<(u32, u32)>) -> Option<(Side, Entry)> {
-    numbers.map(|(n, d)| (Side::Lower, plain(n, d)))
+/// A(n,d) from the side of the rule, where a length and a distance are given.
+fn on_side(rule: Rule, numbers: Option<(u32, u32)>) -> Option<(Side, Entry)> {
+    numbers.map(|(n, d)| (rule_side(rule), plain(n, d)))
 }
 
 /// Whether each call answers that the rule is not defined at the entry.
@@ -64,9 +72,21 @@ fn premises_at_the_ends(rt: HostRuntime) {
         (Rule::L11(1, 3), 2, 6, 2, Some((1, 3)), Some((1, 3))),
         (Rule::L11(9, 25), 28, 28, 2, Some((9, 25)), Some((19, 3))),
         (Rule::U0, 1, 28, 0, None, None),
+        (Rule::U1, 27, 28, 0, None, None),
+        (Rule::U2, 3, 3, 0, None, None),
+        (Rule::U2, 28, 14, 0, None, None),
+        (Rule::U2, 27, 13, 0, None, None),
+        (Rule::U3, 28, 28, 0, None, None),
+        (Rule::U4, 1, 3, 1, Some((2, 4)), None),
+        (Rule::U4, 27, 27, 1, Some((28, 28)), None),
+        (Rule::U5, 2, 4, 1, Some((1, 3)), None),
+        (Rule::U5, 28, 28, 1, Some((27, 27)), None),
+        (Rule::U6, 2, 28, 1, Some((1, 28)), None),
+        (Rule::U7, 1, 4, 1, Some((1, 3)), None),
+        (Rule::U8, 27, 28, 1, Some((28, 28)), None),
     ] {
         let at = |j| premise(&[], rule, plain(n, d), j);
-        let wanted = (Some(count), from_below(first), from_below(second));
+        let wanted = (Some(count), on_side(rule, first), on_side(rule, second));
         assert_eq!(rt;
             (premise_count(&[], rule, plain(n, d)), at(0), at(1)),
             wanted,
@@ -102,6 +122,17 @@ fn past_the_ends(rt: HostRuntime) {
         (Rule::L11(1, u32::MAX), 28, 28),
         (Rule::L11(u32::MAX, u32::MAX), 28, 28),
         (Rule::M1, 28, 28),
+        (Rule::U1, 28, 28),
+        (Rule::U2, 27, 28),
+        (Rule::U2, 25, 12),
+        (Rule::U2, 28, 13),
+        (Rule::U4, 27, 28),
+        (Rule::U4, 28, 27),
+        (Rule::U5, 1, 28),
+        (Rule::U5, 28, 3),
+        (Rule::U6, 1, 28),
+        (Rule::U7, 28, 3),
+        (Rule::U8, 28, 28),
         (Rule::V0, 28, 28),
     ] {
         assert!(rt;
@@ -109,7 +140,16 @@ fn past_the_ends(rt: HostRuntime) {
             "{rule:?} at ({n},{d})"
         );
     }
-    for rule in [Rule::L1, Rule::L2, Rule::L8, Rule::L11(1, 3), Rule::U0] {
+    for rule in [
+        Rule::L1,
+        Rule::L2,
+        Rule::L8,
+        Rule::L11(1, 3),
+        Rule::U0,
+        Rule::U3,
+        Rule::U6,
+        Rule::U7,
+    ] {
         assert!(rt;
             is_undefined(&[], rule, weighted(28, 6, 3)),
             "{rule:?} with a weight"
@@ -142,7 +182,8 @@ fn nothing_outside_the_table(rt: HostRuntime) {
 }
 
 // Half of 2^28 - 1, rounded up, is 2^27. At (28,4) the factor of L8 is 2^13, and 2^13 · 2^15 = 2^28; at (28,5) 2^14 · 2^14
-// is 2^28. There are 2^28 words of length 28. A rule looks at no more values than it has premises.
+// is 2^28. There are 2^28 words of length 28. At (28,14) Plotkin's bound is 4 · 14, at (27,13) 4 · 13 + 4; a ball of radius 13
+// has (2^28 - C(28,14)) / 2 words, more than a third of all. A rule looks at no more values than it has premises.
 #[test]
 fn values_at_the_ends(rt: HostRuntime) {
     for (rule, n, d, first, second, want) in [
@@ -170,6 +211,18 @@ fn values_at_the_ends(rt: HostRuntime) {
         (Rule::L11(14, 14), 28, 28, u32::MAX, 1 << 28, Some(1 << 28)),
         (Rule::U0, 1, 28, 9, 9, Some(2)),
         (Rule::U0, 28, 3, 9, 9, Some(MAX_BOUND)),
+        (Rule::U1, 1, 3, 9, 9, Some(1)),
+        (Rule::U2, 3, 3, 9, 9, Some(2)),
+        (Rule::U2, 28, 14, 9, 9, Some(56)),
+        (Rule::U2, 27, 13, 9, 9, Some(56)),
+        (Rule::U3, 28, 28, 9, 9, Some(2)),
+        (Rule::U4, 27, 27, 2, 9, Some(2)),
+        (Rule::U5, 28, 28, 2, 9, Some(2)),
+        (Rule::U6, 2, 3, 1, 9, Some(2)),
+        (Rule::U6, 28, 3, MAX_BOUND / 2, 9, Some(MAX_BOUND)),
+        (Rule::U6, 28, 3, u32::MAX, 9, Some(MAX_BOUND)),
+        (Rule::U7, 28, 4, MAX_BOUND, 9, Some(MAX_BOUND)),
+        (Rule::U8, 27, 3, MAX_BOUND + 1, 9, Some(MAX_BOUND)),
     ] {
         let given = value(&[], rule, plain(n, d), &[first, second, 3]);
         assert_eq!(rt; given, want, "{rule:?} of {first}, {second}");

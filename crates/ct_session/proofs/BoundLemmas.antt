@@ -1,100 +1,102 @@
--- The best bounds that pieces give are true of codes.
-use Rattle.std.proofs.Common.{◌≡◌, ℕ, ◌^◌, ◌≤◌, max, min, Bool, true, false, cond, List, [], ◌∷◌, length, Option, Some, None, refl, sym, subst, inl, inr, ◌⊎◌, IfSome, arith, lit≤}
-use Rattle.std.specs.Prelude.{All, Contains, filter, fold}
-use Rattle.std.specs.List.{AllByRecursion, filter_map, cons_option}
-use Rattle.std.proofs.Math.Nat.{pow-le-pow_right, max-eq_left, max-eq_right}
-use Rattle.std.proofs.lemmas.Bool.Decides.{leb_tells}
-use Rattle.std.proofs.lemmas.List.Elements.{recursion_from_All, All-from_recursion, All-contains_itself, All-contains}
-use Rattle.ct_words.specs.declared.limits.TheConstants.{MAX_BOUND}
+-- Over pieces that stand each side of an entry has a best bound, which is true, and no two.
+use Rattle.std.proofs.Common.{◌≡◌, ℕ, zero, suc, ◌+◌, ◌-◌, ◌≤◌, List, [], ◌∷◌, ◌++◌, map, refl, ap, sym, subst, ◌∙◌, arith}
+use Rattle.std.specs.List.{AllZip, range_with_len}
+use Rattle.std.proofs.lemmas.List.FromFn.{map-range_with_len_more}
+use Rattle.ct_words.specs.declared.limits.TheConstants.{MAX_N}
 use Rattle.ct_codes.specs.declared.entry.Entry.{Entry}
 use Rattle.ct_codes.specs.declared.claim.Side.{Side}
 use Rattle.ct_codes.specs.declared.claim.Side.TheVariants.{Lower, Upper}
-use Rattle.ct_codes.specs.Code.{IsTrueLower, IsTrueUpper}
-use Rattle.ct_codes.specs.Entry.{IsEntry, same_entry}
-use Rattle.ct_codes.proofs.BoundLemmas.{one_is_lower}
-use Rattle.ct_codes.proofs.CheckLemmas.{code_size-le}
-use Rattle.ct_codes.proofs.EntryLemmas.{entry_limits, same_entry_is}
+use Rattle.ct_codes.specs.Entry.{IsEntry, unrestricted}
+use Rattle.ct_codes.proofs.EntryLemmas.{entry_limits, entry_from_limits}
+use Rattle.ct_rules.specs.declared.support.Support.{Support}
+use Rattle.ct_rules.specs.Derivation.{IsBest}
+use Rattle.ct_rules.proofs.BestValues.{best_exists, best_is_true}
+use Rattle.ct_rules.proofs.ClosedBounds.{best_is_one}
 use Rattle.ct_ledger.specs.Piece.{PieceValue}
-use Rattle.ct_ledger.specs.Standing.{HasTrueSize}
-use Rattle.ct_session.specs.Bounds.{sizes_at, Gives, IsBest}
-use Rattle.ct_session.specs.Reply.{IsShownBound}
-
--- what holds of two numbers holds of the greater
-of_max : (P : ℕ → Type 0) (a x : ℕ) → P a → P x → P (max a x)
-of_max P a x h k = elim (leb_tells a x) [ inl t ↦ subst P (sym (max-eq_right t.1)) k | inr t ↦ subst P (sym (max-eq_left (omega arith))) h ]
-
--- what holds of a and of each item holds of the greatest of them
-fold_max : (P : ℕ → Type 0) (a : ℕ) (xs : List ℕ) → P a → AllByRecursion P xs → P (fold max a xs)
-fold_max P a [] h hs = h
-fold_max P a (x ∷ xs) h hs = fold_max P (max a x) xs (of_max P a x h hs.0) hs.1
-
--- the greatest of a and a list is at least a and each item
-at_least : (a : ℕ) (xs : List ℕ) → (a ≤ fold max a xs) × AllByRecursion (λ s. s ≤ fold max a xs) xs
-at_least a [] = (omega arith, tt)
-at_least a (x ∷ xs) =
-    let rest = at_least (max a x) xs in
-    let above = rest.0 in
-    (omega (arith, above), (omega (arith, above), rest.1))
-
-found : (xs ys : List ℕ) → AllByRecursion (Contains ys) xs → AllByRecursion (λ v. (v ≡ 1) ⊎ Contains ys v) xs
-found [] ys h = tt
-found (x ∷ xs) ys h = (inr h.0, found xs ys h.1)
-
--- one more size, where a piece has one
-one_more : (e : Entry) (size : Option ℕ) (sizes : List ℕ) → IfSome size (IsTrueLower e) → AllByRecursion (IsTrueLower e) sizes → AllByRecursion (IsTrueLower e) (cons_option size sizes)
-one_more e None sizes h hs = hs
-one_more e (Some size) sizes h hs = (h, hs)
-
--- the sizes at an entry with one more piece, which may be at it
-one_piece : (e : Entry) (p : PieceValue) (ps : List PieceValue) (b : Bool) → same_entry p.entry e ≡ b → HasTrueSize p → AllByRecursion (IsTrueLower e) (sizes_at e ps)
-    → AllByRecursion (IsTrueLower e) (filter_map (λ (q : PieceValue). q.size) (cond b (p ∷ filter (λ (q : PieceValue). same_entry q.entry e) ps) (filter (λ (q : PieceValue). same_entry q.entry e) ps)))
-one_piece e p ps true same h hs = one_more e p.size (sizes_at e ps) (subst (λ (f : Entry). IfSome p.size (IsTrueLower f)) (same_entry_is p.entry e same) h) hs
-one_piece e p ps false same h hs = hs
-
--- a size at an entry is that of a code of the entry
-sizes_true : (e : Entry) (pieces : List PieceValue) → AllByRecursion HasTrueSize pieces → AllByRecursion (IsTrueLower e) (sizes_at e pieces)
-sizes_true e [] h = tt
-sizes_true e (p ∷ ps) h = one_piece e p ps (same_entry p.entry e) refl h.0 (sizes_true e ps h.1)
-
--- a code of an entry of the table has at most so many words as the table's greatest bound
-true_lower-le : (e : Entry) (v : ℕ) → IsEntry e → IsTrueLower e v → v ≤ MAX_BOUND
-true_lower-le e v entry truth =
-    let size = code_size-le e.n e.d e.w truth.0 truth.1 in
-    let cap : 2 ^ e.n ≤ MAX_BOUND = pow-le-pow_right (lit≤ tt) (entry_limits e entry).1 in
-    omega (arith, size, cap, truth.2)
-
--- a lower bound that a rule gives is at most the greatest
-within : (e : Entry) (pieces : List PieceValue) (u : ℕ) → Gives pieces Lower e u → u ≤ fold max 1 (sizes_at e pieces)
-within e pieces u (inl one) = let least = (at_least 1 (sizes_at e pieces)).0 in omega (arith, one, least)
-within e pieces u (inr there) =
-    let bound = fold max 1 (sizes_at e pieces) in
-    All-contains (λ s. s ≤ bound) (sizes_at e pieces) u (All-from_recursion (λ s. s ≤ bound) (sizes_at e pieces) (at_least 1 (sizes_at e pieces)).1) there
-
--- the greatest of 1 and the sizes at an entry is the best lower bound, and true
-pub lower_shown : (pieces : List PieceValue) (e : Entry) → IsEntry e → All HasTrueSize pieces → IsShownBound pieces Lower e (fold max 1 (sizes_at e pieces))
-lower_shown pieces e entry h =
-    let sizes = sizes_at e pieces in
-    let truth = fold_max (IsTrueLower e) 1 sizes (one_is_lower e entry) (sizes_true e pieces (recursion_from_All HasTrueSize pieces h)) in
-    record {
-      best = record {
-        given = fold_max (λ v. (v ≡ 1) ⊎ Contains sizes v) 1 sizes (inl refl) (found sizes sizes (recursion_from_All (Contains sizes) sizes (All-contains_itself sizes)));
-        none_better = λ u given. within e pieces u given;
-      };
-      truth = record { entry = entry; range = ((at_least 1 sizes).0, true_lower-le e (fold max 1 sizes) entry truth); truth = truth };
-    }
-
--- 2 ^ n, and no more than the greatest bound, is the best upper bound, and true
-pub upper_shown : (pieces : List PieceValue) (e : Entry) → IsEntry e → IsShownBound pieces Upper e (min (2 ^ e.n) MAX_BOUND)
-upper_shown pieces e entry =
-    let cap : 2 ^ e.n ≤ MAX_BOUND = pow-le-pow_right (lit≤ tt) (entry_limits e entry).1 in
-    let below : 0 ≤ e.n = omega arith in
-    let some : 2 ^ 0 ≤ 2 ^ e.n = pow-le-pow_right (lit≤ tt) below in
-    record {
-      best = record { given = refl; none_better = λ u given. omega (arith, given) };
-      truth = record { entry = entry; range = (omega (arith, some, cap), omega (arith, some, cap)); truth = λ words code. let size = code_size-le e.n e.d e.w words code in omega (arith, size, cap) };
-    }
+use Rattle.ct_ledger.specs.Standing.{AreStanding}
+use Rattle.ct_ledger.specs.Supports.{supports_of}
+use Rattle.ct_ledger.proofs.SupportLemmas.{supports_stand}
+use Rattle.ct_session.specs.Reply.{IsShownBound, AreBoundsOf, column}
+use Rattle.ct_session.specs.declared.reply.Bounds.{Bounds}
 
 -- each side of an entry of the table has a best bound, which is true
-pub shown : (pieces : List PieceValue) (side : Side) (e : Entry) → IsEntry e → All HasTrueSize pieces → (v : ℕ) × IsShownBound pieces side e v
-shown pieces Lower e entry h = (fold max 1 (sizes_at e pieces), lower_shown pieces e entry h)
-shown pieces Upper e entry h = (min (2 ^ e.n) MAX_BOUND, upper_shown pieces e entry)
+pub shown : (pieces : List PieceValue) (side : Side) (e : Entry) → AreStanding pieces → IsEntry e → (v : ℕ) × IsShownBound pieces side e v
+shown pieces side e h entry =
+    let stand = supports_stand pieces h in
+    let best = best_exists (supports_of pieces) (side, e) stand entry in
+    (best.0, record { best = best.1; truth = best_is_true (supports_of pieces) (side, e) best.0 stand best.1 })
+
+-- pieces that give the same show the same bound
+pub shown_once : (pieces other : List PieceValue) (side : Side) (e : Entry) (u v : ℕ) → supports_of pieces ≡ supports_of other
+    → IsShownBound pieces side e u → IsShownBound other side e v → u ≡ v
+shown_once pieces other side e u v same h k =
+    best_is_one (supports_of other) (side, e) u v (subst (λ (s : List Support). IsBest s (side, e) u) same h.best) k.best
+
+-- the bounds of an entry
+pub some_bounds : (pieces : List PieceValue) (e : Entry) → AreStanding pieces → IsEntry e → (b : Bounds) × AreBoundsOf pieces e b
+some_bounds pieces e h entry =
+    let below = shown pieces Lower e h entry in
+    let above = shown pieces Upper e h entry in
+    (record { entry = e; lower = below.0; upper = above.0 }, record { entry = refl; lower = below.1; upper = above.1 })
+
+-- they are no others
+pub same_bounds : (pieces : List PieceValue) (e : Entry) (b c : Bounds) → AreBoundsOf pieces e b → AreBoundsOf pieces e c → b ≡ c
+same_bounds pieces e b c h k =
+    let entry = h.entry ∙ sym k.entry in
+    let lower = shown_once pieces pieces Lower e b.lower c.lower refl h.lower k.lower in
+    let upper = shown_once pieces pieces Upper e b.upper c.upper refl h.upper k.upper in
+    λ i. record { entry = entry i; lower = lower i; upper = upper i }
+
+-- where the table has a distance, it has its entries of all lengths
+pub longer_entry : (n d : ℕ) → IsEntry (unrestricted 1 d) → 1 ≤ n → n ≤ MAX_N → IsEntry (unrestricted n d)
+longer_entry n d entry some most =
+    let limits = entry_limits (unrestricted 1 d) entry in
+    entry_from_limits (unrestricted n d) (some, most, limits.2, limits.3, tt)
+
+-- the bounds of the entries of a distance whose lengths are some after one another
+column_from : (pieces : List PieceValue) (d a k : ℕ) → AreStanding pieces → IsEntry (unrestricted 1 d) → 1 ≤ a → a + k ≤ MAX_N + 1
+    → (bs : List Bounds) × AllZip (AreBoundsOf pieces) (map (λ n. unrestricted n d) (range_with_len a k)) bs
+column_from pieces d a zero h entry some most = ([], tt)
+column_from pieces d a (suc k) h entry some most =
+    let first = some_bounds pieces (unrestricted a d) h (longer_entry a d entry some (omega arith)) in
+    let rest = column_from pieces d (a + 1) k h entry (omega arith) (omega arith) in
+    (first.0 ∷ rest.0, (first.1, rest.1))
+
+-- of all lengths
+pub some_column : (pieces : List PieceValue) (d : ℕ) → AreStanding pieces → IsEntry (unrestricted 1 d) → (bs : List Bounds) × AllZip (AreBoundsOf pieces) (column d) bs
+unfolding column
+some_column pieces d h entry = column_from pieces d 1 MAX_N h entry (omega arith) (omega arith)
+
+-- the bounds of several entries are no others
+pub same_bounds_of_all : (pieces : List PieceValue) (es : List Entry) (bs cs : List Bounds) → AllZip (AreBoundsOf pieces) es bs → AllZip (AreBoundsOf pieces) es cs → bs ≡ cs
+same_bounds_of_all pieces [] [] [] h k = refl
+same_bounds_of_all pieces [] [] (c ∷ cs) h k = absurd k
+same_bounds_of_all pieces [] (b ∷ bs) cs h k = absurd h
+same_bounds_of_all pieces (e ∷ es) [] cs h k = absurd h
+same_bounds_of_all pieces (e ∷ es) (b ∷ bs) [] h k = absurd k
+same_bounds_of_all pieces (e ∷ es) (b ∷ bs) (c ∷ cs) h k =
+    ap (λ x. x ∷ bs) (same_bounds pieces e b c h.0 k.0) ∙ ap (λ xs. c ∷ xs) (same_bounds_of_all pieces es bs cs h.1 k.1)
+
+-- one more entry with its bounds
+pub bounds_of_more : (pieces : List PieceValue) (es : List Entry) (bs : List Bounds) (e : Entry) (b : Bounds) → AllZip (AreBoundsOf pieces) es bs → AreBoundsOf pieces e b
+    → AllZip (AreBoundsOf pieces) (es ++ e ∷ []) (bs ++ b ∷ [])
+bounds_of_more pieces [] [] e b h one = (one, tt)
+bounds_of_more pieces [] (c ∷ bs) e b h one = absurd h
+bounds_of_more pieces (f ∷ es) [] e b h one = absurd h
+bounds_of_more pieces (f ∷ es) (c ∷ bs) e b h one = (h.0, bounds_of_more pieces es bs e b h.1 one)
+
+-- one more length of a distance
+pub column_more : (pieces : List PieceValue) (d n : ℕ) (bs : List Bounds) (b : Bounds) → 1 ≤ n → AllZip (AreBoundsOf pieces) (map (λ m. unrestricted m d) (range_with_len 1 (n - 1))) bs
+    → AreBoundsOf pieces (unrestricted n d) b → AllZip (AreBoundsOf pieces) (map (λ m. unrestricted m d) (range_with_len 1 (n + 1 - 1))) (bs ++ b ∷ [])
+column_more pieces d n bs b some h one =
+    let more : n + 1 - 1 ≡ n - 1 + 1 = omega arith in
+    let lengths = map-range_with_len_more (λ m. unrestricted m d) 1 (n - 1) n (omega arith) in
+    let all = bounds_of_more pieces (map (λ m. unrestricted m d) (range_with_len 1 (n - 1))) bs (unrestricted n d) b h one in
+    subst (λ (k : ℕ). AllZip (AreBoundsOf pieces) (map (λ m. unrestricted m d) (range_with_len 1 k)) (bs ++ b ∷ [])) (sym more)
+    (subst (λ (es : List Entry). AllZip (AreBoundsOf pieces) es (bs ++ b ∷ [])) (sym lengths) all)
+
+-- all lengths of a distance
+pub column_whole : (pieces : List PieceValue) (d n : ℕ) (bs : List Bounds) → n ≡ MAX_N + 1 → AllZip (AreBoundsOf pieces) (map (λ m. unrestricted m d) (range_with_len 1 (n - 1))) bs
+    → AllZip (AreBoundsOf pieces) (column d) bs
+unfolding column
+column_whole pieces d n bs whole h = subst (λ (k : ℕ). AllZip (AreBoundsOf pieces) (map (λ m. unrestricted m d) (range_with_len 1 (k - 1))) bs) whole h

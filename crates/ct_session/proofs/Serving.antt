@@ -1,7 +1,6 @@
 -- What lasts from line to line while a session is served.
-use Rattle.std.proofs.Common.{◌≡◌, ◌≢◌, ℕ, ◌+◌, ◌-◌, ◌<◌, ◌≤◌, Bool, true, false, List, [], ◌∷◌, ◌++◌, length, Option, None, Some, Result, Ok, Err, Vec, refl, sym, ap, ◌∙◌, subst, arith, inl, inr, ◌⊎◌, ◌||◌, ◌↔◌, length-append, append_assoc, append-nil}
-use Rattle.std.specs.Prelude.{All, Contains, ⊤}
-use Rattle.std.specs.List.{flat_map}
+use Rattle.std.proofs.Common.{◌≡◌, ◌≢◌, ℕ, ◌+◌, ◌-◌, ◌<◌, ◌≤◌, Bool, true, false, List, [], ◌∷◌, ◌++◌, length, Option, None, Some, Result, Ok, Err, Vec, refl, sym, ap, ◌∙◌, subst, arith, inl, inr, ◌||◌, ◌↔◌, length-append, append_assoc, append-nil}
+use Rattle.std.specs.Prelude.{All, Contains}
 use Rattle.std.specs.declared.alloc.Global.{Global}
 use Rattle.std.specs.Io.KnownBytes.{Appends, Consumes, IsAtEnd, prepend_known}
 use Rattle.std.proofs.KnownBytes.{Appends-nil, Appends-trans, Consumes-nil, Consumes-trans}
@@ -9,7 +8,7 @@ use Rattle.std.proofs.lemmas.Bool.Decides.{leb_tells}
 use Rattle.std.proofs.lemmas.Grind.{flat_map-append}
 use Rattle.std.proofs.lemmas.List.Elements.{All-nil, All-push, All-contains, Contains-append_left}
 use Rattle.ct_lines.specs.declared.TheConstants.{LINE_FEED}
-use Rattle.ct_lines.specs.Lines.{lines_of, IsLine, IsNextLine, ended_lines, whole_lines}
+use Rattle.ct_lines.specs.Lines.{lines_of, IsLine, ended_lines}
 use Rattle.ct_lines.proofs.LinesLemmas.{whole_lines-ended}
 use Rattle.ct_io.specs.declared.TheConstants.{MAX_INPUT, MAX_READ}
 use Rattle.ct_io.specs.declared.line_fault.LineFault.{LineFault}

@@ -1,20 +1,18 @@
 -- Lines that are taken one after another, and the run that they are a part of.
-use Rattle.std.proofs.Common.{◌≡◌, ◌≢◌, ℕ, Bool, true, false, ◌||◌, List, [], ◌∷◌, ◌++◌, Option, Some, None, refl, sym, ap, ◌∙◌, subst, append_assoc, append-nil}
+use Rattle.std.proofs.Common.{◌≡◌, ◌≢◌, ℕ, Bool, true, false, ◌||◌, List, [], ◌∷◌, ◌++◌, Option, Some, None, refl, sym, ap, ◌∙◌, subst, append_assoc}
 use Rattle.std.specs.Prelude.{fold, ⊤}
 use Rattle.std.proofs.Math.Bool.{or-false}
 use Rattle.std.specs.Option.{option_to_list}
 use Rattle.std.specs.Io.KnownBytes.{Appends}
 use Rattle.ct_lines.specs.Lines.{lines_of}
-use Rattle.ct_io.specs.Told.{AppendsPrefix, AppendsProperPrefix}
 use Rattle.ct_commands.specs.Command.{completed, completed_by, open_after, open_after_all, cut_off, commands_of}
 use Rattle.ct_commands.specs.declared.command.Command.{Command}
 use Rattle.ct_commands.specs.declared.command.Pending.{Pending}
 use Rattle.ct_ledger.specs.Piece.{PieceValue}
-use Rattle.ct_ledger.specs.Standing.{AreStanding}
 use Rattle.ct_ledger.proofs.StandingLemmas.{AreStanding-none}
 use Rattle.ct_session.specs.Reply.{pieces_after}
 use Rattle.ct_session.specs.Run.{AnswersCommands, IsRun}
-use Rattle.ct_session.specs.Serve.{WritesRun, WritesRunPrefix, WritesRunProperPrefix}
+use Rattle.ct_session.specs.Serve.{WritesRunPrefix, WritesRunProperPrefix}
 use Rattle.ct_session.specs.Inside.State.{State, fresh_state, TakesLines}
 use Rattle.ct_session.proofs.Answering.{append_answers}
 use Rattle.ct_session.proofs.Existence.{AreStanding-fold, some_answers}

@@ -1,4 +1,3 @@
-pub mod Bounds
 pub mod Text
 pub mod Reply
 pub mod Run

@@ -1,23 +1,29 @@
 -- The reply to a command over the pieces that stand, and the pieces after it.
-use Rattle.std.specs.Prelude.{◌≡◌, ℕ, Bool, true, false, List, Option, Some, None, Result, Ok, Err}
+use Rattle.std.specs.Prelude.{◌≡◌, ℕ, Bool, true, false, List, map, Option, Some, None, Result, Ok, Err}
+use Rattle.std.specs.List.{AllZip, range_with_len}
+use Rattle.ct_words.specs.declared.limits.TheConstants.{MAX_N}
 use Rattle.ct_codes.specs.declared.entry.Entry.{Entry}
 use Rattle.ct_codes.specs.declared.claim.Side.{Side}
 use Rattle.ct_codes.specs.declared.claim.Side.TheVariants.{Lower, Upper}
 use Rattle.ct_codes.specs.Claim.{IsTrueClaim}
+use Rattle.ct_codes.specs.Entry.{unrestricted}
+use Rattle.ct_rules.specs.Derivation.{IsBest}
+use Rattle.ct_rules.specs.Slot.{claim_at}
 use Rattle.ct_text.specs.EntryNumbers.{named_entry}
+use Rattle.ct_text.specs.TableNumbers.{named_distance}
 use Rattle.ct_commands.specs.declared.command.Command.{Command}
 use Rattle.ct_commands.specs.declared.command.Command.TheVariants as command
 use Rattle.ct_ledger.specs.Piece.{PieceValue}
 use Rattle.ct_ledger.specs.Submission.{submitted, with_piece}
 use Rattle.ct_ledger.specs.Withdrawal.{withdrawn, left_by}
 use Rattle.ct_ledger.specs.Dump.{dump_text}
+use Rattle.ct_ledger.specs.Supports.{supports_of}
 use Rattle.ct_ledger.specs.declared.fault.SubmitFault.{SubmitFault}
 use Rattle.ct_ledger.specs.declared.fault.WithdrawFault.{WithdrawFault}
-use Rattle.ct_session.specs.Bounds.{IsBest}
 use Rattle.ct_session.specs.Text.{ledger_text}
+use Rattle.ct_session.specs.declared.reply.Bounds.{Bounds}
 use Rattle.ct_session.specs.declared.reply.Reply.{Reply}
-use Rattle.ct_session.specs.declared.reply.Reply.TheVariants.{Accepted, Withdrawn, Shown, Lines, Refused}
-use Rattle.ct_session.specs.declared.reply.Refusal.{Refusal}
+use Rattle.ct_session.specs.declared.reply.Reply.TheVariants.{Accepted, Withdrawn, Shown, Table, Lines, Refused}
 use Rattle.ct_session.specs.declared.reply.Refusal.TheVariants as refusal
 
 -- the reply to a submission
@@ -30,18 +36,22 @@ abbrev pub withdrawal_reply : List ℕ → Result (List PieceValue) WithdrawFaul
 withdrawal_reply id (Ok left) = Withdrawn id
 withdrawal_reply id (Err fault) = Refused (refusal.Withdrawal id fault)
 
--- the bound is the best over the pieces that stand, and the claim of it is true
+-- the bound is the best that derivations over the pieces that stand give, and the claim of it is true
 pub record IsShownBound (pieces : List PieceValue) (side : Side) (e : Entry) (v : ℕ) : Type 0 where
-  pub best : IsBest pieces side e v
-  pub truth : IsTrueClaim (record { side = side; entry = e; value = v })
+  pub best : IsBest (supports_of pieces) (side, e) v
+  pub truth : IsTrueClaim (claim_at (side, e) v)
 
--- the bounds of an entry are shown: both are the best over the pieces that stand, and true of codes
+-- the bounds are those of the entry: both are the best over the pieces that stand, and true of codes
+pub record AreBoundsOf (pieces : List PieceValue) (e : Entry) (bounds : Bounds) : Type 0 where
+  pub entry : bounds.entry ≡ e
+  pub lower : IsShownBound pieces Lower e bounds.lower
+  pub upper : IsShownBound pieces Upper e bounds.upper
+
+-- the bounds of an entry are shown
 pub record IsShown (pieces : List PieceValue) (e : Entry) (reply : Reply) : Type 0 where
-  pub below : ℕ
-  pub above : ℕ
-  pub lower : IsShownBound pieces Lower e below
-  pub upper : IsShownBound pieces Upper e above
-  pub shown : reply ≡ Shown (record { entry = e; lower = below; upper = above })
+  pub bounds : Bounds
+  pub of_entry : AreBoundsOf pieces e bounds
+  pub shown : reply ≡ Shown bounds
 
 -- the reply for an entry of the table: its bounds where it has no weight, else a refusal
 abbrev pub IsEntryReply : List PieceValue → Entry → Option ℕ → Reply → Type 0
@@ -53,6 +63,21 @@ abbrev pub IsShowReply : List PieceValue → Option Entry → Reply → Type 0
 IsShowReply pieces None reply = reply ≡ Refused refusal.NoEntry
 IsShowReply pieces (Some e) reply = IsEntryReply pieces e e.w reply
 
+-- the entries A(n,d) of a distance, in the order of their lengths
+unfoldable pub column : ℕ → List Entry
+column d = map (λ n. unrestricted n d) (range_with_len 1 MAX_N)
+
+-- the bounds of all entries of a distance are shown, one after the other
+pub record IsColumn (pieces : List PieceValue) (d : ℕ) (reply : Reply) : Type 0 where
+  pub bounds : List Bounds
+  pub of_entries : AllZip (AreBoundsOf pieces) (column d) bounds
+  pub shown : reply ≡ Table bounds
+
+-- the reply to `table`: a refusal where it names no distance of the table, and where it names a weight
+abbrev pub IsTableReply : List PieceValue → Option ℕ → Reply → Type 0
+IsTableReply pieces None reply = reply ≡ Refused refusal.NoEntry
+IsTableReply pieces (Some d) reply = IsColumn pieces d reply
+
 -- the reply to a command over the pieces that stand
 abbrev pub IsReply : List PieceValue → Command → Reply → Type 0
 IsReply pieces (command.Submission None document) reply = reply ≡ Refused refusal.NoCommand
@@ -60,6 +85,7 @@ IsReply pieces (command.Submission (Some id) document) reply = reply ≡ submiss
 IsReply pieces command.CutOff reply = reply ≡ Refused refusal.CutOff
 IsReply pieces (command.Withdraw id) reply = reply ≡ withdrawal_reply id (withdrawn pieces id)
 IsReply pieces (command.Show numbers) reply = IsShowReply pieces (named_entry numbers) reply
+IsReply pieces (command.Table numbers) reply = IsTableReply pieces (named_distance numbers) reply
 IsReply pieces command.Ledger reply = reply ≡ Lines (ledger_text pieces)
 IsReply pieces command.Dump reply = reply ≡ Lines (dump_text pieces)
 IsReply pieces command.Unknown reply = reply ≡ Refused refusal.NoCommand

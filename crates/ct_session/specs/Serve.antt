@@ -1,5 +1,5 @@
 -- What serving a session does to a source and a sink that tell their bytes.
-use Rattle.std.specs.Prelude.{◌≡◌, ◌≤◌, ℕ, ⊤, Bool, List, [], ◌++◌, length, Option, Some, None}
+use Rattle.std.specs.Prelude.{◌≤◌, ℕ, ⊤, Bool, List, [], ◌++◌, length, Option, Some, None}
 use Rattle.std.specs.Io.KnownBytes.{Appends, Consumes}
 use Rattle.ct_lines.specs.Lines.{whole_lines}
 use Rattle.ct_io.specs.declared.TheConstants.{MAX_READ}

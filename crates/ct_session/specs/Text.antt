@@ -1,5 +1,5 @@
 -- The texts of replies.
-use Rattle.std.specs.Prelude.{ℕ, ◌==◌, if◌then◌else◌, List, [], ◌∷◌, ◌++◌, length, Option, codes}
+use Rattle.std.specs.Prelude.{ℕ, ◌==◌, if◌then◌else◌, List, [], ◌∷◌, ◌++◌, length, codes}
 use Rattle.std.specs.Fmt.{decimal}
 use Rattle.std.specs.List.{flat_map}
 use Rattle.ct_lines.specs.declared.TheConstants.{LINE_FEED}
@@ -7,7 +7,7 @@ use Rattle.ct_text.specs.EntryText.{entry_text}
 use Rattle.ct_ledger.specs.Piece.{PieceValue}
 use Rattle.ct_ledger.specs.Text.{submit_fault_text, withdraw_fault_text, size_text, piece_text}
 use Rattle.ct_session.specs.declared.reply.Reply.{Reply}
-use Rattle.ct_session.specs.declared.reply.Reply.TheVariants.{Accepted, Withdrawn, Shown, Lines, Refused}
+use Rattle.ct_session.specs.declared.reply.Reply.TheVariants.{Accepted, Withdrawn, Shown, Table, Lines, Refused}
 use Rattle.ct_session.specs.declared.reply.Bounds.{Bounds}
 use Rattle.ct_session.specs.declared.reply.Refusal.{Refusal}
 use Rattle.ct_session.specs.declared.reply.Refusal.TheVariants as refusal
@@ -39,5 +39,6 @@ unfoldable pub reply_text : Reply → List ℕ
 reply_text (Accepted id size) = ended (codes "accepted " ++ id ++ size_text size)
 reply_text (Withdrawn id) = ended (codes "withdrawn " ++ id)
 reply_text (Shown bounds) = ended (bounds_text bounds)
+reply_text (Table column) = flat_map (λ bounds. ended (bounds_text bounds)) column
 reply_text (Lines lines) = lines
 reply_text (Refused r) = ended (codes "refused " ++ refusal_text r)

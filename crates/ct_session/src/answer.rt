@@ -1,46 +1,68 @@
 //! Answers to commands over the pieces that stand.
 
-ghost use Rattle.std.specs.Prelude.{◌≡◌, All, Some, IfOk, OnOk, OnErr};
-ghost use Rattle.ct_codes.specs.Entry.{IsEntry};
+ghost use Rattle.std.specs.Prelude.{◌≡◌, Some, IfOk, OnOk, OnErr};
+ghost use Rattle.std.specs.List.{AllZip};
+ghost use Rattle.ct_codes.specs.Entry.{IsEntry, unrestricted};
 ghost use Rattle.ct_text.specs.EntryNumbers.{named_entry};
-ghost use Rattle.ct_ledger.specs.Standing.{HasTrueSize};
+ghost use Rattle.ct_text.specs.TableNumbers.{named_distance};
 ghost use Rattle.ct_ledger.specs.Submission.{submitted, with_piece};
 ghost use Rattle.ct_ledger.specs.Withdrawal.{withdrawn, left_by};
-ghost use Rattle.ct_session.specs.Reply.{IsReply, IsShown, IsShowReply, pieces_after, submission_reply, withdrawal_reply};
+ghost use Rattle.ct_session.specs.Reply.{IsReply, AreBoundsOf, IsShowReply, IsTableReply, column, pieces_after, submission_reply, withdrawal_reply};
 
-use crate::bounds::{lower_bound, upper_bound};
-use crate::reply::{Bounds, Refusal, Reply};
+use crate::reply::{Bounds, BoundsList, Refusal, Reply};
 use crate::text::ledger_text;
 use ct_codes::Entry;
 use ct_commands::Command;
-use ct_ledger::{Ledger, Piece, SubmitFault, WithdrawFault};
-use ct_text::{EntryNumbers, Id, Text};
+use ct_ledger::{Ledger, SubmitFault, WithdrawFault};
+use ct_text::{EntryNumbers, Id, TableNumbers, Text};
+use ct_words::MAX_N;
 use std::alloc::{AllocError, Global};
 
-/// The reply that shows the bounds of an entry of the table without weight.
-fn show_bounds(pieces: &[Piece], entry: Entry) -> Reply
-    requires sizes { All HasTrueSize pieces.now }
-    requires entry { IsEntry entry }
-    ensures { IsShown pieces.now entry result }
+/// The bounds of an entry of the table.
+fn bounds_of(ledger: &Ledger, entry: Entry) -> Bounds
+    requires { IsEntry entry }
+    ensures { AreBoundsOf ledger.now.pieces entry result }
 {
-    Reply::Shown(Bounds {
+    let table = ledger.table();
+    Bounds {
         entry,
-        lower: lower_bound(pieces, entry),
-        upper: upper_bound(pieces, entry),
-    })
+        lower: table.lower(entry),
+        upper: table.upper(entry),
+    }
 }
 
 /// The reply to `show`.
-fn show(pieces: &[Piece], numbers: EntryNumbers) -> Reply
-    requires { All HasTrueSize pieces.now }
-    ensures { IsShowReply pieces.now (named_entry numbers) result }
+fn show(ledger: &Ledger, numbers: EntryNumbers) -> Reply
+    ensures { IsShowReply ledger.now.pieces (named_entry numbers) result }
 {
     let Some(entry) = numbers.entry() else {
         return Reply::Refused(Refusal::NoEntry);
     };
     match entry.w {
-        None => show_bounds(pieces, entry),
+        None => Reply::Shown(bounds_of(ledger, entry)),
         Some(_) => Reply::Refused(Refusal::NoEntry),
+    }
+}
+
+/// The bounds of all entries without weight of a distance of the table, in the order of their lengths.
+fn column_of(alloc: Global, ledger: &Ledger, d: u32) -> Result<BoundsList, AllocError>
+    requires { IsEntry (unrestricted 1 d) }
+    ensures { IfOk result (λ bounds. AllZip (AreBoundsOf ledger.now.pieces) (column d) bounds) }
+{
+    let mut list = Vec::new(alloc);
+    for n in 1..MAX_N + 1 {
+        list.push(bounds_of(ledger, Entry { n, d, w: None }))?;
+    }
+    Ok(BoundsList::from_vec(list))
+}
+
+/// The reply to `table`. `Err` is want of memory.
+fn table(alloc: Global, ledger: &Ledger, numbers: TableNumbers) -> Result<Reply, AllocError>
+    ensures { IfOk result (IsTableReply ledger.now.pieces (named_distance numbers)) }
+{
+    match numbers.distance() {
+        Some(d) => Ok(Reply::Table(column_of(alloc, ledger, d)?)),
+        None => Ok(Reply::Refused(Refusal::NoEntry)),
     }
 }
 
@@ -96,7 +118,8 @@ pub(crate) fn answer(
         Command::Submission(id, document) => submit_any(ledger, id, document),
         Command::CutOff => Ok(Reply::Refused(Refusal::CutOff)),
         Command::Withdraw(id) => withdraw(ledger, id),
-        Command::Show(numbers) => Ok(show(ledger.pieces(), numbers)),
+        Command::Show(numbers) => Ok(show(ledger, numbers)),
+        Command::Table(numbers) => table(alloc, ledger, numbers),
         Command::Ledger => {
             let lines = ledger_text(alloc, ledger.pieces())?;
             Ok(Reply::Lines(Text::from_vec(lines)))

@@ -2,13 +2,14 @@
 #![tactic(auto)]
 
 mod answer;
-mod bounds;
 mod laws;
 mod reply;
 mod serve;
 mod session;
 mod text;
 
-pub use laws::{every_input_has_one_run, pieces_give_true_bounds};
-pub use reply::{Bounds, Refusal, Reply};
+pub use laws::{
+    every_input_has_one_run, pieces_give_true_bounds, shown_bounds_depend_on_standing_pieces,
+};
+pub use reply::{Bounds, BoundsList, Refusal, Reply};
 pub use serve::{ServeFault, serve_session};

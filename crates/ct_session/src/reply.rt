@@ -3,6 +3,7 @@
 use ct_codes::Entry;
 use ct_ledger::{SubmitFault, WithdrawFault};
 use ct_text::{Id, Text};
+use std::marker::Model;
 
 /// Why a command is refused.
 #[derive(Debug, Drop)]
@@ -11,7 +12,7 @@ pub enum Refusal {
     CutOff,
     /// The line is no command, or `submit` with other words after it than a form of it has.
     NoCommand,
-    /// The entry is not in the table, or has a weight.
+    /// The entry is not in the table, or has a weight; or the table has no entry of the distance, or a weight is named with it.
     NoEntry,
     /// The submission makes no piece.
     Submission(SubmitFault),
@@ -30,6 +31,39 @@ pub struct Bounds {
     pub upper: u32,
 }
 
+/// The bounds of several entries. Contracts see the list of them.
+#[derive(Debug, Drop)]
+pub struct BoundsList {
+    list: Vec<Bounds>,
+}
+
+impl Model for BoundsList {
+    ghost use Rattle.std.specs.Prelude.{List};
+    ghost use Rattle.ct_session.specs.declared.reply.Bounds.{Bounds};
+
+    ghost Value = { List Bounds };
+
+    ghost view = { λ l. l.list.items };
+}
+
+impl BoundsList {
+    ghost use Rattle.std.specs.Prelude.{◌≡◌};
+
+    /// The list of these bounds.
+    pub(crate) fn from_vec(list: Vec<Bounds>) -> BoundsList
+        ensures { result ≡ list.items }
+    {
+        BoundsList { list }
+    }
+
+    /// The bounds, in their order.
+    pub fn as_slice(&self) -> &[Bounds]
+        ensures { result.now ≡ self.now }
+    {
+        &self.list
+    }
+}
+
 /// The reply to a command.
 #[derive(Debug, Drop)]
 pub enum Reply {
@@ -39,6 +73,8 @@ pub enum Reply {
     Withdrawn(Id),
     /// The bounds of an entry.
     Shown(Bounds),
+    /// The bounds of all entries of a distance, in the order of their lengths.
+    Table(BoundsList),
     /// Lines, each with its line feed.
     Lines(Text),
     /// The command was refused.

@@ -79,6 +79,17 @@ pub(crate) fn ledger_text(alloc: Global, pieces: &[Piece]) -> Result<Vec<u8>, Al
     Ok(text)
 }
 
+/// Puts a line for the bounds of each entry at the end of the text.
+fn put_column(alloc: Global, text: &mut Vec<u8>, column: &[Bounds]) -> Result<(), AllocError>
+    ensures { OnOk result (text.new.items ≡ text.old.items ++ flat_map (λ bounds. ended (bounds_text bounds)) column.now) }
+{
+    for bounds in column {
+        put_bounds(alloc, text, *bounds)?;
+        text.push(LINE_FEED)?;
+    }
+    Ok(())
+}
+
 /// Puts the reply at the end of the text.
 #[tactic(auto, unfolding(crate::specs::Text::reply_text))]
 fn put_whole_reply(alloc: Global, text: &mut Vec<u8>, reply: &Reply) -> Result<(), AllocError>
@@ -95,6 +106,7 @@ fn put_whole_reply(alloc: Global, text: &mut Vec<u8>, reply: &Reply) -> Result<(
             text.extend_from_slice(id.text())?;
         }
         Reply::Shown(bounds) => put_bounds(alloc, text, *bounds)?,
+        Reply::Table(column) => return put_column(alloc, text, column.as_slice()),
         Reply::Lines(lines) => return text.extend_from_slice(lines.bytes()),
         Reply::Refused(refusal) => {
             text.extend_from_slice(b"refused ")?;

@@ -9,6 +9,7 @@ mod id;
 mod laws;
 mod line;
 mod number;
+mod table_numbers;
 mod text;
 
 pub use append::{put_entry, put_entry_words, put_number, put_spaced};
@@ -18,6 +19,7 @@ pub use id::{Id, MAX_ID};
 pub use laws::numbers_are_read_as_printed;
 pub use line::first_words;
 pub use number::parse_number;
+pub use table_numbers::{TableNumbers, parse_table_numbers};
 pub use text::Text;
 
 #[cfg(test)]

@@ -6,7 +6,7 @@ use Rattle.ct_io.specs.Faults.{Rose}
 use Rattle.ct_io.specs.Told.{WhereTold, IsAboveLimit}
 use Rattle.ct_session.specs.Serve.{WritesRun, WritesRunPrefix, WritesRunProperPrefix, AnswersTaken, AnswersButLastRead}
 use Rattle.ct_session.specs.declared.serve.ServeFault.{ServeFault}
-use Rattle.ct_session.specs.declared.serve.ServeFault.TheVariants.{Read, Write, TooLong, Memory}
+use Rattle.ct_session.specs.declared.serve.ServeFault.TheVariants.{Read, Write, TooLong}
 
 -- how it ends: what was written and taken, and what each fault says
 pub record Ends (result : Result Bool ServeFault) (left now old new : Option (List ℕ)) (reads reads' writes writes' : ℕ) : Type 0 where

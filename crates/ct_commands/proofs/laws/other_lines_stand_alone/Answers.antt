@@ -1,5 +1,5 @@
 use Rattle.std.proofs.Common.{refl}
-use Rattle.ct_commands.specs.declared.form.Form.TheVariants.{Nothing, Withdraw, Show, Ledger, Dump, Unknown}
+use Rattle.ct_commands.specs.declared.form.Form.TheVariants.{Nothing, Withdraw, Show, Table, Ledger, Dump, Unknown}
 use Rattle.ct_commands.proofs.Submissions.{alone}
 use Rattle.ct_commands.proofs.laws.other_lines_stand_alone.Goals as goal
 
@@ -11,6 +11,9 @@ returns-clause-withdraw c = λ line id rest h. alone (Withdraw id) line rest h r
 
 pub returns-clause-show : goal.returns-clause-show
 returns-clause-show c = λ line numbers rest h. alone (Show numbers) line rest h refl
+
+pub returns-clause-table : goal.returns-clause-table
+returns-clause-table c = λ line numbers rest h. alone (Table numbers) line rest h refl
 
 pub returns-clause-ledger : goal.returns-clause-ledger
 returns-clause-ledger c = λ line rest h. alone Ledger line rest h refl

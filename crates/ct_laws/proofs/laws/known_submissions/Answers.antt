@@ -1,9 +1,7 @@
 use Rattle.std.proofs.Common.{ℕ, ◌<◌, ◌^◌, List, refl, None, Some, [], ◌∷◌, codes, lit<, lit≤}
-use Rattle.std.specs.Prelude.{All}
 use Rattle.std.proofs.lemmas.List.Elements.{All-from_recursion, All-cons, All-nil}
 use Rattle.ct_codes.specs.Code.{IsTrueLower}
 use Rattle.ct_codes.proofs.CheckLemmas.{code_from_no_fault}
-use Rattle.ct_ledger.specs.Standing.{HasTrueSize}
 use Rattle.std.specs.Fmt.{digits}
 use Rattle.ct_text.specs.Line.{words_of}
 use Rattle.ct_text.specs.Number.{number_of}
@@ -23,8 +21,16 @@ use Rattle.ct_ledger.specs.declared.fault.SubmitFault.TheVariants as submit
 use Rattle.ct_session.specs.Text.{reply_text}
 use Rattle.ct_session.specs.declared.reply.Reply.TheVariants.{Accepted, Shown, Refused}
 use Rattle.ct_session.specs.declared.reply.Refusal.TheVariants as refusal
-use Rattle.ct_session.proofs.BoundLemmas.{lower_shown, upper_shown}
+use Rattle.ct_rules.specs.declared.rule.Rule.TheVariants.{L10, U2}
+use Rattle.ct_rules.specs.declared.support.Support.{Support}
+use Rattle.ct_rules.specs.declared.support.Support.TheVariants.{Size}
+use Rattle.ct_rules.specs.Derivation.{IsDerived}
+use Rattle.ct_rules.specs.Rule.{in_range, premises_at, formula}
+use Rattle.ct_rules.specs.Support.{Stands}
+use Rattle.ct_rules.proofs.JoinedDerivations.{derived_by_rule}
+use Rattle.ct_session.specs.Reply.{AreBoundsOf}
 use Rattle.ct_laws.specs.Examples.{six_words_document, linear_code_document}
+use Rattle.ct_laws.proofs.EqualBounds.{equal_bounds}
 use Rattle.ct_laws.proofs.laws.known_submissions.Goals as goal
 
 pub returns-clause-close : goal.returns-clause-close
@@ -53,20 +59,20 @@ six_code : IsTrueLower entry 6
 unfolding code_fault distance
 six_code = (six, (code_from_no_fault entry six (All-from_recursion (λ x. x < 2 ^ 10) six (lit< tt, (lit< tt, (lit< tt, (lit< tt, (lit< tt, (lit< tt, tt))))))) refl).2, refl)
 
-sizes_true : All HasTrueSize (hexa ∷ [])
-sizes_true = All-cons HasTrueSize hexa [] six_code (All-nil HasTrueSize)
+-- so A(10,6) is 6: by Plotkin it is no more
+six_at_ten : AreBoundsOf (hexa ∷ []) entry (record { entry = entry; lower = 6; upper = 6 })
+unfolding in_range premises_at formula
+six_at_ten =
+    let supports : List Support = Size entry 6 ∷ [] in
+    equal_bounds (hexa ∷ []) entry 6 (All-cons Stands (Size entry 6) [] (record { entry = refl; range = (lit≤ tt, lit≤ tt); truth = six_code }) (All-nil Stands))
+    (derived_by_rule supports (L10 0) entry [] 6 refl (All-nil (IsDerived supports)) refl)
+    (derived_by_rule supports U2 entry [] 6 refl (All-nil (IsDerived supports)) refl)
 
 pub returns-clause-accepted : goal.returns-clause-accepted
 unfolding form_of words_of number_of reply_text digits submitted code_fault distance evidence_on_literals
 returns-clause-accepted c = record {
-  replies = Accepted (codes "hexa") (Some 6) ∷ Shown (record { entry = entry; lower = 6; upper = 1024 }) ∷ [];
-  are = (
-    refl,
-    (
-      record { below = 6; above = 1024; lower = lower_shown (hexa ∷ []) entry refl sizes_true; upper = upper_shown (hexa ∷ []) entry refl; shown = refl },
-      tt,
-    ),
-  );
+  replies = Accepted (codes "hexa") (Some 6) ∷ Shown (record { entry = entry; lower = 6; upper = 6 }) ∷ [];
+  are = (refl, (record { bounds = record { entry = entry; lower = 6; upper = 6 }; of_entry = six_at_ten; shown = refl }, tt));
   texts = refl;
   mark = refl;
 }
@@ -98,20 +104,21 @@ linear_is_code = (
   refl,
 )
 
-linear_sizes : All HasTrueSize (linear_piece ∷ [])
-linear_sizes = All-cons HasTrueSize linear_piece [] linear_is_code (All-nil HasTrueSize)
+-- so A(6,3) is 8: by Plotkin it is no more
+eight_at_six : AreBoundsOf (linear_piece ∷ []) short_entry (record { entry = short_entry; lower = 8; upper = 8 })
+unfolding in_range premises_at formula
+eight_at_six =
+    let supports : List Support = Size short_entry 8 ∷ [] in
+    equal_bounds (linear_piece ∷ []) short_entry 8
+    (All-cons Stands (Size short_entry 8) [] (record { entry = refl; range = (lit≤ tt, lit≤ tt); truth = linear_is_code }) (All-nil Stands))
+    (derived_by_rule supports (L10 0) short_entry [] 8 refl (All-nil (IsDerived supports)) refl)
+    (derived_by_rule supports U2 short_entry [] 8 refl (All-nil (IsDerived supports)) refl)
 
 pub returns-clause-linear : goal.returns-clause-linear
 unfolding form_of words_of number_of reply_text digits submitted coset_fault coset_list distance evidence_on_literals
 returns-clause-linear c = record {
-  replies = Accepted (codes "linear") (Some 8) ∷ Shown (record { entry = short_entry; lower = 8; upper = 64 }) ∷ [];
-  are = (
-    refl,
-    (
-      record { below = 8; above = 64; lower = lower_shown (linear_piece ∷ []) short_entry refl linear_sizes; upper = upper_shown (linear_piece ∷ []) short_entry refl; shown = refl },
-      tt,
-    ),
-  );
+  replies = Accepted (codes "linear") (Some 8) ∷ Shown (record { entry = short_entry; lower = 8; upper = 8 }) ∷ [];
+  are = (refl, (record { bounds = record { entry = short_entry; lower = 8; upper = 8 }; of_entry = eight_at_six; shown = refl }, tt));
   texts = refl;
   mark = refl;
 }

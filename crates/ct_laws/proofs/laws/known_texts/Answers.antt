@@ -11,6 +11,10 @@ pub returns-clause-value : goal.returns-clause-value
 unfolding reply_text digits
 returns-clause-value c = refl
 
+pub returns-clause-table : goal.returns-clause-table
+unfolding reply_text digits
+returns-clause-table c = refl
+
 pub returns-clause-cut : goal.returns-clause-cut
 unfolding reply_text digits
 returns-clause-cut c = refl

@@ -1,14 +1,7 @@
-use Rattle.std.proofs.Common.{ℕ, ◌≤◌, ◌^◌, Some, length, ap, ◌∙◌, arith, lit≤}
+use Rattle.std.proofs.Common.{◌≤◌, ◌^◌, length, ap, arith, lit≤}
 use Rattle.std.proofs.Math.Nat.{pow-le-pow_right}
-use Rattle.std.proofs.lemmas.List.Sorted.{length_permutation}
 use Rattle.ct_words.specs.declared.limits.TheConstants.{MAX_BOUND}
-use Rattle.ct_codes.specs.Code.{CodeValue}
 use Rattle.ct_codes.proofs.CheckLemmas.{code_size-le}
-use Rattle.ct_files.specs.declared.evidence.Evidence.TheVariants.{Build}
-use Rattle.ct_ledger.specs.Ascending.{ascending}
-use Rattle.ct_ledger.specs.Codes.{words_over}
-use Rattle.ct_ledger.specs.Piece.{PieceValue}
-use Rattle.ct_ledger.proofs.AscendingLemmas.{ascending-moved}
 use Rattle.ct_ledger.proofs.check.code_size.Goals as goal
 
 pub overflow_cast-result : goal.overflow_cast-result

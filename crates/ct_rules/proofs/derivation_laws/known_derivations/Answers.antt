@@ -1,11 +1,11 @@
 use Rattle.std.proofs.Common.{◌≡◌, ℕ, ◌<◌, List, [], ◌∷◌, All, Option, Some, None, refl, ap, arith}
 use Rattle.std.proofs.lemmas.List.Elements.{All-nil, All-cons}
 use Rattle.ct_codes.specs.Entry.{unrestricted}
-use Rattle.ct_rules.specs.declared.rule.Rule.TheVariants.{L1, L6, L8, L10, L11}
+use Rattle.ct_rules.specs.declared.rule.Rule.TheVariants.{L1, L6, L8, L10, L11, U2, U4, U6}
 use Rattle.ct_rules.specs.declared.support.Support.TheVariants.{Size}
 use Rattle.ct_rules.specs.Derivation.{LineValue}
 use Rattle.ct_rules.specs.Rule.{in_range, premises_at, formula}
-use Rattle.ct_rules.specs.Slot.{Slot, claim_at, lower_at}
+use Rattle.ct_rules.specs.Slot.{Slot, claim_at, lower_at, upper_at}
 use Rattle.ct_rules.proofs.Derivations.{derivation-nil, derivation-push}
 use Rattle.ct_rules.proofs.derivation_laws.known_derivations.Goals as goal
 
@@ -18,6 +18,15 @@ four_at_six = record { claim = claim_at (lower_at 6 4) 4; rule = L8; from = 0 �
 
 four_at_five : LineValue
 four_at_five = record { claim = claim_at (lower_at 5 3) 4; rule = L6; from = 1 ∷ [] }
+
+sixteen_at_eight : LineValue
+sixteen_at_eight = record { claim = claim_at (upper_at 8 4) 16; rule = U2; from = [] }
+
+sixteen_at_seven : LineValue
+sixteen_at_seven = record { claim = claim_at (upper_at 7 3) 16; rule = U4; from = 0 ∷ [] }
+
+twice_sixteen_at_eight : LineValue
+twice_sixteen_at_eight = record { claim = claim_at (upper_at 8 3) 32; rule = U6; from = 1 ∷ [] }
 
 side_by_side : LineValue
 side_by_side = record { claim = claim_at (lower_at 6 6) 1; rule = L11 3 3; from = 0 ∷ 0 ∷ [] }
@@ -34,6 +43,16 @@ returns-clause-three_lines c =
     derivation-push [] (one_at 3 4 ∷ four_at_six ∷ []) four_at_five
     (derivation-push [] (one_at 3 4 ∷ []) four_at_six
     (derivation-push [] [] (one_at 3 4) (derivation-nil [])
+    (record { earlier = All-nil (λ q. q < 0); side = refl; premises = refl; value = refl }))
+    (record { earlier = one_place 1 0 (omega arith); side = refl; premises = refl; value = refl }))
+    (record { earlier = one_place 2 1 (omega arith); side = refl; premises = refl; value = refl })
+
+pub returns-clause-from_above : goal.returns-clause-from_above
+unfolding in_range premises_at formula sixteen_at_eight sixteen_at_seven twice_sixteen_at_eight
+returns-clause-from_above c =
+    derivation-push [] (sixteen_at_eight ∷ sixteen_at_seven ∷ []) twice_sixteen_at_eight
+    (derivation-push [] (sixteen_at_eight ∷ []) sixteen_at_seven
+    (derivation-push [] [] sixteen_at_eight (derivation-nil [])
     (record { earlier = All-nil (λ q. q < 0); side = refl; premises = refl; value = refl }))
     (record { earlier = one_place 1 0 (omega arith); side = refl; premises = refl; value = refl }))
     (record { earlier = one_place 2 1 (omega arith); side = refl; premises = refl; value = refl })

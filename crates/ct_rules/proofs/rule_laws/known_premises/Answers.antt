@@ -23,4 +23,15 @@ returns c = record {
   second_short = refl;
   all_words = refl;
   all_words_of_weight = refl;
+  far_words = refl;
+  average = refl;
+  balls = refl;
+  parity_above = refl;
+  parity_above_last = refl;
+  punctured_above = refl;
+  punctured_above_first = refl;
+  halves = refl;
+  halves_first = refl;
+  nearer_above = refl;
+  lengthened_above = refl;
 }

@@ -22,4 +22,16 @@ returns c = record {
   no_second = refl;
   first_near = refl;
   second_near = refl;
+  not_far = refl;
+  average_short = refl;
+  average_short_odd = refl;
+  average_long = refl;
+  average_long_odd = refl;
+  parity_above_even = refl;
+  parity_above_long = refl;
+  punctured_above_short = refl;
+  punctured_above_near = refl;
+  halves_short = refl;
+  nearer_above = refl;
+  lengthened_above = refl;
 }

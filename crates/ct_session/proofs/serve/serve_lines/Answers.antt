@@ -1,7 +1,6 @@
-use Rattle.std.proofs.Common.{rules, ◌≡◌, ◌-◌, ◌<◌, ℕ, List, Ok, Err, sym, ap, ◌∙◌, subst, inr, length}
+use Rattle.std.proofs.Common.{rules, ◌-◌, ◌<◌, Err, ap, subst, inr, length}
 use Rattle.ct_io.specs.declared.TheConstants.{MAX_INPUT}
 use Rattle.ct_io.specs.Reader.{Reader}
-use Rattle.ct_session.specs.Inside.Writing.{BreaksOff}
 use Rattle.ct_session.proofs.Serving.{advances, at_end, begins, serves_on, took_more, within_limit}
 use Rattle.ct_session.proofs.Endings.{Faulted, readied, risen, err_is, ends_at_once, ends_unwritten, ends_broken, ends_fault, ends_well, ends_last_unwritten}
 use Rattle.ct_session.proofs.serve.serve_lines.Goals as goal

@@ -1,4 +1,4 @@
-use Rattle.std.proofs.Common.{subst, sym, Bool, ◌∷◌, []}
+use Rattle.std.proofs.Common.{subst, sym, ◌∷◌, []}
 use Rattle.ct_session.specs.Run.{AnswersCommands}
 use Rattle.ct_session.specs.Text.{reply_text}
 use Rattle.ct_session.proofs.Answering.{one_answer}

@@ -1,21 +1,59 @@
-use Rattle.std.proofs.Common.{◌≡◌, ℕ, List, None, refl, sym, ◌∙◌, subst}
-use Rattle.ct_ledger.specs.Piece.{PieceValue, first_user}
-use Rattle.ct_ledger.proofs.MakingLemmas.{option_map-none}
-use Rattle.ct_ledger.proofs.StandingLemmas.{AreStanding-without}
+use Rattle.std.proofs.Common.{◌≡◌, ◌≤◌, ◌<◌, length, List, Ok, Err, option_map, sym, ap, ◌∙◌, subst}
+use Rattle.std.specs.Prelude.{remove}
+use Rattle.ct_rules.specs.declared.support.Support.{Support}
+use Rattle.ct_ledger.specs.Ledger.{LedgerValue}
+use Rattle.ct_ledger.specs.Piece.{PieceValue, first_user, stored_words}
+use Rattle.ct_ledger.specs.Withdrawal.{withdrawn}
+use Rattle.ct_ledger.specs.declared.fault.WithdrawFault.TheVariants as fault
+use Rattle.ct_ledger.specs.declared.limits.TheConstants.{MAX_STORED}
+use Rattle.ct_ledger.specs.Inside.Needed.{place_of}
+use Rattle.ct_ledger.proofs.SupportLemmas.{withdrawn-missing, withdrawn-used, withdrawn-left, left_standing}
 use Rattle.ct_ledger.proofs.ledger.Ledger.withdraw.Goals as goal
+
+pub returns-in_default-clause-fault : goal.returns-in_default-clause-fault
+returns-in_default-clause-fault c = λ other.
+    let is = ap (place_of c.args.id) (sym c.deref.ensures.value) ∙ sym c.place_of.ensures ∙ c.in_default.is in
+    subst (λ (l : LedgerValue). withdrawn l.pieces c.args.id ≡ Err fault.NoSuch) c.self.view_is (withdrawn-missing c.args.id c.self.inside.pieces.items is)
+
+pub returns-in-Some-first_user-clause-fault : goal.returns-in-Some-first_user-clause-fault
+returns-in-Some-first_user-clause-fault c = λ other.
+    let items = c.self.inside.pieces.items in
+    let user = c.in-Some-first_user.user in
+    let is = ap (place_of c.args.id) (sym c.deref.ensures.value) ∙ sym c.place_of.ensures ∙ c.in-Some.is in
+    let used = ap (λ (ps : List PieceValue). option_map (λ (p : PieceValue). p.id) (first_user c.args.id ps)) (sym c.deref-2.ensures.value) ∙ sym c.first_user.ensures ∙ c.in-Some-first_user.is in
+    subst (λ (l : LedgerValue). withdrawn l.pieces c.args.id ≡ Err (fault.InUse user)) c.self.view_is
+    (withdrawn-used c.args.id items c.in-Some.place user c.self.invariant.0.different is used)
+
+pub remove-requires : goal.remove-requires
+remove-requires c =
+    let items = c.self.inside.pieces.items in
+    let is = ap (place_of c.args.id) (sym c.deref.ensures.value) ∙ sym c.place_of.ensures ∙ c.in-Some.is in
+    let free = ap (λ (ps : List PieceValue). option_map (λ (p : PieceValue). p.id) (first_user c.args.id ps)) (sym c.deref-2.ensures.value) ∙ sym c.first_user.ensures ∙ c.in_default-first_user.is in
+    let left = left_standing c.args.id items c.in-Some.place c.self.invariant.0 is free in
+    subst (λ (s : List Support). c.in-Some.place < length s) (sym c.self.invariant.2) left.within
 
 pub stored_by_all-self-inside-requires : goal.stored_by_all-self-inside-requires
 stored_by_all-self-inside-requires c =
-    let id = c.args.id in
-    let none = subst (λ (ps : List PieceValue). first_user id ps ≡ None) c.deref-2.ensures.value
-    (option_map-none (λ (p : PieceValue). p.id) (first_user id c.deref-2.result.now) (sym c.first_user.ensures ∙ c.in_default.is)) in
-    let left = AreStanding-without c.self.inside.pieces.items id c.self.invariant.0 none in
-    rw (c.deref-3.ensures.value, c.take_out.ensures) left.small
+    let items = c.self.inside.pieces.items in
+    let is = ap (place_of c.args.id) (sym c.deref.ensures.value) ∙ sym c.place_of.ensures ∙ c.in-Some.is in
+    let free = ap (λ (ps : List PieceValue). option_map (λ (p : PieceValue). p.id) (first_user c.args.id ps)) (sym c.deref-2.ensures.value) ∙ sym c.first_user.ensures ∙ c.in_default-first_user.is in
+    let left = left_standing c.args.id items c.in-Some.place c.self.invariant.0 is free in
+    subst (λ (ps : List PieceValue). stored_words ps ≤ MAX_STORED) (sym (c.deref-3.ensures.value ∙ c.remove-2.ensures.items)) left.standing.small
 
-pub invariant_of-self : goal.invariant_of-self
-invariant_of-self c =
-    let id = c.args.id in
-    let none = subst (λ (ps : List PieceValue). first_user id ps ≡ None) c.deref-2.ensures.value
-    (option_map-none (λ (p : PieceValue). p.id) (first_user id c.deref-2.result.now) (sym c.first_user.ensures ∙ c.in_default.is)) in
-    let left = AreStanding-without c.self.inside.pieces.items id c.self.invariant.0 none in
-    (rw c.take_out.ensures left, rw (c.stored_by_all-self-inside.ensures, c.deref-3.ensures.value) refl)
+pub invariant_of-self-2 : goal.invariant_of-self-2
+invariant_of-self-2 c =
+    let items = c.self.inside.pieces.items in
+    let is = ap (place_of c.args.id) (sym c.deref.ensures.value) ∙ sym c.place_of.ensures ∙ c.in-Some.is in
+    let free = ap (λ (ps : List PieceValue). option_map (λ (p : PieceValue). p.id) (first_user c.args.id ps)) (sym c.deref-2.ensures.value) ∙ sym c.first_user.ensures ∙ c.in_default-first_user.is in
+    let left = left_standing c.args.id items c.in-Some.place c.self.invariant.0 is free in
+    let supports = c.in_ok-remove.ensures.supports ∙ ap (λ (s : List Support). remove s c.in-Some.place) c.self.invariant.2 ∙ sym left.supports in
+    let stored = c.stored_by_all-self-inside.ensures ∙ ap stored_words c.deref-3.ensures.value in
+    rw c.remove-2.ensures.items (left.standing, rw c.remove-2.ensures.items at stored, supports)
+
+pub returns-clause-left : goal.returns-clause-left
+returns-clause-left c =
+    let items = c.self.inside.pieces.items in
+    let is = ap (place_of c.args.id) (sym c.deref.ensures.value) ∙ sym c.place_of.ensures ∙ c.in-Some.is in
+    let free = ap (λ (ps : List PieceValue). option_map (λ (p : PieceValue). p.id) (first_user c.args.id ps)) (sym c.deref-2.ensures.value) ∙ sym c.first_user.ensures ∙ c.in_default-first_user.is in
+    subst (λ (l : LedgerValue). withdrawn l.pieces c.args.id ≡ Ok c.remove-2.new.self.items) c.self.view_is
+    (withdrawn-left c.args.id items c.in-Some.place c.self.invariant.0.different is free ∙ ap Ok (sym c.remove-2.ensures.items))

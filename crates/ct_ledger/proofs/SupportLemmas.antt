@@ -1,0 +1,194 @@
+-- What pieces give to the table: it stands where they do, and comes and goes with them.
+use Rattle.std.proofs.Common.{◌≡◌, ◌≢◌, ℕ, zero, suc, ◌+◌, ◌^◌, ◌≤◌, ◌<◌, Bool, true, false, ◌||◌, cond, not, nat_lt, List, [], ◌∷◌, ◌++◌, length, map, Option, Some, None, Ok, Err, option_map, refl, sym, ap, subst, ◌∙◌, arith, lit≤, ltb-true, ltb-false}
+use Rattle.std.specs.Prelude.{All, AllPairs, remove}
+use Rattle.std.specs.List.{position_or_len}
+use Rattle.std.specs.Str.{bytes_eq}
+use Rattle.std.proofs.Math.Nat.{pow-le-pow_right}
+use Rattle.std.proofs.lemmas.List.{map-append, length-map}
+use Rattle.std.proofs.lemmas.List.Elements.{All-push, All-nil, All-cons, All-head, All-tail}
+use Rattle.std.proofs.lemmas.Slice.Eq.{bytes_eq-Decides}
+use Rattle.ct_words.specs.declared.limits.TheConstants.{MAX_BOUND}
+use Rattle.ct_codes.specs.declared.entry.Entry.{Entry}
+use Rattle.ct_codes.specs.Code.{IsCodeOf}
+use Rattle.ct_codes.specs.Entry.{IsEntry}
+use Rattle.ct_codes.proofs.CheckLemmas.{code_size-le}
+use Rattle.ct_codes.proofs.EntryLemmas.{entry_limits}
+use Rattle.ct_rules.specs.Support.{Stands, AllStand}
+use Rattle.ct_ledger.specs.Piece.{PieceValue, has_id, stated_entry, first_user}
+use Rattle.ct_ledger.specs.Codes.{NamedCode, words_over, named_code, codes_of}
+use Rattle.ct_files.specs.Evidence.{read_of}
+use Rattle.ct_ledger.specs.Submission.{piece_from}
+use Rattle.ct_ledger.specs.Standing.{AreStanding, IsMade, AreMade}
+use Rattle.ct_ledger.specs.Supports.{support_of, supports_of}
+use Rattle.ct_ledger.specs.Withdrawal.{without, withdrawn, unless_used}
+use Rattle.ct_ledger.specs.declared.fault.WithdrawFault.TheVariants as fault
+use Rattle.ct_ledger.specs.Inside.Needed.{place_of}
+use Rattle.ct_ledger.proofs.CodeLemmas.{is_named}
+use Rattle.ct_ledger.proofs.MakingLemmas.{AreSound, HasSoundCode, making-of, states_code, IsMade-sound, codes_after-sound, option_map-none}
+use Rattle.ct_ledger.proofs.StandingLemmas.{piece_from-made, AreStanding-without}
+
+-- a code of an entry of the table has at most so many words as the table's greatest bound
+code-le : (e : Entry) (words : List ℕ) → IsEntry e → IsCodeOf e words → length words ≤ MAX_BOUND
+code-le e words entry code =
+    let size = code_size-le e.n e.d e.w words code in
+    let cap : 2 ^ e.n ≤ MAX_BOUND = pow-le-pow_right (lit≤ tt) (entry_limits e entry).1 in
+    omega (arith, size, cap)
+
+-- what a piece gives that is made over codes stands
+pub IsMade-stands : (known : List NamedCode) (p : PieceValue) → AreSound known → IsMade known p → Stands (support_of p)
+IsMade-stands known p sound h =
+    let m = making-of known p h in
+    let states = states_code known m.evidence sound m.right in
+    let words = words_over known m.evidence in
+    let most = code-le (stated_entry m.evidence) words states.entry states.code in
+    subst (λ (q : PieceValue). Stands (support_of q)) m.piece
+    (record { entry = states.entry; range = (states.some, most); truth = (words, states.code, refl) })
+
+-- and so does what a piece gives that its document makes over pieces that stand
+pub made_stands : (pieces : List PieceValue) (id document : List ℕ) (p : PieceValue) → AreStanding pieces → piece_from (codes_of pieces) id document (read_of document) ≡ Ok p → Stands (support_of p)
+made_stands pieces id document p h made =
+    IsMade-stands (codes_of pieces) p (codes_after-sound [] pieces (All-nil HasSoundCode) h.made) (piece_from-made (codes_of pieces) id document p made)
+
+-- and so for pieces that are made
+AreMade-stand : (known : List NamedCode) (ps : List PieceValue) → AreSound known → AreMade known ps → All Stands (supports_of ps)
+AreMade-stand known [] sound h = All-nil Stands
+AreMade-stand known (p ∷ ps) sound h =
+    let own = named_code known p in
+    All-cons Stands (support_of p) (supports_of ps) (IsMade-stands known p sound h.0)
+    (AreMade-stand (known ++ own ∷ []) ps (All-push HasSoundCode known own sound (IsMade-sound known p sound h.0)) h.1)
+
+-- what pieces give that stand, stands
+pub supports_stand : (pieces : List PieceValue) → AreStanding pieces → AllStand (supports_of pieces)
+supports_stand pieces h = AreMade-stand [] pieces (All-nil HasSoundCode) h.made
+
+-- one more piece gives one more support, at the end
+pub supports-push : (pieces : List PieceValue) (p : PieceValue) → supports_of (pieces ++ p ∷ []) ≡ supports_of pieces ++ support_of p ∷ []
+supports-push pieces p = map-append support_of pieces (p ∷ [])
+
+-- without the item at a place, the others are mapped as before
+map-remove : {X Y : Type 0} (f : X → Y) (xs : List X) (k : ℕ) → map f (remove xs k) ≡ remove (map f xs) k
+map-remove f [] zero = refl
+map-remove f [] (suc k) = refl
+map-remove f (x ∷ xs) zero = refl
+map-remove f (x ∷ xs) (suc k) = ap (λ ys. f x ∷ ys) (map-remove f xs k)
+
+-- without the piece at a place, the others give what they gave
+pub supports-remove : (pieces : List PieceValue) (k : ℕ) → supports_of (remove pieces k) ≡ remove (supports_of pieces) k
+supports-remove pieces k = map-remove support_of pieces k
+
+-- different ids
+abbrev pub AreDifferent : List PieceValue → Type 0
+AreDifferent pieces = AllPairs (λ (p q : PieceValue). p.id ≢ q.id) pieces
+
+different-head : (p : PieceValue) (ps : List PieceValue) → AreDifferent (p ∷ ps) → All (λ (q : PieceValue). p.id ≢ q.id) ps
+different-head p ps h = λ i d within. h zero (suc i) d (omega arith) (omega arith)
+
+different-tail : (p : PieceValue) (ps : List PieceValue) → AreDifferent (p ∷ ps) → AreDifferent ps
+different-tail p ps h = λ i j d below within. h (suc i) (suc j) d (omega arith) (omega arith)
+
+-- where no piece has an id, none is left out
+without-none : (id : List ℕ) (ps : List PieceValue) → All (λ (q : PieceValue). id ≢ q.id) ps → without id ps ≡ ps
+without-none id [] h = refl
+without-none id (p ∷ ps) h = at (bytes_eq p.id id) refl (without-none id ps (All-tail (λ (q : PieceValue). id ≢ q.id) p ps h)) where
+  at : (b : Bool) → bytes_eq p.id id ≡ b → without id ps ≡ ps → cond (not b) (p ∷ without id ps) (without id ps) ≡ p ∷ ps
+  at true e rest = absurd (All-head (λ (q : PieceValue). id ≢ q.id) p ps h (sym ((bytes_eq-Decides p.id id).0 e)))
+  at false e rest = ap (λ qs. p ∷ qs) rest
+
+-- where ids are different, the pieces but for those with an id are those but for the first with it
+without-first : (id : List ℕ) (ps : List PieceValue) → AreDifferent ps → position_or_len (is_named id) ps < length ps
+    → without id ps ≡ remove ps (position_or_len (is_named id) ps)
+without-first id [] h below = absurd (omega arith)
+without-first id (p ∷ ps) h below = at (bytes_eq p.id id) refl below (without-first id ps (different-tail p ps h)) where
+  place : ℕ
+  place = position_or_len (is_named id) ps
+
+  at : (b : Bool) → bytes_eq p.id id ≡ b → cond (not b) (1 + place) 0 < length (p ∷ ps) → (place < length ps → without id ps ≡ remove ps place)
+      → cond (not b) (p ∷ without id ps) (without id ps) ≡ remove (p ∷ ps) (cond (not b) (1 + place) 0)
+  at true e within rest =
+      let same = (bytes_eq-Decides p.id id).0 e in
+      without-none id ps (subst (λ (i : List ℕ). All (λ (q : PieceValue). i ≢ q.id) ps) same (different-head p ps h))
+  at false e within rest =
+      let step : suc place ≡ 1 + place = omega arith in
+      ap (λ qs. p ∷ qs) (rest (omega arith)) ∙ ap (remove (p ∷ ps)) step
+
+-- whether a piece has an id shows in its place
+has_id-found : (id : List ℕ) (ps : List PieceValue) → position_or_len (is_named id) ps < length ps → has_id id ps ≡ true
+has_id-found id [] below = absurd (omega arith)
+has_id-found id (p ∷ ps) below = at (bytes_eq p.id id) below (has_id-found id ps) where
+  at : (b : Bool) → cond (not b) (1 + position_or_len (is_named id) ps) 0 < length (p ∷ ps)
+      → (position_or_len (is_named id) ps < length ps → has_id id ps ≡ true) → (b || has_id id ps) ≡ true
+  at true within rest = refl
+  at false within rest = rest (omega arith)
+
+has_id-missing : (id : List ℕ) (ps : List PieceValue) → length ps ≤ position_or_len (is_named id) ps → has_id id ps ≡ false
+has_id-missing id [] past = refl
+has_id-missing id (p ∷ ps) past = at (bytes_eq p.id id) past (has_id-missing id ps) where
+  at : (b : Bool) → length (p ∷ ps) ≤ cond (not b) (1 + position_or_len (is_named id) ps) 0
+      → (length ps ≤ position_or_len (is_named id) ps → has_id id ps ≡ false) → (b || has_id id ps) ≡ false
+  at true within rest = absurd (omega arith)
+  at false within rest = rest (omega arith)
+
+-- what is known of the place of a piece with the id
+pub record IsPlaceOf (id : List ℕ) (ps : List PieceValue) (k : ℕ) : Type 0 where
+  pub within : k < length ps
+  pub named : has_id id ps ≡ true
+  pub left : without id ps ≡ remove ps k
+
+pub place_of-some : (id : List ℕ) (ps : List PieceValue) (k : ℕ) → AreDifferent ps → place_of id ps ≡ Some k → IsPlaceOf id ps k
+place_of-some id ps k h is = at (nat_lt (position_or_len (is_named id) ps) (length ps)) refl is where
+  at : (b : Bool) → nat_lt (position_or_len (is_named id) ps) (length ps) ≡ b → cond b (Some (position_or_len (is_named id) ps)) None ≡ Some k → IsPlaceOf id ps k
+  at true e same =
+      let within = ltb-true (position_or_len (is_named id) ps) (length ps) e in
+      let place : position_or_len (is_named id) ps ≡ k = cc in
+      record { within = omega arith; named = has_id-found id ps within; left = without-first id ps h within ∙ ap (remove ps) place }
+  at false e same = absurd cc
+
+pub place_of-none : (id : List ℕ) (ps : List PieceValue) → place_of id ps ≡ None → has_id id ps ≡ false
+place_of-none id ps is = at (nat_lt (position_or_len (is_named id) ps) (length ps)) refl is where
+  at : (b : Bool) → nat_lt (position_or_len (is_named id) ps) (length ps) ≡ b → cond b (Some (position_or_len (is_named id) ps)) None ≡ None → has_id id ps ≡ false
+  at true e same = absurd cc
+  at false e same = has_id-missing id ps (ltb-false (position_or_len (is_named id) ps) (length ps) e)
+
+-- what a withdrawal comes to: no piece has the id, another names it, or the piece at its place goes
+pub withdrawn-missing : (id : List ℕ) (ps : List PieceValue) → place_of id ps ≡ None → withdrawn ps id ≡ Err fault.NoSuch
+unfolding withdrawn
+withdrawn-missing id ps is = ap (λ (b : Bool). cond b (unless_used (first_user id ps) (without id ps)) (Err fault.NoSuch)) (place_of-none id ps is)
+
+named-withdrawn : (id : List ℕ) (ps : List PieceValue) (k : ℕ) → AreDifferent ps → place_of id ps ≡ Some k → withdrawn ps id ≡ unless_used (first_user id ps) (remove ps k)
+unfolding withdrawn
+named-withdrawn id ps k h is =
+    let place = place_of-some id ps k h is in
+    ap (λ (b : Bool). cond b (unless_used (first_user id ps) (without id ps)) (Err fault.NoSuch)) place.named
+    ∙ ap (unless_used (first_user id ps)) place.left
+
+used-id : (o : Option PieceValue) (user : List ℕ) (rest : List PieceValue) → option_map (λ (p : PieceValue). p.id) o ≡ Some user → unless_used o rest ≡ Err (fault.InUse user)
+used-id None user rest h = absurd cc
+used-id (Some p) user rest h = let same : p.id ≡ user = cc in ap (λ (i : List ℕ). Err (fault.InUse i)) same
+
+pub withdrawn-used : (id : List ℕ) (ps : List PieceValue) (k : ℕ) (user : List ℕ) → AreDifferent ps → place_of id ps ≡ Some k → option_map (λ (p : PieceValue). p.id) (first_user id ps) ≡ Some user
+    → withdrawn ps id ≡ Err (fault.InUse user)
+withdrawn-used id ps k user h is used = named-withdrawn id ps k h is ∙ used-id (first_user id ps) user (remove ps k) used
+
+pub withdrawn-left : (id : List ℕ) (ps : List PieceValue) (k : ℕ) → AreDifferent ps → place_of id ps ≡ Some k → option_map (λ (p : PieceValue). p.id) (first_user id ps) ≡ None
+    → withdrawn ps id ≡ Ok (remove ps k)
+withdrawn-left id ps k h is free =
+    named-withdrawn id ps k h is
+    ∙ ap (λ (o : Option PieceValue). unless_used o (remove ps k)) (option_map-none (λ (p : PieceValue). p.id) (first_user id ps) free)
+
+-- the pieces but for the one at the place of an id that none names stand, and give what the others gave
+pub record IsLeft (id : List ℕ) (ps : List PieceValue) (k : ℕ) : Type 0 where
+  pub within : k < length (supports_of ps)
+  pub standing : AreStanding (remove ps k)
+  pub supports : supports_of (remove ps k) ≡ remove (supports_of ps) k
+
+pub left_standing : (id : List ℕ) (ps : List PieceValue) (k : ℕ) → AreStanding ps → place_of id ps ≡ Some k → option_map (λ (p : PieceValue). p.id) (first_user id ps) ≡ None → IsLeft id ps k
+left_standing id ps k h is free =
+    let place = place_of-some id ps k h.different is in
+    let none = option_map-none (λ (p : PieceValue). p.id) (first_user id ps) free in
+    let long : length (supports_of ps) ≡ length ps = length-map ps support_of in
+    let within = place.within in
+    record {
+      within = omega arith;
+      standing = subst AreStanding place.left (AreStanding-without ps id h none);
+      supports = supports-remove ps k;
+    }
