@@ -50,3 +50,7 @@ mod tests;
 mod tests_builds;
 #[cfg(test)]
 mod tests_codes;
+#[cfg(test)]
+mod tests_evidence;
+#[cfg(test)]
+mod tests_tables;

@@ -22,14 +22,13 @@ show 10 6
 ";
 
 /// The replies to them.
-const SIX_WORDS_REPLIES: &[u8] = b"accepted hexa size 6\n6 <= A(10,6) <= 1024\n";
+const SIX_WORDS_REPLIES: &[u8] = b"accepted hexa size 6\nA(10,6) = 6\n";
 
 // One line, and the reply to it.
 type Line = (&'static [u8], &'static [u8]);
 
-// Lines that ask for nothing, and lines that ask for bounds: of the table, outside it, and with words that are no
-// numbers.
-const SHOW_LINES: [Line; 43] = [
+// Lines that ask for nothing, and lines that ask for bounds of the table.
+const SHOW_LINES: [Line; 13] = [
     (b"", b""),
     (b"   ", b""),
     (b"\r", b""),
@@ -37,12 +36,16 @@ const SHOW_LINES: [Line; 43] = [
     (b"#", b""),
     (b"# show 10 6", b""),
     (b"#\xff", b""),
-    (b"show 10 6", b"1 <= A(10,6) <= 1024"),
-    (b"  show   10  6  ", b"1 <= A(10,6) <= 1024"),
-    (b"show 10 6\r", b"1 <= A(10,6) <= 1024"),
-    (b" show 10 6 \r", b"1 <= A(10,6) <= 1024"),
-    (b"show 1 3", b"1 <= A(1,3) <= 2"),
-    (b"show 28 28", b"1 <= A(28,28) <= 268435456"),
+    (b"show 10 6", b"4 <= A(10,6) <= 6"),
+    (b"  show   10  6  ", b"4 <= A(10,6) <= 6"),
+    (b"show 10 6\r", b"4 <= A(10,6) <= 6"),
+    (b" show 10 6 \r", b"4 <= A(10,6) <= 6"),
+    (b"show 1 3", b"A(1,3) = 1"),
+    (b"show 28 28", b"A(28,28) = 2"),
+];
+
+// Lines that ask for bounds outside the table, or with words that are no numbers, and other commands.
+const MORE_LINES: [Line; 30] = [
     (b"show 28 2", b"refused entry"),
     (b"show 29 4", b"refused entry"),
     (b"show 0 4", b"refused entry"),
@@ -76,7 +79,7 @@ const SHOW_LINES: [Line; 43] = [
 ];
 
 // Lines that are refused as commands: each is like one that isn't.
-const OTHER_LINES: [&[u8]; 33] = [
+const OTHER_LINES: [&[u8]; 32] = [
     b"show",
     b"show 10",
     b"show 10 6 3 1",
@@ -106,7 +109,6 @@ const OTHER_LINES: [&[u8]; 33] = [
     b"ledger 1",
     b"dump a",
     b"dumps",
-    b"table 6",
     b"explain lower 10 6",
     b"list 10 6",
     b"tables",
@@ -199,7 +201,7 @@ const SESSIONS: [(&str, &str, Status); 35] = [
     (
         "submit a\nkind='words'\nn=3\nd=4\nwords=['000']\nend\nsubmit b\nkind='words'\nn=4\nd=4\nwords=['0000','1111']\nend\n\
         show 4 3\nshow 4 4\nshow 4 5\n",
-        "accepted a size 1\naccepted b size 2\n1 <= A(4,3) <= 16\n2 <= A(4,4) <= 16\n1 <= A(4,5) <= 16\n",
+        "accepted a size 1\naccepted b size 2\nA(4,3) = 2\nA(4,4) = 2\nA(4,5) = 1\n",
         Status::Done,
     ),
     (
@@ -219,7 +221,7 @@ const SESSIONS: [(&str, &str, Status); 35] = [
     ),
     (
         "submit A lines 2\nend\nshow 3 3\nshow 3 3\n",
-        "refused command\n1 <= A(3,3) <= 8\n",
+        "refused command\nA(3,3) = 2\n",
         Status::Refused,
     ),
     (
@@ -239,7 +241,7 @@ const SESSIONS: [(&str, &str, Status); 35] = [
     ),
     (
         "submit a\n@withdraw b\nshow 3 3\nwithdraw a\nshow 3 3\nledger\nwithdraw a\n",
-        "accepted a size 2\nrefused nosuch b\n2 <= A(3,3) <= 8\nwithdrawn a\n1 <= A(3,3) <= 8\npieces 0\nrefused nosuch a\n",
+        "accepted a size 2\nrefused nosuch b\nA(3,3) = 2\nwithdrawn a\nA(3,3) = 2\npieces 0\nrefused nosuch a\n",
         Status::Refused,
     ),
     (
@@ -261,54 +263,54 @@ const SESSIONS: [(&str, &str, Status); 35] = [
     ),
     ("", "", Status::Done),
     ("\n\n", "", Status::Done),
-    ("show 3 3", "1 <= A(3,3) <= 8\n", Status::Done),
+    ("show 3 3", "A(3,3) = 2\n", Status::Done),
     (
-        "show 3 3\ntable 3",
-        "1 <= A(3,3) <= 8\nrefused command\n",
+        "show 3 3\ntables 3",
+        "A(3,3) = 2\nrefused command\n",
         Status::Refused,
     ),
     (
-        "table 3\nshow 3 3\n",
-        "refused command\n1 <= A(3,3) <= 8\n",
+        "tables 3\nshow 3 3\n",
+        "refused command\nA(3,3) = 2\n",
         Status::Refused,
     ),
     (
         "show 3 3\nsubmit one\nkind='words'\nn=3\nd=3\nwords=['010']\nend\nshow 3 3\n\
         submit two\n@show 3 3\n\
         submit last\nkind='words'\nn=3\nd=3\nwords=['111']\nend\nshow 3 3\nshow 4 3\nshow 3 4\n",
-        "1 <= A(3,3) <= 8\naccepted one size 1\n1 <= A(3,3) <= 8\n\
-        accepted two size 2\n2 <= A(3,3) <= 8\n\
-        accepted last size 1\n2 <= A(3,3) <= 8\n1 <= A(4,3) <= 16\n1 <= A(3,4) <= 8\n",
+        "A(3,3) = 2\naccepted one size 1\nA(3,3) = 2\n\
+        accepted two size 2\nA(3,3) = 2\n\
+        accepted last size 1\nA(3,3) = 2\nA(4,3) = 2\nA(3,4) = 1\n",
         Status::Done,
     ),
     (
         "submit A\n@show 3 3\n",
-        "refused command\n1 <= A(3,3) <= 8\n",
+        "refused command\nA(3,3) = 2\n",
         Status::Refused,
     ),
     (
         "submit\n@show 3 3\n",
-        "refused command\n1 <= A(3,3) <= 8\n",
+        "refused command\nA(3,3) = 2\n",
         Status::Refused,
     ),
     (
         "submit a b\n@show 3 3\n",
-        "refused command\n1 <= A(3,3) <= 8\n",
+        "refused command\nA(3,3) = 2\n",
         Status::Refused,
     ),
     (
         "submit a lines 1\n@show 3 3\n",
-        "refused field n\nrefused command\nrefused command\nrefused command\nrefused command\n1 <= A(3,3) <= 8\n",
+        "refused field n\nrefused command\nrefused command\nrefused command\nrefused command\nA(3,3) = 2\n",
         Status::Refused,
     ),
     (
         "submit \u{e9}\n@show 3 3\n",
-        "refused command\n1 <= A(3,3) <= 8\n",
+        "refused command\nA(3,3) = 2\n",
         Status::Refused,
     ),
     (
         " submit  a \r\n@show 3 3\n",
-        "accepted a size 2\n2 <= A(3,3) <= 8\n",
+        "accepted a size 2\nA(3,3) = 2\n",
         Status::Done,
     ),
     (
@@ -353,12 +355,12 @@ const SESSIONS: [(&str, &str, Status); 35] = [
     ),
     (
         "submit a\nkind='words'\nn=3\nd=3\nwords=['000']\nend\r\nshow 3 3\n",
-        "accepted a size 1\n1 <= A(3,3) <= 8\n",
+        "accepted a size 1\nA(3,3) = 2\n",
         Status::Done,
     ),
     (
         "submit a\n end\nend \nEND\nend\r\r\nend\nshow 3 3",
-        "refused toml\n1 <= A(3,3) <= 8\n",
+        "refused toml\nA(3,3) = 2\n",
         Status::Refused,
     ),
     (
@@ -409,35 +411,42 @@ fn assert_session(
     Ok(())
 }
 
-/// The session on the input ends with the reply and a line feed, if there is a reply, and refuses where the reply does.
-fn assert_reply(
-    rt: &impl Abort,
-    alloc: Global,
-    input: &[u8],
-    reply: &[u8],
-) -> Result<(), AllocError> {
-    let mut replies = reply.to_vec(alloc)?;
-    if !reply.is_empty() {
-        replies.push(b'\n')?;
+/// Puts the text at the end of the session, with a line feed if it isn't empty or all texts have one.
+fn put_line(session: &mut Vec<u8>, text: &[u8], is_always_ended: bool) -> Result<(), AllocError> {
+    session.extend_from_slice(text)?;
+    if is_always_ended || !text.is_empty() {
+        session.push(b'\n')?;
     }
-    let refused = reply.starts_with(b"refused");
-    let status = if refused {
+    Ok(())
+}
+
+/// A session of the inputs, each ended, writes their replies in order. It ends as Refused where one of them is a refusal.
+fn assert_lines(rt: &impl Abort, alloc: Global, lines: &[Line]) -> Result<(), AllocError> {
+    let mut input = Vec::new(alloc);
+    let mut replies = Vec::new(alloc);
+    for (line, reply) in lines {
+        put_line(&mut input, line, true)?;
+        put_line(&mut replies, reply, false)?;
+    }
+    let is_refused = lines.iter().any(|(_, reply)| reply.starts_with(b"refused"));
+    let status = if is_refused {
         Status::Refused
     } else {
         Status::Done
     };
-    assert_session(rt, alloc, input, &replies, status)
+    assert_session(rt, alloc, &input, &replies, status)
 }
 
 #[test]
 fn lines_get_their_replies(rt: HostRuntime) -> Result<(), Fail> {
     let alloc = rt.alloc();
-    for (line, reply) in SHOW_LINES {
-        assert_reply(&rt, alloc, line, reply)?;
-    }
+    assert_lines(&rt, alloc, &SHOW_LINES)?;
+    assert_lines(&rt, alloc, &MORE_LINES)?;
+    let mut others = Vec::new(alloc);
     for line in OTHER_LINES {
-        assert_reply(&rt, alloc, line, b"refused command")?;
+        others.push((line, b"refused command".as_slice()))?;
     }
+    assert_lines(&rt, alloc, &others)?;
     Ok(())
 }
 
@@ -447,19 +456,29 @@ fn a_command_of_two_thousand_bytes_gets_its_reply(rt: HostRuntime) -> Result<(),
     let mut line = b"show".to_vec(alloc)?;
     line.resize(1994, b' ')?;
     line.extend_from_slice(b"10 6\r")?;
-    assert_reply(&rt, alloc, &line, b"1 <= A(10,6) <= 1024")?;
+    assert_session(&rt, alloc, &line, b"4 <= A(10,6) <= 6\n", Status::Done)?;
     Ok(())
 }
 
+// Each document comes under the same id, since the one before is withdrawn, or was refused.
 #[test]
 fn submitted_documents_get_their_replies(rt: HostRuntime) -> Result<(), Fail> {
     let alloc = rt.alloc();
+    let mut input = Vec::new(alloc);
+    let mut replies = Vec::new(alloc);
     for (document, reply) in DOCUMENTS {
-        let mut input = b"submit a\n".to_vec(alloc)?;
+        input.extend_from_slice(b"submit a\n")?;
         input.extend_from_slice(document)?;
-        input.extend_from_slice(b"\nend\n")?;
-        assert_reply(&rt, alloc, &input, reply)?;
+        input.extend_from_slice(b"\nend\nwithdraw a\n")?;
+        let withdrawal = if reply.starts_with(b"refused") {
+            b"refused nosuch a".as_slice()
+        } else {
+            b"withdrawn a".as_slice()
+        };
+        put_line(&mut replies, reply, true)?;
+        put_line(&mut replies, withdrawal, true)?;
     }
+    assert_session(&rt, alloc, &input, &replies, Status::Refused)?;
     Ok(())
 }
 
@@ -502,7 +521,7 @@ fn the_greatest_size_is_accepted_and_one_more_refused(rt: HostRuntime) -> Result
 
     let session = ["session".to_string(alloc)?];
     let (status, written) = run_in_pieces(alloc, &session, &input, 4096)?;
-    let replies = b"accepted a size 16384\n16384 <= A(24,3) <= 16777216\n".as_slice();
+    let replies = b"accepted a size 16384\n524288 <= A(24,3) <= 671088\n".as_slice();
     assert_eq!(rt; (status, written.as_slice()), (Status::Done, replies));
     let (status, written) = run_in_pieces(alloc, &session, &longer, 4096)?;
     let replies = b"refused size 16385\n".as_slice();
@@ -604,7 +623,7 @@ fn replies_are_written_before_the_source_is_read_again(rt: HostRuntime) -> Resul
     let alloc = rt.alloc();
     let words = ["session".to_string(alloc)?];
     let input = b"show 3 3\nshow 4 3\nshow 5".as_slice();
-    let written = [0, 0, 17, 17, 35, 35];
+    let written = [0, 0, 11, 11, 22, 22];
     for failing in 0..6u32 {
         let mut source = MemSource::new(input.to_vec(alloc)?, vec![in alloc; failing]?, 5);
         let mut sink = MemSink::new(alloc, 4096, Vec::new(alloc), 4096)?;
@@ -657,8 +676,7 @@ fn a_thousand_pieces_are_full(rt: HostRuntime) -> Result<(), Fail> {
     let mut source = MemSource::new(input, Vec::new(alloc), 4096);
     let mut sink = MemSink::new(alloc, 65_536, Vec::new(alloc), 4096)?;
     assert_eq!(rt; run(alloc, &words, &mut source, &mut sink), Status::Refused);
-    let last =
-        b"\nrefused full pieces 1000\nwithdrawn p7\nrefused kind\n1 <= A(3,3) <= 8\n".as_slice();
+    let last = b"\nrefused full pieces 1000\nwithdrawn p7\nrefused kind\nA(3,3) = 2\n".as_slice();
     assert!(rt; sink.bytes.ends_with(last));
     Ok(())
 }

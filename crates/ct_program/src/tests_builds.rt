@@ -31,9 +31,9 @@ const AFTER_OCTADS: [(&str, &str); 6] = [
     ("withdraw golay\n", "refused inuse oct\n"),
     (
         "withdraw golay\nwithdraw oct\nwithdraw golay\nshow 24 8\nwithdraw golay\nledger\n",
-        "refused inuse oct\nwithdrawn oct\nwithdrawn golay\n1 <= A(24,8) <= 16777216\nrefused nosuch golay\npieces 0\n",
+        "refused inuse oct\nwithdrawn oct\nwithdrawn golay\n512 <= A(24,8) <= 4096\nrefused nosuch golay\npieces 0\n",
     ),
-    ("show 24 8\n", "4096 <= A(24,8) <= 16777216\n"),
+    ("show 24 8\n", "A(24,8) = 4096\n"),
     (
         "withdraw oct\nledger\n",
         "withdrawn oct\ngolay cosets 24 8 size 4096\npieces 1\n",
