@@ -5,4 +5,9 @@ mod follow;
 mod left;
 mod table;
 
+pub use ct_codes::{Claim, Side};
+pub use ct_rules::{Line, Rule, Support};
 pub use table::Table;
+
+#[cfg(test)]
+mod tests;
