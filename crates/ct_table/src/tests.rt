@@ -381,7 +381,7 @@ fn many_changes(rt: HostRuntime) -> Result<(), Fail> {
     let alloc = rt.alloc();
     let mut table = Table::new(alloc)?;
     let mut numbers = Numbers { last: 1 };
-    for step in 1..=100 {
+    for step in 1..=300 {
         change(&rt, alloc, &mut table, &mut numbers)?;
         let supports = table.supports().to_vec(alloc)?;
         let anew = Table::rebuild(alloc, supports)?;
