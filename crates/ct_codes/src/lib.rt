@@ -7,16 +7,12 @@ mod claim;
 mod code;
 mod coset;
 mod coset_laws;
-#[cfg(test)]
-mod coset_tests;
 mod entry;
 mod fault;
 mod laws;
 mod near;
 mod pairs;
 mod scheme;
-#[cfg(test)]
-mod tests;
 
 pub use check::check_words;
 pub use claim::{Claim, Side};

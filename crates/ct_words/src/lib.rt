@@ -6,8 +6,6 @@ mod counts;
 mod laws;
 mod limits;
 mod metric;
-#[cfg(test)]
-mod tests;
 mod text;
 mod word;
 mod word_list;
