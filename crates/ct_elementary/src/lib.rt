@@ -4,6 +4,3 @@
 mod bounds;
 
 pub use bounds::{far, hamming, plotkin};
-
-#[cfg(test)]
-mod tests;

@@ -4,8 +4,6 @@
 mod hamming;
 mod krawtchouk;
 mod laws;
-#[cfg(test)]
-mod tests;
 
 pub use hamming::Hamming;
 pub use laws::{character_sums_are_krawtchouk_numbers, krawtchouk_sums_are_sums_of_squares};

@@ -4,8 +4,6 @@
 mod johnson;
 mod laws;
 mod numbers;
-#[cfg(test)]
-mod tests;
 
 pub use johnson::Johnson;
 pub use laws::johnson_sums_are_sums_of_squares;

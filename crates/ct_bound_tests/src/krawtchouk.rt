@@ -1,18 +1,10 @@
 //! Krawtchouk numbers against tables, the generating function and orthogonality.
 
-use crate::Hamming;
-use ct_codes::{Scheme, scheme_laws};
+use crate::numbers::number_of;
+use ct_codes::Scheme;
+use ct_krawtchouk::Hamming;
 use ct_words::MAX_N;
 use std::test::Fail;
-
-/// The number of a scheme at k and i, where both are up to its degree.
-fn number_of<S: Scheme>(scheme: &S, k: u32, i: u32) -> Option<i64> {
-    scheme_laws(scheme);
-    if k > scheme.degree() || i > scheme.degree() {
-        return None;
-    }
-    i64::try_from(scheme.number(k, i)).ok()
-}
 
 /// The Krawtchouk number K_k(i) at length n.
 fn krawtchouk(n: u32, k: u32, i: u32) -> Option<i64> {
@@ -25,35 +17,73 @@ fn krawtchouk(n: u32, k: u32, i: u32) -> Option<i64> {
 /// The table of Krawtchouk numbers at n = 16 for even i, those at n = 13, and ends of rows at n = 28.
 #[test]
 fn known_numbers(rt: HostRuntime) {
-    let places = [0, 6, 8, 10, 12, 14, 16];
-    let rows = [
-        (1, [16, 4, 0, -4, -8, -12, -16]),
-        (2, [120, 0, -8, 0, 24, 64, 120]),
-        (3, [560, -20, 0, 20, -24, -196, -560]),
-        (4, [1820, -20, 28, -20, -36, 364, 1820]),
+    let rows: [(u32, u32, &[(u32, i64)]); 10] = [
+        (
+            16,
+            1,
+            &[
+                (0, 16),
+                (6, 4),
+                (8, 0),
+                (10, -4),
+                (12, -8),
+                (14, -12),
+                (16, -16),
+            ],
+        ),
+        (
+            16,
+            2,
+            &[
+                (0, 120),
+                (6, 0),
+                (8, -8),
+                (10, 0),
+                (12, 24),
+                (14, 64),
+                (16, 120),
+            ],
+        ),
+        (
+            16,
+            3,
+            &[
+                (0, 560),
+                (6, -20),
+                (8, 0),
+                (10, 20),
+                (12, -24),
+                (14, -196),
+                (16, -560),
+            ],
+        ),
+        (
+            16,
+            4,
+            &[
+                (0, 1820),
+                (6, -20),
+                (8, 28),
+                (10, -20),
+                (12, -36),
+                (14, 364),
+                (16, 1820),
+            ],
+        ),
+        (13, 1, &[(6, 1), (12, -11)]),
+        (13, 2, &[(0, 78), (8, -2), (10, 18), (12, 54)]),
+        (1, 1, &[(1, -1)]),
+        (28, 14, &[(0, 40116600), (28, 40116600)]),
+        (28, 13, &[(28, -37442160)]),
+        (28, 28, &[(1, -1)]),
     ];
-    for (k, row) in rows {
-        for (i, want) in places.iter().zip(row.iter()) {
-            assert_eq!(rt; krawtchouk(16, k, *i), Some(*want), "K_{k}({i}) at 16");
+    for (n, k, numbers) in rows {
+        for (i, want) in numbers {
+            assert!(rt; krawtchouk(n, k, *i) == Some(*want), "K_{k}({i}) at {n}");
         }
     }
-    for (n, k, i, want) in [
-        (13, 1, 6, 1),
-        (13, 1, 12, -11),
-        (13, 2, 0, 78),
-        (13, 2, 8, -2),
-        (13, 2, 10, 18),
-        (13, 2, 12, 54),
-        (1, 1, 1, -1),
-        (28, 14, 0, 40116600),
-        (28, 14, 28, 40116600),
-        (28, 13, 28, -37442160),
-        (28, 28, 1, -1),
-    ] {
-        assert_eq!(rt; krawtchouk(n, k, i), Some(want), "K_{k}({i}) at {n}");
-    }
-    assert_eq!(rt; krawtchouk(13, 14, 0), None);
-    assert_eq!(rt; Hamming { n: 13 }.degree(), 13);
+    assert!(rt; krawtchouk(13, 14, 0).is_none());
+    assert!(rt; Hamming { n: 13 }.degree() == 13);
 }
 
 /// The coefficients of (1 - z)^i (1 + z)^(8 - i), multiplied out.
@@ -81,7 +111,10 @@ fn generating_function(rt: HostRuntime) {
     for i in 0..9u32 {
         let row = generating_row(i);
         for (k, want) in row.iter().enumerate() {
-            assert_eq!(rt; krawtchouk(8, k as u32, i), Some(*want), "K_{k}({i}) at 8");
+            assert!(rt;
+                krawtchouk(8, k as u32, i) == Some(*want),
+                "K_{k}({i}) at 8"
+            );
         }
     }
 }
@@ -112,9 +145,8 @@ fn orthogonality(rt: HostRuntime) -> Result<(), Fail> {
                 } else {
                     0
                 };
-                assert_eq!(rt;
-                    inner_product(n, k, l),
-                    Some(want),
+                assert!(rt;
+                    inner_product(n, k, l) == Some(want),
                     "rows {k} and {l} at {n}"
                 );
             }

@@ -1,7 +1,7 @@
 //! The bounds and counts at values from tables and by hand.
 
-use super::*;
 use ct_codes::Entry;
+use ct_elementary::{far, hamming, plotkin};
 use ct_words::{ball, binomial, factorial};
 
 // Values of Pascal's triangle, factorials and balls: the ball of the binary Golay code has 2^11 words.
@@ -19,11 +19,11 @@ fn counts(rt: HostRuntime) {
         (30, 15, 155117520),
     ] {
         assert!(rt; n <= 30);
-        assert_eq!(rt; binomial(n, k), want, "{n} over {k}");
+        assert!(rt; binomial(n, k) == want, "{n} over {k}");
     }
     for (k, want) in [(0, 1), (1, 1), (5, 120), (20, 2432902008176640000)] {
         assert!(rt; k <= 20);
-        assert_eq!(rt; factorial(k), want, "factorial of {k}");
+        assert!(rt; factorial(k) == want, "factorial of {k}");
     }
     for (n, e, want) in [
         (0, 0, 1),
@@ -34,7 +34,7 @@ fn counts(rt: HostRuntime) {
         (30, 4294967295, 1073741824),
     ] {
         assert!(rt; n <= 30);
-        assert_eq!(rt; ball(n, e), want, "ball of radius {e} at length {n}");
+        assert!(rt; ball(n, e) == want, "ball of radius {e} at length {n}");
     }
 }
 
@@ -49,7 +49,7 @@ fn bounds(rt: HostRuntime) {
         (3, 3, None),
     ] {
         assert!(rt; Entry { n, d, w: None }.in_table());
-        assert_eq!(rt; far(n, d), want, "far at ({n},{d})");
+        assert!(rt; far(n, d) == want, "far at ({n},{d})");
     }
     for (n, d, want) in [
         (8, 6, Some(2)),
@@ -68,7 +68,7 @@ fn bounds(rt: HostRuntime) {
         (12, 5, None),
     ] {
         assert!(rt; Entry { n, d, w: None }.in_table());
-        assert_eq!(rt; plotkin(n, d), want, "plotkin at ({n},{d})");
+        assert!(rt; plotkin(n, d) == want, "plotkin at ({n},{d})");
     }
     for (n, d, want) in [
         (7, 3, 16),
@@ -81,6 +81,6 @@ fn bounds(rt: HostRuntime) {
         (5, 28, 1),
     ] {
         assert!(rt; Entry { n, d, w: None }.in_table());
-        assert_eq!(rt; hamming(n, d), want, "hamming at ({n},{d})");
+        assert!(rt; hamming(n, d) == want, "hamming at ({n},{d})");
     }
 }

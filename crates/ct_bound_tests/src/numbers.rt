@@ -1,0 +1,12 @@
+//! The numbers of a scheme.
+
+use ct_codes::{Scheme, scheme_laws};
+
+/// The number of the scheme at k and i, where both are up to its degree.
+pub fn number_of<S: Scheme>(scheme: &S, k: u32, i: u32) -> Option<i64> {
+    scheme_laws(scheme);
+    if k > scheme.degree() || i > scheme.degree() {
+        return None;
+    }
+    i64::try_from(scheme.number(k, i)).ok()
+}
