@@ -32,9 +32,13 @@ awk -F '|' -v edits="$(for crate in crates/*; do echo "${crate#*/} $(find "$crat
         row(name, $3, $5, $7, $9)
     }
     $2 !~ /`ct_/ && /^\|/ { print }
+    # Nothing stands where nothing was measured.
+    function cell(value) {
+        return value >= 0.5 ? sprintf(" %d |", value + 0.5) : " |"
+    }
     function row(name, proof, tests, all, each) {
-        printf "| `%s` |%s| %d |%s| %d |%s| %d |%s| %d |\n", name, proof, seconds[name, "proof"], tests, seconds[name, "tests"],
-            all, number[name], each, number[name] ? seconds[name, "edits"] / number[name] : 0
+        printf "| `%s` |%s|%s%s|%s%s| %d |%s|%s\n", name, proof, cell(seconds[name, "proof"]), tests, cell(seconds[name, "tests"]),
+            all, number[name], each, cell(number[name] ? seconds[name, "edits"] / number[name] : 0)
     }
     END { for (name in number) if (!(name in told)) row(name, " ", " ", " ", " ") }' "$samples" docs/GATE.md
 exit "$status"
