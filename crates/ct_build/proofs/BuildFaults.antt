@@ -7,20 +7,20 @@ use Rattle.ct_codes.specs.declared.entry.Entry.{Entry}
 use Rattle.ct_codes.specs.Code.{CodeValue}
 use Rattle.ct_codes.specs.Pairs.{first_of}
 use Rattle.ct_codes.proofs.CheckLemmas.{first_of-None}
+use Rattle.ct_constructions.specs.Translation.{translated}
+use Rattle.ct_constructions.specs.Shortened.{has_digits, shortened}
+use Rattle.ct_constructions.proofs.AppendLemmas.{length-lengthened, length-one_appended, length-with_parity}
+use Rattle.ct_constructions.proofs.TranslationLemmas.{length-translated, length-complemented}
+use Rattle.ct_constructions.proofs.PuncturedCodes.{length-punctured}
+use Rattle.ct_constructions.proofs.ShortenedCodes.{length-shortened}
+use Rattle.ct_constructions.proofs.UuvCodes.{length-uuv_words}
+use Rattle.ct_constructions.proofs.JuxtaposedCodes.{length-juxtaposed}
 use Rattle.ct_build.specs.declared.building.TheConstants.{MAX_BUILT}
 use Rattle.ct_build.specs.declared.fault.BuildFault.{BuildFault}
 use Rattle.ct_build.specs.declared.fault.BuildFault.TheVariants.{Size, Few, Empty, Memory}
 use Rattle.ct_build.specs.declared.step.Step.{Step}
 use Rattle.ct_build.specs.declared.step.Step.TheVariants.{Lengthen, AppendOne, Parity, Puncture, Shorten, Translate, Complement, Select, Uuv, Juxtapose, Trim}
-use Rattle.ct_build.specs.Translation.{translated}
-use Rattle.ct_build.specs.Shortened.{has_digits, shortened}
 use Rattle.ct_build.specs.Build.{FieldsFit, FitsStated, is_right_length, is_right_weight, few_fault, words_of, distance_of, other_of, is_right_other, step_distance, part_fault, other_fault, short_fault, above_limit, selected_of, built, size_fault, empty_fault, early_fault, build_fault}
-use Rattle.ct_build.proofs.AppendLemmas.{length-lengthened, length-one_appended, length-with_parity}
-use Rattle.ct_build.proofs.TranslationLemmas.{length-translated, length-complemented}
-use Rattle.ct_build.proofs.PuncturedCodes.{length-punctured}
-use Rattle.ct_build.proofs.ShortenedCodes.{length-shortened}
-use Rattle.ct_build.proofs.UuvCodes.{length-uuv_words}
-use Rattle.ct_build.proofs.JuxtaposedCodes.{length-juxtaposed}
 
 shortened-few : (n : ℕ) (places digits words : List ℕ) → length (shortened n places digits words) ≤ length words
 shortened-few n places digits words =

@@ -4,21 +4,21 @@ use Rattle.std.specs.Option.{option_map, ForSome}
 use Rattle.ct_codes.specs.declared.entry.Entry.{Entry}
 use Rattle.ct_codes.specs.Code.{CodeValue, IsCode, IsCodeOf, IsSoundCode}
 use Rattle.ct_codes.proofs.EntryLemmas.{entry_limits}
+use Rattle.ct_constructions.specs.Even.{even_from}
+use Rattle.ct_constructions.specs.Juxtaposed.{added_weights}
+use Rattle.ct_constructions.specs.Shortened.{shortened_weight}
+use Rattle.ct_constructions.specs.Places.{ArePlaces}
+use Rattle.ct_constructions.specs.Translation.{selected}
+use Rattle.ct_constructions.proofs.FrontLemmas.{IsCode-take, IsCode-nearer, IsCode-unweighted}
+use Rattle.ct_constructions.proofs.AppendLemmas.{IsCode-lengthened, IsCode-one_appended, IsCode-with_parity}
+use Rattle.ct_constructions.proofs.TranslationLemmas.{IsCode-translated, IsCode-complemented, IsCode-selected}
+use Rattle.ct_constructions.proofs.PuncturedCodes.{IsCode-punctured}
+use Rattle.ct_constructions.proofs.ShortenedCodes.{IsCode-shortened}
+use Rattle.ct_constructions.proofs.UuvCodes.{IsCode-uuv}
+use Rattle.ct_constructions.proofs.JuxtaposedCodes.{IsCode-juxtaposed}
 use Rattle.ct_build.specs.declared.step.Step.{Step}
 use Rattle.ct_build.specs.declared.step.Step.TheVariants.{Lengthen, AppendOne, Parity, Puncture, Shorten, Translate, Complement, Select, Uuv, Juxtapose, Trim}
-use Rattle.ct_build.specs.Even.{even_from}
-use Rattle.ct_build.specs.Juxtaposed.{added_weights}
-use Rattle.ct_build.specs.Shortened.{shortened_weight}
-use Rattle.ct_build.specs.Places.{ArePlaces}
-use Rattle.ct_build.specs.Translation.{selected}
 use Rattle.ct_build.specs.Build.{FieldsFit, FitsStated, is_right_length, is_right_other, step_distance, selected_of, built}
-use Rattle.ct_build.proofs.FrontLemmas.{IsCode-take, IsCode-nearer, IsCode-unweighted}
-use Rattle.ct_build.proofs.AppendLemmas.{IsCode-lengthened, IsCode-one_appended, IsCode-with_parity}
-use Rattle.ct_build.proofs.TranslationLemmas.{IsCode-translated, IsCode-complemented, IsCode-selected}
-use Rattle.ct_build.proofs.PuncturedCodes.{IsCode-punctured}
-use Rattle.ct_build.proofs.ShortenedCodes.{IsCode-shortened}
-use Rattle.ct_build.proofs.UuvCodes.{IsCode-uuv}
-use Rattle.ct_build.proofs.JuxtaposedCodes.{IsCode-juxtaposed}
 use Rattle.ct_build.proofs.StepLemmas.{IsReady, no_weight, weight_lengthen, weight_append_one, weight_parity, weight_shorten, weight_complement, weight_trim, weight_juxtapose, long_puncture, long_shorten, long_select, long_translate, long_complement, long_trim, long_uuv, beside_uuv, beside_juxtapose}
 
 -- a code read at a smaller distance, and without its weight where none is stated

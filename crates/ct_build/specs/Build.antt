@@ -5,19 +5,19 @@ use Rattle.ct_codes.specs.declared.entry.Entry.{Entry}
 use Rattle.ct_codes.specs.Entry.{IsEntry, same_weight}
 use Rattle.ct_codes.specs.Code.{CodeValue}
 use Rattle.ct_codes.specs.Pairs.{first_of}
+use Rattle.ct_constructions.specs.Even.{even_from}
+use Rattle.ct_constructions.specs.Append.{lengthened, one_appended, with_parity}
+use Rattle.ct_constructions.specs.Places.{ArePlaces}
+use Rattle.ct_constructions.specs.Punctured.{punctured}
+use Rattle.ct_constructions.specs.Shortened.{shortened}
+use Rattle.ct_constructions.specs.Translation.{translated, complemented, selected}
+use Rattle.ct_constructions.specs.Uuv.{uuv_words}
+use Rattle.ct_constructions.specs.Juxtaposed.{juxtaposed, added_weights}
 use Rattle.ct_build.specs.declared.building.TheConstants.{MAX_BUILT}
 use Rattle.ct_build.specs.declared.fault.BuildFault.{BuildFault}
 use Rattle.ct_build.specs.declared.fault.BuildFault.TheVariants.{WrongPart, Short, Size, Few, Empty}
 use Rattle.ct_build.specs.declared.step.Step.{Step}
 use Rattle.ct_build.specs.declared.step.Step.TheVariants.{Lengthen, AppendOne, Parity, Puncture, Shorten, Translate, Complement, Select, Uuv, Juxtapose, Trim}
-use Rattle.ct_build.specs.Even.{even_from}
-use Rattle.ct_build.specs.Append.{lengthened, one_appended, with_parity}
-use Rattle.ct_build.specs.Places.{ArePlaces}
-use Rattle.ct_build.specs.Punctured.{punctured}
-use Rattle.ct_build.specs.Shortened.{shortened}
-use Rattle.ct_build.specs.Translation.{translated, complemented, selected}
-use Rattle.ct_build.specs.Uuv.{uuv_words}
-use Rattle.ct_build.specs.Juxtaposed.{juxtaposed, added_weights}
 
 -- the fields of the step, and whether a weight is stated, are as the step asks for with the stated entry
 unfoldable pub FieldsFit : Step → Entry → Type 0

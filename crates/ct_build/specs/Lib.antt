@@ -1,10 +1,1 @@
-pub mod Joined
-pub mod Even
-pub mod Append
-pub mod Translation
-pub mod Juxtaposed
-pub mod Uuv
-pub mod Places
-pub mod Punctured
-pub mod Shortened
 pub mod Build

@@ -1,11 +1,11 @@
 //! Two codes put together word by word.
 
-ghost use Rattle.std.specs.Prelude.{◌≡◌, ℕ, ◌+◌, ◌-◌, ◌^◌, ◌<◌, ◌≤◌, List, length, min, Option, All, IfOk};
+ghost use Rattle.std.specs.Prelude.{◌≡◌, ◌+◌, ◌-◌, ◌^◌, ◌<◌, ◌≤◌, All, IfOk};
 ghost use Rattle.std.specs.Option.{ForSome};
 ghost use Rattle.ct_words.specs.declared.limits.TheConstants.{MAX_N};
 ghost use Rattle.ct_codes.specs.declared.code.TheConstants.{MAX_CODE_DISTANCE};
-ghost use Rattle.ct_codes.specs.Code.{IsCode, IsSoundCode};
-ghost use Rattle.ct_build.specs.Juxtaposed.{juxtaposed, added_weights};
+ghost use Rattle.ct_codes.specs.Code.{IsSoundCode};
+ghost use Rattle.ct_constructions.specs.Juxtaposed.{juxtaposed, added_weights};
 
 use ct_codes::Code;
 use ct_words::Word;
@@ -60,12 +60,3 @@ fn added_weight(v: Option<u32>, w: Option<u32>) -> Option<u32>
         _ => None,
     }
 }
-
-/// Two codes put together word by word are a code, whatever lists of words they are; it has as many words as the smaller.
-pub fn juxtaposed_codes()
-    ensures code { (n d : ℕ) (v : Option ℕ) (xs : List ℕ) (m e : ℕ) (w : Option ℕ) (ys : List ℕ) →
-        IsCode n d v xs → IsCode m e w ys →
-        IsCode (n + m) (d + e) (added_weights v w) (juxtaposed m xs ys) }
-    ensures size { (m : ℕ) (xs ys : List ℕ) →
-        length (juxtaposed m xs ys) ≡ min (length xs) (length ys) }
-{}

@@ -10,7 +10,6 @@ mod even;
 mod fault;
 mod front;
 mod juxtaposed;
-mod laws;
 mod numbers;
 mod parts_and_sums;
 mod places;
@@ -33,15 +32,10 @@ pub use building_laws::{builds_are_codes_of_the_entry, known_builds};
 pub use even::even_words;
 pub use fault::BuildFault;
 pub use front::trim;
-pub use juxtaposed::{juxtapose, juxtaposed_codes};
-pub use laws::{
-    digits_of_constructions, even_words_are_a_code, longer_words_are_codes,
-    parts_of_codes_are_codes, sizes_of_constructions, translated_words_are_codes,
-};
+pub use juxtaposed::juxtapose;
 pub use numbers::Numbers;
-pub use parts_and_sums::{uuv, uuv_codes};
-pub use places::digits_at_places;
-pub use punctured::{puncture, punctured_codes};
-pub use shortened::{shorten, shortened_codes};
+pub use parts_and_sums::uuv;
+pub use punctured::puncture;
+pub use shortened::shorten;
 pub use step::Step;
 pub use translation::{complement, select_weight, translate};

@@ -1,10 +1,10 @@
 //! The (u | u + v) construction.
 
-ghost use Rattle.std.specs.Prelude.{◌≡◌, ℕ, ◌+◌, ◌*◌, ◌^◌, ◌<◌, ◌≤◌, List, length, map, ◌++◌, min, bit_xor, Option, All, IfOk, OnOk, IsPermutation};
+ghost use Rattle.std.specs.Prelude.{◌≡◌, ◌+◌, ◌*◌, ◌^◌, ◌<◌, ◌≤◌, map, ◌++◌, min, bit_xor, All, IfOk, OnOk, IsPermutation};
 ghost use Rattle.ct_words.specs.declared.limits.TheConstants.{MAX_N};
-ghost use Rattle.ct_codes.specs.Code.{IsCode, IsSoundCode};
-ghost use Rattle.ct_build.specs.Joined.{followed_by};
-ghost use Rattle.ct_build.specs.Uuv.{uuv_words};
+ghost use Rattle.ct_codes.specs.Code.{IsSoundCode};
+ghost use Rattle.ct_constructions.specs.Joined.{followed_by};
+ghost use Rattle.ct_constructions.specs.Uuv.{uuv_words};
 
 use crate::sorted::code_of;
 use ct_codes::Code;
@@ -59,13 +59,3 @@ fn push_sums(words: &mut Vec<Word>, n: u32, u: Word, vs: &[Word]) -> Result<(), 
     }
     Ok(())
 }
-
-/// The words u followed by u + v, for u and v of two codes, are a code, whatever lists of words these are; there is one
-/// for each pair of words.
-pub fn uuv_codes()
-    ensures code { (n d : ℕ) (v : Option ℕ) (us : List ℕ) (e : ℕ) (w : Option ℕ) (vs : List ℕ) →
-        IsCode n d v us → IsCode n e w vs →
-        IsCode (2 * n) (min (2 * d) e) None (uuv_words n us vs) }
-    ensures size { (n : ℕ) (us vs : List ℕ) →
-        length (uuv_words n us vs) ≡ length us * length vs }
-{}

@@ -1,10 +1,10 @@
 //! Codes without some of their places.
 
-ghost use Rattle.std.specs.Prelude.{◌≡◌, ℕ, ◌-◌, ◌^◌, ◌<◌, ◌≤◌, List, length, Option, All, IfOk, IsPermutation};
+ghost use Rattle.std.specs.Prelude.{◌≡◌, ◌-◌, ◌^◌, ◌<◌, ◌≤◌, length, All, IfOk, IsPermutation};
 ghost use Rattle.ct_words.specs.declared.limits.TheConstants.{MAX_N};
-ghost use Rattle.ct_codes.specs.Code.{IsCode, IsSoundCode};
-ghost use Rattle.ct_build.specs.Places.{ArePlaces};
-ghost use Rattle.ct_build.specs.Punctured.{punctured};
+ghost use Rattle.ct_codes.specs.Code.{IsSoundCode};
+ghost use Rattle.ct_constructions.specs.Places.{ArePlaces};
+ghost use Rattle.ct_constructions.specs.Punctured.{punctured};
 
 use crate::places::without_places;
 use crate::sorted::code_of;
@@ -47,13 +47,3 @@ pub(crate) fn punctured_words(
     }
     Ok(rest)
 }
-
-/// A punctured code is a code, whatever list of words it is, where the places are fewer than its distance; it has as many
-/// words.
-pub fn punctured_codes()
-    ensures code { (n d : ℕ) (w : Option ℕ) (words places : List ℕ) →
-        ArePlaces n places → length places < d → IsCode n d w words →
-        IsCode (n - length places) (d - length places) None (punctured n places words) }
-    ensures size { (n : ℕ) (places words : List ℕ) →
-        length (punctured n places words) ≡ length words }
-{}

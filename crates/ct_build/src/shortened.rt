@@ -1,11 +1,11 @@
 //! Shortened codes.
 
-ghost use Rattle.std.specs.Prelude.{◌≡◌, ◌↔◌, ℕ, ◌+◌, ◌-◌, ◌^◌, ◌<◌, ◌≤◌, ◌==◌, List, [], ◌∷◌, length, count_by, Option, All, IfOk, IfErr, IsOk, ◌⊎◌};
+ghost use Rattle.std.specs.Prelude.{◌≡◌, ◌↔◌, ◌-◌, ◌^◌, ◌<◌, ◌≤◌, ◌==◌, [], length, count_by, All, IfOk, IfErr, IsOk, ◌⊎◌};
 ghost use Rattle.ct_words.specs.declared.limits.TheConstants.{MAX_N};
-ghost use Rattle.ct_codes.specs.Code.{IsCode, IsSoundCode};
+ghost use Rattle.ct_codes.specs.Code.{IsSoundCode};
+ghost use Rattle.ct_constructions.specs.Places.{ArePlaces};
+ghost use Rattle.ct_constructions.specs.Shortened.{has_digits, shortened, shortened_weight};
 ghost use Rattle.ct_build.specs.declared.fault.BuildFault.TheVariants.{Empty, Memory};
-ghost use Rattle.ct_build.specs.Places.{ArePlaces};
-ghost use Rattle.ct_build.specs.Shortened.{has_digits, shortened, shortened_weight};
 
 use crate::fault::BuildFault;
 use crate::places::{has_digits, without_places};
@@ -84,15 +84,3 @@ pub(crate) fn ones_among(digits: &[u32]) -> usize
 {
     digits.iter().filter(|a| **a == 1).count()
 }
-
-/// A shortened code is a code, whatever list of words it is. It has as many words as have the digits at the places; at one
-/// place, the words with a 0 and those with a 1 are all.
-pub fn shortened_codes()
-    ensures code { (n d : ℕ) (w : Option ℕ) (words places digits : List ℕ) →
-        ArePlaces n places → length digits ≡ length places → IsCode n d w words →
-        IsCode (n - length places) d (shortened_weight digits w) (shortened n places digits words) }
-    ensures size { (n : ℕ) (places digits words : List ℕ) →
-        length (shortened n places digits words) ≡ count_by (has_digits n places digits) words }
-    ensures halves { (n p : ℕ) (words : List ℕ) →
-        length (shortened n (p ∷ []) (0 ∷ []) words) + length (shortened n (p ∷ []) (1 ∷ []) words) ≡ length words }
-{}

@@ -11,7 +11,7 @@ use Rattle.toml.specs.View.{items_of}
 use Rattle.ct_words.specs.declared.limits.TheConstants.{MAX_N}
 use Rattle.ct_words.specs.Text.{is_binary_digit}
 use Rattle.ct_text.specs.Id.{is_id}
-use Rattle.ct_build.specs.Places.{ArePlaces}
+use Rattle.ct_constructions.specs.Places.{ArePlaces}
 use Rattle.ct_files.specs.Field.{field_text}
 use Rattle.ct_files.specs.Fields.{field, number_in}
 use Rattle.ct_files.specs.Operation.{operation_text, operations, named_among, operation_named}

@@ -10,22 +10,22 @@ use Rattle.ct_words.specs.Word.{digit, distance, IsSum}
 use Rattle.ct_words.proofs.WordLemmas.{distance-is_weight, weight-ones}
 use Rattle.ct_codes.specs.Entry.{unrestricted}
 use Rattle.ct_codes.specs.Code.{IsCode, IsTrueLower}
-use Rattle.ct_build.specs.Even.{even_from, even_words}
-use Rattle.ct_build.specs.Append.{lengthened, with_parity}
-use Rattle.ct_build.specs.Translation.{all_ones}
-use Rattle.ct_build.specs.Places.{ArePlaces}
-use Rattle.ct_build.specs.Punctured.{punctured}
-use Rattle.ct_build.specs.Shortened.{shortened}
-use Rattle.ct_build.specs.Uuv.{uuv_words}
-use Rattle.ct_build.specs.Juxtaposed.{juxtaposed}
-use Rattle.ct_build.proofs.FarWords.{AreFar, code_from_far}
-use Rattle.ct_build.proofs.FrontLemmas.{IsCode-nearer}
-use Rattle.ct_build.proofs.AppendLemmas.{IsCode-lengthened, IsCode-with_parity, length-lengthened, length-with_parity}
-use Rattle.ct_build.proofs.EvenLemmas.{IsCode-even_words, length-even_words}
-use Rattle.ct_build.proofs.PuncturedCodes.{IsCode-punctured, length-punctured}
-use Rattle.ct_build.proofs.ShortenedCodes.{IsCode-shortened, halves-shortened}
-use Rattle.ct_build.proofs.UuvCodes.{IsCode-uuv, length-uuv_words}
-use Rattle.ct_build.proofs.JuxtaposedCodes.{IsCode-juxtaposed, length-juxtaposed}
+use Rattle.ct_constructions.specs.Even.{even_from, even_words}
+use Rattle.ct_constructions.specs.Append.{lengthened, with_parity}
+use Rattle.ct_constructions.specs.Translation.{all_ones}
+use Rattle.ct_constructions.specs.Places.{ArePlaces}
+use Rattle.ct_constructions.specs.Punctured.{punctured}
+use Rattle.ct_constructions.specs.Shortened.{shortened}
+use Rattle.ct_constructions.specs.Uuv.{uuv_words}
+use Rattle.ct_constructions.specs.Juxtaposed.{juxtaposed}
+use Rattle.ct_constructions.proofs.FarWords.{AreFar, code_from_far}
+use Rattle.ct_constructions.proofs.FrontLemmas.{IsCode-nearer}
+use Rattle.ct_constructions.proofs.AppendLemmas.{IsCode-lengthened, IsCode-with_parity, length-lengthened, length-with_parity}
+use Rattle.ct_constructions.proofs.EvenLemmas.{IsCode-even_words, length-even_words}
+use Rattle.ct_constructions.proofs.PuncturedCodes.{IsCode-punctured, length-punctured}
+use Rattle.ct_constructions.proofs.ShortenedCodes.{IsCode-shortened, halves-shortened}
+use Rattle.ct_constructions.proofs.UuvCodes.{IsCode-uuv, length-uuv_words}
+use Rattle.ct_constructions.proofs.JuxtaposedCodes.{IsCode-juxtaposed, length-juxtaposed}
 use Rattle.ct_rules.specs.Rule.{half_up}
 use Rattle.ct_rules.proofs.SlotLemmas.{IsTrueLower-fewer}
 

@@ -9,7 +9,7 @@ use Rattle.ct_codes.specs.Code.{IsTrueLower}
 use Rattle.ct_codes.specs.Claim.{IsTrueClaim}
 use Rattle.ct_codes.proofs.EntryLemmas.{entry_limits, same_entry_is}
 use Rattle.ct_codes.proofs.BoundLemmas.{one_is_lower}
-use Rattle.ct_build.specs.Even.{even_from}
+use Rattle.ct_constructions.specs.Even.{even_from}
 use Rattle.ct_rules.specs.declared.rule.Rule.TheVariants.{L2, L3, L4, L5, L6, L7, L8, L11}
 use Rattle.ct_rules.specs.declared.support.Support.{Support}
 use Rattle.ct_rules.specs.declared.support.Support.TheVariants.{Nothing, Size}

@@ -17,7 +17,7 @@ use Rattle.ct_codes.specs.Code.{IsTrueUpper}
 use Rattle.ct_codes.proofs.EntryLemmas.{WeightFits, entry_limits}
 use Rattle.ct_codes.proofs.CheckLemmas.{code_size-le}
 use Rattle.ct_codes.proofs.DigitCodes.{bound_from_spread, bound_from_weight}
-use Rattle.ct_build.specs.Even.{even_from}
+use Rattle.ct_constructions.specs.Even.{even_from}
 use Rattle.ct_elementary.specs.Bounds.{far_value, plotkin_even, plotkin_odd, plotkin_value, hamming_value}
 use Rattle.ct_elementary.proofs.FarWords.{spread_far}
 use Rattle.ct_elementary.proofs.PlotkinRule.{even_sound, odd_sound, even_within}

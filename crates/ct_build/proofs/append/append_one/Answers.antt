@@ -1,8 +1,8 @@
 use Rattle.std.proofs.Common.{sym, ap, ◌∙◌, ◌+◌}
 use Rattle.std.specs.Option.{option_map}
-use Rattle.ct_build.specs.Append.{one_appended}
+use Rattle.ct_constructions.specs.Append.{one_appended}
+use Rattle.ct_constructions.proofs.AppendLemmas.{sound-one_appended}
 use Rattle.ct_build.proofs.Sound.{IsSoundCode-same, weight_limit}
-use Rattle.ct_build.proofs.AppendLemmas.{sound-one_appended}
 use Rattle.ct_build.proofs.append.append_one.Goals as goal
 
 pub one_heavier-requires : goal.one_heavier-requires

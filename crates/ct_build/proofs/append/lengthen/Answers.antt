@@ -1,7 +1,7 @@
 use Rattle.std.proofs.Common.{ap, ◌+◌}
-use Rattle.ct_build.specs.Append.{lengthened}
+use Rattle.ct_constructions.specs.Append.{lengthened}
+use Rattle.ct_constructions.proofs.AppendLemmas.{sound-lengthened}
 use Rattle.ct_build.proofs.Sound.{IsSoundCode-same}
-use Rattle.ct_build.proofs.AppendLemmas.{sound-lengthened}
 use Rattle.ct_build.proofs.append.lengthen.Goals as goal
 
 pub from_sorted-requires : goal.from_sorted-requires

@@ -1,8 +1,8 @@
 use Rattle.std.proofs.Common.{ℕ, List, sym, subst, option_copied, IsPermutation}
 use Rattle.std.specs.Prelude.{IfOk, OnErr, ◌≢◌, []}
+use Rattle.ct_constructions.specs.Places.{ArePlaces}
 use Rattle.ct_build.specs.declared.step.Step.{Step}
 use Rattle.ct_build.specs.declared.step.Step.TheVariants.{Lengthen, AppendOne, Parity, Puncture, Shorten, Select, Uuv, Juxtapose}
-use Rattle.ct_build.specs.Places.{ArePlaces}
 use Rattle.ct_build.specs.Build.{built}
 use Rattle.ct_build.proofs.StepLemmas.{ready_at, fits_at, room_lengthen, room_append_one, room_parity, places_puncture, places_shorten, below_select, room_uuv, same_uuv, room_juxtapose}
 use Rattle.ct_build.proofs.BuildFaults.{IfErr-anyway, trim_some}

@@ -1,7 +1,7 @@
 use Rattle.std.proofs.Common.{refl, ap, ◌∙◌, None, length}
-use Rattle.ct_build.specs.Even.{even_words}
+use Rattle.ct_constructions.specs.Even.{even_words}
+use Rattle.ct_constructions.proofs.EvenLemmas.{sound-even_words, length-even_words}
 use Rattle.ct_build.proofs.Sound.{IsSoundCode-same}
-use Rattle.ct_build.proofs.EvenLemmas.{sound-even_words, length-even_words}
 use Rattle.ct_build.proofs.even.even_words.Goals as goal
 
 pub from_sorted-requires : goal.from_sorted-requires

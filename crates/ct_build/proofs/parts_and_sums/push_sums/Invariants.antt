@@ -1,5 +1,5 @@
 use Rattle.std.proofs.Common.{◌≡◌, ◌++◌, map, take, bit_xor}
-use Rattle.ct_build.specs.Joined.{followed_by}
+use Rattle.ct_constructions.specs.Joined.{followed_by}
 use Rattle.ct_build.proofs.parts_and_sums.push_sums.Given as goal
 
 abbrev pub invariant-loop-v : goal.invariant-loop-v

@@ -1,8 +1,8 @@
 use Rattle.std.proofs.Common.{◌≡◌, ◌*◌, min, sym, ap₂, subst, ◌∙◌}
 use Rattle.std.specs.Prelude.{None}
 use Rattle.ct_codes.specs.Code.{IsCode, CodeValue}
-use Rattle.ct_build.specs.Uuv.{uuv_words}
-use Rattle.ct_build.proofs.UuvCodes.{IsCode-uuv}
+use Rattle.ct_constructions.specs.Uuv.{uuv_words}
+use Rattle.ct_constructions.proofs.UuvCodes.{IsCode-uuv}
 use Rattle.ct_build.proofs.parts_and_sums.uuv.Goals as goal
 
 pub code_of-requires-clause-code : goal.code_of-requires-clause-code

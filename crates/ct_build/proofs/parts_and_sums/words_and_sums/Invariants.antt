@@ -1,5 +1,5 @@
 use Rattle.std.proofs.Common.{◌≡◌, take}
-use Rattle.ct_build.specs.Uuv.{uuv_words}
+use Rattle.ct_constructions.specs.Uuv.{uuv_words}
 use Rattle.ct_build.proofs.parts_and_sums.words_and_sums.Given as goal
 
 abbrev pub invariant-loop-u : goal.invariant-loop-u

@@ -1,8 +1,8 @@
 use Rattle.std.proofs.Common.{refl, sym, ap, ap₂, ◌∙◌, ◌-◌, subst, IsPermutation, arith}
 use Rattle.std.specs.Option.{option_map}
-use Rattle.ct_build.specs.Translation.{translated, all_ones}
+use Rattle.ct_constructions.specs.Translation.{translated, all_ones}
+use Rattle.ct_constructions.proofs.TranslationLemmas.{sound-complemented}
 use Rattle.ct_build.proofs.Sound.{IsSoundCode-same, weight_within}
-use Rattle.ct_build.proofs.TranslationLemmas.{sound-complemented}
 use Rattle.ct_build.proofs.translation.complement.Goals as goal
 
 pub complement_weight-requires : goal.complement_weight-requires

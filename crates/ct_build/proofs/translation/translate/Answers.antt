@@ -1,7 +1,7 @@
 use Rattle.std.proofs.Common.{refl, None, subst, IsPermutation}
-use Rattle.ct_build.specs.Translation.{translated}
+use Rattle.ct_constructions.specs.Translation.{translated}
+use Rattle.ct_constructions.proofs.TranslationLemmas.{sound-translated}
 use Rattle.ct_build.proofs.Sound.{IsSoundCode-same}
-use Rattle.ct_build.proofs.TranslationLemmas.{sound-translated}
 use Rattle.ct_build.proofs.translation.translate.Goals as goal
 
 pub from_sorted-requires : goal.from_sorted-requires

@@ -1,0 +1,14 @@
+pub mod Images
+pub mod AppendLemmas
+pub mod TranslationLemmas
+pub mod FrontLemmas
+pub mod EvenLemmas
+pub mod JoinedLemmas
+pub mod FarWords
+pub mod SortedCodes
+pub mod JuxtaposedCodes
+pub mod UuvCodes
+pub mod PlaceLemmas
+pub mod ReadLemmas
+pub mod PuncturedCodes
+pub mod ShortenedCodes
