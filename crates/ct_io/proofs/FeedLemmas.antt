@@ -94,7 +94,7 @@ drop-around bytes start place b e =
     sym (take-append-drop place held) ∙ ap (λ l. take place held ++ l) rest
 
 -- bytes without a line feed end before a line feed
-line_before_feed : (front last line after : List ℕ) → IsLine front → front ++ last ≡ line ++ LINE_FEED ∷ after → length front ≤ length line
+pub line_before_feed : (front last line after : List ℕ) → IsLine front → front ++ last ≡ line ++ LINE_FEED ∷ after → length front ≤ length line
 line_before_feed [] last line after h e = omega arith
 line_before_feed (b ∷ front) last [] after h e = let feed : b ≡ LINE_FEED = cc in absurd (All-head IsNoFeed b front h feed)
 line_before_feed (b ∷ front) last (c ∷ line) after h e =

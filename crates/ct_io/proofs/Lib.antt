@@ -2,5 +2,6 @@ mod Copies
 pub mod FaultsLemmas
 mod FeedLemmas
 mod IntakeLemmas
+mod NextLineLemmas
 pub mod ReaderLemmas
 pub mod ToldLemmas

@@ -2,4 +2,5 @@
 pub mod Buffer
 pub mod Filling
 pub mod Intake
+pub mod NextLine
 pub mod Settled

@@ -1,9 +1,7 @@
-ghost use Rattle.std.specs.Prelude.{◌≡◌, ◌≢◌, ℕ, ◌+◌, ◌<◌, ◌≤◌, List, [], ◌∷◌, ◌++◌, max, IfOk, IfSome, IfNone, OnErr, MatchOption, length, take, drop, position, slice_get, vec_len, ◌==◌};
-ghost use Rattle.std.specs.Io.KnownBytes.{Keeps};
+ghost use Rattle.std.specs.Prelude.{◌≡◌, ◌+◌, ◌<◌, ◌≤◌, [], ◌∷◌, ◌++◌, IfOk, IfSome, IfNone, OnErr, MatchOption, length, take, drop, position, slice_get, vec_len, ◌==◌};
 ghost use Rattle.ct_io.specs.Inside.Buffer.{Buffer, empty_buffer};
-ghost use Rattle.ct_io.specs.Faults.{Rose};
 ghost use Rattle.ct_lines.specs.Lines.{IsLine};
-ghost use Rattle.ct_io.specs.Inside.Filling.{FillsBy};
+ghost use Rattle.ct_io.specs.Inside.Filling.{Fills};
 
 use crate::line_fault::LineFault;
 use crate::source::Source;
@@ -147,17 +145,8 @@ impl Held {
     ) -> Result<usize, LineFault>
         requires { 0 < vec_len piece.old }
         ensures piece { vec_len piece.new ≡ vec_len piece.old }
-        ensures read { IfOk result (λ n. FillsBy self.old.bytes self.new.bytes
-            (S.left source.old) (S.left source.new) n) }
-        ensures within { IfOk result (λ n. n ≤ vec_len piece.old) }
-        ensures same { OnErr result (self.new.bytes ≡ self.old.bytes) }
-        ensures kept { self.new.kept ≤ max self.old.kept (length self.new.bytes) }
-        ensures all_kept { length self.new.bytes ≤ self.new.kept }
-        ensures untaken { OnErr result (Keeps (S.left source.old) (S.left source.new)) }
-        ensures failed { result ≡ Err LineFault.ReadFault
-            → Rose (S.faults source.old) (S.faults source.new) }
-        ensures short { (t : ℕ) → result ≢ Err (LineFault.TooLong t) }
-        ensures counted { S.faults source.old ≤ S.faults source.new }
+        ensures fills { Fills self.old self.new (vec_len piece.old) (S.left source.old) (S.left source.new)
+            (S.faults source.old) (S.faults source.new) result }
     {
         self.drop_given_out();
         self.bytes.reserve(piece.len())?;

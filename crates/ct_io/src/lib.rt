@@ -36,6 +36,3 @@ pub const MAX_INPUT: u64 = 67_108_864;
 
 /// The most bytes that a line reader asks for at once, 64 KiB.
 pub const MAX_READ: usize = 65_536;
-
-#[cfg(test)]
-mod tests;

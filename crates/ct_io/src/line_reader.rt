@@ -35,6 +35,8 @@ impl Model for LineReader {
 }
 
 impl LineReader {
+    ghost use Rattle.ct_io.specs.Inside.NextLine.{GivesNext};
+
     /// A reader that took nothing yet. `Err` is want of memory.
     pub fn new(alloc: Global) -> Result<LineReader, AllocError>
         ensures { IfOk result (λ r. r ≡ fresh_reader) }
@@ -119,6 +121,13 @@ impl LineReader {
         ensures stays { (f : LineFault) → self.old.fault ≡ Some f → (result ≡ Err f)
             × (self.new ≡ self.old) × (source.new ≡ source.old) }
         ensures counted { S.faults source.old ≤ S.faults source.new }
+    {
+        self.give_next(source)
+    }
+
+    // What `next_line` gives: a fault that stays, or what the intake gives.
+    fn give_next<S: Source>(&mut self, source: &mut S) -> Result<Option<Vec<u8>>, LineFault>
+        ensures { GivesNext S.left S.faults self.old self.new source.old source.new result }
     {
         if let Some(fault) = self.fault {
             return Err(fault);

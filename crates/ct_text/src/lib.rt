@@ -21,6 +21,3 @@ pub use line::first_words;
 pub use number::parse_number;
 pub use table_numbers::{TableNumbers, parse_table_numbers};
 pub use text::Text;
-
-#[cfg(test)]
-mod tests;

@@ -1,6 +1,6 @@
-//! Words of lines, numbers read and numbers printed, as they are written down here.
+//! Words of lines, numbers read and numbers printed, and ids, as they are written down here.
 
-use super::*;
+use ct_text::{Id, first_words, parse_number, put_number};
 use std::test::Fail;
 
 #[test]
@@ -22,7 +22,7 @@ fn words_of_lines(rt: HostRuntime) -> Result<(), Fail> {
             barred.extend_from_slice(word)?;
             barred.push(b'|')?;
         }
-        assert_eq!(rt; barred.as_slice(), wanted, "of {line:?}");
+        assert!(rt; barred.as_slice() == wanted, "of {line:?}");
     }
     Ok(())
 }
@@ -36,11 +36,11 @@ fn numbers(rt: HostRuntime) -> Result<(), Fail> {
         (b"18446744073709551615", 18446744073709551615),
     ];
     for (text, number) in read {
-        assert_eq!(rt; parse_number(text), Some(number), "{text:?}");
+        assert!(rt; parse_number(text) == Some(number), "{text:?}");
         let mut printed = b"A(".to_vec(rt.alloc())?;
         put_number(rt.alloc(), &mut printed, number)?;
-        assert_eq!(rt; &printed[..2], b"A(".as_slice());
-        assert_eq!(rt; &printed[2..], text);
+        let (before, after) = printed.split_at(2);
+        assert!(rt; before == b"A(".as_slice() && after == text, "{text:?}");
     }
     let others: [&[u8]; 9] = [
         b"",
@@ -54,7 +54,7 @@ fn numbers(rt: HostRuntime) -> Result<(), Fail> {
         b"100000000000000000000",
     ];
     for text in others {
-        assert_eq!(rt; parse_number(text), None, "{text:?}");
+        assert!(rt; parse_number(text).is_none(), "{text:?}");
     }
     Ok(())
 }
@@ -93,15 +93,17 @@ fn bytes_of_ids_and_numbers(rt: HostRuntime) {
         let letter = LETTERS.contains(&byte);
         let digit = DIGITS.contains(&byte);
         let stands = letter || digit || b"-_".contains(&byte);
-        assert_eq!(rt; Id::parse(&[byte]).is_some(), letter, "{byte}");
-        assert_eq!(rt; Id::parse(&[b'a', byte]).is_some(), stands, "{byte}");
-        assert_eq!(rt; parse_number(&[byte]).is_some(), digit, "{byte}");
-        assert_eq!(rt;
-            parse_number(&[byte, b'0']).is_some(),
-            digit && byte != b'0',
-            "{byte}"
+        let ids = (
+            Id::parse(&[byte]).is_some(),
+            Id::parse(&[b'a', byte]).is_some(),
         );
-        assert_eq!(rt; parse_number(&[b'1', byte]).is_some(), digit, "{byte}");
+        assert!(rt; ids == (letter, stands), "{byte}");
+        let numbers = (
+            parse_number(&[byte]).is_some(),
+            parse_number(&[byte, b'0']).is_some(),
+            parse_number(&[b'1', byte]).is_some(),
+        );
+        assert!(rt; numbers == (digit, digit && byte != b'0', digit), "{byte}");
     }
 }
 
@@ -110,9 +112,13 @@ fn bytes_of_ids_and_numbers(rt: HostRuntime) {
 fn bytes_between_words(rt: HostRuntime) -> Result<(), Fail> {
     for byte in 0..=255u8 {
         let between = first_words(rt.alloc(), &[b'a', byte, b'b'], 4)?.len();
-        assert_eq!(rt; between, if byte == b' ' { 2 } else { 1 }, "{byte}");
         let alone = first_words(rt.alloc(), &[byte], 4)?.len();
-        assert_eq!(rt; alone, if b" \r".contains(&byte) { 0 } else { 1 }, "{byte}");
+        let wanted = match byte {
+            b' ' => (2, 0),
+            b'\r' => (1, 0),
+            _ => (1, 1),
+        };
+        assert!(rt; (between, alone) == wanted, "{byte}");
     }
     Ok(())
 }
