@@ -8,25 +8,25 @@ use Rattle.toml.specs.Data.{Data, table, Members}
 use Rattle.toml.specs.Parse.{parse_document}
 use Rattle.ct_codes.specs.declared.entry.Entry.{Entry}
 use Rattle.ct_build.specs.declared.step.Step.{Step}
-use Rattle.ct_files.specs.Fields.{is_of_kind}
-use Rattle.ct_files.specs.Document.{table_of}
-use Rattle.ct_files.specs.Words.{words_evidence_of}
-use Rattle.ct_files.specs.Cosets.{cosets_evidence_of}
-use Rattle.ct_files.specs.Build.{build_evidence_of}
+use Rattle.ct_fields.specs.Fields.{is_of_kind}
+use Rattle.ct_fields.specs.Document.{table_of}
+use Rattle.ct_word_files.specs.Words.{words_evidence_of}
+use Rattle.ct_word_files.specs.Cosets.{cosets_evidence_of}
+use Rattle.ct_build_files.specs.Build.{build_evidence_of}
 use Rattle.ct_files.specs.Evidence.{evidence_of, read_without_limit, read_of}
-use Rattle.ct_files.specs.Tables.{IsDocument, IsOfKind}
-use Rattle.ct_files.specs.WordsDocument.{StatesWords, IsWordsAnswer, AcceptsWords}
-use Rattle.ct_files.specs.CosetsDocument.{StatesCosets, IsCosetsAnswer, AcceptsCosets}
-use Rattle.ct_files.specs.BuildDocument.{StatesBuild, AcceptsBuild, IsBuildFault}
-use Rattle.ct_files.specs.declared.evidence.TheConstants.{MAX_DOCUMENT}
-use Rattle.ct_files.specs.declared.evidence.Evidence.{Evidence}
-use Rattle.ct_files.specs.declared.evidence.Evidence.TheVariants as evidence
-use Rattle.ct_files.specs.declared.fault.FileFault.{FileFault}
-use Rattle.ct_files.specs.declared.fault.FileFault.TheVariants.{Bytes, NotToml, Kind}
-use Rattle.ct_files.proofs.FieldLemmas.{is_of_kind-true, is_of_kind-from}
-use Rattle.ct_files.proofs.WordsAnswers.{words_answer, words_answer-from, words_answers}
-use Rattle.ct_files.proofs.CosetsAnswers.{cosets_answer, cosets_answer-from, cosets_answers}
-use Rattle.ct_files.proofs.BuildAnswers.{IsBuildAnswer, build_answer, build_answer-from}
+use Rattle.ct_fields.specs.Tables.{IsDocument, IsOfKind}
+use Rattle.ct_word_files.specs.WordsDocument.{StatesWords, IsWordsAnswer, AcceptsWords}
+use Rattle.ct_word_files.specs.CosetsDocument.{StatesCosets, IsCosetsAnswer, AcceptsCosets}
+use Rattle.ct_build_files.specs.BuildDocument.{StatesBuild, AcceptsBuild, IsBuildFault}
+use Rattle.ct_fields.specs.declared.document.TheConstants.{MAX_DOCUMENT}
+use Rattle.ct_evidence.specs.declared.evidence.Evidence.{Evidence}
+use Rattle.ct_evidence.specs.declared.evidence.Evidence.TheVariants as evidence
+use Rattle.ct_fields.specs.declared.fault.FileFault.{FileFault}
+use Rattle.ct_fields.specs.declared.fault.FileFault.TheVariants.{Bytes, NotToml, Kind}
+use Rattle.ct_fields.proofs.FieldLemmas.{is_of_kind-true, is_of_kind-from}
+use Rattle.ct_word_files.proofs.WordsAnswers.{words_answer, words_answer-from, words_answers}
+use Rattle.ct_word_files.proofs.CosetsAnswers.{cosets_answer, cosets_answer-from, cosets_answers}
+use Rattle.ct_build_files.proofs.BuildAnswers.{IsBuildAnswer, build_answer, build_answer-from}
 
 -- what a document of kind words reads as is the evidence of words
 pub evidence_of-words : (document : Data) → IsOfKind (codes "words") document → evidence_of document ≡ words_evidence_of document

@@ -7,14 +7,14 @@ use Rattle.ct_build.specs.declared.step.Step.{Step}
 use Rattle.ct_codes.proofs.EntryLemmas.{WeightFits, entry_from_limits}
 use Rattle.toml.specs.Data.{Data}
 use Rattle.ct_files.specs.Evidence.{read_of, IsSound}
-use Rattle.ct_files.specs.StatesEntry.{HasWeight, StatesEntry}
-use Rattle.ct_files.specs.Operation.{needs_other}
-use Rattle.ct_files.specs.BuildDocument.{NamesOther}
-use Rattle.ct_files.specs.Inside.Reads.{Reads}
-use Rattle.ct_files.specs.declared.evidence.Evidence.{Evidence}
-use Rattle.ct_files.specs.declared.evidence.Evidence.TheVariants.{Words, Cosets, Build}
-use Rattle.ct_files.specs.declared.fault.FileFault.{FileFault}
-use Rattle.ct_files.specs.declared.fault.FileFault.TheVariants.{Memory}
+use Rattle.ct_fields.specs.StatesEntry.{HasWeight, StatesEntry}
+use Rattle.ct_build_files.specs.Operation.{needs_other}
+use Rattle.ct_build_files.specs.BuildDocument.{NamesOther}
+use Rattle.ct_fields.specs.Reads.{Reads}
+use Rattle.ct_evidence.specs.declared.evidence.Evidence.{Evidence}
+use Rattle.ct_evidence.specs.declared.evidence.Evidence.TheVariants.{Words, Cosets, Build}
+use Rattle.ct_fields.specs.declared.fault.FileFault.{FileFault}
+use Rattle.ct_fields.specs.declared.fault.FileFault.TheVariants.{Memory}
 use Rattle.ct_files.proofs.DocumentAnswers.{BytesAnswer, long, no_table, of_document, DocumentAnswer, words, cosets, build, of_no_kind, bytes_answer, accepted, accepted_cosets, accepted_build}
 
 -- a stated weight is one of the table beside the distance

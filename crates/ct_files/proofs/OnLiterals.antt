@@ -3,13 +3,14 @@ use Rattle.std.specs.Prelude.{⊤}
 use Rattle.std.specs.Str.{chars, is_utf8}
 use Rattle.toml.proofs.OnLiterals.{toml_on_literals}
 use Rattle.ct_words.specs.Text.{word_of}
-use Rattle.ct_files.specs.Document.{table_of}
-use Rattle.ct_files.specs.StatedEntry.{entry_of, plain_entry_of, build_entry_of}
-use Rattle.ct_files.specs.Words.{words_evidence_of}
-use Rattle.ct_files.specs.Cosets.{cosets_evidence_of}
-use Rattle.ct_files.specs.Operation.{operation_named}
-use Rattle.ct_files.specs.BuildFields.{digits_of, step_fields}
-use Rattle.ct_files.specs.Build.{build_evidence_of}
+use Rattle.ct_fields.specs.Document.{table_of}
+use Rattle.ct_fields.specs.StatedEntry.{entry_of, plain_entry_of}
+use Rattle.ct_build_files.specs.BuildEntry.{build_entry_of}
+use Rattle.ct_word_files.specs.Words.{words_evidence_of}
+use Rattle.ct_word_files.specs.Cosets.{cosets_evidence_of}
+use Rattle.ct_build_files.specs.Operation.{operation_named}
+use Rattle.ct_build_files.specs.BuildFields.{digits_of, step_fields}
+use Rattle.ct_build_files.specs.Build.{build_evidence_of}
 use Rattle.ct_files.specs.Evidence.{evidence_of, read_without_limit, read_of}
 
 unfoldable pub evidence_on_literals : ⊤

@@ -5,18 +5,18 @@ use Rattle.ct_words.specs.declared.limits.TheConstants.{MAX_N}
 use Rattle.ct_codes.specs.Entry.{IsEntry}
 use Rattle.ct_codes.specs.declared.fault.TheConstants.{MAX_WORDS, MAX_REPRESENTATIVES}
 use Rattle.ct_build.specs.Build.{FitsStated}
-use Rattle.ct_files.specs.Steps.{◌>>=◌, ◌>>◌, check}
-use Rattle.ct_files.specs.Fields.{is_of_kind}
-use Rattle.ct_files.specs.Words.{words_evidence_of}
-use Rattle.ct_files.specs.Cosets.{cosets_evidence_of}
-use Rattle.ct_files.specs.Operation.{needs_other}
-use Rattle.ct_files.specs.Build.{build_evidence_of}
-use Rattle.ct_files.specs.Document.{document_of}
-use Rattle.ct_files.specs.declared.evidence.TheConstants.{MAX_DOCUMENT}
-use Rattle.ct_files.specs.declared.evidence.Evidence.{Evidence}
-use Rattle.ct_files.specs.declared.evidence.Evidence.TheVariants.{Words, Cosets, Build}
-use Rattle.ct_files.specs.declared.fault.FileFault.{FileFault}
-use Rattle.ct_files.specs.declared.fault.FileFault.TheVariants.{Bytes, Kind}
+use Rattle.ct_fields.specs.Steps.{◌>>=◌, ◌>>◌, check}
+use Rattle.ct_fields.specs.Fields.{is_of_kind}
+use Rattle.ct_word_files.specs.Words.{words_evidence_of}
+use Rattle.ct_word_files.specs.Cosets.{cosets_evidence_of}
+use Rattle.ct_build_files.specs.Operation.{needs_other}
+use Rattle.ct_build_files.specs.Build.{build_evidence_of}
+use Rattle.ct_fields.specs.Document.{document_of}
+use Rattle.ct_fields.specs.declared.document.TheConstants.{MAX_DOCUMENT}
+use Rattle.ct_evidence.specs.declared.evidence.Evidence.{Evidence}
+use Rattle.ct_evidence.specs.declared.evidence.Evidence.TheVariants.{Words, Cosets, Build}
+use Rattle.ct_fields.specs.declared.fault.FileFault.{FileFault}
+use Rattle.ct_fields.specs.declared.fault.FileFault.TheVariants.{Bytes, Kind}
 
 -- the evidence of a document by its kind
 unfoldable pub evidence_of : Data → Result Evidence FileFault

@@ -1,8 +1,8 @@
 -- Worked documents.
 use Rattle.std.specs.Prelude.{ℕ, List, [], ◌∷◌, ◌++◌, codes}
 use Rattle.ct_codes.specs.Entry.{unrestricted}
-use Rattle.ct_files.specs.declared.evidence.Evidence.{Evidence}
-use Rattle.ct_files.specs.declared.evidence.Evidence.TheVariants.{Words}
+use Rattle.ct_evidence.specs.declared.evidence.Evidence.{Evidence}
+use Rattle.ct_evidence.specs.declared.evidence.Evidence.TheVariants.{Words}
 
 -- a document of kind words, with these texts at n, d and words, and more after it
 abbrev pub words_document : List ℕ → List ℕ → List ℕ → List ℕ → List ℕ

@@ -1,4 +1,2 @@
--- Words that the contracts of inner functions, and the types themselves, alone cite.
-pub mod Reads
-pub mod WrittenBuild
+-- Words that the contracts of inner functions alone cite.
 pub mod Written

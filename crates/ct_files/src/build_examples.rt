@@ -2,9 +2,9 @@
 ghost use Rattle.std.specs.Prelude.{◌≡◌, [], ◌∷◌, Some, None, Ok, Err, codes};
 ghost use Rattle.ct_build.specs.declared.step.Step.TheVariants.{Lengthen, AppendOne, Parity, Puncture, Shorten, Translate, Complement, Select, Uuv, Juxtapose, Trim};
 ghost use Rattle.ct_codes.specs.Entry.{unrestricted, constant_weight};
-ghost use Rattle.ct_files.specs.declared.evidence.Evidence.TheVariants.{Build};
-ghost use Rattle.ct_files.specs.declared.field.FieldName.TheVariants as name;
-ghost use Rattle.ct_files.specs.declared.fault.FileFault.TheVariants.{Field, Unknown, Digits};
+ghost use Rattle.ct_evidence.specs.declared.evidence.Evidence.TheVariants.{Build};
+ghost use Rattle.ct_fields.specs.declared.field.FieldName.TheVariants as name;
+ghost use Rattle.ct_fields.specs.declared.fault.FileFault.TheVariants.{Field, Unknown, Digits};
 ghost use Rattle.ct_files.specs.Evidence.{read_of};
 ghost use Rattle.ct_files.specs.Examples.{build_document};
 

@@ -1,9 +1,9 @@
 //! Worked documents: what their bytes read as.
 ghost use Rattle.std.specs.Prelude.{◌≡◌, ℕ, List, ◌++◌, [], ◌∷◌, length, Ok, Err, codes};
 ghost use Rattle.ct_codes.specs.Entry.{unrestricted, constant_weight};
-ghost use Rattle.ct_files.specs.declared.evidence.Evidence.TheVariants.{Words, Cosets};
-ghost use Rattle.ct_files.specs.declared.field.FieldName.TheVariants as name;
-ghost use Rattle.ct_files.specs.declared.fault.FileFault.TheVariants.{Bytes, NotToml, Kind, Field, Unknown, Digits, Size};
+ghost use Rattle.ct_evidence.specs.declared.evidence.Evidence.TheVariants.{Words, Cosets};
+ghost use Rattle.ct_fields.specs.declared.field.FieldName.TheVariants as name;
+ghost use Rattle.ct_fields.specs.declared.fault.FileFault.TheVariants.{Bytes, NotToml, Kind, Field, Unknown, Digits, Size};
 ghost use Rattle.ct_files.specs.Evidence.{read_of};
 ghost use Rattle.ct_files.specs.Examples.{words_document, cosets_document, two_words, two_words_evidence};
 

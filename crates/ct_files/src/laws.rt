@@ -3,16 +3,16 @@ ghost use Rattle.std.specs.Prelude.{◌≡◌, ◌↔◌, ℕ, ◌<◌, ◌≤�
 ghost use Rattle.toml.specs.Data.{Data};
 ghost use Rattle.ct_build.specs.declared.step.Step.{Step};
 ghost use Rattle.ct_codes.specs.declared.entry.Entry.{Entry};
-ghost use Rattle.ct_files.specs.declared.evidence.TheConstants.{MAX_DOCUMENT};
-ghost use Rattle.ct_files.specs.declared.evidence.Evidence.{Evidence};
-ghost use Rattle.ct_files.specs.declared.evidence.Evidence.TheVariants.{Words, Cosets, Build};
-ghost use Rattle.ct_files.specs.declared.fault.FileFault.{FileFault};
-ghost use Rattle.ct_files.specs.declared.fault.FileFault.TheVariants.{Bytes, NotToml, Kind};
+ghost use Rattle.ct_fields.specs.declared.document.TheConstants.{MAX_DOCUMENT};
+ghost use Rattle.ct_evidence.specs.declared.evidence.Evidence.{Evidence};
+ghost use Rattle.ct_evidence.specs.declared.evidence.Evidence.TheVariants.{Words, Cosets, Build};
+ghost use Rattle.ct_fields.specs.declared.fault.FileFault.{FileFault};
+ghost use Rattle.ct_fields.specs.declared.fault.FileFault.TheVariants.{Bytes, NotToml, Kind};
 ghost use Rattle.ct_files.specs.Evidence.{read_of};
-ghost use Rattle.ct_files.specs.Tables.{IsDocument, IsOfKind};
-ghost use Rattle.ct_files.specs.WordsDocument.{IsWordsAnswer, AcceptsWords};
-ghost use Rattle.ct_files.specs.CosetsDocument.{IsCosetsAnswer, AcceptsCosets};
-ghost use Rattle.ct_files.specs.BuildDocument.{AcceptsBuild, IsBuildFault};
+ghost use Rattle.ct_fields.specs.Tables.{IsDocument, IsOfKind};
+ghost use Rattle.ct_word_files.specs.WordsDocument.{IsWordsAnswer, AcceptsWords};
+ghost use Rattle.ct_word_files.specs.CosetsDocument.{IsCosetsAnswer, AcceptsCosets};
+ghost use Rattle.ct_build_files.specs.BuildDocument.{AcceptsBuild, IsBuildFault};
 
 /// Bytes are accepted as these words for this entry exactly where they are at most `MAX_DOCUMENT`, are UTF-8 and write
 /// by the grammar of TOML 1.1 a table of kind `words` that has n, d and, where there is one, w of the entry, each in its

@@ -1,15 +1,13 @@
 //! The evidence of a document.
 ghost use Rattle.std.specs.Prelude.{◌≡◌, ◌≢◌, Ok, Err, IfOk, IfErr};
 ghost use Rattle.toml.specs.View.{view};
-ghost use Rattle.ct_files.specs.Inside.Reads.{Reads};
+ghost use Rattle.ct_fields.specs.Reads.{Reads};
 ghost use Rattle.ct_files.specs.Evidence.{IsSound, evidence_of, read_without_limit, read_of};
 
-use crate::build::build_evidence;
-use crate::cosets::cosets_evidence;
-use crate::document::{is_of_kind, read_document};
-use crate::evidence::{Evidence, MAX_DOCUMENT};
-use crate::fault::FileFault;
-use crate::words::words_evidence;
+use ct_build_files::build_evidence;
+use ct_evidence::Evidence;
+use ct_fields::{FileFault, MAX_DOCUMENT, is_of_kind, read_document};
+use ct_word_files::{cosets_evidence, words_evidence};
 use std::alloc::Global;
 use toml::Value;
 

@@ -14,11 +14,11 @@ use Rattle.ct_lines.specs.Lines.{lines_of}
 use Rattle.ct_lines.proofs.LinesLemmas.{is_feed, lines_of-next}
 use Rattle.ct_text.specs.declared.gathering.Extent.TheVariants.{Lines}
 use Rattle.ct_files.specs.Evidence.{read_of, read_without_limit}
-use Rattle.ct_files.specs.Steps.{check}
-use Rattle.ct_files.specs.declared.evidence.Evidence.{Evidence}
-use Rattle.ct_files.specs.declared.evidence.TheConstants.{MAX_DOCUMENT}
-use Rattle.ct_files.specs.declared.fault.FileFault.TheVariants.{Bytes}
-use Rattle.ct_files.proofs.StepLemmas.{bind-ok, check-ok}
+use Rattle.ct_fields.specs.Steps.{check}
+use Rattle.ct_evidence.specs.declared.evidence.Evidence.{Evidence}
+use Rattle.ct_fields.specs.declared.document.TheConstants.{MAX_DOCUMENT}
+use Rattle.ct_fields.specs.declared.fault.FileFault.TheVariants.{Bytes}
+use Rattle.ct_fields.proofs.StepLemmas.{bind-ok, check-ok}
 use Rattle.ct_commands.specs.Command.{commands_of}
 use Rattle.ct_commands.specs.declared.form.Form.TheVariants.{Submit}
 use Rattle.ct_commands.specs.declared.command.Command.{Command}

@@ -10,8 +10,8 @@ use Rattle.ct_codes.specs.Pairs.{first_of}
 use Rattle.ct_codes.proofs.CheckLemmas.{first_of-None, no_fault_of_code}
 use Rattle.ct_codes.proofs.CosetLemmas.{no_fault_of_cosets}
 use Rattle.ct_build.specs.declared.step.Step.{Step}
-use Rattle.ct_files.specs.declared.evidence.Evidence.{Evidence}
-use Rattle.ct_files.specs.declared.evidence.Evidence.TheVariants.{Words, Cosets, Build}
+use Rattle.ct_evidence.specs.declared.evidence.Evidence.{Evidence}
+use Rattle.ct_evidence.specs.declared.evidence.Evidence.TheVariants.{Words, Cosets, Build}
 use Rattle.ct_files.specs.Evidence.{read_of, IsSound}
 use Rattle.ct_files.proofs.Evidences.{read_of-sound}
 use Rattle.ct_ledger.specs.Piece.{PieceValue, has_id, stated_entry, parts_of}

@@ -8,8 +8,8 @@ use Rattle.ct_codes.specs.declared.entry.Entry.{Entry}
 use Rattle.ct_codes.specs.Code.{CodeValue}
 use Rattle.ct_codes.specs.Pairs.{first_of}
 use Rattle.ct_build.specs.declared.step.Step.{Step}
-use Rattle.ct_files.specs.declared.evidence.Evidence.{Evidence}
-use Rattle.ct_files.specs.declared.evidence.Evidence.TheVariants.{Words, Cosets, Build}
+use Rattle.ct_evidence.specs.declared.evidence.Evidence.{Evidence}
+use Rattle.ct_evidence.specs.declared.evidence.Evidence.TheVariants.{Words, Cosets, Build}
 use Rattle.ct_ledger.specs.Piece.{PieceValue, stated_entry, names, first_user}
 use Rattle.ct_ledger.specs.Codes.{NamedCode, code_named, built_over, words_over, code_at, named_code}
 use Rattle.ct_ledger.specs.Submission.{unless_known, build_reason, evidence_reason, made_unless, piece_from}

@@ -16,9 +16,9 @@ use Rattle.ct_build.specs.Build.{FitsStated, build_fault}
 use Rattle.ct_build.proofs.StepLemmas.{ready}
 use Rattle.ct_build.proofs.BuiltCodes.{built_code}
 use Rattle.ct_build.proofs.BuildFaults.{early_none, built-size}
-use Rattle.ct_files.specs.declared.evidence.Evidence.{Evidence}
-use Rattle.ct_files.specs.declared.evidence.Evidence.TheVariants.{Words, Cosets, Build}
-use Rattle.ct_files.specs.declared.fault.FileFault.{FileFault}
+use Rattle.ct_evidence.specs.declared.evidence.Evidence.{Evidence}
+use Rattle.ct_evidence.specs.declared.evidence.Evidence.TheVariants.{Words, Cosets, Build}
+use Rattle.ct_fields.specs.declared.fault.FileFault.{FileFault}
 use Rattle.ct_files.specs.Evidence.{read_of, IsSound}
 use Rattle.ct_files.proofs.Evidences.{read_of-sound}
 use Rattle.ct_ledger.specs.Piece.{PieceValue, stated_entry}

@@ -11,9 +11,9 @@ use Rattle.ct_build.specs.declared.fault.BuildFault.{BuildFault}
 use Rattle.ct_build.specs.declared.fault.BuildFault.TheVariants as build
 use Rattle.ct_build.specs.declared.step.Step.{Step}
 use Rattle.ct_build.specs.Build.{build_fault}
-use Rattle.ct_files.specs.declared.evidence.Evidence.{Evidence}
-use Rattle.ct_files.specs.declared.evidence.Evidence.TheVariants.{Words, Cosets, Build}
-use Rattle.ct_files.specs.declared.fault.FileFault.{FileFault}
+use Rattle.ct_evidence.specs.declared.evidence.Evidence.{Evidence}
+use Rattle.ct_evidence.specs.declared.evidence.Evidence.TheVariants.{Words, Cosets, Build}
+use Rattle.ct_fields.specs.declared.fault.FileFault.{FileFault}
 use Rattle.ct_files.specs.Evidence.{read_of}
 use Rattle.ct_ledger.specs.Piece.{PieceValue, has_id, stated_entry, parts_of, stored_by, stored_words}
 use Rattle.ct_ledger.specs.Codes.{NamedCode, code_named, other_named, words_over, codes_of}

@@ -12,8 +12,8 @@ use Rattle.ct_codes.specs.Check.{code_fault}
 use Rattle.ct_codes.specs.declared.fault.CodeFault.TheVariants as fault
 use Rattle.ct_codes.specs.declared.entry.Entry.{Entry}
 use Rattle.ct_files.proofs.OnLiterals.{evidence_on_literals}
-use Rattle.ct_files.specs.declared.evidence.Evidence.TheVariants.{Words, Cosets}
-use Rattle.ct_files.specs.declared.fault.FileFault.TheVariants as file
+use Rattle.ct_evidence.specs.declared.evidence.Evidence.TheVariants.{Words, Cosets}
+use Rattle.ct_fields.specs.declared.fault.FileFault.TheVariants as file
 use Rattle.ct_commands.specs.Form.{form_of}
 use Rattle.ct_ledger.specs.Piece.{PieceValue}
 use Rattle.ct_ledger.specs.Submission.{submitted}

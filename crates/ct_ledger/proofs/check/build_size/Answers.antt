@@ -1,7 +1,7 @@
 use Rattle.std.proofs.Common.{ap, ◌∙◌, length}
 use Rattle.std.proofs.lemmas.List.Sorted.{length_permutation}
 use Rattle.ct_codes.specs.Code.{CodeValue}
-use Rattle.ct_files.specs.declared.evidence.Evidence.TheVariants.{Build}
+use Rattle.ct_evidence.specs.declared.evidence.Evidence.TheVariants.{Build}
 use Rattle.ct_ledger.specs.Ascending.{ascending}
 use Rattle.ct_ledger.specs.Codes.{codes_of, words_over}
 use Rattle.ct_ledger.proofs.AscendingLemmas.{ascending-moved}

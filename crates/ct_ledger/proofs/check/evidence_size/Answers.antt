@@ -1,6 +1,6 @@
 use Rattle.std.proofs.Common.{List, Option, subst, sym}
 use Rattle.ct_codes.specs.Code.{CodeValue}
-use Rattle.ct_files.specs.declared.evidence.Evidence.{Evidence}
+use Rattle.ct_evidence.specs.declared.evidence.Evidence.{Evidence}
 use Rattle.ct_ledger.specs.Piece.{parts_of}
 use Rattle.ct_ledger.specs.Inside.Needed.{AreKnown}
 use Rattle.ct_ledger.proofs.check.evidence_size.Goals as goal

@@ -1,5 +1,5 @@
 use Rattle.std.proofs.Common.{subst}
-use Rattle.ct_files.specs.declared.evidence.Evidence.{Evidence}
+use Rattle.ct_evidence.specs.declared.evidence.Evidence.{Evidence}
 use Rattle.ct_ledger.specs.Piece.{parts_of}
 use Rattle.ct_ledger.specs.Inside.Needed.{AreKnown}
 use Rattle.ct_ledger.proofs.NeededLemmas.{known-part, known-other}

@@ -1,6 +1,6 @@
 use Rattle.std.proofs.Common.{Bool, None, cond, length, take, ap, subst, sym, refl, ◌∙◌}
 use Rattle.std.proofs.lemmas.Option.{slice_get_read}
-use Rattle.ct_files.specs.declared.evidence.Evidence.{Evidence}
+use Rattle.ct_evidence.specs.declared.evidence.Evidence.{Evidence}
 use Rattle.ct_ledger.specs.Piece.{parts_of}
 use Rattle.ct_ledger.specs.Codes.{codes_of, code_over, code_of_place}
 use Rattle.ct_ledger.specs.Inside.Needed.{AreKnown}

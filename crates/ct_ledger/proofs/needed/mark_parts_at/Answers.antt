@@ -1,7 +1,7 @@
 use Rattle.std.proofs.Common.{◌∙◌, List, Bool, take, ap, sym, subst}
 use Rattle.std.proofs.lemmas.Option.{slice_get_read}
 use Rattle.std.proofs.Common.{refl}
-use Rattle.ct_files.specs.declared.evidence.Evidence.{Evidence}
+use Rattle.ct_evidence.specs.declared.evidence.Evidence.{Evidence}
 use Rattle.ct_ledger.specs.Piece.{parts_of}
 use Rattle.ct_ledger.specs.Inside.Needed.{with_marks, AddsParts}
 use Rattle.ct_ledger.proofs.NeededLemmas.{AddsParts-unmarked, AddsParts-marked}

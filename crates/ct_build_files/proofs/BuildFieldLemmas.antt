@@ -1,0 +1,252 @@
+-- What the own fields of a build are, where they are read.
+use Rattle.std.proofs.Common.{◌≡◌, ℕ, zero, suc, ◌+◌, ◌-◌, ◌<◌, ◌≤◌, get_or, true, ◌&&◌, ◌==◌, nat_le, nat_lt, pos, List, [], ◌∷◌, length, map, All, IsTrue, Some, Ok, inl, inr, refl, ap, ◌∙◌, subst, le-leb, eq-eqb, eqb-true, arith}
+use Rattle.std.specs.List.{list_all}
+use Rattle.std.specs.List.Sorted.{IsStrictlyIncreasing}
+use Rattle.std.specs.Str.{bytes_eq}
+use Rattle.std.proofs.lemmas.Bool.{and_parts, and_from, cases_Bool, leb-true, ltb-true, lt-ltb}
+use Rattle.std.proofs.lemmas.List.Elements.{All-nil, All-cons, All-head, All-tail}
+use Rattle.std.proofs.lemmas.Option.{option_and_then_some, cond_some}
+use Rattle.toml.specs.Data.{Data, string, integer, float, boolean, datetime, array, table, Items, no_items, item, get, as_str}
+use Rattle.toml.specs.View.{items_of}
+use Rattle.ct_words.specs.declared.limits.TheConstants.{MAX_N}
+use Rattle.ct_words.specs.Text.{is_binary_digit}
+use Rattle.ct_text.specs.Id.{is_id}
+use Rattle.ct_constructions.specs.Places.{ArePlaces}
+use Rattle.ct_fields.specs.Field.{field_text}
+use Rattle.ct_fields.specs.Fields.{field, number_in}
+use Rattle.ct_build_files.specs.Operation.{operation_text, operations, named_among, operation_named}
+use Rattle.ct_build_files.specs.BuildFields.{operation_in, operation_field, numbers_of, ascend, are_left_out, places_in, digits_of, id_in, id_field}
+use Rattle.ct_build_files.specs.BuildDocument.{HasText, HasNumbers, HasId}
+use Rattle.ct_fields.specs.declared.field.FieldName.{FieldName}
+use Rattle.ct_fields.specs.declared.field.FieldName.TheVariants as name
+use Rattle.ct_build_files.specs.declared.operation.Operation.{Operation}
+use Rattle.ct_build_files.specs.declared.operation.Operation.TheVariants.{Lengthen, AppendOne, Parity, Puncture, Shorten, Translate, Complement, Select, Uuv, Juxtapose, Trim}
+use Rattle.ct_fields.specs.declared.fault.FileFault.TheVariants.{Field}
+use Rattle.ct_fields.proofs.StepLemmas.{ok_or-ok}
+use Rattle.ct_fields.proofs.FieldLemmas.{bytes_eq-true, number_in-some}
+
+-- a value that is a text
+as_str-some : (d : Data) (text : List ℕ) → as_str d ≡ Some text → d ≡ string text
+as_str-some (string s) text e = let same : s ≡ text = cc in ap string same
+as_str-some (integer z) text e = absurd cc
+as_str-some (float x) text e = absurd cc
+as_str-some (boolean b) text e = absurd cc
+as_str-some (datetime t) text e = absurd cc
+as_str-some (array ds) text e = absurd cc
+as_str-some (table ms) text e = absurd cc
+
+-- a text is read exactly where the field is one
+pub text_field-ok : (name : FieldName) (document : Data) (text : List ℕ) → field as_str name document ≡ Ok text → HasText name document text
+text_field-ok name document text e =
+    option_and_then_some as_str (get (field_text name) document) text (ok_or-ok _ (Field name) text e) (λ d found h. found ∙ ap Some (as_str-some d text h))
+
+pub text_field-from : (name : FieldName) (document : Data) (text : List ℕ) → HasText name document text
+    → field as_str name document ≡ Ok text
+text_field-from name document text h = rw h refl
+
+-- an operation that is found has the text
+named_among-some : (os : List Operation) (text : List ℕ) (o : Operation) → named_among os text ≡ Some o → text ≡ operation_text o
+named_among-some [] text o e = absurd cc
+named_among-some (p ∷ os) text o e =
+    elim (cases_Bool (bytes_eq text (operation_text p))) [
+      | inl here ↦ let found : Some p ≡ Some o = rw here at e in let same : p ≡ o = cc in bytes_eq-true text (operation_text p) here ∙ ap operation_text same
+      | inr other ↦ named_among-some os text o (rw other at e)
+    ]
+
+-- the text of each operation finds it
+pub operation_named-text : (o : Operation) → operation_named (operation_text o) ≡ Some o
+unfolding operation_named
+operation_named-text Lengthen = refl
+operation_named-text AppendOne = refl
+operation_named-text Parity = refl
+operation_named-text Puncture = refl
+operation_named-text Shorten = refl
+operation_named-text Translate = refl
+operation_named-text Complement = refl
+operation_named-text Select = refl
+operation_named-text Uuv = refl
+operation_named-text Juxtapose = refl
+operation_named-text Trim = refl
+
+operation_in-some : (d : Data) (o : Operation) → operation_in d ≡ Some o → d ≡ string (operation_text o)
+unfolding operation_named
+operation_in-some d o e =
+    option_and_then_some operation_named (as_str d) o e (λ text is named.
+    as_str-some d text is ∙ ap string (named_among-some operations text o named))
+
+-- an operation is read exactly where the field is its text
+pub operation_field-ok : (document : Data) (o : Operation) → operation_field document ≡ Ok o → HasText name.Op document (operation_text o)
+operation_field-ok document o e =
+    option_and_then_some operation_in (get (field_text name.Op) document) o (ok_or-ok _ (Field name.Op) o e) (λ d found h. found ∙ ap Some (operation_in-some d o h))
+
+pub operation_field-from : (document : Data) (o : Operation) → HasText name.Op document (operation_text o) → operation_field document ≡ Ok o
+operation_field-from document o h = rw (h, operation_named-text o) refl
+
+-- an id is read exactly where the field is one
+id_in-some : (d : Data) (id : List ℕ) → id_in d ≡ Some id → (d ≡ string id) × IsTrue (is_id id)
+id_in-some d id e =
+    option_and_then_some _ (as_str d) id e (λ text is named.
+    let (test, same) = cond_some (is_id text) text id named in
+    (as_str-some d text is ∙ ap string same, subst (λ t. IsTrue (is_id t)) same test))
+
+pub id_field-ok : (name : FieldName) (document : Data) (id : List ℕ) → id_field name document ≡ Ok id → HasId name document id
+id_field-ok name document id e =
+    option_and_then_some id_in (get (field_text name) document) id (ok_or-ok _ (Field name) id e) (λ d found h.
+    let (is, named) = id_in-some d id h in (found ∙ ap Some is, named))
+
+pub id_field-from : (name : FieldName) (document : Data) (id : List ℕ) → HasId name document id → id_field name document ≡ Ok id
+id_field-from name document id (text, named) = rw (text, named) refl
+
+-- numbers that are read are the items
+numbers_of-some : (ds : Items) (ks : List ℕ) → numbers_of ds ≡ Some ks → ds ≡ items_of (map (λ k. integer (pos k)) ks)
+numbers_of-some no_items ks e = let same : [] ≡ ks = cc in rw (← same) refl
+numbers_of-some (item d ds) ks e =
+    option_and_then_some _ (number_in 0 MAX_N d) ks e (λ k k-is next.
+    option_and_then_some _ (numbers_of ds) ks next (λ more more-are last.
+    let same : k ∷ more ≡ ks = cc in
+    let (d-is, above, below) = number_in-some 0 MAX_N d k k-is in
+    rw (← same) (λ i. item (d-is i) (numbers_of-some ds more more-are i))))
+
+-- small numbers are read from the items that they are
+numbers_of-items : (ks : List ℕ) → All (λ k. k ≤ MAX_N) ks → numbers_of (items_of (map (λ k. integer (pos k)) ks)) ≡ Some ks
+numbers_of-items [] small = refl
+numbers_of-items (k ∷ ks) small =
+    rw (le-leb 0 k (omega arith), le-leb k MAX_N (All-head (λ j. j ≤ MAX_N) k ks small), numbers_of-items ks (All-tail (λ j. j ≤ MAX_N) k ks small)) refl
+
+-- numbers that pass the test are below the limit and ascend
+ascend-within : (low high : ℕ) (ks : List ℕ) → ascend low high ks ≡ true → All (λ k. k < high) ks
+ascend-within low high [] e = All-nil (λ k. k < high)
+ascend-within low high (k ∷ ks) e =
+    let (front, rest) = and_parts (nat_le low k && nat_lt k high) (ascend (suc k) high ks) e in
+    All-cons (λ j. j < high) k ks (ltb-true k high (and_parts (nat_le low k) (nat_lt k high) front).1) (ascend-within (suc k) high ks rest)
+
+ascend-increasing : (low high : ℕ) (ks : List ℕ) → ascend low high ks ≡ true → IsStrictlyIncreasing ks
+ascend-increasing low high [] e = λ i within. absurd (omega arith)
+ascend-increasing low high (k ∷ []) e = λ i within. absurd (omega arith)
+ascend-increasing low high (k ∷ j ∷ js) e = at (ascend-increasing (suc k) high (j ∷ js) rest) where
+  rest : ascend (suc k) high (j ∷ js) ≡ true
+  rest = (and_parts (nat_le low k && nat_lt k high) (ascend (suc k) high (j ∷ js)) e).1
+
+  above : k < j
+  above =
+      let front = (and_parts (nat_le (suc k) j && nat_lt j high) (ascend (suc j) high js) rest).0 in
+      let far = leb-true (suc k) j (and_parts (nat_le (suc k) j) (nat_lt j high) front).0 in
+      omega arith
+
+  at : IsStrictlyIncreasing (j ∷ js) → (i : ℕ) → i + 1 < length (k ∷ j ∷ js) → get_or (k ∷ j ∷ js) i 0 < get_or (k ∷ j ∷ js) (i + 1) 0
+  at later zero within = above
+  at later (suc i) within =
+      let step : suc (i + 1) ≡ suc i + 1 = omega arith in
+      subst (λ m. get_or (j ∷ js) i 0 < get_or (k ∷ j ∷ js) m 0) step (later i (omega arith))
+
+-- numbers that ascend below the limit pass the test
+ascend-from : (low high : ℕ) (ks : List ℕ) → (0 < length ks → low ≤ get_or ks 0 0) → IsStrictlyIncreasing ks → All (λ k. k < high) ks
+    → ascend low high ks ≡ true
+ascend-from low high [] least rises below = refl
+ascend-from low high (k ∷ ks) least rises below =
+    let first : low ≤ k = least (omega arith) in
+    let rest = ascend-from (suc k) high ks
+    (λ some. let up = rises 0 (omega arith) in up)
+    (λ i within.
+    let step : suc i + 1 ≡ suc (i + 1) = omega arith in
+    subst (λ m. get_or (k ∷ ks) (suc i) 0 < get_or (k ∷ ks) m 0) step (rises (suc i) (omega arith)))
+    (All-tail (λ j. j < high) k ks below) in
+    rw (le-leb low k first, lt-ltb k high (All-head (λ j. j < high) k ks below)) rest
+
+-- the test of places is passed exactly by places that can be left out
+pub left_out-true : (n : ℕ) (places : List ℕ) → are_left_out n places ≡ true
+    → (1 ≤ length places) × ArePlaces (n + length places) places × (n + length places ≤ MAX_N)
+left_out-true n places e =
+    let (front, ascending) = and_parts (nat_le 1 (length places) && nat_le (n + length places) MAX_N) (ascend 0 (n + length places) places) e in
+    let (some, few) = and_parts (nat_le 1 (length places)) (nat_le (n + length places) MAX_N) front in (
+      leb-true 1 (length places) some,
+      record { ascending = ascend-increasing 0 (n + length places) places ascending; within = ascend-within 0 (n + length places) places ascending },
+      leb-true (n + length places) MAX_N few,
+    )
+
+left_out-from : (n : ℕ) (places : List ℕ) → 1 ≤ length places → ArePlaces (n + length places) places → n + length places ≤ MAX_N
+    → are_left_out n places ≡ true
+left_out-from n places some are few =
+    rw (le-leb 1 (length places) some, le-leb (n + length places) MAX_N few)
+    (ascend-from 0 (n + length places) places (λ h. omega arith) are.ascending are.within)
+
+-- places are read exactly where the field is the list of them
+places_in-some : (n : ℕ) (d : Data) (places : List ℕ) → places_in n d ≡ Some places
+    → (d ≡ array (items_of (map (λ k. integer (pos k)) places))) × (are_left_out n places ≡ true)
+places_in-some n (array ds) places e =
+    option_and_then_some _ (numbers_of ds) places e (λ ks ks-are next.
+    let (test, same) = cond_some (are_left_out n ks) ks places next in
+    (ap array (numbers_of-some ds ks ks-are) ∙ ap (λ (ps : List ℕ). array (items_of (map (λ k. integer (pos k)) ps))) same, subst (λ ps. are_left_out n ps ≡ true) same test))
+places_in-some n (string s) places e = absurd cc
+places_in-some n (integer z) places e = absurd cc
+places_in-some n (float x) places e = absurd cc
+places_in-some n (boolean b) places e = absurd cc
+places_in-some n (datetime t) places e = absurd cc
+places_in-some n (table ms) places e = absurd cc
+
+pub places_field-ok : (n : ℕ) (document : Data) (places : List ℕ) → field (places_in n) name.Places document ≡ Ok places
+    → HasNumbers name.Places document places × (are_left_out n places ≡ true)
+places_field-ok n document places e =
+    option_and_then_some (places_in n) (get (field_text name.Places) document) places (ok_or-ok _ (Field name.Places) places e) (λ d found h.
+    let (is, passes) = places_in-some n d places h in (found ∙ ap Some is, passes))
+
+-- places below a limit are no greater than it
+places_small : (m : ℕ) (places : List ℕ) → m ≤ MAX_N → All (λ p. p < m) places → All (λ p. p ≤ MAX_N) places
+places_small m [] room within = All-nil (λ p. p ≤ MAX_N)
+places_small m (p ∷ ps) room within =
+    let first = All-head (λ q. q < m) p ps within in
+    All-cons (λ q. q ≤ MAX_N) p ps (omega arith) (places_small m ps room (All-tail (λ q. q < m) p ps within))
+
+pub places_field-from : (n : ℕ) (document : Data) (places : List ℕ) → HasNumbers name.Places document places
+    → 1 ≤ length places → ArePlaces (n + length places) places → n + length places ≤ MAX_N → field (places_in n) name.Places document ≡ Ok places
+places_field-from n document places h some are few =
+    rw (h, numbers_of-items places (places_small (n + length places) places few are.within), left_out-from n places some are few) refl
+
+-- a binary digit is a digit's character
+digit-character : (b : ℕ) → is_binary_digit b ≡ true → (b ≡ 48 + (b - 48)) × (b - 48 < 2)
+digit-character b h =
+    elim (cases_Bool (b == 48)) [
+      | inl none ↦ let is = eqb-true b 48 none in (omega arith, omega arith)
+      | inr other ↦ let is = eqb-true b 49 (rw other at h) in (omega arith, omega arith)
+    ]
+
+digits-characters : (text : List ℕ) → list_all is_binary_digit text ≡ true
+    → (text ≡ map (λ a. 48 + a) (map (λ (b : ℕ). b - 48) text)) × (length (map (λ (b : ℕ). b - 48) text) ≡ length text) × All (λ a. a < 2) (map (λ (b : ℕ). b - 48) text)
+digits-characters [] h = (refl, refl, All-nil (λ a. a < 2))
+digits-characters (b ∷ bs) h =
+    let (first, rest) = and_parts (is_binary_digit b) (list_all is_binary_digit bs) h in
+    let (is, small) = digit-character b first in
+    let (are, long, others) = digits-characters bs rest in
+    (λ i. is i ∷ are i, ap suc long, All-cons (λ a. a < 2) (b - 48) (map (λ (c : ℕ). c - 48) bs) small others)
+
+-- digits are read exactly from their text
+pub digits_of-some : (count : ℕ) (text digits : List ℕ) → digits_of count text ≡ Some digits
+    → (text ≡ map (λ a. 48 + a) digits) × (length digits ≡ count) × All (λ a. a < 2) digits
+unfolding digits_of
+digits_of-some count text digits e =
+    let (test, same) = cond_some (length text == count && list_all is_binary_digit text) (map (λ (b : ℕ). b - 48) text) digits e in
+    let (long, binary) = and_parts (length text == count) (list_all is_binary_digit text) test in
+    let (are, kept, small) = digits-characters text binary in
+    subst (λ (ds : List ℕ). (text ≡ map (λ a. 48 + a) ds) × (length ds ≡ count) × All (λ a. a < 2) ds) same
+    (are, kept ∙ eqb-true (length text) count long, small)
+
+characters-digits : (digits : List ℕ) → All (λ a. a < 2) digits
+    → (list_all is_binary_digit (map (λ a. 48 + a) digits) ≡ true) × (map (λ (b : ℕ). b - 48) (map (λ a. 48 + a) digits) ≡ digits) × (length (map (λ a. 48 + a) digits) ≡ length digits)
+characters-digits [] small = (refl, refl, refl)
+characters-digits (a ∷ digits) small =
+    let first = All-head (λ b. b < 2) a digits small in
+    let (binary, same, long) = characters-digits digits (All-tail (λ b. b < 2) a digits small) in
+    let back : 48 + a - 48 ≡ a = omega arith in
+    (and_from (is_binary_digit (48 + a)) _ (character a first) binary, λ i. back i ∷ same i, ap suc long)
+  where
+    character : (a : ℕ) → a < 2 → is_binary_digit (48 + a) ≡ true
+    character zero h = refl
+    character (suc zero) h = refl
+    character (suc (suc a)) h = absurd (omega arith)
+
+pub digits_of-text : (count : ℕ) (digits : List ℕ) → length digits ≡ count → All (λ a. a < 2) digits
+    → digits_of count (map (λ a. 48 + a) digits) ≡ Some digits
+unfolding digits_of
+digits_of-text count digits long small =
+    let (binary, same, kept) = characters-digits digits small in
+    rw (eq-eqb (length (map (λ a. 48 + a) digits)) count (kept ∙ long), binary) (ap Some same)

@@ -1,0 +1,4 @@
+pub mod BuildEntryAnswers
+pub mod BuildFieldLemmas
+pub mod BuildAnswers
+pub mod WrittenBuild

@@ -1,0 +1,6 @@
+pub mod BuildEntry
+pub mod Operation
+pub mod BuildFields
+pub mod Build
+pub mod BuildDocument
+pub mod WrittenBuild

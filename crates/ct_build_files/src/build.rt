@@ -1,0 +1,91 @@
+//! The kind build: a step that makes a code of those of other pieces.
+ghost use Rattle.std.specs.Prelude.{◌≡◌, ◌≤◌};
+ghost use Rattle.toml.specs.View.{view};
+ghost use Rattle.ct_words.specs.declared.limits.TheConstants.{MAX_N};
+ghost use Rattle.ct_fields.specs.Reads.{Reads};
+ghost use Rattle.ct_fields.specs.Fields.{no_other_key};
+ghost use Rattle.ct_build_files.specs.Operation.{build_fields};
+ghost use Rattle.ct_build_files.specs.Build.{build_with, build_by, build_evidence_of};
+
+use crate::build_fields::{id_field, operation_field, other_field, step_fields};
+use crate::entry::build_entry;
+use crate::operation::Operation;
+use ct_build::Step;
+use ct_codes::Entry;
+use ct_evidence::Evidence;
+use ct_fields::{FieldName, FileFault, no_other_key};
+use std::alloc::Global;
+use toml::Value;
+
+/// Refuses a document that has another key than those of a build by the operation.
+fn no_other_build_key(operation: Operation, document: &Value) -> Result<(), FileFault>
+    ensures { result ≡ no_other_key (build_fields operation) (view document.now) }
+{
+    use FieldName::{By, D, Digits, N, Op, Other, Part, Places, Size, W};
+    match operation {
+        Operation::Puncture => no_other_key(document, &[N, D, W, Op, Part, Places]),
+        Operation::Shorten => no_other_key(document, &[N, D, W, Op, Part, Places, Digits]),
+        Operation::Translate | Operation::Select => {
+            no_other_key(document, &[N, D, W, Op, Part, By])
+        }
+        Operation::Uuv | Operation::Juxtapose => {
+            no_other_key(document, &[N, D, W, Op, Part, Other])
+        }
+        Operation::Trim => no_other_key(document, &[N, D, W, Op, Part, Size]),
+        _ => no_other_key(document, &[N, D, W, Op, Part]),
+    }
+}
+
+/// The evidence of a build by the operation with the step that is found, none where a text of digits is wrong.
+fn build_with(
+    entry: Entry,
+    operation: Operation,
+    found: Option<Step>,
+    document: &Value,
+) -> Result<Evidence, FileFault>
+    ensures { result ≡ build_with entry operation found (view document.now) }
+{
+    let part = id_field(document, FieldName::Part)?;
+    let other = other_field(operation, document)?;
+    no_other_build_key(operation, document)?;
+    match found {
+        Some(step) => Ok(Evidence::Build {
+            entry,
+            step,
+            part,
+            other,
+        }),
+        None => Err(FileFault::Digits(0)),
+    }
+}
+
+/// The evidence of a build by the operation, for the entry.
+fn build_by(
+    alloc: Global,
+    entry: Entry,
+    operation: Operation,
+    document: &Value,
+) -> Result<Evidence, FileFault>
+    requires some { 1 ≤ entry.n }
+    requires room { entry.n ≤ MAX_N }
+    ensures { Reads (λ evidence. evidence) result (build_by entry operation (view document.now)) }
+{
+    if !operation.makes_length(entry.n) {
+        return Err(FileFault::Field(FieldName::N));
+    }
+    if !operation.takes_weight(entry.w) {
+        return Err(FileFault::Field(FieldName::W));
+    }
+    let found = step_fields(alloc, operation, entry.n, document)?;
+    build_with(entry, operation, found, document)
+}
+
+/// The evidence that the document states, of kind build.
+#[tactic(auto, unfolding(crate::specs::Build::build_evidence_of))]
+pub fn build_evidence(alloc: Global, document: &Value) -> Result<Evidence, FileFault>
+    ensures { Reads (λ evidence. evidence) result (build_evidence_of (view document.now)) }
+{
+    let entry = build_entry(document)?;
+    let operation = operation_field(document)?;
+    build_by(alloc, entry, operation, document)
+}

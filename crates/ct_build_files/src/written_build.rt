@@ -1,0 +1,152 @@
+//! The table of a build.
+ghost use Rattle.std.specs.Prelude.{◌≡◌, ◌<◌, ◌≤◌, All, IfOk, IfSome, OnOk, IsTrue};
+ghost use Rattle.std.specs.Str.{IsAscii};
+ghost use Rattle.toml.specs.Data.{string};
+ghost use Rattle.toml.specs.View.{view, table_view};
+ghost use Rattle.ct_words.specs.declared.limits.TheConstants.{MAX_N};
+ghost use Rattle.ct_text.specs.Id.{is_id};
+ghost use Rattle.ct_build.specs.Build.{FieldsFit};
+ghost use Rattle.ct_fields.specs.Written.{put};
+ghost use Rattle.ct_build_files.specs.Operation.{operation_text, operation_of};
+ghost use Rattle.ct_build_files.specs.WrittenBuild.{number_list, digits_text, put_step, put_other, base_table, build_table};
+
+use crate::operation::Operation;
+use ct_build::Step;
+use ct_codes::Entry;
+use ct_fields::{FieldName, entry_table, put, put_weight, word_value};
+use ct_text::Id;
+use std::alloc::{AllocError, Global};
+use toml::{Table, Value};
+
+/// The list of the numbers.
+fn number_list(alloc: Global, numbers: &[u32]) -> Result<Value, AllocError>
+    ensures { IfOk result (λ value. view value ≡ number_list numbers.now) }
+{
+    let mut values = Vec::with_capacity(alloc, numbers.len())?;
+    for number in numbers {
+        values.push(Value::from(*number))?;
+    }
+    Ok(Value::Array(values))
+}
+
+/// The text of the digits.
+fn digits_text(alloc: Global, digits: &[u32]) -> Result<Vec<u8>, AllocError>
+    requires { All (λ a. a < 2) digits.now }
+    ensures { IfOk result (λ text. text.items ≡ digits_text digits.now) }
+{
+    let mut text = Vec::with_capacity(alloc, digits.len())?;
+    for digit in digits {
+        text.push(b'0' + *digit as u8)?;
+    }
+    Ok(text)
+}
+
+/// The text as a value.
+fn text_value(text: Vec<u8>) -> Value
+    requires { IsAscii text.items }
+    ensures { view result ≡ string text.items }
+{
+    Value::String(String::from_utf8(text).unwrap())
+}
+
+/// The id as a value.
+#[tactic(auto, using(crate::proofs::WrittenBuild::IsAscii_id))]
+fn id_value(alloc: Global, id: &Id) -> Result<Value, AllocError>
+    ensures value { IfOk result (λ value. view value ≡ string id.now) }
+    ensures id { IsTrue (is_id id.now) }
+{
+    let text = Vec::from_slice(alloc, id.text())?;
+    Ok(text_value(text))
+}
+
+/// Puts the fields of the step, of words of the length of the entry.
+#[tactic(auto, using(crate::proofs::WrittenBuild::IsAscii_digits_text), unfolding(ct_build::specs::Build::FieldsFit))]
+fn put_step(alloc: Global, table: &mut Table, step: &Step, stated: Entry) -> Result<(), AllocError>
+    requires room { stated.n ≤ MAX_N }
+    requires fits { FieldsFit step.now stated }
+    ensures { OnOk result (table_view table.new ≡ put_step step.now stated.n (table_view table.old)) }
+{
+    match step {
+        Step::Puncture(places) => {
+            let places = number_list(alloc, places.as_slice())?;
+            put(alloc, table, FieldName::Places, places)
+        }
+        Step::Shorten(places, digits) => {
+            let places = number_list(alloc, places.as_slice())?;
+            put(alloc, table, FieldName::Places, places)?;
+            let text = digits_text(alloc, digits.as_slice())?;
+            put(alloc, table, FieldName::Digits, text_value(text))
+        }
+        Step::Translate(by) => {
+            let by = word_value(alloc, stated.n, *by)?;
+            put(alloc, table, FieldName::By, by)
+        }
+        Step::Select(by) => {
+            let by = word_value(alloc, stated.n, *by)?;
+            put(alloc, table, FieldName::By, by)
+        }
+        Step::Trim(size) => put(alloc, table, FieldName::Size, Value::from(*size)),
+        _ => Ok(()),
+    }
+}
+
+/// Puts the id at the key of the field.
+fn put_id(alloc: Global, table: &mut Table, name: FieldName, id: &Id) -> Result<(), AllocError>
+    ensures table { OnOk result (table_view table.new ≡ put name (string id.now) (table_view table.old)) }
+    ensures id { IsTrue (is_id id.now) }
+{
+    let value = id_value(alloc, id)?;
+    put(alloc, table, name, value)
+}
+
+/// Puts the id of the other piece, where there is one.
+fn put_other(alloc: Global, table: &mut Table, other: Option<Id>) -> Result<(), AllocError>
+    ensures table { OnOk result (table_view table.new ≡ put_other other (table_view table.old)) }
+    ensures id { IfSome other (λ id. IsTrue (is_id id)) }
+{
+    match other {
+        Some(id) => put_id(alloc, table, FieldName::Other, &id),
+        None => Ok(()),
+    }
+}
+
+/// Puts the text of the operation of the step.
+fn put_operation(alloc: Global, table: &mut Table, step: &Step) -> Result<(), AllocError>
+    ensures { OnOk result (table_view table.new
+        ≡ put FieldName.Op (string (operation_text (operation_of step.now))) (table_view table.old)) }
+{
+    let text = Value::string(alloc, Operation::of(step).text())?;
+    put(alloc, table, FieldName::Op, text)
+}
+
+/// The table of the fields of every build.
+fn base_table(alloc: Global, stated: Entry, step: &Step, part: &Id) -> Result<Table, AllocError>
+    ensures table { IfOk result (λ table. table_view table ≡ base_table stated step.now part.now) }
+    ensures part { IfOk result (λ table. IsTrue (is_id part.now)) }
+{
+    let mut table = entry_table(alloc, "build", stated.n, stated.d)?;
+    put_operation(alloc, &mut table, step)?;
+    put_id(alloc, &mut table, FieldName::Part, part)?;
+    Ok(table)
+}
+
+/// The table of a build.
+pub fn build_table(
+    alloc: Global,
+    stated: Entry,
+    step: &Step,
+    part: Id,
+    other: Option<Id>,
+) -> Result<Table, AllocError>
+    requires room { stated.n ≤ MAX_N }
+    requires fits { FieldsFit step.now stated }
+    ensures table { IfOk result (λ table. table_view table ≡ build_table stated step.now part other) }
+    ensures part { IfOk result (λ table. IsTrue (is_id part)) }
+    ensures other { IfOk result (λ table. IfSome other (λ id. IsTrue (is_id id))) }
+{
+    let mut table = base_table(alloc, stated, step, &part)?;
+    put_step(alloc, &mut table, step, stated)?;
+    put_other(alloc, &mut table, other)?;
+    put_weight(alloc, &mut table, stated.w)?;
+    Ok(table)
+}

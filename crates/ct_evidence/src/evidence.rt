@@ -1,0 +1,31 @@
+//! The kinds of evidence.
+
+use ct_build::Step;
+use ct_codes::Entry;
+use ct_text::Id;
+use ct_words::WordList;
+
+/// A piece of evidence for a bound.
+#[derive(Debug, Drop)]
+pub enum Evidence {
+    /// Words that are stated as a code of the entry, in the order of the document.
+    Words {
+        entry: Entry,
+        words: WordList,
+    },
+    /// A basis and representatives: the sums of each representative with all sums of basis words are stated as a code of
+    /// the entry, which has no weight.
+    Cosets {
+        entry: Entry,
+        basis: WordList,
+        representatives: WordList,
+    },
+    /// A step that is stated to make a code of the entry of the code of the piece `part` and, where the step needs another
+    /// code, of that of the piece `other`, which is named exactly there.
+    Build {
+        entry: Entry,
+        step: Step,
+        part: Id,
+        other: Option<Id>,
+    },
+}

@@ -1,0 +1,7 @@
+mod Documents
+pub mod StepLemmas
+pub mod FieldLemmas
+pub mod EntryAnswers
+pub mod WordsLemmas
+pub mod MemberLemmas
+pub mod WordTexts

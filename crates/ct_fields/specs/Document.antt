@@ -1,0 +1,15 @@
+-- The table that an evidence document is.
+use Rattle.std.specs.Prelude.{ℕ, if◌then◌else◌, List, Option, None, option_map, Result, ok_or}
+use Rattle.std.specs.Str.{is_utf8}
+use Rattle.toml.specs.Data.{Data, table}
+use Rattle.toml.specs.Parse.{parse_document}
+use Rattle.ct_fields.specs.declared.fault.FileFault.{FileFault}
+use Rattle.ct_fields.specs.declared.fault.FileFault.TheVariants.{NotToml}
+
+-- the table that bytes in UTF-8 write by the grammar of TOML 1.1
+unfoldable pub table_of : List ℕ → Option Data
+table_of bytes = if is_utf8 bytes then option_map table (parse_document bytes) else None
+
+-- the table of a document; the fault of bytes that write none
+abbrev pub document_of : List ℕ → Result Data FileFault
+document_of bytes = ok_or (table_of bytes) NotToml

@@ -1,0 +1,9 @@
+pub mod Field
+pub mod Steps
+pub mod Reads
+pub mod Fields
+pub mod Document
+pub mod StatedEntry
+pub mod Tables
+pub mod StatesEntry
+pub mod Written

@@ -1,0 +1,84 @@
+//! The fields of a document.
+ghost use Rattle.std.specs.Prelude.{◌≡◌, ◌+◌, ◌^◌, ◌<◌, ◌≤◌, length, IfOk, option_map};
+ghost use Rattle.toml.specs.View.{view, items_view};
+ghost use Rattle.ct_words.specs.declared.limits.TheConstants.{MAX_N};
+ghost use Rattle.ct_fields.specs.Reads.{Reads, texts_behind};
+ghost use Rattle.ct_fields.specs.Fields.{number_field, texts_of, texts_field, words_from};
+
+use crate::fault::FileFault;
+use crate::field::FieldName;
+use ct_words::{Word, parse_word};
+use std::alloc::{AllocError, Global};
+use toml::Value;
+
+/// The number of the field, an integer from `low` to `high`.
+pub fn number_field(
+    document: &Value,
+    name: FieldName,
+    low: u32,
+    high: u32,
+) -> Result<u32, FileFault>
+    ensures { result ≡ number_field name low high (view document.now) }
+{
+    match document.get(name.text()) {
+        Some(Value::Integer(number)) => {
+            if *number < i64::from(low) || *number > i64::from(high) {
+                return Err(FileFault::Field(name));
+            }
+            Ok(*number as u32)
+        }
+        _ => Err(FileFault::Field(name)),
+    }
+}
+
+/// The texts of the field, a list of texts.
+pub fn texts_field<'a>(
+    alloc: Global,
+    document: &'a Value,
+    name: FieldName,
+) -> Result<Vec<&'a str>, FileFault>
+    ensures { Reads (λ v. texts_behind v.items) result (texts_field name (view document.now)) }
+{
+    match document.get(name.text()) {
+        Some(Value::Array(values)) => match texts_of(alloc, values)? {
+            Some(texts) => Ok(texts),
+            None => Err(FileFault::Field(name)),
+        },
+        _ => Err(FileFault::Field(name)),
+    }
+}
+
+fn texts_of(alloc: Global, values: &[Value]) -> Result<Option<Vec<&str>>, AllocError>
+    ensures { IfOk result (λ o. option_map (λ v. texts_behind v.items) o ≡ texts_of (items_view values.now)) }
+{
+    let mut texts = Vec::new(alloc);
+    for value in values {
+        let Value::String(text) = value else {
+            return Ok(None);
+        };
+        texts.push(text.as_str())?;
+    }
+    Ok(Some(texts))
+}
+
+/// The words of length `n` that the texts write, which are counted from `first` on.
+pub fn words_from(
+    alloc: Global,
+    n: u32,
+    first: usize,
+    texts: &[&str],
+) -> Result<Vec<Word>, FileFault>
+    requires some { 1 ≤ n }
+    requires room { n ≤ MAX_N }
+    requires places { first + length texts.now < 2 ^ 64 }
+    ensures { Reads (λ v. v.items) result (words_from n first (texts_behind texts.now)) }
+{
+    let mut words = Vec::new(alloc);
+    for (place, text) in texts.iter().enumerate() {
+        let Ok(word) = parse_word(text.as_bytes(), n) else {
+            return Err(FileFault::Digits(first + place));
+        };
+        words.push(word)?;
+    }
+    Ok(words)
+}

@@ -1,0 +1,104 @@
+//! What is written at the keys of a table.
+ghost use Rattle.std.specs.Prelude.{◌≡◌, ◌^◌, ◌<◌, ◌≤◌, pos, All, IfOk, OnOk, string_bytes};
+ghost use Rattle.toml.specs.Data.{string, integer};
+ghost use Rattle.toml.specs.View.{view, table_view};
+ghost use Rattle.ct_words.specs.declared.limits.TheConstants.{MAX_N};
+ghost use Rattle.ct_words.specs.Text.{word_text};
+ghost use Rattle.ct_fields.specs.Field.{field_text};
+ghost use Rattle.ct_fields.specs.Written.{word_texts, put, put_weight, entry_table};
+
+use crate::field::FieldName;
+use ct_words::{Word, print_word};
+use std::alloc::{AllocError, Global};
+use toml::{Table, Value};
+
+/// The key of the field, as a text of its own.
+fn key(alloc: Global, name: FieldName) -> Result<String, AllocError>
+    ensures { IfOk result (λ key. string_bytes key ≡ field_text name) }
+{
+    String::from_str(alloc, name.text())
+}
+
+fn word_text(alloc: Global, n: u32, word: Word) -> Result<Vec<u8>, AllocError>
+    requires room { n ≤ MAX_N }
+    requires word { word < 2 ^ n }
+    ensures { IfOk result (λ text. text.items ≡ word_text n word) }
+{
+    let mut text = vec![in alloc; 0u8; n as usize]?;
+    print_word(word, n, &mut text);
+    Ok(text)
+}
+
+/// The text of the word of length `n`, as a value of a document.
+pub fn word_value(alloc: Global, n: u32, word: Word) -> Result<Value, AllocError>
+    requires room { n ≤ MAX_N }
+    requires word { word < 2 ^ n }
+    ensures { IfOk result (λ value. view value ≡ string (word_text n word)) }
+{
+    let text = word_text(alloc, n, word)?;
+    Ok(Value::String(String::from_utf8(text).unwrap()))
+}
+
+/// The texts of the words of length `n`, as a value of a document.
+fn word_values(alloc: Global, n: u32, words: &[Word]) -> Result<Value, AllocError>
+    requires room { n ≤ MAX_N }
+    requires words { All (λ x. x < 2 ^ n) words.now }
+    ensures { IfOk result (λ value. view value ≡ word_texts n words.now) }
+{
+    let mut values = Vec::with_capacity(alloc, words.len())?;
+    for word in words {
+        values.push(word_value(alloc, n, *word)?)?;
+    }
+    Ok(Value::Array(values))
+}
+
+/// Puts the value at the key of the field.
+pub fn put(
+    alloc: Global,
+    table: &mut Table,
+    name: FieldName,
+    value: Value,
+) -> Result<(), AllocError>
+    ensures { OnOk result (table_view table.new ≡ put name (view value) (table_view table.old)) }
+{
+    table.insert(key(alloc, name)?, value)?;
+    Ok(())
+}
+
+/// Puts the texts of the words of length `n` at the key of the field.
+pub fn put_words(
+    alloc: Global,
+    table: &mut Table,
+    name: FieldName,
+    n: u32,
+    words: &[Word],
+) -> Result<(), AllocError>
+    requires room { n ≤ MAX_N }
+    requires words { All (λ x. x < 2 ^ n) words.now }
+    ensures { OnOk result (table_view table.new ≡ put name (word_texts n words.now) (table_view table.old)) }
+{
+    let value = word_values(alloc, n, words)?;
+    put(alloc, table, name, value)
+}
+
+/// Puts the weight, where there is one.
+pub fn put_weight(alloc: Global, table: &mut Table, w: Option<u32>) -> Result<(), AllocError>
+    ensures { OnOk result (table_view table.new ≡ put_weight w (table_view table.old)) }
+{
+    match w {
+        Some(w) => put(alloc, table, FieldName::W, Value::from(w)),
+        None => Ok(()),
+    }
+}
+
+/// The table of a document of the kind, with its length and its distance.
+pub fn entry_table(alloc: Global, kind: &str, n: u32, d: u32) -> Result<Table, AllocError>
+    ensures { IfOk result (λ table. table_view table ≡ entry_table kind.now n d) }
+{
+    let mut table = Table::new(alloc);
+    let key = String::from_str(alloc, "kind")?;
+    table.insert(key, Value::string(alloc, kind)?)?;
+    put(alloc, &mut table, FieldName::N, Value::from(n))?;
+    put(alloc, &mut table, FieldName::D, Value::from(d))?;
+    Ok(table)
+}

@@ -1,0 +1,89 @@
+//! What is written for evidence.
+
+use ct_files::{read_evidence, write_evidence};
+use std::test::Fail;
+
+// A document whose keys stand in another order than they are written in, and what is written for it.
+const WRITTEN: [(&str, &str); 17] = [
+    (
+        "kind = 'words'\nn = 10\nd = 6\nwords = ['0000000000', '1111100000']\n",
+        "d = 6\nkind = \"words\"\nn = 10\nwords = [\"0000000000\", \"1111100000\"]\n",
+    ),
+    (
+        "kind = 'words'\nn = 4\nd = 4\nwords = ['0011', '1100']\nw = 2\n",
+        "d = 4\nkind = \"words\"\nn = 4\nw = 2\nwords = [\"0011\", \"1100\"]\n",
+    ),
+    (
+        "n=6\nkind='cosets'\nbasis=['100011','010101','001110']\nrepresentatives=['000000']\nd=3",
+        "basis = [\"100011\", \"010101\", \"001110\"]\nd = 3\nkind = \"cosets\"\nn = 6\nrepresentatives = [\"000000\"]\n",
+    ),
+    (
+        "kind = 'build'\npart = 'a'\nop = 'lengthen'\nd = 3\nn = 2",
+        "d = 3\nkind = \"build\"\nn = 2\nop = \"lengthen\"\npart = \"a\"\n",
+    ),
+    (
+        "op = 'append_one'\npart = 'z9-_'\nkind = 'build'\nw = 28\nn = 28\nd = 28",
+        "d = 28\nkind = \"build\"\nn = 28\nop = \"append_one\"\npart = \"z9-_\"\nw = 28\n",
+    ),
+    (
+        "op = 'parity'\npart = 'a'\nkind = 'build'\nn = 24\nd = 8",
+        "d = 8\nkind = \"build\"\nn = 24\nop = \"parity\"\npart = \"a\"\n",
+    ),
+    (
+        "op = 'puncture'\nplaces = [0, 2, 27]\npart = 'a'\nkind = 'build'\nn = 25\nd = 5",
+        "d = 5\nkind = \"build\"\nn = 25\nop = \"puncture\"\npart = \"a\"\nplaces = [0, 2, 27]\n",
+    ),
+    (
+        "op = 'shorten'\ndigits = '10'\nplaces = [0x1, 3]\npart = 'a'\nkind = 'build'\nn = 2\nd = 4\nw = 0",
+        "d = 4\ndigits = \"10\"\nkind = \"build\"\nn = 2\nop = \"shorten\"\npart = \"a\"\nplaces = [1, 3]\nw = 0\n",
+    ),
+    (
+        "op = 'shorten'\ndigits = '0'\nplaces = [5]\npart = 'a'\nkind = 'build'\nn = 5\nd = 3",
+        "d = 3\ndigits = \"0\"\nkind = \"build\"\nn = 5\nop = \"shorten\"\npart = \"a\"\nplaces = [5]\n",
+    ),
+    (
+        "op = 'translate'\nby = '0110'\npart = 'a'\nkind = 'build'\nn = 4\nd = 3",
+        "by = \"0110\"\nd = 3\nkind = \"build\"\nn = 4\nop = \"translate\"\npart = \"a\"\n",
+    ),
+    (
+        "op = 'complement'\npart = 'a'\nkind = 'build'\nn = 4\nd = 3",
+        "d = 3\nkind = \"build\"\nn = 4\nop = \"complement\"\npart = \"a\"\n",
+    ),
+    (
+        "op = 'complement'\npart = 'a'\nkind = 'build'\nn = 4\nd = 4\nw = 4",
+        "d = 4\nkind = \"build\"\nn = 4\nop = \"complement\"\npart = \"a\"\nw = 4\n",
+    ),
+    (
+        "op = 'select'\nw = 8\nby = '000000000000000000000001'\npart = 'a'\nkind = 'build'\nn = 24\nd = 8",
+        "by = \"000000000000000000000001\"\nd = 8\nkind = \"build\"\nn = 24\nop = \"select\"\npart = \"a\"\nw = 8\n",
+    ),
+    (
+        "op = 'uuv'\nother = 'b'\npart = 'a'\nkind = 'build'\nn = 16\nd = 8",
+        "d = 8\nkind = \"build\"\nn = 16\nop = \"uuv\"\nother = \"b\"\npart = \"a\"\n",
+    ),
+    (
+        "op = 'juxtapose'\nother = 'a'\npart = 'a'\nkind = 'build'\nn = 2\nd = 6",
+        "d = 6\nkind = \"build\"\nn = 2\nop = \"juxtapose\"\nother = \"a\"\npart = \"a\"\n",
+    ),
+    (
+        "op = 'juxtapose'\nother = 'b'\npart = 'a'\nkind = 'build'\nn = 8\nd = 6\nw = 3",
+        "d = 6\nkind = \"build\"\nn = 8\nop = \"juxtapose\"\nother = \"b\"\npart = \"a\"\nw = 3\n",
+    ),
+    (
+        "op = 'trim'\nsize = 1\npart = 'a'\nkind = 'build'\nn = 1\nd = 4\nw = 1",
+        "d = 4\nkind = \"build\"\nn = 1\nop = \"trim\"\npart = \"a\"\nsize = 1\nw = 1\n",
+    ),
+];
+
+/// The keys are written in their order; what is written is read and written again.
+#[test]
+fn documents_in_their_order(rt: HostRuntime) -> Result<(), Fail> {
+    let alloc = rt.alloc();
+    for (text, expected) in WRITTEN {
+        let bytes = write_evidence(alloc, &read_evidence(alloc, text.as_bytes())?)?;
+        assert!(rt; bytes.as_slice() == expected.as_bytes(), "{text}");
+        let again = write_evidence(alloc, &read_evidence(alloc, &bytes)?)?;
+        assert!(rt; again.as_slice() == expected.as_bytes(), "{text}");
+    }
+    Ok(())
+}

@@ -1,9 +1,0 @@
-use Rattle.std.proofs.Common.{string_bytes}
-use Rattle.std.proofs.lemmas.Str.{IsUtf8-string_bytes}
-use Rattle.ct_files.proofs.Documents.{table_of-parsed}
-use Rattle.ct_files.proofs.writing.table_bytes.Goals as goal
-
-pub returns-in-Ok : goal.returns-in-Ok
-returns-in-Ok c =
-    rw c.into_bytes.ensures.value
-    (table_of-parsed (string_bytes c.in-Ok.text) _ (IsUtf8-string_bytes c.in-Ok.text) (c.in-Ok.ensures.reads_back c.requires))

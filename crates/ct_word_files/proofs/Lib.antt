@@ -1,0 +1,3 @@
+pub mod WordsAnswers
+pub mod CosetsAnswers
+pub mod WrittenWords

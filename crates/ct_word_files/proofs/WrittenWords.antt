@@ -1,0 +1,102 @@
+-- The tables that are written for words and cosets.
+use Rattle.std.proofs.Common.{ap, lit≤, ◌≤◌, ◌^◌, map, codes, Option, Some, None, ◌≡◌, ℕ, ◌<◌, true, List, refl, sym, arith}
+use Rattle.std.specs.Prelude.{All}
+use Rattle.std.proofs.lemmas.Bool.{false≢true}
+use Rattle.std.proofs.lemmas.Simd.{map-map}
+use Rattle.toml.specs.Data.{string, array, table, members_depth}
+use Rattle.toml.specs.View.{items_of}
+use Rattle.ct_words.specs.declared.limits.TheConstants.{MAX_N}
+use Rattle.ct_words.specs.Text.{word_text}
+use Rattle.ct_codes.specs.declared.entry.Entry.{Entry}
+use Rattle.ct_codes.specs.Entry.{IsEntry}
+use Rattle.ct_codes.proofs.EntryLemmas.{WeightFits, entry_limits}
+use Rattle.ct_fields.specs.Fields.{has_only}
+use Rattle.ct_fields.specs.Tables.{IsOfKind, HasTexts}
+use Rattle.ct_fields.specs.StatesEntry.{StatesEntry}
+use Rattle.ct_fields.specs.declared.field.FieldName.TheVariants as name
+use Rattle.ct_fields.proofs.FieldLemmas.{has_only-true}
+use Rattle.ct_fields.proofs.WordTexts.{texts_depth}
+use Rattle.ct_word_files.specs.WordsDocument.{words_fields, StatesWords}
+use Rattle.ct_word_files.specs.CosetsDocument.{cosets_fields, StatesCosets}
+use Rattle.ct_word_files.specs.WrittenWords.{words_table, cosets_table}
+
+-- the tables are no deeper than a document may be
+pub words_depth : (e : Entry) (words : List ℕ) → members_depth (words_table e words) ≤ 80
+words_depth e words = at e.w
+  where
+    at : (w : Option ℕ) → members_depth (words_table (record { n = e.n; d = e.d; w = w }) words) ≤ 80
+    at None = rw (texts_depth e.n words) (lit≤ tt)
+    at (Some w) = rw (texts_depth e.n words) (lit≤ tt)
+
+pub cosets_depth : (e : Entry) (basis representatives : List ℕ) → members_depth (cosets_table e basis representatives) ≤ 80
+cosets_depth e basis representatives = rw (texts_depth e.n basis, texts_depth e.n representatives) (lit≤ tt)
+
+-- the table of words states their entry
+states_entry : (e : Entry) (words : List ℕ) → IsEntry e → StatesEntry (table (words_table e words)) e
+states_entry e words entry = at e.w limits.4
+  where
+    limits : (1 ≤ e.n) × (e.n ≤ MAX_N) × (3 ≤ e.d) × (e.d ≤ MAX_N) × WeightFits e e.w
+    limits = entry_limits e entry
+
+    written : Option ℕ → Entry
+    written w = record { n = e.n; d = e.d; w = w }
+
+    at : (w : Option ℕ) → WeightFits e w → StatesEntry (table (words_table (written w) words)) (written w)
+    at None fits = record {
+      with_length = (refl, limits.0, limits.1);
+      with_distance = ((refl, limits.2, limits.3), λ some. absurd (false≢true some));
+      with_weight = refl;
+    }
+    at (Some w) fits = record {
+      with_length = (refl, limits.0, limits.1);
+      with_distance = ((refl, limits.2, limits.3), λ some. fits.0);
+      with_weight = (refl, omega arith, fits.2);
+    }
+
+-- it has no other key, and the texts of the words
+words_keys : (e : Entry) (words : List ℕ) (w : Option ℕ) → has_only words_fields (table (words_table (record { n = e.n; d = e.d; w = w }) words)) ≡ true
+words_keys e words None = refl
+words_keys e words (Some w) = refl
+
+words_texts : (e : Entry) (words : List ℕ) (w : Option ℕ)
+    → HasTexts name.Words (table (words_table (record { n = e.n; d = e.d; w = w }) words)) (map (word_text e.n) words)
+words_texts e words None = ap (λ ds. Some (array (items_of ds))) (sym (map-map string (word_text e.n) words))
+words_texts e words (Some w) = ap (λ ds. Some (array (items_of ds))) (sym (map-map string (word_text e.n) words))
+
+words_kind : (e : Entry) (words : List ℕ) (w : Option ℕ) → IsOfKind (codes "words") (table (words_table (record { n = e.n; d = e.d; w = w }) words))
+words_kind e words None = refl
+words_kind e words (Some w) = refl
+
+-- the table of words states these words
+pub states_words : (e : Entry) (words : List ℕ) → IsEntry e → All (λ x. x < 2 ^ e.n) words → StatesWords (table (words_table e words)) e words
+states_words e words entry short =
+    record {
+      form = record {
+        fields = record { of_kind = words_kind e words e.w; entry = states_entry e words entry; with_texts = words_texts e words e.w };
+        only = has_only-true words_fields (words_table e words) (words_keys e words e.w);
+      };
+      lengths = short;
+    }
+
+-- the table of cosets states these cosets
+pub states_cosets : (e : Entry) (basis representatives : List ℕ) → IsEntry e → e.w ≡ None → All (λ x. x < 2 ^ e.n) basis → All (λ x. x < 2 ^ e.n) representatives
+    → StatesCosets (table (cosets_table e basis representatives)) e basis representatives
+states_cosets e basis representatives entry plain short_basis short =
+    let limits = entry_limits e entry in
+    record {
+      form = record {
+        fields = record {
+          of_kind = refl;
+          entry = record {
+            with_length = (refl, limits.0, limits.1);
+            with_distance = (refl, limits.2, limits.3);
+            plain = λ i. record { n = e.n; d = e.d; w = plain i };
+          };
+          with_basis = ap (λ ds. Some (array (items_of ds))) (sym (map-map string (word_text e.n) basis));
+          with_representatives = ap (λ ds. Some (array (items_of ds))) (sym (map-map string (word_text e.n) representatives));
+        };
+        only = has_only-true cosets_fields (cosets_table e basis representatives) refl;
+      };
+      basis_lengths = short_basis;
+      lengths = short;
+    }

@@ -1,0 +1,40 @@
+-- The evidence of a document of kind cosets, or its first fault.
+use Rattle.std.specs.Prelude.{ℕ, nat_le, ◌&&◌, List, [], ◌∷◌, length, Result, Ok}
+use Rattle.toml.specs.Data.{Data}
+use Rattle.ct_words.specs.declared.limits.TheConstants.{MAX_N}
+use Rattle.ct_codes.specs.declared.entry.Entry.{Entry}
+use Rattle.ct_codes.specs.declared.fault.TheConstants.{MAX_REPRESENTATIVES}
+use Rattle.ct_fields.specs.Steps.{◌>>=◌, ◌>>◌, check}
+use Rattle.ct_fields.specs.Fields.{texts_field, no_other_key, words_from}
+use Rattle.ct_fields.specs.StatedEntry.{plain_entry_of}
+use Rattle.ct_evidence.specs.declared.evidence.Evidence.{Evidence}
+use Rattle.ct_evidence.specs.declared.evidence.Evidence.TheVariants.{Cosets}
+use Rattle.ct_fields.specs.declared.field.FieldName.TheVariants as name
+use Rattle.ct_fields.specs.declared.fault.FileFault.{FileFault}
+use Rattle.ct_fields.specs.declared.fault.FileFault.TheVariants.{Size}
+
+-- the fault of more than MAX_N words of a basis, or else of 0 or more than MAX_REPRESENTATIVES representatives
+abbrev pub coset_count : List ℕ → List ℕ → Result (Unit {0}) FileFault
+coset_count basis representatives = do
+  check (nat_le (length basis) MAX_N) (Size (length basis))
+  check (nat_le 1 (length representatives) && nat_le (length representatives) MAX_REPRESENTATIVES) (Size (length representatives))
+
+-- the evidence of the texts of a basis and of representatives, for the entry
+abbrev pub cosets_of_texts : Entry → List (List ℕ) → List (List ℕ) → Result Evidence FileFault
+cosets_of_texts e basis_texts texts = do
+  basis ← words_from e.n 0 basis_texts
+  representatives ← words_from e.n (length basis_texts) texts
+  coset_count basis representatives
+  Ok (Cosets e basis representatives)
+
+-- the evidence of a document of kind cosets: the texts of the representatives are counted on from those of the basis
+unfoldable pub cosets_evidence_of : Data → Result Evidence FileFault
+cosets_evidence_of document = do
+  e ← plain_entry_of document
+  basis_texts ← texts_field name.Basis document
+  texts ← texts_field name.Representatives document
+  no_other_key (name.N ∷ name.D ∷ name.Basis ∷ name.Representatives ∷ []) document
+  basis ← words_from e.n 0 basis_texts
+  representatives ← words_from e.n (length basis_texts) texts
+  coset_count basis representatives
+  Ok (Cosets e basis representatives)

@@ -1,0 +1,5 @@
+pub mod Words
+pub mod Cosets
+pub mod WordsDocument
+pub mod CosetsDocument
+pub mod WrittenWords

@@ -1,0 +1,70 @@
+//! The kind cosets: a basis and representatives.
+ghost use Rattle.std.specs.Prelude.{◌≡◌, ◌+◌, ◌≤◌, ◌^◌, ◌<◌, length};
+ghost use Rattle.toml.specs.View.{view};
+ghost use Rattle.ct_words.specs.declared.limits.TheConstants.{MAX_N};
+ghost use Rattle.ct_fields.specs.Reads.{Reads, texts_behind};
+ghost use Rattle.ct_word_files.specs.Cosets.{coset_count, cosets_of_texts, cosets_evidence_of};
+
+use ct_codes::{Entry, MAX_REPRESENTATIVES};
+use ct_evidence::Evidence;
+use ct_fields::{FieldName, FileFault, no_other_key, plain_entry, texts_field, words_from};
+use ct_words::{MAX_N, Word, WordList};
+use std::alloc::Global;
+use toml::Value;
+
+/// Refuses more than `MAX_N` basis words, and no representative or more than `MAX_REPRESENTATIVES`.
+fn coset_count(basis: &[Word], representatives: &[Word]) -> Result<(), FileFault>
+    ensures { result ≡ coset_count basis.now representatives.now }
+{
+    if basis.len() > MAX_N as usize {
+        return Err(FileFault::Size(basis.len() as u64));
+    }
+    let count = representatives.len();
+    if count == 0 || count > MAX_REPRESENTATIVES {
+        return Err(FileFault::Size(count as u64));
+    }
+    Ok(())
+}
+
+/// The evidence of the texts of a basis and of representatives, for the entry.
+fn cosets_of_texts(
+    alloc: Global,
+    entry: Entry,
+    basis_texts: &[&str],
+    texts: &[&str],
+) -> Result<Evidence, FileFault>
+    requires some { 1 ≤ entry.n }
+    requires room { entry.n ≤ MAX_N }
+    requires places { length basis_texts.now + length texts.now < 2 ^ 64 }
+    ensures { Reads (λ evidence. evidence) result
+        (cosets_of_texts entry (texts_behind basis_texts.now) (texts_behind texts.now)) }
+{
+    let basis = words_from(alloc, entry.n, 0, basis_texts)?;
+    let representatives = words_from(alloc, entry.n, basis_texts.len(), texts)?;
+    coset_count(&basis, &representatives)?;
+    let basis = WordList::from_vec(basis);
+    let representatives = WordList::from_vec(representatives);
+    Ok(Evidence::Cosets {
+        entry,
+        basis,
+        representatives,
+    })
+}
+
+/// The evidence that the document states, of kind cosets.
+#[tactic(auto, unfolding(crate::specs::Cosets::cosets_evidence_of))]
+pub fn cosets_evidence(alloc: Global, document: &Value) -> Result<Evidence, FileFault>
+    ensures { Reads (λ evidence. evidence) result (cosets_evidence_of (view document.now)) }
+{
+    let entry = plain_entry(document)?;
+    let basis_texts = texts_field(alloc, document, FieldName::Basis)?;
+    let texts = texts_field(alloc, document, FieldName::Representatives)?;
+    let names = [
+        FieldName::N,
+        FieldName::D,
+        FieldName::Basis,
+        FieldName::Representatives,
+    ];
+    no_other_key(document, &names)?;
+    cosets_of_texts(alloc, entry, &basis_texts, &texts)
+}

@@ -1,0 +1,49 @@
+//! The kind words: the words of a code, one by one.
+ghost use Rattle.std.specs.Prelude.{◌≡◌, ◌≤◌, ◌^◌, ◌<◌, length};
+ghost use Rattle.toml.specs.View.{view};
+ghost use Rattle.ct_words.specs.declared.limits.TheConstants.{MAX_N};
+ghost use Rattle.ct_fields.specs.Reads.{Reads, texts_behind};
+ghost use Rattle.ct_word_files.specs.Words.{word_count, words_of_texts, words_evidence_of};
+
+use ct_codes::{Entry, MAX_WORDS};
+use ct_evidence::Evidence;
+use ct_fields::{FieldName, FileFault, no_other_key, stated_entry, texts_field, words_from};
+use ct_words::{Word, WordList};
+use std::alloc::Global;
+use toml::Value;
+
+/// Refuses a number of words that is 0 or above `MAX_WORDS`.
+fn word_count(words: &[Word]) -> Result<(), FileFault>
+    ensures { result ≡ word_count words.now }
+{
+    let count = words.len();
+    if count == 0 || count > MAX_WORDS {
+        return Err(FileFault::Size(count as u64));
+    }
+    Ok(())
+}
+
+/// The evidence of the texts of words, for the entry.
+fn words_of_texts(alloc: Global, entry: Entry, texts: &[&str]) -> Result<Evidence, FileFault>
+    requires some { 1 ≤ entry.n }
+    requires room { entry.n ≤ MAX_N }
+    requires places { length texts.now < 2 ^ 64 }
+    ensures { Reads (λ evidence. evidence) result (words_of_texts entry (texts_behind texts.now)) }
+{
+    let words = words_from(alloc, entry.n, 0, texts)?;
+    word_count(&words)?;
+    let words = WordList::from_vec(words);
+    Ok(Evidence::Words { entry, words })
+}
+
+/// The evidence that the document states, of kind words.
+#[tactic(auto, unfolding(crate::specs::Words::words_evidence_of))]
+pub fn words_evidence(alloc: Global, document: &Value) -> Result<Evidence, FileFault>
+    ensures { Reads (λ evidence. evidence) result (words_evidence_of (view document.now)) }
+{
+    let entry = stated_entry(document)?;
+    let texts = texts_field(alloc, document, FieldName::Words)?;
+    let names = [FieldName::N, FieldName::D, FieldName::W, FieldName::Words];
+    no_other_key(document, &names)?;
+    words_of_texts(alloc, entry, &texts)
+}

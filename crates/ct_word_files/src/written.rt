@@ -1,0 +1,47 @@
+//! The tables of words and of cosets.
+ghost use Rattle.std.specs.Prelude.{◌≡◌, ◌^◌, ◌<◌, ◌≤◌, All, IfOk};
+ghost use Rattle.toml.specs.View.{table_view};
+ghost use Rattle.ct_words.specs.declared.limits.TheConstants.{MAX_N};
+ghost use Rattle.ct_word_files.specs.WrittenWords.{words_table, cosets_table};
+
+use ct_codes::Entry;
+use ct_fields::{FieldName, entry_table, put_weight, put_words};
+use ct_words::Word;
+use std::alloc::{AllocError, Global};
+use toml::Table;
+
+/// The table of words.
+pub fn words_table(alloc: Global, entry: Entry, words: &[Word]) -> Result<Table, AllocError>
+    requires room { entry.n ≤ MAX_N }
+    requires words { All (λ x. x < 2 ^ entry.n) words.now }
+    ensures { IfOk result (λ table. table_view table ≡ words_table entry words.now) }
+{
+    let mut table = entry_table(alloc, "words", entry.n, entry.d)?;
+    put_weight(alloc, &mut table, entry.w)?;
+    put_words(alloc, &mut table, FieldName::Words, entry.n, words)?;
+    Ok(table)
+}
+
+/// The table of cosets, whose entry has no weight.
+pub fn cosets_table(
+    alloc: Global,
+    entry: Entry,
+    basis: &[Word],
+    representatives: &[Word],
+) -> Result<Table, AllocError>
+    requires room { entry.n ≤ MAX_N }
+    requires basis { All (λ x. x < 2 ^ entry.n) basis.now }
+    requires representatives { All (λ x. x < 2 ^ entry.n) representatives.now }
+    ensures { IfOk result (λ table. table_view table ≡ cosets_table entry basis.now representatives.now) }
+{
+    let mut table = entry_table(alloc, "cosets", entry.n, entry.d)?;
+    put_words(alloc, &mut table, FieldName::Basis, entry.n, basis)?;
+    put_words(
+        alloc,
+        &mut table,
+        FieldName::Representatives,
+        entry.n,
+        representatives,
+    )?;
+    Ok(table)
+}
