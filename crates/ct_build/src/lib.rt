@@ -18,12 +18,6 @@ mod right_parts;
 mod shortened;
 mod sorted;
 mod step;
-#[cfg(test)]
-mod tests_apply;
-#[cfg(test)]
-mod tests_digits;
-#[cfg(test)]
-mod tests_places;
 mod translation;
 
 pub use append::{append_one, lengthen, parity};
