@@ -8,7 +8,7 @@ use Rattle.ct_io.specs.declared.TheConstants.{MAX_INPUT, MAX_READ}
 use Rattle.ct_io.specs.declared.line_fault.LineFault.{LineFault}
 use Rattle.ct_io.specs.declared.line_fault.LineFault.TheVariants as line_fault
 use Rattle.ct_io.specs.Faults.{Rose}
-use Rattle.ct_io.specs.Reader.{Reader, Takes, NeedsNoRead, IsLineThenRead, fresh_reader, input_of}
+use Rattle.ct_io.specs.Reader.{Reader, Takes, NeedsNoRead, IsLineThenRead, fresh_reader}
 use Rattle.ct_io.specs.Told.{AppendsProperPrefix}
 use Rattle.ct_commands.specs.Command.{cut_off}
 use Rattle.ct_session.specs.declared.serve.ServeFault.{ServeFault}
@@ -16,9 +16,10 @@ use Rattle.ct_session.specs.declared.serve.ServeFault.TheVariants.{Read, Write, 
 use Rattle.ct_session.specs.Run.{PutsAnswers}
 use Rattle.ct_session.specs.Serve.{WritesRun, WritesRunPrefix, WritesRunProperPrefix, AnswersTaken, AnswersButLastRead}
 use Rattle.ct_session.specs.Inside.Ending.{Ends}
+use Rattle.ct_session.specs.Inside.Serving.{Took, Serves}
 use Rattle.ct_session.specs.Inside.State.{State, fresh_state}
 use Rattle.ct_session.specs.Inside.Writing.{BreaksOff, IsReady, WritesSome, read_fault}
-use Rattle.ct_session.proofs.Serving.{Took, Serves, begins, after_writing, took_more, not_long, long_exactly, one_read, prefix_of, proper_prefix_of, weaker_prefix, prefix_of_run, run_of, run_in_part, nothing_gathered, nothing_gathered_long, taken_answered, last_read_unanswered}
+use Rattle.ct_session.proofs.Serving.{begins, after_writing, took_more, not_long, long_exactly, one_read, all_taken, prefix_of, proper_prefix_of, weaker_prefix, prefix_of_run, run_of, run_in_part, nothing_gathered, nothing_gathered_long, taken_answered, last_read_unanswered}
 
 ends_memory : (left now old new : Option (List ℕ)) (reads reads' writes writes' n : ℕ) → WritesRunPrefix left old new → Took left now n → n ≤ MAX_INPUT → Ends (Err Memory) left now old new reads reads' writes writes'
 ends_memory left now old new reads reads' writes writes' n part took few = record {
@@ -197,17 +198,17 @@ ends_fault r q s g left now next old held new reads reads' reads'' writes writes
     (below MAX_INPUT q.taken (λ many. let e = f.above many in cc)) w
 
 -- all was taken, and the rest of the replies was written
-pub ends_well : (r q : Reader) (s : State) (g g' : List ℕ) (left now next old held new : Option (List ℕ)) (reads reads' reads'' writes writes' writes'' : ℕ) (all b : Bool) → Serves r s g left now old held reads reads' writes writes'
-    → IsAtEnd (input_of r now) → IsAtEnd next → Took left next q.taken → q.taken ≤ MAX_INPUT → PutsAnswers s.pieces (cut_off s.pending) b g g' → all ≡ (s.refused || b) → Appends held new g' → Ends (Ok all) left next old new reads reads'' writes writes''
-ends_well r q s g g' left now next old held new reads reads' reads'' writes writes' writes'' all b h at done took few puts mark written =
-    ends_run left next old new reads reads'' writes writes'' q.taken all (run_of r s g g' left now old held new reads reads' writes writes' all b h at puts mark written) done took few
+pub ends_well : (r : Reader) (s : State) (g g' : List ℕ) (left now old held new : Option (List ℕ)) (reads reads' writes writes' writes'' : ℕ) (all b : Bool) → Serves r s g left now old held reads reads' writes writes'
+    → r.held ≡ [] → r.ended ≡ true → PutsAnswers s.pieces (cut_off s.pending) b g g' → all ≡ (s.refused || b) → Appends held new g' → Ends (Ok all) left now old new reads reads' writes writes''
+ends_well r s g g' left now old held new reads reads' writes writes' writes'' all b h none ended puts mark written =
+    ends_run left now old new reads reads' writes writes'' r.taken all (run_of r s g g' left now old held new reads reads' writes writes' all b h (all_taken r now none ended) puts mark written) (h.ended ended) h.took h.within
 
 -- all was taken, and the rest of the replies could not be written
-pub ends_last_unwritten : (r q : Reader) (s : State) (g g' : List ℕ) (left now next old held new : Option (List ℕ)) (reads reads' reads'' writes writes' writes'' : ℕ) (b : Bool) (f : ServeFault) → Serves r s g left now old held reads reads' writes writes'
-    → IsAtEnd (input_of r now) → Took left next q.taken → q.taken ≤ MAX_INPUT → PutsAnswers s.pieces (cut_off s.pending) b g g' → AppendsProperPrefix held new g' → f ≡ Write → Rose writes' writes'' → Ends (Err f) left next old new reads reads'' writes writes''
-ends_last_unwritten r q s g g' left now next old held new reads reads' reads'' writes writes' writes'' b f h at took few puts part is rose =
-    subst (λ (e : ServeFault). Ends (Err e) left next old new reads reads'' writes writes'') (sym is)
-    (ends_write left next old new reads reads'' writes writes'' q.taken (run_in_part r s g g' left now old held new reads reads' writes writes' b h at puts part) (rose_later writes writes' writes'' h.write_count rose) took few)
+pub ends_last_unwritten : (r : Reader) (s : State) (g g' : List ℕ) (left now old held new : Option (List ℕ)) (reads reads' writes writes' writes'' : ℕ) (b : Bool) (f : ServeFault) → Serves r s g left now old held reads reads' writes writes'
+    → r.held ≡ [] → r.ended ≡ true → PutsAnswers s.pieces (cut_off s.pending) b g g' → AppendsProperPrefix held new g' → f ≡ Write → Rose writes' writes'' → Ends (Err f) left now old new reads reads' writes writes''
+ends_last_unwritten r s g g' left now old held new reads reads' writes writes' writes'' b f h none ended puts part is rose =
+    subst (λ (e : ServeFault). Ends (Err e) left now old new reads reads' writes writes'') (sym is)
+    (ends_write left now old new reads reads' writes writes'' r.taken (run_in_part r s g g' left now old held new reads reads' writes writes' b h (all_taken r now none ended) puts part) (rose_later writes writes' writes'' h.write_count rose) h.took h.within)
 
 -- some of the gathered replies were written, and the reader is the same
 pub readied : (r q : Reader) (s : State) (g g' : List ℕ) (left now old held new : Option (List ℕ)) (reads reads' writes writes' writes'' : ℕ) → Serves r s g left now old held reads reads' writes writes' → q ≡ r

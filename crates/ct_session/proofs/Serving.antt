@@ -1,5 +1,5 @@
 -- What lasts from line to line while a session is served.
-use Rattle.std.proofs.Common.{◌≡◌, ◌≢◌, ℕ, ◌+◌, ◌-◌, ◌<◌, ◌≤◌, Bool, true, false, List, [], ◌∷◌, ◌++◌, length, Option, None, Some, Result, Ok, Err, Vec, refl, sym, ap, ◌∙◌, subst, arith, inl, inr, ◌||◌, ◌↔◌, length-append, append_assoc, append-nil}
+use Rattle.std.proofs.Common.{◌≡◌, ◌≢◌, ℕ, ◌+◌, ◌<◌, ◌≤◌, Bool, true, false, List, [], ◌∷◌, ◌++◌, length, Option, None, Some, Result, Ok, Err, Vec, refl, sym, ap, ◌∙◌, subst, arith, inl, inr, ◌||◌, ◌↔◌, if◌then◌else◌, length-append, append_assoc, append-nil}
 use Rattle.std.specs.Prelude.{All, Contains}
 use Rattle.std.specs.declared.alloc.Global.{Global}
 use Rattle.std.specs.Io.KnownBytes.{Appends, Consumes, IsAtEnd, prepend_known}
@@ -19,38 +19,12 @@ use Rattle.ct_io.specs.Told.{WhereTold, IsAboveLimit, AppendsProperPrefix}
 use Rattle.ct_commands.specs.Command.{completed, commands_of, cut_off}
 use Rattle.ct_session.specs.Run.{AnswersCommands, IsRun, PutsAnswers}
 use Rattle.ct_session.specs.Serve.{WritesRun, WritesRunPrefix, WritesRunProperPrefix, AnswersLines, AnswersTaken, AnswersButLastRead}
+use Rattle.ct_session.specs.Inside.Serving.{Follows, Took, Given, Serves, unserved}
 use Rattle.ct_session.specs.Inside.State.{State, fresh_state, TakesLines, PutsLines}
 use Rattle.ct_session.specs.Inside.Writing.{WritesSome, IsReady}
-use Rattle.ct_session.proofs.Taking.{Follows, takes_none, takes_more, whole_run, prefix_written, proper_prefix_written}
+use Rattle.ct_session.proofs.Taking.{takes_none, takes_more, whole_run, prefix_written, proper_prefix_written}
 
 -- ---- the bytes that were taken
-
--- known bytes lost n of them
-abbrev pub Took : Option (List ℕ) → Option (List ℕ) → ℕ → Type 0
-Took old new n = (bytes : List ℕ) × Consumes old new bytes × (n ≡ length bytes)
-
--- the bytes that were taken are lines that line feeds end, and those that are held
-pub record Given (left now : Option (List ℕ)) (lines : List (List ℕ)) (held : List ℕ) : Type 0 where
-  pub bytes : List ℕ
-  pub taken : Consumes left now bytes
-  pub divided : bytes ≡ ended_lines lines ++ held
-  pub whole : All IsLine lines
-
--- the lines that were taken, what was written of the replies to them, the bytes that were taken, and the counts of faults
-pub record Serves (r : Reader) (s : State) (gathered : List ℕ) (left now old held : Option (List ℕ)) (reads reads' writes writes' : ℕ) : Type 0 where
-  pub lines : List (List ℕ)
-  pub written : List ℕ
-  pub takes : TakesLines fresh_state s lines (written ++ gathered)
-  pub wrote : Appends old held written
-  pub follows : Follows left (input_of r now) lines
-  pub given : r.ended ≡ false → Given left now lines r.held
-  pub took : Took left now r.taken
-  pub within : r.taken ≤ MAX_INPUT
-  pub inside : length r.held ≤ r.taken
-  pub ended : r.ended ≡ true → IsAtEnd now
-  pub healthy : r.fault ≡ None
-  pub read_count : reads ≤ reads'
-  pub write_count : writes ≤ writes'
 
 took_none : (left : Option (List ℕ)) → Took left left 0
 took_none left = ([], Consumes-nil left, refl)
@@ -87,7 +61,7 @@ within_limit {X} x n h = elim (leb_tells n MAX_INPUT) [ inl t ↦ t.1 | inr t �
 
 -- each line takes the reader further: fewer bytes of the limit are left
 line_advances : (r q : Reader) (now next : Option (List ℕ)) (line : Vec ℕ Global) → Takes r q now next (Ok (Some line)) → length r.held ≤ r.taken → q.taken ≤ MAX_INPUT
-    → (MAX_INPUT - (q.taken - length q.held) < MAX_INPUT - (r.taken - length r.held)) × (length q.held ≤ q.taken)
+    → (unserved q < unserved r) × (length q.held ≤ q.taken)
 line_advances r q now next line h inside within =
     let given = Takes-line r q now next line h in
     let held = Takes-within r q now next (Ok (Some line)) h inside in
@@ -95,7 +69,7 @@ line_advances r q now next line h inside within =
 
 pub advances : (r q : Reader) (s : State) (gathered : List ℕ) (left now next old held : Option (List ℕ)) (reads reads' writes writes' : ℕ) (line : Vec ℕ Global)
     → Serves r s gathered left now old held reads reads' writes writes' → Takes r q now next (Ok (Some line)) → q.taken ≤ MAX_INPUT
-    → MAX_INPUT - (q.taken - length q.held) < MAX_INPUT - (r.taken - length r.held)
+    → unserved q < unserved r
 advances r q s gathered left now next old held reads reads' writes writes' line h takes within = (line_advances r q now next line takes h.inside within).0
 
 -- once the end was seen, the source is at its end
@@ -193,6 +167,45 @@ serves_on r q s t g g' left now next old held reads reads' reads'' writes writes
       within = within;
       inside = advance.1;
       ended = ended;
+      healthy = healthy;
+      read_count = omega (arith, before, counted);
+      write_count = h.write_count;
+    }
+
+first_of_two : (b : Bool) (x y : Option (List ℕ)) → b ≡ true → (if b then x else y) ≡ x
+first_of_two true x y e = refl
+first_of_two false x y e = absurd cc
+
+-- at the end of the input a reader has what it holds
+input_of-ended : (r : Reader) (now : Option (List ℕ)) → r.ended ≡ true → input_of r now ≡ Some r.held
+input_of-ended r now e = first_of_two r.ended (Some r.held) (prepend_known r.held now) e
+
+-- and where it holds nothing, nothing is left
+pub all_taken : (r : Reader) (now : Option (List ℕ)) → r.held ≡ [] → r.ended ≡ true → IsAtEnd (input_of r now)
+all_taken r now none ended = subst IsAtEnd (sym (input_of-ended r now ended)) none
+
+follows_to_end : (left now : Option (List ℕ)) (lines : List (List ℕ)) (held : List ℕ) → Follows left now lines → IsAtEnd now → held ≡ [] → Follows left (Some held) lines
+follows_to_end None now lines held h at none = tt
+follows_to_end (Some input) None lines held h at none = absurd h
+follows_to_end (Some input) (Some before) lines held h at none = h ∙ ap (λ (b : List ℕ). lines ++ lines_of b) (at ∙ sym none)
+
+-- no line was left, and all of the input was taken
+pub serves_to_end : (r q : Reader) (s : State) (g : List ℕ) (left now next old held : Option (List ℕ)) (reads reads' reads'' writes writes' : ℕ) → Serves r s g left now old held reads reads' writes writes'
+    → IsAtEnd (input_of r now) → Takes r q now next (Ok None) → q.taken ≤ MAX_INPUT → q.held ≡ [] → q.ended ≡ true → IsAtEnd next → q.fault ≡ None → reads' ≤ reads''
+    → Serves q s g left next old held reads reads'' writes writes'
+serves_to_end r q s g left now next old held reads reads' reads'' writes writes' h at takes within none ended done healthy counted =
+    let before = h.read_count in
+    record {
+      lines = h.lines;
+      written = h.written;
+      takes = h.takes;
+      wrote = h.wrote;
+      follows = subst (λ (i : Option (List ℕ)). Follows left i h.lines) (sym (input_of-ended q next ended)) (follows_to_end left (input_of r now) h.lines q.held h.follows at none);
+      given = λ going. absurd cc;
+      took = took_more left now next r.taken q.taken takes.0 h.took takes.1 takes.2;
+      within = within;
+      inside = Takes-within r q now next (Ok None) takes h.inside;
+      ended = λ e. done;
       healthy = healthy;
       read_count = omega (arith, before, counted);
       write_count = h.write_count;

@@ -1,6 +1,6 @@
 -- Lines that are taken one after another, and the run that they are a part of.
 use Rattle.std.proofs.Common.{◌≡◌, ◌≢◌, ℕ, Bool, true, false, ◌||◌, List, [], ◌∷◌, ◌++◌, Option, Some, None, refl, sym, ap, ◌∙◌, subst, append_assoc}
-use Rattle.std.specs.Prelude.{fold, ⊤}
+use Rattle.std.specs.Prelude.{fold}
 use Rattle.std.proofs.Math.Bool.{or-false}
 use Rattle.std.specs.Option.{option_to_list}
 use Rattle.std.specs.Io.KnownBytes.{Appends}
@@ -13,6 +13,7 @@ use Rattle.ct_ledger.proofs.StandingLemmas.{AreStanding-none}
 use Rattle.ct_session.specs.Reply.{pieces_after}
 use Rattle.ct_session.specs.Run.{AnswersCommands, IsRun}
 use Rattle.ct_session.specs.Serve.{WritesRunPrefix, WritesRunProperPrefix}
+use Rattle.ct_session.specs.Inside.Serving.{Follows}
 use Rattle.ct_session.specs.Inside.State.{State, fresh_state, TakesLines}
 use Rattle.ct_session.proofs.Answering.{append_answers}
 use Rattle.ct_session.proofs.Existence.{AreStanding-fold, some_answers}
@@ -97,12 +98,6 @@ goes_on s lines rest text h =
       subst (λ (cs : List Command). AnswersCommands [] cs (text ++ some.0) (h.refused || some.1)) (sym spelled)
           (append_answers [] first others text some.0 h.refused some.1 h.answers some.2),
     )
-
--- the lines of an input are those that were taken, and those of the bytes that are left, where the source tells its bytes
-abbrev pub Follows : Option (List ℕ) → Option (List ℕ) → List (List ℕ) → Type 0
-Follows None now lines = ⊤
-Follows (Some input) None lines = ⊥
-Follows (Some input) (Some now) lines = lines_of input ≡ lines ++ lines_of now
 
 -- of the replies to the lines that were taken, a part was written
 pub prefix_written : (left now old new : Option (List ℕ)) (s : State) (lines : List (List ℕ)) (text front back : List ℕ) → TakesLines fresh_state s lines text → Follows left now lines → text ≡ front ++ back

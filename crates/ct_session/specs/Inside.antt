@@ -2,3 +2,4 @@
 pub mod State
 pub mod Writing
 pub mod Ending
+pub mod Serving

@@ -1,11 +1,14 @@
 //! The loop that serves a session.
 
-ghost use Rattle.std.specs.Prelude.{◌≡◌, ◌≢◌, ◌≤◌, ◌+◌, ◌↔◌, Bool, Err, IfOk, IfErr, OnOk, OnErr, [], length};
+ghost use Rattle.std.specs.Prelude.{◌≡◌, ◌≢◌, ◌≤◌, ◌+◌, ◌↔◌, ℕ, Bool, true, Option, List, Err, IfOk, IfErr, OnOk, OnErr, [], ◌∷◌, length};
 ghost use Rattle.std.specs.Io.KnownBytes.{Appends, IsAtEnd};
 ghost use Rattle.ct_io.specs.Faults.{Rose};
 ghost use Rattle.ct_io.specs.Told.{AppendsProperPrefix, WhereTold, IsAboveLimit};
 ghost use Rattle.ct_io.specs.declared.TheConstants.{MAX_INPUT, MAX_READ};
+ghost use Rattle.ct_io.specs.Reader.{Reader};
 ghost use Rattle.ct_session.specs.Inside.Ending.{Ends};
+ghost use Rattle.ct_session.specs.Inside.Serving.{Serves, StepsTo};
+ghost use Rattle.ct_session.specs.Inside.State.{PutsLines};
 ghost use Rattle.ct_session.specs.Inside.Writing.{WritesSome, IsReady, BreaksOff, read_fault};
 ghost use Rattle.ct_session.specs.Serve.{WritesRun, WritesRunPrefix, WritesRunProperPrefix, AnswersTaken, AnswersButLastRead};
 
@@ -89,6 +92,81 @@ fn read_fault(fault: LineFault) -> ServeFault
     }
 }
 
+/// What a step of a session comes to.
+enum Step {
+    /// A line was taken, and the command that it completes, if it completes one, was answered.
+    Line,
+    /// All of the input was taken.
+    End,
+}
+
+/// Answers the command that the line completes, if it completes one, among the replies that are gathered. After an `Err` the session is
+/// broken off.
+fn answer_line<K: Sink>(
+    alloc: Global,
+    session: &mut Session,
+    line: Vec<u8>,
+    gathered: &mut Vec<u8>,
+    sink: &mut K,
+) -> Result<(), ServeFault>
+    ensures line { OnOk result (PutsLines session.old session.new (line.items ∷ []) gathered.old.items gathered.new.items) }
+    ensures unwritten { OnOk result (sink.new ≡ sink.old) }
+    ensures broken_off { IfErr result (λ fault. BreaksOff ServeFault.Memory fault gathered.old.items
+        (K.holds sink.old) (K.holds sink.new) (K.faults sink.old) (K.faults sink.new)) }
+{
+    match session.take_line(alloc, &line, gathered) {
+        Ok(()) => Ok(()),
+        Err(_) => Err(break_off(sink, gathered, ServeFault::Memory)),
+    }
+}
+
+/// Takes the next line, if there is one, and answers the command that it completes. Whatever was served before, it is gone on with, or
+/// the session ends as it is to end.
+fn serve_line<S: Source, K: Sink>(
+    alloc: Global,
+    reader: &mut LineReader,
+    session: &mut Session,
+    gathered: &mut Vec<u8>,
+    source: &mut S,
+    sink: &mut K,
+) -> Result<Step, ServeFault>
+    ensures { (left old : Option (List ℕ)) (reads writes : ℕ)
+        → Serves reader.old session.old gathered.old.items left (S.left source.old) old (K.holds sink.old)
+        reads (S.faults source.old) writes (K.faults sink.old)
+        → StepsTo result reader.old reader.new session.new gathered.new.items left (S.left source.new) old (K.holds sink.new)
+        reads (S.faults source.new) writes (K.faults sink.new) }
+{
+    make_ready(reader, sink, gathered)?;
+    match reader.next_line(source) {
+        Ok(Some(line)) => {
+            answer_line(alloc, session, line, gathered, sink)?;
+            Ok(Step::Line)
+        }
+        Ok(None) => Ok(Step::End),
+        Err(fault) => Err(break_off(sink, gathered, read_fault(fault))),
+    }
+}
+
+/// Takes the end of the input, and writes the replies that are still gathered. `Ok` tells whether any reply is a refusal.
+fn end_session<K: Sink>(
+    alloc: Global,
+    session: Session,
+    gathered: Vec<u8>,
+    sink: &mut K,
+) -> Result<bool, ServeFault>
+    ensures { (r : Reader) (left now old : Option (List ℕ)) (reads reads' writes : ℕ)
+        → Serves r session gathered.items left now old (K.holds sink.old) reads reads' writes (K.faults sink.old)
+        → r.held ≡ [] → r.ended ≡ true
+        → Ends result left now old (K.holds sink.new) reads reads' writes (K.faults sink.new) }
+{
+    let mut gathered = gathered;
+    let Ok(refused) = session.finish(alloc, &mut gathered) else {
+        return Err(break_off(sink, &gathered, ServeFault::Memory));
+    };
+    write_gathered(sink, &mut gathered)?;
+    Ok(refused)
+}
+
 /// Serves a session, as `serve_session` does.
 fn serve_lines<S: Source, K: Sink>(
     alloc: Global,
@@ -106,21 +184,19 @@ fn serve_lines<S: Source, K: Sink>(
     };
     let mut gathered = Vec::new(alloc);
     'lines: loop {
-        make_ready(&mut reader, sink, &mut gathered)?;
-        let line = match reader.next_line(source) {
-            Ok(Some(line)) => line,
-            Ok(None) => break,
-            Err(fault) => return Err(break_off(sink, &gathered, read_fault(fault))),
-        };
-        let Ok(()) = session.take_line(alloc, &line, &mut gathered) else {
-            return Err(break_off(sink, &gathered, ServeFault::Memory));
-        };
+        match serve_line(
+            alloc,
+            &mut reader,
+            &mut session,
+            &mut gathered,
+            source,
+            sink,
+        )? {
+            Step::Line => {}
+            Step::End => break,
+        }
     }
-    let Ok(refused) = session.finish(alloc, &mut gathered) else {
-        return Err(break_off(sink, &gathered, ServeFault::Memory));
-    };
-    write_gathered(sink, &mut gathered)?;
-    Ok(refused)
+    end_session(alloc, session, gathered, sink)
 }
 
 /// Serves a session: takes the lines of the source to its end, and writes the replies to the sink. `Ok` tells whether any reply is a

@@ -1,6 +1,4 @@
-use Rattle.std.proofs.Common.{◌-◌, length}
-use Rattle.ct_io.specs.declared.TheConstants.{MAX_INPUT}
-use Rattle.ct_session.proofs.Serving.{Serves}
+use Rattle.ct_session.specs.Inside.Serving.{Serves, unserved}
 use Rattle.ct_session.proofs.serve.serve_lines.Given as goal
 
 abbrev pub invariant-lines : goal.invariant-lines
@@ -8,4 +6,4 @@ invariant-lines g l = Serves l.reader l.session l.gathered.items (g.S.Source.lef
     (g.S.Source.faults l.fn.source) (g.S.Source.faults l.source) (g.K.Sink.faults l.fn.sink) (g.K.Sink.faults l.sink)
 
 abbrev pub decreases-lines : goal.decreases-lines
-decreases-lines g l = MAX_INPUT - (l.reader.taken - length l.reader.held)
+decreases-lines g l = unserved l.reader
