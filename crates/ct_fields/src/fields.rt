@@ -1,5 +1,6 @@
 //! The fields of a document.
 ghost use Rattle.std.specs.Prelude.{◌≡◌, ◌+◌, ◌^◌, ◌<◌, ◌≤◌, length, IfOk, option_map};
+ghost use Rattle.toml.specs.Data.{as_str};
 ghost use Rattle.toml.specs.View.{view, items_view};
 ghost use Rattle.ct_words.specs.declared.limits.TheConstants.{MAX_N};
 ghost use Rattle.ct_fields.specs.Reads.{Reads, texts_behind};
@@ -48,15 +49,25 @@ pub fn texts_field<'a>(
     }
 }
 
+/// The text that the value is.
+fn text_in(value: &Value) -> Option<&str>
+    ensures { option_map (λ text. text.now) result ≡ as_str (view value.now) }
+{
+    match value {
+        Value::String(text) => Some(text.as_str()),
+        _ => None,
+    }
+}
+
 fn texts_of(alloc: Global, values: &[Value]) -> Result<Option<Vec<&str>>, AllocError>
     ensures { IfOk result (λ o. option_map (λ v. texts_behind v.items) o ≡ texts_of (items_view values.now)) }
 {
     let mut texts = Vec::new(alloc);
     for value in values {
-        let Value::String(text) = value else {
+        let Some(text) = text_in(value) else {
             return Ok(None);
         };
-        texts.push(text.as_str())?;
+        texts.push(text)?;
     }
     Ok(Some(texts))
 }
