@@ -1,7 +1,7 @@
 //! The table of a build.
-ghost use Rattle.std.specs.Prelude.{◌≡◌, ◌<◌, ◌≤◌, All, IfOk, IfSome, OnOk, IsTrue};
+ghost use Rattle.std.specs.Prelude.{◌≡◌, ◌<◌, ◌≤◌, All, IfOk, IfSome, OnOk, IsTrue, pos};
 ghost use Rattle.std.specs.Str.{IsAscii};
-ghost use Rattle.toml.specs.Data.{string};
+ghost use Rattle.toml.specs.Data.{string, integer};
 ghost use Rattle.toml.specs.View.{view, table_view};
 ghost use Rattle.ct_words.specs.declared.limits.TheConstants.{MAX_N};
 ghost use Rattle.ct_text.specs.Id.{is_id};
@@ -18,13 +18,20 @@ use ct_text::Id;
 use std::alloc::{AllocError, Global};
 use toml::{Table, Value};
 
+/// The number as a value.
+fn number_value(number: u32) -> Value
+    ensures { view result ≡ integer (pos number) }
+{
+    Value::from(number)
+}
+
 /// The list of the numbers.
 fn number_list(alloc: Global, numbers: &[u32]) -> Result<Value, AllocError>
     ensures { IfOk result (λ value. view value ≡ number_list numbers.now) }
 {
     let mut values = Vec::with_capacity(alloc, numbers.len())?;
     for number in numbers {
-        values.push(Value::from(*number))?;
+        values.push(number_value(*number))?;
     }
     Ok(Value::Array(values))
 }
