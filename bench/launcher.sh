@@ -137,17 +137,25 @@ check 'a touched source needs no build' runs 0
 echo '// edited' >>"$repository/crates/ct_laws/src/lib.rt"
 check 'a source that the program does not stand on needs no build' runs 0
 
+# Waits until rt is called once more.
+begins() {
+    while [ "$(calls)" -le "$1" ]; do sleep 0.1; done
+}
+
 echo 0.8 >"$work/pause"
-(sleep 1.5 && echo '// edited meanwhile' >>"$source") &
 echo '// edited' >>"$source"
+before=$(calls)
+(begins "$before" && echo '// edited meanwhile' >>"$source") &
 check 'a source that is edited during the build is built in the end' runs 4
 wait
-(sleep 1.5 && rm "$repository/crates/ct_words/proofs/Lib.antt") &
 echo '// edited' >>"$source"
+before=$(calls)
+(begins "$before" && rm "$repository/crates/ct_words/proofs/Lib.antt") &
 check 'a source that is deleted during the build is not built in the end' runs 4
 wait
-(sleep 1 && cp -p "$source" "$work/kept" && echo '// edited meanwhile' >>"$source" && sleep 1 && cp -p "$work/kept" "$source") &
 echo '// edited' >>"$source"
+before=$(calls)
+(begins "$before" && cp -p "$source" "$work/kept" && echo '// edited meanwhile' >>"$source" && sleep 1 && cp -p "$work/kept" "$source") &
 check 'a source that is edited and put back during the build is built as it stands' runs 2
 wait
 echo 0.1 >"$work/pause"
