@@ -16,6 +16,3 @@ pub use instance::Instance;
 pub use instances::Instances;
 pub use kept::{Kept, Saved};
 pub use number::{ENTRIES, SLOTS, slot_at, slot_number, slots_have_numbers};
-
-#[cfg(test)]
-mod tests;

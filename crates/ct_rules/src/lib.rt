@@ -23,6 +23,3 @@ pub use rule_laws::{
     known_values, premises_are_entries, rules_are_monotone, rules_are_sound,
 };
 pub use support::Support;
-
-#[cfg(test)]
-mod tests;

@@ -7,29 +7,17 @@ ghost use Rattle.ct_closure.specs.Instance.{AreInstances};
 ghost use Rattle.ct_closure.specs.Kept.{IsKept};
 ghost use Rattle.ct_closure.specs.Number.{bound_of};
 
-use super::*;
+use crate::known::GOLAY;
+use ct_closure::{
+    Instances, Kept, SLOTS, close_all, close_changed, close_support, slot_at, slot_number,
+    support_improves,
+};
 use ct_codes::{Entry, Side, check_cosets};
 use ct_rules::Support;
-use ct_words::{MAX_BOUND, Word};
+use ct_words::MAX_BOUND;
 use std::alloc::{AllocError, Global};
 use std::process::Abort;
 use std::test::Fail;
-
-/// A basis of the extended Golay code of length 24 and distance 8 (Golay 1949).
-const GOLAY: [Word; 12] = [
-    0b101011100011000000000001,
-    0b010101110001100000000001,
-    0b001010111000110000000001,
-    0b000101011100011000000001,
-    0b000010101110001100000001,
-    0b000001010111000110000001,
-    0b000000101011100011000001,
-    0b000000010101110001100001,
-    0b000000001010111000110001,
-    0b000000000101011100011001,
-    0b000000000010101110001101,
-    0b000000000001010111000111,
-];
 
 // The first and the last entries of the table, by hand: a row of 30 weights for each of 26 distances at each of 28 lengths.
 #[test]
@@ -44,9 +32,9 @@ fn numbers_of_slots(rt: HostRuntime) {
     ] {
         let entry = Entry { n, d, w };
         assert!(rt; entry.in_table());
-        assert_eq!(rt; slot_number(Side::Lower, entry), want);
-        assert_eq!(rt; slot_number(Side::Upper, entry), want + 21840);
-        assert_eq!(rt; slot_at(want), Some((Side::Lower, entry)));
+        assert!(rt; slot_number(Side::Lower, entry) == want);
+        assert!(rt; slot_number(Side::Upper, entry) == want + 21840);
+        assert!(rt; slot_at(want) == Some((Side::Lower, entry)));
     }
 }
 
@@ -54,7 +42,7 @@ fn numbers_of_slots(rt: HostRuntime) {
 #[test]
 fn numbers_of_no_slot(rt: HostRuntime) {
     for number in [1, 33, 21781, 21873] {
-        assert_eq!(rt; slot_at(number), None, "{number}");
+        assert!(rt; slot_at(number).is_none(), "{number}");
     }
 }
 
@@ -67,7 +55,7 @@ fn count_of_slots(rt: HostRuntime) {
             count = count.saturating_add(1);
         }
     }
-    assert_eq!(rt; count, 2 * 6370);
+    assert!(rt; count == 2 * 6370);
 }
 
 /// How many instances that name no support are at the entry.
@@ -98,7 +86,7 @@ fn instances_of_entries(rt: HostRuntime) -> Result<(), Fail> {
         (4, 8, Some(2), 0),
     ] {
         let entry = Entry { n, d, w };
-        assert_eq!(rt; count_at(&instances, entry), want);
+        assert!(rt; count_at(&instances, entry) == want);
     }
     Ok(())
 }
@@ -116,9 +104,9 @@ fn users_of_a_slot(rt: HostRuntime) -> Result<(), Fail> {
         w: None,
     };
     let lower = instances.users(Side::Lower, entry).len();
-    assert_eq!(rt; lower, 7 + 2 * 21 * 22 / 2);
+    assert!(rt; lower == 7 + 2 * 21 * 22 / 2);
     let upper = instances.users(Side::Upper, entry).len();
-    assert_eq!(rt; upper, 5);
+    assert!(rt; upper == 5);
     Ok(())
 }
 
@@ -205,7 +193,7 @@ fn closes_over_no_supports(rt: HostRuntime) -> Result<(), Fail> {
         (16, 8, 32),
         (24, 8, 512),
     ] {
-        assert_eq!(rt; lower(&kept, n, d), Some(want), "{n} {d}");
+        assert!(rt; lower(&kept, n, d) == Some(want), "{n} {d}");
     }
     Ok(())
 }
@@ -227,7 +215,7 @@ fn closes_over_a_support(rt: HostRuntime) -> Result<(), Fail> {
         (22, 7, 2048),
         (12, 4, 128),
     ] {
-        assert_eq!(rt; lower(&kept, n, d), Some(want), "{n} {d}");
+        assert!(rt; lower(&kept, n, d) == Some(want), "{n} {d}");
     }
     Ok(())
 }

@@ -1,7 +1,7 @@
 //! The rules at the ends of their ranges, and outside of them, with numbers that are worked out by hand.
 
-use super::*;
 use ct_codes::{Entry, Side};
+use ct_rules::{Rule, Support, premise, premise_count, rule_side, value};
 use ct_words::MAX_BOUND;
 
 /// Each rule, with the first support, and a length and a distance, where it names any.
@@ -86,17 +86,13 @@ fn premises_at_the_ends(rt: HostRuntime) {
         (Rule::U8, 27, 28, 1, Some((28, 28)), None),
     ] {
         let at = |j| premise(&[], rule, plain(n, d), j);
-        let wanted = (Some(count), on_side(rule, first), on_side(rule, second));
-        assert_eq!(rt;
-            (premise_count(&[], rule, plain(n, d)), at(0), at(1)),
-            wanted,
+        assert!(rt;
+            premise_count(&[], rule, plain(n, d)) == Some(count),
             "{rule:?}"
         );
-        assert_eq!(rt;
-            (at(2), at(usize::MAX)),
-            (None, None),
-            "{rule:?} at ({n},{d})"
-        );
+        assert!(rt; at(0) == on_side(rule, first), "{rule:?}");
+        assert!(rt; at(1) == on_side(rule, second), "{rule:?}");
+        assert!(rt; at(2).is_none() && at(usize::MAX).is_none(), "{rule:?}");
         assert!(rt; value(&[], rule, plain(n, d), &[1, 1]).is_some());
     }
 }
@@ -225,7 +221,7 @@ fn values_at_the_ends(rt: HostRuntime) {
         (Rule::U8, 27, 3, MAX_BOUND + 1, 9, Some(MAX_BOUND)),
     ] {
         let given = value(&[], rule, plain(n, d), &[first, second, 3]);
-        assert_eq!(rt; given, want, "{rule:?} of {first}, {second}");
+        assert!(rt; given == want, "{rule:?} of {first}, {second}");
     }
 }
 
@@ -240,13 +236,12 @@ fn values_by_weight_and_without_premises(rt: HostRuntime) {
         (Rule::L3, plain(28, 28), 0),
         (Rule::L11(14, 14), plain(28, 28), 0),
     ] {
-        assert_eq!(rt;
-            value(&[], rule, entry, &[]),
-            Some(want),
+        assert!(rt;
+            value(&[], rule, entry, &[]) == Some(want),
             "{rule:?} at {entry:?}"
         );
     }
-    assert_eq!(rt; value(&[], Rule::L8, plain(28, 5), &[7]), Some(0));
+    assert!(rt; value(&[], Rule::L8, plain(28, 5), &[7]) == Some(0));
 }
 
 // A support gives its own size at its own entry, where the rule names its place and the size is a bound of the table.
@@ -275,16 +270,14 @@ fn sizes_of_supports(rt: HostRuntime) {
         (Rule::M10(1), plain(28, 3), None, None),
         (Rule::M10(u32::MAX), weighted(28, 4, 2), None, None),
     ] {
-        assert_eq!(rt;
-            premise_count(&supports, rule, entry),
-            count,
+        assert!(rt;
+            premise_count(&supports, rule, entry) == count,
             "{rule:?} at {entry:?}"
         );
-        assert_eq!(rt;
-            value(&supports, rule, entry, &[]),
-            want,
+        assert!(rt;
+            value(&supports, rule, entry, &[]) == want,
             "{rule:?} at {entry:?}"
         );
-        assert_eq!(rt; premise(&supports, rule, entry, 0), None);
+        assert!(rt; premise(&supports, rule, entry, 0).is_none());
     }
 }

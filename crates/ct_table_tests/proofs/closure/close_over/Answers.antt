@@ -1,7 +1,7 @@
 use Rattle.std.proofs.Common.{[], ◌∷◌}
 use Rattle.ct_closure.specs.Number.{bound_of}
 use Rattle.ct_closure.proofs.SupportLemmas.{IsKept-over_more, AreSatisfiedBut-last}
-use Rattle.ct_closure.proofs.tests.close_over.Goals as goal
+use Rattle.ct_table_tests.proofs.closure.close_over.Goals as goal
 
 pub support_improves-improves-requires-clause-kept : goal.support_improves-improves-requires-clause-kept
 support_improves-improves-requires-clause-kept c =
