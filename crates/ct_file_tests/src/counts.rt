@@ -9,10 +9,10 @@ use std::test::Fail;
 fn long_documents(rt: HostRuntime) -> Result<(), Fail> {
     let alloc = rt.alloc();
     let mut bytes = b"kind = 'words'\nn = 6\nd = 4\nwords = ['111100']\n".to_vec(alloc)?;
-    for length in [102400, 4194304] {
-        bytes.resize(length, b'#')?;
-        assert!(rt; read_evidence(alloc, &bytes).is_ok());
-    }
+    bytes.resize(102400, b'#')?;
+    assert!(rt; read_evidence(alloc, &bytes).is_ok());
+    bytes.resize(4194304, b'#')?;
+    assert!(rt; read_evidence(alloc, &bytes).is_ok());
     bytes[0] = b'=';
     assert!(rt; read_evidence(alloc, &bytes).err() == Some(FileFault::NotToml));
     bytes.push(b'#')?;
