@@ -12,8 +12,6 @@ mod limits;
 mod needed;
 mod piece;
 mod support;
-#[cfg(test)]
-mod tests;
 mod text;
 
 pub use fault::{SubmitFault, WithdrawFault};

@@ -1,14 +1,8 @@
 //! The program `code_tables`.
 #![tactic(auto)]
 
-mod mode;
-mod run;
-mod status;
-
-use crate::mode::after_name;
-use crate::run::run;
-use crate::status::Status;
 use ct_io::{StdSink, StdSource};
+use ct_run::{Status, after_name, run};
 use std::alloc::AllocError;
 use std::process::ExitCode;
 use std::{env, io};
@@ -43,14 +37,3 @@ fn main(rt: HostRuntime) -> ExitCode {
     let status = run(rt.alloc(), after_name(&words), &mut source, &mut sink);
     ExitCode::from(status.number())
 }
-
-#[cfg(test)]
-mod tests;
-#[cfg(test)]
-mod tests_builds;
-#[cfg(test)]
-mod tests_codes;
-#[cfg(test)]
-mod tests_evidence;
-#[cfg(test)]
-mod tests_tables;

@@ -7,10 +7,10 @@ use Rattle.std.specs.Io.KnownBytes.{Appends}
 use Rattle.ct_io.specs.Told.{AppendsPrefix, AppendsProperPrefix}
 use Rattle.ct_session.specs.Run.{IsRun}
 use Rattle.ct_session.specs.Serve.{AnswersTaken, AnswersButLastRead}
-use Rattle.ct_program.specs.declared.mode.Mode.{Mode}
-use Rattle.ct_program.specs.declared.mode.Mode.TheVariants.{Session}
-use Rattle.ct_program.specs.declared.status.Status.{Status}
-use Rattle.ct_program.specs.declared.status.Status.TheVariants as status
+use Rattle.ct_run.specs.declared.mode.Mode.{Mode}
+use Rattle.ct_run.specs.declared.mode.Mode.TheVariants.{Session}
+use Rattle.ct_run.specs.declared.status.Status.{Status}
+use Rattle.ct_run.specs.declared.status.Status.TheVariants as status
 
 -- the words of the command line, as bytes
 abbrev pub bytes_of : List (String Global) → List (List ℕ)

@@ -21,7 +21,7 @@ pub enum Status {
 
 impl Status {
     ghost use Rattle.std.specs.Prelude.{◌≡◌};
-    ghost use Rattle.ct_program.specs.Exit.{number_of};
+    ghost use Rattle.ct_run.specs.Exit.{number_of};
 
     /// The number with which the program ends: 0 for `Done`, and 1 to 6 for the others in their order.
     pub fn number(self) -> u8

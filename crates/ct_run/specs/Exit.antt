@@ -2,9 +2,9 @@
 use Rattle.std.specs.Prelude.{ℕ, Bool, Result, Ok, Err}
 use Rattle.ct_session.specs.declared.serve.ServeFault.{ServeFault}
 use Rattle.ct_session.specs.declared.serve.ServeFault.TheVariants as fault
-use Rattle.ct_program.specs.Mode.{status_of}
-use Rattle.ct_program.specs.declared.status.Status.{Status}
-use Rattle.ct_program.specs.declared.status.Status.TheVariants.{Done, Refused, Usage, ReadFault, WriteFault, TooLong, Memory}
+use Rattle.ct_run.specs.Mode.{status_of}
+use Rattle.ct_run.specs.declared.status.Status.{Status}
+use Rattle.ct_run.specs.declared.status.Status.TheVariants.{Done, Refused, Usage, ReadFault, WriteFault, TooLong, Memory}
 
 -- the number of a status
 abbrev pub number_of : Status → ℕ

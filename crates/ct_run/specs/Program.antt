@@ -3,8 +3,8 @@ use Rattle.std.specs.Prelude.{ℕ, List, [], ◌∷◌, ◌++◌, Option, codes}
 use Rattle.std.specs.Io.KnownBytes.{Appends}
 use Rattle.ct_lines.specs.declared.TheConstants.{LINE_FEED}
 use Rattle.ct_io.specs.Told.{AppendsPrefix, AppendsProperPrefix}
-use Rattle.ct_program.specs.declared.status.Status.{Status}
-use Rattle.ct_program.specs.declared.status.Status.TheVariants.{Usage, WriteFault, Memory}
+use Rattle.ct_run.specs.declared.status.Status.{Status}
+use Rattle.ct_run.specs.declared.status.Status.TheVariants.{Usage, WriteFault, Memory}
 
 -- the line that is written where the words are no command
 abbrev pub usage_line : List ℕ

@@ -1,7 +1,7 @@
 //! What the words of the command line ask for.
 
 ghost use Rattle.std.specs.Prelude.{◌≡◌, drop};
-ghost use Rattle.ct_program.specs.Mode.{bytes_of, mode_of};
+ghost use Rattle.ct_run.specs.Mode.{bytes_of, mode_of};
 
 /// A mode of the program.
 #[derive(Clone, Copy, Debug, PartialEq, Eq)]

@@ -5,9 +5,9 @@ ghost use Rattle.std.specs.Io.KnownBytes.{Appends, IsAtEnd};
 ghost use Rattle.ct_io.specs.Faults.{Rose};
 ghost use Rattle.ct_io.specs.Told.{AppendsProperPrefix, WhereTold, IsAboveLimit, IsWithinLimit};
 ghost use Rattle.ct_io.specs.declared.TheConstants.{MAX_INPUT, MAX_READ};
-ghost use Rattle.ct_program.specs.Mode.{bytes_of, mode_of, status_of, IsRunStatus, WritesOutput, WritesPrefix, WritesProperPrefix, AnswersAllTaken, AnswersAllButLast};
-ghost use Rattle.ct_program.specs.Exit.{fault_status, result_status};
-ghost use Rattle.ct_program.specs.Program.{usage_line, WritesUsage};
+ghost use Rattle.ct_run.specs.Mode.{bytes_of, mode_of, status_of, IsRunStatus, WritesOutput, WritesPrefix, WritesProperPrefix, AnswersAllTaken, AnswersAllButLast};
+ghost use Rattle.ct_run.specs.Exit.{fault_status, result_status};
+ghost use Rattle.ct_run.specs.Program.{usage_line, WritesUsage};
 
 use crate::mode::{Mode, named_mode};
 use crate::status::Status;

@@ -1,7 +1,7 @@
 use Rattle.std.proofs.Common.{◌≡◌, Some, sym, ◌∙◌}
-use Rattle.ct_program.specs.Mode.{mode_of, bytes_of}
-use Rattle.ct_program.proofs.Statuses.{sink_failed, session_in_part}
-use Rattle.ct_program.proofs.run.run.Goals as goal
+use Rattle.ct_run.specs.Mode.{mode_of, bytes_of}
+use Rattle.ct_run.proofs.Statuses.{sink_failed, session_in_part}
+use Rattle.ct_run.proofs.dispatch.run.Goals as goal
 
 pub returns-in-Some-Session-clause-written_in_part : goal.returns-in-Some-Session-clause-written_in_part
 returns-in-Some-Session-clause-written_in_part g c =
