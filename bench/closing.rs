@@ -1,14 +1,45 @@
-//! What the table of bounds does, written plainly: the bounds of all entries closed under the rules by a worklist, a support added
-//! and taken out again. Prints how often each step tried a rule, and its time. With `empty`, `nothing` or `golay` and a number it makes
-//! a table and does the step so often, and prints nothing; with the word `lower` it leaves out the upper rules U1 to U8.
+//! What the table of bounds does, written plainly: the bounds of all entries closed under the rules by a worklist of slots, a support
+//! added and taken out again. Prints how often each step asked a rule for its value, and its time. With `empty`, `nothing` or `golay`
+//! and a number it makes a table and does the step so often, and prints nothing.
 
 use std::collections::VecDeque;
 use std::time::Instant;
 
 const MAX_N: u32 = 28;
 const MAX_BOUND: u64 = 1 << 28;
-const ROW: usize = 30;
-const ENTRIES: usize = 28 * 26 * ROW;
+const DISTANCES: usize = 26;
+const EVEN_DISTANCES: usize = 13;
+const ENTRIES: usize = entries_to(28);
+
+const fn entries_to(k: usize) -> usize {
+    k * DISTANCES + EVEN_DISTANCES * (k * (k + 3) / 2)
+}
+
+#[derive(Clone, Copy)]
+struct Entry {
+    n: u32,
+    d: u32,
+    w: Option<u32>,
+}
+
+fn plain(n: u32, d: u32) -> Entry {
+    Entry { n, d, w: None }
+}
+
+impl Entry {
+    fn in_table(self) -> bool {
+        let fits = self.w.is_none_or(|w| self.d % 2 == 0 && w <= self.n);
+        1 <= self.n && self.n <= MAX_N && 3 <= self.d && self.d <= MAX_N && fits
+    }
+
+    fn number(self) -> usize {
+        let in_length = match self.w {
+            None => self.d as usize - 3,
+            Some(w) => DISTANCES + (self.d as usize / 2 - 2) * (self.n as usize + 1) + w as usize,
+        };
+        entries_to(self.n as usize - 1) + in_length
+    }
+}
 
 #[derive(Clone, Copy, PartialEq)]
 enum Rule {
@@ -21,6 +52,7 @@ enum Rule {
     L7,
     L8,
     L11(u32, u32),
+    M7,
     U1,
     U2,
     U3,
@@ -29,22 +61,29 @@ enum Rule {
     U6,
     U7,
     U8,
-    Support(usize),
+    V3,
+    Support(u32),
+}
+
+use Rule::*;
+
+const LOWER: [Rule; 7] = [L2, L3, L4, L5, L6, L7, L8];
+const UPPER: [Rule; 8] = [U1, U2, U3, U4, U5, U6, U7, U8];
+
+#[derive(Clone, Copy)]
+enum Places {
+    None,
+    One(usize),
+    Two(usize, usize),
 }
 
 #[derive(Clone, Copy)]
-struct Instance {
-    rule: Rule,
-    n: u32,
-    d: u32,
-    w: Option<u32>,
-}
-
 struct Line {
-    slot: usize,
+    upper: bool,
+    entry: Entry,
     value: u32,
     rule: Rule,
-    from: Vec<usize>,
+    from: Places,
 }
 
 #[derive(Clone, Copy)]
@@ -55,18 +94,22 @@ struct Support {
 }
 
 struct Table {
-    instances: Vec<Instance>,
-    users: Vec<Vec<u32>>,
-    supports: Vec<Support>,
+    supports: Vec<Option<Support>>,
+    last_at: Vec<Option<u32>>,
+    before: Vec<Option<u32>>,
     bounds: Vec<u32>,
     reasons: Vec<usize>,
     lines: Vec<Line>,
-    tried: u64,
+    base: usize,
+    base_bounds: Vec<u32>,
+    base_reasons: Vec<usize>,
+    marks: Vec<bool>,
+    queue: VecDeque<(bool, Entry)>,
+    asked: u64,
 }
 
-fn slot(upper: bool, n: u32, d: u32, w: Option<u32>) -> usize {
-    let entry = ((n - 1) * 26 + (d - 3)) as usize * ROW + w.map_or(0, |w| w as usize + 1);
-    if upper { ENTRIES + entry } else { entry }
+fn slot(upper: bool, entry: Entry) -> usize {
+    if upper { ENTRIES + entry.number() } else { entry.number() }
 }
 
 fn binomial(n: u32, k: u32) -> u64 {
@@ -75,13 +118,6 @@ fn binomial(n: u32, k: u32) -> u64 {
         value = value * (u64::from(n) - i) / (i + 1);
     }
     value
-}
-
-fn is_upper(rule: Rule) -> bool {
-    matches!(
-        rule,
-        Rule::U1 | Rule::U2 | Rule::U3 | Rule::U4 | Rule::U5 | Rule::U6 | Rule::U7 | Rule::U8
-    )
 }
 
 fn plotkin(n: u32, d: u32) -> Option<u64> {
@@ -95,299 +131,352 @@ fn plotkin(n: u32, d: u32) -> Option<u64> {
     }
 }
 
-fn is_defined(rule: Rule, n: u32, d: u32) -> bool {
+/// The entries that a rule rests on.
+fn rests_on(rule: Rule, e: Entry) -> (Option<Entry>, Option<Entry>) {
+    let Entry { n, d, w } = e;
     match rule {
-        Rule::L2 => d <= n,
-        Rule::L3 => n >= 2,
-        Rule::L4 => d < MAX_N,
-        Rule::L5 => d % 2 == 0 && n >= 2,
-        Rule::L6 => n < MAX_N && d < MAX_N,
-        Rule::L7 => n < MAX_N,
-        Rule::L8 => n % 2 == 0,
-        Rule::L11(m, c) => c <= m && d - c <= n - m,
-        Rule::U1 => d > n,
-        Rule::U2 => d <= n && plotkin(n, d).is_some(),
-        Rule::U4 => d % 2 == 1 && n < MAX_N,
-        Rule::U5 => n >= 2 && d >= 4,
-        Rule::U6 => n >= 2,
-        Rule::U7 => d >= 4,
-        Rule::U8 => n < MAX_N,
+        L3 | U6 => (Some(plain(n - 1, d)), None),
+        L4 => (Some(plain(n, d + 1)), None),
+        L5 | U5 => (Some(plain(n - 1, d - 1)), None),
+        L6 | U4 => (Some(plain(n + 1, d + 1)), None),
+        L7 | U8 => (Some(plain(n + 1, d)), None),
+        U7 => (Some(plain(n, d - 1)), None),
+        L8 if d < 5 => (Some(plain(n / 2, d)), None),
+        L8 => (Some(plain(n / 2, d.div_ceil(2))), Some(plain(n / 2, d))),
+        L11(m, c) => (Some(plain(m, c)), Some(plain(n - m, d - c))),
+        M7 | V3 => (Some(Entry { n, d, w: w.map(|w| n - w) }), None),
+        _ => (None, None),
+    }
+}
+
+fn condition(rule: Rule, e: Entry) -> bool {
+    match rule {
+        L2 => e.d <= e.n,
+        L5 => e.d % 2 == 0,
+        L8 => e.n % 2 == 0,
+        U1 => e.n < e.d,
+        U2 => e.d <= e.n && plotkin(e.n, e.d).is_some(),
+        U4 => e.d % 2 == 1,
         _ => true,
     }
 }
 
-/// The slots that an instance rests on: none, one or two.
-fn premises(i: Instance) -> ([usize; 2], usize) {
-    let Instance { rule, n, d, .. } = i;
-    let one = |upper, n, d| ([slot(upper, n, d, None), 0], 1);
-    let two = |n, d, m, c| ([slot(false, n, d, None), slot(false, m, c, None)], 2);
+/// The entries that may rest on this one.
+fn rested_on_by(rule: Rule, e: Entry) -> [Option<Entry>; 3] {
+    let Entry { n, d, w } = e;
     match rule {
-        Rule::L3 => one(false, n - 1, d),
-        Rule::L4 => one(false, n, d + 1),
-        Rule::L5 => one(false, n - 1, d - 1),
-        Rule::L6 => one(false, n + 1, d + 1),
-        Rule::L7 => one(false, n + 1, d),
-        Rule::L8 if d < 5 => one(false, n / 2, d),
-        Rule::L8 => two(n / 2, d.div_ceil(2), n / 2, d),
-        Rule::L11(m, c) => two(m, c, n - m, d - c),
-        Rule::U4 => one(true, n + 1, d + 1),
-        Rule::U5 => one(true, n - 1, d - 1),
-        Rule::U6 => one(true, n - 1, d),
-        Rule::U7 => one(true, n, d - 1),
-        Rule::U8 => one(true, n + 1, d),
-        _ => ([0, 0], 0),
+        L3 | U6 => [Some(plain(n + 1, d)), None, None],
+        L4 => [Some(plain(n, d - 1)), None, None],
+        L5 | U5 => [Some(plain(n + 1, d + 1)), None, None],
+        L6 | U4 => [Some(plain(n - 1, d - 1)), None, None],
+        L7 | U8 => [Some(plain(n - 1, d)), None, None],
+        U7 => [Some(plain(n, d + 1)), None, None],
+        L8 => [Some(plain(2 * n, d)), Some(plain(2 * n, 2 * d - 1)), Some(plain(2 * n, 2 * d))],
+        M7 | V3 => [Some(Entry { n, d, w: w.map(|w| n - w) }), None, None],
+        _ => [None, None, None],
     }
 }
 
-fn formula(supports: &[Support], i: Instance, first: u64, second: u64) -> u64 {
-    let Instance { rule, n, d, .. } = i;
+fn number(supports: &[Option<Support>], rule: Rule, e: Entry, first: u64, second: u64) -> u64 {
+    let Entry { n, d, .. } = e;
     match rule {
-        Rule::L2 => 2,
-        Rule::L7 => first.div_ceil(2),
-        Rule::L8 if d < 5 => (1 << (n / 2 - 1)) * first,
-        Rule::L8 => first * second,
-        Rule::L11(_, _) => first.min(second),
-        Rule::U1 => 1,
-        Rule::U2 => plotkin(n, d).unwrap_or(MAX_BOUND),
-        Rule::U3 => {
-            let ball: u64 = (0..=(d - 1) / 2).map(|j| if j <= n { binomial(n, j) } else { 0 }).sum();
+        L2 => 2,
+        L7 => first.div_ceil(2),
+        L8 if d < 5 => (1 << (n / 2 - 1)) * first,
+        L8 => first * second,
+        L11(_, _) => first.min(second),
+        U1 => 1,
+        U2 => plotkin(n, d).unwrap_or(MAX_BOUND),
+        U3 => {
+            let ball: u64 = (0..=((d - 1) / 2).min(n)).map(|j| binomial(n, j)).sum();
             (1 << n) / ball
         }
-        Rule::U6 => 2 * first,
-        Rule::Support(place) => u64::from(supports[place].size),
+        U6 => 2 * first,
+        Rule::Support(place) => supports[place as usize].map_or(0, |s| u64::from(s.size)),
         _ => first,
     }
 }
 
-fn instances(upper: bool) -> Vec<Instance> {
-    let plain = [Rule::L2, Rule::L3, Rule::L4, Rule::L5, Rule::L6, Rule::L7, Rule::L8];
-    let above = [Rule::U1, Rule::U2, Rule::U3, Rule::U4, Rule::U5, Rule::U6, Rule::U7, Rule::U8];
-    let mut list = Vec::new();
-    for n in 1..=MAX_N {
-        for d in 3..=MAX_N {
-            let mut put = |rule| {
-                if is_defined(rule, n, d) {
-                    list.push(Instance { rule, n, d, w: None });
-                }
-            };
-            for rule in plain {
-                put(rule);
-            }
-            if upper {
-                for rule in above {
-                    put(rule);
-                }
-            }
-            for m in 1..n {
-                for c in 3..d.saturating_sub(2) {
-                    put(Rule::L11(m, c));
-                }
-            }
-        }
-    }
-    list
+fn is_better(upper: bool, value: u64, stands: u32) -> bool {
+    if upper { value < u64::from(stands) } else { value <= MAX_BOUND && value > u64::from(stands) }
 }
 
 impl Table {
-    fn new(upper: bool) -> Table {
-        let instances = instances(upper);
-        let mut users = vec![Vec::new(); 2 * ENTRIES];
-        for (number, i) in instances.iter().enumerate() {
-            let (slots, count) = premises(*i);
-            for s in &slots[..count] {
-                users[*s].push(number as u32);
-            }
-        }
+    fn new() -> Table {
         let mut table = Table {
-            instances,
-            users,
             supports: Vec::new(),
+            last_at: vec![None; ENTRIES],
+            before: Vec::new(),
             bounds: vec![0; 2 * ENTRIES],
             reasons: vec![0; 2 * ENTRIES],
             lines: Vec::new(),
-            tried: 0,
+            base: 0,
+            base_bounds: Vec::new(),
+            base_reasons: Vec::new(),
+            marks: vec![false; 2 * ENTRIES],
+            queue: VecDeque::new(),
+            asked: 0,
         };
         for upper in [false, true] {
             for n in 1..=MAX_N {
                 for d in 3..=MAX_N {
-                    table.ground(upper, n, d, None);
-                    for w in 0..=if d % 2 == 0 { n } else { 0 } {
-                        if d % 2 == 0 {
-                            table.ground(upper, n, d, Some(w));
+                    table.ground(upper, plain(n, d));
+                    if d % 2 == 0 {
+                        for w in 0..=n {
+                            table.ground(upper, Entry { n, d, w: Some(w) });
                         }
                     }
                 }
             }
         }
-        let count = table.instances.len() as u32;
-        table.close((0..count).collect());
+        table.close();
+        table.base = table.lines.len();
+        table.base_bounds = table.bounds.clone();
+        table.base_reasons = table.reasons.clone();
         table
     }
 
-    fn ground(&mut self, upper: bool, n: u32, d: u32, w: Option<u32>) {
-        let value = match (upper, w) {
+    fn ground(&mut self, upper: bool, entry: Entry) {
+        let value = match (upper, entry.w) {
             (false, _) => 1,
-            (true, None) => 1 << n,
-            (true, Some(w)) => binomial(n, w).min(MAX_BOUND) as u32,
+            (true, None) => 1 << entry.n,
+            (true, Some(w)) => binomial(entry.n, w).min(MAX_BOUND) as u32,
         };
-        self.put(slot(upper, n, d, w), value, Rule::Ground, Vec::new());
+        self.asked += 1;
+        self.put(Line { upper, entry, value, rule: Ground, from: Places::None });
+        self.mark(upper, entry);
     }
 
-    fn put(&mut self, slot: usize, value: u32, rule: Rule, from: Vec<usize>) {
-        self.bounds[slot] = value;
+    fn put(&mut self, line: Line) {
+        let slot = slot(line.upper, line.entry);
+        self.bounds[slot] = line.value;
         self.reasons[slot] = self.lines.len();
-        self.lines.push(Line { slot, value, rule, from });
+        self.lines.push(line);
     }
 
-    fn at(&self, number: u32) -> Instance {
-        let count = self.instances.len();
-        match self.instances.get(number as usize) {
-            Some(i) => *i,
-            None => {
-                let place = number as usize - count;
-                let Support { n, d, .. } = self.supports[place];
-                Instance { rule: Rule::Support(place), n, d, w: None }
+    fn mark(&mut self, upper: bool, entry: Entry) {
+        let slot = slot(upper, entry);
+        if !self.marks[slot] {
+            self.marks[slot] = true;
+            self.queue.push_back((upper, entry));
+        }
+    }
+
+    fn bound(&self, upper: bool, entry: Entry) -> u32 {
+        self.bounds[slot(upper, entry)]
+    }
+
+    /// What the rule gives, where it is defined and gives a bound.
+    fn offer(&mut self, upper: bool, rule: Rule, e: Entry) -> Option<u64> {
+        self.asked += 1;
+        if !condition(rule, e) {
+            return None;
+        }
+        let (first, second) = rests_on(rule, e);
+        if !first.is_none_or(Entry::in_table) || !second.is_none_or(Entry::in_table) {
+            return None;
+        }
+        let value = |p: Option<Entry>| p.map_or(0, |p| u64::from(self.bounds[slot(upper, p)]));
+        Some(number(&self.supports, rule, e, value(first), value(second)))
+    }
+
+    /// The best rule at the slot, where it betters what stands, and its bound.
+    fn pull(&mut self, upper: bool, e: Entry) -> Option<(Rule, u32)> {
+        let mut best = (None, self.bound(upper, e));
+        let rules: &[Rule] = match (upper, e.w.is_some()) {
+            (false, false) => &LOWER,
+            (true, false) => &UPPER,
+            (false, true) => &[M7],
+            (true, true) => &[V3],
+        };
+        for rule in rules {
+            if let Some(value) = self.offer(upper, *rule, e) {
+                if is_better(upper, value, best.1) {
+                    best = (Some(*rule), value as u32);
+                }
             }
         }
+        if !upper && e.w.is_none() && e.d >= 6 && e.d <= e.n {
+            for m in 3..=e.n - 3 {
+                for c in 3.max((e.d + m).saturating_sub(e.n))..=m.min(e.d - 3) {
+                    self.asked += 1;
+                    let value = self.bound(false, plain(m, c)).min(self.bound(false, plain(e.n - m, e.d - c)));
+                    if value > best.1 {
+                        best = (Some(L11(m, c)), value);
+                    }
+                }
+            }
+        }
+        if !upper {
+            let mut at = self.last_at[e.number()];
+            while let Some(place) = at {
+                if let Some(value) = self.offer(false, Rule::Support(place), e) {
+                    if is_better(false, value, best.1) {
+                        best = (Some(Rule::Support(place)), value as u32);
+                    }
+                }
+                at = self.before[place as usize];
+            }
+        }
+        best.0.map(|rule| (rule, best.1))
     }
 
-    /// The better bound that an instance gives, where it does, and its slot.
-    fn better(&self, i: Instance) -> Option<(usize, u32)> {
-        let upper = is_upper(i.rule);
-        let own = slot(upper, i.n, i.d, i.w);
-        let (slots, count) = premises(i);
-        let bound = |j: usize| if j < count { u64::from(self.bounds[slots[j]]) } else { 0 };
-        let value = formula(&self.supports, i, bound(0), bound(1));
-        let stands = u64::from(self.bounds[own]);
-        if upper && value.min(MAX_BOUND) < stands || !upper && value <= MAX_BOUND && value > stands {
-            Some((own, value.min(MAX_BOUND) as u32))
-        } else {
-            None
+    fn mark_dependents(&mut self, upper: bool, e: Entry) {
+        let rules: &[Rule] = match (upper, e.w.is_some()) {
+            (false, false) => &LOWER,
+            (true, false) => &UPPER,
+            (false, true) => &[M7],
+            (true, true) => &[V3],
+        };
+        for rule in rules {
+            for dependent in rested_on_by(*rule, e).iter().flatten().copied() {
+                if dependent.in_table() && !self.marks[slot(upper, dependent)] {
+                    if let Some(value) = self.offer(upper, *rule, dependent) {
+                        if is_better(upper, value, self.bound(upper, dependent)) {
+                            self.mark(upper, dependent);
+                        }
+                    }
+                }
+            }
         }
-    }
-
-    fn close(&mut self, first: Vec<u32>) {
-        let mut marks = vec![false; self.instances.len() + self.supports.len()];
-        let mut queue = VecDeque::new();
-        for number in first {
-            marks[number as usize] = true;
-            queue.push_back(number);
-        }
-        while let Some(number) = queue.pop_front() {
-            marks[number as usize] = false;
-            self.tried += 1;
-            let i = self.at(number);
-            if let Some((own, value)) = self.better(i) {
-                let (slots, count) = premises(i);
-                let from = slots[..count].iter().map(|s| self.reasons[*s]).collect();
-                self.put(own, value, i.rule, from);
-                for user in &self.users[own] {
-                    if !marks[*user as usize] {
-                        marks[*user as usize] = true;
-                        queue.push_back(*user);
+        if !upper && e.w.is_none() && e.d <= e.n {
+            let own = self.bound(false, e);
+            for n in e.n + 3..=MAX_N {
+                for d in e.d + 3..=MAX_N.min(e.d + n - e.n) {
+                    self.asked += 1;
+                    let value = own.min(self.bound(false, plain(n - e.n, d - e.d)));
+                    if value > self.bound(false, plain(n, d)) {
+                        self.mark(false, plain(n, d));
                     }
                 }
             }
         }
     }
 
+    fn close(&mut self) {
+        while let Some((upper, e)) = self.queue.pop_front() {
+            self.marks[slot(upper, e)] = false;
+            if let Some((rule, value)) = self.pull(upper, e) {
+                let place = |p: Entry| self.reasons[slot(upper, p)];
+                let from = match rests_on(rule, e) {
+                    (Some(p), Some(q)) => Places::Two(place(p), place(q)),
+                    (Some(p), None) => Places::One(place(p)),
+                    _ => Places::None,
+                };
+                self.put(Line { upper, entry: e, value, rule, from });
+                self.mark_dependents(upper, e);
+            }
+        }
+    }
+
     fn add(&mut self, support: Support) {
-        self.supports.push(support);
-        let number = (self.instances.len() + self.supports.len() - 1) as u32;
-        self.tried += 1;
-        if self.better(self.at(number)).is_some() {
-            self.close(vec![number]);
+        let place = self.supports.len() as u32;
+        let entry = plain(support.n, support.d);
+        self.supports.push(Some(support));
+        self.before.push(self.last_at[entry.number()]);
+        self.last_at[entry.number()] = Some(place);
+        let value = self.offer(false, Rule::Support(place), entry);
+        if value.is_some_and(|value| is_better(false, value, self.bound(false, entry))) {
+            self.mark(false, entry);
+            self.close();
         }
     }
 
     /// Takes out the last support.
     fn remove(&mut self) {
-        let place = self.supports.len() - 1;
-        self.supports.pop();
-        let lines = std::mem::take(&mut self.lines);
-        let before = self.bounds.clone();
-        let mut moved = Vec::with_capacity(lines.len());
-        for line in lines {
-            let from: Option<Vec<usize>> = line.from.iter().map(|p| moved[*p]).collect();
+        let place = self.supports.len() as u32 - 1;
+        let base = self.base;
+        let later = self.lines.split_off(base);
+        self.bounds.copy_from_slice(&self.base_bounds);
+        self.reasons.copy_from_slice(&self.base_reasons);
+        let mut moved: Vec<Option<usize>> = Vec::with_capacity(later.len());
+        for line in &later {
+            let there = |p: usize| if p < base { Some(p) } else { moved[p - base] };
+            let from = match line.from {
+                Places::None => Some(Places::None),
+                Places::One(p) => there(p).map(Places::One),
+                Places::Two(p, q) => there(p).and_then(|p| there(q).map(|q| Places::Two(p, q))),
+            };
             match from {
                 Some(from) if line.rule != Rule::Support(place) => {
                     moved.push(Some(self.lines.len()));
-                    self.put(line.slot, line.value, line.rule, from);
+                    self.put(Line { from, ..*line });
                 }
                 _ => moved.push(None),
             }
         }
-        let changed = |i: &Instance| {
-            let own = slot(is_upper(i.rule), i.n, i.d, i.w);
-            self.bounds[own] != before[own]
-        };
-        let count = self.instances.len() + self.supports.len();
-        let first = (0..count as u32).filter(|k| changed(&self.at(*k))).collect();
-        self.close(first);
+        for line in &later {
+            if is_better(line.upper, u64::from(line.value), self.bound(line.upper, line.entry)) {
+                self.mark(line.upper, line.entry);
+            }
+        }
+        if let Some(support) = self.supports.pop().flatten() {
+            let entry = plain(support.n, support.d);
+            self.last_at[entry.number()] = self.before.pop().flatten();
+        }
+        self.close();
     }
 }
 
 fn timed(name: &str, times: u32, mut step: impl FnMut() -> u64) {
     let start = Instant::now();
-    let mut tried = 0;
+    let mut asked = 0;
     for _ in 0..times {
-        tried = step();
+        asked = step();
     }
     let micros = start.elapsed().as_nanos() as f64 / f64::from(times) / 1000.0;
-    println!("{name}: {tried} evaluations, {micros:.1} microseconds");
+    println!("{name}: {asked} evaluations, {micros:.1} microseconds");
 }
 
 const GOLAY: Support = Support { n: 24, d: 8, size: 4096 };
 const TWO_WORDS: Support = Support { n: 5, d: 3, size: 2 };
 
 /// Makes a table, and adds and takes out the support, where there is one, so often.
-fn repeat(upper: bool, support: Option<Support>, times: u32) {
-    let mut table = Table::new(upper);
+fn repeat(support: Option<Support>, times: u32) {
+    let mut table = Table::new();
     if let Some(support) = support {
         for _ in 0..times {
             table.add(support);
             table.remove();
         }
     }
-    assert!(table.tried > 0);
+    assert!(table.asked > 0);
 }
 
-fn report(upper: bool) {
-    let mut table = Table::new(upper);
-    println!("{} instances, {} lines", table.instances.len(), table.lines.len());
-    timed("empty table", 100, || Table::new(upper).tried);
+fn report() {
+    let mut table = Table::new();
+    println!("{} lines", table.lines.len());
+    timed("empty table", 100, || Table::new().asked);
     for (name, support) in [("Golay's code", GOLAY), ("two words that improve nothing", TWO_WORDS)] {
         for turn in 1..=3 {
-            let before = table.tried;
+            let before = table.asked;
             timed(&format!("{name} added, turn {turn}"), 1, || {
                 table.add(support);
-                table.tried - before
+                table.asked - before
             });
-            let before = table.tried;
+            let before = table.asked;
             timed(&format!("{name} taken out, turn {turn}"), 1, || {
                 table.remove();
-                table.tried - before
+                table.asked - before
             });
         }
     }
     for (n, d) in [(5, 3), (24, 8), (23, 7), (28, 3)] {
-        let at = |upper| table.bounds[slot(upper, n, d, None)];
-        println!("{} <= A({n},{d}) <= {}", at(false), at(true));
+        println!("{} <= A({n},{d}) <= {}", table.bound(false, plain(n, d)), table.bound(true, plain(n, d)));
     }
 }
 
 fn main() {
     let words: Vec<String> = std::env::args().skip(1).collect();
-    let upper = !words.iter().any(|w| w == "lower");
     let times = words.iter().find_map(|w| w.parse().ok()).unwrap_or(1);
     let has = |name: &str| words.iter().any(|w| w == name);
     if has("empty") {
-        repeat(upper, None, times);
+        repeat(None, times);
     } else if has("nothing") {
-        repeat(upper, Some(TWO_WORDS), times);
+        repeat(Some(TWO_WORDS), times);
     } else if has("golay") {
-        repeat(upper, Some(GOLAY), times);
+        repeat(Some(GOLAY), times);
     } else {
-        report(upper);
+        report();
     }
 }

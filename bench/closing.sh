@@ -1,13 +1,14 @@
 #!/bin/sh
 # Times the program on sessions that make a table and change it, beside `closing.rs`, a plain program in Rust that closes a table of its
-# own over the same instances. An empty session makes one table; the others hand in a code of two words, which improves nothing, or the
+# own in the same way, by slots. An empty session makes one table; the others hand in a code of two words, which improves nothing, or the
 # code of Golay, and take it out again, 100 times; the program also reads and checks what is handed in. Processor seconds of twenty runs,
 # then of one. At the end stands what `closing.rs` says of each step alone. Wants `rustc`, and bash for its `time`.
 set -e
 here=$(CDPATH= cd -- "$(dirname -- "$0")" && pwd)
 work=$(mktemp -d)
 trap 'rm -rf "$work"' EXIT
-rustc -O "$here/closing.rs" -o "$work/plain"
+rustc --edition 2021 -O "$here/closing.rs" -o "$work/plain"
+rustc --edition 2021 -O "$here/closing_by_instances.rs" -o "$work/before"
 "$here/../code_tables" session </dev/null >/dev/null
 
 cat >"$work/two-words" <<'END'
@@ -49,4 +50,7 @@ for turn in 1 2 3; do
         echo "$name: code_tables $(seconds 1 "$work/$name" "$here/../code_tables" session), plain $(seconds 1 "$work/$name" "$work/plain" "$name" 100)"
     done
 done
+echo "by slots:"
 "$work/plain"
+echo "by instances:"
+"$work/before"
