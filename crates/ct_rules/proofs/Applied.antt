@@ -1,51 +1,66 @@
 -- What is known where a rule is defined: its premises, its value, the support that it names.
-use Rattle.std.proofs.Common.{◌≡◌, ℕ, ◌≤◌, List, All, refl, sym, ap, subst, arith, leb-true, le-leb}
-use Rattle.std.specs.Prelude.{Bool, true, false, if◌then◌else◌, nat_le, min, slice_get, Option, Some, None, IsSome}
+use Rattle.std.proofs.Common.{◌≡◌, ℕ, zero, suc, ◌≤◌, List, [], ◌∷◌, map, All, refl, sym, ap, subst, ◌∙◌, arith, leb-true, le-leb}
+use Rattle.std.specs.Prelude.{Bool, true, false, ◌&&◌, if◌then◌else◌, nat_le, min, slice_get, Option, Some, None, IsSome}
 use Rattle.std.specs.Option.{ForSome}
-use Rattle.std.proofs.lemmas.Bool.{and_parts, and_from}
+use Rattle.std.proofs.lemmas.Bool.{and_parts}
+use Rattle.std.proofs.lemmas.List.Elements.{All-nil, All-cons}
 use Rattle.std.proofs.lemmas.Option.{cond_some, none-some, same_Some, slice_get_within, get_or_from_slice_get}
 use Rattle.ct_words.specs.declared.limits.TheConstants.{MAX_BOUND}
 use Rattle.ct_codes.specs.declared.entry.Entry.{Entry}
 use Rattle.ct_codes.specs.declared.claim.Side.{Side}
 use Rattle.ct_codes.specs.declared.claim.Side.TheVariants.{Lower, Upper}
 use Rattle.ct_codes.specs.Entry.{IsEntry, is_entry}
+use Rattle.ct_rule_parts.specs.declared.support.Support.{Support}
+use Rattle.ct_rule_parts.specs.Parts.{RuleParts, are_entries, is_defined, slots_on, within_limit}
+use Rattle.ct_rule_parts.specs.Slot.{Slot}
+use Rattle.ct_rule_parts.specs.Support.{Stands, AllStand}
 use Rattle.ct_rules.specs.declared.rule.Rule.{Rule}
-use Rattle.ct_rules.specs.declared.rule.Rule.TheVariants.{L10, M10}
-use Rattle.ct_rules.specs.declared.support.Support.{Support}
-use Rattle.ct_rules.specs.Support.{Stands, AllStand}
-use Rattle.ct_rules.specs.Slot.{Slot}
-use Rattle.ct_rules.specs.Rule.{rule_side, cited, in_range, premises_at, formula, within_limit, applies, premises_of, value_of}
+use Rattle.ct_rules.specs.Rule.{rule_side, place_of, support_at, cited, parts_over, applies, premises_at, premises_of, value_of}
 
--- the rule is defined at the entry, over the support that it names
-pub record IsDefined (c : Option Support) (r : Rule) (e : Entry) : Type 0 where
+-- a rule of these parts is defined at the entry
+pub record IsDefined (p : RuleParts) (e : Entry) : Type 0 where
   pub entry : IsEntry e
-  pub range : in_range c r e ≡ true
+  pub condition : p.condition e ≡ true
+  pub premises : are_entries (p.rests_on e) ≡ true
+
+pub defined : (p : RuleParts) (e : Entry) → is_defined p e ≡ true → IsDefined p e
+defined p e h =
+    let all = and_parts (is_entry e && p.condition e) (are_entries (p.rests_on e)) h in
+    let front = and_parts (is_entry e) (p.condition e) all.0 in
+    record { entry = front.0; condition = front.1; premises = all.1 }
+
+-- sides of entries of the table are slots of it
+pub slots_in_table : (side : Side) (entries : List Entry) → are_entries entries ≡ true
+    → All (λ s. IsEntry s.1) (slots_on side entries)
+slots_in_table side [] h = All-nil (λ s. IsEntry s.1)
+slots_in_table side (e ∷ es) h =
+    let both = and_parts (is_entry e) (are_entries es) h in
+    All-cons (λ s. IsEntry s.1) (side, e) (slots_on side es) both.0 (slots_in_table side es both.1)
+
+-- all of them have the side
+pub slots_have_side : (side : Side) (entries : List Entry) → All (λ s. s.0 ≡ side) (slots_on side entries)
+slots_have_side side [] = All-nil (λ s. s.0 ≡ side)
+slots_have_side side (e ∷ es) =
+    All-cons (λ s. s.0 ≡ side) (side, e) (slots_on side es) refl (slots_have_side side es)
 
 -- what holds of each element holds of the one at a place
 at_place : {X : Type 0} (P : X → Type 0) (xs : List X) (i : ℕ) → All P xs → ForSome (slice_get xs i) P
 at_place P xs i all = λ x found.
     subst P (get_or_from_slice_get xs i x x found) (all i x (slice_get_within xs i x found))
 
--- where it applies
-defined_from_applies : (supports : List Support) (r : Rule) (e : Entry) → applies supports r e ≡ true
-    → IsDefined (cited supports r) r e
-defined_from_applies supports r e h =
-    let both = and_parts (is_entry e) (in_range (cited supports r) r e) h in
-    record { entry = both.0; range = both.1 }
-
 -- where it has premises it applies
 pub applies_from_premises : (supports : List Support) (r : Rule) (e : Entry) (slots : List Slot)
     → premises_of supports r e ≡ Some slots → applies supports r e ≡ true
 applies_from_premises supports r e slots h =
-    (cond_some (applies supports r e) (premises_at (cited supports r) r e) slots h).0
+    (cond_some (applies supports r e) (premises_at supports r e) slots h).0
 
 -- so it is defined there, and they are those of the definition
 pub premises-defined : (supports : List Support) (r : Rule) (e : Entry) (slots : List Slot)
     → premises_of supports r e ≡ Some slots
-    → IsDefined (cited supports r) r e × (premises_at (cited supports r) r e ≡ slots)
+    → IsDefined (parts_over supports r) e × (premises_at supports r e ≡ slots)
 premises-defined supports r e slots h = (
-  defined_from_applies supports r e (applies_from_premises supports r e slots h),
-  (cond_some (applies supports r e) (premises_at (cited supports r) r e) slots h).1,
+  defined (parts_over supports r) e (applies_from_premises supports r e slots h),
+  (cond_some (applies supports r e) (premises_at supports r e) slots h).1,
 )
 
 -- an option is there where a test lets it through and it was there
@@ -58,34 +73,30 @@ let_through false o x h = absurd (none-some x h)
 pub applies_from_value : (supports : List Support) (r : Rule) (e : Entry) (vs : List ℕ) (v : ℕ)
     → value_of supports r e vs ≡ Some v → applies supports r e ≡ true
 applies_from_value supports r e vs v h =
-    (let_through (applies supports r e) (within_limit (rule_side r) (formula (cited supports r) r e vs)) v h).0
+    (let_through (applies supports r e) (within_limit (rule_side r) ((parts_over supports r).number e vs)) v h).0
 
--- so it is defined there, and that is its number within the limits of a bound
-pub value-defined : (supports : List Support) (r : Rule) (e : Entry) (vs : List ℕ) (v : ℕ)
+-- and that is its number within the limits of a bound
+pub value-given : (supports : List Support) (r : Rule) (e : Entry) (vs : List ℕ) (v : ℕ)
     → value_of supports r e vs ≡ Some v
-    → IsDefined (cited supports r) r e × (within_limit (rule_side r) (formula (cited supports r) r e vs) ≡ Some v)
-value-defined supports r e vs v h =
-    let number = formula (cited supports r) r e vs in (
-      defined_from_applies supports r e (applies_from_value supports r e vs v h),
-      (let_through (applies supports r e) (within_limit (rule_side r) number) v h).1,
-    )
+    → within_limit (rule_side r) ((parts_over supports r).number e vs) ≡ Some v
+value-given supports r e vs v h =
+    (let_through (applies supports r e) (within_limit (rule_side r) ((parts_over supports r).number e vs)) v h).1
 
 -- a value comes only where it has premises
 pub value-premises : (supports : List Support) (r : Rule) (e : Entry) (vs : List ℕ)
     → IsSome (value_of supports r e vs) → IsSome (premises_of supports r e)
 value-premises supports r e vs some = go (applies supports r e) some
   where
-    go : (b : Bool) → IsSome (if b then within_limit (rule_side r) (formula (cited supports r) r e vs) else None)
-        → IsSome (if b then Some (premises_at (cited supports r) r e) else None)
+    go : (b : Bool) → IsSome (if b then within_limit (rule_side r) ((parts_over supports r).number e vs) else None)
+        → IsSome (if b then Some (premises_at supports r e) else None)
     go true h = refl
     go false h = absurd cc
 
--- and the other way round
-pub value_from-defined : (supports : List Support) (r : Rule) (e : Entry) (vs : List ℕ)
-    → IsDefined (cited supports r) r e
-    → value_of supports r e vs ≡ within_limit (rule_side r) (formula (cited supports r) r e vs)
-value_from-defined supports r e vs defined =
-    rw (and_from (is_entry e) (in_range (cited supports r) r e) defined.entry defined.range) refl
+-- where it applies its value is its number within the limits
+pub value_where_applies : (supports : List Support) (r : Rule) (e : Entry) (vs : List ℕ) → applies supports r e ≡ true
+    → value_of supports r e vs ≡ within_limit (rule_side r) ((parts_over supports r).number e vs)
+value_where_applies supports r e vs h =
+    ap (λ (b : Bool). if b then within_limit (rule_side r) ((parts_over supports r).number e vs) else None) h
 
 -- the number x whose bound within the limits is v: x, from below at most the greatest bound, from above cut there
 pub record IsLimitOf (side : Side) (o : Option ℕ) (x v : ℕ) : Type 0 where
@@ -114,6 +125,19 @@ limit_from Upper x few = refl
 
 -- the support that a rule names stands where all do
 pub cited-stands : (supports : List Support) (r : Rule) → AllStand supports → ForSome (cited supports r) Stands
-cited-stands supports (L10 place) stand = at_place Stands supports place stand
-cited-stands supports (M10 place) stand = at_place Stands supports place stand
-cited-stands supports r stand = λ s h. absurd (none-some s h)
+cited-stands supports r stand = go (place_of r)
+  where
+    go : (place : Option ℕ) → ForSome (support_at supports place) Stands
+    go None = λ s h. absurd (none-some s h)
+    go (Some place) = at_place Stands supports place stand
+
+-- what a rule that is defined rests on is in the table, at each place
+pub entries_at : (es : List Entry) (j : ℕ) (f : Entry) → are_entries es ≡ true → slice_get es j ≡ Some f → IsEntry f
+entries_at [] j f h at = absurd (none-some f at)
+entries_at (e ∷ es) zero f h at =
+    subst IsEntry (same_Some e f at) (and_parts (is_entry e) (are_entries es) h).0
+entries_at (e ∷ es) (suc j) f h at = entries_at es j f (and_parts (is_entry e) (are_entries es) h).1 at
+
+pub entry_at : (p : RuleParts) (e : Entry) (j : ℕ) (f : Entry) → is_defined p e ≡ true → slice_get (p.rests_on e) j ≡ Some f
+    → IsEntry f
+entry_at p e j f h at = entries_at (p.rests_on e) j f (defined p e h).premises at

@@ -1,6 +1,7 @@
 -- Over supports that stand each slot of the table has a best value: bounds are improved until they are closed.
 use Rattle.std.proofs.Common.{◌≡◌, ℕ, zero, suc, ◌^◌, ◌<◌, ◌≤◌, min, Bool, true, if◌then◌else◌, List, [], Option, Some, None, refl, ap, ◌∙◌, inl, inr, ◌⊎◌, arith}
-use Rattle.std.proofs.lemmas.Bool.{and_from}
+use Rattle.std.specs.Prelude.{false, ◌&&◌}
+use Rattle.std.proofs.lemmas.Bool.{false≢true}
 use Rattle.std.proofs.lemmas.List.Elements.{All-nil}
 use Rattle.ct_words.specs.declared.limits.TheConstants.{MAX_BOUND}
 use Rattle.ct_counting.specs.Binomials.{choose}
@@ -11,10 +12,10 @@ use Rattle.ct_codes.specs.Claim.{IsTrueClaim}
 use Rattle.ct_codes.specs.Entry.{IsEntry, is_entry}
 use Rattle.ct_rules.specs.declared.rule.Rule.{Rule}
 use Rattle.ct_rules.specs.declared.rule.Rule.TheVariants.{L1, M1, U0, V0}
-use Rattle.ct_rules.specs.declared.support.Support.{Support}
-use Rattle.ct_rules.specs.Support.{AllStand}
-use Rattle.ct_rules.specs.Rule.{rule_side, cited, in_range, premises_at, formula, within_limit, applies}
-use Rattle.ct_rules.specs.Slot.{Slot, claim_at}
+use Rattle.ct_rule_parts.specs.declared.support.Support.{Support}
+use Rattle.ct_rule_parts.specs.Support.{AllStand}
+use Rattle.ct_rules.specs.Rule.{row_of, rule_side, premises_of, value_of}
+use Rattle.ct_rule_parts.specs.Slot.{Slot, claim_at}
 use Rattle.ct_rules.specs.Derivation.{IsDerived, IsBest}
 use Rattle.ct_rules.specs.Closed.{AreTrue, IsClosed}
 use Rattle.ct_rules.proofs.RuleLaws.{rule_entry}
@@ -36,34 +37,32 @@ first_bounds (Lower, e) = 1
 first_bounds (Upper, e) = min (word_count e.n e.w) MAX_BOUND
 
 -- what a rule without premises gives is derived
-derived_at_once : (supports : List Support) (r : Rule) (e : Entry) (v : ℕ) → IsEntry e
-    → in_range (cited supports r) r e ≡ true
-    → premises_at (cited supports r) r e ≡ [] → within_limit (rule_side r) (formula (cited supports r) r e []) ≡ Some v
-    → IsDerived supports (claim_at (rule_side r, e) v)
-derived_at_once supports r e v entry range premises value =
-    derived_by_rule supports r e [] v
-    (ap (λ (b : Bool). if b then Some (premises_at (cited supports r) r e) else None) defined ∙ ap Some premises)
-    (All-nil (IsDerived supports))
-    (ap (λ (b : Bool). if b then within_limit (rule_side r) (formula (cited supports r) r e []) else None) defined
-    ∙ value)
-  where
-    defined : applies supports r e ≡ true
-    defined = and_from (is_entry e) (in_range (cited supports r) r e) entry range
+derived_at_once : (supports : List Support) (r : Rule) (e : Entry) (v : ℕ) → premises_of supports r e ≡ Some []
+    → value_of supports r e [] ≡ Some v → IsDerived supports (claim_at (rule_side r, e) v)
+derived_at_once supports r e v premises value =
+    derived_by_rule supports r e [] v premises (All-nil (IsDerived supports)) value
+
+-- a test that holds lets through what is there
+lets_through : {X : Type 0} (b : Bool) (o : Option X) → b ≡ true → (if b && true && true then o else None) ≡ o
+lets_through true o h = refl
+lets_through false o h = absurd (false≢true h)
 
 -- the first bounds of slots of the table are derived
 first_bound_is_derived : (supports : List Support) (side : Side) (n d : ℕ) (w : Option ℕ)
     → IsEntry (record { n = n; d = d; w = w })
     → IsDerived supports
     (claim_at (side, record { n = n; d = d; w = w }) (first_bounds (side, record { n = n; d = d; w = w })))
-unfolding first_bounds word_count in_range premises_at formula
+unfolding first_bounds word_count row_of
 first_bound_is_derived supports Lower n d None entry =
-    derived_at_once supports L1 (record { n = n; d = d; w = None }) 1 entry refl refl refl
+    derived_at_once supports L1 (record { n = n; d = d; w = None }) 1 (lets_through _ _ entry) (lets_through _ _ entry)
 first_bound_is_derived supports Lower n d (Some w) entry =
-    derived_at_once supports M1 (record { n = n; d = d; w = Some w }) 1 entry refl refl refl
+    derived_at_once supports M1 (record { n = n; d = d; w = Some w }) 1 (lets_through _ _ entry) (lets_through _ _ entry)
 first_bound_is_derived supports Upper n d None entry =
-    derived_at_once supports U0 (record { n = n; d = d; w = None }) (min (2 ^ n) MAX_BOUND) entry refl refl refl
+    derived_at_once supports U0 (record { n = n; d = d; w = None }) (min (2 ^ n) MAX_BOUND)
+    (lets_through _ _ entry) (lets_through _ _ entry)
 first_bound_is_derived supports Upper n d (Some w) entry =
-    derived_at_once supports V0 (record { n = n; d = d; w = Some w }) (min (choose n w) MAX_BOUND) entry refl refl refl
+    derived_at_once supports V0 (record { n = n; d = d; w = Some w }) (min (choose n w) MAX_BOUND)
+    (lets_through _ _ entry) (lets_through _ _ entry)
 
 first_bounds_are_derived : (supports : List Support) → AreDerived supports first_bounds
 first_bounds_are_derived supports s entry = first_bound_is_derived supports s.0 s.1.n s.1.d s.1.w entry

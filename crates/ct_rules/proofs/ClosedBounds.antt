@@ -8,12 +8,13 @@ use Rattle.ct_codes.specs.declared.claim.Side.TheVariants.{Lower, Upper}
 use Rattle.ct_codes.specs.Claim.{IsTrueClaim}
 use Rattle.ct_codes.specs.Entry.{IsEntry}
 use Rattle.ct_rules.specs.declared.rule.Rule.{Rule}
-use Rattle.ct_rules.specs.declared.support.Support.{Support}
-use Rattle.ct_rules.specs.Support.{AllStand}
+use Rattle.ct_rule_parts.specs.declared.support.Support.{Support}
+use Rattle.ct_rule_parts.specs.Support.{AllStand}
 use Rattle.ct_rules.specs.Rule.{rule_side, premises_of, value_of}
-use Rattle.ct_rules.specs.Slot.{Slot, slot_of, claim_at, IsNoBetter, AreNoBetter}
+use Rattle.ct_rule_parts.specs.Slot.{Slot, slot_of, claim_at, IsNoBetter, AreNoBetter}
 use Rattle.ct_rules.specs.Derivation.{LineValue, claims_at, Follows, IsDerived, IsBest}
 use Rattle.ct_rules.specs.Closed.{AreTrue, IsClosed}
+use Rattle.ct_rules.proofs.Applied.{cited-stands}
 use Rattle.ct_rules.proofs.RuleLaws.{rule_entry, premises_in_table, premises_on_side, value_is_monotone}
 use Rattle.ct_rules.proofs.Derivations.{each_derived, claim_of_line, derived_claims_are_true}
 use Rattle.ct_rules.proofs.JoinedDerivations.{derived_by_rule}
@@ -113,7 +114,8 @@ line_within supports bounds before line stand true_bounds closed follows within 
     better : (v : ℕ) × (value_of supports r e (map (λ c. c.value) (claims_of bounds slots)) ≡ Some v)
         × IsNoBetter (rule_side r) line.claim.value v
     better =
-        value_is_monotone supports r e (claims_of bounds slots) (map (λ c. c.value) claims) line.claim.value stand
+        value_is_monotone supports r e (claims_of bounds slots) (map (λ c. c.value) claims) line.claim.value
+        (cited-stands supports r stand)
         (follows.premises ∙ ap Some (sym (slots_of_claims bounds slots)))
         (All-claims_of IsTrueClaim bounds slots (premises_in_table supports r e slots follows.premises) true_bounds)
         (rw values_of_claims

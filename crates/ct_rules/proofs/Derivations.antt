@@ -7,12 +7,13 @@ use Rattle.std.proofs.lemmas.Option.{slice_get-get_or, none-some, same_Some}
 use Rattle.ct_codes.specs.declared.claim.Claim.{Claim}
 use Rattle.ct_codes.specs.declared.claim.Side.{Side}
 use Rattle.ct_codes.specs.Claim.{IsTrueClaim}
-use Rattle.ct_rules.specs.declared.support.Support.{Support}
-use Rattle.ct_rules.specs.Support.{AllStand}
+use Rattle.ct_rule_parts.specs.declared.support.Support.{Support}
+use Rattle.ct_rule_parts.specs.Support.{AllStand}
 use Rattle.ct_rules.specs.Rule.{rule_side}
-use Rattle.ct_rules.specs.Slot.{claim_at}
+use Rattle.ct_rule_parts.specs.Slot.{claim_at}
 use Rattle.ct_rules.specs.Derivation.{LineValue, claims_at, Follows, IsDerivation, IsDerived}
 use Rattle.ct_rules.proofs.Places.{IsAtSeam, slice_get-take, slice_get-append_cases, slice_get_last}
+use Rattle.ct_rules.proofs.Applied.{cited-stands}
 use Rattle.ct_rules.proofs.RuleLaws.{value_is_sound}
 
 -- the claims at places have what the claims of the lines have
@@ -47,7 +48,8 @@ pub following_line_is_true : (supports : List Support) (before : List LineValue)
     → All IsTrueClaim (claims_at before line.from) → Follows supports before line → IsTrueClaim line.claim
 following_line_is_true supports before line stand premises follows =
     claim_of_line IsTrueClaim supports before line follows
-    (value_is_sound supports line.rule line.claim.entry (claims_at before line.from) line.claim.value stand
+    (value_is_sound supports line.rule line.claim.entry (claims_at before line.from) line.claim.value
+    (cited-stands supports line.rule stand)
     follows.premises premises follows.value)
 
 -- the claim of a line has what the claims that it rests on have

@@ -4,9 +4,9 @@ use Rattle.std.proofs.lemmas.List.Elements.{All-nil, All-cons, All-contains}
 use Rattle.std.proofs.lemmas.Option.{none-some, same_Some}
 use Rattle.ct_codes.specs.declared.entry.Entry.{Entry}
 use Rattle.ct_rules.specs.declared.rule.Rule.{Rule}
-use Rattle.ct_rules.specs.declared.support.Support.{Support}
+use Rattle.ct_rule_parts.specs.declared.support.Support.{Support}
 use Rattle.ct_rules.specs.Rule.{rule_side, premises_of, value_of}
-use Rattle.ct_rules.specs.Slot.{IsBetter, Slot, claim_at, IsNoBetter}
+use Rattle.ct_rule_parts.specs.Slot.{IsBetter, Slot, claim_at, IsNoBetter}
 use Rattle.ct_rules.specs.Derivation.{IsDerived}
 use Rattle.ct_rules.specs.Closed.{IsSatisfied, IsClosed}
 use Rattle.ct_rules.proofs.Applied.{applies_from_premises}

@@ -5,15 +5,15 @@ use Rattle.ct_codes.specs.Claim.{IsTrueClaim}
 use Rattle.ct_codes.specs.Entry.{unrestricted}
 use Rattle.ct_rules.specs.declared.rule.Rule.TheVariants.{L1, L6, L8, U2}
 use Rattle.ct_rules.specs.Derivation.{IsDerived}
-use Rattle.ct_rules.specs.Rule.{in_range, premises_at, formula}
-use Rattle.ct_rules.specs.Slot.{claim_at, lower_at, upper_at}
-use Rattle.ct_rules.specs.Support.{Stands}
+use Rattle.ct_rules.specs.Rule.{row_of}
+use Rattle.ct_rule_parts.specs.Slot.{claim_at, lower_at, upper_at}
+use Rattle.ct_rule_parts.specs.Support.{Stands}
 use Rattle.ct_rules.proofs.Derivations.{derived_claims_are_true}
 use Rattle.ct_rules.proofs.JoinedDerivations.{derived_by_rule}
 
 -- A(6,4) ≥ 4: words of length 3 and u + v
 four_at_six : IsDerived [] (claim_at (lower_at 6 4) 4)
-unfolding in_range premises_at formula
+unfolding row_of
 four_at_six =
     derived_by_rule [] L8 (unrestricted 6 4) (claim_at (lower_at 3 4) 1 ∷ []) 4 refl
     (All-cons (IsDerived []) (claim_at (lower_at 3 4) 1) []
@@ -22,14 +22,14 @@ four_at_six =
 
 -- so A(5,3) ≥ 4
 pub four_from_below : IsDerived [] (claim_at (lower_at 5 3) 4)
-unfolding in_range premises_at formula
+unfolding row_of
 four_from_below =
     derived_by_rule [] L6 (unrestricted 5 3) (claim_at (lower_at 6 4) 4 ∷ []) 4 refl
     (All-cons (IsDerived []) (claim_at (lower_at 6 4) 4) [] four_at_six (All-nil (IsDerived []))) refl
 
 -- and A(5,3) ≤ 4, by Plotkin
 pub four_from_above : IsDerived [] (claim_at (upper_at 5 3) 4)
-unfolding in_range premises_at formula
+unfolding row_of
 four_from_above = derived_by_rule [] U2 (unrestricted 5 3) [] 4 refl (All-nil (IsDerived [])) refl
 
 -- both are true

@@ -1,58 +1,48 @@
 -- Derivations over more supports: a rule that is defined over the first supports cites one of them, or none.
-use Rattle.std.proofs.Common.{◌≡◌, ℕ, true, ◌&&◌, if◌then◌else◌, not, is_some, List, [], ◌∷◌, ◌++◌, take, map, slice_get, Option, Some, None, refl, ap, ◌∙◌}
-use Rattle.std.proofs.lemmas.Bool.{and_parts, false≢true}
+use Rattle.std.proofs.Common.{◌≡◌, ℕ, true, if◌then◌else◌, List, [], ◌∷◌, ◌++◌, take, map, slice_get, Option, Some, None, refl, sym, ap, subst, ◌∙◌}
+use Rattle.std.proofs.lemmas.Bool.{false≢true}
 use Rattle.std.proofs.lemmas.Option.{slice_get_within}
 use Rattle.ct_codes.specs.declared.entry.Entry.{Entry}
 use Rattle.ct_codes.specs.declared.claim.Claim.{Claim}
-use Rattle.ct_codes.specs.Entry.{is_entry}
+use Rattle.ct_rule_parts.specs.declared.support.Support.{Support}
+use Rattle.ct_rule_parts.specs.Parts.{is_defined, slots_on, within_limit}
+use Rattle.ct_rule_parts.specs.Slot.{Slot, slot_of, claim_at, IsNoBetter}
 use Rattle.ct_rules.specs.declared.rule.Rule.{Rule}
-use Rattle.ct_rules.specs.declared.rule.Rule.TheVariants.{L10, M10}
-use Rattle.ct_rules.specs.declared.support.Support.{Support}
-use Rattle.ct_rules.specs.Support.{size_at}
-use Rattle.ct_rules.specs.Rule.{rule_side, cited, has_weight, in_range, premises_at, formula, within_limit, applies, premises_of, value_of}
-use Rattle.ct_rules.specs.Slot.{Slot, slot_of, claim_at, IsNoBetter}
+use Rattle.ct_rules.specs.Rule.{rule_side, place_of, support_at, cited, parts_of, parts_over, applies, premises_of, value_of}
 use Rattle.ct_rules.specs.Derivation.{LineValue, claims_at, Follows, IsDerivation, IsDerived, IsBest}
 use Rattle.ct_rules.proofs.Places.{slice_get-append_left}
+use Rattle.ct_rules.proofs.LawfulRows.{needs_support}
 pub use Rattle.ct_rules.proofs.Applied.{applies_from_premises}
-use Rattle.ct_rules.proofs.Applied.{applies_from_value}
-
--- a rule that needs a size at the entry cites a support that is there
-pub cited_there : (supports : List Support) (place : ℕ) (e : Entry)
-    → is_some (size_at (slice_get supports place) e) ≡ true
-    → (support : Support) × (slice_get supports place ≡ Some support)
-cited_there supports place e h = go (slice_get supports place) h
-  where
-    go : (c : Option Support) → is_some (size_at c e) ≡ true → (support : Support) × (c ≡ Some support)
-    go None is = absurd (false≢true is)
-    go (Some support) is = (support, refl)
-
-same_place : (supports more : List Support) (place : ℕ) (e : Entry)
-    → is_some (size_at (slice_get supports place) e) ≡ true
-    → slice_get (supports ++ more) place ≡ slice_get supports place
-same_place supports more place e h =
-    let there = cited_there supports place e h in
-    slice_get-append_left supports more place (slice_get_within supports place there.0 there.1)
+use Rattle.ct_rules.proofs.Applied.{defined, applies_from_value}
 
 -- a rule that is defined over the supports cites the same support over more
 pub cited_over_more : (supports more : List Support) (r : Rule) (e : Entry) → applies supports r e ≡ true
     → cited (supports ++ more) r ≡ cited supports r
-unfolding in_range
-cited_over_more supports more (L10 place) e h =
-    let range = and_parts (is_entry e) (not (has_weight e) && is_some (size_at (slice_get supports place) e)) h in
-    same_place supports more place e
-    (and_parts (not (has_weight e)) (is_some (size_at (slice_get supports place) e)) range.1).1
-cited_over_more supports more (M10 place) e h =
-    let range = and_parts (is_entry e) (has_weight e && is_some (size_at (slice_get supports place) e)) h in
-    same_place supports more place e
-    (and_parts (has_weight e) (is_some (size_at (slice_get supports place) e)) range.1).1
-cited_over_more supports more r e h = refl
+cited_over_more supports more r e h = go (place_of r) refl
+  where
+    there : (place : ℕ) (c : Option Support) → place_of r ≡ Some place → cited supports r ≡ c
+        → slice_get supports place ≡ c → slice_get (supports ++ more) place ≡ slice_get supports place
+    there place None names is at =
+        let known = (defined (parts_over supports r) e h).condition in
+        absurd (false≢true
+        (sym (needs_support r place e names)
+        ∙ subst (λ (c : Option Support). (parts_of r c).condition e ≡ true) is known))
+    there place (Some support) names is at =
+        slice_get-append_left supports more place (slice_get_within supports place support at)
+
+    go : (place : Option ℕ) → place_of r ≡ place → support_at (supports ++ more) place ≡ support_at supports place
+    go None names = refl
+    go (Some place) names =
+        there place (slice_get supports place) names (ap (support_at supports) names) refl
 
 -- it rests on the same over more supports
 pub premises_over_more : (supports more : List Support) (r : Rule) (e : Entry) (slots : List Slot)
     → premises_of supports r e ≡ Some slots
     → premises_of (supports ++ more) r e ≡ Some slots
 premises_over_more supports more r e slots h =
-    ap (λ (c : Option Support). if is_entry e && in_range c r e then Some (premises_at c r e) else None)
+    ap
+    (λ (c : Option Support).
+    if is_defined (parts_of r c) e then Some (slots_on (rule_side r) ((parts_of r c).rests_on e)) else None)
     (cited_over_more supports more r e (applies_from_premises supports r e slots h)) ∙ h
 
 -- it gives the same value over more supports
@@ -62,7 +52,7 @@ pub value_over_more : (supports more : List Support) (r : Rule) (e : Entry) (vs 
 value_over_more supports more r e vs v h =
     ap
     (λ (c : Option Support).
-    if is_entry e && in_range c r e then within_limit (rule_side r) (formula c r e vs) else None)
+    if is_defined (parts_of r c) e then within_limit (rule_side r) ((parts_of r c).number e vs) else None)
     (cited_over_more supports more r e (applies_from_value supports r e vs v h)) ∙ h
 
 -- a line that follows from others follows from them over more supports

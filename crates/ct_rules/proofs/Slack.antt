@@ -7,7 +7,7 @@ use Rattle.ct_codes.specs.declared.claim.Side.{Side}
 use Rattle.ct_codes.specs.declared.claim.Side.TheVariants.{Lower, Upper}
 use Rattle.ct_codes.specs.Entry.{same_entry}
 use Rattle.ct_codes.proofs.EntryLemmas.{same_entry_is, same_entry-self}
-use Rattle.ct_rules.specs.Slot.{IsBetter, Slot, IsNoBetter}
+use Rattle.ct_rule_parts.specs.Slot.{IsBetter, Slot, IsNoBetter}
 
 -- a bound is better than another or not
 pub better_or_not : (side : Side) (u v : ℕ) → IsNoBetter side u v ⊎ IsBetter side u v

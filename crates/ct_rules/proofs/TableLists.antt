@@ -10,10 +10,11 @@ use Rattle.ct_codes.specs.declared.claim.Side.TheVariants.{Lower, Upper}
 use Rattle.ct_codes.specs.Entry.{IsEntry, is_entry}
 use Rattle.ct_codes.proofs.EntryLemmas.{WeightFits, entry_limits}
 use Rattle.ct_rules.specs.declared.rule.Rule.{Rule}
-use Rattle.ct_rules.specs.declared.support.Support.{Support}
-use Rattle.ct_rules.specs.Rule.{cited, in_range, applies}
-use Rattle.ct_rules.specs.Slot.{Slot}
-use Rattle.ct_rules.specs.Inside.Listing.{rules_at}
+use Rattle.ct_rule_parts.specs.declared.support.Support.{Support}
+use Rattle.ct_rules.specs.Rule.{rule_side, parts_over, applies}
+use Rattle.ct_rules.proofs.Applied.{defined}
+use Rattle.ct_rule_parts.specs.Slot.{Slot}
+use Rattle.ct_rules.specs.Listing.{rules_at}
 use Rattle.ct_rules.proofs.RuleLists.{Contains-range_with_len, Contains-flat_map, rules_at-complete}
 
 -- the numbers up to a limit
@@ -87,14 +88,14 @@ table_slots-complete (Upper, e) entry =
 abbrev pub Instance : Type 0
 Instance = Rule × Entry
 
--- all rules over so many supports at entries where they can be defined
+-- all rules over so many supports at the slots where they can be defined
 pub table_instances : ℕ → List Instance
-table_instances count = flat_map (λ e. map (λ r. (r, e)) (rules_at count e)) table_entries
+table_instances count = flat_map (λ s. map (λ r. (r, s.1)) (rules_at count s)) table_slots
 
 pub table_instances-complete : (supports : List Support) (r : Rule) (e : Entry) → applies supports r e ≡ true
     → Contains (table_instances (length supports)) (r, e)
 unfolding table_instances
 table_instances-complete supports r e h =
-    Contains-flat_map (λ f. map (λ q. (q, f)) (rules_at (length supports) f)) table_entries e (r, e)
-    (table_entries-complete e (and_parts (is_entry e) (in_range (cited supports r) r e) h).0)
-    (Contains-map (λ q. (q, e)) (rules_at (length supports) e) r (rules_at-complete supports r e h))
+    Contains-flat_map (λ s. map (λ q. (q, s.1)) (rules_at (length supports) s)) table_slots (rule_side r, e) (r, e)
+    (table_slots-complete (rule_side r, e) (defined (parts_over supports r) e h).entry)
+    (Contains-map (λ q. (q, e)) (rules_at (length supports) (rule_side r, e)) r (rules_at-complete supports r e h))

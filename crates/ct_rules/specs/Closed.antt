@@ -4,9 +4,9 @@ use Rattle.ct_codes.specs.declared.entry.Entry.{Entry}
 use Rattle.ct_codes.specs.Claim.{IsTrueClaim}
 use Rattle.ct_codes.specs.Entry.{IsEntry}
 use Rattle.ct_rules.specs.declared.rule.Rule.{Rule}
-use Rattle.ct_rules.specs.declared.support.Support.{Support}
+use Rattle.ct_rule_parts.specs.declared.support.Support.{Support}
 use Rattle.ct_rules.specs.Rule.{rule_side, premises_of, value_of}
-use Rattle.ct_rules.specs.Slot.{Slot, claim_at, IsNoBetter}
+use Rattle.ct_rule_parts.specs.Slot.{Slot, claim_at, IsNoBetter}
 
 -- the bounds are true
 abbrev pub AreTrue : (Slot → ℕ) → Type 0

@@ -3,9 +3,9 @@ use Rattle.std.specs.Prelude.{◌≡◌, ℕ, ◌<◌, List, [], ◌∷◌, ◌+
 use Rattle.std.specs.List.{filter_map}
 use Rattle.ct_codes.specs.declared.claim.Claim.{Claim}
 use Rattle.ct_rules.specs.declared.rule.Rule.{Rule}
-use Rattle.ct_rules.specs.declared.support.Support.{Support}
+use Rattle.ct_rule_parts.specs.declared.support.Support.{Support}
 use Rattle.ct_rules.specs.Rule.{rule_side, premises_of, value_of}
-use Rattle.ct_rules.specs.Slot.{Slot, slot_of, claim_at, IsNoBetter}
+use Rattle.ct_rule_parts.specs.Slot.{Slot, slot_of, claim_at, IsNoBetter}
 
 -- a line: a claim, the rule that gives it, and the places of the lines that hold its premises
 pub record LineValue : Type 0 where

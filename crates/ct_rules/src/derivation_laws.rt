@@ -8,13 +8,13 @@ ghost use Rattle.ct_codes.specs.Claim.{IsTrueClaim};
 ghost use Rattle.ct_codes.specs.Entry.{IsEntry, unrestricted, constant_weight};
 ghost use Rattle.ct_rules.specs.declared.rule.Rule.{Rule};
 ghost use Rattle.ct_rules.specs.declared.rule.Rule.TheVariants.{L1, L6, L8, L10, L11, U2, U4, U6};
-ghost use Rattle.ct_rules.specs.declared.support.Support.{Support};
-ghost use Rattle.ct_rules.specs.declared.support.Support.TheVariants.{Size};
+ghost use Rattle.ct_rule_parts.specs.declared.support.Support.{Support};
+ghost use Rattle.ct_rule_parts.specs.declared.support.Support.TheVariants.{Size};
 ghost use Rattle.ct_rules.specs.Closed.{AreTrue, IsClosed};
 ghost use Rattle.ct_rules.specs.Derivation.{LineValue, Follows, IsDerivation, IsDerived, IsBest};
 ghost use Rattle.ct_rules.specs.Rule.{rule_side, premises_of, value_of};
-ghost use Rattle.ct_rules.specs.Slot.{Slot, slot_of, claim_at, lower_at, upper_at, IsNoBetter};
-ghost use Rattle.ct_rules.specs.Support.{AllStand};
+ghost use Rattle.ct_rule_parts.specs.Slot.{Slot, slot_of, claim_at, lower_at, upper_at, IsNoBetter};
+ghost use Rattle.ct_rule_parts.specs.Support.{AllStand};
 
 /// Where each support stands, what derivations claim is true: the claim with which one ends, and that of each line.
 pub fn derived_claims_are_true()

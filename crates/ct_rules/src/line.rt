@@ -2,7 +2,7 @@
 
 use crate::rule::Rule;
 use ct_codes::Claim;
-use std::alloc::Global;
+use smallvec::SmallVec;
 use std::marker::Model;
 
 /// A line of a derivation: a claim, the rule that gives it, and the places, from 0, of the lines whose claims are the
@@ -13,8 +13,8 @@ pub struct Line {
     pub claim: Claim,
     /// The rule that gives the claim.
     pub rule: Rule,
-    /// The places of the lines that the rule rests on, each below the line's own.
-    pub from: Vec<usize>,
+    /// The places of the lines that the rule rests on, each below the line's own. Up to two take no memory.
+    pub from: SmallVec<usize, 2>,
 }
 
 impl Model for Line {

@@ -1,51 +1,56 @@
 //! The rules by which bounds enter the table.
 
 /// A rule of the table. Those whose name begins with L give lower bounds and those with U upper bounds of A(n,d); those with
-/// M give lower bounds and those with V upper bounds of A(n,d,w). docs/RULES.md has what each says, and its source.
+/// M give lower bounds and those with V upper bounds of A(n,d,w). docs/RULES.md has the source of each.
 #[derive(Clone, Copy, Debug, PartialEq, Eq)]
 pub enum Rule {
-    /// A code has a word.
+    /// A(n,d) ≥ 1: one word.
     L1,
-    /// Two words differ at each place.
+    /// A(n,d) ≥ 2 where d ≤ n: two words that differ at each place.
     L2,
-    /// Words with a 0 added.
+    /// A(n,d) ≥ A(n−1,d): words with a 0 added.
     L3,
-    /// A code of a greater distance.
+    /// A(n,d) ≥ A(n,d+1): a code of a greater distance.
     L4,
-    /// Words with the parity of their weight added.
+    /// A(n,d) ≥ A(n−1,d−1) for even d: words with the parity of their weight added.
     L5,
-    /// Words without a place.
+    /// A(n,d) ≥ A(n+1,d+1): words without a place.
     L6,
-    /// The words that have the more frequent digit at a place.
+    /// A(n,d) ≥ ⌈A(n+1,d)/2⌉: the words that have the more frequent digit at a place.
     L7,
-    /// u followed by u + v.
+    /// A(2m,d) ≥ A(m,⌈d/2⌉)·A(m,d), and 2^(m−1)·A(m,d) where d is 3 or 4: u followed by u + v.
     L8,
-    /// The code of the support at this place.
+    /// A(n,d) is at least the size of the code of the support at this place.
     L10(u32),
-    /// Words of a code of this length and distance, side by side with those of another code.
+    /// A(n,d) ≥ min(A(m,c), A(n−m,d−c)) for this length m and distance c: words of two codes side by side.
     L11(u32, u32),
-    /// A code of constant weight has a word.
+    /// A(n,d,w) ≥ 1: one word.
     M1,
-    /// The code of constant weight of the support at this place.
+    /// A(n,d,w) ≥ A(n,d,n−w): each digit is turned.
+    M7,
+    /// A(n,d,w) is at least the size of the code of constant weight of the support at this place.
     M10(u32),
-    /// All words.
+    /// A(n,d) ≤ 2^n: all words.
     U0,
-    /// Two words differ at no more places than there are (MacWilliams and Sloane, chapter 1).
+    /// A(n,d) ≤ 1 where d > n: two words differ at no more places than there are.
     U1,
-    /// The average distance of the words (Plotkin 1960; MacWilliams and Sloane, chapter 2).
+    /// A(n,d) ≤ 2⌊d/(2d−n)⌋ for even d and d ≤ n < 2d, 4d for n = 2d; at odd d that of A(n+1,d+1): the average distance of the
+    /// words (Plotkin).
     U2,
-    /// Balls about the words have no word in common (Hamming 1950; MacWilliams and Sloane, chapter 1).
+    /// A(n,d) ≤ ⌊2^n/V(n,⌊(d−1)/2⌋)⌋, V(n,e) the size of a ball: balls about the words have no word in common (Hamming).
     U3,
-    /// Words with the parity of their weight added (MacWilliams and Sloane, chapter 1).
+    /// A(n,d) ≤ A(n+1,d+1) for odd d: words with the parity of their weight added.
     U4,
-    /// Words without a place (MacWilliams and Sloane, chapter 1).
+    /// A(n,d) ≤ A(n−1,d−1): words without a place.
     U5,
-    /// The words with a 0 and those with a 1 at a place, without it (MacWilliams and Sloane, chapter 1).
+    /// A(n,d) ≤ 2·A(n−1,d): the words with a 0 and those with a 1 at a place, without it.
     U6,
-    /// A code of a smaller distance.
+    /// A(n,d) ≤ A(n,d−1): a code of a smaller distance.
     U7,
-    /// Words with a 0 added.
+    /// A(n,d) ≤ A(n+1,d): words with a 0 added.
     U8,
-    /// All words of the weight.
+    /// A(n,d,w) ≤ C(n,w): all words of the weight.
     V0,
+    /// A(n,d,w) ≤ A(n,d,n−w): each digit is turned.
+    V3,
 }

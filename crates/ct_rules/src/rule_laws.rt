@@ -10,11 +10,14 @@ ghost use Rattle.ct_codes.specs.Claim.{IsTrueOn, IsTrueClaim};
 ghost use Rattle.ct_codes.specs.Entry.{IsEntry, unrestricted, constant_weight};
 ghost use Rattle.ct_rules.specs.declared.rule.Rule.{Rule};
 ghost use Rattle.ct_rules.specs.declared.rule.Rule.TheVariants.{L1, L2, L3, L4, L5, L6, L7, L8, L10, L11, M1, M10, U0, U1, U2, U3, U4, U5, U6, U7, U8, V0};
-ghost use Rattle.ct_rules.specs.declared.support.Support.{Support};
-ghost use Rattle.ct_rules.specs.declared.support.Support.TheVariants.{Nothing, Size};
-ghost use Rattle.ct_rules.specs.Support.{AllStand};
-ghost use Rattle.ct_rules.specs.Slot.{Slot, slot_of, claim_at, lower_at, upper_at, IsNoBetter, AreNoBetter};
-ghost use Rattle.ct_rules.specs.Rule.{rule_side, within_limit, premises_of, value_of};
+ghost use Rattle.ct_rule_parts.specs.declared.support.Support.{Support};
+ghost use Rattle.ct_rule_parts.specs.declared.support.Support.TheVariants.{Nothing, Size};
+ghost use Rattle.ct_rule_parts.specs.Support.{Stands};
+ghost use Rattle.ct_words.specs.declared.limits.TheConstants.{MAX_N};
+ghost use Rattle.std.specs.Option.{ForSome};
+ghost use Rattle.ct_rule_parts.specs.Slot.{Slot, slot_of, claim_at, lower_at, upper_at, IsNoBetter, AreNoBetter};
+ghost use Rattle.ct_rules.specs.Rule.{rule_side, cited, premises_of, value_of};
+ghost use Rattle.ct_rule_parts.specs.Parts.{within_limit};
 
 /// A claim is a bound of a slot, and a bound of a slot is a claim.
 pub fn claims_bound_slots()
@@ -32,8 +35,8 @@ pub fn better_bounds_say_more()
         ((length us ≡ length vs) × EachIndex us (λ i. IsNoBetter side (slice_index us i) (slice_index vs i))) }
 {}
 
-/// A rule is defined at entries of the table alone. It rests on two bounds at most, each of an entry of the table and
-/// from the side that the rule bounds from, and it gives nothing where it is not defined.
+/// A rule is defined at entries of the table alone. It rests on `MAX_N` bounds at most, each of an entry of the table
+/// and from the side that the rule bounds from, and it gives nothing where it is not defined.
 pub fn premises_are_entries()
     ensures entry { (supports : List Support) (r : Rule) (e : Entry) (slots : List Slot) →
         premises_of supports r e ≡ Some slots → IsEntry e }
@@ -42,16 +45,16 @@ pub fn premises_are_entries()
     ensures side { (supports : List Support) (r : Rule) (e : Entry) (slots : List Slot) →
         premises_of supports r e ≡ Some slots → All (λ s. s.0 ≡ rule_side r) slots }
     ensures few { (supports : List Support) (r : Rule) (e : Entry) (slots : List Slot) →
-        premises_of supports r e ≡ Some slots → length slots ≤ 2 }
+        premises_of supports r e ≡ Some slots → length slots ≤ MAX_N }
     ensures defined { (supports : List Support) (r : Rule) (e : Entry) (vs : List ℕ) →
         IsSome (value_of supports r e vs) → IsSome (premises_of supports r e) }
 {}
 
-/// What a rule gives is true where its premises are: of a lower bound v some code of the entry has exactly v words, and of
+/// What a rule gives is true where its premises are, and the support that it names, if it names one, stands: of a lower bound v some code of the entry has exactly v words, and of
 /// an upper bound no code of it has more.
 pub fn rules_are_sound()
-    ensures { (supports : List Support) (r : Rule) (e : Entry) (claims : List Claim) (v : ℕ) → AllStand supports →
-        premises_of supports r e ≡ Some (map slot_of claims) → All IsTrueClaim claims →
+    ensures { (supports : List Support) (r : Rule) (e : Entry) (claims : List Claim) (v : ℕ) →
+        ForSome (cited supports r) Stands → premises_of supports r e ≡ Some (map slot_of claims) → All IsTrueClaim claims →
         value_of supports r e (map (λ c. c.value) claims) ≡ Some v → IsTrueClaim (claim_at (rule_side r, e) v) }
 {}
 
@@ -66,8 +69,8 @@ pub fn rules_are_monotone()
         rule_side r ≡ Upper → AreNoBetter Upper us vs →
         IsSome (value_of supports r e us) → IsSome (value_of supports r e vs) }
     ensures true_premises { (supports : List Support) (r : Rule) (e : Entry) (claims : List Claim) (us : List ℕ) →
-        AllStand supports → premises_of supports r e ≡ Some (map slot_of claims) → All IsTrueClaim claims →
-        AreNoBetter (rule_side r) us (map (λ c. c.value) claims) →
+        ForSome (cited supports r) Stands → premises_of supports r e ≡ Some (map slot_of claims) →
+        All IsTrueClaim claims → AreNoBetter (rule_side r) us (map (λ c. c.value) claims) →
         IsSome (value_of supports r e us) → IsSome (value_of supports r e (map (λ c. c.value) claims)) }
 {}
 

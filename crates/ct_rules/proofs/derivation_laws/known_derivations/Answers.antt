@@ -2,10 +2,10 @@ use Rattle.std.proofs.Common.{◌≡◌, ℕ, ◌<◌, List, [], ◌∷◌, All,
 use Rattle.std.proofs.lemmas.List.Elements.{All-nil, All-cons}
 use Rattle.ct_codes.specs.Entry.{unrestricted}
 use Rattle.ct_rules.specs.declared.rule.Rule.TheVariants.{L1, L6, L8, L10, L11, U2, U4, U6}
-use Rattle.ct_rules.specs.declared.support.Support.TheVariants.{Size}
+use Rattle.ct_rule_parts.specs.declared.support.Support.TheVariants.{Size}
 use Rattle.ct_rules.specs.Derivation.{LineValue}
-use Rattle.ct_rules.specs.Rule.{in_range, premises_at, formula}
-use Rattle.ct_rules.specs.Slot.{Slot, claim_at, lower_at, upper_at}
+use Rattle.ct_rules.specs.Rule.{row_of}
+use Rattle.ct_rule_parts.specs.Slot.{Slot, claim_at, lower_at, upper_at}
 use Rattle.ct_rules.proofs.Derivations.{derivation-nil, derivation-push}
 use Rattle.ct_rules.proofs.derivation_laws.known_derivations.Goals as goal
 
@@ -38,7 +38,7 @@ one_place : (n p : ℕ) → p < n → All (λ q. q < n) (p ∷ [])
 one_place n p h = All-cons (λ q. q < n) p [] h (All-nil (λ q. q < n))
 
 pub returns-clause-three_lines : goal.returns-clause-three_lines
-unfolding in_range premises_at formula one_at four_at_six four_at_five
+unfolding row_of one_at four_at_six four_at_five
 returns-clause-three_lines c =
     derivation-push [] (one_at 3 4 ∷ four_at_six ∷ []) four_at_five
     (derivation-push [] (one_at 3 4 ∷ []) four_at_six
@@ -48,7 +48,7 @@ returns-clause-three_lines c =
     (record { earlier = one_place 2 1 (omega arith); side = refl; premises = refl; value = refl })
 
 pub returns-clause-from_above : goal.returns-clause-from_above
-unfolding in_range premises_at formula sixteen_at_eight sixteen_at_seven twice_sixteen_at_eight
+unfolding row_of sixteen_at_eight sixteen_at_seven twice_sixteen_at_eight
 returns-clause-from_above c =
     derivation-push [] (sixteen_at_eight ∷ sixteen_at_seven ∷ []) twice_sixteen_at_eight
     (derivation-push [] (sixteen_at_eight ∷ []) sixteen_at_seven
@@ -58,7 +58,7 @@ returns-clause-from_above c =
     (record { earlier = one_place 2 1 (omega arith); side = refl; premises = refl; value = refl })
 
 pub returns-clause-place_named_twice : goal.returns-clause-place_named_twice
-unfolding in_range premises_at formula one_at side_by_side
+unfolding row_of one_at side_by_side
 returns-clause-place_named_twice c =
     derivation-push [] (one_at 3 3 ∷ []) side_by_side
     (derivation-push [] [] (one_at 3 3) (derivation-nil [])
@@ -71,7 +71,7 @@ returns-clause-place_named_twice c =
     })
 
 pub returns-clause-support : goal.returns-clause-support
-unfolding in_range premises_at formula supported
+unfolding row_of supported
 returns-clause-support c =
     derivation-push (Size (unrestricted 6 4) 4 ∷ []) [] supported (derivation-nil (Size (unrestricted 6 4) 4 ∷ []))
     (record { earlier = All-nil (λ q. q < 0); side = refl; premises = refl; value = refl })
@@ -83,27 +83,30 @@ first_distance (Some []) = 0
 first_distance (Some (s ∷ slots)) = s.1.d
 
 pub returns-clause-no_support : goal.returns-clause-no_support
-unfolding in_range premises_at formula
+unfolding row_of
 returns-clause-no_support c follows = absurd (cc follows.value)
 
 pub returns-clause-no_premise : goal.returns-clause-no_premise
-unfolding in_range premises_at
+unfolding row_of
 returns-clause-no_premise c follows = absurd cc
 
 pub returns-clause-other_premise : goal.returns-clause-other_premise
-unfolding in_range premises_at first_distance
+unfolding row_of first_distance
 returns-clause-other_premise c follows =
     let same : ◌≡◌ {A = ℕ} 4 3 = ap first_distance follows.premises in absurd (omega arith)
 
 pub returns-clause-other_order : goal.returns-clause-other_order
-unfolding in_range premises_at first_distance
+unfolding row_of first_distance
 returns-clause-other_order c follows =
     let same : ◌≡◌ {A = ℕ} 3 5 = ap first_distance follows.premises in absurd (omega arith)
 
 pub returns-clause-smaller_value : goal.returns-clause-smaller_value
-unfolding in_range premises_at formula
+unfolding row_of
 returns-clause-smaller_value c follows = absurd (cc follows.value)
 
 pub returns-clause-other_entry : goal.returns-clause-other_entry
-unfolding in_range premises_at formula
+unfolding row_of
 returns-clause-other_entry c follows = absurd (cc follows.value)
+pub returns-clause-other_side : goal.returns-clause-other_side
+unfolding row_of
+returns-clause-other_side c follows = absurd (cc follows.side)

@@ -1,4 +1,4 @@
-use Rattle.ct_rules.proofs.SlotLemmas.{IsTrueOn-no_better, IsNoBetter-either, each_no_better, no_better_from_each}
+use Rattle.ct_rule_parts.proofs.SlotLemmas.{IsTrueOn-no_better, IsNoBetter-either, each_no_better, no_better_from_each}
 use Rattle.ct_rules.proofs.rule_laws.better_bounds_say_more.Goals as goal
 
 pub returns : goal.returns

@@ -1,9 +1,9 @@
 use Rattle.std.proofs.Common.{refl}
-use Rattle.ct_rules.specs.Rule.{in_range, premises_at, formula}
+use Rattle.ct_rules.specs.Rule.{row_of}
 use Rattle.ct_rules.proofs.rule_laws.known_supports.Goals as goal
 
 pub returns : goal.returns
-unfolding in_range premises_at formula
+unfolding row_of
 returns c = record {
   code = refl;
   premises = refl;

@@ -1,9 +1,9 @@
 use Rattle.std.proofs.Common.{refl}
-use Rattle.ct_rules.specs.Rule.{in_range, premises_at, formula}
+use Rattle.ct_rules.specs.Rule.{row_of}
 use Rattle.ct_rules.proofs.rule_laws.known_values.Goals as goal
 
 pub returns : goal.returns
-unfolding in_range premises_at formula
+unfolding row_of
 returns c = record {
   one_word = refl;
   one_word_of_weight = refl;

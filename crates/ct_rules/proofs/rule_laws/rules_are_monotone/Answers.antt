@@ -1,7 +1,7 @@
 use Rattle.std.proofs.Common.{ap}
 use Rattle.std.specs.Prelude.{is_some}
 use Rattle.ct_rules.specs.Rule.{value_of}
-use Rattle.ct_rules.proofs.RuleMonotone.{some_value, value_of-monotone, value_of-upper}
+use Rattle.ct_rules.proofs.RuleValues.{some_value, value_of-monotone, value_of-upper}
 use Rattle.ct_rules.proofs.RuleLaws.{value_is_monotone}
 use Rattle.ct_rules.proofs.rule_laws.rules_are_monotone.Goals as goal
 

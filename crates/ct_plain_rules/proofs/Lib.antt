@@ -1,0 +1,14 @@
+pub mod LawfulLengthened
+pub mod LawfulNearer
+pub mod LawfulWithParity
+pub mod LawfulPunctured
+pub mod LawfulHalved
+pub mod LawfulOneWord
+pub mod LawfulOppositeWords
+pub mod LawfulSums
+pub mod LawfulSideBySide
+pub mod LawfulGivenCode
+pub mod LawfulAllWords
+pub mod LawfulFarWords
+pub mod LawfulAverageDistance
+pub mod LawfulBalls

@@ -1,0 +1,16 @@
+-- A code that is handed in.
+use Rattle.std.specs.Prelude.{◌&&◌, [], not, is_some, Option}
+use Rattle.ct_codes.specs.declared.claim.Side.TheVariants.{Lower}
+use Rattle.ct_rule_parts.specs.declared.support.Support.{Support}
+use Rattle.ct_rule_parts.specs.Parts.{RuleParts, has_weight}
+use Rattle.ct_rule_parts.specs.Support.{size_at}
+
+-- L10 of a support: A(n,d) is at least the number of words of the code that supports it
+abbrev pub given_code : Option Support → RuleParts
+given_code c = record {
+  side = Lower;
+  condition = λ e. not (has_weight e) && is_some (size_at c e);
+  rests_on = λ e. [];
+  number = λ e vs. size_at c e;
+  rested_on_by = λ e. [];
+}

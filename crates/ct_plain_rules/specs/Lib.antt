@@ -1,0 +1,15 @@
+pub mod Neighbours
+pub mod OneWord
+pub mod OppositeWords
+pub mod Lengthened
+pub mod Nearer
+pub mod WithParity
+pub mod Punctured
+pub mod Halved
+pub mod Sums
+pub mod SideBySide
+pub mod GivenCode
+pub mod AllWords
+pub mod FarWords
+pub mod AverageDistance
+pub mod Balls

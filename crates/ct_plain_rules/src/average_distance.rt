@@ -1,0 +1,29 @@
+//! The average distance of the words: U2.
+
+ghost use Rattle.std.specs.Prelude.{◌≡◌, true, false, [], Some};
+ghost use Rattle.ct_codes.specs.Entry.{unrestricted, constant_weight};
+ghost use Rattle.ct_rule_parts.specs.Parts.{is_defined};
+ghost use Rattle.ct_plain_rules.specs.AverageDistance.{average_distance};
+
+/// Where U2 is defined, with the least and the greatest lengths at even and odd distances, that it rests on nothing, and
+/// what it gives.
+pub fn known_average_distance()
+    ensures defined { is_defined average_distance (unrestricted 10 6) ≡ true }
+    ensures rests_on { average_distance.rests_on (unrestricted 10 6) ≡ [] }
+    ensures value { average_distance.number (unrestricted 10 6) [] ≡ Some 6 }
+    ensures near { average_distance.number (unrestricted 6 4) [] ≡ Some 4 }
+    ensures shortest { average_distance.number (unrestricted 6 6) [] ≡ Some 2 }
+    ensures before_last { average_distance.number (unrestricted 11 6) [] ≡ Some 12 }
+    ensures longest { average_distance.number (unrestricted 8 4) [] ≡ Some 16 }
+    ensures odd { average_distance.number (unrestricted 5 3) [] ≡ Some 4 }
+    ensures shortest_odd { average_distance.number (unrestricted 5 5) [] ≡ Some 2 }
+    ensures before_last_odd { average_distance.number (unrestricted 10 5) [] ≡ Some 12 }
+    ensures longest_odd { average_distance.number (unrestricted 11 5) [] ≡ Some 24 }
+    ensures short { is_defined average_distance (unrestricted 5 6) ≡ false }
+    ensures short_odd { is_defined average_distance (unrestricted 4 5) ≡ false }
+    ensures long { is_defined average_distance (unrestricted 13 6) ≡ false }
+    ensures long_odd { is_defined average_distance (unrestricted 12 5) ≡ false }
+    ensures within { is_defined average_distance (unrestricted 8 6) ≡ true }
+    ensures of_weight { is_defined average_distance (constant_weight 8 6 4) ≡ false }
+    ensures no_entry { is_defined average_distance (unrestricted 29 6) ≡ false }
+{}

@@ -1,0 +1,46 @@
+//! Words side by side: L11.
+
+ghost use Rattle.std.specs.Prelude.{◌≡◌, ℕ, true, false, ◌∷◌, [], slice_get, Some};
+ghost use Rattle.ct_codes.specs.declared.entry.Entry.{Entry};
+ghost use Rattle.ct_codes.specs.Entry.{unrestricted, constant_weight};
+ghost use Rattle.ct_rule_parts.specs.Parts.{is_defined};
+ghost use Rattle.ct_plain_rules.specs.SideBySide.{side_by_side};
+
+use ct_codes::Entry;
+use ct_rule_parts::one_of;
+
+/// The entry of the premise at place j of L11 with the length m and the distance c: A(m,c), and A(n−m,d−c).
+pub fn part_side_by_side(m: u32, c: u32, entry: Entry, j: usize) -> Option<Entry>
+    ensures { result ≡ slice_get ((side_by_side m c).rests_on entry) j }
+{
+    let first = Entry {
+        n: m,
+        d: c,
+        w: None,
+    };
+    let second = Entry {
+        n: entry.n.saturating_sub(m),
+        d: entry.d.saturating_sub(c),
+        w: None,
+    };
+    one_of(first, second, j)
+}
+
+/// Where L11 is defined, with the least lengths and distances of its parts, what it rests on and what it gives.
+pub fn known_side_by_side()
+    ensures middle { is_defined (side_by_side 5 3) (unrestricted 12 7) ≡ true }
+    ensures middle_rests_on { (side_by_side 5 3).rests_on (unrestricted 12 7) ≡ unrestricted 5 3 ∷ unrestricted 7 4 ∷ [] }
+    ensures first_short { is_defined (side_by_side 1 4) (unrestricted 12 7) ≡ true }
+    ensures first_short_rests_on { (side_by_side 1 4).rests_on (unrestricted 12 7) ≡ unrestricted 1 4 ∷ unrestricted 11 3 ∷ [] }
+    ensures second_short { is_defined (side_by_side 11 3) (unrestricted 12 6) ≡ true }
+    ensures second_short_rests_on { (side_by_side 11 3).rests_on (unrestricted 12 6) ≡ unrestricted 11 3 ∷ unrestricted 1 3 ∷ [] }
+    ensures value { (side_by_side 5 3).number (unrestricted 12 7) (4 ∷ 8 ∷ []) ≡ Some 4 }
+    ensures turned_value { (side_by_side 7 4).number (unrestricted 12 7) (8 ∷ 4 ∷ []) ≡ Some 4 }
+    ensures no_first { is_defined (side_by_side 0 3) (unrestricted 12 6) ≡ false }
+    ensures no_second { is_defined (side_by_side 12 3) (unrestricted 12 6) ≡ false }
+    ensures first_near { is_defined (side_by_side 5 2) (unrestricted 12 6) ≡ false }
+    ensures second_near { is_defined (side_by_side 5 4) (unrestricted 12 6) ≡ false }
+    ensures within { is_defined (side_by_side 4 3) (unrestricted 8 6) ≡ true }
+    ensures of_weight { is_defined (side_by_side 4 3) (constant_weight 8 6 4) ≡ false }
+    ensures no_entry { is_defined (side_by_side 4 3) (unrestricted 29 6) ≡ false }
+{}

@@ -1,0 +1,81 @@
+//! u followed by u + v: L8.
+
+ghost use Rattle.std.specs.Prelude.{◌≡◌, true, false, ◌^◌, ◌∷◌, [], slice_get, Some, None};
+ghost use Rattle.ct_codes.specs.declared.claim.Side.TheVariants.{Lower};
+ghost use Rattle.ct_codes.specs.Entry.{IsEntry, unrestricted, constant_weight};
+ghost use Rattle.ct_rule_parts.specs.Parts.{is_defined, within_limit};
+ghost use Rattle.ct_plain_rules.specs.Sums.{sums, parts_of_sums, count_of_sums};
+
+use crate::neighbours::{half_as_long, twice_as_long};
+use ct_codes::Entry;
+use ct_rule_parts::{first, one_of, only, second};
+
+/// The entry of L8's premise at place j: from distance 5 on the codes of the u come first.
+pub fn part_of_sums(entry: Entry, j: usize) -> Option<Entry>
+    requires { IsEntry entry }
+    ensures { result ≡ slice_get (sums.rests_on entry) j }
+{
+    let d = entry.d;
+    if d < 5 {
+        only(half_as_long(entry, d), j)
+    } else {
+        one_of(
+            half_as_long(entry, d.div_ceil(2)),
+            half_as_long(entry, d),
+            j,
+        )
+    }
+}
+
+/// How many sums L8 gives where its premises have these values.
+pub fn count_of_sums(entry: Entry, values: &[u32]) -> u64
+    requires { IsEntry entry }
+    ensures { Some result ≡ sums.number entry values.now }
+{
+    if entry.d < 5 {
+        (1 << (entry.n / 2).saturating_sub(1)) * first(values)
+    } else {
+        first(values) * second(values)
+    }
+}
+
+/// The entry at place k of those among which are all whose sums have words of this one.
+pub fn sums_of(entry: Entry, k: usize) -> Option<Entry>
+    requires { IsEntry entry }
+    ensures { result ≡ slice_get (sums.rested_on_by entry) k }
+{
+    let d = entry.d;
+    match k {
+        0 => Some(twice_as_long(entry, d)),
+        1 => Some(twice_as_long(entry, 2 * d - 1)),
+        2 => Some(twice_as_long(entry, 2 * d)),
+        _ => None,
+    }
+}
+
+/// Where L8 is defined, what it rests on and what it gives: A(16,4) ≥ 2048 and A(16,8) ≥ 32 from A(8,4) = 16 and
+/// A(8,8) = 2, and so on. A number above `MAX_BOUND` is no bound.
+pub fn known_sums()
+    ensures first { is_defined sums (unrestricted 2 3) ≡ true }
+    // At distances 3 and 4 the words u are all words of even weight.
+    ensures first_rests_on { sums.rests_on (unrestricted 2 3) ≡ unrestricted 1 3 ∷ [] }
+    ensures last_near { is_defined sums (unrestricted 8 4) ≡ true }
+    ensures last_near_rests_on { sums.rests_on (unrestricted 8 4) ≡ unrestricted 4 4 ∷ [] }
+    ensures first_far { is_defined sums (unrestricted 8 5) ≡ true }
+    ensures first_far_rests_on { sums.rests_on (unrestricted 8 5) ≡ unrestricted 4 3 ∷ unrestricted 4 5 ∷ [] }
+    ensures even_rests_on { sums.rests_on (unrestricted 8 6) ≡ unrestricted 4 3 ∷ unrestricted 4 6 ∷ [] }
+    ensures odd_rests_on { sums.rests_on (unrestricted 8 7) ≡ unrestricted 4 4 ∷ unrestricted 4 7 ∷ [] }
+    ensures odd { is_defined sums (unrestricted 8 7) ≡ true }
+    ensures of_one { sums.number (unrestricted 6 4) (1 ∷ []) ≡ Some 4 }
+    ensures near { sums.number (unrestricted 16 4) (16 ∷ []) ≡ Some 2048 }
+    ensures far { sums.number (unrestricted 16 8) (16 ∷ 2 ∷ []) ≡ Some 32 }
+    ensures at_five { sums.number (unrestricted 6 5) (2 ∷ 1 ∷ []) ≡ Some 2 }
+    ensures greatest { within_limit Lower (sums.number (unrestricted 28 6) (2 ^ 27 ∷ 2 ∷ [])) ≡ Some (2 ^ 28) }
+    // 17 · 15,790,321 is 2^28 + 1.
+    ensures above { within_limit Lower (sums.number (unrestricted 28 6) (17 ∷ 15790321 ∷ [])) ≡ None }
+    ensures far_above { within_limit Lower (sums.number (unrestricted 28 6) (2 ^ 27 ∷ 4 ∷ [])) ≡ None }
+    ensures odd_length { is_defined sums (unrestricted 7 4) ≡ false }
+    ensures within { is_defined sums (unrestricted 8 6) ≡ true }
+    ensures of_weight { is_defined sums (constant_weight 8 6 4) ≡ false }
+    ensures no_entry { is_defined sums (unrestricted 29 6) ≡ false }
+{}

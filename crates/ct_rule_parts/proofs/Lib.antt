@@ -1,0 +1,7 @@
+pub mod Constructions
+pub mod Lawful
+pub mod SlotLemmas
+pub mod PlainEntries
+pub mod PlainNumbers
+pub mod EntryLists
+pub mod WeightEntries

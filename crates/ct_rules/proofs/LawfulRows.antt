@@ -1,0 +1,186 @@
+-- The rows of the rules: each is lawful, has one side, and a rule that names a support needs one.
+use Rattle.std.proofs.Common.{◌≡◌, ℕ, List, [], ◌∷◌, All, Contains, refl, sym, ap, arith}
+use Rattle.std.specs.Prelude.{Bool, true, false, ◌&&◌, not, Option, Some, None}
+use Rattle.ct_rule_parts.specs.Parts.{has_weight}
+use Rattle.std.proofs.lemmas.Bool.{false≢true}
+use Rattle.std.proofs.lemmas.List.Elements.{All-nil, All-cons}
+use Rattle.std.proofs.lemmas.Option.{none-some, same_Some}
+use Rattle.ct_codes.specs.declared.claim.Side.{Side}
+use Rattle.ct_codes.specs.declared.claim.Side.TheVariants.{Lower, Upper}
+use Rattle.ct_codes.specs.declared.entry.Entry.{Entry}
+use Rattle.ct_rule_parts.specs.declared.support.Support.{Support}
+use Rattle.ct_rule_parts.specs.declared.support.Support.TheVariants.{Nothing}
+use Rattle.ct_rules.specs.Listing.{alone_on}
+use Rattle.ct_rule_parts.proofs.Lawful.{IsLawful}
+use Rattle.ct_plain_rules.proofs.LawfulOneWord.{one_word-lawful}
+use Rattle.ct_plain_rules.proofs.LawfulOppositeWords.{opposite_words-lawful}
+use Rattle.ct_plain_rules.proofs.LawfulLengthened.{lengthened_below-lawful, lengthened_above-lawful}
+use Rattle.ct_plain_rules.proofs.LawfulNearer.{nearer_below-lawful, nearer_above-lawful}
+use Rattle.ct_plain_rules.proofs.LawfulWithParity.{parity_below-lawful, parity_above-lawful}
+use Rattle.ct_plain_rules.proofs.LawfulPunctured.{punctured_below-lawful, punctured_above-lawful}
+use Rattle.ct_plain_rules.proofs.LawfulHalved.{halved_below-lawful, halved_above-lawful}
+use Rattle.ct_plain_rules.proofs.LawfulSums.{sums-lawful}
+use Rattle.ct_plain_rules.proofs.LawfulGivenCode.{given_code-lawful}
+use Rattle.ct_plain_rules.proofs.LawfulSideBySide.{side_by_side-lawful}
+use Rattle.ct_plain_rules.proofs.LawfulAllWords.{all_words-lawful}
+use Rattle.ct_plain_rules.proofs.LawfulFarWords.{far_words-lawful}
+use Rattle.ct_plain_rules.proofs.LawfulAverageDistance.{average_distance-lawful}
+use Rattle.ct_plain_rules.proofs.LawfulBalls.{balls-lawful}
+use Rattle.ct_weight_rules.proofs.LawfulOneWord.{one_word-lawful as one_word_of_weight-lawful}
+use Rattle.ct_weight_rules.proofs.LawfulComplemented.{complemented_below-lawful, complemented_above-lawful}
+use Rattle.ct_weight_rules.proofs.LawfulGivenCode.{given_code-lawful as given_code_of_weight-lawful}
+use Rattle.ct_weight_rules.proofs.LawfulAllWords.{all_words-lawful as all_words_of_weight-lawful}
+use Rattle.ct_rules.specs.declared.rule.Rule.{Rule}
+use Rattle.ct_rules.specs.declared.rule.Rule.TheVariants.{L1, L2, L3, L4, L5, L6, L7, L8, L10, L11, M1, M7, M10, U0, U1, U2, U3, U4, U5, U6, U7, U8, V0, V3}
+use Rattle.ct_rules.specs.Rule.{row_of, parts_of, place_of, with_place, is_alone, rule_side}
+
+-- what each rule is made of is lawful
+pub lawful : (r : Rule) (c : Option Support) → IsLawful c (parts_of r c)
+unfolding row_of
+lawful L1 c = one_word-lawful c
+lawful L2 c = opposite_words-lawful c
+lawful L3 c = lengthened_below-lawful c
+lawful L4 c = nearer_below-lawful c
+lawful L5 c = parity_below-lawful c
+lawful L6 c = punctured_below-lawful c
+lawful L7 c = halved_below-lawful c
+lawful L8 c = sums-lawful c
+lawful (L10 place) c = given_code-lawful c
+lawful (L11 n d) c = side_by_side-lawful n d c
+lawful M1 c = one_word_of_weight-lawful c
+lawful M7 c = complemented_below-lawful c
+lawful (M10 place) c = given_code_of_weight-lawful c
+lawful U0 c = all_words-lawful c
+lawful U1 c = far_words-lawful c
+lawful U2 c = average_distance-lawful c
+lawful U3 c = balls-lawful c
+lawful U4 c = parity_above-lawful c
+lawful U5 c = punctured_above-lawful c
+lawful U6 c = halved_above-lawful c
+lawful U7 c = nearer_above-lawful c
+lawful U8 c = lengthened_above-lawful c
+lawful V0 c = all_words_of_weight-lawful c
+lawful V3 c = complemented_above-lawful c
+
+-- a rule has one side, whatever the support that it names
+pub side_is : (r : Rule) (c : Option Support) → (parts_of r c).side ≡ rule_side r
+unfolding row_of
+side_is (L10 place) c = refl
+side_is (M10 place) c = refl
+side_is r c = refl
+
+-- what fails with what precedes it fails
+fails : (b : Bool) → (b && false) ≡ false
+fails true = refl
+fails false = refl
+
+-- a rule that names a support is not defined without one
+pub needs_support : (r : Rule) (place : ℕ) (e : Entry) → place_of r ≡ Some place
+    → (parts_of r None).condition e ≡ false
+unfolding row_of
+needs_support (L10 place) other e names = fails (not (has_weight e))
+needs_support (M10 place) other e names = fails (has_weight e)
+needs_support r place e names = absurd (none-some place names)
+
+-- nor over one that gives nothing
+pub needs_something : (r : Rule) (place : ℕ) (e : Entry) → place_of r ≡ Some place
+    → (parts_of r (Some Nothing)).condition e ≡ false
+unfolding row_of
+needs_something (L10 place) other e names = fails (not (has_weight e))
+needs_something (M10 place) other e names = fails (has_weight e)
+needs_something r place e names = absurd (none-some place names)
+
+-- a rule that names a support rests on nothing
+pub supported-rests : (r : Rule) (place : ℕ) (c : Option Support) (e : Entry) → place_of r ≡ Some place
+    → (parts_of r c).rests_on e ≡ []
+unfolding row_of
+supported-rests (L10 place) other c e names = refl
+supported-rests (M10 place) other c e names = refl
+supported-rests r place c e names = absurd (none-some place names)
+
+-- a rule with another place names that place, and is made of the same
+pub place_of-placed : (r : Rule) (place other : ℕ) → place_of r ≡ Some place → place_of (with_place r other) ≡ Some other
+unfolding row_of
+place_of-placed (L10 place) was other names = refl
+place_of-placed (M10 place) was other names = refl
+place_of-placed r was other names = absurd (none-some was names)
+
+pub parts_of-placed : (r : Rule) (other : ℕ) (c : Option Support) → parts_of (with_place r other) c ≡ parts_of r c
+unfolding row_of
+parts_of-placed (L10 place) other c = refl
+parts_of-placed (M10 place) other c = refl
+parts_of-placed r other c = refl
+
+pub placed_again : (r : Rule) (other place : ℕ) → place_of r ≡ Some place → with_place (with_place r other) place ≡ r
+unfolding row_of
+placed_again (L10 place) other was names = ap L10 (sym (same_Some place was names))
+placed_again (M10 place) other was names = ap M10 (sym (same_Some place was names))
+placed_again r other was names = absurd (none-some was names)
+
+-- the rules with neither numbers nor a support that give bounds from a side
+pub alone_listed : (r : Rule) → is_alone r ≡ true → Contains (alone_on (rule_side r)) r
+unfolding row_of
+alone_listed L1 alone = (0, omega arith, refl)
+alone_listed L2 alone = (1, omega arith, refl)
+alone_listed L3 alone = (2, omega arith, refl)
+alone_listed L4 alone = (3, omega arith, refl)
+alone_listed L5 alone = (4, omega arith, refl)
+alone_listed L6 alone = (5, omega arith, refl)
+alone_listed L7 alone = (6, omega arith, refl)
+alone_listed L8 alone = (7, omega arith, refl)
+alone_listed M1 alone = (8, omega arith, refl)
+alone_listed M7 alone = (9, omega arith, refl)
+alone_listed U0 alone = (0, omega arith, refl)
+alone_listed U1 alone = (1, omega arith, refl)
+alone_listed U2 alone = (2, omega arith, refl)
+alone_listed U3 alone = (3, omega arith, refl)
+alone_listed U4 alone = (4, omega arith, refl)
+alone_listed U5 alone = (5, omega arith, refl)
+alone_listed U6 alone = (6, omega arith, refl)
+alone_listed U7 alone = (7, omega arith, refl)
+alone_listed U8 alone = (8, omega arith, refl)
+alone_listed V0 alone = (9, omega arith, refl)
+alone_listed V3 alone = (10, omega arith, refl)
+alone_listed (L10 place) alone = absurd (false≢true alone)
+alone_listed (L11 n d) alone = absurd (false≢true alone)
+alone_listed (M10 place) alone = absurd (false≢true alone)
+
+-- the rules of these lists have neither numbers nor a support
+abbrev pub IsAloneOn : Side → Rule → Type 0
+IsAloneOn side r = (is_alone r ≡ true) × (rule_side r ≡ side)
+
+pub alone_in_lists : (side : Side) → All (IsAloneOn side) (alone_on side)
+unfolding row_of
+alone_in_lists Lower =
+    All-cons (IsAloneOn Lower) L1 (L2 ∷ L3 ∷ L4 ∷ L5 ∷ L6 ∷ L7 ∷ L8 ∷ M1 ∷ M7 ∷ []) (refl, refl)
+    (All-cons (IsAloneOn Lower) L2 (L3 ∷ L4 ∷ L5 ∷ L6 ∷ L7 ∷ L8 ∷ M1 ∷ M7 ∷ []) (refl, refl)
+    (All-cons (IsAloneOn Lower) L3 (L4 ∷ L5 ∷ L6 ∷ L7 ∷ L8 ∷ M1 ∷ M7 ∷ []) (refl, refl)
+    (All-cons (IsAloneOn Lower) L4 (L5 ∷ L6 ∷ L7 ∷ L8 ∷ M1 ∷ M7 ∷ []) (refl, refl)
+    (All-cons (IsAloneOn Lower) L5 (L6 ∷ L7 ∷ L8 ∷ M1 ∷ M7 ∷ []) (refl, refl)
+    (All-cons (IsAloneOn Lower) L6 (L7 ∷ L8 ∷ M1 ∷ M7 ∷ []) (refl, refl)
+    (All-cons (IsAloneOn Lower) L7 (L8 ∷ M1 ∷ M7 ∷ []) (refl, refl)
+    (All-cons (IsAloneOn Lower) L8 (M1 ∷ M7 ∷ []) (refl, refl)
+    (All-cons (IsAloneOn Lower) M1 (M7 ∷ []) (refl, refl)
+    (All-cons (IsAloneOn Lower) M7 ([]) (refl, refl)
+    (All-nil (IsAloneOn Lower)))))))))))
+alone_in_lists Upper =
+    All-cons (IsAloneOn Upper) U0 (U1 ∷ U2 ∷ U3 ∷ U4 ∷ U5 ∷ U6 ∷ U7 ∷ U8 ∷ V0 ∷ V3 ∷ []) (refl, refl)
+    (All-cons (IsAloneOn Upper) U1 (U2 ∷ U3 ∷ U4 ∷ U5 ∷ U6 ∷ U7 ∷ U8 ∷ V0 ∷ V3 ∷ []) (refl, refl)
+    (All-cons (IsAloneOn Upper) U2 (U3 ∷ U4 ∷ U5 ∷ U6 ∷ U7 ∷ U8 ∷ V0 ∷ V3 ∷ []) (refl, refl)
+    (All-cons (IsAloneOn Upper) U3 (U4 ∷ U5 ∷ U6 ∷ U7 ∷ U8 ∷ V0 ∷ V3 ∷ []) (refl, refl)
+    (All-cons (IsAloneOn Upper) U4 (U5 ∷ U6 ∷ U7 ∷ U8 ∷ V0 ∷ V3 ∷ []) (refl, refl)
+    (All-cons (IsAloneOn Upper) U5 (U6 ∷ U7 ∷ U8 ∷ V0 ∷ V3 ∷ []) (refl, refl)
+    (All-cons (IsAloneOn Upper) U6 (U7 ∷ U8 ∷ V0 ∷ V3 ∷ []) (refl, refl)
+    (All-cons (IsAloneOn Upper) U7 (U8 ∷ V0 ∷ V3 ∷ []) (refl, refl)
+    (All-cons (IsAloneOn Upper) U8 (V0 ∷ V3 ∷ []) (refl, refl)
+    (All-cons (IsAloneOn Upper) V0 (V3 ∷ []) (refl, refl)
+    (All-cons (IsAloneOn Upper) V3 ([]) (refl, refl)
+    (All-nil (IsAloneOn Upper))))))))))))
+
+-- a rule that names no support and is not alone lays words side by side
+pub with_numbers : (r : Rule) → place_of r ≡ None → is_alone r ≡ false → (m : ℕ) × (c : ℕ) × (r ≡ L11 m c)
+unfolding row_of
+with_numbers (L11 m c) names alone = (m, c, refl)
+with_numbers (L10 place) names alone = absurd (none-some place (sym names))
+with_numbers (M10 place) names alone = absurd (none-some place (sym names))
+with_numbers r names alone = absurd (false≢true (sym alone))

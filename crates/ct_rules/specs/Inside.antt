@@ -1,2 +1,0 @@
--- Words that only proofs and the contracts of inner functions cite.
-pub mod Listing

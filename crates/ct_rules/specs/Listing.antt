@@ -1,0 +1,39 @@
+-- The rules that can be defined at an entry, one after the other.
+use Rattle.std.specs.Prelude.{ℕ, ◌-◌, if◌then◌else◌, List, [], ◌∷◌, ◌++◌, map}
+use Rattle.std.specs.List.{flat_map, range_with_len}
+use Rattle.ct_codes.specs.declared.entry.Entry.{Entry}
+use Rattle.ct_codes.specs.declared.claim.Side.{Side}
+use Rattle.ct_codes.specs.declared.claim.Side.TheVariants.{Lower, Upper}
+use Rattle.ct_rule_parts.specs.Parts.{has_weight}
+use Rattle.ct_rule_parts.specs.Slot.{Slot}
+use Rattle.ct_rules.specs.declared.rule.Rule.{Rule}
+use Rattle.ct_rules.specs.declared.rule.Rule.TheVariants.{L10, L11, M10}
+use Rattle.ct_rules.specs.declared.listing.TheConstants.{LOWER_RULES, UPPER_RULES, LOWER_WEIGHT_RULES, UPPER_WEIGHT_RULES}
+
+-- the rules with neither numbers nor a support
+abbrev pub rules_alone : Slot → List Rule
+rules_alone (Lower, e) = if has_weight e then LOWER_WEIGHT_RULES else LOWER_RULES
+rules_alone (Upper, e) = if has_weight e then UPPER_WEIGHT_RULES else UPPER_RULES
+
+-- those that give bounds from a side, of entries without and with weight
+abbrev pub alone_on : Side → List Rule
+alone_on Lower = LOWER_RULES ++ LOWER_WEIGHT_RULES
+alone_on Upper = UPPER_RULES ++ UPPER_WEIGHT_RULES
+
+-- words side by side: the first code of each length from 1 to n - 1, and of each distance from 3 to d - 3
+abbrev pub side_by_side_rules : Entry → List Rule
+side_by_side_rules e = flat_map (λ n. map (λ d. L11 n d) (range_with_len 3 (e.d - 5))) (range_with_len 1 (e.n - 1))
+
+-- the rules with numbers
+abbrev pub rules_with_numbers : Slot → List Rule
+rules_with_numbers (Lower, e) = if has_weight e then [] else side_by_side_rules e
+rules_with_numbers (Upper, e) = []
+
+-- the rules that name one of so many supports
+abbrev pub rules_of_supports : ℕ → Slot → List Rule
+rules_of_supports count (Lower, e) = map (λ place. if has_weight e then M10 place else L10 place) (range_with_len 0 count)
+rules_of_supports count (Upper, e) = []
+
+-- all rules that can be defined at the entry of a slot and bound it from its side, over so many supports
+unfoldable pub rules_at : ℕ → Slot → List Rule
+rules_at count s = rules_alone s ++ rules_with_numbers s ++ rules_of_supports count s

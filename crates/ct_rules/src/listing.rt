@@ -1,0 +1,34 @@
+//! The rules with neither numbers nor a support, by the bounds that they give.
+
+use crate::rule::Rule;
+
+/// Those that bound A(n,d) from below.
+pub const LOWER_RULES: [Rule; 8] = [
+    Rule::L1,
+    Rule::L2,
+    Rule::L3,
+    Rule::L4,
+    Rule::L5,
+    Rule::L6,
+    Rule::L7,
+    Rule::L8,
+];
+
+/// Those that bound A(n,d) from above.
+pub const UPPER_RULES: [Rule; 9] = [
+    Rule::U0,
+    Rule::U1,
+    Rule::U2,
+    Rule::U3,
+    Rule::U4,
+    Rule::U5,
+    Rule::U6,
+    Rule::U7,
+    Rule::U8,
+];
+
+/// Those that bound A(n,d,w) from below.
+pub const LOWER_WEIGHT_RULES: [Rule; 2] = [Rule::M1, Rule::M7];
+
+/// Those that bound A(n,d,w) from above.
+pub const UPPER_WEIGHT_RULES: [Rule; 2] = [Rule::V0, Rule::V3];

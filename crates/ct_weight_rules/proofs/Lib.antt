@@ -1,0 +1,4 @@
+pub mod LawfulOneWord
+pub mod LawfulComplemented
+pub mod LawfulGivenCode
+pub mod LawfulAllWords

@@ -1,0 +1,5 @@
+pub mod Neighbours
+pub mod OneWord
+pub mod Complemented
+pub mod GivenCode
+pub mod AllWords

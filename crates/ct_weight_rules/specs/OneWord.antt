@@ -1,0 +1,14 @@
+-- One word (Brouwer, Shearer, Sloane and Smith 1990): a word of weight w is a code of each distance.
+use Rattle.std.specs.Prelude.{[], Some}
+use Rattle.ct_codes.specs.declared.claim.Side.TheVariants.{Lower}
+use Rattle.ct_rule_parts.specs.Parts.{RuleParts, has_weight}
+
+-- M1: A(n,d,w) is at least 1
+abbrev pub one_word : RuleParts
+one_word = record {
+  side = Lower;
+  condition = has_weight;
+  rests_on = λ e. [];
+  number = λ e vs. Some 1;
+  rested_on_by = λ e. [];
+}
