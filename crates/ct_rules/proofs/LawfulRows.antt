@@ -1,5 +1,5 @@
 -- The rows of the rules: each is lawful, has one side, and a rule that names a support needs one.
-use Rattle.std.proofs.Common.{◌≡◌, ℕ, List, [], ◌∷◌, All, Contains, refl, sym, ap, arith}
+use Rattle.std.proofs.Common.{◌≡◌, ℕ, [], ◌∷◌, All, Contains, refl, sym, ap, arith}
 use Rattle.std.specs.Prelude.{Bool, true, false, ◌&&◌, not, Option, Some, None}
 use Rattle.ct_rule_parts.specs.Parts.{has_weight}
 use Rattle.std.proofs.lemmas.Bool.{false≢true}

@@ -1,6 +1,6 @@
 -- The list of the rules that can be defined at an entry has each that is defined there.
-use Rattle.std.proofs.Common.{◌≡◌, ℕ, zero, suc, ◌+◌, ◌-◌, ◌<◌, ◌≤◌, Bool, true, false, ◌&&◌, List, [], ◌∷◌, ◌++◌, length, map, All, Contains, flat_map, Option, Some, None, slice_get, refl, sym, ap, subst, ◌∙◌, leb-true, arith}
-use Rattle.std.specs.Prelude.{not, is_some, if◌then◌else◌}
+use Rattle.std.proofs.Common.{◌≡◌, ℕ, zero, suc, ◌+◌, ◌-◌, ◌<◌, ◌≤◌, true, false, ◌&&◌, List, [], ◌∷◌, ◌++◌, length, map, All, Contains, flat_map, Option, Some, None, slice_get, refl, arith}
+use Rattle.std.specs.Prelude.{not, is_some}
 use Rattle.std.specs.List.{range_with_len}
 use Rattle.std.proofs.lemmas.Bool.{and_parts, false≢true}
 use Rattle.std.proofs.lemmas.List.Elements.{All-contains, Contains-append_left, Contains-append_right}
@@ -11,7 +11,6 @@ use Rattle.ct_codes.specs.declared.entry.Entry.{Entry}
 use Rattle.ct_codes.specs.Entry.{IsEntry, is_entry, unrestricted, constant_weight}
 use Rattle.ct_codes.proofs.EntryLemmas.{entry_limits}
 use Rattle.ct_rule_parts.specs.declared.support.Support.{Support}
-use Rattle.ct_rule_parts.specs.Parts.{has_weight}
 use Rattle.ct_rule_parts.specs.Slot.{Slot}
 use Rattle.ct_rule_parts.specs.Support.{size_at}
 use Rattle.ct_rules.specs.declared.rule.Rule.{Rule}

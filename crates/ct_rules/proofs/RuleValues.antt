@@ -1,6 +1,6 @@
 -- What a rule gives: true from true premises, no worse from better ones.
-use Rattle.std.proofs.Common.{◌≡◌, ℕ, ◌^◌, ◌≤◌, min, List, length, map, All, refl, sym, ap, subst, ◌∙◌, arith}
-use Rattle.std.specs.Prelude.{Bool, true, is_some, Option, Some, None, IsSome}
+use Rattle.std.proofs.Common.{◌≡◌, ℕ, ◌^◌, ◌≤◌, min, List, map, All, refl, sym, ap, subst, ◌∙◌, arith}
+use Rattle.std.specs.Prelude.{is_some, Option, Some, None, IsSome}
 use Rattle.std.specs.Option.{ForSome}
 use Rattle.std.proofs.Math.Nat.{pow-le-pow_right}
 use Rattle.std.proofs.lemmas.Option.{same_Some}
@@ -17,9 +17,9 @@ use Rattle.ct_codes.proofs.CheckLemmas.{code_size-le}
 use Rattle.ct_johnson.proofs.Capped.{capped_bound}
 use Rattle.ct_rule_parts.specs.declared.support.Support.{Support}
 use Rattle.ct_rule_parts.specs.Parts.{slots_on, within_limit}
-use Rattle.ct_rule_parts.specs.Slot.{Slot, slot_of, claim_at, IsNoBetter, AreNoBetter}
+use Rattle.ct_rule_parts.specs.Slot.{slot_of, claim_at, IsNoBetter, AreNoBetter}
 use Rattle.ct_rule_parts.specs.Support.{Stands}
-use Rattle.ct_rule_parts.proofs.Lawful.{AreTrueAt, true_values, IsTrueNumber, NoWorse, IsLawful}
+use Rattle.ct_rule_parts.proofs.Lawful.{AreTrueAt, true_values, IsTrueNumber, NoWorse}
 use Rattle.ct_rules.specs.declared.rule.Rule.{Rule}
 use Rattle.ct_rules.specs.Rule.{rule_side, cited, parts_over, premises_at, value_of}
 use Rattle.ct_rules.proofs.Applied.{IsDefined, limit_of, limit_from, value-given, value_where_applies, applies_from_value}

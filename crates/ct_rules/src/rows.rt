@@ -8,8 +8,8 @@ use crate::rule::Rule;
 use ct_codes::{Entry, Side};
 use ct_elementary::{far, hamming, plotkin};
 use ct_plain_rules::{
-    count_of_sums, farther, longer, longer_and_farther, nearer, part_of_sums,
-    part_side_by_side, shorter, shorter_and_nearer, sums_of,
+    count_of_sums, farther, longer, longer_and_farther, nearer, part_of_sums, part_side_by_side,
+    shorter, shorter_and_nearer, sums_of,
 };
 use ct_rule_parts::{Support, first, only, second, size_at};
 use ct_weight_rules::turned;
@@ -100,12 +100,7 @@ pub fn rests_on(supports: &[Support], rule: Rule, entry: Entry, j: usize) -> Opt
 /// The number that the rule gives at an entry of the table where what it rests on has these values, before the limit of a
 /// bound is laid on it.
 #[tactic(auto, unfolding(crate::specs::Rule::row_of))]
-pub(crate) fn number(
-    supports: &[Support],
-    rule: Rule,
-    entry: Entry,
-    values: &[u32],
-) -> Option<u64>
+pub(crate) fn number(supports: &[Support], rule: Rule, entry: Entry, values: &[u32]) -> Option<u64>
     requires { IsEntry entry }
     ensures { result ≡ (parts_over supports.now rule).number entry values.now }
 {

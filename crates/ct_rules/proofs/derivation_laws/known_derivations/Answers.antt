@@ -107,6 +107,7 @@ returns-clause-smaller_value c follows = absurd (cc follows.value)
 pub returns-clause-other_entry : goal.returns-clause-other_entry
 unfolding row_of
 returns-clause-other_entry c follows = absurd (cc follows.value)
+
 pub returns-clause-other_side : goal.returns-clause-other_side
 unfolding row_of
 returns-clause-other_side c follows = absurd (cc follows.side)

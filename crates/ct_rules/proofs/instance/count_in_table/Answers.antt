@@ -1,8 +1,6 @@
-use Rattle.std.proofs.Common.{◌≡◌, ℕ, suc, ◌+◌, ◌≤◌, length, take, true, refl, sym, ap, subst, ◌∙◌, arith, Some}
+use Rattle.std.proofs.Common.{◌≡◌, suc, ◌+◌, take, true, refl, sym, ap, subst, ◌∙◌, arith, Some}
 use Rattle.std.proofs.lemmas.Option.{slice_get_within}
-use Rattle.ct_codes.specs.declared.entry.Entry.{Entry}
 use Rattle.ct_rule_parts.specs.Parts.{are_entries}
-use Rattle.ct_rule_parts.proofs.Lawful.{IsLawful}
 use Rattle.ct_rules.specs.Rule.{cited, parts_over}
 use Rattle.ct_rules.proofs.EntryFronts.{entries_and_one, entries_ended, entries_and_other}
 use Rattle.ct_rules.proofs.LawfulRows.{lawful}

@@ -1,4 +1,4 @@
-use Rattle.std.proofs.Common.{◌≡◌, sym, ◌∙◌, true, slice_get, Some}
+use Rattle.std.proofs.Common.{sym, ◌∙◌}
 use Rattle.ct_rules.specs.Rule.{parts_over}
 use Rattle.ct_rules.proofs.Applied.{entry_at}
 use Rattle.ct_rules.proofs.instance.premise.Goals as goal

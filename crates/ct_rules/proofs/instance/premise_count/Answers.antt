@@ -1,4 +1,4 @@
-use Rattle.std.proofs.Common.{◌≡◌, ℕ, ◌≤◌, length, Bool, true, false, if◌then◌else◌, Option, Some, None, IfSome, sym, subst, ◌∙◌}
+use Rattle.std.proofs.Common.{ℕ, ◌≤◌, length, Bool, true, false, if◌then◌else◌, Option, Some, None, IfSome, sym, subst, ◌∙◌}
 use Rattle.ct_words.specs.declared.limits.TheConstants.{MAX_N}
 use Rattle.ct_rule_parts.specs.Parts.{are_entries}
 use Rattle.ct_rules.specs.Rule.{cited, parts_over}

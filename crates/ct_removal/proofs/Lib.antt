@@ -1,0 +1,4 @@
+pub mod WithoutLemmas
+pub mod LoweredRules
+pub mod VoidedSupports
+pub mod LoweredLines
