@@ -1,41 +1,30 @@
 -- A table that is kept well: its lines, one more line that gives a better bound, and how tables grow.
-use Rattle.std.proofs.Common.{◌≡◌, ℕ, ◌+◌, ◌<◌, ◌≤◌, List, [], ◌∷◌, ◌++◌, length, map, take, All, slice_get, slice_index, slice_index_or, Option, Some, None, option_map, refl, sym, ap, subst, ◌∙◌, inl, inr, arith, length-set, append-nil, append_assoc}
-use Rattle.std.specs.Prelude.{◌≢◌, true, if◌then◌else◌}
+use Rattle.std.proofs.Common.{◌≡◌, ℕ, ◌+◌, ◌<◌, ◌≤◌, List, [], ◌∷◌, ◌++◌, length, map, take, All, slice_get, slice_index, slice_index_or, Option, Some, None, option_map, refl, sym, ap, subst, ◌∙◌, inl, inr, arith, length-set, length-append, append-nil, append_assoc}
+use Rattle.std.specs.Prelude.{◌≢◌, Bool, true, false, if◌then◌else◌}
 use Rattle.std.specs.List.{cons_option}
 use Rattle.std.proofs.lemmas.Bool.{cases_eq}
 use Rattle.std.proofs.lemmas.List.Elements.{All-nil, All-cons, All-head, All-tail, All-append, All-map}
 use Rattle.std.proofs.lemmas.Option.{none-some, same_Some, slice_get_within, slice_get-get_or}
 use Rattle.ct_codes.specs.declared.claim.Claim.{Claim}
 use Rattle.ct_codes.specs.declared.claim.Side.{Side}
-use Rattle.ct_codes.specs.declared.claim.Side.TheVariants.{Lower, Upper}
 use Rattle.ct_codes.specs.Entry.{IsEntry}
-use Rattle.ct_rules.specs.declared.support.Support.{Support}
+use Rattle.ct_rule_parts.specs.declared.support.Support.{Support}
 use Rattle.ct_rules.specs.Derivation.{LineValue, claims_at, Follows}
-use Rattle.ct_rules.specs.Rule.{cited, premises_at, applies, premises_of, value_of}
-use Rattle.ct_rules.specs.Slot.{Slot, slot_of, claim_at, IsBetter, IsNoBetter}
+use Rattle.ct_rules.specs.Rule.{premises_at, applies, premises_of, value_of}
+use Rattle.ct_rule_parts.specs.Slot.{Slot, slot_of, claim_at, IsBetter, IsNoBetter}
 use Rattle.ct_rules.proofs.ClosedBounds.{no_better-antisymmetric, claims_of, slots_of_claims, values_of_claims}
 use Rattle.ct_rules.proofs.Derivations.{derivation-push}
 use Rattle.ct_rules.proofs.Places.{slice_get-append_left, slice_get-append_right, slice_get_last}
 use Rattle.ct_rules.proofs.RuleLaws.{rule_entry, premises_in_table}
-use Rattle.ct_closure.specs.declared.instance.Instance.{Instance}
-use Rattle.ct_closure.specs.Inside.Closing.{value_over, line_by}
+use Rattle.ct_rules.specs.declared.rule.Rule.{Rule}
+use Rattle.ct_codes.specs.declared.entry.Entry.{Entry}
+use Rattle.ct_closure.specs.Inside.Pulling.{value_over, line_by}
 use Rattle.ct_closure.specs.Kept.{KeptValue, IsKept, Grew, reason_of, with_line}
 use Rattle.ct_closure.specs.Number.{bound_of, slot_number}
 use Rattle.ct_closure.proofs.GetLemmas.{IsOldOrNew, slice_get-append_some, slice_get_push_cases}
 use Rattle.ct_closure.proofs.NumberLemmas.{slot_number-injective}
-use Rattle.ct_closure.proofs.PremiseLemmas.{value_over_is}
 use Rattle.ct_closure.proofs.PutLemmas.{bound-put, reason-put, bound-put_other, reason-put_other}
-use Rattle.ct_closure.proofs.SatisfiedLemmas.{better-no_worse, no_better-self}
-
--- better than a bound that is no worse than a third, so better than the third
-pub better-trans_no_better : (side : Side) (u v w : ℕ) → IsBetter side u v → IsNoBetter side w v → IsBetter side u w
-better-trans_no_better Lower u v w better worse = omega arith
-better-trans_no_better Upper u v w better worse = omega arith
-
--- no bound is better than itself
-pub no_better_than_itself : (side : Side) (v : ℕ) → IsBetter side v v → ⊥
-no_better_than_itself Lower v better = omega arith
-no_better_than_itself Upper v better = omega arith
+use Rattle.ct_closure.proofs.BetterLemmas.{better-no_worse, no_better-self, better-trans_no_better, no_better_than_itself}
 
 -- what stands where an option that is mapped stands
 mapped : {X Y : Type 0} (f : X → Y) (o : Option X) (y : Y) → option_map f o ≡ Some y
@@ -112,6 +101,7 @@ pub IsKept-with_line : (supports : List Support) (kept : KeptValue) (line : Line
 IsKept-with_line supports kept line good entry follows better = record {
   bound_count = length-set kept.bounds (slot_number at) line.claim.value ∙ good.bound_count;
   reason_count = length-set kept.reasons (slot_number at) (length kept.lines) ∙ good.reason_count;
+  base_lines = (let before = good.base_lines in let more = length-append kept.lines (line ∷ []) in omega arith);
   derivation = derivation-push supports kept.lines line good.derivation follows;
   reasoned = λ s s_entry. elim (cases_eq (slot_number s) (slot_number at)) [
     | inl same ↦ subst IsReasoned (sym (slot_number-injective s at s_entry entry same)) reasoned_here
@@ -272,16 +262,34 @@ claims_at-reasons supports kept (s ∷ slots) good entries =
     (good.reasoned s (All-head (λ t. IsEntry t.1) s slots entries))
     ∙ ap (λ claims. claim_at s (bound_of kept.bounds s) ∷ claims) rest
 
--- the line by which an instance gives a bound follows
-pub Follows-line_by : (supports : List Support) (kept : KeptValue) (i : Instance) (v : ℕ) → IsKept supports kept
-    → applies supports i.rule i.entry ≡ true → value_over supports (bound_of kept.bounds) i.rule i.entry ≡ Some v
-    → Follows supports kept.lines (line_by supports kept i v)
-Follows-line_by supports kept i v good defined given =
+-- the value over bounds of a rule that is defined
+pub value_over_is : (supports : List Support) (f : Slot → ℕ) (r : Rule) (e : Entry) → applies supports r e ≡ true
+    → value_over supports f r e ≡ value_of supports r e (map f (premises_at supports r e))
+value_over_is supports f r e h =
+    ap (λ b. if b then value_of supports r e (map f (premises_at supports r e)) else None) h
+
+-- an option is there where a test lets it through and it was there
+let_through : {X : Type 0} (b : Bool) (o : Option X) (x : X) → (if b then o else None) ≡ Some x → b ≡ true
+let_through true o x h = refl
+let_through false o x h = absurd (none-some x h)
+
+-- a rule that gives a bound is defined
+pub applies_from_over : (supports : List Support) (f : Slot → ℕ) (r : Rule) (e : Entry) (v : ℕ)
+    → value_over supports f r e ≡ Some v → applies supports r e ≡ true
+applies_from_over supports f r e v h =
+    let_through (applies supports r e) (value_of supports r e (map f (premises_at supports r e))) v h
+
+-- the line by which a rule gives a bound follows
+pub Follows-line_by : (supports : List Support) (kept : KeptValue) (r : Rule) (e : Entry) (v : ℕ) → IsKept supports kept
+    → value_over supports (bound_of kept.bounds) r e ≡ Some v
+    → Follows supports kept.lines (line_by supports kept r e v)
+Follows-line_by supports kept r e v good given =
     let bounds = bound_of kept.bounds in
-    let slots = premises_at (cited supports i.rule) i.rule i.entry in
-    let premises : premises_of supports i.rule i.entry ≡ Some slots =
+    let defined = applies_from_over supports bounds r e v given in
+    let slots = premises_at supports r e in
+    let premises : premises_of supports r e ≡ Some slots =
     ap (λ b. if b then Some slots else None) defined in
-    let entries = premises_in_table supports i.rule i.entry slots premises in
+    let entries = premises_in_table supports r e slots premises in
     let claims = claims_at-reasons supports kept slots good entries in
     record {
       earlier =
@@ -290,6 +298,6 @@ Follows-line_by supports kept i v good defined given =
       side = refl;
       premises = premises ∙ ap Some (sym (ap (map slot_of) claims ∙ slots_of_claims bounds slots));
       value =
-          ap (value_of supports i.rule i.entry) (ap (map (λ c. c.value)) claims ∙ values_of_claims bounds slots)
-          ∙ sym (value_over_is supports bounds i.rule i.entry defined) ∙ given;
+          ap (value_of supports r e) (ap (map (λ c. c.value)) claims ∙ values_of_claims bounds slots)
+          ∙ sym (value_over_is supports bounds r e defined) ∙ given;
     }

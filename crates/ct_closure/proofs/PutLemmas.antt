@@ -4,7 +4,7 @@ use Rattle.std.specs.Prelude.{◌≢◌}
 use Rattle.std.proofs.lemmas.List.{get_or-set_same, get_or-set_other}
 use Rattle.ct_codes.specs.Entry.{IsEntry}
 use Rattle.ct_rules.specs.Derivation.{LineValue}
-use Rattle.ct_rules.specs.Slot.{Slot, slot_of}
+use Rattle.ct_rule_parts.specs.Slot.{Slot, slot_of}
 use Rattle.ct_closure.specs.Kept.{KeptValue, reason_of, with_line}
 use Rattle.ct_closure.specs.Number.{bound_of, side_size, slot_number}
 use Rattle.ct_closure.proofs.NumberLemmas.{slot_number-bound}

@@ -7,8 +7,8 @@ use Rattle.ct_words.specs.declared.limits.TheConstants.{MAX_BOUND}
 use Rattle.ct_codes.specs.declared.claim.Side.TheVariants.{Lower, Upper}
 use Rattle.ct_codes.specs.declared.entry.Entry.{Entry}
 use Rattle.ct_codes.specs.Entry.{IsEntry}
-use Rattle.ct_rules.specs.Slot.{Slot, IsBetter}
-use Rattle.ct_closure.specs.Inside.Closing.{slack}
+use Rattle.ct_rule_parts.specs.Slot.{Slot, IsBetter}
+use Rattle.ct_closure.specs.Inside.Pulling.{slack}
 use Rattle.ct_closure.specs.Number.{bound_of, side_size, slot_number}
 use Rattle.ct_closure.proofs.NumberLemmas.{lower_number-bound, slot_number-bound}
 

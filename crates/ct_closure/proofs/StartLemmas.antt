@@ -1,75 +1,41 @@
 -- A table that is started: the slots with smaller numbers have their ground lines, and there are no other lines.
-use Rattle.std.proofs.Common.{◌≡◌, ◌≢◌, ℕ, ◌+◌, ◌*◌, ◌<◌, List, [], ◌∷◌, length, take, slice_get, Some, None, option_map, refl, sym, ap, subst, ◌∙◌, inl, inr, arith, length-set}
+use Rattle.std.proofs.Common.{◌≡◌, ◌≢◌, ℕ, ◌+◌, ◌-◌, ◌*◌, ◌<◌, ◌≤◌, List, [], ◌∷◌, length, take, slice_get, Some, option_map, refl, sym, ap, subst, ◌∙◌, inl, inr, arith, length-set}
 use Rattle.std.proofs.lemmas.Bool.{cases_eq}
 use Rattle.std.proofs.lemmas.Option.{none-some}
 use Rattle.ct_codes.specs.Entry.{IsEntry}
-use Rattle.ct_rules.specs.declared.support.Support.{Support}
+use Rattle.ct_rule_parts.specs.declared.support.Support.{Support}
+use Rattle.ct_codes.specs.declared.claim.Side.{Side}
+use Rattle.ct_words.specs.declared.limits.TheConstants.{MAX_N}
 use Rattle.ct_rules.specs.Derivation.{LineValue, Follows}
-use Rattle.ct_rules.specs.Slot.{Slot, slot_of}
+use Rattle.ct_rule_parts.specs.Slot.{Slot, slot_of}
 use Rattle.ct_rules.proofs.Places.{slice_get_last}
 use Rattle.ct_closure.specs.Kept.{KeptValue, IsKept, reason_of, with_line}
 use Rattle.ct_closure.specs.Inside.Ground.{ground_value, ground_line}
-use Rattle.ct_closure.specs.Number.{bound_of, side_size, slot_number, slot_at}
+use Rattle.ct_closure.specs.Inside.Started.{HasGround, IsGroundBelow, IsStarted}
+use Rattle.ct_closure.specs.Number.{bound_of, side_size, side_number, slot_number, entries_to, entry_in, count_in_length}
 use Rattle.ct_closure.proofs.GetLemmas.{IsOldOrNew, slice_get-append_some, slice_get_push_cases}
 use Rattle.ct_closure.proofs.GroundLemmas.{Follows-ground, IsGround-ground_line}
 use Rattle.ct_closure.proofs.PutLemmas.{bound-put, reason-put, bound-put_other, reason-put_other}
-use Rattle.ct_closure.proofs.NumberLemmas.{slot_at-IsEntry, slot_at-slot_number, slot_number-bound, slot_number-slot_at, slot_number-injective}
-
--- a slot has its ground line for its reason
-pub record HasGround (kept : KeptValue) (s : Slot) : Type 0 where
-  pub value : ground_value s ≡ Some (bound_of kept.bounds s)
-  pub line : slice_get kept.lines (reason_of kept s) ≡ Some (ground_line s (bound_of kept.bounds s))
-
--- a line is the ground line of a slot with a smaller number, and the slot's reason
-pub record IsGroundBelow (kept : KeptValue) (count i : ℕ) (l : LineValue) : Type 0 where
-  pub entry : IsEntry l.claim.entry
-  pub below : slot_number (slot_of l.claim) < count
-  pub reason : i ≡ reason_of kept (slot_of l.claim)
-  pub value : ground_value (slot_of l.claim) ≡ Some l.claim.value
-  pub line : l ≡ ground_line (slot_of l.claim) l.claim.value
-
--- started up to a number
-pub record IsStarted (count : ℕ) (kept : KeptValue) : Type 0 where
-  pub bound_count : length kept.bounds ≡ 2 * side_size
-  pub reason_count : length kept.reasons ≡ 2 * side_size
-  pub grounded : (s : Slot) → IsEntry s.1 → slot_number s < count → HasGround kept s
-  pub lines : (i : ℕ) (l : LineValue) → slice_get kept.lines i ≡ Some l → IsGroundBelow kept count i l
+use Rattle.ct_closure.proofs.NumberLemmas.{slot_number-bound, slot_number-injective, slot_number-entry_in, entry_in-IsEntry}
 
 -- nothing is started yet
 pub IsStarted-none : (bounds reasons : List ℕ) → length bounds ≡ 2 * side_size → length reasons ≡ 2 * side_size
-    → IsStarted 0 (record { bounds = bounds; reasons = reasons; lines = [] })
+    → IsStarted 0 (record { bounds = bounds; reasons = reasons; lines = []; base = 0 })
 IsStarted-none bounds reasons bound_count reason_count = record {
   bound_count = bound_count;
   reason_count = reason_count;
+  no_base = refl;
   grounded = λ s entry below. absurd (omega arith);
   lines = λ i l found. absurd (none-some l found);
 }
 
--- no slot of the table has the number
-pub IsStarted-skip : (count : ℕ) (kept : KeptValue) → slot_at count ≡ None → IsStarted count kept
-    → IsStarted (count + 1) kept
-IsStarted-skip count kept empty started = record {
-  bound_count = started.bound_count;
-  reason_count = started.reason_count;
-  grounded = λ s entry below. elim (cases_eq (slot_number s) count) [
-    | inl same ↦ absurd (none-some s (sym empty ∙ ap slot_at (sym same) ∙ slot_at-slot_number s entry))
-    | inr other ↦ started.grounded s entry (omega arith)
-  ];
-  lines = λ i l found. let old = started.lines i l found in record {
-    entry = old.entry;
-    below = (let h = old.below in omega arith);
-    reason = old.reason;
-    value = old.value;
-    line = old.line;
-  };
-}
-
 -- the ground line of the slot that has the number is put
-pub IsStarted-put : (count : ℕ) (kept : KeptValue) (s : Slot) (v : ℕ) → count < 2 * side_size → slot_at count ≡ Some s
+pub IsStarted-put : (count : ℕ) (kept : KeptValue) (s : Slot) (v : ℕ) → IsEntry s.1 → slot_number s ≡ count
     → ground_value s ≡ Some v → IsStarted count kept → IsStarted (count + 1) (with_line kept (ground_line s v))
-IsStarted-put count kept s v within at given started = record {
+IsStarted-put count kept s v entry number given started = record {
   bound_count = length-set kept.bounds (slot_number s) v ∙ started.bound_count;
   reason_count = length-set kept.reasons (slot_number s) (length kept.lines) ∙ started.reason_count;
+  no_base = started.no_base;
   grounded = λ t t_entry below. elim (cases_eq (slot_number t) (slot_number s)) [
     | inl same ↦ subst (HasGround new) (sym (slot_number-injective t s t_entry entry same)) here
     | inr other ↦ kept_ground t other (started.grounded t t_entry (omega (arith, number)))
@@ -82,12 +48,6 @@ IsStarted-put count kept s v within at given started = record {
 
     new : KeptValue
     new = with_line kept put
-
-    entry : IsEntry s.1
-    entry = slot_at-IsEntry count s at
-
-    number : slot_number s ≡ count
-    number = slot_number-slot_at count s within at
 
     bound : bound_of new.bounds s ≡ v
     bound = bound-put kept put started.bound_count entry
@@ -135,12 +95,28 @@ IsStarted-put count kept s v within at given started = record {
       line = refl;
     })
 
+-- that of the entry at a place among those of its length
+pub IsStarted-place : (kept : KeptValue) (side : Side) (n place v : ℕ) → 1 ≤ n → n ≤ MAX_N → place < count_in_length n
+    → ground_value (side, entry_in n place) ≡ Some v
+    → IsStarted (side_number side * side_size + entries_to (n - 1) + place) kept
+    → IsStarted (side_number side * side_size + entries_to (n - 1) + (place + 1)) (with_line kept (ground_line (side, entry_in n place) v))
+IsStarted-place kept side n place v from to within given started =
+    let count = side_number side * side_size + entries_to (n - 1) + place in
+    let next : count + 1 ≡ side_number side * side_size + entries_to (n - 1) + (place + 1) = omega arith in
+    subst (λ k. IsStarted k (with_line kept (ground_line (side, entry_in n place) v))) next
+    (IsStarted-put count kept (side, entry_in n place) v (entry_in-IsEntry n place from to within) (slot_number-entry_in side n place) given started)
+
+-- up to another number that is the same
+pub IsStarted-same : (kept : KeptValue) (a b : ℕ) → a ≡ b → IsStarted a kept → IsStarted b kept
+IsStarted-same kept a b same started = subst (λ k. IsStarted k kept) same started
+
 -- a table that is started up to the last number is kept well, whatever the supports
 pub IsKept-started : (kept : KeptValue) → IsStarted (2 * side_size) kept → (supports : List Support)
     → IsKept supports kept
 IsKept-started kept started supports = record {
   bound_count = started.bound_count;
   reason_count = started.reason_count;
+  base_lines = (let h = started.no_base in omega arith);
   derivation = λ i l found. follows i l (started.lines i l found);
   reasoned = λ s entry. ap (option_map (λ l. l.claim)) (ground s entry).line;
   last = λ i l found. let line = started.lines i l found in let h = line.reason in omega arith;

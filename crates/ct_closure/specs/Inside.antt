@@ -1,5 +1,7 @@
 -- Words that the contracts of inner functions alone cite.
-pub mod Listing
-pub mod Closing
 pub mod Ground
-pub mod Worklist
+pub mod Started
+pub mod Marked
+pub mod Pulling
+pub mod Pulled
+pub mod Marking

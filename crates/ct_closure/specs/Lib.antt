@@ -1,5 +1,6 @@
 pub mod Number
-pub mod Instance
 pub mod Kept
-pub mod Satisfied
+pub mod Worklist
+pub mod Places
+pub mod Closing
 pub mod Inside

@@ -1,119 +1,98 @@
 //! Closing a table under the rules.
 
-ghost use Rattle.std.specs.Prelude.{◌≡◌, ◌+◌, ◌<◌, ◌≤◌, ◌++◌, ◌^◌, ℕ, List, true, false, Some, OnOk, OnErr, IfOk, IfSome, IfNone, MatchBool, length, map};
+ghost use Rattle.std.specs.Prelude.{◌≡◌, ◌+◌, ◌*◌, ◌<◌, ◌≤◌, ℕ, List, true, Some, OnOk, OnErr, IfOk, All, Contains, map};
 ghost use Rattle.ct_words.specs.declared.limits.TheConstants.{MAX_BOUND};
+ghost use Rattle.ct_codes.specs.declared.entry.Entry.{Entry};
 ghost use Rattle.ct_codes.specs.Entry.{IsEntry};
-ghost use Rattle.ct_rules.specs.Derivation.{LineValue};
-ghost use Rattle.ct_rules.specs.Closed.{IsClosed};
-ghost use Rattle.ct_rules.specs.Rule.{rule_side, cited, premises_at, applies};
-ghost use Rattle.ct_rules.specs.Slot.{IsBetter, IsNoBetter};
-ghost use Rattle.ct_rules.specs.Support.{AllStand};
-ghost use Rattle.ct_closure.specs.Number.{bound_of};
-ghost use Rattle.ct_closure.specs.Instance.{AreInstances, instance_at};
-ghost use Rattle.ct_closure.specs.declared.instance.Instance.{Instance};
+ghost use Rattle.ct_rule_parts.specs.Slot.{IsBetter};
+ghost use Rattle.ct_rule_parts.specs.Support.{AllStand};
+ghost use Rattle.ct_rules.specs.declared.rule.Rule.{Rule};
+ghost use Rattle.ct_rules.specs.Closed.{AreTrue, IsClosed};
+ghost use Rattle.ct_rules.specs.Listing.{alone_on};
+ghost use Rattle.ct_rules.specs.Rule.{rule_side, is_alone, applies, premises_at, parts_over};
+ghost use Rattle.ct_closure.specs.Closing.{IsPending, CanClose, IsClosing, HasMoreLines};
 ghost use Rattle.ct_closure.specs.Kept.{IsKept, Grew, with_line, reason_of};
-ghost use Rattle.ct_closure.specs.Inside.Closing.{value_over, IsPending, IsPendingBut, IsSatisfiedAt, potential, line_by};
+ghost use Rattle.ct_closure.specs.Number.{bound_of};
+ghost use Rattle.ct_closure.specs.Places.{ArePlaces};
+ghost use Rattle.ct_closure.specs.Worklist.{IsIdle};
+ghost use Rattle.ct_closure.specs.Inside.Marking.{IsPendingBut, KeepsMarks, IsTestedAt, IsTestedFrom, AreTested};
+ghost use Rattle.ct_closure.specs.Inside.Pulling.{line_by, potential};
 
-use crate::instance::Instance;
-use crate::instances::Instances;
+use crate::best::is_better;
 use crate::kept::Kept;
+use crate::places::SupportPlaces;
+use crate::pulling::{offer, pull};
+use crate::side_by_side::mark_side_by_side;
 use crate::worklist::Worklist;
-use ct_codes::{Claim, Side};
+use ct_codes::{Claim, Entry, Side};
 use ct_rules::{
-    Line, PremiseSlots, Support, all_premises, premise, premise_count, rule_side,
-    value_where_defined,
+    LOWER_RULES, LOWER_WEIGHT_RULES, Line, MOST_PREMISES, Rule, Support, UPPER_RULES,
+    UPPER_WEIGHT_RULES, rested_on_by, rests_on, rule_side,
 };
+use smallvec::SmallVec;
 use std::alloc::{AllocError, Global};
+use std::marker::Model;
 
-/// Whether the first bound is better than the second: from below greater, from above smaller.
-fn is_better(side: Side, bound: u32, other: u32) -> bool
-    ensures { MatchBool result (IsBetter side bound other) (IsNoBetter side bound other) }
-{
-    match side {
-        Side::Lower => bound > other,
-        Side::Upper => bound < other,
-    }
+/// What changes while a table is closed: what it keeps, the slots that are still to be looked at, and how often a rule's value
+/// was asked for.
+#[derive(Debug, Drop)]
+pub struct Closing {
+    /// What the table keeps.
+    pub kept: Kept,
+    /// The slots that are still to be looked at.
+    pub work: Worklist,
+    /// How often a rule's value was asked for.
+    pub evaluations: u64,
 }
 
-/// The bound that the instance gives over those that stand.
-fn offer(supports: &[Support], kept: &Kept, instance: Instance) -> Option<u32>
-    ensures value { result ≡ value_over supports.now (bound_of kept.now.bounds) instance.rule instance.entry }
-    ensures limit { IfSome result (λ v. v ≤ MAX_BOUND) }
-    ensures defined { IfSome result (λ _. applies supports.now instance.rule instance.entry ≡ true) }
-    ensures entry { IfSome result (λ _. IsEntry instance.entry) }
-{
-    let Instance { rule, entry } = instance;
-    match all_premises(supports, rule, entry)? {
-        PremiseSlots::Nothing => value_where_defined(supports, rule, entry, &[]),
-        PremiseSlots::One(only) => {
-            let values = [kept.bound(only.0, only.1)];
-            value_where_defined(supports, rule, entry, &values)
-        }
-        PremiseSlots::Two(first, second) => {
-            let values = [kept.bound(first.0, first.1), kept.bound(second.0, second.1)];
-            value_where_defined(supports, rule, entry, &values)
-        }
-    }
+impl Model for Closing {
+    ghost use Rattle.ct_closure.specs.Closing.{ClosingValue};
+
+    ghost Value = { ClosingValue };
+
+    ghost view = { λ c. record { kept = c.kept; work = c.work; evaluations = c.evaluations } };
 }
 
-/// The places of the lines that give the bounds that the instance rests on.
+/// How many entries there are at most among which are all that rest on another by a rule with neither numbers nor a support.
+const MOST_DEPENDENTS: usize = 3;
+
+/// The places of the lines that give the bounds that the rule rests on.
 fn reasons(
     alloc: Global,
     supports: &[Support],
     kept: &Kept,
-    instance: Instance,
-) -> Result<Vec<usize>, AllocError>
-    requires { applies supports.now instance.rule instance.entry ≡ true }
-    ensures { IfOk result (λ from. from.items
-        ≡ map (reason_of kept.now) (premises_at (cited supports.now instance.rule) instance.rule instance.entry)) }
+    rule: Rule,
+    entry: Entry,
+) -> Result<SmallVec<usize, 2>, AllocError>
+    requires { applies supports.now rule entry ≡ true }
+    ensures { IfOk result (λ from. from.items ≡ map (reason_of kept.now) (premises_at supports.now rule entry)) }
 {
-    let mut from = Vec::new(alloc);
-    let count = premise_count(supports, instance.rule, instance.entry).unwrap_or(0);
-    for j in 0..count {
-        if let Some((side, entry)) = premise(supports, instance.rule, instance.entry, j) {
-            from.push(kept.reason(side, entry))?;
-        }
+    let side = rule_side(rule);
+    let mut from = SmallVec::new(alloc);
+    for j in 0..MOST_PREMISES {
+        let Some(premise) = rests_on(supports, rule, entry, j) else {
+            return Ok(from);
+        };
+        from.push(kept.reason(side, premise))?;
     }
     Ok(from)
 }
 
-/// Whether there is an instance of the number and it gives a better bound than stands.
-pub(crate) fn gives_better(
-    instances: &Instances,
-    supports: &[Support],
-    kept: &Kept,
-    number: usize,
-) -> bool
-    requires few { length supports.now < 2 ^ 32 }
-    ensures { MatchBool result
-        (¬ (IsSatisfiedAt number instances.now.fixed supports.now (bound_of kept.now.bounds)))
-        (IsSatisfiedAt number instances.now.fixed supports.now (bound_of kept.now.bounds)) }
-{
-    let Some(instance) = instances.at(supports, number) else {
-        return false;
-    };
-    let Some(value) = offer(supports, kept, instance) else {
-        return false;
-    };
-    let side = rule_side(instance.rule);
-    is_better(side, value, kept.bound(side, instance.entry))
-}
-
-/// Puts the line by which the instance gives a better bound. After an `Err`, which is want of memory, all is as before.
+/// Puts the line by which the rule gives the bound. After an `Err`, which is want of memory, all is as before.
 fn improve(
     alloc: Global,
     supports: &[Support],
     kept: &mut Kept,
-    instance: Instance,
+    rule: Rule,
+    entry: Entry,
     value: u32,
 ) -> Result<(), AllocError>
-    requires entry { IsEntry instance.entry }
-    requires defined { applies supports.now instance.rule instance.entry ≡ true }
-    ensures improved { OnOk result (kept.new ≡ with_line kept.old (line_by supports.now kept.old instance value)) }
+    requires entry { IsEntry entry }
+    requires defined { applies supports.now rule entry ≡ true }
+    ensures improved { OnOk result (kept.new ≡ with_line kept.old (line_by supports.now kept.old rule entry value)) }
     ensures unchanged { OnErr result (kept.new ≡ kept.old) }
 {
-    let Instance { rule, entry } = instance;
-    let from = reasons(alloc, supports, kept, instance)?;
+    let from = reasons(alloc, supports, kept, rule, entry)?;
     let claim = Claim {
         side: rule_side(rule),
         entry,
@@ -122,64 +101,206 @@ fn improve(
     kept.put(Line { claim, rule, from })
 }
 
-/// Tries the instance of the number: where it gives a better bound, the bound is put with its line, and the instances that
-/// rest on it are marked. After an `Err`, which is want of memory, lines may have been put at the end.
-fn try_instance(
-    alloc: Global,
-    instances: &Instances,
+/// Marks the entry, where it is in the table and the rule gives something better there.
+fn test(
     supports: &[Support],
-    kept: &mut Kept,
+    kept: &Kept,
     work: &mut Worklist,
-    number: usize,
+    rule: Rule,
+    entry: Entry,
+    evaluations: &mut u64,
 ) -> Result<(), AllocError>
-    requires instances { AreInstances instances.now }
-    requires few { length supports.now < 2 ^ 32 }
-    requires kept { IsKept supports.now kept.now }
-    requires pending { IsPendingBut number instances.now.fixed supports.now kept.now.bounds work.now }
-    ensures kept { OnOk result (IsKept supports.now kept.new) }
-    ensures grew { OnOk result (Grew kept.old kept.new) }
-    ensures pending { OnOk result (IsPending instances.now.fixed supports.now kept.new.bounds work.new) }
-    ensures potential { OnOk result (potential kept.new.bounds instances.now.users work.new ≤ potential kept.old.bounds instances.now.users work.old) }
-    ensures lines { (added : List LineValue) × (kept.new.lines ≡ kept.old.lines ++ added) }
+    ensures tested { OnOk result (IsTestedAt supports.now kept.now.bounds work.new rule entry) }
+    ensures kept { KeepsMarks work.old work.new }
 {
-    let Some(instance) = instances.at(supports, number) else {
-        return Ok(());
-    };
-    let Some(value) = offer(supports, kept, instance) else {
-        return Ok(());
-    };
-    let side = rule_side(instance.rule);
-    if !is_better(side, value, kept.bound(side, instance.entry)) {
+    let side = rule_side(rule);
+    if !entry.in_table() || work.is_marked(side, entry) {
         return Ok(());
     }
-    improve(alloc, supports, kept, instance, value)?;
-    work.mark_all(instances.users(side, instance.entry))?;
+    *evaluations = evaluations.saturating_add(1);
+    let Some(value) = offer(supports, kept, rule, entry) else {
+        return Ok(());
+    };
+    if is_better(side, value, kept.bound(side, entry)) {
+        work.mark(side, entry)?;
+    }
     Ok(())
 }
 
-/// Takes instances until none is marked, and follows what they improve: then no rule gives anything better than what stands.
-/// After an `Err`, which is want of memory, lines may have been put at the end.
-pub(crate) fn close(
-    alloc: Global,
-    instances: &Instances,
+/// Marks the entries that may rest on this one by the rule, where it gives something better there.
+fn mark_by_rule(
     supports: &[Support],
+    kept: &Kept,
+    work: &mut Worklist,
+    rule: Rule,
+    entry: Entry,
+    evaluations: &mut u64,
+) -> Result<(), AllocError>
+    requires entry { IsEntry entry }
+    requires alone { is_alone rule ≡ true }
+    ensures tested { OnOk result (IsTestedFrom supports.now kept.now.bounds work.new entry rule) }
+    ensures kept { KeepsMarks work.old work.new }
+{
+    for k in 0..MOST_DEPENDENTS {
+        let Some(dependent) = rested_on_by(rule, entry, k) else {
+            return Ok(());
+        };
+        test(supports, kept, work, rule, dependent, evaluations)?;
+    }
+    Ok(())
+}
+
+/// Marks the entries that may rest on this one by one of the rules, where it gives something better there.
+fn mark_by_rules(
+    supports: &[Support],
+    kept: &Kept,
+    work: &mut Worklist,
+    rules: &[Rule],
+    entry: Entry,
+    evaluations: &mut u64,
+) -> Result<(), AllocError>
+    requires entry { IsEntry entry }
+    requires alone { All (λ (r : Rule). is_alone r ≡ true) rules.now }
+    ensures tested { OnOk result (All (IsTestedFrom supports.now kept.now.bounds work.new entry) rules.now) }
+    ensures kept { KeepsMarks work.old work.new }
+{
+    for rule in rules {
+        mark_by_rule(supports, kept, work, *rule, entry, evaluations)?;
+    }
+    Ok(())
+}
+
+/// Marks the entries that may rest on this one by a rule with neither numbers nor a support, where it gives something better.
+fn mark_alone(
+    supports: &[Support],
+    kept: &Kept,
+    work: &mut Worklist,
+    side: Side,
+    entry: Entry,
+    evaluations: &mut u64,
+) -> Result<(), AllocError>
+    requires { IsEntry entry }
+    ensures tested { OnOk result (All (IsTestedFrom supports.now kept.now.bounds work.new entry) (alone_on side)) }
+    ensures kept { KeepsMarks work.old work.new }
+{
+    match side {
+        Side::Lower => {
+            mark_by_rules(supports, kept, work, &LOWER_RULES, entry, evaluations)?;
+            mark_by_rules(supports, kept, work, &LOWER_WEIGHT_RULES, entry, evaluations)?;
+            Ok(())
+        }
+        Side::Upper => {
+            mark_by_rules(supports, kept, work, &UPPER_RULES, entry, evaluations)?;
+            mark_by_rules(supports, kept, work, &UPPER_WEIGHT_RULES, entry, evaluations)?;
+            Ok(())
+        }
+    }
+}
+
+/// Marks the slots that rest on this one, where a rule gives something better there. After an `Err`, which is want of memory,
+/// some may be marked.
+fn mark_dependents(
+    supports: &[Support],
+    kept: &Kept,
+    work: &mut Worklist,
+    side: Side,
+    entry: Entry,
+    evaluations: &mut u64,
+) -> Result<(), AllocError>
+    requires entry { IsEntry entry }
+    requires true_bounds { AreTrue (bound_of kept.now.bounds) }
+    ensures tested { OnOk result (AreTested supports.now kept.now.bounds work.new (side, entry)) }
+    ensures kept { KeepsMarks work.old work.new }
+{
+    mark_alone(supports, kept, work, side, entry, evaluations)?;
+    match (side, entry.w) {
+        (Side::Lower, None) => {
+            mark_side_by_side(kept, work, entry, evaluations)?;
+            Ok(())
+        }
+        (Side::Lower, Some(_)) => Ok(()),
+        (Side::Upper, _) => Ok(()),
+    }
+}
+
+/// Looks at a slot: where a rule gives a better bound there, the best is put with its line, and the slots that rest on this one
+/// and have something better are marked. After an `Err`, which is want of memory, lines may have been put at the end.
+fn turn(
+    alloc: Global,
+    supports: &[Support],
+    places: &SupportPlaces,
+    kept: &mut Kept,
+    work: &mut Worklist,
+    side: Side,
+    entry: Entry,
+    evaluations: &mut u64,
+) -> Result<(), AllocError>
+    requires entry { IsEntry entry }
+    requires stand { AllStand supports.now }
+    requires places { ArePlaces supports.now places.now }
+    requires kept { IsKept supports.now kept.now }
+    requires pending { IsPendingBut (side, entry) supports.now kept.now.bounds work.now }
+    ensures kept { OnOk result (IsKept supports.now kept.new) }
+    ensures grew { OnOk result (Grew kept.old kept.new) }
+    ensures pending { OnOk result (IsPending supports.now kept.new.bounds work.new) }
+    ensures potential { OnOk result (potential kept.new.bounds work.new ≤ potential kept.old.bounds work.old) }
+    ensures lines { HasMoreLines kept.old kept.new }
+{
+    let best = pull(supports, places, kept, side, entry, evaluations);
+    let Some(rule) = best.rule else {
+        return Ok(());
+    };
+    improve(alloc, supports, kept, rule, entry, best.value)?;
+    mark_dependents(supports, kept, work, side, entry, evaluations)?;
+    work.waits_for_few();
+    Ok(())
+}
+
+/// Takes slots until none is marked.
+fn run(
+    alloc: Global,
+    supports: &[Support],
+    places: &SupportPlaces,
     kept: &mut Kept,
     work: &mut Worklist,
     evaluations: &mut u64,
 ) -> Result<(), AllocError>
-    requires instances { AreInstances instances.now }
-    requires few { length supports.now < 2 ^ 32 }
     requires stand { AllStand supports.now }
+    requires places { ArePlaces supports.now places.now }
     requires kept { IsKept supports.now kept.now }
-    requires pending { IsPending instances.now.fixed supports.now kept.now.bounds work.now }
+    requires pending { IsPending supports.now kept.now.bounds work.now }
     ensures kept { OnOk result (IsKept supports.now kept.new) }
     ensures grew { OnOk result (Grew kept.old kept.new) }
-    ensures closed { OnOk result (IsClosed supports.now (bound_of kept.new.bounds)) }
-    ensures lines { (added : List LineValue) × (kept.new.lines ≡ kept.old.lines ++ added) }
+    ensures idle { OnOk result (IsIdle work.new) }
+    ensures pending { OnOk result (IsPending supports.now kept.new.bounds work.new) }
+    ensures lines { HasMoreLines kept.old kept.new }
 {
-    while let Some(number) = work.take() {
-        *evaluations = evaluations.saturating_add(1);
-        try_instance(alloc, instances, supports, kept, work, number)?;
+    while let Some((side, entry)) = work.take() {
+        turn(alloc, supports, places, kept, work, side, entry, evaluations)?;
     }
+    Ok(())
+}
+
+/// Takes slots until none is marked, and follows what is improved: then no rule gives anything better than what stands. After an
+/// `Err`, which is want of memory, lines may have been put at the end.
+pub fn close(
+    alloc: Global,
+    supports: &[Support],
+    places: &SupportPlaces,
+    closing: &mut Closing,
+) -> Result<(), AllocError>
+    requires closing { CanClose supports.now closing.now }
+    requires places { ArePlaces supports.now places.now }
+    ensures closed { OnOk result (IsClosing supports.now closing.old closing.new) }
+    ensures lines { HasMoreLines closing.old.kept closing.new.kept }
+{
+    run(
+        alloc,
+        supports,
+        places,
+        &mut closing.kept,
+        &mut closing.work,
+        &mut closing.evaluations,
+    )?;
     Ok(())
 }

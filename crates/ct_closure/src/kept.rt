@@ -1,35 +1,41 @@
 //! What a table keeps: the lines of a derivation, and for each slot its bound and the line that gives it.
 
-ghost use Rattle.std.specs.Prelude.{◌≡◌, ◌≢◌, ◌*◌, ◌++◌, ◌∷◌, [], ℕ, List, OnOk, OnErr, IfOk, length, replicate, take, Some};
+ghost use Rattle.std.specs.Prelude.{◌≡◌, ◌+◌, ◌-◌, ◌<◌, ◌≤◌, ◌*◌, ◌++◌, [], ℕ, List, OnOk, OnErr, IfOk, length, replicate, take, drop, slice_get, Some};
 ghost use Rattle.ct_codes.specs.Entry.{IsEntry};
-ghost use Rattle.ct_rules.specs.declared.support.Support.{Support};
-ghost use Rattle.ct_closure.specs.Number.{bound_of, side_size};
-ghost use Rattle.ct_closure.specs.Kept.{with_line, reason_of, ground_rule, IsKept};
+ghost use Rattle.ct_rule_parts.specs.declared.support.Support.{Support};
+ghost use Rattle.ct_closure.specs.Number.{bound_of, entries_to, side_number, side_size};
+ghost use Rattle.ct_closure.specs.Kept.{with_line, reason_of, set_back, ground_rule, IsKept};
 ghost use Rattle.ct_closure.specs.Inside.Ground.{ground_value, ground_line};
+ghost use Rattle.ct_closure.specs.Inside.Started.{IsStarted};
 
-use crate::number::{SLOTS, slot_at, slot_number};
+use crate::number::{SLOTS, count_in_length, entry_in, slot_number};
 use ct_codes::{Claim, Entry, Side};
 use ct_rules::{Line, Rule, value};
+use ct_words::MAX_N;
+use smallvec::SmallVec;
 use std::alloc::{AllocError, Global};
 use std::marker::Model;
+use std::mem;
 
 /// What a table keeps: the lines of a derivation, and for each side of each entry, by its number, the bound and the place of
-/// the line that gives it. Contracts see the three lists.
+/// the line that gives it. The first lines are those of the base, which rest on no support whatever comes and goes. Contracts
+/// see bounds, reasons and all lines in a row, and how many of these the base has.
 #[derive(Debug, Drop)]
 pub struct Kept {
     bounds: Vec<u32>,
     reasons: Vec<usize>,
-    lines: Vec<Line>,
+    first: Vec<Line>,
+    later: Vec<Line>,
 }
 
 impl Model for Kept {
-    ghost use Rattle.std.specs.Prelude.{◌≡◌, ◌*◌, length};
+    ghost use Rattle.std.specs.Prelude.{◌≡◌, ◌*◌, ◌++◌, length};
     ghost use Rattle.ct_closure.specs.Number.{side_size};
     ghost use Rattle.ct_closure.specs.Kept.{KeptValue};
 
     ghost Value = { KeptValue };
 
-    ghost view = { λ k. record { bounds = k.bounds.items; reasons = k.reasons.items; lines = k.lines.items } };
+    ghost view = { λ k. record { bounds = k.bounds.items; reasons = k.reasons.items; lines = k.first.items ++ k.later.items; base = length k.first.items } };
 
     ghost invariant = { λ k. (length k.bounds.items ≡ 2 * side_size) × (length k.reasons.items ≡ 2 * side_size) };
 }
@@ -54,8 +60,56 @@ impl Model for Saved {
     ghost invariant = { λ s. (length s.bounds.items ≡ 2 * side_size) × (length s.reasons.items ≡ 2 * side_size) };
 }
 
-/// So many numbers, all 0. `Err` is want of memory.
-fn zeros(alloc: Global, count: usize) -> Result<Vec<usize>, AllocError>
+/// The bounds and reasons of a base.
+#[derive(Debug, Drop)]
+pub struct Base {
+    bounds: Vec<u32>,
+    reasons: Vec<usize>,
+}
+
+impl Model for Base {
+    ghost use Rattle.std.specs.Prelude.{◌≡◌, ◌*◌, length};
+    ghost use Rattle.ct_closure.specs.Number.{side_size};
+    ghost use Rattle.ct_closure.specs.Kept.{BaseValue};
+
+    ghost Value = { BaseValue };
+
+    ghost view = { λ b. record { bounds = b.bounds.items; reasons = b.reasons.items } };
+
+    ghost invariant = { λ b. (length b.bounds.items ≡ 2 * side_size) × (length b.reasons.items ≡ 2 * side_size) };
+}
+
+/// What was kept beside the lines of the base when it was set back: bounds, reasons and the lines that followed.
+#[derive(Debug, Drop)]
+pub struct Undo {
+    bounds: Vec<u32>,
+    reasons: Vec<usize>,
+    later: Vec<Line>,
+}
+
+impl Model for Undo {
+    ghost use Rattle.std.specs.Prelude.{◌≡◌, ◌*◌, length};
+    ghost use Rattle.ct_closure.specs.Number.{side_size};
+    ghost use Rattle.ct_closure.specs.Kept.{UndoValue};
+
+    ghost Value = { UndoValue };
+
+    ghost view = { λ u. record { bounds = u.bounds.items; reasons = u.reasons.items; later = u.later.items } };
+
+    ghost invariant = { λ u. (length u.bounds.items ≡ 2 * side_size) × (length u.reasons.items ≡ 2 * side_size) };
+}
+
+impl Undo {
+    /// The lines that followed those of the base.
+    pub fn later(&self) -> &[Line]
+        ensures { result.now ≡ self.now.later }
+    {
+        &self.later
+    }
+}
+
+/// So many places, all 0. `Err` is want of memory.
+fn no_reasons(alloc: Global, count: usize) -> Result<Vec<usize>, AllocError>
     ensures { IfOk result (λ v. v.items ≡ replicate count 0) }
 {
     let mut numbers = Vec::with_capacity(alloc, count)?;
@@ -101,7 +155,7 @@ fn ground_line(alloc: Global, side: Side, entry: Entry) -> Line
     Line {
         claim: Claim { side, entry, value },
         rule,
-        from: Vec::new(alloc),
+        from: SmallVec::new(alloc),
     }
 }
 
@@ -122,11 +176,23 @@ impl Kept {
         self.reasons[slot_number(side, entry)]
     }
 
-    /// The lines.
-    pub fn lines(&self) -> &[Line]
-        ensures { result.now ≡ self.now.lines }
+    /// How many lines there are.
+    pub fn line_count(&self) -> usize
+        ensures { result ≡ length self.now.lines }
     {
-        &self.lines
+        self.first.len() + self.later.len()
+    }
+
+    /// The line at a place.
+    pub fn line(&self, number: usize) -> &Line
+        requires { number < length self.now.lines }
+        ensures { slice_get self.now.lines number ≡ Some result.now }
+    {
+        if number < self.first.len() {
+            &self.first[number]
+        } else {
+            &self.later[number - self.first.len()]
+        }
     }
 
     /// Puts a line at the end; its claim is now the bound of its slot. After an `Err`, which is want of memory, all is as
@@ -138,8 +204,8 @@ impl Kept {
     {
         let Claim { side, entry, value } = line.claim;
         let number = slot_number(side, entry);
-        let place = self.lines.len();
-        self.lines.push(line)?;
+        let place = self.first.len() + self.later.len();
+        self.later.push(line)?;
         self.bounds[number] = value;
         self.reasons[number] = place;
         Ok(())
@@ -150,11 +216,13 @@ impl Kept {
         ensures bounds { IfOk result (λ kept. length kept.bounds ≡ 2 * side_size) }
         ensures reasons { IfOk result (λ kept. length kept.reasons ≡ 2 * side_size) }
         ensures lines { IfOk result (λ kept. kept.lines ≡ []) }
+        ensures base { IfOk result (λ kept. kept.base ≡ 0) }
     {
         Ok(Kept {
             bounds: no_bounds(alloc, SLOTS)?,
-            reasons: zeros(alloc, SLOTS)?,
-            lines: Vec::new(alloc),
+            reasons: no_reasons(alloc, SLOTS)?,
+            first: Vec::new(alloc),
+            later: Vec::new(alloc),
         })
     }
 
@@ -165,29 +233,94 @@ impl Kept {
         Ok(Saved {
             bounds: Vec::from_slice(alloc, &self.bounds)?,
             reasons: Vec::from_slice(alloc, &self.reasons)?,
-            count: self.lines.len(),
+            count: self.line_count(),
         })
     }
 
     /// Takes back all that came after: the bounds and reasons are those that were saved, and the lines are as many as then.
     pub fn restore(&mut self, saved: Saved)
-        ensures { self.new ≡ record { bounds = saved.bounds; reasons = saved.reasons; lines = take saved.count self.old.lines } }
+        requires lines { saved.count ≤ length self.now.lines }
+        requires base { self.now.base ≤ saved.count }
+        ensures { self.new ≡ record { bounds = saved.bounds; reasons = saved.reasons; lines = take saved.count self.old.lines; base = self.old.base } }
     {
         self.bounds = saved.bounds;
         self.reasons = saved.reasons;
-        self.lines.truncate(saved.count);
+        self.later.truncate(saved.count - self.first.len());
+    }
+
+    /// Makes all lines those of the base, where it has none yet, and gives its bounds and reasons. After an `Err`, which is
+    /// want of memory, all is as before.
+    pub fn begin(&mut self, alloc: Global) -> Result<Base, AllocError>
+        requires { self.now.base ≡ 0 }
+        ensures base { IfOk result (λ base. base ≡ record { bounds = self.old.bounds; reasons = self.old.reasons }) }
+        ensures begun { OnOk result (self.new ≡ record { bounds = self.old.bounds; reasons = self.old.reasons; lines = self.old.lines; base = length self.old.lines }) }
+        ensures unchanged { OnErr result (self.new ≡ self.old) }
+    {
+        let base = Base {
+            bounds: Vec::from_slice(alloc, &self.bounds)?,
+            reasons: Vec::from_slice(alloc, &self.reasons)?,
+        };
+        mem::swap(&mut self.first, &mut self.later);
+        Ok(base)
+    }
+
+    /// Sets back to the base: its bounds and reasons, and its lines alone. Gives what is needed to put back what was there.
+    /// After an `Err`, which is want of memory, all is as before.
+    pub fn set_back(&mut self, base: &Base, alloc: Global) -> Result<Undo, AllocError>
+        ensures back { OnOk result (self.new ≡ set_back base.now self.old) }
+        ensures undo { IfOk result (λ undo. undo ≡ record { bounds = self.old.bounds; reasons = self.old.reasons; later = drop self.old.base self.old.lines }) }
+        ensures unchanged { OnErr result (self.new ≡ self.old) }
+    {
+        let bounds = Vec::from_slice(alloc, &base.bounds)?;
+        let reasons = Vec::from_slice(alloc, &base.reasons)?;
+        Ok(Undo {
+            bounds: mem::replace(&mut self.bounds, bounds),
+            reasons: mem::replace(&mut self.reasons, reasons),
+            later: mem::replace(&mut self.later, Vec::new(alloc)),
+        })
+    }
+
+    /// Puts back what was there beside the lines of the base. It takes no memory.
+    pub fn put_back(&mut self, undo: Undo)
+        ensures { self.new ≡ record { bounds = undo.bounds; reasons = undo.reasons; lines = take self.old.base self.old.lines ++ undo.later; base = self.old.base } }
+    {
+        self.bounds = undo.bounds;
+        self.reasons = undo.reasons;
+        self.later = undo.later;
+    }
+
+    /// Puts the ground lines of the side of all entries of the length n. `Err` is want of memory.
+    fn start_length(&mut self, alloc: Global, side: Side, n: u32) -> Result<(), AllocError>
+        requires from { 1 ≤ n }
+        requires to { n ≤ MAX_N }
+        requires before { IsStarted (side_number side * side_size + entries_to (n - 1)) self.now }
+        ensures { OnOk result (IsStarted (side_number side * side_size + entries_to n) self.new) }
+    {
+        for place in 0..count_in_length(n) {
+            self.put(ground_line(alloc, side, entry_in(n, place)))?;
+        }
+        Ok(())
+    }
+
+    /// Puts the ground lines of the side of all entries of the table. `Err` is want of memory.
+    fn start_side(&mut self, alloc: Global, side: Side) -> Result<(), AllocError>
+        requires { IsStarted (side_number side * side_size) self.now }
+        ensures { OnOk result (IsStarted (side_number side * side_size + side_size) self.new) }
+    {
+        for n in 1..MAX_N + 1 {
+            self.start_length(alloc, side, n)?;
+        }
+        Ok(())
     }
 
     /// A bound for each side of each entry of the table, by a rule that rests on nothing. `Err` is want of memory.
     pub fn start(alloc: Global) -> Result<Kept, AllocError>
-        ensures { IfOk result (λ kept. (supports : List Support) → IsKept supports kept) }
+        ensures kept { IfOk result (λ kept. (supports : List Support) → IsKept supports kept) }
+        ensures base { IfOk result (λ kept. kept.base ≡ 0) }
     {
         let mut kept = Kept::empty(alloc)?;
-        for number in 0..SLOTS {
-            if let Some((side, entry)) = slot_at(number) {
-                kept.put(ground_line(alloc, side, entry))?;
-            }
-        }
+        kept.start_side(alloc, Side::Lower)?;
+        kept.start_side(alloc, Side::Upper)?;
         Ok(kept)
     }
 }

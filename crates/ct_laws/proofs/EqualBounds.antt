@@ -5,8 +5,8 @@ use Rattle.ct_codes.specs.declared.entry.Entry.{Entry}
 use Rattle.ct_codes.specs.declared.claim.Side.TheVariants.{Lower, Upper}
 use Rattle.ct_codes.specs.Entry.{unrestricted}
 use Rattle.ct_rules.specs.Derivation.{IsDerived}
-use Rattle.ct_rules.specs.Slot.{claim_at}
-use Rattle.ct_rules.specs.Support.{Stands, AllStand}
+use Rattle.ct_rule_parts.specs.Slot.{claim_at}
+use Rattle.ct_rule_parts.specs.Support.{Stands, AllStand}
 use Rattle.ct_rules.proofs.BestValues.{best_is_true, equal_is_best}
 use Rattle.ct_rules.proofs.KnownClaims.{four_from_below, four_from_above}
 use Rattle.ct_ledger.specs.Piece.{PieceValue}

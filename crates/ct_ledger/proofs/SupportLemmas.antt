@@ -13,7 +13,7 @@ use Rattle.ct_codes.specs.Code.{IsCodeOf}
 use Rattle.ct_codes.specs.Entry.{IsEntry}
 use Rattle.ct_codes.proofs.CheckLemmas.{code_size-le}
 use Rattle.ct_codes.proofs.EntryLemmas.{entry_limits}
-use Rattle.ct_rules.specs.Support.{Stands, AllStand}
+use Rattle.ct_rule_parts.specs.Support.{Stands, AllStand}
 use Rattle.ct_ledger.specs.Piece.{PieceValue, has_id, stated_entry, first_user}
 use Rattle.ct_ledger.specs.Codes.{NamedCode, words_over, named_code, codes_of}
 use Rattle.ct_files.specs.Evidence.{read_of}

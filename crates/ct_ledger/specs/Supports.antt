@@ -1,8 +1,8 @@
 -- What the pieces that stand give to the table.
 use Rattle.std.specs.Prelude.{ℕ, List, map, Option, Some, None}
 use Rattle.ct_codes.specs.declared.entry.Entry.{Entry}
-use Rattle.ct_rules.specs.declared.support.Support.{Support}
-use Rattle.ct_rules.specs.declared.support.Support.TheVariants.{Nothing, Size}
+use Rattle.ct_rule_parts.specs.declared.support.Support.{Support}
+use Rattle.ct_rule_parts.specs.declared.support.Support.TheVariants.{Nothing, Size}
 use Rattle.ct_ledger.specs.Piece.{PieceValue}
 
 -- a size at an entry, where there is one, else nothing

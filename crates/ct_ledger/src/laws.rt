@@ -7,7 +7,7 @@ ghost use Rattle.ct_ledger.specs.Piece.{PieceValue, has_id};
 ghost use Rattle.ct_ledger.specs.Standing.{AreStanding};
 ghost use Rattle.ct_ledger.specs.Submission.{submitted, IsAccepted};
 ghost use Rattle.ct_ledger.specs.Supports.{supports_of};
-ghost use Rattle.ct_rules.specs.Support.{AllStand};
+ghost use Rattle.ct_rule_parts.specs.Support.{AllStand};
 
 /// A submission over pieces that stand makes a piece exactly where its id is free, there is room, each part that its
 /// document names stands and is right, the document states a code of its entry, whose check is within the limit, and the

@@ -8,7 +8,7 @@ use Rattle.ct_codes.specs.declared.claim.Side.{Side}
 use Rattle.ct_codes.specs.declared.claim.Side.TheVariants.{Lower, Upper}
 use Rattle.ct_codes.specs.Entry.{IsEntry, unrestricted}
 use Rattle.ct_codes.proofs.EntryLemmas.{entry_limits, entry_from_limits}
-use Rattle.ct_rules.specs.declared.support.Support.{Support}
+use Rattle.ct_rule_parts.specs.declared.support.Support.{Support}
 use Rattle.ct_rules.specs.Derivation.{IsBest}
 use Rattle.ct_rules.proofs.BestValues.{best_exists, best_is_true}
 use Rattle.ct_rules.proofs.ClosedBounds.{best_is_one}

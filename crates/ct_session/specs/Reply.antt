@@ -8,7 +8,7 @@ use Rattle.ct_codes.specs.declared.claim.Side.TheVariants.{Lower, Upper}
 use Rattle.ct_codes.specs.Claim.{IsTrueClaim}
 use Rattle.ct_codes.specs.Entry.{unrestricted}
 use Rattle.ct_rules.specs.Derivation.{IsBest}
-use Rattle.ct_rules.specs.Slot.{claim_at}
+use Rattle.ct_rule_parts.specs.Slot.{claim_at}
 use Rattle.ct_text.specs.EntryNumbers.{named_entry}
 use Rattle.ct_text.specs.TableNumbers.{named_distance}
 use Rattle.ct_commands.specs.declared.command.Command.{Command}

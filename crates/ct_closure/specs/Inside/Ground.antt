@@ -2,7 +2,7 @@
 use Rattle.std.specs.Prelude.{ℕ, [], Option}
 use Rattle.ct_rules.specs.Derivation.{LineValue}
 use Rattle.ct_rules.specs.Rule.{value_of}
-use Rattle.ct_rules.specs.Slot.{Slot, claim_at}
+use Rattle.ct_rule_parts.specs.Slot.{Slot, claim_at}
 use Rattle.ct_closure.specs.Kept.{ground_rule}
 
 -- the bound that the rule of a slot gives whatever the supports

@@ -1,24 +1,14 @@
-use Rattle.ct_closure.proofs.IdleLemmas.{idle_satisfied}
-use Rattle.ct_closure.proofs.KeptLemmas.{Grew-trans}
-use Rattle.ct_closure.proofs.PendingLemmas.{IsPendingBut-taken, IsClosed-from_pending}
+use Rattle.std.proofs.Common.{ap, subst, ◌∙◌}
+use Rattle.ct_closure.specs.Closing.{ClosingValue}
+use Rattle.ct_closure.specs.Kept.{Grew}
+use Rattle.ct_closure.proofs.TurnLemmas.{closed_when_idle}
 use Rattle.ct_closure.proofs.closing.close.Goals as goal
 
-pub try_instance-requires-clause-pending : goal.try_instance-requires-clause-pending
-try_instance-requires-clause-pending c =
-    IsPendingBut-taken c.args.instances.now.fixed c.args.supports.now c.loop-number.kept.bounds c.in-Some.number c.loop-number.work
-    c.take.new.self c.in-Some.ensures.unmarked c.loop-number.invariant.pending
-
-pub loop-number-preserved : goal.loop-number-preserved
-loop-number-preserved c = record {
-  kept = c.in_ok-try_instance.ensures.kept;
-  grew = Grew-trans c.args.supports.now c.args.kept.now c.loop-number.kept c.try_instance.new.kept c.requires.kept c.loop-number.invariant.kept
-      c.in_ok-try_instance.ensures.kept c.loop-number.invariant.grew c.in_ok-try_instance.ensures.grew;
-  pending = c.in_ok-try_instance.ensures.pending;
-}
-
 pub returns-clause-closed : goal.returns-clause-closed
-returns-clause-closed c =
-    IsClosed-from_pending c.args.instances.now.fixed c.args.supports.now c.loop-number.kept.bounds c.loop-number.work
-    c.requires.instances.all
-    (idle_satisfied c.args.supports.now c.loop-number.kept c.requires.stand c.loop-number.invariant.kept)
-    c.loop-number.invariant.pending c.in_default.ensures.none_marked
+returns-clause-closed c = record {
+  kept = c.in_ok-run.ensures.kept;
+  base = c.run.ensures.lines.0 ∙ ap (λ (x : ClosingValue). x.kept.base) c.closing.view_is;
+  grew = subst (λ (x : ClosingValue). Grew x.kept c.run.new.kept) c.closing.view_is c.in_ok-run.ensures.grew;
+  idle = c.in_ok-run.ensures.idle;
+  closed = closed_when_idle c.args.supports.now c.run.new.kept.bounds c.run.new.work c.in_ok-run.ensures.pending c.in_ok-run.ensures.idle;
+}

@@ -22,11 +22,11 @@ use Rattle.ct_session.specs.Text.{reply_text}
 use Rattle.ct_session.specs.declared.reply.Reply.TheVariants.{Accepted, Shown, Refused}
 use Rattle.ct_session.specs.declared.reply.Refusal.TheVariants as refusal
 use Rattle.ct_rules.specs.declared.rule.Rule.TheVariants.{L10, U2}
-use Rattle.ct_rules.specs.declared.support.Support.{Support}
-use Rattle.ct_rules.specs.declared.support.Support.TheVariants.{Size}
+use Rattle.ct_rule_parts.specs.declared.support.Support.{Support}
+use Rattle.ct_rule_parts.specs.declared.support.Support.TheVariants.{Size}
 use Rattle.ct_rules.specs.Derivation.{IsDerived}
 use Rattle.ct_rules.specs.Rule.{in_range, premises_at, formula}
-use Rattle.ct_rules.specs.Support.{Stands}
+use Rattle.ct_rule_parts.specs.Support.{Stands}
 use Rattle.ct_rules.proofs.JoinedDerivations.{derived_by_rule}
 use Rattle.ct_session.specs.Reply.{AreBoundsOf}
 use Rattle.ct_laws.specs.Examples.{six_words_document, linear_code_document}

@@ -9,11 +9,11 @@ all_zeros n xs same = ap length same ∙ length-replicate n 0
 pub invariant_of-result : goal.invariant_of-result
 invariant_of-result c = (
   all_zeros (2 * side_size) c.in_ok-no_bounds.field-0.items c.in_ok-no_bounds.ensures,
-  all_zeros (2 * side_size) c.in_ok-zeros.field-0.items c.in_ok-zeros.ensures,
+  all_zeros (2 * side_size) c.in_ok-no_reasons.field-0.items c.in_ok-no_reasons.ensures,
 )
 
 pub returns-clause-bounds : goal.returns-clause-bounds
 returns-clause-bounds c = all_zeros (2 * side_size) c.in_ok-no_bounds.field-0.items c.in_ok-no_bounds.ensures
 
 pub returns-clause-reasons : goal.returns-clause-reasons
-returns-clause-reasons c = all_zeros (2 * side_size) c.in_ok-zeros.field-0.items c.in_ok-zeros.ensures
+returns-clause-reasons c = all_zeros (2 * side_size) c.in_ok-no_reasons.field-0.items c.in_ok-no_reasons.ensures

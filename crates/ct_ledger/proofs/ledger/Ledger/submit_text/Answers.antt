@@ -1,8 +1,8 @@
 use Rattle.std.proofs.Math.Seq.{take-append_seam}
 use Rattle.std.proofs.Common.{rules, length, take, List, [], ◌∷◌, ◌++◌, Ok, ◌≡◌, ◌≤◌, ◌+◌, ap, sym, ◌∙◌, subst, ℕ}
 use Rattle.std.proofs.lemmas.List.Sums.{sum_by_push}
-use Rattle.ct_rules.specs.declared.support.Support.{Support}
-use Rattle.ct_rules.specs.Support.{Stands}
+use Rattle.ct_rule_parts.specs.declared.support.Support.{Support}
+use Rattle.ct_rule_parts.specs.Support.{Stands}
 use Rattle.ct_table.specs.Table.{TableValue}
 use Rattle.ct_ledger.specs.Piece.{PieceValue, stored_by, stored_words}
 use Rattle.ct_files.specs.Evidence.{read_of}

@@ -1,6 +1,6 @@
 use Rattle.std.proofs.Common.{◌≡◌, ◌≤◌, ◌<◌, length, List, Ok, Err, option_map, sym, ap, ◌∙◌, subst}
 use Rattle.std.specs.Prelude.{remove}
-use Rattle.ct_rules.specs.declared.support.Support.{Support}
+use Rattle.ct_rule_parts.specs.declared.support.Support.{Support}
 use Rattle.ct_ledger.specs.Ledger.{LedgerValue}
 use Rattle.ct_ledger.specs.Piece.{PieceValue, first_user, stored_words}
 use Rattle.ct_ledger.specs.Withdrawal.{withdrawn}

@@ -1,0 +1,92 @@
+-- Which entries were tested while slots are marked.
+use Rattle.std.proofs.Common.{◌≡◌, ℕ, ◌+◌, ◌-◌, ◌<◌, ◌≤◌, List, [], ◌∷◌, ◌++◌, length, take, All, Contains, Option, Some, None, true, refl, sym, ap, subst, ◌∙◌, arith, inl, inr, ◌⊎◌}
+use Rattle.std.specs.Prelude.{slice_get}
+use Rattle.std.proofs.lemmas.Bool.{cases_eq}
+use Rattle.std.proofs.lemmas.List.Elements.{All-nil, All-cons, All-head, All-tail, All-append, All-from_recursion}
+use Rattle.std.proofs.lemmas.Option.{same_Some, slice_get-get_or}
+use Rattle.ct_codes.specs.declared.claim.Side.{Side}
+use Rattle.ct_codes.specs.declared.claim.Side.TheVariants.{Lower, Upper}
+use Rattle.ct_codes.specs.declared.entry.Entry.{Entry}
+use Rattle.ct_codes.specs.Entry.{IsEntry, unrestricted}
+use Rattle.ct_rule_parts.specs.declared.support.Support.{Support}
+use Rattle.ct_rule_parts.proofs.PlainEntries.{two_items}
+use Rattle.ct_rules.specs.declared.rule.Rule.{Rule}
+use Rattle.ct_rules.specs.declared.rule.Rule.TheVariants.{L11}
+use Rattle.ct_rules.specs.declared.listing.TheConstants.{LOWER_RULES, UPPER_RULES, LOWER_WEIGHT_RULES, UPPER_WEIGHT_RULES}
+use Rattle.ct_rules.specs.Listing.{alone_on}
+use Rattle.ct_rules.specs.Rule.{row_of, rule_side, is_alone, applies, parts_over}
+use Rattle.ct_closure.specs.Worklist.{WorkValue, IsMarked}
+use Rattle.ct_closure.specs.Inside.Marking.{KeepsMarks, IsTestedAt, IsTestedFrom, AreTestedSideBySide, AreTested}
+use Rattle.ct_closure.proofs.DependentLemmas.{few_dependents}
+
+pub keeps-trans : (first middle last : WorkValue) → KeepsMarks first middle → KeepsMarks middle last → KeepsMarks first last
+keeps-trans first middle last one other t entry marked = other t entry (one t entry marked)
+
+-- what was tested still is when more is marked
+pub tested_at_more : (supports : List Support) (bounds : List ℕ) (work new : WorkValue) (r : Rule) (e : Entry) → KeepsMarks work new
+    → IsTestedAt supports bounds work r e → IsTestedAt supports bounds new r e
+tested_at_more supports bounds work new r e keeps tested entry unmarked =
+    tested entry (λ marked. unmarked (keeps (rule_side r, e) entry marked))
+
+pub all_tested_more : (supports : List Support) (bounds : List ℕ) (work new : WorkValue) (from : Entry) (rules : List Rule)
+    → KeepsMarks work new → All (IsTestedFrom supports bounds work from) rules → All (IsTestedFrom supports bounds new from) rules
+all_tested_more supports bounds work new from [] keeps each = All-nil (IsTestedFrom supports bounds new from)
+all_tested_more supports bounds work new from (r ∷ rules) keeps each =
+    All-cons (IsTestedFrom supports bounds new from) r rules
+    (λ e among. tested_at_more supports bounds work new r e keeps
+    (All-head (IsTestedFrom supports bounds work from) r rules each e among))
+    (all_tested_more supports bounds work new from rules keeps (All-tail (IsTestedFrom supports bounds work from) r rules each))
+
+-- one more entry of those that may rest on another
+pub tested_and_one : (supports : List Support) (bounds : List ℕ) (work new : WorkValue) (r : Rule) (es : List Entry) (n : ℕ) (f : Entry)
+    → KeepsMarks work new → slice_get es n ≡ Some f → IsTestedAt supports bounds new r f
+    → ((k : ℕ) (e : Entry) → k < n → slice_get es k ≡ Some e → IsTestedAt supports bounds work r e)
+    → (k : ℕ) (e : Entry) → k < n + 1 → slice_get es k ≡ Some e → IsTestedAt supports bounds new r e
+tested_and_one supports bounds work new r es n f keeps there here before k e below at = elim (cases_eq k n) [
+  | inl same ↦ subst (IsTestedAt supports bounds new r) (same_Some f e (sym there ∙ ap (slice_get es) (sym same) ∙ at)) here
+  | inr other ↦ tested_at_more supports bounds work new r e keeps (before k e (omega arith) at)
+]
+
+-- all of them
+pub tested_from : (supports : List Support) (bounds : List ℕ) (work : WorkValue) (r : Rule) (from : Entry) (n : ℕ) → is_alone r ≡ true
+    → 3 ≤ n
+    → ((k : ℕ) (e : Entry) → k < n → slice_get ((parts_over [] r).rested_on_by from) k ≡ Some e → IsTestedAt supports bounds work r e)
+    → IsTestedFrom supports bounds work from r
+tested_from supports bounds work r from n alone enough each e (k, within, is) =
+    let few = few_dependents r from alone in
+    each k e (omega arith) (slice_get-get_or ((parts_over [] r).rested_on_by from) k e within ∙ ap Some is)
+
+-- the rules of each list are alone
+pub lower_alone : All (λ (r : Rule). is_alone r ≡ true) LOWER_RULES
+unfolding row_of
+lower_alone = All-from_recursion (λ (r : Rule). is_alone r ≡ true) LOWER_RULES (refl, (refl, (refl, (refl, (refl, (refl, (refl, (refl, tt))))))))
+
+pub upper_alone : All (λ (r : Rule). is_alone r ≡ true) UPPER_RULES
+unfolding row_of
+upper_alone = All-from_recursion (λ (r : Rule). is_alone r ≡ true) UPPER_RULES (refl, (refl, (refl, (refl, (refl, (refl, (refl, (refl, (refl, tt)))))))))
+
+pub lower_weight_alone : All (λ (r : Rule). is_alone r ≡ true) LOWER_WEIGHT_RULES
+unfolding row_of
+lower_weight_alone = All-from_recursion (λ (r : Rule). is_alone r ≡ true) LOWER_WEIGHT_RULES (refl, (refl, tt))
+
+pub upper_weight_alone : All (λ (r : Rule). is_alone r ≡ true) UPPER_WEIGHT_RULES
+unfolding row_of
+upper_weight_alone = All-from_recursion (λ (r : Rule). is_alone r ≡ true) UPPER_WEIGHT_RULES (refl, (refl, tt))
+
+-- both lists of a side
+pub both_tested : (supports : List Support) (bounds : List ℕ) (work new : WorkValue) (from : Entry) (side own : Side) (first second : List Rule)
+    → alone_on own ≡ first ++ second → side ≡ own → KeepsMarks work new → All (IsTestedFrom supports bounds work from) first
+    → All (IsTestedFrom supports bounds new from) second → All (IsTestedFrom supports bounds new from) (alone_on side)
+both_tested supports bounds work new from side own first second lists same keeps one other =
+    subst (All (IsTestedFrom supports bounds new from)) (sym lists ∙ ap alone_on (sym same))
+    (All-append (IsTestedFrom supports bounds new from) first second (all_tested_more supports bounds work new from first keeps one) other)
+
+-- words side by side rest on entries without weight, from below
+pub sum_rests : (supports : List Support) (m c : ℕ) (f e : Entry) → Contains ((parts_over supports (L11 m c)).rests_on f) e → e.w ≡ None
+unfolding row_of
+sum_rests supports m c f e rests =
+    two_items (λ g. g.w ≡ None) (unrestricted m c) (unrestricted (f.n - m) (f.d - c)) e refl refl rests
+
+pub sum_not_upper : (m c : ℕ) → rule_side (L11 m c) ≡ Upper → ⊥
+unfolding row_of
+sum_not_upper m c h = cc

@@ -1,0 +1,31 @@
+use Rattle.std.proofs.Common.{◌≡◌, ◌+◌, ◌-◌, ◌*◌, ◌<◌, Some, ap, sym, ◌∙◌, subst, arith}
+use Rattle.ct_codes.specs.declared.entry.Entry.{Entry}
+use Rattle.ct_closure.specs.Inside.Ground.{ground_value, ground_line}
+use Rattle.ct_closure.specs.Inside.Started.{IsStarted}
+use Rattle.ct_closure.specs.Kept.{KeptValue, with_line}
+use Rattle.ct_closure.specs.Number.{side_number, side_size, entries_to, count_in_length}
+use Rattle.ct_closure.proofs.NumberLemmas.{entries_to-length}
+use Rattle.ct_closure.proofs.StartLemmas.{IsStarted-place, IsStarted-same}
+use Rattle.ct_closure.proofs.kept.Kept.start_length.Goals as goal
+
+pub loop-place-preserved : goal.loop-place-preserved
+loop-place-preserved c =
+    let side = c.args.side in
+    let n = c.args.n in
+    let place = c.loop-place.place in
+    let old = c.loop-place.self in
+    let entry = c.entry_in.ensures.entry in
+    let v = c.ground_line.result.claim.value in
+    let within : place < count_in_length n = omega arith in
+    let given = subst (λ (e : Entry). ground_value (side, e) ≡ Some v) entry c.ground_line.ensures.value in
+    let line = c.ground_line.ensures.line ∙ ap (λ (e : Entry). ground_line (side, e) v) entry in
+    let put = c.in_ok-put.ensures.put ∙ ap (with_line old) line in
+    subst (λ (k : KeptValue). IsStarted (side_number side * side_size + entries_to (n - 1) + (place + 1)) k) (sym put)
+    (IsStarted-place old side n place v c.requires.from c.requires.to within given c.loop-place.invariant)
+
+pub returns : goal.returns
+returns c =
+    let next = entries_to-length c.args.n c.requires.from in
+    IsStarted-same c.loop-place.self
+    (side_number c.args.side * side_size + entries_to (c.args.n - 1) + c.loop-place.place)
+    (side_number c.args.side * side_size + entries_to c.args.n) (omega arith) c.loop-place.invariant

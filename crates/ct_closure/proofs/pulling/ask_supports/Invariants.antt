@@ -1,0 +1,17 @@
+use Rattle.std.proofs.Common.{ℕ, ◌≡◌, suc, Option, Some, None}
+use Rattle.ct_codes.specs.declared.claim.Side.TheVariants.{Lower}
+use Rattle.ct_closure.specs.Number.{bound_of}
+use Rattle.ct_closure.specs.Places.{IsPlaceOf, IsUpTo}
+use Rattle.ct_closure.specs.Inside.Pulling.{IsWithin}
+use Rattle.ct_closure.specs.Inside.Pulled.{IsPulled, given_rule}
+use Rattle.ct_closure.proofs.PulledLemmas.{AreAskedAbove, IsNext, left_to}
+use Rattle.ct_closure.proofs.pulling.ask_supports.Given as goal
+
+-- the places of the entry that are still to be asked for are the next one and those before it
+abbrev pub invariant-loop-next : goal.invariant-loop-next
+invariant-loop-next l = IsPulled l.supports (bound_of l.kept.bounds) (Lower, l.entry) l.fn.best l.best
+    × AreAskedAbove l.supports (bound_of l.kept.bounds) l.entry l.places l.best.value l.next
+    × IsNext l.places l.entry l.next
+
+abbrev pub decreases-loop-next : goal.decreases-loop-next
+decreases-loop-next l = left_to l.next

@@ -1,0 +1,32 @@
+use Rattle.std.proofs.Common.{◌≡◌, ◌+◌, ◌-◌, ◌*◌, ap, arith}
+use Rattle.ct_words.specs.declared.limits.TheConstants.{MAX_N}
+use Rattle.ct_closure.specs.Number.{side_number, side_size, entries_to}
+use Rattle.ct_closure.proofs.MarkedLemmas.{AreMarkedBelow-same}
+use Rattle.ct_closure.proofs.worklist.Worklist.mark_side.Goals as goal
+
+pub loop-n-init : goal.loop-n-init
+loop-n-init c = record {
+  from = omega arith;
+  marked = AreMarkedBelow-same c.args.self.now (side_number c.args.side * side_size) (side_number c.args.side * side_size + entries_to (1 - 1))
+      (omega arith) c.requires.before;
+  kept = λ t marked. marked;
+}
+
+pub loop-n-preserved : goal.loop-n-preserved
+loop-n-preserved c =
+    let n = c.loop-n.n in
+    let same : n + 1 - 1 ≡ n = omega arith in
+    let numbers = ap entries_to same in
+    record {
+      from = omega arith;
+      marked = AreMarkedBelow-same c.mark_length.new.self (side_number c.args.side * side_size + entries_to n)
+          (side_number c.args.side * side_size + entries_to (n + 1 - 1)) (omega arith) c.in_ok-mark_length.ensures.marked;
+      kept = λ t marked. c.mark_length.ensures.kept t (c.loop-n.invariant.kept t marked);
+    }
+
+pub returns-clause-marked : goal.returns-clause-marked
+returns-clause-marked c =
+    let last : c.loop-n.n - 1 ≡ MAX_N = omega arith in
+    let numbers = ap entries_to last in
+    AreMarkedBelow-same c.loop-n.self (side_number c.args.side * side_size + entries_to (c.loop-n.n - 1))
+    (side_number c.args.side * side_size + side_size) (omega arith) c.loop-n.invariant.marked

@@ -1,0 +1,19 @@
+-- How the best bound of a slot changes while rules are asked.
+use Rattle.std.specs.Prelude.{ℕ, if◌then◌else◌, List}
+use Rattle.ct_codes.specs.declared.entry.Entry.{Entry}
+use Rattle.ct_rule_parts.specs.declared.support.Support.{Support}
+use Rattle.ct_rule_parts.specs.Parts.{has_weight}
+use Rattle.ct_rule_parts.specs.Slot.{Slot, IsNoBetter}
+use Rattle.ct_rules.specs.declared.rule.Rule.{Rule}
+use Rattle.ct_rules.specs.declared.rule.Rule.TheVariants.{L10, M10}
+use Rattle.ct_closure.specs.declared.best.Best.{Best}
+use Rattle.ct_closure.specs.Inside.Pulling.{IsGiven}
+
+-- it is no worse, and still what stands, or what a rule gives that is better
+pub record IsPulled (supports : List Support) (bounds : Slot → ℕ) (s : Slot) (old new : Best) : Type 0 where
+  pub no_worse : IsNoBetter s.0 old.value new.value
+  pub given : IsGiven supports bounds s old.value old.rule → IsGiven supports bounds s new.value new.rule
+
+-- the rule by which the support at a place gives to an entry
+abbrev pub given_rule : Entry → ℕ → Rule
+given_rule e place = if has_weight e then M10 place else L10 place

@@ -1,0 +1,220 @@
+//! The best bound that the rules give at a slot over what stands.
+
+ghost use Rattle.std.specs.Prelude.{◌≡◌, ◌<◌, ◌≤◌, ◌^◌, ℕ, List, true, false, Some, None, IfSome, IfNone, All, map, length};
+ghost use Rattle.ct_words.specs.declared.limits.TheConstants.{MAX_BOUND};
+ghost use Rattle.ct_codes.specs.declared.claim.Side.TheVariants.{Lower};
+ghost use Rattle.ct_codes.specs.Entry.{IsEntry};
+ghost use Rattle.ct_rule_parts.specs.Parts.{are_entries};
+ghost use Rattle.ct_rule_parts.specs.Support.{AllStand};
+ghost use Rattle.ct_rules.specs.declared.rule.Rule.{Rule};
+ghost use Rattle.ct_rules.specs.declared.rule.Rule.TheVariants.{L11};
+ghost use Rattle.ct_rules.specs.Closed.{AreTrue};
+ghost use Rattle.ct_rules.specs.Listing.{rules_alone};
+ghost use Rattle.ct_rules.specs.Rule.{rule_side, parts_over, premises_at};
+ghost use Rattle.ct_closure.specs.Kept.{IsKept};
+ghost use Rattle.ct_closure.specs.Number.{bound_of};
+ghost use Rattle.ct_closure.specs.Places.{ArePlaces};
+ghost use Rattle.ct_closure.specs.Inside.Pulling.{value_over, IsGiven, IsWithin};
+ghost use Rattle.ct_closure.specs.Inside.Pulled.{IsPulled, given_rule};
+
+use crate::best::Best;
+use crate::kept::Kept;
+use crate::places::SupportPlaces;
+use crate::side_by_side::best_side_by_side;
+use arrayvec::ArrayVec;
+use ct_codes::{Entry, Side};
+use ct_rules::{
+    LOWER_RULES, LOWER_WEIGHT_RULES, MOST_PREMISES, Rule, Support, UPPER_RULES,
+    UPPER_WEIGHT_RULES, condition, rests_on, rule_side, value_where_defined,
+};
+
+/// The bounds of all that the rule rests on at an entry of the table, in order, where all of it is in the table.
+fn premise_bounds(
+    supports: &[Support],
+    kept: &Kept,
+    rule: Rule,
+    entry: Entry,
+) -> Option<ArrayVec<u32, MOST_PREMISES>>
+    requires { IsEntry entry }
+    ensures bounds { IfSome result (λ values. values.items ≡ map (bound_of kept.now.bounds) (premises_at supports.now rule entry)) }
+    ensures all { IfSome result (λ _. are_entries ((parts_over supports.now rule).rests_on entry) ≡ true) }
+    ensures not_all { IfNone result (are_entries ((parts_over supports.now rule).rests_on entry) ≡ false) }
+{
+    let side = rule_side(rule);
+    let mut values = ArrayVec::new();
+    for j in 0..MOST_PREMISES {
+        let Some(premise) = rests_on(supports, rule, entry, j) else {
+            return Some(values);
+        };
+        if !premise.in_table() {
+            return None;
+        }
+        values.push(kept.bound(side, premise));
+    }
+    Some(values)
+}
+
+/// The bound that the rule gives at an entry of the table over what stands. It takes no memory.
+pub(crate) fn offer(supports: &[Support], kept: &Kept, rule: Rule, entry: Entry) -> Option<u32>
+    requires { IsEntry entry }
+    ensures value { result ≡ value_over supports.now (bound_of kept.now.bounds) rule entry }
+    ensures limit { IfSome result (λ v. v ≤ MAX_BOUND) }
+{
+    if !condition(supports, rule, entry) {
+        return None;
+    }
+    let values = premise_bounds(supports, kept, rule, entry)?;
+    value_where_defined(supports, rule, entry, values.as_slice())
+}
+
+/// Asks a rule for its bound over what stands.
+fn ask(
+    supports: &[Support],
+    kept: &Kept,
+    rule: Rule,
+    side: Side,
+    entry: Entry,
+    best: &mut Best,
+    evaluations: &mut u64,
+)
+    requires entry { IsEntry entry }
+    requires side { rule_side rule ≡ side }
+    ensures pulled { IsPulled supports.now (bound_of kept.now.bounds) (side, entry) best.old best.new }
+    ensures within { IsWithin supports.now (bound_of kept.now.bounds) (side, entry) best.new.value rule }
+{
+    *evaluations = evaluations.saturating_add(1);
+    best.consider(side, rule, offer(supports, kept, rule, entry));
+}
+
+/// Asks each rule of the list.
+fn ask_each(
+    supports: &[Support],
+    kept: &Kept,
+    rules: &[Rule],
+    side: Side,
+    entry: Entry,
+    best: &mut Best,
+    evaluations: &mut u64,
+)
+    requires entry { IsEntry entry }
+    requires sides { All (λ (r : Rule). rule_side r ≡ side) rules.now }
+    ensures pulled { IsPulled supports.now (bound_of kept.now.bounds) (side, entry) best.old best.new }
+    ensures within { All (IsWithin supports.now (bound_of kept.now.bounds) (side, entry) best.new.value) rules.now }
+{
+    for rule in rules {
+        ask(supports, kept, *rule, side, entry, best, evaluations);
+    }
+}
+
+/// Asks each rule of the slot with neither numbers nor a support.
+fn ask_alone(
+    supports: &[Support],
+    kept: &Kept,
+    side: Side,
+    entry: Entry,
+    best: &mut Best,
+    evaluations: &mut u64,
+)
+    requires { IsEntry entry }
+    ensures pulled { IsPulled supports.now (bound_of kept.now.bounds) (side, entry) best.old best.new }
+    ensures within { All (IsWithin supports.now (bound_of kept.now.bounds) (side, entry) best.new.value) (rules_alone (side, entry)) }
+{
+    match (side, entry.w) {
+        (Side::Lower, None) => {
+            ask_each(supports, kept, &LOWER_RULES, side, entry, best, evaluations)
+        }
+        (Side::Lower, Some(_)) => {
+            ask_each(supports, kept, &LOWER_WEIGHT_RULES, side, entry, best, evaluations)
+        }
+        (Side::Upper, None) => {
+            ask_each(supports, kept, &UPPER_RULES, side, entry, best, evaluations)
+        }
+        (Side::Upper, Some(_)) => {
+            ask_each(supports, kept, &UPPER_WEIGHT_RULES, side, entry, best, evaluations)
+        }
+    }
+}
+
+/// The rule by which the support at a place gives to an entry.
+fn given_rule(entry: Entry, place: u32) -> Rule
+    ensures rule { result ≡ given_rule entry place }
+    ensures side { rule_side result ≡ Lower }
+{
+    match entry.w {
+        None => Rule::L10(place),
+        Some(_) => Rule::M10(place),
+    }
+}
+
+/// Asks for what the supports at the entry give.
+fn ask_supports(
+    supports: &[Support],
+    places: &SupportPlaces,
+    kept: &Kept,
+    entry: Entry,
+    best: &mut Best,
+    evaluations: &mut u64,
+)
+    requires entry { IsEntry entry }
+    requires places { ArePlaces supports.now places.now }
+    ensures pulled { IsPulled supports.now (bound_of kept.now.bounds) (Lower, entry) best.old best.new }
+    ensures within { (place : ℕ) → IsWithin supports.now (bound_of kept.now.bounds) (Lower, entry) best.new.value (given_rule entry place) }
+{
+    let mut next = places.last(entry);
+    while let Some(place) = next {
+        let rule = given_rule(entry, place);
+        ask(supports, kept, rule, Side::Lower, entry, best, evaluations);
+        next = places.before(place);
+    }
+}
+
+/// Asks for what the supports at the entry give from below, and words side by side.
+fn ask_below(
+    supports: &[Support],
+    places: &SupportPlaces,
+    kept: &Kept,
+    entry: Entry,
+    best: &mut Best,
+    evaluations: &mut u64,
+)
+    requires entry { IsEntry entry }
+    requires places { ArePlaces supports.now places.now }
+    requires true_bounds { AreTrue (bound_of kept.now.bounds) }
+    requires some { 1 ≤ best.old.value }
+    ensures pulled { IsPulled supports.now (bound_of kept.now.bounds) (Lower, entry) best.old best.new }
+    ensures given { (place : ℕ) → IsWithin supports.now (bound_of kept.now.bounds) (Lower, entry) best.new.value (given_rule entry place) }
+    ensures sums { entry.w ≡ None → (m c : ℕ) → IsWithin supports.now (bound_of kept.now.bounds) (Lower, entry) best.new.value (L11 m c) }
+{
+    ask_supports(supports, places, kept, entry, best, evaluations);
+    match entry.w {
+        None => best_side_by_side(kept, entry, best, evaluations),
+        Some(_) => {}
+    }
+}
+
+/// The best bound that any rule gives on a side of an entry of the table over what stands.
+pub(crate) fn pull(
+    supports: &[Support],
+    places: &SupportPlaces,
+    kept: &Kept,
+    side: Side,
+    entry: Entry,
+    evaluations: &mut u64,
+) -> Best
+    requires entry { IsEntry entry }
+    requires stand { AllStand supports.now }
+    requires kept { IsKept supports.now kept.now }
+    requires places { ArePlaces supports.now places.now }
+    ensures given { IsGiven supports.now (bound_of kept.now.bounds) (side, entry) result.value result.rule }
+    ensures within { (r : Rule) → rule_side r ≡ side → IsWithin supports.now (bound_of kept.now.bounds) (side, entry) result.value r }
+{
+    let mut best = Best::standing(kept, side, entry);
+    ask_alone(supports, kept, side, entry, &mut best, evaluations);
+    match side {
+        Side::Upper => best,
+        Side::Lower => {
+            ask_below(supports, places, kept, entry, &mut best, evaluations);
+            best
+        }
+    }
+}
