@@ -1,5 +1,5 @@
 -- Which rules rest on an entry, and where.
-use Rattle.std.proofs.Common.{◌≡◌, ℕ, ◌≤◌, List, [], length, Contains, Some, None, true, refl, sym, ap, subst, ◌∙◌, arith, inl, inr, ◌⊎◌}
+use Rattle.std.proofs.Common.{◌≡◌, ℕ, ◌≤◌, List, [], length, Contains, Some, None, true, refl, subst, arith, inl, inr, ◌⊎◌}
 use Rattle.std.specs.Prelude.{Bool, false, Option}
 use Rattle.std.proofs.lemmas.Bool.{false≢true}
 use Rattle.ct_codes.specs.declared.entry.Entry.{Entry}
@@ -8,7 +8,7 @@ use Rattle.ct_rule_parts.specs.Parts.{RuleParts}
 use Rattle.ct_rule_parts.proofs.PlainEntries.{no_item}
 use Rattle.ct_rules.specs.declared.rule.Rule.{Rule}
 use Rattle.ct_rules.specs.declared.rule.Rule.TheVariants.{L1, L2, L3, L4, L5, L6, L7, L8, L10, L11, M1, M7, M10, U0, U1, U2, U3, U4, U5, U6, U7, U8, V0, V3}
-use Rattle.ct_rules.specs.Rule.{Row, by_itself, by_numbers, by_support, row_of, parts_in, is_alone_in, is_alone, place_of, cited, parts_of, parts_over, rule_side, applies}
+use Rattle.ct_rules.specs.Rule.{Row, by_itself, by_numbers, by_support, row_of, parts_in, is_alone_in, is_alone, place_of, cited, parts_over, rule_side, applies}
 use Rattle.ct_rules.specs.Listing.{alone_on}
 use Rattle.ct_rules.proofs.LawfulRows.{lawful, alone_listed, with_numbers, supported-rests}
 

@@ -1,22 +1,22 @@
 -- Which entries were tested while slots are marked.
-use Rattle.std.proofs.Common.{◌≡◌, ℕ, ◌+◌, ◌-◌, ◌<◌, ◌≤◌, List, [], ◌∷◌, ◌++◌, length, take, All, Contains, Option, Some, None, true, refl, sym, ap, subst, ◌∙◌, arith, inl, inr, ◌⊎◌}
+use Rattle.std.proofs.Common.{◌≡◌, ℕ, ◌+◌, ◌-◌, ◌<◌, ◌≤◌, List, [], ◌∷◌, ◌++◌, All, Contains, Some, None, true, refl, sym, ap, subst, ◌∙◌, arith, inl, inr}
 use Rattle.std.specs.Prelude.{slice_get}
 use Rattle.std.proofs.lemmas.Bool.{cases_eq}
 use Rattle.std.proofs.lemmas.List.Elements.{All-nil, All-cons, All-head, All-tail, All-append, All-from_recursion}
 use Rattle.std.proofs.lemmas.Option.{same_Some, slice_get-get_or}
 use Rattle.ct_codes.specs.declared.claim.Side.{Side}
-use Rattle.ct_codes.specs.declared.claim.Side.TheVariants.{Lower, Upper}
+use Rattle.ct_codes.specs.declared.claim.Side.TheVariants.{Upper}
 use Rattle.ct_codes.specs.declared.entry.Entry.{Entry}
-use Rattle.ct_codes.specs.Entry.{IsEntry, unrestricted}
+use Rattle.ct_codes.specs.Entry.{unrestricted}
 use Rattle.ct_rule_parts.specs.declared.support.Support.{Support}
 use Rattle.ct_rule_parts.proofs.PlainEntries.{two_items}
 use Rattle.ct_rules.specs.declared.rule.Rule.{Rule}
 use Rattle.ct_rules.specs.declared.rule.Rule.TheVariants.{L11}
 use Rattle.ct_rules.specs.declared.listing.TheConstants.{LOWER_RULES, UPPER_RULES, LOWER_WEIGHT_RULES, UPPER_WEIGHT_RULES}
 use Rattle.ct_rules.specs.Listing.{alone_on}
-use Rattle.ct_rules.specs.Rule.{row_of, rule_side, is_alone, applies, parts_over}
-use Rattle.ct_closure.specs.Worklist.{WorkValue, IsMarked}
-use Rattle.ct_closure.specs.Inside.Marking.{KeepsMarks, IsTestedAt, IsTestedFrom, AreTestedSideBySide, AreTested}
+use Rattle.ct_rules.specs.Rule.{row_of, rule_side, is_alone, parts_over}
+use Rattle.ct_closure.specs.Worklist.{WorkValue}
+use Rattle.ct_closure.specs.Inside.Marking.{KeepsMarks, IsTestedAt, IsTestedFrom}
 use Rattle.ct_closure.proofs.DependentLemmas.{few_dependents}
 
 pub keeps-trans : (first middle last : WorkValue) → KeepsMarks first middle → KeepsMarks middle last → KeepsMarks first last

@@ -1,9 +1,9 @@
 -- The best bound of a slot while rules are asked.
-use Rattle.std.proofs.Common.{◌≡◌, ℕ, zero, suc, ◌+◌, ◌<◌, ◌≤◌, List, [], ◌∷◌, ◌++◌, ◌-◌, length, map, flat_map, take, All, Contains, Option, Some, None, true, refl, sym, ap, subst, ◌∙◌, arith, inl, inr, ◌⊎◌}
-use Rattle.std.specs.Prelude.{slice_get, ◌≢◌, if◌then◌else◌, IfSome, Bool, false, is_some, ◌&&◌, not}
-use Rattle.std.proofs.lemmas.Bool.{and_parts, cases_lt, cases_eq}
+use Rattle.std.proofs.Common.{◌≡◌, ℕ, suc, ◌<◌, ◌≤◌, List, [], ◌∷◌, ◌++◌, ◌-◌, length, map, flat_map, All, Contains, Option, Some, None, true, refl, sym, ap, subst, ◌∙◌, arith, inl, inr, ◌⊎◌}
+use Rattle.std.specs.Prelude.{slice_get, IfSome, false, is_some}
+use Rattle.std.proofs.lemmas.Bool.{and_parts, cases_eq}
 use Rattle.std.proofs.lemmas.List.Elements.{All-nil, All-cons, All-head, All-tail, All-append, All-contains, All-from_recursion}
-use Rattle.std.proofs.lemmas.Option.{none-some, same_Some, slice_get_within}
+use Rattle.std.proofs.lemmas.Option.{none-some, same_Some}
 use Rattle.std.specs.List.{range_with_len}
 use Rattle.ct_codes.specs.declared.claim.Side.{Side}
 use Rattle.ct_codes.specs.declared.claim.Side.TheVariants.{Lower, Upper}
@@ -24,7 +24,7 @@ use Rattle.ct_rules.proofs.ClosedBounds.{no_better-trans}
 use Rattle.ct_rules.proofs.RuleLists.{rules_at-complete}
 use Rattle.ct_closure.specs.declared.best.Best.{Best}
 use Rattle.ct_closure.specs.Places.{GivesTo, ArePlaces, IsPlaceOf, IsUpTo}
-use Rattle.ct_closure.specs.Inside.Pulling.{value_over, IsGiven, IsWithin}
+use Rattle.ct_closure.specs.Inside.Pulling.{IsGiven, IsWithin}
 use Rattle.ct_closure.specs.Inside.Pulled.{IsPulled, given_rule}
 use Rattle.ct_closure.proofs.PullingLemmas.{over-applies}
 

@@ -1,6 +1,6 @@
 -- What a rule gives over the bounds that stand.
-use Rattle.std.proofs.Common.{◌≡◌, ℕ, zero, suc, ◌≤◌, List, [], ◌∷◌, ◌++◌, length, map, take, take_all, Some, None, true, refl, sym, ap, subst, ◌∙◌, arith}
-use Rattle.std.specs.Prelude.{Bool, false, if◌then◌else◌, slice_get, Option}
+use Rattle.std.proofs.Common.{◌≡◌, ℕ, zero, suc, ◌≤◌, List, [], ◌∷◌, ◌++◌, length, map, take, take_all, Some, None, true, refl, sym, ap, arith}
+use Rattle.std.specs.Prelude.{Bool, false, if◌then◌else◌, slice_get}
 use Rattle.std.proofs.lemmas.Option.{none-some, same_Some}
 use Rattle.ct_words.specs.declared.limits.TheConstants.{MAX_BOUND}
 use Rattle.ct_codes.specs.declared.entry.Entry.{Entry}
@@ -10,26 +10,21 @@ use Rattle.ct_rule_parts.specs.Parts.{slots_on}
 use Rattle.ct_rule_parts.specs.Slot.{Slot}
 use Rattle.ct_rules.specs.declared.rule.Rule.{Rule}
 use Rattle.ct_rules.specs.Rule.{rule_side, applies, parts_over, premises_at, value_of}
-use Rattle.ct_rules.proofs.Applied.{applies_from_value, value-given, limit_of}
+use Rattle.ct_rules.proofs.Applied.{value-given, limit_of}
 use Rattle.ct_closure.specs.Inside.Pulling.{value_over}
-use Rattle.ct_closure.proofs.SatisfiedLemmas.{value_over-defined}
-
--- what is there where a test holds is there only where it holds
-let_through : {X : Type 0} (b : Bool) (o : Option X) (x : X) → (if b then o else None) ≡ Some x → (b ≡ true) × (o ≡ Some x)
-let_through true o x h = (refl, h)
-let_through false o x h = absurd (none-some x h)
+use Rattle.ct_closure.proofs.SatisfiedLemmas.{where_given}
 
 -- a rule that gives a bound is defined
 pub over-applies : (supports : List Support) (f : Slot → ℕ) (r : Rule) (e : Entry) (v : ℕ)
     → value_over supports f r e ≡ Some v → applies supports r e ≡ true
 over-applies supports f r e v h =
-    (let_through (applies supports r e) (value_of supports r e (map f (premises_at supports r e))) v h).0
+    (where_given (applies supports r e) (value_of supports r e (map f (premises_at supports r e))) v h).0
 
 -- and gives it of the bounds of its premises
 pub over-value : (supports : List Support) (f : Slot → ℕ) (r : Rule) (e : Entry) (v : ℕ)
     → value_over supports f r e ≡ Some v → value_of supports r e (map f (premises_at supports r e)) ≡ Some v
 over-value supports f r e v h =
-    (let_through (applies supports r e) (value_of supports r e (map f (premises_at supports r e))) v h).1
+    (where_given (applies supports r e) (value_of supports r e (map f (premises_at supports r e))) v h).1
 
 -- it is not above the greatest bound
 pub over-limit : (supports : List Support) (f : Slot → ℕ) (r : Rule) (e : Entry) (v : ℕ)

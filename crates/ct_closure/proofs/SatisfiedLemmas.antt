@@ -1,13 +1,12 @@
 -- When a rule gives nothing better than what stands, and when it still does so after one bound got better.
-use Rattle.std.proofs.Common.{◌≡◌, ℕ, List, [], ◌∷◌, map, Contains, Some, None, true, refl, sym, ap, subst, ◌∙◌, arith, inl, inr, ◌⊎◌, if◌then◌else◌}
-use Rattle.std.specs.Prelude.{Bool, false, Option, ◌&&◌}
+use Rattle.std.proofs.Common.{◌≡◌, ℕ, List, [], ◌∷◌, map, Contains, Some, None, true, refl, sym, ap, subst, ◌∙◌, inl, inr, ◌⊎◌, if◌then◌else◌}
+use Rattle.std.specs.Prelude.{Bool, false, Option}
 use Rattle.std.proofs.lemmas.Bool.{and_parts}
 use Rattle.std.proofs.lemmas.List.Elements.{Contains-append_right}
 use Rattle.ct_rule_parts.proofs.PlainEntries.{in_front}
 use Rattle.std.proofs.lemmas.Option.{none-some, same_Some}
 use Rattle.ct_codes.specs.declared.entry.Entry.{Entry}
 use Rattle.ct_codes.specs.declared.claim.Side.{Side}
-use Rattle.ct_codes.specs.declared.claim.Side.TheVariants.{Lower, Upper}
 use Rattle.ct_codes.specs.Entry.{IsEntry, is_entry}
 use Rattle.ct_rule_parts.specs.declared.support.Support.{Support}
 use Rattle.ct_rule_parts.specs.Parts.{are_entries, slots_on}
@@ -17,11 +16,11 @@ use Rattle.ct_rules.specs.declared.rule.Rule.{Rule}
 use Rattle.ct_rules.specs.Closed.{IsSatisfied}
 use Rattle.ct_rules.specs.Rule.{rule_side, applies, parts_over, premises_at, premises_of, value_of}
 use Rattle.ct_rules.proofs.Applied.{IsDefined, premises-defined, applies_from_premises}
-use Rattle.ct_rules.proofs.ClosedBounds.{no_better-trans}
 use Rattle.ct_closure.specs.Inside.Pulling.{value_over, IsWithin}
+use Rattle.ct_closure.proofs.BetterLemmas.{better-no_worse}
 
 -- what is there where a test holds is there only where it holds
-where_given : {X : Type 0} (b : Bool) (o : Option X) (x : X) → (if b then o else None) ≡ Some x → (b ≡ true) × (o ≡ Some x)
+pub where_given : {X : Type 0} (b : Bool) (o : Option X) (x : X) → (if b then o else None) ≡ Some x → (b ≡ true) × (o ≡ Some x)
 where_given true o x h = (refl, h)
 where_given false o x h = absurd (none-some x h)
 
@@ -64,11 +63,6 @@ pub satisfied_by_value : (supports : List Support) (f : Slot → ℕ) (r : Rule)
 satisfied_by_value supports f r e u given worse =
     satisfied_within supports f r e
     (λ v is. subst (λ z. IsNoBetter (rule_side r) z (f (rule_side r, e))) (same_Some u v (sym given ∙ is)) worse)
-
--- a better bound is no worse
-pub better-no_worse : (side : Side) (v u : ℕ) → IsBetter side v u → IsNoBetter side u v
-better-no_worse Lower v u h = omega arith
-better-no_worse Upper v u h = omega arith
 
 -- bounds g are bounds f but that of a slot, which is better
 pub record IsBetterAt (f g : Slot → ℕ) (s : Slot) : Type 0 where

@@ -1,6 +1,6 @@
 -- Words side by side over true bounds: their value, where they give one word at most, and where they rest on an entry.
-use Rattle.std.proofs.Common.{◌≡◌, ℕ, ◌+◌, ◌-◌, ◌<◌, ◌≤◌, min, max, List, [], ◌∷◌, Contains, map, Some, None, true, refl, sym, ap, subst, ◌∙◌, arith, inl, inr, ◌⊎◌, le-leb}
-use Rattle.std.specs.Prelude.{Bool, ◌&&◌, if◌then◌else◌, not, is_some, nat_le, Option}
+use Rattle.std.proofs.Common.{◌≡◌, ℕ, ◌+◌, ◌-◌, ◌<◌, ◌≤◌, min, max, List, Contains, map, Some, None, true, refl, sym, ap, subst, ◌∙◌, arith, inl, inr, ◌⊎◌, le-leb}
+use Rattle.std.specs.Prelude.{Bool, ◌&&◌, if◌then◌else◌, not, is_some, Option}
 use Rattle.std.proofs.lemmas.Bool.{and_parts, and_from, cases_lt, cases_eq}
 use Rattle.std.proofs.lemmas.Option.{same_Some}
 use Rattle.ct_words.specs.declared.limits.TheConstants.{MAX_N, MAX_BOUND}
@@ -12,13 +12,13 @@ use Rattle.ct_codes.proofs.DigitCodes.{bound_from_spread}
 use Rattle.ct_codes.proofs.EntryLemmas.{entry_limits, entry_from_limits}
 use Rattle.ct_elementary.proofs.FarWords.{spread_far}
 use Rattle.ct_rule_parts.specs.declared.support.Support.{Support}
-use Rattle.ct_rule_parts.specs.Parts.{RuleParts, has_weight, is_defined, within_limit}
+use Rattle.ct_rule_parts.specs.Parts.{has_weight, within_limit}
 use Rattle.ct_rule_parts.specs.Slot.{Slot, claim_at, lower_at}
 use Rattle.ct_rule_parts.proofs.PlainEntries.{no_weight, two_items, written}
 use Rattle.ct_plain_rules.specs.SideBySide.{side_by_side}
 use Rattle.ct_rules.specs.declared.rule.Rule.TheVariants.{L11}
 use Rattle.ct_rules.specs.Closed.{AreTrue, IsSatisfied}
-use Rattle.ct_rules.specs.Rule.{row_of, rule_side, applies, parts_over, premises_at, value_of}
+use Rattle.ct_rules.specs.Rule.{row_of, rule_side, applies, parts_over, premises_at}
 use Rattle.ct_rules.proofs.Applied.{defined, value_where_applies}
 use Rattle.ct_closure.specs.Number.{bound_of}
 use Rattle.ct_closure.specs.Worklist.{WorkValue, IsMarked}

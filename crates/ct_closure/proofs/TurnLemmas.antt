@@ -1,12 +1,10 @@
 -- A turn of the closing: what is pending before it and after, and how much is left.
-use Rattle.std.proofs.Common.{◌≡◌, ℕ, suc, ◌+◌, ◌*◌, ◌<◌, ◌≤◌, List, length, Contains, All, Option, Some, None, true, refl, sym, ap, subst, ◌∙◌, arith, inl, inr, ◌⊎◌, ◌++◌, append_assoc, mul-le-mul_right}
-use Rattle.std.specs.Prelude.{◌≢◌, slice_set}
+use Rattle.std.proofs.Common.{◌≡◌, ℕ, suc, ◌+◌, ◌*◌, ◌<◌, ◌≤◌, List, Contains, All, Option, Some, None, true, refl, sym, ap, subst, ◌∙◌, arith, inl, inr, ◌⊎◌, ◌++◌, append_assoc, mul-le-mul_right}
+use Rattle.std.specs.Prelude.{◌≢◌}
 use Rattle.std.proofs.lemmas.Bool.{cases_eq}
 use Rattle.std.proofs.lemmas.List.Elements.{All-contains}
 use Rattle.std.proofs.lemmas.Option.{none-some, same_Some}
-use Rattle.ct_words.specs.declared.limits.TheConstants.{MAX_BOUND}
 use Rattle.ct_codes.specs.declared.claim.Side.{Side}
-use Rattle.ct_codes.specs.declared.claim.Side.TheVariants.{Lower}
 use Rattle.ct_codes.specs.declared.entry.Entry.{Entry}
 use Rattle.ct_codes.specs.Entry.{IsEntry}
 use Rattle.ct_rule_parts.specs.declared.support.Support.{Support}
@@ -25,7 +23,7 @@ use Rattle.ct_closure.specs.Closing.{IsSatisfiedAt, IsPending, HasMoreLines}
 use Rattle.ct_closure.specs.Kept.{KeptValue, IsKept, Grew, reason_of, with_line}
 use Rattle.ct_closure.specs.Number.{slot_number, bound_of, side_size}
 use Rattle.ct_closure.specs.Worklist.{WorkValue, IsMarked, IsIdle, waiting}
-use Rattle.ct_closure.specs.Inside.Marking.{IsPendingBut, KeepsMarks, IsTestedAt, IsTestedFrom, AreTestedSideBySide, AreTested}
+use Rattle.ct_closure.specs.Inside.Marking.{IsPendingBut, KeepsMarks, IsTestedAt, IsTestedFrom, AreTested}
 use Rattle.ct_closure.specs.Inside.Pulling.{value_over, line_by, IsGiven, IsWithin, slack, potential}
 use Rattle.ct_closure.proofs.DependentLemmas.{RestsAlone, rests_on-cases}
 use Rattle.ct_closure.proofs.KeptLemmas.{reason_line, IsKept-with_line, Grew-with_line, Follows-line_by}
@@ -194,13 +192,16 @@ pub improvement : (supports : List Support) (kept : KeptValue) (side : Side) (e 
     → (rule_side r ≡ side) × IsImprovement supports kept r e v
 improvement supports kept side e v None r entry is given within = absurd (none-some r is)
 improvement supports kept side e v (Some q) r entry is given within =
-    subst (λ (p : Rule). (rule_side p ≡ side) × IsImprovement supports kept p e v) (same_Some q r is) (given.0, record {
-      entry = entry;
-      value = given.1;
-      better = subst (λ (o : Side). IsBetter o v (bound_of kept.bounds (o, e))) (sym given.0) given.2;
-      within =
-          subst (λ (o : Side). (p : Rule) → rule_side p ≡ o → IsWithin supports (bound_of kept.bounds) (o, e) v p) (sym given.0) within;
-    })
+    subst (λ (p : Rule). (rule_side p ≡ side) × IsImprovement supports kept p e v) (same_Some q r is) (
+      given.0,
+      record {
+        entry = entry;
+        value = given.1;
+        better = subst (λ (o : Side). IsBetter o v (bound_of kept.bounds (o, e))) (sym given.0) given.2;
+        within =
+            subst (λ (o : Side). (p : Rule) → rule_side p ≡ o → IsWithin supports (bound_of kept.bounds) (o, e) v p) (sym given.0) within;
+      },
+    )
 
 -- a pull that found none
 pub none_found : (supports : List Support) (kept : KeptValue) (s : Slot) (v : ℕ) (best : Option Rule) → best ≡ None

@@ -186,12 +186,26 @@ fn mark_alone(
     match side {
         Side::Lower => {
             mark_by_rules(supports, kept, work, &LOWER_RULES, entry, evaluations)?;
-            mark_by_rules(supports, kept, work, &LOWER_WEIGHT_RULES, entry, evaluations)?;
+            mark_by_rules(
+                supports,
+                kept,
+                work,
+                &LOWER_WEIGHT_RULES,
+                entry,
+                evaluations,
+            )?;
             Ok(())
         }
         Side::Upper => {
             mark_by_rules(supports, kept, work, &UPPER_RULES, entry, evaluations)?;
-            mark_by_rules(supports, kept, work, &UPPER_WEIGHT_RULES, entry, evaluations)?;
+            mark_by_rules(
+                supports,
+                kept,
+                work,
+                &UPPER_WEIGHT_RULES,
+                entry,
+                evaluations,
+            )?;
             Ok(())
         }
     }
@@ -276,7 +290,16 @@ fn run(
     ensures lines { HasMoreLines kept.old kept.new }
 {
     while let Some((side, entry)) = work.take() {
-        turn(alloc, supports, places, kept, work, side, entry, evaluations)?;
+        turn(
+            alloc,
+            supports,
+            places,
+            kept,
+            work,
+            side,
+            entry,
+            evaluations,
+        )?;
     }
     Ok(())
 }

@@ -24,8 +24,8 @@ use crate::side_by_side::best_side_by_side;
 use arrayvec::ArrayVec;
 use ct_codes::{Entry, Side};
 use ct_rules::{
-    LOWER_RULES, LOWER_WEIGHT_RULES, MOST_PREMISES, Rule, Support, UPPER_RULES,
-    UPPER_WEIGHT_RULES, condition, rests_on, rule_side, value_where_defined,
+    LOWER_RULES, LOWER_WEIGHT_RULES, MOST_PREMISES, Rule, Support, UPPER_RULES, UPPER_WEIGHT_RULES,
+    condition, rests_on, rule_side, value_where_defined,
 };
 
 /// The bounds of all that the rule rests on at an entry of the table, in order, where all of it is in the table.
@@ -124,13 +124,29 @@ fn ask_alone(
             ask_each(supports, kept, &LOWER_RULES, side, entry, best, evaluations)
         }
         (Side::Lower, Some(_)) => {
-            ask_each(supports, kept, &LOWER_WEIGHT_RULES, side, entry, best, evaluations)
+            ask_each(
+                supports,
+                kept,
+                &LOWER_WEIGHT_RULES,
+                side,
+                entry,
+                best,
+                evaluations,
+            )
         }
         (Side::Upper, None) => {
             ask_each(supports, kept, &UPPER_RULES, side, entry, best, evaluations)
         }
         (Side::Upper, Some(_)) => {
-            ask_each(supports, kept, &UPPER_WEIGHT_RULES, side, entry, best, evaluations)
+            ask_each(
+                supports,
+                kept,
+                &UPPER_WEIGHT_RULES,
+                side,
+                entry,
+                best,
+                evaluations,
+            )
         }
     }
 }

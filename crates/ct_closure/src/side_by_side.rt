@@ -52,12 +52,7 @@ fn best_with_first(kept: &Kept, entry: Entry, m: u32, best: &mut Best, evaluatio
 }
 
 /// Asks for what words side by side give at an entry without weight.
-pub(crate) fn best_side_by_side(
-    kept: &Kept,
-    entry: Entry,
-    best: &mut Best,
-    evaluations: &mut u64,
-)
+pub(crate) fn best_side_by_side(kept: &Kept, entry: Entry, best: &mut Best, evaluations: &mut u64)
     requires entry { IsEntry entry }
     requires plain { entry.w ≡ None }
     requires true_bounds { AreTrue (bound_of kept.now.bounds) }

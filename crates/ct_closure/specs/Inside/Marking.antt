@@ -1,5 +1,5 @@
 -- Which slots are still to be looked at, and which rules were asked for them.
-use Rattle.std.specs.Prelude.{◌≡◌, ℕ, true, List, [], All, Contains}
+use Rattle.std.specs.Prelude.{◌≡◌, ℕ, true, List, [], Contains}
 use Rattle.std.proofs.Common.{◌⊎◌}
 use Rattle.ct_codes.specs.declared.entry.Entry.{Entry}
 use Rattle.ct_codes.specs.Entry.{IsEntry, unrestricted}

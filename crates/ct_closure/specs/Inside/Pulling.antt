@@ -24,11 +24,6 @@ line_by supports kept r e v = record {
   from = map (reason_of kept) (premises_at supports r e);
 }
 
--- the best bound of a slot that was found so far, and the rule that gives it, none where it is the one that stands
-pub record BestValue : Type 0 where
-  pub value : ℕ
-  pub rule : Option Rule
-
 -- the rule gives the bound, which is better than what stands; without a rule it is what stands
 abbrev pub IsGiven : List Support → (Slot → ℕ) → Slot → ℕ → Option Rule → Type 0
 IsGiven supports bounds s v None = v ≡ bounds s

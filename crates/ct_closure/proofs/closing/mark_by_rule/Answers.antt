@@ -1,12 +1,11 @@
-use Rattle.std.proofs.Common.{◌≡◌, ℕ, [], ◌≤◌, sym, ◌∙◌, arith}
+use Rattle.std.proofs.Common.{[], sym, ◌∙◌, arith}
 use Rattle.ct_rules.specs.Rule.{parts_over}
 use Rattle.ct_closure.proofs.MarkingLemmas.{keeps-trans, tested_and_one, tested_from}
 use Rattle.ct_closure.proofs.closing.mark_by_rule.Goals as goal
 
 pub loop-k-preserved : goal.loop-k-preserved
 loop-k-preserved c =
-    let keeps = c.in_ok-test.ensures.kept in
-    (
+    let keeps = c.in_ok-test.ensures.kept in (
       keeps-trans c.args.work.now c.loop-k.work c.test.new.work c.loop-k.invariant.0 keeps,
       tested_and_one c.args.supports.now c.args.kept.now.bounds c.loop-k.work c.test.new.work c.args.rule
           ((parts_over [] c.args.rule).rested_on_by c.args.entry) c.loop-k.k c.in-Some.dependent keeps

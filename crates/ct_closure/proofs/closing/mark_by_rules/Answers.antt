@@ -1,4 +1,4 @@
-use Rattle.std.proofs.Common.{◌≡◌, ℕ, ◌≤◌, All, length, take, take_all, subst, arith}
+use Rattle.std.proofs.Common.{All, take, take_all, subst, arith}
 use Rattle.std.proofs.lemmas.List.Elements.{All-more}
 use Rattle.ct_closure.specs.Inside.Marking.{IsTestedFrom}
 use Rattle.ct_closure.proofs.MarkingLemmas.{keeps-trans, all_tested_more}
@@ -7,8 +7,7 @@ use Rattle.ct_closure.proofs.closing.mark_by_rules.Goals as goal
 pub loop-rule-preserved : goal.loop-rule-preserved
 loop-rule-preserved c =
     let keeps = c.in_ok-mark_by_rule.ensures.kept in
-    let P = IsTestedFrom c.args.supports.now c.args.kept.now.bounds c.mark_by_rule.new.work c.args.entry in
-    (
+    let P = IsTestedFrom c.args.supports.now c.args.kept.now.bounds c.mark_by_rule.new.work c.args.entry in (
       keeps-trans c.args.work.now c.loop-rule.work c.mark_by_rule.new.work c.loop-rule.invariant.0 keeps,
       All-more P c.args.rules.now c.loop-rule.rule-index _ c.loop-rule-test.true
           (all_tested_more c.args.supports.now c.args.kept.now.bounds c.loop-rule.work c.mark_by_rule.new.work c.args.entry

@@ -1,4 +1,4 @@
-use Rattle.std.proofs.Common.{◌≡◌, sym, ◌∙◌}
+use Rattle.std.proofs.Common.{sym, ◌∙◌}
 use Rattle.std.proofs.lemmas.Option.{none-some}
 use Rattle.ct_rules.specs.Listing.{alone_on}
 use Rattle.ct_closure.proofs.MarkingLemmas.{all_tested_more, sum_rests, sum_not_upper}

@@ -1,4 +1,4 @@
-use Rattle.std.proofs.Common.{◌≡◌, ℕ, suc, ◌+◌, ◌≤◌, ◌++◌, ◌∷◌, [], List, length, take, map, true, refl, sym, ap, subst, ◌∙◌, arith, Some}
+use Rattle.std.proofs.Common.{◌≡◌, ℕ, suc, ◌+◌, ◌++◌, ◌∷◌, [], List, length, take, map, sym, ap, subst, ◌∙◌, arith}
 use Rattle.std.proofs.lemmas.Option.{slice_get_within}
 use Rattle.ct_codes.specs.declared.claim.Side.{Side}
 use Rattle.ct_codes.specs.declared.entry.Entry.{Entry}
@@ -6,7 +6,6 @@ use Rattle.ct_rule_parts.specs.Parts.{slots_on}
 use Rattle.ct_rules.specs.Rule.{rule_side, cited, parts_over}
 use Rattle.ct_rules.proofs.Applied.{defined, entry_at}
 use Rattle.ct_rules.proofs.LawfulRows.{lawful}
-use Rattle.ct_rules.proofs.EntryFronts.{entries_ended}
 use Rattle.ct_closure.specs.Kept.{reason_of}
 use Rattle.ct_closure.proofs.PullingLemmas.{bounds_and_one, all_of_front, ended}
 use Rattle.ct_closure.proofs.closing.reasons.Goals as goal
@@ -29,8 +28,7 @@ loop-j-preserved c =
     let values =
     c.in_ok-push.ensures.ok ∙ ap (λ (vs : List ℕ). vs ++ c.reason.result ∷ []) c.loop-j.invariant.1
     ∙ ap (λ v. map reasons (slots_on side (take c.loop-j.j es)) ++ v ∷ []) here
-    ∙ sym (bounds_and_one reasons side c.loop-j.j es c.in-Some.premise at) in
-    (
+    ∙ sym (bounds_and_one reasons side c.loop-j.j es c.in-Some.premise at) in (
       omega arith,
       subst (λ n. c.push.new.self.items ≡ map reasons (slots_on side (take n es))) next values,
     )

@@ -1,4 +1,4 @@
-use Rattle.std.proofs.Common.{◌≡◌, ◌≤◌, length, take, map, true}
+use Rattle.std.proofs.Common.{◌≡◌, ◌≤◌, length, take, map}
 use Rattle.ct_rule_parts.specs.Parts.{slots_on}
 use Rattle.ct_rules.specs.Rule.{rule_side, parts_over}
 use Rattle.ct_closure.specs.Kept.{reason_of}

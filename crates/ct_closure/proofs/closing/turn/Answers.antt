@@ -1,6 +1,4 @@
-use Rattle.std.proofs.Common.{◌≡◌, ℕ, sym, subst}
-use Rattle.ct_rules.specs.Rule.{rule_side}
-use Rattle.ct_closure.proofs.TurnLemmas.{bounds_are_true, pending_satisfied, none_found, IsImprovement, improvement, turn_pending, turn_kept, turn_grew, turn_uses}
+use Rattle.ct_closure.proofs.TurnLemmas.{bounds_are_true, pending_satisfied, none_found, improvement, turn_pending, turn_kept, turn_grew, turn_uses}
 use Rattle.ct_closure.proofs.closing.turn.Goals as goal
 
 pub returns-in_default-clause-pending : goal.returns-in_default-clause-pending

@@ -1,4 +1,4 @@
-use Rattle.std.proofs.Common.{◌≡◌, All, subst, sym, Some, None}
+use Rattle.std.proofs.Common.{All, subst, Some, None}
 use Rattle.ct_codes.specs.declared.claim.Side.TheVariants.{Lower, Upper}
 use Rattle.ct_rule_parts.specs.Slot.{Slot}
 use Rattle.ct_closure.specs.Number.{bound_of}

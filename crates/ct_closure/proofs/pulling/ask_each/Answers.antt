@@ -1,6 +1,5 @@
-use Rattle.std.proofs.Common.{◌≡◌, length, take, All, subst, arith, take_all}
+use Rattle.std.proofs.Common.{take, All, subst, arith, take_all}
 use Rattle.std.proofs.lemmas.List.Elements.{All-more}
-use Rattle.ct_rules.specs.declared.rule.Rule.{Rule}
 use Rattle.ct_rule_parts.specs.Slot.{Slot}
 use Rattle.ct_closure.specs.Number.{bound_of}
 use Rattle.ct_closure.specs.Inside.Pulling.{IsWithin}
@@ -13,8 +12,7 @@ loop-rule-preserved c =
     let f = bound_of c.args.kept.now.bounds in
     let s : Slot = (c.args.side, c.args.entry) in
     let old = c.loop-rule.best in
-    let new = c.ask.new.best in
-    (
+    let new = c.ask.new.best in (
       IsPulled-trans supports f s c.args.best.now old new c.loop-rule.invariant.0 c.ask.ensures.pulled,
       All-more (IsWithin supports f s new.value) c.args.rules.now c.loop-rule.rule-index _ c.loop-rule-test.true
           (all_within_better supports f s old.value new.value (take c.loop-rule.rule-index c.args.rules.now) c.ask.ensures.pulled.no_worse

@@ -1,11 +1,9 @@
-use Rattle.std.proofs.Common.{◌≡◌, ℕ, ◌<◌, Option, Some, subst, sym, ap, ◌∙◌, suc, refl, inl}
+use Rattle.std.proofs.Common.{ℕ, ◌<◌, Option, Some, subst, sym, inl}
 use Rattle.std.proofs.lemmas.Option.{slice_get_within}
 use Rattle.ct_codes.specs.declared.claim.Side.TheVariants.{Lower}
-use Rattle.ct_codes.specs.declared.entry.Entry.{Entry}
 use Rattle.ct_rule_parts.specs.Slot.{Slot}
 use Rattle.ct_rules.specs.declared.rule.Rule.{Rule}
 use Rattle.ct_closure.specs.Number.{bound_of}
-use Rattle.ct_closure.specs.Places.{IsPlaceOf}
 use Rattle.ct_closure.specs.Inside.Pulling.{IsWithin}
 use Rattle.ct_closure.proofs.PulledLemmas.{IsPulled-refl, IsPulled-trans, AreAskedAbove, asked_step, asked_all, first_next, next_of, left_to, fewer_left}
 use Rattle.ct_closure.proofs.pulling.ask_supports.Goals as goal
@@ -37,8 +35,7 @@ loop-next-preserved c =
     let old = c.loop-next.best in
     let new = c.ask.new.best in
     let place = c.in-Some.place in
-    let at = c.loop-next.invariant.2 place c.in-Some.is in
-    (
+    let at = c.loop-next.invariant.2 place c.in-Some.is in (
       IsPulled-trans supports f s c.args.best.now old new c.loop-next.invariant.0 c.ask.ensures.pulled,
       asked_step supports f e entries old.value new.value place c.before-next.result c.ask.ensures.pulled.no_worse
           (subst (λ (o : Option ℕ). AreAskedAbove supports f e entries old.value o) c.in-Some.is c.loop-next.invariant.1) at

@@ -1,9 +1,6 @@
-use Rattle.std.proofs.Common.{ℕ, ◌≡◌, suc, Option, Some, None}
 use Rattle.ct_codes.specs.declared.claim.Side.TheVariants.{Lower}
 use Rattle.ct_closure.specs.Number.{bound_of}
-use Rattle.ct_closure.specs.Places.{IsPlaceOf, IsUpTo}
-use Rattle.ct_closure.specs.Inside.Pulling.{IsWithin}
-use Rattle.ct_closure.specs.Inside.Pulled.{IsPulled, given_rule}
+use Rattle.ct_closure.specs.Inside.Pulled.{IsPulled}
 use Rattle.ct_closure.proofs.PulledLemmas.{AreAskedAbove, IsNext, left_to}
 use Rattle.ct_closure.proofs.pulling.ask_supports.Given as goal
 

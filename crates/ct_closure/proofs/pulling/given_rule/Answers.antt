@@ -1,4 +1,4 @@
-use Rattle.std.proofs.Common.{◌≡◌, refl}
+use Rattle.std.proofs.Common.{refl}
 use Rattle.ct_rules.specs.Rule.{row_of}
 use Rattle.ct_closure.proofs.pulling.given_rule.Goals as goal
 

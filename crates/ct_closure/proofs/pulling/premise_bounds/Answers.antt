@@ -1,4 +1,4 @@
-use Rattle.std.proofs.Common.{◌≡◌, ℕ, suc, ◌+◌, ◌≤◌, ◌++◌, ◌∷◌, [], List, length, take, map, true, refl, sym, ap, subst, ◌∙◌, arith, Some}
+use Rattle.std.proofs.Common.{◌≡◌, ℕ, suc, ◌+◌, ◌++◌, ◌∷◌, [], List, length, take, map, true, sym, ap, subst, ◌∙◌, arith}
 use Rattle.std.proofs.lemmas.Option.{slice_get_within}
 use Rattle.ct_codes.specs.declared.claim.Side.{Side}
 use Rattle.ct_codes.specs.declared.entry.Entry.{Entry}
@@ -43,8 +43,7 @@ loop-j-preserved c =
     c.push.ensures.items ∙ ap (λ (vs : List ℕ). vs ++ c.bound.result ∷ []) c.loop-j.invariant.2
     ∙ ap (λ v. map bounds (slots_on side (take c.loop-j.j es)) ++ v ∷ []) here
     ∙ sym (bounds_and_one bounds side c.loop-j.j es c.in-Some.premise at) in
-    let count = c.loop-j.invariant.3 in
-    (
+    let count = c.loop-j.invariant.3 in (
       subst (λ n. are_entries (take n es) ≡ true) next more,
       omega arith,
       subst (λ n. c.push.new.self.items ≡ map bounds (slots_on side (take n es))) next values,

@@ -1,5 +1,3 @@
-use Rattle.std.proofs.Common.{◌≡◌, ℕ, sym, subst}
-use Rattle.ct_codes.specs.declared.claim.Side.TheVariants.{Lower, Upper}
 use Rattle.ct_closure.specs.Number.{bound_of}
 use Rattle.ct_closure.proofs.PulledLemmas.{asked_upper, asked_lower, some_below}
 use Rattle.ct_closure.proofs.TurnLemmas.{bounds_are_true}

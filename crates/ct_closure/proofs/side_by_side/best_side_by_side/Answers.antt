@@ -1,4 +1,4 @@
-use Rattle.std.proofs.Common.{◌≡◌, ℕ, ◌+◌, ◌<◌, ◌≤◌, [], subst, sym, arith, inl, inr}
+use Rattle.std.proofs.Common.{[], subst, sym, arith, inl, inr}
 use Rattle.std.proofs.lemmas.Bool.{cases_eq, cases_lt}
 use Rattle.ct_codes.specs.declared.claim.Side.TheVariants.{Lower}
 use Rattle.ct_rules.specs.declared.rule.Rule.TheVariants.{L11}
@@ -19,8 +19,7 @@ loop-m-preserved c =
     let f = bound_of c.args.kept.now.bounds in
     let e = c.args.entry in
     let old = c.loop-m.best in
-    let new = c.best_with_first.new.best in
-    (
+    let new = c.best_with_first.new.best in (
       λ supports. IsPulled-trans supports f (Lower, e) c.args.best.now old new (c.loop-m.invariant.0 supports) (c.best_with_first.ensures.pulled supports),
       λ supports m k from below. elim (cases_eq m c.loop-m.m) [
         | inl here ↦ subst (λ i. IsWithin supports f (Lower, e) new.value (L11 i k)) (sym here) (c.best_with_first.ensures.within supports k)

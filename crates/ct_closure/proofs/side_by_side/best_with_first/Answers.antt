@@ -1,7 +1,6 @@
-use Rattle.std.proofs.Common.{◌≡◌, ℕ, ◌+◌, ◌-◌, ◌<◌, ◌≤◌, [], min, max, refl, sym, subst, arith, inl, inr, Some}
+use Rattle.std.proofs.Common.{◌≡◌, ◌+◌, ◌≤◌, [], refl, sym, subst, arith, inl, inr}
 use Rattle.std.proofs.lemmas.Bool.{cases_eq, cases_lt}
 use Rattle.ct_codes.specs.declared.claim.Side.TheVariants.{Lower}
-use Rattle.ct_rule_parts.specs.Slot.{Slot}
 use Rattle.ct_closure.specs.Number.{bound_of}
 use Rattle.ct_closure.proofs.PulledLemmas.{IsPulled-trans}
 use Rattle.ct_closure.proofs.SideBySideLemmas.{IsSum, least_of, sum_here, sum_offer, sum_side, first_enough}
@@ -21,8 +20,7 @@ loop-c-preserved c =
     (omega (arith, below, c.min-end.ensures)) in
     let same : c.min-value.result ≡ least_of f e.n e.d m k =
     omega (arith, c.min-value.ensures, c.plain_bound.ensures, c.plain_bound-in-loop-c.ensures) in
-    let worse : c.min-value.result ≤ new.value = c.consider.ensures.within c.min-value.result refl in
-    (
+    let worse : c.min-value.result ≤ new.value = c.consider.ensures.within c.min-value.result refl in (
       λ supports. IsPulled-trans supports f (Lower, e) c.args.best.now old new (c.loop-c.invariant.0 supports)
           (c.consider.ensures.pulled supports f e (sum_side m k)
           (sum_offer supports f e m k c.min-value.result c.requires.true_bounds c.requires.entry c.requires.plain is same)),

@@ -1,4 +1,4 @@
-use Rattle.std.proofs.Common.{◌≡◌, ℕ, ◌+◌, ◌<◌, ◌≤◌, arith}
+use Rattle.std.proofs.Common.{◌+◌, arith}
 use Rattle.ct_closure.proofs.SideBySideLemmas.{tested_none, tested_more_length, tested_all}
 use Rattle.ct_closure.proofs.side_by_side.mark_side_by_side.Goals as goal
 
@@ -8,8 +8,7 @@ returns-then-entry-clause-tested c =
 
 pub loop-n-preserved : goal.loop-n-preserved
 loop-n-preserved c =
-    let keeps = c.in_ok-mark_sums_of_length.ensures.kept in
-    (
+    let keeps = c.in_ok-mark_sums_of_length.ensures.kept in (
       λ t entry marked. keeps t entry (c.loop-n.invariant.0 t entry marked),
       tested_more_length c.args.kept.now.bounds c.loop-n.work c.mark_sums_of_length.new.work c.args.entry (c.args.entry.n + 3) c.loop-n.n keeps
           c.loop-n.invariant.1 (c.in_ok-mark_sums_of_length.ensures.tested),

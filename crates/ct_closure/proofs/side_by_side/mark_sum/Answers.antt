@@ -1,5 +1,4 @@
-use Rattle.std.proofs.Common.{◌≡◌, ℕ, ◌-◌, ◌≤◌, min, arith}
-use Rattle.ct_rule_parts.specs.Slot.{lower_at}
+use Rattle.std.proofs.Common.{arith}
 use Rattle.ct_closure.specs.Number.{bound_of}
 use Rattle.ct_closure.proofs.SideBySideLemmas.{tested_marked, tested_no_better}
 use Rattle.ct_closure.proofs.side_by_side.mark_sum.Goals as goal

@@ -1,13 +1,10 @@
-use Rattle.std.proofs.Common.{◌≡◌, ℕ, ◌+◌, ◌-◌, ◌<◌, ◌≤◌, refl, arith}
-use Rattle.std.proofs.lemmas.Bool.{cases_lt}
-use Rattle.ct_closure.specs.Inside.Marking.{IsTestedAtSum}
-use Rattle.ct_closure.proofs.SideBySideLemmas.{tested_far, tested_more, tested_step, tested_distances, end_enough}
+use Rattle.std.proofs.Common.{◌+◌, ◌-◌, refl, arith}
+use Rattle.ct_closure.proofs.SideBySideLemmas.{tested_step, tested_distances, end_enough}
 use Rattle.ct_closure.proofs.side_by_side.mark_sums_of_length.Goals as goal
 
 pub loop-d-preserved : goal.loop-d-preserved
 loop-d-preserved c =
-    let keeps = c.in_ok-mark_sum.ensures.kept in
-    (
+    let keeps = c.in_ok-mark_sum.ensures.kept in (
       λ t entry marked. keeps t entry (c.loop-d.invariant.0 t entry marked),
       tested_step c.args.kept.now.bounds c.loop-d.work c.mark_sum.new.work c.args.entry c.args.n (c.args.entry.d + 3) c.loop-d.d keeps
           c.loop-d.invariant.1 (c.in_ok-mark_sum.ensures.tested),

@@ -25,7 +25,7 @@ use Rattle.ct_rules.specs.declared.rule.Rule.TheVariants.{L10, U2}
 use Rattle.ct_rule_parts.specs.declared.support.Support.{Support}
 use Rattle.ct_rule_parts.specs.declared.support.Support.TheVariants.{Size}
 use Rattle.ct_rules.specs.Derivation.{IsDerived}
-use Rattle.ct_rules.specs.Rule.{in_range, premises_at, formula}
+use Rattle.ct_rules.specs.Rule.{row_of}
 use Rattle.ct_rule_parts.specs.Support.{Stands}
 use Rattle.ct_rules.proofs.JoinedDerivations.{derived_by_rule}
 use Rattle.ct_session.specs.Reply.{AreBoundsOf}
@@ -61,7 +61,7 @@ six_code = (six, (code_from_no_fault entry six (All-from_recursion (λ x. x < 2 
 
 -- so A(10,6) is 6: by Plotkin it is no more
 six_at_ten : AreBoundsOf (hexa ∷ []) entry (record { entry = entry; lower = 6; upper = 6 })
-unfolding in_range premises_at formula
+unfolding row_of
 six_at_ten =
     let supports : List Support = Size entry 6 ∷ [] in
     equal_bounds (hexa ∷ []) entry 6 (All-cons Stands (Size entry 6) [] (record { entry = refl; range = (lit≤ tt, lit≤ tt); truth = six_code }) (All-nil Stands))
@@ -106,7 +106,7 @@ linear_is_code = (
 
 -- so A(6,3) is 8: by Plotkin it is no more
 eight_at_six : AreBoundsOf (linear_piece ∷ []) short_entry (record { entry = short_entry; lower = 8; upper = 8 })
-unfolding in_range premises_at formula
+unfolding row_of
 eight_at_six =
     let supports : List Support = Size short_entry 8 ∷ [] in
     equal_bounds (linear_piece ∷ []) short_entry 8
