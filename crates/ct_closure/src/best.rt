@@ -15,7 +15,7 @@ use ct_codes::{Entry, Side};
 use ct_rules::Rule;
 
 /// Whether the first bound is better than the second: from below greater, from above smaller.
-pub(crate) fn is_better(side: Side, bound: u32, other: u32) -> bool
+pub fn is_better(side: Side, bound: u32, other: u32) -> bool
     ensures { MatchBool result (IsBetter side bound other) (IsNoBetter side bound other) }
 {
     match side {

@@ -1,13 +1,15 @@
 //! What a table keeps: the lines of a derivation, and for each slot its bound and the line that gives it.
 
-ghost use Rattle.std.specs.Prelude.{◌≡◌, ◌+◌, ◌-◌, ◌<◌, ◌≤◌, ◌*◌, ◌++◌, [], ℕ, List, OnOk, OnErr, IfOk, length, replicate, take, drop, slice_get, Some};
+ghost use Rattle.std.specs.Prelude.{◌≡◌, ◌+◌, ◌-◌, ◌<◌, ◌≤◌, ◌*◌, ◌++◌, [], ℕ, List, OnOk, OnErr, IfOk, length, map, replicate, take, drop, slice_get, Some};
 ghost use Rattle.ct_codes.specs.Entry.{IsEntry};
 ghost use Rattle.ct_rule_parts.specs.declared.support.Support.{Support};
 ghost use Rattle.ct_closure.specs.Number.{bound_of, entries_to, side_number, side_size};
 ghost use Rattle.ct_closure.specs.Kept.{with_line, reason_of, set_back, ground_rule, IsKept};
+ghost use Rattle.ct_removal.specs.Removal.{only, lowered_line};
 ghost use Rattle.ct_closure.specs.Inside.Ground.{ground_value, ground_line};
 ghost use Rattle.ct_closure.specs.Inside.Started.{IsStarted};
 
+use crate::lowering::lower_lines;
 use crate::number::{SLOTS, count_in_length, entry_in, slot_number};
 use ct_codes::{Claim, Entry, Side};
 use ct_rules::{Line, Rule, value};
@@ -287,6 +289,14 @@ impl Kept {
         self.bounds = undo.bounds;
         self.reasons = undo.reasons;
         self.later = undo.later;
+    }
+
+    /// Lowers the rule of each line after those of the base, as it is over the supports that are left once the one at a place
+    /// is taken out. It takes no memory.
+    pub fn lower(&mut self, place: u32)
+        ensures { self.new ≡ record { bounds = self.old.bounds; reasons = self.old.reasons; lines = take self.old.base self.old.lines ++ map (lowered_line (only place)) (drop self.old.base self.old.lines); base = self.old.base } }
+    {
+        lower_lines(&mut self.later, place);
     }
 
     /// Puts the ground lines of the side of all entries of the length n. `Err` is want of memory.

@@ -4,14 +4,17 @@
 mod best;
 mod closing;
 mod kept;
+mod lowering;
 mod number;
 mod places;
 mod pulling;
 mod side_by_side;
 mod worklist;
 
+pub use best::is_better;
 pub use closing::{Closing, close};
 pub use kept::{Base, Kept, Saved, Undo};
 pub use number::{ENTRIES, SLOTS, slot_number, slots_have_numbers};
-pub use places::SupportPlaces;
+pub use places::{SupportPlaces, entry_of};
+pub use pulling::{given_rule, offer};
 pub use worklist::Worklist;

@@ -35,7 +35,7 @@ impl Model for SupportPlaces {
 }
 
 /// The entry of the table to which the support gives something, where there is one.
-fn entry_of(support: &Support) -> Option<Entry>
+pub fn entry_of(support: &Support) -> Option<Entry>
     ensures entry { result ≡ entry_of support.now }
     ensures in_table { IfSome result (λ e. IsEntry e) }
 {

@@ -55,7 +55,7 @@ fn premise_bounds(
 }
 
 /// The bound that the rule gives at an entry of the table over what stands. It takes no memory.
-pub(crate) fn offer(supports: &[Support], kept: &Kept, rule: Rule, entry: Entry) -> Option<u32>
+pub fn offer(supports: &[Support], kept: &Kept, rule: Rule, entry: Entry) -> Option<u32>
     requires { IsEntry entry }
     ensures value { result ≡ value_over supports.now (bound_of kept.now.bounds) rule entry }
     ensures limit { IfSome result (λ v. v ≤ MAX_BOUND) }
@@ -152,7 +152,7 @@ fn ask_alone(
 }
 
 /// The rule by which the support at a place gives to an entry.
-fn given_rule(entry: Entry, place: u32) -> Rule
+pub fn given_rule(entry: Entry, place: u32) -> Rule
     ensures rule { result ≡ given_rule entry place }
     ensures side { rule_side result ≡ Lower }
 {

@@ -1,43 +1,161 @@
--- What is kept over more supports.
-use Rattle.std.proofs.Common.{◌≡◌, ℕ, ◌+◌, ◌<◌, ◌^◌, List, [], ◌∷◌, ◌++◌, length, sym, subst, ap, ◌∙◌}
-use Rattle.std.proofs.lemmas.List.{length_push}
-use Rattle.ct_rules.specs.declared.support.Support.{Support}
-use Rattle.ct_rules.specs.Closed.{IsClosed}
-use Rattle.ct_closure.specs.Satisfied.{AreSatisfiedBut}
+-- What more supports change: only the rules that name one of them.
+use Rattle.std.proofs.Common.{◌≡◌, ℕ, zero, suc, ◌+◌, ◌-◌, ◌≤◌, List, [], ◌∷◌, ◌++◌, length, map, Option, Some, None, Bool, true, false, not, slice_get, refl, sym, ap, subst, ◌∙◌, inl, inr, arith}
+use Rattle.std.specs.Prelude.{if◌then◌else◌, is_some}
+use Rattle.std.proofs.lemmas.Bool.{and_parts, cases_lt, not-true, false≢true}
+use Rattle.std.proofs.lemmas.Option.{none-some, same_Some}
+use Rattle.ct_codes.specs.declared.claim.Side.{Side}
+use Rattle.ct_codes.specs.declared.claim.Side.TheVariants.{Lower}
+use Rattle.ct_codes.specs.declared.entry.Entry.{Entry}
+use Rattle.ct_codes.specs.Entry.{IsEntry, same_entry}
+use Rattle.ct_codes.proofs.EntryLemmas.{same_entry_is}
+use Rattle.ct_rule_parts.specs.declared.support.Support.{Support}
+use Rattle.ct_rule_parts.specs.declared.support.Support.TheVariants.{Nothing, Size}
+use Rattle.ct_rule_parts.specs.Parts.{has_weight}
+use Rattle.ct_rule_parts.specs.Slot.{Slot, IsNoBetter}
+use Rattle.ct_rule_parts.specs.Support.{size_at}
+use Rattle.ct_rules.specs.declared.rule.Rule.{Rule}
+use Rattle.ct_rules.specs.declared.rule.Rule.TheVariants.{L10, M10}
+use Rattle.ct_rules.specs.Closed.{IsSatisfied, IsClosed}
+use Rattle.ct_rules.specs.Rule.{row_of, rule_side, place_of, support_at, cited, parts_over, applies}
+use Rattle.ct_rules.proofs.Applied.{defined, applies_from_premises}
+use Rattle.ct_rules.proofs.Places.{slice_get-append_left, slice_get-append_right}
+use Rattle.ct_removal.proofs.LoweredRules.{premises_of-alike, value_of-alike}
+use Rattle.ct_closure.specs.Closing.{IsPending}
 use Rattle.ct_closure.specs.Number.{bound_of}
-use Rattle.ct_closure.proofs.SupportLemmas.{IsKept-over_more, AreSatisfiedBut-last}
-use Rattle.ct_table.specs.Table.{IsTable}
-use Rattle.ct_rules.specs.Support.{Stands, AllStand}
-use Rattle.std.proofs.lemmas.List.Elements.{All-nil, All-cons, All-append}
-use Rattle.ct_closure.specs.Instance.{InstancesValue, AreInstances}
-use Rattle.ct_closure.specs.Kept.{KeptValue, IsKept}
+use Rattle.ct_closure.specs.Places.{GivesTo, entry_of}
+use Rattle.ct_closure.specs.Worklist.{WorkValue, IsMarked}
+use Rattle.ct_closure.specs.Inside.Pulling.{IsWithin}
+use Rattle.ct_closure.specs.Inside.Pulled.{given_rule}
+use Rattle.ct_closure.proofs.SatisfiedLemmas.{satisfied_within}
+use Rattle.ct_table.proofs.BaseLemmas.{cited-nothing}
 
--- the supports with one more
-pub AllStand-more : (supports longer : List Support) (x : Support) → AllStand supports → Stands x → longer ≡ supports ++ x ∷ [] →
-    AllStand longer
-AllStand-more supports longer x stand stands is =
-    subst AllStand (sym is) (All-append Stands supports (x ∷ []) stand (All-cons Stands x [] stands (All-nil Stands)))
+-- a support that gives something to an entry of the table is one of that entry
+pub gives_entry : (support : Support) (e : Entry) → GivesTo support e → IsEntry e → entry_of support ≡ Some e
+gives_entry Nothing e gives entry = absurd (gives refl)
+gives_entry (Size f size) e gives entry = go (same_entry f e) refl
+  where
+    go : (b : Bool) → same_entry f e ≡ b → entry_of (Size f size) ≡ Some e
+    go true is =
+        let same : f ≡ e = same_entry_is f e is in
+        ap (λ (b : Bool). if b then Some f else None) (subst IsEntry (sym same) entry) ∙ ap Some same
+    go false is = absurd (gives (ap (λ (b : Bool). if b then Some size else None) is))
 
--- a table with one more support
-pub IsTable-more : (supports longer : List Support) (x : Support) (kept new : KeptValue) → IsTable (record { supports = supports; kept = kept }) →
-    Stands x → length supports + 1 < 2 ^ 32 → longer ≡ supports ++ x ∷ [] → IsKept longer new → IsClosed longer (bound_of new.bounds) →
-    IsTable (record { supports = longer; kept = new })
-IsTable-more supports longer x kept new good stands few is good_new closed = record {
-  stand = AllStand-more supports longer x good.stand stands is;
-  few = subst (λ m. m < 2 ^ 32) (sym (ap (λ (s : List Support). length s) is ∙ length_push supports x)) few;
-  kept = good_new;
-  closed = closed;
-}
+-- a rule that is defined and names a support
+pub record IsNamed (supports : List Support) (r : Rule) (place : ℕ) (e : Entry) : Type 0 where
+  pub side : rule_side r ≡ Lower
+  pub rule : r ≡ given_rule e place
+  pub gives : is_some (size_at (slice_get supports place) e) ≡ true
 
--- what it keeps before anything is tried, and which instances give nothing better
-pub kept_more : (supports longer : List Support) (x : Support) (kept : KeptValue) → IsTable (record { supports = supports; kept = kept }) →
-    longer ≡ supports ++ x ∷ [] → IsKept longer kept
-kept_more supports longer x kept good is = subst (λ (s : List Support). IsKept s kept) (sym is) (IsKept-over_more supports (x ∷ []) kept good.kept)
+pub named : (supports : List Support) (r : Rule) (place : ℕ) (e : Entry) → place_of r ≡ Some place
+    → applies supports r e ≡ true → IsNamed supports r place e
+unfolding row_of
+named supports (L10 p) place e names h =
+    let same : p ≡ place = same_Some p place names in
+    let is = defined (parts_over supports (L10 p)) e h in
+    let parts = and_parts (not (has_weight e)) (is_some (size_at (slice_get supports p) e)) is.condition in
+    record {
+      side = refl;
+      rule =
+          sym (ap (λ (b : Bool). if b then M10 p else L10 p) (not-true (has_weight e) parts.0)) ∙ ap (given_rule e) same;
+      gives = subst (λ (q : ℕ). is_some (size_at (slice_get supports q) e) ≡ true) same parts.1;
+    }
+named supports (M10 p) place e names h =
+    let same : p ≡ place = same_Some p place names in
+    let is = defined (parts_over supports (M10 p)) e h in
+    let parts = and_parts (has_weight e) (is_some (size_at (slice_get supports p) e)) is.condition in
+    record {
+      side = refl;
+      rule = sym (ap (λ (b : Bool). if b then M10 p else L10 p) parts.0) ∙ ap (given_rule e) same;
+      gives = subst (λ (q : ℕ). is_some (size_at (slice_get supports q) e) ≡ true) same parts.1;
+    }
+named supports r place e names h = absurd (none-some place names)
 
-pub satisfied_more : (instances : InstancesValue) (supports longer : List Support) (x : Support) (kept : KeptValue) (place : ℕ) →
-    IsTable (record { supports = supports; kept = kept }) → AreInstances instances → place ≡ length supports → longer ≡ supports ++ x ∷ [] →
-    AreSatisfiedBut (length instances.fixed + place) instances.fixed longer (bound_of kept.bounds)
-satisfied_more instances supports longer x kept place good are at is =
-    subst (λ p. AreSatisfiedBut (length instances.fixed + p) instances.fixed longer (bound_of kept.bounds)) (sym at)
-    (subst (λ (s : List Support). AreSatisfiedBut (length instances.fixed + length supports) instances.fixed s (bound_of kept.bounds)) (sym is)
-    (AreSatisfiedBut-last instances.fixed supports x (bound_of kept.bounds) are.unsupported good.closed))
+-- a support that gives something
+giving : (o : Option Support) (e : Entry) → is_some (size_at o e) ≡ true → (support : Support) × (o ≡ Some support) × GivesTo support e
+giving None e is = absurd (false≢true is)
+giving (Some support) e is = (support, refl, λ none. false≢true (sym (ap is_some none) ∙ is))
+
+-- one of more supports that gives something to the entry, by the rule that names it
+pub record IsNew (olds added : List Support) (r : Rule) (e : Entry) : Type 0 where
+  pub index : ℕ
+  pub support : Support
+  pub there : slice_get added index ≡ Some support
+  pub gives : GivesTo support e
+  pub side : rule_side r ≡ Lower
+  pub rule : r ≡ given_rule e (length olds + index)
+
+-- a rule gives nothing better than what was closed, but where it names one of the new supports
+pub satisfied_over_more : (olds added : List Support) (bounds : Slot → ℕ) (r : Rule) (e : Entry) → IsClosed olds bounds
+    → (IsEntry e → IsNew olds added r e → IsSatisfied (olds ++ added) bounds r e) → IsSatisfied (olds ++ added) bounds r e
+satisfied_over_more olds added bounds r e closed new slots v premises value = go (place_of r) refl
+  where
+    h : applies (olds ++ added) r e ≡ true
+    h = applies_from_premises (olds ++ added) r e slots premises
+
+    as_before : cited olds r ≡ cited (olds ++ added) r → IsNoBetter (rule_side r) v (bounds (rule_side r, e))
+    as_before same =
+        closed r e slots v (premises_of-alike olds (olds ++ added) r r e (λ c. refl) same ∙ premises)
+        (value_of-alike olds (olds ++ added) r r e (map bounds slots) (λ c. refl) same ∙ value)
+
+    past : (place : ℕ) → place_of r ≡ Some place → length olds ≤ place → IsNamed (olds ++ added) r place e
+        → IsNoBetter (rule_side r) v (bounds (rule_side r, e))
+    past place names after is =
+        let at : length olds + (place - length olds) ≡ place = omega arith in
+        let there : slice_get (olds ++ added) place ≡ slice_get added (place - length olds) =
+        ap (slice_get (olds ++ added)) (sym at) ∙ slice_get-append_right olds added (place - length olds) in
+        let one = giving (slice_get (olds ++ added) place) e is.gives in
+        new (defined (parts_over (olds ++ added) r) e h).entry
+        (record {
+          index = place - length olds;
+          support = one.0;
+          there = sym there ∙ one.1;
+          gives = one.2;
+          side = is.side;
+          rule = is.rule ∙ ap (given_rule e) (sym at);
+        })
+        slots v premises value
+
+    go : (place : Option ℕ) → place_of r ≡ place → IsNoBetter (rule_side r) v (bounds (rule_side r, e))
+    go None names = as_before (cited-nothing olds (olds ++ added) r names)
+    go (Some place) names = elim (cases_lt place (length olds)) [
+      | inl below ↦
+          as_before
+          (ap (support_at olds) names ∙ sym (slice_get-append_left olds added place below)
+          ∙ sym (ap (support_at (olds ++ added)) names))
+      | inr after ↦ past place names after (named (olds ++ added) r place e names h)
+    ]
+
+-- the entries of supports are marked from below
+abbrev pub AreGivenMarked : List Support → WorkValue → Type 0
+AreGivenMarked added work = (index : ℕ) (support : Support) (e : Entry) → slice_get added index ≡ Some support → GivesTo support e
+    → IsEntry e → IsMarked work (Lower, e)
+
+-- where these are marked, each slot is marked or satisfied
+pub pending_over_more : (olds added : List Support) (bounds : List ℕ) (work : WorkValue) → IsClosed olds (bound_of bounds)
+    → AreGivenMarked added work → IsPending (olds ++ added) bounds work
+pending_over_more olds added bounds work closed marked s entry unmarked r side =
+    satisfied_over_more olds added (bound_of bounds) r s.1 closed
+    (λ e_entry is.
+    let slot : Lower ≡ s.0 = sym is.side ∙ side in
+    absurd (unmarked (subst (λ (d : Side). IsMarked work (d, s.1)) slot
+    (marked is.index is.support s.1 is.there is.gives entry))))
+
+-- where the one new support betters nothing, all is closed as before
+pub closed_over_one : (olds : List Support) (x : Support) (bounds : Slot → ℕ) → IsClosed olds bounds
+    → ((e : Entry) → entry_of x ≡ Some e
+    → IsWithin (olds ++ x ∷ []) bounds (Lower, e) (bounds (Lower, e)) (given_rule e (length olds)))
+    → IsClosed (olds ++ x ∷ []) bounds
+closed_over_one olds x bounds closed within r e =
+    satisfied_over_more olds (x ∷ []) bounds r e closed (λ entry is. go entry is.index is.support is.there is.gives is.side is.rule)
+  where
+    go : IsEntry e → (index : ℕ) (support : Support) → slice_get (x ∷ []) index ≡ Some support → GivesTo support e
+        → rule_side r ≡ Lower → r ≡ given_rule e (length olds + index) → IsSatisfied (olds ++ x ∷ []) bounds r e
+    go entry (suc index) support there gives side rule = absurd (none-some support there)
+    go entry zero support there gives side rule =
+        let one : x ≡ support = same_Some x support there in
+        let end : length olds + 0 ≡ length olds = omega arith in
+        let is = within e (gives_entry x e (subst (λ (y : Support). GivesTo y e) (sym one) gives) entry) in
+        satisfied_within (olds ++ x ∷ []) bounds r e
+        (subst (λ (d : Side). IsWithin (olds ++ x ∷ []) bounds (d, e) (bounds (d, e)) r) (sym side)
+        (subst (IsWithin (olds ++ x ∷ []) bounds (Lower, e) (bounds (Lower, e)))
+        (sym (rule ∙ ap (given_rule e) end)) is))

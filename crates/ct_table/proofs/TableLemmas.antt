@@ -1,38 +1,44 @@
 -- What a table gives: best and true bounds.
-use Rattle.std.proofs.Common.{◌≡◌, ◌∙◌, ℕ, Some, subst, sym, ap, option_map, slice_get}
-use Rattle.ct_codes.specs.Claim.{IsTrueClaim}
+use Rattle.std.proofs.Common.{ℕ, List, subst}
 use Rattle.ct_codes.specs.Entry.{IsEntry}
-use Rattle.ct_rules.specs.Closed.{AreTrue}
-use Rattle.ct_rules.specs.Derivation.{LineValue, IsBest}
-use Rattle.ct_rules.specs.Slot.{Slot, claim_at}
-use Rattle.ct_rules.proofs.ClosedBounds.{AreTrue-from_derived, closed_bound_is_best, best_is_one}
-use Rattle.ct_closure.specs.Kept.{reason_of}
+use Rattle.ct_rule_parts.specs.declared.support.Support.{Support}
+use Rattle.ct_rule_parts.specs.Slot.{Slot, claim_at, IsNoBetter}
+use Rattle.ct_rule_parts.specs.Support.{AllStand}
+use Rattle.ct_rules.specs.Closed.{AreTrue, IsClosed}
+use Rattle.ct_rules.specs.Derivation.{LineValue, IsDerived, IsBest}
+use Rattle.ct_rules.proofs.ClosedBounds.{AreDerived, AreTrue-from_derived, closed_bound_is_best, closed_bounds_are_best_possible}
+use Rattle.ct_rules.proofs.Derivations.{derived_from_line}
+use Rattle.ct_closure.specs.Kept.{KeptValue, IsKept, reason_of}
 use Rattle.ct_closure.specs.Number.{bound_of}
-pub use Rattle.ct_closure.proofs.IdleLemmas.{bounds_are_derived}
-use Rattle.ct_table.specs.Table.{TableValue, IsTable}
+use Rattle.ct_closure.proofs.KeptLemmas.{IsReasonLine, reason_line}
 
--- each bound that is kept is true
-pub bounds_are_true : (t : TableValue) → IsTable t → AreTrue (bound_of t.kept.bounds)
-bounds_are_true t good =
-    AreTrue-from_derived t.supports (bound_of t.kept.bounds) good.stand (bounds_are_derived t.supports t.kept good.kept)
+-- each bound that is kept is derived
+pub bounds_are_derived : (supports : List Support) (kept : KeptValue) → IsKept supports kept
+    → AreDerived supports (bound_of kept.bounds)
+bounds_are_derived supports kept good s entry = go (reason_line supports kept s good entry)
+  where
+    go : ((l : LineValue) × IsReasonLine kept s l) → IsDerived supports (claim_at s (bound_of kept.bounds s))
+    go (l, is) =
+        subst (IsDerived supports) is.claim
+        (derived_from_line supports kept.lines (reason_of kept s) l is.there good.derivation)
 
--- and best
-pub bounds_are_best : (t : TableValue) (s : Slot) → IsTable t → IsEntry s.1 → IsBest t.supports s (bound_of t.kept.bounds s)
-bounds_are_best t s good entry =
-    closed_bound_is_best t.supports (bound_of t.kept.bounds) s good.stand (bounds_are_true t good) good.closed
-    (bounds_are_derived t.supports t.kept good.kept s entry)
+-- and true
+pub bounds_are_true : (supports : List Support) (kept : KeptValue) → AllStand supports → IsKept supports kept
+    → AreTrue (bound_of kept.bounds)
+bounds_are_true supports kept stand good =
+    AreTrue-from_derived supports (bound_of kept.bounds) stand (bounds_are_derived supports kept good)
 
--- as clauses on a bound that is read
-pub read_best : (t : TableValue) (s : Slot) (v : ℕ) → IsTable t → IsEntry s.1 → v ≡ bound_of t.kept.bounds s → IsBest t.supports s v
-read_best t s v good entry is = subst (IsBest t.supports s) (sym is) (bounds_are_best t s good entry)
+-- where it is closed they are best
+pub bounds_are_best : (supports : List Support) (kept : KeptValue) (s : Slot) → AllStand supports → IsKept supports kept
+    → IsClosed supports (bound_of kept.bounds) → IsEntry s.1 → IsBest supports s (bound_of kept.bounds s)
+bounds_are_best supports kept s stand good closed entry =
+    closed_bound_is_best supports (bound_of kept.bounds) s stand (bounds_are_true supports kept stand good) closed
+    (bounds_are_derived supports kept good s entry)
 
-pub read_true : (t : TableValue) (s : Slot) (v : ℕ) → IsTable t → IsEntry s.1 → v ≡ bound_of t.kept.bounds s → IsTrueClaim (claim_at s v)
-read_true t s v good entry is = subst (λ m. IsTrueClaim (claim_at s m)) (sym is) (bounds_are_true t good s entry)
-
--- the line of the reason claims the best value
-pub reason_claims : (t : TableValue) (s : Slot) (r v : ℕ) → IsTable t → IsEntry s.1 → r ≡ reason_of t.kept s → IsBest t.supports s v →
-    option_map (λ l. l.claim) (slice_get t.kept.lines r) ≡ Some (claim_at s v)
-reason_claims t s r v good entry is best =
-    let same = best_is_one t.supports s (bound_of t.kept.bounds s) v (bounds_are_best t s good entry) best in
-    ap (λ n. option_map (λ (l : LineValue). l.claim) (slice_get t.kept.lines n)) is ∙ good.kept.reasoned s entry
-    ∙ ap (λ m. Some (claim_at s m)) same
+-- nothing that is kept is better than closed true bounds
+pub kept-no_better : (supports : List Support) (bounds : Slot → ℕ) (kept : KeptValue) (s : Slot) → AllStand supports
+    → AreTrue bounds → IsClosed supports bounds → IsKept supports kept → IsEntry s.1
+    → IsNoBetter s.0 (bound_of kept.bounds s) (bounds s)
+kept-no_better supports bounds kept s stand true_bounds closed good entry =
+    closed_bounds_are_best_possible supports bounds stand true_bounds closed (claim_at s (bound_of kept.bounds s))
+    (bounds_are_derived supports kept good s entry)

@@ -1,180 +1,324 @@
--- One walk over the lines of a table: what is known of the lines that were passed, and of those that are left.
-use Rattle.std.proofs.Common.{◌≡◌, ◌⊎◌, ℕ, ◌*◌, ◌<◌, List, [], ◌∷◌, ◌++◌, length, take, get_or, Option, Some, None, option_map, refl, sym, ap, subst, ◌∙◌, inl, inr, arith}
-use Rattle.std.specs.Prelude.{slice_get}
-use Rattle.std.proofs.lemmas.List.{get_or_append_left, get_or_push, length_push, take-append-le, take_at}
-use Rattle.std.proofs.lemmas.Option.{none-some, same_Some, slice_get_within, slice_get-get_or}
+-- One walk over the later lines of a table: what is known of the lines that were passed, and of those that are left.
+use Rattle.std.proofs.Common.{◌≡◌, ◌⊎◌, ℕ, zero, suc, ◌+◌, ◌<◌, List, [], ◌∷◌, ◌++◌, length, take, map, All, Option, Some, None, option_map, refl, sym, ap, subst, ◌∙◌, inl, inr, arith, length-append, append_assoc}
+use Rattle.std.specs.Prelude.{true, slice_get}
+use Rattle.std.specs.List.{cons_option}
+use Rattle.std.proofs.lemmas.Bool.{cases_eq}
+use Rattle.std.proofs.lemmas.List.{length-take}
+use Rattle.std.proofs.lemmas.List.Elements.{All-nil, All-cons, All-contains}
+use Rattle.std.proofs.lemmas.Option.{none-some, same_Some, slice_get_within}
+use Rattle.ct_codes.specs.declared.claim.Claim.{Claim}
 use Rattle.ct_codes.specs.Entry.{IsEntry}
-use Rattle.ct_rules.specs.Derivation.{LineValue}
-use Rattle.ct_rules.proofs.Places.{slice_get_last}
-use Rattle.ct_closure.specs.Kept.{KeptValue}
-use Rattle.ct_closure.specs.Number.{side_size}
+use Rattle.ct_rule_parts.specs.declared.support.Support.{Support}
+use Rattle.ct_rule_parts.specs.Slot.{Slot, slot_of, claim_at, IsBetter}
+use Rattle.ct_rules.specs.Derivation.{LineValue, claims_at, Follows}
+use Rattle.ct_rules.specs.Rule.{place_of, value_of}
+use Rattle.ct_rules.proofs.Places.{slice_get-append_right, slice_get_last}
+use Rattle.ct_removal.specs.Removal.{Places, names_one, RestsOnPlaces, voided}
+use Rattle.ct_removal.proofs.VoidedSupports.{premises_of-voided, value_of-voided}
+use Rattle.ct_closure.specs.Kept.{KeptValue, IsKept, reason_of, with_line}
+use Rattle.ct_closure.specs.Number.{bound_of}
 use Rattle.ct_closure.proofs.GetLemmas.{IsOldOrNew, slice_get-append_some, slice_get_push_cases}
-use Rattle.ct_table.specs.Inside.Walk.{moved_line, with_moved}
-use Rattle.ct_table.proofs.MarkLemmas.{moved_line-some, IsMark, IsMark-some, get_or-push_cases, marked-within}
-use Rattle.ct_table.proofs.PartlyKept.{IsPartlyKept, IsPartlyKept-with_line}
+use Rattle.ct_closure.proofs.KeptLemmas.{IsReasonLine, reason_line, line_entry, IsKept-with_line}
+use Rattle.ct_table.specs.Inside.Walk.{moved_place, and_places, moved_places, moved_line, with_moved, walk}
+use Rattle.ct_table.proofs.MovedPlaces.{moved-within, moved-push_cases, moved-push_old, moved-push_new, moved-push_none, HasUnmoved, moved_line-none, IsMoved, moved_line-some}
 
--- a line that was passed, and moved to a place
-pub record IsOrigin (lines : List LineValue) (moved : List (Option ℕ)) (m i : ℕ) (l : LineValue) : Type 0 where
-  pub line : slice_get lines i ≡ Some l
-  pub mark : get_or moved i None ≡ Some m
+-- an element at each place of a list
+pub item_there : {X : Type 0} (xs : List X) (i : ℕ) → i < length xs → (x : X) × (slice_get xs i ≡ Some x)
+item_there [] i within = absurd (omega arith)
+item_there (x ∷ xs) zero within = (x, refl)
+item_there (x ∷ xs) (suc i) within = item_there xs i (omega arith)
 
-abbrev pub HasOrigin : List LineValue → List (Option ℕ) → ℕ → Type 0
-HasOrigin lines moved m = (i : ℕ) × (l : LineValue) × IsOrigin lines moved m i l
+-- a place of the first items
+pub slice_get-front : {X : Type 0} (xs : List X) (n i : ℕ) → i < n → slice_get (take n xs) i ≡ slice_get xs i
+slice_get-front xs zero i below = absurd (omega arith)
+slice_get-front [] (suc n) i below = refl
+slice_get-front (x ∷ xs) (suc n) zero below = refl
+slice_get-front (x ∷ xs) (suc n) (suc i) below = slice_get-front xs n i (omega arith)
+
+-- at a place stands a line with the claim and the rule of a line
+pub record IsThere (lines : List LineValue) (m : ℕ) (l : LineValue) : Type 0 where
+  pub line : LineValue
+  pub there : slice_get lines m ≡ Some line
+  pub claim : line.claim ≡ l.claim
+  pub rule : line.rule ≡ l.rule
+
+-- a line is one that has moved to its place
+pub record CameFrom (old : KeptValue) (moved : List (Option ℕ)) (m : ℕ) (k : LineValue) : Type 0 where
+  pub place : ℕ
+  pub line : LineValue
+  pub there : slice_get old.lines place ≡ Some line
+  pub mark : moved_place old.base moved place ≡ Some m
+  pub claim : k.claim ≡ line.claim
 
 -- the lines that were passed, where each moved, and what is left
-pub record IsWalked (place : ℕ) (lines : List LineValue) (moved : List (Option ℕ)) (rest : KeptValue) : Type 0 where
-  pub count : length moved ≡ length lines
-  -- each line is marked by where it moved
-  pub marked : (i : ℕ) (l : LineValue) → slice_get lines i ≡ Some l
-      → IsMark rest.lines (moved_line place (take i moved) l) (get_or moved i None)
+pub record IsWalked (gone : Places) (supports : List Support) (old : KeptValue) (moved : List (Option ℕ)) (rest : KeptValue) : Type 0 where
+  pub kept : IsKept (voided gone supports) rest
+  -- each line that moved is there
+  pub went : (p m : ℕ) (l : LineValue) → slice_get old.lines p ≡ Some l → moved_place old.base moved p ≡ Some m → IsThere rest.lines m l
   -- there are no other lines
-  pub origin : (m : ℕ) (k : LineValue) → slice_get rest.lines m ≡ Some k → HasOrigin lines moved m
+  pub came : (m : ℕ) (k : LineValue) → slice_get rest.lines m ≡ Some k → CameFrom old moved m k
   -- they kept their order
-  pub rising : (i j m n : ℕ) → i < j → get_or moved i None ≡ Some m → get_or moved j None ≡ Some n → m < n
-  pub kept : IsPartlyKept rest
+  pub rising : (p q m n : ℕ) → p < q → moved_place old.base moved p ≡ Some m → moved_place old.base moved q ≡ Some n → m < n
+  -- those that stayed behind rest on the set
+  pub rests : (p : ℕ) → p < old.base + length moved → moved_place old.base moved p ≡ None → RestsOnPlaces old.lines gone p
 
--- nothing was passed
-pub IsWalked-none : (place : ℕ) (bounds reasons : List ℕ) → length bounds ≡ 2 * side_size
-    → length reasons ≡ 2 * side_size → IsWalked place [] [] (record { bounds = bounds; reasons = reasons; lines = [] })
-IsWalked-none place bounds reasons bound_count reason_count = record {
-  count = refl;
-  marked = λ i l found. absurd (none-some l found);
-  origin = λ m k found. absurd (none-some k found);
-  rising = λ i j m n before first second. absurd (none-some m first);
-  kept = record {
-    bound_count = bound_count;
-    reason_count = reason_count;
-    reasons = λ m k found. absurd (none-some k found);
-  };
-}
+-- the lines at places before i, as they moved, have the same claims
+record AreCarried (lines rest : List LineValue) (i : ℕ) (from to : List ℕ) : Type 0 where
+  earlier : All (λ q. q < length rest) to
+  claims : claims_at rest to ≡ claims_at (take i lines) from
 
--- the lines with one more, if there is one
-lines-with_moved : (rest : KeptValue) (o : Option LineValue) (m : ℕ) (k : LineValue) → slice_get rest.lines m ≡ Some k
-    → slice_get (with_moved rest o).lines m ≡ Some k
-lines-with_moved rest None m k found = found
-lines-with_moved rest (Some l) m k found = slice_get-append_some rest.lines (l ∷ []) m k found
-
-lines-moved_cases : (rest : KeptValue) (o : Option LineValue) (m : ℕ) (k : LineValue)
-    → slice_get (with_moved rest o).lines m ≡ Some k
-    → (slice_get rest.lines m ≡ Some k) ⊎ ((m ≡ length rest.lines) × (o ≡ Some k))
-lines-moved_cases rest None m k found = inl found
-lines-moved_cases rest (Some l) m k found = elim (slice_get_push_cases rest.lines l m k found) [
-  | inl old ↦ inl old.1
-  | inr new ↦ inr (new.0, ap Some new.1)
-]
-
-IsMark-grows : (rest : KeptValue) (o p : Option LineValue) (m : Option ℕ) → IsMark rest.lines p m
-    → IsMark (with_moved rest o).lines p m
-IsMark-grows rest o None None mark = tt
-IsMark-grows rest o None (Some m) mark = absurd mark
-IsMark-grows rest o (Some k) None mark = absurd mark
-IsMark-grows rest o (Some k) (Some m) mark = lines-with_moved rest o m k mark
-
-IsMark-new : (rest : KeptValue) (o : Option LineValue)
-    → IsMark (with_moved rest o).lines o (option_map (λ k. length rest.lines) o)
-IsMark-new rest None = tt
-IsMark-new rest (Some l) = slice_get_last rest.lines l
-
--- one more line is passed
-pub IsWalked-more : (place : ℕ) (lines : List LineValue) (moved : List (Option ℕ)) (rest : KeptValue) (l : LineValue)
-    → IsWalked place lines moved rest
-    → IsWalked place (lines ++ l ∷ []) (moved ++ option_map (λ k. length rest.lines) (moved_line place moved l) ∷ [])
-    (with_moved rest (moved_line place moved l))
-IsWalked-more place lines moved rest l walked = record {
-  count = (let count = walked.count in omega (arith, length_push lines l, length_push moved mark));
-  marked = λ i k found. marked i k (slice_get_push_cases lines l i k found);
-  origin = λ m k found. origin m k (lines-moved_cases rest o m k found);
-  rising = λ i j m n before first second.
-      rising i j m n before (get_or-push_cases moved mark i m first) (get_or-push_cases moved mark j n second);
-  kept = kept o refl;
-}
-  where
-    o : Option LineValue
-    o = moved_line place moved l
-
-    mark : Option ℕ
-    mark = option_map (λ k. length rest.lines) o
-
-    new : KeptValue
-    new = with_moved rest o
-
-    more : List (Option ℕ)
-    more = moved ++ mark ∷ []
-
-    marked : (i : ℕ) (k : LineValue) → IsOldOrNew lines l i k
-        → IsMark new.lines (moved_line place (take i more) k) (get_or more i None)
-    marked i k (inl (within, found)) =
-        let count = walked.count in
-        let front : take i more ≡ take i moved = take-append-le i moved (mark ∷ []) (omega arith) in
-        let same : get_or more i None ≡ get_or moved i None =
-        get_or_append_left moved (mark ∷ []) None i (omega arith) in
-        subst (λ (marks : List (Option ℕ)). IsMark new.lines (moved_line place marks k) (get_or more i None))
-        (sym front)
-        (subst (IsMark new.lines (moved_line place (take i moved) k)) (sym same)
-        (IsMark-grows rest o (moved_line place (take i moved) k) (get_or moved i None) (walked.marked i k found)))
-    marked i k (inr (at, is)) =
-        let count : length moved ≡ i = walked.count ∙ sym at in
-        let front : take i more ≡ moved = take_at moved (mark ∷ []) i count in
-        let same : get_or more i None ≡ mark = get_or_push moved mark None i count in
-        subst (λ (h : LineValue). IsMark new.lines (moved_line place (take i more) h) (get_or more i None)) is
-        (subst (λ (marks : List (Option ℕ)). IsMark new.lines (moved_line place marks l) (get_or more i None))
-        (sym front)
-        (subst (IsMark new.lines o) (sym same) (IsMark-new rest o)))
-
-    origin : (m : ℕ) (k : LineValue) → ((slice_get rest.lines m ≡ Some k) ⊎ ((m ≡ length rest.lines) × (o ≡ Some k)))
-        → HasOrigin (lines ++ l ∷ []) more m
-    origin m k (inl found) =
-        let old = walked.origin m k found in (
-          old.0,
-          old.1,
-          record {
-            line = slice_get-append_some lines (l ∷ []) old.0 old.1 old.2.line;
-            mark =
-                get_or_append_left moved (mark ∷ []) None old.0 (marked-within moved old.0 m old.2.mark) ∙ old.2.mark;
-          },
-        )
-    origin m k (inr (at, is)) = (
-      length lines,
-      l,
+module _ (gone : Places) (supports : List Support) (old : KeptValue) (good : IsKept supports old) (moved : List (Option ℕ))
+    (rest : KeptValue) (walked : IsWalked gone supports old moved rest) (i : ℕ) (end : i ≡ old.base + length moved)
+    (l : LineValue) (found : slice_get old.lines i ≡ Some l) where
+  -- one more place of those of a line
+  one_carried : (p q : ℕ) (from to : List ℕ) → moved_place old.base moved p ≡ Some q
+      → AreCarried old.lines rest.lines i from to → AreCarried old.lines rest.lines i (p ∷ from) (q ∷ to)
+  one_carried p q from to at others =
+      let below = moved-within old.base moved p q at in
+      let inside = slice_get_within old.lines i l found in
+      let h = item_there old.lines p (omega (arith, below, inside, end)) in
+      let stands = walked.went p q h.0 h.1 at in
+      let there : option_map (λ (g : LineValue). g.claim) (slice_get rest.lines q) ≡ Some h.0.claim =
+      ap (option_map (λ (g : LineValue). g.claim)) stands.there ∙ ap Some stands.claim in
+      let here : option_map (λ (g : LineValue). g.claim) (slice_get (take i old.lines) p) ≡ Some h.0.claim =
+      ap (option_map (λ (g : LineValue). g.claim)) (slice_get-front old.lines i p (omega (arith, below, end)) ∙ h.1) in
       record {
-        line = slice_get_last lines l;
-        mark =
-            get_or_push moved mark None (length lines) walked.count
-            ∙ ap (option_map (λ k. length rest.lines)) is ∙ ap Some (sym at);
-      },
-    )
+        earlier =
+            All-cons (λ r. r < length rest.lines) q to (slice_get_within rest.lines q stands.line stands.there)
+            others.earlier;
+        claims =
+            ap (λ (o : Option Claim). cons_option o (claims_at rest.lines to)) (there ∙ sym here)
+            ∙ ap (cons_option (option_map (λ (g : LineValue). g.claim) (slice_get (take i old.lines) p))) others.claims;
+      }
 
-    inside : (i m : ℕ) → get_or moved i None ≡ Some m → m < length rest.lines
-    inside i m h =
-        let within = marked-within moved i m h in
-        let count = walked.count in
-        let k = get_or lines i l in
-        let found = slice_get-get_or lines i l (omega arith) in
-        let there = IsMark-some rest.lines (moved_line place (take i moved) k) (get_or moved i None) m
-        (walked.marked i k found) h in
-        slice_get_within rest.lines m there.0 there.2
+  carried : (from to : List ℕ) → moved_places old.base moved from ≡ Some to → AreCarried old.lines rest.lines i from to
+  carried [] to h =
+      subst (AreCarried old.lines rest.lines i []) (same_Some [] to h)
+      (record { earlier = All-nil (λ q. q < length rest.lines); claims = refl })
+  carried (p ∷ from) to h =
+      go (moved_place old.base moved p) (moved_places old.base moved from) refl h
+      (λ (qs : List ℕ) e. carried from qs e)
+    where
+      go : (o : Option ℕ) (ps : Option (List ℕ)) → moved_place old.base moved p ≡ o → and_places o ps ≡ Some to
+          → ((qs : List ℕ) → ps ≡ Some qs → AreCarried old.lines rest.lines i from qs)
+          → AreCarried old.lines rest.lines i (p ∷ from) to
+      go None ps first is others = absurd (none-some to is)
+      go (Some q) None first is others = absurd (none-some to is)
+      go (Some q) (Some qs) first is others =
+          subst (AreCarried old.lines rest.lines i (p ∷ from)) (same_Some (q ∷ qs) to is)
+          (one_carried p q from qs first (others qs refl))
 
-    put : (m : ℕ) → mark ≡ Some m → m ≡ length rest.lines
-    put m h = go o h
-      where
-        go : (p : Option LineValue) → option_map (λ k. length rest.lines) p ≡ Some m → m ≡ length rest.lines
-        go None is = absurd (none-some m is)
-        go (Some k) is = sym (same_Some (length rest.lines) m is)
+  -- the line as it moves follows from those that are left
+  follows-moved : (k : LineValue) → IsMoved old.base gone moved l k → Follows (voided gone supports) rest.lines k
+  follows-moved k is =
+      let follows = good.derivation i l found in
+      let e = l.claim.entry in
+      let lines = carried l.from k.from is.from in
+      subst (Follows (voided gone supports) rest.lines) (sym is.is) (record {
+        earlier = lines.earlier;
+        side = follows.side;
+        premises =
+            premises_of-voided gone supports l.rule e is.apart ∙ follows.premises
+            ∙ ap (λ (claims : List Claim). Some (map slot_of claims)) (sym lines.claims);
+        value =
+            ap (λ (claims : List Claim). value_of (voided gone supports) l.rule e (map (λ c. c.value) claims)) lines.claims
+            ∙ value_of-voided gone supports l.rule e (map (λ c. c.value) (claims_at (take i old.lines) l.from)) is.apart
+            ∙ follows.value;
+      })
 
-    IsMarked : ℕ → ℕ → Type 0
-    IsMarked i m = (get_or moved i None ≡ Some m) ⊎ ((i ≡ length moved) × (mark ≡ Some m))
+  -- it bounds a slot of the table
+  entry-moved : IsEntry l.claim.entry
+  entry-moved = line_entry supports old i l good found
 
-    rising : (i j m n : ℕ) → i < j → IsMarked i m → IsMarked j n → m < n
-    rising i j m n before (inl first) (inl second) = walked.rising i j m n before first second
-    rising i j m n before (inl first) (inr (at, is)) = let end = put n is in let below = inside i m first in omega arith
-    rising i j m n before (inr (at, is)) (inl second) =
-        let below = marked-within moved j n second in
-        absurd (omega arith)
-    rising i j m n before (inr (at, is)) (inr (at_too, is_too)) = absurd (omega arith)
+  -- and gives a better bound than stands there: the line that gives that one came before it
+  better-moved : IsBetter l.claim.side l.claim.value (bound_of rest.bounds (slot_of l.claim))
+  better-moved = go (reason_line (voided gone supports) rest s walked.kept entry-moved)
+    where
+      s : Slot
+      s = slot_of l.claim
 
-    kept : (p : Option LineValue) → o ≡ p → IsPartlyKept (with_moved rest p)
-    kept None is = walked.kept
-    kept (Some k) is =
-        let line = moved_line-some place moved l k is in
-        let entry : IsEntry k.claim.entry = subst (λ (h : LineValue). IsEntry h.claim.entry) (sym line.is) line.entry in
-        IsPartlyKept-with_line rest k walked.kept entry
+      go : ((b : LineValue) × IsReasonLine rest s b) → IsBetter l.claim.side l.claim.value (bound_of rest.bounds s)
+      go (b, is) =
+          let from = walked.came (reason_of rest s) b is.there in
+          let below = moved-within old.base moved from.place (reason_of rest s) from.mark in
+          let claim : from.line.claim ≡ claim_at s (bound_of rest.bounds s) = sym from.claim ∙ is.claim in
+          let better =
+          good.rise from.place i from.line l (omega (arith, below, end)) from.there found (ap slot_of claim) in
+          subst (λ (c : Claim). IsBetter c.side l.claim.value c.value) claim better
+
+  -- one more line moves
+  one_moved : (k : LineValue) → moved_line old.base gone moved l ≡ Some k
+      → IsWalked gone supports old (moved ++ Some (length rest.lines) ∷ []) (with_line rest k)
+  one_moved k moves = record {
+    kept =
+        IsKept-with_line (voided gone supports) rest k walked.kept entry (follows-moved k is) better;
+    went = λ p m h there at. went p m h there (moved-push_cases old.base moved mark p m at);
+    came = λ m h there. came m h (slice_get_push_cases rest.lines k m h there);
+    rising = λ p q m n below first second.
+        rising p q m n below (moved-push_cases old.base moved mark p m first)
+        (moved-push_cases old.base moved mark q n second);
+    rests = λ p within none.
+        elim (cases_eq p i) [
+          | inl same ↦
+              absurd (none-some (length rest.lines)
+              (sym none ∙ moved-push_new old.base moved mark p (same ∙ end)))
+          | inr other ↦
+              walked.rests p
+              (let more = length-append moved (mark ∷ []) in omega (arith, within, more, other, end))
+              (moved-push_none old.base moved mark p none)
+        ];
+  }
+    where
+      mark : Option ℕ
+      mark = Some (length rest.lines)
+
+      is : IsMoved old.base gone moved l k
+      is = moved_line-some old.base gone moved l k moves
+
+      claim : k.claim ≡ l.claim
+      claim = ap (λ (h : LineValue). h.claim) is.is
+
+      entry : IsEntry k.claim.entry
+      entry = subst (λ (c : Claim). IsEntry c.entry) (sym claim) entry-moved
+
+      better : IsBetter k.claim.side k.claim.value (bound_of rest.bounds (slot_of k.claim))
+      better =
+          subst (λ (c : Claim). IsBetter c.side c.value (bound_of rest.bounds (slot_of c))) (sym claim) better-moved
+
+      went : (p m : ℕ) (h : LineValue) → slice_get old.lines p ≡ Some h
+          → ((moved_place old.base moved p ≡ Some m) ⊎ ((p ≡ old.base + length moved) × (mark ≡ Some m)))
+          → IsThere (rest.lines ++ k ∷ []) m h
+      went p m h there (inl before) =
+          let stands = walked.went p m h there before in
+          record {
+            line = stands.line;
+            there = slice_get-append_some rest.lines (k ∷ []) m stands.line stands.there;
+            claim = stands.claim;
+            rule = stands.rule;
+          }
+      went p m h there (inr (at, new)) =
+          let one : h ≡ l = same_Some h l (sym there ∙ ap (slice_get old.lines) (at ∙ sym end) ∙ found) in
+          subst (IsThere (rest.lines ++ k ∷ []) m) (sym one) (record {
+            line = k;
+            there =
+                ap (slice_get (rest.lines ++ k ∷ [])) (sym (same_Some (length rest.lines) m new))
+                ∙ slice_get_last rest.lines k;
+            claim = claim;
+            rule = ap (λ (g : LineValue). g.rule) is.is;
+          })
+
+      came : (m : ℕ) (h : LineValue) → IsOldOrNew rest.lines k m h
+          → CameFrom old (moved ++ mark ∷ []) m h
+      came m h (inl before) =
+          let from = walked.came m h before.1 in
+          record {
+            place = from.place;
+            line = from.line;
+            there = from.there;
+            mark = moved-push_old old.base moved mark from.place m from.mark;
+            claim = from.claim;
+          }
+      came m h (inr (at, new)) = record {
+        place = i;
+        line = l;
+        there = found;
+        mark = moved-push_new old.base moved mark i end ∙ ap Some (sym at);
+        claim = ap (λ (g : LineValue). g.claim) (sym new) ∙ claim;
+      }
+
+      inside : (p m : ℕ) → moved_place old.base moved p ≡ Some m → m < length rest.lines
+      inside p m at =
+          let below = moved-within old.base moved p m at in
+          let within = slice_get_within old.lines i l found in
+          let h = item_there old.lines p (omega (arith, below, within, end)) in
+          let stands = walked.went p m h.0 h.1 at in
+          slice_get_within rest.lines m stands.line stands.there
+
+      rising : (p q m n : ℕ) → p < q
+          → ((moved_place old.base moved p ≡ Some m) ⊎ ((p ≡ old.base + length moved) × (mark ≡ Some m)))
+          → ((moved_place old.base moved q ≡ Some n) ⊎ ((q ≡ old.base + length moved) × (mark ≡ Some n))) → m < n
+      rising p q m n below (inl first) (inl second) = walked.rising p q m n below first second
+      rising p q m n below (inl first) (inr (at, new)) =
+          let least = inside p m first in
+          let last = same_Some (length rest.lines) n new in
+          omega (arith, least, last)
+      rising p q m n below (inr (at, new)) (inl second) =
+          let least = moved-within old.base moved q n second in
+          absurd (omega (arith, least, at, below))
+      rising p q m n below (inr (at, new)) (inr (too, again)) = absurd (omega (arith, at, too, below))
+
+  -- or it stays behind, and rests on the set
+  behind : moved_line old.base gone moved l ≡ None → RestsOnPlaces old.lines gone i
+  behind none = go (moved_line-none old.base gone moved l none)
+    where
+      go : (names_one gone (place_of l.rule) ≡ true) ⊎ HasUnmoved old.base moved l.from → RestsOnPlaces old.lines gone i
+      go (inl names) = ([], (l, found, names))
+      go (inr (p, among, unmoved)) =
+          let before =
+          All-contains (λ q. q < length (take i old.lines)) l.from p (good.derivation i l found).earlier among in
+          let count = length-take i old.lines in
+          let chain = walked.rests p (omega (arith, before, count, end)) unmoved in
+          (p ∷ chain.0, ((l, found, among), chain.1))
+
+  one_behind : moved_line old.base gone moved l ≡ None → IsWalked gone supports old (moved ++ None ∷ []) rest
+  one_behind none = record {
+    kept = walked.kept;
+    went = λ p m h there at. walked.went p m h there (before p m at);
+    came = λ m h there.
+        let from = walked.came m h there in
+        record {
+          place = from.place;
+          line = from.line;
+          there = from.there;
+          mark = moved-push_old old.base moved None from.place m from.mark;
+          claim = from.claim;
+        };
+    rising = λ p q m n below first second. walked.rising p q m n below (before p m first) (before q n second);
+    rests = λ p within unmoved.
+        elim (cases_eq p i) [
+          | inl same ↦ subst (RestsOnPlaces old.lines gone) (sym same) (behind none)
+          | inr other ↦
+              walked.rests p
+              (let more = length-append moved (None ∷ []) in omega (arith, within, more, other, end))
+              (moved-push_none old.base moved None p unmoved)
+        ];
+  }
+    where
+      before : (p m : ℕ) → moved_place old.base (moved ++ None ∷ []) p ≡ Some m → moved_place old.base moved p ≡ Some m
+      before p m at = elim (moved-push_cases old.base moved None p m at) [
+        | inl old_one ↦ old_one
+        | inr new ↦ absurd (none-some m new.1)
+      ]
+
+  -- one more line is passed
+  pub IsWalked-more : IsWalked gone supports old
+      (moved ++ option_map (λ k. length rest.lines) (moved_line old.base gone moved l) ∷ [])
+      (with_moved rest (moved_line old.base gone moved l))
+  IsWalked-more = go (moved_line old.base gone moved l) refl
+    where
+      go : (o : Option LineValue) → moved_line old.base gone moved l ≡ o
+          → IsWalked gone supports old (moved ++ option_map (λ (k : LineValue). length rest.lines) o ∷ []) (with_moved rest o)
+      go None is = one_behind is
+      go (Some k) is = one_moved k is
+
+-- the walk over all lines that are left
+pub IsWalked-all : (gone : Places) (supports : List Support) (old : KeptValue) → IsKept supports old
+    → (later passed : List LineValue) (moved : List (Option ℕ)) (rest : KeptValue) → IsWalked gone supports old moved rest
+    → old.lines ≡ passed ++ later → length passed ≡ old.base + length moved
+    → (marks : List (Option ℕ)) × (length old.lines ≡ old.base + length marks)
+    × IsWalked gone supports old marks (walk old.base gone moved rest later)
+IsWalked-all gone supports old good [] passed moved rest walked all count =
+    (moved, (let more = ap length all in let whole = length-append passed [] in omega (arith, more, whole, count)), walked)
+IsWalked-all gone supports old good (l ∷ later) passed moved rest walked all count =
+    let at : slice_get old.lines (length passed) ≡ Some l =
+    (let past : length passed ≡ length passed + 0 = omega arith in
+    ap (slice_get old.lines) past ∙ ap (λ (ls : List LineValue). slice_get ls (length passed + 0)) all
+    ∙ slice_get-append_right passed (l ∷ later) 0) in
+    let mark = option_map (λ (k : LineValue). length rest.lines) (moved_line old.base gone moved l) in
+    IsWalked-all gone supports old good later (passed ++ l ∷ []) (moved ++ mark ∷ [])
+    (with_moved rest (moved_line old.base gone moved l))
+    (IsWalked-more gone supports old good moved rest walked (length passed) count l at)
+    (all ∙ sym (append_assoc passed (l ∷ []) later))
+    (let one = length-append passed (l ∷ []) in
+    let more = length-append moved (mark ∷ []) in
+    omega (arith, one, more, count))

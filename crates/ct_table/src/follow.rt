@@ -1,41 +1,82 @@
-//! What a new support improves.
+//! What a new support changes: nothing where it betters nothing, else what rests on its entry is closed again.
 
-ghost use Rattle.std.specs.Prelude.{◌≡◌, ◌+◌, ◌<◌, ◌^◌, OnOk, OnErr, length};
+ghost use Rattle.std.specs.Prelude.{◌≡◌, ◌+◌, ◌<◌, ◌≤◌, ◌^◌, ◌++◌, ◌∷◌, [], ℕ, List, Some, false, OnOk, OnErr, length};
+ghost use Rattle.ct_codes.specs.declared.claim.Side.TheVariants.{Lower};
+ghost use Rattle.ct_codes.specs.Entry.{IsEntry};
+ghost use Rattle.ct_rule_parts.specs.declared.support.Support.{Support};
+ghost use Rattle.ct_rule_parts.specs.Support.{AllStand};
 ghost use Rattle.ct_rules.specs.Closed.{IsClosed};
-ghost use Rattle.ct_rules.specs.Support.{AllStand};
-ghost use Rattle.ct_closure.specs.Satisfied.{AreSatisfiedBut};
-ghost use Rattle.ct_closure.specs.Instance.{AreInstances};
-ghost use Rattle.ct_closure.specs.Kept.{IsKept, Grew};
+ghost use Rattle.ct_closure.specs.Closing.{CanClose, IsClosing, HasMoreLines};
+ghost use Rattle.ct_closure.specs.Kept.{IsKept};
 ghost use Rattle.ct_closure.specs.Number.{bound_of};
+ghost use Rattle.ct_closure.specs.Places.{ArePlaces};
+ghost use Rattle.ct_closure.specs.Worklist.{IsIdle};
+ghost use Rattle.ct_closure.specs.Inside.Pulling.{IsWithin};
+ghost use Rattle.ct_closure.specs.Inside.Pulled.{given_rule};
+ghost use Rattle.ct_table.specs.Inside.Starting.{CanFollow};
 
-use ct_closure::{Instances, Kept, close_support};
+use crate::start::mark_given;
+use ct_closure::{Closing, Kept, SupportPlaces, close, entry_of, given_rule, offer};
+use ct_codes::{Entry, Side};
 use ct_rules::Support;
 use std::alloc::{AllocError, Global};
 
-/// Follows what the support at the place improves. After an `Err`, which is want of memory, what is kept is as before.
+/// Whether the support at a place betters the lower bound of an entry of the table.
+fn betters(supports: &[Support], kept: &Kept, entry: Entry, place: u32) -> bool
+    requires { IsEntry entry }
+    ensures { result ≡ false → IsWithin supports.now (bound_of kept.now.bounds) (Lower, entry) (bound_of kept.now.bounds (Lower, entry)) (given_rule entry place) }
+{
+    match offer(supports, kept, given_rule(entry, place), entry) {
+        Some(value) => value > kept.bound(Side::Lower, entry),
+        None => false,
+    }
+}
+
+/// Closes over the supports, of which the one at the place is new. After an `Err`, which is want of memory, lines may have been
+/// put at the end.
+fn close_again(
+    alloc: Global,
+    supports: &[Support],
+    places: &SupportPlaces,
+    closing: &mut Closing,
+    place: u32,
+) -> Result<(), AllocError>
+    requires new { CanFollow supports.now place closing.now }
+    requires places { ArePlaces supports.now places.now }
+    ensures closed { OnOk result (IsClosing supports.now closing.old closing.new) }
+    ensures lines { HasMoreLines closing.old.kept closing.new.kept }
+{
+    mark_given(&mut closing.work, &supports[place as usize])?;
+    close(alloc, supports, places, closing)
+}
+
+/// Closes over the supports, of which the one at the place, the last, is new, where it betters anything. After an `Err`, which is
+/// want of memory, what is kept is as before.
 pub(crate) fn follow(
     alloc: Global,
-    instances: &Instances,
     supports: &[Support],
-    kept: &mut Kept,
-    place: usize,
-    evaluations: &mut u64,
+    places: &SupportPlaces,
+    closing: &mut Closing,
+    place: u32,
 ) -> Result<(), AllocError>
-    requires instances { AreInstances instances.now }
-    requires few { length supports.now < 2 ^ 32 }
-    requires stand { AllStand supports.now }
-    requires kept { IsKept supports.now kept.now }
-    requires place { place < length supports.now }
-    requires others { AreSatisfiedBut (length instances.now.fixed + place) instances.now.fixed supports.now (bound_of kept.now.bounds) }
-    ensures kept { OnOk result (IsKept supports.now kept.new) }
-    ensures grew { OnOk result (Grew kept.old kept.new) }
-    ensures closed { OnOk result (IsClosed supports.now (bound_of kept.new.bounds)) }
-    ensures unchanged { OnErr result (kept.new ≡ kept.old) }
+    requires new { CanFollow supports.now place closing.now }
+    requires places { ArePlaces supports.now places.now }
+    ensures closed { OnOk result (IsClosing supports.now closing.old closing.new) }
+    ensures unchanged { OnErr result (closing.new.kept ≡ closing.old.kept) }
+    ensures idle { OnErr result (IsIdle closing.new.work) }
 {
-    let saved = kept.save(alloc)?;
-    let done = close_support(alloc, instances, supports, kept, place, evaluations);
+    let Some(entry) = entry_of(&supports[place as usize]) else {
+        return Ok(());
+    };
+    closing.evaluations = closing.evaluations.saturating_add(1);
+    if !betters(supports, &closing.kept, entry, place) {
+        return Ok(());
+    }
+    let saved = closing.kept.save(alloc)?;
+    let done = close_again(alloc, supports, places, closing, place);
     if done.is_err() {
-        kept.restore(saved);
+        closing.work.clear();
+        closing.kept.restore(saved);
     }
     done
 }

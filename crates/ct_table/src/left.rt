@@ -1,77 +1,50 @@
-//! What is left of the lines once a support is taken out.
+//! What is left of the lines once a support is taken out: one walk over the lines that followed those of the base.
 
-ghost use Rattle.std.specs.Prelude.{◌≡◌, ◌<◌, ℕ, List, IfOk, OnOk, OnErr, length, remove, option_map};
-ghost use Rattle.ct_rules.specs.declared.support.Support.{Support};
-ghost use Rattle.ct_rules.specs.Closed.{IsClosed};
-ghost use Rattle.ct_rules.specs.Support.{AllStand};
-ghost use Rattle.ct_closure.specs.declared.instance.Instance.{Instance};
-ghost use Rattle.ct_closure.specs.Satisfied.{AreSatisfiedWhereSame};
-ghost use Rattle.ct_closure.specs.Kept.{IsKept};
+ghost use Rattle.std.specs.Prelude.{◌≡◌, ◌+◌, ◌<◌, ◌≤◌, ◌++◌, ◌∷◌, [], ℕ, List, Some, None, All, IfOk, OnOk, OnErr, option_map, length, slice_index_or};
+ghost use Rattle.ct_codes.specs.Entry.{IsEntry};
+ghost use Rattle.ct_rule_parts.specs.declared.support.Support.{Support};
+ghost use Rattle.ct_removal.specs.Removal.{only, names_one, voided};
+ghost use Rattle.ct_rules.specs.Derivation.{LineValue};
+ghost use Rattle.ct_rules.specs.Rule.{place_of};
+ghost use Rattle.ct_closure.specs.Closing.{HasMoreLines};
+ghost use Rattle.ct_closure.specs.Kept.{KeptValue, BaseValue, set_back};
+ghost use Rattle.ct_closure.specs.Places.{ArePlaces};
+ghost use Rattle.ct_closure.specs.Worklist.{IsMarked, IsIdle};
 ghost use Rattle.ct_closure.specs.Number.{bound_of};
-ghost use Rattle.ct_table.specs.Removal.{names_place, lowered_place, lowered, KeepsReasons};
-ghost use Rattle.ct_table.specs.Inside.Walk.{moved_places, may_move, moved_line, with_moved};
+ghost use Rattle.ct_rule_parts.specs.Slot.{Slot, slot_of, IsBetter};
+ghost use Rattle.ct_table.specs.Table.{IsTable};
+ghost use Rattle.ct_table.specs.Inside.Walk.{moved_place, moved_places, moved_line, with_moved, walk};
+ghost use Rattle.ct_table.specs.Inside.Removing.{IsSetBack, IsMarkedIfLost, IsTakenOut};
 
-use ct_closure::Kept;
-use ct_rules::{Line, Rule, Support};
+use ct_closure::{Base, Closing, Kept, SupportPlaces, Worklist, close, is_better};
+use ct_codes::Claim;
+use ct_rules::{Line, Support, place_of};
+use smallvec::SmallVec;
 use std::alloc::{AllocError, Global};
 
-/// The supports but the one at the place, in their order. `Err` is want of memory.
-pub(crate) fn supports_left(
-    alloc: Global,
-    supports: &[Support],
-    place: usize,
-) -> Result<Vec<Support>, AllocError>
-    requires { place < length supports.now }
-    ensures { IfOk result (λ rest. rest.items ≡ remove supports.now place) }
+/// Where the line at a place has moved, none where it stayed behind: the lines of the base stay at their places, and `moved`
+/// tells it of the others.
+fn moved_place(base: usize, moved: &[Option<usize>], place: usize) -> Option<usize>
+    ensures { result ≡ moved_place base moved.now place }
 {
-    let mut rest = Vec::from_slice(alloc, &supports[..place])?;
-    rest.extend_from_slice(&supports[place + 1..])?;
-    Ok(rest)
-}
-
-/// Whether the rule names the support at the place.
-fn names_place(rule: Rule, place: usize) -> bool
-    ensures { result ≡ names_place place rule }
-{
-    match rule {
-        Rule::L10(other) | Rule::M10(other) => other as usize == place,
-        _ => false,
+    if place < base {
+        return Some(place);
     }
+    moved.get(place - base).copied().flatten()
 }
 
-/// The place of a support once the one at a place is taken out.
-fn lowered_place(other: u32, place: usize) -> u32
-    ensures { result ≡ lowered_place place other }
-{
-    if other as usize > place {
-        other - 1
-    } else {
-        other
-    }
-}
-
-/// The rule, where later supports have moved down by one.
-fn lowered(rule: Rule, place: usize) -> Rule
-    ensures { result ≡ lowered place rule }
-{
-    match rule {
-        Rule::L10(other) => Rule::L10(lowered_place(other, place)),
-        Rule::M10(other) => Rule::M10(lowered_place(other, place)),
-        other => other,
-    }
-}
-
-/// The places to which lines have moved, where each of them has. `Err` is want of memory.
+/// The places to which lines have moved, none where one of them stayed behind. `Err` is want of memory.
 fn moved_places(
     alloc: Global,
+    base: usize,
     moved: &[Option<usize>],
     from: &[usize],
-) -> Result<Option<Vec<usize>>, AllocError>
-    ensures { IfOk result (λ places. option_map (λ v. v.items) places ≡ moved_places moved.now from.now) }
+) -> Result<Option<SmallVec<usize, 2>>, AllocError>
+    ensures { IfOk result (λ places. option_map (λ p. p.items) places ≡ moved_places base moved.now from.now) }
 {
-    let mut places = Vec::new(alloc);
+    let mut places = SmallVec::new(alloc);
     for place in from {
-        let Some(there) = moved.get(*place).copied().flatten() else {
+        let Some(there) = moved_place(base, moved, *place) else {
             return Ok(None);
         };
         places.push(there)?;
@@ -79,58 +52,122 @@ fn moved_places(
     Ok(Some(places))
 }
 
-/// Whether a line is about an entry of the table, and does not name the support at the place.
-fn may_move(line: &Line, place: usize) -> bool
-    ensures { result ≡ may_move place line.now }
-{
-    line.claim.entry.in_table() && !names_place(line.rule, place)
-}
-
-/// Puts a line to those that are left, unless it names the support at the place or a line that has not moved: the place
-/// where it is now. After an `Err`, which is want of memory, all is as before.
+/// Puts a line again with the places to which the lines that it names have moved, and gives its own; `None` where it stays
+/// behind, because its rule names the support at the place, or because it names a line that stayed behind. After an `Err`,
+/// which is want of memory, what is kept is as before.
 fn move_line(
     alloc: Global,
-    rest: &mut Kept,
+    kept: &mut Kept,
+    base: usize,
     moved: &[Option<usize>],
     line: &Line,
-    place: usize,
+    place: u32,
 ) -> Result<Option<usize>, AllocError>
-    ensures rest { OnOk result (rest.new ≡ with_moved rest.old (moved_line place moved.now line.now)) }
-    ensures there { IfOk result (λ there. there
-        ≡ option_map (λ _. length rest.old.lines) (moved_line place moved.now line.now)) }
-    ensures unchanged { OnErr result (rest.new ≡ rest.old) }
+    requires { IsEntry line.now.claim.entry }
+    ensures kept { OnOk result (kept.new ≡ with_moved kept.old (moved_line base (only place) moved.now line.now)) }
+    ensures there { IfOk result (λ there. there ≡ option_map (λ _. length kept.old.lines) (moved_line base (only place) moved.now line.now)) }
+    ensures unchanged { OnErr result (kept.new ≡ kept.old) }
 {
-    if !may_move(line, place) {
+    if place_of(line.rule) == Some(place) {
         return Ok(None);
     }
-    let Some(from) = moved_places(alloc, moved, &line.from)? else {
+    let Some(from) = moved_places(alloc, base, moved, line.from.as_slice())? else {
         return Ok(None);
     };
-    let there = rest.lines().len();
-    rest.put(Line {
+    let there = kept.line_count();
+    kept.put(Line {
         claim: line.claim,
-        rule: lowered(line.rule, place),
+        rule: line.rule,
         from,
     })?;
     Ok(Some(there))
 }
 
-/// The lines that do not rest on the support at the place, each with its places and its rule's place lowered; the last line
-/// of each slot is its reason. `Err` is want of memory.
-pub(crate) fn lines_left(alloc: Global, kept: &Kept, place: usize) -> Result<Kept, AllocError>
-    ensures kept { IfOk result (λ rest. (supports : List Support) → place < length supports → IsKept supports kept.now
-        → IsKept (remove supports place) rest) }
-    ensures reasons { IfOk result (λ rest. (supports : List Support) → place < length supports → IsKept supports kept.now
-        → KeepsReasons place kept.now rest) }
-    ensures satisfied { IfOk result (λ rest. (supports : List Support) (fixed : List Instance) → place < length supports → AllStand supports
-        → IsKept supports kept.now → IsClosed supports (bound_of kept.now.bounds)
-        → AreSatisfiedWhereSame fixed (remove supports place) (bound_of kept.now.bounds) (bound_of rest.bounds)) }
+/// Puts the later lines again after those of the base, but those that rest on the support at the place. After an `Err`, which is
+/// want of memory, some may have been put.
+fn keep_lines(alloc: Global, kept: &mut Kept, later: &[Line], place: u32) -> Result<(), AllocError>
+    requires { All (λ l. IsEntry l.claim.entry) later.now }
+    ensures walked { OnOk result (kept.new ≡ walk (length kept.old.lines) (only place) [] kept.old later.now) }
+    ensures lines { HasMoreLines kept.old kept.new }
 {
-    let mut rest = Kept::empty(alloc)?;
+    let base = kept.line_count();
     let mut moved = Vec::new(alloc);
-    for line in kept.lines() {
-        let there = move_line(alloc, &mut rest, &moved, line, place)?;
+    for line in later {
+        let there = move_line(alloc, kept, base, &moved, line, place)?;
         moved.push(there)?;
     }
-    Ok(rest)
+    Ok(())
+}
+
+/// Marks the slot of a line that is better than what stands there now. After an `Err`, which is want of memory, nothing changes.
+fn mark_if_lost(kept: &Kept, work: &mut Worklist, line: &Line) -> Result<(), AllocError>
+    requires { IsEntry line.now.claim.entry }
+    ensures lost { OnOk result (IsMarkedIfLost kept.now.bounds work.new line.now) }
+    ensures kept { (t : Slot) → IsMarked work.old t → IsMarked work.new t }
+{
+    let Claim { side, entry, value } = line.claim;
+    if is_better(side, value, kept.bound(side, entry)) {
+        work.mark(side, entry)?;
+    }
+    Ok(())
+}
+
+/// Marks each slot that had a better line than what stands there now. After an `Err`, which is want of memory, some may be
+/// marked.
+fn mark_lost(kept: &Kept, work: &mut Worklist, later: &[Line]) -> Result<(), AllocError>
+    requires { All (λ l. IsEntry l.claim.entry) later.now }
+    ensures { OnOk result (All (IsMarkedIfLost kept.now.bounds work.new) later.now) }
+{
+    for line in later {
+        mark_if_lost(kept, work, line)?;
+    }
+    Ok(())
+}
+
+/// Puts the lines again that do not rest on the support at the place, and closes the table over the others. After an `Err`, which
+/// is want of memory, lines may have been put after those of the base.
+fn settle(
+    alloc: Global,
+    supports: &[Support],
+    places: &SupportPlaces,
+    closing: &mut Closing,
+    later: &[Line],
+    place: u32,
+) -> Result<(), AllocError>
+    requires back { (full : List Support) × (old : KeptValue) × (base : BaseValue) × IsSetBack full old base closing.now later.now × (supports.now ≡ voided (only place) full) }
+    requires places { ArePlaces supports.now places.now }
+    ensures taken { OnOk result ((full : List Support) (old : KeptValue) (base : BaseValue) → IsSetBack full old base closing.old later.now →
+        supports.now ≡ voided (only place) full → IsTakenOut (only place) full old closing.new) }
+    ensures lines { HasMoreLines closing.old.kept closing.new.kept }
+{
+    keep_lines(alloc, &mut closing.kept, later, place)?;
+    mark_lost(&closing.kept, &mut closing.work, later)?;
+    close(alloc, supports, places, closing)
+}
+
+/// Takes out the support at a place, in which there is nothing any more. After an `Err`, which is want of memory, what is kept is
+/// as before.
+pub(crate) fn take_out(
+    alloc: Global,
+    supports: &[Support],
+    places: &SupportPlaces,
+    base: &Base,
+    closing: &mut Closing,
+    place: u32,
+) -> Result<(), AllocError>
+    requires table { (full : List Support) × IsTable full closing.now.kept base.now closing.now.work × (supports.now ≡ voided (only place) full) }
+    requires places { ArePlaces supports.now places.now }
+    ensures taken { OnOk result ((full : List Support) → IsTable full closing.old.kept base.now closing.old.work →
+        supports.now ≡ voided (only place) full → IsTakenOut (only place) full closing.old.kept closing.new) }
+    ensures lines { OnOk result (HasMoreLines (set_back base.now closing.old.kept) closing.new.kept) }
+    ensures unchanged { OnErr result (closing.new.kept ≡ closing.old.kept) }
+    ensures idle { OnErr result (IsIdle closing.new.work) }
+{
+    let undo = closing.kept.set_back(base, alloc)?;
+    let done = settle(alloc, supports, places, closing, undo.later(), place);
+    if done.is_err() {
+        closing.work.clear();
+        closing.kept.put_back(undo);
+    }
+    done
 }

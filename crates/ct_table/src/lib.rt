@@ -3,11 +3,9 @@
 
 mod follow;
 mod left;
+mod start;
 mod table;
 
 pub use ct_codes::{Claim, Side};
 pub use ct_rules::{Line, Rule, Support};
 pub use table::Table;
-
-#[cfg(test)]
-mod tests;

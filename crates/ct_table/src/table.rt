@@ -1,44 +1,45 @@
 //! The table of bounds.
 
-ghost use Rattle.std.specs.Prelude.{◌≡◌, ◌+◌, ◌<◌, ◌^◌, ◌∷◌, ◌++◌, [], ℕ, Some, IfOk, OnOk, OnErr, length, remove, slice_get, option_map};
+ghost use Rattle.std.specs.Prelude.{◌≡◌, ◌+◌, ◌<◌, ◌^◌, ◌∷◌, ◌++◌, [], ℕ, List, Some, IfOk, OnOk, OnErr, length, remove, slice_get, option_map};
 ghost use Rattle.ct_codes.specs.Claim.{IsTrueClaim};
 ghost use Rattle.ct_codes.specs.Entry.{IsEntry};
 ghost use Rattle.ct_codes.specs.declared.claim.Side.{Side};
+ghost use Rattle.ct_rule_parts.specs.Slot.{claim_at};
+ghost use Rattle.ct_rule_parts.specs.Support.{Stands, AllStand};
 ghost use Rattle.ct_rules.specs.Derivation.{IsDerivation, IsBest};
-ghost use Rattle.ct_rules.specs.Slot.{claim_at};
-ghost use Rattle.ct_rules.specs.Support.{Stands, AllStand};
-ghost use Rattle.ct_closure.specs.Kept.{Grew, reason_of};
+ghost use Rattle.ct_removal.specs.Removal.{only};
 ghost use Rattle.ct_table.specs.Removal.{KeepsReasons};
-ghost use Rattle.ct_table.specs.Table.{IsTable};
+ghost use Rattle.ct_table.specs.Table.{Grew, IsShownTable, reason_at};
 
 use crate::follow::follow;
-use crate::left::{lines_left, supports_left};
-use ct_closure::{Instances, Kept, close_all, close_changed, support_improves};
+use crate::left::take_out;
+use crate::start::{begin, close_over};
+use ct_closure::{Base, Closing, SupportPlaces};
 use ct_codes::{Entry, Side};
 use ct_rules::{Line, Support};
 use std::alloc::{AllocError, Global};
 use std::marker::Model;
+use std::mem;
 
 /// For each entry of the table the best bounds that derivations from its supports give, and a derivation of each. Contracts see
-/// the supports, the lines, and for each side of each entry, by its number, its bound and the number of the line that is its
-/// reason.
+/// the supports, the lines, and for each side of each entry its bound and the number of the line that is its reason.
 #[derive(Debug, Drop)]
 pub struct Table {
     supports: Vec<Support>,
-    kept: Kept,
-    instances: Instances,
-    evaluations: u64,
+    places: SupportPlaces,
+    base: Base,
+    closing: Closing,
 }
 
 impl Model for Table {
-    ghost use Rattle.ct_closure.specs.Instance.{AreInstances};
-    ghost use Rattle.ct_table.specs.Table.{TableValue, IsTable};
+    ghost use Rattle.ct_closure.specs.Places.{ArePlaces};
+    ghost use Rattle.ct_table.specs.Table.{TableValue, IsTable, table_of};
 
     ghost Value = { TableValue };
 
-    ghost view = { λ t. record { supports = t.supports.items; kept = t.kept } };
+    ghost view = { λ t. table_of t.supports.items t.closing.kept };
 
-    ghost invariant = { λ t. IsTable (record { supports = t.supports.items; kept = t.kept }) × AreInstances t.instances };
+    ghost invariant = { λ t. IsTable t.supports.items t.closing.kept t.base t.closing.work × ArePlaces t.supports.items t.places };
 }
 
 impl Table {
@@ -55,15 +56,15 @@ impl Table {
         requires few { length supports.items < 2 ^ 32 }
         ensures supports { IfOk result (λ table. table.supports ≡ supports.items) }
     {
-        let instances = Instances::new(alloc)?;
-        let mut kept = Kept::start(alloc)?;
-        let mut evaluations = 0;
-        close_all(alloc, &instances, &supports, &mut kept, &mut evaluations)?;
+        let mut closing = begin(alloc)?;
+        let base = closing.kept.begin(alloc)?;
+        let mut places = SupportPlaces::none(alloc)?;
+        close_over(alloc, &supports, &mut places, &mut closing)?;
         Ok(Table {
             supports,
-            kept,
-            instances,
-            evaluations,
+            places,
+            base,
+            closing,
         })
     }
 
@@ -73,31 +74,27 @@ impl Table {
         requires stands { Stands support }
         requires few { length self.now.supports + 1 < 2 ^ 32 }
         ensures supports { OnOk result (self.new.supports ≡ self.old.supports ++ support ∷ []) }
-        ensures grew { OnOk result (Grew self.old.kept self.new.kept) }
+        ensures grew { OnOk result (Grew self.old self.new) }
         ensures unchanged { OnErr result (self.new ≡ self.old) }
     {
         let alloc = *self.supports.allocator();
         let place = self.supports.len();
-        self.supports.push(support)?;
-        self.evaluations = self.evaluations.saturating_add(1);
-        if !support_improves(&self.instances, &self.supports, &self.kept, place) {
-            return Ok(());
-        }
+        self.supports.reserve(1)?;
+        self.places.add(&support)?;
+        self.supports.push_reserved(support);
         let done = follow(
             alloc,
-            &self.instances,
             &self.supports,
-            &mut self.kept,
-            place,
-            &mut self.evaluations,
+            &self.places,
+            &mut self.closing,
+            place as u32,
         );
-        match done {
-            Ok(()) => Ok(()),
-            Err(error) => {
-                self.supports.truncate(place);
-                Err(error)
-            }
+        if let Err(error) = done {
+            self.supports.truncate(place);
+            self.places.rebuild(&self.supports);
+            return Err(error);
         }
+        Ok(())
     }
 
     /// Takes out the support at the place; the later ones move down by one. Where a reason did not rest on it, neither by its rule
@@ -106,29 +103,33 @@ impl Table {
     pub fn remove(&mut self, place: usize) -> Result<(), AllocError>
         requires { place < length self.now.supports }
         ensures supports { OnOk result (self.new.supports ≡ remove self.old.supports place) }
-        ensures reasons { OnOk result (KeepsReasons place self.old.kept self.new.kept) }
+        ensures reasons { OnOk result (KeepsReasons (only place) self.old self.new) }
         ensures unchanged { OnErr result (self.new ≡ self.old) }
     {
         let alloc = *self.supports.allocator();
-        let supports = supports_left(alloc, &self.supports, place)?;
-        let mut kept = lines_left(alloc, &self.kept, place)?;
-        close_changed(
+        let taken = mem::replace(&mut self.supports[place], Support::Nothing);
+        let done = take_out(
             alloc,
-            &self.instances,
-            &supports,
-            &self.kept,
-            &mut kept,
-            &mut self.evaluations,
-        )?;
-        self.supports = supports;
-        self.kept = kept;
+            &self.supports,
+            &self.places,
+            &self.base,
+            &mut self.closing,
+            place as u32,
+        );
+        if let Err(error) = done {
+            self.supports[place] = taken;
+            return Err(error);
+        }
+        self.closing.kept.lower(place as u32);
+        self.supports.remove(place);
+        self.places.rebuild(&self.supports);
         Ok(())
     }
 
     /// The supports, in the order in which they were added.
     pub fn supports(&self) -> &[Support]
         ensures supports { result.now ≡ self.now.supports }
-        ensures table { IsTable self.now }
+        ensures table { IsShownTable self.now }
     {
         &self.supports
     }
@@ -139,7 +140,7 @@ impl Table {
         ensures best { IsBest self.now.supports (Side.Lower, entry) result }
         ensures holds { IsTrueClaim (claim_at (Side.Lower, entry) result) }
     {
-        self.kept.bound(Side::Lower, entry)
+        self.closing.kept.bound(Side::Lower, entry)
     }
 
     /// The best upper bound of an entry of the table.
@@ -148,38 +149,38 @@ impl Table {
         ensures best { IsBest self.now.supports (Side.Upper, entry) result }
         ensures holds { IsTrueClaim (claim_at (Side.Upper, entry) result) }
     {
-        self.kept.bound(Side::Upper, entry)
+        self.closing.kept.bound(Side::Upper, entry)
     }
 
     /// The number of the line that gives the best bound of a side of an entry of the table.
     pub fn reason(&self, side: Side, entry: Entry) -> usize
         requires { IsEntry entry }
-        ensures reason { result ≡ reason_of self.now.kept (side, entry) }
-        ensures number { result < length self.now.kept.lines }
-        ensures claim { (v : ℕ) → IsBest self.now.supports (side, entry) v
-            → option_map (λ l. l.claim) (slice_get self.now.kept.lines result) ≡ Some (claim_at (side, entry) v) }
+        ensures reason { result ≡ reason_at self.now (side, entry) }
+        ensures number { result < length self.now.lines }
+        ensures claim { (v : ℕ) × IsBest self.now.supports (side, entry) v
+            × (option_map (λ l. l.claim) (slice_get self.now.lines result) ≡ Some (claim_at (side, entry) v)) }
     {
-        self.kept.reason(side, entry)
+        self.closing.kept.reason(side, entry)
     }
 
     /// The line of a number below `line_count`.
     pub fn line(&self, number: usize) -> &Line
-        requires { number < length self.now.kept.lines }
-        ensures line { slice_get self.now.kept.lines number ≡ Some result.now }
-        ensures derivation { IsDerivation self.now.supports self.now.kept.lines }
+        requires { number < length self.now.lines }
+        ensures line { slice_get self.now.lines number ≡ Some result.now }
+        ensures derivation { IsDerivation self.now.supports self.now.lines }
     {
-        &self.kept.lines()[number]
+        self.closing.kept.line(number)
     }
 
     /// How many lines the table keeps.
     pub fn line_count(&self) -> usize
-        ensures { result ≡ length self.now.kept.lines }
+        ensures { result ≡ length self.now.lines }
     {
-        self.kept.lines().len()
+        self.closing.kept.line_count()
     }
 
     /// How often this table has tried a rule at an entry since it was made; it stays at its last value.
     pub fn evaluations(&self) -> u64 {
-        self.evaluations
+        self.closing.evaluations
     }
 }

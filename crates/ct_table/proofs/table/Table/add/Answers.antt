@@ -1,55 +1,61 @@
-use Rattle.std.proofs.Common.{◌≡◌, ◌∙◌, ◌+◌, ◌<◌, ◌^◌, ◌++◌, ◌∷◌, [], length, refl, rules, sym, subst}
+use Rattle.std.proofs.Common.{◌≡◌, ◌+◌, ◌<◌, ◌^◌, ◌++◌, ◌∷◌, [], List, length, take, map, rules, refl, sym, ap, subst, ◌∙◌}
+use Rattle.std.proofs.lemmas.List.{take_at}
+use Rattle.ct_rule_parts.specs.declared.support.Support.{Support}
+use Rattle.ct_closure.specs.Closing.{IsClosing}
+use Rattle.ct_closure.specs.Places.{ArePlaces, entry_of}
+use Rattle.ct_table.specs.Inside.Starting.{CanFollow}
 use Rattle.ct_table.specs.Table.{TableValue}
-use Rattle.ct_table.proofs.MoreLemmas.{AllStand-more, IsTable-more, kept_more, satisfied_more}
+use Rattle.ct_table.proofs.CallLemmas.{CanFollow-more, IsTable-closed, IsTable-again}
+use Rattle.ct_table.proofs.PlacedSupports.{ArePlaces-push, ArePlaces-is}
 use Rattle.ct_table.proofs.table.Table.add.Goals as goal
 
-pub support_improves-requires-clause-stand : goal.support_improves-requires-clause-stand
-support_improves-requires-clause-stand c =
-    AllStand-more c.self.inside.supports.items c.deref.result.now c.args.support c.self.invariant.0.stand c.requires.stands
-    (c.deref.ensures.value ∙ c.in_ok-push.ensures.items)
-
-pub support_improves-requires-clause-kept : goal.support_improves-requires-clause-kept
-support_improves-requires-clause-kept c =
-    kept_more c.self.inside.supports.items c.deref.result.now c.args.support c.self.inside.kept c.self.invariant.0
-    (c.deref.ensures.value ∙ c.in_ok-push.ensures.items)
-
-pub support_improves-requires-clause-others : goal.support_improves-requires-clause-others
-support_improves-requires-clause-others c =
+pub follow-done-requires-clause-new : goal.follow-done-requires-clause-new
+follow-done-requires-clause-new c =
+    let t = c.self.inside in
     let at : c.len-place.result ≡ length c.self.inside.supports.items = search rules in
-    satisfied_more c.self.inside.instances c.self.inside.supports.items c.deref.result.now c.args.support c.self.inside.kept c.len-place.result
-    c.self.invariant.0 c.self.invariant.1 at (c.deref.ensures.value ∙ c.in_ok-push.ensures.items)
+    CanFollow-more t.supports.items c.deref.result.now c.args.support c.len-place.result t.closing t.base c.self.invariant.0
+    c.requires.stands (subst (λ (v : TableValue). length v.supports + 1 < 2 ^ 32) (sym c.self.view_is) c.requires.few)
+    (c.deref.ensures.value ∙ c.push_reserved.ensures.items
+    ∙ ap (λ (s : List Support). s ++ c.args.support ∷ []) c.in_ok-reserve.ensures.items) at
 
-pub invariant_of-self-then-not-support_improves : goal.invariant_of-self-then-not-support_improves
-invariant_of-self-then-not-support_improves c =
-    let longer : c.push.new.self.items ≡ c.self.inside.supports.items ++ c.args.support ∷ [] = c.in_ok-push.ensures.items in
-    let few = subst (λ (t : TableValue). length t.supports + 1 < 2 ^ 32) (sym c.self.view_is) c.requires.few in (
-      IsTable-more c.self.inside.supports.items c.push.new.self.items c.args.support c.self.inside.kept c.self.inside.kept c.self.invariant.0
-          c.requires.stands few longer (kept_more c.self.inside.supports.items c.push.new.self.items c.args.support c.self.inside.kept c.self.invariant.0 longer)
-          (rw c.deref.ensures.value at (c.if-not-support_improves.ensures.closed refl)),
-      c.self.invariant.1,
+pub follow-done-requires-clause-places : goal.follow-done-requires-clause-places
+follow-done-requires-clause-places c =
+    let t = c.self.inside in
+    subst (λ (s : List Support). ArePlaces s c.add.new.self)
+    (sym (c.deref.ensures.value ∙ c.push_reserved.ensures.items
+    ∙ ap (λ (s : List Support). s ++ c.args.support ∷ []) c.in_ok-reserve.ensures.items))
+    (subst (ArePlaces (t.supports.items ++ c.args.support ∷ [])) (sym c.in_ok-add.ensures.added)
+    (ArePlaces-push t.supports.items t.places c.args.support c.self.invariant.1))
+
+pub invariant_of-self-in_default : goal.invariant_of-self-in_default
+invariant_of-self-in_default c =
+    let t = c.self.inside in
+    let longer : c.push_reserved.new.self.items ≡ c.self.inside.supports.items ++ c.args.support ∷ [] =
+    c.push_reserved.ensures.items ∙ ap (λ (s : List Support). s ++ c.args.support ∷ []) c.in_ok-reserve.ensures.items in
+    let at : c.len-place.result ≡ length c.self.inside.supports.items = search rules in
+    let can : CanFollow c.push_reserved.new.self.items c.len-place.result c.self.inside.closing =
+    CanFollow-more c.self.inside.supports.items c.push_reserved.new.self.items c.args.support c.len-place.result
+    c.self.inside.closing c.self.inside.base c.self.invariant.0 c.requires.stands
+    (subst (λ (v : TableValue). length v.supports + 1 < 2 ^ 32) (sym c.self.view_is) c.requires.few) longer at in (
+      IsTable-closed t.supports.items c.push_reserved.new.self.items t.closing.kept t.base t.closing c.follow-done.new.closing can.stand
+          can.few c.self.invariant.0.kept c.self.invariant.0.base refl
+          (subst (λ (s : List Support). IsClosing s c.self.inside.closing c.follow-done.new.closing) c.deref.ensures.value c.in_default.ensures.closed),
+      subst (λ (s : List Support). ArePlaces s c.add.new.self) (sym longer)
+          (subst (ArePlaces (t.supports.items ++ c.args.support ∷ [])) (sym c.in_ok-add.ensures.added)
+          (ArePlaces-push t.supports.items t.places c.args.support c.self.invariant.1)),
     )
 
-pub follow-done-requires-clause-stand : goal.follow-done-requires-clause-stand
-follow-done-requires-clause-stand c =
-    AllStand-more c.self.inside.supports.items c.deref-2.result.now c.args.support c.self.invariant.0.stand c.requires.stands
-    (c.deref-2.ensures.value ∙ c.in_ok-push.ensures.items)
-
-pub follow-done-requires-clause-kept : goal.follow-done-requires-clause-kept
-follow-done-requires-clause-kept c =
-    kept_more c.self.inside.supports.items c.deref-2.result.now c.args.support c.self.inside.kept c.self.invariant.0
-    (c.deref-2.ensures.value ∙ c.in_ok-push.ensures.items)
-
-pub follow-done-requires-clause-others : goal.follow-done-requires-clause-others
-follow-done-requires-clause-others c =
+pub invariant_of-self-in-Err : goal.invariant_of-self-in-Err
+invariant_of-self-in-Err c =
+    let t = c.self.inside in
     let at : c.len-place.result ≡ length c.self.inside.supports.items = search rules in
-    satisfied_more c.self.inside.instances c.self.inside.supports.items c.deref-2.result.now c.args.support c.self.inside.kept c.len-place.result
-    c.self.invariant.0 c.self.invariant.1 at (c.deref-2.ensures.value ∙ c.in_ok-push.ensures.items)
-
-pub invariant_of-self-in-Ok : goal.invariant_of-self-in-Ok
-invariant_of-self-in-Ok c =
-    let longer : c.push.new.self.items ≡ c.self.inside.supports.items ++ c.args.support ∷ [] = c.in_ok-push.ensures.items in
-    let few = subst (λ (t : TableValue). length t.supports + 1 < 2 ^ 32) (sym c.self.view_is) c.requires.few in (
-      IsTable-more c.self.inside.supports.items c.push.new.self.items c.args.support c.self.inside.kept c.follow-done.new.kept c.self.invariant.0
-          c.requires.stands few longer (rw c.deref-2.ensures.value at c.in-Ok.ensures.kept) (rw c.deref-2.ensures.value at c.in-Ok.ensures.closed),
-      c.self.invariant.1,
+    let longer : c.push_reserved.new.self.items ≡ c.self.inside.supports.items ++ c.args.support ∷ [] =
+    c.push_reserved.ensures.items ∙ ap (λ (s : List Support). s ++ c.args.support ∷ []) c.in_ok-reserve.ensures.items in
+    let back : c.truncate.new.self.items ≡ c.self.inside.supports.items =
+    c.truncate.ensures.items ∙ ap (take c.len-place.result) longer
+    ∙ take_at c.self.inside.supports.items (c.args.support ∷ []) c.len-place.result (sym at) in (
+      IsTable-again t.supports.items c.truncate.new.self.items t.closing.kept c.follow-done.new.closing.kept t.base t.closing.work
+          c.follow-done.new.closing.work c.self.invariant.0 back c.in-Err.ensures.unchanged c.in-Err.ensures.idle,
+      ArePlaces-is c.truncate.new.self.items c.rebuild.new.self
+          (c.rebuild.ensures ∙ ap (map entry_of) c.deref-in-Err.ensures.value),
     )

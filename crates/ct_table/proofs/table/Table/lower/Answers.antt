@@ -1,16 +1,21 @@
-use Rattle.std.proofs.Common.{◌≡◌, subst}
+use Rattle.std.proofs.Common.{◌∙◌, ap, subst}
 use Rattle.ct_codes.specs.declared.claim.Side.TheVariants.{Lower}
+use Rattle.ct_rules.specs.Derivation.{IsBest}
+use Rattle.ct_table.specs.declared.table.Table.TheInside.{Inside}
 use Rattle.ct_closure.specs.Number.{bound_of}
-use Rattle.ct_table.specs.Table.{TableValue, IsTable}
-use Rattle.ct_table.proofs.TableLemmas.{read_best, read_true}
+use Rattle.ct_table.specs.Table.{TableValue}
+use Rattle.ct_table.proofs.CallLemmas.{read_best, read_true}
 use Rattle.ct_table.proofs.table.Table.lower.Goals as goal
 
 pub returns-clause-best : goal.returns-clause-best
 returns-clause-best c =
-    read_best c.args.self.now (Lower, c.args.entry) c.bound.result (subst IsTable c.self.view_is c.self.invariant.0) c.requires
-    (subst (λ (t : TableValue). c.bound.result ≡ bound_of t.kept.bounds (Lower, c.args.entry)) c.self.view_is c.bound.ensures)
+    let t = c.self.inside in
+    subst (λ (v : TableValue). IsBest v.supports (Lower, c.args.entry) c.bound.result) c.self.view_is
+    (read_best t.supports.items t.closing.kept t.base t.closing.work (Lower, c.args.entry) c.bound.result c.self.invariant.0 c.requires
+    (c.bound.ensures ∙ ap (λ (k : Inside). bound_of k.closing.kept.bounds (Lower, c.args.entry)) c.self-inside.view_is))
 
 pub returns-clause-holds : goal.returns-clause-holds
 returns-clause-holds c =
-    read_true c.args.self.now (Lower, c.args.entry) c.bound.result (subst IsTable c.self.view_is c.self.invariant.0) c.requires
-    (subst (λ (t : TableValue). c.bound.result ≡ bound_of t.kept.bounds (Lower, c.args.entry)) c.self.view_is c.bound.ensures)
+    let t = c.self.inside in
+    read_true t.supports.items t.closing.kept t.base t.closing.work (Lower, c.args.entry) c.bound.result c.self.invariant.0 c.requires
+    (c.bound.ensures ∙ ap (λ (k : Inside). bound_of k.closing.kept.bounds (Lower, c.args.entry)) c.self-inside.view_is)

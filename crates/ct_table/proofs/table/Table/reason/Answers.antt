@@ -1,10 +1,18 @@
-use Rattle.std.proofs.Common.{◌≡◌, subst}
+use Rattle.std.proofs.Common.{◌≡◌, ◌∙◌, ℕ, Some, ap, subst, option_map, slice_get}
+use Rattle.ct_rule_parts.specs.Slot.{claim_at}
+use Rattle.ct_rules.specs.Derivation.{LineValue, IsBest}
+use Rattle.ct_table.specs.declared.table.Table.TheInside.{Inside}
 use Rattle.ct_closure.specs.Kept.{reason_of}
-use Rattle.ct_table.specs.Table.{TableValue, IsTable}
-use Rattle.ct_table.proofs.TableLemmas.{reason_claims}
+use Rattle.ct_table.specs.Table.{TableValue}
+use Rattle.ct_table.proofs.CallLemmas.{read_reason}
 use Rattle.ct_table.proofs.table.Table.reason.Goals as goal
 
 pub returns-clause-claim : goal.returns-clause-claim
-returns-clause-claim c v =
-    reason_claims c.args.self.now (c.args.side, c.args.entry) c.reason.result v (subst IsTable c.self.view_is c.self.invariant.0) c.requires
-    (subst (λ (t : TableValue). c.reason.result ≡ reason_of t.kept (c.args.side, c.args.entry)) c.self.view_is c.reason.ensures)
+returns-clause-claim c =
+    let t = c.self.inside in
+    subst (λ (v : TableValue). (x : ℕ) × IsBest v.supports (c.args.side, c.args.entry) x
+    × (option_map (λ (l : LineValue). l.claim) (slice_get v.lines c.reason.result) ≡ Some (claim_at (c.args.side, c.args.entry) x)))
+    c.self.view_is
+    (read_reason t.supports.items t.closing.kept t.base t.closing.work (c.args.side, c.args.entry) c.reason.result c.self.invariant.0
+    c.requires
+    (c.reason.ensures ∙ ap (λ (k : Inside). reason_of k.closing.kept (c.args.side, c.args.entry)) c.self-inside.view_is))

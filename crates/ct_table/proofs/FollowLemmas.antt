@@ -1,0 +1,67 @@
+-- A table to which a support is added.
+use Rattle.std.proofs.Common.{◌≡◌, ℕ, List, [], ◌∷◌, length, take, Some, refl, sym, ap, subst, ◌∙◌}
+use Rattle.std.proofs.lemmas.List.{take_at}
+use Rattle.ct_codes.specs.declared.claim.Side.TheVariants.{Lower}
+use Rattle.ct_codes.specs.declared.entry.Entry.{Entry}
+use Rattle.ct_rule_parts.specs.declared.support.Support.{Support}
+use Rattle.ct_rules.specs.Closed.{IsClosed}
+use Rattle.ct_closure.specs.Closing.{ClosingValue, CanClose, IsClosing, HasMoreLines}
+use Rattle.ct_closure.specs.Kept.{KeptValue, IsKept, Grew}
+use Rattle.ct_closure.specs.Number.{bound_of}
+use Rattle.ct_closure.specs.Places.{entry_of}
+use Rattle.ct_closure.specs.Worklist.{IsIdle}
+use Rattle.ct_closure.specs.Inside.Pulling.{IsWithin}
+use Rattle.ct_closure.specs.Inside.Pulled.{given_rule}
+use Rattle.ct_closure.proofs.KeptLemmas.{Grew-refl}
+use Rattle.ct_closure.proofs.LineLemmas.{kept_in}
+use Rattle.ct_closure.specs.Closing.{IsPending}
+use Rattle.ct_table.specs.Inside.Starting.{CanFollow, IsMarkedIfGiven}
+use Rattle.ct_table.proofs.MoreLemmas.{pending_over_more, closed_over_one}
+use Rattle.ct_table.proofs.PlacedSupports.{given_marked}
+use Rattle.std.proofs.lemmas.List.Elements.{All-nil, All-cons}
+
+-- where the slot of the new support is marked it can be closed
+pub CanClose-marked : (supports : List Support) (place : ℕ) (closing marked : ClosingValue) → (can : CanFollow supports place closing)
+    → marked.kept ≡ closing.kept → IsMarkedIfGiven marked.work can.new_one → CanClose supports marked
+CanClose-marked supports place closing marked can same given = record {
+  stand = can.stand;
+  few = can.few;
+  kept = subst (IsKept supports) (sym same) can.kept;
+  pending =
+      subst (λ (k : KeptValue). IsPending supports k.bounds marked.work) (sym same)
+      (subst (λ (these : List Support). IsPending these closing.kept.bounds marked.work) (sym can.are)
+      (pending_over_more can.olds (can.new_one ∷ []) closing.kept.bounds marked.work can.closed
+      (given_marked (can.new_one ∷ []) marked.work
+      (All-cons (IsMarkedIfGiven marked.work) can.new_one [] given (All-nil (IsMarkedIfGiven marked.work))))));
+}
+
+-- where it betters nothing, all is as it was
+pub IsClosing-same : (supports : List Support) (place : ℕ) (closing new : ClosingValue) → (can : CanFollow supports place closing)
+    → new.kept ≡ closing.kept → new.work ≡ closing.work
+    → ((e : Entry) → entry_of can.new_one ≡ Some e
+    → IsWithin supports (bound_of closing.kept.bounds) (Lower, e) (bound_of closing.kept.bounds (Lower, e)) (given_rule e place))
+    → IsClosing supports closing new
+IsClosing-same supports place closing new can kept work within =
+    let closed : IsClosed supports (bound_of closing.kept.bounds) =
+    subst (λ (these : List Support). IsClosed these (bound_of closing.kept.bounds)) (sym can.are)
+    (closed_over_one can.olds can.new_one (bound_of closing.kept.bounds) can.closed
+    (λ e is.
+    subst (λ (these : List Support). IsWithin these (bound_of closing.kept.bounds) (Lower, e)
+    (bound_of closing.kept.bounds (Lower, e)) (given_rule e (length can.olds))) can.are
+    (subst (λ (p : ℕ). IsWithin supports (bound_of closing.kept.bounds) (Lower, e)
+    (bound_of closing.kept.bounds (Lower, e)) (given_rule e p)) can.end (within e is)))) in
+    record {
+      kept = subst (IsKept supports) (sym kept) can.kept;
+      base = ap (λ (k : KeptValue). k.base) kept;
+      grew = subst (Grew closing.kept) (sym kept) (Grew-refl closing.kept);
+      idle = subst IsIdle (sym work) can.idle;
+      closed = subst (λ (k : KeptValue). IsClosed supports (bound_of k.bounds)) (sym kept) closed;
+    }
+
+-- after want of memory what was kept is restored
+pub restored-same : (old now : KeptValue) → HasMoreLines old now
+    → kept_in old.bounds old.reasons (take (length old.lines) now.lines) now.base ≡ old
+restored-same old now more =
+    let lines : take (length old.lines) now.lines ≡ old.lines =
+    ap (take (length old.lines)) more.1.1 ∙ take_at old.lines more.1.0 (length old.lines) refl in
+    λ i. record { bounds = old.bounds; reasons = old.reasons; lines = lines i; base = more.0 i }

@@ -1,0 +1,12 @@
+use Rattle.std.proofs.Common.{◌≡◌, [], drop}
+use Rattle.ct_removal.specs.Removal.{only}
+use Rattle.ct_closure.specs.Closing.{HasMoreLines}
+use Rattle.ct_table.specs.Inside.Walk.{walk}
+use Rattle.ct_table.proofs.left.keep_lines.Given as goal
+
+-- the walk goes on over the lines that are left
+abbrev pub invariant-loop-line : goal.invariant-loop-line
+invariant-loop-line l =
+    (walk l.base (only l.place) [] l.fn.kept l.later
+    ≡ walk l.base (only l.place) l.moved.items l.kept (drop l.line-index l.later))
+    × HasMoreLines l.fn.kept l.kept

@@ -1,0 +1,93 @@
+//! How a table begins: over no supports, where it is the base of every table, and over its first supports.
+
+ghost use Rattle.std.specs.Prelude.{◌≡◌, ◌<◌, ◌^◌, [], List, All, IfOk, OnOk, length, map};
+ghost use Rattle.ct_codes.specs.Entry.{IsEntry};
+ghost use Rattle.ct_rule_parts.specs.Slot.{Slot};
+ghost use Rattle.ct_rule_parts.specs.Support.{AllStand};
+ghost use Rattle.ct_rules.specs.Closed.{IsClosed};
+ghost use Rattle.ct_closure.specs.Closing.{IsClosing};
+ghost use Rattle.ct_closure.specs.Kept.{IsKept};
+ghost use Rattle.ct_closure.specs.Number.{bound_of};
+ghost use Rattle.ct_closure.specs.Places.{entry_of, ArePlaces};
+ghost use Rattle.ct_closure.specs.Worklist.{IsMarked};
+ghost use Rattle.ct_table.specs.Inside.Starting.{IsBegun, IsMarkedIfGiven};
+
+use ct_closure::{Closing, Kept, SLOTS, SupportPlaces, Worklist, close, entry_of};
+use ct_codes::Side;
+use ct_rules::Support;
+use std::alloc::{AllocError, Global};
+
+/// What is kept of no supports before anything is closed: every slot is still to be looked at. `Err` is want of memory.
+fn fresh(alloc: Global) -> Result<Closing, AllocError>
+    ensures kept { IfOk result (λ closing. IsKept [] closing.kept) }
+    ensures base { IfOk result (λ closing. closing.kept.base ≡ 0) }
+    ensures marked { IfOk result (λ closing. (s : Slot) → IsEntry s.1 → IsMarked closing.work s) }
+{
+    let kept = Kept::start(alloc)?;
+    let mut work = Worklist::none(alloc)?;
+    work.mark_all()?;
+    Ok(Closing {
+        kept,
+        work,
+        evaluations: SLOTS as u64,
+    })
+}
+
+/// What is kept of no supports, closed under the rules. `Err` is want of memory.
+pub(crate) fn begin(alloc: Global) -> Result<Closing, AllocError>
+    ensures { IfOk result (λ closing. IsBegun closing) }
+{
+    let mut closing = fresh(alloc)?;
+    let places = SupportPlaces::none(alloc)?;
+    close(alloc, &[], &places, &mut closing)?;
+    Ok(closing)
+}
+
+/// Marks the slot to which the support gives something. After an `Err`, which is want of memory, nothing changes.
+pub(crate) fn mark_given(work: &mut Worklist, support: &Support) -> Result<(), AllocError>
+    ensures given { OnOk result (IsMarkedIfGiven work.new support.now) }
+    ensures kept { (t : Slot) → IsMarked work.old t → IsMarked work.new t }
+{
+    let Some(entry) = entry_of(support) else {
+        return Ok(());
+    };
+    work.mark(Side::Lower, entry)
+}
+
+/// Puts each support into the places, which are none so far, and marks the slot to which it gives something. `Err` is want of
+/// memory.
+fn place_supports(
+    places: &mut SupportPlaces,
+    work: &mut Worklist,
+    supports: &[Support],
+) -> Result<(), AllocError>
+    requires few { length supports.now < 2 ^ 32 }
+    requires none { places.old ≡ [] }
+    ensures places { OnOk result (places.new ≡ map entry_of supports.now) }
+    ensures marked { OnOk result (All (IsMarkedIfGiven work.new) supports.now) }
+{
+    for support in supports {
+        places.add(support)?;
+        mark_given(work, support)?;
+    }
+    Ok(())
+}
+
+/// Closes what was closed over no supports over these. `Err` is want of memory.
+pub(crate) fn close_over(
+    alloc: Global,
+    supports: &[Support],
+    places: &mut SupportPlaces,
+    closing: &mut Closing,
+) -> Result<(), AllocError>
+    requires stand { AllStand supports.now }
+    requires few { length supports.now < 2 ^ 32 }
+    requires none { places.old ≡ [] }
+    requires kept { IsKept [] closing.old.kept }
+    requires closed { IsClosed [] (bound_of closing.old.kept.bounds) }
+    ensures places { OnOk result (ArePlaces supports.now places.new) }
+    ensures closed { OnOk result (IsClosing supports.now closing.old closing.new) }
+{
+    place_supports(places, &mut closing.work, supports)?;
+    close(alloc, supports, places, closing)
+}
