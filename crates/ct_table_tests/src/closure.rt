@@ -1,171 +1,105 @@
-//! Numbers of slots, the instances of an entry, and closed tables, by hand.
+//! Numbers of slots, and closed tables, by hand.
 
-ghost use Rattle.std.specs.Prelude.{[], IfOk};
-ghost use Rattle.ct_rules.specs.Closed.{IsClosed};
-ghost use Rattle.ct_rules.specs.Support.{Stands};
-ghost use Rattle.ct_closure.specs.Instance.{AreInstances};
+ghost use Rattle.std.specs.Prelude.{◌<◌, ◌^◌, List, IfOk, length};
 ghost use Rattle.ct_closure.specs.Kept.{IsKept};
-ghost use Rattle.ct_closure.specs.Number.{bound_of};
+ghost use Rattle.ct_closure.specs.Places.{ArePlaces};
+ghost use Rattle.ct_closure.specs.Worklist.{IsMarked};
+ghost use Rattle.ct_codes.specs.Entry.{IsEntry};
+ghost use Rattle.ct_rule_parts.specs.declared.support.Support.{Support};
+ghost use Rattle.ct_rule_parts.specs.Slot.{Slot};
+ghost use Rattle.ct_rule_parts.specs.Support.{AllStand};
 
-use crate::known::GOLAY;
-use ct_closure::{
-    Instances, Kept, SLOTS, close_all, close_changed, close_support, slot_at, slot_number,
-    support_improves,
-};
-use ct_codes::{Entry, Side, check_cosets};
+use crate::known::{CODES, NUMBERS, entry_at, support_of};
+use ct_closure::{Closing, ENTRIES, Kept, SLOTS, SupportPlaces, Worklist, close, slot_number};
+use ct_codes::{Entry, Side};
 use ct_rules::Support;
-use ct_words::MAX_BOUND;
 use std::alloc::{AllocError, Global};
-use std::process::Abort;
 use std::test::Fail;
 
-// The first and the last entries of the table, by hand: a row of 30 weights for each of 26 distances at each of 28 lengths.
+// The first and the last entries of the table, by hand: at each length n the 26 distances without weight come first, and then
+// n + 1 weights for each of 13 even distances. 5967 entries are shorter than 28: 27 times 26, and 13 times the 405 pairs of a
+// length from 1 to 27 and a weight.
 #[test]
 fn numbers_of_slots(rt: HostRuntime) {
     for (n, d, w, want) in [
         (1, 3, None, 0),
-        (1, 4, None, 30),
-        (1, 4, Some(0), 31),
-        (2, 3, None, 780),
-        (28, 28, None, 21810),
-        (28, 28, Some(28), 21839),
+        (1, 4, None, 1),
+        (1, 28, None, 25),
+        (1, 4, Some(0), 26),
+        (1, 4, Some(1), 27),
+        (1, 6, Some(0), 28),
+        (1, 28, Some(1), 51),
+        (2, 3, None, 52),
+        (2, 4, Some(0), 78),
+        (28, 3, None, 5967),
+        (28, 28, None, 5992),
+        (28, 4, Some(0), 5993),
+        (28, 28, Some(28), 6369),
     ] {
         let entry = Entry { n, d, w };
         assert!(rt; entry.in_table());
-        assert!(rt; slot_number(Side::Lower, entry) == want);
-        assert!(rt; slot_number(Side::Upper, entry) == want + 21840);
-        assert!(rt; slot_at(want) == Some((Side::Lower, entry)));
+        assert!(rt; slot_number(Side::Lower, entry) == want, "{entry:?}");
+        assert!(rt; slot_number(Side::Upper, entry) == want + 6370, "{entry:?}");
     }
 }
 
-// There is no distance 3 with a weight, and no weight above the length.
-#[test]
-fn numbers_of_no_slot(rt: HostRuntime) {
-    for number in [1, 33, 21781, 21873] {
-        assert!(rt; slot_at(number).is_none(), "{number}");
-    }
-}
-
-// 28 lengths and 26 distances without weight; 13 even distances and 434 pairs of a length and a weight.
+// 28 lengths and 26 distances without weight; 13 even distances and 434 pairs of a length and a weight. No two slots have one
+// number, so that each number below `SLOTS` is one of a slot.
 #[test]
 fn count_of_slots(rt: HostRuntime) {
-    let mut count: u32 = 0;
-    for number in 0..SLOTS {
-        if slot_at(number).is_some() {
+    let mut count: usize = 0;
+    for number in 0..NUMBERS {
+        if entry_at(number).in_table() {
             count = count.saturating_add(1);
         }
     }
-    assert!(rt; count == 2 * 6370);
+    assert!(rt; count == 6370);
+    assert!(rt; ENTRIES == count && SLOTS == 2 * 6370);
 }
 
-/// How many instances that name no support are at the entry.
-fn count_at(instances: &Instances, entry: Entry) -> u32 {
-    let mut count: u32 = 0;
-    for number in 0..instances.len() {
-        if let Some(instance) = instances.at(&[], number) {
-            if instance.entry == entry {
-                count = count.saturating_add(1);
-            }
-        }
+/// The places of the supports.
+fn places_of(alloc: Global, supports: &[Support]) -> Result<SupportPlaces, AllocError>
+    requires { length supports.now < 2 ^ 32 }
+    ensures { IfOk result (ArePlaces supports.now) }
+{
+    let mut places = SupportPlaces::none(alloc)?;
+    for support in supports {
+        places.add(support)?;
     }
-    count
+    Ok(places)
 }
 
-// At A(1,3) L4, L6, L7, U1, U3, U4 and U8 are defined, beside those that each slot has from the start; at A(4,5) L3, L4, L6 to
-// L8, U1 and U3 to U8; at A(4,8) L3 to L8, U1, U3 and U5 to U8; at A(8,6) L2 to L8, U2, U3 and U5 to U8. Words side by side are
-// more than one at A(4,8) nowhere, and at A(8,6) of the lengths 3 and 5, 4 and 4, 5 and 3.
-#[test]
-fn instances_of_entries(rt: HostRuntime) -> Result<(), Fail> {
-    let alloc = rt.alloc();
-    let instances = Instances::new(alloc)?;
-    for (n, d, w, want) in [
-        (1, 3, None, 7),
-        (4, 5, None, 12),
-        (4, 8, None, 12),
-        (8, 6, None, 16),
-        (4, 8, Some(2), 0),
-    ] {
-        let entry = Entry { n, d, w };
-        assert!(rt; count_at(&instances, entry) == want);
-    }
-    Ok(())
-}
-
-// On A(5,4) from below rest A(6,4), A(5,3), A(4,3), A(4,4), and by u followed by u + v A(10,4), A(10,7) and A(10,8). Words
-// side by side have it as the first at the lengths n from 8 to 28, each with the distances from 7 to n - 1, and as the second as
-// often. On A(5,4) from above rest A(4,3), A(6,5), A(6,4), A(5,5) and A(4,4).
-#[test]
-fn users_of_a_slot(rt: HostRuntime) -> Result<(), Fail> {
-    let alloc = rt.alloc();
-    let instances = Instances::new(alloc)?;
-    let entry = Entry {
-        n: 5,
-        d: 4,
-        w: None,
-    };
-    let lower = instances.users(Side::Lower, entry).len();
-    assert!(rt; lower == 7 + 2 * 21 * 22 / 2);
-    let upper = instances.users(Side::Upper, entry).len();
-    assert!(rt; upper == 5);
-    Ok(())
-}
-
-/// The bounds closed over no supports.
-fn closed(alloc: Global, instances: &Instances) -> Result<Kept, AllocError>
-    requires { AreInstances instances.now }
-    ensures kept { IfOk result (λ kept. IsKept [] kept) }
-    ensures closed { IfOk result (λ kept. IsClosed [] (bound_of kept.bounds)) }
+/// What rests on nothing, with every slot still to be looked at.
+fn fresh(alloc: Global) -> Result<Closing, AllocError>
+    ensures kept { IfOk result (λ closing. (supports : List Support) → IsKept supports closing.kept) }
+    ensures marked { IfOk result (λ closing. (s : Slot) → IsEntry s.1 → IsMarked closing.work s) }
 {
-    let mut kept = Kept::start(alloc)?;
-    close_all(alloc, instances, &[], &mut kept, &mut 0)?;
-    Ok(kept)
+    let kept = Kept::start(alloc)?;
+    let mut work = Worklist::none(alloc)?;
+    work.mark_all()?;
+    Ok(Closing {
+        kept,
+        work,
+        evaluations: 0,
+    })
 }
 
-/// What Golay's code gives.
-fn golay(rt: &impl Abort, alloc: Global) -> Result<Support, Fail>
-    ensures { IfOk result Stands }
+/// The bounds closed over the supports.
+fn closed(alloc: Global, supports: &[Support]) -> Result<Closing, AllocError>
+    requires few { length supports.now < 2 ^ 32 }
+    requires stand { AllStand supports.now }
 {
-    let entry = Entry {
-        n: 24,
-        d: 8,
-        w: None,
-    };
-    let basis = Vec::from_slice(alloc, &GOLAY)?;
-    let representatives = Vec::from_slice(alloc, &[0])?;
-    assert!(rt; basis.iter().all(|word| *word < 1 << 24));
-    assert!(rt; representatives.iter().all(|word| *word < 1 << 24));
-    let code = check_cosets(alloc, entry, basis, representatives)?;
-    let size = code.size();
-    assert!(rt; 1 <= size && size <= MAX_BOUND);
-    let entry = code.entry();
-    Ok(Support::Size { entry, size })
-}
-
-/// Closes them over one support, and then once more, and says whether it gave anything.
-fn close_over(
-    alloc: Global,
-    instances: &Instances,
-    kept: &mut Kept,
-    support: Support,
-) -> Result<bool, AllocError>
-    requires stands { Stands support }
-    requires instances { AreInstances instances.now }
-    requires kept { IsKept [] kept.now }
-    requires closed { IsClosed [] (bound_of kept.now.bounds) }
-{
-    let supports = [support];
-    let improves = support_improves(instances, &supports, kept, 0);
-    close_support(alloc, instances, &supports, kept, 0, &mut 0)?;
-    let start = Kept::start(alloc)?;
-    close_changed(alloc, instances, &supports, &start, kept, &mut 0)?;
-    Ok(improves)
+    let places = places_of(alloc, supports)?;
+    let mut closing = fresh(alloc)?;
+    close(alloc, supports, &places, &mut closing)?;
+    Ok(closing)
 }
 
 /// The lower bound that stands at A(n,d).
-fn lower(kept: &Kept, n: u32, d: u32) -> Option<u32> {
+fn lower(closing: &Closing, n: u32, d: u32) -> Option<u32> {
     let entry = Entry { n, d, w: None };
     if entry.in_table() {
-        Some(kept.bound(Side::Lower, entry))
+        Some(closing.kept.bound(Side::Lower, entry))
     } else {
         None
     }
@@ -176,9 +110,7 @@ fn lower(kept: &Kept, n: u32, d: u32) -> Option<u32> {
 // 2^4 · 2 and A(24,8) has 2^7 · 2^2. Less a place, they give A(5,3), A(7,3) and A(15,3).
 #[test]
 fn closes_over_no_supports(rt: HostRuntime) -> Result<(), Fail> {
-    let alloc = rt.alloc();
-    let instances = Instances::new(alloc)?;
-    let kept = closed(alloc, &instances)?;
+    let closing = closed(rt.alloc(), &[])?;
     for (n, d, want) in [
         (1, 3, 1),
         (3, 3, 2),
@@ -193,7 +125,7 @@ fn closes_over_no_supports(rt: HostRuntime) -> Result<(), Fail> {
         (16, 8, 32),
         (24, 8, 512),
     ] {
-        assert!(rt; lower(&kept, n, d) == Some(want), "{n} {d}");
+        assert!(rt; lower(&closing, n, d) == Some(want), "{n} {d}");
     }
     Ok(())
 }
@@ -203,10 +135,8 @@ fn closes_over_no_supports(rt: HostRuntime) -> Result<(), Fail> {
 #[test]
 fn closes_over_a_support(rt: HostRuntime) -> Result<(), Fail> {
     let alloc = rt.alloc();
-    let instances = Instances::new(alloc)?;
-    let mut kept = closed(alloc, &instances)?;
-    let support = golay(&rt, alloc)?;
-    assert!(rt; close_over(alloc, &instances, &mut kept, support)?);
+    let supports = [support_of(&rt, alloc, CODES[0], 0)?];
+    let closing = closed(alloc, &supports)?;
     for (n, d, want) in [
         (24, 8, 4096),
         (24, 7, 4096),
@@ -215,7 +145,7 @@ fn closes_over_a_support(rt: HostRuntime) -> Result<(), Fail> {
         (22, 7, 2048),
         (12, 4, 128),
     ] {
-        assert!(rt; lower(&kept, n, d) == Some(want), "{n} {d}");
+        assert!(rt; lower(&closing, n, d) == Some(want), "{n} {d}");
     }
     Ok(())
 }

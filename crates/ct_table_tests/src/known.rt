@@ -1,9 +1,17 @@
-//! Codes that are known.
+//! Codes that are known, and the entries of the table in a row.
 
-use ct_words::Word;
+ghost use Rattle.std.specs.Prelude.{IfOk};
+ghost use Rattle.ct_rule_parts.specs.Support.{Stands};
+
+use ct_codes::{Entry, check_cosets};
+use ct_rules::Support;
+use ct_words::{MAX_BOUND, Word};
+use std::alloc::Global;
+use std::process::Abort;
+use std::test::Fail;
 
 /// A basis of the extended Golay code of length 24 and distance 8 (Golay 1949).
-pub const GOLAY: [Word; 12] = [
+const GOLAY: [Word; 12] = [
     0b101011100011000000000001,
     0b010101110001100000000001,
     0b001010111000110000000001,
@@ -17,3 +25,122 @@ pub const GOLAY: [Word; 12] = [
     0b000000000010101110001101,
     0b000000000001010111000111,
 ];
+
+/// A basis of the Reed-Muller code of length 16, order 1 and distance 8.
+const REED_MULLER: [Word; 5] = [
+    0b1111111111111111,
+    0b0000000011111111,
+    0b0000111100001111,
+    0b0011001100110011,
+    0b0101010101010101,
+];
+
+/// Its cosets with these words are the code of Nordstrom and Robinson (1967), of distance 6.
+const NORDSTROM_ROBINSON: [Word; 8] = [
+    0b0000000000000000,
+    0b0001000100011110,
+    0b0000010100111001,
+    0b0000001101101010,
+    0b0000011001011100,
+    0b0001001001000111,
+    0b0001010001110010,
+    0b0001011100100100,
+];
+
+/// A basis and representatives whose cosets are a code of length n and distance d.
+#[derive(Clone, Copy)]
+pub struct Cosets {
+    /// The length.
+    pub n: u32,
+    /// The distance.
+    pub d: u32,
+    /// The basis.
+    pub basis: &'static [Word],
+    /// The representatives.
+    pub representatives: &'static [Word],
+}
+
+/// The code of Golay, that of Nordstrom and Robinson, that of Reed and Muller, and two words of length 28.
+pub const CODES: [Cosets; 4] = [
+    Cosets {
+        n: 24,
+        d: 8,
+        basis: &GOLAY,
+        representatives: &[0],
+    },
+    Cosets {
+        n: 16,
+        d: 6,
+        basis: &REED_MULLER,
+        representatives: &NORDSTROM_ROBINSON,
+    },
+    Cosets {
+        n: 16,
+        d: 8,
+        basis: &REED_MULLER,
+        representatives: &[0],
+    },
+    Cosets {
+        n: 28,
+        d: 28,
+        basis: &[0b1111111111111111111111111111],
+        representatives: &[0],
+    },
+];
+
+/// Two words of length 5.
+pub const TWO_WORDS: Cosets = Cosets {
+    n: 5,
+    d: 3,
+    basis: &[0b11111],
+    representatives: &[0],
+};
+
+/// The words without their last places.
+fn without_last(alloc: Global, words: &[Word], places: u32) -> Result<Vec<Word>, Fail> {
+    let mut rest = Vec::new(alloc);
+    for word in words {
+        rest.push(word.wrapping_shr(places))?;
+    }
+    Ok(rest)
+}
+
+/// What the code without some of its last places gives to a table, if its entry is one of the table.
+pub fn support_of(
+    rt: &impl Abort,
+    alloc: Global,
+    code: Cosets,
+    places: u32,
+) -> Result<Support, Fail>
+    ensures { IfOk result Stands }
+{
+    let n = code.n.saturating_sub(places);
+    let d = code.d.saturating_sub(places);
+    let entry = Entry { n, d, w: None };
+    if !entry.in_table() {
+        return Ok(Support::Nothing);
+    }
+    let basis = without_last(alloc, code.basis, places)?;
+    let representatives = without_last(alloc, code.representatives, places)?;
+    assert!(rt; n < 32);
+    assert!(rt; basis.iter().all(|word| *word < 1 << n));
+    assert!(rt; representatives.iter().all(|word| *word < 1 << n));
+    let code = check_cosets(alloc, entry, basis, representatives)?;
+    let size = code.size();
+    assert!(rt; 1 <= size && size <= MAX_BOUND);
+    let entry = code.entry();
+    Ok(Support::Size { entry, size })
+}
+
+/// How many numbers `entry_at` has to be asked for to meet all entries of the table: 28 lengths, 26 distances, and 30 for no
+/// weight and those from 0 to 28.
+pub const NUMBERS: u32 = 28 * 26 * 30;
+
+/// An entry for each number, which may lie outside of the table; each entry of the table has one number below `NUMBERS`.
+pub fn entry_at(number: u32) -> Entry {
+    Entry {
+        n: (number / 780).saturating_add(1),
+        d: number % 780 / 30 + 3,
+        w: (number % 30).checked_sub(1),
+    }
+}

@@ -1,4 +1,4 @@
-//! Rules of the table and closed tables, at values by hand.
+//! Rules of the table, closed tables, and tables while supports come and go, at values by hand.
 #![tactic(auto)]
 
 #[cfg(test)]
@@ -7,3 +7,5 @@ mod closure;
 mod known;
 #[cfg(test)]
 mod rules;
+#[cfg(test)]
+mod table;

@@ -1,11 +1,12 @@
 //! The rules at the ends of their ranges, and outside of them, with numbers that are worked out by hand.
 
+use crate::known::{NUMBERS, entry_at};
 use ct_codes::{Entry, Side};
 use ct_rules::{Rule, Support, premise, premise_count, rule_side, value};
 use ct_words::MAX_BOUND;
 
 /// Each rule, with the first support, and a length and a distance, where it names any.
-const RULES: [Rule; 22] = [
+const RULES: [Rule; 24] = [
     Rule::L1,
     Rule::L2,
     Rule::L3,
@@ -17,6 +18,7 @@ const RULES: [Rule; 22] = [
     Rule::L10(0),
     Rule::L11(1, 3),
     Rule::M1,
+    Rule::M7,
     Rule::M10(0),
     Rule::U0,
     Rule::U1,
@@ -28,6 +30,7 @@ const RULES: [Rule; 22] = [
     Rule::U7,
     Rule::U8,
     Rule::V0,
+    Rule::V3,
 ];
 
 /// A(n,d).
@@ -97,6 +100,31 @@ fn premises_at_the_ends(rt: HostRuntime) {
     }
 }
 
+// Each digit turned, a word of length n and weight w has the weight n - w: of 28 places with none 28, with 14 as many; at
+// (28,4,14) the rules rest on their own entry.
+#[test]
+fn premises_by_weight(rt: HostRuntime) {
+    for (n, d, w, turned) in [
+        (1, 4, 0, 1),
+        (1, 28, 1, 0),
+        (8, 6, 3, 5),
+        (28, 4, 14, 14),
+        (28, 28, 0, 28),
+        (28, 28, 28, 0),
+    ] {
+        let entry = weighted(n, d, w);
+        for (rule, side) in [(Rule::M7, Side::Lower), (Rule::V3, Side::Upper)] {
+            let at = |j| premise(&[], rule, entry, j);
+            assert!(rt; premise_count(&[], rule, entry) == Some(1), "{entry:?}");
+            assert!(rt; at(0) == Some((side, weighted(n, d, turned))), "{entry:?}");
+            assert!(rt; at(1).is_none() && at(usize::MAX).is_none(), "{entry:?}");
+        }
+        for rule in [Rule::M1, Rule::V0] {
+            assert!(rt; premise_count(&[], rule, entry) == Some(0), "{entry:?}");
+        }
+    }
+}
+
 // One step past the ends of each range, and the greatest numbers that L11 can name.
 #[test]
 fn past_the_ends(rt: HostRuntime) {
@@ -118,6 +146,7 @@ fn past_the_ends(rt: HostRuntime) {
         (Rule::L11(1, u32::MAX), 28, 28),
         (Rule::L11(u32::MAX, u32::MAX), 28, 28),
         (Rule::M1, 28, 28),
+        (Rule::M7, 28, 28),
         (Rule::U1, 28, 28),
         (Rule::U2, 27, 28),
         (Rule::U2, 25, 12),
@@ -130,6 +159,7 @@ fn past_the_ends(rt: HostRuntime) {
         (Rule::U7, 28, 3),
         (Rule::U8, 28, 28),
         (Rule::V0, 28, 28),
+        (Rule::V3, 28, 28),
     ] {
         assert!(rt;
             is_undefined(&[], rule, plain(n, d)),
@@ -225,7 +255,8 @@ fn values_at_the_ends(rt: HostRuntime) {
     }
 }
 
-// There are 28!/14!^2 = 40,116,600 words of length 28 and weight 14. A value that is missing counts as 0.
+// There are 28!/14!^2 = 40,116,600 words of length 28 and weight 14. With each digit turned there are as many words, from
+// below MAX_BOUND at most. A value that is missing counts as 0.
 #[test]
 fn values_by_weight_and_without_premises(rt: HostRuntime) {
     for (rule, entry, want) in [
@@ -242,6 +273,93 @@ fn values_by_weight_and_without_premises(rt: HostRuntime) {
         );
     }
     assert!(rt; value(&[], Rule::L8, plain(28, 5), &[7]) == Some(0));
+    for (rule, first, want) in [
+        (Rule::M7, 14, Some(14)),
+        (Rule::M7, MAX_BOUND, Some(MAX_BOUND)),
+        (Rule::M7, MAX_BOUND + 1, None),
+        (Rule::V3, 14, Some(14)),
+        (Rule::V3, MAX_BOUND, Some(MAX_BOUND)),
+        (Rule::V3, MAX_BOUND + 1, Some(MAX_BOUND)),
+    ] {
+        let given = value(&[], rule, weighted(28, 4, 2), &[first, 9]);
+        assert!(rt; given == want, "{rule:?} of {first}");
+    }
+}
+
+/// How many rules of the list are defined at the entry, beside those of one word and of all words, which each side of an entry
+/// has from the start, and that of words side by side.
+fn defined_rules(entry: Entry) -> u32 {
+    let mut count: u32 = 0;
+    for rule in RULES {
+        let other = !matches!(
+            rule,
+            Rule::L1 | Rule::L11(_, _) | Rule::M1 | Rule::U0 | Rule::V0
+        );
+        if other && premise_count(&[], rule, entry).is_some() {
+            count = count.saturating_add(1);
+        }
+    }
+    count
+}
+
+// At A(1,3) L4, L6, L7, U1, U3, U4 and U8 are defined; at A(4,5) L3, L4, L6 to L8, U1 and U3 to U8; at A(4,8) L3 to L8, U1, U3
+// and U5 to U8; at A(8,6) L2 to L8, U2, U3 and U5 to U8; at A(4,8,2) M7 and V3.
+#[test]
+fn rules_of_entries(rt: HostRuntime) {
+    for (entry, want) in [
+        (plain(1, 3), 7),
+        (plain(4, 5), 12),
+        (plain(4, 8), 12),
+        (plain(8, 6), 13),
+        (weighted(4, 8, 2), 2),
+    ] {
+        assert!(rt; defined_rules(entry) == want, "{entry:?}");
+    }
+}
+
+/// Whether the bound that the rule gives at the entry rests on that of A(5,4).
+fn rests(rule: Rule, entry: Entry) -> bool {
+    let there = Some((rule_side(rule), plain(5, 4)));
+    premise(&[], rule, entry, 0) == there || premise(&[], rule, entry, 1) == there
+}
+
+/// How many rules of the list rest on A(5,4) at the entry.
+fn resting_rules(entry: Entry) -> u32 {
+    let mut count: u32 = 0;
+    for rule in RULES {
+        if rests(rule, entry) {
+            count = count.saturating_add(1);
+        }
+    }
+    count
+}
+
+// On A(5,4) from below rest A(6,4), A(5,3), A(4,3), A(4,4), by u followed by u + v A(10,4), A(10,7) and A(10,8), and beside words
+// of A(1,3) A(6,7). On A(5,4) from above rest A(4,3), A(6,5), A(6,4), A(5,5) and A(4,4).
+#[test]
+fn what_rests_on_an_entry(rt: HostRuntime) {
+    for (rule, n, d) in [
+        (Rule::L3, 6, 4),
+        (Rule::L4, 5, 3),
+        (Rule::L6, 4, 3),
+        (Rule::L7, 4, 4),
+        (Rule::L8, 10, 4),
+        (Rule::L8, 10, 7),
+        (Rule::L8, 10, 8),
+        (Rule::L11(1, 3), 6, 7),
+        (Rule::U4, 4, 3),
+        (Rule::U5, 6, 5),
+        (Rule::U6, 6, 4),
+        (Rule::U7, 5, 5),
+        (Rule::U8, 4, 4),
+    ] {
+        assert!(rt; rests(rule, plain(n, d)), "{rule:?} at ({n},{d})");
+    }
+    let mut count: u32 = 0;
+    for number in 0..NUMBERS {
+        count = count.saturating_add(resting_rules(entry_at(number)));
+    }
+    assert!(rt; count == 13);
 }
 
 // A support gives its own size at its own entry, where the rule names its place and the size is a bound of the table.

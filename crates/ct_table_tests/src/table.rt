@@ -1,0 +1,326 @@
+//! Tables of codes that are known: values by hand, and what comes and goes with supports.
+
+ghost use Rattle.std.specs.Prelude.{◌<◌, ◌≡◌, IfOk};
+ghost use Rattle.ct_codes.specs.Entry.{IsEntry};
+ghost use Rattle.ct_rule_parts.specs.Support.{Stands};
+
+use crate::known::{CODES, Cosets, NUMBERS, TWO_WORDS, entry_at, support_of};
+use ct_codes::{Claim, Entry, Side};
+use ct_rules::{Rule, Support};
+use ct_table::Table;
+use std::alloc::{AllocError, Global};
+use std::process::Abort;
+use std::test::Fail;
+
+/// The bound of a side of an entry.
+fn bound(table: &Table, side: Side, entry: Entry) -> u32
+    requires { IsEntry entry }
+{
+    match side {
+        Side::Lower => table.lower(entry),
+        Side::Upper => table.upper(entry),
+    }
+}
+
+/// The first entry that has other bounds in the other table.
+fn first_difference(table: &Table, other: &Table) -> Option<Entry> {
+    for number in 0..NUMBERS {
+        let entry = entry_at(number);
+        if entry.in_table()
+            && (table.lower(entry) != other.lower(entry)
+                || table.upper(entry) != other.upper(entry))
+        {
+            return Some(entry);
+        }
+    }
+    None
+}
+
+/// The claim and the rule of the line that gives the bound of a side of an entry.
+fn reason(table: &Table, side: Side, entry: Entry) -> (Claim, Rule)
+    requires { IsEntry entry }
+{
+    let line = table.line(table.reason(side, entry));
+    (line.claim, line.rule)
+}
+
+/// The first entry that has a bound of the side with another reason in the other table.
+fn first_other_reason(table: &Table, other: &Table, side: Side) -> Option<Entry> {
+    for number in 0..NUMBERS {
+        let entry = entry_at(number);
+        if entry.in_table() && reason(table, side, entry) != reason(other, side, entry) {
+            return Some(entry);
+        }
+    }
+    None
+}
+
+/// Puts a support at the end, and says how often a rule was tried for it.
+fn add(rt: &impl Abort, table: &mut Table, support: Support) -> Result<u64, Fail>
+    requires { Stands support }
+{
+    let before = table.evaluations();
+    assert!(rt; table.supports().len() < 1000);
+    table.add(support)?;
+    let after = table.evaluations();
+    assert!(rt; before <= after);
+    Ok(after - before)
+}
+
+/// Takes out the support at the place, and says how often a rule was tried for it.
+fn remove(rt: &impl Abort, table: &mut Table, place: usize) -> Result<u64, Fail> {
+    let before = table.evaluations();
+    assert!(rt; place < table.supports().len());
+    table.remove(place)?;
+    let after = table.evaluations();
+    assert!(rt; before <= after);
+    Ok(after - before)
+}
+
+/// Puts what a code gives without so many of its last places at the end, and says how often a rule was tried for it.
+fn add_code(
+    rt: &impl Abort,
+    alloc: Global,
+    table: &mut Table,
+    code: Cosets,
+    places: u32,
+) -> Result<u64, Fail> {
+    let support = support_of(rt, alloc, code, places)?;
+    add(rt, table, support)
+}
+
+/// How often a table that is made anew over no supports tries a rule.
+fn evaluations_of_rebuild(alloc: Global) -> Result<u64, AllocError> {
+    let table = Table::rebuild(alloc, Vec::new(alloc))?;
+    Ok(table.evaluations())
+}
+
+// A(5,3) is at least A(6,4) = 2^2 · A(3,4) = 4 by L6, L8 and L1; A(8,4) = 2^3 · A(4,4) = 16 by L8 and L2. A(24,8) is at least
+// A(12,4) · A(12,8) by L8, where A(12,4) = 2^5 · A(6,4) = 128 and A(12,8) = A(6,4) · A(6,8) = 4. By L6 A(23,7) is no less, and
+// A(7,3) is at least A(8,4); so by L8 A(14,3) = 2^6 · 16 and A(28,3) = 2^13 · 2^10.
+const LOWER_BOUNDS: [(u32, u32, Option<u32>, u32); 13] = [
+    (1, 3, None, 1),
+    (5, 3, None, 4),
+    (6, 4, None, 4),
+    (7, 3, None, 16),
+    (8, 4, None, 16),
+    (12, 4, None, 128),
+    (23, 7, None, 512),
+    (24, 8, None, 512),
+    (27, 28, None, 1),
+    (28, 3, None, 8388608),
+    (28, 28, None, 2),
+    (6, 4, Some(3), 1),
+    (28, 28, Some(14), 1),
+];
+
+// By Plotkin's bound A(5,3) is at most 4, by Hamming's A(28,3) at most 2^28 / 29; and there are C(n,w) words of weight w:
+// 28!/14!^2 = 40,116,600.
+const UPPER_BOUNDS: [(u32, u32, Option<u32>, u32); 4] = [
+    (5, 3, None, 4),
+    (28, 3, None, 9256395),
+    (6, 4, Some(3), 20),
+    (28, 28, Some(14), 40116600),
+];
+
+// Golay's code is at A(24,8), and by L6 at A(23,7).
+const GOLAY_BOUNDS: [(u32, u32, Option<u32>, u32); 2] = [(24, 8, None, 4096), (23, 7, None, 4096)];
+
+/// The sides of the entries have these bounds.
+fn assert_bounds(
+    rt: &impl Abort,
+    table: &Table,
+    side: Side,
+    rows: &[(u32, u32, Option<u32>, u32)],
+) {
+    for (n, d, w, value) in rows {
+        let entry = Entry {
+            n: *n,
+            d: *d,
+            w: *w,
+        };
+        assert!(rt; entry.in_table());
+        assert!(rt; bound(table, side, entry) == *value, "{entry:?}");
+    }
+}
+
+/// The bounds of the two tables are the same.
+fn assert_same(rt: &impl Abort, table: &Table, other: &Table) {
+    assert!(rt; first_difference(table, other).is_none());
+}
+
+/// The bounds are those of a table over no supports.
+fn assert_empty(rt: &impl Abort, alloc: Global, table: &Table) -> Result<(), Fail> {
+    let empty = Table::new(alloc)?;
+    assert_same(rt, table, &empty);
+    Ok(())
+}
+
+/// The bounds are those of a table over no supports, and so are the claims and rules that give them.
+fn assert_as_new(rt: &impl Abort, alloc: Global, table: &Table) -> Result<(), Fail> {
+    let empty = Table::new(alloc)?;
+    assert_same(rt, table, &empty);
+    assert!(rt; first_other_reason(table, &empty, Side::Lower).is_none());
+    assert!(rt; first_other_reason(table, &empty, Side::Upper).is_none());
+    Ok(())
+}
+
+#[test]
+fn values_without_supports(rt: HostRuntime) -> Result<(), Fail> {
+    let alloc = rt.alloc();
+    for table in [Table::new(alloc)?, Table::rebuild(alloc, Vec::new(alloc))?] {
+        assert_bounds(&rt, &table, Side::Lower, &LOWER_BOUNDS);
+        assert_bounds(&rt, &table, Side::Upper, &UPPER_BOUNDS);
+    }
+    Ok(())
+}
+
+// A code of fewer words than the table has already, as A(5,3) is at least 4: nothing follows from it, nothing is lost with it.
+#[test]
+fn support_that_improves_nothing(rt: HostRuntime) -> Result<(), Fail> {
+    let alloc = rt.alloc();
+    let mut table = Table::new(alloc)?;
+    let lines = table.line_count();
+    let tried = add_code(&rt, alloc, &mut table, TWO_WORDS, 0)?;
+    assert!(rt; 0 < tried && tried <= 10);
+    assert!(rt; table.line_count() == lines);
+    assert!(rt; remove(&rt, &mut table, 0)? <= 10);
+    assert_as_new(&rt, alloc, &table)
+}
+
+// A removal tries less than a table that is made anew.
+#[test]
+fn code_and_its_removal(rt: HostRuntime) -> Result<(), Fail> {
+    let alloc = rt.alloc();
+    let mut table = Table::new(alloc)?;
+    add_code(&rt, alloc, &mut table, CODES[0], 0)?;
+    assert_bounds(&rt, &table, Side::Lower, &GOLAY_BOUNDS);
+    let tried = remove(&rt, &mut table, 0)?;
+    assert!(rt; 0 < tried && tried < evaluations_of_rebuild(alloc)?);
+    assert_empty(&rt, alloc, &table)
+}
+
+/// Golay's code comes without so many of its last places, and without so many others; then the one at the place goes, and the
+/// one that is left. With one of them or with both the bounds are those of one table, and in the end those of none.
+fn come_and_go(
+    rt: &impl Abort,
+    alloc: Global,
+    (first, second, place): (u32, u32, usize),
+    one: &Table,
+) -> Result<(), Fail> {
+    let mut table = Table::new(alloc)?;
+    add_code(rt, alloc, &mut table, CODES[0], first)?;
+    assert_same(rt, &table, one);
+    add_code(rt, alloc, &mut table, CODES[0], second)?;
+    assert_same(rt, &table, one);
+    remove(rt, &mut table, place)?;
+    assert_same(rt, &table, one);
+    remove(rt, &mut table, 0)?;
+    assert_empty(rt, alloc, &table)
+}
+
+// A(24,8) and A(23,7) rest on one another, by L5 and L6: each code alone gives all that both give. With the last of them
+// nothing stays, whatever the order.
+#[test]
+fn codes_that_hold_up_one_another(rt: HostRuntime) -> Result<(), Fail> {
+    let alloc = rt.alloc();
+    let mut one = Table::new(alloc)?;
+    add_code(&rt, alloc, &mut one, CODES[0], 0)?;
+    for row in [(0, 1, 0), (0, 1, 1), (1, 0, 0), (1, 0, 1), (0, 0, 0)] {
+        come_and_go(&rt, alloc, row, &one)?;
+    }
+    Ok(())
+}
+
+/// Numbers that look as if they were drawn, the same each time.
+#[derive(Drop)]
+struct Numbers {
+    last: u64,
+}
+
+impl Numbers {
+    /// The next number, below the limit.
+    fn below(&mut self, limit: usize) -> usize
+        requires { 0 < limit }
+        ensures { result < limit }
+    {
+        self.last = self.last.wrapping_mul(75).wrapping_add(74) % 65537;
+        self.last as usize % limit
+    }
+}
+
+/// What a code of the list gives without a few of its basis words, representatives and last places.
+fn some_support(rt: &impl Abort, alloc: Global, numbers: &mut Numbers) -> Result<Support, Fail>
+    ensures { IfOk result Stands }
+{
+    let code = CODES[numbers.below(4)];
+    let words = code.basis.len().saturating_sub(numbers.below(3));
+    let cosets = numbers.below(code.representatives.len()) + 1;
+    let part = Cosets {
+        basis: &code.basis[..words],
+        representatives: &code.representatives[..cosets],
+        ..code
+    };
+    let places = numbers.below(5) as u32;
+    support_of(rt, alloc, part, places)
+}
+
+/// Takes a support out or puts one at the end, so that there are about four.
+fn change(
+    rt: &impl Abort,
+    alloc: Global,
+    table: &mut Table,
+    numbers: &mut Numbers,
+) -> Result<u64, Fail> {
+    let count = table.supports().len();
+    if numbers.below(8) < count {
+        remove(rt, table, numbers.below(count))
+    } else {
+        let support = some_support(rt, alloc, numbers)?;
+        add(rt, table, support)
+    }
+}
+
+/// The same support.
+fn copy_of(support: &Support) -> Support
+    ensures { result ≡ support.now }
+{
+    match support {
+        Support::Nothing => Support::Nothing,
+        Support::Size { entry, size } => Support::Size {
+            entry: *entry,
+            size: *size,
+        },
+    }
+}
+
+/// The same supports.
+fn copies_of(alloc: Global, supports: &[Support]) -> Result<Vec<Support>, AllocError>
+    ensures { IfOk result (λ copies. copies.items ≡ supports.now) }
+{
+    let mut copies = Vec::new(alloc);
+    for support in supports {
+        copies.push(copy_of(support))?;
+    }
+    Ok(copies)
+}
+
+/// The bounds are those of a table that is made anew over the same supports.
+fn assert_as_rebuilt(rt: &impl Abort, alloc: Global, table: &Table) -> Result<(), Fail> {
+    let anew = Table::rebuild(alloc, copies_of(alloc, table.supports())?)?;
+    assert_same(rt, table, &anew);
+    Ok(())
+}
+
+// Whatever comes and goes, the bounds are those of a table that is made anew.
+#[test]
+fn many_changes(rt: HostRuntime) -> Result<(), Fail> {
+    let alloc = rt.alloc();
+    let mut table = Table::new(alloc)?;
+    let mut numbers = Numbers { last: 1 };
+    for _ in 0..300 {
+        change(&rt, alloc, &mut table, &mut numbers)?;
+        assert_as_rebuilt(&rt, alloc, &table)?;
+    }
+    Ok(())
+}
