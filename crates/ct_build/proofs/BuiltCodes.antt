@@ -67,7 +67,7 @@ puncture_code places e part other fits ready code =
     let long = long_puncture places e part other ready in
     let far = ready.far in
     let table = entry_limits e fits.entry in
-    let least = table.2 in
+    let least = table.distance_from in
     let same : part.n - length places ≡ e.n = omega arith in
     let few : length places < part.d = omega arith in
     reread e (part.n - length places) (part.d - length places) None _ same far (no_weight e.w None fields.0)

@@ -157,7 +157,7 @@ Some-same p o is = cc
 
 -- the lengths of the parts are within the limits
 room_one : (e : Entry) (m : ℕ) → IsEntry e → (m + 1 == e.n) ≡ true → m < MAX_N
-room_one e m table long = let same = eqb-true (m + 1) e.n long in let limits = entry_limits e table in let most = limits.1 in omega arith
+room_one e m table long = let same = eqb-true (m + 1) e.n long in let limits = entry_limits e table in let most = limits.length_to in omega arith
 
 pub room_lengthen : (e : Entry) (part : CodeValue) (other : Option CodeValue) → IsEntry e → IsReady Lengthen e part other → part.n < MAX_N
 unfolding is_right_length
@@ -187,7 +187,7 @@ unfolding FieldsFit
 below_select by e part other fits ready = subst (λ m. by < 2 ^ m) (sym (long_select by e part other ready)) fits.fields.1
 
 pub room_uuv : (e : Entry) (part : CodeValue) (other : Option CodeValue) → IsEntry e → IsReady Uuv e part other → 2 * part.n ≤ MAX_N
-room_uuv e part other table ready = let same = long_uuv e part other ready in let limits = entry_limits e table in let most = limits.1 in omega arith
+room_uuv e part other table ready = let same = long_uuv e part other ready in let limits = entry_limits e table in let most = limits.length_to in omega arith
 
 pub same_uuv : (e : Entry) (part : CodeValue) (other : Option CodeValue) → IsReady Uuv e part other → ForSome other (λ o. o.n ≡ part.n)
 same_uuv e part None ready o is = cc
@@ -203,6 +203,6 @@ room_juxtapose e part (Some p) table ready o is =
     let both = beside_juxtapose e part p ready in
     let sum = both.0 in
     let limits = entry_limits e table in
-    let most = limits.1 in
+    let most = limits.length_to in
     let within : part.n + p.n ≤ MAX_N = omega arith in
     subst (λ q. part.n + q.n ≤ MAX_N) (Some-same p o is) within

@@ -212,9 +212,9 @@ states_build e s part other fits named id ids =
     record {
       of_kind = at_base (codes "kind") e s part other refl refl refl refl refl refl;
       entry = record {
-        with_length = (at_base (codes "n") e s part other refl refl refl refl refl refl, limits.0, limits.1);
-        with_distance = ((at_base (codes "d") e s part other refl refl refl refl refl refl, limits.2, limits.3), even_beside e s part other e.w limits.4);
-        with_weight = states_weight e s part other e.w limits.4;
+        with_length = (at_base (codes "n") e s part other refl refl refl refl refl refl, limits.length_from, limits.length_to);
+        with_distance = ((at_base (codes "d") e s part other refl refl refl refl refl refl, limits.distance_from, limits.distance_to), even_beside e s part other e.w limits.weight);
+        with_weight = states_weight e s part other e.w limits.weight;
       };
       operation = at_base (codes "op") e s part other refl refl refl refl refl refl;
       fields = states_step e s part other;

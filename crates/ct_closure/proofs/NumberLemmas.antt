@@ -57,7 +57,7 @@ entry_in-IsEntry n place from to below = go (cases_lt place distances)
     go : ((place < distances) ⊎ (distances ≤ place)) → IsEntry (entry_in n place)
     go (inl plain) =
         subst IsEntry (sym (in_length_plain n place plain))
-        (entry_from_limits (unrestricted n (place + 3)) (from, to, omega arith, omega arith, tt))
+        (entry_from_limits (unrestricted n (place + 3)) from to (omega arith) (omega arith) tt)
     go (inr weight) =
         let k = place - distances in
         let q = k / (n + 1) in
@@ -65,7 +65,7 @@ entry_in-IsEntry n place from to below = go (cases_lt place distances)
         let less = less_part n k q (k % (n + 1)) (div-add-mod k (n + 1)) (omega arith) in
         subst IsEntry (sym (in_length_weight n place weight))
         (entry_from_limits (constant_weight n (2 * q + 4) (k % (n + 1)))
-        (from, to, omega arith, omega arith, (omega arith, omega arith, omega arith)))
+        from to (omega arith) (omega arith) (omega arith, omega arith, omega arith))
 
 -- its number is the one from which it was made
 pub number-entry_in : (n place : ℕ) → number_in_length (entry_in n place) (entry_in n place).w ≡ place
@@ -104,7 +104,7 @@ in_length_again n d (Some w) from to fits =
 pub entry_in-number : (e : Entry) → IsEntry e → entry_in e.n (number_in_length e e.w) ≡ e
 entry_in-number e h =
     let limits = entry_limits e h in
-    in_length_again e.n e.d e.w limits.2 limits.3 limits.4
+    in_length_again e.n e.d e.w limits.distance_from limits.distance_to limits.weight
 
 -- the numbers of the entries of a length
 in_length-bound : (n d : ℕ) (w : Option ℕ) → 3 ≤ d → d ≤ MAX_N → WeightFits (record { n = n; d = d; w = w }) w
@@ -120,13 +120,13 @@ in_length-bound n d (Some w) from to fits =
 pub number_in_length-bound : (e : Entry) → IsEntry e → number_in_length e e.w < count_in_length e.n
 number_in_length-bound e h =
     let limits = entry_limits e h in
-    in_length-bound e.n e.d e.w limits.2 limits.3 limits.4
+    in_length-bound e.n e.d e.w limits.distance_from limits.distance_to limits.weight
 
 -- and those of the table
 pub entry_number-below : (e : Entry) → IsEntry e → entry_number e < entries_to e.n
 entry_number-below e h =
     let limits = entry_limits e h in
-    let next = entries_to-length e.n limits.0 in
+    let next = entries_to-length e.n limits.length_from in
     let place = number_in_length-bound e h in
     omega arith
 
@@ -134,7 +134,7 @@ pub entry_number-bound : (e : Entry) → IsEntry e → entry_number e < side_siz
 entry_number-bound e h =
     let limits = entry_limits e h in
     let below = entry_number-below e h in
-    let all = entries_to-monotone e.n MAX_N limits.1 in
+    let all = entries_to-monotone e.n MAX_N limits.length_to in
     omega arith
 
 -- an entry of a smaller length has a smaller number

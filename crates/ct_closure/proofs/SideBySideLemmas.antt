@@ -29,7 +29,7 @@ use Rattle.ct_closure.proofs.SatisfiedLemmas.{value_over-defined, satisfied_with
 
 -- an entry without weight within the limits
 pub plain_entry : (n d : ℕ) → 1 ≤ n → n ≤ MAX_N → 3 ≤ d → d ≤ MAX_N → IsEntry (unrestricted n d)
-plain_entry n d some short far near = entry_from_limits (unrestricted n d) (some, short, far, near, tt)
+plain_entry n d some short far near = entry_from_limits (unrestricted n d) some short far near tt
 
 -- an entry without weight as it is written
 pub plain_of : (e : Entry) → e.w ≡ None → IsEntry e → IsEntry (unrestricted e.n e.d)
@@ -56,12 +56,12 @@ sum_limits n d m c is =
     let f = entry_limits (unrestricted m c) is.first in
     let g = entry_limits (unrestricted (n - m) (d - c)) is.second in
     record {
-      longest = e.1;
-      farthest = e.3;
-      some = f.0;
-      longer = omega (arith, g.0);
-      far = f.2;
-      farther = omega (arith, g.2);
+      longest = e.length_to;
+      farthest = e.distance_to;
+      some = f.length_from;
+      longer = omega (arith, g.length_from);
+      far = f.distance_from;
+      farther = omega (arith, g.distance_from);
     }
 
 pub sum_from_limits : (n d m c : ℕ) → AreSumLimits n d m c → IsSum n d m c
@@ -271,8 +271,8 @@ pub sum_here : (e : Entry) (m c : ℕ) → IsEntry e → 3 ≤ m → m + 3 ≤ e
 sum_here e m c entry some longer far farther =
     let limits = entry_limits e entry in
     sum_from_limits e.n e.d m c (record {
-      longest = limits.1;
-      farthest = limits.3;
+      longest = limits.length_to;
+      farthest = limits.distance_to;
       some = omega arith;
       longer = omega arith;
       far = far;

@@ -32,7 +32,7 @@ one_word_code n d w x below weight_is = record {
 -- each entry of the table has a code of one word
 pub one_is_lower : (e : Entry) → IsEntry e → IsTrueLower e 1
 one_is_lower e entry =
-    let found = word_of_weight e.n e.w (weight_within e.w (entry_limits e entry).4) in
+    let found = word_of_weight e.n e.w (weight_within e.w (entry_limits e entry).weight) in
     (found.0 ∷ [], one_word_code e.n e.d e.w found.0 found.1 found.2, refl)
   where
     weight_within : (w : Option ℕ) → IfSome w (λ k. (e.d % 2 ≡ 0) × (4 ≤ e.d) × (k ≤ e.n)) → IfSome w (λ k. k ≤ e.n)

@@ -222,10 +222,10 @@ sound_from_code e xs ys entry some_is code moved sorted =
     let same_length = length_permutation xs ys moved in
     let code_is = IsCode-permutation e.n e.d e.w xs ys moved code in
     let limits = entry_limits e entry in
-    let l0 = limits.0 in
-    let l1 = limits.1 in
-    let l2 = limits.2 in
-    let l3 = limits.3 in
+    let l0 = limits.length_from in
+    let l1 = limits.length_to in
+    let l2 = limits.distance_from in
+    let l3 = limits.distance_to in
     record {
       length_in_range = (omega arith, omega arith);
       distance_in_range = (omega arith, omega arith);

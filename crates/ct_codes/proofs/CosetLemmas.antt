@@ -261,7 +261,7 @@ pub sound_cosets : (e : Entry) (basis representatives : List ℕ) → IsEntry e 
     → IsSoundCosetCode (record { entry = e; basis = basis; representatives = representatives })
 sound_cosets e basis representatives entry plain basis_below below no_fault =
     let limits = entry_limits e entry in
-    let far = limits.2 in
+    let far = limits.distance_from in
     let whole = cosets_from_no_fault e basis representatives (omega arith) plain basis_below below no_fault in
     record {
       entry = entry;

@@ -21,22 +21,36 @@ weight_fits_from e None h = refl
 weight_fits_from e (Some k) h = and_from (e.d % 2 == 0) (nat_le k e.n) (eq-eqb (e.d % 2) 0 h.0) (le-leb k e.n h.2)
 
 -- the limits of an entry of the table
-pub entry_limits : (e : Entry) → IsEntry e → (1 ≤ e.n) × (e.n ≤ MAX_N) × (3 ≤ e.d) × (e.d ≤ MAX_N) × WeightFits e e.w
+pub record Limits (e : Entry) : Type 0 where
+  pub length_from : 1 ≤ e.n
+  pub length_to : e.n ≤ MAX_N
+  pub distance_from : 3 ≤ e.d
+  pub distance_to : e.d ≤ MAX_N
+  pub weight : WeightFits e e.w
+
+-- an entry of the table is within the limits
+pub entry_limits : (e : Entry) → IsEntry e → Limits e
 entry_limits e h =
     let last = and_parts (nat_le 1 e.n && nat_le e.n MAX_N && nat_le 3 e.d && nat_le e.d MAX_N) (weight_fits e e.w) h in
     let fourth = and_parts (nat_le 1 e.n && nat_le e.n MAX_N && nat_le 3 e.d) (nat_le e.d MAX_N) last.0 in
     let third = and_parts (nat_le 1 e.n && nat_le e.n MAX_N) (nat_le 3 e.d) fourth.0 in
     let first = and_parts (nat_le 1 e.n) (nat_le e.n MAX_N) third.0 in
-    (leb-true 1 e.n first.0, leb-true e.n MAX_N first.1, leb-true 3 e.d third.1, leb-true e.d MAX_N fourth.1, WeightFits-from e e.w (leb-true 3 e.d third.1) last.1)
+    record {
+      length_from = leb-true 1 e.n first.0;
+      length_to = leb-true e.n MAX_N first.1;
+      distance_from = leb-true 3 e.d third.1;
+      distance_to = leb-true e.d MAX_N fourth.1;
+      weight = WeightFits-from e e.w (leb-true 3 e.d third.1) last.1;
+    }
 
 -- an entry within the limits is in the table
-pub entry_from_limits : (e : Entry) → (1 ≤ e.n) × (e.n ≤ MAX_N) × (3 ≤ e.d) × (e.d ≤ MAX_N) × WeightFits e e.w → IsEntry e
-entry_from_limits e h =
+pub entry_from_limits : (e : Entry) → 1 ≤ e.n → e.n ≤ MAX_N → 3 ≤ e.d → e.d ≤ MAX_N → WeightFits e e.w → IsEntry e
+entry_from_limits e some short far near fits =
     and_from (nat_le 1 e.n && nat_le e.n MAX_N && nat_le 3 e.d && nat_le e.d MAX_N) (weight_fits e e.w)
     (and_from (nat_le 1 e.n && nat_le e.n MAX_N && nat_le 3 e.d) (nat_le e.d MAX_N)
     (and_from (nat_le 1 e.n && nat_le e.n MAX_N) (nat_le 3 e.d)
-    (and_from (nat_le 1 e.n) (nat_le e.n MAX_N) (le-leb 1 e.n h.0) (le-leb e.n MAX_N h.1)) (le-leb 3 e.d h.2)) (le-leb e.d MAX_N h.3))
-    (weight_fits_from e e.w h.4)
+    (and_from (nat_le 1 e.n) (nat_le e.n MAX_N) (le-leb 1 e.n some) (le-leb e.n MAX_N short)) (le-leb 3 e.d far)) (le-leb e.d MAX_N near))
+    (weight_fits_from e e.w fits)
 
 weights_are : (v w : Option ℕ) → same_weight v w ≡ true → v ≡ w
 weights_are None None h = refl

@@ -28,7 +28,7 @@ weight_of_stated document e (Some w) states has =
 -- a stated entry is one of the table
 pub entry_of_stated : (document : Data) (e : Entry) → StatesEntry document e → IsEntry e
 entry_of_stated document e states =
-    entry_from_limits e (states.with_length.1, states.with_length.2, states.with_distance.0.1, states.with_distance.0.2, weight_of_stated document e e.w states states.with_weight)
+    entry_from_limits e states.with_length.1 states.with_length.2 states.with_distance.0.1 states.with_distance.0.2 (weight_of_stated document e e.w states states.with_weight)
 
 -- another piece is named exactly where the step needs one
 named_where_needed : (step : Step) (document : Data) (other : Option (List ℕ)) → NamesOther step document other → is_some other ≡ needs_other step
@@ -43,7 +43,7 @@ read_of-sound bytes (Words e listed) read =
 read_of-sound bytes (Cosets e basis representatives) read =
     let accepts = accepted_cosets bytes e basis representatives read in
     let stated = accepts.states.form.fields.entry in
-    let entry = entry_from_limits (unrestricted e.n e.d) (stated.with_length.1, stated.with_length.2, stated.with_distance.1, stated.with_distance.2, tt) in (
+    let entry = entry_from_limits (unrestricted e.n e.d) stated.with_length.1 stated.with_length.2 stated.with_distance.1 stated.with_distance.2 tt in (
       subst IsEntry (sym stated.plain) entry,
       ap (λ (f : Entry). f.w) stated.plain,
       accepts.states.basis_lengths,

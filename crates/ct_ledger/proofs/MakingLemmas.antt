@@ -127,7 +127,7 @@ states_code known (Words e words) sound h =
     record { entry = h.sound.0; checked = tt; some = whole.0; code = whole.2 }
 states_code known (Cosets e basis representatives) sound h =
     let limits = entry_limits e h.sound.0 in
-    let far = limits.2 in
+    let far = limits.distance_from in
     let whole = cosets_from_no_fault e basis representatives (omega arith) h.sound.1 h.sound.2 h.sound.3 (option_map-none fault.Code _ h.faultless) in
     let size = length-coset_list basis representatives in
     let some = choice_count-pos basis representatives whole.1 in

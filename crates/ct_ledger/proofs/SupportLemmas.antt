@@ -31,7 +31,7 @@ use Rattle.ct_ledger.proofs.StandingLemmas.{piece_from-made, AreStanding-without
 code-le : (e : Entry) (words : List ℕ) → IsEntry e → IsCodeOf e words → length words ≤ MAX_BOUND
 code-le e words entry code =
     let size = code_size-le e.n e.d e.w words code in
-    let cap : 2 ^ e.n ≤ MAX_BOUND = pow-le-pow_right (lit≤ tt) (entry_limits e entry).1 in
+    let cap : 2 ^ e.n ≤ MAX_BOUND = pow-le-pow_right (lit≤ tt) (entry_limits e entry).length_to in
     omega (arith, size, cap)
 
 -- what a piece gives that is made over codes stands

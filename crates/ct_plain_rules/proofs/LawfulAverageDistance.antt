@@ -53,7 +53,7 @@ average_distance-lawful c = record {
   sound = λ e vs x stand entry condition known is.
       let limits = entry_limits e entry in
       let parts = and_parts (not (has_weight e)) (is_some (plotkin_value e.n e.d)) condition in
-      let bound = plotkin_known e.n e.d x (omega (arith, limits.2)) limits.3 is in
+      let bound = plotkin_known e.n e.d x (omega (arith, limits.distance_from)) limits.distance_to is in
       upper_number e x (no_weight e parts.0) bound.0 bound.1;
   monotone = λ e us vs x h is. no_worse-same Upper _ x is;
   few = λ e entry. omega arith;

@@ -19,7 +19,7 @@ pub balls-lawful : (c : Option Support) → IsLawful c balls
 balls-lawful c = record {
   sound = λ e vs x stand entry plain known is.
       let limits = entry_limits e entry in
-      let least = limits.2 in
+      let least = limits.distance_from in
       let radius = (e.d - 1) / 2 in
       let ball = volume-le e.n radius in
       same_number Upper e (hamming_value e.n e.d) x is

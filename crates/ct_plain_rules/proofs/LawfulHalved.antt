@@ -35,7 +35,7 @@ halved_above-lawful c = record {
       let limits = entry_limits e entry in
       let premise = only_value _ vs known in
       let some = premise.range.0 in
-      let long : e.n ≡ e.n - 1 + 1 = omega (arith, limits.0) in
+      let long : e.n ≡ e.n - 1 + 1 = omega (arith, limits.length_from) in
       same_number Upper e (2 * first vs) x is
       (upper_number e (2 * first vs) (no_weight e plain) (omega arith)
       (λ words code.
@@ -51,5 +51,5 @@ halved_above-lawful c = record {
   dependents = λ e f defined rests.
       let limits = entry_limits e (defined_entry halved_above e defined) in
       let plain = no_weight e (defined_condition halved_above e defined) in
-      turns_back shorter longer e f (written (e.n - 1 + 1) e.d e plain (omega (arith, limits.0)) refl) rests;
+      turns_back shorter longer e f (written (e.n - 1 + 1) e.d e plain (omega (arith, limits.length_from)) refl) rests;
 }

@@ -17,7 +17,7 @@ lengthened_below-lawful c = record {
   sound = λ e vs x stand entry plain known is.
       let limits = entry_limits e entry in
       let premise = only_value _ vs known in
-      let long : e.n - 1 + 1 ≡ e.n = omega (arith, limits.0) in
+      let long : e.n - 1 + 1 ≡ e.n = omega (arith, limits.length_from) in
       same_number Lower e (first vs) x is
       (lower_number e (first vs) (no_weight e plain) premise.range.0
       (of_length (e.n - 1 + 1) e.n e.d (first vs) long (HasCode-lengthened (e.n - 1) e.d (first vs) premise.truth)));
@@ -26,7 +26,7 @@ lengthened_below-lawful c = record {
   dependents = λ e f defined rests.
       let limits = entry_limits e (defined_entry lengthened_below e defined) in
       let plain = no_weight e (defined_condition lengthened_below e defined) in
-      turns_back shorter longer e f (written (e.n - 1 + 1) e.d e plain (omega (arith, limits.0)) refl) rests;
+      turns_back shorter longer e f (written (e.n - 1 + 1) e.d e plain (omega (arith, limits.length_from)) refl) rests;
 }
 
 pub lengthened_above-lawful : (c : Option Support) → IsLawful c lengthened_above

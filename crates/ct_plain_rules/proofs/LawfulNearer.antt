@@ -38,5 +38,5 @@ nearer_above-lawful c = record {
   dependents = λ e f defined rests.
       let limits = entry_limits e (defined_entry nearer_above e defined) in
       let plain = no_weight e (defined_condition nearer_above e defined) in
-      turns_back nearer farther e f (written e.n (e.d - 1 + 1) e plain refl (omega (arith, limits.2))) rests;
+      turns_back nearer farther e f (written e.n (e.d - 1 + 1) e plain refl (omega (arith, limits.distance_from))) rests;
 }

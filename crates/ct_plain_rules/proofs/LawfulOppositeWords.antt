@@ -19,7 +19,7 @@ opposite_words-lawful c = record {
       let parts = and_parts (not (has_weight e)) (nat_le e.d e.n) condition in
       same_number Lower e 2 x is
       (lower_number e 2 (no_weight e parts.0) (omega arith)
-      (HasCode-two e.n e.d limits.0 (leb-true e.d e.n parts.1)));
+      (HasCode-two e.n e.d limits.length_from (leb-true e.d e.n parts.1)));
   monotone = λ e us vs x h is. no_worse-same Lower (Some 2) x is;
   few = λ e entry. omega arith;
   dependents = λ e f defined rests. no_item (Contains [] e) f rests;

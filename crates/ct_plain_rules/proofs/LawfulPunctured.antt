@@ -19,7 +19,7 @@ punctured_below-lawful c = record {
       let premise = only_value _ vs known in
       same_number Lower e (first vs) x is
       (lower_number e (first vs) (no_weight e plain) premise.range.0
-      (HasCode-punctured e.n e.d (first vs) (omega (arith, limits.2)) premise.truth));
+      (HasCode-punctured e.n e.d (first vs) (omega (arith, limits.distance_from)) premise.truth));
   monotone = λ e us vs x h is. no_worse-other Lower (first us) (first vs) x (first-no_better Lower us vs h) is;
   few = λ e entry. omega arith;
   dependents = λ e f defined rests.
@@ -33,13 +33,13 @@ punctured_above-lawful c = record {
   sound = λ e vs x stand entry plain known is.
       let limits = entry_limits e entry in
       let premise = only_value _ vs known in
-      let long : e.n ≡ e.n - 1 + 1 = omega (arith, limits.0) in
-      let far : e.d ≡ e.d - 1 + 1 = omega (arith, limits.2) in
+      let long : e.n ≡ e.n - 1 + 1 = omega (arith, limits.length_from) in
+      let far : e.d ≡ e.d - 1 + 1 = omega (arith, limits.distance_from) in
       same_number Upper e (first vs) x is
       (upper_number e (first vs) (no_weight e plain) premise.range.0
       (bounded_by e.n e.d (e.n - 1) (e.d - 1) (first vs)
       (λ u code.
-      HasCode-punctured (e.n - 1) (e.d - 1) u (omega (arith, limits.2))
+      HasCode-punctured (e.n - 1) (e.d - 1) u (omega (arith, limits.distance_from))
       (of_length e.n (e.n - 1 + 1) (e.d - 1 + 1) u long (of_distance e.n e.d (e.d - 1 + 1) u far code)))
       premise.truth));
   monotone = λ e us vs x h is. no_worse-other Upper (first us) (first vs) x (first-no_better Upper us vs h) is;
@@ -48,5 +48,5 @@ punctured_above-lawful c = record {
       let limits = entry_limits e (defined_entry punctured_above e defined) in
       let plain = no_weight e (defined_condition punctured_above e defined) in
       turns_back shorter_and_nearer longer_and_farther e f
-      (written (e.n - 1 + 1) (e.d - 1 + 1) e plain (omega (arith, limits.0)) (omega (arith, limits.2))) rests;
+      (written (e.n - 1 + 1) (e.d - 1 + 1) e plain (omega (arith, limits.length_from)) (omega (arith, limits.distance_from))) rests;
 }

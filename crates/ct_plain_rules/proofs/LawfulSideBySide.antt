@@ -35,8 +35,8 @@ side_by_side-lawful m d c = record {
       let both = both_values _ _ vs known in
       let left = entry_limits (unrestricted m d) both.0.entry in
       let right = entry_limits (unrestricted (e.n - m) (e.d - d)) both.1.entry in
-      let long : m + (e.n - m) ≡ e.n = omega (arith, right.0) in
-      let far : d + (e.d - d) ≡ e.d = omega (arith, right.2) in
+      let long : m + (e.n - m) ≡ e.n = omega (arith, right.length_from) in
+      let far : d + (e.d - d) ≡ e.d = omega (arith, right.distance_from) in
       let some = both.0.range.0 in
       let some_too = both.1.range.0 in
       same_number Lower e (min (first vs) (second vs)) x is
@@ -58,7 +58,7 @@ side_by_side-lawful m d c = record {
       let right = entry_limits (unrestricted (e.n - m) (e.d - d))
       (and_parts (is_entry (unrestricted (e.n - m) (e.d - d))) true parts.1).0 in
       two_items (λ g. Contains (longer_and_far g) e) (unrestricted m d) (unrestricted (e.n - m) (e.d - d)) f
-      (far_entry m d e plain limits.1 limits.3 (omega (arith, right.0)) (omega (arith, right.2)))
-      (far_entry (e.n - m) (e.d - d) e plain limits.1 limits.3 (omega (arith, left.0, right.0)) (omega (arith, left.2, right.2)))
+      (far_entry m d e plain limits.length_to limits.distance_to (omega (arith, right.length_from)) (omega (arith, right.distance_from)))
+      (far_entry (e.n - m) (e.d - d) e plain limits.length_to limits.distance_to (omega (arith, left.length_from, right.length_from)) (omega (arith, left.distance_from, right.distance_from)))
       rests;
 }

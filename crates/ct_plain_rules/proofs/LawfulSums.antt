@@ -41,7 +41,7 @@ sums-sound e vs entry none even known = go (nat_lt e.d 5) refl known
     go true near known =
         let premise = only_value _ vs known in
         let limits = entry_limits e entry in
-        let long = limits.0 in
+        let long = limits.length_from in
         let few = ltb-true e.d 5 near in
         sums_number e 2 (2 ^ (e.n / 2 - 1)) (first vs) none even (omega arith)
         (mul-pos (pow_pos (e.n / 2 - 1)) premise.range.0) (HasCode-even (e.n / 2) (omega arith)) premise.truth

@@ -18,10 +18,10 @@ parity_below-lawful c = record {
       let limits = entry_limits e entry in
       let parts = and_parts (not (has_weight e)) (e.d % 2 == 0) condition in
       let even = eqb-true (e.d % 2) 0 parts.1 in
-      let least = limits.2 in
+      let least = limits.distance_from in
       let premise = only_value _ vs known in
       let odd : (e.d - 1) % 2 ≡ 1 = omega arith in
-      let long : e.n - 1 + 1 ≡ e.n = omega (arith, limits.0) in
+      let long : e.n - 1 + 1 ≡ e.n = omega (arith, limits.length_from) in
       let far : e.d - 1 + 1 ≡ e.d = omega arith in
       same_number Lower e (first vs) x is
       (lower_number e (first vs) (no_weight e parts.0) premise.range.0
@@ -34,7 +34,7 @@ parity_below-lawful c = record {
       let limits = entry_limits e (defined_entry parity_below e defined) in
       let parts = and_parts (not (has_weight e)) (e.d % 2 == 0) (defined_condition parity_below e defined) in
       turns_back shorter_and_nearer longer_and_farther e f
-      (written (e.n - 1 + 1) (e.d - 1 + 1) e (no_weight e parts.0) (omega (arith, limits.0)) (omega (arith, limits.2)))
+      (written (e.n - 1 + 1) (e.d - 1 + 1) e (no_weight e parts.0) (omega (arith, limits.length_from)) (omega (arith, limits.distance_from)))
       rests;
 }
 

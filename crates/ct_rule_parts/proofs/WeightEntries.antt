@@ -21,7 +21,7 @@ weight_is e (w, is) = is ∙ sym (ap (λ o. Some (unwrap_or o 0)) is)
 pub weight_within : (e : Entry) → IsEntry e → Weighted e → weight_of e ≤ e.n
 weight_within e entry weighted =
     let limits = entry_limits e entry in
-    let fits : WeightFits e (Some (weight_of e)) = subst (WeightFits e) (weight_is e weighted) limits.4 in
+    let fits : WeightFits e (Some (weight_of e)) = subst (WeightFits e) (weight_is e weighted) limits.weight in
     fits.2
 
 -- an entry with a weight is A(n,d,w), however its weight is written

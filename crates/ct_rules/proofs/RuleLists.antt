@@ -95,7 +95,7 @@ listed_at supports (L11 m c) n d None is =
     Contains-append_right (rules_alone (rule_side L1, e))
     (rules_with_numbers (rule_side L1, e) ++ rules_of_supports (length supports) (rule_side L1, e)) (L11 m c)
     (Contains-append_left (side_by_side_rules e) (rules_of_supports (length supports) (rule_side L1, e)) (L11 m c)
-    (side_by_side-complete e m c first.0 (omega (arith, second.0)) first.2 (omega (arith, second.2))))
+    (side_by_side-complete e m c first.length_from (omega (arith, second.length_from)) first.distance_from (omega (arith, second.distance_from))))
 listed_at supports (L10 place) n d None is =
     let e : Entry = unrestricted n d in
     let there = support_there supports place e (and_parts true (is_some (size_at (slice_get supports place) e)) is.condition).1 in

@@ -32,7 +32,7 @@ number-le Lower e x entry number is =
     let code = number.truth in
     let most = code_size-le e.n e.d e.w code.0 code.1 in
     let size = code.2 in
-    let power : 2 ^ e.n ≤ 2 ^ MAX_N = pow-le-pow_right (omega arith) limits.1 in
+    let power : 2 ^ e.n ≤ 2 ^ MAX_N = pow-le-pow_right (omega arith) limits.length_to in
     omega arith
 number-le Upper e x entry number is = absurd cc
 
@@ -45,7 +45,7 @@ truth-cut Lower e x entry number =
     subst (IsTrueLower e) same number.truth
 truth-cut Upper e x entry number =
     let limits = entry_limits e entry in
-    capped_bound e.n e.d x e.w limits.1 number.truth
+    capped_bound e.n e.d x e.w limits.length_to number.truth
 
 -- so it is the value of a true claim
 pub claim_from_number : (side : Side) (e : Entry) (x v : ℕ) → IsEntry e → IsTrueNumber side e x

@@ -64,11 +64,11 @@ pub table_entries-complete : (e : Entry) → IsEntry e → Contains table_entrie
 unfolding table_entries
 table_entries-complete e entry =
     let limits = entry_limits e entry in
-    entries_to-complete MAX_N e limits.1 limits.3 (weight e.w limits.4)
+    entries_to-complete MAX_N e limits.length_to limits.distance_to (weight e.w limits.weight)
   where
     weight : (w : Option ℕ) → WeightFits e w → IfSome w (λ k. k ≤ MAX_N)
     weight None h = tt
-    weight (Some k) h = let limits = entry_limits e entry in omega (arith, limits.1, h.2)
+    weight (Some k) h = let limits = entry_limits e entry in omega (arith, limits.length_to, h.2)
 
 -- all slots of the table, and some others
 pub table_slots : List Slot

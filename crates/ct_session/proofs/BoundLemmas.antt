@@ -51,7 +51,7 @@ same_bounds pieces e b c h k =
 pub longer_entry : (n d : ℕ) → IsEntry (unrestricted 1 d) → 1 ≤ n → n ≤ MAX_N → IsEntry (unrestricted n d)
 longer_entry n d entry some most =
     let limits = entry_limits (unrestricted 1 d) entry in
-    entry_from_limits (unrestricted n d) (some, most, limits.2, limits.3, tt)
+    entry_from_limits (unrestricted n d) some most limits.distance_from limits.distance_to tt
 
 -- the bounds of the entries of a distance whose lengths are some after one another
 column_from : (pieces : List PieceValue) (d a k : ℕ) → AreStanding pieces → IsEntry (unrestricted 1 d) → 1 ≤ a → a + k ≤ MAX_N + 1

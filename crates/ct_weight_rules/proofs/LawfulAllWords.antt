@@ -22,7 +22,7 @@ all_words-lawful c = record {
       let w = weight_of e in
       same_number Upper e (choose e.n w) x is
       (upper_of_weight e (choose e.n w) weighted (one-le-choose e.n w (weight_within e entry weighted))
-      (bound_from_weight e.n e.d w (choose e.n w) (weight_bound-all e.n e.d w (omega (arith, limits.2)))));
+      (bound_from_weight e.n e.d w (choose e.n w) (weight_bound-all e.n e.d w (omega (arith, limits.distance_from)))));
   monotone = λ e us vs x h is. no_worse-same Upper (Some (choose e.n (weight_of e))) x is;
   few = λ e entry. omega arith;
   dependents = λ e f defined rests. no_item (Contains [] e) f rests;

@@ -33,7 +33,7 @@ cosets_depth e basis representatives = rw (texts_depth e.n basis, texts_depth e.
 
 -- the table of words states their entry
 states_entry : (e : Entry) (words : List ℕ) → IsEntry e → StatesEntry (table (words_table e words)) e
-states_entry e words entry = at e.w limits.4
+states_entry e words entry = at e.w limits.weight
   where
     limits : (1 ≤ e.n) × (e.n ≤ MAX_N) × (3 ≤ e.d) × (e.d ≤ MAX_N) × WeightFits e e.w
     limits = entry_limits e entry
@@ -43,13 +43,13 @@ states_entry e words entry = at e.w limits.4
 
     at : (w : Option ℕ) → WeightFits e w → StatesEntry (table (words_table (written w) words)) (written w)
     at None fits = record {
-      with_length = (refl, limits.0, limits.1);
-      with_distance = ((refl, limits.2, limits.3), λ some. absurd (false≢true some));
+      with_length = (refl, limits.length_from, limits.length_to);
+      with_distance = ((refl, limits.distance_from, limits.distance_to), λ some. absurd (false≢true some));
       with_weight = refl;
     }
     at (Some w) fits = record {
-      with_length = (refl, limits.0, limits.1);
-      with_distance = ((refl, limits.2, limits.3), λ some. fits.0);
+      with_length = (refl, limits.length_from, limits.length_to);
+      with_distance = ((refl, limits.distance_from, limits.distance_to), λ some. fits.0);
       with_weight = (refl, omega arith, fits.2);
     }
 
@@ -88,8 +88,8 @@ states_cosets e basis representatives entry plain short_basis short =
         fields = record {
           of_kind = refl;
           entry = record {
-            with_length = (refl, limits.0, limits.1);
-            with_distance = (refl, limits.2, limits.3);
+            with_length = (refl, limits.length_from, limits.length_to);
+            with_distance = (refl, limits.distance_from, limits.distance_to);
             plain = λ i. record { n = e.n; d = e.d; w = plain i };
           };
           with_basis = ap (λ ds. Some (array (items_of ds))) (sym (map-map string (word_text e.n) basis));

@@ -21,9 +21,9 @@ returns-then-are_too_many-clause-sound c =
     let w = c.args.w in
     let m = c.loop-words.words in
     let limits = entry_limits (constant_weight n d w) c.requires in
-    let parity = limits.4.0 in
+    let parity = limits.weight.0 in
     let even : 2 * (d / 2) ≡ d = omega arith in
-    let bound = weight_bound-columns n (d / 2) w m limits.0 c.if-w-d.false (sym c.are_too_many.ensures ∙ c.if-are_too_many.true) in
+    let bound = weight_bound-columns n (d / 2) w m limits.length_from c.if-w-d.false (sym c.are_too_many.ensures ∙ c.if-are_too_many.true) in
     let here : IsWeightBound n d w (m - 1) = rw even at bound in
     bound_from_weight n d w (m - 1) here
 
