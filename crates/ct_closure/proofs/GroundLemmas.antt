@@ -14,13 +14,13 @@ use Rattle.ct_closure.specs.Kept.{ground_rule, IsGround}
 use Rattle.ct_closure.specs.Inside.Ground.{ground_value, ground_line}
 
 -- the rule of a slot gives a bound of its side whatever the supports, and rests on nothing
-record IsGroundRule (supports : List Support) (s : Slot) : Type 0 where
-  side : s.0 ≡ rule_side (ground_rule s)
-  no_support : place_of (ground_rule s) ≡ None
-  premises : IsEntry s.1 → premises_of supports (ground_rule s) s.1 ≡ Some []
-  value : value_of supports (ground_rule s) s.1 [] ≡ ground_value s
+pub record IsGroundRule (supports : List Support) (s : Slot) : Type 0 where
+  pub side : s.0 ≡ rule_side (ground_rule s)
+  pub no_support : place_of (ground_rule s) ≡ None
+  pub premises : IsEntry s.1 → premises_of supports (ground_rule s) s.1 ≡ Some []
+  pub value : value_of supports (ground_rule s) s.1 [] ≡ ground_value s
 
-is_ground_rule : (supports : List Support) (side : Side) (n d : ℕ) (w : Option ℕ)
+pub is_ground_rule : (supports : List Support) (side : Side) (n d : ℕ) (w : Option ℕ)
     → IsGroundRule supports (side, record { n = n; d = d; w = w })
 unfolding row_of
 is_ground_rule supports Lower n d None = record {

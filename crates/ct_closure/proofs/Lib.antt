@@ -10,6 +10,7 @@ pub mod MarkedLemmas
 pub mod TurnLemmas
 pub mod PutLemmas
 pub mod GroundLemmas
+pub mod GroundWithin
 pub mod StartLemmas
 pub mod BetterLemmas
 pub mod KeptLemmas

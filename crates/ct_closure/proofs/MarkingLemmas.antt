@@ -1,8 +1,8 @@
 -- Which entries were tested while slots are marked.
-use Rattle.std.proofs.Common.{◌≡◌, ℕ, ◌+◌, ◌-◌, ◌<◌, ◌≤◌, List, [], ◌∷◌, ◌++◌, All, Contains, Some, None, true, refl, sym, ap, subst, ◌∙◌, arith, inl, inr}
+use Rattle.std.proofs.Common.{◌≡◌, ℕ, ◌+◌, ◌-◌, ◌<◌, ◌≤◌, List, [], ◌∷◌, ◌++◌, length, All, Contains, Some, None, true, refl, sym, ap, subst, ◌∙◌, arith, inl, inr}
 use Rattle.std.specs.Prelude.{slice_get}
 use Rattle.std.proofs.lemmas.Bool.{cases_eq}
-use Rattle.std.proofs.lemmas.List.Elements.{All-nil, All-cons, All-head, All-tail, All-append, All-from_recursion}
+use Rattle.std.proofs.lemmas.List.Elements.{All-nil, All-cons, All-head, All-tail, All-append, All-weaker}
 use Rattle.std.proofs.lemmas.Option.{same_Some, slice_get-get_or}
 use Rattle.ct_codes.specs.declared.claim.Side.{Side}
 use Rattle.ct_codes.specs.declared.claim.Side.TheVariants.{Upper}
@@ -12,12 +12,11 @@ use Rattle.ct_rule_parts.specs.declared.support.Support.{Support}
 use Rattle.ct_rule_parts.proofs.PlainEntries.{two_items}
 use Rattle.ct_rules.specs.declared.rule.Rule.{Rule}
 use Rattle.ct_rules.specs.declared.rule.Rule.TheVariants.{L11}
-use Rattle.ct_rules.specs.declared.listing.TheConstants.{LOWER_RULES, UPPER_RULES, LOWER_WEIGHT_RULES, UPPER_WEIGHT_RULES}
 use Rattle.ct_rules.specs.Listing.{alone_on}
-use Rattle.ct_rules.specs.Rule.{row_of, rule_side, is_alone, parts_over}
+use Rattle.ct_rules.specs.Rule.{row_of, rule_side, is_alone, parts_of, parts_over}
+use Rattle.ct_rules.proofs.LawfulRows.{IsAloneOn}
 use Rattle.ct_closure.specs.Worklist.{WorkValue}
 use Rattle.ct_closure.specs.Inside.Marking.{KeepsMarks, IsTestedAt, IsTestedFrom}
-use Rattle.ct_closure.proofs.DependentLemmas.{few_dependents}
 
 pub keeps-trans : (first middle last : WorkValue) → KeepsMarks first middle → KeepsMarks middle last → KeepsMarks first last
 keeps-trans first middle last one other t entry marked = other t entry (one t entry marked)
@@ -48,30 +47,17 @@ tested_and_one supports bounds work new r es n f keeps there here before k e bel
 ]
 
 -- all of them
-pub tested_from : (supports : List Support) (bounds : List ℕ) (work : WorkValue) (r : Rule) (from : Entry) (n : ℕ) → is_alone r ≡ true
-    → 3 ≤ n
-    → ((k : ℕ) (e : Entry) → k < n → slice_get ((parts_over [] r).rested_on_by from) k ≡ Some e → IsTestedAt supports bounds work r e)
+pub tested_from : (supports : List Support) (bounds : List ℕ) (work : WorkValue) (r : Rule) (from : Entry) (n : ℕ)
+    (es : List Entry) → es ≡ (parts_of r None).rested_on_by from → length es ≤ n
+    → ((k : ℕ) (e : Entry) → k < n → slice_get es k ≡ Some e → IsTestedAt supports bounds work r e)
     → IsTestedFrom supports bounds work from r
-tested_from supports bounds work r from n alone enough each e (k, within, is) =
-    let few = few_dependents r from alone in
-    each k e (omega arith) (slice_get-get_or ((parts_over [] r).rested_on_by from) k e within ∙ ap Some is)
+tested_from supports bounds work r from n es are enough each e among =
+    let there = subst (λ (fs : List Entry). Contains fs e) (sym are) among in
+    each there.0 e (omega (arith, there.1)) (slice_get-get_or es there.0 e there.1 ∙ ap Some there.2)
 
--- the rules of each list are alone
-pub lower_alone : All (λ (r : Rule). is_alone r ≡ true) LOWER_RULES
-unfolding row_of
-lower_alone = All-from_recursion (λ (r : Rule). is_alone r ≡ true) LOWER_RULES (refl, (refl, (refl, (refl, (refl, (refl, (refl, (refl, tt))))))))
-
-pub upper_alone : All (λ (r : Rule). is_alone r ≡ true) UPPER_RULES
-unfolding row_of
-upper_alone = All-from_recursion (λ (r : Rule). is_alone r ≡ true) UPPER_RULES (refl, (refl, (refl, (refl, (refl, (refl, (refl, (refl, (refl, tt)))))))))
-
-pub lower_weight_alone : All (λ (r : Rule). is_alone r ≡ true) LOWER_WEIGHT_RULES
-unfolding row_of
-lower_weight_alone = All-from_recursion (λ (r : Rule). is_alone r ≡ true) LOWER_WEIGHT_RULES (refl, (refl, tt))
-
-pub upper_weight_alone : All (λ (r : Rule). is_alone r ≡ true) UPPER_WEIGHT_RULES
-unfolding row_of
-upper_weight_alone = All-from_recursion (λ (r : Rule). is_alone r ≡ true) UPPER_WEIGHT_RULES (refl, (refl, tt))
+-- rules that are alone on a side are alone
+pub are_alone : (side : Side) (rules : List Rule) → All (IsAloneOn side) rules → All (λ (r : Rule). is_alone r ≡ true) rules
+are_alone side rules each = All-weaker (IsAloneOn side) (λ (r : Rule). is_alone r ≡ true) (λ r h. h.0) rules each
 
 -- both lists of a side
 pub both_tested : (supports : List Support) (bounds : List ℕ) (work new : WorkValue) (from : Entry) (side own : Side) (first second : List Rule)

@@ -1,8 +1,8 @@
 -- The best bound of a slot while rules are asked.
-use Rattle.std.proofs.Common.{◌≡◌, ℕ, suc, ◌<◌, ◌≤◌, List, [], ◌∷◌, ◌++◌, ◌-◌, length, map, flat_map, All, Contains, Option, Some, None, true, refl, sym, ap, subst, ◌∙◌, arith, inl, inr, ◌⊎◌}
+use Rattle.std.proofs.Common.{◌≡◌, ℕ, suc, ◌<◌, ◌≤◌, List, [], ◌∷◌, drop, ◌++◌, ◌-◌, length, map, flat_map, All, Contains, Option, Some, None, true, refl, sym, ap, subst, ◌∙◌, arith, inl, inr, ◌⊎◌}
 use Rattle.std.specs.Prelude.{slice_get, IfSome, false, is_some}
 use Rattle.std.proofs.lemmas.Bool.{and_parts, cases_eq}
-use Rattle.std.proofs.lemmas.List.Elements.{All-nil, All-cons, All-head, All-tail, All-append, All-contains, All-from_recursion}
+use Rattle.std.proofs.lemmas.List.Elements.{All-nil, All-cons, All-head, All-tail, All-append, All-contains, All-drop, All-weaker}
 use Rattle.std.proofs.lemmas.Option.{none-some, same_Some}
 use Rattle.std.specs.List.{range_with_len}
 use Rattle.ct_codes.specs.declared.claim.Side.{Side}
@@ -15,12 +15,12 @@ use Rattle.ct_rule_parts.specs.Support.{size_at}
 use Rattle.ct_rule_parts.proofs.SlotLemmas.{IsNoBetter-self}
 use Rattle.ct_rules.specs.declared.rule.Rule.{Rule}
 use Rattle.ct_rules.specs.declared.rule.Rule.TheVariants.{L10, L11, M10}
-use Rattle.ct_rules.specs.declared.listing.TheConstants.{LOWER_RULES, UPPER_RULES, LOWER_WEIGHT_RULES, UPPER_WEIGHT_RULES}
 use Rattle.ct_rules.specs.Listing.{rules_alone, side_by_side_rules, rules_of_supports, rules_at}
 use Rattle.ct_rules.specs.Closed.{AreTrue}
 use Rattle.ct_rules.specs.Rule.{row_of, parts_over, rule_side, applies}
 use Rattle.ct_rules.proofs.Applied.{defined}
 use Rattle.ct_rules.proofs.ClosedBounds.{no_better-trans}
+use Rattle.ct_rules.proofs.LawfulRows.{IsAloneOn, lower_alone, lower_weight_alone, upper_alone, upper_weight_alone}
 use Rattle.ct_rules.proofs.RuleLists.{rules_at-complete}
 use Rattle.ct_closure.specs.declared.best.Best.{Best}
 use Rattle.ct_closure.specs.Places.{GivesTo, ArePlaces, IsPlaceOf, IsUpTo}
@@ -155,27 +155,19 @@ all_asked supports f side e best alone sums given r same v value =
     (rules_at-complete supports r e (over-applies supports f r e v value)))
     v value
 
--- the rules of each list, and their side
-same_list : (side : Side) (w : Option ℕ) (n d : ℕ) (own : Side) (v : Option ℕ) → side ≡ own → w ≡ v
-    → rules_alone (own, record { n = n; d = d; w = v }) ≡ rules_alone (side, record { n = n; d = d; w = w })
-same_list side w n d own v same weight = λ i. rules_alone (sym same i, record { n = n; d = d; w = sym weight i })
+-- the rules of each list have its side
+sides_of : (side : Side) (n d : ℕ) (w : Option ℕ) → All (IsAloneOn side) (rules_alone (side, record { n = n; d = d; w = w }))
+sides_of Lower n d None = lower_alone
+sides_of Lower n d (Some w) = lower_weight_alone
+sides_of Upper n d None = upper_alone
+sides_of Upper n d (Some w) = upper_weight_alone
 
-pub rules_are : (side own : Side) (e : Entry) (v : Option ℕ) → side ≡ own → e.w ≡ v
-    → rules_alone (own, record { n = e.n; d = e.d; w = v }) ≡ rules_alone (side, e)
-rules_are side own e v same weight = same_list side e.w e.n e.d own v same weight
-
-sides_of : (own : Side) (n d : ℕ) (v : Option ℕ) → All (λ (r : Rule). rule_side r ≡ own) (rules_alone (own, record { n = n; d = d; w = v }))
-unfolding row_of
-sides_of Lower n d None = All-from_recursion (λ (r : Rule). rule_side r ≡ Lower) LOWER_RULES (refl, (refl, (refl, (refl, (refl, (refl, (refl, (refl, tt))))))))
-sides_of Lower n d (Some w) = All-from_recursion (λ (r : Rule). rule_side r ≡ Lower) LOWER_WEIGHT_RULES (refl, (refl, tt))
-sides_of Upper n d None = All-from_recursion (λ (r : Rule). rule_side r ≡ Upper) UPPER_RULES (refl, (refl, (refl, (refl, (refl, (refl, (refl, (refl, (refl, tt)))))))))
-sides_of Upper n d (Some w) = All-from_recursion (λ (r : Rule). rule_side r ≡ Upper) UPPER_WEIGHT_RULES (refl, (refl, tt))
-
-pub sides_are : (side own : Side) (n d : ℕ) (v : Option ℕ) → side ≡ own
-    → All (λ (r : Rule). rule_side r ≡ side) (rules_alone (own, record { n = n; d = d; w = v }))
-sides_are side own n d v same =
-    subst (λ (s : Side). All (λ (r : Rule). rule_side r ≡ s) (rules_alone (own, record { n = n; d = d; w = v }))) (sym same)
-    (sides_of own n d v)
+pub sides_of_others : (side : Side) (e : Entry) (rules : List Rule) → rules ≡ drop 1 (rules_alone (side, e))
+    → All (λ (r : Rule). rule_side r ≡ side) rules
+sides_of_others side e rules are =
+    subst (All (λ (r : Rule). rule_side r ≡ side)) (sym are)
+    (All-drop (λ (r : Rule). rule_side r ≡ side) 1 (rules_alone (side, e))
+    (All-weaker (IsAloneOn side) (λ (r : Rule). rule_side r ≡ side) (λ r h. h.1) (rules_alone (side, e)) (sides_of side e.n e.d e.w)))
 
 -- fewer are left after the next one
 pub fewer_left : (entries : List (Option Entry)) (e : Entry) (next : Option ℕ) (place : ℕ)

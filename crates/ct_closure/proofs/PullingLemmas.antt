@@ -1,16 +1,18 @@
 -- What a rule gives over the bounds that stand.
-use Rattle.std.proofs.Common.{◌≡◌, ℕ, zero, suc, ◌≤◌, List, [], ◌∷◌, ◌++◌, length, map, take, take_all, Some, None, true, refl, sym, ap, arith}
-use Rattle.std.specs.Prelude.{Bool, false, if◌then◌else◌, slice_get}
-use Rattle.std.proofs.lemmas.Option.{none-some, same_Some}
+use Rattle.std.proofs.Common.{◌≡◌, ℕ, ◌≤◌, List, ◌∷◌, map, Option, Some, None, option_map, true, ap, subst, arith}
+use Rattle.std.specs.Prelude.{Bool, false, if◌then◌else◌}
+use Rattle.std.proofs.lemmas.Bool.{and_parts}
 use Rattle.ct_words.specs.declared.limits.TheConstants.{MAX_BOUND}
 use Rattle.ct_codes.specs.declared.entry.Entry.{Entry}
 use Rattle.ct_rule_parts.specs.declared.support.Support.{Support}
-use Rattle.ct_codes.specs.declared.claim.Side.{Side}
-use Rattle.ct_rule_parts.specs.Parts.{slots_on}
+use Rattle.ct_codes.specs.Entry.{IsEntry, is_entry}
+use Rattle.ct_rule_parts.specs.declared.entries.Entries.{Entries}
+use Rattle.ct_rule_parts.specs.Entries.{listed}
+use Rattle.ct_rule_parts.specs.Parts.{are_entries}
 use Rattle.ct_rule_parts.specs.Slot.{Slot}
 use Rattle.ct_rules.specs.declared.rule.Rule.{Rule}
 use Rattle.ct_rules.specs.Rule.{rule_side, applies, parts_over, premises_at, value_of}
-use Rattle.ct_rules.proofs.Applied.{value-given, limit_of}
+use Rattle.ct_rules.proofs.Applied.{value-given, limit_of, defined, defined_entries}
 use Rattle.ct_closure.specs.Inside.Pulling.{value_over}
 use Rattle.ct_closure.proofs.SatisfiedLemmas.{where_given}
 
@@ -42,20 +44,17 @@ pub over-none : (supports : List Support) (f : Slot → ℕ) (r : Rule) (e : Ent
 over-none supports f r e h =
     ap (λ (b : Bool). if b then value_of supports r e (map f (premises_at supports r e)) else None) h
 
--- the bounds of the first entries and of one more
-pub bounds_and_one : (f : Slot → ℕ) (side : Side) (j : ℕ) (es : List Entry) (e : Entry) → slice_get es j ≡ Some e
-    → map f (slots_on side (take (suc j) es)) ≡ map f (slots_on side (take j es)) ++ f (side, e) ∷ []
-bounds_and_one f side j [] e at = absurd (none-some e at)
-bounds_and_one f side zero (g ∷ es) e at = ap (λ (h : Entry). f (side, h) ∷ []) (same_Some g e at)
-bounds_and_one f side (suc j) (g ∷ es) e at = ap (λ (vs : List ℕ). f (side, g) ∷ vs) (bounds_and_one f side j es e at)
+-- the entries on which a rule is defined are in the table
+pub listed_in_table : (supports : List Support) (r : Rule) (e : Entry) (o : Option Entries) (es : Entries)
+    → option_map listed o ≡ (if applies supports r e then Some ((parts_over supports r).rests_on e) else None) → o ≡ Some es
+    → are_entries (listed es) ≡ true
+listed_in_table supports r e o es h is =
+    let on = defined_entries supports r e o es h is in
+    subst (λ (fs : List Entry). are_entries fs ≡ true) on.1 (defined (parts_over supports r) e on.0).premises
 
--- places of the first entries and of one more
-pub all_of_front : {X : Type 0} (j : ℕ) (xs : List X) → length xs ≡ j → take j xs ≡ xs
-all_of_front j xs h = take_all j xs (omega arith)
+-- the first of entries of the table, and the others
+pub first_in_table : (e : Entry) (es : List Entry) → are_entries (e ∷ es) ≡ true → IsEntry e
+first_in_table e es h = (and_parts (is_entry e) (are_entries es) h).0
 
--- past the end there is none more
-pub ended : {X : Type 0} (j : ℕ) (xs : List X) → slice_get xs j ≡ None → j ≤ length xs → length xs ≡ j
-ended zero [] at short = refl
-ended (suc j) [] at short = absurd (omega arith)
-ended zero (x ∷ xs) at short = absurd (none-some x (sym at))
-ended (suc j) (x ∷ xs) at short = let rest = ended j xs at (omega arith) in omega arith
+pub rest_in_table : (e : Entry) (es : List Entry) → are_entries (e ∷ es) ≡ true → are_entries es ≡ true
+rest_in_table e es h = (and_parts (is_entry e) (are_entries es) h).1

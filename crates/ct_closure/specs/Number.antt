@@ -7,10 +7,11 @@ use Rattle.ct_codes.specs.declared.claim.Side.TheVariants.{Lower, Upper}
 use Rattle.ct_codes.specs.Entry.{unrestricted, constant_weight}
 use Rattle.ct_rule_parts.specs.Slot.{Slot}
 
--- how many distances the table has, from 3 on, and how many even ones, from 4 on
+-- how many distances the table has, from 3 on
 abbrev pub distances : ℕ
 distances = MAX_N - 2
 
+-- how many of them are even, from 4 on
 abbrev pub even_distances : ℕ
 even_distances = MAX_N / 2 - 1
 

@@ -46,11 +46,12 @@ pub record AreChained (entries : List (Option Entry)) (before last : List (Optio
   pub before_is : (e : Entry) (place other : ℕ) → IsPlaceOf entries e place → slice_index_or before place None ≡ Some other → (other < place) × IsPlaceOf entries e other
   pub before_of : (e : Entry) (place other : ℕ) → IsPlaceOf entries e place → IsPlaceOf entries e other → other < place → IsUpTo (slice_index_or before place None) other
 
--- the last place of an entry, and another last place of it
+-- the last place of an entry, where there is one
 abbrev pub last_at : List (Option ℕ) → Option Entry → Option ℕ
 last_at last None = None
 last_at last (Some e) = slice_index_or last (entry_number e) None
 
+-- the last places with another one of an entry
 abbrev pub with_last : List (Option ℕ) → Option Entry → ℕ → List (Option ℕ)
 with_last last None place = last
 with_last last (Some e) place = slice_set last (entry_number e) (Some place)

@@ -4,12 +4,14 @@ ghost use Rattle.std.specs.Prelude.{◌≡◌, ◌+◌, ◌*◌, ◌<◌, ◌≤
 ghost use Rattle.ct_words.specs.declared.limits.TheConstants.{MAX_BOUND};
 ghost use Rattle.ct_codes.specs.declared.entry.Entry.{Entry};
 ghost use Rattle.ct_codes.specs.Entry.{IsEntry};
+ghost use Rattle.ct_rule_parts.specs.Entries.{listed};
+ghost use Rattle.ct_rule_parts.specs.Parts.{are_entries, slots_on};
 ghost use Rattle.ct_rule_parts.specs.Slot.{IsBetter};
 ghost use Rattle.ct_rule_parts.specs.Support.{AllStand};
 ghost use Rattle.ct_rules.specs.declared.rule.Rule.{Rule};
 ghost use Rattle.ct_rules.specs.Closed.{AreTrue, IsClosed};
 ghost use Rattle.ct_rules.specs.Listing.{alone_on};
-ghost use Rattle.ct_rules.specs.Rule.{rule_side, is_alone, applies, premises_at, parts_over};
+ghost use Rattle.ct_rules.specs.Rule.{rule_side, is_alone, applies, parts_over};
 ghost use Rattle.ct_closure.specs.Closing.{IsPending, CanClose, IsClosing, HasMoreLines};
 ghost use Rattle.ct_closure.specs.Kept.{IsKept, Grew, with_line, reason_of};
 ghost use Rattle.ct_closure.specs.Number.{bound_of};
@@ -26,8 +28,8 @@ use crate::side_by_side::mark_side_by_side;
 use crate::worklist::Worklist;
 use ct_codes::{Claim, Entry, Side};
 use ct_rules::{
-    LOWER_RULES, LOWER_WEIGHT_RULES, Line, MOST_PREMISES, Rule, Support, UPPER_RULES,
-    UPPER_WEIGHT_RULES, rested_on_by, rests_on, rule_side,
+    Entries, LOWER_RULES, LOWER_WEIGHT_RULES, Line, Rule, Support, UPPER_RULES, UPPER_WEIGHT_RULES,
+    defined_on, rested_on_by, rule_side,
 };
 use smallvec::SmallVec;
 use std::alloc::{AllocError, Global};
@@ -53,27 +55,29 @@ impl Model for Closing {
     ghost view = { λ c. record { kept = c.kept; work = c.work; evaluations = c.evaluations } };
 }
 
-/// How many entries there are at most among which are all that rest on another by a rule with neither numbers nor a support.
-const MOST_DEPENDENTS: usize = 3;
-
-/// The places of the lines that give the bounds that the rule rests on.
+/// The places of the lines that give the bounds of the entries of the table, from a side, in order.
 fn reasons(
     alloc: Global,
-    supports: &[Support],
     kept: &Kept,
-    rule: Rule,
-    entry: Entry,
+    side: Side,
+    entries: Entries,
 ) -> Result<SmallVec<usize, 2>, AllocError>
-    requires { applies supports.now rule entry ≡ true }
-    ensures { IfOk result (λ from. from.items ≡ map (reason_of kept.now) (premises_at supports.now rule entry)) }
+    requires { are_entries (listed entries) ≡ true }
+    ensures { IfOk result (λ from. from.items ≡ map (reason_of kept.now) (slots_on side (listed entries))) }
 {
-    let side = rule_side(rule);
     let mut from = SmallVec::new(alloc);
-    for j in 0..MOST_PREMISES {
-        let Some(premise) = rests_on(supports, rule, entry, j) else {
-            return Ok(from);
-        };
-        from.push(kept.reason(side, premise))?;
+    match entries {
+        Entries::Zero => {}
+        Entries::One(first) => from.push(kept.reason(side, first))?,
+        Entries::Two(first, second) => {
+            from.push(kept.reason(side, first))?;
+            from.push(kept.reason(side, second))?;
+        }
+        Entries::Three(first, second, third) => {
+            from.push(kept.reason(side, first))?;
+            from.push(kept.reason(side, second))?;
+            from.push(kept.reason(side, third))?;
+        }
     }
     Ok(from)
 }
@@ -92,13 +96,16 @@ fn improve(
     ensures improved { OnOk result (kept.new ≡ with_line kept.old (line_by supports.now kept.old rule entry value)) }
     ensures unchanged { OnErr result (kept.new ≡ kept.old) }
 {
-    let from = reasons(alloc, supports, kept, rule, entry)?;
-    let claim = Claim {
-        side: rule_side(rule),
-        entry,
-        value,
+    let side = rule_side(rule);
+    let Some(premises) = defined_on(supports, rule, entry) else {
+        unreachable!()
     };
-    kept.put(Line { claim, rule, from })
+    let from = reasons(alloc, kept, side, premises)?;
+    kept.put(Line {
+        claim: Claim { side, entry, value },
+        rule,
+        from,
+    })
 }
 
 /// Marks the entry, where it is in the table and the rule gives something better there.
@@ -141,8 +148,9 @@ fn mark_by_rule(
     ensures tested { OnOk result (IsTestedFrom supports.now kept.now.bounds work.new entry rule) }
     ensures kept { KeepsMarks work.old work.new }
 {
-    for k in 0..MOST_DEPENDENTS {
-        let Some(dependent) = rested_on_by(rule, entry, k) else {
+    let dependents = rested_on_by(rule, entry);
+    for k in 0..dependents.len() {
+        let Some(dependent) = dependents.get(k) else {
             return Ok(());
         };
         test(supports, kept, work, rule, dependent, evaluations)?;

@@ -1,15 +1,16 @@
 //! What a table keeps: the lines of a derivation, and for each slot its bound and the line that gives it.
 
-ghost use Rattle.std.specs.Prelude.{◌≡◌, ◌+◌, ◌-◌, ◌<◌, ◌≤◌, ◌*◌, ◌++◌, [], ℕ, List, OnOk, OnErr, IfOk, length, map, replicate, take, drop, slice_get, Some};
+ghost use Rattle.std.specs.Prelude.{◌≡◌, ◌+◌, ◌-◌, ◌<◌, ◌≤◌, ◌*◌, ◌++◌, ◌↔◌, false, [], ℕ, List, All, OnOk, OnErr, IfOk, length, map, replicate, take, drop, slice_get, Some};
 ghost use Rattle.ct_codes.specs.Entry.{IsEntry};
 ghost use Rattle.ct_rule_parts.specs.declared.support.Support.{Support};
 ghost use Rattle.ct_closure.specs.Number.{bound_of, entries_to, side_number, side_size};
 ghost use Rattle.ct_closure.specs.Kept.{with_line, reason_of, set_back, ground_rule, IsKept};
-ghost use Rattle.ct_removal.specs.Removal.{only, lowered_line};
+ghost use Rattle.ct_rules.specs.Rule.{place_of};
+ghost use Rattle.ct_removal.specs.Removal.{names_one, only, lowered_line};
 ghost use Rattle.ct_closure.specs.Inside.Ground.{ground_value, ground_line};
 ghost use Rattle.ct_closure.specs.Inside.Started.{IsStarted};
 
-use crate::lowering::lower_lines;
+use crate::lowering::{lower_lines, names_place};
 use crate::number::{SLOTS, count_in_length, entry_in, slot_number};
 use ct_codes::{Claim, Entry, Side};
 use ct_rules::{Line, Rule, value};
@@ -289,6 +290,13 @@ impl Kept {
         self.bounds = undo.bounds;
         self.reasons = undo.reasons;
         self.later = undo.later;
+    }
+
+    /// Whether the rule of a line after those of the base names the support at a place.
+    pub fn names(&self, place: u32) -> bool
+        ensures { (result ≡ false) ↔ All (λ l. names_one (only place) (place_of l.rule) ≡ false) (drop self.now.base self.now.lines) }
+    {
+        names_place(&self.later, place)
     }
 
     /// Lowers the rule of each line after those of the base, as it is over the supports that are left once the one at a place

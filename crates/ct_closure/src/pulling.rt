@@ -1,10 +1,11 @@
 //! The best bound that the rules give at a slot over what stands.
 
-ghost use Rattle.std.specs.Prelude.{◌≡◌, ◌<◌, ◌≤◌, ◌^◌, ℕ, List, true, false, Some, None, IfSome, IfNone, All, map, length};
+ghost use Rattle.std.specs.Prelude.{◌≡◌, ◌<◌, ◌≤◌, ◌^◌, ℕ, List, true, false, Some, None, IfSome, All, drop};
 ghost use Rattle.ct_words.specs.declared.limits.TheConstants.{MAX_BOUND};
 ghost use Rattle.ct_codes.specs.declared.claim.Side.TheVariants.{Lower};
 ghost use Rattle.ct_codes.specs.Entry.{IsEntry};
 ghost use Rattle.ct_rule_parts.specs.Parts.{are_entries};
+ghost use Rattle.ct_rule_parts.specs.Slot.{IsNoBetter};
 ghost use Rattle.ct_rule_parts.specs.Support.{AllStand};
 ghost use Rattle.ct_rules.specs.declared.rule.Rule.{Rule};
 ghost use Rattle.ct_rules.specs.declared.rule.Rule.TheVariants.{L11};
@@ -21,38 +22,11 @@ use crate::best::Best;
 use crate::kept::Kept;
 use crate::places::SupportPlaces;
 use crate::side_by_side::best_side_by_side;
-use arrayvec::ArrayVec;
 use ct_codes::{Entry, Side};
 use ct_rules::{
-    LOWER_RULES, LOWER_WEIGHT_RULES, MOST_PREMISES, Rule, Support, UPPER_RULES, UPPER_WEIGHT_RULES,
-    condition, rests_on, rule_side, value_where_defined,
+    Entries, LOWER_RULES, LOWER_WEIGHT_RULES, Rule, Support, UPPER_RULES, UPPER_WEIGHT_RULES,
+    defined_on, rule_side, value_where_defined,
 };
-
-/// The bounds of all that the rule rests on at an entry of the table, in order, where all of it is in the table.
-fn premise_bounds(
-    supports: &[Support],
-    kept: &Kept,
-    rule: Rule,
-    entry: Entry,
-) -> Option<ArrayVec<u32, MOST_PREMISES>>
-    requires { IsEntry entry }
-    ensures bounds { IfSome result (λ values. values.items ≡ map (bound_of kept.now.bounds) (premises_at supports.now rule entry)) }
-    ensures all { IfSome result (λ _. are_entries ((parts_over supports.now rule).rests_on entry) ≡ true) }
-    ensures not_all { IfNone result (are_entries ((parts_over supports.now rule).rests_on entry) ≡ false) }
-{
-    let side = rule_side(rule);
-    let mut values = ArrayVec::new();
-    for j in 0..MOST_PREMISES {
-        let Some(premise) = rests_on(supports, rule, entry, j) else {
-            return Some(values);
-        };
-        if !premise.in_table() {
-            return None;
-        }
-        values.push(kept.bound(side, premise));
-    }
-    Some(values)
-}
 
 /// The bound that the rule gives at an entry of the table over what stands. It takes no memory.
 pub fn offer(supports: &[Support], kept: &Kept, rule: Rule, entry: Entry) -> Option<u32>
@@ -60,11 +34,27 @@ pub fn offer(supports: &[Support], kept: &Kept, rule: Rule, entry: Entry) -> Opt
     ensures value { result ≡ value_over supports.now (bound_of kept.now.bounds) rule entry }
     ensures limit { IfSome result (λ v. v ≤ MAX_BOUND) }
 {
-    if !condition(supports, rule, entry) {
-        return None;
+    let side = rule_side(rule);
+    let premises = defined_on(supports, rule, entry)?;
+    match premises {
+        Entries::Zero => value_where_defined(supports, rule, entry, &[]),
+        Entries::One(first) => {
+            let bounds = [kept.bound(side, first)];
+            value_where_defined(supports, rule, entry, &bounds)
+        }
+        Entries::Two(first, second) => {
+            let bounds = [kept.bound(side, first), kept.bound(side, second)];
+            value_where_defined(supports, rule, entry, &bounds)
+        }
+        Entries::Three(first, second, third) => {
+            let bounds = [
+                kept.bound(side, first),
+                kept.bound(side, second),
+                kept.bound(side, third),
+            ];
+            value_where_defined(supports, rule, entry, &bounds)
+        }
     }
-    let values = premise_bounds(supports, kept, rule, entry)?;
-    value_where_defined(supports, rule, entry, values.as_slice())
 }
 
 /// Asks a rule for its bound over what stands.
@@ -106,6 +96,18 @@ fn ask_each(
     }
 }
 
+/// The rules of the slot with neither numbers nor a support, but the first, which gives what stands there from the start.
+fn others_alone(side: Side, entry: Entry) -> &'static [Rule]
+    ensures { result.now ≡ drop 1 (rules_alone (side, entry)) }
+{
+    match (side, entry.w) {
+        (Side::Lower, None) => &LOWER_RULES[1..],
+        (Side::Lower, Some(_)) => &LOWER_WEIGHT_RULES[1..],
+        (Side::Upper, None) => &UPPER_RULES[1..],
+        (Side::Upper, Some(_)) => &UPPER_WEIGHT_RULES[1..],
+    }
+}
+
 /// Asks each rule of the slot with neither numbers nor a support.
 fn ask_alone(
     supports: &[Support],
@@ -115,40 +117,14 @@ fn ask_alone(
     best: &mut Best,
     evaluations: &mut u64,
 )
-    requires { IsEntry entry }
+    requires entry { IsEntry entry }
+    requires kept { IsKept supports.now kept.now }
+    requires standing { IsNoBetter side (bound_of kept.now.bounds (side, entry)) best.old.value }
     ensures pulled { IsPulled supports.now (bound_of kept.now.bounds) (side, entry) best.old best.new }
     ensures within { All (IsWithin supports.now (bound_of kept.now.bounds) (side, entry) best.new.value) (rules_alone (side, entry)) }
 {
-    match (side, entry.w) {
-        (Side::Lower, None) => {
-            ask_each(supports, kept, &LOWER_RULES, side, entry, best, evaluations)
-        }
-        (Side::Lower, Some(_)) => {
-            ask_each(
-                supports,
-                kept,
-                &LOWER_WEIGHT_RULES,
-                side,
-                entry,
-                best,
-                evaluations,
-            )
-        }
-        (Side::Upper, None) => {
-            ask_each(supports, kept, &UPPER_RULES, side, entry, best, evaluations)
-        }
-        (Side::Upper, Some(_)) => {
-            ask_each(
-                supports,
-                kept,
-                &UPPER_WEIGHT_RULES,
-                side,
-                entry,
-                best,
-                evaluations,
-            )
-        }
-    }
+    let rules = others_alone(side, entry);
+    ask_each(supports, kept, rules, side, entry, best, evaluations);
 }
 
 /// The rule by which the support at a place gives to an entry.

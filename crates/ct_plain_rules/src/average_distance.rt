@@ -1,6 +1,7 @@
 //! The average distance of the words: U2.
 
-ghost use Rattle.std.specs.Prelude.{◌≡◌, true, false, [], Some};
+ghost use Rattle.std.specs.Prelude.{◌≡◌, ◌+◌, true, false, [], Some};
+ghost use Rattle.ct_words.specs.declared.limits.TheConstants.{MAX_N};
 ghost use Rattle.ct_codes.specs.Entry.{unrestricted, constant_weight};
 ghost use Rattle.ct_rule_parts.specs.Parts.{is_defined};
 ghost use Rattle.ct_plain_rules.specs.AverageDistance.{average_distance};
@@ -25,5 +26,5 @@ pub fn known_average_distance()
     ensures long_odd { is_defined average_distance (unrestricted 12 5) ≡ false }
     ensures within { is_defined average_distance (unrestricted 8 6) ≡ true }
     ensures of_weight { is_defined average_distance (constant_weight 8 6 4) ≡ false }
-    ensures no_entry { is_defined average_distance (unrestricted 29 6) ≡ false }
+    ensures no_entry { is_defined average_distance (unrestricted (MAX_N + 1) 6) ≡ false }
 {}

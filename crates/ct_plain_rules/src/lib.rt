@@ -32,6 +32,6 @@ pub use neighbours::{
 pub use one_word::known_one_word;
 pub use opposite_words::known_opposite_words;
 pub use punctured::known_punctured;
-pub use side_by_side::{known_side_by_side, part_side_by_side};
-pub use sums::{count_of_sums, known_sums, part_of_sums, sums_of};
+pub use side_by_side::{known_side_by_side, parts_side_by_side};
+pub use sums::{count_of_sums, known_sums, parts_of_sums, sums_of};
 pub use with_parity::known_with_parity;

@@ -1,6 +1,7 @@
 //! The words 0..0 and 1..1: L2.
 
-ghost use Rattle.std.specs.Prelude.{◌≡◌, true, false, [], Some};
+ghost use Rattle.std.specs.Prelude.{◌≡◌, ◌+◌, true, false, [], Some};
+ghost use Rattle.ct_words.specs.declared.limits.TheConstants.{MAX_N};
 ghost use Rattle.ct_codes.specs.Entry.{unrestricted, constant_weight};
 ghost use Rattle.ct_rule_parts.specs.Parts.{is_defined};
 ghost use Rattle.ct_plain_rules.specs.OppositeWords.{opposite_words};
@@ -13,5 +14,5 @@ pub fn known_opposite_words()
     ensures too_far { is_defined opposite_words (unrestricted 5 6) ≡ false }
     ensures within { is_defined opposite_words (unrestricted 8 6) ≡ true }
     ensures of_weight { is_defined opposite_words (constant_weight 8 6 4) ≡ false }
-    ensures no_entry { is_defined opposite_words (unrestricted 29 6) ≡ false }
+    ensures no_entry { is_defined opposite_words (unrestricted (MAX_N + 1) 6) ≡ false }
 {}

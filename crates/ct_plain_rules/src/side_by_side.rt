@@ -1,17 +1,19 @@
 //! Words side by side: L11.
 
-ghost use Rattle.std.specs.Prelude.{◌≡◌, ℕ, true, false, ◌∷◌, [], slice_get, Some};
+ghost use Rattle.std.specs.Prelude.{◌≡◌, ◌+◌, ℕ, true, false, ◌∷◌, [], Some};
+ghost use Rattle.ct_words.specs.declared.limits.TheConstants.{MAX_N};
 ghost use Rattle.ct_codes.specs.declared.entry.Entry.{Entry};
 ghost use Rattle.ct_codes.specs.Entry.{unrestricted, constant_weight};
+ghost use Rattle.ct_rule_parts.specs.Entries.{listed};
 ghost use Rattle.ct_rule_parts.specs.Parts.{is_defined};
 ghost use Rattle.ct_plain_rules.specs.SideBySide.{side_by_side};
 
 use ct_codes::Entry;
-use ct_rule_parts::one_of;
+use ct_rule_parts::Entries;
 
-/// The entry of the premise at place j of L11 with the length m and the distance c: A(m,c), and A(n−m,d−c).
-pub fn part_side_by_side(m: u32, c: u32, entry: Entry, j: usize) -> Option<Entry>
-    ensures { result ≡ slice_get ((side_by_side m c).rests_on entry) j }
+/// The entries of the premises of L11 with the length m and the distance c: A(m,c), and A(n−m,d−c).
+pub fn parts_side_by_side(m: u32, c: u32, entry: Entry) -> Entries
+    ensures { listed result ≡ (side_by_side m c).rests_on entry }
 {
     let first = Entry {
         n: m,
@@ -23,7 +25,7 @@ pub fn part_side_by_side(m: u32, c: u32, entry: Entry, j: usize) -> Option<Entry
         d: entry.d.saturating_sub(c),
         w: None,
     };
-    one_of(first, second, j)
+    Entries::Two(first, second)
 }
 
 /// Where L11 is defined, with the least lengths and distances of its parts, what it rests on and what it gives.
@@ -42,5 +44,5 @@ pub fn known_side_by_side()
     ensures second_near { is_defined (side_by_side 5 4) (unrestricted 12 6) ≡ false }
     ensures within { is_defined (side_by_side 4 3) (unrestricted 8 6) ≡ true }
     ensures of_weight { is_defined (side_by_side 4 3) (constant_weight 8 6 4) ≡ false }
-    ensures no_entry { is_defined (side_by_side 4 3) (unrestricted 29 6) ≡ false }
+    ensures no_entry { is_defined (side_by_side 4 3) (unrestricted (MAX_N + 1) 6) ≡ false }
 {}

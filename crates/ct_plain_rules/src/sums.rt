@@ -1,29 +1,27 @@
 //! u followed by u + v: L8.
 
-ghost use Rattle.std.specs.Prelude.{◌≡◌, true, false, ◌^◌, ◌∷◌, [], slice_get, Some, None};
+ghost use Rattle.std.specs.Prelude.{◌≡◌, ◌/◌, ◌+◌, true, false, ◌^◌, ◌∷◌, [], Some, None};
+ghost use Rattle.ct_words.specs.declared.limits.TheConstants.{MAX_N, MAX_BOUND};
 ghost use Rattle.ct_codes.specs.declared.claim.Side.TheVariants.{Lower};
 ghost use Rattle.ct_codes.specs.Entry.{IsEntry, unrestricted, constant_weight};
+ghost use Rattle.ct_rule_parts.specs.Entries.{listed};
 ghost use Rattle.ct_rule_parts.specs.Parts.{is_defined, within_limit};
-ghost use Rattle.ct_plain_rules.specs.Sums.{sums, parts_of_sums, count_of_sums};
+ghost use Rattle.ct_plain_rules.specs.Sums.{sums};
 
 use crate::neighbours::{half_as_long, twice_as_long};
 use ct_codes::Entry;
-use ct_rule_parts::{first, one_of, only, second};
+use ct_rule_parts::{Entries, first, second};
 
-/// The entry of L8's premise at place j: from distance 5 on the codes of the u come first.
-pub fn part_of_sums(entry: Entry, j: usize) -> Option<Entry>
+/// The entries of L8's premises: from distance 5 on the codes of the u come first.
+pub fn parts_of_sums(entry: Entry) -> Entries
     requires { IsEntry entry }
-    ensures { result ≡ slice_get (sums.rests_on entry) j }
+    ensures { listed result ≡ sums.rests_on entry }
 {
     let d = entry.d;
     if d < 5 {
-        only(half_as_long(entry, d), j)
+        Entries::One(half_as_long(entry, d))
     } else {
-        one_of(
-            half_as_long(entry, d.div_ceil(2)),
-            half_as_long(entry, d),
-            j,
-        )
+        Entries::Two(half_as_long(entry, d.div_ceil(2)), half_as_long(entry, d))
     }
 }
 
@@ -39,18 +37,17 @@ pub fn count_of_sums(entry: Entry, values: &[u32]) -> u64
     }
 }
 
-/// The entry at place k of those among which are all whose sums have words of this one.
-pub fn sums_of(entry: Entry, k: usize) -> Option<Entry>
+/// The entries among which are all whose sums have words of this one.
+pub fn sums_of(entry: Entry) -> Entries
     requires { IsEntry entry }
-    ensures { result ≡ slice_get (sums.rested_on_by entry) k }
+    ensures { listed result ≡ sums.rested_on_by entry }
 {
     let d = entry.d;
-    match k {
-        0 => Some(twice_as_long(entry, d)),
-        1 => Some(twice_as_long(entry, 2 * d - 1)),
-        2 => Some(twice_as_long(entry, 2 * d)),
-        _ => None,
-    }
+    Entries::Three(
+        twice_as_long(entry, d),
+        twice_as_long(entry, 2 * d - 1),
+        twice_as_long(entry, 2 * d),
+    )
 }
 
 /// Where L8 is defined, what it rests on and what it gives: A(16,4) ≥ 2048 and A(16,8) ≥ 32 from A(8,4) = 16 and
@@ -70,12 +67,12 @@ pub fn known_sums()
     ensures near { sums.number (unrestricted 16 4) (16 ∷ []) ≡ Some 2048 }
     ensures far { sums.number (unrestricted 16 8) (16 ∷ 2 ∷ []) ≡ Some 32 }
     ensures at_five { sums.number (unrestricted 6 5) (2 ∷ 1 ∷ []) ≡ Some 2 }
-    ensures greatest { within_limit Lower (sums.number (unrestricted 28 6) (2 ^ 27 ∷ 2 ∷ [])) ≡ Some (2 ^ 28) }
+    ensures greatest { within_limit Lower (sums.number (unrestricted MAX_N 6) (MAX_BOUND / 2 ∷ 2 ∷ [])) ≡ Some MAX_BOUND }
     // 17 · 15,790,321 is 2^28 + 1.
     ensures above { within_limit Lower (sums.number (unrestricted 28 6) (17 ∷ 15790321 ∷ [])) ≡ None }
-    ensures far_above { within_limit Lower (sums.number (unrestricted 28 6) (2 ^ 27 ∷ 4 ∷ [])) ≡ None }
+    ensures far_above { within_limit Lower (sums.number (unrestricted MAX_N 6) (MAX_BOUND / 2 ∷ 4 ∷ [])) ≡ None }
     ensures odd_length { is_defined sums (unrestricted 7 4) ≡ false }
     ensures within { is_defined sums (unrestricted 8 6) ≡ true }
     ensures of_weight { is_defined sums (constant_weight 8 6 4) ≡ false }
-    ensures no_entry { is_defined sums (unrestricted 29 6) ≡ false }
+    ensures no_entry { is_defined sums (unrestricted (MAX_N + 1) 6) ≡ false }
 {}

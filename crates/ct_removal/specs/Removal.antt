@@ -33,11 +33,12 @@ abbrev pub names_one : Places → Option ℕ → Bool
 names_one gone None = false
 names_one gone (Some place) = gone place
 
--- a rule over the supports that are left
+-- a rule that names this place, or none, with the place as it is over the supports that are left
 abbrev pub lowered_by : Places → Rule → Option ℕ → Rule
 lowered_by gone r None = r
 lowered_by gone r (Some place) = with_place r (lowered_place gone place)
 
+-- a rule over the supports that are left
 abbrev pub lowered : Places → Rule → Rule
 lowered gone r = lowered_by gone r (place_of r)
 

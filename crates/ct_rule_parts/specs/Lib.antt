@@ -1,3 +1,4 @@
 pub mod Support
 pub mod Slot
 pub mod Parts
+pub mod Entries

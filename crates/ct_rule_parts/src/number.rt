@@ -1,9 +1,9 @@
 //! Numbers that rules make of bounds.
 
-ghost use Rattle.std.specs.Prelude.{◌≡◌, ◌<◌, ◌≤◌, ◌^◌, ◌∷◌, [], slice_get, Some, IfSome};
+ghost use Rattle.std.specs.Prelude.{◌≡◌, ◌<◌, ◌≤◌, ◌^◌, Some, IfSome};
 ghost use Rattle.ct_rule_parts.specs.Parts.{first, second, within_limit};
 
-use ct_codes::{Entry, Side};
+use ct_codes::Side;
 use ct_words::MAX_BOUND;
 
 /// The first of the values, 0 where there is none.
@@ -20,24 +20,6 @@ pub fn second(values: &[u32]) -> u64
     ensures small { result < 2 ^ 32 }
 {
     values.get(1).map_or(0, |value| u64::from(*value))
-}
-
-/// The one entry, at place 0.
-pub fn only(entry: Entry, j: usize) -> Option<Entry>
-    ensures { result ≡ slice_get (entry ∷ []) j }
-{
-    if j == 0 { Some(entry) } else { None }
-}
-
-/// The first of two entries at place 0, the second at place 1.
-pub fn one_of(first: Entry, second: Entry, j: usize) -> Option<Entry>
-    ensures { result ≡ slice_get (first ∷ second ∷ []) j }
-{
-    match j {
-        0 => Some(first),
-        1 => Some(second),
-        _ => None,
-    }
 }
 
 /// The number as a bound of the side: a lower one above `MAX_BOUND` is none, an upper one is taken as `MAX_BOUND`.

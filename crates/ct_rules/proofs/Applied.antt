@@ -1,5 +1,5 @@
 -- What is known where a rule is defined: its premises, its value, the support that it names.
-use Rattle.std.proofs.Common.{◌≡◌, ℕ, zero, suc, ◌≤◌, List, [], ◌∷◌, All, refl, sym, ap, subst, arith, leb-true, le-leb}
+use Rattle.std.proofs.Common.{◌≡◌, ℕ, zero, suc, ◌≤◌, List, [], ◌∷◌, All, option_map, refl, sym, ap, subst, ◌∙◌, arith, leb-true, le-leb}
 use Rattle.std.specs.Prelude.{Bool, true, false, ◌&&◌, if◌then◌else◌, nat_le, min, slice_get, Option, Some, None, IsSome}
 use Rattle.std.specs.Option.{ForSome}
 use Rattle.std.proofs.lemmas.Bool.{and_parts}
@@ -12,6 +12,8 @@ use Rattle.ct_codes.specs.declared.claim.Side.TheVariants.{Lower, Upper}
 use Rattle.ct_codes.specs.Entry.{IsEntry, is_entry}
 use Rattle.ct_rule_parts.specs.declared.support.Support.{Support}
 use Rattle.ct_rule_parts.specs.Parts.{RuleParts, are_entries, is_defined, slots_on, within_limit}
+use Rattle.ct_rule_parts.specs.declared.entries.Entries.{Entries}
+use Rattle.ct_rule_parts.specs.Entries.{listed}
 use Rattle.ct_rule_parts.specs.Slot.{Slot}
 use Rattle.ct_rule_parts.specs.Support.{Stands, AllStand}
 use Rattle.ct_rules.specs.declared.rule.Rule.{Rule}
@@ -141,3 +143,10 @@ entries_at (e ∷ es) (suc j) f h at = entries_at es j f (and_parts (is_entry e)
 pub entry_at : (p : RuleParts) (e : Entry) (j : ℕ) (f : Entry) → is_defined p e ≡ true → slice_get (p.rests_on e) j ≡ Some f
     → IsEntry f
 entry_at p e j f h at = entries_at (p.rests_on e) j f (defined p e h).premises at
+
+-- the entries on which a rule is defined are those of the definition
+pub defined_entries : (supports : List Support) (r : Rule) (e : Entry) (o : Option Entries) (es : Entries)
+    → option_map listed o ≡ (if applies supports r e then Some ((parts_over supports r).rests_on e) else None) → o ≡ Some es
+    → (applies supports r e ≡ true) × ((parts_over supports r).rests_on e ≡ listed es)
+defined_entries supports r e o es h is =
+    cond_some (applies supports r e) ((parts_over supports r).rests_on e) (listed es) (sym h ∙ ap (option_map listed) is)

@@ -1,16 +1,19 @@
 -- The rows of the rules: each is lawful, has one side, and a rule that names a support needs one.
-use Rattle.std.proofs.Common.{◌≡◌, ℕ, [], ◌∷◌, All, Contains, refl, sym, ap, arith}
+use Rattle.std.proofs.Common.{◌≡◌, ℕ, List, [], ◌∷◌, ◌++◌, All, Contains, refl, sym, ap, ◌∙◌, arith, inl, inr}
 use Rattle.std.specs.Prelude.{Bool, true, false, ◌&&◌, not, Option, Some, None}
+use Rattle.std.specs.List.{list_all}
 use Rattle.ct_rule_parts.specs.Parts.{has_weight}
-use Rattle.std.proofs.lemmas.Bool.{false≢true}
-use Rattle.std.proofs.lemmas.List.Elements.{All-nil, All-cons}
+use Rattle.std.proofs.lemmas.Bool.{and_parts, false≢true}
+use Rattle.std.proofs.lemmas.List.Elements.{All-nil, All-cons, All-contains, Contains-append_cases}
 use Rattle.std.proofs.lemmas.Option.{none-some, same_Some}
 use Rattle.ct_codes.specs.declared.claim.Side.{Side}
 use Rattle.ct_codes.specs.declared.claim.Side.TheVariants.{Lower, Upper}
 use Rattle.ct_codes.specs.declared.entry.Entry.{Entry}
+use Rattle.ct_codes.specs.Entry.{unrestricted, constant_weight}
 use Rattle.ct_rule_parts.specs.declared.support.Support.{Support}
 use Rattle.ct_rule_parts.specs.declared.support.Support.TheVariants.{Nothing}
-use Rattle.ct_rules.specs.Listing.{alone_on}
+use Rattle.ct_rules.specs.declared.listing.TheConstants.{LOWER_RULES, UPPER_RULES, LOWER_WEIGHT_RULES, UPPER_WEIGHT_RULES}
+use Rattle.ct_rules.specs.Listing.{alone_on, rules_alone}
 use Rattle.ct_rule_parts.proofs.Lawful.{IsLawful}
 use Rattle.ct_plain_rules.proofs.LawfulOneWord.{one_word-lawful}
 use Rattle.ct_plain_rules.proofs.LawfulOppositeWords.{opposite_words-lawful}
@@ -32,7 +35,7 @@ use Rattle.ct_weight_rules.proofs.LawfulGivenCode.{given_code-lawful as given_co
 use Rattle.ct_weight_rules.proofs.LawfulAllWords.{all_words-lawful as all_words_of_weight-lawful}
 use Rattle.ct_rules.specs.declared.rule.Rule.{Rule}
 use Rattle.ct_rules.specs.declared.rule.Rule.TheVariants.{L1, L2, L3, L4, L5, L6, L7, L8, L10, L11, M1, M7, M10, U0, U1, U2, U3, U4, U5, U6, U7, U8, V0, V3}
-use Rattle.ct_rules.specs.Rule.{row_of, parts_of, place_of, with_place, is_alone, rule_side}
+use Rattle.ct_rules.specs.Rule.{Row, by_itself, by_numbers, by_support, row_of, parts_in, parts_of, parts_over, place_of, with_place, is_alone_in, is_alone, cited, rule_side}
 
 -- what each rule is made of is lawful
 pub lawful : (r : Rule) (c : Option Support) → IsLawful c (parts_of r c)
@@ -145,37 +148,114 @@ alone_listed (L10 place) alone = absurd (false≢true alone)
 alone_listed (L11 n d) alone = absurd (false≢true alone)
 alone_listed (M10 place) alone = absurd (false≢true alone)
 
--- the rules of these lists have neither numbers nor a support
+-- whether two sides are one
+abbrev same_side : Side → Side → Bool
+same_side Lower Lower = true
+same_side Upper Upper = true
+same_side side other = false
+
+same_side-is : (side other : Side) → same_side side other ≡ true → side ≡ other
+same_side-is Lower Lower h = refl
+same_side-is Upper Upper h = refl
+same_side-is Lower Upper h = absurd (false≢true h)
+same_side-is Upper Lower h = absurd (false≢true h)
+
+-- the rules of these lists have neither numbers nor a support, and one side
 abbrev pub IsAloneOn : Side → Rule → Type 0
 IsAloneOn side r = (is_alone r ≡ true) × (rule_side r ≡ side)
 
-pub alone_in_lists : (side : Side) → All (IsAloneOn side) (alone_on side)
+abbrev passes_alone : Side → Rule → Bool
+passes_alone side r = is_alone r && same_side (rule_side r) side
+
+all_alone : (side : Side) (rules : List Rule) → list_all (passes_alone side) rules ≡ true → All (IsAloneOn side) rules
+all_alone side [] h = All-nil (IsAloneOn side)
+all_alone side (r ∷ rules) h =
+    let parts = and_parts (passes_alone side r) (list_all (passes_alone side) rules) h in
+    let own = and_parts (is_alone r) (same_side (rule_side r) side) parts.0 in
+    All-cons (IsAloneOn side) r rules (own.0, same_side-is (rule_side r) side own.1) (all_alone side rules parts.1)
+
+pub lower_alone : All (IsAloneOn Lower) LOWER_RULES
 unfolding row_of
-alone_in_lists Lower =
-    All-cons (IsAloneOn Lower) L1 (L2 ∷ L3 ∷ L4 ∷ L5 ∷ L6 ∷ L7 ∷ L8 ∷ M1 ∷ M7 ∷ []) (refl, refl)
-    (All-cons (IsAloneOn Lower) L2 (L3 ∷ L4 ∷ L5 ∷ L6 ∷ L7 ∷ L8 ∷ M1 ∷ M7 ∷ []) (refl, refl)
-    (All-cons (IsAloneOn Lower) L3 (L4 ∷ L5 ∷ L6 ∷ L7 ∷ L8 ∷ M1 ∷ M7 ∷ []) (refl, refl)
-    (All-cons (IsAloneOn Lower) L4 (L5 ∷ L6 ∷ L7 ∷ L8 ∷ M1 ∷ M7 ∷ []) (refl, refl)
-    (All-cons (IsAloneOn Lower) L5 (L6 ∷ L7 ∷ L8 ∷ M1 ∷ M7 ∷ []) (refl, refl)
-    (All-cons (IsAloneOn Lower) L6 (L7 ∷ L8 ∷ M1 ∷ M7 ∷ []) (refl, refl)
-    (All-cons (IsAloneOn Lower) L7 (L8 ∷ M1 ∷ M7 ∷ []) (refl, refl)
-    (All-cons (IsAloneOn Lower) L8 (M1 ∷ M7 ∷ []) (refl, refl)
-    (All-cons (IsAloneOn Lower) M1 (M7 ∷ []) (refl, refl)
-    (All-cons (IsAloneOn Lower) M7 ([]) (refl, refl)
-    (All-nil (IsAloneOn Lower)))))))))))
-alone_in_lists Upper =
-    All-cons (IsAloneOn Upper) U0 (U1 ∷ U2 ∷ U3 ∷ U4 ∷ U5 ∷ U6 ∷ U7 ∷ U8 ∷ V0 ∷ V3 ∷ []) (refl, refl)
-    (All-cons (IsAloneOn Upper) U1 (U2 ∷ U3 ∷ U4 ∷ U5 ∷ U6 ∷ U7 ∷ U8 ∷ V0 ∷ V3 ∷ []) (refl, refl)
-    (All-cons (IsAloneOn Upper) U2 (U3 ∷ U4 ∷ U5 ∷ U6 ∷ U7 ∷ U8 ∷ V0 ∷ V3 ∷ []) (refl, refl)
-    (All-cons (IsAloneOn Upper) U3 (U4 ∷ U5 ∷ U6 ∷ U7 ∷ U8 ∷ V0 ∷ V3 ∷ []) (refl, refl)
-    (All-cons (IsAloneOn Upper) U4 (U5 ∷ U6 ∷ U7 ∷ U8 ∷ V0 ∷ V3 ∷ []) (refl, refl)
-    (All-cons (IsAloneOn Upper) U5 (U6 ∷ U7 ∷ U8 ∷ V0 ∷ V3 ∷ []) (refl, refl)
-    (All-cons (IsAloneOn Upper) U6 (U7 ∷ U8 ∷ V0 ∷ V3 ∷ []) (refl, refl)
-    (All-cons (IsAloneOn Upper) U7 (U8 ∷ V0 ∷ V3 ∷ []) (refl, refl)
-    (All-cons (IsAloneOn Upper) U8 (V0 ∷ V3 ∷ []) (refl, refl)
-    (All-cons (IsAloneOn Upper) V0 (V3 ∷ []) (refl, refl)
-    (All-cons (IsAloneOn Upper) V3 ([]) (refl, refl)
-    (All-nil (IsAloneOn Upper))))))))))))
+lower_alone = all_alone Lower LOWER_RULES refl
+
+pub lower_weight_alone : All (IsAloneOn Lower) LOWER_WEIGHT_RULES
+unfolding row_of
+lower_weight_alone = all_alone Lower LOWER_WEIGHT_RULES refl
+
+pub upper_alone : All (IsAloneOn Upper) UPPER_RULES
+unfolding row_of
+upper_alone = all_alone Upper UPPER_RULES refl
+
+pub upper_weight_alone : All (IsAloneOn Upper) UPPER_WEIGHT_RULES
+unfolding row_of
+upper_weight_alone = all_alone Upper UPPER_WEIGHT_RULES refl
+
+-- those of one list are not defined at entries with a weight, those of the other at none without
+none_defined : (e : Entry) (rules : List Rule) → list_all (λ r. not ((parts_of r None).condition e)) rules ≡ true
+    → All (λ r. (parts_of r None).condition e ≡ false) rules
+none_defined e [] h = All-nil (λ r. (parts_of r None).condition e ≡ false)
+none_defined e (r ∷ rules) h =
+    let parts = and_parts (not ((parts_of r None).condition e)) (list_all (λ r. not ((parts_of r None).condition e)) rules) h in
+    All-cons (λ r. (parts_of r None).condition e ≡ false) r rules (is_false ((parts_of r None).condition e) parts.0)
+    (none_defined e rules parts.1)
+  where
+    is_false : (b : Bool) → not b ≡ true → b ≡ false
+    is_false true h = absurd (false≢true h)
+    is_false false h = refl
+
+lower_of_weight : (n d w : ℕ) → All (λ r. (parts_of r None).condition (constant_weight n d w) ≡ false) LOWER_RULES
+unfolding row_of
+lower_of_weight n d w = none_defined (constant_weight n d w) LOWER_RULES refl
+
+upper_of_weight : (n d w : ℕ) → All (λ r. (parts_of r None).condition (constant_weight n d w) ≡ false) UPPER_RULES
+unfolding row_of
+upper_of_weight n d w = none_defined (constant_weight n d w) UPPER_RULES refl
+
+lower_of_none : (n d : ℕ) → All (λ r. (parts_of r None).condition (unrestricted n d) ≡ false) LOWER_WEIGHT_RULES
+unfolding row_of
+lower_of_none n d = none_defined (unrestricted n d) LOWER_WEIGHT_RULES refl
+
+upper_of_none : (n d : ℕ) → All (λ r. (parts_of r None).condition (unrestricted n d) ≡ false) UPPER_WEIGHT_RULES
+unfolding row_of
+upper_of_none n d = none_defined (unrestricted n d) UPPER_WEIGHT_RULES refl
+
+-- a rule of two lists, not defined where those of one of them are not, is one of the other
+among_first : (e : Entry) (first second : List Rule) (r : Rule) → Contains (first ++ second) r
+    → All (λ q. (parts_of q None).condition e ≡ false) second → (parts_of r None).condition e ≡ true → Contains first r
+among_first e first second r among none here = elim (Contains-append_cases first second r among) [
+  | inl there ↦ there
+  | inr there ↦
+      absurd (false≢true (sym (All-contains (λ q. (parts_of q None).condition e ≡ false) second r none there) ∙ here))
+]
+
+among_second : (e : Entry) (first second : List Rule) (r : Rule) → Contains (first ++ second) r
+    → All (λ q. (parts_of q None).condition e ≡ false) first → (parts_of r None).condition e ≡ true → Contains second r
+among_second e first second r among none here = elim (Contains-append_cases first second r among) [
+  | inl there ↦
+      absurd (false≢true (sym (All-contains (λ q. (parts_of q None).condition e ≡ false) first r none there) ∙ here))
+  | inr there ↦ there
+]
+
+-- a rule alone stands in the list of each slot at which it is defined
+pub alone_at : (r : Rule) (n d : ℕ) (w : Option ℕ) → is_alone r ≡ true → (parts_of r None).condition (record { n = n; d = d; w = w }) ≡ true
+    → Contains (rules_alone (rule_side r, record { n = n; d = d; w = w })) r
+alone_at r n d w alone here = go (rule_side r) w (alone_listed r alone) here
+  where
+    go : (side : Side) (v : Option ℕ) → Contains (alone_on side) r → (parts_of r None).condition (record { n = n; d = d; w = v }) ≡ true
+        → Contains (rules_alone (side, record { n = n; d = d; w = v })) r
+    go Lower None among here = among_first (unrestricted n d) LOWER_RULES LOWER_WEIGHT_RULES r among (lower_of_none n d) here
+    go Lower (Some k) among here = among_second (constant_weight n d k) LOWER_RULES LOWER_WEIGHT_RULES r among (lower_of_weight n d k) here
+    go Upper None among here = among_first (unrestricted n d) UPPER_RULES UPPER_WEIGHT_RULES r among (upper_of_none n d) here
+    go Upper (Some k) among here = among_second (constant_weight n d k) UPPER_RULES UPPER_WEIGHT_RULES r among (upper_of_weight n d k) here
+
+-- a rule alone is made of the same whatever the supports
+alone_parts : (row : Row) (c d : Option Support) → is_alone_in row ≡ true → parts_in row c ≡ parts_in row d
+alone_parts (by_itself parts) c d alone = refl
+alone_parts (by_numbers parts) c d alone = absurd (false≢true alone)
+alone_parts (by_support named place parts) c d alone = absurd (false≢true alone)
+
+pub alone-parts : (r : Rule) (supports : List Support) → is_alone r ≡ true → parts_over supports r ≡ parts_of r None
+alone-parts r supports alone = alone_parts (row_of r) (cited supports r) None alone
 
 -- a rule that names no support and is not alone lays words side by side
 pub with_numbers : (r : Rule) → place_of r ≡ None → is_alone r ≡ false → (m : ℕ) × (c : ℕ) × (r ≡ L11 m c)

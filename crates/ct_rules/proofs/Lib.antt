@@ -1,5 +1,4 @@
 pub mod LawfulRows
-pub mod EntryFronts
 pub mod Applied
 pub mod RuleValues
 pub mod RuleLaws

@@ -1,41 +1,28 @@
 -- The list of the rules that can be defined at an entry has each that is defined there.
-use Rattle.std.proofs.Common.{◌≡◌, ℕ, zero, suc, ◌+◌, ◌-◌, ◌<◌, ◌≤◌, true, false, ◌&&◌, List, [], ◌∷◌, ◌++◌, length, map, All, Contains, flat_map, Option, Some, None, slice_get, refl, arith}
-use Rattle.std.specs.Prelude.{not, is_some}
+use Rattle.std.proofs.Common.{◌≡◌, ℕ, zero, suc, ◌+◌, ◌-◌, ◌<◌, ◌≤◌, true, false, ◌&&◌, List, [], ◌∷◌, ◌++◌, length, map, All, Contains, flat_map, Option, Some, None, slice_get, refl, sym, subst, arith}
+use Rattle.std.specs.Prelude.{Bool, is_some}
 use Rattle.std.specs.List.{range_with_len}
 use Rattle.std.proofs.lemmas.Bool.{and_parts, false≢true}
 use Rattle.std.proofs.lemmas.List.Elements.{All-contains, Contains-append_left, Contains-append_right}
 use Rattle.std.proofs.lemmas.List.FromFn.{length-range_with_len, get_or-range_with_len}
-use Rattle.std.proofs.lemmas.Option.{slice_get_within}
+use Rattle.std.proofs.lemmas.Option.{none-some, slice_get_within}
 use Rattle.ct_counting.proofs.Words.{Contains-map}
+use Rattle.ct_codes.specs.declared.claim.Side.TheVariants.{Lower}
 use Rattle.ct_codes.specs.declared.entry.Entry.{Entry}
 use Rattle.ct_codes.specs.Entry.{IsEntry, is_entry, unrestricted, constant_weight}
 use Rattle.ct_codes.proofs.EntryLemmas.{entry_limits}
 use Rattle.ct_rule_parts.specs.declared.support.Support.{Support}
+use Rattle.ct_rule_parts.specs.Parts.{RuleParts}
 use Rattle.ct_rule_parts.specs.Slot.{Slot}
+use Rattle.ct_rule_parts.proofs.EntryLists.{Contains-range_with_len, Contains-flat_map}
 use Rattle.ct_rule_parts.specs.Support.{size_at}
 use Rattle.ct_rules.specs.declared.rule.Rule.{Rule}
-use Rattle.ct_rules.specs.declared.rule.Rule.TheVariants.{L1, L2, L3, L4, L5, L6, L7, L8, L10, L11, M1, M7, M10, U0, U1, U2, U3, U4, U5, U6, U7, U8, V0, V3}
-use Rattle.ct_rules.specs.Rule.{row_of, rule_side, parts_over, applies}
+use Rattle.ct_rules.specs.declared.rule.Rule.TheVariants.{L10, L11, M10}
+use Rattle.ct_rules.specs.Rule.{row_of, rule_side, place_of, is_alone, parts_over, applies}
 use Rattle.ct_rules.specs.Closed.{IsSatisfied, IsClosed}
 use Rattle.ct_rules.specs.Listing.{rules_alone, side_by_side_rules, rules_with_numbers, rules_of_supports, rules_at}
 use Rattle.ct_rules.proofs.Applied.{IsDefined, defined, applies_from_premises}
-
--- a number between the ends of a range stands in it
-pub Contains-range_with_len : (low count i : ℕ) → low ≤ i → i < low + count → Contains (range_with_len low count) i
-Contains-range_with_len low count i h k = (
-  i - low,
-  omega (arith, length-range_with_len low count),
-  omega (arith, get_or-range_with_len low count (i - low) i (omega arith)),
-)
-
--- what stands in a list that is put together from others stands in it
-pub Contains-flat_map : {X Y : Type 0} (f : X → List Y) (xs : List X) (x : X) (y : Y) → Contains xs x
-    → Contains (f x) y → Contains (flat_map f xs) y
-Contains-flat_map f [] x y h k = absurd (omega arith)
-Contains-flat_map f (z ∷ xs) x y (zero, within, is) k =
-    Contains-append_left (f z) (flat_map f xs) y (rw is k)
-Contains-flat_map f (z ∷ xs) x y (suc i, within, is) k =
-    Contains-append_right (f z) (flat_map f xs) y (Contains-flat_map f xs x y (i, omega arith, is) k)
+use Rattle.ct_rules.proofs.LawfulRows.{alone_at, alone-parts, with_numbers}
 
 -- words side by side, within the limits
 side_by_side-complete : (e : Entry) (n d : ℕ) → 1 ≤ n → n < e.n → 3 ≤ d → d + 3 ≤ e.d
@@ -46,11 +33,6 @@ side_by_side-complete e n d n_from n_below d_from d_to =
     (Contains-map (λ c. L11 n c) (range_with_len 3 (e.d - 5)) d
     (Contains-range_with_len 3 (e.d - 5) d d_from (omega arith)))
 
--- where an entry has a weight or none
-plain_at : (w : Option ℕ) → not (is_some w) ≡ true → is_some w ≡ false
-plain_at None h = refl
-plain_at (Some w) h = absurd (false≢true h)
-
 -- the supports of a size have one at the place
 support_there : (supports : List Support) (place : ℕ) (e : Entry) → is_some (size_at (slice_get supports place) e) ≡ true
     → place < length supports
@@ -60,84 +42,77 @@ support_there supports place e h = go (slice_get supports place) refl h
     go None at is = absurd (false≢true is)
     go (Some support) at is = slice_get_within supports place support at
 
--- a rule that is defined at an entry stands in the list of its slot
-listed_at : (supports : List Support) (r : Rule) (n d : ℕ) (w : Option ℕ)
-    → IsDefined (parts_over supports r) (record { n = n; d = d; w = w })
-    → Contains (rules_at (length supports) (rule_side r, record { n = n; d = d; w = w })) r
+-- a rule alone that is defined at an entry stands in the list of its slot
+listed_alone : (supports : List Support) (r : Rule) (e : Entry) → is_alone r ≡ true → IsDefined (parts_over supports r) e
+    → Contains (rules_at (length supports) (rule_side r, e)) r
+unfolding rules_at
+listed_alone supports r e alone is =
+    Contains-append_left (rules_alone (rule_side r, e) ++ rules_with_numbers (rule_side r, e))
+    (rules_of_supports (length supports) (rule_side r, e)) r
+    (Contains-append_left (rules_alone (rule_side r, e)) (rules_with_numbers (rule_side r, e)) r
+    (alone_at r e.n e.d e.w alone
+    (subst (λ (p : RuleParts). p.condition e ≡ true) (alone-parts r supports alone) is.condition)))
+
+-- words side by side that are defined at an entry
+listed_sum : (supports : List Support) (m c n d : ℕ) (w : Option ℕ)
+    → IsDefined (parts_over supports (L11 m c)) (record { n = n; d = d; w = w })
+    → Contains (rules_at (length supports) (rule_side (L11 m c), record { n = n; d = d; w = w })) (L11 m c)
 unfolding row_of rules_at
-listed_at supports L1 n d None is = (0, omega arith, refl)
-listed_at supports L2 n d None is = (1, omega arith, refl)
-listed_at supports L3 n d None is = (2, omega arith, refl)
-listed_at supports L4 n d None is = (3, omega arith, refl)
-listed_at supports L5 n d None is = (4, omega arith, refl)
-listed_at supports L6 n d None is = (5, omega arith, refl)
-listed_at supports L7 n d None is = (6, omega arith, refl)
-listed_at supports L8 n d None is = (7, omega arith, refl)
-listed_at supports U0 n d None is = (0, omega arith, refl)
-listed_at supports U1 n d None is = (1, omega arith, refl)
-listed_at supports U2 n d None is = (2, omega arith, refl)
-listed_at supports U3 n d None is = (3, omega arith, refl)
-listed_at supports U4 n d None is = (4, omega arith, refl)
-listed_at supports U5 n d None is = (5, omega arith, refl)
-listed_at supports U6 n d None is = (6, omega arith, refl)
-listed_at supports U7 n d None is = (7, omega arith, refl)
-listed_at supports U8 n d None is = (8, omega arith, refl)
-listed_at supports M1 n d (Some w) is = (0, omega arith, refl)
-listed_at supports M7 n d (Some w) is = (1, omega arith, refl)
-listed_at supports V0 n d (Some w) is = (0, omega arith, refl)
-listed_at supports V3 n d (Some w) is = (1, omega arith, refl)
-listed_at supports (L11 m c) n d None is =
+listed_sum supports m c n d (Some w) is = absurd (false≢true is.condition)
+listed_sum supports m c n d None is =
     let front = and_parts (is_entry (unrestricted m c)) (is_entry (unrestricted (n - m) (d - c)) && true) is.premises in
     let back = and_parts (is_entry (unrestricted (n - m) (d - c))) true front.1 in
     let first = entry_limits (unrestricted m c) front.0 in
     let second = entry_limits (unrestricted (n - m) (d - c)) back.0 in
     let e : Entry = unrestricted n d in
-    Contains-append_right (rules_alone (rule_side L1, e))
-    (rules_with_numbers (rule_side L1, e) ++ rules_of_supports (length supports) (rule_side L1, e)) (L11 m c)
-    (Contains-append_left (side_by_side_rules e) (rules_of_supports (length supports) (rule_side L1, e)) (L11 m c)
+    Contains-append_right (rules_alone (Lower, e))
+    (rules_with_numbers (Lower, e) ++ rules_of_supports (length supports) (Lower, e)) (L11 m c)
+    (Contains-append_left (side_by_side_rules e) (rules_of_supports (length supports) (Lower, e)) (L11 m c)
     (side_by_side-complete e m c first.length_from (omega (arith, second.length_from)) first.distance_from (omega (arith, second.distance_from))))
-listed_at supports (L10 place) n d None is =
+
+-- a rule that names a support and is defined at an entry
+listed_given : (supports : List Support) (r : Rule) (place n d : ℕ) (w : Option ℕ) → place_of r ≡ Some place
+    → IsDefined (parts_over supports r) (record { n = n; d = d; w = w })
+    → Contains (rules_at (length supports) (rule_side r, record { n = n; d = d; w = w })) r
+unfolding row_of rules_at
+listed_given supports (L10 place) other n d None names is =
     let e : Entry = unrestricted n d in
     let there = support_there supports place e (and_parts true (is_some (size_at (slice_get supports place) e)) is.condition).1 in
-    Contains-append_right (rules_alone (rule_side L1, e))
-    (side_by_side_rules e ++ rules_of_supports (length supports) (rule_side L1, e)) (L10 place)
-    (Contains-append_right (side_by_side_rules e) (rules_of_supports (length supports) (rule_side L1, e)) (L10 place)
+    Contains-append_right (rules_alone (Lower, e))
+    (side_by_side_rules e ++ rules_of_supports (length supports) (Lower, e)) (L10 place)
+    (Contains-append_right (side_by_side_rules e) (rules_of_supports (length supports) (Lower, e)) (L10 place)
     (Contains-map (λ p. L10 p) (range_with_len 0 (length supports)) place
     (Contains-range_with_len 0 (length supports) place (omega arith) (omega arith))))
-listed_at supports (M10 place) n d (Some w) is =
+listed_given supports (M10 place) other n d (Some w) names is =
     let e : Entry = constant_weight n d w in
     let there = support_there supports place e (and_parts true (is_some (size_at (slice_get supports place) e)) is.condition).1 in
-    Contains-append_right (rules_alone (rule_side L1, e)) (rules_of_supports (length supports) (rule_side L1, e)) (M10 place)
+    Contains-append_right (rules_alone (Lower, e)) (rules_of_supports (length supports) (Lower, e)) (M10 place)
     (Contains-map (λ p. M10 p) (range_with_len 0 (length supports)) place
     (Contains-range_with_len 0 (length supports) place (omega arith) (omega arith)))
-listed_at supports L1 n d (Some w) is = absurd (false≢true is.condition)
-listed_at supports L2 n d (Some w) is = absurd (false≢true is.condition)
-listed_at supports L3 n d (Some w) is = absurd (false≢true is.condition)
-listed_at supports L4 n d (Some w) is = absurd (false≢true is.condition)
-listed_at supports L5 n d (Some w) is = absurd (false≢true is.condition)
-listed_at supports L6 n d (Some w) is = absurd (false≢true is.condition)
-listed_at supports L7 n d (Some w) is = absurd (false≢true is.condition)
-listed_at supports L8 n d (Some w) is = absurd (false≢true is.condition)
-listed_at supports (L10 place) n d (Some w) is = absurd (false≢true is.condition)
-listed_at supports (L11 m c) n d (Some w) is = absurd (false≢true is.condition)
-listed_at supports U0 n d (Some w) is = absurd (false≢true is.condition)
-listed_at supports U1 n d (Some w) is = absurd (false≢true is.condition)
-listed_at supports U2 n d (Some w) is = absurd (false≢true is.condition)
-listed_at supports U3 n d (Some w) is = absurd (false≢true is.condition)
-listed_at supports U4 n d (Some w) is = absurd (false≢true is.condition)
-listed_at supports U5 n d (Some w) is = absurd (false≢true is.condition)
-listed_at supports U6 n d (Some w) is = absurd (false≢true is.condition)
-listed_at supports U7 n d (Some w) is = absurd (false≢true is.condition)
-listed_at supports U8 n d (Some w) is = absurd (false≢true is.condition)
-listed_at supports M1 n d None is = absurd (false≢true is.condition)
-listed_at supports M7 n d None is = absurd (false≢true is.condition)
-listed_at supports (M10 place) n d None is = absurd (false≢true is.condition)
-listed_at supports V0 n d None is = absurd (false≢true is.condition)
-listed_at supports V3 n d None is = absurd (false≢true is.condition)
+listed_given supports (L10 place) other n d (Some w) names is = absurd (false≢true is.condition)
+listed_given supports (M10 place) other n d None names is = absurd (false≢true is.condition)
+listed_given supports r place n d w names is = absurd (none-some place names)
 
+-- a rule that is defined at an entry stands in the list of its slot
 pub rules_at-complete : (supports : List Support) (r : Rule) (e : Entry) → applies supports r e ≡ true
     → Contains (rules_at (length supports) (rule_side r, e)) r
-rules_at-complete supports r e h = listed_at supports r e.n e.d e.w (defined (parts_over supports r) e h)
+rules_at-complete supports r e h = by_place (place_of r) refl
+  where
+    is : IsDefined (parts_over supports r) e
+    is = defined (parts_over supports r) e h
+
+    sum : (m c : ℕ) → r ≡ L11 m c → Contains (rules_at (length supports) (rule_side r, e)) r
+    sum m c same =
+        subst (λ (q : Rule). Contains (rules_at (length supports) (rule_side q, e)) q) (sym same)
+        (listed_sum supports m c e.n e.d e.w (subst (λ (q : Rule). IsDefined (parts_over supports q) e) same is))
+
+    by_numbers : place_of r ≡ None → (b : Bool) → is_alone r ≡ b → Contains (rules_at (length supports) (rule_side r, e)) r
+    by_numbers none true alone = listed_alone supports r e alone is
+    by_numbers none false alone = let numbers = with_numbers r none alone in sum numbers.0 numbers.1 numbers.2
+
+    by_place : (place : Option ℕ) → place_of r ≡ place → Contains (rules_at (length supports) (rule_side r, e)) r
+    by_place None none = by_numbers none (is_alone r) refl
+    by_place (Some place) names = listed_given supports r place e.n e.d e.w names is
 
 -- bounds are closed where no rule of the list of any slot of the table gives anything better
 pub closed_from_lists : (supports : List Support) (bounds : Slot → ℕ)

@@ -14,7 +14,8 @@ use Rattle.ct_rules.specs.Rule.{rule_side, parts_over, applies}
 use Rattle.ct_rules.proofs.Applied.{defined}
 use Rattle.ct_rule_parts.specs.Slot.{Slot}
 use Rattle.ct_rules.specs.Listing.{rules_at}
-use Rattle.ct_rules.proofs.RuleLists.{Contains-range_with_len, Contains-flat_map, rules_at-complete}
+use Rattle.ct_rule_parts.proofs.EntryLists.{Contains-range_with_len, Contains-flat_map}
+use Rattle.ct_rules.proofs.RuleLists.{rules_at-complete}
 
 -- the numbers up to a limit
 up_to : ℕ → List ℕ

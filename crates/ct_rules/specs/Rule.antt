@@ -60,39 +60,43 @@ row_of U8 = by_itself lengthened_above
 row_of V0 = by_itself all_words_of_weight
 row_of V3 = by_itself complemented_above
 
--- what a rule is made of, over the support that it names
+-- what the rule of a row is made of, over the support that it names
 abbrev pub parts_in : Row → Option Support → RuleParts
 parts_in (by_itself parts) c = parts
 parts_in (by_numbers parts) c = parts
 parts_in (by_support named place parts) c = parts c
 
+-- what a rule is made of, over the support that it names
 abbrev pub parts_of : Rule → Option Support → RuleParts
 parts_of r c = parts_in (row_of r) c
 
--- the place of the support that a rule names, where it names one
+-- the place of the support that the rule of a row names, where it names one
 abbrev pub place_in : Row → Option ℕ
 place_in (by_itself parts) = None
 place_in (by_numbers parts) = None
 place_in (by_support named place parts) = Some place
 
+-- the place of the support that a rule names, where it names one
 abbrev pub place_of : Rule → Option ℕ
 place_of r = place_in (row_of r)
 
--- a rule with another place of the support that it names, where it names one
+-- the rule of a row with another place of the support that it names, where it names one
 abbrev pub placed_in : Rule → Row → ℕ → Rule
 placed_in r (by_itself parts) place = r
 placed_in r (by_numbers parts) place = r
 placed_in r (by_support named other parts) place = named place
 
+-- a rule with another place of the support that it names, where it names one
 abbrev pub with_place : Rule → ℕ → Rule
 with_place r place = placed_in r (row_of r) place
 
--- whether a rule has neither numbers nor a support
+-- whether the rule of a row has neither numbers nor a support
 abbrev pub is_alone_in : Row → Bool
 is_alone_in (by_itself parts) = true
 is_alone_in (by_numbers parts) = false
 is_alone_in (by_support named place parts) = false
 
+-- whether a rule has neither numbers nor a support
 abbrev pub is_alone : Rule → Bool
 is_alone r = is_alone_in (row_of r)
 

@@ -1,6 +1,7 @@
 //! What derivations give, for every list of supports, and derivations that are known.
 
-ghost use Rattle.std.specs.Prelude.{◌≡◌, ℕ, ◌+◌, ◌^◌, ◌≤◌, List, [], ◌∷◌, ◌++◌, length, map, All, Contains, Some};
+ghost use Rattle.std.specs.Prelude.{◌≡◌, ℕ, ◌+◌, ◌≤◌, List, [], ◌∷◌, ◌++◌, length, map, All, Contains, Some};
+ghost use Rattle.ct_words.specs.declared.limits.TheConstants.{MAX_N, MAX_BOUND};
 ghost use Rattle.ct_codes.specs.declared.claim.Claim.{Claim};
 ghost use Rattle.ct_codes.specs.declared.claim.Side.TheVariants.{Lower, Upper};
 ghost use Rattle.ct_codes.specs.declared.entry.Entry.{Entry};
@@ -149,8 +150,8 @@ pub fn known_claims()
     ensures too_great { ¬ IsTrueClaim (claim_at (lower_at 5 3) 5) }
     ensures too_small { ¬ IsTrueClaim (claim_at (upper_at 5 3) 3) }
     ensures no_words { ¬ IsTrueClaim (claim_at (lower_at 5 3) 0) }
-    ensures above_limit { ¬ IsTrueClaim (claim_at (upper_at 5 3) (2 ^ 28 + 1)) }
-    ensures too_long { ¬ IsTrueClaim (claim_at (upper_at 29 3) 4) }
+    ensures above_limit { ¬ IsTrueClaim (claim_at (upper_at 5 3) (MAX_BOUND + 1)) }
+    ensures too_long { ¬ IsTrueClaim (claim_at (upper_at (MAX_N + 1) 3) 4) }
     ensures too_near { ¬ IsTrueClaim (claim_at (lower_at 5 2) 1) }
     ensures odd_beside_weight { ¬ IsTrueClaim (claim_at (Lower, constant_weight 5 3 2) 1) }
 {}

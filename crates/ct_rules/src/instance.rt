@@ -1,33 +1,31 @@
 //! What a rule rests on, and the bound that it gives.
 
-ghost use Rattle.std.specs.Prelude.{◌≡◌, ◌≤◌, true, if◌then◌else◌, length, slice_get, Some, None, IfSome};
+ghost use Rattle.std.specs.Prelude.{◌≡◌, ◌≤◌, true, if◌then◌else◌, Some, None, IfSome, option_map};
 ghost use Rattle.ct_codes.specs.Entry.{IsEntry};
-ghost use Rattle.ct_rule_parts.specs.Parts.{are_entries};
-ghost use Rattle.ct_rules.specs.Rule.{rule_side, applies, parts_over, premises_at, count_of, premise_of, value_of};
+ghost use Rattle.ct_rule_parts.specs.Entries.{listed};
+ghost use Rattle.ct_rules.specs.Rule.{rule_side, applies, parts_over, count_of, premise_of, value_of};
 
-use crate::rows::{condition, number, rests_on, rule_side};
+use crate::rows::{number, rests_on, rule_side};
 use crate::rule::Rule;
 use ct_codes::{Entry, Side};
-use ct_rule_parts::{Support, within_limit};
+use ct_rule_parts::{Entries, Support, within_limit};
 use ct_words::{MAX_BOUND, MAX_N};
 
-/// How many premises a rule has at most.
-pub const MOST_PREMISES: usize = MAX_N as usize;
-
-/// How many entries the rule rests on at an entry of the table, where all of them are in the table; else `None`.
-fn count_in_table(supports: &[Support], rule: Rule, entry: Entry) -> Option<usize>
-    requires { IsEntry entry }
-    ensures { result ≡ (if are_entries ((parts_over supports.now rule).rests_on entry)
-        then Some (length ((parts_over supports.now rule).rests_on entry)) else None) }
+/// The entries whose bounds the rule rests on at the entry, in order, where it is defined: the entry is in the table, the rule's
+/// condition holds there, and all that it rests on is in the table. `None` comes exactly where it is not defined.
+pub fn defined_on(supports: &[Support], rule: Rule, entry: Entry) -> Option<Entries>
+    ensures { option_map listed result
+        ≡ (if applies supports.now rule entry then Some ((parts_over supports.now rule).rests_on entry) else None) }
 {
-    for j in 0..MOST_PREMISES + 1 {
-        match rests_on(supports, rule, entry, j) {
-            None => return Some(j),
-            Some(premise) if !premise.in_table() => return None,
-            Some(_) => {}
-        }
+    if !entry.in_table() {
+        return None;
     }
-    None
+    let entries = rests_on(supports, rule, entry)?;
+    if entries.are_in_table() {
+        Some(entries)
+    } else {
+        None
+    }
 }
 
 /// Whether the rule is defined at the entry: the entry is in the table, the rule's condition holds there, and all that it
@@ -35,21 +33,17 @@ fn count_in_table(supports: &[Support], rule: Rule, entry: Entry) -> Option<usiz
 pub fn applies(supports: &[Support], rule: Rule, entry: Entry) -> bool
     ensures { result ≡ applies supports.now rule entry }
 {
-    entry.in_table()
-        && condition(supports, rule, entry)
-        && count_in_table(supports, rule, entry).is_some()
+    defined_on(supports, rule, entry).is_some()
 }
 
-/// How many premises the rule has at the entry. `None` comes exactly where the rule, with its argument and the support
-/// that it names, is not defined there.
+/// How many premises the rule has at the entry, `MAX_N` at most. `None` comes exactly where the rule, with its argument and the
+/// support that it names, is not defined there.
 pub fn premise_count(supports: &[Support], rule: Rule, entry: Entry) -> Option<usize>
     ensures count { result ≡ count_of supports.now rule entry }
-    ensures few { IfSome result (λ count. count ≤ MOST_PREMISES) }
+    ensures few { IfSome result (λ count. count ≤ MAX_N) }
 {
-    if !entry.in_table() || !condition(supports, rule, entry) {
-        return None;
-    }
-    count_in_table(supports, rule, entry)
+    let entries = defined_on(supports, rule, entry)?;
+    Some(entries.len())
 }
 
 /// The premise of the rule at the entry at the place j, from 0: a side of an entry. `None` comes exactly where the rule,
@@ -59,10 +53,7 @@ pub fn premise(supports: &[Support], rule: Rule, entry: Entry, j: usize) -> Opti
     ensures side { IfSome result (λ s. s.0 ≡ rule_side rule) }
     ensures entry { IfSome result (λ s. IsEntry s.1) }
 {
-    if !applies(supports, rule, entry) {
-        return None;
-    }
-    let there = rests_on(supports, rule, entry, j)?;
+    let there = defined_on(supports, rule, entry)?.get(j)?;
     Some((rule_side(rule), there))
 }
 

@@ -9,16 +9,16 @@ mod rows;
 mod rule;
 mod rule_laws;
 
-pub use ct_rule_parts::Support;
+pub use ct_rule_parts::{Entries, Support};
 pub use derivation_laws::{
     best_values_are_true, closed_bounds_are_best, derivations_grow_by_rules,
     derived_claims_are_true, each_slot_has_one_best_value, known_claims, known_derivations,
     lines_follow_from_earlier_lines, more_supports_keep_derivations,
 };
-pub use instance::{MOST_PREMISES, applies, premise, premise_count, value, value_where_defined};
+pub use instance::{applies, defined_on, premise, premise_count, value, value_where_defined};
 pub use line::Line;
 pub use listing::{LOWER_RULES, LOWER_WEIGHT_RULES, UPPER_RULES, UPPER_WEIGHT_RULES};
-pub use rows::{condition, place_of, rested_on_by, rests_on, rule_side, with_place};
+pub use rows::{place_of, rested_on_by, rests_on, rule_side, with_place};
 pub use rule::Rule;
 pub use rule_laws::{
     better_bounds_say_more, claims_bound_slots, known_premises, known_ranges, known_supports,

@@ -1,17 +1,18 @@
 //! The rows of the rules: of each what it is made of, by the functions of its own file.
 
-ghost use Rattle.std.specs.Prelude.{◌≡◌, true, [], slice_get};
+ghost use Rattle.std.specs.Prelude.{◌≡◌, true, if◌then◌else◌, Some, None, option_map};
 ghost use Rattle.ct_codes.specs.Entry.{IsEntry};
-ghost use Rattle.ct_rules.specs.Rule.{rule_side, place_of, with_place, is_alone, parts_over, row_of};
+ghost use Rattle.ct_rule_parts.specs.Entries.{listed};
+ghost use Rattle.ct_rules.specs.Rule.{rule_side, place_of, with_place, is_alone, parts_of, parts_over, row_of};
 
 use crate::rule::Rule;
 use ct_codes::{Entry, Side};
 use ct_elementary::{far, hamming, plotkin};
 use ct_plain_rules::{
-    count_of_sums, farther, longer, longer_and_farther, nearer, part_of_sums, part_side_by_side,
+    count_of_sums, farther, longer, longer_and_farther, nearer, parts_of_sums, parts_side_by_side,
     shorter, shorter_and_nearer, sums_of,
 };
-use ct_rule_parts::{Support, first, only, second, size_at};
+use ct_rule_parts::{Entries, Support, first, second, size_at};
 use ct_weight_rules::turned;
 use ct_words::binomial;
 
@@ -53,47 +54,39 @@ pub fn with_place(rule: Rule, place: u32) -> Rule
     }
 }
 
-/// Whether the condition of the rule holds at an entry of the table, over the support that it names.
+/// The entries whose bounds the rule rests on at an entry of the table, in order, where its condition holds there, over the
+/// support that it names; else `None`.
 #[tactic(auto, unfolding(crate::specs::Rule::row_of))]
-pub fn condition(supports: &[Support], rule: Rule, entry: Entry) -> bool
+pub fn rests_on(supports: &[Support], rule: Rule, entry: Entry) -> Option<Entries>
     requires { IsEntry entry }
-    ensures { result ≡ (parts_over supports.now rule).condition entry }
+    ensures { option_map listed result
+        ≡ (if (parts_over supports.now rule).condition entry then Some ((parts_over supports.now rule).rests_on entry) else None) }
 {
     let Entry { n, d, w } = entry;
     let plain = w.is_none();
     match rule {
-        Rule::L1 | Rule::L3 | Rule::L4 | Rule::L6 | Rule::L7 | Rule::L11(_, _) => plain,
-        Rule::L2 => plain && d <= n,
-        Rule::L5 => plain && d % 2 == 0,
-        Rule::L8 => plain && n % 2 == 0,
-        Rule::L10(place) => plain && size_at(supports, place as usize, entry).is_some(),
-        Rule::M1 | Rule::M7 | Rule::V0 | Rule::V3 => !plain,
-        Rule::M10(place) => !plain && size_at(supports, place as usize, entry).is_some(),
-        Rule::U0 | Rule::U3 | Rule::U5 | Rule::U6 | Rule::U7 | Rule::U8 => plain,
-        Rule::U1 => plain && n < d,
-        Rule::U2 => plain && plotkin(n, d).is_some(),
-        Rule::U4 => plain && d % 2 == 1,
-    }
-}
-
-/// The entry at place j, from 0, of those whose bounds the rule rests on at an entry of the table; `None` past their end.
-#[tactic(auto, unfolding(crate::specs::Rule::row_of))]
-pub fn rests_on(supports: &[Support], rule: Rule, entry: Entry, j: usize) -> Option<Entry>
-    requires { IsEntry entry }
-    ensures { result ≡ slice_get ((parts_over supports.now rule).rests_on entry) j }
-{
-    match rule {
-        Rule::L1 | Rule::L2 | Rule::L10(_) | Rule::M1 | Rule::M10(_) => None,
-        Rule::U0 | Rule::U1 | Rule::U2 | Rule::U3 | Rule::V0 => None,
-        Rule::L3 | Rule::U6 => only(shorter(entry), j),
-        Rule::L4 => only(farther(entry), j),
-        Rule::L5 | Rule::U5 => only(shorter_and_nearer(entry), j),
-        Rule::L6 | Rule::U4 => only(longer_and_farther(entry), j),
-        Rule::L7 | Rule::U8 => only(longer(entry), j),
-        Rule::L8 => part_of_sums(entry, j),
-        Rule::L11(n, d) => part_side_by_side(n, d, entry, j),
-        Rule::M7 | Rule::V3 => only(turned(entry), j),
-        Rule::U7 => only(nearer(entry), j),
+        Rule::L1 | Rule::U0 | Rule::U3 => plain.then_some(Entries::Zero),
+        Rule::L2 => (plain && d <= n).then_some(Entries::Zero),
+        Rule::L3 | Rule::U6 => plain.then_some(Entries::One(shorter(entry))),
+        Rule::L4 => plain.then_some(Entries::One(farther(entry))),
+        Rule::L5 => (plain && d % 2 == 0).then_some(Entries::One(shorter_and_nearer(entry))),
+        Rule::L6 => plain.then_some(Entries::One(longer_and_farther(entry))),
+        Rule::L7 | Rule::U8 => plain.then_some(Entries::One(longer(entry))),
+        Rule::L8 => (plain && n % 2 == 0).then_some(parts_of_sums(entry)),
+        Rule::L10(place) => {
+            (plain && size_at(supports, place as usize, entry).is_some()).then_some(Entries::Zero)
+        }
+        Rule::L11(m, c) => plain.then_some(parts_side_by_side(m, c, entry)),
+        Rule::M1 | Rule::V0 => (!plain).then_some(Entries::Zero),
+        Rule::M7 | Rule::V3 => (!plain).then_some(Entries::One(turned(entry))),
+        Rule::M10(place) => {
+            (!plain && size_at(supports, place as usize, entry).is_some()).then_some(Entries::Zero)
+        }
+        Rule::U1 => (plain && n < d).then_some(Entries::Zero),
+        Rule::U2 => (plain && plotkin(n, d).is_some()).then_some(Entries::Zero),
+        Rule::U4 => (plain && d % 2 == 1).then_some(Entries::One(longer_and_farther(entry))),
+        Rule::U5 => plain.then_some(Entries::One(shorter_and_nearer(entry))),
+        Rule::U7 => plain.then_some(Entries::One(nearer(entry))),
     }
 }
 
@@ -125,23 +118,23 @@ pub(crate) fn number(supports: &[Support], rule: Rule, entry: Entry, values: &[u
     }
 }
 
-/// The entry at place k, from 0, of those among which are all that rest on this one, which has to be in the table, by the
-/// rule, which has to have neither numbers nor a support; `None` past their end.
+/// The entries among which are all that rest on this one, which has to be in the table, by the rule, which has to have
+/// neither numbers nor a support.
 #[tactic(auto, unfolding(crate::specs::Rule::row_of))]
-pub fn rested_on_by(rule: Rule, entry: Entry, k: usize) -> Option<Entry>
+pub fn rested_on_by(rule: Rule, entry: Entry) -> Entries
     requires entry { IsEntry entry }
     requires alone { is_alone rule ≡ true }
-    ensures { result ≡ slice_get ((parts_over [] rule).rested_on_by entry) k }
+    ensures { listed result ≡ (parts_of rule None).rested_on_by entry }
 {
     match rule {
-        Rule::L3 | Rule::U6 => only(longer(entry), k),
-        Rule::L4 => only(nearer(entry), k),
-        Rule::L5 | Rule::U5 => only(longer_and_farther(entry), k),
-        Rule::L6 | Rule::U4 => only(shorter_and_nearer(entry), k),
-        Rule::L7 | Rule::U8 => only(shorter(entry), k),
-        Rule::L8 => sums_of(entry, k),
-        Rule::M7 | Rule::V3 => only(turned(entry), k),
-        Rule::U7 => only(farther(entry), k),
-        _ => None,
+        Rule::L3 | Rule::U6 => Entries::One(longer(entry)),
+        Rule::L4 => Entries::One(nearer(entry)),
+        Rule::L5 | Rule::U5 => Entries::One(longer_and_farther(entry)),
+        Rule::L6 | Rule::U4 => Entries::One(shorter_and_nearer(entry)),
+        Rule::L7 | Rule::U8 => Entries::One(shorter(entry)),
+        Rule::L8 => sums_of(entry),
+        Rule::M7 | Rule::V3 => Entries::One(turned(entry)),
+        Rule::U7 => Entries::One(farther(entry)),
+        _ => Entries::Zero,
     }
 }

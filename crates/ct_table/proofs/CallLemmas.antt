@@ -25,6 +25,8 @@ pub shown : (supports : List Support) (kept : KeptValue) (base : BaseValue) (wor
 shown supports kept base work table = record {
   stand = table.stand;
   few = table.few;
+  bound_count = table.kept.bound_count;
+  reason_count = table.kept.reason_count;
   derivation = table.kept.derivation;
   reasoned = table.kept.reasoned;
   last = table.kept.last;

@@ -1,4 +1,5 @@
 pub mod TableLemmas
+mod UnnamedPlaces
 pub mod BaseLemmas
 pub mod MovedPlaces
 pub mod WalkLemmas

@@ -1,5 +1,5 @@
 -- The table of bounds.
-use Rattle.std.specs.Prelude.{◌≡◌, ℕ, ◌<◌, ◌≤◌, ◌^◌, List, ◌++◌, length, slice_get, slice_index, option_map, All, Some}
+use Rattle.std.specs.Prelude.{◌≡◌, ℕ, ◌<◌, ◌≤◌, ◌*◌, ◌^◌, List, ◌++◌, length, slice_get, slice_index, option_map, All, Some}
 use Rattle.ct_codes.specs.Entry.{IsEntry}
 use Rattle.ct_rule_parts.specs.declared.support.Support.{Support}
 use Rattle.ct_rule_parts.specs.Slot.{Slot, slot_of, claim_at, IsBetter}
@@ -7,7 +7,7 @@ use Rattle.ct_rule_parts.specs.Support.{AllStand}
 use Rattle.ct_rules.specs.Closed.{IsClosed}
 use Rattle.ct_rules.specs.Derivation.{LineValue, IsDerivation}
 use Rattle.ct_closure.specs.Kept.{KeptValue, BaseValue, IsKept, IsBase, IsGround, Rise}
-use Rattle.ct_closure.specs.Number.{bound_of, slot_number}
+use Rattle.ct_closure.specs.Number.{bound_of, side_size, slot_number}
 use Rattle.ct_closure.specs.Worklist.{WorkValue, IsIdle}
 
 -- a table as callers see it: its supports, the lines of a derivation, and by the numbers of the slots their bounds and the numbers of the lines that give them
@@ -39,11 +39,13 @@ pub record IsTable (supports : List Support) (held : KeptValue) (begun : BaseVal
   pub base : IsBase begun held
   pub idle : IsIdle work
 
--- a table as callers see it: over supports that stand, a derivation in which the lines of one slot rise and the last one is its reason, each slot
+-- a table as callers see it: over supports that stand, with a bound and a reason for each number, a derivation in which the lines of one slot rise and the last one is its reason, each slot
 -- has a line that rests on nothing, and no rule gives anything better
 pub record IsShownTable (table : TableValue) : Type 0 where
   pub stand : AllStand table.supports
   pub few : length table.supports < 2 ^ 32
+  pub bound_count : length table.bounds ≡ 2 * side_size
+  pub reason_count : length table.reasons ≡ 2 * side_size
   pub derivation : IsDerivation table.supports table.lines
   pub reasoned : (s : Slot) → IsEntry s.1 →
       option_map (λ l. l.claim) (slice_get table.lines (reason_at table s)) ≡ Some (claim_at s (bound_at table s))

@@ -145,7 +145,7 @@ fn settle(
     close(alloc, supports, places, closing)
 }
 
-/// Takes out the support at a place, in which there is nothing any more. After an `Err`, which is want of memory, what is kept is
+/// Takes out the support at a place, in which there is nothing any more. Where no line names it, all stays as it is. After an `Err`, which is want of memory, what is kept is
 /// as before.
 pub(crate) fn take_out(
     alloc: Global,
@@ -163,6 +163,9 @@ pub(crate) fn take_out(
     ensures unchanged { OnErr result (closing.new.kept ≡ closing.old.kept) }
     ensures idle { OnErr result (IsIdle closing.new.work) }
 {
+    if !closing.kept.names(place) {
+        return Ok(());
+    }
     let undo = closing.kept.set_back(base, alloc)?;
     let done = settle(alloc, supports, places, closing, undo.later(), place);
     if done.is_err() {

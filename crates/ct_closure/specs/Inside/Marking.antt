@@ -1,5 +1,5 @@
 -- Which slots are still to be looked at, and which rules were asked for them.
-use Rattle.std.specs.Prelude.{◌≡◌, ℕ, true, List, [], Contains}
+use Rattle.std.specs.Prelude.{◌≡◌, ℕ, true, List, None, Contains}
 use Rattle.std.proofs.Common.{◌⊎◌}
 use Rattle.ct_codes.specs.declared.entry.Entry.{Entry}
 use Rattle.ct_codes.specs.Entry.{IsEntry, unrestricted}
@@ -8,7 +8,7 @@ use Rattle.ct_rule_parts.specs.Slot.{Slot}
 use Rattle.ct_rules.specs.declared.rule.Rule.{Rule}
 use Rattle.ct_rules.specs.declared.rule.Rule.TheVariants.{L11}
 use Rattle.ct_rules.specs.Closed.{IsSatisfied}
-use Rattle.ct_rules.specs.Rule.{rule_side, applies, parts_over}
+use Rattle.ct_rules.specs.Rule.{rule_side, applies, parts_of, parts_over}
 use Rattle.ct_closure.specs.Closing.{IsSatisfiedAt}
 use Rattle.ct_closure.specs.Number.{bound_of}
 use Rattle.ct_closure.specs.Worklist.{WorkValue, IsMarked}
@@ -28,7 +28,7 @@ IsTestedAt supports bounds work r e = IsEntry e → ¬ (IsMarked work (rule_side
 -- so it is at each entry that may rest on one by a rule with neither numbers nor a support
 abbrev pub IsTestedFrom : List Support → List ℕ → WorkValue → Entry → Rule → Type 0
 IsTestedFrom supports bounds work from r =
-    (e : Entry) → Contains ((parts_over [] r).rested_on_by from) e → IsTestedAt supports bounds work r e
+    (e : Entry) → Contains ((parts_of r None).rested_on_by from) e → IsTestedAt supports bounds work r e
 
 -- at A(n,d), where it rests on an entry by words side by side
 abbrev pub IsTestedAtSum : List ℕ → WorkValue → Entry → ℕ → ℕ → Type 0

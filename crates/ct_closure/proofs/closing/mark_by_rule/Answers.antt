@@ -1,5 +1,5 @@
-use Rattle.std.proofs.Common.{[], sym, ◌∙◌, arith}
-use Rattle.ct_rules.specs.Rule.{parts_over}
+use Rattle.std.proofs.Common.{sym, ◌∙◌, arith}
+use Rattle.ct_rule_parts.specs.Entries.{listed}
 use Rattle.ct_closure.proofs.MarkingLemmas.{keeps-trans, tested_and_one, tested_from}
 use Rattle.ct_closure.proofs.closing.mark_by_rule.Goals as goal
 
@@ -8,11 +8,12 @@ loop-k-preserved c =
     let keeps = c.in_ok-test.ensures.kept in (
       keeps-trans c.args.work.now c.loop-k.work c.test.new.work c.loop-k.invariant.0 keeps,
       tested_and_one c.args.supports.now c.args.kept.now.bounds c.loop-k.work c.test.new.work c.args.rule
-          ((parts_over [] c.args.rule).rested_on_by c.args.entry) c.loop-k.k c.in-Some.dependent keeps
-          (sym c.rested_on_by.ensures ∙ c.in-Some.is) c.in_ok-test.ensures.tested c.loop-k.invariant.1,
+          (listed c.rested_on_by-dependents.result) c.loop-k.k c.in-Some.dependent keeps (sym c.get.ensures ∙ c.in-Some.is)
+          c.in_ok-test.ensures.tested c.loop-k.invariant.1,
     )
 
 pub returns-clause-tested : goal.returns-clause-tested
 returns-clause-tested c =
-    tested_from c.args.supports.now c.args.kept.now.bounds c.loop-k.work c.args.rule c.args.entry c.loop-k.k c.requires.alone
-    (omega (arith, c.loop-k-test.false)) c.loop-k.invariant.1
+    tested_from c.args.supports.now c.args.kept.now.bounds c.loop-k.work c.args.rule c.args.entry c.loop-k.k
+    (listed c.rested_on_by-dependents.result) c.rested_on_by-dependents.ensures (omega (arith, c.loop-k-test.false, c.len-k-end.ensures))
+    c.loop-k.invariant.1

@@ -1,9 +1,13 @@
-use Rattle.std.proofs.Common.{sym, ◌∙◌}
+use Rattle.std.proofs.Common.{List, sym, ap, ◌∙◌}
+use Rattle.std.specs.Prelude.{slice_get}
+use Rattle.ct_codes.specs.declared.entry.Entry.{Entry}
 use Rattle.ct_rules.specs.Rule.{parts_over}
-use Rattle.ct_rules.proofs.Applied.{entry_at}
+use Rattle.ct_rules.proofs.Applied.{defined_entries, entry_at}
 use Rattle.ct_rules.proofs.instance.premise.Goals as goal
 
 pub returns-clause-entry : goal.returns-clause-entry
 returns-clause-entry c =
-    entry_at (parts_over c.args.supports.now c.args.rule) c.args.entry c.args.j c.in_ok-there.there
-    (sym c.applies.ensures ∙ c.if-not-applies.false) (sym c.rests_on.ensures ∙ c.in_ok-there.was)
+    let a = c.args in
+    let on = defined_entries a.supports.now a.rule a.entry c.defined_on.result c.in_ok-defined_on.field-0 c.defined_on.ensures c.in_ok-defined_on.was in
+    entry_at (parts_over a.supports.now a.rule) a.entry a.j c.in_ok-there.there on.0
+    (ap (λ (es : List Entry). slice_get es a.j) on.1 ∙ sym c.get.ensures ∙ c.in_ok-there.was)
