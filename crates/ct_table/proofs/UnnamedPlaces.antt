@@ -1,11 +1,11 @@
 -- A table none of whose later lines names a support of a set: it is one without them as it stands.
-use Rattle.std.proofs.Common.{◌≡◌, ℕ, ◌+◌, ◌-◌, ◌<◌, ◌≤◌, ◌++◌, List, length, map, take, drop, Some, false, slice_get, All, refl, sym, ap, ◌∙◌, arith, inl, inr}
+use Rattle.std.proofs.Common.{◌≡◌, ℕ, ◌+◌, ◌-◌, ◌<◌, ◌≤◌, ◌++◌, List, length, map, take, drop, Some, false, slice_get, All, refl, sym, ap, subst, ◌∙◌, arith, inl, inr}
 use Rattle.std.proofs.lemmas.Bool.{cases_lt}
 use Rattle.std.proofs.lemmas.List.{take-append-drop}
+use Rattle.std.proofs.lemmas.Option.{slice_get_within, get_or_from_slice_get}
 use Rattle.ct_rule_parts.specs.declared.support.Support.{Support}
 use Rattle.ct_rules.specs.Derivation.{LineValue, Follows}
 use Rattle.ct_rules.specs.Rule.{place_of}
-use Rattle.ct_rules.proofs.Applied.{at_place}
 use Rattle.ct_rules.proofs.Places.{slice_get-append_right}
 use Rattle.ct_removal.specs.Removal.{Places, names_one, voided}
 use Rattle.ct_removal.proofs.VoidedSupports.{premises_of-voided, value_of-voided, IsClosed-voided}
@@ -39,7 +39,9 @@ names_none gone supports old base closing table none i line found = elim (cases_
       ap (names_one gone) (line_names_nothing (take i (take old.base old.lines)) line
       (table.base.derivation i line (slice_get-front old.lines old.base i first ∙ found)))
   | inr later ↦
-      at_place (NamesNone gone) (drop old.base old.lines) (i - old.base) none line (sym (in_drop later) ∙ found)
+      let there = sym (in_drop later) ∙ found in
+      subst (NamesNone gone) (get_or_from_slice_get (drop old.base old.lines) (i - old.base) line line there)
+      (none (i - old.base) line (slice_get_within (drop old.base old.lines) (i - old.base) line there))
 ]
   where
     in_drop : old.base ≤ i → slice_get old.lines i ≡ slice_get (drop old.base old.lines) (i - old.base)
