@@ -7,3 +7,4 @@ pub mod PairKinds
 pub mod PairProducts
 pub mod AllWords
 pub mod DigitValues
+pub mod PascalRows

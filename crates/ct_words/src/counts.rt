@@ -3,6 +3,8 @@
 ghost use Rattle.std.specs.Prelude.{◌≡◌, ◌≤◌};
 ghost use Rattle.ct_counting.specs.Binomials.{choose, factorial as factorial_of, volume};
 
+use crate::triangle::BINOMIALS;
+
 /// The binomial coefficient of n over k for n up to 30, which is 0 where k is above n: how many words of length n have
 /// weight k (MacWilliams and Sloane, chapter 1, section 5).
 pub fn binomial(n: u32, k: u32) -> u64
@@ -12,11 +14,7 @@ pub fn binomial(n: u32, k: u32) -> u64
     if n < k {
         return 0;
     }
-    let mut coefficient: u64 = 1;
-    for j in 0..k {
-        coefficient = coefficient * u64::from(n - j) / u64::from(j + 1);
-    }
-    coefficient
+    u64::from(BINOMIALS[n as usize][k as usize])
 }
 
 /// The factorial of k, the product of 1 to k, for k up to 20.

@@ -7,6 +7,7 @@ mod laws;
 mod limits;
 mod metric;
 mod text;
+mod triangle;
 mod word;
 mod word_list;
 
