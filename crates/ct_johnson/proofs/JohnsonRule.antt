@@ -1,9 +1,10 @@
 -- Johnson's bound holds for every code, and stays within the table.
-use Rattle.std.proofs.Common.{◌≡◌, ℕ, zero, suc, ◌+◌, ◌-◌, ◌*◌, ◌/◌, ◌%◌, ◌^◌, ◌<◌, ◌≤◌, inl, inr, arith}
-use Rattle.std.proofs.Math.Nat.{mul-le-mul, mul-le-mul_left, pow-le-pow_right, div-le_self, div-le_of_le-mul}
+use Rattle.std.proofs.Common.{◌≡◌, ℕ, zero, suc, ◌+◌, ◌-◌, ◌*◌, ◌/◌, ◌%◌, ◌^◌, ◌<◌, ◌≤◌, nat_lt, refl, subst, inl, inr, arith, ltb-true}
+use Rattle.std.proofs.Math.Nat.{mul-le-mul, mul-le-mul_left, mul-le-mul_right, pow-le-pow_right, div-le_self, div-le_of_le-mul}
 use Rattle.std.specs.Prelude.{Option, Some, None, IfSome}
 use Rattle.std.proofs.lemmas.Bool.{cases_lt, lt-ltb, le-ltb}
 use Rattle.std.proofs.lemmas.Nat.{le-div}
+use Rattle.std.proofs.lemmas.Option.{cond_some}
 use Rattle.ct_counting.specs.Binomials.{choose, volume}
 use Rattle.ct_counting.proofs.Binomials.{choose-le, volume-le, one-le-volume}
 use Rattle.ct_counting.proofs.Spread.{IsSpreadBound, IsWeightBound}
@@ -13,6 +14,7 @@ use Rattle.ct_codes.specs.Code.{IsTrueUpper}
 use Rattle.ct_codes.proofs.DigitCodes.{bound_from_spread, weight_bound_from_codes}
 use Rattle.ct_johnson.specs.Bounds.{johnson_odd}
 use Rattle.ct_johnson.proofs.OutsideBalls.{spread_bound-johnson}
+use Rattle.ct_johnson.proofs.Quotients.{div-le-div_divisor}
 
 -- what holds of the quotient holds of the value, where the rule gives one
 odd_if : (n δ u : ℕ) (P : ℕ → Type 0)
@@ -36,12 +38,12 @@ pub power-le : (n : ℕ) → n ≤ MAX_N → 2 ^ n ≤ 2 ^ MAX_N
 power-le n h = pow-le-pow_right (omega arith) h
 
 -- products that the code computes fit
-pub fits_taken : (n k u : ℕ) → n ≤ MAX_N → u ≤ MAX_BOUND → choose n k * u ≤ MAX_BOUND * MAX_BOUND
-fits_taken n k u h few =
+pub fits_taken : (n k u : ℕ) → n ≤ MAX_N → choose n k * u ≤ MAX_BOUND * u
+fits_taken n k u h =
     let one = choose-le n k in
     let power = power-le n h in
     let within : choose n k ≤ MAX_BOUND = omega arith in
-    mul-le-mul within few
+    mul-le-mul_right u within
 
 pub fits_balls : (n δ e : ℕ) → n ≤ MAX_N → n / δ * volume n e ≤ MAX_N * MAX_BOUND
 fits_balls n δ e h =
@@ -111,3 +113,18 @@ pub johnson_within : (n d u : ℕ) → d % 2 ≡ 1 → d ≤ n → n ≤ MAX_N �
 johnson_within n d u odd long short =
     let half_is : (d + 1) / 2 ≡ suc (d / 2) = omega arith in
     rw half_is (odd_within n (d / 2) u short (omega arith))
+
+-- a better bound gives a number where a worse one does, and none that is greater
+pub johnson_odd-le : (n δ u v x : ℕ) → v ≤ u → johnson_odd n δ u ≡ Some x → (y : ℕ) × (johnson_odd n δ v ≡ Some y) × (y ≤ x)
+johnson_odd-le n δ u v x better is =
+    let taken = choose (2 * δ - 1) (δ - 1) in
+    let next = choose n δ in
+    let balls = n / δ * volume n (δ - 1) in
+    let both = cond_some (nat_lt (taken * u) next) (2 ^ n * (n / δ) / (balls + (next - taken * u))) x is in
+    let above = ltb-true (taken * u) next both.0 in
+    let less = mul-le-mul_left taken better in
+    let quotient = div-le-div_divisor (2 ^ n * (n / δ)) (balls + (next - taken * u)) (balls + (next - taken * v)) (omega arith) (omega arith) in (
+      2 ^ n * (n / δ) / (balls + (next - taken * v)),
+      rw (lt-ltb (taken * v) next (omega arith)) refl,
+      subst (λ z. 2 ^ n * (n / δ) / (balls + (next - taken * v)) ≤ z) both.1 quotient,
+    )

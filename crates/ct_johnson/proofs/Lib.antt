@@ -2,6 +2,7 @@ pub mod Weights
 pub mod Capped
 pub mod OnePlace
 pub mod PairCounts
-pub mod Average
+pub mod Averages
 pub mod OutsideBalls
 pub mod JohnsonRule
+pub mod Quotients

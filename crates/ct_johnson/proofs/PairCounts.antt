@@ -1,9 +1,10 @@
 -- The pairs of words that both have a one at a place, and the numbers of words that are too many.
-use Rattle.std.proofs.Common.{◌≡◌, ℕ, zero, suc, ◌+◌, ◌-◌, ◌*◌, ◌/◌, ◌%◌, ◌<◌, ◌≤◌, List, take, length, get_or, refl, sym, ap, ◌∙◌, inl, inr, arith}
-use Rattle.std.specs.Prelude.{Bool, true, false, Some, None}
+use Rattle.std.proofs.Common.{◌≡◌, ℕ, zero, suc, ◌+◌, ◌-◌, ◌*◌, ◌/◌, ◌%◌, ◌<◌, ◌≤◌, List, take, length, get_or, refl, sym, ap, subst, ◌∙◌, inl, inr, arith, leb-true}
+use Rattle.std.specs.Prelude.{Bool, true, false, cond, nat_le, Option, Some, None}
 use Rattle.std.specs.List.{All, sum_by}
-use Rattle.std.proofs.Math.Nat.{div-add-mod}
+use Rattle.std.proofs.Math.Nat.{div-add-mod, mul-le-mul_left, mul-le-mul_right, le_of_mul-le-mul_left}
 use Rattle.std.proofs.lemmas.Bool.{cases_lt, le-ltb, le-leb}
+use Rattle.std.proofs.lemmas.Option.{same_Some, none-some}
 use Rattle.std.proofs.lemmas.List.{length-take-le}
 use Rattle.std.proofs.lemmas.List.Elements.{recursion_from_All}
 use Rattle.ct_counting.specs.Words.{apart, ones}
@@ -12,6 +13,9 @@ use Rattle.ct_counting.proofs.Pairs.{AllPairs-within}
 use Rattle.ct_counting.proofs.PairSums.{pair_sum, pair_sum-le}
 use Rattle.ct_counting.proofs.Spread.{IsSpreadOfWeight, IsWeightBound, spread-take}
 use Rattle.ct_counting.proofs.CommonOnes.{common_ones, ones-common, common_self, common_symmetric, columns-ge}
+use Rattle.ct_codes.specs.Entry.{constant_weight}
+use Rattle.ct_codes.specs.Code.{IsTrueUpper}
+use Rattle.ct_codes.proofs.DigitCodes.{bound_from_weight}
 use Rattle.ct_johnson.specs.declared.columns.TheConstants.{MAX_COUNTED}
 use Rattle.ct_johnson.specs.Bounds.{least_pairs, are_too_many, least_from, column_count_value}
 
@@ -65,6 +69,66 @@ weight_bound-columns n δ w m h fits fails cs code =
           absurd cc
     ]
 
+-- the product of two numbers is at most a quarter of the square of their sum
+quarter : (r s : ℕ) → 4 * (r * s) ≤ (r + s) * (r + s)
+quarter r s =
+    elim (cases_lt r s) [
+      | inl less ↦
+          let is : r + (s - r) ≡ s = omega arith in
+          subst (λ z. 4 * (r * z) ≤ (r + z) * (r + z)) is (greater r (s - r))
+      | inr more ↦
+          let is : s + (r - s) ≡ r = omega arith in
+          subst (λ z. 4 * (z * s) ≤ (z + s) * (z + s)) is (smaller s (r - s))
+    ]
+  where
+    greater : (r k : ℕ) → 4 * (r * (r + k)) ≤ (r + (r + k)) * (r + (r + k))
+    greater r k = omega arith
+
+    smaller : (s k : ℕ) → 4 * ((s + k) * s) ≤ ((s + k) + s) * ((s + k) + s)
+    smaller s k = omega arith
+
+-- n times the least pairs of t = n(p + 1) + r ones, and n·t, are t² + r·s, where n = r + s
+pairs_times : (n p r s t : ℕ) → n ≡ r + s → t ≡ n * suc p + r
+    → n * (n * (suc p * p) + 2 * (suc p * r)) + n * t ≡ t * t + r * s
+pairs_times n p r s t split ones_are =
+    let square = ap (λ z. z * z) ones_are in
+    let times = ap (λ z. n * z) ones_are in
+    let rest = ap (λ z. z * r) split in
+    omega arith
+
+-- few pairs, where w² ≤ a·n for w = a + δ, and 4δm ≥ n: then n times the least pairs is at most n·a·m(m - 1)
+few_pairs_at : (n p r s a δ k : ℕ) → n ≡ r + s → 1 ≤ n → (a + δ) * suc k ≡ n * suc p + r → (a + δ) * (a + δ) ≤ a * n
+    → n ≤ 4 * δ * suc k → n * (suc p * p) + 2 * (suc p * r) ≤ a * (suc k * k)
+few_pairs_at n p r s a δ k parts some split wide long =
+    let scaled = pairs_times n p r s ((a + δ) * suc k) parts split in
+    let square = mul-le-mul_right (suc k * suc k) wide in
+    let part = quarter r s in
+    let whole = ap (λ z. z * z) parts in
+    let places = mul-le-mul_left n long in
+    let times : n * (n * (suc p * p) + 2 * (suc p * r)) ≤ n * (a * (suc k * k)) = omega arith in
+    le_of_mul-le-mul_left times some
+
+few_pairs : (n q r a δ m : ℕ) → r < n → (a + δ) * m ≡ n * q + r → (a + δ) * (a + δ) ≤ a * n → n ≤ 4 * δ * m
+    → n * (q * (q - 1)) + 2 * (q * r) ≤ a * (m * (m - 1))
+few_pairs n zero r a δ m rest split wide long = omega arith
+few_pairs n (suc p) r a δ zero rest split wide long = absurd (omega arith)
+few_pairs n (suc p) r a δ (suc k) rest split wide long =
+    let parts : n ≡ r + (n - r) = omega arith in
+    let less : suc p - 1 ≡ p = omega arith in
+    let fewer : suc k - 1 ≡ k = omega arith in
+    rw (less, fewer) (few_pairs_at n p r (n - r) a δ k parts (omega arith) split wide long)
+
+-- so from there on no number is too many
+pub not_too_many-from : (n δ w m : ℕ) → 1 ≤ n → δ ≤ w → w * w ≤ (w - δ) * n → n ≤ 4 * δ * m → are_too_many n δ w m ≡ false
+not_too_many-from n δ w m some fits wide long =
+    let weight : w - δ + δ ≡ w = omega arith in
+    let split : w * m ≡ n * (w * m / n) + w * m % n = sym (div-add-mod (w * m) n) in
+    let rest : w * m % n < n = omega arith in
+    le-ltb ((w - δ) * (m * (m - 1))) (least_pairs n (w * m))
+    (few_pairs n (w * m / n) (w * m % n) (w - δ) δ m rest
+    (subst (λ v. v * m ≡ n * (w * m / n) + w * m % n) (sym weight) split)
+    (subst (λ v. v * v ≤ (w - δ) * n) (sym weight) wide) long)
+
 -- a test that fails at the first numbers and then passes
 pub least_from-found : (test : ℕ → Bool) (j k a : ℕ) → ((i : ℕ) → a ≤ i → i < a + j → test i ≡ false) → test (a + j) ≡ true → j < k → least_from test a k ≡ Some (a + j)
 unfolding least_from
@@ -87,6 +151,35 @@ least_from-none test (suc k) a all =
     let fails = all a (omega arith) (omega arith) in
     let rest = least_from-none test k (a + 1) (λ i l m. all i (omega arith) (omega arith)) in
     rw fails rest
+
+-- what is found passes the test
+least_from-passes : (test : ℕ → Bool) (k a m : ℕ) → least_from test a k ≡ Some m → (a ≤ m) × (test m ≡ true)
+unfolding least_from
+least_from-passes test zero a m is = absurd (none-some m is)
+least_from-passes test (suc k) a m is =
+    let later = least_from-passes test k (a + 1) m in
+    go (test a) refl (λ found. let rest = later found in (omega (arith, rest.0), rest.1)) is
+  where
+    go : (b : Bool) → test a ≡ b → (least_from test (a + 1) k ≡ Some m → (a ≤ m) × (test m ≡ true))
+        → cond b (Some a) (least_from test (a + 1) k) ≡ Some m → (a ≤ m) × (test m ≡ true)
+    go true passes later is =
+        let same = same_Some a m is in
+        (omega arith, sym (ap test same) ∙ passes)
+    go false fails later is = later is
+
+-- one word fewer than are too many bounds every code
+pub columns_sound : (n d w m : ℕ) → 1 ≤ n → d % 2 ≡ 0 → column_count_value n d w ≡ Some m
+    → (2 ≤ m) × IsTrueUpper (constant_weight n d w) (m - 1)
+columns_sound n d w m some even is =
+    let both = cond_some_too (nat_le (d / 2) w) (least_from (are_too_many n (d / 2) w) 2 (MAX_COUNTED - 1)) m is in
+    let found = least_from-passes (are_too_many n (d / 2) w) (MAX_COUNTED - 1) 2 m both.1 in
+    let double : 2 * (d / 2) ≡ d = omega arith in
+    let bound = weight_bound-columns n (d / 2) w m some (leb-true (d / 2) w both.0) found.1 in
+    (found.0, bound_from_weight n d w (m - 1) (subst (λ e. IsWeightBound n e w (m - 1)) double bound))
+  where
+    cond_some_too : (b : Bool) (o : Option ℕ) (m : ℕ) → cond b o None ≡ Some m → (b ≡ true) × (o ≡ Some m)
+    cond_some_too true o m is = (refl, is)
+    cond_some_too false o m is = absurd (none-some m is)
 
 -- the value where a number is found
 pub value_found : (n d w m : ℕ) → d / 2 ≤ w → 2 ≤ m → m ≤ MAX_COUNTED → ((k : ℕ) → 2 ≤ k → k < m → are_too_many n (d / 2) w k ≡ false) → are_too_many n (d / 2) w m ≡ true → column_count_value n d w ≡ Some m

@@ -47,9 +47,13 @@ pub record IsLeastTooMany (n δ w m : ℕ) : Type 0 where
 abbrev pub NoneTooMany : ℕ → ℕ → ℕ → Type 0
 NoneTooMany n δ w = δ ≤ w → (k : ℕ) → 2 ≤ k → k ≤ MAX_COUNTED → IsFalse (are_too_many n δ w k)
 
--- ⌊2^(n - 1)·u / C(n,w)⌋, where u bounds A(n,d,w) for an even d
+-- ⌊2^(n - 1)·u / C(n,w)⌋, where u bounds A(n,d,w) for an even d: 0 where w > n, and no word has the weight
+abbrev pub average : ℕ → ℕ → ℕ → ℕ
+average n w u = 2 ^ (n - 1) * u / choose n w
+
+-- the same as a bound of the table
 abbrev pub averaging_value : ℕ → ℕ → ℕ → ℕ
-averaging_value n w u = min (2 ^ (n - 1) * u / choose n w) MAX_BOUND
+averaging_value n w u = min (average n w u) MAX_BOUND
 
 -- for the distance 2δ - 1: ⌊2^n·F / (F·V(n,δ - 1) + R)⌋, where F = ⌊n/δ⌋ and R = C(n,δ) - C(2δ - 1,δ - 1)·u is above 0
 abbrev pub johnson_odd : ℕ → ℕ → ℕ → Option ℕ

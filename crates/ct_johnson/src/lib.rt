@@ -11,4 +11,4 @@ mod unrestricted;
 pub use columns::{MAX_COUNTED, column_count};
 pub use laws::{bounds_by_weight, bounds_from_other_entries};
 pub use places::{drop_one, drop_zero, split};
-pub use unrestricted::{averaging, johnson};
+pub use unrestricted::{average, averaging, johnson, johnson_odd};

@@ -3,17 +3,30 @@
 ghost use Rattle.std.specs.Prelude.{◌≡◌, ℕ, ◌+◌, ◌*◌, ◌%◌, ◌≤◌, IfSome};
 ghost use Rattle.ct_codes.specs.Code.{IsTrueUpper};
 ghost use Rattle.ct_codes.specs.Entry.{IsEntry, constant_weight, unrestricted};
-ghost use Rattle.ct_johnson.specs.Bounds.{averaging_value, johnson_odd as odd_value, johnson_value};
+ghost use Rattle.ct_johnson.specs.Bounds.{average, averaging_value, johnson_odd, johnson_value};
 
 use crate::cap::capped;
 use ct_words::{MAX_BOUND, MAX_N, ball, binomial};
 
-/// The bound ⌊2^(n - 1)·u / C(n,w)⌋ on A(n,d) for an even d, at most `MAX_BOUND`, for n from 1 to `MAX_N` and w up to
-/// n. The number u, from 1 to `MAX_BOUND`, bounds A(n,d,w).
+/// ⌊2^(n - 1)·u / C(n,w)⌋ for n from 1 to `MAX_N`; 0 where w is above n. It bounds A(n,d) for an even d where u bounds
+/// A(n,d,w).
 ///
 /// A code can be replaced by one of the same size whose weights are all even. Each word x of that one has C(n,w) sums x
 /// + v of weight w, all with words v whose weight has the parity of w; there are 2^(n - 1) such v, and the sums of
 /// weight w with one v are a code (Elias; Bassalygo 1965; MacWilliams and Sloane, chapter 17).
+pub fn average(n: u32, w: u32, u: u32) -> u64
+    requires { (1 ≤ n) × (n ≤ MAX_N) }
+    ensures { result ≡ average n w u }
+{
+    if n < w {
+        return 0;
+    }
+    let words = 1u64 << (n - 1);
+    words * u64::from(u) / binomial(n, w)
+}
+
+/// The bound `average` on A(n,d) for an even d, at most `MAX_BOUND`, for n from 1 to `MAX_N` and w up to n. The number u,
+/// from 1 to `MAX_BOUND`, bounds A(n,d,w).
 pub fn averaging(n: u32, w: u32, u: u32) -> u32
     requires length { (1 ≤ n) × (n ≤ MAX_N) }
     requires weight { w ≤ n }
@@ -23,8 +36,7 @@ pub fn averaging(n: u32, w: u32, u: u32) -> u32
     ensures sound { (d : ℕ) → 2 ≤ d → d % 2 ≡ 0 → IsTrueUpper (constant_weight n d w) u →
         IsTrueUpper (unrestricted n d) result }
 {
-    let words = 1u64 << (n - 1);
-    capped(words * u64::from(u) / binomial(n, w))
+    capped(average(n, w, u))
 }
 
 /// Johnson's bound on A(n,d), ⌊2^n·F / (F·V + R)⌋, for an odd d = 2δ - 1 ≤ n, (n,d) an entry of the table. F is ⌊n/δ⌋,
@@ -42,25 +54,26 @@ pub fn johnson(n: u32, d: u32, u: u32) -> Option<u32>
     ensures sound { IsTrueUpper (constant_weight n (d + 1) d) u → IfSome result (IsTrueUpper (unrestricted n d)) }
 {
     if d % 2 == 1 && d <= n {
-        johnson_odd(n, (d + 1) / 2, u)
+        let bound = johnson_odd(n, (d + 1) / 2, u)?;
+        Some(bound as u32)
     } else {
         None
     }
 }
 
-/// Johnson's bound for the distance 2·half - 1, at most n.
-fn johnson_odd(n: u32, half: u32, u: u32) -> Option<u32>
+/// Johnson's number ⌊2^n·F / (F·V + R)⌋ of `johnson` for the distance 2·half - 1, n and that at most `MAX_N`; `None`
+/// where R is not above 0.
+pub fn johnson_odd(n: u32, half: u32, u: u32) -> Option<u64>
     requires length { n ≤ MAX_N }
-    requires distance { (1 ≤ half) × (2 * half ≤ n + 1) }
-    requires premise { u ≤ MAX_BOUND }
-    ensures { result ≡ odd_value n half u }
+    requires distance { (1 ≤ half) × (2 * half ≤ MAX_N + 1) }
+    ensures { result ≡ johnson_odd n half u }
 {
     let next = binomial(n, half);
     let taken = binomial(2 * half - 1, half - 1) * u64::from(u);
     if taken < next {
         let most = u64::from(n / half);
         let balls = most * ball(n, half - 1);
-        Some(((1u64 << n) * most / (balls + (next - taken))) as u32)
+        Some((1u64 << n) * most / (balls + (next - taken)))
     } else {
         None
     }

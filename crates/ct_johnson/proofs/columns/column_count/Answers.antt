@@ -1,17 +1,25 @@
--- The numbers that were passed are not too many; the one that is found bounds every code.
-use Rattle.std.proofs.Common.{◌≡◌, ◌-◌, ◌*◌, ◌/◌, ◌≤◌, sym, ◌∙◌, arith}
-use Rattle.ct_counting.proofs.Spread.{IsWeightBound}
+-- The numbers that were passed are not too many, nor those past the last that is tried; the one that is found bounds every code.
+use Rattle.std.proofs.Common.{◌≡◌, ℕ, ◌/◌, ◌<◌, ◌≤◌, false, sym, ◌∙◌, inl, inr, arith}
+use Rattle.std.proofs.lemmas.Bool.{cases_lt}
 use Rattle.ct_codes.specs.Entry.{constant_weight}
 use Rattle.ct_codes.proofs.EntryLemmas.{entry_limits}
-use Rattle.ct_codes.proofs.DigitCodes.{bound_from_weight}
 use Rattle.ct_johnson.specs.declared.columns.TheConstants.{MAX_COUNTED}
-use Rattle.ct_johnson.proofs.PairCounts.{value_found, value_none, weight_bound-columns}
+use Rattle.ct_johnson.specs.Bounds.{are_too_many}
+use Rattle.ct_johnson.proofs.PairCounts.{value_found, value_none, columns_sound}
 use Rattle.ct_johnson.proofs.columns.column_count.Goals as goal
+
+-- neither those that were tried nor the others are too many
+none_at_all : (n δ w last words : ℕ) → last < words → ((k : ℕ) → 2 ≤ k → k < words → are_too_many n δ w k ≡ false)
+    → ((k : ℕ) → last < k → k ≤ MAX_COUNTED → are_too_many n δ w k ≡ false)
+    → (k : ℕ) → 2 ≤ k → k ≤ MAX_COUNTED → are_too_many n δ w k ≡ false
+none_at_all n δ w last words over tried rest k some few =
+    elim (cases_lt k words) [ inl before ↦ tried k some before | inr after ↦ rest k (omega arith) few ]
 
 pub returns-then-are_too_many-clause-value : goal.returns-then-are_too_many-clause-value
 returns-then-are_too_many-clause-value c =
+    let last = c.last_to_try-words-end.ensures.counted in
     let few : c.loop-words.words ≤ MAX_COUNTED = omega arith in
-    sym (value_found c.args.n c.args.d c.args.w c.loop-words.words c.if-w-d.false c.loop-words.auto.words few c.loop-words.invariant
+    sym (value_found c.args.n c.args.d c.args.w c.loop-words.words c.if-w-half.false c.loop-words.auto.words few c.loop-words.invariant
     (sym c.are_too_many.ensures ∙ c.if-are_too_many.true))
 
 pub returns-then-are_too_many-clause-sound : goal.returns-then-are_too_many-clause-sound
@@ -21,11 +29,19 @@ returns-then-are_too_many-clause-sound c =
     let w = c.args.w in
     let m = c.loop-words.words in
     let limits = entry_limits (constant_weight n d w) c.requires in
-    let parity = limits.weight.0 in
-    let even : 2 * (d / 2) ≡ d = omega arith in
-    let bound = weight_bound-columns n (d / 2) w m limits.length_from c.if-w-d.false (sym c.are_too_many.ensures ∙ c.if-are_too_many.true) in
-    let here : IsWeightBound n d w (m - 1) = rw even at bound in
-    bound_from_weight n d w (m - 1) here
+    let last = c.last_to_try-words-end.ensures.counted in
+    let few : m ≤ MAX_COUNTED = omega arith in
+    let is = value_found n d w m c.if-w-half.false c.loop-words.auto.words few c.loop-words.invariant (sym c.are_too_many.ensures ∙ c.if-are_too_many.true) in
+    (columns_sound n d w m limits.length_from limits.weight.0 is).1
 
 pub returns-clause-value : goal.returns-clause-value
-returns-clause-value c = sym (value_none c.args.n c.args.d c.args.w c.if-w-d.false (λ k some few. c.loop-words.invariant k some (omega arith)))
+returns-clause-value c =
+    let over : c.last_to_try-words-end.result < c.loop-words.words = omega arith in
+    let none = none_at_all c.args.n (c.args.d / 2) c.args.w c.last_to_try-words-end.result c.loop-words.words over c.loop-words.invariant c.last_to_try-words-end.ensures.rest in
+    sym (value_none c.args.n c.args.d c.args.w c.if-w-half.false (λ k some few. none k some (omega arith)))
+
+pub returns-clause-least : goal.returns-clause-least
+returns-clause-least c =
+    let over : c.last_to_try-words-end.result < c.loop-words.words = omega arith in
+    λ fits k some few.
+    none_at_all c.args.n (c.args.d / 2) c.args.w c.last_to_try-words-end.result c.loop-words.words over c.loop-words.invariant c.last_to_try-words-end.ensures.rest k some few

@@ -1,10 +1,9 @@
 -- The products stay below 2^64, and the quotient at most 2^n.
-use Rattle.std.proofs.Common.{◌≡◌, ℕ, ◌+◌, ◌-◌, ◌*◌, ◌/◌, ◌^◌, ◌≤◌, ap, arith}
-use Rattle.std.proofs.lemmas.Nat.{one_shl}
+use Rattle.std.proofs.Common.{◌≡◌, ℕ, ◌-◌, ◌*◌, ◌/◌, ◌≤◌, arith}
 use Rattle.ct_counting.specs.Binomials.{choose, volume}
-use Rattle.ct_counting.proofs.Binomials.{choose-le, one-le-volume}
+use Rattle.ct_counting.proofs.Binomials.{choose-le}
 use Rattle.ct_words.specs.declared.limits.TheConstants.{MAX_N, MAX_BOUND}
-use Rattle.ct_johnson.proofs.JohnsonRule.{fits_taken, fits_balls, power-le, quotient-le}
+use Rattle.ct_johnson.proofs.JohnsonRule.{fits_taken, fits_balls, power-le}
 use Rattle.ct_johnson.proofs.unrestricted.johnson_odd.Goals as goal
 
 -- a product of numbers that are known
@@ -14,8 +13,8 @@ product a b x y m e f h = rw (e, f) h
 pub overflow_mul-taken : goal.overflow_mul-taken
 overflow_mul-taken c =
     let half = c.args.half in
-    let most = fits_taken (2 * half - 1) (half - 1) c.args.u (omega arith) c.requires.premise in
-    let within = product c.binomial.result c.from.result (choose (2 * half - 1) (half - 1)) c.args.u (MAX_BOUND * MAX_BOUND) c.binomial.ensures c.from.ensures most in
+    let most = fits_taken (2 * half - 1) (half - 1) c.args.u (omega arith) in
+    let within = product c.binomial.result c.from.result (choose (2 * half - 1) (half - 1)) c.args.u (MAX_BOUND * c.args.u) c.binomial.ensures c.from.ensures most in
     omega arith
 
 pub overflow_mul-balls : goal.overflow_mul-balls
@@ -33,17 +32,4 @@ overflow_add-result c =
     let next = choose-le c.args.n c.args.half in
     let power = power-le c.args.n c.requires.length in
     let next_is = c.binomial-next.ensures in
-    omega arith
-
-pub overflow_cast-result-then-taken-next : goal.overflow_cast-result-then-taken-next
-overflow_cast-result-then-taken-next c =
-    let n = c.args.n in
-    let f = c.from-most.result in
-    let v = c.ball.result in
-    let r = c.binomial-next.result - c.binomial.result * c.from.result in
-    let centre = one-le-volume n (c.args.half - 1) in
-    let size : v ≡ volume n (c.args.half - 1) = c.ball.ensures in
-    let most = quotient-le (2 ^ n) f v r (omega arith) in
-    let shifted = ap (λ z. z * f / (f * v + r)) (one_shl n 64 (omega arith)) in
-    let power = power-le n c.requires.length in
     omega arith

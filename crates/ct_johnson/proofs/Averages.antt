@@ -4,10 +4,11 @@ use Rattle.std.specs.Prelude.{Bool, cond, ◌==◌, count_by}
 use Rattle.std.specs.List.{All}
 use Rattle.std.proofs.lemmas.Bool.{cases_eq, eq-eqb, ne_eqb, cond-true}
 use Rattle.std.proofs.lemmas.List.{length-map}
+use Rattle.std.proofs.Math.Nat.{mul-le-mul_left}
 use Rattle.std.proofs.lemmas.Nat.{le-div}
 use Rattle.ct_counting.specs.Binomials.{choose}
 use Rattle.ct_counting.specs.Words.{all_words, apart, ones}
-use Rattle.ct_counting.proofs.Binomials.{one-le-choose}
+use Rattle.ct_counting.proofs.Binomials.{one-le-choose, choose-le-half}
 use Rattle.ct_counting.proofs.Sums.{sum_by-constant, sum_by-scale, sum_by-congruence}
 use Rattle.ct_counting.proofs.DoubleCounting.{double_count, count_by-none}
 use Rattle.ct_counting.proofs.Words.{lengths-all_words}
@@ -17,6 +18,11 @@ use Rattle.ct_counting.proofs.Spheres.{sphere_size}
 use Rattle.ct_counting.proofs.CommonOnes.{common_ones, ones-common}
 use Rattle.ct_counting.proofs.Parity.{evened, spread-evened, weights-evened, half_have_parity}
 use Rattle.ct_counting.proofs.Translations.{around, length-around, spread-around}
+use Rattle.ct_codes.specs.Entry.{constant_weight, unrestricted}
+use Rattle.ct_codes.specs.Code.{IsTrueUpper}
+use Rattle.ct_codes.proofs.DigitCodes.{bound_from_spread, weight_bound_from_codes}
+use Rattle.ct_johnson.specs.Bounds.{average}
+use Rattle.ct_johnson.proofs.Quotients.{div-le-div}
 
 -- the words of a code of even weights at distance w from v are at most u, and none where v has not the parity of w
 words_near : (n d w u : ℕ) → IsWeightBound n d w u → (cs : List (List Bool)) → IsSpread n d cs → All (λ x. ones x % 2 ≡ 0) cs → (v : List Bool) → length v ≡ n
@@ -78,3 +84,26 @@ spread_bound-average (suc m) (suc d) w u h far even fits bound cs spread =
   where
     pred_is : (m : ℕ) → suc m - 1 ≡ m
     pred_is m = omega arith
+
+-- so the average bounds the codes of an even distance
+pub average_sound : (n d w u : ℕ) → 1 ≤ n → 2 ≤ d → d % 2 ≡ 0 → w ≤ n → IsTrueUpper (constant_weight n d w) u
+    → IsTrueUpper (unrestricted n d) (average n w u)
+average_sound n d w u some far even fits premise =
+    bound_from_spread n d (average n w u)
+    (spread_bound-average n d w u some far even fits (weight_bound_from_codes n d w u (omega arith) premise))
+
+-- it is at least 1
+pub one-le-average : (n w u : ℕ) → 1 ≤ n → w ≤ n → 1 ≤ u → 1 ≤ average n w u
+one-le-average zero w u h fits some = absurd (omega arith)
+one-le-average (suc m) w u h fits some =
+    let most = choose-le-half m w in
+    let scaled = mul-le-mul_left (2 ^ m) some in
+    let power = ap (λ z. 2 ^ z * u) (pred_is m) in
+    le-div 1 (2 ^ (suc m - 1) * u) (choose (suc m) w) (one-le-choose (suc m) w fits) (omega arith)
+  where
+    pred_is : (m : ℕ) → suc m - 1 ≡ m
+    pred_is m = omega arith
+
+-- and no greater for a better bound
+pub average-le : (n w u v : ℕ) → v ≤ u → average n w v ≤ average n w u
+average-le n w u v better = div-le-div (2 ^ (n - 1) * v) (2 ^ (n - 1) * u) (choose n w) (mul-le-mul_left (2 ^ (n - 1)) better)
