@@ -1,6 +1,6 @@
 -- Codes without weight from codes without weight, as claims: there is a code of so many words.
 use Rattle.std.proofs.Common.{◌≡◌, ℕ, ◌+◌, ◌-◌, ◌*◌, ◌^◌, ◌<◌, ◌≤◌, min, List, [], ◌∷◌, length, All, AllPairs, refl, ap₂, subst, ◌∙◌, inl, inr, arith, pow_pos}
-use Rattle.std.specs.Prelude.{None}
+use Rattle.std.specs.Prelude.{Some, None}
 use Rattle.std.proofs.Math.Pow.{ones_lt}
 use Rattle.std.proofs.lemmas.Bool.{cases_lt}
 use Rattle.std.proofs.lemmas.Nat.Bits.{bit_at-zero, bit_at-lt}
@@ -8,7 +8,7 @@ use Rattle.std.proofs.lemmas.List.Elements.{All-nil, All-cons}
 use Rattle.std.proofs.lemmas.List.Kept.{AllPairs-cons}
 use Rattle.ct_words.specs.Word.{digit, distance, IsSum}
 use Rattle.ct_words.proofs.WordLemmas.{distance-is_weight, weight-ones}
-use Rattle.ct_codes.specs.Entry.{unrestricted}
+use Rattle.ct_codes.specs.Entry.{unrestricted, constant_weight}
 use Rattle.ct_codes.specs.Code.{IsCode, IsTrueLower}
 use Rattle.ct_constructions.specs.Even.{even_from, even_words}
 use Rattle.ct_constructions.specs.Append.{lengthened, with_parity}
@@ -19,7 +19,7 @@ use Rattle.ct_constructions.specs.Shortened.{shortened}
 use Rattle.ct_constructions.specs.Uuv.{uuv_words}
 use Rattle.ct_constructions.specs.Juxtaposed.{juxtaposed}
 use Rattle.ct_constructions.proofs.FarWords.{AreFar, code_from_far}
-use Rattle.ct_constructions.proofs.FrontLemmas.{IsCode-nearer}
+use Rattle.ct_constructions.proofs.FrontLemmas.{IsCode-nearer, IsCode-unweighted}
 use Rattle.ct_constructions.proofs.AppendLemmas.{IsCode-lengthened, IsCode-with_parity, length-lengthened, length-with_parity}
 use Rattle.ct_constructions.proofs.EvenLemmas.{IsCode-even_words, length-even_words}
 use Rattle.ct_constructions.proofs.PuncturedCodes.{IsCode-punctured, length-punctured}
@@ -41,6 +41,10 @@ HasCode-fewer n d u v few code =
 -- it has a smaller distance
 pub HasCode-nearer : (n d e v : ℕ) → e ≤ d → HasCode n d v → HasCode n e v
 HasCode-nearer n d e v near code = (code.0, IsCode-nearer n d e None code.0 near code.1, code.2)
+
+-- each word has one weight
+pub HasCode-unweighted : (n d w v : ℕ) → IsTrueLower (constant_weight n d w) v → HasCode n d v
+HasCode-unweighted n d w v code = (code.0, IsCode-unweighted n d (Some w) code.0 code.1, code.2)
 
 -- the word 0 added to a word
 zero_sum : (n x : ℕ) → x < 2 ^ n → IsSum n 0 x x
