@@ -3,3 +3,7 @@ pub mod OneWord
 pub mod Complemented
 pub mod GivenCode
 pub mod AllWords
+pub mod WithoutWeight
+pub mod Averaging
+pub mod Johnson
+pub mod ColumnPairs
