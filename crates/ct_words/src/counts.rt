@@ -3,7 +3,7 @@
 ghost use Rattle.std.specs.Prelude.{◌≡◌, ◌≤◌};
 ghost use Rattle.ct_counting.specs.Binomials.{choose, factorial as factorial_of, volume};
 
-use crate::triangle::BINOMIALS;
+use crate::triangle::{BALLS, BINOMIALS};
 
 /// The binomial coefficient of n over k for n up to 30, which is 0 where k is above n: how many words of length n have
 /// weight k (MacWilliams and Sloane, chapter 1, section 5).
@@ -35,10 +35,5 @@ pub fn ball(n: u32, e: u32) -> u64
     requires { n ≤ 30 }
     ensures { result ≡ volume n e }
 {
-    let radius = e.min(n);
-    let mut words: u64 = 0;
-    for j in 0..radius + 1 {
-        words += binomial(n, j);
-    }
-    words
+    u64::from(BALLS[n as usize][e.min(n) as usize])
 }

@@ -1,11 +1,11 @@
 -- What is looked up is the binomial coefficient.
 use Rattle.std.proofs.Common.{sym, ◌∙◌, arith}
 use Rattle.ct_counting.proofs.Binomials.{choose_past}
-use Rattle.ct_words.proofs.PascalRows.{looked_up}
+use Rattle.ct_words.proofs.PascalRows.{binomial_is}
 use Rattle.ct_words.proofs.counts.binomial.Goals as goal
 
 pub returns-then-n-k : goal.returns-then-n-k
 returns-then-n-k c = sym (choose_past c.args.n c.args.k c.if-n-k.true)
 
 pub returns : goal.returns
-returns c = c.from.ensures ∙ looked_up c.args.n c.args.k (omega arith) (omega arith)
+returns c = c.from.ensures ∙ binomial_is c.args.n c.args.k (omega arith) (omega arith)
