@@ -16,8 +16,8 @@ pub const MAX_COUNTED: u32 = 1000;
 /// place, each place counted, and two words of distance d have at most w - d/2 ones in common: M words are too many
 /// where nq(q - 1) + 2qr is above (w - d/2)·M(M - 1) (Johnson 1962; MacWilliams and Sloane, chapter 17, section 2).
 ///
-/// Where w² ≤ (w - d/2)·n, only M up to n/(2d) are tried. Else the first M above (d/2)·n/(w² - (w - d/2)·n) is too many,
-/// if none before is.
+/// Where w² ≤ (w - d/2)·n, only M up to n/(2d) are tried. Else each M above (d/2)·n/(w² - (w - d/2)·n) is too many, and
+/// the first that is ends the search.
 pub fn column_count(n: u32, d: u32, w: u32) -> Option<u32>
     requires { IsEntry (constant_weight n d w) }
     ensures value { result ≡ column_count_value n d w }

@@ -61,8 +61,8 @@ pub fn johnson(n: u32, d: u32, u: u32) -> Option<u32>
     }
 }
 
-/// Johnson's number ⌊2^n·F / (F·V + R)⌋ of `johnson` for the distance 2·half - 1, n and that at most `MAX_N`; `None`
-/// where R is not above 0.
+/// ⌊2^n·F / (F·V + R)⌋ as in `johnson`, for any number u and the distance 2·half - 1, which is at most `MAX_N` as n is.
+/// `None` where R is not above 0.
 pub fn johnson_odd(n: u32, half: u32, u: u32) -> Option<u64>
     requires length { n ≤ MAX_N }
     requires distance { (1 ≤ half) × (2 * half ≤ MAX_N + 1) }

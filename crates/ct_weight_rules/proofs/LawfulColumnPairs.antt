@@ -12,7 +12,7 @@ use Rattle.ct_rule_parts.specs.Parts.{has_weight, weight_of}
 use Rattle.ct_rule_parts.proofs.Lawful.{IsLawful, IsTrueNumber, no_worse-same}
 use Rattle.ct_rule_parts.proofs.PlainEntries.{a_weight, no_item}
 use Rattle.ct_rule_parts.proofs.WeightEntries.{upper_of_weight}
-use Rattle.ct_weight_rules.specs.ColumnPairs.{column_pairs}
+use Rattle.ct_weight_rules.specs.ColumnPairs.{below_too_many, column_pairs}
 
 -- what a number is one below
 one_below : (o : Option ℕ) (x : ℕ) → option_map (λ (m : ℕ). m - 1) o ≡ Some x → (m : ℕ) × (o ≡ Some m) × (m - 1 ≡ x)
@@ -22,7 +22,7 @@ one_below (Some m) x is = (m, refl, same_Some (m - 1) x is)
 pub column_pairs-lawful : (c : Option Support) → IsLawful c column_pairs
 column_pairs-lawful c = record {
   sound = λ e vs x stand entry condition known is.
-      let parts = and_parts (has_weight e) (is_some (column_count_value e.n e.d (weight_of e))) condition in
+      let parts = and_parts (has_weight e) (is_some (below_too_many e)) condition in
       let weighted = a_weight e parts.0 in
       let limits = entry_limits e entry in
       let fits = subst (WeightFits e) weighted.1 limits.weight in

@@ -4,7 +4,7 @@ ghost use Rattle.std.specs.Prelude.{◌≡◌, ◌+◌, true, false, [], Some, N
 ghost use Rattle.ct_words.specs.declared.limits.TheConstants.{MAX_N};
 ghost use Rattle.ct_codes.specs.Entry.{IsEntry, unrestricted, constant_weight};
 ghost use Rattle.ct_rule_parts.specs.Parts.{is_defined};
-ghost use Rattle.ct_weight_rules.specs.ColumnPairs.{column_pairs};
+ghost use Rattle.ct_weight_rules.specs.ColumnPairs.{below_too_many, column_pairs};
 
 use ct_codes::Entry;
 use ct_johnson::column_count;
@@ -13,7 +13,7 @@ use ct_johnson::column_count;
 /// or there is none.
 pub fn below_too_many(entry: Entry) -> Option<u64>
     requires { IsEntry entry }
-    ensures { result ≡ column_pairs.number entry [] }
+    ensures { result ≡ below_too_many entry }
 {
     let least = column_count(entry.n, entry.d, entry.w?)?;
     Some(u64::from(least - 1))
