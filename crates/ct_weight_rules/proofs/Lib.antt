@@ -1,8 +1,15 @@
+pub mod WeightNeighbours
+pub mod DisjointWords
 pub mod LawfulOneWord
+pub mod LawfulDisjoint
+pub mod LawfulLengthened
 pub mod LawfulComplemented
+pub mod LawfulNearer
 pub mod LawfulGivenCode
 pub mod LawfulAllWords
 pub mod LawfulWithoutWeight
 pub mod LawfulAveraging
 pub mod LawfulJohnson
 pub mod LawfulColumnPairs
+pub mod LawfulFarWords
+pub mod LawfulSplit

@@ -1,9 +1,14 @@
 pub mod Neighbours
 pub mod OneWord
+pub mod Disjoint
+pub mod Lengthened
 pub mod Complemented
+pub mod Nearer
 pub mod GivenCode
 pub mod AllWords
 pub mod WithoutWeight
 pub mod Averaging
 pub mod Johnson
 pub mod ColumnPairs
+pub mod FarWords
+pub mod Split

@@ -8,6 +8,30 @@ use Rattle.ct_rule_parts.specs.Parts.{weight_of, half_up}
 abbrev pub turned : Entry → Entry
 turned e = constant_weight e.n e.d (e.n - weight_of e)
 
+-- words with a zero less
+abbrev pub zero_less : Entry → Entry
+zero_less e = constant_weight (e.n - 1) e.d (weight_of e)
+
+-- words with a zero more
+abbrev pub zero_more : Entry → Entry
+zero_more e = constant_weight (e.n + 1) e.d (weight_of e)
+
+-- words with a one less
+abbrev pub one_less : Entry → Entry
+one_less e = constant_weight (e.n - 1) e.d (weight_of e - 1)
+
+-- words with a one more
+abbrev pub one_more : Entry → Entry
+one_more e = constant_weight (e.n + 1) e.d (weight_of e + 1)
+
+-- words two places nearer
+abbrev pub two_nearer : Entry → Entry
+two_nearer e = constant_weight e.n (e.d - 2) (weight_of e)
+
+-- words two places farther
+abbrev pub two_farther : Entry → Entry
+two_farther e = constant_weight e.n (e.d + 2) (weight_of e)
+
 -- words of a weight
 abbrev pub of_weight : Entry → ℕ → Entry
 of_weight e w = constant_weight e.n e.d w

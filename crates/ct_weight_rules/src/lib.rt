@@ -6,20 +6,31 @@ mod all_words;
 mod averaging;
 mod column_pairs;
 mod complemented;
+mod disjoint;
+mod far_words;
 mod given_code;
 mod johnson;
+mod lengthened;
+mod nearer;
 mod neighbours;
 mod one_word;
+mod split;
 mod without_weight;
 
 pub use all_words::known_all_words;
 pub use averaging::{averaged, known_averaging};
 pub use column_pairs::{below_too_many, known_column_pairs};
 pub use complemented::known_complemented;
+pub use disjoint::{count_of_disjoint, has_disjoint_words, known_disjoint};
+pub use far_words::{has_no_far_words, known_far_words};
 pub use given_code::known_given_code;
 pub use johnson::{johnson_bound, known_johnson};
+pub use lengthened::known_lengthened;
+pub use nearer::known_nearer;
 pub use neighbours::{
-    around, even_of_weight, of_weight, turned, unweighted, unweighted_and_nearer,
+    around, even_of_weight, of_weight, one_less, one_more, turned, two_farther, two_nearer,
+    unweighted, unweighted_and_nearer, zero_less, zero_more,
 };
 pub use one_word::known_one_word;
+pub use split::{known_split, parts_of_split, split_into};
 pub use without_weight::known_without_weight;
