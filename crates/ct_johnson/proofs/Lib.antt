@@ -6,3 +6,5 @@ pub mod Averages
 pub mod OutsideBalls
 pub mod JohnsonRule
 pub mod Quotients
+pub mod RoundedUp
+pub mod DigitPlaces

@@ -3,6 +3,9 @@ pub mod DisjointWords
 pub mod LawfulOneWord
 pub mod LawfulDisjoint
 pub mod LawfulLengthened
+pub mod LawfulOneWord
+pub mod LawfulWithOne
+pub mod LawfulWithZero
 pub mod LawfulComplemented
 pub mod LawfulNearer
 pub mod LawfulGivenCode

@@ -18,6 +18,9 @@ zero_more-zero_less e entry weighted =
     let limits = entry_limits e entry in
     entry_written (e.n - 1 + 1) e.d (weight_of e) e weighted (omega (arith, limits.length_from)) refl refl
 
+pub zero_less-zero_more : (e : Entry) → Weighted e → zero_less (zero_more e) ≡ e
+zero_less-zero_more e weighted = entry_written (e.n + 1 - 1) e.d (weight_of e) e weighted (omega arith) refl refl
+
 pub one_more-one_less : (e : Entry) → IsEntry e → Weighted e → 1 ≤ weight_of e → one_more (one_less e) ≡ e
 one_more-one_less e entry weighted some =
     let limits = entry_limits e entry in
@@ -30,3 +33,7 @@ two_farther-two_nearer e entry weighted =
 
 pub two_nearer-two_farther : (e : Entry) → Weighted e → two_nearer (two_farther e) ≡ e
 two_nearer-two_farther e weighted = entry_written e.n (e.d + 2 - 2) (weight_of e) e weighted refl (omega arith) refl
+
+pub one_less-one_more : (e : Entry) → Weighted e → one_less (one_more e) ≡ e
+one_less-one_more e weighted =
+    entry_written (e.n + 1 - 1) e.d (weight_of e + 1 - 1) e weighted (omega arith) refl (omega arith)

@@ -2,6 +2,8 @@ pub mod Neighbours
 pub mod OneWord
 pub mod Disjoint
 pub mod Lengthened
+pub mod WithOne
+pub mod WithZero
 pub mod Complemented
 pub mod Nearer
 pub mod GivenCode

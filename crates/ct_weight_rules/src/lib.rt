@@ -15,6 +15,8 @@ mod nearer;
 mod neighbours;
 mod one_word;
 mod split;
+mod with_one;
+mod with_zero;
 mod without_weight;
 
 pub use all_words::known_all_words;
@@ -33,4 +35,6 @@ pub use neighbours::{
 };
 pub use one_word::known_one_word;
 pub use split::{known_split, parts_of_split, split_into};
+pub use with_one::{bound_by_ones, count_with_one, known_with_one};
+pub use with_zero::{bound_by_zeros, count_with_zero, known_with_zero};
 pub use without_weight::known_without_weight;
