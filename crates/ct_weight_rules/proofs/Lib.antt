@@ -3,7 +3,6 @@ pub mod DisjointWords
 pub mod LawfulOneWord
 pub mod LawfulDisjoint
 pub mod LawfulLengthened
-pub mod LawfulOneWord
 pub mod LawfulWithOne
 pub mod LawfulWithZero
 pub mod LawfulComplemented
