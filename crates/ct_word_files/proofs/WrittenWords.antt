@@ -5,11 +5,10 @@ use Rattle.std.proofs.lemmas.Bool.{false≢true}
 use Rattle.std.proofs.lemmas.Simd.{map-map}
 use Rattle.toml.specs.Data.{string, array, table, members_depth}
 use Rattle.toml.specs.View.{items_of}
-use Rattle.ct_words.specs.declared.limits.TheConstants.{MAX_N}
 use Rattle.ct_words.specs.Text.{word_text}
 use Rattle.ct_codes.specs.declared.entry.Entry.{Entry}
 use Rattle.ct_codes.specs.Entry.{IsEntry}
-use Rattle.ct_codes.proofs.EntryLemmas.{WeightFits, entry_limits}
+use Rattle.ct_codes.proofs.EntryLemmas.{WeightFits, Limits, entry_limits}
 use Rattle.ct_fields.specs.Fields.{has_only}
 use Rattle.ct_fields.specs.Tables.{IsOfKind, HasTexts}
 use Rattle.ct_fields.specs.StatesEntry.{StatesEntry}
@@ -35,7 +34,7 @@ cosets_depth e basis representatives = rw (texts_depth e.n basis, texts_depth e.
 states_entry : (e : Entry) (words : List ℕ) → IsEntry e → StatesEntry (table (words_table e words)) e
 states_entry e words entry = at e.w limits.weight
   where
-    limits : (1 ≤ e.n) × (e.n ≤ MAX_N) × (3 ≤ e.d) × (e.d ≤ MAX_N) × WeightFits e e.w
+    limits : Limits e
     limits = entry_limits e entry
 
     written : Option ℕ → Entry
