@@ -1,8 +1,8 @@
 -- The numbers that name a part of the table in a command: D, or D W.
-use Rattle.std.specs.Prelude.{ℕ, ◌&&◌, is_none, if◌then◌else◌, List, [], ◌∷◌, Option, Some, None}
-use Rattle.ct_codes.specs.Entry.{is_entry, unrestricted}
+use Rattle.std.specs.Prelude.{ℕ, List, [], ◌∷◌, Option, Some, None}
+use Rattle.ct_codes.specs.declared.entry.Entry.{Entry}
 use Rattle.ct_text.specs.Number.{number_of}
-use Rattle.ct_text.specs.EntryNumbers.{weight_from}
+use Rattle.ct_text.specs.EntryNumbers.{weight_from, named_entry}
 use Rattle.ct_text.specs.declared.table_numbers.TableNumbers.{TableNumbers}
 
 -- the numbers of the words, where each of them is one
@@ -16,6 +16,6 @@ table_numbers_of (d ∷ []) = table_numbers_from (number_of d) (Some None)
 table_numbers_of (d ∷ w ∷ []) = table_numbers_from (number_of d) (weight_from (number_of w))
 table_numbers_of words = None
 
--- the distance that the numbers name, where the table has entries without weight of it and they name no weight
-abbrev pub named_distance : TableNumbers → Option ℕ
-named_distance m = if is_none m.w && is_entry (unrestricted 1 m.d) then Some m.d else None
+-- the entry of length n with the distance and, where it is named, the weight, if the table has it
+abbrev pub entry_of_length : TableNumbers → ℕ → Option Entry
+entry_of_length m n = named_entry (record { n = n; d = m.d; w = m.w })

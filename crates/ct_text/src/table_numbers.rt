@@ -1,9 +1,9 @@
 //! Parts of the table as commands name them.
 
 ghost use Rattle.std.specs.Prelude.{◌≡◌, map};
-ghost use Rattle.ct_codes.specs.Entry.{is_entry, unrestricted};
-ghost use Rattle.ct_text.specs.TableNumbers.{table_numbers_of, named_distance};
+ghost use Rattle.ct_text.specs.TableNumbers.{table_numbers_of, entry_of_length};
 
+use crate::entry_numbers::EntryNumbers;
 use crate::number::parse_number;
 use ct_codes::Entry;
 
@@ -33,21 +33,15 @@ pub fn parse_table_numbers(words: &[&[u8]]) -> Option<TableNumbers>
 }
 
 impl TableNumbers {
-    /// The distance, where the table has entries without weight of it and no weight is named.
-    pub fn distance(&self) -> Option<u32>
-        ensures { result ≡ named_distance self.now }
+    /// The entry of the table of length n with this distance and, where it is given, this weight, if there is one.
+    pub fn entry(&self, n: u32) -> Option<Entry>
+        ensures { result ≡ entry_of_length self.now n }
     {
-        if self.w.is_some() {
-            return None;
-        }
-        let d = u32::try_from(self.d).ok()?;
-        if is_distance(d) { Some(d) } else { None }
+        let numbers = EntryNumbers {
+            n: u64::from(n),
+            d: self.d,
+            w: self.w,
+        };
+        numbers.entry()
     }
-}
-
-/// Whether the table has entries without weight of the distance.
-fn is_distance(d: u32) -> bool
-    ensures { result ≡ is_entry (unrestricted 1 d) }
-{
-    Entry { n: 1, d, w: None }.in_table()
 }
