@@ -1,8 +1,10 @@
 -- The rows of the rules: each is lawful, has one side, and a rule that names a support needs one.
-use Rattle.std.proofs.Common.{◌≡◌, ℕ, List, [], ◌∷◌, ◌++◌, All, Contains, refl, sym, ap, ◌∙◌, arith, inl, inr}
-use Rattle.std.specs.Prelude.{Bool, true, false, ◌&&◌, not, Option, Some, None}
+use Rattle.std.proofs.Common.{◌≡◌, ℕ, List, [], ◌∷◌, ◌++◌, All, Contains, refl, sym, ap, subst, ◌∙◌, arith, inl, inr, ◌⊎◌}
+use Rattle.std.specs.Prelude.{Bool, true, false, ◌&&◌, ◌||◌, ◌==◌, ◌%◌, not, cond, nat_lt, is_some, if◌then◌else◌, Option, Some, None}
 use Rattle.std.specs.List.{list_all}
-use Rattle.ct_rule_parts.specs.Parts.{has_weight}
+use Rattle.ct_rule_parts.specs.Parts.{has_weight, half_up}
+use Rattle.ct_rule_parts.proofs.PlainEntries.{one_item}
+use Rattle.ct_plain_rules.specs.Neighbours.{half_as_long}
 use Rattle.std.proofs.lemmas.Bool.{and_parts, false≢true}
 use Rattle.std.proofs.lemmas.List.Elements.{All-nil, All-cons, All-contains, Contains-append_cases}
 use Rattle.std.proofs.lemmas.Option.{none-some, same_Some}
@@ -30,12 +32,23 @@ use Rattle.ct_plain_rules.proofs.LawfulFarWords.{far_words-lawful}
 use Rattle.ct_plain_rules.proofs.LawfulAverageDistance.{average_distance-lawful}
 use Rattle.ct_plain_rules.proofs.LawfulBalls.{balls-lawful}
 use Rattle.ct_weight_rules.proofs.LawfulOneWord.{one_word-lawful as one_word_of_weight-lawful}
+use Rattle.ct_weight_rules.proofs.LawfulDisjoint.{disjoint_below-lawful, disjoint_above-lawful}
+use Rattle.ct_weight_rules.proofs.LawfulLengthened.{lengthened_by_zero-lawful, lengthened_by_one-lawful}
+use Rattle.ct_weight_rules.proofs.LawfulWithOne.{with_one_below-lawful, with_one_above-lawful}
+use Rattle.ct_weight_rules.proofs.LawfulWithZero.{with_zero_below-lawful, with_zero_above-lawful}
 use Rattle.ct_weight_rules.proofs.LawfulComplemented.{complemented_below-lawful, complemented_above-lawful}
+use Rattle.ct_weight_rules.proofs.LawfulNearer.{nearer_below-lawful as nearer_below_of_weight-lawful, nearer_above-lawful as nearer_above_of_weight-lawful}
+use Rattle.ct_weight_rules.proofs.LawfulFarWords.{far_words-lawful as far_words_of_weight-lawful}
+use Rattle.ct_weight_rules.proofs.LawfulSplit.{split-lawful}
+use Rattle.ct_weight_rules.proofs.LawfulColumnPairs.{column_pairs-lawful}
+use Rattle.ct_weight_rules.proofs.LawfulWithoutWeight.{without_weight-lawful}
+use Rattle.ct_weight_rules.proofs.LawfulJohnson.{johnson-lawful}
+use Rattle.ct_weight_rules.proofs.LawfulAveraging.{averaging-lawful}
 use Rattle.ct_weight_rules.proofs.LawfulGivenCode.{given_code-lawful as given_code_of_weight-lawful}
 use Rattle.ct_weight_rules.proofs.LawfulAllWords.{all_words-lawful as all_words_of_weight-lawful}
 use Rattle.ct_rules.specs.declared.rule.Rule.{Rule}
-use Rattle.ct_rules.specs.declared.rule.Rule.TheVariants.{L1, L2, L3, L4, L5, L6, L7, L8, L10, L11, M1, M7, M10, U0, U1, U2, U3, U4, U5, U6, U7, U8, V0, V3}
-use Rattle.ct_rules.specs.Rule.{Row, by_itself, by_numbers, by_support, row_of, parts_in, parts_of, parts_over, place_of, with_place, is_alone_in, is_alone, cited, rule_side}
+use Rattle.ct_rules.specs.declared.rule.Rule.TheVariants.{L1, L2, L3, L4, L5, L6, L7, L8, L9, L10, L11, M1, M2, M3, M4, M5, M6, M7, M8, M10, U0, U1, U2, U3, U4, U5, U6, U7, U8, U9, U10, V0, V1, V2, V3, V4, V5, V6, V7, V8}
+use Rattle.ct_rules.specs.Rule.{Row, by_itself, by_numbers, by_weight, by_support, row_of, parts_in, parts_of, parts_over, place_of, with_place, is_alone_in, is_alone, is_by_weight, cited, rule_side}
 
 -- what each rule is made of is lawful
 pub lawful : (r : Rule) (c : Option Support) → IsLawful c (parts_of r c)
@@ -48,10 +61,17 @@ lawful L5 c = parity_below-lawful c
 lawful L6 c = punctured_below-lawful c
 lawful L7 c = halved_below-lawful c
 lawful L8 c = sums-lawful c
+lawful (L9 w) c = without_weight-lawful w c
 lawful (L10 place) c = given_code-lawful c
 lawful (L11 n d) c = side_by_side-lawful n d c
 lawful M1 c = one_word_of_weight-lawful c
+lawful M2 c = disjoint_below-lawful c
+lawful M3 c = lengthened_by_zero-lawful c
+lawful M4 c = lengthened_by_one-lawful c
+lawful M5 c = with_one_below-lawful c
+lawful M6 c = with_zero_below-lawful c
 lawful M7 c = complemented_below-lawful c
+lawful M8 c = nearer_below_of_weight-lawful c
 lawful (M10 place) c = given_code_of_weight-lawful c
 lawful U0 c = all_words-lawful c
 lawful U1 c = far_words-lawful c
@@ -62,8 +82,17 @@ lawful U5 c = punctured_above-lawful c
 lawful U6 c = halved_above-lawful c
 lawful U7 c = nearer_above-lawful c
 lawful U8 c = lengthened_above-lawful c
+lawful U9 c = johnson-lawful c
+lawful (U10 w) c = averaging-lawful w c
 lawful V0 c = all_words_of_weight-lawful c
+lawful V1 c = far_words_of_weight-lawful c
+lawful V2 c = disjoint_above-lawful c
 lawful V3 c = complemented_above-lawful c
+lawful V4 c = with_one_above-lawful c
+lawful V5 c = with_zero_above-lawful c
+lawful V6 c = split-lawful c
+lawful V7 c = nearer_above_of_weight-lawful c
+lawful V8 c = column_pairs-lawful c
 
 -- a rule has one side, whatever the support that it names
 pub side_is : (r : Rule) (c : Option Support) → (parts_of r c).side ≡ rule_side r
@@ -132,7 +161,13 @@ alone_listed L6 alone = (5, omega arith, refl)
 alone_listed L7 alone = (6, omega arith, refl)
 alone_listed L8 alone = (7, omega arith, refl)
 alone_listed M1 alone = (8, omega arith, refl)
-alone_listed M7 alone = (9, omega arith, refl)
+alone_listed M2 alone = (9, omega arith, refl)
+alone_listed M3 alone = (10, omega arith, refl)
+alone_listed M4 alone = (11, omega arith, refl)
+alone_listed M5 alone = (12, omega arith, refl)
+alone_listed M6 alone = (13, omega arith, refl)
+alone_listed M7 alone = (14, omega arith, refl)
+alone_listed M8 alone = (15, omega arith, refl)
 alone_listed U0 alone = (0, omega arith, refl)
 alone_listed U1 alone = (1, omega arith, refl)
 alone_listed U2 alone = (2, omega arith, refl)
@@ -143,7 +178,17 @@ alone_listed U6 alone = (6, omega arith, refl)
 alone_listed U7 alone = (7, omega arith, refl)
 alone_listed U8 alone = (8, omega arith, refl)
 alone_listed V0 alone = (9, omega arith, refl)
-alone_listed V3 alone = (10, omega arith, refl)
+alone_listed V1 alone = (10, omega arith, refl)
+alone_listed V2 alone = (11, omega arith, refl)
+alone_listed V3 alone = (12, omega arith, refl)
+alone_listed V4 alone = (13, omega arith, refl)
+alone_listed V5 alone = (14, omega arith, refl)
+alone_listed V6 alone = (15, omega arith, refl)
+alone_listed V7 alone = (16, omega arith, refl)
+alone_listed V8 alone = (17, omega arith, refl)
+alone_listed (L9 w) alone = absurd (false≢true alone)
+alone_listed U9 alone = absurd (false≢true alone)
+alone_listed (U10 w) alone = absurd (false≢true alone)
 alone_listed (L10 place) alone = absurd (false≢true alone)
 alone_listed (L11 n d) alone = absurd (false≢true alone)
 alone_listed (M10 place) alone = absurd (false≢true alone)
@@ -252,15 +297,91 @@ alone_at r n d w alone here = go (rule_side r) w (alone_listed r alone) here
 alone_parts : (row : Row) (c d : Option Support) → is_alone_in row ≡ true → parts_in row c ≡ parts_in row d
 alone_parts (by_itself parts) c d alone = refl
 alone_parts (by_numbers parts) c d alone = absurd (false≢true alone)
+alone_parts (by_weight parts) c d alone = absurd (false≢true alone)
 alone_parts (by_support named place parts) c d alone = absurd (false≢true alone)
 
 pub alone-parts : (r : Rule) (supports : List Support) → is_alone r ≡ true → parts_over supports r ≡ parts_of r None
 alone-parts r supports alone = alone_parts (row_of r) (cited supports r) None alone
 
--- a rule that names no support and is not alone lays words side by side
-pub with_numbers : (r : Rule) → place_of r ≡ None → is_alone r ≡ false → (m : ℕ) × (c : ℕ) × (r ≡ L11 m c)
+-- a rule that names no support and is not alone lays words side by side, or leads from entries with weight to those without
+pub not_alone : (r : Rule) → place_of r ≡ None → is_alone r ≡ false → ((m : ℕ) × (c : ℕ) × (r ≡ L11 m c)) ⊎ (is_by_weight r ≡ true)
 unfolding row_of
-with_numbers (L11 m c) names alone = (m, c, refl)
-with_numbers (L10 place) names alone = absurd (none-some place (sym names))
-with_numbers (M10 place) names alone = absurd (none-some place (sym names))
-with_numbers r names alone = absurd (false≢true (sym alone))
+not_alone (L11 m c) names alone = inl (m, c, refl)
+not_alone (L9 w) names alone = inr refl
+not_alone U9 names alone = inr refl
+not_alone (U10 w) names alone = inr refl
+not_alone (L10 place) names alone = absurd (none-some place (sym names))
+not_alone (M10 place) names alone = absurd (none-some place (sym names))
+not_alone r names alone = absurd (false≢true (sym alone))
+
+-- where a rule alone is defined, what it rests on has a weight just where the entry has one
+same_kind : Bool → Bool → Bool
+same_kind true true = true
+same_kind false false = true
+same_kind one other = false
+
+rests_on_kind : (r : Rule) (n d : ℕ) (w : Option ℕ) → is_alone r ≡ true
+    → (list_all (λ f. same_kind (has_weight f) (is_some w)) ((parts_of r None).rests_on (record { n = n; d = d; w = w }))
+    || not ((parts_of r None).condition (record { n = n; d = d; w = w }))) ≡ true
+unfolding row_of same_kind
+rests_on_kind L8 n d None alone = plain_parts (nat_lt d 5) n d
+  where
+    plain_parts : (b : Bool) (n d : ℕ)
+        → (list_all (λ f. same_kind (has_weight f) false) (cond b (half_as_long (unrestricted n d) d ∷ [])
+        (half_as_long (unrestricted n d) (half_up d) ∷ half_as_long (unrestricted n d) d ∷ [])) || not (true && n % 2 == 0)) ≡ true
+    plain_parts true n d = refl
+    plain_parts false n d = refl
+rests_on_kind L8 n d (Some w) alone = weighted_parts (nat_lt d 5) n d w
+  where
+    weighted_parts : (b : Bool) (n d w : ℕ)
+        → (list_all (λ f. same_kind (has_weight f) true) (cond b (half_as_long (constant_weight n d w) d ∷ [])
+        (half_as_long (constant_weight n d w) (half_up d) ∷ half_as_long (constant_weight n d w) d ∷ [])) || not (false && n % 2 == 0)) ≡ true
+    weighted_parts true n d w = refl
+    weighted_parts false n d w = refl
+rests_on_kind (L9 v) n d w alone = absurd (false≢true alone)
+rests_on_kind (L10 place) n d w alone = absurd (false≢true alone)
+rests_on_kind (L11 m c) n d w alone = absurd (false≢true alone)
+rests_on_kind (M10 place) n d w alone = absurd (false≢true alone)
+rests_on_kind U9 n d w alone = absurd (false≢true alone)
+rests_on_kind (U10 v) n d w alone = absurd (false≢true alone)
+rests_on_kind r n d None alone = refl
+rests_on_kind r n d (Some w) alone = refl
+
+same_kind-is : (one other : Bool) → same_kind one other ≡ true → one ≡ other
+unfolding same_kind
+same_kind-is true true h = refl
+same_kind-is false false h = refl
+same_kind-is true false h = absurd (false≢true h)
+same_kind-is false true h = absurd (false≢true h)
+
+-- what passes a test or fails another, and doesn't fail that one
+first_holds : (a b : Bool) → (a || not b) ≡ true → b ≡ true → a ≡ true
+first_holds true b h k = refl
+first_holds false true h k = absurd (false≢true h)
+first_holds false false h k = absurd (false≢true k)
+
+all_of_kind : (k : Bool) (es : List Entry) (f : Entry) → list_all (λ g. same_kind (has_weight g) k) es ≡ true → Contains es f
+    → has_weight f ≡ k
+all_of_kind k [] f h among = absurd (omega arith)
+all_of_kind k (e ∷ es) f h among = elim (Contains-append_cases (e ∷ []) es f among) [
+  | inl here ↦ same_kind-is (has_weight f) k (one_item (λ g. same_kind (has_weight g) k ≡ true) e f (and_parts _ _ h).0 here)
+  | inr later ↦ all_of_kind k es f (and_parts _ _ h).1 later
+]
+
+pub alone_kind : (r : Rule) (e f : Entry) → is_alone r ≡ true → (parts_of r None).condition e ≡ true
+    → Contains ((parts_of r None).rests_on e) f → has_weight f ≡ has_weight e
+alone_kind r e f alone here rests =
+    all_of_kind (has_weight e) ((parts_of r None).rests_on e) f
+    (first_holds _ ((parts_of r None).condition e) (rests_on_kind r e.n e.d e.w alone) here) rests
+
+-- the lists of a side go by whether an entry has a weight
+alone_like : (side : Side) (e f : Entry) → has_weight f ≡ has_weight e → rules_alone (side, e) ≡ rules_alone (side, f)
+alone_like Lower e f same = λ i. if sym same i then LOWER_WEIGHT_RULES else LOWER_RULES
+alone_like Upper e f same = λ i. if sym same i then UPPER_WEIGHT_RULES else UPPER_RULES
+
+-- so a rule alone that rests on an entry stands in the list of that
+pub alone_at_rested : (r : Rule) (e f : Entry) → is_alone r ≡ true → (parts_of r None).condition e ≡ true
+    → Contains ((parts_of r None).rests_on e) f → Contains (rules_alone (rule_side r, f)) r
+alone_at_rested r e f alone here rests =
+    subst (λ (rules : List Rule). Contains rules r) (alone_like (rule_side r) e f (alone_kind r e f alone here rests))
+    (alone_at r e.n e.d e.w alone here)

@@ -1,5 +1,5 @@
 -- The list of the rules that can be defined at an entry has each that is defined there.
-use Rattle.std.proofs.Common.{◌≡◌, ℕ, zero, suc, ◌+◌, ◌-◌, ◌<◌, ◌≤◌, true, false, ◌&&◌, List, [], ◌∷◌, ◌++◌, length, map, All, Contains, flat_map, Option, Some, None, slice_get, refl, sym, subst, arith}
+use Rattle.std.proofs.Common.{◌≡◌, ℕ, zero, suc, ◌+◌, ◌-◌, ◌<◌, ◌≤◌, true, false, ◌&&◌, List, [], ◌∷◌, ◌++◌, length, map, All, Contains, flat_map, Option, Some, None, slice_get, refl, sym, subst, arith, inl, inr}
 use Rattle.std.specs.Prelude.{Bool, is_some}
 use Rattle.std.specs.List.{range_with_len}
 use Rattle.std.proofs.lemmas.Bool.{and_parts, false≢true}
@@ -7,7 +7,7 @@ use Rattle.std.proofs.lemmas.List.Elements.{All-contains, Contains-append_left, 
 use Rattle.std.proofs.lemmas.List.FromFn.{length-range_with_len, get_or-range_with_len}
 use Rattle.std.proofs.lemmas.Option.{none-some, slice_get_within}
 use Rattle.ct_counting.proofs.Words.{Contains-map}
-use Rattle.ct_codes.specs.declared.claim.Side.TheVariants.{Lower}
+use Rattle.ct_codes.specs.declared.claim.Side.TheVariants.{Lower, Upper}
 use Rattle.ct_codes.specs.declared.entry.Entry.{Entry}
 use Rattle.ct_codes.specs.Entry.{IsEntry, is_entry, unrestricted, constant_weight}
 use Rattle.ct_codes.proofs.EntryLemmas.{entry_limits}
@@ -16,13 +16,14 @@ use Rattle.ct_rule_parts.specs.Parts.{RuleParts}
 use Rattle.ct_rule_parts.specs.Slot.{Slot}
 use Rattle.ct_rule_parts.proofs.EntryLists.{Contains-range_with_len, Contains-flat_map}
 use Rattle.ct_rule_parts.specs.Support.{size_at}
+use Rattle.ct_weight_rules.specs.Neighbours.{of_weight, even_of_weight}
 use Rattle.ct_rules.specs.declared.rule.Rule.{Rule}
-use Rattle.ct_rules.specs.declared.rule.Rule.TheVariants.{L10, L11, M10}
-use Rattle.ct_rules.specs.Rule.{row_of, rule_side, place_of, is_alone, parts_over, applies}
+use Rattle.ct_rules.specs.declared.rule.Rule.TheVariants.{L9, L10, L11, M10, U9, U10}
+use Rattle.ct_rules.specs.Rule.{row_of, rule_side, place_of, is_alone, is_by_weight, parts_over, applies}
 use Rattle.ct_rules.specs.Closed.{IsSatisfied, IsClosed}
-use Rattle.ct_rules.specs.Listing.{rules_alone, side_by_side_rules, rules_with_numbers, rules_of_supports, rules_at}
+use Rattle.ct_rules.specs.Listing.{rules_alone, side_by_side_rules, rules_with_numbers, rules_by_weight, rules_of_supports, rules_at}
 use Rattle.ct_rules.proofs.Applied.{IsDefined, defined, applies_from_premises}
-use Rattle.ct_rules.proofs.LawfulRows.{alone_at, alone-parts, with_numbers}
+use Rattle.ct_rules.proofs.LawfulRows.{alone_at, alone-parts, not_alone}
 
 -- words side by side, within the limits
 side_by_side-complete : (e : Entry) (n d : ℕ) → 1 ≤ n → n < e.n → 3 ≤ d → d + 3 ≤ e.d
@@ -47,11 +48,12 @@ listed_alone : (supports : List Support) (r : Rule) (e : Entry) → is_alone r �
     → Contains (rules_at (length supports) (rule_side r, e)) r
 unfolding rules_at
 listed_alone supports r e alone is =
-    Contains-append_left (rules_alone (rule_side r, e) ++ rules_with_numbers (rule_side r, e))
+    Contains-append_left (rules_alone (rule_side r, e) ++ rules_with_numbers (rule_side r, e) ++ rules_by_weight (rule_side r, e))
     (rules_of_supports (length supports) (rule_side r, e)) r
+    (Contains-append_left (rules_alone (rule_side r, e) ++ rules_with_numbers (rule_side r, e)) (rules_by_weight (rule_side r, e)) r
     (Contains-append_left (rules_alone (rule_side r, e)) (rules_with_numbers (rule_side r, e)) r
     (alone_at r e.n e.d e.w alone
-    (subst (λ (p : RuleParts). p.condition e ≡ true) (alone-parts r supports alone) is.condition)))
+    (subst (λ (p : RuleParts). p.condition e ≡ true) (alone-parts r supports alone) is.condition))))
 
 -- words side by side that are defined at an entry
 listed_sum : (supports : List Support) (m c n d : ℕ) (w : Option ℕ)
@@ -66,9 +68,36 @@ listed_sum supports m c n d None is =
     let second = entry_limits (unrestricted (n - m) (d - c)) back.0 in
     let e : Entry = unrestricted n d in
     Contains-append_right (rules_alone (Lower, e))
-    (rules_with_numbers (Lower, e) ++ rules_of_supports (length supports) (Lower, e)) (L11 m c)
-    (Contains-append_left (side_by_side_rules e) (rules_of_supports (length supports) (Lower, e)) (L11 m c)
-    (side_by_side-complete e m c first.length_from (omega (arith, second.length_from)) first.distance_from (omega (arith, second.distance_from))))
+    (side_by_side_rules e ++ rules_by_weight (Lower, e) ++ rules_of_supports (length supports) (Lower, e)) (L11 m c)
+    (Contains-append_left (side_by_side_rules e ++ rules_by_weight (Lower, e)) (rules_of_supports (length supports) (Lower, e)) (L11 m c)
+    (Contains-append_left (side_by_side_rules e) (rules_by_weight (Lower, e)) (L11 m c)
+    (side_by_side-complete e m c first.length_from (omega (arith, second.length_from)) first.distance_from (omega (arith, second.distance_from)))))
+
+-- a rule that leads from entries with weight to those without
+listed_by_weight : (supports : List Support) (r : Rule) (n d : ℕ) (w : Option ℕ) → is_by_weight r ≡ true
+    → IsDefined (parts_over supports r) (record { n = n; d = d; w = w })
+    → Contains (rules_at (length supports) (rule_side r, record { n = n; d = d; w = w })) r
+unfolding row_of rules_at
+listed_by_weight supports (L9 v) n d None by is =
+    let e : Entry = unrestricted n d in
+    let within = (entry_limits (even_of_weight e v) (and_parts (is_entry (even_of_weight e v)) true is.premises).0).weight.2 in
+    Contains-append_right (rules_alone (Lower, e))
+    (side_by_side_rules e ++ rules_by_weight (Lower, e) ++ rules_of_supports (length supports) (Lower, e)) (L9 v)
+    (Contains-append_left (side_by_side_rules e ++ rules_by_weight (Lower, e)) (rules_of_supports (length supports) (Lower, e)) (L9 v)
+    (Contains-append_right (side_by_side_rules e) (rules_by_weight (Lower, e)) (L9 v)
+    (Contains-map (λ u. L9 u) (range_with_len 0 (n + 1)) v (Contains-range_with_len 0 (n + 1) v (omega arith) (omega arith)))))
+listed_by_weight supports U9 n d None by is = (9, omega arith, refl)
+listed_by_weight supports (U10 v) n d None by is =
+    let e : Entry = unrestricted n d in
+    let within = (entry_limits (of_weight e v) (and_parts (is_entry (of_weight e v)) true is.premises).0).weight.2 in
+    Contains-append_right (rules_alone (Upper, e)) (rules_by_weight (Upper, e) ++ rules_of_supports (length supports) (Upper, e)) (U10 v)
+    (Contains-append_left (rules_by_weight (Upper, e)) (rules_of_supports (length supports) (Upper, e)) (U10 v)
+    (Contains-append_right (U9 ∷ []) (map (λ u. U10 u) (range_with_len 0 (n + 1))) (U10 v)
+    (Contains-map (λ u. U10 u) (range_with_len 0 (n + 1)) v (Contains-range_with_len 0 (n + 1) v (omega arith) (omega arith)))))
+listed_by_weight supports (L9 v) n d (Some w) by is = absurd (false≢true is.condition)
+listed_by_weight supports U9 n d (Some w) by is = absurd (false≢true is.condition)
+listed_by_weight supports (U10 v) n d (Some w) by is = absurd (false≢true is.condition)
+listed_by_weight supports r n d w by is = absurd (false≢true by)
 
 -- a rule that names a support and is defined at an entry
 listed_given : (supports : List Support) (r : Rule) (place n d : ℕ) (w : Option ℕ) → place_of r ≡ Some place
@@ -79,8 +108,8 @@ listed_given supports (L10 place) other n d None names is =
     let e : Entry = unrestricted n d in
     let there = support_there supports place e (and_parts true (is_some (size_at (slice_get supports place) e)) is.condition).1 in
     Contains-append_right (rules_alone (Lower, e))
-    (side_by_side_rules e ++ rules_of_supports (length supports) (Lower, e)) (L10 place)
-    (Contains-append_right (side_by_side_rules e) (rules_of_supports (length supports) (Lower, e)) (L10 place)
+    (side_by_side_rules e ++ rules_by_weight (Lower, e) ++ rules_of_supports (length supports) (Lower, e)) (L10 place)
+    (Contains-append_right (side_by_side_rules e ++ rules_by_weight (Lower, e)) (rules_of_supports (length supports) (Lower, e)) (L10 place)
     (Contains-map (λ p. L10 p) (range_with_len 0 (length supports)) place
     (Contains-range_with_len 0 (length supports) place (omega arith) (omega arith))))
 listed_given supports (M10 place) other n d (Some w) names is =
@@ -108,7 +137,10 @@ rules_at-complete supports r e h = by_place (place_of r) refl
 
     by_numbers : place_of r ≡ None → (b : Bool) → is_alone r ≡ b → Contains (rules_at (length supports) (rule_side r, e)) r
     by_numbers none true alone = listed_alone supports r e alone is
-    by_numbers none false alone = let numbers = with_numbers r none alone in sum numbers.0 numbers.1 numbers.2
+    by_numbers none false alone = elim (not_alone r none alone) [
+      | inl numbers ↦ sum numbers.0 numbers.1 numbers.2
+      | inr by ↦ listed_by_weight supports r e.n e.d e.w by is
+    ]
 
     by_place : (place : Option ℕ) → place_of r ≡ place → Contains (rules_at (length supports) (rule_side r, e)) r
     by_place None none = by_numbers none (is_alone r) refl

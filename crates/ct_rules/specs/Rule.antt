@@ -20,17 +20,29 @@ use Rattle.ct_plain_rules.specs.FarWords.{far_words}
 use Rattle.ct_plain_rules.specs.AverageDistance.{average_distance}
 use Rattle.ct_plain_rules.specs.Balls.{balls}
 use Rattle.ct_weight_rules.specs.OneWord.{one_word as one_word_of_weight}
+use Rattle.ct_weight_rules.specs.Disjoint.{disjoint_below, disjoint_above}
+use Rattle.ct_weight_rules.specs.Lengthened.{lengthened_by_zero, lengthened_by_one}
+use Rattle.ct_weight_rules.specs.WithOne.{with_one_below, with_one_above}
+use Rattle.ct_weight_rules.specs.WithZero.{with_zero_below, with_zero_above}
 use Rattle.ct_weight_rules.specs.Complemented.{complemented_below, complemented_above}
+use Rattle.ct_weight_rules.specs.Nearer.{nearer_below as nearer_below_of_weight, nearer_above as nearer_above_of_weight}
+use Rattle.ct_weight_rules.specs.FarWords.{far_words as far_words_of_weight}
+use Rattle.ct_weight_rules.specs.Split.{split}
+use Rattle.ct_weight_rules.specs.ColumnPairs.{column_pairs}
+use Rattle.ct_weight_rules.specs.WithoutWeight.{without_weight}
+use Rattle.ct_weight_rules.specs.Johnson.{johnson}
+use Rattle.ct_weight_rules.specs.Averaging.{averaging}
 use Rattle.ct_weight_rules.specs.GivenCode.{given_code as given_code_of_weight}
 use Rattle.ct_weight_rules.specs.AllWords.{all_words as all_words_of_weight}
 use Rattle.ct_rules.specs.declared.rule.Rule.{Rule}
-use Rattle.ct_rules.specs.declared.rule.Rule.TheVariants.{L1, L2, L3, L4, L5, L6, L7, L8, L10, L11, M1, M7, M10, U0, U1, U2, U3, U4, U5, U6, U7, U8, V0, V3}
+use Rattle.ct_rules.specs.declared.rule.Rule.TheVariants.{L1, L2, L3, L4, L5, L6, L7, L8, L9, L10, L11, M1, M2, M3, M4, M5, M6, M7, M8, M10, U0, U1, U2, U3, U4, U5, U6, U7, U8, U9, U10, V0, V1, V2, V3, V4, V5, V6, V7, V8}
 
--- the row of a rule: what it is made of, by itself or with the numbers that are its arguments; or, over the support at a place, the rules
--- that name one, its place, and what it is made of
+-- the row of a rule: what it is made of, by itself or with the numbers that are its arguments; for a bound without weight from one with
+-- weight; or, over the support at a place, the rules that name one, its place, and what it is made of
 pub data Row : Type 0 where
   by_itself : RuleParts → Row
   by_numbers : RuleParts → Row
+  by_weight : RuleParts → Row
   by_support : (ℕ → Rule) → ℕ → (Option Support → RuleParts) → Row
 
 -- the rows
@@ -43,10 +55,17 @@ row_of L5 = by_itself parity_below
 row_of L6 = by_itself punctured_below
 row_of L7 = by_itself halved_below
 row_of L8 = by_itself sums
+row_of (L9 w) = by_weight (without_weight w)
 row_of (L10 place) = by_support L10 place given_code
 row_of (L11 n d) = by_numbers (side_by_side n d)
 row_of M1 = by_itself one_word_of_weight
+row_of M2 = by_itself disjoint_below
+row_of M3 = by_itself lengthened_by_zero
+row_of M4 = by_itself lengthened_by_one
+row_of M5 = by_itself with_one_below
+row_of M6 = by_itself with_zero_below
 row_of M7 = by_itself complemented_below
+row_of M8 = by_itself nearer_below_of_weight
 row_of (M10 place) = by_support M10 place given_code_of_weight
 row_of U0 = by_itself all_words
 row_of U1 = by_itself far_words
@@ -57,13 +76,23 @@ row_of U5 = by_itself punctured_above
 row_of U6 = by_itself halved_above
 row_of U7 = by_itself nearer_above
 row_of U8 = by_itself lengthened_above
+row_of U9 = by_weight johnson
+row_of (U10 w) = by_weight (averaging w)
 row_of V0 = by_itself all_words_of_weight
+row_of V1 = by_itself far_words_of_weight
+row_of V2 = by_itself disjoint_above
 row_of V3 = by_itself complemented_above
+row_of V4 = by_itself with_one_above
+row_of V5 = by_itself with_zero_above
+row_of V6 = by_itself split
+row_of V7 = by_itself nearer_above_of_weight
+row_of V8 = by_itself column_pairs
 
 -- what the rule of a row is made of, over the support that it names
 abbrev pub parts_in : Row → Option Support → RuleParts
 parts_in (by_itself parts) c = parts
 parts_in (by_numbers parts) c = parts
+parts_in (by_weight parts) c = parts
 parts_in (by_support named place parts) c = parts c
 
 -- what a rule is made of, over the support that it names
@@ -74,6 +103,7 @@ parts_of r c = parts_in (row_of r) c
 abbrev pub place_in : Row → Option ℕ
 place_in (by_itself parts) = None
 place_in (by_numbers parts) = None
+place_in (by_weight parts) = None
 place_in (by_support named place parts) = Some place
 
 -- the place of the support that a rule names, where it names one
@@ -84,21 +114,34 @@ place_of r = place_in (row_of r)
 abbrev pub placed_in : Rule → Row → ℕ → Rule
 placed_in r (by_itself parts) place = r
 placed_in r (by_numbers parts) place = r
+placed_in r (by_weight parts) place = r
 placed_in r (by_support named other parts) place = named place
 
 -- a rule with another place of the support that it names, where it names one
 abbrev pub with_place : Rule → ℕ → Rule
 with_place r place = placed_in r (row_of r) place
 
--- whether the rule of a row has neither numbers nor a support
+-- whether the rule of a row has neither numbers nor a support, and rests on entries with weight just where it bounds such
 abbrev pub is_alone_in : Row → Bool
 is_alone_in (by_itself parts) = true
 is_alone_in (by_numbers parts) = false
+is_alone_in (by_weight parts) = false
 is_alone_in (by_support named place parts) = false
 
--- whether a rule has neither numbers nor a support
+-- whether a rule has neither numbers nor a support, and rests on entries with weight just where it bounds such
 abbrev pub is_alone : Rule → Bool
 is_alone r = is_alone_in (row_of r)
+
+-- whether the rule of a row leads from entries with weight to those without
+abbrev pub is_by_weight_in : Row → Bool
+is_by_weight_in (by_itself parts) = false
+is_by_weight_in (by_numbers parts) = false
+is_by_weight_in (by_weight parts) = true
+is_by_weight_in (by_support named place parts) = false
+
+-- whether a rule leads from entries with weight to those without
+abbrev pub is_by_weight : Rule → Bool
+is_by_weight r = is_by_weight_in (row_of r)
 
 -- the support at a place, where one is named that is there
 abbrev pub support_at : List Support → Option ℕ → Option Support

@@ -28,7 +28,26 @@ pub const UPPER_RULES: [Rule; 9] = [
 ];
 
 /// Those that bound A(n,d,w) from below.
-pub const LOWER_WEIGHT_RULES: [Rule; 2] = [Rule::M1, Rule::M7];
+pub const LOWER_WEIGHT_RULES: [Rule; 8] = [
+    Rule::M1,
+    Rule::M2,
+    Rule::M3,
+    Rule::M4,
+    Rule::M5,
+    Rule::M6,
+    Rule::M7,
+    Rule::M8,
+];
 
 /// Those that bound A(n,d,w) from above.
-pub const UPPER_WEIGHT_RULES: [Rule; 2] = [Rule::V0, Rule::V3];
+pub const UPPER_WEIGHT_RULES: [Rule; 9] = [
+    Rule::V0,
+    Rule::V1,
+    Rule::V2,
+    Rule::V3,
+    Rule::V4,
+    Rule::V5,
+    Rule::V6,
+    Rule::V7,
+    Rule::V8,
+];

@@ -13,7 +13,12 @@ use ct_plain_rules::{
     shorter, shorter_and_nearer, sums_of,
 };
 use ct_rule_parts::{Entries, Support, first, second, size_at};
-use ct_weight_rules::turned;
+use ct_weight_rules::{
+    around, averaged, below_too_many, bound_by_ones, bound_by_zeros, count_of_disjoint,
+    count_with_one, count_with_zero, even_of_weight, has_disjoint_words, has_no_far_words,
+    johnson_bound, of_weight, one_less, one_more, parts_of_split, split_into, turned, two_farther,
+    two_nearer, zero_less, zero_more,
+};
 use ct_words::binomial;
 
 /// The side of the bounds that the rule gives.
@@ -25,9 +30,19 @@ pub fn rule_side(rule: Rule) -> Side
         Rule::L1 | Rule::L2 | Rule::L3 | Rule::L4 | Rule::L5 | Rule::L6 | Rule::L7 | Rule::L8 => {
             Side::Lower
         }
-        Rule::L10(_) | Rule::L11(_, _) | Rule::M1 | Rule::M7 | Rule::M10(_) => Side::Lower,
-        Rule::U0 | Rule::U1 | Rule::U2 | Rule::U3 | Rule::U4 => Side::Upper,
-        Rule::U5 | Rule::U6 | Rule::U7 | Rule::U8 | Rule::V0 | Rule::V3 => Side::Upper,
+        Rule::L9(_) | Rule::L10(_) | Rule::L11(_, _) => Side::Lower,
+        Rule::M1 | Rule::M2 | Rule::M3 | Rule::M4 | Rule::M5 | Rule::M6 | Rule::M7 | Rule::M8 => {
+            Side::Lower
+        }
+        Rule::M10(_) => Side::Lower,
+        Rule::U0 | Rule::U1 | Rule::U2 | Rule::U3 | Rule::U4 | Rule::U5 | Rule::U6 | Rule::U7 => {
+            Side::Upper
+        }
+        Rule::U8 | Rule::U9 | Rule::U10(_) => Side::Upper,
+        Rule::V0 | Rule::V1 | Rule::V2 | Rule::V3 | Rule::V4 | Rule::V5 | Rule::V6 | Rule::V7 => {
+            Side::Upper
+        }
+        Rule::V8 => Side::Upper,
     }
 }
 
@@ -64,6 +79,7 @@ pub fn rests_on(supports: &[Support], rule: Rule, entry: Entry) -> Option<Entrie
 {
     let Entry { n, d, w } = entry;
     let plain = w.is_none();
+    let some_ones = !plain && 1 <= w.unwrap_or(0);
     match rule {
         Rule::L1 | Rule::U0 | Rule::U3 => plain.then_some(Entries::Zero),
         Rule::L2 => (plain && d <= n).then_some(Entries::Zero),
@@ -76,9 +92,16 @@ pub fn rests_on(supports: &[Support], rule: Rule, entry: Entry) -> Option<Entrie
         Rule::L10(place) => {
             (plain && size_at(supports, place as usize, entry).is_some()).then_some(Entries::Zero)
         }
+        Rule::L9(w) => plain.then_some(Entries::One(even_of_weight(entry, w))),
         Rule::L11(m, c) => plain.then_some(parts_side_by_side(m, c, entry)),
         Rule::M1 | Rule::V0 => (!plain).then_some(Entries::Zero),
+        Rule::M2 | Rule::V2 => has_disjoint_words(entry).then_some(Entries::Zero),
+        Rule::M3 | Rule::V5 => (!plain).then_some(Entries::One(zero_less(entry))),
+        Rule::M4 | Rule::V4 => some_ones.then_some(Entries::One(one_less(entry))),
+        Rule::M5 => (!plain).then_some(Entries::One(one_more(entry))),
+        Rule::M6 => (!plain).then_some(Entries::One(zero_more(entry))),
         Rule::M7 | Rule::V3 => (!plain).then_some(Entries::One(turned(entry))),
+        Rule::M8 => (!plain).then_some(Entries::One(two_farther(entry))),
         Rule::M10(place) => {
             (!plain && size_at(supports, place as usize, entry).is_some()).then_some(Entries::Zero)
         }
@@ -87,6 +110,12 @@ pub fn rests_on(supports: &[Support], rule: Rule, entry: Entry) -> Option<Entrie
         Rule::U4 => (plain && d % 2 == 1).then_some(Entries::One(longer_and_farther(entry))),
         Rule::U5 => plain.then_some(Entries::One(shorter_and_nearer(entry))),
         Rule::U7 => plain.then_some(Entries::One(nearer(entry))),
+        Rule::U9 => plain.then_some(Entries::One(around(entry))),
+        Rule::U10(w) => plain.then_some(Entries::One(of_weight(entry, w))),
+        Rule::V1 => has_no_far_words(entry).then_some(Entries::Zero),
+        Rule::V6 => some_ones.then_some(parts_of_split(entry)),
+        Rule::V7 => (!plain).then_some(Entries::One(two_nearer(entry))),
+        Rule::V8 => (!plain && below_too_many(entry).is_some()).then_some(Entries::Zero),
     }
 }
 
@@ -101,7 +130,7 @@ pub(crate) fn number(supports: &[Support], rule: Rule, entry: Entry, values: &[u
     match rule {
         Rule::L1 | Rule::M1 => Some(1),
         Rule::L2 => Some(2),
-        Rule::L3 | Rule::L4 | Rule::L5 | Rule::L6 | Rule::M7 => Some(first(values)),
+        Rule::L3 | Rule::L4 | Rule::L5 | Rule::L6 | Rule::L9(_) => Some(first(values)),
         Rule::L7 => Some(first(values).div_ceil(2)),
         Rule::L8 => Some(count_of_sums(entry, values)),
         Rule::L10(place) | Rule::M10(place) => {
@@ -114,12 +143,23 @@ pub(crate) fn number(supports: &[Support], rule: Rule, entry: Entry, values: &[u
         Rule::U3 => Some(u64::from(hamming(n, d))),
         Rule::U4 | Rule::U5 | Rule::U7 | Rule::U8 | Rule::V3 => Some(first(values)),
         Rule::U6 => Some(2 * first(values)),
+        Rule::U9 => johnson_bound(entry, values),
+        Rule::U10(w) => Some(averaged(w, entry, values)),
+        Rule::M2 | Rule::V2 => Some(count_of_disjoint(entry)),
+        Rule::M3 | Rule::M4 | Rule::M7 | Rule::M8 | Rule::V7 => Some(first(values)),
+        Rule::M5 => Some(count_with_one(entry, values)),
+        Rule::M6 => Some(count_with_zero(entry, values)),
         Rule::V0 => Some(binomial(n, w.unwrap_or(0))),
+        Rule::V1 => Some(1),
+        Rule::V4 => Some(bound_by_ones(entry, values)),
+        Rule::V5 => Some(bound_by_zeros(entry, values)),
+        Rule::V6 => Some(first(values) + second(values)),
+        Rule::V8 => below_too_many(entry),
     }
 }
 
 /// The entries among which are all that rest on this one, which has to be in the table, by the rule, which has to have
-/// neither numbers nor a support.
+/// neither numbers nor a support, nor to lead from entries with weight to those without.
 #[tactic(auto, unfolding(crate::specs::Rule::row_of))]
 pub fn rested_on_by(rule: Rule, entry: Entry) -> Entries
     requires entry { IsEntry entry }
@@ -133,8 +173,15 @@ pub fn rested_on_by(rule: Rule, entry: Entry) -> Entries
         Rule::L6 | Rule::U4 => Entries::One(shorter_and_nearer(entry)),
         Rule::L7 | Rule::U8 => Entries::One(shorter(entry)),
         Rule::L8 => sums_of(entry),
-        Rule::M7 | Rule::V3 => Entries::One(turned(entry)),
         Rule::U7 => Entries::One(farther(entry)),
+        Rule::M3 | Rule::V5 => Entries::One(zero_more(entry)),
+        Rule::M4 | Rule::V4 => Entries::One(one_more(entry)),
+        Rule::M5 => Entries::One(one_less(entry)),
+        Rule::M6 => Entries::One(zero_less(entry)),
+        Rule::M7 | Rule::V3 => Entries::One(turned(entry)),
+        Rule::M8 => Entries::One(two_nearer(entry)),
+        Rule::V6 => split_into(entry),
+        Rule::V7 => Entries::One(two_farther(entry)),
         _ => Entries::Zero,
     }
 }

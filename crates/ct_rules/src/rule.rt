@@ -20,14 +20,28 @@ pub enum Rule {
     L7,
     /// A(2m,d) ≥ A(m,⌈d/2⌉)·A(m,d), and 2^(m−1)·A(m,d) where d is 3 or 4: u followed by u + v.
     L8,
+    /// A(n,d) ≥ A(n,2⌈d/2⌉,w) for this weight w: a code of constant weight, read without it.
+    L9(u32),
     /// A(n,d) is at least the size of the code of the support at this place.
     L10(u32),
     /// A(n,d) ≥ min(A(m,c), A(n−m,d−c)) for this length m and distance c: words of two codes side by side.
     L11(u32, u32),
     /// A(n,d,w) ≥ 1: one word.
     M1,
+    /// A(n,d,w) ≥ ⌊n/w⌋ for w = d/2: words of w ones that have none in common.
+    M2,
+    /// A(n,d,w) ≥ A(n−1,d,w): words with a 0 added.
+    M3,
+    /// A(n,d,w) ≥ A(n−1,d,w−1): words with a 1 added.
+    M4,
+    /// A(n,d,w) ≥ ⌈(w+1)·A(n+1,d,w+1)/(n+1)⌉: the words with a one at the place that holds most.
+    M5,
+    /// A(n,d,w) ≥ ⌈(n+1−w)·A(n+1,d,w)/(n+1)⌉: the words with a zero at the place that holds most.
+    M6,
     /// A(n,d,w) ≥ A(n,d,n−w): each digit is turned.
     M7,
+    /// A(n,d,w) ≥ A(n,d+2,w): a code of a greater distance.
+    M8,
     /// A(n,d,w) is at least the size of the code of constant weight of the support at this place.
     M10(u32),
     /// A(n,d) ≤ 2^n: all words.
@@ -49,8 +63,28 @@ pub enum Rule {
     U7,
     /// A(n,d) ≤ A(n+1,d): words with a 0 added.
     U8,
+    /// A(n,d) ≤ ⌊2^n·F/(F·V(n,δ−1)+R)⌋ for d = 2δ−1, F = ⌊n/δ⌋ and R = C(n,δ) − C(d,δ−1)·A(n,d+1,d) above 0: words outside
+    /// the balls (Johnson).
+    U9,
+    /// A(n,d) ≤ ⌊2^(n−1)·A(n,d,w)/C(n,w)⌋ for even d and this weight w: the average over translates (Elias; Bassalygo).
+    U10(u32),
     /// A(n,d,w) ≤ C(n,w): all words of the weight.
     V0,
+    /// A(n,d,w) ≤ 1 where d > 2·min(w, n−w): two words differ at no more places than they have ones, or zeros.
+    V1,
+    /// A(n,d,w) ≤ ⌊n/w⌋ for d = 2w: words have no one in common.
+    V2,
     /// A(n,d,w) ≤ A(n,d,n−w): each digit is turned.
     V3,
+    /// A(n,d,w) ≤ ⌊n·A(n−1,d,w−1)/w⌋: the words with a one at a place, counted at all places (Johnson).
+    V4,
+    /// A(n,d,w) ≤ ⌊n·A(n−1,d,w)/(n−w)⌋: the words with a zero at a place, counted at all places (Johnson).
+    V5,
+    /// A(n,d,w) ≤ A(n−1,d,w) + A(n−1,d,w−1): the words with a 0 and those with a 1 at a place, without it.
+    V6,
+    /// A(n,d,w) ≤ A(n,d−2,w): a code of a smaller distance.
+    V7,
+    /// A(n,d,w) ≤ M−1 for the least M from 2 to 1,000 that is too many: with wM = nq + r and 0 ≤ r < n, nq(q−1) + 2qr is above
+    /// (w−d/2)·M(M−1), the pairs of words with a one at one place (Johnson).
+    V8,
 }
