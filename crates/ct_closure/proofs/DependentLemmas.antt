@@ -5,37 +5,46 @@ use Rattle.std.proofs.lemmas.Bool.{false≢true}
 use Rattle.ct_codes.specs.declared.entry.Entry.{Entry}
 use Rattle.ct_rule_parts.specs.declared.support.Support.{Support}
 use Rattle.ct_rule_parts.specs.Parts.{RuleParts}
+use Rattle.ct_rule_parts.proofs.Lawful.{defined_condition}
 use Rattle.ct_rule_parts.proofs.PlainEntries.{no_item}
 use Rattle.ct_rules.specs.declared.rule.Rule.{Rule}
 use Rattle.ct_rules.specs.declared.rule.Rule.TheVariants.{L11}
-use Rattle.ct_rules.specs.Rule.{is_alone, place_of, cited, parts_of, parts_over, rule_side, applies}
-use Rattle.ct_rules.specs.Listing.{alone_on}
-use Rattle.ct_rules.proofs.LawfulRows.{lawful, alone-parts, alone_listed, with_numbers, supported-rests}
+use Rattle.ct_rules.specs.Rule.{is_alone, is_by_weight, place_of, cited, parts_of, parts_over, rule_side, applies}
+use Rattle.ct_rules.specs.Listing.{rules_alone}
+use Rattle.ct_rules.proofs.LawfulRows.{lawful, alone-parts, alone_at_rested, not_alone, supported-rests}
 
--- an entry that rests on another by a rule does so by one alone, and is among those that it names, or lays words side by side
+-- an entry that rests on another by a rule does so by one alone, and is among those that it names, lays words side by side, or leads from
+-- entries with weight to those without
 pub record RestsAlone (r : Rule) (f e : Entry) : Type 0 where
   pub alone : is_alone r ≡ true
-  pub listed : Contains (alone_on (rule_side r)) r
+  pub listed : Contains (rules_alone (rule_side r, f)) r
   pub among : Contains ((parts_of r None).rested_on_by f) e
 
+-- the two others
+abbrev pub IsOtherRule : Rule → Type 0
+IsOtherRule r = ((m : ℕ) × (c : ℕ) × (r ≡ L11 m c)) ⊎ (is_by_weight r ≡ true)
+
 pub rests_on-cases : (supports : List Support) (r : Rule) (f e : Entry) → applies supports r e ≡ true
-    → Contains ((parts_over supports r).rests_on e) f
-    → RestsAlone r f e ⊎ ((m : ℕ) × (c : ℕ) × (r ≡ L11 m c))
+    → Contains ((parts_over supports r).rests_on e) f → RestsAlone r f e ⊎ IsOtherRule r
 rests_on-cases supports r f e defined rests = by_place (place_of r) refl
   where
-    by_itself_or_numbers : place_of r ≡ None → (b : Bool) → is_alone r ≡ b → RestsAlone r f e ⊎ ((m : ℕ) × (c : ℕ) × (r ≡ L11 m c))
+    by_itself_or_numbers : place_of r ≡ None → (b : Bool) → is_alone r ≡ b → RestsAlone r f e ⊎ IsOtherRule r
     by_itself_or_numbers none true alone =
+        let same = alone-parts r supports alone in
         inl (record {
           alone = alone;
-          listed = alone_listed r alone;
+          listed =
+              alone_at_rested r e f alone
+              (subst (λ (p : RuleParts). p.condition e ≡ true) same (defined_condition (parts_over supports r) e defined))
+              (subst (λ (p : RuleParts). Contains (p.rests_on e) f) same rests);
           among =
-              subst (λ (p : RuleParts). Contains (p.rested_on_by f) e) (alone-parts r supports alone)
+              subst (λ (p : RuleParts). Contains (p.rested_on_by f) e) same
               ((lawful r (cited supports r)).dependents e f defined rests);
         })
-    by_itself_or_numbers none false alone = inr (with_numbers r none alone)
+    by_itself_or_numbers none false alone = inr (not_alone r none alone)
 
-    by_place : (place : Option ℕ) → place_of r ≡ place → RestsAlone r f e ⊎ ((m : ℕ) × (c : ℕ) × (r ≡ L11 m c))
+    by_place : (place : Option ℕ) → place_of r ≡ place → RestsAlone r f e ⊎ IsOtherRule r
     by_place None none = by_itself_or_numbers none (is_alone r) refl
     by_place (Some place) named =
-        no_item (RestsAlone r f e ⊎ ((m : ℕ) × (c : ℕ) × (r ≡ L11 m c))) f
+        no_item (RestsAlone r f e ⊎ IsOtherRule r) f
         (subst (λ es. Contains es f) (supported-rests r place (cited supports r) e named) rests)

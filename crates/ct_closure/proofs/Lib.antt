@@ -1,5 +1,6 @@
 pub mod SatisfiedLemmas
 pub mod PullingLemmas
+pub mod ByWeightLemmas
 pub mod DependentLemmas
 pub mod SideBySideLemmas
 pub mod GetLemmas

@@ -9,14 +9,16 @@ use Rattle.ct_codes.specs.declared.claim.Side.TheVariants.{Upper}
 use Rattle.ct_codes.specs.declared.entry.Entry.{Entry}
 use Rattle.ct_codes.specs.Entry.{unrestricted}
 use Rattle.ct_rule_parts.specs.declared.support.Support.{Support}
+use Rattle.ct_rule_parts.specs.Slot.{Slot}
 use Rattle.ct_rule_parts.proofs.PlainEntries.{two_items}
 use Rattle.ct_rules.specs.declared.rule.Rule.{Rule}
 use Rattle.ct_rules.specs.declared.rule.Rule.TheVariants.{L11}
-use Rattle.ct_rules.specs.Listing.{alone_on}
+use Rattle.ct_rules.specs.Listing.{rules_alone}
 use Rattle.ct_rules.specs.Rule.{row_of, rule_side, is_alone, parts_of, parts_over}
 use Rattle.ct_rules.proofs.LawfulRows.{IsAloneOn}
 use Rattle.ct_closure.specs.Worklist.{WorkValue}
-use Rattle.ct_closure.specs.Inside.Marking.{KeepsMarks, IsTestedAt, IsTestedFrom}
+use Rattle.ct_closure.specs.Inside.Marking.{KeepsMarks, IsTestedAt, IsTestedFrom, AreTestedByWeight}
+use Rattle.ct_closure.proofs.PulledLemmas.{sides_of}
 
 pub keeps-trans : (first middle last : WorkValue) → KeepsMarks first middle → KeepsMarks middle last → KeepsMarks first last
 keeps-trans first middle last one other t entry marked = other t entry (one t entry marked)
@@ -59,13 +61,20 @@ tested_from supports bounds work r from n es are enough each e among =
 pub are_alone : (side : Side) (rules : List Rule) → All (IsAloneOn side) rules → All (λ (r : Rule). is_alone r ≡ true) rules
 are_alone side rules each = All-weaker (IsAloneOn side) (λ (r : Rule). is_alone r ≡ true) (λ r h. h.0) rules each
 
--- both lists of a side
-pub both_tested : (supports : List Support) (bounds : List ℕ) (work new : WorkValue) (from : Entry) (side own : Side) (first second : List Rule)
-    → alone_on own ≡ first ++ second → side ≡ own → KeepsMarks work new → All (IsTestedFrom supports bounds work from) first
-    → All (IsTestedFrom supports bounds new from) second → All (IsTestedFrom supports bounds new from) (alone_on side)
-both_tested supports bounds work new from side own first second lists same keeps one other =
-    subst (All (IsTestedFrom supports bounds new from)) (sym lists ∙ ap alone_on (sym same))
-    (All-append (IsTestedFrom supports bounds new from) first second (all_tested_more supports bounds work new from first keeps one) other)
+pub all_alone : (side : Side) (e : Entry) → All (λ (r : Rule). is_alone r ≡ true) (rules_alone (side, e))
+all_alone side e = are_alone side (rules_alone (side, e)) (sides_of side e.n e.d e.w)
+
+-- what was tested by these rules still is when more is marked
+pub rules_tested : (supports : List Support) (bounds : List ℕ) (work new : WorkValue) (from : Entry) (rules list : List Rule) → rules ≡ list
+    → KeepsMarks work new → All (IsTestedFrom supports bounds work from) rules → All (IsTestedFrom supports bounds new from) list
+rules_tested supports bounds work new from rules list are keeps each =
+    subst (All (IsTestedFrom supports bounds new from)) are (all_tested_more supports bounds work new from rules keeps each)
+
+-- and by those that lead from entries with weight to those without
+pub by_weight_more : (supports : List Support) (bounds : List ℕ) (work new : WorkValue) (s : Slot) → KeepsMarks work new
+    → AreTestedByWeight supports bounds work s → AreTestedByWeight supports bounds new s
+by_weight_more supports bounds work new s keeps each r e by side defined rests =
+    tested_at_more supports bounds work new r e keeps (each r e by side defined rests)
 
 -- words side by side rest on entries without weight, from below
 pub sum_rests : (supports : List Support) (m c : ℕ) (f e : Entry) → Contains ((parts_over supports (L11 m c)).rests_on f) e → e.w ≡ None

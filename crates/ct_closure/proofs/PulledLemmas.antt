@@ -1,5 +1,5 @@
 -- The best bound of a slot while rules are asked.
-use Rattle.std.proofs.Common.{◌≡◌, ℕ, suc, ◌<◌, ◌≤◌, List, [], ◌∷◌, drop, ◌++◌, ◌-◌, length, map, flat_map, All, Contains, Option, Some, None, true, refl, sym, ap, subst, ◌∙◌, arith, inl, inr, ◌⊎◌}
+use Rattle.std.proofs.Common.{◌≡◌, ℕ, ◌+◌, suc, ◌<◌, ◌≤◌, List, [], ◌∷◌, drop, ◌++◌, ◌-◌, length, map, flat_map, All, Contains, Option, Some, None, true, refl, sym, ap, subst, ◌∙◌, arith, inl, inr, ◌⊎◌}
 use Rattle.std.specs.Prelude.{slice_get, IfSome, false, is_some}
 use Rattle.std.proofs.lemmas.Bool.{and_parts, cases_eq}
 use Rattle.std.proofs.lemmas.List.Elements.{All-nil, All-cons, All-head, All-tail, All-append, All-contains, All-drop, All-weaker}
@@ -14,10 +14,10 @@ use Rattle.ct_rule_parts.specs.Slot.{Slot, IsNoBetter}
 use Rattle.ct_rule_parts.specs.Support.{size_at}
 use Rattle.ct_rule_parts.proofs.SlotLemmas.{IsNoBetter-self}
 use Rattle.ct_rules.specs.declared.rule.Rule.{Rule}
-use Rattle.ct_rules.specs.declared.rule.Rule.TheVariants.{L10, L11, M10}
-use Rattle.ct_rules.specs.Listing.{rules_alone, side_by_side_rules, rules_of_supports, rules_at}
+use Rattle.ct_rules.specs.declared.rule.Rule.TheVariants.{L9, L10, L11, M10, U9, U10}
+use Rattle.ct_rules.specs.Listing.{rules_alone, side_by_side_rules, rules_by_weight, rules_of_supports, rules_at}
 use Rattle.ct_rules.specs.Closed.{AreTrue}
-use Rattle.ct_rules.specs.Rule.{row_of, parts_over, rule_side, applies}
+use Rattle.ct_rules.specs.Rule.{row_of, parts_over, rule_side, is_by_weight, applies}
 use Rattle.ct_rules.proofs.Applied.{defined}
 use Rattle.ct_rules.proofs.ClosedBounds.{no_better-trans}
 use Rattle.ct_rules.proofs.LawfulRows.{IsAloneOn, lower_alone, lower_weight_alone, upper_alone, upper_weight_alone}
@@ -125,38 +125,49 @@ all_listed : (supports : List Support) (f : Slot → ℕ) (side : Side) (n d : �
     → All (IsWithin supports f (side, record { n = n; d = d; w = w }) best) (rules_alone (side, record { n = n; d = d; w = w }))
     → (side ≡ Lower → w ≡ None → (m c : ℕ) → IsWithin supports f (Lower, record { n = n; d = d; w = w }) best (L11 m c))
     → (side ≡ Lower → (place : ℕ) → IsWithin supports f (Lower, record { n = n; d = d; w = w }) best (given_rule (record { n = n; d = d; w = w }) place))
+    → ((r : Rule) → is_by_weight r ≡ true → rule_side r ≡ side → IsWithin supports f (side, record { n = n; d = d; w = w }) best r)
     → All (IsWithin supports f (side, record { n = n; d = d; w = w }) best) (rules_at (length supports) (side, record { n = n; d = d; w = w }))
-unfolding rules_at
-all_listed supports f Lower n d None best alone sums given =
+unfolding rules_at row_of
+all_listed supports f Lower n d None best alone sums given by_weight =
     let e : Entry = record { n = n; d = d; w = None } in
     let P : Rule → Type 0 = IsWithin supports f (Lower, e) best in
-    All-append P (rules_alone (Lower, e)) (side_by_side_rules e ++ rules_of_supports (length supports) (Lower, e)) alone
-    (All-append P (side_by_side_rules e) (rules_of_supports (length supports) (Lower, e))
+    All-append P (rules_alone (Lower, e)) (side_by_side_rules e ++ rules_by_weight (Lower, e) ++ rules_of_supports (length supports) (Lower, e)) alone
+    (All-append P (side_by_side_rules e ++ rules_by_weight (Lower, e)) (rules_of_supports (length supports) (Lower, e))
+    (All-append P (side_by_side_rules e) (rules_by_weight (Lower, e))
     (all_flat_map P (λ m. map (λ c. L11 m c) (range_with_len 3 (d - 5))) (range_with_len 1 (n - 1))
     (λ m. all_map P (λ c. L11 m c) (range_with_len 3 (d - 5)) (λ c. sums refl refl m c)))
+    (all_map P (λ w. L9 w) (range_with_len 0 (n + 1)) (λ w. by_weight (L9 w) refl refl)))
     (all_map P (λ place. L10 place) (range_with_len 0 (length supports)) (given refl)))
-all_listed supports f Lower n d (Some w) best alone sums given =
+all_listed supports f Lower n d (Some w) best alone sums given by_weight =
     let e : Entry = record { n = n; d = d; w = Some w } in
     let P : Rule → Type 0 = IsWithin supports f (Lower, e) best in
     All-append P (rules_alone (Lower, e)) (rules_of_supports (length supports) (Lower, e)) alone
     (all_map P (λ place. M10 place) (range_with_len 0 (length supports)) (given refl))
-all_listed supports f Upper n d None best alone sums given = alone
-all_listed supports f Upper n d (Some w) best alone sums given = alone
+all_listed supports f Upper n d None best alone sums given by_weight =
+    let e : Entry = record { n = n; d = d; w = None } in
+    let P : Rule → Type 0 = IsWithin supports f (Upper, e) best in
+    All-append P (rules_alone (Upper, e) ++ rules_by_weight (Upper, e)) []
+    (All-append P (rules_alone (Upper, e)) (rules_by_weight (Upper, e)) alone
+    (All-cons P U9 (map (λ w. U10 w) (range_with_len 0 (n + 1))) (by_weight U9 refl refl)
+    (all_map P (λ w. U10 w) (range_with_len 0 (n + 1)) (λ w. by_weight (U10 w) refl refl))))
+    (All-nil P)
+all_listed supports f Upper n d (Some w) best alone sums given by_weight = alone
 
 pub all_asked : (supports : List Support) (f : Slot → ℕ) (side : Side) (e : Entry) (best : ℕ)
     → All (IsWithin supports f (side, e) best) (rules_alone (side, e))
     → (side ≡ Lower → e.w ≡ None → (m c : ℕ) → IsWithin supports f (Lower, e) best (L11 m c))
     → (side ≡ Lower → (place : ℕ) → IsWithin supports f (Lower, e) best (given_rule e place))
+    → ((r : Rule) → is_by_weight r ≡ true → rule_side r ≡ side → IsWithin supports f (side, e) best r)
     → (r : Rule) → rule_side r ≡ side → IsWithin supports f (side, e) best r
-all_asked supports f side e best alone sums given r same v value =
+all_asked supports f side e best alone sums given by_weight r same v value =
     All-contains (IsWithin supports f (side, e) best) (rules_at (length supports) (side, e)) r
-    (all_listed supports f side e.n e.d e.w best alone sums given)
+    (all_listed supports f side e.n e.d e.w best alone sums given by_weight)
     (subst (λ (s : Side). Contains (rules_at (length supports) (s, e)) r) same
     (rules_at-complete supports r e (over-applies supports f r e v value)))
     v value
 
 -- the rules of each list have its side
-sides_of : (side : Side) (n d : ℕ) (w : Option ℕ) → All (IsAloneOn side) (rules_alone (side, record { n = n; d = d; w = w }))
+pub sides_of : (side : Side) (n d : ℕ) (w : Option ℕ) → All (IsAloneOn side) (rules_alone (side, record { n = n; d = d; w = w }))
 sides_of Lower n d None = lower_alone
 sides_of Lower n d (Some w) = lower_weight_alone
 sides_of Upper n d None = upper_alone
@@ -188,22 +199,26 @@ first_next entries e (Some p) h other is = subst (IsPlaceOf entries e) (same_Som
 -- what was asked for at an upper side, and at a lower one
 pub asked_upper : (supports : List Support) (f : Slot → ℕ) (side : Side) (e : Entry) (best : ℕ) → side ≡ Upper
     → All (IsWithin supports f (side, e) best) (rules_alone (side, e))
+    → ((r : Rule) → is_by_weight r ≡ true → rule_side r ≡ side → IsWithin supports f (side, e) best r)
     → (r : Rule) → rule_side r ≡ side → IsWithin supports f (side, e) best r
-asked_upper supports f side e best up alone =
+asked_upper supports f side e best up alone by_weight =
     all_asked supports f side e best alone
     (λ low. let clash : Upper ≡ Lower = sym up ∙ low in absurd cc)
     (λ low. let clash : Upper ≡ Lower = sym up ∙ low in absurd cc)
+    by_weight
 
 pub asked_lower : (supports : List Support) (f : Slot → ℕ) (side : Side) (e : Entry) (middle best : ℕ) → side ≡ Lower
-    → All (IsWithin supports f (side, e) middle) (rules_alone (side, e)) → middle ≤ best
+    → All (IsWithin supports f (side, e) middle) (rules_alone (side, e))
+    → ((r : Rule) → is_by_weight r ≡ true → rule_side r ≡ side → IsWithin supports f (side, e) middle r) → middle ≤ best
     → (e.w ≡ None → (m c : ℕ) → IsWithin supports f (Lower, e) best (L11 m c))
     → ((place : ℕ) → IsWithin supports f (Lower, e) best (given_rule e place))
     → (r : Rule) → rule_side r ≡ side → IsWithin supports f (side, e) best r
-asked_lower supports f side e middle best low alone worse sums given =
+asked_lower supports f side e middle best low alone by_weight worse sums given =
+    let no_worse : IsNoBetter side middle best = subst (λ (s : Side). IsNoBetter s middle best) (sym low) worse in
     all_asked supports f side e best
-    (all_within_better supports f (side, e) middle best (rules_alone (side, e))
-    (subst (λ (s : Side). IsNoBetter s middle best) (sym low) worse) alone)
+    (all_within_better supports f (side, e) middle best (rules_alone (side, e)) no_worse alone)
     (λ here none. sums none) (λ here. given)
+    (λ r by same. within_better supports f (side, e) middle best r no_worse (by_weight r by same))
 
 -- from the first bound to the last
 pub given_lower : (supports : List Support) (f : Slot → ℕ) (side : Side) (e : Entry) (middle best : Best) → side ≡ Lower

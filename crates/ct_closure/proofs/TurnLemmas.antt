@@ -14,7 +14,7 @@ use Rattle.ct_rules.specs.declared.rule.Rule.{Rule}
 use Rattle.ct_rules.specs.declared.rule.Rule.TheVariants.{L11}
 use Rattle.ct_rules.specs.Closed.{AreTrue, IsSatisfied, IsClosed}
 use Rattle.ct_rules.specs.Derivation.{IsDerived}
-use Rattle.ct_rules.specs.Listing.{alone_on}
+use Rattle.ct_rules.specs.Listing.{rules_alone}
 use Rattle.ct_rules.specs.Rule.{rule_side, applies, parts_over}
 use Rattle.ct_rules.proofs.ClosedBounds.{AreTrue-from_derived}
 use Rattle.ct_rules.proofs.Derivations.{derived_from_line}
@@ -23,9 +23,9 @@ use Rattle.ct_closure.specs.Closing.{IsSatisfiedAt, IsPending, HasMoreLines}
 use Rattle.ct_closure.specs.Kept.{KeptValue, IsKept, Grew, reason_of, with_line}
 use Rattle.ct_closure.specs.Number.{slot_number, bound_of, side_size}
 use Rattle.ct_closure.specs.Worklist.{WorkValue, IsMarked, IsIdle, waiting}
-use Rattle.ct_closure.specs.Inside.Marking.{IsPendingBut, KeepsMarks, IsTestedAt, IsTestedFrom, AreTested}
+use Rattle.ct_closure.specs.Inside.Marking.{IsPendingBut, KeepsMarks, IsTestedAt, IsTestedFrom, AreTestedByWeight, AreTested}
 use Rattle.ct_closure.specs.Inside.Pulling.{value_over, line_by, IsGiven, IsWithin, slack, potential}
-use Rattle.ct_closure.proofs.DependentLemmas.{RestsAlone, rests_on-cases}
+use Rattle.ct_closure.proofs.DependentLemmas.{RestsAlone, IsOtherRule, rests_on-cases}
 use Rattle.ct_closure.proofs.KeptLemmas.{reason_line, IsKept-with_line, Grew-with_line, Follows-line_by}
 use Rattle.ct_closure.proofs.NumberLemmas.{slot_number-injective}
 use Rattle.ct_closure.proofs.PullingLemmas.{over-limit}
@@ -71,17 +71,19 @@ pending_satisfied supports bounds work s v stands within pending t entry unmarke
 
 -- all that rests on a slot was tested, where this holds by rule
 pub tested_by_rules : (supports : List Support) (bounds : List ℕ) (work : WorkValue) (side : Side) (e : Entry)
-    → All (IsTestedFrom supports bounds work e) (alone_on side)
+    → All (IsTestedFrom supports bounds work e) (rules_alone (side, e))
+    → AreTestedByWeight supports bounds work (side, e)
     → ((m c : ℕ) (f : Entry) → rule_side (L11 m c) ≡ side → applies supports (L11 m c) f ≡ true
     → Contains ((parts_over supports (L11 m c)).rests_on f) e → IsTestedAt supports bounds work (L11 m c) f)
     → AreTested supports bounds work (side, e)
-tested_by_rules supports bounds work side e alone sums r f same defined rests = go (rests_on-cases supports r e f defined rests)
+tested_by_rules supports bounds work side e alone by_weight sums r f same defined rests = go (rests_on-cases supports r e f defined rests)
   where
-    go : RestsAlone r e f ⊎ ((m : ℕ) × (c : ℕ) × (r ≡ L11 m c)) → IsTestedAt supports bounds work r f
+    go : RestsAlone r e f ⊎ IsOtherRule r → IsTestedAt supports bounds work r f
     go (inl is) =
-        All-contains (IsTestedFrom supports bounds work e) (alone_on side) r alone
-        (subst (λ (s : Side). Contains (alone_on s) r) same is.listed) f is.among
-    go (inr (m, c, is)) =
+        All-contains (IsTestedFrom supports bounds work e) (rules_alone (side, e)) r alone
+        (subst (λ (s : Side). Contains (rules_alone (s, e)) r) same is.listed) f is.among
+    go (inr (inr by)) = by_weight r f by same defined rests
+    go (inr (inl (m, c, is))) =
         subst (λ (q : Rule). IsTestedAt supports bounds work q f) (sym is)
         (sums m c f (subst (λ (q : Rule). rule_side q ≡ side) is same)
         (subst (λ (q : Rule). applies supports q f ≡ true) is defined)

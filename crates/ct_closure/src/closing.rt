@@ -10,14 +10,13 @@ ghost use Rattle.ct_rule_parts.specs.Slot.{IsBetter};
 ghost use Rattle.ct_rule_parts.specs.Support.{AllStand};
 ghost use Rattle.ct_rules.specs.declared.rule.Rule.{Rule};
 ghost use Rattle.ct_rules.specs.Closed.{AreTrue, IsClosed};
-ghost use Rattle.ct_rules.specs.Listing.{alone_on};
 ghost use Rattle.ct_rules.specs.Rule.{rule_side, is_alone, applies, parts_over};
 ghost use Rattle.ct_closure.specs.Closing.{IsPending, CanClose, IsClosing, HasMoreLines};
 ghost use Rattle.ct_closure.specs.Kept.{IsKept, Grew, with_line, reason_of};
 ghost use Rattle.ct_closure.specs.Number.{bound_of};
 ghost use Rattle.ct_closure.specs.Places.{ArePlaces};
 ghost use Rattle.ct_closure.specs.Worklist.{IsIdle};
-ghost use Rattle.ct_closure.specs.Inside.Marking.{IsPendingBut, KeepsMarks, IsTestedAt, IsTestedFrom, AreTested};
+ghost use Rattle.ct_closure.specs.Inside.Marking.{IsPendingBut, KeepsMarks, IsTestedAt, IsTestedFrom, AreTestedByWeight, AreTested};
 ghost use Rattle.ct_closure.specs.Inside.Pulling.{line_by, potential};
 
 use crate::best::is_better;
@@ -27,10 +26,8 @@ use crate::pulling::{offer, pull};
 use crate::side_by_side::mark_side_by_side;
 use crate::worklist::Worklist;
 use ct_codes::{Claim, Entry, Side};
-use ct_rules::{
-    Entries, LOWER_RULES, LOWER_WEIGHT_RULES, Line, Rule, Support, UPPER_RULES, UPPER_WEIGHT_RULES,
-    defined_on, rested_on_by, rule_side,
-};
+use ct_rules::{Entries, Line, Rule, Support, defined_on, rested_on_by, rule_side, rules_alone};
+use ct_weight_rules::{unweighted, unweighted_and_nearer};
 use smallvec::SmallVec;
 use std::alloc::{AllocError, Global};
 use std::marker::Model;
@@ -178,8 +175,9 @@ fn mark_by_rules(
     Ok(())
 }
 
-/// Marks the entries that may rest on this one by a rule with neither numbers nor a support, where it gives something better.
-fn mark_alone(
+/// Marks the entries without weight that rest on this one by a rule that leads from entries with weight to those, where it gives
+/// something better there.
+fn mark_by_weight(
     supports: &[Support],
     kept: &Kept,
     work: &mut Worklist,
@@ -188,32 +186,22 @@ fn mark_alone(
     evaluations: &mut u64,
 ) -> Result<(), AllocError>
     requires { IsEntry entry }
-    ensures tested { OnOk result (All (IsTestedFrom supports.now kept.now.bounds work.new entry) (alone_on side)) }
+    ensures tested { OnOk result (AreTestedByWeight supports.now kept.now.bounds work.new (side, entry)) }
     ensures kept { KeepsMarks work.old work.new }
 {
+    let Some(w) = entry.w else {
+        return Ok(());
+    };
+    let (same, nearer) = (unweighted(entry), unweighted_and_nearer(entry));
     match side {
         Side::Lower => {
-            mark_by_rules(supports, kept, work, &LOWER_RULES, entry, evaluations)?;
-            mark_by_rules(
-                supports,
-                kept,
-                work,
-                &LOWER_WEIGHT_RULES,
-                entry,
-                evaluations,
-            )?;
+            test(supports, kept, work, Rule::L9(w), same, evaluations)?;
+            test(supports, kept, work, Rule::L9(w), nearer, evaluations)?;
             Ok(())
         }
         Side::Upper => {
-            mark_by_rules(supports, kept, work, &UPPER_RULES, entry, evaluations)?;
-            mark_by_rules(
-                supports,
-                kept,
-                work,
-                &UPPER_WEIGHT_RULES,
-                entry,
-                evaluations,
-            )?;
+            test(supports, kept, work, Rule::U10(w), same, evaluations)?;
+            test(supports, kept, work, Rule::U9, nearer, evaluations)?;
             Ok(())
         }
     }
@@ -234,7 +222,9 @@ fn mark_dependents(
     ensures tested { OnOk result (AreTested supports.now kept.now.bounds work.new (side, entry)) }
     ensures kept { KeepsMarks work.old work.new }
 {
-    mark_alone(supports, kept, work, side, entry, evaluations)?;
+    let rules = rules_alone(side, entry);
+    mark_by_rules(supports, kept, work, rules, entry, evaluations)?;
+    mark_by_weight(supports, kept, work, side, entry, evaluations)?;
     match (side, entry.w) {
         (Side::Lower, None) => {
             mark_side_by_side(kept, work, entry, evaluations)?;

@@ -2,16 +2,16 @@
 
 ghost use Rattle.std.specs.Prelude.{◌≡◌, ◌<◌, ◌≤◌, ◌^◌, ℕ, List, true, false, Some, None, IfSome, All, drop};
 ghost use Rattle.ct_words.specs.declared.limits.TheConstants.{MAX_BOUND};
-ghost use Rattle.ct_codes.specs.declared.claim.Side.TheVariants.{Lower};
+ghost use Rattle.ct_codes.specs.declared.claim.Side.TheVariants.{Lower, Upper};
 ghost use Rattle.ct_codes.specs.Entry.{IsEntry};
 ghost use Rattle.ct_rule_parts.specs.Parts.{are_entries};
 ghost use Rattle.ct_rule_parts.specs.Slot.{IsNoBetter};
 ghost use Rattle.ct_rule_parts.specs.Support.{AllStand};
 ghost use Rattle.ct_rules.specs.declared.rule.Rule.{Rule};
-ghost use Rattle.ct_rules.specs.declared.rule.Rule.TheVariants.{L11};
+ghost use Rattle.ct_rules.specs.declared.rule.Rule.TheVariants.{L9, L11, U10};
 ghost use Rattle.ct_rules.specs.Closed.{AreTrue};
 ghost use Rattle.ct_rules.specs.Listing.{rules_alone};
-ghost use Rattle.ct_rules.specs.Rule.{rule_side, parts_over, premises_at};
+ghost use Rattle.ct_rules.specs.Rule.{rule_side, is_by_weight};
 ghost use Rattle.ct_closure.specs.Kept.{IsKept};
 ghost use Rattle.ct_closure.specs.Number.{bound_of};
 ghost use Rattle.ct_closure.specs.Places.{ArePlaces};
@@ -23,10 +23,7 @@ use crate::kept::Kept;
 use crate::places::SupportPlaces;
 use crate::side_by_side::best_side_by_side;
 use ct_codes::{Entry, Side};
-use ct_rules::{
-    Entries, LOWER_RULES, LOWER_WEIGHT_RULES, Rule, Support, UPPER_RULES, UPPER_WEIGHT_RULES,
-    defined_on, rule_side, value_where_defined,
-};
+use ct_rules::{Entries, Rule, Support, defined_on, rule_side, rules_alone, value_where_defined};
 
 /// The bound that the rule gives at an entry of the table over what stands. It takes no memory.
 pub fn offer(supports: &[Support], kept: &Kept, rule: Rule, entry: Entry) -> Option<u32>
@@ -96,19 +93,14 @@ fn ask_each(
     }
 }
 
-/// The rules of the slot with neither numbers nor a support, but the first, which gives what stands there from the start.
+/// The rules of the slot with neither numbers nor a support, but the first.
 fn others_alone(side: Side, entry: Entry) -> &'static [Rule]
     ensures { result.now ≡ drop 1 (rules_alone (side, entry)) }
 {
-    match (side, entry.w) {
-        (Side::Lower, None) => &LOWER_RULES[1..],
-        (Side::Lower, Some(_)) => &LOWER_WEIGHT_RULES[1..],
-        (Side::Upper, None) => &UPPER_RULES[1..],
-        (Side::Upper, Some(_)) => &UPPER_WEIGHT_RULES[1..],
-    }
+    &rules_alone(side, entry)[1..]
 }
 
-/// Asks each rule of the slot with neither numbers nor a support.
+/// Asks each rule of the slot with neither numbers nor a support; the first gives what stands there from the start.
 fn ask_alone(
     supports: &[Support],
     kept: &Kept,
@@ -123,8 +115,89 @@ fn ask_alone(
     ensures pulled { IsPulled supports.now (bound_of kept.now.bounds) (side, entry) best.old best.new }
     ensures within { All (IsWithin supports.now (bound_of kept.now.bounds) (side, entry) best.new.value) (rules_alone (side, entry)) }
 {
-    let rules = others_alone(side, entry);
-    ask_each(supports, kept, rules, side, entry, best, evaluations);
+    let others = others_alone(side, entry);
+    ask_each(supports, kept, others, side, entry, best, evaluations);
+}
+
+/// Asks for what a code of each weight gives at an entry without weight, from below.
+fn ask_weights_below(
+    supports: &[Support],
+    kept: &Kept,
+    entry: Entry,
+    best: &mut Best,
+    evaluations: &mut u64,
+)
+    requires { IsEntry entry }
+    ensures pulled { IsPulled supports.now (bound_of kept.now.bounds) (Lower, entry) best.old best.new }
+    ensures within { (w : ℕ) → w ≤ entry.n → IsWithin supports.now (bound_of kept.now.bounds) (Lower, entry) best.new.value (L9 w) }
+{
+    for w in 0..entry.n + 1 {
+        let rule = Rule::L9(w);
+        ask(supports, kept, rule, Side::Lower, entry, best, evaluations);
+    }
+}
+
+/// Asks for what a bound of each weight gives at an entry without weight, from above.
+fn ask_weights_above(
+    supports: &[Support],
+    kept: &Kept,
+    entry: Entry,
+    best: &mut Best,
+    evaluations: &mut u64,
+)
+    requires { IsEntry entry }
+    ensures pulled { IsPulled supports.now (bound_of kept.now.bounds) (Upper, entry) best.old best.new }
+    ensures within { (w : ℕ) → w ≤ entry.n → IsWithin supports.now (bound_of kept.now.bounds) (Upper, entry) best.new.value (U10 w) }
+{
+    for w in 0..entry.n + 1 {
+        let rule = Rule::U10(w);
+        ask(supports, kept, rule, Side::Upper, entry, best, evaluations);
+    }
+}
+
+/// Asks each rule that leads from entries with weight to those without.
+fn ask_by_weight(
+    supports: &[Support],
+    kept: &Kept,
+    side: Side,
+    entry: Entry,
+    best: &mut Best,
+    evaluations: &mut u64,
+)
+    requires { IsEntry entry }
+    ensures pulled { IsPulled supports.now (bound_of kept.now.bounds) (side, entry) best.old best.new }
+    ensures within { (r : Rule) → is_by_weight r ≡ true → rule_side r ≡ side → IsWithin supports.now (bound_of kept.now.bounds) (side, entry) best.new.value r }
+{
+    if let Some(_) = entry.w {
+        return;
+    }
+    match side {
+        Side::Lower => ask_weights_below(supports, kept, entry, best, evaluations),
+        Side::Upper => {
+            ask(supports, kept, Rule::U9, side, entry, best, evaluations);
+            ask_weights_above(supports, kept, entry, best, evaluations)
+        }
+    }
+}
+
+/// Asks each rule of the slot that names no support, but for words side by side.
+fn ask_unsupported(
+    supports: &[Support],
+    kept: &Kept,
+    side: Side,
+    entry: Entry,
+    best: &mut Best,
+    evaluations: &mut u64,
+)
+    requires entry { IsEntry entry }
+    requires kept { IsKept supports.now kept.now }
+    requires standing { IsNoBetter side (bound_of kept.now.bounds (side, entry)) best.old.value }
+    ensures pulled { IsPulled supports.now (bound_of kept.now.bounds) (side, entry) best.old best.new }
+    ensures alone { All (IsWithin supports.now (bound_of kept.now.bounds) (side, entry) best.new.value) (rules_alone (side, entry)) }
+    ensures by_weight { (r : Rule) → is_by_weight r ≡ true → rule_side r ≡ side → IsWithin supports.now (bound_of kept.now.bounds) (side, entry) best.new.value r }
+{
+    ask_alone(supports, kept, side, entry, best, evaluations);
+    ask_by_weight(supports, kept, side, entry, best, evaluations);
 }
 
 /// The rule by which the support at a place gives to an entry.
@@ -201,7 +274,7 @@ pub(crate) fn pull(
     ensures within { (r : Rule) → rule_side r ≡ side → IsWithin supports.now (bound_of kept.now.bounds) (side, entry) result.value r }
 {
     let mut best = Best::standing(kept, side, entry);
-    ask_alone(supports, kept, side, entry, &mut best, evaluations);
+    ask_unsupported(supports, kept, side, entry, &mut best, evaluations);
     match side {
         Side::Upper => best,
         Side::Lower => {

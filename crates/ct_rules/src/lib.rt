@@ -17,7 +17,7 @@ pub use derivation_laws::{
 };
 pub use instance::{applies, defined_on, premise, premise_count, value, value_where_defined};
 pub use line::Line;
-pub use listing::{LOWER_RULES, LOWER_WEIGHT_RULES, UPPER_RULES, UPPER_WEIGHT_RULES};
+pub use listing::{LOWER_RULES, LOWER_WEIGHT_RULES, UPPER_RULES, UPPER_WEIGHT_RULES, rules_alone};
 pub use rows::{place_of, rested_on_by, rests_on, rule_side, with_place};
 pub use rule::Rule;
 pub use rule_laws::{

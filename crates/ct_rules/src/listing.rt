@@ -1,6 +1,10 @@
 //! The rules with neither numbers nor a support, by the bounds that they give.
 
+ghost use Rattle.std.specs.Prelude.{◌≡◌};
+ghost use Rattle.ct_rules.specs.Listing.{rules_alone};
+
 use crate::rule::Rule;
+use ct_codes::{Entry, Side};
 
 /// Those that bound A(n,d) from below.
 pub const LOWER_RULES: [Rule; 8] = [
@@ -51,3 +55,15 @@ pub const UPPER_WEIGHT_RULES: [Rule; 9] = [
     Rule::V7,
     Rule::V8,
 ];
+
+/// Those that bound an entry from a side. The first of them gives a bound at each such entry and rests on nothing.
+pub fn rules_alone(side: Side, entry: Entry) -> &'static [Rule]
+    ensures { result.now ≡ rules_alone (side, entry) }
+{
+    match (side, entry.w) {
+        (Side::Lower, None) => &LOWER_RULES,
+        (Side::Lower, Some(_)) => &LOWER_WEIGHT_RULES,
+        (Side::Upper, None) => &UPPER_RULES,
+        (Side::Upper, Some(_)) => &UPPER_WEIGHT_RULES,
+    }
+}

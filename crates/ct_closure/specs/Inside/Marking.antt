@@ -8,7 +8,7 @@ use Rattle.ct_rule_parts.specs.Slot.{Slot}
 use Rattle.ct_rules.specs.declared.rule.Rule.{Rule}
 use Rattle.ct_rules.specs.declared.rule.Rule.TheVariants.{L11}
 use Rattle.ct_rules.specs.Closed.{IsSatisfied}
-use Rattle.ct_rules.specs.Rule.{rule_side, applies, parts_of, parts_over}
+use Rattle.ct_rules.specs.Rule.{rule_side, is_by_weight, applies, parts_of, parts_over}
 use Rattle.ct_closure.specs.Closing.{IsSatisfiedAt}
 use Rattle.ct_closure.specs.Number.{bound_of}
 use Rattle.ct_closure.specs.Worklist.{WorkValue, IsMarked}
@@ -43,6 +43,11 @@ AreTestedAtLength bounds work from n = (d : ℕ) → IsTestedAtSum bounds work f
 abbrev pub AreTestedSideBySide : List ℕ → WorkValue → Entry → Type 0
 AreTestedSideBySide bounds work from = (supports : List Support) (m c : ℕ) (e : Entry) → applies supports (L11 m c) e ≡ true →
     Contains ((parts_over supports (L11 m c)).rests_on e) from → IsTestedAt supports bounds work (L11 m c) e
+
+-- at each entry that rests on a slot by a rule that leads from entries with weight to those without
+abbrev pub AreTestedByWeight : List Support → List ℕ → WorkValue → Slot → Type 0
+AreTestedByWeight supports bounds work s = (r : Rule) (e : Entry) → is_by_weight r ≡ true → rule_side r ≡ s.0 → applies supports r e ≡ true →
+    Contains ((parts_over supports r).rests_on e) s.1 → IsTestedAt supports bounds work r e
 
 -- at each entry that rests on a slot
 abbrev pub AreTested : List Support → List ℕ → WorkValue → Slot → Type 0

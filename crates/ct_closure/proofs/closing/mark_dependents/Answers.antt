@@ -1,24 +1,46 @@
-use Rattle.std.proofs.Common.{sym, ◌∙◌}
+use Rattle.std.proofs.Common.{◌≡◌, All, true, sym, subst, ◌∙◌}
 use Rattle.std.proofs.lemmas.Option.{none-some}
-use Rattle.ct_rules.specs.Listing.{alone_on}
-use Rattle.ct_closure.proofs.MarkingLemmas.{all_tested_more, sum_rests, sum_not_upper}
+use Rattle.ct_rules.specs.declared.rule.Rule.{Rule}
+use Rattle.ct_rules.specs.Listing.{rules_alone}
+use Rattle.ct_rules.specs.Rule.{is_alone}
+use Rattle.ct_closure.proofs.MarkingLemmas.{keeps-trans, all_alone, rules_tested, by_weight_more, sum_rests, sum_not_upper}
 use Rattle.ct_closure.proofs.TurnLemmas.{tested_by_rules}
 use Rattle.ct_closure.proofs.closing.mark_dependents.Goals as goal
 
+pub mark_by_rules-requires-clause-alone : goal.mark_by_rules-requires-clause-alone
+mark_by_rules-requires-clause-alone c =
+    subst (All (λ (r : Rule). is_alone r ≡ true)) (sym c.rules_alone-rules.ensures) (all_alone c.args.side c.args.entry)
+
 pub returns-in_ok-mark_side_by_side-in-Lower-None-clause-tested : goal.returns-in_ok-mark_side_by_side-in-Lower-None-clause-tested
 returns-in_ok-mark_side_by_side-in-Lower-None-clause-tested c =
-    tested_by_rules c.args.supports.now c.args.kept.now.bounds c.mark_side_by_side.new.work c.args.side c.args.entry
-    (all_tested_more c.args.supports.now c.args.kept.now.bounds c.mark_alone.new.work c.mark_side_by_side.new.work c.args.entry
-    (alone_on c.args.side) c.in_ok-mark_side_by_side-in-Lower-None.ensures.kept c.in_ok-mark_alone.ensures.tested)
-    (λ m k f same there rests. c.in_ok-mark_side_by_side-in-Lower-None.ensures.tested c.args.supports.now m k f there rests)
+    let supports = c.args.supports.now in
+    let bounds = c.args.kept.now.bounds in
+    let first = c.mark_by_rules.new.work in
+    let second = c.mark_by_weight.new.work in
+    let third = c.mark_side_by_side.new.work in
+    let last = c.in_ok-mark_side_by_side-in-Lower-None.ensures in
+    tested_by_rules supports bounds third c.args.side c.args.entry
+    (rules_tested supports bounds first third c.args.entry c.rules_alone-rules.result.now (rules_alone (c.args.side, c.args.entry))
+    c.rules_alone-rules.ensures (keeps-trans first second third c.in_ok-mark_by_weight.ensures.kept last.kept) c.in_ok-mark_by_rules.ensures.tested)
+    (by_weight_more supports bounds second third (c.args.side, c.args.entry) last.kept c.in_ok-mark_by_weight.ensures.tested)
+    (λ m k f same there rests. last.tested supports m k f there rests)
 
 pub returns-in-Lower-Some-clause-tested : goal.returns-in-Lower-Some-clause-tested
 returns-in-Lower-Some-clause-tested c =
-    tested_by_rules c.args.supports.now c.args.kept.now.bounds c.mark_alone.new.work c.args.side c.args.entry c.in_ok-mark_alone.ensures.tested
-    (λ m k f same there rests. absurd
-    (none-some _ (sym (sum_rests c.args.supports.now m k f c.args.entry rests) ∙ c.in-Lower-Some.is-1)))
+    let supports = c.args.supports.now in
+    let bounds = c.args.kept.now.bounds in
+    tested_by_rules supports bounds c.mark_by_weight.new.work c.args.side c.args.entry
+    (rules_tested supports bounds c.mark_by_rules.new.work c.mark_by_weight.new.work c.args.entry c.rules_alone-rules.result.now
+    (rules_alone (c.args.side, c.args.entry)) c.rules_alone-rules.ensures c.in_ok-mark_by_weight.ensures.kept c.in_ok-mark_by_rules.ensures.tested)
+    c.in_ok-mark_by_weight.ensures.tested
+    (λ m k f same there rests. absurd (none-some _ (sym (sum_rests supports m k f c.args.entry rests) ∙ c.in-Lower-Some.is-1)))
 
 pub returns-in-Upper-default-clause-tested : goal.returns-in-Upper-default-clause-tested
 returns-in-Upper-default-clause-tested c =
-    tested_by_rules c.args.supports.now c.args.kept.now.bounds c.mark_alone.new.work c.args.side c.args.entry c.in_ok-mark_alone.ensures.tested
+    let supports = c.args.supports.now in
+    let bounds = c.args.kept.now.bounds in
+    tested_by_rules supports bounds c.mark_by_weight.new.work c.args.side c.args.entry
+    (rules_tested supports bounds c.mark_by_rules.new.work c.mark_by_weight.new.work c.args.entry c.rules_alone-rules.result.now
+    (rules_alone (c.args.side, c.args.entry)) c.rules_alone-rules.ensures c.in_ok-mark_by_weight.ensures.kept c.in_ok-mark_by_rules.ensures.tested)
+    c.in_ok-mark_by_weight.ensures.tested
     (λ m k f same there rests. absurd (sum_not_upper m k (same ∙ c.in-Upper-default.is-0)))

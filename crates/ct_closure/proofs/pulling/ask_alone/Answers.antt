@@ -9,7 +9,7 @@ use Rattle.ct_closure.proofs.PulledLemmas.{sides_of_others}
 use Rattle.ct_closure.proofs.pulling.ask_alone.Goals as goal
 
 pub ask_each-requires-clause-sides : goal.ask_each-requires-clause-sides
-ask_each-requires-clause-sides c = sides_of_others c.args.side c.args.entry c.others_alone-rules.result.now c.others_alone-rules.ensures
+ask_each-requires-clause-sides c = sides_of_others c.args.side c.args.entry c.others_alone-others.result.now c.others_alone-others.ensures
 
 pub returns-clause-within : goal.returns-clause-within
 returns-clause-within c =
@@ -17,4 +17,4 @@ returns-clause-within c =
     let s : Slot = (c.args.side, c.args.entry) in
     all_but_ground c.args.supports.now c.args.kept.now c.args.side c.args.entry c.ask_each.new.best.value c.requires.kept c.requires.entry
     (no_better-trans c.args.side (f s) c.args.best.now.value c.ask_each.new.best.value c.requires.standing c.ask_each.ensures.pulled.no_worse)
-    (subst (All (IsWithin c.args.supports.now f s c.ask_each.new.best.value)) c.others_alone-rules.ensures c.ask_each.ensures.within)
+    (subst (All (IsWithin c.args.supports.now f s c.ask_each.new.best.value)) c.others_alone-others.ensures c.ask_each.ensures.within)
