@@ -1,13 +1,13 @@
 -- Over pieces that stand each side of an entry has a best bound, which is true, and no two.
-use Rattle.std.proofs.Common.{◌≡◌, ℕ, zero, suc, ◌+◌, ◌-◌, ◌≤◌, List, [], ◌∷◌, ◌++◌, map, refl, ap, sym, subst, ◌∙◌, arith}
-use Rattle.std.specs.List.{AllZip, range_with_len}
-use Rattle.std.proofs.lemmas.List.FromFn.{map-range_with_len_more}
+use Rattle.std.proofs.Common.{◌≡◌, ℕ, ◌+◌, ◌-◌, ◌≤◌, Bool, true, false, cond, List, [], ◌∷◌, ◌++◌, map, filter, Option, Some, None, refl, ap, sym, subst, ◌∙◌, arith, append-nil}
+use Rattle.std.specs.List.{AllZip, AllByRecursion, range_with_len}
+use Rattle.std.proofs.lemmas.List.Elements.{filter_passes, recursion_from_All}
+use Rattle.std.proofs.lemmas.List.FromFn.{filter_of_map_range_with_len_more}
 use Rattle.ct_words.specs.declared.limits.TheConstants.{MAX_N}
 use Rattle.ct_codes.specs.declared.entry.Entry.{Entry}
 use Rattle.ct_codes.specs.declared.claim.Side.{Side}
 use Rattle.ct_codes.specs.declared.claim.Side.TheVariants.{Lower, Upper}
-use Rattle.ct_codes.specs.Entry.{IsEntry, unrestricted}
-use Rattle.ct_codes.proofs.EntryLemmas.{entry_limits, entry_from_limits}
+use Rattle.ct_codes.specs.Entry.{IsEntry, is_entry}
 use Rattle.ct_rule_parts.specs.declared.support.Support.{Support}
 use Rattle.ct_rules.specs.Derivation.{IsBest}
 use Rattle.ct_rules.proofs.BestValues.{best_exists, best_is_true}
@@ -47,25 +47,18 @@ same_bounds pieces e b c h k =
     let upper = shown_once pieces pieces Upper e b.upper c.upper refl h.upper k.upper in
     λ i. record { entry = entry i; lower = lower i; upper = upper i }
 
--- where the table has a distance, it has its entries of all lengths
-pub longer_entry : (n d : ℕ) → IsEntry (unrestricted 1 d) → 1 ≤ n → n ≤ MAX_N → IsEntry (unrestricted n d)
-longer_entry n d entry some most =
-    let limits = entry_limits (unrestricted 1 d) entry in
-    entry_from_limits (unrestricted n d) some most limits.distance_from limits.distance_to tt
-
--- the bounds of the entries of a distance whose lengths are some after one another
-column_from : (pieces : List PieceValue) (d a k : ℕ) → AreStanding pieces → IsEntry (unrestricted 1 d) → 1 ≤ a → a + k ≤ MAX_N + 1
-    → (bs : List Bounds) × AllZip (AreBoundsOf pieces) (map (λ n. unrestricted n d) (range_with_len a k)) bs
-column_from pieces d a zero h entry some most = ([], tt)
-column_from pieces d a (suc k) h entry some most =
-    let first = some_bounds pieces (unrestricted a d) h (longer_entry a d entry some (omega arith)) in
-    let rest = column_from pieces d (a + 1) k h entry (omega arith) (omega arith) in
+-- the bounds of several entries
+pub some_bounds_of_all : (pieces : List PieceValue) (es : List Entry) → AreStanding pieces → AllByRecursion IsEntry es → (bs : List Bounds) × AllZip (AreBoundsOf pieces) es bs
+some_bounds_of_all pieces [] h entries = ([], tt)
+some_bounds_of_all pieces (e ∷ es) h entries =
+    let first = some_bounds pieces e h entries.0 in
+    let rest = some_bounds_of_all pieces es h entries.1 in
     (first.0 ∷ rest.0, (first.1, rest.1))
 
--- of all lengths
-pub some_column : (pieces : List PieceValue) (d : ℕ) → AreStanding pieces → IsEntry (unrestricted 1 d) → (bs : List Bounds) × AllZip (AreBoundsOf pieces) (column d) bs
+-- a column has entries of the table
+pub column_entries : (d : ℕ) (w : Option ℕ) → AllByRecursion IsEntry (column d w)
 unfolding column
-some_column pieces d h entry = column_from pieces d 1 MAX_N h entry (omega arith) (omega arith)
+column_entries d w = recursion_from_All IsEntry (column d w) (filter_passes is_entry (map (λ n. record { n = n; d = d; w = w }) (range_with_len 1 MAX_N)))
 
 -- the bounds of several entries are no others
 pub same_bounds_of_all : (pieces : List PieceValue) (es : List Entry) (bs cs : List Bounds) → AllZip (AreBoundsOf pieces) es bs → AllZip (AreBoundsOf pieces) es cs → bs ≡ cs
@@ -85,18 +78,56 @@ bounds_of_more pieces [] (c ∷ bs) e b h one = absurd h
 bounds_of_more pieces (f ∷ es) [] e b h one = absurd h
 bounds_of_more pieces (f ∷ es) (c ∷ bs) e b h one = (h.0, bounds_of_more pieces es bs e b h.1 one)
 
--- one more length of a distance
-pub column_more : (pieces : List PieceValue) (d n : ℕ) (bs : List Bounds) (b : Bounds) → 1 ≤ n → AllZip (AreBoundsOf pieces) (map (λ m. unrestricted m d) (range_with_len 1 (n - 1))) bs
-    → AreBoundsOf pieces (unrestricted n d) b → AllZip (AreBoundsOf pieces) (map (λ m. unrestricted m d) (range_with_len 1 (n + 1 - 1))) (bs ++ b ∷ [])
-column_more pieces d n bs b some h one =
-    let more : n + 1 - 1 ≡ n - 1 + 1 = omega arith in
-    let lengths = map-range_with_len_more (λ m. unrestricted m d) 1 (n - 1) n (omega arith) in
-    let all = bounds_of_more pieces (map (λ m. unrestricted m d) (range_with_len 1 (n - 1))) bs (unrestricted n d) b h one in
-    subst (λ (k : ℕ). AllZip (AreBoundsOf pieces) (map (λ m. unrestricted m d) (range_with_len 1 k)) (bs ++ b ∷ [])) (sym more)
-    (subst (λ (es : List Entry). AllZip (AreBoundsOf pieces) es (bs ++ b ∷ [])) (sym lengths) all)
+-- the entry of a distance, a weight, if one is given, and a length
+abbrev pub entry_at : ℕ → Option ℕ → ℕ → Entry
+entry_at d w n = record { n = n; d = d; w = w }
 
--- all lengths of a distance
-pub column_whole : (pieces : List PieceValue) (d n : ℕ) (bs : List Bounds) → n ≡ MAX_N + 1 → AllZip (AreBoundsOf pieces) (map (λ m. unrestricted m d) (range_with_len 1 (n - 1))) bs
-    → AllZip (AreBoundsOf pieces) (column d) bs
+-- the entries of a column whose lengths are at most k
+abbrev pub column_to : ℕ → Option ℕ → ℕ → List Entry
+column_to d w k = filter is_entry (map (entry_at d w) (range_with_len 1 k))
+
+-- the entry of the next length, where the table has it
+column_to-more : (d : ℕ) (w : Option ℕ) (n : ℕ) → 1 ≤ n
+    → column_to d w (n + 1 - 1) ≡ column_to d w (n - 1) ++ cond (is_entry (entry_at d w n)) (entry_at d w n ∷ []) []
+column_to-more d w n some =
+    let more : n + 1 - 1 ≡ n - 1 + 1 = omega arith in
+    ap (column_to d w) more ∙ filter_of_map_range_with_len_more is_entry (entry_at d w) 1 (n - 1) n (omega arith)
+
+-- what it means that the entry is there, or not
+chosen_entry : (b : Bool) (e f : Entry) → Some f ≡ cond b (Some e) None → (b ≡ true) × (f ≡ e)
+chosen_entry true e f h = (refl, cc)
+chosen_entry false e f h = absurd (cc)
+
+no_entry : (b : Bool) (e : Entry) → None ≡ cond b (Some e) None → b ≡ false
+no_entry true e h = absurd (cc)
+no_entry false e h = refl
+
+-- an entry that is there is one of the table
+pub named_is_entry : (e f : Entry) → Some f ≡ cond (is_entry e) (Some e) None → IsEntry f
+named_is_entry e f named = let there = chosen_entry (is_entry e) e f named in subst IsEntry (sym there.1) there.0
+
+-- it is there, and has these bounds
+pub column_more : (pieces : List PieceValue) (d : ℕ) (w : Option ℕ) (n : ℕ) (f : Entry) (bs : List Bounds) (b : Bounds) → 1 ≤ n
+    → Some f ≡ cond (is_entry (entry_at d w n)) (Some (entry_at d w n)) None → AllZip (AreBoundsOf pieces) (column_to d w (n - 1)) bs → AreBoundsOf pieces f b
+    → AllZip (AreBoundsOf pieces) (column_to d w (n + 1 - 1)) (bs ++ b ∷ [])
+column_more pieces d w n f bs b some named h one =
+    let e = entry_at d w n in
+    let there = chosen_entry (is_entry e) e f named in
+    let more = column_to-more d w n some ∙ ap (λ (t : Bool). column_to d w (n - 1) ++ cond t (e ∷ []) []) there.0 in
+    subst (λ (es : List Entry). AllZip (AreBoundsOf pieces) es (bs ++ b ∷ [])) (sym more)
+    (bounds_of_more pieces (column_to d w (n - 1)) bs e b h (subst (λ (g : Entry). AreBoundsOf pieces g b) there.1 one))
+
+-- it is not there
+pub column_same : (pieces : List PieceValue) (d : ℕ) (w : Option ℕ) (n : ℕ) (bs : List Bounds) → 1 ≤ n
+    → None ≡ cond (is_entry (entry_at d w n)) (Some (entry_at d w n)) None → AllZip (AreBoundsOf pieces) (column_to d w (n - 1)) bs
+    → AllZip (AreBoundsOf pieces) (column_to d w (n + 1 - 1)) bs
+column_same pieces d w n bs some named h =
+    let e = entry_at d w n in
+    let more = column_to-more d w n some ∙ ap (λ (t : Bool). column_to d w (n - 1) ++ cond t (e ∷ []) []) (no_entry (is_entry e) e named) ∙ append-nil (column_to d w (n - 1)) in
+    subst (λ (es : List Entry). AllZip (AreBoundsOf pieces) es bs) (sym more) h
+
+-- the whole column
+pub column_whole : (pieces : List PieceValue) (d : ℕ) (w : Option ℕ) (n : ℕ) (bs : List Bounds) → n ≡ MAX_N + 1
+    → AllZip (AreBoundsOf pieces) (column_to d w (n - 1)) bs → AllZip (AreBoundsOf pieces) (column d w) bs
 unfolding column
-column_whole pieces d n bs whole h = subst (λ (k : ℕ). AllZip (AreBoundsOf pieces) (map (λ m. unrestricted m d) (range_with_len 1 (k - 1))) bs) whole h
+column_whole pieces d w n bs whole h = subst (λ (k : ℕ). AllZip (AreBoundsOf pieces) (column_to d w (k - 1)) bs) whole h

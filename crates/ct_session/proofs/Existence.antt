@@ -1,9 +1,9 @@
 -- Commands over pieces that stand have replies, and the pieces after them stand.
-use Rattle.std.proofs.Common.{◌≡◌, ℕ, Bool, true, false, ◌&&◌, cond, List, [], ◌∷◌, Option, Some, None, is_none, refl}
+use Rattle.std.proofs.Common.{◌≡◌, ℕ, Bool, true, false, cond, List, [], ◌∷◌, Some, None, refl}
 use Rattle.std.specs.Prelude.{fold}
-use Rattle.std.specs.List.{flat_map, list_any}
+use Rattle.std.specs.List.{flat_map, list_any, AllByRecursion}
 use Rattle.ct_codes.specs.declared.entry.Entry.{Entry}
-use Rattle.ct_codes.specs.Entry.{IsEntry, is_entry, unrestricted}
+use Rattle.ct_codes.specs.Entry.{IsEntry, is_entry}
 use Rattle.ct_lines.specs.Lines.{lines_of}
 use Rattle.ct_commands.specs.Command.{commands_of}
 use Rattle.ct_commands.specs.declared.command.Command.{Command}
@@ -14,13 +14,13 @@ use Rattle.ct_ledger.specs.Withdrawal.{withdrawn}
 use Rattle.ct_ledger.specs.Standing.{AreStanding}
 use Rattle.ct_ledger.specs.Dump.{dump_text}
 use Rattle.ct_ledger.proofs.StandingLemmas.{AreStanding-none, AreStanding-submitted, AreStanding-withdrawn}
-use Rattle.ct_session.specs.Reply.{IsReply, IsShowReply, IsEntryReply, IsTableReply, submission_reply, withdrawal_reply, pieces_after, is_refusal}
+use Rattle.ct_session.specs.Reply.{IsReply, IsShowReply, IsTableReply, column, submission_reply, withdrawal_reply, pieces_after, is_refusal}
 use Rattle.ct_session.specs.Run.{AreReplies, AnswersCommands, IsRun}
 use Rattle.ct_session.specs.Text.{reply_text, ledger_text}
 use Rattle.ct_session.specs.declared.reply.Reply.{Reply}
 use Rattle.ct_session.specs.declared.reply.Reply.TheVariants.{Shown, Table, Lines, Refused}
 use Rattle.ct_session.specs.declared.reply.Refusal.TheVariants as refusal
-use Rattle.ct_session.proofs.BoundLemmas.{some_bounds, some_column}
+use Rattle.ct_session.proofs.BoundLemmas.{some_bounds, some_bounds_of_all, column_entries}
 
 -- the pieces after a command stand, where those before it do
 pub AreStanding-after : (pieces : List PieceValue) (c : Command) → AreStanding pieces → AreStanding (pieces_after pieces c)
@@ -39,18 +39,14 @@ pub AreStanding-fold : (pieces : List PieceValue) (cs : List Command) → AreSta
 AreStanding-fold pieces [] h = h
 AreStanding-fold pieces (c ∷ cs) h = AreStanding-fold (pieces_after pieces c) cs (AreStanding-after pieces c h)
 
-entry_reply : (pieces : List PieceValue) (e : Entry) (w : Option ℕ) → AreStanding pieces → IsEntry e → (r : Reply) × IsEntryReply pieces e w r
-entry_reply pieces e None h entry = let some = some_bounds pieces e h entry in (Shown some.0, record { bounds = some.0; of_entry = some.1; shown = refl })
-entry_reply pieces e (Some w) h entry = (Refused refusal.NoEntry, refl)
-
 named_reply : (pieces : List PieceValue) (e : Entry) (b : Bool) → is_entry e ≡ b → AreStanding pieces → (r : Reply) × IsShowReply pieces (cond b (Some e) None) r
-named_reply pieces e true entry h = entry_reply pieces e e.w h entry
+named_reply pieces e true entry h = let some = some_bounds pieces e h entry in (Shown some.0, record { bounds = some.0; of_entry = some.1; shown = refl })
 named_reply pieces e false entry h = (Refused refusal.NoEntry, refl)
 
-column_reply : (pieces : List PieceValue) (d : ℕ) (a b : Bool) → is_entry (unrestricted 1 d) ≡ b → AreStanding pieces → (r : Reply) × IsTableReply pieces (cond (a && b) (Some d) None) r
-column_reply pieces d false b entry h = (Refused refusal.NoEntry, refl)
-column_reply pieces d true false entry h = (Refused refusal.NoEntry, refl)
-column_reply pieces d true true entry h = let some = some_column pieces d h entry in (Table some.0, record { bounds = some.0; of_entries = some.1; shown = refl })
+column_reply : (pieces : List PieceValue) (es : List Entry) → AllByRecursion IsEntry es → AreStanding pieces → (r : Reply) × IsTableReply pieces es r
+column_reply pieces [] entries h = (Refused refusal.NoEntry, refl)
+column_reply pieces (e ∷ es) entries h =
+    let some = some_bounds_of_all pieces (e ∷ es) h entries in (Table some.0, record { bounds = some.0; of_entries = some.1; shown = refl })
 
 -- a command has a reply
 some_reply : (pieces : List PieceValue) (c : Command) → AreStanding pieces → (r : Reply) × IsReply pieces c r
@@ -61,7 +57,7 @@ some_reply pieces (command.Withdraw id) h = (withdrawal_reply id (withdrawn piec
 some_reply pieces (command.Show numbers) h =
     let e : Entry = record { n = numbers.n; d = numbers.d; w = numbers.w } in
     named_reply pieces e (is_entry e) refl h
-some_reply pieces (command.Table numbers) h = column_reply pieces numbers.d (is_none numbers.w) (is_entry (unrestricted 1 numbers.d)) refl h
+some_reply pieces (command.Table numbers) h = column_reply pieces (column numbers.d numbers.w) (column_entries numbers.d numbers.w) h
 some_reply pieces command.Ledger h = (Lines (ledger_text pieces), refl)
 some_reply pieces command.Dump h = (Lines (dump_text pieces), refl)
 some_reply pieces command.Unknown h = (Refused refusal.NoCommand, refl)

@@ -3,11 +3,10 @@ use Rattle.std.proofs.Common.{◌≡◌, ℕ, Bool, List, [], ◌∷◌, Option,
 use Rattle.std.specs.List.{flat_map, list_any}
 use Rattle.ct_codes.specs.declared.entry.Entry.{Entry}
 use Rattle.ct_text.specs.EntryNumbers.{named_entry}
-use Rattle.ct_text.specs.TableNumbers.{named_distance}
 use Rattle.ct_commands.specs.declared.command.Command.{Command}
 use Rattle.ct_commands.specs.declared.command.Command.TheVariants as command
 use Rattle.ct_ledger.specs.Piece.{PieceValue}
-use Rattle.ct_session.specs.Reply.{IsReply, IsShown, IsEntryReply, IsShowReply, IsTableReply, column, pieces_after, is_refusal}
+use Rattle.ct_session.specs.Reply.{IsReply, IsShown, IsShowReply, IsTableReply, column, pieces_after, is_refusal}
 use Rattle.ct_session.specs.Run.{AreReplies, AnswersCommands}
 use Rattle.ct_session.specs.Text.{reply_text}
 use Rattle.ct_session.specs.declared.reply.Reply.{Reply}
@@ -17,17 +16,13 @@ use Rattle.ct_session.proofs.BoundLemmas.{same_bounds, same_bounds_of_all}
 one_shown : (pieces : List PieceValue) (e : Entry) (r s : Reply) → IsShown pieces e r → IsShown pieces e s → r ≡ s
 one_shown pieces e r s h k = h.shown ∙ ap Shown (same_bounds pieces e h.bounds k.bounds h.of_entry k.of_entry) ∙ sym k.shown
 
-one_table_reply : (pieces : List PieceValue) (o : Option ℕ) (r s : Reply) → IsTableReply pieces o r → IsTableReply pieces o s → r ≡ s
-one_table_reply pieces None r s h k = h ∙ sym k
-one_table_reply pieces (Some d) r s h k = h.shown ∙ ap Table (same_bounds_of_all pieces (column d) h.bounds k.bounds h.of_entries k.of_entries) ∙ sym k.shown
-
-one_entry_reply : (pieces : List PieceValue) (e : Entry) (w : Option ℕ) (r s : Reply) → IsEntryReply pieces e w r → IsEntryReply pieces e w s → r ≡ s
-one_entry_reply pieces e None r s h k = one_shown pieces e r s h k
-one_entry_reply pieces e (Some w) r s h k = h ∙ sym k
+one_table_reply : (pieces : List PieceValue) (es : List Entry) (r s : Reply) → IsTableReply pieces es r → IsTableReply pieces es s → r ≡ s
+one_table_reply pieces [] r s h k = h ∙ sym k
+one_table_reply pieces (e ∷ es) r s h k = h.shown ∙ ap Table (same_bounds_of_all pieces (e ∷ es) h.bounds k.bounds h.of_entries k.of_entries) ∙ sym k.shown
 
 one_show_reply : (pieces : List PieceValue) (o : Option Entry) (r s : Reply) → IsShowReply pieces o r → IsShowReply pieces o s → r ≡ s
 one_show_reply pieces None r s h k = h ∙ sym k
-one_show_reply pieces (Some e) r s h k = one_entry_reply pieces e e.w r s h k
+one_show_reply pieces (Some e) r s h k = one_shown pieces e r s h k
 
 -- a command has one reply
 pub one_reply_only : (pieces : List PieceValue) (c : Command) (r s : Reply) → IsReply pieces c r → IsReply pieces c s → r ≡ s
@@ -36,7 +31,7 @@ one_reply_only pieces (command.Submission (Some id) document) r s h k = h ∙ sy
 one_reply_only pieces command.CutOff r s h k = h ∙ sym k
 one_reply_only pieces (command.Withdraw id) r s h k = h ∙ sym k
 one_reply_only pieces (command.Show numbers) r s h k = one_show_reply pieces (named_entry numbers) r s h k
-one_reply_only pieces (command.Table numbers) r s h k = one_table_reply pieces (named_distance numbers) r s h k
+one_reply_only pieces (command.Table numbers) r s h k = one_table_reply pieces (column numbers.d numbers.w) r s h k
 one_reply_only pieces command.Ledger r s h k = h ∙ sym k
 one_reply_only pieces command.Dump r s h k = h ∙ sym k
 one_reply_only pieces command.Unknown r s h k = h ∙ sym k

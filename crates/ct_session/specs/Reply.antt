@@ -1,16 +1,15 @@
 -- The reply to a command over the pieces that stand, and the pieces after it.
-use Rattle.std.specs.Prelude.{◌≡◌, ℕ, Bool, true, false, List, map, Option, Some, None, Result, Ok, Err}
+use Rattle.std.specs.Prelude.{◌≡◌, ℕ, Bool, true, false, List, [], ◌∷◌, map, filter, Option, Some, None, Result, Ok, Err}
 use Rattle.std.specs.List.{AllZip, range_with_len}
 use Rattle.ct_words.specs.declared.limits.TheConstants.{MAX_N}
 use Rattle.ct_codes.specs.declared.entry.Entry.{Entry}
 use Rattle.ct_codes.specs.declared.claim.Side.{Side}
 use Rattle.ct_codes.specs.declared.claim.Side.TheVariants.{Lower, Upper}
 use Rattle.ct_codes.specs.Claim.{IsTrueClaim}
-use Rattle.ct_codes.specs.Entry.{unrestricted}
+use Rattle.ct_codes.specs.Entry.{is_entry}
 use Rattle.ct_rules.specs.Derivation.{IsBest}
 use Rattle.ct_rule_parts.specs.Slot.{claim_at}
 use Rattle.ct_text.specs.EntryNumbers.{named_entry}
-use Rattle.ct_text.specs.TableNumbers.{named_distance}
 use Rattle.ct_commands.specs.declared.command.Command.{Command}
 use Rattle.ct_commands.specs.declared.command.Command.TheVariants as command
 use Rattle.ct_ledger.specs.Piece.{PieceValue}
@@ -53,30 +52,25 @@ pub record IsShown (pieces : List PieceValue) (e : Entry) (reply : Reply) : Type
   pub of_entry : AreBoundsOf pieces e bounds
   pub shown : reply ≡ Shown bounds
 
--- the reply for an entry of the table: its bounds where it has no weight, else a refusal
-abbrev pub IsEntryReply : List PieceValue → Entry → Option ℕ → Reply → Type 0
-IsEntryReply pieces e None reply = IsShown pieces e reply
-IsEntryReply pieces e (Some w) reply = reply ≡ Refused refusal.NoEntry
-
--- the reply to `show`: a refusal where it names no entry of the table
+-- the reply to `show`: the bounds of the entry that it names, or a refusal where it names none of the table
 abbrev pub IsShowReply : List PieceValue → Option Entry → Reply → Type 0
 IsShowReply pieces None reply = reply ≡ Refused refusal.NoEntry
-IsShowReply pieces (Some e) reply = IsEntryReply pieces e e.w reply
+IsShowReply pieces (Some e) reply = IsShown pieces e reply
 
--- the entries A(n,d) of a distance, in the order of their lengths
-unfoldable pub column : ℕ → List Entry
-column d = map (λ n. unrestricted n d) (range_with_len 1 MAX_N)
+-- a column of the table: its entries A(n,d), or A(n,d,w) where a weight is given, in the order of their lengths
+unfoldable pub column : ℕ → Option ℕ → List Entry
+column d w = filter is_entry (map (λ n. record { n = n; d = d; w = w }) (range_with_len 1 MAX_N))
 
--- the bounds of all entries of a distance are shown, one after the other
-pub record IsColumn (pieces : List PieceValue) (d : ℕ) (reply : Reply) : Type 0 where
+-- the bounds of all entries of a column are shown, one after the other
+pub record IsColumn (pieces : List PieceValue) (entries : List Entry) (reply : Reply) : Type 0 where
   pub bounds : List Bounds
-  pub of_entries : AllZip (AreBoundsOf pieces) (column d) bounds
+  pub of_entries : AllZip (AreBoundsOf pieces) entries bounds
   pub shown : reply ≡ Table bounds
 
--- the reply to `table`: a refusal where it names no distance of the table, and where it names a weight
-abbrev pub IsTableReply : List PieceValue → Option ℕ → Reply → Type 0
-IsTableReply pieces None reply = reply ≡ Refused refusal.NoEntry
-IsTableReply pieces (Some d) reply = IsColumn pieces d reply
+-- the reply to `table`: the bounds of the column that it names, or a refusal where this has no entry
+abbrev pub IsTableReply : List PieceValue → List Entry → Reply → Type 0
+IsTableReply pieces [] reply = reply ≡ Refused refusal.NoEntry
+IsTableReply pieces (e ∷ entries) reply = IsColumn pieces (e ∷ entries) reply
 
 -- the reply to a command over the pieces that stand
 abbrev pub IsReply : List PieceValue → Command → Reply → Type 0
@@ -85,7 +79,7 @@ IsReply pieces (command.Submission (Some id) document) reply = reply ≡ submiss
 IsReply pieces command.CutOff reply = reply ≡ Refused refusal.CutOff
 IsReply pieces (command.Withdraw id) reply = reply ≡ withdrawal_reply id (withdrawn pieces id)
 IsReply pieces (command.Show numbers) reply = IsShowReply pieces (named_entry numbers) reply
-IsReply pieces (command.Table numbers) reply = IsTableReply pieces (named_distance numbers) reply
+IsReply pieces (command.Table numbers) reply = IsTableReply pieces (column numbers.d numbers.w) reply
 IsReply pieces command.Ledger reply = reply ≡ Lines (ledger_text pieces)
 IsReply pieces command.Dump reply = reply ≡ Lines (dump_text pieces)
 IsReply pieces command.Unknown reply = reply ≡ Refused refusal.NoCommand

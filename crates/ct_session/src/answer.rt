@@ -2,9 +2,8 @@
 
 ghost use Rattle.std.specs.Prelude.{◌≡◌, Some, IfOk, OnOk, OnErr};
 ghost use Rattle.std.specs.List.{AllZip};
-ghost use Rattle.ct_codes.specs.Entry.{IsEntry, unrestricted};
+ghost use Rattle.ct_codes.specs.Entry.{IsEntry};
 ghost use Rattle.ct_text.specs.EntryNumbers.{named_entry};
-ghost use Rattle.ct_text.specs.TableNumbers.{named_distance};
 ghost use Rattle.ct_ledger.specs.Submission.{submitted, with_piece};
 ghost use Rattle.ct_ledger.specs.Withdrawal.{withdrawn, left_by};
 ghost use Rattle.ct_session.specs.Reply.{IsReply, AreBoundsOf, IsShowReply, IsTableReply, column, pieces_after, submission_reply, withdrawal_reply};
@@ -31,38 +30,42 @@ fn bounds_of(ledger: &Ledger, entry: Entry) -> Bounds
     }
 }
 
-/// The reply to `show`.
+/// The reply to `show`: the bounds of the entry of the table with these numbers, if there is one.
 fn show(ledger: &Ledger, numbers: EntryNumbers) -> Reply
     ensures { IsShowReply ledger.now.pieces (named_entry numbers) result }
 {
-    let Some(entry) = numbers.entry() else {
-        return Reply::Refused(Refusal::NoEntry);
-    };
-    match entry.w {
-        None => Reply::Shown(bounds_of(ledger, entry)),
-        Some(_) => Reply::Refused(Refusal::NoEntry),
+    match numbers.entry() {
+        Some(entry) => Reply::Shown(bounds_of(ledger, entry)),
+        None => Reply::Refused(Refusal::NoEntry),
     }
 }
 
-/// The bounds of all entries without weight of a distance of the table, in the order of their lengths.
-fn column_of(alloc: Global, ledger: &Ledger, d: u32) -> Result<BoundsList, AllocError>
-    requires { IsEntry (unrestricted 1 d) }
-    ensures { IfOk result (λ bounds. AllZip (AreBoundsOf ledger.now.pieces) (column d) bounds) }
+/// The bounds of all entries of a column of the table, in the order of their lengths: none where the column has no entry.
+fn column_of(
+    alloc: Global,
+    ledger: &Ledger,
+    numbers: TableNumbers,
+) -> Result<BoundsList, AllocError>
+    ensures { IfOk result (λ bounds. AllZip (AreBoundsOf ledger.now.pieces) (column numbers.d numbers.w) bounds) }
 {
     let mut list = Vec::new(alloc);
     for n in 1..MAX_N + 1 {
-        list.push(bounds_of(ledger, Entry { n, d, w: None }))?;
+        if let Some(entry) = numbers.entry(n) {
+            list.push(bounds_of(ledger, entry))?;
+        }
     }
     Ok(BoundsList::from_vec(list))
 }
 
-/// The reply to `table`. `Err` is want of memory.
+/// The reply to `table`: the bounds of the column with these numbers, where it has an entry. `Err` is want of memory.
 fn table(alloc: Global, ledger: &Ledger, numbers: TableNumbers) -> Result<Reply, AllocError>
-    ensures { IfOk result (IsTableReply ledger.now.pieces (named_distance numbers)) }
+    ensures { IfOk result (IsTableReply ledger.now.pieces (column numbers.d numbers.w)) }
 {
-    match numbers.distance() {
-        Some(d) => Ok(Reply::Table(column_of(alloc, ledger, d)?)),
-        None => Ok(Reply::Refused(Refusal::NoEntry)),
+    let bounds = column_of(alloc, ledger, numbers)?;
+    if bounds.as_slice().is_empty() {
+        Ok(Reply::Refused(Refusal::NoEntry))
+    } else {
+        Ok(Reply::Table(bounds))
     }
 }
 

@@ -12,7 +12,7 @@ pub enum Refusal {
     CutOff,
     /// The line is no command, or `submit` with other words after it than a form of it has.
     NoCommand,
-    /// The entry is not in the table, or has a weight; or the table has no entry of the distance, or a weight is named with it.
+    /// The entry is not in the table; or the table has no entry of the distance and, where one is named, the weight.
     NoEntry,
     /// The submission makes no piece.
     Submission(SubmitFault),
@@ -73,7 +73,7 @@ pub enum Reply {
     Withdrawn(Id),
     /// The bounds of an entry.
     Shown(Bounds),
-    /// The bounds of all entries of a distance, in the order of their lengths.
+    /// The bounds of all entries of a distance and, where one is named, a weight, in the order of their lengths.
     Table(BoundsList),
     /// Lines, each with its line feed.
     Lines(Text),
