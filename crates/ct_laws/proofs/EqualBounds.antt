@@ -1,10 +1,15 @@
 -- Bounds that are shown where a lower and an upper bound of one value are derived, and such derivations that are known.
-use Rattle.std.proofs.Common.{ℕ, List, [], refl}
+use Rattle.std.proofs.Common.{◌≡◌, ℕ, ◌&&◌, true, cond, List, [], Some, None, refl, ap, ◌∙◌}
 use Rattle.std.proofs.lemmas.List.Elements.{All-nil}
 use Rattle.ct_codes.specs.declared.entry.Entry.{Entry}
 use Rattle.ct_codes.specs.declared.claim.Side.TheVariants.{Lower, Upper}
-use Rattle.ct_codes.specs.Entry.{unrestricted}
+use Rattle.ct_codes.specs.Entry.{IsEntry, unrestricted, constant_weight}
+use Rattle.ct_counting.specs.Binomials.{choose}
+use Rattle.ct_rules.specs.declared.rule.Rule.TheVariants.{M1, V0}
 use Rattle.ct_rules.specs.Derivation.{IsDerived}
+use Rattle.ct_rules.specs.Rule.{row_of, applies}
+use Rattle.ct_rules.proofs.JoinedDerivations.{derived_by_rule}
+use Rattle.ct_rule_parts.specs.Parts.{within_limit}
 use Rattle.ct_rule_parts.specs.Slot.{claim_at}
 use Rattle.ct_rule_parts.specs.Support.{Stands, AllStand}
 use Rattle.ct_rules.proofs.BestValues.{best_is_true, equal_is_best}
@@ -27,3 +32,16 @@ equal_bounds pieces e v stand lower upper =
 -- with no support A(5,3) is 4
 pub four_at_five : AreBoundsOf [] (unrestricted 5 3) (record { entry = unrestricted 5 3; lower = 4; upper = 4 })
 four_at_five = equal_bounds [] (unrestricted 5 3) 4 (All-nil Stands) four_from_below four_from_above
+
+-- with no support A(n,d,w) is 1 where one word alone has the weight
+pub one_word_alone : (n d w : ℕ) → IsEntry (constant_weight n d w) → choose n w ≡ 1
+    → AreBoundsOf [] (constant_weight n d w) (record { entry = constant_weight n d w; lower = 1; upper = 1 })
+unfolding row_of
+one_word_alone n d w is alone =
+    let e : Entry = constant_weight n d w in
+    let here : applies [] M1 e ≡ true = ap (λ b. b && true && true) is in
+    let there : applies [] V0 e ≡ true = ap (λ b. b && true && true) is in
+    equal_bounds [] e 1 (All-nil Stands)
+    (derived_by_rule [] M1 e [] 1 (ap (λ b. cond b (Some []) None) here) (All-nil (IsDerived [])) (ap (λ b. cond b (Some 1) None) here))
+    (derived_by_rule [] V0 e [] 1 (ap (λ b. cond b (Some []) None) there) (All-nil (IsDerived []))
+    (ap (λ b. cond b (within_limit Upper (Some (choose n w))) None) there ∙ ap (λ (c : ℕ). within_limit Upper (Some c)) alone))

@@ -1,4 +1,5 @@
 mod EqualBounds
+mod Columns
 mod DumpCommands
 mod DumpHeadings
 mod DumpNames

@@ -37,3 +37,7 @@ close_choices = codes "submit a\nkind = 'cosets'\nn = 6\nd = 4\nbasis = ['111100
 -- words that are stated to have weight 3, of which the third has another
 abbrev pub heavier_word : List ℕ
 heavier_word = codes "submit a\nkind = 'words'\nn = 6\nd = 4\nw = 3\nwords = ['000111', '011100', '101011']\nend\n"
+
+-- four words of length 6 and weight 3, each two at distance 4
+abbrev pub four_triples : List ℕ
+four_triples = codes "submit a\nkind = 'words'\nn = 6\nd = 4\nw = 3\nwords = ['000111', '011100', '101010', '110001']\nend\n"

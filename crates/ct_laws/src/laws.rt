@@ -1,6 +1,8 @@
 //! Sessions whose output is known, and texts of replies.
 
-ghost use Rattle.std.specs.Prelude.{◌≡◌, ◌⊎◌, ◌↔◌, ◌∷◌, ℕ, List, [], slice_get, Some, None, IsTrue, false, true, codes};
+ghost use Rattle.std.specs.Prelude.{◌≡◌, ◌⊎◌, ◌↔◌, ◌∷◌, ℕ, ◌+◌, ◌-◌, ◌%◌, ◌<◌, ◌≤◌, max, List, [], map, slice_get, Option, Some, None, IsTrue, false, true, codes};
+ghost use Rattle.std.specs.List.{range_with_len};
+ghost use Rattle.ct_words.specs.declared.limits.TheConstants.{MAX_N};
 ghost use Rattle.ct_text.specs.Gathering.{is_end};
 ghost use Rattle.ct_codes.specs.declared.fault.CodeFault.TheVariants as code;
 ghost use Rattle.ct_build.specs.declared.fault.BuildFault.TheVariants as build;
@@ -8,23 +10,30 @@ ghost use Rattle.ct_fields.specs.declared.field.FieldName.TheVariants as name;
 ghost use Rattle.ct_fields.specs.declared.fault.FileFault.TheVariants as file;
 ghost use Rattle.ct_ledger.specs.declared.fault.SubmitFault.TheVariants as submit;
 ghost use Rattle.ct_ledger.specs.declared.fault.WithdrawFault.TheVariants as withdraw;
-ghost use Rattle.ct_codes.specs.Entry.{unrestricted};
+ghost use Rattle.ct_codes.specs.Entry.{unrestricted, constant_weight};
+ghost use Rattle.ct_rule_parts.specs.declared.support.Support.TheVariants.{Size};
+ghost use Rattle.ct_ledger.specs.Supports.{supports_of};
 ghost use Rattle.ct_session.specs.Reply.{column};
-ghost use Rattle.ct_session.specs.Run.{IsRun};
+ghost use Rattle.ct_session.specs.Run.{IsRun, pieces_of};
 ghost use Rattle.ct_session.specs.Text.{reply_text};
 ghost use Rattle.ct_session.specs.declared.reply.Reply.TheVariants.{Shown, Table, Refused};
 ghost use Rattle.ct_session.specs.declared.reply.Refusal.TheVariants as refusal;
-ghost use Rattle.ct_laws.specs.Examples.{six_words, close_words, repeated_words, no_words, linear_code, close_choices, heavier_word};
+ghost use Rattle.ct_laws.specs.Examples.{six_words, close_words, repeated_words, no_words, linear_code, close_choices, heavier_word, four_triples};
 
-/// Inputs whose run is known: the empty one, an entry of the table and one outside it, a submission that is cut off, and the lists of
-/// no pieces.
+/// Inputs whose run is known: the empty one, entries of the table and others outside it, with weight and without, a column, columns
+/// that have no entry, a submission that is cut off, and the lists of no pieces.
 pub fn known_runs()
     ensures empty { IsRun [] [] false }
     ensures shown { IsRun (codes "show 5 3\n") (codes "A(5,3) = 4\n") false }
+    ensures shown_weight { IsRun (codes "show 4 4 0\n") (codes "A(4,4,0) = 1\n") false }
+    ensures shown_column { IsRun (codes "table 4 28\n") (codes "A(28,4,28) = 1\n") false }
     ensures no_table { IsRun (codes "table 2\n") (codes "refused entry\n") true }
-    ensures no_weight { IsRun (codes "table 28 14\n") (codes "refused entry\n") true }
+    ensures odd_table { IsRun (codes "table 5 2\n") (codes "refused entry\n") true }
+    ensures heavy_table { IsRun (codes "table 4 29\n") (codes "refused entry\n") true }
     ensures no_number { IsRun (codes "table x\n") (codes "refused command\n") true }
     ensures outside { IsRun (codes "show 28 2\n") (codes "refused entry\n") true }
+    ensures odd { IsRun (codes "show 12 5 6\n") (codes "refused entry\n") true }
+    ensures heavy { IsRun (codes "show 8 4 9\n") (codes "refused entry\n") true }
     ensures cut { IsRun (codes "submit a\nkind = \"words\"") (codes "refused cut\n") true }
     ensures ledger { IsRun (codes "ledger\n") (codes "pieces 0\n") false }
     ensures dump { IsRun (codes "dump\n") (codes "# dump of 0 pieces\n") false }
@@ -43,12 +52,39 @@ pub fn known_submissions()
     ensures weight { IsRun heavier_word (codes "refused weight 2\n") true }
 {}
 
-/// The entries of a column of the table: one of each length, from 1 to `MAX_N`, without weight.
+/// A piece of four words of weight 3 supports the entry of this weight.
+pub fn known_supports()
+    ensures { supports_of (pieces_of four_triples) ≡ Size (constant_weight 6 4 3) 4 ∷ [] }
+{}
+
+/// Entries of some columns of the table: without weight one of each length, from 1 to `MAX_N`; with a weight the lengths begin at it, or at
+/// 1; and columns that have no entry.
 pub fn known_columns()
-    ensures first { slice_get (column 3) 0 ≡ Some (unrestricted 1 3) }
-    ensures second { slice_get (column 28) 1 ≡ Some (unrestricted 2 28) }
-    ensures last { slice_get (column 28) 27 ≡ Some (unrestricted 28 28) }
-    ensures end { slice_get (column 3) 28 ≡ None }
+    ensures first { slice_get (column 3 None) 0 ≡ Some (unrestricted 1 3) }
+    ensures second { slice_get (column 28 None) 1 ≡ Some (unrestricted 2 28) }
+    ensures last { slice_get (column 28 None) 27 ≡ Some (unrestricted 28 28) }
+    ensures end { slice_get (column 3 None) 28 ≡ None }
+    ensures first_of_weight { slice_get (column 28 (Some 14)) 0 ≡ Some (constant_weight 14 28 14) }
+    ensures last_of_weight { slice_get (column 28 (Some 14)) 14 ≡ Some (constant_weight 28 28 14) }
+    ensures end_of_weight { slice_get (column 28 (Some 14)) 15 ≡ None }
+    ensures no_ones { slice_get (column 4 (Some 0)) 0 ≡ Some (constant_weight 1 4 0) }
+    ensures greatest_weight { column 4 (Some 28) ≡ constant_weight 28 4 28 ∷ [] }
+    ensures no_distance { column 2 None ≡ [] }
+    ensures odd { column 5 (Some 2) ≡ [] }
+    ensures heavy { column 4 (Some 29) ≡ [] }
+{}
+
+/// The columns of the table. Each of its distances has a column, whose lengths go from 1 to `MAX_N`; each of its even distances has one
+/// beside each weight, up to `MAX_N`, whose lengths go from the greater of 1 and the weight to `MAX_N`. And there are no others.
+pub fn columns_by_length()
+    ensures without_weight { (d : ℕ) → 3 ≤ d → d ≤ MAX_N
+        → column d None ≡ map (λ n. unrestricted n d) (range_with_len 1 MAX_N) }
+    ensures with_weight { (d w : ℕ) → 3 ≤ d → d ≤ MAX_N → d % 2 ≡ 0 → w ≤ MAX_N
+        → column d (Some w) ≡ map (λ n. constant_weight n d w) (range_with_len (max 1 w) (MAX_N + 1 - max 1 w)) }
+    ensures near { (d : ℕ) (w : Option ℕ) → d < 3 → column d w ≡ [] }
+    ensures far { (d : ℕ) (w : Option ℕ) → MAX_N < d → column d w ≡ [] }
+    ensures odd { (d w : ℕ) → d % 2 ≡ 1 → column d (Some w) ≡ [] }
+    ensures heavy { (d w : ℕ) → MAX_N < w → column d (Some w) ≡ [] }
 {}
 
 /// Texts of replies that are known, those of every refusal among them.

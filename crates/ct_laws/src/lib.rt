@@ -1,9 +1,13 @@
-//! Worked sessions and texts: what the definitions give for inputs whose replies are known; and a law of every input: the dump of the
-//! pieces that it leads to leads back to them. Nothing rests on them; each would notice a definition that is slightly wrong.
+//! Worked sessions and texts: what the definitions give for inputs whose replies are known; which columns the table has; and a law of
+//! every input: the dump of the pieces that it leads to leads back to them. Nothing rests on them; each would notice a definition that is
+//! slightly wrong.
 #![tactic(auto)]
 
 mod dump;
 mod laws;
 
 pub use dump::dumps_lead_back;
-pub use laws::{documents_end_there, known_columns, known_runs, known_submissions, known_texts};
+pub use laws::{
+    columns_by_length, documents_end_there, known_columns, known_runs, known_submissions,
+    known_supports, known_texts,
+};

@@ -2,16 +2,18 @@ use Rattle.std.proofs.Common.{refl, [], ◌∷◌, codes}
 use Rattle.std.specs.Fmt.{digits}
 use Rattle.ct_text.specs.Line.{words_of}
 use Rattle.ct_text.specs.Number.{number_of}
-use Rattle.ct_codes.specs.Entry.{unrestricted}
+use Rattle.ct_codes.specs.Entry.{unrestricted, constant_weight}
+use Rattle.ct_counting.proofs.Binomials.{choose_all}
 use Rattle.ct_commands.specs.Form.{form_of}
 use Rattle.ct_ledger.specs.Dump.{dump_text}
 use Rattle.ct_ledger.specs.Withdrawal.{withdrawn}
 use Rattle.ct_ledger.specs.declared.fault.WithdrawFault.TheVariants as withdraw
+use Rattle.ct_session.specs.Reply.{column}
 use Rattle.ct_session.specs.Text.{reply_text, ledger_text}
-use Rattle.ct_session.specs.declared.reply.Reply.TheVariants.{Shown, Lines, Refused}
+use Rattle.ct_session.specs.declared.reply.Reply.TheVariants.{Shown, Table, Lines, Refused}
 use Rattle.ct_session.specs.declared.reply.Refusal.TheVariants as refusal
 use Rattle.ct_session.specs.declared.reply.Bounds.{Bounds}
-use Rattle.ct_laws.proofs.EqualBounds.{four_at_five}
+use Rattle.ct_laws.proofs.EqualBounds.{four_at_five, one_word_alone}
 use Rattle.ct_laws.proofs.laws.known_runs.Goals as goal
 
 pub returns-clause-shown : goal.returns-clause-shown
@@ -20,17 +22,46 @@ returns-clause-shown c =
     let four : Bounds = record { entry = unrestricted 5 3; lower = 4; upper = 4 } in
     record { replies = Shown four ∷ []; are = (record { bounds = four; of_entry = four_at_five; shown = refl }, tt); texts = refl; mark = refl }
 
+pub returns-clause-shown_weight : goal.returns-clause-shown_weight
+unfolding form_of words_of number_of reply_text digits
+returns-clause-shown_weight c =
+    let one : Bounds = record { entry = constant_weight 4 4 0; lower = 1; upper = 1 } in
+    record { replies = Shown one ∷ []; are = (record { bounds = one; of_entry = one_word_alone 4 4 0 refl refl; shown = refl }, tt); texts = refl; mark = refl }
+
+pub returns-clause-shown_column : goal.returns-clause-shown_column
+unfolding form_of words_of number_of reply_text digits column
+returns-clause-shown_column c =
+    let one : Bounds = record { entry = constant_weight 28 4 28; lower = 1; upper = 1 } in
+    record {
+      replies = Table (one ∷ []) ∷ [];
+      are = (record { bounds = one ∷ []; of_entries = (one_word_alone 28 4 28 refl (choose_all 28), tt); shown = refl }, tt);
+      texts = refl;
+      mark = refl;
+    }
+
 pub returns-clause-outside : goal.returns-clause-outside
 unfolding form_of words_of number_of reply_text digits withdrawn
 returns-clause-outside c = record { replies = Refused refusal.NoEntry ∷ []; are = (refl, tt); texts = refl; mark = refl }
 
-pub returns-clause-no_table : goal.returns-clause-no_table
+pub returns-clause-odd : goal.returns-clause-odd
 unfolding form_of words_of number_of reply_text digits withdrawn
+returns-clause-odd c = record { replies = Refused refusal.NoEntry ∷ []; are = (refl, tt); texts = refl; mark = refl }
+
+pub returns-clause-heavy : goal.returns-clause-heavy
+unfolding form_of words_of number_of reply_text digits withdrawn
+returns-clause-heavy c = record { replies = Refused refusal.NoEntry ∷ []; are = (refl, tt); texts = refl; mark = refl }
+
+pub returns-clause-no_table : goal.returns-clause-no_table
+unfolding form_of words_of number_of reply_text digits withdrawn column
 returns-clause-no_table c = record { replies = Refused refusal.NoEntry ∷ []; are = (refl, tt); texts = refl; mark = refl }
 
-pub returns-clause-no_weight : goal.returns-clause-no_weight
-unfolding form_of words_of number_of reply_text digits withdrawn
-returns-clause-no_weight c = record { replies = Refused refusal.NoEntry ∷ []; are = (refl, tt); texts = refl; mark = refl }
+pub returns-clause-odd_table : goal.returns-clause-odd_table
+unfolding form_of words_of number_of reply_text digits withdrawn column
+returns-clause-odd_table c = record { replies = Refused refusal.NoEntry ∷ []; are = (refl, tt); texts = refl; mark = refl }
+
+pub returns-clause-heavy_table : goal.returns-clause-heavy_table
+unfolding form_of words_of number_of reply_text digits withdrawn column
+returns-clause-heavy_table c = record { replies = Refused refusal.NoEntry ∷ []; are = (refl, tt); texts = refl; mark = refl }
 
 pub returns-clause-no_number : goal.returns-clause-no_number
 unfolding form_of words_of number_of reply_text digits withdrawn
