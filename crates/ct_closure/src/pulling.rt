@@ -1,9 +1,9 @@
 //! The best bound that the rules give at a slot over what stands.
 
-ghost use Rattle.std.specs.Prelude.{◌≡◌, ◌<◌, ◌≤◌, ◌^◌, ℕ, List, true, false, Some, None, IfSome, All, drop};
+ghost use Rattle.std.specs.Prelude.{◌≡◌, ◌<◌, ◌≤◌, ◌^◌, ℕ, List, true, false, if◌then◌else◌, Some, None, IfSome, All, drop};
 ghost use Rattle.ct_words.specs.declared.limits.TheConstants.{MAX_BOUND};
 ghost use Rattle.ct_codes.specs.declared.claim.Side.TheVariants.{Lower, Upper};
-ghost use Rattle.ct_codes.specs.Entry.{IsEntry};
+ghost use Rattle.ct_codes.specs.Entry.{IsEntry, is_entry};
 ghost use Rattle.ct_rule_parts.specs.Parts.{are_entries};
 ghost use Rattle.ct_rule_parts.specs.Slot.{IsNoBetter};
 ghost use Rattle.ct_rule_parts.specs.Support.{AllStand};
@@ -23,7 +23,18 @@ use crate::kept::Kept;
 use crate::places::SupportPlaces;
 use crate::side_by_side::best_side_by_side;
 use ct_codes::{Entry, Side};
-use ct_rules::{Entries, Rule, Support, defined_on, rule_side, rules_alone, value_where_defined};
+use ct_rules::{Entries, Rule, Support, rests_on, rule_side, rules_alone, value_where_defined};
+
+/// The bound that stands on a side of an entry, where it is in the table.
+fn bound_in_table(kept: &Kept, side: Side, entry: Entry) -> Option<u32>
+    ensures { result ≡ (if is_entry entry then Some (bound_of kept.now.bounds (side, entry)) else None) }
+{
+    if entry.in_table() {
+        Some(kept.bound(side, entry))
+    } else {
+        None
+    }
+}
 
 /// The bound that the rule gives at an entry of the table over what stands. It takes no memory.
 pub fn offer(supports: &[Support], kept: &Kept, rule: Rule, entry: Entry) -> Option<u32>
@@ -32,22 +43,24 @@ pub fn offer(supports: &[Support], kept: &Kept, rule: Rule, entry: Entry) -> Opt
     ensures limit { IfSome result (λ v. v ≤ MAX_BOUND) }
 {
     let side = rule_side(rule);
-    let premises = defined_on(supports, rule, entry)?;
-    match premises {
+    match rests_on(supports, rule, entry)? {
         Entries::Zero => value_where_defined(supports, rule, entry, &[]),
         Entries::One(first) => {
-            let bounds = [kept.bound(side, first)];
+            let bounds = [bound_in_table(kept, side, first)?];
             value_where_defined(supports, rule, entry, &bounds)
         }
         Entries::Two(first, second) => {
-            let bounds = [kept.bound(side, first), kept.bound(side, second)];
+            let bounds = [
+                bound_in_table(kept, side, first)?,
+                bound_in_table(kept, side, second)?,
+            ];
             value_where_defined(supports, rule, entry, &bounds)
         }
         Entries::Three(first, second, third) => {
             let bounds = [
-                kept.bound(side, first),
-                kept.bound(side, second),
-                kept.bound(side, third),
+                bound_in_table(kept, side, first)?,
+                bound_in_table(kept, side, second)?,
+                bound_in_table(kept, side, third)?,
             ];
             value_where_defined(supports, rule, entry, &bounds)
         }
