@@ -12,6 +12,7 @@ pub mod TurnLemmas
 pub mod PutLemmas
 pub mod GroundLemmas
 pub mod GroundWithin
+mod LimitLemmas
 pub mod StartLemmas
 pub mod BetterLemmas
 pub mod KeptLemmas

@@ -105,7 +105,8 @@ fn improve(
     })
 }
 
-/// Marks the entry, where it is in the table and the rule gives something better there.
+/// Marks the entry, where it is in the table and the rule gives something better there; it gives nothing better where both
+/// bounds of the entry are one.
 fn test(
     supports: &[Support],
     kept: &Kept,
@@ -114,11 +115,16 @@ fn test(
     entry: Entry,
     evaluations: &mut u64,
 ) -> Result<(), AllocError>
+    requires stand { AllStand supports.now }
+    requires true_bounds { AreTrue (bound_of kept.now.bounds) }
     ensures tested { OnOk result (IsTestedAt supports.now kept.now.bounds work.new rule entry) }
     ensures kept { KeepsMarks work.old work.new }
 {
     let side = rule_side(rule);
     if !entry.in_table() || work.is_marked(side, entry) {
+        return Ok(());
+    }
+    if kept.is_settled(entry) {
         return Ok(());
     }
     *evaluations = evaluations.saturating_add(1);
@@ -142,6 +148,8 @@ fn mark_by_rule(
 ) -> Result<(), AllocError>
     requires entry { IsEntry entry }
     requires alone { is_alone rule ≡ true }
+    requires stand { AllStand supports.now }
+    requires true_bounds { AreTrue (bound_of kept.now.bounds) }
     ensures tested { OnOk result (IsTestedFrom supports.now kept.now.bounds work.new entry rule) }
     ensures kept { KeepsMarks work.old work.new }
 {
@@ -166,6 +174,8 @@ fn mark_by_rules(
 ) -> Result<(), AllocError>
     requires entry { IsEntry entry }
     requires alone { All (λ (r : Rule). is_alone r ≡ true) rules.now }
+    requires stand { AllStand supports.now }
+    requires true_bounds { AreTrue (bound_of kept.now.bounds) }
     ensures tested { OnOk result (All (IsTestedFrom supports.now kept.now.bounds work.new entry) rules.now) }
     ensures kept { KeepsMarks work.old work.new }
 {
@@ -185,7 +195,9 @@ fn mark_by_weight(
     entry: Entry,
     evaluations: &mut u64,
 ) -> Result<(), AllocError>
-    requires { IsEntry entry }
+    requires entry { IsEntry entry }
+    requires stand { AllStand supports.now }
+    requires true_bounds { AreTrue (bound_of kept.now.bounds) }
     ensures tested { OnOk result (AreTestedByWeight supports.now kept.now.bounds work.new (side, entry)) }
     ensures kept { KeepsMarks work.old work.new }
 {
@@ -218,6 +230,7 @@ fn mark_dependents(
     evaluations: &mut u64,
 ) -> Result<(), AllocError>
     requires entry { IsEntry entry }
+    requires stand { AllStand supports.now }
     requires true_bounds { AreTrue (bound_of kept.now.bounds) }
     ensures tested { OnOk result (AreTested supports.now kept.now.bounds work.new (side, entry)) }
     ensures kept { KeepsMarks work.old work.new }

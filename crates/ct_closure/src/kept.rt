@@ -1,6 +1,7 @@
 //! What a table keeps: the lines of a derivation, and for each slot its bound and the line that gives it.
 
-ghost use Rattle.std.specs.Prelude.{◌≡◌, ◌+◌, ◌-◌, ◌<◌, ◌≤◌, ◌*◌, ◌++◌, ◌↔◌, false, [], ℕ, List, All, OnOk, OnErr, IfOk, length, map, replicate, take, drop, slice_get, Some};
+ghost use Rattle.std.specs.Prelude.{◌≡◌, ◌+◌, ◌-◌, ◌<◌, ◌≤◌, ◌*◌, ◌++◌, ◌↔◌, ◌==◌, false, [], ℕ, List, All, OnOk, OnErr, IfOk, length, map, replicate, take, drop, slice_get, Some};
+ghost use Rattle.ct_codes.specs.declared.claim.Side.TheVariants.{Lower, Upper};
 ghost use Rattle.ct_codes.specs.Entry.{IsEntry};
 ghost use Rattle.ct_rule_parts.specs.declared.support.Support.{Support};
 ghost use Rattle.ct_closure.specs.Number.{bound_of, entries_to, side_number, side_size};
@@ -169,6 +170,14 @@ impl Kept {
         ensures { result ≡ bound_of self.now.bounds (side, entry) }
     {
         self.bounds[slot_number(side, entry)]
+    }
+
+    /// Whether both bounds of an entry of the table are one, so that it is the greatest size of its codes.
+    pub fn is_settled(&self, entry: Entry) -> bool
+        requires { IsEntry entry }
+        ensures { result ≡ (bound_of self.now.bounds (Lower, entry) == bound_of self.now.bounds (Upper, entry)) }
+    {
+        self.bound(Side::Lower, entry) == self.bound(Side::Upper, entry)
     }
 
     /// The place of the line that gives the bound of a side of an entry of the table.

@@ -15,7 +15,7 @@ ghost use Rattle.ct_rules.specs.Rule.{rule_side, is_by_weight};
 ghost use Rattle.ct_closure.specs.Kept.{IsKept};
 ghost use Rattle.ct_closure.specs.Number.{bound_of};
 ghost use Rattle.ct_closure.specs.Places.{ArePlaces};
-ghost use Rattle.ct_closure.specs.Inside.Pulling.{value_over, IsGiven, IsWithin};
+ghost use Rattle.ct_closure.specs.Inside.Pulling.{value_over, IsGiven, IsLimit, IsWithin};
 ghost use Rattle.ct_closure.specs.Inside.Pulled.{IsPulled, given_rule};
 
 use crate::best::Best;
@@ -86,22 +86,38 @@ fn ask(
     best.consider(side, rule, offer(supports, kept, rule, entry));
 }
 
-/// Asks each rule of the list.
+/// The bound that stands on the other side of an entry of the table: no rule gives anything better, as both are true.
+fn limit_of(kept: &Kept, side: Side, entry: Entry) -> u32
+    requires { IsEntry entry }
+    ensures { (supports : List Support) → AllStand supports → IsKept supports kept.now → IsLimit supports (bound_of kept.now.bounds) (side, entry) result }
+{
+    match side {
+        Side::Lower => kept.bound(Side::Upper, entry),
+        Side::Upper => kept.bound(Side::Lower, entry),
+    }
+}
+
+/// Asks each rule of the list, up to the limit of what a rule can give.
 fn ask_each(
     supports: &[Support],
     kept: &Kept,
     rules: &[Rule],
     side: Side,
     entry: Entry,
+    limit: u32,
     best: &mut Best,
     evaluations: &mut u64,
 )
     requires entry { IsEntry entry }
     requires sides { All (λ (r : Rule). rule_side r ≡ side) rules.now }
+    requires limit { IsLimit supports.now (bound_of kept.now.bounds) (side, entry) limit }
     ensures pulled { IsPulled supports.now (bound_of kept.now.bounds) (side, entry) best.old best.new }
     ensures within { All (IsWithin supports.now (bound_of kept.now.bounds) (side, entry) best.new.value) rules.now }
 {
     for rule in rules {
+        if best.value == limit {
+            return;
+        }
         ask(supports, kept, *rule, side, entry, best, evaluations);
     }
 }
@@ -119,17 +135,28 @@ fn ask_alone(
     kept: &Kept,
     side: Side,
     entry: Entry,
+    limit: u32,
     best: &mut Best,
     evaluations: &mut u64,
 )
     requires entry { IsEntry entry }
     requires kept { IsKept supports.now kept.now }
     requires standing { IsNoBetter side (bound_of kept.now.bounds (side, entry)) best.old.value }
+    requires limit { IsLimit supports.now (bound_of kept.now.bounds) (side, entry) limit }
     ensures pulled { IsPulled supports.now (bound_of kept.now.bounds) (side, entry) best.old best.new }
     ensures within { All (IsWithin supports.now (bound_of kept.now.bounds) (side, entry) best.new.value) (rules_alone (side, entry)) }
 {
     let others = others_alone(side, entry);
-    ask_each(supports, kept, others, side, entry, best, evaluations);
+    ask_each(
+        supports,
+        kept,
+        others,
+        side,
+        entry,
+        limit,
+        best,
+        evaluations,
+    );
 }
 
 /// Asks for what a code of each weight gives at an entry without weight, from below.
@@ -193,23 +220,28 @@ fn ask_by_weight(
     }
 }
 
-/// Asks each rule of the slot that names no support, but for words side by side.
+/// Asks each rule of the slot that names no support, but for words side by side, up to the limit of what a rule can give.
 fn ask_unsupported(
     supports: &[Support],
     kept: &Kept,
     side: Side,
     entry: Entry,
+    limit: u32,
     best: &mut Best,
     evaluations: &mut u64,
 )
     requires entry { IsEntry entry }
     requires kept { IsKept supports.now kept.now }
     requires standing { IsNoBetter side (bound_of kept.now.bounds (side, entry)) best.old.value }
+    requires limit { IsLimit supports.now (bound_of kept.now.bounds) (side, entry) limit }
     ensures pulled { IsPulled supports.now (bound_of kept.now.bounds) (side, entry) best.old best.new }
     ensures alone { All (IsWithin supports.now (bound_of kept.now.bounds) (side, entry) best.new.value) (rules_alone (side, entry)) }
     ensures by_weight { (r : Rule) → is_by_weight r ≡ true → rule_side r ≡ side → IsWithin supports.now (bound_of kept.now.bounds) (side, entry) best.new.value r }
 {
-    ask_alone(supports, kept, side, entry, best, evaluations);
+    ask_alone(supports, kept, side, entry, limit, best, evaluations);
+    if best.value == limit {
+        return;
+    }
     ask_by_weight(supports, kept, side, entry, best, evaluations);
 }
 
@@ -287,7 +319,11 @@ pub(crate) fn pull(
     ensures within { (r : Rule) → rule_side r ≡ side → IsWithin supports.now (bound_of kept.now.bounds) (side, entry) result.value r }
 {
     let mut best = Best::standing(kept, side, entry);
-    ask_unsupported(supports, kept, side, entry, &mut best, evaluations);
+    let limit = limit_of(kept, side, entry);
+    if best.value == limit {
+        return best;
+    }
+    ask_unsupported(supports, kept, side, entry, limit, &mut best, evaluations);
     match side {
         Side::Upper => best,
         Side::Lower => {

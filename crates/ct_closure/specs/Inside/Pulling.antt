@@ -33,6 +33,10 @@ IsGiven supports bounds s v (Some r) = (rule_side r ≡ s.0) × (value_over supp
 abbrev pub IsWithin : List Support → (Slot → ℕ) → Slot → ℕ → Rule → Type 0
 IsWithin supports bounds s best r = (v : ℕ) → value_over supports bounds r s.1 ≡ Some v → IsNoBetter s.0 v best
 
+-- no rule of its side gives anything better than it
+abbrev pub IsLimit : List Support → (Slot → ℕ) → Slot → ℕ → Type 0
+IsLimit supports bounds s limit = (r : Rule) → rule_side r ≡ s.0 → IsWithin supports bounds s limit r
+
 -- by how much all bounds can still improve: from below up to MAX_BOUND, from above down to 0
 abbrev pub slack : List ℕ → ℕ
 slack bounds = sum_by (λ v. MAX_BOUND - v) (take side_size bounds) + sum_by (λ v. v) (drop side_size bounds)

@@ -3,6 +3,7 @@ use Rattle.std.proofs.lemmas.List.Elements.{All-more}
 use Rattle.ct_rule_parts.specs.Slot.{Slot}
 use Rattle.ct_closure.specs.Number.{bound_of}
 use Rattle.ct_closure.specs.Inside.Pulling.{IsWithin}
+use Rattle.ct_closure.proofs.LimitLemmas.{all_at_limit}
 use Rattle.ct_closure.proofs.PulledLemmas.{IsPulled-trans, all_within_better}
 use Rattle.ct_closure.proofs.pulling.ask_each.Goals as goal
 
@@ -26,3 +27,8 @@ returns-clause-within c =
     let s : Slot = (c.args.side, c.args.entry) in
     subst (All (IsWithin c.args.supports.now f s c.loop-rule.best.value))
     (take_all c.loop-rule.rule-index c.args.rules.now (omega (arith, c.loop-rule-test.false))) c.loop-rule.invariant.1
+
+pub returns-then-best-limit-clause-within : goal.returns-then-best-limit-clause-within
+returns-then-best-limit-clause-within c =
+    all_at_limit c.args.supports.now (bound_of c.args.kept.now.bounds) (c.args.side, c.args.entry) c.loop-rule.best.value c.args.limit
+    c.args.rules.now c.if-best-limit.true c.requires.limit c.requires.sides

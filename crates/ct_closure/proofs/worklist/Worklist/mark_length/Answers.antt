@@ -1,6 +1,6 @@
-use Rattle.std.proofs.Common.{◌+◌, ◌-◌, ◌*◌, ◌<◌, subst, arith}
+use Rattle.std.proofs.Common.{◌+◌, ◌-◌, ◌<◌, subst, arith}
 use Rattle.ct_codes.specs.declared.entry.Entry.{Entry}
-use Rattle.ct_closure.specs.Number.{side_number, side_size, entries_to, count_in_length}
+use Rattle.ct_closure.specs.Number.{entries_to, count_in_length}
 use Rattle.ct_closure.specs.Worklist.{IsMarked}
 use Rattle.ct_closure.proofs.MarkedLemmas.{AreMarkedBelow-more, AreMarkedBelow-same}
 use Rattle.ct_closure.proofs.NumberLemmas.{entries_to-length}
@@ -19,6 +19,5 @@ loop-place-preserved c = record {
 pub returns-clause-marked : goal.returns-clause-marked
 returns-clause-marked c =
     let next = entries_to-length c.args.n c.requires.from in
-    AreMarkedBelow-same c.loop-place.self
-    (side_number c.args.side * side_size + entries_to (c.args.n - 1) + c.loop-place.place)
-    (side_number c.args.side * side_size + entries_to c.args.n) (omega arith) c.loop-place.invariant.marked
+    AreMarkedBelow-same c.args.side c.loop-place.self (entries_to (c.args.n - 1) + c.loop-place.place) (entries_to c.args.n) (omega arith)
+    c.loop-place.invariant.marked

@@ -1,13 +1,13 @@
-use Rattle.std.proofs.Common.{◌+◌, ◌-◌, ◌*◌}
+use Rattle.std.proofs.Common.{◌+◌, ◌-◌}
 use Rattle.ct_rule_parts.specs.Slot.{Slot}
-use Rattle.ct_closure.specs.Number.{side_size, side_number, entries_to}
+use Rattle.ct_closure.specs.Number.{entries_to}
 use Rattle.ct_closure.specs.Worklist.{IsMarked}
 use Rattle.ct_closure.specs.Inside.Marked.{AreMarkedBelow}
 use Rattle.ct_closure.proofs.worklist.Worklist.mark_length.Given as goal
 
--- the slots with smaller numbers are marked
+-- the entries with smaller numbers are marked
 abbrev pub invariant-loop-place : goal.invariant-loop-place
 invariant-loop-place l = record {
-  marked : AreMarkedBelow (side_number l.side * side_size + entries_to (l.n - 1) + l.place) l.self;
+  marked : AreMarkedBelow l.side (entries_to (l.n - 1) + l.place) l.self;
   kept : (t : Slot) → IsMarked l.initial.self t → IsMarked l.self t;
 }

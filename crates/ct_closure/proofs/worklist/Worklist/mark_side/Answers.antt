@@ -1,14 +1,14 @@
-use Rattle.std.proofs.Common.{◌≡◌, ◌+◌, ◌-◌, ◌*◌, ap, arith}
+use Rattle.std.proofs.Common.{◌≡◌, ◌+◌, ◌-◌, ap, arith}
 use Rattle.ct_words.specs.declared.limits.TheConstants.{MAX_N}
-use Rattle.ct_closure.specs.Number.{side_number, side_size, entries_to}
-use Rattle.ct_closure.proofs.MarkedLemmas.{AreMarkedBelow-same}
+use Rattle.ct_closure.specs.Number.{entries_to}
+use Rattle.ct_closure.proofs.MarkedLemmas.{AreMarkedBelow-none, AreMarkedBelow-same}
+use Rattle.ct_closure.proofs.NumberLemmas.{entry_number-bound}
 use Rattle.ct_closure.proofs.worklist.Worklist.mark_side.Goals as goal
 
 pub loop-n-init : goal.loop-n-init
 loop-n-init c = record {
   from = omega arith;
-  marked = AreMarkedBelow-same c.args.self.now (side_number c.args.side * side_size) (side_number c.args.side * side_size + entries_to (1 - 1))
-      (omega arith) c.requires.before;
+  marked = AreMarkedBelow-none c.args.side c.args.self.now;
   kept = λ t marked. marked;
 }
 
@@ -19,8 +19,8 @@ loop-n-preserved c =
     let numbers = ap entries_to same in
     record {
       from = omega arith;
-      marked = AreMarkedBelow-same c.mark_length.new.self (side_number c.args.side * side_size + entries_to n)
-          (side_number c.args.side * side_size + entries_to (n + 1 - 1)) (omega arith) c.in_ok-mark_length.ensures.marked;
+      marked = AreMarkedBelow-same c.args.side c.mark_length.new.self (entries_to n) (entries_to (n + 1 - 1)) (omega arith)
+          c.in_ok-mark_length.ensures.marked;
       kept = λ t marked. c.mark_length.ensures.kept t (c.loop-n.invariant.kept t marked);
     }
 
@@ -28,5 +28,6 @@ pub returns-clause-marked : goal.returns-clause-marked
 returns-clause-marked c =
     let last : c.loop-n.n - 1 ≡ MAX_N = omega arith in
     let numbers = ap entries_to last in
-    AreMarkedBelow-same c.loop-n.self (side_number c.args.side * side_size + entries_to (c.loop-n.n - 1))
-    (side_number c.args.side * side_size + side_size) (omega arith) c.loop-n.invariant.marked
+    λ e entry.
+    let below = entry_number-bound e entry in
+    c.loop-n.invariant.marked e entry (omega arith)

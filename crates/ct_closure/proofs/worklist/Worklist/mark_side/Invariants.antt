@@ -1,14 +1,14 @@
-use Rattle.std.proofs.Common.{◌+◌, ◌-◌, ◌*◌, ◌≤◌}
+use Rattle.std.proofs.Common.{◌-◌, ◌≤◌}
 use Rattle.ct_rule_parts.specs.Slot.{Slot}
-use Rattle.ct_closure.specs.Number.{side_size, side_number, entries_to}
+use Rattle.ct_closure.specs.Number.{entries_to}
 use Rattle.ct_closure.specs.Worklist.{IsMarked}
 use Rattle.ct_closure.specs.Inside.Marked.{AreMarkedBelow}
 use Rattle.ct_closure.proofs.worklist.Worklist.mark_side.Given as goal
 
--- the slots of the side with smaller lengths are marked
+-- the entries of smaller lengths are marked
 abbrev pub invariant-loop-n : goal.invariant-loop-n
 invariant-loop-n l = record {
   from : 1 ≤ l.n;
-  marked : AreMarkedBelow (side_number l.side * side_size + entries_to (l.n - 1)) l.self;
+  marked : AreMarkedBelow l.side (entries_to (l.n - 1)) l.self;
   kept : (t : Slot) → IsMarked l.initial.self t → IsMarked l.self t;
 }
