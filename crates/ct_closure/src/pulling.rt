@@ -2,13 +2,13 @@
 
 ghost use Rattle.std.specs.Prelude.{◌≡◌, ◌<◌, ◌≤◌, ◌^◌, ℕ, List, true, false, if◌then◌else◌, Some, None, IfSome, All, drop};
 ghost use Rattle.ct_words.specs.declared.limits.TheConstants.{MAX_BOUND};
-ghost use Rattle.ct_codes.specs.declared.claim.Side.TheVariants.{Lower, Upper};
+ghost use Rattle.ct_codes.specs.declared.claim.Side.TheVariants.{Lower};
 ghost use Rattle.ct_codes.specs.Entry.{IsEntry, is_entry};
 ghost use Rattle.ct_rule_parts.specs.Parts.{are_entries};
 ghost use Rattle.ct_rule_parts.specs.Slot.{IsNoBetter};
 ghost use Rattle.ct_rule_parts.specs.Support.{AllStand};
 ghost use Rattle.ct_rules.specs.declared.rule.Rule.{Rule};
-ghost use Rattle.ct_rules.specs.declared.rule.Rule.TheVariants.{L9, L11, U10};
+ghost use Rattle.ct_rules.specs.declared.rule.Rule.TheVariants.{L11};
 ghost use Rattle.ct_rules.specs.Closed.{AreTrue};
 ghost use Rattle.ct_rules.specs.Listing.{rules_alone};
 ghost use Rattle.ct_rules.specs.Rule.{rule_side, is_by_weight};
@@ -16,7 +16,7 @@ ghost use Rattle.ct_closure.specs.Kept.{IsKept};
 ghost use Rattle.ct_closure.specs.Number.{bound_of};
 ghost use Rattle.ct_closure.specs.Places.{ArePlaces};
 ghost use Rattle.ct_closure.specs.Inside.Pulling.{value_over, IsGiven, IsLimit, IsWithin};
-ghost use Rattle.ct_closure.specs.Inside.Pulled.{IsPulled, given_rule};
+ghost use Rattle.ct_closure.specs.Inside.Pulled.{IsPulled, given_rule, rule_of_weight};
 
 use crate::best::Best;
 use crate::kept::Kept;
@@ -159,39 +159,33 @@ fn ask_alone(
     );
 }
 
-/// Asks for what a code of each weight gives at an entry without weight, from below.
-fn ask_weights_below(
-    supports: &[Support],
-    kept: &Kept,
-    entry: Entry,
-    best: &mut Best,
-    evaluations: &mut u64,
-)
-    requires { IsEntry entry }
-    ensures pulled { IsPulled supports.now (bound_of kept.now.bounds) (Lower, entry) best.old best.new }
-    ensures within { (w : ℕ) → w ≤ entry.n → IsWithin supports.now (bound_of kept.now.bounds) (Lower, entry) best.new.value (L9 w) }
+/// The rule by which a bound of a weight leads to one without weight.
+fn rule_of_weight(side: Side, w: u32) -> Rule
+    ensures rule { result ≡ rule_of_weight side w }
+    ensures side { rule_side result ≡ side }
 {
-    for w in 0..entry.n + 1 {
-        let rule = Rule::L9(w);
-        ask(supports, kept, rule, Side::Lower, entry, best, evaluations);
+    match side {
+        Side::Lower => Rule::L9(w),
+        Side::Upper => Rule::U10(w),
     }
 }
 
-/// Asks for what a bound of each weight gives at an entry without weight, from above.
-fn ask_weights_above(
+/// Asks for what the bound of each weight gives at an entry without weight.
+fn ask_weights(
     supports: &[Support],
     kept: &Kept,
+    side: Side,
     entry: Entry,
     best: &mut Best,
     evaluations: &mut u64,
 )
     requires { IsEntry entry }
-    ensures pulled { IsPulled supports.now (bound_of kept.now.bounds) (Upper, entry) best.old best.new }
-    ensures within { (w : ℕ) → w ≤ entry.n → IsWithin supports.now (bound_of kept.now.bounds) (Upper, entry) best.new.value (U10 w) }
+    ensures pulled { IsPulled supports.now (bound_of kept.now.bounds) (side, entry) best.old best.new }
+    ensures within { (w : ℕ) → w ≤ entry.n → IsWithin supports.now (bound_of kept.now.bounds) (side, entry) best.new.value (rule_of_weight side w) }
 {
     for w in 0..entry.n + 1 {
-        let rule = Rule::U10(w);
-        ask(supports, kept, rule, Side::Upper, entry, best, evaluations);
+        let rule = rule_of_weight(side, w);
+        ask(supports, kept, rule, side, entry, best, evaluations);
     }
 }
 
@@ -211,12 +205,10 @@ fn ask_by_weight(
     if let Some(_) = entry.w {
         return;
     }
+    ask_weights(supports, kept, side, entry, best, evaluations);
     match side {
-        Side::Lower => ask_weights_below(supports, kept, entry, best, evaluations),
-        Side::Upper => {
-            ask(supports, kept, Rule::U9, side, entry, best, evaluations);
-            ask_weights_above(supports, kept, entry, best, evaluations)
-        }
+        Side::Lower => {}
+        Side::Upper => ask(supports, kept, Rule::U9, side, entry, best, evaluations),
     }
 }
 

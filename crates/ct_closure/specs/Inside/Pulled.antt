@@ -1,11 +1,13 @@
 -- How the best bound of a slot changes while rules are asked.
 use Rattle.std.specs.Prelude.{ℕ, if◌then◌else◌, List}
+use Rattle.ct_codes.specs.declared.claim.Side.{Side}
+use Rattle.ct_codes.specs.declared.claim.Side.TheVariants.{Lower, Upper}
 use Rattle.ct_codes.specs.declared.entry.Entry.{Entry}
 use Rattle.ct_rule_parts.specs.declared.support.Support.{Support}
 use Rattle.ct_rule_parts.specs.Parts.{has_weight}
 use Rattle.ct_rule_parts.specs.Slot.{Slot, IsNoBetter}
 use Rattle.ct_rules.specs.declared.rule.Rule.{Rule}
-use Rattle.ct_rules.specs.declared.rule.Rule.TheVariants.{L10, M10}
+use Rattle.ct_rules.specs.declared.rule.Rule.TheVariants.{L9, L10, M10, U10}
 use Rattle.ct_closure.specs.declared.best.Best.{Best}
 use Rattle.ct_closure.specs.Inside.Pulling.{IsGiven}
 
@@ -17,3 +19,8 @@ pub record IsPulled (supports : List Support) (bounds : Slot → ℕ) (s : Slot)
 -- the rule by which the support at a place gives to an entry
 abbrev pub given_rule : Entry → ℕ → Rule
 given_rule e place = if has_weight e then M10 place else L10 place
+
+-- the rule by which a bound of a weight leads to one without weight
+abbrev pub rule_of_weight : Side → ℕ → Rule
+rule_of_weight Lower w = L9 w
+rule_of_weight Upper w = U10 w

@@ -1,10 +1,12 @@
-use Rattle.std.proofs.Common.{◌≡◌, sym, subst}
+use Rattle.std.proofs.Common.{◌≡◌, ℕ, ◌≤◌, sym, subst}
 use Rattle.ct_codes.specs.declared.claim.Side.{Side}
 use Rattle.ct_codes.specs.declared.claim.Side.TheVariants.{Lower, Upper}
-use Rattle.ct_rules.specs.declared.rule.Rule.TheVariants.{U9}
+use Rattle.ct_rule_parts.specs.Slot.{IsNoBetter}
+use Rattle.ct_rules.specs.declared.rule.Rule.TheVariants.{U9, U10}
 use Rattle.ct_rules.specs.Rule.{row_of}
 use Rattle.ct_closure.specs.Number.{bound_of}
 use Rattle.ct_closure.specs.Inside.Pulling.{IsWithin}
+use Rattle.ct_closure.specs.Inside.Pulled.{rule_of_weight}
 use Rattle.ct_closure.proofs.ByWeightLemmas.{by_weight_none, by_weight_below, by_weight_above, by_weight_on}
 use Rattle.ct_closure.proofs.PulledLemmas.{within_better}
 use Rattle.ct_closure.proofs.pulling.ask_by_weight.Goals as goal
@@ -19,18 +21,26 @@ returns-in-Some-clause-within c = λ r by same.
 
 pub returns-in-Lower-clause-within : goal.returns-in-Lower-clause-within
 returns-in-Lower-clause-within c =
+    let supports = c.args.supports.now in
     let f = bound_of c.args.kept.now.bounds in
-    by_weight_on c.args.supports.now f c.args.side Lower c.args.entry c.ask_weights_below.new.best.value c.in-Lower.is
-    (by_weight_below c.args.supports.now f c.args.entry c.ask_weights_below.new.best.value c.ask_weights_below.ensures.within)
+    let e = c.args.entry in
+    let best = c.ask_weights.new.best.value in
+    by_weight_on supports f c.args.side Lower e best c.in-Lower.is
+    (by_weight_below supports f e best
+    (subst (λ (s : Side). (w : ℕ) → w ≤ e.n → IsWithin supports f (s, e) best (rule_of_weight s w)) c.in-Lower.is c.ask_weights.ensures.within))
 
 pub returns-in-Upper-clause-within : goal.returns-in-Upper-clause-within
 returns-in-Upper-clause-within c =
     let supports = c.args.supports.now in
     let f = bound_of c.args.kept.now.bounds in
-    let best = c.ask_weights_above.new.best.value in
-    let own : IsWithin supports f (Upper, c.args.entry) c.ask.new.best.value U9 =
-    subst (λ (s : Side). IsWithin supports f (s, c.args.entry) c.ask.new.best.value U9) c.in-Upper.is c.ask.ensures.within in
-    by_weight_on supports f c.args.side Upper c.args.entry best c.in-Upper.is
-    (by_weight_above supports f c.args.entry best
-    (within_better supports f (Upper, c.args.entry) c.ask.new.best.value best U9 c.ask_weights_above.ensures.pulled.no_worse own)
-    c.ask_weights_above.ensures.within)
+    let e = c.args.entry in
+    let first = c.ask_weights.new.best.value in
+    let best = c.ask.new.best.value in
+    let weights : (w : ℕ) → w ≤ e.n → IsWithin supports f (Upper, e) first (U10 w) =
+    subst (λ (s : Side). (w : ℕ) → w ≤ e.n → IsWithin supports f (s, e) first (rule_of_weight s w)) c.in-Upper.is c.ask_weights.ensures.within in
+    let worse : best ≤ first =
+    subst (λ (s : Side). IsNoBetter s first best) c.in-Upper.is c.ask.ensures.pulled.no_worse in
+    by_weight_on supports f c.args.side Upper e best c.in-Upper.is
+    (by_weight_above supports f e best
+    (subst (λ (s : Side). IsWithin supports f (s, e) best U9) c.in-Upper.is c.ask.ensures.within)
+    (λ w within. within_better supports f (Upper, e) first best (U10 w) worse (weights w within)))
