@@ -1,6 +1,6 @@
 //! Sessions whose output is known, and texts of replies.
 
-ghost use Rattle.std.specs.Prelude.{◌≡◌, ◌⊎◌, ◌↔◌, ◌∷◌, ℕ, ◌+◌, ◌-◌, ◌%◌, ◌<◌, ◌≤◌, max, List, [], map, slice_get, Option, Some, None, IsTrue, false, true, codes};
+ghost use Rattle.std.specs.Prelude.{◌≡◌, ◌⊎◌, ◌↔◌, ◌∷◌, ℕ, ◌+◌, ◌-◌, ◌/◌, ◌%◌, ◌<◌, ◌≤◌, max, List, [], map, slice_get, Option, Some, None, IsTrue, false, true, codes};
 ghost use Rattle.std.specs.List.{range_with_len};
 ghost use Rattle.ct_words.specs.declared.limits.TheConstants.{MAX_N};
 ghost use Rattle.ct_text.specs.Gathering.{is_end};
@@ -61,17 +61,17 @@ pub fn known_supports()
 /// 1; and columns that have no entry.
 pub fn known_columns()
     ensures first { slice_get (column 3 None) 0 ≡ Some (unrestricted 1 3) }
-    ensures second { slice_get (column 28 None) 1 ≡ Some (unrestricted 2 28) }
-    ensures last { slice_get (column 28 None) 27 ≡ Some (unrestricted 28 28) }
-    ensures end { slice_get (column 3 None) 28 ≡ None }
-    ensures first_of_weight { slice_get (column 28 (Some 14)) 0 ≡ Some (constant_weight 14 28 14) }
-    ensures last_of_weight { slice_get (column 28 (Some 14)) 14 ≡ Some (constant_weight 28 28 14) }
-    ensures end_of_weight { slice_get (column 28 (Some 14)) 15 ≡ None }
+    ensures second { slice_get (column MAX_N None) 1 ≡ Some (unrestricted 2 MAX_N) }
+    ensures last { slice_get (column MAX_N None) (MAX_N - 1) ≡ Some (unrestricted MAX_N MAX_N) }
+    ensures end { slice_get (column 3 None) MAX_N ≡ None }
+    ensures first_of_weight { slice_get (column MAX_N (Some (MAX_N / 2))) 0 ≡ Some (constant_weight (MAX_N / 2) MAX_N (MAX_N / 2)) }
+    ensures last_of_weight { slice_get (column MAX_N (Some (MAX_N / 2))) (MAX_N / 2) ≡ Some (constant_weight MAX_N MAX_N (MAX_N / 2)) }
+    ensures end_of_weight { slice_get (column MAX_N (Some (MAX_N / 2))) (MAX_N / 2 + 1) ≡ None }
     ensures no_ones { slice_get (column 4 (Some 0)) 0 ≡ Some (constant_weight 1 4 0) }
-    ensures greatest_weight { column 4 (Some 28) ≡ constant_weight 28 4 28 ∷ [] }
+    ensures greatest_weight { column 4 (Some MAX_N) ≡ constant_weight MAX_N 4 MAX_N ∷ [] }
     ensures no_distance { column 2 None ≡ [] }
     ensures odd { column 5 (Some 2) ≡ [] }
-    ensures heavy { column 4 (Some 29) ≡ [] }
+    ensures heavy { column 4 (Some (MAX_N + 1)) ≡ [] }
 {}
 
 /// The columns of the table. Each of its distances has a column, whose lengths go from 1 to `MAX_N`; each of its even distances has one
