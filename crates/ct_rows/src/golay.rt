@@ -19,6 +19,17 @@ basis = [
 representatives = [\"000000000000000000000000\"]
 ";
 
+/// The words of weight 8 of the Golay code, the octads (Witt 1938).
+pub const OCTADS: &str = "\
+kind = \"build\"
+n = 24
+d = 8
+w = 8
+op = \"select\"
+by = \"000000000000000000000000\"
+part = \"golay\"
+";
+
 /// The Golay code without its last place: length 23 and distance 7 (MacWilliams and Sloane, chapter 2).
 const PUNCTURED: &str = "\
 kind = \"cosets\"

@@ -1,20 +1,24 @@
 //! A slow and plain program for the tables of bounds, beside which the program is held.
 
+use crate::plain_counts::{ball, power};
+use crate::plain_weights::Weights;
 use std::alloc::{AllocError, Global};
 
-/// A code's length, its distance, and how many words it has.
-pub type Size = (u32, u32, u32);
+/// A code's length, its distance, its weight where it has one, and how many words it has.
+pub type Size = (u32, u32, Option<u32>, u32);
 
 /// Both sides of a table.
 #[derive(Debug, Drop)]
 pub struct Bounds {
-    /// The lower bounds.
+    /// The lower bounds of A(n,d).
     pub lower: Side,
-    /// The upper bounds.
+    /// The upper bounds of A(n,d).
     pub upper: Side,
+    /// Both sides of A(n,d,w).
+    pub weights: Weights,
 }
 
-/// One side of a table: a bound for each length and each distance up to 29. The plain program asks for bounds outside the
+/// One side of the table of A(n,d): a bound for each length and each distance up to 29. The plain program asks for bounds outside the
 /// table too; those there give nothing.
 #[derive(Debug, Drop)]
 pub struct Side {
@@ -47,11 +51,6 @@ impl Side {
         }
         is_new
     }
-}
-
-/// 2^k, for k below 64.
-fn power(k: u32) -> u64 {
-    1u64.wrapping_shl(k)
 }
 
 /// The better of what stands and what L1 to L7 give.
@@ -97,17 +96,6 @@ fn lower_side_by_side(lower: &Side, n: u32, d: u32) -> u64 {
     best
 }
 
-/// How many words lie within distance e of a word of length n.
-fn ball(n: u32, e: u32) -> u64 {
-    let mut words = 1u64;
-    let mut sum = 1u64;
-    for k in 0..e {
-        words = words.saturating_mul(u64::from(n.saturating_sub(k))) / (u64::from(k) + 1);
-        sum = sum.saturating_add(words);
-    }
-    sum
-}
-
 /// Plotkin's bound for an even distance, where there is one.
 fn plotkin(n: u32, d: u32) -> Option<u64> {
     let (n, d) = (u64::from(n), u64::from(d));
@@ -151,16 +139,19 @@ fn upper_by_neighbours(upper: &Side, n: u32, d: u32) -> u64 {
 }
 
 /// Tries each rule at each entry once; says whether a bound is better than before.
-fn improve(lower: &mut Side, upper: &mut Side) -> bool {
-    let mut is_better = false;
+fn improve(bounds: &mut Bounds) -> bool {
+    let mut is_better = bounds.weights.improve();
     for n in 1..29u32 {
         for d in 3..29u32 {
-            let bound = lower_by_neighbours(lower, n, d)
-                .max(lower_by_halves(lower, n, d))
-                .max(lower_side_by_side(lower, n, d));
-            is_better |= lower.put(n, d, bound);
-            let bound = upper_by_itself(n, d).min(upper_by_neighbours(upper, n, d));
-            is_better |= upper.put(n, d, bound);
+            let bound = lower_by_neighbours(&bounds.lower, n, d)
+                .max(lower_by_halves(&bounds.lower, n, d))
+                .max(lower_side_by_side(&bounds.lower, n, d))
+                .max(bounds.weights.lower_without_weight(n, d));
+            is_better |= bounds.lower.put(n, d, bound);
+            let bound = upper_by_itself(n, d)
+                .min(upper_by_neighbours(&bounds.upper, n, d))
+                .min(bounds.weights.upper_without_weight(n, d));
+            is_better |= bounds.upper.put(n, d, bound);
         }
     }
     is_better
@@ -169,25 +160,50 @@ fn improve(lower: &mut Side, upper: &mut Side) -> bool {
 /// The bounds that the rules give from codes of these sizes, tried at each entry until nothing is better. A hundred rounds are
 /// more than it takes.
 pub fn plain_bounds(alloc: Global, codes: &[Size]) -> Result<Bounds, AllocError> {
-    let mut lower = Side::all(alloc, 0)?;
-    let mut upper = Side::all(alloc, u64::MAX)?;
-    for (n, d, size) in codes {
-        lower.put(*n, *d, u64::from(*size));
+    let mut bounds = Bounds {
+        lower: Side::all(alloc, 0)?,
+        upper: Side::all(alloc, u64::MAX)?,
+        weights: Weights::start(alloc)?,
+    };
+    for (n, d, w, size) in codes {
+        let size = u64::from(*size);
+        match w {
+            Some(w) => bounds.weights.lower.put(*n, *d, *w, size),
+            None => bounds.lower.put(*n, *d, size),
+        };
     }
     for _ in 0..100u32 {
-        if !improve(&mut lower, &mut upper) {
+        if !improve(&mut bounds) {
             break;
         }
     }
-    Ok(Bounds { lower, upper })
+    Ok(bounds)
 }
 
-/// The line of an entry's bounds.
-pub fn line_of(alloc: Global, bounds: &Bounds, n: u32, d: u32) -> Result<String, AllocError> {
-    let (lower, upper) = (bounds.lower.at(n, d), bounds.upper.at(n, d));
+/// The line of an entry and its bounds.
+fn line(alloc: Global, entry: &str, lower: u64, upper: u64) -> Result<String, AllocError> {
     if lower == upper {
-        format!(in alloc; "A({n},{d}) = {lower}\n")
+        format!(in alloc; "{entry} = {lower}\n")
     } else {
-        format!(in alloc; "{lower} <= A({n},{d}) <= {upper}\n")
+        format!(in alloc; "{lower} <= {entry} <= {upper}\n")
     }
+}
+
+/// The line of the bounds of A(n,d).
+pub fn line_of(alloc: Global, bounds: &Bounds, n: u32, d: u32) -> Result<String, AllocError> {
+    let entry = format!(in alloc; "A({n},{d})")?;
+    line(alloc, &entry, bounds.lower.at(n, d), bounds.upper.at(n, d))
+}
+
+/// The line of the bounds of A(n,d,w).
+pub fn line_of_weight(
+    alloc: Global,
+    bounds: &Bounds,
+    n: u32,
+    d: u32,
+    w: u32,
+) -> Result<String, AllocError> {
+    let Weights { lower, upper } = &bounds.weights;
+    let entry = format!(in alloc; "A({n},{d},{w})")?;
+    line(alloc, &entry, lower.at(n, d, w), upper.at(n, d, w))
 }
