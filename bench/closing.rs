@@ -26,6 +26,10 @@ fn plain(n: u32, d: u32) -> Entry {
     Entry { n, d, w: None }
 }
 
+fn weighted(n: u32, d: u32, w: u32) -> Entry {
+    Entry { n, d, w: Some(w) }
+}
+
 impl Entry {
     fn in_table(self) -> bool {
         let fits = self.w.is_none_or(|w| self.d % 2 == 0 && w <= self.n);
@@ -51,8 +55,15 @@ enum Rule {
     L6,
     L7,
     L8,
+    L9(u32),
     L11(u32, u32),
+    M2,
+    M3,
+    M4,
+    M5,
+    M6,
     M7,
+    M8,
     U1,
     U2,
     U3,
@@ -61,7 +72,16 @@ enum Rule {
     U6,
     U7,
     U8,
+    U9,
+    U10(u32),
+    V1,
+    V2,
     V3,
+    V4,
+    V5,
+    V6,
+    V7,
+    V8,
     Support(u32),
 }
 
@@ -69,6 +89,18 @@ use Rule::*;
 
 const LOWER: [Rule; 7] = [L2, L3, L4, L5, L6, L7, L8];
 const UPPER: [Rule; 8] = [U1, U2, U3, U4, U5, U6, U7, U8];
+const LOWER_BY_WEIGHT: [Rule; 7] = [M2, M3, M4, M5, M6, M7, M8];
+const UPPER_BY_WEIGHT: [Rule; 8] = [V1, V2, V3, V4, V5, V6, V7, V8];
+
+/// The rules of a slot that have no numbers, but the first.
+fn rules_alone(upper: bool, e: Entry) -> &'static [Rule] {
+    match (upper, e.w) {
+        (false, None) => &LOWER,
+        (true, None) => &UPPER,
+        (false, Some(_)) => &LOWER_BY_WEIGHT,
+        (true, Some(_)) => &UPPER_BY_WEIGHT,
+    }
+}
 
 #[derive(Clone, Copy)]
 enum Places {
@@ -112,12 +144,48 @@ fn slot(upper: bool, entry: Entry) -> usize {
     if upper { ENTRIES + entry.number() } else { entry.number() }
 }
 
-fn binomial(n: u32, k: u32) -> u64 {
-    let mut value = 1;
-    for i in 0..u64::from(k.min(n - k)) {
-        value = value * (u64::from(n) - i) / (i + 1);
+const BINOMIALS: [[u64; 29]; 29] = binomials();
+
+const fn binomials() -> [[u64; 29]; 29] {
+    let mut rows = [[0; 29]; 29];
+    let mut n = 0;
+    while n <= 28 {
+        rows[n][0] = 1;
+        let mut k = 1;
+        while k <= n {
+            rows[n][k] = rows[n - 1][k - 1] + rows[n - 1][k];
+            k += 1;
+        }
+        n += 1;
     }
-    value
+    rows
+}
+
+fn binomial(n: u32, k: u32) -> u64 {
+    BINOMIALS[n as usize][k as usize]
+}
+
+fn ball(n: u32, e: u32) -> u64 {
+    (0..=e.min(n)).map(|k| binomial(n, k)).sum()
+}
+
+/// U9 at an odd distance that is not above n, where it gives a bound; `around` is the bound of A(n,d+1,d).
+fn johnson(n: u32, d: u32, around: u64) -> Option<u64> {
+    let half = d.div_ceil(2);
+    let most = u64::from(n / half);
+    let rest = binomial(n, half).checked_sub(binomial(d, half - 1) * around)?;
+    (rest > 0).then(|| (most << n) / (most * ball(n, half - 1) + rest))
+}
+
+/// V8, where some number of words is too many: one up to `last`, if any is.
+fn by_columns(n: u32, d: u32, w: u32) -> Option<u64> {
+    let spread = w.checked_sub(d / 2)?;
+    let last = if w * w <= spread * n { n / (2 * d) } else { 1000 };
+    let is_too_many = |m: &u32| {
+        let (each, over) = (w * m / n, w * m % n);
+        n * each * each.saturating_sub(1) + 2 * each * over > spread * m * (m - 1)
+    };
+    (2..=last).find(is_too_many).map(|m| u64::from(m - 1))
 }
 
 fn plotkin(n: u32, d: u32) -> Option<u64> {
@@ -144,7 +212,24 @@ fn rests_on(rule: Rule, e: Entry) -> (Option<Entry>, Option<Entry>) {
         L8 if d < 5 => (Some(plain(n / 2, d)), None),
         L8 => (Some(plain(n / 2, d.div_ceil(2))), Some(plain(n / 2, d))),
         L11(m, c) => (Some(plain(m, c)), Some(plain(n - m, d - c))),
-        M7 | V3 => (Some(Entry { n, d, w: w.map(|w| n - w) }), None),
+        L9(w) => (Some(weighted(n, d + d % 2, w)), None),
+        U9 => (Some(weighted(n, d + 1, d)), None),
+        U10(w) => (Some(weighted(n, d, w)), None),
+        _ => w.map_or((None, None), |w| rests_on_by_weight(rule, n, d, w)),
+    }
+}
+
+/// The entries with weight that a rule of such an entry rests on.
+fn rests_on_by_weight(rule: Rule, n: u32, d: u32, w: u32) -> (Option<Entry>, Option<Entry>) {
+    match rule {
+        M3 | V5 => (Some(weighted(n - 1, d, w)), None),
+        M4 | V4 => (Some(weighted(n - 1, d, w - 1)), None),
+        M5 => (Some(weighted(n + 1, d, w + 1)), None),
+        M6 => (Some(weighted(n + 1, d, w)), None),
+        M7 | V3 => (Some(weighted(n, d, n - w)), None),
+        M8 => (Some(weighted(n, d + 2, w)), None),
+        V6 => (Some(weighted(n - 1, d, w)), Some(weighted(n - 1, d, w - 1))),
+        V7 => (Some(weighted(n, d - 2, w)), None),
         _ => (None, None),
     }
 }
@@ -157,6 +242,11 @@ fn condition(rule: Rule, e: Entry) -> bool {
         U1 => e.n < e.d,
         U2 => e.d <= e.n && plotkin(e.n, e.d).is_some(),
         U4 => e.d % 2 == 1,
+        U9 => e.d % 2 == 1 && e.d <= e.n,
+        U10(_) => e.d % 2 == 0,
+        M2 | V2 => e.w == Some(e.d / 2),
+        M4 | V4 | V6 => e.w != Some(0),
+        V1 => e.w.is_some_and(|w| e.d > 2 * w.min(e.n - w)),
         _ => true,
     }
 }
@@ -172,14 +262,38 @@ fn rested_on_by(rule: Rule, e: Entry) -> [Option<Entry>; 3] {
         L7 | U8 => [Some(plain(n - 1, d)), None, None],
         U7 => [Some(plain(n, d + 1)), None, None],
         L8 => [Some(plain(2 * n, d)), Some(plain(2 * n, 2 * d - 1)), Some(plain(2 * n, 2 * d))],
-        M7 | V3 => [Some(Entry { n, d, w: w.map(|w| n - w) }), None, None],
+        _ => w.map_or([None, None, None], |w| rested_on_by_weight(rule, n, d, w)),
+    }
+}
+
+/// The entries with weight that may rest on such an entry.
+fn rested_on_by_weight(rule: Rule, n: u32, d: u32, w: u32) -> [Option<Entry>; 3] {
+    match rule {
+        M3 | V5 => [Some(weighted(n + 1, d, w)), None, None],
+        M4 | V4 => [Some(weighted(n + 1, d, w + 1)), None, None],
+        M5 if w > 0 => [Some(weighted(n - 1, d, w - 1)), None, None],
+        M6 => [Some(weighted(n - 1, d, w)), None, None],
+        M7 | V3 => [Some(weighted(n, d, n - w)), None, None],
+        M8 => [Some(weighted(n, d - 2, w)), None, None],
+        V6 => [Some(weighted(n + 1, d, w)), Some(weighted(n + 1, d, w + 1)), None],
+        V7 => [Some(weighted(n, d + 2, w)), None, None],
         _ => [None, None, None],
     }
 }
 
-fn number(supports: &[Option<Support>], rule: Rule, e: Entry, first: u64, second: u64) -> u64 {
-    let Entry { n, d, .. } = e;
-    match rule {
+/// The rules by which entries without weight may rest on an entry with this weight.
+fn rested_on_without_weight(upper: bool, Entry { n, d, .. }: Entry, w: u32) -> [(Rule, Entry); 2] {
+    if upper {
+        [(U10(w), plain(n, d)), (U9, plain(n, d - 1))]
+    } else {
+        [(L9(w), plain(n, d)), (L9(w), plain(n, d - 1))]
+    }
+}
+
+fn number(supports: &[Option<Support>], rule: Rule, e: Entry, first: u64, second: u64) -> Option<u64> {
+    let Entry { n, d, w } = e;
+    let w = w.unwrap_or(0);
+    Some(match rule {
         L2 => 2,
         L7 => first.div_ceil(2),
         L8 if d < 5 => (1 << (n / 2 - 1)) * first,
@@ -187,14 +301,21 @@ fn number(supports: &[Option<Support>], rule: Rule, e: Entry, first: u64, second
         L11(_, _) => first.min(second),
         U1 => 1,
         U2 => plotkin(n, d).unwrap_or(MAX_BOUND),
-        U3 => {
-            let ball: u64 = (0..=((d - 1) / 2).min(n)).map(|j| binomial(n, j)).sum();
-            (1 << n) / ball
-        }
+        U3 => (1 << n) / ball(n, (d - 1) / 2),
         U6 => 2 * first,
+        U9 => return johnson(n, d, first),
+        U10(w) => (first << (n - 1)) / binomial(n, w),
+        M2 | V2 => u64::from(n / w),
+        M5 => (u64::from(w + 1) * first).div_ceil(u64::from(n + 1)),
+        M6 => (u64::from(n + 1 - w) * first).div_ceil(u64::from(n + 1)),
+        V1 => 1,
+        V4 => u64::from(n) * first / u64::from(w),
+        V5 => u64::from(n) * first / u64::from(n - w),
+        V6 => first + second,
+        V8 => return by_columns(n, d, w),
         Rule::Support(place) => supports[place as usize].map_or(0, |s| u64::from(s.size)),
         _ => first,
-    }
+    })
 }
 
 fn is_better(upper: bool, value: u64, stands: u32) -> bool {
@@ -277,23 +398,30 @@ impl Table {
             return None;
         }
         let value = |p: Option<Entry>| p.map_or(0, |p| u64::from(self.bounds[slot(upper, p)]));
-        Some(number(&self.supports, rule, e, value(first), value(second)))
+        number(&self.supports, rule, e, value(first), value(second))
+    }
+
+    /// Takes what the rule gives, where it is better.
+    fn ask(&mut self, upper: bool, rule: Rule, e: Entry, best: &mut (Option<Rule>, u32)) {
+        if let Some(value) = self.offer(upper, rule, e) {
+            if is_better(upper, value, best.1) {
+                *best = (Some(rule), value as u32);
+            }
+        }
     }
 
     /// The best rule at the slot, where it betters what stands, and its bound.
     fn pull(&mut self, upper: bool, e: Entry) -> Option<(Rule, u32)> {
         let mut best = (None, self.bound(upper, e));
-        let rules: &[Rule] = match (upper, e.w.is_some()) {
-            (false, false) => &LOWER,
-            (true, false) => &UPPER,
-            (false, true) => &[M7],
-            (true, true) => &[V3],
-        };
-        for rule in rules {
-            if let Some(value) = self.offer(upper, *rule, e) {
-                if is_better(upper, value, best.1) {
-                    best = (Some(*rule), value as u32);
-                }
+        for rule in rules_alone(upper, e) {
+            self.ask(upper, *rule, e, &mut best);
+        }
+        if e.w.is_none() {
+            if upper {
+                self.ask(upper, U9, e, &mut best);
+            }
+            for w in 0..=e.n {
+                self.ask(upper, if upper { U10(w) } else { L9(w) }, e, &mut best);
             }
         }
         if !upper && e.w.is_none() && e.d >= 6 && e.d <= e.n {
@@ -310,33 +438,33 @@ impl Table {
         if !upper {
             let mut at = self.last_at[e.number()];
             while let Some(place) = at {
-                if let Some(value) = self.offer(false, Rule::Support(place), e) {
-                    if is_better(false, value, best.1) {
-                        best = (Some(Rule::Support(place)), value as u32);
-                    }
-                }
+                self.ask(false, Rule::Support(place), e, &mut best);
                 at = self.before[place as usize];
             }
         }
         best.0.map(|rule| (rule, best.1))
     }
 
-    fn mark_dependents(&mut self, upper: bool, e: Entry) {
-        let rules: &[Rule] = match (upper, e.w.is_some()) {
-            (false, false) => &LOWER,
-            (true, false) => &UPPER,
-            (false, true) => &[M7],
-            (true, true) => &[V3],
-        };
-        for rule in rules {
-            for dependent in rested_on_by(*rule, e).iter().flatten().copied() {
-                if dependent.in_table() && !self.marks[slot(upper, dependent)] {
-                    if let Some(value) = self.offer(upper, *rule, dependent) {
-                        if is_better(upper, value, self.bound(upper, dependent)) {
-                            self.mark(upper, dependent);
-                        }
-                    }
+    /// Marks the entry, where it is in the table and the rule gives something better there.
+    fn test(&mut self, upper: bool, rule: Rule, e: Entry) {
+        if e.in_table() && !self.marks[slot(upper, e)] {
+            if let Some(value) = self.offer(upper, rule, e) {
+                if is_better(upper, value, self.bound(upper, e)) {
+                    self.mark(upper, e);
                 }
+            }
+        }
+    }
+
+    fn mark_dependents(&mut self, upper: bool, e: Entry) {
+        for rule in rules_alone(upper, e) {
+            for dependent in rested_on_by(*rule, e).iter().flatten() {
+                self.test(upper, *rule, *dependent);
+            }
+        }
+        if let Some(w) = e.w {
+            for (rule, dependent) in rested_on_without_weight(upper, e, w) {
+                self.test(upper, rule, dependent);
             }
         }
         if !upper && e.w.is_none() && e.d <= e.n {

@@ -1,6 +1,6 @@
 //! What the table of bounds did before it went by slots, written plainly: the bounds of all entries closed under the rules by a worklist of instances, a support added
 //! and taken out again. Prints how often each step tried a rule, and its time. With `empty`, `nothing` or `golay` and a number it makes
-//! a table and does the step so often, and prints nothing; with the word `lower` it leaves out the upper rules U1 to U8.
+//! a table and does the step so often, and prints nothing; with the word `lower` it leaves out the rules of upper bounds.
 
 use std::collections::VecDeque;
 use std::time::Instant;
@@ -20,7 +20,15 @@ enum Rule {
     L6,
     L7,
     L8,
+    L9(u32),
     L11(u32, u32),
+    M2,
+    M3,
+    M4,
+    M5,
+    M6,
+    M7,
+    M8,
     U1,
     U2,
     U3,
@@ -29,6 +37,16 @@ enum Rule {
     U6,
     U7,
     U8,
+    U9,
+    U10(u32),
+    V1,
+    V2,
+    V3,
+    V4,
+    V5,
+    V6,
+    V7,
+    V8,
     Support(usize),
 }
 
@@ -69,19 +87,57 @@ fn slot(upper: bool, n: u32, d: u32, w: Option<u32>) -> usize {
     if upper { ENTRIES + entry } else { entry }
 }
 
-fn binomial(n: u32, k: u32) -> u64 {
-    let mut value = 1;
-    for i in 0..u64::from(k.min(n - k)) {
-        value = value * (u64::from(n) - i) / (i + 1);
+const BINOMIALS: [[u64; 29]; 29] = binomials();
+
+const fn binomials() -> [[u64; 29]; 29] {
+    let mut rows = [[0; 29]; 29];
+    let mut n = 0;
+    while n <= 28 {
+        rows[n][0] = 1;
+        let mut k = 1;
+        while k <= n {
+            rows[n][k] = rows[n - 1][k - 1] + rows[n - 1][k];
+            k += 1;
+        }
+        n += 1;
     }
-    value
+    rows
 }
 
+fn binomial(n: u32, k: u32) -> u64 {
+    BINOMIALS[n as usize][k as usize]
+}
+
+fn ball(n: u32, e: u32) -> u64 {
+    (0..=e.min(n)).map(|k| binomial(n, k)).sum()
+}
+
+/// U9 at an odd distance that is not above n, where it gives a bound; `around` is the bound of A(n,d+1,d).
+fn johnson(n: u32, d: u32, around: u64) -> Option<u64> {
+    let half = d.div_ceil(2);
+    let most = u64::from(n / half);
+    let rest = binomial(n, half).checked_sub(binomial(d, half - 1) * around)?;
+    (rest > 0).then(|| (most << n) / (most * ball(n, half - 1) + rest))
+}
+
+/// V8, where some number of words is too many: one up to `last`, if any is.
+fn by_columns(n: u32, d: u32, w: u32) -> Option<u64> {
+    let spread = w.checked_sub(d / 2)?;
+    let last = if w * w <= spread * n { n / (2 * d) } else { 1000 };
+    let is_too_many = |m: &u32| {
+        let (each, over) = (w * m / n, w * m % n);
+        n * each * each.saturating_sub(1) + 2 * each * over > spread * m * (m - 1)
+    };
+    (2..=last).find(is_too_many).map(|m| u64::from(m - 1))
+}
+
+const LOWER: [Rule; 7] = [Rule::L2, Rule::L3, Rule::L4, Rule::L5, Rule::L6, Rule::L7, Rule::L8];
+const UPPER: [Rule; 9] = [Rule::U1, Rule::U2, Rule::U3, Rule::U4, Rule::U5, Rule::U6, Rule::U7, Rule::U8, Rule::U9];
+const LOWER_BY_WEIGHT: [Rule; 7] = [Rule::M2, Rule::M3, Rule::M4, Rule::M5, Rule::M6, Rule::M7, Rule::M8];
+const UPPER_BY_WEIGHT: [Rule; 8] = [Rule::V1, Rule::V2, Rule::V3, Rule::V4, Rule::V5, Rule::V6, Rule::V7, Rule::V8];
+
 fn is_upper(rule: Rule) -> bool {
-    matches!(
-        rule,
-        Rule::U1 | Rule::U2 | Rule::U3 | Rule::U4 | Rule::U5 | Rule::U6 | Rule::U7 | Rule::U8
-    )
+    matches!(rule, Rule::U10(_)) || UPPER.contains(&rule) || UPPER_BY_WEIGHT.contains(&rule)
 }
 
 fn plotkin(n: u32, d: u32) -> Option<u64> {
@@ -95,30 +151,42 @@ fn plotkin(n: u32, d: u32) -> Option<u64> {
     }
 }
 
-fn is_defined(rule: Rule, n: u32, d: u32) -> bool {
+fn is_defined(i: &Instance) -> bool {
+    let Instance { rule, n, d, w } = *i;
+    let w = w.unwrap_or(0);
     match rule {
         Rule::L2 => d <= n,
-        Rule::L3 => n >= 2,
+        Rule::L3 | Rule::U6 => n >= 2,
         Rule::L4 => d < MAX_N,
         Rule::L5 => d % 2 == 0 && n >= 2,
         Rule::L6 => n < MAX_N && d < MAX_N,
-        Rule::L7 => n < MAX_N,
+        Rule::L7 | Rule::U8 | Rule::M5 | Rule::M6 => n < MAX_N,
         Rule::L8 => n % 2 == 0,
         Rule::L11(m, c) => c <= m && d - c <= n - m,
         Rule::U1 => d > n,
         Rule::U2 => d <= n && plotkin(n, d).is_some(),
         Rule::U4 => d % 2 == 1 && n < MAX_N,
         Rule::U5 => n >= 2 && d >= 4,
-        Rule::U6 => n >= 2,
         Rule::U7 => d >= 4,
-        Rule::U8 => n < MAX_N,
+        Rule::U9 => d % 2 == 1 && d <= n,
+        Rule::U10(_) => d % 2 == 0,
+        Rule::M2 | Rule::V2 => d == 2 * w,
+        Rule::M3 | Rule::V5 => n >= 2 && w < n,
+        Rule::M4 | Rule::V4 => n >= 2 && w > 0,
+        Rule::M8 => d <= 26,
+        Rule::V1 => d > 2 * w.min(n - w),
+        Rule::V6 => n >= 2 && 0 < w && w < n,
+        Rule::V7 => d >= 6,
+        Rule::V8 => by_columns(n, d, w).is_some(),
         _ => true,
     }
 }
 
 /// The slots that an instance rests on: none, one or two.
 fn premises(i: Instance) -> ([usize; 2], usize) {
-    let Instance { rule, n, d, .. } = i;
+    let Instance { rule, n, d, w } = i;
+    let w = w.unwrap_or(0);
+    let by_weight = |upper, n, d, w| ([slot(upper, n, d, Some(w)), 0], 1);
     let one = |upper, n, d| ([slot(upper, n, d, None), 0], 1);
     let two = |n, d, m, c| ([slot(false, n, d, None), slot(false, m, c, None)], 2);
     match rule {
@@ -135,12 +203,27 @@ fn premises(i: Instance) -> ([usize; 2], usize) {
         Rule::U6 => one(true, n - 1, d),
         Rule::U7 => one(true, n, d - 1),
         Rule::U8 => one(true, n + 1, d),
+        Rule::U9 => by_weight(true, n, d + 1, d),
+        Rule::U10(w) => by_weight(true, n, d, w),
+        Rule::L9(w) => by_weight(false, n, d + d % 2, w),
+        Rule::M3 => by_weight(false, n - 1, d, w),
+        Rule::M4 => by_weight(false, n - 1, d, w - 1),
+        Rule::M5 => by_weight(false, n + 1, d, w + 1),
+        Rule::M6 => by_weight(false, n + 1, d, w),
+        Rule::M7 => by_weight(false, n, d, n - w),
+        Rule::M8 => by_weight(false, n, d + 2, w),
+        Rule::V3 => by_weight(true, n, d, n - w),
+        Rule::V4 => by_weight(true, n - 1, d, w - 1),
+        Rule::V5 => by_weight(true, n - 1, d, w),
+        Rule::V6 => ([slot(true, n - 1, d, Some(w)), slot(true, n - 1, d, Some(w - 1))], 2),
+        Rule::V7 => by_weight(true, n, d - 2, w),
         _ => ([0, 0], 0),
     }
 }
 
 fn formula(supports: &[Support], i: Instance, first: u64, second: u64) -> u64 {
-    let Instance { rule, n, d, .. } = i;
+    let Instance { rule, n, d, w } = i;
+    let w = w.unwrap_or(0);
     match rule {
         Rule::L2 => 2,
         Rule::L7 => first.div_ceil(2),
@@ -149,42 +232,45 @@ fn formula(supports: &[Support], i: Instance, first: u64, second: u64) -> u64 {
         Rule::L11(_, _) => first.min(second),
         Rule::U1 => 1,
         Rule::U2 => plotkin(n, d).unwrap_or(MAX_BOUND),
-        Rule::U3 => {
-            let ball: u64 = (0..=(d - 1) / 2).map(|j| if j <= n { binomial(n, j) } else { 0 }).sum();
-            (1 << n) / ball
-        }
+        Rule::U3 => (1 << n) / ball(n, (d - 1) / 2),
         Rule::U6 => 2 * first,
+        Rule::U9 => johnson(n, d, first).unwrap_or(MAX_BOUND),
+        Rule::U10(w) => (first << (n - 1)) / binomial(n, w),
+        Rule::M2 | Rule::V2 => u64::from(n / w),
+        Rule::M5 => (u64::from(w + 1) * first).div_ceil(u64::from(n + 1)),
+        Rule::M6 => (u64::from(n + 1 - w) * first).div_ceil(u64::from(n + 1)),
+        Rule::V1 => 1,
+        Rule::V4 => u64::from(n) * first / u64::from(w),
+        Rule::V5 => u64::from(n) * first / u64::from(n - w),
+        Rule::V6 => first + second,
+        Rule::V8 => by_columns(n, d, w).unwrap_or(MAX_BOUND),
         Rule::Support(place) => u64::from(supports[place].size),
         _ => first,
     }
 }
 
 fn instances(upper: bool) -> Vec<Instance> {
-    let plain = [Rule::L2, Rule::L3, Rule::L4, Rule::L5, Rule::L6, Rule::L7, Rule::L8];
-    let above = [Rule::U1, Rule::U2, Rule::U3, Rule::U4, Rule::U5, Rule::U6, Rule::U7, Rule::U8];
     let mut list = Vec::new();
     for n in 1..=MAX_N {
         for d in 3..=MAX_N {
-            let mut put = |rule| {
-                if is_defined(rule, n, d) {
-                    list.push(Instance { rule, n, d, w: None });
-                }
-            };
-            for rule in plain {
-                put(rule);
+            let mut rules = LOWER.to_vec();
+            rules.extend((0..=n).map(Rule::L9));
+            for m in 1..n {
+                rules.extend((3..d.saturating_sub(2)).map(|c| Rule::L11(m, c)));
             }
             if upper {
-                for rule in above {
-                    put(rule);
-                }
+                rules.extend(UPPER);
+                rules.extend((0..=n).map(Rule::U10));
             }
-            for m in 1..n {
-                for c in 3..d.saturating_sub(2) {
-                    put(Rule::L11(m, c));
-                }
+            list.extend(rules.iter().map(|rule| Instance { rule: *rule, n, d, w: None }));
+            for w in (0..=n).filter(|_| d % 2 == 0) {
+                let above = if upper { UPPER_BY_WEIGHT.as_slice() } else { &[] };
+                let rules = LOWER_BY_WEIGHT.iter().chain(above);
+                list.extend(rules.map(|rule| Instance { rule: *rule, n, d, w: Some(w) }));
             }
         }
     }
+    list.retain(is_defined);
     list
 }
 

@@ -9,17 +9,29 @@ use std::io::{self, BufWriter, Read, Write};
 
 const MAX_N: usize = 28;
 const DISTANCES: usize = 26;
-const ENTRIES: usize = MAX_N * DISTANCES;
+const EVEN_DISTANCES: usize = 13;
+const WITHOUT_WEIGHT: usize = MAX_N * DISTANCES;
+const ENTRIES: usize = WITHOUT_WEIGHT + MAX_N * EVEN_DISTANCES * (MAX_N + 1);
 const MAX_BOUND: u64 = 1 << 28;
 
-/// The number of an entry of the table.
+/// The number of an entry without weight.
 fn number(n: usize, d: usize) -> usize {
     (n - 1) * DISTANCES + d - 3
+}
+
+/// The number of an entry with a weight.
+fn weighted(n: usize, d: usize, w: usize) -> usize {
+    WITHOUT_WEIGHT + ((n - 1) * EVEN_DISTANCES + d / 2 - 2) * (MAX_N + 1) + w
 }
 
 /// The upper side's numbers stand behind those of the lower side.
 fn upper(n: usize, d: usize) -> usize {
     ENTRIES + number(n, d)
+}
+
+/// The same, with a weight.
+fn upper_weighted(n: usize, d: usize, w: usize) -> usize {
+    ENTRIES + weighted(n, d, w)
 }
 
 /// What a rule makes of the bounds that it rests on.
@@ -31,6 +43,13 @@ enum Rule {
     Times(u64, usize),
     Product(usize, usize),
     Least(usize, usize),
+    Sum(usize, usize),
+    /// So many times the bound, divided by the last number and rounded up.
+    Above(u64, usize, u64),
+    /// The same, rounded down.
+    Below(u64, usize, u64),
+    /// Johnson's bound, of n, d and the bound of A(n,d+1,d).
+    Around(usize, usize, usize),
 }
 
 impl Rule {
@@ -38,7 +57,8 @@ impl Rule {
         match self {
             Rule::Constant(_) => vec![],
             Rule::Same(a) | Rule::Half(a) | Rule::Times(_, a) => vec![a],
-            Rule::Product(a, b) | Rule::Least(a, b) => vec![a, b],
+            Rule::Above(_, a, _) | Rule::Below(_, a, _) | Rule::Around(_, _, a) => vec![a],
+            Rule::Product(a, b) | Rule::Least(a, b) | Rule::Sum(a, b) => vec![a, b],
         }
     }
 
@@ -50,6 +70,10 @@ impl Rule {
             Rule::Times(times, a) => times * bounds[a],
             Rule::Product(a, b) => bounds[a] * bounds[b],
             Rule::Least(a, b) => bounds[a].min(bounds[b]),
+            Rule::Sum(a, b) => bounds[a] + bounds[b],
+            Rule::Above(times, a, by) => (times * bounds[a]).div_ceil(by),
+            Rule::Below(times, a, by) => times * bounds[a] / by,
+            Rule::Around(n, d, a) => johnson(n, d, bounds[a]).unwrap_or(MAX_BOUND),
         }
     }
 }
@@ -62,6 +86,28 @@ struct Instance {
 
 fn choose(n: usize, k: usize) -> u64 {
     (0..k).fold(1, |product, i| product * (n - i) as u64 / (i as u64 + 1))
+}
+
+fn ball(n: usize, e: usize) -> u64 {
+    (0..=e.min(n)).map(|k| choose(n, k)).sum()
+}
+
+/// Johnson's bound at an odd distance that is not above n, where there is one; `around` is the bound of A(n,d+1,d).
+fn johnson(n: usize, d: usize, around: u64) -> Option<u64> {
+    let half = d.div_ceil(2);
+    let most = (n / half) as u64;
+    let rest = choose(n, half).checked_sub(choose(d, half - 1) * around)?;
+    (rest > 0).then(|| (most << n) / (most * ball(n, half - 1) + rest))
+}
+
+/// One less than the least number of words that is too many, where one up to 1000 is, by the ones of each column.
+fn by_columns(n: usize, d: usize, w: usize) -> Option<u64> {
+    let spread = w.checked_sub(d / 2)?;
+    let is_too_many = |m: &usize| {
+        let (each, over) = (w * m / n, w * m % n);
+        n * each * each.saturating_sub(1) + 2 * each * over > spread * m * (m - 1)
+    };
+    (2..=1000).find(is_too_many).map(|m| m as u64 - 1)
 }
 
 fn plotkin(n: usize, d: usize) -> Option<u64> {
@@ -99,6 +145,7 @@ fn lower_rules(n: usize, d: usize) -> Vec<Rule> {
     } else if n % 2 == 0 {
         rules.push(Rule::Product(number(n / 2, d.div_ceil(2)), number(n / 2, d)));
     }
+    rules.extend((0..=n).map(|w| Rule::Same(weighted(n, d + d % 2, w))));
     for m in 1..n {
         for c in 3..d.saturating_sub(2) {
             rules.push(Rule::Least(number(m, c), number(n - m, d - c)));
@@ -107,9 +154,31 @@ fn lower_rules(n: usize, d: usize) -> Vec<Rule> {
     rules
 }
 
+fn lower_weight_rules(n: usize, d: usize, w: usize) -> Vec<Rule> {
+    let mut rules = vec![Rule::Constant(1), Rule::Same(weighted(n, d, n - w))];
+    if d == 2 * w {
+        rules.push(Rule::Constant((n / w) as u64));
+    }
+    if n >= 2 && w < n {
+        rules.push(Rule::Same(weighted(n - 1, d, w)));
+    }
+    if n >= 2 && w >= 1 {
+        rules.push(Rule::Same(weighted(n - 1, d, w - 1)));
+    }
+    if n <= 27 {
+        let (ones, zeros, places) = (w as u64 + 1, (n + 1 - w) as u64, n as u64 + 1);
+        rules.push(Rule::Above(ones, weighted(n + 1, d, w + 1), places));
+        rules.push(Rule::Above(zeros, weighted(n + 1, d, w), places));
+    }
+    if d <= 26 {
+        rules.push(Rule::Same(weighted(n, d + 2, w)));
+    }
+    rules
+}
+
 fn upper_rules(n: usize, d: usize) -> Vec<Rule> {
-    let ball = (0..=(d - 1) / 2).map(|k| choose(n, k)).sum::<u64>();
-    let mut rules = vec![Rule::Constant(1 << n), Rule::Constant((1 << n) / ball)];
+    let by_balls = (1 << n) / ball(n, (d - 1) / 2);
+    let mut rules = vec![Rule::Constant(1 << n), Rule::Constant(by_balls)];
     if d > n {
         rules.push(Rule::Constant(1));
     }
@@ -129,6 +198,35 @@ fn upper_rules(n: usize, d: usize) -> Vec<Rule> {
     if d >= 4 {
         rules.push(Rule::Same(upper(n, d - 1)));
     }
+    if d % 2 == 0 {
+        rules.extend((0..=n).map(|w| Rule::Below(1 << (n - 1), upper_weighted(n, d, w), choose(n, w))));
+    } else if d <= n {
+        rules.push(Rule::Around(n, d, upper_weighted(n, d + 1, d)));
+    }
+    rules
+}
+
+fn upper_weight_rules(n: usize, d: usize, w: usize) -> Vec<Rule> {
+    let mut rules = vec![Rule::Constant(choose(n, w)), Rule::Same(upper_weighted(n, d, n - w))];
+    if d > 2 * w.min(n - w) {
+        rules.push(Rule::Constant(1));
+    }
+    if d == 2 * w {
+        rules.push(Rule::Constant((n / w) as u64));
+    }
+    if n >= 2 && w >= 1 {
+        rules.push(Rule::Below(n as u64, upper_weighted(n - 1, d, w - 1), w as u64));
+    }
+    if n >= 2 && w < n {
+        rules.push(Rule::Below(n as u64, upper_weighted(n - 1, d, w), (n - w) as u64));
+    }
+    if n >= 2 && 1 <= w && w < n {
+        rules.push(Rule::Sum(upper_weighted(n - 1, d, w), upper_weighted(n - 1, d, w - 1)));
+    }
+    if d >= 6 {
+        rules.push(Rule::Same(upper_weighted(n, d - 2, w)));
+    }
+    rules.extend(by_columns(n, d, w).map(Rule::Constant));
     rules
 }
 
@@ -146,10 +244,13 @@ impl Table {
         let mut instances = Vec::new();
         for n in 1..=MAX_N {
             for d in 3..=28 {
-                let lower = lower_rules(n, d).into_iter();
-                instances.extend(lower.map(|rule| Instance { slot: number(n, d), rule }));
-                let above = upper_rules(n, d).into_iter();
-                instances.extend(above.map(|rule| Instance { slot: upper(n, d), rule }));
+                let mut put = |slot, rules: Vec<Rule>| instances.extend(rules.into_iter().map(|rule| Instance { slot, rule }));
+                put(number(n, d), lower_rules(n, d));
+                put(upper(n, d), upper_rules(n, d));
+                for w in (0..=n).filter(|_| d % 2 == 0) {
+                    put(weighted(n, d, w), lower_weight_rules(n, d, w));
+                    put(upper_weighted(n, d, w), upper_weight_rules(n, d, w));
+                }
             }
         }
         let mut users = vec![Vec::new(); 2 * ENTRIES];
