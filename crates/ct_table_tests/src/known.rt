@@ -3,9 +3,10 @@
 ghost use Rattle.std.specs.Prelude.{IfOk};
 ghost use Rattle.ct_rule_parts.specs.Support.{Stands};
 
-use ct_codes::{Entry, check_cosets};
+use ct_codes::{Entry, check_cosets, check_words};
 use ct_rules::Support;
-use ct_words::{MAX_BOUND, Word};
+use ct_table::Table;
+use ct_words::{MAX_BOUND, Word, weight};
 use std::alloc::Global;
 use std::process::Abort;
 use std::test::Fail;
@@ -130,6 +131,53 @@ pub fn support_of(
     assert!(rt; 1 <= size && size <= MAX_BOUND);
     let entry = code.entry();
     Ok(Support::Size { entry, size })
+}
+
+/// The entry of the words of weight 8 of the code of Golay.
+const OCTADS: Entry = Entry {
+    n: 24,
+    d: 8,
+    w: Some(8),
+};
+
+/// The words of weight 8 of the code of Golay, of which there are 759.
+fn octads(alloc: Global) -> Result<Vec<Word>, Fail> {
+    let mut words = Vec::new(alloc);
+    for choice in 0..1 << GOLAY.len() {
+        let mut word = 0;
+        for (place, basis_word) in GOLAY.iter().enumerate() {
+            if choice >> place & 1 == 1 {
+                word ^= *basis_word;
+            }
+        }
+        if weight(word) == 8 {
+            words.push(word)?;
+        }
+    }
+    Ok(words)
+}
+
+/// What the words of weight 8 of the code of Golay give to a table.
+fn support_of_octads(rt: &impl Abort, alloc: Global) -> Result<Support, Fail>
+    ensures { IfOk result Stands }
+{
+    let words = octads(alloc)?;
+    assert!(rt; words.iter().all(|word| *word < 1 << 24));
+    let code = check_words(alloc, OCTADS, words)?;
+    let size = code.words().len();
+    assert!(rt; 1 <= size && size <= MAX_BOUND as usize);
+    Ok(Support::Size {
+        entry: OCTADS,
+        size: size as u32,
+    })
+}
+
+/// The table of the code of Golay and of its words of weight 8.
+pub fn table_of_golay(rt: &impl Abort, alloc: Global) -> Result<Table, Fail> {
+    let mut table = Table::new(alloc)?;
+    table.add(support_of(rt, alloc, CODES[0], 0)?)?;
+    table.add(support_of_octads(rt, alloc)?)?;
+    Ok(table)
 }
 
 /// How many numbers `entry_at` has to be asked for to meet all entries of the table: 28 lengths, 26 distances, and 30 for no

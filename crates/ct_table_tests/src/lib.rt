@@ -6,6 +6,10 @@ mod closure;
 #[cfg(test)]
 mod known;
 #[cfg(test)]
+mod plain;
+#[cfg(test)]
 mod rules;
 #[cfg(test)]
 mod table;
+#[cfg(test)]
+mod values;

@@ -1,26 +1,17 @@
-//! Tables of codes that are known: values by hand, and what comes and goes with supports.
+//! Tables of codes that are known: what comes and goes with supports.
 
 ghost use Rattle.std.specs.Prelude.{◌<◌, ◌≡◌, IfOk};
 ghost use Rattle.ct_codes.specs.Entry.{IsEntry};
 ghost use Rattle.ct_rule_parts.specs.Support.{Stands};
 
 use crate::known::{CODES, Cosets, NUMBERS, TWO_WORDS, entry_at, support_of};
+use crate::values::{GOLAY_BOUNDS, assert_bounds};
 use ct_codes::{Claim, Entry, Side};
 use ct_rules::{Rule, Support};
 use ct_table::Table;
 use std::alloc::{AllocError, Global};
 use std::process::Abort;
 use std::test::Fail;
-
-/// The bound of a side of an entry.
-fn bound(table: &Table, side: Side, entry: Entry) -> u32
-    requires { IsEntry entry }
-{
-    match side {
-        Side::Lower => table.lower(entry),
-        Side::Upper => table.upper(entry),
-    }
-}
 
 /// The first entry that has other bounds in the other table.
 fn first_difference(table: &Table, other: &Table) -> Option<Entry> {
@@ -95,55 +86,6 @@ fn evaluations_of_rebuild(alloc: Global) -> Result<u64, AllocError> {
     Ok(table.evaluations())
 }
 
-// A(5,3) is at least A(6,4) = 2^2 · A(3,4) = 4 by L6, L8 and L1; A(8,4) = 2^3 · A(4,4) = 16 by L8 and L2. A(24,8) is at least
-// A(12,4) · A(12,8) by L8, where A(12,4) = 2^5 · A(6,4) = 128 and A(12,8) = A(6,4) · A(6,8) = 4. By L6 A(23,7) is no less, and
-// A(7,3) is at least A(8,4); so by L8 A(14,3) = 2^6 · 16 and A(28,3) = 2^13 · 2^10.
-const LOWER_BOUNDS: [(u32, u32, Option<u32>, u32); 13] = [
-    (1, 3, None, 1),
-    (5, 3, None, 4),
-    (6, 4, None, 4),
-    (7, 3, None, 16),
-    (8, 4, None, 16),
-    (12, 4, None, 128),
-    (23, 7, None, 512),
-    (24, 8, None, 512),
-    (27, 28, None, 1),
-    (28, 3, None, 8388608),
-    (28, 28, None, 2),
-    (6, 4, Some(3), 1),
-    (28, 28, Some(14), 1),
-];
-
-// By Plotkin's bound A(5,3) is at most 4, by Hamming's A(28,3) at most 2^28 / 29; and there are C(n,w) words of weight w:
-// 28!/14!^2 = 40,116,600.
-const UPPER_BOUNDS: [(u32, u32, Option<u32>, u32); 4] = [
-    (5, 3, None, 4),
-    (28, 3, None, 9256395),
-    (6, 4, Some(3), 20),
-    (28, 28, Some(14), 40116600),
-];
-
-// Golay's code is at A(24,8), and by L6 at A(23,7).
-const GOLAY_BOUNDS: [(u32, u32, Option<u32>, u32); 2] = [(24, 8, None, 4096), (23, 7, None, 4096)];
-
-/// The sides of the entries have these bounds.
-fn assert_bounds(
-    rt: &impl Abort,
-    table: &Table,
-    side: Side,
-    rows: &[(u32, u32, Option<u32>, u32)],
-) {
-    for (n, d, w, value) in rows {
-        let entry = Entry {
-            n: *n,
-            d: *d,
-            w: *w,
-        };
-        assert!(rt; entry.in_table());
-        assert!(rt; bound(table, side, entry) == *value, "{entry:?}");
-    }
-}
-
 /// The bounds of the two tables are the same.
 fn assert_same(rt: &impl Abort, table: &Table, other: &Table) {
     assert!(rt; first_difference(table, other).is_none());
@@ -162,16 +104,6 @@ fn assert_as_new(rt: &impl Abort, alloc: Global, table: &Table) -> Result<(), Fa
     assert_same(rt, table, &empty);
     assert!(rt; first_other_reason(table, &empty, Side::Lower).is_none());
     assert!(rt; first_other_reason(table, &empty, Side::Upper).is_none());
-    Ok(())
-}
-
-#[test]
-fn values_without_supports(rt: HostRuntime) -> Result<(), Fail> {
-    let alloc = rt.alloc();
-    for table in [Table::new(alloc)?, Table::rebuild(alloc, Vec::new(alloc))?] {
-        assert_bounds(&rt, &table, Side::Lower, &LOWER_BOUNDS);
-        assert_bounds(&rt, &table, Side::Upper, &UPPER_BOUNDS);
-    }
     Ok(())
 }
 
