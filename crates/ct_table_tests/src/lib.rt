@@ -6,8 +6,6 @@ mod closure;
 #[cfg(test)]
 mod known;
 #[cfg(test)]
-mod plain;
-#[cfg(test)]
 mod rules;
 #[cfg(test)]
 mod table;
