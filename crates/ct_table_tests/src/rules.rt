@@ -5,8 +5,8 @@ use ct_codes::{Entry, Side};
 use ct_rules::{Rule, Support, premise, premise_count, rule_side, value};
 use ct_words::MAX_BOUND;
 
-/// Each rule, with the first support, and a length and a distance, where it names any.
-const RULES: [Rule; 24] = [
+/// Each rule, with the first support, the weight 0, and a length and a distance, where it names any.
+const RULES: [Rule; 40] = [
     Rule::L1,
     Rule::L2,
     Rule::L3,
@@ -15,10 +15,17 @@ const RULES: [Rule; 24] = [
     Rule::L6,
     Rule::L7,
     Rule::L8,
+    Rule::L9(0),
     Rule::L10(0),
     Rule::L11(1, 3),
     Rule::M1,
+    Rule::M2,
+    Rule::M3,
+    Rule::M4,
+    Rule::M5,
+    Rule::M6,
     Rule::M7,
+    Rule::M8,
     Rule::M10(0),
     Rule::U0,
     Rule::U1,
@@ -29,8 +36,17 @@ const RULES: [Rule; 24] = [
     Rule::U6,
     Rule::U7,
     Rule::U8,
+    Rule::U9,
+    Rule::U10(0),
     Rule::V0,
+    Rule::V1,
+    Rule::V2,
     Rule::V3,
+    Rule::V4,
+    Rule::V5,
+    Rule::V6,
+    Rule::V7,
+    Rule::V8,
 ];
 
 /// A(n,d).
@@ -302,16 +318,21 @@ fn defined_rules(entry: Entry) -> u32 {
     count
 }
 
-// At A(1,3) L4, L6, L7, U1, U3, U4 and U8 are defined; at A(4,5) L3, L4, L6 to L8, U1 and U3 to U8; at A(4,8) L3 to L8, U1, U3
-// and U5 to U8; at A(8,6) L2 to L8, U2, U3 and U5 to U8; at A(4,8,2) M7 and V3.
+// At A(1,3) L4, L6, L7, L9, U1, U3, U4 and U8 are defined; at A(4,5) L3, L4, L6 to L9, U1 and U3 to U8; at A(4,8) L3 to L9, U1, U3,
+// U5 to U8 and U10; at A(8,6) L2 to L9, U2, U3, U5 to U8 and U10; at A(9,5) L2 to L4, L6, L7, L9 and U2 to U9. At A(4,8,2) M3 to M8,
+// V1 and V3 to V7; at A(8,8,4) M2 to M8 and V2 to V8, as three words of weight 4 have no one in common only from 12 places on;
+// at A(1,28,0) M5 to M7, V1, V3 and V7.
 #[test]
 fn rules_of_entries(rt: HostRuntime) {
     for (entry, want) in [
-        (plain(1, 3), 7),
-        (plain(4, 5), 12),
-        (plain(4, 8), 12),
-        (plain(8, 6), 13),
-        (weighted(4, 8, 2), 2),
+        (plain(1, 3), 8),
+        (plain(4, 5), 13),
+        (plain(4, 8), 14),
+        (plain(8, 6), 15),
+        (plain(9, 5), 14),
+        (weighted(4, 8, 2), 12),
+        (weighted(8, 8, 4), 14),
+        (weighted(1, 28, 0), 6),
     ] {
         assert!(rt; defined_rules(entry) == want, "{entry:?}");
     }
