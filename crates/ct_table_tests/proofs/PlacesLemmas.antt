@@ -1,6 +1,6 @@
 -- The places of supports are found by the entries to which they give something.
-use Rattle.std.proofs.Common.{◌≡◌, ◌≢◌, ℕ, List, length, map, true, false, Some, refl, sym, ap, subst, ◌∙◌, Bool}
-use Rattle.std.specs.Prelude.{slice_get, option_map}
+use Rattle.std.proofs.Common.{◌≡◌, ℕ, List, map, true, false, Some, refl, sym, ap, subst, ◌∙◌, Bool}
+use Rattle.std.specs.Prelude.{option_map}
 use Rattle.std.proofs.lemmas.List.{length-map}
 use Rattle.std.proofs.lemmas.Option.{slice_get-map}
 use Rattle.ct_codes.specs.declared.entry.Entry.{Entry}
@@ -8,7 +8,7 @@ use Rattle.ct_codes.specs.Entry.{IsEntry, same_entry}
 use Rattle.ct_codes.proofs.EntryLemmas.{same_entry_is}
 use Rattle.ct_rule_parts.specs.declared.support.Support.{Support}
 use Rattle.ct_rule_parts.specs.declared.support.Support.TheVariants.{Nothing, Size}
-use Rattle.ct_closure.specs.Places.{GivesTo, ArePlaces, IsPlaceOf, entry_of}
+use Rattle.ct_closure.specs.Places.{GivesTo, ArePlaces, entry_of}
 
 size_given : (f : Entry) (size : ℕ) (e : Entry) (same : Bool) → same_entry f e ≡ same → IsEntry e → GivesTo (Size f size) e
     → entry_of (Size f size) ≡ Some e
