@@ -56,11 +56,12 @@ fn words_of_the_greatest_size(alloc: Global) -> Result<String, AllocError> {
     Ok(input)
 }
 
-/// A code of as many words as a document may have.
+/// A code of as many words as a document may have. By Johnson's bound A(24,3) is at most 2^24 · 12 / (12 · 25 + C(24,2) − 3 · 88),
+/// with 88 for A(24,4,3).
 fn greatest_size(alloc: Global) -> Result<Row, AllocError> {
     let mut input = words_of_the_greatest_size(alloc)?;
     input.push_str("]\nend\nshow 24 3\n")?;
-    let output = "accepted a size 16384\n524288 <= A(24,3) <= 671088\n".to_string(alloc)?;
+    let output = "accepted a size 16384\n524288 <= A(24,3) <= 645277\n".to_string(alloc)?;
     Row::done(alloc, "the greatest size", input, output)
 }
 
