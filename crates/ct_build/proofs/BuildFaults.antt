@@ -1,6 +1,8 @@
 -- How many words a step makes, and when nothing is told against it.
 use Rattle.std.specs.Prelude.{IfErr}
-use Rattle.std.proofs.Common.{◌&&◌, Result, Ok, Err, ◌≡◌, ◌≢◌, ℕ, ◌*◌, ◌≤◌, ◌==◌, Bool, true, false, nat_lt, if◌then◌else◌, List, [], ◌∷◌, length, take, Option, Some, None, refl, ap, sym, subst, ◌∙◌, arith, ltb-true, ltb-false, length-take}
+use Rattle.std.specs.Option.{option_map, unwrap_or}
+use Rattle.std.proofs.Common.{min, mul-le-mul_right, IfSome, ◌&&◌, Result, Ok, Err, ◌≡◌, ◌≢◌, ℕ, ◌*◌, ◌≤◌, ◌==◌, Bool, true, false, nat_lt, if◌then◌else◌, List, [], ◌∷◌, length, take, Option, Some, None, refl, ap, sym, subst, ◌∙◌, arith, ltb-true, ltb-false, length-take}
+use Rattle.std.proofs.Math.Nat.{min-eq_right}
 use Rattle.std.proofs.lemmas.List.Sums.{length-filter, count_by-le-length}
 use Rattle.ct_words.specs.Word.{weight}
 use Rattle.ct_codes.specs.declared.entry.Entry.{Entry}
@@ -18,9 +20,11 @@ use Rattle.ct_constructions.proofs.JuxtaposedCodes.{length-juxtaposed}
 use Rattle.ct_build.specs.declared.building.TheConstants.{MAX_BUILT}
 use Rattle.ct_build.specs.declared.fault.BuildFault.{BuildFault}
 use Rattle.ct_build.specs.declared.fault.BuildFault.TheVariants.{Size, Few, Empty, Memory}
+use Rattle.ct_build.specs.declared.shape.Shape.{Shape}
 use Rattle.ct_build.specs.declared.step.Step.{Step}
 use Rattle.ct_build.specs.declared.step.Step.TheVariants.{Lengthen, AppendOne, Parity, Puncture, Shorten, Translate, Complement, Select, Uuv, Juxtapose, Trim}
-use Rattle.ct_build.specs.Build.{FieldsFit, FitsStated, is_right_length, is_right_weight, few_fault, words_of, distance_of, other_of, is_right_other, step_distance, part_fault, other_fault, short_fault, above_limit, selected_of, built, size_fault, empty_fault, early_fault, build_fault}
+use Rattle.ct_build.specs.Build.{FieldsFit, FitsStated, shape_of, is_right_length, is_right_weight, few_fault, size_of, distance_of, other_of, is_right_other, step_distance, result_size, part_fault, other_fault, short_fault, above_limit, selected_of, built, size_fault, empty_fault, counted_fault, early_fault, build_fault}
+use Rattle.ct_build.proofs.StepLemmas.{IsReady, ready}
 
 shortened-few : (n : ℕ) (places digits words : List ℕ) → length (shortened n places digits words) ≤ length words
 shortened-few n places digits words =
@@ -54,10 +58,55 @@ built-few (Trim size) e part other unlike = let is = length-take size part.words
 
 -- and that one a word for each pair
 pub built-uuv : (e : Entry) (part : CodeValue) (other : Option CodeValue)
-    → length (built Uuv e part other) ≡ length part.words * length (words_of (other_of Uuv other))
-unfolding built other_of
+    → length (built Uuv e part other) ≡ length part.words * size_of (option_map shape_of other)
+unfolding built
 built-uuv e part None = omega arith
 built-uuv e part (Some o) = length-uuv_words part.n part.words o.words
+
+built-juxtapose : (e : Entry) (part : CodeValue) (other : Option CodeValue)
+    → length (built Juxtapose e part other) ≡ min (length part.words) (size_of (option_map shape_of other))
+unfolding built
+built-juxtapose e part None = sym (min-eq_right (omega arith))
+built-juxtapose e part (Some o) = length-juxtaposed o.n part.words o.words
+
+-- what two options hold, where they are the same
+Some-number : (i j : ℕ) → ◌≡◌ {A = Option ℕ} (Some i) (Some j) → i ≡ j
+Some-number i j is = cc
+
+-- the shapes tell how many words the step makes, where that does not depend on the words
+pub result_size-is : (step : Step) (e : Entry) (part : CodeValue) (other : Option CodeValue) (k : ℕ)
+    → result_size step (shape_of part) (option_map shape_of other) ≡ Some k → length (built step e part other) ≡ k
+unfolding result_size built
+result_size-is Lengthen e part other k is = length-lengthened part.words ∙ Some-number _ k is
+result_size-is AppendOne e part other k is = length-one_appended part.words ∙ Some-number _ k is
+result_size-is Parity e part other k is = length-with_parity part.n part.words ∙ Some-number _ k is
+result_size-is (Puncture places) e part other k is = length-punctured part.n places part.words ∙ Some-number _ k is
+result_size-is (Shorten places digits) e part other k is = cc
+result_size-is (Translate by) e part other k is = length-translated by part.words ∙ Some-number _ k is
+result_size-is Complement e part other k is = length-complemented part.n part.words ∙ Some-number _ k is
+result_size-is (Select by) e part other k is = cc
+result_size-is Uuv e part other k is = built-uuv e part other ∙ Some-number _ k is
+result_size-is Juxtapose e part other k is = built-juxtapose e part other ∙ Some-number _ k is
+result_size-is (Trim size) e part other k is = length-take size part.words ∙ Some-number _ k is
+
+-- and where it does, there are no more than the part has
+pub result_size-none : (step : Step) (e : Entry) (part : CodeValue) (other : Option CodeValue)
+    → result_size step (shape_of part) (option_map shape_of other) ≡ None → length (built step e part other) ≤ length part.words
+unfolding result_size
+result_size-none step e part other none = built-few step e part other (λ is. go step is none)
+  where
+    go : (s : Step) → s ≡ Uuv → result_size s (shape_of part) (option_map shape_of other) ≡ None → ⊥
+    go Lengthen is h = cc
+    go AppendOne is h = cc
+    go Parity is h = cc
+    go (Puncture places) is h = cc
+    go (Shorten places digits) is h = cc
+    go (Translate by) is h = cc
+    go Complement is h = cc
+    go (Select by) is h = cc
+    go Uuv is h = cc
+    go Juxtapose is h = cc
+    go (Trim size) is h = cc
 
 none_above : (count : ℕ) → count ≤ MAX_BUILT → above_limit count ≡ None
 none_above count few = go (nat_lt MAX_BUILT count) refl
@@ -73,41 +122,68 @@ few_from count none = go (nat_lt MAX_BUILT count) refl none
     go true h none' = cc
     go false h none' = ltb-false MAX_BUILT count h
 
--- the sizes, where those of the parts are within the limit
-pub size_of_uuv : (e : Entry) (part : CodeValue) (other : Option CodeValue) → above_limit (length part.words) ≡ None
-    → above_limit (length (words_of (other_of Uuv other))) ≡ None
-    → size_fault Uuv e part other ≡ above_limit (length part.words * length (words_of (other_of Uuv other)))
+-- where no more words result than the part has, their number gives no reason
+size_few : (step : Step) (part : Shape) (other : Option Shape) (count : ℕ) → count ≤ part.size → size_fault step part other count ≡ size_fault step part other 0
 unfolding size_fault
-size_of_uuv e part other first second = rw (first, second) (ap above_limit (built-uuv e part other))
+size_few step part other count few = go (above_limit part.size) refl
+  where
+    go : (first : Option BuildFault) → above_limit part.size ≡ first
+        → first_of first (first_of (above_limit (size_of (other_of step other))) (above_limit count))
+        ≡ first_of first (first_of (above_limit (size_of (other_of step other))) (above_limit 0))
+    go (Some f) is = refl
+    go None is =
+        let within = few_from part.size is in
+        ap (λ z. first_of (above_limit (size_of (other_of step other))) z) (none_above count (omega arith) ∙ sym (none_above 0 (omega arith)))
 
-pub size_of_others : (step : Step) (e : Entry) (part : CodeValue) (other : Option CodeValue) → step ≢ Uuv → above_limit (length part.words) ≡ None
-    → above_limit (length (words_of (other_of step other))) ≡ None
-    → size_fault step e part other ≡ None
-unfolding size_fault
-size_of_others step e part other unlike first second =
-    let few = built-few step e part other unlike in
-    let within = few_from (length part.words) first in
-    rw (first, second) (none_above (length (built step e part other)) (omega arith))
+-- so the number of words that result is told early enough
+size_early : (step : Step) (e : Entry) (part : CodeValue) (other : Option CodeValue)
+    → size_fault step (shape_of part) (option_map shape_of other) (length (built step e part other))
+    ≡ size_fault step (shape_of part) (option_map shape_of other) (unwrap_or (result_size step (shape_of part) (option_map shape_of other)) 0)
+size_early step e part other = go (result_size step (shape_of part) (option_map shape_of other)) refl
+  where
+    go : (r : Option ℕ) → result_size step (shape_of part) (option_map shape_of other) ≡ r
+        → size_fault step (shape_of part) (option_map shape_of other) (length (built step e part other))
+        ≡ size_fault step (shape_of part) (option_map shape_of other) (unwrap_or r 0)
+    go (Some k) is = ap (size_fault step (shape_of part) (option_map shape_of other)) (result_size-is step e part other k is)
+    go None is = size_few step (shape_of part) (option_map shape_of other) _ (result_size-none step e part other is)
+
+-- the shapes tell the first reason, but that no word results
+pub counted_early : (step : Step) (e : Entry) (part : CodeValue) (other : Option CodeValue)
+    → counted_fault step e (shape_of part) (option_map shape_of other) (length (built step e part other))
+    ≡ early_fault step e (shape_of part) (option_map shape_of other)
+unfolding early_fault
+counted_early step e part other =
+    ap (λ z. first_of (part_fault step e (shape_of part))
+    (first_of (other_fault step e (shape_of part) (option_map shape_of other))
+    (first_of (short_fault (step_distance step part.d (distance_of (option_map shape_of other))) e.d) (first_of z (few_fault step (length part.words))))))
+    (size_early step e part other)
+
+pub reasons_told : (step : Step) (e : Entry) (part : CodeValue) (other : Option CodeValue)
+    → build_fault step e part other ≡ first_of (early_fault step e (shape_of part) (option_map shape_of other)) (empty_fault (built step e part other))
+unfolding build_fault
+reasons_told step e part other = ap (λ z. first_of z (empty_fault (built step e part other))) (counted_early step e part other)
 
 -- the first reason, told from the earlier ones and the number of words
-pub fault_early : (step : Step) (e : Entry) (part : CodeValue) (other : Option CodeValue) (f : BuildFault) → early_fault step e part other ≡ Some f
+pub fault_early : (step : Step) (e : Entry) (part : CodeValue) (other : Option CodeValue) (f : BuildFault)
+    → early_fault step e (shape_of part) (option_map shape_of other) ≡ Some f
     → build_fault step e part other ≡ Some f
-unfolding build_fault
-fault_early step e part other f is = rw is refl
+fault_early step e part other f is = reasons_told step e part other ∙ ap (λ z. first_of z (empty_fault (built step e part other))) is
 
-pub fault_empty : (step : Step) (e : Entry) (part : CodeValue) (other : Option CodeValue) → early_fault step e part other ≡ None
+pub fault_empty : (step : Step) (e : Entry) (part : CodeValue) (other : Option CodeValue)
+    → early_fault step e (shape_of part) (option_map shape_of other) ≡ None
     → length (built step e part other) ≡ 0 → build_fault step e part other ≡ Some Empty
-unfolding build_fault
-fault_empty step e part other is none = rw is (go (built step e part other) none)
+fault_empty step e part other is none =
+    reasons_told step e part other ∙ ap (λ z. first_of z (empty_fault (built step e part other))) is ∙ go (built step e part other) none
   where
     go : (words : List ℕ) → length words ≡ 0 → empty_fault words ≡ Some Empty
     go [] h = refl
     go (x ∷ xs) h = absurd (omega arith)
 
-pub fault_none : (step : Step) (e : Entry) (part : CodeValue) (other : Option CodeValue) → early_fault step e part other ≡ None
+pub fault_none : (step : Step) (e : Entry) (part : CodeValue) (other : Option CodeValue)
+    → early_fault step e (shape_of part) (option_map shape_of other) ≡ None
     → 1 ≤ length (built step e part other) → build_fault step e part other ≡ None
-unfolding build_fault
-fault_none step e part other is some = rw is (go (built step e part other) some)
+fault_none step e part other is some =
+    reasons_told step e part other ∙ ap (λ z. first_of z (empty_fault (built step e part other))) is ∙ go (built step e part other) some
   where
     go : (words : List ℕ) → 1 ≤ length words → empty_fault words ≡ None
     go [] h = absurd (omega arith)
@@ -115,36 +191,36 @@ fault_none step e part other is some = rw is (go (built step e part other) some)
 
 -- what is known where there is no reason
 pub early_none : (step : Step) (e : Entry) (part : CodeValue) (other : Option CodeValue) → build_fault step e part other ≡ None
-    → (early_fault step e part other ≡ None) × (empty_fault (built step e part other) ≡ None)
-unfolding build_fault
-early_none step e part other none = first_of-None (early_fault step e part other) (empty_fault (built step e part other)) none
+    → (early_fault step e (shape_of part) (option_map shape_of other) ≡ None) × (empty_fault (built step e part other) ≡ None)
+early_none step e part other none =
+    first_of-None (early_fault step e (shape_of part) (option_map shape_of other)) (empty_fault (built step e part other))
+    (sym (reasons_told step e part other) ∙ none)
 
 some_words : (words : List ℕ) → empty_fault words ≡ None → 1 ≤ length words
 some_words [] h = cc
 some_words (x ∷ xs) h = omega arith
 
-size_none : (step : Step) (e : Entry) (part : CodeValue) (other : Option CodeValue) → early_fault step e part other ≡ None → size_fault step e part other ≡ None
-unfolding early_fault
-size_none step e part other none =
-    let one = first_of-None (part_fault step e part) _ none in
-    let two = first_of-None (other_fault step e part other) _ one.1 in
-    let three = first_of-None (short_fault (step_distance step part.d (distance_of other)) e.d) _ two.1 in
-    let four = first_of-None (size_fault step e part other) _ three.1 in
-    four.0
-
-few_words : (step : Step) (e : Entry) (part : CodeValue) (other : Option CodeValue) → size_fault step e part other ≡ None → length (built step e part other) ≤ MAX_BUILT
+-- no more words result than the limit allows
+few_words : (step : Step) (e : Entry) (part : CodeValue) (other : Option CodeValue)
+    → early_fault step e (shape_of part) (option_map shape_of other) ≡ None → length (built step e part other) ≤ MAX_BUILT
 unfolding size_fault
 few_words step e part other none =
-    let one = first_of-None (above_limit (length part.words)) _ none in
-    let two = first_of-None (above_limit (length (words_of (other_of step other)))) _ one.1 in
-    few_from (length (built step e part other)) two.1
+    let beside = option_map shape_of other in
+    let count = length (built step e part other) in
+    let one = first_of-None (part_fault step e (shape_of part)) _ (counted_early step e part other ∙ none) in
+    let two = first_of-None (other_fault step e (shape_of part) beside) _ one.1 in
+    let three = first_of-None (short_fault (step_distance step part.d (distance_of beside)) e.d) _ two.1 in
+    let four = first_of-None (size_fault step (shape_of part) beside count) _ three.1 in
+    let first = first_of-None (above_limit (length part.words)) _ four.0 in
+    let second = first_of-None (above_limit (size_of (other_of step beside))) _ first.1 in
+    few_from count second.1
 
 -- a step against which there is no reason makes 1 to MAX_BUILT words
 pub built-size : (step : Step) (e : Entry) (part : CodeValue) (other : Option CodeValue) → build_fault step e part other ≡ None
     → (1 ≤ length (built step e part other)) × (length (built step e part other) ≤ MAX_BUILT)
 built-size step e part other none =
     let both = early_none step e part other none in
-    (some_words (built step e part other) both.1, few_words step e part other (size_none step e part other both.0))
+    (some_words (built step e part other) both.1, few_words step e part other both.0)
 
 -- a step that needs no other code does not look at one
 pub built-alone : (step : Step) (e : Entry) (part : CodeValue) (other : Option CodeValue) → step ≢ Uuv → step ≢ Juxtapose → built step e part other ≡ built step e part None
@@ -199,19 +275,19 @@ unfolding NotMemory
 unless_NotMemory true f other = λ is. cc
 unless_NotMemory false f other = λ is. other (Some-fault f Memory is)
 
-few_NotMemory : (step : Step) (words : List ℕ) → NotMemory (few_fault step words)
+few_NotMemory : (step : Step) (count : ℕ) → NotMemory (few_fault step count)
 unfolding few_fault NotMemory
-few_NotMemory (Trim size) words = if_NotMemory (nat_lt (length words) size) (Few (length words) size) (λ is. cc)
-few_NotMemory step words = λ is. cc
+few_NotMemory (Trim size) count = if_NotMemory (nat_lt count size) (Few count size) (λ is. cc)
+few_NotMemory step count = λ is. cc
 
-size_NotMemory : (step : Step) (e : Entry) (part : CodeValue) (other : Option CodeValue) → NotMemory (size_fault step e part other)
+size_NotMemory : (step : Step) (part : Shape) (other : Option Shape) (result : ℕ) → NotMemory (size_fault step part other result)
 unfolding size_fault
-size_NotMemory step e part other =
-    first_NotMemory (above_limit (length part.words)) _ (if_NotMemory (nat_lt MAX_BUILT (length part.words)) _ (λ is. cc))
-    (first_NotMemory (above_limit (length (words_of (other_of step other)))) _ (if_NotMemory (nat_lt MAX_BUILT (length (words_of (other_of step other)))) _ (λ is. cc))
-    (if_NotMemory (nat_lt MAX_BUILT (length (built step e part other))) _ (λ is. cc)))
+size_NotMemory step part other result =
+    first_NotMemory (above_limit part.size) _ (if_NotMemory (nat_lt MAX_BUILT part.size) _ (λ is. cc))
+    (first_NotMemory (above_limit (size_of (other_of step other))) _ (if_NotMemory (nat_lt MAX_BUILT (size_of (other_of step other))) _ (λ is. cc))
+    (if_NotMemory (nat_lt MAX_BUILT result) _ (λ is. cc)))
 
-pub early_not_memory : (step : Step) (e : Entry) (part : CodeValue) (other : Option CodeValue) (f : BuildFault) → early_fault step e part other ≡ Some f → f ≢ Memory
+pub early_not_memory : (step : Step) (e : Entry) (part : Shape) (other : Option Shape) (f : BuildFault) → early_fault step e part other ≡ Some f → f ≢ Memory
 unfolding early_fault NotMemory
 early_not_memory step e part other f is memory =
     let have = step_distance step part.d (distance_of other) in
@@ -219,7 +295,7 @@ early_not_memory step e part other f is memory =
     first_NotMemory (part_fault step e part) _ (unless_NotMemory (is_right_length step e.n part.n && is_right_weight step e.n e.w part.w) _ (λ q. cc))
     (first_NotMemory (other_fault step e part other) _ (unless_NotMemory (is_right_other step e part other) _ (λ q. cc))
     (first_NotMemory (short_fault have e.d) _ (if_NotMemory (nat_lt have e.d) _ (λ q. cc))
-    (first_NotMemory (size_fault step e part other) _ (size_NotMemory step e part other) (few_NotMemory step part.words)))) in
+    (first_NotMemory (size_fault step part other _) _ (size_NotMemory step part other _) (few_NotMemory step part.size)))) in
     never (is ∙ ap Some memory)
 
 -- a list with something in it
@@ -247,3 +323,35 @@ pub trim_some : (step : Step) (size : ℕ) (e : Entry) (part : CodeValue) (other
     → built step e part other ≢ []
 trim_some step size e part other is fits some =
     subst (λ s. built s e part other ≢ []) (sym is) (trimmed_some size e part other (subst (λ s. FitsStated s e) is fits) some)
+
+-- a step whose shapes tell the number of its words makes one
+told_some : (step : Step) (e : Entry) (part : CodeValue) (other : Option CodeValue) → FitsStated step e → 1 ≤ length part.words
+    → IfSome other (λ o. 1 ≤ length o.words) → IsReady step e part other
+    → result_size step (shape_of part) (option_map shape_of other) ≢ None → 1 ≤ length (built step e part other)
+unfolding result_size built FieldsFit is_right_other
+told_some Lengthen e part other fits some second is known = let n = length-lengthened part.words in omega arith
+told_some AppendOne e part other fits some second is known = let n = length-one_appended part.words in omega arith
+told_some Parity e part other fits some second is known = let n = length-with_parity part.n part.words in omega arith
+told_some (Puncture places) e part other fits some second is known = let n = length-punctured part.n places part.words in omega arith
+told_some (Shorten places digits) e part other fits some second is known = absurd (known refl)
+told_some (Translate by) e part other fits some second is known = let n = length-translated by part.words in omega arith
+told_some Complement e part other fits some second is known = let n = length-complemented part.n part.words in omega arith
+told_some (Select by) e part other fits some second is known = absurd (known refl)
+told_some Uuv e part None fits some second is known = absurd (let h = is.beside in cc)
+told_some Uuv e part (Some o) fits some second is known =
+    let n = length-uuv_words part.n part.words o.words in
+    let product = mul-le-mul_right {m = 1} {n = length part.words} (length o.words) some in
+    omega arith
+told_some Juxtapose e part None fits some second is known = absurd (let h = is.beside in cc)
+told_some Juxtapose e part (Some o) fits some second is known = let n = length-juxtaposed o.n part.words o.words in omega arith
+told_some (Trim size) e part other fits some second is known = let n = length-take size part.words in let fields = fits.fields.0 in omega arith
+
+pub reasons_alone : (step : Step) (e : Entry) (part : CodeValue) (other : Option CodeValue) → FitsStated step e → 1 ≤ length part.words
+    → IfSome other (λ o. 1 ≤ length o.words) → result_size step (shape_of part) (option_map shape_of other) ≢ None
+    → build_fault step e part other ≡ early_fault step e (shape_of part) (option_map shape_of other)
+reasons_alone step e part other fits some second known = go (early_fault step e (shape_of part) (option_map shape_of other)) refl
+  where
+    go : (r : Option BuildFault) → early_fault step e (shape_of part) (option_map shape_of other) ≡ r
+        → build_fault step e part other ≡ early_fault step e (shape_of part) (option_map shape_of other)
+    go (Some f) is = fault_early step e part other f is ∙ sym is
+    go None is = fault_none step e part other is (told_some step e part other fits some second (ready step e part other is) known) ∙ sym is

@@ -15,14 +15,14 @@ use Rattle.ct_constructions.specs.Shortened.{shortened_weight}
 use Rattle.ct_constructions.specs.Places.{ArePlaces}
 use Rattle.ct_build.specs.declared.step.Step.{Step}
 use Rattle.ct_build.specs.declared.step.Step.TheVariants.{Lengthen, AppendOne, Parity, Puncture, Shorten, Translate, Complement, Select, Uuv, Juxtapose, Trim}
-use Rattle.ct_build.specs.Build.{FieldsFit, FitsStated, is_right_length, gives_weight, is_right_weight, add_up, is_right_other, distance_of, step_distance, part_fault, other_fault, short_fault, early_fault}
+use Rattle.ct_build.specs.Build.{FieldsFit, FitsStated, shape_of, is_right_length, gives_weight, is_right_weight, add_up, is_right_other, distance_of, step_distance, part_fault, other_fault, short_fault, early_fault}
 
 -- the parts are such as the step asks for, and it gives the stated distance
 pub record IsReady (step : Step) (e : Entry) (part : CodeValue) (other : Option CodeValue) : Type 0 where
   pub long : is_right_length step e.n part.n ≡ true
   pub heavy : is_right_weight step e.n e.w part.w ≡ true
-  pub beside : is_right_other step e part other ≡ true
-  pub far : e.d ≤ step_distance step part.d (distance_of other)
+  pub beside : is_right_other step e (shape_of part) (option_map shape_of other) ≡ true
+  pub far : e.d ≤ step_distance step part.d (distance_of (option_map shape_of other))
 
 then_true : {X : Type 0} (b : Bool) (f : X) → (if b then None else Some f) ≡ None → b ≡ true
 then_true true f h = refl
@@ -32,18 +32,20 @@ else_false : {X : Type 0} (b : Bool) (f : X) → (if b then Some f else None) �
 else_false true f h = cc
 else_false false f h = refl
 
-pub ready : (step : Step) (e : Entry) (part : CodeValue) (other : Option CodeValue) → early_fault step e part other ≡ None → IsReady step e part other
+pub ready : (step : Step) (e : Entry) (part : CodeValue) (other : Option CodeValue)
+    → early_fault step e (shape_of part) (option_map shape_of other) ≡ None → IsReady step e part other
 unfolding early_fault
 ready step e part other none =
-    let one = first_of-None (part_fault step e part) _ none in
-    let two = first_of-None (other_fault step e part other) _ one.1 in
-    let three = first_of-None (short_fault (step_distance step part.d (distance_of other)) e.d) _ two.1 in
+    let beside = option_map shape_of other in
+    let one = first_of-None (part_fault step e (shape_of part)) _ none in
+    let two = first_of-None (other_fault step e (shape_of part) beside) _ one.1 in
+    let three = first_of-None (short_fault (step_distance step part.d (distance_of beside)) e.d) _ two.1 in
     let both = and_parts (is_right_length step e.n part.n) (is_right_weight step e.n e.w part.w) (then_true _ _ one.0) in
     record {
       long = both.0;
       heavy = both.1;
-      beside = then_true (is_right_other step e part other) _ two.0;
-      far = ltb-false (step_distance step part.d (distance_of other)) e.d (else_false _ _ three.0);
+      beside = then_true (is_right_other step e (shape_of part) beside) _ two.0;
+      far = ltb-false (step_distance step part.d (distance_of beside)) e.d (else_false _ _ three.0);
     }
 
 -- where no weight is stated any weight serves
@@ -145,7 +147,8 @@ beside_juxtapose e part o ready =
     (eqb-true (part.n + o.n) e.n both.0, both.1)
 
 -- the same of a step that is told by its kind
-pub ready_at : (step kind : Step) (e : Entry) (part : CodeValue) (other : Option CodeValue) → step ≡ kind → early_fault step e part other ≡ None → IsReady kind e part other
+pub ready_at : (step kind : Step) (e : Entry) (part : CodeValue) (other : Option CodeValue) → step ≡ kind
+    → early_fault step e (shape_of part) (option_map shape_of other) ≡ None → IsReady kind e part other
 ready_at step kind e part other is none = subst (λ s. IsReady s e part other) is (ready step e part other none)
 
 pub fits_at : (step kind : Step) (e : Entry) → step ≡ kind → FitsStated step e → FitsStated kind e

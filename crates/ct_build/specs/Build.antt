@@ -1,8 +1,10 @@
 -- The steps by which a code of a stated entry is built from one or two codes, and why a step is refused.
-use Rattle.std.specs.Prelude.{◌≡◌, ◌≢◌, ℕ, ◌+◌, ◌*◌, ◌-◌, ◌%◌, ◌^◌, ◌<◌, ◌≤◌, Bool, true, false, nat_lt, ◌==◌, ◌&&◌, if◌then◌else◌, List, [], ◌∷◌, length, take, count_by, All, min, ⊤, Option, Some, None}
+use Rattle.std.specs.Prelude.{◌≡◌, ◌≢◌, ℕ, ◌+◌, ◌*◌, ◌-◌, ◌%◌, ◌^◌, ◌<◌, ◌≤◌, Bool, true, false, nat_lt, ◌==◌, ◌&&◌, if◌then◌else◌, List, [], ◌∷◌, length, take, count_by, All, min, ⊤, Option, Some, None, option_map}
+use Rattle.std.specs.Option.{unwrap_or, ForSome}
 use Rattle.ct_words.specs.declared.limits.TheConstants.{MAX_N}
 use Rattle.ct_codes.specs.declared.entry.Entry.{Entry}
 use Rattle.ct_codes.specs.Entry.{IsEntry, same_weight}
+use Rattle.ct_codes.specs.declared.code.TheConstants.{MAX_CODE_DISTANCE}
 use Rattle.ct_codes.specs.Code.{CodeValue}
 use Rattle.ct_codes.specs.Pairs.{first_of}
 use Rattle.ct_constructions.specs.Even.{even_from}
@@ -16,6 +18,7 @@ use Rattle.ct_constructions.specs.Juxtaposed.{juxtaposed, added_weights}
 use Rattle.ct_build.specs.declared.building.TheConstants.{MAX_BUILT}
 use Rattle.ct_build.specs.declared.fault.BuildFault.{BuildFault}
 use Rattle.ct_build.specs.declared.fault.BuildFault.TheVariants.{WrongPart, Short, Size, Few, Empty}
+use Rattle.ct_build.specs.declared.shape.Shape.{Shape}
 use Rattle.ct_build.specs.declared.step.Step.{Step}
 use Rattle.ct_build.specs.declared.step.Step.TheVariants.{Lengthen, AppendOne, Parity, Puncture, Shorten, Translate, Complement, Select, Uuv, Juxtapose, Trim}
 
@@ -39,6 +42,16 @@ FieldsFit (Trim size) e = (1 ≤ size) × (size ≤ MAX_BUILT)
 pub record FitsStated (step : Step) (stated : Entry) : Type 0 where
   pub entry : IsEntry stated
   pub fields : FieldsFit step stated
+
+-- what is known of a code without its words
+abbrev pub shape_of : CodeValue → Shape
+shape_of code = record { n = code.n; d = code.d; w = code.w; size = length code.words }
+
+-- the shape is within the limits of codes
+pub record IsShape (shape : Shape) : Type 0 where
+  pub length_to : shape.n ≤ MAX_N
+  pub distance_to : shape.d ≤ MAX_CODE_DISTANCE
+  pub weight_to : ForSome shape.w (λ k. k ≤ MAX_N)
 
 -- whether the step makes words of length n of words of length m
 unfoldable pub is_right_length : Step → ℕ → ℕ → Bool
@@ -75,7 +88,7 @@ add_up None u v = true
 add_up (Some w) u v = same_weight (added_weights u v) (Some w)
 
 -- whether the other code, if one is handed in, is such as the step asks for beside the part
-unfoldable pub is_right_other : Step → Entry → CodeValue → Option CodeValue → Bool
+unfoldable pub is_right_other : Step → Entry → Shape → Option Shape → Bool
 is_right_other Uuv e part None = false
 is_right_other Uuv e part (Some other) = 2 * other.n == e.n
 is_right_other Juxtapose e part None = false
@@ -83,18 +96,18 @@ is_right_other Juxtapose e part (Some other) = part.n + other.n == e.n && add_up
 is_right_other step e part other = true
 
 -- the other code, where the step needs one
-unfoldable pub other_of : Step → Option CodeValue → Option CodeValue
+unfoldable pub other_of : Step → Option Shape → Option Shape
 other_of Uuv other = other
 other_of Juxtapose other = other
 other_of step other = None
 
--- the words of a code that is handed in
-abbrev pub words_of : Option CodeValue → List ℕ
-words_of None = []
-words_of (Some code) = code.words
+-- the number of words of a code that is handed in
+abbrev pub size_of : Option Shape → ℕ
+size_of None = 0
+size_of (Some code) = code.size
 
 -- the distance of a code that is handed in
-abbrev pub distance_of : Option CodeValue → ℕ
+abbrev pub distance_of : Option Shape → ℕ
 distance_of None = 0
 distance_of (Some code) = code.d
 
@@ -128,12 +141,21 @@ built Juxtapose e part None = []
 built Juxtapose e part (Some other) = juxtaposed other.n part.words other.words
 built (Trim size) e part other = take size part.words
 
+-- the number of words that the step makes of codes of these shapes, none where that depends on their words
+unfoldable pub result_size : Step → Shape → Option Shape → Option ℕ
+result_size (Shorten places digits) part other = None
+result_size (Select by) part other = None
+result_size Uuv part other = Some (part.size * size_of other)
+result_size Juxtapose part other = Some (min part.size (size_of other))
+result_size (Trim size) part other = Some (min size part.size)
+result_size step part other = Some part.size
+
 -- the part has another length or weight than the step asks for
-abbrev pub part_fault : Step → Entry → CodeValue → Option BuildFault
+abbrev pub part_fault : Step → Entry → Shape → Option BuildFault
 part_fault step e part = if is_right_length step e.n part.n && is_right_weight step e.n e.w part.w then None else Some (WrongPart 0)
 
 -- the other code is not such as the step asks for
-abbrev pub other_fault : Step → Entry → CodeValue → Option CodeValue → Option BuildFault
+abbrev pub other_fault : Step → Entry → Shape → Option Shape → Option BuildFault
 other_fault step e part other = if is_right_other step e part other then None else Some (WrongPart 1)
 
 -- one distance is below the other, which is wanted
@@ -144,31 +166,34 @@ short_fault have want = if nat_lt have want then Some (Short have want) else Non
 abbrev pub above_limit : ℕ → Option BuildFault
 above_limit count = if nat_lt MAX_BUILT count then Some (Size count) else None
 
--- the first number of words above the limit: of the part, of the other code where the step needs one, of the result
-unfoldable pub size_fault : Step → Entry → CodeValue → Option CodeValue → Option BuildFault
-size_fault step e part other =
-    first_of (above_limit (length part.words))
-    (first_of (above_limit (length (words_of (other_of step other)))) (above_limit (length (built step e part other))))
+-- the first number of words above the limit: of the part, of the other code where the step needs one, of the result, which is given
+unfoldable pub size_fault : Step → Shape → Option Shape → ℕ → Option BuildFault
+size_fault step part other result = first_of (above_limit part.size) (first_of (above_limit (size_of (other_of step other))) (above_limit result))
 
--- the part has fewer words than are wanted
-unfoldable pub few_fault : Step → List ℕ → Option BuildFault
-few_fault (Trim size) words = if nat_lt (length words) size then Some (Few (length words) size) else None
-few_fault step words = None
+-- the part has fewer words than are wanted, of so many that it has
+unfoldable pub few_fault : Step → ℕ → Option BuildFault
+few_fault (Trim size) count = if nat_lt count size then Some (Few count size) else None
+few_fault step count = None
 
 -- no word results
 abbrev pub empty_fault : List ℕ → Option BuildFault
 empty_fault [] = Some Empty
 empty_fault (x ∷ xs) = None
 
--- the first reason against the step that can be told before it is taken: a wrong part, a wrong other code, too small a distance, too many words,
--- too few words, in this order
-unfoldable pub early_fault : Step → Entry → CodeValue → Option CodeValue → Option BuildFault
-early_fault step e part other =
+-- the first reason against the step over codes of these shapes, where so many words result: a wrong part, a wrong other code, too small a distance,
+-- too many words, too few words, in this order
+abbrev pub counted_fault : Step → Entry → Shape → Option Shape → ℕ → Option BuildFault
+counted_fault step e part other result =
     first_of (part_fault step e part)
     (first_of (other_fault step e part other)
     (first_of (short_fault (step_distance step part.d (distance_of other)) e.d)
-    (first_of (size_fault step e part other) (few_fault step part.words))))
+    (first_of (size_fault step part other result) (few_fault step part.size))))
 
--- the first reason against the step, none where there is none: one of these, or that no word results
+-- the first reason against the step that the shapes of the codes tell: of the number of words that result only where that does not depend on the words
+unfoldable pub early_fault : Step → Entry → Shape → Option Shape → Option BuildFault
+early_fault step e part other = counted_fault step e part other (unwrap_or (result_size step part other) 0)
+
+-- the first reason against the step, none where there is none: one of these, over the number of words that it makes, or that no word results
 unfoldable pub build_fault : Step → Entry → CodeValue → Option CodeValue → Option BuildFault
-build_fault step e part other = first_of (early_fault step e part other) (empty_fault (built step e part other))
+build_fault step e part other =
+    first_of (counted_fault step e (shape_of part) (option_map shape_of other) (length (built step e part other))) (empty_fault (built step e part other))

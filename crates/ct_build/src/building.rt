@@ -1,13 +1,14 @@
 //! Codes of a stated entry, built from other codes by a step.
 
 ghost use Rattle.std.specs.Prelude.{◌≡◌, ◌≢◌, Some, None, IfOk, OnOk, IfErr, IsPermutation};
-ghost use Rattle.std.specs.Option.{option_copied};
+ghost use Rattle.std.specs.Option.{option_copied, option_map, ForSome};
 ghost use Rattle.ct_codes.specs.Code.{IsSoundCode};
-ghost use Rattle.ct_build.specs.Build.{FitsStated, built, build_fault};
+ghost use Rattle.ct_build.specs.Build.{FitsStated, IsShape, shape_of, built, build_fault};
 
 use crate::build_faults::early_fault;
 use crate::built_words::built_words;
 use crate::fault::BuildFault;
+use crate::shape::Shape;
 use crate::sorted::code_of;
 use crate::step::Step;
 use ct_codes::{Code, Entry};
@@ -47,7 +48,7 @@ pub fn apply(
     ensures w { IfOk result (λ c. c.w ≡ stated.w) }
     ensures sound { IfOk result IsSoundCode }
 {
-    if let Some(fault) = early_fault(step, stated, part, other) {
+    if let Some(fault) = early_fault(step, stated, Shape::of(part), shape_beside(other)) {
         return Err(fault);
     }
     let words = built_words(alloc, step, stated, part, other)?;
@@ -55,4 +56,16 @@ pub fn apply(
         return Err(BuildFault::Empty);
     }
     Ok(code_of(stated.n, stated.d, stated.w, words))
+}
+
+/// The shape of a code that may be handed in.
+fn shape_beside(other: Option<&Code>) -> Option<Shape>
+    ensures value { result ≡ option_map shape_of (option_copied other.entry) }
+    ensures limits { ForSome result IsShape }
+    ensures sound { ForSome (option_copied other.entry) IsSoundCode }
+{
+    match other {
+        Some(code) => Some(Shape::of(code)),
+        None => None,
+    }
 }

@@ -1,14 +1,15 @@
 //! What building by a step gives, whatever the step, the stated entry and the codes, and builds whose answer is known.
 
-ghost use Rattle.std.specs.Prelude.{◌≡◌, ◌≢◌, ℕ, ◌≤◌, List, [], ◌∷◌, length, Option, Some, None, IfSome};
+ghost use Rattle.std.specs.Prelude.{◌≡◌, ◌≢◌, ℕ, ◌≤◌, List, [], ◌∷◌, length, Option, Some, None, IfSome, option_map};
 ghost use Rattle.ct_codes.specs.declared.entry.Entry.{Entry};
 ghost use Rattle.ct_codes.specs.Entry.{unrestricted, constant_weight};
 ghost use Rattle.ct_codes.specs.Code.{CodeValue, IsCode, IsCodeOf};
+ghost use Rattle.ct_codes.specs.Pairs.{first_of};
 ghost use Rattle.ct_build.specs.declared.building.TheConstants.{MAX_BUILT};
 ghost use Rattle.ct_build.specs.declared.fault.BuildFault.TheVariants.{WrongPart, Short, Few, Empty};
 ghost use Rattle.ct_build.specs.declared.step.Step.{Step};
 ghost use Rattle.ct_build.specs.declared.step.Step.TheVariants.{Lengthen, AppendOne, Parity, Puncture, Select, Uuv, Juxtapose, Trim};
-ghost use Rattle.ct_build.specs.Build.{FitsStated, built, build_fault};
+ghost use Rattle.ct_build.specs.Build.{FitsStated, shape_of, result_size, built, empty_fault, early_fault, build_fault};
 
 /// Where the step fits the stated entry and there is no reason against it, it makes 1 to `MAX_BUILT` words, which are a
 /// code of the entry. A step that needs no other code does not look at one.
@@ -23,6 +24,24 @@ pub fn builds_are_codes_of_the_entry()
         step ≢ Uuv → step ≢ Juxtapose → build_fault step e part other ≡ build_fault step e part None }
     ensures alone_words { (step : Step) (e : Entry) (part : CodeValue) (other : Option CodeValue) →
         step ≢ Uuv → step ≢ Juxtapose → built step e part other ≡ built step e part None }
+{}
+
+/// The shapes of the codes tell the first reason against a step, but for one: that no word results, which only `shorten`
+/// and `select` may give, over words that there are. The number of words that these make depends on the words and is at
+/// most that of the part; of every other step it is told by the shapes.
+pub fn shapes_tell_the_reasons()
+    ensures reasons { (step : Step) (e : Entry) (part : CodeValue) (other : Option CodeValue) →
+        build_fault step e part other ≡
+        first_of (early_fault step e (shape_of part) (option_map shape_of other)) (empty_fault (built step e part other)) }
+    ensures alone { (step : Step) (e : Entry) (part : CodeValue) (other : Option CodeValue) → FitsStated step e →
+        1 ≤ length part.words → IfSome other (λ o. 1 ≤ length o.words) →
+        result_size step (shape_of part) (option_map shape_of other) ≢ None →
+        build_fault step e part other ≡ early_fault step e (shape_of part) (option_map shape_of other) }
+    ensures size { (step : Step) (e : Entry) (part : CodeValue) (other : Option CodeValue) (k : ℕ) →
+        result_size step (shape_of part) (option_map shape_of other) ≡ Some k → length (built step e part other) ≡ k }
+    ensures most { (step : Step) (e : Entry) (part : CodeValue) (other : Option CodeValue) →
+        result_size step (shape_of part) (option_map shape_of other) ≡ None →
+        length (built step e part other) ≤ length part.words }
 {}
 
 /// Builds from the words 000 and 111, a code of distance 3, and from 0011 and 1100, a code of distance 4 and weight 2.

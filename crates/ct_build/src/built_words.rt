@@ -1,11 +1,11 @@
 //! The words that a step makes.
 
 ghost use Rattle.std.specs.Prelude.{◌≡◌, ◌+◌, ◌*◌, ◌^◌, ◌<◌, ◌≤◌, ◌≢◌, [], take, None, IfOk, OnErr, IsPermutation};
-ghost use Rattle.std.specs.Option.{option_copied, ForSome};
+ghost use Rattle.std.specs.Option.{option_copied, option_map, ForSome};
 ghost use Rattle.ct_words.specs.declared.limits.TheConstants.{MAX_N};
 ghost use Rattle.ct_codes.specs.declared.entry.Entry.{Entry};
 ghost use Rattle.ct_build.specs.declared.step.Step.TheVariants.{Uuv, Juxtapose};
-ghost use Rattle.ct_build.specs.Build.{FitsStated, selected_of, built, early_fault};
+ghost use Rattle.ct_build.specs.Build.{FitsStated, shape_of, selected_of, built, early_fault};
 
 use crate::append::{followed_by_digit, followed_by_parity};
 use crate::juxtaposed::joined_words;
@@ -28,7 +28,7 @@ pub(crate) fn built_words(
     other: Option<&Code>,
 ) -> Result<Vec<Word>, AllocError>
     requires fits { FitsStated step.now stated }
-    requires faultless { early_fault step.now stated part.now (option_copied other) ≡ None }
+    requires faultless { early_fault step.now stated (shape_of part.now) (option_map shape_of (option_copied other)) ≡ None }
     ensures words { IfOk result (λ v. IsPermutation (built step.now stated part.now (option_copied other.entry)) v.items) }
     ensures some { OnErr result (built step.now stated part.now (option_copied other.entry) ≢ []) }
 {

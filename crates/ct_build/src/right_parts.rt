@@ -1,14 +1,15 @@
 //! Whether codes are such as a step asks for.
 
 ghost use Rattle.std.specs.Prelude.{◌≡◌, ◌≤◌, ◌+◌, ◌==◌, ◌&&◌};
-ghost use Rattle.std.specs.Option.{option_copied, ForSome};
+ghost use Rattle.std.specs.Option.{ForSome};
 ghost use Rattle.ct_words.specs.declared.limits.TheConstants.{MAX_N};
-ghost use Rattle.ct_build.specs.Build.{FitsStated, is_right_length, gives_weight, is_right_weight, add_up, is_right_other};
+ghost use Rattle.ct_build.specs.Build.{IsShape, is_right_length, gives_weight, is_right_weight, add_up, is_right_other};
 
 use crate::even::even_from;
+use crate::shape::Shape;
 use crate::shortened::ones_among;
 use crate::step::Step;
-use ct_codes::{Code, Entry};
+use ct_codes::Entry;
 
 /// Whether the step makes words of length `n` of words of length `m`.
 #[tactic(auto, unfolding(crate::specs::Build::is_right_length))]
@@ -65,11 +66,13 @@ fn gives_weight(step: &Step, n: u32, v: u32, w: u32) -> bool
 
 /// Whether the other code is such as the step asks for.
 #[tactic(auto, unfolding(crate::specs::Build::is_right_other))]
-pub(crate) fn is_right_other(step: &Step, stated: Entry, part: &Code, other: Option<&Code>) -> bool
-    ensures { result ≡ is_right_other step.now stated part.now (option_copied other.entry) }
+pub(crate) fn is_right_other(step: &Step, stated: Entry, part: Shape, other: Option<Shape>) -> bool
+    requires part { IsShape part }
+    requires other { ForSome other IsShape }
+    ensures { result ≡ is_right_other step.now stated part other }
 {
     match (step, other) {
-        (Step::Uuv, Some(other)) => 2 * other.n() == stated.n,
+        (Step::Uuv, Some(other)) => 2 * other.n == stated.n,
         (Step::Juxtapose, Some(other)) => completes(stated, part, other),
         (Step::Uuv | Step::Juxtapose, None) => false,
         _ => true,
@@ -77,10 +80,12 @@ pub(crate) fn is_right_other(step: &Step, stated: Entry, part: &Code, other: Opt
 }
 
 /// Whether the lengths of two codes add up to the stated one, and their weights where one is stated.
-fn completes(stated: Entry, part: &Code, other: &Code) -> bool
-    ensures { result ≡ ((part.now.n + other.now.n == stated.n) && add_up stated.w part.now.w other.now.w) }
+fn completes(stated: Entry, part: Shape, other: Shape) -> bool
+    requires part { IsShape part }
+    requires other { IsShape other }
+    ensures { result ≡ ((part.n + other.n == stated.n) && add_up stated.w part.w other.w) }
 {
-    part.n() + other.n() == stated.n && add_up(stated.w, part.w(), other.w())
+    part.n + other.n == stated.n && add_up(stated.w, part.w, other.w)
 }
 
 /// Whether two weights add up to the one that is stated, where one is.

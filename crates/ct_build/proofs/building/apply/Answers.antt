@@ -1,16 +1,25 @@
-use Rattle.std.proofs.Common.{◌≡◌, length, None, sym, ◌∙◌, option_copied, arith, rules, eqb-true, false-eqb}
+use Rattle.std.proofs.Common.{◌≡◌, length, Option, None, sym, ◌∙◌, option_copied, arith, rules, eqb-true, false-eqb}
 use Rattle.std.proofs.lemmas.List.Sorted.{length_permutation, IsPermutation-trans}
 use Rattle.ct_codes.proofs.CheckLemmas.{IsCode-permutation}
+use Rattle.ct_codes.specs.declared.entry.Entry.{Entry}
+use Rattle.ct_build.specs.declared.fault.BuildFault.{BuildFault}
 use Rattle.ct_build.specs.declared.fault.BuildFault.TheVariants.{Memory}
-use Rattle.ct_build.specs.Build.{built, build_fault}
+use Rattle.ct_build.specs.declared.shape.Shape.{Shape}
+use Rattle.ct_build.specs.declared.step.Step.{Step}
+use Rattle.ct_build.specs.Build.{built, early_fault, build_fault}
 use Rattle.ct_build.proofs.StepLemmas.{ready}
 use Rattle.ct_build.proofs.BuiltCodes.{built_code, codes_of_sound}
 use Rattle.ct_build.proofs.BuildFaults.{fault_early, fault_empty, fault_none, early_not_memory, length_of_some, IfErr-anyway}
 use Rattle.ct_build.proofs.building.apply.Goals as goal
 
+-- what is found over the shapes that were read
+told : (step : Step) (e : Entry) {p q : Shape} {o r : Option Shape} {found : Option BuildFault} → p ≡ q → o ≡ r → found ≡ early_fault step e p o
+    → early_fault step e q r ≡ found
+told step e first second is = (λ i. early_fault step e (sym first i) (sym second i)) ∙ sym is
+
 pub returns-in-Some-clause-fault : goal.returns-in-Some-clause-fault
 returns-in-Some-clause-fault c = λ other.
-    fault_early c.args.step.now c.args.stated c.args.part.now (option_copied c.args.other) c.in-Some.fault (sym c.early_fault.ensures.fault ∙ c.in-Some.is)
+    fault_early c.args.step.now c.args.stated c.args.part.now (option_copied c.args.other) c.in-Some.fault (told c.args.step.now c.args.stated c.of.ensures.value c.shape_beside.ensures.value c.early_fault.ensures.value ∙ c.in-Some.is)
 
 pub returns-then-is_empty-clause-fault : goal.returns-then-is_empty-clause-fault
 returns-then-is_empty-clause-fault c = λ other.
@@ -18,17 +27,17 @@ returns-then-is_empty-clause-fault c = λ other.
     let same = length_permutation words c.in_ok-words.words.items c.in_ok-words.ensures.words in
     let none = eqb-true c.in_ok-words.words.len 0 (sym c.is_empty.ensures ∙ c.if-is_empty.true) in
     let long : length c.in_ok-words.words.items ≡ c.in_ok-words.words.len = search rules in
-    fault_empty c.args.step.now c.args.stated c.args.part.now (option_copied c.args.other) (sym c.early_fault.ensures.fault ∙ c.in_default.is) (omega arith)
+    fault_empty c.args.step.now c.args.stated c.args.part.now (option_copied c.args.other) (told c.args.step.now c.args.stated c.of.ensures.value c.shape_beside.ensures.value c.early_fault.ensures.value ∙ c.in_default.is) (omega arith)
 
 pub code_of-requires-clause-code : goal.code_of-requires-clause-code
 code_of-requires-clause-code c =
     let e = c.args.stated in
     let part = c.args.part.now in
     let other = option_copied c.args.other in
-    let faultless = sym c.early_fault.ensures.fault ∙ c.in_default.is in
+    let faultless = told c.args.step.now c.args.stated c.of.ensures.value c.shape_beside.ensures.value c.early_fault.ensures.value ∙ c.in_default.is in
     IsCode-permutation e.n e.d e.w (built c.args.step.now e part other) c.in_ok-words.words.items c.in_ok-words.ensures.words
     (built_code c.args.step.now e part other c.requires.fits (ready c.args.step.now e part other faultless)
-    c.in_default.ensures.part.code (codes_of_sound other c.in_default.ensures.other))
+    c.of.ensures.sound.code (codes_of_sound other c.shape_beside.ensures.sound))
 
 pub returns-clause-accepted : goal.returns-clause-accepted
 returns-clause-accepted c =
@@ -36,7 +45,7 @@ returns-clause-accepted c =
     let same = length_permutation words c.in_ok-words.words.items c.in_ok-words.ensures.words in
     let some = false-eqb c.in_ok-words.words.len 0 (sym c.if-is_empty.false ∙ c.is_empty.ensures) in
     let long : length c.in_ok-words.words.items ≡ c.in_ok-words.words.len = search rules in
-    fault_none c.args.step.now c.args.stated c.args.part.now (option_copied c.args.other) (sym c.early_fault.ensures.fault ∙ c.in_default.is) (grind (arith, some))
+    fault_none c.args.step.now c.args.stated c.args.part.now (option_copied c.args.other) (told c.args.step.now c.args.stated c.of.ensures.value c.shape_beside.ensures.value c.early_fault.ensures.value ∙ c.in_default.is) (grind (arith, some))
 
 pub returns-clause-words : goal.returns-clause-words
 returns-clause-words c =
@@ -45,8 +54,7 @@ returns-clause-words c =
 
 pub returns-in-Some-clause-memory : goal.returns-in-Some-clause-memory
 returns-in-Some-clause-memory c = λ memory.
-    absurd (early_not_memory c.args.step.now c.args.stated c.args.part.now (option_copied c.args.other) c.in-Some.fault
-    (sym c.early_fault.ensures.fault ∙ c.in-Some.is) memory)
+    absurd (early_not_memory c.args.step.now c.args.stated _ _ c.in-Some.fault (sym c.early_fault.ensures.value ∙ c.in-Some.is) memory)
 
 pub returns-in_err-words-clause-memory : goal.returns-in_err-words-clause-memory
 returns-in_err-words-clause-memory c =
@@ -55,4 +63,4 @@ returns-in_err-words-clause-memory c =
     let other = option_copied c.args.other in
     let words = built c.args.step.now e part other in
     IfErr-anyway c.from_residual.result (λ fault. fault ≡ Memory → build_fault c.args.step.now e part other ≡ None)
-    (λ fault memory. fault_none c.args.step.now e part other (sym c.early_fault.ensures.fault ∙ c.in_default.is) (length_of_some words c.in_err-words.ensures.some))
+    (λ fault memory. fault_none c.args.step.now e part other (told c.args.step.now c.args.stated c.of.ensures.value c.shape_beside.ensures.value c.early_fault.ensures.value ∙ c.in_default.is) (length_of_some words c.in_err-words.ensures.some))
