@@ -42,7 +42,7 @@ pub(crate) fn joined_words(
     requires second { All (λ y. y < 2 ^ m) second.now }
     ensures { IfOk result (λ v. v.items ≡ juxtaposed m first.now second.now) }
 {
-    let mut words = Vec::new(alloc);
+    let mut words = Vec::with_capacity(alloc, first.len().min(second.len()))?;
     for (x, y) in first.iter().zip(second) {
         words.push((*x << m) | *y)?;
     }

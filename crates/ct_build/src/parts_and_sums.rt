@@ -1,12 +1,14 @@
 //! The (u | u + v) construction.
 
-ghost use Rattle.std.specs.Prelude.{◌≡◌, ◌+◌, ◌*◌, ◌^◌, ◌<◌, ◌≤◌, map, ◌++◌, min, bit_xor, All, IfOk, OnOk, IsPermutation};
+ghost use Rattle.std.specs.Prelude.{◌≡◌, ◌+◌, ◌*◌, ◌^◌, ◌<◌, ◌≤◌, map, min, bit_xor, All, IfOk, IsPermutation};
+ghost use Rattle.std.specs.List.Sorted.{IsSorted};
+ghost use Rattle.std.specs.Ordering.{nat_cmp};
 ghost use Rattle.ct_words.specs.declared.limits.TheConstants.{MAX_N};
 ghost use Rattle.ct_codes.specs.Code.{IsSoundCode};
 ghost use Rattle.ct_constructions.specs.Joined.{followed_by};
 ghost use Rattle.ct_constructions.specs.Uuv.{uuv_words};
 
-use crate::sorted::code_of;
+use crate::sorted::{code_of, in_order};
 use ct_codes::Code;
 use ct_words::Word;
 use std::alloc::{AllocError, Global};
@@ -28,7 +30,8 @@ pub fn uuv(alloc: Global, part: &Code, other: &Code) -> Result<Code, AllocError>
     Ok(code_of(2 * n, d, None, words))
 }
 
-/// The words u followed by u + v, of words u and v of length n.
+/// The words u followed by u + v, of words u and v of length n. Those of each u ascend, so that all ascend where the words u
+/// do.
 pub(crate) fn words_and_sums(
     alloc: Global,
     n: u32,
@@ -38,24 +41,27 @@ pub(crate) fn words_and_sums(
     requires length { 2 * n ≤ MAX_N }
     requires first { All (λ u. u < 2 ^ n) us.now }
     requires second { All (λ v. v < 2 ^ n) vs.now }
-    ensures { IfOk result (λ w. w.items ≡ uuv_words n us.now vs.now) }
+    ensures { IfOk result (λ w. IsPermutation (uuv_words n us.now vs.now) w.items) }
 {
     let mut words = Vec::new(alloc);
     for u in us {
-        push_sums(&mut words, n, *u, vs)?;
+        let block = sums_after(alloc, n, *u, vs)?;
+        words.extend_from_slice(&block)?;
     }
     Ok(words)
 }
 
-/// Puts the word u, followed by its sum with each of the words v, to the end of the words. All have length n.
-fn push_sums(words: &mut Vec<Word>, n: u32, u: Word, vs: &[Word]) -> Result<(), AllocError>
+/// The word u followed by its sum with each of the words v, in ascending order. All have length n.
+fn sums_after(alloc: Global, n: u32, u: Word, vs: &[Word]) -> Result<Vec<Word>, AllocError>
     requires length { 2 * n ≤ MAX_N }
     requires first { u < 2 ^ n }
     requires second { All (λ v. v < 2 ^ n) vs.now }
-    ensures { OnOk result (words.new.items ≡ words.old.items ++ map (λ v. followed_by n u (bit_xor u v)) vs.now) }
+    ensures permutation { IfOk result (λ w. IsPermutation (map (λ v. followed_by n u (bit_xor u v)) vs.now) w.items) }
+    ensures sorted { IfOk result (λ w. IsSorted nat_cmp w.items) }
 {
+    let mut words = Vec::with_capacity(alloc, vs.len())?;
     for v in vs {
         words.push((u << n) | (u ^ *v))?;
     }
-    Ok(())
+    Ok(in_order(words))
 }

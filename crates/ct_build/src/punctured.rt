@@ -41,7 +41,7 @@ pub(crate) fn punctured_words(
     requires words { All (λ x. x < 2 ^ n) words.now }
     ensures { IfOk result (λ v. v.items ≡ punctured n places.now words.now) }
 {
-    let mut rest = Vec::new(alloc);
+    let mut rest = Vec::with_capacity(alloc, words.len())?;
     for word in words {
         rest.push(without_places(*word, n, places))?;
     }

@@ -10,12 +10,16 @@ ghost use Rattle.ct_codes.specs.Code.{IsCode, IsSoundCode};
 use ct_codes::Code;
 use ct_words::Word;
 
-/// The words in ascending order. No sort is made where they are in order already. It takes no memory.
-fn in_order(words: Vec<Word>) -> Vec<Word>
+/// The words in ascending order. No sort is made where they ascend already, or where they descend. It takes no memory.
+pub(crate) fn in_order(words: Vec<Word>) -> Vec<Word>
     ensures permutation { IsPermutation words.items result.items }
     ensures sorted { IsSorted nat_cmp result.items }
 {
+    if words.is_sorted() {
+        return words;
+    }
     let mut words = words;
+    words.reverse();
     if !words.is_sorted() {
         words.sort_unstable();
     }
@@ -23,7 +27,8 @@ fn in_order(words: Vec<Word>) -> Vec<Word>
 }
 
 /// The code of these words, which are one: words of length n, all different, each two at distance at least d, and of
-/// weight w where it is given. It sorts them only where they do not ascend already, and takes no memory.
+/// weight w where it is given. It sorts them only where they neither ascend nor descend already, and takes no
+/// memory.
 pub(crate) fn code_of(n: u32, d: u32, w: Option<u32>, words: Vec<Word>) -> Code
     requires length { (1 ≤ n) × (n ≤ MAX_N) }
     requires distance { (1 ≤ d) × (d ≤ MAX_CODE_DISTANCE) }

@@ -12,6 +12,7 @@ ghost use Rattle.ct_build.specs.declared.fault.BuildFault.TheVariants.{Empty, Me
 
 use crate::even::even_from;
 use crate::fault::BuildFault;
+use crate::sorted::in_order;
 use ct_codes::Code;
 use ct_words::{Word, weight};
 use std::alloc::{AllocError, Global};
@@ -59,11 +60,11 @@ pub fn select_weight(alloc: Global, part: &Code, by: Word, w: u32) -> Result<Cod
     ensures empty { (result ≡ Err Empty) ↔ (selected part.now.n by w part.now.words ≡ []) }
     ensures faults { IfErr result (λ fault. (fault ≡ Empty) ⊎ (fault ≡ Memory)) }
 {
-    let mut words = sums_of_weight(alloc, part, by, w)?;
+    let words = sums_of_weight(alloc, part, by, w)?;
     if words.is_empty() {
         return Err(BuildFault::Empty);
     }
-    words.sort_unstable();
+    let words = in_order(words);
     Ok(Code::from_sorted(part.n(), even_from(part.d()), Some(w), words))
 }
 
@@ -72,9 +73,8 @@ pub(crate) fn sorted_sums(alloc: Global, words: &[Word], by: Word) -> Result<Vec
     ensures permutation { IfOk result (λ v. IsPermutation (translated by words.now) v.items) }
     ensures sorted { IfOk result (λ v. IsSorted nat_cmp v.items) }
 {
-    let mut sums: Vec<Word> = words.iter().map(|word| *word ^ by).collect(alloc)?;
-    sums.sort_unstable();
-    Ok(sums)
+    let sums: Vec<Word> = words.iter().map(|word| *word ^ by).collect(alloc)?;
+    Ok(in_order(sums))
 }
 
 /// The words of weight w among the sums of each word of the part and the word `by`. It fails only where there is one.

@@ -12,9 +12,9 @@ from_sorted-requires c =
     let some = eqb-false _ 0 (sym c.is_empty.ensures ∙ c.if-is_empty.false) in
     let long = words.ok.0 in
     let as_many = ap length c.in_ok-words.ensures.words in
-    let moved = subst (λ ws. IsPermutation ws c.sort_unstable.new.self.items) c.in_ok-words.ensures.words c.sort_unstable.ensures.permutation in
+    let moved = subst (λ ws. IsPermutation ws c.in_order-words.result.items) c.in_ok-words.ensures.words c.in_order-words.ensures.permutation in
     record {
-      code = IsSoundCode-same (record { n = part.n; d = even_from part.d; w = Some c.args.w; words = c.sort_unstable.new.self.items }) _ _ _ _
+      code = IsSoundCode-same (record { n = part.n; d = even_from part.d; w = Some c.args.w; words = c.in_order-words.result.items }) _ _ _ _
           c.n.ensures.value (c.even_from.ensures ∙ ap even_from c.d.ensures.value) refl refl
-          (sound-selected part c.args.by c.args.w c.sort_unstable.new.self.items c.n.ensures.sound c.requires.by (omega arith) moved c.sort_unstable.ensures.sorted);
+          (sound-selected part c.args.by c.args.w c.in_order-words.result.items c.n.ensures.sound c.requires.by (omega arith) moved c.in_order-words.ensures.sorted);
     }

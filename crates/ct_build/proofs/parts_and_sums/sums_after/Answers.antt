@@ -1,9 +1,9 @@
-use Rattle.std.proofs.Common.{◌≡◌, ℕ, ◌*◌, ◌%◌, ◌^◌, List, [], ◌∷◌, ◌++◌, map, take, get_or, bit_or, bit_xor, sym, ap, ap₂, ◌∙◌, arith, append_assoc}
+use Rattle.std.proofs.Common.{◌≡◌, ℕ, ◌*◌, ◌%◌, ◌^◌, List, [], ◌∷◌, ◌++◌, get_or, bit_or, bit_xor, sym, ap₂, ◌∙◌, arith}
 use Rattle.std.proofs.lemmas.List.{map_more}
 use Rattle.std.proofs.lemmas.Nat.{xor_lt}
 use Rattle.ct_constructions.specs.Joined.{followed_by}
 use Rattle.ct_constructions.proofs.JoinedLemmas.{or-followed_by}
-use Rattle.ct_build.proofs.parts_and_sums.push_sums.Goals as goal
+use Rattle.ct_build.proofs.parts_and_sums.sums_after.Goals as goal
 
 pub loop-v-preserved : goal.loop-v-preserved
 loop-v-preserved c =
@@ -19,5 +19,4 @@ loop-v-preserved c =
     (omega (arith, short)) in
     c.in_ok-push.ensures.items
     ∙ ap₂ (λ (ws : List ℕ) (w : ℕ). ws ++ w ∷ []) c.loop-v.invariant pushed
-    ∙ append_assoc c.args.words.now.items (map f (take i vs)) (f v ∷ [])
-    ∙ ap (λ (zs : List ℕ). c.args.words.now.items ++ zs) (sym (map_more f vs i 0 c.loop-v-test.true))
+    ∙ sym (map_more f vs i 0 c.loop-v-test.true)

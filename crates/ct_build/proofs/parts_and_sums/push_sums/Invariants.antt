@@ -1,6 +1,0 @@
-use Rattle.std.proofs.Common.{◌≡◌, ◌++◌, map, take, bit_xor}
-use Rattle.ct_constructions.specs.Joined.{followed_by}
-use Rattle.ct_build.proofs.parts_and_sums.push_sums.Given as goal
-
-abbrev pub invariant-loop-v : goal.invariant-loop-v
-invariant-loop-v l = l.words.items ≡ l.initial.words.items ++ map (λ v. followed_by l.n l.u (bit_xor l.u v)) (take l.v-index l.vs)

@@ -1,0 +1,20 @@
+use Rattle.std.proofs.Common.{◌≡◌, ℕ, ◌+◌, List, [], ◌++◌, map, take, get_or, bit_xor, sym, ap, subst, ◌∙◌, IsPermutation}
+use Rattle.std.specs.List.{flat_map}
+use Rattle.std.proofs.lemmas.List.{take_more, flat_map_more}
+use Rattle.std.proofs.lemmas.List.Sorted.{IsPermutation-append}
+use Rattle.ct_constructions.specs.Joined.{followed_by}
+use Rattle.ct_constructions.specs.Uuv.{uuv_words}
+use Rattle.ct_build.proofs.parts_and_sums.words_and_sums.Goals as goal
+
+pub loop-u-preserved : goal.loop-u-preserved
+loop-u-preserved c =
+    let n = c.args.n in
+    let us = c.args.us.now in
+    let vs = c.args.vs.now in
+    let i = c.loop-u.u-index in
+    let block : ℕ → List ℕ = λ u. map (λ v. followed_by n u (bit_xor u v)) vs in
+    let more : uuv_words n (take i us) vs ++ block (get_or us i 0) ≡ uuv_words n (take (i + 1) us) vs =
+    flat_map_more block [] (take i us) (get_or us i 0) ∙ ap (λ xs. flat_map block xs) (sym (take_more us i 0 c.loop-u-test.true)) in
+    subst (λ ws. IsPermutation ws c.extend_from_slice.new.self.items) more
+    (subst (λ zs. IsPermutation (uuv_words n (take i us) vs ++ block (get_or us i 0)) zs) (ap (λ zs. c.loop-u.words.items ++ zs) (sym c.deref.ensures.value) ∙ sym c.in_ok-extend_from_slice.ensures.items)
+    (IsPermutation-append (uuv_words n (take i us) vs) c.loop-u.words.items (block (get_or us i 0)) c.in_ok-block.block.items c.loop-u.invariant c.in_ok-block.ensures.permutation))
