@@ -108,14 +108,14 @@ result_size-none step e part other none = built-few step e part other (λ is. go
     go Juxtapose is h = cc
     go (Trim size) is h = cc
 
-none_above : (count : ℕ) → count ≤ MAX_BUILT → above_limit count ≡ None
+pub none_above : (count : ℕ) → count ≤ MAX_BUILT → above_limit count ≡ None
 none_above count few = go (nat_lt MAX_BUILT count) refl
   where
     go : (b : Bool) → nat_lt MAX_BUILT count ≡ b → (if b then Some (Size count) else None) ≡ None
     go true h = absurd (omega (arith, ltb-true MAX_BUILT count h))
     go false h = refl
 
-few_from : (count : ℕ) → above_limit count ≡ None → count ≤ MAX_BUILT
+pub few_from : (count : ℕ) → above_limit count ≡ None → count ≤ MAX_BUILT
 few_from count none = go (nat_lt MAX_BUILT count) refl none
   where
     go : (b : Bool) → nat_lt MAX_BUILT count ≡ b → (if b then Some (Size count) else None) ≡ None → count ≤ MAX_BUILT
@@ -196,7 +196,7 @@ early_none step e part other none =
     first_of-None (early_fault step e (shape_of part) (option_map shape_of other)) (empty_fault (built step e part other))
     (sym (reasons_told step e part other) ∙ none)
 
-some_words : (words : List ℕ) → empty_fault words ≡ None → 1 ≤ length words
+pub some_words : (words : List ℕ) → empty_fault words ≡ None → 1 ≤ length words
 some_words [] h = cc
 some_words (x ∷ xs) h = omega arith
 

@@ -24,11 +24,11 @@ pub record IsReady (step : Step) (e : Entry) (part : CodeValue) (other : Option 
   pub beside : is_right_other step e (shape_of part) (option_map shape_of other) ≡ true
   pub far : e.d ≤ step_distance step part.d (distance_of (option_map shape_of other))
 
-then_true : {X : Type 0} (b : Bool) (f : X) → (if b then None else Some f) ≡ None → b ≡ true
+pub then_true : {X : Type 0} (b : Bool) (f : X) → (if b then None else Some f) ≡ None → b ≡ true
 then_true true f h = refl
 then_true false f h = cc
 
-else_false : {X : Type 0} (b : Bool) (f : X) → (if b then Some f else None) ≡ None → b ≡ false
+pub else_false : {X : Type 0} (b : Bool) (f : X) → (if b then Some f else None) ≡ None → b ≡ false
 else_false true f h = cc
 else_false false f h = refl
 

@@ -1,5 +1,5 @@
 -- The steps by which a code of a stated entry is built from one or two codes, and why a step is refused.
-use Rattle.std.specs.Prelude.{◌≡◌, ◌≢◌, ℕ, ◌+◌, ◌*◌, ◌-◌, ◌%◌, ◌^◌, ◌<◌, ◌≤◌, Bool, true, false, nat_lt, ◌==◌, ◌&&◌, if◌then◌else◌, List, [], ◌∷◌, length, take, count_by, All, min, ⊤, Option, Some, None, option_map}
+use Rattle.std.specs.Prelude.{◌≡◌, ◌≢◌, ℕ, ◌+◌, ◌*◌, ◌-◌, ◌%◌, ◌^◌, ◌<◌, ◌≤◌, Bool, true, false, nat_lt, ◌==◌, ◌&&◌, if◌then◌else◌, List, [], ◌∷◌, length, take, count_by, All, min, ⊤, Option, Some, None, option_map, IsTrue}
 use Rattle.std.specs.Option.{unwrap_or, ForSome}
 use Rattle.ct_words.specs.declared.limits.TheConstants.{MAX_N}
 use Rattle.ct_codes.specs.declared.entry.Entry.{Entry}
@@ -197,3 +197,17 @@ early_fault step e part other = counted_fault step e part other (unwrap_or (resu
 unfoldable pub build_fault : Step → Entry → CodeValue → Option CodeValue → Option BuildFault
 build_fault step e part other =
     first_of (counted_fault step e (shape_of part) (option_map shape_of other) (length (built step e part other))) (empty_fault (built step e part other))
+
+-- the step is right over these codes: the part has the length and the weight that the step asks for, and the other code those that it asks for
+-- beside it; the step gives at least the stated distance; the part, the other code where the step needs one, and the result have no more words than
+-- the limit; a trim finds enough words; and some word results
+pub record IsRightBuild (step : Step) (e : Entry) (part : CodeValue) (other : Option CodeValue) : Type 0 where
+  pub part_length : IsTrue (is_right_length step e.n part.n)
+  pub part_weight : IsTrue (is_right_weight step e.n e.w part.w)
+  pub beside : IsTrue (is_right_other step e (shape_of part) (option_map shape_of other))
+  pub distance : e.d ≤ step_distance step part.d (distance_of (option_map shape_of other))
+  pub part_size : length part.words ≤ MAX_BUILT
+  pub other_size : size_of (other_of step (option_map shape_of other)) ≤ MAX_BUILT
+  pub size : length (built step e part other) ≤ MAX_BUILT
+  pub enough : (count : ℕ) → step ≡ Trim count → count ≤ length part.words
+  pub some : 1 ≤ length (built step e part other)

@@ -1,15 +1,15 @@
 //! What building by a step gives, whatever the step, the stated entry and the codes, and builds whose answer is known.
 
-ghost use Rattle.std.specs.Prelude.{◌≡◌, ◌≢◌, ℕ, ◌≤◌, List, [], ◌∷◌, length, Option, Some, None, IfSome, option_map};
+ghost use Rattle.std.specs.Prelude.{◌≡◌, ◌≢◌, ◌↔◌, ℕ, ◌≤◌, List, [], ◌∷◌, length, Option, Some, None, IfSome, option_map};
 ghost use Rattle.ct_codes.specs.declared.entry.Entry.{Entry};
 ghost use Rattle.ct_codes.specs.Entry.{unrestricted, constant_weight};
 ghost use Rattle.ct_codes.specs.Code.{CodeValue, IsCode, IsCodeOf};
 ghost use Rattle.ct_codes.specs.Pairs.{first_of};
 ghost use Rattle.ct_build.specs.declared.building.TheConstants.{MAX_BUILT};
-ghost use Rattle.ct_build.specs.declared.fault.BuildFault.TheVariants.{WrongPart, Short, Few, Empty};
+ghost use Rattle.ct_build.specs.declared.fault.BuildFault.TheVariants.{WrongPart, Short, Size, Few, Empty};
 ghost use Rattle.ct_build.specs.declared.step.Step.{Step};
 ghost use Rattle.ct_build.specs.declared.step.Step.TheVariants.{Lengthen, AppendOne, Parity, Puncture, Select, Uuv, Juxtapose, Trim};
-ghost use Rattle.ct_build.specs.Build.{FitsStated, shape_of, result_size, built, empty_fault, early_fault, build_fault};
+ghost use Rattle.ct_build.specs.Build.{FitsStated, shape_of, result_size, built, empty_fault, early_fault, build_fault, IsRightBuild};
 
 /// Where the step fits the stated entry and there is no reason against it, it makes 1 to `MAX_BUILT` words, which are a
 /// code of the entry. A step that needs no other code does not look at one.
@@ -44,6 +44,13 @@ pub fn shapes_tell_the_reasons()
         length (built step e part other) ≤ length part.words }
 {}
 
+/// There is no reason against a step exactly where it is right: length, weight, distance, the three numbers of words, enough
+/// words and some word, whatever the order in which they are asked for.
+pub fn right_builds_have_no_fault()
+    ensures { (step : Step) (e : Entry) (part : CodeValue) (other : Option CodeValue) →
+        (build_fault step e part other ≡ None) ↔ IsRightBuild step e part other }
+{}
+
 /// Builds from the words 000 and 111, a code of distance 3, and from 0011 and 1100, a code of distance 4 and weight 2.
 /// Where two reasons hold, the answer is the first one.
 pub fn known_builds()
@@ -76,4 +83,36 @@ pub fn known_builds()
     // Four places are left out of words at distance 3.
     ensures no_distance { build_fault (Puncture (0 ∷ 1 ∷ 2 ∷ 3 ∷ [])) (unrestricted 3 3)
         (record { n = 7; d = 3; w = None; words = 0b0000000 ∷ 0b1111111 ∷ [] }) None ≡ Some (Short 0 3) }
+{}
+
+/// The first reasons over shapes, at the limit and where two hold: too small a distance comes before too many words, and
+/// the part is counted before the other code, and that before the result.
+pub fn known_reasons()
+    ensures at_the_limit { early_fault Lengthen (unrestricted 27 3)
+        (record { n = 26; d = 3; w = None; size = 262144 }) None ≡ None }
+    ensures above { early_fault Lengthen (unrestricted 27 3)
+        (record { n = 26; d = 3; w = None; size = 262145 }) None ≡ Some (Size 262145) }
+    ensures short_before_size { early_fault Lengthen (unrestricted 27 4)
+        (record { n = 26; d = 3; w = None; size = 262145 }) None ≡ Some (Short 3 4) }
+    ensures part_before_other { early_fault Juxtapose (unrestricted 28 3)
+        (record { n = 14; d = 2; w = None; size = 262146 })
+        (Some (record { n = 14; d = 2; w = None; size = 262145 })) ≡ Some (Size 262146) }
+    ensures other_before_result { early_fault Uuv (unrestricted 28 3)
+        (record { n = 14; d = 2; w = None; size = 2 })
+        (Some (record { n = 14; d = 3; w = None; size = 262145 })) ≡ Some (Size 262145) }
+    ensures pairs { early_fault Uuv (unrestricted 28 3)
+        (record { n = 14; d = 2; w = None; size = 512 })
+        (Some (record { n = 14; d = 3; w = None; size = 513 })) ≡ Some (Size 262656) }
+    ensures pairs_at_the_limit { early_fault Uuv (unrestricted 28 3)
+        (record { n = 14; d = 2; w = None; size = 512 })
+        (Some (record { n = 14; d = 3; w = None; size = 512 })) ≡ None }
+    // A step that needs no other code does not count its words.
+    ensures no_other { early_fault Lengthen (unrestricted 27 3)
+        (record { n = 26; d = 3; w = None; size = 2 })
+        (Some (record { n = 14; d = 3; w = None; size = 262145 })) ≡ None }
+    ensures few { early_fault (Trim 3) (unrestricted 26 3)
+        (record { n = 26; d = 3; w = None; size = 2 }) None ≡ Some (Few 2 3) }
+    ensures most_places { early_fault (Puncture (0 ∷ 1 ∷ 2 ∷ 3 ∷ 4 ∷ 5 ∷ 6 ∷ 7 ∷ 8 ∷ 9 ∷ 10 ∷ 11 ∷ 12 ∷ 13 ∷ 14 ∷ 15 ∷ 16 ∷ 17 ∷
+        18 ∷ 19 ∷ 20 ∷ 21 ∷ 22 ∷ 23 ∷ 24 ∷ 25 ∷ 26 ∷ [])) (unrestricted 1 3)
+        (record { n = 28; d = 28; w = None; size = 2 }) None ≡ Some (Short 1 3) }
 {}
