@@ -42,6 +42,12 @@ const TWO: Words = Words {
     words: &[0b00011, 0b01100],
 };
 
+/// All places of a word of the greatest length but the last.
+const MOST_PLACES: [u32; 27] = [
+    0, 1, 2, 3, 4, 5, 6, 7, 8, 9, 10, 11, 12, 13, 14, 15, 16, 17, 18, 19, 20, 21, 22, 23, 24, 25,
+    26,
+];
+
 /// Two words that differ at each place, of the greatest length.
 const OPPOSITE: Words = Words {
     n: 28,
@@ -204,6 +210,22 @@ fn words_without_places(rt: HostRuntime) -> Result<(), Fail> {
         ),
         (&[1, 6], plain(5, 2, &[0b00000, 0b00111, 0b11000, 0b11111])),
         (&[], even),
+    ] {
+        assert!(rt; are_places(places, part.n()));
+        assert!(rt; places.len() < part.d() as usize && places.len() < part.n() as usize);
+        assert!(rt; shows(&puncture(alloc, &part, places)?, wanted));
+    }
+    Ok(())
+}
+
+/// The words 00 .. 0 and 11 .. 1 without 25 places, and without the most that can be left out, 27.
+#[test]
+fn words_without_most_places(rt: HostRuntime) -> Result<(), Fail> {
+    let alloc = rt.alloc();
+    let part = code_of(&rt, alloc, plain(28, 28, &[0, 0xfff_ffff]))?;
+    for (places, wanted) in [
+        (&MOST_PLACES[..25], plain(3, 3, &[0b000, 0b111])),
+        (&MOST_PLACES, plain(1, 1, &[0, 1])),
     ] {
         assert!(rt; are_places(places, part.n()));
         assert!(rt; places.len() < part.d() as usize && places.len() < part.n() as usize);

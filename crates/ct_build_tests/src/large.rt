@@ -101,6 +101,48 @@ fn many_words(rt: HostRuntime) -> Result<(), Fail> {
     Ok(())
 }
 
+/// Each kind of step that takes one part, over a part of just so many words as the limit: the shortened Hamming code of
+/// length 23, and that code with its parities, whose words at distance 4 are punctured.
+#[test]
+fn steps_at_the_limit(rt: HostRuntime) -> Result<(), Fail> {
+    let alloc = rt.alloc();
+    let mut basis = Vec::new(alloc);
+    for (place, check) in CHECKS[..18].iter().enumerate() {
+        basis.push((1 << (22 - place)) | *check)?;
+    }
+    let hamming = linear_code(&rt, alloc, 23, 3, &basis)?;
+    assert!(rt; hamming.words().len() == 262_144);
+    let stated = entry(24, 4, None);
+    let even = build(&rt, alloc, Change::Parity, stated, &hamming, None)??;
+    assert!(rt; even.words().len() == 262_144);
+    for (change, part, stated, size) in [
+        (Change::Lengthen, &hamming, entry(24, 3, None), 262_144),
+        (Change::AppendOne, &hamming, entry(24, 3, None), 262_144),
+        (Change::Puncture(&[0]), &even, entry(23, 3, None), 262_144),
+        (Change::Puncture(&[23]), &even, entry(23, 3, None), 262_144),
+        (
+            Change::Shorten(&[0], &[1]),
+            &even,
+            entry(23, 4, None),
+            131_072,
+        ),
+        (Change::Translate(1), &hamming, entry(23, 3, None), 262_144),
+        (
+            Change::Translate(0x55_5555),
+            &hamming,
+            entry(23, 3, None),
+            262_144,
+        ),
+        (Change::Complement, &hamming, entry(23, 3, None), 262_144),
+        (Change::Select(0), &even, entry(24, 4, Some(0)), 1),
+        (Change::Trim(262_144), &hamming, entry(23, 3, None), 262_144),
+    ] {
+        let code = build(&rt, alloc, change, stated, part, None)??;
+        assert!(rt; code.words().len() == size, "{stated:?}");
+    }
+    Ok(())
+}
+
 /// A part of just so many words as the limit, beside fewer.
 #[test]
 fn part_at_the_limit(rt: HostRuntime) -> Result<(), Fail> {
