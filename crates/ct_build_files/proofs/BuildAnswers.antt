@@ -1,8 +1,8 @@
--- Which documents are read as a build, and which faults a document of kind build has.
-use Rattle.std.proofs.Common.{◌≡◌, ◌≢◌, ℕ, ◌^◌, ◌<◌, ◌%◌, Bool, true, false, List, length, codes, Option, Some, None, Result, Ok, Err, ok_or, option_map, inl, inr, refl, sym, ap, ◌∙◌, subst, le-leb, eq-eqb, eqb-true}
-use Rattle.std.specs.Prelude.{is_some, is_none, IsSome, if◌then◌else◌}
+-- Which documents are read as a build.
+use Rattle.std.proofs.Common.{◌≡◌, ◌≢◌, ℕ, ◌^◌, ◌<◌, ◌%◌, Bool, true, false, List, length, codes, Option, Some, None, Result, Ok, option_map, refl, sym, ap, ◌∙◌, subst, le-leb, eq-eqb, eqb-true}
+use Rattle.std.specs.Prelude.{is_some, is_none, if◌then◌else◌}
 use Rattle.std.proofs.lemmas.Bool.{leb-true, false≢true}
-use Rattle.toml.specs.Data.{Data, string, table, Members, get, as_str}
+use Rattle.toml.specs.Data.{Data, string, table, Members, as_str}
 use Rattle.ct_words.specs.Text.{word_of, word_text}
 use Rattle.ct_words.proofs.TextLemmas.{word_of-word_text, word_from_text}
 use Rattle.ct_codes.specs.declared.entry.Entry.{Entry}
@@ -11,33 +11,29 @@ use Rattle.ct_build.specs.declared.step.Step.{Step}
 use Rattle.ct_build.specs.declared.step.Step.TheVariants as step
 use Rattle.ct_build.specs.Build.{FieldsFit}
 use Rattle.ct_fields.specs.Steps.{◌>>=◌, check}
-use Rattle.ct_fields.specs.Fields.{is_text, field, number_field, has_only, no_other_key}
+use Rattle.ct_fields.specs.Fields.{is_text, field, number_field, no_other_key}
 use Rattle.ct_build_files.specs.BuildEntry.{selects, build_entry_of}
 use Rattle.ct_build_files.specs.Operation.{operation_text, operation_of, makes_length, takes_weight, takes_other, build_fields}
-use Rattle.ct_build_files.specs.BuildFields.{operation_field, places_in, digits_of, by_field, step_fields, id_in, id_field, other_field}
+use Rattle.ct_build_files.specs.BuildFields.{operation_field, places_in, digits_of, by_field, step_fields, id_field, other_field}
 use Rattle.ct_build_files.specs.Build.{build_evidence_of}
-use Rattle.ct_fields.specs.Tables.{IsOfKind, IsNamed}
 use Rattle.ct_fields.specs.StatesEntry.{HasWeight, StatesEntry}
-use Rattle.ct_build_files.specs.BuildDocument.{HasText, HasId, HasStepFields, NamesOther, StatesBuild, IsBuildFault}
-use Rattle.ct_evidence.specs.declared.evidence.Evidence.{Evidence}
+use Rattle.ct_build_files.specs.BuildDocument.{HasText, HasId, HasStepFields, NamesOther, StatesBuild}
 use Rattle.ct_evidence.specs.declared.evidence.Evidence.TheVariants.{Build}
-use Rattle.ct_fields.specs.declared.field.FieldName.{FieldName}
 use Rattle.ct_fields.specs.declared.field.FieldName.TheVariants as name
 use Rattle.ct_build_files.specs.declared.operation.Operation.{Operation}
 use Rattle.ct_build_files.specs.declared.operation.Operation.TheVariants.{Lengthen, AppendOne, Parity, Puncture, Shorten, Translate, Complement, Select, Uuv, Juxtapose, Trim}
 use Rattle.ct_fields.specs.declared.fault.FileFault.{FileFault}
-use Rattle.ct_fields.specs.declared.fault.FileFault.TheVariants.{Field, Unknown, Digits}
-use Rattle.ct_fields.proofs.StepLemmas.{bind-ok, bind-err, bind-at, bind-cases, check-ok, check-err, ok_or-ok, ok_or-err}
-use Rattle.ct_fields.proofs.FieldLemmas.{number_field-ok, number_field-from, has_only-true, has_only-false, has_only-from}
-use Rattle.ct_fields.proofs.EntryAnswers.{number_field-err}
-use Rattle.ct_build_files.proofs.BuildEntryAnswers.{build_entry_of-ok, build_entry_of-from, build_entry_of-err}
-use Rattle.ct_build_files.proofs.BuildFieldLemmas.{text_field-ok, text_field-from, operation_field-ok, operation_field-from, id_field-ok, id_field-from, left_out-true, places_field-ok, places_field-from, digits_of-some, digits_of-text}
+use Rattle.ct_fields.specs.declared.fault.FileFault.TheVariants.{Field, Unknown}
+use Rattle.ct_fields.proofs.StepLemmas.{bind-ok, bind-at}
+use Rattle.ct_fields.proofs.FieldLemmas.{number_field-ok, number_field-from, has_only-from}
+use Rattle.ct_build_files.proofs.BuildEntryAnswers.{build_entry_of-from}
+use Rattle.ct_build_files.proofs.BuildFieldLemmas.{text_field-ok, text_field-from, operation_field-from, id_field-ok, id_field-from, left_out-true, places_field-ok, places_field-from, digits_of-some, digits_of-text}
 
 -- the step is the operation's, its fields stand in the document, and it fits the entry
-record IsStep (o : Operation) (e : Entry) (document : Data) (s : Step) : Type 0 where
-  same : operation_of s ≡ o
-  fields : HasStepFields s e.n document
-  fits : FieldsFit s e
+pub record IsStep (o : Operation) (e : Entry) (document : Data) (s : Step) : Type 0 where
+  pub same : operation_of s ≡ o
+  pub fields : HasStepFields s e.n document
+  pub fits : FieldsFit s e
 
 -- a weight that is not there
 no_weight : (w : Option ℕ) → is_none w ≡ true → w ≡ None
@@ -53,7 +49,7 @@ weight_there None h = absurd (h refl)
 weight_there (Some w) h = refl
 
 -- the word that a text writes, in what is found
-word_found : (make : ℕ → Step) (n : ℕ) (text : List ℕ) (s : Step) → option_map make (word_of n text) ≡ Some s
+pub word_found : (make : ℕ → Step) (n : ℕ) (text : List ℕ) (s : Step) → option_map make (word_of n text) ≡ Some s
     → (x : ℕ) × (make x ≡ s) × (x < 2 ^ n) × (text ≡ word_text n x)
 word_found make n text s e = at (word_of n text) refl e where
   at : (o : Option ℕ) → word_of n text ≡ o → option_map make o ≡ Some s → (x : ℕ) × (make x ≡ s) × (x < 2 ^ n) × (text ≡ word_text n x)
@@ -61,7 +57,7 @@ word_found make n text s e = at (word_of n text) refl e where
   at (Some x) is h = let same : make x ≡ s = cc in let (small, text-is) = word_from_text n x text is in (x, same, small, text-is)
 
 -- the digits that a text writes, in what is found
-digits_found : (make : List ℕ → Step) (count : ℕ) (text : List ℕ) (s : Step) → option_map make (digits_of count text) ≡ Some s
+pub digits_found : (make : List ℕ → Step) (count : ℕ) (text : List ℕ) (s : Step) → option_map make (digits_of count text) ≡ Some s
     → (ds : List ℕ) × (make ds ≡ s) × (digits_of count text ≡ Some ds)
 digits_found make count text s e = at (digits_of count text) refl e where
   at : (o : Option (List ℕ)) → digits_of count text ≡ o → option_map make o ≡ Some s
@@ -75,7 +71,7 @@ plain_step : (o : Operation) (e : Entry) (document : Data) (s t : Step)
 plain_step o e document s t read is = let same : s ≡ t = cc in subst (IsStep o e document) same is
 
 -- a step that is read has its fields in the document and fits the entry
-step_ok : (o : Operation) (e : Entry) (document : Data) (s : Step) → makes_length o e.n ≡ true → takes_weight o e.w ≡ true
+pub step_ok : (o : Operation) (e : Entry) (document : Data) (s : Step) → makes_length o e.n ≡ true → takes_weight o e.w ≡ true
     → step_fields o e.n document ≡ Ok (Some s) → IsStep o e document s
 unfolding step_fields FieldsFit
 step_ok Lengthen e document s long takes read =
@@ -158,13 +154,13 @@ step_ok Trim e document s long takes read =
     plain_step Trim e document (step.Trim size) s last (record { same = refl; fields = has; fits = (some, few) })
 
 -- a word is read where its text stands
-by_from : (n : ℕ) (document : Data) (by : ℕ) → HasText name.By document (word_text n by) → by < 2 ^ n → by_field n document ≡ Ok (Some by)
+pub by_from : (n : ℕ) (document : Data) (by : ℕ) → HasText name.By document (word_text n by) → by < 2 ^ n → by_field n document ≡ Ok (Some by)
 by_from n document by has small =
     bind-at (field as_str name.By document) _ (word_text n by) (text_field-from name.By document (word_text n by) has)
     ∙ ap (λ o. Ok o) (word_of-word_text n by small)
 
 -- the fields of a step are read where they stand in the document and fit the entry
-step_from : (s : Step) (e : Entry) (document : Data) → HasStepFields s e.n document → FieldsFit s e
+pub step_from : (s : Step) (e : Entry) (document : Data) → HasStepFields s e.n document → FieldsFit s e
     → step_fields (operation_of s) e.n document ≡ Ok (Some s)
 unfolding step_fields FieldsFit
 step_from step.Lengthen e document has fits = refl
@@ -213,65 +209,12 @@ weight_taken step.Uuv e fits = ap is_none fits.0
 weight_taken step.Juxtapose e fits = refl
 weight_taken (step.Trim size) e fits = refl
 
--- the fault of a field
-abbrev IsFieldFault : FileFault → Type 0
-IsFieldFault fault = (name : FieldName) × (Field name ≡ fault)
-
-field_err : {A : Type 0} (form : Data → Option A) (name : FieldName) (document : Data) (fault : FileFault)
-    → field form name document ≡ Err fault → IsFieldFault fault
-field_err form name document fault e = (name, (ok_or-err _ (Field name) fault e).1)
-
-by_err : (n : ℕ) (document : Data) (fault : FileFault) → by_field n document ≡ Err fault → IsFieldFault fault
-by_err n document fault e =
-    elim (bind-err (field as_str name.By document) _ fault e) [
-      | inl none ↦ field_err as_str name.By document fault none
-      | inr (text, is, last) ↦ absurd cc
-    ]
-
--- the fault of a step is that of one of its fields
-step_err : (o : Operation) (n : ℕ) (document : Data) (fault : FileFault) → step_fields o n document ≡ Err fault → IsFieldFault fault
-unfolding step_fields
-step_err Lengthen n document fault e = absurd cc
-step_err AppendOne n document fault e = absurd cc
-step_err Parity n document fault e = absurd cc
-step_err Puncture n document fault e =
-    elim (bind-err (field (places_in n) name.Places document) _ fault e) [
-      | inl none ↦ field_err (places_in n) name.Places document fault none
-      | inr (places, are, last) ↦ absurd cc
-    ]
-step_err Shorten n document fault e =
-    elim (bind-err (field (places_in n) name.Places document) _ fault e) [
-      | inl none ↦ field_err (places_in n) name.Places document fault none
-      | inr (places, are, next) ↦ elim (bind-err (field as_str name.Digits document) _ fault next) [
-        | inl none ↦ field_err as_str name.Digits document fault none
-        | inr (text, is, last) ↦ absurd cc
-      ]
-    ]
-step_err Translate n document fault e =
-    elim (bind-err (by_field n document) _ fault e) [
-      | inl none ↦ by_err n document fault none
-      | inr (text, is, last) ↦ absurd cc
-    ]
-step_err Complement n document fault e = absurd cc
-step_err Select n document fault e =
-    elim (bind-err (by_field n document) _ fault e) [
-      | inl none ↦ by_err n document fault none
-      | inr (text, is, last) ↦ absurd cc
-    ]
-step_err Uuv n document fault e = absurd cc
-step_err Juxtapose n document fault e = absurd cc
-step_err Trim n document fault e =
-    elim (bind-err (number_field name.Size 1 MAX_BUILT document) _ fault e) [
-      | inl none ↦ (name.Size, number_field-err name.Size 1 MAX_BUILT document fault none)
-      | inr (size, is, last) ↦ absurd cc
-    ]
-
 -- the other piece is read exactly where it is named
-abbrev OtherNamed : Operation → Data → Option (List ℕ) → Type 0
+abbrev pub OtherNamed : Operation → Data → Option (List ℕ) → Type 0
 OtherNamed o document None = takes_other o ≡ false
 OtherNamed o document (Some id) = (takes_other o ≡ true) × HasId name.Other document id
 
-other_field-ok : (o : Operation) (document : Data) (other : Option (List ℕ)) → other_field o document ≡ Ok other
+pub other_field-ok : (o : Operation) (document : Data) (other : Option (List ℕ)) → other_field o document ≡ Ok other
     → OtherNamed o document other
 other_field-ok o document other e = at (takes_other o) refl e where
   at : (b : Bool) → takes_other o ≡ b → (if b then (id_field name.Other document >>= (λ id. Ok (Some id))) else Ok None) ≡ Ok other
@@ -282,80 +225,21 @@ other_field-ok o document other e = at (takes_other o) refl e where
       let same : Some id ≡ other = cc in
       subst (OtherNamed o document) same (is, id_field-ok name.Other document id id-is)
 
-other_field-from : (o : Operation) (document : Data) (other : Option (List ℕ)) → OtherNamed o document other
+pub other_field-from : (o : Operation) (document : Data) (other : Option (List ℕ)) → OtherNamed o document other
     → other_field o document ≡ Ok other
 other_field-from o document None none = rw none refl
 other_field-from o document (Some id) (some, has) =
     rw some (bind-at (id_field name.Other document) _ id (id_field-from name.Other document id has))
 
-other_field-err : (o : Operation) (document : Data) (fault : FileFault) → other_field o document ≡ Err fault → IsFieldFault fault
-other_field-err o document fault e = at (takes_other o) e where
-  at : (b : Bool) → (if b then (id_field name.Other document >>= (λ id. Ok (Some id))) else Ok None) ≡ Err fault → IsFieldFault fault
-  at false h = absurd cc
-  at true h = elim (bind-err (id_field name.Other document) _ fault h) [
-    | inl none ↦ field_err id_in name.Other document fault none
-    | inr (id, is, last) ↦ absurd cc
-  ]
-
-names_other : (s : Step) (o : Operation) (document : Data) (other : Option (List ℕ)) → operation_of s ≡ o → OtherNamed o document other
+pub names_other : (s : Step) (o : Operation) (document : Data) (other : Option (List ℕ)) → operation_of s ≡ o → OtherNamed o document other
     → NamesOther s document other
 names_other s o document None same none = ap takes_other same ∙ none
 names_other s o document (Some id) same (some, has) = (ap takes_other same ∙ some, has)
 
-other_named : (s : Step) (document : Data) (other : Option (List ℕ)) → NamesOther s document other
+pub other_named : (s : Step) (document : Data) (other : Option (List ℕ)) → NamesOther s document other
     → OtherNamed (operation_of s) document other
 other_named s document None none = none
 other_named s document (Some id) some = some
-
--- what a document of kind build reads as: a build that it states, or the fault of a field, of a further key or of the text of digits
-abbrev pub IsBuildAnswer : Data → Result Evidence FileFault → Type 0
-IsBuildAnswer document (Ok (Build e s part other)) = StatesBuild document e s part other
-IsBuildAnswer document (Ok other) = ⊥
-IsBuildAnswer document (Err fault) = IsBuildFault document fault
-
-field_answer : (document : Data) (fault : FileFault) → IsFieldFault fault → IsBuildAnswer document (Err fault)
-field_answer document fault (name, is) = subst (λ f. IsBuildAnswer document (Err f)) is tt
-
-pub build_answer : (ms : Members) → IsOfKind (codes "build") (table ms) → IsBuildAnswer (table ms) (build_evidence_of (table ms))
-unfolding build_evidence_of
-build_answer ms of_kind =
-    let document = table ms in
-    let P : Result Evidence FileFault → Type 0 = IsBuildAnswer document in
-    bind-cases P (build_entry_of document) _ (λ e e-is.
-    bind-cases P (operation_field document) _ (λ o o-is.
-    bind-cases P (check (makes_length o e.n) (Field name.N)) _ (λ x long.
-    bind-cases P (check (takes_weight o e.w) (Field name.W)) _ (λ y takes.
-    bind-cases P (step_fields o e.n document) _ (λ found found-is.
-    bind-cases P (id_field name.Part document) _ (λ part part-is.
-    bind-cases P (other_field o document) _ (λ other other-is.
-    bind-cases P (no_other_key (build_fields o) document) _ (λ z only-is.
-    bind-cases P (ok_or found (Digits 0)) _ (λ s s-is.
-    let is_step = step_ok o e document s (check-ok _ (Field name.N) x long) (check-ok _ (Field name.W) y takes)
-    (found-is ∙ ap (λ f. Ok f) (ok_or-ok found (Digits 0) s s-is)) in
-    let only = has_only-true (build_fields o) ms (check-ok (has_only (build_fields o) document) Unknown z only-is) in
-    let states : StatesBuild document e s part other = record {
-      of_kind = of_kind;
-      entry = build_entry_of-ok document e e-is;
-      operation = subst (λ p. HasText name.Op document (operation_text p)) (sym is_step.same) (operation_field-ok document o o-is);
-      fields = is_step.fields;
-      fits = is_step.fits;
-      part_named = id_field-ok name.Part document part part-is;
-      other_named = names_other s o document other is_step.same (other_field-ok o document other other-is);
-      only = subst (λ p. (key : List ℕ) → IsSome (get key document) → IsNamed (build_fields p) key) (sym is_step.same) only;
-    } in
-    states)
-    (λ fault f-is. subst (λ f. P (Err f)) (ok_or-err found (Digits 0) fault f-is).1 refl))
-    (λ fault f-is.
-    let (out, is) = check-err (has_only (build_fields o) document) Unknown fault f-is in
-    let (key, further) = has_only-false (build_fields o) ms out in
-    subst (λ f. P (Err f)) is (o, key, operation_field-ok document o o-is, further)))
-    (λ fault f-is. field_answer document fault (other_field-err o document fault f-is)))
-    (λ fault f-is. field_answer document fault (field_err id_in name.Part document fault f-is)))
-    (λ fault f-is. field_answer document fault (step_err o e.n document fault f-is)))
-    (λ fault f-is. field_answer document fault (name.W, (check-err _ (Field name.W) fault f-is).1)))
-    (λ fault f-is. field_answer document fault (name.N, (check-err _ (Field name.N) fault f-is).1)))
-    (λ fault f-is. field_answer document fault (name.Op, (ok_or-err _ (Field name.Op) fault f-is).1)))
-    (λ fault f-is. field_answer document fault (build_entry_of-err document fault f-is))
 
 -- where the operation is `select`, a weight stands beside the distance
 even_selected : (s : Step) (e : Entry) (document : Data) → StatesEntry document e → FieldsFit s e

@@ -1,4 +1,5 @@
 pub mod BuildEntryAnswers
 pub mod BuildFieldLemmas
 pub mod BuildAnswers
+pub mod BuildFaultAnswers
 pub mod WrittenBuild

@@ -10,13 +10,10 @@ use Rattle.ct_build.specs.declared.step.Step.{Step}
 use Rattle.ct_build.specs.declared.step.Step.TheVariants.{Puncture, Shorten, Translate, Select, Trim}
 use Rattle.ct_fields.specs.Field.{field_text}
 use Rattle.ct_build_files.specs.Operation.{operation_text, operation_of, needs_other, build_fields}
-use Rattle.ct_fields.specs.Tables.{IsDocument, IsOfKind, IsNamed, HasOther}
+use Rattle.ct_fields.specs.Tables.{IsDocument, IsOfKind, IsNamed}
 use Rattle.ct_fields.specs.StatesEntry.{StatesEntry}
 use Rattle.ct_fields.specs.declared.field.FieldName.{FieldName}
 use Rattle.ct_fields.specs.declared.field.FieldName.TheVariants as name
-use Rattle.ct_build_files.specs.declared.operation.Operation.{Operation}
-use Rattle.ct_fields.specs.declared.fault.FileFault.{FileFault}
-use Rattle.ct_fields.specs.declared.fault.FileFault.TheVariants.{Field, Unknown, Digits}
 
 -- the field is the text
 abbrev pub HasText : FieldName → Data → List ℕ → Type 0
@@ -60,11 +57,3 @@ pub record AcceptsBuild (bytes : List ℕ) (e : Entry) (step : Step) (part : Lis
   pub document : Data
   pub written : IsDocument bytes document
   pub states : StatesBuild document e step part other
-
--- the faults that a document of kind build may have: of a field, of a further key than those of its operation, of its one text of digits
-abbrev pub IsBuildFault : Data → FileFault → Type 0
-IsBuildFault document (Field name) = ⊤
-IsBuildFault document Unknown =
-    (operation : Operation) × (key : List ℕ) × HasText name.Op document (operation_text operation) × HasOther (build_fields operation) document key
-IsBuildFault document (Digits i) = i ≡ 0
-IsBuildFault document fault = ⊥

@@ -4,3 +4,4 @@ pub mod BuildFields
 pub mod Build
 pub mod BuildDocument
 pub mod WrittenBuild
+pub mod BuildAnswer

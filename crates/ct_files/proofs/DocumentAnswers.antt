@@ -17,7 +17,8 @@ use Rattle.ct_files.specs.Evidence.{evidence_of, read_without_limit, read_of}
 use Rattle.ct_fields.specs.Tables.{IsDocument, IsOfKind}
 use Rattle.ct_word_files.specs.WordsDocument.{StatesWords, IsWordsAnswer, AcceptsWords}
 use Rattle.ct_word_files.specs.CosetsDocument.{StatesCosets, IsCosetsAnswer, AcceptsCosets}
-use Rattle.ct_build_files.specs.BuildDocument.{StatesBuild, AcceptsBuild, IsBuildFault}
+use Rattle.ct_build_files.specs.BuildAnswer.{IsBuildAnswer}
+use Rattle.ct_build_files.specs.BuildDocument.{StatesBuild, AcceptsBuild}
 use Rattle.ct_fields.specs.declared.document.TheConstants.{MAX_DOCUMENT}
 use Rattle.ct_evidence.specs.declared.evidence.Evidence.{Evidence}
 use Rattle.ct_evidence.specs.declared.evidence.Evidence.TheVariants as evidence
@@ -26,7 +27,8 @@ use Rattle.ct_fields.specs.declared.fault.FileFault.TheVariants.{Bytes, NotToml,
 use Rattle.ct_fields.proofs.FieldLemmas.{is_of_kind-true, is_of_kind-from}
 use Rattle.ct_word_files.proofs.WordsAnswers.{words_answer, words_answer-from, words_answers}
 use Rattle.ct_word_files.proofs.CosetsAnswers.{cosets_answer, cosets_answer-from, cosets_answers}
-use Rattle.ct_build_files.proofs.BuildAnswers.{IsBuildAnswer, build_answer, build_answer-from}
+use Rattle.ct_build_files.proofs.BuildAnswers.{build_answer-from}
+use Rattle.ct_build_files.proofs.BuildFaultAnswers.{build_answer, build_answers}
 
 -- what a document of kind words reads as is the evidence of words
 pub evidence_of-words : (document : Data) → IsOfKind (codes "words") document → evidence_of document ≡ words_evidence_of document
@@ -247,13 +249,13 @@ answers_cosets bytes document answer written of_kind =
     let (to, from) = subst (λ d. IsOfKind (codes "cosets") d → (cosets_evidence_of d ≡ answer) ↔ IsCosetsAnswer d answer) (sym same) (λ here. cosets_answers ms here answer) of_kind in
     (λ e. to (sym read ∙ e), λ h. read ∙ from h)
 
--- a document of kind build has one of the faults that it may have
-pub faults_of_build : (bytes : List ℕ) (document : Data) (fault : FileFault) → IsDocument bytes document → IsOfKind (codes "build") document
-    → read_of bytes ≡ Err fault → IsBuildFault document fault
-faults_of_build bytes document fault written of_kind e =
+-- what is said of each answer to a document of kind build
+pub answers_build : (bytes : List ℕ) (document : Data) (answer : Result Evidence FileFault) → IsDocument bytes document → IsOfKind (codes "build") document → (read_of bytes ≡ answer) ↔ IsBuildAnswer document answer
+answers_build bytes document answer written of_kind =
     let (ms, parsed, same) = written.written in
-    let answer = subst (λ d. IsOfKind (codes "build") d → IsBuildAnswer d (build_evidence_of d)) (sym same) (build_answer ms) of_kind in
-    subst (IsBuildAnswer document) (sym (read_of-document bytes document written ∙ evidence_of-build document of_kind) ∙ e) answer
+    let read = read_of-document bytes document written ∙ evidence_of-build document of_kind in
+    let (to, from) = subst (λ d. IsOfKind (codes "build") d → (build_evidence_of d ≡ answer) ↔ IsBuildAnswer d answer) (sym same) (λ here. build_answers ms here answer) of_kind in
+    (λ e. to (sym read ∙ e), λ h. read ∙ from h)
 
 -- the kind of a document is refused exactly where it is another one
 pub kinds : (bytes : List ℕ) (document : Data) → IsDocument bytes document
@@ -262,7 +264,7 @@ kinds bytes document written = (
   λ e. (
     λ of_kind. (answers bytes document (Err Kind) written of_kind).0 e,
     λ of_kind. (answers_cosets bytes document (Err Kind) written of_kind).0 e,
-    λ of_kind. faults_of_build bytes document Kind written of_kind e,
+    λ of_kind. (answers_build bytes document (Err Kind) written of_kind).0 e,
   ),
   λ other. read_of-document bytes document written ∙ evidence_of-other document other.0 other.1 other.2,
 )

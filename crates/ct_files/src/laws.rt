@@ -12,7 +12,8 @@ ghost use Rattle.ct_files.specs.Evidence.{read_of};
 ghost use Rattle.ct_fields.specs.Tables.{IsDocument, IsOfKind};
 ghost use Rattle.ct_word_files.specs.WordsDocument.{IsWordsAnswer, AcceptsWords};
 ghost use Rattle.ct_word_files.specs.CosetsDocument.{IsCosetsAnswer, AcceptsCosets};
-ghost use Rattle.ct_build_files.specs.BuildDocument.{AcceptsBuild, IsBuildFault};
+ghost use Rattle.ct_build_files.specs.BuildAnswer.{IsBuildAnswer};
+ghost use Rattle.ct_build_files.specs.BuildDocument.{AcceptsBuild};
 
 /// Bytes are accepted as these words for this entry exactly where they are at most `MAX_DOCUMENT`, are UTF-8 and write
 /// by the grammar of TOML 1.1 a table of kind `words` that has n, d and, where there is one, w of the entry, each in its
@@ -38,10 +39,9 @@ pub fn bytes_without_table()
         ((length bytes ≤ MAX_DOCUMENT) × ((document : Data) → ¬ (IsDocument bytes document))) }
 {}
 
-/// Where the other answers come: `Kind` for a table of another kind than `words`, `cosets` and `build`, and for one of the
-/// first two kinds each answer exactly where `IsWordsAnswer` or `IsCosetsAnswer` says. A build is refused for a field, for a
-/// further key than those of its operation or for its one text of digits; which one comes first is shown by the documents
-/// of `build_examples`.
+/// Where the other answers come: `Kind` for a table of another kind than `words`, `cosets` and `build`, and for one of these
+/// kinds each answer exactly where `IsWordsAnswer`, `IsCosetsAnswer` or `IsBuildAnswer` says, which field or which other
+/// fault it may be.
 pub fn answers_to_documents()
     ensures kind { (bytes : List ℕ) (document : Data) → IsDocument bytes document →
         (read_of bytes ≡ Err Kind)
@@ -53,7 +53,7 @@ pub fn answers_to_documents()
     ensures cosets { (bytes : List ℕ) (document : Data) (answer : Result Evidence FileFault) →
         IsDocument bytes document → IsOfKind (codes "cosets") document →
         (read_of bytes ≡ answer) ↔ IsCosetsAnswer document answer }
-    ensures build { (bytes : List ℕ) (document : Data) (fault : FileFault) →
+    ensures build { (bytes : List ℕ) (document : Data) (answer : Result Evidence FileFault) →
         IsDocument bytes document → IsOfKind (codes "build") document →
-        read_of bytes ≡ Err fault → IsBuildFault document fault }
+        (read_of bytes ≡ answer) ↔ IsBuildAnswer document answer }
 {}
