@@ -12,3 +12,4 @@ pub mod PlaceLemmas
 pub mod ReadLemmas
 pub mod PuncturedCodes
 pub mod ShortenedCodes
+pub mod SumLemmas

@@ -1,8 +1,8 @@
 //! What constructions make of a list of words, for every list that is a code.
 
-ghost use Rattle.std.specs.Prelude.{◌≡◌, ℕ, ◌+◌, ◌-◌, ◌*◌, ◌%◌, ◌^◌, ◌<◌, ◌≤◌, List, [], ◌∷◌, length, take, count_by, min, slice_index, Option, Some, None};
+ghost use Rattle.std.specs.Prelude.{◌≡◌, ℕ, ◌+◌, ◌-◌, ◌*◌, ◌%◌, ◌^◌, ◌<◌, ◌≤◌, List, [], ◌∷◌, length, take, count_by, min, slice_index, All, Option, Some, None};
 ghost use Rattle.std.specs.Option.{option_map};
-ghost use Rattle.ct_words.specs.Word.{digit, weight};
+ghost use Rattle.ct_words.specs.Word.{digit, weight, IsSum};
 ghost use Rattle.ct_words.specs.Characters.{words_of_length};
 ghost use Rattle.ct_words.specs.PairProducts.{all_places};
 ghost use Rattle.ct_codes.specs.Code.{IsCode};
@@ -129,4 +129,16 @@ pub fn juxtaposed_codes()
         IsCode (n + m) (d + e) (added_weights v w) (juxtaposed m xs ys) }
     ensures size { (m : ℕ) (xs ys : List ℕ) →
         length (juxtaposed m xs ys) ≡ min (length xs) (length ys) }
+{}
+
+/// The words that are added without carry in `translated` and `uuv_words` are sums digit by digit: of each word and the one
+/// that is added, and of each word u and each word v, whose sum comes after u, in the order of u and then v.
+pub fn added_words_are_sums()
+    ensures translate { (n by : ℕ) (words : List ℕ) (k : ℕ) →
+        by < 2 ^ n → All (λ x. x < 2 ^ n) words → k < length words →
+        IsSum n (slice_index words k) by (slice_index (translated by words) k) }
+    ensures uuv { (n : ℕ) (us vs : List ℕ) (i j : ℕ) →
+        All (λ u. u < 2 ^ n) us → All (λ v. v < 2 ^ n) vs → i < length us → j < length vs →
+        (z : ℕ) × IsSum n (slice_index us i) (slice_index vs j) z
+        × (slice_index (uuv_words n us vs) (i * length vs + j) ≡ followed_by n (slice_index us i) z) }
 {}

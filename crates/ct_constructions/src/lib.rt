@@ -4,7 +4,7 @@
 mod laws;
 
 pub use laws::{
-    digits_at_places, digits_of_constructions, even_words_are_a_code, juxtaposed_codes,
-    longer_words_are_codes, parts_of_codes_are_codes, punctured_codes, shortened_codes,
-    sizes_of_constructions, translated_words_are_codes, uuv_codes,
+    added_words_are_sums, digits_at_places, digits_of_constructions, even_words_are_a_code,
+    juxtaposed_codes, longer_words_are_codes, parts_of_codes_are_codes, punctured_codes,
+    shortened_codes, sizes_of_constructions, translated_words_are_codes, uuv_codes,
 };
