@@ -18,6 +18,11 @@ pub fn builds_are_read()
         ≡ Ok (Build (unrestricted 28 28) Parity (codes "base") None) }
     ensures puncture { read_of (build_document (codes "3") (codes "3") (codes "'puncture'") (codes "'base'") (codes "places = [0, 4]"))
         ≡ Ok (Build (unrestricted 3 3) (Puncture (0 ∷ 4 ∷ [])) (codes "base") None) }
+    // The most places that can be left out.
+    ensures most_places { read_of (build_document (codes "1") (codes "3") (codes "'puncture'") (codes "'base'")
+        (codes "places = [0, 1, 2, 3, 4, 5, 6, 7, 8, 9, 10, 11, 12, 13, 14, 15, 16, 17, 18, 19, 20, 21, 22, 23, 24, 25, 26]"))
+        ≡ Ok (Build (unrestricted 1 3) (Puncture (0 ∷ 1 ∷ 2 ∷ 3 ∷ 4 ∷ 5 ∷ 6 ∷ 7 ∷ 8 ∷ 9 ∷ 10 ∷ 11 ∷ 12 ∷ 13
+        ∷ 14 ∷ 15 ∷ 16 ∷ 17 ∷ 18 ∷ 19 ∷ 20 ∷ 21 ∷ 22 ∷ 23 ∷ 24 ∷ 25 ∷ 26 ∷ [])) (codes "base") None) }
     ensures shorten { read_of (build_document (codes "1") (codes "4") (codes "'shorten'") (codes "'base'") (codes "w = 0\nplaces = [1, 2]\ndigits = '01'"))
         ≡ Ok (Build (constant_weight 1 4 0) (Shorten (1 ∷ 2 ∷ []) (0 ∷ 1 ∷ [])) (codes "base") None) }
     ensures translate { read_of (build_document (codes "3") (codes "3") (codes "'translate'") (codes "'base'") (codes "by = '110'"))

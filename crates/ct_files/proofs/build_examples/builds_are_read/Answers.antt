@@ -9,6 +9,7 @@ returns c = record {
   append_one = refl;
   parity = refl;
   puncture = refl;
+  most_places = refl;
   shorten = refl;
   translate = refl;
   complement = refl;
