@@ -140,6 +140,19 @@ fn close_fault(
 }
 
 impl CosetCode {
+    /// The coset code of a basis and representatives that are one: of an entry of the table without weight, whose words of all
+    /// choices are a code of it, within the limits of `check_cosets`. Nothing is tested, and no memory taken.
+    pub fn from_checked(entry: Entry, basis: Vec<Word>, representatives: Vec<Word>) -> CosetCode
+        requires code { IsSoundCosetCode (record { entry = entry; basis = basis.items; representatives = representatives.items }) }
+        ensures value { result ≡ record { entry = entry; basis = basis.items; representatives = representatives.items } }
+    {
+        CosetCode {
+            entry,
+            basis,
+            representatives,
+        }
+    }
+
     /// The entry, which has no weight.
     pub fn entry(&self) -> Entry
         ensures value { result ≡ self.now.entry }

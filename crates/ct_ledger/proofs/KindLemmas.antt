@@ -1,0 +1,30 @@
+-- What holds of evidence of every kind.
+use Rattle.std.proofs.Common.{◌≡◌, ℕ, Bool, true, false, ◌||◌, cond, not, List, [], ◌∷◌, Option, Some, None, refl, sym, ap, ◌∙◌}
+use Rattle.std.specs.Prelude.{IfSome, find}
+use Rattle.std.specs.List.{list_any}
+use Rattle.std.specs.Str.{bytes_eq}
+use Rattle.ct_codes.specs.Code.{IsCodeOf}
+use Rattle.ct_evidence.specs.declared.evidence.Evidence.{Evidence}
+use Rattle.ct_evidence.specs.declared.evidence.Evidence.TheVariants.{Words, Cosets, Build}
+use Rattle.ct_files.specs.Evidence.{IsSound}
+use Rattle.ct_ledger.specs.Named.{NamedCode, is_known, first_missing, code_named, other_named}
+use Rattle.ct_ledger.specs.Kind.{kind_of, stated_entry, parts_of, names, own_reason, words_over, IsChecked}
+use Rattle.ct_ledger.specs.Submission.{evidence_reason}
+use Rattle.ct_ledger.proofs.Stating.{SaysSame}
+use Rattle.ct_ledger.proofs.Kinds.Words.{words_accepted, words_same}
+use Rattle.ct_ledger.proofs.Kinds.Cosets.{cosets_accepted, cosets_same}
+use Rattle.ct_ledger.proofs.Kinds.Build.{build_accepted, build_same}
+
+-- evidence says the same over codes that are the same for the ids that it names
+pub kind_same : (evidence : Evidence) (left right : List NamedCode) → ((id : List ℕ) → names evidence id ≡ true → code_named id left ≡ code_named id right)
+    → SaysSame (kind_of evidence) left right
+kind_same (Words e words) left right same = words_same e words left right
+kind_same (Cosets e basis representatives) left right same = cosets_same e basis representatives left right
+kind_same (Build e step part other) left right same = build_same e step part other left right same
+
+-- evidence whose check is within the limit, and that is a code of its entry, has no reason of its own against it
+pub no_own_reason : (known : List NamedCode) (evidence : Evidence) → IsSound evidence → IsChecked known evidence
+    → IfSome (words_over known evidence) (IsCodeOf (stated_entry evidence)) → own_reason known evidence ≡ None
+no_own_reason known (Words e words) sound checked code = words_accepted known e words sound code
+no_own_reason known (Cosets e basis representatives) sound checked code = cosets_accepted known e basis representatives sound checked code
+no_own_reason known (Build e step part other) sound checked code = build_accepted e step part other (code_named part known) (other_named other known) checked

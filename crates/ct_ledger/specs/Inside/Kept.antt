@@ -1,0 +1,34 @@
+-- The codes that a ledger keeps beside its pieces, and where a piece is found.
+use Rattle.std.specs.Prelude.{◌≡◌, ℕ, Bool, if◌then◌else◌, List, [], ◌∷◌, ◌++◌, Option, None, position}
+use Rattle.std.specs.Str.{bytes_eq}
+use Rattle.ct_codes.specs.Code.{CodeValue}
+use Rattle.ct_evidence.specs.declared.evidence.Evidence.{Evidence}
+use Rattle.ct_ledger.specs.Named.{NamedCode}
+use Rattle.ct_ledger.specs.Kind.{kind_of}
+use Rattle.ct_ledger.specs.Piece.{PieceValue}
+use Rattle.ct_ledger.specs.Codes.{code_over, named_code}
+
+-- the place of the first piece with the id, where there is one
+abbrev pub place_of : List ℕ → List PieceValue → Option ℕ
+place_of id pieces = position (λ p. bytes_eq p.id id) pieces
+
+-- whether the words of the code of such evidence are stored
+abbrev pub is_kept : Evidence → Bool
+is_kept evidence = (kind_of evidence).is_stored
+
+-- the code that is kept beside a piece of the evidence: the one that it states over these codes, where its words are stored
+abbrev pub kept_over : List NamedCode → Evidence → Option CodeValue
+kept_over known evidence = if is_kept evidence then code_over known evidence else None
+
+-- the code that is made anew where it is needed: the one that evidence lists, whose words are not stored
+abbrev pub listed_code : Evidence → Option CodeValue
+listed_code evidence = if is_kept evidence then None else code_over [] evidence
+
+-- the codes that are kept beside pieces that stand after others, whose codes are known
+abbrev pub kept_after : List NamedCode → List PieceValue → List (Option CodeValue)
+kept_after known [] = []
+kept_after known (p ∷ ps) = kept_over known p.evidence ∷ kept_after (known ++ named_code known p ∷ []) ps
+
+-- the codes that are kept beside the pieces, each at the place of its piece
+abbrev pub kept_codes : List PieceValue → List (Option CodeValue)
+kept_codes pieces = kept_after [] pieces

@@ -1,0 +1,4 @@
+-- The kinds of evidence.
+pub mod Words
+pub mod Cosets
+pub mod Build

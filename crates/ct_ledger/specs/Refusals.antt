@@ -1,0 +1,68 @@
+-- Why a submission over the pieces that stand is refused, reason by reason: each holds where those before it don't.
+use Rattle.std.specs.Prelude.{◌≡◌, ◌≢◌, ◌<◌, ◌≤◌, ℕ, ◌+◌, List, [], ◌∷◌, ◌++◌, length, map, All, Contains, Some, None, Ok, Err}
+use Rattle.ct_evidence.specs.declared.evidence.Evidence.{Evidence}
+use Rattle.ct_files.specs.Evidence.{read_of}
+use Rattle.ct_ledger.specs.Kind.{parts_of, own_reason}
+use Rattle.ct_ledger.specs.Piece.{PieceValue, stored_by, stored_words}
+use Rattle.ct_ledger.specs.Codes.{codes_of}
+use Rattle.ct_ledger.specs.Submission.{piece_of}
+use Rattle.ct_ledger.specs.declared.limits.TheConstants.{MAX_PIECES, MAX_STORED}
+use Rattle.ct_ledger.specs.declared.fault.SubmitFault.{SubmitFault}
+use Rattle.ct_ledger.specs.declared.fault.SubmitFault.TheVariants.{Taken, FullPieces, File, NoSuch, WrongPart, Code, Build, FullWords, Memory}
+
+-- the id is one of the pieces'
+abbrev pub Stands : List PieceValue → List ℕ → Type 0
+Stands pieces id = Contains (map (λ p. p.id) pieces) id
+
+-- the id is free, and there is room for one more piece
+pub record HasRoom (pieces : List PieceValue) (id : List ℕ) : Type 0 where
+  pub free : All (λ q. q.id ≢ id) pieces
+  pub room : length pieces < MAX_PIECES
+
+-- besides, the document is read, as this evidence
+pub record IsRead (pieces : List PieceValue) (id document : List ℕ) (evidence : Evidence) : Type 0 where
+  pub place : HasRoom pieces id
+  pub read : read_of document ≡ Ok evidence
+
+-- the first of the ids that is none of the pieces'
+pub record IsFirstMissing (pieces : List PieceValue) (ids : List (List ℕ)) (id : List ℕ) : Type 0 where
+  pub before : List (List ℕ)
+  pub after : List (List ℕ)
+  pub ids : ids ≡ before ++ id ∷ after
+  pub stand : All (Stands pieces) before
+  pub missing : All (λ q. q.id ≢ id) pieces
+
+-- the document is read as evidence whose parts stand, and this is the first reason of its kind's own check
+pub record IsOwnReason (pieces : List PieceValue) (id document : List ℕ) (reason : SubmitFault) : Type 0 where
+  pub evidence : Evidence
+  pub read : IsRead pieces id document evidence
+  pub parts : All (Stands pieces) (parts_of evidence)
+  pub reason : own_reason (codes_of pieces) evidence ≡ Some reason
+
+-- the document names this part first of those that don't stand
+pub record NamesMissing (pieces : List PieceValue) (id document part : List ℕ) : Type 0 where
+  pub evidence : Evidence
+  pub read : IsRead pieces id document evidence
+  pub first : IsFirstMissing pieces (parts_of evidence) part
+
+-- nothing is against the evidence, but so many words would be stored with it, which are too many
+pub record IsAboveStored (pieces : List PieceValue) (id document : List ℕ) (total : ℕ) : Type 0 where
+  pub evidence : Evidence
+  pub read : IsRead pieces id document evidence
+  pub parts : All (Stands pieces) (parts_of evidence)
+  pub right : own_reason (codes_of pieces) evidence ≡ None
+  pub total : total ≡ stored_words pieces + stored_by (piece_of (codes_of pieces) id document evidence)
+  pub many : MAX_STORED < total
+
+-- the submission is refused for this reason: in order, its id stands; a thousand pieces do; the document's own fault; a part that doesn't stand; a
+-- part, words or a step that the kind's own check refuses; or too many stored words
+abbrev pub IsRefused : List PieceValue → List ℕ → List ℕ → SubmitFault → Type 0
+IsRefused pieces id document Taken = Stands pieces id
+IsRefused pieces id document (FullPieces count) = All (λ q. q.id ≢ id) pieces × (MAX_PIECES ≤ length pieces) × (count ≡ length pieces)
+IsRefused pieces id document (File reason) = HasRoom pieces id × (read_of document ≡ Err reason)
+IsRefused pieces id document (NoSuch part) = NamesMissing pieces id document part
+IsRefused pieces id document (WrongPart part) = IsOwnReason pieces id document (WrongPart part)
+IsRefused pieces id document (Code reason) = IsOwnReason pieces id document (Code reason)
+IsRefused pieces id document (Build reason) = IsOwnReason pieces id document (Build reason)
+IsRefused pieces id document (FullWords total) = IsAboveStored pieces id document total
+IsRefused pieces id document Memory = ⊥
