@@ -1,5 +1,5 @@
 -- Where each answer comes for bytes and for the table that they write.
-use Rattle.std.proofs.Common.{◌≡◌, ℕ, ◌<◌, ◌≤◌, false, nat_le, List, length, codes, Option, Some, None, option_map, Result, Ok, Err, ◌⊎◌, inl, inr, refl, sym, ap, ◌∙◌, subst, le-leb, leb-false}
+use Rattle.std.proofs.Common.{◌≡◌, ℕ, ◌<◌, ◌≤◌, Bool, true, false, nat_le, List, length, codes, Option, Some, None, option_map, Result, Ok, Err, ◌⊎◌, inl, inr, refl, sym, ap, ◌∙◌, subst, le-leb, leb-false}
 use Rattle.std.specs.Prelude.{◌↔◌}
 use Rattle.std.specs.Str.{is_utf8}
 use Rattle.std.proofs.lemmas.Bool.{cases_Bool, leb-true, lt-leb, false≢true}
@@ -96,6 +96,18 @@ document_from bytes document short e =
       parsed_from None e = absurd cc
       parsed_from (Some ms) e = let same : table ms ≡ document = cc in (ms, refl, sym same)
 
+-- bytes that read as evidence, however many they are, write a table that does
+pub without_limit-table : (bytes : List ℕ) (e : Evidence) → read_without_limit bytes ≡ Ok e → (ms : Members) × (evidence_of (table ms) ≡ Ok e)
+unfolding read_without_limit table_of
+without_limit-table bytes e read = at (is_utf8 bytes) refl read where
+  parsed : (found : Option Members) → parse_document bytes ≡ found → is_utf8 bytes ≡ true → read_without_limit bytes ≡ Ok e → (ms : Members) × (evidence_of (table ms) ≡ Ok e)
+  parsed None none utf8 read = let never = rw (utf8, none) at read in absurd cc
+  parsed (Some ms) found utf8 read = (ms, rw (utf8, found) at read)
+
+  at : (b : Bool) → is_utf8 bytes ≡ b → read_without_limit bytes ≡ Ok e → (ms : Members) × (evidence_of (table ms) ≡ Ok e)
+  at true utf8 read = parsed (parse_document bytes) refl utf8 read
+  at false none read = let never = rw none at read in absurd cc
+
 -- bytes have a table, or write none
 pub document_or_none : (bytes : List ℕ) → length bytes ≤ MAX_DOCUMENT → ((document : Data) × IsDocument bytes document) ⊎ (table_of bytes ≡ None)
 document_or_none bytes short = found (table_of bytes) refl where
@@ -124,29 +136,28 @@ pub data DocumentAnswer (document : Data) (answer : Result Evidence FileFault) :
   of_no_kind : ¬ (IsOfKind (codes "words") document) → ¬ (IsOfKind (codes "cosets") document) → ¬ (IsOfKind (codes "build") document) → answer ≡ Err Kind
       → DocumentAnswer document answer
 
--- the answer to a document comes where it is said to come, or the kind is refused
-pub document_answer : (bytes : List ℕ) (document : Data) → IsDocument bytes document → DocumentAnswer document (read_of bytes)
-document_answer bytes document written =
-    let (ms, parsed, same) = written.written in
-    let read = read_of-document bytes document written in
+-- the answer to a table comes where it is said to come, or the kind is refused
+pub table_answer : (ms : Members) → DocumentAnswer (table ms) (evidence_of (table ms))
+table_answer ms =
+    let document = table ms in
     elim (kind_or_none (codes "words") document) [
-      | inl of_kind ↦
-          let answer = subst (λ d. IsOfKind (codes "words") d → IsWordsAnswer d (words_evidence_of d)) (sym same) (words_answer ms) of_kind in
-          words of_kind (rw (read, evidence_of-words document of_kind) answer)
+      | inl of_kind ↦ words of_kind (rw (evidence_of-words document of_kind) (words_answer ms of_kind))
       | inr no_words ↦
           elim (kind_or_none (codes "cosets") document) [
-            | inl of_kind ↦
-                let answer = subst (λ d. IsOfKind (codes "cosets") d → IsCosetsAnswer d (cosets_evidence_of d)) (sym same) (cosets_answer ms) of_kind in
-                cosets of_kind (rw (read, evidence_of-cosets document of_kind) answer)
+            | inl of_kind ↦ cosets of_kind (rw (evidence_of-cosets document of_kind) (cosets_answer ms of_kind))
             | inr no_cosets ↦
                 elim (kind_or_none (codes "build") document) [
-                  | inl of_kind ↦
-                      let answer = subst (λ d. IsOfKind (codes "build") d → IsBuildAnswer d (build_evidence_of d)) (sym same) (build_answer ms) of_kind in
-                      build of_kind (rw (read, evidence_of-build document of_kind) answer)
-                  | inr no_build ↦ of_no_kind no_words no_cosets no_build (read ∙ evidence_of-other document no_words no_cosets no_build)
+                  | inl of_kind ↦ build of_kind (rw (evidence_of-build document of_kind) (build_answer ms of_kind))
+                  | inr no_build ↦ of_no_kind no_words no_cosets no_build (evidence_of-other document no_words no_cosets no_build)
                 ]
           ]
     ]
+
+-- and so does the answer to bytes that write one
+pub document_answer : (bytes : List ℕ) (document : Data) → IsDocument bytes document → DocumentAnswer document (read_of bytes)
+document_answer bytes document written =
+    let (ms, parsed, same) = written.written in
+    rw (read_of-document bytes document written) (subst (λ (d : Data). DocumentAnswer d (evidence_of d)) (sym same) (table_answer ms))
 
 -- where the answer to bytes comes: they are too many, or write no table, or it is that to a document
 pub data BytesAnswer (bytes : List ℕ) (answer : Result Evidence FileFault) : Type 0 where

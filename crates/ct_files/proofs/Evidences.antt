@@ -1,21 +1,25 @@
 -- What an evidence keeps that is read.
-use Rattle.std.proofs.Common.{◌≡◌, ◌≢◌, ℕ, List, Option, Some, None, Result, Ok, Err, IfOk, refl, sym, subst, ap, arith}
+use Rattle.std.proofs.Common.{◌≡◌, ◌≢◌, ℕ, ◌≤◌, List, length, Option, Some, None, Result, Ok, Err, IfOk, inl, inr, refl, sym, subst, ap, ◌∙◌, arith}
 use Rattle.std.specs.Prelude.{is_some}
 use Rattle.ct_codes.specs.declared.entry.Entry.{Entry}
 use Rattle.ct_codes.specs.Entry.{IsEntry, unrestricted}
 use Rattle.ct_build.specs.declared.step.Step.{Step}
 use Rattle.ct_codes.proofs.EntryLemmas.{WeightFits, entry_from_limits}
-use Rattle.toml.specs.Data.{Data}
-use Rattle.ct_files.specs.Evidence.{read_of, IsSound}
+use Rattle.toml.specs.Data.{Data, table}
+use Rattle.ct_files.specs.Evidence.{read_without_limit, read_of, IsSound}
 use Rattle.ct_fields.specs.StatesEntry.{HasWeight, StatesEntry}
 use Rattle.ct_build_files.specs.Operation.{needs_other}
 use Rattle.ct_build_files.specs.BuildDocument.{NamesOther}
+use Rattle.ct_word_files.specs.WordsDocument.{IsWordsAnswer}
+use Rattle.ct_word_files.specs.CosetsDocument.{IsCosetsAnswer}
 use Rattle.ct_fields.specs.Reads.{Reads}
+use Rattle.ct_fields.specs.declared.document.TheConstants.{MAX_DOCUMENT}
 use Rattle.ct_evidence.specs.declared.evidence.Evidence.{Evidence}
 use Rattle.ct_evidence.specs.declared.evidence.Evidence.TheVariants.{Words, Cosets, Build}
 use Rattle.ct_fields.specs.declared.fault.FileFault.{FileFault}
 use Rattle.ct_fields.specs.declared.fault.FileFault.TheVariants.{Memory}
-use Rattle.ct_files.proofs.DocumentAnswers.{BytesAnswer, long, no_table, of_document, DocumentAnswer, words, cosets, build, of_no_kind, bytes_answer, accepted, accepted_cosets, accepted_build}
+use Rattle.ct_files.proofs.DocumentAnswers.{BytesAnswer, long, no_table, of_document, DocumentAnswer, words, cosets, build, of_no_kind, bytes_answer, table_answer, without_limit-table, short_or_long, read_of-short, read_of-long}
+use Rattle.ct_build_files.proofs.BuildAnswers.{IsBuildAnswer}
 
 -- a stated weight is one of the table beside the distance
 weight_of_stated : (document : Data) (e : Entry) (w : Option ℕ) → StatesEntry document e → HasWeight document e.n w → WeightFits e w
@@ -35,28 +39,58 @@ named_where_needed : (step : Step) (document : Data) (other : Option (List ℕ))
 named_where_needed step document None none = sym none
 named_where_needed step document (Some id) some = sym some.0
 
--- evidence that is read is sound
-pub read_of-sound : (bytes : List ℕ) (e : Evidence) → read_of bytes ≡ Ok e → IsSound e
-read_of-sound bytes (Words e listed) read =
-    let accepts = accepted bytes e listed read in
-    (entry_of_stated accepts.document e accepts.states.form.fields.entry, accepts.states.lengths, accepts.some, accepts.few)
-read_of-sound bytes (Cosets e basis representatives) read =
-    let accepts = accepted_cosets bytes e basis representatives read in
-    let stated = accepts.states.form.fields.entry in
+-- evidence that a table states is sound, by its kind
+words-sound : (document : Data) (e : Evidence) → IsWordsAnswer document (Ok e) → IsSound e
+words-sound document (Words e listed) (states, some, few) = (entry_of_stated document e states.form.fields.entry, states.lengths, some, few)
+words-sound document (Cosets e basis representatives) never = absurd never
+words-sound document (Build e step part other) never = absurd never
+
+cosets-sound : (document : Data) (e : Evidence) → IsCosetsAnswer document (Ok e) → IsSound e
+cosets-sound document (Words e listed) never = absurd never
+cosets-sound document (Cosets e basis representatives) (states, few_basis, some, few) =
+    let stated = states.form.fields.entry in
     let entry = entry_from_limits (unrestricted e.n e.d) stated.with_length.1 stated.with_length.2 stated.with_distance.1 stated.with_distance.2 tt in (
       subst IsEntry (sym stated.plain) entry,
       ap (λ (f : Entry). f.w) stated.plain,
-      accepts.states.basis_lengths,
-      accepts.states.lengths,
-      accepts.few_basis,
-      accepts.some,
-      accepts.few,
+      states.basis_lengths,
+      states.lengths,
+      few_basis,
+      some,
+      few,
     )
-read_of-sound bytes (Build e step part other) read =
-    let states = (accepted_build bytes e step part other read).states in (
-      record { entry = entry_of_stated (accepted_build bytes e step part other read).document e states.entry; fields = states.fits },
-      named_where_needed step (accepted_build bytes e step part other read).document other states.other_named,
-    )
+cosets-sound document (Build e step part other) never = absurd never
+
+build-sound : (document : Data) (e : Evidence) → IsBuildAnswer document (Ok e) → IsSound e
+build-sound document (Words e listed) never = absurd never
+build-sound document (Cosets e basis representatives) never = absurd never
+build-sound document (Build e step part other) states =
+    (record { entry = entry_of_stated document e states.entry; fields = states.fits }, named_where_needed step document other states.other_named)
+
+answer-sound : (document : Data) (e : Evidence) → DocumentAnswer document (Ok e) → IsSound e
+answer-sound document e (words of_kind answer) = words-sound document e answer
+answer-sound document e (cosets of_kind answer) = cosets-sound document e answer
+answer-sound document e (build of_kind answer) = build-sound document e answer
+answer-sound document e (of_no_kind no_words no_cosets no_build other) = absurd cc
+
+-- evidence that bytes read as is sound, however many they are
+pub read_without_limit-sound : (bytes : List ℕ) (e : Evidence) → read_without_limit bytes ≡ Ok e → IsSound e
+read_without_limit-sound bytes e read =
+    let (ms, states) = without_limit-table bytes e read in
+    answer-sound (table ms) e (subst (DocumentAnswer (table ms)) states (table_answer ms))
+
+-- bytes that read as evidence are within the limit, and read as it without the limit
+pub read_of-within : (bytes : List ℕ) (e : Evidence) → read_of bytes ≡ Ok e → length bytes ≤ MAX_DOCUMENT
+read_of-within bytes e read = elim (short_or_long bytes) [
+  | inl within ↦ within
+  | inr many ↦ let never = sym read ∙ read_of-long bytes many in absurd cc
+]
+
+pub read_of-without_limit : (bytes : List ℕ) (e : Evidence) → read_of bytes ≡ Ok e → read_without_limit bytes ≡ Ok e
+read_of-without_limit bytes e read = sym (read_of-short bytes (read_of-within bytes e read)) ∙ read
+
+-- evidence that is read is sound
+pub read_of-sound : (bytes : List ℕ) (e : Evidence) → read_of bytes ≡ Ok e → IsSound e
+read_of-sound bytes e read = read_without_limit-sound bytes e (read_of-without_limit bytes e read)
 
 -- what bytes read as is never want of memory
 pub read_of-no_memory : (bytes : List ℕ) → read_of bytes ≢ Err Memory
