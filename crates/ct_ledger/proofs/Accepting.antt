@@ -1,31 +1,31 @@
 -- Which submissions are accepted.
-use Rattle.std.proofs.Common.{◌≡◌, ◌≢◌, ℕ, Bool, true, false, ◌||◌, List, [], ◌∷◌, map, Option, Some, None, is_some, option_map, Ok, refl, sym, ap, ◌∙◌, subst, inl, inr, ◌↔◌, lit<, arith}
-use Rattle.std.specs.Prelude.{All, Contains, IsTrue}
+use Rattle.std.proofs.Common.{◌≡◌, ◌≢◌, ℕ, ◌≤◌, Bool, true, false, ◌||◌, List, [], ◌∷◌, length, map, Option, Some, None, option_map, Ok, refl, sym, ap, ◌∙◌, subst, inl, inr, ◌↔◌, lit<, arith}
+use Rattle.std.specs.Prelude.{All, Contains, IfSome, IsTrue}
 use Rattle.std.specs.Str.{bytes_eq}
 use Rattle.std.proofs.lemmas.List.Elements.{All-head, All-tail, All-weaker, Contains-append_left, Contains-append_right, Contains-append_cases, All-contains, All-cons, All-nil}
 use Rattle.std.proofs.lemmas.Slice.Eq.{bytes_eq-Decides}
 use Rattle.ct_codes.specs.declared.entry.Entry.{Entry}
-use Rattle.ct_codes.specs.Code.{CodeValue, IsCodeOf}
+use Rattle.ct_codes.specs.Code.{IsCodeOf}
 use Rattle.ct_codes.specs.Pairs.{first_of}
-use Rattle.ct_codes.proofs.CheckLemmas.{first_of-None, no_fault_of_code}
-use Rattle.ct_codes.proofs.CosetLemmas.{no_fault_of_cosets}
-use Rattle.ct_build.specs.declared.step.Step.{Step}
-use Rattle.ct_evidence.specs.declared.evidence.Evidence.{Evidence}
-use Rattle.ct_evidence.specs.declared.evidence.Evidence.TheVariants.{Words, Cosets, Build}
-use Rattle.ct_files.specs.Evidence.{read_of, IsSound}
+use Rattle.ct_fields.specs.declared.document.TheConstants.{MAX_DOCUMENT}
+use Rattle.ct_files.specs.Evidence.{read_of}
 use Rattle.ct_files.proofs.Evidences.{read_of-sound}
-use Rattle.ct_ledger.specs.Piece.{PieceValue, has_id, stated_entry, parts_of}
-use Rattle.ct_ledger.specs.Codes.{NamedCode, code_named, other_named, words_over, codes_of}
-use Rattle.ct_ledger.specs.Submission.{first_missing, build_refusal, build_reason, own_reason, piece_of, made_unless, piece_from, submitted, IsRightPart, IsChecked, IsAccepted}
+use Rattle.ct_ledger.specs.Named.{is_known, first_missing}
+use Rattle.ct_ledger.specs.Kind.{stated_entry, parts_of, own_reason, words_over}
+use Rattle.ct_ledger.specs.Piece.{PieceValue, has_id}
+use Rattle.ct_ledger.specs.Codes.{codes_of}
+use Rattle.ct_ledger.specs.Submission.{piece_of, made_unless, piece_from, submitted, IsAccepted}
 use Rattle.ct_ledger.specs.Standing.{AreStanding}
 use Rattle.ct_ledger.specs.declared.fault.SubmitFault.{SubmitFault}
 use Rattle.ct_ledger.specs.declared.fault.SubmitFault.TheVariants as fault
-use Rattle.ct_ledger.proofs.CodeLemmas.{named_where_taken}
-use Rattle.ct_ledger.proofs.MakingLemmas.{HasSoundCode, option_map-none, none_missing, none_missing-from, states_code, making, codes_after-sound}
-use Rattle.ct_ledger.proofs.StandingLemmas.{WasMade, submitted-ok, submitted-from, has_id-none}
+use Rattle.ct_ledger.proofs.CodeLemmas.{known_where_taken}
+use Rattle.ct_ledger.proofs.Stating.{HasSoundCode}
+use Rattle.ct_ledger.proofs.KindLemmas.{no_own_reason}
+use Rattle.ct_ledger.proofs.MakingLemmas.{IsRight, none_missing, none_missing-from, right-parts, states_code, making, codes_after-sound}
+use Rattle.ct_ledger.proofs.StandingLemmas.{WasMade, submitted-ok, submitted-from, has_id-none, piece_from-within}
 
 -- an id that no piece has is not taken
-not_taken : (id : List ℕ) (pieces : List PieceValue) → All (λ (q : PieceValue). q.id ≢ id) pieces → has_id id pieces ≡ false
+pub not_taken : (id : List ℕ) (pieces : List PieceValue) → All (λ (q : PieceValue). q.id ≢ id) pieces → has_id id pieces ≡ false
 not_taken id [] h = refl
 not_taken id (p ∷ pieces) h = at (bytes_eq p.id id) refl (not_taken id pieces (All-tail (λ (q : PieceValue). q.id ≢ id) p pieces h)) where
   at : (b : Bool) → bytes_eq p.id id ≡ b → has_id id pieces ≡ false → (b || has_id id pieces) ≡ false
@@ -55,50 +55,47 @@ taken id (p ∷ pieces) = at (bytes_eq p.id id) refl (taken id pieces) where
     ],
   )
 
--- the ids that have a code are those of pieces
-known_where_taken : (id : List ℕ) (pieces : List PieceValue) → (is_some (code_named id (codes_of pieces)) ≡ true) ↔ Contains (map (λ (p : PieceValue). p.id) pieces) id
-known_where_taken id pieces =
-    let same = named_where_taken id [] pieces in
+-- the ids that are known are those of pieces
+known_where_taken-is : (id : List ℕ) (pieces : List PieceValue) → (is_known id (codes_of pieces) ≡ true) ↔ Contains (map (λ (p : PieceValue). p.id) pieces) id
+known_where_taken-is id pieces =
+    let same = known_where_taken id [] pieces in
     let held = taken id pieces in
     (λ h. held.0 (sym same ∙ h), λ there. same ∙ held.1 there)
 
-parts_stand : (pieces : List PieceValue) (ids : List (List ℕ)) → first_missing (codes_of pieces) ids ≡ None → All (Contains (map (λ (p : PieceValue). p.id) pieces)) ids
-parts_stand pieces ids none =
-    All-weaker (λ (id : List ℕ). is_some (code_named id (codes_of pieces)) ≡ true) (Contains (map (λ (p : PieceValue). p.id) pieces)) (λ id h. (known_where_taken id pieces).0 h) ids
-    (none_missing (codes_of pieces) ids none)
+pub known-stand : (pieces : List PieceValue) (ids : List (List ℕ)) → All (λ (id : List ℕ). is_known id (codes_of pieces) ≡ true) ids → All (Contains (map (λ (p : PieceValue). p.id) pieces)) ids
+known-stand pieces ids known =
+    All-weaker (λ (id : List ℕ). is_known id (codes_of pieces) ≡ true) (Contains (map (λ (p : PieceValue). p.id) pieces)) (λ id h. (known_where_taken-is id pieces).0 h) ids known
 
-parts_known : (pieces : List PieceValue) (ids : List (List ℕ)) → All (Contains (map (λ (p : PieceValue). p.id) pieces)) ids → first_missing (codes_of pieces) ids ≡ None
-parts_known pieces ids there =
-    none_missing-from (codes_of pieces) ids
-    (All-weaker (Contains (map (λ (p : PieceValue). p.id) pieces)) (λ (id : List ℕ). is_some (code_named id (codes_of pieces)) ≡ true) (λ id h. (known_where_taken id pieces).1 h) ids there)
+pub stand-known : (pieces : List PieceValue) (ids : List (List ℕ)) → All (Contains (map (λ (p : PieceValue). p.id) pieces)) ids → All (λ (id : List ℕ). is_known id (codes_of pieces) ≡ true) ids
+stand-known pieces ids there =
+    All-weaker (Contains (map (λ (p : PieceValue). p.id) pieces)) (λ (id : List ℕ). is_known id (codes_of pieces) ≡ true) (λ id h. (known_where_taken-is id pieces).1 h) ids there
 
--- where the step of a build finds nothing, there is no reason against it
-no_build_reason : (e : Entry) (step : Step) (part : List ℕ) (other : Option (List ℕ)) (first beside : Option CodeValue) → IsRightPart e step first beside → build_reason e step part other first beside ≡ None
-no_build_reason e step part other None beside h = absurd h
-no_build_reason e step part other (Some code) beside h = ap (option_map (build_refusal part other)) h
+pub parts_stand : (pieces : List PieceValue) (ids : List (List ℕ)) → first_missing (codes_of pieces) ids ≡ None → All (Contains (map (λ (p : PieceValue). p.id) pieces)) ids
+parts_stand pieces ids none = known-stand pieces ids (none_missing (codes_of pieces) ids none)
 
--- evidence whose check is within the limit and that is a code of its entry has no reason of its own against it
-no_own_reason : (known : List NamedCode) (evidence : Evidence) → IsSound evidence → IsChecked known evidence → IsCodeOf (stated_entry evidence) (words_over known evidence) → own_reason known evidence ≡ None
-no_own_reason known (Words e words) sound checked code = ap (option_map fault.Code) (no_fault_of_code e words sound.2 sound.3 code)
-no_own_reason known (Cosets e basis representatives) sound checked code =
-    ap (option_map fault.Code) (no_fault_of_cosets e basis representatives sound.4 sound.5 sound.6 checked code)
-no_own_reason known (Build e step part other) sound checked code = no_build_reason e step part other (code_named part known) (other_named other known) checked
+pub parts_known : (pieces : List PieceValue) (ids : List (List ℕ)) → All (Contains (map (λ (p : PieceValue). p.id) pieces)) ids → first_missing (codes_of pieces) ids ≡ None
+parts_known pieces ids there = none_missing-from (codes_of pieces) ids (stand-known pieces ids there)
+
+-- the words of a code that has some are a code
+only-code : (e : Entry) (words : Option (List ℕ)) → IfSome words (λ ws. (1 ≤ length ws) × IsCodeOf e ws) → IfSome words (IsCodeOf e)
+only-code e None h = tt
+only-code e (Some words) h = h.1
 
 accepted_from : (pieces : List PieceValue) (id document : List ℕ) (p : PieceValue) → AreStanding pieces → WasMade pieces id document p → IsAccepted pieces id document p
 accepted_from pieces id document p standing w =
     let known = codes_of pieces in
-    let m = making known id document (read_of document) p refl w.made in
+    let m = making known id document (read_of document) p w.made in
     let sound = codes_after-sound [] pieces (All-nil HasSoundCode) standing.made in
-    let states = states_code known m.evidence sound m.right in
-    let both = first_of-None (option_map fault.NoSuch (first_missing known (parts_of m.evidence))) (own_reason known m.evidence) m.right.faultless in
+    let right : IsRight known m.evidence = record { sound = read_of-sound document m.evidence m.is; faultless = m.faultless } in
+    let states = states_code known m.evidence sound right in
     record {
       free = has_id-none id pieces w.free;
       room = w.room;
       evidence = m.evidence;
-      read = m.read;
-      parts = parts_stand pieces (parts_of m.evidence) (option_map-none fault.NoSuch (first_missing known (parts_of m.evidence)) both.0);
+      read = m.is;
+      parts = parts_stand pieces (parts_of m.evidence) (right-parts known m.evidence right);
       checked = states.checked;
-      code = states.code;
+      code = only-code (stated_entry m.evidence) (words_over known m.evidence) states.code;
       small = w.small;
       piece = sym m.piece;
     }
@@ -114,3 +111,7 @@ made_from pieces id document p h =
 
 pub accepted : (pieces : List PieceValue) (id document : List ℕ) (p : PieceValue) → AreStanding pieces → (submitted pieces id document ≡ Ok p) ↔ IsAccepted pieces id document p
 accepted pieces id document p standing = (λ h. accepted_from pieces id document p standing (submitted-ok pieces id document p h), made_from pieces id document p)
+
+-- a submission that is accepted has a document within the limit
+pub accepted-within : (pieces : List PieceValue) (id document : List ℕ) (p : PieceValue) → submitted pieces id document ≡ Ok p → length document ≤ MAX_DOCUMENT
+accepted-within pieces id document p h = let was = submitted-ok pieces id document p h in piece_from-within (codes_of pieces) id document p was.made

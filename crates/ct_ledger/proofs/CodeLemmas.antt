@@ -1,7 +1,8 @@
 -- The codes of pieces: those of a list with more pieces, the one at a place, the one of an id; and that each is a code.
-use Rattle.std.proofs.Common.{◌≡◌, ℕ, zero, suc, ◌+◌, ◌<◌, ◌≤◌, Bool, true, false, ◌||◌, cond, not, List, [], ◌∷◌, ◌++◌, length, take, get_or, map, Some, None, is_some, option_map, Result, Ok, Err, IfOk, refl, sym, ap, subst, ◌∙◌, arith, append_assoc, append-nil, nat_lt}
+use Rattle.std.proofs.Common.{◌≡◌, ℕ, zero, suc, ◌+◌, ◌<◌, ◌≤◌, Bool, true, false, ◌||◌, cond, not, List, [], ◌∷◌, ◌++◌, length, take, get_or, map, Option, Some, None, option_map, Result, Ok, Err, IfOk, refl, sym, ap, subst, ◌∙◌, arith, append_assoc, append-nil, nat_lt}
 use Rattle.std.specs.Prelude.{position, slice_get}
 use Rattle.std.specs.List.{position_or_len}
+use Rattle.std.specs.Option.{option_flatten}
 use Rattle.std.specs.List.Sorted.{IsPermutation}
 use Rattle.std.specs.Str.{bytes_eq}
 use Rattle.std.proofs.lemmas.Bool.{ltb-true, ltb-false}
@@ -12,7 +13,8 @@ use Rattle.ct_codes.specs.Coset.{CosetValue, coset_list}
 use Rattle.ct_codes.proofs.CheckLemmas.{sound_from_code}
 use Rattle.ct_ledger.specs.Ascending.{ascending}
 use Rattle.ct_ledger.specs.Piece.{PieceValue, has_id}
-use Rattle.ct_ledger.specs.Codes.{NamedCode, code_named, code_at, named_code, codes_after, codes_of, code_of_place}
+use Rattle.ct_ledger.specs.Named.{NamedCode, is_known, code_named}
+use Rattle.ct_ledger.specs.Codes.{code_at, named_code, codes_after, codes_of, code_of_place}
 use Rattle.ct_ledger.specs.Standing.{IsMade, AreMade}
 use Rattle.ct_ledger.proofs.AscendingLemmas.{ascending_is, ascending-moved, ascending-sorted}
 
@@ -107,9 +109,13 @@ code_at_place known (p ∷ ps) (suc k) d below =
 abbrev pub is_named : List ℕ → PieceValue → Bool
 is_named id p = bytes_eq p.id id
 
+-- the code of a piece that is found, where there is one
+abbrev code_at_get : Option NamedCode → Option CodeValue
+code_at_get found = option_flatten (option_map (λ (k : NamedCode). k.code) found)
+
 -- where a piece has the id, the code of the id is that at the place of the first such piece
 found_at : (id : List ℕ) (known : List NamedCode) (ps : List PieceValue) → position_or_len (is_named id) ps < length ps
-    → code_named id (codes_after known ps) ≡ option_map (λ (k : NamedCode). k.code) (slice_get (codes_after known ps) (position_or_len (is_named id) ps))
+    → code_named id (codes_after known ps) ≡ code_at_get (slice_get (codes_after known ps) (position_or_len (is_named id) ps))
 found_at id known [] below = absurd (omega arith)
 found_at id known (p ∷ ps) below = at (bytes_eq p.id id) (found_at id next ps) below where
   own : NamedCode
@@ -119,15 +125,15 @@ found_at id known (p ∷ ps) below = at (bytes_eq p.id id) (found_at id next ps)
   next = known ++ own ∷ []
 
   at : (b : Bool)
-      → (position_or_len (is_named id) ps < length ps → code_named id (codes_after next ps) ≡ option_map (λ (k : NamedCode). k.code) (slice_get (codes_after next ps) (position_or_len (is_named id) ps)))
+      → (position_or_len (is_named id) ps < length ps → code_named id (codes_after next ps) ≡ code_at_get (slice_get (codes_after next ps) (position_or_len (is_named id) ps)))
       → cond (not b) (1 + position_or_len (is_named id) ps) 0 < length (p ∷ ps)
-      → cond b (Some (own.code)) (code_named id (codes_after next ps))
-      ≡ option_map (λ (k : NamedCode). k.code) (slice_get (own ∷ codes_after next ps) (cond (not b) (1 + position_or_len (is_named id) ps) 0))
+      → cond b own.code (code_named id (codes_after next ps))
+      ≡ code_at_get (slice_get (own ∷ codes_after next ps) (cond (not b) (1 + position_or_len (is_named id) ps) 0))
   at true rest within = refl
   at false rest within =
       let place = position_or_len (is_named id) ps in
       let step : suc place ≡ 1 + place = omega arith in
-      rest (omega arith) ∙ ap (λ (i : ℕ). option_map (λ (k : NamedCode). k.code) (slice_get (own ∷ codes_after next ps) i)) step
+      rest (omega arith) ∙ ap (λ (i : ℕ). code_at_get (slice_get (own ∷ codes_after next ps) i)) step
 
 -- where none has it, it has no code
 not_found : (id : List ℕ) (known : List NamedCode) (ps : List PieceValue) → length ps ≤ position_or_len (is_named id) ps → code_named id (codes_after known ps) ≡ None
@@ -140,7 +146,7 @@ not_found id known (p ∷ ps) past = at (bytes_eq p.id id) (not_found id next ps
   next = known ++ own ∷ []
 
   at : (b : Bool) → (length ps ≤ position_or_len (is_named id) ps → code_named id (codes_after next ps) ≡ None)
-      → length (p ∷ ps) ≤ cond (not b) (1 + position_or_len (is_named id) ps) 0 → cond b (Some (own.code)) (code_named id (codes_after next ps)) ≡ None
+      → length (p ∷ ps) ≤ cond (not b) (1 + position_or_len (is_named id) ps) 0 → cond b own.code (code_named id (codes_after next ps)) ≡ None
   at true rest within = absurd (omega arith)
   at false rest within = rest (omega arith)
 
@@ -160,19 +166,10 @@ position-none id ps h = at (nat_lt (position_or_len (is_named id) ps) (length ps
   at true e same = absurd cc
   at false e same = not_found id [] ps (ltb-false (position_or_len (is_named id) ps) (length ps) e)
 
--- an id has a code exactly where a piece has it
-pub named_where_taken : (id : List ℕ) (known : List NamedCode) (ps : List PieceValue) → is_some (code_named id (codes_after known ps)) ≡ has_id id ps
-named_where_taken id known [] = refl
-named_where_taken id known (p ∷ ps) = at (bytes_eq p.id id) (named_where_taken id next ps) where
-  own : NamedCode
-  own = named_code known p
-
-  next : List NamedCode
-  next = known ++ own ∷ []
-
-  at : (b : Bool) → is_some (code_named id (codes_after next ps)) ≡ has_id id ps → is_some (cond b (Some (own.code)) (code_named id (codes_after next ps))) ≡ (b || has_id id ps)
-  at true rest = refl
-  at false rest = rest
+-- an id is known exactly where a piece has it
+pub known_where_taken : (id : List ℕ) (known : List NamedCode) (ps : List PieceValue) → is_known id (codes_after known ps) ≡ has_id id ps
+known_where_taken id known [] = refl
+known_where_taken id known (p ∷ ps) = ap (λ (b : Bool). bytes_eq p.id id || b) (known_where_taken id (known ++ named_code known p ∷ []) ps)
 
 -- the codes have the ids of the pieces
 pub ids_of_codes : (known : List NamedCode) (ps : List PieceValue) → map (λ (k : NamedCode). k.id) (codes_after known ps) ≡ map (λ (p : PieceValue). p.id) ps

@@ -1,19 +1,16 @@
 -- What holds of evidence of every kind.
-use Rattle.std.proofs.Common.{◌≡◌, ℕ, Bool, true, false, ◌||◌, cond, not, List, [], ◌∷◌, Option, Some, None, refl, sym, ap, ◌∙◌}
-use Rattle.std.specs.Prelude.{IfSome, find}
-use Rattle.std.specs.List.{list_any}
-use Rattle.std.specs.Str.{bytes_eq}
+use Rattle.std.proofs.Common.{◌≡◌, ℕ, true, List, None}
+use Rattle.std.specs.Prelude.{IfSome}
 use Rattle.ct_codes.specs.Code.{IsCodeOf}
 use Rattle.ct_evidence.specs.declared.evidence.Evidence.{Evidence}
 use Rattle.ct_evidence.specs.declared.evidence.Evidence.TheVariants.{Words, Cosets, Build}
 use Rattle.ct_files.specs.Evidence.{IsSound}
-use Rattle.ct_ledger.specs.Named.{NamedCode, is_known, first_missing, code_named, other_named}
-use Rattle.ct_ledger.specs.Kind.{kind_of, stated_entry, parts_of, names, own_reason, words_over, IsChecked}
-use Rattle.ct_ledger.specs.Submission.{evidence_reason}
+use Rattle.ct_ledger.specs.Named.{NamedCode, code_named, other_named}
+use Rattle.ct_ledger.specs.Kind.{kind_of, stated_entry, names, own_reason, words_over, IsChecked}
 use Rattle.ct_ledger.proofs.Stating.{SaysSame}
-use Rattle.ct_ledger.proofs.Kinds.Words.{words_accepted, words_same}
-use Rattle.ct_ledger.proofs.Kinds.Cosets.{cosets_accepted, cosets_same}
-use Rattle.ct_ledger.proofs.Kinds.Build.{build_accepted, build_same}
+use Rattle.ct_ledger.proofs.KindLaws.Words.{words_accepted, words_same}
+use Rattle.ct_ledger.proofs.KindLaws.Cosets.{cosets_accepted, cosets_same}
+use Rattle.ct_ledger.proofs.KindLaws.Build.{build_accepted, build_same}
 
 -- evidence says the same over codes that are the same for the ids that it names
 pub kind_same : (evidence : Evidence) (left right : List NamedCode) → ((id : List ℕ) → names evidence id ≡ true → code_named id left ≡ code_named id right)

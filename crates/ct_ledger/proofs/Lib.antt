@@ -1,8 +1,14 @@
 pub mod AscendingLemmas
 pub mod CodeLemmas
+pub mod Stating
+pub mod SizeLemmas
+pub mod KindLaws
+pub mod KindLemmas
 pub mod MakingLemmas
-pub mod NeededLemmas
 pub mod LeavingLemmas
 pub mod StandingLemmas
 pub mod SupportLemmas
+pub mod KeptLemmas
+pub mod PartLemmas
 mod Accepting
+mod Refusing

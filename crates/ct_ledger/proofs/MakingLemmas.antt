@@ -1,179 +1,117 @@
 -- What holds of evidence that makes a piece, and that its code is one.
-use Rattle.std.proofs.Common.{◌≡◌, ℕ, ◌<◌, ◌≤◌, Bool, true, false, cond, List, [], ◌∷◌, ◌++◌, length, take, get_or, Option, Some, None, is_some, option_map, Result, Ok, Err, refl, sym, ap, subst, ◌∙◌, arith}
-use Rattle.std.specs.Prelude.{All, IfSome}
-use Rattle.std.specs.Option.{option_to_list}
-use Rattle.std.specs.Str.{bytes_eq}
+use Rattle.std.proofs.Common.{◌≡◌, ℕ, ◌<◌, ◌≤◌, Bool, true, false, cond, not, List, [], ◌∷◌, ◌++◌, length, take, get_or, Option, Some, None, option_map, Result, Ok, Err, refl, ap, subst}
+use Rattle.std.specs.Prelude.{All, IfSome, find}
+use Rattle.std.specs.Option.{option_flatten}
 use Rattle.std.proofs.lemmas.List.Elements.{All-push, All-nil, All-cons, All-head, All-tail}
-use Rattle.ct_codes.specs.declared.entry.Entry.{Entry}
-use Rattle.ct_codes.specs.Entry.{IsEntry}
-use Rattle.ct_codes.specs.Code.{CodeValue, IsCode, IsCodeOf, IsSoundCode}
-use Rattle.ct_codes.proofs.EntryLemmas.{entry_limits}
-use Rattle.ct_codes.proofs.CheckLemmas.{first_of-None, code_from_no_fault}
-use Rattle.ct_codes.proofs.CosetLemmas.{cosets_from_no_fault, choice_count-pos}
-use Rattle.ct_codes.proofs.SpanLemmas.{length-coset_list}
-use Rattle.ct_build.specs.declared.step.Step.{Step}
-use Rattle.ct_build.specs.Build.{FitsStated, build_fault}
-use Rattle.ct_build.proofs.StepLemmas.{ready}
-use Rattle.ct_build.proofs.BuiltCodes.{built_code}
-use Rattle.ct_build.proofs.BuildFaults.{early_none, built-size}
+use Rattle.ct_codes.specs.Code.{IsCodeOf, IsSoundCode}
+use Rattle.ct_codes.proofs.CheckLemmas.{first_of-None}
 use Rattle.ct_evidence.specs.declared.evidence.Evidence.{Evidence}
 use Rattle.ct_evidence.specs.declared.evidence.Evidence.TheVariants.{Words, Cosets, Build}
 use Rattle.ct_fields.specs.declared.fault.FileFault.{FileFault}
-use Rattle.ct_files.specs.Evidence.{read_of, IsSound}
-use Rattle.ct_files.proofs.Evidences.{read_of-sound}
-use Rattle.ct_ledger.specs.Piece.{PieceValue, stated_entry}
-use Rattle.ct_ledger.specs.Codes.{NamedCode, code_named, other_named, built_over, words_over, code_over, named_code, codes_after, codes_of, code_of_place}
-use Rattle.ct_ledger.specs.Submission.{unless_known, first_missing, build_refusal, build_reason, evidence_reason, piece_of, made_unless, piece_from, IsRightPart, IsChecked}
+use Rattle.ct_files.specs.Evidence.{read_without_limit, IsSound}
+use Rattle.ct_files.proofs.Evidences.{read_without_limit-sound}
+use Rattle.ct_ledger.specs.Named.{NamedCode, is_known, first_missing}
+use Rattle.ct_ledger.specs.Kind.{stated_entry, parts_of, own_reason, words_over}
+use Rattle.ct_ledger.specs.Piece.{PieceValue}
+use Rattle.ct_ledger.specs.Codes.{code_at, code_over, named_code, codes_after, codes_of, code_of_place}
+use Rattle.ct_ledger.specs.Submission.{evidence_reason, piece_of, made_unless, piece_from}
 use Rattle.ct_ledger.specs.Standing.{IsMade, AreMade}
 use Rattle.ct_ledger.specs.declared.fault.SubmitFault.{SubmitFault}
 use Rattle.ct_ledger.specs.declared.fault.SubmitFault.TheVariants as fault
 use Rattle.ct_ledger.proofs.CodeLemmas.{code_at-sound, made_at, code_at_place}
+use Rattle.ct_ledger.proofs.Stating.{HasSoundCode, AreSound, option_map-none, StatesCode}
+use Rattle.ct_ledger.proofs.KindLaws.Words.{words_state}
+use Rattle.ct_ledger.proofs.KindLaws.Cosets.{cosets_state}
+use Rattle.ct_ledger.proofs.KindLaws.Build.{build_states}
 
-pub option_map-none : {X Y : Type 0} (f : X → Y) (o : Option X) → option_map f o ≡ None → o ≡ None
-option_map-none f None h = refl
-option_map-none f (Some x) h = absurd cc
+-- where none is found, the test fails of each
+find-none_all : {X : Type 0} (test : X → Bool) (xs : List X) → find test xs ≡ None → All (λ (x : X). test x ≡ false) xs
+find-none_all test [] h = All-nil (λ x. test x ≡ false)
+find-none_all test (x ∷ xs) h = at (test x) refl h (find-none_all test xs) where
+  at : (b : Bool) → test x ≡ b → cond b (Some x) (find test xs) ≡ None → (find test xs ≡ None → All (λ y. test y ≡ false) xs) → All (λ y. test y ≡ false) (x ∷ xs)
+  at true is found later = absurd cc
+  at false is rest later = All-cons (λ y. test y ≡ false) x xs is (later rest)
 
-unless_known-none : (id : List ℕ) (code : Option CodeValue) (later : Option (List ℕ)) → unless_known id code later ≡ None → (is_some code ≡ true) × (later ≡ None)
-unless_known-none id None later h = absurd cc
-unless_known-none id (Some c) later h = (refl, h)
+find-none_from : {X : Type 0} (test : X → Bool) (xs : List X) → All (λ (x : X). test x ≡ false) xs → find test xs ≡ None
+find-none_from test [] h = refl
+find-none_from test (x ∷ xs) h =
+    rw (All-head (λ y. test y ≡ false) x xs h) (find-none_from test xs (All-tail (λ y. test y ≡ false) x xs h))
 
-unless_known-some : (id : List ℕ) (code : Option CodeValue) (later : Option (List ℕ)) → is_some code ≡ true → unless_known id code later ≡ later
-unless_known-some id None later h = absurd cc
-unless_known-some id (Some c) later h = refl
+not-false : (b : Bool) → not b ≡ false → b ≡ true
+not-false true h = refl
+not-false false h = absurd cc
 
--- no id is missing exactly where each has a code
-pub none_missing : (known : List NamedCode) (ids : List (List ℕ)) → first_missing known ids ≡ None → All (λ (id : List ℕ). is_some (code_named id known) ≡ true) ids
-none_missing known [] h = All-nil (λ (id : List ℕ). is_some (code_named id known) ≡ true)
-none_missing known (id ∷ ids) h =
-    let both = unless_known-none id (code_named id known) (first_missing known ids) h in
-    All-cons (λ (x : List ℕ). is_some (code_named x known) ≡ true) id ids both.0 (none_missing known ids both.1)
+-- no id is missing exactly where each is known
+pub none_missing : (known : List NamedCode) (ids : List (List ℕ)) → first_missing known ids ≡ None → All (λ (id : List ℕ). is_known id known ≡ true) ids
+none_missing known ids h = λ i d within. not-false (is_known (get_or ids i d) known) (find-none_all (λ (id : List ℕ). not (is_known id known)) ids h i d within)
 
-pub none_missing-from : (known : List NamedCode) (ids : List (List ℕ)) → All (λ (id : List ℕ). is_some (code_named id known) ≡ true) ids → first_missing known ids ≡ None
-none_missing-from known [] h = refl
-none_missing-from known (id ∷ ids) h =
-    let P : List ℕ → Type 0 = λ (x : List ℕ). is_some (code_named x known) ≡ true in
-    unless_known-some id (code_named id known) (first_missing known ids) (All-head P id ids h) ∙ none_missing-from known ids (All-tail P id ids h)
-
-some_is : {X : Type 0} (o : Option X) → is_some o ≡ true → (x : X) × (o ≡ Some x)
-some_is None h = absurd cc
-some_is (Some x) h = (x, refl)
+pub none_missing-from : (known : List NamedCode) (ids : List (List ℕ)) → All (λ (id : List ℕ). is_known id known ≡ true) ids → first_missing known ids ≡ None
+none_missing-from known ids h =
+    find-none_from (λ (id : List ℕ). not (is_known id known)) ids (λ i d within. ap not (h i d within))
 
 -- evidence that was read, and against which there is no reason over the codes
 pub record IsRight (known : List NamedCode) (evidence : Evidence) : Type 0 where
   pub sound : IsSound evidence
   pub faultless : evidence_reason known evidence ≡ None
 
--- a build against whose step there is no reason: the code of its part, and that of its other part where it names one
-pub record IsRightBuild (known : List NamedCode) (e : Entry) (step : Step) (part : List ℕ) (other : Option (List ℕ)) : Type 0 where
-  pub fits : FitsStated step e
-  pub code : CodeValue
-  pub code_is : code_named part known ≡ Some code
-  pub faultless : build_fault step e code (other_named other known) ≡ None
-  pub others : All (λ (id : List ℕ). is_some (code_named id known) ≡ true) (option_to_list other)
+-- so its kind's own check finds nothing
+pub right-own : (known : List NamedCode) (evidence : Evidence) → IsRight known evidence → own_reason known evidence ≡ None
+right-own known evidence h = (first_of-None (option_map fault.NoSuch (first_missing known (parts_of evidence))) (own_reason known evidence) h.faultless).1
 
-build_reason-none : (e : Entry) (step : Step) (part : List ℕ) (other : Option (List ℕ)) (code : CodeValue) (first beside : Option CodeValue) → first ≡ Some code → build_reason e step part other first beside ≡ None
-    → build_fault step e code beside ≡ None
-build_reason-none e step part other code None beside is h = absurd cc
-build_reason-none e step part other code (Some c) beside is h =
-    let same : c ≡ code = cc in
-    subst (λ (d : CodeValue). build_fault step e d beside ≡ None) same (option_map-none (build_refusal part other) (build_fault step e c beside) h)
+-- and its parts are known
+pub right-parts : (known : List NamedCode) (evidence : Evidence) → IsRight known evidence → first_missing known (parts_of evidence) ≡ None
+right-parts known evidence h =
+    option_map-none fault.NoSuch (first_missing known (parts_of evidence))
+    (first_of-None (option_map fault.NoSuch (first_missing known (parts_of evidence))) (own_reason known evidence) h.faultless).0
 
-pub right_build : (known : List NamedCode) (e : Entry) (step : Step) (part : List ℕ) (other : Option (List ℕ)) → IsRight known (Build e step part other) → IsRightBuild known e step part other
-right_build known e step part other h =
-    let both = first_of-None (option_map fault.NoSuch (first_missing known (part ∷ option_to_list other))) (build_reason e step part other (code_named part known) (other_named other known)) h.faultless in
-    let P : List ℕ → Type 0 = λ (x : List ℕ). is_some (code_named x known) ≡ true in
-    let all = none_missing known (part ∷ option_to_list other) (option_map-none fault.NoSuch (first_missing known (part ∷ option_to_list other)) both.0) in
-    let first = some_is (code_named part known) (All-head P part (option_to_list other) all) in
-    record {
-      fits = h.sound.0;
-      code = first.0;
-      code_is = first.1;
-      faultless = build_reason-none e step part other first.0 (code_named part known) (other_named other known) first.1 both.1;
-      others = All-tail P part (option_to_list other) all;
-    }
-
--- the code is one
-abbrev pub HasSoundCode : NamedCode → Type 0
-HasSoundCode k = IsSoundCode k.code
-
--- each of the codes is one
-abbrev pub AreSound : List NamedCode → Type 0
-AreSound known = All HasSoundCode known
-
-named-sound : (id : List ℕ) (known : List NamedCode) (c : CodeValue) → AreSound known → code_named id known ≡ Some c → IsSoundCode c
-named-sound id [] c sound h = absurd cc
-named-sound id (k ∷ known) c sound h = at (bytes_eq k.id id) h (named-sound id known c (All-tail HasSoundCode k known sound)) where
-  at : (b : Bool) → cond b (Some k.code) (code_named id known) ≡ Some c → (code_named id known ≡ Some c → IsSoundCode c) → IsSoundCode c
-  at true e rest = let same : k.code ≡ c = cc in subst IsSoundCode same (All-head HasSoundCode k known sound)
-  at false e rest = rest e
-
-other-sound : (other : Option (List ℕ)) (known : List NamedCode) → AreSound known → IfSome (other_named other known) (λ o. IsCode o.n o.d o.w o.words)
-other-sound None known sound = tt
-other-sound (Some id) known sound = at (code_named id known) refl where
-  at : (o : Option CodeValue) → code_named id known ≡ o → IfSome o (λ c. IsCode c.n c.d c.w c.words)
-  at None e = tt
-  at (Some c) e = let s = named-sound id known c sound e in s.code
-
--- evidence against which there is no reason states a code of its entry, its check is within the limit, and it has a word
-pub record StatesCode (known : List NamedCode) (evidence : Evidence) : Type 0 where
-  pub entry : IsEntry (stated_entry evidence)
-  pub checked : IsChecked known evidence
-  pub some : 1 ≤ length (words_over known evidence)
-  pub code : IsCodeOf (stated_entry evidence) (words_over known evidence)
+-- evidence that its kind's own check finds nothing against states what it should
+pub own_states : (known : List NamedCode) (evidence : Evidence) → AreSound known → IsSound evidence → own_reason known evidence ≡ None → StatesCode known evidence
+own_states known (Words e words) sound read own = words_state known e words read own
+own_states known (Cosets e basis representatives) sound read own = cosets_state known e basis representatives read own
+own_states known (Build e step part other) sound read own = build_states known e step part other sound read own
 
 pub states_code : (known : List NamedCode) (evidence : Evidence) → AreSound known → IsRight known evidence → StatesCode known evidence
-states_code known (Words e words) sound h =
-    let whole = code_from_no_fault e words h.sound.1 (option_map-none fault.Code _ h.faultless) in
-    record { entry = h.sound.0; checked = tt; some = whole.0; code = whole.2 }
-states_code known (Cosets e basis representatives) sound h =
-    let limits = entry_limits e h.sound.0 in
-    let far = limits.distance_from in
-    let whole = cosets_from_no_fault e basis representatives (omega arith) h.sound.1 h.sound.2 h.sound.3 (option_map-none fault.Code _ h.faultless) in
-    let size = length-coset_list basis representatives in
-    let some = choice_count-pos basis representatives whole.1 in
-    record { entry = h.sound.0; checked = whole.3; some = omega arith; code = whole.4 }
-states_code known (Build e step part other) sound h =
-    let right = right_build known e step part other h in
-    let early = early_none step e right.code (other_named other known) right.faultless in
-    let first = named-sound part known right.code sound right.code_is in
-    let code = built_code step e right.code (other_named other known) right.fits (ready step e right.code (other_named other known) early.0) first.code (other-sound other known sound) in
-    let size = built-size step e right.code (other_named other known) right.faultless in
-    record {
-      entry = right.fits.entry;
-      checked = subst (λ (o : Option CodeValue). IsRightPart e step o (other_named other known)) (sym right.code_is) right.faultless;
-      some = subst (λ (o : Option CodeValue). 1 ≤ length (built_over e step o (other_named other known))) (sym right.code_is) size.0;
-      code = subst (λ (o : Option CodeValue). IsCodeOf e (built_over e step o (other_named other known))) (sym right.code_is) code;
-    }
+states_code known evidence sound h = own_states known evidence sound h.sound (right-own known evidence h)
 
--- the evidence of which a piece is made
-pub record IsMaking (known : List NamedCode) (id document : List ℕ) (p : PieceValue) : Type 0 where
+-- the evidence of which a piece is made, whose document was read as this
+pub record IsMaking (known : List NamedCode) (id document : List ℕ) (read : Result Evidence FileFault) (p : PieceValue) : Type 0 where
   pub evidence : Evidence
-  pub read : read_of document ≡ Ok evidence
-  pub right : IsRight known evidence
+  pub is : read ≡ Ok evidence
+  pub faultless : evidence_reason known evidence ≡ None
   pub piece : piece_of known id document evidence ≡ p
 
 made_unless-ok : (reason : Option SubmitFault) (q p : PieceValue) → made_unless reason q ≡ Ok p → (reason ≡ None) × (q ≡ p)
 made_unless-ok None q p h = (refl, cc)
 made_unless-ok (Some reason) q p h = absurd cc
 
-pub making : (known : List NamedCode) (id document : List ℕ) (read : Result Evidence FileFault) (p : PieceValue) → read_of document ≡ read → piece_from known id document read ≡ Ok p → IsMaking known id document p
-making known id document (Ok evidence) p is h =
+pub making : (known : List NamedCode) (id document : List ℕ) (read : Result Evidence FileFault) (p : PieceValue) → piece_from known id document read ≡ Ok p → IsMaking known id document read p
+making known id document (Ok evidence) p h =
     let both = made_unless-ok (evidence_reason known evidence) (piece_of known id document evidence) p h in
-    record { evidence = evidence; read = is; right = record { sound = read_of-sound document evidence is; faultless = both.0 }; piece = both.1 }
-making known id document (Err reason) p is h = absurd cc
+    record { evidence = evidence; is = refl; faultless = both.0; piece = both.1 }
+making known id document (Err reason) p h = absurd cc
 
-pub making-of : (known : List NamedCode) (p : PieceValue) → IsMade known p → IsMaking known p.id p.document p
-making-of known p h = making known p.id p.document (read_of p.document) p refl h
+pub making-of : (known : List NamedCode) (p : PieceValue) → IsMade known p → IsMaking known p.id p.document (read_without_limit p.document) p
+making-of known p h = making known p.id p.document (read_without_limit p.document) p h
 
 -- a piece that is made is right over the codes
 pub IsMade-right : (known : List NamedCode) (p : PieceValue) → IsMade known p → IsRight known p.evidence
-IsMade-right known p h = let m = making-of known p h in subst (λ (q : PieceValue). IsRight known q.evidence) m.piece m.right
+IsMade-right known p h =
+    let m = making-of known p h in
+    subst (λ (q : PieceValue). IsRight known q.evidence) m.piece
+    (record { sound = read_without_limit-sound p.document m.evidence m.is; faultless = m.faultless })
 
--- and its code is one
-pub IsMade-sound : (known : List NamedCode) (p : PieceValue) → AreSound known → IsMade known p → IsSoundCode (code_over known p.evidence)
+-- the code of words that are one is one
+over-sound : (known : List NamedCode) (evidence : Evidence) (words : Option (List ℕ)) → StatesCode known evidence → words_over known evidence ≡ words
+    → IfSome (option_map (code_at (stated_entry evidence)) words) IsSoundCode
+over-sound known evidence None states is = tt
+over-sound known evidence (Some words) states is =
+    let code = subst (λ (o : Option (List ℕ)). IfSome o (λ (ws : List ℕ). (1 ≤ length ws) × IsCodeOf (stated_entry evidence) ws)) is states.code in
+    code_at-sound (stated_entry evidence) words states.entry code.0 code.1
+
+-- and its code is one, where its kind has one
+pub IsMade-sound : (known : List NamedCode) (p : PieceValue) → AreSound known → IsMade known p → HasSoundCode (named_code known p)
 IsMade-sound known p sound h =
-    let states = states_code known p.evidence sound (IsMade-right known p h) in
-    code_at-sound (stated_entry p.evidence) (words_over known p.evidence) states.entry states.some states.code
+    over-sound known p.evidence (words_over known p.evidence) (states_code known p.evidence sound (IsMade-right known p h)) refl
 
 -- the codes of pieces that are made are codes
 pub codes_after-sound : (known : List NamedCode) (ps : List PieceValue) → AreSound known → AreMade known ps → AreSound (codes_after known ps)
@@ -184,20 +122,9 @@ codes_after-sound known (p ∷ ps) sound h =
     All-cons HasSoundCode own (codes_after (known ++ own ∷ []) ps) first (codes_after-sound (known ++ own ∷ []) ps (All-push HasSoundCode known own sound first) h.1)
 
 -- the piece at a place is right over the codes of those before it
-right_at : (ps : List PieceValue) (k : ℕ) (d : PieceValue) → AreMade [] ps → k < length ps → IsRight (codes_of (take k ps)) (get_or ps k d).evidence
+pub right_at : (ps : List PieceValue) (k : ℕ) (d : PieceValue) → AreMade [] ps → k < length ps → IsRight (codes_of (take k ps)) (get_or ps k d).evidence
 right_at ps k d h below = IsMade-right (codes_of (take k ps)) (get_or ps k d) (made_at [] ps k d h below)
 
 -- and its code is that of its evidence over them
-pub code_of_place-is : (ps : List PieceValue) (k : ℕ) (d : PieceValue) (c : CodeValue) → k < length ps → c ≡ code_over (codes_of (take k ps)) (get_or ps k d).evidence → code_of_place ps k ≡ Some c
-code_of_place-is ps k d c below is = ap (option_map (λ (l : NamedCode). l.code)) (code_at_place [] ps k d below) ∙ ap Some (sym is)
-
--- the evidence of the piece at a place, as it was read there
-pub placed_evidence : (ps : List PieceValue) (k : ℕ) (d : PieceValue) (evidence : Evidence) → d ≡ get_or ps k d
-    → evidence ≡ d.evidence → (get_or ps k d).evidence ≡ evidence
-placed_evidence ps k d evidence at is = ap (λ (p : PieceValue). p.evidence) (sym at) ∙ sym is
-
--- it is right over the codes of the pieces before
-pub placed_right : (ps : List PieceValue) (k : ℕ) (d : PieceValue) (evidence : Evidence) → AreMade [] ps
-    → k < length ps → d ≡ get_or ps k d → evidence ≡ d.evidence → IsRight (codes_of (take k ps)) evidence
-placed_right ps k d evidence made below at is =
-    subst (IsRight (codes_of (take k ps))) (placed_evidence ps k d evidence at is) (right_at ps k d made below)
+pub code_of_place-is : (ps : List PieceValue) (k : ℕ) (d : PieceValue) → k < length ps → code_of_place ps k ≡ code_over (codes_of (take k ps)) (get_or ps k d).evidence
+code_of_place-is ps k d below = ap (λ (found : Option NamedCode). option_flatten (option_map (λ (l : NamedCode). l.code) found)) (code_at_place [] ps k d below)

@@ -1,5 +1,5 @@
 -- The size of a code is a lower bound of its entry.
-use Rattle.std.proofs.Common.{◌≡◌, ℕ, ◌^◌, ◌≤◌, List, length, Some, refl, arith, lit≤}
+use Rattle.std.proofs.Common.{ℕ, ◌^◌, ◌≤◌, List, length, Some, refl, arith, lit≤}
 use Rattle.std.proofs.Math.Nat.{pow-le-pow_right}
 use Rattle.ct_words.specs.declared.limits.TheConstants.{MAX_BOUND}
 use Rattle.ct_codes.specs.declared.entry.Entry.{Entry}

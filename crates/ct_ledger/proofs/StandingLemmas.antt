@@ -1,16 +1,25 @@
 -- What holds of the pieces of a ledger is kept as pieces come and go.
-use Rattle.std.proofs.Common.{◌≡◌, ◌≢◌, ℕ, ◌+◌, ◌≤◌, ◌<◌, Bool, true, false, ◌||◌, cond, not, List, [], ◌∷◌, ◌++◌, length, Option, Some, None, Result, Ok, Err, refl, sym, ap, subst, ◌∙◌, arith, nat_le, leb-true, length-append}
+use Rattle.std.proofs.Common.{◌≡◌, ◌≢◌, ℕ, ◌+◌, ◌≤◌, ◌<◌, Bool, true, false, ◌||◌, cond, not, List, [], ◌∷◌, ◌++◌, length, Option, Some, None, option_map, Result, Ok, Err, refl, sym, ap, subst, ◌∙◌, arith, nat_le, leb-true, length-append}
 use Rattle.std.proofs.lemmas.Bool.{lt-leb, le-leb, leb-false}
-use Rattle.std.specs.Prelude.{All, filter}
+use Rattle.std.specs.Prelude.{All, filter, IfSome, IsTrue}
 use Rattle.std.specs.Str.{bytes_eq}
-use Rattle.std.proofs.lemmas.List.Elements.{All-push, All-nil, All-cons, All-get_or}
+use Rattle.std.proofs.lemmas.List.Elements.{All-push, All-nil, All-cons, All-get_or, All-filter}
 use Rattle.std.proofs.lemmas.List.Kept.{AllPairs-filter}
 use Rattle.std.proofs.lemmas.List.Quantifiers.{all_pairs_push}
 use Rattle.std.proofs.lemmas.List.Sums.{sum_by_push, sum_by-cons}
 use Rattle.std.proofs.lemmas.Slice.Eq.{bytes_eq-Decides}
-use Rattle.ct_files.specs.Evidence.{read_of}
+use Rattle.ct_codes.specs.declared.entry.Entry.{Entry}
+use Rattle.ct_codes.specs.Code.{IsCodeOf, IsTrueLower}
+use Rattle.ct_text.specs.Id.{is_id}
+use Rattle.ct_evidence.specs.declared.evidence.Evidence.{Evidence}
+use Rattle.ct_fields.specs.declared.document.TheConstants.{MAX_DOCUMENT}
+use Rattle.ct_fields.specs.declared.fault.FileFault.{FileFault}
+use Rattle.ct_files.specs.Evidence.{read_without_limit, read_of}
+use Rattle.ct_files.proofs.Evidences.{read_without_limit-sound, read_of-within, read_of-without_limit}
+use Rattle.ct_ledger.specs.Named.{NamedCode}
+use Rattle.ct_ledger.specs.Kind.{stated_entry, words_over}
 use Rattle.ct_ledger.specs.Piece.{PieceValue, has_id, stored_by, stored_words, first_user}
-use Rattle.ct_ledger.specs.Codes.{NamedCode, words_over, named_code, codes_of}
+use Rattle.ct_ledger.specs.Codes.{named_code, codes_of}
 use Rattle.ct_ledger.specs.Submission.{piece_from, if_stored, stored_beside, unless_full, submitted, with_piece}
 use Rattle.ct_ledger.specs.Withdrawal.{without, withdrawn, unless_used, left_by}
 use Rattle.ct_ledger.specs.Standing.{AreStanding, IsMade, AreMade, HasTrueSize}
@@ -20,28 +29,44 @@ use Rattle.ct_ledger.specs.declared.fault.SubmitFault.TheVariants as fault
 use Rattle.ct_ledger.specs.declared.fault.WithdrawFault.{WithdrawFault}
 use Rattle.ct_ledger.specs.declared.fault.WithdrawFault.TheVariants as withdraw
 use Rattle.ct_ledger.proofs.CodeLemmas.{AreMade-append}
-use Rattle.ct_ledger.proofs.MakingLemmas.{AreSound, HasSoundCode, making, making-of, states_code, IsMade-sound}
+use Rattle.ct_ledger.proofs.Stating.{AreSound, HasSoundCode}
+use Rattle.ct_ledger.proofs.MakingLemmas.{IsRight, making, making-of, states_code, IsMade-sound}
 use Rattle.ct_ledger.proofs.LeavingLemmas.{AreMade-without}
 
 -- a piece that is made has the id and the document that it is made of
-pub piece_from-names : (known : List NamedCode) (id document : List ℕ) (p : PieceValue) → piece_from known id document (read_of document) ≡ Ok p → (p.id ≡ id) × (p.document ≡ document)
-piece_from-names known id document p h =
-    let m = making known id document (read_of document) p refl h in
+pub piece_from-names : (known : List NamedCode) (id document : List ℕ) (read : Result Evidence FileFault) (p : PieceValue) → piece_from known id document read ≡ Ok p
+    → (p.id ≡ id) × (p.document ≡ document)
+piece_from-names known id document read p h =
+    let m = making known id document read p h in
     (ap (λ (q : PieceValue). q.id) (sym m.piece), ap (λ (q : PieceValue). q.document) (sym m.piece))
+
+-- a document that makes a piece is within the limit
+pub piece_from-within : (known : List NamedCode) (id document : List ℕ) (p : PieceValue) → piece_from known id document (read_of document) ≡ Ok p → length document ≤ MAX_DOCUMENT
+piece_from-within known id document p h = let m = making known id document (read_of document) p h in read_of-within document m.evidence m.is
 
 -- a piece that a document makes is made by its own document
 pub piece_from-made : (known : List NamedCode) (id document : List ℕ) (p : PieceValue) → piece_from known id document (read_of document) ≡ Ok p → IsMade known p
 piece_from-made known id document p h =
-    let names = piece_from-names known id document p h in
-    subst (λ (i : List ℕ). piece_from known i p.document (read_of p.document) ≡ Ok p) (sym names.0)
-    (subst (λ (d : List ℕ). piece_from known id d (read_of d) ≡ Ok p) (sym names.1) h)
+    let m = making known id document (read_of document) p h in
+    let names = piece_from-names known id document (read_of document) p h in
+    let read = sym (read_of-without_limit document m.evidence m.is) in
+    let made = subst (λ (r : Result Evidence FileFault). piece_from known id document r ≡ Ok p) (m.is ∙ read) h in
+    subst (λ (i : List ℕ). piece_from known i p.document (read_without_limit p.document) ≡ Ok p) (sym names.0)
+    (subst (λ (d : List ℕ). piece_from known id d (read_without_limit d) ≡ Ok p) (sym names.1) made)
 
--- the size of a piece that is made over codes is that of a code of its entry
+-- so many words as a code of the entry has are a true lower bound
+true-size : (e : Entry) (words : Option (List ℕ)) → IfSome words (λ ws. (1 ≤ length ws) × IsCodeOf e ws) → IfSome (option_map length words) (IsTrueLower e)
+true-size e None code = tt
+true-size e (Some words) code = (words, code.1, refl)
+
+-- the size of a piece that is made over codes is that of a code of its entry, where its kind has a code
 pub IsMade-true : (known : List NamedCode) (p : PieceValue) → AreSound known → IsMade known p → HasTrueSize p
 IsMade-true known p sound h =
     let m = making-of known p h in
-    let states = states_code known m.evidence sound m.right in
-    subst HasTrueSize m.piece (words_over known m.evidence, states.code, refl)
+    let right : IsRight known m.evidence = record { sound = read_without_limit-sound p.document m.evidence m.is; faultless = m.faultless } in
+    let states = states_code known m.evidence sound right in
+    subst HasTrueSize m.piece
+    (λ coded. subst (λ (size : Option ℕ). IfSome size (IsTrueLower (stated_entry m.evidence))) (sym (states.size coded)) (true-size (stated_entry m.evidence) (words_over known m.evidence) states.code))
 
 -- and so for pieces that are made
 AreMade-true : (known : List NamedCode) (ps : List PieceValue) → AreSound known → AreMade known ps → All HasTrueSize ps
@@ -59,9 +84,10 @@ has_id-none id (p ∷ pieces) h = at (bytes_eq p.id id) refl h (has_id-none id p
   at false e h rest = All-cons (λ (q : PieceValue). q.id ≢ id) p pieces (λ same. let yes = (bytes_eq-Decides p.id id).1 same in absurd cc) (rest h)
 
 -- one more piece stands with the others
-pub AreStanding-push : (pieces : List PieceValue) (p : PieceValue) → AreStanding pieces → IsMade (codes_of pieces) p → has_id p.id pieces ≡ false → length pieces < MAX_PIECES → stored_words pieces + stored_by p ≤ MAX_STORED
-    → AreStanding (pieces ++ p ∷ [])
-AreStanding-push pieces p h made free room small = record {
+pub AreStanding-push : (pieces : List PieceValue) (p : PieceValue) → AreStanding pieces → IsMade (codes_of pieces) p → IsTrue (is_id p.id) → has_id p.id pieces ≡ false → length pieces < MAX_PIECES
+    → stored_words pieces + stored_by p ≤ MAX_STORED → AreStanding (pieces ++ p ∷ [])
+AreStanding-push pieces p h made named free room small = record {
+  named = All-push (λ (q : PieceValue). IsTrue (is_id q.id)) pieces p h.named named;
   made = AreMade-append [] pieces (p ∷ []) h.made (made, tt);
   different = all_pairs_push (λ (q r : PieceValue). q.id ≢ r.id) pieces p h.different (λ k d below. All-get_or (λ (q : PieceValue). q.id ≢ p.id) pieces k d below (has_id-none p.id pieces free));
   few = omega (arith, length-append pieces (p ∷ []), room);
@@ -89,6 +115,7 @@ AreStanding-without pieces id h none =
     let test : PieceValue → Bool = λ (q : PieceValue). not (bytes_eq q.id id) in
     record {
       made = AreMade-without id pieces h.made none;
+      named = All-filter test (λ (q : PieceValue). IsTrue (is_id q.id)) pieces h.named;
       different = AllPairs-filter (λ (q r : PieceValue). q.id ≢ r.id) test pieces h.different;
       few = omega (arith, length-filter test pieces, h.few);
       small = omega (arith, stored-filter test pieces, h.small);
@@ -98,6 +125,7 @@ AreStanding-without pieces id h none =
 pub AreStanding-none : AreStanding []
 AreStanding-none = record {
   made = tt;
+  named = All-nil (λ (q : PieceValue). IsTrue (is_id q.id));
   different = λ i j d below within. absurd (omega arith);
   few = omega arith;
   small = omega arith;
@@ -119,11 +147,11 @@ submitted-beside pieces id document p free room made =
     ∙ ap (stored_beside stored) made
 
 -- one more piece stands with the others, which its document makes under an id that is not taken
-pub AreStanding-made : (pieces : List PieceValue) (id document : List ℕ) (p : PieceValue) → AreStanding pieces → piece_from (codes_of pieces) id document (read_of document) ≡ Ok p → has_id id pieces ≡ false → length pieces < MAX_PIECES
+pub AreStanding-made : (pieces : List PieceValue) (id document : List ℕ) (p : PieceValue) → AreStanding pieces → IsTrue (is_id id) → piece_from (codes_of pieces) id document (read_of document) ≡ Ok p → has_id id pieces ≡ false → length pieces < MAX_PIECES
     → stored_words pieces + stored_by p ≤ MAX_STORED → AreStanding (pieces ++ p ∷ [])
-AreStanding-made pieces id document p h made free room small =
-    let names = piece_from-names (codes_of pieces) id document p made in
-    AreStanding-push pieces p h (piece_from-made (codes_of pieces) id document p made) (ap (λ i. has_id i pieces) names.0 ∙ free) room small
+AreStanding-made pieces id document p h named made free room small =
+    let names = piece_from-names (codes_of pieces) id document (read_of document) p made in
+    AreStanding-push pieces p h (piece_from-made (codes_of pieces) id document p made) (subst (λ (i : List ℕ). IsTrue (is_id i)) (sym names.0) named) (ap (λ i. has_id i pieces) names.0 ∙ free) room small
 
 -- what a submission that makes a piece was asked
 pub record WasMade (pieces : List PieceValue) (id document : List ℕ) (p : PieceValue) : Type 0 where
@@ -164,9 +192,9 @@ submitted-from pieces id document p h =
     ∙ ap (λ (fits : Bool). cond fits (Ok p) (Err (fault.FullWords (stored_words pieces + stored_by p)))) (le-leb (stored_words pieces + stored_by p) MAX_STORED h.small)
 
 -- the pieces after a submission stand, where those before it do
-pub AreStanding-submitted : (pieces : List PieceValue) (id document : List ℕ) (made : Result PieceValue SubmitFault) → submitted pieces id document ≡ made → AreStanding pieces → AreStanding (with_piece pieces made)
-AreStanding-submitted pieces id document (Ok p) is h = let was = submitted-ok pieces id document p is in AreStanding-made pieces id document p h was.made was.free was.room was.small
-AreStanding-submitted pieces id document (Err reason) is h = h
+pub AreStanding-submitted : (pieces : List PieceValue) (id document : List ℕ) (made : Result PieceValue SubmitFault) → IsTrue (is_id id) → submitted pieces id document ≡ made → AreStanding pieces → AreStanding (with_piece pieces made)
+AreStanding-submitted pieces id document (Ok p) named is h = let was = submitted-ok pieces id document p is in AreStanding-made pieces id document p h named was.made was.free was.room was.small
+AreStanding-submitted pieces id document (Err reason) named is h = h
 
 unless_used-standing : (user : Option PieceValue) (id : List ℕ) (pieces : List PieceValue) → first_user id pieces ≡ user → AreStanding pieces → AreStanding (left_by pieces (unless_used user (without id pieces)))
 unless_used-standing None id pieces none h = AreStanding-without pieces id h none

@@ -1,8 +1,8 @@
 -- What is said of evidence against which its kind's own check finds nothing.
-use Rattle.std.proofs.Common.{◌≡◌, ℕ, ◌≤◌, List, [], ◌∷◌, length, Option, Some, None, is_some, option_map, refl}
+use Rattle.std.proofs.Common.{◌≡◌, ◌≤◌, List, length, Option, Some, None, is_some, option_map, refl}
 use Rattle.std.specs.Prelude.{All, IfSome, IsTrue}
 use Rattle.ct_codes.specs.Entry.{IsEntry}
-use Rattle.ct_codes.specs.Code.{CodeValue, IsCodeOf, IsSoundCode}
+use Rattle.ct_codes.specs.Code.{IsCodeOf, IsSoundCode}
 use Rattle.ct_evidence.specs.declared.evidence.Evidence.{Evidence}
 use Rattle.ct_rule_parts.specs.Support.{Stands}
 use Rattle.ct_ledger.specs.Named.{NamedCode}

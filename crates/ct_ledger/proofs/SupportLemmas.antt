@@ -1,48 +1,37 @@
 -- What pieces give to the table: it stands where they do, and comes and goes with them.
-use Rattle.std.proofs.Common.{◌≡◌, ◌≢◌, ℕ, zero, suc, ◌+◌, ◌^◌, ◌≤◌, ◌<◌, Bool, true, false, ◌||◌, cond, not, nat_lt, List, [], ◌∷◌, ◌++◌, length, map, Option, Some, None, Ok, Err, option_map, refl, sym, ap, subst, ◌∙◌, arith, lit≤, ltb-true, ltb-false}
+use Rattle.std.proofs.Common.{◌≡◌, ◌≢◌, ℕ, zero, suc, ◌+◌, ◌≤◌, ◌<◌, Bool, true, false, ◌||◌, cond, not, nat_lt, List, [], ◌∷◌, ◌++◌, length, map, get_or, Option, Some, None, Ok, Err, option_map, refl, sym, ap, subst, ◌∙◌, arith, ltb-true, ltb-false}
 use Rattle.std.specs.Prelude.{All, AllPairs, remove}
 use Rattle.std.specs.List.{position_or_len}
 use Rattle.std.specs.Str.{bytes_eq}
-use Rattle.std.proofs.Math.Nat.{pow-le-pow_right}
 use Rattle.std.proofs.lemmas.List.{map-append, length-map}
+use Rattle.std.proofs.lemmas.List.Sums.{sum_by-remove}
 use Rattle.std.proofs.lemmas.List.Elements.{All-push, All-nil, All-cons, All-head, All-tail}
 use Rattle.std.proofs.lemmas.Slice.Eq.{bytes_eq-Decides}
-use Rattle.ct_words.specs.declared.limits.TheConstants.{MAX_BOUND}
-use Rattle.ct_codes.specs.declared.entry.Entry.{Entry}
-use Rattle.ct_codes.specs.Code.{IsCodeOf}
-use Rattle.ct_codes.specs.Entry.{IsEntry}
-use Rattle.ct_codes.proofs.CheckLemmas.{code_size-le}
-use Rattle.ct_codes.proofs.EntryLemmas.{entry_limits}
 use Rattle.ct_rule_parts.specs.Support.{Stands, AllStand}
-use Rattle.ct_ledger.specs.Piece.{PieceValue, has_id, stated_entry, first_user}
-use Rattle.ct_ledger.specs.Codes.{NamedCode, words_over, named_code, codes_of}
 use Rattle.ct_files.specs.Evidence.{read_of}
+use Rattle.ct_files.proofs.Evidences.{read_without_limit-sound}
+use Rattle.ct_ledger.specs.Named.{NamedCode}
+use Rattle.ct_ledger.specs.Piece.{PieceValue, has_id, first_user, stored_by, stored_words}
+use Rattle.ct_ledger.specs.Codes.{named_code, codes_of}
 use Rattle.ct_ledger.specs.Submission.{piece_from}
 use Rattle.ct_ledger.specs.Standing.{AreStanding, IsMade, AreMade}
 use Rattle.ct_ledger.specs.Supports.{support_of, supports_of}
 use Rattle.ct_ledger.specs.Withdrawal.{without, withdrawn, unless_used}
 use Rattle.ct_ledger.specs.declared.fault.WithdrawFault.TheVariants as fault
-use Rattle.ct_ledger.specs.Inside.Needed.{place_of}
+use Rattle.ct_ledger.specs.Inside.Kept.{place_of, kept_codes}
 use Rattle.ct_ledger.proofs.CodeLemmas.{is_named}
-use Rattle.ct_ledger.proofs.MakingLemmas.{AreSound, HasSoundCode, making-of, states_code, IsMade-sound, codes_after-sound, option_map-none}
+use Rattle.ct_ledger.proofs.Stating.{AreSound, HasSoundCode, option_map-none}
+use Rattle.ct_ledger.proofs.MakingLemmas.{IsRight, making-of, states_code, IsMade-sound, codes_after-sound}
+use Rattle.ct_ledger.proofs.LeavingLemmas.{kept-remove}
 use Rattle.ct_ledger.proofs.StandingLemmas.{piece_from-made, AreStanding-without}
-
--- a code of an entry of the table has at most so many words as the table's greatest bound
-code-le : (e : Entry) (words : List ℕ) → IsEntry e → IsCodeOf e words → length words ≤ MAX_BOUND
-code-le e words entry code =
-    let size = code_size-le e.n e.d e.w words code in
-    let cap : 2 ^ e.n ≤ MAX_BOUND = pow-le-pow_right (lit≤ tt) (entry_limits e entry).length_to in
-    omega (arith, size, cap)
 
 -- what a piece gives that is made over codes stands
 pub IsMade-stands : (known : List NamedCode) (p : PieceValue) → AreSound known → IsMade known p → Stands (support_of p)
 IsMade-stands known p sound h =
     let m = making-of known p h in
-    let states = states_code known m.evidence sound m.right in
-    let words = words_over known m.evidence in
-    let most = code-le (stated_entry m.evidence) words states.entry states.code in
-    subst (λ (q : PieceValue). Stands (support_of q)) m.piece
-    (record { entry = states.entry; range = (states.some, most); truth = (words, states.code, refl) })
+    let right : IsRight known m.evidence = record { sound = read_without_limit-sound p.document m.evidence m.is; faultless = m.faultless } in
+    let states = states_code known m.evidence sound right in
+    subst (λ (q : PieceValue). Stands (support_of q)) m.piece states.stands
 
 -- and so does what a piece gives that its document makes over pieces that stand
 pub made_stands : (pieces : List PieceValue) (id document : List ℕ) (p : PieceValue) → AreStanding pieces → piece_from (codes_of pieces) id document (read_of document) ≡ Ok p → Stands (support_of p)
@@ -131,6 +120,7 @@ has_id-missing id (p ∷ ps) past = at (bytes_eq p.id id) past (has_id-missing i
 -- what is known of the place of a piece with the id
 pub record IsPlaceOf (id : List ℕ) (ps : List PieceValue) (k : ℕ) : Type 0 where
   pub within : k < length ps
+  pub at : position_or_len (is_named id) ps ≡ k
   pub named : has_id id ps ≡ true
   pub left : without id ps ≡ remove ps k
 
@@ -140,7 +130,14 @@ place_of-some id ps k h is = at (nat_lt (position_or_len (is_named id) ps) (leng
   at true e same =
       let within = ltb-true (position_or_len (is_named id) ps) (length ps) e in
       let place : position_or_len (is_named id) ps ≡ k = cc in
-      record { within = omega arith; named = has_id-found id ps within; left = without-first id ps h within ∙ ap (remove ps) place }
+      record { within = omega arith; at = place; named = has_id-found id ps within; left = without-first id ps h within ∙ ap (remove ps) place }
+  at false e same = absurd cc
+
+-- whether a piece has an id shows in the place of the first with it
+pub place_of-found : (id : List ℕ) (ps : List PieceValue) (k : ℕ) → place_of id ps ≡ Some k → has_id id ps ≡ true
+place_of-found id ps k is = at (nat_lt (position_or_len (is_named id) ps) (length ps)) refl is where
+  at : (b : Bool) → nat_lt (position_or_len (is_named id) ps) (length ps) ≡ b → cond b (Some (position_or_len (is_named id) ps)) None ≡ Some k → has_id id ps ≡ true
+  at true e same = has_id-found id ps (ltb-true (position_or_len (is_named id) ps) (length ps) e)
   at false e same = absurd cc
 
 pub place_of-none : (id : List ℕ) (ps : List PieceValue) → place_of id ps ≡ None → has_id id ps ≡ false
@@ -180,6 +177,8 @@ pub record IsLeft (id : List ℕ) (ps : List PieceValue) (k : ℕ) : Type 0 wher
   pub within : k < length (supports_of ps)
   pub standing : AreStanding (remove ps k)
   pub supports : supports_of (remove ps k) ≡ remove (supports_of ps) k
+  pub kept : kept_codes (remove ps k) ≡ remove (kept_codes ps) k
+  pub stored : (d : PieceValue) → stored_words (remove ps k) + stored_by (get_or ps k d) ≡ stored_words ps
 
 pub left_standing : (id : List ℕ) (ps : List PieceValue) (k : ℕ) → AreStanding ps → place_of id ps ≡ Some k → option_map (λ (p : PieceValue). p.id) (first_user id ps) ≡ None → IsLeft id ps k
 left_standing id ps k h is free =
@@ -191,4 +190,7 @@ left_standing id ps k h is free =
       within = omega arith;
       standing = subst AreStanding place.left (AreStanding-without ps id h none);
       supports = supports-remove ps k;
+      kept = subst (λ (i : ℕ). kept_codes (remove ps i) ≡ remove (kept_codes ps) i) place.at
+          (kept-remove id [] ps h.different none (rw place.at place.within));
+      stored = λ d. sum_by-remove stored_by ps k d place.within;
     }

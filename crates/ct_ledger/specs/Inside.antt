@@ -1,2 +1,2 @@
 -- Words that the contracts of inner functions alone cite.
-pub mod Needed
+pub mod Kept

@@ -1,5 +1,5 @@
 -- Evidence by its kind, and what each kind says of it.
-use Rattle.std.specs.Prelude.{◌≡◌, ℕ, Bool, List, Option}
+use Rattle.std.specs.Prelude.{ℕ, Bool, List, Option}
 use Rattle.std.specs.List.{list_any}
 use Rattle.std.specs.Str.{bytes_eq}
 use Rattle.ct_codes.specs.declared.entry.Entry.{Entry}

@@ -1,5 +1,5 @@
 -- Why a submission over the pieces that stand is refused, reason by reason: each holds where those before it don't.
-use Rattle.std.specs.Prelude.{◌≡◌, ◌≢◌, ◌<◌, ◌≤◌, ℕ, ◌+◌, List, [], ◌∷◌, ◌++◌, length, map, All, Contains, Some, None, Ok, Err}
+use Rattle.std.specs.Prelude.{◌≡◌, ◌≢◌, ◌<◌, ◌≤◌, ℕ, ◌+◌, List, ◌∷◌, ◌++◌, length, map, All, Contains, Some, None, Ok, Err}
 use Rattle.ct_evidence.specs.declared.evidence.Evidence.{Evidence}
 use Rattle.ct_files.specs.Evidence.{read_of}
 use Rattle.ct_ledger.specs.Kind.{parts_of, own_reason}
@@ -28,7 +28,7 @@ pub record IsRead (pieces : List PieceValue) (id document : List ℕ) (evidence 
 pub record IsFirstMissing (pieces : List PieceValue) (ids : List (List ℕ)) (id : List ℕ) : Type 0 where
   pub before : List (List ℕ)
   pub after : List (List ℕ)
-  pub ids : ids ≡ before ++ id ∷ after
+  pub split : ids ≡ before ++ id ∷ after
   pub stand : All (Stands pieces) before
   pub missing : All (λ q. q.id ≢ id) pieces
 
@@ -37,7 +37,7 @@ pub record IsOwnReason (pieces : List PieceValue) (id document : List ℕ) (reas
   pub evidence : Evidence
   pub read : IsRead pieces id document evidence
   pub parts : All (Stands pieces) (parts_of evidence)
-  pub reason : own_reason (codes_of pieces) evidence ≡ Some reason
+  pub own : own_reason (codes_of pieces) evidence ≡ Some reason
 
 -- the document names this part first of those that don't stand
 pub record NamesMissing (pieces : List PieceValue) (id document part : List ℕ) : Type 0 where
@@ -51,7 +51,7 @@ pub record IsAboveStored (pieces : List PieceValue) (id document : List ℕ) (to
   pub read : IsRead pieces id document evidence
   pub parts : All (Stands pieces) (parts_of evidence)
   pub right : own_reason (codes_of pieces) evidence ≡ None
-  pub total : total ≡ stored_words pieces + stored_by (piece_of (codes_of pieces) id document evidence)
+  pub sum : total ≡ stored_words pieces + stored_by (piece_of (codes_of pieces) id document evidence)
   pub many : MAX_STORED < total
 
 -- the submission is refused for this reason: in order, its id stands; a thousand pieces do; the document's own fault; a part that doesn't stand; a

@@ -7,10 +7,9 @@ use Rattle.ct_codes.specs.declared.fault.CodeFault.TheVariants as code
 use Rattle.ct_build.specs.declared.fault.BuildFault.{BuildFault}
 use Rattle.ct_build.specs.declared.fault.BuildFault.TheVariants as build
 use Rattle.ct_fields.specs.Field.{field_text}
-use Rattle.ct_evidence.specs.declared.evidence.Evidence.{Evidence}
-use Rattle.ct_evidence.specs.declared.evidence.Evidence.TheVariants.{Words, Cosets, Build}
 use Rattle.ct_fields.specs.declared.fault.FileFault.{FileFault}
 use Rattle.ct_fields.specs.declared.fault.FileFault.TheVariants as file
+use Rattle.ct_ledger.specs.Kind.{kind_of}
 use Rattle.ct_ledger.specs.Piece.{PieceValue}
 use Rattle.ct_ledger.specs.declared.fault.SubmitFault.{SubmitFault}
 use Rattle.ct_ledger.specs.declared.fault.SubmitFault.TheVariants as submit
@@ -64,12 +63,6 @@ withdraw_fault_text id withdraw.NoSuch = codes "nosuch " ++ id
 withdraw_fault_text id (withdraw.InUse user) = codes "inuse " ++ user
 withdraw_fault_text id withdraw.Memory = []
 
--- the kind of evidence
-abbrev pub kind_text : Evidence → List ℕ
-kind_text (Words e words) = codes "words"
-kind_text (Cosets e basis representatives) = codes "cosets"
-kind_text (Build e step part other) = codes "build"
-
 -- a size, where there is one
 abbrev pub size_text : Option ℕ → List ℕ
 size_text None = []
@@ -77,4 +70,4 @@ size_text (Some size) = codes " size" ++ spaced size
 
 -- the line of a piece: ID KIND ENTRY, and its size where it has one
 abbrev pub piece_text : PieceValue → List ℕ
-piece_text p = p.id ++ codes " " ++ kind_text p.evidence ++ codes " " ++ entry_words p.entry ++ size_text p.size
+piece_text p = p.id ++ codes " " ++ (kind_of p.evidence).text ++ codes " " ++ entry_words p.entry ++ size_text p.size

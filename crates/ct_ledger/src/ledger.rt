@@ -1,12 +1,10 @@
 //! The ledger.
 
-ghost use Rattle.std.specs.Prelude.{◌≡◌, ◌≢◌, ◌≤◌, ◌<◌, ◌+◌, ◌^◌, ◌∷◌, ◌++◌, Result, Ok, Err, Some, false, IfOk, IfErr, IfNone, OnOk, OnErr, [], All, filter, find, length, not, option_map};
-ghost use Rattle.std.specs.List.{list_any};
-ghost use Rattle.std.specs.Option.{option_to_list};
-ghost use Rattle.std.specs.Str.{bytes_eq};
+ghost use Rattle.std.specs.Prelude.{◌≡◌, ◌≢◌, ◌≤◌, ◌<◌, ◌+◌, ◌^◌, ◌∷◌, ◌++◌, Result, Ok, Err, Some, false, IfOk, IfErr, IfNone, IsSome, IsTrue, OnOk, OnErr, [], All, filter, find, length, not, option_map};
 ghost use Rattle.ct_codes.specs.Code.{IsSoundCode};
+ghost use Rattle.ct_text.specs.Id.{is_id};
 ghost use Rattle.ct_files.specs.Evidence.{read_of};
-ghost use Rattle.ct_ledger.specs.Piece.{PieceValue, has_id, stored_by, stored_words, names, first_user};
+ghost use Rattle.ct_ledger.specs.Piece.{PieceValue, has_id, stored_by, stored_words, first_user};
 ghost use Rattle.ct_ledger.specs.Codes.{code_of_place};
 ghost use Rattle.ct_ledger.specs.Submission.{submitted, piece_from, if_stored, unless_full};
 ghost use Rattle.ct_ledger.specs.declared.fault.SubmitFault.{SubmitFault};
@@ -17,15 +15,13 @@ ghost use Rattle.ct_ledger.specs.Ledger.{AddsPiece};
 ghost use Rattle.ct_ledger.specs.Dump.{dump_text};
 
 use crate::check::check_document;
-use crate::codes::place_of;
 use crate::dump::put_dump;
 use crate::fault::{SubmitFault, WithdrawFault};
+use crate::kept::{code_at_place, place_of};
+use crate::kinds::{gives, kind_of, names};
 use crate::limits::{MAX_PIECES, MAX_STORED};
-use crate::needed::code_of;
 use crate::piece::Piece;
-use crate::support::support_of;
 use ct_codes::Code;
-use ct_files::Evidence;
 use ct_table::Table;
 use ct_text::{Id, Text};
 use std::alloc::{AllocError, Global};
@@ -36,6 +32,7 @@ use std::marker::Model;
 #[derive(Debug, Drop)]
 pub struct Ledger {
     pieces: Vec<Piece>,
+    kept: Vec<Option<Code>>,
     stored: u64,
     table: Table,
 }
@@ -45,6 +42,7 @@ impl Model for Ledger {
     ghost use Rattle.ct_ledger.specs.Piece.{stored_words};
     ghost use Rattle.ct_ledger.specs.Standing.{AreStanding};
     ghost use Rattle.ct_ledger.specs.Supports.{supports_of};
+    ghost use Rattle.ct_ledger.specs.Inside.Kept.{kept_codes};
     ghost use Rattle.ct_ledger.specs.Ledger.{LedgerValue};
 
     ghost Value = { LedgerValue };
@@ -52,7 +50,7 @@ impl Model for Ledger {
     ghost view = { λ l. record { pieces = l.pieces.items; stored = l.stored; table = l.table } };
 
     ghost invariant = { λ l. AreStanding l.pieces.items × (l.stored ≡ stored_words l.pieces.items)
-        × (l.table.supports ≡ supports_of l.pieces.items) };
+        × (l.table.supports ≡ supports_of l.pieces.items) × (l.kept.items ≡ kept_codes l.pieces.items) };
 }
 
 /// How many words the piece stores.
@@ -60,22 +58,21 @@ fn stored_by(piece: &Piece) -> u64
     ensures words { result ≡ stored_by piece.now }
     ensures bound { result < 2 ^ 63 }
 {
-    match piece.evidence() {
-        Evidence::Words { words, .. } => words.as_slice().len() as u64,
-        Evidence::Cosets {
-            basis,
-            representatives,
-            ..
-        } => basis.as_slice().len() as u64 + representatives.as_slice().len() as u64,
-        Evidence::Build { .. } => u64::from(piece.size().unwrap_or(0)),
+    let kind = kind_of(piece.evidence());
+    if kind.is_stored {
+        kind.listed + u64::from(piece.size().unwrap_or(0))
+    } else {
+        kind.listed
     }
 }
 
 /// Whether a piece has the id.
 fn has_id(pieces: &[Piece], id: Id) -> bool
-    ensures { result ≡ has_id id pieces.now }
+    ensures has { result ≡ has_id id pieces.now }
+    ensures id { IsTrue (is_id id) }
 {
-    pieces.iter().any(|piece| piece.id() == id)
+    let name = id.text();
+    pieces.iter().any(|piece| piece.id().text() == name)
 }
 
 /// How many words are stored with the piece beside so many others, or that they are too many.
@@ -102,40 +99,9 @@ fn first_user(pieces: &[Piece], id: Id) -> Option<Id>
         .map(|piece| piece.id())
 }
 
-/// Whether the evidence names the piece of this id as a part of its own.
-fn names(evidence: &Evidence, id: Id) -> bool
-    ensures { result ≡ names evidence.now id }
-{
-    match evidence {
-        Evidence::Words { .. } | Evidence::Cosets { .. } => false,
-        Evidence::Build { part, other, .. } => *part == id || is_other(*other, id),
-    }
-}
-
-/// Whether another part is named, and has the id.
-fn is_other(other: Option<Id>, id: Id) -> bool
-    ensures { result ≡ list_any (λ part. bytes_eq part id) (option_to_list other) }
-{
-    match other {
-        Some(other) => other == id,
-        None => false,
-    }
-}
-
-/// How many words the pieces store.
-fn stored_by_all(pieces: &[Piece]) -> u64
-    requires { stored_words pieces.now ≤ MAX_STORED }
-    ensures { result ≡ stored_words pieces.now }
-{
-    let mut total = 0;
-    for piece in pieces {
-        total += stored_by(piece);
-    }
-    total
-}
-
 /// Whether there is room for one more piece, of this id.
 fn room_for(pieces: &[Piece], id: Id) -> Result<(), SubmitFault>
+    ensures id { IsTrue (is_id id) }
     ensures free { OnOk result (has_id id pieces.now ≡ false) }
     ensures room { OnOk result (length pieces.now < MAX_PIECES) }
     ensures fault { IfErr result (λ fault. (made : Result PieceValue SubmitFault)
@@ -157,6 +123,7 @@ impl Ledger {
     {
         Ok(Ledger {
             pieces: Vec::new(alloc),
+            kept: Vec::new(alloc),
             stored: 0,
             table: Table::new(alloc)?,
         })
@@ -208,22 +175,17 @@ impl Ledger {
         ensures unchanged { OnErr result (self.new ≡ self.old) }
     {
         room_for(&self.pieces, id)?;
-        let piece = check_document(*self.pieces.allocator(), &self.pieces, id, document)?;
-        let stored = stored_with(self.stored, &piece)?;
-        let size = piece.size();
-        let support = support_of(&piece);
-        let count = self.pieces.len();
-        self.pieces.push(piece)?;
-        match self.table.add(support) {
-            Ok(()) => {
-                self.stored = stored;
-                Ok(size)
-            }
-            Err(error) => {
-                self.pieces.truncate(count);
-                Err(error.into())
-            }
-        }
+        let alloc = *self.pieces.allocator();
+        let made = check_document(alloc, &self.pieces, &self.kept, id, document)?;
+        let stored = stored_with(self.stored, &made.piece)?;
+        let size = made.piece.size();
+        self.pieces.reserve(1)?;
+        self.kept.reserve(1)?;
+        self.table.add(gives(made.piece.evidence(), size))?;
+        self.pieces.push_reserved(made.piece);
+        self.kept.push_reserved(made.kept);
+        self.stored = stored;
+        Ok(size)
     }
 
     /// Takes the piece of the id out. `NoSuch` comes exactly where no piece has it, and `InUse` where another names it. After an
@@ -242,20 +204,22 @@ impl Ledger {
             return Err(WithdrawFault::InUse(user));
         }
         self.table.remove(place)?;
-        self.pieces.remove(place);
-        self.stored = stored_by_all(&self.pieces);
+        let piece = self.pieces.remove(place);
+        self.kept.remove(place);
+        self.stored -= stored_by(&piece);
         Ok(())
     }
 
-    /// The code of the piece at the place, over the codes of its parts: its length, distance and weight are those of the
-    /// piece's entry, and its words are those of the document, of all choices of cosets, or those that the step makes. `Err`
-    /// is want of memory.
+    /// The code of the piece at the place, whose kind has one, over the codes of its parts: its length, distance and weight are
+    /// those of the piece's entry, and its words are those of the document, of all choices of cosets, or those that the step
+    /// makes. `Err` is want of memory.
     pub fn code(&self, alloc: Global, place: usize) -> Result<Code, AllocError>
         requires place { place < length self.now.pieces }
+        requires coded { IsSome (code_of_place self.now.pieces place) }
         ensures code { IfOk result (λ code. code_of_place self.now.pieces place ≡ Some code) }
         ensures sound { IfOk result IsSoundCode }
     {
-        code_of(alloc, &self.pieces, place)
+        code_at_place(alloc, &self.pieces, &self.kept, place)
     }
 
     /// The dump of the pieces: a session whose commands lead to them, with their own documents. `Err` is want of memory.

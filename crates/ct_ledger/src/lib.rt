@@ -3,19 +3,20 @@
 #![tactic(auto)]
 
 mod check;
-mod codes;
 mod dump;
 mod fault;
+mod kept;
+mod kinds;
 mod laws;
 mod ledger;
 mod limits;
-mod needed;
 mod piece;
-mod support;
 mod text;
 
 pub use fault::{SubmitFault, WithdrawFault};
-pub use laws::{pieces_give_supports, pieces_have_codes, submissions_that_are_accepted};
+pub use laws::{
+    pieces_give_supports, pieces_have_codes, refusals_in_order, submissions_that_are_accepted,
+};
 pub use ledger::Ledger;
 pub use limits::{MAX_PIECES, MAX_STORED};
 pub use piece::Piece;

@@ -2,13 +2,14 @@
 
 ghost use Rattle.std.specs.Prelude.{◌≡◌, ◌++◌, OnOk, IfOk};
 ghost use Rattle.ct_text.specs.Number.{spaced};
-ghost use Rattle.ct_ledger.specs.Text.{code_fault_text, file_fault_text, build_fault_text, submit_fault_text, withdraw_fault_text, kind_text, size_text, piece_text};
+ghost use Rattle.ct_ledger.specs.Text.{code_fault_text, file_fault_text, build_fault_text, submit_fault_text, withdraw_fault_text, size_text, piece_text};
 
 use crate::fault::{SubmitFault, WithdrawFault};
+use crate::kinds::kind_of;
 use crate::piece::Piece;
 use ct_build::BuildFault;
 use ct_codes::CodeFault;
-use ct_files::{Evidence, FileFault};
+use ct_files::FileFault;
 use ct_text::{Id, put_entry_words, put_spaced};
 use std::alloc::{AllocError, Global};
 
@@ -141,17 +142,6 @@ pub fn withdraw_refusal(alloc: Global, id: Id, fault: &WithdrawFault) -> Result<
     Ok(text)
 }
 
-/// Puts the kind of the evidence at the end of the text.
-fn put_kind(text: &mut Vec<u8>, evidence: &Evidence) -> Result<(), AllocError>
-    ensures { OnOk result (text.new.items ≡ text.old.items ++ kind_text evidence.now) }
-{
-    match evidence {
-        Evidence::Words { .. } => text.extend_from_slice(b"words"),
-        Evidence::Cosets { .. } => text.extend_from_slice(b"cosets"),
-        Evidence::Build { .. } => text.extend_from_slice(b"build"),
-    }
-}
-
 /// Puts a size at the end of the text, where there is one.
 fn put_size(alloc: Global, text: &mut Vec<u8>, size: Option<u32>) -> Result<(), AllocError>
     ensures { OnOk result (text.new.items ≡ text.old.items ++ size_text size) }
@@ -171,7 +161,7 @@ pub(crate) fn put_piece(alloc: Global, text: &mut Vec<u8>, piece: &Piece) -> Res
 {
     text.extend_from_slice(piece.id().text())?;
     text.push(b' ')?;
-    put_kind(text, piece.evidence())?;
+    text.extend_from_slice(kind_of(piece.evidence()).text)?;
     text.push(b' ')?;
     put_entry_words(alloc, text, piece.entry())?;
     put_size(alloc, text, piece.size())

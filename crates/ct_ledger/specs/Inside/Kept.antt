@@ -1,16 +1,26 @@
 -- The codes that a ledger keeps beside its pieces, and where a piece is found.
-use Rattle.std.specs.Prelude.{◌≡◌, ℕ, Bool, if◌then◌else◌, List, [], ◌∷◌, ◌++◌, Option, None, position}
+use Rattle.std.specs.Prelude.{ℕ, Bool, if◌then◌else◌, List, [], ◌∷◌, ◌++◌, Option, None, Some, position}
 use Rattle.std.specs.Str.{bytes_eq}
 use Rattle.ct_codes.specs.Code.{CodeValue}
 use Rattle.ct_evidence.specs.declared.evidence.Evidence.{Evidence}
 use Rattle.ct_ledger.specs.Named.{NamedCode}
 use Rattle.ct_ledger.specs.Kind.{kind_of}
 use Rattle.ct_ledger.specs.Piece.{PieceValue}
-use Rattle.ct_ledger.specs.Codes.{code_over, named_code}
+use Rattle.ct_ledger.specs.Codes.{code_over, named_code, code_of_place}
 
 -- the place of the first piece with the id, where there is one
 abbrev pub place_of : List ℕ → List PieceValue → Option ℕ
 place_of id pieces = position (λ p. bytes_eq p.id id) pieces
+
+-- the code of the piece at a place, where one is given
+abbrev pub code_beside : List PieceValue → Option ℕ → Option CodeValue
+code_beside pieces None = None
+code_beside pieces (Some place) = code_of_place pieces place
+
+-- the place of the first piece with the other id, where one is named
+abbrev pub other_place : Option (List ℕ) → List PieceValue → Option ℕ
+other_place None pieces = None
+other_place (Some id) pieces = place_of id pieces
 
 -- whether the words of the code of such evidence are stored
 abbrev pub is_kept : Evidence → Bool

@@ -1,5 +1,5 @@
 -- Evidence of kind build: the words that a step makes of the codes of pieces that stand, its parts.
-use Rattle.std.specs.Prelude.{◌≡◌, ℕ, zero, suc, true, List, [], ◌∷◌, length, Option, Some, None, option_map, codes}
+use Rattle.std.specs.Prelude.{◌≡◌, ℕ, zero, suc, true, List, ◌∷◌, length, Option, Some, None, option_map, codes}
 use Rattle.std.specs.Option.{option_to_list, unwrap_or}
 use Rattle.ct_codes.specs.declared.entry.Entry.{Entry}
 use Rattle.ct_codes.specs.Code.{CodeValue}
@@ -7,7 +7,7 @@ use Rattle.ct_build.specs.declared.fault.BuildFault.{BuildFault}
 use Rattle.ct_build.specs.declared.fault.BuildFault.TheVariants as build
 use Rattle.ct_build.specs.declared.step.Step.{Step}
 use Rattle.ct_build.specs.Build.{built, build_fault}
-use Rattle.ct_ledger.specs.Named.{NamedCode, code_named, other_named}
+use Rattle.ct_ledger.specs.Named.{code_named, other_named}
 use Rattle.ct_ledger.specs.KindParts.{KindParts, size_at}
 use Rattle.ct_ledger.specs.declared.fault.SubmitFault.{SubmitFault}
 use Rattle.ct_ledger.specs.declared.fault.SubmitFault.TheVariants as fault

@@ -1,7 +1,8 @@
 use Rattle.std.proofs.Common.{[]}
 use Rattle.std.proofs.lemmas.List.Elements.{All-nil}
 use Rattle.ct_ledger.proofs.CodeLemmas.{ids_of_codes}
-use Rattle.ct_ledger.proofs.MakingLemmas.{HasSoundCode, codes_after-sound}
+use Rattle.ct_ledger.proofs.MakingLemmas.{codes_after-sound}
+use Rattle.ct_ledger.proofs.Stating.{HasSoundCode}
 use Rattle.ct_ledger.proofs.laws.pieces_have_codes.Goals as goal
 
 pub returns-clause-codes : goal.returns-clause-codes

@@ -1,4 +1,4 @@
-use Rattle.ct_ledger.proofs.Accepting.{accepted, taken}
+use Rattle.ct_ledger.proofs.Accepting.{accepted, accepted-within, taken}
 use Rattle.ct_ledger.proofs.laws.submissions_that_are_accepted.Goals as goal
 
 pub returns-clause-accepted : goal.returns-clause-accepted
@@ -6,3 +6,6 @@ returns-clause-accepted c = accepted
 
 pub returns-clause-taken_ids : goal.returns-clause-taken_ids
 returns-clause-taken_ids c = taken
+
+pub returns-clause-within : goal.returns-clause-within
+returns-clause-within c = accepted-within

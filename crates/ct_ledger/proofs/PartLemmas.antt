@@ -1,0 +1,192 @@
+-- The pieces that a build names as its parts: their codes, and the shapes of these.
+use Rattle.std.proofs.Common.{◌≡◌, ℕ, ◌<◌, true, false, List, [], ◌∷◌, length, take, get_or, Option, Some, None, is_some, option_map, Result, Ok, Err, IfOk, refl, sym, ap, ap₂, subst, ◌∙◌, arith}
+use Rattle.std.specs.Option.{option_to_list, option_or}
+use Rattle.std.proofs.lemmas.List.Elements.{All-nil}
+use Rattle.std.proofs.lemmas.List.Sorted.{length_permutation}
+use Rattle.ct_codes.specs.declared.entry.Entry.{Entry}
+use Rattle.ct_codes.specs.Code.{CodeValue}
+use Rattle.ct_codes.specs.Pairs.{first_of}
+use Rattle.ct_build.specs.declared.fault.BuildFault.{BuildFault}
+use Rattle.ct_build.specs.declared.shape.Shape.{Shape}
+use Rattle.ct_build.specs.declared.step.Step.{Step}
+use Rattle.ct_build.specs.Build.{shape_of, built, early_fault}
+use Rattle.ct_build.proofs.BuildFaults.{fault_early}
+use Rattle.ct_evidence.specs.declared.evidence.Evidence.{Evidence}
+use Rattle.ct_evidence.specs.declared.evidence.Evidence.TheVariants.{Words, Cosets, Build}
+use Rattle.ct_ledger.specs.Ascending.{ascending}
+use Rattle.ct_ledger.specs.Named.{NamedCode, is_known, first_missing, code_named, other_named}
+use Rattle.ct_ledger.specs.Kind.{stated_entry, has_code, own_reason, words_over, size_over}
+use Rattle.ct_ledger.specs.Kinds.Build.{build_refusal, step_reason, built_over}
+use Rattle.ct_ledger.specs.Piece.{PieceValue}
+use Rattle.ct_ledger.specs.Codes.{code_at, code_over, codes_of, code_of_place}
+use Rattle.ct_ledger.specs.Submission.{evidence_reason}
+use Rattle.ct_ledger.specs.Standing.{IsMade, AreMade}
+use Rattle.ct_ledger.specs.Inside.Kept.{place_of, other_place, code_beside, is_kept, listed_code, kept_codes}
+use Rattle.ct_ledger.specs.declared.fault.SubmitFault.TheVariants as fault
+use Rattle.ct_ledger.proofs.AscendingLemmas.{ascending-moved}
+use Rattle.ct_ledger.proofs.CodeLemmas.{AreMade-take, made_at, position-some, position-none, known_where_taken}
+use Rattle.ct_ledger.proofs.Stating.{HasSoundCode, StatesCode}
+use Rattle.ct_ledger.proofs.MakingLemmas.{IsRight, right-own, states_code, making-of, IsMade-right, codes_after-sound, code_of_place-is}
+use Rattle.ct_ledger.proofs.KeptLemmas.{place-or_listed}
+use Rattle.ct_ledger.proofs.SupportLemmas.{place_of-found, place_of-none}
+
+-- what is known of the piece at a place
+pub record IsPlaced (ps : List PieceValue) (k : ℕ) (p : PieceValue) : Type 0 where
+  pub right : IsRight (codes_of (take k ps)) p.evidence
+  pub states : StatesCode (codes_of (take k ps)) p.evidence
+  pub entry : p.entry ≡ stated_entry p.evidence
+  pub size : p.size ≡ size_over (codes_of (take k ps)) p.evidence
+  pub code : code_of_place ps k ≡ code_over (codes_of (take k ps)) p.evidence
+
+made-is : (known : List NamedCode) (p : PieceValue) → IsMade known p → (p.entry ≡ stated_entry p.evidence) × (p.size ≡ size_over known p.evidence)
+made-is known p h =
+    let m = making-of known p h in
+    subst (λ (r : PieceValue). (r.entry ≡ stated_entry r.evidence) × (r.size ≡ size_over known r.evidence)) m.piece (refl, refl)
+
+pub placed : (ps : List PieceValue) (k : ℕ) (p : PieceValue) → AreMade [] ps → k < length ps → p ≡ get_or ps k p → IsPlaced ps k p
+placed ps k p made below at =
+    let known = codes_of (take k ps) in
+    let q = get_or ps k p in
+    let own = made_at [] ps k p made below in
+    let right = IsMade-right known q own in
+    let is = made-is known q own in
+    let sound = codes_after-sound [] (take k ps) (All-nil HasSoundCode) (AreMade-take [] ps k made) in
+    let here : IsPlaced ps k q = record { right = right; states = states_code known q.evidence sound right; entry = is.0; size = is.1; code = code_of_place-is ps k p below } in
+    subst (IsPlaced ps k) (sym at) here
+
+-- the shape of the code of a piece goes by its entry and its size
+shape-of_words : (e : Entry) (size : Option ℕ) (words : Option (List ℕ)) (count : ℕ) → is_some words ≡ true → size ≡ option_map length words → size ≡ Some count
+    → option_map shape_of (option_map (code_at e) words) ≡ Some (record { n = e.n; d = e.d; w = e.w; size = count })
+shape-of_words e size None count some is count_is = absurd cc
+shape-of_words e size (Some words) count some is count_is =
+    let same : length words ≡ count = cc in
+    let long = length_permutation words (ascending words) (ascending-moved words) in
+    ap (λ (s : ℕ). Some (record { n = e.n; d = e.d; w = e.w; size = s })) (long ∙ same)
+
+pub shape-coded : (ps : List PieceValue) (k : ℕ) (p : PieceValue) (count : ℕ) → IsPlaced ps k p → has_code p.evidence ≡ true → p.size ≡ Some count
+    → option_map shape_of (code_of_place ps k) ≡ Some (record { n = p.entry.n; d = p.entry.d; w = p.entry.w; size = count })
+shape-coded ps k p count at coded is =
+    let known = codes_of (take k ps) in
+    ap (option_map shape_of) at.code
+    ∙ shape-of_words (stated_entry p.evidence) p.size (words_over known p.evidence) count (at.states.coded ∙ coded) (at.size ∙ at.states.size coded) is
+    ∙ ap (λ (e : Entry). Some (record { n = e.n; d = e.d; w = e.w; size = count })) (sym at.entry)
+
+none-of_words : (e : Entry) (words : Option (List ℕ)) → is_some words ≡ false → option_map shape_of (option_map (code_at e) words) ≡ None
+none-of_words e None none = refl
+none-of_words e (Some words) none = absurd cc
+
+pub shape-uncoded : (ps : List PieceValue) (k : ℕ) (p : PieceValue) → IsPlaced ps k p → has_code p.evidence ≡ false → option_map shape_of (code_of_place ps k) ≡ None
+shape-uncoded ps k p at coded =
+    ap (option_map shape_of) at.code ∙ none-of_words (stated_entry p.evidence) (words_over (codes_of (take k ps)) p.evidence) (at.states.coded ∙ coded)
+
+sized-words : (size : Option ℕ) (words : Option (List ℕ)) → is_some words ≡ true → size ≡ option_map length words → size ≡ None → ⊥
+sized-words size None some is none = absurd cc
+sized-words size (Some words) some is none = absurd cc
+
+pub sized-coded : (ps : List PieceValue) (k : ℕ) (p : PieceValue) → IsPlaced ps k p → has_code p.evidence ≡ true → p.size ≡ None → ⊥
+sized-coded ps k p at coded none =
+    sized-words p.size (words_over (codes_of (take k ps)) p.evidence) (at.states.coded ∙ coded) (at.size ∙ at.states.size coded) none
+
+-- a reason that the shapes tell is one against the step
+pub early_reason : (e : Entry) (step : Step) (part : List ℕ) (other : Option (List ℕ)) (first beside : Option CodeValue) (shape : Shape) (reason : BuildFault)
+    → option_map shape_of first ≡ Some shape → early_fault step e shape (option_map shape_of beside) ≡ Some reason
+    → step_reason e step part other first beside ≡ Some (build_refusal part other reason)
+early_reason e step part other None beside shape reason is told = absurd cc
+early_reason e step part other (Some code) beside shape reason is told =
+    let same : shape_of code ≡ shape = cc in
+    let early = subst (λ (s : Shape). early_fault step e s (option_map shape_of beside) ≡ Some reason) (sym same) told in
+    ap (option_map (build_refusal part other)) (fault_early step e code beside reason early)
+
+-- no shape means no code
+pub no-shape : (first : Option CodeValue) → option_map shape_of first ≡ None → first ≡ None
+no-shape None is = refl
+no-shape (Some code) is = absurd cc
+
+pub some-shape : (first : Option CodeValue) (shape : Shape) → option_map shape_of first ≡ Some shape → is_some first ≡ true
+some-shape None shape is = absurd cc
+some-shape (Some code) shape is = refl
+
+-- an id is known where a piece has it
+pub known-found : (id : List ℕ) (ps : List PieceValue) (k : ℕ) → place_of id ps ≡ Some k → is_known id (codes_of ps) ≡ true
+known-found id ps k is = known_where_taken id [] ps ∙ place_of-found id ps k is
+
+pub known-missing : (id : List ℕ) (ps : List PieceValue) → place_of id ps ≡ None → is_known id (codes_of ps) ≡ false
+known-missing id ps is = known_where_taken id [] ps ∙ place_of-none id ps is
+
+-- the codes of the parts are those at their places
+pub named-first : (id : List ℕ) (ps : List PieceValue) (k : ℕ) → place_of id ps ≡ Some k → code_named id (codes_of ps) ≡ code_of_place ps k
+named-first id ps k is = (position-some id ps k is).1
+
+named-second : (other : Option (List ℕ)) (ps : List PieceValue) → other_named other (codes_of ps) ≡ code_beside ps (other_place other ps)
+named-second None ps = refl
+named-second (Some id) ps = at (place_of id ps) refl where
+  at : (found : Option ℕ) → place_of id ps ≡ found → code_named id (codes_of ps) ≡ code_beside ps found
+  at None is = position-none id ps is
+  at (Some k) is = named-first id ps k is
+
+-- a build whose parts stand at these places
+pub record HasParts (ps : List PieceValue) (part : List ℕ) (other : Option (List ℕ)) (first : ℕ) (second : Option ℕ) : Type 0 where
+  pub known : first_missing (codes_of ps) (part ∷ option_to_list other) ≡ None
+  pub at : place_of part ps ≡ Some first
+  pub beside : second ≡ other_place other ps
+
+second-is : (ps : List PieceValue) (part : List ℕ) (other : Option (List ℕ)) (first : ℕ) (second : Option ℕ) → HasParts ps part other first second
+    → other_named other (codes_of ps) ≡ code_beside ps second
+second-is ps part other first second h = named-second other ps ∙ ap (code_beside ps) (sym h.beside)
+
+pub parts-reason : (ps : List PieceValue) (e : Entry) (step : Step) (part : List ℕ) (other : Option (List ℕ)) (first : ℕ) (second : Option ℕ) → HasParts ps part other first second
+    → evidence_reason (codes_of ps) (Build e step part other) ≡ step_reason e step part other (code_of_place ps first) (code_beside ps second)
+parts-reason ps e step part other first second h =
+    ap (λ (missing : Option (List ℕ)). first_of (option_map fault.NoSuch missing) (own_reason (codes_of ps) (Build e step part other))) h.known
+    ∙ ap₂ (step_reason e step part other) (named-first part ps first h.at) (second-is ps part other first second h)
+
+pub parts-code : (ps : List PieceValue) (e : Entry) (step : Step) (part : List ℕ) (other : Option (List ℕ)) (first : ℕ) (second : Option ℕ) → HasParts ps part other first second
+    → code_over (codes_of ps) (Build e step part other) ≡ option_map (code_at e) (built_over e step (code_of_place ps first) (code_beside ps second))
+parts-code ps e step part other first second h =
+    ap₂ (λ (f s : Option CodeValue). option_map (code_at e) (built_over e step f s)) (named-first part ps first h.at) (second-is ps part other first second h)
+
+size-of_code : (e : Entry) (words : Option (List ℕ)) (code : CodeValue) → option_map (code_at e) words ≡ Some code → option_map length words ≡ Some (length code.words)
+size-of_code e None code is = absurd cc
+size-of_code e (Some words) code is =
+    let same : code_at e words ≡ code = cc in
+    let long = length_permutation words (ascending words) (ascending-moved words) in
+    ap Some (sym long ∙ ap (λ (c : CodeValue). length c.words) same)
+
+pub parts-size : (ps : List PieceValue) (e : Entry) (step : Step) (part : List ℕ) (other : Option (List ℕ)) (code : CodeValue)
+    → code_over (codes_of ps) (Build e step part other) ≡ Some code → size_over (codes_of ps) (Build e step part other) ≡ Some (length code.words)
+parts-size ps e step part other code is = size-of_code e (words_over (codes_of ps) (Build e step part other)) code is
+
+-- what the step makes of the code at the first place
+pub built-answer : {E : Type 0} (e : Entry) (step : Step) (first beside : Option CodeValue) (part : CodeValue) (answer : Result CodeValue E) → first ≡ Some part
+    → IfOk answer (λ (c : CodeValue). c ≡ code_at e (built step e part beside)) → IfOk answer (λ (c : CodeValue). option_map (code_at e) (built_over e step first beside) ≡ Some c)
+built-answer e step first beside part (Ok c) is code =
+    ap (λ (f : Option CodeValue). option_map (code_at e) (built_over e step f beside)) is ∙ ap Some (sym code)
+built-answer e step first beside part (Err reason) is code = tt
+
+-- the code of a piece: kept, or listed
+pub kept-some : (ps : List PieceValue) (k : ℕ) (kept : List (Option CodeValue)) (p : PieceValue) (code : CodeValue) → kept ≡ kept_codes ps → k < length ps
+    → get_or kept k None ≡ Some code → code_of_place ps k ≡ Some code
+kept-some ps k kept p code is below at =
+    sym (place-or_listed ps k p below) ∙ ap (λ (ks : List (Option CodeValue)). option_or (get_or ks k None) (listed_code (get_or ps k p).evidence)) (sym is)
+    ∙ ap (λ (o : Option CodeValue). option_or o (listed_code (get_or ps k p).evidence)) at
+
+pub kept-here : (ps : List PieceValue) (k : ℕ) (kept : List (Option CodeValue)) (code : CodeValue) → kept ≡ kept_codes ps → k < length ps
+    → get_or kept k None ≡ Some code → code_of_place ps k ≡ Some code
+kept-here [] k kept code is below at = absurd (omega arith)
+kept-here (p ∷ ps) k kept code is below at = kept-some (p ∷ ps) k kept p code is below at
+
+pub kept-none : (ps : List PieceValue) (k : ℕ) (kept : List (Option CodeValue)) (p : PieceValue) → kept ≡ kept_codes ps → k < length ps → p ≡ get_or ps k p
+    → get_or kept k None ≡ None → listed_code p.evidence ≡ code_of_place ps k
+kept-none ps k kept p is below here at =
+    ap (λ (q : PieceValue). listed_code q.evidence) here
+    ∙ sym (ap (λ (o : Option CodeValue). option_or o (listed_code (get_or ps k p).evidence)) at)
+    ∙ ap (λ (ks : List (Option CodeValue)). option_or (get_or ks k None) (listed_code (get_or ps k p).evidence)) is ∙ place-or_listed ps k p below
+
+own-listed : (evidence : Evidence) (known : List NamedCode) → is_kept evidence ≡ false → own_reason [] evidence ≡ own_reason known evidence
+own-listed (Words e words) known none = refl
+own-listed (Cosets e basis representatives) known none = refl
+own-listed (Build e step part other) known none = absurd cc
+
+-- nothing is against evidence of a piece that lists a code
+pub listed-faultless : (ps : List PieceValue) (k : ℕ) (p : PieceValue) → IsPlaced ps k p → is_kept p.evidence ≡ false → own_reason [] p.evidence ≡ None
+listed-faultless ps k p at none = own-listed p.evidence (codes_of (take k ps)) none ∙ right-own (codes_of (take k ps)) p.evidence at.right

@@ -1,0 +1,112 @@
+//! Where pieces are found, and their codes: those that are kept beside them, and those that are made where they are needed.
+
+ghost use Rattle.std.specs.Prelude.{◌≡◌, ◌<◌, Some, None, IfOk, IfSome, IsSome, length, []};
+ghost use Rattle.std.specs.Option.{option_copied};
+ghost use Rattle.ct_codes.specs.Code.{IsSoundCode};
+ghost use Rattle.ct_ledger.specs.Codes.{code_of_place};
+ghost use Rattle.ct_ledger.specs.Standing.{AreMade};
+ghost use Rattle.ct_ledger.specs.Inside.Kept.{place_of, code_beside, kept_codes};
+
+use crate::kinds::listed_code;
+use crate::piece::Piece;
+use ct_codes::Code;
+use ct_text::Id;
+use std::alloc::{AllocError, Global};
+use std::marker::Model;
+
+/// The place of the first piece with the id.
+pub(crate) fn place_of(pieces: &[Piece], id: Id) -> Option<usize>
+    ensures { result ≡ place_of id pieces.now }
+{
+    pieces.iter().position(|piece| piece.id() == id)
+}
+
+/// The code of a piece, where its kind has one: kept beside it, or made anew. Contracts see the code.
+#[derive(Drop)]
+pub(crate) struct Found<'a> {
+    kept: Option<&'a Code>,
+    made: Option<Code>,
+}
+
+impl<'a> Model for Found<'a> {
+    ghost use Rattle.std.specs.Prelude.{Option};
+    ghost use Rattle.std.specs.Option.{option_copied, option_or};
+    ghost use Rattle.ct_codes.specs.Code.{CodeValue};
+
+    ghost Value = { Option CodeValue };
+
+    ghost view = { λ f. option_or (option_copied f.kept) f.made };
+}
+
+impl<'a> Found<'a> {
+    /// The code, where there is one.
+    pub(crate) fn code(&self) -> Option<&Code>
+        ensures { option_copied result ≡ self.now }
+    {
+        self.kept.or(self.made.as_ref())
+    }
+}
+
+/// The code of the piece at the place, where its kind has one. The codes that are kept stand at the places of their pieces.
+pub(crate) fn find_code<'a>(
+    alloc: Global,
+    pieces: &[Piece],
+    kept: &'a [Option<Code>],
+    place: usize,
+) -> Result<Found<'a>, AllocError>
+    requires made { AreMade [] pieces.now }
+    requires kept { kept.now ≡ kept_codes pieces.now }
+    requires place { place < length pieces.now }
+    ensures { IfOk result (λ found. found ≡ code_of_place pieces.now place) }
+{
+    if let Some(code) = &kept[place] {
+        return Ok(Found {
+            kept: Some(code),
+            made: None,
+        });
+    }
+    let made = listed_code(alloc, pieces[place].evidence())?;
+    Ok(Found { kept: None, made })
+}
+
+/// The code of the piece at the place, where one is given.
+pub(crate) fn find_code_beside<'a>(
+    alloc: Global,
+    pieces: &[Piece],
+    kept: &'a [Option<Code>],
+    place: Option<usize>,
+) -> Result<Found<'a>, AllocError>
+    requires made { AreMade [] pieces.now }
+    requires kept { kept.now ≡ kept_codes pieces.now }
+    requires place { IfSome place (λ k. k < length pieces.now) }
+    ensures { IfOk result (λ found. found ≡ code_beside pieces.now place) }
+{
+    match place {
+        Some(place) => find_code(alloc, pieces, kept, place),
+        None => Ok(Found {
+            kept: None,
+            made: None,
+        }),
+    }
+}
+
+/// The code of the piece at the place, where its kind has one, as a code of its own.
+pub(crate) fn code_at_place(
+    alloc: Global,
+    pieces: &[Piece],
+    kept: &[Option<Code>],
+    place: usize,
+) -> Result<Code, AllocError>
+    requires made { AreMade [] pieces.now }
+    requires kept { kept.now ≡ kept_codes pieces.now }
+    requires place { place < length pieces.now }
+    requires coded { IsSome (code_of_place pieces.now place) }
+    ensures { IfOk result (λ code. code_of_place pieces.now place ≡ Some code) }
+{
+    if let Some(code) = &kept[place] {
+        return code.try_copy();
+    }
+    let made = listed_code(alloc, pieces[place].evidence())?;
+    let Some(code) = made else { unreachable!() };
+    Ok(code)
+}

@@ -1,0 +1,169 @@
+//! Evidence by its kind. Each kind has a room of its own; here it is told which one evidence belongs in.
+
+ghost use Rattle.std.specs.Prelude.{◌≡◌, ◌≢◌, ◌<◌, ◌^◌, [], Some, None, IfOk, IfErr, OnOk, false};
+ghost use Rattle.ct_files.specs.Evidence.{IsSound};
+ghost use Rattle.ct_ledger.specs.Codes.{codes_of};
+ghost use Rattle.ct_ledger.specs.KindParts.{size_at};
+ghost use Rattle.ct_ledger.specs.Kind.{kind_of, stated_entry, names, has_code, own_reason, size_over};
+ghost use Rattle.ct_ledger.specs.Submission.{evidence_reason};
+ghost use Rattle.ct_ledger.specs.Standing.{AreMade};
+ghost use Rattle.ct_ledger.specs.Inside.Kept.{is_kept, kept_over, listed_code, kept_codes};
+
+mod build;
+mod cosets;
+mod words;
+
+use crate::fault::SubmitFault;
+use crate::piece::Piece;
+use ct_codes::{Code, Entry};
+use ct_files::Evidence;
+use ct_rules::Support;
+use ct_text::Id;
+use std::alloc::{AllocError, Global};
+
+/// What evidence comes to, whatever its kind.
+#[derive(Drop)]
+pub(crate) struct Kind {
+    /// The word of its kind in a ledger's line.
+    pub(crate) text: &'static [u8],
+    /// The entry that it is about.
+    pub(crate) entry: Entry,
+    /// How many words its document lists.
+    pub(crate) listed: u64,
+    /// Whether the words of its code are stored besides.
+    pub(crate) is_stored: bool,
+    /// Whether its kind has a code.
+    pub(crate) has_code: bool,
+}
+
+/// What the evidence comes to by its kind.
+pub(crate) fn kind_of(evidence: &Evidence) -> Kind
+    ensures text { result.text.now ≡ (kind_of evidence.now).text }
+    ensures entry { result.entry ≡ stated_entry evidence.now }
+    ensures listed { result.listed ≡ (kind_of evidence.now).listed }
+    ensures few { result.listed < 2 ^ 62 }
+    ensures is_stored { result.is_stored ≡ (kind_of evidence.now).is_stored }
+    ensures has_code { result.has_code ≡ has_code evidence.now }
+{
+    match evidence {
+        Evidence::Words { entry, words } => words::kind(*entry, words.as_slice()),
+        Evidence::Cosets {
+            entry,
+            basis,
+            representatives,
+        } => cosets::kind(*entry, basis.as_slice(), representatives.as_slice()),
+        Evidence::Build { entry, .. } => build::kind(*entry),
+    }
+}
+
+/// Whether the evidence names the piece of this id as a part of its own.
+pub(crate) fn names(evidence: &Evidence, id: Id) -> bool
+    ensures { result ≡ names evidence.now id }
+{
+    match evidence {
+        Evidence::Words { .. } | Evidence::Cosets { .. } => false,
+        Evidence::Build { part, other, .. } => build::names(*part, *other, id),
+    }
+}
+
+/// What a piece of the evidence gives to the table, which has this size.
+pub(crate) fn gives(evidence: &Evidence, size: Option<u32>) -> Support
+    ensures { result ≡ (kind_of evidence.now).gives size }
+{
+    match evidence {
+        Evidence::Words { entry, .. }
+        | Evidence::Cosets { entry, .. }
+        | Evidence::Build { entry, .. } => size_at(*entry, size),
+    }
+}
+
+/// The size of a code at an entry, where there is one, else nothing.
+fn size_at(entry: Entry, size: Option<u32>) -> Support
+    ensures { result ≡ size_at entry size }
+{
+    match size {
+        Some(size) => Support::Size { entry, size },
+        None => Support::Nothing,
+    }
+}
+
+/// The size of the piece that the evidence makes over the pieces, where it has one, and the code that is kept beside it; or why it
+/// makes none. The codes that are kept stand at the places of their pieces.
+pub(crate) fn check(
+    alloc: Global,
+    pieces: &[Piece],
+    kept: &[Option<Code>],
+    evidence: &Evidence,
+) -> Result<Checked, SubmitFault>
+    requires standing { AreMade [] pieces.now }
+    requires kept { kept.now ≡ kept_codes pieces.now }
+    requires sound { IsSound evidence.now }
+    ensures size { IfOk result (λ checked. checked.size ≡ size_over (codes_of pieces.now) evidence.now) }
+    ensures kept { IfOk result (λ checked. checked.kept ≡ kept_over (codes_of pieces.now) evidence.now) }
+    ensures accepted { OnOk result (evidence_reason (codes_of pieces.now) evidence.now ≡ None) }
+    ensures fault { IfErr result (λ fault. fault ≢ SubmitFault.Memory
+        → evidence_reason (codes_of pieces.now) evidence.now ≡ Some fault) }
+{
+    match evidence {
+        Evidence::Words { entry, words } => {
+            let size = words::check(alloc, *entry, words.as_slice())?;
+            Ok(Checked {
+                size: Some(size),
+                kept: None,
+            })
+        }
+        Evidence::Cosets {
+            entry,
+            basis,
+            representatives,
+        } => {
+            let size = cosets::check(alloc, *entry, basis.as_slice(), representatives.as_slice())?;
+            Ok(Checked {
+                size: Some(size),
+                kept: None,
+            })
+        }
+        Evidence::Build {
+            entry,
+            step,
+            part,
+            other,
+        } => {
+            let code = build::check(alloc, pieces, kept, *entry, step, *part, *other)?;
+            Ok(Checked {
+                size: Some(build::size_of(&code)),
+                kept: Some(code),
+            })
+        }
+    }
+}
+
+/// What the check of evidence gives: the size of its piece, where it has one, and the code that is kept beside it.
+#[derive(Drop)]
+pub(crate) struct Checked {
+    pub(crate) size: Option<u32>,
+    pub(crate) kept: Option<Code>,
+}
+
+/// The code that the evidence lists, against which there is no reason; none where the code is kept beside its piece.
+pub(crate) fn listed_code(alloc: Global, evidence: &Evidence) -> Result<Option<Code>, AllocError>
+    requires sound { IsSound evidence.now }
+    requires faultless { is_kept evidence.now ≡ false → own_reason [] evidence.now ≡ None }
+    ensures { IfOk result (λ code. code ≡ listed_code evidence.now) }
+{
+    match evidence {
+        Evidence::Words { entry, words } => {
+            let code = words::code(alloc, *entry, words.as_slice())?;
+            Ok(Some(code))
+        }
+        Evidence::Cosets {
+            entry,
+            basis,
+            representatives,
+        } => {
+            let code = cosets::code(alloc, *entry, basis.as_slice(), representatives.as_slice())?;
+            Ok(Some(code))
+        }
+        Evidence::Build { .. } => Ok(None),
+    }
+}
