@@ -1,5 +1,5 @@
 -- The first words of a line tell what it asks for.
-use Rattle.std.proofs.Common.{◌≡◌, ℕ, List, [], ◌∷◌, Option, None, length, take, refl, ap, arith}
+use Rattle.std.proofs.Common.{◌≡◌, ℕ, List, [], ◌∷◌, None, length, take, refl, ap, arith}
 use Rattle.ct_commands.specs.declared.form.TheConstants.{MOST_WORDS}
 use Rattle.ct_text.specs.Line.{words_of}
 use Rattle.ct_commands.specs.Form.{words_form, form_of}

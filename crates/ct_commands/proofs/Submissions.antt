@@ -16,7 +16,7 @@ use Rattle.ct_commands.specs.Form.{form_of}
 use Rattle.ct_commands.specs.Command.{asked, opened, finished, going_on, completed, open_after_all, cut_off, commands_of}
 use Rattle.ct_commands.specs.declared.form.Form.{Form}
 use Rattle.ct_commands.specs.declared.form.Form.TheVariants.{Submit}
-use Rattle.ct_commands.specs.declared.command.Pending.{Pending}
+use Rattle.ct_commands.specs.declared.command_reader.Pending.{Pending}
 use Rattle.ct_commands.specs.declared.command.Command.{Command}
 use Rattle.ct_commands.specs.declared.command.Command.TheVariants as command
 

@@ -6,15 +6,15 @@ use Rattle.ct_text.specs.declared.gathering.Gathered.{Gathered}
 use Rattle.ct_text.specs.declared.gathering.Gathered.TheVariants.{More, Whole}
 use Rattle.ct_commands.specs.Form.{form_of}
 use Rattle.ct_commands.specs.declared.form.Form.{Form}
-use Rattle.ct_commands.specs.declared.form.Form.TheVariants.{Submit, Withdraw, Show, Table, Ledger, Dump, Unknown}
+use Rattle.ct_commands.specs.declared.form.Form.TheVariants as form
 use Rattle.ct_commands.specs.declared.command.Command.{Command}
 use Rattle.ct_commands.specs.declared.command.Command.TheVariants as command
-use Rattle.ct_commands.specs.declared.command.Pending.{Pending}
+use Rattle.ct_commands.specs.declared.command_reader.Pending.{Pending}
 
 -- the submission that a line opens, if it begins with `submit`: its id, if it has one, and no lines of its document yet
 abbrev pub opened : Form → Option Pending
-opened (Submit id extent) = Some (record { id = id; document = record { extent = extent; text = [] } })
-opened form = None
+opened (form.Submit id extent) = Some (record { id = id; document = record { extent = extent; text = [] } })
+opened f = None
 
 -- the submission that is still open, where its document goes on
 abbrev pub going_on : Option (List ℕ) → Gathered → Option Pending
@@ -28,13 +28,8 @@ open_after (Some p) line = going_on p.id (gathered p.document line)
 
 -- the command that a line is by itself
 abbrev pub asked : Form → Option Command
-asked (Withdraw id) = Some (command.Withdraw id)
-asked (Show numbers) = Some (command.Show numbers)
-asked (Table numbers) = Some (command.Table numbers)
-asked Ledger = Some command.Ledger
-asked Dump = Some command.Dump
-asked Unknown = Some command.Unknown
-asked form = None
+asked (form.Whole c) = Some c
+asked f = None
 
 -- the submission whose document is whole
 abbrev pub finished : Option (List ℕ) → Gathered → Option Command

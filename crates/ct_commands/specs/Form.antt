@@ -1,17 +1,17 @@
 -- What one line of a session asks for.
-use Rattle.std.specs.Prelude.{ℕ, zero, suc, ◌==◌, if◌then◌else◌, List, [], ◌∷◌, Option, Some, None, codes, slice_index}
+use Rattle.std.specs.Option.{option_map, unwrap_or}
+use Rattle.std.specs.Prelude.{ℕ, suc, ◌==◌, if◌then◌else◌, List, [], ◌∷◌, Option, Some, None, codes, slice_index}
 use Rattle.std.specs.Str.{bytes_eq}
 use Rattle.ct_text.specs.Line.{words_of}
 use Rattle.ct_text.specs.Number.{number_of}
 use Rattle.ct_text.specs.Id.{is_id}
 use Rattle.ct_text.specs.EntryNumbers.{entry_numbers_of}
-use Rattle.ct_text.specs.declared.entry_numbers.EntryNumbers.{EntryNumbers}
 use Rattle.ct_text.specs.TableNumbers.{table_numbers_of}
-use Rattle.ct_text.specs.declared.table_numbers.TableNumbers.{TableNumbers}
-use Rattle.ct_text.specs.declared.gathering.Extent.{Extent}
 use Rattle.ct_text.specs.declared.gathering.Extent.TheVariants.{ToEnd, Lines}
 use Rattle.ct_commands.specs.declared.form.Form.{Form}
-use Rattle.ct_commands.specs.declared.form.Form.TheVariants.{Nothing, Submit, Withdraw, Show, Table, Ledger, Dump, Unknown}
+use Rattle.ct_commands.specs.declared.form.Form.TheVariants.{Nothing, Submit, Whole}
+use Rattle.ct_commands.specs.declared.command.Command.{Command}
+use Rattle.ct_commands.specs.declared.command.Command.TheVariants as command
 
 -- the id that a word is, if it is one
 abbrev pub id_of : List ℕ → Option (List ℕ)
@@ -28,37 +28,30 @@ submit_form (id ∷ []) = Submit (id_of id) ToEnd
 submit_form (id ∷ word ∷ count ∷ []) = if bytes_eq word (codes "lines") then lines_form (id_of id) (number_of count) else Submit None ToEnd
 submit_form words = Submit None ToEnd
 
--- what the words after `withdraw` ask for: one id
-abbrev pub withdraw_form : List (List ℕ) → Form
-withdraw_form (id ∷ []) = if is_id id then Withdraw id else Unknown
-withdraw_form words = Unknown
+-- the id that the words are, if they are one word and this is an id
+abbrev pub only_id : List (List ℕ) → Option (List ℕ)
+only_id (word ∷ []) = id_of word
+only_id words = None
 
--- a command without words after its name
-abbrev pub bare_form : Form → List (List ℕ) → Form
-bare_form form [] = form
-bare_form form (word ∷ words) = Unknown
+-- the command, where no words stand after its name
+abbrev pub alone : Command → List (List ℕ) → Option Command
+alone c [] = Some c
+alone c (word ∷ words) = None
 
--- the bounds of an entry, where numbers name one
-abbrev pub show_form : Option EntryNumbers → Form
-show_form (Some numbers) = Show numbers
-show_form None = Unknown
+-- the command that a name and the words after it make, if they make one: a row for each command that is one line
+abbrev pub command_of : List ℕ → List (List ℕ) → Option Command
+command_of name words =
+    if bytes_eq name (codes "withdraw") then option_map command.Withdraw (only_id words)
+    else (if bytes_eq name (codes "show") then option_map command.Show (entry_numbers_of words)
+    else (if bytes_eq name (codes "table") then option_map command.Table (table_numbers_of words)
+    else (if bytes_eq name (codes "ledger") then alone command.Ledger words
+    else (if bytes_eq name (codes "dump") then alone command.Dump words
+    else None))))
 
--- the bounds of a part of the table, where numbers name one
-abbrev pub table_form : Option TableNumbers → Form
-table_form (Some numbers) = Table numbers
-table_form None = Unknown
-
--- what the words of a line ask for, by the first of them
+-- what the words of a line ask for, by the first of them: a submission, a command, or one that is unknown
 abbrev pub words_form : List (List ℕ) → Form
 words_form [] = Nothing
-words_form (first ∷ rest) =
-    if bytes_eq first (codes "submit") then submit_form rest
-    else (if bytes_eq first (codes "withdraw") then withdraw_form rest
-    else (if bytes_eq first (codes "show") then show_form (entry_numbers_of rest)
-    else (if bytes_eq first (codes "table") then table_form (table_numbers_of rest)
-    else (if bytes_eq first (codes "ledger") then bare_form Ledger rest
-    else (if bytes_eq first (codes "dump") then bare_form Dump rest
-    else Unknown)))))
+words_form (name ∷ words) = if bytes_eq name (codes "submit") then submit_form words else Whole (unwrap_or (command_of name words) command.Unknown)
 
 -- what a line asks for: nothing where its first byte is `#` (35) or where it has no words
 unfoldable pub form_of : List ℕ → Form

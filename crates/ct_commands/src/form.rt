@@ -4,12 +4,10 @@ ghost use Rattle.std.specs.Prelude.{◌≡◌, ◌==◌, IfOk, map, slice_index}
 ghost use Rattle.ct_text.specs.Number.{number_of};
 ghost use Rattle.ct_text.specs.EntryNumbers.{entry_numbers_of};
 ghost use Rattle.ct_text.specs.TableNumbers.{table_numbers_of};
-ghost use Rattle.ct_commands.specs.Form.{form_of, words_form, submit_form, lines_form, withdraw_form, bare_form, show_form, table_form};
+ghost use Rattle.ct_commands.specs.Form.{form_of, words_form, submit_form, lines_form, only_id, alone, command_of};
 
-use ct_text::{
-    EntryNumbers, Extent, Id, TableNumbers, first_words, parse_entry_numbers, parse_number,
-    parse_table_numbers,
-};
+use crate::command::Command;
+use ct_text::{Extent, Id, first_words, parse_entry_numbers, parse_number, parse_table_numbers};
 use std::alloc::{AllocError, Global};
 
 // So many words of a line tell what it asks for: no form has more than five, and a sixth shows that there are too many.
@@ -23,18 +21,8 @@ pub enum Form {
     /// A submission, whose document follows: its id, if the line is `submit ID` or `submit ID lines K`, and how far the
     /// document goes.
     Submit(Option<Id>, Extent),
-    /// The withdrawal of the piece with this id.
-    Withdraw(Id),
-    /// The bounds of the entry with these numbers.
-    Show(EntryNumbers),
-    /// The bounds of the entries in the part of the table with these numbers.
-    Table(TableNumbers),
-    /// A line for each piece.
-    Ledger,
-    /// The commands that lead to the pieces.
-    Dump,
-    /// No command of the session.
-    Unknown,
+    /// This command, which the line is by itself.
+    Whole(Command),
 }
 
 /// A submission of so many lines.
@@ -60,47 +48,43 @@ fn submission(words: &[&[u8]]) -> Form
     }
 }
 
-/// What the words after `withdraw` ask for.
-fn withdrawal(words: &[&[u8]]) -> Form
-    ensures { result ≡ withdraw_form (map (λ word. word.now) words.now) }
+/// The id that the words are, if they are one word and this is an id.
+fn only_id(words: &[&[u8]]) -> Option<Id>
+    ensures { result ≡ only_id (map (λ word. word.now) words.now) }
 {
     match words {
-        [id] => match Id::parse(id) {
-            Some(id) => Form::Withdraw(id),
-            None => Form::Unknown,
-        },
-        _ => Form::Unknown,
+        [id] => Id::parse(id),
+        _ => None,
     }
 }
 
-/// A command without words after its name.
-fn bare(form: Form, words: &[&[u8]]) -> Form
-    ensures { result ≡ bare_form form (map (λ word. word.now) words.now) }
+/// The command, where no words stand after its name.
+fn alone(command: Command, words: &[&[u8]]) -> Option<Command>
+    ensures { result ≡ alone command (map (λ word. word.now) words.now) }
 {
     if words.is_empty() {
-        form
+        Some(command)
     } else {
-        Form::Unknown
+        None
     }
 }
 
-/// The bounds of an entry, where numbers name one.
-fn show(numbers: Option<EntryNumbers>) -> Form
-    ensures { result ≡ show_form numbers }
+/// The command that a name and the words after it make, if they make one: a row for each command that is one line.
+fn command_of(name: &[u8], words: &[&[u8]]) -> Option<Command>
+    ensures { result ≡ command_of name.now (map (λ word. word.now) words.now) }
 {
-    match numbers {
-        Some(numbers) => Form::Show(numbers),
-        None => Form::Unknown,
-    }
-}
-
-/// The bounds of a part of the table, where numbers name one.
-fn table(numbers: Option<TableNumbers>) -> Form
-    ensures { result ≡ table_form numbers }
-{
-    match numbers {
-        Some(numbers) => Form::Table(numbers),
-        None => Form::Unknown,
+    if name == b"withdraw".as_slice() {
+        only_id(words).map(Command::Withdraw)
+    } else if name == b"show".as_slice() {
+        parse_entry_numbers(words).map(Command::Show)
+    } else if name == b"table".as_slice() {
+        parse_table_numbers(words).map(Command::Table)
+    } else if name == b"ledger".as_slice() {
+        alone(Command::Ledger, words)
+    } else if name == b"dump".as_slice() {
+        alone(Command::Dump, words)
+    } else {
+        None
     }
 }
 
@@ -108,23 +92,13 @@ fn table(numbers: Option<TableNumbers>) -> Form
 fn form_of_words(words: &[&[u8]]) -> Form
     ensures { result ≡ words_form (map (λ word. word.now) words.now) }
 {
-    let [first, rest @ ..] = words else {
+    let [name, rest @ ..] = words else {
         return Form::Nothing;
     };
-    if *first == b"submit".as_slice() {
+    if *name == b"submit".as_slice() {
         submission(rest)
-    } else if *first == b"withdraw".as_slice() {
-        withdrawal(rest)
-    } else if *first == b"show".as_slice() {
-        show(parse_entry_numbers(rest))
-    } else if *first == b"table".as_slice() {
-        table(parse_table_numbers(rest))
-    } else if *first == b"ledger".as_slice() {
-        bare(Form::Ledger, rest)
-    } else if *first == b"dump".as_slice() {
-        bare(Form::Dump, rest)
     } else {
-        Form::Unknown
+        Form::Whole(command_of(name, rest).unwrap_or(Command::Unknown))
     }
 }
 

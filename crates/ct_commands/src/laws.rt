@@ -1,16 +1,15 @@
 //! Facts about the commands of every input.
 
-ghost use Rattle.std.specs.Prelude.{◌≡◌, ◌+◌, ℕ, List, [], ◌∷◌, ◌++◌, All, length, Option, false, true};
+ghost use Rattle.std.specs.Prelude.{◌≡◌, ◌+◌, ℕ, List, [], ◌∷◌, ◌++◌, All, length, map, replicate, codes, Option, Some, None, false, true};
 ghost use Rattle.std.specs.List.{join_with_byte};
 ghost use Rattle.ct_lines.specs.declared.TheConstants.{LINE_FEED};
 ghost use Rattle.ct_text.specs.Gathering.{is_end};
-ghost use Rattle.ct_text.specs.declared.entry_numbers.EntryNumbers.{EntryNumbers};
 ghost use Rattle.ct_text.specs.declared.gathering.Extent.{Extent};
 ghost use Rattle.ct_text.specs.declared.gathering.Extent.TheVariants.{ToEnd, Lines};
-ghost use Rattle.ct_text.specs.declared.table_numbers.TableNumbers.{TableNumbers};
 ghost use Rattle.ct_commands.specs.Form.{form_of};
 ghost use Rattle.ct_commands.specs.Command.{commands_of};
-ghost use Rattle.ct_commands.specs.declared.form.Form.TheVariants.{Nothing, Submit, Withdraw, Show, Table, Ledger, Dump, Unknown};
+ghost use Rattle.ct_commands.specs.declared.form.Form.TheVariants.{Nothing, Submit, Whole};
+ghost use Rattle.ct_commands.specs.declared.command.Command.{Command};
 ghost use Rattle.ct_commands.specs.declared.command.Command.TheVariants as command;
 
 /// A submission takes the lines of its document with it, up to the line `end` or so many as it says; where the input has
@@ -33,20 +32,30 @@ pub fn submissions_take_their_lines()
         → commands_of (line ∷ document) ≡ command.CutOff ∷ [] }
 {}
 
-/// Every other line stands alone: it is no command, or a command by itself.
+/// Every other line stands alone: it asks for nothing, or it is a command by itself.
 pub fn other_lines_stand_alone()
     ensures nothing { (line : List ℕ) (rest : List (List ℕ)) → form_of line ≡ Nothing
         → commands_of (line ∷ rest) ≡ commands_of rest }
-    ensures show { (line : List ℕ) (numbers : EntryNumbers) (rest : List (List ℕ)) → form_of line ≡ Show numbers
-        → commands_of (line ∷ rest) ≡ command.Show numbers ∷ commands_of rest }
-    ensures table { (line : List ℕ) (numbers : TableNumbers) (rest : List (List ℕ)) → form_of line ≡ Table numbers
-        → commands_of (line ∷ rest) ≡ command.Table numbers ∷ commands_of rest }
-    ensures withdraw { (line : List ℕ) (id : List ℕ) (rest : List (List ℕ)) → form_of line ≡ Withdraw id
-        → commands_of (line ∷ rest) ≡ command.Withdraw id ∷ commands_of rest }
-    ensures ledger { (line : List ℕ) (rest : List (List ℕ)) → form_of line ≡ Ledger
-        → commands_of (line ∷ rest) ≡ command.Ledger ∷ commands_of rest }
-    ensures dump { (line : List ℕ) (rest : List (List ℕ)) → form_of line ≡ Dump
-        → commands_of (line ∷ rest) ≡ command.Dump ∷ commands_of rest }
-    ensures unknown { (line : List ℕ) (rest : List (List ℕ)) → form_of line ≡ Unknown
-        → commands_of (line ∷ rest) ≡ command.Unknown ∷ commands_of rest }
+    ensures whole { (line : List ℕ) (c : Command) (rest : List (List ℕ)) → form_of line ≡ Whole c
+        → commands_of (line ∷ rest) ≡ c ∷ commands_of rest }
+{}
+
+/// Every form of a line, and lines that have one word too many for it, or one too few.
+pub fn known_forms()
+    ensures nothing { map form_of ([] ∷ codes "  " ∷ codes "# show 4 3" ∷ []) ≡ replicate 3 Nothing }
+    ensures submit { form_of (codes "submit a") ≡ Submit (Some (codes "a")) ToEnd }
+    ensures submit_lines { form_of (codes "submit a lines 3") ≡ Submit (Some (codes "a")) (Lines 3) }
+    ensures no_submit { map form_of (codes "submit" ∷ codes "submit a lines" ∷ codes "submit a lines 3 x" ∷ codes "submit a lines 0" ∷ codes "submit a line 3"
+        ∷ codes "submit A" ∷ []) ≡ replicate 6 (Submit None ToEnd) }
+    ensures withdraw { form_of (codes "withdraw a") ≡ Whole (command.Withdraw (codes "a")) }
+    ensures show { form_of (codes "show 4 3") ≡ Whole (command.Show (record { n = 4; d = 3; w = None })) }
+    ensures show_weight { form_of (codes "show 8 4 2") ≡ Whole (command.Show (record { n = 8; d = 4; w = Some 2 })) }
+    ensures table { form_of (codes "table 4") ≡ Whole (command.Table (record { d = 4; w = None })) }
+    ensures table_weight { form_of (codes "table 4 2") ≡ Whole (command.Table (record { d = 4; w = Some 2 })) }
+    ensures ledger { form_of (codes "ledger") ≡ Whole command.Ledger }
+    ensures dump { form_of (codes "dump") ≡ Whole command.Dump }
+    ensures too_few { map form_of (codes "withdraw" ∷ codes "show 4" ∷ codes "table" ∷ []) ≡ replicate 3 (Whole command.Unknown) }
+    ensures too_many { map form_of (codes "withdraw a b" ∷ codes "show 8 4 2 1" ∷ codes "table 4 2 1" ∷ codes "ledger a" ∷ codes "dump a" ∷ [])
+        ≡ replicate 5 (Whole command.Unknown) }
+    ensures no_name { map form_of (codes "help" ∷ codes "shows 4 3" ∷ []) ≡ replicate 2 (Whole command.Unknown) }
 {}

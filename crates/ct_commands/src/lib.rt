@@ -2,9 +2,11 @@
 #![tactic(auto)]
 
 mod command;
+mod command_reader;
 mod form;
 mod laws;
 
-pub use command::{Command, CommandReader, Pending};
+pub use command::Command;
+pub use command_reader::{CommandReader, Pending};
 pub use form::{Form, read_form};
-pub use laws::{other_lines_stand_alone, submissions_take_their_lines};
+pub use laws::{known_forms, other_lines_stand_alone, submissions_take_their_lines};

@@ -3,7 +3,7 @@ use Rattle.std.proofs.Common.{◌≡◌, ℕ, zero, suc, Bool, true, false, cond
 use Rattle.std.specs.Prelude.{All, fold, codes}
 use Rattle.std.specs.List.{AllByRecursion}
 use Rattle.std.specs.Str.{bytes_eq}
-use Rattle.std.specs.Option.{option_to_list}
+use Rattle.std.specs.Option.{option_map, option_to_list, unwrap_or}
 use Rattle.std.proofs.lemmas.Bool.{cond_both}
 use Rattle.std.proofs.lemmas.List.Elements.{All-push, All-filter, All-nil}
 use Rattle.ct_text.specs.Id.{is_id}
@@ -18,13 +18,14 @@ use Rattle.ct_text.specs.declared.gathering.Gathered.{Gathered}
 use Rattle.ct_text.specs.declared.gathering.Gathered.TheVariants.{More, Whole}
 use Rattle.ct_text.specs.declared.gathering.Extent.TheVariants.{ToEnd}
 use Rattle.ct_lines.specs.Lines.{lines_of}
-use Rattle.ct_commands.specs.Form.{form_of, id_of, lines_form, submit_form, withdraw_form, show_form, table_form, bare_form, words_form}
+use Rattle.ct_commands.specs.Form.{form_of, id_of, lines_form, submit_form, only_id, alone, command_of, words_form}
 use Rattle.ct_commands.specs.Command.{opened, going_on, open_after, asked, finished, completed_by, completed, open_after_all, cut_off, commands_of}
 use Rattle.ct_commands.specs.declared.form.Form.{Form}
-use Rattle.ct_commands.specs.declared.form.Form.TheVariants.{Nothing, Submit, Withdraw, Show, Table, Ledger, Dump, Unknown}
+use Rattle.ct_commands.specs.declared.form.Form.TheVariants.{Nothing, Submit}
+use Rattle.ct_commands.specs.declared.form.Form.TheVariants as form
 use Rattle.ct_commands.specs.declared.command.Command.{Command}
 use Rattle.ct_commands.specs.declared.command.Command.TheVariants as command
-use Rattle.ct_commands.specs.declared.command.Pending.{Pending}
+use Rattle.ct_commands.specs.declared.command_reader.Pending.{Pending}
 use Rattle.ct_ledger.specs.Piece.{PieceValue, has_id, first_user}
 use Rattle.ct_ledger.specs.Submission.{submitted, with_piece}
 use Rattle.ct_ledger.specs.Withdrawal.{without, withdrawn, unless_used, left_by}
@@ -40,20 +41,21 @@ use Rattle.ct_session.specs.Run.{pieces_of}
 abbrev IsNameOrNone : Option (List ℕ) → Type 0
 IsNameOrNone id = IfSome id (λ i. is_id i ≡ true)
 
--- the same of what a line asks for
+-- the same of a command
+abbrev CommandIsNamed : Command → Type 0
+CommandIsNamed (command.Submission id document) = IsNameOrNone id
+CommandIsNamed c = Unit {0}
+
+-- of what a line asks for
 abbrev FormIsNamed : Form → Type 0
 FormIsNamed (Submit id extent) = IsNameOrNone id
-FormIsNamed form = Unit {0}
+FormIsNamed (form.Whole c) = CommandIsNamed c
+FormIsNamed Nothing = Unit {0}
 
 -- of a submission that is open, if one is
 abbrev PendingIsNamed : Option Pending → Type 0
 PendingIsNamed None = Unit {0}
 PendingIsNamed (Some p) = IsNameOrNone p.id
-
--- of a command
-abbrev CommandIsNamed : Command → Type 0
-CommandIsNamed (command.Submission id document) = IsNameOrNone id
-CommandIsNamed c = Unit {0}
 
 -- and of a piece
 abbrev pub IsNamed : PieceValue → Type 0
@@ -75,22 +77,42 @@ submit_form-named (id ∷ word ∷ count ∷ []) =
     cond_both (bytes_eq word (codes "lines")) (lines_form (id_of id) (number_of count)) (Submit None ToEnd) FormIsNamed (λ e. lines_form-named (id_of id) (number_of count) (id_of-named id)) (λ e. tt)
 submit_form-named (id ∷ word ∷ count ∷ more ∷ words) = tt
 
-withdraw_form-named : (words : List (List ℕ)) → FormIsNamed (withdraw_form words)
-withdraw_form-named [] = tt
-withdraw_form-named (id ∷ []) = cond_both (is_id id) (Withdraw id) Unknown FormIsNamed (λ e. tt) (λ e. tt)
-withdraw_form-named (id ∷ word ∷ words) = tt
+-- the same of a command, if there is one
+abbrev AnyIsNamed : Option Command → Type 0
+AnyIsNamed None = Unit {0}
+AnyIsNamed (Some c) = CommandIsNamed c
 
-show_form-named : (numbers : Option EntryNumbers) → FormIsNamed (show_form numbers)
-show_form-named None = tt
-show_form-named (Some numbers) = tt
+any_chosen : (b : Bool) (one other : Option Command) → AnyIsNamed one → AnyIsNamed other → AnyIsNamed (cond b one other)
+any_chosen true one other h k = h
+any_chosen false one other h k = k
 
-table_form-named : (numbers : Option TableNumbers) → FormIsNamed (table_form numbers)
-table_form-named None = tt
-table_form-named (Some numbers) = tt
+withdraw-named : (id : Option (List ℕ)) → AnyIsNamed (option_map command.Withdraw id)
+withdraw-named None = tt
+withdraw-named (Some id) = tt
 
-bare_form-named : (form : Form) (words : List (List ℕ)) → FormIsNamed form → FormIsNamed (bare_form form words)
-bare_form-named form [] h = h
-bare_form-named form (word ∷ words) h = tt
+show-named : (numbers : Option EntryNumbers) → AnyIsNamed (option_map command.Show numbers)
+show-named None = tt
+show-named (Some numbers) = tt
+
+table-named : (numbers : Option TableNumbers) → AnyIsNamed (option_map command.Table numbers)
+table-named None = tt
+table-named (Some numbers) = tt
+
+alone-named : (c : Command) (words : List (List ℕ)) → CommandIsNamed c → AnyIsNamed (alone c words)
+alone-named c [] h = h
+alone-named c (word ∷ words) h = tt
+
+command_of-named : (name : List ℕ) (words : List (List ℕ)) → AnyIsNamed (command_of name words)
+command_of-named name words =
+    any_chosen (bytes_eq name (codes "withdraw")) _ _ (withdraw-named (only_id words))
+    (any_chosen (bytes_eq name (codes "show")) _ _ (show-named (entry_numbers_of words))
+    (any_chosen (bytes_eq name (codes "table")) _ _ (table-named (table_numbers_of words))
+    (any_chosen (bytes_eq name (codes "ledger")) _ _ (alone-named command.Ledger words tt)
+    (any_chosen (bytes_eq name (codes "dump")) _ _ (alone-named command.Dump words tt) tt))))
+
+or_unknown-named : (c : Option Command) → AnyIsNamed c → CommandIsNamed (unwrap_or c command.Unknown)
+or_unknown-named None h = tt
+or_unknown-named (Some c) h = h
 
 chosen : (b : Bool) (one other : Form) → FormIsNamed one → FormIsNamed other → FormIsNamed (cond b one other)
 chosen true one other h k = h
@@ -98,13 +120,8 @@ chosen false one other h k = k
 
 words_form-named : (words : List (List ℕ)) → FormIsNamed (words_form words)
 words_form-named [] = tt
-words_form-named (first ∷ rest) =
-    chosen (bytes_eq first (codes "submit")) _ _ (submit_form-named rest)
-    (chosen (bytes_eq first (codes "withdraw")) _ _ (withdraw_form-named rest)
-    (chosen (bytes_eq first (codes "show")) _ _ (show_form-named (entry_numbers_of rest))
-    (chosen (bytes_eq first (codes "table")) _ _ (table_form-named (table_numbers_of rest))
-    (chosen (bytes_eq first (codes "ledger")) _ _ (bare_form-named Ledger rest tt)
-    (chosen (bytes_eq first (codes "dump")) _ _ (bare_form-named Dump rest tt) tt)))))
+words_form-named (name ∷ words) =
+    chosen (bytes_eq name (codes "submit")) _ _ (submit_form-named words) (or_unknown-named (command_of name words) (command_of-named name words))
 
 form_of-named : (line : List ℕ) → FormIsNamed (form_of line)
 unfolding form_of
@@ -113,12 +130,7 @@ form_of-named line = chosen _ Nothing (words_form (words_of line)) tt (words_for
 opened-named : (form : Form) → FormIsNamed form → PendingIsNamed (opened form)
 opened-named Nothing h = tt
 opened-named (Submit id extent) h = h
-opened-named (Withdraw id) h = tt
-opened-named (Show numbers) h = tt
-opened-named (Table numbers) h = tt
-opened-named Ledger h = tt
-opened-named Dump h = tt
-opened-named Unknown h = tt
+opened-named (form.Whole c) h = tt
 
 going_on-named : (id : Option (List ℕ)) (after : Gathered) → IsNameOrNone id → PendingIsNamed (going_on id after)
 going_on-named id (More document) h = h
@@ -135,22 +147,17 @@ both : (xs ys : List Command) → AreNamed xs → AreNamed ys → AreNamed (xs +
 both [] ys h k = k
 both (x ∷ xs) ys h k = (h.0, both xs ys h.1 k)
 
-asked-named : (form : Form) → AreNamed (option_to_list (asked form))
-asked-named Nothing = tt
-asked-named (Submit id extent) = tt
-asked-named (Withdraw id) = (tt, tt)
-asked-named (Show numbers) = (tt, tt)
-asked-named (Table numbers) = (tt, tt)
-asked-named Ledger = (tt, tt)
-asked-named Dump = (tt, tt)
-asked-named Unknown = (tt, tt)
+asked-named : (form : Form) → FormIsNamed form → AreNamed (option_to_list (asked form))
+asked-named Nothing h = tt
+asked-named (Submit id extent) h = tt
+asked-named (form.Whole c) h = (h, tt)
 
 finished-named : (id : Option (List ℕ)) (after : Gathered) → IsNameOrNone id → AreNamed (option_to_list (finished id after))
 finished-named id (More document) h = tt
 finished-named id (Whole text) h = (h, tt)
 
 completed_by-named : (pending : Option Pending) (line : List ℕ) → PendingIsNamed pending → AreNamed (option_to_list (completed_by pending line))
-completed_by-named None line h = asked-named (form_of line)
+completed_by-named None line h = asked-named (form_of line) (form_of-named line)
 completed_by-named (Some p) line h = finished-named p.id (gathered p.document line) h
 
 completed-named : (pending : Option Pending) (lines : List (List ℕ)) → PendingIsNamed pending → AreNamed (completed pending lines)

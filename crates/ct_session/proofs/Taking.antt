@@ -7,7 +7,7 @@ use Rattle.std.specs.Io.KnownBytes.{Appends}
 use Rattle.ct_lines.specs.Lines.{lines_of}
 use Rattle.ct_commands.specs.Command.{completed, completed_by, open_after, open_after_all, cut_off, commands_of}
 use Rattle.ct_commands.specs.declared.command.Command.{Command}
-use Rattle.ct_commands.specs.declared.command.Pending.{Pending}
+use Rattle.ct_commands.specs.declared.command_reader.Pending.{Pending}
 use Rattle.ct_ledger.specs.Piece.{PieceValue}
 use Rattle.ct_ledger.proofs.StandingLemmas.{AreStanding-none}
 use Rattle.ct_session.specs.Reply.{pieces_after}

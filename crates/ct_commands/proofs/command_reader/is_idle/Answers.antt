@@ -1,6 +1,6 @@
 use Rattle.std.proofs.Common.{rules}
 use Rattle.ct_commands.proofs.Forms.{idle}
-use Rattle.ct_commands.proofs.command.is_idle.Goals as goal
+use Rattle.ct_commands.proofs.command_reader.is_idle.Goals as goal
 
 pub returns-in-None-clause-open : goal.returns-in-None-clause-open
 returns-in-None-clause-open c = rw c.in-None.is (λ e. (idle c.args.line.now (search rules)).0)
