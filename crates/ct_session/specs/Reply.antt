@@ -57,7 +57,8 @@ abbrev pub IsShowReply : List PieceValue → Option Entry → Reply → Type 0
 IsShowReply pieces None reply = reply ≡ Refused refusal.NoEntry
 IsShowReply pieces (Some e) reply = IsShown pieces e reply
 
--- a column of the table: its entries A(n,d), or A(n,d,w) where a weight is given, in the order of their lengths
+-- a column of the table: its entries A(n,d), or A(n,d,w) where a weight is given, in the order of their lengths, from 1, or the weight where it is
+-- greater, to MAX_N; none where no entry has the distance and the weight
 unfoldable pub column : ℕ → Option ℕ → List Entry
 column d w = filter is_entry (map (λ n. record { n = n; d = d; w = w }) (range_with_len 1 MAX_N))
 
@@ -83,6 +84,18 @@ IsReply pieces (command.Table numbers) reply = IsTableReply pieces (column numbe
 IsReply pieces command.Ledger reply = reply ≡ Lines (ledger_text pieces)
 IsReply pieces command.Dump reply = reply ≡ Lines (dump_text pieces)
 IsReply pieces command.Unknown reply = reply ≡ Refused refusal.NoCommand
+
+-- whether a command leaves a choice: several replies to it may be right, as where any derivation or any code of a size will do. None of these
+-- commands does
+abbrev pub leaves_choice : Command → Bool
+leaves_choice (command.Submission id document) = false
+leaves_choice command.CutOff = false
+leaves_choice (command.Withdraw id) = false
+leaves_choice (command.Show numbers) = false
+leaves_choice (command.Table numbers) = false
+leaves_choice command.Ledger = false
+leaves_choice command.Dump = false
+leaves_choice command.Unknown = false
 
 -- the pieces that stand after a command: accepted ones come, withdrawn ones go, and every other command leaves them as they are
 abbrev pub pieces_after : List PieceValue → Command → List PieceValue

@@ -1,11 +1,11 @@
 -- A run of a session: what is written for an input.
-use Rattle.std.specs.Prelude.{◌≡◌, ℕ, ⊤, Bool, List, [], ◌∷◌, ◌++◌, fold}
+use Rattle.std.specs.Prelude.{◌≡◌, ℕ, ⊤, Bool, false, List, [], ◌∷◌, ◌++◌, fold}
 use Rattle.std.specs.List.{flat_map, list_any}
 use Rattle.ct_lines.specs.Lines.{lines_of}
 use Rattle.ct_commands.specs.Command.{commands_of}
 use Rattle.ct_commands.specs.declared.command.Command.{Command}
 use Rattle.ct_ledger.specs.Piece.{PieceValue}
-use Rattle.ct_session.specs.Reply.{IsReply, pieces_after, is_refusal}
+use Rattle.ct_session.specs.Reply.{IsReply, leaves_choice, pieces_after, is_refusal}
 use Rattle.ct_session.specs.Text.{reply_text}
 use Rattle.ct_session.specs.declared.reply.Reply.{Reply}
 
@@ -15,6 +15,12 @@ AreReplies pieces [] [] = ⊤
 AreReplies pieces [] (r ∷ rs) = ⊥
 AreReplies pieces (c ∷ cs) [] = ⊥
 AreReplies pieces (c ∷ cs) (r ∷ rs) = IsReply pieces c r × AreReplies (pieces_after pieces c) cs rs
+
+-- two lists of replies to the commands: as many, and equal but at commands that leave a choice
+abbrev pub DifferInChoices : List Command → List Reply → List Reply → Type 0
+DifferInChoices [] [] [] = ⊤
+DifferInChoices (c ∷ cs) (r ∷ rs) (s ∷ ss) = (leaves_choice c ≡ false → r ≡ s) × DifferInChoices cs rs ss
+DifferInChoices cs rs ss = ⊥
 
 -- the text answers the commands over the pieces: it is the texts of replies to them, and the mark says whether one is a refusal
 pub record AnswersCommands (pieces : List PieceValue) (commands : List Command) (text : List ℕ) (refused : Bool) : Type 0 where

@@ -1,6 +1,12 @@
 //! Facts about every session.
 
-ghost use Rattle.std.specs.Prelude.{◌≡◌, ℕ, Bool, List};
+ghost use Rattle.std.specs.Prelude.{◌≡◌, ℕ, Bool, false, List, length, Option};
+ghost use Rattle.std.specs.List.{list_any};
+ghost use Rattle.ct_lines.specs.Lines.{lines_of};
+ghost use Rattle.ct_text.specs.declared.entry_numbers.EntryNumbers.{EntryNumbers};
+ghost use Rattle.ct_text.specs.declared.table_numbers.TableNumbers.{TableNumbers};
+ghost use Rattle.ct_commands.specs.Command.{commands_of};
+ghost use Rattle.ct_commands.specs.declared.command.Command.TheVariants as command;
 ghost use Rattle.ct_codes.specs.declared.claim.Side.{Side};
 ghost use Rattle.ct_codes.specs.declared.entry.Entry.{Entry};
 ghost use Rattle.ct_codes.specs.Entry.{IsEntry};
@@ -8,17 +14,38 @@ ghost use Rattle.ct_ledger.specs.Piece.{PieceValue};
 ghost use Rattle.ct_ledger.specs.Standing.{AreStanding};
 ghost use Rattle.ct_ledger.specs.Supports.{supports_of};
 ghost use Rattle.ct_commands.specs.declared.command.Command.{Command};
-ghost use Rattle.ct_session.specs.Reply.{IsShownBound, IsReply};
+ghost use Rattle.ct_session.specs.Reply.{IsShownBound, IsReply, leaves_choice};
 ghost use Rattle.ct_session.specs.declared.reply.Reply.{Reply};
-ghost use Rattle.ct_session.specs.Run.{IsRun, pieces_of};
+ghost use Rattle.ct_session.specs.Run.{IsRun, DifferInChoices, pieces_of};
 
-/// Every input has a run, and no two: what a session writes for an input, and whether a reply is a refusal, are determined.
-pub fn every_input_has_one_run()
-    ensures exists { (input : List ℕ) → (output : List ℕ) × (refused : Bool) × IsRun input output refused }
-    ensures output { (input output other : List ℕ) (a b : Bool) → IsRun input output a → IsRun input other b
-        → output ≡ other }
+/// Every input has a run.
+pub fn every_input_has_a_run()
+    ensures { (input : List ℕ) → (output : List ℕ) × (refused : Bool) × IsRun input output refused }
+{}
+
+/// Two runs of an input have as many replies, which are equal but at commands that leave a choice, and in both some reply is a refusal, or in
+/// none. Of an input without such commands there is one run: what a session writes for it is determined.
+pub fn runs_differ_in_choices_only()
+    ensures replies { (input output other : List ℕ) (a b : Bool) (h : IsRun input output a) (k : IsRun input other b)
+        → DifferInChoices (commands_of (lines_of input)) h.replies k.replies }
+    ensures as_many { (input output other : List ℕ) (a b : Bool) (h : IsRun input output a) (k : IsRun input other b)
+        → length h.replies ≡ length k.replies }
     ensures refused { (input output other : List ℕ) (a b : Bool) → IsRun input output a → IsRun input other b
         → a ≡ b }
+    ensures output { (input output other : List ℕ) (a b : Bool) → list_any leaves_choice (commands_of (lines_of input)) ≡ false
+        → IsRun input output a → IsRun input other b → output ≡ other }
+{}
+
+/// Submissions, withdrawals, `show`, `table`, `ledger`, `dump`, and lines that are no command, leave no choice of their replies.
+pub fn replies_without_choice()
+    ensures submission { (id : Option (List ℕ)) (document : List ℕ) → leaves_choice (command.Submission id document) ≡ false }
+    ensures cut_off { leaves_choice command.CutOff ≡ false }
+    ensures withdraw { (id : List ℕ) → leaves_choice (command.Withdraw id) ≡ false }
+    ensures show { (numbers : EntryNumbers) → leaves_choice (command.Show numbers) ≡ false }
+    ensures table { (numbers : TableNumbers) → leaves_choice (command.Table numbers) ≡ false }
+    ensures ledger { leaves_choice command.Ledger ≡ false }
+    ensures dump { leaves_choice command.Dump ≡ false }
+    ensures unknown { leaves_choice command.Unknown ≡ false }
 {}
 
 /// The pieces that stand after the commands of an input are made by their documents, have different ids, and they and their words are
@@ -30,10 +57,12 @@ pub fn pieces_give_true_bounds()
 {}
 
 /// A shown bound depends on what the standing pieces give to the table and on nothing else: not on pieces that were
-/// withdrawn, nor on what was submitted before, nor on ids and documents. And over the same pieces a command has one reply.
+/// withdrawn, nor on what was submitted before, nor on ids and documents. And over the same pieces a command that leaves no choice has one
+/// reply.
 pub fn shown_bounds_depend_on_standing_pieces()
     ensures bounds { (pieces other : List PieceValue) (side : Side) (e : Entry) (u v : ℕ)
         → supports_of pieces ≡ supports_of other → IsShownBound pieces side e u → IsShownBound other side e v → u ≡ v }
     ensures inputs { (first second : List ℕ) (c : Command) (r s : Reply)
-        → pieces_of first ≡ pieces_of second → IsReply (pieces_of first) c r → IsReply (pieces_of second) c s → r ≡ s }
+        → leaves_choice c ≡ false → pieces_of first ≡ pieces_of second
+        → IsReply (pieces_of first) c r → IsReply (pieces_of second) c s → r ≡ s }
 {}

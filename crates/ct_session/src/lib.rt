@@ -9,7 +9,8 @@ mod session;
 mod text;
 
 pub use laws::{
-    every_input_has_one_run, pieces_give_true_bounds, shown_bounds_depend_on_standing_pieces,
+    every_input_has_a_run, pieces_give_true_bounds, replies_without_choice,
+    runs_differ_in_choices_only, shown_bounds_depend_on_standing_pieces,
 };
 pub use reply::{Bounds, BoundsList, Refusal, Reply};
 pub use serve::{ServeFault, serve_session};

@@ -10,5 +10,5 @@ pub returns-clause-bounds : goal.returns-clause-bounds
 returns-clause-bounds c = shown_once
 
 pub returns-clause-inputs : goal.returns-clause-inputs
-returns-clause-inputs c = λ first second d r s same h k.
-    one_reply_only (pieces_of first) d r s h (subst (λ (pieces : List PieceValue). IsReply pieces d s) (sym same) k)
+returns-clause-inputs c = λ first second d r s none same h k.
+    one_reply_only (pieces_of first) d r s none h (subst (λ (pieces : List PieceValue). IsReply pieces d s) (sym same) k)
