@@ -1,12 +1,12 @@
 -- The modes of the program, and what each writes.
-use Rattle.std.specs.Prelude.{◌≡◌, ◌⊎◌, ℕ, ⊤, Bool, if◌then◌else◌, List, [], ◌∷◌, map, Option, Some, None, codes, String}
+use Rattle.std.specs.Prelude.{◌≡◌, ◌⊎◌, ℕ, ⊤, Bool, true, false, if◌then◌else◌, List, [], ◌∷◌, map, Option, Some, None, codes, String}
 use Rattle.std.specs.declared.alloc.Global.{Global}
 use Rattle.std.specs.Str.{bytes_eq}
 use Rattle.std.specs.String.{string_bytes}
 use Rattle.std.specs.Io.KnownBytes.{Appends}
 use Rattle.ct_io.specs.Told.{AppendsPrefix, AppendsProperPrefix}
 use Rattle.ct_session.specs.Run.{IsRun}
-use Rattle.ct_session.specs.Serve.{AnswersTaken, AnswersButLastRead}
+use Rattle.ct_session.specs.Serve.{AnswersTaken, AnswersButLastBytes, WritesWholeReplies}
 use Rattle.ct_run.specs.declared.mode.Mode.{Mode}
 use Rattle.ct_run.specs.declared.mode.Mode.TheVariants.{Session}
 use Rattle.ct_run.specs.declared.status.Status.{Status}
@@ -21,9 +21,22 @@ abbrev pub mode_of : List (List ℕ) → Option Mode
 mode_of (word ∷ []) = if bytes_eq word (codes "session") then Some Session else None
 mode_of words = None
 
+-- whether a mode reads the source. One that does reads it to its end
+abbrev pub reads : Mode → Bool
+reads Session = true
+
+-- whether a command reads the source: words that name no mode don't
+abbrev pub is_reading : Option Mode → Bool
+is_reading (Some mode) = reads mode
+is_reading None = false
+
 -- an output of a mode on an input, and whether something is refused in it
 abbrev pub IsOutput : Mode → List ℕ → List ℕ → Bool → Type 0
 IsOutput Session input output refused = IsRun input output refused
+
+-- the input of a mode, where it is told: of one that reads the source what this has left, of one that reads nothing no bytes, whatever a source tells
+abbrev pub input_for : Mode → Option (List ℕ) → Option (List ℕ)
+input_for mode left = if reads mode then left else Some []
 
 -- the status of an output that was written whole
 abbrev pub status_of : Bool → Status
@@ -33,25 +46,39 @@ status_of refused = if refused then status.Refused else status.Done
 abbrev pub IsRunStatus : Status → Type 0
 IsRunStatus result = (result ≡ status.Done) ⊎ (result ≡ status.Refused)
 
--- what a sink holds grew by an output of the mode on what the source had left, where both tell their bytes, and the status is the output's
-abbrev pub WritesOutput : Mode → Option (List ℕ) → Option (List ℕ) → Option (List ℕ) → Status → Type 0
-WritesOutput mode None old new result = ⊤
-WritesOutput mode (Some input) old new result = (output : List ℕ) × (refused : Bool) × IsOutput mode input output refused × (result ≡ status_of refused) × Appends old new output
+-- what a sink holds grew by an output of the mode on the input, and the status is the output's
+abbrev pub WritesOn : Mode → Option (List ℕ) → Option (List ℕ) → Option (List ℕ) → Status → Type 0
+WritesOn mode None old new result = ⊤
+WritesOn mode (Some input) old new result = (output : List ℕ) × (refused : Bool) × IsOutput mode input output refused × (result ≡ status_of refused) × Appends old new output
 
--- what a sink holds grew by a prefix of an output of the mode on what the source had left
-abbrev pub WritesPrefix : Mode → Option (List ℕ) → Option (List ℕ) → Option (List ℕ) → Type 0
-WritesPrefix mode None old new = ⊤
-WritesPrefix mode (Some input) old new = (output : List ℕ) × (refused : Bool) × IsOutput mode input output refused × AppendsPrefix old new output
+-- what a sink holds grew by a prefix of an output of the mode on the input
+abbrev pub WritesPrefixOn : Mode → Option (List ℕ) → Option (List ℕ) → Option (List ℕ) → Type 0
+WritesPrefixOn mode None old new = ⊤
+WritesPrefixOn mode (Some input) old new = (output : List ℕ) × (refused : Bool) × IsOutput mode input output refused × AppendsPrefix old new output
 
 -- the same, and some of the output is left
+abbrev pub WritesProperPrefixOn : Mode → Option (List ℕ) → Option (List ℕ) → Option (List ℕ) → Type 0
+WritesProperPrefixOn mode None old new = ⊤
+WritesProperPrefixOn mode (Some input) old new = (output : List ℕ) × (refused : Bool) × IsOutput mode input output refused × AppendsProperPrefix old new output
+
+-- the three of the input of the mode, whose source has these bytes left, where it tells them
+abbrev pub WritesOutput : Mode → Option (List ℕ) → Option (List ℕ) → Option (List ℕ) → Status → Type 0
+WritesOutput mode left old new result = WritesOn mode (input_for mode left) old new result
+
+abbrev pub WritesPrefix : Mode → Option (List ℕ) → Option (List ℕ) → Option (List ℕ) → Type 0
+WritesPrefix mode left old new = WritesPrefixOn mode (input_for mode left) old new
+
 abbrev pub WritesProperPrefix : Mode → Option (List ℕ) → Option (List ℕ) → Option (List ℕ) → Type 0
-WritesProperPrefix mode None old new = ⊤
-WritesProperPrefix mode (Some input) old new = (output : List ℕ) × (refused : Bool) × IsOutput mode input output refused × AppendsProperPrefix old new output
+WritesProperPrefix mode left old new = WritesProperPrefixOn mode (input_for mode left) old new
 
--- what was taken from the source was answered, as the mode answers it
-abbrev pub AnswersAllTaken : Mode → Option (List ℕ) → Option (List ℕ) → Option (List ℕ) → Option (List ℕ) → Type 0
-AnswersAllTaken Session left now old new = AnswersTaken left now old new
+-- what a failed read leaves in the sink, mode by mode. Of a session: the replies to all commands that whole lines complete
+abbrev pub LeftByReadFault : Mode → Option (List ℕ) → Option (List ℕ) → Option (List ℕ) → Option (List ℕ) → Type 0
+LeftByReadFault Session left now old new = AnswersTaken left now old new
 
--- what was taken from the source was answered, but for the last read
-abbrev pub AnswersAllButLast : Mode → Option (List ℕ) → Option (List ℕ) → Option (List ℕ) → Option (List ℕ) → Type 0
-AnswersAllButLast Session left now old new = AnswersButLastRead left now old new
+-- what too many bytes leave in the sink, mode by mode. Of a session: the same, but for at most the last MAX_READ bytes
+abbrev pub LeftByTooLong : Mode → Option (List ℕ) → Option (List ℕ) → Option (List ℕ) → Option (List ℕ) → Type 0
+LeftByTooLong Session left now old new = AnswersButLastBytes left now old new
+
+-- what want of memory leaves in the sink, mode by mode. Of a session: whole replies
+abbrev pub LeftByMemory : Mode → Option (List ℕ) → Option (List ℕ) → Option (List ℕ) → Type 0
+LeftByMemory Session left old new = WritesWholeReplies left old new

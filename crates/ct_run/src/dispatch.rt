@@ -1,11 +1,11 @@
 //! The top call of the program.
 
-ghost use Rattle.std.specs.Prelude.{◌≡◌, ◌⊎◌, ◌≤◌, ◌+◌, ◌↔◌, Bool, IfSome, IfNone, IfOk, IfErr, IsSome, IsNone, Result, length};
+ghost use Rattle.std.specs.Prelude.{◌≡◌, ◌⊎◌, ◌≤◌, ◌+◌, ◌↔◌, IfSome, IfNone, IfOk, IfErr, IsSome, IsNone, IsTrue, false, length};
 ghost use Rattle.std.specs.Io.KnownBytes.{Appends, IsAtEnd};
 ghost use Rattle.ct_io.specs.Faults.{Rose};
 ghost use Rattle.ct_io.specs.Told.{AppendsProperPrefix, WhereTold, IsAboveLimit, IsWithinLimit};
 ghost use Rattle.ct_io.specs.declared.TheConstants.{MAX_INPUT, MAX_READ};
-ghost use Rattle.ct_run.specs.Mode.{bytes_of, mode_of, status_of, IsRunStatus, WritesOutput, WritesPrefix, WritesProperPrefix, AnswersAllTaken, AnswersAllButLast};
+ghost use Rattle.ct_run.specs.Mode.{bytes_of, mode_of, is_reading, input_for, IsRunStatus, WritesOutput, WritesPrefix, WritesProperPrefix, LeftByMemory, LeftByReadFault, LeftByTooLong};
 ghost use Rattle.ct_run.specs.Exit.{fault_status, result_status};
 ghost use Rattle.ct_run.specs.Program.{usage_line, WritesUsage};
 
@@ -60,10 +60,10 @@ pub fn run<S: Source, K: Sink>(
     source: &mut S,
     sink: &mut K,
 ) -> Status
-    // Done and Refused: the input was read to its end, and what was written is an output of the mode.
+    // Done and Refused: what was written is an output of the mode, and a mode that reads the source read it to its end.
     ensures run { IfSome (mode_of (bytes_of words.now)) (λ mode. IsRunStatus result
         → WritesOutput mode (S.left source.old) (K.holds sink.old) (K.holds sink.new) result) }
-    ensures to_end { IsRunStatus result → IsAtEnd (S.left source.new) }
+    ensures to_end { IsTrue (is_reading (mode_of (bytes_of words.now))) → IsRunStatus result → IsAtEnd (S.left source.new) }
     ensures command { IsRunStatus result → IsSome (mode_of (bytes_of words.now)) }
 
     // Whatever the status, what was written is a prefix of an output; each fault says how much of it.
@@ -71,10 +71,12 @@ pub fn run<S: Source, K: Sink>(
         WritesPrefix mode (S.left source.old) (K.holds sink.old) (K.holds sink.new)) }
     ensures written_in_part { IfSome (mode_of (bytes_of words.now)) (λ mode. result ≡ Status.WriteFault
         → WritesProperPrefix mode (S.left source.old) (K.holds sink.old) (K.holds sink.new)) }
-    ensures taken_answered { IfSome (mode_of (bytes_of words.now)) (λ mode. result ≡ Status.ReadFault
-        → AnswersAllTaken mode (S.left source.old) (S.left source.new) (K.holds sink.old) (K.holds sink.new)) }
-    ensures last_read_unanswered { IfSome (mode_of (bytes_of words.now)) (λ mode. result ≡ Status.TooLong
-        → AnswersAllButLast mode (S.left source.old) (S.left source.new) (K.holds sink.old) (K.holds sink.new)) }
+    ensures after_read_fault { IfSome (mode_of (bytes_of words.now)) (λ mode. result ≡ Status.ReadFault
+        → LeftByReadFault mode (S.left source.old) (S.left source.new) (K.holds sink.old) (K.holds sink.new)) }
+    ensures after_too_long { IfSome (mode_of (bytes_of words.now)) (λ mode. result ≡ Status.TooLong
+        → LeftByTooLong mode (S.left source.old) (S.left source.new) (K.holds sink.old) (K.holds sink.new)) }
+    ensures after_memory { IfSome (mode_of (bytes_of words.now)) (λ mode. result ≡ Status.Memory
+        → LeftByMemory mode (S.left source.old) (K.holds sink.old) (K.holds sink.new)) }
 
     // When each fault comes.
     ensures read_fault { result ≡ Status.ReadFault
@@ -89,13 +91,15 @@ pub fn run<S: Source, K: Sink>(
     // Words that are no command.
     ensures no_command { IfNone (mode_of (bytes_of words.now)) (WritesUsage result (K.holds sink.old) (K.holds sink.new)) }
     ensures usage_only_then { result ≡ Status.Usage → IsNone (mode_of (bytes_of words.now)) }
-    ensures unread { IfNone (mode_of (bytes_of words.now)) (source.new ≡ source.old) }
+
+    // Where the words are no command, or one whose mode reads nothing, nothing is read.
+    ensures unread { is_reading (mode_of (bytes_of words.now)) ≡ false → source.new ≡ source.old }
 
     // Completeness: within the limit and without faults, a run ends so, but for want of memory.
-    ensures complete { IsSome (mode_of (bytes_of words.now)) → IsWithinLimit (S.left source.old)
+    ensures complete { IfSome (mode_of (bytes_of words.now)) (λ mode. IsWithinLimit (input_for mode (S.left source.old))
         → ¬ Rose (S.faults source.old) (S.faults source.new)
         → ¬ Rose (K.faults sink.old) (K.faults sink.new)
-        → IsRunStatus result ⊎ (result ≡ Status.Memory) }
+        → IsRunStatus result ⊎ (result ≡ Status.Memory)) }
 {
     match named_mode(words) {
         Some(Mode::Session) => result_status(serve_session(alloc, source, sink)),

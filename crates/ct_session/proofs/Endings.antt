@@ -14,21 +14,22 @@ use Rattle.ct_commands.specs.Command.{cut_off}
 use Rattle.ct_session.specs.declared.serve.ServeFault.{ServeFault}
 use Rattle.ct_session.specs.declared.serve.ServeFault.TheVariants.{Read, Write, TooLong, Memory}
 use Rattle.ct_session.specs.Run.{PutsAnswers}
-use Rattle.ct_session.specs.Serve.{WritesRun, WritesRunPrefix, WritesRunProperPrefix, AnswersTaken, AnswersButLastRead}
+use Rattle.ct_session.specs.Serve.{WritesRun, WritesRunPrefix, WritesRunProperPrefix, AnswersTaken, AnswersButLastBytes, WritesWholeReplies}
 use Rattle.ct_session.specs.Inside.Ending.{Ends}
 use Rattle.ct_session.specs.Inside.Serving.{Took, Serves}
 use Rattle.ct_session.specs.Inside.State.{State, fresh_state}
 use Rattle.ct_session.specs.Inside.Writing.{BreaksOff, IsReady, WritesSome, read_fault}
-use Rattle.ct_session.proofs.Serving.{begins, after_writing, took_more, not_long, long_exactly, one_read, all_taken, prefix_of, proper_prefix_of, weaker_prefix, prefix_of_run, run_of, run_in_part, nothing_gathered, nothing_gathered_long, taken_answered, last_read_unanswered}
+use Rattle.ct_session.proofs.Serving.{begins, after_writing, took_more, not_long, long_exactly, one_read, all_taken, prefix_of, proper_prefix_of, weaker_prefix, prefix_of_run, run_of, run_in_part, nothing_gathered, nothing_gathered_long, taken_answered, last_bytes_unanswered, whole_replies}
 
-ends_memory : (left now old new : Option (List ℕ)) (reads reads' writes writes' n : ℕ) → WritesRunPrefix left old new → Took left now n → n ≤ MAX_INPUT → Ends (Err Memory) left now old new reads reads' writes writes'
-ends_memory left now old new reads reads' writes writes' n part took few = record {
+ends_memory : (left now old new : Option (List ℕ)) (reads reads' writes writes' n : ℕ) → WritesRunPrefix left old new → WritesWholeReplies left old new → Took left now n → n ≤ MAX_INPUT → Ends (Err Memory) left now old new reads reads' writes writes'
+ends_memory left now old new reads reads' writes writes' n part whole took few = record {
   run = tt;
   to_end = tt;
   prefix = part;
   written_in_part = λ e. absurd cc;
   taken_answered = λ e. absurd cc;
-  last_read_unanswered = λ e. absurd cc;
+  last_bytes_unanswered = λ e. absurd cc;
+  whole_replies = λ e. whole;
   read_fault = λ e. absurd cc;
   write_fault = λ e. absurd cc;
   too_long = not_long _ left now n took few (λ e. cc);
@@ -42,7 +43,8 @@ ends_write left now old new reads reads' writes writes' n part rose took few = r
   prefix = weaker_prefix left old new part;
   written_in_part = λ e. part;
   taken_answered = λ e. absurd cc;
-  last_read_unanswered = λ e. absurd cc;
+  last_bytes_unanswered = λ e. absurd cc;
+  whole_replies = λ e. absurd cc;
   read_fault = λ e. absurd cc;
   write_fault = λ e. rose;
   too_long = not_long _ left now n took few (λ e. cc);
@@ -56,21 +58,23 @@ ends_read left now old new reads reads' writes writes' n part answered rose took
   prefix = part;
   written_in_part = λ e. absurd cc;
   taken_answered = λ e. answered;
-  last_read_unanswered = λ e. absurd cc;
+  last_bytes_unanswered = λ e. absurd cc;
+  whole_replies = λ e. absurd cc;
   read_fault = λ e. rose;
   write_fault = λ e. absurd cc;
   too_long = not_long _ left now n took few (λ e. cc);
   one_read_past = one_read left now n took (omega (arith, few));
 }
 
-ends_long : (left now old new : Option (List ℕ)) (reads reads' writes writes' n : ℕ) → WritesRunPrefix left old new → AnswersButLastRead left now old new → Took left now n → MAX_INPUT < n → n ≤ MAX_INPUT + MAX_READ → Ends (Err TooLong) left now old new reads reads' writes writes'
+ends_long : (left now old new : Option (List ℕ)) (reads reads' writes writes' n : ℕ) → WritesRunPrefix left old new → AnswersButLastBytes left now old new → Took left now n → MAX_INPUT < n → n ≤ MAX_INPUT + MAX_READ → Ends (Err TooLong) left now old new reads reads' writes writes'
 ends_long left now old new reads reads' writes writes' n part answered took many few = record {
   run = tt;
   to_end = tt;
   prefix = part;
   written_in_part = λ e. absurd cc;
   taken_answered = λ e. absurd cc;
-  last_read_unanswered = λ e. answered;
+  last_bytes_unanswered = λ e. answered;
+  whole_replies = λ e. absurd cc;
   read_fault = λ e. absurd cc;
   write_fault = λ e. absurd cc;
   too_long = long_exactly _ left now n took (λ e. many) (λ above. refl);
@@ -84,7 +88,8 @@ ends_run left now old new reads reads' writes writes' n refused run at took few 
   prefix = prefix_of_run left old new refused run;
   written_in_part = λ e. absurd cc;
   taken_answered = λ e. absurd cc;
-  last_read_unanswered = λ e. absurd cc;
+  last_bytes_unanswered = λ e. absurd cc;
+  whole_replies = λ e. absurd cc;
   read_fault = λ e. absurd cc;
   write_fault = λ e. absurd cc;
   too_long = not_long _ left now n took few (λ e. cc);
@@ -99,7 +104,8 @@ rose_later a b c h (inr last) = inr last
 pub ends_at_once : (left held : Option (List ℕ)) (reads writes : ℕ) → Ends (Err Memory) left left held held reads reads writes writes
 ends_at_once left held reads writes =
     let h = begins left held reads writes in
-    ends_memory left left held held reads reads writes writes 0 (prefix_of fresh_reader fresh_state [] left left held held held reads reads writes writes [] [] h refl (Appends-nil held)) h.took (omega arith)
+    ends_memory left left held held reads reads writes writes 0 (prefix_of fresh_reader fresh_state [] left left held held held reads reads writes writes [] [] h refl (Appends-nil held))
+    (whole_replies fresh_reader fresh_state [] left left held held held reads reads writes writes h (Appends-nil held)) h.took (omega arith)
 
 -- the gathered replies could not be written
 pub ends_unwritten : (r : Reader) (s : State) (g : List ℕ) (left now old held new : Option (List ℕ)) (reads reads' writes writes' writes'' : ℕ) (f : ServeFault) → Serves r s g left now old held reads reads' writes writes'
@@ -113,7 +119,8 @@ pub ends_broken : (r : Reader) (s : State) (g : List ℕ) (left now next old hel
     → Took left next n → n ≤ MAX_INPUT → BreaksOff Memory result g held new writes' writes'' → Ends (Err result) left next old new reads reads'' writes writes''
 ends_broken r s g left now next old held new reads reads' reads'' writes writes' writes'' n result h took few (inl w) =
     subst (λ (e : ServeFault). Ends (Err e) left next old new reads reads'' writes writes'') (sym w.0)
-    (ends_memory left next old new reads reads'' writes writes'' n (prefix_of r s g left now old held new reads reads' writes writes' g [] h (sym (append-nil g)) w.1) took few)
+    (ends_memory left next old new reads reads'' writes writes'' n (prefix_of r s g left now old held new reads reads' writes writes' g [] h (sym (append-nil g)) w.1)
+    (whole_replies r s g left now old held new reads reads' writes writes' h w.1) took few)
 ends_broken r s g left now next old held new reads reads' reads'' writes writes' writes'' n result h took few (inr w) =
     subst (λ (e : ServeFault). Ends (Err e) left next old new reads reads'' writes writes'') (sym w.0)
     (ends_write left next old new reads reads'' writes writes'' n (proper_prefix_of r s g left now old held new reads reads' writes writes' h w.1) (rose_later writes writes' writes'' h.write_count w.2) took few)
@@ -169,7 +176,7 @@ ends_too_long r q s g left now next old held new reads reads' reads'' writes wri
     let h' = after_writing r s g [] left now old held new reads reads' writes writes' writes'' h (g, sym (append-nil g), written) counted in
     ends_long left next old new reads reads'' writes writes'' q.taken
     (prefix_of r s [] left now old new new reads reads' writes writes'' [] [] h' refl (Appends-nil new))
-    (last_read_unanswered r q s [] left now next old new reads reads' writes writes'' (line_fault.TooLong t) h' refl takes (f.part t refl) f.lasts unended)
+    (last_bytes_unanswered r q s [] left now next old new reads reads' writes writes'' (line_fault.TooLong t) h' refl takes (f.part t refl) f.lasts unended)
     (took_more left now next r.taken q.taken takes.0 h.took takes.1 takes.2) above f.few
 
 -- the gathered replies are none where a read came

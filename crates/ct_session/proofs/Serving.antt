@@ -18,7 +18,7 @@ use Rattle.ct_io.proofs.ReaderLemmas.{Takes-line, Takes-within}
 use Rattle.ct_io.specs.Told.{WhereTold, IsAboveLimit, AppendsProperPrefix}
 use Rattle.ct_commands.specs.Command.{completed, commands_of, cut_off}
 use Rattle.ct_session.specs.Run.{AnswersCommands, IsRun, PutsAnswers}
-use Rattle.ct_session.specs.Serve.{WritesRun, WritesRunPrefix, WritesRunProperPrefix, AnswersLines, AnswersTaken, AnswersButLastRead}
+use Rattle.ct_session.specs.Serve.{WritesRun, WritesRunPrefix, WritesRunProperPrefix, AnswersLines, AnswersTaken, AnswersButLastBytes, WritesWholeReplies}
 use Rattle.ct_session.specs.Inside.Serving.{Follows, Took, Given, Serves, unserved}
 use Rattle.ct_session.specs.Inside.State.{State, fresh_state, TakesLines, PutsLines}
 use Rattle.ct_session.specs.Inside.Writing.{WritesSome, IsReady}
@@ -312,10 +312,10 @@ taken_answered r q s g (Some input) now next old held reads reads' writes writes
           (lines_answered s h.lines h.written q.held old held (subst (TakesLines fresh_state s h.lines) text h.takes) given.whole line h.wrote),
     )
 
-pub last_read_unanswered : (r q : Reader) (s : State) (g : List ℕ) (left now next old held : Option (List ℕ)) (reads reads' writes writes' : ℕ) (fault : LineFault) → Serves r s g left now old held reads reads' writes writes'
-    → g ≡ [] → Takes r q now next (Err fault) → IsLineThenRead q.held → (r.ended ≡ true → q.ended ≡ true) → q.ended ≡ false → AnswersButLastRead left next old held
-last_read_unanswered r q s g None now next old held reads reads' writes writes' fault h none takes part lasts going = tt
-last_read_unanswered r q s g (Some input) now next old held reads reads' writes writes' fault h none takes part lasts going =
+pub last_bytes_unanswered : (r q : Reader) (s : State) (g : List ℕ) (left now next old held : Option (List ℕ)) (reads reads' writes writes' : ℕ) (fault : LineFault) → Serves r s g left now old held reads reads' writes writes'
+    → g ≡ [] → Takes r q now next (Err fault) → IsLineThenRead q.held → (r.ended ≡ true → q.ended ≡ true) → q.ended ≡ false → AnswersButLastBytes left next old held
+last_bytes_unanswered r q s g None now next old held reads reads' writes writes' fault h none takes part lasts going = tt
+last_bytes_unanswered r q s g (Some input) now next old held reads reads' writes writes' fault h none takes part lasts going =
     let given = taken_now r q (Some input) now next h.lines fault (h.given (not_ended r.ended q.ended lasts going)) takes in
     let text = ap (λ (t : List ℕ). h.written ++ t) none ∙ append-nil h.written in
     let front = ended_lines h.lines ++ part.0 in
@@ -326,3 +326,14 @@ last_read_unanswered r q s g (Some input) now next old held reads reads' writes 
       part.4,
       lines_answered s h.lines h.written part.0 old held (subst (TakesLines fresh_state s h.lines) text h.takes) given.whole part.3 h.wrote,
     )
+
+-- where all that was gathered is written, what was written is whole replies
+replies_written : (left now old new : Option (List ℕ)) (s : State) (lines : List (List ℕ)) (text : List ℕ) → TakesLines fresh_state s lines text → Follows left now lines → Appends old new text → WritesWholeReplies left old new
+replies_written None now old new s lines text h follows wrote = tt
+replies_written (Some input) None old new s lines text h follows wrote = absurd follows
+replies_written (Some input) (Some rest) old new s lines text h follows wrote = (lines, lines_of rest, text, h.refused, follows, h.answers, wrote)
+
+pub whole_replies : (r : Reader) (s : State) (g : List ℕ) (left now old held new : Option (List ℕ)) (reads reads' writes writes' : ℕ) → Serves r s g left now old held reads reads' writes writes'
+    → Appends held new g → WritesWholeReplies left old new
+whole_replies r s g left now old held new reads reads' writes writes' h written =
+    replies_written left (input_of r now) old new s h.lines (h.written ++ g) h.takes h.follows (Appends-trans old held new _ _ h.wrote written)

@@ -1,7 +1,7 @@
 -- What serving a session does to a source and a sink that tell their bytes.
-use Rattle.std.specs.Prelude.{◌≤◌, ℕ, ⊤, Bool, List, [], ◌++◌, length, Option, Some, None}
+use Rattle.std.specs.Prelude.{◌≡◌, ◌≤◌, ℕ, ⊤, Bool, List, [], ◌++◌, length, Option, Some, None}
 use Rattle.std.specs.Io.KnownBytes.{Appends, Consumes}
-use Rattle.ct_lines.specs.Lines.{whole_lines}
+use Rattle.ct_lines.specs.Lines.{lines_of, whole_lines}
 use Rattle.ct_io.specs.declared.TheConstants.{MAX_READ}
 use Rattle.ct_io.specs.Told.{AppendsPrefix, AppendsProperPrefix}
 use Rattle.ct_commands.specs.Command.{completed}
@@ -26,13 +26,20 @@ WritesRunProperPrefix (Some input) old new = (output : List ℕ) × (refused : B
 abbrev pub AnswersLines : List ℕ → Option (List ℕ) → Option (List ℕ) → Type 0
 AnswersLines bytes old new = (text : List ℕ) × (refused : Bool) × AnswersCommands [] (completed None (whole_lines bytes)) text refused × Appends old new text
 
--- the bytes that were taken from the source were answered
+-- the bytes that were taken from the source were answered: the replies are those to the commands that their whole lines complete
 abbrev pub AnswersTaken : Option (List ℕ) → Option (List ℕ) → Option (List ℕ) → Option (List ℕ) → Type 0
 AnswersTaken None after old new = ⊤
 AnswersTaken (Some input) after old new = (taken : List ℕ) × Consumes (Some input) after taken × AnswersLines taken old new
 
--- the bytes that were taken from the source were answered, but for those of the last read
-abbrev pub AnswersButLastRead : Option (List ℕ) → Option (List ℕ) → Option (List ℕ) → Option (List ℕ) → Type 0
-AnswersButLastRead None after old new = ⊤
-AnswersButLastRead (Some input) after old new =
+-- the bytes that were taken from the source were answered, but for at most the last MAX_READ of them: the replies are those to the commands that
+-- the whole lines before these bytes complete
+abbrev pub AnswersButLastBytes : Option (List ℕ) → Option (List ℕ) → Option (List ℕ) → Option (List ℕ) → Type 0
+AnswersButLastBytes None after old new = ⊤
+AnswersButLastBytes (Some input) after old new =
     (front last : List ℕ) × Consumes (Some input) after (front ++ last) × (length last ≤ MAX_READ) × AnswersLines front old new
+
+-- whole replies were written: those to the commands that some lines at the front of what the source had left complete
+abbrev pub WritesWholeReplies : Option (List ℕ) → Option (List ℕ) → Option (List ℕ) → Type 0
+WritesWholeReplies None old new = ⊤
+WritesWholeReplies (Some input) old new =
+    (lines rest : List (List ℕ)) × (text : List ℕ) × (refused : Bool) × (lines_of input ≡ lines ++ rest) × AnswersCommands [] (completed None lines) text refused × Appends old new text

@@ -10,7 +10,7 @@ ghost use Rattle.ct_session.specs.Inside.Ending.{Ends};
 ghost use Rattle.ct_session.specs.Inside.Serving.{Serves, StepsTo};
 ghost use Rattle.ct_session.specs.Inside.State.{PutsLines};
 ghost use Rattle.ct_session.specs.Inside.Writing.{WritesSome, IsReady, BreaksOff, read_fault};
-ghost use Rattle.ct_session.specs.Serve.{WritesRun, WritesRunPrefix, WritesRunProperPrefix, AnswersTaken, AnswersButLastRead};
+ghost use Rattle.ct_session.specs.Serve.{WritesRun, WritesRunPrefix, WritesRunProperPrefix, AnswersTaken, AnswersButLastBytes, WritesWholeReplies};
 
 use crate::session::Session;
 use ct_io::{LineFault, LineReader, Sink, Source, write_all};
@@ -218,8 +218,10 @@ pub fn serve_session<S: Source, K: Sink>(
         → WritesRunProperPrefix (S.left source.old) (K.holds sink.old) (K.holds sink.new) }
     ensures taken_answered { result ≡ Err ServeFault.Read
         → AnswersTaken (S.left source.old) (S.left source.new) (K.holds sink.old) (K.holds sink.new) }
-    ensures last_read_unanswered { result ≡ Err ServeFault.TooLong
-        → AnswersButLastRead (S.left source.old) (S.left source.new) (K.holds sink.old) (K.holds sink.new) }
+    ensures last_bytes_unanswered { result ≡ Err ServeFault.TooLong
+        → AnswersButLastBytes (S.left source.old) (S.left source.new) (K.holds sink.old) (K.holds sink.new) }
+    ensures whole_replies { result ≡ Err ServeFault.Memory
+        → WritesWholeReplies (S.left source.old) (K.holds sink.old) (K.holds sink.new) }
 
     // When each fault comes.
     ensures read_fault { result ≡ Err ServeFault.Read → Rose (S.faults source.old) (S.faults source.new) }

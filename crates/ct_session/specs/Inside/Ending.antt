@@ -4,9 +4,9 @@ use Rattle.std.specs.Io.KnownBytes.{IsAtEnd}
 use Rattle.ct_io.specs.declared.TheConstants.{MAX_INPUT, MAX_READ}
 use Rattle.ct_io.specs.Faults.{Rose}
 use Rattle.ct_io.specs.Told.{WhereTold, IsAboveLimit}
-use Rattle.ct_session.specs.Serve.{WritesRun, WritesRunPrefix, WritesRunProperPrefix, AnswersTaken, AnswersButLastRead}
+use Rattle.ct_session.specs.Serve.{WritesRun, WritesRunPrefix, WritesRunProperPrefix, AnswersTaken, AnswersButLastBytes, WritesWholeReplies}
 use Rattle.ct_session.specs.declared.serve.ServeFault.{ServeFault}
-use Rattle.ct_session.specs.declared.serve.ServeFault.TheVariants.{Read, Write, TooLong}
+use Rattle.ct_session.specs.declared.serve.ServeFault.TheVariants.{Read, Write, TooLong, Memory}
 
 -- how it ends: what was written and taken, and what each fault says
 pub record Ends (result : Result Bool ServeFault) (left now old new : Option (List ℕ)) (reads reads' writes writes' : ℕ) : Type 0 where
@@ -15,7 +15,8 @@ pub record Ends (result : Result Bool ServeFault) (left now old new : Option (Li
   pub prefix : WritesRunPrefix left old new
   pub written_in_part : result ≡ Err Write → WritesRunProperPrefix left old new
   pub taken_answered : result ≡ Err Read → AnswersTaken left now old new
-  pub last_read_unanswered : result ≡ Err TooLong → AnswersButLastRead left now old new
+  pub last_bytes_unanswered : result ≡ Err TooLong → AnswersButLastBytes left now old new
+  pub whole_replies : result ≡ Err Memory → WritesWholeReplies left old new
   pub read_fault : result ≡ Err Read → Rose reads reads'
   pub write_fault : result ≡ Err Write → Rose writes writes'
   pub too_long : WhereTold left now (λ before after. (result ≡ Err TooLong) ↔ IsAboveLimit before after)
