@@ -6,4 +6,6 @@ mod devices;
 #[cfg(test)]
 mod lines;
 #[cfg(test)]
+mod turns;
+#[cfg(test)]
 mod words;
