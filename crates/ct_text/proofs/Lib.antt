@@ -1,3 +1,4 @@
 pub mod Numbers
 pub mod Decimals
+mod WrittenDigits
 mod Ids

@@ -1,3 +1,4 @@
+pub mod Growing
 pub mod Line
 pub mod Number
 pub mod Id
