@@ -1,5 +1,5 @@
 -- What a line reader holds and has done, and what one call does.
-use Rattle.std.specs.Prelude.{◌≡◌, ℕ, ◌+◌, ◌≤◌, Bool, true, false, List, [], ◌∷◌, ◌++◌, ◌⊎◌, length, Contains, Option, Some, None, Result, Ok, Err, Vec, ⊤, if◌then◌else◌}
+use Rattle.std.specs.Prelude.{◌≡◌, ℕ, replicate, ◌+◌, ◌≤◌, Bool, true, false, List, [], ◌∷◌, ◌++◌, ◌⊎◌, length, Contains, Option, Some, None, Result, Ok, Err, Vec, ⊤, if◌then◌else◌}
 use Rattle.std.specs.declared.alloc.Global.{Global}
 use Rattle.std.specs.Io.KnownBytes.{prepend_known, Consumes}
 use Rattle.ct_lines.specs.declared.TheConstants.{LINE_FEED}
@@ -77,6 +77,10 @@ Divides bytes (Err fault) held ended = held ≡ bytes
 abbrev pub Takes : Reader → Reader → Option (List ℕ) → Option (List ℕ) → Answer → Type 0
 Takes old new before after answer =
     (bytes : List ℕ) × Consumes before after bytes × (new.taken ≡ old.taken + length bytes) × Divides (old.held ++ bytes) answer new.held new.ended
+
+-- a reader drops empty lines that it holds: line feeds at the front of its bytes. All else stays
+abbrev pub PassesEmptyLines : Reader → Reader → Type 0
+PassesEmptyLines old new = (count : ℕ) × (old.held ≡ replicate count LINE_FEED ++ new.held) × (new ≡ record old { held = new.held })
 
 -- the fault that every later call answers again: want of memory is none
 abbrev pub lasting_fault : Answer → Option LineFault

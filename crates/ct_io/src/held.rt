@@ -1,4 +1,4 @@
-ghost use Rattle.std.specs.Prelude.{◌≡◌, ◌+◌, ◌<◌, ◌≤◌, [], ◌∷◌, ◌++◌, IfOk, IfSome, IfNone, OnErr, MatchOption, length, take, drop, position, slice_get, vec_len, ◌==◌};
+ghost use Rattle.std.specs.Prelude.{◌≡◌, ℕ, replicate, ◌+◌, ◌<◌, ◌≤◌, [], ◌∷◌, ◌++◌, IfOk, IfSome, IfNone, OnErr, MatchOption, length, take, drop, position, slice_get, vec_len, ◌==◌};
 ghost use Rattle.ct_io.specs.Inside.Buffer.{Buffer, empty_buffer};
 ghost use Rattle.ct_lines.specs.Lines.{IsLine};
 ghost use Rattle.ct_io.specs.Inside.Filling.{Fills};
@@ -35,6 +35,19 @@ fn feed_place(bytes: &[u8]) -> Option<usize>
     bytes.iter().position(|b| *b == LINE_FEED)
 }
 
+// How many line feeds come first.
+fn feeds_first(bytes: &[u8]) -> usize
+    ensures within { result ≤ length bytes.now }
+    ensures feeds { take result bytes.now ≡ replicate result LINE_FEED }
+{
+    for (count, b) in bytes.iter().enumerate() {
+        if *b != LINE_FEED {
+            return count;
+        }
+    }
+    bytes.len()
+}
+
 // These bytes in a vector of their own. Of no bytes nothing is copied, so that an empty line costs little.
 fn copy_of(alloc: Global, bytes: &[u8]) -> Result<Vec<u8>, AllocError>
     ensures { IfOk result (λ copy. copy.items ≡ bytes.now) }
@@ -64,6 +77,17 @@ impl Held {
             bytes: Vec::new(alloc),
             start: 0,
             searched: 0,
+        }
+    }
+
+    /// Drops the line feeds that come first.
+    pub(crate) fn pass_feeds(&mut self)
+        ensures passed { (count : ℕ) × (self.old.bytes ≡ replicate count LINE_FEED ++ self.new.bytes) }
+        ensures kept { self.new.kept ≡ self.old.kept }
+        ensures all_kept { length self.new.bytes ≤ self.new.kept }
+    {
+        if self.searched == 0 {
+            self.start += feeds_first(&self.bytes[self.start..]);
         }
     }
 

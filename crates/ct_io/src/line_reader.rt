@@ -1,7 +1,7 @@
 ghost use Rattle.std.specs.Prelude.{◌≡◌, ◌≢◌, IfErr, ℕ, ◌+◌, ◌<◌, ◌≤◌, ◌⊎◌, ◌↔◌, IsTrue, Option, true, false, [], IfOk, OnOk, OnErr, length, max};
 ghost use Rattle.std.specs.Io.KnownBytes.{IsAtEnd, Keeps};
 ghost use Rattle.ct_io.specs.Faults.{Rose};
-ghost use Rattle.ct_io.specs.Reader.{fresh_reader, given_size, input_of, IfLine, IfNoLine, IsLineThenRead, LosesLine, LosesFirstLine, NeedsNoRead, Takes, lasting_fault};
+ghost use Rattle.ct_io.specs.Reader.{fresh_reader, given_size, input_of, IfLine, IfNoLine, IsLineThenRead, LosesLine, LosesFirstLine, NeedsNoRead, PassesEmptyLines, Takes, lasting_fault};
 ghost use Rattle.ct_lines.specs.Lines.{IsLine};
 
 use crate::intake::Intake;
@@ -63,6 +63,15 @@ impl LineReader {
         ensures same { self.new ≡ self.old }
     {
         self.intake.ended || self.intake.held.line_length().is_some()
+    }
+
+    /// Passes over empty lines that it holds before the next line, without a read: none, where it stays with a fault.
+    pub fn pass_empty_lines(&mut self)
+        ensures { PassesEmptyLines self.old self.new }
+    {
+        if self.fault.is_none() {
+            self.intake.held.pass_feeds();
+        }
     }
 
     /// The next line, without its line feed. A last line without a line feed is a line where it

@@ -1,5 +1,5 @@
 -- The lines of an input: one more byte or line at its front, and what the lines make up.
-use Rattle.std.proofs.Common.{◌≡◌, ◌≢◌, ℕ, Bool, true, false, cond, List, [], ◌∷◌, ◌++◌, inl, inr, refl, sym, subst, ap, ◌∙◌, eqb, append_assoc}
+use Rattle.std.proofs.Common.{◌≡◌, ◌≢◌, ℕ, zero, suc, replicate, Bool, true, false, cond, List, [], ◌∷◌, ◌++◌, inl, inr, refl, sym, subst, ap, ◌∙◌, eqb, append_assoc}
 use Rattle.std.specs.List.{slice_split, onto_first, All}
 use Rattle.std.proofs.lemmas.Bool.{eqb-true, eqb-false, ne_eqb}
 use Rattle.std.proofs.lemmas.List.Elements.{All-nil, All-cons, All-head, All-tail, All-weaker}
@@ -145,3 +145,16 @@ whole_lines-ended (line ∷ lines) tail h t =
     let rest = ended_lines lines ++ tail in
     ap whole_lines (append_assoc (line ++ LINE_FEED ∷ []) (ended_lines lines) tail ∙ append_assoc line (LINE_FEED ∷ []) rest)
     ∙ whole_lines-next line rest (All-head IsLine line lines h) ∙ ap (λ ls. line ∷ ls) (whole_lines-ended lines tail (All-tail IsLine line lines h) t)
+
+-- empty lines that come first, as line feeds and as lines
+pub lines_of-feeds : (count : ℕ) (rest : List ℕ) → lines_of (replicate count LINE_FEED ++ rest) ≡ replicate count [] ++ lines_of rest
+lines_of-feeds zero rest = refl
+lines_of-feeds (suc count) rest = lines_of-feed LINE_FEED (replicate count LINE_FEED ++ rest) refl ∙ ap (λ ls. [] ∷ ls) (lines_of-feeds count rest)
+
+pub ended_lines-feeds : (count : ℕ) → ended_lines (replicate count []) ≡ replicate count LINE_FEED
+ended_lines-feeds zero = refl
+ended_lines-feeds (suc count) = ap (λ bs. LINE_FEED ∷ bs) (ended_lines-feeds count)
+
+pub IsLine-empty : (count : ℕ) → All IsLine (replicate count [])
+IsLine-empty zero = All-nil IsLine
+IsLine-empty (suc count) = All-cons IsLine [] (replicate count []) (All-nil (λ c. c ≢ LINE_FEED)) (IsLine-empty count)
