@@ -1,9 +1,11 @@
 -- The first words of a line tell what it asks for.
-use Rattle.std.proofs.Common.{◌≡◌, ℕ, List, [], ◌∷◌, None, length, take, refl, ap, arith}
+use Rattle.std.proofs.Common.{◌≡◌, ℕ, zero, suc, replicate, List, [], ◌∷◌, ◌++◌, None, length, take, refl, ap, ◌∙◌, arith}
+use Rattle.std.specs.Option.{option_to_list}
 use Rattle.ct_commands.specs.declared.form.TheConstants.{MOST_WORDS}
 use Rattle.ct_text.specs.Line.{words_of}
 use Rattle.ct_commands.specs.Form.{words_form, form_of}
-use Rattle.ct_commands.specs.Command.{open_after, completed_by, opened, asked}
+use Rattle.ct_commands.specs.Command.{open_after, completed_by, opened, asked, completed, open_after_all}
+use Rattle.ct_commands.specs.declared.form.Form.{Form}
 use Rattle.ct_commands.specs.declared.form.Form.TheVariants.{Nothing}
 
 -- more words than the first few change nothing: a line of so many is no form, or a submission without an id
@@ -24,3 +26,13 @@ nothing_asked = refl
 pub idle : (line : List ℕ) → length line ≡ 0 → (open_after None line ≡ None) × (completed_by None line ≡ None)
 idle [] empty = (ap opened nothing_asked, ap asked nothing_asked)
 idle (b ∷ line) empty = absurd (omega arith)
+
+-- no more do several
+pub completed-empty : (count : ℕ) → completed None (replicate count []) ≡ []
+completed-empty zero = refl
+completed-empty (suc count) =
+    ap (λ (form : Form). option_to_list (asked form) ++ completed (opened form) (replicate count [])) nothing_asked ∙ completed-empty count
+
+pub open_after-empty : (count : ℕ) → open_after_all None (replicate count []) ≡ None
+open_after-empty zero = refl
+open_after-empty (suc count) = ap (λ (form : Form). open_after_all (opened form) (replicate count [])) nothing_asked ∙ open_after-empty count

@@ -1,2 +1,2 @@
-mod Forms
+pub mod Forms
 mod Submissions

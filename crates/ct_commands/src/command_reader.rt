@@ -1,7 +1,7 @@
 //! The commands that the lines of an input make, one line after the other.
 
 ghost use Rattle.std.specs.Prelude.{◌≡◌, true, None, OnOk, IfOk};
-ghost use Rattle.std.specs.Option.{option_to_list};
+ghost use Rattle.std.specs.Option.{option_to_list, is_some};
 ghost use Rattle.ct_commands.specs.Command.{open_after, completed_by, cut_off};
 
 use crate::command::Command;
@@ -79,6 +79,13 @@ impl CommandReader {
         ensures { result ≡ None }
     {
         CommandReader { pending: None }
+    }
+
+    /// Whether a submission is open, whose document goes on.
+    pub fn has_open_submission(&self) -> bool
+        ensures { result ≡ is_some self.now }
+    {
+        self.pending.is_some()
     }
 
     /// Takes the next line: the command that it completes, if it completes one. `Err` is want of memory; the submission
