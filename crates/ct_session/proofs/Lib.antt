@@ -5,3 +5,4 @@ pub mod Uniqueness
 pub mod Taking
 pub mod Serving
 pub mod Endings
+mod PassingOver

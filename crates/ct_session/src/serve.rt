@@ -7,7 +7,7 @@ ghost use Rattle.ct_io.specs.Told.{AppendsProperPrefix, WhereTold, IsAboveLimit}
 ghost use Rattle.ct_io.specs.declared.TheConstants.{MAX_INPUT, MAX_READ};
 ghost use Rattle.ct_io.specs.Reader.{Reader};
 ghost use Rattle.ct_session.specs.Inside.Ending.{Ends};
-ghost use Rattle.ct_session.specs.Inside.Serving.{Serves, StepsTo};
+ghost use Rattle.ct_session.specs.Inside.Serving.{PassesOver, Serves, StepsTo};
 ghost use Rattle.ct_session.specs.Inside.State.{PutsLines};
 ghost use Rattle.ct_session.specs.Inside.Writing.{WritesSome, IsReady, BreaksOff, read_fault};
 ghost use Rattle.ct_session.specs.Serve.{WritesRun, WritesRunPrefix, WritesRunProperPrefix, AnswersTaken, AnswersButLastBytes, WritesWholeReplies};
@@ -120,6 +120,15 @@ fn answer_line<K: Sink>(
     }
 }
 
+/// Passes over empty lines that ask for nothing: those that the reader holds before the next line, where no submission is open.
+fn pass_over(reader: &mut LineReader, session: &Session)
+    ensures { PassesOver session.now reader.old reader.new }
+{
+    if !session.has_open_submission() {
+        reader.pass_empty_lines();
+    }
+}
+
 /// Takes the next line, if there is one, and answers the command that it completes. Whatever was served before, it is gone on with, or
 /// the session ends as it is to end.
 fn serve_line<S: Source, K: Sink>(
@@ -136,6 +145,7 @@ fn serve_line<S: Source, K: Sink>(
         → StepsTo result reader.old reader.new session.new gathered.new.items left (S.left source.new) old (K.holds sink.new)
         reads (S.faults source.new) writes (K.faults sink.new) }
 {
+    pass_over(reader, session);
     make_ready(reader, sink, gathered)?;
     match reader.next_line(source) {
         Ok(Some(line)) => {

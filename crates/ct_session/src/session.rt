@@ -1,7 +1,7 @@
 //! A session: its lines are taken one by one, and the replies put to a text.
 
 ghost use Rattle.std.specs.Prelude.{◌≡◌, ◌||◌, Bool, ◌∷◌, [], OnOk, OnErr, IfOk, fold};
-ghost use Rattle.std.specs.Option.{option_to_list};
+ghost use Rattle.std.specs.Option.{option_to_list, is_some};
 ghost use Rattle.ct_commands.specs.Command.{cut_off};
 ghost use Rattle.ct_session.specs.Reply.{pieces_after};
 ghost use Rattle.ct_session.specs.Run.{PutsAnswers};
@@ -76,6 +76,13 @@ impl Session {
             reader: CommandReader::new(),
             refused: false,
         })
+    }
+
+    /// Whether a submission is open, whose document goes on.
+    pub(crate) fn has_open_submission(&self) -> bool
+        ensures { result ≡ is_some self.now.pending }
+    {
+        self.reader.has_open_submission()
     }
 
     /// Takes the next line, and puts the reply to the command that it completes, if it completes one, at the end of the text.

@@ -1,10 +1,12 @@
 //! The texts of replies.
 
-ghost use Rattle.std.specs.Prelude.{◌≡◌, ◌++◌, OnOk, OnErr, IfOk};
+ghost use Rattle.std.specs.Prelude.{◌≡◌, ◌++◌, codes, OnOk, OnErr, IfOk};
+ghost use Rattle.std.specs.Fmt.{decimal};
 ghost use Rattle.std.specs.List.{flat_map};
-ghost use Rattle.ct_ledger.specs.Text.{submit_fault_text, size_text, piece_text};
+ghost use Rattle.ct_text.specs.EntryText.{entry_text};
+ghost use Rattle.ct_text.specs.Growing.{Grows};
+ghost use Rattle.ct_ledger.specs.Text.{size_text, piece_text};
 ghost use Rattle.ct_session.specs.Text.{refusal_text, bounds_text, reply_text, ended, ledger_text};
-ghost use Rattle.ct_session.specs.declared.reply.Refusal.{Refusal};
 
 use crate::reply::{Bounds, Refusal, Reply};
 use ct_ledger::{Piece, submit_refusal, withdraw_refusal};
@@ -14,7 +16,8 @@ use std::alloc::{AllocError, Global};
 
 /// Puts at the end of the text why a command is refused.
 fn put_refusal(alloc: Global, text: &mut Vec<u8>, refusal: &Refusal) -> Result<(), AllocError>
-    ensures { OnOk result (text.new.items ≡ text.old.items ++ refusal_text refusal.now) }
+    ensures ok { OnOk result (text.new.items ≡ text.old.items ++ refusal_text refusal.now) }
+    ensures grown { Grows text.old.items text.new.items }
 {
     match refusal {
         Refusal::CutOff => text.extend_from_slice(b"cut"),
@@ -27,25 +30,43 @@ fn put_refusal(alloc: Global, text: &mut Vec<u8>, refusal: &Refusal) -> Result<(
     }
 }
 
-/// Puts the bounds of an entry at the end of the text.
-fn put_bounds(alloc: Global, text: &mut Vec<u8>, bounds: Bounds) -> Result<(), AllocError>
-    ensures { OnOk result (text.new.items ≡ text.old.items ++ bounds_text bounds) }
+/// Puts an entry and its value at the end of the text.
+fn put_value(alloc: Global, text: &mut Vec<u8>, bounds: Bounds) -> Result<(), AllocError>
+    ensures ok { OnOk result (text.new.items ≡ text.old.items ++ (entry_text bounds.entry ++ codes " = " ++ decimal bounds.lower)) }
+    ensures grown { Grows text.old.items text.new.items }
 {
-    if bounds.lower == bounds.upper {
-        put_entry(alloc, text, bounds.entry)?;
-        text.extend_from_slice(b" = ")?;
-        return put_number(alloc, text, u64::from(bounds.lower));
-    }
+    put_entry(alloc, text, bounds.entry)?;
+    text.extend_from_slice(b" = ")?;
+    put_number(alloc, text, u64::from(bounds.lower))
+}
+
+/// Puts a lower bound and the entry at the end of the text.
+fn put_lower(alloc: Global, text: &mut Vec<u8>, bounds: Bounds) -> Result<(), AllocError>
+    ensures ok { OnOk result (text.new.items ≡ text.old.items ++ (decimal bounds.lower ++ codes " <= " ++ entry_text bounds.entry)) }
+    ensures grown { Grows text.old.items text.new.items }
+{
     put_number(alloc, text, u64::from(bounds.lower))?;
     text.extend_from_slice(b" <= ")?;
-    put_entry(alloc, text, bounds.entry)?;
+    put_entry(alloc, text, bounds.entry)
+}
+
+/// Puts the bounds of an entry at the end of the text.
+fn put_bounds(alloc: Global, text: &mut Vec<u8>, bounds: Bounds) -> Result<(), AllocError>
+    ensures ok { OnOk result (text.new.items ≡ text.old.items ++ bounds_text bounds) }
+    ensures grown { Grows text.old.items text.new.items }
+{
+    if bounds.lower == bounds.upper {
+        return put_value(alloc, text, bounds);
+    }
+    put_lower(alloc, text, bounds)?;
     text.extend_from_slice(b" <= ")?;
     put_number(alloc, text, u64::from(bounds.upper))
 }
 
 /// Puts a size at the end of the text, where there is one.
 fn put_size(alloc: Global, text: &mut Vec<u8>, size: Option<u32>) -> Result<(), AllocError>
-    ensures { OnOk result (text.new.items ≡ text.old.items ++ size_text size) }
+    ensures ok { OnOk result (text.new.items ≡ text.old.items ++ size_text size) }
+    ensures grown { Grows text.old.items text.new.items }
 {
     match size {
         None => Ok(()),
@@ -79,42 +100,80 @@ pub(crate) fn ledger_text(alloc: Global, pieces: &[Piece]) -> Result<Vec<u8>, Al
     Ok(text)
 }
 
+/// Puts a line for the bounds of an entry at the end of the text.
+fn put_line(alloc: Global, text: &mut Vec<u8>, bounds: Bounds) -> Result<(), AllocError>
+    ensures ok { OnOk result (text.new.items ≡ text.old.items ++ ended (bounds_text bounds)) }
+    ensures grown { Grows text.old.items text.new.items }
+{
+    put_bounds(alloc, text, bounds)?;
+    text.push(LINE_FEED)?;
+    Ok(())
+}
+
 /// Puts a line for the bounds of each entry at the end of the text.
 fn put_column(alloc: Global, text: &mut Vec<u8>, column: &[Bounds]) -> Result<(), AllocError>
-    ensures { OnOk result (text.new.items ≡ text.old.items ++ flat_map (λ bounds. ended (bounds_text bounds)) column.now) }
+    ensures ok { OnOk result (text.new.items ≡ text.old.items ++ flat_map (λ bounds. ended (bounds_text bounds)) column.now) }
+    ensures grown { Grows text.old.items text.new.items }
 {
     for bounds in column {
-        put_bounds(alloc, text, *bounds)?;
-        text.push(LINE_FEED)?;
+        put_line(alloc, text, *bounds)?;
     }
     Ok(())
 }
 
-/// Puts the reply at the end of the text.
-#[tactic(auto, unfolding(crate::specs::Text::reply_text))]
-fn put_whole_reply(alloc: Global, text: &mut Vec<u8>, reply: &Reply) -> Result<(), AllocError>
-    ensures { OnOk result (text.new.items ≡ text.old.items ++ reply_text reply.now) }
+/// Puts a line of one word before an id, and what follows it, at the end of the text.
+fn put_accepted(
+    alloc: Global,
+    text: &mut Vec<u8>,
+    id: &[u8],
+    size: Option<u32>,
+) -> Result<(), AllocError>
+    ensures ok { OnOk result (text.new.items ≡ text.old.items ++ ended (codes "accepted " ++ id.now ++ size_text size)) }
+    ensures grown { Grows text.old.items text.new.items }
 {
-    match reply {
-        Reply::Accepted(id, size) => {
-            text.extend_from_slice(b"accepted ")?;
-            text.extend_from_slice(id.text())?;
-            put_size(alloc, text, *size)?;
-        }
-        Reply::Withdrawn(id) => {
-            text.extend_from_slice(b"withdrawn ")?;
-            text.extend_from_slice(id.text())?;
-        }
-        Reply::Shown(bounds) => put_bounds(alloc, text, *bounds)?,
-        Reply::Table(column) => return put_column(alloc, text, column.as_slice()),
-        Reply::Lines(lines) => return text.extend_from_slice(lines.bytes()),
-        Reply::Refused(refusal) => {
-            text.extend_from_slice(b"refused ")?;
-            put_refusal(alloc, text, refusal)?;
-        }
-    }
+    text.extend_from_slice(b"accepted ")?;
+    text.extend_from_slice(id)?;
+    put_size(alloc, text, size)?;
     text.push(LINE_FEED)?;
     Ok(())
+}
+
+/// Puts the line of a withdrawal at the end of the text.
+fn put_withdrawn(text: &mut Vec<u8>, id: &[u8]) -> Result<(), AllocError>
+    ensures ok { OnOk result (text.new.items ≡ text.old.items ++ ended (codes "withdrawn " ++ id.now)) }
+    ensures grown { Grows text.old.items text.new.items }
+{
+    text.extend_from_slice(b"withdrawn ")?;
+    text.extend_from_slice(id)?;
+    text.push(LINE_FEED)?;
+    Ok(())
+}
+
+/// Puts the line of a refusal at the end of the text.
+fn put_refused(alloc: Global, text: &mut Vec<u8>, refusal: &Refusal) -> Result<(), AllocError>
+    ensures ok { OnOk result (text.new.items ≡ text.old.items ++ ended (codes "refused " ++ refusal_text refusal.now)) }
+    ensures grown { Grows text.old.items text.new.items }
+{
+    text.extend_from_slice(b"refused ")?;
+    put_refusal(alloc, text, refusal)?;
+    text.push(LINE_FEED)?;
+    Ok(())
+}
+
+/// Puts the reply at the end of the text. After an `Err`, a part of it may stand there.
+#[tactic(auto, unfolding(crate::specs::Text::reply_text))]
+fn put_lines(alloc: Global, text: &mut Vec<u8>, reply: &Reply) -> Result<(), AllocError>
+    ensures ok { OnOk result (text.new.items ≡ text.old.items ++ reply_text reply.now) }
+    ensures grown { Grows text.old.items text.new.items }
+{
+    match reply {
+        Reply::Accepted(id, size) => put_accepted(alloc, text, id.text(), *size),
+        Reply::Withdrawn(id) => put_withdrawn(text, id.text()),
+        Reply::Shown(bounds) => put_line(alloc, text, *bounds),
+        Reply::Table(column) => put_column(alloc, text, column.as_slice()),
+        Reply::Lines(lines) => text.extend_from_slice(lines.bytes()),
+        Reply::Refused(refusal) => put_refused(alloc, text, refusal),
+    }
 }
 
 /// Puts the reply at the end of the text. After an `Err`, which is want of memory, the text is as before.
@@ -122,7 +181,10 @@ pub(crate) fn put_reply(alloc: Global, text: &mut Vec<u8>, reply: &Reply) -> Res
     ensures ok { OnOk result (text.new.items ≡ text.old.items ++ reply_text reply.now) }
     ensures err { OnErr result (text.new.items ≡ text.old.items) }
 {
-    let mut lines = Vec::new(alloc);
-    put_whole_reply(alloc, &mut lines, reply)?;
-    text.extend_from_slice(&lines)
+    let length = text.len();
+    let put = put_lines(alloc, text, reply);
+    if put.is_err() {
+        text.truncate(length);
+    }
+    put
 }

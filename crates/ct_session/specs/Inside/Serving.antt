@@ -1,9 +1,9 @@
 -- How far the serving of a session has come, and what a step of it comes to.
-use Rattle.std.specs.Prelude.{◌≡◌, ◌≤◌, ◌<◌, ◌-◌, ⊤, ℕ, true, false, List, [], ◌++◌, All, length, Option, Some, None, Result, Ok, Err}
+use Rattle.std.specs.Prelude.{◌≡◌, ◌⊎◌, ◌≤◌, ◌<◌, ◌-◌, ⊤, ℕ, true, false, List, [], ◌++◌, All, length, Option, Some, None, Result, Ok, Err}
 use Rattle.std.specs.Io.KnownBytes.{Appends, Consumes, IsAtEnd}
 use Rattle.ct_lines.specs.Lines.{lines_of, IsLine, ended_lines}
 use Rattle.ct_io.specs.declared.TheConstants.{MAX_INPUT}
-use Rattle.ct_io.specs.Reader.{Reader, input_of}
+use Rattle.ct_io.specs.Reader.{Reader, PassesEmptyLines, input_of}
 use Rattle.ct_session.specs.declared.serve.ServeFault.{ServeFault}
 use Rattle.ct_session.specs.declared.serve.Step.{Step}
 use Rattle.ct_session.specs.declared.serve.Step.TheVariants.{Line, End}
@@ -42,6 +42,10 @@ pub record Serves (r : Reader) (s : State) (gathered : List ℕ) (left now old h
   pub healthy : r.fault ≡ None
   pub read_count : reads ≤ reads'
   pub write_count : writes ≤ writes'
+
+-- empty lines that a reader holds were passed over, where no submission is open; or none were
+abbrev pub PassesOver : State → Reader → Reader → Type 0
+PassesOver s r q = ((s.pending ≡ None) × PassesEmptyLines r q) ⊎ (q ≡ r)
 
 -- so many bytes at most are still to be given out as lines
 abbrev pub unserved : Reader → ℕ

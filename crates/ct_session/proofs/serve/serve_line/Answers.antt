@@ -3,19 +3,21 @@ use Rattle.std.proofs.lemmas.Result.{err_from_is_err_and}
 use Rattle.ct_io.specs.Reader.{Reader}
 use Rattle.ct_session.specs.Inside.Serving.{unserved}
 use Rattle.ct_session.proofs.Serving.{advances, at_end, serves_on, serves_to_end, took_more, within_limit}
+use Rattle.ct_session.proofs.PassingOver.{passed_over, sooner}
 use Rattle.ct_session.proofs.Endings.{Faulted, readied, risen, err_is, ends_unwritten, ends_broken, ends_fault}
 use Rattle.ct_session.proofs.serve.serve_line.Goals as goal
 
 pub returns-in_err-make_ready : goal.returns-in_err-make_ready
 returns-in_err-make_ready g c = λ left old reads writes h.
     let e = c.in_err-make_ready.ensures in
-    let ends = ends_unwritten _ _ _ _ _ _ _ _ _ _ _ _ _ _ h e.prefix e.fault e.failed in
+    let ends = ends_unwritten _ _ _ _ _ _ _ _ _ _ _ _ _ _ (passed_over _ c.pass_over.new.reader _ _ _ _ _ _ _ _ _ _ h c.pass_over.ensures).0 e.prefix e.fault e.failed in
     search rules
 
 pub returns-in-Err : goal.returns-in-Err
 returns-in-Err g c = λ left old reads writes begun.
     let m = c.in_ok-make_ready.ensures in
-    let h = readied _ c.make_ready.new.reader _ _ _ _ _ _ _ _ _ _ _ _ _ begun m.same m.written m.counted in
+    let past = passed_over _ c.pass_over.new.reader _ _ _ _ _ _ _ _ _ _ begun c.pass_over.ensures in
+    let h = readied _ c.make_ready.new.reader _ _ _ _ _ _ _ _ _ _ _ _ _ past.0 m.same m.written m.counted in
     let e = c.in-Err.ensures in
     let faulted : Faulted c.make_ready.new.reader c.next_line.new.self _ _ c.in-Err.fault = record {
       rose = λ is. risen _ _ _ h.healthy (e.read_fault (ap Err is));
@@ -34,7 +36,8 @@ returns-in-Err g c = λ left old reads writes begun.
 pub returns-in_err-answer_line-in-Ok-Some : goal.returns-in_err-answer_line-in-Ok-Some
 returns-in_err-answer_line-in-Ok-Some g c = λ left old reads writes begun.
     let m = c.in_ok-make_ready.ensures in
-    let h = readied _ c.make_ready.new.reader _ _ _ _ _ _ _ _ _ _ _ _ _ begun m.same m.written m.counted in
+    let past = passed_over _ c.pass_over.new.reader _ _ _ _ _ _ _ _ _ _ begun c.pass_over.ensures in
+    let h = readied _ c.make_ready.new.reader _ _ _ _ _ _ _ _ _ _ _ _ _ past.0 m.same m.written m.counted in
     let e = c.in-Ok-Some.ensures in
     let took = took_more _ _ _ _ _ e.taken.0 h.took e.taken.1 e.taken.2 in
     let p = err_from_is_err_and c.from_residual-in_err-answer_line-in-Ok-Some.result c.from_residual-in_err-answer_line-in-Ok-Some.ensures.1 in
@@ -43,7 +46,8 @@ returns-in_err-answer_line-in-Ok-Some g c = λ left old reads writes begun.
 pub returns-in_ok-answer_line-in-Ok-Some : goal.returns-in_ok-answer_line-in-Ok-Some
 returns-in_ok-answer_line-in-Ok-Some g c = λ left old reads writes begun.
     let m = c.in_ok-make_ready.ensures in
-    let h = readied _ c.make_ready.new.reader _ _ _ _ _ _ _ _ _ _ _ _ _ begun m.same m.written m.counted in
+    let past = passed_over _ c.pass_over.new.reader _ _ _ _ _ _ _ _ _ _ begun c.pass_over.ensures in
+    let h = readied _ c.make_ready.new.reader _ _ _ _ _ _ _ _ _ _ _ _ _ past.0 m.same m.written m.counted in
     let e = c.in-Ok-Some.ensures in
     let takes = rw c.in-Ok-Some.field-0-is at e.taken in
     let loses = rw c.in-Ok-Some.field-0-is at e.lines in
@@ -54,13 +58,14 @@ returns-in_ok-answer_line-in-Ok-Some g c = λ left old reads writes begun.
       serves_on _ _ _ _ _ _ _ _ _ _ _ _ _ _ _ _ c.in-Ok-Some.line h loses takes within e.ended
           (at_end g.S.Source.left _ _ c.make_ready.new.reader.ended _ h.ended e.end (λ ended. (e.unread (inr ended)).1))
           e.remembered e.counted a.line,
-      subst (λ (r : Reader). unserved q < unserved r) m.same (advances c.make_ready.new.reader q _ _ _ _ _ _ _ _ _ _ _ c.in-Ok-Some.line h takes within),
+      sooner (unserved q) _ _ (subst (λ (r : Reader). unserved q < unserved r) m.same (advances c.make_ready.new.reader q _ _ _ _ _ _ _ _ _ _ _ c.in-Ok-Some.line h takes within)) past.1,
     )
 
 pub returns-in-Ok-None : goal.returns-in-Ok-None
 returns-in-Ok-None g c = λ left old reads writes begun.
     let m = c.in_ok-make_ready.ensures in
-    let h = readied _ c.make_ready.new.reader _ _ _ _ _ _ _ _ _ _ _ _ _ begun m.same m.written m.counted in
+    let past = passed_over _ c.pass_over.new.reader _ _ _ _ _ _ _ _ _ _ begun c.pass_over.ensures in
+    let h = readied _ c.make_ready.new.reader _ _ _ _ _ _ _ _ _ _ _ _ _ past.0 m.same m.written m.counted in
     let e = c.in-Ok-None.ensures in
     let none = rw c.in-Ok-None.field-0-is at e.none in
     let all = rw c.in-Ok-None.field-0-is at e.read_to_end in
