@@ -10,6 +10,7 @@ use Rattle.ct_files.specs.Evidence.{read_without_limit, read_of, IsSound}
 use Rattle.ct_fields.specs.StatesEntry.{HasWeight, StatesEntry}
 use Rattle.ct_build_files.specs.Operation.{needs_other}
 use Rattle.ct_build_files.specs.BuildDocument.{NamesOther}
+use Rattle.ct_build_files.specs.BuildAnswer.{IsBuildAnswer}
 use Rattle.ct_word_files.specs.WordsDocument.{IsWordsAnswer}
 use Rattle.ct_word_files.specs.CosetsDocument.{IsCosetsAnswer}
 use Rattle.ct_fields.specs.Reads.{Reads}
@@ -19,7 +20,6 @@ use Rattle.ct_evidence.specs.declared.evidence.Evidence.TheVariants.{Words, Cose
 use Rattle.ct_fields.specs.declared.fault.FileFault.{FileFault}
 use Rattle.ct_fields.specs.declared.fault.FileFault.TheVariants.{Memory}
 use Rattle.ct_files.proofs.DocumentAnswers.{BytesAnswer, long, no_table, of_document, DocumentAnswer, words, cosets, build, of_no_kind, bytes_answer, table_answer, without_limit-table, short_or_long, read_of-short, read_of-long}
-use Rattle.ct_build_files.proofs.BuildAnswers.{IsBuildAnswer}
 
 -- a stated weight is one of the table beside the distance
 weight_of_stated : (document : Data) (e : Entry) (w : Option ℕ) → StatesEntry document e → HasWeight document e.n w → WeightFits e w

@@ -1,63 +1,68 @@
 -- The dump of pieces that stand leads to them.
-use Rattle.std.proofs.Common.{◌≡◌, ◌≢◌, ℕ, ◌^◌, ◌<◌, ◌≤◌, nat_le, Bool, true, false, ◌||◌, List, [], ◌∷◌, ◌++◌, map, length, Some, Result, Ok, refl, sym, subst, ap, ◌∙◌, append_assoc, append-nil, length-append, arith, leb-true}
+use Rattle.std.proofs.Common.{◌≡◌, ◌≢◌, ℕ, ◌^◌, ◌<◌, ◌≤◌, Bool, true, false, cond, not, List, [], ◌∷◌, ◌++◌, map, length, Option, Some, None, Result, Ok, Err, refl, sym, subst, ap, ◌∙◌, append_assoc, append-nil, length-append, arith}
 use Rattle.std.proofs.Math.ListN.{get_or-append}
 use Rattle.std.proofs.Math.Seq.{get_or-append_seam}
 use Rattle.std.specs.Prelude.{All, fold}
 use Rattle.std.specs.List.{flat_map, list_any}
 use Rattle.std.specs.Str.{bytes_eq}
-use Rattle.std.proofs.lemmas.List.Elements.{All-head, All-tail}
+use Rattle.std.proofs.lemmas.List.Elements.{All-head, All-tail, All-push, All-filter, All-nil}
 use Rattle.std.proofs.lemmas.List.Splits.{length-slice_split}
 use Rattle.std.proofs.lemmas.List.Sums.{sum_by-append, sum_by-cons, count_by-le-length}
-use Rattle.std.proofs.lemmas.Slice.Eq.{bytes_eq-Decides}
 use Rattle.ct_lines.specs.declared.TheConstants.{LINE_FEED}
 use Rattle.ct_lines.specs.Lines.{lines_of}
 use Rattle.ct_lines.proofs.LinesLemmas.{is_feed, lines_of-next}
+use Rattle.ct_text.specs.Id.{is_id}
 use Rattle.ct_text.specs.declared.gathering.Extent.TheVariants.{Lines}
-use Rattle.ct_files.specs.Evidence.{read_of, read_without_limit}
-use Rattle.ct_fields.specs.Steps.{check}
-use Rattle.ct_evidence.specs.declared.evidence.Evidence.{Evidence}
 use Rattle.ct_fields.specs.declared.document.TheConstants.{MAX_DOCUMENT}
-use Rattle.ct_fields.specs.declared.fault.FileFault.TheVariants.{Bytes}
-use Rattle.ct_fields.proofs.StepLemmas.{bind-ok, check-ok}
+use Rattle.ct_files.specs.Evidence.{read_of}
+use Rattle.ct_files.proofs.DocumentAnswers.{read_of-short}
 use Rattle.ct_commands.specs.Command.{commands_of}
 use Rattle.ct_commands.specs.declared.form.Form.TheVariants.{Submit}
 use Rattle.ct_commands.specs.declared.command.Command.{Command}
 use Rattle.ct_commands.specs.declared.command.Command.TheVariants as command
-use Rattle.ct_ledger.specs.Piece.{PieceValue, has_id, stored_by}
-use Rattle.ct_ledger.specs.Codes.{NamedCode, named_code}
-use Rattle.ct_ledger.specs.Submission.{with_piece}
-use Rattle.ct_ledger.specs.Standing.{AreStanding, IsMade, AreMade}
+use Rattle.ct_ledger.specs.Named.{NamedCode}
+use Rattle.ct_ledger.specs.Piece.{PieceValue, has_id, first_user, stored_by}
+use Rattle.ct_ledger.specs.Codes.{codes_of}
+use Rattle.ct_ledger.specs.Submission.{piece_from, submitted, with_piece}
+use Rattle.ct_ledger.specs.Withdrawal.{without, withdrawn, unless_used, left_by}
+use Rattle.ct_ledger.specs.Standing.{AreStanding, IsMade}
 use Rattle.ct_ledger.specs.Dump.{line_count, piece_dump, dump_text}
 use Rattle.ct_ledger.specs.declared.fault.SubmitFault.{SubmitFault}
+use Rattle.ct_ledger.specs.declared.fault.WithdrawFault.{WithdrawFault}
+use Rattle.ct_ledger.specs.declared.fault.WithdrawFault.TheVariants as withdraw
 use Rattle.ct_ledger.proofs.CodeLemmas.{AreMade-back}
-use Rattle.ct_ledger.proofs.MakingLemmas.{making-of}
-use Rattle.ct_ledger.proofs.StandingLemmas.{WasMade, submitted-from, AreStanding-none}
+use Rattle.ct_ledger.proofs.StandingLemmas.{WasMade, submitted-ok, submitted-from, piece_from-names, piece_from-within}
+use Rattle.ct_ledger.proofs.Accepting.{not_taken}
 use Rattle.ct_session.specs.Reply.{pieces_after, submission_reply, is_refusal}
 use Rattle.ct_session.specs.Run.{AreReplies, AnswersCommands, IsRun, pieces_of}
 use Rattle.ct_session.specs.Text.{reply_text}
 use Rattle.ct_session.specs.declared.reply.Reply.{Reply}
 use Rattle.ct_session.specs.declared.reply.Reply.TheVariants.{Accepted}
-use Rattle.ct_session.proofs.Existence.{AreStanding-fold}
 use Rattle.ct_laws.specs.Acceptance.{acceptance_text}
 use Rattle.ct_laws.proofs.DumpCommands.{submission, nothing}
 use Rattle.ct_laws.proofs.DumpHeadings.{heading, comment, IsLine-heading, IsLine-comment, form_of-heading, form_of-comment}
-use Rattle.ct_laws.proofs.DumpNames.{IsNamed, pieces_of-named}
 
 -- the command that a piece is dumped as
 abbrev pub submission_of : PieceValue → Command
 submission_of p = command.Submission (Some p.id) p.document
 
--- an id that no piece has is not taken
-not_taken : (id : List ℕ) (pieces : List PieceValue) → All (λ (q : PieceValue). q.id ≢ id) pieces → has_id id pieces ≡ false
-not_taken id [] h = refl
-not_taken id (p ∷ pieces) h = at (bytes_eq p.id id) refl (not_taken id pieces (All-tail (λ (q : PieceValue). q.id ≢ id) p pieces h)) where
-  at : (b : Bool) → bytes_eq p.id id ≡ b → has_id id pieces ≡ false → (b || has_id id pieces) ≡ false
-  at true e rest = absurd (All-head (λ (q : PieceValue). q.id ≢ id) p pieces h ((bytes_eq-Decides p.id id).0 e))
-  at false e rest = rest
+-- the documents of the pieces are within the limit on bytes
+abbrev pub AreShort : List PieceValue → Type 0
+AreShort pieces = All (λ (p : PieceValue). length p.document ≤ MAX_DOCUMENT) pieces
+
+AreShort-head : (p : PieceValue) (ps : List PieceValue) → AreShort (p ∷ ps) → length p.document ≤ MAX_DOCUMENT
+AreShort-head p ps h = All-head (λ (q : PieceValue). length q.document ≤ MAX_DOCUMENT) p ps h
+
+AreShort-tail : (p : PieceValue) (ps : List PieceValue) → AreShort (p ∷ ps) → AreShort ps
+AreShort-tail p ps h = All-tail (λ (q : PieceValue). length q.document ≤ MAX_DOCUMENT) p ps h
+
+-- a document within the limit makes what it makes without it
+within-made : (known : List NamedCode) (p : PieceValue) → length p.document ≤ MAX_DOCUMENT → IsMade known p → piece_from known p.id p.document (read_of p.document) ≡ Ok p
+within-made known p short made = ap (piece_from known p.id p.document) (read_of-short p.document short) ∙ made
 
 -- a piece that stands after others is made over them
-made_again : (front : List PieceValue) (p : PieceValue) (back : List PieceValue) → AreStanding (front ++ p ∷ back) → WasMade front p.id p.document p
-made_again front p back h =
+made_again : (front : List PieceValue) (p : PieceValue) (back : List PieceValue) → AreStanding (front ++ p ∷ back) → length p.document ≤ MAX_DOCUMENT → WasMade front p.id p.document p
+made_again front p back h short =
     let all = length-append front (p ∷ back) in
     let stored = sum_by-append stored_by front (p ∷ back) in
     let stored_back = sum_by-cons stored_by p back in
@@ -67,34 +72,25 @@ made_again front p back h =
           (λ k d below same. h.different k (length front) d below within
           (ap (λ (q : PieceValue). q.id) (get_or-append front (p ∷ back) d k below) ∙ same ∙ ap (λ (q : PieceValue). q.id) (sym (get_or-append_seam front p back d))));
       room = omega (arith, all, h.few);
-      made = let own = AreMade-back [] front (p ∷ back) h.made in own.0;
+      made = let own = AreMade-back [] front (p ∷ back) h.made in within-made (codes_of front) p short own.0;
       small = omega (arith, stored, stored_back, h.small);
     }
 
 -- submitting pieces that stand after others brings them back
-brought_back : (front back : List PieceValue) → AreStanding (front ++ back) → fold pieces_after front (map submission_of back) ≡ front ++ back
-brought_back front [] h = sym (append-nil front)
-brought_back front (p ∷ back) h =
-    ap (λ (made : Result PieceValue SubmitFault). fold pieces_after (with_piece front made) (map submission_of back)) (submitted-from front p.id p.document p (made_again front p back h))
-    ∙ brought_back (front ++ p ∷ []) back (subst AreStanding (sym (append_assoc front (p ∷ []) back)) h)
+brought_back : (front back : List PieceValue) → AreStanding (front ++ back) → AreShort back → fold pieces_after front (map submission_of back) ≡ front ++ back
+brought_back front [] h short = sym (append-nil front)
+brought_back front (p ∷ back) h short =
+    ap (λ (made : Result PieceValue SubmitFault). fold pieces_after (with_piece front made) (map submission_of back)) (submitted-from front p.id p.document p (made_again front p back h (AreShort-head p back short)))
+    ∙ brought_back (front ++ p ∷ []) back (subst AreStanding (sym (append_assoc front (p ∷ []) back)) h) (AreShort-tail p back short)
     ∙ append_assoc front (p ∷ []) back
 
--- a document that is read is not too long
-read-short : (document : List ℕ) (evidence : Evidence) → read_of document ≡ Ok evidence → length document ≤ MAX_DOCUMENT
-unfolding read_of
-read-short document evidence h =
-    let fault = Bytes (length document) in
-    let first = bind-ok (check (nat_le (length document) MAX_DOCUMENT) fault) (λ (x : Unit {0}). read_without_limit document) evidence h in
-    leb-true (length document) MAX_DOCUMENT (check-ok (nat_le (length document) MAX_DOCUMENT) fault first.0 first.1)
-
--- nor is one that makes a piece
-made-short : (known : List NamedCode) (p : PieceValue) → IsMade known p → length p.document ≤ MAX_DOCUMENT
-made-short known p h = let m = making-of known p h in read-short p.document m.evidence m.read
+-- the id is an id
+abbrev IsNamed : PieceValue → Type 0
+IsNamed p = is_id p.id ≡ true
 
 -- the dump of a piece is a submission
-piece_dump-command : (known : List NamedCode) (p : PieceValue) (rest : List ℕ) → IsMade known p → IsNamed p → commands_of (lines_of (piece_dump p ++ rest)) ≡ submission_of p ∷ commands_of (lines_of rest)
-piece_dump-command known p rest made named =
-    let short = made-short known p made in
+piece_dump-command : (p : PieceValue) (rest : List ℕ) → length p.document ≤ MAX_DOCUMENT → IsNamed p → commands_of (lines_of (piece_dump p ++ rest)) ≡ submission_of p ∷ commands_of (lines_of rest)
+piece_dump-command p rest short named =
     let feeds = count_by-le-length is_feed p.document in
     let some : 0 < line_count p.document = omega arith in
     let small : line_count p.document < 2 ^ 64 = omega (arith, short, feeds) in
@@ -102,46 +98,38 @@ piece_dump-command known p rest made named =
     (form_of-heading p.id (line_count p.document) named some small ∙ ap (λ k. Submit (Some p.id) (Lines k)) (sym (length-slice_split is_feed p.document)))
 
 -- and those of pieces are theirs
-pieces_dump-commands : (known : List NamedCode) (pieces : List PieceValue) → AreMade known pieces → All IsNamed pieces → commands_of (lines_of (flat_map piece_dump pieces)) ≡ map submission_of pieces
-pieces_dump-commands known [] made named = refl
-pieces_dump-commands known (p ∷ pieces) made named =
-    piece_dump-command known p (flat_map piece_dump pieces) made.0 (All-head IsNamed p pieces named)
-    ∙ ap (λ cs. submission_of p ∷ cs) (pieces_dump-commands (known ++ named_code known p ∷ []) pieces made.1 (All-tail IsNamed p pieces named))
+pieces_dump-commands : (pieces : List PieceValue) → AreShort pieces → All IsNamed pieces → commands_of (lines_of (flat_map piece_dump pieces)) ≡ map submission_of pieces
+pieces_dump-commands [] short named = refl
+pieces_dump-commands (p ∷ pieces) short named =
+    piece_dump-command p (flat_map piece_dump pieces) (AreShort-head p pieces short) (All-head IsNamed p pieces named)
+    ∙ ap (λ cs. submission_of p ∷ cs) (pieces_dump-commands pieces (AreShort-tail p pieces short) (All-tail IsNamed p pieces named))
 
 -- the commands of a dump are the submissions of its pieces
-dump_text-commands : (pieces : List PieceValue) → AreStanding pieces → All IsNamed pieces → commands_of (lines_of (dump_text pieces)) ≡ map submission_of pieces
-dump_text-commands pieces h named =
+dump_text-commands : (pieces : List PieceValue) → AreStanding pieces → AreShort pieces → commands_of (lines_of (dump_text pieces)) ≡ map submission_of pieces
+dump_text-commands pieces h short =
     let small : length pieces < 2 ^ 64 = omega (arith, h.few) in
     let rest = flat_map piece_dump pieces in
     ap (λ t. commands_of (lines_of t)) (append_assoc (comment (length pieces)) (LINE_FEED ∷ []) rest)
     ∙ ap commands_of (lines_of-next (comment (length pieces)) rest (IsLine-comment (length pieces) small))
     ∙ nothing (comment (length pieces)) (lines_of rest) (form_of-comment (length pieces))
-    ∙ pieces_dump-commands [] pieces h.made named
+    ∙ pieces_dump-commands pieces short h.named
 
--- the pieces that an input leads to stand
-stands : (input : List ℕ) → AreStanding (pieces_of input)
-stands input = AreStanding-fold [] (commands_of (lines_of input)) AreStanding-none
-
--- the commands of the dump of these pieces
-dump_of-commands : (input : List ℕ) → commands_of (lines_of (dump_text (pieces_of input))) ≡ map submission_of (pieces_of input)
-dump_of-commands input = dump_text-commands (pieces_of input) (stands input) (pieces_of-named input)
-
--- the dump of the pieces that an input leads to leads to them
-pub dump_leads_back : (input : List ℕ) → pieces_of (dump_text (pieces_of input)) ≡ pieces_of input
-dump_leads_back input = ap (fold pieces_after []) (dump_of-commands input) ∙ brought_back [] (pieces_of input) (stands input)
+-- the dump of pieces that stand leads to them
+pub dump_leads_to : (pieces : List PieceValue) → AreStanding pieces → AreShort pieces → pieces_of (dump_text pieces) ≡ pieces
+dump_leads_to pieces h short = ap (fold pieces_after []) (dump_text-commands pieces h short) ∙ brought_back [] pieces h short
 
 -- the reply to the submission of a piece that is accepted
 abbrev acceptance : PieceValue → Reply
 acceptance p = Accepted p.id p.size
 
 -- submissions of pieces that stand after others are accepted
-accepted_again : (front back : List PieceValue) → AreStanding (front ++ back) → AreReplies front (map submission_of back) (map acceptance back)
-accepted_again front [] h = tt
-accepted_again front (p ∷ back) h =
-    let made = submitted-from front p.id p.document p (made_again front p back h) in (
+accepted_again : (front back : List PieceValue) → AreStanding (front ++ back) → AreShort back → AreReplies front (map submission_of back) (map acceptance back)
+accepted_again front [] h short = tt
+accepted_again front (p ∷ back) h short =
+    let made = submitted-from front p.id p.document p (made_again front p back h (AreShort-head p back short)) in (
       ap (submission_reply p.id) (sym made),
       subst (λ (r : Result PieceValue SubmitFault). AreReplies (with_piece front r) (map submission_of back) (map acceptance back)) (sym made)
-          (accepted_again (front ++ p ∷ []) back (subst AreStanding (sym (append_assoc front (p ∷ []) back)) h)),
+          (accepted_again (front ++ p ∷ []) back (subst AreStanding (sym (append_assoc front (p ∷ []) back)) h) (AreShort-tail p back short)),
     )
 
 -- and no acceptance is a refusal
@@ -154,9 +142,51 @@ texts_of : (pieces : List PieceValue) → flat_map acceptance_text pieces ≡ fl
 texts_of [] = refl
 texts_of (p ∷ pieces) = ap (λ t. acceptance_text p ++ t) (texts_of pieces)
 
--- the dump of the pieces that an input leads to is accepted, piece by piece
-pub dump_is_accepted : (input : List ℕ) → IsRun (dump_text (pieces_of input)) (flat_map acceptance_text (pieces_of input)) false
-dump_is_accepted input =
-    let pieces = pieces_of input in
-    subst (λ (cs : List Command). AnswersCommands [] cs (flat_map acceptance_text pieces) false) (sym (dump_of-commands input))
-    (record { replies = map acceptance pieces; are = accepted_again [] pieces (stands input); texts = texts_of pieces; mark = none_refused pieces })
+-- the dump of pieces that stand is accepted, piece by piece
+pub dump_is_accepted : (pieces : List PieceValue) → AreStanding pieces → AreShort pieces → IsRun (dump_text pieces) (flat_map acceptance_text pieces) false
+dump_is_accepted pieces h short =
+    subst (λ (cs : List Command). AnswersCommands [] cs (flat_map acceptance_text pieces) false) (sym (dump_text-commands pieces h short))
+    (record { replies = map acceptance pieces; are = accepted_again [] pieces h short; texts = texts_of pieces; mark = none_refused pieces })
+
+-- a submission leaves documents within the limit
+with_piece-short : (pieces : List PieceValue) (id document : List ℕ) (made : Result PieceValue SubmitFault) → submitted pieces id document ≡ made → AreShort pieces → AreShort (with_piece pieces made)
+with_piece-short pieces id document (Ok p) is h =
+    let was = submitted-ok pieces id document p is in
+    let short = piece_from-within (codes_of pieces) id document p was.made in
+    All-push (λ (q : PieceValue). length q.document ≤ MAX_DOCUMENT) pieces p h
+    (subst (λ (d : List ℕ). length d ≤ MAX_DOCUMENT) (sym (piece_from-names (codes_of pieces) id document (read_of document) p was.made).1) short)
+with_piece-short pieces id document (Err reason) is h = h
+
+left_by-short : (user : Option PieceValue) (pieces rest : List PieceValue) → AreShort pieces → AreShort rest → AreShort (left_by pieces (unless_used user rest))
+left_by-short None pieces rest h k = k
+left_by-short (Some user) pieces rest h k = h
+
+withdrawn-cases : (b : Bool) (left : Result (List PieceValue) WithdrawFault) (reason : WithdrawFault) (pieces : List PieceValue) → AreShort pieces → AreShort (left_by pieces left)
+    → AreShort (left_by pieces (cond b left (Err reason)))
+withdrawn-cases true left reason pieces h k = k
+withdrawn-cases false left reason pieces h k = h
+
+withdrawn-short : (pieces : List PieceValue) (id : List ℕ) → AreShort pieces → AreShort (left_by pieces (withdrawn pieces id))
+unfolding withdrawn
+withdrawn-short pieces id h =
+    withdrawn-cases (has_id id pieces) (unless_used (first_user id pieces) (without id pieces)) withdraw.NoSuch pieces h
+    (left_by-short (first_user id pieces) pieces (without id pieces) h (All-filter (λ (q : PieceValue). not (bytes_eq q.id id)) (λ (q : PieceValue). length q.document ≤ MAX_DOCUMENT) pieces h))
+
+pieces_after-short : (pieces : List PieceValue) (c : Command) → AreShort pieces → AreShort (pieces_after pieces c)
+pieces_after-short pieces (command.Submission None document) h = h
+pieces_after-short pieces (command.Submission (Some id) document) h = with_piece-short pieces id document (submitted pieces id document) refl h
+pieces_after-short pieces (command.Withdraw id) h = withdrawn-short pieces id h
+pieces_after-short pieces command.CutOff h = h
+pieces_after-short pieces (command.Show numbers) h = h
+pieces_after-short pieces (command.Table numbers) h = h
+pieces_after-short pieces command.Ledger h = h
+pieces_after-short pieces command.Dump h = h
+pieces_after-short pieces command.Unknown h = h
+
+fold-short : (pieces : List PieceValue) (cs : List Command) → AreShort pieces → AreShort (fold pieces_after pieces cs)
+fold-short pieces [] h = h
+fold-short pieces (c ∷ cs) h = fold-short (pieces_after pieces c) cs (pieces_after-short pieces c h)
+
+-- the documents of the pieces that an input leads to are within the limit
+pub pieces_of-short : (input : List ℕ) → AreShort (pieces_of input)
+pieces_of-short input = fold-short [] (commands_of (lines_of input)) (All-nil (λ (q : PieceValue). length q.document ≤ MAX_DOCUMENT))

@@ -2,5 +2,4 @@ mod EqualBounds
 mod Columns
 mod DumpCommands
 mod DumpHeadings
-mod DumpNames
 mod DumpPieces

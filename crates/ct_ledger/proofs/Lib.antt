@@ -10,5 +10,6 @@ pub mod StandingLemmas
 pub mod SupportLemmas
 pub mod KeptLemmas
 pub mod PartLemmas
-mod Accepting
+pub mod Accepting
 mod Refusing
+mod Reaching

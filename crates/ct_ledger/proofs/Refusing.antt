@@ -20,11 +20,14 @@ use Rattle.ct_fields.specs.declared.fault.FileFault.{FileFault}
 use Rattle.ct_files.specs.Evidence.{read_of}
 use Rattle.ct_ledger.specs.Named.{NamedCode, is_known, first_missing, code_named, other_named}
 use Rattle.ct_ledger.specs.Kinds.Build.{build_refusal, step_reason}
-use Rattle.ct_ledger.specs.Kind.{parts_of, own_reason}
-use Rattle.ct_ledger.specs.Piece.{PieceValue, has_id, stored_by, stored_words}
+use Rattle.ct_ledger.specs.Withdrawal.{without, withdrawn, unless_used}
+use Rattle.ct_ledger.specs.declared.fault.WithdrawFault.{WithdrawFault}
+use Rattle.ct_ledger.specs.declared.fault.WithdrawFault.TheVariants as withdraw
+use Rattle.ct_ledger.specs.Kind.{names, parts_of, own_reason}
+use Rattle.ct_ledger.specs.Piece.{PieceValue, has_id, stored_by, stored_words, first_user}
 use Rattle.ct_ledger.specs.Codes.{codes_of}
 use Rattle.ct_ledger.specs.Submission.{piece_of, made_unless, piece_from, stored_beside, unless_full, submitted}
-use Rattle.ct_ledger.specs.Refusals.{HasRoom, IsRead, IsFirstMissing, IsOwnReason, IsRefused}
+use Rattle.ct_ledger.specs.Refusals.{HasRoom, IsRead, IsFirstMissing, IsOwnReason, IsRefused, IsFirstUser, IsNotWithdrawn}
 use Rattle.ct_ledger.specs.declared.limits.TheConstants.{MAX_PIECES, MAX_STORED}
 use Rattle.ct_ledger.specs.declared.fault.SubmitFault.{SubmitFault}
 use Rattle.ct_ledger.specs.declared.fault.SubmitFault.TheVariants.{Taken, FullPieces, File, NoSuch, WrongPart, Code, Build, FullWords, Memory}
@@ -248,3 +251,45 @@ refuses pieces id document (FullWords total) h =
     submitted-read pieces id document h.evidence h.read ∙ ap₂ (judged pieces id document h.evidence) none h.right
     ∙ ap (λ (b : Bool). cond b (Ok p) (Err (FullWords count))) (lt-leb count MAX_STORED above) ∙ ap (λ (n : ℕ). Err (FullWords n)) (sym h.sum)
 refuses pieces id document Memory h = absurd h
+
+-- what a withdrawal leaves, by the first user
+withdrawn-by : (pieces : List PieceValue) (id : List ℕ) (user : Option PieceValue) → has_id id pieces ≡ true → first_user id pieces ≡ user
+    → withdrawn pieces id ≡ unless_used user (without id pieces)
+unfolding withdrawn
+withdrawn-by pieces id user has is =
+    ap (λ (b : Bool). cond b (unless_used (first_user id pieces) (without id pieces)) (Err withdraw.NoSuch)) has
+    ∙ ap (λ (u : Option PieceValue). unless_used u (without id pieces)) is
+
+withdrawn-none : (pieces : List PieceValue) (id : List ℕ) → has_id id pieces ≡ false → withdrawn pieces id ≡ Err withdraw.NoSuch
+unfolding withdrawn
+withdrawn-none pieces id none = ap (λ (b : Bool). cond b (unless_used (first_user id pieces) (without id pieces)) (Err withdraw.NoSuch)) none
+
+same-kept : (pieces : List PieceValue) (id : List ℕ) (first second : WithdrawFault) → ◌≡◌ {A = Result (List PieceValue) WithdrawFault} (Err first) (Err second)
+    → IsNotWithdrawn pieces id first → IsNotWithdrawn pieces id second
+same-kept pieces id first second same h = let is : first ≡ second = cc in subst (IsNotWithdrawn pieces id) is h
+
+first-used : (pieces : List PieceValue) (id : List ℕ) (p : PieceValue) → first_user id pieces ≡ Some p → IsFirstUser pieces id p.id
+first-used pieces id p h =
+    let found = find-found (λ (q : PieceValue). names q.evidence id) pieces p h in
+    record { before = found.before; piece = p; after = found.after; split = found.split; free = found.passed; used = found.found; own = refl }
+
+-- a withdrawal that is refused is refused for its reason
+pub kept-for : (pieces : List PieceValue) (id : List ℕ) (reason : WithdrawFault) → withdrawn pieces id ≡ Err reason → IsNotWithdrawn pieces id reason
+kept-for pieces id reason h = at (has_id id pieces) refl where
+  used : (user : Option PieceValue) → first_user id pieces ≡ user → has_id id pieces ≡ true → IsNotWithdrawn pieces id reason
+  used None is has = let never = sym (withdrawn-by pieces id None has is) ∙ h in absurd cc
+  used (Some p) is has =
+      same-kept pieces id (withdraw.InUse p.id) reason (sym (withdrawn-by pieces id (Some p) has is) ∙ h) ((taken id pieces).0 has, first-used pieces id p is)
+
+  at : (b : Bool) → has_id id pieces ≡ b → IsNotWithdrawn pieces id reason
+  at true has = used (first_user id pieces) refl has
+  at false none = same-kept pieces id withdraw.NoSuch reason (sym (withdrawn-none pieces id none) ∙ h) (has_id-none id pieces none)
+
+-- and each reason that holds refuses
+pub keeps : (pieces : List PieceValue) (id : List ℕ) (reason : WithdrawFault) → IsNotWithdrawn pieces id reason → withdrawn pieces id ≡ Err reason
+keeps pieces id withdraw.NoSuch h = withdrawn-none pieces id (not_taken id pieces h)
+keeps pieces id (withdraw.InUse user) h =
+    let u = h.1 in
+    let is = ap (first_user id) u.split ∙ find-from (λ (q : PieceValue). names q.evidence id) u.before u.after u.piece u.free u.used in
+    withdrawn-by pieces id (Some u.piece) ((taken id pieces).1 h.0) is ∙ ap (λ (i : List ℕ). Err (withdraw.InUse i)) u.own
+keeps pieces id withdraw.Memory h = absurd h

@@ -8,7 +8,7 @@ use Rattle.ct_codes.specs.Code.{IsCodeOf}
 use Rattle.ct_codes.proofs.CheckLemmas.{code_size-le}
 use Rattle.ct_codes.proofs.EntryLemmas.{entry_limits}
 use Rattle.ct_rule_parts.specs.Support.{Stands}
-use Rattle.ct_ledger.specs.KindParts.{size_at}
+use Rattle.ct_ledger.specs.KindParts.{support_from}
 
 -- a code of an entry of the table has at most so many words as the table's greatest bound
 pub code-le : (e : Entry) (words : List ℕ) → IsEntry e → IsCodeOf e words → length words ≤ MAX_BOUND
@@ -18,5 +18,5 @@ code-le e words entry code =
     omega (arith, size, cap)
 
 -- the size of a code stands at its entry
-pub size-stands : (e : Entry) (words : List ℕ) → IsEntry e → 1 ≤ length words → IsCodeOf e words → Stands (size_at e (Some (length words)))
+pub size-stands : (e : Entry) (words : List ℕ) → IsEntry e → 1 ≤ length words → IsCodeOf e words → Stands (support_from e (Some (length words)))
 size-stands e words entry some code = record { entry = entry; range = (some, code-le e words entry code); truth = (words, code, refl) }

@@ -28,6 +28,6 @@ abbrev pub stored_for : KindParts → Option ℕ → ℕ
 stored_for kind size = kind.listed + (if kind.is_stored then unwrap_or size 0 else 0)
 
 -- the size of a code at an entry, where there is one, else nothing
-abbrev pub size_at : Entry → Option ℕ → Support
-size_at e None = Nothing
-size_at e (Some size) = Size e size
+abbrev pub support_from : Entry → Option ℕ → Support
+support_from e None = Nothing
+support_from e (Some size) = Size e size

@@ -1,12 +1,14 @@
--- Why a submission over the pieces that stand is refused, reason by reason: each holds where those before it don't.
-use Rattle.std.specs.Prelude.{◌≡◌, ◌≢◌, ◌<◌, ◌≤◌, ℕ, ◌+◌, List, ◌∷◌, ◌++◌, length, map, All, Contains, Some, None, Ok, Err}
+-- Why a submission or a withdrawal over the pieces that stand is refused, reason by reason: each holds where those before it don't.
+use Rattle.std.specs.Prelude.{◌≡◌, ◌≢◌, ◌<◌, ◌≤◌, ℕ, true, false, ◌+◌, List, ◌∷◌, ◌++◌, length, map, All, Contains, Some, None, Ok, Err}
 use Rattle.ct_evidence.specs.declared.evidence.Evidence.{Evidence}
 use Rattle.ct_files.specs.Evidence.{read_of}
-use Rattle.ct_ledger.specs.Kind.{parts_of, own_reason}
+use Rattle.ct_ledger.specs.Kind.{names, parts_of, own_reason}
 use Rattle.ct_ledger.specs.Piece.{PieceValue, stored_by, stored_words}
 use Rattle.ct_ledger.specs.Codes.{codes_of}
 use Rattle.ct_ledger.specs.Submission.{piece_of}
 use Rattle.ct_ledger.specs.declared.limits.TheConstants.{MAX_PIECES, MAX_STORED}
+use Rattle.ct_ledger.specs.declared.fault.WithdrawFault.{WithdrawFault}
+use Rattle.ct_ledger.specs.declared.fault.WithdrawFault.TheVariants as withdraw
 use Rattle.ct_ledger.specs.declared.fault.SubmitFault.{SubmitFault}
 use Rattle.ct_ledger.specs.declared.fault.SubmitFault.TheVariants.{Taken, FullPieces, File, NoSuch, WrongPart, Code, Build, FullWords, Memory}
 
@@ -66,3 +68,19 @@ IsRefused pieces id document (Code reason) = IsOwnReason pieces id document (Cod
 IsRefused pieces id document (Build reason) = IsOwnReason pieces id document (Build reason)
 IsRefused pieces id document (FullWords total) = IsAboveStored pieces id document total
 IsRefused pieces id document Memory = ⊥
+
+-- the first of the pieces that names the id as a part has this id
+pub record IsFirstUser (pieces : List PieceValue) (id user : List ℕ) : Type 0 where
+  pub before : List PieceValue
+  pub piece : PieceValue
+  pub after : List PieceValue
+  pub split : pieces ≡ before ++ piece ∷ after
+  pub free : All (λ q. names q.evidence id ≡ false) before
+  pub used : names piece.evidence id ≡ true
+  pub own : piece.id ≡ user
+
+-- a withdrawal of the id is refused for this reason: no piece has it, or another piece names it
+abbrev pub IsNotWithdrawn : List PieceValue → List ℕ → WithdrawFault → Type 0
+IsNotWithdrawn pieces id withdraw.NoSuch = All (λ q. q.id ≢ id) pieces
+IsNotWithdrawn pieces id (withdraw.InUse user) = Stands pieces id × IsFirstUser pieces id user
+IsNotWithdrawn pieces id withdraw.Memory = ⊥

@@ -3,7 +3,7 @@
 ghost use Rattle.std.specs.Prelude.{◌≡◌, ◌≢◌, ◌<◌, ◌^◌, [], Some, None, IfOk, IfErr, OnOk, false};
 ghost use Rattle.ct_files.specs.Evidence.{IsSound};
 ghost use Rattle.ct_ledger.specs.Codes.{codes_of};
-ghost use Rattle.ct_ledger.specs.KindParts.{size_at};
+ghost use Rattle.ct_ledger.specs.KindParts.{support_from};
 ghost use Rattle.ct_ledger.specs.Kind.{kind_of, stated_entry, names, has_code, own_reason, size_over};
 ghost use Rattle.ct_ledger.specs.Submission.{evidence_reason};
 ghost use Rattle.ct_ledger.specs.Standing.{AreMade};
@@ -73,13 +73,13 @@ pub(crate) fn gives(evidence: &Evidence, size: Option<u32>) -> Support
     match evidence {
         Evidence::Words { entry, .. }
         | Evidence::Cosets { entry, .. }
-        | Evidence::Build { entry, .. } => size_at(*entry, size),
+        | Evidence::Build { entry, .. } => support_from(*entry, size),
     }
 }
 
 /// The size of a code at an entry, where there is one, else nothing.
-fn size_at(entry: Entry, size: Option<u32>) -> Support
-    ensures { result ≡ size_at entry size }
+fn support_from(entry: Entry, size: Option<u32>) -> Support
+    ensures { result ≡ support_from entry size }
 {
     match size {
         Some(size) => Support::Size { entry, size },

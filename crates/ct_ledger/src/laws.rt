@@ -1,16 +1,29 @@
 //! Facts about every submission.
 
-ghost use Rattle.std.specs.Prelude.{◌≡◌, ◌↔◌, ℕ, ◌≤◌, List, length, Ok, Err, All, Contains, IfSome, IsTrue, map};
-ghost use Rattle.ct_codes.specs.Code.{IsSoundCode};
+ghost use Rattle.std.specs.Prelude.{◌≡◌, ◌↔◌, ℕ, ◌+◌, ◌<◌, ◌≤◌, List, length, Option, Ok, Err, Some, All, Contains, IfSome, IsTrue, map};
+ghost use Rattle.std.specs.List.Sorted.{IsPermutation, IsSorted};
+ghost use Rattle.std.specs.Ordering.{nat_cmp};
+ghost use Rattle.ct_codes.specs.declared.entry.Entry.{Entry};
+ghost use Rattle.ct_build.specs.declared.step.Step.{Step};
+ghost use Rattle.ct_evidence.specs.declared.evidence.Evidence.TheVariants.{Words, Cosets, Build};
+ghost use Rattle.ct_codes.specs.Code.{CodeValue, IsSoundCode};
+ghost use Rattle.ct_codes.specs.declared.claim.Side.TheVariants.{Lower};
 ghost use Rattle.ct_fields.specs.declared.document.TheConstants.{MAX_DOCUMENT};
-ghost use Rattle.ct_ledger.specs.Codes.{codes_of};
+ghost use Rattle.ct_ledger.specs.Codes.{codes_of, code_of_place};
 ghost use Rattle.ct_ledger.specs.Piece.{PieceValue, has_id};
-ghost use Rattle.ct_ledger.specs.Refusals.{IsRefused};
+ghost use Rattle.ct_ledger.specs.Ascending.{ascending};
+ghost use Rattle.ct_ledger.specs.Kind.{kind_of};
+ghost use Rattle.ct_ledger.specs.KindParts.{stored_for};
+ghost use Rattle.ct_ledger.specs.Refusals.{IsRefused, IsNotWithdrawn};
+ghost use Rattle.ct_ledger.specs.Withdrawal.{withdrawn};
+ghost use Rattle.ct_ledger.specs.declared.limits.TheConstants.{MAX_PIECES, MAX_STORED};
+ghost use Rattle.ct_ledger.specs.declared.fault.WithdrawFault.{WithdrawFault};
 ghost use Rattle.ct_ledger.specs.Standing.{AreStanding};
 ghost use Rattle.ct_ledger.specs.Submission.{submitted, IsAccepted};
 ghost use Rattle.ct_ledger.specs.Supports.{supports_of};
 ghost use Rattle.ct_ledger.specs.declared.fault.SubmitFault.{SubmitFault};
 ghost use Rattle.ct_rule_parts.specs.Support.{AllStand};
+ghost use Rattle.ct_rules.specs.Derivation.{IsBest};
 
 /// A submission over pieces that stand makes a piece exactly where its id is free, there is room, each part that its
 /// document names stands and is right, the document states a code of its entry, whose check is within the limit, and the
@@ -32,6 +45,31 @@ pub fn refusals_in_order()
         → (submitted pieces id document ≡ Err reason) ↔ IsRefused pieces id document reason }
 {}
 
+/// Why a withdrawal takes nothing out: no piece has the id; or a piece names it, and then the first that does is told.
+pub fn withdrawals_that_are_refused()
+    ensures { (pieces : List PieceValue) (id : List ℕ) (reason : WithdrawFault)
+        → (withdrawn pieces id ≡ Err reason) ↔ IsNotWithdrawn pieces id reason }
+{}
+
+/// The words that a piece stores, by its kind: those of its document, a basis and representatives among them, and of a build those of
+/// its code. A ledger has at most 1,000 pieces, and they store at most 1,000,000 words.
+pub fn stored_words_by_kind()
+    ensures words { (e : Entry) (words : List ℕ) (size : Option ℕ)
+        → stored_for (kind_of (Words e words)) size ≡ length words }
+    ensures cosets { (e : Entry) (basis representatives : List ℕ) (size : Option ℕ)
+        → stored_for (kind_of (Cosets e basis representatives)) size ≡ length basis + length representatives }
+    ensures build { (e : Entry) (step : Step) (part : List ℕ) (other : Option (List ℕ)) (size : ℕ)
+        → stored_for (kind_of (Build e step part other)) (Some size) ≡ size }
+    ensures pieces { MAX_PIECES ≡ 1000 }
+    ensures limit { MAX_STORED ≡ 1000000 }
+{}
+
+/// Numbers put into ascending order: the same numbers, each as often, and none before a smaller one.
+pub fn ascending_numbers()
+    ensures numbers { (xs : List ℕ) → IsPermutation xs (ascending xs) }
+    ensures order { (xs : List ℕ) → IsSorted nat_cmp (ascending xs) }
+{}
+
 /// The codes of pieces that stand are codes, each of its piece's id, and in the order of the pieces. A piece has one exactly where its
 /// kind has, and its size is then the number of its words.
 pub fn pieces_have_codes()
@@ -42,4 +80,11 @@ pub fn pieces_have_codes()
 /// What pieces that stand give to the table stands: each size is that of a code of its entry, from 1 to `MAX_BOUND`.
 pub fn pieces_give_supports()
     ensures { (pieces : List PieceValue) → AreStanding pieces → AllStand (supports_of pieces) }
+{}
+
+/// The best lower bound of an entry is at least the number of words of each code of it that a standing piece has, of whatever kind.
+pub fn pieces_reach_their_bounds()
+    ensures { (pieces : List PieceValue) (place : ℕ) (c : CodeValue) (v : ℕ) → AreStanding pieces → place < length pieces
+        → code_of_place pieces place ≡ Some c → IsBest (supports_of pieces) (Lower, record { n = c.n; d = c.d; w = c.w }) v
+        → length c.words ≤ v }
 {}

@@ -15,7 +15,9 @@ mod text;
 
 pub use fault::{SubmitFault, WithdrawFault};
 pub use laws::{
-    pieces_give_supports, pieces_have_codes, refusals_in_order, submissions_that_are_accepted,
+    ascending_numbers, pieces_give_supports, pieces_have_codes, pieces_reach_their_bounds,
+    refusals_in_order, stored_words_by_kind, submissions_that_are_accepted,
+    withdrawals_that_are_refused,
 };
 pub use ledger::Ledger;
 pub use limits::{MAX_PIECES, MAX_STORED};

@@ -13,3 +13,4 @@ pub mod Slack
 pub mod Improvements
 pub mod BestValues
 pub mod KnownClaims
+pub mod GivenCodes

@@ -8,6 +8,7 @@ use Rattle.ct_lines.specs.Lines.{lines_of}
 use Rattle.ct_commands.specs.Command.{commands_of}
 use Rattle.ct_commands.specs.declared.command.Command.{Command}
 use Rattle.ct_commands.specs.declared.command.Command.TheVariants as command
+use Rattle.ct_commands.proofs.Naming.{CommandIsNamed, AreNamed, commands_of-named}
 use Rattle.ct_ledger.specs.Piece.{PieceValue}
 use Rattle.ct_ledger.specs.Submission.{submitted}
 use Rattle.ct_ledger.specs.Withdrawal.{withdrawn}
@@ -15,7 +16,7 @@ use Rattle.ct_ledger.specs.Standing.{AreStanding}
 use Rattle.ct_ledger.specs.Dump.{dump_text}
 use Rattle.ct_ledger.proofs.StandingLemmas.{AreStanding-none, AreStanding-submitted, AreStanding-withdrawn}
 use Rattle.ct_session.specs.Reply.{IsReply, IsShowReply, IsTableReply, column, submission_reply, withdrawal_reply, pieces_after, is_refusal}
-use Rattle.ct_session.specs.Run.{AreReplies, AnswersCommands, IsRun}
+use Rattle.ct_session.specs.Run.{AreReplies, AnswersCommands, IsRun, pieces_of}
 use Rattle.ct_session.specs.Text.{reply_text, ledger_text}
 use Rattle.ct_session.specs.declared.reply.Reply.{Reply}
 use Rattle.ct_session.specs.declared.reply.Reply.TheVariants.{Shown, Table, Lines, Refused}
@@ -23,21 +24,25 @@ use Rattle.ct_session.specs.declared.reply.Refusal.TheVariants as refusal
 use Rattle.ct_session.proofs.BoundLemmas.{some_bounds, some_bounds_of_all, column_entries}
 
 -- the pieces after a command stand, where those before it do
-pub AreStanding-after : (pieces : List PieceValue) (c : Command) → AreStanding pieces → AreStanding (pieces_after pieces c)
-AreStanding-after pieces (command.Submission None document) h = h
-AreStanding-after pieces (command.Submission (Some id) document) h = AreStanding-submitted pieces id document (submitted pieces id document) refl h
-AreStanding-after pieces (command.Withdraw id) h = AreStanding-withdrawn pieces id h
-AreStanding-after pieces command.CutOff h = h
-AreStanding-after pieces (command.Show numbers) h = h
-AreStanding-after pieces (command.Table numbers) h = h
-AreStanding-after pieces command.Ledger h = h
-AreStanding-after pieces command.Dump h = h
-AreStanding-after pieces command.Unknown h = h
+pub AreStanding-after : (pieces : List PieceValue) (c : Command) → CommandIsNamed c → AreStanding pieces → AreStanding (pieces_after pieces c)
+AreStanding-after pieces (command.Submission None document) named h = h
+AreStanding-after pieces (command.Submission (Some id) document) named h = AreStanding-submitted pieces id document (submitted pieces id document) named refl h
+AreStanding-after pieces (command.Withdraw id) named h = AreStanding-withdrawn pieces id h
+AreStanding-after pieces command.CutOff named h = h
+AreStanding-after pieces (command.Show numbers) named h = h
+AreStanding-after pieces (command.Table numbers) named h = h
+AreStanding-after pieces command.Ledger named h = h
+AreStanding-after pieces command.Dump named h = h
+AreStanding-after pieces command.Unknown named h = h
 
 -- and so do those after several
-pub AreStanding-fold : (pieces : List PieceValue) (cs : List Command) → AreStanding pieces → AreStanding (fold pieces_after pieces cs)
-AreStanding-fold pieces [] h = h
-AreStanding-fold pieces (c ∷ cs) h = AreStanding-fold (pieces_after pieces c) cs (AreStanding-after pieces c h)
+pub AreStanding-fold : (pieces : List PieceValue) (cs : List Command) → AreNamed cs → AreStanding pieces → AreStanding (fold pieces_after pieces cs)
+AreStanding-fold pieces [] named h = h
+AreStanding-fold pieces (c ∷ cs) named h = AreStanding-fold (pieces_after pieces c) cs named.1 (AreStanding-after pieces c named.0 h)
+
+-- the pieces that an input leads to stand
+pub AreStanding-input : (input : List ℕ) → AreStanding (pieces_of input)
+AreStanding-input input = AreStanding-fold [] (commands_of (lines_of input)) (commands_of-named (lines_of input)) AreStanding-none
 
 named_reply : (pieces : List PieceValue) (e : Entry) (b : Bool) → is_entry e ≡ b → AreStanding pieces → (r : Reply) × IsShowReply pieces (cond b (Some e) None) r
 named_reply pieces e true entry h = let some = some_bounds pieces e h entry in (Shown some.0, record { bounds = some.0; of_entry = some.1; shown = refl })
@@ -62,19 +67,19 @@ some_reply pieces command.Ledger h = (Lines (ledger_text pieces), refl)
 some_reply pieces command.Dump h = (Lines (dump_text pieces), refl)
 some_reply pieces command.Unknown h = (Refused refusal.NoCommand, refl)
 
-some_replies : (pieces : List PieceValue) (cs : List Command) → AreStanding pieces → (rs : List Reply) × AreReplies pieces cs rs
-some_replies pieces [] h = ([], tt)
-some_replies pieces (c ∷ cs) h =
+some_replies : (pieces : List PieceValue) (cs : List Command) → AreNamed cs → AreStanding pieces → (rs : List Reply) × AreReplies pieces cs rs
+some_replies pieces [] named h = ([], tt)
+some_replies pieces (c ∷ cs) named h =
     let first = some_reply pieces c h in
-    let rest = some_replies (pieces_after pieces c) cs (AreStanding-after pieces c h) in
+    let rest = some_replies (pieces_after pieces c) cs named.1 (AreStanding-after pieces c named.0 h) in
     (first.0 ∷ rest.0, (first.1, rest.1))
 
 -- commands have a text that answers them
-pub some_answers : (pieces : List PieceValue) (cs : List Command) → AreStanding pieces → (text : List ℕ) × (refused : Bool) × AnswersCommands pieces cs text refused
-some_answers pieces cs h =
-    let all = some_replies pieces cs h in
+pub some_answers : (pieces : List PieceValue) (cs : List Command) → AreNamed cs → AreStanding pieces → (text : List ℕ) × (refused : Bool) × AnswersCommands pieces cs text refused
+some_answers pieces cs named h =
+    let all = some_replies pieces cs named h in
     (flat_map reply_text all.0, list_any is_refusal all.0, record { replies = all.0; are = all.1; texts = refl; mark = refl })
 
 -- every input has a run
 pub some_run : (input : List ℕ) → (output : List ℕ) × (refused : Bool) × IsRun input output refused
-some_run input = some_answers [] (commands_of (lines_of input)) AreStanding-none
+some_run input = some_answers [] (commands_of (lines_of input)) (commands_of-named (lines_of input)) AreStanding-none

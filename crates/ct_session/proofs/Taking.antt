@@ -8,6 +8,7 @@ use Rattle.ct_lines.specs.Lines.{lines_of}
 use Rattle.ct_commands.specs.Command.{completed, completed_by, open_after, open_after_all, cut_off, commands_of}
 use Rattle.ct_commands.specs.declared.command.Command.{Command}
 use Rattle.ct_commands.specs.declared.command_reader.Pending.{Pending}
+use Rattle.ct_commands.proofs.Naming.{names-append, completed-named, cut_off-named, open_after_all-named}
 use Rattle.ct_ledger.specs.Piece.{PieceValue}
 use Rattle.ct_ledger.proofs.StandingLemmas.{AreStanding-none}
 use Rattle.ct_session.specs.Reply.{pieces_after}
@@ -88,7 +89,8 @@ goes_on s lines rest text h =
     let first = completed None lines in
     let pending = open_after_all None lines in
     let others = completed pending rest ++ cut_off (open_after_all pending rest) in
-    let some = some_answers (fold pieces_after [] first) others (AreStanding-fold [] first AreStanding-none) in
+    let named = names-append (completed pending rest) (cut_off (open_after_all pending rest)) (completed-named pending rest (open_after_all-named None lines tt)) (cut_off-named (open_after_all pending rest)) in
+    let some = some_answers (fold pieces_after [] first) others named (AreStanding-fold [] first (completed-named None lines tt) AreStanding-none) in
     let spelled : commands_of (lines ++ rest) ≡ first ++ others =
     ap (λ (cs : List Command). cs ++ cut_off (open_after_all None (lines ++ rest))) (completed-append None lines rest)
     ∙ ap (λ (p : Option Pending). (first ++ completed pending rest) ++ cut_off p) (open_after_all-append None lines rest)

@@ -18,7 +18,7 @@ use Rattle.ct_evidence.specs.declared.evidence.Evidence.TheVariants.{Build}
 use Rattle.ct_files.specs.Evidence.{IsSound}
 use Rattle.ct_rule_parts.specs.Support.{Stands}
 use Rattle.ct_ledger.specs.Named.{NamedCode, code_named, other_named}
-use Rattle.ct_ledger.specs.KindParts.{size_at}
+use Rattle.ct_ledger.specs.KindParts.{support_from}
 use Rattle.ct_ledger.specs.Kinds.Build.{build_refusal, step_reason, built_over, build_kind, IsBuildChecked}
 use Rattle.ct_ledger.specs.Kind.{own_reason}
 use Rattle.ct_ledger.proofs.Stating.{HasSoundCode, AreSound, option_map-none, StatesCode, SaysSame}
@@ -66,7 +66,7 @@ built-some : (e : Entry) (step : Step) (first beside : Option CodeValue) → IsR
 built-some e step first beside right = ap (λ (o : Option CodeValue). is_some (built_over e step o beside)) right.is
 
 size-gives : (e : Entry) (words : Option (List ℕ)) → IsEntry e → is_some words ≡ true → IfSome words (λ ws. (1 ≤ length ws) × IsCodeOf e ws)
-    → Stands (size_at e (option_map length words))
+    → Stands (support_from e (option_map length words))
 size-gives e None entry some code = absurd cc
 size-gives e (Some words) entry some code = size-stands e words entry code.0 code.1
 

@@ -8,7 +8,7 @@ use Rattle.ct_build.specs.declared.fault.BuildFault.TheVariants as build
 use Rattle.ct_build.specs.declared.step.Step.{Step}
 use Rattle.ct_build.specs.Build.{built, build_fault}
 use Rattle.ct_ledger.specs.Named.{code_named, other_named}
-use Rattle.ct_ledger.specs.KindParts.{KindParts, size_at}
+use Rattle.ct_ledger.specs.KindParts.{KindParts, support_from}
 use Rattle.ct_ledger.specs.declared.fault.SubmitFault.{SubmitFault}
 use Rattle.ct_ledger.specs.declared.fault.SubmitFault.TheVariants as fault
 
@@ -39,7 +39,7 @@ build_kind e step part other = record {
   has_code = true;
   listed = 0;
   is_stored = true;
-  gives = size_at e;
+  gives = support_from e;
 }
 
 -- the step finds nothing against the codes of its parts

@@ -3,7 +3,7 @@ use Rattle.std.specs.Prelude.{◌≤◌, ℕ, ◌+◌, true, false, List, [], le
 use Rattle.ct_codes.specs.declared.entry.Entry.{Entry}
 use Rattle.ct_codes.specs.declared.fault.TheConstants.{MAX_COSET_WORK}
 use Rattle.ct_codes.specs.Coset.{coset_list, coset_fault, coset_work}
-use Rattle.ct_ledger.specs.KindParts.{KindParts, size_at}
+use Rattle.ct_ledger.specs.KindParts.{KindParts, support_from}
 use Rattle.ct_ledger.specs.declared.fault.SubmitFault.TheVariants as fault
 
 -- the code is the words of all choices; the basis and the representatives are stored
@@ -18,7 +18,7 @@ cosets_kind e basis representatives = record {
   has_code = true;
   listed = length basis + length representatives;
   is_stored = false;
-  gives = size_at e;
+  gives = support_from e;
 }
 
 -- the work of the check is within the limit

@@ -2,7 +2,7 @@
 use Rattle.std.specs.Prelude.{ℕ, true, false, List, [], length, Some, option_map, codes}
 use Rattle.ct_codes.specs.declared.entry.Entry.{Entry}
 use Rattle.ct_codes.specs.Check.{code_fault}
-use Rattle.ct_ledger.specs.KindParts.{KindParts, size_at}
+use Rattle.ct_ledger.specs.KindParts.{KindParts, support_from}
 use Rattle.ct_ledger.specs.declared.fault.SubmitFault.TheVariants as fault
 
 -- the code is the words; all of them are stored
@@ -17,5 +17,5 @@ words_kind e words = record {
   has_code = true;
   listed = length words;
   is_stored = false;
-  gives = size_at e;
+  gives = support_from e;
 }

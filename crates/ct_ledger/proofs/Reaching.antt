@@ -1,0 +1,83 @@
+-- The best lower bound of an entry is at least the size of each piece's code of it.
+use Rattle.std.proofs.Common.{◌≡◌, ℕ, ◌<◌, ◌≤◌, Bool, true, List, [], ◌∷◌, length, take, get_or, Option, Some, None, is_some, option_map, refl, sym, ap, subst, ◌∙◌, arith}
+use Rattle.std.specs.Prelude.{IfSome}
+use Rattle.std.proofs.lemmas.Option.{slice_get-map, slice_get-get_or}
+use Rattle.std.proofs.lemmas.List.Sorted.{length_permutation}
+use Rattle.ct_words.specs.declared.limits.TheConstants.{MAX_BOUND}
+use Rattle.ct_codes.specs.declared.entry.Entry.{Entry}
+use Rattle.ct_codes.specs.declared.claim.Side.TheVariants.{Lower}
+use Rattle.ct_codes.specs.Code.{CodeValue, IsCodeOf}
+use Rattle.ct_codes.specs.Entry.{IsEntry}
+use Rattle.ct_rule_parts.specs.declared.support.Support.TheVariants.{Size}
+use Rattle.ct_rules.specs.Derivation.{IsBest}
+use Rattle.ct_rules.proofs.GivenCodes.{support-derived}
+use Rattle.ct_evidence.specs.declared.evidence.Evidence.{Evidence}
+use Rattle.ct_evidence.specs.declared.evidence.Evidence.TheVariants.{Words, Cosets, Build}
+use Rattle.ct_ledger.specs.Ascending.{ascending}
+use Rattle.ct_ledger.specs.Kind.{kind_of, stated_entry, has_code, words_over}
+use Rattle.ct_ledger.specs.Piece.{PieceValue}
+use Rattle.ct_ledger.specs.Codes.{code_at, codes_of, code_of_place}
+use Rattle.ct_ledger.specs.Supports.{support_of, supports_of}
+use Rattle.ct_ledger.specs.Standing.{AreStanding}
+use Rattle.ct_ledger.proofs.AscendingLemmas.{ascending-moved}
+use Rattle.ct_ledger.proofs.SizeLemmas.{code-le}
+use Rattle.ct_ledger.proofs.PartLemmas.{IsPlaced, placed}
+
+-- what a piece of a kind that has a code gives, which has a size
+gives-size : (evidence : Evidence) (k : ℕ) → (kind_of evidence).gives (Some k) ≡ Size (stated_entry evidence) k
+gives-size (Words e words) k = refl
+gives-size (Cosets e basis representatives) k = refl
+gives-size (Build e step part other) k = refl
+
+-- the size and the words of a code that was made of words
+record IsMadeOf (e : Entry) (words : Option (List ℕ)) (c : CodeValue) : Type 0 where
+  entry : e ≡ record { n = c.n; d = c.d; w = c.w }
+  size : option_map length words ≡ Some (length c.words)
+  most : length c.words ≤ MAX_BOUND
+
+made-of : (e : Entry) (words : Option (List ℕ)) (c : CodeValue) → IsEntry e → IfSome words (λ ws. (1 ≤ length ws) × IsCodeOf e ws) → option_map (code_at e) words ≡ Some c → IsMadeOf e words c
+made-of e None c entry code is = absurd cc
+made-of e (Some words) c entry code is =
+    let same : code_at e words ≡ c = cc in
+    let long = length_permutation words (ascending words) (ascending-moved words) in
+    let size : length words ≡ length c.words = sym long ∙ ap (λ (d : CodeValue). length d.words) same in
+    let most = code-le e words entry code.1 in
+    record {
+      entry = ap (λ (d : CodeValue). record { n = d.n; d = d.d; w = d.w }) same;
+      size = ap Some size;
+      most = omega (arith, size, most);
+    }
+
+some-words : (words : Option (List ℕ)) (d : CodeValue) → option_map length words ≡ Some (length d.words) → is_some words ≡ true
+some-words None d none = absurd cc
+some-words (Some ws) d some = refl
+
+-- the support of a piece that has this code
+place-support : (ps : List PieceValue) (k : ℕ) (p : PieceValue) (c : CodeValue) → IsPlaced ps k p → code_of_place ps k ≡ Some c
+    → (support_of p ≡ Size (record { n = c.n; d = c.d; w = c.w }) (length c.words)) × (length c.words ≤ MAX_BOUND) × IsEntry (record { n = c.n; d = c.d; w = c.w })
+place-support ps k p c at is =
+    let known = codes_of (take k ps) in
+    let e = stated_entry p.evidence in
+    let words = words_over known p.evidence in
+    let made = made-of e words c at.states.entry at.states.code (sym at.code ∙ is) in
+    let coded : has_code p.evidence ≡ true = sym at.states.coded ∙ some-words words c made.size in
+    let size : p.size ≡ Some (length c.words) = at.size ∙ at.states.size coded ∙ made.size in (
+      ap (kind_of p.evidence).gives size ∙ gives-size p.evidence (length c.words) ∙ ap (λ (f : Entry). Size f (length c.words)) made.entry,
+      made.most,
+      subst IsEntry made.entry at.states.entry,
+    )
+
+Some-same : (p q : PieceValue) → ◌≡◌ {A = Option PieceValue} (Some p) (Some q) → p ≡ q
+Some-same p q is = cc
+
+-- the best lower bound of its entry is no less
+pub reached : (ps : List PieceValue) (k : ℕ) (c : CodeValue) (v : ℕ) → AreStanding ps → k < length ps → code_of_place ps k ≡ Some c
+    → IsBest (supports_of ps) (Lower, record { n = c.n; d = c.d; w = c.w }) v → length c.words ≤ v
+reached [] k c v h below is best = absurd (omega arith)
+reached (q ∷ qs) k c v h below is best =
+    let ps = q ∷ qs in
+    let p = get_or ps k q in
+    let read = slice_get-get_or ps k q below in
+    let found = place-support ps k p c (placed ps k p h.made below (Some-same p (get_or ps k p) (sym read ∙ slice_get-get_or ps k p below))) is in
+    let at = slice_get-map support_of ps k ∙ ap (option_map support_of) read ∙ ap Some found.0 in
+    best.none_better (length c.words) (support-derived (supports_of ps) k (record { n = c.n; d = c.d; w = c.w }) (length c.words) found.2 found.1 at)
