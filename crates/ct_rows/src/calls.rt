@@ -9,7 +9,7 @@ use std::cell::Cell;
 use std::io;
 
 /// A source of five bytes at a time, which notes at each read how many bytes had been written before it.
-#[derive(Debug, Drop)]
+#[derive(Drop)]
 struct NotingSource<'a> {
     bytes: &'a [u8],
     written: &'a Cell<usize>,
@@ -36,7 +36,7 @@ impl Source for NotingSource<'_> {
 }
 
 /// A sink that counts its bytes.
-#[derive(Debug, Drop)]
+#[derive(Drop)]
 struct CountingSink<'a> {
     written: &'a Cell<usize>,
 }

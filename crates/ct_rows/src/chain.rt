@@ -1,4 +1,4 @@
-//! The codes of pieces, as a ledger makes them.
+//! The codes of pieces, as a ledger makes them, and how many words it stores.
 
 use crate::tally::Tally;
 use ct_ledger::Ledger;
@@ -6,52 +6,67 @@ use ct_text::Id;
 use std::alloc::{AllocError, Global};
 use std::io;
 
-// Documents, the lengths, distances and weights of their codes, and their words in ascending order.
-type Code<'a> = (&'a str, u32, u32, Option<u32>, &'a [u32]);
+/// A document, and what is known of it.
+#[derive(Clone, Copy)]
+struct Document<'a> {
+    text: &'a str,
+    /// How many words it stores.
+    stored: u64,
+    /// The length, the distance and the weight of its code.
+    entry: (u32, u32, Option<u32>),
+    /// The words of its code, in ascending order.
+    words: &'a [u32],
+}
 
-const CODES: [Code<'static>; 3] = [
-    (
-        "kind='words'\nn=6\nd=4\nwords=['111100','000000','001111']",
-        6,
-        4,
-        None,
-        &[0, 15, 60],
-    ),
-    (
-        "kind='words'\nn=6\nd=4\nw=3\nwords=['110001','000111','101010','011100']",
-        6,
-        4,
-        Some(3),
-        &[7, 28, 42, 49],
-    ),
-    (
-        "kind='cosets'\nn=6\nd=3\nbasis=['100011','010101','001110']\nrepresentatives=['000000']",
-        6,
-        3,
-        None,
-        &[0, 14, 21, 27, 35, 45, 54, 56],
-    ),
+const DOCUMENTS: [Document<'static>; 4] = [
+    Document {
+        text: "kind='words'\nn=6\nd=4\nwords=['111100','000000','001111']",
+        stored: 3,
+        entry: (6, 4, None),
+        words: &[0, 15, 60],
+    },
+    Document {
+        text: "kind='words'\nn=6\nd=4\nw=3\nwords=['110001','000111','101010','011100']",
+        stored: 4,
+        entry: (6, 4, Some(3)),
+        words: &[7, 28, 42, 49],
+    },
+    // The words of a basis and of the representatives are stored, and not those of the code.
+    Document {
+        text: "kind='cosets'\nn=6\nd=3\nbasis=['100011','010101','001110']\nrepresentatives=['000000']",
+        stored: 4,
+        entry: (6, 3, None),
+        words: &[0, 14, 21, 27, 35, 45, 54, 56],
+    },
+    // The words of the code are stored. The part is the first document.
+    Document {
+        text: "kind='build'\nop='lengthen'\nn=7\nd=4\npart='p0'",
+        stored: 3,
+        entry: (7, 4, None),
+        words: &[0, 30, 120],
+    },
 ];
 
-/// Whether the document is accepted under the id, as the piece at the place, and its code is this one.
-fn has_code(
+/// Whether the document is accepted under the id, at the end of the pieces, its code is the one that is known, and so many words
+/// more are stored.
+fn is_as_known(
     alloc: Global,
     ledger: &mut Ledger,
-    place: usize,
     id: &str,
-    code: Code<'_>,
+    known: Document<'_>,
 ) -> Result<bool, AllocError> {
-    let (document, n, d, w, words) = code;
     let Some(id) = Id::parse(id.as_bytes()) else {
         return Ok(false);
     };
-    let is_accepted = ledger.submit(id, document.as_bytes()).is_ok();
+    let stored = ledger.stored().saturating_add(known.stored);
+    let is_accepted = ledger.submit(id, known.text.as_bytes()).is_ok();
     let count = ledger.pieces().len();
-    if !is_accepted || place >= count || place != count - 1 {
+    if !is_accepted || count == 0 {
         return Ok(false);
     }
-    let code = ledger.code(alloc, place)?;
-    Ok((code.n(), code.d(), code.w()) == (n, d, w) && code.words() == words)
+    let code = ledger.code(alloc, count - 1)?;
+    let entry = (code.n(), code.d(), code.w());
+    Ok(ledger.stored() == stored && entry == known.entry && code.words() == known.words)
 }
 
 /// The document of a build over that of id `before`, the one after so many others, and its length: the words of length 3, 6
@@ -77,23 +92,26 @@ fn doubled_or_punctured(
 
 /// Whether each code of a chain of builds is the two words that it should be. Of the forty builds 30 name the one before them
 /// twice: made anew wherever it is named, the first code would be made more than a thousand million times for the last.
-fn chain_has_its_codes(alloc: Global) -> Result<bool, AllocError> {
+fn chain_is_as_known(alloc: Global) -> Result<bool, AllocError> {
     let mut ledger = Ledger::new(alloc)?;
-    let first = (
-        "kind='words'\nn=3\nd=3\nwords=['000','111']",
-        3,
-        3,
-        None,
-        [0, 7].as_slice(),
-    );
-    let mut is_met = has_code(alloc, &mut ledger, 0, "c0", first)?;
+    let first = Document {
+        text: "kind='words'\nn=3\nd=3\nwords=['000','111']",
+        stored: 2,
+        entry: (3, 3, None),
+        words: &[0, 7],
+    };
+    let mut is_met = is_as_known(alloc, &mut ledger, "c0", first)?;
     for count in 0..40u32 {
         let before = format!(in alloc; "c{count}")?;
         let id = format!(in alloc; "c{}", count + 1)?;
         let (document, n) = doubled_or_punctured(alloc, count, &before)?;
-        let words = [0, 1u32.wrapping_shl(n).wrapping_sub(1)];
-        let code = (document.as_str(), n, n, None, words.as_slice());
-        is_met &= has_code(alloc, &mut ledger, count as usize + 1, &id, code)?;
+        let known = Document {
+            text: &document,
+            stored: 2,
+            entry: (n, n, None),
+            words: &[0, 1u32.wrapping_shl(n).wrapping_sub(1)],
+        };
+        is_met &= is_as_known(alloc, &mut ledger, &id, known)?;
     }
     Ok(is_met)
 }
@@ -101,10 +119,12 @@ fn chain_has_its_codes(alloc: Global) -> Result<bool, AllocError> {
 /// Counts a row for each document above, and one for a chain of builds.
 pub fn run_all(rt: &(impl Print + AllocGlobal), tally: &mut Tally) -> io::Result<()> {
     let alloc = rt.alloc();
-    for code in CODES {
-        let is_met = has_code(alloc, &mut Ledger::new(alloc)?, 0, "a", code)?;
-        tally.count(rt, "the code of a document", is_met, code.0)?;
+    let mut ledger = Ledger::new(alloc)?;
+    for (number, known) in DOCUMENTS.into_iter().enumerate() {
+        let id = format!(in alloc; "p{number}")?;
+        let is_met = is_as_known(alloc, &mut ledger, &id, known)?;
+        tally.count(rt, "the code of a document", is_met, known.text)?;
     }
-    let is_met = chain_has_its_codes(alloc)?;
+    let is_met = chain_is_as_known(alloc)?;
     tally.count(rt, "the codes of a chain of builds", is_met, "other codes")
 }

@@ -1,66 +1,24 @@
-//! A row: an input, and what the program is known to do with it.
+//! A row: an input, and what the program is known to do with it. The head of `rows.toml` says what stands at the keys of its table.
 
+use crate::fields::{list, number, numbers, text, texts};
 use ct_io::{MemSink, MemSource};
 use ct_run::{Status, run};
-use serde::Deserialize;
 use std::alloc::{AllocError, Global};
+use std::rt::Files;
+use std::{fs, io};
+use toml::Value;
 
-/// The file of the rows.
-#[derive(Debug, Drop, Deserialize)]
-#[serde(deny_unknown_fields)]
-pub struct File {
-    /// The parts that rows come after.
-    pub part: Vec<Part>,
-    /// The rows, in their order.
-    pub row: Vec<Row>,
-}
-
-/// An input and its output, which come before those of a row.
-#[derive(Debug, Drop, Deserialize)]
-#[serde(deny_unknown_fields)]
-pub struct Part {
-    /// What rows call it.
-    pub name: String,
-    /// The input.
-    pub input: String,
-    /// The output.
-    pub output: String,
-}
-
-/// An input, and what the program is known to do with it.
-#[derive(Debug, Drop, Deserialize)]
-#[serde(deny_unknown_fields)]
-pub struct Row {
-    /// What it is about.
-    pub name: String,
-    /// The words of the command line after the program's name: `session`, where none are given.
-    pub words: Option<Vec<String>>,
-    /// The names of the parts that it comes after.
-    #[serde(default)]
-    pub after: Vec<String>,
+/// An input and the output that is known of it.
+#[derive(Drop)]
+pub struct Known {
     /// The input. Each U+FFFD in it stands for the byte 255, which is no UTF-8.
     pub input: String,
-    /// The program is run once for each of these numbers, the most bytes that a read gives: for 1, 7 and 4096, where none are given.
-    #[serde(default)]
-    pub reads: Vec<usize>,
-    /// The most bytes that a write takes: 65,536, where none is given.
-    pub writes: Option<usize>,
-    /// The numbers of the reads that fail. The first read has the number 0.
-    #[serde(default)]
-    pub failing_reads: Vec<u32>,
-    /// The numbers of the writes that fail.
-    #[serde(default)]
-    pub failing_writes: Vec<u32>,
-    /// The name of the status.
-    pub status: String,
     /// The output.
     pub output: String,
-    /// How often the input is read, where that is known.
-    pub read_calls: Option<u32>,
 }
 
 /// What the program did with an input.
-#[derive(Debug, Drop)]
+#[derive(Drop)]
 pub struct Outcome {
     /// How it ended.
     pub status: Status,
@@ -70,118 +28,137 @@ pub struct Outcome {
     pub read_calls: u32,
 }
 
-impl Row {
-    /// A session that is read in large pieces and ends without a refusal.
-    pub fn done(
-        alloc: Global,
-        name: &str,
-        input: String,
-        output: String,
-    ) -> Result<Row, AllocError> {
-        Row::session(alloc, name, input, "Done", output)
+/// Puts the text at the key, and that of the file that the other key names, to the end of what is known.
+fn put_text(
+    rt: &(impl Files + AllocGlobal),
+    end: &mut String,
+    table: &Value,
+    key: &str,
+    file_key: &str,
+) -> io::Result<()> {
+    end.push_str(text(table, key))?;
+    let file = text(table, file_key);
+    if !file.is_empty() {
+        end.push_str(&fs::read_to_string(rt, file)?)?;
+    }
+    Ok(())
+}
+
+impl Known {
+    /// Nothing yet.
+    fn nothing(alloc: Global) -> Known {
+        Known {
+            input: String::new(alloc),
+            output: String::new(alloc),
+        }
     }
 
-    /// The same, and some reply is a refusal.
-    pub fn refused(
-        alloc: Global,
-        name: &str,
-        input: String,
-        output: String,
-    ) -> Result<Row, AllocError> {
-        Row::session(alloc, name, input, "Refused", output)
+    /// Puts the input and the output of a part or a row to its end, the input as often as it says.
+    fn put(&mut self, rt: &(impl Files + AllocGlobal), table: &Value) -> io::Result<()> {
+        for _ in 0..number(table, "times").unwrap_or(1) {
+            put_text(rt, &mut self.input, table, "input", "input_file")?;
+        }
+        put_text(rt, &mut self.output, table, "output", "output_file")
     }
 
-    /// A session that is read in large pieces.
-    pub fn session(
-        alloc: Global,
+    /// Puts those of the parts of this name to its end.
+    fn put_parts(
+        &mut self,
+        rt: &(impl Files + AllocGlobal),
+        parts: &[Value],
         name: &str,
-        input: String,
-        status: &str,
-        output: String,
-    ) -> Result<Row, AllocError> {
-        Ok(Row {
-            name: name.to_string(alloc)?,
-            words: None,
-            after: Vec::new(alloc),
-            input,
-            reads: vec![in alloc; 65_536]?,
-            writes: None,
-            failing_reads: Vec::new(alloc),
-            failing_writes: Vec::new(alloc),
-            status: status.to_string(alloc)?,
-            output,
-            read_calls: None,
-        })
-    }
-
-    /// The row with the input and the output of each part that it comes after before its own.
-    pub fn after_parts(mut self, alloc: Global, parts: &[Part]) -> Result<Row, AllocError> {
-        let mut input = String::new(alloc);
-        let mut output = String::new(alloc);
+    ) -> io::Result<()> {
         for part in parts {
-            if self.after.contains(&part.name) {
-                input.push_str(&part.input)?;
-                output.push_str(&part.output)?;
+            if text(part, "name") == name {
+                self.put(rt, part)?;
             }
         }
-        input.push_str(&self.input)?;
-        output.push_str(&self.output)?;
-        self.input = input;
-        self.output = output;
-        Ok(self)
+        Ok(())
     }
+}
 
-    /// What the program does with the input, where a read gives at most so many bytes.
-    pub fn outcome(&self, alloc: Global, read: usize) -> Result<Outcome, AllocError> {
-        let session = [String::from_str(alloc, "session")?];
-        let words = match &self.words {
-            Some(words) => words.as_slice(),
-            None => session.as_slice(),
-        };
-        let failing_reads = self.failing_reads.to_vec(alloc)?;
-        let mut source = MemSource::new(bytes_of(alloc, &self.input)?, failing_reads, read.max(1));
-        let failing_writes = self.failing_writes.to_vec(alloc)?;
-        let write = self.writes.unwrap_or(65_536).max(1);
-        let mut sink = MemSink::new(alloc, 65_536, failing_writes, write)?;
-        let status = run(alloc, words, &mut source, &mut sink);
-        Ok(Outcome {
-            status,
-            output: sink.bytes.to_vec(alloc)?,
-            read_calls: source.calls,
-        })
-    }
-
-    /// The most bytes that a read gives, for each run.
-    pub fn sizes(&self) -> &[usize] {
-        if self.reads.is_empty() {
-            &[1, 7, 4096]
-        } else {
-            &self.reads
+/// The input and the output of the row, those of the parts that it comes after before its own.
+pub fn what_is_known(
+    rt: &(impl Files + AllocGlobal),
+    parts: &[Value],
+    row: &Value,
+) -> io::Result<Known> {
+    let mut known = Known::nothing(rt.alloc());
+    for name in list(row, "after") {
+        if let Value::String(name) = name {
+            known.put_parts(rt, parts, name.as_str())?;
         }
     }
+    known.put(rt, row)?;
+    Ok(known)
+}
 
-    /// What the program does with the input, where a read gives at most so many bytes, if that is not what is known.
-    pub fn difference(&self, alloc: Global, read: usize) -> Result<Option<String>, AllocError> {
-        let Outcome {
-            status,
-            output,
-            read_calls,
-        } = self.outcome(alloc, read)?;
-        let status = format!(in alloc; "{status:?}")?;
-        let is_read_as_known = match self.read_calls {
-            Some(known) => known == read_calls,
-            None => true,
-        };
-        if is_read_as_known
-            && status == self.status
-            && output.as_slice() == self.output.as_bytes()
-        {
-            return Ok(None);
-        }
-        let output = str::from_utf8(&output).unwrap_or("no text");
-        let came = format!(in alloc; "{status} after {read_calls} reads of {read}, and\n{output}")?;
-        Ok(Some(came))
+/// The most bytes that a read gives, for each run.
+pub fn sizes(alloc: Global, row: &Value) -> Result<Vec<u32>, AllocError> {
+    let sizes = numbers(alloc, row, "reads")?;
+    if sizes.is_empty() {
+        return Ok(vec![in alloc; 1, 7, 4096]?);
     }
+    Ok(sizes)
+}
+
+/// The words of the command line after the program's name.
+fn command_line(alloc: Global, row: &Value) -> Result<Vec<String>, AllocError> {
+    if row.get("words").is_some() {
+        return texts(alloc, row, "words");
+    }
+    let mut words = Vec::new(alloc);
+    words.push("session".to_string(alloc)?)?;
+    Ok(words)
+}
+
+/// A source of the input, which gives at most so many bytes at a read.
+fn source(alloc: Global, row: &Value, input: &str, read: u32) -> Result<MemSource, AllocError> {
+    let failing = numbers(alloc, row, "failing_reads")?;
+    let read = (read as usize).max(1);
+    Ok(MemSource::new(bytes_of(alloc, input)?, failing, read))
+}
+
+/// A sink for the output.
+fn sink(alloc: Global, row: &Value) -> Result<MemSink, AllocError> {
+    let failing = numbers(alloc, row, "failing_writes")?;
+    let write = number(row, "writes").unwrap_or(65_536).max(1);
+    MemSink::new(alloc, 262_144, failing, write)
+}
+
+/// What the program does with the input, where a read gives at most so many bytes.
+fn run_on(alloc: Global, row: &Value, input: &str, read: u32) -> Result<Outcome, AllocError> {
+    let words = command_line(alloc, row)?;
+    let mut source = source(alloc, row, input, read)?;
+    let mut sink = sink(alloc, row)?;
+    let status = run(alloc, &words, &mut source, &mut sink);
+    Ok(Outcome {
+        status,
+        output: sink.bytes.to_vec(alloc)?,
+        read_calls: source.calls,
+    })
+}
+
+/// What the program does with the input, where a read gives at most so many bytes, if that is not what is known.
+pub fn difference(
+    alloc: Global,
+    row: &Value,
+    known: &Known,
+    read: u32,
+) -> Result<Option<String>, AllocError> {
+    let outcome = run_on(alloc, row, &known.input, read)?;
+    let status = format!(in alloc; "{:?}", outcome.status)?;
+    let calls = outcome.read_calls;
+    let is_read_as_known = number(row, "read_calls").unwrap_or(calls as usize) == calls as usize;
+    if is_read_as_known
+        && status.as_str() == text(row, "status")
+        && outcome.output.as_slice() == known.output.as_bytes()
+    {
+        return Ok(None);
+    }
+    let output = str::from_utf8(&outcome.output).unwrap_or("no text");
+    let came = format!(in alloc; "{status} after {calls} reads of {read}, and\n{output}")?;
+    Ok(Some(came))
 }
 
 /// The bytes of the text, and the byte 255 for each U+FFFD in it.

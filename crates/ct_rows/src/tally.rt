@@ -1,10 +1,13 @@
 //! Counting the rows.
 
-use crate::row::Row;
+use crate::fields::{are_known, text};
+use crate::row::{difference, sizes, what_is_known};
 use std::io;
+use std::rt::Files;
+use toml::Value;
 
 /// How many rows there were, and how many of them came out otherwise.
-#[derive(Clone, Copy, Debug, Default)]
+#[derive(Clone, Copy, Default)]
 pub struct Tally {
     /// How many rows there were.
     pub rows: u32,
@@ -29,12 +32,24 @@ impl Tally {
         Ok(())
     }
 
-    /// Runs the program on the row, in pieces of each of its sizes, and counts it.
-    pub fn run(&mut self, rt: &(impl Print + AllocGlobal), row: &Row) -> io::Result<()> {
+    /// Runs the program on the row, which comes after some of the parts, in pieces of each of its sizes, and counts it.
+    pub fn run(
+        &mut self,
+        rt: &(impl Print + Files + AllocGlobal),
+        row: &Value,
+        parts: &[Value],
+    ) -> io::Result<()> {
+        let known = what_is_known(rt, parts, row)?;
         let mut came = None;
-        for size in row.sizes() {
-            came = row.difference(rt.alloc(), *size)?.or(came);
+        for size in sizes(rt.alloc(), row)? {
+            came = difference(rt.alloc(), row, &known, size)?.or(came);
         }
-        self.count(rt, &row.name, came.is_none(), came.as_deref().unwrap_or(""))
+        let is_met = came.is_none() && are_known(row) && parts.iter().all(are_known);
+        self.count(
+            rt,
+            text(row, "name"),
+            is_met,
+            came.as_deref().unwrap_or("other keys"),
+        )
     }
 }

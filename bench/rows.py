@@ -1,0 +1,520 @@
+#!/usr/bin/env python3
+"""Writes the rows of `ct_rows` that are too long to be written by hand: `made.toml` and the files that it names, into
+crates/ct_rows/data or into the folder given. What they say comes from here alone: bounds from the formulas of docs/RULES.md, tried at each
+entry until nothing is better, all else by counting. With --check it writes nothing, and ends with 1 where a file there is another."""
+
+import sys
+from itertools import product
+from math import comb
+from pathlib import Path
+
+DATA = Path(__file__).resolve().parent.parent / "crates/ct_rows/data"
+LENGTHS = range(1, 29)
+DISTANCES = range(3, 29)
+EVEN = range(4, 29, 2)
+
+
+# ---- bounds, by the rules of the table
+
+def weights(n):
+    """The weights of the words of a length."""
+    return range(n + 1)
+
+
+def ball(n, radius):
+    """How many words lie within a distance of a word."""
+    return sum(comb(n, k) for k in range(radius + 1))
+
+
+def up(a, b):
+    """a / b, rounded up."""
+    return -(-a // b)
+
+
+def plotkin(n, d):
+    """Plotkin's bound (U2), where there is one."""
+    if d % 2:
+        n, d = n + 1, d + 1
+    if n == 2 * d:
+        return [4 * d]
+    return [2 * (d // (2 * d - n))] if d <= n < 2 * d else []
+
+
+def too_many(n, d, w):
+    """One word fewer than the least number of words that is too many (V8)."""
+    for m in range(2, 1001):
+        q, r = divmod(w * m, n)
+        if n * q * (q - 1) + 2 * q * r > (w - d // 2) * m * (m - 1):
+            return [m - 1]
+    return []
+
+
+def lower_plain(low, n, d):
+    """What the rules L1 to L9 and L11 give."""
+    yield 1
+    if d <= n:
+        yield 2
+    yield from (low[e] for e in [(n - 1, d), (n, d + 1), (n + 1, d + 1)] if e in low)
+    if d % 2 == 0 and (n - 1, d - 1) in low:
+        yield low[n - 1, d - 1]
+    if (n + 1, d) in low:
+        yield up(low[n + 1, d], 2)
+    half = n // 2
+    if n % 2 == 0:
+        yield (2 ** (half - 1) if d <= 4 else low[half, up(d, 2)]) * low[half, d]
+    if d + d % 2 <= 28:
+        yield from (low[n, d + d % 2, w] for w in weights(n))
+    for m, c in product(range(1, n), range(3, d - 2)):
+        yield min(low[m, c], low[n - m, d - c])
+
+
+def upper_plain(high, n, d):
+    """What the rules U0 to U10 give."""
+    yield 2 ** n
+    if d > n:
+        yield 1
+    yield from plotkin(n, d)
+    yield 2 ** n // ball(n, (d - 1) // 2)
+    if d % 2 and (n + 1, d + 1) in high:
+        yield high[n + 1, d + 1]
+    yield from (high[e] for e in [(n - 1, d - 1), (n, d - 1), (n + 1, d)] if e in high)
+    if (n - 1, d) in high:
+        yield 2 * high[n - 1, d]
+    if d % 2 and d <= n and (n, d + 1, d) in high:
+        half = up(d, 2)
+        most = n // half
+        rest = comb(n, half) - comb(d, half - 1) * high[n, d + 1, d]
+        if rest > 0:
+            yield 2 ** n * most // (most * ball(n, half - 1) + rest)
+    if d % 2 == 0:
+        yield from (2 ** (n - 1) * high[n, d, w] // comb(n, w) for w in weights(n))
+
+
+def lower_weighted(low, n, d, w):
+    """What the rules M1 to M8 give."""
+    yield 1
+    if d == 2 * w:
+        yield n // w
+    yield from (low[e] for e in [(n - 1, d, w), (n - 1, d, w - 1), (n, d, n - w), (n, d + 2, w)] if e in low)
+    if n < 28:
+        yield up((w + 1) * low[n + 1, d, w + 1], n + 1)
+        yield up((n + 1 - w) * low[n + 1, d, w], n + 1)
+
+
+def upper_weighted(high, n, d, w):
+    """What the rules V0 to V8 give."""
+    yield comb(n, w)
+    if d > 2 * min(w, n - w):
+        yield 1
+    if d == 2 * w:
+        yield n // w
+    yield high[n, d, n - w]
+    with_one, with_zero = (high.get((n - 1, d, v)) for v in (w - 1, w))
+    if with_one is not None:
+        yield n * with_one // w
+    if with_zero is not None:
+        yield n * with_zero // (n - w)
+    if with_one is not None and with_zero is not None:
+        yield with_one + with_zero
+    if (n, d - 2, w) in high:
+        yield high[n, d - 2, w]
+    if w >= d // 2:
+        yield from too_many(n, d, w)
+
+
+def bounds(codes):
+    """The lower and the upper bound of each entry that the rules give from the sizes of codes (L10, M10)."""
+    entries = list(product(LENGTHS, DISTANCES)) + [(n, d, w) for n in LENGTHS for d in EVEN for w in weights(n)]
+    low = dict.fromkeys(entries, 1) | codes
+    high = dict.fromkeys(entries, 2 ** 28)
+    before = None
+    while before != (low, high):
+        before = dict(low), dict(high)
+        for e in entries:
+            low[e] = max(low[e], *(lower_plain if len(e) == 2 else lower_weighted)(low, *e))
+            high[e] = min(high[e], *(upper_plain if len(e) == 2 else upper_weighted)(high, *e))
+    return low, high
+
+
+def line(table, *entry):
+    """The line of an entry."""
+    low, high = (side[entry] for side in table)
+    name = f"A({','.join(map(str, entry))})"
+    return f"{name} = {low}\n" if low == high else f"{low} <= {name} <= {high}\n"
+
+
+# ---- codes
+
+def text(word, n):
+    """The text of a word."""
+    return f"{word:0{n}b}"
+
+
+def words(n, d, some):
+    """A document of words."""
+    return f"kind='words'\nn={n}\nd={d}\nwords={[text(x, n) for x in some]}\n"
+
+
+def cosets(n, d, basis):
+    """A document of the linear code with this basis."""
+    return f"kind='cosets'\nn={n}\nd={d}\nbasis={basis}\nrepresentatives=['{'0' * n}']\n"
+
+
+def build(op, n, d, part, more=""):
+    """A document of a build."""
+    return f"kind='build'\nop='{op}'\nn={n}\nd={d}\npart='{part}'\n{more}"
+
+
+def submit(name, document):
+    """The command that hands in a document."""
+    return f"submit {name}\n{document}end\n"
+
+
+def span(basis):
+    """All sums of some of these words."""
+    sums = [0]
+    for word in basis:
+        sums += [word ^ other for other in sums]
+    return sums
+
+
+# Numbers with at least two ones. A word with a one at a place of its own and the digits of such a number at the end is at distance 3 or more
+# from each sum of others.
+TAILS = [x for x in range(32) if x.bit_count() >= 2]
+
+# The extended Golay code (MacWilliams and Sloane, chapter 2), and the same without its last place.
+GOLAY = [text(0b101011100011 << 12 >> s & ~1 | 1, 24) for s in range(12)]
+PUNCTURED = [word[:-1] for word in GOLAY]
+
+# Eleven binary linear codes, of which no greater one of their length and distance is known: id, length, distance, basis.
+LINEAR = [
+    # Golay 1949.
+    ("golay", 24, 8, GOLAY),
+    # The extended quadratic residue code as a double circulant code; MacWilliams and Sloane, chapter 16.
+    ("qr18", 18, 6, [
+        "100000011101011111", "110000001110101111", "111000000111010111", "011100000111101011", "001110000111110101", "000111000111111010",
+        "000011100011111101", "000001110101111110", "000000111010111111"]),
+    # The even words of the Zetterberg code of length 33, shortened at four places and punctured at one.
+    ("cyclic33", 28, 5, [text((0b110111111011 << 17 >> s) % 2 ** 28, 28) for s in range(18)]),
+    # Wagner 1965, with a parity digit, in a quasi-cyclic form.
+    ("wagner", 24, 6, [
+        "110000011011001101011100", "111000001101100100101110", "011100001110110000010111", "001110000111011010001011",
+        "000111000011101111000101", "000011101001110111100010", "000001111100111001110001", "100000110110011110111000",
+        "000010010000100101111000", "100001001000010000111100", "010000100100001000011110", "001000010010000100001111",
+        "100100001001000010000111", "010010000100100011000011"]),
+    # A double circulant code; MacWilliams and Sloane, chapter 16.
+    ("double14", 28, 8, [
+        "1110001001011010101010010101", "0111000100101111010101001010", "1011100010010101101010100101", "1101110001001010110101010010",
+        "0110111000100101011010101001", "1011011100010010101101010100", "0101101110001001010110101010", "0010110111000100101011010101",
+        "1001011011100010010101101010", "0100101101110001001010110101", "0010010110111010100101011010", "0001001011011101010010101101",
+        "1000100101101110101001010110", "1100010010110101010100101011"]),
+    # A quasi-cyclic code in blocks of 7.
+    ("quasi28-10", 28, 10, [
+        "0011000101001100011000000101", "0001100110100100001101000010", "0000110111010000000110100001", "0000011011101010000011010000",
+        "1000001001110111000000101000", "1100000100111001100000010100", "0111011111000000000011000011", "1011101011100010000001100001",
+        "1101110001110001000001110000", "0110111000111000100000111000"]),
+    # A quasi-cyclic code in blocks of 8.
+    ("quasi24-7", 24, 10, [
+        "000010010000001111110101", "100001001000000111111010", "010000101100000001111101", "001000010110000010111110",
+        "100100000011000001011111", "010010000001100010101111", "001001000000110011010111"]),
+    # The BCH code [31,11,11], shortened at three places.
+    ("bch28-8", 28, 11, [text(0b101010110110010001101 << 7 >> s, 28) for s in range(8)]),
+    # A residue of the punctured BCH code [50,8,23].
+    ("residue27-7", 27, 12, [
+        "010010011110110111111011000", "101001001101010101111000000", "000110111001000101000110110", "000000100110111100001011101",
+        "000011011100100000100011111", "000001001011100100011111010", "001000010101101111100010100"]),
+    # A cyclic code.
+    ("quasi21-5", 21, 10, [
+        "110000100011001010111", "111000010001100101011", "111100001000110010101", "111110000100011001010", "011111000010001100101"]),
+    # Each place of the even code of length 3, three times.
+    ("tri9", 9, 6, ["111111000", "000111111"]),
+]
+
+# For n = 1 to 28 and d = 3 to 28 the greatest dimension k of a binary linear code of length n and distance at least d that is known, from
+# the tables of linear codes that the field keeps; such a code has 2^k words. Where numbers are missing at the end of a line they are 0.
+BEST_DIMENSIONS = """
+0
+0
+1
+1 1
+2 1 1
+3 2 1 1
+4 3 1 1 1
+4 4 2 1 1 1
+5 4 2 2 1 1 1
+6 5 3 2 1 1 1 1
+7 6 4 3 2 1 1 1 1
+8 7 4 4 2 2 1 1 1 1
+9 8 5 4 3 2 1 1 1 1 1
+10 9 6 5 4 3 2 1 1 1 1 1
+11 10 7 6 5 4 2 2 1 1 1 1 1
+11 11 8 7 5 5 2 2 1 1 1 1 1 1
+12 11 9 8 6 5 3 2 2 1 1 1 1 1 1
+13 12 9 9 7 6 3 3 2 2 1 1 1 1 1 1
+14 13 10 9 8 7 4 3 2 2 1 1 1 1 1 1 1
+15 14 11 10 9 8 5 4 3 2 2 1 1 1 1 1 1 1
+16 15 12 11 10 9 5 5 3 3 2 2 1 1 1 1 1 1 1
+17 16 13 12 11 10 6 5 4 3 2 2 1 1 1 1 1 1 1 1
+18 17 14 13 12 11 7 6 5 4 2 2 2 1 1 1 1 1 1 1 1
+19 18 14 14 12 12 7 7 5 5 3 2 2 2 1 1 1 1 1 1 1 1
+20 19 15 14 12 12 8 7 6 5 3 3 2 2 1 1 1 1 1 1 1 1 1
+21 20 16 15 13 12 9 8 7 6 4 3 2 2 2 1 1 1 1 1 1 1 1 1
+22 21 17 16 14 13 10 9 7 7 5 4 3 2 2 2 1 1 1 1 1 1 1 1 1
+23 22 18 17 14 14 10 10 8 7 5 5 3 3 2 2 1 1 1 1 1 1 1 1 1 1
+"""
+
+
+# ---- the file
+
+def literal(value):
+    """A value of TOML."""
+    if isinstance(value, list):
+        return "[" + ", ".join(map(literal, value)) + "]"
+    if not isinstance(value, str):
+        return str(value)
+    if value.endswith("\n") and value.count("\n") > 1:
+        return f"'''\n{value}'''"
+    return '"' + value.replace("\\", "\\\\").replace('"', '\\"').replace("\n", "\\n").replace("\r", "\\r") + '"'
+
+
+class Rows:
+    """The files as they are made."""
+
+    def __init__(self):
+        self.files = {}
+        self.parts = []
+        self.rows = []
+
+    def part(self, name, input="", output="", times=1, **files):
+        """An input and its output that rows come after; each of them may lie in a file."""
+        fields = {"name": name, "input": input, "output": output, **files, "times": times if times > 1 else ""}
+        self.parts.append(fields)
+
+    def row(self, name, input="", output="", status="Done", after=(), reads=(65536,)):
+        """A row."""
+        self.rows.append({"name": name, "after": list(after), "reads": list(reads), "input": input, "status": status, "output": output})
+
+    def file(self, name, contents):
+        """A file beside."""
+        self.files[name] = contents
+        return name
+
+    def made(self):
+        """All files, by their names."""
+        text = "# Made by bench/rows.py, which says where the numbers come from; what stands here is said at the head of rows.toml.\n"
+        for kind, items in (("part", self.parts), ("row", self.rows)):
+            for item in items:
+                text += f"\n[[{kind}]]\n" + "".join(f"{key} = {literal(value)}\n" for key, value in item.items() if value)
+        return self.files | {"made.toml": text}
+
+
+def write_tables(rows):
+    """The whole table without codes, over the linear codes, and over the Golay code with its octads."""
+    columns = [(d, None) for d in DISTANCES] + list(product(EVEN, range(29)))
+    asked = "".join(f"table {d}\n" if w is None else f"table {d} {w}\n" for d, w in columns)
+    asked = rows.file("tables.in", asked)
+    linear = {(n, d): 2 ** len(basis) for _, n, d, basis in LINEAR}
+    starts = [
+        ("without codes", "without-codes", [], {}),
+        ("over the linear codes", "linear", [name for name, *_ in LINEAR], linear),
+        ("over the octads", "octads", ["golay", "octads"], {(24, 8): 4096, (24, 8, 8): 759}),
+    ]
+    tables = {}
+    for name, short, after, codes in starts:
+        table = tables[short] = bounds(codes)
+        lines = [line(table, n, d) if w is None else line(table, n, d, w) for d, w in columns for n in range(max(w or 0, 1), 29)]
+        answered = rows.file(f"tables-{short}.out", "".join(lines))
+        rows.part(f"tables {name}", input_file=asked, output_file=answered)
+        rows.row(f"tables {name}", after=[*after, f"tables {name}"])
+    low = tables["linear"][0]
+    for n, dimensions in zip(LENGTHS, BEST_DIMENSIONS.strip().split("\n")):
+        dimensions = dimensions.split() + ["0"] * 26
+        for d, dimension in zip(DISTANCES, dimensions):
+            assert low[n, d] >= 2 ** int(dimension), (n, d)
+    return tables["without-codes"]
+
+
+def write_codes(rows):
+    """Each linear code, and the octads."""
+    for name, n, d, basis in LINEAR:
+        rows.part(name, submit(name, cosets(n, d, basis)), f"accepted {name} size {2 ** len(basis)}\n")
+        rows.row(name, after=[name])
+    select = build("select", 24, 8, "golay", f"w=8\nby='{'0' * 24}'\n")
+    rows.part("octads", submit("octads", select), "accepted octads size 759\n")
+
+
+def write_orders(rows, table):
+    """The Golay code and its punctured code, which give one another's bounds, come and go in some orders, and leave the bounds as they were."""
+    entries = [(n, d) for n in LENGTHS for d in (7, 8)]
+    shows = "".join(f"show {n} {d}\n" for n, d in entries)
+    rows.part("bounds without codes", shows, "".join(line(table, *e) for e in entries))
+    rows.part("one stands", "show 24 8\nshow 23 7\n", "A(24,8) = 4096\nA(23,7) = 4096\n")
+    rows.part("none stands", "show 24 8\nshow 23 7\n", line(table, 24, 8) + line(table, 23, 7))
+    documents = {
+        "again": cosets(24, 8, GOLAY),
+        "punctured": cosets(23, 7, PUNCTURED),
+        "built": build("puncture", 23, 7, "golay", "places=[23]\n"),
+    }
+    for name, document in documents.items():
+        rows.part(name, submit(name, document), f"accepted {name} size 4096\n")
+    for name in ["golay", *documents]:
+        rows.part(f"{name} goes", f"withdraw {name}\n", f"withdrawn {name}\n")
+    orders = [
+        "golay, again, golay goes, again goes",
+        "golay, again, again goes, golay goes",
+        "golay, punctured, golay goes, punctured goes",
+        "golay, punctured, punctured goes, golay goes",
+        "punctured, golay, punctured goes, golay goes",
+        "punctured, golay, golay goes, punctured goes",
+        "golay, built, built goes, golay goes",
+        "golay, built, punctured, built goes, golay goes, punctured goes",
+    ]
+    for order in orders:
+        steps = [step for name in order.split(", ") for step in (name, "one stands")]
+        after = ["bounds without codes", *steps[:-1], "none stands", "bounds without codes"]
+        rows.row(f"codes come and go: {order}", after=after)
+
+
+def write_long_lines(rows, table):
+    """Lines and inputs near the limits of bytes."""
+    rows.part("show", "show")
+    rows.part("spaces", " ", times=1990)
+    rows.row("a long command", "10 6\r", line(table, 10, 6), after=["show", "spaces"], reads=())
+    rows.part("64 MiB", "#", times=2 ** 26)
+    rows.row("the longest input", after=["64 MiB"])
+    rows.row("one byte more than the longest input", "#", after=["64 MiB"], status="TooLong")
+    document = words(3, 3, [0])
+    rows.part("a document", f"submit a\n{document}")
+    rows.part("4 MiB with that document", "#", times=2 ** 22 - len(document))
+    after = ["a document", "4 MiB with that document"]
+    rows.row("the longest document", "\nend\n", "accepted a size 1\n", after=after)
+    rows.row("one byte more than the longest document", "#\nend\n", f"refused bytes {2 ** 22 + 1}\n", after=after, status="Refused")
+
+
+def write_sizes(rows, table):
+    """Documents and builds near the limits of words."""
+    greatest = span([1 << (23 - place) | tail for place, tail in enumerate(TAILS[:14])])
+    document = "submit a\nkind='words'\nn=24\nd=3\nwords=[\n" + "".join(f"'{text(x, 24)}',\n" for x in greatest)
+    low, high = bounds({(24, 3): 2 ** 14})
+    shown = line((low, high), 24, 3)
+    assert shown == line(table, 24, 3)
+    end = "]\nend\nshow 24 3\n"
+    rows.part("words of the greatest size", input_file=rows.file("greatest-size.in", document))
+    after = ["words of the greatest size"]
+    rows.row("the greatest size", end, f"accepted a size 16384\n{shown}", after=after)
+    more = f"'{'1' * 24}'{end}"
+    rows.row("one word more than the greatest size", more, f"refused size 16385\n{shown}", status="Refused", after=after)
+    # r(r + 1)/2 · 2^k comparisons: those of 24 basis words and one representative are at the limit.
+    for basis, reply in ((24, "close 0 1 0"), (25, f"work {2 ** 25}"), (28, f"work {2 ** 28}"), (29, "size 29")):
+        document = submit("a", cosets(28, 3, ["0" * 28] * basis))
+        rows.row(f"cosets of {basis} basis words", document, f"refused {reply}\n", status="Refused")
+    size = 2 ** 18
+    commands = [
+        (submit("all", build("complement", 28, 5, "cyclic33")), f"accepted all size {size}\n"),
+        (submit("trimmed", build("trim", 28, 5, "cyclic33", f"size={size}\n")), f"accepted trimmed size {size}\n"),
+        (submit("again", build("complement", 28, 5, "trimmed")), f"accepted again size {size}\n"),
+    ]
+    rows.row("builds of the greatest size", *map("".join, zip(*commands)), after=["cyclic33"])
+    basis = [text(1 << (27 - place) | tail, 28) for place, tail in enumerate(TAILS[:19])]
+    commands = [
+        (submit("large", cosets(28, 3, basis)), f"accepted large size {2 * size}\n"),
+        (submit("none", build("complement", 28, 3, "large")), f"refused size {2 * size}\n"),
+    ]
+    rows.row("a build over too large a part", *map("".join, zip(*commands)), status="Refused")
+
+
+def write_pieces(rows, table):
+    """As many pieces, and as many stored words, as there may be."""
+    one = words(3, 3, [0])
+    commands = [(submit(f"p{i}", one), f"accepted p{i} size 1\n") for i in range(1000)]
+    commands += [
+        ("submit p3\nend\n", "refused taken\n"),
+        ("submit P\nend\n", "refused command\n"),
+        ("submit z\nend\n", "refused full pieces 1000\n"),
+        ("withdraw p7\n", "withdrawn p7\n"),
+        ("submit p3\nend\n", "refused taken\n"),
+        ("submit z\nend\n", "refused kind\n"),
+        ("show 3 3\n", line(table, 3, 3)),
+    ]
+    write_session(rows, "thousand-pieces", "a thousand pieces", commands)
+    # The Golay code stores 13 words, each code that is built from it 4096.
+    built = build("lengthen", 25, 8, "golay")
+    room = (10 ** 6 - 13) // 4096
+    commands = [(submit(f"l{i}", built), f"accepted l{i} size 4096\n") for i in range(room)]
+    commands += [(submit("more", built), f"refused full words {13 + (room + 1) * 4096}\n")]
+    write_session(rows, "stored-words", "stored words", commands, after=["golay"])
+    write_millionth_word(rows)
+
+
+def write_session(rows, short, name, commands, after=()):
+    """A row of commands and their replies, which lie in files."""
+    input, output = map("".join, zip(*commands))
+    files = {"input_file": rows.file(f"{short}.in", input), "output_file": rows.file(f"{short}.out", output)}
+    rows.part(name, **files)
+    rows.row(name, after=[*after, name], status="Refused")
+
+
+def write_millionth_word(rows):
+    """Documents of each kind store their words up to the last that there may be."""
+    size = 2 ** 18
+    few = span([1 << (9 - place) | tail for place, tail in enumerate(TAILS[:6])])
+    stored = 0
+    commands = []
+
+    def take(name, document, size, words):
+        nonlocal stored
+        commands.append((submit(name, document), f"accepted {name} size {size}\n"))
+        stored += words
+
+    def refuse(document, reply):
+        commands.append((submit("refused", document), f"refused {reply}\n"))
+
+    stored += 18 + 1
+    for number in range(3):
+        take(f"build{number}", build("complement", 28, 5, "cyclic33"), size, size)
+    take("golay", cosets(24, 8, GOLAY), 4096, 12 + 1)
+    take("cosets", cosets(10, 3, []), 1, 1)
+    take("words", words(10, 3, few[:30]), 30, 30)
+    rest = 10 ** 6 - 2 - stored
+    take("trim", build("trim", 28, 5, "cyclic33", f"size={rest}\n"), rest, rest)
+    refuse(words(10, 3, few[:3]), "full words 1000001")
+    refuse(build("trim", 24, 8, "golay", "size=3\n"), "full words 1000001")
+    refuse(cosets(10, 3, [text(few[1], 10), text(few[2], 10)]), "full words 1000001")
+    refuse(words(10, 3, [0, 1, 2]), "close 0 1 1")
+    refuse(words(10, 3, [0, 0, 0]), "repeated 0 1")
+    refuse(build("trim", 24, 8, "golay", "size=4097\n"), "few 4096 4097")
+    refuse(build("complement", 10, 3, "golay"), "part golay")
+    refuse(build("complement", 10, 3, "nothing"), "nosuch nothing")
+    take("two", words(10, 3, few[:2]), 2, 2)
+    refuse(words(10, 3, few[:1]), "full words 1000001")
+    refuse(words(10, 3, few[:2]), "full words 1000002")
+    commands.append(("withdraw two\n", "withdrawn two\n"))
+    stored -= 2
+    take("two", cosets(10, 3, [text(few[1], 10)]), 2, 2)
+    refuse(build("trim", 24, 8, "golay", "size=1\n"), "full words 1000001")
+    assert stored == 10 ** 6
+    rows.row("the millionth stored word", *map("".join, zip(*commands)), status="Refused", after=["cyclic33"])
+
+
+def main():
+    rows = Rows()
+    write_codes(rows)
+    table = write_tables(rows)
+    write_orders(rows, table)
+    write_long_lines(rows, table)
+    write_sizes(rows, table)
+    write_pieces(rows, table)
+    places = [word for word in sys.argv[1:] if word != "--check"]
+    folder = Path(places[0]) if places else DATA
+    others = []
+    for name, contents in rows.made().items():
+        file = folder / name
+        if "--check" not in sys.argv:
+            file.write_bytes(contents.encode())
+        elif not file.is_file() or file.read_bytes() != contents.encode():
+            others.append(name)
+    if others:
+        sys.exit(f"not as written: {', '.join(others)}")
+
+
+main()
