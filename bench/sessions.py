@@ -138,6 +138,7 @@ def shows(size):
 
 
 SESSIONS = {
+    "empty": lambda _: "",
     "lone_part": lone_part,
     "lengthen": over_part("lengthen", 27, 3),
     "append_one": over_part("append_one", 27, 3),
