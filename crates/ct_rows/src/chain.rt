@@ -90,41 +90,54 @@ fn doubled_or_punctured(
     }
 }
 
+/// Whether the build after so many others is the two words that it should be.
+fn build_is_as_known(alloc: Global, ledger: &mut Ledger, count: u32) -> Result<bool, AllocError> {
+    let before = format!(in alloc; "c{count}")?;
+    let id = format!(in alloc; "c{}", count.saturating_add(1))?;
+    let (document, n) = doubled_or_punctured(alloc, count, &before)?;
+    let known = Document {
+        text: &document,
+        stored: 2,
+        entry: (n, n, None),
+        words: &[0, 1u32.wrapping_shl(n).wrapping_sub(1)],
+    };
+    is_as_known(alloc, ledger, &id, known)
+}
+
 /// Whether each code of a chain of builds is the two words that it should be. Of the forty builds 30 name the one before them
 /// twice: made anew wherever it is named, the first code would be made more than a thousand million times for the last.
-fn chain_is_as_known(alloc: Global) -> Result<bool, AllocError> {
-    let mut ledger = Ledger::new(alloc)?;
+fn chain_is_as_known(alloc: Global, ledger: &mut Ledger) -> Result<bool, AllocError> {
     let first = Document {
         text: "kind='words'\nn=3\nd=3\nwords=['000','111']",
         stored: 2,
         entry: (3, 3, None),
         words: &[0, 7],
     };
-    let mut is_met = is_as_known(alloc, &mut ledger, "c0", first)?;
+    let mut is_met = is_as_known(alloc, ledger, "c0", first)?;
     for count in 0..40u32 {
-        let before = format!(in alloc; "c{count}")?;
-        let id = format!(in alloc; "c{}", count + 1)?;
-        let (document, n) = doubled_or_punctured(alloc, count, &before)?;
-        let known = Document {
-            text: &document,
-            stored: 2,
-            entry: (n, n, None),
-            words: &[0, 1u32.wrapping_shl(n).wrapping_sub(1)],
-        };
-        is_met &= is_as_known(alloc, &mut ledger, &id, known)?;
+        is_met &= build_is_as_known(alloc, ledger, count)?;
     }
     Ok(is_met)
 }
 
 /// Counts a row for each document above, and one for a chain of builds.
-pub fn run_all(rt: &(impl Print + AllocGlobal), tally: &mut Tally) -> io::Result<()> {
+fn run_over(
+    rt: &(impl Print + AllocGlobal),
+    tally: &mut Tally,
+    ledger: &mut Ledger,
+) -> io::Result<()> {
     let alloc = rt.alloc();
-    let mut ledger = Ledger::new(alloc)?;
     for (number, known) in DOCUMENTS.into_iter().enumerate() {
         let id = format!(in alloc; "p{number}")?;
-        let is_met = is_as_known(alloc, &mut ledger, &id, known)?;
+        let is_met = is_as_known(alloc, ledger, &id, known)?;
         tally.count(rt, "the code of a document", is_met, known.text)?;
     }
-    let is_met = chain_is_as_known(alloc)?;
+    let is_met = chain_is_as_known(alloc, ledger)?;
     tally.count(rt, "the codes of a chain of builds", is_met, "other codes")
+}
+
+/// Runs these rows over a ledger of their own.
+pub fn run_all(rt: &(impl Print + AllocGlobal), tally: &mut Tally) -> io::Result<()> {
+    let mut ledger = Ledger::new(rt.alloc())?;
+    run_over(rt, tally, &mut ledger)
 }
