@@ -12,4 +12,6 @@ mod parts;
 #[cfg(test)]
 mod refused;
 #[cfg(test)]
+mod shapes;
+#[cfg(test)]
 mod steps;

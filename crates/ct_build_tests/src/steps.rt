@@ -30,7 +30,7 @@ pub(crate) enum Change {
 }
 
 /// The step that does so.
-fn step_of(alloc: Global, change: Change) -> Result<Step, Fail> {
+pub(crate) fn step_of(alloc: Global, change: Change) -> Result<Step, Fail> {
     Ok(match change {
         Change::Lengthen => Step::Lengthen,
         Change::AppendOne => Step::AppendOne,
@@ -69,7 +69,7 @@ pub(crate) fn build(
 }
 
 /// Whether the stated entry is in the table, and the step fits it.
-fn fits(step: &Step, stated: Entry) -> bool
+pub(crate) fn fits(step: &Step, stated: Entry) -> bool
     ensures { result ≡ true → FitsStated step.now stated }
 {
     stated.in_table() && fields_fit(step, stated)
