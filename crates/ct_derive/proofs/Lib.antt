@@ -1,0 +1,3 @@
+pub mod Pruning
+pub mod Marks
+pub mod Merging
