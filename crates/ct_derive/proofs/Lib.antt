@@ -1,3 +1,5 @@
-pub mod Pruning
-pub mod Marks
-pub mod Merging
+pub mod PrunedLines
+pub mod MarkedLines
+pub mod MergedLines
+pub mod TableLines
+pub mod NeededPieces

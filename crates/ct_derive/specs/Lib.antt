@@ -1,2 +1,4 @@
 pub mod Explanation
+pub mod Pieces
+pub mod Derivation
 pub mod Inside

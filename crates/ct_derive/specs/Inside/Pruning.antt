@@ -1,6 +1,7 @@
 -- Lines of a derivation that its last line needs, as marks of their places; and these lines alone.
-use Rattle.std.specs.Prelude.{◌≡◌, ℕ, suc, ◌+◌, ◌≤◌, Bool, true, false, not, List, [], ◌∷◌, length, map, All, Contains, Some, slice_get, slice_set, ◌⊎◌}
+use Rattle.std.specs.Prelude.{◌≡◌, ℕ, ◌+◌, ◌<◌, ◌≤◌, Bool, true, false, not, List, [], ◌∷◌, length, map, All, Contains, Some, slice_get, slice_index, slice_set, ◌⊎◌}
 use Rattle.std.specs.List.{slice_index_or}
+use Rattle.std.specs.List.Sorted.{IsStrictlyIncreasing}
 use Rattle.ct_removal.specs.Removal.{Places, without, lowered_place}
 use Rattle.ct_rules.specs.Derivation.{LineValue}
 
@@ -34,10 +35,25 @@ AreMarked lines marks = AreMarkedFrom 0 lines marks
 abbrev pub unmarked : List Bool → Places
 unmarked marks p = not (is_marked marks p)
 
+-- a line that names other places
+abbrev pub moved_line : (ℕ → ℕ) → LineValue → LineValue
+moved_line moved l = record { claim = l.claim; rule = l.rule; from = map moved l.from }
+
 -- a line, with the places of the lines that it names as they are once those of the set are out
 abbrev pub renumbered : Places → LineValue → LineValue
-renumbered gone l = record { claim = l.claim; rule = l.rule; from = map (lowered_place gone) l.from }
+renumbered gone l = moved_line (lowered_place gone) l
 
 -- the lines once those of the set are out
 abbrev pub pruned : Places → List LineValue → List LineValue
 pruned gone lines = map (renumbered gone) (without gone lines)
+
+-- for each of the first places, where it is once those of the set are out
+pub record ArePlacesLeft (gone : Places) (n : ℕ) (moved : List ℕ) : Type 0 where
+  pub count : length moved ≡ n
+  pub places : (k : ℕ) → k < n → slice_index moved k ≡ lowered_place gone k
+
+-- the marked places below this one, ascending
+pub record ArePlacesBelow (place : ℕ) (marks : List Bool) (places : List ℕ) : Type 0 where
+  pub ascending : IsStrictlyIncreasing places
+  pub marked : All (λ p. (p < place) × (is_marked marks p ≡ true)) places
+  pub all : (p : ℕ) → p < place → is_marked marks p ≡ true → Contains places p

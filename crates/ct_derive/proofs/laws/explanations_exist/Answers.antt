@@ -1,4 +1,4 @@
-use Rattle.ct_derive.proofs.Merging.{explanation_exists}
+use Rattle.ct_derive.proofs.MergedLines.{explanation_exists}
 use Rattle.ct_derive.proofs.laws.explanations_exist.Goals as goal
 
 pub returns : goal.returns

@@ -1,5 +1,5 @@
 -- Marks of the lines that the last one needs: they begin at the last line, and go down line by line.
-use Rattle.std.proofs.Common.{◌≡◌, ℕ, zero, suc, ◌+◌, ◌<◌, ◌≤◌, Bool, true, false, List, [], ◌∷◌, length, get_or, replicate, All, Option, Some, None, ◌⊎◌, inl, inr, refl, sym, ap, subst, ◌∙◌, arith}
+use Rattle.std.proofs.Common.{◌≡◌, ℕ, zero, suc, ◌+◌, ◌<◌, ◌≤◌, Bool, true, false, List, [], ◌∷◌, length, get_or, replicate, take, All, Option, Some, None, ◌⊎◌, inl, inr, refl, sym, ap, subst, ◌∙◌, arith}
 use Rattle.std.specs.Prelude.{slice_get, slice_set, Contains}
 use Rattle.std.proofs.lemmas.Bool.{cases_eq}
 use Rattle.std.proofs.lemmas.Option.{slice_get_within, same_Some}
@@ -8,7 +8,7 @@ use Rattle.std.proofs.lemmas.List.Elements.{All-nil, All-cons, All-head, All-tai
 use Rattle.ct_rule_parts.specs.declared.support.Support.{Support}
 use Rattle.ct_rules.specs.Derivation.{LineValue, IsDerivation}
 use Rattle.ct_derive.specs.Inside.Pruning.{is_marked, with_marks, IsNamedByMarked, AreMarkedFrom, AreMarked}
-use Rattle.ct_derive.proofs.Pruning.{some_at}
+use Rattle.ct_derive.proofs.PrunedLines.{some_at}
 
 -- a marked place is one of the list
 pub marked-within : (marks : List Bool) (k : ℕ) → is_marked marks k ≡ true → k < length marks
@@ -32,13 +32,13 @@ pub length-with_marks : (places : List ℕ) (marks : List Bool) → length (with
 length-with_marks [] marks = refl
 length-with_marks (p ∷ places) marks = length-with_marks places (slice_set marks p true) ∙ length-set marks p true
 
-with_marks-kept : (places : List ℕ) (marks : List Bool) (k : ℕ) → is_marked marks k ≡ true
+pub with_marks-kept : (places : List ℕ) (marks : List Bool) (k : ℕ) → is_marked marks k ≡ true
     → is_marked (with_marks places marks) k ≡ true
 with_marks-kept [] marks k h = h
 with_marks-kept (p ∷ places) marks k h = with_marks-kept places (slice_set marks p true) k (set-kept marks p k h)
 
 -- all of the places are marked
-with_marks-there : (places : List ℕ) (marks : List Bool) → All (λ p. p < length marks) places
+pub with_marks-there : (places : List ℕ) (marks : List Bool) → All (λ p. p < length marks) places
     → All (λ p. is_marked (with_marks places marks) p ≡ true) places
 with_marks-there [] marks within = All-nil (λ p. is_marked marks p ≡ true)
 with_marks-there (p ∷ places) marks within =
@@ -49,7 +49,7 @@ with_marks-there (p ∷ places) marks within =
     (subst (λ n. All (λ q. q < n) places) (sym (length-set marks p true)) (All-tail (λ q. q < length marks) p places within)))
 
 -- and no place is marked but those that were and these
-with_marks-cases : (places : List ℕ) (marks : List Bool) (k : ℕ) → is_marked (with_marks places marks) k ≡ true
+pub with_marks-cases : (places : List ℕ) (marks : List Bool) (k : ℕ) → is_marked (with_marks places marks) k ≡ true
     → (is_marked marks k ≡ true) ⊎ Contains places k
 with_marks-cases [] marks k h = inl h
 with_marks-cases (p ∷ places) marks k h = go (with_marks-cases places (slice_set marks p true) k h) (cases_eq k p)
@@ -61,7 +61,7 @@ with_marks-cases (p ∷ places) marks k h = go (with_marks-cases places (slice_s
     go (inl was) (inr other) = inl (sym (get_or-set_other marks p k true false other) ∙ was)
 
 -- where none is marked but the last
-none-marked : (n k : ℕ) → is_marked (replicate n false) k ≡ true → ⊥
+pub none-marked : (n k : ℕ) → is_marked (replicate n false) k ≡ true → ⊥
 none-marked zero k h = cc
 none-marked (suc n) zero h = cc
 none-marked (suc n) (suc k) h = none-marked n k h
@@ -151,8 +151,7 @@ marks_exist supports lines last derivation ends =
     step place within marks h true is =
         let found = some_at lines place within in
         let earlier = (derivation place found.0 found.1).earlier in
-        let size = length-take-le place lines (omega arith) in
-        (
+        let size = length-take-le place lines (omega arith) in (
           with_marks found.0.from marks,
           AreMarked-marked place found.0 lines marks is found.1 (subst (λ n. All (λ p. p < n) found.0.from) size earlier)
               (subst (λ n. AreMarkedFrom n lines marks) (omega arith) h),
@@ -164,3 +163,20 @@ marks_exist supports lines last derivation ends =
     down (suc place) within marks h =
         let next = step place (omega arith) marks h (is_marked marks place) refl in
         down place (omega arith) next.0 next.1
+
+-- the lines that a line of a derivation names are before it
+pub named_below_line : (supports : List Support) (lines : List LineValue) (place : ℕ) (l : LineValue) → IsDerivation supports lines
+    → slice_get lines place ≡ Some l → All (λ p. p < place) l.from
+named_below_line supports lines place l derivation at =
+    let within = slice_get_within lines place l at in
+    let size = length-take-le place lines (omega arith) in
+    subst (λ n. All (λ p. p < n) l.from) size (derivation place l at).earlier
+
+-- where none of the first lines is marked but the last
+pub begun : (all : List LineValue) (last : ℕ) (marks : List Bool) → marks ≡ replicate (last + 1) false → last < length all
+    → AreMarkedFrom (last + 1) (take (last + 1) all) (slice_set marks last true)
+begun all last marks none within =
+    let size = length-take-le (last + 1) all (omega arith) in
+    let first = AreMarked-begin (take (last + 1) all) last (sym size) in
+    subst (λ (ms : List Bool). AreMarkedFrom (last + 1) (take (last + 1) all) (slice_set ms last true)) (sym none)
+    (subst (λ n. AreMarkedFrom n (take (last + 1) all) (slice_set (replicate n false) last true)) size first)

@@ -20,8 +20,8 @@ use Rattle.ct_rules.proofs.Places.{IsAtSeam, slice_get-take, slice_get-append_le
 use Rattle.ct_rules.proofs.Derivations.{derivation-nil, derivation-take, derivation-push}
 use Rattle.ct_derive.specs.Explanation.{IsExplanation}
 use Rattle.ct_derive.specs.Inside.Pruning.{pruned, unmarked}
-use Rattle.ct_derive.proofs.Pruning.{some_at, get_of_take, pairs_from_places, pair_at_places, explanation_of_last}
-use Rattle.ct_derive.proofs.Marks.{marks_exist}
+use Rattle.ct_derive.proofs.PrunedLines.{some_at, get_of_take, pairs_from_places, pair_at_places, explanation_of_last}
+use Rattle.ct_derive.proofs.MarkedLines.{marks_exist}
 
 -- two claims are the same, or not
 same_side : (s t : Side) → (s ≡ t) ⊎ (s ≡ t → ⊥)
@@ -76,7 +76,7 @@ pub record Found (before kept : List LineValue) (places : List ℕ) : Type 0 whe
 
 found : (before kept : List LineValue) → ((i : ℕ) (l : LineValue) → slice_get before i ≡ Some l → IsClaimed kept l.claim)
     → (places : List ℕ) → All (λ p. p < length before) places → Found before kept places
-found before kept all [] within = record { moved = []; within = All-nil (λ p. p < length kept); same = refl; }
+found before kept all [] within = record { moved = []; within = All-nil (λ p. p < length kept); same = refl }
 found before kept all (p ∷ places) within =
     go (some_at before p (All-head (λ q. q < length before) p places within))
     (found before kept all places (All-tail (λ q. q < length before) p places within))
@@ -188,7 +188,7 @@ merged_of supports lines derivation =
     (merged_front supports lines derivation (length lines) (omega arith))
 
 -- lines up to one of them
-different-take : (n : ℕ) (lines : List LineValue) → AllPairs (λ l m. l.claim ≢ m.claim) lines
+pub different-take : (n : ℕ) (lines : List LineValue) → AllPairs (λ l m. l.claim ≢ m.claim) lines
     → AllPairs (λ l m. l.claim ≢ m.claim) (take n lines)
 different-take n lines different =
     pairs_from_places (λ l m. l.claim ≢ m.claim) (take n lines)
@@ -205,8 +205,7 @@ explained_line supports lines p l derivation different at =
     let size = length-take-le (suc p) lines (omega arith) in
     let ends : p + 1 ≡ length (take (suc p) lines) = omega arith in
     let front = derivation-take supports (suc p) lines derivation in
-    let marks = marks_exist supports (take (suc p) lines) p front ends in
-    (
+    let marks = marks_exist supports (take (suc p) lines) p front ends in (
       marks.0,
       explanation_of_last supports (take (suc p) lines) marks.0 p l front (different-take (suc p) lines different) marks.1 ends
           (get_of_take lines (suc p) p (omega arith) ∙ at),
@@ -221,8 +220,7 @@ explanation_exists supports s v derived =
     go merged =
         let has = merged.all (length derived.before) derived.last (slice_get_last derived.before derived.last) in
         let explained = explained_line supports merged.kept has.0 has.1 merged.derivation merged.different has.2 in
-        let is : has.1.claim ≡ claim_at s v = has.3 ∙ derived.claim in
-        (
+        let is : has.1.claim ≡ claim_at s v = has.3 ∙ derived.claim in (
           pruned (unmarked explained.0) (take (suc has.0) merged.kept),
           subst (λ (c : Claim). IsExplanation supports (slot_of c) c.value (pruned (unmarked explained.0) (take (suc has.0) merged.kept)))
               is explained.1,

@@ -1,8 +1,9 @@
 -- A derivation of which only the lines that the last one needs are left is one, and each line but the last is named.
-use Rattle.std.proofs.Common.{◌≡◌, ℕ, zero, suc, ◌+◌, ◌-◌, ◌<◌, ◌≤◌, Bool, true, false, not, List, [], ◌∷◌, length, get_or, take, map, All, slice_get, Option, Some, None, option_map, ◌⊎◌, inl, inr, refl, sym, ap, ap₂, subst, ◌∙◌, arith}
-use Rattle.std.specs.Prelude.{◌≢◌, AllPairs, Contains, if◌then◌else◌}
+use Rattle.std.proofs.Common.{◌≡◌, ℕ, zero, suc, ◌+◌, ◌-◌, ◌<◌, ◌≤◌, Bool, true, false, not, List, [], ◌∷◌, ◌++◌, length, get_or, take, map, All, slice_get, Option, Some, None, option_map, ◌⊎◌, inl, inr, refl, sym, ap, ap₂, subst, ◌∙◌, length-append, arith}
+use Rattle.std.specs.Prelude.{◌≢◌, AllPairs, Contains, slice_index, if◌then◌else◌}
 use Rattle.std.specs.List.{cons_option}
-use Rattle.std.proofs.lemmas.List.{length-map, take-map, length-take-le}
+use Rattle.std.proofs.lemmas.List.{length-map, map-append, length-take-le, get_or_append_left}
+use Rattle.std.proofs.Math.Seq.{get_or-append_seam}
 use Rattle.std.proofs.lemmas.List.Elements.{All-nil, All-cons, All-head, All-tail, All-map, All-weaker}
 use Rattle.std.proofs.lemmas.Option.{slice_get-map, slice_get_within, slice_get-get_or, get_or_from_slice_get, none-some, same_Some}
 use Rattle.ct_codes.specs.declared.claim.Claim.{Claim}
@@ -12,9 +13,9 @@ use Rattle.ct_rules.specs.Rule.{rule_side, premises_of, value_of}
 use Rattle.ct_rules.specs.Derivation.{LineValue, claims_at, Follows, IsDerivation}
 use Rattle.ct_rules.proofs.Places.{slice_get-take}
 use Rattle.ct_removal.specs.Removal.{Places, without, count_below, lowered_place}
-use Rattle.ct_removal.proofs.WithoutLemmas.{WasAt, was_at, slice_get-without}
+use Rattle.ct_removal.proofs.WithoutLemmas.{was_at, slice_get-without, without-out, without-in}
 use Rattle.ct_derive.specs.Explanation.{IsNamedLater, last_claim, IsExplanation}
-use Rattle.ct_derive.specs.Inside.Pruning.{is_marked, unmarked, renumbered, pruned, AreMarked, IsNamedByMarked}
+use Rattle.ct_derive.specs.Inside.Pruning.{is_marked, unmarked, moved_line, renumbered, pruned, AreMarked, IsNamedByMarked, ArePlacesLeft}
 
 -- places that stay keep their order
 count_le : (gone : Places) (p : ℕ) → count_below gone p ≤ p
@@ -39,6 +40,14 @@ unfolding count_below
 lowered_past gone p stays =
     let step : count_below gone (suc p) ≡ count_below gone p + 0 =
     ap (λ (b : Bool). count_below gone p + (if b then 1 else 0)) stays in
+    let few = count_le gone p in
+    omega arith
+
+lowered_out : (gone : Places) (p : ℕ) → gone p ≡ true → lowered_place gone (suc p) ≡ lowered_place gone p
+unfolding count_below
+lowered_out gone p out =
+    let step : count_below gone (suc p) ≡ count_below gone p + 1 =
+    ap (λ (b : Bool). count_below gone p + (if b then 1 else 0)) out in
     let few = count_le gone p in
     omega arith
 
@@ -220,11 +229,13 @@ different-pruned gone lines different =
 
 -- a place among some is among them moved
 Contains-map : (f : ℕ → ℕ) (places : List ℕ) (p : ℕ) → Contains places p → Contains (map f places) (f p)
-Contains-map f places p has =
-    (has.0, omega (arith, length-map places f, has.1),
-    get_or_from_slice_get (map f places) has.0 (f p) (f p)
-    (slice_get-map f places has.0
-    ∙ ap (option_map f) (slice_get-get_or places has.0 p has.1 ∙ ap Some has.2)))
+Contains-map f places p has = (
+  has.0,
+  omega (arith, length-map places f, has.1),
+  get_or_from_slice_get (map f places) has.0 (f p) (f p)
+      (slice_get-map f places has.0
+      ∙ ap (option_map f) (slice_get-get_or places has.0 p has.1 ∙ ap Some has.2)),
+)
 
 is_false : (b : Bool) → not b ≡ false → b ≡ true
 is_false true h = refl
@@ -302,8 +313,7 @@ explanation_of_last supports lines marks last l derivation different marked ends
             let earlier = (derivation by.0 by.1 by.2).earlier in
             let size = length-take-le by.0 lines (omega (arith, slice_get_within lines by.0 by.1 by.2)) in
             let lower : p < by.0 = named_below p by.0 by.1.from (take by.0 lines) size earlier by.4 in
-            let order = lowered_below (unmarked marks) p by.0 left lower in
-            (
+            let order = lowered_below (unmarked marks) p by.0 left lower in (
               lowered_place (unmarked marks) by.0,
               renumbered (unmarked marks) by.1,
               omega (arith, order, is),
@@ -311,3 +321,114 @@ explanation_of_last supports lines marks last l derivation different marked ends
               subst (Contains (map (lowered_place (unmarked marks)) by.1.from)) is
                   (Contains-map (lowered_place (unmarked marks)) by.1.from p by.4),
             )
+
+-- one line more: it is left where it stays
+without-next : {X : Type 0} (gone : Places) (xs : List X) (i : ℕ) (x : X) → slice_get xs i ≡ Some x
+    → without gone (take (suc i) xs) ≡ without gone (take i xs) ++ (if gone i then [] else x ∷ [])
+unfolding without
+without-next gone [] i x at = absurd (none-some x at)
+without-next gone (y ∷ ys) zero x at = first (gone 0) refl
+  where
+    same : y ≡ x
+    same = same_Some y x at
+
+    first : (b : Bool) → gone 0 ≡ b → without gone (y ∷ []) ≡ without gone [] ++ (if b then [] else x ∷ [])
+    first true out = without-out gone y [] out
+    first false stays = without-in gone y [] stays ∙ ap (λ z. z ∷ []) same
+without-next gone (y ∷ ys) (suc i) x at = rest (gone 0) refl (without-next (λ p. gone (suc p)) ys i x at)
+  where
+    rest : (b : Bool) → gone 0 ≡ b
+        → without (λ p. gone (suc p)) (take (suc i) ys) ≡ without (λ p. gone (suc p)) (take i ys) ++ (if gone (suc i) then [] else x ∷ [])
+        → without gone (y ∷ take (suc i) ys) ≡ without gone (y ∷ take i ys) ++ (if gone (suc i) then [] else x ∷ [])
+    rest true out ih =
+        without-out gone y (take (suc i) ys) out ∙ ih
+        ∙ ap (λ zs. zs ++ (if gone (suc i) then [] else x ∷ [])) (sym (without-out gone y (take i ys) out))
+    rest false stays ih =
+        without-in gone y (take (suc i) ys) stays ∙ ap (λ zs. y ∷ zs) ih
+        ∙ ap (λ zs. zs ++ (if gone (suc i) then [] else x ∷ [])) (sym (without-in gone y (take i ys) stays))
+
+pub pruned-next : (gone : Places) (lines : List LineValue) (i : ℕ) (l : LineValue) → slice_get lines i ≡ Some l
+    → pruned gone (take (i + 1) lines) ≡ pruned gone (take i lines) ++ (if gone i then [] else renumbered gone l ∷ [])
+pruned-next gone lines i l at =
+    ap (λ n. pruned gone (take n lines)) next
+    ∙ ap (map (renumbered gone)) (without-next gone lines i l at)
+    ∙ map-append (renumbered gone) (without gone (take i lines)) (if gone i then [] else l ∷ [])
+    ∙ ap (λ zs. pruned gone (take i lines) ++ zs) (last (gone i))
+  where
+    next : i + 1 ≡ suc i
+    next = omega arith
+
+    last : (b : Bool) → map (renumbered gone) (if b then [] else l ∷ []) ≡ (if b then [] else renumbered gone l ∷ [])
+    last true = refl
+    last false = refl
+
+-- so many are left of the first lines
+pub length-pruned : (gone : Places) (lines : List LineValue) (i : ℕ) → i ≤ length lines
+    → length (pruned gone (take i lines)) ≡ lowered_place gone i
+unfolding count_below without
+length-pruned gone lines zero within = refl
+length-pruned gone lines (suc i) within =
+    go (some_at lines i (omega arith)) (length-pruned gone lines i (omega arith))
+  where
+    next : suc i ≡ i + 1
+    next = omega arith
+
+    more : (b : Bool) → gone i ≡ b → (zs : List LineValue) (l : LineValue) → length zs ≡ lowered_place gone i
+        → length (zs ++ (if b then [] else renumbered gone l ∷ [])) ≡ lowered_place gone (suc i)
+    more true out zs l size = let same = lowered_out gone i out in omega (arith, length-append zs [])
+    more false stays zs l size = let past = lowered_past gone i stays in omega (arith, length-append zs (renumbered gone l ∷ []))
+
+    go : (l : LineValue) × (slice_get lines i ≡ Some l) → length (pruned gone (take i lines)) ≡ lowered_place gone i
+        → length (pruned gone (take (suc i) lines)) ≡ lowered_place gone (suc i)
+    go (l, at) size =
+        ap (λ n. length (pruned gone (take n lines))) next
+        ∙ ap (λ (zs : List LineValue). length zs) (pruned-next gone lines i l at)
+        ∙ more (gone i) refl (pruned gone (take i lines)) l size
+
+-- where the first places are: none of them, and one more
+pub left-none : (gone : Places) → ArePlacesLeft gone 0 []
+left-none gone = record { count = refl; places = λ k h. absurd (omega arith) }
+
+pub left-next : (gone : Places) (n : ℕ) (moved : List ℕ) (there : ℕ) → ArePlacesLeft gone n moved → there ≡ lowered_place gone n
+    → ArePlacesLeft gone (n + 1) (moved ++ there ∷ [])
+left-next gone n moved there left is = record {
+  count = omega (arith, length-append moved (there ∷ []), left.count);
+  places = λ k h. go k (under k n) h;
+}
+  where
+    go : (k : ℕ) → (k < n) ⊎ (n ≤ k) → k < n + 1 → slice_index (moved ++ there ∷ []) k ≡ lowered_place gone k
+    go k (inl lower) h =
+        get_or_append_left moved (there ∷ []) 0 k (omega (arith, left.count)) ∙ left.places k lower
+    go k (inr high) h =
+        let same : k ≡ length moved = omega (arith, left.count) in
+        let here : n ≡ k = omega arith in
+        ap (λ j. slice_index (moved ++ there ∷ []) j) same ∙ get_or-append_seam moved there [] 0 ∙ is ∙ ap (lowered_place gone) here
+
+-- a line whose places are moved so is renumbered
+pub moved_as_left : (gone : Places) (n : ℕ) (moved : List ℕ) (l : LineValue) → ArePlacesLeft gone n moved → All (λ p. p < n) l.from
+    → moved_line (slice_index moved) l ≡ renumbered gone l
+moved_as_left gone n moved l left below =
+    ap (λ (from : List ℕ). record { claim = l.claim; rule = l.rule; from = from }) (same_places l.from below)
+  where
+    same_places : (places : List ℕ) → All (λ p. p < n) places → map (slice_index moved) places ≡ map (lowered_place gone) places
+    same_places [] within = refl
+    same_places (p ∷ places) within =
+        ap₂ (λ (q : ℕ) (qs : List ℕ). q ∷ qs) (left.places p (All-head (λ q. q < n) p places within))
+        (same_places places (All-tail (λ q. q < n) p places within))
+
+-- the lines that are left of the first ones, and of one more
+pub put_next : (marks : List Bool) (lines : List LineValue) (i : ℕ) (l : LineValue) (moved : List ℕ) → slice_get lines i ≡ Some l
+    → ArePlacesLeft (unmarked marks) i moved → All (λ p. p < i) l.from
+    → pruned (unmarked marks) (take i lines) ++ (if is_marked marks i then moved_line (slice_index moved) l ∷ [] else [])
+    ≡ pruned (unmarked marks) (take (i + 1) lines)
+put_next marks lines i l moved at left below =
+    ap (λ (rest : List LineValue). pruned (unmarked marks) (take i lines) ++ rest) (same (is_marked marks i))
+    ∙ sym (pruned-next (unmarked marks) lines i l at)
+  where
+    same : (b : Bool) → (if b then moved_line (slice_index moved) l ∷ [] else []) ≡ (if not b then [] else renumbered (unmarked marks) l ∷ [])
+    same true = ap (λ (m : LineValue). m ∷ []) (moved_as_left (unmarked marks) i moved l left below)
+    same false = refl
+
+pub pruned-none : (gone : Places) → pruned gone [] ≡ []
+unfolding without
+pruned-none gone = refl

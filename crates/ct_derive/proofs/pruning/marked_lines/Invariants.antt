@@ -1,0 +1,10 @@
+use Rattle.std.proofs.Common.{◌≡◌, length, map, take}
+use Rattle.ct_removal.specs.Removal.{lowered_place}
+use Rattle.ct_derive.specs.Inside.Pruning.{pruned, unmarked, ArePlacesLeft}
+use Rattle.ct_derive.proofs.pruning.marked_lines.Given as goal
+
+abbrev pub invariant-loop-place : goal.invariant-loop-place
+invariant-loop-place l = record {
+  lines : l.lines.items ≡ pruned (unmarked l.marks) (take l.place l.table.lines);
+  moved : ArePlacesLeft (unmarked l.marks) l.place l.moved.items;
+}

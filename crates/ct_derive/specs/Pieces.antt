@@ -1,0 +1,24 @@
+-- Which pieces of evidence lines need.
+use Rattle.std.specs.Prelude.{ℕ, ◌↔◌, List, [], Contains}
+use Rattle.std.specs.List.{filter_map, slice_index_or}
+use Rattle.std.specs.List.Sorted.{IsStrictlyIncreasing}
+use Rattle.ct_rules.specs.Rule.{place_of}
+use Rattle.ct_rules.specs.Derivation.{LineValue}
+
+-- the places of the supports that the rules of lines name, in the order of the lines
+abbrev pub cited_places : List LineValue → List ℕ
+cited_places lines = filter_map (λ l. place_of l.rule) lines
+
+-- the places of the parts of the piece at a place, where each piece has a list of them
+abbrev pub parts_at : List (List ℕ) → ℕ → List ℕ
+parts_at parts p = slice_index_or parts p []
+
+-- lines need the piece at a place: the rule of one names what it supports, or it is a part of a piece that they need
+pub data IsNeeded (parts : List (List ℕ)) (lines : List LineValue) : ℕ → Type 0 where
+  by_line : (p : ℕ) → Contains (cited_places lines) p → IsNeeded parts lines p
+  by_piece : (p q : ℕ) → IsNeeded parts lines p → Contains (parts_at parts p) q → IsNeeded parts lines q
+
+-- the places of the pieces that lines need, and no others, in ascending order
+pub record AreNeeded (parts : List (List ℕ)) (lines : List LineValue) (places : List ℕ) : Type 0 where
+  pub ascending : IsStrictlyIncreasing places
+  pub needed : (p : ℕ) → Contains places p ↔ IsNeeded parts lines p
