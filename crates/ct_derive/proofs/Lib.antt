@@ -3,3 +3,5 @@ pub mod MarkedLines
 pub mod MergedLines
 pub mod TableLines
 pub mod NeededPieces
+pub mod NumberedLines
+pub mod CheckedLines

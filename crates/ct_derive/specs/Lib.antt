@@ -1,4 +1,5 @@
 pub mod Explanation
 pub mod Pieces
 pub mod Derivation
+pub mod Check
 pub mod Inside

@@ -1,6 +1,7 @@
 //! Bounds followed to their reasons.
 #![tactic(auto)]
 
+mod check;
 mod derivation;
 mod explaining;
 mod laws;
@@ -10,7 +11,8 @@ mod needed;
 mod parts;
 mod pruning;
 
+pub use check::{LineFault, line_fault};
 pub use derivation::Derivation;
 pub use explaining::explain;
-pub use laws::explanations_exist;
+pub use laws::{explanations_exist, lines_without_fault_follow};
 pub use parts::Parts;

@@ -1,0 +1,94 @@
+-- A line without a fault follows from those before it, and one that follows has no fault.
+use Rattle.std.proofs.Common.{◌≡◌, ℕ, suc, Bool, true, false, List, map, All, length, Option, Some, None, refl, sym, ap, subst, ◌∙◌, arith}
+use Rattle.std.specs.Prelude.{◌==◌, if◌then◌else◌}
+use Rattle.std.proofs.lemmas.Bool.Decides.{nat_tests}
+use Rattle.std.proofs.lemmas.Option.{none-some, same_Some, cond_some}
+use Rattle.ct_codes.specs.declared.entry.Entry.{Entry}
+use Rattle.ct_codes.specs.declared.claim.Claim.{Claim}
+use Rattle.ct_rule_parts.specs.declared.support.Support.{Support}
+use Rattle.ct_rule_parts.specs.Slot.{slot_of}
+use Rattle.ct_rules.specs.declared.rule.Rule.{Rule}
+use Rattle.ct_rules.specs.Rule.{rule_side, applies, parts_over, premises_at, premises_of, value_of}
+use Rattle.ct_rules.specs.Derivation.{LineValue, claims_at, Follows}
+use Rattle.ct_rules.proofs.Applied.{applies_from_premises}
+use Rattle.ct_derive.specs.declared.check.LineFault.{LineFault}
+use Rattle.ct_derive.specs.declared.check.LineFault.TheVariants.{NoRule, NoPremise, OtherValue}
+use Rattle.ct_derive.specs.Check.{values_numbered, value_fault, premise_fault, line_fault, numbers_at}
+use Rattle.ct_derive.proofs.NumberedLines.{Named, named_from_values, values_from_named}
+
+same_number : (m n : ℕ) → (m == n) ≡ true → m ≡ n
+same_number m n h = grind (arith, nat_tests)
+
+number-self : (n : ℕ) → (n == n) ≡ true
+number-self n = grind (arith, nat_tests)
+
+-- the value is the one that is stated
+right_value : (stated : ℕ) (given : Option ℕ) → value_fault stated given ≡ None → given ≡ Some stated
+right_value stated None h = absurd (none-some NoRule (sym h))
+right_value stated (Some v) h = go (stated == v) refl h
+  where
+    go : (b : Bool) → (stated == v) ≡ b → (if stated == v then None else Some (OtherValue stated v)) ≡ None → Some v ≡ Some stated
+    go true is none = ap Some (sym (same_number stated v is))
+    go false is none =
+        absurd (none-some (OtherValue stated v)
+        (sym none ∙ ap (λ (b : Bool). if b then None else Some (OtherValue stated v)) is))
+
+-- a line that follows, and the places that its numbers say
+pub record FollowsBy (supports : List Support) (before : List LineValue) (c : Claim) (r : Rule) (numbers : List ℕ) : Type 0 where
+  pub places : List ℕ
+  pub numbered : numbers ≡ numbers_at places
+  pub follows : Follows supports before (record { claim = c; rule = r; from = places })
+
+pub follows_without_fault : (supports : List Support) (before : List LineValue) (c : Claim) (r : Rule) (numbers : List ℕ)
+    → c.side ≡ rule_side r → line_fault supports before c r numbers ≡ None → FollowsBy supports before c r numbers
+follows_without_fault supports before c r numbers side h = go (applies supports r c.entry) refl
+  where
+    es : List Entry
+    es = (parts_over supports r).rests_on c.entry
+
+    named : applies supports r c.entry ≡ true → (values : Option (List ℕ))
+        → values_numbered (rule_side r) before ((parts_over supports r).rests_on c.entry) numbers ≡ values
+        → premise_fault supports c r values ≡ None → FollowsBy supports before c r numbers
+    named applied None is none = absurd (none-some NoPremise (sym none))
+    named applied (Some vs) is none =
+        let claims = named_from_values (rule_side r) before ((parts_over supports r).rests_on c.entry) numbers vs is in
+        record {
+          places = claims.places;
+          numbered = claims.numbered;
+          follows = record {
+            earlier = claims.within;
+            side = side;
+            premises =
+                ap (λ (b : Bool). if b then Some (premises_at supports r c.entry) else None) applied
+                ∙ ap Some (sym claims.slots);
+            value = ap (value_of supports r c.entry) claims.same ∙ right_value c.value (value_of supports r c.entry vs) none;
+          };
+        }
+
+    go : (b : Bool) → applies supports r c.entry ≡ b → FollowsBy supports before c r numbers
+    go false is =
+        absurd (none-some NoRule
+        (sym h ∙ ap
+        (λ (b : Bool). if b then premise_fault supports c r (values_numbered (rule_side r) before ((parts_over supports r).rests_on c.entry) numbers) else Some NoRule)
+        is))
+    go true is =
+        named is (values_numbered (rule_side r) before ((parts_over supports r).rests_on c.entry) numbers) refl
+        (sym (ap
+        (λ (b : Bool). if b then premise_fault supports c r (values_numbered (rule_side r) before ((parts_over supports r).rests_on c.entry) numbers) else Some NoRule)
+        is) ∙ h)
+
+pub no_fault : (supports : List Support) (before : List LineValue) (line : LineValue) → Follows supports before line
+    → line_fault supports before line.claim line.rule (numbers_at line.from) ≡ None
+no_fault supports before line follows =
+    let r = line.rule in
+    let e = line.claim.entry in
+    let claims = claims_at before line.from in
+    let applied = applies_from_premises supports r e (map slot_of claims) follows.premises in
+    let slots = (cond_some (applies supports r e) (premises_at supports r e) (map slot_of claims) follows.premises).1 in
+    let values = values_from_named (rule_side r) before ((parts_over supports r).rests_on e) line.from follows.earlier (sym slots) in
+    ap
+    (λ (b : Bool). if b then premise_fault supports line.claim line.rule (values_numbered (rule_side line.rule) before ((parts_over supports line.rule).rests_on line.claim.entry) (numbers_at line.from)) else Some NoRule)
+    applied
+    ∙ ap (premise_fault supports line.claim r) values
+    ∙ ap (value_fault line.claim.value) follows.value
+    ∙ ap (λ (b : Bool). if b then None else Some (OtherValue line.claim.value line.claim.value)) (number-self line.claim.value)

@@ -1,0 +1,123 @@
+//! Lines that someone states, checked against those before them.
+
+ghost use Rattle.std.specs.Prelude.{◌≡◌, IfOk, option_map};
+ghost use Rattle.ct_rule_parts.specs.Entries.{listed};
+ghost use Rattle.ct_derive.specs.Check.{same_side, claim_numbered, value_for, values_numbered, value_fault, line_fault};
+
+use ct_codes::{Claim, Entry, Side};
+use ct_rules::{Entries, Line, Rule, Support, defined_on, rule_side, value};
+use smallvec::SmallVec;
+use std::alloc::{AllocError, Global};
+
+/// Why a line does not follow from those before it.
+#[derive(Clone, Copy, Debug, PartialEq, Eq)]
+pub enum LineFault {
+    /// The rule is not defined at the entry, with its argument and the support that it names, or gives nothing from the
+    /// values of the premises.
+    NoRule,
+    /// The lines that are named are not as many as the rule's premises, or one of them is no earlier line that claims the
+    /// premise at its place.
+    NoPremise,
+    /// The rule gives another value than the one that is stated.
+    OtherValue {
+        /// The value that the line states.
+        stated: u32,
+        /// The value that the rule gives.
+        given: u32,
+    },
+}
+
+/// Whether the sides are the same.
+fn same_side(side: Side, other: Side) -> bool
+    ensures { result ≡ same_side side other }
+{
+    match (side, other) {
+        (Side::Lower, Side::Lower) | (Side::Upper, Side::Upper) => true,
+        _ => false,
+    }
+}
+
+/// The claim of the line with the number, counted from 1, where there is one.
+fn claim_numbered(before: &[Line], number: u64) -> Option<Claim>
+    ensures { result ≡ claim_numbered before.now number }
+{
+    if number == 0 {
+        return None;
+    }
+    let line = before.get((number - 1) as usize)?;
+    Some(line.claim)
+}
+
+/// The value of the claim with the number, where it bounds the entry from this side.
+fn value_numbered(before: &[Line], number: u64, side: Side, entry: Entry) -> Option<u32>
+    ensures { result ≡ value_for side entry (claim_numbered before.now number) }
+{
+    let claim = claim_numbered(before, number)?;
+    if same_side(claim.side, side) && claim.entry == entry {
+        Some(claim.value)
+    } else {
+        None
+    }
+}
+
+/// The values of the claims with these numbers, where there are as many as entries and each bounds the entry at its place from
+/// this side. `Err` is want of memory.
+fn values_numbered(
+    alloc: Global,
+    before: &[Line],
+    side: Side,
+    entries: Entries,
+    numbers: &[u64],
+) -> Result<Option<SmallVec<u32, 4>>, AllocError>
+    ensures { IfOk result (λ values. option_map (λ vs. vs.items) values ≡ values_numbered side before.now (listed entries) numbers.now) }
+{
+    let mut values = SmallVec::new(alloc);
+    for place in 0..numbers.len() {
+        let Some(entry) = entries.get(place) else {
+            return Ok(None);
+        };
+        let Some(value) = value_numbered(before, numbers[place], side, entry) else {
+            return Ok(None);
+        };
+        values.push(value)?;
+    }
+    if numbers.len() < entries.len() {
+        return Ok(None);
+    }
+    Ok(Some(values))
+}
+
+/// The fault of a stated value, where the rule gives this one.
+fn value_fault(stated: u32, given: Option<u32>) -> Option<LineFault>
+    ensures { result ≡ value_fault stated given }
+{
+    match given {
+        None => Some(LineFault::NoRule),
+        Some(given) if stated == given => None,
+        Some(given) => Some(LineFault::OtherValue { stated, given }),
+    }
+}
+
+/// The first fault of a line that states this claim by this rule, which is of the claim's side, from the lines with these
+/// numbers, counted from 1; `None` where it follows from the lines before it. `Err` is want of memory.
+pub fn line_fault(
+    alloc: Global,
+    supports: &[Support],
+    before: &[Line],
+    claim: Claim,
+    rule: Rule,
+    numbers: &[u64],
+) -> Result<Option<LineFault>, AllocError>
+    ensures { IfOk result (λ fault. fault ≡ line_fault supports.now before.now claim rule numbers.now) }
+{
+    let Some(entries) = defined_on(supports, rule, claim.entry) else {
+        return Ok(Some(LineFault::NoRule));
+    };
+    let Some(values) = values_numbered(alloc, before, rule_side(rule), entries, numbers)? else {
+        return Ok(Some(LineFault::NoPremise));
+    };
+    Ok(value_fault(
+        claim.value,
+        value(supports, rule, claim.entry, values.as_slice()),
+    ))
+}
