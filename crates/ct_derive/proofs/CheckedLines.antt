@@ -1,20 +1,19 @@
 -- A line without a fault follows from those before it, and one that follows has no fault.
-use Rattle.std.proofs.Common.{◌≡◌, ℕ, suc, Bool, true, false, List, map, All, length, Option, Some, None, refl, sym, ap, subst, ◌∙◌, arith}
+use Rattle.std.proofs.Common.{◌≡◌, ℕ, Bool, true, false, List, map, Option, Some, None, refl, sym, ap, ◌∙◌, arith}
 use Rattle.std.specs.Prelude.{◌==◌, if◌then◌else◌}
 use Rattle.std.proofs.lemmas.Bool.Decides.{nat_tests}
-use Rattle.std.proofs.lemmas.Option.{none-some, same_Some, cond_some}
+use Rattle.std.proofs.lemmas.Option.{none-some, cond_some}
 use Rattle.ct_codes.specs.declared.entry.Entry.{Entry}
 use Rattle.ct_codes.specs.declared.claim.Claim.{Claim}
 use Rattle.ct_rule_parts.specs.declared.support.Support.{Support}
 use Rattle.ct_rule_parts.specs.Slot.{slot_of}
 use Rattle.ct_rules.specs.declared.rule.Rule.{Rule}
-use Rattle.ct_rules.specs.Rule.{rule_side, applies, parts_over, premises_at, premises_of, value_of}
+use Rattle.ct_rules.specs.Rule.{rule_side, applies, parts_over, premises_at, value_of}
 use Rattle.ct_rules.specs.Derivation.{LineValue, claims_at, Follows}
 use Rattle.ct_rules.proofs.Applied.{applies_from_premises}
-use Rattle.ct_derive.specs.declared.check.LineFault.{LineFault}
 use Rattle.ct_derive.specs.declared.check.LineFault.TheVariants.{NoRule, NoPremise, OtherValue}
 use Rattle.ct_derive.specs.Check.{values_numbered, value_fault, premise_fault, line_fault, numbers_at}
-use Rattle.ct_derive.proofs.NumberedLines.{Named, named_from_values, values_from_named}
+use Rattle.ct_derive.proofs.NumberedLines.{named_from_values, values_from_named}
 
 same_number : (m n : ℕ) → (m == n) ≡ true → m ≡ n
 same_number m n h = grind (arith, nat_tests)

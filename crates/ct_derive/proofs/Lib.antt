@@ -5,3 +5,4 @@ pub mod TableLines
 pub mod NeededPieces
 pub mod NumberedLines
 pub mod CheckedLines
+pub mod ExplanationLaws

@@ -1,5 +1,5 @@
 -- The pieces that lines need: marks of those that lines name, and of the parts of marked ones, from the last piece down.
-use Rattle.std.proofs.Common.{◌≡◌, ℕ, zero, suc, ◌+◌, ◌<◌, ◌≤◌, Bool, true, false, List, [], ◌∷◌, length, get_or, replicate, take, All, Option, Some, None, ◌⊎◌, inl, inr, refl, sym, ap, subst, ◌∙◌, arith}
+use Rattle.std.proofs.Common.{◌≡◌, ℕ, zero, suc, ◌+◌, ◌<◌, ◌≤◌, Bool, true, false, List, [], ◌∷◌, length, replicate, All, Option, Some, None, ◌⊎◌, inl, inr, refl, sym, ap, subst, ◌∙◌, arith}
 use Rattle.std.proofs.Common.{Result, Ok, Err, Vec, Global}
 use Rattle.std.specs.Prelude.{◌↔◌, slice_get, Contains, IfOk}
 use Rattle.std.specs.List.{cons_option}
@@ -11,13 +11,13 @@ use Rattle.std.proofs.lemmas.List.{length-replicate}
 use Rattle.std.proofs.lemmas.List.Elements.{All-nil, All-cons, All-weaker, All-contains}
 use Rattle.ct_rule_parts.specs.declared.support.Support.{Support}
 use Rattle.ct_rules.specs.Rule.{place_of}
-use Rattle.ct_rules.specs.Derivation.{LineValue, IsDerivation, claims_at}
+use Rattle.ct_rules.specs.Derivation.{LineValue, IsDerivation}
 use Rattle.ct_rules.proofs.Applied.{applies_from_premises}
 use Rattle.ct_removal.proofs.LoweredRules.{support_there}
 use Rattle.ct_derive.specs.Pieces.{cited_places, parts_at, IsNeeded, AreNeeded}
 use Rattle.ct_derive.specs.Pieces.IsNeeded.{by_line, by_piece}
 use Rattle.ct_derive.specs.Inside.Pruning.{is_marked, with_marks}
-use Rattle.ct_derive.specs.Inside.Needed.{AreEarlier, AreMarkedPieces}
+use Rattle.ct_derive.specs.Inside.Needed.{AreMarkedPieces}
 use Rattle.ct_derive.proofs.MarkedLines.{length-with_marks, with_marks-kept, with_marks-there, with_marks-cases, none-marked}
 
 -- what holds of each place that a line names holds of all

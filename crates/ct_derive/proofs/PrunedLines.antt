@@ -4,17 +4,15 @@ use Rattle.std.specs.Prelude.{◌≢◌, AllPairs, Contains, slice_index, if◌t
 use Rattle.std.specs.List.{cons_option}
 use Rattle.std.proofs.lemmas.List.{length-map, map-append, length-take-le, get_or_append_left}
 use Rattle.std.proofs.Math.Seq.{get_or-append_seam}
-use Rattle.std.proofs.lemmas.List.Elements.{All-nil, All-cons, All-head, All-tail, All-map, All-weaker}
+use Rattle.std.proofs.lemmas.List.Elements.{All-head, All-tail, All-map}
 use Rattle.std.proofs.lemmas.Option.{slice_get-map, slice_get_within, slice_get-get_or, get_or_from_slice_get, none-some, same_Some}
 use Rattle.ct_codes.specs.declared.claim.Claim.{Claim}
 use Rattle.ct_rule_parts.specs.declared.support.Support.{Support}
-use Rattle.ct_rule_parts.specs.Slot.{Slot, slot_of}
-use Rattle.ct_rules.specs.Rule.{rule_side, premises_of, value_of}
+use Rattle.ct_rule_parts.specs.Slot.{slot_of}
 use Rattle.ct_rules.specs.Derivation.{LineValue, claims_at, Follows, IsDerivation}
-use Rattle.ct_rules.proofs.Places.{slice_get-take}
 use Rattle.ct_removal.specs.Removal.{Places, without, count_below, lowered_place}
 use Rattle.ct_removal.proofs.WithoutLemmas.{was_at, slice_get-without, without-out, without-in}
-use Rattle.ct_derive.specs.Explanation.{IsNamedLater, last_claim, IsExplanation}
+use Rattle.ct_derive.specs.Explanation.{IsNamedLater, IsExplanation}
 use Rattle.ct_derive.specs.Inside.Pruning.{is_marked, unmarked, moved_line, renumbered, pruned, AreMarked, IsNamedByMarked, ArePlacesLeft}
 
 -- places that stay keep their order

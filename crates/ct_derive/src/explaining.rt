@@ -5,6 +5,7 @@ ghost use Rattle.ct_codes.specs.Entry.{IsEntry};
 ghost use Rattle.ct_rule_parts.specs.Slot.{slot_of};
 ghost use Rattle.ct_rules.specs.Derivation.{LineValue, IsBest};
 ghost use Rattle.ct_table.specs.Table.{IsShownTable};
+ghost use Rattle.ct_derive.specs.Derivation.{AreOrdered};
 ghost use Rattle.ct_derive.specs.Explanation.{IsExplanation};
 ghost use Rattle.ct_derive.specs.Pieces.{AreNeeded};
 ghost use Rattle.ct_derive.specs.Inside.Needed.{AreEarlier};
@@ -46,8 +47,10 @@ pub fn explain(
     ensures lines { IfOk result (λ d. (v : ℕ) × IsBest table.now.supports (side, entry) v
         × IsExplanation table.now.supports (side, entry) v d.lines) }
     ensures pieces { IfOk result (λ d. AreNeeded parts.now d.lines d.pieces) }
+    ensures ordered { IfOk result (λ d. AreOrdered d.lines) }
 {
-    let _supports = table.supports();
+    let count = table.supports().len();
+    prove!(parts.len() == count);
     let lines = lines_to(alloc, table, table.reason(side, entry))?;
     let pieces = needed_pieces(alloc, parts, &lines)?;
     Ok(Derivation { pieces, lines })

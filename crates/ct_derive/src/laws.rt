@@ -1,14 +1,24 @@
 //! What explanations are, and that there are some.
 
-ghost use Rattle.std.specs.Prelude.{◌≡◌, ℕ, List, None};
+ghost use Rattle.std.specs.Prelude.{◌≡◌, ◌∷◌, ◌++◌, [], ℕ, All, List, None, codes};
+ghost use Rattle.ct_lines.specs.declared.TheConstants.{LINE_FEED};
+ghost use Rattle.ct_codes.specs.Claim.{IsTrueClaim};
+ghost use Rattle.ct_codes.specs.Entry.{constant_weight};
+ghost use Rattle.ct_codes.specs.declared.claim.Side.TheVariants.{Upper};
 ghost use Rattle.ct_codes.specs.declared.claim.Claim.{Claim};
 ghost use Rattle.ct_rule_parts.specs.declared.support.Support.{Support};
-ghost use Rattle.ct_rule_parts.specs.Slot.{Slot, claim_at};
+ghost use Rattle.ct_rule_parts.specs.Slot.{Slot, claim_at, lower_at};
+ghost use Rattle.ct_rule_parts.specs.Support.{AllStand};
 ghost use Rattle.ct_rules.specs.declared.rule.Rule.{Rule};
+ghost use Rattle.ct_rules.specs.declared.rule.Rule.TheVariants.{L11};
 ghost use Rattle.ct_rules.specs.Rule.{rule_side};
 ghost use Rattle.ct_rules.specs.Derivation.{LineValue, Follows, IsDerived};
 ghost use Rattle.ct_derive.specs.Check.{line_fault, numbers_at};
+ghost use Rattle.ct_derive.specs.Derivation.{AreOrdered};
+ghost use Rattle.ct_derive.specs.Examples.{one_at_three, one_at_four, four_at_six, four_at_five, four_by_support};
 ghost use Rattle.ct_derive.specs.Explanation.{IsExplanation};
+ghost use Rattle.ct_derive.specs.Pieces.{IsNeeded};
+ghost use Rattle.ct_derive.specs.Text.{rule_words, claim_words, line_text, lines_text, evidence_text};
 
 /// Each bound that is derived has an explanation.
 pub fn explanations_exist()
@@ -24,4 +34,39 @@ pub fn lines_without_fault_follow()
         (places : List ℕ) × (numbers ≡ numbers_at places) × Follows supports before (record { claim = c; rule = r; from = places }) }
     ensures no_fault { (supports : List Support) (before : List LineValue) (line : LineValue) → Follows supports before line →
         line_fault supports before line.claim line.rule (numbers_at line.from) ≡ None }
+{}
+
+/// Where the supports stand, each claim of an explanation is true, and so is the bound that it explains. Its lines name lines
+/// before them alone, and the last is named by none.
+pub fn explanations_are_true()
+    ensures bound { (supports : List Support) (s : Slot) (v : ℕ) (lines : List LineValue) → AllStand supports →
+        IsExplanation supports s v lines → IsTrueClaim (claim_at s v) }
+    ensures lines { (supports : List Support) (s : Slot) (v : ℕ) (lines : List LineValue) → AllStand supports →
+        IsExplanation supports s v lines → All (λ l. IsTrueClaim l.claim) lines }
+    ensures ordered { (supports : List Support) (s : Slot) (v : ℕ) (lines : List LineValue) →
+        IsExplanation supports s v lines → AreOrdered lines }
+    ensures derived { (supports : List Support) (s : Slot) (v : ℕ) (lines : List LineValue) →
+        IsExplanation supports s v lines → IsDerived supports (claim_at s v) }
+{}
+
+/// An explanation of A(5,3) ≥ 4 with no evidence; no explanation of it with a line that none needs, or with one claim twice;
+/// and which pieces lines need.
+pub fn known_explanations()
+    ensures three_lines { IsExplanation [] (lower_at 5 3) 4 (one_at_three ∷ four_at_six ∷ four_at_five ∷ []) }
+    ensures other_value { ¬ IsExplanation [] (lower_at 5 3) 3 (one_at_three ∷ four_at_six ∷ four_at_five ∷ []) }
+    ensures not_needed { ¬ IsExplanation [] (lower_at 3 4) 1 (one_at_four ∷ one_at_three ∷ []) }
+    ensures twice { ¬ IsExplanation [] (lower_at 3 4) 1 (one_at_three ∷ one_at_three ∷ []) }
+    ensures part { IsNeeded ([] ∷ [] ∷ (0 ∷ []) ∷ []) (four_by_support 2 ∷ []) 0 }
+    ensures no_part { ¬ IsNeeded ([] ∷ [] ∷ (0 ∷ []) ∷ []) (four_by_support 2 ∷ []) 1 }
+{}
+
+/// The text of derivations that are known.
+pub fn known_texts()
+    ensures lines { lines_text [] 1 (one_at_three ∷ four_at_six ∷ four_at_five ∷ [])
+        ≡ codes "line 1 lower 3 4 value 1 by L1" ++ LINE_FEED ∷ [] ++ codes "line 2 lower 6 4 value 4 by L8 from 1" ++ LINE_FEED ∷ []
+        ++ codes "line 3 lower 5 3 value 4 by L6 from 2" ++ LINE_FEED ∷ [] }
+    ensures support { line_text (codes "a" ∷ codes "hexa" ∷ []) 7 (four_by_support 1) ≡ codes "line 7 lower 6 4 value 4 by L10 hexa" ++ LINE_FEED ∷ [] }
+    ensures numbers { rule_words [] (L11 3 4) ≡ codes "L11 3 4" }
+    ensures weight { claim_words (claim_at (Upper, constant_weight 13 6 3) 4) ≡ codes "upper 13 6 3 value 4" }
+    ensures block { evidence_text (codes "a") (codes "x" ++ LINE_FEED ∷ [] ++ codes "y") ≡ codes "evidence a lines 2" ++ LINE_FEED ∷ [] ++ codes "x" ++ LINE_FEED ∷ [] ++ codes "y" ++ LINE_FEED ∷ [] }
 {}

@@ -9,10 +9,16 @@ mod marking;
 mod marks;
 mod needed;
 mod parts;
+mod printing;
 mod pruning;
+mod text;
 
 pub use check::{LineFault, line_fault};
 pub use derivation::Derivation;
 pub use explaining::explain;
-pub use laws::{explanations_exist, lines_without_fault_follow};
+pub use laws::{
+    explanations_are_true, explanations_exist, known_explanations, known_texts,
+    lines_without_fault_follow,
+};
 pub use parts::Parts;
+pub use printing::{ShownPiece, print};

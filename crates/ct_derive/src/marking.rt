@@ -53,7 +53,8 @@ pub(crate) fn needed_lines(
     ensures size { IfOk result (λ marks. length marks.items ≡ last + 1) }
     ensures needed { IfOk result (λ marks. AreMarked (take (last + 1) table.now.lines) marks.items) }
 {
-    let _count = table.line_count();
+    let count = table.line_count();
+    prove!(last < count);
     let mut marks = vec![in alloc; false; last + 1]?;
     mark_needed(&mut marks, table, last);
     Ok(marks)

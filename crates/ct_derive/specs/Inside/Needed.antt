@@ -1,7 +1,7 @@
 -- Marks of the pieces that lines need.
 use Rattle.std.specs.Prelude.{◌≡◌, ◌<◌, ◌≤◌, ℕ, Bool, true, List, length, All, Contains, slice_get, Some}
 use Rattle.ct_rules.specs.Derivation.{LineValue}
-use Rattle.ct_derive.specs.Pieces.{cited_places, parts_at, IsNeeded}
+use Rattle.ct_derive.specs.Pieces.{cited_places, IsNeeded}
 use Rattle.ct_derive.specs.Inside.Pruning.{is_marked}
 
 -- the parts of each piece are before it

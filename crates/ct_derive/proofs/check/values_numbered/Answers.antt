@@ -1,4 +1,4 @@
-use Rattle.std.proofs.Common.{ℕ, List, Option, ◌∷◌, ◌++◌, [], get_or, drop, option_map, sym, ap, ◌∙◌, ◌+◌}
+use Rattle.std.proofs.Common.{ℕ, List, Option, ◌++◌, drop, option_map, sym, ap, ◌∙◌, ◌+◌}
 use Rattle.ct_rule_parts.specs.Entries.{listed}
 use Rattle.ct_derive.specs.Check.{and_values, values_numbered}
 use Rattle.ct_derive.proofs.NumberedLines.{values-no_entry, values-next, values-push}

@@ -1,5 +1,4 @@
-use Rattle.std.proofs.Common.{◌≡◌, ◌<◌, List, ℕ, All, Some, length, option_map, sym, ap, subst, ◌∙◌}
-use Rattle.std.specs.Prelude.{slice_get}
+use Rattle.std.proofs.Common.{◌<◌, List, All, length, sym, subst}
 use Rattle.ct_codes.specs.declared.claim.Claim.{Claim}
 use Rattle.ct_rule_parts.specs.Slot.{slot_of, claim_at}
 use Rattle.ct_rules.specs.Derivation.{LineValue}
@@ -7,6 +6,7 @@ use Rattle.ct_derive.specs.Explanation.{IsExplanation}
 use Rattle.ct_derive.specs.Pieces.{cited_places, AreNeeded}
 use Rattle.ct_derive.proofs.NeededPieces.{cited_within}
 use Rattle.ct_derive.proofs.TableLines.{line_with_claim}
+use Rattle.ct_derive.proofs.MarkedLines.{named_below_line}
 use Rattle.ct_derive.proofs.explaining.explain.Goals as goal
 
 pub needed_pieces-requires-clause-cited : goal.needed_pieces-requires-clause-cited
@@ -32,4 +32,6 @@ returns c =
       pieces =
           subst (λ (lines : List LineValue). AreNeeded c.args.parts.now lines c.in_ok-pieces.pieces.items) c.deref.ensures.value
           c.in_ok-pieces.ensures;
+      ordered = λ i l at.
+          named_below_line c.args.table.now.supports c.in_ok-lines.lines.items i l explained.derivation at;
     }

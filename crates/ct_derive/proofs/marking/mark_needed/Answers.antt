@@ -1,4 +1,4 @@
-use Rattle.std.proofs.Common.{◌≡◌, ◌+◌, ℕ, Bool, true, false, List, length, take, ap, subst, sym, ◌∙◌}
+use Rattle.std.proofs.Common.{◌+◌, Bool, true, false, List, length, take, ap, subst, sym, ◌∙◌}
 use Rattle.std.specs.Prelude.{slice_set}
 use Rattle.std.proofs.lemmas.List.{length-replicate, length-set}
 use Rattle.ct_derive.specs.Inside.Pruning.{AreMarkedFrom, AreMarked}

@@ -1,4 +1,3 @@
-use Rattle.std.proofs.Common.{◌≡◌, take, List, Bool}
 use Rattle.ct_derive.specs.Inside.Pruning.{ArePlacesBelow}
 use Rattle.ct_derive.proofs.marks.marked_places.Given as goal
 

@@ -1,4 +1,4 @@
-use Rattle.std.proofs.Common.{◌≡◌, ◌+◌, ◌-◌, ℕ, subst, arith}
+use Rattle.std.proofs.Common.{◌≡◌, ◌+◌, ◌-◌, subst, arith}
 use Rattle.ct_derive.specs.Inside.Needed.{AreMarkedPieces}
 use Rattle.ct_derive.proofs.needed.mark_all_parts.Goals as goal
 

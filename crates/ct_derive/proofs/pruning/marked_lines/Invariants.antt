@@ -1,5 +1,4 @@
-use Rattle.std.proofs.Common.{◌≡◌, length, map, take}
-use Rattle.ct_removal.specs.Removal.{lowered_place}
+use Rattle.std.proofs.Common.{◌≡◌, take}
 use Rattle.ct_derive.specs.Inside.Pruning.{pruned, unmarked, ArePlacesLeft}
 use Rattle.ct_derive.proofs.pruning.marked_lines.Given as goal
 

@@ -1,0 +1,7 @@
+use Rattle.std.proofs.Common.{refl}
+use Rattle.std.specs.Fmt.{digits}
+use Rattle.ct_derive.proofs.laws.known_texts.Goals as goal
+
+pub returns : goal.returns
+unfolding digits
+returns c = record { lines = refl; support = refl; numbers = refl; weight = refl; block = refl }
