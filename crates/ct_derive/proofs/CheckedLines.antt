@@ -1,5 +1,5 @@
 -- A line without a fault follows from those before it, and one that follows has no fault.
-use Rattle.std.proofs.Common.{◌≡◌, ℕ, Bool, true, false, List, map, Option, Some, None, refl, sym, ap, ◌∙◌, arith}
+use Rattle.std.proofs.Common.{◌≡◌, ℕ, Bool, true, false, List, map, Option, Some, None, refl, sym, ap, ◌∙◌, arith, suc, ◌-◌, ◌++◌, ◌∷◌, [], ap₂, subst}
 use Rattle.std.specs.Prelude.{◌==◌, if◌then◌else◌}
 use Rattle.std.proofs.lemmas.Bool.Decides.{nat_tests}
 use Rattle.std.proofs.lemmas.Option.{none-some, cond_some}
@@ -9,10 +9,11 @@ use Rattle.ct_rule_parts.specs.declared.support.Support.{Support}
 use Rattle.ct_rule_parts.specs.Slot.{slot_of}
 use Rattle.ct_rules.specs.declared.rule.Rule.{Rule}
 use Rattle.ct_rules.specs.Rule.{rule_side, applies, parts_over, premises_at, value_of}
-use Rattle.ct_rules.specs.Derivation.{LineValue, claims_at, Follows}
+use Rattle.ct_rules.specs.Derivation.{LineValue, claims_at, Follows, IsDerivation}
 use Rattle.ct_rules.proofs.Applied.{applies_from_premises}
 use Rattle.ct_derive.specs.declared.check.LineFault.TheVariants.{NoRule, NoPremise, OtherValue}
-use Rattle.ct_derive.specs.Check.{values_numbered, value_fault, premise_fault, line_fault, numbers_at}
+use Rattle.ct_rules.proofs.Derivations.{derivation-push}
+use Rattle.ct_derive.specs.Check.{values_numbered, value_fault, premise_fault, line_fault, numbers_at, line_by}
 use Rattle.ct_derive.proofs.NumberedLines.{named_from_values, values_from_named}
 
 same_number : (m n : ℕ) → (m == n) ≡ true → m ≡ n
@@ -91,3 +92,21 @@ no_fault supports before line follows =
     ∙ ap (premise_fault supports line.claim r) values
     ∙ ap (value_fault line.claim.value) follows.value
     ∙ ap (λ (b : Bool). if b then None else Some (OtherValue line.claim.value line.claim.value)) (number-self line.claim.value)
+
+-- numbers say their places
+places_again : (places : List ℕ) → map (λ n. n - 1) (numbers_at places) ≡ places
+places_again [] = refl
+places_again (p ∷ places) =
+    let less : suc p - 1 ≡ p = omega arith in
+    ap₂ (λ (q : ℕ) (qs : List ℕ). q ∷ qs) less (places_again places)
+
+-- lines that are a derivation stay one with a line that has no fault
+pub derivation_by : (supports : List Support) (lines : List LineValue) (c : Claim) (r : Rule) (numbers : List ℕ)
+    → c.side ≡ rule_side r → line_fault supports lines c r numbers ≡ None → IsDerivation supports lines
+    → IsDerivation supports (lines ++ line_by c r numbers ∷ [])
+derivation_by supports lines c r numbers side none derivation =
+    let by = follows_without_fault supports lines c r numbers side none in
+    let same : by.places ≡ map (λ n. n - 1) numbers =
+    sym (ap (map (λ (n : ℕ). n - 1)) by.numbered ∙ places_again by.places) in
+    derivation-push supports lines (line_by c r numbers) derivation
+    (subst (λ (places : List ℕ). Follows supports lines (record { claim = c; rule = r; from = places })) same by.follows)

@@ -6,3 +6,4 @@ pub mod NeededPieces
 pub mod NumberedLines
 pub mod CheckedLines
 pub mod ExplanationLaws
+pub mod NeededExist

@@ -199,7 +199,7 @@ pair_at_places R xs all i j x y lower at other =
     (all i j x lower (slice_get_within xs j y other)))
 
 -- below, or not
-under : (p q : ℕ) → (p < q) ⊎ (q ≤ p)
+pub under : (p q : ℕ) → (p < q) ⊎ (q ≤ p)
 under zero zero = inr (omega arith)
 under zero (suc q) = inl (omega arith)
 under (suc p) zero = inr (omega arith)

@@ -59,3 +59,7 @@ line_fault supports before c r numbers =
 -- the numbers of the lines at these places: lines are counted from 1
 abbrev pub numbers_at : List ℕ → List ℕ
 numbers_at places = map suc places
+
+-- a line as it is kept: this claim by this rule, from the places of the lines with these numbers
+abbrev pub line_by : Claim → Rule → List ℕ → LineValue
+line_by c r numbers = record { claim = c; rule = r; from = map (λ n. n - 1) numbers }

@@ -1,5 +1,5 @@
 -- Which pieces of evidence lines need.
-use Rattle.std.specs.Prelude.{ℕ, ◌↔◌, List, [], Contains}
+use Rattle.std.specs.Prelude.{◌≡◌, ◌<◌, ℕ, ◌↔◌, List, [], All, Contains, slice_get, Some}
 use Rattle.std.specs.List.{filter_map, slice_index_or}
 use Rattle.std.specs.List.Sorted.{IsStrictlyIncreasing}
 use Rattle.ct_rules.specs.Rule.{place_of}
@@ -12,6 +12,10 @@ cited_places lines = filter_map (λ l. place_of l.rule) lines
 -- the places of the parts of the piece at a place, where each piece has a list of them
 abbrev pub parts_at : List (List ℕ) → ℕ → List ℕ
 parts_at parts p = slice_index_or parts p []
+
+-- the parts of each piece are before it
+abbrev pub AreEarlier : List (List ℕ) → Type 0
+AreEarlier parts = (k : ℕ) (places : List ℕ) → slice_get parts k ≡ Some places → All (λ p. p < k) places
 
 -- lines need the piece at a place: the rule of one names what it supports, or it is a part of a piece that they need
 pub data IsNeeded (parts : List (List ℕ)) (lines : List LineValue) : ℕ → Type 0 where

@@ -1,8 +1,10 @@
 //! Lines that someone states, checked against those before them.
 
-ghost use Rattle.std.specs.Prelude.{◌≡◌, IfOk, option_map};
+ghost use Rattle.std.specs.Prelude.{◌≡◌, ◌-◌, ◌++◌, ◌∷◌, [], IfOk, IsSome, OnErr, None, map, option_map};
+ghost use Rattle.ct_rules.specs.Rule.{rule_side};
+ghost use Rattle.ct_rules.specs.Derivation.{IsDerivation};
 ghost use Rattle.ct_rule_parts.specs.Entries.{listed};
-ghost use Rattle.ct_derive.specs.Check.{same_side, claim_numbered, value_for, values_numbered, value_fault, line_fault};
+ghost use Rattle.ct_derive.specs.Check.{same_side, claim_numbered, value_for, values_numbered, value_fault, line_fault, line_by};
 
 use ct_codes::{Claim, Entry, Side};
 use ct_rules::{Entries, Line, Rule, Support, defined_on, rule_side, value};
@@ -120,4 +122,41 @@ pub fn line_fault(
         claim.value,
         value(supports, rule, claim.entry, values.as_slice()),
     ))
+}
+
+/// The places of the lines with these numbers, which count from 1. `Err` is want of memory.
+fn places_of(alloc: Global, numbers: &[u64]) -> Result<SmallVec<usize, 2>, AllocError>
+    ensures { IfOk result (λ places. places.items ≡ map (λ n. n - 1) numbers.now) }
+{
+    let mut places = SmallVec::new(alloc);
+    for number in numbers {
+        places.push(number.saturating_sub(1) as usize)?;
+    }
+    Ok(places)
+}
+
+/// Puts a line that states this claim by this rule, which is of the claim's side, from the lines with these numbers, counted
+/// from 1, where it follows from the lines so far; else answers its first fault. Lines that are a derivation stay one. After
+/// an `Err`, which is want of memory, the lines are as before.
+pub fn add_line(
+    alloc: Global,
+    supports: &[Support],
+    lines: &mut Vec<Line>,
+    claim: Claim,
+    rule: Rule,
+    numbers: &[u64],
+) -> Result<Option<LineFault>, AllocError>
+    requires { claim.side ≡ rule_side rule }
+    ensures fault { IfOk result (λ fault. fault ≡ line_fault supports.now lines.old.items claim rule numbers.now) }
+    ensures added { IfOk result (λ fault. fault ≡ None → lines.new.items ≡ lines.old.items ++ line_by claim rule numbers.now ∷ []) }
+    ensures refused { IfOk result (λ fault. IsSome fault → lines.new.items ≡ lines.old.items) }
+    ensures unchanged { OnErr result (lines.new.items ≡ lines.old.items) }
+    ensures derivation { IsDerivation supports.now lines.old.items → IsDerivation supports.now lines.new.items }
+{
+    if let Some(fault) = line_fault(alloc, supports, lines, claim, rule, numbers)? {
+        return Ok(Some(fault));
+    }
+    let from = places_of(alloc, numbers)?;
+    lines.push(Line { claim, rule, from })?;
+    Ok(None)
 }

@@ -7,8 +7,7 @@ ghost use Rattle.ct_rules.specs.Derivation.{LineValue, IsBest};
 ghost use Rattle.ct_table.specs.Table.{IsShownTable};
 ghost use Rattle.ct_derive.specs.Derivation.{AreOrdered};
 ghost use Rattle.ct_derive.specs.Explanation.{IsExplanation};
-ghost use Rattle.ct_derive.specs.Pieces.{AreNeeded};
-ghost use Rattle.ct_derive.specs.Inside.Needed.{AreEarlier};
+ghost use Rattle.ct_derive.specs.Pieces.{AreEarlier, AreNeeded};
 
 use crate::derivation::Derivation;
 use crate::marking::needed_lines;

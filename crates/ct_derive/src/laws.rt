@@ -1,6 +1,6 @@
 //! What explanations are, and that there are some.
 
-ghost use Rattle.std.specs.Prelude.{◌≡◌, ◌∷◌, ◌++◌, [], ℕ, All, List, None, codes};
+ghost use Rattle.std.specs.Prelude.{◌≡◌, ◌∷◌, ◌++◌, [], ℕ, All, List, None, codes, length};
 ghost use Rattle.ct_lines.specs.declared.TheConstants.{LINE_FEED};
 ghost use Rattle.ct_codes.specs.Claim.{IsTrueClaim};
 ghost use Rattle.ct_codes.specs.Entry.{constant_weight};
@@ -14,16 +14,24 @@ ghost use Rattle.ct_rules.specs.declared.rule.Rule.TheVariants.{L11};
 ghost use Rattle.ct_rules.specs.Rule.{rule_side};
 ghost use Rattle.ct_rules.specs.Derivation.{LineValue, Follows, IsDerived};
 ghost use Rattle.ct_derive.specs.Check.{line_fault, numbers_at};
-ghost use Rattle.ct_derive.specs.Derivation.{AreOrdered};
+ghost use Rattle.ct_derive.specs.Derivation.{DerivationValue, AreOrdered};
 ghost use Rattle.ct_derive.specs.Examples.{one_at_three, one_at_four, four_at_six, four_at_five, four_by_support};
 ghost use Rattle.ct_derive.specs.Explanation.{IsExplanation};
-ghost use Rattle.ct_derive.specs.Pieces.{IsNeeded};
+ghost use Rattle.ct_derive.specs.Pieces.{AreEarlier, AreNeeded, IsNeeded};
 ghost use Rattle.ct_derive.specs.Text.{rule_words, claim_words, line_text, lines_text, evidence_text};
 
 /// Each bound that is derived has an explanation.
 pub fn explanations_exist()
     ensures { (supports : List Support) (s : Slot) (v : ℕ) → IsDerived supports (claim_at s v) →
         (lines : List LineValue) × IsExplanation supports s v lines }
+{}
+
+/// Each bound that is derived from the supports of pieces can be shown: it has an explanation, and there is a list of the
+/// pieces that the lines of this need.
+pub fn bounds_can_be_shown()
+    ensures { (supports : List Support) (parts : List (List ℕ)) (s : Slot) (v : ℕ) → length parts ≡ length supports →
+        AreEarlier parts → IsDerived supports (claim_at s v) →
+        (d : DerivationValue) × IsExplanation supports s v d.lines × AreNeeded parts d.lines d.pieces }
 {}
 
 /// A line whose rule is of its side follows from those before it exactly where it has no fault, with the places that its

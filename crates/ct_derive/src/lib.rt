@@ -13,12 +13,12 @@ mod printing;
 mod pruning;
 mod text;
 
-pub use check::{LineFault, line_fault};
+pub use check::{LineFault, add_line, line_fault};
 pub use derivation::Derivation;
 pub use explaining::explain;
 pub use laws::{
-    explanations_are_true, explanations_exist, known_explanations, known_texts,
-    lines_without_fault_follow,
+    bounds_can_be_shown, explanations_are_true, explanations_exist, known_explanations,
+    known_texts, lines_without_fault_follow,
 };
 pub use parts::Parts;
 pub use printing::{ShownPiece, print};

@@ -4,8 +4,8 @@ ghost use Rattle.std.specs.Prelude.{◌≡◌, ◌+◌, ◌<◌, ◌≤◌, ◌^
 ghost use Rattle.std.specs.Option.{option_to_list};
 ghost use Rattle.ct_rules.specs.Derivation.{LineValue};
 ghost use Rattle.ct_rules.specs.Rule.{place_of};
-ghost use Rattle.ct_derive.specs.Pieces.{cited_places, AreNeeded};
-ghost use Rattle.ct_derive.specs.Inside.Needed.{AreEarlier, AreMarkedPieces};
+ghost use Rattle.ct_derive.specs.Pieces.{cited_places, AreEarlier, AreNeeded};
+ghost use Rattle.ct_derive.specs.Inside.Needed.{AreMarkedPieces};
 ghost use Rattle.ct_derive.specs.Inside.Pruning.{with_marks};
 
 use crate::marks::{mark, marked_places};

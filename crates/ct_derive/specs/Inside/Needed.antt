@@ -1,12 +1,8 @@
 -- Marks of the pieces that lines need.
-use Rattle.std.specs.Prelude.{◌≡◌, ◌<◌, ◌≤◌, ℕ, Bool, true, List, length, All, Contains, slice_get, Some}
+use Rattle.std.specs.Prelude.{◌≡◌, ◌≤◌, ℕ, Bool, true, List, length, All, Contains, slice_get, Some}
 use Rattle.ct_rules.specs.Derivation.{LineValue}
 use Rattle.ct_derive.specs.Pieces.{cited_places, IsNeeded}
 use Rattle.ct_derive.specs.Inside.Pruning.{is_marked}
-
--- the parts of each piece are before it
-abbrev pub AreEarlier : List (List ℕ) → Type 0
-AreEarlier parts = (k : ℕ) (places : List ℕ) → slice_get parts k ≡ Some places → All (λ p. p < k) places
 
 -- a mark for each piece: only needed pieces are marked, those that lines name are, and so are the parts of marked ones from this place on
 pub record AreMarkedPieces (place : ℕ) (parts : List (List ℕ)) (lines : List LineValue) (marks : List Bool) : Type 0 where
