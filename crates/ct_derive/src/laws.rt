@@ -1,16 +1,18 @@
 //! What explanations are, and that there are some.
 
-ghost use Rattle.std.specs.Prelude.{◌≡◌, ◌∷◌, ◌++◌, [], ℕ, All, List, None, codes, length};
+ghost use Rattle.std.specs.Prelude.{◌≡◌, ◌∷◌, ◌++◌, [], ℕ, All, List, None, codes, length, Some};
 ghost use Rattle.ct_lines.specs.declared.TheConstants.{LINE_FEED};
 ghost use Rattle.ct_codes.specs.Claim.{IsTrueClaim};
-ghost use Rattle.ct_codes.specs.Entry.{constant_weight};
+ghost use Rattle.ct_codes.specs.Entry.{constant_weight, unrestricted};
 ghost use Rattle.ct_codes.specs.declared.claim.Side.TheVariants.{Upper};
 ghost use Rattle.ct_codes.specs.declared.claim.Claim.{Claim};
 ghost use Rattle.ct_rule_parts.specs.declared.support.Support.{Support};
 ghost use Rattle.ct_rule_parts.specs.Slot.{Slot, claim_at, lower_at};
 ghost use Rattle.ct_rule_parts.specs.Support.{AllStand};
+ghost use Rattle.ct_rule_parts.specs.declared.support.Support.TheVariants.{Size};
 ghost use Rattle.ct_rules.specs.declared.rule.Rule.{Rule};
-ghost use Rattle.ct_rules.specs.declared.rule.Rule.TheVariants.{L11};
+ghost use Rattle.ct_derive.specs.declared.check.LineFault.TheVariants.{NoRule, NoPremise, OtherValue};
+ghost use Rattle.ct_rules.specs.declared.rule.Rule.TheVariants.{L11, L5, L6, L10};
 ghost use Rattle.ct_rules.specs.Rule.{rule_side};
 ghost use Rattle.ct_rules.specs.Derivation.{LineValue, Follows, IsDerived};
 ghost use Rattle.ct_derive.specs.Check.{line_fault, numbers_at};
@@ -42,6 +44,23 @@ pub fn lines_without_fault_follow()
         (places : List ℕ) × (numbers ≡ numbers_at places) × Follows supports before (record { claim = c; rule = r; from = places }) }
     ensures no_fault { (supports : List Support) (before : List LineValue) (line : LineValue) → Follows supports before line →
         line_fault supports before line.claim line.rule (numbers_at line.from) ≡ None }
+{}
+
+/// The faults of lines that say A(5,3) ≥ 4, or 5, after lines that say A(3,4) ≥ 1 and A(6,4) ≥ 4; and of a line by a code that is
+/// not there, or of another entry.
+pub fn known_faults()
+    ensures none { line_fault [] (one_at_three ∷ four_at_six ∷ []) (claim_at (lower_at 5 3) 4) L6 (2 ∷ []) ≡ None }
+    ensures value { line_fault [] (one_at_three ∷ four_at_six ∷ []) (claim_at (lower_at 5 3) 5) L6 (2 ∷ []) ≡ Some (OtherValue 5 4) }
+    ensures own_number { line_fault [] (one_at_three ∷ four_at_six ∷ []) (claim_at (lower_at 5 3) 4) L6 (3 ∷ []) ≡ Some NoPremise }
+    ensures number_zero { line_fault [] (one_at_three ∷ four_at_six ∷ []) (claim_at (lower_at 5 3) 4) L6 (0 ∷ []) ≡ Some NoPremise }
+    ensures other_entry { line_fault [] (one_at_three ∷ four_at_six ∷ []) (claim_at (lower_at 5 3) 4) L6 (1 ∷ []) ≡ Some NoPremise }
+    ensures too_many { line_fault [] (one_at_three ∷ four_at_six ∷ []) (claim_at (lower_at 5 3) 4) L6 (2 ∷ 2 ∷ []) ≡ Some NoPremise }
+    ensures too_few { line_fault [] (one_at_three ∷ four_at_six ∷ []) (claim_at (lower_at 5 3) 4) L6 [] ≡ Some NoPremise }
+    ensures rule { line_fault [] (one_at_three ∷ four_at_six ∷ []) (claim_at (lower_at 5 3) 4) L5 (2 ∷ []) ≡ Some NoRule }
+    ensures rule_first { line_fault [] [] (claim_at (lower_at 5 3) 9) L5 (7 ∷ []) ≡ Some NoRule }
+    ensures no_code { line_fault [] [] (claim_at (lower_at 6 4) 4) (L10 0) [] ≡ Some NoRule }
+    ensures other_code { line_fault (Size (unrestricted 5 3) 4 ∷ []) [] (claim_at (lower_at 6 4) 4) (L10 0) [] ≡ Some NoRule }
+    ensures code { line_fault (Size (unrestricted 6 4) 4 ∷ []) [] (claim_at (lower_at 6 4) 4) (L10 0) [] ≡ None }
 {}
 
 /// Where the supports stand, each claim of an explanation is true, and so is the bound that it explains. Its lines name lines

@@ -18,7 +18,7 @@ pub use derivation::Derivation;
 pub use explaining::explain;
 pub use laws::{
     bounds_can_be_shown, explanations_are_true, explanations_exist, known_explanations,
-    known_texts, lines_without_fault_follow,
+    known_faults, known_texts, lines_without_fault_follow,
 };
 pub use parts::Parts;
 pub use printing::{ShownPiece, print};
