@@ -1,0 +1,55 @@
+//! A bound that is shown.
+
+use ct_codes::{Entry, Side};
+use ct_derive::{Parts, ShownPiece, explain, print};
+use ct_table::Table;
+use ct_text::Id;
+use std::alloc::{AllocError, Global};
+use std::test::Fail;
+
+/// A piece of evidence of an id and a document.
+struct Shown {
+    id: Id,
+    document: &'static [u8],
+}
+
+impl ShownPiece for Shown {
+    ghost id_of = { λ p. p.id };
+
+    ghost document_of = { λ p. p.document.now };
+
+    fn id(&self) -> Id {
+        self.id
+    }
+
+    fn document(&self) -> &[u8] {
+        self.document
+    }
+}
+
+/// The document that shows a bound of the table over nothing.
+fn document_of(alloc: Global, side: Side, entry: Entry) -> Result<Option<Vec<u8>>, AllocError> {
+    if !entry.in_table() {
+        return Ok(None);
+    }
+    let table = Table::new(alloc)?;
+    let parts: [Parts; 0] = [];
+    let pieces: [Shown; 0] = [];
+    let derivation = explain(alloc, &table, &parts, side, entry)?;
+    let text = print(alloc, &pieces, &derivation)?;
+    Ok(Some(text))
+}
+
+#[test]
+fn a_lower_bound(rt: HostRuntime) -> Result<(), Fail> {
+    let entry = Entry {
+        n: 5,
+        d: 3,
+        w: None,
+    };
+    let text = document_of(rt.alloc(), Side::Lower, entry)?;
+    let want =
+        b"derivation\nline 1 lower 3 4 value 1 by L1\nline 2 lower 6 4 value 4 by L8 from 1\nline 3 lower 5 3 value 4 by L6 from 2\ndone\n";
+    assert!(rt; text.is_some_and(|text| text.as_slice() == want.as_slice()));
+    Ok(())
+}
