@@ -1,0 +1,9 @@
+pub mod Charges
+pub mod First
+pub mod Rows
+pub mod Allowed
+pub mod Neighbours
+pub mod Sound
+pub mod DualBound
+pub mod Faults
+pub mod Monotone

@@ -1,0 +1,146 @@
+-- The words of a code about one of its words, and a code of even distance whose weights are all even.
+use Rattle.std.proofs.Common.{◌≡◌, ◌≢◌, ℕ, ◌+◌, ◌-◌, ◌*◌, ◌%◌, ◌^◌, ◌<◌, ◌≤◌, Bool, true, false, cond, ◌==◌, List, [], ◌∷◌, map, length, get_or, sym, ap, ◌∙◌, subst, arith, inl, inr, eqb-true, leb-true}
+use Rattle.std.specs.Prelude.{ℤ, None, bit_xor}
+use Rattle.std.specs.List.{All, AllPairs}
+use Rattle.std.proofs.lemmas.Bool.{cases_Bool}
+use Rattle.std.proofs.lemmas.List.Elements.{All-map, All-cons, All-nil, recursion_from_All}
+use Rattle.std.proofs.lemmas.List.Sums.{length-filter}
+use Rattle.ct_counting.specs.Words.{apart, differ}
+use Rattle.ct_counting.proofs.Sums.{sum_by-map, sum_by-congruence_within}
+use Rattle.ct_counting.proofs.Pairs.{AllPairs-others}
+use Rattle.ct_counting.proofs.DoubleCounting.{count_by-none}
+use Rattle.ct_words.specs.Word.{weight, distance}
+use Rattle.ct_words.proofs.WordLemmas.{IsSum-bit_xor, distance-is_weight, distance_comm, weights_of_pair}
+use Rattle.ct_words.proofs.DigitLists.{digits_of, length-digits_of, apart-digits_of}
+use Rattle.ct_codes.specs.declared.entry.Entry.{Entry}
+use Rattle.ct_codes.specs.Entry.{constant_weight}
+use Rattle.ct_codes.specs.Code.{IsCode}
+use Rattle.ct_constructions.specs.Even.{even_from}
+use Rattle.ct_constructions.specs.Translation.{selected}
+use Rattle.ct_constructions.specs.Append.{with_parity}
+use Rattle.ct_constructions.specs.Joined.{followed_by}
+use Rattle.ct_constructions.specs.Places.{ArePlaces}
+use Rattle.ct_constructions.specs.Punctured.{punctured}
+use Rattle.ct_constructions.proofs.TranslationLemmas.{IsCode-selected}
+use Rattle.ct_constructions.proofs.AppendLemmas.{IsCode-with_parity, length-with_parity, weight-with_parity}
+use Rattle.ct_constructions.proofs.PuncturedCodes.{IsCode-punctured, length-punctured}
+use Rattle.ct_duals.specs.Bound.{AreTrueUppers, is_far}
+use Rattle.ct_duals.proofs.Allowed.{count_at, AreWithin}
+
+-- of three digits at most two pairs differ
+digits_perimeter : (a b c : Bool) → cond {A = ℕ} (differ a b) 1 0 + (cond {A = ℕ} (differ b c) 1 0 + cond {A = ℕ} (differ a c) 1 0) ≤ 2
+digits_perimeter false false false = omega arith
+digits_perimeter false false true = omega arith
+digits_perimeter false true false = omega arith
+digits_perimeter false true true = omega arith
+digits_perimeter true false false = omega arith
+digits_perimeter true false true = omega arith
+digits_perimeter true true false = omega arith
+digits_perimeter true true true = omega arith
+
+-- so the distances of three words add up to at most twice their length
+apart_perimeter : (x y z : List Bool) → length x ≡ length y → length y ≡ length z → apart x y + (apart y z + apart x z) ≤ 2 * length x
+apart_perimeter [] [] z e f = omega arith
+apart_perimeter [] (b ∷ y) z e f = absurd (omega arith)
+apart_perimeter (a ∷ x) [] z e f = absurd (omega arith)
+apart_perimeter (a ∷ x) (b ∷ y) [] e f = absurd (omega arith)
+apart_perimeter (a ∷ x) (b ∷ y) (c ∷ z) e f =
+    let ih = apart_perimeter x y z (omega arith) (omega arith) in
+    let heads = digits_perimeter a b c in
+    omega arith
+
+distance_perimeter : (n x y z : ℕ) → distance n x y + (distance n y z + distance n x z) ≤ 2 * n
+distance_perimeter n x y z =
+    let long = length-digits_of n x in
+    let first = apart-digits_of n x y in
+    let second = apart-digits_of n y z in
+    let third = apart-digits_of n x z in
+    let all = apart_perimeter (digits_of n x) (digits_of n y) (digits_of n z) (long ∙ sym (length-digits_of n y)) (length-digits_of n y ∙ sym (length-digits_of n z)) in
+    omega arith
+
+-- the words at distance i from x are, with x added, those of weight i
+count_at-selected : (n x i : ℕ) (words : List ℕ) → x < 2 ^ n → All (λ z. z < 2 ^ n) words
+    → length (selected n x i words) ≡ count_at (distance n x) words i
+count_at-selected n x i words below all =
+    let moved : ℕ → ℕ = λ z. bit_xor z x in
+    let test : ℕ → Bool = λ z. weight n z == i in
+    let same : (z : ℕ) → z < 2 ^ n → weight n (bit_xor z x) ≡ distance n x z =
+    λ z l. sym (distance-is_weight n z x (bit_xor z x) (IsSum-bit_xor n z x l below)) ∙ distance_comm n z x in
+    length-filter test (map moved words)
+    ∙ sum_by-map (λ z. cond (test z) 1 0) moved words
+    ∙ sum_by-congruence_within (λ z. cond (test (moved z)) 1 0) (λ z. cond (distance n x z == i) 1 0) words
+    (recursion_from_All (λ z. cond {A = ℕ} (test (moved z)) 1 0 ≡ cond (distance n x z == i) 1 0) words
+    (λ k d l. ap (λ w. cond {A = ℕ} (w == i) 1 0) (same _ (all k d l))))
+
+-- so there are at most as many as a bound of the codes of weight i allows
+pub within_uppers : (n d x : ℕ) (words : List ℕ) → x < 2 ^ n → IsCode n d None words → (ps : List (ℕ × ℤ)) (us : List ℕ)
+    → AreTrueUppers (map (λ p. constant_weight n (even_from d) p.0) ps) us → AreWithin (count_at (distance n x) words) ps us
+within_uppers n d x words below code [] [] known = tt
+within_uppers n d x words below code [] (u ∷ us) known = absurd known
+within_uppers n d x words below code (p ∷ ps) [] known = absurd known
+within_uppers n d x words below code (p ∷ ps) (u ∷ us) known =
+    let most = known.0 (selected n x p.0 words) (IsCode-selected n d x p.0 None words below code) in
+    let size = count_at-selected n x p.0 words below code.lengths in
+    (omega arith, within_uppers n d x words below code ps us known.1)
+
+-- a word has no words at two different distances of the group
+pub one_far : (e : Entry) (x i j : ℕ) (words : List ℕ) → IsCode e.n e.d None words → i < j → is_far e i ≡ true → is_far e j ≡ true
+    → count_at (distance e.n x) words i ≢ 0 → count_at (distance e.n x) words j ≡ 0
+one_far e x i j words code less first second some =
+    count_by-none (λ z. distance e.n x z == j) words (λ k f l. elim (cases_Bool (distance e.n x (get_or words k f) == j)) [
+      | inr fails ↦ fails
+      | inl at_j ↦ absurd (some (count_by-none (λ z. distance e.n x z == i) words (λ m g r. elim (cases_Bool (distance e.n x (get_or words m g) == i)) [
+        | inr fails ↦ fails
+        | inl at_i ↦
+            let n = e.n in
+            let y = get_or words k f in
+            let z = get_or words m g in
+            let y_is = eqb-true (distance n x y) j at_j in
+            let z_is = eqb-true (distance n x z) i at_i in
+            let low = leb-true (2 * n) (2 * i + e.d) first in
+            let high = leb-true (2 * n) (2 * j + e.d) second in
+            absurd (elim (AllPairs-others (λ a b. e.d ≤ distance n a b) words (λ a b h. let turned = distance_comm n a b in omega arith) code.apart k f l m g r) [
+              | inl same ↦ let equal = ap (distance n x) same in omega arith
+              | inr far ↦ let three = distance_perimeter n x y z in omega arith
+            ])
+      ])))
+    ])
+
+-- the words without their first digits, each followed by its parity
+abbrev pub evened : ℕ → List ℕ → List ℕ
+evened n words = with_parity (n - 1) (punctured n (0 ∷ []) words)
+
+pub length-evened : (n : ℕ) (words : List ℕ) → length (evened n words) ≡ length words
+length-evened n words = length-with_parity (n - 1) (punctured n (0 ∷ []) words) ∙ length-punctured n (0 ∷ []) words
+
+-- the first place alone
+first_place : (n : ℕ) → 1 ≤ n → ArePlaces n (0 ∷ [])
+first_place n some = record {
+  ascending = λ k l. absurd (omega arith);
+  within = All-cons (λ p. p < n) 0 [] some (All-nil (λ p. p < n));
+}
+
+-- a code of even distance becomes one of the same length and distance
+pub IsCode-evened : (n d : ℕ) (words : List ℕ) → 1 ≤ n → 2 ≤ d → d % 2 ≡ 0 → IsCode n d None words → IsCode n d None (evened n words)
+IsCode-evened n d words some least even code =
+    let shorter = IsCode-punctured n d None words (0 ∷ []) (first_place n some) (omega arith) code in
+    let longer = IsCode-with_parity (n - 1) (d - 1) None (punctured n (0 ∷ []) words) shorter in
+    let length_is : n - 1 + 1 ≡ n = omega arith in
+    let distance_is : even_from (d - 1) ≡ d = omega arith in
+    subst (λ m. IsCode m d None (evened n words)) length_is (subst (λ t. IsCode (n - 1 + 1) t None (evened n words)) distance_is longer)
+
+-- whose words are at even distances
+pub distances-evened : (n : ℕ) (words : List ℕ) → 1 ≤ n → AllPairs (λ x y. distance n x y % 2 ≡ 0) (evened n words)
+distances-evened n words some =
+    let length_is : n - 1 + 1 ≡ n = omega arith in
+    let even : (x : ℕ) → weight n (followed_by 1 x (weight (n - 1) x % 2)) % 2 ≡ 0 =
+    λ x. ap (λ m. weight m (followed_by 1 x (weight (n - 1) x % 2)) % 2) (sym length_is) ∙ weight-with_parity (n - 1) x in
+    let weights : All (λ x. weight n x % 2 ≡ 0) (evened n words) =
+    All-map (λ x. weight n x % 2 ≡ 0) (λ x. followed_by 1 x (weight (n - 1) x % 2)) (punctured n (0 ∷ []) words) (λ k d l. even _) in
+    λ i j d l m.
+    let x = get_or (evened n words) i d in
+    let y = get_or (evened n words) j d in
+    let pair = weights_of_pair n x y in
+    let first = weights i d (omega arith) in
+    let second = weights j d m in
+    omega arith

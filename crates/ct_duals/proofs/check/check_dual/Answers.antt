@@ -1,0 +1,42 @@
+-- An accepted dual is sound, by the laws of the scheme.
+use Rattle.std.proofs.Common.{◌≡◌, None, sym, ap, ◌∙◌, subst}
+use Rattle.std.specs.Prelude.{unsigned_abs, ◌<◌, ◌^◌}
+use Rattle.std.proofs.lemmas.Int.{to_z-of_z}
+use mir.Val.{SFits}
+use mir.Syntax.{w128}
+use Rattle.ct_duals.specs.Dual.{combination}
+use Rattle.ct_duals.specs.Check.{dual_fault}
+use Rattle.ct_duals.specs.Bound.{IsSoundDual}
+use Rattle.ct_duals.proofs.Faults.{below-from_none}
+use Rattle.ct_duals.proofs.Sound.{AreLaws}
+use Rattle.ct_duals.proofs.DualBound.{lead-least, dual_bound-true}
+use Rattle.ct_duals.proofs.check.check_dual.Goals as goal
+
+pub new-requires : goal.new-requires
+new-requires g c =
+    let s = c.args.scheme.now in
+    let d = c.args.dual.now in
+    let belongs = g.S.Scheme.belongs s in
+    let index = g.S.Scheme.index s in
+    let degree = g.S.Scheme.degree s in
+    let number = g.S.Scheme.number s in
+    let laws : AreLaws belongs index degree number = record {
+      positive_rows = g.met.S.Scheme.positive s;
+      ones = g.met.S.Scheme.ones s;
+      within = g.met.S.Scheme.within s;
+      itself = g.met.S.Scheme.itself s;
+    } in
+    let none : dual_fault number d ≡ None = sym c.first_fault.ensures ∙ c.in_default.is in
+    let f : SFits w128 c.combination-at_zero.result = record { sfits = c.combination-at_zero.type_inv } in
+    let value : c.combination-at_zero.result ≡ combination number d.c 0 = c.combination-at_zero.ensures.value ∙ ap (λ m. combination number m 0) c.as_slice.ensures in
+    let small = c.combination-at_zero.ensures.small in
+    let sound : IsSoundDual (record { dual = d; at_zero = combination number d.c 0 }) = record {
+      form = c.requires.form;
+      lead = (below-from_none number d none).0;
+      least = lead-least belongs index degree number d laws c.requires.fits c.requires.form;
+      small = subst (λ z. unsigned_abs z < 2 ^ 116) value small;
+      sound = dual_bound-true belongs index degree number d laws c.requires.fits c.requires.form none;
+    } in
+    record {
+      sound = subst (λ z. IsSoundDual (record { dual = d; at_zero = z })) (sym (to_z-of_z w128 c.combination-at_zero.result f ∙ value)) sound;
+    }

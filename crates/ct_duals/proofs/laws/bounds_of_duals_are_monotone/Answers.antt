@@ -1,0 +1,5 @@
+use Rattle.ct_duals.proofs.Monotone.{dual_bound-monotone}
+use Rattle.ct_duals.proofs.laws.bounds_of_duals_are_monotone.Goals as goal
+
+pub returns : goal.returns
+returns c = dual_bound-monotone

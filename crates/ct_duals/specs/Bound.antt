@@ -1,0 +1,76 @@
+-- The bound that an accepted dual gives (Delsarte 1973), from bounds of the codes of constant weight that lie about a word (Best, Brouwer, MacWilliams, Odlyzko and Sloane 1978).
+use Rattle.std.specs.Prelude.{ℕ, ◌+◌, ◌*◌, ◌/◌, ◌^◌, ◌<◌, ◌≤◌, min, max, Bool, not, nat_le, List, [], ◌∷◌, map, filter, ℤ, pos, negsuc, ◌+ℤ◌, ◌≤ℤ◌, int_lt, unsigned_abs}
+use Rattle.std.specs.List.{sum_by}
+use Rattle.ct_words.specs.declared.limits.TheConstants.{MAX_BOUND}
+use Rattle.ct_codes.specs.declared.entry.Entry.{Entry}
+use Rattle.ct_codes.specs.Entry.{constant_weight}
+use Rattle.ct_codes.specs.Code.{IsTrueUpper}
+use Rattle.ct_constructions.specs.Even.{even_from}
+use Rattle.ct_duals.specs.declared.dual.Dual.{Dual}
+use Rattle.ct_duals.specs.Dual.{IsDual, multiplier}
+
+-- a whole number as a natural number, 0 where it is below 0
+abbrev pub natural : ℤ → ℕ
+natural (pos n) = n
+natural (negsuc n) = 0
+
+-- the indices where more than 0 is allowed
+abbrev pub positive : List (ℕ × ℤ) → List (ℕ × ℤ)
+positive y = filter (λ p. int_lt (pos 0) p.1) y
+
+-- the entries whose bounds the dual rests on: A(n,2⌈d/2⌉,i) for each i where more than 0 is allowed. The words at distance i from a word of a code have, that word added, weight i
+abbrev pub dual_premises : Dual → List Entry
+dual_premises d = map (λ p. constant_weight d.entry.n (even_from d.entry.d) p.0) (positive d.y)
+
+-- each entry has the upper bound at its place
+abbrev pub AreTrueUppers : List Entry → List ℕ → Type 0
+AreTrueUppers [] [] = Unit {0}
+AreTrueUppers (e ∷ es) (u ∷ us) = IsTrueUpper e u × AreTrueUppers es us
+AreTrueUppers es us = ⊥
+
+-- as many numbers as others, each at most the one at its place among the others
+abbrev pub AreAtMost : List ℕ → List ℕ → Type 0
+AreAtMost [] [] = Unit {0}
+AreAtMost (u ∷ us) (v ∷ vs) = (u ≤ v) × AreAtMost us vs
+AreAtMost us vs = ⊥
+
+-- y_i · U_i for each of the indices, with the index
+abbrev pub charges : List (ℕ × ℤ) → List ℕ → List (ℕ × ℕ)
+charges (p ∷ ps) (u ∷ us) = (p.0, natural p.1 * u) ∷ charges ps us
+charges ps us = []
+
+-- the group G, 2i ≥ 2n - d: two words at different distances of it from one word are closer to each other than d
+abbrev pub is_far : Entry → ℕ → Bool
+is_far e i = nat_le (2 * e.n) (2 * i + e.d)
+
+-- the greatest of the numbers, 0 where there is none
+abbrev pub greatest : List ℕ → ℕ
+greatest [] = 0
+greatest (v ∷ vs) = max v (greatest vs)
+
+-- S: the sum outside G
+abbrev pub near_charge : Entry → List (ℕ × ℕ) → ℕ
+near_charge e charges = sum_by (λ p. p.1) (filter (λ p. not (is_far e p.0)) charges)
+
+-- T: the greatest in G
+abbrev pub far_charge : Entry → List (ℕ × ℕ) → ℕ
+far_charge e charges = greatest (map (λ p. p.1) (filter (λ p. is_far e p.0) charges))
+
+-- the least of MAX_BOUND and ⌊(f(0) + S + T)/c_0⌋
+unfoldable pub dual_bound : Dual → ℤ → List ℕ → ℕ
+dual_bound d at_zero uppers =
+    let all = charges (positive d.y) uppers in
+    min MAX_BOUND (natural (at_zero +ℤ pos (near_charge d.entry all + far_charge d.entry all)) / natural (multiplier d.c 0))
+
+-- an accepted dual as callers see it: the dual and its f(0)
+pub record AcceptedValue : Type 0 where
+  pub dual : Dual
+  pub at_zero : ℤ
+
+-- what holds of each accepted dual: its form, that c_0 is at least 1 and f(0) at least c_0, and that no code of its entry is larger than its bound
+pub record IsSoundDual (a : AcceptedValue) : Type 0 where
+  pub form : IsDual a.dual
+  pub lead : pos 1 ≤ℤ multiplier a.dual.c 0
+  pub least : multiplier a.dual.c 0 ≤ℤ a.at_zero
+  pub small : unsigned_abs a.at_zero < 2 ^ 116
+  pub sound : (uppers : List ℕ) → AreTrueUppers (dual_premises a.dual) uppers → IsTrueUpper a.dual.entry (dual_bound a.dual a.at_zero uppers)

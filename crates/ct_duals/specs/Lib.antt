@@ -1,0 +1,3 @@
+pub mod Dual
+pub mod Check
+pub mod Bound

@@ -1,0 +1,120 @@
+//! Accepted duals and their bounds.
+ghost use Rattle.std.specs.Prelude.{◌≡◌, ◌+◌, ◌*◌, ◌/◌, ◌≤◌, ◌<◌, ◌^◌, min, pos, ◌+ℤ◌, ◌≤ℤ◌, length, All, unsigned_abs};
+ghost use Rattle.ct_words.specs.declared.limits.TheConstants.{MAX_BOUND, MAX_N};
+ghost use Rattle.ct_codes.specs.Code.{IsTrueUpper};
+ghost use Rattle.ct_duals.specs.Bound.{AcceptedValue, IsSoundDual, AreTrueUppers, dual_bound, dual_premises, positive, charges, near_charge, far_charge, is_far, natural};
+
+use crate::dual::Dual;
+use ct_codes::Entry;
+use ct_words::MAX_BOUND;
+use std::marker::Model;
+
+/// A dual that was accepted: no code of its entry is larger than its bound. Contracts see the dual and its f(0).
+#[derive(Debug, Drop)]
+pub struct Accepted<'a> {
+    dual: &'a Dual,
+    at_zero: i128,
+}
+
+impl<'a> Model for Accepted<'a> {
+    ghost Value = { AcceptedValue };
+
+    ghost view = { λ a. record { dual = a.dual.now; at_zero = a.at_zero } };
+
+    ghost invariant = { λ a. IsSoundDual (record { dual = a.dual.now; at_zero = a.at_zero }) };
+}
+
+impl<'a> Accepted<'a> {
+    /// A dual that was accepted before, with its f(0). Nothing is tested, and no memory taken.
+    pub fn new(dual: &'a Dual, at_zero: i128) -> Accepted<'a>
+        requires sound { IsSoundDual (record { dual = dual.now; at_zero = at_zero }) }
+        ensures value { result ≡ record { dual = dual.now; at_zero = at_zero } }
+    {
+        Accepted { dual, at_zero }
+    }
+
+    /// Its f(0).
+    pub fn at_zero(&self) -> i128
+        ensures value { result ≡ self.now.at_zero }
+        ensures sound { IsSoundDual self.now }
+    {
+        self.at_zero
+    }
+
+    /// The bound of the dual from one upper bound for each index where more than 0 is allowed, in ascending order: the
+    /// least of `MAX_BOUND` and ⌊(f(0) + S + T)/c_0⌋. Where the upper bounds are true, no code of the entry is larger. It
+    /// takes no memory, and every sum fits: a product is below 2^91, and there are at most 28 of them.
+    #[tactic(auto, unfolding(crate::specs::Bound::dual_bound))]
+    pub fn bound(&self, uppers: &[u32]) -> u32
+        requires count { length uppers.now ≡ length (dual_premises self.now.dual) }
+        requires limit { All (λ u. u ≤ MAX_BOUND) uppers.now }
+        ensures value { result ≡ dual_bound self.now.dual self.now.at_zero uppers.now }
+        ensures some { 1 ≤ result }
+        ensures limit { result ≤ MAX_BOUND }
+        ensures sound { AreTrueUppers (dual_premises self.now.dual) uppers.now → IsTrueUpper self.now.dual.entry result }
+    {
+        let charge = charge(self.dual.entry, self.dual.y.as_slice(), uppers);
+        quotient(self.at_zero, charge, self.dual.c.as_slice()[0])
+    }
+}
+
+/// S + T: for each index where more than 0 is allowed, this number times the upper bound at its place; of those in the
+/// group G the greatest alone, and of the others the sum.
+fn charge(entry: Entry, y: &[(u32, i64)], uppers: &[u32]) -> u128
+    requires count { length uppers.now ≡ length (positive y.now) }
+    requires few { length y.now ≤ MAX_N }
+    requires lengths { entry.n ≤ MAX_N }
+    requires distances { entry.d ≤ MAX_N }
+    requires limit { All (λ u. u ≤ MAX_BOUND) uppers.now }
+    ensures value { result ≡ near_charge entry (charges (positive y.now) uppers.now)
+        + far_charge entry (charges (positive y.now) uppers.now) }
+    ensures small { result ≤ 29 * 2 ^ 91 }
+{
+    let mut near: u128 = 0;
+    let mut far: u128 = 0;
+    let mut taken = 0;
+    for (i, number) in y {
+        if *number > 0 {
+            let charge = product(*number, uppers[taken]);
+            taken += 1;
+            if is_far(entry, *i) {
+                far = far.max(charge);
+            } else {
+                near += charge;
+            }
+        }
+    }
+    near + far
+}
+
+/// A number that is allowed, times an upper bound.
+fn product(number: i64, upper: u32) -> u128
+    requires number { pos 1 ≤ℤ number }
+    requires upper { upper ≤ MAX_BOUND }
+    ensures value { result ≡ natural number * upper }
+    ensures small { result ≤ 2 ^ 91 }
+{
+    u128::from(number as u64) * u128::from(upper)
+}
+
+/// Whether the index is in the group G, 2i ≥ 2n - d.
+fn is_far(entry: Entry, i: u32) -> bool
+    requires length { entry.n ≤ MAX_N }
+    requires distance { entry.d ≤ MAX_N }
+    ensures { result ≡ is_far entry i }
+{
+    2 * u64::from(entry.n) <= 2 * u64::from(i) + u64::from(entry.d)
+}
+
+/// The least of `MAX_BOUND` and ⌊(f(0) + charge)/c_0⌋.
+fn quotient(at_zero: i128, charge: u128, lead: i64) -> u32
+    requires lead { pos 1 ≤ℤ lead }
+    requires least { lead ≤ℤ at_zero }
+    requires at_zero { unsigned_abs at_zero < 2 ^ 116 }
+    requires charge { charge ≤ 29 * 2 ^ 91 }
+    ensures value { result ≡ min MAX_BOUND (natural (at_zero +ℤ pos charge) / natural lead) }
+    ensures some { 1 ≤ result }
+{
+    let bound = (at_zero as u128 + charge) / lead as u128;
+    bound.min(u128::from(MAX_BOUND)) as u32
+}

@@ -1,0 +1,82 @@
+//! Duals of Delsarte's linear program.
+ghost use Rattle.std.specs.Prelude.{◌≡◌};
+
+use ct_codes::Entry;
+use std::marker::Model;
+
+/// The multipliers of a dual: c_0, c_1 and so on, as far as they are given; the others are 0. Contracts see the list of
+/// the numbers.
+#[derive(Debug, Drop)]
+pub struct Multipliers {
+    numbers: Vec<i64>,
+}
+
+impl Model for Multipliers {
+    ghost use Rattle.std.specs.Prelude.{List, ℤ};
+
+    ghost Value = { List ℤ };
+
+    ghost view = { λ m. m.numbers.items };
+}
+
+impl Multipliers {
+    /// The numbers of the vector.
+    pub fn from_vec(numbers: Vec<i64>) -> Multipliers
+        ensures { result ≡ numbers.items }
+    {
+        Multipliers { numbers }
+    }
+
+    /// The numbers as a slice.
+    pub fn as_slice(&self) -> &[i64]
+        ensures { result.now ≡ self.now }
+    {
+        &self.numbers
+    }
+}
+
+/// What a dual allows at some indices, each with the number that is allowed there; at the others it is 0. Contracts see
+/// the list of the pairs.
+#[derive(Debug, Drop)]
+pub struct Allowances {
+    pairs: Vec<(u32, i64)>,
+}
+
+impl Model for Allowances {
+    ghost use Rattle.std.specs.Prelude.{List, ℕ, ℤ};
+
+    ghost Value = { List (ℕ × ℤ) };
+
+    ghost view = { λ y. y.pairs.items };
+}
+
+impl Allowances {
+    /// The pairs of the vector.
+    pub fn from_vec(pairs: Vec<(u32, i64)>) -> Allowances
+        ensures { result ≡ pairs.items }
+    {
+        Allowances { pairs }
+    }
+
+    /// The pairs as a slice.
+    pub fn as_slice(&self) -> &[(u32, i64)]
+        ensures { result.now ≡ self.now }
+    {
+        &self.pairs
+    }
+}
+
+/// A dual of Delsarte's linear program for the codes of an entry (Delsarte 1973; MacWilliams and Sloane, chapter 17,
+/// section 4): a combination of the rows of the entry's scheme that is at most what is allowed at each index that two
+/// words of a code can have.
+#[derive(Debug, Drop)]
+pub struct Dual {
+    /// The entry whose codes it bounds.
+    pub entry: Entry,
+    /// Whether it speaks only of even distances; only where d is even and there is no weight.
+    pub even: bool,
+    /// The multipliers of the rows of the scheme.
+    pub c: Multipliers,
+    /// What is allowed; nothing where the entry has a weight.
+    pub y: Allowances,
+}

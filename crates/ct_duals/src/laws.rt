@@ -1,0 +1,40 @@
+//! What duals promise, for every dual and every list of words; the functions do nothing.
+ghost use Rattle.std.specs.Prelude.{◌≡◌, ◌≢◌, ℕ, ◌≤◌, ◌<◌, List, ℤ, pos, ◌≤ℤ◌, ◌<ℤ◌, Some, None};
+ghost use Rattle.ct_codes.specs.Code.{IsTrueUpper};
+ghost use Rattle.ct_duals.specs.declared.dual.Dual.{Dual};
+ghost use Rattle.ct_duals.specs.declared.fault.DualFault.TheVariants.{Lead, Above};
+ghost use Rattle.ct_duals.specs.Dual.{Fits, IsDual, multiplier, combination};
+ghost use Rattle.ct_duals.specs.Check.{dual_fault, IsBelow, IsLeastAbove};
+ghost use Rattle.ct_duals.specs.Bound.{AreTrueUppers, AreAtMost, dual_premises, dual_bound};
+
+use ct_codes::Scheme;
+
+/// No code of the entry of an accepted dual is larger than its bound, where the upper bounds that it rests on are true.
+///
+/// For a code, add f over the indices of all ordered pairs of its words. By Delsarte's inequalities that is at least c_0
+/// times the square of its size. By what is allowed it is at most its size times f(0) + S + T: as many words are at the
+/// distance i from one of them as a code of weight i has at most, and only one distance of the group G occurs from a word.
+/// Where the dual speaks of even distances alone, a place of the code is exchanged for a parity digit first.
+pub fn accepted_duals_bound_codes<S: Scheme>(scheme: &S)
+    ensures { (dual : Dual) (uppers : List ℕ) →
+        Fits (S.belongs scheme.now) (S.index scheme.now) (S.degree scheme.now) dual.entry → IsDual dual →
+        dual_fault (S.number scheme.now) dual ≡ None → AreTrueUppers (dual_premises dual) uppers →
+        IsTrueUpper dual.entry (dual_bound dual (combination (S.number scheme.now) dual.c 0) uppers) }
+{}
+
+/// What the check of a dual says: it is accepted where c_0 is at least 1 and f nowhere above what is allowed; `Lead` says
+/// that c_0 is below 1, and `Above` names the least index where f is above, with both numbers.
+pub fn faults_of_duals()
+    ensures accepted { (number : ℕ → ℕ → ℤ) (dual : Dual) →
+        dual_fault number dual ≡ None → (pos 1 ≤ℤ multiplier dual.c 0) × IsBelow number dual }
+    ensures lead { (number : ℕ → ℕ → ℤ) (dual : Dual) →
+        dual_fault number dual ≡ Some Lead → multiplier dual.c 0 ≤ℤ pos 0 }
+    ensures above { (number : ℕ → ℕ → ℤ) (dual : Dual) (at : ℕ) (value allowed : ℤ) →
+        dual_fault number dual ≡ Some (Above at value allowed) → IsLeastAbove number dual at value allowed }
+{}
+
+/// Smaller upper bounds never give a greater bound.
+pub fn bounds_of_duals_are_monotone()
+    ensures { (dual : Dual) (at_zero : ℤ) (uppers others : List ℕ) →
+        AreAtMost uppers others → dual_bound dual at_zero uppers ≤ dual_bound dual at_zero others }
+{}

@@ -1,0 +1,14 @@
+//! Delsarte's bound: duals of its linear program in whole numbers, checked, and the upper bounds that they give.
+#![tactic(auto)]
+
+mod accepted;
+mod check;
+mod dual;
+mod fault;
+mod laws;
+
+pub use accepted::Accepted;
+pub use check::check_dual;
+pub use dual::{Allowances, Dual, Multipliers};
+pub use fault::DualFault;
+pub use laws::{accepted_duals_bound_codes, bounds_of_duals_are_monotone, faults_of_duals};
