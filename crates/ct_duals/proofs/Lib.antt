@@ -7,3 +7,4 @@ pub mod Sound
 pub mod DualBound
 pub mod Faults
 pub mod Monotone
+pub mod FormLemmas

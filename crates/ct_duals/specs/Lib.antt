@@ -1,3 +1,4 @@
 pub mod Dual
 pub mod Check
 pub mod Bound
+pub mod Form

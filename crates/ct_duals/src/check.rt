@@ -2,13 +2,14 @@
 ghost use Rattle.std.specs.Prelude.{◌≡◌, ◌≤◌, ◌+◌, ◌+ℤ◌, ◌*ℤ◌, ◌^◌, ◌<◌, suc, length, unsigned_abs, IfOk, Some, None};
 ghost use Rattle.std.specs.Result.{result_err};
 ghost use Rattle.ct_codes.specs.Scheme.{IsSmall};
-ghost use Rattle.ct_duals.specs.Dual.{Fits, IsDual, degree_of, combination, allowed, is_in_range};
+ghost use Rattle.ct_duals.specs.Dual.{Fits, IsDual, degree_of, combination, allowed};
 ghost use Rattle.ct_duals.specs.Check.{dual_fault, lead_fault, above_fault, fault_at};
 
 use crate::accepted::Accepted;
 use crate::dual::Dual;
 use crate::fault::DualFault;
-use ct_codes::{Entry, Scheme};
+use crate::form::is_in_range;
+use ct_codes::Scheme;
 
 /// The dual as an accepted one, where c_0 is at least 1 and f(i) at most what is allowed at each index i of the range:
 /// then no code of its entry is larger than its bound. The scheme fits the entry of the dual.
@@ -89,19 +90,6 @@ fn fault_at<S: Scheme>(scheme: &S, dual: &Dual, i: u32) -> Option<DualFault>
         value,
         allowed,
     })
-}
-
-/// Whether two words of a code of the entry may have the index `i`, which is at most the degree; the even ones alone
-/// where `even` is set.
-fn is_in_range(entry: Entry, even: bool, i: u32) -> bool
-    requires { i ≤ degree_of entry }
-    ensures { result ≡ is_in_range entry even i }
-{
-    let first = match entry.w {
-        None => entry.d,
-        Some(_) => entry.d / 2,
-    };
-    first <= i && (!even || i % 2 == 0)
 }
 
 /// What is allowed at `i`.

@@ -5,10 +5,12 @@ mod accepted;
 mod check;
 mod dual;
 mod fault;
+mod form;
 mod laws;
 
 pub use accepted::Accepted;
 pub use check::check_dual;
 pub use dual::{Allowances, Dual, Multipliers};
 pub use fault::DualFault;
+pub use form::{are_allowances, are_multipliers, degree};
 pub use laws::{accepted_duals_bound_codes, bounds_of_duals_are_monotone, faults_of_duals};
