@@ -1,5 +1,6 @@
 //! Duals of Delsarte's linear program.
-ghost use Rattle.std.specs.Prelude.{◌≡◌};
+ghost use Rattle.std.specs.Prelude.{◌≡◌, length};
+ghost use Rattle.ct_duals.specs.Bound.{positive, dual_premises};
 
 use ct_codes::Entry;
 use std::marker::Model;
@@ -79,4 +80,23 @@ pub struct Dual {
     pub c: Multipliers,
     /// What is allowed; nothing where the entry has a weight.
     pub y: Allowances,
+}
+
+impl Dual {
+    /// How many upper bounds its own rests on: one for each index where more than 0 is allowed.
+    pub fn premise_count(&self) -> usize
+        ensures { result ≡ length (dual_premises self.now) }
+    {
+        positive_count(self.y.as_slice())
+    }
+}
+
+fn positive_count(y: &[(u32, i64)]) -> usize
+    ensures { result ≡ length (positive y.now) }
+{
+    let mut count = 0;
+    for (_, number) in y {
+        count += usize::from(*number > 0);
+    }
+    count
 }

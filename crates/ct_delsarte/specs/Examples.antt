@@ -1,0 +1,17 @@
+-- Duals whose bounds are known.
+use Rattle.std.specs.Prelude.{ℕ, true, false, [], ◌∷◌, ℤ, pos}
+use Rattle.ct_codes.specs.Entry.{unrestricted, constant_weight}
+use Rattle.ct_duals.specs.declared.dual.Dual.{Dual}
+
+-- for A(13,6): even distances alone, f = 5 + K_1 + K_2, and 16 and 48 allowed at the distances 10 and 12
+abbrev pub thirteen_six : Dual
+thirteen_six = record {
+  entry = unrestricted 13 6;
+  even = true;
+  c = pos 5 ∷ pos 1 ∷ pos 1 ∷ [];
+  y = (10, pos 16) ∷ (12, pos 48) ∷ [];
+}
+
+-- for A(8,4,4): f = 48 + 21 J_1 + 4 J_2
+abbrev pub eight_four_four : Dual
+eight_four_four = record { entry = constant_weight 8 4 4; even = false; c = pos 48 ∷ pos 21 ∷ pos 4 ∷ []; y = [] }

@@ -1,0 +1,13 @@
+//! Delsarte's bound at the entries of the table: a dual is checked in the Hamming scheme, and with a weight in the Johnson
+//! scheme.
+#![tactic(auto)]
+
+#[cfg(test)]
+mod answers;
+mod laws;
+mod schemes;
+#[cfg(test)]
+mod tests;
+
+pub use laws::{duals_bound_codes, known_duals};
+pub use schemes::check_dual_of_table;
