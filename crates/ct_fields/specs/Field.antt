@@ -1,7 +1,7 @@
 -- The keys of the fields of evidence documents.
 use Rattle.std.specs.Prelude.{ℕ, List, codes}
 use Rattle.ct_fields.specs.declared.field.FieldName.{FieldName}
-use Rattle.ct_fields.specs.declared.field.FieldName.TheVariants.{N, D, W, Words, Basis, Representatives, Op, Places, Digits, By, Size, Part, Other}
+use Rattle.ct_fields.specs.declared.field.FieldName.TheVariants.{N, D, W, Words, Basis, Representatives, Op, Places, Digits, By, Size, Part, Other, Even, C, Y}
 
 -- the key of a field
 abbrev pub field_text : FieldName → List ℕ
@@ -18,3 +18,6 @@ field_text By = codes "by"
 field_text Size = codes "size"
 field_text Part = codes "part"
 field_text Other = codes "other"
+field_text Even = codes "even"
+field_text C = codes "c"
+field_text Y = codes "y"

@@ -31,6 +31,12 @@ pub enum FieldName {
     Part,
     /// The other piece whose code a build is made from, `other`.
     Other,
+    /// Whether a dual speaks of even distances alone, `even`.
+    Even,
+    /// The multipliers of a dual, `c`.
+    C,
+    /// What a dual allows, `y`.
+    Y,
 }
 
 impl FieldName {
@@ -52,6 +58,9 @@ impl FieldName {
             FieldName::Size => "size",
             FieldName::Part => "part",
             FieldName::Other => "other",
+            FieldName::Even => "even",
+            FieldName::C => "c",
+            FieldName::Y => "y",
         }
     }
 }
