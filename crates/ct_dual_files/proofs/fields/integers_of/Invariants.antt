@@ -1,0 +1,10 @@
+-- With those that are left the numbers are those of all values.
+use Rattle.std.proofs.Common.{◌≡◌, ◌++◌, drop, option_map}
+use Rattle.toml.specs.View.{items_view}
+use Rattle.ct_dual_files.specs.Fields.{integers_of}
+use Rattle.ct_dual_files.proofs.fields.integers_of.Given as goal
+
+abbrev pub invariant-loop-value : goal.invariant-loop-value
+invariant-loop-value l =
+    option_map (λ rest. l.integers.items ++ rest) (integers_of (items_view (drop l.value-index l.values)))
+    ≡ integers_of (items_view l.values)

@@ -1,0 +1,39 @@
+-- The dual that a document states, or its first fault.
+use Rattle.std.specs.Prelude.{true, false, [], ◌∷◌, Result, Ok}
+use Rattle.toml.specs.Data.{Data}
+use Rattle.ct_words.specs.declared.limits.TheConstants.{MAX_N}
+use Rattle.ct_codes.specs.declared.entry.Entry.{Entry}
+use Rattle.ct_codes.specs.Entry.{constant_weight}
+use Rattle.ct_fields.specs.Steps.{◌>>=◌, ◌>>◌}
+use Rattle.ct_fields.specs.Fields.{number_field, no_other_key}
+use Rattle.ct_fields.specs.StatedEntry.{plain_entry_of, distance_beside}
+use Rattle.ct_fields.specs.declared.field.FieldName.TheVariants as name
+use Rattle.ct_fields.specs.declared.fault.FileFault.{FileFault}
+use Rattle.ct_duals.specs.declared.dual.Dual.{Dual}
+use Rattle.ct_dual_files.specs.Fields.{even_field, multipliers_field, allowances_field}
+
+-- the dual of a document of kind dual: n, d, even, c and y, and no other key
+unfoldable pub dual_of : Data → Result Dual FileFault
+dual_of document = do
+  e ← plain_entry_of document
+  even ← even_field e.d document
+  c ← multipliers_field e document
+  y ← allowances_field e even document
+  no_other_key (name.N ∷ name.D ∷ name.Even ∷ name.C ∷ name.Y ∷ []) document
+  Ok (record { entry = e; even = even; c = c; y = y })
+
+-- the entry of a document of kind jdual: n, an even d, and w
+unfoldable pub weighted_entry_of : Data → Result Entry FileFault
+weighted_entry_of document = do
+  n ← number_field name.N 1 MAX_N document
+  d ← distance_beside true document
+  w ← number_field name.W 0 n document
+  Ok (constant_weight n d w)
+
+-- the dual of a document of kind jdual: n, d, w and c, and no other key
+unfoldable pub johnson_dual_of : Data → Result Dual FileFault
+johnson_dual_of document = do
+  e ← weighted_entry_of document
+  c ← multipliers_field e document
+  no_other_key (name.N ∷ name.D ∷ name.W ∷ name.C ∷ []) document
+  Ok (record { entry = e; even = false; c = c; y = [] })

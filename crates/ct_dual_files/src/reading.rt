@@ -1,0 +1,53 @@
+//! Documents of kind dual and jdual.
+ghost use Rattle.std.specs.Prelude.{◌≡◌, IfOk};
+ghost use Rattle.toml.specs.View.{view};
+ghost use Rattle.ct_fields.specs.Reads.{Reads};
+ghost use Rattle.ct_dual_files.specs.Dual.{dual_of, johnson_dual_of};
+
+use crate::entries::{plain_entry_field, weighted_entry_field};
+use crate::fields::{allowances_field, even_field, multipliers_field};
+use ct_duals::{Allowances, Dual, Multipliers};
+use ct_fields::{FieldName, FileFault, no_other_key};
+use std::alloc::Global;
+use toml::Value;
+
+/// The dual that the document states, of kind dual.
+#[tactic(auto, unfolding(crate::specs::Dual::dual_of))]
+pub fn dual_of(alloc: Global, document: &Value) -> Result<Dual, FileFault>
+    ensures reads { Reads (λ dual. dual) result (dual_of (view document.now)) }
+{
+    let entry = plain_entry_field(document)?;
+    let even = even_field(entry.d, document)?;
+    let c = multipliers_field(alloc, entry, document)?;
+    let y = allowances_field(alloc, entry, even, document)?;
+    let names = [
+        FieldName::N,
+        FieldName::D,
+        FieldName::Even,
+        FieldName::C,
+        FieldName::Y,
+    ];
+    no_other_key(document, &names)?;
+    let c = Multipliers::from_vec(c);
+    let y = Allowances::from_vec(y);
+    Ok(Dual { entry, even, c, y })
+}
+
+/// The dual that the document states, of kind jdual.
+#[tactic(auto, unfolding(crate::specs::Dual::johnson_dual_of))]
+pub fn johnson_dual_of(alloc: Global, document: &Value) -> Result<Dual, FileFault>
+    ensures reads { Reads (λ dual. dual) result (johnson_dual_of (view document.now)) }
+{
+    let entry = weighted_entry_field(document)?;
+    let c = multipliers_field(alloc, entry, document)?;
+    let names = [FieldName::N, FieldName::D, FieldName::W, FieldName::C];
+    no_other_key(document, &names)?;
+    let c = Multipliers::from_vec(c);
+    let y = Allowances::from_vec(Vec::new(alloc));
+    Ok(Dual {
+        entry,
+        even: false,
+        c,
+        y,
+    })
+}
