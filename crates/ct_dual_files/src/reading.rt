@@ -2,6 +2,7 @@
 ghost use Rattle.std.specs.Prelude.{◌≡◌, IfOk};
 ghost use Rattle.toml.specs.View.{view};
 ghost use Rattle.ct_fields.specs.Reads.{Reads};
+ghost use Rattle.ct_duals.specs.Dual.{IsDual};
 ghost use Rattle.ct_dual_files.specs.Dual.{dual_of, johnson_dual_of};
 
 use crate::entries::{plain_entry_field, weighted_entry_field};
@@ -11,10 +12,17 @@ use ct_fields::{FieldName, FileFault, no_other_key};
 use std::alloc::Global;
 use toml::Value;
 
-/// The dual that the document states, of kind dual.
-#[tactic(auto, unfolding(crate::specs::Dual::dual_of))]
+/// The dual that the document states, of kind dual; it has the form of one.
 pub fn dual_of(alloc: Global, document: &Value) -> Result<Dual, FileFault>
     ensures reads { Reads (λ dual. dual) result (dual_of (view document.now)) }
+    ensures form { IfOk result IsDual }
+{
+    read_dual(alloc, document)
+}
+
+#[tactic(auto, unfolding(crate::specs::Dual::dual_of))]
+fn read_dual(alloc: Global, document: &Value) -> Result<Dual, FileFault>
+    ensures { Reads (λ dual. dual) result (dual_of (view document.now)) }
 {
     let entry = plain_entry_field(document)?;
     let even = even_field(entry.d, document)?;
@@ -33,10 +41,17 @@ pub fn dual_of(alloc: Global, document: &Value) -> Result<Dual, FileFault>
     Ok(Dual { entry, even, c, y })
 }
 
-/// The dual that the document states, of kind jdual.
-#[tactic(auto, unfolding(crate::specs::Dual::johnson_dual_of))]
+/// The dual that the document states, of kind jdual; it has the form of one.
 pub fn johnson_dual_of(alloc: Global, document: &Value) -> Result<Dual, FileFault>
     ensures reads { Reads (λ dual. dual) result (johnson_dual_of (view document.now)) }
+    ensures form { IfOk result IsDual }
+{
+    read_johnson_dual(alloc, document)
+}
+
+#[tactic(auto, unfolding(crate::specs::Dual::johnson_dual_of))]
+fn read_johnson_dual(alloc: Global, document: &Value) -> Result<Dual, FileFault>
+    ensures { Reads (λ dual. dual) result (johnson_dual_of (view document.now)) }
 {
     let entry = weighted_entry_field(document)?;
     let c = multipliers_field(alloc, entry, document)?;
