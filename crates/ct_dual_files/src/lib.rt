@@ -4,5 +4,7 @@
 mod entries;
 mod fields;
 mod reading;
+mod written;
 
 pub use reading::{dual_of, johnson_dual_of};
+pub use written::{dual_table, johnson_dual_table};

@@ -1,0 +1,29 @@
+-- The tables that are written for duals.
+use Rattle.std.specs.Prelude.{ℕ, ℤ, pos, List, [], ◌∷◌, map, codes}
+use Rattle.toml.specs.Data.{Data, integer, boolean, array, Members}
+use Rattle.toml.specs.View.{items_of}
+use Rattle.ct_fields.specs.Written.{put, put_weight, entry_table}
+use Rattle.ct_fields.specs.declared.field.FieldName.TheVariants as name
+use Rattle.ct_duals.specs.declared.dual.Dual.{Dual}
+
+-- the list of whole numbers
+abbrev pub integer_list : List ℤ → Data
+integer_list c = array (items_of (map (λ z. integer z) c))
+
+-- the list of an index and a number
+abbrev pub pair_data : ℕ × ℤ → Data
+pair_data p = array (items_of (integer (pos p.0) ∷ integer p.1 ∷ []))
+
+-- the list of pairs
+abbrev pub pair_list : List (ℕ × ℤ) → Data
+pair_list y = array (items_of (map pair_data y))
+
+-- the table of a dual without weight
+abbrev pub dual_table : Dual → Members
+dual_table d =
+    put name.Y (pair_list d.y) (put name.C (integer_list d.c) (put name.Even (boolean d.even) (entry_table (codes "dual") d.entry.n d.entry.d)))
+
+-- the table of a dual with a weight
+abbrev pub johnson_dual_table : Dual → Members
+johnson_dual_table d =
+    put name.C (integer_list d.c) (put_weight d.entry.w (entry_table (codes "jdual") d.entry.n d.entry.d))

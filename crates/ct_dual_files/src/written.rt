@@ -1,0 +1,70 @@
+//! The tables of duals.
+ghost use Rattle.std.specs.Prelude.{◌≡◌, IfOk};
+ghost use Rattle.toml.specs.View.{view, table_view};
+ghost use Rattle.ct_dual_files.specs.WrittenDuals.{integer_list, pair_data, pair_list, dual_table, johnson_dual_table};
+
+use ct_duals::Dual;
+use ct_fields::{FieldName, entry_table, put, put_weight};
+use std::alloc::{AllocError, Global};
+use toml::{Table, Value};
+
+/// The table of a dual without weight.
+pub fn dual_table(alloc: Global, dual: &Dual) -> Result<Table, AllocError>
+    ensures { IfOk result (λ table. table_view table ≡ dual_table dual.now) }
+{
+    let mut table = entry_table(alloc, "dual", dual.entry.n, dual.entry.d)?;
+    put(
+        alloc,
+        &mut table,
+        FieldName::Even,
+        Value::Boolean(dual.even),
+    )?;
+    let c = integer_list(alloc, dual.c.as_slice())?;
+    put(alloc, &mut table, FieldName::C, c)?;
+    let y = pair_list(alloc, dual.y.as_slice())?;
+    put(alloc, &mut table, FieldName::Y, y)?;
+    Ok(table)
+}
+
+/// The table of a dual with a weight.
+pub fn johnson_dual_table(alloc: Global, dual: &Dual) -> Result<Table, AllocError>
+    ensures { IfOk result (λ table. table_view table ≡ johnson_dual_table dual.now) }
+{
+    let mut table = entry_table(alloc, "jdual", dual.entry.n, dual.entry.d)?;
+    put_weight(alloc, &mut table, dual.entry.w)?;
+    let c = integer_list(alloc, dual.c.as_slice())?;
+    put(alloc, &mut table, FieldName::C, c)?;
+    Ok(table)
+}
+
+/// The whole numbers as a value.
+fn integer_list(alloc: Global, integers: &[i64]) -> Result<Value, AllocError>
+    ensures { IfOk result (λ value. view value ≡ integer_list integers.now) }
+{
+    let mut values = Vec::with_capacity(alloc, integers.len())?;
+    for integer in integers {
+        values.push(Value::Integer(*integer))?;
+    }
+    Ok(Value::Array(values))
+}
+
+/// The pairs as a value.
+fn pair_list(alloc: Global, pairs: &[(u32, i64)]) -> Result<Value, AllocError>
+    ensures { IfOk result (λ value. view value ≡ pair_list pairs.now) }
+{
+    let mut values = Vec::with_capacity(alloc, pairs.len())?;
+    for (i, number) in pairs {
+        values.push(pair_value(alloc, *i, *number)?)?;
+    }
+    Ok(Value::Array(values))
+}
+
+/// An index and a number as a value.
+fn pair_value(alloc: Global, i: u32, number: i64) -> Result<Value, AllocError>
+    ensures { IfOk result (λ value. view value ≡ pair_data (i, number)) }
+{
+    let mut values = Vec::with_capacity(alloc, 2)?;
+    values.push(Value::from(i))?;
+    values.push(Value::Integer(number))?;
+    Ok(Value::Array(values))
+}
