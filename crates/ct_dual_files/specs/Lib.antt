@@ -1,3 +1,4 @@
 pub mod Fields
 pub mod Dual
 pub mod WrittenDuals
+pub mod Examples

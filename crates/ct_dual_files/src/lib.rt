@@ -3,8 +3,10 @@
 
 mod entries;
 mod fields;
+mod laws;
 mod reading;
 mod written;
 
+pub use laws::known_documents;
 pub use reading::{dual_of, johnson_dual_of};
 pub use written::{dual_table, johnson_dual_table};

@@ -1,0 +1,25 @@
+-- Duals and documents whose reading is known.
+use Rattle.std.specs.Prelude.{ℕ, ℤ, pos, true, false, Bool, [], ◌∷◌, List, codes}
+use Rattle.toml.specs.Data.{Data, boolean, table}
+use Rattle.ct_codes.specs.Entry.{unrestricted, constant_weight}
+use Rattle.ct_fields.specs.Written.{put, entry_table}
+use Rattle.ct_fields.specs.declared.field.FieldName.TheVariants as name
+use Rattle.ct_duals.specs.declared.dual.Dual.{Dual}
+use Rattle.ct_dual_files.specs.WrittenDuals.{integer_list, pair_list}
+
+-- a dual for A(13,6), of even distances alone, that rests on two upper bounds
+abbrev pub thirteen_six : Dual
+thirteen_six = record {
+  entry = unrestricted 13 6;
+  even = true;
+  c = pos 5 ∷ pos 1 ∷ pos 1 ∷ [];
+  y = (10, pos 16) ∷ (12, pos 48) ∷ [];
+}
+
+-- a dual for A(8,4,4)
+abbrev pub eight_four_four : Dual
+eight_four_four = record { entry = constant_weight 8 4 4; even = false; c = pos 48 ∷ pos 21 ∷ pos 4 ∷ []; y = [] }
+
+-- a document of kind dual for length 13, with its other fields
+abbrev pub document : ℕ → Bool → List ℤ → List (ℕ × ℤ) → Data
+document d even c y = table (put name.Y (pair_list y) (put name.C (integer_list c) (put name.Even (boolean even) (entry_table (codes "dual") 13 d))))
