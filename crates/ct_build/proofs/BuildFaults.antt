@@ -23,7 +23,7 @@ use Rattle.ct_build.specs.declared.fault.BuildFault.TheVariants.{Size, Few, Empt
 use Rattle.ct_build.specs.declared.shape.Shape.{Shape}
 use Rattle.ct_build.specs.declared.step.Step.{Step}
 use Rattle.ct_build.specs.declared.step.Step.TheVariants.{Lengthen, AppendOne, Parity, Puncture, Shorten, Translate, Complement, Select, Uuv, Juxtapose, Trim}
-use Rattle.ct_build.specs.Build.{FieldsFit, FitsStated, shape_of, is_right_length, is_right_weight, few_fault, size_of, distance_of, other_of, is_right_other, step_distance, result_size, part_fault, other_fault, short_fault, above_limit, selected_of, built, size_fault, empty_fault, counted_fault, early_fault, build_fault}
+use Rattle.ct_build.specs.Build.{FieldsFit, FitsStated, shape_of, is_right_length, is_right_weight, few_fault, size_of, distance_of, other_of, is_right_other, step_distance, result_size, part_fault, other_fault, short_fault, above_limit, selected_of, built, sizes_fault, empty_fault, counted_fault, early_fault, build_fault}
 use Rattle.ct_build.proofs.StepLemmas.{IsReady, ready}
 
 shortened-few : (n : ℕ) (places digits words : List ℕ) → length (shortened n places digits words) ≤ length words
@@ -123,8 +123,8 @@ few_from count none = go (nat_lt MAX_BUILT count) refl none
     go false h none' = ltb-false MAX_BUILT count h
 
 -- where no more words result than the part has, their number gives no reason
-size_few : (step : Step) (part : Shape) (other : Option Shape) (count : ℕ) → count ≤ part.size → size_fault step part other count ≡ size_fault step part other 0
-unfolding size_fault
+size_few : (step : Step) (part : Shape) (other : Option Shape) (count : ℕ) → count ≤ part.size → sizes_fault step part other count ≡ sizes_fault step part other 0
+unfolding sizes_fault
 size_few step part other count few = go (above_limit part.size) refl
   where
     go : (first : Option BuildFault) → above_limit part.size ≡ first
@@ -137,14 +137,14 @@ size_few step part other count few = go (above_limit part.size) refl
 
 -- so the number of words that result is told early enough
 size_early : (step : Step) (e : Entry) (part : CodeValue) (other : Option CodeValue)
-    → size_fault step (shape_of part) (option_map shape_of other) (length (built step e part other))
-    ≡ size_fault step (shape_of part) (option_map shape_of other) (unwrap_or (result_size step (shape_of part) (option_map shape_of other)) 0)
+    → sizes_fault step (shape_of part) (option_map shape_of other) (length (built step e part other))
+    ≡ sizes_fault step (shape_of part) (option_map shape_of other) (unwrap_or (result_size step (shape_of part) (option_map shape_of other)) 0)
 size_early step e part other = go (result_size step (shape_of part) (option_map shape_of other)) refl
   where
     go : (r : Option ℕ) → result_size step (shape_of part) (option_map shape_of other) ≡ r
-        → size_fault step (shape_of part) (option_map shape_of other) (length (built step e part other))
-        ≡ size_fault step (shape_of part) (option_map shape_of other) (unwrap_or r 0)
-    go (Some k) is = ap (size_fault step (shape_of part) (option_map shape_of other)) (result_size-is step e part other k is)
+        → sizes_fault step (shape_of part) (option_map shape_of other) (length (built step e part other))
+        ≡ sizes_fault step (shape_of part) (option_map shape_of other) (unwrap_or r 0)
+    go (Some k) is = ap (sizes_fault step (shape_of part) (option_map shape_of other)) (result_size-is step e part other k is)
     go None is = size_few step (shape_of part) (option_map shape_of other) _ (result_size-none step e part other is)
 
 -- the shapes tell the first reason, but that no word results
@@ -203,14 +203,14 @@ some_words (x ∷ xs) h = omega arith
 -- no more words result than the limit allows
 few_words : (step : Step) (e : Entry) (part : CodeValue) (other : Option CodeValue)
     → early_fault step e (shape_of part) (option_map shape_of other) ≡ None → length (built step e part other) ≤ MAX_BUILT
-unfolding size_fault
+unfolding sizes_fault
 few_words step e part other none =
     let beside = option_map shape_of other in
     let count = length (built step e part other) in
     let one = first_of-None (part_fault step e (shape_of part)) _ (counted_early step e part other ∙ none) in
     let two = first_of-None (other_fault step e (shape_of part) beside) _ one.1 in
     let three = first_of-None (short_fault (step_distance step part.d (distance_of beside)) e.d) _ two.1 in
-    let four = first_of-None (size_fault step (shape_of part) beside count) _ three.1 in
+    let four = first_of-None (sizes_fault step (shape_of part) beside count) _ three.1 in
     let first = first_of-None (above_limit (length part.words)) _ four.0 in
     let second = first_of-None (above_limit (size_of (other_of step beside))) _ first.1 in
     few_from count second.1
@@ -239,7 +239,7 @@ built-alone (Trim size) e part other u j = refl
 
 pub fault-alone : (step : Step) (e : Entry) (part : CodeValue) (other : Option CodeValue) → step ≢ Uuv → step ≢ Juxtapose
     → build_fault step e part other ≡ build_fault step e part None
-unfolding built is_right_other other_of step_distance size_fault early_fault build_fault
+unfolding built is_right_other other_of step_distance sizes_fault early_fault build_fault
 fault-alone Lengthen e part other u j = refl
 fault-alone AppendOne e part other u j = refl
 fault-alone Parity e part other u j = refl
@@ -280,8 +280,8 @@ unfolding few_fault NotMemory
 few_NotMemory (Trim size) count = if_NotMemory (nat_lt count size) (Few count size) (λ is. cc)
 few_NotMemory step count = λ is. cc
 
-size_NotMemory : (step : Step) (part : Shape) (other : Option Shape) (result : ℕ) → NotMemory (size_fault step part other result)
-unfolding size_fault
+size_NotMemory : (step : Step) (part : Shape) (other : Option Shape) (result : ℕ) → NotMemory (sizes_fault step part other result)
+unfolding sizes_fault
 size_NotMemory step part other result =
     first_NotMemory (above_limit part.size) _ (if_NotMemory (nat_lt MAX_BUILT part.size) _ (λ is. cc))
     (first_NotMemory (above_limit (size_of (other_of step other))) _ (if_NotMemory (nat_lt MAX_BUILT (size_of (other_of step other))) _ (λ is. cc))
@@ -295,7 +295,7 @@ early_not_memory step e part other f is memory =
     first_NotMemory (part_fault step e part) _ (unless_NotMemory (is_right_length step e.n part.n && is_right_weight step e.n e.w part.w) _ (λ q. cc))
     (first_NotMemory (other_fault step e part other) _ (unless_NotMemory (is_right_other step e part other) _ (λ q. cc))
     (first_NotMemory (short_fault have e.d) _ (if_NotMemory (nat_lt have e.d) _ (λ q. cc))
-    (first_NotMemory (size_fault step part other _) _ (size_NotMemory step part other _) (few_NotMemory step part.size)))) in
+    (first_NotMemory (sizes_fault step part other _) _ (size_NotMemory step part other _) (few_NotMemory step part.size)))) in
     never (is ∙ ap Some memory)
 
 -- a list with something in it

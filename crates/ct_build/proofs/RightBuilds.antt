@@ -9,7 +9,7 @@ use Rattle.ct_codes.proofs.CheckLemmas.{first_of-None}
 use Rattle.ct_build.specs.declared.fault.BuildFault.TheVariants.{Short, Few}
 use Rattle.ct_build.specs.declared.step.Step.{Step}
 use Rattle.ct_build.specs.declared.step.Step.TheVariants.{Trim}
-use Rattle.ct_build.specs.Build.{shape_of, is_right_length, is_right_weight, is_right_other, distance_of, size_of, other_of, step_distance, part_fault, other_fault, short_fault, above_limit, size_fault, few_fault, empty_fault, counted_fault, built, build_fault, IsRightBuild}
+use Rattle.ct_build.specs.Build.{shape_of, is_right_length, is_right_weight, is_right_other, distance_of, size_of, other_of, step_distance, part_fault, other_fault, short_fault, above_limit, sizes_fault, few_fault, empty_fault, counted_fault, built, build_fault, IsRightBuild}
 use Rattle.ct_build.proofs.StepLemmas.{then_true, else_false}
 use Rattle.ct_build.proofs.BuildFaults.{none_above, few_from, some_words}
 
@@ -45,7 +45,7 @@ neither : {X : Type 0} {a b : Option X} → a ≡ None → b ≡ None → first_
 neither {b = b} first second = ap (λ z. first_of z b) first ∙ second
 
 pub right_from : (step : Step) (e : Entry) (part : CodeValue) (other : Option CodeValue) → build_fault step e part other ≡ None → IsRightBuild step e part other
-unfolding build_fault size_fault
+unfolding build_fault sizes_fault
 right_from step e part other none =
     let beside = option_map shape_of other in
     let count = length (built step e part other) in
@@ -53,7 +53,7 @@ right_from step e part other none =
     let one = first_of-None (part_fault step e (shape_of part)) _ all.0 in
     let two = first_of-None (other_fault step e (shape_of part) beside) _ one.1 in
     let three = first_of-None (short_fault (step_distance step part.d (distance_of beside)) e.d) _ two.1 in
-    let four = first_of-None (size_fault step (shape_of part) beside count) (few_fault step (length part.words)) three.1 in
+    let four = first_of-None (sizes_fault step (shape_of part) beside count) (few_fault step (length part.words)) three.1 in
     let first = first_of-None (above_limit (length part.words)) _ four.0 in
     let second = first_of-None (above_limit (size_of (other_of step beside))) _ first.1 in
     let both = and_parts (is_right_length step e.n part.n) (is_right_weight step e.n e.w part.w) (then_true _ _ one.0) in
@@ -70,13 +70,13 @@ right_from step e part other none =
     }
 
 pub none_from : (step : Step) (e : Entry) (part : CodeValue) (other : Option CodeValue) → IsRightBuild step e part other → build_fault step e part other ≡ None
-unfolding build_fault size_fault
+unfolding build_fault sizes_fault
 none_from step e part other right =
     let beside = option_map shape_of other in
     let count = length (built step e part other) in
     let shape : part_fault step e (shape_of part) ≡ None = rw (right.part_length, right.part_weight) refl in
     let next : other_fault step e (shape_of part) beside ≡ None = rw right.beside refl in
-    let sizes : size_fault step (shape_of part) beside count ≡ None =
+    let sizes : sizes_fault step (shape_of part) beside count ≡ None =
     neither (none_above (length part.words) right.part_size) (neither (none_above (size_of (other_of step beside)) right.other_size) (none_above count right.size)) in
     neither
     (neither shape (neither next (neither (none_short (step_distance step part.d (distance_of beside)) e.d right.distance)

@@ -167,8 +167,8 @@ abbrev pub above_limit : ℕ → Option BuildFault
 above_limit count = if nat_lt MAX_BUILT count then Some (Size count) else None
 
 -- the first number of words above the limit: of the part, of the other code where the step needs one, of the result, which is given
-unfoldable pub size_fault : Step → Shape → Option Shape → ℕ → Option BuildFault
-size_fault step part other result = first_of (above_limit part.size) (first_of (above_limit (size_of (other_of step other))) (above_limit result))
+unfoldable pub sizes_fault : Step → Shape → Option Shape → ℕ → Option BuildFault
+sizes_fault step part other result = first_of (above_limit part.size) (first_of (above_limit (size_of (other_of step other))) (above_limit result))
 
 -- the part has fewer words than are wanted, of so many that it has
 unfoldable pub few_fault : Step → ℕ → Option BuildFault
@@ -187,7 +187,7 @@ counted_fault step e part other result =
     first_of (part_fault step e part)
     (first_of (other_fault step e part other)
     (first_of (short_fault (step_distance step part.d (distance_of other)) e.d)
-    (first_of (size_fault step part other result) (few_fault step part.size))))
+    (first_of (sizes_fault step part other result) (few_fault step part.size))))
 
 -- the first reason against the step that the shapes of the codes tell: of the number of words that result only where that does not depend on the words
 unfoldable pub early_fault : Step → Entry → Shape → Option Shape → Option BuildFault

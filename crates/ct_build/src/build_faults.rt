@@ -5,7 +5,7 @@ ghost use Rattle.std.specs.Option.{ForSome, unwrap_or};
 ghost use Rattle.ct_codes.specs.declared.code.TheConstants.{MAX_CODE_DISTANCE};
 ghost use Rattle.ct_build.specs.declared.building.TheConstants.{MAX_BUILT};
 ghost use Rattle.ct_build.specs.declared.fault.BuildFault.TheVariants.{Few};
-ghost use Rattle.ct_build.specs.Build.{FitsStated, IsShape, part_fault, other_fault, distance_of, step_distance, size_of, other_of, result_size, above_limit, size_fault, few_fault, short_fault, early_fault};
+ghost use Rattle.ct_build.specs.Build.{FitsStated, IsShape, part_fault, other_fault, distance_of, step_distance, size_of, other_of, result_size, above_limit, sizes_fault, few_fault, short_fault, early_fault};
 
 use crate::building::MAX_BUILT;
 use crate::even::even_from;
@@ -126,10 +126,10 @@ fn above_limit(count: u64) -> Option<BuildFault>
 }
 
 /// The first number of words above the limit, of the part, the other code and the result where it is known.
-#[tactic(auto, unfolding(crate::specs::Build::size_fault))]
+#[tactic(auto, unfolding(crate::specs::Build::sizes_fault))]
 fn size_fault(step: &Step, part: Shape, other: Option<Shape>) -> Option<BuildFault>
     ensures sizes { IfNone result ((part.size ≤ MAX_BUILT) × (size_of (other_of step.now other) ≤ MAX_BUILT)) }
-    ensures value { result ≡ size_fault step.now part other (unwrap_or (result_size step.now part other) 0) }
+    ensures value { result ≡ sizes_fault step.now part other (unwrap_or (result_size step.now part other) 0) }
 {
     let second = size_of(other_of(step, other));
     if let Some(fault) = above_limit(part.size) {

@@ -19,7 +19,7 @@ use Rattle.ct_rules.proofs.RuleLaws.{rule_entry, premises_in_table}
 use Rattle.ct_rules.specs.declared.rule.Rule.{Rule}
 use Rattle.ct_codes.specs.declared.entry.Entry.{Entry}
 use Rattle.ct_closure.specs.Inside.Pulling.{value_over, line_by}
-use Rattle.ct_closure.specs.Kept.{KeptValue, IsKept, Grew, reason_of, with_line}
+use Rattle.ct_closure.specs.Kept.{KeptValue, IsKept, Grew, reason_of, with_line_put}
 use Rattle.ct_closure.specs.Number.{bound_of, slot_number}
 use Rattle.ct_closure.proofs.GetLemmas.{IsOldOrNew, slice_get-append_some, slice_get_push_cases}
 use Rattle.ct_closure.proofs.NumberLemmas.{slot_number-injective}
@@ -97,7 +97,7 @@ line-no_better supports kept i l good found =
 pub IsKept-with_line : (supports : List Support) (kept : KeptValue) (line : LineValue) → IsKept supports kept
     → IsEntry line.claim.entry → Follows supports kept.lines line
     → IsBetter line.claim.side line.claim.value (bound_of kept.bounds (slot_of line.claim))
-    → IsKept supports (with_line kept line)
+    → IsKept supports (with_line_put kept line)
 IsKept-with_line supports kept line good entry follows better = record {
   bound_count = length-set kept.bounds (slot_number at) line.claim.value ∙ good.bound_count;
   reason_count = length-set kept.reasons (slot_number at) (length kept.lines) ∙ good.reason_count;
@@ -119,7 +119,7 @@ IsKept-with_line supports kept line good entry follows better = record {
     at = slot_of line.claim
 
     new : KeptValue
-    new = with_line kept line
+    new = with_line_put kept line
 
     IsReasoned : Slot → Type 0
     IsReasoned s = claim_in new.lines (reason_of new s) ≡ Some (claim_at s (bound_of new.bounds s))
@@ -178,7 +178,7 @@ IsKept-with_line supports kept line good entry follows better = record {
 pub Grew-with_line : (supports : List Support) (kept : KeptValue) (line : LineValue) → IsKept supports kept
     → IsEntry line.claim.entry → Follows supports kept.lines line
     → IsBetter line.claim.side line.claim.value (bound_of kept.bounds (slot_of line.claim))
-    → Grew kept (with_line kept line)
+    → Grew kept (with_line_put kept line)
 Grew-with_line supports kept line good entry follows better = record {
   more = (line ∷ [], refl, All-cons (IsImproved kept.bounds) line [] better (All-nil (IsImproved kept.bounds)));
   same = λ s s_entry stays. elim (cases_eq (slot_number s) (slot_number at)) [
@@ -196,7 +196,7 @@ Grew-with_line supports kept line good entry follows better = record {
     at = slot_of line.claim
 
     new : KeptValue
-    new = with_line kept line
+    new = with_line_put kept line
 
 -- a table grew from itself
 pub Grew-refl : (kept : KeptValue) → Grew kept kept

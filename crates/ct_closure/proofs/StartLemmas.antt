@@ -9,7 +9,7 @@ use Rattle.ct_words.specs.declared.limits.TheConstants.{MAX_N}
 use Rattle.ct_rules.specs.Derivation.{LineValue, Follows}
 use Rattle.ct_rule_parts.specs.Slot.{Slot, slot_of}
 use Rattle.ct_rules.proofs.Places.{slice_get_last}
-use Rattle.ct_closure.specs.Kept.{KeptValue, IsKept, reason_of, with_line}
+use Rattle.ct_closure.specs.Kept.{KeptValue, IsKept, reason_of, with_line_put}
 use Rattle.ct_closure.specs.Inside.Ground.{ground_value, ground_line}
 use Rattle.ct_closure.specs.Inside.Started.{HasGround, IsGroundBelow, IsStarted}
 use Rattle.ct_closure.specs.Number.{bound_of, side_size, side_number, slot_number, entries_to, entry_in, count_in_length}
@@ -31,7 +31,7 @@ IsStarted-none bounds reasons bound_count reason_count = record {
 
 -- the ground line of the slot that has the number is put
 pub IsStarted-put : (count : ℕ) (kept : KeptValue) (s : Slot) (v : ℕ) → IsEntry s.1 → slot_number s ≡ count
-    → ground_value s ≡ Some v → IsStarted count kept → IsStarted (count + 1) (with_line kept (ground_line s v))
+    → ground_value s ≡ Some v → IsStarted count kept → IsStarted (count + 1) (with_line_put kept (ground_line s v))
 IsStarted-put count kept s v entry number given started = record {
   bound_count = length-set kept.bounds (slot_number s) v ∙ started.bound_count;
   reason_count = length-set kept.reasons (slot_number s) (length kept.lines) ∙ started.reason_count;
@@ -47,7 +47,7 @@ IsStarted-put count kept s v entry number given started = record {
     put = ground_line s v
 
     new : KeptValue
-    new = with_line kept put
+    new = with_line_put kept put
 
     bound : bound_of new.bounds s ≡ v
     bound = bound-put kept put started.bound_count entry
@@ -99,11 +99,11 @@ IsStarted-put count kept s v entry number given started = record {
 pub IsStarted-place : (kept : KeptValue) (side : Side) (n place v : ℕ) → 1 ≤ n → n ≤ MAX_N → place < count_in_length n
     → ground_value (side, entry_in n place) ≡ Some v
     → IsStarted (side_number side * side_size + entries_to (n - 1) + place) kept
-    → IsStarted (side_number side * side_size + entries_to (n - 1) + (place + 1)) (with_line kept (ground_line (side, entry_in n place) v))
+    → IsStarted (side_number side * side_size + entries_to (n - 1) + (place + 1)) (with_line_put kept (ground_line (side, entry_in n place) v))
 IsStarted-place kept side n place v from to within given started =
     let count = side_number side * side_size + entries_to (n - 1) + place in
     let next : count + 1 ≡ side_number side * side_size + entries_to (n - 1) + (place + 1) = omega arith in
-    subst (λ k. IsStarted k (with_line kept (ground_line (side, entry_in n place) v))) next
+    subst (λ k. IsStarted k (with_line_put kept (ground_line (side, entry_in n place) v))) next
     (IsStarted-put count kept (side, entry_in n place) v (entry_in-IsEntry n place from to within) (slot_number-entry_in side n place) given started)
 
 -- up to another number that is the same

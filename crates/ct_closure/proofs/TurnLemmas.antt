@@ -20,7 +20,7 @@ use Rattle.ct_rules.proofs.ClosedBounds.{AreTrue-from_derived}
 use Rattle.ct_rules.proofs.Derivations.{derived_from_line}
 use Rattle.ct_rules.proofs.RuleLaws.{rule_entry}
 use Rattle.ct_closure.specs.Closing.{IsSatisfiedAt, IsPending, HasMoreLines}
-use Rattle.ct_closure.specs.Kept.{KeptValue, IsKept, Grew, reason_of, with_line}
+use Rattle.ct_closure.specs.Kept.{KeptValue, IsKept, Grew, reason_of, with_line_put}
 use Rattle.ct_closure.specs.Number.{slot_number, bound_of, side_size}
 use Rattle.ct_closure.specs.Worklist.{WorkValue, IsMarked, IsIdle, waiting}
 use Rattle.ct_closure.specs.Inside.Marking.{IsPendingBut, KeepsMarks, IsTestedAt, IsTestedFrom, AreTestedByWeight, AreTested}
@@ -98,7 +98,7 @@ pub record IsImprovement (supports : List Support) (kept : KeptValue) (r : Rule)
 
 -- what is kept with its line
 abbrev pub improved : List Support → KeptValue → Rule → Entry → ℕ → KeptValue
-improved supports kept r e v = with_line kept (line_by supports kept r e v)
+improved supports kept r e v = with_line_put kept (line_by supports kept r e v)
 
 pub kept-improved : (supports : List Support) (kept : KeptValue) (r : Rule) (e : Entry) (v : ℕ) → IsKept supports kept
     → IsImprovement supports kept r e v → IsKept supports (improved supports kept r e v)

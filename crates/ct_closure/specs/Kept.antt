@@ -45,8 +45,8 @@ abbrev pub reason_of : KeptValue → Slot → ℕ
 reason_of kept s = slice_index kept.reasons (slot_number s)
 
 -- one more line, whose claim is now the bound of its slot
-abbrev pub with_line : KeptValue → LineValue → KeptValue
-with_line kept line = record {
+abbrev pub with_line_put : KeptValue → LineValue → KeptValue
+with_line_put kept line = record {
   bounds = slice_set kept.bounds (slot_number (slot_of line.claim)) line.claim.value;
   reasons = slice_set kept.reasons (slot_number (slot_of line.claim)) (length kept.lines);
   lines = kept.lines ++ line ∷ [];

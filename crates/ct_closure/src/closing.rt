@@ -12,7 +12,7 @@ ghost use Rattle.ct_rules.specs.declared.rule.Rule.{Rule};
 ghost use Rattle.ct_rules.specs.Closed.{AreTrue, IsClosed};
 ghost use Rattle.ct_rules.specs.Rule.{rule_side, is_alone, applies, parts_over};
 ghost use Rattle.ct_closure.specs.Closing.{IsPending, CanClose, IsClosing, HasMoreLines};
-ghost use Rattle.ct_closure.specs.Kept.{IsKept, Grew, with_line, reason_of};
+ghost use Rattle.ct_closure.specs.Kept.{IsKept, Grew, with_line_put, reason_of};
 ghost use Rattle.ct_closure.specs.Number.{bound_of};
 ghost use Rattle.ct_closure.specs.Places.{ArePlaces};
 ghost use Rattle.ct_closure.specs.Worklist.{IsIdle};
@@ -90,7 +90,7 @@ fn improve(
 ) -> Result<(), AllocError>
     requires entry { IsEntry entry }
     requires defined { applies supports.now rule entry ≡ true }
-    ensures improved { OnOk result (kept.new ≡ with_line kept.old (line_by supports.now kept.old rule entry value)) }
+    ensures improved { OnOk result (kept.new ≡ with_line_put kept.old (line_by supports.now kept.old rule entry value)) }
     ensures unchanged { OnErr result (kept.new ≡ kept.old) }
 {
     let side = rule_side(rule);

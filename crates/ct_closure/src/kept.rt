@@ -5,7 +5,7 @@ ghost use Rattle.ct_codes.specs.declared.claim.Side.TheVariants.{Lower, Upper};
 ghost use Rattle.ct_codes.specs.Entry.{IsEntry};
 ghost use Rattle.ct_rule_parts.specs.declared.support.Support.{Support};
 ghost use Rattle.ct_closure.specs.Number.{bound_of, entries_to, side_number, side_size};
-ghost use Rattle.ct_closure.specs.Kept.{with_line, reason_of, set_back, ground_rule, IsKept};
+ghost use Rattle.ct_closure.specs.Kept.{with_line_put, reason_of, set_back, ground_rule, IsKept};
 ghost use Rattle.ct_rules.specs.Rule.{place_of};
 ghost use Rattle.ct_removal.specs.Removal.{names_one, only, lowered_line};
 ghost use Rattle.ct_closure.specs.Inside.Ground.{ground_value, ground_line};
@@ -211,7 +211,7 @@ impl Kept {
     /// before.
     pub fn put(&mut self, line: Line) -> Result<(), AllocError>
         requires { IsEntry line.claim.entry }
-        ensures put { OnOk result (self.new ≡ with_line self.old line) }
+        ensures put { OnOk result (self.new ≡ with_line_put self.old line) }
         ensures unchanged { OnErr result (self.new ≡ self.old) }
     {
         let Claim { side, entry, value } = line.claim;

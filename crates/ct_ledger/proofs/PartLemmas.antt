@@ -1,5 +1,7 @@
 -- The pieces that a build names as its parts: their codes, and the shapes of these.
 use Rattle.std.proofs.Common.{◌≡◌, ℕ, ◌<◌, true, false, List, [], ◌∷◌, length, take, get_or, Option, Some, None, is_some, option_map, Result, Ok, Err, IfOk, refl, sym, ap, ap₂, subst, ◌∙◌, arith}
+use Rattle.std.specs.Prelude.{IsSome}
+use Rattle.std.proofs.lemmas.Option.{slice_get-get_or}
 use Rattle.std.specs.Option.{option_to_list, option_or}
 use Rattle.std.proofs.lemmas.List.Elements.{All-nil}
 use Rattle.std.proofs.lemmas.List.Sorted.{length_permutation}
@@ -190,3 +192,26 @@ own-listed (Build e step part other) known none = absurd cc
 -- nothing is against evidence of a piece that lists a code
 pub listed-faultless : (ps : List PieceValue) (k : ℕ) (p : PieceValue) → IsPlaced ps k p → is_kept p.evidence ≡ false → own_reason [] p.evidence ≡ None
 listed-faultless ps k p at none = own-listed p.evidence (codes_of (take k ps)) none ∙ right-own (codes_of (take k ps)) p.evidence at.right
+
+pub Some-piece : (p q : PieceValue) → ◌≡◌ {A = Option PieceValue} (Some p) (Some q) → p ≡ q
+Some-piece p q is = cc
+
+-- each kind of today has a code
+all-coded : (evidence : Evidence) → has_code evidence ≡ true
+all-coded (Words e words) = refl
+all-coded (Cosets e basis representatives) = refl
+all-coded (Build e step part other) = refl
+
+some-code : (e : Entry) (words : Option (List ℕ)) → is_some words ≡ true → IsSome (option_map (code_at e) words)
+some-code e None none = absurd cc
+some-code e (Some words) some = tt
+
+-- so each piece that stands has one
+pub piece-coded : (ps : List PieceValue) (k : ℕ) → AreMade [] ps → k < length ps → IsSome (code_of_place ps k)
+piece-coded [] k made below = absurd (omega arith)
+piece-coded (q ∷ qs) k made below =
+    let ps = q ∷ qs in
+    let p = get_or ps k q in
+    let read = slice_get-get_or ps k q below in
+    let at = placed ps k p made below (Some-piece p (get_or ps k p) (sym read ∙ slice_get-get_or ps k p below)) in
+    subst IsSome (sym at.code) (some-code (stated_entry p.evidence) (words_over (codes_of (take k ps)) p.evidence) (at.states.coded ∙ all-coded p.evidence))

@@ -21,7 +21,7 @@ use Rattle.ct_ledger.specs.Supports.{support_of, supports_of}
 use Rattle.ct_ledger.specs.Standing.{AreStanding}
 use Rattle.ct_ledger.proofs.AscendingLemmas.{ascending-moved}
 use Rattle.ct_ledger.proofs.SizeLemmas.{code-le}
-use Rattle.ct_ledger.proofs.PartLemmas.{IsPlaced, placed}
+use Rattle.ct_ledger.proofs.PartLemmas.{IsPlaced, placed, Some-piece}
 
 -- what a piece of a kind that has a code gives, which has a size
 gives-size : (evidence : Evidence) (k : ℕ) → (kind_of evidence).gives (Some k) ≡ Size (stated_entry evidence) k
@@ -67,9 +67,6 @@ place-support ps k p c at is =
       subst IsEntry made.entry at.states.entry,
     )
 
-Some-same : (p q : PieceValue) → ◌≡◌ {A = Option PieceValue} (Some p) (Some q) → p ≡ q
-Some-same p q is = cc
-
 -- the best lower bound of its entry is no less
 pub reached : (ps : List PieceValue) (k : ℕ) (c : CodeValue) (v : ℕ) → AreStanding ps → k < length ps → code_of_place ps k ≡ Some c
     → IsBest (supports_of ps) (Lower, record { n = c.n; d = c.d; w = c.w }) v → length c.words ≤ v
@@ -78,6 +75,6 @@ reached (q ∷ qs) k c v h below is best =
     let ps = q ∷ qs in
     let p = get_or ps k q in
     let read = slice_get-get_or ps k q below in
-    let found = place-support ps k p c (placed ps k p h.made below (Some-same p (get_or ps k p) (sym read ∙ slice_get-get_or ps k p below))) is in
+    let found = place-support ps k p c (placed ps k p h.made below (Some-piece p (get_or ps k p) (sym read ∙ slice_get-get_or ps k p below))) is in
     let at = slice_get-map support_of ps k ∙ ap (option_map support_of) read ∙ ap Some found.0 in
     best.none_better (length c.words) (support-derived (supports_of ps) k (record { n = c.n; d = c.d; w = c.w }) (length c.words) found.2 found.1 at)

@@ -13,8 +13,8 @@ use Rattle.ct_ledger.specs.declared.fault.SubmitFault.{SubmitFault}
 use Rattle.ct_ledger.specs.declared.fault.SubmitFault.TheVariants.{Taken, FullPieces, File, NoSuch, WrongPart, Code, Build, FullWords, Memory}
 
 -- the id is one of the pieces'
-abbrev pub Stands : List PieceValue → List ℕ → Type 0
-Stands pieces id = Contains (map (λ p. p.id) pieces) id
+abbrev pub IsTaken : List PieceValue → List ℕ → Type 0
+IsTaken pieces id = Contains (map (λ p. p.id) pieces) id
 
 -- the id is free, and there is room for one more piece
 pub record HasRoom (pieces : List PieceValue) (id : List ℕ) : Type 0 where
@@ -31,14 +31,14 @@ pub record IsFirstMissing (pieces : List PieceValue) (ids : List (List ℕ)) (id
   pub before : List (List ℕ)
   pub after : List (List ℕ)
   pub split : ids ≡ before ++ id ∷ after
-  pub stand : All (Stands pieces) before
+  pub stand : All (IsTaken pieces) before
   pub missing : All (λ q. q.id ≢ id) pieces
 
 -- the document is read as evidence whose parts stand, and this is the first reason of its kind's own check
 pub record IsOwnReason (pieces : List PieceValue) (id document : List ℕ) (reason : SubmitFault) : Type 0 where
   pub evidence : Evidence
   pub read : IsRead pieces id document evidence
-  pub parts : All (Stands pieces) (parts_of evidence)
+  pub parts : All (IsTaken pieces) (parts_of evidence)
   pub own : own_reason (codes_of pieces) evidence ≡ Some reason
 
 -- the document names this part first of those that don't stand
@@ -51,7 +51,7 @@ pub record NamesMissing (pieces : List PieceValue) (id document part : List ℕ)
 pub record IsAboveStored (pieces : List PieceValue) (id document : List ℕ) (total : ℕ) : Type 0 where
   pub evidence : Evidence
   pub read : IsRead pieces id document evidence
-  pub parts : All (Stands pieces) (parts_of evidence)
+  pub parts : All (IsTaken pieces) (parts_of evidence)
   pub right : own_reason (codes_of pieces) evidence ≡ None
   pub sum : total ≡ stored_words pieces + stored_by (piece_of (codes_of pieces) id document evidence)
   pub many : MAX_STORED < total
@@ -59,7 +59,7 @@ pub record IsAboveStored (pieces : List PieceValue) (id document : List ℕ) (to
 -- the submission is refused for this reason: in order, its id stands; a thousand pieces do; the document's own fault; a part that doesn't stand; a
 -- part, words or a step that the kind's own check refuses; or too many stored words
 abbrev pub IsRefused : List PieceValue → List ℕ → List ℕ → SubmitFault → Type 0
-IsRefused pieces id document Taken = Stands pieces id
+IsRefused pieces id document Taken = IsTaken pieces id
 IsRefused pieces id document (FullPieces count) = All (λ q. q.id ≢ id) pieces × (MAX_PIECES ≤ length pieces) × (count ≡ length pieces)
 IsRefused pieces id document (File reason) = HasRoom pieces id × (read_of document ≡ Err reason)
 IsRefused pieces id document (NoSuch part) = NamesMissing pieces id document part
@@ -82,5 +82,5 @@ pub record IsFirstUser (pieces : List PieceValue) (id user : List ℕ) : Type 0 
 -- a withdrawal of the id is refused for this reason: no piece has it, or another piece names it
 abbrev pub IsNotWithdrawn : List PieceValue → List ℕ → WithdrawFault → Type 0
 IsNotWithdrawn pieces id withdraw.NoSuch = All (λ q. q.id ≢ id) pieces
-IsNotWithdrawn pieces id (withdraw.InUse user) = Stands pieces id × IsFirstUser pieces id user
+IsNotWithdrawn pieces id (withdraw.InUse user) = IsTaken pieces id × IsFirstUser pieces id user
 IsNotWithdrawn pieces id withdraw.Memory = ⊥

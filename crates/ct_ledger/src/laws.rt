@@ -1,6 +1,6 @@
 //! Facts about every submission.
 
-ghost use Rattle.std.specs.Prelude.{◌≡◌, ◌↔◌, ℕ, ◌+◌, ◌<◌, ◌≤◌, List, length, Option, Ok, Err, Some, All, Contains, IfSome, IsTrue, map};
+ghost use Rattle.std.specs.Prelude.{◌≡◌, ◌↔◌, ℕ, ◌+◌, ◌<◌, ◌≤◌, List, length, Option, Ok, Err, Some, All, Contains, IfSome, IsSome, IsTrue, map};
 ghost use Rattle.std.specs.List.Sorted.{IsPermutation, IsSorted};
 ghost use Rattle.std.specs.Ordering.{nat_cmp};
 ghost use Rattle.ct_codes.specs.declared.entry.Entry.{Entry};
@@ -70,11 +70,12 @@ pub fn ascending_numbers()
     ensures order { (xs : List ℕ) → IsSorted nat_cmp (ascending xs) }
 {}
 
-/// The codes of pieces that stand are codes, each of its piece's id, and in the order of the pieces. A piece has one exactly where its
-/// kind has, and its size is then the number of its words.
+/// The codes of pieces that stand are codes, each of its piece's id, and in the order of the pieces. Each kind of today has one.
 pub fn pieces_have_codes()
     ensures codes { (pieces : List PieceValue) → AreStanding pieces → All (λ k. IfSome k.code IsSoundCode) (codes_of pieces) }
     ensures ids { (pieces : List PieceValue) → map (λ k. k.id) (codes_of pieces) ≡ map (λ p. p.id) pieces }
+    ensures each { (pieces : List PieceValue) (place : ℕ) → AreStanding pieces → place < length pieces
+        → IsSome (code_of_place pieces place) }
 {}
 
 /// What pieces that stand give to the table stands: each size is that of a code of its entry, from 1 to `MAX_BOUND`.

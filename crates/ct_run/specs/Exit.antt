@@ -7,14 +7,14 @@ use Rattle.ct_run.specs.declared.status.Status.{Status}
 use Rattle.ct_run.specs.declared.status.Status.TheVariants.{Done, Refused, Usage, ReadFault, WriteFault, TooLong, Memory}
 
 -- the number of a status
-abbrev pub number_of : Status → ℕ
-number_of Done = 0
-number_of Refused = 1
-number_of Usage = 2
-number_of ReadFault = 3
-number_of WriteFault = 4
-number_of TooLong = 5
-number_of Memory = 6
+abbrev pub status_number : Status → ℕ
+status_number Done = 0
+status_number Refused = 1
+status_number Usage = 2
+status_number ReadFault = 3
+status_number WriteFault = 4
+status_number TooLong = 5
+status_number Memory = 6
 
 -- the status of a session that is broken off
 abbrev pub fault_status : ServeFault → Status

@@ -21,11 +21,11 @@ pub enum Status {
 
 impl Status {
     ghost use Rattle.std.specs.Prelude.{◌≡◌};
-    ghost use Rattle.ct_run.specs.Exit.{number_of};
+    ghost use Rattle.ct_run.specs.Exit.{status_number};
 
     /// The number with which the program ends: 0 for `Done`, and 1 to 6 for the others in their order.
     pub fn number(self) -> u8
-        ensures { result ≡ number_of self }
+        ensures { result ≡ status_number self }
     {
         match self {
             Status::Done => 0,

@@ -15,7 +15,7 @@ use Rattle.ct_rules.specs.Rule.{place_of, value_of}
 use Rattle.ct_rules.proofs.Places.{slice_get-append_right, slice_get_last}
 use Rattle.ct_removal.specs.Removal.{Places, names_one, RestsOnPlaces, voided}
 use Rattle.ct_removal.proofs.VoidedSupports.{premises_of-voided, value_of-voided}
-use Rattle.ct_closure.specs.Kept.{KeptValue, IsKept, reason_of, with_line}
+use Rattle.ct_closure.specs.Kept.{KeptValue, IsKept, reason_of, with_line_put}
 use Rattle.ct_closure.specs.Number.{bound_of}
 use Rattle.ct_closure.proofs.GetLemmas.{IsOldOrNew, slice_get-append_some, slice_get_push_cases}
 use Rattle.ct_closure.proofs.KeptLemmas.{IsReasonLine, reason_line, line_entry, IsKept-with_line}
@@ -148,7 +148,7 @@ module _ (gone : Places) (supports : List Support) (old : KeptValue) (good : IsK
 
   -- one more line moves
   one_moved : (k : LineValue) → moved_line old.base gone moved l ≡ Some k
-      → IsWalked gone supports old (moved ++ Some (length rest.lines) ∷ []) (with_line rest k)
+      → IsWalked gone supports old (moved ++ Some (length rest.lines) ∷ []) (with_line_put rest k)
   one_moved k moves = record {
     kept =
         IsKept-with_line (voided gone supports) rest k walked.kept entry (follows-moved k is) better;

@@ -2,7 +2,7 @@
 use Rattle.std.specs.Prelude.{ℕ, ◌-◌, nat_lt, if◌then◌else◌, List, [], ◌∷◌, ◌++◌, length, slice_index_or, Option, Some, None, option_map}
 use Rattle.ct_rules.specs.Derivation.{LineValue}
 use Rattle.ct_rules.specs.Rule.{place_of}
-use Rattle.ct_closure.specs.Kept.{KeptValue, with_line}
+use Rattle.ct_closure.specs.Kept.{KeptValue, with_line_put}
 use Rattle.ct_removal.specs.Removal.{Places, names_one}
 
 -- where a line has moved: those of the base stay at their places, of the others those that moved so far
@@ -31,7 +31,7 @@ moved_line base gone moved l =
 -- what is kept, with the line at its end if there is one
 abbrev pub with_moved : KeptValue → Option LineValue → KeptValue
 with_moved kept None = kept
-with_moved kept (Some l) = with_line kept l
+with_moved kept (Some l) = with_line_put kept l
 
 -- what is kept once the later lines have moved, one after the other
 abbrev pub walk : ℕ → Places → List (Option ℕ) → KeptValue → List LineValue → KeptValue

@@ -1,10 +1,10 @@
 use Rattle.std.proofs.Common.{refl}
 use Rattle.ct_words.specs.Word.{weight}
-use Rattle.ct_build.specs.Build.{is_right_length, gives_weight, is_right_weight, is_right_other, other_of, step_distance, built, size_fault, few_fault, early_fault, build_fault}
+use Rattle.ct_build.specs.Build.{is_right_length, gives_weight, is_right_weight, is_right_other, other_of, step_distance, built, sizes_fault, few_fault, early_fault, build_fault}
 use Rattle.ct_build.proofs.building_laws.known_builds.Goals as goal
 
 pub returns : goal.returns
-unfolding weight is_right_length gives_weight is_right_weight is_right_other other_of step_distance built size_fault few_fault early_fault build_fault
+unfolding weight is_right_length gives_weight is_right_weight is_right_other other_of step_distance built sizes_fault few_fault early_fault build_fault
 returns c = record {
   accepted = refl;
   words = refl;

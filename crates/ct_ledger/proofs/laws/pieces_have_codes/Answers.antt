@@ -3,6 +3,7 @@ use Rattle.std.proofs.lemmas.List.Elements.{All-nil}
 use Rattle.ct_ledger.proofs.CodeLemmas.{ids_of_codes}
 use Rattle.ct_ledger.proofs.MakingLemmas.{codes_after-sound}
 use Rattle.ct_ledger.proofs.Stating.{HasSoundCode}
+use Rattle.ct_ledger.proofs.PartLemmas.{piece-coded}
 use Rattle.ct_ledger.proofs.laws.pieces_have_codes.Goals as goal
 
 pub returns-clause-codes : goal.returns-clause-codes
@@ -10,3 +11,6 @@ returns-clause-codes c = λ pieces h. codes_after-sound [] pieces (All-nil HasSo
 
 pub returns-clause-ids : goal.returns-clause-ids
 returns-clause-ids c = ids_of_codes []
+
+pub returns-clause-each : goal.returns-clause-each
+returns-clause-each c = λ pieces place h below. piece-coded pieces place h.made below

@@ -2,7 +2,7 @@ use Rattle.std.proofs.Common.{◌≡◌, ◌+◌, ◌-◌, ◌*◌, ◌<◌, Som
 use Rattle.ct_codes.specs.declared.entry.Entry.{Entry}
 use Rattle.ct_closure.specs.Inside.Ground.{ground_value, ground_line}
 use Rattle.ct_closure.specs.Inside.Started.{IsStarted}
-use Rattle.ct_closure.specs.Kept.{KeptValue, with_line}
+use Rattle.ct_closure.specs.Kept.{KeptValue, with_line_put}
 use Rattle.ct_closure.specs.Number.{side_number, side_size, entries_to, count_in_length}
 use Rattle.ct_closure.proofs.NumberLemmas.{entries_to-length}
 use Rattle.ct_closure.proofs.StartLemmas.{IsStarted-place, IsStarted-same}
@@ -19,7 +19,7 @@ loop-place-preserved c =
     let within : place < count_in_length n = omega arith in
     let given = subst (λ (e : Entry). ground_value (side, e) ≡ Some v) entry c.ground_line.ensures.value in
     let line = c.ground_line.ensures.line ∙ ap (λ (e : Entry). ground_line (side, e) v) entry in
-    let put = c.in_ok-put.ensures.put ∙ ap (with_line old) line in
+    let put = c.in_ok-put.ensures.put ∙ ap (with_line_put old) line in
     subst (λ (k : KeptValue). IsStarted (side_number side * side_size + entries_to (n - 1) + (place + 1)) k) (sym put)
     (IsStarted-place old side n place v c.requires.from c.requires.to within given c.loop-place.invariant)
 
