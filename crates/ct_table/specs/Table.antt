@@ -25,6 +25,10 @@ bound_at table s = bound_of table.bounds s
 abbrev pub reason_at : TableValue → Slot → ℕ
 reason_at table s = slice_index table.reasons (slot_number s)
 
+-- the line is the reason of the slot
+abbrev pub HasReason : TableValue → Slot → LineValue → Type 0
+HasReason table s line = slice_get table.lines (reason_at table s) ≡ Some line
+
 -- what callers see of a table that keeps this
 abbrev pub table_of : List Support → KeptValue → TableValue
 table_of supports kept = record { supports = supports; lines = kept.lines; bounds = kept.bounds; reasons = kept.reasons }

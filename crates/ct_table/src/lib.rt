@@ -2,6 +2,7 @@
 #![tactic(auto)]
 
 mod follow;
+pub mod laws;
 mod left;
 mod start;
 mod table;
