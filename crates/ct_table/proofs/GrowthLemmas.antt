@@ -6,7 +6,7 @@ use Rattle.ct_codes.specs.Entry.{IsEntry}
 use Rattle.ct_rule_parts.specs.declared.support.Support.{Support}
 use Rattle.ct_rule_parts.specs.Slot.{Slot, slot_of, IsBetter}
 use Rattle.ct_rules.specs.Derivation.{LineValue}
-use Rattle.ct_closure.specs.Kept.{KeptValue, with_line}
+use Rattle.ct_closure.specs.Kept.{KeptValue, with_line_put}
 use Rattle.ct_closure.specs.Number.{bound_of, side_size, slot_number}
 use Rattle.ct_closure.proofs.BetterLemmas.{no_better_than_itself}
 use Rattle.ct_closure.proofs.NumberLemmas.{slot_number-injective}
@@ -20,7 +20,7 @@ IsImproved bounds l = IsBetter l.claim.side l.claim.value (bound_of bounds (slot
 pub Grew-with_line : (supports more : List Support) (kept : KeptValue) (line : LineValue)
     → length kept.bounds ≡ 2 * side_size → IsEntry line.claim.entry
     → IsBetter line.claim.side line.claim.value (bound_of kept.bounds (slot_of line.claim))
-    → Grew (table_of supports kept) (table_of more (with_line kept line))
+    → Grew (table_of supports kept) (table_of more (with_line_put kept line))
 Grew-with_line supports more kept line count entry better = record {
   more = (line ∷ [], refl, All-cons (IsImproved kept.bounds) line [] better (All-nil (IsImproved kept.bounds)));
   same = λ s s_entry stays. elim (cases_eq (slot_number s) (slot_number at)) [
@@ -38,4 +38,4 @@ Grew-with_line supports more kept line count entry better = record {
     at = slot_of line.claim
 
     new : KeptValue
-    new = with_line kept line
+    new = with_line_put kept line

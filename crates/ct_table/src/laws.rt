@@ -8,7 +8,7 @@ ghost use Rattle.ct_rule_parts.specs.Slot.{Slot, slot_of, claim_at, lower_at, up
 ghost use Rattle.ct_rules.specs.declared.rule.Rule.TheVariants.{L2, L4, L6, L10, M10, U2};
 ghost use Rattle.ct_rules.specs.Derivation.{LineValue};
 ghost use Rattle.ct_removal.specs.Removal.{Places, only, RestsOnPlaces, lowered_line};
-ghost use Rattle.ct_closure.specs.Kept.{KeptValue, with_line};
+ghost use Rattle.ct_closure.specs.Kept.{KeptValue, with_line_put};
 ghost use Rattle.ct_closure.specs.Number.{bound_of, side_size};
 ghost use Rattle.ct_table.specs.Removal.{KeepsReasons};
 ghost use Rattle.ct_table.specs.Table.{TableValue, Grew, HasReason, bound_at, reason_at, table_of};
@@ -27,7 +27,7 @@ pub fn tables_grow_by_better_lines()
     ensures by_line { (supports more : List Support) (kept : KeptValue) (line : LineValue) →
         length kept.bounds ≡ 2 * side_size → IsEntry line.claim.entry →
         IsBetter line.claim.side line.claim.value (bound_of kept.bounds (slot_of line.claim)) →
-        Grew (table_of supports kept) (table_of more (with_line kept line)) }
+        Grew (table_of supports kept) (table_of more (with_line_put kept line)) }
 {}
 
 /// Where a table has A(6,4) ≥ 4, it does not grow by a line that says so again or says less; nor where it has A(8,4) ≤ 16 by
