@@ -204,7 +204,7 @@ all-coded (Build e step part other) = refl
 
 some-code : (e : Entry) (words : Option (List ℕ)) → is_some words ≡ true → IsSome (option_map (code_at e) words)
 some-code e None none = absurd cc
-some-code e (Some words) some = tt
+some-code e (Some words) some = refl
 
 -- so each piece that stands has one
 pub piece-coded : (ps : List PieceValue) (k : ℕ) → AreMade [] ps → k < length ps → IsSome (code_of_place ps k)
