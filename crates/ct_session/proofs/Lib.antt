@@ -6,3 +6,4 @@ pub mod Taking
 pub mod Serving
 pub mod Endings
 mod PassingOver
+mod Gathering

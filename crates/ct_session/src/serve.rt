@@ -1,6 +1,6 @@
 //! The loop that serves a session.
 
-ghost use Rattle.std.specs.Prelude.{◌≡◌, ◌≢◌, ◌≤◌, ◌+◌, ◌↔◌, ℕ, Bool, true, Option, List, Err, IfOk, IfErr, OnOk, OnErr, [], ◌∷◌, length};
+ghost use Rattle.std.specs.Prelude.{◌≡◌, ◌≢◌, ◌≤◌, ◌<◌, ◌+◌, ◌↔◌, ℕ, Bool, true, Option, List, Err, IfOk, IfErr, OnOk, OnErr, [], ◌∷◌, length};
 ghost use Rattle.std.specs.Io.KnownBytes.{Appends, IsAtEnd};
 ghost use Rattle.ct_io.specs.Faults.{Rose};
 ghost use Rattle.ct_io.specs.Told.{AppendsProperPrefix, WhereTold, IsAboveLimit};
@@ -9,7 +9,7 @@ ghost use Rattle.ct_io.specs.Reader.{Reader};
 ghost use Rattle.ct_session.specs.Inside.Ending.{Ends};
 ghost use Rattle.ct_session.specs.Inside.Serving.{PassesOver, Serves, StepsTo};
 ghost use Rattle.ct_session.specs.Inside.State.{PutsLines};
-ghost use Rattle.ct_session.specs.Inside.Writing.{WritesSome, IsReady, BreaksOff, read_fault};
+ghost use Rattle.ct_session.specs.Inside.Writing.{WritesSome, IsReady, HoldsFew, BreaksOff, read_fault};
 ghost use Rattle.ct_session.specs.Serve.{WritesRun, WritesRunPrefix, WritesRunProperPrefix, AnswersTaken, AnswersButLastBytes, WritesWholeReplies};
 
 use crate::session::Session;
@@ -59,6 +59,7 @@ fn make_ready<K: Sink>(
     ensures same { reader.new ≡ reader.old }
     ensures written { OnOk result (WritesSome gathered.old.items gathered.new.items (K.holds sink.old) (K.holds sink.new)) }
     ensures ready { OnOk result (IsReady gathered.new.items reader.new) }
+    ensures few { OnOk result (length gathered.new.items < MAX_GATHERED) }
     ensures prefix { OnErr result (AppendsProperPrefix (K.holds sink.old) (K.holds sink.new) gathered.old.items) }
     ensures fault { IfErr result (λ fault. fault ≡ ServeFault.Write) }
     ensures failed { OnErr result (Rose (K.faults sink.old) (K.faults sink.new)) }
@@ -130,7 +131,7 @@ fn pass_over(reader: &mut LineReader, session: &Session)
 }
 
 /// Takes the next line, if there is one, and answers the command that it completes. Whatever was served before, it is gone on with, or
-/// the session ends as it is to end.
+/// the session ends as it is to end. What is gathered stays below `MAX_GATHERED` bytes and one reply.
 fn serve_line<S: Source, K: Sink>(
     alloc: Global,
     reader: &mut LineReader,
@@ -139,11 +140,12 @@ fn serve_line<S: Source, K: Sink>(
     source: &mut S,
     sink: &mut K,
 ) -> Result<Step, ServeFault>
-    ensures { (left old : Option (List ℕ)) (reads writes : ℕ)
+    ensures step { (left old : Option (List ℕ)) (reads writes : ℕ)
         → Serves reader.old session.old gathered.old.items left (S.left source.old) old (K.holds sink.old)
         reads (S.faults source.old) writes (K.faults sink.old)
         → StepsTo result reader.old reader.new session.new gathered.new.items left (S.left source.new) old (K.holds sink.new)
         reads (S.faults source.new) writes (K.faults sink.new) }
+    ensures few { OnOk result (HoldsFew gathered.new.items) }
 {
     pass_over(reader, session);
     make_ready(reader, sink, gathered)?;

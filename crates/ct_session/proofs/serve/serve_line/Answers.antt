@@ -1,20 +1,21 @@
-use Rattle.std.proofs.Common.{rules, ◌<◌, Err, ap, inr, subst}
+use Rattle.std.proofs.Common.{rules, arith, ◌<◌, Err, ap, inr, subst}
 use Rattle.std.proofs.lemmas.Result.{err_from_is_err_and}
 use Rattle.ct_io.specs.Reader.{Reader}
 use Rattle.ct_session.specs.Inside.Serving.{unserved}
 use Rattle.ct_session.proofs.Serving.{advances, at_end, serves_on, serves_to_end, took_more, within_limit}
 use Rattle.ct_session.proofs.PassingOver.{passed_over, sooner}
+use Rattle.ct_session.proofs.Gathering.{few_kept, few_after}
 use Rattle.ct_session.proofs.Endings.{Faulted, readied, risen, err_is, ends_unwritten, ends_broken, ends_fault}
 use Rattle.ct_session.proofs.serve.serve_line.Goals as goal
 
-pub returns-in_err-make_ready : goal.returns-in_err-make_ready
-returns-in_err-make_ready g c = λ left old reads writes h.
+pub returns-in_err-make_ready-clause-step : goal.returns-in_err-make_ready-clause-step
+returns-in_err-make_ready-clause-step g c = λ left old reads writes h.
     let e = c.in_err-make_ready.ensures in
     let ends = ends_unwritten _ _ _ _ _ _ _ _ _ _ _ _ _ _ (passed_over _ c.pass_over.new.reader _ _ _ _ _ _ _ _ _ _ h c.pass_over.ensures).0 e.prefix e.fault e.failed in
     search rules
 
-pub returns-in-Err : goal.returns-in-Err
-returns-in-Err g c = λ left old reads writes begun.
+pub returns-in-Err-clause-step : goal.returns-in-Err-clause-step
+returns-in-Err-clause-step g c = λ left old reads writes begun.
     let m = c.in_ok-make_ready.ensures in
     let past = passed_over _ c.pass_over.new.reader _ _ _ _ _ _ _ _ _ _ begun c.pass_over.ensures in
     let h = readied _ c.make_ready.new.reader _ _ _ _ _ _ _ _ _ _ _ _ _ past.0 m.same m.written m.counted in
@@ -33,8 +34,8 @@ returns-in-Err g c = λ left old reads writes begun.
     let written = rw (c.read_fault.ensures, c.deref.ensures.value) at c.break_off.ensures.written in
     ends_fault _ _ _ _ _ _ _ _ _ _ _ _ _ _ _ _ c.in-Err.fault _ h m.ready e.taken faulted c.break_off.ensures.counted written
 
-pub returns-in_err-answer_line-in-Ok-Some : goal.returns-in_err-answer_line-in-Ok-Some
-returns-in_err-answer_line-in-Ok-Some g c = λ left old reads writes begun.
+pub returns-in_err-answer_line-in-Ok-Some-clause-step : goal.returns-in_err-answer_line-in-Ok-Some-clause-step
+returns-in_err-answer_line-in-Ok-Some-clause-step g c = λ left old reads writes begun.
     let m = c.in_ok-make_ready.ensures in
     let past = passed_over _ c.pass_over.new.reader _ _ _ _ _ _ _ _ _ _ begun c.pass_over.ensures in
     let h = readied _ c.make_ready.new.reader _ _ _ _ _ _ _ _ _ _ _ _ _ past.0 m.same m.written m.counted in
@@ -43,8 +44,8 @@ returns-in_err-answer_line-in-Ok-Some g c = λ left old reads writes begun.
     let p = err_from_is_err_and c.from_residual-in_err-answer_line-in-Ok-Some.result c.from_residual-in_err-answer_line-in-Ok-Some.ensures.1 in
     rw (p.1, p.2) (ends_broken _ _ _ _ _ _ _ _ _ _ _ _ _ _ _ _ _ h took (within_limit _ _ e.above_limit) c.in_err-answer_line-in-Ok-Some.ensures.broken_off)
 
-pub returns-in_ok-answer_line-in-Ok-Some : goal.returns-in_ok-answer_line-in-Ok-Some
-returns-in_ok-answer_line-in-Ok-Some g c = λ left old reads writes begun.
+pub returns-in_ok-answer_line-in-Ok-Some-clause-step : goal.returns-in_ok-answer_line-in-Ok-Some-clause-step
+returns-in_ok-answer_line-in-Ok-Some-clause-step g c = λ left old reads writes begun.
     let m = c.in_ok-make_ready.ensures in
     let past = passed_over _ c.pass_over.new.reader _ _ _ _ _ _ _ _ _ _ begun c.pass_over.ensures in
     let h = readied _ c.make_ready.new.reader _ _ _ _ _ _ _ _ _ _ _ _ _ past.0 m.same m.written m.counted in
@@ -61,8 +62,8 @@ returns-in_ok-answer_line-in-Ok-Some g c = λ left old reads writes begun.
       sooner (unserved q) _ _ (subst (λ (r : Reader). unserved q < unserved r) m.same (advances c.make_ready.new.reader q _ _ _ _ _ _ _ _ _ _ _ c.in-Ok-Some.line h takes within)) past.1,
     )
 
-pub returns-in-Ok-None : goal.returns-in-Ok-None
-returns-in-Ok-None g c = λ left old reads writes begun.
+pub returns-in-Ok-None-clause-step : goal.returns-in-Ok-None-clause-step
+returns-in-Ok-None-clause-step g c = λ left old reads writes begun.
     let m = c.in_ok-make_ready.ensures in
     let past = passed_over _ c.pass_over.new.reader _ _ _ _ _ _ _ _ _ _ begun c.pass_over.ensures in
     let h = readied _ c.make_ready.new.reader _ _ _ _ _ _ _ _ _ _ _ _ _ past.0 m.same m.written m.counted in
@@ -72,3 +73,11 @@ returns-in-Ok-None g c = λ left old reads writes begun.
     let takes = rw c.in-Ok-None.field-0-is at e.taken in
     let done = at_end g.S.Source.left _ _ c.make_ready.new.reader.ended _ h.ended e.end (λ ended. (e.unread (inr ended)).1) all.1 in
     (serves_to_end _ c.next_line.new.self _ _ _ _ _ _ _ _ _ _ _ _ h none.0 takes (within_limit _ _ e.above_limit) all.0 all.1 done e.remembered e.counted, all.0, all.1)
+
+pub returns-in_ok-answer_line-in-Ok-Some-clause-few : goal.returns-in_ok-answer_line-in-Ok-Some-clause-few
+returns-in_ok-answer_line-in-Ok-Some-clause-few g c =
+    let few = c.in_ok-make_ready.ensures.few in
+    few_after _ _ _ _ _ (omega (arith, few)) c.in_ok-answer_line-in-Ok-Some.ensures.line
+
+pub returns-in-Ok-None-clause-few : goal.returns-in-Ok-None-clause-few
+returns-in-Ok-None-clause-few g c = let few = c.in_ok-make_ready.ensures.few in few_kept _ (omega (arith, few))
