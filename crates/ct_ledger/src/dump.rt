@@ -11,7 +11,7 @@ use ct_text::put_number;
 use std::alloc::{AllocError, Global};
 
 /// How many lines a document has: one more than its line feeds.
-fn line_count(document: &[u8]) -> u64
+pub fn line_count(document: &[u8]) -> u64
     ensures { result ≡ line_count document.now }
 {
     document.iter().filter(|byte| **byte == LINE_FEED).count() as u64 + 1

@@ -13,6 +13,7 @@ mod limits;
 mod piece;
 mod text;
 
+pub use dump::line_count;
 pub use fault::{SubmitFault, WithdrawFault};
 pub use laws::{
     ascending_numbers, pieces_give_supports, pieces_have_codes, pieces_reach_their_bounds,

@@ -1,5 +1,5 @@
 -- Texts that answer commands: one command, several, and those that follow.
-use Rattle.std.proofs.Common.{ℕ, Bool, ◌||◌, List, [], ◌∷◌, ◌++◌, sym, ap, ◌∙◌, append-nil}
+use Rattle.std.proofs.Common.{ℕ, Bool, false, refl, ◌||◌, List, [], ◌∷◌, ◌++◌, sym, ap, ◌∙◌, append-nil}
 use Rattle.std.specs.Prelude.{fold}
 use Rattle.std.specs.List.{flat_map, list_any}
 use Rattle.std.proofs.Math.Bool.{or-false}
@@ -8,7 +8,10 @@ use Rattle.std.proofs.lemmas.List.Folds.{list_any-append}
 use Rattle.ct_commands.specs.declared.command.Command.{Command}
 use Rattle.ct_ledger.specs.Piece.{PieceValue}
 use Rattle.ct_session.specs.Reply.{IsReply, pieces_after, is_refusal}
-use Rattle.ct_session.specs.Run.{AreReplies, AnswersCommands}
+use Rattle.ct_session.specs.Run.{AreReplies, AnswersCommands, PutsAnswers}
+use Rattle.ct_ledger.specs.Dump.{dump_text}
+use Rattle.ct_commands.specs.declared.command.Command.TheVariants as command
+use Rattle.ct_session.specs.declared.reply.Reply.TheVariants.{Lines}
 use Rattle.ct_session.specs.Text.{reply_text}
 use Rattle.ct_session.specs.declared.reply.Reply.{Reply}
 
@@ -37,3 +40,8 @@ append_answers pieces cs ds text more a b h k = record {
   texts = ap (λ (t : List ℕ). t ++ more) h.texts ∙ ap (λ (t : List ℕ). flat_map reply_text h.replies ++ t) k.texts ∙ sym (flat_map-append reply_text h.replies k.replies);
   mark = ap (λ (m : Bool). m || b) h.mark ∙ ap (λ (m : Bool). list_any is_refusal h.replies || m) k.mark ∙ sym (list_any-append is_refusal h.replies k.replies);
 }
+
+-- the dump that is put after a text answers the command
+pub dump_answers : (pieces : List PieceValue) (before : List ℕ) → PutsAnswers pieces (command.Dump ∷ []) false before (before ++ dump_text pieces)
+unfolding reply_text
+dump_answers pieces before = (dump_text pieces, one_answer pieces command.Dump (Lines (dump_text pieces)) refl, refl)

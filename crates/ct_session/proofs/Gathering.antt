@@ -1,5 +1,5 @@
 -- How much is gathered: what a line adds is one reply at most.
-use Rattle.std.proofs.Common.{◌≡◌, ◌≤◌, ℕ, List, [], ◌∷◌, ◌++◌, length, Option, Some, None, refl, sym, ◌∙◌, inl, inr, append-nil, arith}
+use Rattle.std.proofs.Common.{◌≡◌, ◌≤◌, ℕ, List, [], ◌∷◌, ◌++◌, length, Option, Some, None, refl, sym, ◌∙◌, inl, inr, append-nil}
 use Rattle.std.specs.List.{flat_map}
 use Rattle.std.specs.Option.{option_to_list}
 use Rattle.ct_commands.specs.Command.{completed_by}
@@ -8,7 +8,7 @@ use Rattle.ct_ledger.specs.Piece.{PieceValue}
 use Rattle.ct_session.specs.Run.{AreReplies}
 use Rattle.ct_session.specs.Text.{reply_text}
 use Rattle.ct_session.specs.declared.reply.Reply.{Reply}
-use Rattle.ct_session.specs.declared.serve.TheConstants.{MAX_GATHERED}
+use Rattle.ct_session.specs.declared.output.TheConstants.{MAX_GATHERED}
 use Rattle.ct_session.specs.Inside.State.{State, PutsLines}
 use Rattle.ct_session.specs.Inside.Writing.{IsOneReply, HoldsFew}
 

@@ -7,3 +7,5 @@ pub mod Serving
 pub mod Endings
 mod PassingOver
 mod Gathering
+mod Outputs
+mod LineEndings

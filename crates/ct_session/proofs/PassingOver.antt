@@ -1,6 +1,6 @@
 -- Empty lines that a reader holds are passed over where no submission is open: they complete no command.
-use Rattle.std.proofs.Common.{◌≡◌, ℕ, ◌+◌, ◌-◌, ◌<◌, ◌≤◌, Bool, true, false, ◌||◌, replicate, List, [], ◌∷◌, ◌++◌, length, Option, None, Some, refl, sym, ap, ◌∙◌, subst, arith, inl, inr, ◌⊎◌, if◌then◌else◌, length-append, append_assoc, append-nil}
-use Rattle.std.specs.Prelude.{All, fold}
+use Rattle.std.proofs.Common.{◌≡◌, ℕ, ◌<◌, ◌≤◌, Bool, true, false, replicate, List, [], ◌∷◌, ◌++◌, length, Option, None, Some, refl, sym, ap, ◌∙◌, subst, arith, inl, inr, if◌then◌else◌, length-append, append_assoc, append-nil}
+use Rattle.std.specs.Prelude.{fold}
 use Rattle.std.specs.Io.KnownBytes.{prepend_known}
 use Rattle.std.proofs.Math.Bool.{or-false}
 use Rattle.std.proofs.lemmas.Grind.{flat_map-append}
@@ -8,8 +8,7 @@ use Rattle.std.proofs.lemmas.List.Elements.{All-append}
 use Rattle.ct_lines.specs.declared.TheConstants.{LINE_FEED}
 use Rattle.ct_lines.specs.Lines.{lines_of, IsLine, ended_lines}
 use Rattle.ct_lines.proofs.LinesLemmas.{lines_of-feeds, ended_lines-feeds, IsLine-empty}
-use Rattle.ct_io.specs.declared.TheConstants.{MAX_INPUT}
-use Rattle.ct_io.specs.Reader.{Reader, input_of}
+use Rattle.ct_io.specs.Reader.{Reader}
 use Rattle.ct_commands.specs.Command.{completed, open_after_all}
 use Rattle.ct_commands.specs.declared.command.Command.{Command}
 use Rattle.ct_commands.specs.declared.command_reader.Pending.{Pending}

@@ -3,6 +3,7 @@
 
 mod answer;
 mod laws;
+mod output;
 mod reply;
 mod serve;
 mod session;

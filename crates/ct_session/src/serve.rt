@@ -8,16 +8,15 @@ ghost use Rattle.ct_io.specs.declared.TheConstants.{MAX_INPUT, MAX_READ};
 ghost use Rattle.ct_io.specs.Reader.{Reader};
 ghost use Rattle.ct_session.specs.Inside.Ending.{Ends};
 ghost use Rattle.ct_session.specs.Inside.Serving.{PassesOver, Serves, StepsTo};
-ghost use Rattle.ct_session.specs.Inside.State.{PutsLines};
-ghost use Rattle.ct_session.specs.Inside.Writing.{WritesSome, IsReady, HoldsFew, BreaksOff, read_fault};
+ghost use Rattle.ct_ledger.specs.Dump.{dump_text};
+ghost use Rattle.ct_session.specs.Inside.Writing.{AnswersLine, BreaksDump, BreaksOffAt, HasRoom, HoldsFew, IsReady, PutsOut, WritesSome, read_fault};
 ghost use Rattle.ct_session.specs.Serve.{WritesRun, WritesRunPrefix, WritesRunProperPrefix, AnswersTaken, AnswersButLastBytes, WritesWholeReplies};
 
-use crate::session::Session;
-use ct_io::{LineFault, LineReader, Sink, Source, write_all};
+use crate::output::{MAX_GATHERED, break_off, put_dump, write_gathered};
+use crate::session::{Owed, Session};
+use ct_io::{LineFault, LineReader, Sink, Source};
+use ct_ledger::Piece;
 use std::alloc::Global;
-
-/// Where so many bytes of replies are gathered, they are written before another line is taken.
-const MAX_GATHERED: usize = 32_768;
 
 /// Why a session is broken off.
 #[derive(Clone, Copy, Debug, PartialEq, Eq)]
@@ -30,24 +29,6 @@ pub enum ServeFault {
     TooLong,
     /// Memory ran out.
     Memory,
-}
-
-/// Writes the replies that were gathered. After an `Err` the sink failed, and a part of them was written.
-fn write_gathered<K: Sink>(sink: &mut K, gathered: &mut Vec<u8>) -> Result<(), ServeFault>
-    ensures written { OnOk result (Appends (K.holds sink.old) (K.holds sink.new) gathered.old.items) }
-    ensures emptied { OnOk result (gathered.new.items ≡ []) }
-    ensures prefix { OnErr result (AppendsProperPrefix (K.holds sink.old) (K.holds sink.new) gathered.old.items) }
-    ensures fault { IfErr result (λ fault. fault ≡ ServeFault.Write) }
-    ensures failed { OnErr result (Rose (K.faults sink.old) (K.faults sink.new)) }
-    ensures counted { K.faults sink.old ≤ K.faults sink.new }
-{
-    match write_all(sink, gathered) {
-        Ok(()) => {
-            gathered.clear();
-            Ok(())
-        }
-        Err(_) => Err(ServeFault::Write),
-    }
 }
 
 /// Writes the replies that were gathered where the reader is about to read, or where they are many.
@@ -71,17 +52,6 @@ fn make_ready<K: Sink>(
     write_gathered(sink, gathered)
 }
 
-/// Writes the replies that were gathered before the session is broken off: the fault, or that the sink failed on the way.
-fn break_off<K: Sink>(sink: &mut K, gathered: &[u8], fault: ServeFault) -> ServeFault
-    ensures written { BreaksOff fault result gathered.now (K.holds sink.old) (K.holds sink.new) (K.faults sink.old) (K.faults sink.new) }
-    ensures counted { K.faults sink.old ≤ K.faults sink.new }
-{
-    match write_all(sink, gathered) {
-        Ok(()) => fault,
-        Err(_) => ServeFault::Write,
-    }
-}
-
 /// The fault of a session whose reader has this one.
 fn read_fault(fault: LineFault) -> ServeFault
     ensures { result ≡ read_fault fault }
@@ -101,6 +71,27 @@ enum Step {
     End,
 }
 
+/// Puts the dump of the pieces after the replies that are gathered. Space for what is gathered comes first: after an `Err` that is want of
+/// memory nothing of the dump was written.
+fn answer_dump<K: Sink>(
+    pieces: &[Piece],
+    gathered: &mut Vec<u8>,
+    sink: &mut K,
+) -> Result<(), ServeFault>
+    requires { length gathered.old.items < MAX_GATHERED }
+    ensures put { OnOk result (PutsOut (dump_text pieces.now) gathered.old.items gathered.new.items
+        (K.holds sink.old) (K.holds sink.new)) }
+    ensures few { OnOk result (length gathered.new.items ≤ MAX_GATHERED) }
+    ensures broken_off { IfErr result (λ fault. BreaksDump fault gathered.old.items (dump_text pieces.now)
+        (K.holds sink.old) (K.holds sink.new) (K.faults sink.old) (K.faults sink.new)) }
+    ensures counted { K.faults sink.old ≤ K.faults sink.new }
+{
+    let Ok(()) = gathered.reserve(MAX_GATHERED) else {
+        return Err(break_off(sink, gathered, ServeFault::Memory));
+    };
+    put_dump(sink, gathered, pieces)
+}
+
 /// Answers the command that the line completes, if it completes one, among the replies that are gathered. After an `Err` the session is
 /// broken off.
 fn answer_line<K: Sink>(
@@ -110,13 +101,17 @@ fn answer_line<K: Sink>(
     gathered: &mut Vec<u8>,
     sink: &mut K,
 ) -> Result<(), ServeFault>
-    ensures line { OnOk result (PutsLines session.old session.new (line.items ∷ []) gathered.old.items gathered.new.items) }
-    ensures unwritten { OnOk result (sink.new ≡ sink.old) }
-    ensures broken_off { IfErr result (λ fault. BreaksOff ServeFault.Memory fault gathered.old.items
+    requires { length gathered.old.items < MAX_GATHERED }
+    ensures line { OnOk result (AnswersLine session.old session.new line.items gathered.old.items gathered.new.items
+        (K.holds sink.old) (K.holds sink.new)) }
+    ensures few { OnOk result (HoldsFew gathered.new.items) }
+    ensures broken_off { IfErr result (λ fault. BreaksOffAt fault session.old session.new line.items gathered.old.items
         (K.holds sink.old) (K.holds sink.new) (K.faults sink.old) (K.faults sink.new)) }
+    ensures counted { K.faults sink.old ≤ K.faults sink.new }
 {
     match session.take_line(alloc, &line, gathered) {
-        Ok(()) => Ok(()),
+        Ok(Owed::Nothing) => Ok(()),
+        Ok(Owed::Dump) => answer_dump(session.pieces(), gathered, sink),
         Err(_) => Err(break_off(sink, gathered, ServeFault::Memory)),
     }
 }

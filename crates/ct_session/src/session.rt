@@ -1,15 +1,16 @@
 //! A session: its lines are taken one by one, and the replies put to a text.
 
-ghost use Rattle.std.specs.Prelude.{◌≡◌, ◌||◌, Bool, ◌∷◌, [], OnOk, OnErr, IfOk, fold};
+ghost use Rattle.std.specs.Prelude.{◌≡◌, ◌||◌, Bool, ◌∷◌, ◌++◌, [], OnOk, OnErr, IfOk, fold};
 ghost use Rattle.std.specs.Option.{option_to_list, is_some};
 ghost use Rattle.ct_commands.specs.Command.{cut_off};
 ghost use Rattle.ct_session.specs.Reply.{pieces_after};
 ghost use Rattle.ct_session.specs.Run.{PutsAnswers};
+ghost use Rattle.ct_session.specs.Inside.Owed.{owed_text};
 
 use crate::answer::answer;
 use crate::text::put_reply;
 use ct_commands::{Command, CommandReader};
-use ct_ledger::Ledger;
+use ct_ledger::{Ledger, Piece};
 use std::alloc::{AllocError, Global};
 use std::marker::Model;
 
@@ -27,6 +28,15 @@ impl Model for Session {
     ghost Value = { State };
 
     ghost view = { λ s. record { pieces = s.ledger.pieces; pending = s.reader; refused = s.refused } };
+}
+
+/// What is still to be put for a line that was taken.
+#[derive(Clone, Copy, Debug, PartialEq, Eq)]
+pub(crate) enum Owed {
+    /// Nothing: the reply was put.
+    Nothing,
+    /// The dump of the pieces, which may be long.
+    Dump,
 }
 
 /// Answers a command, and puts the reply at the end of the text: whether it is a refusal. After an `Err`, which is want of memory,
@@ -64,6 +74,44 @@ fn reply_to_any(
     }
 }
 
+/// Answers the command, but for a dump, which is owed then: what is owed, and whether the reply is a refusal.
+fn respond(
+    alloc: Global,
+    ledger: &mut Ledger,
+    command: Command,
+    replies: &mut Vec<u8>,
+) -> Result<(Owed, bool), AllocError>
+    ensures reply { IfOk result (λ r. PutsAnswers ledger.old.pieces (command ∷ []) r.1
+        replies.old.items (replies.new.items ++ owed_text r.0 ledger.new.pieces)) }
+    ensures unput { IfOk result (λ r. r.0 ≡ Owed.Dump → replies.new.items ≡ replies.old.items) }
+    ensures pieces { OnOk result (ledger.new.pieces ≡ pieces_after ledger.old.pieces command) }
+    ensures unchanged { OnErr result (replies.new.items ≡ replies.old.items) }
+{
+    match command {
+        Command::Dump => Ok((Owed::Dump, false)),
+        command => Ok((Owed::Nothing, reply_to(alloc, ledger, command, replies)?)),
+    }
+}
+
+/// Answers the command, if there is one, as `respond` does.
+fn respond_to_any(
+    alloc: Global,
+    ledger: &mut Ledger,
+    command: Option<Command>,
+    replies: &mut Vec<u8>,
+) -> Result<(Owed, bool), AllocError>
+    ensures reply { IfOk result (λ r. PutsAnswers ledger.old.pieces (option_to_list command) r.1
+        replies.old.items (replies.new.items ++ owed_text r.0 ledger.new.pieces)) }
+    ensures unput { IfOk result (λ r. r.0 ≡ Owed.Dump → replies.new.items ≡ replies.old.items) }
+    ensures pieces { OnOk result (ledger.new.pieces ≡ fold pieces_after ledger.old.pieces (option_to_list command)) }
+    ensures unchanged { OnErr result (replies.new.items ≡ replies.old.items) }
+{
+    match command {
+        Some(command) => respond(alloc, ledger, command, replies),
+        None => Ok((Owed::Nothing, false)),
+    }
+}
+
 impl Session {
     ghost use Rattle.ct_session.specs.Inside.State.{fresh_state, PutsLines};
 
@@ -85,22 +133,31 @@ impl Session {
         self.reader.has_open_submission()
     }
 
-    /// Takes the next line, and puts the reply to the command that it completes, if it completes one, at the end of the text.
-    /// After an `Err`, which is want of memory, the text is as before, and the session is not to be gone on with: its open submission may be
+    /// The pieces that stand.
+    pub(crate) fn pieces(&self) -> &[Piece]
+        ensures { result.now ≡ self.now.pieces }
+    {
+        self.ledger.pieces()
+    }
+
+    /// Takes the next line, and puts the reply to the command that it completes, if it completes one, at the end of the text, or tells
+    /// what is owed there. After an `Err`, which is want of memory, the text is as before, and the session is not to be gone on with: its open submission may be
     /// lost.
     pub(crate) fn take_line(
         &mut self,
         alloc: Global,
         line: &[u8],
         replies: &mut Vec<u8>,
-    ) -> Result<(), AllocError>
-        ensures line { OnOk result (PutsLines self.old self.new (line.now ∷ []) replies.old.items replies.new.items) }
+    ) -> Result<Owed, AllocError>
+        ensures line { IfOk result (λ owed. PutsLines self.old self.new (line.now ∷ []) replies.old.items
+            (replies.new.items ++ owed_text owed self.new.pieces)) }
+        ensures unput { IfOk result (λ owed. owed ≡ Owed.Dump → replies.new.items ≡ replies.old.items) }
         ensures unchanged { OnErr result (replies.new.items ≡ replies.old.items) }
     {
         let command = self.reader.take_line(alloc, line)?;
-        let refused = reply_to_any(alloc, &mut self.ledger, command, replies)?;
+        let (owed, refused) = respond_to_any(alloc, &mut self.ledger, command, replies)?;
         self.refused = self.refused || refused;
-        Ok(())
+        Ok(owed)
     }
 
     /// Takes the end of the input, and puts the reply to a submission that it cuts off, if one is open, at the end of the text: whether

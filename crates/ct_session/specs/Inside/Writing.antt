@@ -1,5 +1,6 @@
 -- How replies that were gathered are written.
-use Rattle.std.specs.Prelude.{◌≡◌, ◌≤◌, ◌⊎◌, ℕ, List, [], ◌++◌, length, Option}
+use Rattle.std.specs.Prelude.{◌≡◌, ◌≤◌, ◌⊎◌, ℕ, List, [], ◌∷◌, ◌++◌, length, Option, Vec, vec_capacity}
+use Rattle.std.specs.declared.alloc.Global.{Global}
 use Rattle.std.specs.Io.KnownBytes.{Appends}
 use Rattle.ct_io.specs.Faults.{Rose}
 use Rattle.ct_io.specs.Reader.{Reader, NeedsNoRead}
@@ -9,9 +10,10 @@ use Rattle.ct_ledger.specs.Piece.{PieceValue}
 use Rattle.ct_session.specs.Reply.{IsReply}
 use Rattle.ct_session.specs.Text.{reply_text}
 use Rattle.ct_session.specs.declared.reply.Reply.{Reply}
-use Rattle.ct_session.specs.declared.serve.TheConstants.{MAX_GATHERED}
+use Rattle.ct_session.specs.declared.output.TheConstants.{MAX_GATHERED}
 use Rattle.ct_session.specs.declared.serve.ServeFault.{ServeFault}
 use Rattle.ct_session.specs.declared.serve.ServeFault.TheVariants.{Read, Write, TooLong, Memory}
+use Rattle.ct_session.specs.Inside.State.{State, PutsLines}
 use Rattle.ct_io.specs.declared.line_fault.LineFault.{LineFault}
 use Rattle.ct_io.specs.declared.line_fault.LineFault.TheVariants as line_fault
 
@@ -19,9 +21,17 @@ use Rattle.ct_io.specs.declared.line_fault.LineFault.TheVariants as line_fault
 abbrev pub WritesSome : List ℕ → List ℕ → Option (List ℕ) → Option (List ℕ) → Type 0
 WritesSome before after old new = (text : List ℕ) × (before ≡ text ++ after) × Appends old new text
 
+-- a text was put after one that is gathered: some of both at the front was written, and the rest is gathered
+abbrev pub PutsOut : List ℕ → List ℕ → List ℕ → Option (List ℕ) → Option (List ℕ) → Type 0
+PutsOut text before after old new = WritesSome (before ++ text) after old new
+
 -- nothing is gathered, or the reader needs no read
 abbrev pub IsReady : List ℕ → Reader → Type 0
 IsReady gathered reader = (gathered ≡ []) ⊎ NeedsNoRead reader.held reader.ended
+
+-- MAX_GATHERED bytes at most are gathered, and there is space for so many
+abbrev pub HasRoom : Vec ℕ Global → Type 0
+HasRoom gathered = (length gathered.items ≤ MAX_GATHERED) × (MAX_GATHERED ≤ vec_capacity gathered)
 
 -- the reply to one command over some pieces, or nothing
 abbrev pub IsOneReply : List ℕ → Type 0
@@ -41,3 +51,18 @@ abbrev pub read_fault : LineFault → ServeFault
 read_fault line_fault.ReadFault = Read
 read_fault (line_fault.TooLong taken) = TooLong
 read_fault line_fault.Memory = Memory
+
+-- memory ran out before a text was put, and what was gathered is written; or the sink failed on the way through both
+abbrev pub BreaksDump : ServeFault → List ℕ → List ℕ → Option (List ℕ) → Option (List ℕ) → ℕ → ℕ → Type 0
+BreaksDump fault gathered text old new before after =
+    BreaksOff Memory fault gathered old new before after ⊎ ((fault ≡ Write) × AppendsProperPrefix old new (gathered ++ text) × Rose before after)
+
+-- a line was answered: a text with the reply stands after what was gathered, and some of all that was written
+abbrev pub AnswersLine : State → State → List ℕ → List ℕ → List ℕ → Option (List ℕ) → Option (List ℕ) → Type 0
+AnswersLine s t line before after old new = (all : List ℕ) × PutsLines s t (line ∷ []) before all × WritesSome all after old new
+
+-- memory ran out before a line was answered, and what was gathered is written; or the sink failed on the way
+abbrev pub BreaksOffAt : ServeFault → State → State → List ℕ → List ℕ → Option (List ℕ) → Option (List ℕ) → ℕ → ℕ → Type 0
+BreaksOffAt fault s t line gathered old new before after =
+    BreaksOff Memory fault gathered old new before after
+    ⊎ ((all : List ℕ) × PutsLines s t (line ∷ []) gathered all × (fault ≡ Write) × AppendsProperPrefix old new all × Rose before after)

@@ -2,10 +2,11 @@ use Rattle.std.proofs.Common.{rules, arith, ◌<◌, Err, ap, inr, subst}
 use Rattle.std.proofs.lemmas.Result.{err_from_is_err_and}
 use Rattle.ct_io.specs.Reader.{Reader}
 use Rattle.ct_session.specs.Inside.Serving.{unserved}
-use Rattle.ct_session.proofs.Serving.{advances, at_end, serves_on, serves_to_end, took_more, within_limit}
+use Rattle.ct_session.proofs.Serving.{advances, after_writing, at_end, serves_on, serves_to_end, took_more, within_limit}
 use Rattle.ct_session.proofs.PassingOver.{passed_over, sooner}
-use Rattle.ct_session.proofs.Gathering.{few_kept, few_after}
-use Rattle.ct_session.proofs.Endings.{Faulted, readied, risen, err_is, ends_unwritten, ends_broken, ends_fault}
+use Rattle.ct_session.proofs.Gathering.{few_kept}
+use Rattle.ct_session.proofs.Endings.{Faulted, readied, risen, err_is, ends_unwritten, ends_fault}
+use Rattle.ct_session.proofs.LineEndings.{ends_at_line}
 use Rattle.ct_session.proofs.serve.serve_line.Goals as goal
 
 pub returns-in_err-make_ready-clause-step : goal.returns-in_err-make_ready-clause-step
@@ -40,9 +41,16 @@ returns-in_err-answer_line-in-Ok-Some-clause-step g c = λ left old reads writes
     let past = passed_over _ c.pass_over.new.reader _ _ _ _ _ _ _ _ _ _ begun c.pass_over.ensures in
     let h = readied _ c.make_ready.new.reader _ _ _ _ _ _ _ _ _ _ _ _ _ past.0 m.same m.written m.counted in
     let e = c.in-Ok-Some.ensures in
+    let takes = rw c.in-Ok-Some.field-0-is at e.taken in
+    let loses = rw c.in-Ok-Some.field-0-is at e.lines in
+    let within = within_limit _ _ e.above_limit in
     let took = took_more _ _ _ _ _ e.taken.0 h.took e.taken.1 e.taken.2 in
+    let done = at_end g.S.Source.left _ _ c.make_ready.new.reader.ended _ h.ended e.end (λ ended. (e.unread (inr ended)).1) in
     let p = err_from_is_err_and c.from_residual-in_err-answer_line-in-Ok-Some.result c.from_residual-in_err-answer_line-in-Ok-Some.ensures.1 in
-    rw (p.1, p.2) (ends_broken _ _ _ _ _ _ _ _ _ _ _ _ _ _ _ _ _ h took (within_limit _ _ e.above_limit) c.in_err-answer_line-in-Ok-Some.ensures.broken_off)
+    rw (p.1, p.2)
+    (ends_at_line _ c.next_line.new.self _ _ _ _ _ _ _ _ _ _ _ _ _ _ _ _ _ _ h took within
+    (λ all puts. serves_on _ _ _ _ _ _ _ _ _ _ _ _ _ _ _ _ c.in-Ok-Some.line h loses takes within e.ended done e.remembered e.counted puts)
+    c.in_err-answer_line-in-Ok-Some.ensures.broken_off)
 
 pub returns-in_ok-answer_line-in-Ok-Some-clause-step : goal.returns-in_ok-answer_line-in-Ok-Some-clause-step
 returns-in_ok-answer_line-in-Ok-Some-clause-step g c = λ left old reads writes begun.
@@ -54,11 +62,11 @@ returns-in_ok-answer_line-in-Ok-Some-clause-step g c = λ left old reads writes 
     let loses = rw c.in-Ok-Some.field-0-is at e.lines in
     let within = within_limit _ _ e.above_limit in
     let q = c.next_line.new.self in
-    let a = c.in_ok-answer_line-in-Ok-Some.ensures in
-    rw a.unwritten (
-      serves_on _ _ _ _ _ _ _ _ _ _ _ _ _ _ _ _ c.in-Ok-Some.line h loses takes within e.ended
-          (at_end g.S.Source.left _ _ c.make_ready.new.reader.ended _ h.ended e.end (λ ended. (e.unread (inr ended)).1))
-          e.remembered e.counted a.line,
+    let done = at_end g.S.Source.left _ _ c.make_ready.new.reader.ended _ h.ended e.end (λ ended. (e.unread (inr ended)).1) in
+    let a = c.in_ok-answer_line-in-Ok-Some.ensures in (
+      after_writing _ _ _ _ _ _ _ _ _ _ _ _ _ _
+          (serves_on _ _ _ _ _ a.line.0 _ _ _ _ _ _ _ _ _ _ c.in-Ok-Some.line h loses takes within e.ended done e.remembered e.counted a.line.1)
+          a.line.2 a.counted,
       sooner (unserved q) _ _ (subst (λ (r : Reader). unserved q < unserved r) m.same (advances c.make_ready.new.reader q _ _ _ _ _ _ _ _ _ _ _ c.in-Ok-Some.line h takes within)) past.1,
     )
 
@@ -73,11 +81,6 @@ returns-in-Ok-None-clause-step g c = λ left old reads writes begun.
     let takes = rw c.in-Ok-None.field-0-is at e.taken in
     let done = at_end g.S.Source.left _ _ c.make_ready.new.reader.ended _ h.ended e.end (λ ended. (e.unread (inr ended)).1) all.1 in
     (serves_to_end _ c.next_line.new.self _ _ _ _ _ _ _ _ _ _ _ _ h none.0 takes (within_limit _ _ e.above_limit) all.0 all.1 done e.remembered e.counted, all.0, all.1)
-
-pub returns-in_ok-answer_line-in-Ok-Some-clause-few : goal.returns-in_ok-answer_line-in-Ok-Some-clause-few
-returns-in_ok-answer_line-in-Ok-Some-clause-few g c =
-    let few = c.in_ok-make_ready.ensures.few in
-    few_after _ _ _ _ _ (omega (arith, few)) c.in_ok-answer_line-in-Ok-Some.ensures.line
 
 pub returns-in-Ok-None-clause-few : goal.returns-in-Ok-None-clause-few
 returns-in-Ok-None-clause-few g c = let few = c.in_ok-make_ready.ensures.few in few_kept _ (omega (arith, few))

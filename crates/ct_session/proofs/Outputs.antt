@@ -1,0 +1,158 @@
+-- Texts that are put after what is gathered, part by part, and what a failed write leaves of them.
+use Rattle.std.proofs.Common.{Result, Ok, Err, inl, inr, subst, ◌≡◌, ◌≢◌, ℕ, zero, suc, ◌+◌, ◌<◌, List, [], ◌∷◌, ◌++◌, length, take, drop, get_or, Option, refl, sym, ap, ◌∙◌, append_assoc, append-nil, arith}
+use Rattle.std.specs.Prelude.{codes, IfErr, OnOk, OnErr}
+use Rattle.std.specs.Fmt.{decimal}
+use Rattle.std.specs.List.{flat_map}
+use Rattle.std.specs.Io.KnownBytes.{Appends}
+use Rattle.std.proofs.KnownBytes.{Appends-nil, Appends-trans}
+use Rattle.std.proofs.lemmas.Grind.{flat_map-append}
+use Rattle.std.proofs.lemmas.List.{take_more, drop_more, take-append-drop}
+use Rattle.ct_io.specs.Told.{AppendsProperPrefix}
+use Rattle.ct_io.specs.Faults.{Rose}
+use Rattle.ct_ledger.specs.Piece.{PieceValue}
+use Rattle.ct_ledger.specs.Dump.{line_count, piece_dump, dump_text}
+use Rattle.ct_session.specs.declared.serve.ServeFault.{ServeFault}
+use Rattle.ct_session.specs.declared.serve.ServeFault.TheVariants.{Write, Memory}
+use Rattle.ct_session.specs.Inside.State.{State, PutsLines}
+use Rattle.ct_session.specs.Inside.Writing.{PutsOut, AnswersLine, HoldsFew, BreaksOff, BreaksDump, BreaksOffAt}
+use Rattle.ct_session.specs.declared.output.TheConstants.{MAX_GATHERED}
+use Rattle.ct_session.proofs.Gathering.{few_after}
+
+-- more after a text that isn't empty
+some_left : (back more : List ℕ) → back ≢ [] → back ++ more ≢ []
+some_left [] more some e = some refl
+some_left (b ∷ back) more some e = cc
+
+-- a proper prefix of a text is one of a longer text
+pub of_more : (old new : Option (List ℕ)) (text more : List ℕ) → AppendsProperPrefix old new text → AppendsProperPrefix old new (text ++ more)
+of_more old new text more h = (h.0, h.1 ++ more, ap (λ (t : List ℕ). t ++ more) h.2 ∙ append_assoc h.0 h.1 more, some_left h.1 more h.3, h.4)
+
+-- a text was written, and then a proper prefix of what follows
+pub after_all : (a b c : Option (List ℕ)) (text more : List ℕ) → Appends a b text → AppendsProperPrefix b c more → AppendsProperPrefix a c (text ++ more)
+after_all a b c text more w h = (text ++ h.0, h.1, ap (λ (t : List ℕ). text ++ t) h.2 ∙ sym (append_assoc text h.0 h.1), h.3, Appends-trans a b c text h.0 w h.4)
+
+-- nothing was put
+pub puts_none : (gathered : List ℕ) (held : Option (List ℕ)) → PutsOut [] gathered gathered held held
+puts_none gathered held = ([], append-nil gathered, Appends-nil held)
+
+-- a text was put, and then another
+pub puts_more : (a b c : Option (List ℕ)) (text more g g' g'' : List ℕ) → PutsOut text g g' a b → PutsOut more g' g'' b c → PutsOut (text ++ more) g g'' a c
+puts_more a b c text more g g' g'' h k = (
+  h.0 ++ k.0,
+  sym (append_assoc g text more) ∙ ap (λ (t : List ℕ). t ++ more) h.1 ∙ append_assoc h.0 g' more ∙ ap (λ (t : List ℕ). h.0 ++ t) k.1 ∙ sym (append_assoc h.0 k.0 g''),
+  Appends-trans a b c h.0 k.0 h.2 k.2,
+)
+
+-- a text was put, and of what follows a proper prefix was written
+pub fails_later : (a b c : Option (List ℕ)) (text more g g' : List ℕ) → PutsOut text g g' a b → AppendsProperPrefix b c (g' ++ more) → AppendsProperPrefix a c (g ++ (text ++ more))
+fails_later a b c text more g g' h k =
+    let whole = after_all a b c h.0 (g' ++ more) h.2 k in (
+      whole.0,
+      whole.1,
+      sym (append_assoc g text more) ∙ ap (λ (t : List ℕ). t ++ more) h.1 ∙ append_assoc h.0 g' more ∙ whole.2,
+      whole.3,
+      whole.4,
+    )
+
+-- the same, and more would have followed
+pub fails_before : (a b c : Option (List ℕ)) (text more rest g g' : List ℕ) → PutsOut text g g' a b → AppendsProperPrefix b c (g' ++ more) → AppendsProperPrefix a c (g ++ (text ++ (more ++ rest)))
+fails_before a b c text more rest g g' h k =
+    fails_later a b c text (more ++ rest) g g' h (spelled (of_more b c (g' ++ more) rest k))
+  where
+    spelled : AppendsProperPrefix b c ((g' ++ more) ++ rest) → AppendsProperPrefix b c (g' ++ (more ++ rest))
+    spelled p = (p.0, p.1, sym (append_assoc g' more rest) ∙ p.2, p.3, p.4)
+
+-- the texts of one item more, and the texts of all items
+pub items_more : {X : Type 0} (f : X → List ℕ) (xs : List X) (i : ℕ) (x : X) → i < length xs → x ≡ get_or xs i x → flat_map f (take i xs) ++ f x ≡ flat_map f (take (i + 1) xs)
+items_more {X} f xs i x within is =
+    ap (λ (t : List ℕ). flat_map f (take i xs) ++ t) (sym (append-nil (f x)))
+    ∙ sym (flat_map-append f (take i xs) (x ∷ []))
+    ∙ ap (λ (y : X). flat_map f (take i xs ++ y ∷ [])) is
+    ∙ ap (λ (ys : List X). flat_map f ys) (sym (take_more xs i x within))
+
+pub items_all : {X : Type 0} (f : X → List ℕ) (xs : List X) (i : ℕ) (x : X) → i < length xs → x ≡ get_or xs i x
+    → flat_map f xs ≡ flat_map f (take i xs) ++ (f x ++ flat_map f (drop (i + 1) xs))
+items_all {X} f xs i x within is =
+    ap (λ (ys : List X). flat_map f ys) (sym (take-append-drop i xs)) ∙ flat_map-append f (take i xs) (drop i xs)
+    ∙ ap (λ (ys : List X). flat_map f (take i xs) ++ flat_map f ys) (drop_more xs i x within)
+    ∙ ap (λ (y : X). flat_map f (take i xs) ++ (f y ++ flat_map f (drop (i + 1) xs))) (sym is)
+
+-- an item that is there is found whatever would stand in for it
+same_item : {X : Type 0} (xs : List X) (i : ℕ) (d e : X) → i < length xs → get_or xs i d ≡ get_or xs i e
+same_item [] i d e within = absurd (omega (arith, within))
+same_item (x ∷ xs) zero d e within = refl
+same_item (x ∷ xs) (suc i) d e within = same_item xs i d e (omega (arith, within))
+
+-- the same two facts of the item at a place
+pub part_more : {X : Type 0} (f : X → List ℕ) (xs : List X) (i : ℕ) (d : X) → i < length xs → flat_map f (take i xs) ++ f (get_or xs i d) ≡ flat_map f (take (i + 1) xs)
+part_more {X} f xs i d within = items_more f xs i (get_or xs i d) within (same_item xs i d (get_or xs i d) within)
+
+pub part_all : {X : Type 0} (f : X → List ℕ) (xs : List X) (i : ℕ) (d : X) → i < length xs → flat_map f xs ≡ flat_map f (take i xs) ++ (f (get_or xs i d) ++ flat_map f (drop (i + 1) xs))
+part_all {X} f xs i d within = items_all f xs i (get_or xs i d) within (same_item xs i d (get_or xs i d) within)
+
+-- ---- the dump
+
+-- the comment before so many submissions
+abbrev pub comment_of : ℕ → List ℕ
+comment_of n = codes "# dump of " ++ (decimal n ++ codes " pieces\n")
+
+-- a dump is its comment, and the submissions after it
+dump_is : (pieces : List PieceValue) → comment_of (length pieces) ++ flat_map piece_dump pieces ≡ dump_text pieces
+dump_is pieces = ap (λ (t : List ℕ). codes "# dump of " ++ (t ++ flat_map piece_dump pieces)) (sym (append_assoc (decimal (length pieces)) (codes " pieces") (10 ∷ [])))
+
+-- the parts of a submission, one after the other
+spelled : (id lines count document : List ℕ) → ((((id ++ lines) ++ count) ++ (10 ∷ [])) ++ document) ++ (10 ∷ []) ≡ id ++ (lines ++ (count ++ (10 ∷ (document ++ (10 ∷ [])))))
+spelled id lines count document =
+    append_assoc (((id ++ lines) ++ count) ++ (10 ∷ [])) document (10 ∷ [])
+    ∙ append_assoc ((id ++ lines) ++ count) (10 ∷ []) (document ++ (10 ∷ []))
+    ∙ append_assoc (id ++ lines) count (10 ∷ (document ++ (10 ∷ [])))
+    ∙ append_assoc id lines (count ++ (10 ∷ (document ++ (10 ∷ []))))
+
+pub submission_is : (p : PieceValue) (id count document : List ℕ) → id ≡ p.id → count ≡ decimal (line_count p.document) → document ≡ p.document
+    → codes "submit " ++ (id ++ (codes " lines " ++ (count ++ (10 ∷ (document ++ (10 ∷ [])))))) ≡ piece_dump p
+submission_is p id count document is counts tells =
+    ap (λ (t : List ℕ). codes "submit " ++ (t ++ (codes " lines " ++ (count ++ (10 ∷ (document ++ (10 ∷ []))))))) is
+    ∙ ap (λ (t : List ℕ). codes "submit " ++ (p.id ++ (codes " lines " ++ (t ++ (10 ∷ (document ++ (10 ∷ []))))))) counts
+    ∙ ap (λ (t : List ℕ). codes "submit " ++ (p.id ++ (codes " lines " ++ (decimal (line_count p.document) ++ (10 ∷ (t ++ (10 ∷ []))))))) tells
+    ∙ ap (λ (t : List ℕ). codes "submit " ++ t) (sym (spelled p.id (codes " lines ") (decimal (line_count p.document)) p.document))
+
+-- the comment was put, and then the submissions
+pub dump_put : (pieces : List PieceValue) (a b c : Option (List ℕ)) (g g' g'' : List ℕ) → PutsOut (comment_of (length pieces)) g g' a b → PutsOut (flat_map piece_dump pieces) g' g'' b c → PutsOut (dump_text pieces) g g'' a c
+dump_put pieces a b c g g' g'' h k = subst (λ (t : List ℕ). PutsOut t g g'' a c) (dump_is pieces) (puts_more a b c _ _ g g' g'' h k)
+
+-- of the comment a proper prefix was written
+pub comment_fails : (pieces : List PieceValue) (old new : Option (List ℕ)) (g : List ℕ) → AppendsProperPrefix old new (g ++ comment_of (length pieces)) → AppendsProperPrefix old new (g ++ dump_text pieces)
+comment_fails pieces old new g h =
+    subst (AppendsProperPrefix old new) (append_assoc g (comment_of (length pieces)) (flat_map piece_dump pieces) ∙ ap (λ (t : List ℕ). g ++ t) (dump_is pieces)) (of_more old new _ (flat_map piece_dump pieces) h)
+
+-- the comment was put, and of the submissions a proper prefix was written
+pub submissions_fail : (pieces : List PieceValue) (a b c : Option (List ℕ)) (g g' : List ℕ) → PutsOut (comment_of (length pieces)) g g' a b → AppendsProperPrefix b c (g' ++ flat_map piece_dump pieces) → AppendsProperPrefix a c (g ++ dump_text pieces)
+submissions_fail pieces a b c g g' h k = subst (λ (t : List ℕ). AppendsProperPrefix a c (g ++ t)) (dump_is pieces) (fails_later a b c _ _ g g' h k)
+
+-- the dump could not be put where the sink failed
+pub breaks_dump : (r : Result (Unit {0}) ServeFault) (g text : List ℕ) (old new : Option (List ℕ)) (before after : ℕ) → IfErr r (λ fault. fault ≡ Write) → OnErr r (AppendsProperPrefix old new (g ++ text))
+    → OnErr r (Rose before after) → IfErr r (λ fault. BreaksDump fault g text old new before after)
+breaks_dump (Ok x) g text old new before after is part rose = tt
+breaks_dump (Err fault) g text old new before after is part rose = inr (is, part, rose)
+
+-- and so the line that asks for it
+pub breaks_line : (r : Result (Unit {0}) ServeFault) (s t : State) (line g g' text : List ℕ) (old new : Option (List ℕ)) (before after : ℕ) → PutsLines s t (line ∷ []) g (g' ++ text) → g' ≡ g
+    → IfErr r (λ fault. BreaksDump fault g' text old new before after) → IfErr r (λ fault. BreaksOffAt fault s t line g old new before after)
+breaks_line (Ok x) s t line g g' text old new before after puts same broken = tt
+breaks_line (Err fault) s t line g g' text old new before after puts same (inl w) = inl (subst (λ (x : List ℕ). BreaksOff Memory fault x old new before after) same w)
+breaks_line (Err fault) s t line g g' text old new before after puts same (inr w) = inr (g' ++ text, puts, w.0, w.1, w.2)
+
+-- ---- a line
+
+-- a line was answered, and nothing was written
+pub line_answered : (s t : State) (line before after : List ℕ) (held : Option (List ℕ)) → PutsLines s t (line ∷ []) before (after ++ []) → AnswersLine s t line before after held held
+line_answered s t line before after held puts = (after ++ [], puts, puts_none after held)
+
+pub few_answered : (s t : State) (line before after : List ℕ) → length before < MAX_GATHERED → PutsLines s t (line ∷ []) before (after ++ []) → HoldsFew after
+few_answered s t line before after few puts = subst HoldsFew (append-nil after) (few_after s t line before (after ++ []) (omega (arith, few)) puts)
+
+-- a line was answered by a text that was put out
+pub text_answered : (r : Result (Unit {0}) ServeFault) (s t : State) (line g g' g'' text : List ℕ) (old new : Option (List ℕ)) → PutsLines s t (line ∷ []) g (g' ++ text) → OnOk r (PutsOut text g' g'' old new)
+    → OnOk r (AnswersLine s t line g g'' old new)
+text_answered (Ok x) s t line g g' g'' text old new puts w = (g' ++ text, puts, w)
+text_answered (Err fault) s t line g g' g'' text old new puts w = tt

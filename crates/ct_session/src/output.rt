@@ -1,0 +1,193 @@
+//! Replies on their way to a sink: they are gathered, and written where the reader would read, or where they are many.
+
+ghost use Rattle.std.specs.Prelude.{◌≡◌, ◌≤◌, ◌++◌, [], codes, OnOk, OnErr, IfErr, vec_capacity};
+ghost use Rattle.std.specs.Fmt.{decimal};
+ghost use Rattle.std.specs.List.{flat_map};
+ghost use Rattle.std.specs.Io.KnownBytes.{Appends};
+ghost use Rattle.ct_io.specs.Faults.{Rose};
+ghost use Rattle.ct_io.specs.Told.{AppendsProperPrefix};
+ghost use Rattle.ct_ledger.specs.Dump.{dump_text, piece_dump};
+ghost use Rattle.ct_session.specs.Inside.Writing.{BreaksOff, HasRoom, PutsOut};
+
+use crate::serve::ServeFault;
+use ct_io::{Sink, write_all};
+use ct_ledger::{Piece, line_count};
+use ct_text::Digits;
+
+/// Where so many bytes of replies are gathered, they are written before another line is taken.
+pub(crate) const MAX_GATHERED: usize = 32_768;
+
+/// Writes the replies that were gathered. After an `Err` the sink failed, and a part of them was written.
+pub(crate) fn write_gathered<K: Sink>(
+    sink: &mut K,
+    gathered: &mut Vec<u8>,
+) -> Result<(), ServeFault>
+    ensures written { OnOk result (Appends (K.holds sink.old) (K.holds sink.new) gathered.old.items) }
+    ensures emptied { OnOk result (gathered.new.items ≡ []) }
+    ensures room { OnOk result (vec_capacity gathered.new ≡ vec_capacity gathered.old) }
+    ensures prefix { OnErr result (AppendsProperPrefix (K.holds sink.old) (K.holds sink.new) gathered.old.items) }
+    ensures fault { IfErr result (λ fault. fault ≡ ServeFault.Write) }
+    ensures failed { OnErr result (Rose (K.faults sink.old) (K.faults sink.new)) }
+    ensures counted { K.faults sink.old ≤ K.faults sink.new }
+{
+    match write_all(sink, gathered) {
+        Ok(()) => {
+            gathered.clear();
+            Ok(())
+        }
+        Err(_) => Err(ServeFault::Write),
+    }
+}
+
+/// Writes the replies that were gathered before the session is broken off: the fault, or that the sink failed on the way.
+pub(crate) fn break_off<K: Sink>(sink: &mut K, gathered: &[u8], fault: ServeFault) -> ServeFault
+    ensures written { BreaksOff fault result gathered.now (K.holds sink.old) (K.holds sink.new) (K.faults sink.old) (K.faults sink.new) }
+    ensures counted { K.faults sink.old ≤ K.faults sink.new }
+{
+    match write_all(sink, gathered) {
+        Ok(()) => fault,
+        Err(_) => ServeFault::Write,
+    }
+}
+
+/// Puts a part of a reply after what is gathered. Where there is no room for it, what is gathered is written first, and a part that is too
+/// long to be gathered is written too. It takes no memory. After an `Err` the sink failed, and a part of all that was written.
+fn put_out<K: Sink>(sink: &mut K, gathered: &mut Vec<u8>, part: &[u8]) -> Result<(), ServeFault>
+    requires { HasRoom gathered.old }
+    ensures put { OnOk result (PutsOut part.now gathered.old.items gathered.new.items (K.holds sink.old) (K.holds sink.new)) }
+    ensures room { OnOk result (HasRoom gathered.new) }
+    ensures prefix { OnErr result (AppendsProperPrefix (K.holds sink.old) (K.holds sink.new) (gathered.old.items ++ part.now)) }
+    ensures fault { IfErr result (λ fault. fault ≡ ServeFault.Write) }
+    ensures failed { OnErr result (Rose (K.faults sink.old) (K.faults sink.new)) }
+    ensures counted { K.faults sink.old ≤ K.faults sink.new }
+{
+    if gathered.len() + part.len() <= MAX_GATHERED {
+        gathered.extend_from_slice(part).unwrap();
+        return Ok(());
+    }
+    write_gathered(sink, gathered)?;
+    if part.len() <= MAX_GATHERED {
+        gathered.extend_from_slice(part).unwrap();
+        return Ok(());
+    }
+    match write_all(sink, part) {
+        Ok(()) => Ok(()),
+        Err(_) => Err(ServeFault::Write),
+    }
+}
+
+/// Puts the parts of a reply after what is gathered, one after the other, as `put_out` does.
+fn put_parts<K: Sink>(
+    sink: &mut K,
+    gathered: &mut Vec<u8>,
+    parts: &[&[u8]],
+) -> Result<(), ServeFault>
+    requires { HasRoom gathered.old }
+    ensures put { OnOk result (PutsOut (flat_map (λ part. part.now) parts.now) gathered.old.items gathered.new.items
+        (K.holds sink.old) (K.holds sink.new)) }
+    ensures room { OnOk result (HasRoom gathered.new) }
+    ensures prefix { OnErr result (AppendsProperPrefix (K.holds sink.old) (K.holds sink.new)
+        (gathered.old.items ++ flat_map (λ part. part.now) parts.now)) }
+    ensures fault { IfErr result (λ fault. fault ≡ ServeFault.Write) }
+    ensures failed { OnErr result (Rose (K.faults sink.old) (K.faults sink.new)) }
+    ensures counted { K.faults sink.old ≤ K.faults sink.new }
+{
+    for part in parts {
+        put_out(sink, gathered, part)?;
+    }
+    Ok(())
+}
+
+/// Puts the submission of a piece after what is gathered, as `put_out` does.
+fn put_submission<K: Sink>(
+    sink: &mut K,
+    gathered: &mut Vec<u8>,
+    piece: &Piece,
+) -> Result<(), ServeFault>
+    requires { HasRoom gathered.old }
+    ensures put { OnOk result (PutsOut (piece_dump piece.now) gathered.old.items gathered.new.items
+        (K.holds sink.old) (K.holds sink.new)) }
+    ensures room { OnOk result (HasRoom gathered.new) }
+    ensures prefix { OnErr result (AppendsProperPrefix (K.holds sink.old) (K.holds sink.new)
+        (gathered.old.items ++ piece_dump piece.now)) }
+    ensures fault { IfErr result (λ fault. fault ≡ ServeFault.Write) }
+    ensures failed { OnErr result (Rose (K.faults sink.old) (K.faults sink.new)) }
+    ensures counted { K.faults sink.old ≤ K.faults sink.new }
+{
+    let id = piece.id();
+    let count = Digits::of(line_count(piece.document()));
+    let parts: [&[u8]; 7] = [
+        b"submit ",
+        id.text(),
+        b" lines ",
+        count.as_bytes(),
+        b"\n",
+        piece.document(),
+        b"\n",
+    ];
+    put_parts(sink, gathered, &parts)
+}
+
+/// Puts the submissions of the pieces after what is gathered, as `put_out` does.
+fn put_submissions<K: Sink>(
+    sink: &mut K,
+    gathered: &mut Vec<u8>,
+    pieces: &[Piece],
+) -> Result<(), ServeFault>
+    requires { HasRoom gathered.old }
+    ensures put { OnOk result (PutsOut (flat_map piece_dump pieces.now) gathered.old.items gathered.new.items
+        (K.holds sink.old) (K.holds sink.new)) }
+    ensures room { OnOk result (HasRoom gathered.new) }
+    ensures prefix { OnErr result (AppendsProperPrefix (K.holds sink.old) (K.holds sink.new)
+        (gathered.old.items ++ flat_map piece_dump pieces.now)) }
+    ensures fault { IfErr result (λ fault. fault ≡ ServeFault.Write) }
+    ensures failed { OnErr result (Rose (K.faults sink.old) (K.faults sink.new)) }
+    ensures counted { K.faults sink.old ≤ K.faults sink.new }
+{
+    for piece in pieces {
+        put_submission(sink, gathered, piece)?;
+    }
+    Ok(())
+}
+
+/// Puts the comment before the submissions of a dump after what is gathered, as `put_out` does.
+fn put_comment<K: Sink>(
+    sink: &mut K,
+    gathered: &mut Vec<u8>,
+    count: usize,
+) -> Result<(), ServeFault>
+    requires { HasRoom gathered.old }
+    ensures put { OnOk result (PutsOut (codes "# dump of " ++ decimal count ++ codes " pieces\n") gathered.old.items gathered.new.items
+        (K.holds sink.old) (K.holds sink.new)) }
+    ensures room { OnOk result (HasRoom gathered.new) }
+    ensures prefix { OnErr result (AppendsProperPrefix (K.holds sink.old) (K.holds sink.new)
+        (gathered.old.items ++ (codes "# dump of " ++ decimal count ++ codes " pieces\n"))) }
+    ensures fault { IfErr result (λ fault. fault ≡ ServeFault.Write) }
+    ensures failed { OnErr result (Rose (K.faults sink.old) (K.faults sink.new)) }
+    ensures counted { K.faults sink.old ≤ K.faults sink.new }
+{
+    let count = Digits::of(count as u64);
+    let parts: [&[u8]; 3] = [b"# dump of ", count.as_bytes(), b" pieces\n"];
+    put_parts(sink, gathered, &parts)
+}
+
+/// Puts the dump of the pieces after what is gathered, as `put_out` does: it is written piece by piece, and their documents are not
+/// copied whole.
+pub(crate) fn put_dump<K: Sink>(
+    sink: &mut K,
+    gathered: &mut Vec<u8>,
+    pieces: &[Piece],
+) -> Result<(), ServeFault>
+    requires { HasRoom gathered.old }
+    ensures put { OnOk result (PutsOut (dump_text pieces.now) gathered.old.items gathered.new.items
+        (K.holds sink.old) (K.holds sink.new)) }
+    ensures room { OnOk result (HasRoom gathered.new) }
+    ensures prefix { OnErr result (AppendsProperPrefix (K.holds sink.old) (K.holds sink.new)
+        (gathered.old.items ++ dump_text pieces.now)) }
+    ensures fault { IfErr result (λ fault. fault ≡ ServeFault.Write) }
+    ensures failed { OnErr result (Rose (K.faults sink.old) (K.faults sink.new)) }
+    ensures counted { K.faults sink.old ≤ K.faults sink.new }
+{
+    put_comment(sink, gathered, pieces.len())?;
+    put_submissions(sink, gathered, pieces)
+}
