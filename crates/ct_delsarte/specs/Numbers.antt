@@ -9,5 +9,6 @@ abbrev pub number_at : ℕ → Option ℕ → ℕ → ℕ → ℤ
 number_at n None k i = krawtchouk n k i
 number_at n (Some w) k i = johnson n w k i
 
+-- the numbers of the scheme of an entry
 abbrev pub numbers_of : Entry → ℕ → ℕ → ℤ
 numbers_of e = number_at e.n e.w

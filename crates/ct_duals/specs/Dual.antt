@@ -24,6 +24,7 @@ abbrev pub greatest_index : ℕ → Option ℕ → ℕ
 greatest_index n None = n
 greatest_index n (Some w) = min w (n - w)
 
+-- the degree of the scheme of an entry
 abbrev pub degree_of : Entry → ℕ
 degree_of e = greatest_index e.n e.w
 

@@ -61,13 +61,15 @@ abbrev pub WritesProperPrefixOn : Mode → Option (List ℕ) → Option (List �
 WritesProperPrefixOn mode None old new = ⊤
 WritesProperPrefixOn mode (Some input) old new = (output : List ℕ) × (refused : Bool) × IsOutput mode input output refused × AppendsProperPrefix old new output
 
--- the three of the input of the mode, whose source has these bytes left, where it tells them
+-- what a sink holds grew by an output of the mode on its input, with the status of that output; the source has these bytes left, where it tells them
 abbrev pub WritesOutput : Mode → Option (List ℕ) → Option (List ℕ) → Option (List ℕ) → Status → Type 0
 WritesOutput mode left old new result = WritesOn mode (input_for mode left) old new result
 
+-- by a prefix of such an output
 abbrev pub WritesPrefix : Mode → Option (List ℕ) → Option (List ℕ) → Option (List ℕ) → Type 0
 WritesPrefix mode left old new = WritesPrefixOn mode (input_for mode left) old new
 
+-- by a prefix that leaves some of it
 abbrev pub WritesProperPrefix : Mode → Option (List ℕ) → Option (List ℕ) → Option (List ℕ) → Type 0
 WritesProperPrefix mode left old new = WritesProperPrefixOn mode (input_for mode left) old new
 
