@@ -19,7 +19,8 @@ pub enum SubmitFault {
     File(FileFault),
     /// The first part that is named, in the order of the document, and that does not stand.
     NoSuch(Id),
-    /// The first part that is named and that has not the length and weight that the step asks for.
+    /// The first part that is named and that is of a kind without a code, or has not the length or the weight that the step
+    /// asks for.
     WrongPart(Id),
     /// The words are no code of the entry. The fault is never want of memory.
     Code(CodeFault),

@@ -146,7 +146,7 @@ impl Ledger {
         &self.table
     }
 
-    /// How many words the pieces store: those of their documents.
+    /// How many words the pieces store: those that their documents list, and those of the codes of builds.
     pub fn stored(&self) -> u64
         ensures stored { result ≡ self.now.stored }
         ensures sum { result ≡ stored_words self.now.pieces }
