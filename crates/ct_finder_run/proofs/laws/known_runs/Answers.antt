@@ -1,0 +1,25 @@
+use Rattle.std.proofs.Common.{refl}
+use Rattle.ct_krawtchouk.specs.Krawtchouk.{krawtchouk}
+use Rattle.ct_scheme.specs.Numbers.{johnson}
+use Rattle.ct_duals.specs.Bound.{dual_bound}
+use Rattle.ct_finder_run.proofs.laws.known_runs.Goals as goal
+
+pub returns-clause-weighted : goal.returns-clause-weighted
+unfolding johnson
+returns-clause-weighted c = refl
+
+pub returns-clause-weighted_turns : goal.returns-clause-weighted_turns
+unfolding johnson
+returns-clause-weighted_turns c = refl
+
+pub returns-clause-weighted_bound : goal.returns-clause-weighted_bound
+unfolding dual_bound
+returns-clause-weighted_bound c = refl
+
+pub returns-clause-plain : goal.returns-clause-plain
+unfolding krawtchouk
+returns-clause-plain c = refl
+
+pub returns-clause-plain_bound : goal.returns-clause-plain_bound
+unfolding dual_bound
+returns-clause-plain_bound c = refl

@@ -1,0 +1,22 @@
+-- Greatest common divisors (Euclid, Elements, book VII).
+use Rattle.std.specs.Prelude.{ℕ, zero, suc, ◌%◌, ◌==◌, cond, List, fold, map, ℤ, pos, unsigned_abs, int_div}
+
+-- Euclid's algorithm, for so many steps at most
+abbrev pub euclid : ℕ → ℕ → ℕ → ℕ
+euclid zero a b = a
+euclid (suc n) a b = cond (b == 0) a (euclid n b (a % b))
+
+-- the greatest common divisor: b steps and one are enough, since the remainders fall
+abbrev pub gcd : ℕ → ℕ → ℕ
+gcd a b = euclid (suc b) a b
+
+-- the greatest number that divides each entry of a row, 1 where each is 0
+abbrev pub gcd_of : List ℤ → ℕ
+gcd_of row = fold (λ g z. gcd g (unsigned_abs z)) 0 row
+
+abbrev pub divisor : List ℤ → ℕ
+divisor row = cond (gcd_of row == 0) 1 (gcd_of row)
+
+-- the row, each entry divided by it
+abbrev pub reduced : List ℤ → List ℤ
+reduced row = map (λ z. int_div z (pos (divisor row))) row

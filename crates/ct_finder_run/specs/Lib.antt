@@ -1,0 +1,6 @@
+pub mod Column
+pub mod Divisor
+pub mod Turn
+pub mod Run
+pub mod Sum
+pub mod Examples

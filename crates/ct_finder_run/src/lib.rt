@@ -1,0 +1,9 @@
+//! The finder's run: a simplex method over rows of whole numbers, as definitions, and what holds of its end.
+#![tactic(auto)]
+
+mod laws;
+
+pub use laws::{
+    gcd_is_greatest, known_runs, least_duals_are_accepted, ones_are_accepted,
+    rows_are_sums_of_opening_rows,
+};
