@@ -24,12 +24,12 @@ gcd-is a b = euclid-finds (suc b) a b (omega arith)
 
 -- that of a row divides each entry, and what it began with
 pub fold_gcd-divides : (g : ℕ) (row : List ℤ)
-    → (fold (λ h z. gcd h (unsigned_abs z)) g row ∣ g) × AllByRecursion (λ z. fold (λ h z. gcd h (unsigned_abs z)) g row ∣ unsigned_abs z) row
+    → (fold (λ h z. gcd (unsigned_abs z) h) g row ∣ g) × AllByRecursion (λ z. fold (λ h z. gcd (unsigned_abs z) h) g row ∣ unsigned_abs z) row
 fold_gcd-divides g [] = (dvd_refl g, tt)
 fold_gcd-divides g (z ∷ row) =
-    let rest = fold_gcd-divides (gcd g (unsigned_abs z)) row in
-    let both = gcd-is g (unsigned_abs z) in
-    (dvd_trans _ rest.0 both.0, (dvd_trans _ rest.0 both.1, rest.1))
+    let rest = fold_gcd-divides (gcd (unsigned_abs z) g) row in
+    let both = gcd-is (unsigned_abs z) g in
+    (dvd_trans _ rest.0 both.1, (dvd_trans _ rest.0 both.0, rest.1))
 
 -- the divisor of a row is positive, and divides each entry
 pub divisor-some : (row : List ℤ) → 1 ≤ divisor row

@@ -12,7 +12,7 @@ gcd a b = euclid (suc b) a b
 
 -- the greatest number that divides each entry of a row, 1 where each is 0
 abbrev pub gcd_of : List ℤ → ℕ
-gcd_of row = fold (λ g z. gcd g (unsigned_abs z)) 0 row
+gcd_of row = fold (λ g z. gcd (unsigned_abs z) g) 0 row
 
 abbrev pub divisor : List ℤ → ℕ
 divisor row = cond (gcd_of row == 0) 1 (gcd_of row)
