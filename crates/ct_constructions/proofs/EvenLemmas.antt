@@ -1,5 +1,5 @@
 -- The words of even weight.
-use Rattle.std.proofs.Common.{◌≡◌, ◌≢◌, ℕ, zero, suc, ◌+◌, ◌-◌, ◌*◌, ◌%◌, ◌^◌, ◌<◌, ◌≤◌, Bool, true, cond, ◌==◌, List, [], ◌∷◌, ◌++◌, length, None, All, AllPairs, refl, sym, ap, ap₂, ◌∙◌, inl, inr, arith, append_assoc, append-nil, pow_pos, pow-suc, add-one, eq-eqb, ne_eqb, eqb-true}
+use Rattle.std.proofs.Common.{◌≡◌, ◌≢◌, ℕ, zero, suc, ◌+◌, ◌-◌, ◌*◌, ◌%◌, ◌^◌, ◌<◌, ◌≤◌, Bool, true, false, cond, ◌==◌, List, [], ◌∷◌, ◌++◌, length, None, All, AllPairs, refl, sym, ap, ap₂, ◌∙◌, inl, inr, arith, append_assoc, append-nil, pow_pos, pow-suc, add-one, eq-eqb, ne_eqb, eqb-true}
 use Rattle.std.specs.List.{filter}
 use Rattle.std.specs.List.Sorted.{IsStrictlyIncreasing}
 use Rattle.std.proofs.lemmas.Bool.{cases_eq}
@@ -26,14 +26,14 @@ tabulate-push f zero = refl
 tabulate-push f (suc n) = ap (λ z. f 0 ∷ z) (tabulate-push (λ p. f (suc p)) n)
 
 -- all words of a length are words of it, and ascend
-words_of_length-below : (n : ℕ) → All (λ x. x < 2 ^ n) (words_of_length n)
+pub words_of_length-below : (n : ℕ) → All (λ x. x < 2 ^ n) (words_of_length n)
 words_of_length-below n =
     All-from_get_or (λ x. x < 2 ^ n) (words_of_length n) 0 (λ k h.
     let long = length-tabulate (λ x. x) (2 ^ n) in
     let at = get_or-tabulate (λ x. x) (2 ^ n) k (omega arith) in
     omega arith)
 
-words_of_length-ascending : (n : ℕ) → IsStrictlyIncreasing (words_of_length n)
+pub words_of_length-ascending : (n : ℕ) → IsStrictlyIncreasing (words_of_length n)
 words_of_length-ascending n = λ k h.
     let long = length-tabulate (λ x. x) (2 ^ n) in
     let here = get_or-tabulate (λ x. x) (2 ^ n) k (omega arith) in
@@ -135,20 +135,27 @@ sound-even_words n some few =
       code = IsCode-even_words n;
     }
 
--- one more word in the search for those of even weight
+-- one more number in the search for those that pass
+pub filter-more_yes : (p : ℕ → Bool) (k : ℕ) → p k ≡ true → filter p (tabulate (λ x. x) (k + 1)) ≡ filter p (tabulate (λ x. x) k) ++ k ∷ []
+filter-more_yes p k passes =
+    ap (λ m. filter p (tabulate (λ x. x) m)) (add-one k)
+    ∙ ap (filter p) (tabulate-push (λ x. x) k)
+    ∙ filter-append p (tabulate (λ x. x) k) (k ∷ [])
+    ∙ ap (λ b. filter p (tabulate (λ x. x) k) ++ cond b (k ∷ []) []) passes
+
+pub filter-more_no : (p : ℕ → Bool) (k : ℕ) → p k ≡ false → filter p (tabulate (λ x. x) (k + 1)) ≡ filter p (tabulate (λ x. x) k)
+filter-more_no p k fails =
+    ap (λ m. filter p (tabulate (λ x. x) m)) (add-one k)
+    ∙ ap (filter p) (tabulate-push (λ x. x) k)
+    ∙ filter-append p (tabulate (λ x. x) k) (k ∷ [])
+    ∙ ap (λ b. filter p (tabulate (λ x. x) k) ++ cond b (k ∷ []) []) fails
+    ∙ append-nil (filter p (tabulate (λ x. x) k))
+
+-- and for those of even weight
 pub even_words-more_yes : (n k : ℕ) → weight n k % 2 ≡ 0
     → filter (λ x. weight n x % 2 == 0) (tabulate (λ x. x) (k + 1)) ≡ filter (λ x. weight n x % 2 == 0) (tabulate (λ x. x) k) ++ k ∷ []
-even_words-more_yes n k even =
-    ap (λ m. filter (λ x. weight n x % 2 == 0) (tabulate (λ x. x) m)) (add-one k)
-    ∙ ap (filter (λ x. weight n x % 2 == 0)) (tabulate-push (λ x. x) k)
-    ∙ filter-append (λ x. weight n x % 2 == 0) (tabulate (λ x. x) k) (k ∷ [])
-    ∙ ap (λ b. filter (λ x. weight n x % 2 == 0) (tabulate (λ x. x) k) ++ cond b (k ∷ []) []) (eq-eqb (weight n k % 2) 0 even)
+even_words-more_yes n k even = filter-more_yes (λ x. weight n x % 2 == 0) k (eq-eqb (weight n k % 2) 0 even)
 
 pub even_words-more_no : (n k : ℕ) → weight n k % 2 ≢ 0
     → filter (λ x. weight n x % 2 == 0) (tabulate (λ x. x) (k + 1)) ≡ filter (λ x. weight n x % 2 == 0) (tabulate (λ x. x) k)
-even_words-more_no n k odd =
-    ap (λ m. filter (λ x. weight n x % 2 == 0) (tabulate (λ x. x) m)) (add-one k)
-    ∙ ap (filter (λ x. weight n x % 2 == 0)) (tabulate-push (λ x. x) k)
-    ∙ filter-append (λ x. weight n x % 2 == 0) (tabulate (λ x. x) k) (k ∷ [])
-    ∙ ap (λ b. filter (λ x. weight n x % 2 == 0) (tabulate (λ x. x) k) ++ cond b (k ∷ []) []) (ne_eqb (weight n k % 2) 0 odd)
-    ∙ append-nil (filter (λ x. weight n x % 2 == 0) (tabulate (λ x. x) k))
+even_words-more_no n k odd = filter-more_no (λ x. weight n x % 2 == 0) k (ne_eqb (weight n k % 2) 0 odd)

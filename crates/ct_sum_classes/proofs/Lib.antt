@@ -1,0 +1,3 @@
+pub mod PlaceSums
+pub mod SumClasses
+pub mod SizeLemmas

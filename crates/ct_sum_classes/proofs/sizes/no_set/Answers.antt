@@ -1,0 +1,6 @@
+use Rattle.std.proofs.Common.{sym, ◌∙◌}
+use Rattle.ct_sum_classes.proofs.SizeLemmas.{zeros, size-empty_more}
+use Rattle.ct_sum_classes.proofs.sizes.no_set.Goals as goal
+
+pub returns : goal.returns
+returns c = λ n k s within. zeros 28 s ∙ sym (size-empty_more n k s)

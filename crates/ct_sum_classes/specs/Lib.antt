@@ -1,0 +1,2 @@
+pub mod SumClass
+pub mod Inside
