@@ -15,3 +15,4 @@ pub mod LawfulJohnson
 pub mod LawfulColumnPairs
 pub mod LawfulFarWords
 pub mod LawfulSplit
+pub mod LawfulSumClass

@@ -14,3 +14,4 @@ pub mod Johnson
 pub mod ColumnPairs
 pub mod FarWords
 pub mod Split
+pub mod SumClass

@@ -15,6 +15,7 @@ mod nearer;
 mod neighbours;
 mod one_word;
 mod split;
+mod sum_class;
 mod with_one;
 mod with_zero;
 mod without_weight;
@@ -35,6 +36,7 @@ pub use neighbours::{
 };
 pub use one_word::known_one_word;
 pub use split::{known_split, parts_of_split, split_into};
+pub use sum_class::{known_sum_class, size_of_class};
 pub use with_one::{bound_by_ones, count_with_one, known_with_one};
 pub use with_zero::{bound_by_zeros, count_with_zero, known_with_zero};
 pub use without_weight::known_without_weight;

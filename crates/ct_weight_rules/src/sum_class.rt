@@ -1,0 +1,38 @@
+//! A sum class: M9.
+
+ghost use Rattle.std.specs.Prelude.{◌≡◌, true, false, [], Some, None};
+ghost use Rattle.ct_codes.specs.Entry.{IsEntry, unrestricted, constant_weight};
+ghost use Rattle.ct_rule_parts.specs.Parts.{is_defined};
+ghost use Rattle.ct_weight_rules.specs.SumClass.{size_of_class, class_of_sum};
+
+use ct_codes::Entry;
+use ct_sum_classes::sum_class_count;
+
+/// The number of M9 with the residue r: how many words of the length and the weight of the entry there are, the places of
+/// whose ones add up to r modulo n, where the distance is 4, r is below n and there is such a word (Graham and Sloane
+/// 1980).
+pub fn size_of_class(r: u32, entry: Entry) -> Option<u64>
+    requires { IsEntry entry }
+    ensures { result ≡ size_of_class r entry }
+{
+    let w = entry.w?;
+    if entry.d != 4 || entry.n <= r {
+        return None;
+    }
+    let size = sum_class_count(entry.n, w, r);
+    if size > 0 { Some(size) } else { None }
+}
+
+/// Where M9 is defined, with the least and the greatest residues, that it rests on nothing and what it gives: A(6,4,3) is 4.
+pub fn known_sum_class()
+    ensures value { (class_of_sum 0).number (constant_weight 6 4 3) [] ≡ Some 4 }
+    ensures other_value { (class_of_sum 1).number (constant_weight 6 4 3) [] ≡ Some 3 }
+    ensures defined { is_defined (class_of_sum 0) (constant_weight 6 4 3) ≡ true }
+    ensures last { is_defined (class_of_sum 5) (constant_weight 6 4 3) ≡ true }
+    ensures rests_on { (class_of_sum 0).rests_on (constant_weight 6 4 3) ≡ [] }
+    ensures no_residue { is_defined (class_of_sum 6) (constant_weight 6 4 3) ≡ false }
+    ensures empty { is_defined (class_of_sum 1) (constant_weight 6 4 0) ≡ false }
+    ensures no_ones { (class_of_sum 0).number (constant_weight 6 4 0) [] ≡ Some 1 }
+    ensures farther { is_defined (class_of_sum 0) (constant_weight 6 6 3) ≡ false }
+    ensures no_weight { is_defined (class_of_sum 0) (unrestricted 6 4) ≡ false }
+{}
