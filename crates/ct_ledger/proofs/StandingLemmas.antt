@@ -1,5 +1,6 @@
 -- What holds of the pieces of a ledger is kept as pieces come and go.
-use Rattle.std.proofs.Common.{◌≡◌, ◌≢◌, ℕ, ◌+◌, ◌≤◌, ◌<◌, Bool, true, false, ◌||◌, cond, not, List, [], ◌∷◌, ◌++◌, length, Option, Some, None, option_map, Result, Ok, Err, refl, sym, ap, subst, ◌∙◌, arith, nat_le, leb-true, length-append}
+use Rattle.std.proofs.Common.{◌≡◌, ◌≢◌, ℕ, ◌+◌, ◌≤◌, ◌<◌, Bool, true, false, ◌||◌, cond, not, List, [], ◌∷◌, ◌++◌, length, Option, Some, None, option_map, Result, Ok, Err, refl, sym, ap, subst, ◌∙◌, arith, nat_le, leb-true, length-append, get_or}
+use Rattle.std.proofs.Math.ListN.{get_or-append}
 use Rattle.std.proofs.lemmas.Bool.{lt-leb, le-leb, leb-false}
 use Rattle.std.specs.Prelude.{All, filter, IfSome, IsTrue}
 use Rattle.std.specs.Str.{bytes_eq}
@@ -28,7 +29,7 @@ use Rattle.ct_ledger.specs.declared.fault.SubmitFault.{SubmitFault}
 use Rattle.ct_ledger.specs.declared.fault.SubmitFault.TheVariants as fault
 use Rattle.ct_ledger.specs.declared.fault.WithdrawFault.{WithdrawFault}
 use Rattle.ct_ledger.specs.declared.fault.WithdrawFault.TheVariants as withdraw
-use Rattle.ct_ledger.proofs.CodeLemmas.{AreMade-append}
+use Rattle.ct_ledger.proofs.CodeLemmas.{AreMade-append, AreMade-front}
 use Rattle.ct_ledger.proofs.Stating.{AreSound, HasSoundCode}
 use Rattle.ct_ledger.proofs.MakingLemmas.{IsRight, making, making-of, states_code, IsMade-sound}
 use Rattle.ct_ledger.proofs.LeavingLemmas.{AreMade-without}
@@ -119,6 +120,21 @@ AreStanding-without pieces id h none =
       different = AllPairs-filter (λ (q r : PieceValue). q.id ≢ r.id) test pieces h.different;
       few = omega (arith, length-filter test pieces, h.few);
       small = omega (arith, stored-filter test pieces, h.small);
+    }
+
+-- the pieces but for the last stand
+pub AreStanding-front : (front : List PieceValue) (p : PieceValue) → AreStanding (front ++ p ∷ []) → AreStanding front
+AreStanding-front front p h =
+    let all = length-append front (p ∷ []) in
+    let same : (i : ℕ) (d : PieceValue) → i < length front → get_or (front ++ p ∷ []) i d ≡ get_or front i d = λ i d within. get_or-append front (p ∷ []) d i within in
+    record {
+      made = AreMade-front [] front (p ∷ []) h.made;
+      named = λ i d within. subst (λ (q : PieceValue). IsTrue (is_id q.id)) (same i d within) (h.named i d (omega arith));
+      different = λ i j d below within equal.
+          h.different i j d below (omega arith)
+          (ap (λ (q : PieceValue). q.id) (same i d (omega arith)) ∙ equal ∙ ap (λ (q : PieceValue). q.id) (sym (same j d within)));
+      few = omega (arith, all, h.few);
+      small = omega (arith, sum_by_push stored_by front p, h.small);
     }
 
 -- no pieces stand

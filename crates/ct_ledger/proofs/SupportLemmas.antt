@@ -1,5 +1,5 @@
 -- What pieces give to the table: it stands where they do, and comes and goes with them.
-use Rattle.std.proofs.Common.{◌≡◌, ◌≢◌, ℕ, zero, suc, ◌+◌, ◌≤◌, ◌<◌, Bool, true, false, ◌||◌, cond, not, nat_lt, List, [], ◌∷◌, ◌++◌, length, map, get_or, Option, Some, None, Ok, Err, option_map, refl, sym, ap, subst, ◌∙◌, arith, ltb-true, ltb-false}
+use Rattle.std.proofs.Common.{◌≡◌, ◌≢◌, ℕ, zero, suc, ◌+◌, ◌-◌, ◌≤◌, ◌<◌, Bool, true, false, ◌||◌, cond, not, nat_lt, List, [], ◌∷◌, ◌++◌, length, map, get_or, Option, Some, None, Ok, Err, option_map, refl, sym, ap, subst, ◌∙◌, arith, ltb-true, ltb-false, length-append}
 use Rattle.std.specs.Prelude.{All, AllPairs, remove}
 use Rattle.std.specs.List.{position_or_len}
 use Rattle.std.specs.Str.{bytes_eq}
@@ -18,12 +18,13 @@ use Rattle.ct_ledger.specs.Standing.{AreStanding, IsMade, AreMade}
 use Rattle.ct_ledger.specs.Supports.{support_of, supports_of}
 use Rattle.ct_ledger.specs.Withdrawal.{without, withdrawn, unless_used}
 use Rattle.ct_ledger.specs.declared.fault.WithdrawFault.TheVariants as fault
-use Rattle.ct_ledger.specs.Inside.Kept.{place_of, kept_codes}
-use Rattle.ct_ledger.proofs.CodeLemmas.{is_named}
+use Rattle.ct_ledger.specs.Inside.Kept.{place_of, kept_over, kept_codes}
+use Rattle.ct_ledger.proofs.CodeLemmas.{is_named, AreMade-front, AreMade-back}
 use Rattle.ct_ledger.proofs.Stating.{AreSound, HasSoundCode, option_map-none}
 use Rattle.ct_ledger.proofs.MakingLemmas.{IsRight, making-of, states_code, IsMade-sound, codes_after-sound}
 use Rattle.ct_ledger.proofs.LeavingLemmas.{kept-remove}
-use Rattle.ct_ledger.proofs.StandingLemmas.{piece_from-made, AreStanding-without}
+use Rattle.ct_ledger.proofs.StandingLemmas.{piece_from-made, AreStanding-without, AreStanding-front}
+use Rattle.ct_ledger.proofs.KeptLemmas.{length-kept_codes, kept_codes-push}
 
 -- what a piece gives that is made over codes stands
 pub IsMade-stands : (known : List NamedCode) (p : PieceValue) → AreSound known → IsMade known p → Stands (support_of p)
@@ -49,6 +50,12 @@ AreMade-stand known (p ∷ ps) sound h =
 -- what pieces give that stand, stands
 pub supports_stand : (pieces : List PieceValue) → AreStanding pieces → AllStand (supports_of pieces)
 supports_stand pieces h = AreMade-stand [] pieces (All-nil HasSoundCode) h.made
+
+-- so does what the last of them gives
+pub last_stands : (front : List PieceValue) (p : PieceValue) → AreStanding (front ++ p ∷ []) → Stands (support_of p)
+last_stands front p h =
+    let sound = codes_after-sound [] front (All-nil HasSoundCode) (AreMade-front [] front (p ∷ []) h.made) in
+    IsMade-stands (codes_of front) p sound (AreMade-back [] front (p ∷ []) h.made).0
 
 -- one more piece gives one more support, at the end
 pub supports-push : (pieces : List PieceValue) (p : PieceValue) → supports_of (pieces ++ p ∷ []) ≡ supports_of pieces ++ support_of p ∷ []
@@ -193,4 +200,46 @@ left_standing id ps k h is free =
       kept = subst (λ (i : ℕ). kept_codes (remove ps i) ≡ remove (kept_codes ps) i) place.at
           (kept-remove id [] ps h.different none (rw place.at place.within));
       stored = λ d. sum_by-remove stored_by ps k d place.within;
+    }
+
+-- a list without its last item
+remove-last : {X : Type 0} (front : List X) (x : X) → remove (front ++ x ∷ []) (length front) ≡ front
+remove-last [] x = refl
+remove-last (y ∷ front) x = ap (λ ys. y ∷ ys) (remove-last front x)
+
+pub remove_last : {X : Type 0} (xs front : List X) (x : X) → xs ≡ front ++ x ∷ [] → remove xs (length xs - 1) ≡ front
+remove_last xs front x is =
+    let long = length-append front (x ∷ []) in
+    let size : length (front ++ x ∷ []) - 1 ≡ length front = omega (arith, long) in
+    ap (λ ys. remove ys (length ys - 1)) is ∙ ap (remove (front ++ x ∷ [])) size ∙ remove-last front x
+
+-- a list that is not empty has a last item
+pub last_of : {X : Type 0} (xs : List X) → 0 < length xs → (front : List X) × (x : X) × (xs ≡ front ++ x ∷ [])
+last_of [] some = absurd (omega arith)
+last_of (x ∷ []) some = ([], x, refl)
+last_of (x ∷ y ∷ xs) some = let rest = last_of (y ∷ xs) (omega arith) in (x ∷ rest.0, rest.1, ap (λ ys. x ∷ ys) rest.2)
+
+-- the pieces but for the last, their codes, and their words
+pub record IsTakenBack (ps : List PieceValue) : Type 0 where
+  pub within : length ps - 1 < length (kept_codes ps)
+  pub standing : AreStanding (remove ps (length ps - 1))
+  pub kept : kept_codes (remove ps (length ps - 1)) ≡ remove (kept_codes ps) (length ps - 1)
+  pub stored : (d : PieceValue) → stored_words (remove ps (length ps - 1)) + stored_by (get_or ps (length ps - 1) d) ≡ stored_words ps
+
+pub taken_back : (ps : List PieceValue) → AreStanding ps → 0 < length ps → IsTakenBack ps
+taken_back ps h some =
+    let last = last_of ps some in
+    let front = last.0 in
+    let p = last.1 in
+    let left = remove_last ps front p last.2 in
+    let long = length-kept_codes ps in
+    let codes = ap kept_codes last.2 ∙ kept_codes-push front p in
+    let count : length ps ≡ length (kept_codes ps) = sym long in
+    record {
+      within = omega arith;
+      standing = subst AreStanding (sym left) (AreStanding-front front p (subst AreStanding last.2 h));
+      kept =
+          ap kept_codes left
+          ∙ sym (ap (λ (n : ℕ). remove (kept_codes ps) (n - 1)) count ∙ remove_last (kept_codes ps) (kept_codes front) (kept_over (codes_of front) p.evidence) codes);
+      stored = λ d. sum_by-remove stored_by ps (length ps - 1) d (omega arith);
     }

@@ -1,27 +1,24 @@
 //! The ledger.
 
-ghost use Rattle.std.specs.Prelude.{◌≡◌, ◌≢◌, ◌≤◌, ◌<◌, ◌+◌, ◌^◌, ◌∷◌, ◌++◌, Result, Ok, Err, Some, false, IfOk, IfErr, IfNone, IsSome, IsTrue, OnOk, OnErr, [], All, filter, find, length, not, option_map};
+ghost use Rattle.std.specs.Prelude.{◌≡◌, ◌≢◌, ◌<◌, ◌∷◌, ◌++◌, List, Ok, Err, IfOk, IfErr, IsSome, OnOk, OnErr, [], All, length};
 ghost use Rattle.ct_codes.specs.Code.{IsSoundCode};
-ghost use Rattle.ct_text.specs.Id.{is_id};
-ghost use Rattle.ct_files.specs.Evidence.{read_of};
-ghost use Rattle.ct_ledger.specs.Piece.{PieceValue, has_id, stored_by, stored_words, first_user};
+ghost use Rattle.ct_ledger.specs.Piece.{PieceValue, stored_words};
 ghost use Rattle.ct_ledger.specs.Codes.{code_of_place};
-ghost use Rattle.ct_ledger.specs.Submission.{submitted, piece_from, if_stored, unless_full};
+ghost use Rattle.ct_ledger.specs.Submission.{submitted};
 ghost use Rattle.ct_ledger.specs.declared.fault.SubmitFault.{SubmitFault};
 ghost use Rattle.ct_ledger.specs.Withdrawal.{withdrawn};
-ghost use Rattle.ct_ledger.specs.Supports.{supports_of};
+ghost use Rattle.ct_ledger.specs.Supports.{support_of, supports_of};
 ghost use Rattle.ct_ledger.specs.Standing.{AreStanding, HasTrueSize};
 ghost use Rattle.ct_ledger.specs.Ledger.{AddsPiece};
 ghost use Rattle.ct_ledger.specs.Dump.{dump_text};
 
-use crate::check::check_document;
 use crate::dump::put_dump;
 use crate::fault::{SubmitFault, WithdrawFault};
-use crate::kept::{code_at_place, place_of};
-use crate::kinds::{gives, kind_of, names};
-use crate::limits::{MAX_PIECES, MAX_STORED};
+use crate::kinds::gives;
 use crate::piece::Piece;
+use crate::pieces::Pieces;
 use ct_codes::Code;
+use ct_rules::Support;
 use ct_table::Table;
 use ct_text::{Id, Text};
 use std::alloc::{AllocError, Global};
@@ -31,89 +28,31 @@ use std::marker::Model;
 /// the bounds that they give. Contracts see the list of the pieces, the number of words that they store, and the table.
 #[derive(Debug, Drop)]
 pub struct Ledger {
-    pieces: Vec<Piece>,
-    kept: Vec<Option<Code>>,
-    stored: u64,
+    pieces: Pieces,
     table: Table,
 }
 
 impl Model for Ledger {
     ghost use Rattle.std.specs.Prelude.{◌≡◌};
     ghost use Rattle.ct_ledger.specs.Piece.{stored_words};
-    ghost use Rattle.ct_ledger.specs.Standing.{AreStanding};
     ghost use Rattle.ct_ledger.specs.Supports.{supports_of};
-    ghost use Rattle.ct_ledger.specs.Inside.Kept.{kept_codes};
     ghost use Rattle.ct_ledger.specs.Ledger.{LedgerValue};
 
     ghost Value = { LedgerValue };
 
-    ghost view = { λ l. record { pieces = l.pieces.items; stored = l.stored; table = l.table } };
+    ghost view = { λ l. record { pieces = l.pieces; stored = stored_words l.pieces; table = l.table } };
 
-    ghost invariant = { λ l. AreStanding l.pieces.items × (l.stored ≡ stored_words l.pieces.items)
-        × (l.table.supports ≡ supports_of l.pieces.items) × (l.kept.items ≡ kept_codes l.pieces.items) };
+    ghost invariant = { λ l. l.table.supports ≡ supports_of l.pieces };
 }
 
-/// How many words the piece stores.
-fn stored_by(piece: &Piece) -> u64
-    ensures words { result ≡ stored_by piece.now }
-    ensures bound { result < 2 ^ 63 }
+/// What the last of the pieces gives to a table, where there is one.
+fn last_support(pieces: &[Piece]) -> Support
+    ensures { (front : List PieceValue) (p : PieceValue) → pieces.now ≡ front ++ p ∷ [] → result ≡ support_of p }
 {
-    let kind = kind_of(piece.evidence());
-    if kind.is_stored {
-        kind.listed + u64::from(piece.size().unwrap_or(0))
-    } else {
-        kind.listed
+    match pieces.last() {
+        Some(piece) => gives(piece.evidence(), piece.size()),
+        None => Support::Nothing,
     }
-}
-
-/// Whether a piece has the id.
-fn has_id(pieces: &[Piece], id: Id) -> bool
-    ensures has { result ≡ has_id id pieces.now }
-    ensures id { IsTrue (is_id id) }
-{
-    let name = id.text();
-    pieces.iter().any(|piece| piece.id().text() == name)
-}
-
-/// How many words are stored with the piece beside so many others, or that they are too many.
-fn stored_with(stored: u64, piece: &Piece) -> Result<u64, SubmitFault>
-    requires { stored ≤ MAX_STORED }
-    ensures total { IfOk result (λ total. (total ≡ stored + stored_by piece.now) × (total ≤ MAX_STORED)) }
-    ensures room { IfOk result (λ _. if_stored (stored + stored_by piece.now) piece.now ≡ Ok piece.now) }
-    ensures fault { IfErr result (λ fault. if_stored (stored + stored_by piece.now) piece.now ≡ Err fault) }
-{
-    let total = stored + stored_by(piece);
-    if total > MAX_STORED {
-        return Err(SubmitFault::FullWords(total));
-    }
-    Ok(total)
-}
-
-/// The first piece that names the id.
-fn first_user(pieces: &[Piece], id: Id) -> Option<Id>
-    ensures { result ≡ option_map (λ p. p.id) (first_user id pieces.now) }
-{
-    pieces
-        .iter()
-        .find(|piece| names(piece.evidence(), id))
-        .map(|piece| piece.id())
-}
-
-/// Whether there is room for one more piece, of this id.
-fn room_for(pieces: &[Piece], id: Id) -> Result<(), SubmitFault>
-    ensures id { IsTrue (is_id id) }
-    ensures free { OnOk result (has_id id pieces.now ≡ false) }
-    ensures room { OnOk result (length pieces.now < MAX_PIECES) }
-    ensures fault { IfErr result (λ fault. (made : Result PieceValue SubmitFault)
-        → unless_full (has_id id pieces.now) (length pieces.now) made ≡ Err fault) }
-{
-    if has_id(pieces, id) {
-        return Err(SubmitFault::Taken);
-    }
-    if pieces.len() >= MAX_PIECES {
-        return Err(SubmitFault::FullPieces(pieces.len() as u64));
-    }
-    Ok(())
 }
 
 impl Ledger {
@@ -122,9 +61,7 @@ impl Ledger {
         ensures { IfOk result (λ ledger. ledger.pieces ≡ []) }
     {
         Ok(Ledger {
-            pieces: Vec::new(alloc),
-            kept: Vec::new(alloc),
-            stored: 0,
+            pieces: Pieces::new(alloc),
             table: Table::new(alloc)?,
         })
     }
@@ -135,7 +72,7 @@ impl Ledger {
         ensures standing { AreStanding self.now.pieces }
         ensures sizes { All HasTrueSize self.now.pieces }
     {
-        &self.pieces
+        self.pieces.pieces()
     }
 
     /// The table of the bounds that the pieces give: its supports are theirs, place by place.
@@ -151,7 +88,7 @@ impl Ledger {
         ensures stored { result ≡ self.now.stored }
         ensures sum { result ≡ stored_words self.now.pieces }
     {
-        self.stored
+        self.pieces.stored()
     }
 
     /// Takes a document under an id, which it keeps byte for byte: the size of its code, where it is accepted. Else it gives
@@ -162,51 +99,36 @@ impl Ledger {
             → submitted self.old.pieces id document.now ≡ Err fault) }
         ensures unchanged { OnErr result (self.new ≡ self.old) }
     {
-        let text = Text::copied(*self.pieces.allocator(), document)?;
+        let text = Text::copied(self.pieces.allocator(), document)?;
         self.submit_text(id, text)
     }
 
     /// `submit` of a document that is handed over, and so is not copied.
-    #[tactic(auto, unfolding(crate::specs::Submission::submitted))]
     pub fn submit_text(&mut self, id: Id, document: Text) -> Result<Option<u32>, SubmitFault>
         ensures accepted { IfOk result (AddsPiece self.old.pieces self.new.pieces id document) }
         ensures fault { IfErr result (λ fault. fault ≢ SubmitFault.Memory
             → submitted self.old.pieces id document ≡ Err fault) }
         ensures unchanged { OnErr result (self.new ≡ self.old) }
     {
-        room_for(&self.pieces, id)?;
-        let alloc = *self.pieces.allocator();
-        let made = check_document(alloc, &self.pieces, &self.kept, id, document)?;
-        let stored = stored_with(self.stored, &made.piece)?;
-        let size = made.piece.size();
-        self.pieces.reserve(1)?;
-        self.kept.reserve(1)?;
-        self.table.add(gives(made.piece.evidence(), size))?;
-        self.pieces.push_reserved(made.piece);
-        self.kept.push_reserved(made.kept);
-        self.stored = stored;
+        let size = self.pieces.submit_text(id, document)?;
+        if let Err(error) = self.table.add(last_support(self.pieces.pieces())) {
+            self.pieces.take_back();
+            return Err(error.into());
+        }
         Ok(size)
     }
 
     /// Takes the piece of the id out. `NoSuch` comes exactly where no piece has it, and `InUse` where another names it. After an
     /// `Err` the ledger is as before, its table too.
-    #[tactic(auto, unfolding(crate::specs::Withdrawal::withdrawn))]
     pub fn withdraw(&mut self, id: Id) -> Result<(), WithdrawFault>
         ensures left { OnOk result (withdrawn self.old.pieces id ≡ Ok self.new.pieces) }
         ensures fault { IfErr result (λ fault. fault ≢ WithdrawFault.Memory
             → withdrawn self.old.pieces id ≡ Err fault) }
         ensures unchanged { OnErr result (self.new ≡ self.old) }
     {
-        let Some(place) = place_of(&self.pieces, id) else {
-            return Err(WithdrawFault::NoSuch);
-        };
-        if let Some(user) = first_user(&self.pieces, id) {
-            return Err(WithdrawFault::InUse(user));
-        }
+        let place = self.pieces.place_to_leave(id)?;
         self.table.remove(place)?;
-        let piece = self.pieces.remove(place);
-        self.kept.remove(place);
-        self.stored -= stored_by(&piece);
+        self.pieces.take_out(id, place);
         Ok(())
     }
 
@@ -219,7 +141,7 @@ impl Ledger {
         ensures code { IfOk result (λ code. code_of_place self.now.pieces place ≡ Some code) }
         ensures sound { IfOk result IsSoundCode }
     {
-        code_at_place(alloc, &self.pieces, &self.kept, place)
+        self.pieces.code(alloc, place)
     }
 
     /// The dump of the pieces: a session whose commands lead to them, with their own documents. `Err` is want of memory.
@@ -227,7 +149,7 @@ impl Ledger {
         ensures { IfOk result (λ text. text.items ≡ dump_text self.now.pieces) }
     {
         let mut text = Vec::new(alloc);
-        put_dump(alloc, &mut text, &self.pieces)?;
+        put_dump(alloc, &mut text, self.pieces.pieces())?;
         Ok(text)
     }
 }

@@ -11,6 +11,7 @@ mod laws;
 mod ledger;
 mod limits;
 mod piece;
+mod pieces;
 mod text;
 
 pub use dump::line_count;
@@ -23,4 +24,5 @@ pub use laws::{
 pub use ledger::Ledger;
 pub use limits::{MAX_PIECES, MAX_STORED};
 pub use piece::Piece;
+pub use pieces::Pieces;
 pub use text::{submit_refusal, withdraw_refusal};
