@@ -1,8 +1,10 @@
 //! A piece of evidence that was accepted.
 
 ghost use Rattle.std.specs.Prelude.{◌≡◌, ◌++◌, OnOk, IfOk};
+ghost use Rattle.ct_ledger.specs.Kind.{names};
 ghost use Rattle.ct_ledger.specs.Text.{piece_text};
 
+use crate::kinds::names;
 use crate::text::put_piece;
 use ct_codes::Entry;
 use ct_files::Evidence;
@@ -60,6 +62,13 @@ impl Piece {
         ensures { result.now ≡ self.now.evidence }
     {
         &self.evidence
+    }
+
+    /// Whether it names the piece of this id as a part of its own.
+    pub fn names(&self, id: Id) -> bool
+        ensures { result ≡ names self.now.evidence id }
+    {
+        names(&self.evidence, id)
     }
 
     /// The entry of the table that it is about.

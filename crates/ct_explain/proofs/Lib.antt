@@ -1,0 +1,2 @@
+pub mod PartPlaces
+pub mod ExplainedBounds

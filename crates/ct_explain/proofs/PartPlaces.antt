@@ -1,0 +1,160 @@
+-- The places of items for which a test holds; and that the parts of pieces that stand are before them.
+use Rattle.std.proofs.Common.{◌≡◌, ◌≢◌, ℕ, zero, suc, ◌+◌, ◌<◌, Bool, true, false, ◌||◌, cond, List, [], ◌∷◌, ◌++◌, length, take, get_or, map, Option, Some, None, option_map, All, ◌↔◌, refl, sym, ap, subst, ◌∙◌, arith, append-nil}
+use Rattle.std.specs.Prelude.{AllPairs, Contains, slice_get}
+use Rattle.std.specs.List.{list_any}
+use Rattle.std.specs.Str.{bytes_eq}
+use Rattle.std.proofs.lemmas.List.Elements.{All-nil, All-cons, All-head, All-tail, All-contains, Contains-append_right}
+use Rattle.std.proofs.lemmas.List.{take_more, length-take-le}
+use Rattle.std.proofs.lemmas.Option.{slice_get-map, slice_get_within, get_or_from_slice_get}
+use Rattle.std.proofs.lemmas.Slice.Eq.{bytes_eq-Decides}
+use Rattle.ct_derive.specs.Pieces.{AreEarlier}
+use Rattle.ct_ledger.specs.Named.{is_known}
+use Rattle.ct_ledger.specs.Kind.{parts_of, names}
+use Rattle.ct_ledger.specs.Piece.{PieceValue, has_id}
+use Rattle.ct_ledger.specs.Codes.{codes_of}
+use Rattle.ct_ledger.specs.Standing.{AreStanding}
+use Rattle.ct_ledger.proofs.CodeLemmas.{known_where_taken}
+use Rattle.ct_ledger.proofs.MakingLemmas.{IsRight, none_missing, right_at, right-parts}
+use Rattle.ct_explain.specs.Parts.{places_where, part_places, parts_of_each}
+
+-- the places with one more item at the end
+pub places-push : {X : Type 0} (test : X → Bool) (k : ℕ) (xs : List X) (x : X)
+    → places_where test k (xs ++ x ∷ []) ≡ places_where test k xs ++ cond (test x) ((k + length xs) ∷ []) []
+places-push test k [] x = let here : k ≡ k + 0 = omega arith in ap (λ n. cond (test x) (n ∷ []) []) here
+places-push {X} test k (y ∷ xs) x = at (test y) (places-push test (k + 1) xs x) where
+  before : List ℕ
+  before = places_where test (k + 1) xs
+
+  last : k + 1 + length xs ≡ k + length (y ∷ xs)
+  last = omega arith
+
+  at : (b : Bool) → places_where test (k + 1) (xs ++ x ∷ []) ≡ before ++ cond (test x) ((k + 1 + length xs) ∷ []) []
+      → cond b (k ∷ places_where test (k + 1) (xs ++ x ∷ [])) (places_where test (k + 1) (xs ++ x ∷ [])) ≡ cond b (k ∷ before) before ++ cond (test x) ((k + length (y ∷ xs)) ∷ []) []
+  at true rest = ap (λ ps. k ∷ ps) (rest ∙ ap (λ n. before ++ cond (test x) (n ∷ []) []) last)
+  at false rest = rest ∙ ap (λ n. before ++ cond (test x) (n ∷ []) []) last
+
+-- the places among one item more: its own is one of them, or not
+places-more : {X : Type 0} (test : X → Bool) (xs : List X) (i : ℕ) (x : X) → i < length xs → x ≡ get_or xs i x
+    → places_where test 0 (take (i + 1) xs) ≡ places_where test 0 (take i xs) ++ cond (test x) (i ∷ []) []
+places-more {X} test xs i x within is =
+    let count : length (take i xs) ≡ i = length-take-le i xs (omega (arith, within)) in
+    let here : 0 + length (take i xs) ≡ i = omega (arith, count) in
+    ap (λ (ys : List X). places_where test 0 ys) (take_more xs i x within)
+    ∙ ap (λ (y : X). places_where test 0 (take i xs ++ y ∷ [])) (sym is)
+    ∙ places-push test 0 (take i xs) x
+    ∙ ap (λ (n : ℕ). places_where test 0 (take i xs) ++ cond (test x) (n ∷ []) []) here
+
+pub place_found : {X : Type 0} (test : X → Bool) (xs : List X) (i : ℕ) (x : X) → i < length xs → x ≡ get_or xs i x → test x ≡ true
+    → places_where test 0 (take i xs) ++ i ∷ [] ≡ places_where test 0 (take (i + 1) xs)
+place_found test xs i x within is holds =
+    sym (places-more test xs i x within is ∙ ap (λ (b : Bool). places_where test 0 (take i xs) ++ cond b (i ∷ []) []) holds)
+
+pub place_passed : {X : Type 0} (test : X → Bool) (xs : List X) (i : ℕ) (x : X) → i < length xs → x ≡ get_or xs i x → test x ≡ false
+    → places_where test 0 (take i xs) ≡ places_where test 0 (take (i + 1) xs)
+place_passed test xs i x within is fails =
+    sym
+    (places-more test xs i x within is ∙ ap (λ (b : Bool). places_where test 0 (take i xs) ++ cond b (i ∷ []) []) fails
+    ∙ append-nil (places_where test 0 (take i xs)))
+
+-- what holds of each place at which the test holds
+pub All-places : {X : Type 0} (P : ℕ → Type 0) (test : X → Bool) (k : ℕ) (xs : List X)
+    → ((i : ℕ) (x : X) → slice_get xs i ≡ Some x → test x ≡ true → P (k + i)) → All P (places_where test k xs)
+All-places P test k [] h = All-nil P
+All-places {X} P test k (x ∷ xs) h = at (test x) refl (All-places P test (k + 1) xs later) where
+  later : (i : ℕ) (y : X) → slice_get xs i ≡ Some y → test y ≡ true → P (k + 1 + i)
+  later i y is holds = let next : k + suc i ≡ k + 1 + i = omega arith in subst P next (h (suc i) y is holds)
+
+  at : (b : Bool) → test x ≡ b → All P (places_where test (k + 1) xs) → All P (cond b (k ∷ places_where test (k + 1) xs) (places_where test (k + 1) xs))
+  at true is rest = let here : k + 0 ≡ k = omega arith in All-cons P k (places_where test (k + 1) xs) (subst P here (h 0 x refl is)) rest
+  at false is rest = rest
+
+-- each place at which the test holds is there
+pub Contains-places : {X : Type 0} (test : X → Bool) (k : ℕ) (xs : List X) (i : ℕ) (x : X) → slice_get xs i ≡ Some x → test x ≡ true
+    → Contains (places_where test k xs) (k + i)
+Contains-places test k [] i x is holds = absurd cc
+Contains-places {X} test k (y ∷ xs) zero x is holds = at (test y) (ap test same ∙ holds) where
+  same : y ≡ x
+  same = cc
+
+  at : (b : Bool) → b ≡ true → Contains (cond b (k ∷ places_where test (k + 1) xs) (places_where test (k + 1) xs)) (k + 0)
+  at true is = let here : k ≡ k + 0 = omega arith in (0, omega arith, here)
+  at false is = absurd cc
+Contains-places {X} test k (y ∷ xs) (suc i) x is holds = at (test y) (Contains-places test (k + 1) xs i x is holds) where
+  next : k + 1 + i ≡ k + suc i
+  next = omega arith
+
+  at : (b : Bool) → Contains (places_where test (k + 1) xs) (k + 1 + i) → Contains (cond b (k ∷ places_where test (k + 1) xs) (places_where test (k + 1) xs)) (k + suc i)
+  at true rest = Contains-append_right (k ∷ []) (places_where test (k + 1) xs) (k + suc i) (subst (Contains (places_where test (k + 1) xs)) next rest)
+  at false rest = subst (Contains (places_where test (k + 1) xs)) next rest
+
+-- the parts of a piece are the pieces whose ids it names
+pub parts_named : (ps : List PieceValue) (p : PieceValue) (i : ℕ)
+    → Contains (part_places ps p) i ↔ ((q : PieceValue) × (slice_get ps i ≡ Some q) × (names p.evidence q.id ≡ true))
+parts_named ps p i = (from, to) where
+  test : PieceValue → Bool
+  test q = names p.evidence q.id
+
+  At : ℕ → Type 0
+  At n = (q : PieceValue) × (slice_get ps n ≡ Some q) × (test q ≡ true)
+
+  from : Contains (part_places ps p) i → At i
+  from has =
+      All-contains At (part_places ps p) i
+      (All-places At test 0 ps (λ j q is named. let here : j ≡ 0 + j = omega arith in subst At here (q, is, named))) has
+
+  to : At i → Contains (part_places ps p) i
+  to at = let here : 0 + i ≡ i = omega arith in subst (Contains (part_places ps p)) here (Contains-places test 0 ps i at.0 at.1 at.2)
+
+-- what holds of each id holds of one that is among them
+named_part : (P : List ℕ → Type 0) (ids : List (List ℕ)) (id : List ℕ) → All P ids → list_any (λ (part : List ℕ). bytes_eq part id) ids ≡ true → P id
+named_part P [] id h is = absurd cc
+named_part P (part ∷ ids) id h is = at (bytes_eq part id) refl is (named_part P ids id (All-tail P part ids h)) where
+  at : (b : Bool) → bytes_eq part id ≡ b → (b || list_any (λ (q : List ℕ). bytes_eq q id) ids) ≡ true
+      → (list_any (λ (q : List ℕ). bytes_eq q id) ids ≡ true → P id) → P id
+  at true same is later = subst P ((bytes_eq-Decides part id).0 same) (All-head P part ids h)
+  at false unlike is later = later is
+
+-- the ids of the pieces are different
+abbrev AreDifferent : List PieceValue → Type 0
+AreDifferent ps = AllPairs (λ (p q : PieceValue). p.id ≢ q.id) ps
+
+different-tail : (p : PieceValue) (ps : List PieceValue) → AreDifferent (p ∷ ps) → AreDifferent ps
+different-tail p ps h i j d before within = h (suc i) (suc j) d (omega (arith, before)) (omega (arith, within))
+
+different-first : (p : PieceValue) (ps : List PieceValue) (i : ℕ) (q : PieceValue) → AreDifferent (p ∷ ps) → slice_get ps i ≡ Some q → p.id ≢ q.id
+different-first p ps i q h is =
+    let within = slice_get_within ps i q is in
+    subst (λ (r : PieceValue). p.id ≢ r.id) (get_or_from_slice_get ps i q p is) (h 0 (suc i) p (omega arith) (omega (arith, within)))
+
+-- a piece whose id one of the first k has is among these
+among_first : (ps : List PieceValue) (k i : ℕ) (q : PieceValue) → AreDifferent ps → slice_get ps i ≡ Some q → has_id q.id (take k ps) ≡ true → i < k
+among_first [] k i q h is taken = absurd cc
+among_first (p ∷ ps) zero i q h is taken = absurd cc
+among_first (p ∷ ps) (suc k) zero q h is taken = omega arith
+among_first (p ∷ ps) (suc k) (suc i) q h is taken = at (bytes_eq p.id q.id) refl taken (among_first ps k i q (different-tail p ps h) is) where
+  at : (b : Bool) → bytes_eq p.id q.id ≡ b → (b || has_id q.id (take k ps)) ≡ true → (has_id q.id (take k ps) ≡ true → i < k) → suc i < suc k
+  at true same t later = absurd (different-first p ps i q h is ((bytes_eq-Decides p.id q.id).0 same))
+  at false unlike t later = let before = later t in omega (arith, before)
+
+-- the parts of a piece that stands are before it
+piece_earlier : (ps : List PieceValue) (k : ℕ) (p : PieceValue) → AreStanding ps → slice_get ps k ≡ Some p → All (λ i. i < k) (part_places ps p)
+piece_earlier ps k p h is = All-places (λ i. i < k) (λ q. names p.evidence q.id) 0 ps before where
+  known : All (λ (id : List ℕ). is_known id (codes_of (take k ps)) ≡ true) (parts_of p.evidence)
+  known =
+      let within = slice_get_within ps k p is in
+      let right = subst (λ (r : PieceValue). IsRight (codes_of (take k ps)) r.evidence) (get_or_from_slice_get ps k p p is) (right_at ps k p h.made within) in
+      none_missing (codes_of (take k ps)) (parts_of p.evidence) (right-parts (codes_of (take k ps)) p.evidence right)
+
+  before : (i : ℕ) (q : PieceValue) → slice_get ps i ≡ Some q → names p.evidence q.id ≡ true → 0 + i < k
+  before i q at named =
+      let there = named_part (λ (id : List ℕ). is_known id (codes_of (take k ps)) ≡ true) (parts_of p.evidence) q.id known named in
+      let first = among_first ps k i q h.different at (sym (known_where_taken q.id [] (take k ps)) ∙ there) in
+      omega (arith, first)
+
+pub parts_earlier : (ps : List PieceValue) → AreStanding ps → AreEarlier (parts_of_each ps)
+parts_earlier ps h k places at = of_piece (slice_get ps k) refl (sym (slice_get-map (part_places ps) ps k) ∙ at) where
+  of_piece : (found : Option PieceValue) → slice_get ps k ≡ found → option_map (part_places ps) found ≡ Some places → All (λ i. i < k) places
+  of_piece None is none = absurd cc
+  of_piece (Some p) is same =
+      let listed : part_places ps p ≡ places = cc in
+      subst (All (λ i. i < k)) listed (piece_earlier ps k p h is)
