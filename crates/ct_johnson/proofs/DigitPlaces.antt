@@ -38,7 +38,7 @@ places-sum test zero = refl
 places-sum test (suc n) = let before = places-sum test n in omega arith
 
 -- so many words have the digit at the place
-length-with_digit : (n a p : ℕ) (words : List ℕ) → length (with_digit n a p words) ≡ count_by (λ x. digit n x p == a) words
+pub length-with_digit : (n a p : ℕ) (words : List ℕ) → length (with_digit n a p words) ≡ count_by (λ x. digit n x p == a) words
 length-with_digit n a p words =
     length-shortened n (p ∷ []) (a ∷ []) words ∙ ap (λ (f : ℕ → Bool). count_by f words) (λ i x. alone (digit n x p == a) i)
   where

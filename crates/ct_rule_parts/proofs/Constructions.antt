@@ -57,8 +57,8 @@ zero_sum n x below = record {
 }
 
 -- the words 0 and 1..1 differ at each place
-pub HasCode-two : (n d : ℕ) → 1 ≤ n → d ≤ n → HasCode n d 2
-HasCode-two n d some near =
+pub IsCode-two : (n d : ℕ) → 1 ≤ n → d ≤ n → IsCode n d None (0 ∷ all_ones n ∷ [])
+IsCode-two n d some near =
     let y = all_ones n in
     let apart : distance n 0 y ≡ n =
     distance-is_weight n 0 y y (zero_sum n y (ones_lt n)) ∙ weight-ones n n (omega arith) in
@@ -69,7 +69,10 @@ HasCode-two n d some near =
     All-cons (AreFar n d 0) y [] (omega arith, omega arith) (All-nil (AreFar n d 0)) in
     let pairs : AllPairs (AreFar n d) (0 ∷ y ∷ []) =
     AllPairs-cons (AreFar n d) 0 (y ∷ []) far (λ i j z order within. absurd (omega arith)) in
-    (0 ∷ y ∷ [], code_from_far n d None (0 ∷ y ∷ []) below pairs tt, refl)
+    code_from_far n d None (0 ∷ y ∷ []) below pairs tt
+
+pub HasCode-two : (n d : ℕ) → 1 ≤ n → d ≤ n → HasCode n d 2
+HasCode-two n d some near = (0 ∷ all_ones n ∷ [], IsCode-two n d some near, refl)
 
 -- a 0 is added to each word
 pub HasCode-lengthened : (n d v : ℕ) → HasCode n d v → HasCode (n + 1) d v

@@ -9,18 +9,18 @@ use Rattle.std.proofs.lemmas.List.Kept.{AllPairs-cons}
 use Rattle.ct_words.specs.Word.{weight, distance}
 use Rattle.ct_words.proofs.WordLemmas.{IsSum-bit_xor, distance-is_weight, distance_comm, weight_any_length, weight-ones}
 use Rattle.ct_codes.specs.Entry.{constant_weight}
-use Rattle.ct_codes.specs.Code.{IsTrueLower}
+use Rattle.ct_codes.specs.Code.{IsCode, IsTrueLower}
 use Rattle.ct_constructions.specs.Joined.{followed_by}
 use Rattle.ct_constructions.specs.Translation.{all_ones}
 use Rattle.ct_constructions.proofs.FarWords.{AreFar, code_from_far}
 use Rattle.ct_constructions.proofs.JoinedLemmas.{followed_by-lt, weight-followed_by, distance-followed_by, words_wider}
 
 -- k words of w ones each, side by side: behind the ones are w·(k - 1), .., 2w, w, 0 places
-abbrev side_by_side : ℕ → ℕ → List ℕ
+abbrev pub side_by_side : ℕ → ℕ → List ℕ
 side_by_side w zero = []
 side_by_side w (suc k) = followed_by (w * k) (all_ones w) 0 ∷ side_by_side w k
 
-length-side_by_side : (w k : ℕ) → length (side_by_side w k) ≡ k
+pub length-side_by_side : (w k : ℕ) → length (side_by_side w k) ≡ k
 length-side_by_side w zero = refl
 length-side_by_side w (suc k) = ap suc (length-side_by_side w k)
 
@@ -81,14 +81,16 @@ far w (suc k) n some long =
     (omega arith, omega arith))
     (far w k n some (omega arith))
 
+-- where they fit into n places they are a code
+pub IsCode-side_by_side : (n w k : ℕ) → 1 ≤ w → w * k ≤ n → IsCode n (2 * w) (Some w) (side_by_side w k)
+IsCode-side_by_side n w k some long =
+    code_from_far n (2 * w) (Some w) (side_by_side w k) (words_wider (w * k) n (side_by_side w k) long (lengths w k))
+    (far w k n some long) (weights w k n long)
+
 -- ⌊n/w⌋ words of weight w with no one in common
 pub disjoint_code : (n w : ℕ) → 1 ≤ w → IsTrueLower (constant_weight n (2 * w) w) (n / w)
 disjoint_code n w some =
     let k = n / w in
     let parts = div-add-mod' n w in
-    let long : w * k ≤ n = omega arith in (
-      side_by_side w k,
-      code_from_far n (2 * w) (Some w) (side_by_side w k)
-          (words_wider (w * k) n (side_by_side w k) long (lengths w k)) (far w k n some long) (weights w k n long),
-      length-side_by_side w k,
-    )
+    let long : w * k ≤ n = omega arith in
+    (side_by_side w k, IsCode-side_by_side n w k some long, length-side_by_side w k)

@@ -1,0 +1,2 @@
+mod FewWords
+mod LeftWords
