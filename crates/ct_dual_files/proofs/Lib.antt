@@ -1,3 +1,7 @@
 mod EntryLemmas
 mod PairLemmas
-mod FormedDuals
+mod DualFieldLemmas
+pub mod DualAnswers
+pub mod JohnsonDualAnswers
+pub mod FormedDuals
+pub mod WrittenDuals

@@ -1,4 +1,5 @@
 pub mod Fields
 pub mod Dual
 pub mod WrittenDuals
+pub mod DualDocument
 pub mod Examples

@@ -7,6 +7,6 @@ mod laws;
 mod reading;
 mod written;
 
-pub use laws::known_documents;
+pub use laws::{answers_to_duals, duals_read_back, known_documents};
 pub use reading::{dual_of, johnson_dual_of};
 pub use written::{dual_table, johnson_dual_table};

@@ -1,0 +1,246 @@
+-- What the fields of a dual are, where they are read.
+use Rattle.std.proofs.Common.{◌≡◌, ℕ, suc, ◌%◌, ◌≤◌, Bool, true, false, not, ◌==◌, ◌&&◌, ◌||◌, nat_le, List, [], ◌∷◌, length, map, Option, Some, None, Result, Ok, Err, cond, inl, inr, refl, sym, ap, ◌∙◌, subst, le-leb, leb-true, eq-eqb, eqb-true, arith}
+use Rattle.std.specs.Prelude.{ℤ, pos, ◌≤ℤ◌, int_le, IsTrue, All, is_some}
+use Rattle.std.specs.List.{list_all}
+use Rattle.std.proofs.lemmas.Bool.{and_parts, and_from}
+use Rattle.std.proofs.lemmas.Int.{ints}
+use Rattle.std.proofs.lemmas.List.Elements.{All-head, All-tail}
+use Rattle.std.proofs.lemmas.Option.{option_and_then_some, cond_some}
+use Rattle.toml.specs.Data.{Data, string, integer, float, boolean, datetime, array, table, Items, no_items, item, get, as_integer, as_bool}
+use Rattle.toml.specs.View.{items_of}
+use Rattle.ct_words.specs.declared.limits.TheConstants.{MAX_N}
+use Rattle.ct_codes.specs.declared.entry.Entry.{Entry}
+use Rattle.ct_fields.specs.Field.{field_text}
+use Rattle.ct_fields.specs.Steps.{◌>>=◌, check}
+use Rattle.ct_fields.specs.Fields.{field, number_in}
+use Rattle.ct_fields.specs.StatedEntry.{has_field}
+use Rattle.ct_fields.specs.declared.field.FieldName.TheVariants as name
+use Rattle.ct_fields.specs.declared.fault.FileFault.{FileFault}
+use Rattle.ct_fields.specs.declared.fault.FileFault.TheVariants.{Field}
+use Rattle.ct_fields.proofs.StepLemmas.{bind-ok, bind-err, check-ok, check-err, ok_or-ok, ok_or-err}
+use Rattle.ct_fields.proofs.FieldLemmas.{number_in-some}
+use Rattle.ct_duals.specs.Dual.{degree_of, is_in_range}
+use Rattle.ct_duals.specs.Form.{are_multipliers, are_allowances_from, are_allowances}
+use Rattle.ct_duals.proofs.FormLemmas.{multipliers-from, allowances-from}
+use Rattle.ct_dual_files.specs.Fields.{integers_of, pair_in, pairs_of, multipliers_in, allowances_in, even_field, multipliers_field, allowances_field}
+use Rattle.ct_dual_files.specs.WrittenDuals.{integer_list, pair_data, pair_list}
+use Rattle.ct_dual_files.specs.DualDocument.{HasEven, HasMultipliers, AreAllowances, HasAllowances}
+
+-- a value that is a whole number, and one that is a truth value
+as_integer-some : (d : Data) (z : ℤ) → as_integer d ≡ Some z → d ≡ integer z
+as_integer-some (integer y) z e = let same : y ≡ z = cc in ap integer same
+as_integer-some (string s) z e = absurd cc
+as_integer-some (float x) z e = absurd cc
+as_integer-some (boolean b) z e = absurd cc
+as_integer-some (datetime t) z e = absurd cc
+as_integer-some (array ds) z e = absurd cc
+as_integer-some (table ms) z e = absurd cc
+
+as_bool-some : (d : Data) (b : Bool) → as_bool d ≡ Some b → d ≡ boolean b
+as_bool-some (boolean a) b e = let same : a ≡ b = cc in ap boolean same
+as_bool-some (string s) b e = absurd cc
+as_bool-some (integer z) b e = absurd cc
+as_bool-some (float x) b e = absurd cc
+as_bool-some (datetime t) b e = absurd cc
+as_bool-some (array ds) b e = absurd cc
+as_bool-some (table ms) b e = absurd cc
+
+-- whole numbers that are read are the items, and they are read from them
+integers_of-some : (ds : Items) (c : List ℤ) → integers_of ds ≡ Some c → ds ≡ items_of (map (λ z. integer z) c)
+integers_of-some no_items c e = let same : [] ≡ c = cc in rw (← same) refl
+integers_of-some (item d ds) c e =
+    option_and_then_some _ (as_integer d) c e (λ z z-is next.
+    option_and_then_some _ (integers_of ds) c next (λ more more-are last.
+    let same : z ∷ more ≡ c = cc in
+    let d-is = as_integer-some d z z-is in
+    rw (← same) (λ i. item (d-is i) (integers_of-some ds more more-are i))))
+
+integers_of-items : (c : List ℤ) → integers_of (items_of (map (λ z. integer z) c)) ≡ Some c
+integers_of-items [] = refl
+integers_of-items (z ∷ c) = rw (integers_of-items c) refl
+
+-- so with pairs whose indices are small
+pair_in-some : (d : Data) (p : ℕ × ℤ) → pair_in d ≡ Some p → d ≡ pair_data p
+pair_in-some (array (item i (item v no_items))) p e =
+    option_and_then_some _ (number_in 0 MAX_N i) p e (λ k k-is next.
+    option_and_then_some _ (as_integer v) p next (λ z z-is last.
+    let same : (k, z) ≡ p = cc in
+    let i-is = (number_in-some 0 MAX_N i k k-is).0 in
+    let v-is = as_integer-some v z z-is in
+    rw (← same) (λ j. array (item (i-is j) (item (v-is j) no_items)))))
+pair_in-some (array no_items) p e = absurd cc
+pair_in-some (array (item i no_items)) p e = absurd cc
+pair_in-some (array (item i (item v (item x ds)))) p e = absurd cc
+pair_in-some (string s) p e = absurd cc
+pair_in-some (integer z) p e = absurd cc
+pair_in-some (float x) p e = absurd cc
+pair_in-some (boolean b) p e = absurd cc
+pair_in-some (datetime t) p e = absurd cc
+pair_in-some (table ms) p e = absurd cc
+
+pairs_of-some : (ds : Items) (y : List (ℕ × ℤ)) → pairs_of ds ≡ Some y → ds ≡ items_of (map pair_data y)
+pairs_of-some no_items y e = let same : [] ≡ y = cc in rw (← same) refl
+pairs_of-some (item d ds) y e =
+    option_and_then_some _ (pair_in d) y e (λ p p-is next.
+    option_and_then_some _ (pairs_of ds) y next (λ more more-are last.
+    let same : p ∷ more ≡ y = cc in
+    let d-is = pair_in-some d p p-is in
+    rw (← same) (λ i. item (d-is i) (pairs_of-some ds more more-are i))))
+
+pairs_of-items : (y : List (ℕ × ℤ)) → All (λ p. p.0 ≤ MAX_N) y → pairs_of (items_of (map pair_data y)) ≡ Some y
+pairs_of-items [] small = refl
+pairs_of-items (p ∷ y) small =
+    rw (le-leb 0 p.0 (omega arith), le-leb p.0 MAX_N (All-head (λ (q : ℕ × ℤ). q.0 ≤ MAX_N) p y small), pairs_of-items y (All-tail (λ (q : ℕ × ℤ). q.0 ≤ MAX_N) p y small))
+    refl
+
+-- numbers of the form of multipliers pass the test
+nonneg-true : (z : ℤ) → pos 0 ≤ℤ z → int_le (pos 0) z ≡ true
+nonneg-true z h = grind (arith, ints)
+
+nonneg_all-true : (c : List ℤ) → All (λ z. pos 0 ≤ℤ z) c → list_all (λ z. int_le (pos 0) z) c ≡ true
+nonneg_all-true [] h = refl
+nonneg_all-true (z ∷ c) h =
+    and_from (int_le (pos 0) z) (list_all (λ y. int_le (pos 0) y) c) (nonneg-true z (All-head (λ y. pos 0 ≤ℤ y) z c h))
+    (nonneg_all-true c (All-tail (λ y. pos 0 ≤ℤ y) z c h))
+
+are_multipliers-true : (e : Entry) (c : List ℤ) → 1 ≤ length c → length c ≤ suc (degree_of e) → All (λ z. pos 0 ≤ℤ z) c → are_multipliers e c ≡ true
+are_multipliers-true e c some few all =
+    and_from (nat_le 1 (length c) && nat_le (length c) (suc (degree_of e))) (list_all (λ z. int_le (pos 0) z) c)
+    (and_from (nat_le 1 (length c)) (nat_le (length c) (suc (degree_of e))) (le-leb 1 (length c) some) (le-leb (length c) (suc (degree_of e)) few))
+    (nonneg_all-true c all)
+
+-- pairs of the form of allowances pass the test
+abbrev pub IsAllowance : Entry → Bool → ℕ × ℤ → Type 0
+IsAllowance e even p = IsTrue (is_in_range e even p.0) × (pos 0 ≤ℤ p.1)
+
+are_allowances_from-true : (e : Entry) (even : Bool) (low : ℕ) (y : List (ℕ × ℤ)) → All (λ p. low ≤ p.0) y → AreAllowances e even y
+    → are_allowances_from e even low y ≡ true
+are_allowances_from-true e even low [] above are = refl
+are_allowances_from-true e even low (p ∷ y) above (ascending, each) =
+    let here = All-head (IsAllowance e even) p y each in
+    and_from (nat_le low p.0 && is_in_range e even p.0 && int_le (pos 0) p.1) (are_allowances_from e even (suc p.0) y)
+    (and_from (nat_le low p.0 && is_in_range e even p.0) (int_le (pos 0) p.1)
+    (and_from (nat_le low p.0) (is_in_range e even p.0) (le-leb low p.0 (All-head (λ (q : ℕ × ℤ). low ≤ q.0) p y above)) here.0)
+    (nonneg-true p.1 here.1))
+    (are_allowances_from-true e even (suc p.0) y (λ k d l. ascending 0 (suc k) d (omega arith) (omega arith))
+    ((λ i j d l m. ascending (suc i) (suc j) d (omega arith) (omega arith)), All-tail (IsAllowance e even) p y each))
+
+-- an index of the range is small
+in_range-small : (e : Entry) (even : Bool) (i : ℕ) → degree_of e ≤ MAX_N → is_in_range e even i ≡ true → i ≤ MAX_N
+in_range-small e even i few h =
+    let two = and_parts (_ && nat_le i (degree_of e)) (not even || i % 2 == 0) h in
+    let one = and_parts _ (nat_le i (degree_of e)) two.0 in
+    let below = leb-true i (degree_of e) one.1 in
+    omega arith
+
+are-small : (e : Entry) (even : Bool) (y : List (ℕ × ℤ)) → degree_of e ≤ MAX_N → AreAllowances e even y → All (λ p. p.0 ≤ MAX_N) y
+are-small e even y few are k d within = in_range-small e even _ few (are.1 k d within).0
+
+-- the multipliers are read exactly where the field is a list of them
+multipliers_in-some : (e : Entry) (d : Data) (c : List ℤ) → multipliers_in e d ≡ Some c → (d ≡ integer_list c) × (are_multipliers e c ≡ true)
+multipliers_in-some e (array ds) c h =
+    option_and_then_some (λ c. cond (are_multipliers e c) (Some c) None) (integers_of ds) c h (λ x found is.
+    let (test, same) = cond_some (are_multipliers e x) x c is in
+    subst (λ c. (array ds ≡ integer_list c) × (are_multipliers e c ≡ true)) same (ap array (integers_of-some ds x found), test))
+multipliers_in-some e (string s) c h = absurd cc
+multipliers_in-some e (integer z) c h = absurd cc
+multipliers_in-some e (float x) c h = absurd cc
+multipliers_in-some e (boolean b) c h = absurd cc
+multipliers_in-some e (datetime t) c h = absurd cc
+multipliers_in-some e (table ms) c h = absurd cc
+
+pub multipliers-stated : (e : Entry) (document : Data) (c : List ℤ) → multipliers_field e document ≡ Ok c → HasMultipliers e document c
+multipliers-stated e document c h =
+    option_and_then_some (multipliers_in e) (get (field_text name.C) document) c (ok_or-ok _ (Field name.C) c h) (λ d found is.
+    let (d-is, test) = multipliers_in-some e d c is in
+    let (some, few, all) = multipliers-from e c test in
+    (found ∙ ap Some d-is, some, few, all))
+
+pub multipliers-read : (e : Entry) (document : Data) (c : List ℤ) → HasMultipliers e document c → multipliers_field e document ≡ Ok c
+multipliers-read e document c (has, some, few, all) = rw (has, integers_of-items c, are_multipliers-true e c some few all) refl
+
+pub multipliers-err : (e : Entry) (document : Data) (fault : FileFault) → multipliers_field e document ≡ Err fault → Field name.C ≡ fault
+multipliers-err e document fault h = (ok_or-err _ (Field name.C) fault h).1
+
+-- the allowances are read exactly where the field is a list of them, and are none where it is not there
+allowances_in-some : (e : Entry) (even : Bool) (d : Data) (y : List (ℕ × ℤ)) → allowances_in e even d ≡ Some y
+    → (d ≡ pair_list y) × (are_allowances e even y ≡ true)
+allowances_in-some e even (array ds) y h =
+    option_and_then_some (λ y. cond (are_allowances e even y) (Some y) None) (pairs_of ds) y h (λ x found is.
+    let (test, same) = cond_some (are_allowances e even x) x y is in
+    subst (λ y. (array ds ≡ pair_list y) × (are_allowances e even y ≡ true)) same (ap array (pairs_of-some ds x found), test))
+allowances_in-some e even (string s) y h = absurd cc
+allowances_in-some e even (integer z) y h = absurd cc
+allowances_in-some e even (float x) y h = absurd cc
+allowances_in-some e even (boolean b) y h = absurd cc
+allowances_in-some e even (datetime t) y h = absurd cc
+allowances_in-some e even (table ms) y h = absurd cc
+
+pub allowances-stated : (e : Entry) (even : Bool) (document : Data) (y : List (ℕ × ℤ)) → allowances_field e even document ≡ Ok y
+    → HasAllowances e even document y
+allowances-stated e even document y h = go (get (field_text name.Y) document) refl h
+  where
+    go : (o : Option Data) → get (field_text name.Y) document ≡ o
+        → cond (is_some o) (field (allowances_in e even) name.Y document) (Ok []) ≡ Ok y → HasAllowances e even document y
+    go None none h = let same : [] ≡ y = cc in inr (none, sym same)
+    go (Some value) there h =
+        option_and_then_some (allowances_in e even) (get (field_text name.Y) document) y (ok_or-ok _ (Field name.Y) y h) (λ d found is.
+        let (d-is, test) = allowances_in-some e even d y is in
+        let (above, ascending, each) = allowances-from e even 0 y test in
+        inl (found ∙ ap Some d-is, (ascending, each)))
+
+pub allowances-read : (e : Entry) (even : Bool) (document : Data) (y : List (ℕ × ℤ)) → degree_of e ≤ MAX_N → HasAllowances e even document y
+    → allowances_field e even document ≡ Ok y
+allowances-read e even document y few (inl (has, are)) =
+    rw (has, pairs_of-items y (are-small e even y few are), are_allowances_from-true e even 0 y (λ k d l. omega arith) are) refl
+allowances-read e even document y few (inr (none, empty)) = rw (none, empty) refl
+
+pub allowances-err : (e : Entry) (even : Bool) (document : Data) (fault : FileFault) → allowances_field e even document ≡ Err fault → Field name.Y ≡ fault
+allowances-err e even document fault h = go (has_field name.Y document) h
+  where
+    go : (b : Bool) → cond b (field (allowances_in e even) name.Y document) (Ok []) ≡ Err fault → Field name.Y ≡ fault
+    go false h = absurd cc
+    go true h = (ok_or-err _ (Field name.Y) fault h).1
+
+-- the mark is read exactly where it is stated
+even_passes : (even : Bool) (d : ℕ) → (not even || d % 2 == 0) ≡ true → even ≡ true → d % 2 ≡ 0
+even_passes true d passes set = eqb-true (d % 2) 0 passes
+even_passes false d passes set = absurd cc
+
+passes_even : (even : Bool) (d : ℕ) → (even ≡ true → d % 2 ≡ 0) → (not even || d % 2 == 0) ≡ true
+passes_even true d even = eq-eqb (d % 2) 0 (even refl)
+passes_even false d even = refl
+
+abbrev marked : ℕ → Data → Result Bool FileFault
+marked d document = field as_bool name.Even document >>= (λ even. check (not even || d % 2 == 0) (Field name.Even) >>= (λ _. Ok even))
+
+pub even-stated : (d : ℕ) (document : Data) (even : Bool) → even_field d document ≡ Ok even → HasEven d document even
+even-stated d document even h = go (get (field_text name.Even) document) refl h
+  where
+    go : (o : Option Data) → get (field_text name.Even) document ≡ o → cond (is_some o) (marked d document) (Ok false) ≡ Ok even
+        → HasEven d document even
+    go None none h = let same : false ≡ even = cc in inr (none, sym same)
+    go (Some value) there h =
+        let (b, found, rest) = bind-ok (field as_bool name.Even document) _ even h in
+        let (u, passes, last) = bind-ok (check (not b || d % 2 == 0) (Field name.Even)) _ even rest in
+        let same : b ≡ even = cc in
+        let stands = option_and_then_some as_bool (get (field_text name.Even) document) b (ok_or-ok _ (Field name.Even) b found)
+        (λ v found is. found ∙ ap Some (as_bool-some v b is)) in
+        subst (HasEven d document) same (inl (stands, even_passes b d (check-ok (not b || d % 2 == 0) (Field name.Even) u passes)))
+
+pub even-read : (d : ℕ) (document : Data) (even : Bool) → HasEven d document even → even_field d document ≡ Ok even
+even-read d document even (inl (has, fits)) = rw (has, passes_even even d fits) refl
+even-read d document even (inr (none, unset)) = rw (none, unset) refl
+
+pub even-err : (d : ℕ) (document : Data) (fault : FileFault) → even_field d document ≡ Err fault → Field name.Even ≡ fault
+even-err d document fault h = go (has_field name.Even document) h
+  where
+    go : (b : Bool) → cond b (marked d document) (Ok false) ≡ Err fault → Field name.Even ≡ fault
+    go false h = absurd cc
+    go true h = elim (bind-err (field as_bool name.Even document) _ fault h) [
+      | inl wrong ↦ (ok_or-err _ (Field name.Even) fault wrong).1
+      | inr (b, found, rest) ↦ elim (bind-err (check (not b || d % 2 == 0) (Field name.Even)) _ fault rest) [
+        | inl odd ↦ (check-err (not b || d % 2 == 0) (Field name.Even) fault odd).1
+        | inr (u, passed, last) ↦ absurd cc
+      ]
+    ]
