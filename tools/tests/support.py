@@ -1,0 +1,38 @@
+"""What the tests of the tools share."""
+
+import os
+import shutil
+import subprocess
+import sys
+import unittest
+from pathlib import Path
+
+TOOLS = Path(__file__).resolve().parent.parent
+TOP = TOOLS.parent
+DATA = TOOLS / "tests" / "data"
+sys.path.insert(0, str(TOOLS))
+
+HAS_PROGRAM = bool(os.environ.get("CODE_TABLES")) or (TOP / "crates/ct_program/out/ct_program").exists()
+needs_program = unittest.skipUnless(HAS_PROGRAM, "the program isn't built")
+
+
+def needs(command):
+    """Skips a test where a command isn't there."""
+    return unittest.skipUnless(shutil.which(command), f"{command} isn't there")
+
+
+def run(*words, text="", **more):
+    """Runs a tool: its output, what it said on standard error, its status."""
+    ended = subprocess.run([sys.executable, str(TOOLS / words[0]), *map(str, words[1:])], input=text.encode(), cwd=TOP, capture_output=True, **more)
+    return ended.stdout.decode(), ended.stderr.decode(), ended.returncode
+
+
+def session(text, mode="session"):
+    """What the program answers in a mode."""
+    from sessions import program
+    return subprocess.run([*program(), mode], input=text.encode(), stdout=subprocess.PIPE).stdout.decode()
+
+
+def data(name):
+    """A stored text."""
+    return (DATA / name).read_text()

@@ -1,0 +1,81 @@
+"""Words become submissions, which the program accepts."""
+
+import random
+import unittest
+
+from support import needs_program, run, session
+
+
+def text(words, n):
+    return "".join(f"{word:0{n}b}\n" for word in words)
+
+
+def span(basis):
+    sums = [0]
+    for word in basis:
+        sums += [word ^ other for other in sums]
+    return sums
+
+
+def large():
+    """The 4,096 words of Golay's code, as shifts of one word with a parity digit, in a random order."""
+    words = span([int("101011100011" + "0" * 11, 2) >> shift << 1 | 1 for shift in range(12)])
+    random.Random(1).shuffle(words)
+    return words
+
+
+class SubmitWords(unittest.TestCase):
+    def test_words_with_one_weight(self):
+        out, said, status = run("submit_words.py", "pairs", text="1100\n0011\n")
+        self.assertEqual((said, status), ("", 0))
+        self.assertIn('kind = "words"\nn = 4\nd = 4\nw = 2\nwords = ["1100", "0011"]\nend\n', out)
+
+    def test_no_weight_is_stated_where_asked(self):
+        self.assertNotIn("w = ", run("submit_words.py", "pairs", "--no-weight", text="1100\n0011\n")[0])
+
+    def test_digits_may_be_separated(self):
+        self.assertIn('words = ["10110", "01001"]', run("submit_words.py", "a", text="[ 1, 0, 1, 1, 0 ]\n# a remark\n\n0 1 0 0 1\n")[0])
+
+    def test_many_words_become_cosets(self):
+        words = large()
+        out, _, status = run("submit_words.py", "many", text=text(words, 24))
+        self.assertEqual(status, 0)
+        self.assertLess(len(out), 900)
+        self.assertIn('kind = "cosets"\nn = 24\nd = 8\n', out)
+        self.assertIn("# 4096 words of length 24 at distance 8, over a kernel of dimension 12", out)
+
+    def test_five_cosets_keep_their_kernel(self):
+        kernel = span([0b111100000000, 0b000011110000, 0b000000001111])
+        words = [x ^ y for x in kernel for y in (0, 0b110011000000, 0b000011001100, 0b101010100000)]
+        out, _, status = run("submit_words.py", "five", "--distance", "3", text=text(words, 12))
+        self.assertEqual(status, 0, out)
+        self.assertIn("32 words of length 12 at distance 4, over a kernel of dimension 3", out)
+
+    def test_a_generator_matrix(self):
+        out, _, status = run("submit_words.py", "hamming", "--generator", text="1000011\n0100101\n0010110\n0001111\n1100110\n")
+        self.assertEqual(status, 0)
+        self.assertIn("16 words of length 7 at distance 3", out)
+        self.assertIn('representatives = ["0000000"]', out)
+
+    def test_faults_are_named_and_nothing_is_written(self):
+        for words, more, fault in [
+                ("", [], "there is no word"), ("01\n012\n", [], "line 2 is no word"), ("01\n011\n", [], "line 2 has 3 digits"),
+                ("0110\n# x\n0110\n", [], "line 3 has the word of line 1 again"), ("0000\n0011\n", [], "the distance is 2"),
+                ("0000\n", [], "one word has no distance"), ("1110\n0001\n", ["--distance", "5"], "the distance is 4, below the stated 5"),
+                ("0" * 29 + "\n", [], "the words have length 29"), ]:
+            with self.subTest(fault=fault):
+                out, said, status = run("submit_words.py", "a", *more, text=words)
+                self.assertEqual((out, status), ("", 1))
+                self.assertIn("submit_words: refused: " + fault, said)
+        self.assertIn("Bad is no id", run("submit_words.py", "Bad", text="0000\n1111\n")[1])
+
+    @needs_program
+    def test_the_program_accepts_them(self):
+        made = [run("submit_words.py", "pairs", text="1100\n0011\n")[0], run("submit_words.py", "many", text=text(large(), 24))[0],
+                run("submit_words.py", "one", "--distance", "28", text="01\n")[0],
+                run("submit_words.py", "hamming", "--generator", text="1000011\n0100101\n0010110\n0001111\n")[0]]
+        self.assertEqual(session("".join(made)), "accepted pairs size 2\naccepted many size 4096\naccepted one size 1\naccepted hamming size 16\n")
+
+
+if __name__ == "__main__":
+    unittest.main()
