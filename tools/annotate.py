@@ -1,0 +1,148 @@
+#!/usr/bin/env python3
+"""Puts each reply of the program beside its command, and says what a refusal means there.
+
+    $ printf 'submit a\\nkind = "words"\\nn = 6\\nd = 4\\nwords = ["000000", "111000"]\\nend\\nshow 6 4\\n' > /tmp/two.session
+    $ printf 'refused close 0 1 3\\nA(6,4) = 4\\n' | tools/annotate.py /tmp/two.session
+    1: submit a: refused close 0 1 3
+        I < J is the least pair of places, in the same order, whose words have a distance T below d. Of cosets, I and J are numbers of choices
+        (below), and T is 0 where two choices give one word
+        word 0  000000
+        word 1  111000, at distance 3 and not 4
+        the least distance of all 2 words is 3
+    7: show 6 4: A(6,4) = 4
+
+SESSION is the session, and standard input what the program answered to it. The sentence of a refusal is that of docs/FORMATS.md; below it
+stand the words of a pair that is too close, the least distance of the whole list, the range of a field, the piece that stands in the way.
+With --refused only refusals are shown. Ends with 1 where there is one, as the program does."""
+
+import argparse
+import re
+import sys
+import textwrap
+
+import sessions
+from sessions import Refusal, words_of
+from submit_words import distance, representatives, span
+
+# The ranges of the fields, as docs/FORMATS.md says them.
+RANGES = {
+    "n": "a whole number from 1 to 28; for some builds at least 2, or even",
+    "d": "a whole number from 3 to 28, even where `w` stands",
+    "w": "a whole number from 0 to n; whether it may stand, or has to, the kind and the operation say",
+    "words": "a list of texts", "basis": "a list of texts", "representatives": "a list of texts", "classes": "a list of lists of texts",
+    "d1": "a whole number from 1 to d", "op": "the text of one of the operations",
+    "places": "a list of at least one place, ascending, each below the part's length, which is at most 28",
+    "digits": "a text, with a digit for each place", "by": "a text of n digits", "size": "a whole number from 1 to 262144",
+    "part": "the text of an id", "other": "the text of an id", "pairs": "1 to 29 lists of two ids; exactly one where `w` is left out",
+    "even": "true or false; true only where d is even", "c": "a list of whole numbers of at least 0, as many as the degree and one more at most",
+    "y": "a list of pairs of a distance, ascending from d to n, even where `even` is set, and a whole number of at least 0",
+}
+
+
+def sentences(document):
+    """The patterns of the refusals with the sentences of docs/FORMATS.md."""
+    found = []
+    for line in sessions.read_text(document).split("\n"):
+        row = re.match(r"\| `refused ([^`]*)` \| (.*) \|$", line)
+        if row:
+            found.append((" ".join("\\S+" if word.isupper() else re.escape(word) for word in row[1].split()), row[2].replace("`", "")))
+    return found
+
+
+def meanings(command, reply, known):
+    """The sentences on a refusal: of two that have one text, those on a withdrawal are for a withdrawal."""
+    said = [sentence for pattern, sentence in known if re.fullmatch(pattern, reply.removeprefix("refused "))]
+    of_withdrawals = command.words[0] == "withdraw"
+    return [sentence for sentence in said if ("withdraw" in sentence) == of_withdrawals] or said
+
+
+def stated_words(fields):
+    """The words of a document in the order in which they are numbered, with a basis and representatives where it has these."""
+    n = fields["n"]
+    if fields["kind"] == "cosets":
+        basis, chosen = ([int(word, 2) for word in fields[name]] for name in ("basis", "representatives"))
+        return (lambda t: chosen[t >> len(basis)] ^ span(basis)[t & (1 << len(basis)) - 1]), basis, chosen, n
+    listed = fields.get("words") or [word for words in fields["classes"] for word in words]
+    words = [int(word, 2) for word in listed]
+    return words.__getitem__, [], words, n
+
+
+def closeness(command, numbers):
+    """What a pair that is too close looks like, and how close the whole list is."""
+    word, basis, chosen, n = stated_words(command.fields)
+    first, second = numbers[:2]
+    apart = (word(first) ^ word(second)).bit_count()
+    wanted = numbers[5] if len(numbers) > 5 else command.fields["d"]
+    yield f"word {first}  {word(first):0{n}b}"
+    yield f"word {second}  {word(second):0{n}b}, at distance {apart}" + (f" and not {wanted}" if apart else ": the same word")
+    if len(set(chosen)) == len(chosen) and not (basis and 0 in span(basis)[1:]):
+        size = len(chosen) << len(basis)
+        yield f"the least distance of all {size} words is {distance(chosen, basis)}"
+
+
+def particulars(command, words):
+    """What the words of a refusal are in this session."""
+    fault, rest = words[1], words[2:]
+    numbers = [int(word) for word in rest if word.isdigit()]
+    if fault in ("close", "repeated"):
+        yield from closeness(command, numbers)
+    elif fault in ("weight", "digits"):
+        fields = command.fields
+        lists = [text for name in ("basis", "representatives", "words", "classes", "by", "digits") for text in listed(fields.get(name, []))]
+        yield f"word {rest[0]}  {lists[numbers[0]]}" + (f", of weight {lists[numbers[0]].count('1')} and not {fields['w']}" if fault == "weight" else "")
+    elif fault == "field" and rest[0] in RANGES:
+        stated = command.fields.get(rest[0])
+        yield f"{rest[0]} is {RANGES[rest[0]]}; " + ("it is missing" if stated is None else f"the document has {str(stated)[:60]}")
+    elif fault == "kind":
+        yield f"the document has the kind {command.fields.get('kind')!r}"
+    elif fault == "short":
+        yield f"the operation gives distance {rest[0]}, and the document states {rest[1]}"
+
+
+def listed(value):
+    """The texts in a value: itself, or those in its lists."""
+    return [value] if isinstance(value, str) else [text for item in value for text in listed(item)]
+
+
+def shown(reply):
+    """A reply behind its command: on the same line where it is one."""
+    if not reply:
+        return " no reply: the program ended before it"
+    return f" {reply[0]}" if len(reply) == 1 else "\n    ".join(["", *reply])
+
+
+def annotated(session, output, known, refused_only):
+    """The lines that are written, each with whether a reply was a refusal so far."""
+    some = False
+    for command, reply in sessions.replies(sessions.commands(session), output):
+        refused = bool(reply) and reply[0].startswith("refused ") and command.words != ["ledger"]
+        some = some or refused
+        if not refused_only or refused or not reply:
+            yield f"{command.line}: {' '.join(command.words)}:{shown(reply)}", some
+        for sentence in meanings(command, reply[0], known) if refused else []:
+            yield textwrap.fill(sentence, 144, initial_indent="    ", subsequent_indent="    "), some
+        if refused:
+            try:
+                yield from ((f"    {line}", some) for line in particulars(command, words_of(reply[0])))
+            except (KeyError, IndexError, TypeError, ValueError):
+                yield "    (the document isn't one to which these numbers belong)", some
+
+
+def main():
+    parser = argparse.ArgumentParser(description=__doc__, formatter_class=argparse.RawDescriptionHelpFormatter)
+    parser.add_argument("session", help="the session that was run")
+    parser.add_argument("--refused", action="store_true", help="show refusals alone")
+    parser.add_argument("--formats", default=sessions.TOP / "docs/FORMATS.md", help="the document with the sentences (docs/FORMATS.md)")
+    options = parser.parse_args()
+    some = False
+    try:
+        for line, some in annotated(sessions.read_text(options.session), sys.stdin.read(), sentences(options.formats), options.refused):
+            print(line)
+    except Refusal as refusal:
+        sys.stdout.flush()
+        sys.exit(f"annotate: refused: {refusal}")
+    sys.exit(some)
+
+
+if __name__ == "__main__":
+    main()
