@@ -1,0 +1,146 @@
+# Submissions of GUAVA's codes, for GAP: SubmitCode("id", C) prints the submission of a binary code, linear or not.
+#
+#     gap> Read("tools/code_tables.g");
+#     gap> SubmitCode("hamming", HammingCode(3, GF(2)));
+#     # a linear [7,4,3]1 Hamming (3,2) code over GF(2)
+#     submit hamming
+#     kind = "cosets"
+#     n = 7
+#     d = 3
+#     basis = ["1110000", "1001100", "0101010", "1101001"]
+#     representatives = ["0000000"]
+#     end
+#
+# SubmitCode("id", C, "FILE") appends it to a file. The distance is computed by GUAVA's MinimumDistance from the words, not taken from what the
+# code's constructor says of it. A code of one word has no distance there: state one as SubmitCode("id", C, "FILE" or "", d). The words of an
+# unrestricted code are written one by one, with their weight where all have the same; tools/submit_words.py writes them over their kernel.
+# What is refused is an error that says why, and nothing is written. The program checks all of it anew.
+
+LoadPackage("guava", false);
+
+# The digits of a codeword.
+CodeTables_Digits := word -> Concatenation(List(VectorCodeword(word), function(x)
+    if IsZero(x) then return "0"; fi;
+    return "1";
+end));
+
+# A key with a list of texts.
+CodeTables_List := function(name, texts)
+    local text;
+    text := JoinStringsWithSeparator(List(texts, t -> Concatenation("\"", t, "\"")), ", ");
+    if Length(text) > 100 then
+        text := Concatenation("\n  ", JoinStringsWithSeparator(List(texts, t -> Concatenation("\"", t, "\"")), ",\n  "));
+    fi;
+    return Concatenation(name, " = [", text, "]\n");
+end;
+
+# The least distance of a list of words, infinity for one word.
+CodeTables_Distance := function(words)
+    local least, i, j;
+    least := infinity;
+    for i in [1 .. Length(words)] do
+        for j in [1 .. i - 1] do
+            least := Minimum(least, Number([1 .. Length(words[i])], p -> words[i][p] <> words[j][p]));
+        od;
+    od;
+    return least;
+end;
+
+# Refuses what the documents have no form for.
+CodeTables_Check := function(id, code)
+    local first, rest;
+    first := "abcdefghijklmnopqrstuvwxyz";
+    rest := Concatenation(first, "0123456789-_");
+    if Length(id) < 1 or Length(id) > 32 or not id[1] in first or not ForAll(id, c -> c in rest) then
+        Error("code_tables: refused: \"", id, "\" is no id: 1 to 32 lower-case letters, digits, - and _, a letter first");
+    fi;
+    if not IsCode(code) or Size(LeftActingDomain(code)) <> 2 then
+        Error("code_tables: refused: no binary code");
+    fi;
+    if WordLength(code) > 28 then
+        Error("code_tables: refused: the code has length ", WordLength(code), ", and the table ends at 28");
+    fi;
+end;
+
+# The distance to state: that of the code, or the stated one, which is no greater.
+CodeTables_Stated := function(d, stated)
+    if stated <> fail then
+        if d < stated then
+            Error("code_tables: refused: the distance is ", d, ", below the stated ", stated);
+        fi;
+        d := stated;
+    fi;
+    if d = infinity then
+        Error("code_tables: refused: one word has no distance: state one");
+    fi;
+    if d < 3 or d > 28 then
+        Error("code_tables: refused: the distance is ", d, ", and the table has the distances 3 to 28");
+    fi;
+    return d;
+end;
+
+# The keys of a linear code: a basis of it, and the zero word.
+CodeTables_Linear := function(code)
+    local basis, zero;
+    zero := ListWithIdenticalEntries(WordLength(code), '0');
+    basis := [];
+    if Dimension(code) > 0 then
+        basis := List(GeneratorMat(code), row -> CodeTables_Digits(Codeword(row)));
+    fi;
+    return Concatenation(CodeTables_List("basis", basis), CodeTables_List("representatives", [zero]));
+end;
+
+# The keys of any other code: its words, and their weight where all have the same.
+CodeTables_Words := function(words, d)
+    local weights, text;
+    weights := Set(words, x -> Number(x, c -> c = '1'));
+    text := "";
+    if Length(weights) = 1 and IsEvenInt(d) then
+        text := Concatenation("w = ", String(weights[1]), "\n");
+    fi;
+    return Concatenation(text, CodeTables_List("words", words));
+end;
+
+# The submission of a code, as a text.
+CodeTables_Submission := function(id, code, stated)
+    local linear, words, d, kind, keys;
+    CodeTables_Check(id, code);
+    linear := IsLinearCode(code);
+    words := [];
+    if not linear then
+        words := Set(List(AsSSortedList(code), CodeTables_Digits));
+        d := CodeTables_Distance(words);
+    elif Dimension(code) > 0 then
+        d := MinimumDistance(GeneratorMatCode(GeneratorMat(code), GF(2)));
+    else
+        d := infinity;
+    fi;
+    d := CodeTables_Stated(d, stated);
+    if linear then
+        kind := "cosets";
+        keys := CodeTables_Linear(code);
+    else
+        kind := "words";
+        keys := CodeTables_Words(words, d);
+    fi;
+    return Concatenation("# ", String(code), "\nsubmit ", id, "\nkind = \"", kind, "\"\nn = ", String(WordLength(code)), "\nd = ", String(d), "\n",
+        keys, "end\n");
+end;
+
+# SubmitCode(id, code[, file[, distance]]): see above.
+SubmitCode := function(id, code, more...)
+    local stated, text, stream;
+    stated := fail;
+    if Length(more) > 1 then
+        stated := more[2];
+    fi;
+    text := CodeTables_Submission(id, code, stated);
+    if Length(more) > 0 and more[1] <> "" then
+        AppendTo(more[1], text);
+    else
+        stream := OutputTextUser();
+        SetPrintFormattingStatus(stream, false);
+        PrintTo(stream, text);
+        CloseStream(stream);
+    fi;
+end;

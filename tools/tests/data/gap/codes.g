@@ -1,0 +1,14 @@
+Read("tools/code_tables.g");
+SubmitCode("hamming", HammingCode(3, GF(2)));
+SubmitCode("golay", ExtendedBinaryGolayCode());
+SubmitCode("residues17", ExtendedCode(QRCode(17, GF(2))));
+SubmitCode("hadamard11", HadamardCode(12, 1));
+SubmitCode("conference9", ConferenceCode(9));
+SubmitCode("pair", ElementsCode(["1100", "0011"], GF(2)));
+SubmitCode("zero", NullCode(5, GF(2)), "", 5);
+SubmitCode("far", RepetitionCode(5, GF(2)), "", 6);
+SubmitCode("Upper", RepetitionCode(5, GF(2)));
+SubmitCode("long", RepetitionCode(29, GF(2)));
+SubmitCode("near", WholeSpaceCode(4, GF(2)));
+SubmitCode("one", ElementsCode(["1100"], GF(2)));
+SubmitCode("field", RepetitionCode(5, GF(3)));
