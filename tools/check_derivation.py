@@ -1,0 +1,561 @@
+#!/usr/bin/env python3
+"""Checks a derivation document, as `explain` writes it, without the program: it was written from the descriptions of the formats and the
+rules alone (docs/FORMATS.md, docs/RULES.md) and shares no code with the program. It answers as the program's `verify` does.
+
+    $ printf 'derivation\\nline 1 upper 11 6 4 value 6 by V8\\ndone\\n' | tools/check_derivation.py
+    yes
+    $ printf 'derivation\\nline 1 upper 11 6 4 value 5 by V8\\ndone\\n' | tools/check_derivation.py
+    no 2 value 5 6
+
+Ends with 0 after `yes` and with 1 after `no`. Documents of evidence are read by Python's tomllib, which knows TOML 1.0, and not the
+few forms that 1.1 adds."""
+
+import argparse
+import re
+import sys
+import tomllib
+from itertools import accumulate, combinations
+from math import comb
+
+MAX = 2 ** 28
+
+
+class No(Exception):
+    """The reason why a line fails."""
+
+
+def require(condition, why="form"):
+    if not condition:
+        raise No(why)
+
+
+def ball(n, radius):
+    """The number of words within a distance of a word."""
+    return sum(comb(n, j) for j in range(radius + 1))
+
+
+def up(a, b):
+    """a / b, rounded up."""
+    return -(-a // b)
+
+
+def in_table(entry):
+    """Whether the table has an entry."""
+    n, d, w = (*entry, None)[:3]
+    return 1 <= n <= 28 and 3 <= d <= 28 and (w is None or d % 2 == 0 and w <= n)
+
+
+def krawtchouk(n, k, i):
+    return sum((-1) ** j * comb(i, j) * comb(n - i, k - j) for j in range(min(i, k) + 1))
+
+
+def johnson(n, w, k, i):
+    total, factorial = 0, list(accumulate(range(1, k + 1), lambda a, b: a * b, initial=1))
+    for j in range(min(i, k) + 1):
+        total += (-1) ** j * comb(i, j) ** 2 * factorial[j] * comb(w - i, k - j) * comb(n - w - i, k - j) * factorial[k - j]
+    return total
+
+
+# ---- the rules: each gives the premises and what is made of their values, or nothing where it isn't defined. `formula` may give nothing.
+
+def number(value):
+    """A rule without premises."""
+    return [], lambda: value
+
+
+def same(*entry):
+    """A rule that hands on the value of one premise."""
+    return [entry], lambda v: v
+
+
+def choose(condition, rule):
+    """A rule where its condition holds."""
+    return rule if condition else None
+
+
+def plotkin(n, d):
+    n, d = n + d % 2, d + d % 2
+    return number(2 * (d // (2 * d - n))) if d <= n < 2 * d else choose(n == 2 * d, number(4 * d))
+
+
+def johnson_bound(n, d):
+    half, most = (d + 1) // 2, n // ((d + 1) // 2)
+
+    def bound(u):
+        rest = comb(n, half) - comb(d, half - 1) * u
+        return 2 ** n * most // (most * ball(n, half - 1) + rest) if rest > 0 else None
+    return choose(d % 2 and d <= n, ([(n, d + 1, d)], bound))
+
+
+def sums(n, d):
+    m = n // 2
+    plain = ([(m, d)], lambda a: 2 ** (m - 1) * a) if d < 5 else ([(m, up(d, 2)), (m, d)], lambda a, b: a * b)
+    return choose(n % 2 == 0, plain)
+
+
+def sum_class(n, d, w, r):
+    count = [[1] + [0] * (n - 1)] + [[0] * n for _ in range(w)]
+    for place in range(n):
+        for k in range(w, 0, -1):
+            count[k] = [have + count[k - 1][(s - place) % n] for s, have in enumerate(count[k])]
+    return choose(d == 4 and r < n and count[w][r % n], number(count[w][r % n]))
+
+
+def column_pairs(n, d, w):
+    for m in range(2, 1001 if 2 * w >= d else 0):
+        q, r = divmod(w * m, n)
+        if n * q * (q - 1) + 2 * q * r > (w - d // 2) * m * (m - 1):
+            return number(m - 1)
+    return None
+
+
+def named(pieces, entry, name, *kinds):
+    """The piece of a name, where it is of one of the kinds and of the entry."""
+    piece = pieces.get(name)
+    return piece if piece and piece.kind in kinds and piece.entry == entry else None
+
+
+def size_of(pieces, entry, name):
+    piece = named(pieces, entry, name, "words", "cosets", "build", "product")
+    return number(piece.size()) if piece else None
+
+
+def johnson_dual_bound(pieces, entry, name):
+    piece = named(pieces, entry, name, "jdual")
+    return number(piece.f(0) // piece.c[0]) if piece else None
+
+
+def dual_bound(pieces, entry, name):
+    piece = named(pieces, entry, name, "dual")
+    n, d = entry
+    charged = [(i, y) for i, y in piece.y.items() if y] if piece else []
+
+    def bound(*values):
+        products = [(2 * i >= 2 * n - d, y * u) for (i, y), u in zip(charged, values)]
+        far, near = ([p for is_far, p in products if is_far == side] for side in (True, False))
+        return (piece.f(0) + max(far, default=0) + sum(near)) // piece.c[0]
+    return choose(piece, ([(n, 2 * up(d, 2), i) for i, _ in charged], bound))
+
+
+PLAIN = {
+    "L1": lambda n, d: number(1),
+    "L2": lambda n, d: choose(d <= n, number(2)),
+    "L3": lambda n, d: same(n - 1, d),
+    "L4": lambda n, d: same(n, d + 1),
+    "L5": lambda n, d: choose(d % 2 == 0, same(n - 1, d - 1)),
+    "L6": lambda n, d: same(n + 1, d + 1),
+    "L7": lambda n, d: ([(n + 1, d)], lambda v: up(v, 2)),
+    "L8": sums,
+    "L9": lambda n, d, w: same(n, 2 * up(d, 2), w),
+    "L11": lambda n, d, m, c: choose(1 <= m < n and c >= 3 and d - c >= 3, ([(m, c), (n - m, d - c)], min)),
+    "U0": lambda n, d: number(2 ** n),
+    "U1": lambda n, d: choose(d > n, number(1)),
+    "U2": plotkin,
+    "U3": lambda n, d: number(2 ** n // ball(n, (d - 1) // 2)),
+    "U4": lambda n, d: choose(d % 2, same(n + 1, d + 1)),
+    "U5": lambda n, d: same(n - 1, d - 1),
+    "U6": lambda n, d: ([(n - 1, d)], lambda v: 2 * v),
+    "U7": lambda n, d: same(n, d - 1),
+    "U8": lambda n, d: same(n + 1, d),
+    "U9": johnson_bound,
+    "U10": lambda n, d, w: choose(w <= n, ([(n, d, w)], lambda v: 2 ** (n - 1) * v // comb(n, w))),
+}
+WEIGHTED = {
+    "M1": lambda n, d, w: number(1),
+    "M2": lambda n, d, w: choose(2 * w == d, number(2 * n // d)),
+    "M3": lambda n, d, w: same(n - 1, d, w),
+    "M4": lambda n, d, w: choose(w >= 1, same(n - 1, d, w - 1)),
+    "M5": lambda n, d, w: ([(n + 1, d, w + 1)], lambda v: up((w + 1) * v, n + 1)),
+    "M6": lambda n, d, w: ([(n + 1, d, w)], lambda v: up((n + 1 - w) * v, n + 1)),
+    "M7": lambda n, d, w: same(n, d, n - w),
+    "M8": lambda n, d, w: same(n, d + 2, w),
+    "M9": sum_class,
+    "V0": lambda n, d, w: number(comb(n, w)),
+    "V1": lambda n, d, w: choose(d > 2 * min(w, n - w), number(1)),
+    "V2": lambda n, d, w: choose(d == 2 * w, number(n // max(w, 1))),
+    "V3": lambda n, d, w: same(n, d, n - w),
+    "V4": lambda n, d, w: choose(w >= 1, ([(n - 1, d, w - 1)], lambda v: n * v // w)),
+    "V5": lambda n, d, w: choose(w < n, ([(n - 1, d, w)], lambda v: n * v // (n - w))),
+    "V6": lambda n, d, w: choose(1 <= w <= n - 1, ([(n - 1, d, w), (n - 1, d, w - 1)], lambda a, b: a + b)),
+    "V7": lambda n, d, w: same(n, d - 2, w),
+    "V8": column_pairs,
+}
+NAMING = {"L10": (2, size_of), "M10": (3, size_of), "U11": (2, dual_bound), "V9": (3, johnson_dual_bound)}
+ARGUMENTS = {"L9": 1, "L10": 1, "L11": 2, "M9": 1, "M10": 1, "U10": 1, "U11": 1, "V9": 1}
+
+
+def rule_at(pieces, name, entry, arguments):
+    """A rule at an entry, or nothing where it isn't defined there: where its condition fails, or a premise is outside the table."""
+    if name in NAMING:
+        length, make = NAMING[name]
+        rule = make(pieces, entry, arguments[0]) if len(entry) == length else None
+    else:
+        make = (PLAIN if len(entry) == 2 else WEIGHTED).get(name)
+        rule = make(*entry, *arguments) if make else None
+    return rule if rule and all(map(in_table, rule[0])) else None
+
+
+# ---- evidence: each kind reads its fields in order, then is checked
+
+KINDS = ("words", "cosets", "partition", "build", "product", "dual", "jdual")
+OPERATIONS = {"lengthen": (), "append_one": (), "parity": (), "puncture": ("places",), "shorten": ("places", "digits"),
+              "translate": ("by",), "complement": (), "select": ("by",), "uuv": (), "juxtapose": (), "trim": ("size",)}
+ID = re.compile("[a-z][a-z0-9_-]{0,31}")
+
+
+def is_number(value, least, most=2 ** 63):
+    return type(value) is int and least <= value <= most
+
+
+def is_list(value, fits):
+    return isinstance(value, list) and all(map(fits, value))
+
+
+def is_texts(value):
+    return is_list(value, lambda text: isinstance(text, str))
+
+
+def is_id(value):
+    return isinstance(value, str) and bool(ID.fullmatch(value))
+
+
+def is_ascending(numbers):
+    return all(a < b for a, b in zip(numbers, numbers[1:]))
+
+
+def is_whole(value):
+    """Whether each whole number of a value is one of 64 bits."""
+    if isinstance(value, (dict, list)):
+        return all(map(is_whole, value.values() if isinstance(value, dict) else value))
+    return type(value) is not int or -2 ** 63 <= value < 2 ** 63
+
+
+class Piece:
+    """A piece of evidence: read from its document, then checked over the pieces before it."""
+
+    def __init__(self, document):
+        if len(document) > 4194304:
+            raise No(f"bytes {len(document)}")
+        try:
+            self.table = tomllib.loads(document.removeprefix(b"\xef\xbb\xbf").decode())
+        except (ValueError, RecursionError):
+            raise No("toml") from None
+        require(is_whole(self.table), "toml")
+        self.kind = self.table.get("kind")
+        require(self.kind in KINDS, "kind")
+        weighted, op = self.kind not in ("cosets", "dual") and "w" in self.table, self.table.get("op")
+        even = weighted or self.kind == "jdual" or self.kind == "build" and op == "select"
+        self.known, self.lists, self.parts, self.y, self.w = {"kind"}, [], [], {}, None
+        self.n = self.field("n", lambda v: is_number(v, 1, 28))
+        self.d = self.field("d", lambda v: is_number(v, 3, 28) and not (even and v % 2))
+        if weighted or self.kind == "jdual":
+            self.w = self.field("w", lambda v: is_number(v, 0, self.n))
+        self.entry = (self.n, self.d) if self.w is None else (self.n, self.d, self.w)
+        getattr(self, "read_" + self.kind)()
+        require(not set(self.table) - self.known, "unknown")
+        for at, (word, length) in enumerate((word, length) for words, length in self.lists for word in words):
+            require(re.fullmatch("[01]{%d}" % length, word), f"digits {at}")
+        self.numbers = [[int(word, 2) for word in words] for words, _ in self.lists]
+        for size, most in self.counts():
+            require(0 < size <= most, f"size {size}")
+
+    def field(self, name, fits, default=None):
+        """The value at a key, refused where it doesn't fit."""
+        self.known.add(name)
+        if name not in self.table and default is not None:
+            return default
+        require(name in self.table and fits(self.table[name]), f"field {name}")
+        return self.table[name]
+
+    def read_words(self):
+        self.lists = [(self.field("words", is_texts), self.n)]
+
+    def read_cosets(self):
+        self.lists = [(self.field(name, is_texts), self.n) for name in ("basis", "representatives")]
+
+    def read_partition(self):
+        self.between = self.field("d1", lambda v: is_number(v, 1, self.d))
+        self.lists = [(words, self.n) for words in self.field("classes", lambda v: is_list(v, is_texts))]
+
+    def read_product(self):
+        most = 1 if self.w is None else 29
+        pairs = self.field("pairs", lambda v: is_list(v, lambda p: is_list(p, is_id) and len(p) == 2) and 1 <= len(v) <= most)
+        self.parts = [name for pair in pairs for name in pair]
+
+    def read_dual(self):
+        even = self.field("even", lambda v: v is False or v is True and self.d % 2 == 0, default=False)
+        self.c = self.field("c", lambda v: is_list(v, lambda x: is_number(x, 0)) and 1 <= len(v) <= self.n + 1)
+        self.range = [i for i in range(self.d, self.n + 1) if not even or i % 2 == 0]
+        self.y = dict(self.field("y", lambda v: is_list(v, lambda p: is_list(p, lambda x: is_number(x, 0)) and len(p) == 2
+                                                        and p[0] in self.range) and is_ascending([i for i, _ in v]), default=[]))
+
+    def read_jdual(self):
+        self.range = range(self.d // 2, min(self.w, self.n - self.w) + 1)
+        self.c = self.field("c", lambda v: is_list(v, lambda x: is_number(x, 0)) and 1 <= len(v) <= min(self.w, self.n - self.w) + 1)
+
+    def read_build(self):
+        self.op = op = self.field("op", lambda v: isinstance(v, str) and v in OPERATIONS)
+        require(not (op in ("lengthen", "append_one", "parity", "juxtapose") and self.n < 2 or op == "uuv" and self.n % 2), "field n")
+        require(op != "select" if self.w is None else op not in ("puncture", "translate", "uuv"), "field w")
+        own, self.places = OPERATIONS[op], []
+        if "places" in own:
+            self.places = self.field("places", lambda v: is_list(v, lambda p: is_number(p, 0, self.n + len(v) - 1)) and v
+                                     and is_ascending(v) and self.n + len(v) <= 28)
+        for name, length in ("digits", len(self.places)), ("by", self.n):
+            if name in own:
+                self.lists = [([self.field(name, lambda v: isinstance(v, str))], length)]
+        self.most = self.field("size", lambda v: is_number(v, 1, 262144)) if "size" in own else 0
+        self.parts = [self.field(name, is_id) for name in ("part", "other")[:1 + (op in ("uuv", "juxtapose"))]]
+
+    def counts(self):
+        """The numbers of words, or classes, that have to be at least 1, each with the most that it may be."""
+        sizes = [len(words) for words, _ in self.lists]
+        if self.kind == "cosets":
+            return [(sizes[0], 28)] * (sizes[0] > 28) + [(sizes[1], 4096)]
+        if self.kind == "partition":
+            return [(len(sizes), 4096), *((size, 2 ** 64) for size in sizes), (sum(sizes), 16384)]
+        return [(sizes[0], 16384)] if self.kind == "words" else []
+
+    def f(self, i):
+        """The dual's sum at an index."""
+        return sum(c * (krawtchouk(self.n, k, i) if self.w is None else johnson(self.n, self.w, k, i)) for k, c in enumerate(self.c) if c)
+
+    def check(self, pieces):
+        """Refuses what isn't as stated, over the pieces before."""
+        for name in self.parts:
+            require(name in pieces, f"nosuch {name}")
+        self.stored = sum(map(len, self.numbers))
+        parts = [pieces[name] for name in self.parts]
+        getattr(self, "check_" + ("dual" if self.kind == "jdual" else self.kind))(*([parts] if parts else []))
+
+    def check_words(self):
+        check_list(self.numbers[0], self.w, self.d)
+        self.code = sorted(self.numbers[0])
+
+    def check_cosets(self):
+        basis, self.chosen = self.numbers
+        self.sums, count, k = span(basis), len(self.chosen), len(basis)
+        require(count * (count + 1) // 2 << k <= 2 ** 24, f"work {count * (count + 1) // 2 << k}")
+        for a, one in enumerate(self.chosen):
+            for b in range(a, count):
+                for s, distance in enumerate(map(int.bit_count, map((one ^ self.chosen[b]).__xor__, self.sums))):
+                    require(distance >= self.d or a == b and s == 0, f"close {a << k} {(b << k) + s} {distance}")
+
+    def check_partition(self):
+        words, of = [word for one in self.numbers for word in one], [i for i, one in enumerate(self.numbers) for _ in one]
+        check_list(words, self.w, 1)
+        for i, j in combinations(range(len(words)), 2):
+            distance, need = (words[i] ^ words[j]).bit_count(), self.d if of[i] == of[j] else self.between
+            require(distance >= need, f"close {i} {j} {distance} classes {of[i]} {of[j]} need {need}")
+
+    def check_product(self, parts):
+        for at, part in enumerate(parts):
+            first = parts[at - at % 2]
+            fits = part.kind == "partition" and (part.n + first.n == self.n if at % 2 else part.n == parts[0].n)
+            fits = fits and (self.w is None or part.w is not None and (at % 2 == 0 or part.w + first.w == self.w))
+            require(fits, f"part {self.parts[at]}")
+        self.pairs = list(zip(parts[::2], parts[1::2]))
+        distances = [min(x.d, y.d, x.between + y.between) for x, y in self.pairs]
+        distances += [2 * abs(x.w - z.w) for (x, _), (z, _) in combinations(self.pairs, 2)]
+        require(min(distances) >= self.d, f"short {min(distances)} {self.d}")
+
+    def check_dual(self):
+        require(self.c[0], "lead")
+        for i in self.range:
+            require(self.f(i) <= self.y.get(i, 0), f"above {i} {self.f(i)} {self.y.get(i, 0)}")
+
+    def size(self):
+        """The number of words of the piece's code."""
+        if self.kind == "cosets":
+            return len(self.chosen) * len(self.sums)
+        if self.kind == "product":
+            return sum(len(a) * len(b) for x, y in self.pairs for a, b in zip(x.numbers, y.numbers))
+        return len(self.code)
+
+    def words(self):
+        """The words of the piece's code, ascending."""
+        if self.kind == "cosets":
+            return sorted(a ^ s for s in self.sums for a in self.chosen)
+        if self.kind == "product":
+            return sorted(a << y.n | b for x, y in self.pairs for one, other in zip(x.numbers, y.numbers) for a in one for b in other)
+        return self.code
+
+    def fits(self, part, first):
+        """Whether a part of a build has the length and the weight that the operation asks for; `first` is the part before it."""
+        if self.op == "juxtapose":
+            length = part.n < self.n if first is None else part.n + first.n == self.n
+            return length and (self.w is None or part.w is not None and (first is None or part.w + first.w == self.w))
+        length = self.n // 2 if self.op == "uuv" else self.n + len(self.places) - (self.op in ("lengthen", "append_one", "parity"))
+        if self.w is None or self.op == "select" or part.w is None or part.n != length:
+            return part.n == length and (part.w is None if self.op == "select" else self.w is None)
+        ones = self.lists[0][0][0].count("1") if self.op == "shorten" else 0
+        return self.w == {"append_one": part.w + 1, "parity": up(part.w, 2) * 2, "complement": self.n - part.w}.get(self.op, part.w - ones)
+
+    def check_build(self, parts):
+        for at, part in enumerate(parts):
+            fits = part.kind in ("words", "cosets", "build", "product") and self.fits(part, parts[0] if at else None)
+            require(fits, f"part {self.parts[at]}")
+        d, e, sizes = parts[0].d, parts[-1].d, [part.size() for part in parts]
+        distance = {"parity": d + d % 2, "puncture": max(0, d - len(self.places)), "select": d + d % 2, "uuv": min(2 * d, e),
+                    "juxtapose": d + e}.get(self.op, d)
+        require(distance >= self.d, f"short {distance} {self.d}")
+        for size in sizes + [sizes[0] * sizes[-1]] * (self.op == "uuv"):
+            require(size <= 262144, f"size {size}")
+        require(self.op != "trim" or sizes[0] >= self.most, f"few {sizes[0]} {self.most}")
+        self.code = sorted(self.built([part.words() for part in parts], parts[-1].n))
+        self.stored = len(self.code)
+        require(self.code, "empty")
+
+    def built(self, codes, length):
+        """The words of the construction."""
+        code = codes[0]
+        if self.op in ("puncture", "shorten"):
+            digits = self.lists[0][0][0] if self.op == "shorten" else None
+            texts = [f"{x:0{length}b}" for x in code]
+            return {int("".join(b for p, b in enumerate(x) if p not in self.places), 2) for x in texts
+                    if digits is None or "".join(x[p] for p in self.places) == digits}
+        by = self.numbers[0][0] if self.op in ("translate", "select") else 2 ** self.n - 1
+        return {
+            "lengthen": lambda: [2 * x for x in code],
+            "append_one": lambda: [2 * x + 1 for x in code],
+            "parity": lambda: [2 * x + x.bit_count() % 2 for x in code],
+            "translate": lambda: [x ^ by for x in code],
+            "complement": lambda: [x ^ by for x in code],
+            "select": lambda: [x ^ by for x in code if (x ^ by).bit_count() == self.w],
+            "uuv": lambda: [u << length | u ^ v for u in code for v in codes[1]],
+            "juxtapose": lambda: [a << length | b for a, b in zip(*codes)],
+            "trim": lambda: code[:self.most],
+        }[self.op]()
+
+
+def span(basis):
+    """The sums of basis words: the word number s has the basis word j where s has 2^j."""
+    sums = [0]
+    for word in basis:
+        sums += [word ^ other for other in sums]
+    return sums
+
+
+def check_list(words, w, d):
+    """Refuses the first word of another weight, the first pair of equal words, the first pair that is too close."""
+    for i, word in enumerate(words):
+        require(w is None or word.bit_count() == w, f"weight {i}")
+    last = {word: i for i, word in enumerate(words)}
+    for i, word in enumerate(words):
+        require(last[word] == i, f"repeated {i} {words.index(word, i + 1) if last[word] != i else i}")
+    for i, word in enumerate(words if d > 1 else []):
+        distances = list(map(int.bit_count, map(word.__xor__, words[i + 1:])))
+        if min(distances, default=d) < d:
+            j = next(j for j, distance in enumerate(distances) if distance < d)
+            raise No(f"close {i} {i + 1 + j} {distances[j]}")
+
+
+# ---- the document
+
+def words_of(line):
+    """The words of a line, in ASCII."""
+    require(line.isascii())
+    return [word for word in line.decode().removesuffix("\r").split(" ") if word]
+
+
+def value_of(word):
+    """The number that a word writes."""
+    require(re.fullmatch("0|[1-9][0-9]{0,19}", word) and int(word) < 2 ** 64)
+    return int(word)
+
+
+def read_block(lines, at):
+    """The id and the document of a block of evidence, and the place behind it."""
+    words = words_of(lines[at])
+    require(len(words) in (2, 4) and is_id(words[1]))
+    if len(words) == 4:
+        require(words[2] == "lines" and value_of(words[3]) >= 1)
+        stop = behind = at + 1 + value_of(words[3])
+        require(stop <= len(lines))
+    else:
+        stop = next((i for i in range(at + 1, len(lines)) if lines[i] in (b"end", b"end\r")), None)
+        require(stop is not None)
+        behind = stop + 1
+    return words[1], b"\n".join(lines[at + 1:stop]), behind
+
+
+def read_line(words, at):
+    """The side, entry, value, rule, arguments and named lines that a line states."""
+    require(len(words) > 3 and words[0] == "line" and value_of(words[1]) == at and words[2] in ("lower", "upper") and "value" in words)
+    stop = words.index("value")
+    entry = tuple(map(value_of, words[3:stop]))
+    require(len(entry) in (2, 3) and in_table(entry) and len(words) > stop + 3 and words[stop + 2] == "by")
+    value, name = value_of(words[stop + 1]), words[stop + 3]
+    require(1 <= value <= MAX and (name in PLAIN or name in WEIGHTED or name in NAMING))
+    require((name[0] in "LM") == (words[2] == "lower"))
+    arguments, rest = words[stop + 4:stop + 4 + ARGUMENTS.get(name, 0)], words[stop + 4 + ARGUMENTS.get(name, 0):]
+    require(len(arguments) == ARGUMENTS.get(name, 0) and (not rest or rest[0] == "from" and len(rest) > 1))
+    if name in NAMING:
+        require(is_id(arguments[0]))
+    else:
+        arguments = list(map(value_of, arguments))
+    return words[2], entry, value, name, arguments, list(map(value_of, rest[1:]))
+
+
+def check_line(stated, claims, pieces):
+    """The claim of a line, refused where the line is no instance of its rule."""
+    side, entry, value, name, arguments, sources = stated
+    rule = rule_at(pieces, name, entry, arguments)
+    require(rule, "rule")
+    premises, formula = rule
+    require(len(sources) == len(premises) and all(1 <= p <= len(claims) for p in sources), "premise")
+    require(all(claims[p - 1][:2] == (side, premise) for p, premise in zip(sources, premises)), "premise")
+    gives = formula(*(claims[p - 1][2] for p in sources))
+    require(gives is not None and (side == "upper" or 1 <= gives <= MAX), "rule")
+    gives = min(gives, MAX)
+    require(value == gives, f"value {value} {gives}")
+    return side, entry, value
+
+
+def verdict(document):
+    """The verdict on a document, in bytes: `yes`, or the first text line that fails and why."""
+    lines, at = document.split(b"\n"), 0
+    lines = lines[:-1] if lines[-1] == b"" else lines
+    pieces, claims, stored, done = {}, [], 0, False
+    try:
+        require(lines and words_of(lines[0]) == ["derivation"])
+        at = 1
+        while at < len(lines):
+            words = words_of(lines[at])
+            require(not done and words)
+            if words[0] == "evidence" and not claims:
+                name, text, behind = read_block(lines, at)
+                try:
+                    require(name not in pieces, "taken")
+                    require(len(pieces) < 1000, "full pieces 1000")
+                    piece = Piece(text)
+                    piece.check(pieces)
+                    stored += piece.stored
+                    require(stored <= 1000000, f"full words {stored}")
+                except No as why:
+                    raise No(f"evidence {why}") from None
+                pieces[name] = piece
+                at = behind
+                continue
+            if words == ["done"]:
+                require(claims)
+                done = True
+            else:
+                claims.append(check_line(read_line(words, len(claims) + 1), claims, pieces))
+            at += 1
+        require(done)
+    except No as why:
+        return f"no {at + 1} {why}"
+    return "yes"
+
+
+def main():
+    parser = argparse.ArgumentParser(description=__doc__, formatter_class=argparse.RawDescriptionHelpFormatter)
+    parser.parse_args()
+    said = verdict(sys.stdin.buffer.read())
+    print(said)
+    sys.exit(said != "yes")
+
+
+if __name__ == "__main__":
+    main()

@@ -1,0 +1,162 @@
+"""Derivations are checked as the program's `verify` checks them."""
+
+import random
+import re
+import unittest
+
+from support import TOP, needs_program, run, session
+
+import check_derivation
+import sessions
+
+DUAL = """derivation
+evidence d13
+kind = "dual"
+n = 13
+d = 6
+even = true
+c = [5, 1, 1]
+y = [[10, 16], [12, 48]]
+end
+line 1 upper 13 6 3 value 4 by V2
+line 2 upper 13 6 10 value 4 by V3 from 1
+line 3 upper 13 6 12 value 1 by V1
+line 4 upper 13 6 value 32 by U11 d13 from 2 3
+done
+"""
+PAIR = "evidence pair lines 4\nkind = 'words'\nn = 3\nd = 3\nwords = ['000', '111']\n"
+
+# Lines of a document between `derivation` and `done`, and the verdict.
+VERDICTS = [
+    ("line 1 upper 11 6 4 value 6 by V8", "yes"),
+    ("line 1 upper 11 6 4 value 6 by V8\r", "yes"),
+    ("line  1 upper 11 6 4  value 6 by V8 ", "yes"),
+    ("line 1 upper 11 6 4 value 7 by V8", "no 2 value 7 6"),
+    ("line 2 upper 11 6 4 value 6 by V8", "no 2 form"),
+    ("line 1 lower 11 6 4 value 6 by V8", "no 2 form"),
+    ("line 1 upper 11 5 4 value 6 by V8", "no 2 form"),
+    ("line 1 upper 11 6 value 6 by V8", "no 2 rule"),
+    ("line 1 upper 29 6 value 6 by U0", "no 2 form"),
+    ("line 1 upper 28 3 value 268435456 by U0", "yes"),
+    ("line 1 upper 28 3 value 268435457 by U0", "no 2 form"),
+    ("line 1 upper 28 3 value 0 by U0", "no 2 form"),
+    ("line 1 upper 28 3 value 01 by U0", "no 2 form"),
+    ("line 1 upper 28 3 value 1 by U99", "no 2 form"),
+    ("line 1 upper 28 3 value 268435456 by U0 0", "no 2 form"),
+    ("line 1 upper 28 3 value 268435456 by U0 from", "no 2 form"),
+    ("line 1 upper 28 3 value 268435456 by U0 from 1", "no 2 premise"),
+    ("line 1 upper 28 4 value 1 by U10", "no 2 form"),
+    ("line 1 upper 28 4 value 1 by U10 29", "no 2 rule"),
+    ("line 1 upper 28 4 value 1 by U10 99999999999999999999", "no 2 form"),
+    ("line 1 upper 28 4 value 1 by U10 0 from 1", "no 2 premise"),
+    ("line 1 lower 8 4 value 1 by L1\nline 2 lower 9 4 value 1 by L3 from 1", "yes"),
+    ("line 1 lower 8 4 value 1 by L1\nline 2 lower 9 4 value 1 by L3 from 2", "no 3 premise"),
+    ("line 1 lower 8 4 value 1 by L1\nline 2 lower 9 4 value 1 by L3 from 0", "no 3 premise"),
+    ("line 1 lower 8 4 value 1 by L1\nline 2 lower 10 4 value 1 by L3 from 1", "no 3 premise"),
+    ("line 1 lower 1 4 value 1 by L3 from 1", "no 2 rule"),
+    ("line 1 lower 6 4 3 value 4 by M9 0", "yes"),
+    ("line 1 lower 6 4 3 value 3 by M9 1", "yes"),
+    ("line 1 lower 6 6 3 value 4 by M9 0", "no 2 rule"),
+    ("line 1 upper 15 6 5 value 45 by V4 from 1", "no 2 premise"),
+    (PAIR + "line 1 lower 3 3 value 2 by L10 pair", "yes"),
+    (PAIR + "line 1 lower 3 3 value 2 by L10 pairs", "no 7 rule"),
+    (PAIR + "line 1 lower 3 3 value 2 by L10 Pair", "no 7 form"),
+    (PAIR + "line 1 lower 4 3 value 2 by L10 pair", "no 7 rule"),
+    (PAIR + "line 1 upper 3 3 value 2 by U11 pair", "no 7 rule"),
+    (PAIR + PAIR + "line 1 lower 3 3 value 2 by L10 pair", "no 7 evidence taken"),
+    (PAIR.replace("'111'", "'011'") + "line 1 lower 3 3 value 2 by L10 pair", "no 2 evidence close 0 1 2"),
+    (PAIR.replace("lines 4", "lines 0") + "line 1 lower 3 3 value 2 by L10 pair", "no 2 form"),
+    (PAIR.replace("lines 4", "lines 40"), "no 2 form"),
+    ("evidence pair\nkind = 'words'", "no 2 form"),
+    ("line 1 lower 3 3 value 2 by L2\n" + PAIR, "no 3 form"),
+    ("# a remark", "no 2 form"),
+    ("", "no 2 form"),
+    ("line 1 lower 3 3 value 2 by L2\n\u00e9", "no 3 form"),
+]
+
+
+def mutated(document, chance):
+    """A document with one change of a line: a digit or a word exchanged, a line left out or put twice."""
+    lines = document.split("\n")
+    at = chance.choice([i for i, line in enumerate(lines) if line.startswith(("line ", "done", "derivation", "evidence "))])
+    way = chance.randrange(4)
+    if way == 0:
+        spots = [m.start() for m in re.finditer("[0-9]", lines[at])]
+        for spot in chance.sample(spots, min(1, len(spots))):
+            lines[at] = lines[at][:spot] + chance.choice("0123456789") + lines[at][spot + 1:]
+    elif way == 1:
+        words = lines[at].split(" ")
+        words[chance.randrange(len(words))] = chance.choice(["upper", "lower", "from", "L3", "U5", "V3", "1", "2", "28", ""])
+        lines[at] = " ".join(words)
+    elif way == 2:
+        del lines[at]
+    else:
+        lines.insert(at, lines[at])
+    return "\n".join(lines)
+
+
+class CheckDerivation(unittest.TestCase):
+    def test_verdicts(self):
+        for lines, verdict in VERDICTS:
+            with self.subTest(lines=lines):
+                self.assertEqual(check_derivation.verdict(f"derivation\n{lines}\ndone\n".encode()), verdict)
+
+    def test_documents_that_end_too_early_or_too_late(self):
+        line = b"line 1 lower 3 3 value 2 by L2\n"
+        for document, verdict in [(b"", "no 1 form"), (b"derivation", "no 2 form"), (b"derivation\n" + line, "no 3 form"),
+                                  (b"derivation\ndone\n", "no 2 form"), (b"derivation\n" + line + b"done\n\n", "no 4 form"),
+                                  (b"derivation\n" + line + b"done", "yes"), (b"Derivation\n" + line + b"done\n", "no 1 form")]:
+            with self.subTest(document=document):
+                self.assertEqual(check_derivation.verdict(document), verdict)
+
+    def test_a_dual(self):
+        for old, new, verdict in [("32 by", "32 by", "yes"), ("32 by", "31 by", "no 13 value 31 32"), ("12, 48", "12, 47", "no 2 evidence above 12 48 47"),
+                                  ("from 2 3", "from 3 2", "no 13 premise"), ("c = [5", "c = [0", "no 2 evidence lead")]:
+            with self.subTest(new=new):
+                self.assertEqual(run("check_derivation.py", text=DUAL.replace(old, new)), (verdict + "\n", "", int(verdict != "yes")))
+
+    def test_builds_and_partitions(self):
+        partition = "evidence p4 lines 5\nkind = 'partition'\nn = 4\nd = 4\nd1 = 2\nclasses = [['0000', '1111'], ['0011', '1100'], ['0101', '1010']]\n"
+        product = "evidence e8 lines 4\nkind = 'product'\nn = 8\nd = 4\npairs = [['p4', 'p4']]\n"
+        trim = "evidence t lines 6\nkind = 'build'\nop = 'trim'\nn = 8\nd = 4\nsize = 9\npart = 'e8'\n"
+        for lines, verdict in [(partition + product + "line 1 lower 8 4 value 12 by L10 e8", "yes"),
+                               (partition + product + trim + "line 1 lower 8 4 value 9 by L10 t", "yes"),
+                               (partition + trim + "line 1 lower 8 4 value 9 by L10 t", "no 8 evidence nosuch e8"),
+                               (partition + "line 1 lower 4 4 value 6 by L10 p4", "no 8 rule")]:
+            with self.subTest(lines=lines):
+                self.assertEqual(check_derivation.verdict(f"derivation\n{lines}\ndone\n".encode()), verdict)
+
+    @needs_program
+    def test_the_program_says_the_same(self):
+        chance, documents = random.Random(1), [f"derivation\n{lines}\ndone\n" for lines, _ in VERDICTS] + [DUAL]
+        if session(DUAL, "verify") != "yes\n":
+            self.skipTest("this program verifies nothing yet")
+        for file in sorted((TOP / "examples").glob("*.session")):
+            documents += explanations(file.read_text())
+        documents += [mutated(chance.choice(documents), chance) for _ in range(60)]
+        for document in documents:
+            with self.subTest(document=document):
+                self.assertEqual(session(document, "verify"), check_derivation.verdict(document.encode()) + "\n")
+
+    @needs_program
+    def test_explanations_of_the_examples_are_derivations(self):
+        checked = 0
+        for file in sorted((TOP / "examples").glob("*.session")):
+            for document in explanations(file.read_text()):
+                self.assertEqual(check_derivation.verdict(document.encode()), "yes", document)
+                checked += 1
+        if not checked:
+            self.skipTest("this program explains nothing yet")
+
+
+def explanations(text):
+    """What the program answers to `explain` for both sides of each entry that a session shows."""
+    asked = [command for command in sessions.commands(text) if command.words[0] == "show"]
+    more = "".join(f"explain {side} {' '.join(command.words[1:])}\n" for command in asked for side in ("lower", "upper"))
+    whole = text.removesuffix("\n") + "\n" + more
+    return ["\n".join(reply) + "\n" for command, reply in sessions.replies(sessions.commands(whole), session(whole))
+            if command.words[0] == "explain" and reply and not reply[0].startswith("refused")]
+
+
+if __name__ == "__main__":
+    unittest.main()
