@@ -1,0 +1,108 @@
+#!/usr/bin/env python3
+"""Writes how a bound can be cited: its value, what each side rests on with the sources, and what the numbers were made by.
+
+    tools/cite.py 16 6 examples/nordstrom-robinson.session
+    tools/cite.py 24 8 8 examples/library/*.session
+
+N D, or N D W, and then the sessions, which are run one behind the other. The pieces of each side are those of its derivation, with what the
+document cites or, where it cites nothing, the remarks right above the submission; the rules are those of the derivation, with their sources
+from docs/RULES.md. Then come the commit of the program's sources, the toolchain that proved them with the hash of its logic, and the hash of
+the sessions. The same as BibTeX stands below; `--bibtex` gives that alone."""
+
+import argparse
+import re
+import sys
+
+import sessions
+import table
+from sessions import Refusal, name_of
+
+
+def rule_sources():
+    """The source of each rule, as docs/RULES.md has it."""
+    found = {}
+    for line in sessions.read_text(sessions.TOP / "docs/RULES.md").split("\n"):
+        cells = [cell.strip() for cell in line.strip("|").split("|")]
+        if re.fullmatch("[LMUV][0-9]+", cells[0]) and len(cells) > 4:
+            found.setdefault(cells[0], cells[3])
+    return found
+
+
+def rules_of(derivation):
+    """The rules of a derivation, in order, each once."""
+    names = [words[words.index("by") + 1] for words in (line.split(" ") for line in derivation.lines)]
+    return list(dict.fromkeys(names))
+
+
+def side_lines(held, side, entry, value):
+    """What one bound rests on, line by line."""
+    yield f"{side} bound {value}"
+    derivation = held.derivations.get((side, entry))
+    if derivation is None:
+        yield "  this build of the program gives no derivations"
+        return
+    for piece in table.resting(held, derivation.ids):
+        size = "" if piece.size is None else f", {piece.size} words" if piece.size != 1 else ", 1 word"
+        yield f"  evidence {piece.id} ({piece.kind} of {name_of(piece.entry)}{size})" + (f": {' '.join(piece.sources)}" if piece.sources else "")
+    sources = rule_sources()
+    for rule in rules_of(derivation):
+        yield f"  rule {rule}" + (f": {sources[rule]}" if rule in sources else "")
+
+
+def as_text(held, entry):
+    """The citation as a text."""
+    low, high = held.bounds[entry]
+    lines = [f"{name_of(entry)} = {low}" if low == high else f"{low} <= {name_of(entry)} <= {high}"]
+    for side, value in ("lower", low), ("upper", high):
+        lines += side_lines(held, side, entry, value)
+    lines += [f"program    code_tables, commit {table.commit()}", f"toolchain  {table.toolchain()}", f"sessions   SHA-256 {held.session_hash}"]
+    return "\n".join(lines) + "\n"
+
+
+def escaped(text):
+    """A text as LaTeX reads it."""
+    special = {"\\": r"\textbackslash{}", "^": r"\^{}", "~": r"\~{}", **{c: "\\" + c for c in "&%$#_{}"}}
+    return "".join(special.get(c, c) for c in text)
+
+
+def as_bibtex(held, entry):
+    """The citation as an entry of BibTeX."""
+    low, high = held.bounds[entry]
+    claim = f"{name_of(entry)} = {low}" if low == high else rf"{low} \le {name_of(entry)} \le {high}"
+    ids = [piece.id for side in ("lower", "upper") if (side, entry) in held.derivations for piece in table.resting(held, held.derivations[side, entry].ids)]
+    rests = f"Rests on {', '.join(dict.fromkeys(ids))}. " if ids else ""
+    note = f"{rests}Commit {table.commit()}; {table.toolchain()}; sessions SHA-256 {held.session_hash}"
+    return (f"@misc{{code-tables-{'-'.join(map(str, entry))},\n  title = {{Bounds of a proved table of codes: ${claim}$}},\n"
+            f"  author = {{{{code\\_tables}}}},\n  howpublished = {{Output of the program code\\_tables}},\n  note = {{{escaped(note)}}}\n}}\n")
+
+
+def read_entry(words):
+    """The entry and the files of the command line."""
+    numbers = [word for word in words[:3] if word.isdigit()]
+    if len(numbers) < 2 or words[:len(numbers)] != numbers or len(words) == len(numbers):
+        raise Refusal("give N D, or N D W, and then the sessions")
+    entry = tuple(map(int, numbers))
+    n, d, w = (*entry, None)[:3]
+    if not (1 <= n <= 28 and 3 <= d <= 28 and (w is None or d % 2 == 0 and w <= n)):
+        raise Refusal(f"{name_of(entry)} is no entry of the table")
+    return entry, words[len(numbers):]
+
+
+def main():
+    parser = argparse.ArgumentParser(description=__doc__, formatter_class=argparse.RawDescriptionHelpFormatter)
+    parser.add_argument("words", nargs="+", metavar="N D [W] SESSION ..", help="the entry and the sessions")
+    parser.add_argument("--bibtex", action="store_true", help="write BibTeX alone")
+    options = parser.parse_args()
+    try:
+        entry, paths = read_entry(options.words)
+        asked = " ".join(map(str, entry))
+        held = table.held(table.read_sessions(paths), [f"show {asked}", f"explain lower {asked}", f"explain upper {asked}"])
+        sys.stdout.write(as_bibtex(held, entry) if options.bibtex else as_text(held, entry) + "\n" + as_bibtex(held, entry))
+    except Refusal as refusal:
+        sys.exit(f"cite: refused: {refusal}")
+    for command, reply in held.refused:
+        print(f"cite: {' '.join(command.words)}: {reply}", file=sys.stderr)
+
+
+if __name__ == "__main__":
+    main()

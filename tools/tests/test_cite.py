@@ -1,0 +1,54 @@
+"""A bound is cited with what it rests on."""
+
+import os
+import re
+import sys
+import unittest
+
+from support import DATA, TOOLS, TOP, needs_program, run
+
+FAKE = os.environ | {"CODE_TABLES": f"{sys.executable} {TOOLS}/tests/fake_program.py"}
+
+
+class Cite(unittest.TestCase):
+    def test_both_sides_with_their_sources(self):
+        out, said, status = run("cite.py", 10, 6, DATA / "page/small.session", env=FAKE)
+        self.assertEqual((said, status), ("cite: submit hexa: refused taken\n", 0))
+        lines = out.splitlines()
+        self.assertEqual(lines[:4], ["1 <= A(10,6) <= 1024", "lower bound 1",
+                                     "  evidence hexa (words of A(10,6), 1 word): The six words <of length ten> & nothing else.",
+                                     "  rule L10: the piece's words are a code of the entry"])
+        self.assertEqual(lines[4:6], ["upper bound 1024", "  rule U0: there are 2^n words of length n"])
+        self.assertRegex(lines[6], "^program    code_tables, commit ([0-9a-f]{40}|unknown)")
+        self.assertRegex(lines[8], "^sessions   SHA-256 [0-9a-f]{64}$")
+
+    def test_bibtex(self):
+        out, _, _ = run("cite.py", "--bibtex", 10, 6, DATA / "page/small.session", env=FAKE)
+        self.assertTrue(out.startswith("@misc{code-tables-10-6,\n  title = {Bounds of a proved table of codes: $1 \\le A(10,6) \\le 1024$},\n"))
+        self.assertEqual(out.count("{"), out.count("}"))
+        self.assertIn("Rests on hexa.", out)
+
+    def test_faults_are_named(self):
+        for words, fault in [((10, 6), "give N D, or N D W"), ((29, 6, "x"), "A(29,6) is no entry"), ((10, 5, 3, "x"), "A(10,5,3) is no entry"),
+                             ((10, 6, "no/such"), "no/such can't be read")]:
+            out, said, status = run("cite.py", *words, env=FAKE)
+            self.assertEqual((out, status), ("", 1))
+            self.assertIn("cite: refused: " + fault, said)
+
+    def test_a_program_that_is_not_there_is_refused(self):
+        _, said, status = run("cite.py", 10, 6, DATA / "page/small.session", env=os.environ | {"CODE_TABLES": "/no/such/program"})
+        self.assertEqual((status, said), (1, "cite: refused: the program /no/such/program can't be started: No such file or directory\n"))
+
+    def test_how_the_program_is_cited(self):
+        text = (TOP / "CITATION.cff").read_text()
+        for field in ("cff-version", "message", "title", "authors"):
+            self.assertTrue(re.search(f"^{field}:", text, re.M), field)
+
+    @needs_program
+    def test_a_bound_of_the_examples(self):
+        out, _, status = run("cite.py", 16, 6, "examples/nordstrom-robinson.session")
+        self.assertEqual((status, out.splitlines()[:2]), (0, ["A(16,6) = 256", "lower bound 256"]))
+
+
+if __name__ == "__main__":
+    unittest.main()
