@@ -89,8 +89,9 @@ def read_entry(words):
 
 
 def main():
-    parser = argparse.ArgumentParser(description=__doc__, formatter_class=argparse.RawDescriptionHelpFormatter)
-    parser.add_argument("words", nargs="+", metavar="N D [W] SESSION ..", help="the entry and the sessions")
+    parser = argparse.ArgumentParser(usage="cite.py [-h] [--bibtex] N D [W] SESSION ..", description=__doc__,
+                                     formatter_class=argparse.RawDescriptionHelpFormatter)
+    parser.add_argument("words", nargs="+", metavar="WORD", help="the numbers of the entry, then the sessions")
     parser.add_argument("--bibtex", action="store_true", help="write BibTeX alone")
     options = parser.parse_args()
     try:
