@@ -1,0 +1,67 @@
+"""The commands of the tutorial, and of the README, answer what stands below them."""
+
+import re
+import shlex
+import subprocess
+import unittest
+
+from support import TOP, needs_program, session
+
+import sessions
+
+
+def blocks(text):
+    """The blocks of a document that show commands: each command, after `$ `, with the lines below it."""
+    for block in re.findall(r"^```\n(.*?)^```$", text, re.M | re.S):
+        commands = re.split(r"^\$ ", block, flags=re.M)
+        if not commands[0]:
+            yield [(command.split("\n", 1) + [""])[:2] for command in commands[1:]]
+
+
+def answer(command):
+    """What a command line answers, with the program that is tried in the place of ./code_tables."""
+    program = " ".join(map(shlex.quote, sessions.program()))
+    return subprocess.run(command.replace("./code_tables", program), shell=True, cwd=TOP, stdout=subprocess.PIPE).stdout.decode()
+
+
+def matches(shown, said):
+    """Whether an output is the one shown, in which `..` stands for lines that are left out."""
+    pattern = "".join(r"(?:.*\n)*?" if line == ".." else re.escape(line) + r"\n" for line in shown.splitlines())
+    return re.fullmatch(pattern, said)
+
+
+class Tutorial(unittest.TestCase):
+    def check(self, document):
+        """Runs the commands of a document; those that ask for what this program doesn't have yet are left out."""
+        has = {"explain": not session("explain upper 16 6\n").startswith("refused command")}
+        left = 0
+        for block in blocks((TOP / document).read_text()):
+            for command, shown in block:
+                if any(word in command and not there for word, there in has.items()):
+                    left += 1
+                    continue
+                with self.subTest(command=command):
+                    said = answer(command)
+                    self.assertTrue(matches(shown, said), f"{document} shows\n{shown}and the answer is\n{said}")
+        return left
+
+    @needs_program
+    def test_the_tutorial(self):
+        if self.check("docs/TUTORIAL.md"):
+            self.skipTest("this program explains nothing yet: those blocks were left out")
+
+    @needs_program
+    def test_the_readme(self):
+        self.check("README.md")
+
+    @unittest.skipUnless(subprocess.run("command -v gap", shell=True, capture_output=True).returncode == 0, "GAP isn't there")
+    def test_the_session_of_guava(self):
+        lines = re.findall(r"^gap> (.*)$", (TOP / "docs/TUTORIAL.md").read_text(), re.M)
+        script = "\n".join(line.replace(', "/tmp/guava.session"', "") for line in lines)
+        said = subprocess.run(["gap", "-q", "-T"], input=script.encode(), cwd=TOP, capture_output=True)
+        self.assertEqual(said.stderr, b"")
+        self.assertEqual(re.findall(rb"^submit (.*)$", said.stdout, re.M), [b"golay", b"conference"])
+
+
+if __name__ == "__main__":
+    unittest.main()
