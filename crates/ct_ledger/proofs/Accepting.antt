@@ -1,5 +1,8 @@
 -- Which submissions are accepted.
-use Rattle.std.proofs.Common.{◌≡◌, ◌≢◌, ℕ, ◌≤◌, Bool, true, false, ◌||◌, List, [], ◌∷◌, length, map, Option, Some, None, option_map, Ok, refl, sym, ap, ◌∙◌, subst, inl, inr, ◌↔◌, lit<, arith}
+use Rattle.std.proofs.Common.{◌≡◌, ◌≢◌, ℕ, ◌≤◌, Bool, true, false, ◌||◌, List, [], ◌∷◌, length, map, Option, Some, None, option_map, Ok, refl, sym, ap, ◌∙◌, subst, inl, inr, ◌↔◌, lit<, arith, ◌++◌, ◌<◌, length-append}
+use Rattle.std.proofs.Math.ListN.{get_or-append}
+use Rattle.std.proofs.Math.Seq.{get_or-append_seam}
+use Rattle.std.proofs.lemmas.List.Sums.{sum_by-append, sum_by-cons}
 use Rattle.std.specs.Prelude.{All, Contains, IfSome, IsTrue}
 use Rattle.std.specs.Str.{bytes_eq}
 use Rattle.std.proofs.lemmas.List.Elements.{All-head, All-tail, All-weaker, Contains-append_left, Contains-append_right, Contains-append_cases, All-contains, All-cons, All-nil}
@@ -10,15 +13,16 @@ use Rattle.ct_codes.specs.Pairs.{first_of}
 use Rattle.ct_fields.specs.declared.document.TheConstants.{MAX_DOCUMENT}
 use Rattle.ct_files.specs.Evidence.{read_of}
 use Rattle.ct_files.proofs.Evidences.{read_of-sound}
-use Rattle.ct_ledger.specs.Named.{is_known, first_missing}
+use Rattle.ct_files.proofs.DocumentAnswers.{read_of-short}
+use Rattle.ct_ledger.specs.Named.{NamedCode, is_known, first_missing}
 use Rattle.ct_ledger.specs.Kind.{stated_entry, parts_of, own_reason, words_over}
-use Rattle.ct_ledger.specs.Piece.{PieceValue, has_id}
+use Rattle.ct_ledger.specs.Piece.{PieceValue, has_id, stored_by}
 use Rattle.ct_ledger.specs.Codes.{codes_of}
 use Rattle.ct_ledger.specs.Submission.{piece_of, made_unless, piece_from, submitted, IsAccepted}
-use Rattle.ct_ledger.specs.Standing.{AreStanding}
+use Rattle.ct_ledger.specs.Standing.{AreStanding, IsMade}
 use Rattle.ct_ledger.specs.declared.fault.SubmitFault.{SubmitFault}
 use Rattle.ct_ledger.specs.declared.fault.SubmitFault.TheVariants as fault
-use Rattle.ct_ledger.proofs.CodeLemmas.{known_where_taken}
+use Rattle.ct_ledger.proofs.CodeLemmas.{known_where_taken, AreMade-back}
 use Rattle.ct_ledger.proofs.Stating.{HasSoundCode}
 use Rattle.ct_ledger.proofs.KindLemmas.{no_own_reason}
 use Rattle.ct_ledger.proofs.MakingLemmas.{IsRight, none_missing, none_missing-from, right-parts, states_code, making, codes_after-sound}
@@ -115,3 +119,23 @@ accepted pieces id document p standing = (λ h. accepted_from pieces id document
 -- a submission that is accepted has a document within the limit
 pub accepted-within : (pieces : List PieceValue) (id document : List ℕ) (p : PieceValue) → submitted pieces id document ≡ Ok p → length document ≤ MAX_DOCUMENT
 accepted-within pieces id document p h = let was = submitted-ok pieces id document p h in piece_from-within (codes_of pieces) id document p was.made
+
+-- a document within the limit makes what it makes without it
+within-made : (known : List NamedCode) (p : PieceValue) → length p.document ≤ MAX_DOCUMENT → IsMade known p → piece_from known p.id p.document (read_of p.document) ≡ Ok p
+within-made known p short made = ap (piece_from known p.id p.document) (read_of-short p.document short) ∙ made
+
+-- a piece that stands after others is made over them
+pub made_again : (front : List PieceValue) (p : PieceValue) (back : List PieceValue) → AreStanding (front ++ p ∷ back) → length p.document ≤ MAX_DOCUMENT → WasMade front p.id p.document p
+made_again front p back h short =
+    let all = length-append front (p ∷ back) in
+    let stored = sum_by-append stored_by front (p ∷ back) in
+    let stored_back = sum_by-cons stored_by p back in
+    let within : length front < length (front ++ p ∷ back) = omega (arith, all) in
+    record {
+      free = not_taken p.id front
+          (λ k d below same. h.different k (length front) d below within
+          (ap (λ (q : PieceValue). q.id) (get_or-append front (p ∷ back) d k below) ∙ same ∙ ap (λ (q : PieceValue). q.id) (sym (get_or-append_seam front p back d))));
+      room = omega (arith, all, h.few);
+      made = let own = AreMade-back [] front (p ∷ back) h.made in within-made (codes_of front) p short own.0;
+      small = omega (arith, stored, stored_back, h.small);
+    }

@@ -13,7 +13,6 @@ use Rattle.ct_ledger.specs.Kind.{kind_of, stated_entry, parts_of, names}
 use Rattle.ct_ledger.specs.Piece.{PieceValue, first_user}
 use Rattle.ct_ledger.specs.Codes.{code_at, named_code}
 use Rattle.ct_ledger.specs.Submission.{evidence_reason, made_unless, piece_from}
-use Rattle.ct_ledger.specs.Withdrawal.{without}
 use Rattle.ct_ledger.specs.Standing.{IsMade, AreMade}
 use Rattle.ct_ledger.specs.Inside.Kept.{is_kept, kept_after}
 use Rattle.ct_ledger.specs.declared.fault.SubmitFault.{SubmitFault}
@@ -23,21 +22,17 @@ use Rattle.ct_ledger.proofs.Stating.{SaysSame}
 use Rattle.ct_ledger.proofs.KindLemmas.{kind_same}
 use Rattle.ct_ledger.proofs.MakingLemmas.{making-of}
 
+-- the codes whose ids pass a test
+abbrev those : (List ℕ → Bool) → List NamedCode → List NamedCode
+those test known = filter (λ (k : NamedCode). test k.id) known
+
+-- the test that the other ids pass
+abbrev pub other_than : List ℕ → List ℕ → Bool
+other_than id i = not (bytes_eq i id)
+
 -- the codes but for those of the id
 abbrev others : List ℕ → List NamedCode → List NamedCode
-others id known = filter (λ (k : NamedCode). not (bytes_eq k.id id)) known
-
-or-false : (a b : Bool) → (a || b) ≡ false → (a ≡ false) × (b ≡ false)
-or-false true b h = absurd cc
-or-false false b h = (refl, h)
-
--- the id of a code that goes is no other id
-not-both : (id part : List ℕ) (k : NamedCode) → bytes_eq part id ≡ false → bytes_eq k.id part ≡ true → bytes_eq k.id id ≡ true → ⊥
-not-both id part k h same out =
-    let k_part = (bytes_eq-Decides k.id part).0 same in
-    let k_id = (bytes_eq-Decides k.id id).0 out in
-    let again = (bytes_eq-Decides part id).1 (sym k_part ∙ k_id) in
-    absurd cc
+others id known = those (other_than id) known
 
 -- another id has the same code, and is known where it was
 record IsAlike (part : List ℕ) (left right : List NamedCode) : Type 0 where
@@ -56,64 +51,109 @@ alike-passed part k left right unlike h = record {
   known = h.known ∙ sym (ap (λ (b : Bool). b || is_known part right) unlike);
 }
 
-others-alike : (id part : List ℕ) (known : List NamedCode) → bytes_eq part id ≡ false → IsAlike part (others id known) known
-others-alike id part [] h = record { code = refl; known = refl }
-others-alike id part (k ∷ known) h = at (bytes_eq k.id id) refl (others-alike id part known h) where
-  passed : (c : Bool) → bytes_eq k.id part ≡ c → bytes_eq k.id id ≡ true → IsAlike part (others id known) known → IsAlike part (others id known) (k ∷ known)
-  passed true same out rest = absurd (not-both id part k h same out)
-  passed false same out rest = alike-passed part k (others id known) known same rest
+those-alike : (test : List ℕ → Bool) (part : List ℕ) (known : List NamedCode) → test part ≡ true → IsAlike part (those test known) known
+those-alike test part [] h = record { code = refl; known = refl }
+those-alike test part (k ∷ known) h = at (test k.id) refl (those-alike test part known h) where
+  passed : (c : Bool) → bytes_eq k.id part ≡ c → test k.id ≡ false → IsAlike part (those test known) known → IsAlike part (those test known) (k ∷ known)
+  passed true same out rest = absurd (let k_part = ap test ((bytes_eq-Decides k.id part).0 same) in cc)
+  passed false same out rest = alike-passed part k (those test known) known same rest
 
-  at : (b : Bool) → bytes_eq k.id id ≡ b → IsAlike part (others id known) known → IsAlike part (cond (not b) (k ∷ others id known) (others id known)) (k ∷ known)
-  at true out rest = passed (bytes_eq k.id part) refl out rest
-  at false out rest = alike-put part k (others id known) known rest
+  at : (b : Bool) → test k.id ≡ b → IsAlike part (those test known) known → IsAlike part (cond b (k ∷ those test known) (those test known)) (k ∷ known)
+  at true in_test rest = alike-put part k (those test known) known rest
+  at false out rest = passed (bytes_eq k.id part) refl out rest
 
--- ids that are none of it are missing where they were
-others-missing : (id : List ℕ) (known : List NamedCode) (parts : List (List ℕ)) → list_any (λ (part : List ℕ). bytes_eq part id) parts ≡ false
-    → first_missing (others id known) parts ≡ first_missing known parts
-others-missing id known [] h = refl
-others-missing id known (part ∷ parts) h =
-    let both = or-false (bytes_eq part id) (list_any (λ (q : List ℕ). bytes_eq q id) parts) h in
-    let first = (others-alike id part known both.0).known in
-    ap₂ (λ (b : Bool) (rest : Option (List ℕ)). cond (not b) (Some part) rest) first (others-missing id known parts both.1)
+-- all ids of the list pass the test
+abbrev pub AllPassed : (List ℕ → Bool) → List (List ℕ) → Type 0
+AllPassed test parts = (part : List ℕ) → list_any (λ (p : List ℕ). bytes_eq p part) parts ≡ true → test part ≡ true
 
--- an id that evidence names, where it does not name another, is not the other
-named-other : (id part : List ℕ) (parts : List (List ℕ)) → list_any (λ (p : List ℕ). bytes_eq p id) parts ≡ false → list_any (λ (p : List ℕ). bytes_eq p part) parts ≡ true
-    → bytes_eq part id ≡ false
-named-other id part [] none is = absurd cc
-named-other id part (p ∷ parts) none is = at (bytes_eq p part) refl is (named-other id part parts) where
-  both : (bytes_eq p id ≡ false) × (list_any (λ (q : List ℕ). bytes_eq q id) parts ≡ false)
-  both = or-false (bytes_eq p id) (list_any (λ (q : List ℕ). bytes_eq q id) parts) none
+or-true : (a b : Bool) → b ≡ true → (a || b) ≡ true
+or-true true b h = refl
+or-true false b h = h
 
-  at : (b : Bool) → bytes_eq p part ≡ b → (b || list_any (λ (q : List ℕ). bytes_eq q part) parts) ≡ true
-      → (list_any (λ (q : List ℕ). bytes_eq q id) parts ≡ false → list_any (λ (q : List ℕ). bytes_eq q part) parts ≡ true → bytes_eq part id ≡ false) → bytes_eq part id ≡ false
-  at true same is later = subst (λ (q : List ℕ). bytes_eq q id ≡ false) ((bytes_eq-Decides p part).0 same) both.0
-  at false unlike is later = later both.1 is
+AllPassed-head : (test : List ℕ → Bool) (part : List ℕ) (parts : List (List ℕ)) → AllPassed test (part ∷ parts) → test part ≡ true
+AllPassed-head test part parts h =
+    h part (ap (λ (b : Bool). b || list_any (λ (p : List ℕ). bytes_eq p part) parts) ((bytes_eq-Decides part part).1 refl))
 
--- evidence that does not name the id says the same
-others-same : (id : List ℕ) (known : List NamedCode) (evidence : Evidence) → names evidence id ≡ false → SaysSame (kind_of evidence) (others id known) known
-others-same id known evidence none =
-    kind_same evidence (others id known) known (λ part is. (others-alike id part known (named-other id part (parts_of evidence) none is)).code)
+AllPassed-tail : (test : List ℕ → Bool) (part : List ℕ) (parts : List (List ℕ)) → AllPassed test (part ∷ parts) → AllPassed test parts
+AllPassed-tail test part parts h = λ other is. h other (or-true (bytes_eq part other) (list_any (λ (p : List ℕ). bytes_eq p other) parts) is)
 
-others-reason : (id : List ℕ) (known : List NamedCode) (evidence : Evidence) → names evidence id ≡ false → evidence_reason (others id known) evidence ≡ evidence_reason known evidence
-others-reason id known evidence none =
-    ap₂ (λ (missing : Option (List ℕ)) (own : Option SubmitFault). first_of (option_map fault.NoSuch missing) own) (others-missing id known (parts_of evidence) none)
-    (others-same id known evidence none).reason
+-- ids that pass are missing where they were
+those-missing : (test : List ℕ → Bool) (known : List NamedCode) (parts : List (List ℕ)) → AllPassed test parts → first_missing (those test known) parts ≡ first_missing known parts
+those-missing test known [] h = refl
+those-missing test known (part ∷ parts) h =
+    ap₂ (λ (b : Bool) (rest : Option (List ℕ)). cond (not b) (Some part) rest) (those-alike test part known (AllPassed-head test part parts h)).known
+    (those-missing test known parts (AllPassed-tail test part parts h))
+
+-- evidence all of whose parts pass says the same
+those-same : (test : List ℕ → Bool) (known : List NamedCode) (evidence : Evidence) → AllPassed test (parts_of evidence) → SaysSame (kind_of evidence) (those test known) known
+those-same test known evidence h = kind_same evidence (those test known) known (λ part is. (those-alike test part known (h part is)).code)
+
+those-reason : (test : List ℕ → Bool) (known : List NamedCode) (evidence : Evidence) → AllPassed test (parts_of evidence)
+    → evidence_reason (those test known) evidence ≡ evidence_reason known evidence
+those-reason test known evidence h =
+    ap₂ (λ (missing : Option (List ℕ)) (own : Option SubmitFault). first_of (option_map fault.NoSuch missing) own) (those-missing test known (parts_of evidence) h)
+    (those-same test known evidence h).reason
 
 -- it makes the same piece
-others-made : (id : List ℕ) (known : List NamedCode) (p : PieceValue) → names p.evidence id ≡ false → IsMade known p → IsMade (others id known) p
-others-made id known p free h =
+those-made : (test : List ℕ → Bool) (known : List NamedCode) (p : PieceValue) → AllPassed test (parts_of p.evidence) → IsMade known p → IsMade (those test known) p
+those-made test known p passed h =
     let m = making-of known p h in
-    let unnamed = subst (λ (e : Evidence). names e id ≡ false) (ap (λ (q : PieceValue). q.evidence) (sym m.piece)) free in
+    let own = subst (λ (e : Evidence). AllPassed test (parts_of e)) (ap (λ (q : PieceValue). q.evidence) (sym m.piece)) passed in
     let sized : Option ℕ → PieceValue = λ (size : Option ℕ). record { id = p.id; document = p.document; evidence = m.evidence; entry = stated_entry m.evidence; size = size } in
-    ap (piece_from (others id known) p.id p.document) m.is
-    ∙ ap₂ (λ (reason : Option SubmitFault) (size : Option ℕ). made_unless reason (sized size)) (others-reason id known m.evidence unnamed ∙ m.faultless) (others-same id known m.evidence unnamed).size
+    ap (piece_from (those test known) p.id p.document) m.is
+    ∙ ap₂ (λ (reason : Option SubmitFault) (size : Option ℕ). made_unless reason (sized size)) (those-reason test known m.evidence own ∙ m.faultless) (those-same test known m.evidence own).size
     ∙ ap Ok m.piece
 
 -- and has the same code
-others-code : (id : List ℕ) (known : List NamedCode) (p : PieceValue) → names p.evidence id ≡ false → named_code (others id known) p ≡ named_code known p
-others-code id known p free =
+those-code : (test : List ℕ → Bool) (known : List NamedCode) (p : PieceValue) → AllPassed test (parts_of p.evidence) → named_code (those test known) p ≡ named_code known p
+those-code test known p passed =
     let at : Option (List ℕ) → NamedCode = λ (words : Option (List ℕ)). record { id = p.id; code = option_map (code_at (stated_entry p.evidence)) words } in
-    ap at (others-same id known p.evidence free).words
+    ap at (those-same test known p.evidence passed).words
+
+-- a code more
+those-push : (test : List ℕ → Bool) (known : List NamedCode) (k : NamedCode) → those test (known ++ k ∷ []) ≡ those test known ++ cond (test k.id) (k ∷ []) []
+those-push test known k = filter-append (λ (l : NamedCode). test l.id) known (k ∷ [])
+
+-- the parts of each piece whose id passes the test pass it
+abbrev pub ArePassed : (List ℕ → Bool) → List PieceValue → Type 0
+ArePassed test [] = Unit {0}
+ArePassed test (p ∷ ps) = (test p.id ≡ true → AllPassed test (parts_of p.evidence)) × ArePassed test ps
+
+-- the pieces whose ids pass
+abbrev pub passing : (List ℕ → Bool) → List PieceValue → List PieceValue
+passing test ps = filter (λ (p : PieceValue). test p.id) ps
+
+-- they are made over the codes that pass
+AreMade-those : (test : List ℕ → Bool) (known : List NamedCode) (ps : List PieceValue) → AreMade known ps → ArePassed test ps → AreMade (those test known) (passing test ps)
+AreMade-those test known [] h all = tt
+AreMade-those test known (p ∷ ps) h all = at (test p.id) refl (AreMade-those test next ps h.1 all.1) (those-push test known own) where
+  own : NamedCode
+  own = named_code known p
+
+  next : List NamedCode
+  next = known ++ own ∷ []
+
+  at : (b : Bool) → test p.id ≡ b → AreMade (those test next) (passing test ps) → those test next ≡ those test known ++ cond b (own ∷ []) []
+      → AreMade (those test known) (cond b (p ∷ passing test ps) (passing test ps))
+  at false out made split = subst (λ (k : List NamedCode). AreMade k (passing test ps)) (split ∙ append-nil (those test known)) made
+  at true is made split = (
+    those-made test known p (all.0 is) h.0,
+    subst (λ (k : List NamedCode). AreMade k (passing test ps)) (split ∙ ap (λ (k : NamedCode). those test known ++ k ∷ []) (sym (those-code test known p (all.0 is)))) made,
+  )
+
+-- without other codes
+pub AreMade-passing : (test : List ℕ → Bool) (ps : List PieceValue) → AreMade [] ps → ArePassed test ps → AreMade [] (passing test ps)
+AreMade-passing test ps h all = AreMade-those test [] ps h all
+
+-- ids that evidence names, where it does not name another, are not the other
+named-others : (id : List ℕ) (evidence : Evidence) → names evidence id ≡ false → (part : List ℕ) → names evidence part ≡ true → other_than id part ≡ true
+named-others id evidence none part is = at (bytes_eq part id) refl is where
+  at : (b : Bool) → bytes_eq part id ≡ b → names evidence part ≡ true → not b ≡ true
+  at true same is = absurd (let other = ap (names evidence) ((bytes_eq-Decides part id).0 same) in cc)
+  at false unlike is = refl
+
+others-code : (id : List ℕ) (known : List NamedCode) (p : PieceValue) → names p.evidence id ≡ false → named_code (others id known) p ≡ named_code known p
+others-code id known p none = those-code (other_than id) known p (named-others id p.evidence none)
 
 find-none : (test : PieceValue → Bool) (p : PieceValue) (ps : List PieceValue) → find test (p ∷ ps) ≡ None → (test p ≡ false) × (find test ps ≡ None)
 find-none test p ps h = at (test p) h where
@@ -125,30 +165,12 @@ find-none test p ps h = at (test p) h where
 others-push : (id : List ℕ) (known : List NamedCode) (k : NamedCode) → others id (known ++ k ∷ []) ≡ others id known ++ cond (not (bytes_eq k.id id)) (k ∷ []) []
 others-push id known k = filter-append (λ (l : NamedCode). not (bytes_eq l.id id)) known (k ∷ [])
 
--- the pieces but for those with an id that none names are made over the codes but for those of it
-AreMade-others : (id : List ℕ) (known : List NamedCode) (ps : List PieceValue) → AreMade known ps → first_user id ps ≡ None → AreMade (others id known) (without id ps)
-AreMade-others id known [] h none = tt
-AreMade-others id known (p ∷ ps) h none = at (bytes_eq p.id id) (AreMade-others id next ps h.1 rest.1) (others-push id known own) where
-  own : NamedCode
-  own = named_code known p
-
-  next : List NamedCode
-  next = known ++ own ∷ []
-
-  rest : (names p.evidence id ≡ false) × (first_user id ps ≡ None)
-  rest = find-none (λ (q : PieceValue). names q.evidence id) p ps none
-
-  at : (b : Bool) → AreMade (others id next) (without id ps) → others id next ≡ others id known ++ cond (not b) (own ∷ []) []
-      → AreMade (others id known) (cond (not b) (p ∷ without id ps) (without id ps))
-  at true made split = subst (λ (k : List NamedCode). AreMade k (without id ps)) (split ∙ append-nil (others id known)) made
-  at false made split = (
-    others-made id known p rest.0 h.0,
-    subst (λ (k : List NamedCode). AreMade k (without id ps)) (split ∙ ap (λ (k : NamedCode). others id known ++ k ∷ []) (sym (others-code id known p rest.0))) made,
-  )
-
--- without other codes
-pub AreMade-without : (id : List ℕ) (ps : List PieceValue) → AreMade [] ps → first_user id ps ≡ None → AreMade [] (without id ps)
-AreMade-without id ps h none = AreMade-others id [] ps h none
+-- where none names the id, each piece names others alone
+pub ArePassed-others : (id : List ℕ) (ps : List PieceValue) → first_user id ps ≡ None → ArePassed (other_than id) ps
+ArePassed-others id [] none = tt
+ArePassed-others id (p ∷ ps) none =
+    let rest = find-none (λ (q : PieceValue). names q.evidence id) p ps none in
+    (λ is. named-others id p.evidence rest.0, ArePassed-others id ps rest.1)
 
 -- what is kept beside a piece goes by its code
 kept-same : (p : PieceValue) (left right : List NamedCode) → named_code left p ≡ named_code right p

@@ -11,5 +11,6 @@ pub mod SupportLemmas
 pub mod KeptLemmas
 pub mod PartLemmas
 pub mod Accepting
-mod Refusing
+pub mod Refusing
+pub mod DocumentLines
 mod Reaching

@@ -23,7 +23,8 @@ use Rattle.ct_ledger.specs.Piece.{PieceValue}
 use Rattle.ct_ledger.specs.Codes.{code_at, code_over, codes_of, code_of_place}
 use Rattle.ct_ledger.specs.Submission.{evidence_reason}
 use Rattle.ct_ledger.specs.Standing.{IsMade, AreMade}
-use Rattle.ct_ledger.specs.Inside.Kept.{place_of, other_place, code_beside, is_kept, listed_code, kept_codes}
+use Rattle.ct_ledger.specs.Inside.Kept.{other_place, code_beside, is_kept, listed_code, kept_codes}
+use Rattle.ct_ledger.specs.Piece.{place_of}
 use Rattle.ct_ledger.specs.declared.fault.SubmitFault.TheVariants as fault
 use Rattle.ct_ledger.proofs.AscendingLemmas.{ascending-moved}
 use Rattle.ct_ledger.proofs.CodeLemmas.{AreMade-take, made_at, position-some, position-none, known_where_taken}

@@ -1,5 +1,5 @@
 -- What holds of the pieces of a ledger is kept as pieces come and go.
-use Rattle.std.proofs.Common.{◌≡◌, ◌≢◌, ℕ, ◌+◌, ◌≤◌, ◌<◌, Bool, true, false, ◌||◌, cond, not, List, [], ◌∷◌, ◌++◌, length, Option, Some, None, option_map, Result, Ok, Err, refl, sym, ap, subst, ◌∙◌, arith, nat_le, leb-true, length-append, get_or}
+use Rattle.std.proofs.Common.{◌≡◌, ◌≢◌, ℕ, ◌+◌, ◌≤◌, ◌<◌, Bool, true, false, ◌||◌, cond, List, [], ◌∷◌, ◌++◌, length, Option, Some, None, option_map, Result, Ok, Err, refl, sym, ap, subst, ◌∙◌, arith, nat_le, leb-true, length-append, get_or}
 use Rattle.std.proofs.Math.ListN.{get_or-append}
 use Rattle.std.proofs.lemmas.Bool.{lt-leb, le-leb, leb-false}
 use Rattle.std.specs.Prelude.{All, filter, IfSome, IsTrue}
@@ -32,7 +32,7 @@ use Rattle.ct_ledger.specs.declared.fault.WithdrawFault.TheVariants as withdraw
 use Rattle.ct_ledger.proofs.CodeLemmas.{AreMade-append, AreMade-front}
 use Rattle.ct_ledger.proofs.Stating.{AreSound, HasSoundCode}
 use Rattle.ct_ledger.proofs.MakingLemmas.{IsRight, making, making-of, states_code, IsMade-sound}
-use Rattle.ct_ledger.proofs.LeavingLemmas.{AreMade-without}
+use Rattle.ct_ledger.proofs.LeavingLemmas.{other_than, ArePassed, passing, AreMade-passing, ArePassed-others}
 
 -- a piece that is made has the id and the document that it is made of
 pub piece_from-names : (known : List NamedCode) (id document : List ℕ) (read : Result Evidence FileFault) (p : PieceValue) → piece_from known id document read ≡ Ok p
@@ -110,17 +110,21 @@ length-filter test (p ∷ pieces) = at (test p) (length-filter test pieces) wher
   at true rest = omega (arith, rest)
   at false rest = omega (arith, rest)
 
+-- the pieces whose ids pass a test stand, where all do and the parts of each of them pass it
+pub AreStanding-passing : (pieces : List PieceValue) (test : List ℕ → Bool) → AreStanding pieces → ArePassed test pieces → AreStanding (passing test pieces)
+AreStanding-passing pieces test h all =
+    let own : PieceValue → Bool = λ (q : PieceValue). test q.id in
+    record {
+      made = AreMade-passing test pieces h.made all;
+      named = All-filter own (λ (q : PieceValue). IsTrue (is_id q.id)) pieces h.named;
+      different = AllPairs-filter (λ (q r : PieceValue). q.id ≢ r.id) own pieces h.different;
+      few = omega (arith, length-filter own pieces, h.few);
+      small = omega (arith, stored-filter own pieces, h.small);
+    }
+
 -- the pieces but for one that none names stand, where all do
 pub AreStanding-without : (pieces : List PieceValue) (id : List ℕ) → AreStanding pieces → first_user id pieces ≡ None → AreStanding (without id pieces)
-AreStanding-without pieces id h none =
-    let test : PieceValue → Bool = λ (q : PieceValue). not (bytes_eq q.id id) in
-    record {
-      made = AreMade-without id pieces h.made none;
-      named = All-filter test (λ (q : PieceValue). IsTrue (is_id q.id)) pieces h.named;
-      different = AllPairs-filter (λ (q r : PieceValue). q.id ≢ r.id) test pieces h.different;
-      few = omega (arith, length-filter test pieces, h.few);
-      small = omega (arith, stored-filter test pieces, h.small);
-    }
+AreStanding-without pieces id h none = AreStanding-passing pieces (other_than id) h (ArePassed-others id pieces none)
 
 -- the pieces but for the last stand
 pub AreStanding-front : (front : List PieceValue) (p : PieceValue) → AreStanding (front ++ p ∷ []) → AreStanding front

@@ -18,7 +18,8 @@ use Rattle.ct_ledger.specs.Standing.{AreStanding, IsMade, AreMade}
 use Rattle.ct_ledger.specs.Supports.{support_of, supports_of}
 use Rattle.ct_ledger.specs.Withdrawal.{without, withdrawn, unless_used}
 use Rattle.ct_ledger.specs.declared.fault.WithdrawFault.TheVariants as fault
-use Rattle.ct_ledger.specs.Inside.Kept.{place_of, kept_over, kept_codes}
+use Rattle.ct_ledger.specs.Inside.Kept.{kept_over, kept_codes}
+use Rattle.ct_ledger.specs.Piece.{place_of}
 use Rattle.ct_ledger.proofs.CodeLemmas.{is_named, AreMade-front, AreMade-back}
 use Rattle.ct_ledger.proofs.Stating.{AreSound, HasSoundCode, option_map-none}
 use Rattle.ct_ledger.proofs.MakingLemmas.{IsRight, making-of, states_code, IsMade-sound, codes_after-sound}

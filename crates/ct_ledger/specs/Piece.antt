@@ -1,5 +1,5 @@
 -- The pieces of evidence that stand.
-use Rattle.std.specs.Prelude.{ℕ, Bool, List, find, sum_by, Option}
+use Rattle.std.specs.Prelude.{ℕ, Bool, List, find, position, sum_by, Option}
 use Rattle.std.specs.List.{list_any}
 use Rattle.std.specs.Str.{bytes_eq}
 use Rattle.ct_codes.specs.declared.entry.Entry.{Entry}
@@ -19,6 +19,10 @@ pub record PieceValue : Type 0 where
 -- whether a piece has the id
 abbrev pub has_id : List ℕ → List PieceValue → Bool
 has_id id pieces = list_any (λ p. bytes_eq p.id id) pieces
+
+-- the place of the first piece with the id, where there is one
+abbrev pub place_of : List ℕ → List PieceValue → Option ℕ
+place_of id pieces = position (λ p. bytes_eq p.id id) pieces
 
 -- how many words a piece stores
 abbrev pub stored_by : PieceValue → ℕ

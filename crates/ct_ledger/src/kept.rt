@@ -5,7 +5,8 @@ ghost use Rattle.std.specs.Option.{option_copied};
 ghost use Rattle.ct_codes.specs.Code.{IsSoundCode};
 ghost use Rattle.ct_ledger.specs.Codes.{code_of_place};
 ghost use Rattle.ct_ledger.specs.Standing.{AreMade};
-ghost use Rattle.ct_ledger.specs.Inside.Kept.{place_of, code_beside, kept_codes};
+ghost use Rattle.ct_ledger.specs.Inside.Kept.{code_beside, kept_codes};
+ghost use Rattle.ct_ledger.specs.Piece.{place_of};
 
 use crate::kinds::listed_code;
 use crate::piece::Piece;

@@ -14,7 +14,6 @@ ghost use Rattle.ct_ledger.specs.Dump.{dump_text};
 
 use crate::dump::put_dump;
 use crate::fault::{SubmitFault, WithdrawFault};
-use crate::kinds::gives;
 use crate::piece::Piece;
 use crate::pieces::Pieces;
 use ct_codes::Code;
@@ -50,7 +49,7 @@ fn last_support(pieces: &[Piece]) -> Support
     ensures { (front : List PieceValue) (p : PieceValue) → pieces.now ≡ front ++ p ∷ [] → result ≡ support_of p }
 {
     match pieces.last() {
-        Some(piece) => gives(piece.evidence(), piece.size()),
+        Some(piece) => piece.support(),
         None => Support::Nothing,
     }
 }

@@ -2,12 +2,14 @@
 
 ghost use Rattle.std.specs.Prelude.{◌≡◌, ◌++◌, OnOk, IfOk};
 ghost use Rattle.ct_ledger.specs.Kind.{names};
+ghost use Rattle.ct_ledger.specs.Supports.{support_of};
 ghost use Rattle.ct_ledger.specs.Text.{piece_text};
 
-use crate::kinds::names;
+use crate::kinds::{gives, names};
 use crate::text::put_piece;
 use ct_codes::Entry;
 use ct_files::Evidence;
+use ct_rules::Support;
 use ct_text::{Id, Text};
 use std::alloc::{AllocError, Global};
 use std::marker::Model;
@@ -83,6 +85,13 @@ impl Piece {
         ensures { result ≡ self.now.size }
     {
         self.size
+    }
+
+    /// What it gives to a table: by its kind, of its size.
+    pub fn support(&self) -> Support
+        ensures { result ≡ support_of self.now }
+    {
+        gives(&self.evidence, self.size)
     }
 
     /// The bytes of its document, as they were handed in.

@@ -11,7 +11,7 @@ ghost use Rattle.ct_ledger.specs.declared.fault.SubmitFault.{SubmitFault};
 ghost use Rattle.ct_ledger.specs.Withdrawal.{withdrawn};
 ghost use Rattle.ct_ledger.specs.Standing.{AreStanding, HasTrueSize};
 ghost use Rattle.ct_ledger.specs.Ledger.{AddsPiece};
-ghost use Rattle.ct_ledger.specs.Inside.Kept.{place_of};
+ghost use Rattle.ct_ledger.specs.Piece.{place_of};
 
 use crate::check::check_document;
 use crate::fault::{SubmitFault, WithdrawFault};
@@ -135,6 +135,13 @@ impl Pieces {
         ensures { result ≡ stored_words self.now }
     {
         self.stored
+    }
+
+    /// The place of the piece with the id, where there is one.
+    pub fn place_of(&self, id: Id) -> Option<usize>
+        ensures { result ≡ place_of id self.now }
+    {
+        place_of(&self.pieces, id)
     }
 
     /// Where the pieces are kept.

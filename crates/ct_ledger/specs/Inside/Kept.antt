@@ -1,16 +1,11 @@
--- The codes that a ledger keeps beside its pieces, and where a piece is found.
-use Rattle.std.specs.Prelude.{ℕ, Bool, if◌then◌else◌, List, [], ◌∷◌, ◌++◌, Option, None, Some, position}
-use Rattle.std.specs.Str.{bytes_eq}
+-- The codes that a ledger keeps beside its pieces.
+use Rattle.std.specs.Prelude.{ℕ, Bool, if◌then◌else◌, List, [], ◌∷◌, ◌++◌, Option, None, Some}
 use Rattle.ct_codes.specs.Code.{CodeValue}
 use Rattle.ct_evidence.specs.declared.evidence.Evidence.{Evidence}
 use Rattle.ct_ledger.specs.Named.{NamedCode}
 use Rattle.ct_ledger.specs.Kind.{kind_of}
-use Rattle.ct_ledger.specs.Piece.{PieceValue}
+use Rattle.ct_ledger.specs.Piece.{PieceValue, place_of}
 use Rattle.ct_ledger.specs.Codes.{code_over, named_code, code_of_place}
-
--- the place of the first piece with the id, where there is one
-abbrev pub place_of : List ℕ → List PieceValue → Option ℕ
-place_of id pieces = position (λ p. bytes_eq p.id id) pieces
 
 -- the code of the piece at a place, where one is given
 abbrev pub code_beside : List PieceValue → Option ℕ → Option CodeValue

@@ -11,7 +11,8 @@ ghost use Rattle.ct_ledger.specs.Kinds.Build.{build_refusal, step_reason, built_
 ghost use Rattle.ct_ledger.specs.Named.{is_known, first_missing};
 ghost use Rattle.ct_ledger.specs.Submission.{evidence_reason};
 ghost use Rattle.ct_ledger.specs.Standing.{AreMade};
-ghost use Rattle.ct_ledger.specs.Inside.Kept.{place_of, other_place, code_beside, kept_codes};
+ghost use Rattle.ct_ledger.specs.Inside.Kept.{other_place, code_beside, kept_codes};
+ghost use Rattle.ct_ledger.specs.Piece.{place_of};
 
 use crate::fault::SubmitFault;
 use crate::kept::{find_code, find_code_beside, place_of};

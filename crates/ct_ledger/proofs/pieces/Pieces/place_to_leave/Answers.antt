@@ -2,7 +2,7 @@ use Rattle.std.proofs.Common.{◌≡◌, List, Err, option_map, sym, ap, ◌∙�
 use Rattle.ct_ledger.specs.Piece.{PieceValue, first_user}
 use Rattle.ct_ledger.specs.Withdrawal.{withdrawn}
 use Rattle.ct_ledger.specs.declared.fault.WithdrawFault.TheVariants as fault
-use Rattle.ct_ledger.specs.Inside.Kept.{place_of}
+use Rattle.ct_ledger.specs.Piece.{place_of}
 use Rattle.ct_ledger.proofs.SupportLemmas.{withdrawn-missing, withdrawn-used}
 use Rattle.ct_ledger.proofs.pieces.Pieces.place_to_leave.Goals as goal
 

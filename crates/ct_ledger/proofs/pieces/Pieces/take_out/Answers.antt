@@ -3,7 +3,7 @@ use Rattle.std.specs.Prelude.{remove}
 use Rattle.ct_codes.specs.Code.{CodeValue}
 use Rattle.ct_ledger.specs.Piece.{PieceValue, first_user, stored_by, stored_words}
 use Rattle.ct_ledger.specs.Withdrawal.{withdrawn}
-use Rattle.ct_ledger.specs.Inside.Kept.{place_of}
+use Rattle.ct_ledger.specs.Piece.{place_of}
 use Rattle.ct_ledger.proofs.KeptLemmas.{length-kept_codes}
 use Rattle.ct_ledger.proofs.SupportLemmas.{place_of-some, withdrawn-left, left_standing}
 use Rattle.ct_ledger.proofs.pieces.Pieces.take_out.Goals as goal
