@@ -14,8 +14,8 @@ import argparse
 import re
 import sys
 import tomllib
-from itertools import accumulate, combinations
-from math import comb
+from itertools import combinations
+from math import comb, factorial
 
 MAX = 2 ** 28
 
@@ -27,6 +27,10 @@ class No(Exception):
 def require(condition, why="form"):
     if not condition:
         raise No(why)
+
+
+def require_size(size, most):
+    require(0 < size <= most, f"size {size}")
 
 
 def ball(n, radius):
@@ -45,15 +49,12 @@ def in_table(entry):
     return 1 <= n <= 28 and 3 <= d <= 28 and (w is None or d % 2 == 0 and w <= n)
 
 
-def krawtchouk(n, k, i):
-    return sum((-1) ** j * comb(i, j) * comb(n - i, k - j) for j in range(min(i, k) + 1))
-
-
-def johnson(n, w, k, i):
-    total, factorial = 0, list(accumulate(range(1, k + 1), lambda a, b: a * b, initial=1))
-    for j in range(min(i, k) + 1):
-        total += (-1) ** j * comb(i, j) ** 2 * factorial[j] * comb(w - i, k - j) * comb(n - w - i, k - j) * factorial[k - j]
-    return total
+def scheme_number(n, w, k, i):
+    """Krawtchouk's number, or with a weight the Johnson scheme's."""
+    if w is None:
+        return sum((-1) ** j * comb(i, j) * comb(n - i, k - j) for j in range(min(i, k) + 1))
+    return sum((-1) ** j * comb(i, j) ** 2 * factorial(j) * comb(w - i, k - j) * comb(n - w - i, k - j) * factorial(k - j)
+               for j in range(min(i, k) + 1))
 
 
 # ---- the rules: each gives the premises and what is made of their values, or nothing where it isn't defined. `formula` may give nothing.
@@ -68,14 +69,9 @@ def same(*entry):
     return [entry], lambda v: v
 
 
-def choose(condition, rule):
-    """A rule where its condition holds."""
-    return rule if condition else None
-
-
 def plotkin(n, d):
     n, d = n + d % 2, d + d % 2
-    return number(2 * (d // (2 * d - n))) if d <= n < 2 * d else choose(n == 2 * d, number(4 * d))
+    return number(2 * (d // (2 * d - n))) if d <= n < 2 * d else n == 2 * d and number(4 * d)
 
 
 def johnson_bound(n, d):
@@ -84,13 +80,13 @@ def johnson_bound(n, d):
     def bound(u):
         rest = comb(n, half) - comb(d, half - 1) * u
         return 2 ** n * most // (most * ball(n, half - 1) + rest) if rest > 0 else None
-    return choose(d % 2 and d <= n, ([(n, d + 1, d)], bound))
+    return d % 2 and d <= n and ([(n, d + 1, d)], bound)
 
 
 def sums(n, d):
     m = n // 2
     plain = ([(m, d)], lambda a: 2 ** (m - 1) * a) if d < 5 else ([(m, up(d, 2)), (m, d)], lambda a, b: a * b)
-    return choose(n % 2 == 0, plain)
+    return n % 2 == 0 and plain
 
 
 def sum_class(n, d, w, r):
@@ -98,7 +94,7 @@ def sum_class(n, d, w, r):
     for place in range(n):
         for k in range(w, 0, -1):
             count[k] = [have + count[k - 1][(s - place) % n] for s, have in enumerate(count[k])]
-    return choose(d == 4 and r < n and count[w][r % n], number(count[w][r % n]))
+    return d == 4 and r < n and count[w][r] > 0 and number(count[w][r])
 
 
 def column_pairs(n, d, w):
@@ -134,49 +130,49 @@ def dual_bound(pieces, entry, name):
         products = [(2 * i >= 2 * n - d, y * u) for (i, y), u in zip(charged, values)]
         far, near = ([p for is_far, p in products if is_far == side] for side in (True, False))
         return (piece.f(0) + max(far, default=0) + sum(near)) // piece.c[0]
-    return choose(piece, ([(n, 2 * up(d, 2), i) for i, _ in charged], bound))
+    return piece and ([(n, 2 * up(d, 2), i) for i, _ in charged], bound)
 
 
 PLAIN = {
     "L1": lambda n, d: number(1),
-    "L2": lambda n, d: choose(d <= n, number(2)),
+    "L2": lambda n, d: d <= n and number(2),
     "L3": lambda n, d: same(n - 1, d),
     "L4": lambda n, d: same(n, d + 1),
-    "L5": lambda n, d: choose(d % 2 == 0, same(n - 1, d - 1)),
+    "L5": lambda n, d: d % 2 == 0 and same(n - 1, d - 1),
     "L6": lambda n, d: same(n + 1, d + 1),
     "L7": lambda n, d: ([(n + 1, d)], lambda v: up(v, 2)),
     "L8": sums,
     "L9": lambda n, d, w: same(n, 2 * up(d, 2), w),
-    "L11": lambda n, d, m, c: choose(1 <= m < n and c >= 3 and d - c >= 3, ([(m, c), (n - m, d - c)], min)),
+    "L11": lambda n, d, m, c: 1 <= m < n and c >= 3 and d - c >= 3 and ([(m, c), (n - m, d - c)], min),
     "U0": lambda n, d: number(2 ** n),
-    "U1": lambda n, d: choose(d > n, number(1)),
+    "U1": lambda n, d: d > n and number(1),
     "U2": plotkin,
     "U3": lambda n, d: number(2 ** n // ball(n, (d - 1) // 2)),
-    "U4": lambda n, d: choose(d % 2, same(n + 1, d + 1)),
+    "U4": lambda n, d: d % 2 and same(n + 1, d + 1),
     "U5": lambda n, d: same(n - 1, d - 1),
     "U6": lambda n, d: ([(n - 1, d)], lambda v: 2 * v),
     "U7": lambda n, d: same(n, d - 1),
     "U8": lambda n, d: same(n + 1, d),
     "U9": johnson_bound,
-    "U10": lambda n, d, w: choose(w <= n, ([(n, d, w)], lambda v: 2 ** (n - 1) * v // comb(n, w))),
+    "U10": lambda n, d, w: w <= n and ([(n, d, w)], lambda v: 2 ** (n - 1) * v // comb(n, w)),
 }
 WEIGHTED = {
     "M1": lambda n, d, w: number(1),
-    "M2": lambda n, d, w: choose(2 * w == d, number(2 * n // d)),
+    "M2": lambda n, d, w: 2 * w == d and number(2 * n // d),
     "M3": lambda n, d, w: same(n - 1, d, w),
-    "M4": lambda n, d, w: choose(w >= 1, same(n - 1, d, w - 1)),
+    "M4": lambda n, d, w: w >= 1 and same(n - 1, d, w - 1),
     "M5": lambda n, d, w: ([(n + 1, d, w + 1)], lambda v: up((w + 1) * v, n + 1)),
     "M6": lambda n, d, w: ([(n + 1, d, w)], lambda v: up((n + 1 - w) * v, n + 1)),
     "M7": lambda n, d, w: same(n, d, n - w),
     "M8": lambda n, d, w: same(n, d + 2, w),
     "M9": sum_class,
     "V0": lambda n, d, w: number(comb(n, w)),
-    "V1": lambda n, d, w: choose(d > 2 * min(w, n - w), number(1)),
-    "V2": lambda n, d, w: choose(d == 2 * w, number(n // max(w, 1))),
+    "V1": lambda n, d, w: d > 2 * min(w, n - w) and number(1),
+    "V2": lambda n, d, w: d == 2 * w and number(n // max(w, 1)),
     "V3": lambda n, d, w: same(n, d, n - w),
-    "V4": lambda n, d, w: choose(w >= 1, ([(n - 1, d, w - 1)], lambda v: n * v // w)),
-    "V5": lambda n, d, w: choose(w < n, ([(n - 1, d, w)], lambda v: n * v // (n - w))),
-    "V6": lambda n, d, w: choose(1 <= w <= n - 1, ([(n - 1, d, w), (n - 1, d, w - 1)], lambda a, b: a + b)),
+    "V4": lambda n, d, w: w >= 1 and ([(n - 1, d, w - 1)], lambda v: n * v // w),
+    "V5": lambda n, d, w: w < n and ([(n - 1, d, w)], lambda v: n * v // (n - w)),
+    "V6": lambda n, d, w: 1 <= w <= n - 1 and ([(n - 1, d, w), (n - 1, d, w - 1)], lambda a, b: a + b),
     "V7": lambda n, d, w: same(n, d - 2, w),
     "V8": column_pairs,
 }
@@ -256,8 +252,6 @@ class Piece:
         for at, (word, length) in enumerate((word, length) for words, length in self.lists for word in words):
             require(re.fullmatch("[01]{%d}" % length, word), f"digits {at}")
         self.numbers = [[int(word, 2) for word in words] for words, _ in self.lists]
-        for size, most in self.counts():
-            require(0 < size <= most, f"size {size}")
 
     def field(self, name, fits, default=None):
         """The value at a key, refused where it doesn't fit."""
@@ -307,18 +301,9 @@ class Piece:
         self.most = self.field("size", lambda v: is_number(v, 1, 262144)) if "size" in own else 0
         self.parts = [self.field(name, is_id) for name in ("part", "other")[:1 + (op in ("uuv", "juxtapose"))]]
 
-    def counts(self):
-        """The numbers of words, or classes, that have to be at least 1, each with the most that it may be."""
-        sizes = [len(words) for words, _ in self.lists]
-        if self.kind == "cosets":
-            return [(sizes[0], 28)] * (sizes[0] > 28) + [(sizes[1], 4096)]
-        if self.kind == "partition":
-            return [(len(sizes), 4096), *((size, 2 ** 64) for size in sizes), (sum(sizes), 16384)]
-        return [(sizes[0], 16384)] if self.kind == "words" else []
-
     def f(self, i):
         """The dual's sum at an index."""
-        return sum(c * (krawtchouk(self.n, k, i) if self.w is None else johnson(self.n, self.w, k, i)) for k, c in enumerate(self.c) if c)
+        return sum(c * scheme_number(self.n, self.w, k, i) for k, c in enumerate(self.c) if c)
 
     def check(self, pieces):
         """Refuses what isn't as stated, over the pieces before."""
@@ -329,13 +314,17 @@ class Piece:
         getattr(self, "check_" + ("dual" if self.kind == "jdual" else self.kind))(*([parts] if parts else []))
 
     def check_words(self):
-        check_list(self.numbers[0], self.w, self.d)
+        require_size(len(self.numbers[0]), 16384)
+        check_list(self.numbers[0], self.w, self.d, lambda i, j: self.d)
         self.code = sorted(self.numbers[0])
 
     def check_cosets(self):
         basis, self.chosen = self.numbers
-        self.sums, count, k = span(basis), len(self.chosen), len(basis)
+        count, k = len(self.chosen), len(basis)
+        require(k <= 28, f"size {k}")
+        require_size(count, 4096)
         require(count * (count + 1) // 2 << k <= 2 ** 24, f"work {count * (count + 1) // 2 << k}")
+        self.sums = span(basis)
         for a, one in enumerate(self.chosen):
             for b in range(a, count):
                 for s, distance in enumerate(map(int.bit_count, map((one ^ self.chosen[b]).__xor__, self.sums))):
@@ -343,10 +332,10 @@ class Piece:
 
     def check_partition(self):
         words, of = [word for one in self.numbers for word in one], [i for i, one in enumerate(self.numbers) for _ in one]
-        check_list(words, self.w, 1)
-        for i, j in combinations(range(len(words)), 2):
-            distance, need = (words[i] ^ words[j]).bit_count(), self.d if of[i] == of[j] else self.between
-            require(distance >= need, f"close {i} {j} {distance} classes {of[i]} {of[j]} need {need}")
+        require_size(len(self.numbers), 4096)
+        require(all(self.numbers), "size 0")
+        require_size(len(words), 16384)
+        check_list(words, self.w, self.d, lambda i, j: self.d if of[i] == of[j] else self.between, of)
 
     def check_product(self, parts):
         for at, part in enumerate(parts):
@@ -436,18 +425,18 @@ def span(basis):
     return sums
 
 
-def check_list(words, w, d):
-    """Refuses the first word of another weight, the first pair of equal words, the first pair that is too close."""
+def check_list(words, w, d, need, classes=None):
+    """Refuses the first word of another weight, the first pair of equal words, the first pair that is closer than need be, d at most."""
     for i, word in enumerate(words):
         require(w is None or word.bit_count() == w, f"weight {i}")
     last = {word: i for i, word in enumerate(words)}
     for i, word in enumerate(words):
         require(last[word] == i, f"repeated {i} {words.index(word, i + 1) if last[word] != i else i}")
-    for i, word in enumerate(words if d > 1 else []):
+    for i, word in enumerate(words):
         distances = list(map(int.bit_count, map(word.__xor__, words[i + 1:])))
-        if min(distances, default=d) < d:
-            j = next(j for j, distance in enumerate(distances) if distance < d)
-            raise No(f"close {i} {i + 1 + j} {distances[j]}")
+        for j, distance in enumerate(distances if min(distances, default=d) < d else [], i + 1):
+            if distance < need(i, j):
+                raise No(f"close {i} {j} {distance}" + (f" classes {classes[i]} {classes[j]} need {need(i, j)}" if classes else ""))
 
 
 # ---- the document
