@@ -9,4 +9,7 @@ import unittest
 from pathlib import Path
 
 if __name__ == "__main__":
+    if sys.version_info < (3, 11):
+        print("tools/test.py: the tools want Python 3.11 or later: nothing was tried", file=sys.stderr)
+        sys.exit()
     unittest.main(module=None, argv=[sys.argv[0], "discover", "-s", str(Path(__file__).resolve().parent / "tests"), *sys.argv[1:]])

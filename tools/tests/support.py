@@ -12,7 +12,11 @@ TOP = TOOLS.parent
 DATA = TOOLS / "tests" / "data"
 sys.path.insert(0, str(TOOLS))
 
-HAS_PROGRAM = bool(os.environ.get("CODE_TABLES")) or (TOP / "crates/ct_program/out/ct_program").exists()
+# The built program itself, and not ./code_tables, which would prove it first where a source changed.
+BUILT = TOP / "crates/ct_program/out/ct_program"
+if BUILT.exists():
+    os.environ.setdefault("CODE_TABLES", str(BUILT))
+HAS_PROGRAM = bool(os.environ.get("CODE_TABLES"))
 needs_program = unittest.skipUnless(HAS_PROGRAM, "the program isn't built")
 
 
