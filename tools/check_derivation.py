@@ -29,10 +29,6 @@ def require(condition, why="form"):
         raise No(why)
 
 
-def require_size(size, most):
-    require(0 < size <= most, f"size {size}")
-
-
 def ball(n, radius):
     """The number of words within a distance of a word."""
     return sum(comb(n, j) for j in range(radius + 1))
@@ -105,34 +101,22 @@ def column_pairs(n, d, w):
     return None
 
 
-def named(pieces, entry, name, *kinds):
-    """The piece of a name, where it is of one of the kinds and of the entry."""
-    piece = pieces.get(name)
-    return piece if piece and piece.kind in kinds and piece.entry == entry else None
-
-
-def size_of(pieces, entry, name):
-    piece = named(pieces, entry, name, "words", "cosets", "build", "product")
-    return number(piece.size()) if piece else None
-
-
-def johnson_dual_bound(pieces, entry, name):
-    piece = named(pieces, entry, name, "jdual")
-    return number(piece.f(0) // piece.c[0]) if piece else None
-
-
-def dual_bound(pieces, entry, name):
-    piece = named(pieces, entry, name, "dual")
-    n, d = entry
-    charged = [(i, y) for i, y in piece.y.items() if y] if piece else []
+def dual_bound(piece):
+    """The rule of a dual: its premises are at the distances at which it has a y."""
+    (n, d), charged = piece.entry, [(i, y) for i, y in piece.y.items() if y]
 
     def bound(*values):
         products = [(2 * i >= 2 * n - d, y * u) for (i, y), u in zip(charged, values)]
         far, near = ([p for is_far, p in products if is_far == side] for side in (True, False))
         return (piece.f(0) + max(far, default=0) + sum(near)) // piece.c[0]
-    return piece and ([(n, 2 * up(d, 2), i) for i, _ in charged], bound)
+    return [(n, 2 * up(d, 2), i) for i, _ in charged], bound
 
 
+CODES = ("words", "cosets", "build", "product")
+NAMING = {
+    "L10": (2, CODES, lambda piece: number(piece.size)), "M10": (3, CODES, lambda piece: number(piece.size)),
+    "U11": (2, ("dual",), dual_bound), "V9": (3, ("jdual",), lambda piece: number(piece.f(0) // piece.c[0])),
+}
 PLAIN = {
     "L1": lambda n, d: number(1),
     "L2": lambda n, d: d <= n and number(2),
@@ -176,15 +160,14 @@ WEIGHTED = {
     "V7": lambda n, d, w: same(n, d - 2, w),
     "V8": column_pairs,
 }
-NAMING = {"L10": (2, size_of), "M10": (3, size_of), "U11": (2, dual_bound), "V9": (3, johnson_dual_bound)}
 ARGUMENTS = {"L9": 1, "L10": 1, "L11": 2, "M9": 1, "M10": 1, "U10": 1, "U11": 1, "V9": 1}
 
 
 def rule_at(pieces, name, entry, arguments):
     """A rule at an entry, or nothing where it isn't defined there: where its condition fails, or a premise is outside the table."""
     if name in NAMING:
-        length, make = NAMING[name]
-        rule = make(pieces, entry, arguments[0]) if len(entry) == length else None
+        (length, kinds, make), piece = NAMING[name], pieces.get(arguments[0])
+        rule = make(piece) if piece and piece.kind in kinds and len(entry) == length and piece.entry == entry else None
     else:
         make = (PLAIN if len(entry) == 2 else WEIGHTED).get(name)
         rule = make(*entry, *arguments) if make else None
@@ -193,6 +176,7 @@ def rule_at(pieces, name, entry, arguments):
 
 # ---- evidence: each kind reads its fields in order, then is checked
 
+SAME_FORM = {"cosets": "words", "jdual": "dual"}
 KINDS = ("words", "cosets", "partition", "build", "product", "dual", "jdual")
 OPERATIONS = {"lengthen": (), "append_one": (), "parity": (), "puncture": ("places",), "shorten": ("places", "digits"),
               "translate": ("by",), "complement": (), "select": ("by",), "uuv": (), "juxtapose": (), "trim": ("size",)}
@@ -213,10 +197,6 @@ def is_texts(value):
 
 def is_id(value):
     return isinstance(value, str) and bool(ID.fullmatch(value))
-
-
-def is_ascending(numbers):
-    return all(a < b for a, b in zip(numbers, numbers[1:]))
 
 
 def is_whole(value):
@@ -247,7 +227,7 @@ class Piece:
         if weighted or self.kind == "jdual":
             self.w = self.field("w", lambda v: is_number(v, 0, self.n))
         self.entry = (self.n, self.d) if self.w is None else (self.n, self.d, self.w)
-        getattr(self, "read_" + self.kind)()
+        getattr(self, "read_" + SAME_FORM.get(self.kind, self.kind))()
         require(not set(self.table) - self.known, "unknown")
         for at, (word, length) in enumerate((word, length) for words, length in self.lists for word in words):
             require(re.fullmatch("[01]{%d}" % length, word), f"digits {at}")
@@ -262,10 +242,8 @@ class Piece:
         return self.table[name]
 
     def read_words(self):
-        self.lists = [(self.field("words", is_texts), self.n)]
-
-    def read_cosets(self):
-        self.lists = [(self.field(name, is_texts), self.n) for name in ("basis", "representatives")]
+        names = ("basis", "representatives") if self.kind == "cosets" else ("words",)
+        self.lists = [(self.field(name, is_texts), self.n) for name in names]
 
     def read_partition(self):
         self.between = self.field("d1", lambda v: is_number(v, 1, self.d))
@@ -277,15 +255,13 @@ class Piece:
         self.parts = [name for pair in pairs for name in pair]
 
     def read_dual(self):
-        even = self.field("even", lambda v: v is False or v is True and self.d % 2 == 0, default=False)
-        self.c = self.field("c", lambda v: is_list(v, lambda x: is_number(x, 0)) and 1 <= len(v) <= self.n + 1)
-        self.range = [i for i in range(self.d, self.n + 1) if not even or i % 2 == 0]
-        self.y = dict(self.field("y", lambda v: is_list(v, lambda p: is_list(p, lambda x: is_number(x, 0)) and len(p) == 2
-                                                        and p[0] in self.range) and is_ascending([i for i, _ in v]), default=[]))
-
-    def read_jdual(self):
-        self.range = range(self.d // 2, min(self.w, self.n - self.w) + 1)
-        self.c = self.field("c", lambda v: is_list(v, lambda x: is_number(x, 0)) and 1 <= len(v) <= min(self.w, self.n - self.w) + 1)
+        degree = self.n if self.w is None else min(self.w, self.n - self.w)
+        even = self.kind == "dual" and self.field("even", lambda v: v is False or v is True and self.d % 2 == 0, default=False)
+        self.c = self.field("c", lambda v: is_list(v, lambda x: is_number(x, 0)) and 1 <= len(v) <= degree + 1)
+        self.range = [i for i in range(self.d if self.w is None else self.d // 2, degree + 1) if not even or i % 2 == 0]
+        if self.kind == "dual":
+            self.y = dict(self.field("y", lambda v: is_list(v, lambda p: is_list(p, lambda x: is_number(x, 0)) and len(p) == 2
+                                                            and p[0] in self.range) and [i for i, _ in v] == sorted({i for i, _ in v}), []))
 
     def read_build(self):
         self.op = op = self.field("op", lambda v: isinstance(v, str) and v in OPERATIONS)
@@ -294,7 +270,7 @@ class Piece:
         own, self.places = OPERATIONS[op], []
         if "places" in own:
             self.places = self.field("places", lambda v: is_list(v, lambda p: is_number(p, 0, self.n + len(v) - 1)) and v
-                                     and is_ascending(v) and self.n + len(v) <= 28)
+                                     and v == sorted(set(v)) and self.n + len(v) <= 28)
         for name, length in ("digits", len(self.places)), ("by", self.n):
             if name in own:
                 self.lists = [([self.field(name, lambda v: isinstance(v, str))], length)]
@@ -311,20 +287,20 @@ class Piece:
             require(name in pieces, f"nosuch {name}")
         self.stored = sum(map(len, self.numbers))
         parts = [pieces[name] for name in self.parts]
-        getattr(self, "check_" + ("dual" if self.kind == "jdual" else self.kind))(*([parts] if parts else []))
+        getattr(self, "check_" + self.kind.removeprefix("j"))(*([parts] if parts else []))
 
     def check_words(self):
-        require_size(len(self.numbers[0]), 16384)
+        require(0 < len(self.numbers[0]) <= 16384, f"size {len(self.numbers[0])}")
         check_list(self.numbers[0], self.w, self.d, lambda i, j: self.d)
-        self.code = sorted(self.numbers[0])
+        self.code, self.size = sorted(self.numbers[0]), len(self.numbers[0])
 
     def check_cosets(self):
         basis, self.chosen = self.numbers
         count, k = len(self.chosen), len(basis)
         require(k <= 28, f"size {k}")
-        require_size(count, 4096)
+        require(0 < count <= 4096, f"size {count}")
         require(count * (count + 1) // 2 << k <= 2 ** 24, f"work {count * (count + 1) // 2 << k}")
-        self.sums = span(basis)
+        self.sums, self.size = span(basis), count << k
         for a, one in enumerate(self.chosen):
             for b in range(a, count):
                 for s, distance in enumerate(map(int.bit_count, map((one ^ self.chosen[b]).__xor__, self.sums))):
@@ -332,9 +308,9 @@ class Piece:
 
     def check_partition(self):
         words, of = [word for one in self.numbers for word in one], [i for i, one in enumerate(self.numbers) for _ in one]
-        require_size(len(self.numbers), 4096)
+        require(0 < len(self.numbers) <= 4096, f"size {len(self.numbers)}")
         require(all(self.numbers), "size 0")
-        require_size(len(words), 16384)
+        require(0 < len(words) <= 16384, f"size {len(words)}")
         check_list(words, self.w, self.d, lambda i, j: self.d if of[i] == of[j] else self.between, of)
 
     def check_product(self, parts):
@@ -344,6 +320,7 @@ class Piece:
             fits = fits and (self.w is None or part.w is not None and (at % 2 == 0 or part.w + first.w == self.w))
             require(fits, f"part {self.parts[at]}")
         self.pairs = list(zip(parts[::2], parts[1::2]))
+        self.size = sum(len(a) * len(b) for x, y in self.pairs for a, b in zip(x.numbers, y.numbers))
         distances = [min(x.d, y.d, x.between + y.between) for x, y in self.pairs]
         distances += [2 * abs(x.w - z.w) for (x, _), (z, _) in combinations(self.pairs, 2)]
         require(min(distances) >= self.d, f"short {min(distances)} {self.d}")
@@ -352,14 +329,6 @@ class Piece:
         require(self.c[0], "lead")
         for i in self.range:
             require(self.f(i) <= self.y.get(i, 0), f"above {i} {self.f(i)} {self.y.get(i, 0)}")
-
-    def size(self):
-        """The number of words of the piece's code."""
-        if self.kind == "cosets":
-            return len(self.chosen) * len(self.sums)
-        if self.kind == "product":
-            return sum(len(a) * len(b) for x, y in self.pairs for a, b in zip(x.numbers, y.numbers))
-        return len(self.code)
 
     def words(self):
         """The words of the piece's code, ascending."""
@@ -384,7 +353,7 @@ class Piece:
         for at, part in enumerate(parts):
             fits = part.kind in ("words", "cosets", "build", "product") and self.fits(part, parts[0] if at else None)
             require(fits, f"part {self.parts[at]}")
-        d, e, sizes = parts[0].d, parts[-1].d, [part.size() for part in parts]
+        d, e, sizes = parts[0].d, parts[-1].d, [part.size for part in parts]
         distance = {"parity": d + d % 2, "puncture": max(0, d - len(self.places)), "select": d + d % 2, "uuv": min(2 * d, e),
                     "juxtapose": d + e}.get(self.op, d)
         require(distance >= self.d, f"short {distance} {self.d}")
@@ -392,7 +361,7 @@ class Piece:
             require(size <= 262144, f"size {size}")
         require(self.op != "trim" or sizes[0] >= self.most, f"few {sizes[0]} {self.most}")
         self.code = sorted(self.built([part.words() for part in parts], parts[-1].n))
-        self.stored = len(self.code)
+        self.stored = self.size = len(self.code)
         require(self.code, "empty")
 
     def built(self, codes, length):
