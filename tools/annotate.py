@@ -1,8 +1,8 @@
 #!/usr/bin/env python3
 """Puts each reply of the program beside its command, and says what a refusal means there.
 
-    $ printf 'submit a\\nkind = "words"\\nn = 6\\nd = 4\\nwords = ["000000", "111000"]\\nend\\nshow 6 4\\n' > /tmp/two.session
-    $ printf 'refused close 0 1 3\\nA(6,4) = 4\\n' | tools/annotate.py /tmp/two.session
+    $ printf 'submit a\\nkind = "words"\\nn = 6\\nd = 4\\nwords = ["000000", "111000"]\\nend\\nshow 6 4\\n' > two.session
+    $ printf 'refused close 0 1 3\\nA(6,4) = 4\\n' | tools/annotate.py two.session
     1: submit a: refused close 0 1 3
         I < J is the least pair of places, in the same order, whose words have a distance T below d. Of cosets, I and J are numbers of choices
         (below), and T is 0 where two choices give one word

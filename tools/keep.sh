@@ -1,7 +1,7 @@
 #!/bin/sh
 # keep.sh SESSION [KEPT]: runs a session, and keeps the pieces that stand at its end as a session that can be run again.
 #
-#     $ tools/keep.sh examples/six-words.session /tmp/kept.session
+#     $ tools/keep.sh examples/six-words.session six-words.kept
 #     accepted hexa size 6
 #     A(10,6) = 6
 #

@@ -4,6 +4,7 @@ import os
 import shutil
 import subprocess
 import sys
+import tempfile
 import unittest
 from pathlib import Path
 
@@ -40,3 +41,12 @@ def session(text, mode="session"):
 def data(name):
     """A stored text."""
     return (DATA / name).read_text()
+
+
+def workplace(test):
+    """A folder for what the commands of documents write, in which the repository's folders are seen."""
+    folder = tempfile.TemporaryDirectory()
+    test.addCleanup(folder.cleanup)
+    for name in ("docs", "examples", "tools", "code_tables"):
+        (Path(folder.name) / name).symlink_to(TOP / name)
+    return folder.name

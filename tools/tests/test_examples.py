@@ -24,13 +24,14 @@ def examples(text):
 
 class Examples(unittest.TestCase):
     def test_a_description_shows_what_the_tool_does(self):
+        folder = support.workplace(self)
         for tool in sorted(support.TOOLS.glob("*.py")):
             text = ast.get_docstring(ast.parse(tool.read_text()), clean=False) or ""
             for command, output in examples(text):
                 if "code_tables" in command and not support.HAS_PROGRAM:
                     continue
                 with self.subTest(tool=tool.name, command=command):
-                    ended = subprocess.run(command, shell=True, cwd=support.TOP, stdout=subprocess.PIPE)
+                    ended = subprocess.run(command, shell=True, cwd=folder, stdout=subprocess.PIPE)
                     self.assertEqual(ended.stdout.decode(), output)
 
     def test_examples_of_the_shared_module(self):

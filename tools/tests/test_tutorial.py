@@ -5,7 +5,7 @@ import shlex
 import subprocess
 import unittest
 
-from support import TOP, needs_program, session
+from support import TOP, needs_program, session, workplace
 
 import sessions
 
@@ -18,10 +18,10 @@ def blocks(text):
             yield [(command.split("\n", 1) + [""])[:2] for command in commands[1:]]
 
 
-def answer(command):
-    """What a command line answers, with the program that is tried in the place of ./code_tables."""
+def answer(command, folder):
+    """What a command line answers in a folder, with the program that is tried in the place of ./code_tables."""
     program = " ".join(map(shlex.quote, sessions.program()))
-    return subprocess.run(command.replace("./code_tables", program), shell=True, cwd=TOP, stdout=subprocess.PIPE).stdout.decode()
+    return subprocess.run(command.replace("./code_tables", program), shell=True, cwd=folder, stdout=subprocess.PIPE).stdout.decode()
 
 
 def matches(shown, said):
@@ -34,14 +34,14 @@ class Tutorial(unittest.TestCase):
     def check(self, document):
         """Runs the commands of a document; those that ask for what this program doesn't have yet are left out."""
         has = {"explain": not session("explain upper 16 6\n").startswith("refused command")}
-        left = 0
+        left, folder = 0, workplace(self)
         for block in blocks((TOP / document).read_text()):
             for command, shown in block:
                 if any(word in command and not there for word, there in has.items()):
                     left += 1
                     continue
                 with self.subTest(command=command):
-                    said = answer(command)
+                    said = answer(command, folder)
                     self.assertTrue(matches(shown, said), f"{document} shows\n{shown}and the answer is\n{said}")
         return left
 
@@ -57,7 +57,7 @@ class Tutorial(unittest.TestCase):
     @unittest.skipUnless(subprocess.run("command -v gap", shell=True, capture_output=True).returncode == 0, "GAP isn't there")
     def test_the_session_of_guava(self):
         lines = re.findall(r"^gap> (.*)$", (TOP / "docs/TUTORIAL.md").read_text(), re.M)
-        script = "\n".join(line.replace(', "/tmp/guava.session"', "") for line in lines)
+        script = "\n".join(line.replace(', "guava.session"', "") for line in lines)
         said = subprocess.run(["gap", "-q", "-T"], input=script.encode(), cwd=TOP, capture_output=True)
         self.assertEqual(said.stderr, b"")
         self.assertEqual(re.findall(rb"^submit (.*)$", said.stdout, re.M), [b"golay", b"conference"])
