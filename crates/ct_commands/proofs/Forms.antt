@@ -15,7 +15,8 @@ first_words_tell (v ∷ []) = refl
 first_words_tell (v ∷ w ∷ []) = refl
 first_words_tell (v ∷ w ∷ x ∷ []) = refl
 first_words_tell (v ∷ w ∷ x ∷ y ∷ []) = refl
-first_words_tell (v ∷ w ∷ x ∷ y ∷ z ∷ rest) = refl
+first_words_tell (v ∷ w ∷ x ∷ y ∷ z ∷ []) = refl
+first_words_tell (v ∷ w ∷ x ∷ y ∷ z ∷ u ∷ rest) = refl
 
 -- an empty line asks for nothing
 pub nothing_asked : form_of [] ≡ Nothing

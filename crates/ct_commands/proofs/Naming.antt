@@ -5,6 +5,7 @@ use Rattle.std.specs.List.{AllByRecursion}
 use Rattle.std.specs.Str.{bytes_eq}
 use Rattle.std.specs.Option.{option_map, option_to_list, unwrap_or}
 use Rattle.std.proofs.lemmas.Bool.{cond_both}
+use Rattle.ct_codes.specs.declared.claim.Side.{Side}
 use Rattle.ct_text.specs.Id.{is_id}
 use Rattle.ct_text.specs.Line.{words_of}
 use Rattle.ct_text.specs.Number.{number_of}
@@ -16,7 +17,7 @@ use Rattle.ct_text.specs.declared.table_numbers.TableNumbers.{TableNumbers}
 use Rattle.ct_text.specs.declared.gathering.Gathered.{Gathered}
 use Rattle.ct_text.specs.declared.gathering.Gathered.TheVariants.{More, Whole}
 use Rattle.ct_text.specs.declared.gathering.Extent.TheVariants.{ToEnd}
-use Rattle.ct_commands.specs.Form.{form_of, id_of, lines_form, submit_form, only_id, alone, command_of, words_form}
+use Rattle.ct_commands.specs.Form.{form_of, id_of, lines_form, submit_form, only_id, alone, side_of, explanation_of, explanation, command_of, words_form}
 use Rattle.ct_commands.specs.Command.{opened, going_on, open_after, asked, finished, completed_by, completed, open_after_all, cut_off, commands_of}
 use Rattle.ct_commands.specs.declared.form.Form.{Form}
 use Rattle.ct_commands.specs.declared.form.Form.TheVariants.{Nothing, Submit}
@@ -82,6 +83,16 @@ table-named : (numbers : Option TableNumbers) → AnyIsNamed (option_map command
 table-named None = tt
 table-named (Some numbers) = tt
 
+explanation_of-named : (side : Option Side) (numbers : Option EntryNumbers) → AnyIsNamed (explanation_of side numbers)
+explanation_of-named None None = tt
+explanation_of-named None (Some numbers) = tt
+explanation_of-named (Some side) None = tt
+explanation_of-named (Some side) (Some numbers) = tt
+
+explanation-named : (words : List (List ℕ)) → AnyIsNamed (explanation words)
+explanation-named [] = tt
+explanation-named (side ∷ numbers) = explanation_of-named (side_of side) (entry_numbers_of numbers)
+
 alone-named : (c : Command) (words : List (List ℕ)) → CommandIsNamed c → AnyIsNamed (alone c words)
 alone-named c [] h = h
 alone-named c (word ∷ words) h = tt
@@ -91,8 +102,9 @@ command_of-named name words =
     any_chosen (bytes_eq name (codes "withdraw")) _ _ (withdraw-named (only_id words))
     (any_chosen (bytes_eq name (codes "show")) _ _ (show-named (entry_numbers_of words))
     (any_chosen (bytes_eq name (codes "table")) _ _ (table-named (table_numbers_of words))
+    (any_chosen (bytes_eq name (codes "explain")) _ _ (explanation-named words)
     (any_chosen (bytes_eq name (codes "ledger")) _ _ (alone-named command.Ledger words tt)
-    (any_chosen (bytes_eq name (codes "dump")) _ _ (alone-named command.Dump words tt) tt))))
+    (any_chosen (bytes_eq name (codes "dump")) _ _ (alone-named command.Dump words tt) tt)))))
 
 or_unknown-named : (c : Option Command) → AnyIsNamed c → CommandIsNamed (unwrap_or c command.Unknown)
 or_unknown-named None h = tt

@@ -2,11 +2,14 @@
 use Rattle.std.specs.Option.{option_map, unwrap_or}
 use Rattle.std.specs.Prelude.{ℕ, suc, ◌==◌, if◌then◌else◌, List, [], ◌∷◌, Option, Some, None, codes, slice_index}
 use Rattle.std.specs.Str.{bytes_eq}
+use Rattle.ct_codes.specs.declared.claim.Side.{Side}
+use Rattle.ct_codes.specs.declared.claim.Side.TheVariants.{Lower, Upper}
 use Rattle.ct_text.specs.Line.{words_of}
 use Rattle.ct_text.specs.Number.{number_of}
 use Rattle.ct_text.specs.Id.{is_id}
 use Rattle.ct_text.specs.EntryNumbers.{entry_numbers_of}
 use Rattle.ct_text.specs.TableNumbers.{table_numbers_of}
+use Rattle.ct_text.specs.declared.entry_numbers.EntryNumbers.{EntryNumbers}
 use Rattle.ct_text.specs.declared.gathering.Extent.TheVariants.{ToEnd, Lines}
 use Rattle.ct_commands.specs.declared.form.Form.{Form}
 use Rattle.ct_commands.specs.declared.form.Form.TheVariants.{Nothing, Submit, Whole}
@@ -38,15 +41,33 @@ abbrev pub alone : Command → List (List ℕ) → Option Command
 alone c [] = Some c
 alone c (word ∷ words) = None
 
+-- the side that a word names, if it names one
+abbrev pub side_of : List ℕ → Option Side
+side_of word =
+    if bytes_eq word (codes "lower") then Some Lower
+    else (if bytes_eq word (codes "upper") then Some Upper
+    else None)
+
+-- the explanation of the bound on a side of an entry, where both are named
+abbrev pub explanation_of : Option Side → Option EntryNumbers → Option Command
+explanation_of (Some side) (Some numbers) = Some (command.Explain side numbers)
+explanation_of side numbers = None
+
+-- the explanation that the words ask for, if they are a side and the numbers of an entry
+abbrev pub explanation : List (List ℕ) → Option Command
+explanation [] = None
+explanation (side ∷ numbers) = explanation_of (side_of side) (entry_numbers_of numbers)
+
 -- the command that a name and the words after it make, if they make one: a row for each command that is one line
 abbrev pub command_of : List ℕ → List (List ℕ) → Option Command
 command_of name words =
     if bytes_eq name (codes "withdraw") then option_map command.Withdraw (only_id words)
     else (if bytes_eq name (codes "show") then option_map command.Show (entry_numbers_of words)
     else (if bytes_eq name (codes "table") then option_map command.Table (table_numbers_of words)
+    else (if bytes_eq name (codes "explain") then explanation words
     else (if bytes_eq name (codes "ledger") then alone command.Ledger words
     else (if bytes_eq name (codes "dump") then alone command.Dump words
-    else None))))
+    else None)))))
 
 -- what the words of a line ask for, by the first of them: a submission, a command, or one that is unknown
 abbrev pub words_form : List (List ℕ) → Form

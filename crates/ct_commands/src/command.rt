@@ -1,5 +1,6 @@
 //! The commands of a session.
 
+use ct_codes::Side;
 use ct_text::{EntryNumbers, Id, TableNumbers, Text};
 
 /// A command of a session.
@@ -15,6 +16,8 @@ pub enum Command {
     Show(EntryNumbers),
     /// The bounds of the entries in the part of the table with these numbers.
     Table(TableNumbers),
+    /// An explanation of the bound on this side of the entry with these numbers.
+    Explain(Side, EntryNumbers),
     /// A line for each piece.
     Ledger,
     /// The commands that lead to the pieces.

@@ -4,9 +4,10 @@ ghost use Rattle.std.specs.Prelude.{◌≡◌, ◌==◌, IfOk, map, slice_index}
 ghost use Rattle.ct_text.specs.Number.{number_of};
 ghost use Rattle.ct_text.specs.EntryNumbers.{entry_numbers_of};
 ghost use Rattle.ct_text.specs.TableNumbers.{table_numbers_of};
-ghost use Rattle.ct_commands.specs.Form.{form_of, words_form, submit_form, lines_form, only_id, alone, command_of};
+ghost use Rattle.ct_commands.specs.Form.{form_of, words_form, submit_form, lines_form, only_id, alone, side_of, explanation, command_of};
 
 use crate::command::Command;
+use ct_codes::Side;
 use ct_text::{Extent, Id, first_words, parse_entry_numbers, parse_number, parse_table_numbers};
 use std::alloc::{AllocError, Global};
 
@@ -69,6 +70,29 @@ fn alone(command: Command, words: &[&[u8]]) -> Option<Command>
     }
 }
 
+/// The side that the word names, if it names one.
+fn side_of(word: &[u8]) -> Option<Side>
+    ensures { result ≡ side_of word.now }
+{
+    if word == b"lower".as_slice() {
+        Some(Side::Lower)
+    } else if word == b"upper".as_slice() {
+        Some(Side::Upper)
+    } else {
+        None
+    }
+}
+
+/// The explanation that the words ask for, if they are a side and the numbers of an entry.
+fn explanation(words: &[&[u8]]) -> Option<Command>
+    ensures { result ≡ explanation (map (λ word. word.now) words.now) }
+{
+    let [side, numbers @ ..] = words else {
+        return None;
+    };
+    Some(Command::Explain(side_of(side)?, parse_entry_numbers(numbers)?))
+}
+
 /// The command that a name and the words after it make, if they make one: a row for each command that is one line.
 fn command_of(name: &[u8], words: &[&[u8]]) -> Option<Command>
     ensures { result ≡ command_of name.now (map (λ word. word.now) words.now) }
@@ -79,6 +103,8 @@ fn command_of(name: &[u8], words: &[&[u8]]) -> Option<Command>
         parse_entry_numbers(words).map(Command::Show)
     } else if name == b"table".as_slice() {
         parse_table_numbers(words).map(Command::Table)
+    } else if name == b"explain".as_slice() {
+        explanation(words)
     } else if name == b"ledger".as_slice() {
         alone(Command::Ledger, words)
     } else if name == b"dump".as_slice() {

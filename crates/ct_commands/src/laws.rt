@@ -3,6 +3,7 @@
 ghost use Rattle.std.specs.Prelude.{◌≡◌, ◌+◌, ℕ, List, [], ◌∷◌, ◌++◌, All, length, map, replicate, codes, Option, Some, None, false, true};
 ghost use Rattle.std.specs.List.{join_with_byte};
 ghost use Rattle.ct_lines.specs.declared.TheConstants.{LINE_FEED};
+ghost use Rattle.ct_codes.specs.declared.claim.Side.TheVariants.{Lower, Upper};
 ghost use Rattle.ct_text.specs.Gathering.{is_end};
 ghost use Rattle.ct_text.specs.declared.gathering.Extent.{Extent};
 ghost use Rattle.ct_text.specs.declared.gathering.Extent.TheVariants.{ToEnd, Lines};
@@ -52,10 +53,14 @@ pub fn known_forms()
     ensures show_weight { form_of (codes "show 8 4 2") ≡ Whole (command.Show (record { n = 8; d = 4; w = Some 2 })) }
     ensures table { form_of (codes "table 4") ≡ Whole (command.Table (record { d = 4; w = None })) }
     ensures table_weight { form_of (codes "table 4 2") ≡ Whole (command.Table (record { d = 4; w = Some 2 })) }
+    ensures explain_lower { form_of (codes "explain lower 5 3") ≡ Whole (command.Explain Lower (record { n = 5; d = 3; w = None })) }
+    ensures explain_upper { form_of (codes "explain upper 11 6 4") ≡ Whole (command.Explain Upper (record { n = 11; d = 6; w = Some 4 })) }
+    ensures no_side { map form_of (codes "explain 5 3" ∷ codes "explain both 5 3" ∷ codes "explain 5 3 lower" ∷ []) ≡ replicate 3 (Whole command.Unknown) }
     ensures ledger { form_of (codes "ledger") ≡ Whole command.Ledger }
     ensures dump { form_of (codes "dump") ≡ Whole command.Dump }
-    ensures too_few { map form_of (codes "withdraw" ∷ codes "show 4" ∷ codes "table" ∷ []) ≡ replicate 3 (Whole command.Unknown) }
-    ensures too_many { map form_of (codes "withdraw a b" ∷ codes "show 8 4 2 1" ∷ codes "table 4 2 1" ∷ codes "ledger a" ∷ codes "dump a" ∷ [])
+    ensures too_few { map form_of (codes "withdraw" ∷ codes "show 4" ∷ codes "table" ∷ codes "explain" ∷ codes "explain lower 5" ∷ [])
         ≡ replicate 5 (Whole command.Unknown) }
+    ensures too_many { map form_of (codes "withdraw a b" ∷ codes "show 8 4 2 1" ∷ codes "table 4 2 1" ∷ codes "explain lower 8 4 2 1" ∷ codes "ledger a" ∷ codes "dump a" ∷ [])
+        ≡ replicate 6 (Whole command.Unknown) }
     ensures no_name { map form_of (codes "help" ∷ codes "shows 4 3" ∷ []) ≡ replicate 2 (Whole command.Unknown) }
 {}

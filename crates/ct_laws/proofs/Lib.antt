@@ -1,4 +1,6 @@
 mod EqualBounds
+mod OneLine
+mod ShownReplies
 mod Columns
 mod DumpCommands
 mod DumpHeadings

@@ -5,9 +5,11 @@
 
 mod dump;
 mod laws;
+mod replies;
 
 pub use dump::dumps_lead_back;
 pub use laws::{
     columns_by_length, documents_end_there, known_columns, known_runs, known_submissions,
     known_supports, known_texts,
 };
+pub use replies::explained_bounds_are_shown;

@@ -3,6 +3,7 @@ use Rattle.std.proofs.Common.{◌≡◌, ℕ, Bool, true, false, cond, List, [],
 use Rattle.std.specs.Prelude.{fold}
 use Rattle.std.specs.List.{flat_map, list_any, AllByRecursion}
 use Rattle.ct_codes.specs.declared.entry.Entry.{Entry}
+use Rattle.ct_codes.specs.declared.claim.Side.{Side}
 use Rattle.ct_codes.specs.Entry.{IsEntry, is_entry}
 use Rattle.ct_lines.specs.Lines.{lines_of}
 use Rattle.ct_commands.specs.Command.{commands_of}
@@ -15,7 +16,9 @@ use Rattle.ct_ledger.specs.Withdrawal.{withdrawn}
 use Rattle.ct_ledger.specs.Standing.{AreStanding}
 use Rattle.ct_ledger.specs.Dump.{dump_text}
 use Rattle.ct_ledger.proofs.StandingLemmas.{AreStanding-none, AreStanding-submitted, AreStanding-withdrawn}
-use Rattle.ct_session.specs.Reply.{IsReply, IsShowReply, IsTableReply, column, submission_reply, withdrawal_reply, pieces_after, is_refusal}
+use Rattle.ct_explain.specs.Explained.{explanation_text}
+use Rattle.ct_explain.proofs.ExplainedBounds.{explained}
+use Rattle.ct_session.specs.Reply.{IsReply, IsShowReply, IsTableReply, IsExplainReply, column, submission_reply, withdrawal_reply, pieces_after, is_refusal}
 use Rattle.ct_session.specs.Run.{AreReplies, AnswersCommands, IsRun, pieces_of}
 use Rattle.ct_session.specs.Text.{reply_text, ledger_text}
 use Rattle.ct_session.specs.declared.reply.Reply.{Reply}
@@ -31,6 +34,7 @@ AreStanding-after pieces (command.Withdraw id) named h = AreStanding-withdrawn p
 AreStanding-after pieces command.CutOff named h = h
 AreStanding-after pieces (command.Show numbers) named h = h
 AreStanding-after pieces (command.Table numbers) named h = h
+AreStanding-after pieces (command.Explain side numbers) named h = h
 AreStanding-after pieces command.Ledger named h = h
 AreStanding-after pieces command.Dump named h = h
 AreStanding-after pieces command.Unknown named h = h
@@ -53,6 +57,13 @@ column_reply pieces [] entries h = (Refused refusal.NoEntry, refl)
 column_reply pieces (e ∷ es) entries h =
     let some = some_bounds_of_all pieces (e ∷ es) h entries in (Table some.0, record { bounds = some.0; of_entries = some.1; shown = refl })
 
+explain_reply : (pieces : List PieceValue) (side : Side) (e : Entry) (b : Bool) → is_entry e ≡ b → AreStanding pieces
+    → (r : Reply) × IsExplainReply pieces side (cond b (Some e) None) r
+explain_reply pieces side e true entry h =
+    let some = explained pieces side e h entry in
+    (Lines (explanation_text pieces some.0), record { derivation = some.0; explains = some.1; shown = refl })
+explain_reply pieces side e false entry h = (Refused refusal.NoEntry, refl)
+
 -- a command has a reply
 some_reply : (pieces : List PieceValue) (c : Command) → AreStanding pieces → (r : Reply) × IsReply pieces c r
 some_reply pieces (command.Submission None document) h = (Refused refusal.NoCommand, refl)
@@ -63,6 +74,9 @@ some_reply pieces (command.Show numbers) h =
     let e : Entry = record { n = numbers.n; d = numbers.d; w = numbers.w } in
     named_reply pieces e (is_entry e) refl h
 some_reply pieces (command.Table numbers) h = column_reply pieces (column numbers.d numbers.w) (column_entries numbers.d numbers.w) h
+some_reply pieces (command.Explain side numbers) h =
+    let e : Entry = record { n = numbers.n; d = numbers.d; w = numbers.w } in
+    explain_reply pieces side e (is_entry e) refl h
 some_reply pieces command.Ledger h = (Lines (ledger_text pieces), refl)
 some_reply pieces command.Dump h = (Lines (dump_text pieces), refl)
 some_reply pieces command.Unknown h = (Refused refusal.NoCommand, refl)

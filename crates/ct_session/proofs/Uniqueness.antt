@@ -1,12 +1,14 @@
 -- Two replies to a command over the same pieces are equal, unless it leaves a choice, and so are two runs of an input.
 use Rattle.std.proofs.Common.{◌≡◌, ℕ, Bool, true, false, ◌||◌, List, [], ◌∷◌, length, Option, Some, None, refl, sym, ap, ◌∙◌, arith}
 use Rattle.std.specs.List.{flat_map, list_any}
+use Rattle.std.specs.Option.{is_some}
 use Rattle.ct_codes.specs.declared.entry.Entry.{Entry}
+use Rattle.ct_codes.specs.declared.claim.Side.{Side}
 use Rattle.ct_text.specs.EntryNumbers.{named_entry}
 use Rattle.ct_commands.specs.declared.command.Command.{Command}
 use Rattle.ct_commands.specs.declared.command.Command.TheVariants as command
 use Rattle.ct_ledger.specs.Piece.{PieceValue}
-use Rattle.ct_session.specs.Reply.{IsReply, IsShown, IsShowReply, IsTableReply, column, leaves_choice, pieces_after, is_refusal}
+use Rattle.ct_session.specs.Reply.{IsReply, IsShown, IsShowReply, IsTableReply, IsExplainReply, column, leaves_choice, pieces_after, is_refusal}
 use Rattle.ct_session.specs.Run.{AreReplies, AnswersCommands, DifferInChoices}
 use Rattle.ct_session.specs.Text.{reply_text}
 use Rattle.ct_session.specs.declared.reply.Reply.{Reply}
@@ -28,6 +30,11 @@ one_show_reply : (pieces : List PieceValue) (o : Option Entry) (r s : Reply) →
 one_show_reply pieces None r s h k = h ∙ sym k
 one_show_reply pieces (Some e) r s h k = one_shown pieces e r s h k
 
+one_explain_reply : (pieces : List PieceValue) (side : Side) (o : Option Entry) (r s : Reply) → is_some o ≡ false → IsExplainReply pieces side o r
+    → IsExplainReply pieces side o s → r ≡ s
+one_explain_reply pieces side None r s none h k = h ∙ sym k
+one_explain_reply pieces side (Some e) r s none h k = absurd cc
+
 -- a command that leaves no choice has one reply
 pub one_reply_only : (pieces : List PieceValue) (c : Command) (r s : Reply) → leaves_choice c ≡ false → IsReply pieces c r → IsReply pieces c s → r ≡ s
 one_reply_only pieces (command.Submission None document) r s none h k = h ∙ sym k
@@ -36,24 +43,28 @@ one_reply_only pieces command.CutOff r s none h k = h ∙ sym k
 one_reply_only pieces (command.Withdraw id) r s none h k = h ∙ sym k
 one_reply_only pieces (command.Show numbers) r s none h k = one_show_reply pieces (named_entry numbers) r s h k
 one_reply_only pieces (command.Table numbers) r s none h k = one_table_reply pieces (column numbers.d numbers.w) r s h k
+one_reply_only pieces (command.Explain side numbers) r s none h k = one_explain_reply pieces side (named_entry numbers) r s none h k
 one_reply_only pieces command.Ledger r s none h k = h ∙ sym k
 one_reply_only pieces command.Dump r s none h k = h ∙ sym k
 one_reply_only pieces command.Unknown r s none h k = h ∙ sym k
 
--- no command leaves a choice
-pub no_choice : (c : Command) → leaves_choice c ≡ false
-no_choice (command.Submission id document) = refl
-no_choice command.CutOff = refl
-no_choice (command.Withdraw id) = refl
-no_choice (command.Show numbers) = refl
-no_choice (command.Table numbers) = refl
-no_choice command.Ledger = refl
-no_choice command.Dump = refl
-no_choice command.Unknown = refl
+-- a command whose reply leaves a choice where it names an entry of the table is refused where it names none, and nowhere else
+one_explain_mark : (pieces : List PieceValue) (side : Side) (o : Option Entry) (r s : Reply) → IsExplainReply pieces side o r → IsExplainReply pieces side o s
+    → is_refusal r ≡ is_refusal s
+one_explain_mark pieces side None r s h k = ap is_refusal (h ∙ sym k)
+one_explain_mark pieces side (Some e) r s h k = ap is_refusal h.shown ∙ sym (ap is_refusal k.shown)
 
 -- the replies to a command are refusals, or none of them is
 one_mark : (pieces : List PieceValue) (c : Command) (r s : Reply) → IsReply pieces c r → IsReply pieces c s → is_refusal r ≡ is_refusal s
-one_mark pieces c r s h k = ap is_refusal (one_reply_only pieces c r s (no_choice c) h k)
+one_mark pieces (command.Submission id document) r s h k = ap is_refusal (one_reply_only pieces (command.Submission id document) r s refl h k)
+one_mark pieces command.CutOff r s h k = ap is_refusal (one_reply_only pieces command.CutOff r s refl h k)
+one_mark pieces (command.Withdraw id) r s h k = ap is_refusal (one_reply_only pieces (command.Withdraw id) r s refl h k)
+one_mark pieces (command.Show numbers) r s h k = ap is_refusal (one_reply_only pieces (command.Show numbers) r s refl h k)
+one_mark pieces (command.Table numbers) r s h k = ap is_refusal (one_reply_only pieces (command.Table numbers) r s refl h k)
+one_mark pieces (command.Explain side numbers) r s h k = one_explain_mark pieces side (named_entry numbers) r s h k
+one_mark pieces command.Ledger r s h k = ap is_refusal (one_reply_only pieces command.Ledger r s refl h k)
+one_mark pieces command.Dump r s h k = ap is_refusal (one_reply_only pieces command.Dump r s refl h k)
+one_mark pieces command.Unknown r s h k = ap is_refusal (one_reply_only pieces command.Unknown r s refl h k)
 
 -- two lists of replies differ in choices only
 pub differ_in_choices : (pieces : List PieceValue) (cs : List Command) (rs ss : List Reply) → AreReplies pieces cs rs → AreReplies pieces cs ss → DifferInChoices cs rs ss

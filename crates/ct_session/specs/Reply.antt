@@ -1,6 +1,7 @@
 -- The reply to a command over the pieces that stand, and the pieces after it.
 use Rattle.std.specs.Prelude.{◌≡◌, ℕ, Bool, true, false, List, [], ◌∷◌, map, filter, Option, Some, None, Result, Ok, Err}
 use Rattle.std.specs.List.{AllZip, range_with_len}
+use Rattle.std.specs.Option.{is_some}
 use Rattle.ct_words.specs.declared.limits.TheConstants.{MAX_N}
 use Rattle.ct_codes.specs.declared.entry.Entry.{Entry}
 use Rattle.ct_codes.specs.declared.claim.Side.{Side}
@@ -19,6 +20,8 @@ use Rattle.ct_ledger.specs.Dump.{dump_text}
 use Rattle.ct_ledger.specs.Supports.{supports_of}
 use Rattle.ct_ledger.specs.declared.fault.SubmitFault.{SubmitFault}
 use Rattle.ct_ledger.specs.declared.fault.WithdrawFault.{WithdrawFault}
+use Rattle.ct_derive.specs.Derivation.{DerivationValue}
+use Rattle.ct_explain.specs.Explained.{ExplainsBest, explanation_text}
 use Rattle.ct_session.specs.Text.{ledger_text}
 use Rattle.ct_session.specs.declared.reply.Bounds.{Bounds}
 use Rattle.ct_session.specs.declared.reply.Reply.{Reply}
@@ -73,6 +76,17 @@ abbrev pub IsTableReply : List PieceValue → List Entry → Reply → Type 0
 IsTableReply pieces [] reply = reply ≡ Refused refusal.NoEntry
 IsTableReply pieces (e ∷ entries) reply = IsColumn pieces (e ∷ entries) reply
 
+-- the document of a derivation is shown, which explains the best bound on this side of an entry
+pub record IsExplained (pieces : List PieceValue) (side : Side) (e : Entry) (reply : Reply) : Type 0 where
+  pub derivation : DerivationValue
+  pub explains : ExplainsBest pieces side e derivation
+  pub shown : reply ≡ Lines (explanation_text pieces derivation)
+
+-- the reply to `explain`: the best bound on this side of the entry that it names is explained; or a refusal where it names none of the table
+abbrev pub IsExplainReply : List PieceValue → Side → Option Entry → Reply → Type 0
+IsExplainReply pieces side None reply = reply ≡ Refused refusal.NoEntry
+IsExplainReply pieces side (Some e) reply = IsExplained pieces side e reply
+
 -- the reply to a command over the pieces that stand
 abbrev pub IsReply : List PieceValue → Command → Reply → Type 0
 IsReply pieces (command.Submission None document) reply = reply ≡ Refused refusal.NoCommand
@@ -81,18 +95,19 @@ IsReply pieces command.CutOff reply = reply ≡ Refused refusal.CutOff
 IsReply pieces (command.Withdraw id) reply = reply ≡ withdrawal_reply id (withdrawn pieces id)
 IsReply pieces (command.Show numbers) reply = IsShowReply pieces (named_entry numbers) reply
 IsReply pieces (command.Table numbers) reply = IsTableReply pieces (column numbers.d numbers.w) reply
+IsReply pieces (command.Explain side numbers) reply = IsExplainReply pieces side (named_entry numbers) reply
 IsReply pieces command.Ledger reply = reply ≡ Lines (ledger_text pieces)
 IsReply pieces command.Dump reply = reply ≡ Lines (dump_text pieces)
 IsReply pieces command.Unknown reply = reply ≡ Refused refusal.NoCommand
 
--- whether a command leaves a choice: several replies to it may be right, as where any derivation or any code of a size will do. None of these
--- commands does
+-- whether a command leaves a choice: several replies to it may be right, as any derivation may explain a bound of an entry of the table
 abbrev pub leaves_choice : Command → Bool
 leaves_choice (command.Submission id document) = false
 leaves_choice command.CutOff = false
 leaves_choice (command.Withdraw id) = false
 leaves_choice (command.Show numbers) = false
 leaves_choice (command.Table numbers) = false
+leaves_choice (command.Explain side numbers) = is_some (named_entry numbers)
 leaves_choice command.Ledger = false
 leaves_choice command.Dump = false
 leaves_choice command.Unknown = false

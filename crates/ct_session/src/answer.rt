@@ -6,11 +6,11 @@ ghost use Rattle.ct_codes.specs.Entry.{IsEntry};
 ghost use Rattle.ct_text.specs.EntryNumbers.{named_entry};
 ghost use Rattle.ct_ledger.specs.Submission.{submitted, with_piece};
 ghost use Rattle.ct_ledger.specs.Withdrawal.{withdrawn, left_by};
-ghost use Rattle.ct_session.specs.Reply.{IsReply, AreBoundsOf, IsShowReply, IsTableReply, column, pieces_after, submission_reply, withdrawal_reply};
+ghost use Rattle.ct_session.specs.Reply.{IsReply, AreBoundsOf, IsShowReply, IsTableReply, IsExplainReply, column, pieces_after, submission_reply, withdrawal_reply};
 
 use crate::reply::{Bounds, BoundsList, Refusal, Reply};
 use crate::text::ledger_text;
-use ct_codes::Entry;
+use ct_codes::{Entry, Side};
 use ct_commands::Command;
 use ct_ledger::{Ledger, SubmitFault, WithdrawFault};
 use ct_text::{EntryNumbers, Id, TableNumbers, Text};
@@ -69,6 +69,24 @@ fn table(alloc: Global, ledger: &Ledger, numbers: TableNumbers) -> Result<Reply,
     }
 }
 
+/// The reply to `explain`: the document of an explanation of the best bound on this side of the entry of the table with these numbers,
+/// if there is one. `Err` is want of memory.
+fn explain(
+    alloc: Global,
+    ledger: &Ledger,
+    side: Side,
+    numbers: EntryNumbers,
+) -> Result<Reply, AllocError>
+    ensures { IfOk result (IsExplainReply ledger.now.pieces side (named_entry numbers)) }
+{
+    let Some(entry) = numbers.entry() else {
+        return Ok(Reply::Refused(Refusal::NoEntry));
+    };
+    let derivation = ct_explain::explain(alloc, ledger, side, entry)?;
+    let document = ct_explain::print(alloc, ledger, &derivation)?;
+    Ok(Reply::Lines(Text::from_vec(document)))
+}
+
 /// Answers a submission: the reply, and the pieces after it. After an `Err`, which is want of memory, the ledger is as before.
 fn submit(ledger: &mut Ledger, id: Id, document: Text) -> Result<Reply, AllocError>
     ensures reply { IfOk result (λ reply. reply ≡ submission_reply id (submitted ledger.old.pieces id document)) }
@@ -123,6 +141,7 @@ pub(crate) fn answer(
         Command::Withdraw(id) => withdraw(ledger, id),
         Command::Show(numbers) => Ok(show(ledger, numbers)),
         Command::Table(numbers) => table(alloc, ledger, numbers),
+        Command::Explain(side, numbers) => explain(alloc, ledger, side, numbers),
         Command::Ledger => {
             let lines = ledger_text(alloc, ledger.pieces())?;
             Ok(Reply::Lines(Text::from_vec(lines)))

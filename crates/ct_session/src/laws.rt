@@ -1,8 +1,9 @@
 //! Facts about every session.
 
-ghost use Rattle.std.specs.Prelude.{◌≡◌, ℕ, Bool, false, List, length, Option};
+ghost use Rattle.std.specs.Prelude.{◌≡◌, ℕ, Bool, false, List, length, None, Option};
 ghost use Rattle.std.specs.List.{list_any};
 ghost use Rattle.ct_lines.specs.Lines.{lines_of};
+ghost use Rattle.ct_text.specs.EntryNumbers.{named_entry};
 ghost use Rattle.ct_text.specs.declared.entry_numbers.EntryNumbers.{EntryNumbers};
 ghost use Rattle.ct_text.specs.declared.table_numbers.TableNumbers.{TableNumbers};
 ghost use Rattle.ct_commands.specs.Command.{commands_of};
@@ -36,13 +37,15 @@ pub fn runs_differ_in_choices_only()
         → IsRun input output a → IsRun input other b → output ≡ other }
 {}
 
-/// Submissions, withdrawals, `show`, `table`, `ledger`, `dump`, and lines that are no command, leave no choice of their replies.
+/// Submissions, withdrawals, `show`, `table`, `ledger`, `dump`, and lines that are no command, leave no choice of their replies. Nor does
+/// `explain` where it names no entry of the table.
 pub fn replies_without_choice()
     ensures submission { (id : Option (List ℕ)) (document : List ℕ) → leaves_choice (command.Submission id document) ≡ false }
     ensures cut_off { leaves_choice command.CutOff ≡ false }
     ensures withdraw { (id : List ℕ) → leaves_choice (command.Withdraw id) ≡ false }
     ensures show { (numbers : EntryNumbers) → leaves_choice (command.Show numbers) ≡ false }
     ensures table { (numbers : TableNumbers) → leaves_choice (command.Table numbers) ≡ false }
+    ensures explain { (side : Side) (numbers : EntryNumbers) → named_entry numbers ≡ None → leaves_choice (command.Explain side numbers) ≡ false }
     ensures ledger { leaves_choice command.Ledger ≡ false }
     ensures dump { leaves_choice command.Dump ≡ false }
     ensures unknown { leaves_choice command.Unknown ≡ false }

@@ -40,6 +40,18 @@ pub returns-clause-table_weight : goal.returns-clause-table_weight
 unfolding form_of words_of number_of
 returns-clause-table_weight c = refl
 
+pub returns-clause-explain_lower : goal.returns-clause-explain_lower
+unfolding form_of words_of number_of
+returns-clause-explain_lower c = refl
+
+pub returns-clause-explain_upper : goal.returns-clause-explain_upper
+unfolding form_of words_of number_of
+returns-clause-explain_upper c = refl
+
+pub returns-clause-no_side : goal.returns-clause-no_side
+unfolding form_of words_of number_of
+returns-clause-no_side c = refl
+
 pub returns-clause-ledger : goal.returns-clause-ledger
 unfolding form_of words_of number_of
 returns-clause-ledger c = refl

@@ -1,19 +1,25 @@
-use Rattle.std.proofs.Common.{refl, [], ◌∷◌, codes}
+use Rattle.std.proofs.Common.{◌<◌, refl, [], ◌∷◌, codes}
+use Rattle.std.proofs.lemmas.List.Elements.{All-nil}
 use Rattle.std.specs.Fmt.{digits}
 use Rattle.ct_text.specs.Line.{words_of}
 use Rattle.ct_text.specs.Number.{number_of}
+use Rattle.ct_codes.specs.declared.claim.Side.TheVariants.{Lower, Upper}
 use Rattle.ct_codes.specs.Entry.{unrestricted, constant_weight}
 use Rattle.ct_counting.proofs.Binomials.{choose_all}
 use Rattle.ct_commands.specs.Form.{form_of}
 use Rattle.ct_ledger.specs.Dump.{dump_text}
 use Rattle.ct_ledger.specs.Withdrawal.{withdrawn}
 use Rattle.ct_ledger.specs.declared.fault.WithdrawFault.TheVariants as withdraw
+use Rattle.ct_rules.specs.declared.rule.Rule.TheVariants.{M1, V0, V1}
+use Rattle.ct_rules.specs.Rule.{row_of}
+use Rattle.ct_explain.specs.Explained.{explanation_text}
 use Rattle.ct_session.specs.Reply.{column}
 use Rattle.ct_session.specs.Text.{reply_text, ledger_text}
 use Rattle.ct_session.specs.declared.reply.Reply.TheVariants.{Shown, Table, Lines, Refused}
 use Rattle.ct_session.specs.declared.reply.Refusal.TheVariants as refusal
 use Rattle.ct_session.specs.declared.reply.Bounds.{Bounds}
 use Rattle.ct_laws.proofs.EqualBounds.{four_at_five, one_word_alone}
+use Rattle.ct_laws.proofs.OneLine.{lone, lone_explains}
 use Rattle.ct_laws.proofs.laws.known_runs.Goals as goal
 
 pub returns-clause-shown : goal.returns-clause-shown
@@ -38,6 +44,38 @@ returns-clause-shown_column c =
       texts = refl;
       mark = refl;
     }
+
+pub returns-clause-explained : goal.returns-clause-explained
+unfolding form_of words_of number_of reply_text digits row_of
+returns-clause-explained c =
+    let e = constant_weight 4 4 0 in
+    let why = lone_explains Lower e 1 M1 refl (one_word_alone 4 4 0 refl refl).lower.best
+    (record { earlier = All-nil (λ q. q < 0); side = refl; premises = refl; value = refl }) in
+    record { replies = Lines (explanation_text [] (lone Lower e 1 M1)) ∷ []; are = (record { derivation = lone Lower e 1 M1; explains = why; shown = refl }, tt); texts = refl; mark = refl }
+
+pub returns-clause-explained_so : goal.returns-clause-explained_so
+unfolding form_of words_of number_of reply_text digits row_of
+returns-clause-explained_so c =
+    let e = constant_weight 4 4 0 in
+    let why = lone_explains Upper e 1 V0 refl (one_word_alone 4 4 0 refl refl).upper.best
+    (record { earlier = All-nil (λ q. q < 0); side = refl; premises = refl; value = refl }) in
+    record { replies = Lines (explanation_text [] (lone Upper e 1 V0)) ∷ []; are = (record { derivation = lone Upper e 1 V0; explains = why; shown = refl }, tt); texts = refl; mark = refl }
+
+pub returns-clause-explained_otherwise : goal.returns-clause-explained_otherwise
+unfolding form_of words_of number_of reply_text digits row_of
+returns-clause-explained_otherwise c =
+    let e = constant_weight 4 4 0 in
+    let why = lone_explains Upper e 1 V1 refl (one_word_alone 4 4 0 refl refl).upper.best
+    (record { earlier = All-nil (λ q. q < 0); side = refl; premises = refl; value = refl }) in
+    record { replies = Lines (explanation_text [] (lone Upper e 1 V1)) ∷ []; are = (record { derivation = lone Upper e 1 V1; explains = why; shown = refl }, tt); texts = refl; mark = refl }
+
+pub returns-clause-not_explained : goal.returns-clause-not_explained
+unfolding form_of words_of number_of reply_text digits withdrawn
+returns-clause-not_explained c = record { replies = Refused refusal.NoEntry ∷ []; are = (refl, tt); texts = refl; mark = refl }
+
+pub returns-clause-no_side : goal.returns-clause-no_side
+unfolding form_of words_of number_of reply_text digits withdrawn
+returns-clause-no_side c = record { replies = Refused refusal.NoCommand ∷ []; are = (refl, tt); texts = refl; mark = refl }
 
 pub returns-clause-outside : goal.returns-clause-outside
 unfolding form_of words_of number_of reply_text digits withdrawn

@@ -1,0 +1,43 @@
+-- Replies over the same pieces, beside each other.
+use Rattle.std.proofs.Common.{◌≡◌, ℕ, List, All, Option, Some, None, refl, sym, subst}
+use Rattle.ct_codes.specs.declared.entry.Entry.{Entry}
+use Rattle.ct_codes.specs.Claim.{IsTrueClaim}
+use Rattle.ct_codes.specs.declared.claim.Side.{Side}
+use Rattle.ct_codes.specs.declared.claim.Side.TheVariants.{Lower, Upper}
+use Rattle.ct_rules.specs.Derivation.{IsBest}
+use Rattle.ct_rules.proofs.ClosedBounds.{best_is_one}
+use Rattle.ct_derive.specs.Derivation.{DerivationValue}
+use Rattle.ct_derive.specs.Explanation.{IsExplanation}
+use Rattle.ct_explain.specs.Explained.{explanation_text}
+use Rattle.ct_explain.proofs.ExplainedBounds.{lines_are_true}
+use Rattle.ct_ledger.specs.Piece.{PieceValue}
+use Rattle.ct_ledger.specs.Standing.{AreStanding}
+use Rattle.ct_ledger.specs.Supports.{supports_of}
+use Rattle.ct_session.specs.Reply.{AreBoundsOf, IsShowReply, IsExplainReply}
+use Rattle.ct_session.specs.declared.reply.Bounds.{Bounds}
+use Rattle.ct_session.specs.declared.reply.Reply.{Reply}
+use Rattle.ct_session.specs.declared.reply.Reply.TheVariants.{Shown, Lines}
+use Rattle.ct_laws.specs.Sides.{bound_on}
+
+-- the bounds that are shown are those of the entry
+pub bounds_shown : (pieces : List PieceValue) (e : Entry) (b : Bounds) → IsShowReply pieces (Some e) (Shown b) → AreBoundsOf pieces e b
+bounds_shown pieces e b h = let same : b ≡ h.bounds = cc in subst (AreBoundsOf pieces e) (sym same) h.of_entry
+
+-- the best bound on a side is the one that is shown
+best_shown : (pieces : List PieceValue) (side : Side) (e : Entry) (b : Bounds) (v : ℕ) → AreBoundsOf pieces e b → IsBest (supports_of pieces) (side, e) v → v ≡ bound_on side b
+best_shown pieces Lower e b v h best = best_is_one (supports_of pieces) (Lower, e) v b.lower best h.lower.best
+best_shown pieces Upper e b v h best = best_is_one (supports_of pieces) (Upper, e) v b.upper best h.upper.best
+
+pub explained_shown : (pieces : List PieceValue) (side : Side) (o : Option Entry) (b : Bounds) (r : Reply) → AreStanding pieces → IsShowReply pieces o (Shown b) → IsExplainReply pieces side o r
+    → (d : DerivationValue) × IsExplanation (supports_of pieces) (side, b.entry) (bound_on side b) d.lines × (r ≡ Lines (explanation_text pieces d)) × All (λ l. IsTrueClaim l.claim) d.lines
+explained_shown pieces side None b r stand h k = absurd cc
+explained_shown pieces side (Some e) b r stand h k =
+    let of_entry = bounds_shown pieces e b h in
+    let d = k.derivation in
+    let same = best_shown pieces side e b k.explains.value of_entry k.explains.best in
+    let lines = subst (λ (v : ℕ). IsExplanation (supports_of pieces) (side, e) v d.lines) same k.explains.lines in (
+      d,
+      subst (λ (f : Entry). IsExplanation (supports_of pieces) (side, f) (bound_on side b) d.lines) (sym of_entry.entry) lines,
+      k.shown,
+      lines_are_true pieces side e d stand k.explains,
+    )

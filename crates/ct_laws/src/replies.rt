@@ -1,0 +1,27 @@
+//! Replies over the same pieces, beside each other.
+
+ghost use Rattle.std.specs.Prelude.{◌≡◌, All, List};
+ghost use Rattle.ct_codes.specs.Claim.{IsTrueClaim};
+ghost use Rattle.ct_codes.specs.declared.claim.Side.{Side};
+ghost use Rattle.ct_commands.specs.declared.command.Command.TheVariants as command;
+ghost use Rattle.ct_text.specs.declared.entry_numbers.EntryNumbers.{EntryNumbers};
+ghost use Rattle.ct_derive.specs.Derivation.{DerivationValue};
+ghost use Rattle.ct_derive.specs.Explanation.{IsExplanation};
+ghost use Rattle.ct_explain.specs.Explained.{explanation_text};
+ghost use Rattle.ct_ledger.specs.Piece.{PieceValue};
+ghost use Rattle.ct_ledger.specs.Standing.{AreStanding};
+ghost use Rattle.ct_ledger.specs.Supports.{supports_of};
+ghost use Rattle.ct_session.specs.Reply.{IsReply};
+ghost use Rattle.ct_session.specs.declared.reply.Bounds.{Bounds};
+ghost use Rattle.ct_session.specs.declared.reply.Reply.{Reply};
+ghost use Rattle.ct_session.specs.declared.reply.Reply.TheVariants.{Shown, Lines};
+ghost use Rattle.ct_laws.specs.Sides.{bound_on};
+
+/// What `explain` shows over the same pieces is an explanation of the bound that `show` shows, and where they stand, all that it claims is
+/// true.
+pub fn explained_bounds_are_shown()
+    ensures { (pieces : List PieceValue) (side : Side) (numbers : EntryNumbers) (b : Bounds) (r : Reply) → AreStanding pieces
+        → IsReply pieces (command.Show numbers) (Shown b) → IsReply pieces (command.Explain side numbers) r
+        → (d : DerivationValue) × IsExplanation (supports_of pieces) (side, b.entry) (bound_on side b) d.lines
+        × (r ≡ Lines (explanation_text pieces d)) × All (λ l. IsTrueClaim l.claim) d.lines }
+{}
