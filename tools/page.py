@@ -40,9 +40,9 @@ details { margin: .15rem 0; } details details { margin-left: 1rem; } summary { c
 pre { font-size: .8rem; overflow-x: auto; margin: .25rem 0 .5rem; padding: .5rem; background: #f5f7f9; border-left: 3px solid var(--line); }
 dl { display: grid; grid-template-columns: max-content 1fr; gap: .1rem 1rem; overflow-wrap: anywhere; } dt { font-weight: 600; } dd { margin: 0; }
 @media (max-width: 40rem) { body { padding: .5rem; font-size: 15px; } table { font-size: .78rem; } th, td { padding: .3rem .35rem; } dl { display: block; } }
-@media print { body { max-width: none; font-size: 9pt; padding: 0; } .scroll { overflow: visible; border: 0; } table { font-size: 6pt; }
+@media print { body { max-width: none; font-size: 9pt; padding: 0; } .scroll { overflow: visible; border: 0; break-inside: avoid; } table { font-size: 7pt; }
   th, td { padding: 1pt 2pt; print-color-adjust: exact; -webkit-print-color-adjust: exact; } thead th, tbody th { position: static; }
-  nav { display: none; } a { color: inherit; } h2 { break-after: avoid; } tr { break-inside: avoid; } }
+  nav { display: none; } a { color: inherit; } h2 { break-after: avoid; } }
 """
 
 # Opens what an anchor leads to, in browsers that don't.
