@@ -23,7 +23,7 @@ use Rattle.ct_codes.proofs.EntryLemmas.{entry_limits}
 use Rattle.ct_codes.proofs.PairLemmas.{position_cases, least_pair-none, least_pair_same, NoPair-from}
 
 -- a relation holds of all pairs of a list where it does at the default 0
-AllPairs-from_get_or : (R : ℕ → ℕ → Type 0) (xs : List ℕ) → ((i j : ℕ) → i < j → j < length xs → R (get_or xs i 0) (get_or xs j 0)) → AllPairs R xs
+pub AllPairs-from_get_or : (R : ℕ → ℕ → Type 0) (xs : List ℕ) → ((i j : ℕ) → i < j → j < length xs → R (get_or xs i 0) (get_or xs j 0)) → AllPairs R xs
 AllPairs-from_get_or R xs each = λ i j d order within.
     subst (λ b. R (get_or xs i d) b) (get_or_default xs j 0 d within)
     (subst (λ a. R a (get_or xs j 0)) (get_or_default xs i 0 d (lt_trans order within)) (each i j order within))
@@ -34,7 +34,7 @@ first_of-None None b e = (refl, e)
 first_of-None (Some x) b e = cc
 
 -- no image where there is no value
-option_map-None : {X Y : Type 0} (f : X → Y) (o : Option X) → option_map f o ≡ None → o ≡ None
+pub option_map-None : {X Y : Type 0} (f : X → Y) (o : Option X) → option_map f o ≡ None → o ≡ None
 option_map-None f None e = refl
 option_map-None f (Some x) e = cc
 
@@ -76,7 +76,7 @@ size_none_from words some few =
     rw (or_from (length words == 0) (nat_lt MAX_WORDS (length words)) (ne_eqb (length words) 0 (omega arith)) (le-ltb MAX_WORDS (length words) few))
 
 -- each word has the weight, where one is given
-weight-none : (n : ℕ) (w : Option ℕ) (words : List ℕ) → weight_fault n w words ≡ None → IfSome w (λ k. All (λ x. weight n x ≡ k) words)
+pub weight-none : (n : ℕ) (w : Option ℕ) (words : List ℕ) → weight_fault n w words ≡ None → IfSome w (λ k. All (λ x. weight n x ≡ k) words)
 weight-none n None words e = tt
 weight-none n (Some w) words e = elim (position_cases (λ x. not (weight n x == w)) words) [
   | inl found ↦ let none = option_map-None Weight (position (λ x. not (weight n x == w)) words) e in let place = found.1 in cc
@@ -84,7 +84,7 @@ weight-none n (Some w) words e = elim (position_cases (λ x. not (weight n x == 
       (λ k h. eqb-true (weight n (get_or words k 0)) w (not-false (weight n (get_or words k 0) == w) (each.1 k h)))
 ]
 
-weight_none_from : (n : ℕ) (w : Option ℕ) (words : List ℕ) → IfSome w (λ k. All (λ x. weight n x ≡ k) words) → weight_fault n w words ≡ None
+pub weight_none_from : (n : ℕ) (w : Option ℕ) (words : List ℕ) → IfSome w (λ k. All (λ x. weight n x ≡ k) words) → weight_fault n w words ≡ None
 weight_none_from n None words each = refl
 weight_none_from n (Some w) words each = elim (position_cases (λ x. not (weight n x == w)) words) [
   | inl found ↦ absurd (both_ways (not (weight n (get_or words found.0 0) == w))
@@ -146,7 +146,7 @@ IsCode-permutation n d w xs ys moved code = record {
     same_weights (Some k) h = All-permutation (λ x. weight n x ≡ k) xs ys moved h
 
 -- words are equal where their distance is below 1
-equal_is_close : (n : ℕ) (words : List ℕ) → All (λ x. x < 2 ^ n) words → least_pair (λ x y. x == y) words ≡ least_pair (λ x y. nat_lt (distance n x y) 1) words
+pub equal_is_close : (n : ℕ) (words : List ℕ) → All (λ x. x < 2 ^ n) words → least_pair (λ x y. x == y) words ≡ least_pair (λ x y. nat_lt (distance n x y) 1) words
 equal_is_close n words below = least_pair_same (λ x. x < 2 ^ n) (λ x y. x == y) (λ x y. nat_lt (distance n x y) 1) agree words below
   where
     agree : (x y : ℕ) → x < 2 ^ n → y < 2 ^ n → (x == y) ≡ nat_lt (distance n x y) 1

@@ -28,5 +28,6 @@ pub use laws::{
     bounds_of_every_entry, entries_of_the_table, faultless_lists_are_codes, known_faults,
     least_pair_is_least,
 };
+pub use near::first_close;
 pub use pairs::first_close_pair;
 pub use scheme::{Scheme, scheme_laws};

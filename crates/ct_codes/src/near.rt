@@ -10,8 +10,9 @@ use std::simd::prelude::*;
 /// How many words are compared at once.
 const LANES: usize = 8;
 
-/// The first place of `others` whose word has a distance below `d` from `word`. All are words of length 32, too.
-pub(crate) fn first_close(word: Word, others: &[Word], d: u32) -> Option<usize>
+/// The first place of `others` whose word has a distance below `d` from `word`. Whatever their length, all are words of length
+/// 32, too, and at the same distance. It takes no memory.
+pub fn first_close(word: Word, others: &[Word], d: u32) -> Option<usize>
     ensures { result ≡ position (λ x. nat_lt (distance 32 word x) d) others.now }
 {
     let blocks = others.len() / LANES;

@@ -1,0 +1,5 @@
+pub mod SliceLemmas
+pub mod ClassLemmas
+pub mod RowLemmas
+pub mod PairFaults
+pub mod PartitionFaults

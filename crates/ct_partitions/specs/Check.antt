@@ -1,0 +1,65 @@
+-- When lists of words are accepted as the classes of a partition, and the first reason why they are not. Places number the words through all
+-- classes.
+use Rattle.std.specs.Prelude.{ℕ, suc, ◌-◌, ◌^◌, min, ◌==◌, nat_lt, ◌||◌, not, Bool, if◌then◌else◌, List, [], ◌∷◌, length, position, slice_index, Option, Some, None}
+use Rattle.std.specs.List.{list_any}
+use Rattle.std.specs.Option.{option_map}
+use Rattle.ct_words.specs.Word.{weight, distance}
+use Rattle.ct_words.specs.PairProducts.{all_places}
+use Rattle.ct_codes.specs.declared.entry.Entry.{Entry}
+use Rattle.ct_codes.specs.declared.fault.TheConstants.{MAX_WORDS}
+use Rattle.ct_codes.specs.Pairs.{first_of, least_pair}
+use Rattle.ct_partitions.specs.declared.fault.PartitionFault.{PartitionFault}
+use Rattle.ct_partitions.specs.declared.fault.PartitionFault.TheVariants.{Size, Weight, Repeated, Close}
+use Rattle.ct_partitions.specs.declared.fault.TheConstants.{MAX_CLASSES}
+use Rattle.ct_partitions.specs.Partition.{all_words}
+
+-- the class of the word at a place
+abbrev pub class_at : List (List ℕ) → ℕ → ℕ
+class_at [] i = 0
+class_at (c ∷ cs) i = if nat_lt i (length c) then 0 else suc (class_at cs (i - length c))
+
+-- the distance that the words at two places need: d in one class, `between` in different ones
+abbrev pub need : ℕ → ℕ → List (List ℕ) → ℕ → ℕ → ℕ
+need d between classes i j = if class_at classes i == class_at classes j then d else between
+
+-- the distance of the words at two places
+abbrev pub distance_at : ℕ → List (List ℕ) → ℕ → ℕ → ℕ
+distance_at n classes i j = distance n (slice_index (all_words classes) i) (slice_index (all_words classes) j)
+
+-- whether the words at two places are closer than they need to be
+abbrev pub is_close : ℕ → ℕ → ℕ → List (List ℕ) → ℕ → ℕ → Bool
+is_close n d between classes i j = nat_lt (distance_at n classes i j) (need d between classes i j)
+
+-- a number as far as 64 bits count
+abbrev pub counted : ℕ → ℕ
+counted k = min k (2 ^ 64 - 1)
+
+-- the number of classes is 0 or above its limit, or else a class is empty, or else the number of words is above its limit
+abbrev pub size_fault : List (List ℕ) → Option PartitionFault
+size_fault classes =
+    if length classes == 0 || nat_lt MAX_CLASSES (length classes) then Some (Size (length classes))
+    else if list_any (λ c. length c == 0) classes then Some (Size 0)
+    else if nat_lt MAX_WORDS (length (all_words classes)) then Some (Size (counted (length (all_words classes))))
+    else None
+
+-- the first word that has not the weight of the entry
+abbrev pub weight_fault : ℕ → Option ℕ → List ℕ → Option PartitionFault
+weight_fault n None words = None
+weight_fault n (Some w) words = option_map Weight (position (λ x. not (weight n x == w)) words)
+
+-- the least pair of equal words
+abbrev pub repeated_fault : List ℕ → Option PartitionFault
+repeated_fault words = option_map (λ p. Repeated p.0 p.1) (least_pair (λ x y. x == y) words)
+
+-- the least pair of words that are closer than they need to be, their distance, their classes and what they need
+abbrev pub close_fault : ℕ → ℕ → ℕ → List (List ℕ) → Option PartitionFault
+close_fault n d between classes =
+    option_map (λ p. Close p.0 p.1 (distance_at n classes p.0 p.1) (class_at classes p.0) (class_at classes p.1) (need d between classes p.0 p.1))
+    (least_pair (is_close n d between classes) (all_places (length (all_words classes))))
+
+-- the first reason why the lists are not accepted as classes: size, weight, repeated, close, in this order; none where they are
+unfoldable pub partition_fault : Entry → ℕ → List (List ℕ) → Option PartitionFault
+partition_fault e between classes =
+    first_of (size_fault classes)
+    (first_of (weight_fault e.n e.w (all_words classes))
+    (first_of (repeated_fault (all_words classes)) (close_fault e.n e.d between classes)))

@@ -1,0 +1,44 @@
+//! Facts about partitions that hold for all of them, and partitions that are known.
+
+ghost use Rattle.std.specs.Prelude.{◌≡◌, ◌↔◌, ℕ, ◌^◌, ◌<◌, ◌≤◌, List, [], ◌∷◌, length, All, Option, Some, None};
+ghost use Rattle.ct_codes.specs.declared.entry.Entry.{Entry};
+ghost use Rattle.ct_codes.specs.declared.fault.TheConstants.{MAX_WORDS};
+ghost use Rattle.ct_partitions.specs.declared.fault.TheConstants.{MAX_CLASSES};
+ghost use Rattle.ct_partitions.specs.declared.fault.PartitionFault.TheVariants.{Size, Weight, Repeated, Close};
+ghost use Rattle.ct_partitions.specs.Partition.{all_words, IsPartition};
+ghost use Rattle.ct_partitions.specs.Check.{partition_fault, need, distance_at};
+
+/// Lists of words have no fault exactly where they are the classes of a partition of the entry, 1 to `MAX_CLASSES` of them,
+/// none empty, of at most `MAX_WORDS` words.
+pub fn faultless_lists_are_partitions()
+    ensures { (e : Entry) (between : ℕ) (classes : List (List ℕ)) → 1 ≤ between → between ≤ e.d →
+        All (λ x. x < 2 ^ e.n) (all_words classes) →
+        (partition_fault e between classes ≡ None) ↔
+        ((1 ≤ length classes) × (length classes ≤ MAX_CLASSES) × All (λ c. 1 ≤ length c) classes ×
+        (length (all_words classes) ≤ MAX_WORDS) × IsPartition e.n e.d e.w between classes) }
+{}
+
+/// Two words of a partition, at two places of all its words, have the distance that they need: that of a class where they are
+/// in one, else that between classes.
+pub fn words_of_partitions()
+    ensures { (n d : ℕ) (w : Option ℕ) (between : ℕ) (classes : List (List ℕ)) → IsPartition n d w between classes →
+        (i j : ℕ) → i < j → j < length (all_words classes) →
+        need d between classes i j ≤ distance_at n classes i j }
+{}
+
+/// Words of length 4, in pairs of complements, checked with some distances between classes.
+pub fn known_partitions()
+    ensures accepted { partition_fault (record { n = 4; d = 4; w = None }) 2
+        ((0b0000 ∷ 0b1111 ∷ []) ∷ (0b0011 ∷ 0b1100 ∷ []) ∷ (0b0101 ∷ 0b1010 ∷ []) ∷ (0b0110 ∷ 0b1001 ∷ []) ∷ []) ≡ None }
+    ensures close { partition_fault (record { n = 4; d = 4; w = None }) 3
+        ((0b0000 ∷ 0b1111 ∷ []) ∷ (0b0011 ∷ 0b1100 ∷ []) ∷ []) ≡ Some (Close 0 2 2 0 1 3) }
+    ensures close_in_class { partition_fault (record { n = 4; d = 4; w = None }) 1
+        ((0b0000 ∷ []) ∷ (0b0011 ∷ 0b0110 ∷ []) ∷ []) ≡ Some (Close 1 2 2 1 1 4) }
+    ensures no_class { partition_fault (record { n = 4; d = 4; w = None }) 2 [] ≡ Some (Size 0) }
+    ensures empty_class { partition_fault (record { n = 4; d = 4; w = None }) 2
+        ((0b0000 ∷ []) ∷ [] ∷ []) ≡ Some (Size 0) }
+    ensures repeated { partition_fault (record { n = 4; d = 4; w = None }) 2
+        ((0b0000 ∷ 0b0001 ∷ []) ∷ (0b0001 ∷ []) ∷ []) ≡ Some (Repeated 1 2) }
+    ensures weight_first { partition_fault (record { n = 4; d = 4; w = Some 2 }) 2
+        ((0b0011 ∷ 0b0011 ∷ []) ∷ (0b0001 ∷ []) ∷ []) ≡ Some (Weight 2) }
+{}
