@@ -3,8 +3,8 @@ use Rattle.std.proofs.Common.{◌≡◌, Bool, true, false, List, ℕ, Option, S
 use Rattle.ct_session.specs.declared.serve.ServeFault.{ServeFault}
 use Rattle.ct_session.specs.declared.serve.ServeFault.TheVariants as fault
 use Rattle.ct_session.specs.Serve.{WritesRunProperPrefix}
-use Rattle.ct_run.specs.declared.mode.Mode.{Mode}
-use Rattle.ct_run.specs.declared.mode.Mode.TheVariants.{Session}
+use Rattle.ct_command_line.specs.declared.mode.Mode.{Mode}
+use Rattle.ct_command_line.specs.declared.mode.Mode.TheVariants.{Session}
 use Rattle.ct_run.specs.declared.status.Status.TheVariants.{WriteFault}
 use Rattle.ct_run.specs.Exit.{result_status}
 use Rattle.ct_run.specs.Mode.{WritesProperPrefix}

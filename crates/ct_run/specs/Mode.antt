@@ -1,25 +1,13 @@
 -- The modes of the program, and what each writes.
-use Rattle.std.specs.Prelude.{◌≡◌, ◌⊎◌, ℕ, ⊤, Bool, true, false, if◌then◌else◌, List, [], ◌∷◌, map, Option, Some, None, codes, String}
-use Rattle.std.specs.declared.alloc.Global.{Global}
-use Rattle.std.specs.Str.{bytes_eq}
-use Rattle.std.specs.String.{string_bytes}
+use Rattle.std.specs.Prelude.{◌≡◌, ◌⊎◌, ℕ, ⊤, Bool, true, false, if◌then◌else◌, List, [], Option, Some, None}
 use Rattle.std.specs.Io.KnownBytes.{Appends}
 use Rattle.ct_io.specs.Told.{AppendsPrefix, AppendsProperPrefix}
 use Rattle.ct_session.specs.Run.{IsRun}
 use Rattle.ct_session.specs.Serve.{AnswersTaken, AnswersButLastBytes, WritesWholeReplies}
-use Rattle.ct_run.specs.declared.mode.Mode.{Mode}
-use Rattle.ct_run.specs.declared.mode.Mode.TheVariants.{Session}
+use Rattle.ct_command_line.specs.declared.mode.Mode.{Mode}
+use Rattle.ct_command_line.specs.declared.mode.Mode.TheVariants.{Session}
 use Rattle.ct_run.specs.declared.status.Status.{Status}
 use Rattle.ct_run.specs.declared.status.Status.TheVariants as status
-
--- the words of the command line, as bytes
-abbrev pub bytes_of : List (String Global) → List (List ℕ)
-bytes_of words = map (λ word. string_bytes word) words
-
--- the mode that the words of the command line name, if they are a command: the one word `session`
-abbrev pub mode_of : List (List ℕ) → Option Mode
-mode_of (word ∷ []) = if bytes_eq word (codes "session") then Some Session else None
-mode_of words = None
 
 -- whether a mode reads the source. One that does reads it to its end
 abbrev pub reads : Mode → Bool

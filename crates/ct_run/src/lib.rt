@@ -3,9 +3,8 @@
 #![tactic(auto)]
 
 mod dispatch;
-mod mode;
 mod status;
 
+pub use ct_command_line::{Mode, after_name};
 pub use dispatch::run;
-pub use mode::{Mode, after_name, named_mode};
 pub use status::Status;

@@ -1,0 +1,44 @@
+-- The words of the command line: what `clap` says of them, and the mode that they name.
+use Rattle.std.specs.Prelude.{true, if◌then◌else◌, List, [], ◌∷◌, map, Option, Some, None, codes, String}
+use Rattle.std.specs.declared.alloc.Global.{Global}
+use Rattle.std.specs.Str.{bytes_eq}
+use Rattle.std.specs.String.{string_bytes}
+use Rattle.clap.specs.Words.{App, Kinds, Row, Rule, Text, fault_of, first_of, matches_of, new_app, new_rule, with_rule}
+use Rattle.clap.specs.Simple.{on_top}
+use Rattle.clap.specs.declared.builder.action.ArgAction.TheVariants.{Set}
+use Rattle.ct_command_line.specs.declared.mode.Mode.{Mode}
+use Rattle.ct_command_line.specs.declared.mode.Mode.TheVariants.{Session}
+
+-- the words of the command line, as bytes
+abbrev pub texts_of : List (String Global) → List Text
+texts_of words = map (λ word. string_bytes word) words
+
+-- the word that names the mode, which has to be there
+abbrev pub mode_rule : Rule
+mode_rule = record (new_rule (codes "mode")) { required = true; action = Some Set }
+
+-- the option `--number`, which has a value
+abbrev pub number_rule : Rule
+number_rule = record (new_rule (codes "number")) { long = Some (codes "number"); action = Some Set }
+
+-- the command line as `clap` takes it: these two, and no program's name before them
+unfoldable pub command_line : App
+command_line = with_rule (with_rule (on_top (λ s. record s { no_binary_name = true }) (new_app (codes "code_tables"))) mode_rule) number_rule
+
+-- the mode of these values of the word and the option: a row for each mode
+abbrev pub mode_from : Option Text → Option Text → Option Mode
+mode_from (Some mode) None = if bytes_eq mode (codes "session") then Some Session else None
+mode_from mode number = None
+
+-- the mode of the matches
+abbrev pub mode_of_matches : List Row → Option Mode
+mode_of_matches rows = mode_from (first_of (codes "mode") rows) (first_of (codes "number") rows)
+
+-- what is taken where there is no fault
+abbrev pub unless_fault : Kinds → Option Mode → Option Mode
+unless_fault [] mode = mode
+unless_fault (kind ∷ kinds) mode = None
+
+-- the mode that the words name: that of their matches, where `clap` finds no fault in them
+unfoldable pub mode_of : List Text → Option Mode
+mode_of words = unless_fault (fault_of command_line words) (mode_of_matches (matches_of command_line words))

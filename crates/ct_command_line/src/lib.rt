@@ -1,0 +1,10 @@
+//! The words of the command line, read with `clap`: the mode that they name.
+#![tactic(auto)]
+
+mod laws;
+mod mode;
+mod reading;
+
+pub use laws::known_command_lines;
+pub use mode::{Mode, after_name};
+pub use reading::named_mode;

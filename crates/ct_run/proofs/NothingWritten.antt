@@ -1,0 +1,26 @@
+-- Where memory runs out before a mode begins, nothing is read or written.
+use Rattle.std.proofs.Common.{ℕ, List, Option, Some, None, IfSome, Err, refl}
+use Rattle.ct_session.specs.Inside.Ending.{Ends}
+use Rattle.ct_session.specs.declared.serve.ServeFault.TheVariants.{Memory}
+use Rattle.ct_session.proofs.Endings.{ends_at_once}
+use Rattle.ct_command_line.specs.declared.mode.Mode.{Mode}
+use Rattle.ct_command_line.specs.declared.mode.Mode.TheVariants.{Session}
+use Rattle.ct_run.specs.Mode.{WritesPrefix, LeftByMemory}
+
+at_once : (left held : Option (List ℕ)) → Ends (Err Memory) left left held held 0 0 0 0
+at_once left held = ends_at_once left held 0 0
+
+nothing_is_prefix : (mode : Mode) (left held : Option (List ℕ)) → WritesPrefix mode left held held
+nothing_is_prefix Session None held = tt
+nothing_is_prefix Session (Some input) held = (at_once (Some input) held).prefix
+
+pub nothing_of_output : (named : Option Mode) (left held : Option (List ℕ)) → IfSome named (λ mode. WritesPrefix mode left held held)
+nothing_of_output None left held = tt
+nothing_of_output (Some mode) left held = nothing_is_prefix mode left held
+
+nothing_at_want : (mode : Mode) (left held : Option (List ℕ)) → LeftByMemory mode left held held
+nothing_at_want Session left held = (at_once left held).whole_replies refl
+
+pub nothing_answered : (P : Type 0) (named : Option Mode) (left held : Option (List ℕ)) → IfSome named (λ mode. P → LeftByMemory mode left held held)
+nothing_answered P None left held = tt
+nothing_answered P (Some mode) left held = λ p. nothing_at_want mode left held
