@@ -10,8 +10,8 @@ use Rattle.ct_command_line.specs.declared.mode.Mode.{Mode}
 use Rattle.ct_command_line.specs.declared.mode.Mode.TheVariants.{Session}
 
 -- the words of the command line, as bytes
-abbrev pub texts_of : List (String Global) → List Text
-texts_of words = map (λ word. string_bytes word) words
+abbrev pub bytes_of : List (String Global) → List Text
+bytes_of words = map (λ word. string_bytes word) words
 
 -- the word that names the mode, which has to be there
 abbrev pub mode_rule : Rule

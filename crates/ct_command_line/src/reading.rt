@@ -2,7 +2,7 @@
 
 ghost use Rattle.std.specs.Prelude.{◌≡◌, ◌≢◌, IfOk, None, option_map};
 ghost use Rattle.clap.specs.Words.{app_of, kind_of};
-ghost use Rattle.ct_command_line.specs.CommandLine.{command_line, mode_from, mode_of, texts_of};
+ghost use Rattle.ct_command_line.specs.CommandLine.{command_line, mode_from, mode_of, bytes_of};
 
 use crate::mode::Mode;
 use clap::error::ErrorKind;
@@ -50,7 +50,7 @@ fn no_mode(e: Error) -> Result<Option<Mode>, AllocError>
 /// no command: where `clap` finds a fault in them, asks for help or a version among these, or they name no mode. `Err` is want
 /// of memory.
 pub fn named_mode(alloc: Global, words: &[String]) -> Result<Option<Mode>, AllocError>
-    ensures { IfOk result (λ mode. mode ≡ mode_of (texts_of words.now)) }
+    ensures { IfOk result (λ mode. mode ≡ mode_of (bytes_of words.now)) }
 {
     match command_line(alloc)?.try_get_matches_from(words) {
         Ok(matches) => Ok(mode_from(matches.get_str("mode"), matches.get_str("number"))),

@@ -6,7 +6,7 @@ ghost use Rattle.ct_io.specs.Faults.{Rose};
 ghost use Rattle.ct_io.specs.Told.{AppendsProperPrefix, WhereTold, IsAboveLimit, IsWithinLimit};
 ghost use Rattle.ct_io.specs.declared.TheConstants.{MAX_INPUT, MAX_READ};
 ghost use Rattle.ct_run.specs.Mode.{is_reading, input_for, IsRunStatus, WritesOutput, WritesPrefix, WritesProperPrefix, LeftByMemory, LeftByReadFault, LeftByTooLong};
-ghost use Rattle.ct_command_line.specs.CommandLine.{mode_of, texts_of};
+ghost use Rattle.ct_command_line.specs.CommandLine.{mode_of, bytes_of};
 ghost use Rattle.ct_run.specs.Exit.{fault_status, result_status};
 ghost use Rattle.ct_run.specs.Program.{usage_line, WritesUsage};
 
@@ -62,21 +62,21 @@ pub fn run<S: Source, K: Sink>(
     sink: &mut K,
 ) -> Status
     // Done and Refused: what was written is an output of the mode, and a mode that reads the source read it to its end.
-    ensures run { IfSome (mode_of (texts_of words.now)) (λ mode. IsRunStatus result
+    ensures run { IfSome (mode_of (bytes_of words.now)) (λ mode. IsRunStatus result
         → WritesOutput mode (S.left source.old) (K.holds sink.old) (K.holds sink.new) result) }
-    ensures to_end { IsTrue (is_reading (mode_of (texts_of words.now))) → IsRunStatus result → IsAtEnd (S.left source.new) }
-    ensures command { IsRunStatus result → IsSome (mode_of (texts_of words.now)) }
+    ensures to_end { IsTrue (is_reading (mode_of (bytes_of words.now))) → IsRunStatus result → IsAtEnd (S.left source.new) }
+    ensures command { IsRunStatus result → IsSome (mode_of (bytes_of words.now)) }
 
     // Whatever the status, what was written is a prefix of an output; each fault says how much of it.
-    ensures prefix { IfSome (mode_of (texts_of words.now)) (λ mode.
+    ensures prefix { IfSome (mode_of (bytes_of words.now)) (λ mode.
         WritesPrefix mode (S.left source.old) (K.holds sink.old) (K.holds sink.new)) }
-    ensures written_in_part { IfSome (mode_of (texts_of words.now)) (λ mode. result ≡ Status.WriteFault
+    ensures written_in_part { IfSome (mode_of (bytes_of words.now)) (λ mode. result ≡ Status.WriteFault
         → WritesProperPrefix mode (S.left source.old) (K.holds sink.old) (K.holds sink.new)) }
-    ensures after_read_fault { IfSome (mode_of (texts_of words.now)) (λ mode. result ≡ Status.ReadFault
+    ensures after_read_fault { IfSome (mode_of (bytes_of words.now)) (λ mode. result ≡ Status.ReadFault
         → LeftByReadFault mode (S.left source.old) (S.left source.new) (K.holds sink.old) (K.holds sink.new)) }
-    ensures after_too_long { IfSome (mode_of (texts_of words.now)) (λ mode. result ≡ Status.TooLong
+    ensures after_too_long { IfSome (mode_of (bytes_of words.now)) (λ mode. result ≡ Status.TooLong
         → LeftByTooLong mode (S.left source.old) (S.left source.new) (K.holds sink.old) (K.holds sink.new)) }
-    ensures after_memory { IfSome (mode_of (texts_of words.now)) (λ mode. result ≡ Status.Memory
+    ensures after_memory { IfSome (mode_of (bytes_of words.now)) (λ mode. result ≡ Status.Memory
         → LeftByMemory mode (S.left source.old) (K.holds sink.old) (K.holds sink.new)) }
 
     // When each fault comes.
@@ -90,14 +90,14 @@ pub fn run<S: Source, K: Sink>(
         (λ before after. length before ≤ length after + MAX_INPUT + MAX_READ) }
 
     // Words that are no command.
-    ensures no_command { IfNone (mode_of (texts_of words.now)) (WritesUsage result (K.holds sink.old) (K.holds sink.new)) }
-    ensures usage_only_then { result ≡ Status.Usage → IsNone (mode_of (texts_of words.now)) }
+    ensures no_command { IfNone (mode_of (bytes_of words.now)) (WritesUsage result (K.holds sink.old) (K.holds sink.new)) }
+    ensures usage_only_then { result ≡ Status.Usage → IsNone (mode_of (bytes_of words.now)) }
 
     // Where the words are no command, or one whose mode reads nothing, nothing is read.
-    ensures unread { is_reading (mode_of (texts_of words.now)) ≡ false → source.new ≡ source.old }
+    ensures unread { is_reading (mode_of (bytes_of words.now)) ≡ false → source.new ≡ source.old }
 
     // Completeness: within the limit and without faults, a run ends so, but for want of memory.
-    ensures complete { IfSome (mode_of (texts_of words.now)) (λ mode. IsWithinLimit (input_for mode (S.left source.old))
+    ensures complete { IfSome (mode_of (bytes_of words.now)) (λ mode. IsWithinLimit (input_for mode (S.left source.old))
         → ¬ Rose (S.faults source.old) (S.faults source.new)
         → ¬ Rose (K.faults sink.old) (K.faults sink.new)
         → IsRunStatus result ⊎ (result ≡ Status.Memory)) }
