@@ -3,3 +3,5 @@ pub mod ClassLemmas
 pub mod RowLemmas
 pub mod PairFaults
 pub mod PartitionFaults
+pub mod ProductCodes
+pub mod ProductLemmas

@@ -1,3 +1,4 @@
 pub mod Partition
 pub mod Check
+pub mod Product
 pub mod Inside

@@ -1,11 +1,13 @@
 //! Facts about partitions that hold for all of them, and partitions that are known.
 
 ghost use Rattle.std.specs.Prelude.{◌≡◌, ◌↔◌, ℕ, ◌^◌, ◌<◌, ◌≤◌, List, [], ◌∷◌, length, All, Option, Some, None};
+ghost use Rattle.ct_codes.specs.Code.{IsCode};
 ghost use Rattle.ct_codes.specs.declared.entry.Entry.{Entry};
 ghost use Rattle.ct_codes.specs.declared.fault.TheConstants.{MAX_WORDS};
 ghost use Rattle.ct_partitions.specs.declared.fault.TheConstants.{MAX_CLASSES};
 ghost use Rattle.ct_partitions.specs.declared.fault.PartitionFault.TheVariants.{Size, Weight, Repeated, Close};
 ghost use Rattle.ct_partitions.specs.Partition.{all_words, IsPartition};
+ghost use Rattle.ct_partitions.specs.Product.{Factors, AreFactors, AreSound, product, product_size, product_distance};
 ghost use Rattle.ct_partitions.specs.Check.{partition_fault, need, distance_at};
 
 /// Lists of words have no fault exactly where they are the classes of a partition of the entry, 1 to `MAX_CLASSES` of them,
@@ -41,4 +43,13 @@ pub fn known_partitions()
         ((0b0000 ∷ 0b0001 ∷ []) ∷ (0b0001 ∷ []) ∷ []) ≡ Some (Repeated 1 2) }
     ensures weight_first { partition_fault (record { n = 4; d = 4; w = Some 2 }) 2
         ((0b0011 ∷ 0b0011 ∷ []) ∷ (0b0001 ∷ []) ∷ []) ≡ Some (Weight 2) }
+{}
+
+/// A product of partitions is a code, for all partitions whose lengths and weights fit: two words of one pair and one
+/// class differ in a word of distance d at least; of one pair and two classes in both, by the distance between classes; of
+/// two pairs as much as the weights of their parts.
+pub fn products_are_codes()
+    ensures code { (n d : ℕ) (w : Option ℕ) (pairs : List Factors) → AreFactors n w pairs → All AreSound pairs →
+        1 ≤ d → d ≤ product_distance pairs → IsCode n d w (product pairs) }
+    ensures size { (pairs : List Factors) → length (product pairs) ≡ product_size pairs }
 {}

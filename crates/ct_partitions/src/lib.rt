@@ -5,9 +5,15 @@ mod check;
 mod close;
 mod fault;
 mod laws;
+mod listing;
 mod partition;
+mod product;
 
 pub use check::check_partition;
 pub use fault::{MAX_CLASSES, PartitionFault};
-pub use laws::{faultless_lists_are_partitions, known_partitions, words_of_partitions};
+pub use laws::{
+    faultless_lists_are_partitions, known_partitions, products_are_codes, words_of_partitions,
+};
+pub use listing::product_list;
 pub use partition::Partition;
+pub use product::{product_distance, product_size};

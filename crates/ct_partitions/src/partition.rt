@@ -1,6 +1,6 @@
 //! Partitions.
 
-ghost use Rattle.std.specs.Prelude.{◌≡◌, map, IfOk};
+ghost use Rattle.std.specs.Prelude.{◌≡◌, map};
 ghost use Rattle.ct_partitions.specs.Partition.{word_lists, PartitionValue, IsSoundPartition};
 
 use ct_codes::Entry;
