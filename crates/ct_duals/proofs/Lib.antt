@@ -8,3 +8,4 @@ pub mod DualBound
 pub mod Faults
 pub mod Monotone
 pub mod FormLemmas
+pub mod Premises

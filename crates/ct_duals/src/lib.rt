@@ -2,13 +2,16 @@
 #![tactic(auto)]
 
 mod accepted;
+mod accepted_dual;
 mod check;
 mod dual;
 mod fault;
 mod form;
 mod laws;
+mod premise;
 
 pub use accepted::Accepted;
+pub use accepted_dual::AcceptedDual;
 pub use check::check_dual;
 pub use dual::{Allowances, Dual, Multipliers};
 pub use fault::DualFault;

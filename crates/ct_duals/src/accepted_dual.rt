@@ -1,0 +1,102 @@
+//! Accepted duals that are kept.
+ghost use Rattle.std.specs.Prelude.{◌≡◌, ◌≤◌, ◌↔◌, IsTrue, Contains, All, length, slice_get};
+ghost use Rattle.ct_words.specs.declared.limits.TheConstants.{MAX_BOUND, MAX_N};
+ghost use Rattle.ct_codes.specs.Code.{IsTrueUpper};
+ghost use Rattle.ct_codes.specs.Entry.{IsEntry};
+ghost use Rattle.ct_duals.specs.Bound.{IsSoundDual, AreTrueUppers, dual_bound, dual_premises};
+
+use crate::accepted::Accepted;
+use crate::dual::Dual;
+use crate::premise::{is_premise, positive_index, premise_at};
+use ct_codes::Entry;
+use std::marker::Model;
+
+/// A dual that was accepted, with its f(0), of its own: no code of its entry is larger than its bound. Contracts see the dual
+/// and its f(0).
+#[derive(Debug, Drop)]
+pub struct AcceptedDual {
+    dual: Dual,
+    at_zero: i128,
+}
+
+impl Model for AcceptedDual {
+    ghost use Rattle.ct_duals.specs.Bound.{AcceptedValue, IsSoundDual};
+
+    ghost Value = { AcceptedValue };
+
+    ghost view = { λ a. record { dual = a.dual; at_zero = a.at_zero } };
+
+    ghost invariant = { λ a. IsSoundDual (record { dual = a.dual; at_zero = a.at_zero }) };
+}
+
+impl AcceptedDual {
+    /// A dual that was accepted before, with its f(0). Nothing is tested, and no memory taken.
+    pub fn new(dual: Dual, at_zero: i128) -> AcceptedDual
+        requires sound { IsSoundDual (record { dual = dual; at_zero = at_zero }) }
+        ensures value { result ≡ record { dual = dual; at_zero = at_zero } }
+        ensures sound { IsSoundDual result }
+    {
+        AcceptedDual { dual, at_zero }
+    }
+
+    /// The dual.
+    pub fn dual(&self) -> &Dual
+        ensures value { result.now ≡ self.now.dual }
+        ensures sound { IsSoundDual self.now }
+    {
+        &self.dual
+    }
+
+    /// Its f(0).
+    pub fn at_zero(&self) -> i128
+        ensures value { result ≡ self.now.at_zero }
+    {
+        self.at_zero
+    }
+
+    /// The entry whose codes it bounds.
+    pub fn entry(&self) -> Entry
+        ensures value { result ≡ self.now.dual.entry }
+        ensures in_table { IsEntry result }
+    {
+        self.dual.entry
+    }
+
+    /// How many upper bounds its own rests on, `MAX_N` at most: one for each index where more than 0 is allowed.
+    pub fn premise_count(&self) -> usize
+        ensures count { result ≡ length (dual_premises self.now.dual) }
+        ensures few { result ≤ MAX_N }
+    {
+        self.dual.premise_count()
+    }
+
+    /// The entry at a place, from 0, among those whose upper bounds its own rests on: A(n,2⌈d/2⌉,i) for each index i where more
+    /// than 0 is allowed, ascending; all are entries of the table. `None` past their end.
+    pub fn premise(&self, place: usize) -> Option<Entry>
+        ensures premise { result ≡ slice_get (dual_premises self.now.dual) place }
+        ensures in_table { All IsEntry (dual_premises self.now.dual) }
+    {
+        let i = positive_index(self.dual.y.as_slice(), place)?;
+        Some(premise_at(self.dual.entry, i))
+    }
+
+    /// Whether its bound rests on the upper bound of the entry.
+    pub fn rests_on(&self, entry: Entry) -> bool
+        ensures { IsTrue result ↔ Contains (dual_premises self.now.dual) entry }
+    {
+        is_premise(self.dual.entry, self.dual.y.as_slice(), entry)
+    }
+
+    /// Its bound from one upper bound for each of the entries that it rests on, in their order, as `Accepted::bound` says. It
+    /// takes no memory.
+    pub fn bound(&self, uppers: &[u32]) -> u32
+        requires count { length uppers.now ≡ length (dual_premises self.now.dual) }
+        requires limit { All (λ u. u ≤ MAX_BOUND) uppers.now }
+        ensures value { result ≡ dual_bound self.now.dual self.now.at_zero uppers.now }
+        ensures some { 1 ≤ result }
+        ensures limit { result ≤ MAX_BOUND }
+        ensures sound { AreTrueUppers (dual_premises self.now.dual) uppers.now → IsTrueUpper self.now.dual.entry result }
+    {
+        Accepted::new(&self.dual, self.at_zero).bound(uppers)
+    }
+}
