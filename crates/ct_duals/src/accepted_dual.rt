@@ -54,10 +54,13 @@ impl AcceptedDual {
         self.at_zero
     }
 
-    /// The entry whose codes it bounds.
+    /// The entry whose codes it bounds. It is in the table, and so are the entries whose upper bounds its own rests on, `MAX_N` at
+    /// most.
     pub fn entry(&self) -> Entry
         ensures value { result ≡ self.now.dual.entry }
         ensures in_table { IsEntry result }
+        ensures premises { All IsEntry (dual_premises self.now.dual) }
+        ensures few { length (dual_premises self.now.dual) ≤ MAX_N }
     {
         self.dual.entry
     }
@@ -71,10 +74,9 @@ impl AcceptedDual {
     }
 
     /// The entry at a place, from 0, among those whose upper bounds its own rests on: A(n,2⌈d/2⌉,i) for each index i where more
-    /// than 0 is allowed, ascending; all are entries of the table. `None` past their end.
+    /// than 0 is allowed, ascending. `None` past their end.
     pub fn premise(&self, place: usize) -> Option<Entry>
-        ensures premise { result ≡ slice_get (dual_premises self.now.dual) place }
-        ensures in_table { All IsEntry (dual_premises self.now.dual) }
+        ensures { result ≡ slice_get (dual_premises self.now.dual) place }
     {
         let i = positive_index(self.dual.y.as_slice(), place)?;
         Some(premise_at(self.dual.entry, i))

@@ -1,22 +1,13 @@
--- The entry at the place; all are entries of the table.
-use Rattle.std.proofs.Common.{All, Some, ap, sym, subst, ◌∙◌}
+-- The entry at the place.
+use Rattle.std.proofs.Common.{Some, ap, sym, ◌∙◌}
 use Rattle.std.specs.Prelude.{ℕ, ℤ, List, slice_get, option_map}
 use Rattle.ct_codes.specs.declared.entry.Entry.{Entry}
-use Rattle.ct_codes.specs.Entry.{IsEntry}
 use Rattle.ct_duals.specs.Bound.{AcceptedValue, dual_premises, positive}
-use Rattle.ct_duals.proofs.Premises.{premises_are_entries, premise_there}
+use Rattle.ct_duals.proofs.Premises.{premise_there}
 use Rattle.ct_duals.proofs.accepted_dual.AcceptedDual.premise.Goals as goal
 
-pub returns-in_err-i-clause-in_table : goal.returns-in_err-i-clause-in_table
-returns-in_err-i-clause-in_table c =
-    subst (λ (a : AcceptedValue). All IsEntry (dual_premises a.dual)) c.self.view_is (premises_are_entries c.self.inside.dual c.self.invariant.form)
-
-pub returns-clause-in_table : goal.returns-clause-in_table
-returns-clause-in_table c =
-    subst (λ (a : AcceptedValue). All IsEntry (dual_premises a.dual)) c.self.view_is (premises_are_entries c.self.inside.dual c.self.invariant.form)
-
-pub returns-clause-premise : goal.returns-clause-premise
-returns-clause-premise c =
+pub returns : goal.returns
+returns c =
     ap (λ (e : Entry). Some e) c.premise_at.ensures
     ∙ sym (premise_there c.self.inside.dual c.args.place c.in_ok-i.i
     (ap (λ (y : List (ℕ × ℤ)). option_map (λ p. p.0) (slice_get (positive y) c.args.place)) (sym c.as_slice.ensures) ∙ sym c.in_ok-i.ensures))
