@@ -6,7 +6,7 @@ ghost use Rattle.ct_duals.specs.Dual.{IsDual, combination};
 ghost use Rattle.ct_duals.specs.Check.{dual_fault};
 ghost use Rattle.ct_duals.specs.Bound.{AreTrueUppers, dual_premises, dual_bound};
 ghost use Rattle.ct_delsarte.specs.Numbers.{numbers_of};
-ghost use Rattle.ct_delsarte.specs.Examples.{thirteen_six, eight_four_four};
+ghost use Rattle.ct_duals.specs.Examples.{thirteen_six, eight_four_four};
 
 /// No code of the entry of an accepted dual is larger than its bound, where the upper bounds that it rests on are true.
 pub fn duals_bound_codes()

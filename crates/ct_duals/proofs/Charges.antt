@@ -63,6 +63,19 @@ gathers-none e all p y us near far h g =
       greatest_of = ap (λ cs. max far (far_charge e cs)) (sym same) ∙ g.greatest_of;
     }
 
+-- nothing comes of an index without an upper bound
+charges-none : (ps : List (ℕ × ℤ)) → charges ps [] ≡ []
+charges-none [] = refl
+charges-none (p ∷ ps) = refl
+
+pub gathers-past : (e : Entry) (all : List (ℕ × ℕ)) (y z : List (ℕ × ℤ)) (near far : ℕ) → Gathers e all y [] near far → Gathers e all z [] near far
+gathers-past e all y z near far g =
+    let same = charges-none (positive y) ∙ sym (charges-none (positive z)) in
+    record {
+      sum = ap (λ cs. near + near_charge e cs) (sym same) ∙ g.sum;
+      greatest_of = ap (λ cs. max far (far_charge e cs)) (sym same) ∙ g.greatest_of;
+    }
+
 -- an index of the group, and one outside it
 pub gathers-far : (e : Entry) (all : List (ℕ × ℕ)) (p : ℕ × ℤ) (y : List (ℕ × ℤ)) (u : ℕ) (us : List ℕ) (near far : ℕ)
     → int_lt (pos 0) p.1 ≡ true → is_far e p.0 ≡ true → Gathers e all (p ∷ y) (u ∷ us) near far

@@ -9,3 +9,4 @@ pub mod Faults
 pub mod Monotone
 pub mod FormLemmas
 pub mod Premises
+pub mod SomeBound

@@ -2,3 +2,4 @@ pub mod Dual
 pub mod Check
 pub mod Bound
 pub mod Form
+pub mod Examples

@@ -1,5 +1,5 @@
 //! Accepted duals and their bounds.
-ghost use Rattle.std.specs.Prelude.{◌≡◌, ◌+◌, ◌*◌, ◌/◌, ◌≤◌, ◌<◌, ◌^◌, min, pos, ◌+ℤ◌, ◌≤ℤ◌, length, All, unsigned_abs};
+ghost use Rattle.std.specs.Prelude.{◌≡◌, ◌+◌, ◌*◌, ◌/◌, ◌≤◌, ◌<◌, ◌^◌, min, pos, ◌+ℤ◌, ◌≤ℤ◌, length, unsigned_abs};
 ghost use Rattle.ct_words.specs.declared.limits.TheConstants.{MAX_BOUND, MAX_N};
 ghost use Rattle.ct_codes.specs.Code.{IsTrueUpper};
 ghost use Rattle.ct_duals.specs.Bound.{AcceptedValue, IsSoundDual, AreTrueUppers, dual_bound, dual_premises, positive, charges, near_charge, far_charge, is_far, natural};
@@ -42,12 +42,10 @@ impl<'a> Accepted<'a> {
     }
 
     /// The bound of the dual from one upper bound for each index where more than 0 is allowed, in ascending order: the
-    /// least of `MAX_BOUND` and ⌊(f(0) + S + T)/c_0⌋. Where the upper bounds are true, no code of the entry is larger. It
-    /// takes no memory, and every sum fits: a product is below 2^91, and there are at most 28 of them.
+    /// least of `MAX_BOUND` and ⌊(f(0) + S + T)/c_0⌋. Where the upper bounds are true, no code of the entry is larger; one that
+    /// is missing counts as 0. It takes no memory, and every sum fits: a product is below 2^95, and there are at most 28 of them.
     #[tactic(auto, unfolding(crate::specs::Bound::dual_bound))]
     pub fn bound(&self, uppers: &[u32]) -> u32
-        requires count { length uppers.now ≡ length (dual_premises self.now.dual) }
-        requires limit { All (λ u. u ≤ MAX_BOUND) uppers.now }
         ensures value { result ≡ dual_bound self.now.dual self.now.at_zero uppers.now }
         ensures some { 1 ≤ result }
         ensures limit { result ≤ MAX_BOUND }
@@ -61,20 +59,18 @@ impl<'a> Accepted<'a> {
 /// S + T: for each index where more than 0 is allowed, this number times the upper bound at its place; of those in the
 /// group G the greatest alone, and of the others the sum.
 fn charge(entry: Entry, y: &[(u32, i64)], uppers: &[u32]) -> u128
-    requires count { length uppers.now ≡ length (positive y.now) }
     requires few { length y.now ≤ MAX_N }
     requires lengths { entry.n ≤ MAX_N }
     requires distances { entry.d ≤ MAX_N }
-    requires limit { All (λ u. u ≤ MAX_BOUND) uppers.now }
     ensures value { result ≡ near_charge entry (charges (positive y.now) uppers.now)
         + far_charge entry (charges (positive y.now) uppers.now) }
-    ensures small { result ≤ 29 * 2 ^ 91 }
+    ensures small { result ≤ 29 * 2 ^ 95 }
 {
     let mut near: u128 = 0;
     let mut far: u128 = 0;
     let mut taken = 0;
     for (i, number) in y {
-        if *number > 0 {
+        if *number > 0 && taken < uppers.len() {
             let charge = product(*number, uppers[taken]);
             taken += 1;
             if is_far(entry, *i) {
@@ -90,9 +86,8 @@ fn charge(entry: Entry, y: &[(u32, i64)], uppers: &[u32]) -> u128
 /// A number that is allowed, times an upper bound.
 fn product(number: i64, upper: u32) -> u128
     requires number { pos 1 ≤ℤ number }
-    requires upper { upper ≤ MAX_BOUND }
     ensures value { result ≡ natural number * upper }
-    ensures small { result ≤ 2 ^ 91 }
+    ensures small { result ≤ 2 ^ 95 }
 {
     u128::from(number as u64) * u128::from(upper)
 }
@@ -111,7 +106,7 @@ fn quotient(at_zero: i128, charge: u128, lead: i64) -> u32
     requires lead { pos 1 ≤ℤ lead }
     requires least { lead ≤ℤ at_zero }
     requires at_zero { unsigned_abs at_zero < 2 ^ 116 }
-    requires charge { charge ≤ 29 * 2 ^ 91 }
+    requires charge { charge ≤ 29 * 2 ^ 95 }
     ensures value { result ≡ min MAX_BOUND (natural (at_zero +ℤ pos charge) / natural lead) }
     ensures some { 1 ≤ result }
 {

@@ -54,21 +54,21 @@ impl AcceptedDual {
         self.at_zero
     }
 
-    /// The entry whose codes it bounds. It is in the table, and so are the entries whose upper bounds its own rests on, `MAX_N` at
-    /// most.
+    /// The entry whose codes it bounds.
     pub fn entry(&self) -> Entry
         ensures value { result ≡ self.now.dual.entry }
         ensures in_table { IsEntry result }
-        ensures premises { All IsEntry (dual_premises self.now.dual) }
         ensures few { length (dual_premises self.now.dual) ≤ MAX_N }
     {
         self.dual.entry
     }
 
-    /// How many upper bounds its own rests on, `MAX_N` at most: one for each index where more than 0 is allowed.
+    /// How many upper bounds its own rests on, `MAX_N` at most: one for each index where more than 0 is allowed. They are of
+    /// entries of the table.
     pub fn premise_count(&self) -> usize
         ensures count { result ≡ length (dual_premises self.now.dual) }
         ensures few { result ≤ MAX_N }
+        ensures entries { All IsEntry (dual_premises self.now.dual) }
     {
         self.dual.premise_count()
     }
@@ -92,8 +92,6 @@ impl AcceptedDual {
     /// Its bound from one upper bound for each of the entries that it rests on, in their order, as `Accepted::bound` says. It
     /// takes no memory.
     pub fn bound(&self, uppers: &[u32]) -> u32
-        requires count { length uppers.now ≡ length (dual_premises self.now.dual) }
-        requires limit { All (λ u. u ≤ MAX_BOUND) uppers.now }
         ensures value { result ≡ dual_bound self.now.dual self.now.at_zero uppers.now }
         ensures some { 1 ≤ result }
         ensures limit { result ≤ MAX_BOUND }

@@ -1,5 +1,5 @@
 -- Duals whose bounds are known.
-use Rattle.std.specs.Prelude.{ℕ, true, false, [], ◌∷◌, ℤ, pos}
+use Rattle.std.specs.Prelude.{true, false, [], ◌∷◌, pos}
 use Rattle.ct_codes.specs.Entry.{unrestricted, constant_weight}
 use Rattle.ct_duals.specs.declared.dual.Dual.{Dual}
 
