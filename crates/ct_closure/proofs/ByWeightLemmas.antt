@@ -1,12 +1,12 @@
 -- The rules that lead from entries with weight to those without, in the closing of a table.
-use Rattle.std.proofs.Common.{◌≡◌, ℕ, ◌≤◌, List, [], ◌∷◌, Contains, Some, None, true, false, refl, sym, ap, subst, ◌∙◌, arith}
-use Rattle.std.specs.Prelude.{Option, ◌&&◌}
+use Rattle.std.proofs.Common.{◌≡◌, ℕ, ◌≤◌, List, Some, None, true, false, refl, sym, subst, ◌∙◌}
+use Rattle.std.specs.Prelude.{Option}
 use Rattle.std.proofs.lemmas.Bool.{and_parts, false≢true}
 use Rattle.std.proofs.lemmas.Option.{same_Some}
 use Rattle.ct_codes.specs.declared.claim.Side.{Side}
 use Rattle.ct_codes.specs.declared.claim.Side.TheVariants.{Lower, Upper}
 use Rattle.ct_codes.specs.declared.entry.Entry.{Entry}
-use Rattle.ct_codes.specs.Entry.{IsEntry, is_entry}
+use Rattle.ct_codes.specs.Entry.{is_entry}
 use Rattle.ct_codes.proofs.EntryLemmas.{entry_limits}
 use Rattle.ct_rule_parts.specs.declared.support.Support.{Support}
 use Rattle.ct_rule_parts.specs.Slot.{Slot}
@@ -17,7 +17,7 @@ use Rattle.ct_weight_rules.specs.Averaging.{averaging}
 use Rattle.ct_weight_rules.specs.Johnson.{johnson}
 use Rattle.ct_rules.specs.declared.rule.Rule.{Rule}
 use Rattle.ct_rules.specs.declared.rule.Rule.TheVariants.{L9, U9, U10}
-use Rattle.ct_rules.specs.Rule.{row_of, rule_side, is_by_weight, cited, parts_over, applies}
+use Rattle.ct_rules.specs.Rule.{row_of, rule_side, is_by_weight, applies}
 use Rattle.ct_rules.proofs.Applied.{defined}
 use Rattle.ct_rules.proofs.LawfulRows.{lawful}
 use Rattle.ct_closure.specs.Worklist.{WorkValue}

@@ -1,7 +1,6 @@
 -- Which rules rest on an entry, and where.
-use Rattle.std.proofs.Common.{◌≡◌, ℕ, ◌≤◌, List, [], length, Contains, Some, None, true, refl, subst, arith, inl, inr, ◌⊎◌}
+use Rattle.std.proofs.Common.{◌≡◌, ℕ, List, Contains, Some, None, true, refl, subst, inl, inr, ◌⊎◌}
 use Rattle.std.specs.Prelude.{Bool, false, Option}
-use Rattle.std.proofs.lemmas.Bool.{false≢true}
 use Rattle.ct_codes.specs.declared.entry.Entry.{Entry}
 use Rattle.ct_rule_parts.specs.declared.support.Support.{Support}
 use Rattle.ct_rule_parts.specs.Parts.{RuleParts}

@@ -20,3 +20,4 @@ pub mod SlackLemmas
 pub mod LineLemmas
 pub mod MarkingLemmas
 pub mod PlacesLemmas
+pub mod RowLemmas

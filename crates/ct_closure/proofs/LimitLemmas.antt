@@ -1,5 +1,5 @@
 -- What a rule gives over true bounds is true, so it is no better than the bound of the other side.
-use Rattle.std.proofs.Common.{◌≡◌, ℕ, ◌≤◌, List, [], ◌∷◌, map, All, Some, true, refl, sym, ap, subst, ◌∙◌, arith}
+use Rattle.std.proofs.Common.{◌≡◌, ℕ, List, [], ◌∷◌, All, Some, refl, sym, ap, subst, ◌∙◌, arith}
 use Rattle.std.specs.Prelude.{if◌then◌else◌, None}
 use Rattle.std.proofs.lemmas.List.Elements.{All-nil, All-cons, All-head, All-tail}
 use Rattle.ct_codes.specs.declared.claim.Side.{Side}
@@ -8,11 +8,11 @@ use Rattle.ct_codes.specs.declared.entry.Entry.{Entry}
 use Rattle.ct_codes.specs.Claim.{IsTrueClaim}
 use Rattle.ct_codes.specs.Entry.{IsEntry}
 use Rattle.ct_rule_parts.specs.declared.support.Support.{Support}
-use Rattle.ct_rule_parts.specs.Slot.{Slot, claim_at, IsNoBetter}
+use Rattle.ct_rule_parts.specs.Slot.{Slot, claim_at}
 use Rattle.ct_rule_parts.specs.Support.{AllStand}
 use Rattle.ct_rules.specs.declared.rule.Rule.{Rule}
 use Rattle.ct_rules.specs.Closed.{AreTrue, IsSatisfied}
-use Rattle.ct_rules.specs.Rule.{rule_side, applies, premises_at, premises_of, value_of}
+use Rattle.ct_rules.specs.Rule.{rule_side, premises_at, premises_of}
 use Rattle.ct_rules.proofs.Applied.{cited-stands}
 use Rattle.ct_rules.proofs.ClosedBounds.{claims_of, slots_of_claims, values_of_claims, All-claims_of}
 use Rattle.ct_rules.proofs.RuleLaws.{premises_in_table, value_is_sound}

@@ -3,7 +3,7 @@ use Rattle.std.specs.Prelude.{◌≡◌, ◌≢◌, ℕ, ◌<◌, ◌≤◌, ◌
 use Rattle.ct_codes.specs.declared.entry.Entry.{Entry}
 use Rattle.ct_codes.specs.Entry.{IsEntry, is_entry}
 use Rattle.ct_rule_parts.specs.declared.support.Support.{Support}
-use Rattle.ct_rule_parts.specs.declared.support.Support.TheVariants.{Nothing, Size}
+use Rattle.ct_rule_parts.specs.declared.support.Support.TheVariants.{Nothing, Size, Bound}
 use Rattle.ct_rule_parts.specs.Support.{size_at}
 use Rattle.ct_closure.specs.Number.{entry_number, side_size}
 
@@ -19,6 +19,7 @@ ArePlacesAt supports e places = (place : ℕ) (support : Support) → slice_get 
 abbrev pub entry_of : Support → Option Entry
 entry_of Nothing = None
 entry_of (Size e size) = if is_entry e then Some e else None
+entry_of (Bound a) = None
 
 -- the place stands for the entry
 abbrev pub IsPlaceOf : List (Option Entry) → Entry → ℕ → Type 0

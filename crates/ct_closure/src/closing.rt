@@ -60,21 +60,14 @@ fn reasons(
     entries: Entries,
 ) -> Result<SmallVec<usize, 2>, AllocError>
     requires { are_entries (listed entries) ≡ true }
-    ensures { IfOk result (λ from. from.items ≡ map (reason_of kept.now) (slots_on side (listed entries))) }
+    ensures { IfOk result (λ from. from.items ≡ map (reason_of kept.now) (slots_on side (listed entries.entry))) }
 {
     let mut from = SmallVec::new(alloc);
-    match entries {
-        Entries::Zero => {}
-        Entries::One(first) => from.push(kept.reason(side, first))?,
-        Entries::Two(first, second) => {
-            from.push(kept.reason(side, first))?;
-            from.push(kept.reason(side, second))?;
-        }
-        Entries::Three(first, second, third) => {
-            from.push(kept.reason(side, first))?;
-            from.push(kept.reason(side, second))?;
-            from.push(kept.reason(side, third))?;
-        }
+    for place in 0..entries.len() {
+        let Some(entry) = entries.get(place) else {
+            return Ok(from);
+        };
+        from.push(kept.reason(side, entry))?;
     }
     Ok(from)
 }

@@ -42,7 +42,7 @@ pub fn entry_of(support: &Support) -> Option<Entry>
     match support {
         Support::Nothing => None,
         Support::Size { entry, .. } if entry.in_table() => Some(*entry),
-        Support::Size { .. } => None,
+        Support::Size { .. } | Support::Bound(_) => None,
     }
 }
 

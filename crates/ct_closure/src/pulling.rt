@@ -1,17 +1,18 @@
 //! The best bound that the rules give at a slot over what stands.
 
-ghost use Rattle.std.specs.Prelude.{◌≡◌, ◌<◌, ◌≤◌, ◌^◌, ℕ, List, true, false, if◌then◌else◌, Some, None, IfSome, All, drop};
-ghost use Rattle.ct_words.specs.declared.limits.TheConstants.{MAX_BOUND};
+ghost use Rattle.std.specs.Prelude.{◌≡◌, ◌<◌, ◌≤◌, ◌^◌, ℕ, List, true, false, if◌then◌else◌, Some, None, IfSome, All, drop, take, map, length};
+ghost use Rattle.ct_words.specs.declared.limits.TheConstants.{MAX_BOUND, MAX_N};
 ghost use Rattle.ct_codes.specs.declared.claim.Side.TheVariants.{Lower};
 ghost use Rattle.ct_codes.specs.Entry.{IsEntry, is_entry};
-ghost use Rattle.ct_rule_parts.specs.Parts.{are_entries};
+ghost use Rattle.ct_rule_parts.specs.Parts.{are_entries, slots_on};
+ghost use Rattle.ct_duals.specs.Bound.{dual_premises};
 ghost use Rattle.ct_rule_parts.specs.Slot.{IsNoBetter};
 ghost use Rattle.ct_rule_parts.specs.Support.{AllStand};
 ghost use Rattle.ct_rules.specs.declared.rule.Rule.{Rule};
 ghost use Rattle.ct_rules.specs.declared.rule.Rule.TheVariants.{L11};
 ghost use Rattle.ct_rules.specs.Closed.{AreTrue};
 ghost use Rattle.ct_rules.specs.Listing.{rules_alone};
-ghost use Rattle.ct_rules.specs.Rule.{rule_side, is_by_weight};
+ghost use Rattle.ct_rules.specs.Rule.{rule_side, is_by_weight, parts_over};
 ghost use Rattle.ct_closure.specs.Kept.{IsKept};
 ghost use Rattle.ct_closure.specs.Number.{bound_of};
 ghost use Rattle.ct_closure.specs.Places.{ArePlaces};
@@ -23,7 +24,9 @@ use crate::kept::Kept;
 use crate::places::SupportPlaces;
 use crate::side_by_side::best_side_by_side;
 use ct_codes::{Entry, Side};
+use ct_rule_parts::AcceptedDual;
 use ct_rules::{Entries, Rule, Support, rests_on, rule_side, rules_alone, value_where_defined};
+use ct_words::MAX_N;
 
 /// The bound that stands on a side of an entry, where it is in the table.
 fn bound_in_table(kept: &Kept, side: Side, entry: Entry) -> Option<u32>
@@ -34,6 +37,43 @@ fn bound_in_table(kept: &Kept, side: Side, entry: Entry) -> Option<u32>
     } else {
         None
     }
+}
+
+/// Puts the bounds that stand on a side of what a dual rests on into the row, in order, and tells how many they are.
+fn put_bounds(kept: &Kept, side: Side, dual: &AcceptedDual, row: &mut [u32]) -> usize
+    requires { length row.old ≡ MAX_N }
+    ensures count { result ≡ length (dual_premises dual.now.dual) }
+    ensures few { result ≤ length row.new }
+    ensures bounds { take (length (dual_premises dual.now.dual)) row.new ≡ map (bound_of kept.now.bounds) (slots_on side (dual_premises dual.now.dual)) }
+    ensures in_table { are_entries (dual_premises dual.now.dual) ≡ true }
+{
+    let count = dual.premise_count();
+    for place in 0..count {
+        let Some(entry) = dual.premise(place) else {
+            return count;
+        };
+        row[place] = kept.bound(side, entry);
+    }
+    count
+}
+
+/// The bound that a rule that rests on what a dual does gives at an entry of the table over what stands.
+fn offer_of_dual(
+    supports: &[Support],
+    kept: &Kept,
+    rule: Rule,
+    entry: Entry,
+    dual: &AcceptedDual,
+) -> Option<u32>
+    requires entry { IsEntry entry }
+    requires condition { (parts_over supports.now rule).condition entry ≡ true }
+    requires rests_on { (parts_over supports.now rule).rests_on entry ≡ dual_premises dual.now.dual }
+    ensures value { result ≡ value_over supports.now (bound_of kept.now.bounds) rule entry }
+    ensures limit { IfSome result (λ v. v ≤ MAX_BOUND) }
+{
+    let mut bounds = [0; MAX_N as usize];
+    let count = put_bounds(kept, rule_side(rule), dual, &mut bounds);
+    value_where_defined(supports, rule, entry, &bounds[..count])
 }
 
 /// The bound that the rule gives at an entry of the table over what stands. It takes no memory.
@@ -64,6 +104,7 @@ pub fn offer(supports: &[Support], kept: &Kept, rule: Rule, entry: Entry) -> Opt
             ];
             value_where_defined(supports, rule, entry, &bounds)
         }
+        Entries::OfDual(dual) => offer_of_dual(supports, kept, rule, entry, dual),
     }
 }
 

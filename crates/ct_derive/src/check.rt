@@ -71,7 +71,7 @@ fn values_numbered(
     entries: Entries,
     numbers: &[u64],
 ) -> Result<Option<SmallVec<u32, 4>>, AllocError>
-    ensures { IfOk result (λ values. option_map (λ vs. vs.items) values ≡ values_numbered side before.now (listed entries) numbers.now) }
+    ensures { IfOk result (λ values. option_map (λ vs. vs.items) values ≡ values_numbered side before.now (listed entries.entry) numbers.now) }
 {
     let mut values = SmallVec::new(alloc);
     for place in 0..numbers.len() {

@@ -12,7 +12,7 @@ use ct_codes::Entry;
 use ct_rule_parts::Entries;
 
 /// The entries of the premises of L11 with the length m and the distance c: A(m,c), and A(n−m,d−c).
-pub fn parts_side_by_side(m: u32, c: u32, entry: Entry) -> Entries
+pub fn parts_side_by_side(m: u32, c: u32, entry: Entry) -> Entries<'static>
     ensures { listed result ≡ (side_by_side m c).rests_on entry }
 {
     let first = Entry {

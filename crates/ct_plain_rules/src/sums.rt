@@ -13,7 +13,7 @@ use ct_codes::Entry;
 use ct_rule_parts::{Entries, first, second};
 
 /// The entries of L8's premises: from distance 5 on the codes of the u come first.
-pub fn parts_of_sums(entry: Entry) -> Entries
+pub fn parts_of_sums(entry: Entry) -> Entries<'static>
     requires { IsEntry entry }
     ensures { listed result ≡ sums.rests_on entry }
 {
@@ -38,7 +38,7 @@ pub fn count_of_sums(entry: Entry, values: &[u32]) -> u64
 }
 
 /// The entries among which are all whose sums have words of this one.
-pub fn sums_of(entry: Entry) -> Entries
+pub fn sums_of(entry: Entry) -> Entries<'static>
     requires { IsEntry entry }
     ensures { listed result ≡ sums.rested_on_by entry }
 {

@@ -5,3 +5,4 @@ pub mod PlainEntries
 pub mod PlainNumbers
 pub mod EntryLists
 pub mod WeightEntries
+pub mod DualLemmas

@@ -5,6 +5,7 @@ mod entries;
 mod number;
 mod support;
 
+pub use ct_duals::AcceptedDual;
 pub use entries::Entries;
 pub use number::{first, second, within_limit};
-pub use support::{Support, size_at};
+pub use support::{Support, dual_at, size_at};

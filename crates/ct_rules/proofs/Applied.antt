@@ -4,7 +4,7 @@ use Rattle.std.specs.Prelude.{Bool, true, false, ◌&&◌, if◌then◌else◌, 
 use Rattle.std.specs.Option.{ForSome}
 use Rattle.std.proofs.lemmas.Bool.{and_parts}
 use Rattle.std.proofs.lemmas.List.Elements.{All-nil, All-cons}
-use Rattle.std.proofs.lemmas.Option.{cond_some, none-some, same_Some, slice_get_within, get_or_from_slice_get}
+use Rattle.std.proofs.lemmas.Option.{cond_some, none-some, same_Some, slice_get_within, slice_get-map, get_or_from_slice_get}
 use Rattle.ct_words.specs.declared.limits.TheConstants.{MAX_BOUND}
 use Rattle.ct_codes.specs.declared.entry.Entry.{Entry}
 use Rattle.ct_codes.specs.declared.claim.Side.{Side}
@@ -17,7 +17,7 @@ use Rattle.ct_rule_parts.specs.Entries.{listed}
 use Rattle.ct_rule_parts.specs.Slot.{Slot}
 use Rattle.ct_rule_parts.specs.Support.{Stands, AllStand}
 use Rattle.ct_rules.specs.declared.rule.Rule.{Rule}
-use Rattle.ct_rules.specs.Rule.{rule_side, place_of, support_at, cited, parts_over, applies, premises_at, premises_of, value_of}
+use Rattle.ct_rules.specs.Rule.{rule_side, place_of, support_at, cited, parts_over, applies, premises_at, premises_of, premise_of, value_of}
 
 -- a rule of these parts is defined at the entry
 pub record IsDefined (p : RuleParts) (e : Entry) : Type 0 where
@@ -150,3 +150,11 @@ pub defined_entries : (supports : List Support) (r : Rule) (e : Entry) (o : Opti
     → (applies supports r e ≡ true) × ((parts_over supports r).rests_on e ≡ listed es)
 defined_entries supports r e o es h is =
     cond_some (applies supports r e) ((parts_over supports r).rests_on e) (listed es) (sym h ∙ ap (option_map listed) is)
+
+-- the premise at a place, by the entry there
+pub premise-given : (supports : List Support) (r : Rule) (e : Entry) (j : ℕ) (f : Entry) → applies supports r e ≡ true
+    → slice_get ((parts_over supports r).rests_on e) j ≡ Some f → premise_of supports r e j ≡ Some (rule_side r, f)
+premise-given supports r e j f defined at =
+    let on : Entry → Slot = λ g. (rule_side r, g) in
+    ap (λ (b : Bool). if b then slice_get (premises_at supports r e) j else None) defined
+    ∙ slice_get-map on ((parts_over supports r).rests_on e) j ∙ ap (option_map on) at

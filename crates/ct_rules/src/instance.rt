@@ -13,7 +13,7 @@ use ct_words::{MAX_BOUND, MAX_N};
 
 /// The entries whose bounds the rule rests on at the entry, in order, where it is defined: the entry is in the table, the rule's
 /// condition holds there, and all that it rests on is in the table. `None` comes exactly where it is not defined.
-pub fn defined_on(supports: &[Support], rule: Rule, entry: Entry) -> Option<Entries>
+pub fn defined_on(supports: &[Support], rule: Rule, entry: Entry) -> Option<Entries<'_>>
     ensures { option_map listed result
         ≡ (if applies supports.now rule entry then Some ((parts_over supports.now rule).rests_on entry) else None) }
 {

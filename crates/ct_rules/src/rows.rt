@@ -72,7 +72,7 @@ pub fn with_place(rule: Rule, place: u32) -> Rule
 /// The entries whose bounds the rule rests on at an entry of the table, in order, where its condition holds there, over the
 /// support that it names; else `None`.
 #[tactic(auto, unfolding(crate::specs::Rule::row_of))]
-pub fn rests_on(supports: &[Support], rule: Rule, entry: Entry) -> Option<Entries>
+pub fn rests_on(supports: &[Support], rule: Rule, entry: Entry) -> Option<Entries<'_>>
     requires { IsEntry entry }
     ensures { option_map listed result
         ≡ (if (parts_over supports.now rule).condition entry then Some ((parts_over supports.now rule).rests_on entry) else None) }
@@ -161,7 +161,7 @@ pub(crate) fn number(supports: &[Support], rule: Rule, entry: Entry, values: &[u
 /// The entries among which are all that rest on this one, which has to be in the table, by the rule, which has to have
 /// neither numbers nor a support, nor to lead from entries with weight to those without.
 #[tactic(auto, unfolding(crate::specs::Rule::row_of))]
-pub fn rested_on_by(rule: Rule, entry: Entry) -> Entries
+pub fn rested_on_by(rule: Rule, entry: Entry) -> Entries<'static>
     requires entry { IsEntry entry }
     requires alone { is_alone rule ≡ true }
     ensures { listed result ≡ (parts_of rule None).rested_on_by entry }

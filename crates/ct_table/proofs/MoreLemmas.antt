@@ -9,7 +9,7 @@ use Rattle.ct_codes.specs.declared.entry.Entry.{Entry}
 use Rattle.ct_codes.specs.Entry.{IsEntry, same_entry}
 use Rattle.ct_codes.proofs.EntryLemmas.{same_entry_is}
 use Rattle.ct_rule_parts.specs.declared.support.Support.{Support}
-use Rattle.ct_rule_parts.specs.declared.support.Support.TheVariants.{Nothing, Size}
+use Rattle.ct_rule_parts.specs.declared.support.Support.TheVariants.{Nothing, Size, Bound}
 use Rattle.ct_rule_parts.specs.Parts.{has_weight}
 use Rattle.ct_rule_parts.specs.Slot.{Slot, IsNoBetter}
 use Rattle.ct_rule_parts.specs.Support.{size_at}
@@ -32,6 +32,7 @@ use Rattle.ct_table.proofs.BaseLemmas.{cited-nothing}
 -- a support that gives something to an entry of the table is one of that entry
 pub gives_entry : (support : Support) (e : Entry) → GivesTo support e → IsEntry e → entry_of support ≡ Some e
 gives_entry Nothing e gives entry = absurd (gives refl)
+gives_entry (Bound a) e gives entry = absurd (gives refl)
 gives_entry (Size f size) e gives entry = go (same_entry f e) refl
   where
     go : (b : Bool) → same_entry f e ≡ b → entry_of (Size f size) ≡ Some e

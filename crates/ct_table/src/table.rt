@@ -120,6 +120,7 @@ impl Table {
             self.supports[place] = taken;
             return Err(error);
         }
+        drop(taken);
         self.closing.kept.lower(place as u32);
         self.supports.remove(place);
         self.places.rebuild(&self.supports);

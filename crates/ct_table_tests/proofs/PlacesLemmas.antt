@@ -7,7 +7,7 @@ use Rattle.ct_codes.specs.declared.entry.Entry.{Entry}
 use Rattle.ct_codes.specs.Entry.{IsEntry, same_entry}
 use Rattle.ct_codes.proofs.EntryLemmas.{same_entry_is}
 use Rattle.ct_rule_parts.specs.declared.support.Support.{Support}
-use Rattle.ct_rule_parts.specs.declared.support.Support.TheVariants.{Nothing, Size}
+use Rattle.ct_rule_parts.specs.declared.support.Support.TheVariants.{Nothing, Size, Bound}
 use Rattle.ct_closure.specs.Places.{GivesTo, ArePlaces, entry_of}
 
 size_given : (f : Entry) (size : ℕ) (e : Entry) (same : Bool) → same_entry f e ≡ same → IsEntry e → GivesTo (Size f size) e
@@ -19,6 +19,7 @@ size_given f size e false other entry gives = absurd (gives (rw other refl))
 -- a support stands for the entry of the table to which it gives something
 pub entry_of-given : (support : Support) (e : Entry) → IsEntry e → GivesTo support e → entry_of support ≡ Some e
 entry_of-given Nothing e entry gives = absurd (gives refl)
+entry_of-given (Bound a) e entry gives = absurd (gives refl)
 entry_of-given (Size f size) e entry gives = size_given f size e (same_entry f e) refl entry gives
 
 -- so the entries of all supports are their places

@@ -13,7 +13,7 @@ use ct_rule_parts::Entries;
 use ct_words::{MAX_BOUND, MAX_N};
 
 /// The entries of V6's premises: A(n−1,d,w), and A(n−1,d,w−1).
-pub fn parts_of_split(entry: Entry) -> Entries
+pub fn parts_of_split(entry: Entry) -> Entries<'static>
     requires { IsEntry entry }
     ensures { listed result ≡ split.rests_on entry }
 {
@@ -21,7 +21,7 @@ pub fn parts_of_split(entry: Entry) -> Entries
 }
 
 /// The entries that this one is a part of: A(n+1,d,w), and A(n+1,d,w+1).
-pub fn split_into(entry: Entry) -> Entries
+pub fn split_into(entry: Entry) -> Entries<'static>
     requires { IsEntry entry }
     ensures { listed result ≡ split.rested_on_by entry }
 {

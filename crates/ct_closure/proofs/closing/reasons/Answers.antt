@@ -1,12 +1,17 @@
-use Rattle.std.proofs.Common.{◌≡◌, ◌∷◌, [], true, subst}
-use Rattle.ct_rule_parts.specs.declared.entries.Entries.{Entries}
+-- One more reason.
+use Rattle.std.proofs.Common.{sym, ◌∙◌}
 use Rattle.ct_rule_parts.specs.Entries.{listed}
-use Rattle.ct_rule_parts.specs.Parts.{are_entries}
-use Rattle.ct_closure.proofs.PullingLemmas.{first_in_table, rest_in_table}
+use Rattle.ct_rules.proofs.Applied.{entries_at}
+use Rattle.ct_closure.specs.Kept.{reason_of}
+use Rattle.ct_closure.proofs.RowLemmas.{pushed_more}
 use Rattle.ct_closure.proofs.closing.reasons.Goals as goal
 
-pub reason-requires-in-Three-3 : goal.reason-requires-in-Three-3
-reason-requires-in-Three-3 c =
-    let all = subst (λ (es : Entries). are_entries (listed es) ≡ true) c.in-Three.is c.requires in
-    first_in_table c.in-Three.third []
-    (rest_in_table c.in-Three.second (c.in-Three.third ∷ []) (rest_in_table c.in-Three.first (c.in-Three.second ∷ c.in-Three.third ∷ []) all))
+pub reason-requires : goal.reason-requires
+reason-requires c =
+    entries_at (listed c.args.entries) c.loop-place.place c.in-Some.entry c.requires (sym c.get.ensures ∙ c.in-Some.is)
+
+pub loop-place-preserved : goal.loop-place-preserved
+loop-place-preserved c =
+    c.in_ok-push.ensures.ok
+    ∙ pushed_more (reason_of c.args.kept.now) c.args.side (listed c.args.entries) c.loop-place.place c.in-Some.entry c.reason.result
+    c.loop-place.from.items (sym c.get.ensures ∙ c.in-Some.is) c.reason.ensures c.loop-place.invariant

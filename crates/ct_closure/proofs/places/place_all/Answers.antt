@@ -1,7 +1,6 @@
 use Rattle.std.proofs.Common.{◌≡◌, ◌<◌, ◌+◌, ◌++◌, ◌∷◌, [], List, Option, map, take, length, refl, ap, sym, ◌∙◌, subst, arith, length-set, length-take}
 use Rattle.std.proofs.lemmas.List.{map_more, take_more_set, length-map}
 use Rattle.ct_codes.specs.declared.entry.Entry.{Entry}
-use Rattle.ct_rule_parts.specs.declared.support.Support.TheVariants.{Nothing}
 use Rattle.std.specs.Prelude.{slice_set}
 use Rattle.ct_closure.specs.Places.{entry_of, AreChained}
 use Rattle.ct_closure.proofs.PlacesLemmas.{AreChained-none, AreChained-next}
@@ -23,7 +22,8 @@ loop-place-preserved c =
     let done = c.loop-place.invariant in
     let inside : place < length supports = omega (arith, c.loop-place-test.true) in
     let more : map entry_of (take (place + 1) supports) ≡ map entry_of (take place supports) ++ entry ∷ [] =
-    map_more entry_of supports place Nothing inside ∙ ap (λ (o : Option Entry). map entry_of (take place supports) ++ o ∷ []) (sym c.entry_of-entry.ensures.entry) in
+    map_more entry_of supports place c.index-supports-place.result inside
+    ∙ ap (λ (o : Option Entry). map entry_of (take place supports) ++ o ∷ []) (ap entry_of (sym c.index-supports-place.is) ∙ sym c.entry_of-entry.ensures.entry) in
     let counts = done.entry_count in
     let places = done.before_count in
     let limit = c.requires.few in

@@ -1,5 +1,4 @@
-use Rattle.std.proofs.Common.{All, ◌∙◌, drop, subst}
-use Rattle.ct_rules.specs.Listing.{rules_alone}
+use Rattle.std.proofs.Common.{All, subst}
 use Rattle.ct_rule_parts.specs.Slot.{Slot}
 use Rattle.ct_closure.specs.Number.{bound_of}
 use Rattle.ct_closure.specs.Inside.Pulling.{IsWithin}

@@ -1,4 +1,4 @@
-use Rattle.std.proofs.Common.{subst, ap}
+use Rattle.std.proofs.Common.{subst, ap, ◌∙◌}
 use Rattle.ct_closure.specs.Closing.{ClosingValue}
 use Rattle.ct_table.specs.Inside.Starting.{IsMarkedIfGiven}
 use Rattle.ct_table.proofs.FollowLemmas.{CanClose-marked}
@@ -12,4 +12,5 @@ close-requires-clause-closing c =
     (record { kept = c.closing.inside.kept; work = c.mark_given.new.work; evaluations = c.closing.inside.evaluations })
     c.requires.new (ap (λ (k : ClosingValue). k.kept) c.closing.view_is)
     (subst (IsMarkedIfGiven c.mark_given.new.work)
-    (last_is c.args.supports.now new.olds new.new_one _ c.args.place new.are new.end) c.in_ok-mark_given.ensures.given)
+    (c.index-supports-place.is ∙ last_is c.args.supports.now new.olds new.new_one c.index-supports-place.result c.args.place new.are new.end)
+    c.in_ok-mark_given.ensures.given)

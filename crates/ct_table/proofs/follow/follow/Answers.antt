@@ -15,7 +15,7 @@ pub returns-in_default-clause-closed : goal.returns-in_default-clause-closed
 returns-in_default-clause-closed c =
     let new = c.requires.new in
     let none : entry_of new.new_one ≡ None =
-    ap entry_of (sym (last_is c.args.supports.now new.olds new.new_one _ c.args.place new.are new.end))
+    ap entry_of (sym (c.index-supports-place.is ∙ last_is c.args.supports.now new.olds new.new_one c.index-supports-place.result c.args.place new.are new.end))
     ∙ sym c.entry_of.ensures.entry ∙ c.in_default.is in
     IsClosing-same c.args.supports.now c.args.place c.args.closing.now c.args.closing.now c.requires.new refl refl
     (λ e is. absurd (none-some e (sym none ∙ is)))
@@ -24,7 +24,7 @@ pub returns-then-not-betters-clause-closed : goal.returns-then-not-betters-claus
 returns-then-not-betters-clause-closed c =
     let new = c.requires.new in
     let found : entry_of new.new_one ≡ Some c.in-Some.entry =
-    ap entry_of (sym (last_is c.args.supports.now new.olds new.new_one _ c.args.place new.are new.end))
+    ap entry_of (sym (c.index-supports-place.is ∙ last_is c.args.supports.now new.olds new.new_one c.index-supports-place.result c.args.place new.are new.end))
     ∙ sym c.entry_of.ensures.entry ∙ c.in-Some.is in
     IsClosing-same c.args.supports.now c.args.place c.args.closing.now
     (record { kept = c.closing.inside.kept; work = c.closing.inside.work; evaluations = c.saturating_add-closing-inside.result })
