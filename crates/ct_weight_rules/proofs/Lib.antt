@@ -16,3 +16,4 @@ pub mod LawfulColumnPairs
 pub mod LawfulFarWords
 pub mod LawfulSplit
 pub mod LawfulSumClass
+pub mod LawfulDelsarte

@@ -15,3 +15,4 @@ pub mod ColumnPairs
 pub mod FarWords
 pub mod Split
 pub mod SumClass
+pub mod Delsarte

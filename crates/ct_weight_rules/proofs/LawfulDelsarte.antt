@@ -1,0 +1,136 @@
+-- Delsarte's bound: U11 and V9.
+use Rattle.std.proofs.Common.{◌≡◌, ℕ, ◌-◌, ◌%◌, ◌≤◌, List, [], ◌∷◌, length, map, get_or, Contains, refl, ap, sym, subst, ◌∙◌, arith, inl, inr}
+use Rattle.std.specs.Prelude.{ℤ, not, is_some, Option, Some, None}
+use Rattle.std.specs.Option.{ForSome}
+use Rattle.std.proofs.lemmas.Bool.{and_parts, cases_lt}
+use Rattle.std.proofs.lemmas.List.Elements.{All-map, All-contains}
+use Rattle.std.proofs.lemmas.Option.{none-some}
+use Rattle.ct_words.specs.declared.limits.TheConstants.{MAX_N}
+use Rattle.ct_codes.specs.declared.claim.Side.TheVariants.{Upper}
+use Rattle.ct_codes.specs.declared.entry.Entry.{Entry}
+use Rattle.ct_codes.specs.Code.{IsTrueUpper}
+use Rattle.ct_codes.specs.Entry.{constant_weight}
+use Rattle.ct_constructions.specs.Even.{even_from}
+use Rattle.ct_duals.specs.Dual.{IsDual, IsPlainOf}
+use Rattle.ct_duals.specs.Bound.{AcceptedValue, IsSoundDual, AreTrueUppers, AreAtMost, positive, dual_premises, dual_bound}
+use Rattle.ct_duals.proofs.Monotone.{dual_bound-monotone}
+use Rattle.ct_duals.proofs.SomeBound.{dual_bound-some}
+use Rattle.ct_rule_parts.specs.declared.support.Support.{Support}
+use Rattle.ct_rule_parts.specs.declared.support.Support.TheVariants.{Bound}
+use Rattle.ct_rule_parts.specs.Parts.{has_weight, slots_on}
+use Rattle.ct_rule_parts.specs.Slot.{AreNoBetter}
+use Rattle.ct_rule_parts.specs.Support.{Stands, dual_at}
+use Rattle.ct_rule_parts.proofs.DualLemmas.{dual_there}
+use Rattle.ct_rule_parts.proofs.Lawful.{IsLawful, IsTrueNumber, AreTrueAt, NoWorse, same_number, no_worse-other, defined_condition}
+use Rattle.ct_rule_parts.proofs.PlainEntries.{Weightless, no_weight, a_weight, written, in_front, behind, no_item}
+use Rattle.ct_weight_rules.specs.Neighbours.{unweighted, unweighted_and_nearer}
+use Rattle.ct_weight_rules.specs.Delsarte.{premises_of_dual, bound_of_dual, dual_above, dual_above_of_weight}
+
+-- true values of upper slots are true upper bounds
+true_uppers : (es : List Entry) (vs : List ℕ) → AreTrueAt (slots_on Upper es) vs → AreTrueUppers es vs
+true_uppers [] [] h = tt
+true_uppers [] (v ∷ vs) h = absurd h
+true_uppers (e ∷ es) [] h = absurd h
+true_uppers (e ∷ es) (v ∷ vs) h = (h.0.truth, true_uppers es vs h.1)
+
+-- better upper bounds are smaller
+at_most : (us vs : List ℕ) → AreNoBetter Upper us vs → AreAtMost vs us
+at_most [] [] h = tt
+at_most [] (v ∷ vs) h = absurd h
+at_most (u ∷ us) [] h = absurd h
+at_most (u ∷ us) (v ∷ vs) h = (h.0, at_most us vs h.1)
+
+-- the bound of a dual of a support that stands
+dual_number : (c : Option Support) (e : Entry) (a : AcceptedValue) (vs : List ℕ) → ForSome c Stands → dual_at c e ≡ Some a
+    → AreTrueUppers (dual_premises a.dual) vs → IsTrueNumber Upper e (dual_bound a.dual a.at_zero vs)
+dual_number c e a vs stand at known =
+    let has = dual_there c e a at in
+    let sound : IsSoundDual a = stand (Bound a) has.support in
+    record {
+      some = dual_bound-some a vs sound.lead sound.least;
+      truth = subst (λ (f : Entry). IsTrueUpper f (dual_bound a.dual a.at_zero vs)) has.entry (sound.sound vs known);
+    }
+
+-- better premises give no greater a bound
+dual-monotone : (o : Option AcceptedValue) (us vs : List ℕ) (x : ℕ) → AreNoBetter Upper us vs → bound_of_dual o us ≡ Some x
+    → NoWorse Upper (bound_of_dual o vs) x
+dual-monotone None us vs x h is = absurd (none-some x is)
+dual-monotone (Some a) us vs x h is =
+    no_worse-other Upper (dual_bound a.dual a.at_zero us) (dual_bound a.dual a.at_zero vs) x
+    (dual_bound-monotone a.dual a.at_zero vs us (at_most us vs h)) is
+
+-- an entry whose dual rests on another is at its distance, or one place nearer
+dual-back : (e f : Entry) (a : AcceptedValue) → Weightless e → a.dual.entry ≡ e → Contains (dual_premises a.dual) f
+    → Contains (unweighted f ∷ unweighted_and_nearer f ∷ []) e
+dual-back e f a none same rests = All-contains IsBack (dual_premises a.dual) f (All-map IsBack at (positive a.dual.y) (λ k o l. back (get_or (positive a.dual.y) k o))) rests
+  where
+    IsBack : Entry → Type 0
+    IsBack g = Contains (unweighted g ∷ unweighted_and_nearer g ∷ []) e
+
+    at : ℕ × ℤ → Entry
+    at p = constant_weight a.dual.entry.n (even_from a.dual.entry.d) p.0
+
+    back : (p : ℕ × ℤ) → IsBack (at p)
+    back p =
+        let length_is : a.dual.entry.n ≡ e.n = ap (λ (g : Entry). g.n) same in
+        let distance_is : a.dual.entry.d ≡ e.d = ap (λ (g : Entry). g.d) same in
+        elim (cases_lt (a.dual.entry.d % 2) 1) [
+          | inl is_even ↦
+              in_front (unweighted (at p)) e (unweighted_and_nearer (at p) ∷ [])
+              (written a.dual.entry.n (even_from a.dual.entry.d) e none length_is (omega arith))
+          | inr is_odd ↦
+              behind (unweighted (at p)) e (unweighted_and_nearer (at p) ∷ [])
+              (in_front (unweighted_and_nearer (at p)) e [] (written a.dual.entry.n (even_from a.dual.entry.d - 1) e none length_is (omega arith)))
+        ]
+
+pub dual_above-lawful : (c : Option Support) → IsLawful c (dual_above c)
+dual_above-lawful c = record {
+  sound = λ e vs x stand entry condition known is. sound e vs x stand (dual_at c e) refl known is;
+  monotone = λ e us vs x h is. dual-monotone (dual_at c e) us vs x h is;
+  few = λ e entry. few e (dual_at c e) refl;
+  dependents = λ e f defined rests.
+      dependents e f (no_weight e (and_parts (not (has_weight e)) (is_some (dual_at c e)) (defined_condition (dual_above c) e defined)).0)
+      (dual_at c e) refl rests;
+}
+  where
+    sound : (e : Entry) (vs : List ℕ) (x : ℕ) → ForSome c Stands → (o : Option AcceptedValue) → dual_at c e ≡ o
+        → AreTrueAt (slots_on Upper (premises_of_dual o)) vs → bound_of_dual o vs ≡ Some x → IsTrueNumber Upper e x
+    sound e vs x stand None at known is = absurd (none-some x is)
+    sound e vs x stand (Some a) at known is =
+        same_number Upper e (dual_bound a.dual a.at_zero vs) x is
+        (dual_number c e a vs stand at (true_uppers (dual_premises a.dual) vs known))
+
+    few : (e : Entry) (o : Option AcceptedValue) → dual_at c e ≡ o → length (premises_of_dual o) ≤ MAX_N
+    few e None at = omega arith
+    few e (Some a) at = (dual_there c e a at).few
+
+    dependents : (e f : Entry) → Weightless e → (o : Option AcceptedValue) → dual_at c e ≡ o → Contains (premises_of_dual o) f
+        → Contains (unweighted f ∷ unweighted_and_nearer f ∷ []) e
+    dependents e f none None at rests = no_item (Contains (unweighted f ∷ unweighted_and_nearer f ∷ []) e) f rests
+    dependents e f none (Some a) at rests = dual-back e f a none (dual_there c e a at).entry rests
+
+-- a dual of an entry with weight rests on nothing
+pub premises-none : (a : AcceptedValue) (w : ℕ) → IsDual a.dual → a.dual.entry.w ≡ Some w → dual_premises a.dual ≡ []
+premises-none a w form is =
+    let plain = subst (λ (o : Option ℕ). IsPlainOf o a.dual.even a.dual.y) is form.weighted in
+    ap (λ y. map (λ p. constant_weight a.dual.entry.n (even_from a.dual.entry.d) p.0) (positive y)) plain.1
+
+pub dual_above_of_weight-lawful : (c : Option Support) → IsLawful c (dual_above_of_weight c)
+dual_above_of_weight-lawful c = record {
+  sound = λ e vs x stand entry condition known is.
+      sound e vs x stand (a_weight e (and_parts (has_weight e) (is_some (dual_at c e)) condition).0) (dual_at c e) refl known is;
+  monotone = λ e us vs x h is. dual-monotone (dual_at c e) us vs x h is;
+  few = λ e entry. omega arith;
+  dependents = λ e f defined rests. no_item (Contains [] e) f rests;
+}
+  where
+    sound : (e : Entry) (vs : List ℕ) (x : ℕ) → ForSome c Stands → (w : ℕ) × (e.w ≡ Some w) → (o : Option AcceptedValue) → dual_at c e ≡ o
+        → AreTrueAt [] vs → bound_of_dual o vs ≡ Some x → IsTrueNumber Upper e x
+    sound e vs x stand weight None at known is = absurd (none-some x is)
+    sound e (v ∷ vs) x stand weight (Some a) at known is = absurd known
+    sound e [] x stand weight (Some a) at known is =
+        let has = dual_there c e a at in
+        let form = (stand (Bound a) has.support).form in
+        let none = premises-none a weight.0 form (ap (λ (g : Entry). g.w) has.entry ∙ weight.1) in
+        same_number Upper e (dual_bound a.dual a.at_zero []) x is
+        (dual_number c e a [] stand at (subst (λ es. AreTrueUppers es []) (sym none) tt))
