@@ -94,7 +94,7 @@ no_fault supports before line follows =
     ∙ ap (λ (b : Bool). if b then None else Some (OtherValue line.claim.value line.claim.value)) (number-self line.claim.value)
 
 -- numbers say their places
-places_again : (places : List ℕ) → map (λ n. n - 1) (numbers_at places) ≡ places
+pub places_again : (places : List ℕ) → map (λ n. n - 1) (numbers_at places) ≡ places
 places_again [] = refl
 places_again (p ∷ places) =
     let less : suc p - 1 ≡ p = omega arith in

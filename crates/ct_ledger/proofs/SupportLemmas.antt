@@ -1,6 +1,7 @@
 -- What pieces give to the table: it stands where they do, and comes and goes with them.
 use Rattle.std.proofs.Common.{◌≡◌, ◌≢◌, ℕ, zero, suc, ◌+◌, ◌-◌, ◌≤◌, ◌<◌, Bool, true, false, ◌||◌, cond, not, nat_lt, List, [], ◌∷◌, ◌++◌, length, map, get_or, Option, Some, None, Ok, Err, option_map, refl, sym, ap, subst, ◌∙◌, arith, ltb-true, ltb-false, length-append}
-use Rattle.std.specs.Prelude.{All, AllPairs, remove}
+use Rattle.std.specs.Prelude.{All, AllPairs, IfSome, remove}
+use Rattle.ct_ledger.specs.declared.limits.TheConstants.{MAX_PIECES}
 use Rattle.std.specs.List.{position_or_len}
 use Rattle.std.specs.Str.{bytes_eq}
 use Rattle.std.proofs.lemmas.List.{map-append, length-map}
@@ -244,3 +245,10 @@ taken_back ps h some =
           ∙ sym (ap (λ (n : ℕ). remove (kept_codes ps) (n - 1)) count ∙ remove_last (kept_codes ps) (kept_codes front) (kept_over (codes_of front) p.evidence) codes);
       stored = λ d. sum_by-remove stored_by ps (length ps - 1) d (omega arith);
     }
+
+-- there are not too many places
+pub place_of-few : (id : List ℕ) (ps : List PieceValue) (o : Option ℕ) → AreStanding ps → place_of id ps ≡ o → IfSome o (λ k. k < MAX_PIECES)
+place_of-few id ps None h is = tt
+place_of-few id ps (Some k) h is =
+    let place = place_of-some id ps k h.different is in
+    omega (arith, place.within, h.few)

@@ -1,6 +1,6 @@
 //! Pieces of evidence by themselves, without a table.
 
-ghost use Rattle.std.specs.Prelude.{◌≡◌, ◌≢◌, ◌≤◌, ◌<◌, ◌+◌, ◌^◌, ◌∷◌, ◌++◌, ℕ, List, Result, Ok, Err, Some, None, false, IfOk, IfErr, IsSome, IsTrue, OnOk, OnErr, [], All, filter, find, length, not, option_map, remove};
+ghost use Rattle.std.specs.Prelude.{◌≡◌, ◌≢◌, ◌≤◌, ◌<◌, ◌+◌, ◌^◌, ◌∷◌, ◌++◌, ℕ, List, Result, Ok, Err, Some, None, false, IfOk, IfErr, IfSome, IsSome, IsTrue, OnOk, OnErr, [], All, filter, find, length, not, option_map, remove};
 ghost use Rattle.ct_codes.specs.Code.{IsSoundCode};
 ghost use Rattle.ct_text.specs.Id.{is_id};
 ghost use Rattle.ct_files.specs.Evidence.{read_of};
@@ -139,7 +139,8 @@ impl Pieces {
 
     /// The place of the piece with the id, where there is one.
     pub fn place_of(&self, id: Id) -> Option<usize>
-        ensures { result ≡ place_of id self.now }
+        ensures place { result ≡ place_of id self.now }
+        ensures few { IfSome result (λ place. place < MAX_PIECES) }
     {
         place_of(&self.pieces, id)
     }
