@@ -1,0 +1,14 @@
+-- A quotient by a positive number fits.
+use Rattle.std.proofs.Common.{◌≡◌, ◌<◌, sym, ap, arith}
+use Rattle.std.specs.Prelude.{pos, ℤ, ◌≤ℤ◌, ◌<ℤ◌, int_div, FitsSigned}
+use Rattle.std.proofs.lemmas.Int.{ints, to_z-of_z, quot_fits}
+use mir.Val.{SFits, of_z}
+use mir.Syntax.{w128}
+use Rattle.ct_tableau.proofs.arithmetic.quotient.Goals as goal
+
+pub nonzero_div-result : goal.nonzero_div-result
+nonzero_div-result c =
+    let f : SFits w128 c.args.z = c.ranges.z in
+    let g : SFits w128 c.args.divisor = c.ranges.divisor in
+    let some = c.requires in
+    (omega (arith, ints), simp to_z-of_z (quot_fits w128 c.args.z c.args.divisor f (omega (arith, ints))))

@@ -1,0 +1,31 @@
+-- A tableau as the definitions see it, and what a turn needs of it.
+use Rattle.std.specs.Prelude.{◌≡◌, ℕ, ◌≤◌, List, length, Option, Some, None, ℤ}
+use Rattle.ct_finder_run.specs.Column.{Tableau as TableauOf}
+use Rattle.ct_finder_run.specs.Run.{End, Step}
+use Rattle.ct_finder_run.specs.Run.End.{Least as LeastEnd, Turns as TurnsEnd, Wide as WideEnd}
+use Rattle.ct_finder_run.specs.Run.Step.{ended, goes}
+use Rattle.ct_finder_run.specs.Sum.{HasWidth}
+use Rattle.ct_tableau.specs.declared.tableau.Tableau.{Tableau}
+use Rattle.ct_tableau.specs.declared.turns.Ending.{Ending}
+use Rattle.ct_tableau.specs.declared.turns.Ending.TheVariants.{Least, Turns, Wide}
+
+abbrev pub seen : Tableau → TableauOf
+seen t = record { rows = t.rows.items; basics = t.basics.items; cost = t.cost }
+
+-- as many basic columns as rows, and rows of one width
+pub record IsReady (t : Tableau) : Type 0 where
+  pub width : HasWidth (length t.cost) (seen t)
+  pub count : length t.basics.items ≡ length t.rows.items
+  pub pivot : length t.pivot ≡ length t.cost
+  pub some : 2 ≤ length t.cost
+
+-- an end with the cost row
+abbrev pub end_of : Ending → List ℤ → End
+end_of Least cost = LeastEnd cost
+end_of Turns cost = TurnsEnd
+end_of (Wide x) cost = WideEnd x
+
+-- an end before a turn, or the tableau after it
+abbrev pub step_of : Option Ending → TableauOf → Step
+step_of None t = goes t
+step_of (Some end) t = ended (end_of end t.cost)
