@@ -7,6 +7,7 @@ ghost use Rattle.ct_codes.specs.declared.fault.TheConstants.{MAX_WORDS};
 ghost use Rattle.ct_partitions.specs.declared.fault.TheConstants.{MAX_CLASSES};
 ghost use Rattle.ct_partitions.specs.declared.fault.PartitionFault.TheVariants.{Size, Weight, Repeated, Close};
 ghost use Rattle.ct_partitions.specs.Partition.{all_words, IsPartition};
+ghost use Rattle.ct_partitions.specs.Known.{even_pairs, two_pairs, no_ones, two_ones, four_ones};
 ghost use Rattle.ct_partitions.specs.Product.{Factors, AreFactors, AreSound, product, product_size, product_distance};
 ghost use Rattle.ct_partitions.specs.Check.{partition_fault, need, distance_at};
 
@@ -52,4 +53,21 @@ pub fn products_are_codes()
     ensures code { (n d : ℕ) (w : Option ℕ) (pairs : List Factors) → AreFactors n w pairs → All AreSound pairs →
         1 ≤ d → d ≤ product_distance pairs → IsCode n d w (product pairs) }
     ensures size { (pairs : List Factors) → length (product pairs) ≡ product_size pairs }
+{}
+
+/// Products of words of length 4: of all even words with themselves, 16 words at distance 4; with the first two classes of
+/// them; of words of weights 0, 2 and 4, the 14 words of length 8 and weight 4 at distance 4; and of equal pairs at different
+/// places, which are no code.
+pub fn known_products()
+    ensures even_distance { product_distance ((even_pairs, even_pairs) ∷ []) ≡ 4 }
+    ensures even_size { product_size ((even_pairs, even_pairs) ∷ []) ≡ 16 }
+    ensures unequal_size { product_size ((even_pairs, two_pairs) ∷ []) ≡ 8 }
+    ensures unequal_size_turned { product_size ((two_pairs, even_pairs) ∷ []) ≡ 8 }
+    ensures unequal_words { product ((two_pairs, even_pairs) ∷ []) ≡
+        0b00000000 ∷ 0b00001111 ∷ 0b11110000 ∷ 0b11111111 ∷ 0b00110011 ∷ 0b00111100 ∷ 0b11000011 ∷ 0b11001100 ∷ [] }
+    ensures weighted_distance { product_distance
+        ((no_ones, four_ones) ∷ (two_ones, two_ones) ∷ (four_ones, no_ones) ∷ []) ≡ 4 }
+    ensures weighted_size { product_size
+        ((no_ones, four_ones) ∷ (two_ones, two_ones) ∷ (four_ones, no_ones) ∷ []) ≡ 14 }
+    ensures equal_pairs { product_distance ((two_ones, two_ones) ∷ (two_ones, two_ones) ∷ []) ≡ 0 }
 {}

@@ -12,7 +12,8 @@ mod product;
 pub use check::check_partition;
 pub use fault::{MAX_CLASSES, PartitionFault};
 pub use laws::{
-    faultless_lists_are_partitions, known_partitions, products_are_codes, words_of_partitions,
+    faultless_lists_are_partitions, known_partitions, known_products, products_are_codes,
+    words_of_partitions,
 };
 pub use listing::product_list;
 pub use partition::Partition;
