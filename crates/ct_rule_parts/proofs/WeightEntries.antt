@@ -14,7 +14,7 @@ use Rattle.ct_rule_parts.proofs.Lawful.{IsTrueNumber}
 use Rattle.ct_rule_parts.proofs.PlainEntries.{Weighted}
 
 -- the weight of an entry that has one
-weight_is : (e : Entry) → Weighted e → e.w ≡ Some (weight_of e)
+pub weight_is : (e : Entry) → Weighted e → e.w ≡ Some (weight_of e)
 weight_is e (w, is) = is ∙ sym (ap (λ o. Some (unwrap_or o 0)) is)
 
 -- it is at most the length
