@@ -30,7 +30,8 @@ pub words_up_to : (vs : List (Vec ℕ Global)) (k : ℕ) (v : Vec ℕ Global) �
     → length (all_words (word_lists (take k vs))) + length (get_or vs k v).items ≤ length (all_words (word_lists vs))
 words_up_to vs k v within =
     let whole = ap (λ ls. length (all_words ls)) (lists_split vs k v within) in
-    let parts = ap length (flat_map-append (λ (c : List ℕ). c) (word_lists (take k vs)) ((get_or vs k v).items ∷ word_lists (drop (k + 1) vs))) in
+    let parts = ap length (flat_map-append (λ (c : List ℕ). c) (word_lists (take k vs)) ((get_or vs k v).items ∷ word_lists (drop
+    (k + 1) vs))) in
     let first = length-append (all_words (word_lists (take k vs))) ((get_or vs k v).items ++ all_words (word_lists (drop (k + 1) vs))) in
     let second = length-append (get_or vs k v).items (all_words (word_lists (drop (k + 1) vs))) in
     omega arith
@@ -48,22 +49,26 @@ class_at-after (c ∷ cs) rest i after =
     ∙ ap (λ j. suc (length cs + class_at rest j)) back ∙ omega arith
 
 -- two places, the first of which is in a class, are of one class where the second is before its end
-pub same_class : (before after : List (List ℕ)) (c : List ℕ) (i j : ℕ) → length (all_words before) ≤ i → i < length (all_words before) + length c → i < j
+pub same_class : (before after : List (List ℕ)) (c : List ℕ) (i j : ℕ) → length (all_words before) ≤ i
+    → i < length (all_words before) + length c → i < j
     → (class_at (before ++ c ∷ after) i == class_at (before ++ c ∷ after) j) ≡ nat_lt j (length (all_words before) + length c)
 same_class before after c i j from inside order =
     let start = length (all_words before) in
     let first : class_at (before ++ c ∷ after) i ≡ length before + 0 =
     class_at-after before (c ∷ after) i from
-    ∙ ap (λ b. length before + (if b then 0 else suc (class_at after (i - start - length c)))) (lt-ltb (i - start) (length c) (omega arith)) in
+    ∙ ap (λ b. length before + (if b then 0 else suc (class_at after (i - start - length c)))) (lt-ltb (i - start) (length c)
+    (omega arith)) in
     let second = class_at-after before (c ∷ after) j (omega arith) in
     elim (cases_lt j (start + length c)) [
       | inl within ↦
           let other : class_at (before ++ c ∷ after) j ≡ length before + 0 =
-          second ∙ ap (λ b. length before + (if b then 0 else suc (class_at after (j - start - length c)))) (lt-ltb (j - start) (length c) (omega arith)) in
+          second ∙ ap (λ b. length before + (if b then 0 else suc (class_at after (j - start - length c)))) (lt-ltb (j - start)
+          (length c) (omega arith)) in
           eq-eqb _ _ (first ∙ sym other) ∙ sym (lt-ltb j (start + length c) within)
       | inr beyond ↦
           let other : class_at (before ++ c ∷ after) j ≡ length before + suc (class_at after (j - start - length c)) =
-          second ∙ ap (λ b. length before + (if b then 0 else suc (class_at after (j - start - length c)))) (le-ltb (j - start) (length c) (omega arith)) in
+          second ∙ ap (λ b. length before + (if b then 0 else suc (class_at after (j - start - length c)))) (le-ltb (j - start)
+          (length c) (omega arith)) in
           ne_eqb _ _ (λ e. omega arith) ∙ sym (le-ltb j (start + length c) beyond)
     ]
 
@@ -76,7 +81,8 @@ close_is_near d between before after c words i j are from inside order =
     (same_class before after c i j from inside order)
 
 -- the same where the class is told by its place
-pub row_same : (d between : ℕ) (vs : List (Vec ℕ Global)) (k : ℕ) (v : Vec ℕ Global) (words : List ℕ) → k < length vs → words ≡ all_words (word_lists vs)
+pub row_same : (d between : ℕ) (vs : List (Vec ℕ Global)) (k : ℕ) (v : Vec ℕ Global) (words : List ℕ) → k < length vs
+    → words ≡ all_words (word_lists vs)
     → (i j : ℕ) → length (all_words (word_lists (take k vs))) ≤ i
     → i < length (all_words (word_lists (take k vs))) + length (get_or vs k v).items → i < j
     → is_close 32 d between (word_lists vs) i j

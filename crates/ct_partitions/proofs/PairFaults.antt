@@ -23,13 +23,15 @@ between-le-need d between classes i j nearer = go (class_at classes i == class_a
     go false = omega arith
 
 -- where no pair is too close, each pair has what it needs
-pub needs_from_none : (n d between : ℕ) (classes : List (List ℕ)) → least_pair (is_close n d between classes) (all_places (length (all_words classes))) ≡ None
+pub needs_from_none : (n d between : ℕ) (classes : List (List ℕ))
+    → least_pair (is_close n d between classes) (all_places (length (all_words classes))) ≡ None
     → (i j : ℕ) → i < j → j < length (all_words classes) → need d between classes i j ≤ distance_at n classes i j
 needs_from_none n d between classes none i j order within =
     let total = length (all_words classes) in
     let long = length-tabulate (λ p. p) total in
     let fails = NoPair-from (is_close n d between classes) (all_places total) none i j order (omega arith) in
-    let here = ap₂ (is_close n d between classes) (get_or-tabulate (λ p. p) total i (omega arith)) (get_or-tabulate (λ p. p) total j within) in
+    let here = ap₂ (is_close n d between classes) (get_or-tabulate (λ p. p) total i (omega arith)) (get_or-tabulate
+    (λ p. p) total j within) in
     ltb-false (distance_at n classes i j) (need d between classes i j) (sym here ∙ fails)
 
 -- then no two words are equal
@@ -63,7 +65,8 @@ pub repeated_pair_fault : (n d between : ℕ) (classes : List (List ℕ)) (words
 repeated_pair_fault n d between classes words i j below found = rw (equal_is_close n words below ∙ found)
 
 -- and then the least pair that is too close
-pub close_pair_fault : (n d between : ℕ) (classes : List (List ℕ)) (words : List ℕ) (i j apart first second needed : ℕ) → words ≡ all_words classes
+pub close_pair_fault : (n d between : ℕ) (classes : List (List ℕ)) (words : List ℕ) (i j apart first second needed : ℕ)
+    → words ≡ all_words classes
     → All (λ x. x < 2 ^ n) words → least_pair (λ x y. nat_lt (distance n x y) 1) words ≡ None
     → least_pair (is_close n d between classes) (all_places (length words)) ≡ Some (i, j)
     → apart ≡ distance n (get_or words i 0) (get_or words j 0) → first ≡ class_at classes i → second ≡ class_at classes j

@@ -42,12 +42,15 @@ later_class c cs i =
     ap (λ b. if b then 0 else suc (class_at cs (length c + i - length c))) (le-ltb (length c + i) (length c) (omega arith))
     ∙ ap (λ k. suc (class_at cs k)) back
 
-needs_of_first : (n d between : ℕ) (c : List ℕ) (cs : List (List ℕ)) → HasNeeds n d between (c ∷ cs) → AllPairs (λ x y. d ≤ distance n x y) c
+needs_of_first : (n d between : ℕ) (c : List ℕ) (cs : List (List ℕ)) → HasNeeds n d between (c ∷ cs)
+    → AllPairs (λ x y. d ≤ distance n x y) c
 needs_of_first n d between c cs needs = AllPairs-from_get_or (λ x y. d ≤ distance n x y) c (λ i j order within.
     let whole = length-append c (all_words cs) in
     let here = needs i j order (omega arith) in
-    let one = ap (λ b. if b then d else between) (eq-eqb (class_at (c ∷ cs) i) (class_at (c ∷ cs) j) (first_class c cs i (lt_trans order within) ∙ sym (first_class c cs j within))) in
-    let far = ap₂ (distance n) (get_or_append_left c (all_words cs) 0 i (lt_trans order within)) (get_or_append_left c (all_words cs) 0 j within) in
+    let one = ap (λ b. if b then d else between) (eq-eqb (class_at (c ∷ cs) i) (class_at (c ∷ cs) j) (first_class c cs i
+    (lt_trans order within) ∙ sym (first_class c cs j within))) in
+    let far = ap₂ (distance n) (get_or_append_left c (all_words cs) 0 i (lt_trans order within)) (get_or_append_left c
+    (all_words cs) 0 j within) in
     omega arith)
 
 needs_of_rest : (n d between : ℕ) (c : List ℕ) (cs : List (List ℕ)) → HasNeeds n d between (c ∷ cs) → HasNeeds n d between cs
@@ -55,12 +58,14 @@ needs_of_rest n d between c cs needs i j order within =
     let whole = length-append c (all_words cs) in
     let here = needs (length c + i) (length c + j) (omega arith) (omega arith) in
     let same : need d between (c ∷ cs) (length c + i) (length c + j) ≡ need d between cs i j =
-    ap₂ (λ a b. if a == b then d else between) (later_class c cs i) (later_class c cs j) ∙ ap (λ b. if b then d else between) (suc_eqb (class_at cs i) (class_at cs j)) in
+    ap₂ (λ a b. if a == b then d else between) (later_class c cs i) (later_class c cs j)
+    ∙ ap (λ b. if b then d else between) (suc_eqb (class_at cs i) (class_at cs j)) in
     let far = ap₂ (distance n) (get_or-append-add c (all_words cs) i 0) (get_or-append-add c (all_words cs) j 0) in
     omega arith
 
 -- so each class has distance d
-classes_from_needs : (n d between : ℕ) (classes : List (List ℕ)) → HasNeeds n d between classes → All (λ c. AllPairs (λ x y. d ≤ distance n x y) c) classes
+classes_from_needs : (n d between : ℕ) (classes : List (List ℕ)) → HasNeeds n d between classes
+    → All (λ c. AllPairs (λ x y. d ≤ distance n x y) c) classes
 classes_from_needs n d between [] needs = All-nil (λ c. AllPairs (λ x y. d ≤ distance n x y) c)
 classes_from_needs n d between (c ∷ cs) needs =
     All-cons (λ c. AllPairs (λ x y. d ≤ distance n x y) c) c cs (needs_of_first n d between c cs needs)
@@ -82,7 +87,8 @@ pairs_of_classes R (c ∷ cs) each =
     All-cons (AllPairs R) c cs
     (λ i j z order within.
     subst (λ y. R (get_or c i z) y) (get_or_append_left c (all_words cs) z j within)
-    (subst (λ x. R x (get_or (c ++ all_words cs) j z)) (get_or_append_left c (all_words cs) z i (lt_trans order within)) (each i j z order (omega arith))))
+    (subst (λ x. R x (get_or (c ++ all_words cs) j z)) (get_or_append_left c (all_words cs) z i (lt_trans order within))
+    (each i j z order (omega arith))))
     (pairs_of_classes R cs (λ i j z order within.
     subst (λ y. R (get_or (all_words cs) i z) y) (get_or-append-add c (all_words cs) j z)
     (subst (λ x. R x (get_or (c ++ all_words cs) (length c + j) z)) (get_or-append-add c (all_words cs) i z)
@@ -90,13 +96,15 @@ pairs_of_classes R (c ∷ cs) each =
 
 -- lists of words that have what they need are a partition
 pub partition_from_needs : (n d : ℕ) (w : Option ℕ) (between : ℕ) (classes : List (List ℕ)) → 1 ≤ between → between ≤ d
-    → All (λ x. x < 2 ^ n) (all_words classes) → IfSome w (λ k. All (λ x. weight n x ≡ k) (all_words classes)) → HasNeeds n d between classes
+    → All (λ x. x < 2 ^ n) (all_words classes) → IfSome w (λ k. All (λ x. weight n x ≡ k)
+    (all_words classes)) → HasNeeds n d between classes
     → IsPartition n d w between classes
 partition_from_needs n d w between classes some nearer below weights needs =
     let words = all_words classes in
     let none = NoPair-from (λ x y. x == y) words (different_from_needs n d between classes some nearer needs) in
     let different : AllPairs (λ x y. x ≢ y) words =
-    AllPairs-from_get_or (λ x y. x ≢ y) words (λ i j order within. eqb-false (get_or words i 0) (get_or words j 0) (none i j order within)) in
+    AllPairs-from_get_or (λ x y. x ≢ y) words (λ i j order within. eqb-false (get_or words i 0) (get_or words j 0)
+    (none i j order within)) in
     record {
       classes_are_codes = codes classes below different (classes_from_needs n d between classes needs) (each_weight w weights);
       union_is_code = record {
@@ -116,7 +124,8 @@ partition_from_needs n d w between classes some nearer below weights needs =
     each_weight (Some k) h = All-classes (λ x. weight n x ≡ k) classes h
 
     codes : (cs : List (List ℕ)) → All (λ x. x < 2 ^ n) (all_words cs) → AllPairs (λ x y. x ≢ y) (all_words cs)
-        → All (λ c. AllPairs (λ x y. d ≤ distance n x y) c) cs → All (λ c. IfSome w (λ k. All (λ x. weight n x ≡ k) c)) cs → All (IsCode n d w) cs
+        → All (λ c. AllPairs (λ x y. d ≤ distance n x y) c) cs → All (λ c. IfSome w (λ k. All (λ x. weight n x ≡ k) c)) cs → All
+        (IsCode n d w) cs
     codes cs below different apart weighted = λ k z within. record {
       lengths = All-classes (λ x. x < 2 ^ n) cs below k z within;
       different = pairs_of_classes (λ x y. x ≢ y) cs different k z within;
@@ -125,7 +134,8 @@ partition_from_needs n d w between classes some nearer below weights needs =
     }
 
 -- and a partition has what it needs
-pub needs_of_partition : (n d : ℕ) (w : Option ℕ) (between : ℕ) (classes : List (List ℕ)) → IsPartition n d w between classes → HasNeeds n d between classes
+pub needs_of_partition : (n d : ℕ) (w : Option ℕ) (between : ℕ) (classes : List (List ℕ)) → IsPartition n d w between classes
+    → HasNeeds n d between classes
 needs_of_partition n d w between classes is = go classes is.classes_are_codes is.union_is_code.apart
   where
     go : (cs : List (List ℕ)) → All (IsCode n d w) cs → AllPairs (λ x y. between ≤ distance n x y) (all_words cs) → HasNeeds n d between cs
@@ -135,14 +145,17 @@ needs_of_partition n d w between classes is = go classes is.classes_are_codes is
         elim (cases_lt j (length c)) [
           | inl inside ↦
               let here = (All-head (IsCode n d w) c cs codes).apart i j 0 order inside in
-              let one = ap (λ b. if b then d else between) (eq-eqb (class_at (c ∷ cs) i) (class_at (c ∷ cs) j) (first_class c cs i (lt_trans order inside) ∙ sym (first_class c cs j inside))) in
-              let far = ap₂ (distance n) (get_or_append_left c (all_words cs) 0 i (lt_trans order inside)) (get_or_append_left c (all_words cs) 0 j inside) in
+              let one = ap (λ b. if b then d else between) (eq-eqb (class_at (c ∷ cs) i) (class_at (c ∷ cs) j) (first_class c cs i
+              (lt_trans order inside) ∙ sym (first_class c cs j inside))) in
+              let far = ap₂ (distance n) (get_or_append_left c (all_words cs) 0 i (lt_trans order inside)) (get_or_append_left c
+              (all_words cs) 0 j inside) in
               omega arith
           | inr beyond ↦ elim (cases_lt i (length c)) [
             | inl first ↦
                 let at : length c + (j - length c) ≡ j = omega arith in
                 let second = ap (class_at (c ∷ cs)) (sym at) ∙ later_class c cs (j - length c) in
-                let other = ap (λ b. if b then d else between) (ne_eqb (class_at (c ∷ cs) i) (class_at (c ∷ cs) j) (λ e. let zero_is = first_class c cs i first in omega arith)) in
+                let other = ap (λ b. if b then d else between) (ne_eqb (class_at (c ∷ cs) i) (class_at (c ∷ cs) j)
+                (λ e. let zero_is = first_class c cs i first in omega arith)) in
                 let far = apart i j 0 order within in
                 omega arith
             | inr both ↦
@@ -151,13 +164,15 @@ needs_of_partition n d w between classes is = go classes is.classes_are_codes is
                 let rest = go cs (All-tail (IsCode n d w) c cs codes)
                 (λ k m z o l. subst (λ y. between ≤ distance n (get_or (all_words cs) k z) y) (get_or-append-add c (all_words cs) m z)
                 (subst (λ x. between ≤ distance n x (get_or (c ++ all_words cs) (length c + m) z)) (get_or-append-add c (all_words cs) k z)
-                (apart (length c + k) (length c + m) z (omega arith) (omega arith)))) (i - length c) (j - length c) (omega arith) (omega arith) in
+                (apart (length c + k) (length c + m) z (omega arith) (omega arith)))) (i - length c) (j - length c) (omega arith)
+                (omega arith) in
                 let same : need d between (c ∷ cs) i j ≡ need d between cs (i - length c) (j - length c) =
                 ap₂ (λ a b. if class_at (c ∷ cs) a == class_at (c ∷ cs) b then d else between) (sym at_i) (sym at_j)
                 ∙ ap₂ (λ a b. if a == b then d else between) (later_class c cs (i - length c)) (later_class c cs (j - length c))
                 ∙ ap (λ b. if b then d else between) (suc_eqb (class_at cs (i - length c)) (class_at cs (j - length c))) in
                 let far = ap₂ (λ a b. distance n (get_or (c ++ all_words cs) a 0) (get_or (c ++ all_words cs) b 0)) (sym at_i) (sym at_j)
-                ∙ ap₂ (distance n) (get_or-append-add c (all_words cs) (i - length c) 0) (get_or-append-add c (all_words cs) (j - length c) 0) in
+                ∙ ap₂ (distance n) (get_or-append-add c (all_words cs) (i - length c) 0) (get_or-append-add c (all_words cs)
+                (j - length c) 0) in
                 omega arith
           ]
         ]
@@ -213,12 +228,14 @@ size_none_from classes sizes =
     ) refl
 
 -- each word has the weight, where one is given
-weights-from_none : (n : ℕ) (w : Option ℕ) (words : List ℕ) → weight_fault n w words ≡ None → IfSome w (λ k. All (λ x. weight n x ≡ k) words)
+weights-from_none : (n : ℕ) (w : Option ℕ) (words : List ℕ) → weight_fault n w words ≡ None
+    → IfSome w (λ k. All (λ x. weight n x ≡ k) words)
 weights-from_none n None words none = tt
 weights-from_none n (Some w) words none =
     weight-none n (Some w) words (rw (option_map-None Weight (position (λ x. not (weight n x == w)) words) none) refl)
 
-weights_none_from : (n : ℕ) (w : Option ℕ) (words : List ℕ) → IfSome w (λ k. All (λ x. weight n x ≡ k) words) → weight_fault n w words ≡ None
+weights_none_from : (n : ℕ) (w : Option ℕ) (words : List ℕ) → IfSome w (λ k. All (λ x. weight n x ≡ k) words)
+    → weight_fault n w words ≡ None
 weights_none_from n None words each = refl
 weights_none_from n (Some w) words each = go (position (λ x. not (weight n x == w)) words) (weight_none_from n (Some w) words each)
   where

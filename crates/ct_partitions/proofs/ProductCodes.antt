@@ -91,7 +91,8 @@ far_classes n m d b e (c ∷ cs) (g ∷ gs) near below first second firsts secon
     let two = AllPairs-parts (Far m e) g (all_words gs) seconds in
     AllPairs-append (Far (n + m) d) (all_followed m c g) (class_products m cs gs)
     (far_followed n m d c g belows.0 (All-head (AllPairs (Far n d)) c cs first) (All-head (AllPairs (Far m d)) g gs second))
-    (far_classes n m d b e cs gs near belows.1 (All-tail (AllPairs (Far n d)) c cs first) (All-tail (AllPairs (Far m d)) g gs second) one.1 two.1)
+    (far_classes n m d b e cs gs near belows.1 (All-tail (AllPairs (Far n d)) c cs first) (All-tail (AllPairs
+    (Far m d)) g gs second) one.1 two.1)
     (All-followed (λ x. All (Far n b x) (all_words cs)) (λ y. (y < 2 ^ m) × All (Far m e y) (all_words gs))
     (λ z. All (Far (n + m) d z) (class_products m cs gs)) m
     (λ x y far h. All-classes (Far n b x) (λ y'. (y' < 2 ^ m) × Far m e y y') (Far (n + m) d (followed_by m x y)) m
@@ -191,7 +192,8 @@ pair-far p d are near =
   where
     nearer : (n e : ℕ) (w : Option ℕ) (cs : List (List ℕ)) → d ≤ e → All (IsCode n e w) cs → All (AllPairs (Far n d)) cs
     nearer n e w cs less codes =
-        All-weaker (IsCode n e w) (AllPairs (Far n d)) (λ c code. AllPairs-weaker (Far n e) (Far n d) c (λ x y h. omega arith) code.apart) cs codes
+        All-weaker (IsCode n e w) (AllPairs (Far n d)) (λ c code. AllPairs-weaker (Far n e) (Far n d) c
+        (λ x y h. omega arith) code.apart) cs codes
 
 -- and of the weights of their parts
 pair-parts : (p : Factors) (v u : ℕ) → ArePartitions p → p.0.entry.w ≡ Some v → p.1.entry.w ≡ Some u
@@ -199,12 +201,30 @@ pair-parts : (p : Factors) (v u : ℕ) → ArePartitions p → p.0.entry.w ≡ S
 pair-parts p v u are one two =
     All-classes (λ x. (x < 2 ^ p.0.entry.n) × (weight p.0.entry.n x ≡ v)) (λ y. (y < 2 ^ p.1.entry.n) × (weight p.1.entry.n y ≡ u))
     (Parts p.0.entry.n p.1.entry.n v u) p.1.entry.n
-    (λ x y h k. record { first = x; second = y; whole = refl; first_below = h.0; second_below = k.0; first_weight = h.1; second_weight = k.1 })
+    (λ x y h k. record {
+      first = x;
+      second = y;
+      whole = refl;
+      first_below = h.0;
+      second_below = k.0;
+      first_weight =
+          h.1;
+      second_weight = k.1;
+    })
     p.0.classes p.1.classes
-    (λ k z h. (are.first.union_is_code.lengths k z h, weights p.0.entry.n p.0.entry.w v (all_words p.0.classes) one are.first.union_is_code.weights k z h))
-    (λ k z h. (are.second.union_is_code.lengths k z h, weights p.1.entry.n p.1.entry.w u (all_words p.1.classes) two are.second.union_is_code.weights k z h))
+    (λ k z h. (
+      are.first.union_is_code.lengths k z h,
+      weights p.0.entry.n p.0.entry.w v
+          (all_words p.0.classes) one are.first.union_is_code.weights k z h,
+    ))
+    (λ k z h. (
+      are.second.union_is_code.lengths k z h,
+      weights p.1.entry.n p.1.entry.w u
+          (all_words p.1.classes) two are.second.union_is_code.weights k z h,
+    ))
   where
-    weights : (n : ℕ) (w : Option ℕ) (k : ℕ) (words : List ℕ) → w ≡ Some k → IfSome w (λ k. All (λ x. weight n x ≡ k) words) → All (λ x. weight n x ≡ k) words
+    weights : (n : ℕ) (w : Option ℕ) (k : ℕ) (words : List ℕ) → w ≡ Some k → IfSome w (λ k. All (λ x. weight n x ≡ k) words)
+        → All (λ x. weight n x ≡ k) words
     weights n w k words is each = subst (λ o. IfSome o (λ k. All (λ x. weight n x ≡ k) words)) is each
 
 -- both weights of a pair whose weights add up to k
@@ -250,12 +270,14 @@ known-far a m k d p known near =
     (subst (λ j. AllPairs (Far (p.0.entry.n + j) d) (words_of_pair p)) known.lengths.second_length (pair-far p d known.partitions near))
 
 -- words of several pairs
-far_product : (a m k d : ℕ) (ps : List Factors) → All (Known a m k) ps → All (λ v. d ≤ v) (distances ps) → AllPairs (Far (a + m) d) (product ps)
+far_product : (a m k d : ℕ) (ps : List Factors) → All (Known a m k) ps → All (λ v. d ≤ v) (distances ps)
+    → AllPairs (Far (a + m) d) (product ps)
 far_product a m k d [] known near = λ i j z order within. absurd (omega arith)
 far_product a m k d (p ∷ ps) known near =
     let here = All-head (Known a m k) p ps known in
     let rest = All-tail (Known a m k) p ps known in
-    let gaps = All-parts (λ v. d ≤ v) (map (weight_gap p) ps) (distances ps) (All-tail (λ v. d ≤ v) (pair_distance p) (map (weight_gap p) ps ++ distances ps) near) in
+    let gaps = All-parts (λ v. d ≤ v) (map (weight_gap p) ps) (distances ps) (All-tail (λ v. d ≤ v) (pair_distance p) (map
+    (weight_gap p) ps ++ distances ps) near) in
     AllPairs-append (Far (a + m) d) (words_of_pair p) (product ps)
     (known-far a m k d p here (All-head (λ v. d ≤ v) (pair_distance p) (map (weight_gap p) ps ++ distances ps) near))
     (far_product a m k d ps rest gaps.1)
@@ -273,9 +295,11 @@ far_product a m k d (p ∷ ps) known near =
         let words = known-parts a m k q other in
         All-cons (λ r. All (Far (a + m) d x) (words_of_pair r)) q qs
         (λ i z within.
-        let apart = parts-apart a m (weight_of p.0) (weight_of p.1) (weight_of q.0) (weight_of q.1) x (get_or (words_of_pair q) i z) (omega arith) parts (words i z within) in
+        let apart = parts-apart a m (weight_of p.0) (weight_of p.1) (weight_of q.0) (weight_of q.1) x (get_or (words_of_pair q) i z)
+        (omega arith) parts (words i z within) in
         omega arith)
-        (across x parts weights qs (All-tail (Known a m k) q qs others) (All-tail (λ v. d ≤ v) (weight_gap p q) (map (weight_gap p) qs) gaps))
+        (across x parts weights qs (All-tail (Known a m k) q qs others) (All-tail (λ v. d ≤ v) (weight_gap p q) (map
+        (weight_gap p) qs) gaps))
 
 -- a code from words that are far from each other
 code_from_distances : (n d : ℕ) (w : Option ℕ) (words : List ℕ) → 1 ≤ d → All (λ x. x < 2 ^ n) words → AllPairs (Far n d) words
@@ -284,18 +308,22 @@ code_from_distances n d w words some below far weights =
     code_from_far n d w words below (AllPairs-weaker (Far n d) (AreFar n d) words (λ x y h. (omega arith, h)) far) weights
 
 -- the words of the product of partitions of lengths a and m, and of weight k
-code_of_weight : (a m k d : ℕ) (ps : List Factors) → 1 ≤ d → All (Known a m k) ps → All (λ v. d ≤ v) (distances ps) → IsCode (a + m) d (Some k) (product ps)
+code_of_weight : (a m k d : ℕ) (ps : List Factors) → 1 ≤ d → All (Known a m k) ps → All (λ v. d ≤ v) (distances ps)
+    → IsCode (a + m) d (Some k) (product ps)
 code_of_weight a m k d ps some known near =
     code_from_distances (a + m) d (Some k) (product ps) some
-    (All-product (λ z. z < 2 ^ (a + m)) ps (λ i q within. All-weaker (Parts a m (weight_of (get_or ps i q).0) (weight_of (get_or ps i q).1)) (λ z. z < 2 ^ (a + m)) below
+    (All-product (λ z. z < 2 ^ (a + m)) ps (λ i q within. All-weaker (Parts a m (weight_of (get_or ps i q).0) (weight_of
+    (get_or ps i q).1)) (λ z. z < 2 ^ (a + m)) below
     (words_of_pair (get_or ps i q)) (known-parts a m k (get_or ps i q) (known i q within))))
     (far_product a m k d ps known near)
-    (All-product (λ z. weight (a + m) z ≡ k) ps (λ i q within. All-weaker (Parts a m (weight_of (get_or ps i q).0) (weight_of (get_or ps i q).1)) (λ z. weight (a + m) z ≡ k)
+    (All-product (λ z. weight (a + m) z ≡ k) ps (λ i q within. All-weaker (Parts a m (weight_of (get_or ps i q).0) (weight_of
+    (get_or ps i q).1)) (λ z. weight (a + m) z ≡ k)
     (λ z parts. sums z (weight_of (get_or ps i q).0) (weight_of (get_or ps i q).1) parts (known i q within).weights.sum)
     (words_of_pair (get_or ps i q)) (known-parts a m k (get_or ps i q) (known i q within))))
   where
     below : {v u : ℕ} (z : ℕ) → Parts a m v u z → z < 2 ^ (a + m)
-    below z parts = subst (λ x. x < 2 ^ (a + m)) (sym parts.whole) (followed_by-lt a m parts.first parts.second parts.first_below parts.second_below)
+    below z parts = subst (λ x. x < 2 ^ (a + m)) (sym parts.whole)
+        (followed_by-lt a m parts.first parts.second parts.first_below parts.second_below)
 
     sums : (z v u : ℕ) → Parts a m v u z → v + u ≡ k → weight (a + m) z ≡ k
     sums z v u parts sum =
@@ -303,7 +331,8 @@ code_of_weight a m k d ps some known near =
         ∙ ap₂ (λ i j. i + j) parts.first_weight parts.second_weight ∙ sum
 
 -- those of one pair
-code_of_pair : (p : Factors) (d : ℕ) → 1 ≤ d → ArePartitions p → d ≤ pair_distance p → IsCode (p.0.entry.n + p.1.entry.n) d None (product (p ∷ []))
+code_of_pair : (p : Factors) (d : ℕ) → 1 ≤ d → ArePartitions p → d ≤ pair_distance p
+    → IsCode (p.0.entry.n + p.1.entry.n) d None (product (p ∷ []))
 code_of_pair p d some are near =
     subst (IsCode (p.0.entry.n + p.1.entry.n) d None) (sym (append-nil (words_of_pair p)))
     (code_from_distances (p.0.entry.n + p.1.entry.n) d None (words_of_pair p) some (pair-below p are) (pair-far p d are near) tt)
@@ -348,5 +377,6 @@ length-classes m cs ds =
 pub length-product : (pairs : List Factors) → length (product pairs) ≡ product_size pairs
 length-product pairs =
     length-flat_map (λ p. class_products p.1.entry.n p.0.classes p.1.classes) pairs
-    ∙ sum_by-congruence (λ p. length (class_products p.1.entry.n p.0.classes p.1.classes)) (λ p. sum_by (λ c. length c.0 * length c.1) (zip p.0.classes p.1.classes)) pairs
+    ∙ sum_by-congruence (λ p. length (class_products p.1.entry.n p.0.classes p.1.classes)) (λ p. sum_by
+    (λ c. length c.0 * length c.1) (zip p.0.classes p.1.classes)) pairs
     (λ p. length-classes p.1.entry.n p.0.classes p.1.classes)

@@ -16,17 +16,21 @@ use Rattle.std.proofs.lemmas.List.Elements.{All-nil, All-cons, All-append, All-h
 use Rattle.ct_partitions.specs.Inside.Pairs.{no_pair, nearest_at}
 
 -- a pair of partitions that was read
-pub first_read : (parts : List PartitionValue) (pairs : List (ℕ × ℕ)) (k : ℕ) (a : PartitionValue) → ArePlaces (length parts) pairs → k < length pairs
+pub first_read : (parts : List PartitionValue) (pairs : List (ℕ × ℕ)) (k : ℕ) (a : PartitionValue) → ArePlaces (length parts) pairs
+    → k < length pairs
     → a ≡ get_or parts (get_or pairs k (0, 0)).0 a → a ≡ (get_or (pairs_at parts pairs) k no_pair).0
 first_read parts pairs k a places within is =
     get_or_read parts (get_or pairs k (0, 0)).0 a (places k (0, 0) within).0 is no_partition
-    ∙ sym (ap (λ (p : Factors). p.0) (get_or-map (λ p. (get_or parts p.0 no_partition, get_or parts p.1 no_partition)) pairs k (0, 0) no_pair within))
+    ∙ sym (ap (λ (p : Factors). p.0) (get_or-map (λ p. (get_or parts p.0 no_partition, get_or parts p.1 no_partition)) pairs k
+    (0, 0) no_pair within))
 
-pub second_read : (parts : List PartitionValue) (pairs : List (ℕ × ℕ)) (k : ℕ) (a : PartitionValue) → ArePlaces (length parts) pairs → k < length pairs
+pub second_read : (parts : List PartitionValue) (pairs : List (ℕ × ℕ)) (k : ℕ) (a : PartitionValue)
+    → ArePlaces (length parts) pairs → k < length pairs
     → a ≡ get_or parts (get_or pairs k (0, 0)).1 a → a ≡ (get_or (pairs_at parts pairs) k no_pair).1
 second_read parts pairs k a places within is =
     get_or_read parts (get_or pairs k (0, 0)).1 a (places k (0, 0) within).1 is no_partition
-    ∙ sym (ap (λ (p : Factors). p.1) (get_or-map (λ p. (get_or parts p.0 no_partition, get_or parts p.1 no_partition)) pairs k (0, 0) no_pair within))
+    ∙ sym (ap (λ (p : Factors). p.1) (get_or-map (λ p. (get_or parts p.0 no_partition, get_or parts p.1 no_partition)) pairs k
+    (0, 0) no_pair within))
 
 -- there are as many pairs as pairs of places
 pub length-pairs_at : (parts : List PartitionValue) (pairs : List (ℕ × ℕ)) → length (pairs_at parts pairs) ≡ length pairs
@@ -44,13 +48,15 @@ distances_step pairs place nearest within =
     ∙ fold-append min (min nearest (pair_distance p)) (map (weight_gap p) (drop (place + 1) pairs)) (distances (drop (place + 1) pairs))
 
 -- the first distance, taken twice
-pub distances_start : (pairs : List Factors) → 1 ≤ length pairs → fold min (pair_distance (get_or pairs 0 no_pair)) (distances pairs) ≡ least (distances pairs)
+pub distances_start : (pairs : List Factors) → 1 ≤ length pairs
+    → fold min (pair_distance (get_or pairs 0 no_pair)) (distances pairs) ≡ least (distances pairs)
 distances_start [] some = absurd (omega arith)
 distances_start (p ∷ ps) some =
     let twice : min (pair_distance p) (pair_distance p) ≡ pair_distance p = omega arith in
     ap (λ v. fold min v (map (weight_gap p) ps ++ distances ps)) twice
 
-pub distances_end : (pairs : List Factors) (place nearest : ℕ) → length pairs ≤ place → fold min nearest (distances (drop place pairs)) ≡ nearest
+pub distances_end : (pairs : List Factors) (place nearest : ℕ) → length pairs ≤ place
+    → fold min nearest (distances (drop place pairs)) ≡ nearest
 distances_end pairs place nearest all = ap (λ ps. fold min nearest (distances ps)) (drop_all place pairs all)
 
 -- the gaps from a place on, one place further
@@ -59,7 +65,8 @@ pub gaps_step : (p : Factors) (pairs : List Factors) (later nearest : ℕ) → l
     ≡ fold min (min nearest (weight_gap p (get_or pairs later no_pair))) (map (weight_gap p) (drop (later + 1) pairs))
 gaps_step p pairs later nearest within = ap (λ ps. fold min nearest (map (weight_gap p) ps)) (drop_more pairs later no_pair within)
 
-pub gaps_end : (p : Factors) (pairs : List Factors) (later nearest : ℕ) → length pairs ≤ later → fold min nearest (map (weight_gap p) (drop later pairs)) ≡ nearest
+pub gaps_end : (p : Factors) (pairs : List Factors) (later nearest : ℕ) → length pairs ≤ later
+    → fold min nearest (map (weight_gap p) (drop later pairs)) ≡ nearest
 gaps_end p pairs later nearest all = ap (λ ps. fold min nearest (map (weight_gap p) ps)) (drop_all later pairs all)
 
 -- the products of the sizes of classes
@@ -89,7 +96,8 @@ sizes-le (a ∷ cs) (b ∷ ds) =
     let product = ap₂ (λ i j. i * j) one two in
     omega arith
 
-pub sizes-small : (p q : PartitionValue) → IsSoundPartition p → IsSoundPartition q → (k : ℕ) → sizes (take k (zip p.classes q.classes)) ≤ 2 ^ 28
+pub sizes-small : (p q : PartitionValue) → IsSoundPartition p → IsSoundPartition q → (k : ℕ)
+    → sizes (take k (zip p.classes q.classes)) ≤ 2 ^ 28
 sizes-small p q first second k =
     let part = sum_by-take-le (λ (c : List ℕ × List ℕ). length c.0 * length c.1) (zip p.classes q.classes) k in
     let whole = sizes-le p.classes q.classes in
@@ -101,12 +109,14 @@ sizes-small p q first second k =
     omega arith
 
 -- the size of a class that was read
-pub class_length : (vs : List (Vec ℕ Global)) (k : ℕ) (v : Vec ℕ Global) (cs : List (List ℕ)) → word_lists vs ≡ cs → k < length vs → v ≡ get_or vs k v
+pub class_length : (vs : List (Vec ℕ Global)) (k : ℕ) (v : Vec ℕ Global) (cs : List (List ℕ)) → word_lists vs ≡ cs → k < length vs
+    → v ≡ get_or vs k v
     → length v.items ≡ length (get_or cs k [])
 class_length vs k v cs are within is =
     ap (λ u. length u.items) is ∙ sym (ap length (get_or-map (λ u. u.items) vs k v [] within)) ∙ ap (λ ls. length (get_or ls k [])) are
 
-pub class_items : (vs : List (Vec ℕ Global)) (k : ℕ) (v : Vec ℕ Global) (cs : List (List ℕ)) → word_lists vs ≡ cs → k < length vs → v ≡ get_or vs k v
+pub class_items : (vs : List (Vec ℕ Global)) (k : ℕ) (v : Vec ℕ Global) (cs : List (List ℕ)) → word_lists vs ≡ cs → k < length vs
+    → v ≡ get_or vs k v
     → v.items ≡ get_or cs k []
 class_items vs k v cs are within is =
     ap (λ u. u.items) is ∙ sym (get_or-map (λ u. u.items) vs k v [] within) ∙ ap (λ ls. get_or ls k []) are
@@ -129,7 +139,8 @@ size_step parts pairs k within =
 
 -- the products of one class more
 classes_more : (m : ℕ) (cs ds : List (List ℕ)) (k : ℕ) → k < length cs → k < length ds
-    → class_products m (take (suc k) cs) (take (suc k) ds) ≡ class_products m (take k cs) (take k ds) ++ all_followed m (get_or cs k []) (get_or ds k [])
+    → class_products m (take (suc k) cs) (take (suc k) ds) ≡ class_products m (take k cs) (take k ds) ++ all_followed m
+    (get_or cs k []) (get_or ds k [])
 classes_more m [] ds k first second = absurd (omega arith)
 classes_more m (c ∷ cs) [] k first second = absurd (omega arith)
 classes_more m (c ∷ cs) (e ∷ es) zero first second = append-nil (all_followed m c e)
@@ -138,11 +149,13 @@ classes_more m (c ∷ cs) (e ∷ es) (suc k) first second =
     ∙ sym (append_assoc (all_followed m c e) (class_products m (take k cs) (take k es)) (all_followed m (get_or cs k []) (get_or es k [])))
 
 pub classes_step : (m : ℕ) (cs ds : List (List ℕ)) (k : ℕ) → k < length cs → k < length ds
-    → class_products m (take (k + 1) cs) (take (k + 1) ds) ≡ class_products m (take k cs) (take k ds) ++ all_followed m (get_or cs k []) (get_or ds k [])
+    → class_products m (take (k + 1) cs) (take (k + 1) ds) ≡ class_products m (take k cs) (take k ds) ++ all_followed m
+    (get_or cs k []) (get_or ds k [])
 classes_step m cs ds k first second = ap (λ j. class_products m (take j cs) (take j ds)) (add-one k) ∙ classes_more m cs ds k first second
 
 -- and of all classes
-pub classes_all : (m : ℕ) (cs ds : List (List ℕ)) (k : ℕ) → min (length cs) (length ds) ≤ k → class_products m (take k cs) (take k ds) ≡ class_products m cs ds
+pub classes_all : (m : ℕ) (cs ds : List (List ℕ)) (k : ℕ) → min (length cs) (length ds) ≤ k
+    → class_products m (take k cs) (take k ds) ≡ class_products m cs ds
 classes_all m [] ds zero all = refl
 classes_all m [] ds (suc k) all = refl
 classes_all m (c ∷ cs) [] zero all = refl
@@ -186,14 +199,16 @@ limits_of_product n w (p ∷ ps) factors sound =
     (omega arith, omega arith)
 
 -- sound pairs, one more
-pub sound_more : (parts : List PartitionValue) (pairs : List (ℕ × ℕ)) (k : ℕ) → k < length pairs → All AreSound (pairs_at parts (take k pairs))
+pub sound_more : (parts : List PartitionValue) (pairs : List (ℕ × ℕ)) (k : ℕ) → k < length pairs
+    → All AreSound (pairs_at parts (take k pairs))
     → AreSound (get_or (pairs_at parts pairs) k no_pair) → All AreSound (pairs_at parts (take (k + 1) pairs))
 sound_more parts pairs k within before here =
     let at : ℕ × ℕ → Factors = λ p. (get_or parts p.0 no_partition, get_or parts p.1 no_partition) in
     subst (λ ps. All AreSound (map at ps)) (sym (take_more pairs k (0, 0) within))
     (subst (All AreSound) (sym (map-append at (take k pairs) (get_or pairs k (0, 0) ∷ [])))
     (All-append AreSound (pairs_at parts (take k pairs)) (at (get_or pairs k (0, 0)) ∷ []) before
-    (All-cons AreSound (at (get_or pairs k (0, 0))) [] (subst AreSound (get_or-map at pairs k (0, 0) no_pair within) here) (All-nil AreSound))))
+    (All-cons AreSound (at (get_or pairs k (0, 0))) [] (subst AreSound (get_or-map at pairs k (0, 0) no_pair within) here)
+    (All-nil AreSound))))
 
 -- the words of one pair more
 pub product_step : (parts : List PartitionValue) (pairs : List (ℕ × ℕ)) (k : ℕ) → k < length pairs

@@ -20,7 +20,8 @@ none_from-more test start mid end total first second i j from before order withi
 ]
 
 -- none from a place on, and none in the row after
-pub none_from-row : (test : ℕ → ℕ → Bool) (start i total : ℕ) → NoneFrom test start i total → ((m : ℕ) → i < m → m < total → test i m ≡ false)
+pub none_from-row : (test : ℕ → ℕ → Bool) (start i total : ℕ) → NoneFrom test start i total → ((m : ℕ) → i < m → m < total
+    → test i m ≡ false)
     → NoneFrom test start (i + 1) total
 none_from-row test start i total before row k m from early order within = elim (cases_lt k i) [
   | inl sooner ↦ before k m from sooner order within
@@ -30,7 +31,8 @@ none_from-row test start i total before row k m from early order within = elim (
 ]
 
 -- a first pair where none is before the place from which on it is
-pub first_from-more : (test : ℕ → ℕ → Bool) (start mid total i j : ℕ) → NoneFrom test start mid total → start ≤ mid → IsFirstFrom test mid total i j
+pub first_from-more : (test : ℕ → ℕ → Bool) (start mid total i j : ℕ) → NoneFrom test start mid total → start ≤ mid
+    → IsFirstFrom test mid total i j
     → IsFirstFrom test start total i j
 first_from-more test start mid total i j none order first =
     let from_is = first.from in
@@ -46,7 +48,8 @@ first_from-more test start mid total i j none order first =
 -- tests that agree
 pub none_from-same : (f g : ℕ → ℕ → Bool) (start end total : ℕ)
     → ((i j : ℕ) → start ≤ i → i < end → i < j → j < total → f i j ≡ g i j) → NoneFrom g start end total → NoneFrom f start end total
-none_from-same f g start end total same none = λ i j from before order within. same i j from before order within ∙ none i j from before order within
+none_from-same f g start end total same none = λ i j from before order within. same i j from before order within
+    ∙ none i j from before order within
 
 pub first_from-same : (f g : ℕ → ℕ → Bool) (start total i j : ℕ)
     → ((k m : ℕ) → start ≤ k → k ≤ i → k < m → m < total → f k m ≡ g k m) → IsFirstFrom g start total i j → IsFirstFrom f start total i j
@@ -58,7 +61,8 @@ first_from-same f g start total i j same first =
       order = first.order;
       within = first.within;
       passes = same i j first.from (omega arith) first.order first.within ∙ first.passes;
-      none_before = none_from-same f g start i total (λ k m from before order within. same k m from (omega arith) order within) first.none_before;
+      none_before = none_from-same f g start i total (λ k m from before order within. same k m from
+          (omega arith) order within) first.none_before;
       none_in_row = λ m order before. same i m first.from (omega arith) order (omega arith) ∙ first.none_in_row m order before;
     }
 
@@ -67,7 +71,8 @@ place_is : (total k : ℕ) → k < total → get_or (all_places total) k 0 ≡ k
 place_is total k within = get_or-tabulate (λ p. p) total k within
 
 -- the first pair of all is the least
-pub least_from_first : (test : ℕ → ℕ → Bool) (total i j : ℕ) → IsFirstFrom test 0 total i j → least_pair test (all_places total) ≡ Some (i, j)
+pub least_from_first : (test : ℕ → ℕ → Bool) (total i j : ℕ) → IsFirstFrom test 0 total i j
+    → least_pair test (all_places total) ≡ Some (i, j)
 least_from_first test total i j first =
     let long = length-tabulate (λ p. p) total in
     let order_is = first.order in
@@ -107,11 +112,14 @@ least_from_none test total none =
     ap₂ test (place_is total k (omega arith)) (place_is total m (omega arith)) ∙ none k m (omega arith) (omega arith) order (omega arith))
 
 -- words that are too close are so whatever the length that they are read at
-pub close_any_length : (n d between : ℕ) (classes : List (List ℕ)) → All (λ x. x < 2 ^ n) (all_words classes) → All (λ x. x < 2 ^ 32) (all_words classes)
-    → (i j : ℕ) → i < length (all_words classes) → j < length (all_words classes) → is_close n d between classes i j ≡ is_close 32 d between classes i j
+pub close_any_length : (n d between : ℕ) (classes : List (List ℕ)) → All (λ x. x < 2 ^ n) (all_words classes)
+    → All (λ x. x < 2 ^ 32) (all_words classes)
+    → (i j : ℕ) → i < length (all_words classes) → j < length (all_words classes)
+    → is_close n d between classes i j ≡ is_close 32 d between classes i j
 close_any_length n d between classes below fits i j h l =
     ap (λ e. nat_lt e (need d between classes i j))
-    (distance_any_length n 32 (get_or (all_words classes) i 0) (get_or (all_words classes) j 0) (below i 0 h) (below j 0 l) (fits i 0 h) (fits j 0 l))
+    (distance_any_length n 32 (get_or (all_words classes) i 0) (get_or (all_words classes) j 0) (below i 0 h) (below j 0 l)
+    (fits i 0 h) (fits j 0 l))
 
 -- the places are below their number
 pub places_below : (total : ℕ) → All (λ k. k < total) (all_places total)

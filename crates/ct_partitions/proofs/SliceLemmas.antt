@@ -21,17 +21,20 @@ pub record IsFirstIn (p : ℕ → Bool) (xs : List ℕ) (a b k : ℕ) : Type 0 w
   pub before : (m : ℕ) → a ≤ m → m < a + k → p (get_or xs m 0) ≡ false
 
 first_in : (p : ℕ → Bool) (xs : List ℕ) (a b k : ℕ) → a ≤ b → b ≤ length xs → k < length (take (b - a) (drop a xs))
-    → p (get_or (take (b - a) (drop a xs)) k 0) ≡ true → ((j : ℕ) → j < k → p (get_or (take (b - a) (drop a xs)) j 0) ≡ false) → IsFirstIn p xs a b k
+    → p (get_or (take (b - a) (drop a xs)) k 0) ≡ true → ((j : ℕ) → j < k → p (get_or (take (b - a)
+    (drop a xs)) j 0) ≡ false) → IsFirstIn p xs a b k
 first_in p xs a b k order within here passes fails =
     let long = length_of_slice xs a b order within in
     let back : a + k - a ≡ k = omega arith in
     record {
       inside = omega arith;
-      passes = ap p (sym (ap (λ j. get_or (take (b - a) (drop a xs)) j 0) (sym back) ∙ item_of_slice xs a b (a + k) (omega arith) (omega arith))) ∙ passes;
+      passes = ap p (sym (ap (λ j. get_or (take (b - a) (drop a xs)) j 0) (sym back)
+          ∙ item_of_slice xs a b (a + k) (omega arith) (omega arith))) ∙ passes;
       before = λ m from sooner. ap p (sym (item_of_slice xs a b m from (omega arith))) ∙ fails (m - a) (omega arith);
     }
 
-pub slice_found : (p : ℕ → Bool) (xs : List ℕ) (a b k : ℕ) → a ≤ b → b ≤ length xs → position p (take (b - a) (drop a xs)) ≡ Some k → IsFirstIn p xs a b k
+pub slice_found : (p : ℕ → Bool) (xs : List ℕ) (a b k : ℕ) → a ≤ b → b ≤ length xs → position p (take (b - a) (drop a xs)) ≡ Some k
+    → IsFirstIn p xs a b k
 slice_found p xs a b k order within found = elim (position_cases p (take (b - a) (drop a xs))) [
   | inl first ↦
       let other = first.1 in

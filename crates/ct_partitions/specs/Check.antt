@@ -1,5 +1,5 @@
--- When lists of words are accepted as the classes of a partition, and the first reason why they are not. Places number the words through all
--- classes.
+-- When lists of words are accepted as the classes of a partition, and the first reason why they are not. Places number the words through
+-- all classes.
 use Rattle.std.specs.Prelude.{ℕ, suc, ◌-◌, ◌^◌, min, ◌==◌, nat_lt, ◌||◌, not, Bool, if◌then◌else◌, List, [], ◌∷◌, length, position, slice_index, Option, Some, None}
 use Rattle.std.specs.List.{list_any}
 use Rattle.std.specs.Option.{option_map}
@@ -54,7 +54,8 @@ repeated_fault words = option_map (λ p. Repeated p.0 p.1) (least_pair (λ x y. 
 -- the least pair of words that are closer than they need to be, their distance, their classes and what they need
 abbrev pub close_fault : ℕ → ℕ → ℕ → List (List ℕ) → Option PartitionFault
 close_fault n d between classes =
-    option_map (λ p. Close p.0 p.1 (distance_at n classes p.0 p.1) (class_at classes p.0) (class_at classes p.1) (need d between classes p.0 p.1))
+    option_map (λ p. Close p.0 p.1 (distance_at n classes p.0 p.1) (class_at classes p.0) (class_at classes p.1)
+    (need d between classes p.0 p.1))
     (least_pair (is_close n d between classes) (all_places (length (all_words classes))))
 
 -- the first reason why the lists are not accepted as classes: size, weight, repeated, close, in this order; none where they are

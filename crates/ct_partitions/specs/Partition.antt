@@ -1,5 +1,5 @@
--- Partitions: codes that are put together from codes of a greater distance, their classes (van Pul and Etzion 1989; Brouwer, Shearer, Sloane
--- and Smith 1990).
+-- Partitions: codes that are put together from codes of a greater distance, their classes (van Pul and Etzion 1989; Brouwer, Shearer,
+-- Sloane and Smith 1990).
 use Rattle.std.specs.Prelude.{ℕ, ◌≤◌, List, length, map, All, Option, Vec}
 use Rattle.std.specs.List.{flat_map}
 use Rattle.std.specs.declared.alloc.Global.{Global}
@@ -17,8 +17,8 @@ word_lists classes = map (λ c. c.items) classes
 abbrev pub all_words : List (List ℕ) → List ℕ
 all_words classes = flat_map (λ c. c) classes
 
--- a partition of length n: each class is a code of distance d, and all words together are a code of distance `between`; each word has the weight,
--- where one is given
+-- a partition of length n: each class is a code of distance d, and all words together are a code of distance `between`; each word has the
+-- weight, where one is given
 pub record IsPartition (n d : ℕ) (w : Option ℕ) (between : ℕ) (classes : List (List ℕ)) : Type 0 where
   pub classes_are_codes : All (IsCode n d w) classes
   pub union_is_code : IsCode n between w (all_words classes)
@@ -29,8 +29,8 @@ pub record PartitionValue : Type 0 where
   pub between : ℕ
   pub classes : List (List ℕ)
 
--- the value is a partition: the entry is of the table, the distance between classes at most that of a class, the numbers of classes and of words
--- are within the limits, no class is empty, and the classes are a partition
+-- the value is a partition: the entry is of the table, the distance between classes at most that of a class, the numbers of classes and of
+-- words are within the limits, no class is empty, and the classes are a partition
 pub record IsSoundPartition (p : PartitionValue) : Type 0 where
   pub entry : IsEntry p.entry
   pub between_in_range : (1 ≤ p.between) × (p.between ≤ p.entry.d)

@@ -54,8 +54,8 @@ least (x ∷ xs) = fold min x xs
 abbrev pub product_distance : List Factors → ℕ
 product_distance pairs = least (distances pairs)
 
--- these are pairs of partitions with a product of length n, and of weight w where one is given: there is a pair, the first partitions have one
--- length, the lengths of each pair add up to n, and its weights to w; where there are two pairs or more, a weight is given
+-- these are pairs of partitions with a product of length n, and of weight w where one is given: there is a pair, the first partitions have
+-- one length, the lengths of each pair add up to n, and its weights to w; where there are two pairs or more, a weight is given
 pub record AreFactors (n : ℕ) (w : Option ℕ) (pairs : List Factors) : Type 0 where
   pub some : 1 ≤ length pairs
   pub one_length : AllPairs (λ p q. p.0.entry.n ≡ q.0.entry.n) pairs

@@ -65,7 +65,8 @@ fn append_pair(
 ) -> Result<(), AllocError>
     requires { first.now.entry.n + second.now.entry.n ≤ MAX_N }
     ensures sound { IsSoundPartition first.now × IsSoundPartition second.now }
-    ensures words { OnOk result (words.new.items ≡ words.old.items ++ class_products second.now.entry.n first.now.classes second.now.classes) }
+    ensures words { OnOk result (words.new.items ≡
+        words.old.items ++ class_products second.now.entry.n first.now.classes second.now.classes) }
 {
     let firsts = first.classes();
     let seconds = second.classes();

@@ -63,7 +63,8 @@ distance-block : (l w m y : ℕ) → w ≤ l → y < 2 ^ m → weight m y ≡ w
 distance-block l w m y long below ones =
     let powers : 2 ^ w ≤ 2 ^ l = pow-le-pow_right (omega arith) long in
     let alone : y ≡ followed_by m 0 y = omega arith in
-    let front = distance_comm l (all_ones w) 0 ∙ distance-from_zero l (all_ones w) (lt_of_lt_of_le (ones_lt w) powers) ∙ weight-ones l w long in
+    let front = distance_comm l (all_ones w) 0 ∙ distance-from_zero l (all_ones w) (lt_of_lt_of_le (ones_lt w) powers)
+    ∙ weight-ones l w long in
     let back = distance-from_zero m y below ∙ ones in
     ap (distance (l + m) (followed_by m (all_ones w) 0)) alone
     ∙ distance-followed_by l m (all_ones w) 0 0 y (pow_pos m) below ∙ omega arith
@@ -75,7 +76,8 @@ far w (suc k) n some long =
     AllPairs-cons (AreFar n (2 * w)) (followed_by (w * k) (all_ones w) 0) (side_by_side w k)
     (λ i d within.
     let apart =
-    distance-block (n - w * k) w (w * k) (get_or (side_by_side w k) i d) (omega arith) (lengths w k i d within) (weights w k (w * k) (omega arith) i d within) in
+    distance-block (n - w * k) w (w * k) (get_or (side_by_side w k) i d) (omega arith) (lengths w k i d within) (weights w k (w * k)
+    (omega arith) i d within) in
     let whole : n - w * k + w * k ≡ n = omega arith in
     let here = rw whole at apart in
     (omega arith, omega arith))

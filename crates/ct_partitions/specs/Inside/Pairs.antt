@@ -11,7 +11,8 @@ no_pair = (no_partition, no_partition)
 -- the least of a number, the distance of the pair at a place, and those of this pair and each later one
 abbrev pub nearest_at : List Factors → ℕ → ℕ → ℕ
 nearest_at pairs place least =
-    fold min (min least (pair_distance (slice_index_or pairs place no_pair))) (map (weight_gap (slice_index_or pairs place no_pair)) (drop (place + 1) pairs))
+    fold min (min least (pair_distance (slice_index_or pairs place no_pair))) (map (weight_gap (slice_index_or pairs place no_pair))
+    (drop (place + 1) pairs))
 
 -- twice the difference of the weights of two partitions
 abbrev pub weights_apart : PartitionValue → PartitionValue → ℕ

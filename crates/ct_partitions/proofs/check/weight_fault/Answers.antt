@@ -12,11 +12,13 @@ returns-in_err-place c = λ n below.
     let fits = All-from_get_or (λ x. x < 2 ^ 32) words 0 (λ k h. Fits-lt-pow (c.type_inv.words k)) in
     c.from_residual-in_err-place.ensures
     ∙ sym (ap (λ v. weight_fault n v words) c.in_ok-w.was
-    ∙ ap (option_map Weight) (sym (other_weight_any_length n c.in_ok-w.w words below fits) ∙ sym c.first_of_other_weight.ensures ∙ c.in_err-place.was))
+    ∙ ap (option_map Weight) (sym (other_weight_any_length n c.in_ok-w.w words below fits) ∙ sym c.first_of_other_weight.ensures
+    ∙ c.in_err-place.was))
 
 pub returns : goal.returns
 returns c = λ n below.
     let words = c.args.words.now in
     let fits = All-from_get_or (λ x. x < 2 ^ 32) words 0 (λ k h. Fits-lt-pow (c.type_inv.words k)) in
     sym (ap (λ v. weight_fault n v words) c.in_ok-w.was
-    ∙ ap (option_map Weight) (sym (other_weight_any_length n c.in_ok-w.w words below fits) ∙ sym c.first_of_other_weight.ensures ∙ c.in_ok-place.was))
+    ∙ ap (option_map Weight) (sym (other_weight_any_length n c.in_ok-w.w words below fits) ∙ sym c.first_of_other_weight.ensures
+    ∙ c.in_ok-place.was))

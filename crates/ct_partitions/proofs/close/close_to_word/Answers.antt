@@ -20,7 +20,8 @@ returns-in-Some c =
     let words = c.args.words.now in
     let i = c.args.i in
     let end = c.args.end in
-    let found = slice_found (λ x. nat_lt (distance 32 (get_or words i 0) x) c.args.d) words (i + 1) end c.in-Some.more (omega arith) c.requires.within (sym c.in-Some.ensures) in
+    let found = slice_found (λ x. nat_lt (distance 32 (get_or words i 0) x) c.args.d) words (i + 1) end c.in-Some.more
+    (omega arith) c.requires.within (sym c.in-Some.ensures) in
     let inside = found.inside in (
       omega arith,
       omega arith,
@@ -40,7 +41,8 @@ returns-in_err-more c =
           (sym c.first_close.ensures ∙ c.in_default.is) m (omega arith) inside
       | inr beyond ↦
           near_beyond words end c.args.d c.args.between i m beyond
-          ∙ slice_none (λ x. nat_lt (distance 32 (get_or words i 0) x) c.args.between) words end (length words) c.requires.within (omega arith)
+          ∙ slice_none (λ x. nat_lt (distance 32 (get_or words i 0) x) c.args.between) words end (length words) c.requires.within
+          (omega arith)
           (sym c.first_close-2.ensures ∙ c.in_err-more.was) m beyond within
     ])
 

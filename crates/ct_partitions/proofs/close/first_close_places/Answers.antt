@@ -12,11 +12,14 @@ use Rattle.ct_partitions.proofs.RowLemmas.{none_from-more, none_from-same, first
 use Rattle.ct_partitions.proofs.close.first_close_places.Goals as goal
 
 -- the least close pair, whatever the length that the words are read at
-any_length : (n d between : ℕ) (classes : List (List ℕ)) (words : List ℕ) → words ≡ all_words classes → All (λ x. x < 2 ^ n) words → All (λ x. x < 2 ^ 32) words
-    → least_pair (is_close 32 d between classes) (all_places (length words)) ≡ least_pair (is_close n d between classes) (all_places (length words))
+any_length : (n d between : ℕ) (classes : List (List ℕ)) (words : List ℕ) → words ≡ all_words classes → All (λ x. x < 2 ^ n) words
+    → All (λ x. x < 2 ^ 32) words
+    → least_pair (is_close 32 d between classes) (all_places (length words)) ≡ least_pair (is_close n d between classes) (all_places
+    (length words))
 any_length n d between classes words are below fits =
     least_pair_same (λ k. k < length words) (is_close 32 d between classes) (is_close n d between classes)
-    (λ i j h l. sym (close_any_length n d between classes (subst (All (λ x. x < 2 ^ n)) are below) (subst (All (λ x. x < 2 ^ 32)) are fits) i j
+    (λ i j h l. sym (close_any_length n d between classes (subst (All (λ x. x < 2 ^ n)) are below) (subst (All
+    (λ x. x < 2 ^ 32)) are fits) i j
     (let same = ap length are in omega arith) (let same = ap length are in omega arith)))
     (all_places (length words)) (places_below (length words))
 
@@ -54,12 +57,17 @@ returns-in-Some-clause-least c = λ n below.
     let place = c.loop-class.invariant.place in
     let found = c.in-Some.ensures in
     let before_end = found.0 in
-    let near : IsFirstFrom (is_near words (start + length (get_or classes k item).items) d between) c.loop-class.start (length words) c.in-Some.pair.0 c.in-Some.pair.1 =
-    subst (λ e. IsFirstFrom (is_near words e d between) c.loop-class.start (length words) c.in-Some.pair.0 c.in-Some.pair.1) end_is found.1 in
-    let close = first_from-same (is_close 32 d between (word_lists classes)) (is_near words (start + length (get_or classes k item).items) d between) c.loop-class.start (length words)
+    let near : IsFirstFrom (is_near words (start + length (get_or classes k item).items) d between) c.loop-class.start
+    (length words) c.in-Some.pair.0 c.in-Some.pair.1 =
+    subst (λ e. IsFirstFrom (is_near words e d between) c.loop-class.start
+    (length words) c.in-Some.pair.0 c.in-Some.pair.1) end_is found.1 in
+    let close = first_from-same (is_close 32 d between (word_lists classes)) (is_near words (start + length
+    (get_or classes k item).items) d between) c.loop-class.start (length words)
     c.in-Some.pair.0 c.in-Some.pair.1
-    (λ i j from within order inside. row_same d between classes k item words c.loop-class-test.true c.requires.words i j (omega arith) (omega arith) order) near in
-    let whole = first_from-more (is_close 32 d between (word_lists classes)) 0 c.loop-class.start (length words) c.in-Some.pair.0 c.in-Some.pair.1 c.loop-class.invariant.none (omega arith) close in
+    (λ i j from within order inside. row_same d between classes k item words c.loop-class-test.true c.requires.words i j
+    (omega arith) (omega arith) order) near in
+    let whole = first_from-more (is_close 32 d between (word_lists classes)) 0 c.loop-class.start
+    (length words) c.in-Some.pair.0 c.in-Some.pair.1 c.loop-class.invariant.none (omega arith) close in
     sym (least_from_first (is_close 32 d between (word_lists classes)) (length words) c.in-Some.pair.0 c.in-Some.pair.1 whole)
     ∙ any_length n d between (word_lists classes) words c.requires.words below fits
 
@@ -76,15 +84,21 @@ loop-class-preserved c =
     let place = c.loop-class.invariant.place in
     let end_is : c.loop-class.start + c.len.result ≡ start + length (get_or classes k item).items =
     ap₂ (λ i j. i + j) c.loop-class.invariant.place (size ∙ ap (λ v. length v.items) c.class-item.is) in
-    let more = ap length (lists_more classes k item c.loop-class-test.true) ∙ length-append (all_words (word_lists (take k classes))) (get_or classes k item).items in
-    let near : NoneFrom (is_near words (start + length (get_or classes k item).items) d between) c.loop-class.start (c.loop-class.start + c.len.result) (length words) =
-    subst (λ e. NoneFrom (is_near words e d between) c.loop-class.start (c.loop-class.start + c.len.result) (length words)) end_is c.in_default.ensures in
-    let close = none_from-same (is_close 32 d between (word_lists classes)) (is_near words (start + length (get_or classes k item).items) d between) c.loop-class.start
+    let more = ap length (lists_more classes k item c.loop-class-test.true)
+    ∙ length-append (all_words (word_lists (take k classes))) (get_or classes k item).items in
+    let near : NoneFrom (is_near words (start + length (get_or classes k item).items) d between) c.loop-class.start
+    (c.loop-class.start + c.len.result) (length words) =
+    subst (λ e. NoneFrom (is_near words e d between) c.loop-class.start (c.loop-class.start + c.len.result)
+    (length words)) end_is c.in_default.ensures in
+    let close = none_from-same (is_close 32 d between (word_lists classes)) (is_near words (start + length
+    (get_or classes k item).items) d between) c.loop-class.start
     (c.loop-class.start + c.len.result) (length words)
-    (λ i j from before order inside. row_same d between classes k item words c.loop-class-test.true c.requires.words i j (omega arith) (omega arith) order) near in
+    (λ i j from before order inside. row_same d between classes k item words c.loop-class-test.true c.requires.words i j
+    (omega arith) (omega arith) order) near in
     record {
       place = end_is ∙ sym more;
-      none = none_from-more (is_close 32 d between (word_lists classes)) 0 c.loop-class.start (c.loop-class.start + c.len.result) (length words) c.loop-class.invariant.none close;
+      none = none_from-more (is_close 32 d between (word_lists classes)) 0 c.loop-class.start (c.loop-class.start + c.len.result)
+          (length words) c.loop-class.invariant.none close;
     }
 
 pub returns-clause-least : goal.returns-clause-least

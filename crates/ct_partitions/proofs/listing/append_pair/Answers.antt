@@ -14,7 +14,9 @@ append_class-requires-clause-first c =
     let m_is = ap (λ e. e.n) c.entry-m.ensures.value in
     let short = c.requires in
     let count = class_count c.classes-firsts.result.now cs c.classes-firsts.ensures.value in
-    let items = c.deref.ensures.value ∙ class_items c.classes-firsts.result.now k c.index-firsts-class.result cs c.classes-firsts.ensures.value (omega arith) c.index-firsts-class.is in
+    let items = c.deref.ensures.value
+    ∙ class_items c.classes-firsts.result.now k c.index-firsts-class.result cs c.classes-firsts.ensures.value
+    (omega arith) c.index-firsts-class.is in
     let code = c.classes-firsts.ensures.sound.partition.classes_are_codes k [] (omega arith) in
     subst (All (λ (x : ℕ). x < 2 ^ (28 - m))) (sym items) (words_wider n (28 - m) (get_or cs k []) (omega arith) code.lengths)
 
@@ -25,7 +27,8 @@ append_class-requires-clause-second c =
     let m_is = ap (λ e. e.n) c.entry-m.ensures.value in
     let count = class_count c.classes-seconds.result.now ds c.classes-seconds.ensures.value in
     let items = c.deref-in-loop-class.ensures.value
-    ∙ class_items c.classes-seconds.result.now k c.index-seconds-class.result ds c.classes-seconds.ensures.value (omega arith) c.index-seconds-class.is in
+    ∙ class_items c.classes-seconds.result.now k c.index-seconds-class.result ds c.classes-seconds.ensures.value
+    (omega arith) c.index-seconds-class.is in
     let code = c.classes-seconds.ensures.sound.partition.classes_are_codes k [] (omega arith) in
     subst (λ (j : ℕ). All (λ (x : ℕ). x < 2 ^ j) c.deref-in-loop-class.result.now) (sym m_is)
     (subst (All (λ (x : ℕ). x < 2 ^ c.args.second.now.entry.n)) (sym items) code.lengths)
@@ -39,9 +42,12 @@ loop-class-preserved c =
     let m_is = ap (λ e. e.n) c.entry-m.ensures.value in
     let a_count = class_count c.classes-firsts.result.now cs c.classes-firsts.ensures.value in
     let b_count = class_count c.classes-seconds.result.now ds c.classes-seconds.ensures.value in
-    let firsts = c.deref.ensures.value ∙ class_items c.classes-firsts.result.now k c.index-firsts-class.result cs c.classes-firsts.ensures.value (omega arith) c.index-firsts-class.is in
+    let firsts = c.deref.ensures.value
+    ∙ class_items c.classes-firsts.result.now k c.index-firsts-class.result cs c.classes-firsts.ensures.value
+    (omega arith) c.index-firsts-class.is in
     let seconds = c.deref-in-loop-class.ensures.value
-    ∙ class_items c.classes-seconds.result.now k c.index-seconds-class.result ds c.classes-seconds.ensures.value (omega arith) c.index-seconds-class.is in
+    ∙ class_items c.classes-seconds.result.now k c.index-seconds-class.result ds c.classes-seconds.ensures.value
+    (omega arith) c.index-seconds-class.is in
     c.in_ok-append_class.ensures
     ∙ ap₂ (λ (a b : List ℕ). a ++ b) c.loop-class.invariant (λ i. all_followed (m_is i) (firsts i) (seconds i))
     ∙ append_assoc c.args.words.now.items (class_products m (take k cs) (take k ds)) (all_followed m (get_or cs k []) (get_or ds k []))
@@ -53,4 +59,5 @@ returns-clause-words c =
     let ds = c.args.second.now.classes in
     let a_count = class_count c.classes-firsts.result.now cs c.classes-firsts.ensures.value in
     let b_count = class_count c.classes-seconds.result.now ds c.classes-seconds.ensures.value in
-    c.loop-class.invariant ∙ ap (λ ws. c.args.words.now.items ++ ws) (classes_all c.args.second.now.entry.n cs ds c.loop-class.class (omega arith))
+    c.loop-class.invariant ∙ ap (λ ws. c.args.words.now.items ++ ws) (classes_all c.args.second.now.entry.n cs ds c.loop-class.class
+    (omega arith))

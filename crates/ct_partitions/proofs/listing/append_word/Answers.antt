@@ -13,7 +13,8 @@ loop-y-preserved c =
     let y = get_or ys i 0 in
     let f : ℕ → ℕ = λ z. followed_by m x z in
     let room : 28 - m + m ≤ 32 = let few = c.requires.length in omega arith in
-    let pushed : bit_or (x * 2 ^ m % 2 ^ 32) y ≡ f y = or-followed_by (28 - m) m x y c.requires.word (c.requires.second i 0 c.loop-y-test.true) room in
+    let pushed : bit_or (x * 2 ^ m % 2 ^ 32) y ≡ f y =
+    or-followed_by (28 - m) m x y c.requires.word (c.requires.second i 0 c.loop-y-test.true) room in
     c.in_ok-push.ensures.items
     ∙ ap₂ (λ (ws : List ℕ) (w : ℕ). ws ++ w ∷ []) c.loop-y.invariant pushed
     ∙ append_assoc c.args.words.now.items (map f (take i ys)) (f y ∷ [])

@@ -19,10 +19,15 @@ from_sorted-requires c =
     let near = limits.1 in
     let nearer = c.requires.distance in
     let code = IsCode-product n d w pairs c.requires.factors
-    (λ i z within. record { first = (sound i z within).0.partition; second = (sound i z within).1.partition }) c.requires.some c.requires.distance in
+    (λ i z within. record {
+      first = (sound i z within).0.partition;
+      second =
+          (sound i z within).1.partition;
+    }) c.requires.some c.requires.distance in
     let words = some_of_product pairs c.requires.factors.some sound in
     let count = ap length words_are in
     record {
-      code = sound_from_sort n d w c.in_ok-words.words.items c.sort_unstable.new.self.items (long, c.requires.length) (c.requires.some, omega arith)
+      code = sound_from_sort n d w c.in_ok-words.words.items c.sort_unstable.new.self.items (long, c.requires.length)
+          (c.requires.some, omega arith)
           (omega arith) (subst (IsCode n d w) (sym words_are) code) c.sort_unstable.ensures.permutation c.sort_unstable.ensures.sorted;
     }

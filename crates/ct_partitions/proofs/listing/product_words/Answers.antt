@@ -11,8 +11,10 @@ append_pair-requires c =
     let pairs = c.args.pairs.now in
     let k = c.loop-x.x-index in
     let long = length-pairs_at parts pairs in
-    let first = ap (λ p. p.entry.n) (first_read parts pairs k c.index-parts-x.result c.requires.places c.loop-x-test.true c.index-parts-x.is) in
-    let second = ap (λ p. p.entry.n) (second_read parts pairs k c.index-parts-y.result c.requires.places c.loop-x-test.true c.index-parts-y.is) in
+    let first = ap (λ p. p.entry.n)
+    (first_read parts pairs k c.index-parts-x.result c.requires.places c.loop-x-test.true c.index-parts-x.is) in
+    let second = ap (λ p. p.entry.n)
+    (second_read parts pairs k c.index-parts-y.result c.requires.places c.loop-x-test.true c.index-parts-y.is) in
     let sum = c.requires.lengths k no_pair (omega arith) in
     let few = c.requires.length in
     omega arith
@@ -26,7 +28,8 @@ loop-x-preserved c =
     let second = second_read parts pairs k c.index-parts-y.result c.requires.places c.loop-x-test.true c.index-parts-y.is in
     record {
       words = c.in_ok-append_pair.ensures.words
-          ∙ ap₂ (λ (a b : List ℕ). a ++ b) c.loop-x.invariant.words (λ i. class_products (second i).entry.n (first i).classes (second i).classes)
+          ∙ ap₂ (λ (a b : List ℕ). a ++ b) c.loop-x.invariant.words (λ i. class_products (second i).entry.n (first i).classes
+          (second i).classes)
           ∙ sym (product_step parts pairs k c.loop-x-test.true);
       sound = sound_more parts pairs k c.loop-x-test.true c.loop-x.invariant.sound
           (subst (λ (p : Factors). AreSound p) (λ i. (first i, second i)) c.append_pair.ensures.sound);

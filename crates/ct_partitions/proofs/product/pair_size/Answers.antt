@@ -14,9 +14,12 @@ overflow_mul-size c =
     let second : c.len-in-loop-class.result ≡ length c.index-seconds-class.result.items = search rules in
     let a_count = class_count c.classes-firsts.result.now cs c.classes-firsts.ensures.value in
     let b_count = class_count c.classes-seconds.result.now ds c.classes-seconds.ensures.value in
-    let a = class_length c.classes-firsts.result.now k c.index-firsts-class.result cs c.classes-firsts.ensures.value (omega arith) c.index-firsts-class.is in
-    let b = class_length c.classes-seconds.result.now k c.index-seconds-class.result ds c.classes-seconds.ensures.value (omega arith) c.index-seconds-class.is in
-    let product : c.len.result * c.len-in-loop-class.result ≡ length (get_or cs k []) * length (get_or ds k []) = ap₂ (λ i j. i * j) (first ∙ a) (second ∙ b) in
+    let a = class_length c.classes-firsts.result.now k c.index-firsts-class.result cs c.classes-firsts.ensures.value
+    (omega arith) c.index-firsts-class.is in
+    let b = class_length c.classes-seconds.result.now k c.index-seconds-class.result ds c.classes-seconds.ensures.value
+    (omega arith) c.index-seconds-class.is in
+    let product : c.len.result * c.len-in-loop-class.result ≡ length (get_or cs k []) * length (get_or ds k []) =
+    ap₂ (λ i j. i * j) (first ∙ a) (second ∙ b) in
     let step = sizes_step cs ds k (omega arith) (omega arith) in
     let small = sizes-small c.args.first.now c.args.second.now c.classes-firsts.ensures.sound c.classes-seconds.ensures.sound (k + 1) in
     omega arith
@@ -30,9 +33,12 @@ overflow_add-size c =
     let second : c.len-in-loop-class.result ≡ length c.index-seconds-class.result.items = search rules in
     let a_count = class_count c.classes-firsts.result.now cs c.classes-firsts.ensures.value in
     let b_count = class_count c.classes-seconds.result.now ds c.classes-seconds.ensures.value in
-    let a = class_length c.classes-firsts.result.now k c.index-firsts-class.result cs c.classes-firsts.ensures.value (omega arith) c.index-firsts-class.is in
-    let b = class_length c.classes-seconds.result.now k c.index-seconds-class.result ds c.classes-seconds.ensures.value (omega arith) c.index-seconds-class.is in
-    let product : c.len.result * c.len-in-loop-class.result ≡ length (get_or cs k []) * length (get_or ds k []) = ap₂ (λ i j. i * j) (first ∙ a) (second ∙ b) in
+    let a = class_length c.classes-firsts.result.now k c.index-firsts-class.result cs c.classes-firsts.ensures.value
+    (omega arith) c.index-firsts-class.is in
+    let b = class_length c.classes-seconds.result.now k c.index-seconds-class.result ds c.classes-seconds.ensures.value
+    (omega arith) c.index-seconds-class.is in
+    let product : c.len.result * c.len-in-loop-class.result ≡ length (get_or cs k []) * length (get_or ds k []) =
+    ap₂ (λ i j. i * j) (first ∙ a) (second ∙ b) in
     let step = sizes_step cs ds k (omega arith) (omega arith) in
     let so_far = c.loop-class.invariant in
     let small = sizes-small c.args.first.now c.args.second.now c.classes-firsts.ensures.sound c.classes-seconds.ensures.sound (k + 1) in
@@ -47,9 +53,12 @@ loop-class-preserved c =
     let second : c.len-in-loop-class.result ≡ length c.index-seconds-class.result.items = search rules in
     let a_count = class_count c.classes-firsts.result.now cs c.classes-firsts.ensures.value in
     let b_count = class_count c.classes-seconds.result.now ds c.classes-seconds.ensures.value in
-    let a = class_length c.classes-firsts.result.now k c.index-firsts-class.result cs c.classes-firsts.ensures.value (omega arith) c.index-firsts-class.is in
-    let b = class_length c.classes-seconds.result.now k c.index-seconds-class.result ds c.classes-seconds.ensures.value (omega arith) c.index-seconds-class.is in
-    let product : c.len.result * c.len-in-loop-class.result ≡ length (get_or cs k []) * length (get_or ds k []) = ap₂ (λ i j. i * j) (first ∙ a) (second ∙ b) in
+    let a = class_length c.classes-firsts.result.now k c.index-firsts-class.result cs c.classes-firsts.ensures.value
+    (omega arith) c.index-firsts-class.is in
+    let b = class_length c.classes-seconds.result.now k c.index-seconds-class.result ds c.classes-seconds.ensures.value
+    (omega arith) c.index-seconds-class.is in
+    let product : c.len.result * c.len-in-loop-class.result ≡ length (get_or cs k []) * length (get_or ds k []) =
+    ap₂ (λ i j. i * j) (first ∙ a) (second ∙ b) in
     ap₂ (λ i j. i + j) c.loop-class.invariant product ∙ sym (sizes_step cs ds k (omega arith) (omega arith))
 
 pub returns-clause-value : goal.returns-clause-value
