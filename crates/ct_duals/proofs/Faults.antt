@@ -1,5 +1,5 @@
 -- What the faults of a dual say.
-use Rattle.std.proofs.Common.{◌≡◌, ℕ, suc, ◌%◌, Bool, true, false, cond, not, ◌&&◌, ◌||◌, ◌==◌, leb-true, refl, sym, ap, ◌∙◌, arith}
+use Rattle.std.proofs.Common.{◌≡◌, ℕ, zero, suc, ◌%◌, ◌<◌, Bool, true, false, cond, not, ◌&&◌, ◌||◌, ◌==◌, leb-true, refl, sym, ap, ◌∙◌, arith}
 use Rattle.std.specs.Prelude.{ℤ, pos, ◌≤ℤ◌, ◌<ℤ◌, int_lt, Option, None, Some, nat_le}
 use Rattle.std.proofs.lemmas.Int.{ints}
 use Rattle.std.proofs.lemmas.Bool.{and_parts}
@@ -9,7 +9,7 @@ use Rattle.ct_duals.specs.declared.dual.Dual.{Dual}
 use Rattle.ct_duals.specs.declared.fault.DualFault.{DualFault}
 use Rattle.ct_duals.specs.declared.fault.DualFault.TheVariants.{Lead, Above}
 use Rattle.ct_duals.specs.Dual.{as_index, degree_of, multiplier, combination, allowed, is_in_range}
-use Rattle.ct_duals.specs.Check.{is_above, fault_at, above_fault, dual_fault, IsBelow, IsLeastAbove}
+use Rattle.ct_duals.specs.Check.{first_below, is_above, fault_at, above_fault, dual_fault, IsBelow, IsLeastAbove}
 use Rattle.ct_duals.proofs.First.{found_below, none_below}
 
 -- what `Above` names, and 0 where there is nothing
@@ -69,6 +69,31 @@ below-from_none number d none = go (int_lt (multiplier d.c 0) (pos 1)) refl none
           let last = leb-true i (degree_of d.entry) ends.1 in
           below-from_no_fault number d i (none_below (fault_at number d) (suc (degree_of d.entry)) none i (omega arith)) range,
     )
+
+-- where nothing comes at any number below the bound, nothing comes
+none-from : {X : Type 0} (f : ℕ → Option X) (m : ℕ) → ((k : ℕ) → k < m → f k ≡ None) → first_below f m ≡ None
+none-from f zero none = refl
+none-from f (suc m) none = ap (λ o. first_of o (f m)) (none-from f m (λ k less. none k (omega arith))) ∙ none m (omega arith)
+
+-- at an index there is no fault where f is at most what is allowed
+no_fault-from_below : (number : ℕ → ℕ → ℤ) (d : Dual) (i : ℕ) → IsBelow number d → fault_at number d i ≡ None
+no_fault-from_below number d i below = go (is_in_range d.entry d.even i) refl
+  where
+    go : (b : Bool) → is_in_range d.entry d.even i ≡ b
+        → cond (b && int_lt (allowed d.y i) (combination number d.c i)) (Some (Above i (combination number d.c i) (allowed d.y i))) None ≡ None
+    go false out = refl
+    go true inside =
+        let least = below i inside in
+        let no : int_lt (allowed d.y i) (combination number d.c i) ≡ false = grind (arith, ints) in
+        rw no refl
+
+-- where c_0 is at least 1 and f nowhere above what is allowed, there is no fault
+pub none-from_below : (number : ℕ → ℕ → ℤ) (d : Dual) → pos 1 ≤ℤ multiplier d.c 0 → IsBelow number d → dual_fault number d ≡ None
+unfolding dual_fault
+none-from_below number d lead below =
+    let no : int_lt (multiplier d.c 0) (pos 1) ≡ false = grind (arith, ints) in
+    ap (λ b. first_of (cond b (Some Lead) None) (above_fault number d)) no
+    ∙ none-from (fault_at number d) (suc (degree_of d.entry)) (λ i less. no_fault-from_below number d i below)
 
 -- `Above` comes with the least index
 pub above-means : (number : ℕ → ℕ → ℤ) (d : Dual) (at : ℕ) (value limit : ℤ) → dual_fault number d ≡ Some (Above at value limit)

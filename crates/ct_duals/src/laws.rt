@@ -1,5 +1,5 @@
 //! What duals promise, for every dual and every list of words; the functions do nothing.
-ghost use Rattle.std.specs.Prelude.{◌≡◌, ◌≢◌, ℕ, ◌≤◌, ◌<◌, List, ℤ, pos, ◌≤ℤ◌, ◌<ℤ◌, Some, None};
+ghost use Rattle.std.specs.Prelude.{◌≡◌, ◌≢◌, ◌↔◌, ℕ, ◌≤◌, ◌<◌, List, ℤ, pos, ◌≤ℤ◌, ◌<ℤ◌, Some, None};
 ghost use Rattle.ct_codes.specs.Code.{IsTrueUpper};
 ghost use Rattle.ct_duals.specs.declared.dual.Dual.{Dual};
 ghost use Rattle.ct_duals.specs.declared.fault.DualFault.TheVariants.{Lead, Above};
@@ -22,11 +22,11 @@ pub fn accepted_duals_bound_codes<S: Scheme>(scheme: &S)
         IsTrueUpper dual.entry (dual_bound dual (combination (S.number scheme.now) dual.c 0) uppers) }
 {}
 
-/// What the check of a dual says: it is accepted where c_0 is at least 1 and f nowhere above what is allowed; `Lead` says
+/// What the check of a dual says: it is accepted exactly where c_0 is at least 1 and f nowhere above what is allowed; `Lead` says
 /// that c_0 is below 1, and `Above` names the least index where f is above, with both numbers.
 pub fn faults_of_duals()
     ensures accepted { (number : ℕ → ℕ → ℤ) (dual : Dual) →
-        dual_fault number dual ≡ None → (pos 1 ≤ℤ multiplier dual.c 0) × IsBelow number dual }
+        (dual_fault number dual ≡ None) ↔ ((pos 1 ≤ℤ multiplier dual.c 0) × IsBelow number dual) }
     ensures lead { (number : ℕ → ℕ → ℤ) (dual : Dual) →
         dual_fault number dual ≡ Some Lead → multiplier dual.c 0 ≤ℤ pos 0 }
     ensures above { (number : ℕ → ℕ → ℤ) (dual : Dual) (at : ℕ) (value allowed : ℤ) →
