@@ -2,12 +2,8 @@
 //! scheme.
 #![tactic(auto)]
 
-#[cfg(test)]
-mod answers;
 mod laws;
 mod schemes;
-#[cfg(test)]
-mod tests;
 
 pub use laws::{duals_bound_codes, known_duals};
 pub use schemes::check_dual_of_table;
