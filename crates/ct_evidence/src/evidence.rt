@@ -2,6 +2,7 @@
 
 use ct_build::Step;
 use ct_codes::Entry;
+use ct_duals::Dual;
 use ct_text::Id;
 use ct_words::WordList;
 
@@ -28,4 +29,8 @@ pub enum Evidence {
         part: Id,
         other: Option<Id>,
     },
+    /// A dual of Delsarte's linear program for an entry without weight.
+    Dual(Dual),
+    /// One for an entry with weight: it speaks of no even distances alone, and allows nothing.
+    JohnsonDual(Dual),
 }

@@ -13,12 +13,15 @@ use Rattle.ct_fields.specs.Document.{table_of}
 use Rattle.ct_word_files.specs.Words.{words_evidence_of}
 use Rattle.ct_word_files.specs.Cosets.{cosets_evidence_of}
 use Rattle.ct_build_files.specs.Build.{build_evidence_of}
-use Rattle.ct_files.specs.Evidence.{evidence_of, read_without_limit, read_of}
+use Rattle.ct_files.specs.Evidence.{dual_evidence_of, johnson_dual_evidence_of, evidence_of, read_without_limit, read_of}
 use Rattle.ct_fields.specs.Tables.{IsDocument, IsOfKind}
 use Rattle.ct_word_files.specs.WordsDocument.{StatesWords, IsWordsAnswer, AcceptsWords}
 use Rattle.ct_word_files.specs.CosetsDocument.{StatesCosets, IsCosetsAnswer, AcceptsCosets}
 use Rattle.ct_build_files.specs.BuildAnswer.{IsBuildAnswer}
 use Rattle.ct_build_files.specs.BuildDocument.{StatesBuild, AcceptsBuild}
+use Rattle.ct_duals.specs.declared.dual.Dual.{Dual}
+use Rattle.ct_dual_files.specs.DualDocument.{StatesDual, StatesJohnsonDual}
+use Rattle.ct_files.specs.DualAnswer.{IsDualEvidence, IsJohnsonDualEvidence, AcceptsDual, AcceptsJohnsonDual}
 use Rattle.ct_fields.specs.declared.document.TheConstants.{MAX_DOCUMENT}
 use Rattle.ct_evidence.specs.declared.evidence.Evidence.{Evidence}
 use Rattle.ct_evidence.specs.declared.evidence.Evidence.TheVariants as evidence
@@ -29,6 +32,7 @@ use Rattle.ct_word_files.proofs.WordsAnswers.{words_answer, words_answer-from, w
 use Rattle.ct_word_files.proofs.CosetsAnswers.{cosets_answer, cosets_answer-from, cosets_answers}
 use Rattle.ct_build_files.proofs.BuildAnswers.{build_answer-from}
 use Rattle.ct_build_files.proofs.BuildFaultAnswers.{build_answer, build_answers}
+use Rattle.ct_files.proofs.DualEvidence.{dual_evidence, dual_evidence-from, dual_evidences, johnson_dual_evidence, johnson_dual_evidence-from, johnson_dual_evidences}
 
 -- what a document of kind words reads as is the evidence of words
 pub evidence_of-words : (document : Data) → IsOfKind (codes "words") document → evidence_of document ≡ words_evidence_of document
@@ -45,17 +49,38 @@ pub evidence_of-build : (document : Data) → IsOfKind (codes "build") document 
 unfolding evidence_of
 evidence_of-build document of_kind = rw of_kind refl
 
+-- what a document of kind dual reads as is the evidence of a dual
+pub evidence_of-dual : (document : Data) → IsOfKind (codes "dual") document → evidence_of document ≡ dual_evidence_of document
+unfolding evidence_of
+evidence_of-dual document of_kind = rw of_kind refl
+
+-- what a document of kind jdual reads as is that of a dual with a weight
+pub evidence_of-johnson_dual : (document : Data) → IsOfKind (codes "jdual") document → evidence_of document ≡ johnson_dual_evidence_of document
+unfolding evidence_of
+evidence_of-johnson_dual document of_kind = rw of_kind refl
+
 -- a kind that does not stand fails its test
 other_kind : (kind : List ℕ) (document : Data) → ¬ (IsOfKind kind document) → is_of_kind kind document ≡ false
 other_kind kind document other =
     elim (cases_Bool (is_of_kind kind document)) [ inl same ↦ absurd (other (is_of_kind-true kind document same)) | inr none ↦ none ]
 
+-- the document is of none of the kinds
+abbrev pub IsOfNoKind : Data → Type 0
+IsOfNoKind document =
+    ¬ (IsOfKind (codes "words") document) × ¬ (IsOfKind (codes "cosets") document) × ¬ (IsOfKind (codes "build") document)
+    × ¬ (IsOfKind (codes "dual") document) × ¬ (IsOfKind (codes "jdual") document)
+
 -- a document of another kind is refused
-evidence_of-other : (document : Data) → ¬ (IsOfKind (codes "words") document) → ¬ (IsOfKind (codes "cosets") document) → ¬ (IsOfKind (codes "build") document)
-    → evidence_of document ≡ Err Kind
+evidence_of-other : (document : Data) → IsOfNoKind document → evidence_of document ≡ Err Kind
 unfolding evidence_of
-evidence_of-other document no_words no_cosets no_build =
-    rw (other_kind (codes "words") document no_words, other_kind (codes "cosets") document no_cosets, other_kind (codes "build") document no_build) refl
+evidence_of-other document (no_words, no_cosets, no_build, no_dual, no_johnson) =
+    rw (
+      other_kind (codes "words") document no_words,
+      other_kind (codes "cosets") document no_cosets,
+      other_kind (codes "build") document no_build,
+      other_kind (codes "dual") document no_dual,
+      other_kind (codes "jdual") document no_johnson,
+    ) refl
 
 -- bytes that are not too many read as without the limit
 pub read_of-short : (bytes : List ℕ) → length bytes ≤ MAX_DOCUMENT → read_of bytes ≡ read_without_limit bytes
@@ -121,7 +146,10 @@ unfolding read_without_limit
 read_of-no_table bytes short none = read_of-short bytes short ∙ rw none refl
 
 -- a document says that it is of the kind, or it doesn't
-kind_or_none : (kind : List ℕ) (document : Data) → IsOfKind kind document ⊎ ¬ (IsOfKind kind document)
+abbrev IsOrIsNot : List ℕ → Data → Type 0
+IsOrIsNot kind document = IsOfKind kind document ⊎ ¬ (IsOfKind kind document)
+
+kind_or_none : (kind : List ℕ) (document : Data) → IsOrIsNot kind document
 kind_or_none kind document =
     elim (cases_Bool (is_of_kind kind document)) [
       | inl same ↦ inl (is_of_kind-true kind document same)
@@ -133,25 +161,39 @@ pub data DocumentAnswer (document : Data) (answer : Result Evidence FileFault) :
   words : IsOfKind (codes "words") document → IsWordsAnswer document answer → DocumentAnswer document answer
   cosets : IsOfKind (codes "cosets") document → IsCosetsAnswer document answer → DocumentAnswer document answer
   build : IsOfKind (codes "build") document → IsBuildAnswer document answer → DocumentAnswer document answer
-  of_no_kind : ¬ (IsOfKind (codes "words") document) → ¬ (IsOfKind (codes "cosets") document) → ¬ (IsOfKind (codes "build") document) → answer ≡ Err Kind
-      → DocumentAnswer document answer
+  dual : IsOfKind (codes "dual") document → IsDualEvidence document answer → DocumentAnswer document answer
+  johnson : IsOfKind (codes "jdual") document → IsJohnsonDualEvidence document answer → DocumentAnswer document answer
+  of_no_kind : IsOfNoKind document → answer ≡ Err Kind → DocumentAnswer document answer
 
 -- the answer to a table comes where it is said to come, or the kind is refused
 pub table_answer : (ms : Members) → DocumentAnswer (table ms) (evidence_of (table ms))
-table_answer ms =
-    let document = table ms in
-    elim (kind_or_none (codes "words") document) [
-      | inl of_kind ↦ words of_kind (rw (evidence_of-words document of_kind) (words_answer ms of_kind))
-      | inr no_words ↦
-          elim (kind_or_none (codes "cosets") document) [
-            | inl of_kind ↦ cosets of_kind (rw (evidence_of-cosets document of_kind) (cosets_answer ms of_kind))
-            | inr no_cosets ↦
-                elim (kind_or_none (codes "build") document) [
-                  | inl of_kind ↦ build of_kind (rw (evidence_of-build document of_kind) (build_answer ms of_kind))
-                  | inr no_build ↦ of_no_kind no_words no_cosets no_build (evidence_of-other document no_words no_cosets no_build)
-                ]
-          ]
-    ]
+table_answer ms = words_first (kind_or_none (codes "words") document)
+  where
+    document : Data
+    document = table ms
+
+    then_johnson : ¬ (IsOfKind (codes "words") document) → ¬ (IsOfKind (codes "cosets") document) → ¬ (IsOfKind (codes "build") document)
+        → ¬ (IsOfKind (codes "dual") document) → IsOrIsNot (codes "jdual") document → DocumentAnswer document (evidence_of document)
+    then_johnson no_words no_cosets no_build no_dual (inl of_kind) = johnson of_kind (rw (evidence_of-johnson_dual document of_kind) (johnson_dual_evidence ms of_kind))
+    then_johnson no_words no_cosets no_build no_dual (inr no_johnson) =
+        let none : IsOfNoKind document = (no_words, no_cosets, no_build, no_dual, no_johnson) in of_no_kind none (evidence_of-other document none)
+
+    then_dual : ¬ (IsOfKind (codes "words") document) → ¬ (IsOfKind (codes "cosets") document) → ¬ (IsOfKind (codes "build") document)
+        → IsOrIsNot (codes "dual") document → DocumentAnswer document (evidence_of document)
+    then_dual no_words no_cosets no_build (inl of_kind) = dual of_kind (rw (evidence_of-dual document of_kind) (dual_evidence ms of_kind))
+    then_dual no_words no_cosets no_build (inr no_dual) = then_johnson no_words no_cosets no_build no_dual (kind_or_none (codes "jdual") document)
+
+    then_build : ¬ (IsOfKind (codes "words") document) → ¬ (IsOfKind (codes "cosets") document) → IsOrIsNot (codes "build") document → DocumentAnswer document (evidence_of document)
+    then_build no_words no_cosets (inl of_kind) = build of_kind (rw (evidence_of-build document of_kind) (build_answer ms of_kind))
+    then_build no_words no_cosets (inr no_build) = then_dual no_words no_cosets no_build (kind_or_none (codes "dual") document)
+
+    then_cosets : ¬ (IsOfKind (codes "words") document) → IsOrIsNot (codes "cosets") document → DocumentAnswer document (evidence_of document)
+    then_cosets no_words (inl of_kind) = cosets of_kind (rw (evidence_of-cosets document of_kind) (cosets_answer ms of_kind))
+    then_cosets no_words (inr no_cosets) = then_build no_words no_cosets (kind_or_none (codes "build") document)
+
+    words_first : IsOrIsNot (codes "words") document → DocumentAnswer document (evidence_of document)
+    words_first (inl of_kind) = words of_kind (rw (evidence_of-words document of_kind) (words_answer ms of_kind))
+    words_first (inr no_words) = then_cosets no_words (kind_or_none (codes "cosets") document)
 
 -- and so does the answer to bytes that write one
 pub document_answer : (bytes : List ℕ) (document : Data) → IsDocument bytes document → DocumentAnswer document (read_of bytes)
@@ -183,9 +225,11 @@ accepted bytes e listed read = at (rw read at (bytes_answer bytes))
     at : BytesAnswer bytes (Ok (evidence.Words e listed)) → AcceptsWords bytes e listed
     at (long many other) = absurd cc
     at (no_table short none other) = absurd cc
-    at (of_document document written (of_no_kind no_words no_cosets no_build other)) = absurd cc
+    at (of_document document written (of_no_kind none other)) = absurd cc
     at (of_document document written (build of_kind never)) = absurd never
     at (of_document document written (cosets of_kind never)) = absurd never
+    at (of_document document written (dual of_kind never)) = absurd never
+    at (of_document document written (johnson of_kind never)) = absurd never
     at (of_document document written (words of_kind (states, some, few))) =
         record { document = document; written = written; states = states; some = some; few = few }
 
@@ -206,9 +250,11 @@ accepted_cosets bytes e basis representatives read = at (rw read at (bytes_answe
     at : BytesAnswer bytes (Ok (evidence.Cosets e basis representatives)) → AcceptsCosets bytes e basis representatives
     at (long many other) = absurd cc
     at (no_table short none other) = absurd cc
-    at (of_document document written (of_no_kind no_words no_cosets no_build other)) = absurd cc
+    at (of_document document written (of_no_kind none other)) = absurd cc
     at (of_document document written (build of_kind never)) = absurd never
     at (of_document document written (words of_kind never)) = absurd never
+    at (of_document document written (dual of_kind never)) = absurd never
+    at (of_document document written (johnson of_kind never)) = absurd never
     at (of_document document written (cosets of_kind (states, few_basis, some, few))) =
         record { document = document; written = written; states = states; few_basis = few_basis; some = some; few = few }
 
@@ -230,9 +276,11 @@ accepted_build bytes e step part other read = at (rw read at (bytes_answer bytes
     at : BytesAnswer bytes (Ok (evidence.Build e step part other)) → AcceptsBuild bytes e step part other
     at (long many wrong) = absurd cc
     at (no_table short none wrong) = absurd cc
-    at (of_document document written (of_no_kind no_words no_cosets no_build wrong)) = absurd cc
+    at (of_document document written (of_no_kind none wrong)) = absurd cc
     at (of_document document written (words of_kind never)) = absurd never
     at (of_document document written (cosets of_kind never)) = absurd never
+    at (of_document document written (dual of_kind never)) = absurd never
+    at (of_document document written (johnson of_kind never)) = absurd never
     at (of_document document written (build of_kind states)) = record { document = document; written = written; states = states }
 
 pub accepted_build-from : (bytes : List ℕ) (e : Entry) (step : Step) (part : List ℕ) (other : Option (List ℕ)) → AcceptsBuild bytes e step part other
@@ -243,6 +291,48 @@ accepted_build-from bytes e step part other accepts =
     ∙ evidence_of-build accepts.document accepts.states.of_kind
     ∙ subst (λ d. StatesBuild d e step part other → build_evidence_of d ≡ Ok (evidence.Build e step part other)) (sym same)
     (build_answer-from ms e step part other) accepts.states
+
+-- a document is accepted as a dual exactly where it states it
+pub accepted_dual : (bytes : List ℕ) (d : Dual) → read_of bytes ≡ Ok (evidence.Dual d) → AcceptsDual bytes d
+accepted_dual bytes d read = at (rw read at (bytes_answer bytes))
+  where
+    at : BytesAnswer bytes (Ok (evidence.Dual d)) → AcceptsDual bytes d
+    at (long many other) = absurd cc
+    at (no_table short none other) = absurd cc
+    at (of_document document written (of_no_kind none other)) = absurd cc
+    at (of_document document written (words of_kind never)) = absurd never
+    at (of_document document written (cosets of_kind never)) = absurd never
+    at (of_document document written (build of_kind never)) = absurd never
+    at (of_document document written (johnson of_kind never)) = absurd never
+    at (of_document document written (dual of_kind states)) = record { document = document; written = written; states = states }
+
+pub accepted_dual-from : (bytes : List ℕ) (d : Dual) → AcceptsDual bytes d → read_of bytes ≡ Ok (evidence.Dual d)
+accepted_dual-from bytes d accepts =
+    let (ms, parsed, same) = accepts.written.written in
+    read_of-document bytes accepts.document accepts.written
+    ∙ evidence_of-dual accepts.document accepts.states.fields.of_kind
+    ∙ subst (λ t. StatesDual t d → dual_evidence_of t ≡ Ok (evidence.Dual d)) (sym same) (dual_evidence-from ms (Ok (evidence.Dual d))) accepts.states
+
+pub accepted_johnson_dual : (bytes : List ℕ) (d : Dual) → read_of bytes ≡ Ok (evidence.JohnsonDual d) → AcceptsJohnsonDual bytes d
+accepted_johnson_dual bytes d read = at (rw read at (bytes_answer bytes))
+  where
+    at : BytesAnswer bytes (Ok (evidence.JohnsonDual d)) → AcceptsJohnsonDual bytes d
+    at (long many other) = absurd cc
+    at (no_table short none other) = absurd cc
+    at (of_document document written (of_no_kind none other)) = absurd cc
+    at (of_document document written (words of_kind never)) = absurd never
+    at (of_document document written (cosets of_kind never)) = absurd never
+    at (of_document document written (build of_kind never)) = absurd never
+    at (of_document document written (dual of_kind never)) = absurd never
+    at (of_document document written (johnson of_kind states)) = record { document = document; written = written; states = states }
+
+pub accepted_johnson_dual-from : (bytes : List ℕ) (d : Dual) → AcceptsJohnsonDual bytes d → read_of bytes ≡ Ok (evidence.JohnsonDual d)
+accepted_johnson_dual-from bytes d accepts =
+    let (ms, parsed, same) = accepts.written.written in
+    read_of-document bytes accepts.document accepts.written
+    ∙ evidence_of-johnson_dual accepts.document accepts.states.fields.of_kind
+    ∙ subst (λ t. StatesJohnsonDual t d → johnson_dual_evidence_of t ≡ Ok (evidence.JohnsonDual d)) (sym same)
+    (johnson_dual_evidence-from ms (Ok (evidence.JohnsonDual d))) accepts.states
 
 -- what is said of each answer to a document of kind words
 pub answers : (bytes : List ℕ) (document : Data) (answer : Result Evidence FileFault) → IsDocument bytes document → IsOfKind (codes "words") document → (read_of bytes ≡ answer) ↔ IsWordsAnswer document answer
@@ -268,16 +358,33 @@ answers_build bytes document answer written of_kind =
     let (to, from) = subst (λ d. IsOfKind (codes "build") d → (build_evidence_of d ≡ answer) ↔ IsBuildAnswer d answer) (sym same) (λ here. build_answers ms here answer) of_kind in
     (λ e. to (sym read ∙ e), λ h. read ∙ from h)
 
+-- what is said of each answer to a document of kind dual
+pub answers_dual : (bytes : List ℕ) (document : Data) (answer : Result Evidence FileFault) → IsDocument bytes document → IsOfKind (codes "dual") document → (read_of bytes ≡ answer) ↔ IsDualEvidence document answer
+answers_dual bytes document answer written of_kind =
+    let (ms, parsed, same) = written.written in
+    let read = read_of-document bytes document written ∙ evidence_of-dual document of_kind in
+    let (to, from) = subst (λ d. IsOfKind (codes "dual") d → (dual_evidence_of d ≡ answer) ↔ IsDualEvidence d answer) (sym same) (λ here. dual_evidences ms here answer) of_kind in
+    (λ e. to (sym read ∙ e), λ h. read ∙ from h)
+
+-- what is said of each answer to a document of kind jdual
+pub answers_johnson_dual : (bytes : List ℕ) (document : Data) (answer : Result Evidence FileFault) → IsDocument bytes document → IsOfKind (codes "jdual") document → (read_of bytes ≡ answer) ↔ IsJohnsonDualEvidence document answer
+answers_johnson_dual bytes document answer written of_kind =
+    let (ms, parsed, same) = written.written in
+    let read = read_of-document bytes document written ∙ evidence_of-johnson_dual document of_kind in
+    let (to, from) = subst (λ d. IsOfKind (codes "jdual") d → (johnson_dual_evidence_of d ≡ answer) ↔ IsJohnsonDualEvidence d answer) (sym same) (λ here. johnson_dual_evidences ms here answer) of_kind in
+    (λ e. to (sym read ∙ e), λ h. read ∙ from h)
+
 -- the kind of a document is refused exactly where it is another one
-pub kinds : (bytes : List ℕ) (document : Data) → IsDocument bytes document
-    → (read_of bytes ≡ Err Kind) ↔ (¬ (IsOfKind (codes "words") document) × ¬ (IsOfKind (codes "cosets") document) × ¬ (IsOfKind (codes "build") document))
+pub kinds : (bytes : List ℕ) (document : Data) → IsDocument bytes document → (read_of bytes ≡ Err Kind) ↔ IsOfNoKind document
 kinds bytes document written = (
   λ e. (
     λ of_kind. (answers bytes document (Err Kind) written of_kind).0 e,
     λ of_kind. (answers_cosets bytes document (Err Kind) written of_kind).0 e,
     λ of_kind. (answers_build bytes document (Err Kind) written of_kind).0 e,
+    λ of_kind. (answers_dual bytes document (Err Kind) written of_kind).0 e,
+    λ of_kind. (answers_johnson_dual bytes document (Err Kind) written of_kind).0 e,
   ),
-  λ other. read_of-document bytes document written ∙ evidence_of-other document other.0 other.1 other.2,
+  λ other. read_of-document bytes document written ∙ evidence_of-other document other,
 )
 
 -- bytes are refused for their number exactly where they are too many
@@ -287,10 +394,12 @@ too_many bytes b = (λ e. only (rw e at (bytes_answer bytes)), λ h. read_of-lon
     only : BytesAnswer bytes (Err (Bytes b)) → (b ≡ length bytes) × (MAX_DOCUMENT < length bytes)
     only (long many is) = let same : b ≡ length bytes = cc in (same, many)
     only (no_table short none other) = absurd cc
-    only (of_document document written (of_no_kind no_words no_cosets no_build other)) = absurd cc
+    only (of_document document written (of_no_kind none other)) = absurd cc
     only (of_document document written (build of_kind never)) = absurd never
     only (of_document document written (words of_kind never)) = absurd never
     only (of_document document written (cosets of_kind never)) = absurd never
+    only (of_document document written (dual of_kind never)) = absurd never
+    only (of_document document written (johnson of_kind never)) = absurd never
 
 -- bytes are refused as no TOML exactly where they are not too many and write no table
 pub no_tables : (bytes : List ℕ) → (read_of bytes ≡ Err NotToml) ↔ ((length bytes ≤ MAX_DOCUMENT) × ((document : Data) → ¬ (IsDocument bytes document)))
@@ -300,7 +409,9 @@ no_tables bytes = (λ e. (only (rw e at (bytes_answer bytes)), λ document writt
     never (words of_kind wrong) = wrong
     never (cosets of_kind wrong) = wrong
     never (build of_kind wrong) = wrong
-    never (of_no_kind no_words no_cosets no_build other) = absurd cc
+    never (dual of_kind wrong) = wrong
+    never (johnson of_kind wrong) = wrong
+    never (of_no_kind none other) = absurd cc
 
     only : BytesAnswer bytes (Err NotToml) → length bytes ≤ MAX_DOCUMENT
     only (long many other) = absurd cc

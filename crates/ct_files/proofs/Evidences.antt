@@ -1,6 +1,6 @@
 -- What an evidence keeps that is read.
 use Rattle.std.proofs.Common.{◌≡◌, ◌≢◌, ℕ, ◌≤◌, List, length, Option, Some, None, Result, Ok, Err, IfOk, inl, inr, refl, sym, subst, ap, ◌∙◌, arith}
-use Rattle.std.specs.Prelude.{is_some}
+use Rattle.std.specs.Prelude.{IsSome, is_some}
 use Rattle.ct_codes.specs.declared.entry.Entry.{Entry}
 use Rattle.ct_codes.specs.Entry.{IsEntry, unrestricted}
 use Rattle.ct_build.specs.declared.step.Step.{Step}
@@ -13,13 +13,15 @@ use Rattle.ct_build_files.specs.BuildDocument.{NamesOther}
 use Rattle.ct_build_files.specs.BuildAnswer.{IsBuildAnswer}
 use Rattle.ct_word_files.specs.WordsDocument.{IsWordsAnswer}
 use Rattle.ct_word_files.specs.CosetsDocument.{IsCosetsAnswer}
+use Rattle.ct_files.specs.DualAnswer.{IsDualEvidence, IsJohnsonDualEvidence}
+use Rattle.ct_dual_files.proofs.FormedDuals.{formed_plain, formed_weighted}
 use Rattle.ct_fields.specs.Reads.{Reads}
 use Rattle.ct_fields.specs.declared.document.TheConstants.{MAX_DOCUMENT}
 use Rattle.ct_evidence.specs.declared.evidence.Evidence.{Evidence}
-use Rattle.ct_evidence.specs.declared.evidence.Evidence.TheVariants.{Words, Cosets, Build}
+use Rattle.ct_evidence.specs.declared.evidence.Evidence.TheVariants.{Words, Cosets, Build, Dual, JohnsonDual}
 use Rattle.ct_fields.specs.declared.fault.FileFault.{FileFault}
 use Rattle.ct_fields.specs.declared.fault.FileFault.TheVariants.{Memory}
-use Rattle.ct_files.proofs.DocumentAnswers.{BytesAnswer, long, no_table, of_document, DocumentAnswer, words, cosets, build, of_no_kind, bytes_answer, table_answer, without_limit-table, short_or_long, read_of-short, read_of-long}
+use Rattle.ct_files.proofs.DocumentAnswers.{BytesAnswer, long, no_table, of_document, DocumentAnswer, words, cosets, build, dual, johnson, of_no_kind, bytes_answer, table_answer, without_limit-table, short_or_long, read_of-short, read_of-long}
 
 -- a stated weight is one of the table beside the distance
 weight_of_stated : (document : Data) (e : Entry) (w : Option ℕ) → StatesEntry document e → HasWeight document e.n w → WeightFits e w
@@ -44,6 +46,8 @@ words-sound : (document : Data) (e : Evidence) → IsWordsAnswer document (Ok e)
 words-sound document (Words e listed) (states, some, few) = (entry_of_stated document e states.form.fields.entry, states.lengths, some, few)
 words-sound document (Cosets e basis representatives) never = absurd never
 words-sound document (Build e step part other) never = absurd never
+words-sound document (Dual d) never = absurd never
+words-sound document (JohnsonDual d) never = absurd never
 
 cosets-sound : (document : Data) (e : Evidence) → IsCosetsAnswer document (Ok e) → IsSound e
 cosets-sound document (Words e listed) never = absurd never
@@ -59,18 +63,43 @@ cosets-sound document (Cosets e basis representatives) (states, few_basis, some,
       few,
     )
 cosets-sound document (Build e step part other) never = absurd never
+cosets-sound document (Dual d) never = absurd never
+cosets-sound document (JohnsonDual d) never = absurd never
 
 build-sound : (document : Data) (e : Evidence) → IsBuildAnswer document (Ok e) → IsSound e
 build-sound document (Words e listed) never = absurd never
 build-sound document (Cosets e basis representatives) never = absurd never
 build-sound document (Build e step part other) states =
     (record { entry = entry_of_stated document e states.entry; fields = states.fits }, named_where_needed step document other states.other_named)
+build-sound document (Dual d) never = absurd never
+build-sound document (JohnsonDual d) never = absurd never
+
+dual-sound : (document : Data) (e : Evidence) → IsDualEvidence document (Ok e) → IsSound e
+dual-sound document (Words e listed) never = absurd never
+dual-sound document (Cosets e basis representatives) never = absurd never
+dual-sound document (Build e step part other) never = absurd never
+dual-sound document (Dual d) states =
+    let has = states.fields in
+    (formed_plain document d has.entry has.multipliers has.allowances, ap (λ (f : Entry). f.w) has.entry.entry.plain)
+dual-sound document (JohnsonDual d) never = absurd never
+
+johnson_dual-sound : (document : Data) (e : Evidence) → IsJohnsonDualEvidence document (Ok e) → IsSound e
+johnson_dual-sound document (Words e listed) never = absurd never
+johnson_dual-sound document (Cosets e basis representatives) never = absurd never
+johnson_dual-sound document (Build e step part other) never = absurd never
+johnson_dual-sound document (Dual d) never = absurd never
+johnson_dual-sound document (JohnsonDual d) states =
+    let has = states.fields in
+    let (w, is, at_w) = has.entry.with_weight in
+    (formed_weighted document d has.entry has.unmarked has.multipliers has.none_allowed, subst IsSome (sym is) refl)
 
 answer-sound : (document : Data) (e : Evidence) → DocumentAnswer document (Ok e) → IsSound e
 answer-sound document e (words of_kind answer) = words-sound document e answer
 answer-sound document e (cosets of_kind answer) = cosets-sound document e answer
 answer-sound document e (build of_kind answer) = build-sound document e answer
-answer-sound document e (of_no_kind no_words no_cosets no_build other) = absurd cc
+answer-sound document e (dual of_kind answer) = dual-sound document e answer
+answer-sound document e (johnson of_kind answer) = johnson_dual-sound document e answer
+answer-sound document e (of_no_kind none other) = absurd cc
 
 -- evidence that bytes read as is sound, however many they are
 pub read_without_limit-sound : (bytes : List ℕ) (e : Evidence) → read_without_limit bytes ≡ Ok e → IsSound e
@@ -100,7 +129,9 @@ read_of-no_memory bytes = λ e. never (rw e at (bytes_answer bytes))
     never_of_document (words of_kind wrong) = wrong
     never_of_document (cosets of_kind wrong) = wrong
     never_of_document (build of_kind wrong) = wrong
-    never_of_document (of_no_kind no_words no_cosets no_build other) = absurd cc
+    never_of_document (dual of_kind wrong) = wrong
+    never_of_document (johnson of_kind wrong) = wrong
+    never_of_document (of_no_kind none other) = absurd cc
 
     never : BytesAnswer bytes (Err Memory) → ⊥
     never (long many other) = absurd cc

@@ -1,3 +1,4 @@
+mod DualEvidence
 pub mod DocumentAnswers
 pub mod Evidences
 mod Written

@@ -3,7 +3,7 @@ use Rattle.std.proofs.Common.{◌∙◌, ◌≤◌, Some, Ok, ◌≡◌, ℕ, Li
 use Rattle.toml.specs.Data.{table, members_depth}
 use Rattle.ct_fields.specs.Document.{table_of}
 use Rattle.ct_evidence.specs.declared.evidence.Evidence.{Evidence}
-use Rattle.ct_evidence.specs.declared.evidence.Evidence.TheVariants.{Words, Cosets, Build}
+use Rattle.ct_evidence.specs.declared.evidence.Evidence.TheVariants.{Words, Cosets, Build, Dual, JohnsonDual}
 use Rattle.ct_word_files.specs.WrittenWords.{words_table, cosets_table}
 use Rattle.ct_word_files.proofs.WordsAnswers.{words_answer-from}
 use Rattle.ct_word_files.proofs.CosetsAnswers.{cosets_answer-from}
@@ -11,15 +11,20 @@ use Rattle.ct_word_files.proofs.WrittenWords.{words_depth, cosets_depth, states_
 use Rattle.ct_build_files.specs.WrittenBuild.{build_table}
 use Rattle.ct_build_files.proofs.BuildAnswers.{build_answer-from}
 use Rattle.ct_build_files.proofs.WrittenBuild.{states_build, build_depth}
+use Rattle.ct_dual_files.specs.WrittenDuals.{dual_table, johnson_dual_table}
+use Rattle.ct_dual_files.proofs.WrittenDuals.{states_dual, states_johnson_dual, dual_depth, johnson_dual_depth}
 use Rattle.ct_files.specs.Evidence.{IsSound, evidence_of, read_without_limit}
 use Rattle.ct_files.specs.Inside.Written.{evidence_table, HasIds}
-use Rattle.ct_files.proofs.DocumentAnswers.{evidence_of-words, evidence_of-cosets, evidence_of-build}
+use Rattle.ct_files.proofs.DualEvidence.{dual_evidence-from, johnson_dual_evidence-from}
+use Rattle.ct_files.proofs.DocumentAnswers.{evidence_of-words, evidence_of-cosets, evidence_of-build, evidence_of-dual, evidence_of-johnson_dual}
 
 -- the table of an evidence is no deeper than a document may be
 pub evidence_depth : (e : Evidence) → members_depth (evidence_table e) ≤ 80
 evidence_depth (Words e words) = words_depth e words
 evidence_depth (Cosets e basis representatives) = cosets_depth e basis representatives
 evidence_depth (Build e step part other) = build_depth e step part other
+evidence_depth (Dual d) = dual_depth d
+evidence_depth (JohnsonDual d) = johnson_dual_depth d
 
 -- the table of an evidence reads as the evidence
 evidence_of-evidence_table : (e : Evidence) → IsSound e → HasIds e → evidence_of (table (evidence_table e)) ≡ Ok e
@@ -34,6 +39,13 @@ evidence_of-evidence_table (Cosets e basis representatives) (entry, plain, short
 evidence_of-evidence_table (Build e step part other) (fits, named) (id, ids) =
     let states = states_build e step part other fits named id ids in
     evidence_of-build (table (build_table e step part other)) states.of_kind ∙ build_answer-from (build_table e step part other) e step part other states
+evidence_of-evidence_table (Dual d) (form, plain) ids =
+    let states = states_dual d form plain in
+    evidence_of-dual (table (dual_table d)) states.fields.of_kind ∙ dual_evidence-from (dual_table d) (Ok (Dual d)) states
+evidence_of-evidence_table (JohnsonDual d) (form, some) ids =
+    let states = states_johnson_dual d form some in
+    evidence_of-johnson_dual (table (johnson_dual_table d)) states.fields.of_kind
+    ∙ johnson_dual_evidence-from (johnson_dual_table d) (Ok (JohnsonDual d)) states
 
 -- bytes that write the table of an evidence read as the evidence
 pub read-written : (e : Evidence) (bytes : List ℕ) → IsSound e → HasIds e → table_of bytes ≡ Some (table (evidence_table e)) → read_without_limit bytes ≡ Ok e

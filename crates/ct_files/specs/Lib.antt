@@ -1,3 +1,4 @@
 pub mod Evidence
+pub mod DualAnswer
 pub mod Examples
 pub mod Inside

@@ -3,9 +3,10 @@ ghost use Rattle.std.specs.Prelude.{◌≡◌, ◌↔◌, ℕ, ◌<◌, ◌≤�
 ghost use Rattle.toml.specs.Data.{Data};
 ghost use Rattle.ct_build.specs.declared.step.Step.{Step};
 ghost use Rattle.ct_codes.specs.declared.entry.Entry.{Entry};
+ghost use Rattle.ct_duals.specs.declared.dual.Dual.{Dual};
 ghost use Rattle.ct_fields.specs.declared.document.TheConstants.{MAX_DOCUMENT};
 ghost use Rattle.ct_evidence.specs.declared.evidence.Evidence.{Evidence};
-ghost use Rattle.ct_evidence.specs.declared.evidence.Evidence.TheVariants.{Words, Cosets, Build};
+ghost use Rattle.ct_evidence.specs.declared.evidence.Evidence.TheVariants as evidence;
 ghost use Rattle.ct_fields.specs.declared.fault.FileFault.{FileFault};
 ghost use Rattle.ct_fields.specs.declared.fault.FileFault.TheVariants.{Bytes, NotToml, Kind};
 ghost use Rattle.ct_files.specs.Evidence.{read_of};
@@ -14,20 +15,25 @@ ghost use Rattle.ct_word_files.specs.WordsDocument.{IsWordsAnswer, AcceptsWords}
 ghost use Rattle.ct_word_files.specs.CosetsDocument.{IsCosetsAnswer, AcceptsCosets};
 ghost use Rattle.ct_build_files.specs.BuildAnswer.{IsBuildAnswer};
 ghost use Rattle.ct_build_files.specs.BuildDocument.{AcceptsBuild};
+ghost use Rattle.ct_files.specs.DualAnswer.{IsDualEvidence, IsJohnsonDualEvidence, AcceptsDual, AcceptsJohnsonDual};
 
 /// Bytes are accepted as these words for this entry exactly where they are at most `MAX_DOCUMENT`, are UTF-8 and write
 /// by the grammar of TOML 1.1 a table of kind `words` that has n, d and, where there is one, w of the entry, each in its
 /// range, the texts of the words, each of length n, at `words`, and no other key, and where the words are 1 to
 /// `MAX_WORDS`; and so for cosets, whose table has the texts of the basis words and of the representatives, and for a
 /// build, whose table has the text of the step's operation, the fields of the step, which fits the entry, the id of the
-/// part and, exactly where the step needs another code, that of the other piece.
+/// part and, exactly where the step needs another code, that of the other piece. For a dual the table has its mark, its
+/// multipliers and its allowances, of which mark and allowances may be left out; for a jdual its weight and its multipliers.
 pub fn accepted_documents()
     ensures words { (bytes : List ℕ) (e : Entry) (words : List ℕ) →
-        (read_of bytes ≡ Ok (Words e words)) ↔ AcceptsWords bytes e words }
+        (read_of bytes ≡ Ok (evidence.Words e words)) ↔ AcceptsWords bytes e words }
     ensures cosets { (bytes : List ℕ) (e : Entry) (basis representatives : List ℕ) →
-        (read_of bytes ≡ Ok (Cosets e basis representatives)) ↔ AcceptsCosets bytes e basis representatives }
+        (read_of bytes ≡ Ok (evidence.Cosets e basis representatives)) ↔ AcceptsCosets bytes e basis representatives }
     ensures build { (bytes : List ℕ) (e : Entry) (step : Step) (part : List ℕ) (other : Option (List ℕ)) →
-        (read_of bytes ≡ Ok (Build e step part other)) ↔ AcceptsBuild bytes e step part other }
+        (read_of bytes ≡ Ok (evidence.Build e step part other)) ↔ AcceptsBuild bytes e step part other }
+    ensures dual { (bytes : List ℕ) (d : Dual) → (read_of bytes ≡ Ok (evidence.Dual d)) ↔ AcceptsDual bytes d }
+    ensures johnson_dual { (bytes : List ℕ) (d : Dual) →
+        (read_of bytes ≡ Ok (evidence.JohnsonDual d)) ↔ AcceptsJohnsonDual bytes d }
 {}
 
 /// Where bytes are refused that are too many, or that write no table.
@@ -39,14 +45,15 @@ pub fn bytes_without_table()
         ((length bytes ≤ MAX_DOCUMENT) × ((document : Data) → ¬ (IsDocument bytes document))) }
 {}
 
-/// Where the other answers come: `Kind` for a table of another kind than `words`, `cosets` and `build`, and for one of these
-/// kinds each answer exactly where `IsWordsAnswer`, `IsCosetsAnswer` or `IsBuildAnswer` says, which field or which other
-/// fault it may be.
+/// Where the other answers come: `Kind` for a table of another kind than `words`, `cosets`, `build`, `dual` and `jdual`, and
+/// for one of these kinds each answer exactly where `IsWordsAnswer`, `IsCosetsAnswer`, `IsBuildAnswer`, `IsDualEvidence` or
+/// `IsJohnsonDualEvidence` says, which field or which other fault it may be.
 pub fn answers_to_documents()
     ensures kind { (bytes : List ℕ) (document : Data) → IsDocument bytes document →
         (read_of bytes ≡ Err Kind)
         ↔ (¬ (IsOfKind (codes "words") document) × ¬ (IsOfKind (codes "cosets") document)
-        × ¬ (IsOfKind (codes "build") document)) }
+        × ¬ (IsOfKind (codes "build") document) × ¬ (IsOfKind (codes "dual") document)
+        × ¬ (IsOfKind (codes "jdual") document)) }
     ensures words { (bytes : List ℕ) (document : Data) (answer : Result Evidence FileFault) →
         IsDocument bytes document → IsOfKind (codes "words") document →
         (read_of bytes ≡ answer) ↔ IsWordsAnswer document answer }
@@ -56,4 +63,10 @@ pub fn answers_to_documents()
     ensures build { (bytes : List ℕ) (document : Data) (answer : Result Evidence FileFault) →
         IsDocument bytes document → IsOfKind (codes "build") document →
         (read_of bytes ≡ answer) ↔ IsBuildAnswer document answer }
+    ensures dual { (bytes : List ℕ) (document : Data) (answer : Result Evidence FileFault) →
+        IsDocument bytes document → IsOfKind (codes "dual") document →
+        (read_of bytes ≡ answer) ↔ IsDualEvidence document answer }
+    ensures johnson_dual { (bytes : List ℕ) (document : Data) (answer : Result Evidence FileFault) →
+        IsDocument bytes document → IsOfKind (codes "jdual") document →
+        (read_of bytes ≡ answer) ↔ IsJohnsonDualEvidence document answer }
 {}

@@ -5,6 +5,7 @@ ghost use Rattle.ct_fields.specs.Reads.{Reads};
 ghost use Rattle.ct_files.specs.Evidence.{IsSound, evidence_of, read_without_limit, read_of};
 
 use ct_build_files::build_evidence;
+use ct_dual_files::{dual_of, johnson_dual_of};
 use ct_evidence::Evidence;
 use ct_fields::{FileFault, MAX_DOCUMENT, is_of_kind, read_document};
 use ct_word_files::{cosets_evidence, words_evidence};
@@ -23,6 +24,14 @@ fn evidence(alloc: Global, document: &Value) -> Result<Evidence, FileFault>
     }
     if is_of_kind(document, "build") {
         return build_evidence(alloc, document);
+    }
+    if is_of_kind(document, "dual") {
+        let dual = dual_of(alloc, document)?;
+        return Ok(Evidence::Dual(dual));
+    }
+    if is_of_kind(document, "jdual") {
+        let dual = johnson_dual_of(alloc, document)?;
+        return Ok(Evidence::JohnsonDual(dual));
     }
     Err(FileFault::Kind)
 }
@@ -56,12 +65,16 @@ fn read(alloc: Global, bytes: &[u8]) -> Result<Evidence, FileFault>
 /// | `words` | `w`, which may be left out; `words`, a list of 1 to `ct_codes::MAX_WORDS` words |
 /// | `cosets` | `basis`, a list of at most `MAX_N` words; `representatives`, one of 1 to `ct_codes::MAX_REPRESENTATIVES` |
 /// | `build` | `w`, as the operation has it; `op`, the operation; the fields of the operation; `part`, an id; `other`, an id |
+/// | `dual` | `even`, a truth value, true only with an even d, false where it is left out; `c`, a list of 1 to n + 1 whole numbers of at least 0; `y`, a list of pairs `[i, v]`, empty where it is left out, i ascending from d to n, even ones alone where `even` is set, v at least 0 |
+/// | `jdual` | `w`, with an even d; `c`, a list of 1 to m + 1 whole numbers of at least 0, m the least of w and n - w |
 ///
 /// An operation is named for the `Step` that it is. `append_one`, `lengthen`, `parity` and `juxtapose` make words of at least
 /// 2 digits, `uuv` of an even number. `puncture`, `translate` and `uuv` take no weight, `select` takes one. `puncture` and
 /// `shorten` have `places`, a list of 1 or more places, distinct and ascending, of words with so many digits more, at most
 /// `MAX_N`; `shorten` has `digits`, a text of as many digits; `translate` and `select` have `by`, a word; `trim` has `size`,
 /// from 1 to `ct_build::MAX_BUILT`. `uuv` and `juxtapose` have `other`. Of a build by `select` d is even in any case.
+///
+/// Whole numbers are those of 64 signed bits. A `c` that is shorter than it may be stands for one with zeros at its end.
 ///
 /// For every other document the answer is its first fault, in the order of `FileFault`. `Memory` is want of memory.
 pub fn read_evidence(alloc: Global, bytes: &[u8]) -> Result<Evidence, FileFault>

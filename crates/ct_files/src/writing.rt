@@ -6,6 +6,7 @@ ghost use Rattle.ct_files.specs.Evidence.{IsSound, read_without_limit, read_of};
 ghost use Rattle.ct_files.specs.Inside.Written.{evidence_table, HasIds};
 
 use ct_build_files::build_table;
+use ct_dual_files::{dual_table, johnson_dual_table};
 use ct_evidence::Evidence;
 use ct_fields::table_bytes;
 use ct_word_files::{cosets_table, words_table};
@@ -30,6 +31,8 @@ fn evidence_table(alloc: Global, evidence: &Evidence) -> Result<Table, AllocErro
             part,
             other,
         } => build_table(alloc, *entry, step, *part, *other),
+        Evidence::Dual(dual) => dual_table(alloc, dual),
+        Evidence::JohnsonDual(dual) => johnson_dual_table(alloc, dual),
     }
 }
 

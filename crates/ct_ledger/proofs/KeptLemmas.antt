@@ -3,7 +3,7 @@ use Rattle.std.proofs.Common.{◌≡◌, ℕ, zero, suc, ◌<◌, List, [], ◌�
 use Rattle.std.specs.Option.{option_or}
 use Rattle.ct_codes.specs.Code.{CodeValue}
 use Rattle.ct_evidence.specs.declared.evidence.Evidence.{Evidence}
-use Rattle.ct_evidence.specs.declared.evidence.Evidence.TheVariants.{Words, Cosets, Build}
+use Rattle.ct_evidence.specs.declared.evidence.Evidence.TheVariants.{Words, Cosets, Build, Dual, JohnsonDual}
 use Rattle.ct_ledger.specs.Named.{NamedCode}
 use Rattle.ct_ledger.specs.Piece.{PieceValue}
 use Rattle.ct_ledger.specs.Codes.{code_over, named_code, codes_after, codes_of, code_of_place}
@@ -45,6 +45,8 @@ kept_at known (p ∷ ps) (suc k) d below =
 pub kept-or_listed : (known : List NamedCode) (evidence : Evidence) → option_or (kept_over known evidence) (listed_code evidence) ≡ code_over known evidence
 kept-or_listed known (Words e words) = refl
 kept-or_listed known (Cosets e basis representatives) = refl
+kept-or_listed known (Dual d) = refl
+kept-or_listed known (JohnsonDual d) = refl
 kept-or_listed known (Build e step part other) = same (code_over known (Build e step part other)) where
   same : (o : Option CodeValue) → option_or o None ≡ o
   same None = refl

@@ -1,3 +1,4 @@
 pub mod Words
 pub mod Cosets
 pub mod Build
+pub mod Dual

@@ -1,9 +1,9 @@
 -- What holds of evidence of every kind.
-use Rattle.std.proofs.Common.{◌≡◌, ℕ, true, List, None}
+use Rattle.std.proofs.Common.{◌≡◌, ℕ, true, List, None, codes}
 use Rattle.std.specs.Prelude.{IfSome}
 use Rattle.ct_codes.specs.Code.{IsCodeOf}
 use Rattle.ct_evidence.specs.declared.evidence.Evidence.{Evidence}
-use Rattle.ct_evidence.specs.declared.evidence.Evidence.TheVariants.{Words, Cosets, Build}
+use Rattle.ct_evidence.specs.declared.evidence.Evidence.TheVariants.{Words, Cosets, Build, Dual, JohnsonDual}
 use Rattle.ct_files.specs.Evidence.{IsSound}
 use Rattle.ct_ledger.specs.Named.{NamedCode, code_named, other_named}
 use Rattle.ct_ledger.specs.Kind.{kind_of, stated_entry, names, own_reason, words_over, IsChecked}
@@ -11,6 +11,7 @@ use Rattle.ct_ledger.proofs.Stating.{SaysSame}
 use Rattle.ct_ledger.proofs.KindLaws.Words.{words_accepted, words_same}
 use Rattle.ct_ledger.proofs.KindLaws.Cosets.{cosets_accepted, cosets_same}
 use Rattle.ct_ledger.proofs.KindLaws.Build.{build_accepted, build_same}
+use Rattle.ct_ledger.proofs.KindLaws.Dual.{dual_accepted, dual_same}
 
 -- evidence says the same over codes that are the same for the ids that it names
 pub kind_same : (evidence : Evidence) (left right : List NamedCode) → ((id : List ℕ) → names evidence id ≡ true → code_named id left ≡ code_named id right)
@@ -18,6 +19,8 @@ pub kind_same : (evidence : Evidence) (left right : List NamedCode) → ((id : L
 kind_same (Words e words) left right same = words_same e words left right
 kind_same (Cosets e basis representatives) left right same = cosets_same e basis representatives left right
 kind_same (Build e step part other) left right same = build_same e step part other left right same
+kind_same (Dual d) left right same = dual_same (codes "dual") d left right
+kind_same (JohnsonDual d) left right same = dual_same (codes "jdual") d left right
 
 -- evidence whose check is within the limit, and that is a code of its entry, has no reason of its own against it
 pub no_own_reason : (known : List NamedCode) (evidence : Evidence) → IsSound evidence → IsChecked known evidence
@@ -25,3 +28,5 @@ pub no_own_reason : (known : List NamedCode) (evidence : Evidence) → IsSound e
 no_own_reason known (Words e words) sound checked code = words_accepted known e words sound code
 no_own_reason known (Cosets e basis representatives) sound checked code = cosets_accepted known e basis representatives sound checked code
 no_own_reason known (Build e step part other) sound checked code = build_accepted e step part other (code_named part known) (other_named other known) checked
+no_own_reason known (Dual d) sound checked code = dual_accepted d checked
+no_own_reason known (JohnsonDual d) sound checked code = dual_accepted d checked

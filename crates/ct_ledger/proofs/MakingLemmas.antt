@@ -6,7 +6,7 @@ use Rattle.std.proofs.lemmas.List.Elements.{All-push, All-nil, All-cons, All-hea
 use Rattle.ct_codes.specs.Code.{IsCodeOf, IsSoundCode}
 use Rattle.ct_codes.proofs.CheckLemmas.{first_of-None}
 use Rattle.ct_evidence.specs.declared.evidence.Evidence.{Evidence}
-use Rattle.ct_evidence.specs.declared.evidence.Evidence.TheVariants.{Words, Cosets, Build}
+use Rattle.ct_evidence.specs.declared.evidence.Evidence.TheVariants.{Words, Cosets, Build, Dual, JohnsonDual}
 use Rattle.ct_fields.specs.declared.fault.FileFault.{FileFault}
 use Rattle.ct_files.specs.Evidence.{read_without_limit, IsSound}
 use Rattle.ct_files.proofs.Evidences.{read_without_limit-sound}
@@ -23,6 +23,7 @@ use Rattle.ct_ledger.proofs.Stating.{HasSoundCode, AreSound, option_map-none, St
 use Rattle.ct_ledger.proofs.KindLaws.Words.{words_state}
 use Rattle.ct_ledger.proofs.KindLaws.Cosets.{cosets_state}
 use Rattle.ct_ledger.proofs.KindLaws.Build.{build_states}
+use Rattle.ct_ledger.proofs.KindLaws.Dual.{dual_states, johnson_dual_states}
 
 -- where none is found, the test fails of each
 find-none_all : {X : Type 0} (test : X → Bool) (xs : List X) → find test xs ≡ None → All (λ (x : X). test x ≡ false) xs
@@ -69,6 +70,8 @@ pub own_states : (known : List NamedCode) (evidence : Evidence) → AreSound kno
 own_states known (Words e words) sound read own = words_state known e words read own
 own_states known (Cosets e basis representatives) sound read own = cosets_state known e basis representatives read own
 own_states known (Build e step part other) sound read own = build_states known e step part other sound read own
+own_states known (Dual d) sound read own = dual_states known d read own
+own_states known (JohnsonDual d) sound read own = johnson_dual_states known d read own
 
 pub states_code : (known : List NamedCode) (evidence : Evidence) → AreSound known → IsRight known evidence → StatesCode known evidence
 states_code known evidence sound h = own_states known evidence sound h.sound (right-own known evidence h)

@@ -1,7 +1,7 @@
 -- The pieces that a build names as its parts: their codes, and the shapes of these.
 use Rattle.std.proofs.Common.{◌≡◌, ℕ, ◌<◌, true, false, List, [], ◌∷◌, length, take, get_or, Option, Some, None, is_some, option_map, Result, Ok, Err, IfOk, refl, sym, ap, ap₂, subst, ◌∙◌, arith}
-use Rattle.std.specs.Prelude.{IsSome}
-use Rattle.std.proofs.lemmas.Option.{slice_get-get_or}
+use Rattle.std.specs.Prelude.{slice_get}
+use Rattle.std.proofs.lemmas.Option.{slice_get-get_or, slice_get_within}
 use Rattle.std.specs.Option.{option_to_list, option_or}
 use Rattle.std.proofs.lemmas.List.Elements.{All-nil}
 use Rattle.std.proofs.lemmas.List.Sorted.{length_permutation}
@@ -14,7 +14,7 @@ use Rattle.ct_build.specs.declared.step.Step.{Step}
 use Rattle.ct_build.specs.Build.{shape_of, built, early_fault}
 use Rattle.ct_build.proofs.BuildFaults.{fault_early}
 use Rattle.ct_evidence.specs.declared.evidence.Evidence.{Evidence}
-use Rattle.ct_evidence.specs.declared.evidence.Evidence.TheVariants.{Words, Cosets, Build}
+use Rattle.ct_evidence.specs.declared.evidence.Evidence.TheVariants.{Words, Cosets, Build, Dual, JohnsonDual}
 use Rattle.ct_ledger.specs.Ascending.{ascending}
 use Rattle.ct_ledger.specs.Named.{NamedCode, is_known, first_missing, code_named, other_named}
 use Rattle.ct_ledger.specs.Kind.{stated_entry, has_code, own_reason, words_over, size_over}
@@ -188,6 +188,8 @@ kept-none ps k kept p is below here at =
 own-listed : (evidence : Evidence) (known : List NamedCode) → is_kept evidence ≡ false → own_reason [] evidence ≡ own_reason known evidence
 own-listed (Words e words) known none = refl
 own-listed (Cosets e basis representatives) known none = refl
+own-listed (Dual d) known none = refl
+own-listed (JohnsonDual d) known none = refl
 own-listed (Build e step part other) known none = absurd cc
 
 -- nothing is against evidence of a piece that lists a code
@@ -197,22 +199,25 @@ listed-faultless ps k p at none = own-listed p.evidence (codes_of (take k ps)) n
 pub Some-piece : (p q : PieceValue) → ◌≡◌ {A = Option PieceValue} (Some p) (Some q) → p ≡ q
 Some-piece p q is = cc
 
--- each kind of today has a code
-all-coded : (evidence : Evidence) → has_code evidence ≡ true
-all-coded (Words e words) = refl
-all-coded (Cosets e basis representatives) = refl
-all-coded (Build e step part other) = refl
+-- a code is there exactly where its words are
+code-is_some : (e : Entry) (words : Option (List ℕ)) → is_some (option_map (code_at e) words) ≡ is_some words
+code-is_some e None = refl
+code-is_some e (Some words) = refl
 
-some-code : (e : Entry) (words : Option (List ℕ)) → is_some words ≡ true → IsSome (option_map (code_at e) words)
-some-code e None none = absurd cc
-some-code e (Some words) some = refl
+-- so a piece that stands has one exactly where its kind has
+pub placed-coded : (ps : List PieceValue) (k : ℕ) (p : PieceValue) → IsPlaced ps k p → is_some (code_of_place ps k) ≡ has_code p.evidence
+placed-coded ps k p at =
+    ap is_some at.code ∙ code-is_some (stated_entry p.evidence) (words_over (codes_of (take k ps)) p.evidence) ∙ at.states.coded
 
--- so each piece that stands has one
-pub piece-coded : (ps : List PieceValue) (k : ℕ) → AreMade [] ps → k < length ps → IsSome (code_of_place ps k)
-piece-coded [] k made below = absurd (omega arith)
-piece-coded (q ∷ qs) k made below =
-    let ps = q ∷ qs in
-    let p = get_or ps k q in
-    let read = slice_get-get_or ps k q below in
-    let at = placed ps k p made below (Some-piece p (get_or ps k p) (sym read ∙ slice_get-get_or ps k p below)) in
-    subst IsSome (sym at.code) (some-code (stated_entry p.evidence) (words_over (codes_of (take k ps)) p.evidence) (at.states.coded ∙ all-coded p.evidence))
+pub piece-coded : (ps : List PieceValue) (k : ℕ) (p : PieceValue) → AreMade [] ps → slice_get ps k ≡ Some p → is_some (code_of_place ps k) ≡ has_code p.evidence
+piece-coded ps k p made read =
+    let below = slice_get_within ps k p read in
+    placed-coded ps k p (placed ps k p made below (Some-piece p (get_or ps k p) (sym read ∙ slice_get-get_or ps k p below)))
+
+none-from : (o : Option CodeValue) → is_some o ≡ false → o ≡ None
+none-from None none = refl
+none-from (Some c) none = absurd cc
+
+-- and none where its kind has none
+pub without_code : (ps : List PieceValue) (k : ℕ) (p : PieceValue) → IsPlaced ps k p → has_code p.evidence ≡ false → code_of_place ps k ≡ None
+without_code ps k p at none = none-from (code_of_place ps k) (placed-coded ps k p at ∙ none)

@@ -12,7 +12,7 @@ use Rattle.ct_rule_parts.specs.declared.support.Support.TheVariants.{Size}
 use Rattle.ct_rules.specs.Derivation.{IsBest}
 use Rattle.ct_rules.proofs.GivenCodes.{support-derived}
 use Rattle.ct_evidence.specs.declared.evidence.Evidence.{Evidence}
-use Rattle.ct_evidence.specs.declared.evidence.Evidence.TheVariants.{Words, Cosets, Build}
+use Rattle.ct_evidence.specs.declared.evidence.Evidence.TheVariants.{Words, Cosets, Build, Dual, JohnsonDual}
 use Rattle.ct_ledger.specs.Ascending.{ascending}
 use Rattle.ct_ledger.specs.Kind.{kind_of, stated_entry, has_code, words_over}
 use Rattle.ct_ledger.specs.Piece.{PieceValue}
@@ -24,10 +24,12 @@ use Rattle.ct_ledger.proofs.SizeLemmas.{code-le}
 use Rattle.ct_ledger.proofs.PartLemmas.{IsPlaced, placed, Some-piece}
 
 -- what a piece of a kind that has a code gives, which has a size
-gives-size : (evidence : Evidence) (k : ℕ) → (kind_of evidence).gives (Some k) ≡ Size (stated_entry evidence) k
-gives-size (Words e words) k = refl
-gives-size (Cosets e basis representatives) k = refl
-gives-size (Build e step part other) k = refl
+gives-size : (evidence : Evidence) (k : ℕ) → has_code evidence ≡ true → (kind_of evidence).gives (Some k) ≡ Size (stated_entry evidence) k
+gives-size (Words e words) k coded = refl
+gives-size (Cosets e basis representatives) k coded = refl
+gives-size (Build e step part other) k coded = refl
+gives-size (Dual d) k coded = absurd cc
+gives-size (JohnsonDual d) k coded = absurd cc
 
 -- the size and the words of a code that was made of words
 record IsMadeOf (e : Entry) (words : Option (List ℕ)) (c : CodeValue) : Type 0 where
@@ -62,7 +64,7 @@ place-support ps k p c at is =
     let made = made-of e words c at.states.entry at.states.code (sym at.code ∙ is) in
     let coded : has_code p.evidence ≡ true = sym at.states.coded ∙ some-words words c made.size in
     let size : p.size ≡ Some (length c.words) = at.size ∙ at.states.size coded ∙ made.size in (
-      ap (kind_of p.evidence).gives size ∙ gives-size p.evidence (length c.words) ∙ ap (λ (f : Entry). Size f (length c.words)) made.entry,
+      ap (kind_of p.evidence).gives size ∙ gives-size p.evidence (length c.words) coded ∙ ap (λ (f : Entry). Size f (length c.words)) made.entry,
       made.most,
       subst IsEntry made.entry at.states.entry,
     )

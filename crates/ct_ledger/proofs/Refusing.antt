@@ -9,6 +9,9 @@ use Rattle.ct_codes.specs.declared.fault.CodeFault.{CodeFault}
 use Rattle.ct_codes.specs.Check.{code_fault}
 use Rattle.ct_codes.specs.Code.{CodeValue}
 use Rattle.ct_codes.specs.Coset.{coset_fault}
+use Rattle.ct_duals.specs.declared.fault.DualFault.{DualFault}
+use Rattle.ct_duals.specs.Check.{dual_fault}
+use Rattle.ct_delsarte.specs.Numbers.{numbers_of}
 use Rattle.ct_build.specs.declared.fault.BuildFault.{BuildFault}
 use Rattle.ct_build.specs.declared.fault.BuildFault.TheVariants as build
 use Rattle.ct_build.specs.declared.step.Step.{Step}
@@ -30,7 +33,7 @@ use Rattle.ct_ledger.specs.Submission.{piece_of, made_unless, piece_from, stored
 use Rattle.ct_ledger.specs.Refusals.{HasRoom, IsRead, IsFirstMissing, IsOwnReason, IsRefused, IsFirstUser, IsNotWithdrawn}
 use Rattle.ct_ledger.specs.declared.limits.TheConstants.{MAX_PIECES, MAX_STORED}
 use Rattle.ct_ledger.specs.declared.fault.SubmitFault.{SubmitFault}
-use Rattle.ct_ledger.specs.declared.fault.SubmitFault.TheVariants.{Taken, FullPieces, File, NoSuch, WrongPart, Code, Build, FullWords, Memory}
+use Rattle.ct_ledger.specs.declared.fault.SubmitFault.TheVariants.{Taken, FullPieces, File, NoSuch, WrongPart, Code, Build, Dual, FullWords, Memory}
 use Rattle.ct_ledger.proofs.CodeLemmas.{known_where_taken}
 use Rattle.ct_ledger.proofs.StandingLemmas.{has_id-none}
 use Rattle.ct_ledger.proofs.Accepting.{not_taken, taken, parts_stand, parts_known, stand-known, known-stand}
@@ -131,11 +134,16 @@ abbrev IsOwn : SubmitFault → Type 0
 IsOwn (WrongPart part) = Unit {0}
 IsOwn (Code reason) = Unit {0}
 IsOwn (Build reason) = Unit {0}
+IsOwn (Dual reason) = Unit {0}
 IsOwn reason = ⊥
 
 code-own : (o : Option CodeFault) (reason : SubmitFault) → option_map Code o ≡ Some reason → IsOwn reason
 code-own None reason h = absurd cc
 code-own (Some f) reason h = let same : Code f ≡ reason = cc in subst IsOwn same tt
+
+dual-own : (o : Option DualFault) (reason : SubmitFault) → option_map Dual o ≡ Some reason → IsOwn reason
+dual-own None reason h = absurd cc
+dual-own (Some f) reason h = let same : Dual f ≡ reason = cc in subst IsOwn same tt
 
 refusal-own : (part : List ℕ) (other : Option (List ℕ)) (f : BuildFault) → IsOwn (build_refusal part other f)
 refusal-own part other (build.WrongPart zero) = tt
@@ -159,12 +167,15 @@ reason-own : (known : List NamedCode) (evidence : Evidence) (reason : SubmitFaul
 reason-own known (Words e words) reason h = code-own (code_fault e words) reason h
 reason-own known (Cosets e basis representatives) reason h = code-own (coset_fault e basis representatives) reason h
 reason-own known (evidence.Build e step part other) reason h = step-own e step part other (code_named part known) (other_named other known) reason h
+reason-own known (evidence.Dual d) reason h = dual-own (dual_fault (numbers_of d.entry) d) reason h
+reason-own known (evidence.JohnsonDual d) reason h = dual-own (dual_fault (numbers_of d.entry) d) reason h
 
 -- a kind's own reason refuses
 own-refused : (pieces : List PieceValue) (id document : List ℕ) (reason : SubmitFault) → IsOwn reason → IsOwnReason pieces id document reason → IsRefused pieces id document reason
 own-refused pieces id document (WrongPart part) own h = h
 own-refused pieces id document (Code reason) own h = h
 own-refused pieces id document (Build reason) own h = h
+own-refused pieces id document (Dual reason) own h = h
 own-refused pieces id document Taken own h = absurd own
 own-refused pieces id document (FullPieces count) own h = absurd own
 own-refused pieces id document (File reason) own h = absurd own
@@ -243,6 +254,7 @@ refuses pieces id document (NoSuch part) h =
 refuses pieces id document (WrongPart part) h = own-refuses pieces id document (WrongPart part) h
 refuses pieces id document (Code reason) h = own-refuses pieces id document (Code reason) h
 refuses pieces id document (Build reason) h = own-refuses pieces id document (Build reason) h
+refuses pieces id document (Dual reason) h = own-refuses pieces id document (Dual reason) h
 refuses pieces id document (FullWords total) h =
     let none = parts_known pieces (parts_of h.evidence) h.parts in
     let p = piece_of (codes_of pieces) id document h.evidence in

@@ -1,15 +1,16 @@
 -- Evidence by its kind, and what each kind says of it.
-use Rattle.std.specs.Prelude.{ℕ, Bool, List, Option}
+use Rattle.std.specs.Prelude.{ℕ, Bool, List, Option, codes}
 use Rattle.std.specs.List.{list_any}
 use Rattle.std.specs.Str.{bytes_eq}
 use Rattle.ct_codes.specs.declared.entry.Entry.{Entry}
 use Rattle.ct_evidence.specs.declared.evidence.Evidence.{Evidence}
-use Rattle.ct_evidence.specs.declared.evidence.Evidence.TheVariants.{Words, Cosets, Build}
+use Rattle.ct_evidence.specs.declared.evidence.Evidence.TheVariants.{Words, Cosets, Build, Dual, JohnsonDual}
 use Rattle.ct_ledger.specs.Named.{NamedCode, code_named, other_named}
 use Rattle.ct_ledger.specs.KindParts.{KindParts}
 use Rattle.ct_ledger.specs.Kinds.Words.{words_kind}
 use Rattle.ct_ledger.specs.Kinds.Cosets.{cosets_kind, IsCosetsChecked}
 use Rattle.ct_ledger.specs.Kinds.Build.{build_kind, IsBuildChecked}
+use Rattle.ct_ledger.specs.Kinds.Dual.{dual_kind, IsDualChecked}
 use Rattle.ct_ledger.specs.declared.fault.SubmitFault.{SubmitFault}
 
 -- what evidence comes to by its kind
@@ -17,6 +18,8 @@ abbrev pub kind_of : Evidence → KindParts
 kind_of (Words e words) = words_kind e words
 kind_of (Cosets e basis representatives) = cosets_kind e basis representatives
 kind_of (Build e step part other) = build_kind e step part other
+kind_of (Dual d) = dual_kind (codes "dual") d
+kind_of (JohnsonDual d) = dual_kind (codes "jdual") d
 
 -- the entry that evidence is about
 abbrev pub stated_entry : Evidence → Entry
@@ -47,8 +50,10 @@ abbrev pub size_over : List NamedCode → Evidence → Option ℕ
 size_over known evidence = (kind_of evidence).size known
 
 -- what more is asked of evidence that is accepted than that its words are a code: for cosets that the work of the check is within the limit, for a
--- build that its step finds nothing against the codes of its parts
+-- build that its step finds nothing against the codes of its parts, and for a dual, which has no code, that it is one
 abbrev pub IsChecked : List NamedCode → Evidence → Type 0
 IsChecked known (Words e words) = Unit {0}
 IsChecked known (Cosets e basis representatives) = IsCosetsChecked basis representatives
 IsChecked known (Build e step part other) = IsBuildChecked e step (code_named part known) (other_named other known)
+IsChecked known (Dual d) = IsDualChecked d
+IsChecked known (JohnsonDual d) = IsDualChecked d

@@ -2,3 +2,4 @@
 pub mod Words
 pub mod Cosets
 pub mod Build
+pub mod Dual

@@ -1,11 +1,14 @@
 -- The texts of refusals and of the lines of a ledger.
-use Rattle.std.specs.Prelude.{ℕ, List, [], ◌++◌, Option, Some, None, codes}
+use Rattle.std.specs.Prelude.{ℕ, ℤ, List, [], ◌∷◌, ◌++◌, Option, Some, None, codes}
+use Rattle.std.specs.Fmt.{signed_decimal}
 use Rattle.ct_text.specs.Number.{spaced}
 use Rattle.ct_text.specs.EntryText.{entry_words}
 use Rattle.ct_codes.specs.declared.fault.CodeFault.{CodeFault}
 use Rattle.ct_codes.specs.declared.fault.CodeFault.TheVariants as code
 use Rattle.ct_build.specs.declared.fault.BuildFault.{BuildFault}
 use Rattle.ct_build.specs.declared.fault.BuildFault.TheVariants as build
+use Rattle.ct_duals.specs.declared.fault.DualFault.{DualFault}
+use Rattle.ct_duals.specs.declared.fault.DualFault.TheVariants as dual
 use Rattle.ct_fields.specs.Field.{field_text}
 use Rattle.ct_fields.specs.declared.fault.FileFault.{FileFault}
 use Rattle.ct_fields.specs.declared.fault.FileFault.TheVariants as file
@@ -45,6 +48,15 @@ build_fault_text (build.Few have want) = codes "few" ++ spaced have ++ spaced wa
 build_fault_text build.Empty = codes "empty"
 build_fault_text build.Memory = []
 
+-- a space (32) and a whole number
+abbrev pub spaced_integer : ℤ → List ℕ
+spaced_integer z = 32 ∷ signed_decimal z
+
+-- why a dual is not accepted: the index, f there, and what is allowed there
+abbrev pub dual_fault_text : DualFault → List ℕ
+dual_fault_text dual.Lead = codes "lead"
+dual_fault_text (dual.Above at value limit) = codes "above" ++ spaced at ++ spaced_integer value ++ spaced_integer limit
+
 -- why a submission makes no piece; want of memory has no text
 abbrev pub submit_fault_text : SubmitFault → List ℕ
 submit_fault_text submit.Taken = codes "taken"
@@ -54,6 +66,7 @@ submit_fault_text (submit.NoSuch part) = codes "nosuch " ++ part
 submit_fault_text (submit.WrongPart part) = codes "part " ++ part
 submit_fault_text (submit.Code reason) = code_fault_text reason
 submit_fault_text (submit.Build reason) = build_fault_text reason
+submit_fault_text (submit.Dual reason) = dual_fault_text reason
 submit_fault_text (submit.FullWords total) = codes "full words" ++ spaced total
 submit_fault_text submit.Memory = []
 

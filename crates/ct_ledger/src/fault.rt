@@ -4,6 +4,7 @@ ghost use Rattle.std.specs.Prelude.{◌≡◌};
 
 use ct_build::BuildFault;
 use ct_codes::CodeFault;
+use ct_duals::DualFault;
 use ct_files::FileFault;
 use ct_text::Id;
 use std::alloc::{AllocError, AllocFailed};
@@ -26,6 +27,8 @@ pub enum SubmitFault {
     Code(CodeFault),
     /// The step makes no code of the entry. The fault is never a wrong part nor want of memory.
     Build(BuildFault),
+    /// The dual is not accepted.
+    Dual(DualFault),
     /// With the piece so many words would be stored, which is more than `MAX_STORED`.
     FullWords(u64),
     /// Memory ran out.

@@ -11,6 +11,7 @@ ghost use Rattle.ct_ledger.specs.Inside.Kept.{is_kept, kept_over, listed_code, k
 
 mod build;
 mod cosets;
+mod dual;
 mod words;
 
 use crate::fault::SubmitFault;
@@ -53,6 +54,8 @@ pub(crate) fn kind_of(evidence: &Evidence) -> Kind
             representatives,
         } => cosets::kind(*entry, basis.as_slice(), representatives.as_slice()),
         Evidence::Build { entry, .. } => build::kind(*entry),
+        Evidence::Dual(dual) => dual::kind(b"dual", dual),
+        Evidence::JohnsonDual(dual) => dual::kind(b"jdual", dual),
     }
 }
 
@@ -61,7 +64,10 @@ pub(crate) fn names(evidence: &Evidence, id: Id) -> bool
     ensures { result ≡ names evidence.now id }
 {
     match evidence {
-        Evidence::Words { .. } | Evidence::Cosets { .. } => false,
+        Evidence::Words { .. }
+        | Evidence::Cosets { .. }
+        | Evidence::Dual(_)
+        | Evidence::JohnsonDual(_) => false,
         Evidence::Build { part, other, .. } => build::names(*part, *other, id),
     }
 }
@@ -74,6 +80,7 @@ pub(crate) fn gives(evidence: &Evidence, size: Option<u32>) -> Support
         Evidence::Words { entry, .. }
         | Evidence::Cosets { entry, .. }
         | Evidence::Build { entry, .. } => support_from(*entry, size),
+        Evidence::Dual(_) | Evidence::JohnsonDual(_) => Support::Nothing,
     }
 }
 
@@ -135,6 +142,8 @@ pub(crate) fn check(
                 kept: Some(code),
             })
         }
+        Evidence::Dual(dual) => dual::check(dual),
+        Evidence::JohnsonDual(dual) => dual::check(dual),
     }
 }
 
@@ -164,6 +173,6 @@ pub(crate) fn listed_code(alloc: Global, evidence: &Evidence) -> Result<Option<C
             let code = cosets::code(alloc, *entry, basis.as_slice(), representatives.as_slice())?;
             Ok(Some(code))
         }
-        Evidence::Build { .. } => Ok(None),
+        Evidence::Build { .. } | Evidence::Dual(_) | Evidence::JohnsonDual(_) => Ok(None),
     }
 }

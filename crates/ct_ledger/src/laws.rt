@@ -1,18 +1,19 @@
 //! Facts about every submission.
 
-ghost use Rattle.std.specs.Prelude.{◌≡◌, ◌↔◌, ℕ, ◌+◌, ◌<◌, ◌≤◌, List, length, Option, Ok, Err, Some, All, Contains, IfSome, IsSome, IsTrue, map};
+ghost use Rattle.std.specs.Prelude.{◌≡◌, ◌↔◌, ℕ, ◌+◌, ◌<◌, ◌≤◌, List, length, Option, Ok, Err, Some, All, Contains, IfSome, IsSome, IsTrue, map, slice_get};
 ghost use Rattle.std.specs.List.Sorted.{IsPermutation, IsSorted};
 ghost use Rattle.std.specs.Ordering.{nat_cmp};
 ghost use Rattle.ct_codes.specs.declared.entry.Entry.{Entry};
 ghost use Rattle.ct_build.specs.declared.step.Step.{Step};
-ghost use Rattle.ct_evidence.specs.declared.evidence.Evidence.TheVariants.{Words, Cosets, Build};
+ghost use Rattle.ct_duals.specs.declared.dual.Dual.{Dual};
+ghost use Rattle.ct_evidence.specs.declared.evidence.Evidence.TheVariants as evidence;
 ghost use Rattle.ct_codes.specs.Code.{CodeValue, IsSoundCode};
 ghost use Rattle.ct_codes.specs.declared.claim.Side.TheVariants.{Lower};
 ghost use Rattle.ct_fields.specs.declared.document.TheConstants.{MAX_DOCUMENT};
 ghost use Rattle.ct_ledger.specs.Codes.{codes_of, code_of_place};
 ghost use Rattle.ct_ledger.specs.Piece.{PieceValue, has_id};
 ghost use Rattle.ct_ledger.specs.Ascending.{ascending};
-ghost use Rattle.ct_ledger.specs.Kind.{kind_of};
+ghost use Rattle.ct_ledger.specs.Kind.{kind_of, has_code};
 ghost use Rattle.ct_ledger.specs.KindParts.{stored_for};
 ghost use Rattle.ct_ledger.specs.Refusals.{IsRefused, IsNotWithdrawn};
 ghost use Rattle.ct_ledger.specs.Withdrawal.{withdrawn};
@@ -26,8 +27,8 @@ ghost use Rattle.ct_rule_parts.specs.Support.{AllStand};
 ghost use Rattle.ct_rules.specs.Derivation.{IsBest};
 
 /// A submission over pieces that stand makes a piece exactly where its id is free, there is room, each part that its
-/// document names stands and is right, the document states a code of its entry, whose check is within the limit, and the
-/// words of the piece may be stored beside the others.
+/// document names stands and is right, the document states a code of its entry, whose check is within the limit, or a dual
+/// whose f is nowhere above what is allowed, and the words of the piece may be stored beside the others.
 pub fn submissions_that_are_accepted()
     ensures accepted { (pieces : List PieceValue) (id document : List ℕ) (p : PieceValue) → AreStanding pieces
         → (submitted pieces id document ≡ Ok p) ↔ IsAccepted pieces id document p }
@@ -39,7 +40,7 @@ pub fn submissions_that_are_accepted()
 
 /// Why a submission is refused: each reason comes exactly where it is the first, in the order in which `SubmitFault` names them. Its id
 /// stands; so many pieces do that there is no room; the document has a fault of its own; it names a part that does not stand; a part,
-/// the words or the step is refused by the kind's own check; the words would be too many.
+/// the words, the step or the dual is refused by the kind's own check; the words would be too many.
 pub fn refusals_in_order()
     ensures { (pieces : List PieceValue) (id document : List ℕ) (reason : SubmitFault)
         → (submitted pieces id document ≡ Err reason) ↔ IsRefused pieces id document reason }
@@ -52,14 +53,16 @@ pub fn withdrawals_that_are_refused()
 {}
 
 /// The words that a piece stores, by its kind: those of its document, a basis and representatives among them, and of a build those of
-/// its code. A ledger has at most 1,000 pieces, and they store at most 1,000,000 words.
+/// its code. A dual stores none. A ledger has at most 1,000 pieces, and they store at most 1,000,000 words.
 pub fn stored_words_by_kind()
     ensures words { (e : Entry) (words : List ℕ) (size : Option ℕ)
-        → stored_for (kind_of (Words e words)) size ≡ length words }
+        → stored_for (kind_of (evidence.Words e words)) size ≡ length words }
     ensures cosets { (e : Entry) (basis representatives : List ℕ) (size : Option ℕ)
-        → stored_for (kind_of (Cosets e basis representatives)) size ≡ length basis + length representatives }
+        → stored_for (kind_of (evidence.Cosets e basis representatives)) size ≡ length basis + length representatives }
     ensures build { (e : Entry) (step : Step) (part : List ℕ) (other : Option (List ℕ)) (size : ℕ)
-        → stored_for (kind_of (Build e step part other)) (Some size) ≡ size }
+        → stored_for (kind_of (evidence.Build e step part other)) (Some size) ≡ size }
+    ensures dual { (d : Dual) (size : Option ℕ) → stored_for (kind_of (evidence.Dual d)) size ≡ 0 }
+    ensures johnson_dual { (d : Dual) (size : Option ℕ) → stored_for (kind_of (evidence.JohnsonDual d)) size ≡ 0 }
     ensures pieces { MAX_PIECES ≡ 1000 }
     ensures limit { MAX_STORED ≡ 1000000 }
 {}
@@ -70,12 +73,13 @@ pub fn ascending_numbers()
     ensures order { (xs : List ℕ) → IsSorted nat_cmp (ascending xs) }
 {}
 
-/// The codes of pieces that stand are codes, each of its piece's id, and in the order of the pieces. Each kind of today has one.
+/// The codes of pieces that stand are codes, each of its piece's id, and in the order of the pieces. A piece has one exactly where its
+/// kind has.
 pub fn pieces_have_codes()
     ensures codes { (pieces : List PieceValue) → AreStanding pieces → All (λ k. IfSome k.code IsSoundCode) (codes_of pieces) }
     ensures ids { (pieces : List PieceValue) → map (λ k. k.id) (codes_of pieces) ≡ map (λ p. p.id) pieces }
-    ensures each { (pieces : List PieceValue) (place : ℕ) → AreStanding pieces → place < length pieces
-        → IsSome (code_of_place pieces place) }
+    ensures each { (pieces : List PieceValue) (place : ℕ) (p : PieceValue) → AreStanding pieces → slice_get pieces place ≡ Some p
+        → (IsSome (code_of_place pieces place) ↔ IsTrue (has_code p.evidence)) }
 {}
 
 /// What pieces that stand give to the table stands: each size is that of a code of its entry, from 1 to `MAX_BOUND`.

@@ -3,6 +3,7 @@
 #![tactic(auto)]
 
 mod check;
+mod codes;
 mod dump;
 mod fault;
 mod kept;

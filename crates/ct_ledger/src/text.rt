@@ -2,13 +2,14 @@
 
 ghost use Rattle.std.specs.Prelude.{◌≡◌, ◌++◌, OnOk, IfOk};
 ghost use Rattle.ct_text.specs.Number.{spaced};
-ghost use Rattle.ct_ledger.specs.Text.{code_fault_text, file_fault_text, build_fault_text, submit_fault_text, withdraw_fault_text, size_text, piece_text};
+ghost use Rattle.ct_ledger.specs.Text.{code_fault_text, file_fault_text, build_fault_text, spaced_integer, dual_fault_text, submit_fault_text, withdraw_fault_text, size_text, piece_text};
 
 use crate::fault::{SubmitFault, WithdrawFault};
 use crate::kinds::kind_of;
 use crate::piece::Piece;
 use ct_build::BuildFault;
 use ct_codes::CodeFault;
+use ct_duals::DualFault;
 use ct_files::FileFault;
 use ct_text::{Id, put_entry_words, put_spaced};
 use std::alloc::{AllocError, Global};
@@ -89,6 +90,29 @@ fn put_build_fault(alloc: Global, text: &mut Vec<u8>, fault: BuildFault) -> Resu
     }
 }
 
+/// Puts a space and a whole number at the end of the text.
+fn put_spaced_integer(alloc: Global, text: &mut Vec<u8>, number: i128) -> Result<(), AllocError>
+    ensures { OnOk result (text.new.items ≡ text.old.items ++ spaced_integer number) }
+{
+    text.push(b' ')?;
+    let digits = number.to_string(alloc)?;
+    text.extend_from_slice(digits.as_bytes())
+}
+
+/// Puts at the end of the text why a dual is not accepted.
+fn put_dual_fault(alloc: Global, text: &mut Vec<u8>, fault: DualFault) -> Result<(), AllocError>
+    ensures { OnOk result (text.new.items ≡ text.old.items ++ dual_fault_text fault) }
+{
+    match fault {
+        DualFault::Lead => text.extend_from_slice(b"lead"),
+        DualFault::Above { at, value, allowed } => {
+            put_numbered(alloc, text, b"above", u64::from(at))?;
+            put_spaced_integer(alloc, text, value)?;
+            put_spaced_integer(alloc, text, allowed)
+        }
+    }
+}
+
 /// Puts the name of a fault and an id at the end of the text.
 fn put_named(text: &mut Vec<u8>, name: &[u8], id: Id) -> Result<(), AllocError>
     ensures { OnOk result (text.new.items ≡ text.old.items ++ (name.now ++ id)) }
@@ -109,6 +133,7 @@ fn put_submit_fault(alloc: Global, text: &mut Vec<u8>, fault: SubmitFault) -> Re
         SubmitFault::WrongPart(part) => put_named(text, b"part ", part),
         SubmitFault::Code(reason) => put_code_fault(alloc, text, reason),
         SubmitFault::Build(reason) => put_build_fault(alloc, text, reason),
+        SubmitFault::Dual(reason) => put_dual_fault(alloc, text, reason),
         SubmitFault::FullWords(total) => put_numbered(alloc, text, b"full words", total),
         SubmitFault::Memory => Ok(()),
     }

@@ -1,7 +1,7 @@
 //! The codes of pieces, as a ledger makes them, and how many words it stores.
 
 use crate::tally::Tally;
-use ct_ledger::{Ledger, pieces_have_codes};
+use ct_ledger::Ledger;
 use ct_text::Id;
 use std::alloc::{AllocError, Global};
 use std::io;
@@ -64,8 +64,9 @@ fn is_as_known(
     if !is_accepted || count == 0 {
         return Ok(false);
     }
-    // Each kind has a code.
-    pieces_have_codes();
+    if !ledger.has_code(count - 1) {
+        return Ok(false);
+    }
     let code = ledger.code(alloc, count - 1)?;
     let entry = (code.n(), code.d(), code.w());
     Ok(ledger.stored() == stored && entry == known.entry && code.words() == known.words)

@@ -6,12 +6,15 @@ use Rattle.ct_evidence.specs.declared.evidence.Evidence.{Evidence}
 use Rattle.ct_evidence.specs.declared.evidence.Evidence.TheVariants as evidence
 use Rattle.ct_word_files.specs.WrittenWords.{words_table, cosets_table}
 use Rattle.ct_build_files.specs.WrittenBuild.{build_table}
+use Rattle.ct_dual_files.specs.WrittenDuals.{dual_table, johnson_dual_table}
 
 -- the table of an evidence
 abbrev pub evidence_table : Evidence → Members
 evidence_table (evidence.Words e words) = words_table e words
 evidence_table (evidence.Cosets e basis representatives) = cosets_table e basis representatives
 evidence_table (evidence.Build e step part other) = build_table e step part other
+evidence_table (evidence.Dual d) = dual_table d
+evidence_table (evidence.JohnsonDual d) = johnson_dual_table d
 
 -- the names of pieces in an evidence are ids
 abbrev pub HasIds : Evidence → Type 0

@@ -1,4 +1,4 @@
-use Rattle.std.proofs.Common.{[]}
+use Rattle.std.proofs.Common.{[], ◌∙◌, sym}
 use Rattle.std.proofs.lemmas.List.Elements.{All-nil}
 use Rattle.ct_ledger.proofs.CodeLemmas.{ids_of_codes}
 use Rattle.ct_ledger.proofs.MakingLemmas.{codes_after-sound}
@@ -13,4 +13,4 @@ pub returns-clause-ids : goal.returns-clause-ids
 returns-clause-ids c = ids_of_codes []
 
 pub returns-clause-each : goal.returns-clause-each
-returns-clause-each c = λ pieces place h below. piece-coded pieces place h.made below
+returns-clause-each c = λ pieces place p h at. let same = piece-coded pieces place p h.made at in (λ some. sym same ∙ some, λ coded. same ∙ coded)

@@ -1,9 +1,17 @@
-use Rattle.std.proofs.Common.{rules, ◌≡◌, ℕ, true, Some, subst, sym, ap, ◌∙◌}
+use Rattle.std.proofs.Common.{rules, ◌≡◌, ℕ, true, false, option_map, Some, subst, sym, ap, ◌∙◌}
 use Rattle.ct_codes.specs.declared.entry.Entry.{Entry}
 use Rattle.ct_codes.specs.Entry.{IsEntry}
+use Rattle.ct_build.specs.Build.{shape_of}
 use Rattle.ct_ledger.specs.Kind.{has_code}
-use Rattle.ct_ledger.proofs.PartLemmas.{placed, shape-coded, sized-coded}
+use Rattle.ct_ledger.proofs.PartLemmas.{placed, shape-coded, sized-coded, without_code}
 use Rattle.ct_ledger.proofs.kinds.build.shape_at.Goals as goal
+
+pub returns-then-not-kind_of-clause-shape : goal.returns-then-not-kind_of-clause-shape
+returns-then-not-kind_of-clause-shape c =
+    let p = c.index-pieces-place.result in
+    let at = placed c.args.pieces.now c.args.place p c.requires.made c.requires.place c.index-pieces-place.is in
+    let none : has_code p.evidence ≡ false = search rules in
+    sym (ap (option_map shape_of) (without_code c.args.pieces.now c.args.place p at none))
 
 pub returns-in_err-size-clause-shape : goal.returns-in_err-size-clause-shape
 returns-in_err-size-clause-shape c =

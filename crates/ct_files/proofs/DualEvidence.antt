@@ -1,0 +1,51 @@
+-- Where each answer comes for a document of kind dual or jdual.
+use Rattle.std.proofs.Common.{◌≡◌, List, codes, Result, Ok, Err, refl, subst}
+use Rattle.std.specs.Prelude.{◌↔◌}
+use Rattle.toml.specs.Data.{Data, table, Members}
+use Rattle.ct_fields.specs.Steps.{◌>>=◌}
+use Rattle.ct_fields.specs.Tables.{IsOfKind}
+use Rattle.ct_fields.specs.declared.fault.FileFault.{FileFault}
+use Rattle.ct_fields.proofs.StepLemmas.{bind-at, bind-at_err, bind-cases}
+use Rattle.ct_duals.specs.declared.dual.Dual.{Dual}
+use Rattle.ct_dual_files.specs.Dual.{dual_of, johnson_dual_of}
+use Rattle.ct_dual_files.proofs.DualAnswers.{dual_answers, dual_answer-from}
+use Rattle.ct_dual_files.proofs.JohnsonDualAnswers.{johnson_dual_answers, johnson_dual_answer-from}
+use Rattle.ct_evidence.specs.declared.evidence.Evidence.{Evidence}
+use Rattle.ct_evidence.specs.declared.evidence.Evidence.TheVariants as evidence
+use Rattle.ct_files.specs.Evidence.{dual_evidence_of, johnson_dual_evidence_of}
+use Rattle.ct_files.specs.DualAnswer.{IsDualEvidence, IsJohnsonDualEvidence}
+
+-- the answer to a document of kind dual comes where it is said to come
+pub dual_evidence : (ms : Members) → IsOfKind (codes "dual") (table ms) → IsDualEvidence (table ms) (dual_evidence_of (table ms))
+dual_evidence ms of_kind =
+    bind-cases (IsDualEvidence (table ms)) (dual_of (table ms)) (λ d. Ok (evidence.Dual d)) (λ d is. (dual_answers ms of_kind (Ok d)).0 is)
+    (λ fault is. (dual_answers ms of_kind (Err fault)).0 is)
+
+pub dual_evidence-from : (ms : Members) (answer : Result Evidence FileFault) → IsDualEvidence (table ms) answer → dual_evidence_of (table ms) ≡ answer
+dual_evidence-from ms (Ok (evidence.Dual d)) states = bind-at (dual_of (table ms)) (λ d. Ok (evidence.Dual d)) d (dual_answer-from ms (Ok d) states)
+dual_evidence-from ms (Ok other) never = absurd never
+dual_evidence-from ms (Err fault) wrong = bind-at_err (dual_of (table ms)) (λ d. Ok (evidence.Dual d)) fault (dual_answer-from ms (Err fault) wrong)
+
+pub dual_evidences : (ms : Members) → IsOfKind (codes "dual") (table ms) → (answer : Result Evidence FileFault)
+    → (dual_evidence_of (table ms) ≡ answer) ↔ IsDualEvidence (table ms) answer
+dual_evidences ms of_kind answer = (λ same. subst (IsDualEvidence (table ms)) same (dual_evidence ms of_kind), dual_evidence-from ms answer)
+
+-- and so does the answer to a document of kind jdual
+pub johnson_dual_evidence : (ms : Members) → IsOfKind (codes "jdual") (table ms) → IsJohnsonDualEvidence (table ms) (johnson_dual_evidence_of (table ms))
+johnson_dual_evidence ms of_kind =
+    bind-cases (IsJohnsonDualEvidence (table ms)) (johnson_dual_of (table ms)) (λ d. Ok (evidence.JohnsonDual d))
+    (λ d is. (johnson_dual_answers ms of_kind (Ok d)).0 is)
+    (λ fault is. (johnson_dual_answers ms of_kind (Err fault)).0 is)
+
+pub johnson_dual_evidence-from : (ms : Members) (answer : Result Evidence FileFault) → IsJohnsonDualEvidence (table ms) answer
+    → johnson_dual_evidence_of (table ms) ≡ answer
+johnson_dual_evidence-from ms (Ok (evidence.JohnsonDual d)) states =
+    bind-at (johnson_dual_of (table ms)) (λ d. Ok (evidence.JohnsonDual d)) d (johnson_dual_answer-from ms (Ok d) states)
+johnson_dual_evidence-from ms (Ok other) never = absurd never
+johnson_dual_evidence-from ms (Err fault) wrong =
+    bind-at_err (johnson_dual_of (table ms)) (λ d. Ok (evidence.JohnsonDual d)) fault (johnson_dual_answer-from ms (Err fault) wrong)
+
+pub johnson_dual_evidences : (ms : Members) → IsOfKind (codes "jdual") (table ms) → (answer : Result Evidence FileFault)
+    → (johnson_dual_evidence_of (table ms) ≡ answer) ↔ IsJohnsonDualEvidence (table ms) answer
+johnson_dual_evidences ms of_kind answer =
+    (λ same. subst (IsJohnsonDualEvidence (table ms)) same (johnson_dual_evidence ms of_kind), johnson_dual_evidence-from ms answer)

@@ -1,0 +1,33 @@
+-- Where each answer comes for a document of kind dual or jdual, and which documents are accepted as one.
+use Rattle.std.specs.Prelude.{ℕ, List, Result, Ok, Err}
+use Rattle.toml.specs.Data.{Data}
+use Rattle.ct_duals.specs.declared.dual.Dual.{Dual}
+use Rattle.ct_fields.specs.Tables.{IsDocument}
+use Rattle.ct_fields.specs.declared.fault.FileFault.{FileFault}
+use Rattle.ct_dual_files.specs.DualDocument.{StatesDual, IsDualFault, StatesJohnsonDual, IsJohnsonDualFault}
+use Rattle.ct_evidence.specs.declared.evidence.Evidence.{Evidence}
+use Rattle.ct_evidence.specs.declared.evidence.Evidence.TheVariants as evidence
+
+-- where each answer comes for a document of kind dual
+abbrev pub IsDualEvidence : Data → Result Evidence FileFault → Type 0
+IsDualEvidence document (Ok (evidence.Dual d)) = StatesDual document d
+IsDualEvidence document (Ok other) = ⊥
+IsDualEvidence document (Err fault) = IsDualFault document fault
+
+-- where each answer comes for a document of kind jdual
+abbrev pub IsJohnsonDualEvidence : Data → Result Evidence FileFault → Type 0
+IsJohnsonDualEvidence document (Ok (evidence.JohnsonDual d)) = StatesJohnsonDual document d
+IsJohnsonDualEvidence document (Ok other) = ⊥
+IsJohnsonDualEvidence document (Err fault) = IsJohnsonDualFault document fault
+
+-- the bytes are a document that states the dual, of kind dual
+pub record AcceptsDual (bytes : List ℕ) (d : Dual) : Type 0 where
+  pub document : Data
+  pub written : IsDocument bytes document
+  pub states : StatesDual document d
+
+-- and of kind jdual
+pub record AcceptsJohnsonDual (bytes : List ℕ) (d : Dual) : Type 0 where
+  pub document : Data
+  pub written : IsDocument bytes document
+  pub states : StatesJohnsonDual document d
