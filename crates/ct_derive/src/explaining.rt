@@ -19,8 +19,9 @@ use ct_rules::Line;
 use ct_table::Table;
 use std::alloc::{AllocError, Global};
 
-/// The lines of the table that the one at a place needs, and this as the last. `Err` is want of memory.
-fn lines_to(alloc: Global, table: &Table, last: usize) -> Result<Vec<Line>, AllocError>
+/// The lines of the table that the one at a place needs, and this as the last: an explanation of its claim. `Err` is want of
+/// memory.
+pub fn lines_to(alloc: Global, table: &Table, last: usize) -> Result<Vec<Line>, AllocError>
     requires table { IsShownTable table.now }
     requires last { last < length table.now.lines }
     ensures { (l : LineValue) → slice_get table.now.lines last ≡ Some l →

@@ -15,7 +15,7 @@ mod text;
 
 pub use check::{LineFault, add_line, line_fault};
 pub use derivation::Derivation;
-pub use explaining::explain;
+pub use explaining::{explain, lines_to};
 pub use laws::{
     bounds_can_be_shown, explanations_are_true, explanations_exist, known_explanations,
     known_faults, known_texts, lines_without_fault_follow,

@@ -13,4 +13,4 @@ pub mod PartLemmas
 pub mod Accepting
 pub mod Refusing
 pub mod DocumentLines
-mod Reaching
+pub mod Reaching

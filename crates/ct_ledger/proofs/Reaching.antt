@@ -1,14 +1,16 @@
 -- The best lower bound of an entry is at least the size of each piece's code of it.
 use Rattle.std.proofs.Common.{◌≡◌, ℕ, ◌<◌, ◌≤◌, true, List, [], ◌∷◌, length, take, get_or, Option, Some, None, is_some, option_map, refl, sym, ap, subst, ◌∙◌, arith}
-use Rattle.std.specs.Prelude.{IfSome}
-use Rattle.std.proofs.lemmas.Option.{slice_get-map, slice_get-get_or}
+use Rattle.std.specs.Prelude.{IfSome, IsSome, slice_get}
+use Rattle.std.proofs.lemmas.List.{length-map}
+use Rattle.std.proofs.lemmas.Option.{slice_get-map, slice_get-get_or, slice_get_within, same_Some}
 use Rattle.std.proofs.lemmas.List.Sorted.{length_permutation}
 use Rattle.ct_words.specs.declared.limits.TheConstants.{MAX_BOUND}
 use Rattle.ct_codes.specs.declared.entry.Entry.{Entry}
 use Rattle.ct_codes.specs.declared.claim.Side.TheVariants.{Lower}
 use Rattle.ct_codes.specs.Code.{CodeValue, IsCodeOf}
 use Rattle.ct_codes.specs.Entry.{IsEntry}
-use Rattle.ct_rule_parts.specs.declared.support.Support.TheVariants.{Size}
+use Rattle.ct_rule_parts.specs.declared.support.Support.{Support}
+use Rattle.ct_rule_parts.specs.declared.support.Support.TheVariants.{Nothing, Size}
 use Rattle.ct_rules.specs.Derivation.{IsBest}
 use Rattle.ct_rules.proofs.GivenCodes.{support-derived}
 use Rattle.ct_evidence.specs.declared.evidence.Evidence.{Evidence}
@@ -21,7 +23,7 @@ use Rattle.ct_ledger.specs.Supports.{support_of, supports_of}
 use Rattle.ct_ledger.specs.Standing.{AreStanding}
 use Rattle.ct_ledger.proofs.AscendingLemmas.{ascending-moved}
 use Rattle.ct_ledger.proofs.SizeLemmas.{code-le}
-use Rattle.ct_ledger.proofs.PartLemmas.{IsPlaced, placed, Some-piece}
+use Rattle.ct_ledger.proofs.PartLemmas.{IsPlaced, placed, Some-piece, piece-coded}
 
 -- what a piece of a kind that has a code gives, which has a size
 gives-size : (evidence : Evidence) (k : ℕ) → has_code evidence ≡ true → (kind_of evidence).gives (Some k) ≡ Size (stated_entry evidence) k
@@ -80,3 +82,49 @@ reached (q ∷ qs) k c v h below is best =
     let found = place-support ps k p c (placed ps k p h.made below (Some-piece p (get_or ps k p) (sym read ∙ slice_get-get_or ps k p below))) is in
     let at = slice_get-map support_of ps k ∙ ap (option_map support_of) read ∙ ap Some found.0 in
     best.none_better (length c.words) (support-derived (supports_of ps) k (record { n = c.n; d = c.d; w = c.w }) (length c.words) found.2 found.1 at)
+
+-- a code of a piece, and what the piece gives
+pub record IsSizeOf (ps : List PieceValue) (k : ℕ) (e : Entry) (size : ℕ) (c : CodeValue) : Type 0 where
+  pub code : code_of_place ps k ≡ Some c
+  pub entry : record { n = c.n; d = c.d; w = c.w } ≡ e
+  pub count : length c.words ≡ size
+
+-- the parts of a size
+same_size : (e f : Entry) (s t : ℕ) → Size e s ≡ Size f t → (e ≡ f) × (s ≡ t)
+same_size e f s t same = (ap entry_in same, ap size_in same)
+  where
+    entry_in : Support → Entry
+    entry_in Nothing = f
+    entry_in (Size g k) = g
+
+    size_in : Support → ℕ
+    size_in Nothing = t
+    size_in (Size g k) = k
+
+-- where a piece gives a size, it is that of its code
+pub size_of_code : (ps : List PieceValue) (k : ℕ) (e : Entry) (size : ℕ) → AreStanding ps → slice_get (supports_of ps) k ≡ Some (Size e size)
+    → (c : CodeValue) × IsSizeOf ps k e size c
+size_of_code [] k e size h at = absurd (let within = slice_get_within (supports_of []) k (Size e size) at in omega arith)
+size_of_code (q ∷ qs) k e size h at = go (code_of_place ps k) refl (piece-coded ps k h.made below)
+  where
+    ps : List PieceValue
+    ps = q ∷ qs
+
+    p : PieceValue
+    p = get_or ps k q
+
+    below : k < length ps
+    below =
+        let within = slice_get_within (supports_of ps) k (Size e size) at in
+        let as_many = length-map ps support_of in
+        omega arith
+
+    go : (o : Option CodeValue) → code_of_place ps k ≡ o → IsSome o → (c : CodeValue) × IsSizeOf ps k e size c
+    go None is some = absurd cc
+    go (Some c) is some =
+        let read = slice_get-get_or ps k q below in
+        let found = place-support ps k p c (placed ps k p h.made below (Some-piece p (get_or ps k p) (sym read ∙ slice_get-get_or ps k p below))) is in
+        let given = slice_get-map support_of ps k ∙ ap (option_map support_of) read ∙ ap Some found.0 in
+        let same = same_size (record { n = c.n; d = c.d; w = c.w }) e (length c.words) size
+        (same_Some (Size (record { n = c.n; d = c.d; w = c.w }) (length c.words)) (Size e size) (sym given ∙ at)) in
+        (c, record { code = is; entry = same.0; count = same.1 })

@@ -23,6 +23,7 @@ ghost use Rattle.ct_ledger.specs.Standing.{AreStanding};
 ghost use Rattle.ct_ledger.specs.Submission.{submitted, IsAccepted};
 ghost use Rattle.ct_ledger.specs.Supports.{supports_of};
 ghost use Rattle.ct_ledger.specs.declared.fault.SubmitFault.{SubmitFault};
+ghost use Rattle.ct_rule_parts.specs.declared.support.Support.TheVariants.{Size};
 ghost use Rattle.ct_rule_parts.specs.Support.{AllStand};
 ghost use Rattle.ct_rules.specs.Derivation.{IsBest};
 
@@ -92,4 +93,11 @@ pub fn pieces_reach_their_bounds()
     ensures { (pieces : List PieceValue) (place : ℕ) (c : CodeValue) (v : ℕ) → AreStanding pieces → place < length pieces
         → code_of_place pieces place ≡ Some c → IsBest (supports_of pieces) (Lower, record { n = c.n; d = c.d; w = c.w }) v
         → length c.words ≤ v }
+{}
+
+/// Where a piece that stands gives a size to the table, it has a code, which is of the entry, with just so many words.
+pub fn sizes_are_those_of_codes()
+    ensures { (pieces : List PieceValue) (place : ℕ) (e : Entry) (size : ℕ) → AreStanding pieces
+        → slice_get (supports_of pieces) place ≡ Some (Size e size)
+        → (c : CodeValue) × (code_of_place pieces place ≡ Some c) × (record { n = c.n; d = c.d; w = c.w } ≡ e) × (length c.words ≡ size) }
 {}

@@ -19,8 +19,8 @@ pub use dump::line_count;
 pub use fault::{SubmitFault, WithdrawFault};
 pub use laws::{
     ascending_numbers, pieces_give_supports, pieces_have_codes, pieces_reach_their_bounds,
-    refusals_in_order, stored_words_by_kind, submissions_that_are_accepted,
-    withdrawals_that_are_refused,
+    refusals_in_order, sizes_are_those_of_codes, stored_words_by_kind,
+    submissions_that_are_accepted, withdrawals_that_are_refused,
 };
 pub use ledger::Ledger;
 pub use limits::{MAX_PIECES, MAX_STORED};

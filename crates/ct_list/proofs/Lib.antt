@@ -1,0 +1,7 @@
+mod Making
+mod RowCodes
+mod KeptCodes
+mod LowerLines
+mod Following
+mod GivenCodes
+mod Walk

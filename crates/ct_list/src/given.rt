@@ -1,0 +1,26 @@
+//! The code of a piece of evidence.
+
+ghost use Rattle.std.specs.Prelude.{◌≡◌, length, slice_get, Some, IfOk, IsSome};
+ghost use Rattle.ct_rule_parts.specs.Support.{size_at};
+ghost use Rattle.ct_ledger.specs.Supports.{supports_of};
+ghost use Rattle.ct_rule_codes.specs.CodeEntry.{entry_of};
+
+use ct_codes::{Code, Entry};
+use ct_ledger::Ledger;
+use std::alloc::{AllocError, Global};
+
+/// The code of the piece at the place, which gives a size at the entry. `Err` is want of memory.
+pub(crate) fn given_code(
+    alloc: Global,
+    ledger: &Ledger,
+    entry: Entry,
+    place: u32,
+) -> Result<Code, AllocError>
+    requires { IsSome (size_at (slice_get (supports_of ledger.now.pieces) place) entry) }
+    ensures entry { IfOk result (λ c. entry_of c ≡ entry) }
+    ensures size { IfOk result (λ c. size_at (slice_get (supports_of ledger.now.pieces) place) entry ≡ Some (length c.words)) }
+{
+    let pieces = ledger.pieces();
+    prove!((place as usize) < pieces.len());
+    ledger.code(alloc, place as usize)
+}
