@@ -93,6 +93,10 @@ explanation-named : (words : List (List ℕ)) → AnyIsNamed (explanation words)
 explanation-named [] = tt
 explanation-named (side ∷ numbers) = explanation_of-named (side_of side) (entry_numbers_of numbers)
 
+list-named : (numbers : Option EntryNumbers) → AnyIsNamed (option_map command.List numbers)
+list-named None = tt
+list-named (Some numbers) = tt
+
 alone-named : (c : Command) (words : List (List ℕ)) → CommandIsNamed c → AnyIsNamed (alone c words)
 alone-named c [] h = h
 alone-named c (word ∷ words) h = tt
@@ -103,8 +107,9 @@ command_of-named name words =
     (any_chosen (bytes_eq name (codes "show")) _ _ (show-named (entry_numbers_of words))
     (any_chosen (bytes_eq name (codes "table")) _ _ (table-named (table_numbers_of words))
     (any_chosen (bytes_eq name (codes "explain")) _ _ (explanation-named words)
+    (any_chosen (bytes_eq name (codes "list")) _ _ (list-named (entry_numbers_of words))
     (any_chosen (bytes_eq name (codes "ledger")) _ _ (alone-named command.Ledger words tt)
-    (any_chosen (bytes_eq name (codes "dump")) _ _ (alone-named command.Dump words tt) tt)))))
+    (any_chosen (bytes_eq name (codes "dump")) _ _ (alone-named command.Dump words tt) tt))))))
 
 or_unknown-named : (c : Option Command) → AnyIsNamed c → CommandIsNamed (unwrap_or c command.Unknown)
 or_unknown-named None h = tt

@@ -65,9 +65,10 @@ command_of name words =
     else (if bytes_eq name (codes "show") then option_map command.Show (entry_numbers_of words)
     else (if bytes_eq name (codes "table") then option_map command.Table (table_numbers_of words)
     else (if bytes_eq name (codes "explain") then explanation words
+    else (if bytes_eq name (codes "list") then option_map command.List (entry_numbers_of words)
     else (if bytes_eq name (codes "ledger") then alone command.Ledger words
     else (if bytes_eq name (codes "dump") then alone command.Dump words
-    else None)))))
+    else None))))))
 
 -- what the words of a line ask for, by the first of them: a submission, a command, or one that is unknown
 abbrev pub words_form : List (List ℕ) → Form

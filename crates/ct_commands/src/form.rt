@@ -105,6 +105,8 @@ fn command_of(name: &[u8], words: &[&[u8]]) -> Option<Command>
         parse_table_numbers(words).map(Command::Table)
     } else if name == b"explain".as_slice() {
         explanation(words)
+    } else if name == b"list".as_slice() {
+        parse_entry_numbers(words).map(Command::List)
     } else if name == b"ledger".as_slice() {
         alone(Command::Ledger, words)
     } else if name == b"dump".as_slice() {

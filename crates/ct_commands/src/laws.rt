@@ -56,11 +56,13 @@ pub fn known_forms()
     ensures explain_lower { form_of (codes "explain lower 5 3") ≡ Whole (command.Explain Lower (record { n = 5; d = 3; w = None })) }
     ensures explain_upper { form_of (codes "explain upper 11 6 4") ≡ Whole (command.Explain Upper (record { n = 11; d = 6; w = Some 4 })) }
     ensures no_side { map form_of (codes "explain 5 3" ∷ codes "explain both 5 3" ∷ codes "explain 5 3 lower" ∷ []) ≡ replicate 3 (Whole command.Unknown) }
+    ensures list { form_of (codes "list 5 3") ≡ Whole (command.List (record { n = 5; d = 3; w = None })) }
+    ensures list_weight { form_of (codes "list 6 4 3") ≡ Whole (command.List (record { n = 6; d = 4; w = Some 3 })) }
     ensures ledger { form_of (codes "ledger") ≡ Whole command.Ledger }
     ensures dump { form_of (codes "dump") ≡ Whole command.Dump }
-    ensures too_few { map form_of (codes "withdraw" ∷ codes "show 4" ∷ codes "table" ∷ codes "explain" ∷ codes "explain lower 5" ∷ [])
-        ≡ replicate 5 (Whole command.Unknown) }
-    ensures too_many { map form_of (codes "withdraw a b" ∷ codes "show 8 4 2 1" ∷ codes "table 4 2 1" ∷ codes "explain lower 8 4 2 1" ∷ codes "ledger a" ∷ codes "dump a" ∷ [])
+    ensures too_few { map form_of (codes "withdraw" ∷ codes "show 4" ∷ codes "table" ∷ codes "explain" ∷ codes "explain lower 5" ∷ codes "list 5" ∷ [])
         ≡ replicate 6 (Whole command.Unknown) }
+    ensures too_many { map form_of (codes "withdraw a b" ∷ codes "show 8 4 2 1" ∷ codes "table 4 2 1" ∷ codes "explain lower 8 4 2 1" ∷ codes "list 8 4 2 1" ∷ codes "list 5 3 x" ∷ codes "ledger a"
+        ∷ codes "dump a" ∷ []) ≡ replicate 8 (Whole command.Unknown) }
     ensures no_name { map form_of (codes "help" ∷ codes "shows 4 3" ∷ []) ≡ replicate 2 (Whole command.Unknown) }
 {}

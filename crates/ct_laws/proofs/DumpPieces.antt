@@ -180,6 +180,7 @@ pieces_after-short pieces command.CutOff h = h
 pieces_after-short pieces (command.Show numbers) h = h
 pieces_after-short pieces (command.Table numbers) h = h
 pieces_after-short pieces (command.Explain side numbers) h = h
+pieces_after-short pieces (command.List numbers) h = h
 pieces_after-short pieces command.Ledger h = h
 pieces_after-short pieces command.Dump h = h
 pieces_after-short pieces command.Unknown h = h

@@ -1,5 +1,6 @@
 mod EqualBounds
 mod OneLine
+mod WordAlone
 mod ShownReplies
 mod Columns
 mod DumpCommands

@@ -1,7 +1,8 @@
 -- Replies over the same pieces, beside each other.
-use Rattle.std.proofs.Common.{◌≡◌, ℕ, List, All, Option, Some, None, refl, sym, subst}
+use Rattle.std.proofs.Common.{◌≡◌, ℕ, List, All, length, Option, Some, None, refl, sym, subst, ◌∙◌}
 use Rattle.ct_codes.specs.declared.entry.Entry.{Entry}
 use Rattle.ct_codes.specs.Claim.{IsTrueClaim}
+use Rattle.ct_codes.specs.Code.{CodeValue, IsSoundCode}
 use Rattle.ct_codes.specs.declared.claim.Side.{Side}
 use Rattle.ct_codes.specs.declared.claim.Side.TheVariants.{Lower, Upper}
 use Rattle.ct_rules.specs.Derivation.{IsBest}
@@ -13,7 +14,9 @@ use Rattle.ct_explain.proofs.ExplainedBounds.{lines_are_true}
 use Rattle.ct_ledger.specs.Piece.{PieceValue}
 use Rattle.ct_ledger.specs.Standing.{AreStanding}
 use Rattle.ct_ledger.specs.Supports.{supports_of}
-use Rattle.ct_session.specs.Reply.{AreBoundsOf, IsShowReply, IsExplainReply}
+use Rattle.ct_list.specs.Listed.{entry_of}
+use Rattle.ct_session.specs.Reply.{AreBoundsOf, IsShowReply, IsExplainReply, IsListReply}
+use Rattle.ct_session.specs.Text.{code_text}
 use Rattle.ct_session.specs.declared.reply.Bounds.{Bounds}
 use Rattle.ct_session.specs.declared.reply.Reply.{Reply}
 use Rattle.ct_session.specs.declared.reply.Reply.TheVariants.{Shown, Lines}
@@ -40,4 +43,17 @@ explained_shown pieces side (Some e) b r stand h k =
       subst (λ (f : Entry). IsExplanation (supports_of pieces) (side, f) (bound_on side b) d.lines) (sym of_entry.entry) lines,
       k.shown,
       lines_are_true pieces side e d stand k.explains,
+    )
+
+-- a code that is listed is as large as the lower bound that is shown
+pub listed_shown : (pieces : List PieceValue) (o : Option Entry) (b : Bounds) (r : Reply) → IsShowReply pieces o (Shown b) → IsListReply pieces o r
+    → (c : CodeValue) × IsSoundCode c × (entry_of c ≡ b.entry) × (length c.words ≡ b.lower) × (r ≡ Lines (code_text c))
+listed_shown pieces None b r h k = absurd cc
+listed_shown pieces (Some e) b r h k =
+    let of_entry = bounds_shown pieces e b h in (
+      k.code,
+      k.listed.sound,
+      k.listed.entry ∙ sym of_entry.entry,
+      best_shown pieces Lower e b (length k.code.words) of_entry k.listed.best,
+      k.shown,
     )

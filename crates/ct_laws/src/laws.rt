@@ -21,7 +21,7 @@ ghost use Rattle.ct_session.specs.declared.reply.Refusal.TheVariants as refusal;
 ghost use Rattle.ct_laws.specs.Examples.{six_words, close_words, repeated_words, no_words, linear_code, close_choices, heavier_word, four_triples};
 
 /// Inputs whose run is known: the empty one, entries of the table and others outside it, with weight and without, a column, columns
-/// that have no entry, bounds that are explained, one of them in two ways, a submission that is cut off, and the lists of no pieces.
+/// that have no entry, bounds that are explained, one of them in two ways, a code that is listed, a submission that is cut off, and the lists of no pieces.
 pub fn known_runs()
     ensures empty { IsRun [] [] false }
     ensures shown { IsRun (codes "show 5 3\n") (codes "A(5,3) = 4\n") false }
@@ -39,6 +39,9 @@ pub fn known_runs()
     ensures explained_otherwise { IsRun (codes "explain upper 4 4 0\n") (codes "derivation\nline 1 upper 4 4 0 value 1 by V1\ndone\n") false }
     ensures not_explained { IsRun (codes "explain lower 29 4\n") (codes "refused entry\n") true }
     ensures no_side { IsRun (codes "explain 5 3\n") (codes "refused command\n") true }
+    ensures listed { IsRun (codes "list 4 4 0\n") (codes "code 4 4 0 size 1\n0000\n") false }
+    ensures not_listed { IsRun (codes "list 3 2\n") (codes "refused entry\n") true }
+    ensures no_listing { IsRun (codes "list 5\n") (codes "refused command\n") true }
     ensures cut { IsRun (codes "submit a\nkind = \"words\"") (codes "refused cut\n") true }
     ensures ledger { IsRun (codes "ledger\n") (codes "pieces 0\n") false }
     ensures dump { IsRun (codes "dump\n") (codes "# dump of 0 pieces\n") false }

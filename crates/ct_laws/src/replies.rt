@@ -1,7 +1,8 @@
 //! Replies over the same pieces, beside each other.
 
-ghost use Rattle.std.specs.Prelude.{◌≡◌, All, List};
+ghost use Rattle.std.specs.Prelude.{◌≡◌, All, List, length};
 ghost use Rattle.ct_codes.specs.Claim.{IsTrueClaim};
+ghost use Rattle.ct_codes.specs.Code.{CodeValue, IsSoundCode};
 ghost use Rattle.ct_codes.specs.declared.claim.Side.{Side};
 ghost use Rattle.ct_commands.specs.declared.command.Command.TheVariants as command;
 ghost use Rattle.ct_text.specs.declared.entry_numbers.EntryNumbers.{EntryNumbers};
@@ -11,7 +12,9 @@ ghost use Rattle.ct_explain.specs.Explained.{explanation_text};
 ghost use Rattle.ct_ledger.specs.Piece.{PieceValue};
 ghost use Rattle.ct_ledger.specs.Standing.{AreStanding};
 ghost use Rattle.ct_ledger.specs.Supports.{supports_of};
+ghost use Rattle.ct_list.specs.Listed.{entry_of};
 ghost use Rattle.ct_session.specs.Reply.{IsReply};
+ghost use Rattle.ct_session.specs.Text.{code_text};
 ghost use Rattle.ct_session.specs.declared.reply.Bounds.{Bounds};
 ghost use Rattle.ct_session.specs.declared.reply.Reply.{Reply};
 ghost use Rattle.ct_session.specs.declared.reply.Reply.TheVariants.{Shown, Lines};
@@ -24,4 +27,11 @@ pub fn explained_bounds_are_shown()
         → IsReply pieces (command.Show numbers) (Shown b) → IsReply pieces (command.Explain side numbers) r
         → (d : DerivationValue) × IsExplanation (supports_of pieces) (side, b.entry) (bound_on side b) d.lines
         × (r ≡ Lines (explanation_text pieces d)) × All (λ l. IsTrueClaim l.claim) d.lines }
+{}
+
+/// What `list` shows over the same pieces is a code of the entry with just as many words as the lower bound that `show` shows.
+pub fn shown_lower_bounds_are_listed()
+    ensures { (pieces : List PieceValue) (numbers : EntryNumbers) (b : Bounds) (r : Reply)
+        → IsReply pieces (command.Show numbers) (Shown b) → IsReply pieces (command.List numbers) r
+        → (c : CodeValue) × IsSoundCode c × (entry_of c ≡ b.entry) × (length c.words ≡ b.lower) × (r ≡ Lines (code_text c)) }
 {}

@@ -5,6 +5,7 @@
 mod calls;
 mod chain;
 mod fields;
+mod listings;
 mod numbers;
 mod row;
 mod tally;
@@ -26,6 +27,7 @@ fn main(rt: HostRuntime) -> anyhow::Result<()> {
     calls::run_all(&rt, &mut tally)?;
     numbers::run_all(&rt, &mut tally)?;
     chain::run_all(&rt, &mut tally)?;
+    listings::run_all(&rt, &mut tally)?;
     println!(rt; "{} rows, {} differ", tally.rows, tally.differ)?;
     Ok(())
 }

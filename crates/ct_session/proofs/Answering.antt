@@ -1,5 +1,5 @@
 -- Texts that answer commands: one command, several, and those that follow.
-use Rattle.std.proofs.Common.{ℕ, Bool, false, refl, ◌||◌, List, [], ◌∷◌, ◌++◌, sym, ap, ◌∙◌, append-nil}
+use Rattle.std.proofs.Common.{◌≡◌, ℕ, Bool, true, false, refl, ◌||◌, List, [], ◌∷◌, ◌++◌, Option, Some, None, sym, ap, subst, ◌∙◌, append-nil}
 use Rattle.std.specs.Prelude.{fold}
 use Rattle.std.specs.List.{flat_map, list_any}
 use Rattle.std.proofs.Math.Bool.{or-false}
@@ -9,9 +9,13 @@ use Rattle.ct_commands.specs.declared.command.Command.{Command}
 use Rattle.ct_ledger.specs.Piece.{PieceValue}
 use Rattle.ct_session.specs.Reply.{IsReply, pieces_after, is_refusal}
 use Rattle.ct_session.specs.Run.{AreReplies, AnswersCommands, PutsAnswers}
-use Rattle.ct_ledger.specs.Dump.{dump_text}
+use Rattle.ct_commands.specs.Command.{cut_off}
+use Rattle.ct_commands.specs.declared.command_reader.Pending.{Pending}
 use Rattle.ct_commands.specs.declared.command.Command.TheVariants as command
-use Rattle.ct_session.specs.declared.reply.Reply.TheVariants.{Lines}
+use Rattle.ct_session.specs.declared.answer.LongReply.{LongReply}
+use Rattle.ct_session.specs.declared.reply.Reply.TheVariants.{Lines, Refused}
+use Rattle.ct_session.specs.declared.reply.Refusal.TheVariants as refusal
+use Rattle.ct_session.specs.Inside.LongReply.{long_text}
 use Rattle.ct_session.specs.Text.{reply_text}
 use Rattle.ct_session.specs.declared.reply.Reply.{Reply}
 
@@ -41,7 +45,22 @@ append_answers pieces cs ds text more a b h k = record {
   mark = ap (λ (m : Bool). m || b) h.mark ∙ ap (λ (m : Bool). list_any is_refusal h.replies || m) k.mark ∙ sym (list_any-append is_refusal h.replies k.replies);
 }
 
--- the dump that is put after a text answers the command
-pub dump_answers : (pieces : List PieceValue) (before : List ℕ) → PutsAnswers pieces (command.Dump ∷ []) false before (before ++ dump_text pieces)
+-- a long reply that is put after a text answers its command
+pub long_answers : (pieces after : List PieceValue) (c : Command) (r : LongReply) (before : List ℕ) → IsReply pieces c (Lines (long_text r after))
+    → PutsAnswers pieces (c ∷ []) false before (before ++ long_text r after)
 unfolding reply_text
-dump_answers pieces before = (dump_text pieces, one_answer pieces command.Dump (Lines (dump_text pieces)) refl, refl)
+long_answers pieces after c r before is = (long_text r after, one_answer pieces c (Lines (long_text r after)) is, refl)
+
+-- no command is answered by nothing
+pub nothing_answered : (pieces : List PieceValue) (before : List ℕ) → PutsAnswers pieces [] false before before
+nothing_answered pieces before = ([], record { replies = []; are = tt; texts = refl; mark = refl }, sym (append-nil before))
+
+-- where no submission is open at the end of the input, there is no command
+pub none_cut : (pieces : List PieceValue) (pending : Option Pending) (before : List ℕ) → [] ≡ cut_off pending → PutsAnswers pieces (cut_off pending) false before before
+none_cut pieces pending before is = subst (λ (cs : List Command). PutsAnswers pieces cs false before before) is (nothing_answered pieces before)
+
+-- one that is open is cut off, and refused
+pub cut_answers : (pieces : List PieceValue) (pending : Option Pending) (c : Command) (before : List ℕ) → c ∷ [] ≡ cut_off pending
+    → PutsAnswers pieces (cut_off pending) true before (before ++ reply_text (Refused refusal.CutOff))
+cut_answers pieces None c before is = absurd cc
+cut_answers pieces (Some p) c before is = (reply_text (Refused refusal.CutOff), one_answer pieces command.CutOff (Refused refusal.CutOff) refl, refl)

@@ -1,9 +1,12 @@
 -- Commands over pieces that stand have replies, and the pieces after them stand.
-use Rattle.std.proofs.Common.{◌≡◌, ℕ, Bool, true, false, cond, List, [], ◌∷◌, Some, None, refl}
+use Rattle.std.proofs.Common.{◌≡◌, ◌≤◌, ℕ, Bool, true, false, cond, List, [], ◌∷◌, length, Some, None, refl, sym, subst, ◌∙◌}
+use Rattle.std.proofs.lemmas.List.Sorted.{length_permutation}
 use Rattle.std.specs.Prelude.{fold}
 use Rattle.std.specs.List.{flat_map, list_any, AllByRecursion}
 use Rattle.ct_codes.specs.declared.entry.Entry.{Entry}
 use Rattle.ct_codes.specs.declared.claim.Side.{Side}
+use Rattle.ct_codes.specs.declared.claim.Side.TheVariants.{Lower}
+use Rattle.ct_codes.specs.Code.{CodeValue}
 use Rattle.ct_codes.specs.Entry.{IsEntry, is_entry}
 use Rattle.ct_lines.specs.Lines.{lines_of}
 use Rattle.ct_commands.specs.Command.{commands_of}
@@ -15,16 +18,23 @@ use Rattle.ct_ledger.specs.Submission.{submitted}
 use Rattle.ct_ledger.specs.Withdrawal.{withdrawn}
 use Rattle.ct_ledger.specs.Standing.{AreStanding}
 use Rattle.ct_ledger.specs.Dump.{dump_text}
+use Rattle.ct_ledger.specs.Ascending.{ascending}
+use Rattle.ct_ledger.specs.Codes.{code_at}
+use Rattle.ct_ledger.specs.Supports.{supports_of}
+use Rattle.ct_ledger.proofs.AscendingLemmas.{ascending-moved}
+use Rattle.ct_ledger.proofs.CodeLemmas.{code_at-sound}
 use Rattle.ct_ledger.proofs.StandingLemmas.{AreStanding-none, AreStanding-submitted, AreStanding-withdrawn}
+use Rattle.ct_rules.specs.Derivation.{IsBest}
 use Rattle.ct_explain.specs.Explained.{explanation_text}
 use Rattle.ct_explain.proofs.ExplainedBounds.{explained}
-use Rattle.ct_session.specs.Reply.{IsReply, IsShowReply, IsTableReply, IsExplainReply, column, submission_reply, withdrawal_reply, pieces_after, is_refusal}
+use Rattle.ct_list.specs.Listed.{IsListedCode}
+use Rattle.ct_session.specs.Reply.{IsReply, IsShowReply, IsTableReply, IsExplainReply, IsListReply, column, submission_reply, withdrawal_reply, pieces_after, is_refusal}
 use Rattle.ct_session.specs.Run.{AreReplies, AnswersCommands, IsRun, pieces_of}
-use Rattle.ct_session.specs.Text.{reply_text, ledger_text}
+use Rattle.ct_session.specs.Text.{reply_text, ledger_text, code_text}
 use Rattle.ct_session.specs.declared.reply.Reply.{Reply}
 use Rattle.ct_session.specs.declared.reply.Reply.TheVariants.{Shown, Table, Lines, Refused}
 use Rattle.ct_session.specs.declared.reply.Refusal.TheVariants as refusal
-use Rattle.ct_session.proofs.BoundLemmas.{some_bounds, some_bounds_of_all, column_entries}
+use Rattle.ct_session.proofs.BoundLemmas.{shown, some_bounds, some_bounds_of_all, column_entries}
 
 -- the pieces after a command stand, where those before it do
 pub AreStanding-after : (pieces : List PieceValue) (c : Command) → CommandIsNamed c → AreStanding pieces → AreStanding (pieces_after pieces c)
@@ -35,6 +45,7 @@ AreStanding-after pieces command.CutOff named h = h
 AreStanding-after pieces (command.Show numbers) named h = h
 AreStanding-after pieces (command.Table numbers) named h = h
 AreStanding-after pieces (command.Explain side numbers) named h = h
+AreStanding-after pieces (command.List numbers) named h = h
 AreStanding-after pieces command.Ledger named h = h
 AreStanding-after pieces command.Dump named h = h
 AreStanding-after pieces command.Unknown named h = h
@@ -64,6 +75,27 @@ explain_reply pieces side e true entry h =
     (Lines (explanation_text pieces some.0), record { derivation = some.0; explains = some.1; shown = refl })
 explain_reply pieces side e false entry h = (Refused refusal.NoEntry, refl)
 
+-- a lower bound that is true is the size of some code, whose words have an order
+some_code : (pieces : List PieceValue) (e : Entry) → AreStanding pieces → IsEntry e → (c : CodeValue) × IsListedCode (supports_of pieces) e c
+some_code pieces e h entry =
+    let bound = shown pieces Lower e h entry in
+    let words = bound.1.truth.truth.0 in
+    let size = bound.1.truth.truth.2 in
+    let low = bound.1.truth.range.0 in
+    let many : 1 ≤ length words = rw size low in
+    let moved = length_permutation words (ascending words) (ascending-moved words) in (
+      code_at e words,
+      record {
+        entry = refl;
+        sound = code_at-sound e words entry many bound.1.truth.truth.1;
+        best = subst (λ (v : ℕ). IsBest (supports_of pieces) (Lower, e) v) (sym size ∙ moved) bound.1.best;
+      },
+    )
+
+list_reply : (pieces : List PieceValue) (e : Entry) (b : Bool) → is_entry e ≡ b → AreStanding pieces → (r : Reply) × IsListReply pieces (cond b (Some e) None) r
+list_reply pieces e true entry h = let some = some_code pieces e h entry in (Lines (code_text some.0), record { code = some.0; listed = some.1; shown = refl })
+list_reply pieces e false entry h = (Refused refusal.NoEntry, refl)
+
 -- a command has a reply
 some_reply : (pieces : List PieceValue) (c : Command) → AreStanding pieces → (r : Reply) × IsReply pieces c r
 some_reply pieces (command.Submission None document) h = (Refused refusal.NoCommand, refl)
@@ -77,6 +109,9 @@ some_reply pieces (command.Table numbers) h = column_reply pieces (column number
 some_reply pieces (command.Explain side numbers) h =
     let e : Entry = record { n = numbers.n; d = numbers.d; w = numbers.w } in
     explain_reply pieces side e (is_entry e) refl h
+some_reply pieces (command.List numbers) h =
+    let e : Entry = record { n = numbers.n; d = numbers.d; w = numbers.w } in
+    list_reply pieces e (is_entry e) refl h
 some_reply pieces command.Ledger h = (Lines (ledger_text pieces), refl)
 some_reply pieces command.Dump h = (Lines (dump_text pieces), refl)
 some_reply pieces command.Unknown h = (Refused refusal.NoCommand, refl)

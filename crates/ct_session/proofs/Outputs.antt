@@ -1,20 +1,26 @@
 -- Texts that are put after what is gathered, part by part, and what a failed write leaves of them.
-use Rattle.std.proofs.Common.{Result, Ok, Err, inl, inr, subst, ◌≡◌, ◌≢◌, ℕ, zero, suc, ◌+◌, ◌<◌, List, [], ◌∷◌, ◌++◌, length, take, drop, get_or, Option, refl, sym, ap, ◌∙◌, append_assoc, append-nil, arith}
+use Rattle.std.proofs.Common.{Result, Ok, Err, Some, None, inl, inr, subst, ◌≡◌, ◌≢◌, ℕ, zero, suc, ◌+◌, ◌-◌, ◌<◌, ◌≤◌, List, [], ◌∷◌, ◌++◌, length, replicate, take, drop, get_or, Option, refl, sym, ap, ◌∙◌, append_assoc, append-nil, arith}
 use Rattle.std.specs.Prelude.{codes, IfErr, OnOk, OnErr}
 use Rattle.std.specs.Fmt.{decimal}
 use Rattle.std.specs.List.{flat_map}
 use Rattle.std.specs.Io.KnownBytes.{Appends}
 use Rattle.std.proofs.KnownBytes.{Appends-nil, Appends-trans}
 use Rattle.std.proofs.lemmas.Grind.{flat_map-append}
-use Rattle.std.proofs.lemmas.List.{take_more, drop_more, take-append-drop}
+use Rattle.std.proofs.Math.Seq.{take-append-add}
+use Rattle.std.proofs.lemmas.List.{take_more, drop_more, take-append-drop, drop-replicate, take-replicate}
+use Rattle.ct_words.specs.Text.{word_text}
+use Rattle.ct_words.proofs.TextLemmas.{length-word_text}
 use Rattle.ct_io.specs.Told.{AppendsProperPrefix}
 use Rattle.ct_io.specs.Faults.{Rose}
+use Rattle.ct_codes.specs.Code.{CodeValue}
+use Rattle.ct_text.specs.EntryText.{weight_word}
 use Rattle.ct_ledger.specs.Piece.{PieceValue}
 use Rattle.ct_ledger.specs.Dump.{line_count, piece_dump, dump_text}
 use Rattle.ct_session.specs.declared.serve.ServeFault.{ServeFault}
 use Rattle.ct_session.specs.declared.serve.ServeFault.TheVariants.{Write, Memory}
+use Rattle.ct_session.specs.Text.{ended, code_heading}
 use Rattle.ct_session.specs.Inside.State.{State, PutsLines}
-use Rattle.ct_session.specs.Inside.Writing.{PutsOut, AnswersLine, HoldsFew, BreaksOff, BreaksDump, BreaksOffAt}
+use Rattle.ct_session.specs.Inside.Writing.{PutsOut, AnswersLine, HoldsFew, BreaksOff, BreaksLong, BreaksOffAt}
 use Rattle.ct_session.specs.declared.output.TheConstants.{MAX_GATHERED}
 use Rattle.ct_session.proofs.Gathering.{few_after}
 
@@ -120,27 +126,85 @@ submission_is p id count document is counts tells =
 pub dump_put : (pieces : List PieceValue) (a b c : Option (List ℕ)) (g g' g'' : List ℕ) → PutsOut (comment_of (length pieces)) g g' a b → PutsOut (flat_map piece_dump pieces) g' g'' b c → PutsOut (dump_text pieces) g g'' a c
 dump_put pieces a b c g g' g'' h k = subst (λ (t : List ℕ). PutsOut t g g'' a c) (dump_is pieces) (puts_more a b c _ _ g g' g'' h k)
 
+-- of a text at the front a proper prefix was written
+pub front_fails : (old new : Option (List ℕ)) (g text more : List ℕ) → AppendsProperPrefix old new (g ++ text) → AppendsProperPrefix old new (g ++ (text ++ more))
+front_fails old new g text more h = subst (AppendsProperPrefix old new) (append_assoc g text more) (of_more old new (g ++ text) more h)
+
 -- of the comment a proper prefix was written
 pub comment_fails : (pieces : List PieceValue) (old new : Option (List ℕ)) (g : List ℕ) → AppendsProperPrefix old new (g ++ comment_of (length pieces)) → AppendsProperPrefix old new (g ++ dump_text pieces)
 comment_fails pieces old new g h =
-    subst (AppendsProperPrefix old new) (append_assoc g (comment_of (length pieces)) (flat_map piece_dump pieces) ∙ ap (λ (t : List ℕ). g ++ t) (dump_is pieces)) (of_more old new _ (flat_map piece_dump pieces) h)
+    subst (λ (t : List ℕ). AppendsProperPrefix old new (g ++ t)) (dump_is pieces) (front_fails old new g (comment_of (length pieces)) (flat_map piece_dump pieces) h)
 
 -- the comment was put, and of the submissions a proper prefix was written
 pub submissions_fail : (pieces : List PieceValue) (a b c : Option (List ℕ)) (g g' : List ℕ) → PutsOut (comment_of (length pieces)) g g' a b → AppendsProperPrefix b c (g' ++ flat_map piece_dump pieces) → AppendsProperPrefix a c (g ++ dump_text pieces)
 submissions_fail pieces a b c g g' h k = subst (λ (t : List ℕ). AppendsProperPrefix a c (g ++ t)) (dump_is pieces) (fails_later a b c _ _ g g' h k)
 
--- the dump could not be put where the sink failed
-pub breaks_dump : (r : Result (Unit {0}) ServeFault) (g text : List ℕ) (old new : Option (List ℕ)) (before after : ℕ) → IfErr r (λ fault. fault ≡ Write) → OnErr r (AppendsProperPrefix old new (g ++ text))
-    → OnErr r (Rose before after) → IfErr r (λ fault. BreaksDump fault g text old new before after)
-breaks_dump (Ok x) g text old new before after is part rose = tt
-breaks_dump (Err fault) g text old new before after is part rose = inr (is, part, rose)
+-- a long reply could not be put where the sink failed
+pub breaks_long : (r : Result (Unit {0}) ServeFault) (g text : List ℕ) (old new : Option (List ℕ)) (before after : ℕ) → IfErr r (λ fault. fault ≡ Write) → OnErr r (AppendsProperPrefix old new (g ++ text))
+    → OnErr r (Rose before after) → IfErr r (λ fault. BreaksLong fault g text old new before after)
+breaks_long (Ok x) g text old new before after is part rose = tt
+breaks_long (Err fault) g text old new before after is part rose = inr (is, part, rose)
 
 -- and so the line that asks for it
 pub breaks_line : (r : Result (Unit {0}) ServeFault) (s t : State) (line g g' text : List ℕ) (old new : Option (List ℕ)) (before after : ℕ) → PutsLines s t (line ∷ []) g (g' ++ text) → g' ≡ g
-    → IfErr r (λ fault. BreaksDump fault g' text old new before after) → IfErr r (λ fault. BreaksOffAt fault s t line g old new before after)
+    → IfErr r (λ fault. BreaksLong fault g' text old new before after) → IfErr r (λ fault. BreaksOffAt fault s t line g old new before after)
 breaks_line (Ok x) s t line g g' text old new before after puts same broken = tt
 breaks_line (Err fault) s t line g g' text old new before after puts same (inl w) = inl (subst (λ (x : List ℕ). BreaksOff Memory fault x old new before after) same w)
 breaks_line (Err fault) s t line g g' text old new before after puts same (inr w) = inr (g' ++ text, puts, w.0, w.1, w.2)
+
+-- ---- a code
+
+-- the parts of the line before the words of a code, one after the other: without a weight, and with it
+plain_spelled : (n d s : List ℕ) → n ++ (32 ∷ (d ++ (codes " size " ++ (s ++ (10 ∷ []))))) ≡ ((((n ++ (32 ∷ d)) ++ []) ++ codes " size ") ++ s) ++ (10 ∷ [])
+plain_spelled n d s =
+    sym
+    (append_assoc (((n ++ (32 ∷ d)) ++ []) ++ codes " size ") s (10 ∷ [])
+    ∙ append_assoc ((n ++ (32 ∷ d)) ++ []) (codes " size ") (s ++ (10 ∷ []))
+    ∙ ap (λ (t : List ℕ). t ++ (codes " size " ++ (s ++ (10 ∷ [])))) (append-nil (n ++ (32 ∷ d)))
+    ∙ append_assoc n (32 ∷ d) (codes " size " ++ (s ++ (10 ∷ []))))
+
+weight_spelled : (n d w s : List ℕ) → n ++ (32 ∷ (d ++ (32 ∷ (w ++ (codes " size " ++ (s ++ (10 ∷ []))))))) ≡ ((((n ++ (32 ∷ d)) ++ (32 ∷ w)) ++ codes " size ") ++ s) ++ (10 ∷ [])
+weight_spelled n d w s =
+    sym
+    (append_assoc (((n ++ (32 ∷ d)) ++ (32 ∷ w)) ++ codes " size ") s (10 ∷ [])
+    ∙ append_assoc ((n ++ (32 ∷ d)) ++ (32 ∷ w)) (codes " size ") (s ++ (10 ∷ []))
+    ∙ append_assoc (n ++ (32 ∷ d)) (32 ∷ w) (codes " size " ++ (s ++ (10 ∷ [])))
+    ∙ append_assoc n (32 ∷ d) ((32 ∷ w) ++ (codes " size " ++ (s ++ (10 ∷ [])))))
+
+-- they are the line
+heading_from : List ℕ → List ℕ → List ℕ → List ℕ → List ℕ
+heading_from n d w s = codes "code " ++ (((((n ++ (32 ∷ d)) ++ w) ++ codes " size ") ++ s) ++ (10 ∷ []))
+
+heading_is : (c : CodeValue) (n d w s : List ℕ) → n ≡ decimal c.n → d ≡ decimal c.d → w ≡ weight_word c.w → s ≡ decimal (length c.words) → heading_from n d w s ≡ code_heading c
+unfolding heading_from
+heading_is c n d w s is_n is_d is_w is_s =
+    ap (λ (t : List ℕ). heading_from t d w s) is_n ∙ ap (λ (t : List ℕ). heading_from (decimal c.n) t w s) is_d
+    ∙ ap (λ (t : List ℕ). heading_from (decimal c.n) (decimal c.d) t s) is_w ∙ ap (λ (t : List ℕ). heading_from (decimal c.n) (decimal c.d) (weight_word c.w) t) is_s
+
+pub plain_heading : (c : CodeValue) (n d s : List ℕ) → n ≡ decimal c.n → d ≡ decimal c.d → None ≡ c.w → s ≡ decimal (length c.words)
+    → codes "code " ++ (n ++ (32 ∷ (d ++ (codes " size " ++ (s ++ (10 ∷ [])))))) ≡ code_heading c
+unfolding heading_from
+plain_heading c n d s is_n is_d is_w is_s = ap (λ (t : List ℕ). codes "code " ++ t) (plain_spelled n d s) ∙ heading_is c n d [] s is_n is_d (ap weight_word is_w) is_s
+
+pub weight_heading : (c : CodeValue) (n d s : List ℕ) (w : ℕ) (digits : List ℕ) → n ≡ decimal c.n → d ≡ decimal c.d → Some w ≡ c.w → digits ≡ decimal w → s ≡ decimal (length c.words)
+    → codes "code " ++ (n ++ (32 ∷ (d ++ (32 ∷ (digits ++ (codes " size " ++ (s ++ (10 ∷ [])))))))) ≡ code_heading c
+unfolding heading_from
+weight_heading c n d s w digits is_n is_d is_w is_digits is_s =
+    ap (λ (t : List ℕ). codes "code " ++ t) (weight_spelled n d digits s) ∙ heading_is c n d (32 ∷ digits) s is_n is_d (ap (λ (t : List ℕ). 32 ∷ t) is_digits ∙ ap weight_word is_w) is_s
+
+-- the digits of a word, and one of the line feeds that stood there before
+pub line_is : (text : List ℕ) (n : ℕ) → n ≤ 28 → length text ≡ n → take (n + 1) (text ++ drop n (replicate {A = ℕ} 29 10)) ≡ text ++ 10 ∷ []
+line_is text n few long =
+    let feeds : drop n (replicate {A = ℕ} 29 10) ≡ replicate {A = ℕ} (29 - n) 10 = drop-replicate n 29 10 in
+    ap (λ (t : List ℕ). take (n + 1) (text ++ t)) feeds
+    ∙ ap (λ (k : ℕ). take (k + 1) (text ++ replicate {A = ℕ} (29 - n) 10)) (sym long)
+    ∙ take-append-add text (replicate {A = ℕ} (29 - n) 10) 1
+    ∙ ap (λ (t : List ℕ). text ++ t) (take-replicate 1 (29 - n) 10 (omega (arith, few)))
+
+-- the same of what stands there after the digits of a word were put
+pub word_line : (bytes : List ℕ) (n word : ℕ) → n ≤ 28 → bytes ≡ word_text n word → take (n + 1) (bytes ++ drop n (replicate {A = ℕ} 29 10)) ≡ ended (word_text n word)
+word_line bytes n word few is =
+    line_is bytes n few (ap length is ∙ length-word_text n word) ∙ ap (λ (t : List ℕ). t ++ 10 ∷ []) is
 
 -- ---- a line
 

@@ -8,7 +8,7 @@ use Rattle.ct_text.specs.EntryNumbers.{named_entry}
 use Rattle.ct_commands.specs.declared.command.Command.{Command}
 use Rattle.ct_commands.specs.declared.command.Command.TheVariants as command
 use Rattle.ct_ledger.specs.Piece.{PieceValue}
-use Rattle.ct_session.specs.Reply.{IsReply, IsShown, IsShowReply, IsTableReply, IsExplainReply, column, leaves_choice, pieces_after, is_refusal}
+use Rattle.ct_session.specs.Reply.{IsReply, IsShown, IsShowReply, IsTableReply, IsExplainReply, IsListReply, column, leaves_choice, pieces_after, is_refusal}
 use Rattle.ct_session.specs.Run.{AreReplies, AnswersCommands, DifferInChoices}
 use Rattle.ct_session.specs.Text.{reply_text}
 use Rattle.ct_session.specs.declared.reply.Reply.{Reply}
@@ -35,6 +35,10 @@ one_explain_reply : (pieces : List PieceValue) (side : Side) (o : Option Entry) 
 one_explain_reply pieces side None r s none h k = h ∙ sym k
 one_explain_reply pieces side (Some e) r s none h k = absurd cc
 
+one_list_reply : (pieces : List PieceValue) (o : Option Entry) (r s : Reply) → is_some o ≡ false → IsListReply pieces o r → IsListReply pieces o s → r ≡ s
+one_list_reply pieces None r s none h k = h ∙ sym k
+one_list_reply pieces (Some e) r s none h k = absurd cc
+
 -- a command that leaves no choice has one reply
 pub one_reply_only : (pieces : List PieceValue) (c : Command) (r s : Reply) → leaves_choice c ≡ false → IsReply pieces c r → IsReply pieces c s → r ≡ s
 one_reply_only pieces (command.Submission None document) r s none h k = h ∙ sym k
@@ -44,6 +48,7 @@ one_reply_only pieces (command.Withdraw id) r s none h k = h ∙ sym k
 one_reply_only pieces (command.Show numbers) r s none h k = one_show_reply pieces (named_entry numbers) r s h k
 one_reply_only pieces (command.Table numbers) r s none h k = one_table_reply pieces (column numbers.d numbers.w) r s h k
 one_reply_only pieces (command.Explain side numbers) r s none h k = one_explain_reply pieces side (named_entry numbers) r s none h k
+one_reply_only pieces (command.List numbers) r s none h k = one_list_reply pieces (named_entry numbers) r s none h k
 one_reply_only pieces command.Ledger r s none h k = h ∙ sym k
 one_reply_only pieces command.Dump r s none h k = h ∙ sym k
 one_reply_only pieces command.Unknown r s none h k = h ∙ sym k
@@ -54,6 +59,10 @@ one_explain_mark : (pieces : List PieceValue) (side : Side) (o : Option Entry) (
 one_explain_mark pieces side None r s h k = ap is_refusal (h ∙ sym k)
 one_explain_mark pieces side (Some e) r s h k = ap is_refusal h.shown ∙ sym (ap is_refusal k.shown)
 
+one_list_mark : (pieces : List PieceValue) (o : Option Entry) (r s : Reply) → IsListReply pieces o r → IsListReply pieces o s → is_refusal r ≡ is_refusal s
+one_list_mark pieces None r s h k = ap is_refusal (h ∙ sym k)
+one_list_mark pieces (Some e) r s h k = ap is_refusal h.shown ∙ sym (ap is_refusal k.shown)
+
 -- the replies to a command are refusals, or none of them is
 one_mark : (pieces : List PieceValue) (c : Command) (r s : Reply) → IsReply pieces c r → IsReply pieces c s → is_refusal r ≡ is_refusal s
 one_mark pieces (command.Submission id document) r s h k = ap is_refusal (one_reply_only pieces (command.Submission id document) r s refl h k)
@@ -62,6 +71,7 @@ one_mark pieces (command.Withdraw id) r s h k = ap is_refusal (one_reply_only pi
 one_mark pieces (command.Show numbers) r s h k = ap is_refusal (one_reply_only pieces (command.Show numbers) r s refl h k)
 one_mark pieces (command.Table numbers) r s h k = ap is_refusal (one_reply_only pieces (command.Table numbers) r s refl h k)
 one_mark pieces (command.Explain side numbers) r s h k = one_explain_mark pieces side (named_entry numbers) r s h k
+one_mark pieces (command.List numbers) r s h k = one_list_mark pieces (named_entry numbers) r s h k
 one_mark pieces command.Ledger r s h k = ap is_refusal (one_reply_only pieces command.Ledger r s refl h k)
 one_mark pieces command.Dump r s h k = ap is_refusal (one_reply_only pieces command.Dump r s refl h k)
 one_mark pieces command.Unknown r s h k = ap is_refusal (one_reply_only pieces command.Unknown r s refl h k)

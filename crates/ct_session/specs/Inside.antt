@@ -3,4 +3,4 @@ pub mod State
 pub mod Writing
 pub mod Ending
 pub mod Serving
-pub mod Owed
+pub mod LongReply

@@ -7,6 +7,7 @@ use Rattle.ct_codes.specs.declared.entry.Entry.{Entry}
 use Rattle.ct_codes.specs.declared.claim.Side.{Side}
 use Rattle.ct_codes.specs.declared.claim.Side.TheVariants.{Lower, Upper}
 use Rattle.ct_codes.specs.Claim.{IsTrueClaim}
+use Rattle.ct_codes.specs.Code.{CodeValue}
 use Rattle.ct_codes.specs.Entry.{is_entry}
 use Rattle.ct_rules.specs.Derivation.{IsBest}
 use Rattle.ct_rule_parts.specs.Slot.{claim_at}
@@ -22,7 +23,8 @@ use Rattle.ct_ledger.specs.declared.fault.SubmitFault.{SubmitFault}
 use Rattle.ct_ledger.specs.declared.fault.WithdrawFault.{WithdrawFault}
 use Rattle.ct_derive.specs.Derivation.{DerivationValue}
 use Rattle.ct_explain.specs.Explained.{ExplainsBest, explanation_text}
-use Rattle.ct_session.specs.Text.{ledger_text}
+use Rattle.ct_list.specs.Listed.{IsListedCode}
+use Rattle.ct_session.specs.Text.{ledger_text, code_text}
 use Rattle.ct_session.specs.declared.reply.Bounds.{Bounds}
 use Rattle.ct_session.specs.declared.reply.Reply.{Reply}
 use Rattle.ct_session.specs.declared.reply.Reply.TheVariants.{Accepted, Withdrawn, Shown, Table, Lines, Refused}
@@ -87,6 +89,17 @@ abbrev pub IsExplainReply : List PieceValue → Side → Option Entry → Reply 
 IsExplainReply pieces side None reply = reply ≡ Refused refusal.NoEntry
 IsExplainReply pieces side (Some e) reply = IsExplained pieces side e reply
 
+-- a code of an entry is shown, which has just as many words as the best lower bound over the pieces that stand says
+pub record IsListed (pieces : List PieceValue) (e : Entry) (reply : Reply) : Type 0 where
+  pub code : CodeValue
+  pub listed : IsListedCode (supports_of pieces) e code
+  pub shown : reply ≡ Lines (code_text code)
+
+-- the reply to `list`: a code of the entry that it names is shown; or a refusal where it names none of the table
+abbrev pub IsListReply : List PieceValue → Option Entry → Reply → Type 0
+IsListReply pieces None reply = reply ≡ Refused refusal.NoEntry
+IsListReply pieces (Some e) reply = IsListed pieces e reply
+
 -- the reply to a command over the pieces that stand
 abbrev pub IsReply : List PieceValue → Command → Reply → Type 0
 IsReply pieces (command.Submission None document) reply = reply ≡ Refused refusal.NoCommand
@@ -96,11 +109,13 @@ IsReply pieces (command.Withdraw id) reply = reply ≡ withdrawal_reply id (with
 IsReply pieces (command.Show numbers) reply = IsShowReply pieces (named_entry numbers) reply
 IsReply pieces (command.Table numbers) reply = IsTableReply pieces (column numbers.d numbers.w) reply
 IsReply pieces (command.Explain side numbers) reply = IsExplainReply pieces side (named_entry numbers) reply
+IsReply pieces (command.List numbers) reply = IsListReply pieces (named_entry numbers) reply
 IsReply pieces command.Ledger reply = reply ≡ Lines (ledger_text pieces)
 IsReply pieces command.Dump reply = reply ≡ Lines (dump_text pieces)
 IsReply pieces command.Unknown reply = reply ≡ Refused refusal.NoCommand
 
--- whether a command leaves a choice: several replies to it may be right, as any derivation may explain a bound of an entry of the table
+-- whether a command leaves a choice: several replies to it may be right, as any derivation may explain a bound of an entry of the table, and any
+-- code of the size may be listed for it
 abbrev pub leaves_choice : Command → Bool
 leaves_choice (command.Submission id document) = false
 leaves_choice command.CutOff = false
@@ -108,6 +123,7 @@ leaves_choice (command.Withdraw id) = false
 leaves_choice (command.Show numbers) = false
 leaves_choice (command.Table numbers) = false
 leaves_choice (command.Explain side numbers) = is_some (named_entry numbers)
+leaves_choice (command.List numbers) = is_some (named_entry numbers)
 leaves_choice command.Ledger = false
 leaves_choice command.Dump = false
 leaves_choice command.Unknown = false

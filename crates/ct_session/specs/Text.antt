@@ -3,9 +3,12 @@ use Rattle.std.specs.Prelude.{ℕ, ◌==◌, if◌then◌else◌, List, [], ◌�
 use Rattle.std.specs.Fmt.{decimal}
 use Rattle.std.specs.List.{flat_map}
 use Rattle.ct_lines.specs.declared.TheConstants.{LINE_FEED}
-use Rattle.ct_text.specs.EntryText.{entry_text}
+use Rattle.ct_words.specs.Text.{word_text}
+use Rattle.ct_codes.specs.Code.{CodeValue}
+use Rattle.ct_text.specs.EntryText.{entry_text, entry_words}
 use Rattle.ct_ledger.specs.Piece.{PieceValue}
 use Rattle.ct_ledger.specs.Text.{submit_fault_text, withdraw_fault_text, size_text, piece_text}
+use Rattle.ct_list.specs.Listed.{entry_of}
 use Rattle.ct_session.specs.declared.reply.Reply.{Reply}
 use Rattle.ct_session.specs.declared.reply.Reply.TheVariants.{Accepted, Withdrawn, Shown, Table, Lines, Refused}
 use Rattle.ct_session.specs.declared.reply.Bounds.{Bounds}
@@ -33,6 +36,18 @@ ended text = text ++ LINE_FEED ∷ []
 -- a line for each piece, and their number
 abbrev pub ledger_text : List PieceValue → List ℕ
 ledger_text pieces = flat_map (λ p. ended (piece_text p)) pieces ++ ended (codes "pieces " ++ decimal (length pieces))
+
+-- the line before the words of a code: `code ENTRY size S`
+abbrev pub code_heading : CodeValue → List ℕ
+code_heading c = ended (codes "code " ++ entry_words (entry_of c) ++ codes " size " ++ decimal (length c.words))
+
+-- words of length n, a line for each
+abbrev pub word_lines : ℕ → List ℕ → List ℕ
+word_lines n words = flat_map (λ x. ended (word_text n x)) words
+
+-- a code: its entry and its size, and then its words, a line for each
+abbrev pub code_text : CodeValue → List ℕ
+code_text c = code_heading c ++ word_lines c.n c.words
 
 -- a reply: its lines, each with a line feed
 unfoldable pub reply_text : Reply → List ℕ

@@ -6,16 +6,35 @@ ghost use Rattle.ct_codes.specs.Entry.{IsEntry};
 ghost use Rattle.ct_text.specs.EntryNumbers.{named_entry};
 ghost use Rattle.ct_ledger.specs.Submission.{submitted, with_piece};
 ghost use Rattle.ct_ledger.specs.Withdrawal.{withdrawn, left_by};
-ghost use Rattle.ct_session.specs.Reply.{IsReply, AreBoundsOf, IsShowReply, IsTableReply, IsExplainReply, column, pieces_after, submission_reply, withdrawal_reply};
+ghost use Rattle.ct_session.specs.Reply.{IsReply, AreBoundsOf, IsShowReply, IsTableReply, IsExplainReply, IsListReply, column, pieces_after, submission_reply, withdrawal_reply};
+ghost use Rattle.ct_session.specs.Inside.LongReply.{reply_of};
 
 use crate::reply::{Bounds, BoundsList, Refusal, Reply};
 use crate::text::ledger_text;
-use ct_codes::{Entry, Side};
+use ct_codes::{Code, Entry, Side};
 use ct_commands::Command;
 use ct_ledger::{Ledger, SubmitFault, WithdrawFault};
 use ct_text::{EntryNumbers, Id, TableNumbers, Text};
 use ct_words::MAX_N;
 use std::alloc::{AllocError, Global};
+
+/// A reply that may be long, and is put out part by part.
+#[derive(Drop)]
+pub(crate) enum LongReply {
+    /// The dump of the pieces.
+    Dump,
+    /// The words of this code.
+    Code(Code),
+}
+
+/// What answers a command.
+#[derive(Drop)]
+pub(crate) enum AnyReply {
+    /// This reply.
+    Short(Reply),
+    /// A reply that may be long.
+    Long(LongReply),
+}
 
 /// The bounds of an entry of the table.
 fn bounds_of(ledger: &Ledger, entry: Entry) -> Bounds
@@ -87,6 +106,20 @@ fn explain(
     Ok(Reply::Lines(Text::from_vec(document)))
 }
 
+/// Answers `list`: a code of the entry of the table with these numbers, if there is one, which has as many words as the lower bound says.
+/// `Err` is want of memory.
+fn list(alloc: Global, ledger: &Ledger, numbers: EntryNumbers) -> Result<AnyReply, AllocError>
+    ensures { IfOk result (λ answer. IsListReply ledger.now.pieces (named_entry numbers) (reply_of answer ledger.now.pieces)) }
+{
+    match numbers.entry() {
+        Some(entry) => {
+            let code = ct_list::list(alloc, ledger, entry)?;
+            Ok(AnyReply::Long(LongReply::Code(code)))
+        }
+        None => Ok(AnyReply::Short(Reply::Refused(Refusal::NoEntry))),
+    }
+}
+
 /// Answers a submission: the reply, and the pieces after it. After an `Err`, which is want of memory, the ledger is as before.
 fn submit(ledger: &mut Ledger, id: Id, document: Text) -> Result<Reply, AllocError>
     ensures reply { IfOk result (λ reply. reply ≡ submission_reply id (submitted ledger.old.pieces id document)) }
@@ -130,23 +163,25 @@ pub(crate) fn answer(
     alloc: Global,
     ledger: &mut Ledger,
     command: Command,
-) -> Result<Reply, AllocError>
-    ensures reply { IfOk result (IsReply ledger.old.pieces command) }
+) -> Result<AnyReply, AllocError>
+    ensures reply { IfOk result (λ answer. IsReply ledger.old.pieces command (reply_of answer ledger.new.pieces)) }
     ensures pieces { OnOk result (ledger.new.pieces ≡ pieces_after ledger.old.pieces command) }
     ensures unchanged { OnErr result (ledger.new ≡ ledger.old) }
 {
-    match command {
-        Command::Submission(id, document) => submit_any(ledger, id, document),
-        Command::CutOff => Ok(Reply::Refused(Refusal::CutOff)),
-        Command::Withdraw(id) => withdraw(ledger, id),
-        Command::Show(numbers) => Ok(show(ledger, numbers)),
-        Command::Table(numbers) => table(alloc, ledger, numbers),
-        Command::Explain(side, numbers) => explain(alloc, ledger, side, numbers),
+    let reply = match command {
+        Command::Submission(id, document) => submit_any(ledger, id, document)?,
+        Command::CutOff => Reply::Refused(Refusal::CutOff),
+        Command::Withdraw(id) => withdraw(ledger, id)?,
+        Command::Show(numbers) => show(ledger, numbers),
+        Command::Table(numbers) => table(alloc, ledger, numbers)?,
+        Command::Explain(side, numbers) => explain(alloc, ledger, side, numbers)?,
+        Command::List(numbers) => return list(alloc, ledger, numbers),
         Command::Ledger => {
             let lines = ledger_text(alloc, ledger.pieces())?;
-            Ok(Reply::Lines(Text::from_vec(lines)))
+            Reply::Lines(Text::from_vec(lines))
         }
-        Command::Dump => Ok(Reply::Lines(Text::from_vec(ledger.dump(alloc)?))),
-        Command::Unknown => Ok(Reply::Refused(Refusal::NoCommand)),
-    }
+        Command::Dump => return Ok(AnyReply::Long(LongReply::Dump)),
+        Command::Unknown => Reply::Refused(Refusal::NoCommand),
+    };
+    Ok(AnyReply::Short(reply))
 }

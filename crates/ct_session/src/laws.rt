@@ -38,7 +38,7 @@ pub fn runs_differ_in_choices_only()
 {}
 
 /// Submissions, withdrawals, `show`, `table`, `ledger`, `dump`, and lines that are no command, leave no choice of their replies. Nor does
-/// `explain` where it names no entry of the table.
+/// `explain` and `list` where they name no entry of the table.
 pub fn replies_without_choice()
     ensures submission { (id : Option (List ℕ)) (document : List ℕ) → leaves_choice (command.Submission id document) ≡ false }
     ensures cut_off { leaves_choice command.CutOff ≡ false }
@@ -46,6 +46,7 @@ pub fn replies_without_choice()
     ensures show { (numbers : EntryNumbers) → leaves_choice (command.Show numbers) ≡ false }
     ensures table { (numbers : TableNumbers) → leaves_choice (command.Table numbers) ≡ false }
     ensures explain { (side : Side) (numbers : EntryNumbers) → named_entry numbers ≡ None → leaves_choice (command.Explain side numbers) ≡ false }
+    ensures list { (numbers : EntryNumbers) → named_entry numbers ≡ None → leaves_choice (command.List numbers) ≡ false }
     ensures ledger { leaves_choice command.Ledger ≡ false }
     ensures dump { leaves_choice command.Dump ≡ false }
     ensures unknown { leaves_choice command.Unknown ≡ false }

@@ -1,21 +1,32 @@
 //! Replies on their way to a sink: they are gathered, and written where the reader would read, or where they are many.
 
-ghost use Rattle.std.specs.Prelude.{◌≡◌, ◌≤◌, ◌++◌, [], codes, OnOk, OnErr, IfErr, vec_capacity};
+ghost use Rattle.std.specs.Prelude.{◌≡◌, ◌≤◌, ◌<◌, ◌^◌, ◌++◌, [], All, codes, OnOk, OnErr, IfErr, vec_capacity};
 ghost use Rattle.std.specs.Fmt.{decimal};
 ghost use Rattle.std.specs.List.{flat_map};
 ghost use Rattle.std.specs.Io.KnownBytes.{Appends};
 ghost use Rattle.ct_io.specs.Faults.{Rose};
 ghost use Rattle.ct_io.specs.Told.{AppendsProperPrefix};
+ghost use Rattle.ct_words.specs.declared.limits.TheConstants.{MAX_N};
+ghost use Rattle.ct_words.specs.Text.{word_text};
 ghost use Rattle.ct_ledger.specs.Dump.{dump_text, piece_dump};
+ghost use Rattle.ct_session.specs.Text.{ended, code_heading, word_lines, code_text};
+ghost use Rattle.ct_session.specs.Inside.LongReply.{long_text};
 ghost use Rattle.ct_session.specs.Inside.Writing.{BreaksOff, HasRoom, PutsOut};
 
+use crate::answer::LongReply;
 use crate::serve::ServeFault;
+use ct_codes::Code;
 use ct_io::{Sink, write_all};
 use ct_ledger::{Piece, line_count};
+use ct_lines::LINE_FEED;
 use ct_text::Digits;
+use ct_words::{MAX_N, Word, print_word};
 
 /// Where so many bytes of replies are gathered, they are written before another line is taken.
 pub(crate) const MAX_GATHERED: usize = 32_768;
+
+// A line with a word has so many bytes at most.
+const MAX_LINE: usize = MAX_N as usize + 1;
 
 /// Writes the replies that were gathered. After an `Err` the sink failed, and a part of them was written.
 pub(crate) fn write_gathered<K: Sink>(
@@ -173,7 +184,7 @@ fn put_comment<K: Sink>(
 
 /// Puts the dump of the pieces after what is gathered, as `put_out` does: it is written piece by piece, and their documents are not
 /// copied whole.
-pub(crate) fn put_dump<K: Sink>(
+fn put_dump<K: Sink>(
     sink: &mut K,
     gathered: &mut Vec<u8>,
     pieces: &[Piece],
@@ -190,4 +201,147 @@ pub(crate) fn put_dump<K: Sink>(
 {
     put_comment(sink, gathered, pieces.len())?;
     put_submissions(sink, gathered, pieces)
+}
+
+/// Puts the line before the words of a code after what is gathered, as `put_out` does.
+fn put_code_heading<K: Sink>(
+    sink: &mut K,
+    gathered: &mut Vec<u8>,
+    code: &Code,
+) -> Result<(), ServeFault>
+    requires { HasRoom gathered.old }
+    ensures put { OnOk result (PutsOut (code_heading code.now) gathered.old.items gathered.new.items
+        (K.holds sink.old) (K.holds sink.new)) }
+    ensures room { OnOk result (HasRoom gathered.new) }
+    ensures prefix { OnErr result (AppendsProperPrefix (K.holds sink.old) (K.holds sink.new)
+        (gathered.old.items ++ code_heading code.now)) }
+    ensures fault { IfErr result (λ fault. fault ≡ ServeFault.Write) }
+    ensures failed { OnErr result (Rose (K.faults sink.old) (K.faults sink.new)) }
+    ensures counted { K.faults sink.old ≤ K.faults sink.new }
+{
+    let n = Digits::of(u64::from(code.n()));
+    let d = Digits::of(u64::from(code.d()));
+    let size = Digits::of(code.words().len() as u64);
+    match code.w() {
+        None => {
+            let parts: [&[u8]; 7] = [
+                b"code ",
+                n.as_bytes(),
+                b" ",
+                d.as_bytes(),
+                b" size ",
+                size.as_bytes(),
+                b"\n",
+            ];
+            put_parts(sink, gathered, &parts)
+        }
+        Some(w) => {
+            let w = Digits::of(u64::from(w));
+            let parts: [&[u8]; 9] = [
+                b"code ",
+                n.as_bytes(),
+                b" ",
+                d.as_bytes(),
+                b" ",
+                w.as_bytes(),
+                b" size ",
+                size.as_bytes(),
+                b"\n",
+            ];
+            put_parts(sink, gathered, &parts)
+        }
+    }
+}
+
+/// Puts a line with the word of length n after what is gathered, as `put_out` does.
+fn put_word<K: Sink>(
+    sink: &mut K,
+    gathered: &mut Vec<u8>,
+    n: u32,
+    word: Word,
+) -> Result<(), ServeFault>
+    requires space { HasRoom gathered.old }
+    requires length { n ≤ MAX_N }
+    requires word { word < 2 ^ n }
+    ensures put { OnOk result (PutsOut (ended (word_text n word)) gathered.old.items gathered.new.items
+        (K.holds sink.old) (K.holds sink.new)) }
+    ensures room { OnOk result (HasRoom gathered.new) }
+    ensures prefix { OnErr result (AppendsProperPrefix (K.holds sink.old) (K.holds sink.new)
+        (gathered.old.items ++ ended (word_text n word))) }
+    ensures fault { IfErr result (λ fault. fault ≡ ServeFault.Write) }
+    ensures failed { OnErr result (Rose (K.faults sink.old) (K.faults sink.new)) }
+    ensures counted { K.faults sink.old ≤ K.faults sink.new }
+{
+    let mut line = [LINE_FEED; MAX_LINE];
+    let length = n as usize;
+    print_word(word, n, &mut line[..length]);
+    put_out(sink, gathered, &line[..length + 1])
+}
+
+/// Puts a line for each word of length n after what is gathered, as `put_out` does.
+fn put_words<K: Sink>(
+    sink: &mut K,
+    gathered: &mut Vec<u8>,
+    n: u32,
+    words: &[Word],
+) -> Result<(), ServeFault>
+    requires space { HasRoom gathered.old }
+    requires length { n ≤ MAX_N }
+    requires words { All (λ x. x < 2 ^ n) words.now }
+    ensures put { OnOk result (PutsOut (word_lines n words.now) gathered.old.items gathered.new.items
+        (K.holds sink.old) (K.holds sink.new)) }
+    ensures room { OnOk result (HasRoom gathered.new) }
+    ensures prefix { OnErr result (AppendsProperPrefix (K.holds sink.old) (K.holds sink.new)
+        (gathered.old.items ++ word_lines n words.now)) }
+    ensures fault { IfErr result (λ fault. fault ≡ ServeFault.Write) }
+    ensures failed { OnErr result (Rose (K.faults sink.old) (K.faults sink.new)) }
+    ensures counted { K.faults sink.old ≤ K.faults sink.new }
+{
+    for word in words {
+        put_word(sink, gathered, n, *word)?;
+    }
+    Ok(())
+}
+
+/// Puts the code after what is gathered, as `put_out` does: its words are written as they come, and never gathered whole.
+fn put_code<K: Sink>(
+    sink: &mut K,
+    gathered: &mut Vec<u8>,
+    code: &Code,
+) -> Result<(), ServeFault>
+    requires { HasRoom gathered.old }
+    ensures put { OnOk result (PutsOut (code_text code.now) gathered.old.items gathered.new.items
+        (K.holds sink.old) (K.holds sink.new)) }
+    ensures room { OnOk result (HasRoom gathered.new) }
+    ensures prefix { OnErr result (AppendsProperPrefix (K.holds sink.old) (K.holds sink.new)
+        (gathered.old.items ++ code_text code.now)) }
+    ensures fault { IfErr result (λ fault. fault ≡ ServeFault.Write) }
+    ensures failed { OnErr result (Rose (K.faults sink.old) (K.faults sink.new)) }
+    ensures counted { K.faults sink.old ≤ K.faults sink.new }
+{
+    put_code_heading(sink, gathered, code)?;
+    put_words(sink, gathered, code.n(), code.words())
+}
+
+/// Puts a long reply after what is gathered, where these pieces stand, as `put_out` does.
+pub(crate) fn put_long<K: Sink>(
+    sink: &mut K,
+    gathered: &mut Vec<u8>,
+    pieces: &[Piece],
+    reply: &LongReply,
+) -> Result<(), ServeFault>
+    requires { HasRoom gathered.old }
+    ensures put { OnOk result (PutsOut (long_text reply.now pieces.now) gathered.old.items gathered.new.items
+        (K.holds sink.old) (K.holds sink.new)) }
+    ensures room { OnOk result (HasRoom gathered.new) }
+    ensures prefix { OnErr result (AppendsProperPrefix (K.holds sink.old) (K.holds sink.new)
+        (gathered.old.items ++ long_text reply.now pieces.now)) }
+    ensures fault { IfErr result (λ fault. fault ≡ ServeFault.Write) }
+    ensures failed { OnErr result (Rose (K.faults sink.old) (K.faults sink.new)) }
+    ensures counted { K.faults sink.old ≤ K.faults sink.new }
+{
+    match reply {
+        LongReply::Dump => put_dump(sink, gathered, pieces),
+        LongReply::Code(code) => put_code(sink, gathered, code),
+    }
 }

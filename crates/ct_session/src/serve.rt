@@ -8,12 +8,13 @@ ghost use Rattle.ct_io.specs.declared.TheConstants.{MAX_INPUT, MAX_READ};
 ghost use Rattle.ct_io.specs.Reader.{Reader};
 ghost use Rattle.ct_session.specs.Inside.Ending.{Ends};
 ghost use Rattle.ct_session.specs.Inside.Serving.{PassesOver, Serves, StepsTo};
-ghost use Rattle.ct_ledger.specs.Dump.{dump_text};
-ghost use Rattle.ct_session.specs.Inside.Writing.{AnswersLine, BreaksDump, BreaksOffAt, HasRoom, HoldsFew, IsReady, PutsOut, WritesSome, read_fault};
+ghost use Rattle.ct_session.specs.Inside.LongReply.{long_text};
+ghost use Rattle.ct_session.specs.Inside.Writing.{AnswersLine, BreaksLong, BreaksOffAt, HasRoom, HoldsFew, IsReady, PutsOut, WritesSome, read_fault};
 ghost use Rattle.ct_session.specs.Serve.{WritesRun, WritesRunPrefix, WritesRunProperPrefix, AnswersTaken, AnswersButLastBytes, WritesWholeReplies};
 
-use crate::output::{MAX_GATHERED, break_off, put_dump, write_gathered};
-use crate::session::{Owed, Session};
+use crate::answer::LongReply;
+use crate::output::{MAX_GATHERED, break_off, put_long, write_gathered};
+use crate::session::Session;
 use ct_io::{LineFault, LineReader, Sink, Source};
 use ct_ledger::Piece;
 use std::alloc::Global;
@@ -71,25 +72,26 @@ enum Step {
     End,
 }
 
-/// Puts the dump of the pieces after the replies that are gathered. Space for what is gathered comes first: after an `Err` that is want of
-/// memory nothing of the dump was written.
-fn answer_dump<K: Sink>(
+/// Puts a long reply after the replies that are gathered. Space for what is gathered comes first: after an `Err` that is want of memory
+/// nothing of the reply was written.
+fn answer_long<K: Sink>(
     pieces: &[Piece],
+    reply: &LongReply,
     gathered: &mut Vec<u8>,
     sink: &mut K,
 ) -> Result<(), ServeFault>
     requires { length gathered.old.items < MAX_GATHERED }
-    ensures put { OnOk result (PutsOut (dump_text pieces.now) gathered.old.items gathered.new.items
+    ensures put { OnOk result (PutsOut (long_text reply.now pieces.now) gathered.old.items gathered.new.items
         (K.holds sink.old) (K.holds sink.new)) }
     ensures few { OnOk result (length gathered.new.items ≤ MAX_GATHERED) }
-    ensures broken_off { IfErr result (λ fault. BreaksDump fault gathered.old.items (dump_text pieces.now)
+    ensures broken_off { IfErr result (λ fault. BreaksLong fault gathered.old.items (long_text reply.now pieces.now)
         (K.holds sink.old) (K.holds sink.new) (K.faults sink.old) (K.faults sink.new)) }
     ensures counted { K.faults sink.old ≤ K.faults sink.new }
 {
     let Ok(()) = gathered.reserve(MAX_GATHERED) else {
         return Err(break_off(sink, gathered, ServeFault::Memory));
     };
-    put_dump(sink, gathered, pieces)
+    put_long(sink, gathered, pieces, reply)
 }
 
 /// Answers the command that the line completes, if it completes one, among the replies that are gathered. After an `Err` the session is
@@ -110,8 +112,8 @@ fn answer_line<K: Sink>(
     ensures counted { K.faults sink.old ≤ K.faults sink.new }
 {
     match session.take_line(alloc, &line, gathered) {
-        Ok(Owed::Nothing) => Ok(()),
-        Ok(Owed::Dump) => answer_dump(session.pieces(), gathered, sink),
+        Ok(None) => Ok(()),
+        Ok(Some(reply)) => answer_long(session.pieces(), &reply, gathered, sink),
         Err(_) => Err(break_off(sink, gathered, ServeFault::Memory)),
     }
 }

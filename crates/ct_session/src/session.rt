@@ -1,13 +1,14 @@
 //! A session: its lines are taken one by one, and the replies put to a text.
 
-ghost use Rattle.std.specs.Prelude.{◌≡◌, ◌||◌, Bool, ◌∷◌, ◌++◌, [], OnOk, OnErr, IfOk, fold};
+ghost use Rattle.std.specs.Prelude.{◌≡◌, ◌||◌, Bool, ◌∷◌, ◌++◌, [], IsSome, OnOk, OnErr, IfOk, fold};
 ghost use Rattle.std.specs.Option.{option_to_list, is_some};
 ghost use Rattle.ct_commands.specs.Command.{cut_off};
 ghost use Rattle.ct_session.specs.Reply.{pieces_after};
 ghost use Rattle.ct_session.specs.Run.{PutsAnswers};
-ghost use Rattle.ct_session.specs.Inside.Owed.{owed_text};
+ghost use Rattle.ct_session.specs.Inside.LongReply.{owed_text};
 
-use crate::answer::answer;
+use crate::answer::{AnyReply, LongReply, answer};
+use crate::reply::{Refusal, Reply};
 use crate::text::put_reply;
 use ct_commands::{Command, CommandReader};
 use ct_ledger::{Ledger, Piece};
@@ -30,66 +31,26 @@ impl Model for Session {
     ghost view = { λ s. record { pieces = s.ledger.pieces; pending = s.reader; refused = s.refused } };
 }
 
-/// What is still to be put for a line that was taken.
-#[derive(Clone, Copy, Debug, PartialEq, Eq)]
-pub(crate) enum Owed {
-    /// Nothing: the reply was put.
-    Nothing,
-    /// The dump of the pieces, which may be long.
-    Dump,
-}
-
-/// Answers a command, and puts the reply at the end of the text: whether it is a refusal. After an `Err`, which is want of memory,
-/// the text is as before.
-fn reply_to(
-    alloc: Global,
-    ledger: &mut Ledger,
-    command: Command,
-    replies: &mut Vec<u8>,
-) -> Result<bool, AllocError>
-    ensures reply { IfOk result (λ refused. PutsAnswers ledger.old.pieces (command ∷ []) refused replies.old.items replies.new.items) }
-    ensures pieces { OnOk result (ledger.new.pieces ≡ pieces_after ledger.old.pieces command) }
-    ensures unchanged { OnErr result (replies.new.items ≡ replies.old.items) }
-{
-    let reply = answer(alloc, ledger, command)?;
-    put_reply(alloc, replies, &reply)?;
-    Ok(reply.is_refusal())
-}
-
-/// Answers the command, if there is one: whether the reply is a refusal.
-fn reply_to_any(
-    alloc: Global,
-    ledger: &mut Ledger,
-    command: Option<Command>,
-    replies: &mut Vec<u8>,
-) -> Result<bool, AllocError>
-    ensures reply { IfOk result (λ refused. PutsAnswers ledger.old.pieces (option_to_list command) refused
-        replies.old.items replies.new.items) }
-    ensures pieces { OnOk result (ledger.new.pieces ≡ fold pieces_after ledger.old.pieces (option_to_list command)) }
-    ensures unchanged { OnErr result (replies.new.items ≡ replies.old.items) }
-{
-    match command {
-        Some(command) => reply_to(alloc, ledger, command, replies),
-        None => Ok(false),
-    }
-}
-
-/// Answers the command, but for a dump, which is owed then: what is owed, and whether the reply is a refusal.
+/// Answers a command: whether the reply is a refusal. It is put at the end of the text, but for one that may be long, which is owed then.
+/// After an `Err`, which is want of memory, the text is as before.
 fn respond(
     alloc: Global,
     ledger: &mut Ledger,
     command: Command,
     replies: &mut Vec<u8>,
-) -> Result<(Owed, bool), AllocError>
+) -> Result<(Option<LongReply>, bool), AllocError>
     ensures reply { IfOk result (λ r. PutsAnswers ledger.old.pieces (command ∷ []) r.1
         replies.old.items (replies.new.items ++ owed_text r.0 ledger.new.pieces)) }
-    ensures unput { IfOk result (λ r. r.0 ≡ Owed.Dump → replies.new.items ≡ replies.old.items) }
+    ensures unput { IfOk result (λ r. IsSome r.0 → replies.new.items ≡ replies.old.items) }
     ensures pieces { OnOk result (ledger.new.pieces ≡ pieces_after ledger.old.pieces command) }
     ensures unchanged { OnErr result (replies.new.items ≡ replies.old.items) }
 {
-    match command {
-        Command::Dump => Ok((Owed::Dump, false)),
-        command => Ok((Owed::Nothing, reply_to(alloc, ledger, command, replies)?)),
+    match answer(alloc, ledger, command)? {
+        AnyReply::Short(reply) => {
+            put_reply(alloc, replies, &reply)?;
+            Ok((None, reply.is_refusal()))
+        }
+        AnyReply::Long(reply) => Ok((Some(reply), false)),
     }
 }
 
@@ -99,16 +60,16 @@ fn respond_to_any(
     ledger: &mut Ledger,
     command: Option<Command>,
     replies: &mut Vec<u8>,
-) -> Result<(Owed, bool), AllocError>
+) -> Result<(Option<LongReply>, bool), AllocError>
     ensures reply { IfOk result (λ r. PutsAnswers ledger.old.pieces (option_to_list command) r.1
         replies.old.items (replies.new.items ++ owed_text r.0 ledger.new.pieces)) }
-    ensures unput { IfOk result (λ r. r.0 ≡ Owed.Dump → replies.new.items ≡ replies.old.items) }
+    ensures unput { IfOk result (λ r. IsSome r.0 → replies.new.items ≡ replies.old.items) }
     ensures pieces { OnOk result (ledger.new.pieces ≡ fold pieces_after ledger.old.pieces (option_to_list command)) }
     ensures unchanged { OnErr result (replies.new.items ≡ replies.old.items) }
 {
     match command {
         Some(command) => respond(alloc, ledger, command, replies),
-        None => Ok((Owed::Nothing, false)),
+        None => Ok((None, false)),
     }
 }
 
@@ -141,17 +102,17 @@ impl Session {
     }
 
     /// Takes the next line, and puts the reply to the command that it completes, if it completes one, at the end of the text, or tells
-    /// what is owed there. After an `Err`, which is want of memory, the text is as before, and the session is not to be gone on with: its open submission may be
-    /// lost.
+    /// which long reply is owed there. After an `Err`, which is want of memory, the text is as before, and the session is not to be gone on
+    /// with: its open submission may be lost.
     pub(crate) fn take_line(
         &mut self,
         alloc: Global,
         line: &[u8],
         replies: &mut Vec<u8>,
-    ) -> Result<Owed, AllocError>
+    ) -> Result<Option<LongReply>, AllocError>
         ensures line { IfOk result (λ owed. PutsLines self.old self.new (line.now ∷ []) replies.old.items
             (replies.new.items ++ owed_text owed self.new.pieces)) }
-        ensures unput { IfOk result (λ owed. owed ≡ Owed.Dump → replies.new.items ≡ replies.old.items) }
+        ensures unput { IfOk result (λ owed. IsSome owed → replies.new.items ≡ replies.old.items) }
         ensures unchanged { OnErr result (replies.new.items ≡ replies.old.items) }
     {
         let command = self.reader.take_line(alloc, line)?;
@@ -167,9 +128,12 @@ impl Session {
             replies.old.items replies.new.items × (all ≡ (self.refused || refused))) }
         ensures unchanged { OnErr result (replies.new.items ≡ replies.old.items) }
     {
-        let mut ledger = self.ledger;
-        let command = self.reader.finish();
-        let refused = reply_to_any(alloc, &mut ledger, command, replies)?;
-        Ok(self.refused || refused)
+        match self.reader.finish() {
+            None => Ok(self.refused),
+            Some(_) => {
+                put_reply(alloc, replies, &Reply::Refused(Refusal::CutOff))?;
+                Ok(true)
+            }
+        }
     }
 }

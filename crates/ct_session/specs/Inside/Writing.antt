@@ -52,9 +52,9 @@ read_fault line_fault.ReadFault = Read
 read_fault (line_fault.TooLong taken) = TooLong
 read_fault line_fault.Memory = Memory
 
--- memory ran out before a text was put, and what was gathered is written; or the sink failed on the way through both
-abbrev pub BreaksDump : ServeFault → List ℕ → List ℕ → Option (List ℕ) → Option (List ℕ) → ℕ → ℕ → Type 0
-BreaksDump fault gathered text old new before after =
+-- memory ran out before a long text was put, and what was gathered is written; or the sink failed on the way through both
+abbrev pub BreaksLong : ServeFault → List ℕ → List ℕ → Option (List ℕ) → Option (List ℕ) → ℕ → ℕ → Type 0
+BreaksLong fault gathered text old new before after =
     BreaksOff Memory fault gathered old new before after ⊎ ((fault ≡ Write) × AppendsProperPrefix old new (gathered ++ text) × Rose before after)
 
 -- a line was answered: a text with the reply stands after what was gathered, and some of all that was written

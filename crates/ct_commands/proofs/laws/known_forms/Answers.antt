@@ -52,6 +52,14 @@ pub returns-clause-no_side : goal.returns-clause-no_side
 unfolding form_of words_of number_of
 returns-clause-no_side c = refl
 
+pub returns-clause-list : goal.returns-clause-list
+unfolding form_of words_of number_of
+returns-clause-list c = refl
+
+pub returns-clause-list_weight : goal.returns-clause-list_weight
+unfolding form_of words_of number_of
+returns-clause-list_weight c = refl
+
 pub returns-clause-ledger : goal.returns-clause-ledger
 unfolding form_of words_of number_of
 returns-clause-ledger c = refl

@@ -14,11 +14,12 @@ use Rattle.ct_rules.specs.declared.rule.Rule.TheVariants.{M1, V0, V1}
 use Rattle.ct_rules.specs.Rule.{row_of}
 use Rattle.ct_explain.specs.Explained.{explanation_text}
 use Rattle.ct_session.specs.Reply.{column}
-use Rattle.ct_session.specs.Text.{reply_text, ledger_text}
+use Rattle.ct_session.specs.Text.{reply_text, ledger_text, code_text}
 use Rattle.ct_session.specs.declared.reply.Reply.TheVariants.{Shown, Table, Lines, Refused}
 use Rattle.ct_session.specs.declared.reply.Refusal.TheVariants as refusal
 use Rattle.ct_session.specs.declared.reply.Bounds.{Bounds}
 use Rattle.ct_laws.proofs.EqualBounds.{four_at_five, one_word_alone}
+use Rattle.ct_laws.proofs.WordAlone.{word_alone, word_alone_listed}
 use Rattle.ct_laws.proofs.OneLine.{lone, lone_explains}
 use Rattle.ct_laws.proofs.laws.known_runs.Goals as goal
 
@@ -68,6 +69,20 @@ returns-clause-explained_otherwise c =
     let why = lone_explains Upper e 1 V1 refl (one_word_alone 4 4 0 refl refl).upper.best
     (record { earlier = All-nil (λ q. q < 0); side = refl; premises = refl; value = refl }) in
     record { replies = Lines (explanation_text [] (lone Upper e 1 V1)) ∷ []; are = (record { derivation = lone Upper e 1 V1; explains = why; shown = refl }, tt); texts = refl; mark = refl }
+
+pub returns-clause-listed : goal.returns-clause-listed
+unfolding form_of words_of number_of reply_text digits
+returns-clause-listed c =
+    let listed = word_alone_listed in
+    record { replies = Lines (code_text word_alone) ∷ []; are = (record { code = word_alone; listed = listed; shown = refl }, tt); texts = refl; mark = refl }
+
+pub returns-clause-not_listed : goal.returns-clause-not_listed
+unfolding form_of words_of number_of reply_text digits withdrawn
+returns-clause-not_listed c = record { replies = Refused refusal.NoEntry ∷ []; are = (refl, tt); texts = refl; mark = refl }
+
+pub returns-clause-no_listing : goal.returns-clause-no_listing
+unfolding form_of words_of number_of reply_text digits withdrawn
+returns-clause-no_listing c = record { replies = Refused refusal.NoCommand ∷ []; are = (refl, tt); texts = refl; mark = refl }
 
 pub returns-clause-not_explained : goal.returns-clause-not_explained
 unfolding form_of words_of number_of reply_text digits withdrawn

@@ -1,5 +1,5 @@
-use Rattle.ct_session.proofs.Answering.{dump_answers}
+use Rattle.std.proofs.Common.{subst, sym, ap, ◌∷◌, [], ◌∙◌, append-nil}
+use Rattle.ct_session.specs.Run.{AnswersCommands}
+use Rattle.ct_session.specs.Text.{reply_text}
+use Rattle.ct_session.proofs.Answering.{one_answer, long_answers}
 use Rattle.ct_session.proofs.session.respond.Goals as goal
-
-pub returns-in-Dump-clause-reply : goal.returns-in-Dump-clause-reply
-returns-in-Dump-clause-reply c = rw c.in-Dump.is (dump_answers c.args.ledger.now.pieces c.args.replies.now.items)
