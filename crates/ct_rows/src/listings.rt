@@ -90,9 +90,11 @@ fn is_listed(alloc: Global, listing: Listing, output: &[u8]) -> Result<bool, All
     let Some(words) = words_of(alloc, output, listing.n)? else {
         return Ok(false);
     };
-    Ok(output.starts_with(first.as_bytes())
-        && words.len() == listing.size
-        && is_code(&words, listing.d, listing.w))
+    Ok(
+        output.starts_with(first.as_bytes())
+            && words.len() == listing.size
+            && is_code(&words, listing.d, listing.w),
+    )
 }
 
 /// Each listing is a code of its entry, with as many words as are known.

@@ -304,11 +304,7 @@ fn put_words<K: Sink>(
 }
 
 /// Puts the code after what is gathered, as `put_out` does: its words are written as they come, and never gathered whole.
-fn put_code<K: Sink>(
-    sink: &mut K,
-    gathered: &mut Vec<u8>,
-    code: &Code,
-) -> Result<(), ServeFault>
+fn put_code<K: Sink>(sink: &mut K, gathered: &mut Vec<u8>, code: &Code) -> Result<(), ServeFault>
     requires { HasRoom gathered.old }
     ensures put { OnOk result (PutsOut (code_text code.now) gathered.old.items gathered.new.items
         (K.holds sink.old) (K.holds sink.new)) }
