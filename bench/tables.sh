@@ -8,7 +8,7 @@ work=$(mktemp -d)
 trap 'rm -rf "$work"' EXIT
 rustc -O "$here/plain_table.rs" -o "$work/plain"
 "$work/plain" tables >"$work/tables"
-"$work/plain" pieces "$here/../examples/linear.session" >"$work/pieces"
+"$work/plain" pieces "$here/../examples/library/1-linear.session" >"$work/pieces"
 "$here/../code_tables" session </dev/null
 
 for name in tables pieces; do
