@@ -10,7 +10,7 @@ use Rattle.ct_codes.specs.declared.claim.Side.TheVariants.{Lower}
 use Rattle.ct_codes.specs.Code.{CodeValue, IsCodeOf}
 use Rattle.ct_codes.specs.Entry.{IsEntry}
 use Rattle.ct_rule_parts.specs.declared.support.Support.{Support}
-use Rattle.ct_rule_parts.specs.declared.support.Support.TheVariants.{Nothing, Size}
+use Rattle.ct_rule_parts.specs.declared.support.Support.TheVariants.{Nothing, Size, Bound}
 use Rattle.ct_rules.specs.Derivation.{IsBest}
 use Rattle.ct_rules.proofs.GivenCodes.{support-derived}
 use Rattle.ct_evidence.specs.declared.evidence.Evidence.{Evidence}
@@ -32,6 +32,14 @@ gives-size (Cosets e basis representatives) k coded = refl
 gives-size (Build e step part other) k coded = refl
 gives-size (Dual d) k coded = absurd cc
 gives-size (JohnsonDual d) k coded = absurd cc
+
+-- what gives a size has a code
+gives-coded : (evidence : Evidence) (o : Option ℕ) (e : Entry) (size : ℕ) → (kind_of evidence).gives o ≡ Size e size → has_code evidence ≡ true
+gives-coded (Words f words) o e size h = refl
+gives-coded (Cosets f basis representatives) o e size h = refl
+gives-coded (Build f step part other) o e size h = refl
+gives-coded (Dual d) o e size h = absurd cc
+gives-coded (JohnsonDual d) o e size h = absurd cc
 
 -- the size and the words of a code that was made of words
 record IsMadeOf (e : Entry) (words : Option (List ℕ)) (c : CodeValue) : Type 0 where
@@ -95,17 +103,19 @@ same_size e f s t same = (ap entry_in same, ap size_in same)
   where
     entry_in : Support → Entry
     entry_in Nothing = f
+    entry_in (Bound d) = f
     entry_in (Size g k) = g
 
     size_in : Support → ℕ
     size_in Nothing = t
+    size_in (Bound d) = t
     size_in (Size g k) = k
 
 -- where a piece gives a size, it is that of its code
 pub size_of_code : (ps : List PieceValue) (k : ℕ) (e : Entry) (size : ℕ) → AreStanding ps → slice_get (supports_of ps) k ≡ Some (Size e size)
     → (c : CodeValue) × IsSizeOf ps k e size c
 size_of_code [] k e size h at = absurd (let within = slice_get_within (supports_of []) k (Size e size) at in omega arith)
-size_of_code (q ∷ qs) k e size h at = go (code_of_place ps k) refl (piece-coded ps k h.made below)
+size_of_code (q ∷ qs) k e size h at = go (code_of_place ps k) refl coded
   where
     ps : List PieceValue
     ps = q ∷ qs
@@ -119,12 +129,19 @@ size_of_code (q ∷ qs) k e size h at = go (code_of_place ps k) refl (piece-code
         let as_many = length-map ps support_of in
         omega arith
 
+    read : slice_get ps k ≡ Some p
+    read = slice_get-get_or ps k q below
+
+    given : slice_get (supports_of ps) k ≡ Some (support_of p)
+    given = slice_get-map support_of ps k ∙ ap (option_map support_of) read
+
+    coded : is_some (code_of_place ps k) ≡ true
+    coded = piece-coded ps k p h.made read ∙ gives-coded p.evidence p.size e size (same_Some (support_of p) (Size e size) (sym given ∙ at))
+
     go : (o : Option CodeValue) → code_of_place ps k ≡ o → IsSome o → (c : CodeValue) × IsSizeOf ps k e size c
     go None is some = absurd cc
     go (Some c) is some =
-        let read = slice_get-get_or ps k q below in
         let found = place-support ps k p c (placed ps k p h.made below (Some-piece p (get_or ps k p) (sym read ∙ slice_get-get_or ps k p below))) is in
-        let given = slice_get-map support_of ps k ∙ ap (option_map support_of) read ∙ ap Some found.0 in
         let same = same_size (record { n = c.n; d = c.d; w = c.w }) e (length c.words) size
-        (same_Some (Size (record { n = c.n; d = c.d; w = c.w }) (length c.words)) (Size e size) (sym given ∙ at)) in
+        (same_Some (Size (record { n = c.n; d = c.d; w = c.w }) (length c.words)) (Size e size) (sym (given ∙ ap Some found.0) ∙ at)) in
         (c, record { code = is; entry = same.0; count = same.1 })
