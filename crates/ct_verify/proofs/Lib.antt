@@ -1,0 +1,4 @@
+mod RuleSides
+mod WordLemmas
+mod ReadingLemmas
+mod VerdictLemmas

@@ -1,0 +1,174 @@
+-- The rules that lines state are of the sides that the lines state.
+use Rattle.std.proofs.Common.{◌≡◌, ℕ, Bool, true, false, cond, List, [], ◌∷◌, drop, Option, Some, None, option_map, refl, sym, ap, ◌∙◌}
+use Rattle.std.specs.Option.{option_and_then}
+use Rattle.std.specs.Str.{bytes_eq}
+use Rattle.std.specs.Prelude.{codes, IfSome}
+use Rattle.ct_codes.specs.declared.claim.Side.{Side}
+use Rattle.ct_codes.specs.declared.claim.Side.TheVariants.{Lower, Upper}
+use Rattle.ct_codes.specs.declared.claim.Claim.{Claim}
+use Rattle.ct_text.specs.Number.{number_of}
+use Rattle.ct_rule_parts.specs.Parts.{RuleParts}
+use Rattle.ct_rules.specs.declared.rule.Rule.{Rule}
+use Rattle.ct_rules.specs.Rule.{rule_side, row_of, with_place}
+use Rattle.ct_rules.proofs.LawfulRows.{parts_of-placed}
+use Rattle.ct_ledger.specs.Piece.{PieceValue, place_of}
+use Rattle.ct_verify.specs.StatedRule.{Named, alone, one_number, two_numbers, one_piece, plain_lower_names, weight_lower_names, argued_lower_names, plain_upper_names, weight_upper_names, argued_upper_names, or_else, first_argument, second_argument, first_id, numbered, citing, with_arguments, rule_among, stated_rule, resolved}
+use Rattle.ct_verify.specs.StatedLine.{StatedLineValue, side_of, entry_of, bound_of, premises_of_words, claim_of, line_from, with_rule, with_reason, with_value, line_of}
+use Rattle.ct_verify.specs.declared.stated_rule.StatedRule.{StatedRule}
+
+-- a name whose rules are of this side
+abbrev IsOfSide : Side → Named → Type 0
+IsOfSide side (alone rule) = rule_side rule ≡ side
+IsOfSide side (one_number rule) = (n : ℕ) → rule_side (rule n) ≡ side
+IsOfSide side (two_numbers rule) = (n m : ℕ) → rule_side (rule n m) ≡ side
+IsOfSide side (one_piece rule) = (n : ℕ) → rule_side (rule n) ≡ side
+
+abbrev AreOfSide : Side → List (List ℕ × Named) → Type 0
+AreOfSide side [] = Unit {0}
+AreOfSide side (row ∷ rows) = IsOfSide side row.1 × AreOfSide side rows
+
+plain_lower-side : AreOfSide Lower plain_lower_names
+unfolding row_of
+plain_lower-side = (refl, (refl, (refl, (refl, (refl, (refl, (refl, (refl, tt))))))))
+
+weight_lower-side : AreOfSide Lower weight_lower_names
+unfolding row_of
+weight_lower-side = (refl, (refl, (refl, (refl, (refl, (refl, (refl, (refl, tt))))))))
+
+argued_lower-side : AreOfSide Lower argued_lower_names
+unfolding row_of
+argued_lower-side = (λ n. refl, (λ n. refl, (λ n m. refl, (λ n. refl, tt))))
+
+plain_upper-side : AreOfSide Upper plain_upper_names
+unfolding row_of
+plain_upper-side = (refl, (refl, (refl, (refl, (refl, (refl, (refl, (refl, (refl, (refl, tt))))))))))
+
+weight_upper-side : AreOfSide Upper weight_upper_names
+unfolding row_of
+weight_upper-side = (refl, (refl, (refl, (refl, (refl, (refl, (refl, (refl, (refl, tt)))))))))
+
+argued_upper-side : AreOfSide Upper argued_upper_names
+unfolding row_of
+argued_upper-side = (λ n. refl, tt)
+
+-- where something comes of it, there was something
+mapped : {X Y : Type 0} (f : X → Y) (o : Option X) (y : Y) → option_map f o ≡ Some y → (x : X) × (f x ≡ y)
+mapped f None y h = absurd cc
+mapped f (Some x) y h = (x, cc)
+
+side_from : (side : Side) (s r : StatedRule) → s ≡ r → rule_side s.rule ≡ side → rule_side r.rule ≡ side
+side_from side s r same of = ap (λ (q : StatedRule). rule_side q.rule) (sym same) ∙ of
+
+same_rule : (s r : StatedRule) → Some s ≡ Some r → s ≡ r
+same_rule s r h = cc
+
+with_arguments-side : (side : Side) (named : Named) (words : List (List ℕ)) (r : StatedRule) → IsOfSide side named → with_arguments named words ≡ Some r → rule_side r.rule ≡ side
+with_arguments-side side (alone rule) words r of h = side_from side (numbered 0 rule) r (same_rule (numbered 0 rule) r h) of
+with_arguments-side side (one_number rule) words r of h =
+    let found = mapped (λ (n : ℕ). numbered 1 (rule n)) (first_argument words) r h in
+    side_from side (numbered 1 (rule found.0)) r found.1 (of found.0)
+with_arguments-side side (two_numbers rule) words r of h = go (first_argument words) h where
+  go : (o : Option ℕ) → option_and_then (λ (n : ℕ). option_map (λ (m : ℕ). numbered 2 (rule n m)) (second_argument words)) o ≡ Some r → rule_side r.rule ≡ side
+  go None e = absurd cc
+  go (Some n) e =
+      let found = mapped (λ (m : ℕ). numbered 2 (rule n m)) (second_argument words) r e in
+      side_from side (numbered 2 (rule n found.0)) r found.1 (of n found.0)
+with_arguments-side side (one_piece rule) words r of h =
+    let found = mapped (citing (rule 0)) (first_id words) r h in
+    side_from side (citing (rule 0) found.0) r found.1 (of 0)
+
+rule_among-side : (side : Side) (rows : List (List ℕ × Named)) (name : List ℕ) (words : List (List ℕ)) (r : StatedRule) → AreOfSide side rows → rule_among rows name words ≡ Some r
+    → rule_side r.rule ≡ side
+rule_among-side side [] name words r of h = absurd cc
+rule_among-side side (row ∷ rows) name words r of h = at (bytes_eq name row.0) h (rule_among-side side rows name words r of.1) where
+  at : (b : Bool) → cond b (with_arguments row.1 words) (rule_among rows name words) ≡ Some r → (rule_among rows name words ≡ Some r → rule_side r.rule ≡ side) → rule_side r.rule ≡ side
+  at true e later = with_arguments-side side row.1 words r of.0 e
+  at false e later = later e
+
+or_else-side : (side : Side) (rule other : Option StatedRule) (r : StatedRule) → (rule ≡ Some r → rule_side r.rule ≡ side)
+    → (other ≡ Some r → rule_side r.rule ≡ side) → or_else rule other ≡ Some r → rule_side r.rule ≡ side
+or_else-side side (Some rule) other r first second h = first h
+or_else-side side None other r first second h = second h
+
+stated_rule-side : (side : Side) (name : List ℕ) (words : List (List ℕ)) (r : StatedRule) → stated_rule side name words ≡ Some r → rule_side r.rule ≡ side
+unfolding stated_rule
+stated_rule-side Lower name words r h =
+    or_else-side Lower (rule_among plain_lower_names name words) (or_else (rule_among weight_lower_names name words) (rule_among argued_lower_names name words)) r
+    (rule_among-side Lower plain_lower_names name words r plain_lower-side)
+    (or_else-side Lower (rule_among weight_lower_names name words) (rule_among argued_lower_names name words) r
+    (rule_among-side Lower weight_lower_names name words r weight_lower-side)
+    (rule_among-side Lower argued_lower_names name words r argued_lower-side))
+    h
+stated_rule-side Upper name words r h =
+    or_else-side Upper (rule_among plain_upper_names name words) (or_else (rule_among weight_upper_names name words) (rule_among argued_upper_names name words)) r
+    (rule_among-side Upper plain_upper_names name words r plain_upper-side)
+    (or_else-side Upper (rule_among weight_upper_names name words) (rule_among argued_upper_names name words) r
+    (rule_among-side Upper weight_upper_names name words r weight_upper-side)
+    (rule_among-side Upper argued_upper_names name words r argued_upper-side))
+    h
+
+-- a line whose rule is of its side
+abbrev pub HasItsSide : StatedLineValue → Type 0
+HasItsSide l = rule_side l.rule.rule ≡ l.claim.side
+
+line_from-side : (number : Option ℕ) (claim : Claim) (rule : StatedRule) (from : Option (List ℕ)) (l : StatedLineValue) → rule_side rule.rule ≡ claim.side → line_from number claim rule from ≡ Some l → HasItsSide l
+line_from-side None claim rule from l of h = absurd cc
+line_from-side (Some number) claim rule None l of h = absurd cc
+line_from-side (Some number) claim rule (Some from) l of h =
+    let line : StatedLineValue = record { number = number; claim = claim; rule = rule; from = from } in
+    let same : line ≡ l = cc in
+    ap (λ (k : StatedLineValue). rule_side k.rule.rule) (sym same) ∙ of ∙ ap (λ (k : StatedLineValue). k.claim.side) same
+
+with_rule-side : (number : Option ℕ) (claim : Claim) (rule : Option StatedRule) (words : List (List ℕ)) (l : StatedLineValue) → ((r : StatedRule) → rule ≡ Some r → rule_side r.rule ≡ claim.side)
+    → with_rule number claim rule words ≡ Some l → HasItsSide l
+with_rule-side number claim None words l of h = absurd cc
+with_rule-side number claim (Some rule) words l of h = line_from-side number claim rule (premises_of_words (drop rule.arguments words)) l (of rule refl) h
+
+with_reason-side : (number : Option ℕ) (claim : Option Claim) (words : List (List ℕ)) (l : StatedLineValue) → with_reason number claim words ≡ Some l → HasItsSide l
+with_reason-side number None words l h = absurd cc
+with_reason-side number (Some claim) [] l h = absurd cc
+with_reason-side number (Some claim) (word ∷ []) l h = absurd cc
+with_reason-side number (Some claim) (word ∷ name ∷ words) l h = at (bytes_eq word (codes "by")) h where
+  at : (b : Bool) → cond b (with_rule number claim (stated_rule claim.side name words) words) None ≡ Some l → HasItsSide l
+  at true e = with_rule-side number claim (stated_rule claim.side name words) words l (stated_rule-side claim.side name words) e
+  at false e = absurd cc
+
+with_value-side : (number side : List ℕ) (entry words : List (List ℕ)) (l : StatedLineValue) → with_value number side entry words ≡ Some l → HasItsSide l
+with_value-side number side entry [] l h = absurd cc
+with_value-side number side entry (word ∷ []) l h = absurd cc
+with_value-side number side entry (word ∷ value ∷ words) l h = at (bytes_eq word (codes "value")) h where
+  claim : Option Claim
+  claim = claim_of (side_of side) (entry_of entry) (bound_of value)
+
+  at : (b : Bool) → cond b (with_reason (number_of number) claim words) None ≡ Some l → HasItsSide l
+  at true e = with_reason-side (number_of number) claim words l e
+  at false e = absurd cc
+
+-- the rule of a stated line is of the side of its claim
+pub line_of-side : (words : List (List ℕ)) (l : StatedLineValue) → line_of words ≡ Some l → HasItsSide l
+line_of-side [] l h = absurd cc
+line_of-side (number ∷ []) l h = absurd cc
+line_of-side (number ∷ side ∷ []) l h = absurd cc
+line_of-side (number ∷ side ∷ n ∷ []) l h = absurd cc
+line_of-side (number ∷ side ∷ n ∷ d ∷ []) l h = absurd cc
+line_of-side (number ∷ side ∷ n ∷ d ∷ word ∷ words) l h = at (bytes_eq word (codes "value")) h where
+  at : (b : Bool) → cond b (with_value number side (n ∷ d ∷ []) (word ∷ words)) (with_value number side (n ∷ d ∷ word ∷ []) words) ≡ Some l → HasItsSide l
+  at true e = with_value-side number side (n ∷ d ∷ []) (word ∷ words) l e
+  at false e = with_value-side number side (n ∷ d ∷ word ∷ []) words l e
+
+-- the place of a piece changes no side
+pub resolved-side : (pieces : List PieceValue) (rule : Rule) (id : Option (List ℕ)) (r : Rule) → resolved pieces rule id ≡ Some r → rule_side r ≡ rule_side rule
+resolved-side pieces rule None r h = let same : rule ≡ r = cc in ap rule_side (sym same)
+resolved-side pieces rule (Some id) r h =
+    let found = mapped (with_place rule) (place_of id pieces) r h in
+    ap rule_side (sym found.1) ∙ ap (λ (p : RuleParts). p.side) (parts_of-placed rule found.0 None)
+
+pub resolved-sides : (pieces : List PieceValue) (rule : Rule) (id : Option (List ℕ)) (side : Side) (o : Option Rule) → o ≡ resolved pieces rule id → rule_side rule ≡ side
+    → IfSome o (λ r. side ≡ rule_side r)
+resolved-sides pieces rule id side None is of = tt
+resolved-sides pieces rule id side (Some r) is of = sym (resolved-side pieces rule id r (sym is) ∙ of)
+
+-- so are the rules of all lines that words state
+pub line_of-sides : (words : List (List ℕ)) (line : Option StatedLineValue) → line ≡ line_of words → IfSome line HasItsSide
+line_of-sides words None is = tt
+line_of-sides words (Some l) is = line_of-side words l (sym is)

@@ -1,0 +1,28 @@
+use Rattle.std.proofs.Common.{◌≡◌, ℕ, ◌+◌, length, rules, Option, ap, sym, subst, ◌∙◌}
+use Rattle.std.specs.Prelude.{IfOk, IfSome}
+use Rattle.ct_rules.specs.Rule.{rule_side}
+use Rattle.ct_verify.specs.Read.{ReadingValue}
+use Rattle.ct_verify.specs.StatedLine.{StatedLineValue}
+use Rattle.ct_verify.specs.StatedRule.{resolved}
+use Rattle.ct_verify.specs.declared.step.Step.{Step}
+use Rattle.ct_verify.proofs.RuleSides.{HasItsSide, resolved-sides}
+use Rattle.ct_verify.proofs.ReadingLemmas.{next_number}
+use Rattle.ct_verify.proofs.reading.Reading.read_line.Goals as goal
+
+pub read_by_rule-requires : goal.read_by_rule-requires
+read_by_rule-requires c =
+    resolved-sides c.self.inside.pieces c.line.inside.rule.rule c.line.inside.rule.id c.in-Some.line.claim.side c.over-rule.result c.over-rule.ensures
+    (ap (λ (l : StatedLineValue). rule_side l.rule.rule) c.line.view_is
+    ∙ subst (λ (o : Option StatedLineValue). IfSome o HasItsSide) c.in-Some.is c.requires)
+
+pub returns : goal.returns
+returns c =
+    let lines_are : c.len.result ≡ length c.self.inside.lines.items = search rules in
+    subst (λ (next : Step). IfOk c.read_by_rule.result (λ step. step ≡ next))
+    (next_number c.args.self c.args.number c.in-Some.line c.args.line c.over-rule.result c.in-Some.is
+    (sym (ap (λ (l : StatedLineValue). l.number) c.line.view_is) ∙ c.if-line-len.false
+    ∙ ap (λ (n : ℕ). n + 1) (lines_are ∙ ap (λ (r : ReadingValue). length r.lines) c.self.view_is))
+    (c.over-rule.ensures
+    ∙ ap (λ (r : ReadingValue). resolved r.pieces c.line.inside.rule.rule c.line.inside.rule.id) c.self.view_is
+    ∙ ap (λ (l : StatedLineValue). resolved c.args.self.pieces l.rule.rule l.rule.id) c.line.view_is))
+    c.read_by_rule.ensures

@@ -1,0 +1,6 @@
+pub mod Heading
+pub mod StatedRule
+pub mod StatedLine
+pub mod Read
+pub mod Reading
+pub mod Verdict

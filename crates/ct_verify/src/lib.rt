@@ -1,0 +1,23 @@
+//! Derivation documents, checked line by line.
+#![tactic(auto)]
+
+mod heading;
+mod laws;
+mod part;
+mod reading;
+mod stated_line;
+mod stated_rule;
+mod step;
+mod steps;
+mod verdict;
+mod verifying;
+
+pub use heading::Heading;
+pub use laws::verified_documents_are_true;
+pub use part::{Block, Part};
+pub use reading::Reading;
+pub use stated_line::StatedLine;
+pub use stated_rule::StatedRule;
+pub use step::Step;
+pub use verdict::{Verdict, Why};
+pub use verifying::verify;

@@ -1,0 +1,27 @@
+//! What was read of a derivation document.
+
+use crate::part::Part;
+use ct_ledger::Pieces;
+use ct_rules::{Line, Support};
+use std::marker::Model;
+
+/// What was read of a derivation document. Contracts see the pieces, the lines, and where in the document this is.
+#[derive(Debug, Drop)]
+pub struct Reading {
+    pub(crate) pieces: Pieces,
+    pub(crate) supports: Vec<Support>,
+    pub(crate) lines: Vec<Line>,
+    pub(crate) part: Part,
+}
+
+impl Model for Reading {
+    ghost use Rattle.std.specs.Prelude.{◌≡◌};
+    ghost use Rattle.ct_ledger.specs.Supports.{supports_of};
+    ghost use Rattle.ct_verify.specs.Read.{ReadingValue};
+
+    ghost Value = { ReadingValue };
+
+    ghost view = { λ r. record { pieces = r.pieces; lines = r.lines.items; part = r.part } };
+
+    ghost invariant = { λ r. r.supports.items ≡ supports_of r.pieces };
+}

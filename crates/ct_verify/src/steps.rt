@@ -1,0 +1,239 @@
+//! What one more text line makes of what was read.
+
+ghost use Rattle.std.specs.Prelude.{◌≡◌, ◌<◌, ◌^◌, [], ◌∷◌, ◌++◌, List, IfOk, IfSome, Some, None, Option, Result, length, map};
+ghost use Rattle.ct_text.specs.Line.{words_of};
+ghost use Rattle.ct_text.specs.Gathering.{gathered};
+ghost use Rattle.ct_rules.specs.Rule.{rule_side};
+ghost use Rattle.ct_ledger.specs.Piece.{PieceValue};
+ghost use Rattle.ct_ledger.specs.Submission.{submitted};
+ghost use Rattle.ct_ledger.specs.Supports.{support_of};
+ghost use Rattle.ct_verify.specs.Heading.{heading_of};
+ghost use Rattle.ct_verify.specs.StatedLine.{StatedLineValue, line_of};
+ghost use Rattle.ct_verify.specs.Read.{unread};
+ghost use Rattle.ct_verify.specs.Read.{in_part};
+ghost use Rattle.ct_verify.specs.Reading.{why_of, by_rule, read_line, read_heading, is_only, read_body, after_block, read_block, read_next};
+ghost use Rattle.ct_verify.specs.Verdict.{ended};
+
+use crate::heading::{Heading, parse_heading};
+use crate::part::{Block, Part};
+use crate::reading::Reading;
+use crate::stated_line::{StatedLine, parse_line};
+use crate::step::Step;
+use crate::verdict::{Verdict, Why};
+use ct_derive::{LineFault, add_line};
+use ct_ledger::{Piece, Pieces, SubmitFault};
+use ct_rules::{Rule, Support};
+use ct_text::{Gathered, Gathering, Id, Text, first_words};
+use std::alloc::{AllocError, Global};
+use std::mem;
+
+/// Why a line fails that does not follow from those before it.
+fn why_of(fault: LineFault) -> Why
+    ensures { result ≡ why_of fault }
+{
+    match fault {
+        LineFault::NoRule => Why::Rule,
+        LineFault::NoPremise => Why::Premise,
+        LineFault::OtherValue { stated, given } => Why::Value(stated, given),
+    }
+}
+
+/// Whether the words are this one alone.
+fn is_only(name: &[u8], words: &[&[u8]]) -> bool
+    ensures { result ≡ is_only name.now (map (λ word. word.now) words.now) }
+{
+    match words {
+        [word] => *word == name,
+        _ => false,
+    }
+}
+
+/// The words of a line. `Err` is want of memory.
+fn all_words(alloc: Global, line: &[u8]) -> Result<Vec<&[u8]>, AllocError>
+    ensures { IfOk result (λ words. map (λ word. word.now) words.items ≡ words_of line.now) }
+{
+    first_words(alloc, line, line.len() + 1)
+}
+
+/// What the last of the pieces gives to a table, where there is one.
+fn last_support(pieces: &[Piece]) -> Support
+    ensures { (front : List PieceValue) (p : PieceValue) → pieces.now ≡ front ++ p ∷ [] → result ≡ support_of p }
+{
+    match pieces.last() {
+        Some(piece) => piece.support(),
+        None => Support::Nothing,
+    }
+}
+
+impl Reading {
+    /// Nothing was read.
+    pub(crate) fn new(alloc: Global) -> Reading
+        ensures { result ≡ unread }
+    {
+        Reading {
+            pieces: Pieces::new(alloc),
+            supports: Vec::new(alloc),
+            lines: Vec::new(alloc),
+            part: Part::Start,
+        }
+    }
+
+    /// The same pieces and lines, at this part.
+    fn in_part(mut self, part: Part) -> Reading
+        ensures { result ≡ in_part part self }
+    {
+        self.part = part;
+        self
+    }
+
+    /// After a line that states this, by this rule, where it is one.
+    fn read_by_rule(
+        mut self,
+        alloc: Global,
+        number: usize,
+        line: StatedLine,
+        rule: Option<Rule>,
+    ) -> Result<Step, AllocError>
+        requires { IfSome rule (λ r. line.claim.side ≡ rule_side r) }
+        ensures { IfOk result (λ step. step ≡ by_rule self number line rule) }
+    {
+        let Some(rule) = rule else {
+            return Ok(Step::Failed(number, Why::Rule));
+        };
+        let fault = add_line(
+            alloc,
+            &self.supports,
+            &mut self.lines,
+            line.claim,
+            rule,
+            &line.from,
+        )?;
+        match fault {
+            Some(fault) => Ok(Step::Failed(number, why_of(fault))),
+            None => Ok(Step::On(self.in_part(Part::Body))),
+        }
+    }
+
+    /// After a text line that states this line, where it states one.
+    fn read_line(
+        self,
+        alloc: Global,
+        number: usize,
+        line: Option<StatedLine>,
+    ) -> Result<Step, AllocError>
+        requires { IfSome line (λ l. rule_side l.rule.rule ≡ l.claim.side) }
+        ensures { IfOk result (λ step. step ≡ read_line self number line) }
+    {
+        let Some(line) = line else {
+            return Ok(Step::Failed(number, Why::Form));
+        };
+        if line.number != self.lines.len() as u64 + 1 {
+            return Ok(Step::Failed(number, Why::Form));
+        }
+        let rule = line.rule.over(&self.pieces);
+        self.read_by_rule(alloc, number, line, rule)
+    }
+
+    /// After a text line that heads this block of evidence, where it heads one.
+    fn read_heading(self, alloc: Global, number: usize, heading: Option<Heading>) -> Step
+        ensures { result ≡ read_heading self number heading }
+    {
+        match heading {
+            Some(Heading { id, extent }) if self.lines.is_empty() => {
+                let document = Gathering::new(alloc, extent);
+                Step::On(self.in_part(Part::Evidence(Block {
+                    line: number,
+                    id,
+                    document,
+                })))
+            }
+            _ => Step::Failed(number, Why::Form),
+        }
+    }
+
+    /// After the text line of these words, where blocks of evidence, lines, or the end may stand.
+    fn read_body(self, alloc: Global, number: usize, words: &[&[u8]]) -> Result<Step, AllocError>
+        ensures { IfOk result (λ step. step ≡ read_body self number (map (λ word. word.now) words.now)) }
+    {
+        let [word, rest @ ..] = words else {
+            return Ok(Step::Failed(number, Why::Form));
+        };
+        if *word == b"line".as_slice() {
+            let line = parse_line(alloc, rest)?;
+            return self.read_line(alloc, number, line);
+        }
+        if *word == b"evidence".as_slice() {
+            return Ok(self.read_heading(alloc, number, parse_heading(rest)));
+        }
+        if is_only(b"done", words) && !self.lines.is_empty() {
+            return Ok(Step::On(self.in_part(Part::Done)));
+        }
+        Ok(Step::Failed(number, Why::Form))
+    }
+
+    /// After the submission of a document under an id. The block of evidence began on this text line.
+    fn submit(mut self, begun: usize, id: Id, document: Text) -> Result<Step, AllocError>
+        ensures { IfOk result (λ step. step ≡ after_block self begun (submitted self.pieces id document)) }
+    {
+        match self.pieces.submit_text(id, document) {
+            Err(SubmitFault::Memory) => Err(AllocError),
+            Err(fault) => Ok(Step::Failed(begun, Why::Evidence(fault))),
+            Ok(_) => {
+                self.supports.push(last_support(self.pieces.pieces()))?;
+                Ok(Step::On(self.in_part(Part::Body)))
+            }
+        }
+    }
+
+    /// After one more text line of a block of evidence.
+    fn read_block(self, block: Block, text: &[u8]) -> Result<Step, AllocError>
+        ensures { IfOk result (λ step. step ≡ read_block self block (gathered block.document text.now)) }
+    {
+        let Block { line, id, document } = block;
+        match document.take_line(text)? {
+            Gathered::More(document) => {
+                Ok(Step::On(self.in_part(Part::Evidence(Block { line, id, document }))))
+            }
+            Gathered::Whole(document) => self.submit(line, id, document),
+        }
+    }
+
+    /// After one more text line, the one with this number. `Err` is want of memory.
+    #[tactic(auto, unfolding(crate::specs::Reading::read_next))]
+    pub(crate) fn read(
+        mut self,
+        alloc: Global,
+        number: usize,
+        text: &[u8],
+    ) -> Result<Step, AllocError>
+        ensures { IfOk result (λ step. step ≡ read_next self number text.now) }
+    {
+        match mem::replace(&mut self.part, Part::Body) {
+            Part::Start => {
+                let words = first_words(alloc, text, 2)?;
+                if is_only(b"derivation", &words) {
+                    Ok(Step::On(self))
+                } else {
+                    Ok(Step::Failed(number, Why::Form))
+                }
+            }
+            Part::Body => {
+                let words = all_words(alloc, text)?;
+                self.read_body(alloc, number, &words)
+            }
+            Part::Evidence(block) => self.read_block(block, text),
+            Part::Done => Ok(Step::Failed(number, Why::Form)),
+        }
+    }
+
+    /// The verdict where the text lines end here, and the next would have this number.
+    pub(crate) fn ended(&self, number: usize) -> Verdict
+        ensures { result ≡ ended self.now.part number }
+    {
+        match &self.part {
+            Part::Start | Part::Body => Verdict::No(number, Why::Form),
+            Part::Evidence(block) => Verdict::No(block.line, Why::Form),
+            Part::Done => Verdict::Yes,
+        }
+    }
+}
