@@ -51,6 +51,10 @@ pub long_answers : (pieces after : List PieceValue) (c : Command) (r : LongReply
 unfolding reply_text
 long_answers pieces after c r before is = (long_text r after, one_answer pieces c (Lines (long_text r after)) is, refl)
 
+pub or_true : (b : Bool) → true ≡ (b || true)
+or_true true = refl
+or_true false = refl
+
 -- no command is answered by nothing
 pub nothing_answered : (pieces : List PieceValue) (before : List ℕ) → PutsAnswers pieces [] false before before
 nothing_answered pieces before = ([], record { replies = []; are = tt; texts = refl; mark = refl }, sym (append-nil before))

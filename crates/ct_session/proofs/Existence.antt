@@ -88,7 +88,7 @@ some_code pieces e h entry =
       record {
         entry = refl;
         sound = code_at-sound e words entry many bound.1.truth.truth.1;
-        best = subst (λ (v : ℕ). IsBest (supports_of pieces) (Lower, e) v) (sym size ∙ moved) bound.1.best;
+        best = subst (λ (v : ℕ). IsBest (supports_of pieces) (Lower, e) v) (sym size ∙ sym moved) bound.1.best;
       },
     )
 

@@ -18,7 +18,7 @@ use Rattle.ct_ledger.specs.Piece.{PieceValue}
 use Rattle.ct_ledger.specs.Dump.{line_count, piece_dump, dump_text}
 use Rattle.ct_session.specs.declared.serve.ServeFault.{ServeFault}
 use Rattle.ct_session.specs.declared.serve.ServeFault.TheVariants.{Write, Memory}
-use Rattle.ct_session.specs.Text.{ended, code_heading}
+use Rattle.ct_session.specs.Text.{ended, code_heading, word_lines, code_text}
 use Rattle.ct_session.specs.Inside.State.{State, PutsLines}
 use Rattle.ct_session.specs.Inside.Writing.{PutsOut, AnswersLine, HoldsFew, BreaksOff, BreaksLong, BreaksOffAt}
 use Rattle.ct_session.specs.declared.output.TheConstants.{MAX_GATHERED}
@@ -191,6 +191,20 @@ pub weight_heading : (c : CodeValue) (n d s : List ℕ) (w : ℕ) (digits : List
 unfolding heading_from
 weight_heading c n d s w digits is_n is_d is_w is_digits is_s =
     ap (λ (t : List ℕ). codes "code " ++ t) (weight_spelled n d digits s) ∙ heading_is c n d (32 ∷ digits) s is_n is_d (ap (λ (t : List ℕ). 32 ∷ t) is_digits ∙ ap weight_word is_w) is_s
+
+-- the line was put, and then the words
+pub code_put : (code : CodeValue) (a b c : Option (List ℕ)) (g g' g'' : List ℕ) → PutsOut (code_heading code) g g' a b → PutsOut (word_lines code.n code.words) g' g'' b c
+    → PutsOut (code_text code) g g'' a c
+code_put code a b c g g' g'' h k = puts_more a b c (code_heading code) (word_lines code.n code.words) g g' g'' h k
+
+-- of the line a proper prefix was written
+pub heading_fails : (code : CodeValue) (old new : Option (List ℕ)) (g : List ℕ) → AppendsProperPrefix old new (g ++ code_heading code) → AppendsProperPrefix old new (g ++ code_text code)
+heading_fails code old new g h = front_fails old new g (code_heading code) (word_lines code.n code.words) h
+
+-- the line was put, and of the words a proper prefix was written
+pub words_fail : (code : CodeValue) (a b c : Option (List ℕ)) (g g' : List ℕ) → PutsOut (code_heading code) g g' a b
+    → AppendsProperPrefix b c (g' ++ word_lines code.n code.words) → AppendsProperPrefix a c (g ++ code_text code)
+words_fail code a b c g g' h k = fails_later a b c (code_heading code) (word_lines code.n code.words) g g' h k
 
 -- the digits of a word, and one of the line feeds that stood there before
 pub line_is : (text : List ℕ) (n : ℕ) → n ≤ 28 → length text ≡ n → take (n + 1) (text ++ drop n (replicate {A = ℕ} 29 10)) ≡ text ++ 10 ∷ []

@@ -1,5 +1,7 @@
 use Rattle.std.proofs.Common.{is_some, ap}
+use Rattle.std.proofs.lemmas.Result.{on_ok_weaker}
 use Rattle.ct_session.specs.Inside.LongReply.{long_text}
+use Rattle.ct_session.proofs.Gathering.{few_kept}
 use Rattle.ct_session.proofs.Outputs.{line_answered, few_answered, text_answered, breaks_line}
 use Rattle.ct_session.proofs.serve.answer_line.Goals as goal
 
@@ -18,6 +20,9 @@ returns-in-Ok-Some-clause-line g c =
     let puts = rw (c.in-Ok-Some.field-0-is, c.deref.ensures.value) at c.in-Ok-Some.ensures.line in
     let put = rw c.pieces.ensures at c.answer_long.ensures.put in
     text_answered _ _ _ _ _ c.take_line.new.replies.items _ (long_text c.in-Ok-Some.reply c.take_line.new.self.pieces) _ _ puts put
+
+pub returns-in-Ok-Some-clause-few : goal.returns-in-Ok-Some-clause-few
+returns-in-Ok-Some-clause-few g c = on_ok_weaker _ (few_kept _) c.answer_long.ensures.few
 
 pub returns-in-Ok-Some-clause-broken_off : goal.returns-in-Ok-Some-clause-broken_off
 returns-in-Ok-Some-clause-broken_off g c =
