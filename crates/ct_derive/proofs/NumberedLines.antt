@@ -47,6 +47,18 @@ pub values-push : (so_far : List ℕ) (v : ℕ) (rest : Option (List ℕ))
 values-push so_far v None = refl
 values-push so_far v (Some vs) = ap Some (sym (append_assoc so_far (v ∷ []) vs))
 
+-- fewer numbers than entries
+pub values-too_few : (side : Side) (lines : List LineValue) (es : List Entry) (ns : List ℕ) → length ns < length es → values_numbered side lines es ns ≡ None
+values-too_few side lines [] ns few = absurd (omega arith)
+values-too_few side lines (e ∷ es) [] few = refl
+values-too_few side lines (e ∷ es) (n ∷ ns) few =
+    ap (and_values (value_for side e (claim_numbered lines n))) (values-too_few side lines es ns (omega arith))
+    ∙ none_after (value_for side e (claim_numbered lines n))
+  where
+    none_after : (v : Option ℕ) → and_values v None ≡ None
+    none_after None = refl
+    none_after (Some v) = refl
+
 -- equal lists have equal first items, and the rest
 cons_parts : {X : Type 0} (x y : X) (xs ys : List X) → x ∷ xs ≡ y ∷ ys → (x ≡ y) × (xs ≡ ys)
 cons_parts x y xs ys h = (cc, cc)
