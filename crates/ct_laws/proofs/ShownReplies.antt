@@ -14,7 +14,7 @@ use Rattle.ct_explain.proofs.ExplainedBounds.{lines_are_true}
 use Rattle.ct_ledger.specs.Piece.{PieceValue}
 use Rattle.ct_ledger.specs.Standing.{AreStanding}
 use Rattle.ct_ledger.specs.Supports.{supports_of}
-use Rattle.ct_list.specs.Listed.{entry_of}
+use Rattle.ct_rule_codes.specs.CodeEntry.{entry_of}
 use Rattle.ct_session.specs.Reply.{AreBoundsOf, IsShowReply, IsExplainReply, IsListReply}
 use Rattle.ct_session.specs.Text.{code_text}
 use Rattle.ct_session.specs.declared.reply.Bounds.{Bounds}

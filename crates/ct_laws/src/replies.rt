@@ -12,7 +12,7 @@ ghost use Rattle.ct_explain.specs.Explained.{explanation_text};
 ghost use Rattle.ct_ledger.specs.Piece.{PieceValue};
 ghost use Rattle.ct_ledger.specs.Standing.{AreStanding};
 ghost use Rattle.ct_ledger.specs.Supports.{supports_of};
-ghost use Rattle.ct_list.specs.Listed.{entry_of};
+ghost use Rattle.ct_rule_codes.specs.CodeEntry.{entry_of};
 ghost use Rattle.ct_session.specs.Reply.{IsReply};
 ghost use Rattle.ct_session.specs.Text.{code_text};
 ghost use Rattle.ct_session.specs.declared.reply.Bounds.{Bounds};
