@@ -1,6 +1,6 @@
 //! Tables of codes that are known: what comes and goes with supports.
 
-ghost use Rattle.std.specs.Prelude.{◌<◌, ◌≡◌, IfOk};
+ghost use Rattle.std.specs.Prelude.{◌<◌, ◌≡◌, IfOk, IfSome};
 ghost use Rattle.ct_codes.specs.Entry.{IsEntry};
 ghost use Rattle.ct_rule_parts.specs.Support.{Stands};
 
@@ -213,16 +213,17 @@ fn change(
     }
 }
 
-/// The same support.
-fn copy_of(support: &Support) -> Support
-    ensures { result ≡ support.now }
+/// The same support, where it is no dual: none is handed in here.
+fn copy_of(support: &Support) -> Option<Support>
+    ensures { IfSome result (λ copy. copy ≡ support.now) }
 {
     match support {
-        Support::Nothing => Support::Nothing,
-        Support::Size { entry, size } => Support::Size {
+        Support::Nothing => Some(Support::Nothing),
+        Support::Size { entry, size } => Some(Support::Size {
             entry: *entry,
             size: *size,
-        },
+        }),
+        Support::Bound(_) => None,
     }
 }
 
@@ -232,7 +233,10 @@ fn copies_of(alloc: Global, supports: &[Support]) -> Result<Vec<Support>, AllocE
 {
     let mut copies = Vec::new(alloc);
     for support in supports {
-        copies.push(copy_of(support))?;
+        let Some(copy) = copy_of(support) else {
+            return Err(AllocError);
+        };
+        copies.push(copy)?;
     }
     Ok(copies)
 }
