@@ -1,6 +1,7 @@
 use Rattle.std.proofs.Common.{◌<◌, refl, [], ◌∷◌, codes}
 use Rattle.std.proofs.lemmas.List.Elements.{All-nil}
 use Rattle.std.specs.Fmt.{digits}
+use Rattle.ct_words.specs.Text.{word_text}
 use Rattle.ct_text.specs.Line.{words_of}
 use Rattle.ct_text.specs.Number.{number_of}
 use Rattle.ct_codes.specs.declared.claim.Side.TheVariants.{Lower, Upper}
@@ -71,7 +72,7 @@ returns-clause-explained_otherwise c =
     record { replies = Lines (explanation_text [] (lone Upper e 1 V1)) ∷ []; are = (record { derivation = lone Upper e 1 V1; explains = why; shown = refl }, tt); texts = refl; mark = refl }
 
 pub returns-clause-listed : goal.returns-clause-listed
-unfolding form_of words_of number_of reply_text digits
+unfolding form_of words_of number_of reply_text digits word_text
 returns-clause-listed c =
     let listed = word_alone_listed in
     record { replies = Lines (code_text word_alone) ∷ []; are = (record { code = word_alone; listed = listed; shown = refl }, tt); texts = refl; mark = refl }
