@@ -17,18 +17,43 @@ struct Listing {
     size: usize,
 }
 
-/// What is listed of an entry.
-const fn listing(n: u32, d: u32, w: Option<u32>, size: usize) -> Listing {
-    Listing { n, d, w, size }
-}
-
 const LISTINGS: [Listing; 6] = [
-    listing(1, 28, None, 1),
-    listing(5, 3, None, 4),
-    listing(8, 4, None, 16),
-    listing(4, 4, Some(0), 1),
-    listing(6, 4, Some(3), 4),
-    listing(16, 8, None, 32),
+    Listing {
+        n: 1,
+        d: 28,
+        w: None,
+        size: 1,
+    },
+    Listing {
+        n: 5,
+        d: 3,
+        w: None,
+        size: 4,
+    },
+    Listing {
+        n: 8,
+        d: 4,
+        w: None,
+        size: 16,
+    },
+    Listing {
+        n: 4,
+        d: 4,
+        w: Some(0),
+        size: 1,
+    },
+    Listing {
+        n: 6,
+        d: 4,
+        w: Some(3),
+        size: 2,
+    },
+    Listing {
+        n: 16,
+        d: 8,
+        w: None,
+        size: 32,
+    },
 ];
 
 /// The entry as a command names it.
