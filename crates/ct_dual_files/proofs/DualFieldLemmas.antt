@@ -1,6 +1,6 @@
 -- What the fields of a dual are, where they are read.
-use Rattle.std.proofs.Common.{◌≡◌, ℕ, suc, ◌%◌, ◌≤◌, Bool, true, false, not, ◌==◌, ◌&&◌, ◌||◌, nat_le, List, [], ◌∷◌, length, map, Option, Some, None, Result, Ok, Err, cond, inl, inr, refl, sym, ap, ◌∙◌, subst, le-leb, leb-true, eq-eqb, eqb-true, arith}
-use Rattle.std.specs.Prelude.{ℤ, pos, ◌≤ℤ◌, int_le, IsTrue, All, is_some}
+use Rattle.std.proofs.Common.{◌≡◌, ℕ, suc, ◌%◌, ◌^◌, ◌≤◌, Bool, true, false, not, ◌==◌, ◌&&◌, ◌||◌, nat_le, List, [], ◌∷◌, length, map, Option, Some, None, Result, Ok, Err, cond, inl, inr, refl, sym, ap, ◌∙◌, subst, le-leb, leb-true, eq-eqb, eqb-true, arith}
+use Rattle.std.specs.Prelude.{ℤ, pos, ◌≤ℤ◌, ◌<ℤ◌, int_le, int_lt, IsTrue, All, is_some}
 use Rattle.std.specs.List.{list_all}
 use Rattle.std.proofs.lemmas.Bool.{and_parts, and_from}
 use Rattle.std.proofs.lemmas.Int.{ints}
@@ -20,7 +20,7 @@ use Rattle.ct_fields.specs.declared.fault.FileFault.TheVariants.{Field}
 use Rattle.ct_fields.proofs.StepLemmas.{bind-ok, bind-err, check-ok, check-err, ok_or-ok, ok_or-err}
 use Rattle.ct_fields.proofs.FieldLemmas.{number_in-some}
 use Rattle.ct_duals.specs.Dual.{degree_of, is_in_range}
-use Rattle.ct_duals.specs.Form.{are_multipliers, are_allowances_from, are_allowances}
+use Rattle.ct_duals.specs.Form.{is_number, are_multipliers, are_allowances_from, are_allowances}
 use Rattle.ct_duals.proofs.FormLemmas.{multipliers-from, allowances-from}
 use Rattle.ct_dual_files.specs.Fields.{integers_of, pair_in, pairs_of, multipliers_in, allowances_in, even_field, multipliers_field, allowances_field}
 use Rattle.ct_dual_files.specs.WrittenDuals.{integer_list, pair_data, pair_list}
@@ -97,17 +97,25 @@ pairs_of-items (p ∷ y) small =
 nonneg-true : (z : ℤ) → pos 0 ≤ℤ z → int_le (pos 0) z ≡ true
 nonneg-true z h = grind (arith, ints)
 
-nonneg_all-true : (c : List ℤ) → All (λ z. pos 0 ≤ℤ z) c → list_all (λ z. int_le (pos 0) z) c ≡ true
-nonneg_all-true [] h = refl
-nonneg_all-true (z ∷ c) h =
-    and_from (int_le (pos 0) z) (list_all (λ y. int_le (pos 0) y) c) (nonneg-true z (All-head (λ y. pos 0 ≤ℤ y) z c h))
-    (nonneg_all-true c (All-tail (λ y. pos 0 ≤ℤ y) z c h))
+below-true : (z m : ℤ) → z <ℤ m → int_lt z m ≡ true
+below-true z m h = grind (arith, ints)
 
-are_multipliers-true : (e : Entry) (c : List ℤ) → 1 ≤ length c → length c ≤ suc (degree_of e) → All (λ z. pos 0 ≤ℤ z) c → are_multipliers e c ≡ true
-are_multipliers-true e c some few all =
-    and_from (nat_le 1 (length c) && nat_le (length c) (suc (degree_of e))) (list_all (λ z. int_le (pos 0) z) c)
+number-true : (z : ℤ) → pos 0 ≤ℤ z → z <ℤ pos (2 ^ 63) → is_number z ≡ true
+number-true z h small = and_from (int_le (pos 0) z) (int_lt z (pos (2 ^ 63))) (nonneg-true z h) (below-true z (pos (2 ^ 63)) small)
+
+numbers-true : (c : List ℤ) → All (λ z. pos 0 ≤ℤ z) c → All (λ z. z <ℤ pos (2 ^ 63)) c → list_all is_number c ≡ true
+numbers-true [] h small = refl
+numbers-true (z ∷ c) h small =
+    and_from (is_number z) (list_all is_number c)
+    (number-true z (All-head (λ y. pos 0 ≤ℤ y) z c h) (All-head (λ y. y <ℤ pos (2 ^ 63)) z c small))
+    (numbers-true c (All-tail (λ y. pos 0 ≤ℤ y) z c h) (All-tail (λ y. y <ℤ pos (2 ^ 63)) z c small))
+
+are_multipliers-true : (e : Entry) (c : List ℤ) → 1 ≤ length c → length c ≤ suc (degree_of e) → All (λ z. pos 0 ≤ℤ z) c → All (λ z. z <ℤ pos (2 ^ 63)) c
+    → are_multipliers e c ≡ true
+are_multipliers-true e c some few all small =
+    and_from (nat_le 1 (length c) && nat_le (length c) (suc (degree_of e))) (list_all is_number c)
     (and_from (nat_le 1 (length c)) (nat_le (length c) (suc (degree_of e))) (le-leb 1 (length c) some) (le-leb (length c) (suc (degree_of e)) few))
-    (nonneg_all-true c all)
+    (numbers-true c all small)
 
 -- pairs of the form of allowances pass the test
 abbrev pub IsAllowance : Entry → Bool → ℕ × ℤ → Type 0
@@ -116,14 +124,14 @@ IsAllowance e even p = IsTrue (is_in_range e even p.0) × (pos 0 ≤ℤ p.1)
 are_allowances_from-true : (e : Entry) (even : Bool) (low : ℕ) (y : List (ℕ × ℤ)) → All (λ p. low ≤ p.0) y → AreAllowances e even y
     → are_allowances_from e even low y ≡ true
 are_allowances_from-true e even low [] above are = refl
-are_allowances_from-true e even low (p ∷ y) above (ascending, each) =
+are_allowances_from-true e even low (p ∷ y) above (ascending, each, small) =
     let here = All-head (IsAllowance e even) p y each in
-    and_from (nat_le low p.0 && is_in_range e even p.0 && int_le (pos 0) p.1) (are_allowances_from e even (suc p.0) y)
-    (and_from (nat_le low p.0 && is_in_range e even p.0) (int_le (pos 0) p.1)
+    and_from (nat_le low p.0 && is_in_range e even p.0 && is_number p.1) (are_allowances_from e even (suc p.0) y)
+    (and_from (nat_le low p.0 && is_in_range e even p.0) (is_number p.1)
     (and_from (nat_le low p.0) (is_in_range e even p.0) (le-leb low p.0 (All-head (λ (q : ℕ × ℤ). low ≤ q.0) p y above)) here.0)
-    (nonneg-true p.1 here.1))
+    (number-true p.1 here.1 (All-head (λ (q : ℕ × ℤ). q.1 <ℤ pos (2 ^ 63)) p y small)))
     (are_allowances_from-true e even (suc p.0) y (λ k d l. ascending 0 (suc k) d (omega arith) (omega arith))
-    ((λ i j d l m. ascending (suc i) (suc j) d (omega arith) (omega arith)), All-tail (IsAllowance e even) p y each))
+    ((λ i j d l m. ascending (suc i) (suc j) d (omega arith) (omega arith)), All-tail (IsAllowance e even) p y each, All-tail (λ (q : ℕ × ℤ). q.1 <ℤ pos (2 ^ 63)) p y small))
 
 -- an index of the range is small
 in_range-small : (e : Entry) (even : Bool) (i : ℕ) → degree_of e ≤ MAX_N → is_in_range e even i ≡ true → i ≤ MAX_N
@@ -153,11 +161,11 @@ pub multipliers-stated : (e : Entry) (document : Data) (c : List ℤ) → multip
 multipliers-stated e document c h =
     option_and_then_some (multipliers_in e) (get (field_text name.C) document) c (ok_or-ok _ (Field name.C) c h) (λ d found is.
     let (d-is, test) = multipliers_in-some e d c is in
-    let (some, few, all) = multipliers-from e c test in
-    (found ∙ ap Some d-is, some, few, all))
+    let (some, few, all, small) = multipliers-from e c test in
+    (found ∙ ap Some d-is, some, few, all, small))
 
 pub multipliers-read : (e : Entry) (document : Data) (c : List ℤ) → HasMultipliers e document c → multipliers_field e document ≡ Ok c
-multipliers-read e document c (has, some, few, all) = rw (has, integers_of-items c, are_multipliers-true e c some few all) refl
+multipliers-read e document c (has, some, few, all, small) = rw (has, integers_of-items c, are_multipliers-true e c some few all small) refl
 
 pub multipliers-err : (e : Entry) (document : Data) (fault : FileFault) → multipliers_field e document ≡ Err fault → Field name.C ≡ fault
 multipliers-err e document fault h = (ok_or-err _ (Field name.C) fault h).1
@@ -186,8 +194,8 @@ allowances-stated e even document y h = go (get (field_text name.Y) document) re
     go (Some value) there h =
         option_and_then_some (allowances_in e even) (get (field_text name.Y) document) y (ok_or-ok _ (Field name.Y) y h) (λ d found is.
         let (d-is, test) = allowances_in-some e even d y is in
-        let (above, ascending, each) = allowances-from e even 0 y test in
-        inl (found ∙ ap Some d-is, (ascending, each)))
+        let (above, ascending, each, small) = allowances-from e even 0 y test in
+        inl (found ∙ ap Some d-is, (ascending, each, small)))
 
 pub allowances-read : (e : Entry) (even : Bool) (document : Data) (y : List (ℕ × ℤ)) → degree_of e ≤ MAX_N → HasAllowances e even document y
     → allowances_field e even document ≡ Ok y

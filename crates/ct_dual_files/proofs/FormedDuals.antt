@@ -1,6 +1,6 @@
 -- The dual that a document states has the form of one.
-use Rattle.std.proofs.Common.{◌≡◌, ℕ, ◌%◌, Bool, true, false, List, [], Result, Ok, Err, inl, inr, refl, sym, ◌∙◌, subst, arith}
-use Rattle.std.specs.Prelude.{ℤ, IfOk}
+use Rattle.std.proofs.Common.{◌≡◌, ℕ, ◌%◌, ◌^◌, Bool, true, false, List, [], Result, Ok, Err, inl, inr, refl, sym, ◌∙◌, subst, arith}
+use Rattle.std.specs.Prelude.{ℤ, pos, ◌<ℤ◌, IfOk}
 use Rattle.std.proofs.lemmas.Bool.{false≢true}
 use Rattle.std.proofs.lemmas.List.Elements.{All-nil}
 use Rattle.toml.specs.Data.{Data}
@@ -26,17 +26,20 @@ even_fits : (d : ℕ) (document : Data) (even : Bool) → HasEven d document eve
 even_fits d document even (inl (has, fits)) set = fits set
 even_fits d document even (inr (none, unset)) set = absurd (false≢true (sym unset ∙ set))
 
+-- none are allowances
+no_allowances : (e : Entry) (even : Bool) → AreAllowances e even []
+no_allowances e even = ((λ i j d l m. absurd (omega arith)), All-nil (IsAllowance e even), All-nil (λ (p : ℕ × ℤ). p.1 <ℤ pos (2 ^ 63)))
+
 -- allowances that are left out are none
 are_allowances : (e : Entry) (even : Bool) (document : Data) (y : List (ℕ × ℤ)) → HasAllowances e even document y → AreAllowances e even y
 are_allowances e even document y (inl (has, are)) = are
-are_allowances e even document y (inr (none, empty)) =
-    subst (AreAllowances e even) (sym empty) ((λ i j d l m. absurd (omega arith)), All-nil (IsAllowance e even))
+are_allowances e even document y (inr (none, empty)) = subst (AreAllowances e even) (sym empty) (no_allowances e even)
 
 -- what states a dual without weight states one of its form
 pub formed_plain : (document : Data) (d : Dual) → StatesEven document d.entry d.even → HasMultipliers d.entry document d.c
     → HasAllowances d.entry d.even document d.y
     → IsDual d
-formed_plain document d states (has, some, few, all) allows =
+formed_plain document d states (has, some, few, all, small) allows =
     let n = states.entry.with_length in
     let far = states.entry.with_distance in
     let entry = entry_from_limits (unrestricted d.entry.n d.entry.d) n.1 n.2 far.1 far.2 tt in
@@ -50,13 +53,14 @@ formed_plain document d states (has, some, few, all) allows =
       multipliers = all;
       ascending = are.0;
       allowances = are.1;
+      signed = (small, are.2);
     }
 
 -- and so with what states one with a weight
 pub formed_weighted : (document : Data) (d : Dual) → StatesWeightedEntry document d.entry → d.even ≡ false → HasMultipliers d.entry document d.c
     → d.y ≡ []
     → IsDual d
-formed_weighted document d states unmarked (has, some, few, all) empty =
+formed_weighted document d states unmarked (has, some, few, all, small) empty =
     let (w, is, at_w) = states.with_weight in
     let n = states.with_length in
     let far = states.with_distance.0 in
@@ -64,8 +68,7 @@ formed_weighted document d states unmarked (has, some, few, all) empty =
     let near = far.1 in
     let entry : IsEntry (constant_weight d.entry.n d.entry.d w) =
     entry_from_limits (constant_weight d.entry.n d.entry.d w) n.1 n.2 far.1 far.2 (even, omega arith, at_w.2) in
-    let none : AreAllowances d.entry d.even [] = ((λ i j d l m. absurd (omega arith)), All-nil (IsAllowance d.entry d.even)) in
-    let are = subst (AreAllowances d.entry d.even) (sym empty) none in
+    let are = subst (AreAllowances d.entry d.even) (sym empty) (no_allowances d.entry d.even) in
     record {
       entry = subst (λ v. IsEntry (record { n = d.entry.n; d = d.entry.d; w = v })) (sym is) entry;
       even_distance = λ set. absurd (false≢true (sym unmarked ∙ set));
@@ -75,6 +78,7 @@ formed_weighted document d states unmarked (has, some, few, all) empty =
       multipliers = all;
       ascending = are.0;
       allowances = are.1;
+      signed = (small, are.2);
     }
 
 same_ok : {A : Type 0} (x y : A) → ◌≡◌ {A = Result A FileFault} (Ok x) (Ok y) → x ≡ y

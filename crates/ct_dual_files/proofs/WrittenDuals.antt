@@ -32,8 +32,8 @@ states_dual d form plain =
           };
           marked = inl (refl, form.even_distance);
         };
-        multipliers = (refl, form.some, form.few, form.multipliers);
-        allowances = inl (refl, (form.ascending, form.allowances));
+        multipliers = (refl, form.some, form.few, form.multipliers, form.signed.0);
+        allowances = inl (refl, (form.ascending, form.allowances, form.signed.1));
       };
       only = has_only-true dual_fields (dual_table d) refl;
     }
@@ -58,7 +58,7 @@ states_johnson_dual d form some = at d.entry.w form some
               with_weight = (w, refl, (refl, omega arith, limits.weight.2));
             };
             unmarked = form.weighted.0;
-            multipliers = (refl, form.some, form.few, form.multipliers);
+            multipliers = (refl, form.some, form.few, form.multipliers, form.signed.0);
             none_allowed = form.weighted.1;
           };
           only = has_only-true johnson_dual_fields (johnson_dual_table (weighted (Some w))) refl;

@@ -1,5 +1,5 @@
 -- Which tables state duals, and where each answer comes for a document of kind dual or jdual.
-use Rattle.std.specs.Prelude.{◌≡◌, ℕ, suc, ◌%◌, ◌<◌, ◌≤◌, ◌⊎◌, Bool, true, false, List, [], ◌∷◌, length, Some, None, IsSome, IsTrue, Result, Ok, Err, All, AllPairs, ℤ, pos, ◌≤ℤ◌, codes}
+use Rattle.std.specs.Prelude.{◌≡◌, ℕ, suc, ◌%◌, ◌^◌, ◌<◌, ◌≤◌, ◌⊎◌, Bool, true, false, List, [], ◌∷◌, length, Some, None, IsSome, IsTrue, Result, Ok, Err, All, AllPairs, ℤ, pos, ◌≤ℤ◌, ◌<ℤ◌, codes}
 use Rattle.toml.specs.Data.{Data, boolean, get}
 use Rattle.ct_codes.specs.declared.entry.Entry.{Entry}
 use Rattle.ct_fields.specs.Field.{field_text}
@@ -27,14 +27,16 @@ HasEven d document even =
     ((get (field_text name.Even) document ≡ Some (boolean even)) × (even ≡ true → d % 2 ≡ 0))
     ⊎ ((get (field_text name.Even) document ≡ None) × (even ≡ false))
 
--- the field `c` is the list of 1 to degree + 1 whole numbers, all at least 0
+-- the field `c` is the list of 1 to degree + 1 whole numbers, all at least 0 and below 2^63
 abbrev pub HasMultipliers : Entry → Data → List ℤ → Type 0
 HasMultipliers e document c =
     (get (field_text name.C) document ≡ Some (integer_list c)) × (1 ≤ length c) × (length c ≤ suc (degree_of e)) × All (λ z. pos 0 ≤ℤ z) c
+    × All (λ z. z <ℤ pos (2 ^ 63)) c
 
--- the pairs name indices from d to n, even ones alone where `even` is set, in ascending order, each with a number of at least 0
+-- the pairs name indices from d to n, even ones alone where `even` is set, in ascending order, each with a number of at least 0 and below 2^63
 abbrev pub AreAllowances : Entry → Bool → List (ℕ × ℤ) → Type 0
-AreAllowances e even y = AllPairs (λ p q. p.0 < q.0) y × All (λ p. IsTrue (is_in_range e even p.0) × (pos 0 ≤ℤ p.1)) y
+AreAllowances e even y =
+    AllPairs (λ p q. p.0 < q.0) y × All (λ p. IsTrue (is_in_range e even p.0) × (pos 0 ≤ℤ p.1)) y × All (λ p. p.1 <ℤ pos (2 ^ 63)) y
 
 -- the field `y` is the list of such pairs; it is empty where the key is not there
 abbrev pub HasAllowances : Entry → Bool → Data → List (ℕ × ℤ) → Type 0

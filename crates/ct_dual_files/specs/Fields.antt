@@ -12,7 +12,7 @@ use Rattle.ct_fields.specs.declared.fault.FileFault.{FileFault}
 use Rattle.ct_fields.specs.declared.fault.FileFault.TheVariants.{Field}
 use Rattle.ct_duals.specs.Form.{are_multipliers, are_allowances}
 
--- the whole numbers of items that all are such, in 64 signed bits
+-- the whole numbers of items that all are such
 abbrev pub integers_of : Items → Option (List ℤ)
 integers_of no_items = Some []
 integers_of (item d ds) = option_and_then (λ z. option_and_then (λ zs. Some (z ∷ zs)) (integers_of ds)) (as_integer d)
@@ -27,12 +27,12 @@ abbrev pub pairs_of : Items → Option (List (ℕ × ℤ))
 pairs_of no_items = Some []
 pairs_of (item d ds) = option_and_then (λ p. option_and_then (λ ps. Some (p ∷ ps)) (pairs_of ds)) (pair_in d)
 
--- the multipliers that a list is: 1 to degree + 1 whole numbers of at least 0
+-- the multipliers that a list is: 1 to degree + 1 whole numbers of at least 0, in 64 signed bits
 abbrev pub multipliers_in : Entry → Data → Option (List ℤ)
 multipliers_in e (array ds) = option_and_then (λ c. if are_multipliers e c then Some c else None) (integers_of ds)
 multipliers_in e _ = None
 
--- the allowances that a list of pairs is: indices of the range in ascending order, each with a number of at least 0
+-- the allowances that a list of pairs is: indices of the range in ascending order, each with a number of at least 0, in 64 signed bits
 abbrev pub allowances_in : Entry → Bool → Data → Option (List (ℕ × ℤ))
 allowances_in e even (array ds) = option_and_then (λ y. if are_allowances e even y then Some y else None) (pairs_of ds)
 allowances_in e even _ = None

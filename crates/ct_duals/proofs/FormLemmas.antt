@@ -1,6 +1,6 @@
 -- A dual that passes the tests has the form of one.
-use Rattle.std.proofs.Common.{◌≡◌, ℕ, suc, ◌%◌, ◌<◌, ◌≤◌, Bool, true, false, ◌&&◌, nat_le, List, [], ◌∷◌, length, refl, arith, leb-true, eqb-true}
-use Rattle.std.specs.Prelude.{ℤ, pos, ◌≤ℤ◌, int_le, Option, Some, None, IsTrue}
+use Rattle.std.proofs.Common.{◌≡◌, ℕ, suc, ◌%◌, ◌^◌, ◌<◌, ◌≤◌, Bool, true, false, ◌&&◌, nat_le, List, [], ◌∷◌, length, refl, arith, leb-true, eqb-true}
+use Rattle.std.specs.Prelude.{ℤ, pos, ◌≤ℤ◌, ◌<ℤ◌, int_le, int_lt, Option, Some, None, IsTrue}
 use Rattle.std.specs.List.{All, AllPairs, list_all}
 use Rattle.std.proofs.lemmas.Int.{ints}
 use Rattle.std.proofs.lemmas.Bool.{and_parts}
@@ -10,41 +10,54 @@ use Rattle.ct_codes.specs.declared.entry.Entry.{Entry}
 use Rattle.ct_codes.specs.Entry.{is_entry}
 use Rattle.ct_duals.specs.declared.dual.Dual.{Dual}
 use Rattle.ct_duals.specs.Dual.{degree_of, is_in_range, IsPlainOf, IsDual}
-use Rattle.ct_duals.specs.Form.{are_multipliers, are_allowances_from, are_allowances, are_marks, is_dual}
+use Rattle.ct_duals.specs.Form.{is_number, are_multipliers, are_allowances_from, are_allowances, are_marks, is_dual}
 
 nonneg : (z : ℤ) → int_le (pos 0) z ≡ true → pos 0 ≤ℤ z
 nonneg z h = grind (arith, ints)
 
+below : (z m : ℤ) → int_lt z m ≡ true → z <ℤ m
+below z m h = grind (arith, ints)
+
+number-from : (z : ℤ) → is_number z ≡ true → (pos 0 ≤ℤ z) × (z <ℤ pos (2 ^ 63))
+number-from z h =
+    let both = and_parts (int_le (pos 0) z) (int_lt z (pos (2 ^ 63))) h in
+    (nonneg z both.0, below z (pos (2 ^ 63)) both.1)
+
 -- multipliers
-nonneg_all : (c : List ℤ) → list_all (λ z. int_le (pos 0) z) c ≡ true → All (λ z. pos 0 ≤ℤ z) c
-nonneg_all [] h = All-nil (λ z. pos 0 ≤ℤ z)
-nonneg_all (z ∷ c) h =
-    let both = and_parts (int_le (pos 0) z) (list_all (λ y. int_le (pos 0) y) c) h in
-    All-cons (λ y. pos 0 ≤ℤ y) z c (nonneg z both.0) (nonneg_all c both.1)
+numbers-from : (c : List ℤ) → list_all is_number c ≡ true → All (λ z. pos 0 ≤ℤ z) c × All (λ z. z <ℤ pos (2 ^ 63)) c
+numbers-from [] h = (All-nil (λ z. pos 0 ≤ℤ z), All-nil (λ z. z <ℤ pos (2 ^ 63)))
+numbers-from (z ∷ c) h =
+    let both = and_parts (is_number z) (list_all is_number c) h in
+    let here = number-from z both.0 in
+    let rest = numbers-from c both.1 in
+    (All-cons (λ y. pos 0 ≤ℤ y) z c here.0 rest.0, All-cons (λ y. y <ℤ pos (2 ^ 63)) z c here.1 rest.1)
 
 pub multipliers-from : (e : Entry) (c : List ℤ) → are_multipliers e c ≡ true
-    → (1 ≤ length c) × (length c ≤ suc (degree_of e)) × All (λ z. pos 0 ≤ℤ z) c
+    → (1 ≤ length c) × (length c ≤ suc (degree_of e)) × All (λ z. pos 0 ≤ℤ z) c × All (λ z. z <ℤ pos (2 ^ 63)) c
 multipliers-from e c h =
-    let both = and_parts (nat_le 1 (length c) && nat_le (length c) (suc (degree_of e))) (list_all (λ z. int_le (pos 0) z) c) h in
+    let both = and_parts (nat_le 1 (length c) && nat_le (length c) (suc (degree_of e))) (list_all is_number c) h in
     let ends = and_parts (nat_le 1 (length c)) (nat_le (length c) (suc (degree_of e))) both.0 in
-    (leb-true 1 (length c) ends.0, leb-true (length c) (suc (degree_of e)) ends.1, nonneg_all c both.1)
+    let numbers = numbers-from c both.1 in
+    (leb-true 1 (length c) ends.0, leb-true (length c) (suc (degree_of e)) ends.1, numbers.0, numbers.1)
 
 -- allowances
 abbrev IsAllowance : Entry → Bool → ℕ × ℤ → Type 0
 IsAllowance e even p = IsTrue (is_in_range e even p.0) × (pos 0 ≤ℤ p.1)
 
 pub allowances-from : (e : Entry) (even : Bool) (low : ℕ) (y : List (ℕ × ℤ)) → are_allowances_from e even low y ≡ true
-    → All (λ p. low ≤ p.0) y × AllPairs (λ p q. p.0 < q.0) y × All (λ p. IsTrue (is_in_range e even p.0) × (pos 0 ≤ℤ p.1)) y
-allowances-from e even low [] h = (All-nil (λ (p : ℕ × ℤ). low ≤ p.0), (λ i j d l m. absurd (omega arith)), All-nil (IsAllowance e even))
+    → All (λ p. low ≤ p.0) y × AllPairs (λ p q. p.0 < q.0) y × All (λ p. IsTrue (is_in_range e even p.0) × (pos 0 ≤ℤ p.1)) y × All (λ p. p.1 <ℤ pos (2 ^ 63)) y
+allowances-from e even low [] h = (All-nil (λ (p : ℕ × ℤ). low ≤ p.0), (λ i j d l m. absurd (omega arith)), All-nil (IsAllowance e even), All-nil (λ (p : ℕ × ℤ). p.1 <ℤ pos (2 ^ 63)))
 allowances-from e even low (p ∷ y) h =
-    let three = and_parts (nat_le low p.0 && is_in_range e even p.0 && int_le (pos 0) p.1) (are_allowances_from e even (suc p.0) y) h in
-    let two = and_parts (nat_le low p.0 && is_in_range e even p.0) (int_le (pos 0) p.1) three.0 in
+    let three = and_parts (nat_le low p.0 && is_in_range e even p.0 && is_number p.1) (are_allowances_from e even (suc p.0) y) h in
+    let two = and_parts (nat_le low p.0 && is_in_range e even p.0) (is_number p.1) three.0 in
     let one = and_parts (nat_le low p.0) (is_in_range e even p.0) two.0 in
     let rest = allowances-from e even (suc p.0) y three.1 in
+    let number = number-from p.1 two.1 in
     let first = leb-true low p.0 one.0 in (
       All-cons (λ (q : ℕ × ℤ). low ≤ q.0) p y first (All-weaker (λ (q : ℕ × ℤ). suc p.0 ≤ q.0) (λ (q : ℕ × ℤ). low ≤ q.0) (λ q l. omega arith) y rest.0),
       AllPairs-cons (λ (q r : ℕ × ℤ). q.0 < r.0) p y rest.0 rest.1,
-      All-cons (IsAllowance e even) p y (one.1, nonneg p.1 two.1) rest.2,
+      All-cons (IsAllowance e even) p y (one.1, number.0) rest.2,
+      All-cons (λ (q : ℕ × ℤ). q.1 <ℤ pos (2 ^ 63)) p y number.1 rest.3,
     )
 
 -- marks
@@ -77,4 +90,5 @@ form-from d h =
       multipliers = numbers.2;
       ascending = pairs.1;
       allowances = pairs.2;
+      signed = (numbers.3, pairs.3);
     }

@@ -1,5 +1,5 @@
 -- Duals of Delsarte's linear program (Delsarte 1973; MacWilliams and Sloane, chapter 17, section 4), and the spaces of words that they speak of.
-use Rattle.std.specs.Prelude.{◌≡◌, ℕ, suc, ◌-◌, ◌/◌, ◌%◌, ◌^◌, ◌<◌, ◌≤◌, min, Bool, true, false, not, ◌==◌, ◌&&◌, ◌||◌, nat_le, if◌then◌else◌, IsTrue, List, [], ◌∷◌, length, get_or, ℤ, pos, ◌*ℤ◌, ◌≤ℤ◌, All, AllPairs, Option, Some, None, IfSome}
+use Rattle.std.specs.Prelude.{◌≡◌, ℕ, suc, ◌-◌, ◌/◌, ◌%◌, ◌^◌, ◌<◌, ◌≤◌, min, Bool, true, false, not, ◌==◌, ◌&&◌, ◌||◌, nat_le, if◌then◌else◌, IsTrue, List, [], ◌∷◌, length, get_or, ℤ, pos, ◌*ℤ◌, ◌≤ℤ◌, ◌<ℤ◌, All, AllPairs, Option, Some, None, IfSome}
 use Rattle.ct_counting.specs.Alternating.{total_below}
 use Rattle.ct_words.specs.Word.{weight, distance}
 use Rattle.ct_codes.specs.declared.entry.Entry.{Entry}
@@ -56,7 +56,7 @@ abbrev pub IsPlainOf : Option ℕ → Bool → List (ℕ × ℤ) → Type 0
 IsPlainOf None even y = Unit {0}
 IsPlainOf (Some w) even y = (even ≡ false) × (y ≡ [])
 
--- the form of a dual: it is of an entry of the table; c has 1 to degree + 1 numbers, all at least 0; y names indices of the range in ascending order, each with a number of at least 0
+-- the form of a dual: it is of an entry of the table; c has 1 to degree + 1 numbers, all at least 0; y names indices of the range in ascending order, each with a number of at least 0; all these numbers are below 2^63
 pub record IsDual (d : Dual) : Type 0 where
   pub entry : IsEntry d.entry
   pub even_distance : d.even ≡ true → d.entry.d % 2 ≡ 0
@@ -66,3 +66,4 @@ pub record IsDual (d : Dual) : Type 0 where
   pub multipliers : All (λ z. pos 0 ≤ℤ z) d.c
   pub ascending : AllPairs (λ p q. p.0 < q.0) d.y
   pub allowances : All (λ p. IsTrue (is_in_range d.entry d.even p.0) × (pos 0 ≤ℤ p.1)) d.y
+  pub signed : All (λ z. z <ℤ pos (2 ^ 63)) d.c × All (λ p. p.1 <ℤ pos (2 ^ 63)) d.y

@@ -1,22 +1,26 @@
 -- Whether the numbers of a dual have the form that a dual has.
-use Rattle.std.specs.Prelude.{ℕ, suc, ◌%◌, Bool, true, false, not, ◌==◌, ◌&&◌, ◌||◌, nat_le, List, [], ◌∷◌, length, ℤ, pos, int_le, Option, Some, None}
+use Rattle.std.specs.Prelude.{ℕ, suc, ◌%◌, ◌^◌, Bool, true, false, not, ◌==◌, ◌&&◌, ◌||◌, nat_le, List, [], ◌∷◌, length, ℤ, pos, int_le, int_lt, Option, Some, None}
 use Rattle.std.specs.List.{list_all}
 use Rattle.ct_codes.specs.declared.entry.Entry.{Entry}
 use Rattle.ct_codes.specs.Entry.{is_entry}
 use Rattle.ct_duals.specs.declared.dual.Dual.{Dual}
 use Rattle.ct_duals.specs.Dual.{degree_of, is_in_range}
 
--- whether there are 1 to degree + 1 numbers, all at least 0
-abbrev pub are_multipliers : Entry → List ℤ → Bool
-are_multipliers e c = nat_le 1 (length c) && nat_le (length c) (suc (degree_of e)) && list_all (λ z. int_le (pos 0) z) c
+-- whether a number is at least 0, and in 64 signed bits
+abbrev pub is_number : ℤ → Bool
+is_number z = int_le (pos 0) z && int_lt z (pos (2 ^ 63))
 
--- whether the indices are at least `low`, of the range, and strictly ascending, and each number is at least 0
+-- whether there are 1 to degree + 1 such numbers
+abbrev pub are_multipliers : Entry → List ℤ → Bool
+are_multipliers e c = nat_le 1 (length c) && nat_le (length c) (suc (degree_of e)) && list_all is_number c
+
+-- whether the indices are at least `low`, of the range, and strictly ascending, and each number is one of those
 abbrev pub are_allowances_from : Entry → Bool → ℕ → List (ℕ × ℤ) → Bool
 are_allowances_from e even low [] = true
 are_allowances_from e even low (p ∷ y) =
-    nat_le low p.0 && is_in_range e even p.0 && int_le (pos 0) p.1 && are_allowances_from e even (suc p.0) y
+    nat_le low p.0 && is_in_range e even p.0 && is_number p.1 && are_allowances_from e even (suc p.0) y
 
--- whether the indices are of the range and strictly ascending, and each number is at least 0
+-- whether the indices are of the range and strictly ascending, and each number is one of those
 abbrev pub are_allowances : Entry → Bool → List (ℕ × ℤ) → Bool
 are_allowances e even y = are_allowances_from e even 0 y
 

@@ -1,10 +1,10 @@
 //! The form of a dual.
-ghost use Rattle.std.specs.Prelude.{◌≡◌, ◌≤◌, true, pos, int_le};
+ghost use Rattle.std.specs.Prelude.{◌≡◌, ◌≤◌, true};
 ghost use Rattle.std.specs.List.{list_all};
 ghost use Rattle.ct_words.specs.declared.limits.TheConstants.{MAX_N};
 ghost use Rattle.ct_codes.specs.Entry.{IsEntry};
 ghost use Rattle.ct_duals.specs.Dual.{IsDual, degree_of, is_in_range};
-ghost use Rattle.ct_duals.specs.Form.{is_dual, are_multipliers, are_allowances, are_marks};
+ghost use Rattle.ct_duals.specs.Form.{is_dual, are_multipliers, are_allowances, are_marks, is_number};
 
 use crate::dual::Dual;
 use ct_codes::Entry;
@@ -69,7 +69,7 @@ pub fn are_multipliers(entry: Entry, c: &[i64]) -> bool
 }
 
 fn is_none_negative(c: &[i64]) -> bool
-    ensures { result ≡ list_all (λ z. int_le (pos 0) z) c.now }
+    ensures { result ≡ list_all is_number c.now }
 {
     for number in c {
         if *number < 0 {
