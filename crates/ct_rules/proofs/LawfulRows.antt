@@ -46,8 +46,9 @@ use Rattle.ct_weight_rules.proofs.LawfulJohnson.{johnson-lawful}
 use Rattle.ct_weight_rules.proofs.LawfulAveraging.{averaging-lawful}
 use Rattle.ct_weight_rules.proofs.LawfulGivenCode.{given_code-lawful as given_code_of_weight-lawful}
 use Rattle.ct_weight_rules.proofs.LawfulAllWords.{all_words-lawful as all_words_of_weight-lawful}
+use Rattle.ct_weight_rules.proofs.LawfulDelsarte.{dual_above-lawful, dual_above_of_weight-lawful}
 use Rattle.ct_rules.specs.declared.rule.Rule.{Rule}
-use Rattle.ct_rules.specs.declared.rule.Rule.TheVariants.{L1, L2, L3, L4, L5, L6, L7, L8, L9, L10, L11, M1, M2, M3, M4, M5, M6, M7, M8, M10, U0, U1, U2, U3, U4, U5, U6, U7, U8, U9, U10, V0, V1, V2, V3, V4, V5, V6, V7, V8}
+use Rattle.ct_rules.specs.declared.rule.Rule.TheVariants.{L1, L2, L3, L4, L5, L6, L7, L8, L9, L10, L11, M1, M2, M3, M4, M5, M6, M7, M8, M10, U0, U1, U2, U3, U4, U5, U6, U7, U8, U9, U10, U11, V0, V1, V2, V3, V4, V5, V6, V7, V8, V9}
 use Rattle.ct_rules.specs.Rule.{Row, by_itself, by_numbers, by_weight, by_support, row_of, parts_in, parts_of, parts_over, place_of, with_place, is_alone_in, is_alone, is_by_weight, cited, rule_side}
 
 -- what each rule is made of is lawful
@@ -84,6 +85,7 @@ lawful U7 c = nearer_above-lawful c
 lawful U8 c = lengthened_above-lawful c
 lawful U9 c = johnson-lawful c
 lawful (U10 w) c = averaging-lawful w c
+lawful (U11 place) c = dual_above-lawful c
 lawful V0 c = all_words_of_weight-lawful c
 lawful V1 c = far_words_of_weight-lawful c
 lawful V2 c = disjoint_above-lawful c
@@ -93,12 +95,15 @@ lawful V5 c = with_zero_above-lawful c
 lawful V6 c = split-lawful c
 lawful V7 c = nearer_above_of_weight-lawful c
 lawful V8 c = column_pairs-lawful c
+lawful (V9 place) c = dual_above_of_weight-lawful c
 
 -- a rule has one side, whatever the support that it names
 pub side_is : (r : Rule) (c : Option Support) → (parts_of r c).side ≡ rule_side r
 unfolding row_of
 side_is (L10 place) c = refl
 side_is (M10 place) c = refl
+side_is (U11 place) c = refl
+side_is (V9 place) c = refl
 side_is r c = refl
 
 -- what fails with what precedes it fails
@@ -112,6 +117,8 @@ pub needs_support : (r : Rule) (place : ℕ) (e : Entry) → place_of r ≡ Some
 unfolding row_of
 needs_support (L10 place) other e names = fails (not (has_weight e))
 needs_support (M10 place) other e names = fails (has_weight e)
+needs_support (U11 place) other e names = fails (not (has_weight e))
+needs_support (V9 place) other e names = fails (has_weight e)
 needs_support r place e names = absurd (none-some place names)
 
 -- nor over one that gives nothing
@@ -120,14 +127,18 @@ pub needs_something : (r : Rule) (place : ℕ) (e : Entry) → place_of r ≡ So
 unfolding row_of
 needs_something (L10 place) other e names = fails (not (has_weight e))
 needs_something (M10 place) other e names = fails (has_weight e)
+needs_something (U11 place) other e names = fails (not (has_weight e))
+needs_something (V9 place) other e names = fails (has_weight e)
 needs_something r place e names = absurd (none-some place names)
 
--- a rule that names a support rests on nothing
+-- a rule that names a support rests on nothing, but for one
 pub supported-rests : (r : Rule) (place : ℕ) (c : Option Support) (e : Entry) → place_of r ≡ Some place
-    → (parts_of r c).rests_on e ≡ []
+    → ((parts_of r c).rests_on e ≡ []) ⊎ (r ≡ U11 place)
 unfolding row_of
-supported-rests (L10 place) other c e names = refl
-supported-rests (M10 place) other c e names = refl
+supported-rests (L10 place) other c e names = inl refl
+supported-rests (M10 place) other c e names = inl refl
+supported-rests (U11 place) other c e names = inr (ap U11 (same_Some place other names))
+supported-rests (V9 place) other c e names = inl refl
 supported-rests r place c e names = absurd (none-some place names)
 
 -- a rule with another place names that place, and is made of the same
@@ -135,18 +146,24 @@ pub place_of-placed : (r : Rule) (place other : ℕ) → place_of r ≡ Some pla
 unfolding row_of
 place_of-placed (L10 place) was other names = refl
 place_of-placed (M10 place) was other names = refl
+place_of-placed (U11 place) was other names = refl
+place_of-placed (V9 place) was other names = refl
 place_of-placed r was other names = absurd (none-some was names)
 
 pub parts_of-placed : (r : Rule) (other : ℕ) (c : Option Support) → parts_of (with_place r other) c ≡ parts_of r c
 unfolding row_of
 parts_of-placed (L10 place) other c = refl
 parts_of-placed (M10 place) other c = refl
+parts_of-placed (U11 place) other c = refl
+parts_of-placed (V9 place) other c = refl
 parts_of-placed r other c = refl
 
 pub placed_again : (r : Rule) (other place : ℕ) → place_of r ≡ Some place → with_place (with_place r other) place ≡ r
 unfolding row_of
 placed_again (L10 place) other was names = ap L10 (sym (same_Some place was names))
 placed_again (M10 place) other was names = ap M10 (sym (same_Some place was names))
+placed_again (U11 place) other was names = ap U11 (sym (same_Some place was names))
+placed_again (V9 place) other was names = ap V9 (sym (same_Some place was names))
 placed_again r other was names = absurd (none-some was names)
 
 -- the rules with neither numbers nor a support that give bounds from a side
@@ -192,6 +209,8 @@ alone_listed (U10 w) alone = absurd (false≢true alone)
 alone_listed (L10 place) alone = absurd (false≢true alone)
 alone_listed (L11 n d) alone = absurd (false≢true alone)
 alone_listed (M10 place) alone = absurd (false≢true alone)
+alone_listed (U11 place) alone = absurd (false≢true alone)
+alone_listed (V9 place) alone = absurd (false≢true alone)
 
 -- whether two sides are one
 abbrev same_side : Side → Side → Bool
@@ -312,6 +331,8 @@ not_alone U9 names alone = inr refl
 not_alone (U10 w) names alone = inr refl
 not_alone (L10 place) names alone = absurd (none-some place (sym names))
 not_alone (M10 place) names alone = absurd (none-some place (sym names))
+not_alone (U11 place) names alone = absurd (none-some place (sym names))
+not_alone (V9 place) names alone = absurd (none-some place (sym names))
 not_alone r names alone = absurd (false≢true (sym alone))
 
 -- where a rule alone is defined, what it rests on has a weight just where the entry has one
@@ -342,6 +363,8 @@ rests_on_kind (L9 v) n d w alone = absurd (false≢true alone)
 rests_on_kind (L10 place) n d w alone = absurd (false≢true alone)
 rests_on_kind (L11 m c) n d w alone = absurd (false≢true alone)
 rests_on_kind (M10 place) n d w alone = absurd (false≢true alone)
+rests_on_kind (U11 place) n d w alone = absurd (false≢true alone)
+rests_on_kind (V9 place) n d w alone = absurd (false≢true alone)
 rests_on_kind U9 n d w alone = absurd (false≢true alone)
 rests_on_kind (U10 v) n d w alone = absurd (false≢true alone)
 rests_on_kind r n d None alone = refl

@@ -34,8 +34,9 @@ use Rattle.ct_weight_rules.specs.Johnson.{johnson}
 use Rattle.ct_weight_rules.specs.Averaging.{averaging}
 use Rattle.ct_weight_rules.specs.GivenCode.{given_code as given_code_of_weight}
 use Rattle.ct_weight_rules.specs.AllWords.{all_words as all_words_of_weight}
+use Rattle.ct_weight_rules.specs.Delsarte.{dual_above, dual_above_of_weight}
 use Rattle.ct_rules.specs.declared.rule.Rule.{Rule}
-use Rattle.ct_rules.specs.declared.rule.Rule.TheVariants.{L1, L2, L3, L4, L5, L6, L7, L8, L9, L10, L11, M1, M2, M3, M4, M5, M6, M7, M8, M10, U0, U1, U2, U3, U4, U5, U6, U7, U8, U9, U10, V0, V1, V2, V3, V4, V5, V6, V7, V8}
+use Rattle.ct_rules.specs.declared.rule.Rule.TheVariants.{L1, L2, L3, L4, L5, L6, L7, L8, L9, L10, L11, M1, M2, M3, M4, M5, M6, M7, M8, M10, U0, U1, U2, U3, U4, U5, U6, U7, U8, U9, U10, U11, V0, V1, V2, V3, V4, V5, V6, V7, V8, V9}
 
 -- the row of a rule: what it is made of, by itself or with the numbers that are its arguments; for a bound without weight from one with
 -- weight; or, over the support at a place, the rules that name one, its place, and what it is made of
@@ -78,6 +79,7 @@ row_of U7 = by_itself nearer_above
 row_of U8 = by_itself lengthened_above
 row_of U9 = by_weight johnson
 row_of (U10 w) = by_weight (averaging w)
+row_of (U11 place) = by_support U11 place dual_above
 row_of V0 = by_itself all_words_of_weight
 row_of V1 = by_itself far_words_of_weight
 row_of V2 = by_itself disjoint_above
@@ -87,6 +89,7 @@ row_of V5 = by_itself with_zero_above
 row_of V6 = by_itself split
 row_of V7 = by_itself nearer_above_of_weight
 row_of V8 = by_itself column_pairs
+row_of (V9 place) = by_support V9 place dual_above_of_weight
 
 -- what the rule of a row is made of, over the support that it names
 abbrev pub parts_in : Row → Option Support → RuleParts

@@ -1,8 +1,10 @@
 //! The rows of the rules: of each what it is made of, by the functions of its own file.
 
-ghost use Rattle.std.specs.Prelude.{◌≡◌, true, if◌then◌else◌, Some, None, option_map};
+ghost use Rattle.std.specs.Prelude.{◌≡◌, true, if◌then◌else◌, Some, None, option_map, slice_get};
 ghost use Rattle.ct_codes.specs.Entry.{IsEntry};
 ghost use Rattle.ct_rule_parts.specs.Entries.{listed};
+ghost use Rattle.ct_rule_parts.specs.Support.{dual_at};
+ghost use Rattle.ct_weight_rules.specs.Delsarte.{bound_of_dual, dual_above};
 ghost use Rattle.ct_rules.specs.Rule.{rule_side, place_of, with_place, is_alone, parts_of, parts_over, row_of};
 
 use crate::rule::Rule;
@@ -12,7 +14,7 @@ use ct_plain_rules::{
     count_of_sums, farther, longer, longer_and_farther, nearer, parts_of_sums, parts_side_by_side,
     shorter, shorter_and_nearer, sums_of,
 };
-use ct_rule_parts::{Entries, Support, first, second, size_at};
+use ct_rule_parts::{Entries, Support, dual_at, first, second, size_at};
 use ct_weight_rules::{
     around, averaged, below_too_many, bound_by_ones, bound_by_zeros, count_of_disjoint,
     count_with_one, count_with_zero, even_of_weight, has_disjoint_words, has_no_far_words,
@@ -38,11 +40,11 @@ pub fn rule_side(rule: Rule) -> Side
         Rule::U0 | Rule::U1 | Rule::U2 | Rule::U3 | Rule::U4 | Rule::U5 | Rule::U6 | Rule::U7 => {
             Side::Upper
         }
-        Rule::U8 | Rule::U9 | Rule::U10(_) => Side::Upper,
+        Rule::U8 | Rule::U9 | Rule::U10(_) | Rule::U11(_) => Side::Upper,
         Rule::V0 | Rule::V1 | Rule::V2 | Rule::V3 | Rule::V4 | Rule::V5 | Rule::V6 | Rule::V7 => {
             Side::Upper
         }
-        Rule::V8 => Side::Upper,
+        Rule::V8 | Rule::V9(_) => Side::Upper,
     }
 }
 
@@ -52,7 +54,7 @@ pub fn place_of(rule: Rule) -> Option<u32>
     ensures { result ≡ place_of rule }
 {
     match rule {
-        Rule::L10(place) | Rule::M10(place) => Some(place),
+        Rule::L10(place) | Rule::M10(place) | Rule::U11(place) | Rule::V9(place) => Some(place),
         _ => None,
     }
 }
@@ -65,8 +67,31 @@ pub fn with_place(rule: Rule, place: u32) -> Rule
     match rule {
         Rule::L10(_) => Rule::L10(place),
         Rule::M10(_) => Rule::M10(place),
+        Rule::U11(_) => Rule::U11(place),
+        Rule::V9(_) => Rule::V9(place),
         other => other,
     }
+}
+
+/// The entries that the dual of the support at the place rests on, in order, where the support gives one to an entry without
+/// weight.
+fn premises_of_dual(supports: &[Support], place: u32, entry: Entry) -> Option<Entries<'_>>
+    ensures { option_map listed result
+        ≡ (if (dual_above (slice_get supports.now place)).condition entry then Some ((dual_above (slice_get supports.now place)).rests_on entry) else None) }
+{
+    if entry.w.is_some() {
+        return None;
+    }
+    let dual = dual_at(supports, place as usize, entry)?;
+    Some(Entries::OfDual(dual))
+}
+
+/// The bound of the dual that the support at the place gives at the entry, from these values.
+fn bound_of_dual(supports: &[Support], place: u32, entry: Entry, values: &[u32]) -> Option<u64>
+    ensures { result ≡ bound_of_dual (dual_at (slice_get supports.now place) entry) values.now }
+{
+    let dual = dual_at(supports, place as usize, entry)?;
+    Some(u64::from(dual.bound(values)))
 }
 
 /// The entries whose bounds the rule rests on at an entry of the table, in order, where its condition holds there, over the
@@ -112,10 +137,14 @@ pub fn rests_on(supports: &[Support], rule: Rule, entry: Entry) -> Option<Entrie
         Rule::U7 => plain.then_some(Entries::One(nearer(entry))),
         Rule::U9 => plain.then_some(Entries::One(around(entry))),
         Rule::U10(w) => plain.then_some(Entries::One(of_weight(entry, w))),
+        Rule::U11(place) => premises_of_dual(supports, place, entry),
         Rule::V1 => has_no_far_words(entry).then_some(Entries::Zero),
         Rule::V6 => some_ones.then_some(parts_of_split(entry)),
         Rule::V7 => (!plain).then_some(Entries::One(two_nearer(entry))),
         Rule::V8 => (!plain && below_too_many(entry).is_some()).then_some(Entries::Zero),
+        Rule::V9(place) => {
+            (!plain && dual_at(supports, place as usize, entry).is_some()).then_some(Entries::Zero)
+        }
     }
 }
 
@@ -145,6 +174,7 @@ pub(crate) fn number(supports: &[Support], rule: Rule, entry: Entry, values: &[u
         Rule::U6 => Some(2 * first(values)),
         Rule::U9 => johnson_bound(entry, values),
         Rule::U10(w) => Some(averaged(w, entry, values)),
+        Rule::U11(place) | Rule::V9(place) => bound_of_dual(supports, place, entry, values),
         Rule::M2 | Rule::V2 => Some(count_of_disjoint(entry)),
         Rule::M3 | Rule::M4 | Rule::M7 | Rule::M8 | Rule::V7 => Some(first(values)),
         Rule::M5 => Some(count_with_one(entry, values)),

@@ -68,6 +68,10 @@ pub enum Rule {
     U9,
     /// A(n,d) ≤ ⌊2^(n−1)·A(n,d,w)/C(n,w)⌋ for even d and this weight w: the average over translates (Elias; Bassalygo).
     U10(u32),
+    /// A(n,d) ≤ ⌊(f(0)+S+T)/c_0⌋ for the dual of the support at this place, f its combination, S and T from y_i·A(n,2⌈d/2⌉,i) for
+    /// each i where it allows y_i above 0: in the group G, 2i ≥ 2n−d, the greatest is T, and of the others the sum is S (Delsarte;
+    /// Best, Brouwer, MacWilliams, Odlyzko and Sloane).
+    U11(u32),
     /// A(n,d,w) ≤ C(n,w): all words of the weight.
     V0,
     /// A(n,d,w) ≤ 1 where d > 2·min(w, n−w): two words differ at no more places than they have ones, or zeros.
@@ -87,4 +91,6 @@ pub enum Rule {
     /// A(n,d,w) ≤ M−1 for the least M from 2 to 1,000 that is too many: with wM = nq + r and 0 ≤ r < n, nq(q−1) + 2qr is above
     /// (w−d/2)·M(M−1), the pairs of words with a one at one place (Johnson).
     V8,
+    /// A(n,d,w) ≤ ⌊f(0)/c_0⌋ for the dual of constant weight of the support at this place, f its combination (Delsarte).
+    V9(u32),
 }
