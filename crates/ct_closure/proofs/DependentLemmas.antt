@@ -7,21 +7,21 @@ use Rattle.ct_rule_parts.specs.Parts.{RuleParts}
 use Rattle.ct_rule_parts.proofs.Lawful.{defined_condition}
 use Rattle.ct_rule_parts.proofs.PlainEntries.{no_item}
 use Rattle.ct_rules.specs.declared.rule.Rule.{Rule}
-use Rattle.ct_rules.specs.declared.rule.Rule.TheVariants.{L11}
+use Rattle.ct_rules.specs.declared.rule.Rule.TheVariants.{L11, U11}
 use Rattle.ct_rules.specs.Rule.{is_alone, is_by_weight, place_of, cited, parts_of, parts_over, rule_side, applies}
 use Rattle.ct_rules.specs.Listing.{rules_alone}
 use Rattle.ct_rules.proofs.LawfulRows.{lawful, alone-parts, alone_at_rested, not_alone, supported-rests}
 
--- an entry that rests on another by a rule does so by one alone, and is among those that it names, lays words side by side, or leads from
--- entries with weight to those without
+-- an entry that rests on another by a rule does so by one alone, and is among those that it names, lays words side by side, leads from
+-- entries with weight to those without, or does so by a dual
 pub record RestsAlone (r : Rule) (f e : Entry) : Type 0 where
   pub alone : is_alone r ≡ true
   pub listed : Contains (rules_alone (rule_side r, f)) r
   pub among : Contains ((parts_of r None).rested_on_by f) e
 
--- the two others
+-- the three others
 abbrev pub IsOtherRule : Rule → Type 0
-IsOtherRule r = ((m : ℕ) × (c : ℕ) × (r ≡ L11 m c)) ⊎ (is_by_weight r ≡ true)
+IsOtherRule r = ((m : ℕ) × (c : ℕ) × (r ≡ L11 m c)) ⊎ ((is_by_weight r ≡ true) ⊎ ((place : ℕ) × (r ≡ U11 place)))
 
 pub rests_on-cases : (supports : List Support) (r : Rule) (f e : Entry) → applies supports r e ≡ true
     → Contains ((parts_over supports r).rests_on e) f → RestsAlone r f e ⊎ IsOtherRule r
@@ -40,10 +40,15 @@ rests_on-cases supports r f e defined rests = by_place (place_of r) refl
               subst (λ (p : RuleParts). Contains (p.rested_on_by f) e) same
               ((lawful r (cited supports r)).dependents e f defined rests);
         })
-    by_itself_or_numbers none false alone = inr (not_alone r none alone)
+    by_itself_or_numbers none false alone = elim (not_alone r none alone) [
+      | inl sum ↦ inr (inl sum)
+      | inr by ↦ inr (inr (inl by))
+    ]
 
     by_place : (place : Option ℕ) → place_of r ≡ place → RestsAlone r f e ⊎ IsOtherRule r
     by_place None none = by_itself_or_numbers none (is_alone r) refl
     by_place (Some place) named =
-        no_item (RestsAlone r f e ⊎ IsOtherRule r) f
-        (subst (λ es. Contains es f) (supported-rests r place (cited supports r) e named) rests)
+        elim (supported-rests r place (cited supports r) e named) [
+          | inl nothing ↦ no_item (RestsAlone r f e ⊎ IsOtherRule r) f (subst (λ es. Contains es f) nothing rests)
+          | inr by ↦ inr (inr (inr (place, by)))
+        ]

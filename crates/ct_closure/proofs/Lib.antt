@@ -21,3 +21,4 @@ pub mod LineLemmas
 pub mod MarkingLemmas
 pub mod PlacesLemmas
 pub mod RowLemmas
+mod DualLemmas

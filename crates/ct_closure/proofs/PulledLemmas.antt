@@ -11,10 +11,10 @@ use Rattle.ct_codes.specs.declared.entry.Entry.{Entry}
 use Rattle.ct_codes.specs.Entry.{IsEntry}
 use Rattle.ct_rule_parts.specs.declared.support.Support.{Support}
 use Rattle.ct_rule_parts.specs.Slot.{Slot, IsNoBetter}
-use Rattle.ct_rule_parts.specs.Support.{size_at}
+use Rattle.ct_rule_parts.specs.Support.{size_at, dual_at}
 use Rattle.ct_rule_parts.proofs.SlotLemmas.{IsNoBetter-self}
 use Rattle.ct_rules.specs.declared.rule.Rule.{Rule}
-use Rattle.ct_rules.specs.declared.rule.Rule.TheVariants.{L9, L10, L11, M10, U9, U10}
+use Rattle.ct_rules.specs.declared.rule.Rule.TheVariants.{L9, L10, L11, M10, U9, U10, U11, V9}
 use Rattle.ct_rules.specs.Listing.{rules_alone, side_by_side_rules, rules_by_weight, rules_of_supports, rules_at}
 use Rattle.ct_rules.specs.Closed.{AreTrue}
 use Rattle.ct_rules.specs.Rule.{row_of, parts_over, rule_side, is_by_weight, applies}
@@ -52,9 +52,9 @@ all_within_better supports f s u v (r ∷ rules) worse each =
     (all_within_better supports f s u v rules worse (All-tail (IsWithin supports f s u) r rules each))
 
 -- the supports that stand for the entry are asked for, but those up to the next one
-abbrev pub AreAskedAbove : List Support → (Slot → ℕ) → Entry → List (Option Entry) → ℕ → Option ℕ → Type 0
-AreAskedAbove supports f e entries best next = (place : ℕ) → IsPlaceOf entries e place
-    → IsUpTo next place ⊎ IsWithin supports f (Lower, e) best (given_rule e place)
+abbrev pub AreAskedAbove : List Support → (Slot → ℕ) → Slot → List (Option Entry) → ℕ → Option ℕ → Type 0
+AreAskedAbove supports f s entries best next = (place : ℕ) → IsPlaceOf entries s.1 place
+    → IsUpTo next place ⊎ IsWithin supports f s best (given_rule s place)
 
 abbrev pub IsNext : List (Option Entry) → Entry → Option ℕ → Type 0
 IsNext entries e next = (place : ℕ) → next ≡ Some place → IsPlaceOf entries e place
@@ -63,19 +63,28 @@ abbrev pub left_to : Option ℕ → ℕ
 left_to None = 0
 left_to (Some place) = suc place
 
--- after the next one is asked for
-pub asked_step : (supports : List Support) (f : Slot → ℕ) (e : Entry) (entries : List (Option Entry)) (u v place : ℕ) (next : Option ℕ)
-    → u ≤ v → AreAskedAbove supports f e entries u (Some place) → IsPlaceOf entries e place
-    → IsWithin supports f (Lower, e) v (given_rule e place)
+-- what holds at the places of an entry above the next one holds at it too, and so above the one before it
+pub above_step : (P Q : ℕ → Type 0) (entries : List (Option Entry)) (e : Entry) (place : ℕ) (next : Option ℕ) → ((p : ℕ) → P p → Q p)
+    → ((p : ℕ) → IsPlaceOf entries e p → IsUpTo (Some place) p ⊎ P p) → IsPlaceOf entries e place → Q place
     → ((g : Entry) (other : ℕ) → IsPlaceOf entries g place → IsPlaceOf entries g other → other < place → IsUpTo next other)
-    → AreAskedAbove supports f e entries v next
-asked_step supports f e entries u v place next worse asked here within last other at = elim (asked other at) [
+    → (p : ℕ) → IsPlaceOf entries e p → IsUpTo next p ⊎ Q p
+above_step P Q entries e place next still above here holds last other at = elim (above other at) [
   | inl up ↦ elim (cases_eq other place) [
-    | inl same ↦ inr (subst (λ p. IsWithin supports f (Lower, e) v (given_rule e p)) (sym same) within)
+    | inl same ↦ inr (subst Q (sym same) holds)
     | inr apart ↦ inl (last e other here at (omega arith))
   ]
-  | inr before ↦ inr (within_better supports f (Lower, e) u v (given_rule e other) worse before)
+  | inr before ↦ inr (still other before)
 ]
+
+-- after the next one is asked for
+pub asked_step : (supports : List Support) (f : Slot → ℕ) (s : Slot) (entries : List (Option Entry)) (u v place : ℕ) (next : Option ℕ)
+    → IsNoBetter s.0 u v → AreAskedAbove supports f s entries u (Some place) → IsPlaceOf entries s.1 place
+    → IsWithin supports f s v (given_rule s place)
+    → ((g : Entry) (other : ℕ) → IsPlaceOf entries g place → IsPlaceOf entries g other → other < place → IsUpTo next other)
+    → AreAskedAbove supports f s entries v next
+asked_step supports f s entries u v place next worse asked here within last =
+    above_step (λ p. IsWithin supports f s u (given_rule s p)) (λ p. IsWithin supports f s v (given_rule s p)) entries s.1 place next
+    (λ p before. within_better supports f s u v (given_rule s p) worse before) asked here within last
 
 -- a support that gives something is there
 support_there : (supports : List Support) (place : ℕ) (e : Entry) → is_some (size_at (slice_get supports place) e) ≡ true
@@ -85,28 +94,52 @@ support_there supports place e h = go (slice_get supports place) refl h
     go : (c : Option Support) → slice_get supports place ≡ c → is_some (size_at c e) ≡ true
         → (support : Support) × (slice_get supports place ≡ Some support) × GivesTo support e
     go None at is = absurd cc
-    go (Some support) at is = (support, at, λ none. let clash : false ≡ true = sym (ap is_some none) ∙ is in cc)
+    go (Some support) at is = (support, at, inl (λ none. let clash : false ≡ true = sym (ap is_some none) ∙ is in cc))
 
-given_there : (supports : List Support) (n d : ℕ) (w : Option ℕ) (place : ℕ)
-    → applies supports (given_rule (record { n = n; d = d; w = w }) place) (record { n = n; d = d; w = w }) ≡ true
+pub dual_support_there : (supports : List Support) (place : ℕ) (e : Entry) → is_some (dual_at (slice_get supports place) e) ≡ true
+    → (support : Support) × (slice_get supports place ≡ Some support) × GivesTo support e
+dual_support_there supports place e h = go (slice_get supports place) refl h
+  where
+    go : (c : Option Support) → slice_get supports place ≡ c → is_some (dual_at c e) ≡ true
+        → (support : Support) × (slice_get supports place ≡ Some support) × GivesTo support e
+    go None at is = absurd cc
+    go (Some support) at is = (support, at, inr (λ none. let clash : false ≡ true = sym (ap is_some none) ∙ is in cc))
+
+given_there : (supports : List Support) (side : Side) (n d : ℕ) (w : Option ℕ) (place : ℕ)
+    → applies supports (given_rule (side, record { n = n; d = d; w = w }) place) (record { n = n; d = d; w = w }) ≡ true
     → (support : Support) × (slice_get supports place ≡ Some support) × GivesTo support (record { n = n; d = d; w = w })
 unfolding row_of
-given_there supports n d None place h =
+given_there supports Lower n d None place h =
     let e : Entry = record { n = n; d = d; w = None } in
     let is = defined (parts_over supports (L10 place)) e h in
     support_there supports place e (and_parts true (is_some (size_at (slice_get supports place) e)) is.condition).1
-given_there supports n d (Some w) place h =
+given_there supports Lower n d (Some w) place h =
     let e : Entry = record { n = n; d = d; w = Some w } in
     let is = defined (parts_over supports (M10 place)) e h in
     support_there supports place e (and_parts true (is_some (size_at (slice_get supports place) e)) is.condition).1
 
+given_there supports Upper n d None place h =
+    let e : Entry = record { n = n; d = d; w = None } in
+    let is = defined (parts_over supports (U11 place)) e h in
+    dual_support_there supports place e (and_parts true (is_some (dual_at (slice_get supports place) e)) is.condition).1
+given_there supports Upper n d (Some w) place h =
+    let e : Entry = record { n = n; d = d; w = Some w } in
+    let is = defined (parts_over supports (V9 place)) e h in
+    dual_support_there supports place e (and_parts true (is_some (dual_at (slice_get supports place) e)) is.condition).1
+
+-- a rule that names a support and is defined at an entry of the table names one of its places
+pub given_place : (supports : List Support) (s : Slot) (entries : List (Option Entry)) (place : ℕ) → IsEntry s.1 → ArePlaces supports entries
+    → applies supports (given_rule s place) s.1 ≡ true → IsPlaceOf entries s.1 place
+given_place supports s entries place entry are here =
+    let there = given_there supports s.0 s.1.n s.1.d s.1.w place here in
+    are.given place there.0 s.1 entry there.1 there.2
+
 -- once none is left, no support gives anything better
-pub asked_all : (supports : List Support) (f : Slot → ℕ) (e : Entry) (entries : List (Option Entry)) (best : ℕ) → IsEntry e
-    → ArePlaces supports entries → AreAskedAbove supports f e entries best None
-    → (place : ℕ) → IsWithin supports f (Lower, e) best (given_rule e place)
-asked_all supports f e entries best entry are asked place v value =
-    let there = given_there supports e.n e.d e.w place (over-applies supports f (given_rule e place) e v value) in
-    elim (asked place (are.given place there.0 e entry there.1 there.2)) [
+pub asked_all : (supports : List Support) (f : Slot → ℕ) (s : Slot) (entries : List (Option Entry)) (best : ℕ) → IsEntry s.1
+    → ArePlaces supports entries → AreAskedAbove supports f s entries best None
+    → (place : ℕ) → IsWithin supports f s best (given_rule s place)
+asked_all supports f s entries best entry are asked place v value =
+    elim (asked place (given_place supports s entries place entry are (over-applies supports f (given_rule s place) s.1 v value))) [
       | inl none ↦ absurd none
       | inr within ↦ within v value
     ]
@@ -124,7 +157,7 @@ all_flat_map P f (x ∷ xs) each = All-append P (f x) (flat_map f xs) (each x) (
 all_listed : (supports : List Support) (f : Slot → ℕ) (side : Side) (n d : ℕ) (w : Option ℕ) (best : ℕ)
     → All (IsWithin supports f (side, record { n = n; d = d; w = w }) best) (rules_alone (side, record { n = n; d = d; w = w }))
     → (side ≡ Lower → w ≡ None → (m c : ℕ) → IsWithin supports f (Lower, record { n = n; d = d; w = w }) best (L11 m c))
-    → (side ≡ Lower → (place : ℕ) → IsWithin supports f (Lower, record { n = n; d = d; w = w }) best (given_rule (record { n = n; d = d; w = w }) place))
+    → ((place : ℕ) → IsWithin supports f (side, record { n = n; d = d; w = w }) best (given_rule (side, record { n = n; d = d; w = w }) place))
     → ((r : Rule) → is_by_weight r ≡ true → rule_side r ≡ side → IsWithin supports f (side, record { n = n; d = d; w = w }) best r)
     → All (IsWithin supports f (side, record { n = n; d = d; w = w }) best) (rules_at (length supports) (side, record { n = n; d = d; w = w }))
 unfolding rules_at row_of
@@ -137,26 +170,30 @@ all_listed supports f Lower n d None best alone sums given by_weight =
     (all_flat_map P (λ m. map (λ c. L11 m c) (range_with_len 3 (d - 5))) (range_with_len 1 (n - 1))
     (λ m. all_map P (λ c. L11 m c) (range_with_len 3 (d - 5)) (λ c. sums refl refl m c)))
     (all_map P (λ w. L9 w) (range_with_len 0 (n + 1)) (λ w. by_weight (L9 w) refl refl)))
-    (all_map P (λ place. L10 place) (range_with_len 0 (length supports)) (given refl)))
+    (all_map P (λ place. L10 place) (range_with_len 0 (length supports)) given))
 all_listed supports f Lower n d (Some w) best alone sums given by_weight =
     let e : Entry = record { n = n; d = d; w = Some w } in
     let P : Rule → Type 0 = IsWithin supports f (Lower, e) best in
     All-append P (rules_alone (Lower, e)) (rules_of_supports (length supports) (Lower, e)) alone
-    (all_map P (λ place. M10 place) (range_with_len 0 (length supports)) (given refl))
+    (all_map P (λ place. M10 place) (range_with_len 0 (length supports)) given)
 all_listed supports f Upper n d None best alone sums given by_weight =
     let e : Entry = record { n = n; d = d; w = None } in
     let P : Rule → Type 0 = IsWithin supports f (Upper, e) best in
-    All-append P (rules_alone (Upper, e) ++ rules_by_weight (Upper, e)) []
+    All-append P (rules_alone (Upper, e) ++ rules_by_weight (Upper, e)) (rules_of_supports (length supports) (Upper, e))
     (All-append P (rules_alone (Upper, e)) (rules_by_weight (Upper, e)) alone
     (All-cons P U9 (map (λ w. U10 w) (range_with_len 0 (n + 1))) (by_weight U9 refl refl)
     (all_map P (λ w. U10 w) (range_with_len 0 (n + 1)) (λ w. by_weight (U10 w) refl refl))))
-    (All-nil P)
-all_listed supports f Upper n d (Some w) best alone sums given by_weight = alone
+    (all_map P (λ place. U11 place) (range_with_len 0 (length supports)) given)
+all_listed supports f Upper n d (Some w) best alone sums given by_weight =
+    let e : Entry = record { n = n; d = d; w = Some w } in
+    let P : Rule → Type 0 = IsWithin supports f (Upper, e) best in
+    All-append P (rules_alone (Upper, e)) (rules_of_supports (length supports) (Upper, e)) alone
+    (all_map P (λ place. V9 place) (range_with_len 0 (length supports)) given)
 
 pub all_asked : (supports : List Support) (f : Slot → ℕ) (side : Side) (e : Entry) (best : ℕ)
     → All (IsWithin supports f (side, e) best) (rules_alone (side, e))
     → (side ≡ Lower → e.w ≡ None → (m c : ℕ) → IsWithin supports f (Lower, e) best (L11 m c))
-    → (side ≡ Lower → (place : ℕ) → IsWithin supports f (Lower, e) best (given_rule e place))
+    → ((place : ℕ) → IsWithin supports f (side, e) best (given_rule (side, e) place))
     → ((r : Rule) → is_by_weight r ≡ true → rule_side r ≡ side → IsWithin supports f (side, e) best r)
     → (r : Rule) → rule_side r ≡ side → IsWithin supports f (side, e) best r
 all_asked supports f side e best alone sums given by_weight r same v value =
@@ -197,27 +234,30 @@ first_next entries e None h other is = absurd (none-some other is)
 first_next entries e (Some p) h other is = subst (IsPlaceOf entries e) (same_Some p other is) h
 
 -- what was asked for at an upper side, and at a lower one
-pub asked_upper : (supports : List Support) (f : Slot → ℕ) (side : Side) (e : Entry) (best : ℕ) → side ≡ Upper
-    → All (IsWithin supports f (side, e) best) (rules_alone (side, e))
-    → ((r : Rule) → is_by_weight r ≡ true → rule_side r ≡ side → IsWithin supports f (side, e) best r)
+pub asked_upper : (supports : List Support) (f : Slot → ℕ) (side : Side) (e : Entry) (middle best : ℕ) → side ≡ Upper
+    → All (IsWithin supports f (side, e) middle) (rules_alone (side, e))
+    → ((r : Rule) → is_by_weight r ≡ true → rule_side r ≡ side → IsWithin supports f (side, e) middle r) → IsNoBetter side middle best
+    → ((place : ℕ) → IsWithin supports f (side, e) best (given_rule (side, e) place))
     → (r : Rule) → rule_side r ≡ side → IsWithin supports f (side, e) best r
-asked_upper supports f side e best up alone by_weight =
-    all_asked supports f side e best alone
+asked_upper supports f side e middle best up alone by_weight worse given =
+    all_asked supports f side e best
+    (all_within_better supports f (side, e) middle best (rules_alone (side, e)) worse alone)
     (λ low. let clash : Upper ≡ Lower = sym up ∙ low in absurd cc)
-    (λ low. let clash : Upper ≡ Lower = sym up ∙ low in absurd cc)
-    by_weight
+    given
+    (λ r by same. within_better supports f (side, e) middle best r worse (by_weight r by same))
 
 pub asked_lower : (supports : List Support) (f : Slot → ℕ) (side : Side) (e : Entry) (middle best : ℕ) → side ≡ Lower
     → All (IsWithin supports f (side, e) middle) (rules_alone (side, e))
     → ((r : Rule) → is_by_weight r ≡ true → rule_side r ≡ side → IsWithin supports f (side, e) middle r) → middle ≤ best
     → (e.w ≡ None → (m c : ℕ) → IsWithin supports f (Lower, e) best (L11 m c))
-    → ((place : ℕ) → IsWithin supports f (Lower, e) best (given_rule e place))
+    → ((place : ℕ) → IsWithin supports f (Lower, e) best (given_rule (Lower, e) place))
     → (r : Rule) → rule_side r ≡ side → IsWithin supports f (side, e) best r
 asked_lower supports f side e middle best low alone by_weight worse sums given =
     let no_worse : IsNoBetter side middle best = subst (λ (s : Side). IsNoBetter s middle best) (sym low) worse in
     all_asked supports f side e best
     (all_within_better supports f (side, e) middle best (rules_alone (side, e)) no_worse alone)
-    (λ here none. sums none) (λ here. given)
+    (λ here none. sums none)
+    (subst (λ (s : Side). (place : ℕ) → IsWithin supports f (s, e) best (given_rule (s, e) place)) (sym low) given)
     (λ r by same. within_better supports f (side, e) middle best r no_worse (by_weight r by same))
 
 -- from the first bound to the last

@@ -5,13 +5,14 @@ use Rattle.std.proofs.lemmas.Bool.{cases_eq}
 use Rattle.std.proofs.lemmas.List.Elements.{All-contains}
 use Rattle.std.proofs.lemmas.Option.{none-some, same_Some}
 use Rattle.ct_codes.specs.declared.claim.Side.{Side}
+use Rattle.ct_codes.specs.declared.claim.Side.TheVariants.{Upper}
 use Rattle.ct_codes.specs.declared.entry.Entry.{Entry}
 use Rattle.ct_codes.specs.Entry.{IsEntry}
 use Rattle.ct_rule_parts.specs.declared.support.Support.{Support}
 use Rattle.ct_rule_parts.specs.Slot.{Slot, IsBetter, IsNoBetter}
 use Rattle.ct_rule_parts.specs.Support.{AllStand}
 use Rattle.ct_rules.specs.declared.rule.Rule.{Rule}
-use Rattle.ct_rules.specs.declared.rule.Rule.TheVariants.{L11}
+use Rattle.ct_rules.specs.declared.rule.Rule.TheVariants.{L11, U11}
 use Rattle.ct_rules.specs.Closed.{AreTrue, IsSatisfied, IsClosed}
 use Rattle.ct_rules.specs.Derivation.{IsDerived}
 use Rattle.ct_rules.specs.Listing.{rules_alone}
@@ -23,8 +24,9 @@ use Rattle.ct_closure.specs.Closing.{IsSatisfiedAt, IsPending, HasMoreLines}
 use Rattle.ct_closure.specs.Kept.{KeptValue, IsKept, Grew, reason_of, with_line_put}
 use Rattle.ct_closure.specs.Number.{slot_number, bound_of, side_size}
 use Rattle.ct_closure.specs.Worklist.{WorkValue, IsMarked, IsIdle, waiting}
-use Rattle.ct_closure.specs.Inside.Marking.{IsPendingBut, KeepsMarks, IsTestedAt, IsTestedFrom, AreTestedByWeight, AreTested}
+use Rattle.ct_closure.specs.Inside.Marking.{IsPendingBut, KeepsMarks, IsTestedAt, IsTestedFrom, AreTestedByWeight, AreTestedFromDuals, AreTested}
 use Rattle.ct_closure.specs.Inside.Pulling.{value_over, line_by, IsGiven, IsWithin, slack, potential}
+use Rattle.ct_closure.proofs.DualLemmas.{dual_side, tested_from_duals}
 use Rattle.ct_closure.proofs.DependentLemmas.{RestsAlone, IsOtherRule, rests_on-cases}
 use Rattle.ct_closure.proofs.KeptLemmas.{reason_line, IsKept-with_line, Grew-with_line, Follows-line_by}
 use Rattle.ct_closure.proofs.NumberLemmas.{slot_number-injective}
@@ -75,14 +77,21 @@ pub tested_by_rules : (supports : List Support) (bounds : List ℕ) (work : Work
     → AreTestedByWeight supports bounds work (side, e)
     → ((m c : ℕ) (f : Entry) → rule_side (L11 m c) ≡ side → applies supports (L11 m c) f ≡ true
     → Contains ((parts_over supports (L11 m c)).rests_on f) e → IsTestedAt supports bounds work (L11 m c) f)
+    → (side ≡ Upper → AreTestedFromDuals supports bounds work e)
     → AreTested supports bounds work (side, e)
-tested_by_rules supports bounds work side e alone by_weight sums r f same defined rests = go (rests_on-cases supports r e f defined rests)
+tested_by_rules supports bounds work side e alone by_weight sums duals r f same defined rests = go (rests_on-cases supports r e f defined rests)
   where
     go : RestsAlone r e f ⊎ IsOtherRule r → IsTestedAt supports bounds work r f
     go (inl is) =
         All-contains (IsTestedFrom supports bounds work e) (rules_alone (side, e)) r alone
         (subst (λ (s : Side). Contains (rules_alone (s, e)) r) same is.listed) f is.among
-    go (inr (inr by)) = by_weight r f by same defined rests
+    go (inr (inr (inl by))) = by_weight r f by same defined rests
+    go (inr (inr (inr (place, is)))) =
+        subst (λ (q : Rule). IsTestedAt supports bounds work q f) (sym is)
+        (tested_from_duals supports bounds work e f place
+        (duals (sym (subst (λ (q : Rule). rule_side q ≡ side) is same) ∙ dual_side place))
+        (subst (λ (q : Rule). applies supports q f ≡ true) is defined)
+        (subst (λ (q : Rule). Contains ((parts_over supports q).rests_on f) e) is rests))
     go (inr (inl (m, c, is))) =
         subst (λ (q : Rule). IsTestedAt supports bounds work q f) (sym is)
         (sums m c f (subst (λ (q : Rule). rule_side q ≡ side) is same)

@@ -1,15 +1,23 @@
 -- The supports at an entry, found by the entry.
-use Rattle.std.specs.Prelude.{◌≡◌, ◌≢◌, ℕ, ◌<◌, ◌≤◌, ◌^◌, if◌then◌else◌, List, Contains, length, slice_get, slice_index_or, slice_set, Some, None, Option}
+use Rattle.std.specs.Prelude.{◌≡◌, ◌≢◌, ◌⊎◌, ℕ, ◌<◌, ◌≤◌, ◌^◌, if◌then◌else◌, List, Contains, length, slice_get, slice_index_or, slice_set, Some, None, Option}
+use Rattle.ct_codes.specs.declared.claim.Side.{Side}
+use Rattle.ct_codes.specs.declared.claim.Side.TheVariants.{Lower, Upper}
 use Rattle.ct_codes.specs.declared.entry.Entry.{Entry}
 use Rattle.ct_codes.specs.Entry.{IsEntry, is_entry}
 use Rattle.ct_rule_parts.specs.declared.support.Support.{Support}
 use Rattle.ct_rule_parts.specs.declared.support.Support.TheVariants.{Nothing, Size, Bound}
-use Rattle.ct_rule_parts.specs.Support.{size_at}
+use Rattle.ct_rule_parts.specs.Support.{size_at, dual_at}
 use Rattle.ct_closure.specs.Number.{entry_number, side_size}
 
--- a support gives something to an entry
+-- a support gives something to an entry: a size, or the bound of a dual
 abbrev pub GivesTo : Support → Entry → Type 0
-GivesTo support e = size_at (Some support) e ≢ None
+GivesTo support e = (size_at (Some support) e ≢ None) ⊎ (dual_at (Some support) e ≢ None)
+
+-- the side on which a support gives something, where it gives anything
+abbrev pub side_of : Support → Side
+side_of Nothing = Lower
+side_of (Size e size) = Lower
+side_of (Bound a) = Upper
 
 -- the places of all supports that give something to an entry are among these
 abbrev pub ArePlacesAt : List Support → Entry → List ℕ → Type 0
@@ -19,7 +27,7 @@ ArePlacesAt supports e places = (place : ℕ) (support : Support) → slice_get 
 abbrev pub entry_of : Support → Option Entry
 entry_of Nothing = None
 entry_of (Size e size) = if is_entry e then Some e else None
-entry_of (Bound a) = None
+entry_of (Bound a) = if is_entry a.dual.entry then Some a.dual.entry else None
 
 -- the place stands for the entry
 abbrev pub IsPlaceOf : List (Option Entry) → Entry → ℕ → Type 0

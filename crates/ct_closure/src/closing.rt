@@ -16,7 +16,7 @@ ghost use Rattle.ct_closure.specs.Kept.{IsKept, Grew, with_line_put, reason_of};
 ghost use Rattle.ct_closure.specs.Number.{bound_of};
 ghost use Rattle.ct_closure.specs.Places.{ArePlaces};
 ghost use Rattle.ct_closure.specs.Worklist.{IsIdle};
-ghost use Rattle.ct_closure.specs.Inside.Marking.{IsPendingBut, KeepsMarks, IsTestedAt, IsTestedFrom, AreTestedByWeight, AreTested};
+ghost use Rattle.ct_closure.specs.Inside.Marking.{IsPendingBut, KeepsMarks, IsTestedAt, IsTestedFrom, AreTestedByWeight, IsTestedByDual, AreTestedByDuals, AreTestedFromDuals, AreTested};
 ghost use Rattle.ct_closure.specs.Inside.Pulling.{line_by, potential};
 
 use crate::best::is_better;
@@ -26,6 +26,7 @@ use crate::pulling::{offer, pull};
 use crate::side_by_side::mark_side_by_side;
 use crate::worklist::Worklist;
 use ct_codes::{Claim, Entry, Side};
+use ct_rule_parts::dual_at;
 use ct_rules::{Entries, Line, Rule, Support, defined_on, rested_on_by, rule_side, rules_alone};
 use ct_weight_rules::{unweighted, unweighted_and_nearer};
 use smallvec::SmallVec;
@@ -212,10 +213,92 @@ fn mark_by_weight(
     }
 }
 
+/// Marks the entry, where the dual that the support at the place gives there rests on the other one and gives something better.
+fn mark_by_dual(
+    supports: &[Support],
+    kept: &Kept,
+    work: &mut Worklist,
+    entry: Entry,
+    place: u32,
+    from: Entry,
+    evaluations: &mut u64,
+) -> Result<(), AllocError>
+    requires stand { AllStand supports.now }
+    requires true_bounds { AreTrue (bound_of kept.now.bounds) }
+    ensures tested { OnOk result (IsTestedByDual supports.now kept.now.bounds work.new from entry place) }
+    ensures kept { KeepsMarks work.old work.new }
+{
+    let Some(dual) = dual_at(supports, place as usize, entry) else {
+        return Ok(());
+    };
+    if !dual.rests_on(from) {
+        return Ok(());
+    }
+    test(
+        supports,
+        kept,
+        work,
+        Rule::U11(place),
+        entry,
+        evaluations,
+    )
+}
+
+/// Marks the entry, where one of the duals that supports give there rests on the other one and gives something better. It looks at
+/// the supports of the entry alone.
+fn mark_by_duals(
+    supports: &[Support],
+    places: &SupportPlaces,
+    kept: &Kept,
+    work: &mut Worklist,
+    entry: Entry,
+    from: Entry,
+    evaluations: &mut u64,
+) -> Result<(), AllocError>
+    requires places { ArePlaces supports.now places.now }
+    requires stand { AllStand supports.now }
+    requires true_bounds { AreTrue (bound_of kept.now.bounds) }
+    ensures tested { OnOk result (AreTestedByDuals supports.now kept.now.bounds work.new from entry) }
+    ensures kept { KeepsMarks work.old work.new }
+{
+    if !entry.in_table() {
+        return Ok(());
+    }
+    let mut next = places.last(entry);
+    while let Some(place) = next {
+        mark_by_dual(supports, kept, work, entry, place, from, evaluations)?;
+        next = places.before(place);
+    }
+    Ok(())
+}
+
+/// Marks the entries without weight that rest on this one by a dual, where it gives something better there.
+fn mark_from_duals(
+    supports: &[Support],
+    places: &SupportPlaces,
+    kept: &Kept,
+    work: &mut Worklist,
+    entry: Entry,
+    evaluations: &mut u64,
+) -> Result<(), AllocError>
+    requires entry { IsEntry entry }
+    requires places { ArePlaces supports.now places.now }
+    requires stand { AllStand supports.now }
+    requires true_bounds { AreTrue (bound_of kept.now.bounds) }
+    ensures tested { OnOk result (AreTestedFromDuals supports.now kept.now.bounds work.new entry) }
+    ensures kept { KeepsMarks work.old work.new }
+{
+    let (same, nearer) = (unweighted(entry), unweighted_and_nearer(entry));
+    mark_by_duals(supports, places, kept, work, same, entry, evaluations)?;
+    mark_by_duals(supports, places, kept, work, nearer, entry, evaluations)?;
+    Ok(())
+}
+
 /// Marks the slots that rest on this one, where a rule gives something better there. After an `Err`, which is want of memory,
 /// some may be marked.
 fn mark_dependents(
     supports: &[Support],
+    places: &SupportPlaces,
     kept: &Kept,
     work: &mut Worklist,
     side: Side,
@@ -223,6 +306,7 @@ fn mark_dependents(
     evaluations: &mut u64,
 ) -> Result<(), AllocError>
     requires entry { IsEntry entry }
+    requires places { ArePlaces supports.now places.now }
     requires stand { AllStand supports.now }
     requires true_bounds { AreTrue (bound_of kept.now.bounds) }
     ensures tested { OnOk result (AreTested supports.now kept.now.bounds work.new (side, entry)) }
@@ -237,7 +321,11 @@ fn mark_dependents(
             Ok(())
         }
         (Side::Lower, Some(_)) => Ok(()),
-        (Side::Upper, _) => Ok(()),
+        (Side::Upper, None) => Ok(()),
+        (Side::Upper, Some(_)) => {
+            mark_from_duals(supports, places, kept, work, entry, evaluations)?;
+            Ok(())
+        }
     }
 }
 
@@ -269,7 +357,7 @@ fn turn(
         return Ok(());
     };
     improve(alloc, supports, kept, rule, entry, best.value)?;
-    mark_dependents(supports, kept, work, side, entry, evaluations)?;
+    mark_dependents(supports, places, kept, work, side, entry, evaluations)?;
     work.waits_for_few();
     Ok(())
 }

@@ -15,6 +15,6 @@ pub use best::is_better;
 pub use closing::{Closing, close};
 pub use kept::{Base, Kept, Saved, Undo};
 pub use number::{ENTRIES, SLOTS, slot_number, slots_have_numbers};
-pub use places::{SupportPlaces, entry_of};
+pub use places::{SupportPlaces, entry_of, side_of};
 pub use pulling::{given_rule, offer};
 pub use worklist::Worklist;

@@ -4,10 +4,10 @@ ghost use Rattle.std.specs.Prelude.{◌≡◌, ◌<◌, ◌≤◌, ◌^◌, ◌+
 ghost use Rattle.ct_closure.specs.Number.{side_size};
 ghost use Rattle.ct_codes.specs.declared.entry.Entry.{Entry};
 ghost use Rattle.ct_codes.specs.Entry.{IsEntry};
-ghost use Rattle.ct_closure.specs.Places.{entry_of, IsPlaceOf, IsUpTo, AreChained, last_at, with_last};
+ghost use Rattle.ct_closure.specs.Places.{entry_of, side_of, IsPlaceOf, IsUpTo, AreChained, last_at, with_last};
 
 use crate::number::{ENTRIES, entry_number};
-use ct_codes::Entry;
+use ct_codes::{Entry, Side};
 use ct_rules::Support;
 use std::alloc::{AllocError, Global};
 use std::marker::Model;
@@ -42,7 +42,18 @@ pub fn entry_of(support: &Support) -> Option<Entry>
     match support {
         Support::Nothing => None,
         Support::Size { entry, .. } if entry.in_table() => Some(*entry),
-        Support::Size { .. } | Support::Bound(_) => None,
+        Support::Size { .. } => None,
+        Support::Bound(dual) => Some(dual.entry()),
+    }
+}
+
+/// The side on which the support gives something, where it gives anything.
+pub fn side_of(support: &Support) -> Side
+    ensures { result ≡ side_of support.now }
+{
+    match support {
+        Support::Nothing | Support::Size { .. } => Side::Lower,
+        Support::Bound(_) => Side::Upper,
     }
 }
 

@@ -278,35 +278,38 @@ fn ask_unsupported(
     ask_by_weight(supports, kept, side, entry, best, evaluations);
 }
 
-/// The rule by which the support at a place gives to an entry.
-pub fn given_rule(entry: Entry, place: u32) -> Rule
-    ensures rule { result ≡ given_rule entry place }
-    ensures side { rule_side result ≡ Lower }
+/// The rule by which the support at a place gives to a side of an entry.
+pub fn given_rule(side: Side, entry: Entry, place: u32) -> Rule
+    ensures rule { result ≡ given_rule (side, entry) place }
+    ensures side { rule_side result ≡ side }
 {
-    match entry.w {
-        None => Rule::L10(place),
-        Some(_) => Rule::M10(place),
+    match (side, entry.w) {
+        (Side::Lower, None) => Rule::L10(place),
+        (Side::Lower, Some(_)) => Rule::M10(place),
+        (Side::Upper, None) => Rule::U11(place),
+        (Side::Upper, Some(_)) => Rule::V9(place),
     }
 }
 
-/// Asks for what the supports at the entry give.
+/// Asks for what the supports at the entry give on a side.
 fn ask_supports(
     supports: &[Support],
     places: &SupportPlaces,
     kept: &Kept,
+    side: Side,
     entry: Entry,
     best: &mut Best,
     evaluations: &mut u64,
 )
     requires entry { IsEntry entry }
     requires places { ArePlaces supports.now places.now }
-    ensures pulled { IsPulled supports.now (bound_of kept.now.bounds) (Lower, entry) best.old best.new }
-    ensures within { (place : ℕ) → IsWithin supports.now (bound_of kept.now.bounds) (Lower, entry) best.new.value (given_rule entry place) }
+    ensures pulled { IsPulled supports.now (bound_of kept.now.bounds) (side, entry) best.old best.new }
+    ensures within { (place : ℕ) → IsWithin supports.now (bound_of kept.now.bounds) (side, entry) best.new.value (given_rule (side, entry) place) }
 {
     let mut next = places.last(entry);
     while let Some(place) = next {
-        let rule = given_rule(entry, place);
-        ask(supports, kept, rule, Side::Lower, entry, best, evaluations);
+        let rule = given_rule(side, entry, place);
+        ask(supports, kept, rule, side, entry, best, evaluations);
         next = places.before(place);
     }
 }
@@ -325,10 +328,18 @@ fn ask_below(
     requires true_bounds { AreTrue (bound_of kept.now.bounds) }
     requires some { 1 ≤ best.old.value }
     ensures pulled { IsPulled supports.now (bound_of kept.now.bounds) (Lower, entry) best.old best.new }
-    ensures given { (place : ℕ) → IsWithin supports.now (bound_of kept.now.bounds) (Lower, entry) best.new.value (given_rule entry place) }
+    ensures given { (place : ℕ) → IsWithin supports.now (bound_of kept.now.bounds) (Lower, entry) best.new.value (given_rule (Lower, entry) place) }
     ensures sums { entry.w ≡ None → (m c : ℕ) → IsWithin supports.now (bound_of kept.now.bounds) (Lower, entry) best.new.value (L11 m c) }
 {
-    ask_supports(supports, places, kept, entry, best, evaluations);
+    ask_supports(
+        supports,
+        places,
+        kept,
+        Side::Lower,
+        entry,
+        best,
+        evaluations,
+    );
     match entry.w {
         None => best_side_by_side(kept, entry, best, evaluations),
         Some(_) => {}
@@ -358,7 +369,10 @@ pub(crate) fn pull(
     }
     ask_unsupported(supports, kept, side, entry, limit, &mut best, evaluations);
     match side {
-        Side::Upper => best,
+        Side::Upper => {
+            ask_supports(supports, places, kept, side, entry, &mut best, evaluations);
+            best
+        }
         Side::Lower => {
             ask_below(supports, places, kept, entry, &mut best, evaluations);
             best

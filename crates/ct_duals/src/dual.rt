@@ -1,8 +1,9 @@
 //! Duals of Delsarte's linear program.
-ghost use Rattle.std.specs.Prelude.{◌≡◌, length};
+ghost use Rattle.std.specs.Prelude.{◌≡◌, length, IfOk};
 ghost use Rattle.ct_duals.specs.Bound.{positive, dual_premises};
 
 use ct_codes::Entry;
+use std::alloc::AllocError;
 use std::marker::Model;
 
 /// The multipliers of a dual: c_0, c_1 and so on, as far as they are given; the others are 0. Contracts see the list of
@@ -33,6 +34,14 @@ impl Multipliers {
         ensures { result.now ≡ self.now }
     {
         &self.numbers
+    }
+
+    /// The same numbers once more. `Err` is want of memory.
+    pub fn try_copy(&self) -> Result<Multipliers, AllocError>
+        ensures { IfOk result (λ c. c ≡ self.now) }
+    {
+        let numbers = self.numbers.clone()?;
+        Ok(Multipliers { numbers })
     }
 }
 
@@ -65,6 +74,14 @@ impl Allowances {
     {
         &self.pairs
     }
+
+    /// The same pairs once more. `Err` is want of memory.
+    pub fn try_copy(&self) -> Result<Allowances, AllocError>
+        ensures { IfOk result (λ y. y ≡ self.now) }
+    {
+        let pairs = self.pairs.clone()?;
+        Ok(Allowances { pairs })
+    }
 }
 
 /// A dual of Delsarte's linear program for the codes of an entry (Delsarte 1973; MacWilliams and Sloane, chapter 17,
@@ -88,6 +105,20 @@ impl Dual {
         ensures { result ≡ length (dual_premises self.now) }
     {
         positive_count(self.y.as_slice())
+    }
+
+    /// The same dual once more. `Err` is want of memory.
+    pub fn try_copy(&self) -> Result<Dual, AllocError>
+        ensures { IfOk result (λ dual. dual ≡ self.now) }
+    {
+        let c = self.c.try_copy()?;
+        let y = self.y.try_copy()?;
+        Ok(Dual {
+            entry: self.entry,
+            even: self.even,
+            c,
+            y,
+        })
     }
 }
 

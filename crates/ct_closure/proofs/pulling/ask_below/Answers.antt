@@ -19,5 +19,5 @@ returns-in-None-clause-pulled c =
 pub returns-in-None-clause-given : goal.returns-in-None-clause-given
 returns-in-None-clause-given c place =
     within_better c.args.supports.now (bound_of c.args.kept.now.bounds) (Lower, c.args.entry) c.ask_supports.new.best.value
-    c.best_side_by_side.new.best.value (given_rule c.args.entry place) (c.best_side_by_side.ensures.pulled c.args.supports.now).no_worse
+    c.best_side_by_side.new.best.value (given_rule (Lower, c.args.entry) place) (c.best_side_by_side.ensures.pulled c.args.supports.now).no_worse
     (c.ask_supports.ensures.within place)

@@ -1,4 +1,3 @@
-use Rattle.ct_codes.specs.declared.claim.Side.TheVariants.{Lower}
 use Rattle.ct_closure.specs.Number.{bound_of}
 use Rattle.ct_closure.specs.Inside.Pulled.{IsPulled}
 use Rattle.ct_closure.proofs.PulledLemmas.{AreAskedAbove, IsNext, left_to}
@@ -6,8 +5,8 @@ use Rattle.ct_closure.proofs.pulling.ask_supports.Given as goal
 
 -- the places of the entry that are still to be asked for are the next one and those before it
 abbrev pub invariant-loop-next : goal.invariant-loop-next
-invariant-loop-next l = IsPulled l.supports (bound_of l.kept.bounds) (Lower, l.entry) l.fn.best l.best
-    × AreAskedAbove l.supports (bound_of l.kept.bounds) l.entry l.places l.best.value l.next
+invariant-loop-next l = IsPulled l.supports (bound_of l.kept.bounds) (l.side, l.entry) l.fn.best l.best
+    × AreAskedAbove l.supports (bound_of l.kept.bounds) (l.side, l.entry) l.places l.best.value l.next
     × IsNext l.places l.entry l.next
 
 abbrev pub decreases-loop-next : goal.decreases-loop-next

@@ -14,8 +14,9 @@ ask_below-requires-clause-some c =
 
 pub returns-in-Upper-clause-within : goal.returns-in-Upper-clause-within
 returns-in-Upper-clause-within c =
-    asked_upper c.args.supports.now (bound_of c.args.kept.now.bounds) c.args.side c.args.entry c.ask_unsupported.new.best.value c.in-Upper.is
-    c.ask_unsupported.ensures.alone c.ask_unsupported.ensures.by_weight
+    asked_upper c.args.supports.now (bound_of c.args.kept.now.bounds) c.args.side c.args.entry c.ask_unsupported.new.best.value
+    c.ask_supports.new.best.value c.in-Upper.is c.ask_unsupported.ensures.alone c.ask_unsupported.ensures.by_weight
+    c.ask_supports.ensures.pulled.no_worse c.ask_supports.ensures.within
 
 pub returns-in-Lower-clause-within : goal.returns-in-Lower-clause-within
 returns-in-Lower-clause-within c =
