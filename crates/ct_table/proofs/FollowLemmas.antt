@@ -1,14 +1,13 @@
 -- A table to which a support is added.
 use Rattle.std.proofs.Common.{◌≡◌, ℕ, List, [], ◌∷◌, length, take, Some, refl, sym, ap, subst, ◌∙◌}
 use Rattle.std.proofs.lemmas.List.{take_at}
-use Rattle.ct_codes.specs.declared.claim.Side.TheVariants.{Lower}
 use Rattle.ct_codes.specs.declared.entry.Entry.{Entry}
 use Rattle.ct_rule_parts.specs.declared.support.Support.{Support}
 use Rattle.ct_rules.specs.Closed.{IsClosed}
 use Rattle.ct_closure.specs.Closing.{ClosingValue, CanClose, IsClosing, HasMoreLines}
 use Rattle.ct_closure.specs.Kept.{KeptValue, IsKept, Grew}
 use Rattle.ct_closure.specs.Number.{bound_of}
-use Rattle.ct_closure.specs.Places.{entry_of}
+use Rattle.ct_closure.specs.Places.{entry_of, side_of}
 use Rattle.ct_closure.specs.Worklist.{IsIdle}
 use Rattle.ct_closure.specs.Inside.Pulling.{IsWithin}
 use Rattle.ct_closure.specs.Inside.Pulled.{given_rule}
@@ -39,17 +38,17 @@ CanClose-marked supports place closing marked can same given = record {
 pub IsClosing-same : (supports : List Support) (place : ℕ) (closing new : ClosingValue) → (can : CanFollow supports place closing)
     → new.kept ≡ closing.kept → new.work ≡ closing.work
     → ((e : Entry) → entry_of can.new_one ≡ Some e
-    → IsWithin supports (bound_of closing.kept.bounds) (Lower, e) (bound_of closing.kept.bounds (Lower, e)) (given_rule e place))
+    → IsWithin supports (bound_of closing.kept.bounds) (side_of can.new_one, e) (bound_of closing.kept.bounds (side_of can.new_one, e)) (given_rule (side_of can.new_one, e) place))
     → IsClosing supports closing new
 IsClosing-same supports place closing new can kept work within =
     let closed : IsClosed supports (bound_of closing.kept.bounds) =
     subst (λ (these : List Support). IsClosed these (bound_of closing.kept.bounds)) (sym can.are)
     (closed_over_one can.olds can.new_one (bound_of closing.kept.bounds) can.closed
     (λ e is.
-    subst (λ (these : List Support). IsWithin these (bound_of closing.kept.bounds) (Lower, e)
-    (bound_of closing.kept.bounds (Lower, e)) (given_rule e (length can.olds))) can.are
-    (subst (λ (p : ℕ). IsWithin supports (bound_of closing.kept.bounds) (Lower, e)
-    (bound_of closing.kept.bounds (Lower, e)) (given_rule e p)) can.end (within e is)))) in
+    subst (λ (these : List Support). IsWithin these (bound_of closing.kept.bounds) (side_of can.new_one, e)
+    (bound_of closing.kept.bounds (side_of can.new_one, e)) (given_rule (side_of can.new_one, e) (length can.olds))) can.are
+    (subst (λ (p : ℕ). IsWithin supports (bound_of closing.kept.bounds) (side_of can.new_one, e)
+    (bound_of closing.kept.bounds (side_of can.new_one, e)) (given_rule (side_of can.new_one, e) p)) can.end (within e is)))) in
     record {
       kept = subst (IsKept supports) (sym kept) can.kept;
       base = ap (λ (k : KeptValue). k.base) kept;

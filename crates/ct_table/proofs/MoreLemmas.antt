@@ -1,20 +1,22 @@
 -- What more supports change: only the rules that name one of them.
 use Rattle.std.proofs.Common.{◌≡◌, ℕ, zero, suc, ◌+◌, ◌-◌, ◌≤◌, List, [], ◌∷◌, ◌++◌, length, map, Option, Some, None, Bool, true, false, not, slice_get, refl, sym, ap, subst, ◌∙◌, inl, inr, arith}
-use Rattle.std.specs.Prelude.{if◌then◌else◌, is_some}
+use Rattle.std.specs.Prelude.{if◌then◌else◌, is_some, ◌&&◌, nat_le}
 use Rattle.std.proofs.lemmas.Bool.{and_parts, cases_lt, not-true, false≢true}
 use Rattle.std.proofs.lemmas.Option.{none-some, same_Some}
 use Rattle.ct_codes.specs.declared.claim.Side.{Side}
-use Rattle.ct_codes.specs.declared.claim.Side.TheVariants.{Lower}
+use Rattle.ct_codes.specs.declared.claim.Side.TheVariants.{Lower, Upper}
 use Rattle.ct_codes.specs.declared.entry.Entry.{Entry}
 use Rattle.ct_codes.specs.Entry.{IsEntry, same_entry}
 use Rattle.ct_codes.proofs.EntryLemmas.{same_entry_is}
+use Rattle.ct_words.specs.declared.limits.TheConstants.{MAX_N}
+use Rattle.ct_duals.specs.Bound.{dual_premises}
 use Rattle.ct_rule_parts.specs.declared.support.Support.{Support}
 use Rattle.ct_rule_parts.specs.declared.support.Support.TheVariants.{Nothing, Size, Bound}
 use Rattle.ct_rule_parts.specs.Parts.{has_weight}
 use Rattle.ct_rule_parts.specs.Slot.{Slot, IsNoBetter}
-use Rattle.ct_rule_parts.specs.Support.{size_at}
+use Rattle.ct_rule_parts.specs.Support.{size_at, dual_at}
 use Rattle.ct_rules.specs.declared.rule.Rule.{Rule}
-use Rattle.ct_rules.specs.declared.rule.Rule.TheVariants.{L10, M10}
+use Rattle.ct_rules.specs.declared.rule.Rule.TheVariants.{L10, M10, U11, V9}
 use Rattle.ct_rules.specs.Closed.{IsSatisfied, IsClosed}
 use Rattle.ct_rules.specs.Rule.{row_of, rule_side, place_of, support_at, cited, parts_over, applies}
 use Rattle.ct_rules.proofs.Applied.{defined, applies_from_premises}
@@ -22,7 +24,7 @@ use Rattle.ct_rules.proofs.Places.{slice_get-append_left, slice_get-append_right
 use Rattle.ct_removal.proofs.LoweredRules.{premises_of-alike, value_of-alike}
 use Rattle.ct_closure.specs.Closing.{IsPending}
 use Rattle.ct_closure.specs.Number.{bound_of}
-use Rattle.ct_closure.specs.Places.{GivesTo, entry_of}
+use Rattle.ct_closure.specs.Places.{GivesTo, side_of, entry_of}
 use Rattle.ct_closure.specs.Worklist.{WorkValue, IsMarked}
 use Rattle.ct_closure.specs.Inside.Pulling.{IsWithin}
 use Rattle.ct_closure.specs.Inside.Pulled.{given_rule}
@@ -31,50 +33,84 @@ use Rattle.ct_table.proofs.BaseLemmas.{cited-nothing}
 
 -- a support that gives something to an entry of the table is one of that entry
 pub gives_entry : (support : Support) (e : Entry) → GivesTo support e → IsEntry e → entry_of support ≡ Some e
-gives_entry Nothing e gives entry = absurd (gives refl)
-gives_entry (Bound a) e gives entry = absurd (gives refl)
-gives_entry (Size f size) e gives entry = go (same_entry f e) refl
+gives_entry Nothing e (inl gives) entry = absurd (gives refl)
+gives_entry Nothing e (inr gives) entry = absurd (gives refl)
+gives_entry (Size f size) e (inr gives) entry = absurd (gives refl)
+gives_entry (Bound a) e (inl gives) entry = absurd (gives refl)
+gives_entry (Size f size) e (inl gives) entry = go (same_entry f e) refl
   where
     go : (b : Bool) → same_entry f e ≡ b → entry_of (Size f size) ≡ Some e
     go true is =
         let same : f ≡ e = same_entry_is f e is in
         ap (λ (b : Bool). if b then Some f else None) (subst IsEntry (sym same) entry) ∙ ap Some same
     go false is = absurd (gives (ap (λ (b : Bool). if b then Some size else None) is))
+gives_entry (Bound a) e (inr gives) entry = go (same_entry a.dual.entry e) refl
+  where
+    go : (b : Bool) → same_entry a.dual.entry e ≡ b → entry_of (Bound a) ≡ Some e
+    go true is =
+        let same : a.dual.entry ≡ e = same_entry_is a.dual.entry e is in
+        ap (λ (b : Bool). if b then Some a.dual.entry else None) (subst IsEntry (sym same) entry) ∙ ap Some same
+    go false is =
+        absurd (gives (ap (λ (b : Bool). if b && nat_le (length (dual_premises a.dual)) MAX_N then Some a else None) is))
 
--- a rule that is defined and names a support
+-- a rule that is defined and names a support: it is the one by which that support gives something
 pub record IsNamed (supports : List Support) (r : Rule) (place : ℕ) (e : Entry) : Type 0 where
-  pub side : rule_side r ≡ Lower
-  pub rule : r ≡ given_rule e place
-  pub gives : is_some (size_at (slice_get supports place) e) ≡ true
+  pub support : Support
+  pub there : slice_get supports place ≡ Some support
+  pub gives : GivesTo support e
+  pub side : rule_side r ≡ side_of support
+  pub rule : r ≡ given_rule (side_of support, e) place
+
+-- a support that gives something on a side
+abbrev IsGiving : Option Support → Entry → Side → Type 0
+IsGiving o e side = (support : Support) × (o ≡ Some support) × GivesTo support e × (side ≡ side_of support)
+
+giving : (o : Option Support) (e : Entry) → is_some (size_at o e) ≡ true → IsGiving o e Lower
+giving None e is = absurd (false≢true is)
+giving (Some Nothing) e is = absurd (false≢true is)
+giving (Some (Bound a)) e is = absurd (false≢true is)
+giving (Some (Size f size)) e is = (Size f size, refl, inl (λ none. false≢true (sym (ap is_some none) ∙ is)), refl)
+
+giving_dual : (o : Option Support) (e : Entry) → is_some (dual_at o e) ≡ true → IsGiving o e Upper
+giving_dual None e is = absurd (false≢true is)
+giving_dual (Some Nothing) e is = absurd (false≢true is)
+giving_dual (Some (Size f size)) e is = absurd (false≢true is)
+giving_dual (Some (Bound a)) e is = (Bound a, refl, inr (λ none. false≢true (sym (ap is_some none) ∙ is)), refl)
+
+named_by : (supports : List Support) (r : Rule) (p place : ℕ) (e : Entry) (side : Side) → p ≡ place → IsGiving (slice_get supports p) e side
+    → rule_side r ≡ side → r ≡ given_rule (side, e) p → IsNamed supports r place e
+named_by supports r p place e side same one own rule = record {
+  support = one.0;
+  there = subst (λ (q : ℕ). slice_get supports q ≡ Some one.0) same one.1;
+  gives = one.2;
+  side = own ∙ one.3;
+  rule = rule ∙ ap (given_rule (side, e)) same ∙ ap (λ (s : Side). given_rule (s, e) place) one.3;
+}
 
 pub named : (supports : List Support) (r : Rule) (place : ℕ) (e : Entry) → place_of r ≡ Some place
     → applies supports r e ≡ true → IsNamed supports r place e
 unfolding row_of
 named supports (L10 p) place e names h =
-    let same : p ≡ place = same_Some p place names in
     let is = defined (parts_over supports (L10 p)) e h in
     let parts = and_parts (not (has_weight e)) (is_some (size_at (slice_get supports p) e)) is.condition in
-    record {
-      side = refl;
-      rule =
-          sym (ap (λ (b : Bool). if b then M10 p else L10 p) (not-true (has_weight e) parts.0)) ∙ ap (given_rule e) same;
-      gives = subst (λ (q : ℕ). is_some (size_at (slice_get supports q) e) ≡ true) same parts.1;
-    }
+    named_by supports (L10 p) p place e Lower (same_Some p place names) (giving (slice_get supports p) e parts.1) refl
+    (sym (ap (λ (b : Bool). if b then M10 p else L10 p) (not-true (has_weight e) parts.0)))
 named supports (M10 p) place e names h =
-    let same : p ≡ place = same_Some p place names in
     let is = defined (parts_over supports (M10 p)) e h in
     let parts = and_parts (has_weight e) (is_some (size_at (slice_get supports p) e)) is.condition in
-    record {
-      side = refl;
-      rule = sym (ap (λ (b : Bool). if b then M10 p else L10 p) parts.0) ∙ ap (given_rule e) same;
-      gives = subst (λ (q : ℕ). is_some (size_at (slice_get supports q) e) ≡ true) same parts.1;
-    }
+    named_by supports (M10 p) p place e Lower (same_Some p place names) (giving (slice_get supports p) e parts.1) refl
+    (sym (ap (λ (b : Bool). if b then M10 p else L10 p) parts.0))
+named supports (U11 p) place e names h =
+    let is = defined (parts_over supports (U11 p)) e h in
+    let parts = and_parts (not (has_weight e)) (is_some (dual_at (slice_get supports p) e)) is.condition in
+    named_by supports (U11 p) p place e Upper (same_Some p place names) (giving_dual (slice_get supports p) e parts.1) refl
+    (sym (ap (λ (b : Bool). if b then V9 p else U11 p) (not-true (has_weight e) parts.0)))
+named supports (V9 p) place e names h =
+    let is = defined (parts_over supports (V9 p)) e h in
+    let parts = and_parts (has_weight e) (is_some (dual_at (slice_get supports p) e)) is.condition in
+    named_by supports (V9 p) p place e Upper (same_Some p place names) (giving_dual (slice_get supports p) e parts.1) refl
+    (sym (ap (λ (b : Bool). if b then V9 p else U11 p) parts.0))
 named supports r place e names h = absurd (none-some place names)
-
--- a support that gives something
-giving : (o : Option Support) (e : Entry) → is_some (size_at o e) ≡ true → (support : Support) × (o ≡ Some support) × GivesTo support e
-giving None e is = absurd (false≢true is)
-giving (Some support) e is = (support, refl, λ none. false≢true (sym (ap is_some none) ∙ is))
 
 -- one of more supports that gives something to the entry, by the rule that names it
 pub record IsNew (olds added : List Support) (r : Rule) (e : Entry) : Type 0 where
@@ -82,8 +118,8 @@ pub record IsNew (olds added : List Support) (r : Rule) (e : Entry) : Type 0 whe
   pub support : Support
   pub there : slice_get added index ≡ Some support
   pub gives : GivesTo support e
-  pub side : rule_side r ≡ Lower
-  pub rule : r ≡ given_rule e (length olds + index)
+  pub side : rule_side r ≡ side_of support
+  pub rule : r ≡ given_rule (side_of support, e) (length olds + index)
 
 -- a rule gives nothing better than what was closed, but where it names one of the new supports
 pub satisfied_over_more : (olds added : List Support) (bounds : Slot → ℕ) (r : Rule) (e : Entry) → IsClosed olds bounds
@@ -104,15 +140,14 @@ satisfied_over_more olds added bounds r e closed new slots v premises value = go
         let at : length olds + (place - length olds) ≡ place = omega arith in
         let there : slice_get (olds ++ added) place ≡ slice_get added (place - length olds) =
         ap (slice_get (olds ++ added)) (sym at) ∙ slice_get-append_right olds added (place - length olds) in
-        let one = giving (slice_get (olds ++ added) place) e is.gives in
         new (defined (parts_over (olds ++ added) r) e h).entry
         (record {
           index = place - length olds;
-          support = one.0;
-          there = sym there ∙ one.1;
-          gives = one.2;
+          support = is.support;
+          there = sym there ∙ is.there;
+          gives = is.gives;
           side = is.side;
-          rule = is.rule ∙ ap (given_rule e) (sym at);
+          rule = is.rule ∙ ap (given_rule (side_of is.support, e)) (sym at);
         })
         slots v premises value
 
@@ -126,10 +161,10 @@ satisfied_over_more olds added bounds r e closed new slots v premises value = go
       | inr after ↦ past place names after (named (olds ++ added) r place e names h)
     ]
 
--- the entries of supports are marked from below
+-- the slots to which supports give something are marked
 abbrev pub AreGivenMarked : List Support → WorkValue → Type 0
 AreGivenMarked added work = (index : ℕ) (support : Support) (e : Entry) → slice_get added index ≡ Some support → GivesTo support e
-    → IsEntry e → IsMarked work (Lower, e)
+    → IsEntry e → IsMarked work (side_of support, e)
 
 -- where these are marked, each slot is marked or satisfied
 pub pending_over_more : (olds added : List Support) (bounds : List ℕ) (work : WorkValue) → IsClosed olds (bound_of bounds)
@@ -137,26 +172,28 @@ pub pending_over_more : (olds added : List Support) (bounds : List ℕ) (work : 
 pending_over_more olds added bounds work closed marked s entry unmarked r side =
     satisfied_over_more olds added (bound_of bounds) r s.1 closed
     (λ e_entry is.
-    let slot : Lower ≡ s.0 = sym is.side ∙ side in
+    let slot : side_of is.support ≡ s.0 = sym is.side ∙ side in
     absurd (unmarked (subst (λ (d : Side). IsMarked work (d, s.1)) slot
     (marked is.index is.support s.1 is.there is.gives entry))))
 
 -- where the one new support betters nothing, all is closed as before
 pub closed_over_one : (olds : List Support) (x : Support) (bounds : Slot → ℕ) → IsClosed olds bounds
     → ((e : Entry) → entry_of x ≡ Some e
-    → IsWithin (olds ++ x ∷ []) bounds (Lower, e) (bounds (Lower, e)) (given_rule e (length olds)))
+    → IsWithin (olds ++ x ∷ []) bounds (side_of x, e) (bounds (side_of x, e)) (given_rule (side_of x, e) (length olds)))
     → IsClosed (olds ++ x ∷ []) bounds
 closed_over_one olds x bounds closed within r e =
     satisfied_over_more olds (x ∷ []) bounds r e closed (λ entry is. go entry is.index is.support is.there is.gives is.side is.rule)
   where
     go : IsEntry e → (index : ℕ) (support : Support) → slice_get (x ∷ []) index ≡ Some support → GivesTo support e
-        → rule_side r ≡ Lower → r ≡ given_rule e (length olds + index) → IsSatisfied (olds ++ x ∷ []) bounds r e
+        → rule_side r ≡ side_of support → r ≡ given_rule (side_of support, e) (length olds + index) → IsSatisfied (olds ++ x ∷ []) bounds r e
     go entry (suc index) support there gives side rule = absurd (none-some support there)
     go entry zero support there gives side rule =
         let one : x ≡ support = same_Some x support there in
         let end : length olds + 0 ≡ length olds = omega arith in
+        let own : rule_side r ≡ side_of x = side ∙ ap side_of (sym one) in
+        let by : r ≡ given_rule (side_of x, e) (length olds) =
+        rule ∙ ap (given_rule (side_of support, e)) end ∙ ap (λ (y : Support). given_rule (side_of y, e) (length olds)) (sym one) in
         let is = within e (gives_entry x e (subst (λ (y : Support). GivesTo y e) (sym one) gives) entry) in
         satisfied_within (olds ++ x ∷ []) bounds r e
-        (subst (λ (d : Side). IsWithin (olds ++ x ∷ []) bounds (d, e) (bounds (d, e)) r) (sym side)
-        (subst (IsWithin (olds ++ x ∷ []) bounds (Lower, e) (bounds (Lower, e)))
-        (sym (rule ∙ ap (given_rule e) end)) is))
+        (subst (λ (d : Side). IsWithin (olds ++ x ∷ []) bounds (d, e) (bounds (d, e)) r) (sym own)
+        (subst (IsWithin (olds ++ x ∷ []) bounds (side_of x, e) (bounds (side_of x, e))) (sym by) is))

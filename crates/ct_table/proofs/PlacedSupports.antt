@@ -6,14 +6,13 @@ use Rattle.std.proofs.lemmas.Bool.{cases_eq}
 use Rattle.std.proofs.lemmas.List.{take_more, map-append, length-map}
 use Rattle.std.proofs.lemmas.List.Elements.{All-nil, All-cons, All-head, All-tail, All-append}
 use Rattle.std.proofs.lemmas.Option.{none-some, same_Some, slice_get-map, slice_get_within, get_or_from_slice_get}
-use Rattle.ct_codes.specs.declared.claim.Side.TheVariants.{Lower}
 use Rattle.ct_codes.specs.declared.entry.Entry.{Entry}
 use Rattle.ct_codes.specs.Entry.{IsEntry}
 use Rattle.ct_rule_parts.specs.declared.support.Support.{Support}
 use Rattle.ct_rule_parts.specs.declared.support.Support.TheVariants.{Nothing}
 use Rattle.ct_rule_parts.specs.Slot.{Slot}
 use Rattle.ct_rules.proofs.Places.{slice_get_last}
-use Rattle.ct_closure.specs.Places.{GivesTo, ArePlaces, entry_of}
+use Rattle.ct_closure.specs.Places.{GivesTo, ArePlaces, side_of, entry_of}
 use Rattle.ct_closure.specs.Worklist.{WorkValue, IsMarked}
 use Rattle.ct_closure.proofs.GetLemmas.{slice_get-set_same, slice_get-set_other}
 use Rattle.ct_removal.specs.Removal.{Places, only, voided, voided_by}
@@ -26,7 +25,7 @@ pub still_given : (old new : WorkValue) (supports : List Support) → ((t : Slot
 still_given old new [] more all = All-nil (IsMarkedIfGiven new)
 still_given old new (x ∷ supports) more all =
     let here : IsMarkedIfGiven new x =
-    λ e entry gives. more (Lower, e) (All-head (IsMarkedIfGiven old) x supports all e entry gives) in
+    λ e entry gives. more (side_of x, e) (All-head (IsMarkedIfGiven old) x supports all e entry gives) in
     All-cons (IsMarkedIfGiven new) x supports here
     (still_given old new supports more (All-tail (IsMarkedIfGiven old) x supports all))
 
@@ -98,6 +97,10 @@ ArePlaces-push supports places x are = record {
 }
 
 -- where one gives nothing any more
+nothing_given : (e : Entry) → GivesTo Nothing e → ⊥
+nothing_given e (inl gives) = gives refl
+nothing_given e (inr gives) = gives refl
+
 length-set : {X : Type 0} (xs : List X) (i : ℕ) (x : X) → length (slice_set xs i x) ≡ length xs
 length-set [] i x = refl
 length-set (y ∷ ys) zero x = refl
@@ -113,7 +116,7 @@ ArePlaces-nothing supports places at within are = record {
         same_Some Nothing support
         (sym (slice_get-set_same supports at Nothing within) ∙ ap (slice_get (slice_set supports at Nothing)) (sym same)
         ∙ there) in
-        absurd (subst (λ (y : Support). GivesTo y e) (sym one) gives refl)
+        absurd (nothing_given e (subst (λ (y : Support). GivesTo y e) (sym one) gives))
     | inr other ↦
         are.given place support e entry (sym (slice_get-set_other supports at place Nothing other) ∙ there) gives
   ];

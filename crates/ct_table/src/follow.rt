@@ -1,7 +1,6 @@
 //! What a new support changes: nothing where it betters nothing, else what rests on its entry is closed again.
 
 ghost use Rattle.std.specs.Prelude.{◌≡◌, ◌+◌, ◌<◌, ◌≤◌, ◌^◌, ◌++◌, ◌∷◌, [], ℕ, List, Some, false, OnOk, OnErr, length};
-ghost use Rattle.ct_codes.specs.declared.claim.Side.TheVariants.{Lower};
 ghost use Rattle.ct_codes.specs.Entry.{IsEntry};
 ghost use Rattle.ct_rule_parts.specs.declared.support.Support.{Support};
 ghost use Rattle.ct_rule_parts.specs.Support.{AllStand};
@@ -16,18 +15,18 @@ ghost use Rattle.ct_closure.specs.Inside.Pulled.{given_rule};
 ghost use Rattle.ct_table.specs.Inside.Starting.{CanFollow};
 
 use crate::start::mark_given;
-use ct_closure::{Closing, Kept, SupportPlaces, close, entry_of, given_rule, offer};
+use ct_closure::{Closing, Kept, SupportPlaces, close, entry_of, given_rule, is_better, offer, side_of};
 use ct_codes::{Entry, Side};
 use ct_rules::Support;
 use std::alloc::{AllocError, Global};
 
-/// Whether the support at a place betters the lower bound of an entry of the table.
-fn betters(supports: &[Support], kept: &Kept, entry: Entry, place: u32) -> bool
+/// Whether the support at a place betters the bound on a side of an entry of the table.
+fn betters(supports: &[Support], kept: &Kept, side: Side, entry: Entry, place: u32) -> bool
     requires { IsEntry entry }
-    ensures { result ≡ false → IsWithin supports.now (bound_of kept.now.bounds) (Lower, entry) (bound_of kept.now.bounds (Lower, entry)) (given_rule entry place) }
+    ensures { result ≡ false → IsWithin supports.now (bound_of kept.now.bounds) (side, entry) (bound_of kept.now.bounds (side, entry)) (given_rule (side, entry) place) }
 {
-    match offer(supports, kept, given_rule(entry, place), entry) {
-        Some(value) => value > kept.bound(Side::Lower, entry),
+    match offer(supports, kept, given_rule(side, entry, place), entry) {
+        Some(value) => is_better(side, value, kept.bound(side, entry)),
         None => false,
     }
 }
@@ -65,11 +64,13 @@ pub(crate) fn follow(
     ensures unchanged { OnErr result (closing.new.kept ≡ closing.old.kept) }
     ensures idle { OnErr result (IsIdle closing.new.work) }
 {
-    let Some(entry) = entry_of(&supports[place as usize]) else {
+    let support = &supports[place as usize];
+    let Some(entry) = entry_of(support) else {
         return Ok(());
     };
+    let side = side_of(support);
     closing.evaluations = closing.evaluations.saturating_add(1);
-    if !betters(supports, &closing.kept, entry, place) {
+    if !betters(supports, &closing.kept, side, entry, place) {
         return Ok(());
     }
     let saved = closing.kept.save(alloc)?;

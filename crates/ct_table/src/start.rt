@@ -12,8 +12,7 @@ ghost use Rattle.ct_closure.specs.Places.{entry_of, ArePlaces};
 ghost use Rattle.ct_closure.specs.Worklist.{IsMarked};
 ghost use Rattle.ct_table.specs.Inside.Starting.{IsBegun, IsMarkedIfGiven};
 
-use ct_closure::{Closing, Kept, SLOTS, SupportPlaces, Worklist, close, entry_of};
-use ct_codes::Side;
+use ct_closure::{Closing, Kept, SLOTS, SupportPlaces, Worklist, close, entry_of, side_of};
 use ct_rules::Support;
 use std::alloc::{AllocError, Global};
 
@@ -51,7 +50,7 @@ pub(crate) fn mark_given(work: &mut Worklist, support: &Support) -> Result<(), A
     let Some(entry) = entry_of(support) else {
         return Ok(());
     };
-    work.mark(Side::Lower, entry)
+    work.mark(side_of(support), entry)
 }
 
 /// Puts each support into the places, which are none so far, and marks the slot to which it gives something. `Err` is want of

@@ -6,7 +6,7 @@ use ct_rules::{Rule, Support, premise, premise_count, rule_side, value};
 use ct_words::MAX_BOUND;
 
 /// Each rule, with the first support, the weight 0, and a length and a distance, where it names any.
-const RULES: [Rule; 40] = [
+const RULES: [Rule; 42] = [
     Rule::L1,
     Rule::L2,
     Rule::L3,
@@ -38,6 +38,7 @@ const RULES: [Rule; 40] = [
     Rule::U8,
     Rule::U9,
     Rule::U10(0),
+    Rule::U11(0),
     Rule::V0,
     Rule::V1,
     Rule::V2,
@@ -47,6 +48,7 @@ const RULES: [Rule; 40] = [
     Rule::V6,
     Rule::V7,
     Rule::V8,
+    Rule::V9(0),
 ];
 
 /// A(n,d).

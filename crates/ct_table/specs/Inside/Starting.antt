@@ -1,6 +1,5 @@
 -- A table that begins, and one to which a support is added.
 use Rattle.std.specs.Prelude.{◌≡◌, ℕ, ◌<◌, ◌^◌, List, [], ◌∷◌, ◌++◌, length}
-use Rattle.ct_codes.specs.declared.claim.Side.TheVariants.{Lower}
 use Rattle.ct_codes.specs.declared.entry.Entry.{Entry}
 use Rattle.ct_codes.specs.Entry.{IsEntry}
 use Rattle.ct_rule_parts.specs.declared.support.Support.{Support}
@@ -9,7 +8,7 @@ use Rattle.ct_rules.specs.Closed.{IsClosed}
 use Rattle.ct_closure.specs.Closing.{ClosingValue}
 use Rattle.ct_closure.specs.Kept.{IsKept}
 use Rattle.ct_closure.specs.Number.{bound_of}
-use Rattle.ct_closure.specs.Places.{GivesTo}
+use Rattle.ct_closure.specs.Places.{GivesTo, side_of}
 use Rattle.ct_closure.specs.Worklist.{WorkValue, IsMarked, IsIdle}
 
 -- closed over no supports, with no base yet
@@ -21,7 +20,7 @@ pub record IsBegun (closing : ClosingValue) : Type 0 where
 
 -- the slot to which a support gives something is marked
 abbrev pub IsMarkedIfGiven : WorkValue → Support → Type 0
-IsMarkedIfGiven work support = (e : Entry) → IsEntry e → GivesTo support e → IsMarked work (Lower, e)
+IsMarkedIfGiven work support = (e : Entry) → IsEntry e → GivesTo support e → IsMarked work (side_of support, e)
 
 -- a table that is closed over the supports but the last, which stands at the place
 pub record CanFollow (supports : List Support) (place : ℕ) (closing : ClosingValue) : Type 0 where

@@ -1,10 +1,11 @@
 use Rattle.std.proofs.Common.{◌≡◌, Some, None, sym, subst, ap, ◌∙◌, refl}
 use Rattle.std.proofs.lemmas.Option.{none-some, same_Some}
-use Rattle.ct_codes.specs.declared.claim.Side.TheVariants.{Lower}
+use Rattle.ct_codes.specs.declared.claim.Side.{Side}
+use Rattle.ct_rule_parts.specs.declared.support.Support.{Support}
 use Rattle.ct_codes.specs.declared.entry.Entry.{Entry}
 use Rattle.ct_closure.specs.Closing.{ClosingValue}
 use Rattle.ct_closure.specs.Number.{bound_of}
-use Rattle.ct_closure.specs.Places.{entry_of}
+use Rattle.ct_closure.specs.Places.{entry_of, side_of}
 use Rattle.ct_closure.specs.Inside.Pulling.{IsWithin}
 use Rattle.ct_closure.specs.Inside.Pulled.{given_rule}
 use Rattle.ct_table.proofs.FollowLemmas.{IsClosing-same}
@@ -31,8 +32,12 @@ returns-then-not-betters-clause-closed c =
     c.requires.new (ap (λ (k : ClosingValue). k.kept) c.closing.view_is) (ap (λ (k : ClosingValue). k.work) c.closing.view_is)
     (λ e is.
     let same : c.in-Some.entry ≡ e = same_Some c.in-Some.entry e (sym found ∙ is) in
-    subst (λ (k : ClosingValue). IsWithin c.args.supports.now (bound_of k.kept.bounds) (Lower, e)
-    (bound_of k.kept.bounds (Lower, e)) (given_rule e c.args.place)) c.closing.view_is
-    (subst (λ (f : Entry). IsWithin c.args.supports.now (bound_of c.closing.inside.kept.bounds) (Lower, f)
-    (bound_of c.closing.inside.kept.bounds (Lower, f)) (given_rule f c.args.place)) same
-    (c.if-not-betters.ensures refl)))
+    let new_is = c.index-supports-place.is ∙ last_is c.args.supports.now new.olds new.new_one c.index-supports-place.result c.args.place new.are new.end in
+    let side : c.side_of-side.result ≡ side_of new.new_one = c.side_of-side.ensures ∙ ap side_of new_is in
+    subst (λ (k : ClosingValue). IsWithin c.args.supports.now (bound_of k.kept.bounds) (side_of new.new_one, e)
+    (bound_of k.kept.bounds (side_of new.new_one, e)) (given_rule (side_of new.new_one, e) c.args.place)) c.closing.view_is
+    (subst (λ (s : Side). IsWithin c.args.supports.now (bound_of c.closing.inside.kept.bounds) (s, e)
+    (bound_of c.closing.inside.kept.bounds (s, e)) (given_rule (s, e) c.args.place)) side
+    (subst (λ (f : Entry). IsWithin c.args.supports.now (bound_of c.closing.inside.kept.bounds) (c.side_of-side.result, f)
+    (bound_of c.closing.inside.kept.bounds (c.side_of-side.result, f)) (given_rule (c.side_of-side.result, f) c.args.place)) same
+    (c.if-not-betters.ensures refl))))
