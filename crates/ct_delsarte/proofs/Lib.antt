@@ -1,1 +1,2 @@
 mod SchemesOfEntries
+pub mod SoundDuals
