@@ -8,7 +8,7 @@ use Rattle.ct_codes.specs.declared.claim.Side.TheVariants.{Lower, Upper}
 use Rattle.ct_text.specs.Number.{spaced}
 use Rattle.ct_text.specs.EntryText.{entry_words}
 use Rattle.ct_rules.specs.declared.rule.Rule.{Rule}
-use Rattle.ct_rules.specs.declared.rule.Rule.TheVariants.{L1, L2, L3, L4, L5, L6, L7, L8, L9, L10, L11, M1, M2, M3, M4, M5, M6, M7, M8, M10, U0, U1, U2, U3, U4, U5, U6, U7, U8, U9, U10, V0, V1, V2, V3, V4, V5, V6, V7, V8}
+use Rattle.ct_rules.specs.declared.rule.Rule.TheVariants.{L1, L2, L3, L4, L5, L6, L7, L8, L9, L10, L11, M1, M2, M3, M4, M5, M6, M7, M8, M10, U0, U1, U2, U3, U4, U5, U6, U7, U8, U9, U10, U11, V0, V1, V2, V3, V4, V5, V6, V7, V8, V9}
 use Rattle.ct_rules.specs.Derivation.{LineValue}
 use Rattle.ct_derive.specs.Check.{numbers_at}
 use Rattle.ct_derive.specs.Derivation.{DerivationValue}
@@ -51,6 +51,7 @@ rule_words ids U7 = codes "U7"
 rule_words ids U8 = codes "U8"
 rule_words ids U9 = codes "U9"
 rule_words ids (U10 w) = codes "U10" ++ spaced w
+rule_words ids (U11 place) = codes "U11" ++ id_word (slice_get ids place)
 rule_words ids V0 = codes "V0"
 rule_words ids V1 = codes "V1"
 rule_words ids V2 = codes "V2"
@@ -60,6 +61,7 @@ rule_words ids V5 = codes "V5"
 rule_words ids V6 = codes "V6"
 rule_words ids V7 = codes "V7"
 rule_words ids V8 = codes "V8"
+rule_words ids (V9 place) = codes "V9" ++ id_word (slice_get ids place)
 
 -- the side of a bound
 abbrev pub side_text : Side → List ℕ

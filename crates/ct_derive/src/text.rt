@@ -78,6 +78,10 @@ fn put_rule(alloc: Global, text: &mut Vec<u8>, ids: &[Id], rule: Rule) -> Result
             text.extend_from_slice(b"U10")?;
             put_spaced(alloc, text, u64::from(w))
         }
+        Rule::U11(place) => {
+            text.extend_from_slice(b"U11")?;
+            put_id(text, ids, place)
+        }
         Rule::V0 => text.extend_from_slice(b"V0"),
         Rule::V1 => text.extend_from_slice(b"V1"),
         Rule::V2 => text.extend_from_slice(b"V2"),
@@ -87,6 +91,10 @@ fn put_rule(alloc: Global, text: &mut Vec<u8>, ids: &[Id], rule: Rule) -> Result
         Rule::V6 => text.extend_from_slice(b"V6"),
         Rule::V7 => text.extend_from_slice(b"V7"),
         Rule::V8 => text.extend_from_slice(b"V8"),
+        Rule::V9(place) => {
+            text.extend_from_slice(b"V9")?;
+            put_id(text, ids, place)
+        }
     }
 }
 
