@@ -14,3 +14,4 @@ pub mod Accepting
 pub mod Refusing
 pub mod DocumentLines
 pub mod Reaching
+pub mod DualSupports

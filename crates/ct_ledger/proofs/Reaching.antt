@@ -21,6 +21,9 @@ use Rattle.ct_ledger.specs.Piece.{PieceValue}
 use Rattle.ct_ledger.specs.Codes.{code_at, codes_of, code_of_place}
 use Rattle.ct_ledger.specs.Supports.{support_of, supports_of}
 use Rattle.ct_ledger.specs.Standing.{AreStanding}
+use Rattle.ct_duals.specs.Check.{dual_fault}
+use Rattle.ct_delsarte.specs.Numbers.{numbers_of}
+use Rattle.ct_ledger.proofs.KindLaws.Dual.{gives_no_size}
 use Rattle.ct_ledger.proofs.AscendingLemmas.{ascending-moved}
 use Rattle.ct_ledger.proofs.SizeLemmas.{code-le}
 use Rattle.ct_ledger.proofs.PartLemmas.{IsPlaced, placed, Some-piece, piece-coded}
@@ -38,8 +41,8 @@ gives-coded : (evidence : Evidence) (o : Option ℕ) (e : Entry) (size : ℕ) �
 gives-coded (Words f words) o e size h = refl
 gives-coded (Cosets f basis representatives) o e size h = refl
 gives-coded (Build f step part other) o e size h = refl
-gives-coded (Dual d) o e size h = absurd cc
-gives-coded (JohnsonDual d) o e size h = absurd cc
+gives-coded (Dual d) o e size h = absurd (gives_no_size d (dual_fault (numbers_of d.entry) d) e size h)
+gives-coded (JohnsonDual d) o e size h = absurd (gives_no_size d (dual_fault (numbers_of d.entry) d) e size h)
 
 -- the size and the words of a code that was made of words
 record IsMadeOf (e : Entry) (words : Option (List ℕ)) (c : CodeValue) : Type 0 where

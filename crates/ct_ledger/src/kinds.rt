@@ -72,15 +72,17 @@ pub(crate) fn names(evidence: &Evidence, id: Id) -> bool
     }
 }
 
-/// What a piece of the evidence gives to the table, which has this size.
-pub(crate) fn gives(evidence: &Evidence, size: Option<u32>) -> Support
-    ensures { result ≡ (kind_of evidence.now).gives size }
+/// What a piece of the evidence gives to the table, which has this size. `Err` is want of memory.
+pub(crate) fn gives(evidence: &Evidence, size: Option<u32>) -> Result<Support, AllocError>
+    requires sound { IsSound evidence.now }
+    ensures { IfOk result (λ support. support ≡ (kind_of evidence.now).gives size) }
 {
     match evidence {
         Evidence::Words { entry, .. }
         | Evidence::Cosets { entry, .. }
-        | Evidence::Build { entry, .. } => support_from(*entry, size),
-        Evidence::Dual(_) | Evidence::JohnsonDual(_) => Support::Nothing,
+        | Evidence::Build { entry, .. } => Ok(support_from(*entry, size)),
+        Evidence::Dual(dual) => dual::support(dual),
+        Evidence::JohnsonDual(dual) => dual::support(dual),
     }
 }
 

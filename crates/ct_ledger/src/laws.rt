@@ -6,6 +6,8 @@ ghost use Rattle.std.specs.Ordering.{nat_cmp};
 ghost use Rattle.ct_codes.specs.declared.entry.Entry.{Entry};
 ghost use Rattle.ct_build.specs.declared.step.Step.{Step};
 ghost use Rattle.ct_duals.specs.declared.dual.Dual.{Dual};
+ghost use Rattle.ct_duals.specs.Dual.{combination};
+ghost use Rattle.ct_delsarte.specs.Numbers.{numbers_of};
 ghost use Rattle.ct_evidence.specs.declared.evidence.Evidence.TheVariants as evidence;
 ghost use Rattle.ct_codes.specs.Code.{CodeValue, IsSoundCode};
 ghost use Rattle.ct_codes.specs.declared.claim.Side.TheVariants.{Lower};
@@ -21,9 +23,9 @@ ghost use Rattle.ct_ledger.specs.declared.limits.TheConstants.{MAX_PIECES, MAX_S
 ghost use Rattle.ct_ledger.specs.declared.fault.WithdrawFault.{WithdrawFault};
 ghost use Rattle.ct_ledger.specs.Standing.{AreStanding};
 ghost use Rattle.ct_ledger.specs.Submission.{submitted, IsAccepted};
-ghost use Rattle.ct_ledger.specs.Supports.{supports_of};
+ghost use Rattle.ct_ledger.specs.Supports.{support_of, supports_of};
 ghost use Rattle.ct_ledger.specs.declared.fault.SubmitFault.{SubmitFault};
-ghost use Rattle.ct_rule_parts.specs.declared.support.Support.TheVariants.{Size};
+ghost use Rattle.ct_rule_parts.specs.declared.support.Support.TheVariants.{Size, Bound};
 ghost use Rattle.ct_rule_parts.specs.Support.{AllStand};
 ghost use Rattle.ct_rules.specs.Derivation.{IsBest};
 
@@ -100,4 +102,14 @@ pub fn sizes_are_those_of_codes()
     ensures { (pieces : List PieceValue) (place : ℕ) (e : Entry) (size : ℕ) → AreStanding pieces
         → slice_get (supports_of pieces) place ≡ Some (Size e size)
         → (c : CodeValue) × (code_of_place pieces place ≡ Some c) × (record { n = c.n; d = c.d; w = c.w } ≡ e) × (length c.words ≡ size) }
+{}
+
+/// A piece that stands and is a dual, without weight or with one, gives its bound to the table: the dual with its f(0).
+pub fn duals_give_their_bounds()
+    ensures plain { (pieces : List PieceValue) (place : ℕ) (p : PieceValue) (d : Dual) → AreStanding pieces
+        → slice_get pieces place ≡ Some p → p.evidence ≡ evidence.Dual d
+        → support_of p ≡ Bound (record { dual = d; at_zero = combination (numbers_of d.entry) d.c 0 }) }
+    ensures weighted { (pieces : List PieceValue) (place : ℕ) (p : PieceValue) (d : Dual) → AreStanding pieces
+        → slice_get pieces place ≡ Some p → p.evidence ≡ evidence.JohnsonDual d
+        → support_of p ≡ Bound (record { dual = d; at_zero = combination (numbers_of d.entry) d.c 0 }) }
 {}

@@ -44,14 +44,24 @@ impl Model for Ledger {
     ghost invariant = { λ l. l.table.supports ≡ supports_of l.pieces };
 }
 
-/// What the last of the pieces gives to a table, where there is one.
-fn last_support(pieces: &[Piece]) -> Support
-    ensures { (front : List PieceValue) (p : PieceValue) → pieces.now ≡ front ++ p ∷ [] → result ≡ support_of p }
+/// What the last of the pieces gives to a table, where there is one. `Err` is want of memory.
+fn last_support(pieces: &[Piece]) -> Result<Support, AllocError>
+    ensures { (front : List PieceValue) (p : PieceValue) → pieces.now ≡ front ++ p ∷ [] → IfOk result (λ support. support ≡ support_of p) }
 {
     match pieces.last() {
         Some(piece) => piece.support(),
-        None => Support::Nothing,
+        None => Ok(Support::Nothing),
     }
+}
+
+/// Takes the last of the pieces out again, where memory ran out.
+fn give_up(pieces: &mut Pieces) -> SubmitFault
+    requires { 0 < length pieces.old }
+    ensures left { (front : List PieceValue) (p : PieceValue) → pieces.old ≡ front ++ p ∷ [] → pieces.new ≡ front }
+    ensures fault { result ≡ SubmitFault.Memory }
+{
+    pieces.take_back();
+    SubmitFault::Memory
 }
 
 impl Ledger {
@@ -110,9 +120,11 @@ impl Ledger {
         ensures unchanged { OnErr result (self.new ≡ self.old) }
     {
         let size = self.pieces.submit_text(id, document)?;
-        if let Err(error) = self.table.add(last_support(self.pieces.pieces())) {
-            self.pieces.take_back();
-            return Err(error.into());
+        let Ok(support) = last_support(self.pieces.pieces()) else {
+            return Err(give_up(&mut self.pieces));
+        };
+        if self.table.add(support).is_err() {
+            return Err(give_up(&mut self.pieces));
         }
         Ok(size)
     }

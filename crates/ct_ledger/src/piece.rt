@@ -1,6 +1,7 @@
 //! A piece of evidence that was accepted.
 
 ghost use Rattle.std.specs.Prelude.{◌≡◌, ◌++◌, OnOk, IfOk};
+ghost use Rattle.ct_files.specs.Evidence.{IsSound};
 ghost use Rattle.ct_ledger.specs.Kind.{names};
 ghost use Rattle.ct_ledger.specs.Supports.{support_of};
 ghost use Rattle.ct_ledger.specs.Text.{piece_text};
@@ -25,11 +26,14 @@ pub struct Piece {
 }
 
 impl Model for Piece {
+    ghost use Rattle.ct_files.specs.Evidence.{IsSound};
     ghost use Rattle.ct_ledger.specs.Piece.{PieceValue};
 
     ghost Value = { PieceValue };
 
     ghost view = { λ p. record { id = p.id; document = p.document; evidence = p.evidence; entry = p.entry; size = p.size } };
+
+    ghost invariant = { λ p. IsSound p.evidence };
 }
 
 impl Piece {
@@ -41,6 +45,7 @@ impl Piece {
         entry: Entry,
         size: Option<u32>,
     ) -> Piece
+        requires sound { IsSound evidence }
         ensures { result ≡ record { id = id; document = document; evidence = evidence; entry = entry; size = size } }
     {
         Piece {
@@ -87,9 +92,9 @@ impl Piece {
         self.size
     }
 
-    /// What it gives to a table: by its kind, of its size.
-    pub fn support(&self) -> Support
-        ensures { result ≡ support_of self.now }
+    /// What it gives to a table: by its kind, of its size. `Err` is want of memory.
+    pub fn support(&self) -> Result<Support, AllocError>
+        ensures { IfOk result (λ support. support ≡ support_of self.now) }
     {
         gives(&self.evidence, self.size)
     }

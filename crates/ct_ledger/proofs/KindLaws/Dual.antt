@@ -1,16 +1,33 @@
 -- Evidence of kind dual or jdual.
-use Rattle.std.proofs.Common.{◌≡◌, ℕ, List, None, option_map, refl, ap}
+use Rattle.std.proofs.Common.{◌≡◌, ℕ, List, Option, Some, None, option_map, refl, ap}
 use Rattle.ct_duals.specs.declared.dual.Dual.{Dual}
+use Rattle.ct_duals.specs.declared.fault.DualFault.{DualFault}
+use Rattle.ct_duals.specs.Dual.{IsDual}
 use Rattle.ct_duals.specs.Check.{dual_fault}
 use Rattle.ct_duals.proofs.Faults.{below-from_none, none-from_below}
 use Rattle.ct_delsarte.specs.Numbers.{numbers_of}
+use Rattle.ct_delsarte.proofs.SoundDuals.{accepted-sound}
+use Rattle.ct_codes.specs.declared.entry.Entry.{Entry}
+use Rattle.ct_rule_parts.specs.declared.support.Support.{Support}
+use Rattle.ct_rule_parts.specs.declared.support.Support.TheVariants.{Nothing, Size, Bound}
+use Rattle.ct_rule_parts.specs.Support.{Stands}
 use Rattle.ct_evidence.specs.declared.evidence.Evidence.TheVariants as evidence
 use Rattle.ct_files.specs.Evidence.{IsSound}
 use Rattle.ct_ledger.specs.Named.{NamedCode}
-use Rattle.ct_ledger.specs.Kinds.Dual.{dual_kind, IsDualChecked}
+use Rattle.ct_ledger.specs.Kinds.Dual.{dual_kind, dual_support, IsDualChecked}
 use Rattle.ct_ledger.specs.Kind.{own_reason}
 use Rattle.ct_ledger.specs.declared.fault.SubmitFault.TheVariants as fault
 use Rattle.ct_ledger.proofs.Stating.{option_map-none, StatesCode, SaysSame}
+
+-- what an accepted dual gives stands
+dual_stands : (d : Dual) → IsDual d → (o : Option DualFault) → dual_fault (numbers_of d.entry) d ≡ o → Stands (dual_support o d)
+dual_stands d form None none = accepted-sound d form none
+dual_stands d form (Some reason) is = tt
+
+-- nor is it a size
+pub gives_no_size : (d : Dual) (o : Option DualFault) (e : Entry) (size : ℕ) → dual_support o d ≡ Size e size → ⊥
+gives_no_size d None e size h = absurd cc
+gives_no_size d (Some reason) e size h = absurd cc
 
 -- a dual against which there is no reason is one
 pub dual_states : (known : List NamedCode) (d : Dual) → IsSound (evidence.Dual d) → own_reason known (evidence.Dual d) ≡ None → StatesCode known (evidence.Dual d)
@@ -21,7 +38,7 @@ dual_states known d sound own =
       coded = refl;
       code = tt;
       size = λ yes. absurd cc;
-      stands = tt;
+      stands = dual_stands d sound.0 (dual_fault (numbers_of d.entry) d) refl;
     }
 
 -- and so with a weight
@@ -34,7 +51,7 @@ johnson_dual_states known d sound own =
       coded = refl;
       code = tt;
       size = λ yes. absurd cc;
-      stands = tt;
+      stands = dual_stands d sound.0 (dual_fault (numbers_of d.entry) d) refl;
     }
 
 -- a dual has no reason against it

@@ -3,12 +3,15 @@
 ghost use Rattle.std.specs.Prelude.{◌≡◌, ◌≢◌, ◌<◌, ◌^◌, Some, None, IfOk, IfErr, OnOk, option_map, false};
 ghost use Rattle.ct_duals.specs.Dual.{IsDual};
 ghost use Rattle.ct_duals.specs.Check.{dual_fault};
+ghost use Rattle.ct_ledger.specs.Kinds.Dual.{dual_support};
 ghost use Rattle.ct_delsarte.specs.Numbers.{numbers_of};
 
 use crate::fault::SubmitFault;
 use crate::kinds::{Checked, Kind};
 use ct_delsarte::check_dual_of_table;
-use ct_duals::Dual;
+use ct_duals::{AcceptedDual, Dual};
+use ct_rules::Support;
+use std::alloc::AllocError;
 
 /// What the evidence comes to, whose kind has this word.
 pub(crate) fn kind(text: &'static [u8], dual: &Dual) -> Kind
@@ -43,5 +46,20 @@ pub(crate) fn check(dual: &Dual) -> Result<Checked, SubmitFault>
             kept: None,
         }),
         Err(fault) => Err(SubmitFault::Dual(fault)),
+    }
+}
+
+/// What the dual gives to the table: its bound, where it is accepted. `Err` is want of memory.
+pub(crate) fn support(dual: &Dual) -> Result<Support, AllocError>
+    requires form { IsDual dual.now }
+    ensures { IfOk result (λ support. support ≡ dual_support (dual_fault (numbers_of dual.now.entry) dual.now) dual.now) }
+{
+    match check_dual_of_table(dual) {
+        Ok(accepted) => {
+            let at_zero = accepted.at_zero();
+            let copy = dual.try_copy()?;
+            Ok(Support::Bound(AcceptedDual::new(copy, at_zero)))
+        }
+        Err(_) => Ok(Support::Nothing),
     }
 }

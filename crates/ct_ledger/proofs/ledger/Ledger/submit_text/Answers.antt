@@ -9,5 +9,5 @@ pub add-requires-clause-stands : goal.add-requires-clause-stands
 add-requires-clause-stands c =
     let added = c.in_ok-size.ensures.accepted in
     let before = c.self.inside.pieces in
-    subst Stands (sym (c.last_support.ensures before added.piece (c.pieces.ensures.pieces ∙ added.pieces)))
+    subst Stands (sym (c.in-Ok.ensures before added.piece (c.pieces.ensures.pieces ∙ added.pieces)))
     (last_stands before added.piece (subst (λ (ps : List PieceValue). AreStanding ps) added.pieces c.pieces.ensures.standing))
