@@ -49,7 +49,7 @@ weight_upper-side = (refl, (refl, (refl, (refl, (refl, (refl, (refl, (refl, (ref
 
 argued_upper-side : AreOfSide Upper argued_upper_names
 unfolding row_of
-argued_upper-side = (λ n. refl, tt)
+argued_upper-side = (λ n. refl, (λ n. refl, (λ n. refl, tt)))
 
 -- where something comes of it, there was something
 mapped : {X Y : Type 0} (f : X → Y) (o : Option X) (y : Y) → option_map f o ≡ Some y → (x : X) × (f x ≡ y)

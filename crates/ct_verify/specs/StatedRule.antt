@@ -7,7 +7,7 @@ use Rattle.ct_codes.specs.declared.claim.Side.TheVariants.{Lower, Upper}
 use Rattle.ct_text.specs.Id.{is_id}
 use Rattle.ct_text.specs.Number.{number_of}
 use Rattle.ct_rules.specs.declared.rule.Rule.{Rule}
-use Rattle.ct_rules.specs.declared.rule.Rule.TheVariants.{L1, L2, L3, L4, L5, L6, L7, L8, L9, L10, L11, M1, M2, M3, M4, M5, M6, M7, M8, M10, U0, U1, U2, U3, U4, U5, U6, U7, U8, U9, U10, V0, V1, V2, V3, V4, V5, V6, V7, V8}
+use Rattle.ct_rules.specs.declared.rule.Rule.TheVariants.{L1, L2, L3, L4, L5, L6, L7, L8, L9, L10, L11, M1, M2, M3, M4, M5, M6, M7, M8, M10, U0, U1, U2, U3, U4, U5, U6, U7, U8, U9, U10, U11, V0, V1, V2, V3, V4, V5, V6, V7, V8, V9}
 use Rattle.ct_rules.specs.Rule.{with_place}
 use Rattle.ct_ledger.specs.Piece.{PieceValue, place_of}
 use Rattle.ct_verify.specs.declared.stated_rule.StatedRule.{StatedRule}
@@ -48,9 +48,9 @@ weight_upper_names =
     (codes "V0", alone V0) ∷ (codes "V1", alone V1) ∷ (codes "V2", alone V2) ∷ (codes "V3", alone V3) ∷ (codes "V4", alone V4)
     ∷ (codes "V5", alone V5) ∷ (codes "V6", alone V6) ∷ (codes "V7", alone V7) ∷ (codes "V8", alone V8) ∷ []
 
--- those that state a number
+-- those that state a number, or the id of a piece
 abbrev pub argued_upper_names : List (List ℕ × Named)
-argued_upper_names = (codes "U10", one_number U10) ∷ []
+argued_upper_names = (codes "U10", one_number U10) ∷ (codes "U11", one_piece U11) ∷ (codes "V9", one_piece V9) ∷ []
 
 -- the number that an argument writes; one from 2^32 on stands for the greatest below it: neither is an argument of a rule at any entry
 abbrev pub argument_of : List ℕ → Option ℕ

@@ -3,7 +3,7 @@
 ghost use Rattle.std.specs.Prelude.{◌≡◌, ◌-◌, ◌^◌, nat_lt, if◌then◌else◌, ◌∷◌, [], List, ℕ, Option, Some, None, IfSome, map, option_map};
 ghost use Rattle.ct_text.specs.Number.{number_of};
 ghost use Rattle.ct_text.specs.Id.{is_id};
-ghost use Rattle.ct_rules.specs.declared.rule.Rule.TheVariants.{L9, L10, L11, M10, U10};
+ghost use Rattle.ct_rules.specs.declared.rule.Rule.TheVariants.{L9, L10, L11, M10, U10, U11, V9};
 ghost use Rattle.ct_ledger.specs.Piece.{place_of};
 ghost use Rattle.ct_verify.specs.StatedRule.{argument_of, first_argument, second_argument, first_id, one_number, two_numbers, one_piece, numbered, citing, with_arguments, rule_among, or_else, plain_lower_names, weight_lower_names, argued_lower_names, plain_upper_names, weight_upper_names, argued_upper_names, stated_rule, resolved};
 
@@ -141,6 +141,26 @@ fn with_average(words: &[&[u8]]) -> Option<StatedRule>
     }
 }
 
+/// U11 with the id of its piece.
+fn with_dual(words: &[&[u8]]) -> Option<StatedRule>
+    ensures { result ≡ with_arguments (one_piece U11) (map (λ word. word.now) words.now) }
+{
+    match first_id(words) {
+        Some(id) => Some(citing(Rule::U11(0), id)),
+        None => None,
+    }
+}
+
+/// V9 with the id of its piece.
+fn with_dual_of_weight(words: &[&[u8]]) -> Option<StatedRule>
+    ensures { result ≡ with_arguments (one_piece V9) (map (λ word. word.now) words.now) }
+{
+    match first_id(words) {
+        Some(id) => Some(citing(Rule::V9(0), id)),
+        None => None,
+    }
+}
+
 /// The rule of lower bounds of codes that a name states, where it states nothing more: a row for each.
 fn plain_lower_rule(name: &[u8]) -> Option<StatedRule>
     ensures { (words : List (List ℕ)) → result ≡ rule_among plain_lower_names name.now words }
@@ -231,6 +251,8 @@ fn argued_upper_rule(name: &[u8], words: &[&[u8]]) -> Option<StatedRule>
 {
     match name {
         b"U10" => with_average(words),
+        b"U11" => with_dual(words),
+        b"V9" => with_dual_of_weight(words),
         _ => None,
     }
 }

@@ -55,13 +55,13 @@ fn all_words(alloc: Global, line: &[u8]) -> Result<Vec<&[u8]>, AllocError>
     first_words(alloc, line, line.len() + 1)
 }
 
-/// What the last of the pieces gives to a table, where there is one.
-fn last_support(pieces: &[Piece]) -> Support
-    ensures { (front : List PieceValue) (p : PieceValue) → pieces.now ≡ front ++ p ∷ [] → result ≡ support_of p }
+/// What the last of the pieces gives to a table, where there is one. `Err` is want of memory.
+fn last_support(pieces: &[Piece]) -> Result<Support, AllocError>
+    ensures { (front : List PieceValue) (p : PieceValue) → pieces.now ≡ front ++ p ∷ [] → IfOk result (λ support. support ≡ support_of p) }
 {
     match pieces.last() {
         Some(piece) => piece.support(),
-        None => Support::Nothing,
+        None => Ok(Support::Nothing),
     }
 }
 
@@ -179,7 +179,8 @@ impl Reading {
             Err(SubmitFault::Memory) => Err(AllocError),
             Err(fault) => Ok(Step::Failed(begun, Why::Evidence(fault))),
             Ok(_) => {
-                self.supports.push(last_support(self.pieces.pieces()))?;
+                let support = last_support(self.pieces.pieces())?;
+                self.supports.push(support)?;
                 Ok(Step::On(self.in_part(Part::Body)))
             }
         }
