@@ -54,7 +54,6 @@ def scheme_number(n, w, k, i):
 
 
 # ---- the rules: each gives the premises and what is made of their values, or nothing where it isn't defined. `formula` may give nothing.
-
 def number(value):
     """A rule without premises."""
     return [], lambda: value
@@ -77,12 +76,6 @@ def johnson_bound(n, d):
         rest = comb(n, half) - comb(d, half - 1) * u
         return 2 ** n * most // (most * ball(n, half - 1) + rest) if rest > 0 else None
     return d % 2 and d <= n and ([(n, d + 1, d)], bound)
-
-
-def sums(n, d):
-    m = n // 2
-    plain = ([(m, d)], lambda a: 2 ** (m - 1) * a) if d < 5 else ([(m, up(d, 2)), (m, d)], lambda a, b: a * b)
-    return n % 2 == 0 and plain
 
 
 def sum_class(n, d, w, r):
@@ -125,7 +118,8 @@ PLAIN = {
     "L5": lambda n, d: d % 2 == 0 and same(n - 1, d - 1),
     "L6": lambda n, d: same(n + 1, d + 1),
     "L7": lambda n, d: ([(n + 1, d)], lambda v: up(v, 2)),
-    "L8": sums,
+    "L8": lambda n, d: n % 2 == 0 and (([(n // 2, d)], lambda a: 2 ** (n // 2 - 1) * a) if d < 5
+                                       else ([(n // 2, up(d, 2)), (n // 2, d)], lambda a, b: a * b)),
     "L9": lambda n, d, w: same(n, 2 * up(d, 2), w),
     "L11": lambda n, d, m, c: 1 <= m < n and c >= 3 and d - c >= 3 and ([(m, c), (n - m, d - c)], min),
     "U0": lambda n, d: number(2 ** n),
@@ -175,7 +169,6 @@ def rule_at(pieces, name, entry, arguments):
 
 
 # ---- evidence: each kind reads its fields in order, then is checked
-
 SAME_FORM = {"cosets": "words", "jdual": "dual"}
 KINDS = ("words", "cosets", "partition", "build", "product", "dual", "jdual")
 OPERATIONS = {"lengthen": (), "append_one": (), "parity": (), "puncture": ("places",), "shorten": ("places", "digits"),
@@ -250,8 +243,8 @@ class Piece:
         self.lists = [(words, self.n) for words in self.field("classes", lambda v: is_list(v, is_texts))]
 
     def read_product(self):
-        most = 1 if self.w is None else 29
-        pairs = self.field("pairs", lambda v: is_list(v, lambda p: is_list(p, is_id) and len(p) == 2) and 1 <= len(v) <= most)
+        pairs = self.field("pairs", lambda v: is_list(v, lambda p: is_list(p, is_id) and len(p) == 2)
+                           and 1 <= len(v) <= (1 if self.w is None else 29))
         self.parts = [name for pair in pairs for name in pair]
 
     def read_dual(self):
@@ -300,7 +293,9 @@ class Piece:
         require(k <= 28, f"size {k}")
         require(0 < count <= 4096, f"size {count}")
         require(count * (count + 1) // 2 << k <= 2 ** 24, f"work {count * (count + 1) // 2 << k}")
-        self.sums, self.size = span(basis), count << k
+        self.sums, self.size = [0], count << k
+        for word in basis:
+            self.sums += [word ^ other for other in self.sums]
         for a, one in enumerate(self.chosen):
             for b in range(a, count):
                 for s, distance in enumerate(map(int.bit_count, map((one ^ self.chosen[b]).__xor__, self.sums))):
@@ -351,8 +346,7 @@ class Piece:
 
     def check_build(self, parts):
         for at, part in enumerate(parts):
-            fits = part.kind in ("words", "cosets", "build", "product") and self.fits(part, parts[0] if at else None)
-            require(fits, f"part {self.parts[at]}")
+            require(part.kind in CODES and self.fits(part, parts[0] if at else None), f"part {self.parts[at]}")
         d, e, sizes = parts[0].d, parts[-1].d, [part.size for part in parts]
         distance = {"parity": d + d % 2, "puncture": max(0, d - len(self.places)), "select": d + d % 2, "uuv": min(2 * d, e),
                     "juxtapose": d + e}.get(self.op, d)
@@ -372,26 +366,17 @@ class Piece:
             texts = [f"{x:0{length}b}" for x in code]
             return {int("".join(b for p, b in enumerate(x) if p not in self.places), 2) for x in texts
                     if digits is None or "".join(x[p] for p in self.places) == digits}
-        by = self.numbers[0][0] if self.op in ("translate", "select") else 2 ** self.n - 1
+        if self.op in ("translate", "complement", "select"):
+            by = 2 ** self.n - 1 if self.op == "complement" else self.numbers[0][0]
+            return [x ^ by for x in code if self.op != "select" or (x ^ by).bit_count() == self.w]
         return {
             "lengthen": lambda: [2 * x for x in code],
             "append_one": lambda: [2 * x + 1 for x in code],
             "parity": lambda: [2 * x + x.bit_count() % 2 for x in code],
-            "translate": lambda: [x ^ by for x in code],
-            "complement": lambda: [x ^ by for x in code],
-            "select": lambda: [x ^ by for x in code if (x ^ by).bit_count() == self.w],
             "uuv": lambda: [u << length | u ^ v for u in code for v in codes[1]],
             "juxtapose": lambda: [a << length | b for a, b in zip(*codes)],
             "trim": lambda: code[:self.most],
         }[self.op]()
-
-
-def span(basis):
-    """The sums of basis words: the word number s has the basis word j where s has 2^j."""
-    sums = [0]
-    for word in basis:
-        sums += [word ^ other for other in sums]
-    return sums
 
 
 def check_list(words, w, d, need, classes=None):
@@ -409,7 +394,6 @@ def check_list(words, w, d, need, classes=None):
 
 
 # ---- the document
-
 def words_of(line):
     """The words of a line, in ASCII."""
     require(line.isascii())
@@ -465,16 +449,14 @@ def check_line(stated, claims, pieces):
     require(all(claims[p - 1][:2] == (side, premise) for p, premise in zip(sources, premises)), "premise")
     gives = formula(*(claims[p - 1][2] for p in sources))
     require(gives is not None and (side == "upper" or 1 <= gives <= MAX), "rule")
-    gives = min(gives, MAX)
-    require(value == gives, f"value {value} {gives}")
+    require(value == min(gives, MAX), f"value {value} {min(gives, MAX)}")
     return side, entry, value
 
 
 def verdict(document):
     """The verdict on a document, in bytes: `yes`, or the first text line that fails and why."""
-    lines, at = document.split(b"\n"), 0
-    lines = lines[:-1] if lines[-1] == b"" else lines
-    pieces, claims, stored, done = {}, [], 0, False
+    lines = document.removesuffix(b"\n").split(b"\n") if document else []
+    pieces, claims, stored, done, at = {}, [], 0, False, 0
     try:
         require(lines and words_of(lines[0]) == ["derivation"])
         at = 1
@@ -492,15 +474,13 @@ def verdict(document):
                     require(stored <= 1000000, f"full words {stored}")
                 except No as why:
                     raise No(f"evidence {why}") from None
-                pieces[name] = piece
-                at = behind
-                continue
-            if words == ["done"]:
+                pieces[name], at = piece, behind
+            elif words == ["done"]:
                 require(claims)
-                done = True
+                done, at = True, at + 1
             else:
                 claims.append(check_line(read_line(words, len(claims) + 1), claims, pieces))
-            at += 1
+                at += 1
         require(done)
     except No as why:
         return f"no {at + 1} {why}"
@@ -508,8 +488,7 @@ def verdict(document):
 
 
 def main():
-    parser = argparse.ArgumentParser(description=__doc__, formatter_class=argparse.RawDescriptionHelpFormatter)
-    parser.parse_args()
+    argparse.ArgumentParser(description=__doc__, formatter_class=argparse.RawDescriptionHelpFormatter).parse_args()
     said = verdict(sys.stdin.buffer.read())
     print(said)
     sys.exit(said != "yes")
