@@ -1,0 +1,6 @@
+//! What is printed of a bound, and what is answered of it: the document of an explanation is verified. Nothing rests on it.
+#![tactic(auto)]
+
+mod verified;
+
+pub use verified::printed_derivations_are_verified;

@@ -1,0 +1,20 @@
+//! The verdict on printed derivations.
+
+ghost use Rattle.std.specs.Prelude.{◌≡◌, ◌≤◌, List, length, All};
+ghost use Rattle.ct_codes.specs.declared.claim.Side.{Side};
+ghost use Rattle.ct_codes.specs.declared.entry.Entry.{Entry};
+ghost use Rattle.ct_fields.specs.declared.document.TheConstants.{MAX_DOCUMENT};
+ghost use Rattle.ct_ledger.specs.Piece.{PieceValue};
+ghost use Rattle.ct_ledger.specs.Standing.{AreStanding};
+ghost use Rattle.ct_derive.specs.Derivation.{DerivationValue};
+ghost use Rattle.ct_explain.specs.Explained.{ExplainsBest, explanation_text};
+ghost use Rattle.ct_verify.specs.Verdict.{verdict_of};
+ghost use Rattle.ct_verify.specs.declared.verdict.Verdict.TheVariants.{Yes};
+
+/// Whatever explanation `explain` gives of a bound over pieces that stand, the document that `print` gives of it is verified. The
+/// documents of the pieces are at most `MAX_DOCUMENT` bytes long, as each is that was submitted.
+pub fn printed_derivations_are_verified()
+    ensures { (pieces : List PieceValue) (side : Side) (e : Entry) (d : DerivationValue) → AreStanding pieces
+        → All (λ p. length p.document ≤ MAX_DOCUMENT) pieces → ExplainsBest pieces side e d
+        → verdict_of (explanation_text pieces d) ≡ Yes }
+{}
