@@ -4,3 +4,4 @@ pub mod StatedLine
 pub mod Read
 pub mod Reading
 pub mod Verdict
+pub mod Text

@@ -9,6 +9,7 @@ mod stated_line;
 mod stated_rule;
 mod step;
 mod steps;
+mod text;
 mod verdict;
 mod verifying;
 
@@ -19,5 +20,6 @@ pub use reading::Reading;
 pub use stated_line::StatedLine;
 pub use stated_rule::StatedRule;
 pub use step::Step;
+pub use text::verdict_text;
 pub use verdict::{Verdict, Why};
 pub use verifying::verify;
