@@ -8,7 +8,7 @@ use Rattle.ct_lines.specs.declared.TheConstants.{LINE_FEED}
 use Rattle.ct_lines.specs.Lines.{lines_of}
 use Rattle.ct_lines.proofs.LinesLemmas.{lines_of-next}
 use Rattle.ct_rules.specs.declared.rule.Rule.{Rule}
-use Rattle.ct_rules.specs.declared.rule.Rule.TheVariants.{L10, M10}
+use Rattle.ct_rules.specs.declared.rule.Rule.TheVariants.{L10, M10, U11, V9}
 use Rattle.ct_rules.specs.Rule.{row_of, place_of}
 use Rattle.ct_rules.specs.Derivation.{LineValue, Follows}
 use Rattle.ct_ledger.specs.Piece.{PieceValue, place_of as piece_place}
@@ -55,6 +55,8 @@ resolved_again : (ids : List (List ℕ)) (printed : List PieceValue) (places : L
 unfolding row_of
 resolved_again ids printed places (L10 p) h = ap (at_place (L10 0)) (h p refl)
 resolved_again ids printed places (M10 p) h = ap (at_place (M10 0)) (h p refl)
+resolved_again ids printed places (U11 p) h = ap (at_place (U11 0)) (h p refl)
+resolved_again ids printed places (V9 p) h = ap (at_place (V9 0)) (h p refl)
 resolved_again ids printed places r h = refl
 
 is_next : (m n : ℕ) → m ≡ n + 1 → (m == suc n) ≡ true

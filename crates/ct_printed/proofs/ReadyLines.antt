@@ -18,7 +18,7 @@ use Rattle.ct_weight_rules.specs.WithoutWeight.{without_weight}
 use Rattle.ct_weight_rules.specs.Averaging.{averaging}
 use Rattle.ct_weight_rules.specs.Neighbours.{even_of_weight, of_weight}
 use Rattle.ct_rules.specs.declared.rule.Rule.{Rule}
-use Rattle.ct_rules.specs.declared.rule.Rule.TheVariants.{L9, L10, L11, M10, U10}
+use Rattle.ct_rules.specs.declared.rule.Rule.TheVariants.{L9, L10, L11, M10, U10, U11, V9}
 use Rattle.ct_rules.specs.Rule.{row_of, place_of, applies}
 use Rattle.ct_rules.specs.Derivation.{LineValue, Follows, IsDerivation}
 use Rattle.ct_rules.proofs.Applied.{defined, applies_from_premises}
@@ -75,6 +75,8 @@ rule_printable pieces (M10 place) e h applied = named_piece pieces (M10 place) p
 rule_printable pieces (U10 w) e h applied =
     let weight = (small_numbers (of_weight e w) (first_entry (of_weight e w) [] (defined (averaging w) e applied).premises)).weight_small w refl in
     omega (arith, weight)
+rule_printable pieces (U11 place) e h applied = named_piece pieces (U11 place) place e h applied refl
+rule_printable pieces (V9 place) e h applied = named_piece pieces (V9 place) place e h applied refl
 rule_printable pieces r e h applied = tt
 
 numbers_small : (n : ℕ) (from : List ℕ) → n < 2 ^ 64 → All (λ p. p < n) from → All (λ m. m < 2 ^ 64) (numbers_at from)

@@ -9,7 +9,7 @@ use Rattle.ct_text.specs.Id.{is_id}
 use Rattle.ct_text.specs.Number.{spaced}
 use Rattle.ct_text.proofs.Decimals.{printed_is_read}
 use Rattle.ct_rules.specs.declared.rule.Rule.{Rule}
-use Rattle.ct_rules.specs.declared.rule.Rule.TheVariants.{L1, L2, L3, L4, L5, L6, L7, L8, L9, L10, L11, M1, M2, M3, M4, M5, M6, M7, M8, M10, U0, U1, U2, U3, U4, U5, U6, U7, U8, U9, U10, V0, V1, V2, V3, V4, V5, V6, V7, V8}
+use Rattle.ct_rules.specs.declared.rule.Rule.TheVariants.{L1, L2, L3, L4, L5, L6, L7, L8, L9, L10, L11, M1, M2, M3, M4, M5, M6, M7, M8, M10, U0, U1, U2, U3, U4, U5, U6, U7, U8, U9, U10, U11, V0, V1, V2, V3, V4, V5, V6, V7, V8, V9}
 use Rattle.ct_rules.specs.Rule.{row_of, rule_side}
 use Rattle.ct_derive.specs.Text.{id_word, rule_words}
 use Rattle.ct_verify.specs.StatedRule.{argument_of, numbered, citing, stated_rule}
@@ -27,6 +27,8 @@ IsPrintable ids (L10 place) = HasId ids place
 IsPrintable ids (L11 n d) = (n < 2 ^ 32) × (d < 2 ^ 32)
 IsPrintable ids (M10 place) = HasId ids place
 IsPrintable ids (U10 w) = w < 2 ^ 32
+IsPrintable ids (U11 place) = HasId ids place
+IsPrintable ids (V9 place) = HasId ids place
 IsPrintable ids r = Unit {0}
 
 -- a rule that is printed, as it is stated
@@ -36,6 +38,8 @@ stated_of ids (L10 place) = citing (L10 0) (unwrap_or (slice_get ids place) [])
 stated_of ids (L11 n d) = numbered 2 (L11 n d)
 stated_of ids (M10 place) = citing (M10 0) (unwrap_or (slice_get ids place) [])
 stated_of ids (U10 w) = numbered 1 (U10 w)
+stated_of ids (U11 place) = citing (U11 0) (unwrap_or (slice_get ids place) [])
+stated_of ids (V9 place) = citing (V9 0) (unwrap_or (slice_get ids place) [])
 stated_of ids r = numbered 0 r
 
 -- the name and the arguments that a rule is printed as, and that they state it again
@@ -127,6 +131,8 @@ stated_again ids (L10 place) h = with_piece ids L10 place (codes "L10") h refl r
 stated_again ids (L11 n d) h = two_numbers ids n d h.0 h.1
 stated_again ids (M10 place) h = with_piece ids M10 place (codes "M10") h refl refl (λ id rest. refl)
 stated_again ids (U10 w) h = with_number ids U10 (codes "U10") w h refl refl (λ rest. refl)
+stated_again ids (U11 place) h = with_piece ids U11 place (codes "U11") h refl refl (λ id rest. refl)
+stated_again ids (V9 place) h = with_piece ids V9 place (codes "V9") h refl refl (λ id rest. refl)
 stated_again ids L1 h = plain ids L1 (codes "L1") refl refl (λ rest. refl)
 stated_again ids L2 h = plain ids L2 (codes "L2") refl refl (λ rest. refl)
 stated_again ids L3 h = plain ids L3 (codes "L3") refl refl (λ rest. refl)
