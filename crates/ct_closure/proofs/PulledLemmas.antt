@@ -117,7 +117,6 @@ given_there supports Lower n d (Some w) place h =
     let e : Entry = record { n = n; d = d; w = Some w } in
     let is = defined (parts_over supports (M10 place)) e h in
     support_there supports place e (and_parts true (is_some (size_at (slice_get supports place) e)) is.condition).1
-
 given_there supports Upper n d None place h =
     let e : Entry = record { n = n; d = d; w = None } in
     let is = defined (parts_over supports (U11 place)) e h in

@@ -234,14 +234,7 @@ fn mark_by_dual(
     if !dual.rests_on(from) {
         return Ok(());
     }
-    test(
-        supports,
-        kept,
-        work,
-        Rule::U11(place),
-        entry,
-        evaluations,
-    )
+    test(supports, kept, work, Rule::U11(place), entry, evaluations)
 }
 
 /// Marks the entry, where one of the duals that supports give there rests on the other one and gives something better. It looks at

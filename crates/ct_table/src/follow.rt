@@ -15,7 +15,9 @@ ghost use Rattle.ct_closure.specs.Inside.Pulled.{given_rule};
 ghost use Rattle.ct_table.specs.Inside.Starting.{CanFollow};
 
 use crate::start::mark_given;
-use ct_closure::{Closing, Kept, SupportPlaces, close, entry_of, given_rule, is_better, offer, side_of};
+use ct_closure::{
+    Closing, Kept, SupportPlaces, close, entry_of, given_rule, is_better, offer, side_of,
+};
 use ct_codes::{Entry, Side};
 use ct_rules::Support;
 use std::alloc::{AllocError, Global};
