@@ -1,13 +1,12 @@
 """Derivations are checked as the program's `verify` checks them."""
 
-import random
-import re
+import tomllib
 import unittest
 
 from support import TOP, needs_program, run, session
 
 import check_derivation
-import sessions
+import mutations
 
 DUAL = """derivation
 evidence d13
@@ -75,26 +74,6 @@ VERDICTS = [
 ]
 
 
-def mutated(document, chance):
-    """A document with one change of a line: a digit or a word exchanged, a line left out or put twice."""
-    lines = document.split("\n")
-    at = chance.choice([i for i, line in enumerate(lines) if line.startswith(("line ", "done", "derivation", "evidence "))])
-    way = chance.randrange(4)
-    if way == 0:
-        spots = [m.start() for m in re.finditer("[0-9]", lines[at])]
-        for spot in chance.sample(spots, min(1, len(spots))):
-            lines[at] = lines[at][:spot] + chance.choice("0123456789") + lines[at][spot + 1:]
-    elif way == 1:
-        words = lines[at].split(" ")
-        words[chance.randrange(len(words))] = chance.choice(["upper", "lower", "from", "L3", "U5", "V3", "1", "2", "28", ""])
-        lines[at] = " ".join(words)
-    elif way == 2:
-        del lines[at]
-    else:
-        lines.insert(at, lines[at])
-    return "\n".join(lines)
-
-
 class CheckDerivation(unittest.TestCase):
     def test_verdicts(self):
         for lines, verdict in VERDICTS:
@@ -126,36 +105,30 @@ class CheckDerivation(unittest.TestCase):
             with self.subTest(lines=lines):
                 self.assertEqual(check_derivation.verdict(f"derivation\n{lines}\ndone\n".encode()), verdict)
 
+    def test_documents_whose_verdict_is_known(self):
+        for group in tomllib.loads((TOP / "crates/ct_verify_tests/data/verdicts.toml").read_text())["group"]:
+            for text, verdict in group["rows"]:
+                with self.subTest(group=group["name"], text=text):
+                    document = b"\xff".join(part.encode() for part in (group["before"] + text + group["after"]).split("\ufffd"))
+                    self.assertEqual(check_derivation.verdict(document), verdict)
+
     @needs_program
     def test_the_program_says_the_same(self):
-        chance, documents = random.Random(1), [f"derivation\n{lines}\ndone\n" for lines, _ in VERDICTS] + [DUAL]
-        if session(DUAL, "verify") != "yes\n":
+        if session(mutations.SHORT, "verify") != "yes\n":
             self.skipTest("this program verifies nothing yet")
-        for file in sorted((TOP / "examples").glob("*.session")):
-            documents += explanations(file.read_text())
-        documents += [mutated(chance.choice(documents), chance) for _ in range(60)]
-        for document in documents:
+        documents = [f"derivation\n{lines}\ndone\n" for lines, _ in VERDICTS] + [DUAL]
+        for document in [*filter(mutations.is_built, documents), *mutations.changed(mutations.documents(), 300)]:
             with self.subTest(document=document):
-                self.assertEqual(session(document, "verify"), check_derivation.verdict(document.encode()) + "\n")
+                self.assertEqual(*mutations.verdicts(document))
 
     @needs_program
     def test_explanations_of_the_examples_are_derivations(self):
         checked = 0
-        for file in sorted((TOP / "examples").glob("*.session")):
-            for document in explanations(file.read_text()):
-                self.assertEqual(check_derivation.verdict(document.encode()), "yes", document)
-                checked += 1
+        for document in mutations.documents()[1:]:
+            self.assertEqual(check_derivation.verdict(document.encode()), "yes", document)
+            checked += 1
         if not checked:
             self.skipTest("this program explains nothing yet")
-
-
-def explanations(text):
-    """What the program answers to `explain` for both sides of each entry that a session shows."""
-    asked = [command for command in sessions.commands(text) if command.words[0] == "show"]
-    more = "".join(f"explain {side} {' '.join(command.words[1:])}\n" for command in asked for side in ("lower", "upper"))
-    whole = text.removesuffix("\n") + "\n" + more
-    return ["\n".join(reply) + "\n" for command, reply in sessions.replies(sessions.commands(whole), session(whole))
-            if command.words[0] == "explain" and reply and not reply[0].startswith("refused")]
 
 
 if __name__ == "__main__":
