@@ -9,3 +9,4 @@ mod PassingOver
 mod Gathering
 mod Outputs
 mod LineEndings
+mod WordTexts

@@ -1,15 +1,13 @@
 -- Texts that are put after what is gathered, part by part, and what a failed write leaves of them.
-use Rattle.std.proofs.Common.{Result, Ok, Err, Some, None, inl, inr, subst, ◌≡◌, ◌≢◌, ℕ, zero, suc, ◌+◌, ◌-◌, ◌<◌, ◌≤◌, List, [], ◌∷◌, ◌++◌, length, replicate, take, drop, get_or, Option, refl, sym, ap, ◌∙◌, append_assoc, append-nil, arith}
+use Rattle.std.proofs.Common.{Result, Ok, Err, Some, None, inl, inr, subst, ◌≡◌, ◌≢◌, ℕ, zero, suc, ◌+◌, ◌-◌, ◌<◌, List, [], ◌∷◌, ◌++◌, length, take, drop, get_or, Option, refl, sym, ap, ◌∙◌, append_assoc, append-nil, arith}
 use Rattle.std.specs.Prelude.{codes, IfErr, OnOk, OnErr}
 use Rattle.std.specs.Fmt.{decimal}
 use Rattle.std.specs.List.{flat_map}
 use Rattle.std.specs.Io.KnownBytes.{Appends}
 use Rattle.std.proofs.KnownBytes.{Appends-nil, Appends-trans}
 use Rattle.std.proofs.lemmas.Grind.{flat_map-append}
-use Rattle.std.proofs.Math.Seq.{take-append-add}
-use Rattle.std.proofs.lemmas.List.{take_more, drop_more, take-append-drop, drop-replicate, take-replicate}
-use Rattle.ct_words.specs.Text.{word_text}
-use Rattle.ct_words.proofs.TextLemmas.{length-word_text}
+use Rattle.std.proofs.Math.Seq.{take-add}
+use Rattle.std.proofs.lemmas.List.{take_more, drop_more, take-append-drop}
 use Rattle.ct_io.specs.Told.{AppendsProperPrefix}
 use Rattle.ct_io.specs.Faults.{Rose}
 use Rattle.ct_codes.specs.Code.{CodeValue}
@@ -18,7 +16,7 @@ use Rattle.ct_ledger.specs.Piece.{PieceValue}
 use Rattle.ct_ledger.specs.Dump.{line_count, piece_dump, dump_text}
 use Rattle.ct_session.specs.declared.serve.ServeFault.{ServeFault}
 use Rattle.ct_session.specs.declared.serve.ServeFault.TheVariants.{Write, Memory}
-use Rattle.ct_session.specs.Text.{ended, code_heading, word_lines, code_text}
+use Rattle.ct_session.specs.Text.{code_heading, word_lines, code_text}
 use Rattle.ct_session.specs.Inside.State.{State, PutsLines}
 use Rattle.ct_session.specs.Inside.Writing.{PutsOut, AnswersLine, HoldsFew, BreaksOff, BreaksLong, BreaksOffAt}
 use Rattle.ct_session.specs.declared.output.TheConstants.{MAX_GATHERED}
@@ -206,19 +204,18 @@ pub words_fail : (code : CodeValue) (a b c : Option (List ℕ)) (g g' : List ℕ
     → AppendsProperPrefix b c (g' ++ word_lines code.n code.words) → AppendsProperPrefix a c (g ++ code_text code)
 words_fail code a b c g g' h k = fails_later a b c (code_heading code) (word_lines code.n code.words) g g' h k
 
--- the digits of a word, and one of the line feeds that stood there before
-pub line_is : (text : List ℕ) (n : ℕ) → n ≤ 28 → length text ≡ n → take (n + 1) (text ++ drop n (replicate {A = ℕ} 29 10)) ≡ text ++ 10 ∷ []
-line_is text n few long =
-    let feeds : drop n (replicate {A = ℕ} 29 10) ≡ replicate {A = ℕ} (29 - n) 10 = drop-replicate n 29 10 in
-    ap (λ (t : List ℕ). take (n + 1) (text ++ t)) feeds
-    ∙ ap (λ (k : ℕ). take (k + 1) (text ++ replicate {A = ℕ} (29 - n) 10)) (sym long)
-    ∙ take-append-add text (replicate {A = ℕ} (29 - n) 10) 1
-    ∙ ap (λ (t : List ℕ). text ++ t) (take-replicate 1 (29 - n) 10 (omega (arith, few)))
+-- ---- words
 
--- the same of what stands there after the digits of a word were put
-pub word_line : (bytes : List ℕ) (n word : ℕ) → n ≤ 28 → bytes ≡ word_text n word → take (n + 1) (bytes ++ drop n (replicate {A = ℕ} 29 10)) ≡ ended (word_text n word)
-word_line bytes n word few is =
-    line_is bytes n few (ap length is ∙ length-word_text n word) ∙ ap (λ (t : List ℕ). t ++ 10 ∷ []) is
+-- the texts of so many items more, and the texts of all items
+pub some_more : {X : Type 0} (f : X → List ℕ) (xs : List X) (a k : ℕ) → flat_map f (take a xs) ++ flat_map f (take k (drop a xs)) ≡ flat_map f (take (a + k) xs)
+some_more {X} f xs a k = sym (flat_map-append f (take a xs) (take k (drop a xs))) ∙ ap (λ (ys : List X). flat_map f ys) (sym (take-add a k xs))
+
+pub some_all : {X : Type 0} (f : X → List ℕ) (xs : List X) (a k : ℕ)
+    → flat_map f xs ≡ flat_map f (take a xs) ++ (flat_map f (take k (drop a xs)) ++ flat_map f (drop k (drop a xs)))
+some_all {X} f xs a k =
+    ap (λ (ys : List X). flat_map f ys) (sym (take-append-drop a xs)) ∙ flat_map-append f (take a xs) (drop a xs)
+    ∙ ap (λ (t : List ℕ). flat_map f (take a xs) ++ t)
+    (ap (λ (ys : List X). flat_map f ys) (sym (take-append-drop k (drop a xs))) ∙ flat_map-append f (take k (drop a xs)) (drop k (drop a xs)))
 
 -- ---- a line
 

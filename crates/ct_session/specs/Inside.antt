@@ -4,3 +4,4 @@ pub mod Writing
 pub mod Ending
 pub mod Serving
 pub mod LongReply
+pub mod Texts

@@ -8,6 +8,7 @@ mod reply;
 mod serve;
 mod session;
 mod text;
+mod word_lines;
 
 pub use laws::{
     every_input_has_a_run, pieces_give_true_bounds, replies_without_choice,

@@ -1,32 +1,36 @@
 //! Replies on their way to a sink: they are gathered, and written where the reader would read, or where they are many.
 
-ghost use Rattle.std.specs.Prelude.{◌≡◌, ◌≤◌, ◌<◌, ◌^◌, ◌++◌, [], All, codes, OnOk, OnErr, IfErr, vec_capacity};
+ghost use Rattle.std.specs.Prelude.{◌≡◌, ◌≤◌, ◌<◌, ◌+◌, ◌*◌, ◌^◌, ◌++◌, [], All, length, codes, OnOk, OnErr, IfErr, vec_capacity};
 ghost use Rattle.std.specs.Fmt.{decimal};
 ghost use Rattle.std.specs.List.{flat_map};
 ghost use Rattle.std.specs.Io.KnownBytes.{Appends};
 ghost use Rattle.ct_io.specs.Faults.{Rose};
 ghost use Rattle.ct_io.specs.Told.{AppendsProperPrefix};
 ghost use Rattle.ct_words.specs.declared.limits.TheConstants.{MAX_N};
-ghost use Rattle.ct_words.specs.Text.{word_text};
 ghost use Rattle.ct_ledger.specs.Dump.{dump_text, piece_dump};
-ghost use Rattle.ct_session.specs.Text.{ended, code_heading, word_lines, code_text};
+ghost use Rattle.ct_session.specs.Text.{code_heading, word_lines, code_text};
 ghost use Rattle.ct_session.specs.Inside.LongReply.{long_text};
 ghost use Rattle.ct_session.specs.Inside.Writing.{BreaksOff, HasRoom, PutsOut};
+ghost use Rattle.ct_session.specs.Inside.Texts.{AreTexts};
 
 use crate::answer::LongReply;
 use crate::serve::ServeFault;
+use crate::word_lines::{EightDigits, eight_digits, print_lines};
 use ct_codes::Code;
 use ct_io::{Sink, write_all};
 use ct_ledger::{Piece, line_count};
 use ct_lines::LINE_FEED;
 use ct_text::Digits;
-use ct_words::{MAX_N, Word, print_word};
+use ct_words::{MAX_N, Word};
 
 /// Where so many bytes of replies are gathered, they are written before another line is taken.
 pub(crate) const MAX_GATHERED: usize = 32_768;
 
-// A line with a word has so many bytes at most.
-const MAX_LINE: usize = MAX_N as usize + 1;
+// So many lines with words are put at a time.
+const LINES_AT_ONCE: usize = 2_048;
+
+// They have so many bytes at most.
+const BLOCK: usize = LINES_AT_ONCE * (MAX_N as usize + 1);
 
 /// Writes the replies that were gathered. After an `Err` the sink failed, and a part of them was written.
 pub(crate) fn write_gathered<K: Sink>(
@@ -253,32 +257,35 @@ fn put_code_heading<K: Sink>(
     }
 }
 
-/// Puts a line with the word of length n after what is gathered, as `put_out` does.
-fn put_word<K: Sink>(
+/// Puts a line for each of these words of length n after what is gathered, as `put_out` does. The lines are written to the block first.
+fn put_lines<K: Sink>(
     sink: &mut K,
     gathered: &mut Vec<u8>,
+    texts: &EightDigits,
     n: u32,
-    word: Word,
+    words: &[Word],
+    block: &mut [u8],
 ) -> Result<(), ServeFault>
     requires space { HasRoom gathered.old }
+    requires texts { AreTexts texts.now }
     requires length { n ≤ MAX_N }
-    requires word { word < 2 ^ n }
-    ensures put { OnOk result (PutsOut (ended (word_text n word)) gathered.old.items gathered.new.items
+    requires words { All (λ x. x < 2 ^ n) words.now }
+    requires block { length words.now * (n + 1) ≤ length block.old }
+    ensures put { OnOk result (PutsOut (word_lines n words.now) gathered.old.items gathered.new.items
         (K.holds sink.old) (K.holds sink.new)) }
     ensures room { OnOk result (HasRoom gathered.new) }
     ensures prefix { OnErr result (AppendsProperPrefix (K.holds sink.old) (K.holds sink.new)
-        (gathered.old.items ++ ended (word_text n word))) }
+        (gathered.old.items ++ word_lines n words.now)) }
     ensures fault { IfErr result (λ fault. fault ≡ ServeFault.Write) }
     ensures failed { OnErr result (Rose (K.faults sink.old) (K.faults sink.new)) }
     ensures counted { K.faults sink.old ≤ K.faults sink.new }
+    ensures size { length block.new ≡ length block.old }
 {
-    let mut line = [LINE_FEED; MAX_LINE];
-    let length = n as usize;
-    print_word(word, n, &mut line[..length]);
-    put_out(sink, gathered, &line[..length + 1])
+    print_lines(texts, n, words, block);
+    put_out(sink, gathered, &block[..words.len() * (n as usize + 1)])
 }
 
-/// Puts a line for each word of length n after what is gathered, as `put_out` does.
+/// Puts a line for each word of length n after what is gathered, as `put_out` does, many words at a time.
 fn put_words<K: Sink>(
     sink: &mut K,
     gathered: &mut Vec<u8>,
@@ -297,13 +304,18 @@ fn put_words<K: Sink>(
     ensures failed { OnErr result (Rose (K.faults sink.old) (K.faults sink.new)) }
     ensures counted { K.faults sink.old ≤ K.faults sink.new }
 {
-    for word in words {
-        put_word(sink, gathered, n, *word)?;
+    let texts = eight_digits();
+    let mut block = [LINE_FEED; BLOCK];
+    let mut start = 0;
+    while start < words.len() {
+        let end = words.len().min(start + LINES_AT_ONCE);
+        put_lines(sink, gathered, &texts, n, &words[start..end], &mut block)?;
+        start = end;
     }
     Ok(())
 }
 
-/// Puts the code after what is gathered, as `put_out` does: its words are written as they come, and never gathered whole.
+/// Puts the code after what is gathered, as `put_out` does: many of its words at a time, and never all of them.
 fn put_code<K: Sink>(sink: &mut K, gathered: &mut Vec<u8>, code: &Code) -> Result<(), ServeFault>
     requires { HasRoom gathered.old }
     ensures put { OnOk result (PutsOut (code_text code.now) gathered.old.items gathered.new.items
