@@ -4,7 +4,7 @@ crates/ct_rows/data or into the folder given. What they say comes from here alon
 entry until nothing is better, all else by counting. With --check it writes nothing, and ends with 1 where a file there is another."""
 
 import sys
-from itertools import product
+from itertools import combinations, product
 from math import comb
 from pathlib import Path
 
@@ -155,9 +155,9 @@ def words(n, d, some):
     return f"kind='words'\nn={n}\nd={d}\nwords={[text(x, n) for x in some]}\n"
 
 
-def cosets(n, d, basis):
-    """A document of the linear code with this basis."""
-    return f"kind='cosets'\nn={n}\nd={d}\nbasis={basis}\nrepresentatives=['{'0' * n}']\n"
+def cosets(n, d, basis, representatives=()):
+    """A document of cosets of the linear code with this basis, of the code alone where no representatives are given."""
+    return f"kind='cosets'\nn={n}\nd={d}\nbasis={basis}\nrepresentatives={list(representatives) or ['0' * n]}\n"
 
 
 def build(op, n, d, part, more=""):
@@ -185,6 +185,10 @@ TAILS = [x for x in range(32) if x.bit_count() >= 2]
 # The extended Golay code (MacWilliams and Sloane, chapter 2), and the same without its last place.
 GOLAY = [text(0b101011100011 << 12 >> s & ~1 | 1, 24) for s in range(12)]
 PUNCTURED = [word[:-1] for word in GOLAY]
+
+# The code of Nordstrom and Robinson (MacWilliams and Sloane, chapter 2): the first-order Reed-Muller code of length 16, and eight cosets of it.
+REED_MULLER = [0xFFFF, 0x00FF, 0x0F0F, 0x3333, 0x5555]
+NORDSTROM_ROBINSON = [0x0000, 0x111E, 0x0539, 0x036A, 0x065C, 0x1247, 0x1472, 0x1724]
 
 # Eleven binary linear codes, of which no greater one of their length and distance is known: id, length, distance, basis.
 LINEAR = [
@@ -343,6 +347,15 @@ def write_codes(rows):
     rows.part("octads", submit("octads", select), "accepted octads size 759\n")
 
 
+def write_listed(rows):
+    """The code of Nordstrom and Robinson, which alone gives its bound, is listed."""
+    listed = sorted(x ^ y for x in NORDSTROM_ROBINSON for y in span(REED_MULLER))
+    assert all((x ^ y).bit_count() >= 6 for x, y in combinations(listed, 2))
+    document = cosets(16, 6, [text(x, 16) for x in REED_MULLER], [text(x, 16) for x in NORDSTROM_ROBINSON])
+    lines = "".join(f"{text(x, 16)}\n" for x in listed)
+    rows.row("a code is listed", submit("nr", document) + "list 16 6\n", f"accepted nr size 256\ncode 16 6 size {len(listed)}\n{lines}")
+
+
 def write_orders(rows, table):
     """The Golay code and its punctured code, which give one another's bounds, come and go in some orders, and leave the bounds as they were."""
     entries = [(n, d) for n in LENGTHS for d in (7, 8)]
@@ -499,6 +512,7 @@ def write_millionth_word(rows):
 def main():
     rows = Rows()
     write_codes(rows)
+    write_listed(rows)
     table = write_tables(rows)
     write_orders(rows, table)
     write_long_lines(rows, table)
