@@ -1,0 +1,5 @@
+//! Codes that are listed over ledgers, checked word by word.
+#![tactic(auto)]
+
+#[cfg(test)]
+mod listed;
