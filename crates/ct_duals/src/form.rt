@@ -95,7 +95,7 @@ pub fn are_allowances(entry: Entry, even: bool, y: &[(u32, i64)]) -> bool
 }
 
 /// Whether two words of a code of the entry may have the index `i`; the even ones alone where `even` is set.
-pub(crate) fn is_in_range(entry: Entry, even: bool, i: u32) -> bool
+pub fn is_in_range(entry: Entry, even: bool, i: u32) -> bool
     requires { IsEntry entry }
     ensures { result ≡ is_in_range entry even i }
 {

@@ -15,5 +15,5 @@ pub use accepted_dual::AcceptedDual;
 pub use check::check_dual;
 pub use dual::{Allowances, Dual, Multipliers};
 pub use fault::DualFault;
-pub use form::{are_allowances, are_multipliers, degree};
+pub use form::{are_allowances, are_multipliers, degree, is_in_range};
 pub use laws::{accepted_duals_bound_codes, bounds_of_duals_are_monotone, faults_of_duals};

@@ -49,7 +49,7 @@ least-unless_wide : (o : Option ℤ) (t : Tableau) (cost : List ℤ) → unless_
 least-unless_wide None t cost is = absurd cc
 least-unless_wide (Some x) t cost is = absurd cc
 
-least-turned_at : (e : ℕ) (o : Option ℕ) (t : Tableau) (cost : List ℤ) → turned_at e o t ≡ ended (Least cost) → ⊥
+pub least-turned_at : (e : ℕ) (o : Option ℕ) (t : Tableau) (cost : List ℤ) → turned_at e o t ≡ ended (Least cost) → ⊥
 least-turned_at e None t cost is = absurd cc
 least-turned_at e (Some i) t cost is = least-unless_wide (first_wide (turned e i t)) (turned e i t) cost is
 

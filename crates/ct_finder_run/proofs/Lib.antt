@@ -4,5 +4,6 @@ pub mod Crossed
 pub mod Sums
 pub mod Turns
 pub mod Ends
+pub mod NarrowCosts
 pub mod RunDuals
 pub mod Ones

@@ -1,6 +1,6 @@
 -- The Krawtchouk numbers of an index add up to 2^n at 0 and to 0 elsewhere: they are the coefficients of (1 - z)^i (1 + z)^(n - i), which is 2^n or 0 at z = 1.
 use Rattle.std.proofs.Common.{◌≡◌, ℕ, zero, suc, ◌+◌, ◌-◌, ◌%◌, ◌^◌, ◌<◌, ◌≤◌, Bool, replicate, refl, ap, ◌∙◌, arith, leb-true}
-use Rattle.std.specs.Prelude.{ℤ, pos, ◌*ℤ◌, ◌≤ℤ◌, unsigned_abs, None, not, ◌==◌, ◌&&◌, ◌||◌, nat_le}
+use Rattle.std.specs.Prelude.{ℤ, pos, ◌*ℤ◌, ◌≤ℤ◌, ◌<ℤ◌, unsigned_abs, None, not, ◌==◌, ◌&&◌, ◌||◌, nat_le}
 use Rattle.std.proofs.lemmas.Int.{ints}
 use Rattle.std.proofs.lemmas.Bool.{and_parts}
 use Rattle.std.proofs.lemmas.List.{length-replicate, get_or-replicate}
@@ -96,6 +96,7 @@ ones-form n d even asked =
       multipliers = All-replicate (λ z. pos 0 ≤ℤ z) (suc n) (pos 1) (omega (arith, ints));
       ascending = λ i j d l m. absurd (omega arith);
       allowances = λ k d l. absurd (omega arith);
+      signed = (All-replicate (λ z. z <ℤ pos (2 ^ 63)) (suc n) (pos 1) (omega (arith, ints)), (λ k d l. absurd (omega arith)));
     }
 
 pub ones-accepted : (n d : ℕ) (even : Bool) → IsAsked (unrestricted n d) even → dual_fault (krawtchouk n) (ones_dual (unrestricted n d) even) ≡ None

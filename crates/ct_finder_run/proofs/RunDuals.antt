@@ -1,6 +1,6 @@
 -- The dual of a run that ends as least is accepted.
 use Rattle.std.proofs.Common.{◌≡◌, ℕ, zero, suc, ◌+◌, ◌%◌, ◌/◌, ◌<◌, ◌≤◌, ◌==◌, Bool, true, false, ◌&&◌, ◌||◌, not, cond, List, [], ◌∷◌, map, length, min, refl, ap, ◌∙◌, arith, subst, leb-true, eqb-true}
-use Rattle.std.specs.Prelude.{ℤ, pos, neg_ℤ, ◌+ℤ◌, ◌*ℤ◌, ◌≤ℤ◌, int_lt, Option, Some, None, filter, nat_le}
+use Rattle.std.specs.Prelude.{All, ◌^◌, ℤ, pos, neg_ℤ, ◌+ℤ◌, ◌*ℤ◌, ◌≤ℤ◌, ◌<ℤ◌, int_lt, Option, Some, None, filter, nat_le}
 use Rattle.std.specs.List.{list_any, range_with_len}
 use Rattle.std.proofs.lemmas.Int.{ints}
 use Rattle.std.proofs.lemmas.Bool.{and_parts, eqb-false}
@@ -26,6 +26,7 @@ use Rattle.ct_finder_run.specs.Sum.{IsSum}
 use Rattle.ct_finder_run.proofs.Entries.{entry_of-map, has-a, has-constant}
 use Rattle.ct_finder_run.proofs.Sums.{All-range}
 use Rattle.ct_finder_run.proofs.Turns.{kept-opening}
+use Rattle.ct_finder_run.proofs.NarrowCosts.{IsNarrow, entry_of-below, narrow-at, narrow-cost}
 use Rattle.ct_finder_run.proofs.Ends.{IsLeastAt, least-at, choices-nonneg}
 
 -- f of the multipliers of a cost row
@@ -139,13 +140,14 @@ accepted-from number d no_allowance lead below =
 
 -- the dual of a cost row that no column enters
 pub dual-form : (number : ℕ → ℕ → ℤ) (e : Entry) (even : Bool) (cost : List ℤ) → IsAsked e even
-    → IsLeastAt number (columns_of e even) (degree_of e) cost → IsDual (run_dual e even cost)
-dual-form number e even cost asked least =
+    → IsLeastAt number (columns_of e even) (degree_of e) cost → All IsNarrow cost → IsDual (run_dual e even cost)
+dual-form number e even cost asked least narrow =
     let cs = columns_of e even in
     let count = length-map-range_with_len (λ k. entry_of cs cost (S k)) 1 (degree_of e) in
     let some = least.kept.sums.some_of_cost in
     let lead : pos 1 ≤ℤ entry_of cs cost Z = subst (λ row. pos 1 ≤ℤ entry_of cs row Z) least.cost_is some in
     let AtLeast : ℤ → Type 0 = λ (z : ℤ). pos 0 ≤ℤ z in
+    let Below : ℤ → Type 0 = λ (z : ℤ). z <ℤ pos (2 ^ 63) in
     record {
       entry = asked.entry;
       even_distance = asked.even_distance;
@@ -157,6 +159,11 @@ dual-form number e even cost asked least =
           (All-range (λ k. pos 0 ≤ℤ entry_of cs cost (S k)) 1 (degree_of e) (λ k low high. choices-nonneg cs cost least.none (S k) refl)));
       ascending = λ i j d l m. absurd (omega arith);
       allowances = λ k d l. absurd (omega arith);
+      signed = (
+        All-cons Below (entry_of cs cost Z) (map (λ k. entry_of cs cost (S k)) (rows_to (degree_of e))) (entry_of-below cs cost Z narrow)
+            (All-map Below (λ k. entry_of cs cost (S k)) (rows_to (degree_of e)) (λ k d l. entry_of-below cs cost (S _) narrow)),
+        (λ k d l. absurd (omega arith)),
+      );
     }
 
 pub dual-accepted : (number : ℕ → ℕ → ℤ) (e : Entry) (even : Bool) (cost : List ℤ) → ((i : ℕ) → number 0 i ≡ pos 1)
@@ -187,3 +194,7 @@ pub least-of : (number : ℕ → ℕ → ℤ) (e : Entry) (even : Bool) (turns :
     → IsLeastAt number (columns_of e even) (degree_of e) cost
 least-of number e even turns cost is =
     least-at number (columns_of e even) (degree_of e) turns (opening_of number e even) cost (kept-opening number (range_of e even) (degree_of e)) is
+
+pub narrow-of : (number : ℕ → ℕ → ℤ) (e : Entry) (even : Bool) (turns : ℕ) (cost : List ℤ) → run_of number e even turns ≡ Least cost → All IsNarrow cost
+narrow-of number e even turns cost is =
+    narrow-at (columns_of e even) turns (opening_of number e even) cost (narrow-cost (range_of e even) (degree_of e)) is
