@@ -1,0 +1,123 @@
+#!/usr/bin/env python3
+"""The finder's run over fractions, for the bounds that its tests expect.
+
+    finder.py [--longest N] [--turns T] [N D [W]]
+
+Without an entry it writes a line for each entry of the table with n up to N (12) that has d at most n: `N D BOUND STOP`, `N D even BOUND STOP`
+or `N D W BOUND STOP`. STOP is `least`, `turns T` or `wide X`; the bound is that of the dual that `find` or `find_weight` answers, `none` where
+there is none. The rows are fractions here, each a positive multiple of the row of whole numbers without a common divisor; nothing is shared
+with the program.
+"""
+import argparse
+from fractions import Fraction
+from math import comb, factorial, gcd
+
+WIDEST = 2**63 - 1
+
+
+def krawtchouk(n, k, i):
+    return sum((-1) ** j * comb(i, j) * comb(n - i, k - j) for j in range(k + 1))
+
+
+def johnson(n, w, k, i):
+    return sum(
+        (-1) ** j * comb(i, j) ** 2 * factorial(j) * comb(w - i, k - j) * comb(n - w - i, k - j) * factorial(k - j)
+        for j in range(k + 1)
+    )
+
+
+def whole(row):
+    """The row of whole numbers without a common divisor of which this is a positive multiple."""
+    scale = 1
+    for entry in row:
+        scale = scale * entry.denominator // gcd(scale, entry.denominator)
+    numbers = [int(entry * scale) for entry in row]
+    common = gcd(*numbers)
+    return [number // common for number in numbers] if common else numbers
+
+
+def run(number, degree, indices, turns):
+    """How the run ends, and the cost row: ('least', row), ('turns', None) or ('wide', x)."""
+    columns = [("z", 0)] + [("a", i) for i in indices] + [("s", k) for k in range(1, degree + 1)] + [("constant", 0)]
+    first_s = 1 + len(indices)
+    rows = []
+    for k in range(1, degree + 1):
+        row = [Fraction(0)] * len(columns)
+        for place, (kind, index) in enumerate(columns):
+            if kind == "a":
+                row[place] = Fraction(-number(k, index))
+            elif kind == "s":
+                row[place] = Fraction(int(index == k))
+            elif kind == "constant":
+                row[place] = Fraction(number(k, 0))
+        rows.append([row, first_s + k - 1])
+    cost = [Fraction({"z": 1, "a": -1}.get(kind, 0)) for kind, _ in columns]
+    made = 0
+    while True:
+        entering = next((place for place in range(1, len(columns) - 1) if cost[place] < 0), None)
+        if entering is None:
+            return "least", whole(cost)
+        if made == turns:
+            return "turns", None
+        candidates = [pair for pair in rows if pair[0][entering] > 0]
+        if candidates:
+            pivot = min(candidates, key=lambda pair: (pair[0][-1] / pair[0][entering], pair[1]))
+            for pair in rows:
+                if pair is not pivot:
+                    pair[0] = [x - pair[0][entering] / pivot[0][entering] * y for x, y in zip(pair[0], pivot[0])]
+            cost = [x - cost[entering] / pivot[0][entering] * y for x, y in zip(cost, pivot[0])]
+            pivot[1] = entering
+            for row in [pair[0] for pair in rows] + [cost]:
+                for x in whole(row):
+                    if abs(x) > WIDEST:
+                        return "wide", x
+        made += 1
+
+
+def find(n, d, w=None, even=False, turns=20000):
+    """The bound, or None, and how the run stopped."""
+    if w is None:
+        degree, least, number = n, d, lambda k, i: krawtchouk(n, k, i)
+    else:
+        degree, least, number = min(w, n - w), d // 2, lambda k, i: johnson(n, w, k, i)
+    indices = [i for i in range(least, degree + 1) if not even or i % 2 == 0]
+    stop, end = run(number, degree, indices, turns)
+    if stop == "least":
+        first_s = 1 + len(indices)
+        c = [end[0]] + end[first_s : first_s + degree]
+        at_zero = sum(c[k] * number(k, 0) for k in range(degree + 1))
+        return min(2**28, at_zero // c[0]), stop
+    text = f"turns {turns}" if stop == "turns" else f"wide {end}"
+    return (None, text) if w is not None else (min(2**28, 2**n), text)
+
+
+def line(n, d, w, even, turns):
+    bound, stop = find(n, d, w, even, turns)
+    marks = f" {w}" if w is not None else " even" if even else ""
+    return f"{n} {d}{marks} {'none' if bound is None else bound} {stop}"
+
+
+def main():
+    parser = argparse.ArgumentParser(description=__doc__, formatter_class=argparse.RawDescriptionHelpFormatter)
+    parser.add_argument("entry", nargs="*", type=int)
+    parser.add_argument("--longest", type=int, default=12)
+    parser.add_argument("--turns", type=int, default=20000)
+    options = parser.parse_args()
+    if options.entry:
+        n, d = options.entry[:2]
+        w = options.entry[2] if len(options.entry) > 2 else None
+        print(line(n, d, w, False, options.turns))
+        if w is None and d % 2 == 0:
+            print(line(n, d, w, True, options.turns))
+        return
+    for n in range(1, options.longest + 1):
+        for d in range(3, n + 1):
+            print(line(n, d, None, False, options.turns))
+            if d % 2 == 0:
+                print(line(n, d, None, True, options.turns))
+                for w in range(n + 1):
+                    print(line(n, d, w, False, options.turns))
+
+
+if __name__ == "__main__":
+    main()

@@ -1,0 +1,4 @@
+pub mod OpeningLemmas
+pub mod PlaceLemmas
+pub mod RangeLemmas
+pub mod FoundLemmas

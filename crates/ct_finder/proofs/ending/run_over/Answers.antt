@@ -1,0 +1,59 @@
+use Rattle.std.proofs.Common.{rules, arith, ◌≡◌, ℕ, List, map, length, sym, ap, ◌∙◌}
+use Rattle.std.specs.Prelude.{ℤ}
+use Rattle.std.proofs.lemmas.List.{length-map}
+use Rattle.std.proofs.lemmas.Int.{to_z-of_z}
+use mir.Val.{SFits}
+use mir.Syntax.{w128}
+use Rattle.ct_finder_run.specs.Column.{columns, cost_entry}
+use Rattle.ct_finder_run.specs.Run.{run, multipliers_of}
+use Rattle.ct_finder.specs.declared.ending.Ending.TheVariants.{Least}
+use Rattle.ct_finder.specs.Ending.{ending_of}
+use Rattle.ct_finder.proofs.OpeningLemmas.{least-width}
+use Rattle.ct_finder.proofs.ending.run_over.Goals as goal
+
+pub multipliers-requires : goal.multipliers-requires
+multipliers-requires g c =
+    let s = c.args.scheme.now in
+    let range = c.args.range.now in
+    let degree = g.S.Scheme.degree s in
+    let cs = columns range degree in
+    let opened = c.in_ok-tableau.ensures.value in
+    let wide = ap (λ t. length t.cost) opened ∙ length-map cs cost_entry in
+    let ends = sym (c.in-Least.ensures.end range degree wide ∙ ap (run cs c.args.turns) opened) in
+    ap length c.as_slice-cost.ensures.value ∙ least-width (g.S.Scheme.number s) range degree c.args.turns c.run.new.tableau.cost ends
+    ∙ ap (λ (d : ℕ). length (columns range d)) (sym c.degree.ensures)
+
+pub returns-in-Least : goal.returns-in-Least
+returns-in-Least g c =
+    let s = c.args.scheme.now in
+    let range = c.args.range.now in
+    let degree = g.S.Scheme.degree s in
+    let cs = columns range degree in
+    let opened = c.in_ok-tableau.ensures.value in
+    let wide = ap (λ t. length t.cost) opened ∙ length-map cs cost_entry in
+    ap Least
+    (c.in_ok-multipliers-in-Least.ensures ∙ ap (λ (d : ℕ). multipliers_of (columns range d) d c.as_slice-cost.result.now) c.degree.ensures
+    ∙ ap (λ (row : List ℤ). multipliers_of cs degree row) c.as_slice-cost.ensures.value)
+    ∙ ap (ending_of cs degree) (c.in-Least.ensures.end range degree wide ∙ ap (run cs c.args.turns) opened)
+
+pub returns-in-Turns : goal.returns-in-Turns
+returns-in-Turns g c =
+    let s = c.args.scheme.now in
+    let range = c.args.range.now in
+    let degree = g.S.Scheme.degree s in
+    let cs = columns range degree in
+    let opened = c.in_ok-tableau.ensures.value in
+    let wide = ap (λ t. length t.cost) opened ∙ length-map cs cost_entry in
+    ap (ending_of cs degree) (c.in-Turns.ensures.end range degree wide ∙ ap (run cs c.args.turns) opened)
+
+pub returns : goal.returns
+returns g c =
+    let s = c.args.scheme.now in
+    let range = c.args.range.now in
+    let degree = g.S.Scheme.degree s in
+    let cs = columns range degree in
+    let opened = c.in_ok-tableau.ensures.value in
+    let wide = ap (λ t. length t.cost) opened ∙ length-map cs cost_entry in
+    let fits : SFits w128 c.in-Wide.entry = search rules in
+    let whole = ap (ending_of cs degree) (c.in-Wide.ensures.end range degree wide ∙ ap (run cs c.args.turns) opened) in
+    first_of (cc whole, search (rules, whole), grind (arith, to_z-of_z, whole))

@@ -1,0 +1,52 @@
+use Rattle.std.proofs.Common.{◌≡◌, ℕ, ◌≤◌, List, sym, ap, ◌∙◌, subst}
+use Rattle.std.specs.Prelude.{All, false, None, Some}
+use Rattle.ct_codes.specs.Entry.{constant_weight}
+use Rattle.ct_duals.specs.declared.dual.Dual.{Dual}
+use Rattle.ct_duals.specs.Dual.{IsDual, degree_of}
+use Rattle.ct_duals.specs.Check.{dual_fault}
+use Rattle.ct_delsarte.specs.Numbers.{numbers_of}
+use Rattle.ct_finder.proofs.OpeningLemmas.{range-within}
+use Rattle.ct_finder.proofs.FoundLemmas.{weighted-found, weighted-none}
+use Rattle.ct_finder.proofs.finding.find_weight.Goals as goal
+
+pub run_over-requires : goal.run_over-requires
+run_over-requires c =
+    let e = constant_weight c.args.n c.args.d c.args.w in
+    record {
+      range = subst (λ (r : List ℕ). All (λ i. i ≤ degree_of e) r) (sym (c.deref.ensures.value ∙ c.in_ok-range.ensures)) (range-within e false);
+    }
+
+pub returns-in-None-clause-dual : goal.returns-in-None-clause-dual
+returns-in-None-clause-dual c =
+    weighted-none (constant_weight c.args.n c.args.d c.args.w) c.args.turns c.deref.result.now c.in_ok-ending.ending
+    (c.deref.ensures.value ∙ c.in_ok-range.ensures) c.in_ok-ending.ensures c.in-None.ensures
+
+pub found-requires-clause-form : goal.found-requires-clause-form
+found-requires-clause-form c =
+    let known = weighted-found c.args.n c.args.d c.args.w c.args.turns c.deref.result.now c.in_ok-ending.ending c.in-Some.c c.requires
+    (c.deref.ensures.value ∙ c.in_ok-range.ensures) c.in_ok-ending.ensures c.in-Some.ensures in
+    known.form
+
+pub found-requires-clause-accepted : goal.found-requires-clause-accepted
+found-requires-clause-accepted c =
+    let known = weighted-found c.args.n c.args.d c.args.w c.args.turns c.deref.result.now c.in_ok-ending.ending c.in-Some.c c.requires
+    (c.deref.ensures.value ∙ c.in_ok-range.ensures) c.in_ok-ending.ensures c.in-Some.ensures in
+    known.accepted
+
+pub returns-clause-dual : goal.returns-clause-dual
+returns-clause-dual c =
+    let known = weighted-found c.args.n c.args.d c.args.w c.args.turns c.deref.result.now c.in_ok-ending.ending c.in-Some.c c.requires
+    (c.deref.ensures.value ∙ c.in_ok-range.ensures) c.in_ok-ending.ensures c.in-Some.ensures in
+    ap Some c.found.ensures.dual ∙ known.dual
+
+pub returns-clause-form : goal.returns-clause-form
+returns-clause-form c =
+    let known = weighted-found c.args.n c.args.d c.args.w c.args.turns c.deref.result.now c.in_ok-ending.ending c.in-Some.c c.requires
+    (c.deref.ensures.value ∙ c.in_ok-range.ensures) c.in_ok-ending.ensures c.in-Some.ensures in
+    subst IsDual (sym c.found.ensures.dual) known.form
+
+pub returns-clause-accepted : goal.returns-clause-accepted
+returns-clause-accepted c =
+    let known = weighted-found c.args.n c.args.d c.args.w c.args.turns c.deref.result.now c.in_ok-ending.ending c.in-Some.c c.requires
+    (c.deref.ensures.value ∙ c.in_ok-range.ensures) c.in_ok-ending.ensures c.in-Some.ensures in
+    subst (λ (t : Dual). dual_fault (numbers_of t.entry) t ≡ None) (sym c.found.ensures.dual) known.accepted

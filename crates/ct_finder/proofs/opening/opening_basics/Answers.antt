@@ -1,0 +1,16 @@
+use Rattle.std.proofs.Common.{◌≡◌, ℕ, suc, ◌+◌, List, [], ◌∷◌, ◌++◌, map, length, sym, ap₂, ◌∙◌, arith}
+use Rattle.std.proofs.lemmas.List.FromFn.{map-range_with_len_more}
+use Rattle.ct_finder_run.specs.Column.{columns, place_of}
+use Rattle.ct_finder_run.specs.Column.Column.{S}
+use Rattle.ct_finder.proofs.PlaceLemmas.{place-s}
+use Rattle.ct_finder.proofs.opening.opening_basics.Goals as goal
+
+pub loop-before-preserved : goal.loop-before-preserved
+loop-before-preserved c =
+    let range = c.args.range.now in
+    let before = c.loop-before.before in
+    let place : ℕ → ℕ = λ (k : ℕ). place_of (S k) (columns range c.args.degree) in
+    let here = place-s range c.args.degree (suc before) (omega arith) (omega arith) in
+    let same : length range + 1 + before ≡ place (suc before) = omega arith in
+    c.in_ok-push.ensures.items ∙ ap₂ (λ (bs : List ℕ) (b : ℕ). bs ++ b ∷ []) c.loop-before.invariant same
+    ∙ sym (map-range_with_len_more place 1 before (suc before) (omega arith))

@@ -1,0 +1,140 @@
+//! Duals of entries, found.
+ghost use Rattle.std.specs.Prelude.{◌≡◌, ◌≤◌, replicate, suc, [], pos, false, None, Option, IfOk, IfSome, option_map, unwrap_or};
+ghost use Rattle.ct_codes.specs.Code.{IsTrueUpper};
+ghost use Rattle.ct_codes.specs.Entry.{IsEntry, unrestricted, constant_weight};
+ghost use Rattle.ct_duals.specs.Dual.{IsDual};
+ghost use Rattle.ct_duals.specs.Check.{dual_fault};
+ghost use Rattle.ct_delsarte.specs.Numbers.{numbers_of};
+ghost use Rattle.ct_finder_run.specs.Run.{IsAsked};
+ghost use Rattle.ct_finder.specs.Found.{end_of_run, dual_of, least_dual, bound_of, stop_of};
+ghost use Rattle.ct_finder.specs.Ending.{multipliers_from, stop_from};
+
+use crate::ending::{Ending, run_over};
+use crate::found::{Found, Stop};
+use crate::opening::{push_repeated, range_of};
+use ct_codes::Entry;
+use ct_delsarte::check_dual_of_table;
+use ct_duals::{Allowances, Dual, Multipliers};
+use ct_krawtchouk::Hamming;
+use ct_scheme::Johnson;
+use std::alloc::{AllocError, Global};
+
+/// A dual for A(n,d), by the finder's run with at most so many turns: the run's where it ends as least, else the one
+/// whose multipliers are n + 1 ones. Where `even` is set, which is only where d is even, the run and the dual speak of
+/// even distances alone. `Err` is want of memory.
+pub fn find(alloc: Global, n: u32, d: u32, even: bool, turns: u32) -> Result<Found, AllocError>
+    requires { IsAsked (unrestricted n d) even }
+    ensures dual { IfOk result (λ f. f.dual ≡ dual_of (unrestricted n d) even (end_of_run (unrestricted n d) even turns)) }
+    ensures bound { IfOk result (λ f. f.bound ≡ bound_of f.dual) }
+    ensures stop { IfOk result (λ f. f.stop ≡ stop_of turns (end_of_run (unrestricted n d) even turns)) }
+    ensures form { IfOk result (λ f. IsDual f.dual) }
+    ensures accepted { IfOk result (λ f. dual_fault (numbers_of f.dual.entry) f.dual ≡ None) }
+    ensures entry { IfOk result (λ f. f.dual.entry ≡ unrestricted n d) }
+    ensures nothing_allowed { IfOk result (λ f. f.dual.y ≡ []) }
+    ensures true_upper { IfOk result (λ f. IsTrueUpper (unrestricted n d) f.bound) }
+{
+    let entry = Entry { n, d, w: None };
+    let range = range_of(alloc, entry, even)?;
+    let ending = run_over(alloc, &Hamming { n }, &range, turns)?;
+    let stop = stop_of(turns, &ending);
+    let c = multipliers_or_ones(alloc, n, ending)?;
+    Ok(found(alloc, entry, even, c, stop))
+}
+
+/// A dual for A(n,d,w), by the finder's run with at most so many turns: the run's where it ends as least, else `None`.
+/// `Err` is want of memory.
+pub fn find_weight(
+    alloc: Global,
+    n: u32,
+    d: u32,
+    w: u32,
+    turns: u32,
+) -> Result<Option<Found>, AllocError>
+    requires { IsEntry (constant_weight n d w) }
+    ensures dual { IfOk result (λ o. option_map (λ f. f.dual) o ≡
+        least_dual (constant_weight n d w) (end_of_run (constant_weight n d w) false turns)) }
+    ensures bound { IfOk result (λ o. IfSome o (λ f. f.bound ≡ bound_of f.dual)) }
+    ensures stop { IfOk result (λ o. IfSome o (λ f. f.stop ≡ Stop.Least)) }
+    ensures form { IfOk result (λ o. IfSome o (λ f. IsDual f.dual)) }
+    ensures accepted { IfOk result (λ o. IfSome o (λ f. dual_fault (numbers_of f.dual.entry) f.dual ≡ None)) }
+    ensures of_entry { IfOk result (λ o. IfSome o (λ f. f.dual.entry ≡ constant_weight n d w)) }
+    ensures nothing_allowed { IfOk result (λ o. IfSome o (λ f. f.dual.y ≡ [])) }
+    ensures true_upper { IfOk result (λ o. IfSome o (λ f. IsTrueUpper (constant_weight n d w) f.bound)) }
+{
+    let entry = Entry { n, d, w: Some(w) };
+    let range = range_of(alloc, entry, false)?;
+    let ending = run_over(alloc, &Johnson { n, w }, &range, turns)?;
+    match multipliers_of_least(ending) {
+        None => Ok(None),
+        Some(c) => Ok(Some(found(alloc, entry, false, c, Stop::Least))),
+    }
+}
+
+/// The dual of an entry with these multipliers, which is accepted, with its bound.
+fn found(alloc: Global, entry: Entry, even: bool, c: Multipliers, stop: Stop) -> Found
+    requires form { IsDual (record { entry = entry; even = even; c = c; y = [] }) }
+    requires accepted { dual_fault (numbers_of entry) (record { entry = entry; even = even; c = c; y = [] }) ≡ None }
+    ensures dual { result.dual ≡ record { entry = entry; even = even; c = c; y = [] } }
+    ensures bound { result.bound ≡ bound_of result.dual }
+    ensures stop { result.stop ≡ stop }
+    ensures true_upper { IsTrueUpper entry result.bound }
+{
+    let y = Allowances::from_vec(Vec::new(alloc));
+    let dual = Dual { entry, even, c, y };
+    let bound = bound(&dual);
+    Found { dual, bound, stop }
+}
+
+/// The bound of a dual that is accepted and allows nothing.
+fn bound(dual: &Dual) -> u32
+    requires form { IsDual dual.now }
+    requires accepted { dual_fault (numbers_of dual.now.entry) dual.now ≡ None }
+    requires nothing { dual.now.y ≡ [] }
+    ensures value { result ≡ bound_of dual.now }
+    ensures true_upper { IsTrueUpper dual.now.entry result }
+{
+    let Ok(accepted) = check_dual_of_table(dual) else {
+        unreachable!()
+    };
+    accepted.bound(&[])
+}
+
+/// How the run stopped, with the turns that were asked for.
+fn stop_of(turns: u32, ending: &Ending) -> Stop
+    ensures { result ≡ stop_from turns ending.now }
+{
+    match ending {
+        Ending::Least(_) => Stop::Least,
+        Ending::Turns => Stop::Turns(turns),
+        Ending::Wide(x) => Stop::Wide(*x),
+    }
+}
+
+/// The multipliers of a run that ended as least.
+fn multipliers_of_least(ending: Ending) -> Option<Multipliers>
+    ensures { result ≡ multipliers_from ending }
+{
+    match ending {
+        Ending::Least(c) => Some(c),
+        Ending::Turns | Ending::Wide(_) => None,
+    }
+}
+
+/// The multipliers of a run that ended as least, else 1, n + 1 times.
+fn multipliers_or_ones(alloc: Global, n: u32, ending: Ending) -> Result<Multipliers, AllocError>
+    ensures { IfOk result (λ c. c ≡ unwrap_or (multipliers_from ending) (replicate (suc n) (pos 1))) }
+{
+    match multipliers_of_least(ending) {
+        Some(c) => Ok(c),
+        None => ones(alloc, n),
+    }
+}
+
+/// The multipliers 1, n + 1 times.
+fn ones(alloc: Global, n: u32) -> Result<Multipliers, AllocError>
+    ensures { IfOk result (λ c. c ≡ replicate (suc n) (pos 1)) }
+{
+    let mut numbers = Vec::new(alloc);
+    push_repeated(&mut numbers, 1, n as usize + 1)?;
+    Ok(Multipliers::from_vec(numbers))
+}
