@@ -1,6 +1,7 @@
 mod Copies
 pub mod FaultsLemmas
 mod FeedLemmas
+pub mod InputLemmas
 mod IntakeLemmas
 mod NextLineLemmas
 pub mod ReaderLemmas

@@ -4,3 +4,4 @@ pub mod Filling
 pub mod Intake
 pub mod NextLine
 pub mod Settled
+pub mod WholeInput

@@ -1,7 +1,11 @@
 -- What a source and a sink tell of their bytes before and after.
-use Rattle.std.specs.Prelude.{◌≡◌, ◌≢◌, ◌≤◌, ◌<◌, ◌+◌, ℕ, ⊤, List, [], ◌++◌, length, Option, Some, None}
+use Rattle.std.specs.Prelude.{◌≡◌, ◌≢◌, ◌≤◌, ◌<◌, ◌+◌, ℕ, ⊤, List, [], ◌++◌, length, Option, Some, None, Result, Err}
 use Rattle.std.specs.Io.KnownBytes.{Appends}
 use Rattle.ct_io.specs.declared.TheConstants.{MAX_INPUT}
+use Rattle.ct_io.specs.declared.line_fault.LineFault.{LineFault}
+use Rattle.ct_io.specs.declared.line_fault.LineFault.TheVariants.{ReadFault, TooLong, Memory}
+use Rattle.ct_io.specs.declared.run_fault.RunFault.{RunFault}
+use Rattle.ct_io.specs.declared.run_fault.RunFault.TheVariants as run
 
 -- a fact about the bytes that a source has left before and after, where it tells them; a source that tells its bytes goes on telling them
 abbrev pub WhereTold : Option (List ℕ) → Option (List ℕ) → (List ℕ → List ℕ → Type 0) → Type 0
@@ -17,6 +21,16 @@ IsAboveLimit before after = length after + MAX_INPUT < length before
 abbrev pub IsWithinLimit : Option (List ℕ) → Type 0
 IsWithinLimit None = ⊥
 IsWithinLimit (Some input) = length input ≤ MAX_INPUT
+
+-- the answer is that too many bytes were taken
+abbrev pub IsTooLong : {X : Type 0} → Result X LineFault → Type 0
+IsTooLong result = (t : ℕ) × (result ≡ Err (TooLong t))
+
+-- the fault of a run whose reading has this one
+abbrev pub fault_of_read : LineFault → RunFault
+fault_of_read ReadFault = run.Read
+fault_of_read (TooLong taken) = run.TooLong
+fault_of_read Memory = run.Memory
 
 -- known bytes grow by a prefix of the text: by all of it, a part from its beginning on, or nothing
 abbrev pub AppendsPrefix : Option (List ℕ) → Option (List ℕ) → List ℕ → Type 0

@@ -147,6 +147,14 @@ impl Held {
         Ok(Some(rest))
     }
 
+    /// All bytes that are held.
+    pub(crate) fn into_bytes(mut self) -> Vec<u8>
+        ensures { result.items ≡ self.bytes }
+    {
+        self.drop_given_out();
+        self.bytes
+    }
+
     // Moves the bytes that are held to the front of the vector.
     fn drop_given_out(&mut self)
         ensures same { self.new.bytes ≡ self.old.bytes }

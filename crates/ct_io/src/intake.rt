@@ -1,4 +1,4 @@
-ghost use Rattle.std.specs.Prelude.{◌≡◌, ◌≤◌, false, IfOk, vec_len};
+ghost use Rattle.std.specs.Prelude.{◌≡◌, ◌≤◌, [], false, IfOk, vec_len};
 ghost use Rattle.ct_io.specs.declared.TheConstants.{MAX_READ};
 ghost use Rattle.ct_lines.specs.Lines.{IsLine};
 ghost use Rattle.ct_io.specs.Inside.Buffer.{empty_buffer};
@@ -23,6 +23,7 @@ pub(crate) struct Intake {
 }
 
 impl Intake {
+    ghost use Rattle.ct_io.specs.Inside.WholeInput.{GathersAll};
     ghost use Rattle.ct_io.specs.Inside.Intake.{GathersLine, Gives, GivesOut, IsFound, ReadsOn};
 
     /// An intake that took nothing yet, with space for one read.
@@ -94,5 +95,31 @@ impl Intake {
     {
         let found = self.gather_line(source)?;
         self.give_out(found)
+    }
+
+    /// Reads until the input ends, and holds all of its bytes.
+    pub(crate) fn gather_all<S: Source>(&mut self, source: &mut S) -> Result<(), LineFault>
+        requires none { self.old.held.bytes ≡ [] }
+        requires taken { self.old.taken ≡ 0 }
+        ensures { GathersAll (S.left source.old) (S.left source.new) (S.faults source.old) (S.faults source.new) self.new.held.bytes result }
+    {
+        loop {
+            let count = self.held.fill(&mut self.piece, source)?;
+            if count == 0 {
+                return Ok(());
+            }
+            let taken = self.taken + count as u64;
+            if taken > MAX_INPUT {
+                return Err(LineFault::TooLong(taken));
+            }
+            self.taken = taken;
+        }
+    }
+
+    /// The bytes that are held.
+    pub(crate) fn into_bytes(self) -> Vec<u8>
+        ensures { result.items ≡ self.held.bytes }
+    {
+        self.held.into_bytes()
     }
 }

@@ -9,23 +9,27 @@
 
 mod failed;
 mod held;
+mod input;
 mod intake;
 mod laws;
 mod line_fault;
 mod line_reader;
 mod mem_sink;
 mod mem_source;
+mod run_fault;
 mod sink;
 mod source;
 mod std_sink;
 mod std_source;
 
 pub use failed::Failed;
+pub use input::read_input;
 pub use laws::{faults_law, last_read_law, prefixes_law};
 pub use line_fault::LineFault;
 pub use line_reader::LineReader;
 pub use mem_sink::MemSink;
 pub use mem_source::MemSource;
+pub use run_fault::RunFault;
 pub use sink::{Sink, write_all};
 pub use source::Source;
 pub use std_sink::StdSink;
