@@ -5,7 +5,7 @@ entry until nothing is better, all else by counting. With --check it writes noth
 
 import sys
 from itertools import combinations, product
-from math import comb
+from math import comb, factorial
 from pathlib import Path
 
 DATA = Path(__file__).resolve().parent.parent / "crates/ct_rows/data"
@@ -122,8 +122,26 @@ def upper_weighted(high, n, d, w):
         yield from too_many(n, d, w)
 
 
-def bounds(codes):
-    """The lower and the upper bound of each entry that the rules give from the sizes of codes (L10, M10)."""
+def scheme_number(n, w, k, i):
+    """The Krawtchouk number K_k(i) at length n, and with a weight the Johnson number J_k(i)."""
+    if w is None:
+        return sum((-1) ** j * comb(i, j) * comb(n - i, k - j) for j in range(k + 1))
+    return sum((-1) ** j * comb(i, j) ** 2 * factorial(j) * comb(w - i, k - j) * comb(n - w - i, k - j) * factorial(k - j)
+               for j in range(min(i, k) + 1))
+
+
+def by_duals(high, duals, n, d, w=None):
+    """What the duals of an entry give (U11, V9)."""
+    for _, *entry, c, y in duals:
+        if entry == [n, d, w]:
+            charges = {i: v * high[n, d + d % 2, i] for i, v in y.items() if v}
+            near = sum(charge for i, charge in charges.items() if 2 * i < 2 * n - d)
+            far = max([charge for i, charge in charges.items() if 2 * i >= 2 * n - d], default=0)
+            yield (sum(m * scheme_number(n, w, k, 0) for k, m in enumerate(c)) + near + far) // c[0]
+
+
+def bounds(codes, duals=()):
+    """The lower and the upper bound of each entry that the rules give from the sizes of codes (L10, M10) and from duals."""
     entries = list(product(LENGTHS, DISTANCES)) + [(n, d, w) for n in LENGTHS for d in EVEN for w in weights(n)]
     low = dict.fromkeys(entries, 1) | codes
     high = dict.fromkeys(entries, 2 ** 28)
@@ -132,7 +150,7 @@ def bounds(codes):
         before = dict(low), dict(high)
         for e in entries:
             low[e] = max(low[e], *(lower_plain if len(e) == 2 else lower_weighted)(low, *e))
-            high[e] = min(high[e], *(upper_plain if len(e) == 2 else upper_weighted)(high, *e))
+            high[e] = min(high[e], *(upper_plain if len(e) == 2 else upper_weighted)(high, *e), *by_duals(high, duals, *e))
     return low, high
 
 
@@ -158,6 +176,14 @@ def words(n, d, some):
 def cosets(n, d, basis, representatives=()):
     """A document of cosets of the linear code with this basis, of the code alone where no representatives are given."""
     return f"kind='cosets'\nn={n}\nd={d}\nbasis={basis}\nrepresentatives={list(representatives) or ['0' * n]}\n"
+
+
+def dual(n, d, w, c, y):
+    """A document of a dual."""
+    if w is not None:
+        return f"kind='jdual'\nn={n}\nd={d}\nw={w}\nc={c}\n"
+    even = "even=true\n" if n < 21 else ""
+    return f"kind='dual'\nn={n}\nd={d}\n{even}c={c}\ny={[list(pair) for pair in y.items()]}\n"
 
 
 def build(op, n, d, part, more=""):
@@ -232,6 +258,16 @@ LINEAR = [
         "110000100011001010111", "111000010001100101011", "111100001000110010101", "111110000100011001010", "011111000010001100101"]),
     # Each place of the even code of length 3, three times.
     ("tri9", 9, 6, ["111111000", "000111111"]),
+]
+
+# Duals of Delsarte's linear program, found by the simplex method in fractions (examples/duals.session): id, length, distance, weight,
+# multipliers and allowances. Those of an even distance without weight speak of even distances alone, but for the last.
+DUALS = [
+    ("d13", 13, 6, None, [5, 1, 1], {10: 16, 12: 48}),
+    ("k16", 16, 6, None, [60, 60, 18, 12, 3], {}),
+    ("j8", 8, 4, 4, [48, 21, 4], {}),
+    ("j24", 24, 8, 8, [10725120, 1927170, 210924, 17917, 1012], {}),
+    ("s21", 21, 8, None, [140, 55, 19, 5, 1], {8: 256, 18: 256, 20: 1280}),
 ]
 
 # For n = 1 to 28 and d = 3 to 28 the greatest dimension k of a binary linear code of length n and distance at least d that is known, from
@@ -326,8 +362,8 @@ def write_tables(rows):
     tables = {}
     for name, short, after, codes in starts:
         table = tables[short] = bounds(codes)
-        lines = [line(table, n, d) if w is None else line(table, n, d, w) for d, w in columns for n in range(max(w or 0, 1), 29)]
-        answered = rows.file(f"tables-{short}.out", "".join(lines))
+        entries = [(n, d) if w is None else (n, d, w) for d, w in columns for n in range(max(w or 0, 1), 29)]
+        answered = rows.file(f"tables-{short}.out", "".join(line(table, *entry) for entry in entries))
         rows.part(f"tables {name}", input_file=asked, output_file=answered)
         rows.row(f"tables {name}", after=[*after, f"tables {name}"])
     low = tables["linear"][0]
@@ -335,6 +371,7 @@ def write_tables(rows):
         dimensions = dimensions.split() + ["0"] * 26
         for d, dimension in zip(DISTANCES, dimensions):
             assert low[n, d] >= 2 ** int(dimension), (n, d)
+    write_duals(rows, entries)
     return tables["without-codes"]
 
 
@@ -354,6 +391,17 @@ def write_listed(rows):
     document = cosets(16, 6, [text(x, 16) for x in REED_MULLER], [text(x, 16) for x in NORDSTROM_ROBINSON])
     lines = "".join(f"{text(x, 16)}\n" for x in listed)
     rows.row("a code is listed", submit("nr", document) + "list 16 6\n", f"accepted nr size 256\ncode 16 6 size {len(listed)}\n{lines}")
+
+
+def write_duals(rows, asked):
+    """The whole table over duals and the octads, while the duals come and once they are gone."""
+    table = bounds({(24, 8): 4096, (24, 8, 8): 759}, DUALS)
+    rows.part("duals", "".join(submit(name, dual(*rest)) for name, *rest in DUALS), "".join(f"accepted {name}\n" for name, *_ in DUALS))
+    answered = rows.file("tables-duals.out", "".join(line(table, *entry) for entry in asked))
+    rows.part("tables over duals", input_file="tables.in", output_file=answered)
+    rows.row("tables over duals", after=["golay", "octads", "duals", "tables over duals"])
+    rows.part("duals go", "".join(f"withdraw {name}\n" for name, *_ in DUALS), "".join(f"withdrawn {name}\n" for name, *_ in DUALS))
+    rows.row("duals come and go", after=["duals", "golay", "octads", "tables over duals", "duals go", "tables over the octads"])
 
 
 def write_orders(rows, table):
