@@ -23,7 +23,7 @@ use Rattle.ct_codes.proofs.CheckLemmas.{first_of-None, close-none, close_none_fr
 use Rattle.ct_codes.proofs.SpanLemmas.{xor_exchange, span_word-zero, span_word-sum, choice_word-at, length-coset_list, get_or-coset_list, coset_list-lt}
 
 -- the distance of two words is told by their sum
-distance_of_sum : (n x y v w : ℕ) → x < 2 ^ n → y < 2 ^ n → v < 2 ^ n → w < 2 ^ n → bit_xor x y ≡ bit_xor v w → distance n x y ≡ distance n v w
+pub distance_of_sum : (n x y v w : ℕ) → x < 2 ^ n → y < 2 ^ n → v < 2 ^ n → w < 2 ^ n → bit_xor x y ≡ bit_xor v w → distance n x y ≡ distance n v w
 distance_of_sum n x y v w below_x below_y below_v below_w same =
     distance-is_weight n x y (bit_xor x y) (IsSum-bit_xor n x y below_x below_y) ∙ ap (weight n) same
     ∙ sym (distance-is_weight n v w (bit_xor v w) (IsSum-bit_xor n v w below_v below_w))
@@ -38,11 +38,11 @@ sum_of_choices basis x y s t =
     ∙ sym (xor_exchange x (span_word basis 0) y both)
 
 -- a place of a table with rows
-place_within : (a s r span : ℕ) → a < r → s < span → a * span + s < r * span
+pub place_within : (a s r span : ℕ) → a < r → s < span → a * span + s < r * span
 place_within a s r span row column = let more : (a + 1) * span ≤ r * span = mul-le-mul_right span (omega arith) in omega arith
 
 -- the word of a choice, by the place of its representative and what it chooses of the basis
-coset_list-at : (basis representatives : List ℕ) (a s : ℕ) → a < length representatives → s < 2 ^ length basis
+pub coset_list-at : (basis representatives : List ℕ) (a s : ℕ) → a < length representatives → s < 2 ^ length basis
     → get_or (coset_list basis representatives) (a * 2 ^ length basis + s) 0 ≡ bit_xor (get_or representatives a 0) (span_word basis s)
 coset_list-at basis representatives a s row column =
     get_or-coset_list basis representatives (a * 2 ^ length basis + s) (place_within a s (length representatives) (2 ^ length basis) row column)

@@ -4,5 +4,7 @@ pub mod CheckLemmas
 pub mod BoundLemmas
 pub mod DigitCodes
 mod NearLemmas
+mod RowLemmas
+pub mod BlockLemmas
 pub mod SpanLemmas
 pub mod CosetLemmas

@@ -49,7 +49,7 @@ first_is p xs i within before passes =
     rw (position_or_len_is p xs i 0 (omega arith) before (λ h. passes), lt-ltb i (length xs) within) refl
 
 -- where no item passes there is no first
-none_is : (p : ℕ → Bool) (xs : List ℕ) → ((k : ℕ) → k < length xs → p (get_or xs k 0) ≡ false) → position p xs ≡ None
+pub none_is : (p : ℕ → Bool) (xs : List ℕ) → ((k : ℕ) → k < length xs → p (get_or xs k 0) ≡ false) → position p xs ≡ None
 none_is p xs fails =
     rw (position_or_len_is p xs (length xs) 0 (omega arith) fails (λ h. absurd (omega arith)), le-ltb (length xs) (length xs) (omega arith)) refl
 

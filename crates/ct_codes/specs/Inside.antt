@@ -1,3 +1,6 @@
 -- Words that the contracts of inner functions alone cite.
 pub mod Shifted
 pub mod Translated
+pub mod Rows
+pub mod First
+pub mod Span

@@ -29,7 +29,11 @@ pub(crate) fn choice_words(
 
 /// Puts the word plus each sum of basis words at the end of `words`: first the word alone, then for each basis word
 /// in turn its sums with all that stand there so far.
-fn append_translated(words: &mut Vec<Word>, word: Word, basis: &[Word]) -> Result<(), AllocError>
+pub(crate) fn append_translated(
+    words: &mut Vec<Word>,
+    word: Word,
+    basis: &[Word],
+) -> Result<(), AllocError>
     ensures { OnOk result (words.new.items ≡ words.old.items ++ translated basis.now word) }
 {
     let start = words.len();

@@ -1,16 +1,22 @@
 //! Codes put together from cosets.
 
-ghost use Rattle.std.specs.Prelude.{◌≡◌, ◌≢◌, ◌^◌, ◌<◌, ◌≤◌, length, All, IfOk, IfErr, OnOk, IsPermutation};
+ghost use Rattle.std.specs.Prelude.{◌≡◌, ◌≢◌, ℕ, IfSome, slice_index, ◌^◌, ◌<◌, ◌≤◌, length, All, IfOk, IfErr, OnOk, IsPermutation};
+ghost use Rattle.std.specs.Option.{option_map};
 ghost use Rattle.ct_words.specs.declared.limits.TheConstants.{MAX_N};
+ghost use Rattle.ct_words.specs.Word.{distance};
+ghost use Rattle.ct_codes.specs.declared.fault.TheConstants.{MAX_REPRESENTATIVES};
+ghost use Rattle.ct_codes.specs.declared.fault.CodeFault.TheVariants.{Close};
 ghost use Rattle.ct_codes.specs.Entry.{IsEntry};
 ghost use Rattle.ct_codes.specs.Code.{IsSoundCode, IsTrueLower};
 ghost use Rattle.ct_codes.specs.Check.{close_fault};
 ghost use Rattle.ct_codes.specs.Coset.{choice_count, coset_list, coset_size_fault, coset_work_fault, coset_fault, CosetValue, IsSoundCosetCode};
 
-use crate::choices::{choice_words, close_choices};
+use crate::choices::choice_words;
 use crate::code::Code;
+use crate::coset_search::least_close_choices;
 use crate::entry::Entry;
 use crate::fault::{CodeFault, MAX_COSET_WORK, MAX_REPRESENTATIVES};
+use crate::span::choice_word;
 use ct_words::{MAX_N, Word, distance};
 use std::alloc::{AllocError, Global};
 use std::marker::Model;
@@ -38,8 +44,8 @@ impl Model for CosetCode {
 ///
 /// The refusals in order: `Size` where the basis has more than `MAX_N` words, or else where there is no representative
 /// or there are more than `MAX_REPRESENTATIVES`; `Work` where the work is above `MAX_COSET_WORK`; and `Close` with the
-/// least pair of choices whose words have a distance below d, 0 included, and that distance. `Memory` means that the
-/// words of all choices could not be stored.
+/// least pair of choices whose words have a distance below d, 0 included, and that distance. `Memory` means that what the
+/// search reads, sums of basis words or the words of all choices, could not be stored.
 pub fn check_cosets(
     alloc: Global,
     entry: Entry,
@@ -127,16 +133,45 @@ fn close_fault(
     representatives: &[Word],
 ) -> Result<Option<CodeFault>, AllocError>
     requires size { length basis.now ≤ MAX_N }
+    requires count { length representatives.now ≤ MAX_REPRESENTATIVES }
     requires basis { All (λ x. x < 2 ^ entry.n) basis.now }
     requires representatives { All (λ x. x < 2 ^ entry.n) representatives.now }
     ensures { IfOk result (λ fault. fault ≡
         close_fault entry.n entry.d (coset_list basis.now representatives.now)) }
 {
-    let words = choice_words(alloc, basis, representatives)?;
-    match close_choices(&words, basis, representatives, entry.d) {
-        Some((i, j)) => Ok(Some(CodeFault::Close(i, j, distance(words[i], words[j])))),
-        None => Ok(None),
-    }
+    let pair = least_close_choices(alloc, basis, representatives, entry.d)?;
+    Ok(fault_of(basis, representatives, pair))
+}
+
+/// The fault of two choices that are close, where there are two.
+fn fault_of(
+    basis: &[Word],
+    representatives: &[Word],
+    pair: Option<(usize, usize)>,
+) -> Option<CodeFault>
+    requires size { length basis.now ≤ MAX_N }
+    requires places { IfSome pair (λ p. (p.0 < p.1) × (p.1 < choice_count basis.now representatives.now)) }
+    ensures { (n : ℕ) → All (λ x. x < 2 ^ n) (coset_list basis.now representatives.now) →
+        result ≡ option_map (λ p. Close p.0 p.1 (distance n (slice_index (coset_list basis.now representatives.now) p.0)
+        (slice_index (coset_list basis.now representatives.now) p.1))) pair }
+{
+    let (i, j) = pair?;
+    Some(close_pair(basis, representatives, i, j))
+}
+
+/// The fault of two choices that are close, with the distance of their words, which are of one length.
+fn close_pair(basis: &[Word], representatives: &[Word], i: usize, j: usize) -> CodeFault
+    requires size { length basis.now ≤ MAX_N }
+    requires places { (i < choice_count basis.now representatives.now) × (j < choice_count basis.now representatives.now) }
+    ensures { (n : ℕ) → All (λ x. x < 2 ^ n) (coset_list basis.now representatives.now) →
+        result ≡ Close i j (distance n (slice_index (coset_list basis.now representatives.now) i)
+        (slice_index (coset_list basis.now representatives.now) j)) }
+{
+    let distance = distance(
+        choice_word(basis, representatives, i),
+        choice_word(basis, representatives, j),
+    );
+    CodeFault::Close(i, j, distance)
 }
 
 impl CosetCode {

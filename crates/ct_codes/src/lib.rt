@@ -7,12 +7,15 @@ mod claim;
 mod code;
 mod coset;
 mod coset_laws;
+mod coset_search;
 mod entry;
 mod fault;
 mod laws;
 mod near;
 mod pairs;
+mod rows;
 mod scheme;
+mod span;
 
 pub use check::check_words;
 pub use claim::{Claim, Side};
