@@ -7,7 +7,7 @@ use Rattle.clap.specs.Words.{App, Kinds, Row, Rule, Text, fault_of, first_of, ma
 use Rattle.clap.specs.Simple.{on_top}
 use Rattle.clap.specs.declared.builder.action.ArgAction.TheVariants.{Set}
 use Rattle.ct_command_line.specs.declared.mode.Mode.{Mode}
-use Rattle.ct_command_line.specs.declared.mode.Mode.TheVariants.{Session}
+use Rattle.ct_command_line.specs.declared.mode.Mode.TheVariants.{Session, Verify}
 
 -- the words of the command line, as bytes
 abbrev pub bytes_of : List (String Global) → List Text
@@ -25,10 +25,17 @@ number_rule = record (new_rule (codes "number")) { long = Some (codes "number");
 unfoldable pub command_line : App
 command_line = with_rule (with_rule (on_top (λ s. record s { no_binary_name = true }) (new_app (codes "code_tables"))) mode_rule) number_rule
 
--- the mode of these values of the word and the option: a row for each mode
+-- the mode of a word that stands alone: a row for each mode
+abbrev pub plain_mode : Text → Option Mode
+plain_mode word =
+    if bytes_eq word (codes "session") then Some Session
+    else if bytes_eq word (codes "verify") then Some Verify
+    else None
+
+-- the mode of these values of the word and the option
 abbrev pub mode_from : Option Text → Option Text → Option Mode
-mode_from (Some mode) None = if bytes_eq mode (codes "session") then Some Session else None
-mode_from mode number = None
+mode_from (Some word) None = plain_mode word
+mode_from word number = None
 
 -- the mode of the matches
 abbrev pub mode_of_matches : List Row → Option Mode

@@ -1,13 +1,15 @@
 //! Command lines that are known: the functions do nothing.
 
 ghost use Rattle.std.specs.Prelude.{◌≡◌, [], ◌∷◌, Some, None, codes};
-ghost use Rattle.ct_command_line.specs.declared.mode.Mode.TheVariants.{Session};
+ghost use Rattle.ct_command_line.specs.declared.mode.Mode.TheVariants.{Session, Verify};
 ghost use Rattle.ct_command_line.specs.CommandLine.{mode_of};
 
-/// The word `session` names the session; no words, another word, a word too many, an option that the mode does not take, an
-/// option that is not known, and the questions for help and for a version name none.
+/// The words `session` and `verify`, each alone, name their modes; no words, another word, a word too many, an option that the mode does
+/// not take, an option that is not known, and the questions for help and for a version name none.
 pub fn known_command_lines()
     ensures session { mode_of (codes "session" ∷ []) ≡ Some Session }
+    ensures verify { mode_of (codes "verify" ∷ []) ≡ Some Verify }
+    ensures verify_with_number { mode_of (codes "verify" ∷ codes "--number" ∷ codes "5" ∷ []) ≡ None }
     ensures after_dashes { mode_of (codes "--" ∷ codes "session" ∷ []) ≡ Some Session }
     ensures none { mode_of [] ≡ None }
     ensures empty { mode_of ([] ∷ []) ≡ None }

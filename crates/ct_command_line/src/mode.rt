@@ -7,6 +7,8 @@ ghost use Rattle.std.specs.Prelude.{◌≡◌, drop};
 pub enum Mode {
     /// Reads the commands of a session, and writes their replies.
     Session,
+    /// Reads a derivation document, and writes the verdict on it.
+    Verify,
 }
 
 /// The words after the first one, which is the program's name.

@@ -32,6 +32,7 @@ fn mode_from(mode: Option<&str>, number: Option<&str>) -> Option<Mode>
 {
     match (mode, number) {
         (Some("session"), None) => Some(Mode::Session),
+        (Some("verify"), None) => Some(Mode::Verify),
         _ => None,
     }
 }

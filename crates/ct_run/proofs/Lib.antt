@@ -1,2 +1,3 @@
 mod Statuses
 mod NothingWritten
+mod Verifying

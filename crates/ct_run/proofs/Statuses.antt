@@ -3,7 +3,6 @@ use Rattle.std.proofs.Common.{◌≡◌, Bool, true, false, List, ℕ, Option, S
 use Rattle.ct_session.specs.declared.serve.ServeFault.{ServeFault}
 use Rattle.ct_session.specs.declared.serve.ServeFault.TheVariants as fault
 use Rattle.ct_session.specs.Serve.{WritesRunProperPrefix}
-use Rattle.ct_command_line.specs.declared.mode.Mode.{Mode}
 use Rattle.ct_command_line.specs.declared.mode.Mode.TheVariants.{Session}
 use Rattle.ct_run.specs.declared.status.Status.TheVariants.{WriteFault}
 use Rattle.ct_run.specs.Exit.{result_status}
@@ -17,6 +16,6 @@ sink_failed (Err fault.Write) e = refl
 sink_failed (Err fault.TooLong) e = absurd cc
 sink_failed (Err fault.Memory) e = absurd cc
 
-pub session_in_part : (mode : Mode) (left old new : Option (List ℕ)) → WritesRunProperPrefix left old new → WritesProperPrefix mode left old new
-session_in_part Session None old new h = tt
-session_in_part Session (Some input) old new h = h
+pub session_in_part : (left old new : Option (List ℕ)) → WritesRunProperPrefix left old new → WritesProperPrefix Session left old new
+session_in_part None old new h = tt
+session_in_part (Some input) old new h = h

@@ -1,5 +1,7 @@
--- Statuses: what they are of a session, and the numbers with which the program ends.
+-- Statuses: what they are of a session and of other modes, and the numbers with which the program ends.
 use Rattle.std.specs.Prelude.{ℕ, Bool, Result, Ok, Err}
+use Rattle.ct_io.specs.declared.run_fault.RunFault.{RunFault}
+use Rattle.ct_io.specs.declared.run_fault.RunFault.TheVariants as run_fault
 use Rattle.ct_session.specs.declared.serve.ServeFault.{ServeFault}
 use Rattle.ct_session.specs.declared.serve.ServeFault.TheVariants as fault
 use Rattle.ct_run.specs.Mode.{status_of}
@@ -27,3 +29,15 @@ fault_status fault.Memory = Memory
 abbrev pub result_status : Result Bool ServeFault → Status
 result_status (Ok refused) = status_of refused
 result_status (Err reason) = fault_status reason
+
+-- the status of another mode that is broken off
+abbrev pub broken_status : RunFault → Status
+broken_status run_fault.Read = ReadFault
+broken_status run_fault.Write = WriteFault
+broken_status run_fault.TooLong = TooLong
+broken_status run_fault.Memory = Memory
+
+-- the status of another mode
+abbrev pub mode_status : Result Bool RunFault → Status
+mode_status (Ok refused) = status_of refused
+mode_status (Err reason) = broken_status reason

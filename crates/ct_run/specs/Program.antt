@@ -2,7 +2,7 @@
 use Rattle.std.specs.Prelude.{ℕ, List, [], ◌∷◌, ◌++◌, Option, codes}
 use Rattle.std.specs.Io.KnownBytes.{Appends}
 use Rattle.ct_lines.specs.declared.TheConstants.{LINE_FEED}
-use Rattle.ct_io.specs.Told.{AppendsPrefix, AppendsProperPrefix}
+use Rattle.ct_io.specs.Told.{AppendsProperPrefix}
 use Rattle.ct_run.specs.declared.status.Status.{Status}
 use Rattle.ct_run.specs.declared.status.Status.TheVariants.{Usage, WriteFault, Memory}
 

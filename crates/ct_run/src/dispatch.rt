@@ -5,19 +5,31 @@ ghost use Rattle.std.specs.Io.KnownBytes.{Appends, IsAtEnd};
 ghost use Rattle.ct_io.specs.Faults.{Rose};
 ghost use Rattle.ct_io.specs.Told.{AppendsProperPrefix, WhereTold, IsAboveLimit, IsWithinLimit};
 ghost use Rattle.ct_io.specs.declared.TheConstants.{MAX_INPUT, MAX_READ};
-ghost use Rattle.ct_run.specs.Mode.{is_reading, input_for, IsRunStatus, WritesOutput, WritesPrefix, WritesProperPrefix, LeftByMemory, LeftByReadFault, LeftByTooLong};
+ghost use Rattle.ct_run.specs.Mode.{is_reading, input_for, status_of, IsRunStatus, WritesOutput, WritesPrefix, WritesProperPrefix, LeftByMemory, LeftByReadFault, LeftByTooLong};
 ghost use Rattle.ct_command_line.specs.CommandLine.{mode_of, bytes_of};
-ghost use Rattle.ct_run.specs.Exit.{fault_status, result_status};
+ghost use Rattle.ct_run.specs.Exit.{broken_status, fault_status, mode_status, result_status};
 ghost use Rattle.ct_run.specs.Program.{usage_line, WritesUsage};
 
 use crate::status::Status;
 use ct_command_line::{Mode, named_mode};
-use ct_io::{Sink, Source, write_all};
+use ct_io::{RunFault, Sink, Source, write_all};
 use ct_session::{ServeFault, serve_session};
+use ct_verification::verify_source;
 use std::alloc::Global;
 
 /// What is written where the words are no command.
 const USAGE: &[u8] = b"usage: code_tables session | verify | find | sample --number N\n";
+
+/// The status of an output that was written whole.
+fn status_of(refused: bool) -> Status
+    ensures { result ≡ status_of refused }
+{
+    if refused {
+        Status::Refused
+    } else {
+        Status::Done
+    }
+}
 
 /// The status of a session that is broken off.
 fn fault_status(fault: ServeFault) -> Status
@@ -36,9 +48,30 @@ fn result_status(result_of: Result<bool, ServeFault>) -> Status
     ensures { result ≡ result_status result_of }
 {
     match result_of {
-        Ok(true) => Status::Refused,
-        Ok(false) => Status::Done,
+        Ok(refused) => status_of(refused),
         Err(fault) => fault_status(fault),
+    }
+}
+
+/// The status of another mode that is broken off.
+fn broken_status(fault: RunFault) -> Status
+    ensures { result ≡ broken_status fault }
+{
+    match fault {
+        RunFault::Read => Status::ReadFault,
+        RunFault::Write => Status::WriteFault,
+        RunFault::TooLong => Status::TooLong,
+        RunFault::Memory => Status::Memory,
+    }
+}
+
+/// The status of another mode, which tells whether its output is a refusal, or why it is broken off.
+fn mode_status(result_of: Result<bool, RunFault>) -> Status
+    ensures { result ≡ mode_status result_of }
+{
+    match result_of {
+        Ok(refused) => status_of(refused),
+        Err(fault) => broken_status(fault),
     }
 }
 
@@ -104,6 +137,7 @@ pub fn run<S: Source, K: Sink>(
 {
     match named_mode(alloc, words) {
         Ok(Some(Mode::Session)) => result_status(serve_session(alloc, source, sink)),
+        Ok(Some(Mode::Verify)) => mode_status(verify_source(alloc, source, sink)),
         Ok(None) => write_usage(sink),
         Err(_) => Status::Memory,
     }

@@ -7,6 +7,8 @@ pub returns : goal.returns
 unfolding clap_on_literals mode_of command_line
 returns c = record {
   session = refl;
+  verify = refl;
+  verify_with_number = refl;
   after_dashes = refl;
   none = refl;
   empty = refl;

@@ -1,0 +1,97 @@
+-- What a status says of the mode `verify` that it is of.
+use Rattle.std.proofs.Common.{◌≡◌, ◌≢◌, ◌⊎◌, ◌∙◌, Bool, true, false, List, [], ℕ, Option, Some, None, Result, Ok, Err, IfOk, OnOk, IfErr, IfSome, append-nil, inl, inr, refl, sym, subst, ap}
+use Rattle.std.proofs.KnownBytes.{Keeps-refl}
+use Rattle.std.specs.Io.KnownBytes.{Appends, Keeps}
+use Rattle.ct_io.specs.declared.run_fault.RunFault.{RunFault}
+use Rattle.ct_io.specs.declared.run_fault.RunFault.TheVariants as fault
+use Rattle.ct_io.specs.Told.{AppendsProperPrefix}
+use Rattle.ct_io.proofs.ToldLemmas.{AppendsPrefix-from_proper}
+use Rattle.ct_verify.specs.Verdict.{verdict_of}
+use Rattle.ct_verification.specs.Verification.{is_no, verdict_line}
+use Rattle.ct_command_line.specs.declared.mode.Mode.TheVariants.{Verify}
+use Rattle.ct_run.specs.declared.status.Status.TheVariants.{WriteFault, ReadFault, TooLong, Memory}
+use Rattle.ct_run.specs.Exit.{mode_status}
+use Rattle.ct_run.specs.Mode.{IsRunStatus, WritesOutput, WritesPrefix, WritesProperPrefix}
+
+-- the verdict on what a source has left, where it tells this
+abbrev pub IsVerdict : Option (List ℕ) → Bool → Type 0
+IsVerdict left refused = IfSome left (λ input. refused ≡ is_no (verdict_of input))
+
+-- its line was written
+abbrev pub IsWritten : Option (List ℕ) → Option (List ℕ) → Option (List ℕ) → Type 0
+IsWritten left old new = IfSome left (λ input. Appends old new (verdict_line (verdict_of input)))
+
+-- a proper prefix of it was
+abbrev pub IsWrittenInPart : Option (List ℕ) → Option (List ℕ) → Option (List ℕ) → Type 0
+IsWrittenInPart left old new = IfSome left (λ input. AppendsProperPrefix old new (verdict_line (verdict_of input)))
+
+no_run_status : (f : RunFault) → IsRunStatus (mode_status (Err f)) → ⊥
+no_run_status fault.Read (inl e) = cc
+no_run_status fault.Read (inr e) = cc
+no_run_status fault.Write (inl e) = cc
+no_run_status fault.Write (inr e) = cc
+no_run_status fault.TooLong (inl e) = cc
+no_run_status fault.TooLong (inr e) = cc
+no_run_status fault.Memory (inl e) = cc
+no_run_status fault.Memory (inr e) = cc
+
+fault_of_status : (r : Result Bool RunFault) → mode_status r ≡ WriteFault → r ≡ Err fault.Write
+fault_of_status (Ok true) e = absurd cc
+fault_of_status (Ok false) e = absurd cc
+fault_of_status (Err fault.Read) e = absurd cc
+fault_of_status (Err fault.Write) e = refl
+fault_of_status (Err fault.TooLong) e = absurd cc
+fault_of_status (Err fault.Memory) e = absurd cc
+
+pub output : (left old new : Option (List ℕ)) (r : Result Bool RunFault) → IfOk r (IsVerdict left) → OnOk r (IsWritten left old new) → IsRunStatus (mode_status r)
+    → WritesOutput Verify left old new (mode_status r)
+output None old new (Ok refused) is written done = tt
+output (Some input) old new (Ok refused) is written done = (verdict_line (verdict_of input), refused, (refl, is), refl, written)
+output left old new (Err f) is written done = absurd (no_run_status f done)
+
+-- nothing was written
+kept_none : (old new : Option (List ℕ)) → Keeps old new → Appends old new []
+kept_none None new h = tt
+kept_none (Some xs) None h = absurd h
+kept_none (Some xs) (Some ys) h = h ∙ sym (append-nil xs)
+
+nothing : (input : List ℕ) (old new : Option (List ℕ)) → Keeps old new → WritesPrefix Verify (Some input) old new
+nothing input old new h = (verdict_line (verdict_of input), is_no (verdict_of input), (refl, refl), ([], verdict_line (verdict_of input), refl, kept_none old new h))
+
+-- the sink holds what it held, or some or all of the line was written
+pub prefix : (left old new : Option (List ℕ)) (r : Result Bool RunFault) → OnOk r (IsWritten left old new) → (r ≡ Err fault.Write → IsWrittenInPart left old new)
+    → IfErr r (λ f. f ≢ fault.Write → Keeps old new) → WritesPrefix Verify left old new
+prefix None old new r written part kept = tt
+prefix (Some input) old new (Ok refused) written part kept = (verdict_line (verdict_of input), is_no (verdict_of input), (refl, refl), (verdict_line (verdict_of input), [], sym (append-nil (verdict_line (verdict_of input))), written))
+prefix (Some input) old new (Err fault.Write) written part kept = (verdict_line (verdict_of input), is_no (verdict_of input), (refl, refl), AppendsPrefix-from_proper old new (verdict_line (verdict_of input)) (part refl))
+prefix (Some input) old new (Err fault.Read) written part kept = nothing input old new (kept (λ e. cc))
+prefix (Some input) old new (Err fault.TooLong) written part kept = nothing input old new (kept (λ e. cc))
+prefix (Some input) old new (Err fault.Memory) written part kept = nothing input old new (kept (λ e. cc))
+
+pub in_part : (left old new : Option (List ℕ)) (r : Result Bool RunFault) → (r ≡ Err fault.Write → IsWrittenInPart left old new) → mode_status r ≡ WriteFault → WritesProperPrefix Verify left old new
+in_part None old new r part e = tt
+in_part (Some input) old new r part e = (verdict_line (verdict_of input), is_no (verdict_of input), (refl, refl), part (fault_of_status r e))
+
+-- after another fault than one of the sink this holds what it held
+pub kept_after : (old new : Option (List ℕ)) (r : Result Bool RunFault) → IfErr r (λ f. f ≢ fault.Write → Keeps old new)
+    → (mode_status r ≡ ReadFault) ⊎ ((mode_status r ≡ TooLong) ⊎ (mode_status r ≡ Memory)) → Keeps old new
+kept_after old new (Ok true) h (inl e) = absurd cc
+kept_after old new (Ok true) h (inr (inl e)) = absurd cc
+kept_after old new (Ok true) h (inr (inr e)) = absurd cc
+kept_after old new (Ok false) h (inl e) = absurd cc
+kept_after old new (Ok false) h (inr (inl e)) = absurd cc
+kept_after old new (Ok false) h (inr (inr e)) = absurd cc
+kept_after old new (Err fault.Write) h (inl e) = absurd cc
+kept_after old new (Err fault.Write) h (inr (inl e)) = absurd cc
+kept_after old new (Err fault.Write) h (inr (inr e)) = absurd cc
+kept_after old new (Err fault.Read) h e = h (λ e. cc)
+kept_after old new (Err fault.TooLong) h e = h (λ e. cc)
+kept_after old new (Err fault.Memory) h e = h (λ e. cc)
+
+-- a sink that is the same keeps what it holds
+same_kept : (a b : Option (List ℕ)) → b ≡ a → Keeps a b
+same_kept a b same = subst (Keeps a) (sym same) (Keeps-refl a)
+
+pub kept_beside : {K : Type 0} (holds : K → Option (List ℕ)) (old new : K) (r : Result Bool RunFault) → IfErr r (λ f. f ≢ fault.Write → new ≡ old) → IfErr r (λ f. f ≢ fault.Write → Keeps (holds old) (holds new))
+kept_beside {K} holds old new (Ok refused) h = tt
+kept_beside {K} holds old new (Err f) h = λ other. same_kept (holds old) (holds new) (ap holds (h other))
