@@ -172,7 +172,8 @@ withdrawn-short pieces id h =
     withdrawn-cases (has_id id pieces) (unless_used (first_user id pieces) (without id pieces)) withdraw.NoSuch pieces h
     (left_by-short (first_user id pieces) pieces (without id pieces) h (All-filter (λ (q : PieceValue). not (bytes_eq q.id id)) (λ (q : PieceValue). length q.document ≤ MAX_DOCUMENT) pieces h))
 
-pieces_after-short : (pieces : List PieceValue) (c : Command) → AreShort pieces → AreShort (pieces_after pieces c)
+-- so does each command
+pub pieces_after-short : (pieces : List PieceValue) (c : Command) → AreShort pieces → AreShort (pieces_after pieces c)
 pieces_after-short pieces (command.Submission None document) h = h
 pieces_after-short pieces (command.Submission (Some id) document) h = with_piece-short pieces id document (submitted pieces id document) refl h
 pieces_after-short pieces (command.Withdraw id) h = withdrawn-short pieces id h

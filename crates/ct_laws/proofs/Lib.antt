@@ -6,3 +6,4 @@ mod Columns
 mod DumpCommands
 mod DumpHeadings
 mod DumpPieces
+mod VerifiedReplies

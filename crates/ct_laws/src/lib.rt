@@ -12,4 +12,6 @@ pub use laws::{
     columns_by_length, documents_end_there, known_columns, known_runs, known_submissions,
     known_supports, known_texts,
 };
-pub use replies::{explained_bounds_are_shown, shown_lower_bounds_are_listed};
+pub use replies::{
+    explained_bounds_are_shown, explained_bounds_are_verified, shown_lower_bounds_are_listed,
+};

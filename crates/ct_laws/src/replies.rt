@@ -1,23 +1,29 @@
 //! Replies over the same pieces, beside each other.
 
-ghost use Rattle.std.specs.Prelude.{◌≡◌, All, List, length};
+ghost use Rattle.std.specs.Prelude.{◌≡◌, ◌≤◌, ℕ, All, Bool, false, List, length, slice_get, Some};
 ghost use Rattle.ct_codes.specs.Claim.{IsTrueClaim};
 ghost use Rattle.ct_codes.specs.Code.{CodeValue, IsSoundCode};
 ghost use Rattle.ct_codes.specs.declared.claim.Side.{Side};
+ghost use Rattle.ct_lines.specs.Lines.{lines_of};
+ghost use Rattle.ct_commands.specs.Command.{commands_of};
 ghost use Rattle.ct_commands.specs.declared.command.Command.TheVariants as command;
 ghost use Rattle.ct_text.specs.declared.entry_numbers.EntryNumbers.{EntryNumbers};
 ghost use Rattle.ct_derive.specs.Derivation.{DerivationValue};
 ghost use Rattle.ct_derive.specs.Explanation.{IsExplanation};
 ghost use Rattle.ct_explain.specs.Explained.{explanation_text};
+ghost use Rattle.ct_fields.specs.declared.document.TheConstants.{MAX_DOCUMENT};
 ghost use Rattle.ct_ledger.specs.Piece.{PieceValue};
 ghost use Rattle.ct_ledger.specs.Standing.{AreStanding};
 ghost use Rattle.ct_ledger.specs.Supports.{supports_of};
 ghost use Rattle.ct_rule_codes.specs.CodeEntry.{entry_of};
-ghost use Rattle.ct_session.specs.Reply.{IsReply};
-ghost use Rattle.ct_session.specs.Text.{code_text};
+ghost use Rattle.ct_session.specs.Reply.{IsReply, is_refusal};
+ghost use Rattle.ct_session.specs.Run.{IsRun};
+ghost use Rattle.ct_session.specs.Text.{code_text, reply_text};
 ghost use Rattle.ct_session.specs.declared.reply.Bounds.{Bounds};
 ghost use Rattle.ct_session.specs.declared.reply.Reply.{Reply};
 ghost use Rattle.ct_session.specs.declared.reply.Reply.TheVariants.{Shown, Lines};
+ghost use Rattle.ct_verify.specs.Verdict.{verdict_of};
+ghost use Rattle.ct_verify.specs.declared.verdict.Verdict.TheVariants.{Yes};
 ghost use Rattle.ct_laws.specs.Sides.{bound_on};
 
 /// What `explain` shows over the same pieces is an explanation of the bound that `show` shows, and where they stand, all that it claims is
@@ -34,4 +40,15 @@ pub fn shown_lower_bounds_are_listed()
     ensures { (pieces : List PieceValue) (numbers : EntryNumbers) (b : Bounds) (r : Reply)
         → IsReply pieces (command.Show numbers) (Shown b) → IsReply pieces (command.List numbers) r
         → (c : CodeValue) × IsSoundCode c × (entry_of c ≡ b.entry) × (length c.words ≡ b.lower) × (r ≡ Lines (code_text c)) }
+{}
+
+/// Each reply to `explain` that is no refusal is a document that is verified: over pieces that stand, whose documents are at most
+/// `MAX_DOCUMENT` bytes long; and so each such reply in a run of whatever input.
+pub fn explained_bounds_are_verified()
+    ensures reply { (pieces : List PieceValue) (side : Side) (numbers : EntryNumbers) (r : Reply) → AreStanding pieces
+        → All (λ p. length p.document ≤ MAX_DOCUMENT) pieces → IsReply pieces (command.Explain side numbers) r
+        → is_refusal r ≡ false → verdict_of (reply_text r) ≡ Yes }
+    ensures run { (input output : List ℕ) (refused : Bool) (answers : IsRun input output refused) (k : ℕ) (side : Side)
+        (numbers : EntryNumbers) (r : Reply) → slice_get (commands_of (lines_of input)) k ≡ Some (command.Explain side numbers)
+        → slice_get answers.replies k ≡ Some r → is_refusal r ≡ false → verdict_of (reply_text r) ≡ Yes }
 {}

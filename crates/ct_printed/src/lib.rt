@@ -1,4 +1,4 @@
-//! What is printed of a bound, and what is answered of it: the document of an explanation is verified. Nothing rests on it.
+//! What is printed of a bound, and what is answered of it: the document of an explanation is verified. Only laws rest on it.
 #![tactic(auto)]
 
 mod verified;
