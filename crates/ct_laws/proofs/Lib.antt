@@ -7,3 +7,4 @@ mod DumpCommands
 mod DumpHeadings
 mod DumpPieces
 mod VerifiedReplies
+mod FirstFailures

@@ -1,3 +1,4 @@
 pub mod Examples
 pub mod Acceptance
 pub mod Sides
+pub mod FirstFailure

@@ -1,11 +1,12 @@
-//! Worked sessions and texts: what the definitions give for inputs whose replies are known; which columns the table has; and a law of
-//! every input: the dump of the pieces that it leads to leads back to them. Nothing rests on them; each would notice a definition that is
-//! slightly wrong.
+//! Worked sessions and texts: what the definitions give for inputs whose replies are known; which columns the table has; and laws
+//! of every input: the dump of the pieces that it leads to leads back to them, replies to `explain` are verified, and a verdict names the
+//! first failure. Nothing rests on them; each would notice a definition that is slightly wrong.
 #![tactic(auto)]
 
 mod dump;
 mod laws;
 mod replies;
+mod verdicts;
 
 pub use dump::dumps_lead_back;
 pub use laws::{
@@ -15,3 +16,4 @@ pub use laws::{
 pub use replies::{
     explained_bounds_are_shown, explained_bounds_are_verified, shown_lower_bounds_are_listed,
 };
+pub use verdicts::verdicts_name_the_first_failure;
