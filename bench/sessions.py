@@ -127,6 +127,18 @@ def dumped_words(size):
     return "".join(submit(f"w{i}", document) for i in range((size or 65536) // 4096)) + "dump\n"
 
 
+def dual(n, d, even):
+    """A document of a dual, f = 1, that rests on an upper bound at each distance."""
+    return f"kind = 'dual'\nn = {n}\nd = {d}\neven = {even}\nc = [1]\ny = {[[i, 1] for i in range(d, n + 1, 1 + (even == 'true'))]}\n"
+
+
+def over_duals(last):
+    """Five hundred duals, and then a piece that comes and goes so many times."""
+    kinds = [(n, d, even) for n in range(28, 3, -1) for d in range(3, n + 1) for even in ("false", "true")[:2 - d % 2]]
+    standing = "".join(submit(f"d{i}", dual(*kind)) for i, kind in enumerate(kinds[:500]))
+    return lambda size: standing + (submit("last", last) + "withdraw last\n") * (100 if size is None else size)
+
+
 def feeds(size):
     """Empty lines."""
     return "\n" * (size or 2 ** 24)
@@ -161,6 +173,8 @@ SESSIONS = {
     "withdrawals": withdrawals,
     "words_of_a_build": words_of_a_build,
     "dumped_words": dumped_words,
+    "duals": over_duals(dual(28, 3, "false")),
+    "duals_and_a_code": over_duals(cosets(27, 3, linear(27, 12))),
     "feeds": feeds,
     "shows": shows,
 }
