@@ -18,7 +18,7 @@ use Rattle.ct_codes.specs.declared.fault.CodeFault.TheVariants.{Weight as Weight
 use Rattle.ct_partitions.specs.declared.fault.TheConstants.{MAX_CLASSES}
 use Rattle.ct_partitions.specs.declared.fault.PartitionFault.TheVariants.{Size, Weight}
 use Rattle.ct_partitions.specs.Partition.{all_words, IsPartition, IsSoundPartition}
-use Rattle.ct_partitions.specs.Check.{class_at, counted, need, distance_at, is_close, size_fault, weight_fault, repeated_fault, close_fault, partition_fault}
+use Rattle.ct_partitions.specs.Check.{class_at, counted, need, distance_at, is_close, wrong_count, size_fault, weight_fault, repeated_fault, close_fault, partition_fault}
 use Rattle.ct_partitions.proofs.PairFaults.{between-le-need, needs_from_none, different_from_needs}
 
 -- two numbers are equal where the next ones are
@@ -216,6 +216,10 @@ size-none classes e = elim (cases_Bool (length classes == 0 || nat_lt MAX_CLASSE
     ]
   ]
 ]
+
+-- classes none of whose counts is wrong
+pub sizes_of_count : (classes : List (List ℕ)) → wrong_count classes ≡ None → HasSizes classes
+sizes_of_count classes right = size-none classes (ap (option_map Size) right)
 
 size_none_from : (classes : List (List ℕ)) → HasSizes classes → size_fault classes ≡ None
 size_none_from classes sizes =

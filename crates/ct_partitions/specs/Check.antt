@@ -34,13 +34,18 @@ is_close n d between classes i j = nat_lt (distance_at n classes i j) (need d be
 abbrev pub counted : ℕ → ℕ
 counted k = min k (2 ^ 64 - 1)
 
--- the number of classes is 0 or above its limit, or else a class is empty, or else the number of words is above its limit
-abbrev pub size_fault : List (List ℕ) → Option PartitionFault
-size_fault classes =
-    if length classes == 0 || nat_lt MAX_CLASSES (length classes) then Some (Size (length classes))
-    else if list_any (λ c. length c == 0) classes then Some (Size 0)
-    else if nat_lt MAX_WORDS (length (all_words classes)) then Some (Size (counted (length (all_words classes))))
+-- the count that is wrong: the number of classes where it is 0 or above its limit, or else 0 where a class is empty, or else the number of words
+-- where it is above its limit; none where there is none
+abbrev pub wrong_count : List (List ℕ) → Option ℕ
+wrong_count classes =
+    if length classes == 0 || nat_lt MAX_CLASSES (length classes) then Some (length classes)
+    else if list_any (λ c. length c == 0) classes then Some 0
+    else if nat_lt MAX_WORDS (length (all_words classes)) then Some (counted (length (all_words classes)))
     else None
+
+-- the fault of a wrong count
+abbrev pub size_fault : List (List ℕ) → Option PartitionFault
+size_fault classes = option_map Size (wrong_count classes)
 
 -- the first word that has not the weight of the entry
 abbrev pub weight_fault : ℕ → Option ℕ → List ℕ → Option PartitionFault

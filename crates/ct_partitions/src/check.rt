@@ -1,12 +1,13 @@
 //! Lists of words that are handed in, checked as the classes of a partition.
 
-ghost use Rattle.std.specs.Prelude.{◌≡◌, ◌≢◌, ◌==◌, ℕ, ◌^◌, ◌<◌, ◌≤◌, length, All, not, position, Some, None, IfOk, IfErr, OnOk};
+ghost use Rattle.std.specs.Prelude.{◌≡◌, ◌≢◌, ◌==◌, ℕ, ◌^◌, ◌<◌, ◌≤◌, length, All, not, position, Some, None, IfOk, IfErr, IfNone, OnOk};
 ghost use Rattle.std.specs.List.{list_any};
 ghost use Rattle.ct_words.specs.Word.{weight};
 ghost use Rattle.ct_codes.specs.Entry.{IsEntry};
 ghost use Rattle.ct_codes.specs.Pairs.{first_of};
+ghost use Rattle.ct_codes.specs.declared.fault.TheConstants.{MAX_WORDS};
 ghost use Rattle.ct_partitions.specs.Partition.{word_lists, all_words, IsSoundPartition};
-ghost use Rattle.ct_partitions.specs.Check.{class_at, counted, size_fault, weight_fault, repeated_fault, close_fault, partition_fault};
+ghost use Rattle.ct_partitions.specs.Check.{class_at, counted, wrong_count, weight_fault, repeated_fault, close_fault, partition_fault};
 
 use crate::close::first_close_places;
 use crate::fault::{MAX_CLASSES, PartitionFault};
@@ -40,16 +41,17 @@ pub fn check_partition(
         record { entry = entry; between = between; classes = word_lists classes.items }) }
     ensures sound { IfOk result IsSoundPartition }
 {
-    let fault = first_fault(alloc, entry, between, &classes)?;
+    let fault = partition_fault(alloc, entry, between, &classes)?;
     match fault {
         Some(fault) => Err(fault),
         None => Ok(Partition::from_classes(entry, between, classes)),
     }
 }
 
-/// The first reason why the lists are no classes of a partition.
+/// The first reason why the lists are no classes of a partition, as `check_partition` gives them; none where they are. `Err` is
+/// want of memory.
 #[tactic(auto, unfolding(crate::specs::Check::partition_fault))]
-fn first_fault(
+pub fn partition_fault(
     alloc: Global,
     entry: Entry,
     between: u32,
@@ -61,8 +63,8 @@ fn first_fault(
     requires words { All (λ x. x < 2 ^ entry.n) (all_words (word_lists classes.now)) }
     ensures { IfOk result (λ fault. fault ≡ partition_fault entry between (word_lists classes.now)) }
 {
-    if let Some(fault) = size_fault(classes) {
-        return Ok(Some(fault));
+    if let Some(count) = wrong_count(classes) {
+        return Ok(Some(PartitionFault::Size(count)));
     }
     let words = joined(alloc, classes)?;
     if let Some(fault) = weight_fault(&words, entry.w) {
@@ -71,20 +73,22 @@ fn first_fault(
     Ok(pair_fault(&words, classes, entry.d, between))
 }
 
-/// Whether there are too few classes or too many, an empty class, or too many words.
-fn size_fault(classes: &[Vec<Word>]) -> Option<PartitionFault>
-    ensures { result ≡ size_fault (word_lists classes.now) }
+/// The count of the classes that is wrong: their number where it is 0 or above `MAX_CLASSES`; or else 0 where a class is
+/// empty; or else the number of words where it is above `MAX_WORDS`.
+pub fn wrong_count(classes: &[Vec<Word>]) -> Option<u64>
+    ensures count { result ≡ wrong_count (word_lists classes.now) }
+    ensures few { IfNone result (length (all_words (word_lists classes.now)) ≤ MAX_WORDS) }
 {
     let count = classes.len();
     if count == 0 || count > MAX_CLASSES {
-        return Some(PartitionFault::Size(count as u64));
+        return Some(count as u64);
     }
     if has_empty_class(classes) {
-        return Some(PartitionFault::Size(0));
+        return Some(0);
     }
     let words = word_count(classes);
     if words > MAX_WORDS as u64 {
-        return Some(PartitionFault::Size(words));
+        return Some(words);
     }
     None
 }
@@ -102,7 +106,7 @@ fn has_empty_class(classes: &[Vec<Word>]) -> bool
 }
 
 /// How many words the classes have, as far as 64 bits count.
-fn word_count(classes: &[Vec<Word>]) -> u64
+pub fn word_count(classes: &[Vec<Word>]) -> u64
     ensures { result ≡ counted (length (all_words (word_lists classes.now))) }
 {
     let mut count: u64 = 0;

@@ -9,7 +9,7 @@ mod listing;
 mod partition;
 mod product;
 
-pub use check::check_partition;
+pub use check::{check_partition, partition_fault, word_count, wrong_count};
 pub use fault::{MAX_CLASSES, PartitionFault};
 pub use laws::{
     faultless_lists_are_partitions, known_partitions, known_products, products_are_codes,

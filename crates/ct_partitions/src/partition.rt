@@ -27,7 +27,7 @@ impl Model for Partition {
 
 impl Partition {
     /// The partition of classes that are one. Nothing is tested, and no memory taken.
-    pub(crate) fn from_classes(entry: Entry, between: u32, classes: Vec<Vec<Word>>) -> Partition
+    pub fn from_classes(entry: Entry, between: u32, classes: Vec<Vec<Word>>) -> Partition
         requires partition { IsSoundPartition
             (record { entry = entry; between = between; classes = word_lists classes.items }) }
         ensures value { result ≡ record { entry = entry; between = between; classes = word_lists classes.items } }
