@@ -393,6 +393,26 @@ def write_listed(rows):
     rows.row("a code is listed", submit("nr", document) + "list 16 6\n", f"accepted nr size 256\ncode 16 6 size {len(listed)}\n{lines}")
 
 
+def write_realistic(rows):
+    """Four pieces of evidence with some bounds, a dump and a column; and that dump in a session of its own, before the same column."""
+    documents = {
+        "golay": cosets(24, 8, GOLAY),
+        "octads": build("select", 24, 8, "golay", f"w=8\nby='{'0' * 24}'\n"),
+        "nr": cosets(16, 6, [text(x, 16) for x in REED_MULLER], [text(x, 16) for x in NORDSTROM_ROBINSON]),
+        "d13": dual(*DUALS[0][1:]),
+    }
+    accepted = "accepted golay size 4096\naccepted octads size 759\naccepted nr size 256\naccepted d13\n"
+    table = bounds({(24, 8): 4096, (24, 8, 8): 759, (16, 6): 256}, DUALS[:1])
+    entries = [(24, 8), (23, 7), (24, 8, 8), (23, 8, 7), (22, 8, 6), (21, 8, 5), (20, 8, 4), (16, 6), (15, 5), (13, 6), (14, 6), (15, 6)]
+    shows = "".join(f"show {' '.join(map(str, e))}\n" for e in entries)
+    column = "".join(line(table, n, 6) for n in LENGTHS)
+    pieces = (f"submit {name} lines {document.count(chr(10))}\n{document}" for name, document in documents.items())
+    dump = f"# dump of {len(documents)} pieces\n" + "".join(pieces)
+    session = "".join(submit(name, document) for name, document in documents.items()) + shows + "dump\ntable 6\n"
+    rows.row("codes and a dual, dumped", session, accepted + "".join(line(table, *e) for e in entries) + dump + column)
+    rows.row("that dump of codes and a dual", dump + "table 6\n", accepted + column)
+
+
 def write_duals(rows, asked):
     """The whole table over duals and the octads, while the duals come and once they are gone."""
     table = bounds({(24, 8): 4096, (24, 8, 8): 759}, DUALS)
@@ -561,6 +581,7 @@ def main():
     rows = Rows()
     write_codes(rows)
     write_listed(rows)
+    write_realistic(rows)
     table = write_tables(rows)
     write_orders(rows, table)
     write_long_lines(rows, table)
