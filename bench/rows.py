@@ -179,11 +179,10 @@ def cosets(n, d, basis, representatives=()):
 
 
 def dual(n, d, w, c, y):
-    """A document of a dual."""
+    """A document of a dual, of even distances alone where it has no weight."""
     if w is not None:
         return f"kind='jdual'\nn={n}\nd={d}\nw={w}\nc={c}\n"
-    even = "even=true\n" if n < 21 else ""
-    return f"kind='dual'\nn={n}\nd={d}\n{even}c={c}\ny={[list(pair) for pair in y.items()]}\n"
+    return f"kind='dual'\nn={n}\nd={d}\neven=true\nc={c}\ny={[list(pair) for pair in y.items()]}\n"
 
 
 def build(op, n, d, part, more=""):
@@ -261,7 +260,7 @@ LINEAR = [
 ]
 
 # Duals of Delsarte's linear program, found by the simplex method in fractions (examples/duals.session): id, length, distance, weight,
-# multipliers and allowances. Those of an even distance without weight speak of even distances alone, but for the last.
+# multipliers and allowances. Those without weight are of an even distance, and speak of even distances alone.
 DUALS = [
     ("d13", 13, 6, None, [5, 1, 1], {10: 16, 12: 48}),
     ("k16", 16, 6, None, [60, 60, 18, 12, 3], {}),
