@@ -8,6 +8,7 @@ use Rattle.ct_finder.specs.declared.ending.Ending.TheVariants.{Least, Turns, Wid
 use Rattle.ct_finder.specs.declared.found.Stop.{Stop}
 use Rattle.ct_finder.specs.declared.found.Stop.TheVariants as stop
 
+-- the end of a run, with the multipliers of the dual that its cost row gives
 abbrev pub ending_of : List Column → ℕ → End → Ending
 ending_of cs degree (LeastEnd cost) = Least (multipliers_of cs degree cost)
 ending_of cs degree TurnsEnd = Turns

@@ -10,10 +10,11 @@ euclid (suc n) a b = cond (b == 0) a (euclid n b (a % b))
 abbrev pub gcd : ℕ → ℕ → ℕ
 gcd a b = euclid (suc b) a b
 
--- the greatest number that divides each entry of a row, 1 where each is 0
+-- the greatest number that divides each entry of a row, 0 where each is 0
 abbrev pub gcd_of : List ℤ → ℕ
 gcd_of row = fold (λ g z. gcd (unsigned_abs z) g) 0 row
 
+-- the same, at least 1: what a row is divided by
 abbrev pub divisor : List ℤ → ℕ
 divisor row = cond (gcd_of row == 0) 1 (gcd_of row)
 

@@ -29,11 +29,12 @@ abbrev pub turned_at : ℕ → Option ℕ → Tableau → Step
 turned_at e None t = goes t
 turned_at e (Some i) t = unless_wide (first_wide (turned e i t)) (turned e i t)
 
--- the next turn, or the end before it
+-- the next turn at a column that may enter, or the end before it where none does
 abbrev pub step_at : Option ℕ → Tableau → Step
 step_at None t = ended (Least t.cost)
 step_at (Some e) t = turned_at e (pivot_row e t) t
 
+-- the next turn at the first column that may enter, or the end before it
 abbrev pub step : List Column → Tableau → Step
 step cs t = step_at (entering cs t.cost) t
 

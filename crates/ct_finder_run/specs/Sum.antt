@@ -21,6 +21,7 @@ abbrev pub next_at : ℕ → Option ℕ → Tableau → Tableau
 next_at e None t = t
 next_at e (Some i) t = turned e i t
 
+-- the tableau after a turn at the column that enters, where one does
 abbrev pub next_from : Option ℕ → Tableau → Tableau
 next_from None t = t
 next_from (Some e) t = next_at e (pivot_row e t) t

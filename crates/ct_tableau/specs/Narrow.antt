@@ -2,5 +2,6 @@
 use Rattle.std.specs.Prelude.{◌≡◌, false, List, All, ℤ}
 use Rattle.ct_finder_run.specs.Turn.{is_wide}
 
+-- no entry of the row is wide
 abbrev pub AreNarrow : List ℤ → Type 0
 AreNarrow row = All (λ z. is_wide z ≡ false) row

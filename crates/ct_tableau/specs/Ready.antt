@@ -9,6 +9,7 @@ use Rattle.ct_tableau.specs.declared.tableau.Tableau.{Tableau}
 use Rattle.ct_tableau.specs.declared.turns.Ending.{Ending}
 use Rattle.ct_tableau.specs.declared.turns.Ending.TheVariants.{Least, Turns, Wide}
 
+-- a tableau as the definitions of the run see it
 abbrev pub seen : Tableau → TableauOf
 seen t = record { rows = t.rows.items; basics = t.basics.items; cost = t.cost }
 

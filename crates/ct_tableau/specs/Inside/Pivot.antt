@@ -2,6 +2,7 @@
 use Rattle.std.specs.Prelude.{ℕ, Bool, ◌&&◌, List, [], get_or, Option, Some, None, ℤ}
 use Rattle.ct_finder_run.specs.Turn.{is_candidate, comes_before}
 
+-- the row at a place, with its basic column; an empty one where there is none
 abbrev pub line_at : List (List ℤ × ℕ) → ℕ → List ℤ × ℕ
 line_at lines i = get_or lines i ([], 0)
 
