@@ -4,6 +4,7 @@ pub mod CheckLemmas
 pub mod BoundLemmas
 pub mod DigitCodes
 mod NearLemmas
+mod WithinLemmas
 mod RowLemmas
 pub mod BlockLemmas
 pub mod SpanLemmas

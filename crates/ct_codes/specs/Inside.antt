@@ -4,3 +4,5 @@ pub mod Translated
 pub mod Rows
 pub mod First
 pub mod Span
+pub mod Across
+pub mod Within

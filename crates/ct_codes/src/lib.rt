@@ -1,6 +1,7 @@
 //! Codes of the table: lists of words that are checked for length, difference, distance and weight.
 #![tactic(auto)]
 
+mod across;
 mod check;
 mod choices;
 mod claim;
@@ -17,6 +18,7 @@ mod rows;
 mod scheme;
 mod span;
 
+pub use across::first_close_across;
 pub use check::check_words;
 pub use claim::{Claim, Side};
 pub use code::{Code, MAX_CODE_DISTANCE};
