@@ -83,7 +83,7 @@ convolution-scale_left c f g (suc k) =
     omega (arith, ints)
 
 -- two factors exchanged
-swap_factors : (a c b : ℤ) → a *ℤ (c *ℤ b) ≡ c *ℤ (a *ℤ b)
+pub swap_factors : (a c b : ℤ) → a *ℤ (c *ℤ b) ≡ c *ℤ (a *ℤ b)
 swap_factors a c b = sym (int_mul_assoc a c b) ∙ ap (λ z. z *ℤ b) (int_mul_comm a c) ∙ int_mul_assoc c a b
 
 -- and so does one of the second sequence
@@ -105,7 +105,7 @@ one_more : (j : ℕ) (z : ℤ) → pos (suc j) *ℤ z ≡ z +ℤ (pos j *ℤ z)
 one_more j z = omega (arith, ints)
 
 -- no times a number
-none_of : (z y : ℤ) → (pos 0 *ℤ z) *ℤ y ≡ pos 0
+pub none_of : (z y : ℤ) → (pos 0 *ℤ z) *ℤ y ≡ pos 0
 none_of z y = int_mul_assoc (pos 0) z y ∙ omega (arith, ints)
 
 -- k times a convolution, by the places of the two factors of each term

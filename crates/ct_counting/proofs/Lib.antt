@@ -10,6 +10,7 @@ pub mod Alternating
 pub mod Products
 pub mod Convolutions
 pub mod SignedBinomials
+pub mod BinomialSteps
 pub mod PairTotals
 pub mod PartTotals
 pub mod Characters
