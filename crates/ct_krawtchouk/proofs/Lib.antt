@@ -1,1 +1,2 @@
-pub mod KrawtchoukSums
+pub mod KrawtchoukSteps
+pub mod Quotients
