@@ -11,6 +11,7 @@ pub mod Products
 pub mod Convolutions
 pub mod SignedBinomials
 pub mod BinomialSteps
+pub mod ZeroTerms
 pub mod PairTotals
 pub mod PartTotals
 pub mod Characters
