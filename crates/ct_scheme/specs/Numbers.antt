@@ -7,3 +7,7 @@ use Rattle.ct_counting.specs.Binomials.{choose, factorial}
 unfoldable pub johnson : ℕ → ℕ → ℕ → ℕ → ℤ
 johnson n w k i =
     total_below (λ j. sign j *ℤ pos (choose i j * choose i j * factorial j * choose (w - i) (k - j) * choose (n - w - i) (k - j) * factorial (k - j))) (suc k)
+
+-- the term of j in this sum, without its sign
+abbrev pub term_count : ℕ → ℕ → ℕ → ℕ → ℕ → ℕ
+term_count n w k i j = choose i j * choose i j * factorial j * choose (w - i) (k - j) * choose (n - w - i) (k - j) * factorial (k - j)

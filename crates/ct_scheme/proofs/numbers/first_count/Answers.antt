@@ -1,7 +1,7 @@
 -- The product of the two numbers of matchings is the count of the sum, which is below 2^47.
 use Rattle.std.proofs.Common.{ap₂, ◌∙◌, ◌*◌, arith}
 use Rattle.ct_scheme.proofs.JohnsonSums.{IsWithin, count-is, count-small}
-use Rattle.ct_scheme.proofs.numbers.both_matchings.Goals as goal
+use Rattle.ct_scheme.proofs.numbers.first_count.Goals as goal
 
 pub overflow_mul-result : goal.overflow_mul-result
 overflow_mul-result c =
