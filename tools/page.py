@@ -26,29 +26,36 @@ body { font: 16px/1.5 system-ui, sans-serif; color: #16202a; background: #fff; m
 h1 { font-size: 1.5rem; margin: 0 0 .5rem; } h2 { font-size: 1.2rem; margin: 2rem 0 .5rem; }
 p, ul { max-width: 46rem; } nav a { display: inline-block; padding: .25rem .5rem; margin: 0 .25rem .25rem 0; border: 1px solid var(--line); border-radius: .25rem; }
 a { color: #0b4a8f; } a:focus-visible, summary:focus-visible, .scroll:focus-visible { outline: 3px solid #0b4a8f; outline-offset: 1px; }
-.scroll { overflow-x: auto; width: fit-content; max-width: 100%; border: 1px solid var(--line); border-width: 1px 0 0 1px; }
+.scroll { width: fit-content; max-width: 100%; border: 1px solid var(--line); border-width: 1px 0 0 1px; }
 table { border-collapse: separate; border-spacing: 0; font-variant-numeric: tabular-nums; font-size: .85rem; }
 th, td { padding: .2rem .45rem; border-right: 1px solid var(--line); border-bottom: 1px solid var(--line); text-align: right; white-space: nowrap; }
-thead th { background: #eef1f4; position: sticky; top: 0; } tbody th { background: #eef1f4; position: sticky; left: 0; z-index: 1; }
+thead th { background: #eef1f4; position: sticky; top: 0; z-index: 2; } tbody th { background: #eef1f4; position: sticky; left: 0; z-index: 1; }
+thead th:first-child { left: 0; z-index: 3; } td:empty { border-color: #e3e7eb; }
+td { scroll-margin: 40vh 6rem 6rem; } details, li { scroll-margin-top: 1rem; }
 td a { color: inherit; text-decoration: none; display: block; } td a:hover { text-decoration: underline; }
 td:target, details:target > summary { outline: 3px solid #0b4a8f; outline-offset: -3px; }
 .equal { background: var(--equal); } .close { background: var(--close); } .wide { background: var(--wide); font-style: italic; }
 .close a, .wide a { line-height: 1.25; } .trivial { color: #59646f; }
 .key { display: flex; flex-wrap: wrap; gap: .5rem 1.5rem; max-width: none; } .key > span { display: flex; align-items: center; gap: .5rem; }
 .key span span { padding: .1rem .5rem; border: 1px solid var(--line); font-size: .85rem; line-height: 1.25; text-align: right; }
-details { margin: .15rem 0; } details details { margin-left: 1rem; } summary { cursor: pointer; padding: .15rem 0; }
+details { margin: .15rem 0; } details details { margin-left: 1rem; } summary { cursor: pointer; padding: .15rem .25rem; }
 pre { font-size: .8rem; overflow-x: auto; margin: .25rem 0 .5rem; padding: .5rem; background: #f5f7f9; border-left: 3px solid var(--line); }
 dl { display: grid; grid-template-columns: max-content 1fr; gap: .1rem 1rem; overflow-wrap: anywhere; } dt { font-weight: 600; } dd { margin: 0; }
+@media (max-width: 64rem) { .scroll { overflow: auto; max-height: 85vh; } td { scroll-margin: 6rem; } }
 @media (max-width: 40rem) { body { padding: .5rem; font-size: 15px; } table { font-size: .78rem; } th, td { padding: .3rem .35rem; } dl { display: block; } }
-@media print { body { max-width: none; font-size: 9pt; padding: 0; } .scroll { overflow: visible; border: 0; break-inside: avoid; } table { font-size: 7pt; }
+@media print { body { max-width: none; font-size: 9pt; padding: 0; } .scroll { overflow: visible; max-height: none; border-width: 1px 0 0 1px; break-inside: avoid; } table { font-size: 7pt; }
   th, td { padding: 1pt 2pt; print-color-adjust: exact; -webkit-print-color-adjust: exact; } thead th, tbody th { position: static; }
   nav { display: none; } a { color: inherit; } h2 { break-after: avoid; } }
 """
 
-# Opens what an anchor leads to, in browsers that don't.
+# Opens what an anchor leads to, in browsers that don't, and shows all of a table that is scrolled by itself, so that its header is seen.
 SCRIPT = """
-const reveal = () => { for (let e = document.getElementById(location.hash.slice(1)); e; e = e.parentElement) if (e.tagName === "DETAILS") e.open = true; };
-addEventListener("hashchange", reveal); reveal();
+const reveal = () => {
+  const end = document.getElementById(location.hash.slice(1)), box = end && end.closest(".scroll");
+  for (let e = end; e; e = e.parentElement) if (e.tagName === "DETAILS") e.open = true;
+  if (box && box.scrollHeight > box.clientHeight) box.scrollIntoView({ block: "nearest" });
+};
+addEventListener("hashchange", reveal); addEventListener("load", reveal); reveal();
 """
 
 

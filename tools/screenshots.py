@@ -1,0 +1,160 @@
+#!/usr/bin/env python3
+"""Makes pictures of a page as a browser shows it, and says what in it is wrong to the eye, as far as it can be measured.
+
+    tools/page.py examples/library/*.session > table.html
+    tools/screenshots.py table.html FOLDER [VIEW ..]
+
+FOLDER gets PNG files: the page on a desktop and a phone, at its top and where a cell is linked to, with a derivation open, with the keyboard's
+focus, as readers see it who don't tell red or green apart, and on paper. Said, and then the status is 1: a page wider than its window, text
+whose contrast to its ground is below 4.5, a link's end that a header hides, a focus without an outline. Wants Chromium; without one nothing is done."""
+
+import base64
+import json
+import os
+import shutil
+import subprocess
+import sys
+import tempfile
+from pathlib import Path
+
+DESKTOP, PHONE, PAPER = (1280, 900, 1, False), (390, 844, 2, True), (740, 1000, 1, False)
+
+# Each: its name, the window, where the page is opened at, the medium, the vision, and what is done before the picture.
+VIEWS = [
+    ("desktop", DESKTOP, "", "", "none", ""),
+    ("desktop-cell", DESKTOP, "#a16-6", "", "none", ""),
+    ("desktop-derivation", DESKTOP, "#b24-8-8", "", "none", ""),
+    ("desktop-pieces", DESKTOP, "#pieces", "", "none", ""),
+    ("desktop-focus", DESKTOP, "#plain", "", "none", "document.querySelector('#a16-6 a').focus({focusVisible: true})"),
+    ("desktop-protanopia", DESKTOP, "#plain", "", "protanopia", ""),
+    ("desktop-deuteranopia", DESKTOP, "#plain", "", "deuteranopia", ""),
+    ("desktop-tritanopia", DESKTOP, "#plain", "", "tritanopia", ""),
+    ("desktop-grey", DESKTOP, "#plain", "", "achromatopsia", ""),
+    ("phone", PHONE, "", "", "none", ""),
+    ("phone-cell", PHONE, "#a16-6", "", "none", ""),
+    ("phone-far-cell", PHONE, "#a28-6-14", "", "none", ""),
+    ("phone-derivation", PHONE, "#b24-8-8", "", "none", ""),
+    ("phone-pieces", PHONE, "#pieces", "", "none", ""),
+    ("paper", PAPER, "#plain", "print", "none", ""),
+    ("paper-weights", PAPER, "#weight4", "print", "none", ""),
+]
+
+# What the page says of itself: how wide it is, which texts have too little contrast, and what stands at a link's end.
+MEASURE = r"""
+(() => {
+  const said = [];
+  const wide = document.documentElement.scrollWidth - document.documentElement.clientWidth;
+  if (wide > 0) said.push(`the page is ${wide} wider than its window`);
+  const channels = c => (c.match(/[\d.]+/g) || []).map(Number);
+  const light = c => { const l = c.slice(0, 3).map(v => (v /= 255) <= .04045 ? v / 12.92 : ((v + .055) / 1.055) ** 2.4); return .2126 * l[0] + .7152 * l[1] + .0722 * l[2]; };
+  const ground = e => { for (; e; e = e.parentElement) { const c = channels(getComputedStyle(e).backgroundColor); if (c.length == 3 || c[3] > 0) return c; } return [255, 255, 255]; };
+  const low = new Map();
+  for (const e of document.querySelectorAll("body *")) {
+    if (![...e.childNodes].some(t => t.nodeType == 3 && t.data.trim())) continue;
+    const [a, b] = [light(channels(getComputedStyle(e).color)), light(ground(e))].sort((x, y) => y - x);
+    const contrast = (a + .05) / (b + .05);
+    if (contrast < 4.5) low.set(`${e.tagName}.${e.className} ${contrast.toFixed(2)}`, e.textContent.slice(0, 20));
+  }
+  for (const [what, text] of low) said.push(`contrast of ${what}: ${text}`);
+  const end = location.hash && document.getElementById(location.hash.slice(1));
+  if (end) {
+    const box = end.getBoundingClientRect(), x = box.left + Math.min(box.width / 2, 20), y = box.top + Math.min(box.height / 2, 10);
+    const top = document.elementFromPoint(x, y);
+    if (!top) said.push(`${location.hash} is out of sight at ${Math.round(x)}, ${Math.round(y)}`);
+    else if (!end.contains(top) && !top.contains(end)) said.push(`${location.hash} lies under ${top.tagName} ${top.textContent.slice(0, 20)}`);
+  }
+  const focus = document.activeElement;
+  if (focus && focus != document.body && getComputedStyle(focus).outlineStyle == "none") said.push(`the focus on ${focus.tagName} has no outline`);
+  return said;
+})()
+"""
+
+
+class Browser:
+    """A browser without a window, which is spoken to by two pipes."""
+
+    def __init__(self, program, folder):
+        to_read, self.to = os.pipe()
+        self.of, to_write = os.pipe()
+        # The browser reads commands from file 3 and answers on file 4.
+        words = ["sh", "-c", f'exec "$@" 3<&{to_read} 4>&{to_write}', "sh", program, "--headless=new", "--no-sandbox", "--disable-gpu",
+                 "--hide-scrollbars", "--remote-debugging-pipe", f"--user-data-dir={folder}", "about:blank"]
+        self.child = subprocess.Popen(words, pass_fds=(to_read, to_write), stdout=subprocess.DEVNULL, stderr=subprocess.DEVNULL)
+        os.close(to_read)
+        os.close(to_write)
+        self.number, self.held, self.session = 0, b"", None
+
+    def message(self):
+        """The next message of the browser."""
+        while b"\0" not in self.held:
+            more = os.read(self.of, 1 << 20)
+            if not more:
+                sys.exit("screenshots: the browser ended")
+            self.held += more
+        first, self.held = self.held.split(b"\0", 1)
+        return json.loads(first)
+
+    def ask(self, method, **params):
+        """The browser's answer to a command."""
+        self.number += 1
+        command = {"id": self.number, "method": method, "params": params} | ({"sessionId": self.session} if self.session else {})
+        os.write(self.to, json.dumps(command).encode() + b"\0")
+        while True:
+            told = self.message()
+            if told.get("id") == self.number:
+                if "error" in told:
+                    sys.exit(f"screenshots: {method}: {told['error']['message']}")
+                return told["result"]
+
+    def wait(self, event):
+        """Waits until the browser tells of an event."""
+        while self.message().get("method") != event:
+            pass
+
+
+def show(browser, page, view, folder):
+    """Makes a view's picture, and gives what is wrong in it."""
+    name, (width, height, scale, mobile), place, medium, vision, before = view
+    browser.ask("Emulation.setDeviceMetricsOverride", width=width, height=height, deviceScaleFactor=scale, mobile=mobile)
+    browser.ask("Emulation.setEmulatedMedia", media=medium)
+    browser.ask("Emulation.setEmulatedVisionDeficiency", type=vision)
+    browser.ask("Page.navigate", url="about:blank")
+    browser.ask("Page.navigate", url=page.resolve().as_uri() + place)
+    browser.wait("Page.loadEventFired")
+    browser.ask("Runtime.evaluate", expression=before + "; new Promise(done => setTimeout(done, 300))", awaitPromise=True)
+    picture = browser.ask("Page.captureScreenshot", format="png")["data"]
+    (folder / f"{name}.png").write_bytes(base64.b64decode(picture))
+    return browser.ask("Runtime.evaluate", expression=MEASURE, returnByValue=True)["result"]["value"]
+
+
+def main():
+    wanted = [view for view in VIEWS if len(sys.argv) < 4 or view[0] in sys.argv[3:]]
+    program = next(filter(None, map(shutil.which, ("chromium", "chromium-browser", "google-chrome"))), None)
+    if len(sys.argv) < 3:
+        sys.exit(__doc__)
+    if not program:
+        print("screenshots: no chromium is there: nothing was done", file=sys.stderr)
+        return
+    page, folder = map(Path, sys.argv[1:3])
+    folder.mkdir(parents=True, exist_ok=True)
+    wrong = 0
+    with tempfile.TemporaryDirectory(ignore_cleanup_errors=True) as home:
+        browser = Browser(program, home)
+        target = browser.ask("Target.createTarget", url="about:blank")["targetId"]
+        browser.session = browser.ask("Target.attachToTarget", targetId=target, flatten=True)["sessionId"]
+        browser.ask("Page.enable")
+        for view in wanted:
+            for said in show(browser, page, view, folder):
+                print(f"{view[0]}: {said}")
+                wrong += 1
+        paper = browser.ask("Page.printToPDF", preferCSSPageSize=True, printBackground=False)["data"]
+        (folder / "print.pdf").write_bytes(base64.b64decode(paper))
+        browser.session = None
+        browser.ask("Browser.close")
+        browser.child.wait()
+    print(f"{len(wanted)} pictures, {wrong} faults")
+    sys.exit(bool(wrong))
+
+
+if __name__ == "__main__":
+    main()
