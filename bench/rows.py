@@ -329,9 +329,9 @@ class Rows:
         fields = {"name": name, "input": input, "output": output, **files, "times": times if times > 1 else ""}
         self.parts.append(fields)
 
-    def row(self, name, input="", output="", status="Done", after=(), reads=(65536,)):
+    def row(self, name, input="", output="", status="Done", after=(), reads=(65536,), **devices):
         """A row."""
-        self.rows.append({"name": name, "after": list(after), "reads": list(reads), "input": input, "status": status, "output": output})
+        self.rows.append({"name": name, "after": list(after), "reads": list(reads), **devices, "input": input, "status": status, "output": output})
 
     def file(self, name, contents):
         """A file beside."""
@@ -408,8 +408,40 @@ def write_realistic(rows):
     pieces = (f"submit {name} lines {document.count(chr(10))}\n{document}" for name, document in documents.items())
     dump = f"# dump of {len(documents)} pieces\n" + "".join(pieces)
     session = "".join(submit(name, document) for name, document in documents.items()) + shows + "dump\ntable 6\n"
-    rows.row("codes and a dual, dumped", session, accepted + "".join(line(table, *e) for e in entries) + dump + column)
+    output = accepted + "".join(line(table, *e) for e in entries) + dump + column
+    rows.row("codes and a dual, dumped", session, output)
     rows.row("that dump of codes and a dual", dump + "table 6\n", accepted + column)
+    write_failing_devices(rows, session, output)
+
+
+def write_failing_devices(rows, session, output):
+    """The same session where the first reads of seven bytes, and writes of sixteen, fail one by one: what was written before stays."""
+    assert "end\n" not in session[:7 * 40] and len(output) > 16 * 40
+    rows.part("codes and a dual", session)
+    for call in range(41):
+        rows.row(f"codes and a dual: read {call} of seven bytes fails", status="ReadFault", after=["codes and a dual"], reads=[7], failing_reads=[call])
+    for call in range(41):
+        rows.row(f"codes and a dual: write {call} of sixteen bytes fails", output=output[:16 * call], status="WriteFault",
+                 after=["codes and a dual"], writes=16, failing_writes=[call])
+
+
+def write_cuts(rows):
+    """Six words and their bound, cut at each byte. Plotkin's bound at (10,6) is 2·⌊6/2⌋."""
+    words = ["1111111111", "1111000000", "1000111000", "0100100110", "0010010101", "0001001011"]
+    document = f'submit hexa\nkind = "words"\nn = 10\nd = 6\nwords = {words}\n'.replace("'", '"')
+    show, shown = "show 10 6\n", "A(10,6) = 6\n"
+    accepted = "accepted hexa size 6\n"
+    whole = document + "end\n" + show
+    for length in range(len(whole) + 1):
+        cut = whole[:length]
+        rest = cut[len(document) + 4:]
+        if len(cut) < len("submit"):
+            output = "refused command\n" if cut else ""
+        elif len(cut) < len(document + "end"):
+            output = "refused cut\n"
+        else:
+            output = accepted + (shown if rest.strip() == show.strip() else "refused command\n" if rest else "")
+        rows.row(f"six words, cut after {length} bytes", cut, output, "Refused" if "refused" in output else "Done")
 
 
 def write_duals(rows, asked):
@@ -582,6 +614,7 @@ def main():
     write_listed(rows)
     write_realistic(rows)
     table = write_tables(rows)
+    write_cuts(rows)
     write_orders(rows, table)
     write_long_lines(rows, table)
     write_sizes(rows, table)
