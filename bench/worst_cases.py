@@ -167,7 +167,7 @@ def equal_last(part):
 
 
 def one_weight(part):
-    """As many words of one weight as may be; the last two are too close."""
+    """As many words of one weight as may be."""
     list_ = [x for x in span(linear(24, 18)) if x.bit_count() == 12][:16384 // part]
     return submit("a", words(24, 4, list_, 12))
 
@@ -197,11 +197,11 @@ def partition_at_the_limit(part):
 
 
 def product_of_pairs(count):
-    """A product of so many pairs. Pair i has words of weight 4i, or of as many as the length allows, so that pairs are far enough apart."""
+    """A product of so many pairs, of weights that are 2 apart as far as the length allows: then some are alike, and the product is refused."""
     def make(_):
         half, out, names = 14, [], []
         for i in range(count):
-            weight = i % (half + 1)
+            weight = 2 * i % (half + 2)
             first, second = (1 << weight) - 1, (1 << half - weight) - 1 if weight <= half else 0
             for side, word in (("x", first), ("y", second)):
                 out.append(submit(f"{side}{i}", partition(half, 4, 4, [[word]], word.bit_count())))
@@ -373,14 +373,14 @@ CASES = {
     "words": ("session", pairs(14), False, "16,384 words, accepted"),
     "words_close": ("session", pairs(14, True), False, "16,384 words, the last two too close"),
     "words_equal": ("session", equal_last, False, "16,384 words, the last two equal"),
-    "words_of_one_weight": ("session", one_weight, False, "16,384 words of weight 12 (close)"),
+    "words_of_one_weight": ("session", one_weight, False, "16,384 words of weight 12"),
     "cosets": ("session", cosets_at_the_limit, False, "180 cosets of 1,024 words"),
     "long_basis": ("session", long_basis, False, "23 basis words"),
     "cosets_close": ("session", close_last, False, "24 basis words, their sum alone too close"),
-    "partition": ("session", partition_at_the_limit, False, "16,384 words in 4,096 classes (close)"),
+    "partition": ("session", partition_at_the_limit, False, "16,384 words in 4,096 classes"),
     "product": ("session", large_product, False, "a product of one pair of 256 words in classes"),
-    "product_of_29_pairs": ("session", product_of_pairs(29), False, "a product of 29 pairs (some twice: refused)"),
-    "product_of_15_pairs": ("session", product_of_pairs(15), False, "a product of 15 pairs"),
+    "product_of_29_pairs": ("session", product_of_pairs(29), False, "a product of 29 pairs, refused"),
+    "product_of_8_pairs": ("session", product_of_pairs(8), False, "a product of 8 pairs"),
     "great_builds": ("session", chain_of_great_builds, True, "40 builds of 262,144 words, three stored"),
     "refused_builds": ("session", refused_builds, True, "20 builds over 262,144 words, with no word"),
     "duals": ("session", greatest_duals, True, "1,000 duals of the greatest multipliers"),
