@@ -1,6 +1,6 @@
 //! What the check of a large code costs, for comparison: `session` prints a session that submits 16,384 words of length 24 at distance at
-//! least 4, for distance 3, and `session-loop` times a plain double loop over the same words. `late` and `late-loop` do so for words of which the
-//! last two alone are close, `weighted` and `weighted-loop` for 16,384 words of length 28 and weight 14 at distance 4, and `cosets` and
+//! least 4, for distance 3, `session-loop` times a plain double loop over the same words, and `session-rows` the search that `first_close_pair` does,
+//! written plainly. `late`, `late-loop` and `late-rows` do so for words of which the last two alone are close, `weighted` and `weighted-loop` for 16,384 words of length 28 and weight 14 at distance 4, and `cosets` and
 //! `cosets-loop` for five cosets of a linear code of 2^20 words, whose check takes 15,728,640 comparisons.
 
 use std::hint::black_box;
@@ -109,6 +109,46 @@ fn time_loop(words: &[u32]) {
     println!("plain loop: {pair:?} after {:.2} s", start.elapsed().as_secs_f64());
 }
 
+fn time_rows(words: &[u32]) {
+    let start = Instant::now();
+    let pair = first_close_pair_by_rows(black_box(words), black_box(3));
+    println!("plain rows: {pair:?} after {:.3} s", start.elapsed().as_secs_f64());
+}
+
+/// Block after block of 64 words, each against all words before the first of the least pair so far: of each hexadecimal digit of the block's words,
+/// and each value of such a digit, a row has how many binary digits differ, and eight rows add up to the distances from a word.
+fn first_close_pair_by_rows(words: &[u32], d: u32) -> Option<(usize, usize)> {
+    let limit = d.min(33) as u8;
+    let mut rows = [[[0u8; 64]; 16]; 8];
+    let mut least: Option<(usize, usize)> = None;
+    for (block, later) in words.chunks(64).enumerate() {
+        let start = block * 64;
+        for (digit, values) in rows.iter_mut().enumerate() {
+            for (value, row) in values.iter_mut().enumerate() {
+                for (number, word) in row.iter_mut().zip(later) {
+                    *number = ((word >> (4 * digit) & 15) ^ value as u32).count_ones() as u8;
+                }
+            }
+        }
+        let first = least.map_or(start, |pair| pair.0);
+        let across = words[..first].iter().enumerate().find_map(|(i, word)| {
+            let mut distances = [0u8; 64];
+            for (digit, values) in rows.iter().enumerate() {
+                let row = &values[(word >> (4 * digit) & 15) as usize];
+                distances.iter_mut().zip(row).for_each(|(sum, number)| *sum += number);
+            }
+            let close = |distances: &[u8]| distances.iter().position(|distance| *distance < limit);
+            let far = distances.iter().fold(true, |far, distance| far & (*distance >= limit));
+            if far { None } else { Some((i, start + close(&distances[..later.len()])?)) }
+        });
+        least = across.or(least).or_else(|| {
+            let (i, j) = first_close_pair(later, d)?;
+            Some((start + i, start + j))
+        });
+    }
+    least
+}
+
 fn first_close_pair(words: &[u32], d: u32) -> Option<(usize, usize)> {
     for i in 0..words.len() {
         for j in i + 1..words.len() {
@@ -124,12 +164,14 @@ fn main() {
     match std::env::args().nth(1).as_deref() {
         Some("session") => print_session(&words()),
         Some("session-loop") => time_loop(&words()),
+        Some("session-rows") => time_rows(&words()),
         Some("late") => print_session(&late_words()),
         Some("late-loop") => time_loop(&late_words()),
+        Some("late-rows") => time_rows(&late_words()),
         Some("weighted") => print_weighted(&weighted_words()),
         Some("weighted-loop") => time_weighted(&weighted_words()),
         Some("cosets") => print_cosets(&cosets().0, &cosets().1),
         Some("cosets-loop") => time_cosets(&cosets().0, &cosets().1),
-        _ => eprintln!("session, late, weighted or cosets, each also with -loop"),
+        _ => eprintln!("session, late, weighted or cosets, each also with -loop, session and late with -rows"),
     }
 }
