@@ -1,9 +1,9 @@
-//! Krawtchouk numbers against tables, the generating function and orthogonality.
+//! Krawtchouk numbers against tables, their plain sums, the generating function and orthogonality.
 
-use crate::numbers::number_of;
+use crate::numbers::{add_signed, number_of};
 use ct_codes::Scheme;
 use ct_krawtchouk::Hamming;
-use ct_words::MAX_N;
+use ct_words::{MAX_N, binomial};
 use std::test::Fail;
 
 /// The Krawtchouk number K_k(i) at length n.
@@ -71,7 +71,7 @@ fn known_numbers(rt: HostRuntime) {
             ],
         ),
         (13, 1, &[(6, 1), (12, -11)]),
-        (13, 2, &[(0, 78), (8, -2), (10, 18), (12, 54)]),
+        (13, 2, &[(0, 78), (6, -6), (8, -2), (10, 18), (12, 54)]),
         (1, 1, &[(1, -1)]),
         (28, 14, &[(0, 40116600), (28, 40116600)]),
         (28, 13, &[(28, -37442160)]),
@@ -84,6 +84,33 @@ fn known_numbers(rt: HostRuntime) {
     }
     assert!(rt; krawtchouk(13, 14, 0).is_none());
     assert!(rt; Hamming { n: 13 }.degree() == 13);
+}
+
+/// K_k(i) at length n, for k and i up to n, as the sum over j of (-1)^j C(i,j) C(n - i,k - j).
+fn plain_sum(n: u32, k: u32, i: u32) -> Option<i64> {
+    if n > MAX_N || k > n || i > n {
+        return None;
+    }
+    let mut sum = 0i64;
+    for j in 0..k + 1 {
+        let words = binomial(i, j).wrapping_mul(binomial(n - i, k - j));
+        sum = add_signed(sum, j, words)?;
+    }
+    Some(sum)
+}
+
+/// At every length each number is its plain sum.
+#[test]
+fn plain_sums(rt: HostRuntime) {
+    for n in 1..MAX_N + 1 {
+        for k in 0..n + 1 {
+            for i in 0..n + 1 {
+                let want = plain_sum(n, k, i);
+                assert!(rt; want.is_some(), "a sum for K_{k}({i}) at {n}");
+                assert!(rt; krawtchouk(n, k, i) == want, "K_{k}({i}) at {n}");
+            }
+        }
+    }
 }
 
 /// The coefficients of (1 - z)^i (1 + z)^(8 - i), multiplied out.

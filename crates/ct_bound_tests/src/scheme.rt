@@ -1,9 +1,9 @@
-//! Johnson numbers against a table, values by hand and a direct count of pairs of places.
+//! Johnson numbers against a table, values by hand, their plain sums and a direct count of pairs of places.
 
-use crate::numbers::number_of;
+use crate::numbers::{add_signed, number_of};
 use ct_codes::Scheme;
 use ct_scheme::Johnson;
-use ct_words::{MAX_N, Word, distance, weight};
+use ct_words::{MAX_N, Word, binomial, distance, factorial, weight};
 
 /// The Johnson number J_k(i) at length n and weight w.
 fn johnson(n: u32, w: u32, k: u32, i: u32) -> Option<i64> {
@@ -39,6 +39,47 @@ fn known_numbers(rt: HostRuntime) {
     assert!(rt; Johnson { n: 8, w: 3 }.degree() == 3);
     assert!(rt; Johnson { n: 8, w: 6 }.degree() == 2);
     assert!(rt; Johnson { n: 8, w: 0 }.degree() == 0);
+}
+
+/// C(a,k) C(b,k) k!, for a and b up to 30 and k up to 20.
+fn matchings(a: u32, b: u32, k: u32) -> Option<u64> {
+    if a > 30 || b > 30 || k > 20 {
+        return None;
+    }
+    let choices = binomial(a, k).wrapping_mul(binomial(b, k));
+    Some(choices.wrapping_mul(factorial(k)))
+}
+
+/// J_k(i) at length n and weight w, for k and i up to the least of w and n - w, as the sum over j of
+/// (-1)^j C(i,j)^2 j! C(w - i,k - j) C(n - w - i,k - j) (k - j)!.
+fn plain_sum(n: u32, w: u32, k: u32, i: u32) -> Option<i64> {
+    if n > MAX_N || w > n || i > w.min(n - w) || k > w.min(n - w) {
+        return None;
+    }
+    let mut sum = 0i64;
+    for j in 0..k + 1 {
+        let first = matchings(i, i, j)?;
+        let second = matchings(w - i, n - w - i, k - j)?;
+        sum = add_signed(sum, j, first.wrapping_mul(second))?;
+    }
+    Some(sum)
+}
+
+/// At every length and weight each number is its plain sum.
+#[test]
+fn plain_sums(rt: HostRuntime) {
+    for n in 1..MAX_N + 1 {
+        for w in 0..n + 1 {
+            let degree = w.min(n - w);
+            for k in 0..degree + 1 {
+                for i in 0..degree + 1 {
+                    let want = plain_sum(n, w, k, i);
+                    assert!(rt; want.is_some(), "a sum for J_{k}({i}) at {n}, {w}");
+                    assert!(rt; johnson(n, w, k, i) == want, "J_{k}({i}) at {n}, {w}");
+                }
+            }
+        }
+    }
 }
 
 /// The digit of a word at a place that is counted from its end.
