@@ -1,5 +1,7 @@
 //! The kinds of evidence.
 
+use crate::id_pairs::IdPairs;
+use crate::word_lists::WordLists;
 use ct_build::Step;
 use ct_codes::Entry;
 use ct_duals::Dual;
@@ -21,6 +23,13 @@ pub enum Evidence {
         basis: WordList,
         representatives: WordList,
     },
+    /// Classes that are stated as a partition: each is a code of the entry, and words of different classes have a distance of
+    /// at least `between`.
+    Partition {
+        entry: Entry,
+        between: u32,
+        classes: WordLists,
+    },
     /// A step that is stated to make a code of the entry of the code of the piece `part` and, where the step needs another
     /// code, of that of the piece `other`, which is named exactly there.
     Build {
@@ -28,6 +37,11 @@ pub enum Evidence {
         step: Step,
         part: Id,
         other: Option<Id>,
+    },
+    /// Pairs of pieces that are partitions, whose product is stated as a code of the entry. Pairs may be equal.
+    Product {
+        entry: Entry,
+        pairs: IdPairs,
     },
     /// A dual of Delsarte's linear program for an entry without weight.
     Dual(Dual),

@@ -17,6 +17,10 @@ pub enum FieldName {
     Basis,
     /// The representatives of cosets, `representatives`.
     Representatives,
+    /// The distance between the classes of a partition, `d1`.
+    D1,
+    /// The classes of a partition, `classes`.
+    Classes,
     /// The operation of a build, `op`.
     Op,
     /// The places of a build, `places`.
@@ -31,6 +35,8 @@ pub enum FieldName {
     Part,
     /// The other piece whose code a build is made from, `other`.
     Other,
+    /// The pairs of partitions of a product, `pairs`.
+    Pairs,
     /// Whether a dual speaks of even distances alone, `even`.
     Even,
     /// The multipliers of a dual, `c`.
@@ -51,6 +57,8 @@ impl FieldName {
             FieldName::Words => "words",
             FieldName::Basis => "basis",
             FieldName::Representatives => "representatives",
+            FieldName::D1 => "d1",
+            FieldName::Classes => "classes",
             FieldName::Op => "op",
             FieldName::Places => "places",
             FieldName::Digits => "digits",
@@ -58,6 +66,7 @@ impl FieldName {
             FieldName::Size => "size",
             FieldName::Part => "part",
             FieldName::Other => "other",
+            FieldName::Pairs => "pairs",
             FieldName::Even => "even",
             FieldName::C => "c",
             FieldName::Y => "y",
