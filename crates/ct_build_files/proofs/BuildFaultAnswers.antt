@@ -10,6 +10,7 @@ use Rattle.ct_build.specs.declared.building.TheConstants.{MAX_BUILT}
 use Rattle.ct_build.specs.declared.step.Step.{Step}
 use Rattle.ct_build.specs.declared.step.Step.TheVariants as step
 use Rattle.ct_fields.specs.Steps.{◌>>=◌, ◌>>◌, check}
+use Rattle.ct_fields.specs.Ids.{id_in}
 use Rattle.ct_fields.specs.Fields.{field, number_field, has_only, no_other_key}
 use Rattle.ct_fields.specs.Tables.{IsOfKind, IsNamed, IsWordText}
 use Rattle.ct_fields.specs.declared.field.FieldName.{FieldName}
@@ -20,7 +21,7 @@ use Rattle.ct_evidence.specs.declared.evidence.Evidence.{Evidence}
 use Rattle.ct_evidence.specs.declared.evidence.Evidence.TheVariants.{Build}
 use Rattle.ct_build_files.specs.BuildEntry.{build_entry_of}
 use Rattle.ct_build_files.specs.Operation.{operation_text, makes_length, takes_weight, takes_other, build_fields}
-use Rattle.ct_build_files.specs.BuildFields.{operation_field, places_in, digits_of, by_field, step_fields, id_in, id_field, other_field}
+use Rattle.ct_build_files.specs.BuildFields.{operation_field, places_in, digits_of, by_field, step_fields, id_field, other_field}
 use Rattle.ct_build_files.specs.Build.{build_with, build_by, build_evidence_of}
 use Rattle.ct_build_files.specs.BuildDocument.{HasText, HasId, StatesBuild}
 use Rattle.ct_build_files.specs.BuildAnswer.{StatesBuildEntry, IsBuildEntryFault, StatesOperation, SuitsEntry, HasPlaces, HasOwnFields, IsOwnFault, NamesPart, NamesParts, IsWrongText, IsBuildFault, IsBuildAnswer}
@@ -448,6 +449,9 @@ fault_from ms (Field name.Size) (e, o, suits, never) = own_first (table ms) e o 
 fault_from ms (Field name.Words) (e, o, suits, never) = own_first (table ms) e o name.Words suits (own_fault (table ms) e o name.Words never)
 fault_from ms (Field name.Basis) (e, o, suits, never) = own_first (table ms) e o name.Basis suits (own_fault (table ms) e o name.Basis never)
 fault_from ms (Field name.Representatives) (e, o, suits, never) = own_first (table ms) e o name.Representatives suits (own_fault (table ms) e o name.Representatives never)
+fault_from ms (Field name.D1) (e, o, suits, never) = own_first (table ms) e o name.D1 suits (own_fault (table ms) e o name.D1 never)
+fault_from ms (Field name.Classes) (e, o, suits, never) = own_first (table ms) e o name.Classes suits (own_fault (table ms) e o name.Classes never)
+fault_from ms (Field name.Pairs) (e, o, suits, never) = own_first (table ms) e o name.Pairs suits (own_fault (table ms) e o name.Pairs never)
 fault_from ms (Field name.Even) (e, o, suits, never) = own_first (table ms) e o name.Even suits (own_fault (table ms) e o name.Even never)
 fault_from ms (Field name.C) (e, o, suits, never) = own_first (table ms) e o name.C suits (own_fault (table ms) e o name.C never)
 fault_from ms (Field name.Y) (e, o, suits, never) = own_first (table ms) e o name.Y suits (own_fault (table ms) e o name.Y never)

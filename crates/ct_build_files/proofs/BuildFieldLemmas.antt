@@ -13,9 +13,10 @@ use Rattle.ct_words.specs.Text.{is_binary_digit}
 use Rattle.ct_text.specs.Id.{is_id}
 use Rattle.ct_constructions.specs.Places.{ArePlaces}
 use Rattle.ct_fields.specs.Field.{field_text}
+use Rattle.ct_fields.specs.Ids.{id_in}
 use Rattle.ct_fields.specs.Fields.{field, number_in}
 use Rattle.ct_build_files.specs.Operation.{operation_text, operations, named_among, operation_named}
-use Rattle.ct_build_files.specs.BuildFields.{operation_in, operation_field, numbers_of, ascend, are_left_out, places_in, digits_of, id_in, id_field}
+use Rattle.ct_build_files.specs.BuildFields.{operation_in, operation_field, numbers_of, ascend, are_left_out, places_in, digits_of, id_field}
 use Rattle.ct_build_files.specs.BuildDocument.{HasText, HasNumbers, HasId}
 use Rattle.ct_fields.specs.declared.field.FieldName.{FieldName}
 use Rattle.ct_fields.specs.declared.field.FieldName.TheVariants as name
@@ -23,6 +24,7 @@ use Rattle.ct_build_files.specs.declared.operation.Operation.{Operation}
 use Rattle.ct_build_files.specs.declared.operation.Operation.TheVariants.{Lengthen, AppendOne, Parity, Puncture, Shorten, Translate, Complement, Select, Uuv, Juxtapose, Trim}
 use Rattle.ct_fields.specs.declared.fault.FileFault.TheVariants.{Field}
 use Rattle.ct_fields.proofs.StepLemmas.{ok_or-ok}
+use Rattle.ct_fields.proofs.IdTexts.{id_in-some}
 use Rattle.ct_fields.proofs.FieldLemmas.{bytes_eq-true, number_in-some}
 
 -- a value that is a text
@@ -83,12 +85,6 @@ pub operation_field-from : (document : Data) (o : Operation) → HasText name.Op
 operation_field-from document o h = rw (h, operation_named-text o) refl
 
 -- an id is read exactly where the field is one
-id_in-some : (d : Data) (id : List ℕ) → id_in d ≡ Some id → (d ≡ string id) × IsTrue (is_id id)
-id_in-some d id e =
-    option_and_then_some _ (as_str d) id e (λ text is named.
-    let (test, same) = cond_some (is_id text) text id named in
-    (as_str-some d text is ∙ ap string same, subst (λ t. IsTrue (is_id t)) same test))
-
 pub id_field-ok : (name : FieldName) (document : Data) (id : List ℕ) → id_field name document ≡ Ok id → HasId name document id
 id_field-ok name document id e =
     option_and_then_some id_in (get (field_text name) document) id (ok_or-ok _ (Field name) id e) (λ d found h.

@@ -37,36 +37,6 @@ IsAscii_digits_text (a ∷ digits) small =
     let first = All-head (λ b. b < 2) a digits small in
     IsAscii-cons (48 + a) (digits_text digits) (omega arith) (IsAscii_digits_text digits (All-tail (λ b. b < 2) a digits small))
 
--- what may stand in an id is ASCII, and so is an id
-id_byte-lt : (b : ℕ) → is_id_byte b ≡ true → b < 128
-id_byte-lt b h =
-    elim (cases_Bool (b == 95)) [
-      | inl line ↦ let is = eqb-true b 95 line in omega arith
-      | inr no_line ↦ elim (cases_Bool (b == 45)) [
-        | inl dash ↦ let is = eqb-true b 45 dash in omega arith
-        | inr no_dash ↦ elim (cases_Bool (is_ascii_lowercase b)) [
-          | inl letter ↦ let below = leb-true b 122 (and_parts (nat_le 97 b) (nat_le b 122) letter).1 in omega arith
-          | inr no_letter ↦
-              let digit : is_ascii_digit b ≡ true = rw (no_letter, no_dash, no_line, or-false, or-false) at h in
-              let below = leb-true b 57 (and_parts (nat_le 48 b) (nat_le b 57) digit).1 in omega arith
-        ]
-      ]
-    ]
-
-IsAscii-id_bytes : (text : List ℕ) → list_all is_id_byte text ≡ true → IsAscii text
-IsAscii-id_bytes [] h = IsAscii-nil
-IsAscii-id_bytes (b ∷ bs) h =
-    let (first, rest) = and_parts (is_id_byte b) (list_all is_id_byte bs) h in
-    IsAscii-cons b bs (id_byte-lt b first) (IsAscii-id_bytes bs rest)
-
-pub IsAscii_id : (text : List ℕ) → IsTrue (is_id text) → IsAscii text
-IsAscii_id [] h = IsAscii-nil
-IsAscii_id (b ∷ bs) h =
-    let (front, rest) = and_parts (nat_le (length (b ∷ bs)) MAX_ID && is_ascii_lowercase b) (list_all is_id_byte bs) h in
-    let letter = (and_parts (nat_le (length (b ∷ bs)) MAX_ID) (is_ascii_lowercase b) front).1 in
-    let below = leb-true b 122 (and_parts (nat_le 97 b) (nat_le b 122) letter).1 in
-    IsAscii-cons b bs (omega arith) (IsAscii-id_bytes bs rest)
-
 -- the keys are two
 abbrev Apart : List ℕ → List ℕ → Type 0
 Apart k l = is_eq (slice_cmp nat_cmp k l) ≡ false

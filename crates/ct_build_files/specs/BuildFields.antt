@@ -5,12 +5,12 @@ use Rattle.std.specs.Option.{option_and_then}
 use Rattle.toml.specs.Data.{Data, array, Items, no_items, item, as_str}
 use Rattle.ct_words.specs.declared.limits.TheConstants.{MAX_N}
 use Rattle.ct_words.specs.Text.{is_binary_digit, word_of}
-use Rattle.ct_text.specs.Id.{is_id}
 use Rattle.ct_build.specs.declared.building.TheConstants.{MAX_BUILT}
 use Rattle.ct_build.specs.declared.step.Step.{Step}
 use Rattle.ct_build.specs.declared.step.Step.TheVariants as step
 use Rattle.ct_fields.specs.Steps.{◌>>=◌}
 use Rattle.ct_fields.specs.Fields.{field, number_in, number_field}
+use Rattle.ct_fields.specs.Ids.{id_in}
 use Rattle.ct_build_files.specs.Operation.{operation_named, takes_other}
 use Rattle.ct_fields.specs.declared.field.FieldName.{FieldName}
 use Rattle.ct_fields.specs.declared.field.FieldName.TheVariants as name
@@ -79,10 +79,6 @@ step_fields Juxtapose n document = Ok (Some step.Juxtapose)
 step_fields Trim n document = do
   size ← number_field name.Size 1 MAX_BUILT document
   Ok (Some (step.Trim size))
-
--- the id whose text the value is
-abbrev pub id_in : Data → Option (List ℕ)
-id_in d = option_and_then (λ text. if is_id text then Some text else None) (as_str d)
 
 -- the id at the field
 abbrev pub id_field : FieldName → Data → Result (List ℕ) FileFault

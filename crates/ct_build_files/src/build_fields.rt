@@ -9,7 +9,7 @@ ghost use Rattle.ct_build_files.specs.BuildFields.{operation_field, numbers_of, 
 
 use crate::operation::Operation;
 use ct_build::{MAX_BUILT, Numbers, Step};
-use ct_fields::{FieldName, FileFault, number_field};
+use ct_fields::{FieldName, FileFault, id_in, number_field};
 use ct_text::Id;
 use ct_words::{MAX_N, Word, parse_word};
 use std::alloc::{AllocError, Global};
@@ -195,11 +195,11 @@ pub fn id_field(document: &Value, name: FieldName) -> Result<Id, FileFault>
     ensures { result ≡ id_field name (view document.now) }
 {
     match document.get(name.text()) {
-        Some(Value::String(text)) => match Id::parse(text.as_bytes()) {
+        Some(value) => match id_in(value) {
             Some(id) => Ok(id),
             None => Err(FileFault::Field(name)),
         },
-        _ => Err(FileFault::Field(name)),
+        None => Err(FileFault::Field(name)),
     }
 }
 

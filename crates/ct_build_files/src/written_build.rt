@@ -13,7 +13,7 @@ ghost use Rattle.ct_build_files.specs.WrittenBuild.{number_list, digits_text, pu
 use crate::operation::Operation;
 use ct_build::Step;
 use ct_codes::Entry;
-use ct_fields::{FieldName, entry_table, put, put_weight, word_value};
+use ct_fields::{FieldName, entry_table, id_value, put, put_weight, word_value};
 use ct_text::Id;
 use std::alloc::{AllocError, Global};
 use toml::{Table, Value};
@@ -54,16 +54,6 @@ fn text_value(text: Vec<u8>) -> Value
     ensures { view result ≡ string text.items }
 {
     Value::String(String::from_utf8(text).unwrap())
-}
-
-/// The id as a value.
-#[tactic(auto, using(crate::proofs::WrittenBuild::IsAscii_id))]
-fn id_value(alloc: Global, id: &Id) -> Result<Value, AllocError>
-    ensures value { IfOk result (λ value. view value ≡ string id.now) }
-    ensures id { IsTrue (is_id id.now) }
-{
-    let text = Vec::from_slice(alloc, id.text())?;
-    Ok(text_value(text))
 }
 
 /// Puts the fields of the step, of words of the length of the entry.

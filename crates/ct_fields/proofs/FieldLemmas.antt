@@ -84,11 +84,11 @@ texts_of-some (item (datetime t) ds) texts e = absurd cc
 texts_of-some (item (array es) ds) texts e = absurd cc
 texts_of-some (item (table ms) ds) texts e = absurd cc
 
-texts_of-items_of : (texts : List (List ℕ)) → texts_of (items_of (map string texts)) ≡ Some texts
+pub texts_of-items_of : (texts : List (List ℕ)) → texts_of (items_of (map string texts)) ≡ Some texts
 texts_of-items_of [] = refl
 texts_of-items_of (text ∷ texts) = rw (texts_of-items_of texts) refl
 
-texts_in-some : (d : Data) (texts : List (List ℕ)) → texts_in d ≡ Some texts → d ≡ array (items_of (map string texts))
+pub texts_in-some : (d : Data) (texts : List (List ℕ)) → texts_in d ≡ Some texts → d ≡ array (items_of (map string texts))
 texts_in-some (array ds) texts e = ap array (texts_of-some ds texts e)
 texts_in-some (string s) texts e = absurd cc
 texts_in-some (integer z) texts e = absurd cc

@@ -5,3 +5,4 @@ pub mod EntryAnswers
 pub mod WordsLemmas
 pub mod MemberLemmas
 pub mod WordTexts
+pub mod IdTexts

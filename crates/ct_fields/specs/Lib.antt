@@ -7,3 +7,4 @@ pub mod StatedEntry
 pub mod Tables
 pub mod StatesEntry
 pub mod Written
+pub mod Ids

@@ -59,7 +59,8 @@ fn text_in(value: &Value) -> Option<&str>
     }
 }
 
-fn texts_of(alloc: Global, values: &[Value]) -> Result<Option<Vec<&str>>, AllocError>
+/// The texts that the values are, where all are texts.
+pub fn texts_of(alloc: Global, values: &[Value]) -> Result<Option<Vec<&str>>, AllocError>
     ensures { IfOk result (λ o. option_map (λ v. texts_behind v.items) o ≡ texts_of (items_view values.now)) }
 {
     let mut texts = Vec::new(alloc);

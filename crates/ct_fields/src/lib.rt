@@ -6,6 +6,7 @@ mod entry;
 mod fault;
 mod field;
 mod fields;
+mod ids;
 mod writing;
 
 pub use document::{MAX_DOCUMENT, is_of_kind, no_other_key, read_document, table_bytes};
@@ -14,5 +15,6 @@ pub use entry::{
 };
 pub use fault::FileFault;
 pub use field::FieldName;
-pub use fields::{number_field, texts_field, words_from};
-pub use writing::{entry_table, put, put_weight, put_words, word_value};
+pub use fields::{number_field, texts_field, texts_of, words_from};
+pub use ids::{id_in, id_value};
+pub use writing::{entry_table, put, put_weight, put_words, word_value, word_values};

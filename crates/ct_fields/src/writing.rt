@@ -40,7 +40,7 @@ pub fn word_value(alloc: Global, n: u32, word: Word) -> Result<Value, AllocError
 }
 
 /// The texts of the words of length `n`, as a value of a document.
-fn word_values(alloc: Global, n: u32, words: &[Word]) -> Result<Value, AllocError>
+pub fn word_values(alloc: Global, n: u32, words: &[Word]) -> Result<Value, AllocError>
     requires room { n ≤ MAX_N }
     requires words { All (λ x. x < 2 ^ n) words.now }
     ensures { IfOk result (λ value. view value ≡ word_texts n words.now) }
