@@ -1,0 +1,7 @@
+mod ListLemmas
+pub mod CountLemmas
+mod PairLemmas
+mod WrittenLists
+pub mod PartitionAnswers
+pub mod ProductAnswers
+pub mod WrittenPartitions

@@ -1,0 +1,24 @@
+//! The kind product: pairs of pieces that are partitions.
+ghost use Rattle.std.specs.Prelude.{◌≡◌};
+ghost use Rattle.toml.specs.View.{view};
+ghost use Rattle.ct_fields.specs.Reads.{Reads};
+ghost use Rattle.ct_partition_files.specs.Product.{product_evidence_of};
+
+use crate::pairs::pairs_field;
+use ct_evidence::{Evidence, IdPairs};
+use ct_fields::{FieldName, FileFault, no_other_key, stated_entry};
+use std::alloc::Global;
+use toml::Value;
+
+/// The evidence that the document states, of kind product.
+#[tactic(auto, unfolding(crate::specs::Product::product_evidence_of))]
+pub fn product_evidence(alloc: Global, document: &Value) -> Result<Evidence, FileFault>
+    ensures { Reads (λ evidence. evidence) result (product_evidence_of (view document.now)) }
+{
+    let entry = stated_entry(document)?;
+    let pairs = pairs_field(alloc, entry.w, document)?;
+    let names = [FieldName::N, FieldName::D, FieldName::W, FieldName::Pairs];
+    no_other_key(document, &names)?;
+    let pairs = IdPairs::from_vec(pairs);
+    Ok(Evidence::Product { entry, pairs })
+}

@@ -1,0 +1,81 @@
+//! The tables of partitions and of products.
+ghost use Rattle.std.specs.Prelude.{◌≡◌, ◌^◌, ◌<◌, ◌≤◌, All, IfOk};
+ghost use Rattle.toml.specs.View.{view, table_view};
+ghost use Rattle.ct_words.specs.declared.limits.TheConstants.{MAX_N};
+ghost use Rattle.ct_partitions.specs.Partition.{word_lists, all_words};
+ghost use Rattle.ct_partition_files.specs.Written.{AreIds, class_list, pair_data, pair_list, partition_table, product_table};
+
+use ct_codes::Entry;
+use ct_fields::{FieldName, entry_table, id_value, put, put_weight, word_values};
+use ct_text::Id;
+use ct_words::Word;
+use std::alloc::{AllocError, Global};
+use toml::{Table, Value};
+
+/// The table of a partition.
+#[tactic(auto, using(crate::proofs::WrittenPartitions::short_classes))]
+pub fn partition_table(
+    alloc: Global,
+    entry: Entry,
+    between: u32,
+    classes: &[Vec<Word>],
+) -> Result<Table, AllocError>
+    requires room { entry.n ≤ MAX_N }
+    requires words { All (λ x. x < 2 ^ entry.n) (all_words (word_lists classes.now)) }
+    ensures { IfOk result (λ table. table_view table ≡ partition_table entry between (word_lists classes.now)) }
+{
+    let mut table = entry_table(alloc, "partition", entry.n, entry.d)?;
+    put_weight(alloc, &mut table, entry.w)?;
+    put(alloc, &mut table, FieldName::D1, Value::from(between))?;
+    let classes = class_list(alloc, entry.n, classes)?;
+    put(alloc, &mut table, FieldName::Classes, classes)?;
+    Ok(table)
+}
+
+/// The lists of the texts of words of length `n` as a value.
+fn class_list(alloc: Global, n: u32, classes: &[Vec<Word>]) -> Result<Value, AllocError>
+    requires room { n ≤ MAX_N }
+    requires words { All (λ words. All (λ x. x < 2 ^ n) words) (word_lists classes.now) }
+    ensures { IfOk result (λ value. view value ≡ class_list n (word_lists classes.now)) }
+{
+    let mut values = Vec::with_capacity(alloc, classes.len())?;
+    for class in classes {
+        values.push(word_values(alloc, n, class)?)?;
+    }
+    Ok(Value::Array(values))
+}
+
+/// The table of a product.
+pub fn product_table(alloc: Global, entry: Entry, pairs: &[(Id, Id)]) -> Result<Table, AllocError>
+    ensures table { IfOk result (λ table. table_view table ≡ product_table entry pairs.now) }
+    ensures ids { IfOk result (λ _. All AreIds pairs.now) }
+{
+    let mut table = entry_table(alloc, "product", entry.n, entry.d)?;
+    put_weight(alloc, &mut table, entry.w)?;
+    let pairs = pair_list(alloc, pairs)?;
+    put(alloc, &mut table, FieldName::Pairs, pairs)?;
+    Ok(table)
+}
+
+/// The pairs of ids as a value.
+fn pair_list(alloc: Global, pairs: &[(Id, Id)]) -> Result<Value, AllocError>
+    ensures list { IfOk result (λ value. view value ≡ pair_list pairs.now) }
+    ensures ids { IfOk result (λ _. All AreIds pairs.now) }
+{
+    let mut values = Vec::with_capacity(alloc, pairs.len())?;
+    for (first, second) in pairs {
+        values.push(pair_value(alloc, first, second)?)?;
+    }
+    Ok(Value::Array(values))
+}
+
+/// Two ids as a value.
+fn pair_value(alloc: Global, first: &Id, second: &Id) -> Result<Value, AllocError>
+    ensures list { IfOk result (λ value. view value ≡ pair_data (first.now, second.now)) }
+    ensures ids { IfOk result (λ _. AreIds (first.now, second.now)) }
+{
+    let mut values = Vec::with_capacity(alloc, 2)?;
+    values.push(id_value(alloc, first)?)?;
+    values.push(id_value(alloc, second)?)?;
+    Ok(Value::Array(values))
+}
