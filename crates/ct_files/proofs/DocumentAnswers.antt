@@ -12,11 +12,15 @@ use Rattle.ct_fields.specs.Fields.{is_of_kind}
 use Rattle.ct_fields.specs.Document.{table_of}
 use Rattle.ct_word_files.specs.Words.{words_evidence_of}
 use Rattle.ct_word_files.specs.Cosets.{cosets_evidence_of}
+use Rattle.ct_partition_files.specs.Partition.{partition_evidence_of}
+use Rattle.ct_partition_files.specs.Product.{product_evidence_of}
 use Rattle.ct_build_files.specs.Build.{build_evidence_of}
 use Rattle.ct_files.specs.Evidence.{dual_evidence_of, johnson_dual_evidence_of, evidence_of, read_without_limit, read_of}
 use Rattle.ct_fields.specs.Tables.{IsDocument, IsOfKind}
 use Rattle.ct_word_files.specs.WordsDocument.{StatesWords, IsWordsAnswer, AcceptsWords}
 use Rattle.ct_word_files.specs.CosetsDocument.{StatesCosets, IsCosetsAnswer, AcceptsCosets}
+use Rattle.ct_partition_files.specs.PartitionDocument.{StatesPartition, IsPartitionAnswer, AcceptsPartition}
+use Rattle.ct_partition_files.specs.ProductDocument.{StatesProduct, IsProductAnswer, AcceptsProduct}
 use Rattle.ct_build_files.specs.BuildAnswer.{IsBuildAnswer}
 use Rattle.ct_build_files.specs.BuildDocument.{StatesBuild, AcceptsBuild}
 use Rattle.ct_duals.specs.declared.dual.Dual.{Dual}
@@ -30,6 +34,8 @@ use Rattle.ct_fields.specs.declared.fault.FileFault.TheVariants.{Bytes, NotToml,
 use Rattle.ct_fields.proofs.FieldLemmas.{is_of_kind-true, is_of_kind-from}
 use Rattle.ct_word_files.proofs.WordsAnswers.{words_answer, words_answer-from, words_answers}
 use Rattle.ct_word_files.proofs.CosetsAnswers.{cosets_answer, cosets_answer-from, cosets_answers}
+use Rattle.ct_partition_files.proofs.PartitionAnswers.{partition_answer, partition_answer-from, partition_answers}
+use Rattle.ct_partition_files.proofs.ProductAnswers.{product_answer, product_answer-from, product_answers}
 use Rattle.ct_build_files.proofs.BuildAnswers.{build_answer-from}
 use Rattle.ct_build_files.proofs.BuildFaultAnswers.{build_answer, build_answers}
 use Rattle.ct_files.proofs.DualEvidence.{dual_evidence, dual_evidence-from, dual_evidences, johnson_dual_evidence, johnson_dual_evidence-from, johnson_dual_evidences}
@@ -43,6 +49,16 @@ evidence_of-words document of_kind = rw (is_of_kind-from (codes "words") documen
 pub evidence_of-cosets : (document : Data) → IsOfKind (codes "cosets") document → evidence_of document ≡ cosets_evidence_of document
 unfolding evidence_of
 evidence_of-cosets document of_kind = rw of_kind refl
+
+-- what a document of kind partition reads as is the evidence of a partition
+pub evidence_of-partition : (document : Data) → IsOfKind (codes "partition") document → evidence_of document ≡ partition_evidence_of document
+unfolding evidence_of
+evidence_of-partition document of_kind = rw of_kind refl
+
+-- what a document of kind product reads as is the evidence of a product
+pub evidence_of-product : (document : Data) → IsOfKind (codes "product") document → evidence_of document ≡ product_evidence_of document
+unfolding evidence_of
+evidence_of-product document of_kind = rw of_kind refl
 
 -- what a document of kind build reads as is the evidence of a build
 pub evidence_of-build : (document : Data) → IsOfKind (codes "build") document → evidence_of document ≡ build_evidence_of document
@@ -67,17 +83,20 @@ other_kind kind document other =
 -- the document is of none of the kinds
 abbrev pub IsOfNoKind : Data → Type 0
 IsOfNoKind document =
-    ¬ (IsOfKind (codes "words") document) × ¬ (IsOfKind (codes "cosets") document) × ¬ (IsOfKind (codes "build") document)
-    × ¬ (IsOfKind (codes "dual") document) × ¬ (IsOfKind (codes "jdual") document)
+    ¬ (IsOfKind (codes "words") document) × ¬ (IsOfKind (codes "cosets") document) × ¬ (IsOfKind (codes "partition") document)
+    × ¬ (IsOfKind (codes "build") document) × ¬ (IsOfKind (codes "product") document) × ¬ (IsOfKind (codes "dual") document)
+    × ¬ (IsOfKind (codes "jdual") document)
 
 -- a document of another kind is refused
 evidence_of-other : (document : Data) → IsOfNoKind document → evidence_of document ≡ Err Kind
 unfolding evidence_of
-evidence_of-other document (no_words, no_cosets, no_build, no_dual, no_johnson) =
+evidence_of-other document (no_words, no_cosets, no_partition, no_build, no_product, no_dual, no_johnson) =
     rw (
       other_kind (codes "words") document no_words,
       other_kind (codes "cosets") document no_cosets,
+      other_kind (codes "partition") document no_partition,
       other_kind (codes "build") document no_build,
+      other_kind (codes "product") document no_product,
       other_kind (codes "dual") document no_dual,
       other_kind (codes "jdual") document no_johnson,
     ) refl
@@ -160,7 +179,9 @@ kind_or_none kind document =
 pub data DocumentAnswer (document : Data) (answer : Result Evidence FileFault) : Type 0 where
   words : IsOfKind (codes "words") document → IsWordsAnswer document answer → DocumentAnswer document answer
   cosets : IsOfKind (codes "cosets") document → IsCosetsAnswer document answer → DocumentAnswer document answer
+  partition : IsOfKind (codes "partition") document → IsPartitionAnswer document answer → DocumentAnswer document answer
   build : IsOfKind (codes "build") document → IsBuildAnswer document answer → DocumentAnswer document answer
+  product : IsOfKind (codes "product") document → IsProductAnswer document answer → DocumentAnswer document answer
   dual : IsOfKind (codes "dual") document → IsDualEvidence document answer → DocumentAnswer document answer
   johnson : IsOfKind (codes "jdual") document → IsJohnsonDualEvidence document answer → DocumentAnswer document answer
   of_no_kind : IsOfNoKind document → answer ≡ Err Kind → DocumentAnswer document answer
@@ -172,24 +193,37 @@ table_answer ms = words_first (kind_or_none (codes "words") document)
     document : Data
     document = table ms
 
-    then_johnson : ¬ (IsOfKind (codes "words") document) → ¬ (IsOfKind (codes "cosets") document) → ¬ (IsOfKind (codes "build") document)
-        → ¬ (IsOfKind (codes "dual") document) → IsOrIsNot (codes "jdual") document → DocumentAnswer document (evidence_of document)
-    then_johnson no_words no_cosets no_build no_dual (inl of_kind) = johnson of_kind (rw (evidence_of-johnson_dual document of_kind) (johnson_dual_evidence ms of_kind))
-    then_johnson no_words no_cosets no_build no_dual (inr no_johnson) =
-        let none : IsOfNoKind document = (no_words, no_cosets, no_build, no_dual, no_johnson) in of_no_kind none (evidence_of-other document none)
+    then_johnson : ¬ (IsOfKind (codes "words") document) → ¬ (IsOfKind (codes "cosets") document) → ¬ (IsOfKind (codes "partition") document)
+        → ¬ (IsOfKind (codes "build") document) → ¬ (IsOfKind (codes "product") document) → ¬ (IsOfKind (codes "dual") document)
+        → IsOrIsNot (codes "jdual") document → DocumentAnswer document (evidence_of document)
+    then_johnson no_words no_cosets no_partition no_build no_product no_dual (inl of_kind) = johnson of_kind (rw (evidence_of-johnson_dual document of_kind) (johnson_dual_evidence ms of_kind))
+    then_johnson no_words no_cosets no_partition no_build no_product no_dual (inr no_johnson) =
+        let none : IsOfNoKind document = (no_words, no_cosets, no_partition, no_build, no_product, no_dual, no_johnson) in of_no_kind none (evidence_of-other document none)
 
-    then_dual : ¬ (IsOfKind (codes "words") document) → ¬ (IsOfKind (codes "cosets") document) → ¬ (IsOfKind (codes "build") document)
-        → IsOrIsNot (codes "dual") document → DocumentAnswer document (evidence_of document)
-    then_dual no_words no_cosets no_build (inl of_kind) = dual of_kind (rw (evidence_of-dual document of_kind) (dual_evidence ms of_kind))
-    then_dual no_words no_cosets no_build (inr no_dual) = then_johnson no_words no_cosets no_build no_dual (kind_or_none (codes "jdual") document)
+    then_dual : ¬ (IsOfKind (codes "words") document) → ¬ (IsOfKind (codes "cosets") document) → ¬ (IsOfKind (codes "partition") document)
+        → ¬ (IsOfKind (codes "build") document) → ¬ (IsOfKind (codes "product") document) → IsOrIsNot (codes "dual") document
+        → DocumentAnswer document (evidence_of document)
+    then_dual no_words no_cosets no_partition no_build no_product (inl of_kind) = dual of_kind (rw (evidence_of-dual document of_kind) (dual_evidence ms of_kind))
+    then_dual no_words no_cosets no_partition no_build no_product (inr no_dual) = then_johnson no_words no_cosets no_partition no_build no_product no_dual (kind_or_none (codes "jdual") document)
 
-    then_build : ¬ (IsOfKind (codes "words") document) → ¬ (IsOfKind (codes "cosets") document) → IsOrIsNot (codes "build") document → DocumentAnswer document (evidence_of document)
-    then_build no_words no_cosets (inl of_kind) = build of_kind (rw (evidence_of-build document of_kind) (build_answer ms of_kind))
-    then_build no_words no_cosets (inr no_build) = then_dual no_words no_cosets no_build (kind_or_none (codes "dual") document)
+    then_product : ¬ (IsOfKind (codes "words") document) → ¬ (IsOfKind (codes "cosets") document) → ¬ (IsOfKind (codes "partition") document)
+        → ¬ (IsOfKind (codes "build") document) → IsOrIsNot (codes "product") document → DocumentAnswer document (evidence_of document)
+    then_product no_words no_cosets no_partition no_build (inl of_kind) = product of_kind (rw (evidence_of-product document of_kind) (product_answer ms of_kind))
+    then_product no_words no_cosets no_partition no_build (inr no_product) = then_dual no_words no_cosets no_partition no_build no_product (kind_or_none (codes "dual") document)
+
+    then_build : ¬ (IsOfKind (codes "words") document) → ¬ (IsOfKind (codes "cosets") document) → ¬ (IsOfKind (codes "partition") document)
+        → IsOrIsNot (codes "build") document → DocumentAnswer document (evidence_of document)
+    then_build no_words no_cosets no_partition (inl of_kind) = build of_kind (rw (evidence_of-build document of_kind) (build_answer ms of_kind))
+    then_build no_words no_cosets no_partition (inr no_build) = then_product no_words no_cosets no_partition no_build (kind_or_none (codes "product") document)
+
+    then_partition : ¬ (IsOfKind (codes "words") document) → ¬ (IsOfKind (codes "cosets") document) → IsOrIsNot (codes "partition") document
+        → DocumentAnswer document (evidence_of document)
+    then_partition no_words no_cosets (inl of_kind) = partition of_kind (rw (evidence_of-partition document of_kind) (partition_answer ms of_kind))
+    then_partition no_words no_cosets (inr no_partition) = then_build no_words no_cosets no_partition (kind_or_none (codes "build") document)
 
     then_cosets : ¬ (IsOfKind (codes "words") document) → IsOrIsNot (codes "cosets") document → DocumentAnswer document (evidence_of document)
     then_cosets no_words (inl of_kind) = cosets of_kind (rw (evidence_of-cosets document of_kind) (cosets_answer ms of_kind))
-    then_cosets no_words (inr no_cosets) = then_build no_words no_cosets (kind_or_none (codes "build") document)
+    then_cosets no_words (inr no_cosets) = then_partition no_words no_cosets (kind_or_none (codes "partition") document)
 
     words_first : IsOrIsNot (codes "words") document → DocumentAnswer document (evidence_of document)
     words_first (inl of_kind) = words of_kind (rw (evidence_of-words document of_kind) (words_answer ms of_kind))
@@ -228,6 +262,8 @@ accepted bytes e listed read = at (rw read at (bytes_answer bytes))
     at (of_document document written (of_no_kind none other)) = absurd cc
     at (of_document document written (build of_kind never)) = absurd never
     at (of_document document written (cosets of_kind never)) = absurd never
+    at (of_document document written (partition of_kind never)) = absurd never
+    at (of_document document written (product of_kind never)) = absurd never
     at (of_document document written (dual of_kind never)) = absurd never
     at (of_document document written (johnson of_kind never)) = absurd never
     at (of_document document written (words of_kind (states, some, few))) =
@@ -253,6 +289,8 @@ accepted_cosets bytes e basis representatives read = at (rw read at (bytes_answe
     at (of_document document written (of_no_kind none other)) = absurd cc
     at (of_document document written (build of_kind never)) = absurd never
     at (of_document document written (words of_kind never)) = absurd never
+    at (of_document document written (partition of_kind never)) = absurd never
+    at (of_document document written (product of_kind never)) = absurd never
     at (of_document document written (dual of_kind never)) = absurd never
     at (of_document document written (johnson of_kind never)) = absurd never
     at (of_document document written (cosets of_kind (states, few_basis, some, few))) =
@@ -268,6 +306,59 @@ accepted_cosets-from bytes e basis representatives accepts =
     ∙ subst (λ d. StatesCosets d e basis representatives → cosets_evidence_of d ≡ Ok (evidence.Cosets e basis representatives)) (sym same)
     (λ states. cosets_answer-from ms (Ok (evidence.Cosets e basis representatives)) (states, accepts.few_basis, accepts.some, accepts.few)) accepts.states
 
+-- a document is accepted as a partition exactly where it states it
+pub accepted_partition : (bytes : List ℕ) (e : Entry) (between : ℕ) (classes : List (List ℕ)) → read_of bytes ≡ Ok (evidence.Partition e between classes)
+    → AcceptsPartition bytes e between classes
+accepted_partition bytes e between classes read = at (rw read at (bytes_answer bytes))
+  where
+    at : BytesAnswer bytes (Ok (evidence.Partition e between classes)) → AcceptsPartition bytes e between classes
+    at (long many other) = absurd cc
+    at (no_table short none other) = absurd cc
+    at (of_document document written (of_no_kind none other)) = absurd cc
+    at (of_document document written (words of_kind never)) = absurd never
+    at (of_document document written (cosets of_kind never)) = absurd never
+    at (of_document document written (build of_kind never)) = absurd never
+    at (of_document document written (product of_kind never)) = absurd never
+    at (of_document document written (dual of_kind never)) = absurd never
+    at (of_document document written (johnson of_kind never)) = absurd never
+    at (of_document document written (partition of_kind (states, right))) =
+        record { document = document; written = written; states = states; counted_classes = right }
+
+pub accepted_partition-from : (bytes : List ℕ) (e : Entry) (between : ℕ) (classes : List (List ℕ)) → AcceptsPartition bytes e between classes
+    → read_of bytes ≡ Ok (evidence.Partition e between classes)
+accepted_partition-from bytes e between classes accepts =
+    let (ms, parsed, same) = accepts.written.written in
+    read_of-document bytes accepts.document accepts.written
+    ∙ evidence_of-partition accepts.document accepts.states.form.fields.of_kind
+    ∙ subst (λ d. StatesPartition d e between classes → partition_evidence_of d ≡ Ok (evidence.Partition e between classes)) (sym same)
+    (λ states. partition_answer-from ms (Ok (evidence.Partition e between classes)) (states, accepts.counted_classes)) accepts.states
+
+-- a document is accepted as a product exactly where it states it
+pub accepted_product : (bytes : List ℕ) (e : Entry) (pairs : List (List ℕ × List ℕ)) → read_of bytes ≡ Ok (evidence.Product e pairs)
+    → AcceptsProduct bytes e pairs
+accepted_product bytes e pairs read = at (rw read at (bytes_answer bytes))
+  where
+    at : BytesAnswer bytes (Ok (evidence.Product e pairs)) → AcceptsProduct bytes e pairs
+    at (long many other) = absurd cc
+    at (no_table short none other) = absurd cc
+    at (of_document document written (of_no_kind none other)) = absurd cc
+    at (of_document document written (words of_kind never)) = absurd never
+    at (of_document document written (cosets of_kind never)) = absurd never
+    at (of_document document written (partition of_kind never)) = absurd never
+    at (of_document document written (build of_kind never)) = absurd never
+    at (of_document document written (dual of_kind never)) = absurd never
+    at (of_document document written (johnson of_kind never)) = absurd never
+    at (of_document document written (product of_kind states)) = record { document = document; written = written; states = states }
+
+pub accepted_product-from : (bytes : List ℕ) (e : Entry) (pairs : List (List ℕ × List ℕ)) → AcceptsProduct bytes e pairs
+    → read_of bytes ≡ Ok (evidence.Product e pairs)
+accepted_product-from bytes e pairs accepts =
+    let (ms, parsed, same) = accepts.written.written in
+    read_of-document bytes accepts.document accepts.written
+    ∙ evidence_of-product accepts.document accepts.states.fields.of_kind
+    ∙ subst (λ d. StatesProduct d e pairs → product_evidence_of d ≡ Ok (evidence.Product e pairs)) (sym same)
+    (product_answer-from ms (Ok (evidence.Product e pairs))) accepts.states
+
 -- a document is accepted as a build exactly where it states it
 pub accepted_build : (bytes : List ℕ) (e : Entry) (step : Step) (part : List ℕ) (other : Option (List ℕ)) → read_of bytes ≡ Ok (evidence.Build e step part other)
     → AcceptsBuild bytes e step part other
@@ -279,6 +370,8 @@ accepted_build bytes e step part other read = at (rw read at (bytes_answer bytes
     at (of_document document written (of_no_kind none wrong)) = absurd cc
     at (of_document document written (words of_kind never)) = absurd never
     at (of_document document written (cosets of_kind never)) = absurd never
+    at (of_document document written (partition of_kind never)) = absurd never
+    at (of_document document written (product of_kind never)) = absurd never
     at (of_document document written (dual of_kind never)) = absurd never
     at (of_document document written (johnson of_kind never)) = absurd never
     at (of_document document written (build of_kind states)) = record { document = document; written = written; states = states }
@@ -303,6 +396,8 @@ accepted_dual bytes d read = at (rw read at (bytes_answer bytes))
     at (of_document document written (words of_kind never)) = absurd never
     at (of_document document written (cosets of_kind never)) = absurd never
     at (of_document document written (build of_kind never)) = absurd never
+    at (of_document document written (partition of_kind never)) = absurd never
+    at (of_document document written (product of_kind never)) = absurd never
     at (of_document document written (johnson of_kind never)) = absurd never
     at (of_document document written (dual of_kind states)) = record { document = document; written = written; states = states }
 
@@ -323,6 +418,8 @@ accepted_johnson_dual bytes d read = at (rw read at (bytes_answer bytes))
     at (of_document document written (words of_kind never)) = absurd never
     at (of_document document written (cosets of_kind never)) = absurd never
     at (of_document document written (build of_kind never)) = absurd never
+    at (of_document document written (partition of_kind never)) = absurd never
+    at (of_document document written (product of_kind never)) = absurd never
     at (of_document document written (dual of_kind never)) = absurd never
     at (of_document document written (johnson of_kind states)) = record { document = document; written = written; states = states }
 
@@ -348,6 +445,22 @@ answers_cosets bytes document answer written of_kind =
     let (ms, parsed, same) = written.written in
     let read = read_of-document bytes document written ∙ evidence_of-cosets document of_kind in
     let (to, from) = subst (λ d. IsOfKind (codes "cosets") d → (cosets_evidence_of d ≡ answer) ↔ IsCosetsAnswer d answer) (sym same) (λ here. cosets_answers ms here answer) of_kind in
+    (λ e. to (sym read ∙ e), λ h. read ∙ from h)
+
+-- what is said of each answer to a document of kind partition
+pub answers_partition : (bytes : List ℕ) (document : Data) (answer : Result Evidence FileFault) → IsDocument bytes document → IsOfKind (codes "partition") document → (read_of bytes ≡ answer) ↔ IsPartitionAnswer document answer
+answers_partition bytes document answer written of_kind =
+    let (ms, parsed, same) = written.written in
+    let read = read_of-document bytes document written ∙ evidence_of-partition document of_kind in
+    let (to, from) = subst (λ d. IsOfKind (codes "partition") d → (partition_evidence_of d ≡ answer) ↔ IsPartitionAnswer d answer) (sym same) (λ here. partition_answers ms here answer) of_kind in
+    (λ e. to (sym read ∙ e), λ h. read ∙ from h)
+
+-- what is said of each answer to a document of kind product
+pub answers_product : (bytes : List ℕ) (document : Data) (answer : Result Evidence FileFault) → IsDocument bytes document → IsOfKind (codes "product") document → (read_of bytes ≡ answer) ↔ IsProductAnswer document answer
+answers_product bytes document answer written of_kind =
+    let (ms, parsed, same) = written.written in
+    let read = read_of-document bytes document written ∙ evidence_of-product document of_kind in
+    let (to, from) = subst (λ d. IsOfKind (codes "product") d → (product_evidence_of d ≡ answer) ↔ IsProductAnswer d answer) (sym same) (λ here. product_answers ms here answer) of_kind in
     (λ e. to (sym read ∙ e), λ h. read ∙ from h)
 
 -- what is said of each answer to a document of kind build
@@ -380,7 +493,9 @@ kinds bytes document written = (
   λ e. (
     λ of_kind. (answers bytes document (Err Kind) written of_kind).0 e,
     λ of_kind. (answers_cosets bytes document (Err Kind) written of_kind).0 e,
+    λ of_kind. (answers_partition bytes document (Err Kind) written of_kind).0 e,
     λ of_kind. (answers_build bytes document (Err Kind) written of_kind).0 e,
+    λ of_kind. (answers_product bytes document (Err Kind) written of_kind).0 e,
     λ of_kind. (answers_dual bytes document (Err Kind) written of_kind).0 e,
     λ of_kind. (answers_johnson_dual bytes document (Err Kind) written of_kind).0 e,
   ),
@@ -398,6 +513,8 @@ too_many bytes b = (λ e. only (rw e at (bytes_answer bytes)), λ h. read_of-lon
     only (of_document document written (build of_kind never)) = absurd never
     only (of_document document written (words of_kind never)) = absurd never
     only (of_document document written (cosets of_kind never)) = absurd never
+    only (of_document document written (partition of_kind never)) = absurd never
+    only (of_document document written (product of_kind never)) = absurd never
     only (of_document document written (dual of_kind never)) = absurd never
     only (of_document document written (johnson of_kind never)) = absurd never
 
@@ -408,7 +525,9 @@ no_tables bytes = (λ e. (only (rw e at (bytes_answer bytes)), λ document writt
     never : {document : Data} → DocumentAnswer document (Err NotToml) → ⊥
     never (words of_kind wrong) = wrong
     never (cosets of_kind wrong) = wrong
+    never (partition of_kind wrong) = wrong
     never (build of_kind wrong) = wrong
+    never (product of_kind wrong) = wrong
     never (dual of_kind wrong) = wrong
     never (johnson of_kind wrong) = wrong
     never (of_no_kind none other) = absurd cc

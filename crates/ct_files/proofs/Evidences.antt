@@ -1,5 +1,5 @@
 -- What an evidence keeps that is read.
-use Rattle.std.proofs.Common.{◌≡◌, ◌≢◌, ℕ, ◌≤◌, List, length, Option, Some, None, Result, Ok, Err, IfOk, inl, inr, refl, sym, subst, ap, ◌∙◌, arith}
+use Rattle.std.proofs.Common.{◌≡◌, ◌≢◌, ℕ, suc, ◌≤◌, List, length, Option, Some, None, Result, Ok, Err, IfOk, inl, inr, refl, sym, subst, ap, ◌∙◌, arith}
 use Rattle.std.specs.Prelude.{IsSome, is_some}
 use Rattle.ct_codes.specs.declared.entry.Entry.{Entry}
 use Rattle.ct_codes.specs.Entry.{IsEntry, unrestricted}
@@ -13,15 +13,19 @@ use Rattle.ct_build_files.specs.BuildDocument.{NamesOther}
 use Rattle.ct_build_files.specs.BuildAnswer.{IsBuildAnswer}
 use Rattle.ct_word_files.specs.WordsDocument.{IsWordsAnswer}
 use Rattle.ct_word_files.specs.CosetsDocument.{IsCosetsAnswer}
+use Rattle.ct_partition_files.specs.PartitionDocument.{IsPartitionAnswer}
+use Rattle.ct_partition_files.specs.ProductDocument.{IsPairCount, IsProductAnswer}
+use Rattle.ct_partition_files.proofs.CountLemmas.{counts_are_right-from}
+use Rattle.ct_words.specs.declared.limits.TheConstants.{MAX_N}
 use Rattle.ct_files.specs.DualAnswer.{IsDualEvidence, IsJohnsonDualEvidence}
 use Rattle.ct_dual_files.proofs.FormedDuals.{formed_plain, formed_weighted}
 use Rattle.ct_fields.specs.Reads.{Reads}
 use Rattle.ct_fields.specs.declared.document.TheConstants.{MAX_DOCUMENT}
 use Rattle.ct_evidence.specs.declared.evidence.Evidence.{Evidence}
-use Rattle.ct_evidence.specs.declared.evidence.Evidence.TheVariants.{Words, Cosets, Build, Dual, JohnsonDual}
+use Rattle.ct_evidence.specs.declared.evidence.Evidence.TheVariants.{Words, Cosets, Partition, Build, Product, Dual, JohnsonDual}
 use Rattle.ct_fields.specs.declared.fault.FileFault.{FileFault}
 use Rattle.ct_fields.specs.declared.fault.FileFault.TheVariants.{Memory}
-use Rattle.ct_files.proofs.DocumentAnswers.{BytesAnswer, long, no_table, of_document, DocumentAnswer, words, cosets, build, dual, johnson, of_no_kind, bytes_answer, table_answer, without_limit-table, short_or_long, read_of-short, read_of-long}
+use Rattle.ct_files.proofs.DocumentAnswers.{BytesAnswer, long, no_table, of_document, DocumentAnswer, words, cosets, partition, build, product, dual, johnson, of_no_kind, bytes_answer, table_answer, without_limit-table, short_or_long, read_of-short, read_of-long}
 
 -- a stated weight is one of the table beside the distance
 weight_of_stated : (document : Data) (e : Entry) (w : Option ℕ) → StatesEntry document e → HasWeight document e.n w → WeightFits e w
@@ -44,12 +48,16 @@ named_where_needed step document (Some id) some = sym some.0
 -- evidence that a table states is sound, by its kind
 words-sound : (document : Data) (e : Evidence) → IsWordsAnswer document (Ok e) → IsSound e
 words-sound document (Words e listed) (states, some, few) = (entry_of_stated document e states.form.fields.entry, states.lengths, some, few)
+words-sound document (Partition e between classes) never = absurd never
+words-sound document (Product e pairs) never = absurd never
 words-sound document (Cosets e basis representatives) never = absurd never
 words-sound document (Build e step part other) never = absurd never
 words-sound document (Dual d) never = absurd never
 words-sound document (JohnsonDual d) never = absurd never
 
 cosets-sound : (document : Data) (e : Evidence) → IsCosetsAnswer document (Ok e) → IsSound e
+cosets-sound document (Partition e between classes) never = absurd never
+cosets-sound document (Product e pairs) never = absurd never
 cosets-sound document (Words e listed) never = absurd never
 cosets-sound document (Cosets e basis representatives) (states, few_basis, some, few) =
     let stated = states.form.fields.entry in
@@ -66,7 +74,41 @@ cosets-sound document (Build e step part other) never = absurd never
 cosets-sound document (Dual d) never = absurd never
 cosets-sound document (JohnsonDual d) never = absurd never
 
+partition-sound : (document : Data) (e : Evidence) → IsPartitionAnswer document (Ok e) → IsSound e
+partition-sound document (Words e listed) never = absurd never
+partition-sound document (Cosets e basis representatives) never = absurd never
+partition-sound document (Partition e between classes) (states, right) =
+    let fields = states.form.fields in (
+      entry_of_stated document e fields.entry,
+      fields.with_between.1,
+      fields.with_between.2,
+      states.lengths,
+      counts_are_right-from classes right,
+    )
+partition-sound document (Build e step part other) never = absurd never
+partition-sound document (Product e pairs) never = absurd never
+partition-sound document (Dual d) never = absurd never
+partition-sound document (JohnsonDual d) never = absurd never
+
+-- so many pairs as a product of the weight may have
+pairs_counted : (w : Option ℕ) (count : ℕ) → IsPairCount w count → (1 ≤ count) × (count ≤ suc MAX_N) × (w ≡ None → count ≡ 1)
+pairs_counted None count one = (omega arith, omega arith, λ _. one)
+pairs_counted (Some w) count (some, few) = (some, few, λ never. absurd cc)
+
+product-sound : (document : Data) (e : Evidence) → IsProductAnswer document (Ok e) → IsSound e
+product-sound document (Words e listed) never = absurd never
+product-sound document (Cosets e basis representatives) never = absurd never
+product-sound document (Partition e between classes) never = absurd never
+product-sound document (Build e step part other) never = absurd never
+product-sound document (Product e pairs) states =
+    let (some, few, one) = pairs_counted e.w (length pairs) states.fields.with_pairs.2 in
+    (entry_of_stated document e states.fields.entry, some, few, one)
+product-sound document (Dual d) never = absurd never
+product-sound document (JohnsonDual d) never = absurd never
+
 build-sound : (document : Data) (e : Evidence) → IsBuildAnswer document (Ok e) → IsSound e
+build-sound document (Partition e between classes) never = absurd never
+build-sound document (Product e pairs) never = absurd never
 build-sound document (Words e listed) never = absurd never
 build-sound document (Cosets e basis representatives) never = absurd never
 build-sound document (Build e step part other) states =
@@ -75,6 +117,8 @@ build-sound document (Dual d) never = absurd never
 build-sound document (JohnsonDual d) never = absurd never
 
 dual-sound : (document : Data) (e : Evidence) → IsDualEvidence document (Ok e) → IsSound e
+dual-sound document (Partition e between classes) never = absurd never
+dual-sound document (Product e pairs) never = absurd never
 dual-sound document (Words e listed) never = absurd never
 dual-sound document (Cosets e basis representatives) never = absurd never
 dual-sound document (Build e step part other) never = absurd never
@@ -84,6 +128,8 @@ dual-sound document (Dual d) states =
 dual-sound document (JohnsonDual d) never = absurd never
 
 johnson_dual-sound : (document : Data) (e : Evidence) → IsJohnsonDualEvidence document (Ok e) → IsSound e
+johnson_dual-sound document (Partition e between classes) never = absurd never
+johnson_dual-sound document (Product e pairs) never = absurd never
 johnson_dual-sound document (Words e listed) never = absurd never
 johnson_dual-sound document (Cosets e basis representatives) never = absurd never
 johnson_dual-sound document (Build e step part other) never = absurd never
@@ -96,6 +142,8 @@ johnson_dual-sound document (JohnsonDual d) states =
 answer-sound : (document : Data) (e : Evidence) → DocumentAnswer document (Ok e) → IsSound e
 answer-sound document e (words of_kind answer) = words-sound document e answer
 answer-sound document e (cosets of_kind answer) = cosets-sound document e answer
+answer-sound document e (partition of_kind answer) = partition-sound document e answer
+answer-sound document e (product of_kind answer) = product-sound document e answer
 answer-sound document e (build of_kind answer) = build-sound document e answer
 answer-sound document e (dual of_kind answer) = dual-sound document e answer
 answer-sound document e (johnson of_kind answer) = johnson_dual-sound document e answer
@@ -128,7 +176,9 @@ read_of-no_memory bytes = λ e. never (rw e at (bytes_answer bytes))
     never_of_document : {document : Data} → DocumentAnswer document (Err Memory) → ⊥
     never_of_document (words of_kind wrong) = wrong
     never_of_document (cosets of_kind wrong) = wrong
+    never_of_document (partition of_kind wrong) = wrong
     never_of_document (build of_kind wrong) = wrong
+    never_of_document (product of_kind wrong) = wrong
     never_of_document (dual of_kind wrong) = wrong
     never_of_document (johnson of_kind wrong) = wrong
     never_of_document (of_no_kind none other) = absurd cc

@@ -13,6 +13,8 @@ ghost use Rattle.ct_files.specs.Evidence.{read_of};
 ghost use Rattle.ct_fields.specs.Tables.{IsDocument, IsOfKind};
 ghost use Rattle.ct_word_files.specs.WordsDocument.{IsWordsAnswer, AcceptsWords};
 ghost use Rattle.ct_word_files.specs.CosetsDocument.{IsCosetsAnswer, AcceptsCosets};
+ghost use Rattle.ct_partition_files.specs.PartitionDocument.{IsPartitionAnswer, AcceptsPartition};
+ghost use Rattle.ct_partition_files.specs.ProductDocument.{IsProductAnswer, AcceptsProduct};
 ghost use Rattle.ct_build_files.specs.BuildAnswer.{IsBuildAnswer};
 ghost use Rattle.ct_build_files.specs.BuildDocument.{AcceptsBuild};
 ghost use Rattle.ct_files.specs.DualAnswer.{IsDualEvidence, IsJohnsonDualEvidence, AcceptsDual, AcceptsJohnsonDual};
@@ -22,13 +24,18 @@ ghost use Rattle.ct_files.specs.DualAnswer.{IsDualEvidence, IsJohnsonDualEvidenc
 /// range, the texts of the words, each of length n, at `words`, and no other key, and where the words are 1 to
 /// `MAX_WORDS`; and so for cosets, whose table has the texts of the basis words and of the representatives, and for a
 /// build, whose table has the text of the step's operation, the fields of the step, which fits the entry, the id of the
-/// part and, exactly where the step needs another code, that of the other piece. For a dual the table has its mark, its
+/// part and, exactly where the step needs another code, that of the other piece. For a partition the table has the distance
+/// between classes and the texts of the words of each class; for a product the ids of each pair. For a dual the table has its mark, its
 /// multipliers and its allowances, of which mark and allowances may be left out; for a jdual its weight and its multipliers.
 pub fn accepted_documents()
     ensures words { (bytes : List ℕ) (e : Entry) (words : List ℕ) →
         (read_of bytes ≡ Ok (evidence.Words e words)) ↔ AcceptsWords bytes e words }
     ensures cosets { (bytes : List ℕ) (e : Entry) (basis representatives : List ℕ) →
         (read_of bytes ≡ Ok (evidence.Cosets e basis representatives)) ↔ AcceptsCosets bytes e basis representatives }
+    ensures partition { (bytes : List ℕ) (e : Entry) (between : ℕ) (classes : List (List ℕ)) →
+        (read_of bytes ≡ Ok (evidence.Partition e between classes)) ↔ AcceptsPartition bytes e between classes }
+    ensures product { (bytes : List ℕ) (e : Entry) (pairs : List (List ℕ × List ℕ)) →
+        (read_of bytes ≡ Ok (evidence.Product e pairs)) ↔ AcceptsProduct bytes e pairs }
     ensures build { (bytes : List ℕ) (e : Entry) (step : Step) (part : List ℕ) (other : Option (List ℕ)) →
         (read_of bytes ≡ Ok (evidence.Build e step part other)) ↔ AcceptsBuild bytes e step part other }
     ensures dual { (bytes : List ℕ) (d : Dual) → (read_of bytes ≡ Ok (evidence.Dual d)) ↔ AcceptsDual bytes d }
@@ -45,14 +52,15 @@ pub fn bytes_without_table()
         ((length bytes ≤ MAX_DOCUMENT) × ((document : Data) → ¬ (IsDocument bytes document))) }
 {}
 
-/// Where the other answers come: `Kind` for a table of another kind than `words`, `cosets`, `build`, `dual` and `jdual`, and
-/// for one of these kinds each answer exactly where `IsWordsAnswer`, `IsCosetsAnswer`, `IsBuildAnswer`, `IsDualEvidence` or
-/// `IsJohnsonDualEvidence` says, which field or which other fault it may be.
+/// Where the other answers come: `Kind` for a table of another kind than `words`, `cosets`, `partition`, `build`, `product`,
+/// `dual` and `jdual`, and for one of these kinds each answer exactly where `IsWordsAnswer`, `IsCosetsAnswer`,
+/// `IsPartitionAnswer`, `IsBuildAnswer`, `IsProductAnswer`, `IsDualEvidence` or `IsJohnsonDualEvidence` says, which field or which other fault it may be.
 pub fn answers_to_documents()
     ensures kind { (bytes : List ℕ) (document : Data) → IsDocument bytes document →
         (read_of bytes ≡ Err Kind)
         ↔ (¬ (IsOfKind (codes "words") document) × ¬ (IsOfKind (codes "cosets") document)
-        × ¬ (IsOfKind (codes "build") document) × ¬ (IsOfKind (codes "dual") document)
+        × ¬ (IsOfKind (codes "partition") document) × ¬ (IsOfKind (codes "build") document)
+        × ¬ (IsOfKind (codes "product") document) × ¬ (IsOfKind (codes "dual") document)
         × ¬ (IsOfKind (codes "jdual") document)) }
     ensures words { (bytes : List ℕ) (document : Data) (answer : Result Evidence FileFault) →
         IsDocument bytes document → IsOfKind (codes "words") document →
@@ -60,6 +68,12 @@ pub fn answers_to_documents()
     ensures cosets { (bytes : List ℕ) (document : Data) (answer : Result Evidence FileFault) →
         IsDocument bytes document → IsOfKind (codes "cosets") document →
         (read_of bytes ≡ answer) ↔ IsCosetsAnswer document answer }
+    ensures partition { (bytes : List ℕ) (document : Data) (answer : Result Evidence FileFault) →
+        IsDocument bytes document → IsOfKind (codes "partition") document →
+        (read_of bytes ≡ answer) ↔ IsPartitionAnswer document answer }
+    ensures product { (bytes : List ℕ) (document : Data) (answer : Result Evidence FileFault) →
+        IsDocument bytes document → IsOfKind (codes "product") document →
+        (read_of bytes ≡ answer) ↔ IsProductAnswer document answer }
     ensures build { (bytes : List ℕ) (document : Data) (answer : Result Evidence FileFault) →
         IsDocument bytes document → IsOfKind (codes "build") document →
         (read_of bytes ≡ answer) ↔ IsBuildAnswer document answer }

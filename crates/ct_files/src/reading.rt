@@ -8,6 +8,7 @@ use ct_build_files::build_evidence;
 use ct_dual_files::{dual_of, johnson_dual_of};
 use ct_evidence::Evidence;
 use ct_fields::{FileFault, MAX_DOCUMENT, is_of_kind, read_document};
+use ct_partition_files::{partition_evidence, product_evidence};
 use ct_word_files::{cosets_evidence, words_evidence};
 use std::alloc::Global;
 use toml::Value;
@@ -22,8 +23,14 @@ fn evidence(alloc: Global, document: &Value) -> Result<Evidence, FileFault>
     if is_of_kind(document, "cosets") {
         return cosets_evidence(alloc, document);
     }
+    if is_of_kind(document, "partition") {
+        return partition_evidence(alloc, document);
+    }
     if is_of_kind(document, "build") {
         return build_evidence(alloc, document);
+    }
+    if is_of_kind(document, "product") {
+        return product_evidence(alloc, document);
     }
     if is_of_kind(document, "dual") {
         let dual = dual_of(alloc, document)?;
@@ -64,7 +71,9 @@ fn read(alloc: Global, bytes: &[u8]) -> Result<Evidence, FileFault>
 /// |---|---|
 /// | `words` | `w`, which may be left out; `words`, a list of 1 to `ct_codes::MAX_WORDS` words |
 /// | `cosets` | `basis`, a list of at most `MAX_N` words; `representatives`, one of 1 to `ct_codes::MAX_REPRESENTATIVES` |
+/// | `partition` | `w`, which may be left out; `d1`, an integer from 1 to d; `classes`, a list of 1 to `ct_partitions::MAX_CLASSES` lists of 1 or more words, at most `ct_codes::MAX_WORDS` in all |
 /// | `build` | `w`, as the operation has it; `op`, the operation; the fields of the operation; `part`, an id; `other`, an id |
+/// | `product` | `w`, which may be left out; `pairs`, a list of 1 to `MAX_N + 1` lists of two ids, of one alone where `w` is left out |
 /// | `dual` | `even`, a truth value, true only with an even d, false where it is left out; `c`, a list of 1 to n + 1 whole numbers of at least 0; `y`, a list of pairs `[i, v]`, empty where it is left out, i ascending from d to n, even ones alone where `even` is set, v at least 0 |
 /// | `jdual` | `w`, with an even d; `c`, a list of 1 to m + 1 whole numbers of at least 0, m the least of w and n - w |
 ///

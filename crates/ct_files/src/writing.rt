@@ -9,6 +9,7 @@ use ct_build_files::build_table;
 use ct_dual_files::{dual_table, johnson_dual_table};
 use ct_evidence::Evidence;
 use ct_fields::table_bytes;
+use ct_partition_files::{partition_table, product_table};
 use ct_word_files::{cosets_table, words_table};
 use std::alloc::{AllocError, Global};
 use toml::Table;
@@ -25,6 +26,12 @@ fn evidence_table(alloc: Global, evidence: &Evidence) -> Result<Table, AllocErro
             basis,
             representatives,
         } => cosets_table(alloc, *entry, basis.as_slice(), representatives.as_slice()),
+        Evidence::Partition {
+            entry,
+            between,
+            classes,
+        } => partition_table(alloc, *entry, *between, classes.as_slice()),
+        Evidence::Product { entry, pairs } => product_table(alloc, *entry, pairs.as_slice()),
         Evidence::Build {
             entry,
             step,
