@@ -89,3 +89,67 @@ fn numbers_of_cosets(rt: HostRuntime) -> Result<(), Fail> {
     }
     Ok(())
 }
+
+/// The greatest numbers of classes and of their words, and one more: classes are counted first, then those without words,
+/// then words, and all after the digits.
+#[test]
+fn numbers_of_classes(rt: HostRuntime) -> Result<(), Fail> {
+    let alloc = rt.alloc();
+    let rows = [
+        (4095, "['1'],", "['0']", None),
+        (4096, "['1'],", "['0']", Some(FileFault::Size(4097))),
+        (4096, "[],", "['0']", Some(FileFault::Size(4097))),
+        (4095, "['1'],", "[]", Some(FileFault::Size(0))),
+        (4095, "['1', '1', '0', '1'],", "['0', '0', '0', '0']", None),
+        (
+            4095,
+            "['1', '1', '0', '1'],",
+            "['0', '0', '0', '0', '0']",
+            Some(FileFault::Size(16385)),
+        ),
+        (
+            4095,
+            "['1', '1', '0', '1', '1'],",
+            "[]",
+            Some(FileFault::Size(0)),
+        ),
+        (4096, "['1'],", "['2']", Some(FileFault::Digits(4096))),
+    ];
+    for (before, class, last, fault) in rows {
+        let start = "kind = 'partition'\nn = 1\nd = 3\nd1 = 1\nclasses = [";
+        let mut text = with_items(alloc, start, before, class)?;
+        text.push_str(last)?;
+        text.push(']')?;
+        assert!(rt;
+            read_evidence(alloc, text.as_bytes()).err() == fault,
+            "{before} {last}"
+        );
+    }
+    Ok(())
+}
+
+/// The greatest numbers of pairs with and without a weight, and one more.
+#[test]
+fn numbers_of_pairs(rt: HostRuntime) -> Result<(), Fail> {
+    let alloc = rt.alloc();
+    let rows = [
+        ("", 1, true),
+        ("", 2, false),
+        ("", 29, false),
+        ("w = 4", 1, true),
+        ("w = 4", 2, true),
+        ("w = 4", 29, true),
+        ("w = 4", 30, false),
+    ];
+    for (weight, count, taken) in rows {
+        let start = "kind = 'product'\nn = 8\nd = 4\npairs = [";
+        let mut text = with_items(alloc, start, count, "['a', 'b'],")?;
+        text.push_str("]\n")?;
+        text.push_str(weight)?;
+        assert!(rt;
+            read_evidence(alloc, text.as_bytes()).is_ok() == taken,
+            "{weight} {count}"
+        );
+    }
+    Ok(())
+}

@@ -4,6 +4,8 @@
 #[cfg(test)]
 mod counts;
 #[cfg(test)]
+mod partitions;
+#[cfg(test)]
 mod read;
 #[cfg(test)]
 mod refused;

@@ -172,6 +172,8 @@ fn keys_of_the_fields(rt: HostRuntime) {
         (FieldName::Words, "words"),
         (FieldName::Basis, "basis"),
         (FieldName::Representatives, "representatives"),
+        (FieldName::D1, "d1"),
+        (FieldName::Classes, "classes"),
         (FieldName::Op, "op"),
         (FieldName::Places, "places"),
         (FieldName::Digits, "digits"),
@@ -179,6 +181,7 @@ fn keys_of_the_fields(rt: HostRuntime) {
         (FieldName::Size, "size"),
         (FieldName::Part, "part"),
         (FieldName::Other, "other"),
+        (FieldName::Pairs, "pairs"),
     ];
     for (name, text) in texts {
         assert!(rt; name.text() == text);

@@ -4,7 +4,7 @@ use ct_files::{read_evidence, write_evidence};
 use std::test::Fail;
 
 // A document whose keys stand in another order than they are written in, and what is written for it.
-const WRITTEN: [(&str, &str); 17] = [
+const WRITTEN: [(&str, &str); 21] = [
     (
         "kind = 'words'\nn = 10\nd = 6\nwords = ['0000000000', '1111100000']\n",
         "d = 6\nkind = \"words\"\nn = 10\nwords = [\"0000000000\", \"1111100000\"]\n",
@@ -68,6 +68,22 @@ const WRITTEN: [(&str, &str); 17] = [
     (
         "op = 'juxtapose'\nother = 'b'\npart = 'a'\nkind = 'build'\nn = 8\nd = 6\nw = 3",
         "d = 6\nkind = \"build\"\nn = 8\nop = \"juxtapose\"\nother = \"b\"\npart = \"a\"\nw = 3\n",
+    ),
+    (
+        "d1 = 2\nclasses = [['0011', '1100'], ['0101']]\nkind = 'partition'\nw = 2\nn = 4\nd = 4",
+        "classes = [[\"0011\", \"1100\"], [\"0101\"]]\nd = 4\nd1 = 2\nkind = \"partition\"\nn = 4\nw = 2\n",
+    ),
+    (
+        "kind = 'partition'\nn = 1\nd = 3\nd1 = 3\nclasses = [['1']]",
+        "classes = [[\"1\"]]\nd = 3\nd1 = 3\nkind = \"partition\"\nn = 1\n",
+    ),
+    (
+        "pairs = [['a', 'b']]\nkind = 'product'\nn = 8\nd = 3",
+        "d = 3\nkind = \"product\"\nn = 8\npairs = [[\"a\", \"b\"]]\n",
+    ),
+    (
+        "w = 4\nkind = 'product'\npairs = [['a', 'b'], ['a', 'b']]\nn = 8\nd = 4",
+        "d = 4\nkind = \"product\"\nn = 8\npairs = [[\"a\", \"b\"], [\"a\", \"b\"]]\nw = 4\n",
     ),
     (
         "op = 'trim'\nsize = 1\npart = 'a'\nkind = 'build'\nn = 1\nd = 4\nw = 1",
