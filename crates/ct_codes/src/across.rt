@@ -13,7 +13,7 @@ const MANY: usize = 256;
 
 /// The first of the words that is closer than `d` to one of the later words, by its place, and the place of the first of those to
 /// which it is. All are words of length 32, too. It takes no memory.
-pub fn first_close_across(words: &[Word], later: &[Word], d: u32) -> Option<(usize, usize)>
+pub(crate) fn first_close_across(words: &[Word], later: &[Word], d: u32) -> Option<(usize, usize)>
     ensures { IsFirstAcrossOrNone (λ x y. nat_lt (distance 32 x y) d) words.now later.now result }
 {
     if words.len() >= MANY && later.len() == BLOCK {

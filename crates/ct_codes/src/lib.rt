@@ -18,7 +18,6 @@ mod rows;
 mod scheme;
 mod span;
 
-pub use across::first_close_across;
 pub use check::check_words;
 pub use claim::{Claim, Side};
 pub use code::{Code, MAX_CODE_DISTANCE};
