@@ -1,6 +1,8 @@
 //! Coset codes whose answers are known.
 
-use ct_codes::{CodeFault, CosetCode, Entry, MAX_COSET_WORK, MAX_REPRESENTATIVES, check_cosets};
+use ct_codes::{
+    Code, CodeFault, CosetCode, Entry, MAX_COSET_WORK, MAX_REPRESENTATIVES, check_cosets,
+};
 use ct_words::{Word, weight};
 use std::alloc::Global;
 use std::process::Abort;
@@ -59,6 +61,12 @@ fn answer(
     let basis = basis.to_vec(alloc)?;
     let representatives = representatives.to_vec(alloc)?;
     Ok(check_cosets(alloc, entry, basis, representatives))
+}
+
+/// The extended Golay code of length 24.
+pub(crate) fn golay(rt: &impl Abort, alloc: Global) -> Result<Code, Fail> {
+    let code = answer(rt, alloc, 24, 8, &GOLAY, &[0])??;
+    Ok(code.list(alloc)?)
 }
 
 /// How many of the words have the weight.
