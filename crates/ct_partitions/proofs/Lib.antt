@@ -1,6 +1,6 @@
-pub mod SliceLemmas
 pub mod ClassLemmas
 pub mod RowLemmas
+mod LeastLemmas
 pub mod PairFaults
 pub mod PartitionFaults
 pub mod ProductCodes

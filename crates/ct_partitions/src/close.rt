@@ -1,18 +1,18 @@
 //! The search for two words of a partition that are closer than they need to be.
 
-ghost use Rattle.std.specs.Prelude.{◌≡◌, ℕ, ◌^◌, ◌<◌, ◌≤◌, true, false, length, All, MatchOption, IfSome};
+ghost use Rattle.std.specs.Prelude.{◌≡◌, ℕ, ◌^◌, ◌<◌, ◌≤◌, length, All, MatchOption, IfSome};
 ghost use Rattle.ct_words.specs.PairProducts.{all_places};
 ghost use Rattle.ct_codes.specs.Pairs.{least_pair};
 ghost use Rattle.ct_partitions.specs.Partition.{word_lists, all_words};
 ghost use Rattle.ct_partitions.specs.Check.{is_close};
-ghost use Rattle.ct_partitions.specs.Inside.Rows.{is_near, NoneFrom, IsFirstFrom};
+ghost use Rattle.ct_partitions.specs.Inside.Rows.{IsLesser};
 
-use ct_codes::first_close;
+use ct_codes::first_close_pair;
 use ct_words::Word;
 
 /// The least pair of places, in order of the first and then the second, whose words are closer than they need to be: `d`
-/// in one class, `between` in different ones. All words are handed in, one class after the other; each pair is compared
-/// once.
+/// in one class, `between` in different ones. All words are handed in, one class after the other. It is the least of all words
+/// that are closer than `between`, or the least of the first class that has words closer than `d`.
 pub(crate) fn first_close_places(
     words: &[Word],
     classes: &[Vec<Word>],
@@ -20,54 +20,42 @@ pub(crate) fn first_close_places(
     between: u32,
 ) -> Option<(usize, usize)>
     requires words { words.now ≡ all_words (word_lists classes.now) }
+    requires nearer { between ≤ d }
     ensures least { (n : ℕ) → All (λ x. x < 2 ^ n) words.now →
         result ≡ least_pair (is_close n d between (word_lists classes.now)) (all_places (length words.now)) }
     ensures places { IfSome result (λ p. (p.0 < p.1) × (p.1 < length words.now)) }
 {
+    let across = first_close_pair(words, between);
     let mut start = 0;
     for class in classes {
         let end = start + class.len();
-        if let Some(pair) = close_to_class(words, start, end, d, between) {
-            return Some(pair);
+        if let Some((i, j)) = first_close_pair(class, d) {
+            return Some(lesser(across, (start + i, start + j)));
         }
         start = end;
     }
-    None
+    across
 }
 
-/// The least such pair whose first word is of the class at the places from `start` to before `end`.
-fn close_to_class(
-    words: &[Word],
-    start: usize,
-    end: usize,
-    d: u32,
-    between: u32,
-) -> Option<(usize, usize)>
-    requires within { end ≤ length words.now }
-    ensures { MatchOption result (NoneFrom (is_near words.now end d between) start end (length words.now))
-        (λ p. (p.0 < end) × IsFirstFrom (is_near words.now end d between) start (length words.now) p.0 p.1) }
+/// The lesser of two pairs, in order of the first place and then the second: the other one where there is no first.
+fn lesser(pair: Option<(usize, usize)>, other: (usize, usize)) -> (usize, usize)
+    ensures { MatchOption pair (result ≡ other) (λ p. IsLesser p other result) }
 {
-    for i in start..end {
-        if let Some(j) = close_to_word(words, i, end, d, between) {
-            return Some((i, j));
-        }
+    match pair {
+        Some(pair) => lesser_of(pair, other),
+        None => other,
     }
-    None
 }
 
-/// The first place after `i` whose word is too close to that at `i`, whose class ends before `end`.
-fn close_to_word(words: &[Word], i: usize, end: usize, d: u32, between: u32) -> Option<usize>
-    requires order { i < end }
-    requires within { end ≤ length words.now }
-    ensures { MatchOption result
-        ((m : ℕ) → i < m → m < length words.now → is_near words.now end d between i m ≡ false)
-        (λ j. (i < j) × (j < length words.now) × (is_near words.now end d between i j ≡ true)
-        × ((m : ℕ) → i < m → m < j → is_near words.now end d between i m ≡ false)) }
+/// The lesser of two pairs.
+fn lesser_of(pair: (usize, usize), other: (usize, usize)) -> (usize, usize)
+    ensures { IsLesser pair other result }
 {
-    let word = words[i];
-    if let Some(more) = first_close(word, &words[i + 1..end], d) {
-        return Some(i + 1 + more);
+    if pair.0 < other.0 {
+        return pair;
     }
-    let more = first_close(word, &words[end..], between)?;
-    Some(end + more)
+    if pair.0 > other.0 || pair.1 > other.1 {
+        return other;
+    }
+    pair
 }

@@ -1,14 +1,17 @@
-use Rattle.std.proofs.Common.{◌≡◌, ℕ, ◌+◌, ◌^◌, ◌<◌, List, length, take, get_or, All, ap, ap₂, sym, subst, ◌∙◌, arith, rules, length-append, take_all}
+use Rattle.std.proofs.Common.{◌≡◌, ℕ, ◌+◌, ◌^◌, ◌<◌, nat_lt, List, length, take, get_or, All, ap, ap₂, sym, subst, ◌∙◌, arith, rules, length-append, take_all}
 use Rattle.std.proofs.Math.Facts.{Fits-lt-pow}
+use Rattle.std.specs.Prelude.{MatchOption}
 use Rattle.std.proofs.lemmas.List.Elements.{All-from_get_or}
+use Rattle.ct_words.specs.Word.{distance}
 use Rattle.ct_words.specs.PairProducts.{all_places}
 use Rattle.ct_codes.specs.Pairs.{least_pair}
-use Rattle.ct_codes.proofs.PairLemmas.{least_pair_same}
+use Rattle.ct_codes.proofs.PairLemmas.{least_pair_same, IsLeastPair-from}
 use Rattle.ct_partitions.specs.Partition.{word_lists, all_words}
 use Rattle.ct_partitions.specs.Check.{is_close}
-use Rattle.ct_partitions.specs.Inside.Rows.{is_near, NoneFrom, IsFirstFrom}
-use Rattle.ct_partitions.proofs.ClassLemmas.{lists_more, words_up_to, row_same}
-use Rattle.ct_partitions.proofs.RowLemmas.{none_from-more, none_from-same, first_from-more, first_from-same, least_from_first, least_from_none, close_any_length, places_below}
+use Rattle.ct_partitions.specs.Inside.Rows.{IsLesser}
+use Rattle.ct_partitions.proofs.ClassLemmas.{lists_more, words_up_to}
+use Rattle.ct_partitions.proofs.RowLemmas.{close_any_length, places_below}
+use Rattle.ct_partitions.proofs.LeastLemmas.{least_of_all, least_of_two, least_of_places, close_between, class_fits, class_passed, class_close, class_covered, lesser_places}
 use Rattle.ct_partitions.proofs.close.first_close_places.Goals as goal
 
 -- the least close pair, whatever the length that the words are read at
@@ -32,44 +35,21 @@ overflow_add-end c =
     let place = c.loop-class.invariant.place in
     omega arith
 
-pub close_to_class-requires : goal.close_to_class-requires
-close_to_class-requires c =
-    let size : c.len.result ≡ length c.class-item.result.items = search rules in
-    let item = ap (λ v. length v.items) c.class-item.is in
-    let most = words_up_to c.args.classes.now c.loop-class.class-index c.class-item.result c.loop-class-test.true in
-    let all = ap length c.requires.words in
-    let place = c.loop-class.invariant.place in
-    record { within = omega arith }
-
-pub returns-in-Some-clause-least : goal.returns-in-Some-clause-least
-returns-in-Some-clause-least c = λ n below.
+pub returns-clause-least : goal.returns-clause-least
+returns-clause-least c = λ n below.
     let words = c.args.words.now in
     let classes = c.args.classes.now in
-    let k = c.loop-class.class-index in
-    let item = c.class-item.result in
-    let d = c.args.d in
-    let between = c.args.between in
+    let close = is_close 32 c.args.d c.args.between (word_lists classes) in
+    let test = λ (x y : ℕ). nat_lt (distance 32 x y) c.args.between in
     let fits = All-from_get_or (λ x. x < 2 ^ 32) words 0 (λ j h. Fits-lt-pow (c.type_inv.words j)) in
-    let size : c.len.result ≡ length item.items = search rules in
-    let start = length (all_words (word_lists (take k classes))) in
-    let end_is : c.loop-class.start + c.len.result ≡ start + length (get_or classes k item).items =
-    ap₂ (λ i j. i + j) c.loop-class.invariant.place (size ∙ ap (λ v. length v.items) c.class-item.is) in
+    let all = ap length c.requires.words in
+    let taken = ap (λ vs. length (all_words (word_lists vs))) (take_all c.loop-class.class-index classes (omega arith)) in
     let place = c.loop-class.invariant.place in
-    let found = c.in-Some.ensures in
-    let before_end = found.0 in
-    let near : IsFirstFrom (is_near words (start + length (get_or classes k item).items) d between) c.loop-class.start
-    (length words) c.in-Some.pair.0 c.in-Some.pair.1 =
-    subst (λ e. IsFirstFrom (is_near words e d between) c.loop-class.start
-    (length words) c.in-Some.pair.0 c.in-Some.pair.1) end_is found.1 in
-    let close = first_from-same (is_close 32 d between (word_lists classes)) (is_near words (start + length
-    (get_or classes k item).items) d between) c.loop-class.start (length words)
-    c.in-Some.pair.0 c.in-Some.pair.1
-    (λ i j from within order inside. row_same d between classes k item words c.loop-class-test.true c.requires.words i j
-    (omega arith) (omega arith) order) near in
-    let whole = first_from-more (is_close 32 d between (word_lists classes)) 0 c.loop-class.start
-    (length words) c.in-Some.pair.0 c.in-Some.pair.1 c.loop-class.invariant.none (omega arith) close in
-    sym (least_from_first (is_close 32 d between (word_lists classes)) (length words) c.in-Some.pair.0 c.in-Some.pair.1 whole)
-    ∙ any_length n d between (word_lists classes) words c.requires.words below fits
+    let end : c.loop-class.start ≡ length words = omega arith in
+    least_of_all test close words c.first_close_pair-across.result (c.first_close_pair-across.ensures.least 32 fits)
+    (λ k m order within closer. c.loop-class.invariant.only k m (omega arith) order within closer)
+    (close_between c.args.d c.args.between (word_lists classes) words c.requires.words c.requires.nearer)
+    ∙ any_length n c.args.d c.args.between (word_lists classes) words c.requires.words below fits
 
 pub loop-class-preserved : goal.loop-class-preserved
 loop-class-preserved c =
@@ -77,39 +57,84 @@ loop-class-preserved c =
     let classes = c.args.classes.now in
     let k = c.loop-class.class-index in
     let item = c.class-item.result in
-    let d = c.args.d in
-    let between = c.args.between in
+    let close = λ (x y : ℕ). nat_lt (distance 32 x y) c.args.d in
+    let within = c.loop-class-test.true in
     let size : c.len.result ≡ length item.items = search rules in
-    let start = length (all_words (word_lists (take k classes))) in
-    let place = c.loop-class.invariant.place in
-    let end_is : c.loop-class.start + c.len.result ≡ start + length (get_or classes k item).items =
+    let end_is : c.loop-class.start + c.len.result ≡ length (all_words (word_lists (take k classes))) + length (get_or classes k item).items =
     ap₂ (λ i j. i + j) c.loop-class.invariant.place (size ∙ ap (λ v. length v.items) c.class-item.is) in
-    let more = ap length (lists_more classes k item c.loop-class-test.true)
-    ∙ length-append (all_words (word_lists (take k classes))) (get_or classes k item).items in
-    let near : NoneFrom (is_near words (start + length (get_or classes k item).items) d between) c.loop-class.start
-    (c.loop-class.start + c.len.result) (length words) =
-    subst (λ e. NoneFrom (is_near words e d between) c.loop-class.start (c.loop-class.start + c.len.result)
-    (length words)) end_is c.in_default.ensures in
-    let close = none_from-same (is_close 32 d between (word_lists classes)) (is_near words (start + length
-    (get_or classes k item).items) d between) c.loop-class.start
-    (c.loop-class.start + c.len.result) (length words)
-    (λ i j from before order inside. row_same d between classes k item words c.loop-class-test.true c.requires.words i j
-    (omega arith) (omega arith) order) near in
+    let more = ap length (lists_more classes k item within) ∙ length-append (all_words (word_lists (take k classes))) (get_or classes k item).items in
+    let fits = All-from_get_or (λ x. x < 2 ^ 32) words 0 (λ j h. Fits-lt-pow (c.type_inv.words j)) in
+    let items = c.deref.ensures.value ∙ ap (λ v. v.items) c.class-item.is in
+    let none = sym (ap (least_pair close) items)
+    ∙ sym (c.first_close_pair.ensures.least 32 (subst (All (λ (x : ℕ). x < 2 ^ 32)) (sym items) (class_fits classes k item words within c.requires.words fits)))
+    ∙ c.in_default.is in
+    let place = c.loop-class.invariant.place in
     record {
       place = end_is ∙ sym more;
-      none = none_from-more (is_close 32 d between (word_lists classes)) 0 c.loop-class.start (c.loop-class.start + c.len.result)
-          (length words) c.loop-class.invariant.none close;
+      only = λ i j sooner order below closer.
+          class_passed c.args.d c.args.between classes k item words within c.requires.words
+          (λ a b early. c.loop-class.invariant.only a b (omega arith)) none i j (omega arith) order below closer;
     }
 
-pub returns-clause-least : goal.returns-clause-least
-returns-clause-least c = λ n below.
+pub returns-in-Some-clause-least : goal.returns-in-Some-clause-least
+returns-in-Some-clause-least c = λ n below.
     let words = c.args.words.now in
     let classes = c.args.classes.now in
+    let k = c.loop-class.class-index in
+    let item = c.class-item.result in
+    let start = length (all_words (word_lists (take k classes))) in
+    let close = λ (x y : ℕ). nat_lt (distance 32 x y) c.args.d in
+    let test = λ (x y : ℕ). nat_lt (distance 32 x y) c.args.between in
+    let within = c.loop-class-test.true in
     let fits = All-from_get_or (λ x. x < 2 ^ 32) words 0 (λ j h. Fits-lt-pow (c.type_inv.words j)) in
+    let items = c.deref.ensures.value ∙ ap (λ v. v.items) c.class-item.is in
+    let found = sym (ap (least_pair close) items)
+    ∙ sym (c.in-Some.ensures.least 32 (subst (All (λ (x : ℕ). x < 2 ^ 32)) (sym items) (class_fits classes k item words within c.requires.words fits))) in
+    let least = IsLeastPair-from close (get_or classes k item).items c.in-Some.i c.in-Some.j found in
+    let order_is = least.order in
+    let within_is = least.within in
+    let most = words_up_to classes k item within in
     let all = ap length c.requires.words in
-    let taken = ap (λ vs. length (all_words (word_lists vs))) (take_all c.loop-class.class-index classes (omega arith)) in
     let place = c.loop-class.invariant.place in
-    let end : c.loop-class.start ≡ length words = omega arith in
-    sym (least_from_none (is_close 32 c.args.d c.args.between (word_lists classes)) (length words)
-    (subst (λ e. NoneFrom (is_close 32 c.args.d c.args.between (word_lists classes)) 0 e (length words)) end c.loop-class.invariant.none))
+    let other : ◌≡◌ {A = ℕ × ℕ} (c.loop-class.start + c.in-Some.i, c.loop-class.start + c.in-Some.j) (start + c.in-Some.i, start + c.in-Some.j) =
+    ap (λ (s : ℕ). (s + c.in-Some.i, s + c.in-Some.j)) place in
+    let lesser = subst (λ (o : ℕ × ℕ). MatchOption c.first_close_pair-across.result (c.lesser.result ≡ o) (λ p. IsLesser p o c.lesser.result)) other
+    c.lesser.ensures in
+    let whole = least_of_two test (is_close 32 c.args.d c.args.between (word_lists classes)) words c.first_close_pair-across.result
+    (start + c.in-Some.i, start + c.in-Some.j) c.lesser.result (c.first_close_pair-across.ensures.least 32 fits) lesser (omega arith, omega arith)
+    (class_close c.args.d c.args.between classes k item words within c.requires.words c.in-Some.i c.in-Some.j least)
+    (class_covered c.args.d c.args.between classes k item words within c.requires.words c.in-Some.i c.in-Some.j least
+    (λ a b early. c.loop-class.invariant.only a b (omega arith)))
+    (close_between c.args.d c.args.between (word_lists classes) words c.requires.words c.requires.nearer) in
+    sym (least_of_places (is_close 32 c.args.d c.args.between (word_lists classes)) (length words) c.lesser.result whole)
     ∙ any_length n c.args.d c.args.between (word_lists classes) words c.requires.words below fits
+
+pub overflow_add-start : goal.overflow_add-start
+overflow_add-start c =
+    let items = ap length (c.deref.ensures.value ∙ ap (λ v. v.items) c.class-item.is) in
+    let most = words_up_to c.args.classes.now c.loop-class.class-index c.class-item.result c.loop-class-test.true in
+    let all = ap length c.requires.words in
+    let place = c.loop-class.invariant.place in
+    let order = c.in-Some.ensures.places.0 in
+    let inside = c.in-Some.ensures.places.1 in
+    omega arith
+
+pub overflow_add-start-in-Some : goal.overflow_add-start-in-Some
+overflow_add-start-in-Some c =
+    let items = ap length (c.deref.ensures.value ∙ ap (λ v. v.items) c.class-item.is) in
+    let most = words_up_to c.args.classes.now c.loop-class.class-index c.class-item.result c.loop-class-test.true in
+    let all = ap length c.requires.words in
+    let place = c.loop-class.invariant.place in
+    let inside = c.in-Some.ensures.places.1 in
+    omega arith
+
+pub returns-in-Some-clause-places : goal.returns-in-Some-clause-places
+returns-in-Some-clause-places c =
+    let items = ap length (c.deref.ensures.value ∙ ap (λ v. v.items) c.class-item.is) in
+    let most = words_up_to c.args.classes.now c.loop-class.class-index c.class-item.result c.loop-class-test.true in
+    let all = ap length c.requires.words in
+    let place = c.loop-class.invariant.place in
+    let order = c.in-Some.ensures.places.0 in
+    let inside = c.in-Some.ensures.places.1 in
+    lesser_places (length c.args.words.now) c.first_close_pair-across.result (c.loop-class.start + c.in-Some.i, c.loop-class.start + c.in-Some.j)
+    c.lesser.result c.first_close_pair-across.ensures.places c.lesser.ensures (omega arith, omega arith)

@@ -1,12 +1,14 @@
-use Rattle.std.proofs.Common.{◌≡◌, length, take}
+use Rattle.std.proofs.Common.{◌≡◌, ℕ, ◌<◌, true, nat_lt, length, take}
+use Rattle.ct_words.specs.Word.{distance}
 use Rattle.ct_partitions.specs.Partition.{word_lists, all_words}
 use Rattle.ct_partitions.specs.Check.{is_close}
-use Rattle.ct_partitions.specs.Inside.Rows.{NoneFrom}
+use Rattle.ct_partitions.proofs.LeastLemmas.{at_places}
 use Rattle.ct_partitions.proofs.close.first_close_places.Given as goal
 
--- the words of the classes so far come before `start`, and none of them is too close to a later one
+-- the words of the classes so far come before `start`, and those of them that are too close to a later one are closer than words of different classes need to be
 abbrev pub invariant-loop-class : goal.invariant-loop-class
 invariant-loop-class l = record {
   place : l.start ≡ length (all_words (word_lists (take l.class-index l.classes)));
-  none : NoneFrom (is_close 32 l.d l.between (word_lists l.classes)) 0 l.start (length l.words);
+  only : (k m : ℕ) → k < l.start → k < m → m < length l.words → is_close 32 l.d l.between (word_lists l.classes) k m ≡ true
+      → at_places (λ x y. nat_lt (distance 32 x y) l.between) l.words k m ≡ true;
 }
