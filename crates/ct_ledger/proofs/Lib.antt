@@ -12,6 +12,7 @@ pub mod KeptLemmas
 pub mod PartLemmas
 pub mod Accepting
 pub mod Refusing
+pub mod Admitting
 pub mod DocumentLines
 pub mod Reaching
 pub mod DualSupports

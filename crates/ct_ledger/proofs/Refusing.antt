@@ -130,7 +130,7 @@ submitted-read : (pieces : List PieceValue) (id document : List ℕ) (evidence :
 submitted-read pieces id document evidence h = submitted-room pieces id document h.place ∙ ap (made_with pieces id document) h.read
 
 -- a kind's own reasons
-abbrev IsOwn : SubmitFault → Type 0
+abbrev pub IsOwn : SubmitFault → Type 0
 IsOwn (WrongPart part) = Unit {0}
 IsOwn (Code reason) = Unit {0}
 IsOwn (Build reason) = Unit {0}
@@ -163,7 +163,7 @@ step-own : (e : Entry) (step : Step) (part : List ℕ) (other : Option (List ℕ
 step-own e step part other None beside reason h = let same : WrongPart part ≡ reason = cc in subst IsOwn same tt
 step-own e step part other (Some code) beside reason h = build-own part other (build_fault step e code beside) reason h
 
-reason-own : (known : List NamedCode) (evidence : Evidence) (reason : SubmitFault) → own_reason known evidence ≡ Some reason → IsOwn reason
+pub reason-own : (known : List NamedCode) (evidence : Evidence) (reason : SubmitFault) → own_reason known evidence ≡ Some reason → IsOwn reason
 reason-own known (Words e words) reason h = code-own (code_fault e words) reason h
 reason-own known (Cosets e basis representatives) reason h = code-own (coset_fault e basis representatives) reason h
 reason-own known (evidence.Build e step part other) reason h = step-own e step part other (code_named part known) (other_named other known) reason h

@@ -22,8 +22,9 @@ pub(crate) struct Made {
     pub(crate) kept: Option<Code>,
 }
 
-/// The piece that the evidence makes under the id over the pieces, or why it makes none.
-fn make_piece(
+/// The piece that the evidence makes under the id over the pieces, or why it makes none. Whether its id is taken is not
+/// looked at. The codes that are kept stand at the places of their pieces.
+pub(crate) fn make_piece(
     alloc: Global,
     pieces: &[Piece],
     kept: &[Option<Code>],

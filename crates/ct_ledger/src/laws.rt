@@ -1,6 +1,6 @@
 //! Facts about every submission.
 
-ghost use Rattle.std.specs.Prelude.{◌≡◌, ◌↔◌, ℕ, ◌+◌, ◌<◌, ◌≤◌, List, length, Option, Ok, Err, Some, All, Contains, IfSome, IsSome, IsTrue, map, slice_get};
+ghost use Rattle.std.specs.Prelude.{◌≡◌, ◌≢◌, ◌↔◌, ℕ, ◌+◌, ◌<◌, ◌≤◌, List, length, Option, Ok, Err, Some, All, Contains, IfSome, IsSome, IsTrue, map, slice_get};
 ghost use Rattle.std.specs.List.Sorted.{IsPermutation, IsSorted};
 ghost use Rattle.std.specs.Ordering.{nat_cmp};
 ghost use Rattle.ct_codes.specs.declared.entry.Entry.{Entry};
@@ -22,9 +22,13 @@ ghost use Rattle.ct_ledger.specs.Withdrawal.{withdrawn};
 ghost use Rattle.ct_ledger.specs.declared.limits.TheConstants.{MAX_PIECES, MAX_STORED};
 ghost use Rattle.ct_ledger.specs.declared.fault.WithdrawFault.{WithdrawFault};
 ghost use Rattle.ct_ledger.specs.Standing.{AreStanding};
-ghost use Rattle.ct_ledger.specs.Submission.{submitted, IsAccepted};
+ghost use Rattle.ct_fields.specs.declared.fault.FileFault.{FileFault};
+ghost use Rattle.ct_evidence.specs.declared.evidence.Evidence.{Evidence};
+ghost use Rattle.ct_files.specs.Evidence.{read_without_limit};
+ghost use Rattle.ct_ledger.specs.Submission.{submitted, admitted, IsAccepted};
 ghost use Rattle.ct_ledger.specs.Supports.{support_of, supports_of};
 ghost use Rattle.ct_ledger.specs.declared.fault.SubmitFault.{SubmitFault};
+ghost use Rattle.ct_ledger.specs.declared.fault.SubmitFault.TheVariants as fault;
 ghost use Rattle.ct_rule_parts.specs.declared.support.Support.TheVariants.{Size, Bound};
 ghost use Rattle.ct_rule_parts.specs.Support.{AllStand};
 ghost use Rattle.ct_rules.specs.Derivation.{IsBest};
@@ -47,6 +51,15 @@ pub fn submissions_that_are_accepted()
 pub fn refusals_in_order()
     ensures { (pieces : List PieceValue) (id document : List ℕ) (reason : SubmitFault)
         → (submitted pieces id document ≡ Err reason) ↔ IsRefused pieces id document reason }
+{}
+
+/// Evidence that is admitted with a document within the limit, which reads as it, makes what a submission of the document makes; and no
+/// reason against it is a fault of a document.
+pub fn evidence_that_is_admitted()
+    ensures within { (pieces : List PieceValue) (id document : List ℕ) (evidence : Evidence) → length document ≤ MAX_DOCUMENT
+        → read_without_limit document ≡ Ok evidence → admitted pieces id document evidence ≡ submitted pieces id document }
+    ensures unread { (pieces : List PieceValue) (id document : List ℕ) (evidence : Evidence) (reason : FileFault)
+        → admitted pieces id document evidence ≢ Err (fault.File reason) }
 {}
 
 /// Why a withdrawal takes nothing out: no piece has the id; or a piece names it, and then the first that does is told.

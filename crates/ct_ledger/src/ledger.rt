@@ -4,12 +4,13 @@ ghost use Rattle.std.specs.Prelude.{◌≡◌, ◌≢◌, ◌<◌, ◌∷◌, �
 ghost use Rattle.ct_codes.specs.Code.{IsSoundCode};
 ghost use Rattle.ct_ledger.specs.Piece.{PieceValue, stored_words};
 ghost use Rattle.ct_ledger.specs.Codes.{code_of_place};
-ghost use Rattle.ct_ledger.specs.Submission.{submitted};
+ghost use Rattle.ct_files.specs.Evidence.{read_without_limit};
+ghost use Rattle.ct_ledger.specs.Submission.{submitted, admitted};
 ghost use Rattle.ct_ledger.specs.declared.fault.SubmitFault.{SubmitFault};
 ghost use Rattle.ct_ledger.specs.Withdrawal.{withdrawn};
 ghost use Rattle.ct_ledger.specs.Supports.{support_of, supports_of};
 ghost use Rattle.ct_ledger.specs.Standing.{AreStanding, HasTrueSize};
-ghost use Rattle.ct_ledger.specs.Ledger.{AddsPiece};
+ghost use Rattle.ct_ledger.specs.Ledger.{AddsPiece, AdmitsPiece};
 ghost use Rattle.ct_ledger.specs.Dump.{dump_text};
 
 use crate::dump::put_dump;
@@ -17,6 +18,7 @@ use crate::fault::{SubmitFault, WithdrawFault};
 use crate::piece::Piece;
 use crate::pieces::Pieces;
 use ct_codes::Code;
+use ct_files::Evidence;
 use ct_rules::Support;
 use ct_table::Table;
 use ct_text::{Id, Text};
@@ -62,6 +64,25 @@ fn give_up(pieces: &mut Pieces) -> SubmitFault
 {
     pieces.take_back();
     SubmitFault::Memory
+}
+
+/// Puts what the last of the pieces gives at the end of the table, which holds what those before it give. Where memory runs out,
+/// takes that piece out again.
+fn support_last(pieces: &mut Pieces, table: &mut Table) -> Result<(), SubmitFault>
+    requires { (front : List PieceValue) × (p : PieceValue) × (pieces.old ≡ front ++ p ∷ []) × (table.old.supports ≡ supports_of front) }
+    ensures kept { OnOk result (pieces.new ≡ pieces.old) }
+    ensures supports { OnOk result (table.new.supports ≡ supports_of pieces.old) }
+    ensures left { OnErr result ((front : List PieceValue) (p : PieceValue) → pieces.old ≡ front ++ p ∷ [] → pieces.new ≡ front) }
+    ensures unchanged { OnErr result (table.new ≡ table.old) }
+    ensures fault { IfErr result (λ fault. fault ≡ SubmitFault.Memory) }
+{
+    let Ok(support) = last_support(pieces.pieces()) else {
+        return Err(give_up(pieces));
+    };
+    if table.add(support).is_err() {
+        return Err(give_up(pieces));
+    }
+    Ok(())
 }
 
 impl Ledger {
@@ -120,12 +141,26 @@ impl Ledger {
         ensures unchanged { OnErr result (self.new ≡ self.old) }
     {
         let size = self.pieces.submit_text(id, document)?;
-        let Ok(support) = last_support(self.pieces.pieces()) else {
-            return Err(give_up(&mut self.pieces));
-        };
-        if self.table.add(support).is_err() {
-            return Err(give_up(&mut self.pieces));
-        }
+        support_last(&mut self.pieces, &mut self.table)?;
+        Ok(size)
+    }
+
+    /// `submit_text` of evidence that is handed over with a document that reads as it, however long that is: the document is
+    /// kept, and is not read.
+    pub fn admit(
+        &mut self,
+        id: Id,
+        evidence: Evidence,
+        document: Text,
+    ) -> Result<Option<u32>, SubmitFault>
+        requires read { read_without_limit document ≡ Ok evidence }
+        ensures accepted { IfOk result (AdmitsPiece self.old.pieces self.new.pieces id document evidence) }
+        ensures fault { IfErr result (λ fault. fault ≢ SubmitFault.Memory
+            → admitted self.old.pieces id document evidence ≡ Err fault) }
+        ensures unchanged { OnErr result (self.new ≡ self.old) }
+    {
+        let size = self.pieces.admit(id, evidence, document)?;
+        support_last(&mut self.pieces, &mut self.table)?;
         Ok(size)
     }
 

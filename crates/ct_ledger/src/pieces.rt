@@ -3,23 +3,25 @@
 ghost use Rattle.std.specs.Prelude.{◌≡◌, ◌≢◌, ◌≤◌, ◌<◌, ◌+◌, ◌^◌, ◌∷◌, ◌++◌, ℕ, List, Result, Ok, Err, Some, None, false, IfOk, IfErr, IfSome, IsSome, IsTrue, OnOk, OnErr, [], All, filter, find, length, not, option_map, remove};
 ghost use Rattle.ct_codes.specs.Code.{IsSoundCode};
 ghost use Rattle.ct_text.specs.Id.{is_id};
-ghost use Rattle.ct_files.specs.Evidence.{read_of};
+ghost use Rattle.ct_files.specs.Evidence.{read_of, read_without_limit};
 ghost use Rattle.ct_ledger.specs.Piece.{PieceValue, has_id, stored_by, stored_words, first_user};
-ghost use Rattle.ct_ledger.specs.Codes.{code_of_place};
-ghost use Rattle.ct_ledger.specs.Submission.{submitted, piece_from, if_stored, unless_full};
+ghost use Rattle.ct_ledger.specs.Codes.{code_of_place, codes_of};
+ghost use Rattle.ct_ledger.specs.Submission.{submitted, admitted, piece_from, if_stored, unless_full};
 ghost use Rattle.ct_ledger.specs.declared.fault.SubmitFault.{SubmitFault};
 ghost use Rattle.ct_ledger.specs.Withdrawal.{withdrawn};
-ghost use Rattle.ct_ledger.specs.Standing.{AreStanding, HasTrueSize};
-ghost use Rattle.ct_ledger.specs.Ledger.{AddsPiece};
+ghost use Rattle.ct_ledger.specs.Standing.{AreStanding, HasTrueSize, IsMade};
+ghost use Rattle.ct_ledger.specs.Inside.Kept.{kept_over};
+ghost use Rattle.ct_ledger.specs.Ledger.{AddsPiece, AdmitsPiece};
 ghost use Rattle.ct_ledger.specs.Piece.{place_of};
 
-use crate::check::check_document;
+use crate::check::{Made, check_document, make_piece};
 use crate::fault::{SubmitFault, WithdrawFault};
 use crate::kept::{code_at_place, place_of};
 use crate::kinds::{kind_of, names};
 use crate::limits::{MAX_PIECES, MAX_STORED};
 use crate::piece::Piece;
 use ct_codes::Code;
+use ct_files::Evidence;
 use ct_text::{Id, Text};
 use std::alloc::{AllocError, Global};
 use std::marker::Model;
@@ -171,6 +173,44 @@ impl Pieces {
         room_for(&self.pieces, id)?;
         let alloc = *self.pieces.allocator();
         let made = check_document(alloc, &self.pieces, &self.kept, id, document)?;
+        self.put_made(made)
+    }
+
+    /// `submit_text` of evidence that is handed over with a document that reads as it, however long that is: the document is
+    /// kept, and is not read.
+    #[tactic(auto, unfolding(crate::specs::Submission::admitted))]
+    pub fn admit(
+        &mut self,
+        id: Id,
+        evidence: Evidence,
+        document: Text,
+    ) -> Result<Option<u32>, SubmitFault>
+        requires read { read_without_limit document ≡ Ok evidence }
+        ensures accepted { IfOk result (AdmitsPiece self.old self.new id document evidence) }
+        ensures fault { IfErr result (λ fault. fault ≢ SubmitFault.Memory → admitted self.old id document evidence ≡ Err fault) }
+        ensures unchanged { OnErr result (self.new ≡ self.old) }
+    {
+        room_for(&self.pieces, id)?;
+        let alloc = *self.pieces.allocator();
+        let made = make_piece(alloc, &self.pieces, &self.kept, id, document, evidence)?;
+        self.put_made(made)
+    }
+
+    /// Puts a piece at the end, which was made over those that stand, where its words may be stored beside theirs: its size. Else
+    /// the pieces are as before.
+    fn put_made(&mut self, made: Made) -> Result<Option<u32>, SubmitFault>
+        requires made { IsMade (codes_of self.old) made.piece }
+        requires kept { made.kept ≡ kept_over (codes_of self.old) made.piece.evidence }
+        requires named { IsTrue (is_id made.piece.id) }
+        requires free { has_id made.piece.id self.old ≡ false }
+        requires room { length self.old < MAX_PIECES }
+        ensures pieces { OnOk result (self.new ≡ self.old ++ made.piece ∷ []) }
+        ensures size { IfOk result (λ size. size ≡ made.piece.size) }
+        ensures stored { OnOk result (if_stored (stored_words self.old + stored_by made.piece) made.piece ≡ Ok made.piece) }
+        ensures fault { IfErr result (λ fault. fault ≢ SubmitFault.Memory
+            → if_stored (stored_words self.old + stored_by made.piece) made.piece ≡ Err fault) }
+        ensures unchanged { OnErr result (self.new ≡ self.old) }
+    {
         let stored = stored_with(self.stored, &made.piece)?;
         let size = made.piece.size();
         self.pieces.reserve(1)?;
