@@ -17,7 +17,7 @@ use Rattle.ct_ledger.specs.Standing.{IsMade}
 use Rattle.ct_ledger.specs.declared.limits.TheConstants.{MAX_PIECES, MAX_STORED}
 use Rattle.ct_ledger.specs.declared.fault.SubmitFault.{SubmitFault}
 use Rattle.ct_ledger.specs.declared.fault.SubmitFault.TheVariants as fault
-use Rattle.ct_ledger.proofs.StandingLemmas.{piece_from-names, submitted-beside}
+use Rattle.ct_ledger.proofs.StandingLemmas.{piece_from-names, submitted-beside, unless_full-ok, stored_beside-ok}
 use Rattle.ct_ledger.proofs.Refusing.{IsOwn, reason-own}
 
 -- a piece that evidence makes is made by each document that reads as it
@@ -75,6 +75,15 @@ unfolding admitted submitted
 admitted-submitted pieces id document evidence short read =
     ap (λ (r : Result Evidence FileFault). unless_full (has_id id pieces) (length pieces) (stored_beside (stored_words pieces) (piece_from (codes_of pieces) id document r)))
     (sym (read_of-short document short ∙ read))
+
+-- evidence that is admitted as a piece makes it over the codes of the pieces
+pub admitted-made : (pieces : List PieceValue) (id document : List ℕ) (evidence : Evidence) (p : PieceValue) → admitted pieces id document evidence ≡ Ok p
+    → made_of (codes_of pieces) id document evidence ≡ Ok p
+unfolding admitted
+admitted-made pieces id document evidence p h =
+    let made = made_of (codes_of pieces) id document evidence in
+    let whole = unless_full-ok (has_id id pieces) (length pieces) (stored_beside (stored_words pieces) made) p h in
+    (stored_beside-ok (stored_words pieces) made p whole.2).0
 
 -- no reason is a fault of a document
 abbrev IsUnread : FileFault → Result PieceValue SubmitFault → Type 0

@@ -11,7 +11,7 @@ use Rattle.ct_evidence.specs.declared.evidence.Evidence.{Evidence}
 use Rattle.ct_ledger.specs.Named.{NamedCode, is_known, first_missing, code_named}
 use Rattle.ct_ledger.specs.Kind.{kind_of, stated_entry, parts_of, names}
 use Rattle.ct_ledger.specs.Piece.{PieceValue, first_user}
-use Rattle.ct_ledger.specs.Codes.{code_at, named_code}
+use Rattle.ct_ledger.specs.Codes.{code_at, named_code, codes_after, codes_of}
 use Rattle.ct_ledger.specs.Submission.{evidence_reason, made_unless, piece_from}
 use Rattle.ct_ledger.specs.Standing.{IsMade, AreMade}
 use Rattle.ct_ledger.specs.Inside.Kept.{is_kept, kept_after}
@@ -23,7 +23,7 @@ use Rattle.ct_ledger.proofs.KindLemmas.{kind_same}
 use Rattle.ct_ledger.proofs.MakingLemmas.{making-of}
 
 -- the codes whose ids pass a test
-abbrev those : (List ℕ → Bool) → List NamedCode → List NamedCode
+abbrev pub those : (List ℕ → Bool) → List NamedCode → List NamedCode
 those test known = filter (λ (k : NamedCode). test k.id) known
 
 -- the test that the other ids pass
@@ -144,6 +144,26 @@ AreMade-those test known (p ∷ ps) h all = at (test p.id) refl (AreMade-those t
 -- without other codes
 pub AreMade-passing : (test : List ℕ → Bool) (ps : List PieceValue) → AreMade [] ps → ArePassed test ps → AreMade [] (passing test ps)
 AreMade-passing test ps h all = AreMade-those test [] ps h all
+
+-- the codes of the pieces that pass are those that pass
+codes-those : (test : List ℕ → Bool) (known : List NamedCode) (ps : List PieceValue) → ArePassed test ps → codes_after (those test known) (passing test ps) ≡ those test (codes_after known ps)
+codes-those test known [] all = refl
+codes-those test known (p ∷ ps) all = at (test p.id) refl (codes-those test next ps all.1) (those-push test known own) where
+  own : NamedCode
+  own = named_code known p
+
+  next : List NamedCode
+  next = known ++ own ∷ []
+
+  at : (b : Bool) → test p.id ≡ b → codes_after (those test next) (passing test ps) ≡ those test (codes_after next ps) → those test next ≡ those test known ++ cond b (own ∷ []) []
+      → codes_after (those test known) (cond b (p ∷ passing test ps) (passing test ps)) ≡ cond b (own ∷ those test (codes_after next ps)) (those test (codes_after next ps))
+  at false out rest split = ap (λ (k : List NamedCode). codes_after k (passing test ps)) (sym (split ∙ append-nil (those test known))) ∙ rest
+  at true is rest split =
+      ap (λ (k : NamedCode). k ∷ codes_after (those test known ++ k ∷ []) (passing test ps)) (those-code test known p (all.0 is))
+      ∙ ap (λ (ks : List NamedCode). own ∷ ks) (ap (λ (k : List NamedCode). codes_after k (passing test ps)) (sym split) ∙ rest)
+
+pub codes-passing : (test : List ℕ → Bool) (ps : List PieceValue) → ArePassed test ps → codes_of (passing test ps) ≡ those test (codes_of ps)
+codes-passing test ps all = codes-those test [] ps all
 
 -- ids that evidence names, where it does not name another, are not the other
 named-others : (id : List ℕ) (evidence : Evidence) → names evidence id ≡ false → (part : List ℕ) → names evidence part ≡ true → other_than id part ≡ true

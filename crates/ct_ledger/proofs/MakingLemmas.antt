@@ -104,7 +104,7 @@ IsMade-right known p h =
     (record { sound = read_without_limit-sound p.document m.evidence m.is; faultless = m.faultless })
 
 -- the code of words that are one is one
-over-sound : (known : List NamedCode) (evidence : Evidence) (words : Option (List ℕ)) → StatesCode known evidence → words_over known evidence ≡ words
+pub over-sound : (known : List NamedCode) (evidence : Evidence) (words : Option (List ℕ)) → StatesCode known evidence → words_over known evidence ≡ words
     → IfSome (option_map (code_at (stated_entry evidence)) words) IsSoundCode
 over-sound known evidence None states is = tt
 over-sound known evidence (Some words) states is =

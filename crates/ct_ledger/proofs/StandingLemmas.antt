@@ -184,7 +184,7 @@ if_stored-ok : (total : ℕ) (q p : PieceValue) (b : Bool) → nat_le total MAX_
 if_stored-ok total q p true e h = (cc, leb-true total MAX_STORED e)
 if_stored-ok total q p false e h = absurd cc
 
-stored_beside-ok : (stored : ℕ) (made : Result PieceValue SubmitFault) (p : PieceValue) → stored_beside stored made ≡ Ok p → (made ≡ Ok p) × (stored + stored_by p ≤ MAX_STORED)
+pub stored_beside-ok : (stored : ℕ) (made : Result PieceValue SubmitFault) (p : PieceValue) → stored_beside stored made ≡ Ok p → (made ≡ Ok p) × (stored + stored_by p ≤ MAX_STORED)
 stored_beside-ok stored (Ok q) p h =
     let both = if_stored-ok (stored + stored_by q) q p (nat_le (stored + stored_by q) MAX_STORED) refl h in
     (ap Ok both.0, subst (λ (r : PieceValue). stored + stored_by r ≤ MAX_STORED) both.0 both.1)
@@ -194,7 +194,7 @@ room-ok : (count : ℕ) (made : Result PieceValue SubmitFault) (p : PieceValue) 
 room-ok count made p true e h = absurd cc
 room-ok count made p false e h = (leb-false MAX_PIECES count e, h)
 
-unless_full-ok : (taken : Bool) (count : ℕ) (made : Result PieceValue SubmitFault) (p : PieceValue) → unless_full taken count made ≡ Ok p → (taken ≡ false) × (count < MAX_PIECES) × (made ≡ Ok p)
+pub unless_full-ok : (taken : Bool) (count : ℕ) (made : Result PieceValue SubmitFault) (p : PieceValue) → unless_full taken count made ≡ Ok p → (taken ≡ false) × (count < MAX_PIECES) × (made ≡ Ok p)
 unless_full-ok true count made p h = absurd cc
 unless_full-ok false count made p h = let rest = room-ok count made p (nat_le MAX_PIECES count) refl h in (refl, rest.0, rest.1)
 
