@@ -1,13 +1,12 @@
 -- The codes that are kept beside pieces, and those that are made anew.
-use Rattle.std.proofs.Common.{◌≡◌, ℕ, zero, suc, ◌<◌, List, [], ◌∷◌, ◌++◌, length, take, get_or, Option, Some, None, refl, sym, ap, ◌∙◌, arith, append_assoc, append-nil}
+use Rattle.std.proofs.Common.{◌≡◌, ℕ, zero, suc, ◌<◌, Bool, true, false, cond, List, [], ◌∷◌, ◌++◌, length, take, get_or, Option, Some, None, refl, sym, ap, ◌∙◌, arith, append_assoc, append-nil}
 use Rattle.std.specs.Option.{option_or}
 use Rattle.ct_codes.specs.Code.{CodeValue}
 use Rattle.ct_evidence.specs.declared.evidence.Evidence.{Evidence}
-use Rattle.ct_evidence.specs.declared.evidence.Evidence.TheVariants.{Words, Cosets, Build, Dual, JohnsonDual}
 use Rattle.ct_ledger.specs.Named.{NamedCode}
 use Rattle.ct_ledger.specs.Piece.{PieceValue}
 use Rattle.ct_ledger.specs.Codes.{code_over, named_code, codes_after, codes_of, code_of_place}
-use Rattle.ct_ledger.specs.Inside.Kept.{kept_over, listed_code, kept_after, kept_codes}
+use Rattle.ct_ledger.specs.Inside.Kept.{is_kept, kept_over, listed_code, kept_after, kept_codes}
 use Rattle.ct_ledger.proofs.MakingLemmas.{code_of_place-is}
 
 -- there is a place for each piece
@@ -42,19 +41,19 @@ kept_at known (p ∷ ps) (suc k) d below =
     kept_at next ps k d (omega arith) ∙ ap (λ (all : List NamedCode). kept_over all (get_or ps k d).evidence) (append_assoc known (own ∷ []) (codes_after next (take k ps)))
 
 -- the code of evidence is the one that is kept, or else the one that it lists
-pub kept-or_listed : (known : List NamedCode) (evidence : Evidence) → option_or (kept_over known evidence) (listed_code evidence) ≡ code_over known evidence
-kept-or_listed known (Words e words) = refl
-kept-or_listed known (Cosets e basis representatives) = refl
-kept-or_listed known (Dual d) = refl
-kept-or_listed known (JohnsonDual d) = refl
-kept-or_listed known (Build e step part other) = same (code_over known (Build e step part other)) where
+pub kept-or_listed : (known : List NamedCode) (evidence : Evidence) → option_or (kept_over known evidence) (listed_code known evidence) ≡ code_over known evidence
+kept-or_listed known evidence = at (is_kept evidence) where
   same : (o : Option CodeValue) → option_or o None ≡ o
   same None = refl
   same (Some c) = refl
 
+  at : (b : Bool) → option_or (cond b (code_over known evidence) None) (cond b None (code_over known evidence)) ≡ code_over known evidence
+  at true = same (code_over known evidence)
+  at false = refl
+
 -- so is the code at a place
 pub place-or_listed : (ps : List PieceValue) (k : ℕ) (d : PieceValue) → k < length ps
-    → option_or (get_or (kept_codes ps) k None) (listed_code (get_or ps k d).evidence) ≡ code_of_place ps k
+    → option_or (get_or (kept_codes ps) k None) (listed_code (codes_of (take k ps)) (get_or ps k d).evidence) ≡ code_of_place ps k
 place-or_listed ps k d below =
-    ap (λ (o : Option CodeValue). option_or o (listed_code (get_or ps k d).evidence)) (kept_at [] ps k d below)
+    ap (λ (o : Option CodeValue). option_or o (listed_code (codes_of (take k ps)) (get_or ps k d).evidence)) (kept_at [] ps k d below)
     ∙ kept-or_listed (codes_of (take k ps)) (get_or ps k d).evidence ∙ sym (code_of_place-is ps k d below)

@@ -7,14 +7,14 @@ use Rattle.ct_evidence.specs.declared.evidence.Evidence.TheVariants.{Words, Cose
 use Rattle.ct_files.specs.Evidence.{IsSound}
 use Rattle.ct_ledger.specs.Named.{NamedCode, code_named, other_named}
 use Rattle.ct_ledger.specs.Kind.{kind_of, stated_entry, names, own_reason, words_over, IsChecked}
-use Rattle.ct_ledger.proofs.Stating.{SaysSame}
+use Rattle.ct_ledger.proofs.Stating.{SaysSame, IsAlike}
 use Rattle.ct_ledger.proofs.KindLaws.Words.{words_accepted, words_same}
 use Rattle.ct_ledger.proofs.KindLaws.Cosets.{cosets_accepted, cosets_same}
 use Rattle.ct_ledger.proofs.KindLaws.Build.{build_accepted, build_same}
 use Rattle.ct_ledger.proofs.KindLaws.Dual.{dual_accepted, dual_same}
 
 -- evidence says the same over codes that are the same for the ids that it names
-pub kind_same : (evidence : Evidence) (left right : List NamedCode) → ((id : List ℕ) → names evidence id ≡ true → code_named id left ≡ code_named id right)
+pub kind_same : (evidence : Evidence) (left right : List NamedCode) → ((id : List ℕ) → names evidence id ≡ true → IsAlike id left right)
     → SaysSame (kind_of evidence) left right
 kind_same (Words e words) left right same = words_same e words left right
 kind_same (Cosets e basis representatives) left right same = cosets_same e basis representatives left right

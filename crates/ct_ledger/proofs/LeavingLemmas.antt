@@ -7,8 +7,9 @@ use Rattle.std.proofs.lemmas.List.Elements.{filter-append, All-head, All-tail}
 use Rattle.std.proofs.lemmas.Slice.Eq.{bytes_eq-Decides}
 use Rattle.ct_codes.specs.Code.{CodeValue}
 use Rattle.ct_codes.specs.Pairs.{first_of}
+use Rattle.ct_partitions.specs.Partition.{PartitionValue}
 use Rattle.ct_evidence.specs.declared.evidence.Evidence.{Evidence}
-use Rattle.ct_ledger.specs.Named.{NamedCode, is_known, first_missing, code_named}
+use Rattle.ct_ledger.specs.Named.{NamedCode, is_known, first_missing, code_named, partition_named}
 use Rattle.ct_ledger.specs.Kind.{kind_of, stated_entry, parts_of, names}
 use Rattle.ct_ledger.specs.Piece.{PieceValue, first_user}
 use Rattle.ct_ledger.specs.Codes.{code_at, named_code, codes_after, codes_of}
@@ -18,7 +19,7 @@ use Rattle.ct_ledger.specs.Inside.Kept.{is_kept, kept_after}
 use Rattle.ct_ledger.specs.declared.fault.SubmitFault.{SubmitFault}
 use Rattle.ct_ledger.specs.declared.fault.SubmitFault.TheVariants as fault
 use Rattle.ct_ledger.proofs.CodeLemmas.{is_named}
-use Rattle.ct_ledger.proofs.Stating.{SaysSame}
+use Rattle.ct_ledger.proofs.Stating.{SaysSame, IsAlike}
 use Rattle.ct_ledger.proofs.KindLemmas.{kind_same}
 use Rattle.ct_ledger.proofs.MakingLemmas.{making-of}
 
@@ -34,25 +35,22 @@ other_than id i = not (bytes_eq i id)
 abbrev others : List ℕ → List NamedCode → List NamedCode
 others id known = those (other_than id) known
 
--- another id has the same code, and is known where it was
-record IsAlike (part : List ℕ) (left right : List NamedCode) : Type 0 where
-  code : code_named part left ≡ code_named part right
-  known : is_known part left ≡ is_known part right
-
 alike-put : (part : List ℕ) (k : NamedCode) (left right : List NamedCode) → IsAlike part left right → IsAlike part (k ∷ left) (k ∷ right)
 alike-put part k left right h = record {
   code = ap (λ (c : Option CodeValue). cond (bytes_eq k.id part) k.code c) h.code;
+  partition = ap (λ (p : Option PartitionValue). cond (bytes_eq k.id part) k.partition p) h.partition;
   known = ap (λ (b : Bool). bytes_eq k.id part || b) h.known;
 }
 
 alike-passed : (part : List ℕ) (k : NamedCode) (left right : List NamedCode) → bytes_eq k.id part ≡ false → IsAlike part left right → IsAlike part left (k ∷ right)
 alike-passed part k left right unlike h = record {
   code = h.code ∙ sym (ap (λ (b : Bool). cond b k.code (code_named part right)) unlike);
+  partition = h.partition ∙ sym (ap (λ (b : Bool). cond b k.partition (partition_named part right)) unlike);
   known = h.known ∙ sym (ap (λ (b : Bool). b || is_known part right) unlike);
 }
 
 those-alike : (test : List ℕ → Bool) (part : List ℕ) (known : List NamedCode) → test part ≡ true → IsAlike part (those test known) known
-those-alike test part [] h = record { code = refl; known = refl }
+those-alike test part [] h = record { code = refl; partition = refl; known = refl }
 those-alike test part (k ∷ known) h = at (test k.id) refl (those-alike test part known h) where
   passed : (c : Bool) → bytes_eq k.id part ≡ c → test k.id ≡ false → IsAlike part (those test known) known → IsAlike part (those test known) (k ∷ known)
   passed true same out rest = absurd (let k_part = ap test ((bytes_eq-Decides k.id part).0 same) in cc)
@@ -86,7 +84,7 @@ those-missing test known (part ∷ parts) h =
 
 -- evidence all of whose parts pass says the same
 those-same : (test : List ℕ → Bool) (known : List NamedCode) (evidence : Evidence) → AllPassed test (parts_of evidence) → SaysSame (kind_of evidence) (those test known) known
-those-same test known evidence h = kind_same evidence (those test known) known (λ part is. (those-alike test part known (h part is)).code)
+those-same test known evidence h = kind_same evidence (those test known) known (λ part is. those-alike test part known (h part is))
 
 those-reason : (test : List ℕ → Bool) (known : List NamedCode) (evidence : Evidence) → AllPassed test (parts_of evidence)
     → evidence_reason (those test known) evidence ≡ evidence_reason known evidence
@@ -107,7 +105,7 @@ those-made test known p passed h =
 -- and has the same code
 those-code : (test : List ℕ → Bool) (known : List NamedCode) (p : PieceValue) → AllPassed test (parts_of p.evidence) → named_code (those test known) p ≡ named_code known p
 those-code test known p passed =
-    let at : Option (List ℕ) → NamedCode = λ (words : Option (List ℕ)). record { id = p.id; code = option_map (code_at (stated_entry p.evidence)) words } in
+    let at : Option (List ℕ) → NamedCode = λ (words : Option (List ℕ)). record { id = p.id; code = option_map (code_at (stated_entry p.evidence)) words; partition = (kind_of p.evidence).partition } in
     ap at (those-same test known p.evidence passed).words
 
 -- a code more

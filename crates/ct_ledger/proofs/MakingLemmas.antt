@@ -114,7 +114,8 @@ over-sound known evidence (Some words) states is =
 -- and its code is one, where its kind has one
 pub IsMade-sound : (known : List NamedCode) (p : PieceValue) → AreSound known → IsMade known p → HasSoundCode (named_code known p)
 IsMade-sound known p sound h =
-    over-sound known p.evidence (words_over known p.evidence) (states_code known p.evidence sound (IsMade-right known p h)) refl
+    let states = states_code known p.evidence sound (IsMade-right known p h) in
+    record { code = over-sound known p.evidence (words_over known p.evidence) states refl; partition = states.partition }
 
 -- the codes of pieces that are made are codes
 pub codes_after-sound : (known : List NamedCode) (ps : List PieceValue) → AreSound known → AreMade known ps → AreSound (codes_after known ps)

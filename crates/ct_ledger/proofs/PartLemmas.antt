@@ -14,7 +14,7 @@ use Rattle.ct_build.specs.declared.step.Step.{Step}
 use Rattle.ct_build.specs.Build.{shape_of, built, early_fault}
 use Rattle.ct_build.proofs.BuildFaults.{fault_early}
 use Rattle.ct_evidence.specs.declared.evidence.Evidence.{Evidence}
-use Rattle.ct_evidence.specs.declared.evidence.Evidence.TheVariants.{Words, Cosets, Build, Dual, JohnsonDual}
+use Rattle.ct_evidence.specs.declared.evidence.Evidence.TheVariants.{Build}
 use Rattle.ct_ledger.specs.Ascending.{ascending}
 use Rattle.ct_ledger.specs.Named.{NamedCode, is_known, first_missing, code_named, other_named}
 use Rattle.ct_ledger.specs.Kind.{stated_entry, has_code, own_reason, words_over, size_over}
@@ -23,7 +23,7 @@ use Rattle.ct_ledger.specs.Piece.{PieceValue}
 use Rattle.ct_ledger.specs.Codes.{code_at, code_over, codes_of, code_of_place}
 use Rattle.ct_ledger.specs.Submission.{evidence_reason}
 use Rattle.ct_ledger.specs.Standing.{IsMade, AreMade}
-use Rattle.ct_ledger.specs.Inside.Kept.{other_place, code_beside, is_kept, listed_code, kept_codes}
+use Rattle.ct_ledger.specs.Inside.Kept.{other_place, code_beside, listed_code, kept_codes}
 use Rattle.ct_ledger.specs.Piece.{place_of}
 use Rattle.ct_ledger.specs.declared.fault.SubmitFault.TheVariants as fault
 use Rattle.ct_ledger.proofs.AscendingLemmas.{ascending-moved}
@@ -170,8 +170,8 @@ built-answer e step first beside part (Err reason) is code = tt
 pub kept-some : (ps : List PieceValue) (k : ℕ) (kept : List (Option CodeValue)) (p : PieceValue) (code : CodeValue) → kept ≡ kept_codes ps → k < length ps
     → get_or kept k None ≡ Some code → code_of_place ps k ≡ Some code
 kept-some ps k kept p code is below at =
-    sym (place-or_listed ps k p below) ∙ ap (λ (ks : List (Option CodeValue)). option_or (get_or ks k None) (listed_code (get_or ps k p).evidence)) (sym is)
-    ∙ ap (λ (o : Option CodeValue). option_or o (listed_code (get_or ps k p).evidence)) at
+    sym (place-or_listed ps k p below) ∙ ap (λ (ks : List (Option CodeValue)). option_or (get_or ks k None) (listed_code (codes_of (take k ps)) (get_or ps k p).evidence)) (sym is)
+    ∙ ap (λ (o : Option CodeValue). option_or o (listed_code (codes_of (take k ps)) (get_or ps k p).evidence)) at
 
 pub kept-here : (ps : List PieceValue) (k : ℕ) (kept : List (Option CodeValue)) (code : CodeValue) → kept ≡ kept_codes ps → k < length ps
     → get_or kept k None ≡ Some code → code_of_place ps k ≡ Some code
@@ -179,22 +179,15 @@ kept-here [] k kept code is below at = absurd (omega arith)
 kept-here (p ∷ ps) k kept code is below at = kept-some (p ∷ ps) k kept p code is below at
 
 pub kept-none : (ps : List PieceValue) (k : ℕ) (kept : List (Option CodeValue)) (p : PieceValue) → kept ≡ kept_codes ps → k < length ps → p ≡ get_or ps k p
-    → get_or kept k None ≡ None → listed_code p.evidence ≡ code_of_place ps k
+    → get_or kept k None ≡ None → listed_code (codes_of (take k ps)) p.evidence ≡ code_of_place ps k
 kept-none ps k kept p is below here at =
-    ap (λ (q : PieceValue). listed_code q.evidence) here
-    ∙ sym (ap (λ (o : Option CodeValue). option_or o (listed_code (get_or ps k p).evidence)) at)
-    ∙ ap (λ (ks : List (Option CodeValue)). option_or (get_or ks k None) (listed_code (get_or ps k p).evidence)) is ∙ place-or_listed ps k p below
+    ap (λ (q : PieceValue). listed_code (codes_of (take k ps)) q.evidence) here
+    ∙ sym (ap (λ (o : Option CodeValue). option_or o (listed_code (codes_of (take k ps)) (get_or ps k p).evidence)) at)
+    ∙ ap (λ (ks : List (Option CodeValue)). option_or (get_or ks k None) (listed_code (codes_of (take k ps)) (get_or ps k p).evidence)) is ∙ place-or_listed ps k p below
 
-own-listed : (evidence : Evidence) (known : List NamedCode) → is_kept evidence ≡ false → own_reason [] evidence ≡ own_reason known evidence
-own-listed (Words e words) known none = refl
-own-listed (Cosets e basis representatives) known none = refl
-own-listed (Dual d) known none = refl
-own-listed (JohnsonDual d) known none = refl
-own-listed (Build e step part other) known none = absurd cc
-
--- nothing is against evidence of a piece that lists a code
-pub listed-faultless : (ps : List PieceValue) (k : ℕ) (p : PieceValue) → IsPlaced ps k p → is_kept p.evidence ≡ false → own_reason [] p.evidence ≡ None
-listed-faultless ps k p at none = own-listed p.evidence (codes_of (take k ps)) none ∙ right-own (codes_of (take k ps)) p.evidence at.right
+-- nothing is against evidence of a piece over the pieces before it
+pub listed-faultless : (ps : List PieceValue) (k : ℕ) (p : PieceValue) → IsPlaced ps k p → own_reason (codes_of (take k ps)) p.evidence ≡ None
+listed-faultless ps k p at = right-own (codes_of (take k ps)) p.evidence at.right
 
 pub Some-piece : (p q : PieceValue) → ◌≡◌ {A = Option PieceValue} (Some p) (Some q) → p ≡ q
 Some-piece p q is = cc

@@ -6,7 +6,7 @@ use Rattle.ct_codes.specs.Code.{CodeValue}
 use Rattle.ct_evidence.specs.declared.evidence.Evidence.{Evidence}
 use Rattle.ct_ledger.specs.Ascending.{ascending}
 use Rattle.ct_ledger.specs.Named.{NamedCode}
-use Rattle.ct_ledger.specs.Kind.{stated_entry, words_over}
+use Rattle.ct_ledger.specs.Kind.{kind_of, stated_entry, words_over}
 use Rattle.ct_ledger.specs.Piece.{PieceValue}
 
 -- the code of the entry with these words, in ascending order
@@ -17,9 +17,9 @@ code_at e words = record { n = e.n; d = e.d; w = e.w; words = ascending words }
 abbrev pub code_over : List NamedCode → Evidence → Option CodeValue
 code_over known evidence = option_map (code_at (stated_entry evidence)) (words_over known evidence)
 
--- the code of a piece over these codes, with its id
+-- the code of a piece over these codes and the partition that it is, with its id
 abbrev pub named_code : List NamedCode → PieceValue → NamedCode
-named_code known p = record { id = p.id; code = code_over known p.evidence }
+named_code known p = record { id = p.id; code = code_over known p.evidence; partition = (kind_of p.evidence).partition }
 
 -- the codes of pieces that stand after others, whose codes are known: each over the known ones and those of the pieces before it
 abbrev pub codes_after : List NamedCode → List PieceValue → List NamedCode

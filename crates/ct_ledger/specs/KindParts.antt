@@ -2,6 +2,7 @@
 use Rattle.std.specs.Prelude.{ℕ, ◌+◌, Bool, if◌then◌else◌, List, Option, Some, None}
 use Rattle.std.specs.Option.{unwrap_or}
 use Rattle.ct_codes.specs.declared.entry.Entry.{Entry}
+use Rattle.ct_partitions.specs.Partition.{PartitionValue}
 use Rattle.ct_rule_parts.specs.declared.support.Support.{Support}
 use Rattle.ct_rule_parts.specs.declared.support.Support.TheVariants.{Nothing, Size}
 use Rattle.ct_ledger.specs.Named.{NamedCode}
@@ -9,8 +10,9 @@ use Rattle.ct_ledger.specs.declared.fault.SubmitFault.{SubmitFault}
 
 -- what evidence comes to, whatever its kind: the word of its kind in a ledger's line; the entry that it is about; the ids of the pieces that it names
 -- as its parts, in the order of its document; and, over the pieces that it may name, the first reason that its kind's own check has against it where
--- its parts stand, the words of the code that it states, where its kind has a code, and the size that its piece has, where it has one; how many words
--- its document lists, and whether the words of its code are stored besides; and what a piece of this size gives to the table
+-- its parts stand, the words of the code that it states, where its kind has a code, and the size that its piece has, where it has one; the partition
+-- that it states, where it states one; how many words its document lists, and whether the words of its code are stored besides; and what a piece of
+-- this size gives to the table
 pub record KindParts : Type 0 where
   pub text : List ℕ
   pub entry : Entry
@@ -19,6 +21,7 @@ pub record KindParts : Type 0 where
   pub words : List NamedCode → Option (List ℕ)
   pub size : List NamedCode → Option ℕ
   pub has_code : Bool
+  pub partition : Option PartitionValue
   pub listed : ℕ
   pub is_stored : Bool
   pub gives : Option ℕ → Support

@@ -1,6 +1,6 @@
 //! Where pieces are found, and their codes: those that are kept beside them, and those that are made where they are needed.
 
-ghost use Rattle.std.specs.Prelude.{◌≡◌, ◌<◌, Some, None, IfOk, IfSome, IsSome, length, []};
+ghost use Rattle.std.specs.Prelude.{◌≡◌, ◌<◌, Some, None, IfOk, IfSome, IsSome, length, take, []};
 ghost use Rattle.std.specs.Option.{option_copied};
 ghost use Rattle.ct_codes.specs.Code.{IsSoundCode};
 ghost use Rattle.ct_ledger.specs.Codes.{code_of_place};
@@ -20,6 +20,14 @@ pub(crate) fn place_of(pieces: &[Piece], id: Id) -> Option<usize>
     ensures { result ≡ place_of id pieces.now }
 {
     pieces.iter().position(|piece| piece.id() == id)
+}
+
+/// The pieces before a place.
+fn before(pieces: &[Piece], place: usize) -> &[Piece]
+    requires { place < length pieces.now }
+    ensures { result.now ≡ take place pieces.now }
+{
+    &pieces[..place]
 }
 
 /// The code of a piece, where its kind has one: kept beside it, or made anew. Contracts see the code.
@@ -66,7 +74,7 @@ pub(crate) fn find_code<'a>(
             made: None,
         });
     }
-    let made = listed_code(alloc, pieces[place].evidence())?;
+    let made = listed_code(alloc, before(pieces, place), pieces[place].evidence())?;
     Ok(Found { kept: None, made })
 }
 
@@ -107,7 +115,7 @@ pub(crate) fn code_at_place(
     if let Some(code) = &kept[place] {
         return code.try_copy();
     }
-    let made = listed_code(alloc, pieces[place].evidence())?;
+    let made = listed_code(alloc, before(pieces, place), pieces[place].evidence())?;
     let Some(code) = made else { unreachable!() };
     Ok(code)
 }

@@ -1,13 +1,13 @@
 //! Evidence by its kind. Each kind has a room of its own; here it is told which one evidence belongs in.
 
-ghost use Rattle.std.specs.Prelude.{◌≡◌, ◌≢◌, ◌<◌, ◌^◌, [], Some, None, IfOk, IfErr, OnOk, false};
+ghost use Rattle.std.specs.Prelude.{◌≡◌, ◌≢◌, ◌<◌, ◌^◌, [], Some, None, IfOk, IfErr, OnOk};
 ghost use Rattle.ct_files.specs.Evidence.{IsSound};
 ghost use Rattle.ct_ledger.specs.Codes.{codes_of};
 ghost use Rattle.ct_ledger.specs.KindParts.{support_from};
 ghost use Rattle.ct_ledger.specs.Kind.{kind_of, stated_entry, names, has_code, own_reason, size_over};
 ghost use Rattle.ct_ledger.specs.Submission.{evidence_reason};
 ghost use Rattle.ct_ledger.specs.Standing.{AreMade};
-ghost use Rattle.ct_ledger.specs.Inside.Kept.{is_kept, kept_over, listed_code, kept_codes};
+ghost use Rattle.ct_ledger.specs.Inside.Kept.{kept_over, listed_code, kept_codes};
 
 mod build;
 mod cosets;
@@ -29,8 +29,6 @@ pub(crate) struct Kind {
     pub(crate) text: &'static [u8],
     /// The entry that it is about.
     pub(crate) entry: Entry,
-    /// How many words its document lists.
-    pub(crate) listed: u64,
     /// Whether the words of its code are stored besides.
     pub(crate) is_stored: bool,
     /// Whether its kind has a code.
@@ -41,21 +39,32 @@ pub(crate) struct Kind {
 pub(crate) fn kind_of(evidence: &Evidence) -> Kind
     ensures text { result.text.now ≡ (kind_of evidence.now).text }
     ensures entry { result.entry ≡ stated_entry evidence.now }
-    ensures listed { result.listed ≡ (kind_of evidence.now).listed }
-    ensures few { result.listed < 2 ^ 62 }
     ensures is_stored { result.is_stored ≡ (kind_of evidence.now).is_stored }
     ensures has_code { result.has_code ≡ has_code evidence.now }
 {
     match evidence {
-        Evidence::Words { entry, words } => words::kind(*entry, words.as_slice()),
-        Evidence::Cosets {
-            entry,
-            basis,
-            representatives,
-        } => cosets::kind(*entry, basis.as_slice(), representatives.as_slice()),
+        Evidence::Words { entry, words } => words::kind(*entry),
+        Evidence::Cosets { entry, .. } => cosets::kind(*entry),
         Evidence::Build { entry, .. } => build::kind(*entry),
         Evidence::Dual(dual) => dual::kind(b"dual", dual),
         Evidence::JohnsonDual(dual) => dual::kind(b"jdual", dual),
+    }
+}
+
+/// How many words the document of the evidence lists.
+pub(crate) fn listed(evidence: &Evidence) -> u64
+    requires sound { IsSound evidence.now }
+    ensures listed { result ≡ (kind_of evidence.now).listed }
+    ensures few { result < 2 ^ 62 }
+{
+    match evidence {
+        Evidence::Words { words, .. } => words.as_slice().len() as u64,
+        Evidence::Cosets {
+            basis,
+            representatives,
+            ..
+        } => cosets::listed(basis.as_slice(), representatives.as_slice()),
+        Evidence::Build { .. } | Evidence::Dual(_) | Evidence::JohnsonDual(_) => 0,
     }
 }
 
@@ -156,11 +165,17 @@ pub(crate) struct Checked {
     pub(crate) kept: Option<Code>,
 }
 
-/// The code that the evidence lists, against which there is no reason; none where the code is kept beside its piece.
-pub(crate) fn listed_code(alloc: Global, evidence: &Evidence) -> Result<Option<Code>, AllocError>
+/// The code that the evidence states over the pieces before it, against which there is no reason; none where the code is kept
+/// beside its piece.
+pub(crate) fn listed_code(
+    alloc: Global,
+    before: &[Piece],
+    evidence: &Evidence,
+) -> Result<Option<Code>, AllocError>
+    requires made { AreMade [] before.now }
     requires sound { IsSound evidence.now }
-    requires faultless { is_kept evidence.now ≡ false → own_reason [] evidence.now ≡ None }
-    ensures { IfOk result (λ code. code ≡ listed_code evidence.now) }
+    requires faultless { own_reason (codes_of before.now) evidence.now ≡ None }
+    ensures { IfOk result (λ code. code ≡ listed_code (codes_of before.now) evidence.now) }
 {
     match evidence {
         Evidence::Words { entry, words } => {

@@ -66,7 +66,8 @@ impl Piece {
 
     /// What its document states.
     pub fn evidence(&self) -> &Evidence
-        ensures { result.now ≡ self.now.evidence }
+        ensures evidence { result.now ≡ self.now.evidence }
+        ensures sound { IsSound result.now }
     {
         &self.evidence
     }

@@ -17,7 +17,7 @@ ghost use Rattle.ct_ledger.specs.Piece.{place_of};
 use crate::check::{Made, check_document, make_piece};
 use crate::fault::{SubmitFault, WithdrawFault};
 use crate::kept::{code_at_place, place_of};
-use crate::kinds::{kind_of, names};
+use crate::kinds::{kind_of, listed, names};
 use crate::limits::{MAX_PIECES, MAX_STORED};
 use crate::piece::Piece;
 use ct_codes::Code;
@@ -53,11 +53,12 @@ fn stored_by(piece: &Piece) -> u64
     ensures words { result ≡ stored_by piece.now }
     ensures bound { result < 2 ^ 63 }
 {
-    let kind = kind_of(piece.evidence());
-    if kind.is_stored {
-        kind.listed + u64::from(piece.size().unwrap_or(0))
+    let evidence = piece.evidence();
+    let listed = listed(evidence);
+    if kind_of(evidence).is_stored {
+        listed + u64::from(piece.size().unwrap_or(0))
     } else {
-        kind.listed
+        listed
     }
 }
 

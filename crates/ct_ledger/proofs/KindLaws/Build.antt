@@ -21,7 +21,7 @@ use Rattle.ct_ledger.specs.Named.{NamedCode, code_named, other_named}
 use Rattle.ct_ledger.specs.KindParts.{support_from}
 use Rattle.ct_ledger.specs.Kinds.Build.{build_refusal, step_reason, built_over, build_kind, IsBuildChecked}
 use Rattle.ct_ledger.specs.Kind.{own_reason}
-use Rattle.ct_ledger.proofs.Stating.{HasSoundCode, AreSound, option_map-none, StatesCode, SaysSame}
+use Rattle.ct_ledger.proofs.Stating.{HasSoundCode, AreSound, option_map-none, StatesCode, SaysSame, IsAlike}
 use Rattle.ct_ledger.proofs.SizeLemmas.{size-stands}
 
 -- a step against which there is no reason has the code of its part, and finds nothing against it
@@ -41,7 +41,7 @@ pub named-sound : (id : List ℕ) (known : List NamedCode) → AreSound known �
 named-sound id [] sound = tt
 named-sound id (k ∷ known) sound = at (bytes_eq k.id id) (named-sound id known (All-tail HasSoundCode k known sound)) where
   at : (b : Bool) → IfSome (code_named id known) IsSoundCode → IfSome (cond b k.code (code_named id known)) IsSoundCode
-  at true rest = All-head HasSoundCode k known sound
+  at true rest = (All-head HasSoundCode k known sound).code
   at false rest = rest
 
 sound-code : (found : Option CodeValue) → IfSome found IsSoundCode → IfSome found (λ o. IsCode o.n o.d o.w o.words)
@@ -85,6 +85,7 @@ build_states known e step part other sound read own =
       coded = some;
       code = code;
       size = λ yes. refl;
+      partition = tt;
       stands = size-gives e (built_over e step first beside) read.0.entry some code;
     }
 
@@ -103,11 +104,11 @@ bytes_eq-same id = (bytes_eq-Decides id id).1 refl
 
 -- a build is the same over codes that are the same for its parts
 pub build_same : (e : Entry) (step : Step) (part : List ℕ) (other : Option (List ℕ)) (left right : List NamedCode)
-    → ((id : List ℕ) → list_any (λ p. bytes_eq p id) (part ∷ option_to_list other) ≡ true → code_named id left ≡ code_named id right)
+    → ((id : List ℕ) → list_any (λ p. bytes_eq p id) (part ∷ option_to_list other) ≡ true → IsAlike id left right)
     → SaysSame (build_kind e step part other) left right
 build_same e step part other left right same =
-    let first = same part (at-first part (option_to_list other)) in
-    let second = others other (λ id is. same id (later id is)) in
+    let first = (same part (at-first part (option_to_list other))).code in
+    let second = others other (λ id is. (same id (later id is)).code) in
     record {
       reason = ap₂ (step_reason e step part other) first second;
       words = ap₂ (built_over e step) first second;

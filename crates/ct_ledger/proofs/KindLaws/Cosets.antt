@@ -31,6 +31,7 @@ cosets_state known e basis representatives sound own =
       coded = refl;
       code = (some, whole.4);
       size = λ yes. refl;
+      partition = tt;
       stands = size-stands e (coset_list basis representatives) sound.0 some whole.4;
     }
 

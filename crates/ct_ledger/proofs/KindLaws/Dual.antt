@@ -38,6 +38,7 @@ dual_states known d sound own =
       coded = refl;
       code = tt;
       size = λ yes. absurd cc;
+      partition = tt;
       stands = dual_stands d sound.0 (dual_fault (numbers_of d.entry) d) refl;
     }
 
@@ -51,6 +52,7 @@ johnson_dual_states known d sound own =
       coded = refl;
       code = tt;
       size = λ yes. absurd cc;
+      partition = tt;
       stands = dual_stands d sound.0 (dual_fault (numbers_of d.entry) d) refl;
     }
 

@@ -22,6 +22,7 @@ words_state known e words sound own =
       coded = refl;
       code = (whole.0, whole.2);
       size = λ yes. refl;
+      partition = tt;
       stands = size-stands e words sound.0 whole.0 whole.2;
     }
 

@@ -25,9 +25,9 @@ is_kept evidence = (kind_of evidence).is_stored
 abbrev pub kept_over : List NamedCode → Evidence → Option CodeValue
 kept_over known evidence = if is_kept evidence then code_over known evidence else None
 
--- the code that is made anew where it is needed: the one that evidence lists, whose words are not stored
-abbrev pub listed_code : Evidence → Option CodeValue
-listed_code evidence = if is_kept evidence then None else code_over [] evidence
+-- the code that is made anew where it is needed: the one that evidence states over these codes, whose words are not stored
+abbrev pub listed_code : List NamedCode → Evidence → Option CodeValue
+listed_code known evidence = if is_kept evidence then None else code_over known evidence
 
 -- the codes that are kept beside pieces that stand after others, whose codes are known
 abbrev pub kept_after : List NamedCode → List PieceValue → List (Option CodeValue)

@@ -37,6 +37,7 @@ build_kind e step part other = record {
   words = λ known. built_over e step (code_named part known) (other_named other known);
   size = λ known. option_map length (built_over e step (code_named part known) (other_named other known));
   has_code = true;
+  partition = None;
   listed = 0;
   is_stored = true;
   gives = support_from e;

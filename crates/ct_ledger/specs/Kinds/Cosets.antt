@@ -1,5 +1,5 @@
 -- Evidence of kind cosets: the words of a code as a basis and representatives.
-use Rattle.std.specs.Prelude.{◌≤◌, ℕ, ◌+◌, true, false, List, [], length, Some, option_map, codes}
+use Rattle.std.specs.Prelude.{◌≤◌, ℕ, ◌+◌, true, false, List, [], length, Some, None, option_map, codes}
 use Rattle.ct_codes.specs.declared.entry.Entry.{Entry}
 use Rattle.ct_codes.specs.declared.fault.TheConstants.{MAX_COSET_WORK}
 use Rattle.ct_codes.specs.Coset.{coset_list, coset_fault, coset_work}
@@ -16,6 +16,7 @@ cosets_kind e basis representatives = record {
   words = λ known. Some (coset_list basis representatives);
   size = λ known. Some (length (coset_list basis representatives));
   has_code = true;
+  partition = None;
   listed = length basis + length representatives;
   is_stored = false;
   gives = support_from e;

@@ -26,6 +26,7 @@ dual_kind text d = record {
   words = λ known. None;
   size = λ known. None;
   has_code = false;
+  partition = None;
   listed = 0;
   is_stored = false;
   gives = λ size. dual_support (dual_fault (numbers_of d.entry) d) d;

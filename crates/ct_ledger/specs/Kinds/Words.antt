@@ -1,5 +1,5 @@
 -- Evidence of kind words: the words of a code, one by one.
-use Rattle.std.specs.Prelude.{ℕ, true, false, List, [], length, Some, option_map, codes}
+use Rattle.std.specs.Prelude.{ℕ, true, false, List, [], length, Some, None, option_map, codes}
 use Rattle.ct_codes.specs.declared.entry.Entry.{Entry}
 use Rattle.ct_codes.specs.Check.{code_fault}
 use Rattle.ct_ledger.specs.KindParts.{KindParts, support_from}
@@ -15,6 +15,7 @@ words_kind e words = record {
   words = λ known. Some words;
   size = λ known. Some (length words);
   has_code = true;
+  partition = None;
   listed = length words;
   is_stored = false;
   gives = support_from e;

@@ -28,14 +28,12 @@ use std::alloc::Global;
 pub(crate) fn kind(entry: Entry) -> Kind
     ensures text { result.text.now ≡ codes "build" }
     ensures entry { result.entry ≡ entry }
-    ensures listed { result.listed ≡ 0 }
     ensures is_stored { result.is_stored ≡ true }
     ensures has_code { result.has_code ≡ true }
 {
     Kind {
         text: b"build",
         entry,
-        listed: 0,
         is_stored: true,
         has_code: true,
     }

@@ -1,10 +1,9 @@
 //! Evidence of kind cosets: the words of a code as a basis and representatives.
 
-ghost use Rattle.std.specs.Prelude.{◌≡◌, ◌≢◌, ◌+◌, ◌<◌, ◌≤◌, ◌^◌, All, Some, None, IfOk, IfErr, OnOk, length, option_map, false, true};
+ghost use Rattle.std.specs.Prelude.{◌≡◌, ◌≢◌, ◌+◌, ◌<◌, ◌≤◌, ◌^◌, All, Some, None, IfOk, IfErr, OnOk, length, option_map, false, true, codes};
 ghost use Rattle.ct_codes.specs.Coset.{coset_list, coset_fault};
 ghost use Rattle.ct_codes.specs.Entry.{IsEntry};
 ghost use Rattle.ct_ledger.specs.Codes.{code_at};
-ghost use Rattle.ct_ledger.specs.Kinds.Cosets.{cosets_kind};
 
 use crate::fault::SubmitFault;
 use crate::kinds::Kind;
@@ -13,21 +12,26 @@ use ct_words::Word;
 use std::alloc::{AllocError, Global};
 
 /// What the evidence comes to.
-pub(crate) fn kind(entry: Entry, basis: &[Word], representatives: &[Word]) -> Kind
-    ensures text { result.text.now ≡ (cosets_kind entry basis.now representatives.now).text }
+pub(crate) fn kind(entry: Entry) -> Kind
+    ensures text { result.text.now ≡ codes "cosets" }
     ensures entry { result.entry ≡ entry }
-    ensures listed { result.listed ≡ length basis.now + length representatives.now }
-    ensures few { result.listed < 2 ^ 62 }
     ensures is_stored { result.is_stored ≡ false }
     ensures has_code { result.has_code ≡ true }
 {
     Kind {
         text: b"cosets",
         entry,
-        listed: basis.len() as u64 + representatives.len() as u64,
         is_stored: false,
         has_code: true,
     }
+}
+
+/// How many words the document lists.
+pub(crate) fn listed(basis: &[Word], representatives: &[Word]) -> u64
+    ensures listed { result ≡ length basis.now + length representatives.now }
+    ensures few { result < 2 ^ 62 }
+{
+    basis.len() as u64 + representatives.len() as u64
 }
 
 /// The number of the words of all choices of cosets, which are a code of the entry, or why they are none.

@@ -17,15 +17,12 @@ use std::alloc::AllocError;
 pub(crate) fn kind(text: &'static [u8], dual: &Dual) -> Kind
     ensures text { result.text.now ≡ text.now }
     ensures entry { result.entry ≡ dual.now.entry }
-    ensures listed { result.listed ≡ 0 }
-    ensures few { result.listed < 2 ^ 62 }
     ensures is_stored { result.is_stored ≡ false }
     ensures has_code { result.has_code ≡ false }
 {
     Kind {
         text,
         entry: dual.entry,
-        listed: 0,
         is_stored: false,
         has_code: false,
     }

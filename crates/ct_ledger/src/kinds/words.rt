@@ -1,11 +1,10 @@
 //! Evidence of kind words: the words of a code, one by one.
 
-ghost use Rattle.std.specs.Prelude.{◌≡◌, ◌≢◌, ◌<◌, ◌≤◌, ◌^◌, All, Some, None, IfOk, IfErr, OnOk, length, option_map, false, true};
+ghost use Rattle.std.specs.Prelude.{◌≡◌, ◌≢◌, ◌<◌, ◌≤◌, ◌^◌, All, Some, None, IfOk, IfErr, OnOk, length, option_map, false, true, codes};
 ghost use Rattle.std.specs.Result.{result_err};
 ghost use Rattle.ct_codes.specs.Check.{code_fault};
 ghost use Rattle.ct_codes.specs.Entry.{IsEntry};
 ghost use Rattle.ct_ledger.specs.Codes.{code_at};
-ghost use Rattle.ct_ledger.specs.Kinds.Words.{words_kind};
 
 use crate::fault::SubmitFault;
 use crate::kinds::Kind;
@@ -14,18 +13,15 @@ use ct_words::Word;
 use std::alloc::{AllocError, Global};
 
 /// What the evidence comes to.
-pub(crate) fn kind(entry: Entry, words: &[Word]) -> Kind
-    ensures text { result.text.now ≡ (words_kind entry words.now).text }
+pub(crate) fn kind(entry: Entry) -> Kind
+    ensures text { result.text.now ≡ codes "words" }
     ensures entry { result.entry ≡ entry }
-    ensures listed { result.listed ≡ length words.now }
-    ensures few { result.listed < 2 ^ 62 }
     ensures is_stored { result.is_stored ≡ false }
     ensures has_code { result.has_code ≡ true }
 {
     Kind {
         text: b"words",
         entry,
-        listed: words.len() as u64,
         is_stored: false,
         has_code: true,
     }

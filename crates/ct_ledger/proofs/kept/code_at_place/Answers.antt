@@ -1,12 +1,14 @@
-use Rattle.std.proofs.Common.{◌≡◌, ◌<◌, false, length, [], Some, None, subst, sym, ap, ◌∙◌}
+use Rattle.std.proofs.Common.{◌≡◌, ◌<◌, List, length, [], Some, None, subst, sym, ap, ap₂, ◌∙◌}
 use Rattle.std.proofs.lemmas.List.{get_or_read}
 use Rattle.std.specs.Prelude.{IsSome}
 use Rattle.std.proofs.lemmas.Result.{IfOk-weaker}
 use Rattle.ct_codes.specs.Code.{CodeValue}
 use Rattle.ct_evidence.specs.declared.evidence.Evidence.{Evidence}
-use Rattle.ct_files.specs.Evidence.{IsSound}
-use Rattle.ct_ledger.specs.Kind.{own_reason}
-use Rattle.ct_ledger.specs.Inside.Kept.{is_kept, listed_code}
+use Rattle.ct_ledger.specs.Piece.{PieceValue}
+use Rattle.ct_ledger.specs.Codes.{codes_of}
+use Rattle.ct_ledger.specs.Standing.{AreMade}
+use Rattle.ct_ledger.specs.Inside.Kept.{listed_code}
+use Rattle.ct_ledger.proofs.CodeLemmas.{AreMade-take}
 use Rattle.ct_ledger.proofs.KeptLemmas.{length-kept_codes}
 use Rattle.ct_ledger.proofs.PartLemmas.{placed, kept-here, kept-none, listed-faultless}
 use Rattle.ct_ledger.proofs.kept.code_at_place.Goals as goal
@@ -22,17 +24,14 @@ returns-in-Some c =
     let at = sym (get_or_read kept place c.index-kept-place.result within c.index-kept-place.is None) ∙ c.in-Some.is in
     IfOk-weaker c.try_copy.result _ _ (λ (code : CodeValue) same. kept-here c.args.pieces.now place kept c.in-Some.code c.requires.kept c.requires.place at ∙ ap Some (sym same)) c.try_copy.ensures
 
-pub listed_code-requires-clause-sound : goal.listed_code-requires-clause-sound
-listed_code-requires-clause-sound c =
-    let p = c.index-pieces-place.result in
-    let at = placed c.args.pieces.now c.args.place p c.requires.made c.requires.place c.index-pieces-place.is in
-    subst IsSound (sym c.evidence.ensures) at.right.sound
+pub listed_code-requires-clause-made : goal.listed_code-requires-clause-made
+listed_code-requires-clause-made c = subst (λ (ps : List PieceValue). AreMade [] ps) (sym c.before.ensures) (AreMade-take [] c.args.pieces.now c.args.place c.requires.made)
 
 pub listed_code-requires-clause-faultless : goal.listed_code-requires-clause-faultless
 listed_code-requires-clause-faultless c =
     let p = c.index-pieces-place.result in
     let at = placed c.args.pieces.now c.args.place p c.requires.made c.requires.place c.index-pieces-place.is in
-    subst (λ (e : Evidence). is_kept e ≡ false → own_reason [] e ≡ None) (sym c.evidence.ensures) (listed-faultless c.args.pieces.now c.args.place p at)
+    rw (c.before.ensures, c.evidence.ensures.evidence) (listed-faultless c.args.pieces.now c.args.place p at)
 
 pub unreachable-requires : goal.unreachable-requires
 unreachable-requires c =
@@ -40,7 +39,7 @@ unreachable-requires c =
     let place = c.args.place in
     let within : place < length kept = rw (c.requires.kept, length-kept_codes c.args.pieces.now) c.requires.place in
     let at = sym (get_or_read kept place c.index-kept-place.result within c.index-kept-place.is None) ∙ c.in_default.is in
-    let found = c.in_ok-made.ensures ∙ ap listed_code c.evidence.ensures
+    let found = c.in_ok-made.ensures ∙ ap₂ (λ (ps : List PieceValue) (e : Evidence). listed_code (codes_of ps) e) c.before.ensures c.evidence.ensures.evidence
     ∙ kept-none c.args.pieces.now place kept c.index-pieces-place.result c.requires.kept c.requires.place c.index-pieces-place.is at in
     let never = subst IsSome (sym found ∙ c.in_default-made.is) c.requires.coded in
     cc
@@ -51,6 +50,6 @@ returns c =
     let place = c.args.place in
     let within : place < length kept = rw (c.requires.kept, length-kept_codes c.args.pieces.now) c.requires.place in
     let at = sym (get_or_read kept place c.index-kept-place.result within c.index-kept-place.is None) ∙ c.in_default.is in
-    let found = c.in_ok-made.ensures ∙ ap listed_code c.evidence.ensures
+    let found = c.in_ok-made.ensures ∙ ap₂ (λ (ps : List PieceValue) (e : Evidence). listed_code (codes_of ps) e) c.before.ensures c.evidence.ensures.evidence
     ∙ kept-none c.args.pieces.now place kept c.index-pieces-place.result c.requires.kept c.requires.place c.index-pieces-place.is at in
     sym found ∙ c.in-Some-made.is

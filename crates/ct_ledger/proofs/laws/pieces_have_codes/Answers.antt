@@ -7,7 +7,7 @@ use Rattle.ct_ledger.proofs.PartLemmas.{piece-coded}
 use Rattle.ct_ledger.proofs.laws.pieces_have_codes.Goals as goal
 
 pub returns-clause-codes : goal.returns-clause-codes
-returns-clause-codes c = λ pieces h. codes_after-sound [] pieces (All-nil HasSoundCode) h.made
+returns-clause-codes c = λ pieces h i d within. (codes_after-sound [] pieces (All-nil HasSoundCode) h.made i d within).code
 
 pub returns-clause-ids : goal.returns-clause-ids
 returns-clause-ids c = ids_of_codes []

@@ -9,4 +9,4 @@ returns c =
     let pieces = c.args.self.now.pieces in
     let p = c.index-pieces-place.result in
     let at = placed pieces c.args.place p c.pieces.ensures.standing.made c.requires.place (c.index-pieces-place.is ∙ ap (λ (ps : List PieceValue). get_or ps c.args.place p) c.pieces.ensures.pieces) in
-    c.kind_of.ensures.has_code ∙ ap has_code c.evidence.ensures ∙ sym (placed-coded pieces c.args.place p at)
+    c.kind_of.ensures.has_code ∙ ap has_code c.evidence.ensures.evidence ∙ sym (placed-coded pieces c.args.place p at)
