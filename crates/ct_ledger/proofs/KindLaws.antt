@@ -1,4 +1,6 @@
 pub mod Words
 pub mod Cosets
+pub mod Partition
 pub mod Build
+pub mod Product
 pub mod Dual

@@ -3,13 +3,15 @@ use Rattle.std.proofs.Common.{◌≡◌, ℕ, true, List, None, codes}
 use Rattle.std.specs.Prelude.{IfSome}
 use Rattle.ct_codes.specs.Code.{IsCodeOf}
 use Rattle.ct_evidence.specs.declared.evidence.Evidence.{Evidence}
-use Rattle.ct_evidence.specs.declared.evidence.Evidence.TheVariants.{Words, Cosets, Build, Dual, JohnsonDual}
+use Rattle.ct_evidence.specs.declared.evidence.Evidence.TheVariants.{Words, Cosets, Partition, Build, Product, Dual, JohnsonDual}
 use Rattle.ct_files.specs.Evidence.{IsSound}
 use Rattle.ct_ledger.specs.Named.{NamedCode, code_named, other_named}
 use Rattle.ct_ledger.specs.Kind.{kind_of, stated_entry, names, own_reason, words_over, IsChecked}
 use Rattle.ct_ledger.proofs.Stating.{SaysSame, IsAlike}
 use Rattle.ct_ledger.proofs.KindLaws.Words.{words_accepted, words_same}
 use Rattle.ct_ledger.proofs.KindLaws.Cosets.{cosets_accepted, cosets_same}
+use Rattle.ct_ledger.proofs.KindLaws.Partition.{partition_accepted, partition_same}
+use Rattle.ct_ledger.proofs.KindLaws.Product.{product_accepted, product_same}
 use Rattle.ct_ledger.proofs.KindLaws.Build.{build_accepted, build_same}
 use Rattle.ct_ledger.proofs.KindLaws.Dual.{dual_accepted, dual_same}
 
@@ -18,6 +20,8 @@ pub kind_same : (evidence : Evidence) (left right : List NamedCode) → ((id : L
     → SaysSame (kind_of evidence) left right
 kind_same (Words e words) left right same = words_same e words left right
 kind_same (Cosets e basis representatives) left right same = cosets_same e basis representatives left right
+kind_same (Partition e between classes) left right same = partition_same e between classes left right
+kind_same (Product e pairs) left right same = product_same e pairs left right same
 kind_same (Build e step part other) left right same = build_same e step part other left right same
 kind_same (Dual d) left right same = dual_same (codes "dual") d left right
 kind_same (JohnsonDual d) left right same = dual_same (codes "jdual") d left right
@@ -27,6 +31,8 @@ pub no_own_reason : (known : List NamedCode) (evidence : Evidence) → IsSound e
     → IfSome (words_over known evidence) (IsCodeOf (stated_entry evidence)) → own_reason known evidence ≡ None
 no_own_reason known (Words e words) sound checked code = words_accepted known e words sound code
 no_own_reason known (Cosets e basis representatives) sound checked code = cosets_accepted known e basis representatives sound checked code
+no_own_reason known (Partition e between classes) sound checked code = partition_accepted known e between classes sound checked
+no_own_reason known (Product e pairs) sound checked code = product_accepted known e pairs checked
 no_own_reason known (Build e step part other) sound checked code = build_accepted e step part other (code_named part known) (other_named other known) checked
 no_own_reason known (Dual d) sound checked code = dual_accepted d checked
 no_own_reason known (JohnsonDual d) sound checked code = dual_accepted d checked

@@ -1,10 +1,12 @@
 pub mod AscendingLemmas
 pub mod CodeLemmas
+pub mod PartitionPlaces
 pub mod Stating
 pub mod SizeLemmas
 pub mod KindLaws
 pub mod KindLemmas
 pub mod MakingLemmas
+pub mod ProductLemmas
 pub mod LeavingLemmas
 pub mod StandingLemmas
 pub mod SupportLemmas

@@ -6,7 +6,7 @@ use Rattle.std.proofs.lemmas.List.Elements.{All-push, All-nil, All-cons, All-hea
 use Rattle.ct_codes.specs.Code.{IsCodeOf, IsSoundCode}
 use Rattle.ct_codes.proofs.CheckLemmas.{first_of-None}
 use Rattle.ct_evidence.specs.declared.evidence.Evidence.{Evidence}
-use Rattle.ct_evidence.specs.declared.evidence.Evidence.TheVariants.{Words, Cosets, Build, Dual, JohnsonDual}
+use Rattle.ct_evidence.specs.declared.evidence.Evidence.TheVariants.{Words, Cosets, Partition, Build, Product, Dual, JohnsonDual}
 use Rattle.ct_fields.specs.declared.fault.FileFault.{FileFault}
 use Rattle.ct_files.specs.Evidence.{read_without_limit, IsSound}
 use Rattle.ct_files.proofs.Evidences.{read_without_limit-sound}
@@ -22,6 +22,8 @@ use Rattle.ct_ledger.proofs.CodeLemmas.{code_at-sound, made_at, code_at_place}
 use Rattle.ct_ledger.proofs.Stating.{HasSoundCode, AreSound, option_map-none, StatesCode}
 use Rattle.ct_ledger.proofs.KindLaws.Words.{words_state}
 use Rattle.ct_ledger.proofs.KindLaws.Cosets.{cosets_state}
+use Rattle.ct_ledger.proofs.KindLaws.Partition.{partition_states}
+use Rattle.ct_ledger.proofs.KindLaws.Product.{product_states}
 use Rattle.ct_ledger.proofs.KindLaws.Build.{build_states}
 use Rattle.ct_ledger.proofs.KindLaws.Dual.{dual_states, johnson_dual_states}
 
@@ -69,6 +71,8 @@ right-parts known evidence h =
 pub own_states : (known : List NamedCode) (evidence : Evidence) → AreSound known → IsSound evidence → own_reason known evidence ≡ None → StatesCode known evidence
 own_states known (Words e words) sound read own = words_state known e words read own
 own_states known (Cosets e basis representatives) sound read own = cosets_state known e basis representatives read own
+own_states known (Partition e between classes) sound read own = partition_states known e between classes read own
+own_states known (Product e pairs) sound read own = product_states known e pairs sound read own
 own_states known (Build e step part other) sound read own = build_states known e step part other sound read own
 own_states known (Dual d) sound read own = dual_states known d read own
 own_states known (JohnsonDual d) sound read own = johnson_dual_states known d read own

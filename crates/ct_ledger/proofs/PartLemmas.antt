@@ -13,7 +13,6 @@ use Rattle.ct_build.specs.declared.shape.Shape.{Shape}
 use Rattle.ct_build.specs.declared.step.Step.{Step}
 use Rattle.ct_build.specs.Build.{shape_of, built, early_fault}
 use Rattle.ct_build.proofs.BuildFaults.{fault_early}
-use Rattle.ct_evidence.specs.declared.evidence.Evidence.{Evidence}
 use Rattle.ct_evidence.specs.declared.evidence.Evidence.TheVariants.{Build}
 use Rattle.ct_ledger.specs.Ascending.{ascending}
 use Rattle.ct_ledger.specs.Named.{NamedCode, is_known, first_missing, code_named, other_named}

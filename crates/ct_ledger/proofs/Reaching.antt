@@ -14,7 +14,7 @@ use Rattle.ct_rule_parts.specs.declared.support.Support.TheVariants.{Nothing, Si
 use Rattle.ct_rules.specs.Derivation.{IsBest}
 use Rattle.ct_rules.proofs.GivenCodes.{support-derived}
 use Rattle.ct_evidence.specs.declared.evidence.Evidence.{Evidence}
-use Rattle.ct_evidence.specs.declared.evidence.Evidence.TheVariants.{Words, Cosets, Build, Dual, JohnsonDual}
+use Rattle.ct_evidence.specs.declared.evidence.Evidence.TheVariants.{Words, Cosets, Partition, Build, Product, Dual, JohnsonDual}
 use Rattle.ct_ledger.specs.Ascending.{ascending}
 use Rattle.ct_ledger.specs.Kind.{kind_of, stated_entry, has_code, words_over}
 use Rattle.ct_ledger.specs.Piece.{PieceValue}
@@ -33,6 +33,8 @@ gives-size : (evidence : Evidence) (k : ℕ) → has_code evidence ≡ true → 
 gives-size (Words e words) k coded = refl
 gives-size (Cosets e basis representatives) k coded = refl
 gives-size (Build e step part other) k coded = refl
+gives-size (Product e pairs) k coded = refl
+gives-size (Partition e between classes) k coded = absurd cc
 gives-size (Dual d) k coded = absurd cc
 gives-size (JohnsonDual d) k coded = absurd cc
 
@@ -41,6 +43,8 @@ gives-coded : (evidence : Evidence) (o : Option ℕ) (e : Entry) (size : ℕ) �
 gives-coded (Words f words) o e size h = refl
 gives-coded (Cosets f basis representatives) o e size h = refl
 gives-coded (Build f step part other) o e size h = refl
+gives-coded (Product f pairs) o e size h = refl
+gives-coded (Partition f between classes) o e size h = absurd cc
 gives-coded (Dual d) o e size h = absurd (gives_no_size d (dual_fault (numbers_of d.entry) d) e size h)
 gives-coded (JohnsonDual d) o e size h = absurd (gives_no_size d (dual_fault (numbers_of d.entry) d) e size h)
 

@@ -1,5 +1,5 @@
 -- Why a submission is refused, reason by reason.
-use Rattle.std.proofs.Common.{◌≡◌, ℕ, zero, suc, ◌+◌, ◌<◌, ◌≤◌, Bool, true, false, cond, not, List, [], ◌∷◌, ◌++◌, length, Option, Some, None, option_map, Result, Ok, Err, refl, sym, ap, ap₂, subst, ◌∙◌, nat_le, leb-true}
+use Rattle.std.proofs.Common.{◌≡◌, ℕ, zero, suc, ◌+◌, ◌<◌, ◌≤◌, Bool, true, false, cond, not, List, [], ◌∷◌, ◌++◌, length, Option, Some, None, option_map, Result, Ok, Err, refl, sym, ap, ap₂, subst, ◌∙◌, nat_le, nat_lt, leb-true}
 use Rattle.std.specs.Prelude.{All, find}
 use Rattle.std.proofs.lemmas.Bool.{lt-leb, le-leb, leb-false}
 use Rattle.std.proofs.lemmas.List.Elements.{All-nil, All-cons, All-head, All-tail}
@@ -9,6 +9,9 @@ use Rattle.ct_codes.specs.declared.fault.CodeFault.{CodeFault}
 use Rattle.ct_codes.specs.Check.{code_fault}
 use Rattle.ct_codes.specs.Code.{CodeValue}
 use Rattle.ct_codes.specs.Coset.{coset_fault}
+use Rattle.ct_partitions.specs.declared.fault.PartitionFault.{PartitionFault}
+use Rattle.ct_partitions.specs.Check.{partition_fault}
+use Rattle.ct_partitions.specs.Product.{product_distance}
 use Rattle.ct_duals.specs.declared.fault.DualFault.{DualFault}
 use Rattle.ct_duals.specs.Check.{dual_fault}
 use Rattle.ct_delsarte.specs.Numbers.{numbers_of}
@@ -23,6 +26,7 @@ use Rattle.ct_fields.specs.declared.fault.FileFault.{FileFault}
 use Rattle.ct_files.specs.Evidence.{read_of}
 use Rattle.ct_ledger.specs.Named.{NamedCode, is_known, first_missing, code_named, other_named}
 use Rattle.ct_ledger.specs.Kinds.Build.{build_refusal, step_reason}
+use Rattle.ct_ledger.specs.Kinds.Product.{factors_named, wrong_id, short_of}
 use Rattle.ct_ledger.specs.Withdrawal.{without, withdrawn, unless_used}
 use Rattle.ct_ledger.specs.declared.fault.WithdrawFault.{WithdrawFault}
 use Rattle.ct_ledger.specs.declared.fault.WithdrawFault.TheVariants as withdraw
@@ -33,7 +37,7 @@ use Rattle.ct_ledger.specs.Submission.{piece_of, made_unless, piece_from, stored
 use Rattle.ct_ledger.specs.Refusals.{HasRoom, IsRead, IsFirstMissing, IsOwnReason, IsRefused, IsFirstUser, IsNotWithdrawn}
 use Rattle.ct_ledger.specs.declared.limits.TheConstants.{MAX_PIECES, MAX_STORED}
 use Rattle.ct_ledger.specs.declared.fault.SubmitFault.{SubmitFault}
-use Rattle.ct_ledger.specs.declared.fault.SubmitFault.TheVariants.{Taken, FullPieces, File, NoSuch, WrongPart, Code, Build, Dual, FullWords, Memory}
+use Rattle.ct_ledger.specs.declared.fault.SubmitFault.TheVariants.{Taken, FullPieces, File, NoSuch, WrongPart, Code, Partition, Build, Dual, FullWords, Memory}
 use Rattle.ct_ledger.proofs.CodeLemmas.{known_where_taken}
 use Rattle.ct_ledger.proofs.StandingLemmas.{has_id-none}
 use Rattle.ct_ledger.proofs.Accepting.{not_taken, taken, parts_stand, parts_known, stand-known, known-stand}
@@ -133,6 +137,7 @@ submitted-read pieces id document evidence h = submitted-room pieces id document
 abbrev pub IsOwn : SubmitFault → Type 0
 IsOwn (WrongPart part) = Unit {0}
 IsOwn (Code reason) = Unit {0}
+IsOwn (Partition reason) = Unit {0}
 IsOwn (Build reason) = Unit {0}
 IsOwn (Dual reason) = Unit {0}
 IsOwn reason = ⊥
@@ -140,6 +145,20 @@ IsOwn reason = ⊥
 code-own : (o : Option CodeFault) (reason : SubmitFault) → option_map Code o ≡ Some reason → IsOwn reason
 code-own None reason h = absurd cc
 code-own (Some f) reason h = let same : Code f ≡ reason = cc in subst IsOwn same tt
+
+partition-own : (o : Option PartitionFault) (reason : SubmitFault) → option_map Partition o ≡ Some reason → IsOwn reason
+partition-own None reason h = absurd cc
+partition-own (Some f) reason h = let same : Partition f ≡ reason = cc in subst IsOwn same tt
+
+short-own : (e : Entry) (have : ℕ) (reason : SubmitFault) → short_of e have ≡ Some reason → IsOwn reason
+short-own e have reason h = at (nat_lt have e.d) h where
+  at : (b : Bool) → cond b (Some (Build (build.Short have e.d))) None ≡ Some reason → IsOwn reason
+  at true is = let same : Build (build.Short have e.d) ≡ reason = cc in subst IsOwn same tt
+  at false is = absurd cc
+
+product-own : (e : Entry) (wrong : Option (List ℕ)) (have : ℕ) (reason : SubmitFault) → first_of (option_map WrongPart wrong) (short_of e have) ≡ Some reason → IsOwn reason
+product-own e None have reason h = short-own e have reason h
+product-own e (Some id) have reason h = let same : WrongPart id ≡ reason = cc in subst IsOwn same tt
 
 dual-own : (o : Option DualFault) (reason : SubmitFault) → option_map Dual o ≡ Some reason → IsOwn reason
 dual-own None reason h = absurd cc
@@ -166,6 +185,8 @@ step-own e step part other (Some code) beside reason h = build-own part other (b
 pub reason-own : (known : List NamedCode) (evidence : Evidence) (reason : SubmitFault) → own_reason known evidence ≡ Some reason → IsOwn reason
 reason-own known (Words e words) reason h = code-own (code_fault e words) reason h
 reason-own known (Cosets e basis representatives) reason h = code-own (coset_fault e basis representatives) reason h
+reason-own known (evidence.Partition e between classes) reason h = partition-own (partition_fault e between classes) reason h
+reason-own known (evidence.Product e pairs) reason h = product-own e (wrong_id e known pairs) (product_distance (factors_named known pairs)) reason h
 reason-own known (evidence.Build e step part other) reason h = step-own e step part other (code_named part known) (other_named other known) reason h
 reason-own known (evidence.Dual d) reason h = dual-own (dual_fault (numbers_of d.entry) d) reason h
 reason-own known (evidence.JohnsonDual d) reason h = dual-own (dual_fault (numbers_of d.entry) d) reason h
@@ -174,6 +195,7 @@ reason-own known (evidence.JohnsonDual d) reason h = dual-own (dual_fault (numbe
 own-refused : (pieces : List PieceValue) (id document : List ℕ) (reason : SubmitFault) → IsOwn reason → IsOwnReason pieces id document reason → IsRefused pieces id document reason
 own-refused pieces id document (WrongPart part) own h = h
 own-refused pieces id document (Code reason) own h = h
+own-refused pieces id document (Partition reason) own h = h
 own-refused pieces id document (Build reason) own h = h
 own-refused pieces id document (Dual reason) own h = h
 own-refused pieces id document Taken own h = absurd own
@@ -253,6 +275,7 @@ refuses pieces id document (NoSuch part) h =
     ∙ ap (λ (missing : Option (List ℕ)). judged pieces id document h.evidence missing (own_reason (codes_of pieces) h.evidence)) (first-missing pieces (parts_of h.evidence) part h.first)
 refuses pieces id document (WrongPart part) h = own-refuses pieces id document (WrongPart part) h
 refuses pieces id document (Code reason) h = own-refuses pieces id document (Code reason) h
+refuses pieces id document (Partition reason) h = own-refuses pieces id document (Partition reason) h
 refuses pieces id document (Build reason) h = own-refuses pieces id document (Build reason) h
 refuses pieces id document (Dual reason) h = own-refuses pieces id document (Dual reason) h
 refuses pieces id document (FullWords total) h =

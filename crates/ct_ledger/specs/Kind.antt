@@ -3,13 +3,16 @@ use Rattle.std.specs.Prelude.{ℕ, Bool, List, Option, codes}
 use Rattle.std.specs.List.{list_any}
 use Rattle.std.specs.Str.{bytes_eq}
 use Rattle.ct_codes.specs.declared.entry.Entry.{Entry}
+use Rattle.ct_partitions.specs.Partition.{IsPartition}
 use Rattle.ct_evidence.specs.declared.evidence.Evidence.{Evidence}
-use Rattle.ct_evidence.specs.declared.evidence.Evidence.TheVariants.{Words, Cosets, Build, Dual, JohnsonDual}
+use Rattle.ct_evidence.specs.declared.evidence.Evidence.TheVariants.{Words, Cosets, Partition, Build, Product, Dual, JohnsonDual}
 use Rattle.ct_ledger.specs.Named.{NamedCode, code_named, other_named}
 use Rattle.ct_ledger.specs.KindParts.{KindParts}
 use Rattle.ct_ledger.specs.Kinds.Words.{words_kind}
 use Rattle.ct_ledger.specs.Kinds.Cosets.{cosets_kind, IsCosetsChecked}
+use Rattle.ct_ledger.specs.Kinds.Partition.{partition_kind}
 use Rattle.ct_ledger.specs.Kinds.Build.{build_kind, IsBuildChecked}
+use Rattle.ct_ledger.specs.Kinds.Product.{product_kind, IsProductChecked}
 use Rattle.ct_ledger.specs.Kinds.Dual.{dual_kind, IsDualChecked}
 use Rattle.ct_ledger.specs.declared.fault.SubmitFault.{SubmitFault}
 
@@ -17,7 +20,9 @@ use Rattle.ct_ledger.specs.declared.fault.SubmitFault.{SubmitFault}
 abbrev pub kind_of : Evidence → KindParts
 kind_of (Words e words) = words_kind e words
 kind_of (Cosets e basis representatives) = cosets_kind e basis representatives
+kind_of (Partition e between classes) = partition_kind e between classes
 kind_of (Build e step part other) = build_kind e step part other
+kind_of (Product e pairs) = product_kind e pairs
 kind_of (Dual d) = dual_kind (codes "dual") d
 kind_of (JohnsonDual d) = dual_kind (codes "jdual") d
 
@@ -50,10 +55,13 @@ abbrev pub size_over : List NamedCode → Evidence → Option ℕ
 size_over known evidence = (kind_of evidence).size known
 
 -- what more is asked of evidence that is accepted than that its words are a code: for cosets that the work of the check is within the limit, for a
--- build that its step finds nothing against the codes of its parts, and for a dual, which has no code, that it is one
+-- partition, which has no code, that its classes are one, for a build that its step finds nothing against the codes of its parts, for a product that
+-- its pairs have one of the distance that is stated, and for a dual, which has no code, that it is one
 abbrev pub IsChecked : List NamedCode → Evidence → Type 0
 IsChecked known (Words e words) = Unit {0}
 IsChecked known (Cosets e basis representatives) = IsCosetsChecked basis representatives
+IsChecked known (Partition e between classes) = IsPartition e.n e.d e.w between classes
 IsChecked known (Build e step part other) = IsBuildChecked e step (code_named part known) (other_named other known)
+IsChecked known (Product e pairs) = IsProductChecked e known pairs
 IsChecked known (Dual d) = IsDualChecked d
 IsChecked known (JohnsonDual d) = IsDualChecked d

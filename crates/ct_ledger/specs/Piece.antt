@@ -8,7 +8,7 @@ use Rattle.ct_ledger.specs.KindParts.{stored_for}
 use Rattle.ct_ledger.specs.Kind.{kind_of, names}
 
 -- a piece: its id, its document, the evidence that the document states, the entry that it is about, and its size, where it has one: the number of
--- words of its code
+-- words of its code, or of the classes of a partition
 pub record PieceValue : Type 0 where
   pub id : List ℕ
   pub document : List ℕ

@@ -10,7 +10,7 @@ use Rattle.ct_ledger.specs.declared.limits.TheConstants.{MAX_PIECES, MAX_STORED}
 use Rattle.ct_ledger.specs.declared.fault.WithdrawFault.{WithdrawFault}
 use Rattle.ct_ledger.specs.declared.fault.WithdrawFault.TheVariants as withdraw
 use Rattle.ct_ledger.specs.declared.fault.SubmitFault.{SubmitFault}
-use Rattle.ct_ledger.specs.declared.fault.SubmitFault.TheVariants.{Taken, FullPieces, File, NoSuch, WrongPart, Code, Build, Dual, FullWords, Memory}
+use Rattle.ct_ledger.specs.declared.fault.SubmitFault.TheVariants.{Taken, FullPieces, File, NoSuch, WrongPart, Code, Partition, Build, Dual, FullWords, Memory}
 
 -- the id is one of the pieces'
 abbrev pub IsTaken : List PieceValue → List ℕ → Type 0
@@ -57,7 +57,7 @@ pub record IsAboveStored (pieces : List PieceValue) (id document : List ℕ) (to
   pub many : MAX_STORED < total
 
 -- the submission is refused for this reason: in order, its id stands; a thousand pieces do; the document's own fault; a part that doesn't stand; a
--- part, words, a step or a dual that the kind's own check refuses; or too many stored words
+-- part, words, classes, a step, a product or a dual that the kind's own check refuses; or too many stored words
 abbrev pub IsRefused : List PieceValue → List ℕ → List ℕ → SubmitFault → Type 0
 IsRefused pieces id document Taken = IsTaken pieces id
 IsRefused pieces id document (FullPieces count) = All (λ q. q.id ≢ id) pieces × (MAX_PIECES ≤ length pieces) × (count ≡ length pieces)
@@ -65,6 +65,7 @@ IsRefused pieces id document (File reason) = HasRoom pieces id × (read_of docum
 IsRefused pieces id document (NoSuch part) = NamesMissing pieces id document part
 IsRefused pieces id document (WrongPart part) = IsOwnReason pieces id document (WrongPart part)
 IsRefused pieces id document (Code reason) = IsOwnReason pieces id document (Code reason)
+IsRefused pieces id document (Partition reason) = IsOwnReason pieces id document (Partition reason)
 IsRefused pieces id document (Build reason) = IsOwnReason pieces id document (Build reason)
 IsRefused pieces id document (Dual reason) = IsOwnReason pieces id document (Dual reason)
 IsRefused pieces id document (FullWords total) = IsAboveStored pieces id document total

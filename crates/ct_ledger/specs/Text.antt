@@ -5,6 +5,8 @@ use Rattle.ct_text.specs.Number.{spaced}
 use Rattle.ct_text.specs.EntryText.{entry_words}
 use Rattle.ct_codes.specs.declared.fault.CodeFault.{CodeFault}
 use Rattle.ct_codes.specs.declared.fault.CodeFault.TheVariants as code
+use Rattle.ct_partitions.specs.declared.fault.PartitionFault.{PartitionFault}
+use Rattle.ct_partitions.specs.declared.fault.PartitionFault.TheVariants as partition
 use Rattle.ct_build.specs.declared.fault.BuildFault.{BuildFault}
 use Rattle.ct_build.specs.declared.fault.BuildFault.TheVariants as build
 use Rattle.ct_duals.specs.declared.fault.DualFault.{DualFault}
@@ -39,6 +41,16 @@ file_fault_text (file.Digits i) = codes "digits" ++ spaced i
 file_fault_text (file.Size c) = codes "size" ++ spaced c
 file_fault_text file.Memory = []
 
+-- why classes are no partition: the words count from 0 through all classes, and `close` tells their distance, their classes and what they need; want
+-- of memory has no text
+abbrev pub partition_fault_text : PartitionFault → List ℕ
+partition_fault_text (partition.Size c) = codes "size" ++ spaced c
+partition_fault_text (partition.Weight i) = codes "weight" ++ spaced i
+partition_fault_text (partition.Repeated i j) = codes "repeated" ++ spaced i ++ spaced j
+partition_fault_text (partition.Close i j t a b need) =
+    codes "close" ++ spaced i ++ spaced j ++ spaced t ++ codes " classes" ++ spaced a ++ spaced b ++ codes " need" ++ spaced need
+partition_fault_text partition.Memory = []
+
 -- why a build makes no code; a wrong part is told by its id, and so it and want of memory have no text here
 abbrev pub build_fault_text : BuildFault → List ℕ
 build_fault_text (build.WrongPart i) = []
@@ -65,6 +77,7 @@ submit_fault_text (submit.File reason) = file_fault_text reason
 submit_fault_text (submit.NoSuch part) = codes "nosuch " ++ part
 submit_fault_text (submit.WrongPart part) = codes "part " ++ part
 submit_fault_text (submit.Code reason) = code_fault_text reason
+submit_fault_text (submit.Partition reason) = partition_fault_text reason
 submit_fault_text (submit.Build reason) = build_fault_text reason
 submit_fault_text (submit.Dual reason) = dual_fault_text reason
 submit_fault_text (submit.FullWords total) = codes "full words" ++ spaced total

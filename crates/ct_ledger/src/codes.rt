@@ -7,7 +7,7 @@ use crate::kinds::kind_of;
 use crate::ledger::Ledger;
 
 impl Ledger {
-    /// Whether the piece at the place has a code: whether its kind has one. A dual has none.
+    /// Whether the piece at the place has a code: whether its kind has one. A partition and a dual have none.
     pub fn has_code(&self, place: usize) -> bool
         requires place { place < length self.now.pieces }
         ensures { result ≡ is_some (code_of_place self.now.pieces place) }

@@ -6,6 +6,7 @@ use ct_build::BuildFault;
 use ct_codes::CodeFault;
 use ct_duals::DualFault;
 use ct_files::FileFault;
+use ct_partitions::PartitionFault;
 use ct_text::Id;
 use std::alloc::{AllocError, AllocFailed};
 
@@ -20,12 +21,16 @@ pub enum SubmitFault {
     File(FileFault),
     /// The first part that is named, in the order of the document, and that does not stand.
     NoSuch(Id),
-    /// The first part that is named and that is of a kind without a code, or has not the length or the weight that the step
-    /// asks for.
+    /// The first part that is named and that does not fit. Of a build: it is of a kind without a code, or has not the length or
+    /// the weight that the step asks for. Of a product, pair by pair: it is no partition, has not the length that it needs
+    /// or, where a weight is stated, not the weight.
     WrongPart(Id),
     /// The words are no code of the entry. The fault is never want of memory.
     Code(CodeFault),
-    /// The step makes no code of the entry. The fault is never a wrong part nor want of memory.
+    /// The classes are no partition. The fault is never want of memory.
+    Partition(PartitionFault),
+    /// The step makes no code of the entry, or the distance of the product is too short. The fault is never a wrong part nor
+    /// want of memory.
     Build(BuildFault),
     /// The dual is not accepted.
     Dual(DualFault),

@@ -23,7 +23,7 @@ pub(crate) fn place_of(pieces: &[Piece], id: Id) -> Option<usize>
 }
 
 /// The pieces before a place.
-fn before(pieces: &[Piece], place: usize) -> &[Piece]
+fn pieces_before(pieces: &[Piece], place: usize) -> &[Piece]
     requires { place < length pieces.now }
     ensures { result.now ≡ take place pieces.now }
 {
@@ -74,7 +74,11 @@ pub(crate) fn find_code<'a>(
             made: None,
         });
     }
-    let made = listed_code(alloc, before(pieces, place), pieces[place].evidence())?;
+    let made = listed_code(
+        alloc,
+        pieces_before(pieces, place),
+        pieces[place].evidence(),
+    )?;
     Ok(Found { kept: None, made })
 }
 
@@ -115,7 +119,11 @@ pub(crate) fn code_at_place(
     if let Some(code) = &kept[place] {
         return code.try_copy();
     }
-    let made = listed_code(alloc, before(pieces, place), pieces[place].evidence())?;
+    let made = listed_code(
+        alloc,
+        pieces_before(pieces, place),
+        pieces[place].evidence(),
+    )?;
     let Some(code) = made else { unreachable!() };
     Ok(code)
 }

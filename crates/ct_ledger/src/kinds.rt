@@ -12,9 +12,12 @@ ghost use Rattle.ct_ledger.specs.Inside.Kept.{kept_over, listed_code, kept_codes
 mod build;
 mod cosets;
 mod dual;
+mod partition;
+mod product;
 mod words;
 
 use crate::fault::SubmitFault;
+use crate::kinds::partition::StatedPartition;
 use crate::piece::Piece;
 use ct_codes::{Code, Entry};
 use ct_files::Evidence;
@@ -45,7 +48,9 @@ pub(crate) fn kind_of(evidence: &Evidence) -> Kind
     match evidence {
         Evidence::Words { entry, words } => words::kind(*entry),
         Evidence::Cosets { entry, .. } => cosets::kind(*entry),
+        Evidence::Partition { entry, .. } => partition::kind(*entry),
         Evidence::Build { entry, .. } => build::kind(*entry),
+        Evidence::Product { entry, .. } => product::kind(*entry),
         Evidence::Dual(dual) => dual::kind(b"dual", dual),
         Evidence::JohnsonDual(dual) => dual::kind(b"jdual", dual),
     }
@@ -64,7 +69,11 @@ pub(crate) fn listed(evidence: &Evidence) -> u64
             representatives,
             ..
         } => cosets::listed(basis.as_slice(), representatives.as_slice()),
-        Evidence::Build { .. } | Evidence::Dual(_) | Evidence::JohnsonDual(_) => 0,
+        Evidence::Partition { classes, .. } => partition::listed(classes.as_slice()),
+        Evidence::Build { .. }
+        | Evidence::Product { .. }
+        | Evidence::Dual(_)
+        | Evidence::JohnsonDual(_) => 0,
     }
 }
 
@@ -75,9 +84,11 @@ pub(crate) fn names(evidence: &Evidence, id: Id) -> bool
     match evidence {
         Evidence::Words { .. }
         | Evidence::Cosets { .. }
+        | Evidence::Partition { .. }
         | Evidence::Dual(_)
         | Evidence::JohnsonDual(_) => false,
         Evidence::Build { part, other, .. } => build::names(*part, *other, id),
+        Evidence::Product { pairs, .. } => product::names(pairs.as_slice(), id),
     }
 }
 
@@ -89,7 +100,9 @@ pub(crate) fn gives(evidence: &Evidence, size: Option<u32>) -> Result<Support, A
     match evidence {
         Evidence::Words { entry, .. }
         | Evidence::Cosets { entry, .. }
-        | Evidence::Build { entry, .. } => Ok(support_from(*entry, size)),
+        | Evidence::Build { entry, .. }
+        | Evidence::Product { entry, .. } => Ok(support_from(*entry, size)),
+        Evidence::Partition { .. } => Ok(Support::Nothing),
         Evidence::Dual(dual) => dual::support(dual),
         Evidence::JohnsonDual(dual) => dual::support(dual),
     }
@@ -141,6 +154,17 @@ pub(crate) fn check(
                 kept: None,
             })
         }
+        Evidence::Partition {
+            entry,
+            between,
+            classes,
+        } => {
+            let size = partition::check(alloc, *entry, *between, classes.as_slice())?;
+            Ok(Checked {
+                size: Some(size),
+                kept: None,
+            })
+        }
         Evidence::Build {
             entry,
             step,
@@ -153,6 +177,13 @@ pub(crate) fn check(
                 kept: Some(code),
             })
         }
+        Evidence::Product { entry, pairs } => {
+            let size = product::check(alloc, pieces, *entry, pairs.as_slice())?;
+            Ok(Checked {
+                size: Some(size),
+                kept: None,
+            })
+        }
         Evidence::Dual(dual) => dual::check(dual),
         Evidence::JohnsonDual(dual) => dual::check(dual),
     }
@@ -163,6 +194,25 @@ pub(crate) fn check(
 pub(crate) struct Checked {
     pub(crate) size: Option<u32>,
     pub(crate) kept: Option<Code>,
+}
+
+/// The partition that the evidence states, where it states one.
+pub(crate) fn partition_of<'a>(evidence: &'a Evidence) -> Option<StatedPartition<'a>>
+    ensures { result ≡ (kind_of evidence.now).partition }
+{
+    match evidence {
+        Evidence::Partition {
+            entry,
+            between,
+            classes,
+        } => Some(StatedPartition::new(*entry, *between, classes.as_slice())),
+        Evidence::Words { .. }
+        | Evidence::Cosets { .. }
+        | Evidence::Build { .. }
+        | Evidence::Product { .. }
+        | Evidence::Dual(_)
+        | Evidence::JohnsonDual(_) => None,
+    }
 }
 
 /// The code that the evidence states over the pieces before it, against which there is no reason; none where the code is kept
@@ -190,6 +240,13 @@ pub(crate) fn listed_code(
             let code = cosets::code(alloc, *entry, basis.as_slice(), representatives.as_slice())?;
             Ok(Some(code))
         }
-        Evidence::Build { .. } | Evidence::Dual(_) | Evidence::JohnsonDual(_) => Ok(None),
+        Evidence::Product { entry, pairs } => {
+            let code = product::code(alloc, before, *entry, pairs.as_slice())?;
+            Ok(Some(code))
+        }
+        Evidence::Partition { .. }
+        | Evidence::Build { .. }
+        | Evidence::Dual(_)
+        | Evidence::JohnsonDual(_) => Ok(None),
     }
 }

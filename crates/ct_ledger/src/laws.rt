@@ -5,6 +5,7 @@ ghost use Rattle.std.specs.List.Sorted.{IsPermutation, IsSorted};
 ghost use Rattle.std.specs.Ordering.{nat_cmp};
 ghost use Rattle.ct_codes.specs.declared.entry.Entry.{Entry};
 ghost use Rattle.ct_build.specs.declared.step.Step.{Step};
+ghost use Rattle.ct_partitions.specs.Partition.{all_words};
 ghost use Rattle.ct_duals.specs.declared.dual.Dual.{Dual};
 ghost use Rattle.ct_duals.specs.Dual.{combination};
 ghost use Rattle.ct_delsarte.specs.Numbers.{numbers_of};
@@ -34,8 +35,8 @@ ghost use Rattle.ct_rule_parts.specs.Support.{AllStand};
 ghost use Rattle.ct_rules.specs.Derivation.{IsBest};
 
 /// A submission over pieces that stand makes a piece exactly where its id is free, there is room, each part that its
-/// document names stands and is right, the document states a code of its entry, whose check is within the limit, or a dual
-/// whose f is nowhere above what is allowed, and the words of the piece may be stored beside the others.
+/// document names stands and is right, the document states a code of its entry, whose check is within the limit, a partition, or
+/// a dual whose f is nowhere above what is allowed, and the words of the piece may be stored beside the others.
 pub fn submissions_that_are_accepted()
     ensures accepted { (pieces : List PieceValue) (id document : List ℕ) (p : PieceValue) → AreStanding pieces
         → (submitted pieces id document ≡ Ok p) ↔ IsAccepted pieces id document p }
@@ -47,7 +48,7 @@ pub fn submissions_that_are_accepted()
 
 /// Why a submission is refused: each reason comes exactly where it is the first, in the order in which `SubmitFault` names them. Its id
 /// stands; so many pieces do that there is no room; the document has a fault of its own; it names a part that does not stand; a part,
-/// the words, the step or the dual is refused by the kind's own check; the words would be too many.
+/// the words, the classes, the step, the product or the dual is refused by the kind's own check; the words would be too many.
 pub fn refusals_in_order()
     ensures { (pieces : List PieceValue) (id document : List ℕ) (reason : SubmitFault)
         → (submitted pieces id document ≡ Err reason) ↔ IsRefused pieces id document reason }
@@ -68,8 +69,8 @@ pub fn withdrawals_that_are_refused()
         → (withdrawn pieces id ≡ Err reason) ↔ IsNotWithdrawn pieces id reason }
 {}
 
-/// The words that a piece stores, by its kind: those of its document, a basis and representatives among them, and of a build those of
-/// its code. A dual stores none. A ledger has at most 1,000 pieces, and they store at most 1,000,000 words.
+/// The words that a piece stores, by its kind: those of its document, a basis and representatives or the words of all classes among them,
+/// and of a build those of its code. A product and a dual store none. A ledger has at most 1,000 pieces, and they store at most 1,000,000 words.
 pub fn stored_words_by_kind()
     ensures words { (e : Entry) (words : List ℕ) (size : Option ℕ)
         → stored_for (kind_of (evidence.Words e words)) size ≡ length words }
@@ -77,6 +78,10 @@ pub fn stored_words_by_kind()
         → stored_for (kind_of (evidence.Cosets e basis representatives)) size ≡ length basis + length representatives }
     ensures build { (e : Entry) (step : Step) (part : List ℕ) (other : Option (List ℕ)) (size : ℕ)
         → stored_for (kind_of (evidence.Build e step part other)) (Some size) ≡ size }
+    ensures partition { (e : Entry) (between : ℕ) (classes : List (List ℕ)) (size : Option ℕ)
+        → stored_for (kind_of (evidence.Partition e between classes)) size ≡ length (all_words classes) }
+    ensures product { (e : Entry) (pairs : List (List ℕ × List ℕ)) (size : Option ℕ)
+        → stored_for (kind_of (evidence.Product e pairs)) size ≡ 0 }
     ensures dual { (d : Dual) (size : Option ℕ) → stored_for (kind_of (evidence.Dual d)) size ≡ 0 }
     ensures johnson_dual { (d : Dual) (size : Option ℕ) → stored_for (kind_of (evidence.JohnsonDual d)) size ≡ 0 }
     ensures pieces { MAX_PIECES ≡ 1000 }

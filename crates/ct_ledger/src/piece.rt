@@ -86,7 +86,7 @@ impl Piece {
         self.entry
     }
 
-    /// The number of words of its code, where it has one.
+    /// The number of words of its code or of its classes; none for a dual.
     pub fn size(&self) -> Option<u32>
         ensures { result ≡ self.now.size }
     {

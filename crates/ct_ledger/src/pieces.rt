@@ -262,8 +262,8 @@ impl Pieces {
     }
 
     /// The code of the piece at the place, whose kind has one, over the codes of its parts: its length, distance and weight are
-    /// those of the piece's entry, and its words are those of the document, of all choices of cosets, or those that the step
-    /// makes. `Err` is want of memory.
+    /// those of the piece's entry, and its words are those of the document, of all choices of cosets, those that the step
+    /// makes, or the product. `Err` is want of memory.
     pub fn code(&self, alloc: Global, place: usize) -> Result<Code, AllocError>
         requires place { place < length self.now }
         requires coded { IsSome (code_of_place self.now place) }

@@ -2,7 +2,7 @@
 
 ghost use Rattle.std.specs.Prelude.{◌≡◌, ◌++◌, OnOk, IfOk};
 ghost use Rattle.ct_text.specs.Number.{spaced};
-ghost use Rattle.ct_ledger.specs.Text.{code_fault_text, file_fault_text, build_fault_text, spaced_integer, dual_fault_text, submit_fault_text, withdraw_fault_text, size_text, piece_text};
+ghost use Rattle.ct_ledger.specs.Text.{code_fault_text, file_fault_text, partition_fault_text, build_fault_text, spaced_integer, dual_fault_text, submit_fault_text, withdraw_fault_text, size_text, piece_text};
 
 use crate::fault::{SubmitFault, WithdrawFault};
 use crate::kinds::kind_of;
@@ -11,6 +11,7 @@ use ct_build::BuildFault;
 use ct_codes::CodeFault;
 use ct_duals::DualFault;
 use ct_files::FileFault;
+use ct_partitions::PartitionFault;
 use ct_text::{Id, put_entry_words, put_spaced};
 use std::alloc::{AllocError, Global};
 
@@ -66,6 +67,53 @@ fn put_file_fault(alloc: Global, text: &mut Vec<u8>, fault: FileFault) -> Result
         FileFault::Digits(i) => put_numbered(alloc, text, b"digits", i as u64),
         FileFault::Size(count) => put_numbered(alloc, text, b"size", count),
         FileFault::Memory => Ok(()),
+    }
+}
+
+/// Puts a pair of places at the end of the text.
+fn put_pair(
+    alloc: Global,
+    text: &mut Vec<u8>,
+    first: usize,
+    second: usize,
+) -> Result<(), AllocError>
+    ensures { OnOk result (text.new.items ≡ text.old.items ++ (spaced first ++ spaced second)) }
+{
+    put_spaced(alloc, text, first as u64)?;
+    put_spaced(alloc, text, second as u64)
+}
+
+/// Puts at the end of the text why classes are no partition.
+fn put_partition_fault(
+    alloc: Global,
+    text: &mut Vec<u8>,
+    fault: PartitionFault,
+) -> Result<(), AllocError>
+    ensures { OnOk result (text.new.items ≡ text.old.items ++ partition_fault_text fault) }
+{
+    match fault {
+        PartitionFault::Size(count) => put_numbered(alloc, text, b"size", count),
+        PartitionFault::Weight(i) => put_numbered(alloc, text, b"weight", i as u64),
+        PartitionFault::Repeated(i, j) => {
+            text.extend_from_slice(b"repeated")?;
+            put_pair(alloc, text, i, j)
+        }
+        PartitionFault::Close {
+            i,
+            j,
+            distance,
+            class_i,
+            class_j,
+            need,
+        } => {
+            text.extend_from_slice(b"close")?;
+            put_pair(alloc, text, i, j)?;
+            put_spaced(alloc, text, u64::from(distance))?;
+            text.extend_from_slice(b" classes")?;
+            put_pair(alloc, text, class_i, class_j)?;
+            put_numbered(alloc, text, b" need", u64::from(need))
+        }
+        PartitionFault::Memory => Ok(()),
     }
 }
 
@@ -132,6 +180,7 @@ fn put_submit_fault(alloc: Global, text: &mut Vec<u8>, fault: SubmitFault) -> Re
         SubmitFault::NoSuch(part) => put_named(text, b"nosuch ", part),
         SubmitFault::WrongPart(part) => put_named(text, b"part ", part),
         SubmitFault::Code(reason) => put_code_fault(alloc, text, reason),
+        SubmitFault::Partition(reason) => put_partition_fault(alloc, text, reason),
         SubmitFault::Build(reason) => put_build_fault(alloc, text, reason),
         SubmitFault::Dual(reason) => put_dual_fault(alloc, text, reason),
         SubmitFault::FullWords(total) => put_numbered(alloc, text, b"full words", total),

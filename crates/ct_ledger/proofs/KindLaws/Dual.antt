@@ -8,8 +8,7 @@ use Rattle.ct_duals.proofs.Faults.{below-from_none, none-from_below}
 use Rattle.ct_delsarte.specs.Numbers.{numbers_of}
 use Rattle.ct_delsarte.proofs.SoundDuals.{accepted-sound}
 use Rattle.ct_codes.specs.declared.entry.Entry.{Entry}
-use Rattle.ct_rule_parts.specs.declared.support.Support.{Support}
-use Rattle.ct_rule_parts.specs.declared.support.Support.TheVariants.{Nothing, Size, Bound}
+use Rattle.ct_rule_parts.specs.declared.support.Support.TheVariants.{Size}
 use Rattle.ct_rule_parts.specs.Support.{Stands}
 use Rattle.ct_evidence.specs.declared.evidence.Evidence.TheVariants as evidence
 use Rattle.ct_files.specs.Evidence.{IsSound}

@@ -1,4 +1,4 @@
-use Rattle.std.proofs.Common.{◌≡◌, ◌<◌, List, length, [], Some, None, subst, sym, ap, ap₂, ◌∙◌}
+use Rattle.std.proofs.Common.{◌<◌, List, length, [], Some, None, subst, sym, ap, ap₂, ◌∙◌}
 use Rattle.std.proofs.lemmas.List.{get_or_read}
 use Rattle.std.specs.Prelude.{IsSome}
 use Rattle.std.proofs.lemmas.Result.{IfOk-weaker}
@@ -25,13 +25,13 @@ returns-in-Some c =
     IfOk-weaker c.try_copy.result _ _ (λ (code : CodeValue) same. kept-here c.args.pieces.now place kept c.in-Some.code c.requires.kept c.requires.place at ∙ ap Some (sym same)) c.try_copy.ensures
 
 pub listed_code-requires-clause-made : goal.listed_code-requires-clause-made
-listed_code-requires-clause-made c = subst (λ (ps : List PieceValue). AreMade [] ps) (sym c.before.ensures) (AreMade-take [] c.args.pieces.now c.args.place c.requires.made)
+listed_code-requires-clause-made c = subst (λ (ps : List PieceValue). AreMade [] ps) (sym c.pieces_before.ensures) (AreMade-take [] c.args.pieces.now c.args.place c.requires.made)
 
 pub listed_code-requires-clause-faultless : goal.listed_code-requires-clause-faultless
 listed_code-requires-clause-faultless c =
     let p = c.index-pieces-place.result in
     let at = placed c.args.pieces.now c.args.place p c.requires.made c.requires.place c.index-pieces-place.is in
-    rw (c.before.ensures, c.evidence.ensures.evidence) (listed-faultless c.args.pieces.now c.args.place p at)
+    rw (c.pieces_before.ensures, c.evidence.ensures.evidence) (listed-faultless c.args.pieces.now c.args.place p at)
 
 pub unreachable-requires : goal.unreachable-requires
 unreachable-requires c =
@@ -39,7 +39,7 @@ unreachable-requires c =
     let place = c.args.place in
     let within : place < length kept = rw (c.requires.kept, length-kept_codes c.args.pieces.now) c.requires.place in
     let at = sym (get_or_read kept place c.index-kept-place.result within c.index-kept-place.is None) ∙ c.in_default.is in
-    let found = c.in_ok-made.ensures ∙ ap₂ (λ (ps : List PieceValue) (e : Evidence). listed_code (codes_of ps) e) c.before.ensures c.evidence.ensures.evidence
+    let found = c.in_ok-made.ensures ∙ ap₂ (λ (ps : List PieceValue) (e : Evidence). listed_code (codes_of ps) e) c.pieces_before.ensures c.evidence.ensures.evidence
     ∙ kept-none c.args.pieces.now place kept c.index-pieces-place.result c.requires.kept c.requires.place c.index-pieces-place.is at in
     let never = subst IsSome (sym found ∙ c.in_default-made.is) c.requires.coded in
     cc
@@ -50,6 +50,6 @@ returns c =
     let place = c.args.place in
     let within : place < length kept = rw (c.requires.kept, length-kept_codes c.args.pieces.now) c.requires.place in
     let at = sym (get_or_read kept place c.index-kept-place.result within c.index-kept-place.is None) ∙ c.in_default.is in
-    let found = c.in_ok-made.ensures ∙ ap₂ (λ (ps : List PieceValue) (e : Evidence). listed_code (codes_of ps) e) c.before.ensures c.evidence.ensures.evidence
+    let found = c.in_ok-made.ensures ∙ ap₂ (λ (ps : List PieceValue) (e : Evidence). listed_code (codes_of ps) e) c.pieces_before.ensures c.evidence.ensures.evidence
     ∙ kept-none c.args.pieces.now place kept c.index-pieces-place.result c.requires.kept c.requires.place c.index-pieces-place.is at in
     sym found ∙ c.in-Some-made.is

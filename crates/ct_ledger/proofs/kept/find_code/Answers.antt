@@ -1,4 +1,4 @@
-use Rattle.std.proofs.Common.{◌≡◌, ◌<◌, List, length, [], None, subst, sym, ap, ap₂, ◌∙◌}
+use Rattle.std.proofs.Common.{◌<◌, List, length, [], None, subst, sym, ap₂, ◌∙◌}
 use Rattle.std.proofs.lemmas.List.{get_or_read}
 use Rattle.ct_evidence.specs.declared.evidence.Evidence.{Evidence}
 use Rattle.ct_ledger.specs.Piece.{PieceValue}
@@ -22,13 +22,13 @@ returns-in-Some c =
     sym (kept-here c.args.pieces.now place kept c.in-Some.code c.requires.kept c.requires.place at)
 
 pub listed_code-requires-clause-made : goal.listed_code-requires-clause-made
-listed_code-requires-clause-made c = subst (λ (ps : List PieceValue). AreMade [] ps) (sym c.before.ensures) (AreMade-take [] c.args.pieces.now c.args.place c.requires.made)
+listed_code-requires-clause-made c = subst (λ (ps : List PieceValue). AreMade [] ps) (sym c.pieces_before.ensures) (AreMade-take [] c.args.pieces.now c.args.place c.requires.made)
 
 pub listed_code-requires-clause-faultless : goal.listed_code-requires-clause-faultless
 listed_code-requires-clause-faultless c =
     let p = c.index-pieces-place.result in
     let at = placed c.args.pieces.now c.args.place p c.requires.made c.requires.place c.index-pieces-place.is in
-    rw (c.before.ensures, c.evidence.ensures.evidence) (listed-faultless c.args.pieces.now c.args.place p at)
+    rw (c.pieces_before.ensures, c.evidence.ensures.evidence) (listed-faultless c.args.pieces.now c.args.place p at)
 
 pub returns : goal.returns
 returns c =
@@ -36,5 +36,5 @@ returns c =
     let place = c.args.place in
     let within : place < length kept = rw (c.requires.kept, length-kept_codes c.args.pieces.now) c.requires.place in
     let at = sym (get_or_read kept place c.index-kept-place.result within c.index-kept-place.is None) ∙ c.in_default.is in
-    c.in_ok-made.ensures ∙ ap₂ (λ (ps : List PieceValue) (e : Evidence). listed_code (codes_of ps) e) c.before.ensures c.evidence.ensures.evidence
+    c.in_ok-made.ensures ∙ ap₂ (λ (ps : List PieceValue) (e : Evidence). listed_code (codes_of ps) e) c.pieces_before.ensures c.evidence.ensures.evidence
     ∙ kept-none c.args.pieces.now place kept c.index-pieces-place.result c.requires.kept c.requires.place c.index-pieces-place.is at

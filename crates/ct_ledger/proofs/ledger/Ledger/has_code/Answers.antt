@@ -1,4 +1,4 @@
-use Rattle.std.proofs.Common.{◌≡◌, List, get_or, sym, ap, ◌∙◌}
+use Rattle.std.proofs.Common.{List, get_or, sym, ap, ◌∙◌}
 use Rattle.ct_ledger.specs.Kind.{has_code}
 use Rattle.ct_ledger.specs.Piece.{PieceValue}
 use Rattle.ct_ledger.proofs.PartLemmas.{placed, placed-coded}
