@@ -4,8 +4,6 @@
 #[cfg(test)]
 mod counts;
 #[cfg(test)]
-mod partitions;
-#[cfg(test)]
 mod read;
 #[cfg(test)]
 mod refused;
