@@ -1,3 +1,4 @@
 pub mod PlaceSums
 pub mod SumClasses
 pub mod SizeLemmas
+pub mod LargestLemmas

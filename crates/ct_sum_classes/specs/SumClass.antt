@@ -1,5 +1,5 @@
 -- Words of one weight by the sum of the places of their ones (Graham and Sloane 1980, Lower bounds for constant weight codes).
-use Rattle.std.specs.Prelude.{ℕ, zero, suc, ◌+◌, ◌%◌, Bool, ◌==◌, ◌&&◌, if◌then◌else◌, List, filter}
+use Rattle.std.specs.Prelude.{ℕ, zero, suc, ◌+◌, ◌%◌, Bool, ◌==◌, ◌&&◌, nat_lt, if◌then◌else◌, List, filter, length}
 use Rattle.ct_words.specs.Word.{digit, weight}
 use Rattle.ct_words.specs.Characters.{words_of_length}
 
@@ -19,3 +19,12 @@ in_sum_class n w r x = weight n x == w && place_sum n x % n == r
 -- the sum class r of the words of length n and weight w, in ascending order
 abbrev pub sum_class : ℕ → ℕ → ℕ → List ℕ
 sum_class n w r = filter (in_sum_class n w r) (words_of_length n)
+
+-- of the numbers below a bound the first at which a function is greatest
+abbrev pub greatest_below : (ℕ → ℕ) → ℕ → ℕ
+greatest_below f zero = 0
+greatest_below f (suc k) = if nat_lt (f (greatest_below f k)) (f k) then k else greatest_below f k
+
+-- the residue of the largest sum class of the words of length n and weight w, the least where there are more
+unfoldable pub largest_class : ℕ → ℕ → ℕ
+largest_class n w = greatest_below (λ r. length (sum_class n w r)) n

@@ -8,17 +8,17 @@ ghost use Rattle.ct_sum_classes.specs.Inside.Sizes.{IsTable, IsLow, IsRow};
 use ct_words::MAX_N;
 
 /// How many residues a row has room for.
-const RESIDUES: usize = MAX_N as usize;
+pub(crate) const RESIDUES: usize = MAX_N as usize;
 
 /// How many weights a table has room for.
-const WEIGHTS: usize = RESIDUES + 1;
+pub(crate) const WEIGHTS: usize = RESIDUES + 1;
 
 /// At each residue s of a length n how many sets of places there are, all of one number of places, that add up to s
 /// modulo n.
-type Row = [u32; RESIDUES];
+pub(crate) type Row = [u32; RESIDUES];
 
 /// A row for each number of places.
-type Table = [Row; WEIGHTS];
+pub(crate) type Table = [Row; WEIGHTS];
 
 /// How many words have length n, from 1 to `MAX_N`, weight w up to n, and ones whose places add up to r modulo n, for r
 /// below n: how many subsets of w elements of 0, .., n − 1 have the sum r modulo n (Graham and Sloane 1980). It takes
@@ -38,11 +38,20 @@ pub fn sum_class_sizes(n: u32, w: u32) -> [u32; RESIDUES]
     requires weight { w ≤ n }
     ensures { (r : ℕ) → r < n → slice_index result r ≡ length (sum_class n w r) }
 {
+    sizes_up_to(n, w)[w as usize]
+}
+
+/// The same for each weight up to w.
+pub(crate) fn sizes_up_to(n: u32, w: u32) -> Table
+    requires length { (1 ≤ n) × (n ≤ MAX_N) }
+    requires weight { w ≤ n }
+    ensures { IsTable n n w result }
+{
     let mut table = no_element();
     for element in 0..n {
         add_element(&mut table, n, w, element);
     }
-    table[w as usize]
+    table
 }
 
 /// The table of no element: one set, the empty one, whose sum is 0.
