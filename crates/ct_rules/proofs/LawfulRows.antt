@@ -44,11 +44,12 @@ use Rattle.ct_weight_rules.proofs.LawfulColumnPairs.{column_pairs-lawful}
 use Rattle.ct_weight_rules.proofs.LawfulWithoutWeight.{without_weight-lawful}
 use Rattle.ct_weight_rules.proofs.LawfulJohnson.{johnson-lawful}
 use Rattle.ct_weight_rules.proofs.LawfulAveraging.{averaging-lawful}
+use Rattle.ct_weight_rules.proofs.LawfulSumClass.{class_of_sum-lawful}
 use Rattle.ct_weight_rules.proofs.LawfulGivenCode.{given_code-lawful as given_code_of_weight-lawful}
 use Rattle.ct_weight_rules.proofs.LawfulAllWords.{all_words-lawful as all_words_of_weight-lawful}
 use Rattle.ct_weight_rules.proofs.LawfulDelsarte.{dual_above-lawful, dual_above_of_weight-lawful}
 use Rattle.ct_rules.specs.declared.rule.Rule.{Rule}
-use Rattle.ct_rules.specs.declared.rule.Rule.TheVariants.{L1, L2, L3, L4, L5, L6, L7, L8, L9, L10, L11, M1, M2, M3, M4, M5, M6, M7, M8, M10, U0, U1, U2, U3, U4, U5, U6, U7, U8, U9, U10, U11, V0, V1, V2, V3, V4, V5, V6, V7, V8, V9}
+use Rattle.ct_rules.specs.declared.rule.Rule.TheVariants.{L1, L2, L3, L4, L5, L6, L7, L8, L9, L10, L11, M1, M2, M3, M4, M5, M6, M7, M8, M9, M10, U0, U1, U2, U3, U4, U5, U6, U7, U8, U9, U10, U11, V0, V1, V2, V3, V4, V5, V6, V7, V8, V9}
 use Rattle.ct_rules.specs.Rule.{Row, by_itself, by_numbers, by_weight, by_support, row_of, parts_in, parts_of, parts_over, place_of, with_place, is_alone_in, is_alone, is_by_weight, cited, rule_side}
 
 -- what each rule is made of is lawful
@@ -73,6 +74,7 @@ lawful M5 c = with_one_below-lawful c
 lawful M6 c = with_zero_below-lawful c
 lawful M7 c = complemented_below-lawful c
 lawful M8 c = nearer_below_of_weight-lawful c
+lawful (M9 k) c = class_of_sum-lawful k c
 lawful (M10 place) c = given_code_of_weight-lawful c
 lawful U0 c = all_words-lawful c
 lawful U1 c = far_words-lawful c
@@ -208,6 +210,7 @@ alone_listed U9 alone = absurd (false≢true alone)
 alone_listed (U10 w) alone = absurd (false≢true alone)
 alone_listed (L10 place) alone = absurd (false≢true alone)
 alone_listed (L11 n d) alone = absurd (false≢true alone)
+alone_listed (M9 k) alone = absurd (false≢true alone)
 alone_listed (M10 place) alone = absurd (false≢true alone)
 alone_listed (U11 place) alone = absurd (false≢true alone)
 alone_listed (V9 place) alone = absurd (false≢true alone)
@@ -322,13 +325,15 @@ alone_parts (by_support named place parts) c d alone = absurd (false≢true alon
 pub alone-parts : (r : Rule) (supports : List Support) → is_alone r ≡ true → parts_over supports r ≡ parts_of r None
 alone-parts r supports alone = alone_parts (row_of r) (cited supports r) None alone
 
--- a rule that names no support and is not alone lays words side by side, or leads from entries with weight to those without
-pub not_alone : (r : Rule) → place_of r ≡ None → is_alone r ≡ false → ((m : ℕ) × (c : ℕ) × (r ≡ L11 m c)) ⊎ (is_by_weight r ≡ true)
+-- a rule that names no support and is not alone lays words side by side, takes a sum class, or leads from entries with weight to those without
+pub not_alone : (r : Rule) → place_of r ≡ None → is_alone r ≡ false
+    → ((m : ℕ) × (c : ℕ) × (r ≡ L11 m c)) ⊎ (((k : ℕ) × (r ≡ M9 k)) ⊎ (is_by_weight r ≡ true))
 unfolding row_of
 not_alone (L11 m c) names alone = inl (m, c, refl)
-not_alone (L9 w) names alone = inr refl
-not_alone U9 names alone = inr refl
-not_alone (U10 w) names alone = inr refl
+not_alone (M9 k) names alone = inr (inl (k, refl))
+not_alone (L9 w) names alone = inr (inr refl)
+not_alone U9 names alone = inr (inr refl)
+not_alone (U10 w) names alone = inr (inr refl)
 not_alone (L10 place) names alone = absurd (none-some place (sym names))
 not_alone (M10 place) names alone = absurd (none-some place (sym names))
 not_alone (U11 place) names alone = absurd (none-some place (sym names))
@@ -362,6 +367,7 @@ rests_on_kind L8 n d (Some w) alone = weighted_parts (nat_lt d 5) n d w
 rests_on_kind (L9 v) n d w alone = absurd (false≢true alone)
 rests_on_kind (L10 place) n d w alone = absurd (false≢true alone)
 rests_on_kind (L11 m c) n d w alone = absurd (false≢true alone)
+rests_on_kind (M9 k) n d w alone = absurd (false≢true alone)
 rests_on_kind (M10 place) n d w alone = absurd (false≢true alone)
 rests_on_kind (U11 place) n d w alone = absurd (false≢true alone)
 rests_on_kind (V9 place) n d w alone = absurd (false≢true alone)

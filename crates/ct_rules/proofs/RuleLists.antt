@@ -17,11 +17,12 @@ use Rattle.ct_rule_parts.specs.Slot.{Slot}
 use Rattle.ct_rule_parts.proofs.EntryLists.{Contains-range_with_len, Contains-flat_map}
 use Rattle.ct_rule_parts.specs.Support.{size_at, dual_at}
 use Rattle.ct_weight_rules.specs.Neighbours.{of_weight, even_of_weight}
+use Rattle.ct_weight_rules.proofs.LawfulSumClass.{KnownClass, known_class}
 use Rattle.ct_rules.specs.declared.rule.Rule.{Rule}
-use Rattle.ct_rules.specs.declared.rule.Rule.TheVariants.{L9, L10, L11, M10, U9, U10, U11, V9}
+use Rattle.ct_rules.specs.declared.rule.Rule.TheVariants.{L9, L10, L11, M9, M10, U9, U10, U11, V9}
 use Rattle.ct_rules.specs.Rule.{row_of, rule_side, place_of, is_alone, is_by_weight, parts_over, applies}
 use Rattle.ct_rules.specs.Closed.{IsSatisfied, IsClosed}
-use Rattle.ct_rules.specs.Listing.{rules_alone, side_by_side_rules, rules_with_numbers, rules_by_weight, rules_of_supports, rules_at}
+use Rattle.ct_rules.specs.Listing.{rules_alone, side_by_side_rules, sum_class_rules, rules_with_numbers, rules_by_weight, rules_of_supports, rules_at}
 use Rattle.ct_rules.proofs.Applied.{IsDefined, defined, applies_from_premises}
 use Rattle.ct_rules.proofs.LawfulRows.{alone_at, alone-parts, not_alone}
 
@@ -82,6 +83,20 @@ listed_sum supports m c n d None is =
     (Contains-append_left (side_by_side_rules e) (rules_by_weight (Lower, e)) (L11 m c)
     (side_by_side-complete e m c first.length_from (omega (arith, second.length_from)) first.distance_from (omega (arith, second.distance_from)))))
 
+-- a sum class that is defined at an entry
+listed_class : (supports : List Support) (k n d : ℕ) (w : Option ℕ)
+    → IsDefined (parts_over supports (M9 k)) (record { n = n; d = d; w = w })
+    → Contains (rules_at (length supports) (rule_side (M9 k), record { n = n; d = d; w = w })) (M9 k)
+unfolding row_of rules_at
+listed_class supports k n d None is = absurd (false≢true is.condition)
+listed_class supports k n d (Some w) is =
+    let e : Entry = constant_weight n d w in
+    let below = (known_class k e is.condition).residue in
+    Contains-append_right (rules_alone (Lower, e)) (sum_class_rules e ++ [] ++ rules_of_supports (length supports) (Lower, e)) (M9 k)
+    (Contains-append_left (sum_class_rules e ++ []) (rules_of_supports (length supports) (Lower, e)) (M9 k)
+    (Contains-append_left (sum_class_rules e) [] (M9 k)
+    (Contains-map (λ r. M9 r) (range_with_len 0 n) k (Contains-range_with_len 0 n k (omega arith) (omega arith)))))
+
 -- a rule that leads from entries with weight to those without
 listed_by_weight : (supports : List Support) (r : Rule) (n d : ℕ) (w : Option ℕ) → is_by_weight r ≡ true
     → IsDefined (parts_over supports r) (record { n = n; d = d; w = w })
@@ -124,9 +139,10 @@ listed_given supports (L10 place) other n d None names is =
 listed_given supports (M10 place) other n d (Some w) names is =
     let e : Entry = constant_weight n d w in
     let there = support_there supports place e (and_parts true (is_some (size_at (slice_get supports place) e)) is.condition).1 in
-    Contains-append_right (rules_alone (Lower, e)) (rules_of_supports (length supports) (Lower, e)) (M10 place)
+    Contains-append_right (rules_alone (Lower, e)) (sum_class_rules e ++ [] ++ rules_of_supports (length supports) (Lower, e)) (M10 place)
+    (Contains-append_right (sum_class_rules e ++ []) (rules_of_supports (length supports) (Lower, e)) (M10 place)
     (Contains-map (λ p. M10 p) (range_with_len 0 (length supports)) place
-    (Contains-range_with_len 0 (length supports) place (omega arith) (omega arith)))
+    (Contains-range_with_len 0 (length supports) place (omega arith) (omega arith))))
 listed_given supports (U11 place) other n d None names is =
     let e : Entry = unrestricted n d in
     let there = dual_support_there supports place e (and_parts true (is_some (dual_at (slice_get supports place) e)) is.condition).1 in
@@ -159,11 +175,17 @@ rules_at-complete supports r e h = by_place (place_of r) refl
         subst (λ (q : Rule). Contains (rules_at (length supports) (rule_side q, e)) q) (sym same)
         (listed_sum supports m c e.n e.d e.w (subst (λ (q : Rule). IsDefined (parts_over supports q) e) same is))
 
+    sums : (k : ℕ) → r ≡ M9 k → Contains (rules_at (length supports) (rule_side r, e)) r
+    sums k same =
+        subst (λ (q : Rule). Contains (rules_at (length supports) (rule_side q, e)) q) (sym same)
+        (listed_class supports k e.n e.d e.w (subst (λ (q : Rule). IsDefined (parts_over supports q) e) same is))
+
     by_numbers : place_of r ≡ None → (b : Bool) → is_alone r ≡ b → Contains (rules_at (length supports) (rule_side r, e)) r
     by_numbers none true alone = listed_alone supports r e alone is
     by_numbers none false alone = elim (not_alone r none alone) [
       | inl numbers ↦ sum numbers.0 numbers.1 numbers.2
-      | inr by ↦ listed_by_weight supports r e.n e.d e.w by is
+      | inr (inl class) ↦ sums class.0 class.1
+      | inr (inr by) ↦ listed_by_weight supports r e.n e.d e.w by is
     ]
 
     by_place : (place : Option ℕ) → place_of r ≡ place → Contains (rules_at (length supports) (rule_side r, e)) r

@@ -7,7 +7,7 @@ use Rattle.ct_codes.specs.declared.claim.Side.TheVariants.{Lower, Upper}
 use Rattle.ct_rule_parts.specs.Parts.{has_weight}
 use Rattle.ct_rule_parts.specs.Slot.{Slot}
 use Rattle.ct_rules.specs.declared.rule.Rule.{Rule}
-use Rattle.ct_rules.specs.declared.rule.Rule.TheVariants.{L9, L10, L11, M10, U9, U10, U11, V9}
+use Rattle.ct_rules.specs.declared.rule.Rule.TheVariants.{L9, L10, L11, M9, M10, U9, U10, U11, V9}
 use Rattle.ct_rules.specs.declared.listing.TheConstants.{LOWER_RULES, UPPER_RULES, LOWER_WEIGHT_RULES, UPPER_WEIGHT_RULES}
 
 -- the rules with neither numbers nor a support
@@ -24,9 +24,13 @@ alone_on Upper = UPPER_RULES ++ UPPER_WEIGHT_RULES
 abbrev pub side_by_side_rules : Entry → List Rule
 side_by_side_rules e = flat_map (λ n. map (λ d. L11 n d) (range_with_len 3 (e.d - 5))) (range_with_len 1 (e.n - 1))
 
+-- sum classes: each residue below the length
+abbrev pub sum_class_rules : Entry → List Rule
+sum_class_rules e = map (λ r. M9 r) (range_with_len 0 e.n)
+
 -- the rules with numbers
 abbrev pub rules_with_numbers : Slot → List Rule
-rules_with_numbers (Lower, e) = if has_weight e then [] else side_by_side_rules e
+rules_with_numbers (Lower, e) = if has_weight e then sum_class_rules e else side_by_side_rules e
 rules_with_numbers (Upper, e) = []
 
 -- the rules that lead from entries with weight to those without: for each weight up to the length, and Johnson's

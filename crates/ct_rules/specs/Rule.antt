@@ -32,11 +32,12 @@ use Rattle.ct_weight_rules.specs.ColumnPairs.{column_pairs}
 use Rattle.ct_weight_rules.specs.WithoutWeight.{without_weight}
 use Rattle.ct_weight_rules.specs.Johnson.{johnson}
 use Rattle.ct_weight_rules.specs.Averaging.{averaging}
+use Rattle.ct_weight_rules.specs.SumClass.{class_of_sum}
 use Rattle.ct_weight_rules.specs.GivenCode.{given_code as given_code_of_weight}
 use Rattle.ct_weight_rules.specs.AllWords.{all_words as all_words_of_weight}
 use Rattle.ct_weight_rules.specs.Delsarte.{dual_above, dual_above_of_weight}
 use Rattle.ct_rules.specs.declared.rule.Rule.{Rule}
-use Rattle.ct_rules.specs.declared.rule.Rule.TheVariants.{L1, L2, L3, L4, L5, L6, L7, L8, L9, L10, L11, M1, M2, M3, M4, M5, M6, M7, M8, M10, U0, U1, U2, U3, U4, U5, U6, U7, U8, U9, U10, U11, V0, V1, V2, V3, V4, V5, V6, V7, V8, V9}
+use Rattle.ct_rules.specs.declared.rule.Rule.TheVariants.{L1, L2, L3, L4, L5, L6, L7, L8, L9, L10, L11, M1, M2, M3, M4, M5, M6, M7, M8, M9, M10, U0, U1, U2, U3, U4, U5, U6, U7, U8, U9, U10, U11, V0, V1, V2, V3, V4, V5, V6, V7, V8, V9}
 
 -- the row of a rule: what it is made of, by itself or with the numbers that are its arguments; for a bound without weight from one with
 -- weight; or, over the support at a place, the rules that name one, its place, and what it is made of
@@ -67,6 +68,7 @@ row_of M5 = by_itself with_one_below
 row_of M6 = by_itself with_zero_below
 row_of M7 = by_itself complemented_below
 row_of M8 = by_itself nearer_below_of_weight
+row_of (M9 r) = by_numbers (class_of_sum r)
 row_of (M10 place) = by_support M10 place given_code_of_weight
 row_of U0 = by_itself all_words
 row_of U1 = by_itself far_words

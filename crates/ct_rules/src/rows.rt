@@ -18,8 +18,8 @@ use ct_rule_parts::{Entries, Support, dual_at, first, second, size_at};
 use ct_weight_rules::{
     around, averaged, below_too_many, bound_by_ones, bound_by_zeros, count_of_disjoint,
     count_with_one, count_with_zero, even_of_weight, has_disjoint_words, has_no_far_words,
-    johnson_bound, of_weight, one_less, one_more, parts_of_split, split_into, turned, two_farther,
-    two_nearer, zero_less, zero_more,
+    johnson_bound, of_weight, one_less, one_more, parts_of_split, size_of_class, split_into,
+    turned, two_farther, two_nearer, zero_less, zero_more,
 };
 use ct_words::binomial;
 
@@ -36,7 +36,7 @@ pub fn rule_side(rule: Rule) -> Side
         Rule::M1 | Rule::M2 | Rule::M3 | Rule::M4 | Rule::M5 | Rule::M6 | Rule::M7 | Rule::M8 => {
             Side::Lower
         }
-        Rule::M10(_) => Side::Lower,
+        Rule::M9(_) | Rule::M10(_) => Side::Lower,
         Rule::U0 | Rule::U1 | Rule::U2 | Rule::U3 | Rule::U4 | Rule::U5 | Rule::U6 | Rule::U7 => {
             Side::Upper
         }
@@ -127,6 +127,7 @@ pub fn rests_on(supports: &[Support], rule: Rule, entry: Entry) -> Option<Entrie
         Rule::M6 => (!plain).then_some(Entries::One(zero_more(entry))),
         Rule::M7 | Rule::V3 => (!plain).then_some(Entries::One(turned(entry))),
         Rule::M8 => (!plain).then_some(Entries::One(two_farther(entry))),
+        Rule::M9(r) => size_of_class(r, entry).is_some().then_some(Entries::Zero),
         Rule::M10(place) => {
             (!plain && size_at(supports, place as usize, entry).is_some()).then_some(Entries::Zero)
         }
@@ -179,6 +180,7 @@ pub(crate) fn number(supports: &[Support], rule: Rule, entry: Entry, values: &[u
         Rule::M3 | Rule::M4 | Rule::M7 | Rule::M8 | Rule::V7 => Some(first(values)),
         Rule::M5 => Some(count_with_one(entry, values)),
         Rule::M6 => Some(count_with_zero(entry, values)),
+        Rule::M9(r) => size_of_class(r, entry),
         Rule::V0 => Some(binomial(n, w.unwrap_or(0))),
         Rule::V1 => Some(1),
         Rule::V4 => Some(bound_by_ones(entry, values)),

@@ -42,6 +42,9 @@ pub enum Rule {
     M7,
     /// A(n,d,w) ≥ A(n,d+2,w): a code of a greater distance.
     M8,
+    /// A(n,4,w) is at least the number of words of length n and weight w with ones at places that add up to this residue modulo n:
+    /// a sum class (Graham and Sloane).
+    M9(u32),
     /// A(n,d,w) is at least the size of the code of constant weight of the support at this place.
     M10(u32),
     /// A(n,d) ≤ 2^n: all words.
