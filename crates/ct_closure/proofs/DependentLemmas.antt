@@ -1,5 +1,5 @@
 -- Which rules rest on an entry, and where.
-use Rattle.std.proofs.Common.{◌≡◌, ℕ, List, Contains, Some, None, true, refl, subst, inl, inr, ◌⊎◌}
+use Rattle.std.proofs.Common.{◌≡◌, ℕ, List, [], Contains, Some, None, true, refl, subst, inl, inr, ◌⊎◌}
 use Rattle.std.specs.Prelude.{Bool, false, Option}
 use Rattle.ct_codes.specs.declared.entry.Entry.{Entry}
 use Rattle.ct_rule_parts.specs.declared.support.Support.{Support}
@@ -7,8 +7,8 @@ use Rattle.ct_rule_parts.specs.Parts.{RuleParts}
 use Rattle.ct_rule_parts.proofs.Lawful.{defined_condition}
 use Rattle.ct_rule_parts.proofs.PlainEntries.{no_item}
 use Rattle.ct_rules.specs.declared.rule.Rule.{Rule}
-use Rattle.ct_rules.specs.declared.rule.Rule.TheVariants.{L11, U11}
-use Rattle.ct_rules.specs.Rule.{is_alone, is_by_weight, place_of, cited, parts_of, parts_over, rule_side, applies}
+use Rattle.ct_rules.specs.declared.rule.Rule.TheVariants.{L11, M9, U11}
+use Rattle.ct_rules.specs.Rule.{row_of, is_alone, is_by_weight, place_of, cited, parts_of, parts_over, rule_side, applies}
 use Rattle.ct_rules.specs.Listing.{rules_alone}
 use Rattle.ct_rules.proofs.LawfulRows.{lawful, alone-parts, alone_at_rested, not_alone, supported-rests}
 
@@ -22,6 +22,12 @@ pub record RestsAlone (r : Rule) (f e : Entry) : Type 0 where
 -- the three others
 abbrev pub IsOtherRule : Rule → Type 0
 IsOtherRule r = ((m : ℕ) × (c : ℕ) × (r ≡ L11 m c)) ⊎ ((is_by_weight r ≡ true) ⊎ ((place : ℕ) × (r ≡ U11 place)))
+
+-- a sum class rests on nothing
+class_rests : (supports : List Support) (r : Rule) (k : ℕ) (e f : Entry) → r ≡ M9 k → Contains ((parts_over supports r).rests_on e) f
+    → Contains [] f
+unfolding row_of
+class_rests supports r k e f same rests = subst (λ (q : Rule). Contains ((parts_over supports q).rests_on e) f) same rests
 
 pub rests_on-cases : (supports : List Support) (r : Rule) (f e : Entry) → applies supports r e ≡ true
     → Contains ((parts_over supports r).rests_on e) f → RestsAlone r f e ⊎ IsOtherRule r
@@ -42,7 +48,9 @@ rests_on-cases supports r f e defined rests = by_place (place_of r) refl
         })
     by_itself_or_numbers none false alone = elim (not_alone r none alone) [
       | inl sum ↦ inr (inl sum)
-      | inr by ↦ inr (inr (inl by))
+      | inr (inl class) ↦
+          no_item (RestsAlone r f e ⊎ IsOtherRule r) f (class_rests supports r class.0 e f class.1 rests)
+      | inr (inr by) ↦ inr (inr (inl by))
     ]
 
     by_place : (place : Option ℕ) → place_of r ≡ place → RestsAlone r f e ⊎ IsOtherRule r

@@ -14,8 +14,8 @@ use Rattle.ct_rule_parts.specs.Slot.{Slot, IsNoBetter}
 use Rattle.ct_rule_parts.specs.Support.{size_at, dual_at}
 use Rattle.ct_rule_parts.proofs.SlotLemmas.{IsNoBetter-self}
 use Rattle.ct_rules.specs.declared.rule.Rule.{Rule}
-use Rattle.ct_rules.specs.declared.rule.Rule.TheVariants.{L9, L10, L11, M10, U9, U10, U11, V9}
-use Rattle.ct_rules.specs.Listing.{rules_alone, side_by_side_rules, rules_by_weight, rules_of_supports, rules_at}
+use Rattle.ct_rules.specs.declared.rule.Rule.TheVariants.{L9, L10, L11, M9, M10, U9, U10, U11, V9}
+use Rattle.ct_rules.specs.Listing.{rules_alone, side_by_side_rules, sum_class_rules, rules_by_weight, rules_of_supports, rules_at}
 use Rattle.ct_rules.specs.Closed.{AreTrue}
 use Rattle.ct_rules.specs.Rule.{row_of, parts_over, rule_side, is_by_weight, applies}
 use Rattle.ct_rules.proofs.Applied.{defined}
@@ -156,11 +156,12 @@ all_flat_map P f (x ∷ xs) each = All-append P (f x) (flat_map f xs) (each x) (
 all_listed : (supports : List Support) (f : Slot → ℕ) (side : Side) (n d : ℕ) (w : Option ℕ) (best : ℕ)
     → All (IsWithin supports f (side, record { n = n; d = d; w = w }) best) (rules_alone (side, record { n = n; d = d; w = w }))
     → (side ≡ Lower → w ≡ None → (m c : ℕ) → IsWithin supports f (Lower, record { n = n; d = d; w = w }) best (L11 m c))
+    → (side ≡ Lower → (k : ℕ) → IsWithin supports f (Lower, record { n = n; d = d; w = w }) best (M9 k))
     → ((place : ℕ) → IsWithin supports f (side, record { n = n; d = d; w = w }) best (given_rule (side, record { n = n; d = d; w = w }) place))
     → ((r : Rule) → is_by_weight r ≡ true → rule_side r ≡ side → IsWithin supports f (side, record { n = n; d = d; w = w }) best r)
     → All (IsWithin supports f (side, record { n = n; d = d; w = w }) best) (rules_at (length supports) (side, record { n = n; d = d; w = w }))
 unfolding rules_at row_of
-all_listed supports f Lower n d None best alone sums given by_weight =
+all_listed supports f Lower n d None best alone sums classes given by_weight =
     let e : Entry = record { n = n; d = d; w = None } in
     let P : Rule → Type 0 = IsWithin supports f (Lower, e) best in
     All-append P (rules_alone (Lower, e)) (side_by_side_rules e ++ rules_by_weight (Lower, e) ++ rules_of_supports (length supports) (Lower, e)) alone
@@ -170,12 +171,14 @@ all_listed supports f Lower n d None best alone sums given by_weight =
     (λ m. all_map P (λ c. L11 m c) (range_with_len 3 (d - 5)) (λ c. sums refl refl m c)))
     (all_map P (λ w. L9 w) (range_with_len 0 (n + 1)) (λ w. by_weight (L9 w) refl refl)))
     (all_map P (λ place. L10 place) (range_with_len 0 (length supports)) given))
-all_listed supports f Lower n d (Some w) best alone sums given by_weight =
+all_listed supports f Lower n d (Some w) best alone sums classes given by_weight =
     let e : Entry = record { n = n; d = d; w = Some w } in
     let P : Rule → Type 0 = IsWithin supports f (Lower, e) best in
-    All-append P (rules_alone (Lower, e)) (rules_of_supports (length supports) (Lower, e)) alone
-    (all_map P (λ place. M10 place) (range_with_len 0 (length supports)) given)
-all_listed supports f Upper n d None best alone sums given by_weight =
+    All-append P (rules_alone (Lower, e)) (sum_class_rules e ++ [] ++ rules_of_supports (length supports) (Lower, e)) alone
+    (All-append P (sum_class_rules e ++ []) (rules_of_supports (length supports) (Lower, e))
+    (All-append P (sum_class_rules e) [] (all_map P (λ k. M9 k) (range_with_len 0 n) (classes refl)) (All-nil P))
+    (all_map P (λ place. M10 place) (range_with_len 0 (length supports)) given))
+all_listed supports f Upper n d None best alone sums classes given by_weight =
     let e : Entry = record { n = n; d = d; w = None } in
     let P : Rule → Type 0 = IsWithin supports f (Upper, e) best in
     All-append P (rules_alone (Upper, e) ++ rules_by_weight (Upper, e)) (rules_of_supports (length supports) (Upper, e))
@@ -183,7 +186,7 @@ all_listed supports f Upper n d None best alone sums given by_weight =
     (All-cons P U9 (map (λ w. U10 w) (range_with_len 0 (n + 1))) (by_weight U9 refl refl)
     (all_map P (λ w. U10 w) (range_with_len 0 (n + 1)) (λ w. by_weight (U10 w) refl refl))))
     (all_map P (λ place. U11 place) (range_with_len 0 (length supports)) given)
-all_listed supports f Upper n d (Some w) best alone sums given by_weight =
+all_listed supports f Upper n d (Some w) best alone sums classes given by_weight =
     let e : Entry = record { n = n; d = d; w = Some w } in
     let P : Rule → Type 0 = IsWithin supports f (Upper, e) best in
     All-append P (rules_alone (Upper, e)) (rules_of_supports (length supports) (Upper, e)) alone
@@ -192,12 +195,13 @@ all_listed supports f Upper n d (Some w) best alone sums given by_weight =
 pub all_asked : (supports : List Support) (f : Slot → ℕ) (side : Side) (e : Entry) (best : ℕ)
     → All (IsWithin supports f (side, e) best) (rules_alone (side, e))
     → (side ≡ Lower → e.w ≡ None → (m c : ℕ) → IsWithin supports f (Lower, e) best (L11 m c))
+    → (side ≡ Lower → (k : ℕ) → IsWithin supports f (Lower, e) best (M9 k))
     → ((place : ℕ) → IsWithin supports f (side, e) best (given_rule (side, e) place))
     → ((r : Rule) → is_by_weight r ≡ true → rule_side r ≡ side → IsWithin supports f (side, e) best r)
     → (r : Rule) → rule_side r ≡ side → IsWithin supports f (side, e) best r
-all_asked supports f side e best alone sums given by_weight r same v value =
+all_asked supports f side e best alone sums classes given by_weight r same v value =
     All-contains (IsWithin supports f (side, e) best) (rules_at (length supports) (side, e)) r
-    (all_listed supports f side e.n e.d e.w best alone sums given by_weight)
+    (all_listed supports f side e.n e.d e.w best alone sums classes given by_weight)
     (subst (λ (s : Side). Contains (rules_at (length supports) (s, e)) r) same
     (rules_at-complete supports r e (over-applies supports f r e v value)))
     v value
@@ -242,6 +246,7 @@ asked_upper supports f side e middle best up alone by_weight worse given =
     all_asked supports f side e best
     (all_within_better supports f (side, e) middle best (rules_alone (side, e)) worse alone)
     (λ low. let clash : Upper ≡ Lower = sym up ∙ low in absurd cc)
+    (λ low. let clash : Upper ≡ Lower = sym up ∙ low in absurd cc)
     given
     (λ r by same. within_better supports f (side, e) middle best r worse (by_weight r by same))
 
@@ -249,13 +254,15 @@ pub asked_lower : (supports : List Support) (f : Slot → ℕ) (side : Side) (e 
     → All (IsWithin supports f (side, e) middle) (rules_alone (side, e))
     → ((r : Rule) → is_by_weight r ≡ true → rule_side r ≡ side → IsWithin supports f (side, e) middle r) → middle ≤ best
     → (e.w ≡ None → (m c : ℕ) → IsWithin supports f (Lower, e) best (L11 m c))
+    → ((k : ℕ) → IsWithin supports f (Lower, e) best (M9 k))
     → ((place : ℕ) → IsWithin supports f (Lower, e) best (given_rule (Lower, e) place))
     → (r : Rule) → rule_side r ≡ side → IsWithin supports f (side, e) best r
-asked_lower supports f side e middle best low alone by_weight worse sums given =
+asked_lower supports f side e middle best low alone by_weight worse sums classes given =
     let no_worse : IsNoBetter side middle best = subst (λ (s : Side). IsNoBetter s middle best) (sym low) worse in
     all_asked supports f side e best
     (all_within_better supports f (side, e) middle best (rules_alone (side, e)) no_worse alone)
     (λ here none. sums none)
+    (λ here. classes)
     (subst (λ (s : Side). (place : ℕ) → IsWithin supports f (s, e) best (given_rule (s, e) place)) (sym low) given)
     (λ r by same. within_better supports f (side, e) middle best r no_worse (by_weight r by same))
 
@@ -277,4 +284,14 @@ pub some_below : (supports : List Support) (f : Slot → ℕ) (side : Side) (e :
 some_below supports f side e first best truth entry low value pulled =
     let own = (truth (side, e) entry).range.0 in
     let better : first.value ≤ best.value = subst (λ (s : Side). IsNoBetter s first.value best.value) low pulled.no_worse in
+    omega arith
+
+-- what was found from below is at least what stood
+pub from_standing : (supports : List Support) (f : Slot → ℕ) (side : Side) (e : Entry) (first middle last : Best) → side ≡ Lower
+    → first.value ≡ f (side, e) → IsPulled supports f (side, e) first middle → IsPulled supports f (Lower, e) middle last
+    → f (Lower, e) ≤ last.value
+from_standing supports f side e first middle last low value one other =
+    let here = ap (λ (s : Side). f (s, e)) low in
+    let better : first.value ≤ middle.value = subst (λ (s : Side). IsNoBetter s first.value middle.value) low one.no_worse in
+    let more = other.no_worse in
     omega arith

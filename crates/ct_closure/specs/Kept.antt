@@ -1,12 +1,14 @@
 -- What a table keeps: the lines of a derivation, and for each slot its bound and the place of the line that gives it.
-use Rattle.std.specs.Prelude.{◌≡◌, ℕ, ◌*◌, ◌<◌, ◌≤◌, if◌then◌else◌, List, [], ◌∷◌, ◌++◌, length, take, slice_get, slice_set, slice_index, All, Some, None, option_map}
+use Rattle.std.specs.Prelude.{◌≡◌, ℕ, ◌*◌, ◌<◌, ◌≤◌, Bool, ◌==◌, ◌&&◌, nat_lt, if◌then◌else◌, List, [], ◌∷◌, ◌++◌, length, take, slice_get, slice_set, slice_index, All, Some, None, option_map}
+use Rattle.ct_codes.specs.declared.entry.Entry.{Entry}
 use Rattle.ct_codes.specs.Entry.{IsEntry}
 use Rattle.ct_codes.specs.declared.claim.Side.TheVariants.{Lower, Upper}
 use Rattle.ct_rule_parts.specs.declared.support.Support.{Support}
-use Rattle.ct_rule_parts.specs.Parts.{has_weight}
+use Rattle.ct_rule_parts.specs.Parts.{has_weight, weight_of}
 use Rattle.ct_rule_parts.specs.Slot.{IsBetter, Slot, slot_of, claim_at}
 use Rattle.ct_rules.specs.declared.rule.Rule.{Rule}
-use Rattle.ct_rules.specs.declared.rule.Rule.TheVariants.{L1, M1, U0, V0}
+use Rattle.ct_rules.specs.declared.rule.Rule.TheVariants.{L1, M1, M9, U0, V0}
+use Rattle.ct_sum_classes.specs.SumClass.{sum_class, largest_class}
 use Rattle.ct_rules.specs.Derivation.{LineValue, IsDerivation}
 use Rattle.ct_rules.specs.Rule.{place_of}
 use Rattle.ct_closure.specs.Number.{slot_number, bound_of, side_size}
@@ -53,9 +55,13 @@ with_line_put kept line = record {
   base = kept.base;
 }
 
+-- whether a sum class gives the bound from which a slot starts: from below, at distance 4, where the largest has more than one word
+abbrev pub starts_by_class : Entry → Bool
+starts_by_class e = has_weight e && e.d == 4 && nat_lt 1 (length (sum_class e.n (weight_of e) (largest_class e.n (weight_of e))))
+
 -- the rule that gives a bound of a slot whatever the supports
 abbrev pub ground_rule : Slot → Rule
-ground_rule (Lower, e) = if has_weight e then M1 else L1
+ground_rule (Lower, e) = if starts_by_class e then M9 (largest_class e.n (weight_of e)) else if has_weight e then M1 else L1
 ground_rule (Upper, e) = if has_weight e then V0 else U0
 
 -- a line by that rule of its slot: it rests on no line and on no support

@@ -1,20 +1,22 @@
 //! What a table keeps: the lines of a derivation, and for each slot its bound and the line that gives it.
 
-ghost use Rattle.std.specs.Prelude.{◌≡◌, ◌+◌, ◌-◌, ◌<◌, ◌≤◌, ◌*◌, ◌++◌, ◌↔◌, ◌==◌, false, [], ℕ, List, All, OnOk, OnErr, IfOk, length, map, replicate, take, drop, slice_get, Some};
+ghost use Rattle.std.specs.Prelude.{◌≡◌, ◌+◌, ◌-◌, ◌<◌, ◌≤◌, ◌*◌, ◌++◌, ◌↔◌, ◌==◌, false, if◌then◌else◌, [], ℕ, List, All, OnOk, OnErr, IfOk, length, map, replicate, take, drop, slice_get, Some, None};
 ghost use Rattle.ct_codes.specs.declared.claim.Side.TheVariants.{Lower, Upper};
 ghost use Rattle.ct_codes.specs.Entry.{IsEntry};
 ghost use Rattle.ct_rule_parts.specs.declared.support.Support.{Support};
 ghost use Rattle.ct_closure.specs.Number.{bound_of, entries_to, side_number, side_size};
-ghost use Rattle.ct_closure.specs.Kept.{with_line_put, reason_of, set_back, ground_rule, IsKept};
+ghost use Rattle.ct_closure.specs.Kept.{with_line_put, reason_of, set_back, starts_by_class, ground_rule, IsKept};
+ghost use Rattle.ct_rule_parts.specs.Parts.{weight_of};
 ghost use Rattle.ct_rules.specs.Rule.{place_of};
 ghost use Rattle.ct_removal.specs.Removal.{names_one, only, lowered_line};
-ghost use Rattle.ct_closure.specs.Inside.Ground.{ground_value, ground_line};
+ghost use Rattle.ct_closure.specs.Inside.Ground.{class_of, AreLargest, ground_value, ground_line};
 ghost use Rattle.ct_closure.specs.Inside.Started.{IsStarted};
 
 use crate::lowering::{lower_lines, names_place};
 use crate::number::{SLOTS, count_in_length, entry_in, slot_number};
 use ct_codes::{Claim, Entry, Side};
 use ct_rules::{Line, Rule, value};
+use ct_sum_classes::{LargestClass, largest_sum_classes};
 use ct_words::MAX_N;
 use smallvec::SmallVec;
 use std::alloc::{AllocError, Global};
@@ -134,8 +136,26 @@ fn no_bounds(alloc: Global, count: usize) -> Result<Vec<u32>, AllocError>
     Ok(bounds)
 }
 
-/// The rule that gives a bound of the side at each entry, with or without weight, whatever the supports.
-fn ground_rule(side: Side, entry: Entry) -> Rule
+/// The sum class of an entry with weight, of distance 4, that has the most words, where it has more than one, found among the
+/// largest of the entry's length.
+fn class_from(entry: Entry, classes: &[LargestClass]) -> Option<LargestClass>
+    requires entry { IsEntry entry }
+    requires classes { AreLargest entry.n classes.now }
+    ensures { result ≡ (if starts_by_class entry then Some (class_of entry.n (weight_of entry)) else None) }
+{
+    let w = entry.w?;
+    let class = classes[w as usize];
+    if entry.d == 4 && class.size > 1 {
+        Some(class)
+    } else {
+        None
+    }
+}
+
+/// The rule that gives a bound of the side at each entry, with or without weight, whatever the supports, where no sum class
+/// gives it.
+fn plain_ground_rule(side: Side, entry: Entry) -> Rule
+    requires { side ≡ Lower → starts_by_class entry ≡ false }
     ensures { result ≡ ground_rule (side, entry) }
 {
     match (side, entry.w) {
@@ -146,13 +166,15 @@ fn ground_rule(side: Side, entry: Entry) -> Rule
     }
 }
 
-/// The line that gives a bound of the side of an entry of the table whatever the supports, and rests on no other line.
-fn ground_line(alloc: Global, side: Side, entry: Entry) -> Line
-    requires { IsEntry entry }
+/// The line that gives a bound of the side of an entry of the table, where no sum class gives it, whatever the supports, and
+/// rests on no other line.
+fn plain_ground_line(alloc: Global, side: Side, entry: Entry) -> Line
+    requires entry { IsEntry entry }
+    requires no_class { side ≡ Lower → starts_by_class entry ≡ false }
     ensures value { ground_value (side, entry) ≡ Some result.claim.value }
     ensures line { result ≡ ground_line (side, entry) result.claim.value }
 {
-    let rule = ground_rule(side, entry);
+    let rule = plain_ground_rule(side, entry);
     let Some(value) = value(&[], rule, entry, &[]) else {
         unreachable!()
     };
@@ -160,6 +182,31 @@ fn ground_line(alloc: Global, side: Side, entry: Entry) -> Line
         claim: Claim { side, entry, value },
         rule,
         from: SmallVec::new(alloc),
+    }
+}
+
+/// The line that gives a bound of the side of an entry of the table whatever the supports, and rests on no other line. The
+/// largest sum classes are those of the entry's length.
+fn ground_line(alloc: Global, side: Side, entry: Entry, classes: &[LargestClass]) -> Line
+    requires entry { IsEntry entry }
+    requires classes { AreLargest entry.n classes.now }
+    ensures value { ground_value (side, entry) ≡ Some result.claim.value }
+    ensures line { result ≡ ground_line (side, entry) result.claim.value }
+{
+    match side {
+        Side::Upper => plain_ground_line(alloc, side, entry),
+        Side::Lower => match class_from(entry, classes) {
+            None => plain_ground_line(alloc, side, entry),
+            Some(class) => Line {
+                claim: Claim {
+                    side,
+                    entry,
+                    value: class.size,
+                },
+                rule: Rule::M9(class.residue),
+                from: SmallVec::new(alloc),
+            },
+        },
     }
 }
 
@@ -323,8 +370,9 @@ impl Kept {
         requires before { IsStarted (side_number side * side_size + entries_to (n - 1)) self.now }
         ensures { OnOk result (IsStarted (side_number side * side_size + entries_to n) self.new) }
     {
+        let classes = largest_sum_classes(n);
         for place in 0..count_in_length(n) {
-            self.put(ground_line(alloc, side, entry_in(n, place)))?;
+            self.put(ground_line(alloc, side, entry_in(n, place), &classes))?;
         }
         Ok(())
     }

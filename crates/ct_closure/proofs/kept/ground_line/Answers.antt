@@ -1,11 +1,6 @@
-use Rattle.std.proofs.Common.{[], sym, ap, ◌∙◌}
-use Rattle.std.proofs.lemmas.Option.{none-some}
-use Rattle.ct_rules.specs.Rule.{value_of}
-use Rattle.ct_closure.proofs.GroundLemmas.{ground_value-given}
+use Rattle.ct_closure.proofs.GroundLemmas.{ground_value-found}
 use Rattle.ct_closure.proofs.kept.ground_line.Goals as goal
 
-pub unreachable-requires : goal.unreachable-requires
-unreachable-requires c =
-    let given = ground_value-given (c.args.side, c.args.entry) c.requires in
-    let rule = ap (λ r. value_of [] r c.args.entry []) c.ground_rule-rule.ensures in
-    none-some given.0 (sym c.in_default.is ∙ c.value.ensures.value ∙ rule ∙ given.1)
+pub returns-in-Some-clause-value : goal.returns-in-Some-clause-value
+returns-in-Some-clause-value c =
+    ground_value-found c.args.side c.args.entry c.class_from.result c.in-Some.class c.in-Lower.is c.requires.entry c.class_from.ensures c.in-Some.is

@@ -1,5 +1,8 @@
 use Rattle.ct_closure.specs.Number.{bound_of}
-use Rattle.ct_closure.proofs.PulledLemmas.{asked_upper, asked_lower, some_below}
+use Rattle.ct_codes.specs.declared.claim.Side.TheVariants.{Lower}
+use Rattle.ct_rules.specs.declared.rule.Rule.TheVariants.{M9}
+use Rattle.ct_closure.proofs.GroundWithin.{class_within}
+use Rattle.ct_closure.proofs.PulledLemmas.{within_better, asked_upper, asked_lower, some_below, from_standing}
 use Rattle.ct_closure.proofs.TurnLemmas.{bounds_are_true}
 use Rattle.ct_closure.proofs.pulling.pull.Goals as goal
 
@@ -20,6 +23,12 @@ returns-in-Upper-clause-within c =
 
 pub returns-in-Lower-clause-within : goal.returns-in-Lower-clause-within
 returns-in-Lower-clause-within c =
-    asked_lower c.args.supports.now (bound_of c.args.kept.now.bounds) c.args.side c.args.entry c.ask_unsupported.new.best.value
+    let supports = c.args.supports.now in
+    let f = bound_of c.args.kept.now.bounds in
+    asked_lower supports f c.args.side c.args.entry c.ask_unsupported.new.best.value
     c.ask_below.new.best.value c.in-Lower.is c.ask_unsupported.ensures.alone c.ask_unsupported.ensures.by_weight c.ask_below.ensures.pulled.no_worse c.ask_below.ensures.sums
+    (λ k. within_better supports f (Lower, c.args.entry) (f (Lower, c.args.entry)) c.ask_below.new.best.value (M9 k)
+    (from_standing supports f c.args.side c.args.entry c.standing-best.result c.ask_unsupported.new.best c.ask_below.new.best c.in-Lower.is
+    c.standing-best.ensures.value c.ask_unsupported.ensures.pulled c.ask_below.ensures.pulled)
+    (class_within supports c.args.kept.now c.args.entry k c.requires.kept c.requires.entry))
     c.ask_below.ensures.given

@@ -1,12 +1,27 @@
-use Rattle.std.proofs.Common.{◌≡◌, ◌+◌, ◌-◌, ◌*◌, ◌<◌, Some, ap, sym, ◌∙◌, subst, arith}
+use Rattle.std.proofs.Common.{◌≡◌, ℕ, ◌+◌, ◌-◌, ◌*◌, ◌/◌, ◌%◌, ◌<◌, Bool, true, false, nat_lt, if◌then◌else◌, Some, refl, ap, sym, ◌∙◌, subst, arith}
 use Rattle.ct_codes.specs.declared.entry.Entry.{Entry}
-use Rattle.ct_closure.specs.Inside.Ground.{ground_value, ground_line}
+use Rattle.ct_codes.specs.Entry.{unrestricted, constant_weight}
+use Rattle.ct_closure.specs.Inside.Ground.{AreLargest, ground_value, ground_line}
 use Rattle.ct_closure.specs.Inside.Started.{IsStarted}
 use Rattle.ct_closure.specs.Kept.{KeptValue, with_line_put}
-use Rattle.ct_closure.specs.Number.{side_number, side_size, entries_to, count_in_length}
+use Rattle.ct_closure.specs.Number.{side_number, side_size, entries_to, entry_in, distances, count_in_length}
 use Rattle.ct_closure.proofs.NumberLemmas.{entries_to-length}
 use Rattle.ct_closure.proofs.StartLemmas.{IsStarted-place, IsStarted-same}
 use Rattle.ct_closure.proofs.kept.Kept.start_length.Goals as goal
+
+either_length : (b : Bool) (e f : Entry) (n : ℕ) → e.n ≡ n → f.n ≡ n → (if b then e else f).n ≡ n
+either_length true e f n first second = first
+either_length false e f n first second = second
+
+length_in : (n place : ℕ) → (entry_in n place).n ≡ n
+length_in n place =
+    either_length (nat_lt place distances) (unrestricted n (place + 3))
+    (constant_weight n (2 * ((place - distances) / (n + 1)) + 4) ((place - distances) % (n + 1))) n refl refl
+
+pub ground_line-requires-clause-classes : goal.ground_line-requires-clause-classes
+ground_line-requires-clause-classes c =
+    let length = ap (λ (e : Entry). e.n) c.entry_in.ensures.entry ∙ length_in c.args.n c.loop-place.place in
+    subst (λ (m : ℕ). AreLargest m c.largest_sum_classes-classes.result) (sym length) c.largest_sum_classes-classes.ensures
 
 pub loop-place-preserved : goal.loop-place-preserved
 loop-place-preserved c =
