@@ -8,7 +8,7 @@ use Rattle.ct_codes.specs.declared.claim.Side.TheVariants.{Lower, Upper}
 use Rattle.ct_text.specs.Number.{spaced}
 use Rattle.ct_text.specs.EntryText.{entry_words}
 use Rattle.ct_rules.specs.declared.rule.Rule.{Rule}
-use Rattle.ct_rules.specs.declared.rule.Rule.TheVariants.{L1, L2, L3, L4, L5, L6, L7, L8, L9, L10, L11, M1, M2, M3, M4, M5, M6, M7, M8, M10, U0, U1, U2, U3, U4, U5, U6, U7, U8, U9, U10, U11, V0, V1, V2, V3, V4, V5, V6, V7, V8, V9}
+use Rattle.ct_rules.specs.declared.rule.Rule.TheVariants.{L1, L2, L3, L4, L5, L6, L7, L8, L9, L10, L11, M1, M2, M3, M4, M5, M6, M7, M8, M9, M10, U0, U1, U2, U3, U4, U5, U6, U7, U8, U9, U10, U11, V0, V1, V2, V3, V4, V5, V6, V7, V8, V9}
 use Rattle.ct_rules.specs.Derivation.{LineValue}
 use Rattle.ct_derive.specs.Check.{numbers_at}
 use Rattle.ct_derive.specs.Derivation.{DerivationValue}
@@ -39,6 +39,7 @@ rule_words ids M5 = codes "M5"
 rule_words ids M6 = codes "M6"
 rule_words ids M7 = codes "M7"
 rule_words ids M8 = codes "M8"
+rule_words ids (M9 r) = codes "M9" ++ spaced r
 rule_words ids (M10 place) = codes "M10" ++ id_word (slice_get ids place)
 rule_words ids U0 = codes "U0"
 rule_words ids U1 = codes "U1"

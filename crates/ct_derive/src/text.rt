@@ -60,6 +60,10 @@ fn put_rule(alloc: Global, text: &mut Vec<u8>, ids: &[Id], rule: Rule) -> Result
         Rule::M6 => text.extend_from_slice(b"M6"),
         Rule::M7 => text.extend_from_slice(b"M7"),
         Rule::M8 => text.extend_from_slice(b"M8"),
+        Rule::M9(r) => {
+            text.extend_from_slice(b"M9")?;
+            put_spaced(alloc, text, u64::from(r))
+        }
         Rule::M10(place) => {
             text.extend_from_slice(b"M10")?;
             put_id(text, ids, place)
