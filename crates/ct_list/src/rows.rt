@@ -12,8 +12,8 @@ use ct_build::{append_one, complement, juxtapose, lengthen, parity, puncture, uu
 use ct_codes::{Code, Entry};
 use ct_ledger::Ledger;
 use ct_rule_codes::{
-    disjoint_words, half, one_word, opposite_words, read_as, sums_with_even_words, with_one,
-    with_zero,
+    disjoint_words, half, one_word, opposite_words, read_as, sum_class, sums_with_even_words,
+    with_one, with_zero,
 };
 use ct_rules::Rule;
 use std::alloc::{AllocError, Global};
@@ -56,6 +56,7 @@ pub(crate) fn code_by_rule(
         Rule::M5 => with_one(alloc, &only(codes), w.unwrap_or(0) + 1),
         Rule::M6 => with_zero(alloc, &only(codes), w.unwrap_or(0)),
         Rule::M7 => complement(alloc, &only(codes)),
+        Rule::M9(r) => sum_class(alloc, entry, r),
         Rule::U0 | Rule::U1 | Rule::U2 | Rule::U3 | Rule::U4 | Rule::U5 | Rule::U6 | Rule::U7 => {
             unreachable!()
         }

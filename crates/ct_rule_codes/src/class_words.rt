@@ -1,0 +1,21 @@
+//! The code of M9: a sum class.
+
+ghost use Rattle.std.specs.Prelude.{◌≡◌, [], length, true, IfOk, Some};
+ghost use Rattle.ct_codes.specs.Entry.{IsEntry};
+ghost use Rattle.ct_rule_codes.specs.CodeEntry.{entry_of};
+ghost use Rattle.ct_weight_rules.specs.SumClass.{class_of_sum};
+
+use ct_codes::{Code, Entry};
+use ct_sum_classes::sum_class_list;
+use std::alloc::{AllocError, Global};
+
+/// The words of the length and the weight of the entry, which is in the table, the places of whose ones add up to r modulo the
+/// length, where M9 with this residue is defined. `Err` is want of memory.
+pub fn sum_class(alloc: Global, entry: Entry, r: u32) -> Result<Code, AllocError>
+    requires entry { IsEntry entry }
+    requires defined { (class_of_sum r).condition entry ≡ true }
+    ensures entry { IfOk result (λ c. entry_of c ≡ entry) }
+    ensures size { IfOk result (λ c. (class_of_sum r).number entry [] ≡ Some (length c.words)) }
+{
+    sum_class_list(alloc, entry.n, entry.w.unwrap_or(0), r)
+}
