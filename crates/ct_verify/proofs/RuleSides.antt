@@ -37,7 +37,7 @@ weight_lower-side = (refl, (refl, (refl, (refl, (refl, (refl, (refl, (refl, tt))
 
 argued_lower-side : AreOfSide Lower argued_lower_names
 unfolding row_of
-argued_lower-side = (λ n. refl, (λ n. refl, (λ n m. refl, (λ n. refl, tt))))
+argued_lower-side = (λ n. refl, (λ n. refl, (λ n m. refl, (λ n. refl, (λ n. refl, tt)))))
 
 plain_upper-side : AreOfSide Upper plain_upper_names
 unfolding row_of

@@ -7,7 +7,7 @@ use Rattle.ct_codes.specs.declared.claim.Side.TheVariants.{Lower, Upper}
 use Rattle.ct_text.specs.Id.{is_id}
 use Rattle.ct_text.specs.Number.{number_of}
 use Rattle.ct_rules.specs.declared.rule.Rule.{Rule}
-use Rattle.ct_rules.specs.declared.rule.Rule.TheVariants.{L1, L2, L3, L4, L5, L6, L7, L8, L9, L10, L11, M1, M2, M3, M4, M5, M6, M7, M8, M10, U0, U1, U2, U3, U4, U5, U6, U7, U8, U9, U10, U11, V0, V1, V2, V3, V4, V5, V6, V7, V8, V9}
+use Rattle.ct_rules.specs.declared.rule.Rule.TheVariants.{L1, L2, L3, L4, L5, L6, L7, L8, L9, L10, L11, M1, M2, M3, M4, M5, M6, M7, M8, M9, M10, U0, U1, U2, U3, U4, U5, U6, U7, U8, U9, U10, U11, V0, V1, V2, V3, V4, V5, V6, V7, V8, V9}
 use Rattle.ct_rules.specs.Rule.{with_place}
 use Rattle.ct_ledger.specs.Piece.{PieceValue, place_of}
 use Rattle.ct_verify.specs.declared.stated_rule.StatedRule.{StatedRule}
@@ -34,7 +34,8 @@ weight_lower_names =
 -- those that state numbers, or the id of a piece
 abbrev pub argued_lower_names : List (List ℕ × Named)
 argued_lower_names =
-    (codes "L9", one_number L9) ∷ (codes "L10", one_piece L10) ∷ (codes "L11", two_numbers L11) ∷ (codes "M10", one_piece M10) ∷ []
+    (codes "L9", one_number L9) ∷ (codes "L10", one_piece L10) ∷ (codes "L11", two_numbers L11)
+    ∷ (codes "M9", one_number M9) ∷ (codes "M10", one_piece M10) ∷ []
 
 -- the rules of upper bounds of codes that state nothing more, by their names
 abbrev pub plain_upper_names : List (List ℕ × Named)

@@ -3,7 +3,7 @@
 ghost use Rattle.std.specs.Prelude.{◌≡◌, ◌-◌, ◌^◌, nat_lt, if◌then◌else◌, ◌∷◌, [], List, ℕ, Option, Some, None, IfSome, map, option_map};
 ghost use Rattle.ct_text.specs.Number.{number_of};
 ghost use Rattle.ct_text.specs.Id.{is_id};
-ghost use Rattle.ct_rules.specs.declared.rule.Rule.TheVariants.{L9, L10, L11, M10, U10, U11, V9};
+ghost use Rattle.ct_rules.specs.declared.rule.Rule.TheVariants.{L9, L10, L11, M9, M10, U10, U11, V9};
 ghost use Rattle.ct_ledger.specs.Piece.{place_of};
 ghost use Rattle.ct_verify.specs.StatedRule.{argument_of, first_argument, second_argument, first_id, one_number, two_numbers, one_piece, numbered, citing, with_arguments, rule_among, or_else, plain_lower_names, weight_lower_names, argued_lower_names, plain_upper_names, weight_upper_names, argued_upper_names, stated_rule, resolved};
 
@@ -121,6 +121,16 @@ fn with_lengths(words: &[&[u8]]) -> Option<StatedRule>
     Some(numbered(2, Rule::L11(n, d)))
 }
 
+/// M9 with its residue.
+fn with_residue(words: &[&[u8]]) -> Option<StatedRule>
+    ensures { result ≡ with_arguments (one_number M9) (map (λ word. word.now) words.now) }
+{
+    match first_argument(words) {
+        Some(r) => Some(numbered(1, Rule::M9(r))),
+        None => None,
+    }
+}
+
 /// M10 with the id of its piece.
 fn with_code_of_weight(words: &[&[u8]]) -> Option<StatedRule>
     ensures { result ≡ with_arguments (one_piece M10) (map (λ word. word.now) words.now) }
@@ -203,6 +213,7 @@ fn argued_lower_rule(name: &[u8], words: &[&[u8]]) -> Option<StatedRule>
         b"L9" => with_weight(words),
         b"L10" => with_code(words),
         b"L11" => with_lengths(words),
+        b"M9" => with_residue(words),
         b"M10" => with_code_of_weight(words),
         _ => None,
     }
