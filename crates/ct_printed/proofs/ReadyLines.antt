@@ -10,15 +10,18 @@ use lib.Seq.{take-append_seam}
 use Rattle.ct_codes.specs.declared.entry.Entry.{Entry}
 use Rattle.ct_codes.specs.Claim.{IsTrueClaim}
 use Rattle.ct_codes.specs.Entry.{is_entry, unrestricted}
+use Rattle.ct_codes.proofs.EntryLemmas.{entry_limits}
 use Rattle.ct_text.specs.Id.{is_id}
 use Rattle.ct_rule_parts.specs.declared.support.Support.{Support}
 use Rattle.ct_rule_parts.specs.Parts.{are_entries}
 use Rattle.ct_plain_rules.specs.SideBySide.{side_by_side}
 use Rattle.ct_weight_rules.specs.WithoutWeight.{without_weight}
 use Rattle.ct_weight_rules.specs.Averaging.{averaging}
+use Rattle.ct_weight_rules.specs.SumClass.{class_of_sum}
+use Rattle.ct_weight_rules.proofs.LawfulSumClass.{known_class}
 use Rattle.ct_weight_rules.specs.Neighbours.{even_of_weight, of_weight}
 use Rattle.ct_rules.specs.declared.rule.Rule.{Rule}
-use Rattle.ct_rules.specs.declared.rule.Rule.TheVariants.{L9, L10, L11, M10, U10, U11, V9}
+use Rattle.ct_rules.specs.declared.rule.Rule.TheVariants.{L9, L10, L11, M9, M10, U10, U11, V9}
 use Rattle.ct_rules.specs.Rule.{row_of, place_of, applies}
 use Rattle.ct_rules.specs.Derivation.{LineValue, Follows, IsDerivation}
 use Rattle.ct_rules.proofs.Applied.{defined, applies_from_premises}
@@ -71,6 +74,11 @@ rule_printable pieces (L11 n d) e h applied =
     let long = numbers.length_small in
     let far = numbers.distance_small in
     (omega (arith, long), omega (arith, far))
+rule_printable pieces (M9 k) e h applied =
+    let is = defined (class_of_sum k) e applied in
+    let below = (known_class k e is.condition).residue in
+    let length = (entry_limits e is.entry).length_to in
+    omega (arith, below, length)
 rule_printable pieces (M10 place) e h applied = named_piece pieces (M10 place) place e h applied refl
 rule_printable pieces (U10 w) e h applied =
     let weight = (small_numbers (of_weight e w) (first_entry (of_weight e w) [] (defined (averaging w) e applied).premises)).weight_small w refl in

@@ -9,7 +9,7 @@ use Rattle.ct_text.specs.Id.{is_id}
 use Rattle.ct_text.specs.Number.{spaced}
 use Rattle.ct_text.proofs.Decimals.{printed_is_read}
 use Rattle.ct_rules.specs.declared.rule.Rule.{Rule}
-use Rattle.ct_rules.specs.declared.rule.Rule.TheVariants.{L1, L2, L3, L4, L5, L6, L7, L8, L9, L10, L11, M1, M2, M3, M4, M5, M6, M7, M8, M10, U0, U1, U2, U3, U4, U5, U6, U7, U8, U9, U10, U11, V0, V1, V2, V3, V4, V5, V6, V7, V8, V9}
+use Rattle.ct_rules.specs.declared.rule.Rule.TheVariants.{L1, L2, L3, L4, L5, L6, L7, L8, L9, L10, L11, M1, M2, M3, M4, M5, M6, M7, M8, M9, M10, U0, U1, U2, U3, U4, U5, U6, U7, U8, U9, U10, U11, V0, V1, V2, V3, V4, V5, V6, V7, V8, V9}
 use Rattle.ct_rules.specs.Rule.{row_of, rule_side}
 use Rattle.ct_derive.specs.Text.{id_word, rule_words}
 use Rattle.ct_verify.specs.StatedRule.{argument_of, numbered, citing, stated_rule}
@@ -25,6 +25,7 @@ abbrev pub IsPrintable : List (List ℕ) → Rule → Type 0
 IsPrintable ids (L9 w) = w < 2 ^ 32
 IsPrintable ids (L10 place) = HasId ids place
 IsPrintable ids (L11 n d) = (n < 2 ^ 32) × (d < 2 ^ 32)
+IsPrintable ids (M9 k) = k < 2 ^ 32
 IsPrintable ids (M10 place) = HasId ids place
 IsPrintable ids (U10 w) = w < 2 ^ 32
 IsPrintable ids (U11 place) = HasId ids place
@@ -36,6 +37,7 @@ abbrev pub stated_of : List (List ℕ) → Rule → StatedRule
 stated_of ids (L9 w) = numbered 1 (L9 w)
 stated_of ids (L10 place) = citing (L10 0) (unwrap_or (slice_get ids place) [])
 stated_of ids (L11 n d) = numbered 2 (L11 n d)
+stated_of ids (M9 k) = numbered 1 (M9 k)
 stated_of ids (M10 place) = citing (M10 0) (unwrap_or (slice_get ids place) [])
 stated_of ids (U10 w) = numbered 1 (U10 w)
 stated_of ids (U11 place) = citing (U11 0) (unwrap_or (slice_get ids place) [])
@@ -129,6 +131,7 @@ unfolding stated_rule row_of
 stated_again ids (L9 w) h = with_number ids L9 (codes "L9") w h refl refl (λ rest. refl)
 stated_again ids (L10 place) h = with_piece ids L10 place (codes "L10") h refl refl (λ id rest. refl)
 stated_again ids (L11 n d) h = two_numbers ids n d h.0 h.1
+stated_again ids (M9 k) h = with_number ids M9 (codes "M9") k h refl refl (λ rest. refl)
 stated_again ids (M10 place) h = with_piece ids M10 place (codes "M10") h refl refl (λ id rest. refl)
 stated_again ids (U10 w) h = with_number ids U10 (codes "U10") w h refl refl (λ rest. refl)
 stated_again ids (U11 place) h = with_piece ids U11 place (codes "U11") h refl refl (λ id rest. refl)
