@@ -6,7 +6,7 @@ use ct_rules::{Rule, Support, premise, premise_count, rule_side, value};
 use ct_words::MAX_BOUND;
 
 /// Each rule, with the first support, the weight 0, and a length and a distance, where it names any.
-const RULES: [Rule; 42] = [
+const RULES: [Rule; 43] = [
     Rule::L1,
     Rule::L2,
     Rule::L3,
@@ -26,6 +26,7 @@ const RULES: [Rule; 42] = [
     Rule::M6,
     Rule::M7,
     Rule::M8,
+    Rule::M9(0),
     Rule::M10(0),
     Rule::U0,
     Rule::U1,
@@ -301,6 +302,38 @@ fn values_by_weight_and_without_premises(rt: HostRuntime) {
     ] {
         let given = value(&[], rule, weighted(28, 4, 2), &[first, 9]);
         assert!(rt; given == want, "{rule:?} of {first}");
+    }
+}
+
+// Of the sets of three of the numbers 0 to 5 these add up to 0 modulo 6: 0 1 5, 0 2 4, 1 2 3 and 3 4 5; these to 1: 0 2 5, 0 3 4
+// and 1 2 4; these to 5: 0 1 4, 0 2 3 and 2 4 5. All 28 numbers add up to 378 = 13 · 28 + 14.
+#[test]
+fn sum_classes(rt: HostRuntime) {
+    for (r, entry, want) in [
+        (0, weighted(6, 4, 3), 4),
+        (1, weighted(6, 4, 3), 3),
+        (5, weighted(6, 4, 3), 3),
+        (0, weighted(6, 4, 0), 1),
+        (0, weighted(1, 4, 1), 1),
+        (14, weighted(28, 4, 28), 1),
+    ] {
+        let rule = Rule::M9(r);
+        assert!(rt; rule_side(rule) == Side::Lower);
+        assert!(rt; premise_count(&[], rule, entry) == Some(0));
+        assert!(rt;
+            value(&[], rule, entry, &[9]) == Some(want),
+            "{r} at {entry:?}"
+        );
+    }
+    for (r, entry) in [
+        (6, weighted(6, 4, 3)),
+        (u32::MAX, weighted(6, 4, 3)),
+        (1, weighted(6, 4, 0)),
+        (13, weighted(28, 4, 28)),
+        (0, weighted(6, 6, 3)),
+        (0, plain(6, 4)),
+    ] {
+        assert!(rt; is_undefined(&[], Rule::M9(r), entry), "{r} at {entry:?}");
     }
 }
 

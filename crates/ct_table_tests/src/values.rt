@@ -15,9 +15,10 @@ type Row = (u32, u32, Option<u32>, u32);
 
 // A(5,3) is at least A(6,4) = 2^2 · A(3,4) = 4 by L6, L8 and L1; A(8,4) = 2^3 · A(4,4) = 16 by L8 and L2. A(24,8) is at least
 // A(12,4) · A(12,8) by L8, where A(12,4) = 2^5 · A(6,4) = 128 and A(12,8) = A(6,4) · A(6,8) = 4. By L6 A(23,7) is no less, and
-// A(7,3) is at least A(8,4); so by L8 A(14,3) = 2^6 · 16 and A(28,3) = 2^13 · 2^10. Two words of weight 3 have no one in common
-// at A(6,6,3), so that A(6,4,3) is at least 2 by M8; at A(28,28,14) two and at A(20,8,4) five have none, by M2.
-const LOWER_BOUNDS: [Row; 14] = [
+// A(7,3) is at least A(8,4); so by L8 A(14,3) = 2^6 · 16 and A(28,3) = 2^13 · 2^10. Two words of weight 4 have no one in common
+// at A(8,8,4), so that A(8,6,4) is at least 2 by M8; at A(28,28,14) two and at A(20,8,4) five have none, by M2. Four words of length 6
+// and weight 3 have ones at places that add up to 0 modulo 6: 0 1 5, 0 2 4, 1 2 3 and 3 4 5; so A(6,4,3) is at least 4 by M9.
+const LOWER_BOUNDS: [Row; 15] = [
     (1, 3, None, 1),
     (5, 3, None, 4),
     (6, 4, None, 4),
@@ -29,7 +30,8 @@ const LOWER_BOUNDS: [Row; 14] = [
     (27, 28, None, 1),
     (28, 3, None, 8388608),
     (28, 28, None, 2),
-    (6, 4, Some(3), 2),
+    (6, 4, Some(3), 4),
+    (8, 6, Some(4), 2),
     (28, 28, Some(14), 2),
     (20, 8, Some(4), 5),
 ];
