@@ -4,6 +4,7 @@ crates/ct_rows/data or into the folder given. What they say comes from here alon
 entry until nothing is better, all else by counting. With --check it writes nothing, and ends with 1 where a file there is another."""
 
 import sys
+from functools import cache
 from itertools import combinations, product
 from math import comb, factorial
 from pathlib import Path
@@ -90,9 +91,22 @@ def upper_plain(high, n, d):
         yield from (2 ** (n - 1) * high[n, d, w] // comb(n, w) for w in weights(n))
 
 
+@cache
+def sum_classes(n):
+    """How many sets of w of the places 0, .., n - 1 add up to r modulo n: by w a list of them by r."""
+    counts = [[0] * n for _ in range(n + 1)]
+    counts[0][0] = 1
+    for place in range(n):
+        for w in range(place + 1, 0, -1):
+            counts[w] = [have + counts[w - 1][(r - place) % n] for r, have in enumerate(counts[w])]
+    return counts
+
+
 def lower_weighted(low, n, d, w):
-    """What the rules M1 to M8 give."""
+    """What the rules M1 to M9 give."""
     yield 1
+    if d == 4:
+        yield from sum_classes(n)[w]
     if d == 2 * w:
         yield n // w
     yield from (low[e] for e in [(n - 1, d, w), (n - 1, d, w - 1), (n, d, n - w), (n, d + 2, w)] if e in low)
