@@ -7,7 +7,7 @@ use Rattle.clap.specs.Words.{App, Kinds, Row, Rule, Text, fault_of, first_of, ma
 use Rattle.clap.specs.Simple.{on_top}
 use Rattle.clap.specs.declared.builder.action.ArgAction.TheVariants.{Set}
 use Rattle.ct_command_line.specs.declared.mode.Mode.{Mode}
-use Rattle.ct_command_line.specs.declared.mode.Mode.TheVariants.{Session, Verify}
+use Rattle.ct_command_line.specs.declared.mode.Mode.TheVariants.{Session, Verify, Find}
 
 -- the words of the command line, as bytes
 abbrev pub bytes_of : List (String Global) → List Text
@@ -30,6 +30,7 @@ abbrev pub plain_mode : Text → Option Mode
 plain_mode word =
     if bytes_eq word (codes "session") then Some Session
     else if bytes_eq word (codes "verify") then Some Verify
+    else if bytes_eq word (codes "find") then Some Find
     else None
 
 -- the mode of these values of the word and the option

@@ -1,15 +1,17 @@
 //! Command lines that are known: the functions do nothing.
 
 ghost use Rattle.std.specs.Prelude.{◌≡◌, [], ◌∷◌, Some, None, codes};
-ghost use Rattle.ct_command_line.specs.declared.mode.Mode.TheVariants.{Session, Verify};
+ghost use Rattle.ct_command_line.specs.declared.mode.Mode.TheVariants.{Session, Verify, Find};
 ghost use Rattle.ct_command_line.specs.CommandLine.{mode_of};
 
-/// The words `session` and `verify`, each alone, name their modes; no words, another word, a word too many, an option that the mode does
+/// The words `session`, `verify` and `find`, each alone, name their modes; no words, another word, a word too many, an option that the mode does
 /// not take, an option that is not known, and the questions for help and for a version name none.
 pub fn known_command_lines()
     ensures session { mode_of (codes "session" ∷ []) ≡ Some Session }
     ensures verify { mode_of (codes "verify" ∷ []) ≡ Some Verify }
+    ensures find { mode_of (codes "find" ∷ []) ≡ Some Find }
     ensures verify_with_number { mode_of (codes "verify" ∷ codes "--number" ∷ codes "5" ∷ []) ≡ None }
+    ensures find_with_number { mode_of (codes "find" ∷ codes "--number" ∷ codes "5" ∷ []) ≡ None }
     ensures after_dashes { mode_of (codes "--" ∷ codes "session" ∷ []) ≡ Some Session }
     ensures none { mode_of [] ≡ None }
     ensures empty { mode_of ([] ∷ []) ≡ None }

@@ -9,6 +9,8 @@ pub enum Mode {
     Session,
     /// Reads a derivation document, and writes the verdict on it.
     Verify,
+    /// Reads entries, and writes the duals that are found for them.
+    Find,
 }
 
 /// The words after the first one, which is the program's name.

@@ -33,6 +33,7 @@ fn mode_from(mode: Option<&str>, number: Option<&str>) -> Option<Mode>
     match (mode, number) {
         (Some("session"), None) => Some(Mode::Session),
         (Some("verify"), None) => Some(Mode::Verify),
+        (Some("find"), None) => Some(Mode::Find),
         _ => None,
     }
 }

@@ -8,7 +8,9 @@ unfolding clap_on_literals mode_of command_line
 returns c = record {
   session = refl;
   verify = refl;
+  find = refl;
   verify_with_number = refl;
+  find_with_number = refl;
   after_dashes = refl;
   none = refl;
   empty = refl;
