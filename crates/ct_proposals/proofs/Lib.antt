@@ -1,0 +1,5 @@
+mod PlainTables
+pub mod Existence
+mod EntryLemmas
+mod ReplyLemmas
+mod FoundLemmas

@@ -1,0 +1,2 @@
+pub mod Proposal
+pub mod Reply

@@ -1,0 +1,71 @@
+-- What is proposed for an entry: a dual that the finder gives, with its bound, as a submission.
+use Rattle.std.specs.Prelude.{◌≡◌, ℕ, ◌%◌, ◌==◌, Bool, false, List, [], ◌∷◌, ◌++◌, codes, Option, Some, None, Ok}
+use Rattle.std.specs.Fmt.{decimal}
+use Rattle.ct_lines.specs.declared.TheConstants.{LINE_FEED}
+use Rattle.ct_codes.specs.declared.entry.Entry.{Entry}
+use Rattle.ct_duals.specs.declared.dual.Dual.{Dual}
+use Rattle.ct_evidence.specs.declared.evidence.Evidence.{Evidence}
+use Rattle.ct_evidence.specs.declared.evidence.Evidence.TheVariants as evidence
+use Rattle.ct_files.specs.Evidence.{read_without_limit}
+use Rattle.ct_ledger.specs.Dump.{line_count}
+use Rattle.ct_finder_run.specs.Run.{End}
+use Rattle.ct_finder.specs.Found.{bound_of, dual_of, end_of_run, least_dual, stop_of}
+use Rattle.ct_finder.specs.declared.found.Stop.{Stop}
+use Rattle.ct_finder.specs.declared.found.Stop.TheVariants.{Least, Turns, Wide}
+use Rattle.ct_proposals.specs.declared.found.TheConstants.{MAX_TURNS}
+
+-- whether the run speaks of even distances alone: where there is no weight and d is even
+abbrev pub is_even : Option ℕ → ℕ → Bool
+is_even None d = d % 2 == 0
+is_even (Some w) d = false
+
+-- how the run for an entry ends
+unfoldable pub run_for : Entry → End
+run_for e = end_of_run e (is_even e.w e.d) MAX_TURNS
+
+-- the dual of an end: with a weight that of the run alone, where it ends as least
+abbrev pub dual_at : Option ℕ → Entry → End → Option Dual
+dual_at None e end = Some (dual_of e (is_even None e.d) end)
+dual_at (Some w) e end = least_dual e end
+
+-- the dual that is proposed for an entry, if one is
+abbrev pub found_dual : Entry → Option Dual
+found_dual e = dual_at e.w e (run_for e)
+
+-- a dual as evidence, by the weight of its entry
+abbrev pub dual_evidence : Option ℕ → Dual → Evidence
+dual_evidence None d = evidence.Dual d
+dual_evidence (Some w) d = evidence.JohnsonDual d
+
+-- how the run stopped
+abbrev pub stop_text : Stop → List ℕ
+stop_text Least = codes "least"
+stop_text (Turns turns) = codes "turns " ++ decimal turns
+stop_text (Wide x) = codes "wide"
+
+-- the comment: the bound of the dual, and how the run stopped
+abbrev pub bound_line : ℕ → Stop → List ℕ
+bound_line bound stop = codes "# bound " ++ decimal bound ++ codes " " ++ stop_text stop ++ LINE_FEED ∷ []
+
+-- a dash and the weight, where there is one
+abbrev pub weight_part : Option ℕ → List ℕ
+weight_part None = []
+weight_part (Some w) = codes "-" ++ decimal w
+
+-- the id: find-N-D, or find-N-D-W
+abbrev pub find_id : Entry → List ℕ
+find_id e = codes "find-" ++ decimal e.n ++ codes "-" ++ decimal e.d ++ weight_part e.w
+
+-- a submission: `submit ID lines K`, and the document's K lines
+abbrev pub submission_text : List ℕ → List ℕ → List ℕ
+submission_text id document = codes "submit " ++ id ++ codes " lines " ++ decimal (line_count document) ++ LINE_FEED ∷ [] ++ document ++ LINE_FEED ∷ []
+
+-- a proposal: the comment, and the submission of a document that reads as the dual
+abbrev pub IsProposal : Entry → Dual → ℕ → Stop → List ℕ → Type 0
+IsProposal e d bound stop text =
+    (document : List ℕ) × (read_without_limit document ≡ Ok (dual_evidence d.entry.w d)) × (text ≡ bound_line bound stop ++ submission_text (find_id e) document)
+
+-- what is written for an entry of the table: the proposal of the dual, with its bound and how the run stopped, or `none`
+abbrev pub AnswersEntry : Entry → Option Dual → List ℕ → Type 0
+AnswersEntry e None text = text ≡ codes "none" ++ LINE_FEED ∷ []
+AnswersEntry e (Some d) text = IsProposal e d (bound_of d) (stop_of MAX_TURNS (run_for e)) text

@@ -1,0 +1,134 @@
+//! The text of a dual that is proposed.
+
+ghost use Rattle.std.specs.Prelude.{◌≡◌, ◌++◌, codes, IfOk, OnOk};
+ghost use Rattle.ct_codes.specs.Entry.{IsEntry};
+ghost use Rattle.ct_duals.specs.Dual.{IsDual};
+ghost use Rattle.ct_files.specs.Evidence.{IsSound};
+ghost use Rattle.ct_proposals.specs.Proposal.{bound_line, dual_evidence, find_id, found_dual, stop_text, submission_text, weight_part, AnswersEntry, IsProposal};
+
+use crate::found::found_for;
+use ct_codes::Entry;
+use ct_duals::Dual;
+use ct_evidence::Evidence;
+use ct_files::write_evidence;
+use ct_finder::{Found, Stop};
+use ct_ledger::line_count;
+use ct_lines::LINE_FEED;
+use ct_text::put_number;
+use std::alloc::{AllocError, Global};
+
+/// The dual as evidence: of kind dual where its entry has no weight, else of kind jdual.
+fn dual_evidence(dual: Dual) -> Evidence
+    requires form { IsDual dual }
+    ensures evidence { result ≡ dual_evidence dual.entry.w dual }
+    ensures sound { IsSound result }
+{
+    match dual.entry.w {
+        None => Evidence::Dual(dual),
+        Some(_) => Evidence::JohnsonDual(dual),
+    }
+}
+
+/// Puts at the end of the text how the run stopped.
+fn put_stop(alloc: Global, text: &mut Vec<u8>, stop: Stop) -> Result<(), AllocError>
+    ensures { OnOk result (text.new.items ≡ text.old.items ++ stop_text stop) }
+{
+    match stop {
+        Stop::Least => text.extend_from_slice(b"least"),
+        Stop::Turns(turns) => {
+            text.extend_from_slice(b"turns ")?;
+            put_number(alloc, text, u64::from(turns))
+        }
+        Stop::Wide(_) => text.extend_from_slice(b"wide"),
+    }
+}
+
+/// Puts the comment with the bound at the end of the text.
+fn put_bound(alloc: Global, text: &mut Vec<u8>, bound: u32, stop: Stop) -> Result<(), AllocError>
+    ensures { OnOk result (text.new.items ≡ text.old.items ++ bound_line bound stop) }
+{
+    text.extend_from_slice(b"# bound ")?;
+    put_number(alloc, text, u64::from(bound))?;
+    text.push(b' ')?;
+    put_stop(alloc, text, stop)?;
+    text.push(LINE_FEED)?;
+    Ok(())
+}
+
+/// Puts a dash and the weight, where there is one, at the end of the text.
+fn put_weight(alloc: Global, text: &mut Vec<u8>, w: Option<u32>) -> Result<(), AllocError>
+    ensures { OnOk result (text.new.items ≡ text.old.items ++ weight_part w) }
+{
+    match w {
+        None => Ok(()),
+        Some(w) => {
+            text.push(b'-')?;
+            put_number(alloc, text, u64::from(w))
+        }
+    }
+}
+
+/// The id of the proposal for the entry.
+fn find_id(alloc: Global, entry: Entry) -> Result<Vec<u8>, AllocError>
+    ensures { IfOk result (λ id. id.items ≡ find_id entry) }
+{
+    let mut id = Vec::new(alloc);
+    id.extend_from_slice(b"find-")?;
+    put_number(alloc, &mut id, u64::from(entry.n))?;
+    id.push(b'-')?;
+    put_number(alloc, &mut id, u64::from(entry.d))?;
+    put_weight(alloc, &mut id, entry.w)?;
+    Ok(id)
+}
+
+/// Puts the submission of the document under the id at the end of the text.
+fn put_submission(
+    alloc: Global,
+    text: &mut Vec<u8>,
+    id: &[u8],
+    document: &[u8],
+) -> Result<(), AllocError>
+    ensures { OnOk result (text.new.items ≡ text.old.items ++ submission_text id.now document.now) }
+{
+    text.extend_from_slice(b"submit ")?;
+    text.extend_from_slice(id)?;
+    text.extend_from_slice(b" lines ")?;
+    put_number(alloc, text, line_count(document))?;
+    text.push(LINE_FEED)?;
+    text.extend_from_slice(document)?;
+    text.push(LINE_FEED)?;
+    Ok(())
+}
+
+/// The text of what was found: its bound, and its dual as a submission.
+fn proposal(alloc: Global, entry: Entry, found: Found) -> Result<Vec<u8>, AllocError>
+    requires form { IsDual found.dual }
+    ensures { IfOk result (λ text. IsProposal entry found.dual found.bound found.stop text.items) }
+{
+    let id = find_id(alloc, entry)?;
+    let mut text = Vec::new(alloc);
+    put_bound(alloc, &mut text, found.bound, found.stop)?;
+    let document = write_evidence(alloc, &dual_evidence(found.dual))?;
+    put_submission(alloc, &mut text, &id, &document)?;
+    Ok(text)
+}
+
+/// The bytes once more.
+pub(crate) fn owned(alloc: Global, bytes: &[u8]) -> Result<Vec<u8>, AllocError>
+    ensures { IfOk result (λ text. text.items ≡ bytes.now) }
+{
+    let mut text = Vec::new(alloc);
+    text.extend_from_slice(bytes)?;
+    Ok(text)
+}
+
+/// What is written for an entry of the table: the proposal of its dual, or `none`. `Err` is want of memory.
+pub(crate) fn answer_entry(alloc: Global, entry: Entry) -> Result<Vec<u8>, AllocError>
+    requires { IsEntry entry }
+    ensures { IfOk result (λ text. AnswersEntry entry (found_dual entry) text.items) }
+{
+    match found_for(alloc, entry)? {
+        None => owned(alloc, b"none\n"),
+        Some(found) => proposal(alloc, entry, found),
+    }
+}
