@@ -1,3 +1,4 @@
 mod Statuses
 mod NothingWritten
 mod Verifying
+mod Finding

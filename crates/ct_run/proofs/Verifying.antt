@@ -25,7 +25,7 @@ IsWritten left old new = IfSome left (λ input. Appends old new (verdict_line (v
 abbrev pub IsWrittenInPart : Option (List ℕ) → Option (List ℕ) → Option (List ℕ) → Type 0
 IsWrittenInPart left old new = IfSome left (λ input. AppendsProperPrefix old new (verdict_line (verdict_of input)))
 
-no_run_status : (f : RunFault) → IsRunStatus (mode_status (Err f)) → ⊥
+pub no_run_status : (f : RunFault) → IsRunStatus (mode_status (Err f)) → ⊥
 no_run_status fault.Read (inl e) = cc
 no_run_status fault.Read (inr e) = cc
 no_run_status fault.Write (inl e) = cc
@@ -35,7 +35,7 @@ no_run_status fault.TooLong (inr e) = cc
 no_run_status fault.Memory (inl e) = cc
 no_run_status fault.Memory (inr e) = cc
 
-fault_of_status : (r : Result Bool RunFault) → mode_status r ≡ WriteFault → r ≡ Err fault.Write
+pub fault_of_status : (r : Result Bool RunFault) → mode_status r ≡ WriteFault → r ≡ Err fault.Write
 fault_of_status (Ok true) e = absurd cc
 fault_of_status (Ok false) e = absurd cc
 fault_of_status (Err fault.Read) e = absurd cc
@@ -50,7 +50,7 @@ output (Some input) old new (Ok refused) is written done = (verdict_line (verdic
 output left old new (Err f) is written done = absurd (no_run_status f done)
 
 -- nothing was written
-kept_none : (old new : Option (List ℕ)) → Keeps old new → Appends old new []
+pub kept_none : (old new : Option (List ℕ)) → Keeps old new → Appends old new []
 kept_none None new h = tt
 kept_none (Some xs) None h = absurd h
 kept_none (Some xs) (Some ys) h = h ∙ sym (append-nil xs)

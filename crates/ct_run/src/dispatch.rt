@@ -13,6 +13,7 @@ ghost use Rattle.ct_run.specs.Program.{usage_line, WritesUsage};
 use crate::status::Status;
 use ct_command_line::{Mode, named_mode};
 use ct_io::{RunFault, Sink, Source, write_all};
+use ct_proposals::find_source;
 use ct_session::{ServeFault, serve_session};
 use ct_verification::verify_source;
 use std::alloc::Global;
@@ -138,6 +139,7 @@ pub fn run<S: Source, K: Sink>(
     match named_mode(alloc, words) {
         Ok(Some(Mode::Session)) => result_status(serve_session(alloc, source, sink)),
         Ok(Some(Mode::Verify)) => mode_status(verify_source(alloc, source, sink)),
+        Ok(Some(Mode::Find)) => mode_status(find_source(alloc, source, sink)),
         Ok(None) => write_usage(sink),
         Err(_) => Status::Memory,
     }
