@@ -1,0 +1,7 @@
+pub mod Random
+pub mod Drawn
+pub mod Command
+pub mod Run
+pub mod TableEntries
+pub mod Summary
+pub mod Inside

@@ -1,0 +1,51 @@
+-- The run of the sample: what its commands leave. The document of a piece is written from its evidence, and nothing else is said of it; so the run
+-- speaks of the pieces without their documents.
+use Rattle.std.specs.Prelude.{ℕ, zero, suc, ◌+◌, if◌then◌else◌, List, [], Option, Some, None, Result, is_ok, map}
+use Rattle.ct_ledger.specs.Piece.{PieceValue}
+use Rattle.ct_ledger.specs.Submission.{admitted, with_piece}
+use Rattle.ct_ledger.specs.Withdrawal.{withdrawn, left_by}
+use Rattle.ct_ledger.specs.declared.fault.SubmitFault.{SubmitFault}
+use Rattle.ct_ledger.specs.declared.fault.WithdrawFault.{WithdrawFault}
+use Rattle.ct_sample.specs.Random.{drawn}
+use Rattle.ct_sample.specs.Command.{command_of}
+use Rattle.ct_sample.specs.declared.command.Command.{Command}
+use Rattle.ct_sample.specs.declared.command.Command.TheVariants.{Submit, Withdraw}
+
+-- a piece without its document
+abbrev pub bare : PieceValue → PieceValue
+bare p = record { id = p.id; document = []; evidence = p.evidence; entry = p.entry; size = p.size }
+
+-- pieces without their documents
+abbrev pub bares : List PieceValue → List PieceValue
+bares pieces = map bare pieces
+
+-- what commands leave: the pieces that stand, without their documents, how many submissions were accepted, and how many withdrawals were made
+pub record RunValue : Type 0 where
+  pub pieces : List PieceValue
+  pub accepted : ℕ
+  pub withdrawn : ℕ
+
+-- before the first command
+abbrev pub no_commands : RunValue
+no_commands = record { pieces = []; accepted = 0; withdrawn = 0 }
+
+-- after a submission
+abbrev pub after_submission : RunValue → Result PieceValue SubmitFault → RunValue
+after_submission run made =
+    record { pieces = with_piece run.pieces made; accepted = run.accepted + (if is_ok made then 1 else 0); withdrawn = run.withdrawn }
+
+-- after a withdrawal
+abbrev pub after_withdrawal : RunValue → Result (List PieceValue) WithdrawFault → RunValue
+after_withdrawal run left =
+    record { pieces = left_by run.pieces left; accepted = run.accepted; withdrawn = run.withdrawn + (if is_ok left then 1 else 0) }
+
+-- after a command, where there is one
+abbrev pub after_command : RunValue → Option Command → RunValue
+after_command run None = run
+after_command run (Some (Submit id evidence)) = after_submission run (admitted run.pieces id [] evidence)
+after_command run (Some (Withdraw id)) = after_withdrawal run (withdrawn run.pieces id)
+
+-- after so many steps of the sample of a number of commands
+unfoldable pub run_to : ℕ → ℕ → RunValue
+run_to number zero = no_commands
+run_to number (suc step) = after_command (run_to number step) (command_of (suc step) (drawn number (suc step)) (run_to number step).pieces)

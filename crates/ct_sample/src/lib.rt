@@ -1,0 +1,17 @@
+//! The mode `sample`: commands that are made from a number, a ledger that obeys them, and a summary of it.
+#![tactic(auto)]
+
+mod command;
+mod drawing;
+mod entries;
+mod laws;
+mod random;
+mod run;
+mod summary;
+mod tally;
+mod writing;
+
+pub use laws::{samples_are_one, table_entries_are_all};
+pub use summary::{Summary, sample};
+pub use tally::Tally;
+pub use writing::write_sample;

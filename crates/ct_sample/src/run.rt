@@ -1,0 +1,176 @@
+//! The run of the sample: a ledger that obeys its commands.
+
+ghost use Rattle.std.specs.Prelude.{◌≡◌, ◌≤◌, ◌<◌, ◌+◌, ◌^◌, [], IfOk, OnOk, Some, IfSome, Ok, is_ok, length};
+ghost use Rattle.ct_files.specs.Evidence.{IsSound, read_without_limit};
+ghost use Rattle.ct_ledger.specs.Submission.{admitted, with_piece};
+ghost use Rattle.ct_ledger.specs.Supports.{supports_of};
+ghost use Rattle.ct_ledger.specs.Withdrawal.{withdrawn, left_by};
+ghost use Rattle.ct_sample.specs.Run.{bares, after_submission, after_withdrawal, after_command, no_commands, run_to};
+ghost use Rattle.ct_sample.specs.Inside.Sound.{IsSoundCommand};
+
+use crate::command::{Command, command_of};
+use crate::random::next;
+use ct_evidence::Evidence;
+use ct_files::write_evidence;
+use ct_ledger::{Ledger, MAX_PIECES, Piece, SubmitFault, WithdrawFault};
+use ct_table::Table;
+use ct_text::{Id, Text};
+use std::alloc::{AllocError, Global};
+use std::marker::Model;
+
+/// A ledger that obeyed commands of the sample, and the counts of those that it followed. Contracts see its pieces without
+/// their documents, and the counts.
+#[derive(Debug, Drop)]
+pub(crate) struct Run {
+    ledger: Ledger,
+    accepted: u32,
+    withdrawn: u32,
+}
+
+impl Model for Run {
+    ghost use Rattle.ct_sample.specs.Run.{RunValue, bares};
+
+    ghost Value = { RunValue };
+
+    ghost view = { λ r. record { pieces = bares r.ledger.pieces; accepted = r.accepted; withdrawn = r.withdrawn } };
+}
+
+/// Submits evidence with a document that reads as it: whether it is accepted. `Err` is want of memory.
+fn submit_evidence(
+    ledger: &mut Ledger,
+    id: Id,
+    evidence: Evidence,
+    document: Text,
+) -> Result<bool, AllocError>
+    requires read { read_without_limit document ≡ Ok evidence }
+    ensures accepted { IfOk result (λ accepted. accepted ≡ is_ok (admitted ledger.old.pieces id document evidence)) }
+    ensures pieces { OnOk result (ledger.new.pieces ≡ with_piece ledger.old.pieces (admitted ledger.old.pieces id document evidence)) }
+{
+    match ledger.admit(id, evidence, document) {
+        Ok(_) => Ok(true),
+        Err(SubmitFault::Memory) => Err(AllocError),
+        Err(_) => Ok(false),
+    }
+}
+
+/// Withdraws the piece of the id: whether it is withdrawn. `Err` is want of memory.
+fn withdraw_piece(ledger: &mut Ledger, id: Id) -> Result<bool, AllocError>
+    ensures withdrawn { IfOk result (λ left. left ≡ is_ok (withdrawn ledger.old.pieces id)) }
+    ensures pieces { OnOk result (ledger.new.pieces ≡ left_by ledger.old.pieces (withdrawn ledger.old.pieces id)) }
+{
+    match ledger.withdraw(id) {
+        Ok(()) => Ok(true),
+        Err(WithdrawFault::Memory) => Err(AllocError),
+        Err(_) => Ok(false),
+    }
+}
+
+impl Run {
+    /// An empty ledger, before the first command. `Err` is want of memory.
+    fn new(alloc: Global) -> Result<Run, AllocError>
+        ensures { IfOk result (λ run. run ≡ no_commands) }
+    {
+        Ok(Run {
+            ledger: Ledger::new(alloc)?,
+            accepted: 0,
+            withdrawn: 0,
+        })
+    }
+
+    /// Submits the evidence under the id, with a document that is written from it. `Err` is want of memory.
+    fn submit(&mut self, alloc: Global, id: Id, evidence: Evidence) -> Result<(), AllocError>
+        requires sound { IsSound evidence }
+        requires room { self.old.accepted + 1 < 2 ^ 32 }
+        ensures { OnOk result (self.new ≡ after_submission self.old (admitted self.old.pieces id [] evidence)) }
+    {
+        let document = Text::from_vec(write_evidence(alloc, &evidence)?);
+        let accepted = submit_evidence(&mut self.ledger, id, evidence, document)?;
+        self.accepted += u32::from(accepted);
+        Ok(())
+    }
+
+    /// Withdraws the piece of the id. `Err` is want of memory.
+    fn withdraw(&mut self, id: Id) -> Result<(), AllocError>
+        requires room { self.old.withdrawn + 1 < 2 ^ 32 }
+        ensures { OnOk result (self.new ≡ after_withdrawal self.old (withdrawn self.old.pieces id)) }
+    {
+        let left = withdraw_piece(&mut self.ledger, id)?;
+        self.withdrawn += u32::from(left);
+        Ok(())
+    }
+
+    /// Follows the command. `Err` is want of memory.
+    fn follow(&mut self, alloc: Global, command: Command) -> Result<(), AllocError>
+        requires sound { IsSoundCommand command }
+        requires room { self.old.accepted + self.old.withdrawn + 1 < 2 ^ 32 }
+        ensures { OnOk result (self.new ≡ after_command self.old (Some command)) }
+    {
+        match command {
+            Command::Submit(id, evidence) => self.submit(alloc, id, evidence),
+            Command::Withdraw(id) => self.withdraw(id),
+        }
+    }
+
+    /// Obeys the command, where there is one. `Err` is want of memory.
+    fn obey(&mut self, alloc: Global, command: Option<Command>) -> Result<(), AllocError>
+        requires sound { IfSome command IsSoundCommand }
+        requires room { self.old.accepted + self.old.withdrawn + 1 < 2 ^ 32 }
+        ensures { OnOk result (self.new ≡ after_command self.old command) }
+    {
+        match command {
+            Some(command) => self.follow(alloc, command),
+            None => Ok(()),
+        }
+    }
+
+    /// The pieces that stand.
+    fn pieces(&self) -> &[Piece]
+        ensures { bares result.now ≡ self.now.pieces }
+    {
+        self.ledger.pieces()
+    }
+
+    /// The table of the bounds of its pieces.
+    pub(crate) fn table(&self) -> &Table
+        ensures { result.now.supports ≡ supports_of self.now.pieces }
+    {
+        self.ledger.table()
+    }
+
+    /// How many pieces stand.
+    pub(crate) fn standing(&self) -> usize
+        ensures count { result ≡ length self.now.pieces }
+        ensures few { result ≤ MAX_PIECES }
+    {
+        self.ledger.pieces().len()
+    }
+
+    /// How many submissions were accepted.
+    pub(crate) fn accepted(&self) -> u32
+        ensures { result ≡ self.now.accepted }
+    {
+        self.accepted
+    }
+
+    /// How many withdrawals were made.
+    pub(crate) fn withdrawn(&self) -> u32
+        ensures { result ≡ self.now.withdrawn }
+    {
+        self.withdrawn
+    }
+}
+
+/// The run of the sample of so many commands. `Err` is want of memory.
+pub(crate) fn run_of(alloc: Global, number: u32) -> Result<Run, AllocError>
+    ensures { IfOk result (λ run. run ≡ run_to number number) }
+{
+    let mut run = Run::new(alloc)?;
+    let mut seed = u64::from(number);
+    for before in 0..number {
+        seed = next(seed);
+        let h = (seed / 65536) as u32;
+        let command = command_of(alloc, before + 1, h, run.pieces())?;
+        run.obey(alloc, command)?;
+    }
+    Ok(run)
+}
