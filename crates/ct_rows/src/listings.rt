@@ -46,7 +46,7 @@ const LISTINGS: [Listing; 6] = [
         n: 6,
         d: 4,
         w: Some(3),
-        size: 2,
+        size: 4,
     },
     Listing {
         n: 16,
