@@ -17,7 +17,7 @@ struct Listing {
     size: u32,
 }
 
-// The extended Hamming code has 16 words; two triples of six places with a place in common at most are 2 where no piece stands.
+// The extended Hamming code has 16 words; the triples of six places whose sum is 0 modulo 6 are 4.
 const OVER_NOTHING: [Listing; 4] = [
     Listing {
         n: 1,
@@ -41,11 +41,12 @@ const OVER_NOTHING: [Listing; 4] = [
         n: 6,
         d: 4,
         w: Some(3),
-        size: 2,
+        size: 4,
     },
 ];
 
-// The seven lines of the Fano plane; the four that miss a point; the complements of the lines; and the lines with a place more.
+// The seven lines of the Fano plane; the four that miss a point; the complements of the lines; and of weight 4 and length 8 the greatest sum class,
+// of 10 words, more than the lines with a place more.
 const OVER_THE_FANO_PLANE: [Listing; 4] = [
     Listing {
         n: 7,
@@ -69,7 +70,7 @@ const OVER_THE_FANO_PLANE: [Listing; 4] = [
         n: 8,
         d: 4,
         w: Some(4),
-        size: 7,
+        size: 10,
     },
 ];
 
