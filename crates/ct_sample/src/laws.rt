@@ -1,8 +1,15 @@
 //! Facts about every sample.
 
-ghost use Rattle.std.specs.Prelude.{◌≡◌, ◌↔◌, ◌≢◌, ℕ, List, AllPairs, Contains, length};
+ghost use Rattle.std.specs.Prelude.{◌≡◌, ◌↔◌, ◌≢◌, ℕ, [], ◌∷◌, List, Some, None, AllPairs, Contains, codes, length};
 ghost use Rattle.ct_codes.specs.declared.entry.Entry.{Entry};
-ghost use Rattle.ct_codes.specs.Entry.{IsEntry};
+ghost use Rattle.ct_codes.specs.Entry.{IsEntry, constant_weight, unrestricted};
+ghost use Rattle.ct_build.specs.declared.step.Step.TheVariants.{Lengthen};
+ghost use Rattle.ct_evidence.specs.declared.evidence.Evidence.TheVariants.{Cosets, Build};
+ghost use Rattle.ct_sample.specs.declared.command.Command.TheVariants.{Submit, Withdraw};
+ghost use Rattle.ct_sample.specs.Command.{command_of};
+ghost use Rattle.ct_sample.specs.Drawn.{class_evidence, dual_of_ones};
+ghost use Rattle.ct_sample.specs.Examples.{short_code, lengthened_code, long_code, dual_piece};
+ghost use Rattle.ct_sample.specs.Random.{drawn};
 ghost use Rattle.ct_sample.specs.Summary.{IsSampleOutput};
 ghost use Rattle.ct_sample.specs.TableEntries.{table_entries};
 
@@ -17,4 +24,18 @@ pub fn table_entries_are_all()
     ensures each { (e : Entry) → IsEntry e ↔ Contains table_entries e }
     ensures once { AllPairs (λ e f. e ≢ f) table_entries }
     ensures count { length table_entries ≡ 6370 }
+{}
+
+/// Numbers that are drawn, and commands of samples: a sum class of length 8 and weight 3, three words of the Golay code, a dual, the last code that is not too
+/// long made longer, the first piece that none names withdrawn, and nothing where there is none.
+pub fn known_commands()
+    ensures drawn { drawn 5 1 ∷ drawn 5 2 ∷ drawn 5 3 ∷ [] ≡ 18655 ∷ 8457 ∷ 10616 ∷ [] }
+    ensures words { command_of 1 (drawn 146 1) [] ≡ Some (Submit (codes "s1") (class_evidence 8 3 3)) }
+    ensures cosets { command_of 2 (drawn 5 2) [] ≡ Some (Submit (codes "s2") (Cosets (unrestricted 24 8)
+        (0b101011100011000000000001 ∷ 0b010101110001100000000001 ∷ 0b001010111000110000000001 ∷ []) (0 ∷ []))) }
+    ensures dual { command_of 1 (drawn 5 1) [] ≡ Some (Submit (codes "s1") (dual_of_ones 9 4)) }
+    ensures build { command_of 8 (drawn 5 8) (short_code ∷ long_code ∷ dual_piece ∷ []) ≡
+        Some (Submit (codes "s8") (Build (constant_weight 17 4 3) Lengthen (codes "s7") None)) }
+    ensures withdrawal { command_of 9 (drawn 5 9) (short_code ∷ lengthened_code ∷ long_code ∷ []) ≡ Some (Withdraw (codes "s8")) }
+    ensures none { command_of 3 (drawn 5 3) [] ≡ None }
 {}

@@ -11,7 +11,7 @@ mod summary;
 mod tally;
 mod writing;
 
-pub use laws::{samples_are_one, table_entries_are_all};
+pub use laws::{known_commands, samples_are_one, table_entries_are_all};
 pub use summary::{Summary, sample};
 pub use tally::Tally;
 pub use writing::write_sample;
