@@ -1,13 +1,15 @@
 -- The words of the command line: what `clap` says of them, and the mode that they name.
-use Rattle.std.specs.Prelude.{true, if◌then◌else◌, List, [], ◌∷◌, map, Option, Some, None, codes, String}
+use Rattle.std.specs.Prelude.{ℕ, nat_le, ◌&&◌, true, if◌then◌else◌, List, [], ◌∷◌, map, Option, Some, None, option_map, option_and_then, codes, String}
 use Rattle.std.specs.declared.alloc.Global.{Global}
 use Rattle.std.specs.Str.{bytes_eq}
 use Rattle.std.specs.String.{string_bytes}
 use Rattle.clap.specs.Words.{App, Kinds, Row, Rule, Text, fault_of, first_of, matches_of, new_app, new_rule, with_rule}
 use Rattle.clap.specs.Simple.{on_top}
 use Rattle.clap.specs.declared.builder.action.ArgAction.TheVariants.{Set}
+use Rattle.ct_text.specs.Number.{number_of}
 use Rattle.ct_command_line.specs.declared.mode.Mode.{Mode}
-use Rattle.ct_command_line.specs.declared.mode.Mode.TheVariants.{Session, Verify, Find}
+use Rattle.ct_command_line.specs.declared.mode.Mode.TheVariants.{Session, Verify, Find, Sample}
+use Rattle.ct_command_line.specs.declared.mode.TheConstants.{MAX_SAMPLE}
 
 -- the words of the command line, as bytes
 abbrev pub bytes_of : List (String Global) → List Text
@@ -25,7 +27,15 @@ number_rule = record (new_rule (codes "number")) { long = Some (codes "number");
 unfoldable pub command_line : App
 command_line = with_rule (with_rule (on_top (λ s. record s { no_binary_name = true }) (new_app (codes "code_tables"))) mode_rule) number_rule
 
--- the mode of a word that stands alone: a row for each mode
+-- a number of commands that a sample may have
+abbrev pub within_sample : ℕ → Option ℕ
+within_sample n = if nat_le 1 n && nat_le n MAX_SAMPLE then Some n else None
+
+-- the number of commands that a text asks for: one from 1 to MAX_SAMPLE, as commands write numbers
+unfoldable pub sample_number : Text → Option ℕ
+sample_number text = option_and_then within_sample (number_of text)
+
+-- the mode of a word that stands alone: a row for each mode without a number
 abbrev pub plain_mode : Text → Option Mode
 plain_mode word =
     if bytes_eq word (codes "session") then Some Session
@@ -33,10 +43,15 @@ plain_mode word =
     else if bytes_eq word (codes "find") then Some Find
     else None
 
+-- the mode of a word and the number beside it: `sample` alone takes one
+abbrev pub numbered_mode : Text → Text → Option Mode
+numbered_mode word text = if bytes_eq word (codes "sample") then option_map Sample (sample_number text) else None
+
 -- the mode of these values of the word and the option
 abbrev pub mode_from : Option Text → Option Text → Option Mode
 mode_from (Some word) None = plain_mode word
-mode_from word number = None
+mode_from (Some word) (Some text) = numbered_mode word text
+mode_from None number = None
 
 -- the mode of the matches
 abbrev pub mode_of_matches : List Row → Option Mode

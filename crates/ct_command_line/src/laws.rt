@@ -1,17 +1,28 @@
 //! Command lines that are known: the functions do nothing.
 
 ghost use Rattle.std.specs.Prelude.{◌≡◌, [], ◌∷◌, Some, None, codes};
-ghost use Rattle.ct_command_line.specs.declared.mode.Mode.TheVariants.{Session, Verify, Find};
+ghost use Rattle.ct_command_line.specs.declared.mode.Mode.TheVariants.{Session, Verify, Find, Sample};
 ghost use Rattle.ct_command_line.specs.CommandLine.{mode_of};
 
-/// The words `session`, `verify` and `find`, each alone, name their modes; no words, another word, a word too many, an option that the mode does
-/// not take, an option that is not known, and the questions for help and for a version name none.
+/// The words `session`, `verify` and `find`, each alone, name their modes, and `sample` with a number from 1 to 2000 does, on either side of it;
+/// no words, another word, a word too many, an option that the mode does not take, one that is not known, twice the same, one without its value or
+/// with another number, and the questions for help and for a version name none.
 pub fn known_command_lines()
     ensures session { mode_of (codes "session" ∷ []) ≡ Some Session }
     ensures verify { mode_of (codes "verify" ∷ []) ≡ Some Verify }
     ensures find { mode_of (codes "find" ∷ []) ≡ Some Find }
     ensures verify_with_number { mode_of (codes "verify" ∷ codes "--number" ∷ codes "5" ∷ []) ≡ None }
     ensures find_with_number { mode_of (codes "find" ∷ codes "--number" ∷ codes "5" ∷ []) ≡ None }
+    ensures sample { mode_of (codes "sample" ∷ codes "--number" ∷ codes "60" ∷ []) ≡ Some (Sample 60) }
+    ensures sample_after { mode_of (codes "--number" ∷ codes "1" ∷ codes "sample" ∷ []) ≡ Some (Sample 1) }
+    ensures sample_joined { mode_of (codes "sample" ∷ codes "--number=2000" ∷ []) ≡ Some (Sample 2000) }
+    ensures sample_alone { mode_of (codes "sample" ∷ []) ≡ None }
+    ensures sample_of_none { mode_of (codes "sample" ∷ codes "--number" ∷ codes "0" ∷ []) ≡ None }
+    ensures sample_above { mode_of (codes "sample" ∷ codes "--number" ∷ codes "2001" ∷ []) ≡ None }
+    ensures sample_of_zeros { mode_of (codes "sample" ∷ codes "--number" ∷ codes "007" ∷ []) ≡ None }
+    ensures sample_with_sign { mode_of (codes "sample" ∷ codes "--number=+5" ∷ []) ≡ None }
+    ensures sample_of_nothing { mode_of (codes "sample" ∷ codes "--number=" ∷ []) ≡ None }
+    ensures sample_twice { mode_of (codes "sample" ∷ codes "--number" ∷ codes "5" ∷ codes "--number" ∷ codes "5" ∷ []) ≡ None }
     ensures after_dashes { mode_of (codes "--" ∷ codes "session" ∷ []) ≡ Some Session }
     ensures none { mode_of [] ≡ None }
     ensures empty { mode_of ([] ∷ []) ≡ None }

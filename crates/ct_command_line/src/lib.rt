@@ -6,5 +6,5 @@ mod mode;
 mod reading;
 
 pub use laws::known_command_lines;
-pub use mode::{Mode, after_name};
+pub use mode::{MAX_SAMPLE, Mode, after_name};
 pub use reading::named_mode;

@@ -2,6 +2,9 @@
 
 ghost use Rattle.std.specs.Prelude.{◌≡◌, drop};
 
+/// The most commands of a sample.
+pub const MAX_SAMPLE: u32 = 2000;
+
 /// A mode of the program.
 #[derive(Clone, Copy, Debug, PartialEq, Eq)]
 pub enum Mode {
@@ -11,6 +14,8 @@ pub enum Mode {
     Verify,
     /// Reads entries, and writes the duals that are found for them.
     Find,
+    /// Makes so many commands, from 1 to `MAX_SAMPLE`, has a ledger obey them, and writes its summary. Nothing is read.
+    Sample(u32),
 }
 
 /// The words after the first one, which is the program's name.

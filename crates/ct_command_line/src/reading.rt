@@ -2,11 +2,12 @@
 
 ghost use Rattle.std.specs.Prelude.{◌≡◌, ◌≢◌, IfOk, None, option_map};
 ghost use Rattle.clap.specs.Words.{app_of, kind_of};
-ghost use Rattle.ct_command_line.specs.CommandLine.{command_line, mode_from, mode_of, bytes_of};
+ghost use Rattle.ct_command_line.specs.CommandLine.{command_line, mode_from, mode_of, bytes_of, sample_number};
 
-use crate::mode::Mode;
+use crate::mode::{MAX_SAMPLE, Mode};
 use clap::error::ErrorKind;
 use clap::{Arg, ArgAction, Command, Error};
+use ct_text::parse_number;
 use std::alloc::{AllocError, Global};
 
 /// The command line as `clap` takes it: a word, the mode, which has to be there, and an option `--number` with a value. The
@@ -26,6 +27,19 @@ fn command_line<'a>(alloc: Global) -> Result<Command<'a>, AllocError>
         .arg(number)
 }
 
+/// The number of commands that the text asks for, where it is one from 1 to `MAX_SAMPLE`, written as commands write numbers.
+#[tactic(auto, unfolding(crate::specs::CommandLine::sample_number))]
+fn sample_number(text: &str) -> Option<u32>
+    ensures { result ≡ sample_number text.now }
+{
+    let number = parse_number(text.as_bytes())?;
+    if 1 <= number && number <= u64::from(MAX_SAMPLE) {
+        Some(number as u32)
+    } else {
+        None
+    }
+}
+
 /// The mode of these values of the word and the option.
 fn mode_from(mode: Option<&str>, number: Option<&str>) -> Option<Mode>
     ensures { result ≡ mode_from (option_map (λ text. text.now) mode.entry) (option_map (λ text. text.now) number.entry) }
@@ -34,6 +48,7 @@ fn mode_from(mode: Option<&str>, number: Option<&str>) -> Option<Mode>
         (Some("session"), None) => Some(Mode::Session),
         (Some("verify"), None) => Some(Mode::Verify),
         (Some("find"), None) => Some(Mode::Find),
+        (Some("sample"), Some(number)) => Some(Mode::Sample(sample_number(number)?)),
         _ => None,
     }
 }

@@ -2,3 +2,4 @@ mod Statuses
 mod NothingWritten
 mod Verifying
 mod Finding
+mod Sampling

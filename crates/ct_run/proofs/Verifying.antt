@@ -92,6 +92,6 @@ kept_after old new (Err fault.Memory) h e = h (λ e. cc)
 same_kept : (a b : Option (List ℕ)) → b ≡ a → Keeps a b
 same_kept a b same = subst (Keeps a) (sym same) (Keeps-refl a)
 
-pub kept_beside : {K : Type 0} (holds : K → Option (List ℕ)) (old new : K) (r : Result Bool RunFault) → IfErr r (λ f. f ≢ fault.Write → new ≡ old) → IfErr r (λ f. f ≢ fault.Write → Keeps (holds old) (holds new))
-kept_beside {K} holds old new (Ok refused) h = tt
-kept_beside {K} holds old new (Err f) h = λ other. same_kept (holds old) (holds new) (ap holds (h other))
+pub kept_beside : {K X : Type 0} (holds : K → Option (List ℕ)) (old new : K) (r : Result X RunFault) → IfErr r (λ f. f ≢ fault.Write → new ≡ old) → IfErr r (λ f. f ≢ fault.Write → Keeps (holds old) (holds new))
+kept_beside {K} {X} holds old new (Ok refused) h = tt
+kept_beside {K} {X} holds old new (Err f) h = λ other. same_kept (holds old) (holds new) (ap holds (h other))

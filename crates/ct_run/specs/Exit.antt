@@ -1,5 +1,5 @@
 -- Statuses: what they are of a session and of other modes, and the numbers with which the program ends.
-use Rattle.std.specs.Prelude.{ℕ, Bool, Result, Ok, Err}
+use Rattle.std.specs.Prelude.{ℕ, Bool, false, Result, Ok, Err}
 use Rattle.ct_io.specs.declared.run_fault.RunFault.{RunFault}
 use Rattle.ct_io.specs.declared.run_fault.RunFault.TheVariants as run_fault
 use Rattle.ct_session.specs.declared.serve.ServeFault.{ServeFault}
@@ -41,3 +41,8 @@ broken_status run_fault.Memory = Memory
 abbrev pub mode_status : Result Bool RunFault → Status
 mode_status (Ok refused) = status_of refused
 mode_status (Err reason) = broken_status reason
+
+-- the status of a mode in which nothing is refused
+abbrev pub summary_status : Result (Unit {0}) RunFault → Status
+summary_status (Ok done) = status_of false
+summary_status (Err reason) = broken_status reason

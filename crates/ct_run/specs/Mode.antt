@@ -7,8 +7,9 @@ use Rattle.ct_session.specs.Serve.{AnswersTaken, AnswersButLastBytes, WritesWhol
 use Rattle.ct_verify.specs.Verdict.{verdict_of}
 use Rattle.ct_verification.specs.Verification.{is_no, verdict_line}
 use Rattle.ct_proposals.specs.Reply.{IsFound}
+use Rattle.ct_sample.specs.Summary.{IsSampleOutput}
 use Rattle.ct_command_line.specs.declared.mode.Mode.{Mode}
-use Rattle.ct_command_line.specs.declared.mode.Mode.TheVariants.{Session, Verify, Find}
+use Rattle.ct_command_line.specs.declared.mode.Mode.TheVariants.{Session, Verify, Find, Sample}
 use Rattle.ct_run.specs.declared.status.Status.{Status}
 use Rattle.ct_run.specs.declared.status.Status.TheVariants as status
 
@@ -17,17 +18,20 @@ abbrev pub reads : Mode → Bool
 reads Session = true
 reads Verify = true
 reads Find = true
+reads (Sample number) = false
 
 -- whether a command reads the source: words that name no mode don't
 abbrev pub is_reading : Option Mode → Bool
 is_reading (Some mode) = reads mode
 is_reading None = false
 
--- an output of a mode on an input, and whether something is refused in it: in a session and in `find` a reply, in `verify` the document
+-- an output of a mode on an input, and whether something is refused in it: in a session and in `find` a reply, in `verify` the document, in `sample`
+-- nothing
 abbrev pub IsOutput : Mode → List ℕ → List ℕ → Bool → Type 0
 IsOutput Session input output refused = IsRun input output refused
 IsOutput Verify input output refused = (output ≡ verdict_line (verdict_of input)) × (refused ≡ is_no (verdict_of input))
 IsOutput Find input output refused = IsFound input output refused
+IsOutput (Sample number) input output refused = IsSampleOutput number output × (refused ≡ false)
 
 -- the input of a mode, where it is told: of one that reads the source what this has left, of one that reads nothing no bytes, whatever a source tells
 abbrev pub input_for : Mode → Option (List ℕ) → Option (List ℕ)
@@ -68,20 +72,25 @@ WritesPrefix mode left old new = WritesPrefixOn mode (input_for mode left) old n
 abbrev pub WritesProperPrefix : Mode → Option (List ℕ) → Option (List ℕ) → Option (List ℕ) → Type 0
 WritesProperPrefix mode left old new = WritesProperPrefixOn mode (input_for mode left) old new
 
--- what a failed read leaves in the sink, mode by mode. Of a session: the replies to all commands that whole lines complete. Of `verify` and `find`: nothing
+-- what a failed read leaves in the sink, mode by mode. Of a session: the replies to all commands that whole lines complete. Of `verify` and `find`: nothing.
+-- In `sample` no read fails
 abbrev pub LeftByReadFault : Mode → Option (List ℕ) → Option (List ℕ) → Option (List ℕ) → Option (List ℕ) → Type 0
 LeftByReadFault Session left now old new = AnswersTaken left now old new
 LeftByReadFault Verify left now old new = Keeps old new
 LeftByReadFault Find left now old new = Keeps old new
+LeftByReadFault (Sample number) left now old new = ⊥
 
--- what too many bytes leave in the sink, mode by mode. Of a session: the same, but for at most the last MAX_READ bytes. Of `verify` and `find`: nothing
+-- what too many bytes leave in the sink, mode by mode. Of a session: the same, but for at most the last MAX_READ bytes. Of `verify` and `find`: nothing.
+-- In `sample` no byte is taken
 abbrev pub LeftByTooLong : Mode → Option (List ℕ) → Option (List ℕ) → Option (List ℕ) → Option (List ℕ) → Type 0
 LeftByTooLong Session left now old new = AnswersButLastBytes left now old new
 LeftByTooLong Verify left now old new = Keeps old new
 LeftByTooLong Find left now old new = Keeps old new
+LeftByTooLong (Sample number) left now old new = ⊥
 
--- what want of memory leaves in the sink, mode by mode. Of a session: whole replies. Of `verify` and `find`: nothing
+-- what want of memory leaves in the sink, mode by mode. Of a session: whole replies. Of `verify`, `find` and `sample`: nothing
 abbrev pub LeftByMemory : Mode → Option (List ℕ) → Option (List ℕ) → Option (List ℕ) → Type 0
 LeftByMemory Session left old new = WritesWholeReplies left old new
 LeftByMemory Verify left old new = Keeps old new
 LeftByMemory Find left old new = Keeps old new
+LeftByMemory (Sample number) left old new = Keeps old new

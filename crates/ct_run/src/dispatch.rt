@@ -7,13 +7,14 @@ ghost use Rattle.ct_io.specs.Told.{AppendsProperPrefix, WhereTold, IsAboveLimit,
 ghost use Rattle.ct_io.specs.declared.TheConstants.{MAX_INPUT, MAX_READ};
 ghost use Rattle.ct_run.specs.Mode.{is_reading, input_for, status_of, IsRunStatus, WritesOutput, WritesPrefix, WritesProperPrefix, LeftByMemory, LeftByReadFault, LeftByTooLong};
 ghost use Rattle.ct_command_line.specs.CommandLine.{mode_of, bytes_of};
-ghost use Rattle.ct_run.specs.Exit.{broken_status, fault_status, mode_status, result_status};
+ghost use Rattle.ct_run.specs.Exit.{broken_status, fault_status, mode_status, result_status, summary_status};
 ghost use Rattle.ct_run.specs.Program.{usage_line, WritesUsage};
 
 use crate::status::Status;
 use ct_command_line::{Mode, named_mode};
 use ct_io::{RunFault, Sink, Source, write_all};
 use ct_proposals::find_source;
+use ct_sample::write_sample;
 use ct_session::{ServeFault, serve_session};
 use ct_verification::verify_source;
 use std::alloc::Global;
@@ -76,6 +77,16 @@ fn mode_status(result_of: Result<bool, RunFault>) -> Status
     }
 }
 
+/// The status of a mode in which nothing is refused, or why it is broken off.
+fn summary_status(result_of: Result<(), RunFault>) -> Status
+    ensures { result ≡ summary_status result_of }
+{
+    match result_of {
+        Ok(()) => status_of(false),
+        Err(fault) => broken_status(fault),
+    }
+}
+
 /// Writes the usage line.
 fn write_usage<K: Sink>(sink: &mut K) -> Status
     ensures written { WritesUsage result (K.holds sink.old) (K.holds sink.new) }
@@ -87,8 +98,8 @@ fn write_usage<K: Sink>(sink: &mut K) -> Status
     }
 }
 
-/// Runs the program on the words after its name, as `clap` reads them. Where they name a mode, it reads the source and writes the mode's output to the
-/// sink. Other words are answered by the usage line, and nothing is read.
+/// Runs the program on the words after its name, as `clap` reads them. Where they name a mode, it reads the source, if the mode has an input, and writes the
+/// mode's output to the sink. Other words are answered by the usage line, and nothing is read.
 pub fn run<S: Source, K: Sink>(
     alloc: Global,
     words: &[String],
@@ -140,6 +151,7 @@ pub fn run<S: Source, K: Sink>(
         Ok(Some(Mode::Session)) => result_status(serve_session(alloc, source, sink)),
         Ok(Some(Mode::Verify)) => mode_status(verify_source(alloc, source, sink)),
         Ok(Some(Mode::Find)) => mode_status(find_source(alloc, source, sink)),
+        Ok(Some(Mode::Sample(number))) => summary_status(write_sample(alloc, number, sink)),
         Ok(None) => write_usage(sink),
         Err(_) => Status::Memory,
     }
