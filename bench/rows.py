@@ -13,6 +13,7 @@ DATA = Path(__file__).resolve().parent.parent / "crates/ct_rows/data"
 LENGTHS = range(1, 29)
 DISTANCES = range(3, 29)
 EVEN = range(4, 29, 2)
+SAMPLES = [1, 2, 3, 4, 17, 60, 100, 365, 777, 1000, 1999, 2000]
 
 
 # ---- bounds, by the rules of the table
@@ -317,6 +318,60 @@ BEST_DIMENSIONS = """
 """
 
 
+# ---- the sample
+
+def standing_pieces(number):
+    """What the commands of a sample leave (docs/FORMATS.md): how many submissions are accepted, how many pieces withdrawn, and those that
+    stand, by their ids: the entry and the size of a code, with the id of its part if it has one; of a dual nothing. Each submission is
+    accepted: a sum class is a code of distance 4, sums of basis words are words of the Golay code, a code keeps its distance where each word
+    gets a zero, and f of a dual of n + 1 ones is 0 but at 0."""
+    pieces = {}
+    accepted = withdrawn = 0
+    x = number
+    for step in range(1, number + 1):
+        x = (x * 1103515245 + 12345) % 2 ** 31
+        h = x // 65536
+        if step % 3 == 0:
+            parts = {piece[2] for piece in pieces.values() if piece}
+            del pieces[next(name for name in pieces if name not in parts)]
+            withdrawn += 1
+            continue
+        codes = [(name, piece) for name, piece in pieces.items() if piece and piece[0][0] <= 27]
+        piece = None
+        if h % 4 == 0:
+            n = 8 + h // 4 % 9
+            w = 3 + h // 64 % 2
+            piece = (n, 4, w), sum_classes(n)[w][h // 256 % n], None
+        elif h % 4 == 1:
+            piece = (24, 8), 2 ** (1 + h // 4 % 8), None
+        elif h % 4 == 3 and codes:
+            name, ((n, *rest), size, _) = codes[-1]
+            piece = (n + 1, *rest), size, name
+        pieces[f"s{step}"] = piece
+        accepted += 1
+    return accepted, withdrawn, pieces
+
+
+def sample(number):
+    """The output of the mode `sample`. The duals, whose bounds are 2^n, better nothing."""
+    accepted, withdrawn, pieces = standing_pieces(number)
+    codes = {}
+    for piece in filter(None, pieces.values()):
+        entry, size, _ = piece
+        codes[entry] = max(size, codes.get(entry, 1))
+    low, high = bounds(codes)
+    sums = {
+        "commands": number,
+        "accepted": accepted,
+        "withdrawn": withdrawn,
+        "standing": len(pieces),
+        "equal": sum(low[e] == high[e] for e in low),
+        "lower": sum(low.values()),
+        "upper": sum(high.values()),
+    }
+    return "".join(f"{name} {value}\n" for name, value in sums.items())
+
+
 # ---- the file
 
 def literal(value):
@@ -357,7 +412,7 @@ class Rows:
         text = "# Made by bench/rows.py, which says where the numbers come from; what stands here is said at the head of rows.toml.\n"
         for kind, items in (("part", self.parts), ("row", self.rows)):
             for item in items:
-                text += f"\n[[{kind}]]\n" + "".join(f"{key} = {literal(value)}\n" for key, value in item.items() if value)
+                text += f"\n[[{kind}]]\n" + "".join(f"{key} = {literal(value)}\n" for key, value in item.items() if value not in ("", []))
         return self.files | {"made.toml": text}
 
 
@@ -622,6 +677,12 @@ def write_millionth_word(rows):
     rows.row("the millionth stored word", *map("".join, zip(*commands)), status="Refused", after=["cyclic33"])
 
 
+def write_samples(rows):
+    """Samples of some numbers of commands; what standard input has is not read."""
+    for number in SAMPLES:
+        rows.row(f"a sample of {number}", "show 5 3\n", sample(number), words=["sample", "--number", str(number)], read_calls=0)
+
+
 def main():
     rows = Rows()
     write_codes(rows)
@@ -633,6 +694,7 @@ def main():
     write_long_lines(rows, table)
     write_sizes(rows, table)
     write_pieces(rows, table)
+    write_samples(rows)
     places = [word for word in sys.argv[1:] if word != "--check"]
     folder = Path(places[0]) if places else DATA
     others = []
