@@ -125,7 +125,7 @@ class CheckDerivation(unittest.TestCase):
     def test_explanations_of_the_examples_are_derivations(self):
         checked = 0
         for document in mutations.documents()[1:]:
-            self.assertEqual(check_derivation.verdict(document.encode()), "yes", document)
+            self.assertEqual(mutations.verdicts(document), ("yes\n", "yes\n"), document)
             checked += 1
         if not checked:
             self.skipTest("this program explains nothing yet")
