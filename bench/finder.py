@@ -1,5 +1,5 @@
 #!/usr/bin/env python3
-"""The finder's run over fractions, for the bounds that its tests expect.
+"""The finder's run over fractions, for the duals that its tests expect.
 
     finder.py [--longest N] [--turns T] [N D [W]]
 
@@ -74,8 +74,8 @@ def run(number, degree, indices, turns):
         made += 1
 
 
-def find(n, d, w=None, even=False, turns=20000):
-    """The bound, or None, and how the run stopped."""
+def dual(n, d, w=None, even=False, turns=20000):
+    """The multipliers of the dual that is answered, or None, how the run stopped, and f(0)."""
     if w is None:
         degree, least, number = n, d, lambda k, i: krawtchouk(n, k, i)
     else:
@@ -85,10 +85,18 @@ def find(n, d, w=None, even=False, turns=20000):
     if stop == "least":
         first_s = 1 + len(indices)
         c = [end[0]] + end[first_s : first_s + degree]
-        at_zero = sum(c[k] * number(k, 0) for k in range(degree + 1))
-        return min(2**28, at_zero // c[0]), stop
-    text = f"turns {turns}" if stop == "turns" else f"wide {end}"
-    return (None, text) if w is not None else (min(2**28, 2**n), text)
+    elif w is None:
+        c = [1] * (n + 1)
+    else:
+        c = None
+    text = {"least": stop, "turns": f"turns {turns}", "wide": f"wide {end}"}[stop]
+    return c, text, c and sum(c[k] * number(k, 0) for k in range(degree + 1))
+
+
+def find(n, d, w=None, even=False, turns=20000):
+    """The bound, or None, and how the run stopped."""
+    c, text, at_zero = dual(n, d, w, even, turns)
+    return c and min(2**28, at_zero // c[0]), text
 
 
 def line(n, d, w, even, turns):

@@ -1,5 +1,5 @@
 #!/usr/bin/env python3
-"""Writes crates/ct_finder_tests/data/bounds.toml: the bounds of all entries of n up to 12, and of runs that end otherwise, by finder.py.
+"""Writes crates/ct_finder_tests/data/bounds.toml: the duals of all entries of n up to 12, and of runs that end otherwise, by finder.py.
 
     finder_rows.py > crates/ct_finder_tests/data/bounds.toml
 """
@@ -9,7 +9,8 @@ import finder
 def row(n, d, mark, turns):
     w = mark if isinstance(mark, int) else None
     bound, stop = finder.find(n, d, w, mark == "even", turns)
-    said = "none" if bound is None else f"{bound} {stop}"
+    c, _, _ = finder.dual(n, d, w, mark == "even", turns)
+    said = "none" if bound is None else f"{bound} {stop}: {' '.join(map(str, c))}"
     shown = mark if isinstance(mark, int) else f'"{mark}"'
     return f'  [{n}, {d}, {shown}, "{said}"],'
 
@@ -33,7 +34,7 @@ def entries(longest, greatest):
 
 def main():
     print("# Entries, and the duals that are found for them with at most so many turns: length, distance, a weight or a mark, and the bound with")
-    print("# the end of the run. Written by bench/finder_rows.py, which knows the run over fractions alone.")
+    print("# the end of the run and the multipliers. Written by bench/finder_rows.py, which knows the run over fractions alone.")
     group(20000, entries(12, 13))
     group(20000, [(16, 6, "even"), (26, 4, ""), (28, 4, ""), (28, 28, ""), (22, 6, 11), (28, 4, 14), (24, 8, 8)])
     for turns in range(3):

@@ -32,14 +32,19 @@ pub fn number(value: Option<&Value>) -> u32 {
     }
 }
 
-/// What was found, in words: its bound, and how the run stopped.
+/// What was found, in words: its bound, how the run stopped, and the multipliers of its dual.
 fn found_text(alloc: Global, found: &Found) -> Result<String, AllocError> {
     let bound = found.bound;
-    match found.stop {
-        Stop::Least => format!(in alloc; "{bound} least"),
-        Stop::Turns(turns) => format!(in alloc; "{bound} turns {turns}"),
-        Stop::Wide(x) => format!(in alloc; "{bound} wide {x}"),
+    let mut text = match found.stop {
+        Stop::Least => format!(in alloc; "{bound} least:")?,
+        Stop::Turns(turns) => format!(in alloc; "{bound} turns {turns}:")?,
+        Stop::Wide(x) => format!(in alloc; "{bound} wide {x}:")?,
+    };
+    for multiplier in found.dual.c.as_slice() {
+        text.push(' ')?;
+        text.push_str(&multiplier.to_string(alloc)?)?;
     }
+    Ok(text)
 }
 
 /// What is found without weight, for an entry of the table.
