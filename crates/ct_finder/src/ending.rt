@@ -54,9 +54,9 @@ fn multipliers(
     requires { length cost.now ≡ length (columns range.now degree) }
     ensures { IfOk result (λ c. c ≡ multipliers_of (columns range.now degree) degree cost.now) }
 {
-    let mut numbers = Vec::new(alloc);
-    numbers.push(cost[0])?;
     let entries = &cost[range.len() + 1..cost.len() - 1];
+    let mut numbers = Vec::with_capacity(alloc, cost.len())?;
+    numbers.push(cost[0])?;
     for entry in entries {
         numbers.push(*entry)?;
     }

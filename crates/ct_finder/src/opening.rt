@@ -48,13 +48,21 @@ pub(crate) fn opening<S: Scheme>(
     })
 }
 
+/// How many columns there are, for which memory is asked at once.
+fn width(range: &[u32], degree: u32) -> usize {
+    range
+        .len()
+        .saturating_add(degree as usize)
+        .saturating_add(2)
+}
+
 /// The opening rows of 1, 2, .., degree.
 fn opening_rows<S: Scheme>(alloc: Global, scheme: &S, range: &[u32]) -> Result<Vec<Row>, AllocError>
     requires range { All (λ i. i ≤ S.degree scheme.now) range.now }
     ensures { IfOk result (λ rows. rows.items ≡
         map (opening_row (S.number scheme.now) (columns range.now (S.degree scheme.now))) (rows_to (S.degree scheme.now))) }
 {
-    let mut rows = Vec::new(alloc);
+    let mut rows = Vec::with_capacity(alloc, scheme.degree() as usize)?;
     for before in 0..scheme.degree() {
         rows.push(opening_row(alloc, scheme, range, before + 1)?)?;
     }
@@ -73,7 +81,7 @@ fn opening_row<S: Scheme>(
     ensures { IfOk result (λ r. r ≡
         opening_row (S.number scheme.now) (columns range.now (S.degree scheme.now)) k) }
 {
-    let mut entries = Vec::new(alloc);
+    let mut entries = Vec::with_capacity(alloc, width(range, scheme.degree()))?;
     entries.push(0)?;
     push_numbers(&mut entries, scheme, range, k)?;
     push_unit(&mut entries, scheme.degree(), k)?;
@@ -132,7 +140,7 @@ fn opening_basics(alloc: Global, range: &[u32], degree: u32) -> Result<Vec<usize
     ensures { IfOk result (λ basics. basics.items ≡
         map (λ k. place_of (SColumn k) (columns range.now degree)) (rows_to degree)) }
 {
-    let mut basics = Vec::new(alloc);
+    let mut basics = Vec::with_capacity(alloc, degree as usize)?;
     for before in 0..degree as usize {
         basics.push(range.len() + 1 + before)?;
     }
@@ -143,7 +151,7 @@ fn opening_basics(alloc: Global, range: &[u32], degree: u32) -> Result<Vec<usize
 fn opening_cost(alloc: Global, range: &[u32], degree: u32) -> Result<Row, AllocError>
     ensures { IfOk result (λ r. r ≡ map cost_entry (columns range.now degree)) }
 {
-    let mut entries = Vec::new(alloc);
+    let mut entries = Vec::with_capacity(alloc, width(range, degree))?;
     entries.push(1)?;
     push_repeated(&mut entries, -1, range.len())?;
     push_repeated(&mut entries, 0, degree as usize + 1)?;

@@ -1,5 +1,5 @@
 //! Products and greatest common divisors of entries.
-ghost use Rattle.std.specs.Prelude.{◌≡◌, ◌<◌, ◌≤◌, ◌^◌, ◌*◌, ◌-◌, pos, ◌*ℤ◌, ◌-ℤ◌, ◌≤ℤ◌, unsigned_abs, int_div};
+ghost use Rattle.std.specs.Prelude.{◌≡◌, ◌<◌, ◌≤◌, ◌^◌, ◌*◌, ◌-◌, ◌%◌, pos, ◌*ℤ◌, ◌-ℤ◌, ◌≤ℤ◌, unsigned_abs, int_div};
 ghost use Rattle.ct_finder_run.specs.Divisor.{gcd as gcd_of_both};
 ghost use Rattle.ct_finder_run.specs.Turn.{is_wide};
 
@@ -31,19 +31,36 @@ pub(crate) fn gcd(a: u128, b: u128) -> u128
     let mut divisor = a;
     let mut rest = b;
     while rest != 0 {
-        let next = divisor % rest;
+        let next = remainder(divisor, rest);
         divisor = rest;
         rest = next;
     }
     divisor
 }
 
-/// The quotient of an entry by a positive divisor.
+/// The remainder of a division. Numbers below 2^64 are divided as such, which is several times as fast.
+fn remainder(a: u128, b: u128) -> u128
+    requires { 1 ≤ b }
+    ensures { result ≡ a % b }
+{
+    if a > u64::MAX as u128 || b > u64::MAX as u128 {
+        return a % b;
+    }
+    u128::from(a as u64 % b as u64)
+}
+
+/// The quotient of an entry by a positive divisor. Numbers that are not wide are divided as such.
 pub(crate) fn quotient(z: i128, divisor: i128) -> i128
     requires { pos 1 ≤ℤ divisor }
     ensures { result ≡ int_div z divisor }
 {
-    if divisor == 1 { z } else { z / divisor }
+    if divisor == 1 {
+        return z;
+    }
+    if is_wide(z) || is_wide(divisor) {
+        return z / divisor;
+    }
+    i128::from(z as i64 / divisor as i64)
 }
 
 /// Whether an entry would be above 2^63 - 1 in absolute value.

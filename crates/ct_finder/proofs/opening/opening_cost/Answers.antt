@@ -10,5 +10,5 @@ returns c =
     c.from_vec.ensures ∙ c.in_ok-push_repeated-2.ensures
     ∙ ap (λ (xs : List ℤ). xs ++ replicate (degree + 1) (pos 0))
     (c.in_ok-push_repeated.ensures ∙ ap (λ (xs : List ℤ). xs ++ replicate (length range) (negsuc 0))
-    (c.in_ok-push.ensures.items ∙ ap (λ (xs : List ℤ). xs ++ pos 1 ∷ []) c.new-entries.ensures.items))
+    (c.in_ok-push.ensures.items ∙ ap (λ (xs : List ℤ). xs ++ pos 1 ∷ []) c.in_ok-entries.ensures.items))
     ∙ sym (cost-pieces range degree)

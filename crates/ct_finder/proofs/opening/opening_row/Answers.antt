@@ -24,8 +24,8 @@ from_vec-requires g c =
     let degree = g.S.Scheme.degree s in
     let range = c.args.range.now in
     subst AreNarrow
-    (sym (row_is number range degree c.args.k c.degree.result (c.in_ok-push.ensures.items ∙ ap (λ (xs : List ℤ). xs ++ pos 0 ∷ []) c.new-entries.ensures.items)
-    c.in_ok-push_numbers.ensures c.in_ok-push_unit.ensures c.degree.ensures c.in_ok-push-2.ensures.items
+    (sym (row_is number range degree c.args.k c.degree-2.result (c.in_ok-push.ensures.items ∙ ap (λ (xs : List ℤ). xs ++ pos 0 ∷ []) c.in_ok-entries.ensures.items)
+    c.in_ok-push_numbers.ensures c.in_ok-push_unit.ensures c.degree-2.ensures c.in_ok-push-2.ensures.items
     (to_z-of_z w64 c.number.result (record { sfits = c.number.type_inv }) ∙ c.number.ensures.value)))
     (narrow-opening_row number range degree c.args.k (λ i l. g.met.S.Scheme.small s c.args.k i c.requires.row l) c.requires.range)
 
@@ -33,7 +33,7 @@ pub returns : goal.returns
 returns g c =
     let s = c.args.scheme.now in
     c.from_vec.ensures
-    ∙ row_is (g.S.Scheme.number s) c.args.range.now (g.S.Scheme.degree s) c.args.k c.degree.result
-    (c.in_ok-push.ensures.items ∙ ap (λ (xs : List ℤ). xs ++ pos 0 ∷ []) c.new-entries.ensures.items)
-    c.in_ok-push_numbers.ensures c.in_ok-push_unit.ensures c.degree.ensures c.in_ok-push-2.ensures.items
+    ∙ row_is (g.S.Scheme.number s) c.args.range.now (g.S.Scheme.degree s) c.args.k c.degree-2.result
+    (c.in_ok-push.ensures.items ∙ ap (λ (xs : List ℤ). xs ++ pos 0 ∷ []) c.in_ok-entries.ensures.items)
+    c.in_ok-push_numbers.ensures c.in_ok-push_unit.ensures c.degree-2.ensures c.in_ok-push-2.ensures.items
     (to_z-of_z w64 c.number.result (record { sfits = c.number.type_inv }) ∙ c.number.ensures.value)

@@ -1,5 +1,6 @@
 -- Euclid's algorithm finds the greatest common divisor.
-use Rattle.std.proofs.Common.{◌≡◌, ◌%◌, ◌<◌, ◌^◌, arith}
+use Rattle.std.proofs.Common.{◌≡◌, ◌%◌, ◌<◌, ◌^◌, subst, arith}
+use Rattle.std.specs.Int.{IsGcd}
 use Rattle.std.proofs.lemmas.Nat.Gcd.{IsGcd-from_zero, IsGcd-from_mod, same_from_IsGcd}
 use Rattle.ct_finder_run.specs.Divisor.{gcd as gcd_of_both}
 use Rattle.ct_finder_run.proofs.Divisors.{gcd-is}
@@ -7,8 +8,8 @@ use Rattle.ct_tableau.proofs.arithmetic.gcd.Goals as goal
 
 pub loop-rest-preserved : goal.loop-rest-preserved
 loop-rest-preserved c = (
-  (λ g h. c.loop-rest.invariant.0 g (IsGcd-from_mod _ _ g h)),
-  (λ p q. let both = c.loop-rest.invariant.1 p q in (both.1, omega (arith, both.1))),
+  (λ g h. c.loop-rest.invariant.0 g (IsGcd-from_mod _ _ g (subst (λ m. IsGcd c.loop-rest.rest m g) c.remainder-next.ensures h))),
+  (λ p q. let both = c.loop-rest.invariant.1 p q in (both.1, omega (arith, both.1, c.remainder-next.ensures))),
 )
 
 pub returns-clause-value : goal.returns-clause-value
