@@ -3,3 +3,6 @@ pub mod Existence
 mod EntryLemmas
 mod ReplyLemmas
 mod FoundLemmas
+pub mod FoundDuals
+pub mod FindIds
+pub mod Accepted

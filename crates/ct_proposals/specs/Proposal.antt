@@ -8,6 +8,7 @@ use Rattle.ct_evidence.specs.declared.evidence.Evidence.{Evidence}
 use Rattle.ct_evidence.specs.declared.evidence.Evidence.TheVariants as evidence
 use Rattle.ct_files.specs.Evidence.{read_without_limit}
 use Rattle.ct_ledger.specs.Dump.{line_count}
+use Rattle.ct_ledger.specs.Piece.{PieceValue}
 use Rattle.ct_finder_run.specs.Run.{End}
 use Rattle.ct_finder.specs.Found.{bound_of, dual_of, end_of_run, least_dual, stop_of}
 use Rattle.ct_finder.specs.declared.found.Stop.{Stop}
@@ -69,3 +70,7 @@ IsProposal e d bound stop text =
 abbrev pub AnswersEntry : Entry → Option Dual → List ℕ → Type 0
 AnswersEntry e None text = text ≡ codes "none" ++ LINE_FEED ∷ []
 AnswersEntry e (Some d) text = IsProposal e d (bound_of d) (stop_of MAX_TURNS (run_for e)) text
+
+-- the piece that a document makes, submitted under the id of the entry, which reads as this dual
+abbrev pub proposed_piece : Entry → Dual → List ℕ → PieceValue
+proposed_piece e d document = record { id = find_id e; document = document; evidence = dual_evidence e.w d; entry = e; size = None }

@@ -2,9 +2,11 @@
 #![tactic(auto)]
 
 mod found;
+mod laws;
 mod proposal;
 mod reply;
 mod source;
 
 pub use found::MAX_TURNS;
+pub use laws::{found_duals_bound_codes, proposals_are_accepted};
 pub use source::find_source;
