@@ -8,17 +8,17 @@ use Rattle.ct_proposals.specs.Proposal.{found_dual, run_for}
 use Rattle.ct_proposals.proofs.FoundLemmas.{plain-is, weighted-is, weighted-run, weighted-stop}
 use Rattle.ct_proposals.proofs.found.found_for.Goals as goal
 
-pub returns-in_ok-find-in-None-clause-dual : goal.returns-in_ok-find-in-None-clause-dual
+pub returns-in_ok-plain_found_for-in-None-clause-dual : goal.returns-in_ok-plain_found_for-in-None-clause-dual
 unfolding run_for
-returns-in_ok-find-in-None-clause-dual c =
+returns-in_ok-plain_found_for-in-None-clause-dual c =
     let none : c.args.entry.w ≡ None = search rules in
-    ap Some c.in_ok-find-in-None.ensures.dual ∙ sym (ap found_dual (plain-is c.args.entry none))
+    ap Some c.in_ok-plain_found_for-in-None.ensures.dual ∙ sym (ap found_dual (plain-is c.args.entry none))
 
-pub returns-in_ok-find-in-None-clause-stop : goal.returns-in_ok-find-in-None-clause-stop
+pub returns-in_ok-plain_found_for-in-None-clause-stop : goal.returns-in_ok-plain_found_for-in-None-clause-stop
 unfolding run_for
-returns-in_ok-find-in-None-clause-stop c =
+returns-in_ok-plain_found_for-in-None-clause-stop c =
     let none : c.args.entry.w ≡ None = search rules in
-    c.in_ok-find-in-None.ensures.stop ∙ sym (ap (λ (e : Entry). stop_of MAX_TURNS (run_for e)) (plain-is c.args.entry none))
+    c.in_ok-plain_found_for-in-None.ensures.stop ∙ sym (ap (λ (e : Entry). stop_of MAX_TURNS (run_for e)) (plain-is c.args.entry none))
 
 pub returns-in-Some-clause-dual : goal.returns-in-Some-clause-dual
 returns-in-Some-clause-dual c =
