@@ -39,7 +39,7 @@ abbrev ArePrinted : List ℕ → Type 0
 ArePrinted bytes = All (λ b. 31 < b) bytes
 
 -- digits are visible, and so are the bytes of an id
-visible_decimal : (n : ℕ) → n < 2 ^ 64 → AreVisible (decimal n)
+pub visible_decimal : (n : ℕ) → n < 2 ^ 64 → AreVisible (decimal n)
 visible_decimal n small = decimal_by_steps (λ (m : ℕ) (ds : List ℕ). AreVisible ds) (λ m below. All-cons (λ b. 32 < b) (48 + m) [] (omega arith) (All-nil (λ b. 32 < b)))
     (λ m ds above h. All-push (λ b. 32 < b) ds (48 + m % 10) h (omega arith)) n small
 

@@ -1,5 +1,5 @@
 -- The dump of pieces that stand leads to them.
-use Rattle.std.proofs.Common.{◌≡◌, ◌≢◌, ℕ, ◌^◌, ◌<◌, ◌≤◌, Bool, true, false, cond, not, List, [], ◌∷◌, ◌++◌, map, length, Option, Some, None, Result, Ok, Err, refl, sym, subst, ap, ◌∙◌, append_assoc, append-nil, length-append, arith}
+use Rattle.std.proofs.Common.{◌≡◌, ℕ, ◌^◌, ◌<◌, ◌≤◌, Bool, true, false, cond, not, List, [], ◌∷◌, ◌++◌, map, length, Option, Some, None, Result, Ok, Err, refl, sym, subst, ap, ◌∙◌, append_assoc, append-nil, length-append, arith}
 use Rattle.std.proofs.Math.ListN.{get_or-append}
 use Rattle.std.proofs.Math.Seq.{get_or-append_seam}
 use Rattle.std.specs.Prelude.{All, fold}
@@ -77,7 +77,7 @@ made_again front p back h short =
     }
 
 -- submitting pieces that stand after others brings them back
-brought_back : (front back : List PieceValue) → AreStanding (front ++ back) → AreShort back → fold pieces_after front (map submission_of back) ≡ front ++ back
+pub brought_back : (front back : List PieceValue) → AreStanding (front ++ back) → AreShort back → fold pieces_after front (map submission_of back) ≡ front ++ back
 brought_back front [] h short = sym (append-nil front)
 brought_back front (p ∷ back) h short =
     ap (λ (made : Result PieceValue SubmitFault). fold pieces_after (with_piece front made) (map submission_of back)) (submitted-from front p.id p.document p (made_again front p back h (AreShort-head p back short)))
@@ -89,7 +89,7 @@ abbrev IsNamed : PieceValue → Type 0
 IsNamed p = is_id p.id ≡ true
 
 -- the dump of a piece is a submission
-piece_dump-command : (p : PieceValue) (rest : List ℕ) → length p.document ≤ MAX_DOCUMENT → IsNamed p → commands_of (lines_of (piece_dump p ++ rest)) ≡ submission_of p ∷ commands_of (lines_of rest)
+pub piece_dump-command : (p : PieceValue) (rest : List ℕ) → length p.document ≤ MAX_DOCUMENT → IsNamed p → commands_of (lines_of (piece_dump p ++ rest)) ≡ submission_of p ∷ commands_of (lines_of rest)
 piece_dump-command p rest short named =
     let feeds = count_by-le-length is_feed p.document in
     let some : 0 < line_count p.document = omega arith in
@@ -142,11 +142,15 @@ texts_of : (pieces : List PieceValue) → flat_map acceptance_text pieces ≡ fl
 texts_of [] = refl
 texts_of (p ∷ pieces) = ap (λ t. acceptance_text p ++ t) (texts_of pieces)
 
+-- submissions of pieces that stand are answered by their acceptances
+pub submissions_are_accepted : (pieces : List PieceValue) → AreStanding pieces → AreShort pieces → AnswersCommands [] (map submission_of pieces) (flat_map acceptance_text pieces) false
+submissions_are_accepted pieces h short =
+    record { replies = map acceptance pieces; are = accepted_again [] pieces h short; texts = texts_of pieces; mark = none_refused pieces }
+
 -- the dump of pieces that stand is accepted, piece by piece
 pub dump_is_accepted : (pieces : List PieceValue) → AreStanding pieces → AreShort pieces → IsRun (dump_text pieces) (flat_map acceptance_text pieces) false
 dump_is_accepted pieces h short =
-    subst (λ (cs : List Command). AnswersCommands [] cs (flat_map acceptance_text pieces) false) (sym (dump_text-commands pieces h short))
-    (record { replies = map acceptance pieces; are = accepted_again [] pieces h short; texts = texts_of pieces; mark = none_refused pieces })
+    subst (λ (cs : List Command). AnswersCommands [] cs (flat_map acceptance_text pieces) false) (sym (dump_text-commands pieces h short)) (submissions_are_accepted pieces h short)
 
 -- a submission leaves documents within the limit
 with_piece-short : (pieces : List PieceValue) (id document : List ℕ) (made : Result PieceValue SubmitFault) → submitted pieces id document ≡ made → AreShort pieces → AreShort (with_piece pieces made)

@@ -6,5 +6,6 @@ mod Columns
 mod DumpCommands
 mod DumpHeadings
 mod DumpPieces
+mod ProposedPieces
 mod VerifiedReplies
 mod FirstFailures

@@ -1,6 +1,5 @@
 -- Bounds that one line explains, and pieces that no line needs.
-use Rattle.std.proofs.Common.{◌≡◌, ℕ, Option, None, List, [], ◌∷◌, ◌++◌, ◌+◌, ◌<◌, length, refl, subst, sym, ap, arith}
-use Rattle.std.specs.Prelude.{Contains}
+use Rattle.std.proofs.Common.{◌≡◌, ℕ, Option, None, [], ◌∷◌, length, refl, ap, arith}
 use Rattle.std.specs.List.{cons_option}
 use Rattle.ct_codes.specs.declared.entry.Entry.{Entry}
 use Rattle.ct_codes.specs.declared.claim.Side.{Side}

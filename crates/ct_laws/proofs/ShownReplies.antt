@@ -1,5 +1,5 @@
 -- Replies over the same pieces, beside each other.
-use Rattle.std.proofs.Common.{◌≡◌, ℕ, List, All, length, Option, Some, None, refl, sym, subst, ◌∙◌}
+use Rattle.std.proofs.Common.{◌≡◌, ℕ, List, All, length, Option, Some, None, sym, subst, ◌∙◌}
 use Rattle.ct_codes.specs.declared.entry.Entry.{Entry}
 use Rattle.ct_codes.specs.Claim.{IsTrueClaim}
 use Rattle.ct_codes.specs.Code.{CodeValue, IsSoundCode}

@@ -1,5 +1,5 @@
 -- The word of length 4 and weight 0, as a code.
-use Rattle.std.proofs.Common.{◌≡◌, ℕ, ◌<◌, List, [], ◌∷◌, Some, refl, arith}
+use Rattle.std.proofs.Common.{◌≡◌, ◌<◌, [], ◌∷◌, Some, refl, arith}
 use Rattle.std.proofs.lemmas.List.Elements.{All-nil, All-cons}
 use Rattle.ct_codes.specs.Code.{CodeValue}
 use Rattle.ct_words.specs.Word.{weight}
