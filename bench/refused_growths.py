@@ -5,9 +5,10 @@
 
 PROGRAM is a built code_tables. A small C library, which is compiled here, is loaded before it: it counts what asks the system for memory
 (malloc, calloc, realloc, aligned_alloc, posix_memalign), and gives nothing at one place, or from one place on. The program runs a session
-with each kind of document and each command, a derivation that it verifies, and the command lines that are refused. Each run has to end as the
-run without a refusal, with the same output, or with the status 6 and a prefix of that output. Prints how many runs did which, and ends with 1
-where one did neither. Places of a session are many: --places tries some of them. Wants cc."""
+with each kind of document and each command, derivations that it verifies or doesn't, entries of `find`, a sample, and command lines that are
+refused. Each run has to end as the run without a refusal, with the same output, or with the status 6 and a prefix of that output. Prints how many
+runs did which, and ends with 1 where one did neither. Places of a session are many: --places tries some of them. A mode that the program doesn't
+have yet is passed over. Wants cc."""
 
 import argparse
 import collections
@@ -19,7 +20,7 @@ import tempfile
 from pathlib import Path
 
 TOP = Path(__file__).resolve().parent.parent
-MEMORY = 6
+USAGE, MEMORY = 2, 6
 
 SHIM = r"""
 #define _GNU_SOURCE
@@ -134,11 +135,14 @@ MODES = [
     (["session"], session()),
     (["verify"], "derivation\nline 1 lower 3 4 value 1 by L1\nline 2 lower 6 4 value 4 by L8 from 1\nline 3 lower 5 3 value 4 by L6 from 2\ndone\n"),
     (["verify"], "derivation\nevidence d13\n" + DUALS.split("end\n")[0].removeprefix("submit d13\n") + "end\nline 1 upper 13 6 value 32 by U11 d13\ndone\n"),
-    (["find"], "16 6\n8 4 4\n40 4\nfoo\n"),
-    (["sample", "--number", "9"], ""),
+    (["verify"], "derivation\nevidence a\nkind = 'dual'\nn = 13\nd = 6\nc = [1]\nend\nline 1 lower 3 4 value 1 by L1\ndone\n"),
+    (["find"], "16 6\n8 4 4\n6 6\n40 4\nfoo\n"),
+    (["sample", "--number", "3"], ""),
     (["tables"], ""),
     ([], ""),
 ]
+# Words that are no command in any case.
+NO_COMMANDS = (["tables"], [])
 
 
 class Trial:
@@ -148,13 +152,15 @@ class Trial:
         self.command = [*shlex.split(program), *words]
         self.library, self.input, self.told = library, folder / "input", folder / "told"
         self.input.write_text(text)
+        self.said = b""
 
     def run(self, at=0, on=False):
-        """The status, the output and how many places asked for memory."""
+        """The status, the output and how many places asked for memory; keeps what was said on standard error."""
         more = {"LD_PRELOAD": str(self.library), "REFUSE_AT": str(at)} | ({"REFUSE_ON": "1"} if on else {})
         with open(self.input, "rb") as source, open(self.told, "wb") as told:
             more["REFUSE_TELL"] = str(told.fileno())
             ended = subprocess.run(self.command, stdin=source, capture_output=True, pass_fds=(told.fileno(),), env=os.environ | more, timeout=600)
+        self.said = ended.stderr
         return ended.returncode, ended.stdout, int(self.told.read_bytes() or 0)
 
 
@@ -178,6 +184,9 @@ def main():
         for words, text in MODES:
             trial = Trial(options.program, library, words, text, folder)
             status, output, count = trial.run()
+            if status == USAGE and words not in NO_COMMANDS:
+                print(f"{' '.join(words)}: no command of this program, passed over", flush=True)
+                continue
             ends = collections.Counter()
             for on in (False, True):
                 for at in places(count, options):

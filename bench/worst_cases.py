@@ -266,10 +266,11 @@ def thousand_pieces(part):
 
 
 def long_ids(part):
-    """A thousand ids that share their first bytes, and a thousand looks for one."""
-    ids = [f"{'a' * 28}{i:04d}" for i in range(1000)]
+    """A thousand ids of 32 bytes that share the first 30, 38 of them 31 as so many may, and looks for one that shares 31 with these."""
+    letters = "abcdefghijklmnopqrstuvwxyz0123456789-_"
+    ids = [f"{'a' * 30}{x}{y}" for x in letters for y in letters][:1000]
     out = "".join(submit(name, words(10, 4, [i])) for i, name in enumerate(ids))
-    return out + f"withdraw {'a' * 28}9999\n" * (100000 // part)
+    return out + f"withdraw {'a' * 31}\n" * (100000 // part)
 
 
 def named_parts(part):
@@ -333,6 +334,38 @@ def derivation_of_premises(part):
     return filled(LIMIT // part, lambda i: "line 1 lower 4 4 value 2 by L2\n" if i == 0 else f"line {i + 1} lower 4 4 value 2 by L4 from {i}\n", "derivation\n", "done\n")
 
 
+def sum_class(n, w, r):
+    """How many subsets of w places of n have a sum of r modulo n."""
+    counts = [[0] * n for _ in range(w + 1)]
+    counts[0][0] = 1
+    for place in range(n):
+        for size in range(w, 0, -1):
+            for s in range(n):
+                counts[size][(s + place) % n] += counts[size - 1][s]
+    return counts[w][r]
+
+
+def derivation_of_sum_classes(part):
+    """Lines of the rule that counts most."""
+    line = f"line {{}} lower 28 4 14 value {sum_class(28, 14, 0)} by M9 0\n"
+    return filled(LIMIT // part, lambda i: line.format(i + 1), "derivation\n", "done\n")
+
+
+def full_columns(n, d, w):
+    """The least number of words, up to 1,000, that is too many (V8)."""
+    for m in range(2, 1001):
+        q, r = divmod(w * m, n)
+        if n * q * (q - 1) + 2 * q * r > (w - d // 2) * m * (m - 1):
+            return m
+    return 0
+
+
+def derivation_of_columns(part):
+    """Lines of the rule that tries most numbers of words."""
+    m, n, d, w = max((full_columns(n, d, w), n, d, w) for n in range(1, 29) for d in range(4, 29, 2) for w in range(d // 2, n + 1))
+    return filled(LIMIT // part, lambda i: f"line {i + 1} upper {n} {d} {w} value {m - 1} by V8\n", "derivation\n", "done\n")
+
+
 def derivation_of_long_line(part):
     return filled(LIMIT // part, " 1", "derivation\nline 1 lower 4 4 value 2 by L3 from", "\ndone\n")
 
@@ -344,6 +377,10 @@ def derivation_of_evidence(part):
 
 def all_finds(_):
     return "".join(f"{n} {d}\n" for n in range(1, 29) for d in range(3, 29))
+
+
+def finds_of(entry, count):
+    return lambda part: f"{entry}\n" * (count // part)
 
 
 # name: the mode, what makes it, whether half of it is measured, what it is about
@@ -387,7 +424,7 @@ CASES = {
     "jduals": ("session", greatest_johnson_duals, True, "1,000 duals of the Johnson scheme, refused"),
     "resting_duals": ("session", resting_duals, True, "900 duals, a code comes and goes 100 times"),
     "pieces": ("session", thousand_pieces, True, "1,000 pieces"),
-    "long_ids": ("session", long_ids, True, "ids that share 28 bytes, looked for 100,000 times"),
+    "long_ids": ("session", long_ids, True, "1,000 ids that share 30 and 31 bytes, one looked for 100,000 times"),
     "named_parts": ("session", named_parts, True, "499 builds over a piece that is withdrawn in vain 20,000 times"),
     "withdrawals": ("session", withdrawals, True, "1,000 pieces come, and go"),
     "comes_and_goes": ("session", great_code_comes_and_goes, True, "Golay's code comes and goes 200 times"),
@@ -399,11 +436,21 @@ CASES = {
     "explain_over_many": ("session", explain_over_many, True, "1,120 explanations over 1,000 pieces"),
     "derivation_of_lines": ("verify", derivation_of_lines, True, "64 MiB of lines without premises"),
     "derivation_of_premises": ("verify", derivation_of_premises, True, "64 MiB of lines that rest on the one before"),
+    "derivation_of_sum_classes": ("verify", derivation_of_sum_classes, True, "64 MiB of lines that each count a sum class"),
+    "derivation_of_columns": ("verify", derivation_of_columns, True, "64 MiB of lines that each try most numbers of words"),
     "derivation_of_long_line": ("verify", derivation_of_long_line, True, "one line of 64 MiB"),
     "derivation_of_evidence": ("verify", derivation_of_evidence, True, "64 MiB of evidence of 8,192 words each"),
     "finds": ("find", all_finds, False, "a dual for each entry without weight"),
+    "finds_of_length_28": ("find", finds_of("28 3", 1000), True, "a dual of A(28,3) 1,000 times"),
+    "finds_of_one_word": ("find", finds_of("1 3", 1000000), True, "a dual of A(1,3) a million times"),
+    "finds_with_weight": ("find", finds_of("28 4 14", 1000), True, "a dual of A(28,4,14) 1,000 times"),
+    "finds_of_none": ("find", repeated("a\n"), True, "64 MiB of lines that are no entry"),
     "sample": ("sample --number 2000", lambda _: "", False, "the greatest sample"),
 }
+
+
+# What is too long to be kept goes to /dev/null, and is not counted.
+TO_NOWHERE = {"lists"}
 
 
 # ---- runs
@@ -447,11 +494,11 @@ def measure(name, options, folder):
     """The row of an input, and what is wrong with it."""
     mode, make, has_half, about = CASES[name]
     command = [*shlex.split(options.program), *mode.split()]
-    source, sink, wrong = folder / "input", folder / "output", []
+    source, sink, wrong = folder / "input", Path("/dev/null") if name in TO_NOWHERE else folder / "output", []
     source.write_text(make(1))
     status, seconds, memory = least(command, source, sink, options.runs)
-    wrote, size = sink.stat().st_size, source.stat().st_size
-    cells = [about, f"{size:,}", str(status), f"{wrote:,}", f"{seconds:.2f} s", f"{memory / 1024:.1f} MB"]
+    wrote, size = "-" if name in TO_NOWHERE else f"{sink.stat().st_size:,}", source.stat().st_size
+    cells = [about, f"{size:,}", str(status), wrote, f"{seconds:.2f} s", f"{memory / 1024:.1f} MB"]
     if status < 0:
         wrong.append(f"{name}: ended by signal {-status}")
     if options.instructions:
