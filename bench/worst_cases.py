@@ -324,6 +324,30 @@ def explain_over_many(part):
     return thousand_pieces(1) + "".join(f"explain {side} {n} 4\n" for n in range(1, 29) for side in ("lower", "upper")) * (20 // part)
 
 
+def eight_pairs():
+    """Sixteen partitions, and a product of eight pairs of them, which is accepted."""
+    out, names = [], []
+    for i in range(8):
+        for side, weight in (("x", 2 * i), ("y", 14 - 2 * i)):
+            out.append(submit(f"{side}{'a' * 30}{i}", partition(14, 4, 4, [[(1 << weight) - 1]], weight)))
+        names.append([f"x{'a' * 30}{i}", f"y{'a' * 30}{i}"])
+    return "".join(out), f"kind = 'product'\nn = 28\nd = 4\nw = 14\npairs = {names}\n"
+
+
+def explain_over_products(part):
+    """Bounds explained over 984 products, each of which names sixteen ids."""
+    partitions, product = eight_pairs()
+    return partitions + "".join(submit(f"p{i}", product) for i in range(984)) + "explain lower 1 3\n" * (20 // part)
+
+
+def explain_great_documents(part):
+    """The octads as a build over the last of a chain of builds over the Golay code, each with a document of 3.5 MiB, and why there are so many."""
+    pad = "#" * (int(3.5 * 2 ** 20) // part) + "\n"
+    zero = f"by = '{text(0, 24)}'\n"
+    chain = "".join(submit(f"t{i}", build("translate", 24, 8, f"t{i - 1}", zero) + pad) for i in range(1, 16))
+    return submit("t0", cosets(24, 8, GOLAY) + pad) + chain + submit("octads", build("select", 24, 8, "t15", f"w = 8\n{zero}")) + "explain lower 24 8 8\n" * 4
+
+
 def derivation_of_lines(part):
     """A derivation of 64 MiB, of lines that rest on the one before."""
     pair = "line {} upper 28 3 value 268435456 by U0\n"
@@ -434,6 +458,8 @@ CASES = {
     "lists": ("session", lists, True, "`list 28 3` 100 times"),
     "explain_all": ("session", explain_all, True, "all 12,740 explanations over Golay's code"),
     "explain_over_many": ("session", explain_over_many, True, "1,120 explanations over 1,000 pieces"),
+    "explain_over_products": ("session", explain_over_products, True, "20 explanations over 984 products of 8 pairs"),
+    "explain_great_documents": ("session", explain_great_documents, True, "4 explanations with documents of 56 MiB"),
     "derivation_of_lines": ("verify", derivation_of_lines, True, "64 MiB of lines without premises"),
     "derivation_of_premises": ("verify", derivation_of_premises, True, "64 MiB of lines that rest on the one before"),
     "derivation_of_sum_classes": ("verify", derivation_of_sum_classes, True, "64 MiB of lines that each count a sum class"),

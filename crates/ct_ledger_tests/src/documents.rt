@@ -1,0 +1,87 @@
+//! The pieces with which calls are made.
+
+use crate::call::Call;
+
+/// An id, and the document of the piece that is stated under it.
+#[derive(Clone, Copy)]
+pub struct Stated<'a> {
+    pub id: &'a str,
+    pub document: &'a str,
+}
+
+const HEXA: Stated<'static> = Stated {
+    id: "hexa",
+    document: "kind='words'\nn=10\nd=6\nwords=['1111111111','1111000000','1000111000']",
+};
+
+const PARTITION: Stated<'static> = Stated {
+    id: "p4",
+    document: "kind='partition'\nn=4\nd=4\nd1=2\nclasses=[['0000','1111'],['0011','1100'],['0101','1010'],['0110','1001']]",
+};
+
+/// Pieces that stand from the beginning.
+pub const STANDING: [Stated<'static>; 4] = [
+    HEXA,
+    Stated {
+        id: "hamming",
+        document: "kind='cosets'\nn=6\nd=3\nbasis=['100011','010101','001110']\nrepresentatives=['000000']",
+    },
+    PARTITION,
+    Stated {
+        id: "k16",
+        document: "kind='dual'\nn=16\nd=6\neven=true\nc=[60,60,18,12,3]",
+    },
+];
+
+/// A piece of each kind, each of which betters bounds or may be a part: the Fano plane, the code of Nordstrom and Robinson, a partition, a code
+/// beside itself, a product, a dual without weight and one with a weight.
+pub const TRIED: [Stated<'static>; 7] = [
+    Stated {
+        id: "fano",
+        document: "kind='words'\nn=7\nd=4\nw=3\nwords=['1101000','0110100','0011010','0001101','1000110','0100011','1010001']",
+    },
+    Stated {
+        id: "nr",
+        document: "kind='cosets'\nn=16\nd=6\nbasis=['1111111111111111','0000000011111111','0000111100001111','0011001100110011','0101010101010101']\nrepresentatives=['0000000000000000','0001000100011110','0000010100111001','0000001101101010','0000011001011100','0001001001000111','0001010001110010','0001011100100100']",
+    },
+    Stated {
+        id: "q4",
+        document: "kind='partition'\nn=4\nd=4\nw=2\nd1=2\nclasses=[['0011','1100'],['0101','1010'],['0110','1001']]",
+    },
+    Stated {
+        id: "beside",
+        document: "kind='build'\nop='juxtapose'\nn=12\nd=6\npart='hamming'\nother='hamming'",
+    },
+    Stated {
+        id: "e8",
+        document: "kind='product'\nn=8\nd=4\npairs=[['p4','p4']]",
+    },
+    Stated {
+        id: "d13",
+        document: "kind='dual'\nn=13\nd=6\neven=true\nc=[5,1,1]\ny=[[10,16],[12,48]]",
+    },
+    Stated {
+        id: "j8",
+        document: "kind='jdual'\nn=8\nd=4\nw=4\nc=[48,21,4]",
+    },
+];
+
+/// Calls that are refused: the id stands, words are too near each other, no piece has the id, another piece names it.
+pub const REFUSED: [(Call, Stated<'static>); 4] = [
+    (Call::Submit, HEXA),
+    (
+        Call::Submit,
+        Stated {
+            id: "near",
+            document: "kind='words'\nn=10\nd=6\nwords=['1111111111','1111111100']",
+        },
+    ),
+    (
+        Call::Withdraw,
+        Stated {
+            id: "none",
+            document: "",
+        },
+    ),
+    (Call::Withdraw, PARTITION),
+];
