@@ -14,6 +14,30 @@ use crate::noted::Noted;
 use ct_ledger::Ledger;
 use std::io;
 
+/// Prints what is not as it was noted.
+fn tell_changes(rt: &(impl Print + AllocGlobal), noted: &Noted, ledger: &Ledger) -> io::Result<()> {
+    let now = Noted::of(rt.alloc(), ledger)?;
+    match noted.difference(&now) {
+        Some(place) => println!(rt; "{place} changed"),
+        None => Ok(()),
+    }
+}
+
+/// The answer, or that of the same call made again, where it is want of memory.
+fn without_want(
+    rt: &(impl Eprint + AllocGlobal),
+    ledger: &mut Ledger,
+    call: Call,
+    piece: Stated<'_>,
+    answer: Answer,
+) -> io::Result<Answer> {
+    if !matches!(answer, Answer::Memory) {
+        return Ok(answer);
+    }
+    eprintln!(rt; "{} {}: want of memory", call.name(), piece.id)?;
+    Ok(make(rt.alloc(), ledger, call, piece)?)
+}
+
 /// Makes the call, again where it wants memory, and prints its answer. Prints what changed by a call that is to change nothing.
 fn try_call(
     rt: &(impl Print + Eprint + AllocGlobal),
@@ -21,20 +45,14 @@ fn try_call(
     call: Call,
     piece: Stated<'_>,
 ) -> io::Result<()> {
-    let (alloc, name, id) = (rt.alloc(), call.name(), piece.id);
-    let noted = Noted::of(alloc, ledger)?;
-    let mut answer = make(alloc, ledger, call, piece)?;
-    if answer.is_fault()
-        && let Some(place) = noted.difference(&Noted::of(alloc, ledger)?)
-    {
-        println!(rt; "{name} {id}: {place} changed")?;
+    print!(rt; "{} {}: ", call.name(), piece.id)?;
+    let noted = Noted::of(rt.alloc(), ledger)?;
+    let answer = make(rt.alloc(), ledger, call, piece)?;
+    if answer.is_fault() {
+        tell_changes(rt, &noted, ledger)?;
     }
-    if let Answer::Memory = answer {
-        eprintln!(rt; "{name} {id}: want of memory")?;
-        answer = make(alloc, ledger, call, piece)?;
-    }
-    print!(rt; "{name} {id}: ")?;
-    answer.print(rt)
+    drop(noted);
+    without_want(rt, ledger, call, piece, answer)?.print(rt)
 }
 
 fn main(rt: HostRuntime) -> io::Result<()> {

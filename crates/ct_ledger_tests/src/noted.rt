@@ -1,7 +1,7 @@
 //! What is noted of a ledger: its pieces, its stored words, and its table.
 
 use ct_codes::{Claim, Entry, Side};
-use ct_ledger::Ledger;
+use ct_ledger::{Ledger, Piece};
 use ct_rules::Rule;
 use ct_table::Table;
 use ct_words::MAX_N;
@@ -29,6 +29,15 @@ struct NotedPiece {
     size: Option<u32>,
 }
 
+/// What is noted of a table.
+#[derive(Drop)]
+struct NotedTable {
+    bounds: Vec<Bound>,
+    lines: Vec<NotedLine>,
+    /// The lines that the lines rest on, in their order.
+    premises: Vec<usize>,
+}
+
 /// What is noted of a ledger.
 #[derive(Drop)]
 pub struct Noted {
@@ -37,10 +46,7 @@ pub struct Noted {
     pieces: Vec<NotedPiece>,
     stored: u64,
     supports: usize,
-    bounds: Vec<Bound>,
-    lines: Vec<NotedLine>,
-    /// The lines that the lines rest on, in their order.
-    premises: Vec<usize>,
+    table: NotedTable,
 }
 
 /// Notes the bounds of an entry, where it is in the table.
@@ -81,57 +87,92 @@ fn bounds_of(alloc: Global, table: &Table) -> Result<Vec<Bound>, AllocError> {
     Ok(bounds)
 }
 
+/// The lines of a table.
+fn lines_of(alloc: Global, table: &Table) -> Result<Vec<NotedLine>, AllocError> {
+    let mut lines = Vec::new(alloc);
+    let count = table.line_count();
+    lines.reserve(count)?;
+    for number in 0..count {
+        let line = table.line(number);
+        lines.push(NotedLine {
+            claim: line.claim,
+            rule: line.rule,
+            count: line.from.len(),
+        })?;
+    }
+    Ok(lines)
+}
+
+/// The numbers of the lines that the lines of a table rest on, in their order.
+fn premises_of(alloc: Global, table: &Table) -> Result<Vec<usize>, AllocError> {
+    let mut premises = Vec::new(alloc);
+    for number in 0..table.line_count() {
+        premises.extend_from_slice(table.line(number).from.as_slice())?;
+    }
+    Ok(premises)
+}
+
+/// The entries and the sizes of pieces.
+fn pieces_of(alloc: Global, pieces: &[Piece]) -> Result<Vec<NotedPiece>, AllocError> {
+    let mut noted = Vec::new(alloc);
+    for piece in pieces {
+        let (entry, size) = (piece.entry(), piece.size());
+        noted.push(NotedPiece { entry, size })?;
+    }
+    Ok(noted)
+}
+
+impl NotedTable {
+    /// What the table is. `Err` is want of memory.
+    fn of(alloc: Global, table: &Table) -> Result<NotedTable, AllocError> {
+        Ok(NotedTable {
+            bounds: bounds_of(alloc, table)?,
+            lines: lines_of(alloc, table)?,
+            premises: premises_of(alloc, table)?,
+        })
+    }
+
+    /// The first part in which a later note differs, where one does.
+    fn difference(&self, later: &NotedTable) -> Option<&'static str> {
+        if self.bounds != later.bounds {
+            return Some("a bound");
+        }
+        if self.lines != later.lines {
+            return Some("a line");
+        }
+        if self.premises != later.premises {
+            return Some("a premise");
+        }
+        None
+    }
+}
+
 impl Noted {
     /// What the ledger is. `Err` is want of memory.
     pub fn of(alloc: Global, ledger: &Ledger) -> Result<Noted, AllocError> {
-        let table = ledger.table();
-        let mut noted = Noted {
+        let table = NotedTable::of(alloc, ledger.table())?;
+        let pieces = pieces_of(alloc, ledger.pieces())?;
+        Ok(Noted {
             dump: ledger.dump(alloc)?,
-            pieces: Vec::new(alloc),
+            pieces,
             stored: ledger.stored(),
-            supports: table.supports().len(),
-            bounds: bounds_of(alloc, table)?,
-            lines: Vec::new(alloc),
-            premises: Vec::new(alloc),
-        };
-        for piece in ledger.pieces() {
-            let (entry, size) = (piece.entry(), piece.size());
-            noted.pieces.push(NotedPiece { entry, size })?;
-        }
-        noted.note_lines(table)?;
-        Ok(noted)
-    }
-
-    /// Notes the lines of the table.
-    fn note_lines(&mut self, table: &Table) -> Result<(), AllocError> {
-        let count = table.line_count();
-        self.lines.reserve(count)?;
-        for number in 0..count {
-            let line = table.line(number);
-            self.lines.push(NotedLine {
-                claim: line.claim,
-                rule: line.rule,
-                count: line.from.len(),
-            })?;
-            self.premises.extend_from_slice(line.from.as_slice())?;
-        }
-        Ok(())
+            supports: ledger.table().supports().len(),
+            table,
+        })
     }
 
     /// The first part in which a later note differs, where one does.
     pub fn difference(&self, later: &Noted) -> Option<&'static str> {
-        [
-            ("a document", self.dump == later.dump),
-            ("a size", self.pieces == later.pieces),
-            ("the stored words", self.stored == later.stored),
-            ("the supports", self.supports == later.supports),
-            ("a bound", self.bounds == later.bounds),
-            ("a line", self.lines == later.lines),
-            ("a premise", self.premises == later.premises),
-        ]
-        .into_iter()
-        .find(|(_, is_same)| !is_same)
-        .map(|(place, _)| place)
+        if self.dump != later.dump {
+            return Some("a document");
+        }
+        if self.pieces != later.pieces {
+            return Some("a size");
+        }
+        if self.stored != later.stored || self.supports != later.supports {
+            return Some("a number");
+        }
+        self.table.difference(&later.table)
     }
 
     /// How many pieces stand.
@@ -141,6 +182,6 @@ impl Noted {
 
     /// How many bounds the table has.
     pub fn bounds(&self) -> usize {
-        self.bounds.len()
+        self.table.bounds.len()
     }
 }
