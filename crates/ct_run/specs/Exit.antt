@@ -1,5 +1,5 @@
 -- Statuses: what they are of a session and of other modes, and the numbers with which the program ends.
-use Rattle.std.specs.Prelude.{ℕ, Bool, false, Result, Ok, Err}
+use Rattle.std.specs.Prelude.{ℕ, Bool, false, List, Option, Some, None, Result, Ok, Err, codes}
 use Rattle.ct_io.specs.declared.run_fault.RunFault.{RunFault}
 use Rattle.ct_io.specs.declared.run_fault.RunFault.TheVariants as run_fault
 use Rattle.ct_session.specs.declared.serve.ServeFault.{ServeFault}
@@ -17,6 +17,16 @@ status_number ReadFault = 3
 status_number WriteFault = 4
 status_number TooLong = 5
 status_number Memory = 6
+
+-- what is said of a run with the status, where it is broken off
+abbrev pub status_reason : Status → Option (List ℕ)
+status_reason Done = None
+status_reason Refused = None
+status_reason Usage = None
+status_reason ReadFault = Some (codes "a read failed")
+status_reason WriteFault = Some (codes "a write failed")
+status_reason TooLong = Some (codes "the input is longer than 67108864 bytes")
+status_reason Memory = Some (codes "out of memory")
 
 -- the status of a session that is broken off
 abbrev pub fault_status : ServeFault → Status

@@ -21,7 +21,8 @@ pub enum Status {
 
 impl Status {
     ghost use Rattle.std.specs.Prelude.{◌≡◌};
-    ghost use Rattle.ct_run.specs.Exit.{status_number};
+    ghost use Rattle.std.specs.Option.{option_copied};
+    ghost use Rattle.ct_run.specs.Exit.{status_number, status_reason};
 
     /// The number with which the program ends: 0 for `Done`, and 1 to 6 for the others in their order.
     pub fn number(self) -> u8
@@ -35,6 +36,19 @@ impl Status {
             Status::WriteFault => 4,
             Status::TooLong => 5,
             Status::Memory => 6,
+        }
+    }
+
+    /// What is said of a run that ends so, where it is broken off.
+    pub fn reason(self) -> Option<&'static str>
+        ensures { option_copied result ≡ status_reason self }
+    {
+        match self {
+            Status::Done | Status::Refused | Status::Usage => None,
+            Status::ReadFault => Some("a read failed"),
+            Status::WriteFault => Some("a write failed"),
+            Status::TooLong => Some("the input is longer than 67108864 bytes"),
+            Status::Memory => Some("out of memory"),
         }
     }
 }
