@@ -22,9 +22,10 @@ fn command_line(rt: &HostRuntime) -> Result<Vec<String>, AllocError> {
     }
 }
 
-fn main(rt: HostRuntime) -> ExitCode {
-    let Ok(words) = command_line(&rt) else {
-        return ExitCode::from(Status::Memory.number());
+/// Runs the program on its command line, standard input and standard output.
+fn run_on_devices(rt: &HostRuntime) -> Status {
+    let Ok(words) = command_line(rt) else {
+        return Status::Memory;
     };
     let mut source = StdSource {
         inner: rt.stdin(),
@@ -34,6 +35,14 @@ fn main(rt: HostRuntime) -> ExitCode {
         inner: rt.stdout(),
         faults: 0,
     };
-    let status = run(rt.alloc(), after_name(&words), &mut source, &mut sink);
+    run(rt.alloc(), after_name(&words), &mut source, &mut sink)
+}
+
+fn main(rt: HostRuntime) -> ExitCode {
+    let status = run_on_devices(&rt);
+    if let Some(reason) = status.reason() {
+        // Where standard error fails too, the status alone tells.
+        let _ = eprintln!(rt; "code_tables: {reason}");
+    }
     ExitCode::from(status.number())
 }
