@@ -1,12 +1,11 @@
 -- The entries of p · R - r · P, and greatest common divisors of rows.
-use Rattle.std.proofs.Common.{◌≡◌, ℕ, ◌+◌, ◌*◌, ◌<◌, ◌≤◌, ◌^◌, List, [], ◌∷◌, map, length, get_or, drop, refl, sym, ap, ap₂, ◌∙◌, arith}
+use Rattle.std.proofs.Common.{◌≡◌, ℕ, ◌+◌, ◌<◌, List, [], ◌∷◌, length, get_or, drop, refl, sym, ap, ◌∙◌, arith}
 use Rattle.std.specs.Prelude.{zip, fold, ℤ, pos, ◌*ℤ◌, ◌-ℤ◌, unsigned_abs}
-use Rattle.std.specs.Int.{IsGcd}
 use Rattle.std.proofs.lemmas.List.{length-map, get_or-map, drop_more}
 use Rattle.std.proofs.lemmas.Slice.Zip.{length-zip, get_or-zip}
 use Rattle.std.proofs.lemmas.Nat.Gcd.{same_from_IsGcd, dvd_refl, dvd_of_mod-eq-zero}
-use Rattle.ct_finder_run.specs.Divisor.{gcd, gcd_of}
-use Rattle.ct_finder_run.specs.Turn.{at, crossed}
+use Rattle.ct_finder_run.specs.Divisor.{gcd}
+use Rattle.ct_finder_run.specs.Turn.{crossed}
 use Rattle.ct_finder_run.proofs.Divisors.{gcd-is}
 
 pub length-crossed : (p r : ℤ) (pivot row : List ℤ) → length row ≡ length pivot → length (crossed p r pivot row) ≡ length row

@@ -1,6 +1,6 @@
 -- The entering column, place by place.
 use Rattle.std.proofs.Common.{◌≡◌, ℕ, zero, suc, ◌+◌, ◌<◌, ◌≤◌, Bool, true, false, ◌&&◌, cond, List, [], ◌∷◌, ◌++◌, map, length, get_or, refl, sym, ap, ap₂, ◌∙◌, arith, append_assoc, length-append, inl, inr}
-use Rattle.std.specs.Prelude.{zip, ℤ, pos, int_lt, Option, Some, None, position}
+use Rattle.std.specs.Prelude.{zip, ℤ, pos, int_lt, Some, None, position}
 use Rattle.std.specs.List.{All, position_or_len}
 use Rattle.std.proofs.lemmas.Bool.{lt-ltb, le-ltb, and_right, and_left, cases_lt}
 use Rattle.std.proofs.lemmas.List.{get_or_append_left}

@@ -1,5 +1,5 @@
 -- A turn leaves a tableau that is ready for the next.
-use Rattle.std.proofs.Common.{◌≡◌, ℕ, ◌<◌, ◌≤◌, length, map, set, get_or, [], sym, ap, ◌∙◌, arith, subst}
+use Rattle.std.proofs.Common.{◌≡◌, ℕ, ◌<◌, length, map, get_or, [], sym, ap, ◌∙◌, arith, subst}
 use Rattle.std.proofs.lemmas.List.{length-map, length-set}
 use Rattle.ct_finder_run.specs.Turn.{turned_row, turned}
 use Rattle.ct_finder_run.specs.Sum.{HasWidth}

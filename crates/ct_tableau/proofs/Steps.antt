@@ -1,6 +1,6 @@
 -- A run by its next step.
-use Rattle.std.proofs.Common.{◌≡◌, ℕ, zero, suc, List, refl, sym, ap, ◌∙◌}
-use Rattle.std.specs.Prelude.{Option, Some, None, ℤ}
+use Rattle.std.proofs.Common.{◌≡◌, ℕ, suc, List, ap}
+use Rattle.std.specs.Prelude.{Some, None}
 use Rattle.ct_finder_run.specs.Column.{Column, Tableau}
 use Rattle.ct_finder_run.specs.Turn.{entering}
 use Rattle.ct_finder_run.specs.Run.{End, Step, step, run, last_end}

@@ -1,6 +1,6 @@
 -- The rows after a turn, one after the other.
-use Rattle.std.proofs.Common.{◌≡◌, ℕ, ◌+◌, ◌<◌, ◌≤◌, false, cond, List, [], ◌∷◌, ◌++◌, map, set, length, get_or, take, drop, refl, sym, ap, ap₂, ◌∙◌, arith, append-nil}
-use Rattle.std.specs.Prelude.{find, flat_map, ℤ, pos, Option, Some, None, All, ◌≢◌}
+use Rattle.std.proofs.Common.{◌≡◌, ℕ, ◌+◌, ◌<◌, false, cond, List, [], ◌∷◌, ◌++◌, map, set, length, get_or, take, drop, refl, sym, ap, ap₂, ◌∙◌, arith, append-nil}
+use Rattle.std.specs.Prelude.{find, flat_map, ℤ, Some, None, ◌≢◌}
 use Rattle.std.specs.Option.{option_or}
 use Rattle.std.proofs.lemmas.List.{take_more, drop_more, length-map, length-set, get_or-map, get_or-set_same, get_or-set_other, take-append-drop, set-get_or}
 use Rattle.std.proofs.lemmas.List.Elements.{All-head, All-tail}

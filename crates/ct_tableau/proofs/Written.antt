@@ -1,6 +1,6 @@
 -- Lists that are written over from the front on, and the first element that passes a test.
 use Rattle.std.proofs.Common.{◌≡◌, ℕ, ◌+◌, ◌<◌, ◌≤◌, Bool, true, false, cond, List, [], ◌∷◌, ◌++◌, length, get_or, take, drop, set, refl, sym, ap, ap₂, ◌∙◌, arith, take_all}
-use Rattle.std.specs.Prelude.{find, Option, Some, None}
+use Rattle.std.specs.Prelude.{find, Some, None}
 use Rattle.std.specs.Option.{option_or}
 use Rattle.std.proofs.lemmas.List.{take_more, take_more_set, drop_more, drop-set-lt, get_or-drop, take-append-drop}
 use Rattle.std.proofs.lemmas.List.Folds.{find-append}

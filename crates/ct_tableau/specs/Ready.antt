@@ -1,5 +1,5 @@
 -- A tableau as the definitions see it, and what a turn needs of it.
-use Rattle.std.specs.Prelude.{◌≡◌, ℕ, ◌≤◌, List, length, Option, Some, None, ℤ}
+use Rattle.std.specs.Prelude.{◌≡◌, ◌≤◌, List, length, Option, Some, None, ℤ}
 use Rattle.ct_finder_run.specs.Column.{Tableau as TableauOf}
 use Rattle.ct_finder_run.specs.Run.{End, Step}
 use Rattle.ct_finder_run.specs.Run.End.{Least as LeastEnd, Turns as TurnsEnd, Wide as WideEnd}

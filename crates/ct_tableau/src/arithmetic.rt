@@ -23,11 +23,14 @@ pub(crate) fn cross(p: i64, x: i64, r: i64, y: i64) -> i128
     product(p, x) - product(r, y)
 }
 
-/// The greatest common divisor, by Euclid's algorithm.
+/// The greatest common divisor, by Euclid's algorithm; without a division where a is 0, as most entries are.
 pub(crate) fn gcd(a: u128, b: u128) -> u128
     ensures value { result ≡ gcd_of_both a b }
     ensures small { a < 2 ^ 127 → b < 2 ^ 127 → result < 2 ^ 127 }
 {
+    if a == 0 {
+        return b;
+    }
     let mut divisor = a;
     let mut rest = b;
     while rest != 0 {
@@ -54,7 +57,7 @@ pub(crate) fn quotient(z: i128, divisor: i128) -> i128
     requires { pos 1 ≤ℤ divisor }
     ensures { result ≡ int_div z divisor }
 {
-    if divisor == 1 {
+    if z == 0 || divisor == 1 {
         return z;
     }
     if is_wide(z) || is_wide(divisor) {

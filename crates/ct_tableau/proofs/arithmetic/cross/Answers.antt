@@ -1,6 +1,6 @@
 -- The difference of the two products fits.
-use Rattle.std.proofs.Common.{◌≡◌, ◌+◌, ◌-◌, ◌<◌, ◌≤◌, ◌^◌, ap₂, ◌∙◌, arith}
-use Rattle.std.specs.Prelude.{◌-ℤ◌, ◌*ℤ◌, unsigned_abs, FitsSigned}
+use Rattle.std.proofs.Common.{ap₂, arith}
+use Rattle.std.specs.Prelude.{◌-ℤ◌}
 use Rattle.std.proofs.lemmas.Int.{to_z-of_z, fits_signed_from_abs}
 use mir.Val.{SFits}
 use mir.Syntax.{w64, w128}

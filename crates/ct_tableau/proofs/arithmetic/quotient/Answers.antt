@@ -1,8 +1,7 @@
 -- A quotient by a positive number fits.
-use Rattle.std.proofs.Common.{◌≡◌, ◌<◌, sym, ap, arith}
-use Rattle.std.specs.Prelude.{pos, ℤ, ◌≤ℤ◌, ◌<ℤ◌, int_div, FitsSigned}
+use Rattle.std.proofs.Common.{arith}
 use Rattle.std.proofs.lemmas.Int.{ints, to_z-of_z, quot_fits}
-use mir.Val.{SFits, of_z}
+use mir.Val.{SFits}
 use mir.Syntax.{w128}
 use Rattle.ct_tableau.proofs.arithmetic.quotient.Goals as goal
 

@@ -1,7 +1,7 @@
 -- The first negative entry.
-use Rattle.std.proofs.Common.{rules, ◌≡◌, ◌+◌, ◌<◌, ◌≤◌, true, false, get_or, length, sym, arith, inl, inr, subst, ap, ◌∙◌}
-use Rattle.std.specs.Prelude.{ℤ, pos, int_lt}
-use Rattle.std.proofs.lemmas.Int.{ints, to_z-of_z}
+use Rattle.std.proofs.Common.{rules, ◌≡◌, false, get_or, sym, arith, inl, inr, ap, ◌∙◌}
+use Rattle.std.specs.Prelude.{pos, int_lt}
+use Rattle.std.proofs.lemmas.Int.{to_z-of_z}
 use Rattle.std.proofs.lemmas.Bool.{cases_lt}
 use mir.Val.{SFits}
 use mir.Syntax.{w64}

@@ -1,6 +1,6 @@
 -- The best of all rows.
-use Rattle.std.proofs.Common.{rules, ◌≡◌, ◌+◌, ◌<◌, ◌≤◌, true, false, length, sym, ap, ◌∙◌, arith, subst}
-use Rattle.std.specs.Prelude.{zip, IfSome, Some}
+use Rattle.std.proofs.Common.{◌≡◌, true, false, length, sym, ◌∙◌, arith, subst}
+use Rattle.std.specs.Prelude.{zip}
 use Rattle.std.proofs.lemmas.Slice.Zip.{length-zip}
 use Rattle.ct_tableau.specs.Inside.Pivot.{is_better}
 use Rattle.ct_tableau.proofs.Best.{IsBest, best-better, best-same, best-all}

@@ -1,14 +1,14 @@
 -- One more entry.
-use Rattle.std.proofs.Common.{rules, ◌≡◌, ◌+◌, ◌-◌, ◌<◌, ◌≤◌, ◌^◌, true, false, length, get_or, map, sym, ap, ◌∙◌, arith, take_all}
-use Rattle.std.specs.Prelude.{ℤ, pos, ◌*ℤ◌, ◌-ℤ◌, int_div, find, Some, None, unsigned_abs}
-use Rattle.std.proofs.lemmas.Int.{ints, to_z-of_z, fits_signed_from_abs}
+use Rattle.std.proofs.Common.{rules, ◌≡◌, ◌-◌, ◌<◌, ◌^◌, true, false, length, get_or, map, sym, ap, ◌∙◌, arith, take_all}
+use Rattle.std.specs.Prelude.{ℤ, pos, ◌*ℤ◌, ◌-ℤ◌, int_div, find, Some, unsigned_abs}
+use Rattle.std.proofs.lemmas.Int.{to_z-of_z, fits_signed_from_abs}
 use Rattle.std.proofs.lemmas.Bool.{ltb-false}
-use Rattle.std.proofs.lemmas.List.{length-map, get_or-map, drop_all}
+use Rattle.std.proofs.lemmas.List.{length-map, get_or-map}
 use Rattle.std.proofs.lemmas.List.Elements.{All-set}
 use mir.Val.{SFits}
 use mir.Syntax.{w64, w128}
 use Rattle.ct_finder_run.specs.Turn.{is_wide, crossed}
-use Rattle.ct_tableau.proofs.Written.{IsWritten, written-more, written-end, written-at, find-more, find-here}
+use Rattle.ct_tableau.proofs.Written.{written-more, written-end, written-at, find-more, find-here}
 use Rattle.ct_tableau.proofs.CrossedRows.{length-crossed, crossed-at}
 use Rattle.ct_tableau.proofs.row.divide_crossed.Goals as goal
 

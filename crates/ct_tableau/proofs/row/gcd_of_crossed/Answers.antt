@@ -1,6 +1,6 @@
 -- One more entry.
-use Rattle.std.proofs.Common.{rules, ◌≡◌, ◌+◌, ◌<◌, ◌≤◌, ◌^◌, drop, get_or, length, sym, ap, ◌∙◌, arith}
-use Rattle.std.specs.Prelude.{fold, ℤ, pos, unsigned_abs}
+use Rattle.std.proofs.Common.{rules, ◌≡◌, ◌+◌, ◌<◌, ◌^◌, drop, get_or, length, sym, ap, ◌∙◌, arith}
+use Rattle.std.specs.Prelude.{fold, pos, unsigned_abs}
 use Rattle.std.proofs.lemmas.Int.{to_z-of_z}
 use Rattle.std.proofs.lemmas.List.{drop_all}
 use mir.Val.{SFits}

@@ -1,11 +1,11 @@
 -- The row is divided by its divisor.
-use Rattle.std.proofs.Common.{rules, ◌≡◌, ◌<◌, length, get_or, map, sym, ap, ap₂, ◌∙◌, arith}
-use Rattle.std.specs.Prelude.{ℤ, pos, int_div, find, Some, None}
-use Rattle.std.proofs.lemmas.Int.{ints, to_z-of_z}
+use Rattle.std.proofs.Common.{rules, ◌≡◌, get_or, map, ap, ◌∙◌}
+use Rattle.std.specs.Prelude.{pos, int_div, find}
+use Rattle.std.proofs.lemmas.Int.{to_z-of_z}
 use mir.Val.{SFits}
 use mir.Syntax.{w64, w128}
 use Rattle.ct_finder_run.specs.Divisor.{divisor}
-use Rattle.ct_finder_run.specs.Turn.{is_wide, crossed, turned_row}
+use Rattle.ct_finder_run.specs.Turn.{is_wide, crossed}
 use Rattle.ct_tableau.proofs.row.turn_entries.Goals as goal
 
 pub returns-clause-wide : goal.returns-clause-wide

@@ -1,11 +1,11 @@
 -- One row more.
-use Rattle.std.proofs.Common.{rules, ℕ, refl, take_all, ◌≡◌, ◌+◌, ◌<◌, true, false, List, [], ◌∷◌, map, set, length, get_or, take, sym, ap, ◌∙◌, arith}
-use Rattle.std.specs.Prelude.{find, flat_map, ℤ, pos, Option, Some, None, All}
+use Rattle.std.proofs.Common.{ℕ, refl, take_all, ◌≡◌, ◌<◌, true, false, List, [], length, get_or, take, sym, ap, ◌∙◌, arith}
+use Rattle.std.specs.Prelude.{find, flat_map, ℤ, Option, Some, None}
 use Rattle.std.specs.Option.{is_some}
 use Rattle.std.proofs.lemmas.List.{get_or_default}
 use Rattle.std.proofs.lemmas.List.Elements.{All-get_or}
 use Rattle.ct_finder_run.specs.Turn.{is_wide, turned_row}
-use Rattle.ct_tableau.proofs.Written.{IsWritten, written-more, written-end, written-at}
+use Rattle.ct_tableau.proofs.Written.{written-more, written-at}
 use Rattle.ct_tableau.proofs.TurnedRows.{targets, length-targets, target-own, target-other, find-narrow, find-row_more, find-row_here, written-own}
 use Rattle.ct_tableau.proofs.tableau.turn_rows.Goals as goal
 use Rattle.ct_tableau.proofs.tableau.turn_rows.Goals.{then-i-place+else-is_some, else-i-place}

@@ -1,7 +1,7 @@
 -- The rows before i are turned, the others as they were, and no entry is wide.
-use Rattle.std.proofs.Common.{◌≡◌, take, map, set}
+use Rattle.std.proofs.Common.{◌≡◌, take}
 use Rattle.std.specs.Prelude.{find, flat_map, None, List, ℤ}
-use Rattle.ct_finder_run.specs.Turn.{is_wide, turned_row}
+use Rattle.ct_finder_run.specs.Turn.{is_wide}
 use Rattle.ct_tableau.proofs.Written.{IsWritten}
 use Rattle.ct_tableau.proofs.TurnedRows.{targets}
 use Rattle.ct_tableau.proofs.tableau.turn_rows.Given as goal

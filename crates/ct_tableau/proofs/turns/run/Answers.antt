@@ -1,9 +1,8 @@
 -- One step more, and the ends.
-use Rattle.std.proofs.Common.{rules, ◌≡◌, ◌+◌, ◌-◌, suc, ◌<◌, ◌≤◌, length, sym, ap, ap₂, ◌∙◌, arith}
-use Rattle.std.specs.Prelude.{Some, None}
+use Rattle.std.proofs.Common.{◌≡◌, ◌-◌, suc, length, sym, ap, ◌∙◌, arith}
 use Rattle.ct_finder_run.specs.Column.{columns}
 use Rattle.ct_finder_run.specs.Turn.{entering}
-use Rattle.ct_finder_run.specs.Run.{run, step}
+use Rattle.ct_finder_run.specs.Run.{step}
 use Rattle.ct_finder_run.specs.Run.Step.{goes}
 use Rattle.ct_tableau.specs.Ready.{seen, end_of, step_of}
 use Rattle.ct_tableau.proofs.Steps.{run-ended, run-goes, run-least, run-turns}

@@ -1,6 +1,6 @@
 -- The pivot entry is positive, and a turn leaves the tableau ready.
-use Rattle.std.proofs.Common.{rules, refl, ◌≡◌, ◌<◌, ◌≤◌, length, sym, ap, ap₂, ◌∙◌, arith}
-use Rattle.std.specs.Prelude.{Some, None}
+use Rattle.std.proofs.Common.{refl, ◌≡◌, length, sym, ap, ap₂, ◌∙◌, arith}
+use Rattle.std.specs.Prelude.{Some}
 use Rattle.ct_finder_run.specs.Turn.{pivot_row}
 use Rattle.ct_finder_run.proofs.Turns.{pivot_row-is}
 use Rattle.ct_tableau.specs.Ready.{seen}

@@ -1,10 +1,10 @@
 -- The rows, then the cost row.
-use Rattle.std.proofs.Common.{rules, ◌≡◌, ◌<◌, true, false, ◌++◌, List, [], map, set, length, get_or, sym, ap, ap₂, ◌∙◌, arith}
+use Rattle.std.proofs.Common.{◌≡◌, true, false, ◌++◌, List, [], get_or, sym, ap, ◌∙◌}
 use Rattle.std.specs.Prelude.{find, flat_map, ℤ, Option, Some, None}
 use Rattle.std.specs.Option.{is_some, option_or}
 use Rattle.std.proofs.lemmas.List.{get_or_default}
 use Rattle.std.proofs.lemmas.List.Folds.{find-append}
-use Rattle.ct_finder_run.specs.Turn.{is_wide, turned_row, first_wide, turned}
+use Rattle.ct_finder_run.specs.Turn.{is_wide, turned_row, turned}
 use Rattle.ct_tableau.specs.Ready.{seen}
 use Rattle.ct_tableau.proofs.TurnedRows.{targets}
 use Rattle.ct_tableau.proofs.tableau.Tableau.turn.Goals as goal
