@@ -6,9 +6,9 @@
 PROGRAM is a built code_tables. A small C library, which is compiled here, is loaded before it: it counts what asks the system for memory
 (malloc, calloc, realloc, aligned_alloc, posix_memalign), and gives nothing at one place, or from one place on. The program runs a session
 with each kind of document and each command, derivations that it verifies or doesn't, entries of `find`, a sample, and command lines that are
-refused. Each run has to end as the run without a refusal, with the same output, or with the status 6 and a prefix of that output. Prints how many
-runs did which, and ends with 1 where one did neither. Places of a session are many: --places tries some of them. A mode that the program doesn't
-have yet is passed over. Wants cc."""
+refused. Each run has to end as the run without a refusal, with the same output, or with the status 6, a prefix of that output and a line on
+standard error. Prints how many runs did which, and ends with 1 where one did neither. Places of a session are many: --places tries some of
+them. A mode that the program doesn't have yet is passed over. Wants cc."""
 
 import argparse
 import collections
@@ -21,6 +21,7 @@ from pathlib import Path
 
 TOP = Path(__file__).resolve().parent.parent
 USAGE, MEMORY = 2, 6
+SAID = b"code_tables: out of memory\n"
 
 SHIM = r"""
 #define _GNU_SOURCE
@@ -193,7 +194,7 @@ def main():
                     came, wrote, _ = trial.run(at, on)
                     if (came, wrote) == (status, output):
                         ends["whole"] += 1
-                    elif came == MEMORY and output.startswith(wrote):
+                    elif came == MEMORY and output.startswith(wrote) and trial.said == SAID:
                         ends["memory"] += 1
                     else:
                         ends["wrong"] += 1

@@ -355,7 +355,9 @@ def derivation_of_lines(part):
 
 
 def derivation_of_premises(part):
-    return filled(LIMIT // part, lambda i: "line 1 lower 4 4 value 2 by L2\n" if i == 0 else f"line {i + 1} lower 4 4 value 2 by L4 from {i}\n", "derivation\n", "done\n")
+    """Lines that each rest on the one before: zeros and ones exchanged at half weight is the same entry."""
+    first = "line 1 lower 28 4 14 value 1 by M1\n"
+    return filled(LIMIT // part, lambda i: f"line {i + 1} lower 28 4 14 value 1 by M7 from {i}\n" if i else first, "derivation\n", "done\n")
 
 
 def sum_class(n, w, r):
@@ -370,9 +372,9 @@ def sum_class(n, w, r):
 
 
 def derivation_of_sum_classes(part):
-    """Lines of the rule that counts most."""
+    """4 MiB of lines of the rule that counts most."""
     line = f"line {{}} lower 28 4 14 value {sum_class(28, 14, 0)} by M9 0\n"
-    return filled(LIMIT // part, lambda i: line.format(i + 1), "derivation\n", "done\n")
+    return filled(LIMIT // 16 // part, lambda i: line.format(i + 1), "derivation\n", "done\n")
 
 
 def full_columns(n, d, w):
@@ -462,7 +464,7 @@ CASES = {
     "explain_great_documents": ("session", explain_great_documents, True, "4 explanations with documents of 56 MiB"),
     "derivation_of_lines": ("verify", derivation_of_lines, True, "64 MiB of lines without premises"),
     "derivation_of_premises": ("verify", derivation_of_premises, True, "64 MiB of lines that rest on the one before"),
-    "derivation_of_sum_classes": ("verify", derivation_of_sum_classes, True, "64 MiB of lines that each count a sum class"),
+    "derivation_of_sum_classes": ("verify", derivation_of_sum_classes, True, "4 MiB of lines that each count a sum class"),
     "derivation_of_columns": ("verify", derivation_of_columns, True, "64 MiB of lines that each try most numbers of words"),
     "derivation_of_long_line": ("verify", derivation_of_long_line, True, "one line of 64 MiB"),
     "derivation_of_evidence": ("verify", derivation_of_evidence, True, "64 MiB of evidence of 8,192 words each"),
