@@ -1,5 +1,5 @@
 -- The places of items for which a test holds; and that the parts of pieces that stand are before them.
-use Rattle.std.proofs.Common.{◌≡◌, ◌≢◌, ℕ, zero, suc, ◌+◌, ◌<◌, Bool, true, false, ◌||◌, cond, List, [], ◌∷◌, ◌++◌, length, take, get_or, map, Option, Some, None, option_map, All, ◌↔◌, refl, sym, ap, subst, ◌∙◌, arith, append-nil}
+use Rattle.std.proofs.Common.{◌≡◌, ◌≢◌, ℕ, zero, suc, ◌+◌, ◌<◌, Bool, true, false, ◌||◌, cond, List, [], ◌∷◌, ◌++◌, length, take, get_or, Option, Some, None, option_map, All, ◌↔◌, refl, sym, ap, subst, ◌∙◌, arith, append-nil}
 use Rattle.std.specs.Prelude.{AllPairs, Contains, slice_get}
 use Rattle.std.specs.List.{list_any}
 use Rattle.std.specs.Str.{bytes_eq}
@@ -8,6 +8,7 @@ use Rattle.std.proofs.lemmas.List.{take_more, length-take-le}
 use Rattle.std.proofs.lemmas.Option.{slice_get-map, slice_get_within, get_or_from_slice_get}
 use Rattle.std.proofs.lemmas.Slice.Eq.{bytes_eq-Decides}
 use Rattle.ct_derive.specs.Pieces.{AreEarlier}
+use Rattle.ct_evidence.specs.declared.evidence.Evidence.{Evidence}
 use Rattle.ct_ledger.specs.Named.{is_known}
 use Rattle.ct_ledger.specs.Kind.{parts_of, names}
 use Rattle.ct_ledger.specs.Piece.{PieceValue, has_id}
@@ -55,6 +56,14 @@ place_passed test xs i x within is fails =
     sym
     (places-more test xs i x within is ∙ ap (λ (b : Bool). places_where test 0 (take i xs) ++ cond b (i ∷ []) []) fails
     ∙ append-nil (places_where test 0 (take i xs)))
+
+-- evidence without parts names none of the pieces
+pub no_places : (e : Evidence) (k : ℕ) (ps : List PieceValue) → parts_of e ≡ [] → places_where (λ q. names e q.id) k ps ≡ []
+no_places e k [] none = refl
+no_places e k (q ∷ ps) none =
+    let passed : names e q.id ≡ false = ap (list_any (λ part. bytes_eq part q.id)) none in
+    let rest = places_where (λ (r : PieceValue). names e r.id) (k + 1) ps in
+    ap (λ (b : Bool). cond b (k ∷ rest) rest) passed ∙ no_places e (k + 1) ps none
 
 -- what holds of each place at which the test holds
 pub All-places : {X : Type 0} (P : ℕ → Type 0) (test : X → Bool) (k : ℕ) (xs : List X)

@@ -1,15 +1,31 @@
 //! The parts of pieces, as places.
 
-ghost use Rattle.std.specs.Prelude.{◌≡◌, IfOk};
+ghost use Rattle.std.specs.Prelude.{◌≡◌, [], false, IfOk};
+ghost use Rattle.ct_ledger.specs.Kind.{parts_of};
 ghost use Rattle.ct_explain.specs.Parts.{part_places, parts_of_each};
 
 use ct_derive::Parts;
+use ct_evidence::Evidence;
 use ct_ledger::Piece;
 use smallvec::SmallVec;
 use std::alloc::{AllocError, Global};
 
-/// The places of the pieces that the piece names as its parts. `Err` is want of memory.
-fn part_places(alloc: Global, pieces: &[Piece], piece: &Piece) -> Result<Parts, AllocError>
+/// Whether the evidence is of a kind that names parts.
+fn may_have_parts(evidence: &Evidence) -> bool
+    ensures { result ≡ false → parts_of evidence.now ≡ [] }
+{
+    match evidence {
+        Evidence::Build { .. } | Evidence::Product { .. } => true,
+        Evidence::Words { .. }
+        | Evidence::Cosets { .. }
+        | Evidence::Partition { .. }
+        | Evidence::Dual(_)
+        | Evidence::JohnsonDual(_) => false,
+    }
+}
+
+/// The places of the pieces that the piece names, each of them looked at. `Err` is want of memory.
+fn named_places(alloc: Global, pieces: &[Piece], piece: &Piece) -> Result<Parts, AllocError>
     ensures { IfOk result (λ parts. parts ≡ part_places pieces.now piece.now) }
 {
     let mut places = SmallVec::new(alloc);
@@ -19,6 +35,16 @@ fn part_places(alloc: Global, pieces: &[Piece], piece: &Piece) -> Result<Parts, 
         }
     }
     Ok(Parts::new(places))
+}
+
+/// The places of the pieces that the piece names as its parts. `Err` is want of memory.
+fn part_places(alloc: Global, pieces: &[Piece], piece: &Piece) -> Result<Parts, AllocError>
+    ensures { IfOk result (λ parts. parts ≡ part_places pieces.now piece.now) }
+{
+    if !may_have_parts(piece.evidence()) {
+        return Ok(Parts::new(SmallVec::new(alloc)));
+    }
+    named_places(alloc, pieces, piece)
 }
 
 /// The places of the parts of each of the pieces. `Err` is want of memory.

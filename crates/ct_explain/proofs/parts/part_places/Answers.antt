@@ -1,22 +1,9 @@
-use Rattle.std.proofs.Common.{ℕ, ◌++◌, ◌∷◌, [], List, Bool, ap, sym, ◌∙◌}
-use Rattle.ct_ledger.specs.Kind.{names}
-use Rattle.ct_ledger.specs.Piece.{PieceValue}
-use Rattle.ct_explain.proofs.PartPlaces.{place_found, place_passed}
+use Rattle.std.proofs.Common.{◌∙◌, ap, sym}
+use Rattle.ct_ledger.specs.Kind.{parts_of}
+use Rattle.ct_explain.proofs.PartPlaces.{no_places}
 use Rattle.ct_explain.proofs.parts.part_places.Goals as goal
-use Rattle.ct_explain.proofs.parts.part_places.Goals.{then-names+in_ok-push, else-names}
 
-pub loop-place-preserved : goal.loop-place-preserved
-loop-place-preserved c =
-    let test = λ (q : PieceValue). names c.args.piece.now.evidence q.id in
-    let q = c.index-pieces-place.result in
-    let named = c.names.ensures ∙ ap (names c.args.piece.now.evidence) c.id.ensures in
-    elim c.if-names.branch [
-      | then-names+in_ok-push w ↦
-          rw (w.places-is, w.in_ok-push.ensures.ok)
-          (ap (λ (ps : List ℕ). ps ++ c.loop-place.place ∷ []) c.loop-place.invariant
-          ∙ place_found test c.args.pieces.now c.loop-place.place q c.loop-place-test.true c.index-pieces-place.is (sym named ∙ w.if-names.true))
-      | else-names w ↦
-          rw w.places-is
-          (c.loop-place.invariant
-          ∙ place_passed test c.args.pieces.now c.loop-place.place q c.loop-place-test.true c.index-pieces-place.is (sym named ∙ w.if-names.false))
-    ]
+pub returns-then-not-may_have_parts : goal.returns-then-not-may_have_parts
+returns-then-not-may_have_parts c =
+    let none = ap parts_of (sym c.evidence.ensures.evidence) ∙ c.may_have_parts.ensures c.if-not-may_have_parts.true in
+    c.new-then-not-may_have_parts.ensures ∙ c.new.ensures.items ∙ sym (no_places c.args.piece.now.evidence 0 c.args.pieces.now none)
