@@ -5,9 +5,9 @@ here=$(CDPATH= cd -- "$(dirname -- "$0")/.." && pwd)
 work=$(mktemp -d)
 trap 'rm -rf "$work"' EXIT
 repository=$work/repository
-mkdir -p "$work/bin" "$repository/docs" "$repository/crates"
+mkdir -p "$work/bin" "$repository/bench" "$repository/crates"
 cp "$here/code_tables" "$here/crates.txt" "$repository"
-cp "$here/docs/GATE.md" "$repository/docs"
+cp "$here/bench/gate.tsv" "$repository/bench"
 for crate in "$here"/crates/*; do
     name=${crate##*/}
     mkdir "$repository/crates/$name"

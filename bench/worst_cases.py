@@ -4,7 +4,7 @@
     bench/worst_cases.py PROGRAM [--plain PROGRAM] [--only NAME,NAME ..] [--runs N] [--instructions] [--list] [--write FOLDER]
 
 Per input: its size, the least processor time of the user over the runs, peak memory, the status and the size of the output; with
---instructions those that valgrind's callgrind counts; with --plain the time of another program (as `peer --stage R15`), where it has the mode.
+--instructions those that valgrind's callgrind counts; with --plain the time of another program with these words, where it has the mode.
 Each input of N bytes that has a half (`half` in its row) is measured at half its length too, and what grows more than 2.6 times is said:
 a time that grows with the square would grow 4 times. Ends with 1 where one does, or where a run is ended by a signal."""
 
@@ -547,7 +547,7 @@ def measure(name, options, folder):
 def main():
     parser = argparse.ArgumentParser(description=__doc__, formatter_class=argparse.RawDescriptionHelpFormatter)
     parser.add_argument("program", nargs="?", help="a built code_tables")
-    parser.add_argument("--plain", help="another program, with its words, as `peer --stage R15`")
+    parser.add_argument("--plain", help="another program, with its words")
     parser.add_argument("--only", help="names of inputs, with commas")
     parser.add_argument("--runs", type=int, default=3)
     parser.add_argument("--instructions", action="store_true")

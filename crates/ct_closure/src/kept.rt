@@ -8,7 +8,7 @@ ghost use Rattle.ct_closure.specs.Number.{bound_of, entries_to, side_number, sid
 ghost use Rattle.ct_closure.specs.Kept.{with_line_put, reason_of, set_back, starts_by_class, ground_rule, IsKept};
 ghost use Rattle.ct_rule_parts.specs.Parts.{weight_of};
 ghost use Rattle.ct_rules.specs.Rule.{place_of};
-ghost use Rattle.ct_removal.specs.Removal.{names_one, only, lowered_line};
+ghost use Rattle.ct_rules.specs.Removal.{names_one, only, lowered_line};
 ghost use Rattle.ct_closure.specs.Inside.Ground.{class_of, AreLargest, ground_value, ground_line};
 ghost use Rattle.ct_closure.specs.Inside.Started.{IsStarted};
 

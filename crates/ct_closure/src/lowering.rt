@@ -3,9 +3,9 @@
 ghost use Rattle.std.specs.Prelude.{◌≡◌, ◌↔◌, false, All, map};
 ghost use Rattle.ct_rules.specs.Derivation.{LineValue};
 ghost use Rattle.ct_rules.specs.Rule.{place_of};
-ghost use Rattle.ct_removal.specs.Removal.{names_one, only, lowered_line};
+ghost use Rattle.ct_rules.specs.Removal.{names_one, only, lowered_line};
 
-use ct_removal::lowered;
+use ct_rules::lowered;
 use ct_rules::{Line, place_of};
 
 /// Lowers the rule of each line, as it is over the supports that are left once the one at a place is taken out.

@@ -13,7 +13,7 @@ use Rattle.ct_rule_parts.specs.declared.support.Support.{Support}
 use Rattle.ct_rules.specs.Rule.{place_of}
 use Rattle.ct_rules.specs.Derivation.{LineValue, IsDerivation}
 use Rattle.ct_rules.proofs.Applied.{applies_from_premises}
-use Rattle.ct_removal.proofs.LoweredRules.{support_there}
+use Rattle.ct_rules.proofs.LoweredRules.{support_there}
 use Rattle.ct_derive.specs.Pieces.{cited_places, parts_at, IsNeeded, AreNeeded}
 use Rattle.ct_derive.specs.Pieces.IsNeeded.{by_line, by_piece}
 use Rattle.ct_derive.specs.Inside.Pruning.{is_marked, with_marks}

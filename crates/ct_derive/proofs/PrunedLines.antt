@@ -10,8 +10,8 @@ use Rattle.ct_codes.specs.declared.claim.Claim.{Claim}
 use Rattle.ct_rule_parts.specs.declared.support.Support.{Support}
 use Rattle.ct_rule_parts.specs.Slot.{slot_of}
 use Rattle.ct_rules.specs.Derivation.{LineValue, claims_at, Follows, IsDerivation}
-use Rattle.ct_removal.specs.Removal.{Places, without, count_below, lowered_place}
-use Rattle.ct_removal.proofs.WithoutLemmas.{was_at, slice_get-without, without-out, without-in}
+use Rattle.ct_rules.specs.Removal.{Places, without, count_below, lowered_place}
+use Rattle.ct_rules.proofs.WithoutLemmas.{was_at, slice_get-without, without-out, without-in}
 use Rattle.ct_derive.specs.Explanation.{IsNamedLater, IsExplanation}
 use Rattle.ct_derive.specs.Inside.Pruning.{is_marked, unmarked, moved_line, renumbered, pruned, AreMarked, IsNamedByMarked, ArePlacesLeft}
 

@@ -4,7 +4,7 @@ use Rattle.ct_rule_parts.specs.declared.support.Support.{Support}
 use Rattle.ct_ledger.specs.Kind.{kind_of}
 use Rattle.ct_ledger.specs.Piece.{PieceValue}
 
--- what a piece gives, by its kind: the size of its code at its entry
+-- what a piece gives, by its kind: the size of its code at its entry, the bound of its dual, or nothing
 abbrev pub support_of : PieceValue → Support
 support_of p = (kind_of p.evidence).gives p.size
 

@@ -13,7 +13,7 @@ use Rattle.ct_rules.specs.declared.rule.Rule.{Rule}
 use Rattle.ct_rules.specs.Rule.{place_of, with_place, support_at, cited, parts_of, value_of}
 use Rattle.ct_rules.specs.Derivation.{LineValue, claims_at, Follows}
 use Rattle.ct_rules.proofs.LawfulRows.{place_of-placed, parts_of-placed}
-use Rattle.ct_removal.proofs.LoweredRules.{IsAlike, alike-side, premises_of-alike, value_of-alike}
+use Rattle.ct_rules.proofs.LoweredRules.{IsAlike, alike-side, premises_of-alike, value_of-alike}
 
 -- whether the place is one of these
 abbrev pub is_among : List ℕ → ℕ → Bool

@@ -25,7 +25,7 @@ use Rattle.ct_rules.specs.declared.rule.Rule.TheVariants.{L9, L10, L11, M9, M10,
 use Rattle.ct_rules.specs.Rule.{row_of, place_of, applies}
 use Rattle.ct_rules.specs.Derivation.{LineValue, Follows, IsDerivation}
 use Rattle.ct_rules.proofs.Applied.{defined, applies_from_premises}
-use Rattle.ct_removal.proofs.LoweredRules.{support_there}
+use Rattle.ct_rules.proofs.LoweredRules.{support_there}
 use Rattle.ct_ledger.specs.Piece.{PieceValue, place_of as piece_place}
 use Rattle.ct_ledger.specs.Standing.{AreStanding}
 use Rattle.ct_ledger.specs.Supports.{support_of, supports_of}

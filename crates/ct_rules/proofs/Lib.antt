@@ -14,3 +14,7 @@ pub mod Improvements
 pub mod BestValues
 pub mod KnownClaims
 pub mod GivenCodes
+pub mod WithoutLemmas
+pub mod LoweredRules
+pub mod VoidedSupports
+pub mod LoweredLines

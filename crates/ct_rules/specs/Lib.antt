@@ -2,3 +2,4 @@ pub mod Rule
 pub mod Derivation
 pub mod Closed
 pub mod Listing
+pub mod Removal

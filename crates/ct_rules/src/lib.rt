@@ -1,10 +1,12 @@
-//! The rules of the table, derivations by them from what evidence supports, and best values.
+//! The rules of the table, derivations by them from what evidence supports, best values; what becomes of rules and derivations once supports are taken out.
 #![tactic(auto)]
 
 mod derivation_laws;
 mod instance;
 mod line;
 mod listing;
+mod lowering;
+mod removal_laws;
 mod rows;
 mod rule;
 mod rule_laws;
@@ -18,6 +20,8 @@ pub use derivation_laws::{
 pub use instance::{applies, defined_on, premise, premise_count, value, value_where_defined};
 pub use line::Line;
 pub use listing::{LOWER_RULES, LOWER_WEIGHT_RULES, UPPER_RULES, UPPER_WEIGHT_RULES, rules_alone};
+pub use lowering::lowered;
+pub use removal_laws::removal_of_places;
 pub use rows::{place_of, rested_on_by, rests_on, rule_side, with_place};
 pub use rule::Rule;
 pub use rule_laws::{

@@ -9,7 +9,7 @@ use Rattle.ct_rules.specs.declared.rule.Rule.{Rule}
 use Rattle.ct_rules.specs.Derivation.{LineValue, claims_at, Follows}
 use Rattle.ct_rules.specs.Rule.{place_of, support_at, cited, applies}
 use Rattle.ct_rules.proofs.Applied.{applies_from_premises}
-use Rattle.ct_removal.proofs.LoweredRules.{support_there, premises_of-alike, value_of-alike}
+use Rattle.ct_rules.proofs.LoweredRules.{support_there, premises_of-alike, value_of-alike}
 use Rattle.ct_closure.specs.Kept.{KeptValue, BaseValue, IsKept, IsBase, set_back}
 
 -- a rule that is defined over no supports names none

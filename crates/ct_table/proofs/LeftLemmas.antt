@@ -21,8 +21,8 @@ use Rattle.ct_rules.specs.Rule.{rule_side, value_of}
 use Rattle.ct_rules.proofs.Applied.{cited-stands}
 use Rattle.ct_rules.proofs.ClosedBounds.{no_better-trans, no_better-antisymmetric, claims_of, slots_of_claims, values_of_claims, All-claims_of}
 use Rattle.ct_rules.proofs.RuleLaws.{premises_in_table, premises_on_side, value_is_monotone}
-use Rattle.ct_removal.specs.Removal.{Places, RestsOnPlaces, voided}
-use Rattle.ct_removal.proofs.VoidedSupports.{IsClosed-voided, AllStand-voided}
+use Rattle.ct_rules.specs.Removal.{Places, RestsOnPlaces, voided}
+use Rattle.ct_rules.proofs.VoidedSupports.{IsClosed-voided, AllStand-voided}
 use Rattle.ct_closure.specs.Closing.{IsPending}
 use Rattle.ct_closure.specs.Kept.{KeptValue, IsKept, Grew, reason_of}
 use Rattle.ct_closure.specs.Number.{bound_of}

@@ -8,8 +8,8 @@ use Rattle.ct_rule_parts.specs.Slot.{Slot, slot_of, IsBetter}
 use Rattle.ct_rules.specs.declared.rule.Rule.{Rule}
 use Rattle.ct_rules.specs.Derivation.{LineValue}
 use Rattle.ct_rules.specs.Rule.{place_of}
-use Rattle.ct_removal.specs.Removal.{Places, without, lowered, lowered_by, voided, lowered_line}
-use Rattle.ct_removal.proofs.LoweredLines.{IsDerivation-lowered}
+use Rattle.ct_rules.specs.Removal.{Places, without, lowered, lowered_by, voided, lowered_line}
+use Rattle.ct_rules.proofs.LoweredLines.{IsDerivation-lowered}
 use Rattle.ct_closure.specs.Kept.{KeptValue, BaseValue, IsKept, IsBase, IsGround, reason_of}
 use Rattle.ct_table.proofs.BaseLemmas.{line_names_nothing}
 

@@ -6,7 +6,7 @@ use Rattle.std.proofs.lemmas.Bool.Decides.{nat_tests}
 use Rattle.std.proofs.lemmas.List.{get_or_append_left, get_or_push}
 use Rattle.std.proofs.lemmas.List.Elements.{Contains-append_right}
 use Rattle.std.proofs.lemmas.Option.{none-some, same_Some}
-use Rattle.ct_removal.specs.Removal.{Places, names_one}
+use Rattle.ct_rules.specs.Removal.{Places, names_one}
 use Rattle.ct_rules.specs.Derivation.{LineValue}
 use Rattle.ct_rules.specs.Rule.{place_of}
 use Rattle.ct_table.specs.Inside.Walk.{moved_place, and_places, moved_places, moved_to, moved_line}

@@ -15,7 +15,7 @@ use Rattle.ct_rules.proofs.Places.{slice_get_last}
 use Rattle.ct_closure.specs.Places.{GivesTo, ArePlaces, side_of, entry_of}
 use Rattle.ct_closure.specs.Worklist.{WorkValue, IsMarked}
 use Rattle.ct_closure.proofs.GetLemmas.{slice_get-set_same, slice_get-set_other}
-use Rattle.ct_removal.specs.Removal.{Places, only, voided, voided_by}
+use Rattle.ct_rules.specs.Removal.{Places, only, voided, voided_by}
 use Rattle.ct_table.specs.Inside.Starting.{IsMarkedIfGiven}
 use Rattle.ct_table.proofs.MoreLemmas.{gives_entry, AreGivenMarked}
 

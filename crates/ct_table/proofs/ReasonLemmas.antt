@@ -9,7 +9,7 @@ use Rattle.ct_rule_parts.specs.Slot.{Slot}
 use Rattle.ct_rules.specs.declared.rule.Rule.{Rule}
 use Rattle.ct_rules.specs.Derivation.{LineValue}
 use Rattle.ct_rules.specs.Rule.{place_of}
-use Rattle.ct_removal.specs.Removal.{Places, lowered, names_one, IsChain, RestsOnPlaces}
+use Rattle.ct_rules.specs.Removal.{Places, lowered, names_one, IsChain, RestsOnPlaces}
 use Rattle.ct_table.specs.Removal.{claim_and_rule, claim_and_lowered_rule, KeepsReasons}
 use Rattle.ct_table.specs.Table.{TableValue, HasReason, reason_at}
 

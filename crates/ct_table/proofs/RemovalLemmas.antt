@@ -9,9 +9,9 @@ use Rattle.ct_rule_parts.specs.declared.support.Support.{Support}
 use Rattle.ct_rules.specs.declared.rule.Rule.{Rule}
 use Rattle.ct_rules.specs.Derivation.{LineValue}
 use Rattle.ct_rules.proofs.Places.{slice_get-take, slice_get-append_right}
-use Rattle.ct_removal.specs.Removal.{Places, without, lowered, voided, lowered_line}
-use Rattle.ct_removal.proofs.VoidedSupports.{AllStand-voided, AllStand-without, length-voided, IsClosed-without}
-use Rattle.ct_removal.proofs.WithoutLemmas.{length-without}
+use Rattle.ct_rules.specs.Removal.{Places, without, lowered, voided, lowered_line}
+use Rattle.ct_rules.proofs.VoidedSupports.{AllStand-voided, AllStand-without, length-voided, IsClosed-without}
+use Rattle.ct_rules.proofs.WithoutLemmas.{length-without}
 use Rattle.ct_closure.specs.Closing.{ClosingValue, CanClose, IsClosing, HasMoreLines}
 use Rattle.ct_closure.specs.Kept.{KeptValue, BaseValue, IsBase, reason_of, set_back}
 use Rattle.ct_closure.specs.Number.{bound_of}

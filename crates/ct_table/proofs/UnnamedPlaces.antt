@@ -7,8 +7,8 @@ use Rattle.ct_rule_parts.specs.declared.support.Support.{Support}
 use Rattle.ct_rules.specs.Derivation.{LineValue, Follows}
 use Rattle.ct_rules.specs.Rule.{place_of}
 use Rattle.ct_rules.proofs.Places.{slice_get-append_right}
-use Rattle.ct_removal.specs.Removal.{Places, names_one, voided}
-use Rattle.ct_removal.proofs.VoidedSupports.{premises_of-voided, value_of-voided, IsClosed-voided}
+use Rattle.ct_rules.specs.Removal.{Places, names_one, voided}
+use Rattle.ct_rules.proofs.VoidedSupports.{premises_of-voided, value_of-voided, IsClosed-voided}
 use Rattle.ct_closure.specs.Closing.{ClosingValue, HasMoreLines}
 use Rattle.ct_closure.specs.Kept.{KeptValue, BaseValue, IsKept, set_back}
 use Rattle.ct_closure.specs.Number.{bound_of}

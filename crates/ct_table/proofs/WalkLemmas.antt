@@ -13,8 +13,8 @@ use Rattle.ct_rule_parts.specs.Slot.{Slot, slot_of, claim_at, IsBetter}
 use Rattle.ct_rules.specs.Derivation.{LineValue, claims_at, Follows}
 use Rattle.ct_rules.specs.Rule.{place_of, value_of}
 use Rattle.ct_rules.proofs.Places.{slice_get-append_right, slice_get_last}
-use Rattle.ct_removal.specs.Removal.{Places, names_one, RestsOnPlaces, voided}
-use Rattle.ct_removal.proofs.VoidedSupports.{premises_of-voided, value_of-voided}
+use Rattle.ct_rules.specs.Removal.{Places, names_one, RestsOnPlaces, voided}
+use Rattle.ct_rules.proofs.VoidedSupports.{premises_of-voided, value_of-voided}
 use Rattle.ct_closure.specs.Kept.{KeptValue, IsKept, reason_of, with_line_put}
 use Rattle.ct_closure.specs.Number.{bound_of}
 use Rattle.ct_closure.proofs.GetLemmas.{IsOldOrNew, slice_get-append_some, slice_get_push_cases}

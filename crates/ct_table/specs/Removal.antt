@@ -5,7 +5,7 @@ use Rattle.ct_codes.specs.declared.claim.Claim.{Claim}
 use Rattle.ct_rule_parts.specs.Slot.{Slot}
 use Rattle.ct_rules.specs.declared.rule.Rule.{Rule}
 use Rattle.ct_rules.specs.Derivation.{LineValue}
-use Rattle.ct_removal.specs.Removal.{Places, lowered, RestsOnPlaces}
+use Rattle.ct_rules.specs.Removal.{Places, lowered, RestsOnPlaces}
 use Rattle.ct_table.specs.Table.{TableValue, reason_at}
 
 -- the claim and the rule of a line

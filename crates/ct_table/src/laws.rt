@@ -7,7 +7,7 @@ ghost use Rattle.ct_rule_parts.specs.declared.support.Support.{Support};
 ghost use Rattle.ct_rule_parts.specs.Slot.{Slot, slot_of, claim_at, lower_at, upper_at, IsBetter};
 ghost use Rattle.ct_rules.specs.declared.rule.Rule.TheVariants.{L2, L4, L6, L10, M10, U2};
 ghost use Rattle.ct_rules.specs.Derivation.{LineValue};
-ghost use Rattle.ct_removal.specs.Removal.{Places, only, RestsOnPlaces, lowered_line};
+ghost use Rattle.ct_rules.specs.Removal.{Places, only, RestsOnPlaces, lowered_line};
 ghost use Rattle.ct_closure.specs.Kept.{KeptValue, with_line_put};
 ghost use Rattle.ct_closure.specs.Number.{bound_of, side_size};
 ghost use Rattle.ct_table.specs.Removal.{KeepsReasons};

@@ -3,7 +3,7 @@
 ghost use Rattle.std.specs.Prelude.{◌≡◌, ◌+◌, ◌<◌, ◌≤◌, ◌++◌, ◌∷◌, [], ℕ, List, Some, None, All, IfOk, OnOk, OnErr, option_map, length, slice_index_or};
 ghost use Rattle.ct_codes.specs.Entry.{IsEntry};
 ghost use Rattle.ct_rule_parts.specs.declared.support.Support.{Support};
-ghost use Rattle.ct_removal.specs.Removal.{only, names_one, voided};
+ghost use Rattle.ct_rules.specs.Removal.{only, names_one, voided};
 ghost use Rattle.ct_rules.specs.Derivation.{LineValue};
 ghost use Rattle.ct_rules.specs.Rule.{place_of};
 ghost use Rattle.ct_closure.specs.Closing.{HasMoreLines};

@@ -7,7 +7,7 @@ ghost use Rattle.ct_codes.specs.declared.claim.Side.{Side};
 ghost use Rattle.ct_rule_parts.specs.Slot.{claim_at};
 ghost use Rattle.ct_rule_parts.specs.Support.{Stands, AllStand};
 ghost use Rattle.ct_rules.specs.Derivation.{IsDerivation, IsBest};
-ghost use Rattle.ct_removal.specs.Removal.{only};
+ghost use Rattle.ct_rules.specs.Removal.{only};
 ghost use Rattle.ct_table.specs.Removal.{KeepsReasons};
 ghost use Rattle.ct_table.specs.Table.{Grew, IsShownTable, reason_at};
 

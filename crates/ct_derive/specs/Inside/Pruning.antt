@@ -2,7 +2,7 @@
 use Rattle.std.specs.Prelude.{◌≡◌, ℕ, ◌+◌, ◌<◌, ◌≤◌, Bool, true, false, not, List, [], ◌∷◌, length, map, All, Contains, Some, slice_get, slice_index, slice_set, ◌⊎◌}
 use Rattle.std.specs.List.{slice_index_or}
 use Rattle.std.specs.List.Sorted.{IsStrictlyIncreasing}
-use Rattle.ct_removal.specs.Removal.{Places, without, lowered_place}
+use Rattle.ct_rules.specs.Removal.{Places, without, lowered_place}
 use Rattle.ct_rules.specs.Derivation.{LineValue}
 
 -- whether the place is marked

@@ -5,7 +5,7 @@ use Rattle.ct_rule_parts.specs.declared.support.Support.{Support}
 use Rattle.ct_rule_parts.specs.Slot.{Slot, slot_of, IsBetter}
 use Rattle.ct_rules.specs.Closed.{IsClosed}
 use Rattle.ct_rules.specs.Derivation.{LineValue}
-use Rattle.ct_removal.specs.Removal.{Places, RestsOnPlaces, voided}
+use Rattle.ct_rules.specs.Removal.{Places, RestsOnPlaces, voided}
 use Rattle.ct_closure.specs.Closing.{ClosingValue}
 use Rattle.ct_closure.specs.Kept.{KeptValue, BaseValue, IsKept, reason_of, set_back}
 use Rattle.ct_closure.specs.Number.{bound_of}

@@ -3,7 +3,7 @@ use Rattle.std.specs.Prelude.{ℕ, ◌-◌, nat_lt, if◌then◌else◌, List, [
 use Rattle.ct_rules.specs.Derivation.{LineValue}
 use Rattle.ct_rules.specs.Rule.{place_of}
 use Rattle.ct_closure.specs.Kept.{KeptValue, with_line_put}
-use Rattle.ct_removal.specs.Removal.{Places, names_one}
+use Rattle.ct_rules.specs.Removal.{Places, names_one}
 
 -- where a line has moved: those of the base stay at their places, of the others those that moved so far
 abbrev pub moved_place : ℕ → List (Option ℕ) → ℕ → Option ℕ

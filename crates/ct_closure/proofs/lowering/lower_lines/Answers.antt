@@ -1,7 +1,7 @@
 use Rattle.std.proofs.Common.{◌<◌, length, slice_set, sym, ap, ◌∙◌, arith}
 use Rattle.std.proofs.lemmas.List.Edits.{map_over_more}
 use Rattle.ct_rules.specs.Derivation.{LineValue}
-use Rattle.ct_removal.specs.Removal.{only, lowered_line}
+use Rattle.ct_rules.specs.Removal.{only, lowered_line}
 use Rattle.ct_closure.proofs.lowering.lower_lines.Goals as goal
 
 pub loop-line-preserved : goal.loop-line-preserved

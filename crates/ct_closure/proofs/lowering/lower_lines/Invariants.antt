@@ -1,5 +1,5 @@
 use Rattle.std.proofs.Common.{◌≡◌, ◌++◌, map, take, drop}
-use Rattle.ct_removal.specs.Removal.{only, lowered_line}
+use Rattle.ct_rules.specs.Removal.{only, lowered_line}
 use Rattle.ct_closure.proofs.lowering.lower_lines.Given as goal
 
 -- the lines so far are lowered

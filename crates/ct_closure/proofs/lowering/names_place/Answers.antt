@@ -6,7 +6,7 @@ use Rattle.std.proofs.lemmas.List.{take_more}
 use Rattle.std.proofs.lemmas.List.Elements.{All-nil, All-cons, All-append}
 use Rattle.ct_rules.specs.Derivation.{LineValue}
 use Rattle.ct_rules.specs.Rule.{place_of}
-use Rattle.ct_removal.specs.Removal.{names_one, only}
+use Rattle.ct_rules.specs.Removal.{names_one, only}
 use Rattle.ct_closure.proofs.lowering.names_place.Goals as goal
 
 -- the test is that of the set of one place

@@ -1,7 +1,7 @@
 use Rattle.std.proofs.Common.{◌≡◌, false, take, All}
 use Rattle.ct_rules.specs.Derivation.{LineValue}
 use Rattle.ct_rules.specs.Rule.{place_of}
-use Rattle.ct_removal.specs.Removal.{names_one, only}
+use Rattle.ct_rules.specs.Removal.{names_one, only}
 use Rattle.ct_closure.proofs.lowering.names_place.Given as goal
 
 -- the lines so far do not name it

@@ -3,7 +3,7 @@ use Rattle.std.specs.Prelude.{slice_index, if◌then◌else◌}
 use Rattle.std.proofs.lemmas.List.Elements.{All-weaker}
 use Rattle.ct_rules.specs.Derivation.{LineValue}
 use Rattle.ct_derive.specs.Inside.Pruning.{is_marked, moved_line, unmarked, ArePlacesLeft}
-use Rattle.ct_removal.specs.Removal.{lowered_place}
+use Rattle.ct_rules.specs.Removal.{lowered_place}
 use Rattle.ct_derive.proofs.PrunedLines.{length-pruned, left-none, left-next, put_next, pruned-none}
 use Rattle.ct_derive.proofs.MarkedLines.{named_below_line}
 use Rattle.ct_derive.proofs.pruning.marked_lines.Goals as goal

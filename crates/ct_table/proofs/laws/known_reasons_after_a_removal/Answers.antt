@@ -5,7 +5,7 @@ use Rattle.ct_rules.specs.declared.rule.Rule.{Rule}
 use Rattle.ct_rules.specs.declared.rule.Rule.TheVariants.{L4, L10}
 use Rattle.ct_rules.specs.Derivation.{LineValue}
 use Rattle.ct_rules.specs.Rule.{row_of}
-use Rattle.ct_removal.specs.Removal.{only, count_below, RestsOnPlaces}
+use Rattle.ct_rules.specs.Removal.{only, count_below, RestsOnPlaces}
 use Rattle.ct_table.specs.Removal.{claim_and_rule, claim_and_lowered_rule}
 use Rattle.ct_table.specs.Table.{TableValue, HasReason, reason_at}
 use Rattle.ct_table.proofs.ReasonLemmas.{line_of, lone_reason_stays, one_reason}

@@ -1,7 +1,7 @@
 use Rattle.std.proofs.Common.{[], ◌∷◌, refl}
 use Rattle.ct_rules.specs.declared.rule.Rule.TheVariants.{L2, L6, L10, M10}
 use Rattle.ct_rules.specs.Rule.{row_of}
-use Rattle.ct_removal.specs.Removal.{only, count_below}
+use Rattle.ct_rules.specs.Removal.{only, count_below}
 use Rattle.ct_table.specs.Table.{reason_at}
 use Rattle.ct_table.proofs.ReasonLemmas.{rests_on_nothing, rests_on_no_line, reason_stays, lone_reason_stays}
 use Rattle.ct_table.proofs.laws.reasons_stay_by_lowered_rules.Goals as goal

@@ -1,7 +1,7 @@
 use Rattle.std.proofs.Common.{◌≡◌, ◌+◌, ◌++◌, ◌∷◌, [], List, ℕ, Option, length, drop, option_map, sym, ap, subst, ◌∙◌}
 use Rattle.std.proofs.lemmas.List.{at_drop_more}
 use Rattle.ct_rules.specs.Derivation.{LineValue}
-use Rattle.ct_removal.specs.Removal.{only}
+use Rattle.ct_rules.specs.Removal.{only}
 use Rattle.ct_closure.specs.Closing.{HasMoreLines}
 use Rattle.ct_closure.specs.Kept.{KeptValue}
 use Rattle.ct_table.specs.Inside.Walk.{moved_line, with_moved, walk}

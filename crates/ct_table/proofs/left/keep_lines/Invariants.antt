@@ -1,5 +1,5 @@
 use Rattle.std.proofs.Common.{◌≡◌, [], drop}
-use Rattle.ct_removal.specs.Removal.{only}
+use Rattle.ct_rules.specs.Removal.{only}
 use Rattle.ct_closure.specs.Closing.{HasMoreLines}
 use Rattle.ct_table.specs.Inside.Walk.{walk}
 use Rattle.ct_table.proofs.left.keep_lines.Given as goal

@@ -1,7 +1,7 @@
 use Rattle.std.proofs.Common.{◌≡◌, List, sym, subst}
 use Rattle.std.specs.Prelude.{Result, Ok, Err, OnOk}
 use Rattle.ct_rule_parts.specs.declared.support.Support.{Support}
-use Rattle.ct_removal.specs.Removal.{only, voided}
+use Rattle.ct_rules.specs.Removal.{only, voided}
 use Rattle.ct_closure.specs.Closing.{ClosingValue, CanClose, IsClosing}
 use Rattle.ct_closure.specs.Kept.{KeptValue, BaseValue}
 use Rattle.ct_table.specs.Inside.Removing.{IsSetBack, IsTakenOut}

@@ -1,7 +1,7 @@
 use Rattle.std.proofs.Common.{◌≡◌, false, drop, All, subst}
 use Rattle.ct_rules.specs.Derivation.{LineValue}
 use Rattle.ct_rules.specs.Rule.{place_of}
-use Rattle.ct_removal.specs.Removal.{names_one, only}
+use Rattle.ct_rules.specs.Removal.{names_one, only}
 use Rattle.ct_closure.specs.Closing.{ClosingValue}
 use Rattle.ct_table.proofs.UnnamedPlaces.{IsTakenOut-unnamed, HasMoreLines-whole}
 use Rattle.ct_table.proofs.left.take_out.Goals as goal

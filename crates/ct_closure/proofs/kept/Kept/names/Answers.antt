@@ -3,7 +3,7 @@ use Rattle.std.specs.Prelude.{◌↔◌}
 use Rattle.std.proofs.Math.Seq.{drop-append_seam}
 use Rattle.ct_rules.specs.Derivation.{LineValue}
 use Rattle.ct_rules.specs.Rule.{place_of}
-use Rattle.ct_removal.specs.Removal.{names_one, only}
+use Rattle.ct_rules.specs.Removal.{names_one, only}
 use Rattle.ct_closure.specs.Kept.{KeptValue}
 use Rattle.ct_closure.proofs.kept.Kept.names.Goals as goal
 

@@ -3,9 +3,9 @@ use Rattle.std.specs.Prelude.{remove}
 use Rattle.std.proofs.lemmas.Option.{slice_get-get_or}
 use Rattle.ct_rule_parts.specs.declared.support.Support.{Support}
 use Rattle.ct_rule_parts.specs.declared.support.Support.TheVariants.{Nothing}
-use Rattle.ct_removal.specs.Removal.{only}
+use Rattle.ct_rules.specs.Removal.{only}
 use Rattle.ct_closure.specs.Places.{ArePlaces, entry_of}
-use Rattle.ct_removal.proofs.WithoutLemmas.{without-only}
+use Rattle.ct_rules.proofs.WithoutLemmas.{without-only}
 use Rattle.ct_closure.specs.Closing.{HasMoreLines}
 use Rattle.ct_closure.specs.Kept.{KeptValue, set_back}
 use Rattle.ct_closure.specs.Worklist.{WorkValue}

@@ -11,9 +11,9 @@ use Rattle.ct_rules.specs.declared.rule.Rule.{Rule}
 use Rattle.ct_rules.specs.Derivation.{LineValue, claims_at, Follows, IsDerivation}
 use Rattle.ct_rules.specs.Rule.{place_of, cited, premises_of, value_of}
 use Rattle.ct_rules.proofs.Applied.{applies_from_premises}
-use Rattle.ct_removal.specs.Removal.{Places, without, names_one, lowered, voided, lowered_line}
-use Rattle.ct_removal.proofs.LoweredRules.{IsAlike-lowered, alike-side, cited-lowered, premises_of-alike, value_of-alike}
-use Rattle.ct_removal.proofs.VoidedSupports.{cited-voided, names_none, premises_of-voided}
+use Rattle.ct_rules.specs.Removal.{Places, without, names_one, lowered, voided, lowered_line}
+use Rattle.ct_rules.proofs.LoweredRules.{IsAlike-lowered, alike-side, cited-lowered, premises_of-alike, value_of-alike}
+use Rattle.ct_rules.proofs.VoidedSupports.{cited-voided, names_none, premises_of-voided}
 
 -- a lowered line claims what the line claims
 claim-lowered : (gone : Places) (o : Option LineValue)

@@ -1,9 +1,9 @@
 use Rattle.std.proofs.Common.{◌≡◌, ℕ, ◌<◌, ◌≤◌, ◌-◌, arith}
 use Rattle.std.specs.Prelude.{nat_lt, if◌then◌else◌}
 use Rattle.std.proofs.lemmas.Bool.Decides.{nat_tests}
-use Rattle.ct_removal.specs.Removal.{only, lowered_place}
-use Rattle.ct_removal.proofs.WithoutLemmas.{lowered_place-only}
-use Rattle.ct_removal.proofs.lowering.lowered_place.Goals as goal
+use Rattle.ct_rules.specs.Removal.{only, lowered_place}
+use Rattle.ct_rules.proofs.WithoutLemmas.{lowered_place-only}
+use Rattle.ct_rules.proofs.lowering.lowered_place.Goals as goal
 
 above : (place other : ℕ) → place < other → other - 1 ≡ lowered_place (only place) other
 above place other h = let e = lowered_place-only place other in grind (arith, nat_tests)

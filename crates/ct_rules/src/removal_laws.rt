@@ -2,7 +2,7 @@
 
 ghost use Rattle.std.specs.Prelude.{◌≡◌, ◌-◌, ℕ, List, Some, true, false, if◌then◌else◌, nat_lt, remove, slice_get};
 ghost use Rattle.ct_rule_parts.specs.declared.support.Support.{Support};
-ghost use Rattle.ct_removal.specs.Removal.{Places, without, only, lowered_place};
+ghost use Rattle.ct_rules.specs.Removal.{Places, without, only, lowered_place};
 
 /// An item that is not taken out is found at its lowered place, and each that is left was at such a place. The set of one
 /// place takes out the item there, and the later ones move down by one.

@@ -12,8 +12,8 @@ use Rattle.ct_rules.specs.declared.rule.Rule.{Rule}
 use Rattle.ct_rules.specs.Rule.{rule_side, place_of, with_place, support_at, cited, parts_of, parts_over, applies, premises_of, value_of}
 use Rattle.ct_rules.proofs.Applied.{defined}
 use Rattle.ct_rules.proofs.LawfulRows.{needs_support, place_of-placed, parts_of-placed, placed_again}
-use Rattle.ct_removal.specs.Removal.{Places, without, lowered_place, names_one, lowered_by, lowered}
-use Rattle.ct_removal.proofs.WithoutLemmas.{WasAt, was_at, slice_get-without}
+use Rattle.ct_rules.specs.Removal.{Places, without, lowered_place, names_one, lowered_by, lowered}
+use Rattle.ct_rules.proofs.WithoutLemmas.{WasAt, was_at, slice_get-without}
 
 -- two rules say the same of each support
 abbrev pub IsAlike : Rule → Rule → Type 0

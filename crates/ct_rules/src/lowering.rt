@@ -1,9 +1,10 @@
 //! Rules over the supports that are left once one is taken out.
 
 ghost use Rattle.std.specs.Prelude.{◌≡◌};
-ghost use Rattle.ct_removal.specs.Removal.{only, lowered_place, lowered};
+ghost use Rattle.ct_rules.specs.Removal.{only, lowered_place, lowered};
 
-use ct_rules::{Rule, place_of, with_place};
+use crate::rows::{place_of, with_place};
+use crate::rule::Rule;
 
 /// The place of another support once the one at a place is taken out.
 fn lowered_place(other: u32, place: u32) -> u32

@@ -4,7 +4,7 @@ use Rattle.std.specs.Prelude.{nat_lt, if◌then◌else◌, remove, slice_get}
 use Rattle.std.proofs.lemmas.Bool.Decides.{nat_tests}
 use Rattle.std.proofs.lemmas.List.Elements.{All-nil, All-cons, All-head, All-tail}
 use Rattle.std.proofs.lemmas.Option.{none-some, same_Some}
-use Rattle.ct_removal.specs.Removal.{Places, without, only, count_below, lowered_place}
+use Rattle.ct_rules.specs.Removal.{Places, without, only, count_below, lowered_place}
 
 -- the places of the tail
 abbrev pub past : Places → Places

@@ -13,9 +13,9 @@ use Rattle.ct_rules.specs.Closed.{IsClosed}
 use Rattle.ct_rules.specs.Rule.{place_of, support_at, cited, parts_of, parts_over, applies, premises_of, value_of}
 use Rattle.ct_rules.proofs.Applied.{defined, applies_from_premises}
 use Rattle.ct_rules.proofs.LawfulRows.{needs_support, needs_something}
-use Rattle.ct_removal.specs.Removal.{Places, without, names_one, voided_by, voided}
-use Rattle.ct_removal.proofs.LoweredRules.{IsAlike, alike-side, premises_of-alike, value_of-alike, WasRule, was_rule}
-use Rattle.ct_removal.proofs.WithoutLemmas.{All-without}
+use Rattle.ct_rules.specs.Removal.{Places, without, names_one, voided_by, voided}
+use Rattle.ct_rules.proofs.LoweredRules.{IsAlike, alike-side, premises_of-alike, value_of-alike, WasRule, was_rule}
+use Rattle.ct_rules.proofs.WithoutLemmas.{All-without}
 
 -- what stands at a place
 pub slice_get-voided : (gone : Places) (supports : List Support) (p : ℕ)

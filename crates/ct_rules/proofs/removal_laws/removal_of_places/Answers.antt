@@ -1,5 +1,5 @@
-use Rattle.ct_removal.proofs.WithoutLemmas.{slice_get-without, was_at, without-only, lowered_place-only}
-use Rattle.ct_removal.proofs.laws.removal_of_places.Goals as goal
+use Rattle.ct_rules.proofs.WithoutLemmas.{slice_get-without, was_at, without-only, lowered_place-only}
+use Rattle.ct_rules.proofs.removal_laws.removal_of_places.Goals as goal
 
 pub returns : goal.returns
 returns c = record {

@@ -1,4 +1,0 @@
-pub mod WithoutLemmas
-pub mod LoweredRules
-pub mod VoidedSupports
-pub mod LoweredLines
