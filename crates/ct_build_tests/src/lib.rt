@@ -10,8 +10,6 @@ mod large;
 #[cfg(test)]
 mod parts;
 #[cfg(test)]
-mod refused;
-#[cfg(test)]
 mod shapes;
 #[cfg(test)]
 mod steps;
