@@ -1,12 +1,13 @@
 -- Greatest common divisors of rows: Euclid's algorithm finds them, and each entry is a multiple of them.
-use Rattle.std.proofs.Common.{◌≡◌, ℕ, zero, suc, ◌%◌, ◌<◌, ◌≤◌, ◌==◌, Bool, true, false, cond, List, [], ◌∷◌, refl, arith, eqb-true}
-use Rattle.std.specs.Prelude.{fold, ℤ, pos, negsuc, ◌*ℤ◌, int_div, unsigned_abs}
+use Rattle.std.proofs.Common.{◌≡◌, ℕ, zero, suc, ◌%◌, ◌<◌, ◌≤◌, ◌==◌, Bool, true, false, cond, List, [], ◌∷◌, refl, sym, ap, ◌∙◌, subst, arith, eqb-true}
+use Rattle.std.specs.Prelude.{fold, map, ℤ, pos, negsuc, ◌*ℤ◌, int_div, unsigned_abs, All}
 use Rattle.std.specs.List.{AllByRecursion}
+use Rattle.std.proofs.lemmas.List.Elements.{All-from_recursion, recursion_from_All, All-weaker}
 use Rattle.std.specs.Int.{◌∣◌, IsGcd}
 use Rattle.std.proofs.lemmas.Int.{ints, quot-rem}
 use Rattle.std.proofs.lemmas.Bool.{eqb-false}
-use Rattle.std.proofs.lemmas.Nat.Gcd.{IsGcd-from_zero, IsGcd-from_mod, dvd_trans, dvd_refl, mod-eq-zero_of_dvd, dvd_of_mod-eq-zero}
-use Rattle.ct_finder_run.specs.Divisor.{euclid, gcd, gcd_of, divisor}
+use Rattle.std.proofs.lemmas.Nat.Gcd.{IsGcd-from_zero, IsGcd-from_mod, dvd_trans, dvd_refl, dvd-zero, le_of_dvd, mod-eq-zero_of_dvd, dvd_of_mod-eq-zero}
+use Rattle.ct_finder_run.specs.Divisor.{euclid, gcd, gcd_of, divisor, reduced}
 
 -- with steps enough Euclid's algorithm finds the greatest common divisor
 pub euclid-finds : (n a b : ℕ) → b < n → IsGcd a b (euclid n a b)
@@ -63,3 +64,50 @@ quotient-exact g (negsuc a) some h =
     let whole = quot-rem (negsuc a) (pos g) in
     let none = mod-eq-zero_of_dvd g {n = suc a} h in
     omega (arith, ints)
+
+-- what divides the number that it began with and each entry divides that of a row
+pub fold_gcd-greatest : (m g : ℕ) (row : List ℤ) → m ∣ g → AllByRecursion (λ z. m ∣ unsigned_abs z) row → m ∣ fold (λ h z. gcd (unsigned_abs z) h) g row
+fold_gcd-greatest m g [] begun each = begun
+fold_gcd-greatest m g (z ∷ row) begun each =
+    fold_gcd-greatest m (gcd (unsigned_abs z) g) row ((gcd-is (unsigned_abs z) g).2 m each.0 begun) each.1
+
+-- 0 divides 0 alone
+zero_divides : (z : ℤ) → 0 ∣ unsigned_abs z → z ≡ pos 0
+zero_divides (pos a) h = let none = mod-eq-zero_of_dvd 0 {n = a} h in omega (arith, ints)
+zero_divides (negsuc a) h = let none = mod-eq-zero_of_dvd 0 {n = suc a} h in absurd (omega (arith, ints))
+
+-- it is 0 exactly where each entry is
+gcd_of-zero : (row : List ℤ) → gcd_of row ≡ 0 → All (λ z. z ≡ pos 0) row
+gcd_of-zero row is =
+    All-weaker (λ z. gcd_of row ∣ unsigned_abs z) (λ z. z ≡ pos 0) (λ z h. zero_divides z (subst (λ g. g ∣ unsigned_abs z) is h)) row
+    (All-from_recursion (λ z. gcd_of row ∣ unsigned_abs z) row (fold_gcd-divides 0 row).1)
+
+gcd_of-zeros : (row : List ℤ) → All (λ z. z ≡ pos 0) row → gcd_of row ≡ 0
+gcd_of-zeros row zeros =
+    let each = All-weaker (λ z. z ≡ pos 0) (λ z. 0 ∣ unsigned_abs z) (λ z h. subst (λ v. 0 ∣ unsigned_abs v) (sym h) (dvd_refl 0)) row zeros in
+    let none = mod-eq-zero_of_dvd 0 {n = gcd_of row} (fold_gcd-greatest 0 0 row (dvd_refl 0) (recursion_from_All (λ z. 0 ∣ unsigned_abs z) row each)) in
+    omega arith
+
+-- the divisor of a row is the greatest number that divides each entry, where one is not 0, and else 1
+pub divisor-greatest : (row : List ℤ) (m : ℕ) → All (λ z. m ∣ unsigned_abs z) row → ¬ All (λ z. z ≡ pos 0) row → m ≤ divisor row
+divisor-greatest row m each some = go (gcd_of row == 0) refl
+  where
+    go : (t : Bool) → (gcd_of row == 0) ≡ t → m ≤ cond t 1 (gcd_of row)
+    go true is = absurd (some (gcd_of-zero row (eqb-true (gcd_of row) 0 is)))
+    go false is =
+        let positive : 0 < gcd_of row = omega (arith, eqb-false (gcd_of row) 0 is) in
+        le_of_dvd positive (fold_gcd-greatest m 0 row (dvd-zero m) (recursion_from_All (λ z. m ∣ unsigned_abs z) row each))
+
+pub divisor-zeros : (row : List ℤ) → All (λ z. z ≡ pos 0) row → divisor row ≡ 1
+divisor-zeros row zeros = let none = gcd_of-zeros row zeros in rw none refl
+
+-- the quotients of a row, each times the divisor, are the row
+quotients-exact : (g : ℕ) (row : List ℤ) → 1 ≤ g → AllByRecursion (λ z. g ∣ unsigned_abs z) row
+    → map (λ z. pos g *ℤ z) (map (λ z. int_div z (pos g)) row) ≡ row
+quotients-exact g [] some each = refl
+quotients-exact g (z ∷ row) some each =
+    ap (λ v. v ∷ map (λ x. pos g *ℤ x) (map (λ x. int_div x (pos g)) row)) (quotient-exact g z some each.0)
+    ∙ ap (λ vs. z ∷ vs) (quotients-exact g row some each.1)
+
+pub reduced-exact : (row : List ℤ) → map (λ z. pos (divisor row) *ℤ z) (reduced row) ≡ row
+reduced-exact row = quotients-exact (divisor row) row (divisor-some row) (divisor-divides row)

@@ -1,6 +1,6 @@
 //! What the finder's run promises; the functions do nothing.
-ghost use Rattle.std.specs.Prelude.{◌≡◌, ℕ, ◌^◌, ◌/◌, ◌≤◌, min, Bool, List, [], ◌∷◌, None, ℤ, pos};
-ghost use Rattle.std.specs.Int.{IsGcd};
+ghost use Rattle.std.specs.Prelude.{◌≡◌, ℕ, ◌^◌, ◌/◌, ◌-◌, ◌≤◌, min, Bool, List, [], ◌∷◌, map, All, Some, None, ℤ, pos, negsuc, ◌*ℤ◌, unsigned_abs};
+ghost use Rattle.std.specs.Int.{◌∣◌, IsGcd};
 ghost use Rattle.ct_words.specs.declared.limits.TheConstants.{MAX_BOUND};
 ghost use Rattle.ct_codes.specs.declared.entry.Entry.{Entry};
 ghost use Rattle.ct_codes.specs.Entry.{unrestricted};
@@ -8,11 +8,14 @@ ghost use Rattle.ct_krawtchouk.specs.Krawtchouk.{krawtchouk};
 ghost use Rattle.ct_duals.specs.Dual.{IsDual, multiplier, combination, degree_of};
 ghost use Rattle.ct_duals.specs.Check.{dual_fault};
 ghost use Rattle.ct_duals.specs.Bound.{dual_bound, natural};
-ghost use Rattle.ct_finder_run.specs.Divisor.{gcd};
-ghost use Rattle.ct_finder_run.specs.Run.End.{Least, Turns};
+ghost use Rattle.ct_finder_run.specs.Divisor.{gcd, divisor, reduced};
+ghost use Rattle.ct_finder_run.specs.Turn.{first_wide};
+ghost use Rattle.ct_finder_run.specs.Run.End.{Least, Turns, Wide};
+ghost use Rattle.ct_finder_run.specs.Run.Step.{ended, goes};
+ghost use Rattle.ct_finder_run.specs.Run.{unless_wide};
 ghost use Rattle.ct_finder_run.specs.Run.{run_of, columns_of, opening_of, run_dual, ones_dual, IsAsked};
 ghost use Rattle.ct_finder_run.specs.Sum.{AreSums, after};
-ghost use Rattle.ct_finder_run.specs.Examples.{run_eight_four_four, cost_eight_four_four, dual_eight_four_four, run_six_three, cost_six_three, dual_six_three};
+ghost use Rattle.ct_finder_run.specs.Examples.{run_eight_four_four, cost_eight_four_four, dual_eight_four_four, run_six_three, cost_six_three, dual_six_three, run_eight_four, cost_eight_four, dual_eight_four, wide_tableau, wide_cost_tableau, narrow_tableau};
 
 /// Each row of a tableau of a run is the sum of the opening rows, each times the row's entry at that opening row's s_k;
 /// the cost row alone has the opening cost row in it, at least once.
@@ -51,11 +54,36 @@ pub fn gcd_is_greatest()
     ensures { (a b : ℕ) → IsGcd a b (gcd a b) }
 {}
 
-/// Runs whose ends are known: A(8,4,4) is at most 14, after three turns, and A(6,3) at most 8, after two.
+/// What a row is divided by: the greatest number that divides each of its entries, where one is not 0, and else 1; each
+/// quotient is exact.
+pub fn rows_are_divided_by_their_greatest_divisor()
+    ensures divides { (row : List ℤ) → All (λ z. divisor row ∣ unsigned_abs z) row }
+    ensures greatest { (row : List ℤ) (m : ℕ) → All (λ z. m ∣ unsigned_abs z) row → ¬ All (λ z. z ≡ pos 0) row →
+        m ≤ divisor row }
+    ensures zeros { (row : List ℤ) → All (λ z. z ≡ pos 0) row → divisor row ≡ 1 }
+    ensures exact { (row : List ℤ) → map (λ z. pos (divisor row) *ℤ z) (reduced row) ≡ row }
+{}
+
+/// Runs whose ends are known: A(8,4,4) is at most 14, after three turns, and A(6,3) at most 8, after two; A(8,4) at most
+/// 16, after six turns, in four of which several rows have the least fraction: the row whose basic column comes first is
+/// taken, and another choice would end with other multipliers.
 pub fn known_runs()
     ensures weighted { run_eight_four_four 3 ≡ Least cost_eight_four_four }
     ensures weighted_bound { dual_bound dual_eight_four_four (pos 672) [] ≡ 14 }
     ensures weighted_turns { run_eight_four_four 2 ≡ Turns }
     ensures plain { run_six_three 2 ≡ Least cost_six_three }
     ensures plain_bound { dual_bound dual_six_three (pos 8) [] ≡ 8 }
+    ensures tied { run_eight_four 6 ≡ Least cost_eight_four }
+    ensures tied_bound { dual_bound dual_eight_four (pos 64) [] ≡ 16 }
+    ensures tied_turns { run_eight_four 5 ≡ Turns }
+{}
+
+/// Wide entries of tableaus: those above 2^63 - 1 in absolute value; the first comes from the rows in their order, and from
+/// the cost row where no row has one. A turn that would give such a tableau is not made, and the run ends.
+pub fn known_wide_entries()
+    ensures in_a_row { first_wide wide_tableau ≡ Some (negsuc (2 ^ 63 - 1)) }
+    ensures in_the_cost_row { first_wide wide_cost_tableau ≡ Some (pos (2 ^ 63)) }
+    ensures none { first_wide narrow_tableau ≡ None }
+    ensures ends { unless_wide (first_wide wide_tableau) wide_tableau ≡ ended (Wide (negsuc (2 ^ 63 - 1))) }
+    ensures goes_on { unless_wide (first_wide narrow_tableau) narrow_tableau ≡ goes narrow_tableau }
 {}

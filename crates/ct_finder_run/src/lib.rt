@@ -4,6 +4,6 @@
 mod laws;
 
 pub use laws::{
-    gcd_is_greatest, known_runs, least_duals_are_accepted, ones_are_accepted,
-    rows_are_sums_of_opening_rows,
+    gcd_is_greatest, known_runs, known_wide_entries, least_duals_are_accepted, ones_are_accepted,
+    rows_are_divided_by_their_greatest_divisor, rows_are_sums_of_opening_rows,
 };

@@ -23,3 +23,15 @@ returns-clause-plain c = refl
 pub returns-clause-plain_bound : goal.returns-clause-plain_bound
 unfolding dual_bound
 returns-clause-plain_bound c = refl
+
+pub returns-clause-tied : goal.returns-clause-tied
+unfolding krawtchouk
+returns-clause-tied c = refl
+
+pub returns-clause-tied_turns : goal.returns-clause-tied_turns
+unfolding krawtchouk
+returns-clause-tied_turns c = refl
+
+pub returns-clause-tied_bound : goal.returns-clause-tied_bound
+unfolding dual_bound
+returns-clause-tied_bound c = refl
