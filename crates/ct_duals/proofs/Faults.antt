@@ -1,8 +1,8 @@
 -- What the faults of a dual say.
-use Rattle.std.proofs.Common.{◌≡◌, ℕ, zero, suc, ◌%◌, ◌<◌, Bool, true, false, cond, not, ◌&&◌, ◌||◌, ◌==◌, leb-true, refl, sym, ap, ◌∙◌, arith}
+use Rattle.std.proofs.Common.{◌≡◌, ℕ, zero, suc, ◌%◌, ◌<◌, Bool, true, false, cond, not, ◌&&◌, ◌||◌, ◌==◌, leb-true, refl, sym, subst, ap, ◌∙◌, arith}
 use Rattle.std.specs.Prelude.{ℤ, pos, ◌≤ℤ◌, ◌<ℤ◌, int_lt, Option, None, Some, nat_le}
 use Rattle.std.proofs.lemmas.Int.{ints}
-use Rattle.std.proofs.lemmas.Bool.{and_parts}
+use Rattle.std.proofs.lemmas.Bool.{and_parts, and_from}
 use Rattle.std.proofs.lemmas.Option.{none-some, cond_some}
 use Rattle.ct_codes.specs.Pairs.{first_of}
 use Rattle.ct_duals.specs.declared.dual.Dual.{Dual}
@@ -10,7 +10,7 @@ use Rattle.ct_duals.specs.declared.fault.DualFault.{DualFault}
 use Rattle.ct_duals.specs.declared.fault.DualFault.TheVariants.{Lead, Above}
 use Rattle.ct_duals.specs.Dual.{as_index, degree_of, multiplier, combination, allowed, is_in_range}
 use Rattle.ct_duals.specs.Check.{first_below, is_above, fault_at, above_fault, dual_fault, IsBelow, IsLeastAbove}
-use Rattle.ct_duals.proofs.First.{found_below, none_below}
+use Rattle.ct_duals.proofs.First.{found_below, none_below, first_below-found}
 
 -- what `Above` names, and 0 where there is nothing
 abbrev at_of : DualFault → ℕ
@@ -76,14 +76,15 @@ none-from f zero none = refl
 none-from f (suc m) none = ap (λ o. first_of o (f m)) (none-from f m (λ k less. none k (omega arith))) ∙ none m (omega arith)
 
 -- at an index there is no fault where f is at most what is allowed
-no_fault-from_below : (number : ℕ → ℕ → ℤ) (d : Dual) (i : ℕ) → IsBelow number d → fault_at number d i ≡ None
+no_fault-from_below : (number : ℕ → ℕ → ℤ) (d : Dual) (i : ℕ) → (is_in_range d.entry d.even i ≡ true → combination number d.c i ≤ℤ allowed d.y i)
+    → fault_at number d i ≡ None
 no_fault-from_below number d i below = go (is_in_range d.entry d.even i) refl
   where
     go : (b : Bool) → is_in_range d.entry d.even i ≡ b
         → cond (b && int_lt (allowed d.y i) (combination number d.c i)) (Some (Above i (combination number d.c i) (allowed d.y i))) None ≡ None
     go false out = refl
     go true inside =
-        let least = below i inside in
+        let least = below inside in
         let no : int_lt (allowed d.y i) (combination number d.c i) ≡ false = grind (arith, ints) in
         rw no refl
 
@@ -93,7 +94,7 @@ unfolding dual_fault
 none-from_below number d lead below =
     let no : int_lt (multiplier d.c 0) (pos 1) ≡ false = grind (arith, ints) in
     ap (λ b. first_of (cond b (Some Lead) None) (above_fault number d)) no
-    ∙ none-from (fault_at number d) (suc (degree_of d.entry)) (λ i less. no_fault-from_below number d i below)
+    ∙ none-from (fault_at number d) (suc (degree_of d.entry)) (λ i less. no_fault-from_below number d i (below i))
 
 -- `Above` comes with the least index
 pub above-means : (number : ℕ → ℕ → ℤ) (d : Dual) (at : ℕ) (value limit : ℤ) → dual_fault number d ≡ Some (Above at value limit)
@@ -125,3 +126,36 @@ above-means number d at value limit found = go (int_lt (multiplier d.c 0) (pos 1
           above = omega (arith, ints);
           least = λ i less range. below-from_no_fault number d i (none_below (fault_at number d) k here.3 i (omega arith)) range;
         }
+
+-- where c_0 is below 1, `Lead` comes
+pub lead-from : (number : ℕ → ℕ → ℤ) (d : Dual) → multiplier d.c 0 ≤ℤ pos 0 → dual_fault number d ≡ Some Lead
+unfolding dual_fault
+lead-from number d small =
+    let yes : int_lt (multiplier d.c 0) (pos 1) ≡ true = grind (arith, ints) in
+    ap (λ b. first_of (cond b (Some Lead) None) (above_fault number d)) yes
+
+-- at an index of the range there is a fault where f is above what is allowed
+fault-from_above : (number : ℕ → ℕ → ℤ) (d : Dual) (at : ℕ) (value limit : ℤ) → IsLeastAbove number d at value limit
+    → fault_at number d at ≡ Some (Above at value limit)
+fault-from_above number d at value limit h =
+    let greater : allowed d.y at <ℤ combination number d.c at = subst (λ v. allowed d.y at <ℤ v) h.value_is (subst (λ v. v <ℤ value) h.limit_is h.above) in
+    let yes : int_lt (allowed d.y at) (combination number d.c at) ≡ true = grind (arith, ints) in
+    ap (λ b. cond b (Some (Above at (combination number d.c at) (allowed d.y at))) None)
+    (and_from (is_in_range d.entry d.even at) (int_lt (allowed d.y at) (combination number d.c at)) h.in_range yes)
+    ∙ ap (λ v. Some (Above at v (allowed d.y at))) (sym h.value_is)
+    ∙ ap (λ v. Some (Above at value v)) (sym h.limit_is)
+
+-- where f is above at an index of the range and at no lesser one, `Above` comes with it
+pub above-from : (number : ℕ → ℕ → ℤ) (d : Dual) (at : ℕ) (value limit : ℤ) → IsLeastAbove number d at value limit
+    → dual_fault number d ≡ Some (Above at value limit)
+unfolding dual_fault
+above-from number d at value limit h =
+    let lead = h.lead in
+    let no : int_lt (multiplier d.c 0) (pos 1) ≡ false = grind (arith, ints) in
+    let parts = and_parts (nat_le (as_index d.entry.w d.entry.d) at && nat_le at (degree_of d.entry)) (not d.even || at % 2 == 0) h.in_range in
+    let ends = and_parts (nat_le (as_index d.entry.w d.entry.d) at) (nat_le at (degree_of d.entry)) parts.0 in
+    let last = leb-true at (degree_of d.entry) ends.1 in
+    ap (λ b. first_of (cond b (Some Lead) None) (above_fault number d)) no
+    ∙ first_below-found (fault_at number d) at (Above at value limit)
+    (none-from (fault_at number d) at (λ i less. no_fault-from_below number d i (h.least i less)))
+    (fault-from_above number d at value limit h) (suc (degree_of d.entry)) (omega arith)

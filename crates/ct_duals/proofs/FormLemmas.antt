@@ -1,11 +1,12 @@
 -- A dual that passes the tests has the form of one.
-use Rattle.std.proofs.Common.{◌≡◌, ℕ, suc, ◌%◌, ◌^◌, ◌<◌, ◌≤◌, Bool, true, false, ◌&&◌, nat_le, List, [], ◌∷◌, length, refl, arith, leb-true, eqb-true}
+use Rattle.std.proofs.Common.{◌≡◌, ℕ, suc, ◌%◌, ◌^◌, ◌<◌, ◌≤◌, Bool, true, false, ◌&&◌, nat_le, List, [], ◌∷◌, length, refl, arith, leb-true, eqb-true, eq-eqb}
 use Rattle.std.specs.Prelude.{ℤ, pos, ◌≤ℤ◌, ◌<ℤ◌, int_le, int_lt, Option, Some, None, IsTrue}
 use Rattle.std.specs.List.{All, AllPairs, list_all}
 use Rattle.std.proofs.lemmas.Int.{ints}
-use Rattle.std.proofs.lemmas.Bool.{and_parts}
-use Rattle.std.proofs.lemmas.List.Elements.{All-nil, All-cons, All-weaker}
+use Rattle.std.proofs.lemmas.Bool.{and_parts, and_from, le-leb}
+use Rattle.std.proofs.lemmas.List.Elements.{All-nil, All-cons, All-head, All-tail, All-weaker}
 use Rattle.std.proofs.lemmas.List.Kept.{AllPairs-cons}
+use Rattle.ct_counting.proofs.Pairs.{AllPairs-head, AllPairs-tail}
 use Rattle.ct_codes.specs.declared.entry.Entry.{Entry}
 use Rattle.ct_codes.specs.Entry.{is_entry}
 use Rattle.ct_duals.specs.declared.dual.Dual.{Dual}
@@ -92,3 +93,54 @@ form-from d h =
       allowances = pairs.2;
       signed = (numbers.3, pairs.3);
     }
+
+-- and what has the form passes the tests
+number-to : (z : ℤ) → pos 0 ≤ℤ z → z <ℤ pos (2 ^ 63) → is_number z ≡ true
+number-to z least most =
+    let first : int_le (pos 0) z ≡ true = grind (arith, ints) in
+    let second : int_lt z (pos (2 ^ 63)) ≡ true = grind (arith, ints) in
+    and_from (int_le (pos 0) z) (int_lt z (pos (2 ^ 63))) first second
+
+numbers-to : (c : List ℤ) → All (λ z. pos 0 ≤ℤ z) c → All (λ z. z <ℤ pos (2 ^ 63)) c → list_all is_number c ≡ true
+numbers-to [] least most = refl
+numbers-to (z ∷ c) least most =
+    let L = λ (y : ℤ). pos 0 ≤ℤ y in
+    let M = λ (y : ℤ). y <ℤ pos (2 ^ 63) in
+    and_from (is_number z) (list_all is_number c) (number-to z (All-head L z c least) (All-head M z c most))
+    (numbers-to c (All-tail L z c least) (All-tail M z c most))
+
+multipliers-to : (e : Entry) (c : List ℤ) → 1 ≤ length c → length c ≤ suc (degree_of e) → All (λ z. pos 0 ≤ℤ z) c → All (λ z. z <ℤ pos (2 ^ 63)) c
+    → are_multipliers e c ≡ true
+multipliers-to e c some few least most =
+    and_from (nat_le 1 (length c) && nat_le (length c) (suc (degree_of e))) (list_all is_number c)
+    (and_from (nat_le 1 (length c)) (nat_le (length c) (suc (degree_of e))) (le-leb 1 (length c) some) (le-leb (length c) (suc (degree_of e)) few))
+    (numbers-to c least most)
+
+allowances-to : (e : Entry) (even : Bool) (low : ℕ) (y : List (ℕ × ℤ)) → All (λ p. low ≤ p.0) y → AllPairs (λ p q. p.0 < q.0) y
+    → All (IsAllowance e even) y → All (λ p. p.1 <ℤ pos (2 ^ 63)) y → are_allowances_from e even low y ≡ true
+allowances-to e even low [] from ascending allowances most = refl
+allowances-to e even low (p ∷ y) from ascending allowances most =
+    let F = λ (q : ℕ × ℤ). low ≤ q.0 in
+    let M = λ (q : ℕ × ℤ). q.1 <ℤ pos (2 ^ 63) in
+    let R = λ (q r : ℕ × ℤ). q.0 < r.0 in
+    let here = All-head (IsAllowance e even) p y allowances in
+    let later = All-weaker (λ (q : ℕ × ℤ). p.0 < q.0) (λ (q : ℕ × ℤ). suc p.0 ≤ q.0) (λ q l. omega arith) y (AllPairs-head R p y ascending) in
+    and_from (nat_le low p.0 && is_in_range e even p.0 && is_number p.1) (are_allowances_from e even (suc p.0) y)
+    (and_from (nat_le low p.0 && is_in_range e even p.0) (is_number p.1)
+    (and_from (nat_le low p.0) (is_in_range e even p.0) (le-leb low p.0 (All-head F p y from)) here.0)
+    (number-to p.1 here.1 (All-head M p y most)))
+    (allowances-to e even (suc p.0) y later (AllPairs-tail R p y ascending) (All-tail (IsAllowance e even) p y allowances) (All-tail M p y most))
+
+marks-to : (w : Option ℕ) (d : ℕ) (even : Bool) (y : List (ℕ × ℤ)) → (even ≡ true → d % 2 ≡ 0) → IsPlainOf w even y → are_marks w d even y ≡ true
+marks-to None d false y halved plain = refl
+marks-to None d true y halved plain = eq-eqb (d % 2) 0 (halved refl)
+marks-to (Some w) d even y halved plain = rw plain.0 (rw plain.1 refl)
+
+pub form-to : (d : Dual) → IsDual d → is_dual d ≡ true
+form-to d form =
+    let e = d.entry in
+    and_from (is_entry e && are_marks e.w e.d d.even d.y && are_multipliers e d.c) (are_allowances e d.even d.y)
+    (and_from (is_entry e && are_marks e.w e.d d.even d.y) (are_multipliers e d.c)
+    (and_from (is_entry e) (are_marks e.w e.d d.even d.y) form.entry (marks-to e.w e.d d.even d.y form.even_distance form.weighted))
+    (multipliers-to e d.c form.some form.few form.multipliers form.signed.0))
+    (allowances-to e d.even 0 d.y (λ k p l. omega arith) form.ascending form.allowances form.signed.1)

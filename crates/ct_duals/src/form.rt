@@ -1,5 +1,5 @@
 //! The form of a dual.
-ghost use Rattle.std.specs.Prelude.{◌≡◌, ◌≤◌, true};
+ghost use Rattle.std.specs.Prelude.{◌≡◌, ◌↔◌, ◌≤◌, IsTrue};
 ghost use Rattle.std.specs.List.{list_all};
 ghost use Rattle.ct_words.specs.declared.limits.TheConstants.{MAX_N};
 ghost use Rattle.ct_codes.specs.Entry.{IsEntry};
@@ -16,7 +16,7 @@ impl Dual {
     /// nothing.
     pub fn is_formed(&self) -> bool
         ensures value { result ≡ is_dual self.now }
-        ensures form { result ≡ true → IsDual self.now }
+        ensures form { IsTrue result ↔ IsDual self.now }
     {
         is_dual(self)
     }

@@ -22,15 +22,16 @@ pub fn accepted_duals_bound_codes<S: Scheme>(scheme: &S)
         IsTrueUpper dual.entry (dual_bound dual (combination (S.number scheme.now) dual.c 0) uppers) }
 {}
 
-/// What the check of a dual says: it is accepted exactly where c_0 is at least 1 and f nowhere above what is allowed; `Lead` says
-/// that c_0 is below 1, and `Above` names the least index where f is above, with both numbers.
+/// What the check of a dual says: it is accepted exactly where c_0 is at least 1 and f nowhere above what is allowed; `Lead` comes
+/// exactly where c_0 is below 1; and `Above` exactly where it isn't, and f is above at the index that it names and at no
+/// lesser one, with both numbers.
 pub fn faults_of_duals()
     ensures accepted { (number : ℕ → ℕ → ℤ) (dual : Dual) →
         (dual_fault number dual ≡ None) ↔ ((pos 1 ≤ℤ multiplier dual.c 0) × IsBelow number dual) }
     ensures lead { (number : ℕ → ℕ → ℤ) (dual : Dual) →
-        dual_fault number dual ≡ Some Lead → multiplier dual.c 0 ≤ℤ pos 0 }
+        (dual_fault number dual ≡ Some Lead) ↔ (multiplier dual.c 0 ≤ℤ pos 0) }
     ensures above { (number : ℕ → ℕ → ℤ) (dual : Dual) (at : ℕ) (value allowed : ℤ) →
-        dual_fault number dual ≡ Some (Above at value allowed) → IsLeastAbove number dual at value allowed }
+        (dual_fault number dual ≡ Some (Above at value allowed)) ↔ IsLeastAbove number dual at value allowed }
 {}
 
 /// Smaller upper bounds never give a greater bound.
