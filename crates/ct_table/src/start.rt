@@ -12,7 +12,7 @@ ghost use Rattle.ct_closure.specs.Places.{entry_of, ArePlaces};
 ghost use Rattle.ct_closure.specs.Worklist.{IsMarked};
 ghost use Rattle.ct_table.specs.Inside.Starting.{IsBegun, IsMarkedIfGiven};
 
-use ct_closure::{Closing, Kept, SLOTS, SupportPlaces, Worklist, close, entry_of, side_of};
+use ct_closure::{Closing, Kept, SupportPlaces, Worklist, close, entry_of, side_of};
 use ct_rules::Support;
 use std::alloc::{AllocError, Global};
 
@@ -28,7 +28,7 @@ fn fresh(alloc: Global) -> Result<Closing, AllocError>
     Ok(Closing {
         kept,
         work,
-        evaluations: SLOTS as u64,
+        evaluations: 0,
     })
 }
 

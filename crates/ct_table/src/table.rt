@@ -180,7 +180,7 @@ impl Table {
         self.closing.kept.line_count()
     }
 
-    /// How often this table has tried a rule at an entry since it was made; it stays at its last value.
+    /// How often this table has tried a rule at an entry, from 0 on, while it was made and since; it stays at its last value.
     pub fn evaluations(&self) -> u64 {
         self.closing.evaluations
     }
