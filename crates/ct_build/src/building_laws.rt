@@ -85,8 +85,8 @@ pub fn known_builds()
         (record { n = 7; d = 3; w = None; words = 0b0000000 ∷ 0b1111111 ∷ [] }) None ≡ Some (Short 0 3) }
 {}
 
-/// The first reasons over shapes, at the limit and where two hold: too small a distance comes before too many words, and
-/// the part is counted before the other code, and that before the result.
+/// The first reasons over shapes, at the limit and where two hold: too small a distance comes before too many words, these
+/// before too few, and the part is counted before the other code, and that before the result.
 pub fn known_reasons()
     ensures at_the_limit { early_fault Lengthen (unrestricted 27 3)
         (record { n = 26; d = 3; w = None; size = 262144 }) None ≡ None }
@@ -94,6 +94,8 @@ pub fn known_reasons()
         (record { n = 26; d = 3; w = None; size = 262145 }) None ≡ Some (Size 262145) }
     ensures short_before_size { early_fault Lengthen (unrestricted 27 4)
         (record { n = 26; d = 3; w = None; size = 262145 }) None ≡ Some (Short 3 4) }
+    ensures size_before_few { early_fault (Trim 262146) (unrestricted 26 3)
+        (record { n = 26; d = 3; w = None; size = 262145 }) None ≡ Some (Size 262145) }
     ensures part_before_other { early_fault Juxtapose (unrestricted 28 3)
         (record { n = 14; d = 2; w = None; size = 262146 })
         (Some (record { n = 14; d = 2; w = None; size = 262145 })) ≡ Some (Size 262146) }

@@ -15,6 +15,10 @@ even_pairs = record {
 abbrev pub two_pairs : PartitionValue
 two_pairs = record { entry = unrestricted 4 4; between = 2; classes = (0b0000 ∷ 0b1111 ∷ []) ∷ (0b0011 ∷ 0b1100 ∷ []) ∷ [] }
 
+-- two pairs of complements, of which words of different ones are at distance 1
+abbrev pub near_pairs : PartitionValue
+near_pairs = record { entry = unrestricted 4 4; between = 1; classes = (0b0000 ∷ 0b1111 ∷ []) ∷ (0b0001 ∷ 0b1110 ∷ []) ∷ [] }
+
 -- the word without a one
 abbrev pub no_ones : PartitionValue
 no_ones = record { entry = constant_weight 4 4 0; between = 4; classes = (0b0000 ∷ []) ∷ [] }

@@ -7,7 +7,7 @@ ghost use Rattle.ct_codes.specs.declared.fault.TheConstants.{MAX_WORDS};
 ghost use Rattle.ct_partitions.specs.declared.fault.TheConstants.{MAX_CLASSES};
 ghost use Rattle.ct_partitions.specs.declared.fault.PartitionFault.TheVariants.{Size, Weight, Repeated, Close};
 ghost use Rattle.ct_partitions.specs.Partition.{all_words, IsPartition};
-ghost use Rattle.ct_partitions.specs.Known.{even_pairs, two_pairs, no_ones, two_ones, four_ones};
+ghost use Rattle.ct_partitions.specs.Known.{even_pairs, two_pairs, near_pairs, no_ones, two_ones, four_ones};
 ghost use Rattle.ct_partitions.specs.Product.{Factors, AreFactors, AreSound, product, product_size, product_distance};
 ghost use Rattle.ct_partitions.specs.Check.{partition_fault, need, distance_at};
 
@@ -29,7 +29,8 @@ pub fn words_of_partitions()
         need d between classes i j ≤ distance_at n classes i j }
 {}
 
-/// Words of length 4, in pairs of complements, checked with some distances between classes.
+/// Words of length 4, in pairs of complements, checked with some distances between classes. A wrong count comes before a
+/// wrong weight.
 pub fn known_partitions()
     ensures accepted { partition_fault (record { n = 4; d = 4; w = None }) 2
         ((0b0000 ∷ 0b1111 ∷ []) ∷ (0b0011 ∷ 0b1100 ∷ []) ∷ (0b0101 ∷ 0b1010 ∷ []) ∷ (0b0110 ∷ 0b1001 ∷ []) ∷ []) ≡ None }
@@ -44,6 +45,8 @@ pub fn known_partitions()
         ((0b0000 ∷ 0b0001 ∷ []) ∷ (0b0001 ∷ []) ∷ []) ≡ Some (Repeated 1 2) }
     ensures weight_first { partition_fault (record { n = 4; d = 4; w = Some 2 }) 2
         ((0b0011 ∷ 0b0011 ∷ []) ∷ (0b0001 ∷ []) ∷ []) ≡ Some (Weight 2) }
+    ensures count_before_weight { partition_fault (record { n = 4; d = 4; w = Some 2 }) 2
+        ((0b0001 ∷ []) ∷ [] ∷ []) ≡ Some (Size 0) }
 {}
 
 /// A product of partitions is a code, for all partitions whose lengths and weights fit: two words of one pair and one
@@ -56,8 +59,8 @@ pub fn products_are_codes()
 {}
 
 /// Products of words of length 4: of all even words with themselves, 16 words at distance 4; with the first two classes of
-/// them; of words of weights 0, 2 and 4, the 14 words of length 8 and weight 4 at distance 4; and of equal pairs at different
-/// places, which are no code.
+/// them; with two classes at distance 1, at distance 2 + 1; of words of weights 0, 2 and 4, the 14 words of length 8 and
+/// weight 4 at distance 4, in either order; and of equal pairs at different places, which are no code.
 pub fn known_products()
     ensures even_distance { product_distance ((even_pairs, even_pairs) ∷ []) ≡ 4 }
     ensures even_size { product_size ((even_pairs, even_pairs) ∷ []) ≡ 16 }
@@ -67,7 +70,10 @@ pub fn known_products()
         0b00000000 ∷ 0b00001111 ∷ 0b11110000 ∷ 0b11111111 ∷ 0b00110011 ∷ 0b00111100 ∷ 0b11000011 ∷ 0b11001100 ∷ [] }
     ensures weighted_distance { product_distance
         ((no_ones, four_ones) ∷ (two_ones, two_ones) ∷ (four_ones, no_ones) ∷ []) ≡ 4 }
+    ensures weighted_distance_turned { product_distance
+        ((four_ones, no_ones) ∷ (two_ones, two_ones) ∷ (no_ones, four_ones) ∷ []) ≡ 4 }
     ensures weighted_size { product_size
         ((no_ones, four_ones) ∷ (two_ones, two_ones) ∷ (four_ones, no_ones) ∷ []) ≡ 14 }
+    ensures unequal_between { product_distance ((even_pairs, near_pairs) ∷ []) ≡ 3 }
     ensures equal_pairs { product_distance ((two_ones, two_ones) ∷ (two_ones, two_ones) ∷ []) ≡ 0 }
 {}

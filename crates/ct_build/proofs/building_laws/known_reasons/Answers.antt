@@ -8,6 +8,7 @@ returns c = record {
   at_the_limit = refl;
   above = refl;
   short_before_size = refl;
+  size_before_few = refl;
   part_before_other = refl;
   other_before_result = refl;
   pairs = refl;

@@ -13,4 +13,5 @@ returns c = record {
   empty_class = refl;
   repeated = refl;
   weight_first = refl;
+  count_before_weight = refl;
 }

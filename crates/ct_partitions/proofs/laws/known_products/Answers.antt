@@ -9,6 +9,8 @@ returns c = record {
   unequal_size_turned = refl;
   unequal_words = refl;
   weighted_distance = refl;
+  weighted_distance_turned = refl;
   weighted_size = refl;
+  unequal_between = refl;
   equal_pairs = refl;
 }
