@@ -179,6 +179,7 @@ GathersLine-line {S} left count old new before after n h line feed all = record 
   found = (line, feed);
   little = few_past old.held.bytes new.held.bytes n h.looks feed;
   unread = h.unread;
+  looks = h.looks;
   kept = h.kept;
   all_kept = all;
   within = h.within;
@@ -193,6 +194,7 @@ GathersLine-none {S} left count old new before after h line ended all = record {
   found = (line, ended);
   little = tt;
   unread = h.unread;
+  looks = h.looks;
   kept = h.kept;
   all_kept = all;
   within = h.within;
@@ -212,6 +214,7 @@ GathersLine-fault {S} {X} left count old mid new before between after fault h li
   found = tt;
   little = tt;
   unread = λ ready. absurd (needs_read old mid (left before) (left between) h.gathers line going ready);
+  looks = inr k.last;
   kept = omega (arith, h.kept, k.kept, longer mid new (left between) (left after) k.gathers);
   all_kept = k.all_kept;
   within = tt;
@@ -232,6 +235,7 @@ Gives-fault {S} left count old new before after fault h = record {
   all_kept = h.all_kept;
   within = tt;
   fault = h.fault;
+  memory = λ e. h.looks;
   counted = h.counted;
 }
 
@@ -242,6 +246,10 @@ on_ok (Err fault) P h = tt
 only_memory : (answer : Answer) (held : List ℕ) (ended : Bool) (taken f f' : ℕ) → IfErr answer (λ fault. fault ≡ Memory) → taken ≤ MAX_INPUT → IfErr answer (IsFaultAt held ended taken f f')
 only_memory (Ok line) held ended taken f f' memory within = tt
 only_memory (Err fault) held ended taken f f' memory within = subst (IsFaultAt held ended taken f f') (sym memory) within
+
+-- a fault leaves the bytes that were held
+held_at_fault : (bytes held : List ℕ) (ended : Bool) (answer : Answer) (fault : LineFault) → answer ≡ Err fault → Divides bytes answer held ended → held ≡ bytes
+held_at_fault bytes held ended answer fault e h = subst (λ (a : Answer). Divides bytes a held ended) e h
 
 pub Gives-found : {S : Type 0} (left : S → Option (List ℕ)) (count : S → ℕ) (old mid new : Intake) (before after : S) (found : Option ℕ) (answer : Answer)
     → GathersLine left count old mid before after (Ok found) → GivesOut mid new found answer → Gives left count old new before after answer
@@ -260,6 +268,7 @@ Gives-found {S} left count old mid new before after found answer h k = record {
   all_kept = k.all_kept;
   within = on_ok answer (new.taken ≤ MAX_INPUT) (omega (arith, k.taken, h.within));
   fault = only_memory answer new.held.bytes new.ended new.taken (count before) (count after) k.memory (omega (arith, k.taken, h.within));
+  memory = λ e. subst (LooksFirst old.held.bytes) (sym (held_at_fault mid.held.bytes new.held.bytes new.ended answer Memory e k.divides)) h.looks;
   counted = h.counted;
 }
 

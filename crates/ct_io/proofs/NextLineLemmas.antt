@@ -86,6 +86,7 @@ answered_again {S} left count r s fault is settled all =
       above_limit = settled_above r.held r.ended r.taken fault h;
       remembered = is ∙ settled_lasts r.held r.ended r.taken fault h;
       no_lasting_memory = λ e. is ∙ settled_memory r.held r.ended r.taken fault h e;
+      few_at_memory = λ e. inl refl;
       stays = λ f was. (again fault f (sym is ∙ was), refl, refl);
       counted = omega arith;
     }
@@ -252,6 +253,7 @@ goes_on {S} left count i j f g before after answer healthy lasting h =
       above_limit = told.above;
       remembered = lasting;
       no_lasting_memory = λ e. lasting ∙ told.memory e;
+      few_at_memory = h.memory;
       stays = λ fault was. let e = sym healthy ∙ was in absurd cc;
       counted = h.counted;
     }

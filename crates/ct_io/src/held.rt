@@ -1,4 +1,4 @@
-ghost use Rattle.std.specs.Prelude.{◌≡◌, ℕ, replicate, ◌+◌, ◌<◌, ◌≤◌, [], ◌∷◌, ◌++◌, IfOk, IfSome, IfNone, OnErr, MatchOption, length, take, drop, position, slice_get, vec_len, ◌==◌};
+ghost use Rattle.std.specs.Prelude.{◌≡◌, ◌≢◌, ℕ, replicate, ◌+◌, ◌<◌, ◌≤◌, [], ◌∷◌, ◌++◌, IfOk, IfSome, IfNone, OnErr, MatchOption, length, take, drop, position, slice_get, vec_len, ◌==◌, Some};
 ghost use Rattle.ct_io.specs.Inside.Buffer.{Buffer, empty_buffer};
 ghost use Rattle.ct_lines.specs.Lines.{IsLine};
 ghost use Rattle.ct_io.specs.Inside.Filling.{Fills};
@@ -39,6 +39,7 @@ fn feed_place(bytes: &[u8]) -> Option<usize>
 fn feeds_first(bytes: &[u8]) -> usize
     ensures within { result ≤ length bytes.now }
     ensures feeds { take result bytes.now ≡ replicate result LINE_FEED }
+    ensures all { slice_get bytes.now result ≢ Some LINE_FEED }
 {
     for (count, b) in bytes.iter().enumerate() {
         if *b != LINE_FEED {
@@ -83,6 +84,7 @@ impl Held {
     /// Drops the line feeds that come first.
     pub(crate) fn pass_feeds(&mut self)
         ensures passed { (count : ℕ) × (self.old.bytes ≡ replicate count LINE_FEED ++ self.new.bytes) }
+        ensures all { slice_get self.new.bytes 0 ≢ Some LINE_FEED }
         ensures kept { self.new.kept ≡ self.old.kept }
         ensures all_kept { length self.new.bytes ≤ self.new.kept }
     {

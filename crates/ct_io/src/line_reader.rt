@@ -1,5 +1,6 @@
-ghost use Rattle.std.specs.Prelude.{◌≡◌, ◌≢◌, IfErr, ℕ, ◌+◌, ◌<◌, ◌≤◌, ◌⊎◌, ◌↔◌, IsTrue, Option, true, false, [], IfOk, OnOk, OnErr, length, max};
+ghost use Rattle.std.specs.Prelude.{◌≡◌, ◌≢◌, IfErr, ℕ, ◌+◌, ◌<◌, ◌≤◌, ◌⊎◌, ◌↔◌, IsTrue, Option, Some, None, true, false, [], IfOk, OnOk, OnErr, length, max, slice_get};
 ghost use Rattle.std.specs.Io.KnownBytes.{IsAtEnd, Keeps};
+ghost use Rattle.ct_lines.specs.declared.TheConstants.{LINE_FEED};
 ghost use Rattle.ct_io.specs.Faults.{Rose};
 ghost use Rattle.ct_io.specs.Reader.{fresh_reader, given_size, input_of, IfLine, IfNoLine, IsLineThenRead, LosesLine, LosesFirstLine, NeedsNoRead, PassesEmptyLines, Takes, lasting_fault};
 ghost use Rattle.ct_lines.specs.Lines.{IsLine};
@@ -65,9 +66,11 @@ impl LineReader {
         self.intake.ended || self.intake.held.line_length().is_some()
     }
 
-    /// Passes over empty lines that it holds before the next line, without a read: none, where it stays with a fault.
+    /// Passes over the empty lines that it holds before the next line, all of them, without a read: none, where it stays with
+    /// a fault.
     pub fn pass_empty_lines(&mut self)
-        ensures { PassesEmptyLines self.old self.new }
+        ensures passed { PassesEmptyLines self.old self.new }
+        ensures all { self.old.fault ≡ None → slice_get self.new.held 0 ≢ Some LINE_FEED }
     {
         if self.fault.is_none() {
             self.intake.held.pass_feeds();
@@ -85,7 +88,7 @@ impl LineReader {
     /// `TooLong` comes exactly where more than `MAX_INPUT` bytes were taken, and at most one read was
     /// taken past them. After `ReadFault` and after `TooLong` each further call answers the same; with
     /// `ReadFault` no whole line is held, with `TooLong` none but those that the last read brought.
-    /// After `Memory` the lines still to come are as before the call.
+    /// After `Memory` the lines still to come are as before the call, and a read came only where no whole line was held.
     pub fn next_line<S: Source>(&mut self, source: &mut S) -> Result<Option<Vec<u8>>, LineFault>
         // The input: its next line is taken off, or none is left, or all of it stays.
         ensures line { IfLine result (LosesLine (input_of self.old (S.left source.old))
@@ -127,6 +130,8 @@ impl LineReader {
             → result ≡ Err (LineFault.TooLong self.new.taken) }
         ensures remembered { self.new.fault ≡ lasting_fault result }
         ensures no_lasting_memory { result ≡ Err LineFault.Memory → self.new.fault ≡ None }
+        ensures few_at_memory { result ≡ Err LineFault.Memory → (self.new.held ≡ self.old.held)
+            ⊎ IsLineThenRead self.new.held }
         ensures stays { (f : LineFault) → self.old.fault ≡ Some f → (result ≡ Err f)
             × (self.new ≡ self.old) × (source.new ≡ source.old) }
         ensures counted { S.faults source.old ≤ S.faults source.new }

@@ -1,5 +1,5 @@
 -- Inside a line reader: how bytes come to it and go from it.
-use Rattle.std.specs.Prelude.{◌≡◌, ℕ, Bool, ◌+◌, ◌<◌, ◌≤◌, ◌⊎◌, true, false, List, ◌++◌, length, max, take, Option, Some, None, Result, IfOk, IfErr, OnOk, IfSome, slice_get}
+use Rattle.std.specs.Prelude.{◌≡◌, ℕ, Bool, ◌+◌, ◌<◌, ◌≤◌, ◌⊎◌, true, false, List, ◌++◌, length, max, take, Option, Some, None, Result, Err, IfOk, IfErr, OnOk, IfSome, slice_get}
 use Rattle.std.specs.Io.KnownBytes.{Consumes, IsAtEnd}
 use Rattle.ct_lines.specs.declared.TheConstants.{LINE_FEED}
 use Rattle.ct_lines.specs.Lines.{IsLine}
@@ -38,12 +38,17 @@ abbrev pub IsFound : Option ℕ → List ℕ → Bool → Type 0
 IsFound (Some n) held ended = IsLine (take n held) × (slice_get held n ≡ Some LINE_FEED)
 IsFound None held ended = IsLine held × (ended ≡ true)
 
+-- a read came only where no line was held: the bytes are those of before, or those of one read after bytes without a line feed
+abbrev pub LooksFirst : List ℕ → List ℕ → Type 0
+LooksFirst old now = (now ≡ old) ⊎ IsLineThenRead now
+
 -- what gathering a line comes to, by reads that come only where they are needed
 pub record GathersLine {S : Type 0} (left : S → Option (List ℕ)) (count : S → ℕ) (old new : Intake) (before after : S) (result : Result (Option ℕ) LineFault) : Type 0 where
   pub gathers : Gathers old new (left before) (left after)
   pub found : IfOk result (λ found. IsFound found new.held.bytes new.ended)
   pub little : IfOk result (λ found. IfSome found (λ n. length new.held.bytes ≤ n + max (length old.held.bytes) MAX_READ))
   pub unread : NeedsNoRead old.held.bytes old.ended → (new.taken ≡ old.taken) × (after ≡ before)
+  pub looks : LooksFirst old.held.bytes new.held.bytes
   pub kept : new.held.kept ≤ max old.held.kept (length new.held.bytes)
   pub all_kept : length new.held.bytes ≤ new.held.kept
   pub within : OnOk result (new.taken ≤ MAX_INPUT)
@@ -76,8 +81,5 @@ pub record Gives {S : Type 0} (left : S → Option (List ℕ)) (count : S → �
   pub all_kept : length new.held.bytes ≤ new.held.kept
   pub within : OnOk answer (new.taken ≤ MAX_INPUT)
   pub fault : IfErr answer (IsFaultAt new.held.bytes new.ended new.taken (count before) (count after))
+  pub memory : answer ≡ Err Memory → LooksFirst old.held.bytes new.held.bytes
   pub counted : count before ≤ count after
-
--- a read came only where no line was held: the bytes are those of before, or those of one read after bytes without a line feed
-abbrev pub LooksFirst : List ℕ → List ℕ → Type 0
-LooksFirst old now = (now ≡ old) ⊎ IsLineThenRead now

@@ -32,5 +32,6 @@ pub record GivesNext {S : Type 0} (left : S → Option (List ℕ)) (count : S �
   pub above_limit : MAX_INPUT < new.taken → result ≡ Err (TooLong new.taken)
   pub remembered : new.fault ≡ lasting_fault result
   pub no_lasting_memory : result ≡ Err Memory → new.fault ≡ None
+  pub few_at_memory : result ≡ Err Memory → (new.held ≡ old.held) ⊎ IsLineThenRead new.held
   pub stays : (f : LineFault) → old.fault ≡ Some f → (result ≡ Err f) × (new ≡ old) × (after ≡ before)
   pub counted : count before ≤ count after

@@ -26,6 +26,7 @@ returns g c =
       above_limit = h.above_limit;
       remembered = h.remembered;
       no_lasting_memory = h.no_lasting_memory;
+      few_at_memory = h.few_at_memory;
       stays = h.stays;
       counted = h.counted;
     }
