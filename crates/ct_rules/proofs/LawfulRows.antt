@@ -14,7 +14,7 @@ use Rattle.ct_codes.specs.declared.entry.Entry.{Entry}
 use Rattle.ct_codes.specs.Entry.{unrestricted, constant_weight}
 use Rattle.ct_rule_parts.specs.declared.support.Support.{Support}
 use Rattle.ct_rule_parts.specs.declared.support.Support.TheVariants.{Nothing}
-use Rattle.ct_rules.specs.declared.listing.TheConstants.{LOWER_RULES, UPPER_RULES, LOWER_WEIGHT_RULES, UPPER_WEIGHT_RULES}
+use Rattle.ct_rules.specs.declared.rule.TheConstants.{LOWER_RULES, UPPER_RULES, LOWER_WEIGHT_RULES, UPPER_WEIGHT_RULES}
 use Rattle.ct_rules.specs.Listing.{alone_on, rules_alone}
 use Rattle.ct_rule_parts.proofs.Lawful.{IsLawful}
 use Rattle.ct_plain_rules.proofs.LawfulOneWord.{one_word-lawful}
@@ -205,15 +205,7 @@ alone_listed V5 alone = (14, omega arith, refl)
 alone_listed V6 alone = (15, omega arith, refl)
 alone_listed V7 alone = (16, omega arith, refl)
 alone_listed V8 alone = (17, omega arith, refl)
-alone_listed (L9 w) alone = absurd (false≢true alone)
-alone_listed U9 alone = absurd (false≢true alone)
-alone_listed (U10 w) alone = absurd (false≢true alone)
-alone_listed (L10 place) alone = absurd (false≢true alone)
-alone_listed (L11 n d) alone = absurd (false≢true alone)
-alone_listed (M9 k) alone = absurd (false≢true alone)
-alone_listed (M10 place) alone = absurd (false≢true alone)
-alone_listed (U11 place) alone = absurd (false≢true alone)
-alone_listed (V9 place) alone = absurd (false≢true alone)
+alone_listed r alone = absurd (false≢true alone)
 
 -- whether two sides are one
 abbrev same_side : Side → Side → Bool
@@ -317,10 +309,10 @@ alone_at r n d w alone here = go (rule_side r) w (alone_listed r alone) here
 
 -- a rule alone is made of the same whatever the supports
 alone_parts : (row : Row) (c d : Option Support) → is_alone_in row ≡ true → parts_in row c ≡ parts_in row d
-alone_parts (by_itself parts) c d alone = refl
-alone_parts (by_numbers parts) c d alone = absurd (false≢true alone)
-alone_parts (by_weight parts) c d alone = absurd (false≢true alone)
-alone_parts (by_support named place parts) c d alone = absurd (false≢true alone)
+alone_parts (by_itself name parts) c d alone = refl
+alone_parts (by_numbers name written parts) c d alone = absurd (false≢true alone)
+alone_parts (by_weight name written parts) c d alone = absurd (false≢true alone)
+alone_parts (by_support name named place parts) c d alone = absurd (false≢true alone)
 
 pub alone-parts : (r : Rule) (supports : List Support) → is_alone r ≡ true → parts_over supports r ≡ parts_of r None
 alone-parts r supports alone = alone_parts (row_of r) (cited supports r) None alone

@@ -18,3 +18,4 @@ pub mod WithoutLemmas
 pub mod LoweredRules
 pub mod VoidedSupports
 pub mod LoweredLines
+pub mod RuleNames

@@ -1,10 +1,9 @@
 -- The list of the rules that can be defined at an entry has each that is defined there.
-use Rattle.std.proofs.Common.{◌≡◌, ℕ, zero, suc, ◌+◌, ◌-◌, ◌<◌, ◌≤◌, true, false, ◌&&◌, List, [], ◌∷◌, ◌++◌, length, map, All, Contains, flat_map, Option, Some, None, slice_get, refl, sym, subst, arith, inl, inr}
+use Rattle.std.proofs.Common.{◌≡◌, ℕ, ◌+◌, ◌-◌, ◌<◌, ◌≤◌, true, false, ◌&&◌, List, [], ◌∷◌, ◌++◌, length, map, All, Contains, Option, Some, None, slice_get, refl, sym, subst, arith, inl, inr}
 use Rattle.std.specs.Prelude.{Bool, is_some}
 use Rattle.std.specs.List.{range_with_len}
 use Rattle.std.proofs.lemmas.Bool.{and_parts, false≢true}
 use Rattle.std.proofs.lemmas.List.Elements.{All-contains, Contains-append_left, Contains-append_right}
-use Rattle.std.proofs.lemmas.List.FromFn.{length-range_with_len, get_or-range_with_len}
 use Rattle.std.proofs.lemmas.Option.{none-some, slice_get_within}
 use Rattle.ct_counting.proofs.Words.{Contains-map}
 use Rattle.ct_codes.specs.declared.claim.Side.TheVariants.{Lower, Upper}
@@ -17,7 +16,7 @@ use Rattle.ct_rule_parts.specs.Slot.{Slot}
 use Rattle.ct_rule_parts.proofs.EntryLists.{Contains-range_with_len, Contains-flat_map}
 use Rattle.ct_rule_parts.specs.Support.{size_at, dual_at}
 use Rattle.ct_weight_rules.specs.Neighbours.{of_weight, even_of_weight}
-use Rattle.ct_weight_rules.proofs.LawfulSumClass.{KnownClass, known_class}
+use Rattle.ct_weight_rules.proofs.LawfulSumClass.{known_class}
 use Rattle.ct_rules.specs.declared.rule.Rule.{Rule}
 use Rattle.ct_rules.specs.declared.rule.Rule.TheVariants.{L9, L10, L11, M9, M10, U9, U10, U11, V9}
 use Rattle.ct_rules.specs.Rule.{row_of, rule_side, place_of, is_alone, is_by_weight, parts_over, applies}

@@ -1,6 +1,7 @@
--- The rules that can be defined at an entry, one after the other.
-use Rattle.std.specs.Prelude.{ℕ, ◌+◌, ◌-◌, if◌then◌else◌, List, [], ◌∷◌, ◌++◌, map}
+-- The rules that can be defined at an entry, one after the other; and the rules by their names.
+use Rattle.std.specs.Prelude.{ℕ, ◌+◌, ◌-◌, if◌then◌else◌, List, [], ◌∷◌, ◌++◌, map, Option, Some, None}
 use Rattle.std.specs.List.{flat_map, range_with_len}
+use Rattle.std.specs.Str.{bytes_eq}
 use Rattle.ct_codes.specs.declared.entry.Entry.{Entry}
 use Rattle.ct_codes.specs.declared.claim.Side.{Side}
 use Rattle.ct_codes.specs.declared.claim.Side.TheVariants.{Lower, Upper}
@@ -8,7 +9,8 @@ use Rattle.ct_rule_parts.specs.Parts.{has_weight}
 use Rattle.ct_rule_parts.specs.Slot.{Slot}
 use Rattle.ct_rules.specs.declared.rule.Rule.{Rule}
 use Rattle.ct_rules.specs.declared.rule.Rule.TheVariants.{L9, L10, L11, M9, M10, U9, U10, U11, V9}
-use Rattle.ct_rules.specs.declared.listing.TheConstants.{LOWER_RULES, UPPER_RULES, LOWER_WEIGHT_RULES, UPPER_WEIGHT_RULES}
+use Rattle.ct_rules.specs.declared.rule.TheConstants.{LOWER_RULES, UPPER_RULES, LOWER_WEIGHT_RULES, UPPER_WEIGHT_RULES, OTHER_LOWER_RULES, OTHER_UPPER_RULES}
+use Rattle.ct_rules.specs.Rule.{name_of}
 
 -- the rules with neither numbers nor a support
 abbrev pub rules_alone : Slot → List Rule
@@ -19,6 +21,20 @@ rules_alone (Upper, e) = if has_weight e then UPPER_WEIGHT_RULES else UPPER_RULE
 abbrev pub alone_on : Side → List Rule
 alone_on Lower = LOWER_RULES ++ LOWER_WEIGHT_RULES
 alone_on Upper = UPPER_RULES ++ UPPER_WEIGHT_RULES
+
+-- all that give bounds from a side, each once, with arguments that are 0
+abbrev pub rules_on : Side → List Rule
+rules_on Lower = LOWER_RULES ++ LOWER_WEIGHT_RULES ++ OTHER_LOWER_RULES
+rules_on Upper = UPPER_RULES ++ UPPER_WEIGHT_RULES ++ OTHER_UPPER_RULES
+
+-- the first of these rules that has the name
+abbrev pub first_named : List ℕ → List Rule → Option Rule
+first_named name [] = None
+first_named name (r ∷ rules) = if bytes_eq (name_of r) name then Some r else first_named name rules
+
+-- the rule for bounds of this side that has the name, its arguments 0
+unfoldable pub rule_named : Side → List ℕ → Option Rule
+rule_named side name = first_named name (rules_on side)
 
 -- words side by side: the first code of each length from 1 to n - 1, and of each distance from 3 to d - 3
 abbrev pub side_by_side_rules : Entry → List Rule

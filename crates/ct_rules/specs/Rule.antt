@@ -1,5 +1,5 @@
 -- The rules of the table, a row for each: what it is made of; and by that where it is defined, what it rests on, and the bound that it gives.
-use Rattle.std.specs.Prelude.{ℕ, Bool, true, false, if◌then◌else◌, List, length, slice_get, Option, Some, None}
+use Rattle.std.specs.Prelude.{ℕ, Bool, true, false, if◌then◌else◌, List, length, slice_get, Option, Some, None, codes}
 use Rattle.ct_codes.specs.declared.entry.Entry.{Entry}
 use Rattle.ct_codes.specs.declared.claim.Side.{Side}
 use Rattle.ct_rule_parts.specs.declared.support.Support.{Support}
@@ -36,80 +36,140 @@ use Rattle.ct_weight_rules.specs.SumClass.{class_of_sum}
 use Rattle.ct_weight_rules.specs.GivenCode.{given_code as given_code_of_weight}
 use Rattle.ct_weight_rules.specs.AllWords.{all_words as all_words_of_weight}
 use Rattle.ct_weight_rules.specs.Delsarte.{dual_above, dual_above_of_weight}
+use Rattle.ct_rules.specs.declared.arguments.Arguments.{Arguments}
+use Rattle.ct_rules.specs.declared.arguments.Arguments.TheVariants.{Nothing, Number, Numbers, Place}
 use Rattle.ct_rules.specs.declared.rule.Rule.{Rule}
 use Rattle.ct_rules.specs.declared.rule.Rule.TheVariants.{L1, L2, L3, L4, L5, L6, L7, L8, L9, L10, L11, M1, M2, M3, M4, M5, M6, M7, M8, M9, M10, U0, U1, U2, U3, U4, U5, U6, U7, U8, U9, U10, U11, V0, V1, V2, V3, V4, V5, V6, V7, V8, V9}
 
--- the row of a rule: what it is made of, by itself or with the numbers that are its arguments; for a bound without weight from one with
--- weight; or, over the support at a place, the rules that name one, its place, and what it is made of
+-- what stands after the name of a rule: nothing; a number; two; or the place of a support; each with the rule that others make in its place
+pub data Written : Type 0 where
+  no_arguments : Written
+  one_number : (ℕ → Rule) → ℕ → Written
+  two_numbers : (ℕ → ℕ → Rule) → ℕ → ℕ → Written
+  one_place : (ℕ → Rule) → ℕ → Written
+
+-- the row of a rule: its name, its arguments, and what it is made of: by itself or with the numbers that are its arguments; for a bound
+-- without weight from one with weight; or over the support at a place, for the rules that name one
 pub data Row : Type 0 where
-  by_itself : RuleParts → Row
-  by_numbers : RuleParts → Row
-  by_weight : RuleParts → Row
-  by_support : (ℕ → Rule) → ℕ → (Option Support → RuleParts) → Row
+  by_itself : List ℕ → RuleParts → Row
+  by_numbers : List ℕ → Written → RuleParts → Row
+  by_weight : List ℕ → Written → RuleParts → Row
+  by_support : List ℕ → (ℕ → Rule) → ℕ → (Option Support → RuleParts) → Row
 
 -- the rows
 unfoldable pub row_of : Rule → Row
-row_of L1 = by_itself one_word
-row_of L2 = by_itself opposite_words
-row_of L3 = by_itself lengthened_below
-row_of L4 = by_itself nearer_below
-row_of L5 = by_itself parity_below
-row_of L6 = by_itself punctured_below
-row_of L7 = by_itself halved_below
-row_of L8 = by_itself sums
-row_of (L9 w) = by_weight (without_weight w)
-row_of (L10 place) = by_support L10 place given_code
-row_of (L11 n d) = by_numbers (side_by_side n d)
-row_of M1 = by_itself one_word_of_weight
-row_of M2 = by_itself disjoint_below
-row_of M3 = by_itself lengthened_by_zero
-row_of M4 = by_itself lengthened_by_one
-row_of M5 = by_itself with_one_below
-row_of M6 = by_itself with_zero_below
-row_of M7 = by_itself complemented_below
-row_of M8 = by_itself nearer_below_of_weight
-row_of (M9 r) = by_numbers (class_of_sum r)
-row_of (M10 place) = by_support M10 place given_code_of_weight
-row_of U0 = by_itself all_words
-row_of U1 = by_itself far_words
-row_of U2 = by_itself average_distance
-row_of U3 = by_itself balls
-row_of U4 = by_itself parity_above
-row_of U5 = by_itself punctured_above
-row_of U6 = by_itself halved_above
-row_of U7 = by_itself nearer_above
-row_of U8 = by_itself lengthened_above
-row_of U9 = by_weight johnson
-row_of (U10 w) = by_weight (averaging w)
-row_of (U11 place) = by_support U11 place dual_above
-row_of V0 = by_itself all_words_of_weight
-row_of V1 = by_itself far_words_of_weight
-row_of V2 = by_itself disjoint_above
-row_of V3 = by_itself complemented_above
-row_of V4 = by_itself with_one_above
-row_of V5 = by_itself with_zero_above
-row_of V6 = by_itself split
-row_of V7 = by_itself nearer_above_of_weight
-row_of V8 = by_itself column_pairs
-row_of (V9 place) = by_support V9 place dual_above_of_weight
+row_of L1 = by_itself (codes "L1") one_word
+row_of L2 = by_itself (codes "L2") opposite_words
+row_of L3 = by_itself (codes "L3") lengthened_below
+row_of L4 = by_itself (codes "L4") nearer_below
+row_of L5 = by_itself (codes "L5") parity_below
+row_of L6 = by_itself (codes "L6") punctured_below
+row_of L7 = by_itself (codes "L7") halved_below
+row_of L8 = by_itself (codes "L8") sums
+row_of (L9 w) = by_weight (codes "L9") (one_number L9 w) (without_weight w)
+row_of (L10 place) = by_support (codes "L10") L10 place given_code
+row_of (L11 n d) = by_numbers (codes "L11") (two_numbers L11 n d) (side_by_side n d)
+row_of M1 = by_itself (codes "M1") one_word_of_weight
+row_of M2 = by_itself (codes "M2") disjoint_below
+row_of M3 = by_itself (codes "M3") lengthened_by_zero
+row_of M4 = by_itself (codes "M4") lengthened_by_one
+row_of M5 = by_itself (codes "M5") with_one_below
+row_of M6 = by_itself (codes "M6") with_zero_below
+row_of M7 = by_itself (codes "M7") complemented_below
+row_of M8 = by_itself (codes "M8") nearer_below_of_weight
+row_of (M9 r) = by_numbers (codes "M9") (one_number M9 r) (class_of_sum r)
+row_of (M10 place) = by_support (codes "M10") M10 place given_code_of_weight
+row_of U0 = by_itself (codes "U0") all_words
+row_of U1 = by_itself (codes "U1") far_words
+row_of U2 = by_itself (codes "U2") average_distance
+row_of U3 = by_itself (codes "U3") balls
+row_of U4 = by_itself (codes "U4") parity_above
+row_of U5 = by_itself (codes "U5") punctured_above
+row_of U6 = by_itself (codes "U6") halved_above
+row_of U7 = by_itself (codes "U7") nearer_above
+row_of U8 = by_itself (codes "U8") lengthened_above
+row_of U9 = by_weight (codes "U9") no_arguments johnson
+row_of (U10 w) = by_weight (codes "U10") (one_number U10 w) (averaging w)
+row_of (U11 place) = by_support (codes "U11") U11 place dual_above
+row_of V0 = by_itself (codes "V0") all_words_of_weight
+row_of V1 = by_itself (codes "V1") far_words_of_weight
+row_of V2 = by_itself (codes "V2") disjoint_above
+row_of V3 = by_itself (codes "V3") complemented_above
+row_of V4 = by_itself (codes "V4") with_one_above
+row_of V5 = by_itself (codes "V5") with_zero_above
+row_of V6 = by_itself (codes "V6") split
+row_of V7 = by_itself (codes "V7") nearer_above_of_weight
+row_of V8 = by_itself (codes "V8") column_pairs
+row_of (V9 place) = by_support (codes "V9") V9 place dual_above_of_weight
 
 -- what the rule of a row is made of, over the support that it names
 abbrev pub parts_in : Row → Option Support → RuleParts
-parts_in (by_itself parts) c = parts
-parts_in (by_numbers parts) c = parts
-parts_in (by_weight parts) c = parts
-parts_in (by_support named place parts) c = parts c
+parts_in (by_itself name parts) c = parts
+parts_in (by_numbers name written parts) c = parts
+parts_in (by_weight name written parts) c = parts
+parts_in (by_support name named place parts) c = parts c
 
 -- what a rule is made of, over the support that it names
 abbrev pub parts_of : Rule → Option Support → RuleParts
 parts_of r c = parts_in (row_of r) c
 
+-- the name of the rule of a row
+abbrev pub name_in : Row → List ℕ
+name_in (by_itself name parts) = name
+name_in (by_numbers name written parts) = name
+name_in (by_weight name written parts) = name
+name_in (by_support name named place parts) = name
+
+-- the name of a rule
+abbrev pub name_of : Rule → List ℕ
+name_of r = name_in (row_of r)
+
+-- what stands after the name of the rule of a row
+abbrev pub written_in : Row → Written
+written_in (by_itself name parts) = no_arguments
+written_in (by_numbers name written parts) = written
+written_in (by_weight name written parts) = written
+written_in (by_support name named place parts) = one_place named place
+
+-- the arguments that are written
+abbrev pub arguments_in : Written → Arguments
+arguments_in no_arguments = Nothing
+arguments_in (one_number named k) = Number k
+arguments_in (two_numbers named k m) = Numbers k m
+arguments_in (one_place named place) = Place place
+
+-- the arguments of a rule
+abbrev pub arguments_of : Rule → Arguments
+arguments_of r = arguments_in (written_in (row_of r))
+
+-- the rule with other arguments, where they are as what is written
+abbrev pub argued_in : Rule → Written → Arguments → Rule
+argued_in r (one_number named k) (Number other) = named other
+argued_in r (two_numbers named k m) (Numbers other next) = named other next
+argued_in r (one_place named place) (Place other) = named other
+argued_in r written arguments = r
+
+-- a rule with other arguments of the same form, else the rule itself
+abbrev pub with_arguments : Rule → Arguments → Rule
+with_arguments r arguments = argued_in r (written_in (row_of r)) arguments
+
+-- the rule of a row with arguments that are 0
+abbrev pub bare_in : Rule → Written → Rule
+bare_in r no_arguments = r
+bare_in r (one_number named k) = named 0
+bare_in r (two_numbers named k m) = named 0 0
+bare_in r (one_place named place) = named 0
+
+-- a rule with arguments that are 0
+abbrev pub bare : Rule → Rule
+bare r = bare_in r (written_in (row_of r))
+
 -- the place of the support that the rule of a row names, where it names one
 abbrev pub place_in : Row → Option ℕ
-place_in (by_itself parts) = None
-place_in (by_numbers parts) = None
-place_in (by_weight parts) = None
-place_in (by_support named place parts) = Some place
+place_in (by_itself name parts) = None
+place_in (by_numbers name written parts) = None
+place_in (by_weight name written parts) = None
+place_in (by_support name named place parts) = Some place
 
 -- the place of the support that a rule names, where it names one
 abbrev pub place_of : Rule → Option ℕ
@@ -117,10 +177,10 @@ place_of r = place_in (row_of r)
 
 -- the rule of a row with another place of the support that it names, where it names one
 abbrev pub placed_in : Rule → Row → ℕ → Rule
-placed_in r (by_itself parts) place = r
-placed_in r (by_numbers parts) place = r
-placed_in r (by_weight parts) place = r
-placed_in r (by_support named other parts) place = named place
+placed_in r (by_itself name parts) place = r
+placed_in r (by_numbers name written parts) place = r
+placed_in r (by_weight name written parts) place = r
+placed_in r (by_support name named other parts) place = named place
 
 -- a rule with another place of the support that it names, where it names one
 abbrev pub with_place : Rule → ℕ → Rule
@@ -128,10 +188,10 @@ with_place r place = placed_in r (row_of r) place
 
 -- whether the rule of a row has neither numbers nor a support, and rests on entries with weight just where it bounds such
 abbrev pub is_alone_in : Row → Bool
-is_alone_in (by_itself parts) = true
-is_alone_in (by_numbers parts) = false
-is_alone_in (by_weight parts) = false
-is_alone_in (by_support named place parts) = false
+is_alone_in (by_itself name parts) = true
+is_alone_in (by_numbers name written parts) = false
+is_alone_in (by_weight name written parts) = false
+is_alone_in (by_support name named place parts) = false
 
 -- whether a rule has neither numbers nor a support, and rests on entries with weight just where it bounds such
 abbrev pub is_alone : Rule → Bool
@@ -139,10 +199,10 @@ is_alone r = is_alone_in (row_of r)
 
 -- whether the rule of a row leads from entries with weight to those without
 abbrev pub is_by_weight_in : Row → Bool
-is_by_weight_in (by_itself parts) = false
-is_by_weight_in (by_numbers parts) = false
-is_by_weight_in (by_weight parts) = true
-is_by_weight_in (by_support named place parts) = false
+is_by_weight_in (by_itself name parts) = false
+is_by_weight_in (by_numbers name written parts) = false
+is_by_weight_in (by_weight name written parts) = true
+is_by_weight_in (by_support name named place parts) = false
 
 -- whether a rule leads from entries with weight to those without
 abbrev pub is_by_weight : Rule → Bool

@@ -1,6 +1,7 @@
 //! The rules of the table, derivations by them from what evidence supports, best values; what becomes of rules and derivations once supports are taken out.
 #![tactic(auto)]
 
+mod arguments;
 mod derivation_laws;
 mod instance;
 mod line;
@@ -11,6 +12,7 @@ mod rows;
 mod rule;
 mod rule_laws;
 
+pub use arguments::{Arguments, arguments_of, with_arguments};
 pub use ct_rule_parts::{Entries, Support};
 pub use derivation_laws::{
     best_values_are_true, closed_bounds_are_best, derivations_grow_by_rules,
@@ -19,12 +21,15 @@ pub use derivation_laws::{
 };
 pub use instance::{applies, defined_on, premise, premise_count, value, value_where_defined};
 pub use line::Line;
-pub use listing::{LOWER_RULES, LOWER_WEIGHT_RULES, UPPER_RULES, UPPER_WEIGHT_RULES, rules_alone};
+pub use listing::{rule_named, rules_alone};
 pub use lowering::lowered;
 pub use removal_laws::removal_of_places;
 pub use rows::{place_of, rested_on_by, rests_on, rule_side, with_place};
-pub use rule::Rule;
+pub use rule::{
+    LOWER_RULES, LOWER_WEIGHT_RULES, OTHER_LOWER_RULES, OTHER_UPPER_RULES, Rule, UPPER_RULES,
+    UPPER_WEIGHT_RULES, rule_name,
+};
 pub use rule_laws::{
     better_bounds_say_more, claims_bound_slots, known_premises, known_ranges, known_supports,
-    known_values, premises_are_entries, rules_are_monotone, rules_are_sound,
+    known_values, premises_are_entries, rules_are_monotone, rules_are_sound, rules_have_names,
 };

@@ -1,12 +1,13 @@
 //! The rows of the rules: of each what it is made of, by the functions of its own file.
 
 ghost use Rattle.std.specs.Prelude.{◌≡◌, true, if◌then◌else◌, Some, None, option_map, slice_get};
-ghost use Rattle.ct_codes.specs.Entry.{IsEntry};
+ghost use Rattle.ct_codes.specs.Entry.{IsEntry, unrestricted, constant_weight};
 ghost use Rattle.ct_rule_parts.specs.Entries.{listed};
 ghost use Rattle.ct_rule_parts.specs.Support.{dual_at};
 ghost use Rattle.ct_weight_rules.specs.Delsarte.{bound_of_dual, dual_above};
 ghost use Rattle.ct_rules.specs.Rule.{rule_side, place_of, with_place, is_alone, parts_of, parts_over, row_of};
 
+use crate::arguments::{Arguments, arguments_of, with_arguments};
 use crate::rule::Rule;
 use ct_codes::{Entry, Side};
 use ct_elementary::{far, hamming, plotkin};
@@ -37,40 +38,25 @@ pub fn rule_side(rule: Rule) -> Side
             Side::Lower
         }
         Rule::M9(_) | Rule::M10(_) => Side::Lower,
-        Rule::U0 | Rule::U1 | Rule::U2 | Rule::U3 | Rule::U4 | Rule::U5 | Rule::U6 | Rule::U7 => {
-            Side::Upper
-        }
-        Rule::U8 | Rule::U9 | Rule::U10(_) | Rule::U11(_) => Side::Upper,
-        Rule::V0 | Rule::V1 | Rule::V2 | Rule::V3 | Rule::V4 | Rule::V5 | Rule::V6 | Rule::V7 => {
-            Side::Upper
-        }
-        Rule::V8 | Rule::V9(_) => Side::Upper,
+        _ => Side::Upper,
     }
 }
 
 /// The place of the support that the rule names, where it names one.
-#[tactic(auto, unfolding(crate::specs::Rule::row_of))]
 pub fn place_of(rule: Rule) -> Option<u32>
     ensures { result ≡ place_of rule }
 {
-    match rule {
-        Rule::L10(place) | Rule::M10(place) | Rule::U11(place) | Rule::V9(place) => Some(place),
+    match arguments_of(rule) {
+        Arguments::Place(place) => Some(place),
         _ => None,
     }
 }
 
 /// The rule with another place of the support that it names, where it names one.
-#[tactic(auto, unfolding(crate::specs::Rule::row_of))]
 pub fn with_place(rule: Rule, place: u32) -> Rule
     ensures { result ≡ with_place rule place }
 {
-    match rule {
-        Rule::L10(_) => Rule::L10(place),
-        Rule::M10(_) => Rule::M10(place),
-        Rule::U11(_) => Rule::U11(place),
-        Rule::V9(_) => Rule::V9(place),
-        other => other,
-    }
+    with_arguments(rule, Arguments::Place(place))
 }
 
 /// The entries that the dual of the support at the place rests on, in order, where the support gives one to an entry without
@@ -94,58 +80,89 @@ fn bound_of_dual(supports: &[Support], place: u32, entry: Entry, values: &[u32])
     Some(u64::from(dual.bound(values)))
 }
 
+/// What `rests_on` says at A(n,d).
+#[tactic(auto, unfolding(crate::specs::Rule::row_of))]
+fn rests_on_without_weight(supports: &[Support], rule: Rule, n: u32, d: u32) -> Option<Entries<'_>>
+    requires { IsEntry (unrestricted n d) }
+    ensures { option_map listed result
+        ≡ (if (parts_over supports.now rule).condition (unrestricted n d) then Some ((parts_over supports.now rule).rests_on (unrestricted n d)) else None) }
+{
+    let entry = Entry { n, d, w: None };
+    match rule {
+        Rule::L1 | Rule::U0 | Rule::U3 => Some(Entries::Zero),
+        Rule::L2 => (d <= n).then_some(Entries::Zero),
+        Rule::L3 | Rule::U6 => Some(Entries::One(shorter(entry))),
+        Rule::L4 => Some(Entries::One(farther(entry))),
+        Rule::L5 => (d % 2 == 0).then_some(Entries::One(shorter_and_nearer(entry))),
+        Rule::L6 => Some(Entries::One(longer_and_farther(entry))),
+        Rule::L7 | Rule::U8 => Some(Entries::One(longer(entry))),
+        Rule::L8 => (n % 2 == 0).then_some(parts_of_sums(entry)),
+        Rule::L9(w) => Some(Entries::One(even_of_weight(entry, w))),
+        Rule::L10(place) => size_at(supports, place as usize, entry)
+            .is_some()
+            .then_some(Entries::Zero),
+        Rule::L11(m, c) => Some(parts_side_by_side(m, c, entry)),
+        Rule::U1 => (n < d).then_some(Entries::Zero),
+        Rule::U2 => plotkin(n, d).is_some().then_some(Entries::Zero),
+        Rule::U4 => (d % 2 == 1).then_some(Entries::One(longer_and_farther(entry))),
+        Rule::U5 => Some(Entries::One(shorter_and_nearer(entry))),
+        Rule::U7 => Some(Entries::One(nearer(entry))),
+        Rule::U9 => Some(Entries::One(around(entry))),
+        Rule::U10(w) => Some(Entries::One(of_weight(entry, w))),
+        Rule::U11(place) => premises_of_dual(supports, place, entry),
+        _ => None,
+    }
+}
+
+/// What `rests_on` says at A(n,d,w).
+#[tactic(auto, unfolding(crate::specs::Rule::row_of))]
+fn rests_on_with_weight(
+    supports: &[Support],
+    rule: Rule,
+    n: u32,
+    d: u32,
+    w: u32,
+) -> Option<Entries<'_>>
+    requires { IsEntry (constant_weight n d w) }
+    ensures { option_map listed result
+        ≡ (if (parts_over supports.now rule).condition (constant_weight n d w) then Some ((parts_over supports.now rule).rests_on (constant_weight n d w)) else None) }
+{
+    let entry = Entry { n, d, w: Some(w) };
+    match rule {
+        Rule::M1 | Rule::V0 => Some(Entries::Zero),
+        Rule::M2 | Rule::V2 => has_disjoint_words(entry).then_some(Entries::Zero),
+        Rule::M3 | Rule::V5 => Some(Entries::One(zero_less(entry))),
+        Rule::M4 | Rule::V4 => (1 <= w).then_some(Entries::One(one_less(entry))),
+        Rule::M5 => Some(Entries::One(one_more(entry))),
+        Rule::M6 => Some(Entries::One(zero_more(entry))),
+        Rule::M7 | Rule::V3 => Some(Entries::One(turned(entry))),
+        Rule::M8 => Some(Entries::One(two_farther(entry))),
+        Rule::M9(r) => size_of_class(r, entry).is_some().then_some(Entries::Zero),
+        Rule::M10(place) => size_at(supports, place as usize, entry)
+            .is_some()
+            .then_some(Entries::Zero),
+        Rule::V1 => has_no_far_words(entry).then_some(Entries::Zero),
+        Rule::V6 => (1 <= w).then_some(parts_of_split(entry)),
+        Rule::V7 => Some(Entries::One(two_nearer(entry))),
+        Rule::V8 => below_too_many(entry).is_some().then_some(Entries::Zero),
+        Rule::V9(place) => dual_at(supports, place as usize, entry)
+            .is_some()
+            .then_some(Entries::Zero),
+        _ => None,
+    }
+}
+
 /// The entries whose bounds the rule rests on at an entry of the table, in order, where its condition holds there, over the
 /// support that it names; else `None`.
-#[tactic(auto, unfolding(crate::specs::Rule::row_of))]
 pub fn rests_on(supports: &[Support], rule: Rule, entry: Entry) -> Option<Entries<'_>>
     requires { IsEntry entry }
     ensures { option_map listed result
         ≡ (if (parts_over supports.now rule).condition entry then Some ((parts_over supports.now rule).rests_on entry) else None) }
 {
     let Entry { n, d, w } = entry;
-    let plain = w.is_none();
-    let some_ones = !plain && 1 <= w.unwrap_or(0);
-    match rule {
-        Rule::L1 | Rule::U0 | Rule::U3 => plain.then_some(Entries::Zero),
-        Rule::L2 => (plain && d <= n).then_some(Entries::Zero),
-        Rule::L3 | Rule::U6 => plain.then_some(Entries::One(shorter(entry))),
-        Rule::L4 => plain.then_some(Entries::One(farther(entry))),
-        Rule::L5 => (plain && d % 2 == 0).then_some(Entries::One(shorter_and_nearer(entry))),
-        Rule::L6 => plain.then_some(Entries::One(longer_and_farther(entry))),
-        Rule::L7 | Rule::U8 => plain.then_some(Entries::One(longer(entry))),
-        Rule::L8 => (plain && n % 2 == 0).then_some(parts_of_sums(entry)),
-        Rule::L10(place) => {
-            (plain && size_at(supports, place as usize, entry).is_some()).then_some(Entries::Zero)
-        }
-        Rule::L9(w) => plain.then_some(Entries::One(even_of_weight(entry, w))),
-        Rule::L11(m, c) => plain.then_some(parts_side_by_side(m, c, entry)),
-        Rule::M1 | Rule::V0 => (!plain).then_some(Entries::Zero),
-        Rule::M2 | Rule::V2 => has_disjoint_words(entry).then_some(Entries::Zero),
-        Rule::M3 | Rule::V5 => (!plain).then_some(Entries::One(zero_less(entry))),
-        Rule::M4 | Rule::V4 => some_ones.then_some(Entries::One(one_less(entry))),
-        Rule::M5 => (!plain).then_some(Entries::One(one_more(entry))),
-        Rule::M6 => (!plain).then_some(Entries::One(zero_more(entry))),
-        Rule::M7 | Rule::V3 => (!plain).then_some(Entries::One(turned(entry))),
-        Rule::M8 => (!plain).then_some(Entries::One(two_farther(entry))),
-        Rule::M9(r) => size_of_class(r, entry).is_some().then_some(Entries::Zero),
-        Rule::M10(place) => {
-            (!plain && size_at(supports, place as usize, entry).is_some()).then_some(Entries::Zero)
-        }
-        Rule::U1 => (plain && n < d).then_some(Entries::Zero),
-        Rule::U2 => (plain && plotkin(n, d).is_some()).then_some(Entries::Zero),
-        Rule::U4 => (plain && d % 2 == 1).then_some(Entries::One(longer_and_farther(entry))),
-        Rule::U5 => plain.then_some(Entries::One(shorter_and_nearer(entry))),
-        Rule::U7 => plain.then_some(Entries::One(nearer(entry))),
-        Rule::U9 => plain.then_some(Entries::One(around(entry))),
-        Rule::U10(w) => plain.then_some(Entries::One(of_weight(entry, w))),
-        Rule::U11(place) => premises_of_dual(supports, place, entry),
-        Rule::V1 => has_no_far_words(entry).then_some(Entries::Zero),
-        Rule::V6 => some_ones.then_some(parts_of_split(entry)),
-        Rule::V7 => (!plain).then_some(Entries::One(two_nearer(entry))),
-        Rule::V8 => (!plain && below_too_many(entry).is_some()).then_some(Entries::Zero),
-        Rule::V9(place) => {
-            (!plain && dual_at(supports, place as usize, entry).is_some()).then_some(Entries::Zero)
-        }
+    match w {
+        None => rests_on_without_weight(supports, rule, n, d),
+        Some(w) => rests_on_with_weight(supports, rule, n, d, w),
     }
 }
 

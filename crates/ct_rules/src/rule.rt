@@ -1,4 +1,11 @@
-//! The rules by which bounds enter the table.
+//! The rules by which bounds enter the table: each, and its name.
+
+ghost use Rattle.std.specs.Prelude.{◌≡◌};
+ghost use Rattle.ct_codes.specs.declared.claim.Side.TheVariants.{Lower, Upper};
+ghost use Rattle.ct_rules.specs.Rule.{rule_side, name_of};
+
+use crate::rows::rule_side;
+use ct_codes::Side;
 
 /// A rule of the table. Those whose name begins with L give lower bounds and those with U upper bounds of A(n,d); those with
 /// M give lower bounds and those with V upper bounds of A(n,d,w). docs/RULES.md has the source of each.
@@ -96,4 +103,141 @@ pub enum Rule {
     V8,
     /// A(n,d,w) ≤ ⌊f(0)/c_0⌋ for the dual of constant weight of the support at this place, f its combination (Delsarte).
     V9(u32),
+}
+
+/// The rules that bound A(n,d) from below by bounds of A(n,d), without arguments.
+pub const LOWER_RULES: [Rule; 8] = [
+    Rule::L1,
+    Rule::L2,
+    Rule::L3,
+    Rule::L4,
+    Rule::L5,
+    Rule::L6,
+    Rule::L7,
+    Rule::L8,
+];
+
+/// Those that bound A(n,d) from above.
+pub const UPPER_RULES: [Rule; 9] = [
+    Rule::U0,
+    Rule::U1,
+    Rule::U2,
+    Rule::U3,
+    Rule::U4,
+    Rule::U5,
+    Rule::U6,
+    Rule::U7,
+    Rule::U8,
+];
+
+/// Those that bound A(n,d,w) from below.
+pub const LOWER_WEIGHT_RULES: [Rule; 8] = [
+    Rule::M1,
+    Rule::M2,
+    Rule::M3,
+    Rule::M4,
+    Rule::M5,
+    Rule::M6,
+    Rule::M7,
+    Rule::M8,
+];
+
+/// Those that bound A(n,d,w) from above.
+pub const UPPER_WEIGHT_RULES: [Rule; 9] = [
+    Rule::V0,
+    Rule::V1,
+    Rule::V2,
+    Rule::V3,
+    Rule::V4,
+    Rule::V5,
+    Rule::V6,
+    Rule::V7,
+    Rule::V8,
+];
+
+/// The others that give lower bounds, with arguments that are 0.
+pub const OTHER_LOWER_RULES: [Rule; 5] = [
+    Rule::L9(0),
+    Rule::L10(0),
+    Rule::L11(0, 0),
+    Rule::M9(0),
+    Rule::M10(0),
+];
+
+/// The others that give upper bounds, with arguments that are 0.
+pub const OTHER_UPPER_RULES: [Rule; 4] = [Rule::U9, Rule::U10(0), Rule::U11(0), Rule::V9(0)];
+
+/// The name of a rule for lower bounds.
+#[tactic(auto, unfolding(crate::specs::Rule::row_of))]
+fn lower_name(rule: Rule) -> &'static str
+    requires { rule_side rule ≡ Lower }
+    ensures { result.now ≡ name_of rule }
+{
+    match rule {
+        Rule::L1 => "L1",
+        Rule::L2 => "L2",
+        Rule::L3 => "L3",
+        Rule::L4 => "L4",
+        Rule::L5 => "L5",
+        Rule::L6 => "L6",
+        Rule::L7 => "L7",
+        Rule::L8 => "L8",
+        Rule::L9(_) => "L9",
+        Rule::L10(_) => "L10",
+        Rule::L11(_, _) => "L11",
+        Rule::M1 => "M1",
+        Rule::M2 => "M2",
+        Rule::M3 => "M3",
+        Rule::M4 => "M4",
+        Rule::M5 => "M5",
+        Rule::M6 => "M6",
+        Rule::M7 => "M7",
+        Rule::M8 => "M8",
+        Rule::M9(_) => "M9",
+        Rule::M10(_) => "M10",
+        _ => unreachable!(),
+    }
+}
+
+/// The name of a rule for upper bounds.
+#[tactic(auto, unfolding(crate::specs::Rule::row_of))]
+fn upper_name(rule: Rule) -> &'static str
+    requires { rule_side rule ≡ Upper }
+    ensures { result.now ≡ name_of rule }
+{
+    match rule {
+        Rule::U0 => "U0",
+        Rule::U1 => "U1",
+        Rule::U2 => "U2",
+        Rule::U3 => "U3",
+        Rule::U4 => "U4",
+        Rule::U5 => "U5",
+        Rule::U6 => "U6",
+        Rule::U7 => "U7",
+        Rule::U8 => "U8",
+        Rule::U9 => "U9",
+        Rule::U10(_) => "U10",
+        Rule::U11(_) => "U11",
+        Rule::V0 => "V0",
+        Rule::V1 => "V1",
+        Rule::V2 => "V2",
+        Rule::V3 => "V3",
+        Rule::V4 => "V4",
+        Rule::V5 => "V5",
+        Rule::V6 => "V6",
+        Rule::V7 => "V7",
+        Rule::V8 => "V8",
+        Rule::V9(_) => "V9",
+        _ => unreachable!(),
+    }
+}
+
+/// The name of the rule.
+pub fn rule_name(rule: Rule) -> &'static str
+    ensures { result.now ≡ name_of rule }
+{
+    match rule_side(rule) {
+        Side::Lower => lower_name(rule),
+        Side::Upper => upper_name(rule),
+    }
 }

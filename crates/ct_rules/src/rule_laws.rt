@@ -16,7 +16,8 @@ ghost use Rattle.ct_rule_parts.specs.Support.{Stands};
 ghost use Rattle.ct_words.specs.declared.limits.TheConstants.{MAX_N, MAX_BOUND};
 ghost use Rattle.std.specs.Option.{ForSome};
 ghost use Rattle.ct_rule_parts.specs.Slot.{Slot, slot_of, claim_at, lower_at, upper_at, IsNoBetter, AreNoBetter};
-ghost use Rattle.ct_rules.specs.Rule.{rule_side, cited, premises_of, value_of};
+ghost use Rattle.ct_rules.specs.Rule.{rule_side, cited, premises_of, value_of, name_of, arguments_of, with_arguments, bare};
+ghost use Rattle.ct_rules.specs.Listing.{rule_named};
 ghost use Rattle.ct_rule_parts.specs.Parts.{within_limit};
 
 /// A claim is a bound of a slot, and a bound of a slot is a claim.
@@ -72,6 +73,15 @@ pub fn rules_are_monotone()
         ForSome (cited supports r) Stands → premises_of supports r e ≡ Some (map slot_of claims) →
         All IsTrueClaim claims → AreNoBetter (rule_side r) us (map (λ c. c.value) claims) →
         IsSome (value_of supports r e us) → IsSome (value_of supports r e (map (λ c. c.value) claims)) }
+{}
+
+/// Names and arguments stand for rules: on its side the name of a rule leads to it with arguments that are 0, and its own
+/// arguments in their place make it again. What a name leads to has that name and side, and its arguments are 0.
+pub fn rules_have_names()
+    ensures named { (r : Rule) → rule_named (rule_side r) (name_of r) ≡ Some (bare r) }
+    ensures argued { (r : Rule) → with_arguments (bare r) (arguments_of r) ≡ r }
+    ensures own { (side : Side) (name : List ℕ) (r : Rule) → rule_named side name ≡ Some r →
+        (name_of r ≡ name) × (rule_side r ≡ side) × (bare r ≡ r) }
 {}
 
 /// What rules rest on, in order, with the least and the greatest lengths and distances at which they are defined.
