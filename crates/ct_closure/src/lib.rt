@@ -4,6 +4,7 @@
 mod best;
 mod closing;
 mod kept;
+mod laws;
 mod lowering;
 mod number;
 mod places;
@@ -14,6 +15,7 @@ mod worklist;
 pub use best::is_better;
 pub use closing::{Closing, close};
 pub use kept::{Base, Kept, Saved, Undo};
+pub use laws::known_ground_rules;
 pub use number::{ENTRIES, SLOTS, slot_number, slots_have_numbers};
 pub use places::{SupportPlaces, entry_of, side_of};
 pub use pulling::{given_rule, offer};
