@@ -1,17 +1,30 @@
-//! What it means that a table grew, and that it keeps its reasons once supports are taken out.
+//! What a table holds of its bounds, what it means that it grew, and that it keeps its reasons once supports are taken out.
 
-ghost use Rattle.std.specs.Prelude.{◌≡◌, ◌⊎◌, ℕ, ◌*◌, ◌≤◌, List, [], ◌∷◌, ◌++◌, length, map, slice_get, Some};
+ghost use Rattle.std.specs.Prelude.{◌≡◌, ◌⊎◌, ℕ, ◌*◌, ◌≤◌, List, [], ◌∷◌, ◌++◌, length, map, slice_get, Some, None};
 ghost use Rattle.ct_codes.specs.declared.claim.Claim.{Claim};
 ghost use Rattle.ct_codes.specs.Entry.{IsEntry};
 ghost use Rattle.ct_rule_parts.specs.declared.support.Support.{Support};
 ghost use Rattle.ct_rule_parts.specs.Slot.{Slot, slot_of, claim_at, lower_at, upper_at, IsBetter};
 ghost use Rattle.ct_rules.specs.declared.rule.Rule.TheVariants.{L2, L4, L6, L10, M10, U2};
+ghost use Rattle.ct_rules.specs.Rule.{place_of};
 ghost use Rattle.ct_rules.specs.Derivation.{LineValue};
 ghost use Rattle.ct_rules.specs.Removal.{Places, only, RestsOnPlaces, lowered_line};
 ghost use Rattle.ct_closure.specs.Kept.{KeptValue, with_line_put};
 ghost use Rattle.ct_closure.specs.Number.{bound_of, side_size};
 ghost use Rattle.ct_table.specs.Removal.{KeepsReasons};
-ghost use Rattle.ct_table.specs.Table.{TableValue, Grew, HasReason, bound_at, reason_at, table_of};
+ghost use Rattle.ct_table.specs.Table.{TableValue, IsShownTable, Grew, HasReason, bound_at, reason_at, table_of};
+
+/// In a table the reason of each side of each entry is a line that gives its bound; no line of it comes after that reason;
+/// and one of its lines rests on no line and on no support.
+pub fn tables_hold_reasons()
+    ensures reasoned { (table : TableValue) (s : Slot) → IsShownTable table → IsEntry s.1 →
+        (line : LineValue) × HasReason table s line × (line.claim ≡ claim_at s (bound_at table s)) }
+    ensures last { (table : TableValue) (i : ℕ) (line : LineValue) → IsShownTable table →
+        slice_get table.lines i ≡ Some line → i ≤ reason_at table (slot_of line.claim) }
+    ensures grounded { (table : TableValue) (s : Slot) → IsShownTable table → IsEntry s.1 →
+        (i : ℕ) × (line : LineValue) × (slice_get table.lines i ≡ Some line) × (slot_of line.claim ≡ s) ×
+        (line.from ≡ []) × (place_of line.rule ≡ None) }
+{}
 
 /// Where a table grew its lines stay at their places, each later one is better than the bound that its slot had, and a reason
 /// changes only with its bound. A table grew from itself, and by a better line that is now the reason of its slot.
