@@ -5,4 +5,5 @@ pub mod Check
 pub mod Coset
 pub mod Claim
 pub mod Scheme
+pub mod Numbers
 pub mod Inside

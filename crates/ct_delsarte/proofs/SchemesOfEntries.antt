@@ -10,7 +10,7 @@ use Rattle.ct_krawtchouk.specs.Hamming.{krawtchouk-positive, krawtchouk-first}
 use Rattle.ct_scheme.specs.Johnson.{johnson-positive, johnson-first}
 use Rattle.ct_duals.specs.Dual.{IsWordOf, as_index, index_of, greatest_index, degree_of, Fits}
 use Rattle.ct_duals.proofs.Sound.{AreLaws}
-use Rattle.ct_delsarte.specs.Numbers.{number_at, numbers_of}
+use Rattle.ct_codes.specs.Numbers.{number_at, numbers_of}
 
 -- what the schemes keep
 pub laws_of : (n : ℕ) (w : Option ℕ)
@@ -29,5 +29,5 @@ laws_of n (Some w) = record {
 }
 
 -- they fit the entry
-pub fits_of : (e : Entry) → Fits (IsWordOf e) (index_of e) (degree_of e) e
-fits_of e = record { words = λ x h. h; same_index = λ x y. refl; same_degree = refl }
+pub fits_of : (e : Entry) → Fits (IsWordOf e) (index_of e) (degree_of e) (numbers_of e) e
+fits_of e = record { words = λ x h. h; same_index = λ x y. refl; same_degree = refl; numbers = λ k i. refl }

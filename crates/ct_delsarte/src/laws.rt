@@ -1,12 +1,12 @@
 //! What duals promise at the entries of the table; the functions do nothing.
-ghost use Rattle.std.specs.Prelude.{◌≡◌, ℕ, List, [], ◌∷◌, pos, None};
+ghost use Rattle.std.specs.Prelude.{◌≡◌, ℕ, ◌≤◌, List, [], ◌∷◌, ℤ, pos, None};
 ghost use Rattle.ct_codes.specs.Code.{IsTrueUpper};
 ghost use Rattle.ct_duals.specs.declared.dual.Dual.{Dual};
 ghost use Rattle.ct_duals.specs.Dual.{IsDual, combination};
 ghost use Rattle.ct_duals.specs.Check.{dual_fault};
-ghost use Rattle.ct_duals.specs.Bound.{AreTrueUppers, IsSoundDual, dual_premises, dual_bound};
-ghost use Rattle.ct_delsarte.specs.Numbers.{numbers_of};
-ghost use Rattle.ct_duals.specs.Examples.{thirteen_six, eight_four_four};
+ghost use Rattle.ct_duals.specs.Bound.{AcceptedValue, IsAccepted, AreTrueUppers, dual_premises, dual_bound};
+ghost use Rattle.ct_codes.specs.Numbers.{numbers_of};
+ghost use Rattle.ct_duals.specs.Examples.{thirteen_six, eight_four_four, one_everywhere, above_at_last};
 
 /// No code of the entry of an accepted dual is larger than its bound, where the upper bounds that it rests on are true.
 pub fn duals_bound_codes()
@@ -15,10 +15,16 @@ pub fn duals_bound_codes()
         IsTrueUpper dual.entry (dual_bound dual (combination (numbers_of dual.entry) dual.c 0) uppers) }
 {}
 
-/// An accepted dual with its f(0) is sound: so its bound can be used wherever the upper bounds that it rests on are known.
+/// A dual that stands is sound: no code of its entry is larger than its bound, wherever the upper bounds that it rests on are
+/// true, and that bound is at least 1. A dual of the form of one stands with its f(0) where the check accepts it.
 pub fn accepted_duals_are_sound()
-    ensures { (dual : Dual) → IsDual dual → dual_fault (numbers_of dual.entry) dual ≡ None →
-        IsSoundDual (record { dual = dual; at_zero = combination (numbers_of dual.entry) dual.c 0 }) }
+    ensures sound { (accepted : AcceptedValue) (uppers : List ℕ) → IsAccepted accepted →
+        AreTrueUppers (dual_premises accepted.dual) uppers →
+        IsTrueUpper accepted.dual.entry (dual_bound accepted.dual accepted.at_zero uppers) }
+    ensures some { (accepted : AcceptedValue) (uppers : List ℕ) → IsAccepted accepted →
+        1 ≤ dual_bound accepted.dual accepted.at_zero uppers }
+    ensures checked { (dual : Dual) → IsDual dual → dual_fault (numbers_of dual.entry) dual ≡ None →
+        IsAccepted (record { dual = dual; at_zero = combination (numbers_of dual.entry) dual.c 0 }) }
 {}
 
 /// Two duals that are accepted, and their bounds: A(13,6) is at most 32, from 4 and 1 at the weights 10 and 12, and
@@ -29,4 +35,14 @@ pub fn known_duals()
     ensures bound { dual_bound thirteen_six (pos 96) (4 ∷ 1 ∷ []) ≡ 32 }
     ensures weighted { dual_fault (numbers_of eight_four_four.entry) eight_four_four ≡ None }
     ensures weighted_bound { dual_bound eight_four_four (pos 672) [] ≡ 14 }
+{}
+
+/// Which duals stand: those of A(13,6) and A(8,4,4) with their f(0), and the first with no other; one of A(5,3) that is 1
+/// everywhere doesn't, nor does one of A(5,4) that is above what is allowed at the last distance alone.
+pub fn known_standing_duals()
+    ensures stands { IsAccepted (record { dual = thirteen_six; at_zero = pos 96 }) }
+    ensures weighted_stands { IsAccepted (record { dual = eight_four_four; at_zero = pos 672 }) }
+    ensures one_value { (at_zero : ℤ) → IsAccepted (record { dual = thirteen_six; at_zero = at_zero }) → at_zero ≡ pos 96 }
+    ensures above { (at_zero : ℤ) → ¬ IsAccepted (record { dual = one_everywhere; at_zero = at_zero }) }
+    ensures above_at_last { (at_zero : ℤ) → ¬ IsAccepted (record { dual = above_at_last; at_zero = at_zero }) }
 {}

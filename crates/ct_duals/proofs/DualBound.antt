@@ -45,7 +45,7 @@ in_range e even i low high fits =
 
 -- each two words of a code have an index of the range, but for the parity
 pairs-in_range : (belongs : ℕ → Type 0) (index : ℕ → ℕ → ℕ) (degree : ℕ) (number : ℕ → ℕ → ℤ) (d : Dual) → AreLaws belongs index degree number
-    → Fits belongs index degree d.entry → (words : List ℕ) → IsCodeOf d.entry words
+    → Fits belongs index degree number d.entry → (words : List ℕ) → IsCodeOf d.entry words
     → AllPairs (λ x y. (not d.even || index_of d.entry x y % 2 == 0) ≡ true) words → AllPairs (AreInRange d) words
 pairs-in_range belongs index degree number d laws fits words code parity =
     let e = d.entry in
@@ -81,7 +81,7 @@ allowed_about d us words form code known x below = go d.entry.w refl form.weight
 
 -- a code of the entry of as many words, whose indices are in the range
 ranged_code : (belongs : ℕ → Type 0) (index : ℕ → ℕ → ℕ) (degree : ℕ) (number : ℕ → ℕ → ℤ) (d : Dual) → AreLaws belongs index degree number
-    → Fits belongs index degree d.entry → IsDual d → (words : List ℕ) → IsCodeOf d.entry words
+    → Fits belongs index degree number d.entry → IsDual d → (words : List ℕ) → IsCodeOf d.entry words
     → (others : List ℕ) × (length others ≡ length words) × IsCodeOf d.entry others × AllPairs (AreInRange d) others
 ranged_code belongs index degree number d laws fits form words code = go d.even refl
   where
@@ -115,7 +115,7 @@ ranged_code belongs index degree number d laws fits form words code = go d.even 
 
 -- the least of f(0) is c_0
 pub lead-least : (belongs : ℕ → Type 0) (index : ℕ → ℕ → ℕ) (degree : ℕ) (number : ℕ → ℕ → ℤ) (d : Dual) → AreLaws belongs index degree number
-    → Fits belongs index degree d.entry → IsDual d → multiplier d.c 0 ≤ℤ combination number d.c 0
+    → Fits belongs index degree number d.entry → IsDual d → multiplier d.c 0 ≤ℤ combination number d.c 0
 lead-least belongs index degree number d laws fits form =
     let some = one_is_lower d.entry form.entry in
     let word = words_of_code d.entry some.0 some.1 0 0 (omega (arith, some.2)) in
@@ -123,7 +123,7 @@ lead-least belongs index degree number d laws fits form =
 
 -- no code of the entry is larger than the bound, where the upper bounds that it rests on are true
 pub dual_bound-true : (belongs : ℕ → Type 0) (index : ℕ → ℕ → ℕ) (degree : ℕ) (number : ℕ → ℕ → ℤ) (d : Dual) → AreLaws belongs index degree number
-    → Fits belongs index degree d.entry → IsDual d → dual_fault number d ≡ None → (us : List ℕ) → AreTrueUppers (dual_premises d) us
+    → Fits belongs index degree number d.entry → IsDual d → dual_fault number d ≡ None → (us : List ℕ) → AreTrueUppers (dual_premises d) us
     → IsTrueUpper d.entry (dual_bound d (combination number d.c 0) us)
 unfolding dual_bound
 dual_bound-true belongs index degree number d laws fits form none us known words code =

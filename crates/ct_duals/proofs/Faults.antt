@@ -4,12 +4,14 @@ use Rattle.std.specs.Prelude.{ℤ, pos, ◌≤ℤ◌, ◌<ℤ◌, int_lt, Option
 use Rattle.std.proofs.lemmas.Int.{ints}
 use Rattle.std.proofs.lemmas.Bool.{and_parts, and_from}
 use Rattle.std.proofs.lemmas.Option.{none-some, cond_some}
+use Rattle.ct_codes.specs.Numbers.{numbers_of}
 use Rattle.ct_codes.specs.Pairs.{first_of}
 use Rattle.ct_duals.specs.declared.dual.Dual.{Dual}
 use Rattle.ct_duals.specs.declared.fault.DualFault.{DualFault}
 use Rattle.ct_duals.specs.declared.fault.DualFault.TheVariants.{Lead, Above}
-use Rattle.ct_duals.specs.Dual.{as_index, degree_of, multiplier, combination, allowed, is_in_range}
+use Rattle.ct_duals.specs.Dual.{as_index, degree_of, multiplier, combination, allowed, is_in_range, IsDual}
 use Rattle.ct_duals.specs.Check.{first_below, is_above, fault_at, above_fault, dual_fault, IsBelow, IsLeastAbove}
+use Rattle.ct_duals.specs.Bound.{AcceptedValue, IsAccepted}
 use Rattle.ct_duals.proofs.First.{found_below, none_below, first_below-found}
 
 -- what `Above` names, and 0 where there is nothing
@@ -95,6 +97,16 @@ none-from_below number d lead below =
     let no : int_lt (multiplier d.c 0) (pos 1) ≡ false = grind (arith, ints) in
     ap (λ b. first_of (cond b (Some Lead) None) (above_fault number d)) no
     ∙ none-from (fault_at number d) (suc (degree_of d.entry)) (λ i less. no_fault-from_below number d i (below i))
+
+-- so a dual of the form of one stands where there is no reason against it, and there is none against one that stands
+pub accepted-from_none : (d : Dual) → IsDual d → dual_fault (numbers_of d.entry) d ≡ None
+    → IsAccepted (record { dual = d; at_zero = combination (numbers_of d.entry) d.c 0 })
+accepted-from_none d form none =
+    let met = below-from_none (numbers_of d.entry) d none in
+    record { form = form; lead = met.0; below = met.1; at_zero_is = refl }
+
+pub none-from_accepted : (a : AcceptedValue) → IsAccepted a → dual_fault (numbers_of a.dual.entry) a.dual ≡ None
+none-from_accepted a h = none-from_below (numbers_of a.dual.entry) a.dual h.lead h.below
 
 -- `Above` comes with the least index
 pub above-means : (number : ℕ → ℕ → ℤ) (d : Dual) (at : ℕ) (value limit : ℤ) → dual_fault number d ≡ Some (Above at value limit)

@@ -103,7 +103,7 @@ row-within number d a words least some below start apart p e l =
 
 -- a combination adds up to at least c_0 times the number of pairs, over the pairs of words of the space
 pub pairs-at_least : (belongs : ℕ → Type 0) (index : ℕ → ℕ → ℕ) (degree : ℕ) (number : ℕ → ℕ → ℤ) (d : Dual) → AreLaws belongs index degree number
-    → Fits belongs index degree d.entry → IsDual d → (words : List ℕ) → All (IsWordOf d.entry) words
+    → Fits belongs index degree number d.entry → IsDual d → (words : List ℕ) → All (IsWordOf d.entry) words
     → (multiplier d.c 0 *ℤ pos (length words * length words)) ≤ℤ pair_total (λ x y. combination number d.c (index_of d.entry x y)) words
 pairs-at_least belongs index degree number d laws fits form words all =
     let e = d.entry in
@@ -126,7 +126,7 @@ pairs-at_least belongs index degree number d laws fits form words all =
 
 -- so f(0) is at least c_0
 pub lead-within : (belongs : ℕ → Type 0) (index : ℕ → ℕ → ℕ) (degree : ℕ) (number : ℕ → ℕ → ℤ) (d : Dual) → AreLaws belongs index degree number
-    → Fits belongs index degree d.entry → IsDual d → (x : ℕ) → IsWordOf d.entry x → multiplier d.c 0 ≤ℤ combination number d.c 0
+    → Fits belongs index degree number d.entry → IsDual d → (x : ℕ) → IsWordOf d.entry x → multiplier d.c 0 ≤ℤ combination number d.c 0
 lead-within belongs index degree number d laws fits form x word =
     let pairs = pairs-at_least belongs index degree number d laws fits form (x ∷ []) (All-cons (IsWordOf d.entry) x [] word (All-nil (IsWordOf d.entry))) in
     let itself = ap (combination number d.c) (sym (fits.same_index x x) ∙ laws.itself x (fits.words x word)) in
@@ -134,7 +134,7 @@ lead-within belongs index degree number d laws fits form x word =
 
 -- where each word has at most r allowed, there are at most (f(0) + r) / c_0 words
 pub size-within : (belongs : ℕ → Type 0) (index : ℕ → ℕ → ℕ) (degree : ℕ) (number : ℕ → ℕ → ℤ) (d : Dual) → AreLaws belongs index degree number
-    → Fits belongs index degree d.entry → IsDual d → IsBelow number d → (a c r : ℕ) → combination number d.c 0 ≡ pos a → multiplier d.c 0 ≡ pos c → 1 ≤ c
+    → Fits belongs index degree number d.entry → IsDual d → IsBelow number d → (a c r : ℕ) → combination number d.c 0 ≡ pos a → multiplier d.c 0 ≡ pos c → 1 ≤ c
     → (words : List ℕ) → All (IsWordOf d.entry) words → AllPairs (AreInRange d) words
     → ((p e : ℕ) → p < length words → weighed (count_at (index_of d.entry (get_or words p e)) words) d.y ≤ r)
     → c * length words ≤ a + r

@@ -1,13 +1,15 @@
 -- The bound that an accepted dual gives (Delsarte 1973), from bounds of the codes of constant weight that lie about a word (Best, Brouwer, MacWilliams, Odlyzko and Sloane 1978).
-use Rattle.std.specs.Prelude.{ℕ, ◌+◌, ◌*◌, ◌/◌, ◌^◌, ◌<◌, ◌≤◌, min, max, Bool, not, nat_le, List, [], ◌∷◌, map, filter, ℤ, pos, negsuc, ◌+ℤ◌, ◌≤ℤ◌, int_lt, unsigned_abs}
+use Rattle.std.specs.Prelude.{◌≡◌, ℕ, ◌+◌, ◌*◌, ◌/◌, ◌≤◌, min, max, Bool, not, nat_le, List, [], ◌∷◌, map, filter, ℤ, pos, negsuc, ◌+ℤ◌, ◌≤ℤ◌, int_lt}
 use Rattle.std.specs.List.{sum_by}
 use Rattle.ct_words.specs.declared.limits.TheConstants.{MAX_BOUND}
 use Rattle.ct_codes.specs.declared.entry.Entry.{Entry}
 use Rattle.ct_codes.specs.Entry.{constant_weight}
+use Rattle.ct_codes.specs.Numbers.{numbers_of}
 use Rattle.ct_codes.specs.Code.{IsTrueUpper}
 use Rattle.ct_constructions.specs.Even.{even_from}
 use Rattle.ct_duals.specs.declared.dual.Dual.{Dual}
-use Rattle.ct_duals.specs.Dual.{IsDual, multiplier}
+use Rattle.ct_duals.specs.Dual.{IsDual, multiplier, combination}
+use Rattle.ct_duals.specs.Check.{IsBelow}
 
 -- a whole number as a natural number, 0 where it is below 0
 abbrev pub natural : ℤ → ℕ
@@ -62,15 +64,14 @@ dual_bound d at_zero uppers =
     let all = charges (positive d.y) uppers in
     min MAX_BOUND (natural (at_zero +ℤ pos (near_charge d.entry all + far_charge d.entry all)) / natural (multiplier d.c 0))
 
--- an accepted dual as callers see it: the dual and its f(0)
+-- a dual as callers of an accepted one see it, and what stands for its f(0)
 pub record AcceptedValue : Type 0 where
   pub dual : Dual
   pub at_zero : ℤ
 
--- what holds of each accepted dual: its form, that c_0 is at least 1 and f(0) at least c_0, and that no code of its entry is larger than its bound
-pub record IsSoundDual (a : AcceptedValue) : Type 0 where
+-- a dual stands: it has the form of one, c_0 is at least 1, and f(i) at most y_i at each index i of the range, where y_i is 0 if it is not named and f is made of the numbers of the scheme of its entry; `at_zero` is f(0)
+pub record IsAccepted (a : AcceptedValue) : Type 0 where
   pub form : IsDual a.dual
   pub lead : pos 1 ≤ℤ multiplier a.dual.c 0
-  pub least : multiplier a.dual.c 0 ≤ℤ a.at_zero
-  pub small : unsigned_abs a.at_zero < 2 ^ 116
-  pub sound : (uppers : List ℕ) → AreTrueUppers (dual_premises a.dual) uppers → IsTrueUpper a.dual.entry (dual_bound a.dual a.at_zero uppers)
+  pub below : IsBelow (numbers_of a.dual.entry) a.dual
+  pub at_zero_is : a.at_zero ≡ combination (numbers_of a.dual.entry) a.dual.c 0

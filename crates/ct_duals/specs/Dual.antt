@@ -4,6 +4,7 @@ use Rattle.ct_counting.specs.Alternating.{total_below}
 use Rattle.ct_words.specs.Word.{weight, distance}
 use Rattle.ct_codes.specs.declared.entry.Entry.{Entry}
 use Rattle.ct_codes.specs.Entry.{IsEntry}
+use Rattle.ct_codes.specs.Numbers.{numbers_of}
 use Rattle.ct_duals.specs.declared.dual.Dual.{Dual}
 
 -- the words of the space of an entry: those of its length, and of its weight where one is given
@@ -28,11 +29,12 @@ greatest_index n (Some w) = min w (n - w)
 abbrev pub degree_of : Entry → ℕ
 degree_of e = greatest_index e.n e.w
 
--- a scheme has the space of the entry, with its index and its degree
-pub record Fits (belongs : ℕ → Type 0) (index : ℕ → ℕ → ℕ) (degree : ℕ) (e : Entry) : Type 0 where
+-- a scheme is that of the entry: it has its space of words, with their index, its degree and its numbers
+pub record Fits (belongs : ℕ → Type 0) (index : ℕ → ℕ → ℕ) (degree : ℕ) (number : ℕ → ℕ → ℤ) (e : Entry) : Type 0 where
   pub words : (x : ℕ) → IsWordOf e x → belongs x
   pub same_index : (x y : ℕ) → index x y ≡ index_of e x y
   pub same_degree : degree ≡ degree_of e
+  pub numbers : (k i : ℕ) → number k i ≡ numbers_of e k i
 
 -- the number at place k, 0 past the end
 abbrev pub multiplier : List ℤ → ℕ → ℤ

@@ -1,4 +1,4 @@
--- Duals whose bounds are known.
+-- Duals whose bounds are known, and such that do not stand.
 use Rattle.std.specs.Prelude.{true, false, [], ◌∷◌, pos}
 use Rattle.ct_codes.specs.Entry.{unrestricted, constant_weight}
 use Rattle.ct_duals.specs.declared.dual.Dual.{Dual}
@@ -15,3 +15,11 @@ thirteen_six = record {
 -- for A(8,4,4): f = 48 + 21 J_1 + 4 J_2
 abbrev pub eight_four_four : Dual
 eight_four_four = record { entry = constant_weight 8 4 4; even = false; c = pos 48 ∷ pos 21 ∷ pos 4 ∷ []; y = [] }
+
+-- of the entry (5,3): f is 1 everywhere, and nothing is allowed
+abbrev pub one_everywhere : Dual
+one_everywhere = record { entry = unrestricted 5 3; even = false; c = pos 1 ∷ []; y = [] }
+
+-- of the entry (5,4): f = 1 + K_1 + K_2 is 0 at the distance 4, and 6 at 5, where nothing is allowed
+abbrev pub above_at_last : Dual
+above_at_last = record { entry = unrestricted 5 4; even = false; c = pos 1 ∷ pos 1 ∷ pos 1 ∷ []; y = [] }

@@ -3,3 +3,4 @@ pub mod Check
 pub mod Bound
 pub mod Form
 pub mod Examples
+pub mod Inside

@@ -1,15 +1,19 @@
 //! Accepted duals and their bounds.
-ghost use Rattle.std.specs.Prelude.{◌≡◌, ◌+◌, ◌*◌, ◌/◌, ◌≤◌, ◌<◌, ◌^◌, min, pos, ◌+ℤ◌, ◌≤ℤ◌, length, unsigned_abs};
+ghost use Rattle.std.specs.Prelude.{◌≡◌, ◌+◌, ◌*◌, ◌/◌, ◌≤◌, ◌<◌, ◌^◌, min, pos, ◌+ℤ◌, ◌≤ℤ◌, length, unsigned_abs, IfOk};
 ghost use Rattle.ct_words.specs.declared.limits.TheConstants.{MAX_BOUND, MAX_N};
 ghost use Rattle.ct_codes.specs.Code.{IsTrueUpper};
-ghost use Rattle.ct_duals.specs.Bound.{AcceptedValue, IsSoundDual, AreTrueUppers, dual_bound, dual_premises, positive, charges, near_charge, far_charge, is_far, natural};
+ghost use Rattle.ct_duals.specs.Bound.{AcceptedValue, IsAccepted, AreTrueUppers, dual_bound, dual_premises, positive, charges, near_charge, far_charge, is_far, natural};
+ghost use Rattle.ct_duals.specs.Inside.Proven.{IsProven};
 
+use crate::accepted_dual::AcceptedDual;
 use crate::dual::Dual;
 use ct_codes::Entry;
 use ct_words::MAX_BOUND;
+use std::alloc::AllocError;
 use std::marker::Model;
 
-/// A dual that was accepted: no code of its entry is larger than its bound. Contracts see the dual and its f(0).
+/// A dual that was accepted: it meets its inequalities, so no code of its entry is larger than its bound. Contracts see the
+/// dual and its f(0).
 #[derive(Debug, Drop)]
 pub struct Accepted<'a> {
     dual: &'a Dual,
@@ -21,13 +25,13 @@ impl<'a> Model for Accepted<'a> {
 
     ghost view = { λ a. record { dual = a.dual.now; at_zero = a.at_zero } };
 
-    ghost invariant = { λ a. IsSoundDual (record { dual = a.dual.now; at_zero = a.at_zero }) };
+    ghost invariant = { λ a. IsProven (record { dual = a.dual.now; at_zero = a.at_zero }) };
 }
 
 impl<'a> Accepted<'a> {
-    /// A dual that was accepted before, with its f(0). Nothing is tested, and no memory taken.
-    pub fn new(dual: &'a Dual, at_zero: i128) -> Accepted<'a>
-        requires sound { IsSoundDual (record { dual = dual.now; at_zero = at_zero }) }
+    /// A dual that was accepted, with its f(0). Nothing is tested, and no memory taken.
+    pub(crate) fn new(dual: &'a Dual, at_zero: i128) -> Accepted<'a>
+        requires { IsProven (record { dual = dual.now; at_zero = at_zero }) }
         ensures value { result ≡ record { dual = dual.now; at_zero = at_zero } }
     {
         Accepted { dual, at_zero }
@@ -36,9 +40,17 @@ impl<'a> Accepted<'a> {
     /// Its f(0).
     pub fn at_zero(&self) -> i128
         ensures value { result ≡ self.now.at_zero }
-        ensures sound { IsSoundDual self.now }
+        ensures accepted { IsAccepted self.now }
     {
         self.at_zero
+    }
+
+    /// The accepted dual with a copy of its numbers, to be kept. `Err` is want of memory.
+    pub fn try_keep(&self) -> Result<AcceptedDual, AllocError>
+        ensures { IfOk result (λ kept. kept ≡ self.now) }
+    {
+        let dual = self.dual.try_copy()?;
+        Ok(AcceptedDual::new(dual, self.at_zero))
     }
 
     /// The bound of the dual from one upper bound for each index where more than 0 is allowed, in ascending order: the

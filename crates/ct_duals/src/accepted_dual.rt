@@ -3,7 +3,8 @@ ghost use Rattle.std.specs.Prelude.{◌≡◌, ◌≤◌, ◌↔◌, IsTrue, Con
 ghost use Rattle.ct_words.specs.declared.limits.TheConstants.{MAX_BOUND, MAX_N};
 ghost use Rattle.ct_codes.specs.Code.{IsTrueUpper};
 ghost use Rattle.ct_codes.specs.Entry.{IsEntry};
-ghost use Rattle.ct_duals.specs.Bound.{IsSoundDual, AreTrueUppers, dual_bound, dual_premises};
+ghost use Rattle.ct_duals.specs.Bound.{IsAccepted, AreTrueUppers, dual_bound, dual_premises};
+ghost use Rattle.ct_duals.specs.Inside.Proven.{IsProven};
 
 use crate::accepted::Accepted;
 use crate::dual::Dual;
@@ -11,8 +12,8 @@ use crate::premise::{is_premise, positive_index, premise_at};
 use ct_codes::Entry;
 use std::marker::Model;
 
-/// A dual that was accepted, with its f(0), of its own: no code of its entry is larger than its bound. Contracts see the dual
-/// and its f(0).
+/// A dual that was accepted, with its f(0), of its own: it meets its inequalities, so no code of its entry is larger than its
+/// bound. `Accepted::try_keep` alone makes one. Contracts see the dual and its f(0).
 #[derive(Debug, Drop)]
 pub struct AcceptedDual {
     dual: Dual,
@@ -20,21 +21,21 @@ pub struct AcceptedDual {
 }
 
 impl Model for AcceptedDual {
-    ghost use Rattle.ct_duals.specs.Bound.{AcceptedValue, IsSoundDual};
+    ghost use Rattle.ct_duals.specs.Bound.{AcceptedValue};
+    ghost use Rattle.ct_duals.specs.Inside.Proven.{IsProven};
 
     ghost Value = { AcceptedValue };
 
     ghost view = { λ a. record { dual = a.dual; at_zero = a.at_zero } };
 
-    ghost invariant = { λ a. IsSoundDual (record { dual = a.dual; at_zero = a.at_zero }) };
+    ghost invariant = { λ a. IsProven (record { dual = a.dual; at_zero = a.at_zero }) };
 }
 
 impl AcceptedDual {
-    /// A dual that was accepted before, with its f(0). Nothing is tested, and no memory taken.
-    pub fn new(dual: Dual, at_zero: i128) -> AcceptedDual
-        requires sound { IsSoundDual (record { dual = dual; at_zero = at_zero }) }
-        ensures value { result ≡ record { dual = dual; at_zero = at_zero } }
-        ensures sound { IsSoundDual result }
+    /// A dual that was accepted, with its f(0). Nothing is tested, and no memory taken.
+    pub(crate) fn new(dual: Dual, at_zero: i128) -> AcceptedDual
+        requires { IsProven (record { dual = dual; at_zero = at_zero }) }
+        ensures { result ≡ record { dual = dual; at_zero = at_zero } }
     {
         AcceptedDual { dual, at_zero }
     }
@@ -42,7 +43,7 @@ impl AcceptedDual {
     /// The dual.
     pub fn dual(&self) -> &Dual
         ensures value { result.now ≡ self.now.dual }
-        ensures sound { IsSoundDual self.now }
+        ensures accepted { IsAccepted self.now }
     {
         &self.dual
     }

@@ -18,7 +18,7 @@ use ct_codes::Scheme;
 /// allowed, and both numbers. It takes no memory, and every sum fits: the multipliers are below 2^63, the numbers of a
 /// scheme below 2^47, and there are at most 29 of each.
 pub fn check_dual<'a, S: Scheme>(scheme: &S, dual: &'a Dual) -> Result<Accepted<'a>, DualFault>
-    requires fits { Fits (S.belongs scheme.now) (S.index scheme.now) (S.degree scheme.now) dual.now.entry }
+    requires fits { Fits (S.belongs scheme.now) (S.index scheme.now) (S.degree scheme.now) (S.number scheme.now) dual.now.entry }
     requires form { IsDual dual.now }
     ensures fault { result_err result ≡ dual_fault (S.number scheme.now) dual.now }
     ensures accepted { IfOk result

@@ -17,7 +17,7 @@ use ct_codes::Scheme;
 /// Where the dual speaks of even distances alone, a place of the code is exchanged for a parity digit first.
 pub fn accepted_duals_bound_codes<S: Scheme>(scheme: &S)
     ensures { (dual : Dual) (uppers : List ℕ) →
-        Fits (S.belongs scheme.now) (S.index scheme.now) (S.degree scheme.now) dual.entry → IsDual dual →
+        Fits (S.belongs scheme.now) (S.index scheme.now) (S.degree scheme.now) (S.number scheme.now) dual.entry → IsDual dual →
         dual_fault (S.number scheme.now) dual ≡ None → AreTrueUppers (dual_premises dual) uppers →
         IsTrueUpper dual.entry (dual_bound dual (combination (S.number scheme.now) dual.c 0) uppers) }
 {}

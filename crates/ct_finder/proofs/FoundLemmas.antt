@@ -8,7 +8,7 @@ use Rattle.ct_scheme.specs.Johnson.{johnson-first}
 use Rattle.ct_duals.specs.declared.dual.Dual.{Dual}
 use Rattle.ct_duals.specs.Dual.{IsDual, degree_of}
 use Rattle.ct_duals.specs.Check.{dual_fault}
-use Rattle.ct_delsarte.specs.Numbers.{number_at, numbers_of}
+use Rattle.ct_codes.specs.Numbers.{number_at, numbers_of}
 use Rattle.ct_finder_run.specs.Column.{Column, range_of, columns, opening}
 use Rattle.ct_finder_run.specs.Run.{End, run, columns_of, multipliers_of, run_dual, IsAsked}
 use Rattle.ct_finder_run.specs.Run.End.{Least as LeastEnd, Turns as TurnsEnd, Wide as WideEnd}

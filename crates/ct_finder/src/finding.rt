@@ -4,7 +4,7 @@ ghost use Rattle.ct_codes.specs.Code.{IsTrueUpper};
 ghost use Rattle.ct_codes.specs.Entry.{IsEntry, unrestricted, constant_weight};
 ghost use Rattle.ct_duals.specs.Dual.{IsDual};
 ghost use Rattle.ct_duals.specs.Check.{dual_fault};
-ghost use Rattle.ct_delsarte.specs.Numbers.{numbers_of};
+ghost use Rattle.ct_codes.specs.Numbers.{numbers_of};
 ghost use Rattle.ct_finder_run.specs.Run.{IsAsked};
 ghost use Rattle.ct_finder.specs.Found.{end_of_run, dual_of, least_dual, bound_of, stop_of};
 ghost use Rattle.ct_finder.specs.Ending.{multipliers_from, stop_from};

@@ -13,7 +13,7 @@ use Rattle.ct_counting.proofs.Convolutions.{total_below-congruence}
 use Rattle.ct_counting.proofs.SignedBinomials.{signed_binomial, signed_binomial-first, signed_binomial-none, signed_binomial-plus, signed_binomial-minus, signed_binomial-le}
 use Rattle.ct_codes.specs.Entry.{unrestricted}
 use Rattle.ct_codes.proofs.EntryLemmas.{entry_limits}
-use Rattle.ct_krawtchouk.specs.Krawtchouk.{krawtchouk}
+use Rattle.ct_codes.specs.Numbers.{krawtchouk}
 use Rattle.ct_duals.specs.Dual.{IsDual, multiplier, combination}
 use Rattle.ct_duals.specs.Check.{dual_fault}
 use Rattle.ct_finder_run.specs.Run.{ones_dual, IsAsked}

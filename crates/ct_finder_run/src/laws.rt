@@ -4,7 +4,7 @@ ghost use Rattle.std.specs.Int.{◌∣◌, IsGcd};
 ghost use Rattle.ct_words.specs.declared.limits.TheConstants.{MAX_BOUND};
 ghost use Rattle.ct_codes.specs.declared.entry.Entry.{Entry};
 ghost use Rattle.ct_codes.specs.Entry.{unrestricted};
-ghost use Rattle.ct_krawtchouk.specs.Krawtchouk.{krawtchouk};
+ghost use Rattle.ct_codes.specs.Numbers.{krawtchouk};
 ghost use Rattle.ct_duals.specs.Dual.{IsDual, multiplier, combination, degree_of};
 ghost use Rattle.ct_duals.specs.Check.{dual_fault};
 ghost use Rattle.ct_duals.specs.Bound.{dual_bound, natural};

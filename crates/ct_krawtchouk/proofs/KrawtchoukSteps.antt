@@ -6,7 +6,8 @@ use Rattle.std.proofs.lemmas.Int.{ints}
 use Rattle.ct_counting.proofs.SignedBinomials.{signed_binomial, signed_binomial-le_power}
 use Rattle.ct_counting.proofs.BinomialSteps.{signed_binomial-second, signed_binomial-step}
 use Rattle.ct_words.specs.declared.limits.TheConstants.{MAX_N}
-use Rattle.ct_krawtchouk.specs.Krawtchouk.{krawtchouk, krawtchouk_before}
+use Rattle.ct_codes.specs.Numbers.{krawtchouk}
+use Rattle.ct_krawtchouk.specs.Krawtchouk.{krawtchouk_before}
 
 -- the number as a coefficient
 coefficient : (n k i : ℕ) → krawtchouk n k i ≡ signed_binomial i (n - i) k

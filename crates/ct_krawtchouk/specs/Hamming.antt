@@ -5,7 +5,7 @@ use Rattle.ct_words.specs.Word.{distance}
 use Rattle.ct_codes.specs.Scheme.{IsPositive, IsSmall}
 use Rattle.ct_counting.proofs.SignedBinomials.{signed_binomial, signed_binomial-first}
 use Rattle.ct_words.proofs.Characters.{pair_total-nonneg, signed_binomial-small}
-use Rattle.ct_krawtchouk.specs.Krawtchouk.{krawtchouk}
+use Rattle.ct_codes.specs.Numbers.{krawtchouk}
 
 -- over the pairs of any list of words the numbers add up to at least 0
 pub krawtchouk-positive : (n k : ℕ) (belongs : ℕ → Type 0) → IsPositive belongs (distance n) (krawtchouk n k)

@@ -19,7 +19,7 @@ impl Scheme for Hamming {
     ghost use Rattle.std.specs.Prelude.{◌^◌, ◌<◌};
     ghost use Rattle.ct_words.specs.Word.{distance};
     ghost use Rattle.ct_words.proofs.WordLemmas.{distance-le, distance_same};
-    ghost use Rattle.ct_krawtchouk.specs.Krawtchouk.{krawtchouk};
+    ghost use Rattle.ct_codes.specs.Numbers.{krawtchouk};
     ghost use Rattle.ct_krawtchouk.specs.Hamming.{krawtchouk-positive, krawtchouk-first, krawtchouk-small};
 
     ghost belongs = { λ s x. x < 2 ^ s.n };

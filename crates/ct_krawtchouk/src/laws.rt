@@ -5,7 +5,7 @@ ghost use Rattle.ct_counting.specs.Sums.{total};
 ghost use Rattle.ct_counting.specs.PairTotals.{pair_total, square};
 ghost use Rattle.ct_words.specs.Word.{distance, weight};
 ghost use Rattle.ct_words.specs.Characters.{character, words_of_weight};
-ghost use Rattle.ct_krawtchouk.specs.Krawtchouk.{krawtchouk};
+ghost use Rattle.ct_codes.specs.Numbers.{krawtchouk};
 
 /// The characters at a word x of length n, of all words of weight k, add up to the Krawtchouk number K_k(i), where i is
 /// the weight of x (MacWilliams and Sloane, chapter 5, sections 2 and 4).

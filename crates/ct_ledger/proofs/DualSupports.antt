@@ -1,13 +1,22 @@
 -- A dual that stands gives its bound to the table.
-use Rattle.std.proofs.Common.{◌≡◌, ℕ, List, take, get_or, Option, Some, sym, ap, subst, ◌∙◌}
+use Rattle.std.proofs.Common.{◌≡◌, ℕ, ◌≤◌, List, map, All, take, get_or, Option, Some, option_map, sym, ap, subst, ◌∙◌}
 use Rattle.std.specs.Prelude.{slice_get}
-use Rattle.std.proofs.lemmas.Option.{slice_get-get_or, slice_get_within}
+use Rattle.std.proofs.lemmas.Option.{slice_get-map, slice_get-get_or, slice_get_within, get_or_from_slice_get}
+use Rattle.ct_codes.specs.declared.claim.Claim.{Claim}
+use Rattle.ct_codes.specs.declared.claim.Side.TheVariants.{Upper}
 use Rattle.ct_duals.specs.declared.dual.Dual.{Dual}
 use Rattle.ct_duals.specs.declared.fault.DualFault.{DualFault}
 use Rattle.ct_duals.specs.Dual.{combination}
+use Rattle.ct_duals.specs.Bound.{AcceptedValue, dual_premises, dual_bound}
 use Rattle.ct_duals.proofs.Faults.{none-from_below}
-use Rattle.ct_delsarte.specs.Numbers.{numbers_of}
+use Rattle.ct_codes.specs.Numbers.{numbers_of}
+use Rattle.ct_rule_parts.specs.declared.support.Support.{Support}
 use Rattle.ct_rule_parts.specs.declared.support.Support.TheVariants.{Bound}
+use Rattle.ct_rule_parts.specs.Parts.{slots_on}
+use Rattle.ct_rule_parts.specs.Slot.{slot_of}
+use Rattle.ct_rule_parts.specs.Support.{Stands}
+use Rattle.ct_rules.specs.Derivation.{IsDerived, IsBest}
+use Rattle.ct_rules.proofs.GivenDuals.{dual-reached}
 use Rattle.ct_evidence.specs.declared.evidence.Evidence.{Evidence}
 use Rattle.ct_evidence.specs.declared.evidence.Evidence.TheVariants as evidence
 use Rattle.ct_ledger.specs.Kind.{kind_of, IsChecked}
@@ -15,8 +24,9 @@ use Rattle.ct_ledger.specs.Kinds.Dual.{dual_support, IsDualChecked}
 use Rattle.ct_ledger.specs.Piece.{PieceValue}
 use Rattle.ct_ledger.specs.Codes.{codes_of}
 use Rattle.ct_ledger.specs.Standing.{AreStanding}
-use Rattle.ct_ledger.specs.Supports.{support_of}
+use Rattle.ct_ledger.specs.Supports.{support_of, supports_of}
 use Rattle.ct_ledger.proofs.PartLemmas.{placed, Some-piece}
+use Rattle.ct_ledger.proofs.SupportLemmas.{supports_stand}
 
 -- what is asked of the evidence of a piece that stands
 checked_at : (ps : List PieceValue) (k : ℕ) (p : PieceValue) → AreStanding ps → slice_get ps k ≡ Some p → IsChecked (codes_of (take k ps)) p.evidence
@@ -37,3 +47,25 @@ gives_johnson_bound ps k p d h read is =
     let checked : IsDualChecked d = subst (IsChecked (codes_of (take k ps))) is (checked_at ps k p h read) in
     ap (λ (e : Evidence). (kind_of e).gives p.size) is
     ∙ ap (λ (reason : Option DualFault). dual_support reason d) (none-from_below (numbers_of d.entry) d checked.0 checked.1)
+
+-- so the best upper bound of its entry is no greater than its bound, from whatever upper bounds are derived of what it rests on
+dual-reached_by : (ps : List PieceValue) (k : ℕ) (p : PieceValue) (a : AcceptedValue) (claims : List Claim) (v : ℕ) → AreStanding ps → slice_get ps k ≡ Some p
+    → support_of p ≡ Bound a → map slot_of claims ≡ slots_on Upper (dual_premises a.dual) → All (IsDerived (supports_of ps)) claims
+    → IsBest (supports_of ps) (Upper, a.dual.entry) v → v ≤ dual_bound a.dual a.at_zero (map (λ c. c.value) claims)
+dual-reached_by ps k p a claims v h read gives premises each best =
+    let at : slice_get (supports_of ps) k ≡ Some (Bound a) = slice_get-map support_of ps k ∙ ap (option_map support_of) read ∙ ap (λ (s : Support). Some s) gives in
+    let within = slice_get_within (supports_of ps) k (Bound a) at in
+    let stands : Stands (Bound a) = subst Stands (get_or_from_slice_get (supports_of ps) k (Bound a) (Bound a) at) (supports_stand ps h k (Bound a) within) in
+    dual-reached (supports_of ps) k a claims v stands at premises each best
+
+pub bound_reached : (ps : List PieceValue) (k : ℕ) (p : PieceValue) (d : Dual) (claims : List Claim) (v : ℕ) → AreStanding ps → slice_get ps k ≡ Some p
+    → p.evidence ≡ evidence.Dual d → map slot_of claims ≡ slots_on Upper (dual_premises d) → All (IsDerived (supports_of ps)) claims
+    → IsBest (supports_of ps) (Upper, d.entry) v → v ≤ dual_bound d (combination (numbers_of d.entry) d.c 0) (map (λ c. c.value) claims)
+bound_reached ps k p d claims v h read is premises each best =
+    dual-reached_by ps k p (record { dual = d; at_zero = combination (numbers_of d.entry) d.c 0 }) claims v h read (gives_bound ps k p d h read is) premises each best
+
+pub johnson_bound_reached : (ps : List PieceValue) (k : ℕ) (p : PieceValue) (d : Dual) (claims : List Claim) (v : ℕ) → AreStanding ps → slice_get ps k ≡ Some p
+    → p.evidence ≡ evidence.JohnsonDual d → map slot_of claims ≡ slots_on Upper (dual_premises d) → All (IsDerived (supports_of ps)) claims
+    → IsBest (supports_of ps) (Upper, d.entry) v → v ≤ dual_bound d (combination (numbers_of d.entry) d.c 0) (map (λ c. c.value) claims)
+johnson_bound_reached ps k p d claims v h read is premises each best =
+    dual-reached_by ps k p (record { dual = d; at_zero = combination (numbers_of d.entry) d.c 0 }) claims v h read (gives_johnson_bound ps k p d h read is) premises each best

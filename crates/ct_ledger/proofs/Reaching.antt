@@ -22,7 +22,7 @@ use Rattle.ct_ledger.specs.Codes.{code_at, codes_of, code_of_place}
 use Rattle.ct_ledger.specs.Supports.{support_of, supports_of}
 use Rattle.ct_ledger.specs.Standing.{AreStanding}
 use Rattle.ct_duals.specs.Check.{dual_fault}
-use Rattle.ct_delsarte.specs.Numbers.{numbers_of}
+use Rattle.ct_codes.specs.Numbers.{numbers_of}
 use Rattle.ct_ledger.proofs.KindLaws.Dual.{gives_no_size}
 use Rattle.ct_ledger.proofs.AscendingLemmas.{ascending-moved}
 use Rattle.ct_ledger.proofs.SizeLemmas.{code-le}

@@ -14,7 +14,7 @@ use Rattle.ct_partitions.specs.Check.{partition_fault}
 use Rattle.ct_partitions.specs.Product.{product_distance}
 use Rattle.ct_duals.specs.declared.fault.DualFault.{DualFault}
 use Rattle.ct_duals.specs.Check.{dual_fault}
-use Rattle.ct_delsarte.specs.Numbers.{numbers_of}
+use Rattle.ct_codes.specs.Numbers.{numbers_of}
 use Rattle.ct_build.specs.declared.fault.BuildFault.{BuildFault}
 use Rattle.ct_build.specs.declared.fault.BuildFault.TheVariants as build
 use Rattle.ct_build.specs.declared.step.Step.{Step}

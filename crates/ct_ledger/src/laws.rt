@@ -8,10 +8,12 @@ ghost use Rattle.ct_build.specs.declared.step.Step.{Step};
 ghost use Rattle.ct_partitions.specs.Partition.{all_words};
 ghost use Rattle.ct_duals.specs.declared.dual.Dual.{Dual};
 ghost use Rattle.ct_duals.specs.Dual.{combination};
-ghost use Rattle.ct_delsarte.specs.Numbers.{numbers_of};
+ghost use Rattle.ct_duals.specs.Bound.{dual_premises, dual_bound};
+ghost use Rattle.ct_codes.specs.Numbers.{numbers_of};
 ghost use Rattle.ct_evidence.specs.declared.evidence.Evidence.TheVariants as evidence;
 ghost use Rattle.ct_codes.specs.Code.{CodeValue, IsSoundCode};
-ghost use Rattle.ct_codes.specs.declared.claim.Side.TheVariants.{Lower};
+ghost use Rattle.ct_codes.specs.declared.claim.Claim.{Claim};
+ghost use Rattle.ct_codes.specs.declared.claim.Side.TheVariants.{Lower, Upper};
 ghost use Rattle.ct_fields.specs.declared.document.TheConstants.{MAX_DOCUMENT};
 ghost use Rattle.ct_ledger.specs.Codes.{codes_of, code_of_place};
 ghost use Rattle.ct_ledger.specs.Piece.{PieceValue, has_id};
@@ -31,8 +33,10 @@ ghost use Rattle.ct_ledger.specs.Supports.{support_of, supports_of};
 ghost use Rattle.ct_ledger.specs.declared.fault.SubmitFault.{SubmitFault};
 ghost use Rattle.ct_ledger.specs.declared.fault.SubmitFault.TheVariants as fault;
 ghost use Rattle.ct_rule_parts.specs.declared.support.Support.TheVariants.{Size, Bound};
+ghost use Rattle.ct_rule_parts.specs.Parts.{slots_on};
+ghost use Rattle.ct_rule_parts.specs.Slot.{slot_of};
 ghost use Rattle.ct_rule_parts.specs.Support.{AllStand};
-ghost use Rattle.ct_rules.specs.Derivation.{IsBest};
+ghost use Rattle.ct_rules.specs.Derivation.{IsDerived, IsBest};
 
 /// A submission over pieces that stand makes a piece exactly where its id is free, there is room, each part that its
 /// document names stands and is right, the document states a code of its entry, whose check is within the limit, a partition, or
@@ -130,4 +134,17 @@ pub fn duals_give_their_bounds()
     ensures weighted { (pieces : List PieceValue) (place : ℕ) (p : PieceValue) (d : Dual) → AreStanding pieces
         → slice_get pieces place ≡ Some p → p.evidence ≡ evidence.JohnsonDual d
         → support_of p ≡ Bound (record { dual = d; at_zero = combination (numbers_of d.entry) d.c 0 }) }
+{}
+
+/// The best upper bound of the entry of a standing piece that is a dual, without weight or with one, is no greater than the bound of
+/// the dual, from whatever upper bounds are derived of the entries that it rests on.
+pub fn duals_reach_their_bounds()
+    ensures plain { (pieces : List PieceValue) (place : ℕ) (p : PieceValue) (d : Dual) (claims : List Claim) (v : ℕ) → AreStanding pieces
+        → slice_get pieces place ≡ Some p → p.evidence ≡ evidence.Dual d → map slot_of claims ≡ slots_on Upper (dual_premises d)
+        → All (IsDerived (supports_of pieces)) claims → IsBest (supports_of pieces) (Upper, d.entry) v
+        → v ≤ dual_bound d (combination (numbers_of d.entry) d.c 0) (map (λ c. c.value) claims) }
+    ensures weighted { (pieces : List PieceValue) (place : ℕ) (p : PieceValue) (d : Dual) (claims : List Claim) (v : ℕ) → AreStanding pieces
+        → slice_get pieces place ≡ Some p → p.evidence ≡ evidence.JohnsonDual d → map slot_of claims ≡ slots_on Upper (dual_premises d)
+        → All (IsDerived (supports_of pieces)) claims → IsBest (supports_of pieces) (Upper, d.entry) v
+        → v ≤ dual_bound d (combination (numbers_of d.entry) d.c 0) (map (λ c. c.value) claims) }
 {}

@@ -14,6 +14,6 @@ all_words-lawful c = record {
       same_number Upper e (2 ^ e.n) x is
       (record { some = pow_pos e.n; truth = λ words code. code_size-le e.n e.d e.w words code });
   monotone = λ e us vs x h is. no_worse-same Upper (Some (2 ^ e.n)) x is;
-  few = λ e entry. omega arith;
+  few = λ e stand entry. omega arith;
   dependents = λ e f defined rests. no_item (Contains [] e) f rests;
 }

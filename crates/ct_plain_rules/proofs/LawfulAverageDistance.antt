@@ -56,6 +56,6 @@ average_distance-lawful c = record {
       let bound = plotkin_known e.n e.d x (omega (arith, limits.distance_from)) limits.distance_to is in
       upper_number e x (no_weight e parts.0) bound.0 bound.1;
   monotone = λ e us vs x h is. no_worse-same Upper _ x is;
-  few = λ e entry. omega arith;
+  few = λ e stand entry. omega arith;
   dependents = λ e f defined rests. no_item (Contains [] e) f rests;
 }

@@ -27,6 +27,6 @@ balls-lawful c = record {
       (le-div 1 (2 ^ e.n) (volume e.n radius) (one-le-volume e.n radius) (omega arith))
       (bound_from_spread e.n e.d (hamming_value e.n e.d) (spread_hamming e.n e.d (omega arith))));
   monotone = λ e us vs x h is. no_worse-same Upper (Some (hamming_value e.n e.d)) x is;
-  few = λ e entry. omega arith;
+  few = λ e stand entry. omega arith;
   dependents = λ e f defined rests. no_item (Contains [] e) f rests;
 }

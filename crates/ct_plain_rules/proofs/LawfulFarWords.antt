@@ -22,6 +22,6 @@ far_words-lawful c = record {
       (upper_number e 1 (no_weight e parts.0) (omega arith)
       (bound_from_spread e.n e.d 1 (spread_far e.n e.d (ltb-true e.n e.d parts.1))));
   monotone = λ e us vs x h is. no_worse-same Upper _ x is;
-  few = λ e entry. omega arith;
+  few = λ e stand entry. omega arith;
   dependents = λ e f defined rests. no_item (Contains [] e) f rests;
 }

@@ -23,7 +23,7 @@ halved_below-lawful c = record {
   monotone = λ e us vs x h is.
       let worse = first-no_better Lower us vs h in
       no_worse-other Lower (half_up (first us)) (half_up (first vs)) x (omega arith) is;
-  few = λ e entry. omega arith;
+  few = λ e stand entry. omega arith;
   dependents = λ e f defined rests.
       let plain = no_weight e (defined_condition halved_below e defined) in
       turns_back longer shorter e f (written (e.n + 1 - 1) e.d e plain (omega arith) refl) rests;
@@ -47,7 +47,7 @@ halved_above-lawful c = record {
   monotone = λ e us vs x h is.
       let worse = first-no_better Upper us vs h in
       no_worse-other Upper (2 * first us) (2 * first vs) x (omega arith) is;
-  few = λ e entry. omega arith;
+  few = λ e stand entry. omega arith;
   dependents = λ e f defined rests.
       let limits = entry_limits e (defined_entry halved_above e defined) in
       let plain = no_weight e (defined_condition halved_above e defined) in

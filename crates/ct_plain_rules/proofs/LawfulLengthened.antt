@@ -22,7 +22,7 @@ lengthened_below-lawful c = record {
       (lower_number e (first vs) (no_weight e plain) premise.range.0
       (of_length (e.n - 1 + 1) e.n e.d (first vs) long (HasCode-lengthened (e.n - 1) e.d (first vs) premise.truth)));
   monotone = λ e us vs x h is. no_worse-other Lower (first us) (first vs) x (first-no_better Lower us vs h) is;
-  few = λ e entry. omega arith;
+  few = λ e stand entry. omega arith;
   dependents = λ e f defined rests.
       let limits = entry_limits e (defined_entry lengthened_below e defined) in
       let plain = no_weight e (defined_condition lengthened_below e defined) in
@@ -37,7 +37,7 @@ lengthened_above-lawful c = record {
       (upper_number e (first vs) (no_weight e plain) premise.range.0
       (bounded_by e.n e.d (e.n + 1) e.d (first vs) (λ u code. HasCode-lengthened e.n e.d u code) premise.truth));
   monotone = λ e us vs x h is. no_worse-other Upper (first us) (first vs) x (first-no_better Upper us vs h) is;
-  few = λ e entry. omega arith;
+  few = λ e stand entry. omega arith;
   dependents = λ e f defined rests.
       let plain = no_weight e (defined_condition lengthened_above e defined) in
       turns_back longer shorter e f (written (e.n + 1 - 1) e.d e plain (omega arith) refl) rests;

@@ -20,7 +20,7 @@ nearer_below-lawful c = record {
       (lower_number e (first vs) (no_weight e plain) premise.range.0
       (HasCode-nearer e.n (e.d + 1) e.d (first vs) (omega arith) premise.truth));
   monotone = λ e us vs x h is. no_worse-other Lower (first us) (first vs) x (first-no_better Lower us vs h) is;
-  few = λ e entry. omega arith;
+  few = λ e stand entry. omega arith;
   dependents = λ e f defined rests.
       let plain = no_weight e (defined_condition nearer_below e defined) in
       turns_back farther nearer e f (written e.n (e.d + 1 - 1) e plain refl (omega arith)) rests;
@@ -34,7 +34,7 @@ nearer_above-lawful c = record {
       (upper_number e (first vs) (no_weight e plain) premise.range.0
       (bounded_by e.n e.d e.n (e.d - 1) (first vs) (λ u code. HasCode-nearer e.n e.d (e.d - 1) u (omega arith) code) premise.truth));
   monotone = λ e us vs x h is. no_worse-other Upper (first us) (first vs) x (first-no_better Upper us vs h) is;
-  few = λ e entry. omega arith;
+  few = λ e stand entry. omega arith;
   dependents = λ e f defined rests.
       let limits = entry_limits e (defined_entry nearer_above e defined) in
       let plain = no_weight e (defined_condition nearer_above e defined) in

@@ -21,6 +21,6 @@ opposite_words-lawful c = record {
       (lower_number e 2 (no_weight e parts.0) (omega arith)
       (HasCode-two e.n e.d limits.length_from (leb-true e.d e.n parts.1)));
   monotone = λ e us vs x h is. no_worse-same Lower (Some 2) x is;
-  few = λ e entry. omega arith;
+  few = λ e stand entry. omega arith;
   dependents = λ e f defined rests. no_item (Contains [] e) f rests;
 }

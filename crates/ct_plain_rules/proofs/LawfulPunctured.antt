@@ -21,7 +21,7 @@ punctured_below-lawful c = record {
       (lower_number e (first vs) (no_weight e plain) premise.range.0
       (HasCode-punctured e.n e.d (first vs) (omega (arith, limits.distance_from)) premise.truth));
   monotone = λ e us vs x h is. no_worse-other Lower (first us) (first vs) x (first-no_better Lower us vs h) is;
-  few = λ e entry. omega arith;
+  few = λ e stand entry. omega arith;
   dependents = λ e f defined rests.
       let plain = no_weight e (defined_condition punctured_below e defined) in
       turns_back longer_and_farther shorter_and_nearer e f
@@ -43,7 +43,7 @@ punctured_above-lawful c = record {
       (of_length e.n (e.n - 1 + 1) (e.d - 1 + 1) u long (of_distance e.n e.d (e.d - 1 + 1) u far code)))
       premise.truth));
   monotone = λ e us vs x h is. no_worse-other Upper (first us) (first vs) x (first-no_better Upper us vs h) is;
-  few = λ e entry. omega arith;
+  few = λ e stand entry. omega arith;
   dependents = λ e f defined rests.
       let limits = entry_limits e (defined_entry punctured_above e defined) in
       let plain = no_weight e (defined_condition punctured_above e defined) in

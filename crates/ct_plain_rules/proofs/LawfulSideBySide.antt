@@ -48,7 +48,7 @@ side_by_side-lawful m d c = record {
       let worse = first-no_better Lower us vs h in
       let worse_too = second-no_better Lower us vs h in
       no_worse-other Lower (min (first us) (second us)) (min (first vs) (second vs)) x (omega arith) is;
-  few = λ e entry. omega arith;
+  few = λ e stand entry. omega arith;
   dependents = λ e f defined rests.
       let limits = entry_limits e (defined_entry (side_by_side m d) e defined) in
       let plain = no_weight e (defined_condition (side_by_side m d) e defined) in

@@ -100,7 +100,7 @@ sums-lawful c = record {
       (sums-sound e vs entry (no_weight e parts.0) (eqb-true (e.n % 2) 0 parts.1) known);
   monotone = λ e us vs x h is.
       no_worse-other Lower _ _ x (sums-monotone (nat_lt e.d 5) (2 ^ (e.n / 2 - 1)) us vs h) is;
-  few = λ e entry.
+  few = λ e stand entry.
       cond_both (nat_lt e.d 5) _ _ (λ (es : List Entry). length es ≤ MAX_N) (λ near. omega arith) (λ far. omega arith);
   dependents = λ e f defined rests.
       let parts = and_parts (not (has_weight e)) (e.n % 2 == 0) (defined_condition sums e defined) in

@@ -29,7 +29,7 @@ parity_below-lawful c = record {
       (of_distance (e.n - 1 + 1) (e.d - 1 + 1) e.d (first vs) far
       (HasCode-parity_odd (e.n - 1) (e.d - 1) (first vs) odd premise.truth))));
   monotone = λ e us vs x h is. no_worse-other Lower (first us) (first vs) x (first-no_better Lower us vs h) is;
-  few = λ e entry. omega arith;
+  few = λ e stand entry. omega arith;
   dependents = λ e f defined rests.
       let limits = entry_limits e (defined_entry parity_below e defined) in
       let parts = and_parts (not (has_weight e)) (e.d % 2 == 0) (defined_condition parity_below e defined) in
@@ -49,7 +49,7 @@ parity_above-lawful c = record {
       (bounded_by e.n e.d (e.n + 1) (e.d + 1) (first vs) (λ u code. HasCode-parity_odd e.n e.d u odd code)
       premise.truth));
   monotone = λ e us vs x h is. no_worse-other Upper (first us) (first vs) x (first-no_better Upper us vs h) is;
-  few = λ e entry. omega arith;
+  few = λ e stand entry. omega arith;
   dependents = λ e f defined rests.
       let parts = and_parts (not (has_weight e)) (e.d % 2 == 1) (defined_condition parity_above e defined) in
       turns_back longer_and_farther shorter_and_nearer e f

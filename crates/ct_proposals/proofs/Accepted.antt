@@ -8,7 +8,7 @@ use Rattle.ct_codes.specs.Pairs.{first_of}
 use Rattle.ct_duals.specs.declared.dual.Dual.{Dual}
 use Rattle.ct_duals.specs.Check.{dual_fault}
 use Rattle.ct_duals.specs.declared.fault.DualFault.{DualFault}
-use Rattle.ct_delsarte.specs.Numbers.{numbers_of}
+use Rattle.ct_codes.specs.Numbers.{numbers_of}
 use Rattle.ct_fields.specs.declared.document.TheConstants.{MAX_DOCUMENT}
 use Rattle.ct_files.specs.Evidence.{read_without_limit}
 use Rattle.ct_files.proofs.DocumentAnswers.{read_of-short}

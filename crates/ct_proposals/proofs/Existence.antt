@@ -20,7 +20,7 @@ use Rattle.ct_files.proofs.DocumentAnswers.{evidence_of-dual, evidence_of-johnso
 use Rattle.ct_dual_files.proofs.WrittenDuals.{states_dual, states_johnson_dual, dual_of-dual_table, johnson_dual_of-johnson_dual_table}
 use Rattle.ct_dual_files.specs.WrittenDuals.{dual_table, johnson_dual_table}
 use Rattle.ct_duals.specs.Dual.{degree_of}
-use Rattle.ct_delsarte.specs.Numbers.{numbers_of}
+use Rattle.ct_codes.specs.Numbers.{numbers_of}
 use Rattle.ct_finder_run.specs.Run.{End, columns_of, multipliers_of, run_dual, ones_dual}
 use Rattle.ct_finder_run.specs.Run.End.{Least as LeastEnd, Turns as TurnsEnd, Wide as WideEnd}
 use Rattle.ct_finder_run.proofs.RunDuals.{dual-form, least-of, narrow-of}

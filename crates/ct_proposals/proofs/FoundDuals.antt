@@ -10,7 +10,8 @@ use Rattle.ct_duals.specs.declared.dual.Dual.{Dual}
 use Rattle.ct_duals.specs.Dual.{IsDual, degree_of, multiplier, combination}
 use Rattle.ct_duals.specs.Check.{dual_fault}
 use Rattle.ct_duals.specs.Bound.{natural, positive, dual_premises, AreTrueUppers}
-use Rattle.ct_delsarte.specs.Numbers.{numbers_of}
+use Rattle.ct_codes.specs.Numbers.{numbers_of}
+use Rattle.ct_duals.proofs.Faults.{accepted-from_none}
 use Rattle.ct_delsarte.proofs.SoundDuals.{accepted-sound}
 use Rattle.ct_finder_run.specs.Column.{range_of}
 use Rattle.ct_finder_run.specs.Run.{End, columns_of, multipliers_of, run_dual}
@@ -122,7 +123,7 @@ bound-true e d entry same =
     let f = found e d entry same in
     let none = subst (λ (x : Entry). dual_fault (numbers_of x) d ≡ None) (sym f.entry) f.accepted in
     subst (λ (x : Entry). IsTrueUpper x (bound_of d)) f.entry
-    ((accepted-sound d f.form none).sound [] (subst (λ es. AreTrueUppers es []) (sym (premises-none d f.nothing)) tt))
+    (accepted-sound (record { dual = d; at_zero = combination (numbers_of d.entry) d.c 0 }) (accepted-from_none d f.form none) [] (subst (λ es. AreTrueUppers es []) (sym (premises-none d f.nothing)) tt))
 
 -- without weight one is found
 pub plain-some : (e : Entry) → e.w ≡ None → IsSome (found_dual e)

@@ -10,7 +10,7 @@ ghost use Rattle.ct_duals.specs.declared.dual.Dual.{Dual};
 ghost use Rattle.ct_duals.specs.Dual.{IsDual, multiplier, combination};
 ghost use Rattle.ct_duals.specs.Check.{dual_fault};
 ghost use Rattle.ct_duals.specs.Bound.{dual_premises, natural};
-ghost use Rattle.ct_delsarte.specs.Numbers.{numbers_of};
+ghost use Rattle.ct_codes.specs.Numbers.{numbers_of};
 ghost use Rattle.ct_fields.specs.declared.document.TheConstants.{MAX_DOCUMENT};
 ghost use Rattle.ct_ledger.specs.Piece.{PieceValue, stored_words};
 ghost use Rattle.ct_ledger.specs.Submission.{submitted};

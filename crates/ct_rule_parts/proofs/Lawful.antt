@@ -117,7 +117,7 @@ pub record IsLawful (c : Option Support) (p : RuleParts) : Type 0 where
   -- better premises give a number, and none that is worse
   pub monotone : (e : Entry) (us vs : List ℕ) (x : ℕ) → AreNoBetter p.side us vs → p.number e us ≡ Some x
       → NoWorse p.side (p.number e vs) x
-  -- it rests on few entries
-  pub few : (e : Entry) → IsEntry e → length (p.rests_on e) ≤ MAX_N
+  -- it rests on few entries, where the support that it names stands
+  pub few : (e : Entry) → ForSome c Stands → IsEntry e → length (p.rests_on e) ≤ MAX_N
   -- an entry that rests on another is among those that rest on it
   pub dependents : (e f : Entry) → is_defined p e ≡ true → Contains (p.rests_on e) f → Contains (p.rested_on_by f) e

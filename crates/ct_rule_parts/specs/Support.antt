@@ -1,19 +1,18 @@
 -- What pieces of evidence give to the table.
-use Rattle.std.specs.Prelude.{◌&&◌, nat_le, if◌then◌else◌, length, List, All, Option, Some, None, ℕ}
-use Rattle.ct_words.specs.declared.limits.TheConstants.{MAX_N}
+use Rattle.std.specs.Prelude.{if◌then◌else◌, List, All, Option, Some, None, ℕ}
 use Rattle.ct_codes.specs.declared.entry.Entry.{Entry}
 use Rattle.ct_codes.specs.declared.claim.Side.TheVariants.{Lower}
 use Rattle.ct_codes.specs.Claim.{IsTrueClaim}
 use Rattle.ct_codes.specs.Entry.{same_entry}
-use Rattle.ct_duals.specs.Bound.{AcceptedValue, IsSoundDual, dual_premises}
+use Rattle.ct_duals.specs.Bound.{AcceptedValue, IsAccepted}
 use Rattle.ct_rule_parts.specs.declared.support.Support.{Support}
 use Rattle.ct_rule_parts.specs.declared.support.Support.TheVariants.{Nothing, Size, Bound}
 
--- a support stands: its size is a true lower bound of its entry, and its dual is sound
+-- a support stands: its size is a true lower bound of its entry, and its dual meets its inequalities, with its own f(0)
 abbrev pub Stands : Support → Type 0
 Stands Nothing = Unit {0}
 Stands (Size e size) = IsTrueClaim (record { side = Lower; entry = e; value = size })
-Stands (Bound dual) = IsSoundDual dual
+Stands (Bound dual) = IsAccepted dual
 
 -- all supports of the list stand
 abbrev pub AllStand : List Support → Type 0
@@ -24,7 +23,7 @@ abbrev pub size_at : Option Support → Entry → Option ℕ
 size_at (Some (Size f size)) e = if same_entry f e then Some size else None
 size_at c e = None
 
--- the dual that a support gives at the entry, where it gives one; it rests on MAX_N upper bounds at most, as each sound dual does
+-- the dual that a support gives at the entry, where it gives one
 abbrev pub dual_at : Option Support → Entry → Option AcceptedValue
-dual_at (Some (Bound a)) e = if same_entry a.dual.entry e && nat_le (length (dual_premises a.dual)) MAX_N then Some a else None
+dual_at (Some (Bound a)) e = if same_entry a.dual.entry e then Some a else None
 dual_at c e = None

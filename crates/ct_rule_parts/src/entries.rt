@@ -65,7 +65,7 @@ impl<'a> Entries<'a> {
             Entries::Three(first, second, third) => {
                 first.in_table() && second.in_table() && third.in_table()
             }
-            // What a sound dual rests on is in the table.
+            // What an accepted dual rests on is in the table.
             Entries::OfDual(dual) => dual.premise_count() <= MAX_N as usize,
         }
     }

@@ -1,7 +1,7 @@
 -- What the laws of derivations and every table rest on: six laws of the rules. Nothing above this file looks into one.
-use Rattle.std.specs.Prelude.{◌≡◌, ℕ, ◌≤◌, List, length, map, All, Some}
+use Rattle.std.specs.Prelude.{◌≡◌, ℕ, ◌≤◌, List, length, map, All, Option, Some, None, IfSome}
 use Rattle.std.specs.Option.{ForSome}
-use Rattle.std.proofs.Common.{subst, sym}
+use Rattle.std.proofs.Common.{subst, sym, ap, ◌∙◌}
 use Rattle.std.proofs.lemmas.List.{length-map}
 use Rattle.ct_words.specs.declared.limits.TheConstants.{MAX_N}
 use Rattle.ct_codes.specs.declared.entry.Entry.{Entry}
@@ -38,15 +38,15 @@ premises_on_side supports r e slots h =
     subst (λ these. All (λ s. s.0 ≡ rule_side r) these) known.1
     (slots_have_side (rule_side r) ((parts_over supports r).rests_on e))
 
--- a rule rests on few slots
-pub premises_are_few : (supports : List Support) (r : Rule) (e : Entry) (slots : List Slot) →
+-- a rule rests on few slots, where the support that it names stands
+pub premises_are_few : (supports : List Support) (r : Rule) (e : Entry) (slots : List Slot) → ForSome (cited supports r) Stands →
     premises_of supports r e ≡ Some slots → length slots ≤ MAX_N
-premises_are_few supports r e slots h =
+premises_are_few supports r e slots stand h =
     let known = premises-defined supports r e slots h in
     let entries = (parts_over supports r).rests_on e in
     subst (λ (these : List Slot). length these ≤ MAX_N) known.1
     (subst (λ n. n ≤ MAX_N) (sym (length-map entries (λ f. (rule_side r, f))))
-    ((lawful r (cited supports r)).few e known.0.entry))
+    ((lawful r (cited supports r)).few e stand known.0.entry))
 
 -- a rule gives a true claim where its premises are true
 pub value_is_sound : (supports : List Support) (r : Rule) (e : Entry) (claims : List Claim) (v : ℕ)
@@ -61,6 +61,14 @@ value_is_sound supports r e claims v stand premises true_claims value =
     claim_from_number (rule_side r) e number.0 v known.0.entry
     (number-sound supports r e claims number.0 stand known.0 known.1 true_claims number.1.number)
     number.1.least
+
+-- so is a value under another name, from values that are theirs
+pub sound_value : (supports : List Support) (r : Rule) (e : Entry) (vs : List ℕ) (o : Option ℕ) → o ≡ value_of supports r e vs
+    → (claims : List Claim) → ForSome (cited supports r) Stands → premises_of supports r e ≡ Some (map slot_of claims)
+    → vs ≡ map (λ c. c.value) claims → All IsTrueClaim claims → IfSome o (λ v. IsTrueClaim (claim_at (rule_side r, e) v))
+sound_value supports r e vs None is claims stand premises values true_claims = tt
+sound_value supports r e vs (Some v) is claims stand premises values true_claims =
+    value_is_sound supports r e claims v stand premises true_claims (sym (is ∙ ap (value_of supports r e) values))
 
 -- better true premises give a value that is no worse
 pub value_is_monotone : (supports : List Support) (r : Rule) (e : Entry) (claims : List Claim) (us : List ℕ) (u : ℕ) →

@@ -1,21 +1,23 @@
 //! What derivations give, for every list of supports, and derivations that are known.
 
-ghost use Rattle.std.specs.Prelude.{◌≡◌, ℕ, ◌+◌, ◌≤◌, List, [], ◌∷◌, ◌++◌, length, map, All, Contains, Some};
+ghost use Rattle.std.specs.Prelude.{◌≡◌, ℕ, ◌+◌, ◌≤◌, List, [], ◌∷◌, ◌++◌, length, map, All, Contains, Some, slice_get};
 ghost use Rattle.ct_words.specs.declared.limits.TheConstants.{MAX_N, MAX_BOUND};
 ghost use Rattle.ct_codes.specs.declared.claim.Claim.{Claim};
 ghost use Rattle.ct_codes.specs.declared.claim.Side.TheVariants.{Lower, Upper};
 ghost use Rattle.ct_codes.specs.declared.entry.Entry.{Entry};
 ghost use Rattle.ct_codes.specs.Claim.{IsTrueClaim};
 ghost use Rattle.ct_codes.specs.Entry.{IsEntry, unrestricted, constant_weight};
+ghost use Rattle.ct_duals.specs.Bound.{AcceptedValue, dual_premises, dual_bound};
 ghost use Rattle.ct_rules.specs.declared.rule.Rule.{Rule};
 ghost use Rattle.ct_rules.specs.declared.rule.Rule.TheVariants.{L1, L6, L8, L10, L11, U2, U4, U6};
 ghost use Rattle.ct_rule_parts.specs.declared.support.Support.{Support};
-ghost use Rattle.ct_rule_parts.specs.declared.support.Support.TheVariants.{Size};
+ghost use Rattle.ct_rule_parts.specs.declared.support.Support.TheVariants.{Size, Bound};
 ghost use Rattle.ct_rules.specs.Closed.{AreTrue, IsClosed};
 ghost use Rattle.ct_rules.specs.Derivation.{LineValue, Follows, IsDerivation, IsDerived, IsBest};
 ghost use Rattle.ct_rules.specs.Rule.{rule_side, premises_of, value_of};
 ghost use Rattle.ct_rule_parts.specs.Slot.{Slot, slot_of, claim_at, lower_at, upper_at, IsNoBetter};
-ghost use Rattle.ct_rule_parts.specs.Support.{AllStand};
+ghost use Rattle.ct_rule_parts.specs.Parts.{slots_on};
+ghost use Rattle.ct_rule_parts.specs.Support.{Stands, AllStand};
 
 /// Where each support stands, what derivations claim is true: the claim with which one ends, and that of each line.
 pub fn derived_claims_are_true()
@@ -85,6 +87,15 @@ pub fn each_slot_has_one_best_value()
         (v : ℕ) × IsBest supports s v }
     ensures one { (supports : List Support) (s : Slot) (u v : ℕ) →
         IsBest supports s u → IsBest supports s v → u ≡ v }
+{}
+
+/// The best upper bound of the entry of a dual that stands among the supports is no greater than the bound of the dual, from
+/// whatever upper bounds are derived of what the dual rests on.
+pub fn standing_duals_reach_their_bounds()
+    ensures { (supports : List Support) (place : ℕ) (dual : AcceptedValue) (claims : List Claim) (v : ℕ) → Stands (Bound dual) →
+        slice_get supports place ≡ Some (Bound dual) → map slot_of claims ≡ slots_on Upper (dual_premises dual.dual) →
+        All (IsDerived supports) claims → IsBest supports (Upper, dual.dual.entry) v →
+        v ≤ dual_bound dual.dual dual.at_zero (map (λ c. c.value) claims) }
 {}
 
 /// Where each support stands, best values are true bounds, so the lower one of an entry is at most the upper one; and

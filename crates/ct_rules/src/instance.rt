@@ -1,9 +1,14 @@
 //! What a rule rests on, and the bound that it gives.
 
-ghost use Rattle.std.specs.Prelude.{◌≡◌, ◌≤◌, true, if◌then◌else◌, Some, None, IfSome, option_map};
+ghost use Rattle.std.specs.Prelude.{◌≡◌, ◌≤◌, true, if◌then◌else◌, List, map, All, Some, None, IfSome, option_map};
+ghost use Rattle.std.specs.Option.{ForSome};
+ghost use Rattle.ct_codes.specs.declared.claim.Claim.{Claim};
+ghost use Rattle.ct_codes.specs.Claim.{IsTrueClaim};
 ghost use Rattle.ct_codes.specs.Entry.{IsEntry};
 ghost use Rattle.ct_rule_parts.specs.Entries.{listed};
-ghost use Rattle.ct_rules.specs.Rule.{rule_side, applies, parts_over, count_of, premise_of, value_of};
+ghost use Rattle.ct_rule_parts.specs.Slot.{slot_of, claim_at};
+ghost use Rattle.ct_rule_parts.specs.Support.{Stands};
+ghost use Rattle.ct_rules.specs.Rule.{rule_side, applies, parts_over, count_of, premise_of, value_of, cited, premises_of};
 
 use crate::rows::{number, rests_on, rule_side};
 use crate::rule::Rule;
@@ -74,10 +79,14 @@ pub fn value_where_defined(
 
 /// The bound that the rule gives at the entry where its premises have these values, in the order of the premises. `None`
 /// comes exactly where the rule, with its argument and the support that it names, is not defined there, or gives no number,
-/// or, for a lower bound, a number above `MAX_BOUND`, which true premises never give. Any missing value counts as 0.
+/// or, for a lower bound, a number above `MAX_BOUND`, which true premises never give. Any missing value counts as 0. Where the
+/// support that the rule names, if it names one, stands, and the values are true bounds of the premises, the bound is true.
 pub fn value(supports: &[Support], rule: Rule, entry: Entry, premises: &[u32]) -> Option<u32>
     ensures value { result ≡ value_of supports.now rule entry premises.now }
     ensures limit { IfSome result (λ v. v ≤ MAX_BOUND) }
+    ensures sound { (claims : List Claim) → ForSome (cited supports.now rule) Stands →
+        premises_of supports.now rule entry ≡ Some (map slot_of claims) → premises.now ≡ map (λ c. c.value) claims →
+        All IsTrueClaim claims → IfSome result (λ v. IsTrueClaim (claim_at (rule_side rule, entry) v)) }
 {
     if !applies(supports, rule, entry) {
         return None;

@@ -18,6 +18,7 @@ pub use derivation_laws::{
     best_values_are_true, closed_bounds_are_best, derivations_grow_by_rules,
     derived_claims_are_true, each_slot_has_one_best_value, known_claims, known_derivations,
     lines_follow_from_earlier_lines, more_supports_keep_derivations,
+    standing_duals_reach_their_bounds,
 };
 pub use instance::{applies, defined_on, premise, premise_count, value, value_where_defined};
 pub use line::Line;
@@ -32,4 +33,5 @@ pub use rule::{
 pub use rule_laws::{
     better_bounds_say_more, claims_bound_slots, known_premises, known_ranges, known_supports,
     known_values, premises_are_entries, rules_are_monotone, rules_are_sound, rules_have_names,
+    standing_duals_give_their_bounds,
 };

@@ -1,24 +1,26 @@
 //! What the rules of the table mean, for all entries and all premises: what they rest on, that they are sound and
 //! monotone. And, at entries where it is known, where they are defined, what they rest on and what they give.
 
-ghost use Rattle.std.specs.Prelude.{◌≡◌, ◌/◌, ◌-◌, ◌↔◌, ◌⊎◌, EachIndex, slice_index, ℕ, ◌^◌, ◌+◌, ◌≤◌, List, [], ◌∷◌, length, map, filter, All, Some, None, IsSome, is_some};
+ghost use Rattle.std.specs.Prelude.{◌≡◌, ◌/◌, ◌-◌, ◌↔◌, ◌⊎◌, EachIndex, slice_index, ℕ, ◌^◌, ◌+◌, ◌≤◌, List, [], ◌∷◌, length, map, filter, All, Some, None, IsSome, is_some, slice_get};
 ghost use Rattle.ct_codes.specs.declared.entry.Entry.{Entry};
 ghost use Rattle.ct_codes.specs.declared.claim.Claim.{Claim};
 ghost use Rattle.ct_codes.specs.declared.claim.Side.{Side};
 ghost use Rattle.ct_codes.specs.declared.claim.Side.TheVariants.{Upper};
 ghost use Rattle.ct_codes.specs.Claim.{IsTrueOn, IsTrueClaim};
 ghost use Rattle.ct_codes.specs.Entry.{IsEntry, unrestricted, constant_weight};
+ghost use Rattle.ct_duals.specs.Bound.{AcceptedValue, dual_premises, dual_bound};
 ghost use Rattle.ct_rules.specs.declared.rule.Rule.{Rule};
 ghost use Rattle.ct_rules.specs.declared.rule.Rule.TheVariants.{L1, L2, L3, L4, L5, L6, L7, L8, L10, L11, M1, M10, U0, U1, U2, U3, U4, U5, U6, U7, U8, V0};
 ghost use Rattle.ct_rule_parts.specs.declared.support.Support.{Support};
-ghost use Rattle.ct_rule_parts.specs.declared.support.Support.TheVariants.{Nothing, Size};
+ghost use Rattle.ct_rule_parts.specs.declared.support.Support.TheVariants.{Nothing, Size, Bound};
 ghost use Rattle.ct_rule_parts.specs.Support.{Stands};
 ghost use Rattle.ct_words.specs.declared.limits.TheConstants.{MAX_N, MAX_BOUND};
 ghost use Rattle.std.specs.Option.{ForSome};
 ghost use Rattle.ct_rule_parts.specs.Slot.{Slot, slot_of, claim_at, lower_at, upper_at, IsNoBetter, AreNoBetter};
 ghost use Rattle.ct_rules.specs.Rule.{rule_side, cited, premises_of, value_of, name_of, arguments_of, with_arguments, bare};
 ghost use Rattle.ct_rules.specs.Listing.{rule_named};
-ghost use Rattle.ct_rule_parts.specs.Parts.{within_limit};
+ghost use Rattle.ct_rule_parts.specs.Parts.{slots_on, within_limit};
+ghost use Rattle.ct_rules.specs.DualRule.{rule_of_dual};
 
 /// A claim is a bound of a slot, and a bound of a slot is a claim.
 pub fn claims_bound_slots()
@@ -36,8 +38,9 @@ pub fn better_bounds_say_more()
         ((length us ≡ length vs) × EachIndex us (λ i. IsNoBetter side (slice_index us i) (slice_index vs i))) }
 {}
 
-/// A rule is defined at entries of the table alone. It rests on `MAX_N` bounds at most, each of an entry of the table
-/// and from the side that the rule bounds from, and it gives nothing where it is not defined.
+/// A rule is defined at entries of the table alone. It rests on bounds of entries of the table, each from the side that the
+/// rule bounds from, and on `MAX_N` at most where the support that it names, if it names one, stands; it gives nothing where
+/// it is not defined.
 pub fn premises_are_entries()
     ensures entry { (supports : List Support) (r : Rule) (e : Entry) (slots : List Slot) →
         premises_of supports r e ≡ Some slots → IsEntry e }
@@ -46,7 +49,7 @@ pub fn premises_are_entries()
     ensures side { (supports : List Support) (r : Rule) (e : Entry) (slots : List Slot) →
         premises_of supports r e ≡ Some slots → All (λ s. s.0 ≡ rule_side r) slots }
     ensures few { (supports : List Support) (r : Rule) (e : Entry) (slots : List Slot) →
-        premises_of supports r e ≡ Some slots → length slots ≤ MAX_N }
+        ForSome (cited supports r) Stands → premises_of supports r e ≡ Some slots → length slots ≤ MAX_N }
     ensures defined { (supports : List Support) (r : Rule) (e : Entry) (vs : List ℕ) →
         IsSome (value_of supports r e vs) → IsSome (premises_of supports r e) }
 {}
@@ -57,6 +60,17 @@ pub fn rules_are_sound()
     ensures { (supports : List Support) (r : Rule) (e : Entry) (claims : List Claim) (v : ℕ) →
         ForSome (cited supports r) Stands → premises_of supports r e ≡ Some (map slot_of claims) → All IsTrueClaim claims →
         value_of supports r e (map (λ c. c.value) claims) ≡ Some v → IsTrueClaim (claim_at (rule_side r, e) v) }
+{}
+
+/// A dual that stands among supports gives its bound: the rule that names it is defined at its entry, and rests there on the
+/// upper bounds of what the dual rests on; from such it gives the bound of the dual.
+pub fn standing_duals_give_their_bounds()
+    ensures premises { (supports : List Support) (place : ℕ) (dual : AcceptedValue) → Stands (Bound dual) →
+        slice_get supports place ≡ Some (Bound dual) →
+        premises_of supports (rule_of_dual place dual.dual.entry) dual.dual.entry ≡ Some (slots_on Upper (dual_premises dual.dual)) }
+    ensures value { (supports : List Support) (place : ℕ) (dual : AcceptedValue) (uppers : List ℕ) → Stands (Bound dual) →
+        slice_get supports place ≡ Some (Bound dual) →
+        value_of supports (rule_of_dual place dual.dual.entry) dual.dual.entry uppers ≡ Some (dual_bound dual.dual dual.at_zero uppers) }
 {}
 
 /// Where no premise is better than the one at its place among others, the value is no better than theirs, whatever

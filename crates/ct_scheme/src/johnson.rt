@@ -23,7 +23,7 @@ impl Scheme for Johnson {
     ghost use Rattle.std.specs.Prelude.{◌≡◌, ◌-◌, ◌/◌, ◌^◌, ◌<◌, min};
     ghost use Rattle.ct_words.specs.Word.{distance, weight};
     ghost use Rattle.ct_words.proofs.PairProducts.{half_distance-le, half_distance-same};
-    ghost use Rattle.ct_scheme.specs.Numbers.{johnson};
+    ghost use Rattle.ct_codes.specs.Numbers.{johnson};
     ghost use Rattle.ct_scheme.specs.Johnson.{johnson-positive, johnson-first, johnson-small};
 
     ghost belongs = { λ s x. (x < 2 ^ s.n) × (weight s.n x ≡ s.w) };

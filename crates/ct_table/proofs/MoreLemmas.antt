@@ -8,8 +8,6 @@ use Rattle.ct_codes.specs.declared.claim.Side.TheVariants.{Lower, Upper}
 use Rattle.ct_codes.specs.declared.entry.Entry.{Entry}
 use Rattle.ct_codes.specs.Entry.{IsEntry, same_entry}
 use Rattle.ct_codes.proofs.EntryLemmas.{same_entry_is}
-use Rattle.ct_words.specs.declared.limits.TheConstants.{MAX_N}
-use Rattle.ct_duals.specs.Bound.{dual_premises}
 use Rattle.ct_rule_parts.specs.declared.support.Support.{Support}
 use Rattle.ct_rule_parts.specs.declared.support.Support.TheVariants.{Nothing, Size, Bound}
 use Rattle.ct_rule_parts.specs.Parts.{has_weight}
@@ -51,7 +49,7 @@ gives_entry (Bound a) e (inr gives) entry = go (same_entry a.dual.entry e) refl
         let same : a.dual.entry ≡ e = same_entry_is a.dual.entry e is in
         ap (λ (b : Bool). if b then Some a.dual.entry else None) (subst IsEntry (sym same) entry) ∙ ap Some same
     go false is =
-        absurd (gives (ap (λ (b : Bool). if b && nat_le (length (dual_premises a.dual)) MAX_N then Some a else None) is))
+        absurd (gives (ap (λ (b : Bool). if b then Some a else None) is))
 
 -- a rule that is defined and names a support: it is the one by which that support gives something
 pub record IsNamed (supports : List Support) (r : Rule) (place : ℕ) (e : Entry) : Type 0 where

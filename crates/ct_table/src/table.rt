@@ -9,7 +9,7 @@ ghost use Rattle.ct_rule_parts.specs.Support.{Stands, AllStand};
 ghost use Rattle.ct_rules.specs.Derivation.{IsDerivation, IsBest};
 ghost use Rattle.ct_rules.specs.Removal.{only};
 ghost use Rattle.ct_table.specs.Removal.{KeepsReasons};
-ghost use Rattle.ct_table.specs.Table.{Grew, IsShownTable, reason_at};
+ghost use Rattle.ct_table.specs.Table.{Grew, IsShownTable, bound_at, reason_at};
 
 use crate::follow::follow;
 use crate::left::take_out;
@@ -138,6 +138,7 @@ impl Table {
     /// The best lower bound of an entry of the table.
     pub fn lower(&self, entry: Entry) -> u32
         requires { IsEntry entry }
+        ensures bound { result ≡ bound_at self.now (Side.Lower, entry) }
         ensures best { IsBest self.now.supports (Side.Lower, entry) result }
         ensures holds { IsTrueClaim (claim_at (Side.Lower, entry) result) }
     {
@@ -147,6 +148,7 @@ impl Table {
     /// The best upper bound of an entry of the table.
     pub fn upper(&self, entry: Entry) -> u32
         requires { IsEntry entry }
+        ensures bound { result ≡ bound_at self.now (Side.Upper, entry) }
         ensures best { IsBest self.now.supports (Side.Upper, entry) result }
         ensures holds { IsTrueClaim (claim_at (Side.Upper, entry) result) }
     {

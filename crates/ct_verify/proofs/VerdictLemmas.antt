@@ -1,11 +1,14 @@
 -- What a verdict says of what was read.
-use Rattle.std.proofs.Common.{◌≡◌, ◌≢◌, ℕ, ◌+◌, List, [], ◌∷◌, refl, ap, subst, ◌∙◌}
+use Rattle.std.proofs.Common.{◌≡◌, ◌≢◌, ℕ, ◌+◌, List, [], ◌∷◌, refl, sym, ap, subst, ◌∙◌}
 use Rattle.ct_lines.specs.Lines.{lines_of, IsNextLine}
 use Rattle.ct_lines.proofs.LinesLemmas.{lines_of-from_next}
+use Rattle.ct_rules.proofs.Derivations.{lines_are_true}
+use Rattle.ct_ledger.specs.Supports.{supports_of}
+use Rattle.ct_ledger.proofs.SupportLemmas.{supports_stand}
 use Rattle.ct_ledger.specs.declared.fault.SubmitFault.TheVariants.{Memory}
-use Rattle.ct_verify.specs.Read.{ReadingValue}
+use Rattle.ct_verify.specs.Read.{ReadingValue, unread}
 use Rattle.ct_verify.specs.Reading.{read_next}
-use Rattle.ct_verify.specs.Verdict.{ended, going_on, verdict_from, AreRead}
+use Rattle.ct_verify.specs.Verdict.{ended, going_on, verdict_from, verdict_of, AreRead, IsVerified}
 use Rattle.ct_verify.specs.declared.verdict.Why.{Why}
 use Rattle.ct_verify.specs.declared.verdict.Why.TheVariants as why
 use Rattle.ct_verify.specs.declared.verdict.Verdict.{Verdict}
@@ -14,7 +17,7 @@ use Rattle.ct_verify.specs.declared.part.Part.{Part}
 use Rattle.ct_verify.specs.declared.part.Part.TheVariants.{Start, Body, Evidence, Done}
 use Rattle.ct_verify.specs.declared.step.Step.{Step}
 use Rattle.ct_verify.specs.declared.step.Step.TheVariants.{On, Failed}
-use Rattle.ct_verify.proofs.ReadingLemmas.{IsAt, IsSound, IsSoundStep, read_next-sound}
+use Rattle.ct_verify.proofs.ReadingLemmas.{IsAt, IsSound, IsSoundStep, read_next-sound, unread-sound}
 
 -- the verdict on the rest of the text lines, after what was read
 abbrev later : ℕ → List (List ℕ) → ReadingValue → Verdict
@@ -74,3 +77,17 @@ on_next r next k before line after h is =
 pub failed_next : (r : ReadingValue) (k l : ℕ) (w : Why) (before line after : List ℕ) → IsNextLine before line after → read_next r k line ≡ Failed l w → verdict_from r k (lines_of before) ≡ No l w
 failed_next r k l w before line after h is =
     ap (verdict_from r k) (lines_of-from_next before line after h) ∙ ap (λ (step : Step). going_on step (later k (lines_of after))) is
+
+-- a document whose verdict is `Yes` is verified
+pub verified : (document : List ℕ) (v : Verdict) → v ≡ verdict_of document → v ≡ Yes → IsVerified document
+verified document v is yes =
+    let read = read_from_yes (lines_of document) unread 1 (sym is ∙ yes) in
+    let sound = AreRead-sound (lines_of document) unread read.0 1 read.1 unread-sound in
+    record {
+      reading = read.0;
+      read = read.1;
+      done = read.2;
+      standing = sound.standing;
+      derivation = sound.derivation;
+      claims = lines_are_true (supports_of read.0.pieces) read.0.lines (supports_stand read.0.pieces sound.standing) sound.derivation;
+    }

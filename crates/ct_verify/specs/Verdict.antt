@@ -1,6 +1,10 @@
 -- The verdict on a derivation document.
-use Rattle.std.specs.Prelude.{◌≡◌, ℕ, ◌+◌, List, [], ◌∷◌}
+use Rattle.std.specs.Prelude.{◌≡◌, ℕ, ◌+◌, List, [], ◌∷◌, All}
 use Rattle.ct_lines.specs.Lines.{lines_of}
+use Rattle.ct_codes.specs.Claim.{IsTrueClaim}
+use Rattle.ct_rules.specs.Derivation.{IsDerivation}
+use Rattle.ct_ledger.specs.Standing.{AreStanding}
+use Rattle.ct_ledger.specs.Supports.{supports_of}
 use Rattle.ct_verify.specs.Read.{ReadingValue, unread}
 use Rattle.ct_verify.specs.Reading.{read_next}
 use Rattle.ct_verify.specs.declared.verdict.Why.TheVariants.{Form}
@@ -36,3 +40,13 @@ verdict_of document = verdict_from unread 1 (lines_of document)
 abbrev pub AreRead : ReadingValue → ℕ → List (List ℕ) → ReadingValue → Type 0
 AreRead r k [] s = r ≡ s
 AreRead r k (text ∷ texts) s = (next : ReadingValue) × (read_next r k text ≡ On next) × AreRead next (k + 1) texts s
+
+-- a document is verified: its text lines are read from the first to the last, with no failure, and the last part is `done`; the pieces of its evidence stand, its lines
+-- are a derivation over what these give to the table, and each line's claim is true
+pub record IsVerified (document : List ℕ) : Type 0 where
+  pub reading : ReadingValue
+  pub read : AreRead unread 1 (lines_of document) reading
+  pub done : reading.part ≡ Done
+  pub standing : AreStanding reading.pieces
+  pub derivation : IsDerivation (supports_of reading.pieces) reading.lines
+  pub claims : All (λ l. IsTrueClaim l.claim) reading.lines

@@ -2,7 +2,8 @@
 
 ghost use Rattle.std.specs.Prelude.{◌≡◌, ◌<◌, IfOk, length};
 ghost use Rattle.ct_lines.specs.Lines.{IsNextLine};
-ghost use Rattle.ct_verify.specs.Verdict.{verdict_of};
+ghost use Rattle.ct_verify.specs.Verdict.{verdict_of, IsVerified};
+ghost use Rattle.ct_verify.specs.declared.verdict.Verdict.TheVariants.{Yes};
 
 use crate::reading::Reading;
 use crate::step::Step;
@@ -23,9 +24,11 @@ fn next_line(text: &[u8]) -> (&[u8], &[u8])
 }
 
 /// The verdict on a derivation document: its text lines are read from the first, and the first that fails decides. Its evidence is
-/// submitted in order to an empty ledger, and no table is made. `Err` is want of memory.
+/// submitted in order to an empty ledger, and no table is made. `Yes` makes each line of the document a true claim. `Err` is want
+/// of memory.
 pub fn verify(alloc: Global, document: &[u8]) -> Result<Verdict, AllocError>
-    ensures { IfOk result (λ verdict. verdict ≡ verdict_of document.now) }
+    ensures verdict { IfOk result (λ verdict. verdict ≡ verdict_of document.now) }
+    ensures verified { IfOk result (λ verdict. verdict ≡ Yes → IsVerified document.now) }
 {
     let mut reading = Reading::new(alloc);
     let mut number = 1;

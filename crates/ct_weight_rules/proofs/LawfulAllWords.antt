@@ -24,6 +24,6 @@ all_words-lawful c = record {
       (upper_of_weight e (choose e.n w) weighted (one-le-choose e.n w (weight_within e entry weighted))
       (bound_from_weight e.n e.d w (choose e.n w) (weight_bound-all e.n e.d w (omega (arith, limits.distance_from)))));
   monotone = λ e us vs x h is. no_worse-same Upper (Some (choose e.n (weight_of e))) x is;
-  few = λ e entry. omega arith;
+  few = λ e stand entry. omega arith;
   dependents = λ e f defined rests. no_item (Contains [] e) f rests;
 }

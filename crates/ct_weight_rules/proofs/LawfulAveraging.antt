@@ -26,7 +26,7 @@ averaging-lawful w c = record {
   monotone = λ e us vs x h is.
       no_worse-other Upper (average e.n w (first us)) (average e.n w (first vs)) x
       (average-le e.n w (first us) (first vs) (first-no_better Upper us vs h)) is;
-  few = λ e entry. omega arith;
+  few = λ e stand entry. omega arith;
   dependents = λ e f defined rests.
       turns_back (λ g. of_weight g w) unweighted e f
       (written e.n e.d e (no_weight e (defined_condition (averaging w) e defined)) refl refl) rests;

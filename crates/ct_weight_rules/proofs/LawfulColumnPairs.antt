@@ -31,6 +31,6 @@ column_pairs-lawful c = record {
       subst (IsTrueNumber Upper e) least.2
       (upper_of_weight e (least.0 - 1) weighted (omega (arith, bound.0)) bound.1);
   monotone = λ e us vs x h is. no_worse-same Upper _ x is;
-  few = λ e entry. omega arith;
+  few = λ e stand entry. omega arith;
   dependents = λ e f defined rests. no_item (Contains [] e) f rests;
 }

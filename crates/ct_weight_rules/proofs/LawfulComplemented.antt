@@ -27,7 +27,7 @@ complemented_below-lawful c = record {
       (lower_of_weight e (first vs) weighted premise.range.0
       (turned_code e.n e.d (weight_of e) (first vs) (weight_within e entry weighted) premise.truth));
   monotone = λ e us vs x h is. no_worse-other Lower (first us) (first vs) x (first-no_better Lower us vs h) is;
-  few = λ e entry. omega arith;
+  few = λ e stand entry. omega arith;
   dependents = λ e f defined rests.
       turns_back turned turned e f
       (turned_twice e (defined_entry complemented_below e defined) (a_weight e (defined_condition complemented_below e defined)))
@@ -43,7 +43,7 @@ complemented_above-lawful c = record {
       (upper_of_weight e (first vs) weighted premise.range.0
       (turned_bound e.n e.d (weight_of e) (first vs) premise.truth));
   monotone = λ e us vs x h is. no_worse-other Upper (first us) (first vs) x (first-no_better Upper us vs h) is;
-  few = λ e entry. omega arith;
+  few = λ e stand entry. omega arith;
   dependents = λ e f defined rests.
       turns_back turned turned e f
       (turned_twice e (defined_entry complemented_above e defined) (a_weight e (defined_condition complemented_above e defined)))

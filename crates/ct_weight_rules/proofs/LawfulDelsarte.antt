@@ -12,9 +12,10 @@ use Rattle.ct_codes.specs.Code.{IsTrueUpper}
 use Rattle.ct_codes.specs.Entry.{constant_weight}
 use Rattle.ct_constructions.specs.Even.{even_from}
 use Rattle.ct_duals.specs.Dual.{IsDual, IsPlainOf}
-use Rattle.ct_duals.specs.Bound.{AcceptedValue, IsSoundDual, AreTrueUppers, AreAtMost, positive, dual_premises, dual_bound}
+use Rattle.ct_duals.specs.Bound.{AcceptedValue, IsAccepted, AreTrueUppers, AreAtMost, positive, dual_premises, dual_bound}
 use Rattle.ct_duals.proofs.Monotone.{dual_bound-monotone}
-use Rattle.ct_duals.proofs.SomeBound.{dual_bound-some}
+use Rattle.ct_duals.proofs.Premises.{premises_few}
+use Rattle.ct_delsarte.proofs.SoundDuals.{accepted-sound, accepted-some}
 use Rattle.ct_rule_parts.specs.declared.support.Support.{Support}
 use Rattle.ct_rule_parts.specs.declared.support.Support.TheVariants.{Bound}
 use Rattle.ct_rule_parts.specs.Parts.{has_weight, slots_on}
@@ -45,10 +46,10 @@ dual_number : (c : Option Support) (e : Entry) (a : AcceptedValue) (vs : List �
     → AreTrueUppers (dual_premises a.dual) vs → IsTrueNumber Upper e (dual_bound a.dual a.at_zero vs)
 dual_number c e a vs stand at known =
     let has = dual_there c e a at in
-    let sound : IsSoundDual a = stand (Bound a) has.support in
+    let accepted : IsAccepted a = stand (Bound a) has.support in
     record {
-      some = dual_bound-some a vs sound.lead sound.least;
-      truth = subst (λ (f : Entry). IsTrueUpper f (dual_bound a.dual a.at_zero vs)) has.entry (sound.sound vs known);
+      some = accepted-some a accepted vs;
+      truth = subst (λ (f : Entry). IsTrueUpper f (dual_bound a.dual a.at_zero vs)) has.entry (accepted-sound a accepted vs known);
     }
 
 -- better premises give no greater a bound
@@ -87,7 +88,7 @@ pub dual_above-lawful : (c : Option Support) → IsLawful c (dual_above c)
 dual_above-lawful c = record {
   sound = λ e vs x stand entry condition known is. sound e vs x stand (dual_at c e) refl known is;
   monotone = λ e us vs x h is. dual-monotone (dual_at c e) us vs x h is;
-  few = λ e entry. few e (dual_at c e) refl;
+  few = λ e stand entry. few e stand (dual_at c e) refl;
   dependents = λ e f defined rests.
       dependents e f (no_weight e (and_parts (not (has_weight e)) (is_some (dual_at c e)) (defined_condition (dual_above c) e defined)).0)
       (dual_at c e) refl rests;
@@ -100,9 +101,11 @@ dual_above-lawful c = record {
         same_number Upper e (dual_bound a.dual a.at_zero vs) x is
         (dual_number c e a vs stand at (true_uppers (dual_premises a.dual) vs known))
 
-    few : (e : Entry) (o : Option AcceptedValue) → dual_at c e ≡ o → length (premises_of_dual o) ≤ MAX_N
-    few e None at = omega arith
-    few e (Some a) at = (dual_there c e a at).few
+    few : (e : Entry) → ForSome c Stands → (o : Option AcceptedValue) → dual_at c e ≡ o → length (premises_of_dual o) ≤ MAX_N
+    few e stand None at = omega arith
+    few e stand (Some a) at =
+        let accepted : IsAccepted a = stand (Bound a) (dual_there c e a at).support in
+        premises_few a.dual accepted.form
 
     dependents : (e f : Entry) → Weightless e → (o : Option AcceptedValue) → dual_at c e ≡ o → Contains (premises_of_dual o) f
         → Contains (unweighted f ∷ unweighted_and_nearer f ∷ []) e
@@ -120,7 +123,7 @@ dual_above_of_weight-lawful c = record {
   sound = λ e vs x stand entry condition known is.
       sound e vs x stand (a_weight e (and_parts (has_weight e) (is_some (dual_at c e)) condition).0) (dual_at c e) refl known is;
   monotone = λ e us vs x h is. dual-monotone (dual_at c e) us vs x h is;
-  few = λ e entry. omega arith;
+  few = λ e stand entry. omega arith;
   dependents = λ e f defined rests. no_item (Contains [] e) f rests;
 }
   where

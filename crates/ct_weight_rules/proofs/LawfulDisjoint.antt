@@ -60,7 +60,7 @@ disjoint_below-lawful c = record {
       (lower_of_weight e count half.weighted (one-le-count e half)
       (subst (λ d. IsTrueLower (constant_weight e.n d w) count) half.twice (disjoint_code e.n w half.some)));
   monotone = λ e us vs x h is. no_worse-same Lower (Some (count_of_disjoint e)) x is;
-  few = λ e entry. omega arith;
+  few = λ e stand entry. omega arith;
   dependents = λ e f defined rests. no_item (Contains [] e) f rests;
 }
 
@@ -75,6 +75,6 @@ disjoint_above-lawful c = record {
       (subst (λ d. IsTrueUpper (constant_weight e.n d w) count) half.twice
       (bound_from_weight e.n (2 * w) w count (weight_bound-disjoint e.n w half.some))));
   monotone = λ e us vs x h is. no_worse-same Upper (Some (count_of_disjoint e)) x is;
-  few = λ e entry. omega arith;
+  few = λ e stand entry. omega arith;
   dependents = λ e f defined rests. no_item (Contains [] e) f rests;
 }

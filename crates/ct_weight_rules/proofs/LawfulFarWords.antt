@@ -22,6 +22,6 @@ far_words-lawful c = record {
       (upper_of_weight e 1 (a_weight e parts.0) (omega arith)
       (bound_from_weight e.n e.d w 1 (weight_bound-apart e.n e.d w (ltb-true most e.d parts.1))));
   monotone = λ e us vs x h is. no_worse-same Upper (Some 1) x is;
-  few = λ e entry. omega arith;
+  few = λ e stand entry. omega arith;
   dependents = λ e f defined rests. no_item (Contains [] e) f rests;
 }

@@ -11,6 +11,6 @@ pub given_code-lawful : (c : Option Support) → IsLawful c (given_code c)
 given_code-lawful c = record {
   sound = λ e vs x stand entry condition known is. support_number c e x stand is;
   monotone = λ e us vs x h is. no_worse-same Lower _ x is;
-  few = λ e entry. omega arith;
+  few = λ e stand entry. omega arith;
   dependents = λ e f defined rests. no_item (Contains [] e) f rests;
 }

@@ -30,7 +30,7 @@ johnson-lawful c = record {
       (subst (λ o. IfSome o (IsTrueUpper (unrestricted e.n e.d))) is bound);
   monotone = λ e us vs x h is.
       johnson_odd-le e.n (half_up e.d) (first us) (first vs) x (first-no_better Upper us vs h) is;
-  few = λ e entry. omega arith;
+  few = λ e stand entry. omega arith;
   dependents = λ e f defined rests.
       turns_back around unweighted_and_nearer e f
       (written e.n (e.d + 1 - 1) e (no_weight e (defined_condition johnson e defined)) refl (omega arith)) rests;

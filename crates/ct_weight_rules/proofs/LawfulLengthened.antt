@@ -42,7 +42,7 @@ lengthened_by_zero-lawful c = record {
       (lower_of_weight e (first vs) (a_weight e condition) premise.range.0
       (with_zero e.n e.d (weight_of e) (first vs) limits.length_from premise.truth));
   monotone = λ e us vs x h is. no_worse-other Lower (first us) (first vs) x (first-no_better Lower us vs h) is;
-  few = λ e entry. omega arith;
+  few = λ e stand entry. omega arith;
   dependents = λ e f defined rests.
       turns_back zero_less zero_more e f
       (zero_more-zero_less e (defined_entry lengthened_by_zero e defined) (a_weight e (defined_condition lengthened_by_zero e defined)))
@@ -59,7 +59,7 @@ lengthened_by_one-lawful c = record {
       (lower_of_weight e (first vs) (a_weight e parts.0) premise.range.0
       (with_one e.n e.d (weight_of e) (first vs) limits.length_from (leb-true 1 (weight_of e) parts.1) premise.truth));
   monotone = λ e us vs x h is. no_worse-other Lower (first us) (first vs) x (first-no_better Lower us vs h) is;
-  few = λ e entry. omega arith;
+  few = λ e stand entry. omega arith;
   dependents = λ e f defined rests.
       let parts = and_parts (has_weight e) (nat_le 1 (weight_of e)) (defined_condition lengthened_by_one e defined) in
       turns_back one_less one_more e f

@@ -21,7 +21,7 @@ nearer_below-lawful c = record {
       (lower_of_weight e (first vs) (a_weight e condition) premise.range.0
       (code.0, code-nearer e.n (e.d + 2) e.d (weight_of e) code.0 (omega arith) code.1, code.2));
   monotone = λ e us vs x h is. no_worse-other Lower (first us) (first vs) x (first-no_better Lower us vs h) is;
-  few = λ e entry. omega arith;
+  few = λ e stand entry. omega arith;
   dependents = λ e f defined rests.
       turns_back two_farther two_nearer e f
       (two_nearer-two_farther e (a_weight e (defined_condition nearer_below e defined))) rests;
@@ -35,7 +35,7 @@ nearer_above-lawful c = record {
       (upper_of_weight e (first vs) (a_weight e condition) premise.range.0
       (λ words code. premise.truth words (code-nearer e.n e.d (e.d - 2) (weight_of e) words (omega arith) code)));
   monotone = λ e us vs x h is. no_worse-other Upper (first us) (first vs) x (first-no_better Upper us vs h) is;
-  few = λ e entry. omega arith;
+  few = λ e stand entry. omega arith;
   dependents = λ e f defined rests.
       turns_back two_nearer two_farther e f
       (two_farther-two_nearer e (defined_entry nearer_above e defined) (a_weight e (defined_condition nearer_above e defined)))

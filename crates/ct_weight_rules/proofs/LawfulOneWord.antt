@@ -11,6 +11,6 @@ pub one_word-lawful : (c : Option Support) → IsLawful c one_word
 one_word-lawful c = record {
   sound = λ e vs x stand entry weighted known is. same_number Lower e 1 x is (one_number e entry);
   monotone = λ e us vs x h is. no_worse-same Lower (Some 1) x is;
-  few = λ e entry. omega arith;
+  few = λ e stand entry. omega arith;
   dependents = λ e f defined rests. no_item (Contains [] e) f rests;
 }

@@ -41,7 +41,7 @@ split-lawful c = record {
       let zeros = first-no_better Upper us vs h in
       let ones = second-no_better Upper us vs h in
       no_worse-other Upper (first us + second us) (first vs + second vs) x (omega arith) is;
-  few = λ e entry. omega arith;
+  few = λ e stand entry. omega arith;
   dependents = λ e f defined rests.
       let entry = defined_entry split e defined in
       let parts = and_parts (has_weight e) (nat_le 1 (weight_of e)) (defined_condition split e defined) in

@@ -70,6 +70,6 @@ pub class_of_sum-lawful : (r : ℕ) (c : Option Support) → IsLawful c (class_o
 class_of_sum-lawful r c = record {
   sound = λ e vs x stand entry condition known is. class_number r e x is;
   monotone = λ e us vs x h is. no_worse-same Lower (size_of_class r e) x is;
-  few = λ e entry. omega arith;
+  few = λ e stand entry. omega arith;
   dependents = λ e f defined rests. no_item (Contains [] e) f rests;
 }

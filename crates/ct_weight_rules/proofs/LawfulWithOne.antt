@@ -39,7 +39,7 @@ with_one_below-lawful c = record {
       let more = mul-le-mul_left (weight_of e + 1) (first-no_better Lower us vs h) in
       no_worse-other Lower _ _ x
       (div_ceil-le-div_ceil ((weight_of e + 1) * first us) ((weight_of e + 1) * first vs) (e.n + 1) (omega arith) more) is;
-  few = λ e entry. omega arith;
+  few = λ e stand entry. omega arith;
   dependents = λ e f defined rests.
       let weighted = a_weight e (defined_condition with_one_below e defined) in
       turns_back one_more one_less e f (one_less-one_more e weighted) rests;
@@ -79,7 +79,7 @@ with_one_above-lawful c = record {
   monotone = λ e us vs x h is.
       let fewer = mul-le-mul_left e.n (first-no_better Upper us vs h) in
       no_worse-other Upper _ _ x (div-le-div (e.n * first vs) (e.n * first us) (weight_of e) fewer) is;
-  few = λ e entry. omega arith;
+  few = λ e stand entry. omega arith;
   dependents = λ e f defined rests.
       let ones = has_ones e (defined_condition with_one_above e defined) in
       turns_back one_less one_more e f

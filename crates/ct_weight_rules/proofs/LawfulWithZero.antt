@@ -39,7 +39,7 @@ with_zero_below-lawful c = record {
       let zeros = e.n + 1 - weight_of e in
       let more = mul-le-mul_left zeros (first-no_better Lower us vs h) in
       no_worse-other Lower _ _ x (div_ceil-le-div_ceil (zeros * first us) (zeros * first vs) (e.n + 1) (omega arith) more) is;
-  few = λ e entry. omega arith;
+  few = λ e stand entry. omega arith;
   dependents = λ e f defined rests.
       let weighted = a_weight e (defined_condition with_zero_below e defined) in
       turns_back zero_more zero_less e f (zero_less-zero_more e weighted) rests;
@@ -69,7 +69,7 @@ with_zero_above-lawful c = record {
   monotone = λ e us vs x h is.
       let fewer = mul-le-mul_left e.n (first-no_better Upper us vs h) in
       no_worse-other Upper _ _ x (div-le-div (e.n * first vs) (e.n * first us) (e.n - weight_of e) fewer) is;
-  few = λ e entry. omega arith;
+  few = λ e stand entry. omega arith;
   dependents = λ e f defined rests.
       let weighted = a_weight e (defined_condition with_zero_above e defined) in
       turns_back zero_less zero_more e f

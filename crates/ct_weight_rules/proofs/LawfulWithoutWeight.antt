@@ -41,7 +41,7 @@ without_weight-lawful w c = record {
       (HasCode-nearer e.n (2 * half_up e.d) e.d (first vs) (omega arith)
       (HasCode-unweighted e.n (2 * half_up e.d) w (first vs) premise.truth)));
   monotone = λ e us vs x h is. no_worse-other Lower (first us) (first vs) x (first-no_better Lower us vs h) is;
-  few = λ e entry. omega arith;
+  few = λ e stand entry. omega arith;
   dependents = λ e f defined rests.
       without_weight-back w e f (no_weight e (defined_condition (without_weight w) e defined)) rests;
 }

@@ -4,9 +4,8 @@ use Rattle.ct_duals.specs.declared.dual.Dual.{Dual}
 use Rattle.ct_duals.specs.declared.fault.DualFault.{DualFault}
 use Rattle.ct_duals.specs.Dual.{IsDual}
 use Rattle.ct_duals.specs.Check.{dual_fault}
-use Rattle.ct_duals.proofs.Faults.{below-from_none, none-from_below}
-use Rattle.ct_delsarte.specs.Numbers.{numbers_of}
-use Rattle.ct_delsarte.proofs.SoundDuals.{accepted-sound}
+use Rattle.ct_duals.proofs.Faults.{below-from_none, none-from_below, accepted-from_none}
+use Rattle.ct_codes.specs.Numbers.{numbers_of}
 use Rattle.ct_codes.specs.declared.entry.Entry.{Entry}
 use Rattle.ct_rule_parts.specs.declared.support.Support.TheVariants.{Size}
 use Rattle.ct_rule_parts.specs.Support.{Stands}
@@ -20,7 +19,7 @@ use Rattle.ct_ledger.proofs.Stating.{option_map-none, StatesCode, SaysSame}
 
 -- what an accepted dual gives stands
 dual_stands : (d : Dual) → IsDual d → (o : Option DualFault) → dual_fault (numbers_of d.entry) d ≡ o → Stands (dual_support o d)
-dual_stands d form None none = accepted-sound d form none
+dual_stands d form None none = accepted-from_none d form none
 dual_stands d form (Some reason) is = tt
 
 -- nor is it a size

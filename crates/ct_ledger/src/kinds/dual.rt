@@ -4,12 +4,12 @@ ghost use Rattle.std.specs.Prelude.{◌≡◌, ◌≢◌, ◌<◌, ◌^◌, Some
 ghost use Rattle.ct_duals.specs.Dual.{IsDual};
 ghost use Rattle.ct_duals.specs.Check.{dual_fault};
 ghost use Rattle.ct_ledger.specs.Kinds.Dual.{dual_support};
-ghost use Rattle.ct_delsarte.specs.Numbers.{numbers_of};
+ghost use Rattle.ct_codes.specs.Numbers.{numbers_of};
 
 use crate::fault::SubmitFault;
 use crate::kinds::{Checked, Kind};
 use ct_delsarte::check_dual_of_table;
-use ct_duals::{AcceptedDual, Dual};
+use ct_duals::Dual;
 use ct_rules::Support;
 use std::alloc::AllocError;
 
@@ -52,11 +52,7 @@ pub(crate) fn support(dual: &Dual) -> Result<Support, AllocError>
     ensures { IfOk result (λ support. support ≡ dual_support (dual_fault (numbers_of dual.now.entry) dual.now) dual.now) }
 {
     match check_dual_of_table(dual) {
-        Ok(accepted) => {
-            let at_zero = accepted.at_zero();
-            let copy = dual.try_copy()?;
-            Ok(Support::Bound(AcceptedDual::new(copy, at_zero)))
-        }
+        Ok(accepted) => Ok(Support::Bound(accepted.try_keep()?)),
         Err(_) => Ok(Support::Nothing),
     }
 }

@@ -1,6 +1,5 @@
 use Rattle.std.proofs.Common.{refl}
-use Rattle.ct_krawtchouk.specs.Krawtchouk.{krawtchouk}
-use Rattle.ct_scheme.specs.Numbers.{johnson}
+use Rattle.ct_codes.specs.Numbers.{krawtchouk, johnson}
 use Rattle.ct_duals.specs.Check.{dual_fault}
 use Rattle.ct_duals.specs.Bound.{dual_bound}
 use Rattle.ct_delsarte.proofs.laws.known_duals.Goals as goal

@@ -1,12 +1,13 @@
 -- An accepted dual is sound, by the laws of the scheme.
 use Rattle.std.proofs.Common.{◌≡◌, None, sym, ap, ◌∙◌, subst}
-use Rattle.std.specs.Prelude.{unsigned_abs, ◌<◌, ◌^◌}
+use Rattle.std.specs.Prelude.{ℕ, ℤ, unsigned_abs, ◌<◌, ◌^◌}
 use Rattle.std.proofs.lemmas.Int.{to_z-of_z}
 use mir.Val.{SFits}
 use mir.Syntax.{w128}
+use Rattle.ct_codes.specs.Numbers.{numbers_of}
 use Rattle.ct_duals.specs.Dual.{combination}
-use Rattle.ct_duals.specs.Check.{dual_fault}
-use Rattle.ct_duals.specs.Bound.{IsSoundDual}
+use Rattle.ct_duals.specs.Check.{dual_fault, IsBelow}
+use Rattle.ct_duals.specs.Inside.Proven.{IsProven}
 use Rattle.ct_duals.proofs.Faults.{below-from_none}
 use Rattle.ct_duals.proofs.Sound.{AreLaws}
 use Rattle.ct_duals.proofs.DualBound.{lead-least, dual_bound-true}
@@ -30,13 +31,17 @@ new-requires g c =
     let f : SFits w128 c.combination-at_zero.result = record { sfits = c.combination-at_zero.type_inv } in
     let value : c.combination-at_zero.result ≡ combination number d.c 0 = c.combination-at_zero.ensures.value ∙ ap (λ m. combination number m 0) c.as_slice.ensures in
     let small = c.combination-at_zero.ensures.small in
-    let sound : IsSoundDual (record { dual = d; at_zero = combination number d.c 0 }) = record {
-      form = c.requires.form;
-      lead = (below-from_none number d none).0;
+    let same : number ≡ numbers_of d.entry = λ i k j. c.requires.fits.numbers k j i in
+    let met = below-from_none number d none in
+    let proven : IsProven (record { dual = d; at_zero = combination number d.c 0 }) = record {
+      accepted = record {
+        form = c.requires.form;
+        lead = met.0;
+        below = subst (λ (ns : ℕ → ℕ → ℤ). IsBelow ns d) same met.1;
+        at_zero_is = ap (λ (ns : ℕ → ℕ → ℤ). combination ns d.c 0) same;
+      };
       least = lead-least belongs index degree number d laws c.requires.fits c.requires.form;
       small = subst (λ z. unsigned_abs z < 2 ^ 116) value small;
       sound = dual_bound-true belongs index degree number d laws c.requires.fits c.requires.form none;
     } in
-    record {
-      sound = subst (λ z. IsSoundDual (record { dual = d; at_zero = z })) (sym (to_z-of_z w128 c.combination-at_zero.result f ∙ value)) sound;
-    }
+    subst (λ z. IsProven (record { dual = d; at_zero = z })) (sym (to_z-of_z w128 c.combination-at_zero.result f ∙ value)) proven

@@ -4,7 +4,7 @@ use Rattle.ct_codes.specs.Entry.{unrestricted}
 use Rattle.ct_duals.specs.declared.dual.Dual.{Dual}
 use Rattle.ct_duals.specs.Dual.{IsDual}
 use Rattle.ct_duals.specs.Check.{dual_fault}
-use Rattle.ct_delsarte.specs.Numbers.{numbers_of}
+use Rattle.ct_codes.specs.Numbers.{numbers_of}
 use Rattle.ct_finder.proofs.OpeningLemmas.{range-within}
 use Rattle.ct_finder.proofs.FoundLemmas.{plain-found}
 use Rattle.ct_finder.proofs.finding.find.Goals as goal

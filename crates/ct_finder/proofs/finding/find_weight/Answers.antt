@@ -4,7 +4,7 @@ use Rattle.ct_codes.specs.Entry.{constant_weight}
 use Rattle.ct_duals.specs.declared.dual.Dual.{Dual}
 use Rattle.ct_duals.specs.Dual.{IsDual, degree_of}
 use Rattle.ct_duals.specs.Check.{dual_fault}
-use Rattle.ct_delsarte.specs.Numbers.{numbers_of}
+use Rattle.ct_codes.specs.Numbers.{numbers_of}
 use Rattle.ct_finder.proofs.OpeningLemmas.{range-within}
 use Rattle.ct_finder.proofs.FoundLemmas.{weighted-found, weighted-none}
 use Rattle.ct_finder.proofs.finding.find_weight.Goals as goal

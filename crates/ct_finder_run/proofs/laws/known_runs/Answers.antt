@@ -1,6 +1,5 @@
 use Rattle.std.proofs.Common.{refl}
-use Rattle.ct_krawtchouk.specs.Krawtchouk.{krawtchouk}
-use Rattle.ct_scheme.specs.Numbers.{johnson}
+use Rattle.ct_codes.specs.Numbers.{krawtchouk, johnson}
 use Rattle.ct_duals.specs.Bound.{dual_bound}
 use Rattle.ct_finder_run.proofs.laws.known_runs.Goals as goal
 

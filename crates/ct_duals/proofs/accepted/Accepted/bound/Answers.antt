@@ -6,4 +6,4 @@ use Rattle.ct_duals.proofs.accepted.Accepted.bound.Goals as goal
 
 pub charge-charge-requires-clause-few : goal.charge-charge-requires-clause-few
 charge-charge-requires-clause-few c =
-    subst (λ y. length y ≤ MAX_N) (sym c.as_slice.ensures) (few_allowances c.self.inside.dual.now c.self.invariant.form)
+    subst (λ y. length y ≤ MAX_N) (sym c.as_slice.ensures) (few_allowances c.self.inside.dual.now c.self.invariant.accepted.form)

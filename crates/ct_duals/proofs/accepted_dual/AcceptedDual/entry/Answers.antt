@@ -7,4 +7,4 @@ use Rattle.ct_duals.proofs.accepted_dual.AcceptedDual.entry.Goals as goal
 
 pub returns-clause-few : goal.returns-clause-few
 returns-clause-few c =
-    subst (λ (a : AcceptedValue). length (dual_premises a.dual) ≤ MAX_N) c.self.view_is (premises_few c.self.inside.dual c.self.invariant.form)
+    subst (λ (a : AcceptedValue). length (dual_premises a.dual) ≤ MAX_N) c.self.view_is (premises_few c.self.inside.dual c.self.invariant.accepted.form)

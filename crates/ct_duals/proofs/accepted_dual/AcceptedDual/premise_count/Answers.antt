@@ -8,8 +8,8 @@ use Rattle.ct_duals.proofs.accepted_dual.AcceptedDual.premise_count.Goals as goa
 
 pub returns-clause-few : goal.returns-clause-few
 returns-clause-few c =
-    subst (λ k. k ≤ MAX_N) (sym c.premise_count.ensures) (premises_few c.self.inside.dual c.self.invariant.form)
+    subst (λ k. k ≤ MAX_N) (sym c.premise_count.ensures) (premises_few c.self.inside.dual c.self.invariant.accepted.form)
 
 pub returns-clause-entries : goal.returns-clause-entries
 returns-clause-entries c =
-    subst (λ (a : AcceptedValue). All IsEntry (dual_premises a.dual)) c.self.view_is (premises_are_entries c.self.inside.dual c.self.invariant.form)
+    subst (λ (a : AcceptedValue). All IsEntry (dual_premises a.dual)) c.self.view_is (premises_are_entries c.self.inside.dual c.self.invariant.accepted.form)

@@ -1,0 +1,23 @@
+-- The numbers of the Hamming scheme, by Krawtchouk, and of the Johnson scheme: the first eigenmatrices of Delsarte 1973.
+use Rattle.std.specs.Prelude.{ℕ, suc, ◌-◌, ◌*◌, ℤ, pos, ◌*ℤ◌, Option, Some, None}
+use Rattle.ct_counting.specs.Alternating.{total_below, sign}
+use Rattle.ct_counting.specs.Binomials.{choose, factorial}
+use Rattle.ct_codes.specs.declared.entry.Entry.{Entry}
+
+-- the Krawtchouk number K_k(i) at length n: the sum over j = 0, .., k of (-1)^j C(i,j) C(n - i,k - j) (Krawtchouk 1929; MacWilliams and Sloane, chapter 5, section 2)
+unfoldable pub krawtchouk : ℕ → ℕ → ℕ → ℤ
+krawtchouk n k i = total_below (λ j. sign j *ℤ pos (choose i j * choose (n - i) (k - j))) (suc k)
+
+-- the Johnson number J_k(i) at length n and weight w, in this project's own normalisation: the sum over j = 0, .., k of (-1)^j C(i,j)^2 j! C(w - i,k - j) C(n - w - i,k - j) (k - j)!
+unfoldable pub johnson : ℕ → ℕ → ℕ → ℕ → ℤ
+johnson n w k i =
+    total_below (λ j. sign j *ℤ pos (choose i j * choose i j * factorial j * choose (w - i) (k - j) * choose (n - w - i) (k - j) * factorial (k - j))) (suc k)
+
+-- the number at k and i of the scheme of words of length n, and of weight w where one is given: the Krawtchouk number, and with a weight the Johnson number
+abbrev pub number_at : ℕ → Option ℕ → ℕ → ℕ → ℤ
+number_at n None k i = krawtchouk n k i
+number_at n (Some w) k i = johnson n w k i
+
+-- the numbers of the scheme of an entry
+abbrev pub numbers_of : Entry → ℕ → ℕ → ℤ
+numbers_of e = number_at e.n e.w

@@ -1,0 +1,5 @@
+use Rattle.ct_ledger.proofs.DualSupports.{bound_reached, johnson_bound_reached}
+use Rattle.ct_ledger.proofs.laws.duals_reach_their_bounds.Goals as goal
+
+pub returns : goal.returns
+returns c = record { plain = bound_reached; weighted = johnson_bound_reached }
