@@ -1,5 +1,5 @@
 -- What the own fields of a build are, where they are read.
-use Rattle.std.proofs.Common.{◌≡◌, ℕ, zero, suc, ◌+◌, ◌-◌, ◌<◌, ◌≤◌, get_or, true, ◌&&◌, ◌==◌, nat_le, nat_lt, pos, List, [], ◌∷◌, length, map, All, IsTrue, Some, Ok, inl, inr, refl, ap, ◌∙◌, subst, le-leb, eq-eqb, eqb-true, arith}
+use Rattle.std.proofs.Common.{◌≡◌, ℕ, zero, suc, ◌+◌, ◌-◌, ◌<◌, ◌≤◌, get_or, true, ◌&&◌, ◌==◌, nat_le, nat_lt, pos, List, [], ◌∷◌, length, map, All, Some, Ok, inl, inr, refl, ap, ◌∙◌, subst, le-leb, eq-eqb, eqb-true, arith}
 use Rattle.std.specs.List.{list_all}
 use Rattle.std.specs.List.Sorted.{IsStrictlyIncreasing}
 use Rattle.std.specs.Str.{bytes_eq}
@@ -10,7 +10,6 @@ use Rattle.toml.specs.Data.{Data, string, integer, float, boolean, datetime, arr
 use Rattle.toml.specs.View.{items_of}
 use Rattle.ct_words.specs.declared.limits.TheConstants.{MAX_N}
 use Rattle.ct_words.specs.Text.{is_binary_digit}
-use Rattle.ct_text.specs.Id.{is_id}
 use Rattle.ct_constructions.specs.Places.{ArePlaces}
 use Rattle.ct_fields.specs.Field.{field_text}
 use Rattle.ct_fields.specs.Ids.{id_in}

@@ -3,3 +3,4 @@ pub mod BuildFieldLemmas
 pub mod BuildAnswers
 pub mod BuildFaultAnswers
 pub mod WrittenBuild
+pub mod BuildRooms

@@ -1,18 +1,14 @@
 -- The table that is written for a build.
-use Rattle.std.proofs.Common.{◌≡◌, ℕ, ◌+◌, ◌%◌, ◌<◌, ◌≤◌, lit≤, true, false, ◌&&◌, ◌==◌, nat_le, length, inl, inr, pos, List, [], ◌∷◌, map, All, IsTrue, codes, Option, Some, None, IfSome, is_eq, nat_cmp, refl, sym, ap, ◌∙◌, arith}
+use Rattle.std.proofs.Common.{◌≡◌, ℕ, ◌+◌, ◌%◌, ◌<◌, ◌≤◌, lit≤, true, false, pos, List, [], ◌∷◌, map, All, IsTrue, codes, Option, Some, None, IfSome, is_eq, nat_cmp, refl, sym, ap, ◌∙◌, arith}
 use Rattle.std.specs.Prelude.{is_some}
-use Rattle.std.specs.List.{list_all}
-use Rattle.std.specs.Char.{is_ascii_lowercase, is_ascii_digit}
 use Rattle.std.specs.Cmp.Lexicographic.{slice_cmp}
 use Rattle.std.specs.Str.{IsAscii}
-use Rattle.std.proofs.lemmas.Bool.{and_parts, cases_Bool, false≢true, eqb-true, leb-true}
-use Rattle.std.proofs.Math.Bool.{or-false}
+use Rattle.std.proofs.lemmas.Bool.{false≢true}
 use Rattle.std.proofs.lemmas.List.Elements.{All-head, All-tail}
 use Rattle.std.proofs.lemmas.Str.Ascii.{IsAscii-nil, IsAscii-cons}
 use Rattle.toml.specs.Data.{string, integer, table, Members, get_member, items_depth, members_depth}
 use Rattle.toml.specs.View.{items_of}
-use Rattle.ct_text.specs.declared.id.TheConstants.{MAX_ID}
-use Rattle.ct_text.specs.Id.{is_id, is_id_byte}
+use Rattle.ct_text.specs.Id.{is_id}
 use Rattle.ct_words.specs.Text.{word_text}
 use Rattle.ct_codes.specs.declared.entry.Entry.{Entry}
 use Rattle.ct_codes.proofs.EntryLemmas.{WeightFits, entry_limits}

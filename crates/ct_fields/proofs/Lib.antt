@@ -6,3 +6,5 @@ pub mod WordsLemmas
 pub mod MemberLemmas
 pub mod WordTexts
 pub mod IdTexts
+pub mod TextLengths
+pub mod RoomLemmas

@@ -8,3 +8,4 @@ pub mod Tables
 pub mod StatesEntry
 pub mod Written
 pub mod Ids
+pub mod Inside

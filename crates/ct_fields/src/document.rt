@@ -1,5 +1,5 @@
 //! The table of a document, its kind and its keys.
-ghost use Rattle.std.specs.Prelude.{◌≡◌, ◌≤◌, Some, IfOk};
+ghost use Rattle.std.specs.Prelude.{◌≡◌, ◌≤◌, length, Some, IfOk};
 ghost use Rattle.std.specs.List.{list_any};
 ghost use Rattle.std.specs.Str.{bytes_eq};
 ghost use Rattle.toml.specs.Data.{table, members_depth};
@@ -8,6 +8,7 @@ ghost use Rattle.ct_fields.specs.Reads.{Reads};
 ghost use Rattle.ct_fields.specs.Field.{field_text};
 ghost use Rattle.ct_fields.specs.Fields.{is_of_kind, is_named, keys_are_named, has_only, no_other_key};
 ghost use Rattle.ct_fields.specs.Document.{table_of, document_of};
+ghost use Rattle.ct_fields.specs.Inside.Room.{IsSimpleTable, table_room};
 
 use crate::fault::FileFault;
 use crate::field::FieldName;
@@ -87,7 +88,9 @@ fn is_field(key: &str, names: &[FieldName]) -> bool
 /// The text of a table that is no deeper than the reader follows. `Err` is want of memory.
 pub fn table_bytes(alloc: Global, members: &Table) -> Result<Vec<u8>, AllocError>
     requires { members_depth (table_view members.now) ≤ 80 }
-    ensures { IfOk result (λ bytes. table_of bytes.items ≡ Some (table (table_view members.now))) }
+    ensures written { IfOk result (λ bytes. table_of bytes.items ≡ Some (table (table_view members.now))) }
+    ensures room { IfOk result (λ bytes. IsSimpleTable (table_view members.now) →
+        length bytes.items ≤ table_room (table_view members.now)) }
 {
     match toml::table_to_string(alloc, members) {
         Ok(text) => Ok(text.into_bytes()),

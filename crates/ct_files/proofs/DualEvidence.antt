@@ -1,12 +1,10 @@
 -- Where each answer comes for a document of kind dual or jdual.
-use Rattle.std.proofs.Common.{◌≡◌, List, codes, Result, Ok, Err, refl, subst}
+use Rattle.std.proofs.Common.{◌≡◌, codes, Result, Ok, Err, subst}
 use Rattle.std.specs.Prelude.{◌↔◌}
-use Rattle.toml.specs.Data.{Data, table, Members}
-use Rattle.ct_fields.specs.Steps.{◌>>=◌}
+use Rattle.toml.specs.Data.{table, Members}
 use Rattle.ct_fields.specs.Tables.{IsOfKind}
 use Rattle.ct_fields.specs.declared.fault.FileFault.{FileFault}
 use Rattle.ct_fields.proofs.StepLemmas.{bind-at, bind-at_err, bind-cases}
-use Rattle.ct_duals.specs.declared.dual.Dual.{Dual}
 use Rattle.ct_dual_files.specs.Dual.{dual_of, johnson_dual_of}
 use Rattle.ct_dual_files.proofs.DualAnswers.{dual_answers, dual_answer-from}
 use Rattle.ct_dual_files.proofs.JohnsonDualAnswers.{johnson_dual_answers, johnson_dual_answer-from}

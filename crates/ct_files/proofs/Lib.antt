@@ -3,3 +3,4 @@ pub mod DocumentAnswers
 pub mod Evidences
 mod Written
 pub mod OnLiterals
+pub mod Lengths

@@ -1,4 +1,6 @@
 pub mod Evidence
 pub mod DualAnswer
+pub mod Kinds
+pub mod Lengths
 pub mod Examples
 pub mod Inside

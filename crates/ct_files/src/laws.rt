@@ -1,5 +1,5 @@
 //! Which documents are accepted as which evidence, and where each fault comes.
-ghost use Rattle.std.specs.Prelude.{◌≡◌, ◌↔◌, ℕ, ◌<◌, ◌≤◌, List, length, Option, Result, Ok, Err, codes};
+ghost use Rattle.std.specs.Prelude.{◌≡◌, ◌↔◌, ℕ, ◌<◌, ◌≤◌, List, length, Option, Result, Ok, Err};
 ghost use Rattle.toml.specs.Data.{Data};
 ghost use Rattle.ct_build.specs.declared.step.Step.{Step};
 ghost use Rattle.ct_codes.specs.declared.entry.Entry.{Entry};
@@ -10,14 +10,15 @@ ghost use Rattle.ct_evidence.specs.declared.evidence.Evidence.TheVariants as evi
 ghost use Rattle.ct_fields.specs.declared.fault.FileFault.{FileFault};
 ghost use Rattle.ct_fields.specs.declared.fault.FileFault.TheVariants.{Bytes, NotToml, Kind};
 ghost use Rattle.ct_files.specs.Evidence.{read_of};
+ghost use Rattle.ct_files.specs.Kinds as documents;
+ghost use Rattle.ct_files.specs.Kinds.{kind_text, IsAnswer, IsOfNoKind};
 ghost use Rattle.ct_fields.specs.Tables.{IsDocument, IsOfKind};
-ghost use Rattle.ct_word_files.specs.WordsDocument.{IsWordsAnswer, AcceptsWords};
-ghost use Rattle.ct_word_files.specs.CosetsDocument.{IsCosetsAnswer, AcceptsCosets};
-ghost use Rattle.ct_partition_files.specs.PartitionDocument.{IsPartitionAnswer, AcceptsPartition};
-ghost use Rattle.ct_partition_files.specs.ProductDocument.{IsProductAnswer, AcceptsProduct};
-ghost use Rattle.ct_build_files.specs.BuildAnswer.{IsBuildAnswer};
+ghost use Rattle.ct_word_files.specs.WordsDocument.{AcceptsWords};
+ghost use Rattle.ct_word_files.specs.CosetsDocument.{AcceptsCosets};
+ghost use Rattle.ct_partition_files.specs.PartitionDocument.{AcceptsPartition};
+ghost use Rattle.ct_partition_files.specs.ProductDocument.{AcceptsProduct};
 ghost use Rattle.ct_build_files.specs.BuildDocument.{AcceptsBuild};
-ghost use Rattle.ct_files.specs.DualAnswer.{IsDualEvidence, IsJohnsonDualEvidence, AcceptsDual, AcceptsJohnsonDual};
+ghost use Rattle.ct_files.specs.DualAnswer.{AcceptsDual, AcceptsJohnsonDual};
 
 /// Bytes are accepted as these words for this entry exactly where they are at most `MAX_DOCUMENT`, are UTF-8 and write
 /// by the grammar of TOML 1.1 a table of kind `words` that has n, d and, where there is one, w of the entry, each in its
@@ -52,35 +53,12 @@ pub fn bytes_without_table()
         ((length bytes ≤ MAX_DOCUMENT) × ((document : Data) → ¬ (IsDocument bytes document))) }
 {}
 
-/// Where the other answers come: `Kind` for a table of another kind than `words`, `cosets`, `partition`, `build`, `product`,
-/// `dual` and `jdual`, and for one of these kinds each answer exactly where `IsWordsAnswer`, `IsCosetsAnswer`,
-/// `IsPartitionAnswer`, `IsBuildAnswer`, `IsProductAnswer`, `IsDualEvidence` or `IsJohnsonDualEvidence` says, which field or which other fault it may be.
+/// Where the other answers come: `Kind` for a table of none of the kinds, and for one of a kind each answer exactly where `IsAnswer` says,
+/// which field or which other fault it may be.
 pub fn answers_to_documents()
-    ensures kind { (bytes : List ℕ) (document : Data) → IsDocument bytes document →
-        (read_of bytes ≡ Err Kind)
-        ↔ (¬ (IsOfKind (codes "words") document) × ¬ (IsOfKind (codes "cosets") document)
-        × ¬ (IsOfKind (codes "partition") document) × ¬ (IsOfKind (codes "build") document)
-        × ¬ (IsOfKind (codes "product") document) × ¬ (IsOfKind (codes "dual") document)
-        × ¬ (IsOfKind (codes "jdual") document)) }
-    ensures words { (bytes : List ℕ) (document : Data) (answer : Result Evidence FileFault) →
-        IsDocument bytes document → IsOfKind (codes "words") document →
-        (read_of bytes ≡ answer) ↔ IsWordsAnswer document answer }
-    ensures cosets { (bytes : List ℕ) (document : Data) (answer : Result Evidence FileFault) →
-        IsDocument bytes document → IsOfKind (codes "cosets") document →
-        (read_of bytes ≡ answer) ↔ IsCosetsAnswer document answer }
-    ensures partition { (bytes : List ℕ) (document : Data) (answer : Result Evidence FileFault) →
-        IsDocument bytes document → IsOfKind (codes "partition") document →
-        (read_of bytes ≡ answer) ↔ IsPartitionAnswer document answer }
-    ensures product { (bytes : List ℕ) (document : Data) (answer : Result Evidence FileFault) →
-        IsDocument bytes document → IsOfKind (codes "product") document →
-        (read_of bytes ≡ answer) ↔ IsProductAnswer document answer }
-    ensures build { (bytes : List ℕ) (document : Data) (answer : Result Evidence FileFault) →
-        IsDocument bytes document → IsOfKind (codes "build") document →
-        (read_of bytes ≡ answer) ↔ IsBuildAnswer document answer }
-    ensures dual { (bytes : List ℕ) (document : Data) (answer : Result Evidence FileFault) →
-        IsDocument bytes document → IsOfKind (codes "dual") document →
-        (read_of bytes ≡ answer) ↔ IsDualEvidence document answer }
-    ensures johnson_dual { (bytes : List ℕ) (document : Data) (answer : Result Evidence FileFault) →
-        IsDocument bytes document → IsOfKind (codes "jdual") document →
-        (read_of bytes ≡ answer) ↔ IsJohnsonDualEvidence document answer }
+    ensures no_kind { (bytes : List ℕ) (document : Data) → IsDocument bytes document →
+        (read_of bytes ≡ Err Kind) ↔ IsOfNoKind document }
+    ensures answers { (kind : documents.Kind) (bytes : List ℕ) (document : Data) (answer : Result Evidence FileFault) →
+        IsDocument bytes document → IsOfKind (kind_text kind) document →
+        (read_of bytes ≡ answer) ↔ IsAnswer kind document answer }
 {}

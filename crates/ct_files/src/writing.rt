@@ -1,8 +1,8 @@
 //! Evidence written as a document.
 ghost use Rattle.std.specs.Prelude.{◌≡◌, ◌≤◌, length, Ok, IfOk};
 ghost use Rattle.toml.specs.View.{table_view};
-ghost use Rattle.ct_fields.specs.declared.document.TheConstants.{MAX_DOCUMENT};
 ghost use Rattle.ct_files.specs.Evidence.{IsSound, read_without_limit, read_of};
+ghost use Rattle.ct_files.specs.Lengths.{most_bytes};
 ghost use Rattle.ct_files.specs.Inside.Written.{evidence_table, HasIds};
 
 use ct_build_files::build_table;
@@ -46,12 +46,12 @@ fn evidence_table(alloc: Global, evidence: &Evidence) -> Result<Table, AllocErro
 /// The document of the evidence, whose fields have the forms, ranges and counts of its kind: a TOML table with its keys
 /// in the order of their bytes. `Err` is want of memory.
 ///
-/// It reads as the same evidence, but for the limit on the bytes of a document, which is no part of the form.
+/// It reads as the same evidence, and has at most `most_bytes` bytes, so that it is within the limit of a document.
 pub fn write_evidence(alloc: Global, evidence: &Evidence) -> Result<Vec<u8>, AllocError>
     requires { IsSound evidence.now }
     ensures without_limit { IfOk result (λ bytes. read_without_limit bytes.items ≡ Ok evidence.now) }
-    ensures within_limit { IfOk result (λ bytes. length bytes.items ≤ MAX_DOCUMENT
-        → read_of bytes.items ≡ Ok evidence.now) }
+    ensures read { IfOk result (λ bytes. read_of bytes.items ≡ Ok evidence.now) }
+    ensures length { IfOk result (λ bytes. length bytes.items ≤ most_bytes evidence.now) }
 {
     let table = evidence_table(alloc, evidence)?;
     table_bytes(alloc, &table)

@@ -5,3 +5,4 @@ mod WrittenLists
 pub mod PartitionAnswers
 pub mod ProductAnswers
 pub mod WrittenPartitions
+pub mod Rooms

@@ -1,5 +1,5 @@
 -- Where each answer comes for a document of kind partition.
-use Rattle.std.proofs.Common.{◌≡◌, ℕ, ◌^◌, ◌<◌, List, codes, Option, Result, Ok, Err, ok_or, refl, sym, ap, ◌∙◌, subst, zero-add}
+use Rattle.std.proofs.Common.{◌≡◌, ℕ, ◌^◌, ◌<◌, List, codes, Option, Result, Ok, Err, ok_or, refl, ap, ◌∙◌, subst, zero-add}
 use Rattle.std.specs.Prelude.{◌↔◌}
 use Rattle.std.proofs.lemmas.List.Elements.{All-from_recursion, recursion_from_All}
 use Rattle.toml.specs.Data.{Data, table, Members}
@@ -22,7 +22,7 @@ use Rattle.ct_fields.proofs.FieldLemmas.{number_field-ok, number_field-from, fie
 use Rattle.ct_fields.proofs.EntryAnswers.{entry_of-ok, entry_of-from, entry_of-err, entry_of-fault}
 use Rattle.ct_partition_files.specs.Lists.{text_lists_in, text_lists_field, classes_from, class_count}
 use Rattle.ct_partition_files.specs.Partition.{partition_of_lists, partition_evidence_of}
-use Rattle.ct_partition_files.specs.PartitionDocument.{partition_fields, HasTextLists, all_texts, class_texts, HasBetween, HasPartition, IsPartitionDocument, StatesPartition, IsPartitionAnswer}
+use Rattle.ct_partition_files.specs.PartitionDocument.{partition_fields, HasTextLists, class_texts, HasBetween, HasPartition, IsPartitionDocument, StatesPartition, IsPartitionAnswer}
 use Rattle.ct_partition_files.proofs.ListLemmas.{text_lists_field-ok, text_lists_field-from, classes_from-ok, classes_from-from, classes_from-err, classes_from-wrong}
 use Rattle.ct_partition_files.proofs.CountLemmas.{refused-ok, refused-err, count_is_wrong, count_is_wrong-from, counts_are_right, counts_are_right-from}
 

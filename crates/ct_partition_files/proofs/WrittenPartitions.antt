@@ -1,5 +1,5 @@
 -- The tables that are written for partitions and products.
-use Rattle.std.proofs.Common.{◌≡◌, ℕ, ◌^◌, ◌<◌, ◌≤◌, true, List, [], ◌∷◌, ◌++◌, length, map, codes, Option, Some, None, lit≤, refl, sym, ap, pos, arith}
+use Rattle.std.proofs.Common.{◌≡◌, ℕ, ◌^◌, ◌<◌, ◌≤◌, List, [], ◌∷◌, ◌++◌, length, map, codes, Option, Some, None, lit≤, refl, sym, ap, pos, arith}
 use Rattle.std.specs.Prelude.{All}
 use Rattle.std.proofs.lemmas.Bool.{false≢true}
 use Rattle.std.proofs.lemmas.List.Elements.{All-nil, All-cons, All-head, All-tail}
@@ -11,9 +11,7 @@ use Rattle.ct_codes.specs.declared.entry.Entry.{Entry}
 use Rattle.ct_codes.specs.Entry.{IsEntry}
 use Rattle.ct_codes.proofs.EntryLemmas.{WeightFits, Limits, entry_limits}
 use Rattle.ct_partitions.specs.Partition.{all_words}
-use Rattle.ct_fields.specs.Fields.{has_only}
 use Rattle.ct_fields.specs.Written.{word_texts, put, put_weight, entry_table}
-use Rattle.ct_fields.specs.StatesEntry.{StatesEntry}
 use Rattle.ct_fields.specs.declared.field.FieldName.TheVariants as name
 use Rattle.ct_fields.proofs.FieldLemmas.{has_only-true}
 use Rattle.ct_fields.proofs.MemberLemmas.{members_depth-put}

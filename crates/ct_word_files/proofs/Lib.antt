@@ -1,3 +1,4 @@
 pub mod WordsAnswers
 pub mod CosetsAnswers
 pub mod WrittenWords
+pub mod WordRooms

@@ -1,13 +1,48 @@
-use Rattle.ct_files.proofs.DocumentAnswers.{accepted, accepted-from, accepted_cosets, accepted_cosets-from, accepted_partition, accepted_partition-from, accepted_product, accepted_product-from, accepted_build, accepted_build-from, accepted_dual, accepted_dual-from, accepted_johnson_dual, accepted_johnson_dual-from}
+use Rattle.ct_evidence.specs.declared.evidence.Evidence.TheVariants.{Words, Cosets, Partition, Product, Build, Dual, JohnsonDual}
+use Rattle.ct_files.proofs.DocumentAnswers.{accepted, accepted-from}
 use Rattle.ct_files.proofs.laws.accepted_documents.Goals as goal
 
 pub returns : goal.returns
 returns c = record {
-  words = λ bytes e words. (accepted bytes e words, accepted-from bytes e words);
-  cosets = λ bytes e basis representatives. (accepted_cosets bytes e basis representatives, accepted_cosets-from bytes e basis representatives);
-  partition = λ bytes e between classes. (accepted_partition bytes e between classes, accepted_partition-from bytes e between classes);
-  product = λ bytes e pairs. (accepted_product bytes e pairs, accepted_product-from bytes e pairs);
-  build = λ bytes e step part other. (accepted_build bytes e step part other, accepted_build-from bytes e step part other);
-  dual = λ bytes d. (accepted_dual bytes d, accepted_dual-from bytes d);
-  johnson_dual = λ bytes d. (accepted_johnson_dual bytes d, accepted_johnson_dual-from bytes d);
+  words = λ bytes e words. (
+    λ read.
+        let a = accepted bytes (Words e words) read in
+        record { document = a.document; written = a.written; states = a.states.0; some = a.states.1; few = a.states.2 },
+    λ a. accepted-from bytes (Words e words) a.document a.written a.states.form.fields.of_kind (a.states, a.some, a.few),
+  );
+  cosets = λ bytes e basis representatives. (
+    λ read.
+        let a = accepted bytes (Cosets e basis representatives) read in
+        record {
+          document = a.document;
+          written = a.written;
+          states = a.states.0;
+          few_basis = a.states.1;
+          some = a.states.2;
+          few = a.states.3;
+        },
+    λ a. accepted-from bytes (Cosets e basis representatives) a.document a.written a.states.form.fields.of_kind (a.states, a.few_basis, a.some, a.few),
+  );
+  partition = λ bytes e between classes. (
+    λ read.
+        let a = accepted bytes (Partition e between classes) read in
+        record { document = a.document; written = a.written; states = a.states.0; counted_classes = a.states.1 },
+    λ a. accepted-from bytes (Partition e between classes) a.document a.written a.states.form.fields.of_kind (a.states, a.counted_classes),
+  );
+  product = λ bytes e pairs. (
+    λ read. let a = accepted bytes (Product e pairs) read in record { document = a.document; written = a.written; states = a.states },
+    λ a. accepted-from bytes (Product e pairs) a.document a.written a.states.fields.of_kind a.states,
+  );
+  build = λ bytes e step part other. (
+    λ read. let a = accepted bytes (Build e step part other) read in record { document = a.document; written = a.written; states = a.states },
+    λ a. accepted-from bytes (Build e step part other) a.document a.written a.states.of_kind a.states,
+  );
+  dual = λ bytes d. (
+    λ read. let a = accepted bytes (Dual d) read in record { document = a.document; written = a.written; states = a.states },
+    λ a. accepted-from bytes (Dual d) a.document a.written a.states.fields.of_kind a.states,
+  );
+  johnson_dual = λ bytes d. (
+    λ read. let a = accepted bytes (JohnsonDual d) read in record { document = a.document; written = a.written; states = a.states },
+    λ a. accepted-from bytes (JohnsonDual d) a.document a.written a.states.fields.of_kind a.states,
+  );
 }

@@ -1,0 +1,16 @@
+-- How many bytes the document of an evidence has at most, by its kind.
+use Rattle.std.specs.Prelude.{ℕ, ◌+◌, ◌*◌, length}
+use Rattle.ct_partitions.specs.Partition.{all_words}
+use Rattle.ct_evidence.specs.declared.evidence.Evidence.{Evidence}
+use Rattle.ct_evidence.specs.declared.evidence.Evidence.TheVariants.{Words, Cosets, Partition, Build, Product, Dual, JohnsonDual}
+
+-- so many bytes at most are written for an evidence that can be read: a word of length n takes n + 4 of them, an id at most 36, a number at
+-- most 22
+abbrev pub most_bytes : Evidence → ℕ
+most_bytes (Words e words) = 128 + (e.n + 4) * length words
+most_bytes (Cosets e basis representatives) = 128 + (e.n + 4) * (length basis + length representatives)
+most_bytes (Partition e between classes) = 160 + 4 * length classes + (e.n + 4) * length (all_words classes)
+most_bytes (Build e step part other) = 1024
+most_bytes (Product e pairs) = 128 + 76 * length pairs
+most_bytes (Dual d) = 128 + 22 * length d.c + 48 * length d.y
+most_bytes (JohnsonDual d) = 128 + 22 * length d.c
