@@ -20,8 +20,9 @@ import re
 import sys
 import textwrap
 
-import sessions
-from sessions import Refusal, words_of
+from code_tables import sessions
+from code_tables.program import TOP
+from code_tables.sessions import Refusal, words_of
 from submit_words import distance, representatives, span
 
 # The ranges of the fields, as docs/FORMATS.md says them.
@@ -132,7 +133,7 @@ def main():
     parser = argparse.ArgumentParser(description=__doc__, formatter_class=argparse.RawDescriptionHelpFormatter)
     parser.add_argument("session", help="the session that was run")
     parser.add_argument("--refused", action="store_true", help="show refusals alone")
-    parser.add_argument("--formats", default=sessions.TOP / "docs/FORMATS.md", help="the document with the sentences (docs/FORMATS.md)")
+    parser.add_argument("--formats", default=TOP / "docs/FORMATS.md", help="the document with the sentences (docs/FORMATS.md)")
     options = parser.parse_args()
     some = False
     try:

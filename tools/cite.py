@@ -6,22 +6,24 @@
 
 N D, or N D W, and then the sessions, which are run one behind the other. The pieces of each side are those of its derivation, with what the
 document cites or, where it cites nothing, the remarks right above the submission; the rules are those of the derivation, with their sources
-from docs/RULES.md. Then come the commit of the program's sources, the toolchain that proved them with the hash of its logic, and the hash of
-the sessions. The same as BibTeX stands below; `--bibtex` gives that alone."""
+from docs/RULES.md. Then come the checksum of the program that answered, the commit of its sources and the toolchain that proved them, both
+`unknown` where no record beside the program holds them, and the hash of the sessions. The same as BibTeX stands below; `--bibtex` gives that
+alone."""
 
 import argparse
 import re
 import sys
 
-import sessions
 import table
-from sessions import Refusal, name_of
+from code_tables import provenance, sessions
+from code_tables.program import TOP
+from code_tables.sessions import Refusal, name_of
 
 
 def rule_sources():
     """The source of each rule, as docs/RULES.md has it."""
     found = {}
-    for line in sessions.read_text(sessions.TOP / "docs/RULES.md").split("\n"):
+    for line in sessions.read_text(TOP / "docs/RULES.md").split("\n"):
         cells = [cell.strip() for cell in line.strip("|").split("|")]
         if re.fullmatch("[LMUV][0-9]+", cells[0]) and len(cells) > 4:
             found.setdefault(cells[0], cells[3])
@@ -55,7 +57,9 @@ def as_text(held, entry):
     lines = [f"{name_of(entry)} = {low}" if low == high else f"{low} <= {name_of(entry)} <= {high}"]
     for side, value in ("lower", low), ("upper", high):
         lines += side_lines(held, side, entry, value)
-    lines += [f"program    code_tables, commit {table.commit()}", f"toolchain  {table.toolchain()}", f"sessions   SHA-256 {held.session_hash}"]
+    made = provenance.provenance()
+    lines += [f"program    code_tables, SHA-256 {made.program}", f"commit     {made.commit}", f"toolchain  {made.toolchain}",
+              f"sessions   SHA-256 {held.session_hash}"]
     return "\n".join(lines) + "\n"
 
 
@@ -71,7 +75,8 @@ def as_bibtex(held, entry):
     claim = f"{name_of(entry)} = {low}" if low == high else rf"{low} \le {name_of(entry)} \le {high}"
     ids = [piece.id for side in ("lower", "upper") if (side, entry) in held.derivations for piece in table.resting(held, held.derivations[side, entry].ids)]
     rests = f"Rests on {', '.join(dict.fromkeys(ids))}. " if ids else ""
-    note = f"{rests}Commit {table.commit()}; {table.toolchain()}; sessions SHA-256 {held.session_hash}"
+    made = provenance.provenance()
+    note = f"{rests}Program SHA-256 {made.program}; commit {made.commit}; toolchain {made.toolchain}; sessions SHA-256 {held.session_hash}"
     return (f"@misc{{code-tables-{'-'.join(map(str, entry))},\n  title = {{Bounds of a proved table of codes: ${claim}$}},\n"
             f"  author = {{{{code\\_tables}}}},\n  howpublished = {{Output of the program code\\_tables}},\n  note = {{{escaped(note)}}}\n}}\n")
 

@@ -34,7 +34,7 @@ sys.path[:0] = [str(place) for place in (Path(globals().get("__file__", "")).par
 
 import submit_dual
 import submit_words
-from sessions import Refusal
+from code_tables.sessions import Refusal
 
 
 def put(text, file):

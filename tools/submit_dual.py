@@ -29,7 +29,7 @@ from fractions import Fraction
 from functools import cache
 from math import comb, factorial, gcd
 
-from sessions import Refusal, name_of
+from code_tables.sessions import Refusal, name_of
 
 
 @cache

@@ -19,7 +19,7 @@ import argparse
 import re
 import sys
 
-from sessions import Refusal
+from code_tables.sessions import Refusal
 
 # The limits of docs/FORMATS.md.
 MOST_WORDS, MOST_REPRESENTATIVES, MOST_WORK = 16384, 4096, 2 ** 24

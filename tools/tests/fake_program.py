@@ -7,7 +7,7 @@ from pathlib import Path
 
 sys.path.insert(0, str(Path(__file__).resolve().parent.parent))
 
-import sessions
+from code_tables import sessions
 
 
 def bounds(n, d, w=None):

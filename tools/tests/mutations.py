@@ -12,7 +12,8 @@ import sys
 from support import HAS_PROGRAM, TOP, session
 
 import check_derivation
-import sessions
+from code_tables import sessions
+from code_tables.program import program
 
 SHORT = """derivation
 line 1 lower 3 4 value 1 by L1
@@ -118,7 +119,7 @@ def changed(found, most):
 def verdicts(text):
     """The verdicts on a document, the program's and the other."""
     bytes_of = text.encode("utf-8", "surrogateescape")
-    said = subprocess.run([*sessions.program(), "verify"], input=bytes_of, stdout=subprocess.PIPE).stdout.decode()
+    said = subprocess.run([program(), "verify"], input=bytes_of, stdout=subprocess.PIPE).stdout.decode()
     return said, check_derivation.verdict(bytes_of) + "\n"
 
 

@@ -18,6 +18,9 @@ BUILT = TOP / "crates/ct_program/out/ct_program"
 if BUILT.exists():
     os.environ.setdefault("CODE_TABLES", str(BUILT))
 HAS_PROGRAM = bool(os.environ.get("CODE_TABLES"))
+# The environment in which a tool takes the false program for the built one.
+FAKE_PROGRAM = TOOLS / "tests/fake_program.py"
+FAKE = os.environ | {"CODE_TABLES": str(FAKE_PROGRAM)}
 needs_program = unittest.skipUnless(HAS_PROGRAM, "the program isn't built")
 
 
@@ -34,8 +37,8 @@ def run(*words, text="", **more):
 
 def session(text, mode="session"):
     """What the program answers in a mode."""
-    from sessions import program
-    return subprocess.run([*program(), mode], input=text.encode(), stdout=subprocess.PIPE).stdout.decode()
+    from code_tables.program import program
+    return subprocess.run([program(), mode], input=text.encode(), stdout=subprocess.PIPE).stdout.decode()
 
 
 def data(name):

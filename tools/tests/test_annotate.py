@@ -5,7 +5,7 @@ import unittest
 from support import DATA, TOP, data, needs_program, run, session
 
 import annotate
-from sessions import Command
+from code_tables.sessions import Command
 
 
 class Annotate(unittest.TestCase):

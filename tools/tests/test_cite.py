@@ -1,13 +1,12 @@
 """A bound is cited with what it rests on."""
 
+import hashlib
 import os
 import re
-import sys
 import unittest
 
-from support import DATA, TOOLS, TOP, needs_program, run
+from support import DATA, FAKE, FAKE_PROGRAM, TOP, needs_program, run
 
-FAKE = os.environ | {"CODE_TABLES": f"{sys.executable} {TOOLS}/tests/fake_program.py"}
 
 
 class Cite(unittest.TestCase):
@@ -19,8 +18,9 @@ class Cite(unittest.TestCase):
                                      "  evidence hexa (words of A(10,6), 1 word): The six words <of length ten> & nothing else.",
                                      "  rule L10: the piece's words are a code of the entry"])
         self.assertEqual(lines[4:6], ["upper bound 1024", "  rule U0: there are 2^n words of length n"])
-        self.assertRegex(lines[6], "^program    code_tables, commit ([0-9a-f]{40}|unknown)")
-        self.assertRegex(lines[8], "^sessions   SHA-256 [0-9a-f]{64}$")
+        self.assertEqual(lines[6:9], [f"program    code_tables, SHA-256 {hashlib.sha256(FAKE_PROGRAM.read_bytes()).hexdigest()}",
+                                      "commit     unknown", "toolchain  unknown"])
+        self.assertRegex(lines[9], "^sessions   SHA-256 [0-9a-f]{64}$")
 
     def test_bibtex(self):
         out, _, _ = run("cite.py", "--bibtex", 10, 6, DATA / "page/small.session", env=FAKE)

@@ -35,7 +35,7 @@ class Examples(unittest.TestCase):
                     self.assertEqual(ended.stdout.decode(), output)
 
     def test_examples_of_the_shared_module(self):
-        import sessions
+        from code_tables import sessions
         self.assertEqual(doctest.testmod(sessions).failed, 0)
 
 

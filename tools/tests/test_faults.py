@@ -13,11 +13,11 @@ MAX_INPUT = 67108864
 
 def ended(mode="session", text=b"show 10 6\n", **devices):
     """The status of the program, its output and what it said on standard error; devices stand in for the standard ones."""
-    from sessions import program
+    from code_tables.program import program
     standard = {"stdout": subprocess.PIPE, "stderr": subprocess.PIPE} | devices
     if "stdin" not in standard:
         standard["input"] = text
-    done = subprocess.run([*program(), mode], **standard)
+    done = subprocess.run([program(), mode], **standard)
     return done.returncode, done.stdout, done.stderr
 
 

@@ -5,7 +5,7 @@ import unittest
 
 from support import TOP, needs_program
 
-import sessions
+from code_tables import sessions
 import table
 
 FILES = sorted((TOP / "examples/library").glob("*.session"))

@@ -10,9 +10,8 @@ import unittest
 from html.parser import HTMLParser
 from pathlib import Path
 
-from support import DATA, TOOLS, needs_program, run, session
+from support import DATA, FAKE, TOOLS, needs_program, run, session
 
-FAKE = os.environ | {"CODE_TABLES": f"{sys.executable} {TOOLS}/tests/fake_program.py"}
 SMALL = DATA / "page/small.session"
 
 

@@ -7,7 +7,7 @@ import unittest
 
 from support import TOP, needs_program, session, workplace
 
-import sessions
+from code_tables.program import program
 
 
 def blocks(text):
@@ -20,8 +20,8 @@ def blocks(text):
 
 def answer(command, folder):
     """What a command line answers in a folder, with the program that is tried in the place of ./code_tables."""
-    program = " ".join(map(shlex.quote, sessions.program()))
-    return subprocess.run(command.replace("./code_tables", program), shell=True, cwd=folder, stdout=subprocess.PIPE).stdout.decode()
+    built = shlex.quote(program())
+    return subprocess.run(command.replace("./code_tables", built), shell=True, cwd=folder, stdout=subprocess.PIPE).stdout.decode()
 
 
 def matches(shown, said):
