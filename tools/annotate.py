@@ -13,17 +13,20 @@
 
 SESSION is the session, and standard input what the program answered to it. The sentence of a refusal is that of docs/FORMATS.md; below it
 stand the words of a pair that is too close, the least distance of the whole list, the range of a field, the piece that stands in the way.
-With --refused only refusals are shown. Ends with 1 where there is one, as the program does."""
+With --refused only refusals are shown. Ends with 1 where there is one, as the program does, and where replies are missing or can't be those
+to this session: an id, an entry, a size or a count in them tells, and is named on standard error."""
 
 import argparse
 import re
 import sys
 import textwrap
+import tomllib
 
 from code_tables import sessions
+from code_tables.fitting import Standing
 from code_tables.program import TOP
-from code_tables.sessions import Refusal, words_of
-from submit_words import distance, representatives, span
+from code_tables.sessions import Refusal, texts_in, texts_of, words_of
+from code_tables.words import MOST_WORK, distance, span
 
 # The ranges of the fields, as docs/FORMATS.md says them.
 RANGES = {
@@ -41,11 +44,12 @@ RANGES = {
 
 
 def sentences(document):
-    """The patterns of the refusals with the sentences of docs/FORMATS.md."""
-    found = []
+    """The patterns of a session's refusals with the sentences of docs/FORMATS.md: those of the section `Refusals`, or above all sections."""
+    found, section = [], "Refusals"
     for line in sessions.read_text(document).split("\n"):
+        section = line.removeprefix("## ") if line.startswith("## ") else section
         row = re.match(r"\| `refused ([^`]*)` \| (.*) \|$", line)
-        if row:
+        if row and section == "Refusals":
             found.append((" ".join("\\S+" if word.isupper() else re.escape(word) for word in row[1].split()), row[2].replace("`", "")))
     return found
 
@@ -63,8 +67,7 @@ def stated_words(fields):
     if fields["kind"] == "cosets":
         basis, chosen = ([int(word, 2) for word in fields[name]] for name in ("basis", "representatives"))
         return (lambda t: chosen[t >> len(basis)] ^ span(basis)[t & (1 << len(basis)) - 1]), basis, chosen, n
-    listed = fields.get("words") or [word for words in fields["classes"] for word in words]
-    words = [int(word, 2) for word in listed]
+    words = [int(word, 2) for word in texts_of(fields)]
     return words.__getitem__, [], words, n
 
 
@@ -76,8 +79,8 @@ def closeness(command, numbers):
     wanted = numbers[5] if len(numbers) > 5 else command.fields["d"]
     yield f"word {first}  {word(first):0{n}b}"
     yield f"word {second}  {word(second):0{n}b}, at distance {apart}" + (f" and not {wanted}" if apart else ": the same word")
-    if len(set(chosen)) == len(chosen) and not (basis and 0 in span(basis)[1:]):
-        size = len(chosen) << len(basis)
+    size = len(chosen) << len(basis)
+    if size <= MOST_WORK and len(set(chosen)) == len(chosen) and not (basis and 0 in span(basis)[1:]):
         yield f"the least distance of all {size} words is {distance(chosen, basis)}"
 
 
@@ -88,9 +91,8 @@ def particulars(command, words):
     if fault in ("close", "repeated"):
         yield from closeness(command, numbers)
     elif fault in ("weight", "digits"):
-        fields = command.fields
-        lists = [text for name in ("basis", "representatives", "words", "classes", "by", "digits") for text in listed(fields.get(name, []))]
-        yield f"word {rest[0]}  {lists[numbers[0]]}" + (f", of weight {lists[numbers[0]].count('1')} and not {fields['w']}" if fault == "weight" else "")
+        word = texts_of(command.fields)[numbers[0]]
+        yield f"word {rest[0]}  {word}" + (f", of weight {word.count('1')} and not {command.fields['w']}" if fault == "weight" else "")
     elif fault == "field" and rest[0] in RANGES:
         stated = command.fields.get(rest[0])
         yield f"{rest[0]} is {RANGES[rest[0]]}; " + ("it is missing" if stated is None else f"the document has {str(stated)[:60]}")
@@ -98,11 +100,20 @@ def particulars(command, words):
         yield f"the document has the kind {command.fields.get('kind')!r}"
     elif fault == "short":
         yield f"the operation gives distance {rest[0]}, and the document states {rest[1]}"
+    elif fault == "toml":
+        yield from unread(command.document)
 
 
-def listed(value):
-    """The texts in a value: itself, or those in its lists."""
-    return [value] if isinstance(value, str) else [text for item in value for text in listed(item)]
+def unread(document):
+    """Why a document is no TOML, as far as it can be told."""
+    if document.endswith("\r"):
+        yield "the last line of the document ends with a carriage return, which TOML doesn't take there: the session has the line ends of Windows."
+        yield "Write it with line feeds alone, as by tr -d '\\r' < SESSION"
+        return
+    try:
+        tomllib.loads(document)
+    except (tomllib.TOMLDecodeError, RecursionError) as fault:
+        yield f"Python's reader of TOML says: {fault}"
 
 
 def shown(reply):
@@ -114,19 +125,31 @@ def shown(reply):
 
 def annotated(session, output, known, refused_only):
     """The lines that are written, each with whether a reply was a refusal so far."""
-    some = False
+    some, at, standing, missing = False, 0, Standing(), 0
     for command, reply in sessions.replies(sessions.commands(session), output):
+        missing += not reply
+        fault = standing.fault(command, reply) if reply else None
+        if fault:
+            raise Refusal(f"line {at + 1} of the replies, {reply[0]}, can't answer line {command.line} of the session, {' '.join(command.words)}: {fault}")
+        at += len(reply)
         refused = bool(reply) and reply[0].startswith("refused ") and command.words != ["ledger"]
         some = some or refused
         if not refused_only or refused or not reply:
             yield f"{command.line}: {' '.join(command.words)}:{shown(reply)}", some
-        for sentence in meanings(command, reply[0], known) if refused else []:
-            yield textwrap.fill(sentence, 144, initial_indent="    ", subsequent_indent="    "), some
-        if refused:
-            try:
-                yield from ((f"    {line}", some) for line in particulars(command, words_of(reply[0])))
-            except (KeyError, IndexError, TypeError, ValueError):
-                yield "    (the document isn't one to which these numbers belong)", some
+        for line in explained(command, reply[0], known) if refused else []:
+            yield line, some
+    if missing:
+        raise Refusal(f"{missing} replies are missing: the program ended before the session did, or these are replies to another one")
+
+
+def explained(command, refusal, known):
+    """What a refusal means here, line by line."""
+    for sentence in meanings(command, refusal, known):
+        yield textwrap.fill(sentence, 144, initial_indent="    ", subsequent_indent="    ")
+    try:
+        yield from [f"    {line}" for line in particulars(command, words_of(refusal))]
+    except (AttributeError, KeyError, IndexError, TypeError, ValueError):
+        yield "    (the document isn't one to which these numbers belong)"
 
 
 def main():

@@ -11,7 +11,11 @@ from dataclasses import dataclass
 from pathlib import Path
 
 
-class Refusal(Exception):
+# The kinds of evidence without a size: those of upper bounds.
+SIZELESS = ("dual", "jdual")
+
+
+class Refusal(ValueError):
     """What a tool refuses, by name."""
 
 
@@ -33,8 +37,14 @@ class Command:
         """The document as a table, empty where it is none."""
         try:
             return tomllib.loads(self.document or "")
-        except tomllib.TOMLDecodeError:
+        except (tomllib.TOMLDecodeError, RecursionError):
             return {}
+
+    @property
+    def parts(self):
+        """The ids that the document names."""
+        fields = self.fields
+        return texts_in([fields.get("part", []), fields.get("other", []), fields.get("pairs", [])])
 
 
 def words_of(line):
@@ -47,17 +57,49 @@ def number_of(word):
     return int(word) if re.fullmatch(r"0|[1-9][0-9]*", word) and int(word) < 2 ** 64 else None
 
 
+def numbers_of(words):
+    """The numbers that words write, as an entry or a part of one; nothing of words that write none."""
+    numbers = tuple(map(number_of, words))
+    return () if None in numbers else numbers
+
+
+def texts_in(value):
+    """The texts in a value of a document, in order: itself, or those in its lists."""
+    if isinstance(value, str):
+        return [value]
+    return [text for item in value for text in texts_in(item)] if isinstance(value, list) else []
+
+
+def texts_of(fields):
+    """The texts of words of a document, in the order in which they are counted."""
+    return texts_in([fields.get(name, []) for name in ("basis", "representatives", "words", "classes", "by", "digits")])
+
+
+def size_of(fields):
+    """The number of words of a document's code, or None where the document alone doesn't tell it."""
+    kind = fields.get("kind")
+    if kind == "words":
+        return len(texts_in(fields.get("words", [])))
+    if kind == "partition":
+        return len(texts_in(fields.get("classes", [])))
+    if kind == "cosets" and len(texts_in(fields.get("basis", []))) <= 28:
+        return len(texts_in(fields.get("representatives", []))) << len(texts_in(fields.get("basis", [])))
+    return None
+
+
 def lines_of(text):
     """The lines of a text; a last one may lack its line feed."""
     return text.removesuffix("\n").split("\n") if text else []
 
 
 def commands(text):
-    """The commands of a session, in order, each with the remarks that stand right above it."""
+    """The commands of a session, in order, each with the remarks that stand right above it; the head of a dump is none."""
     lines, found, at, remarks = lines_of(text), [], 0, []
     while at < len(lines):
         words = words_of(lines[at])
-        if lines[at].startswith("#"):
+        if re.fullmatch(r"# dump of [0-9]+ pieces\r?", lines[at]):
+            remarks = []
+        elif lines[at].startswith("#"):
             remarks.append(lines[at][1:].strip())
         elif not words:
             remarks = []
@@ -86,21 +128,24 @@ def take_document(command, lines, at):
 
 
 def reply_length(words, lines, at):
-    """How many lines the reply to a command takes that begins at a place of the output."""
+    """How many lines the reply to a command takes that begins at a place of the output; one, where it is no reply to it."""
     if words == ["ledger"]:
         return next((i for i in range(at, len(lines)) if re.fullmatch(r"pieces [0-9]+", lines[i])), len(lines)) + 1 - at
     first = lines[at]
     if first.startswith("refused "):
         return 1
-    if words[0] == "table":
-        return 28 if len(words) == 2 else 29 - max(1, int(words[2]))
-    if words[0] == "list":
-        return 1 + int(words_of(first)[-1])
-    if words[0] == "dump":
-        return passed(lines, at + 1, "submit", int(words_of(first)[3])) - at
-    if words[0] == "explain":
-        behind = passed(lines, at + 1, "evidence", None)
-        return next((i for i in range(behind, len(lines)) if lines[i] == "done"), len(lines)) + 1 - at
+    try:
+        if words[0] == "table":
+            return 28 if len(words) == 2 else 29 - max(1, int(words[2]))
+        if words[0] == "list":
+            return 1 + int(words_of(first)[-1])
+        if words[0] == "dump":
+            return passed(lines, at + 1, "submit", int(words_of(first)[3])) - at
+        if words[0] == "explain":
+            behind = passed(lines, at + 1, "evidence", None)
+            return next((i for i in range(behind, len(lines)) if lines[i] == "done"), len(lines)) + 1 - at
+    except (IndexError, ValueError):
+        pass
     return 1
 
 

@@ -1,5 +1,8 @@
 """What the tests of the tools share."""
 
+import contextlib
+import importlib
+import io
 import os
 import shutil
 import subprocess
@@ -7,6 +10,7 @@ import sys
 import tempfile
 import unittest
 from pathlib import Path
+from unittest import mock
 
 TOOLS = Path(__file__).resolve().parent.parent
 TOP = TOOLS.parent
@@ -33,6 +37,20 @@ def run(*words, text="", **more):
     """Runs a tool: its output, what it said on standard error, its status."""
     ended = subprocess.run([sys.executable, str(TOOLS / words[0]), *map(str, words[1:])], input=text.encode(), cwd=TOP, capture_output=True, **more)
     return ended.stdout.decode(), ended.stderr.decode(), ended.returncode
+
+
+def call(tool, *words, text=""):
+    """The same within this process, for many short runs."""
+    out, said, status = io.StringIO(), io.StringIO(), 0
+    with mock.patch.object(sys, "argv", [f"{tool}.py", *map(str, words)]), mock.patch.object(sys, "stdin", io.TextIOWrapper(io.BytesIO(text.encode()))), \
+            contextlib.redirect_stdout(out), contextlib.redirect_stderr(said):
+        try:
+            importlib.import_module(tool).main()
+        except SystemExit as end:
+            status = end.code if isinstance(end.code, int) else int(end.code is not None)
+            if isinstance(end.code, str):
+                print(end.code, file=sys.stderr)
+    return out.getvalue(), said.getvalue(), status
 
 
 def session(text, mode="session"):

@@ -1,8 +1,10 @@
 """Replies stand beside their commands, refusals with what they mean there."""
 
+import tempfile
 import unittest
+from pathlib import Path
 
-from support import DATA, TOP, data, needs_program, run, session
+from support import DATA, TOP, call, data, needs_program, run, session
 
 import annotate
 from code_tables.sessions import Command
@@ -38,9 +40,62 @@ class Annotate(unittest.TestCase):
         self.assertIn("annotate: refused: no/such can't be read", run("annotate.py", "no/such")[1])
 
     def test_missing_replies_are_said(self):
-        out, _, status = run("annotate.py", DATA / "annotate/many.session")
-        self.assertEqual(status, 0)
+        out, said, status = run("annotate.py", DATA / "annotate/many.session")
+        self.assertEqual(status, 1)
+        self.assertIn("annotate: refused: 21 replies are missing", said)
         self.assertIn("2: submit a: no reply: the program ended before it\n", out)
+
+    def annotated(self, session, replies):
+        """What is said of replies to a session."""
+        with tempfile.TemporaryDirectory() as folder:
+            path = Path(folder) / "a.session"
+            path.write_bytes(session.encode())
+            return call("annotate", path, text=replies)
+
+    def test_a_refusal_has_no_sentence_of_find(self):
+        for session, reply in (("show 29 3\n", "refused entry"), ("nonsense\n", "refused command")):
+            self.assertNotIn("no line is a comment here", self.annotated(session, reply)[0])
+            self.assertNotIn("the numbers are those of no entry", self.annotated(session, reply)[0])
+
+    def test_replies_that_can_not_be_those_to_the_session_are_told(self):
+        pair = "submit pair\nkind = 'words'\nn = 4\nd = 4\nwords = ['0000', '1111']\nend\n"
+        for session, replies, line, fault in [
+                (pair, "accepted other size 2", 1, "the submission is pair"), (pair, "accepted pair size 3", 1, "the document has 2 words"),
+                (pair, "accepted pair", 1, "a dual has no size"), (pair, "A(4,4) = 2", 1, "a submission is accepted or refused"),
+                (pair, "refused close 0 2 3", 1, "the document has 2 words"), (pair, "refused nosuch a", 1, "the document names no a"),
+                (pair, "refused taken", 1, "no piece has the id pair"), (pair + pair, "accepted pair size 2\naccepted pair size 2", 2, "a piece of this id stands"),
+                (pair + "ledger\n", "accepted pair size 2\npieces 0", 2, "1 pieces stand: pair"),
+                (pair + "dump\n", "accepted pair size 2\n# dump of 0 pieces", 2, "1 pieces stand"),
+                ("show 16 6\n", "A(16,8) = 32", 1, "bounds of A(16,6)"), ("show 16 6\n", "accepted a size 1", 1, "bounds of A(16,6)"),
+                ("table 28 27\n", "A(27,28,27) = 1\nA(28,28,26) = 1", 1, "bounds of A(28,28,27)"),
+                ("list 5 3\n", "code 5 3 size 1\n0000", 1, "1 words of length 5"), ("list 5 3\n", "code 6 3 size 1\n000000", 1, "a code of A(5,3)"),
+                ("list 5 3\n", "nothing", 1, "a code of A(5,3)"), ("list 5 3\n", "", 1, "a code of A(5,3)"),
+                ("withdraw a\n", "withdrawn b", 1, "withdraws a"), ("withdraw a\n", "withdrawn a", 1, "no such piece stands"),
+                ("nonsense\n", "A(16,8) = 32", 1, "can only be refused"), ("show 16 6\n", "refused toml", 1, "only a submission")]:
+            with self.subTest(session=session, replies=replies):
+                out, said, status = self.annotated(session, replies + "\n")
+                self.assertEqual(status, 1)
+                self.assertIn(f"annotate: refused: line {line} of the replies", said)
+                self.assertIn(fault, said)
+
+    def test_a_code_without_words_is_told(self):
+        for text in ("kind = 'words'\nwords = []", "kind = 'cosets'\nbasis = []\nrepresentatives = []", "kind = 'partition'\nd1 = 1\nclasses = [[]]", ""):
+            for refusal in ("size 0", "close 0 1 2", "repeated 0 1", "weight 0", "digits 0", "few 0 1"):
+                with self.subTest(text=text, refusal=refusal):
+                    out, said, status = self.annotated(f"submit a\nn = 4\nd = 3\n{text}\nend\n", f"refused {refusal}\n")
+                    self.assertEqual(status, 1)
+                    self.assertNotIn("Traceback", said)
+
+    def test_line_ends_of_windows_are_explained(self):
+        session = "submit pair\r\nkind = 'words'\r\nn = 4\r\nd = 4\r\nwords = ['0000', '1111']\r\nend\r\n"
+        out, _, status = self.annotated(session, "refused toml\n")
+        self.assertEqual(status, 1)
+        self.assertIn("the session has the line ends of Windows", out)
+        self.assertNotIn("Windows", self.annotated(session.replace("\r", "").replace("d = 4", "d = "), "refused toml\n")[0])
+
+    @needs_program
+    def test_line_ends_of_windows_are_refused_so(self):
+        self.assertEqual(session("submit a\r\nkind = 'words'\r\nn = 4\r\nd = 4\r\nwords = ['0000', '1111']\r\nend\r\n"), "refused toml\n")
 
     @needs_program
     def test_the_stored_replies_are_those_of_the_program(self):

@@ -1,6 +1,7 @@
 -- The words of the command line: what `clap` says of them, and the mode that they name.
-use Rattle.std.specs.Prelude.{ℕ, nat_le, ◌&&◌, true, if◌then◌else◌, List, [], ◌∷◌, map, Option, Some, None, option_map, option_and_then, codes, String}
+use Rattle.std.specs.Prelude.{ℕ, Bool, nat_eq, nat_le, ◌&&◌, ◌||◌, true, if◌then◌else◌, List, [], ◌∷◌, map, Option, Some, None, option_map, option_and_then, codes, String}
 use Rattle.std.specs.declared.alloc.Global.{Global}
+use Rattle.std.specs.List.{starts_with}
 use Rattle.std.specs.Str.{bytes_eq}
 use Rattle.std.specs.String.{string_bytes}
 use Rattle.clap.specs.Words.{App, Kinds, Row, Rule, Text, fault_of, first_of, matches_of, new_app, new_rule, with_rule}
@@ -65,3 +66,14 @@ unless_fault (kind ∷ kinds) mode = None
 -- the mode that the words name: that of their matches, where `clap` finds no fault in them
 unfoldable pub mode_of : List Text → Option Mode
 mode_of words = unless_fault (fault_of command_line words) (mode_of_matches (matches_of command_line words))
+
+-- whether some command line has the word, and it is no option's value
+abbrev pub is_known : Text → Bool
+is_known word =
+    bytes_eq word (codes "session") || bytes_eq word (codes "verify") || bytes_eq word (codes "find") || bytes_eq word (codes "sample")
+    || bytes_eq word (codes "--number") || bytes_eq word (codes "--") || starts_with nat_eq word (codes "--number=")
+
+-- the first of the words, behind one before them, that no command line has: not known, and no value of `--number`
+abbrev pub first_unknown : Text → List Text → Option Text
+first_unknown before [] = None
+first_unknown before (word ∷ words) = if is_known word || bytes_eq before (codes "--number") then first_unknown word words else Some word

@@ -1,8 +1,8 @@
-//! Command lines that are known: the functions do nothing.
+//! Command lines that are known, and words that none has: the functions do nothing.
 
 ghost use Rattle.std.specs.Prelude.{◌≡◌, [], ◌∷◌, Some, None, codes};
 ghost use Rattle.ct_command_line.specs.declared.mode.Mode.TheVariants.{Session, Verify, Find, Sample};
-ghost use Rattle.ct_command_line.specs.CommandLine.{mode_of};
+ghost use Rattle.ct_command_line.specs.CommandLine.{first_unknown, mode_of};
 
 /// The words `session`, `verify` and `find`, each alone, name their modes, and `sample` with a number from 1 to 2000 does, on either side of it;
 /// no words, another word, a word too many, an option that the mode does not take, one that is not known, twice the same, one without its value or
@@ -37,4 +37,16 @@ pub fn known_command_lines()
     ensures short_help { mode_of (codes "-h" ∷ []) ≡ None }
     ensures help_beside { mode_of (codes "session" ∷ codes "--help" ∷ []) ≡ None }
     ensures version { mode_of (codes "--version" ∷ []) ≡ None }
+{}
+
+/// The first word that no command line has is `tables` of that word alone, `all` behind a mode, and what stands behind an option's value; of words
+/// that are known one by one, and of none, there is no such word.
+pub fn known_unknown_words()
+    ensures alone { first_unknown [] (codes "tables" ∷ []) ≡ Some (codes "tables") }
+    ensures behind { first_unknown [] (codes "session" ∷ codes "all" ∷ codes "more" ∷ []) ≡ Some (codes "all") }
+    ensures value { first_unknown [] (codes "sample" ∷ codes "--number" ∷ codes "x" ∷ codes "y" ∷ []) ≡ Some (codes "y") }
+    ensures joined { first_unknown [] (codes "--number=5" ∷ codes "--numbers=5" ∷ []) ≡ Some (codes "--numbers=5") }
+    ensures empty { first_unknown [] ([] ∷ []) ≡ Some [] }
+    ensures twice { first_unknown [] (codes "session" ∷ codes "session" ∷ []) ≡ None }
+    ensures none { first_unknown [] [] ≡ None }
 {}

@@ -5,6 +5,6 @@
 mod dispatch;
 mod status;
 
-pub use ct_command_line::{Mode, after_name};
+pub use ct_command_line::{Mode, after_name, first_unknown_word};
 pub use dispatch::run;
 pub use status::Status;

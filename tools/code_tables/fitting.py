@@ -1,0 +1,111 @@
+"""Whether replies can be those to the commands of a session: what no program can have answered is told by a sentence.
+
+It judges forms, ids, entries, sizes and counts, and no bound and no code: those are the program's."""
+
+import re
+
+from .sessions import SIZELESS, Command, bounds_of, name_of, numbers_of, size_of, texts_of
+
+# The refusals, by their first word, that name a place among the words of the document, and how many places they name.
+PLACES = {"weight": 1, "digits": 1, "repeated": 2, "close": 2}
+
+
+class Standing:
+    """The pieces that stand as the replies say, ids in order; `fits` takes the replies one by one."""
+
+    def __init__(self):
+        self.ids: list[str] = []
+
+    def fault(self, command: Command, reply: list[str]) -> str | None:
+        """Why a reply can't be that to a command here; None where it can."""
+        if reply[0].startswith("refused ") and command.words != ["ledger"]:
+            return self.refused(command, reply[0].split(" ")[1:])
+        judge = getattr(self, command.words[0], None) if command.words[0] in COMMANDS else None
+        return judge(command, reply) if judge else "the command is none, and can only be refused"
+
+    def refused(self, command: Command, words: list[str]) -> str | None:
+        fault, rest = words[0], words[1:]
+        is_submission = command.words[0] == "submit"
+        if not is_submission and fault not in ("command", "entry", "nosuch", "inuse"):
+            return "only a submission is refused so"
+        if fault == "taken" and command.id not in self.ids:
+            return f"no piece has the id {command.id}"
+        if fault in PLACES and is_submission:
+            count = len(texts_of(command.fields)) if fault in ("weight", "digits") else size_of(command.fields)
+            places = [int(word) for word in rest[:PLACES[fault]] if word.isdecimal()]
+            if count is not None and any(place >= count for place in places):
+                return f"the document has {count} words, counted from 0"
+        if fault in ("nosuch", "part") and is_submission and command.fields and rest[:1] and rest[0] not in command.parts:
+            return f"the document names no {rest[0]}"
+        if fault == "inuse" and (rest[:1] == [] or rest[0] not in self.ids):
+            return "no such piece stands"
+        if fault == "nosuch" and not is_submission and rest != [command.id]:
+            return f"the command names {command.id}"
+        return None
+
+    def submit(self, command, reply):
+        told = re.fullmatch(r"accepted (\S+)(?: size (\d+))?", reply[0])
+        if not told:
+            return "a submission is accepted or refused"
+        if told[1] != command.id:
+            return f"the submission is {command.id}"
+        if command.document is None:
+            return "the document isn't complete"
+        if told[1] in self.ids:
+            return "a piece of this id stands"
+        kind, size = command.fields.get("kind"), size_of(command.fields)
+        if kind and (kind in SIZELESS) != (told[2] is None):
+            return "a dual has no size, and every other piece has one"
+        if size is not None and told[2] != str(size):
+            return f"the document has {size} words"
+        self.ids.append(told[1])
+        return None
+
+    def withdraw(self, command, reply):
+        if reply != [f"withdrawn {command.id}"]:
+            return f"the command withdraws {command.id}"
+        if command.id not in self.ids:
+            return "no such piece stands"
+        self.ids.remove(command.id)
+        return None
+
+    def show(self, command, reply):
+        return entries_fault([numbers_of(command.words[1:])], reply)
+
+    def table(self, command, reply):
+        numbers = numbers_of(command.words[1:])
+        return entries_fault([(n, *numbers) for n in range(max(1, *numbers[1:], 1), 29)], reply)
+
+    def list(self, command, reply):
+        told = re.fullmatch(r"code ((?:\d+ )+)size (\d+)", reply[0])
+        numbers = numbers_of(command.words[1:])
+        if not told or numbers_of(told[1].split()) != numbers:
+            return f"the command asks for a code of {name_of(numbers)}"
+        if len(reply) != 1 + int(told[2]) or not all(re.fullmatch("[01]{%d}" % numbers[0], line) for line in reply[1:]):
+            return f"{told[2]} words of length {numbers[0]} have to follow"
+        return None
+
+    def explain(self, command, reply):
+        return None if reply[0] == "derivation" and reply[-1] == "done" else "a derivation has to follow"
+
+    def ledger(self, command, reply):
+        told = [line.split(" ")[0] for line in reply[:-1]]
+        return None if reply[-1] == f"pieces {len(self.ids)}" and told == self.ids else f"{len(self.ids)} pieces stand: {' '.join(self.ids)}"
+
+    def dump(self, command, reply):
+        return None if reply[0] == f"# dump of {len(self.ids)} pieces" else f"{len(self.ids)} pieces stand"
+
+
+COMMANDS = ("submit", "withdraw", "show", "table", "list", "explain", "ledger", "dump")
+
+
+def entries_fault(entries, reply):
+    """Why lines aren't the bounds of these entries."""
+    for entry, line in zip(entries, reply):
+        try:
+            if bounds_of(line)[0] == entry:
+                continue
+        except ValueError:
+            pass
+        return f"bounds of {name_of(entry)} have to stand here"
+    return None if len(reply) == len(entries) else f"bounds of {len(entries)} entries have to stand here"
