@@ -20,7 +20,6 @@ import argparse
 import re
 import sys
 import textwrap
-import tomllib
 
 from code_tables import sessions
 from code_tables.fitting import Standing
@@ -110,9 +109,8 @@ def unread(document):
         yield "the last line of the document ends with a carriage return, which TOML doesn't take there: the session has the line ends of Windows."
         yield "Write it with line feeds alone, as by tr -d '\\r' < SESSION"
         return
-    try:
-        tomllib.loads(document)
-    except (tomllib.TOMLDecodeError, RecursionError) as fault:
+    fault = sessions.toml_fault(document)
+    if fault:
         yield f"Python's reader of TOML says: {fault}"
 
 

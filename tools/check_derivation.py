@@ -13,6 +13,10 @@ few forms that 1.1 adds."""
 import argparse
 import re
 import sys
+
+if sys.version_info < (3, 11):
+    sys.exit("check_derivation: Python 3.11 or later is needed, and this is %d.%d" % sys.version_info[:2])
+
 import tomllib
 from itertools import combinations
 from math import comb, factorial

@@ -30,11 +30,11 @@ from pathlib import Path
 from sage.numerical.mip import MixedIntegerLinearProgram
 from sage.rings.rational_field import QQ
 
-sys.path[:0] = [str(place) for place in (Path(globals().get("__file__", "")).parent, Path("tools")) if (place / "submit_words.py").exists()]
+sys.path[:0] = [str(place) for place in (Path(globals().get("__file__", "")).parent, Path("tools")) if (place / "submit_dual.py").exists()]
 
 import submit_dual
-import submit_words
 from code_tables.sessions import Refusal
+from code_tables.words import read_words, submission
 
 
 def put(text, file):
@@ -46,21 +46,14 @@ def put(text, file):
             out.write(text)
 
 
-class Options:
-    """What submit_words takes from its command line."""
-
-    def __init__(self, distance, comment):
-        self.generator, self.no_weight, self.distance, self.comment = True, False, distance, comment
-
-
 def SubmitCode(id, code, distance=None, file=None):
     """Prints the submission of a binary linear code, or appends it to a file."""
     try:
         if code.base_ring().order() != 2:
             raise Refusal("no binary code")
         rows = ["".join(str(int(x)) for x in row) for row in code.basis()] or ["0" * int(code.length())]
-        words, n = submit_words.read_words(rows)
-        text = submit_words.submission(id, words, n, Options(None if distance is None else int(distance), str(code)))
+        words, n = read_words(rows)
+        text = submission(id, words, n, generator=True, d=None if distance is None else int(distance), comment=str(code))
     except Refusal as refusal:
         raise ValueError(f"code_tables: refused: {refusal}") from None
     put(text, file)

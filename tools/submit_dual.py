@@ -29,7 +29,11 @@ from fractions import Fraction
 from functools import cache
 from math import comb, factorial, gcd
 
-from code_tables.sessions import Refusal, name_of
+from code_tables.sessions import Refusal, name_of, number_of
+from code_tables.words import check_id
+
+# A decimal or a fraction, of no more digits than a number of 64 bits with its scale can need.
+VALUE = re.compile(r"[+-]?(?:[0-9]{1,400}(?:\.[0-9]{0,400})?|\.[0-9]{1,400})(?:[eE][+-]?[0-9]{1,3})?|[+-]?[0-9]{1,400}/[0-9]{1,400}")
 
 
 @cache
@@ -90,12 +94,17 @@ def read_multipliers(lines, program):
         words = line.split()
         if not words or line.startswith("#"):
             continue
-        if len(words) != 3 or words[0] not in "cy" or not re.fullmatch("[0-9]+", words[1]):
+        if len(words) != 3 or words[0] not in ("c", "y"):
             raise Refusal(f"line {number} has not the form `c K VALUE` or `y I VALUE`")
+        at = number_of(words[1])
+        if at is None:
+            raise Refusal(f"line {number}: {words[1]} is no whole number below 2^64")
         try:
-            at, value = int(words[1]), Fraction(words[2])
-        except (ValueError, ZeroDivisionError):
-            raise Refusal(f"line {number}: {words[2]} is no decimal and no fraction") from None
+            value = Fraction(words[2]) if VALUE.fullmatch(words[2]) else None
+        except ZeroDivisionError:
+            value = None
+        if value is None:
+            raise Refusal(f"line {number}: {words[2]} is no decimal and no fraction")
         if words[0] == "c" and at > program.degree or words[0] == "y" and (at not in program.range or program.w is not None):
             raise Refusal(f"line {number}: there is no multiplier {words[0]} {at} at this entry")
         if words[0] == "c":
@@ -158,17 +167,24 @@ def submission(name, program, c, y):
     return "\n".join([*lines, "end", ""])
 
 
+def whole(word):
+    """The number that a word of the command line writes."""
+    number = number_of(word)
+    if number is None:
+        raise argparse.ArgumentTypeError(f"{word} is no whole number below 2^64")
+    return number
+
+
 def main():
     parser = argparse.ArgumentParser(description=__doc__, formatter_class=argparse.RawDescriptionHelpFormatter)
     parser.add_argument("id", help="the id of the piece")
-    parser.add_argument("n", type=int)
-    parser.add_argument("d", type=int)
-    parser.add_argument("w", type=int, nargs="?")
+    parser.add_argument("n", type=whole)
+    parser.add_argument("d", type=whole)
+    parser.add_argument("w", type=whole, nargs="?")
     parser.add_argument("--slack", type=Fraction, default=Fraction(1, 10 ** 6), help="the part of c_0 and y by which f may be too great (1e-6)")
     options = parser.parse_args()
     try:
-        if not re.fullmatch("[a-z][a-z0-9_-]{0,31}", options.id):
-            raise Refusal(f"{options.id} is no id: 1 to 32 lower-case letters, digits, - and _, a letter first")
+        check_id(options.id)
         program = Program(options.n, options.d, options.w)
         c, y = read_multipliers(sys.stdin, program)
         check(program, c, y, options.slack)

@@ -3,9 +3,12 @@
 It judges forms, ids, entries, sizes and counts, and no bound and no code: those are the program's."""
 
 import re
+from collections.abc import Sequence
 
-from .sessions import SIZELESS, Command, bounds_of, name_of, numbers_of, size_of, texts_of
+from .sessions import SIZELESS, Command, Entry, bounds_of, name_of, numbers_of, size_of, texts_of
 
+# The lines of a reply.
+Lines = Sequence[str]
 # The refusals, by their first word, that name a place among the words of the document, and how many places they name.
 PLACES = {"weight": 1, "digits": 1, "repeated": 2, "close": 2}
 
@@ -16,14 +19,14 @@ class Standing:
     def __init__(self):
         self.ids: list[str] = []
 
-    def fault(self, command: Command, reply: list[str]) -> str | None:
+    def fault(self, command: Command, reply: Lines) -> str | None:
         """Why a reply can't be that to a command here; None where it can."""
         if reply[0].startswith("refused ") and command.words != ["ledger"]:
             return self.refused(command, reply[0].split(" ")[1:])
         judge = getattr(self, command.words[0], None) if command.words[0] in COMMANDS else None
         return judge(command, reply) if judge else "the command is none, and can only be refused"
 
-    def refused(self, command: Command, words: list[str]) -> str | None:
+    def refused(self, command: Command, words: Lines) -> str | None:
         fault, rest = words[0], words[1:]
         is_submission = command.words[0] == "submit"
         if not is_submission and fault not in ("command", "entry", "nosuch", "inuse"):
@@ -43,7 +46,7 @@ class Standing:
             return f"the command names {command.id}"
         return None
 
-    def submit(self, command, reply):
+    def submit(self, command: Command, reply: Lines) -> str | None:
         told = re.fullmatch(r"accepted (\S+)(?: size (\d+))?", reply[0])
         if not told:
             return "a submission is accepted or refused"
@@ -61,7 +64,7 @@ class Standing:
         self.ids.append(told[1])
         return None
 
-    def withdraw(self, command, reply):
+    def withdraw(self, command: Command, reply: Lines) -> str | None:
         if reply != [f"withdrawn {command.id}"]:
             return f"the command withdraws {command.id}"
         if command.id not in self.ids:
@@ -69,14 +72,14 @@ class Standing:
         self.ids.remove(command.id)
         return None
 
-    def show(self, command, reply):
+    def show(self, command: Command, reply: Lines) -> str | None:
         return entries_fault([numbers_of(command.words[1:])], reply)
 
-    def table(self, command, reply):
+    def table(self, command: Command, reply: Lines) -> str | None:
         numbers = numbers_of(command.words[1:])
         return entries_fault([(n, *numbers) for n in range(max(1, *numbers[1:], 1), 29)], reply)
 
-    def list(self, command, reply):
+    def list(self, command: Command, reply: Lines) -> str | None:
         told = re.fullmatch(r"code ((?:\d+ )+)size (\d+)", reply[0])
         numbers = numbers_of(command.words[1:])
         if not told or numbers_of(told[1].split()) != numbers:
@@ -85,21 +88,21 @@ class Standing:
             return f"{told[2]} words of length {numbers[0]} have to follow"
         return None
 
-    def explain(self, command, reply):
+    def explain(self, command: Command, reply: Lines) -> str | None:
         return None if reply[0] == "derivation" and reply[-1] == "done" else "a derivation has to follow"
 
-    def ledger(self, command, reply):
+    def ledger(self, command: Command, reply: Lines) -> str | None:
         told = [line.split(" ")[0] for line in reply[:-1]]
         return None if reply[-1] == f"pieces {len(self.ids)}" and told == self.ids else f"{len(self.ids)} pieces stand: {' '.join(self.ids)}"
 
-    def dump(self, command, reply):
+    def dump(self, command: Command, reply: Lines) -> str | None:
         return None if reply[0] == f"# dump of {len(self.ids)} pieces" else f"{len(self.ids)} pieces stand"
 
 
 COMMANDS = ("submit", "withdraw", "show", "table", "list", "explain", "ledger", "dump")
 
 
-def entries_fault(entries, reply):
+def entries_fault(entries: Sequence[Entry], reply: Lines) -> str | None:
     """Why lines aren't the bounds of these entries."""
     for entry, line in zip(entries, reply):
         try:

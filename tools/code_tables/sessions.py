@@ -7,8 +7,14 @@ docs/FORMATS.md says what the program reads and writes; nothing here decides any
 
 import re
 import tomllib
+from collections.abc import Iterable, Iterator
 from dataclasses import dataclass
+from itertools import islice
 from pathlib import Path
+from typing import Any
+
+# The numbers of an entry: n and d, or n, d and w.
+Entry = tuple[int, ...]
 
 
 # The kinds of evidence without a size: those of upper bounds.
@@ -23,17 +29,17 @@ class Refusal(ValueError):
 class Command:
     """A command: the number of its line, from 1, its words, and the document of a submission, None where the input ends before it does."""
     line: int
-    words: list
+    words: list[str]
     document: str | None = None
-    remarks: tuple = ()
+    remarks: tuple[str, ...] = ()
 
     @property
-    def id(self):
+    def id(self) -> str:
         """The id that a `submit` or `withdraw` names, or nothing."""
         return self.words[1] if self.words[0] in ("submit", "withdraw") and len(self.words) > 1 else ""
 
     @property
-    def fields(self):
+    def fields(self) -> dict[str, Any]:
         """The document as a table, empty where it is none."""
         try:
             return tomllib.loads(self.document or "")
@@ -41,41 +47,50 @@ class Command:
             return {}
 
     @property
-    def parts(self):
+    def parts(self) -> list[str]:
         """The ids that the document names."""
         fields = self.fields
         return texts_in([fields.get("part", []), fields.get("other", []), fields.get("pairs", [])])
 
 
-def words_of(line):
+def words_of(line: str) -> list[str]:
     """The words of a line: what stands between spaces, without one carriage return at the end."""
     return [word for word in line.removesuffix("\r").split(" ") if word]
 
 
-def number_of(word):
+def number_of(word: str) -> int | None:
     """The number that a word writes, or None."""
     return int(word) if re.fullmatch(r"0|[1-9][0-9]*", word) and int(word) < 2 ** 64 else None
 
 
-def numbers_of(words):
+def toml_fault(document: str) -> str:
+    """Why Python reads no TOML in a document; nothing where it does."""
+    try:
+        tomllib.loads(document)
+    except (tomllib.TOMLDecodeError, RecursionError) as fault:
+        return str(fault)
+    return ""
+
+
+def numbers_of(words: Iterable[str]) -> Entry:
     """The numbers that words write, as an entry or a part of one; nothing of words that write none."""
-    numbers = tuple(map(number_of, words))
-    return () if None in numbers else numbers
+    numbers = [number_of(word) for word in words]
+    return () if None in numbers else tuple(number for number in numbers if number is not None)
 
 
-def texts_in(value):
+def texts_in(value: object) -> list[str]:
     """The texts in a value of a document, in order: itself, or those in its lists."""
     if isinstance(value, str):
         return [value]
     return [text for item in value for text in texts_in(item)] if isinstance(value, list) else []
 
 
-def texts_of(fields):
+def texts_of(fields: dict[str, Any]) -> list[str]:
     """The texts of words of a document, in the order in which they are counted."""
     return texts_in([fields.get(name, []) for name in ("basis", "representatives", "words", "classes", "by", "digits")])
 
 
-def size_of(fields):
+def size_of(fields: dict[str, Any]) -> int | None:
     """The number of words of a document's code, or None where the document alone doesn't tell it."""
     kind = fields.get("kind")
     if kind == "words":
@@ -87,12 +102,12 @@ def size_of(fields):
     return None
 
 
-def lines_of(text):
+def lines_of(text: str) -> list[str]:
     """The lines of a text; a last one may lack its line feed."""
     return text.removesuffix("\n").split("\n") if text else []
 
 
-def commands(text):
+def commands(text: str) -> list[Command]:
     """The commands of a session, in order, each with the remarks that stand right above it; the head of a dump is none."""
     lines, found, at, remarks = lines_of(text), [], 0, []
     while at < len(lines):
@@ -113,7 +128,7 @@ def commands(text):
     return found
 
 
-def take_document(command, lines, at):
+def take_document(command: Command, lines: list[str], at: int) -> int:
     """Gives a submission its document, which begins at a place, and gives the place behind it."""
     count = number_of(command.words[3]) if len(command.words) == 4 and command.words[2] == "lines" else None
     if count:
@@ -127,48 +142,81 @@ def take_document(command, lines, at):
     return behind
 
 
-def reply_length(words, lines, at):
-    """How many lines the reply to a command takes that begins at a place of the output; one, where it is no reply to it."""
-    if words == ["ledger"]:
-        return next((i for i in range(at, len(lines)) if re.fullmatch(r"pieces [0-9]+", lines[i])), len(lines)) + 1 - at
-    first = lines[at]
-    if first.startswith("refused "):
-        return 1
+def read_reply(words: list[str], lines: Iterator[str]) -> list[str]:
+    """The lines of the reply to a command, taken from the lines that follow one by one: fewer where these end before it, and one where the
+    first is of no reply to it."""
+    found = list(islice(lines, 1))
+    if not found or found[0].startswith("refused ") and words != ["ledger"]:
+        return found
     try:
-        if words[0] == "table":
-            return 28 if len(words) == 2 else 29 - max(1, int(words[2]))
-        if words[0] == "list":
-            return 1 + int(words_of(first)[-1])
-        if words[0] == "dump":
-            return passed(lines, at + 1, "submit", int(words_of(first)[3])) - at
-        if words[0] == "explain":
-            behind = passed(lines, at + 1, "evidence", None)
-            return next((i for i in range(behind, len(lines)) if lines[i] == "done"), len(lines)) + 1 - at
+        if words == ["ledger"]:
+            take_to(r"pieces [0-9]+", found, lines)
+        elif words[0] == "table":
+            found += islice(lines, 27 if len(words) == 2 else 28 - max(1, int(words[2])))
+        elif words[0] == "list":
+            found += islice(lines, int(words_of(found[0])[-1]))
+        elif words[0] == "dump":
+            for _ in range(int(words_of(found[0])[3])):
+                take_document_of("submit", found, lines)
+        elif words[0] == "explain":
+            while take_document_of("evidence", found, lines):
+                pass
+            take_to("done", found, lines)
     except (IndexError, ValueError):
         pass
-    return 1
+    return found
 
 
-def passed(lines, at, word, count):
-    """The place behind documents in the form `lines K`: so many, or all that follow one another."""
-    while at < len(lines) and lines[at].startswith(word + " ") and count != 0:
-        at += 1 + int(words_of(lines[at])[3])
+def take_to(pattern: str, found: list[str], lines: Iterator[str]) -> None:
+    """Takes lines up to one that is of a pattern, unless the last is."""
+    while not re.fullmatch(pattern, found[-1]):
+        line = next(lines, None)
+        if line is None:
+            return
+        found.append(line)
+
+
+def take_document_of(word: str, found: list[str], lines: Iterator[str]) -> bool:
+    """Takes a line and, where it begins a document in the form `lines K`, that: whether it does."""
+    found += islice(lines, 1)
+    told = re.fullmatch(word + r" \S+ lines ([1-9][0-9]*)", found[-1])
+    found += islice(lines, int(told[1]) if told else 0)
+    return bool(told)
+
+
+def replies(session: Iterable[Command], output: str) -> Iterator[tuple[Command, list[str]]]:
+    """Each command of a session with the lines of its reply; the reply is short, or empty, where the output ends before it."""
+    lines, at = iter(lines_of(output)), 0
+    for command in session:
+        reply = read_reply(command.words, lines)
+        yield command, reply
+        at += len(reply)
+    if next(lines, None) is not None:
+        raise Refusal(f"line {at + 1} of the replies answers no command of the session: these are replies to another one")
+
+
+def passed(lines: list[str], at: int, word: str, count: int | None = None) -> int:
+    """The place behind documents in the form `lines K`: so many, or all that follow one another from a place on."""
+    while at < len(lines) and count != 0 and (told := re.fullmatch(word + r" \S+ lines ([1-9][0-9]*)", lines[at])):
+        at += 1 + int(told[1])
         count = None if count is None else count - 1
     return at
 
 
-def replies(session, output):
-    """Each command of a session with the lines of its reply; the reply is short, or empty, where the output ends before it."""
-    lines, at = lines_of(output), 0
-    for command in session:
-        behind = at + (reply_length(command.words, lines, at) if at < len(lines) else 0)
-        yield command, lines[at:behind]
-        at = behind
-    if at < len(lines):
-        raise Refusal(f"line {at + 1} of the replies answers no command of the session: these are replies to another one")
+def derivations(output: str) -> list[list[str]]:
+    """The derivations in replies, in order, each as its lines; a last one may lack its end. Documents of a dump are passed over."""
+    lines, found, at = lines_of(output), [], 0
+    while at < len(lines):
+        behind = passed(lines, at, "submit")
+        if behind == at and lines[at] == "derivation":
+            behind = passed(lines, at + 1, "evidence")
+            behind = next((i for i in range(behind, len(lines)) if lines[i] == "done"), len(lines)) + 1
+            found.append(lines[at:behind])
+        at = max(behind, at + 1)
+    return found
 
 
-def read_text(path):
+def read_text(path: str | Path) -> str:
     """The text of a file."""
     try:
         return Path(path).read_bytes().decode("utf-8", "surrogateescape")
@@ -176,17 +224,17 @@ def read_text(path):
         raise Refusal(f"{path} can't be read: {fault.strerror}") from None
 
 
-def entry_of(fields):
+def entry_of(fields: dict[str, Any]) -> Entry:
     """The entry that a document states, as numbers."""
     return tuple(fields[name] for name in ("n", "d", "w") if name in fields)
 
 
-def name_of(entry):
+def name_of(entry: Entry) -> str:
     """An entry as replies write it."""
     return f"A({','.join(map(str, entry))})"
 
 
-def bounds_of(line):
+def bounds_of(line: str) -> tuple[Entry, int, int]:
     """The entry and the two bounds of a line that `show` writes."""
     told = re.fullmatch(r"(?:(\d+) <= )?A\((\d+(?:,\d+){1,2})\) (=|<=) (\d+)", line)
     if not told:
