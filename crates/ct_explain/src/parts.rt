@@ -1,6 +1,6 @@
 //! The parts of pieces, as places.
 
-ghost use Rattle.std.specs.Prelude.{◌≡◌, [], false, IfOk};
+ghost use Rattle.std.specs.Prelude.{◌≡◌, ◌↔◌, [], false, IfOk};
 ghost use Rattle.ct_ledger.specs.Kind.{parts_of};
 ghost use Rattle.ct_explain.specs.Parts.{part_places, parts_of_each};
 
@@ -10,12 +10,13 @@ use ct_ledger::Piece;
 use smallvec::SmallVec;
 use std::alloc::{AllocError, Global};
 
-/// Whether the evidence is of a kind that names parts.
-fn may_have_parts(evidence: &Evidence) -> bool
-    ensures { result ≡ false → parts_of evidence.now ≡ [] }
+/// Whether the evidence names a part.
+fn has_parts(evidence: &Evidence) -> bool
+    ensures { (result ≡ false) ↔ (parts_of evidence.now ≡ []) }
 {
     match evidence {
-        Evidence::Build { .. } | Evidence::Product { .. } => true,
+        Evidence::Build { .. } => true,
+        Evidence::Product { pairs, .. } => !pairs.as_slice().is_empty(),
         Evidence::Words { .. }
         | Evidence::Cosets { .. }
         | Evidence::Partition { .. }
@@ -41,7 +42,7 @@ fn named_places(alloc: Global, pieces: &[Piece], piece: &Piece) -> Result<Parts,
 fn part_places(alloc: Global, pieces: &[Piece], piece: &Piece) -> Result<Parts, AllocError>
     ensures { IfOk result (λ parts. parts ≡ part_places pieces.now piece.now) }
 {
-    if !may_have_parts(piece.evidence()) {
+    if !has_parts(piece.evidence()) {
         return Ok(Parts::new(SmallVec::new(alloc)));
     }
     named_places(alloc, pieces, piece)

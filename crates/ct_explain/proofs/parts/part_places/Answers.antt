@@ -3,7 +3,7 @@ use Rattle.ct_ledger.specs.Kind.{parts_of}
 use Rattle.ct_explain.proofs.PartPlaces.{no_places}
 use Rattle.ct_explain.proofs.parts.part_places.Goals as goal
 
-pub returns-then-not-may_have_parts : goal.returns-then-not-may_have_parts
-returns-then-not-may_have_parts c =
-    let none = ap parts_of (sym c.evidence.ensures.evidence) ∙ c.may_have_parts.ensures c.if-not-may_have_parts.true in
-    c.new-then-not-may_have_parts.ensures ∙ c.new.ensures.items ∙ sym (no_places c.args.piece.now.evidence 0 c.args.pieces.now none)
+pub returns-then-not-has_parts : goal.returns-then-not-has_parts
+returns-then-not-has_parts c =
+    let none = ap parts_of (sym c.evidence.ensures.evidence) ∙ c.has_parts.ensures.0 c.if-not-has_parts.true in
+    c.new-then-not-has_parts.ensures ∙ c.new.ensures.items ∙ sym (no_places c.args.piece.now.evidence 0 c.args.pieces.now none)
