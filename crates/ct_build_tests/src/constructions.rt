@@ -8,7 +8,7 @@ use ct_build::{
 };
 use ct_codes::{Code, MAX_CODE_DISTANCE};
 use ct_words::{MAX_N, Word};
-use std::alloc::Global;
+use std::alloc::{AllocError, Global};
 use std::process::Abort;
 use std::test::Fail;
 
@@ -111,20 +111,11 @@ fn made_of_one(
     alloc: Global,
     construction: OfOne,
     part: &Code,
-) -> Result<Result<Code, BuildFault>, Fail> {
+) -> Result<Code, BuildFault> {
     let n = part.n();
-    Ok(match construction {
-        OfOne::Lengthen => {
-            assert!(rt; n < MAX_N);
-            Ok(lengthen(alloc, part)?)
-        }
-        OfOne::AppendOne => {
-            assert!(rt; n < MAX_N);
-            Ok(append_one(alloc, part)?)
-        }
-        OfOne::Parity => {
-            assert!(rt; n < MAX_N);
-            Ok(parity(alloc, part)?)
+    match construction {
+        OfOne::Lengthen | OfOne::AppendOne | OfOne::Parity => {
+            Ok(made_longer(rt, alloc, construction, part)?)
         }
         OfOne::Puncture(places) => {
             assert!(rt; are_places(places, n) && places.len() < n as usize);
@@ -149,7 +140,22 @@ fn made_of_one(
             assert!(rt; 1 <= size);
             trim(alloc, part, size)
         }
-    })
+    }
+}
+
+/// The words with a 0, with a 1, or with their parity behind them.
+fn made_longer(
+    rt: &impl Abort,
+    alloc: Global,
+    construction: OfOne,
+    part: &Code,
+) -> Result<Code, AllocError> {
+    assert!(rt; part.n() < MAX_N);
+    match construction {
+        OfOne::Lengthen => lengthen(alloc, part),
+        OfOne::AppendOne => append_one(alloc, part),
+        _ => parity(alloc, part),
+    }
 }
 
 /// What the construction makes of the two codes, whose condition is tested.
@@ -159,16 +165,16 @@ fn made_of_two(
     construction: OfTwo,
     part: &Code,
     other: &Code,
-) -> Result<Code, Fail> {
+) -> Result<Code, AllocError> {
     match construction {
         OfTwo::Uuv => {
             assert!(rt; part.n() == other.n() && 2 * part.n() <= MAX_N);
-            Ok(uuv(alloc, part, other)?)
+            uuv(alloc, part, other)
         }
         OfTwo::Juxtapose => {
             assert!(rt; part.n() + other.n() <= MAX_N);
             assert!(rt; part.d() + other.d() <= MAX_CODE_DISTANCE);
-            Ok(juxtapose(alloc, part, other)?)
+            juxtapose(alloc, part, other)
         }
     }
 }
@@ -314,7 +320,7 @@ fn constructions_of_one_code(rt: HostRuntime) -> Result<(), Fail> {
     .enumerate()
     {
         let part = code_of(&rt, alloc, part)?;
-        let made = made_of_one(&rt, alloc, construction, &part)?;
+        let made = made_of_one(&rt, alloc, construction, &part);
         assert!(rt; answers(&made, wanted), "row {row}");
     }
     Ok(())
