@@ -15,7 +15,7 @@ for crate in "$here"/crates/*; do
 done
 HOME=$work/home PATH=$work/bin:$PATH
 export HOME PATH work
-unset XDG_CACHE_HOME
+unset XDG_CACHE_HOME CODE_TABLES
 
 # The false rt notes its calls, reads the sources where it begins, leaves a child while it proves, and makes a program that says which
 # sources it was built from. It takes $work/pause seconds, and fails where $work/fails is there.
@@ -119,7 +119,8 @@ is_stopped_by() {
     [ "$status" -eq "$3" ] && is_quiet || { echo "status $status" && cat "$work/errors" && false; }
 }
 
-check 'without rt the status is 125' env PATH="/usr/bin:/bin" sh -c '"$0" session 2>/dev/null; [ $? -eq 125 ]' "$repository/code_tables"
+check 'without rt the status is 125' env PATH="/usr/bin:/bin" sh -c '"$0" session 2>"$work/errors"; [ $? -eq 125 ]' "$repository/code_tables"
+check 'without rt it says how a built program is named' grep -q 'set CODE_TABLES to its path' "$work/errors"
 check 'the first start builds' runs 2
 check 'nothing of the build is left' [ -z "$(ls -A "$work/home/.cache" 2>/dev/null)" ]
 check 'the second start builds nothing' runs 0

@@ -2,7 +2,8 @@
 #
 #     gap> Read("tools/code_tables.g");
 #     gap> SubmitCode("hamming", HammingCode(3, GF(2)));
-#     # a linear [7,4,3]1 Hamming (3,2) code over GF(2)
+#     # GUAVA says: a linear [7,4,3]1 Hamming (3,2) code over GF(2)
+#     # the distance 3 was computed from a generator matrix
 #     submit hamming
 #     kind = "cosets"
 #     n = 7
@@ -11,8 +12,9 @@
 #     representatives = ["0000000"]
 #     end
 #
-# SubmitCode("id", C, "FILE") appends it to a file. The distance is computed by GUAVA's MinimumDistance from the words, not taken from what the
-# code's constructor says of it. A code of one word has no distance there: state one as SubmitCode("id", C, "FILE" or "", d). The words of an
+# SubmitCode("id", C, "FILE") appends it to a file; where that has a submission of the id already, as at a second run, that is refused. The
+# distance is not the one in GUAVA's description of the code: of a linear code it is computed by MinimumDistance from a generator matrix, and of
+# any other here, from all pairs of words. A code of one word has no distance: state one as SubmitCode("id", C, "FILE" or "", d). The words of an
 # unrestricted code are written one by one, with their weight where all have the same; tools/submit_words.py writes them over their kernel.
 # What is refused is an error that says why, and nothing is written. The program checks all of it anew.
 
@@ -103,7 +105,7 @@ end;
 
 # The submission of a code, as a text.
 CodeTables_Submission := function(id, code, stated)
-    local linear, words, d, kind, keys;
+    local linear, words, d, kind, keys, least, from;
     CodeTables_Check(id, code);
     linear := IsLinearCode(code);
     words := [];
@@ -115,19 +117,39 @@ CodeTables_Submission := function(id, code, stated)
     else
         d := infinity;
     fi;
+    least := d;
     d := CodeTables_Stated(d, stated);
     if linear then
         kind := "cosets";
         keys := CodeTables_Linear(code);
+        from := "a generator matrix";
     else
         kind := "words";
         keys := CodeTables_Words(words, d);
+        from := "all pairs of words";
     fi;
-    return Concatenation("# ", String(code), "\nsubmit ", id, "\nkind = \"", kind, "\"\nn = ", String(WordLength(code)), "\nd = ", String(d), "\n",
+    if d = least then
+        from := Concatenation("the distance ", String(d), " was computed from ", from);
+    else
+        from := Concatenation("the distance ", String(d), " was stated");
+    fi;
+    return Concatenation("# GUAVA says: ", String(code), "\n# ", from, "\nsubmit ", id, "\nkind = \"", kind, "\"\nn = ", String(WordLength(code)), "\nd = ", String(d), "\n",
         keys, "end\n");
 end;
 
-# SubmitCode(id, code[, file[, distance]]): see above.
+# Refuses a file that has a submission of the id.
+CodeTables_CheckFile := function(id, file)
+    local old;
+    old := fail;
+    if IsExistingFile(file) then
+        old := StringFile(file);
+    fi;
+    if old <> fail and Concatenation("submit ", id) in SplitString(ReplacedString(old, "\r", ""), "\n") then
+        Error("code_tables: refused: ", file, " has a submission of ", id, " already");
+    fi;
+end;
+
+# SubmitCode(id, code[, file[, distance]]): see above. A stream without formatting breaks no line at 80 columns.
 SubmitCode := function(id, code, more...)
     local stated, text, stream;
     stated := fail;
@@ -136,11 +158,15 @@ SubmitCode := function(id, code, more...)
     fi;
     text := CodeTables_Submission(id, code, stated);
     if Length(more) > 0 and more[1] <> "" then
-        AppendTo(more[1], text);
+        CodeTables_CheckFile(id, more[1]);
+        stream := OutputTextFile(more[1], true);
+        if stream = fail then
+            Error("code_tables: refused: ", more[1], " can't be written");
+        fi;
     else
         stream := OutputTextUser();
-        SetPrintFormattingStatus(stream, false);
-        PrintTo(stream, text);
-        CloseStream(stream);
     fi;
+    SetPrintFormattingStatus(stream, false);
+    PrintTo(stream, text);
+    CloseStream(stream);
 end;

@@ -41,7 +41,7 @@ def run(*words, text="", **more):
 
 def call(tool, *words, text=""):
     """The same within this process, for many short runs."""
-    out, said, status = io.StringIO(), io.StringIO(), 0
+    out, said, status = io.TextIOWrapper(io.BytesIO(), "utf-8"), io.StringIO(), 0
     with mock.patch.object(sys, "argv", [f"{tool}.py", *map(str, words)]), mock.patch.object(sys, "stdin", io.TextIOWrapper(io.BytesIO(text.encode()))), \
             contextlib.redirect_stdout(out), contextlib.redirect_stderr(said):
         try:
@@ -50,7 +50,8 @@ def call(tool, *words, text=""):
             status = end.code if isinstance(end.code, int) else int(end.code is not None)
             if isinstance(end.code, str):
                 print(end.code, file=sys.stderr)
-    return out.getvalue(), said.getvalue(), status
+    out.flush()
+    return out.buffer.getvalue().decode(), said.getvalue(), status
 
 
 def session(text, mode="session"):

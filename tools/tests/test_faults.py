@@ -7,13 +7,13 @@ import tempfile
 import unittest
 
 import support
+from code_tables.program import program
 
 MAX_INPUT = 67108864
 
 
 def ended(mode="session", text=b"show 10 6\n", **devices):
     """The status of the program, its output and what it said on standard error; devices stand in for the standard ones."""
-    from code_tables.program import program
     standard = {"stdout": subprocess.PIPE, "stderr": subprocess.PIPE} | devices
     if "stdin" not in standard:
         standard["input"] = text
@@ -33,8 +33,31 @@ class Faults(unittest.TestCase):
         for mode in ("session", "verify", "find"):
             with self.subTest(mode=mode):
                 came = ended(mode, stdin=folder)
-                self.assert_says(came, 3, "a read failed")
+                self.assert_says(came, 3, "a read failed: standard input is a directory")
                 self.assertEqual(came[1], b"")
+
+    def test_an_input_that_is_closed(self):
+        came = ended(stdin=None, preexec_fn=lambda: os.close(0))
+        self.assert_says(came, 3, "a read failed: standard input is not open for reading")
+        self.assertEqual(came[1], b"")
+
+    def test_an_input_that_is_open_for_writing_alone(self):
+        # What is open for writing alone can't be read.
+        with open(os.devnull, "wb") as sink:
+            self.assert_says(ended(stdin=sink), 3, "a read failed: standard input is not open for reading")
+
+    def test_words_that_are_no_command_are_named(self):
+        usage = b"usage: code_tables session | verify | find | sample --number N\n"
+        for words, said in [(["tables"], "no command has the word tables"), (["session", "all", "more"], "no command has the word all"),
+                            (["sample", "--number", "5", "--all"], "no command has the word --all"), (["--help"], "no command has the word --help"),
+                            ([""], "no command has the word "), (["session", "session"], "these words together are no command"),
+                            (["sample"], "these words together are no command"), (["verify", "--number=5"], "these words together are no command")]:
+            with self.subTest(words=words):
+                came = subprocess.run([program(), *words], stdin=subprocess.DEVNULL, capture_output=True)
+                self.assertEqual(came.stdout, usage)
+                self.assert_says((came.returncode, came.stdout, came.stderr), 2, said)
+        came = subprocess.run([program()], stdin=subprocess.DEVNULL, capture_output=True)
+        self.assertEqual((came.returncode, came.stdout, came.stderr), (2, usage, b""))
 
     def test_a_failed_write(self):
         with open("/dev/full", "wb") as full:
@@ -61,7 +84,7 @@ class Faults(unittest.TestCase):
         self.assert_says(came, 6, "out of memory")
 
     def test_nothing_is_said_otherwise(self):
-        for mode, text, status in (("session", b"show 10 6\n", 0), ("session", b"foo\n", 1), ("tables", b"", 2)):
+        for mode, text, status in (("session", b"show 10 6\n", 0), ("session", b"foo\n", 1)):
             with self.subTest(mode=mode, text=text):
                 came = ended(mode, text)
                 self.assertEqual((came[0], came[2]), (status, b""))

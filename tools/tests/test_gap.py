@@ -1,19 +1,49 @@
 """Codes of GAP's GUAVA become submissions; where GAP isn't there, what it wrote is stored."""
 
 import subprocess
+import tempfile
 import unittest
+from pathlib import Path
 
 from support import TOP, data, needs, needs_program, session
+
+from code_tables import sessions
+
+
+def gap(script):
+    """Runs GAP in the repository's folder."""
+    return subprocess.run(["gap", "-q", "-T"], input=script.encode(), cwd=TOP, capture_output=True)
 
 
 class Gap(unittest.TestCase):
     @needs("gap")
     def test_codes_of_guava(self):
-        ended = subprocess.run(["gap", "-q", "-T"], input=data("gap/codes.g").encode(), cwd=TOP, capture_output=True)
+        ended = gap(data("gap/codes.g"))
         if b"SubmitCode" in ended.stderr or b"guava" in ended.stderr:
             self.skipTest("GUAVA isn't there")
         self.assertEqual(ended.stderr.decode(), data("gap/codes.err"))
         self.assertEqual(ended.stdout.decode(), data("gap/codes.out"))
+
+    @needs("gap")
+    def test_a_file_has_whole_lines_and_each_id_once(self):
+        codes = 'SubmitCode("rm", ReedMullerCode(1, 4), "{0}");\nSubmitCode("hadamard", HadamardCode(16), "{0}");\n'
+        with tempfile.TemporaryDirectory() as folder:
+            file = Path(folder) / "codes.session"
+            first, again = (gap('Read("tools/code_tables.g");\n' + codes.format(file)) for _ in range(2))
+            if b"guava" in first.stderr:
+                self.skipTest("GUAVA isn't there")
+            text = file.read_text()
+        self.assertEqual(first.stderr, b"")
+        for submitted in sessions.commands(text):
+            self.assertEqual(len(submitted.fields["basis"]), 5)
+        self.assertIn("# GUAVA says: a linear [16,5,8]6 Reed-Muller (1,4) code over GF(2)\n# the distance 8 was computed from a generator matrix\nsubmit rm\n", text)
+        self.assertEqual(again.stderr.decode(), "".join(f"Error, code_tables: refused: {file} has a submission of {name} already\n" for name in ("rm", "hadamard")))
+        self.assertEqual(text.count("submit "), 2)
+
+    def test_a_submission_says_whose_distance_it_is(self):
+        for command in sessions.commands(data("gap/codes.out")):
+            if command.words[0] == "submit":
+                self.assertRegex("\n".join(command.remarks), r"^GUAVA says: .*\nthe distance \d+ was (computed from|stated)")
 
     @needs_program
     def test_the_program_accepts_what_is_stored(self):

@@ -8,8 +8,8 @@ use std::io::Read;
 use std::process::ExitCode;
 use std::{env, io};
 
-/// The system's number of the error that a descriptor is closed.
-const CLOSED: i32 = 9;
+/// The system's number of the error that a descriptor is not open for what is asked.
+const NOT_OPEN: i32 = 9;
 
 /// The words of the command line, the program's name among them. They are none where one is not UTF-8: no command has such a word.
 fn command_line(rt: &HostRuntime) -> Result<Vec<String>, AllocError> {
@@ -43,7 +43,7 @@ fn run_on_devices(rt: &HostRuntime, words: &[String]) -> Status {
 fn unreadable_input(rt: &HostRuntime) -> Option<&'static str> {
     match rt.stdin().read(&mut []) {
         Err(e) if e.kind() == io::ErrorKind::IsADirectory => Some("a directory"),
-        Err(e) if e.raw_os_error() == Some(CLOSED) => Some("closed"),
+        Err(e) if e.raw_os_error() == Some(NOT_OPEN) => Some("not open for reading"),
         _ => None,
     }
 }
