@@ -3,60 +3,38 @@
 
     tools/page.py examples/library/*.session > table.html
 
-The sessions are run one behind the other. The page has the table of A(n,d) for even d and of A(n,d,w) for each d: each cell is coloured by
-its gap, has an anchor (`#a16-6`, `#a24-8-8`), and leads to its derivation as `explain` gives it, to the pieces that this rests on, and to their
-sources. With --csv FILE and --json FILE the bounds of all 6,370 entries are written beside it. The page asks for nothing from elsewhere.
+The sessions are run one behind the other. The page has the tables of A(n,d) and of A(n,d,w) for each d: each cell is coloured by its gap, has
+an anchor, as each entry of the table has one (`#a16-6`, `#a15-5`, `#a24-8-16`), and a mark for the last rule of each bound, and leads to its
+derivation, line by line with what each rule says and its source, to the pieces that this rests on, with their sources and documents, and to
+what is known beside it. With --csv FILE and --json FILE all entries are written beside it as data (tools/table_data.py says how), and the page
+links to them; with --words FOLDER the words of each code of at most 16,384 words, a file each. Else the page asks for nothing from elsewhere.
 A refused submission is said on the page and on standard error, and ends with 1."""
 
 import argparse
-import csv
 import html
-import json
 import sys
+from pathlib import Path
 
 import table
-from sessions import Refusal, name_of
+import table_data
+import words_of_pieces
+from code_tables import provenance
+from code_tables.sessions import Refusal, name_of
+from table import is_trivial
 
+HERE = Path(__file__).resolve().parent
 CLOSE = 1.1
+MOST_WORDS = 16384
+DARK = ("color-scheme: dark; --ground: #12171d; --ink: #e4e9ee; --faint: #9aa6b2; --link: #86bdf5; --head: #222a33; --equal: #1d3f5e; --close: #544a14; "
+        "--wide: #6b3a14; --line: #56616d; --empty: #252d36; --text: #1a2129;")
+SEMIDEFINITE = ("Upper bounds by semidefinite programming (Schrijver 2005; Gijswijt, Mittelmann and Schrijver 2012) are left out of the comparison and of "
+                "the rules; at many entries that are not exact they are better.")
 
-STYLE = """
-:root { color-scheme: light; --equal: #cfe4f7; --close: #fff2b8; --wide: #f7bf8e; --line: #9aa3ad; }
-* { box-sizing: border-box; }
-body { font: 16px/1.5 system-ui, sans-serif; color: #16202a; background: #fff; margin: 0 auto; padding: 1rem; max-width: 84rem; }
-h1 { font-size: 1.5rem; margin: 0 0 .5rem; } h2 { font-size: 1.2rem; margin: 2rem 0 .5rem; }
-p, ul { max-width: 46rem; } nav a { display: inline-block; padding: .25rem .5rem; margin: 0 .25rem .25rem 0; border: 1px solid var(--line); border-radius: .25rem; }
-a { color: #0b4a8f; } a:focus-visible, summary:focus-visible, .scroll:focus-visible { outline: 3px solid #0b4a8f; outline-offset: 1px; }
-.scroll { width: fit-content; max-width: 100%; border: 1px solid var(--line); border-width: 1px 0 0 1px; }
-table { border-collapse: separate; border-spacing: 0; font-variant-numeric: tabular-nums; font-size: .85rem; }
-th, td { padding: .2rem .45rem; border-right: 1px solid var(--line); border-bottom: 1px solid var(--line); text-align: right; white-space: nowrap; }
-thead th { background: #eef1f4; position: sticky; top: 0; z-index: 2; } tbody th { background: #eef1f4; position: sticky; left: 0; z-index: 1; }
-thead th:first-child { left: 0; z-index: 3; } td:empty { border-color: #e3e7eb; }
-td { scroll-margin: 40vh 6rem 6rem; } details, li { scroll-margin-top: 1rem; }
-td a { color: inherit; text-decoration: none; display: block; } td a:hover { text-decoration: underline; }
-td:target, details:target > summary { outline: 3px solid #0b4a8f; outline-offset: -3px; }
-.equal { background: var(--equal); } .close { background: var(--close); } .wide { background: var(--wide); font-style: italic; }
-.close a, .wide a { line-height: 1.25; } .trivial { color: #59646f; }
-.key { display: flex; flex-wrap: wrap; gap: .5rem 1.5rem; max-width: none; } .key > span { display: flex; align-items: center; gap: .5rem; }
-.key span span { padding: .1rem .5rem; border: 1px solid var(--line); font-size: .85rem; line-height: 1.25; text-align: right; }
-details { margin: .15rem 0; } details details { margin-left: 1rem; } summary { cursor: pointer; padding: .15rem .25rem; }
-pre { font-size: .8rem; overflow-x: auto; margin: .25rem 0 .5rem; padding: .5rem; background: #f5f7f9; border-left: 3px solid var(--line); }
-dl { display: grid; grid-template-columns: max-content 1fr; gap: .1rem 1rem; overflow-wrap: anywhere; } dt { font-weight: 600; } dd { margin: 0; }
-@media (max-width: 64rem) { .scroll { overflow: auto; max-height: 85vh; } td { scroll-margin: 6rem; } }
-@media (max-width: 40rem) { body { padding: .5rem; font-size: 15px; } table { font-size: .78rem; } th, td { padding: .3rem .35rem; } dl { display: block; } }
-@media print { body { max-width: none; font-size: 9pt; padding: 0; } .scroll { overflow: visible; max-height: none; border-width: 1px 0 0 1px; break-inside: avoid; } table { font-size: 7pt; }
-  th, td { padding: 1pt 2pt; print-color-adjust: exact; -webkit-print-color-adjust: exact; } thead th, tbody th { position: static; }
-  nav { display: none; } a { color: inherit; } h2 { break-after: avoid; } }
-"""
 
-# Opens what an anchor leads to, in browsers that don't, and shows all of a table that is scrolled by itself, so that its header is seen.
-SCRIPT = """
-const reveal = () => {
-  const end = document.getElementById(location.hash.slice(1)), box = end && end.closest(".scroll");
-  for (let e = end; e; e = e.parentElement) if (e.tagName === "DETAILS") e.open = true;
-  if (box && box.scrollHeight > box.clientHeight) box.scrollIntoView({ block: "nearest" });
-};
-addEventListener("hashchange", reveal); addEventListener("load", reveal); reveal();
-"""
+def style():
+    """The page's style, with its dark colours where the system or the reader chose them."""
+    dark = f":root[data-theme=dark] {{ {DARK} }}\n@media screen and (prefers-color-scheme: dark) {{ :root:not([data-theme=light]) {{ {DARK} }} }}"
+    return (HERE / "page.css").read_text("utf-8").replace("DARK", dark, 1)
 
 
 def anchor(entry):
@@ -74,38 +52,77 @@ def said(entry, low, high):
     return f"{name_of(entry)} = {low}" if low == high else f"{low} ≤ {name_of(entry)} ≤ {high}"
 
 
-def shown_plain():
-    """The entries of the first table, by distance."""
-    return [(n, d) for d in table.EVEN for n in table.LENGTHS]
+def turned(entry):
+    """The entry with each digit turned, A(n,d,n-w), or nothing where it is the same."""
+    n, d, w = (*entry, None)[:3]
+    return None if w is None or 2 * w == n else (n, d, n - w)
+
+
+def shown_plain(distances):
+    """The entries of a table without weight, by distance."""
+    return [(n, d) for d in distances for n in table.LENGTHS]
 
 
 def shown_weighted(d):
     """The entries of the table of a distance, the greater weights left out: A(n,d,w) = A(n,d,n-w)."""
-    return [(n, d, w) for n in table.LENGTHS for w in range(n // 2 + 1)]
+    return [(n, d, w) for n in table.LENGTHS if n >= d for w in range(d // 2, n // 2 + 1)]
 
 
-def is_trivial(entry):
-    """Whether an entry is 1 because no two words are far enough apart."""
-    n, d, w = (*entry, None)[:3]
-    return d > n if w is None else d > 2 * min(w, n - w)
+ODD = [d for d in table.DISTANCES if d % 2]
+
+
+def shown():
+    """All entries that have a cell."""
+    return shown_plain(table.EVEN) + shown_plain(ODD) + [entry for d in table.EVEN for entry in shown_weighted(d)]
+
+
+def is_unconfirmed(entry, bounds):
+    """Whether a lower bound is above the one that is remembered as published."""
+    known = table.published_at(entry)
+    return bool(known) and bounds[0] > known[0]
+
+
+def kind_of(piece):
+    """A piece's kind, entry and size."""
+    size = "" if piece.size is None else ", 1 word" if piece.size == 1 else f", {piece.size} words"
+    return f"{piece.kind} of {name_of(piece.entry)}{size}"
+
+
+# The colours of gaps, beside the words for them.
+KEY = ('<p class="key"><span><span class="equal">256<sup>L10 U9</sup></span>exact</span> '
+       f'<span><span class="close">1024<sup>L10</sup><br>1100<sup>U11</sup></span>close: the upper bound is at most {round(100 * CLOSE - 100)}% above the lower</span> '
+       '<span><span class="wide">20<sup>L3</sup><br>40<sup>U6</sup></span>wide</span></p>\n'
+       '<p>A mark is the last of the <a href="#rules">rules</a> of a bound; ? is a bound above what is remembered as published, unconfirmed. '
+       "Arrow keys go from cell to cell.</p>")
 
 
 class Page:
-    """The page over what a table holds."""
+    """The page over what a table holds; `data` are the names of files beside it, `words` those of the words of pieces."""
 
-    def __init__(self, held):
-        self.held, self.out = held, []
+    def __init__(self, held, data=(), words=None):
+        self.held, self.data, self.words, self.out = held, data, words or {}, []
+        self.linked = {f"a{anchor(entry)}" for entry in shown() if not is_trivial(entry)}
 
     def put(self, *lines):
         self.out.extend(lines)
 
+    # ---- the tables
+    def mark(self, entry, *sides):
+        """The last rules of an entry's bounds, as a superscript."""
+        rules = [self.held.derivations[side, entry].rule for side in sides if (side, entry) in self.held.derivations]
+        return f"<sup>{' '.join(dict.fromkeys(rules))}</sup>" if rules else ""
+
     def cell(self, entry):
-        """The cell of an entry."""
+        """The cell of an entry, which is also that of the entry with each digit turned."""
         low, high = self.held.bounds[entry]
-        text = str(low) if low == high else f"{low}<br>{high}"
+        other = turned(entry)
+        also = f'<span id="a{anchor(other)}"></span>' if other else ""
         if is_trivial(entry):
-            return f'<td id="a{anchor(entry)}" class="trivial">{text}</td>'
-        return f'<td id="a{anchor(entry)}" class="{gap(low, high)}"><a href="#b{anchor(entry)}" title="{said(entry, low, high)}">{text}</a></td>'
+            return f'<td id="a{anchor(entry)}" class="trivial">{also}1</td>'
+        doubt = '<sup title="above what is remembered as published: unconfirmed">?</sup>' if is_unconfirmed(entry, (low, high)) else ""
+        text = f"{low}{doubt}{self.mark(entry, 'lower', 'upper')}" if low == high else \
+            f"{low}{doubt}{self.mark(entry, 'lower')}<br>{high}{self.mark(entry, 'upper')}"
+        return f'<td id="a{anchor(entry)}" class="{gap(low, high)}">{also}<a href="#b{anchor(entry)}" title="{said(entry, low, high)}">{text}</a></td>'
 
     def grid(self, name, caption, columns, rows):
         """A table: rows are lengths with the entries of their columns, or nothing."""
@@ -116,16 +133,44 @@ class Page:
             self.put(f'<tr><th scope="row">{n}</th>{cells}</tr>')
         self.put("</tbody></table></div>")
 
-    def derivation(self, entry):
-        """What the bounds of an entry rest on, folded."""
+    def plain(self, place, title, more, distances):
+        """A table without weight, with its derivations."""
+        self.put(f'<h2 id="{place}">{title}</h2>', *more)
+        self.grid("n \\ d", f"Table of {title}", distances, [(n, [(n, d) for d in distances]) for n in table.LENGTHS])
+        self.folded(title, shown_plain(distances))
+
+    def weighted(self, d):
+        """The table of a distance, with its derivations. What has no cell has an anchor above."""
+        entries = shown_weighted(d)
+        placed = {*entries, *map(turned, entries)}
+        ones = [(n, d, w) for n in table.LENGTHS for w in range(n + 1) if (n, d, w) not in placed]
+        places = "".join(f'<span id="a{anchor(entry)}"></span>' for entry in ones)
+        self.put(f'<h2 id="weight{d}">A(n,{d},w)</h2>', f"<p>A(n,{d},w) = A(n,{d},n−w), so each cell is that of both. Entries with w or n − w below "
+                 f"{d // 2}, which have no cell, are 1: two such words are never at distance {d}.{places}</p>")
+        weights = range(d // 2, table.LAST // 2 + 1)
+        self.grid("n \\ w", f"Table of A(n,{d},w)", weights, [(n, [(n, d, w) if w <= n // 2 else None for w in weights]) for n in table.LENGTHS if n >= d])
+        self.folded(f"A(n,{d},w)", entries)
+
+    # ---- the reasons
+    def folded(self, name, entries):
+        """The derivations of a table, folded."""
+        self.put(f"<details><summary>Derivations of {name}</summary>")
+        for entry in entries:
+            if not is_trivial(entry):
+                self.entry(entry)
+        self.put("</details>")
+
+    def entry(self, entry):
+        """What the bounds of an entry rest on and what is known beside it, folded."""
         low, high = self.held.bounds[entry]
         self.put(f'<details id="b{anchor(entry)}"><summary>{said(entry, low, high)}</summary>')
+        self.put(f'<p class="known">{self.known(entry, low, high)}</p>')
         ids = []
         for side in ("lower", "upper"):
             found = self.held.derivations.get((side, entry))
             if found:
                 ids += found.ids
-                self.put(f"<pre>{chr(10).join(map(self.line, found.lines))}</pre>")
+                self.put(f'<ol class="derivation">{"".join(map(self.line, found.lines))}</ol>')
         if not any((side, entry) in self.held.derivations for side in ("lower", "upper")):
             self.put("<p>This build of the program gives no derivations.</p>")
         pieces = table.resting(self.held, dict.fromkeys(ids))
@@ -133,120 +178,144 @@ class Page:
             self.put("<ul>" + "".join(f"<li>{self.named(piece)}</li>" for piece in pieces) + "</ul>")
         self.put(f'<p><a href="#a{anchor(entry)}">to the table</a></p></details>')
 
+    def known(self, entry, low, high):
+        """What is known beside the bounds of an entry."""
+        if low == high:
+            return "Exact: both bounds are equal, and nothing better is possible."
+        there = table.published_at(entry)
+        beside = f" {SEMIDEFINITE}"
+        if not there:
+            return "Not compared with published values." + beside
+        told = f"Remembered as published: at least {there[0]}; the lower bound here is {table.compared(low, there[0])}."
+        if len(there) > 1:
+            told = f"Published: {there[0]} and {there[1]}; the lower bound here is {table.compared(low, there[0])}, the upper {table.compared(high, there[1])}."
+        doubt = " <strong>Unconfirmed against present tables</strong>: that the code exists is checked, that it is new is not said." if low > there[0] else ""
+        return told + doubt + beside
+
     def line(self, text):
-        """A line of a derivation, its claim and its evidence as links."""
+        """A line of a derivation as a sentence: its claim, the rule, what it rests on, and what the rule says and why."""
         words = text.split(" ")
-        stop = words.index("value")
-        entry = tuple(map(int, words[3:stop]))
-        linked = f'<a href="#b{anchor(entry)}">{" ".join(words[3:stop])}</a>' if f"a{anchor(entry)}" in self.anchors else " ".join(words[3:stop])
-        rest = [f'<a href="#p-{word}">{word}</a>' if word in self.held.pieces and i == 4 else word for i, word in enumerate(words[stop:])]
-        return " ".join([*words[:3], linked, *rest])
+        stop, by = words.index("value"), words.index("by")
+        entry, rule, rest = tuple(map(int, words[3:stop])), words[by + 1], words[by + 2:]
+        place = next((one for one in (entry, turned(entry)) if one and f"a{anchor(one)}" in self.linked), None)
+        name = f'<a href="#b{anchor(place)}">{name_of(entry)}</a>' if place else name_of(entry)
+        behind = " ".join(f'<a href="#p-{word}">{word}</a>' if word in self.held.pieces and i == 0 else word for i, word in enumerate(rest))
+        row = table.rule_row(rule, entry)
+        return (f'<li>{name} {"≥" if words[2] == "lower" else "≤"} {words[stop + 1]} by <a href="#r-{rule}">{rule}</a>{" " + behind if behind else ""}: '
+                f'<span class="why">{self.sentence(row)}</span></li>')
+
+    def sentence(self, row):
+        """What a rule says in a case, where, and its source."""
+        return html.escape(f"{row['says']} ({row['where']}): {row['source']}")
 
     def named(self, piece):
         """A piece in a line."""
-        size = "" if piece.size is None else ", 1 word" if piece.size == 1 else f", {piece.size} words"
-        parts = ", ".join(f'<a href="#p-{part}">{part}</a>' for part in piece.parts)
-        source = f": {html.escape(' '.join(piece.sources))}" if piece.sources else ""
-        return f'<a href="#p-{piece.id}">{piece.id}</a> ({piece.kind} of {name_of(piece.entry)}{" from " + parts if parts else ""}{size}){source}'
+        return f'<a href="#p-{piece.id}">{piece.id}</a> ({kind_of(piece)}): {html.escape(piece.title)}'
 
+    # ---- the pieces, the rules and the numbers
     def pieces(self):
-        """All pieces, with their parts and sources."""
-        self.put('<h2 id="pieces">Pieces of evidence</h2>', "<p>Each was checked by the program: every word and every distance, every inequality of a dual.</p>", "<ul>")
+        """All pieces, with their titles, sources, parts and documents."""
+        self.put('<h2 id="pieces">Pieces of evidence</h2>', "<p>Each was checked by the program: every word and every distance, every inequality of a dual. A "
+                 "document is handed in again by <code>submit</code> as it stands, with a line <code>end</code> below it.</p>", "<ul>")
         for piece in self.held.pieces.values():
-            self.put(f'<li id="p-{piece.id}">{self.named(piece)}</li>')
+            parts = ", ".join(f'<a href="#p-{part}">{part}</a>' for part in piece.parts)
+            words = f'<p><a href="{self.words[piece.id]}" download>its words</a>, a line each</p>' if piece.id in self.words else ""
+            self.put(f'<li id="p-{piece.id}"><details><summary><strong>{html.escape(piece.title)}</strong>: {piece.id}, {kind_of(piece)}</summary>',
+                     f"<p>{html.escape(' '.join(piece.sources)) or 'No source is stated.'}</p>", f"<p>Built from {parts}</p>" if parts else "", words,
+                     f'<p class="take" data-name="{piece.id}.toml"></p><pre>{html.escape(piece.document)}</pre></details></li>')
         self.put("</ul>")
 
+    def rules(self):
+        """All rules, with their sentences and sources."""
+        self.put('<h2 id="rules">Rules</h2>', "<p>Each is proved to be true of all codes. A mark in a cell is the last rule of a bound.</p>", "<dl>")
+        for rule, rows in table.rules().items():
+            for at, row in enumerate(rows):
+                place = "" if at else f' id="r-{rule}"'
+                self.put(f"<dt{place}>{rule}</dt><dd>{self.sentence(row)}</dd>")
+        self.put("</dl>")
+
     def totals(self):
-        """What the table holds, in numbers."""
+        """What the table holds, in numbers, and what it was made by."""
         self.put('<h2 id="totals">Totals</h2>', "<dl>")
         for name, length in (("A(n,d)", 2), ("A(n,d,w)", 3)):
             kinds = [gap(*bounds) for entry, bounds in self.held.bounds.items() if len(entry) == length]
             numbers = {kind: kinds.count(kind) for kind in ("equal", "close", "wide")}
             self.put(f"<dt>{name}</dt><dd>{len(kinds)} entries: {numbers['equal']} exact, {numbers['close']} close, {numbers['wide']} wide</dd>")
-        self.put(f"<dt>Evidence</dt><dd>{len(self.held.pieces)} pieces</dd>", f"<dt>Session (SHA-256)</dt><dd>{self.held.session_hash}</dd>",
-                 f"<dt>Program (commit)</dt><dd>{table.commit()}</dd>", f"<dt>Toolchain</dt><dd>{html.escape(table.toolchain())}</dd>", "</dl>")
+        made = provenance.provenance()
+        for name, value in (("Evidence", f"{len(self.held.pieces)} pieces"), ("Made on", table_data.today()), ("Sessions (SHA-256)", self.held.session_hash),
+                            ("Program (SHA-256)", made.program), ("Program (commit)", made.commit), ("Toolchain", made.toolchain)):
+            self.put(f"<dt>{name}</dt><dd>{html.escape(value)}</dd>")
+        if self.data:
+            links = ", ".join(f'<a href="{html.escape(name)}">{html.escape(name)}</a>' for name in self.data)
+            self.put(f"<dt>As data</dt><dd>{links}</dd>")
+        self.put("</dl>")
+
+    def head(self):
+        """What stands above the tables."""
+        self.put("<!DOCTYPE html>", '<html lang="en"><head><meta charset="utf-8"><meta name="viewport" content="width=device-width, initial-scale=1">',
+                 f"<title>Bounds of A(n,d) and A(n,d,w)</title><style>{style()}</style></head><body>", "<h1>Bounds of A(n,d) and A(n,d,w)</h1>",
+                 "<p>A(n,d) is the greatest number of binary words of length n of which each two differ in at least d places; A(n,d,w) is the same "
+                 "for words of weight w. Each bound here is the best that the rules of the table give from the pieces of evidence below. It was "
+                 "written by a program that is proved; this page only shows it, and is not.</p>")
+        self.put('<nav aria-label="Contents"><a href="#plain">A(n,d)</a>' + "".join(f'<a href="#weight{d}">A(n,{d},w)</a>' for d in table.EVEN)
+                 + '<a href="#odd">odd d</a><a href="#rules">Rules</a><a href="#pieces">Pieces</a><a href="#totals">Totals</a></nav>')
+        self.put('<form class="tools" id="go" hidden><label>go to <input name="entry" placeholder="24 8 8" autocomplete="off"></label> <button>go</button> '
+                 '<button type="button" id="shade" hidden>light or dark</button> <output></output></form>')
+        self.put(KEY)
+        for command, reply in self.held.refused:
+            self.put(f"<p><strong>Not on this page:</strong> {html.escape(' '.join(command.words))} was answered {html.escape(reply)}.</p>")
 
     def text(self):
         """The whole page."""
-        plain, weighted = shown_plain(), {d: shown_weighted(d) for d in table.EVEN}
-        self.anchors = {f"a{anchor(e)}" for e in plain + [e for es in weighted.values() for e in es] if not is_trivial(e)}
-        self.put("<!DOCTYPE html>", '<html lang="en"><head><meta charset="utf-8"><meta name="viewport" content="width=device-width, initial-scale=1">',
-                 f"<title>Bounds of A(n,d) and A(n,d,w)</title><style>{STYLE}</style></head><body>", "<h1>Bounds of A(n,d) and A(n,d,w)</h1>",
-                 "<p>A(n,d) is the greatest number of binary words of length n of which each two differ in at least d places; A(n,d,w) is the same "
-                 "for words of weight w. Each bound here is the best that the rules of the table give from the pieces of evidence below. It was "
-                 "written by a program that is proved; this page only shows it, and is not. A(n−1,d−1) = A(n,d) for even d, so odd distances "
-                 "are left out.</p>")
-        self.put('<nav aria-label="Contents"><a href="#plain">A(n,d)</a>' + "".join(f'<a href="#weight{d}">A(n,{d},w)</a>' for d in table.EVEN)
-                 + '<a href="#pieces">Pieces</a><a href="#totals">Totals</a></nav>')
-        self.put('<p class="key"><span><span class="equal">256</span>exact</span> <span><span class="close">1024<br>1100</span>close: the upper bound '
-                 f'is at most {round(100 * CLOSE - 100)}% above the lower</span> <span><span class="wide">20<br>40</span>wide</span></p>')
-        for command, reply in self.held.refused:
-            self.put(f"<p><strong>Not on this page:</strong> {html.escape(' '.join(command.words))} was answered {html.escape(reply)}.</p>")
+        self.head()
         self.totals()
-        self.put('<h2 id="plain">A(n,d)</h2>')
-        self.grid("n \\ d", "Table of A(n,d) for even d", table.EVEN, [(n, [(n, d) for d in table.EVEN]) for n in table.LENGTHS])
-        self.folded("A(n,d)", plain)
+        self.plain("plain", "A(n,d) for even d", ["<p>A(n−1,d−1) = A(n,d) for even d: odd distances stand at the end.</p>"], table.EVEN)
         for d in table.EVEN:
-            self.put(f'<h2 id="weight{d}">A(n,{d},w)</h2>')
-            weights = range(d // 2, 15)
-            self.grid("n \\ w", f"Table of A(n,{d},w)", weights,
-                      [(n, [(n, d, w) if w <= n // 2 else None for w in weights]) for n in table.LENGTHS if n >= d])
-            self.folded(f"A(n,{d},w)", weighted[d])
+            self.weighted(d)
+        self.plain("odd", "A(n,d) for odd d", [], ODD)
+        self.rules()
         self.pieces()
-        self.put(f"<script>{SCRIPT}</script></body></html>")
-        return "\n".join(self.out) + "\n"
-
-    def folded(self, name, entries):
-        """The derivations of a table, folded."""
-        self.put(f"<details><summary>Derivations of {name}</summary>")
-        for entry in entries:
-            if not is_trivial(entry):
-                self.derivation(entry)
-        self.put("</details>")
+        self.put(f"<script>{(HERE / 'page.js').read_text('utf-8')}</script></body></html>")
+        return "\n".join(line for line in self.out if line) + "\n"
 
 
-def rows(held):
-    """The bounds of all entries with what they rest on, in the order of the table."""
-    for entry in sorted(held.bounds, key=lambda e: (len(e), e)):
-        low, high = held.bounds[entry]
-        n, d, w = (*entry, None)[:3]
-        ids = {side: held.derivations[side, entry].ids for side in ("lower", "upper") if (side, entry) in held.derivations}
-        yield {"n": n, "d": d, "w": w, "lower": low, "upper": high, **{f"{side}_rests_on": found for side, found in ids.items()}}
+def beside(path):
+    """How a page at standard output links to a file: by its name alone, since they lie in one folder."""
+    return Path(path).name
 
 
-def write_csv(path, held):
-    with open(path, "w", newline="", encoding="utf-8") as file:
-        out = csv.writer(file)
-        out.writerow(["n", "d", "w", "lower", "upper"])
-        out.writerows([row["n"], row["d"], "" if row["w"] is None else row["w"], row["lower"], row["upper"]] for row in rows(held))
-
-
-def write_json(path, held):
-    pieces = [{"id": p.id, "kind": p.kind, "entry": p.entry, "size": p.size, "parts": p.parts, "sources": p.sources} for p in held.pieces.values()]
-    whole = {"session_sha256": held.session_hash, "commit": table.commit(), "toolchain": table.toolchain(), "pieces": pieces, "entries": list(rows(held))}
-    with open(path, "w", encoding="utf-8") as file:
-        json.dump(whole, file, ensure_ascii=False, separators=(",", ":"))
-        file.write("\n")
+def write_words(folder, held):
+    """Writes the words of codes, a file each, and gives the names under which the page links to them."""
+    Path(folder).mkdir(parents=True, exist_ok=True)
+    names = {}
+    for name, n, words in words_of_pieces.codes(held.pieces.values(), MOST_WORDS):
+        (Path(folder) / f"{name}.txt").write_text("".join(f"{word:0{n}b}\n" for word in words))
+        names[name] = f"{beside(folder)}/{name}.txt"
+    return names
 
 
 def main():
     parser = argparse.ArgumentParser(description=__doc__, formatter_class=argparse.RawDescriptionHelpFormatter)
     parser.add_argument("sessions", nargs="+", help="the library")
-    parser.add_argument("--csv", help="a file for the bounds of all entries as comma-separated values")
-    parser.add_argument("--json", help="a file for the same with the pieces, as JSON")
+    parser.add_argument("--csv", help="a file for all entries as comma-separated values")
+    parser.add_argument("--json", help="a file for all entries, with their derivations and the documents of the pieces, as JSON")
+    parser.add_argument("--schema", help="a file for the schema of the JSON file")
+    parser.add_argument("--words", help="a folder for the words of the codes")
     parser.add_argument("--without-derivations", action="store_true", help="leave the derivations out")
     options = parser.parse_args()
     try:
-        entries = shown_plain() + [entry for d in table.EVEN for entry in shown_weighted(d)]
-        asked = [] if options.without_derivations else [f"explain {side} {' '.join(map(str, entry))}" for entry in entries if not is_trivial(entry)
-                                                        for side in ("lower", "upper")]
+        entries = table.entries() if options.csv or options.json else [entry for entry in shown() if not is_trivial(entry)]
+        asked = [] if options.without_derivations else [f"explain {side} {' '.join(map(str, entry))}" for entry in entries for side in ("lower", "upper")]
         held = table.held(table.read_sessions(options.sessions), table.ask_all() + asked)
-        text = Page(held).text()
+        names = [beside(path) for path in (options.csv, options.json, options.schema) if path]
+        text = Page(held, names, write_words(options.words, held) if options.words else None).text()
         if options.csv:
-            write_csv(options.csv, held)
+            table_data.write_csv(options.csv, held)
         if options.json:
-            write_json(options.json, held)
-        sys.stdout.write(text)
+            table_data.write_json(options.json, held)
+        if options.schema:
+            Path(options.schema).write_bytes((HERE / "table.schema.json").read_bytes())
+        sys.stdout.buffer.write(text.encode("utf-8", "surrogateescape"))
     except (Refusal, OSError) as fault:
         sys.exit(f"page: refused: {fault}")
     for command, reply in held.refused:

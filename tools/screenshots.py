@@ -5,7 +5,7 @@
     tools/screenshots.py table.html FOLDER [VIEW ..]
 
 FOLDER gets PNG files: the page on a desktop and a phone, at its top and where a cell is linked to, with a derivation open, with the keyboard's
-focus, as readers see it who don't tell red or green apart, and on paper. Said, and then the status is 1: a page wider than its window, text
+focus, in the dark, as readers see it who don't tell red or green apart, and on paper. Said, and then the status is 1: a page wider than its window, text
 whose contrast to its ground is below 4.5, a link's end that a header hides, a focus without an outline. Wants Chromium; without one nothing is done."""
 
 import base64
@@ -19,7 +19,7 @@ from pathlib import Path
 
 DESKTOP, PHONE, PAPER = (1280, 900, 1, False), (390, 844, 2, True), (740, 1000, 1, False)
 
-# Each: its name, the window, where the page is opened at, the medium, the vision, and what is done before the picture.
+# Each: its name, the window, where the page is opened at, the medium or `dark`, the vision, and what is done before the picture.
 VIEWS = [
     ("desktop", DESKTOP, "", "", "none", ""),
     ("desktop-cell", DESKTOP, "#a16-6", "", "none", ""),
@@ -30,7 +30,15 @@ VIEWS = [
     ("desktop-deuteranopia", DESKTOP, "#plain", "", "deuteranopia", ""),
     ("desktop-tritanopia", DESKTOP, "#plain", "", "tritanopia", ""),
     ("desktop-grey", DESKTOP, "#plain", "", "achromatopsia", ""),
+    ("desktop-dark", DESKTOP, "", "dark", "none", ""),
+    ("desktop-dark-cell", DESKTOP, "#a24-8-16", "dark", "none", ""),
+    ("desktop-dark-derivation", DESKTOP, "#b24-8-8", "dark", "none", ""),
+    ("desktop-dark-chosen", DESKTOP, "#plain", "", "none", "document.getElementById('shade').click()"),
+    ("desktop-piece", DESKTOP, "#p-golay", "", "none", "document.querySelector('#p-golay details').open = true"),
+    ("desktop-arrows", DESKTOP, "", "", "none", "document.querySelector('[name=entry]').value = '16 6'; document.getElementById('go').requestSubmit();"
+     " for (const key of ['ArrowRight', 'ArrowRight', 'ArrowUp']) document.activeElement.dispatchEvent(new KeyboardEvent('keydown', {key, bubbles: true}))"),
     ("phone", PHONE, "", "", "none", ""),
+    ("phone-dark", PHONE, "#a15-5", "dark", "none", ""),
     ("phone-cell", PHONE, "#a16-6", "", "none", ""),
     ("phone-far-cell", PHONE, "#a28-6-14", "", "none", ""),
     ("phone-derivation", PHONE, "#b24-8-8", "", "none", ""),
@@ -116,7 +124,8 @@ def show(browser, page, view, folder):
     """Makes a view's picture, and gives what is wrong in it."""
     name, (width, height, scale, mobile), place, medium, vision, before = view
     browser.ask("Emulation.setDeviceMetricsOverride", width=width, height=height, deviceScaleFactor=scale, mobile=mobile)
-    browser.ask("Emulation.setEmulatedMedia", media=medium)
+    shade = "dark" if medium == "dark" else "light"
+    browser.ask("Emulation.setEmulatedMedia", media=medium.replace("dark", ""), features=[{"name": "prefers-color-scheme", "value": shade}])
     browser.ask("Emulation.setEmulatedVisionDeficiency", type=vision)
     browser.ask("Page.navigate", url="about:blank")
     browser.ask("Page.navigate", url=page.resolve().as_uri() + place)

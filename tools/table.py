@@ -1,18 +1,24 @@
-"""What the program's table holds over the pieces of a session: bounds, the pieces with their sources, and what a bound rests on.
+"""What the program's table holds over the pieces of a session: bounds, the pieces with their documents and sources, and what a bound rests on.
 
-Used by page.py and cite.py, which only show it: each number here is one that the program wrote."""
+Used by page.py, table_data.py and cite.py, which only show it: each number here is one that the program wrote, but for those that
+tools/published.json remembers as published. The sentences of the rules are in tools/rules.json, which a test compares with docs/RULES.md."""
 
 import hashlib
+import json
 import re
-import subprocess
 from dataclasses import dataclass, field
+from functools import cache
+from pathlib import Path
 
-import sessions
-from sessions import Refusal
+from code_tables import program, sessions
+from code_tables.sessions import Refusal
 
-LENGTHS = range(1, 29)
-DISTANCES = range(3, 29)
-EVEN = range(4, 29, 2)
+LAST = 28
+LENGTHS = range(1, LAST + 1)
+DISTANCES = range(3, LAST + 1)
+EVEN = range(4, LAST + 1, 2)
+# How many explanations are asked for in one session: they are as long as the documents that they rest on.
+AT_ONCE = 1500
 
 
 @dataclass
@@ -21,16 +27,25 @@ class Derivation:
     ids: list
     lines: list
 
+    @property
+    def rule(self):
+        """The rule of its last line."""
+        words = self.lines[-1].split(" ")
+        return words[words.index("by") + 1]
+
 
 @dataclass
 class Piece:
-    """A piece of evidence: its id and kind, its entry, the number of words of its code, the ids of its parts, and the remarks above it."""
+    """A piece of evidence: its id and kind, its entry, the number of words of its code, the ids of its parts, the lines that say where it is
+    from (what its document cites, or the remarks above it), its title and its document."""
     id: str
     kind: str
     entry: tuple
     size: int | None
     parts: list
     sources: list
+    title: str
+    document: str
 
 
 @dataclass
@@ -43,6 +58,54 @@ class Held:
     session_hash: str = ""
 
 
+def entries():
+    """All entries of the table, in order: those without weight first."""
+    return [(n, d) for n in LENGTHS for d in DISTANCES] + [(n, d, w) for n in LENGTHS for d in EVEN for w in range(n + 1)]
+
+
+def is_trivial(entry):
+    """Whether an entry is 1 because no two words are far enough apart."""
+    n, d, w = (*entry, None)[:3]
+    return d > n if w is None else d > 2 * min(w, n - w)
+
+
+@cache
+def rules():
+    """The rows of the rules, as tools/rules.json has them, by rule."""
+    found = {}
+    for row in json.loads(Path(__file__).with_name("rules.json").read_text("utf-8")):
+        found.setdefault(row["rule"], []).append(row)
+    return found
+
+
+def rule_row(rule, entry):
+    """What a rule says at an entry: where, what and why. Two rules say it in several cases."""
+    n, d = entry[:2]
+    at = {"L8": int(d > 4), "U2": 2 * (d % 2) + int(n == 2 * d + d % 2)}.get(rule, 0)
+    return rules()[rule][at]
+
+
+@cache
+def published():
+    """The bounds that are remembered as published, by entry: two, or with a weight the lower one alone."""
+    rows = json.loads(Path(__file__).with_name("published.json").read_text("utf-8"))
+    return {(n, d): bounds for n, d, *bounds in rows["plain"]} | {(n, d, w): bounds for n, d, w, *bounds in rows["weight"]}
+
+
+def published_at(entry):
+    """What is remembered as published at an entry, or at the one that is equal to it by a parity digit or by turning each digit."""
+    if len(entry) == 2:
+        n, d = entry
+        return published().get((n + d % 2, d + d % 2))
+    n, d, w = entry
+    return published().get((n, d, min(w, n - w)))
+
+
+def compared(here, there):
+    """How a number stands to another, in a word."""
+    return "equal" if here == there else "below" if here < there else "above"
+
+
 def read_sessions(paths):
     """The texts of sessions, one behind the other."""
     return "".join(text if text.endswith("\n") else text + "\n" for text in map(sessions.read_text, paths))
@@ -50,7 +113,7 @@ def read_sessions(paths):
 
 def ask_all():
     """The commands that show each entry of the table."""
-    return [f"table {d}" for d in DISTANCES] + [f"table {d} {w}" for d in EVEN for w in range(29)]
+    return [f"table {d}" for d in DISTANCES] + [f"table {d} {w}" for d in EVEN for w in range(LAST + 1)]
 
 
 def held(text, more):
@@ -58,26 +121,46 @@ def held(text, more):
     before = sessions.commands(text)
     if any(command.document is None and command.words[0] == "submit" for command in before):
         raise Refusal("the session ends within a document")
-    whole = text + "".join(f"{command}\n" for command in [*more, "ledger"])
     found = Held(session_hash=hashlib.sha256(text.encode("utf-8", "surrogateescape")).hexdigest())
-    answered = list(sessions.replies(sessions.commands(whole), sessions.run(whole)))
-    if any(not reply for _, reply in answered):
-        raise Refusal("the program's replies end before the session does")
+    asked = [command for command in more if not command.startswith("explain ")]
+    explained = [command for command in more if command.startswith("explain ")]
+    first, *later = [explained[at:at + AT_ONCE] for at in range(0, len(explained), AT_ONCE)] or [[]]
+    answered = list(answers(with_commands(text, [*asked, *first, "ledger"])))
     submitted = {}
     for command, reply in answered[:len(before)]:
         if reply[0].startswith("accepted "):
             submitted[command.id] = command
         elif reply[0].startswith("refused ") and command.words != ["ledger"]:
             found.refused.append((command, reply[0]))
-    for command, reply in answered[len(before):-1]:
+    for line in answered.pop()[1][:-1]:
+        piece = piece_of(line, submitted)
+        found.pieces[piece.id] = piece
+    take(found, answered[len(before):])
+    for commands in later:
+        take(found, list(answers(with_commands(text, commands)))[len(before):])
+    return found
+
+
+def with_commands(text, commands):
+    """A session with more commands."""
+    return text + "".join(f"{command}\n" for command in commands)
+
+
+def take(found, answered):
+    """Takes the bounds and the derivations that answer commands."""
+    for command, reply in answered:
         if command.words[0] == "explain":
             take_explanation(found, command, reply)
         else:
             found.bounds.update((entry, (low, high)) for entry, low, high in map(sessions.bounds_of, reply))
-    for line in answered[-1][1][:-1]:
-        piece = piece_of(line, submitted)
-        found.pieces[piece.id] = piece
-    return found
+
+
+def answers(text):
+    """Each command of a session with the program's reply."""
+    for command, reply in sessions.replies(sessions.commands(text), program.run(text)):
+        if not reply:
+            raise Refusal("the program's replies end before the session does")
+        yield command, reply
 
 
 def take_explanation(found, command, reply):
@@ -91,11 +174,28 @@ def take_explanation(found, command, reply):
 def piece_of(line, submitted):
     """The piece of a line of `ledger`, with what stands above its submission."""
     told = re.fullmatch(r"(\S+) (\S+) ((?:\d+ )*\d+?)(?: size (\d+))?", line)
-    fields = submitted[told[1]].fields
+    command = submitted[told[1]]
+    fields = command.fields
     parts = [fields[name] for name in ("part", "other") if name in fields] + [name for pair in fields.get("pairs", []) for name in pair]
     cites = fields.get("cites", [])
-    sources = ([cites] if isinstance(cites, str) else list(cites)) or list(submitted[told[1]].remarks)
-    return Piece(told[1], told[2], tuple(map(int, told[3].split())), int(told[4]) if told[4] else None, list(dict.fromkeys(parts)), sources)
+    sources = ([cites] if isinstance(cites, str) else list(cites)) or list(command.remarks)
+    title = fields.get("title") or first_sentence(" ".join(command.remarks or sources)) or told[1]
+    return Piece(told[1], told[2], tuple(map(int, told[3].split())), int(told[4]) if told[4] else None, list(dict.fromkeys(parts)), sources, title,
+                 command.document)
+
+
+def first_sentence(text):
+    """A text up to the first full stop, colon or semicolon that no bracket encloses and a blank or nothing follows.
+
+    >>> first_sentence("Golay's code (Witt 1938; Golay 1949): twelve shifts.")
+    "Golay's code (Witt 1938; Golay 1949)"
+    """
+    depth = 0
+    for at, sign in enumerate(text):
+        depth += (sign == "(") - (sign == ")")
+        if depth <= 0 and sign in ".:;" and text[at + 1:at + 2] in ("", " "):
+            return text[:at]
+    return text
 
 
 def resting(found, ids):
@@ -107,25 +207,3 @@ def resting(found, ids):
             wanted.add(name)
             left += found.pieces[name].parts
     return [piece for piece in found.pieces.values() if piece.id in wanted]
-
-
-def commit():
-    """The commit of the program's sources, or that it is unknown."""
-    def git(*words):
-        return subprocess.run(["git", "-C", sessions.TOP, *words], capture_output=True, text=True)
-    try:
-        head = git("rev-parse", "HEAD")
-    except OSError:
-        return "unknown"
-    if head.returncode:
-        return "unknown"
-    changed = git("status", "--porcelain", "--untracked-files=no", "--", "crates", "crates.txt").stdout
-    return head.stdout.strip() + (", with changes" if changed else "")
-
-
-def toolchain():
-    """The toolchain that proved the program and the hash of its logic, or that it is unknown."""
-    try:
-        return subprocess.run(["rt", "version"], capture_output=True, text=True).stdout.strip() or "unknown"
-    except OSError:
-        return "unknown"
