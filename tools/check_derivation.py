@@ -29,6 +29,7 @@ class No(Exception):
 
 
 def require(condition, why="form"):
+    """Fails for a reason, that the line has no form where none is given, unless a condition holds."""
     if not condition:
         raise No(why)
 
@@ -69,20 +70,24 @@ def same(*entry):
 
 
 def plotkin(n, d):
+    """Plotkin's bound, of an odd distance that of one digit and one distance more; where lengths are twice the distance, 4d."""
     n, d = n + d % 2, d + d % 2
     return number(2 * (d // (2 * d - n))) if d <= n < 2 * d else n == 2 * d and number(4 * d)
 
 
 def johnson_bound(n, d):
+    """Johnson's bound of an odd distance, from the number of words at that distance of a word that are close to each other no more than it."""
     half, most = (d + 1) // 2, n // ((d + 1) // 2)
 
     def bound(u):
+        """The bound from the premise's value."""
         rest = comb(n, half) - comb(d, half - 1) * u
         return 2 ** n * most // (most * ball(n, half - 1) + rest) if rest > 0 else None
     return d % 2 and d <= n and ([(n, d + 1, d)], bound)
 
 
 def sum_class(n, d, w, r):
+    """The number of words of weight w whose places, from 0 on, have a sum that leaves r modulo n."""
     count = [[1] + [0] * (n - 1)] + [[0] * n for _ in range(w)]
     for place in range(n):
         for k in range(w, 0, -1):
@@ -91,6 +96,7 @@ def sum_class(n, d, w, r):
 
 
 def column_pairs(n, d, w):
+    """One less than the least number m of words for which the pairs of ones in columns are too many."""
     for m in range(2, 1001 if 2 * w >= d else 0):
         q, r = divmod(w * m, n)
         if n * q * (q - 1) + 2 * q * r > (w - d // 2) * m * (m - 1):
@@ -103,6 +109,7 @@ def dual_bound(piece):
     (n, d), charged = piece.entry, [(i, y) for i, y in piece.y.items() if y]
 
     def bound(*values):
+        """The bound from the premises' values."""
         products = [(2 * i >= 2 * n - d, y * u) for (i, y), u in zip(charged, values)]
         far, near = ([p for is_far, p in products if is_far == side] for side in (True, False))
         return (piece.f(0) + max(far, default=0) + sum(near)) // piece.c[0]
@@ -181,18 +188,22 @@ ID = re.compile("[a-z][a-z0-9_-]{0,31}")
 
 
 def is_number(value, least, most=2 ** 63):
+    """Whether a value is a whole number of a range."""
     return type(value) is int and least <= value <= most
 
 
 def is_list(value, fits):
+    """Whether a value is a list of values that fit."""
     return isinstance(value, list) and all(map(fits, value))
 
 
 def is_texts(value):
+    """Whether a value is a list of texts."""
     return is_list(value, lambda text: isinstance(text, str))
 
 
 def is_id(value):
+    """Whether a value is the text of an id."""
     return isinstance(value, str) and bool(ID.fullmatch(value))
 
 
@@ -207,6 +218,7 @@ class Piece:
     """A piece of evidence: read from its document, then checked over the pieces before it."""
 
     def __init__(self, document):
+        """Reads a document, and refuses the first fault of its form."""
         if len(document) > 4194304:
             raise No(f"bytes {len(document)}")
         try:
@@ -239,19 +251,23 @@ class Piece:
         return self.table[name]
 
     def read_words(self):
+        """The fields of words, or of cosets."""
         names = ("basis", "representatives") if self.kind == "cosets" else ("words",)
         self.lists = [(self.field(name, is_texts), self.n) for name in names]
 
     def read_partition(self):
+        """The fields of a partition."""
         self.between = self.field("d1", lambda v: is_number(v, 1, self.d))
         self.lists = [(words, self.n) for words in self.field("classes", lambda v: is_list(v, is_texts))]
 
     def read_product(self):
+        """The fields of a product."""
         pairs = self.field("pairs", lambda v: is_list(v, lambda p: is_list(p, is_id) and len(p) == 2)
                            and 1 <= len(v) <= (1 if self.w is None else 29))
         self.parts = [name for pair in pairs for name in pair]
 
     def read_dual(self):
+        """The fields of a dual, with a weight or without."""
         degree = self.n if self.w is None else min(self.w, self.n - self.w)
         even = self.kind == "dual" and self.field("even", lambda v: v is False or v is True and self.d % 2 == 0, default=False)
         self.c = self.field("c", lambda v: is_list(v, lambda x: is_number(x, 0)) and 1 <= len(v) <= degree + 1)
@@ -261,6 +277,7 @@ class Piece:
                                                             and p[0] in self.range) and [i for i, _ in v] == sorted({i for i, _ in v}), []))
 
     def read_build(self):
+        """The fields of a build."""
         self.op = op = self.field("op", lambda v: isinstance(v, str) and v in OPERATIONS)
         require(not (op in ("lengthen", "append_one", "parity", "juxtapose") and self.n < 2 or op == "uuv" and self.n % 2), "field n")
         require(op != "select" if self.w is None else op not in ("puncture", "translate", "uuv"), "field w")
@@ -287,32 +304,34 @@ class Piece:
         getattr(self, "check_" + self.kind.removeprefix("j"))(*([parts] if parts else []))
 
     def check_words(self):
+        """Refuses words that are not as stated."""
         require(0 < len(self.numbers[0]) <= 16384, f"size {len(self.numbers[0])}")
-        check_list(self.numbers[0], self.w, self.d, lambda i, j: self.d)
+        check_list(self.n, self.numbers[0], self.w, self.d)
         self.code, self.size = sorted(self.numbers[0]), len(self.numbers[0])
 
     def check_cosets(self):
+        """Refuses cosets that are not as stated. The first word of a pair that is too close may be taken to be a representative."""
         basis, self.chosen = self.numbers
         count, k = len(self.chosen), len(basis)
         require(k <= 28, f"size {k}")
         require(0 < count <= 4096, f"size {count}")
         require(count * (count + 1) // 2 << k <= 2 ** 24, f"work {count * (count + 1) // 2 << k}")
-        self.sums, self.size = [0], count << k
-        for word in basis:
-            self.sums += [word ^ other for other in self.sums]
+        self.size = count << k
+        near = Near(sum_planes(self.n, basis, self.chosen), self.size)
         for a, one in enumerate(self.chosen):
-            for b in range(a, count):
-                for s, distance in enumerate(map(int.bit_count, map((one ^ self.chosen[b]).__xor__, self.sums))):
-                    require(distance >= self.d or a == b and s == 0, f"close {a << k} {(b << k) + s} {distance}")
+            found = near.first_below(one, self.d, (a << k) + 1)
+            require(not found, "close {} {} {}".format(a << k, *found) if found else "")
 
     def check_partition(self):
+        """Refuses a partition that is not as stated."""
         words, of = [word for one in self.numbers for word in one], [i for i, one in enumerate(self.numbers) for _ in one]
         require(0 < len(self.numbers) <= 4096, f"size {len(self.numbers)}")
         require(all(self.numbers), "size 0")
         require(0 < len(words) <= 16384, f"size {len(words)}")
-        check_list(words, self.w, self.d, lambda i, j: self.d if of[i] == of[j] else self.between, of)
+        check_list(self.n, words, self.w, self.d, self.between, of)
 
     def check_product(self, parts):
+        """Refuses a product that its parts do not make."""
         for at, part in enumerate(parts):
             first = parts[at - at % 2]
             fits = part.kind == "partition" and (part.n + first.n == self.n if at % 2 else part.n == parts[0].n)
@@ -325,6 +344,7 @@ class Piece:
         require(min(distances) >= self.d, f"short {min(distances)} {self.d}")
 
     def check_dual(self):
+        """Refuses a dual that misses an inequality."""
         require(self.c[0], "lead")
         for i in self.range:
             require(self.f(i) <= self.y.get(i, 0), f"above {i} {self.f(i)} {self.y.get(i, 0)}")
@@ -332,7 +352,10 @@ class Piece:
     def words(self):
         """The words of the piece's code, ascending."""
         if self.kind == "cosets":
-            return sorted(a ^ s for s in self.sums for a in self.chosen)
+            sums = [0]
+            for word in self.numbers[0]:
+                sums += [word ^ other for other in sums]
+            return sorted(a ^ s for s in sums for a in self.chosen)
         if self.kind == "product":
             return sorted(a << y.n | b for x, y in self.pairs for one, other in zip(x.numbers, y.numbers) for a in one for b in other)
         return self.code
@@ -349,6 +372,7 @@ class Piece:
         return self.w == {"append_one": part.w + 1, "parity": up(part.w, 2) * 2, "complement": self.n - part.w}.get(self.op, part.w - ones)
 
     def check_build(self, parts):
+        """Refuses a build that its parts do not make, and builds its code."""
         for at, part in enumerate(parts):
             require(part.kind in CODES and self.fits(part, parts[0] if at else None), f"part {self.parts[at]}")
         d, e, sizes = parts[0].d, parts[-1].d, [part.size for part in parts]
@@ -366,10 +390,17 @@ class Piece:
         """The words of the construction."""
         code = codes[0]
         if self.op in ("puncture", "shorten"):
-            digits = self.lists[0][0][0] if self.op == "shorten" else None
-            texts = [f"{x:0{length}b}" for x in code]
-            return {int("".join(b for p, b in enumerate(x) if p not in self.places), 2) for x in texts
-                    if digits is None or "".join(x[p] for p in self.places) == digits}
+            left = [p for p in range(length) if p not in self.places]
+            runs = [(min(run), len(run)) for run in consecutive(left)]
+            at = sum(1 << length - 1 - p for p in self.places)
+            digits = self.lists[0][0][0] if self.op == "shorten" else ""
+            wanted = sum(1 << length - 1 - p for p, digit in zip(self.places, digits) if digit == "1")
+            chosen = [x for x in code if x & at == wanted] if digits else code
+            parts = []
+            for first, size in runs:
+                shift, mask, behind = length - first - size, (1 << size) - 1, sum(p >= first + size for p in left)
+                parts.append([(x >> shift & mask) << behind for x in chosen])
+            return set(map(sum, zip(*parts)))
         if self.op in ("translate", "complement", "select"):
             by = 2 ** self.n - 1 if self.op == "complement" else self.numbers[0][0]
             return [x ^ by for x in code if self.op != "select" or (x ^ by).bit_count() == self.w]
@@ -383,18 +414,96 @@ class Piece:
         }[self.op]()
 
 
-def check_list(words, w, d, need, classes=None):
-    """Refuses the first word of another weight, the first pair of equal words, the first pair that is closer than need be, d at most."""
+def consecutive(places):
+    """Ascending places in runs of neighbours."""
+    runs = []
+    for place in places:
+        if runs and runs[-1][-1] == place - 1:
+            runs[-1].append(place)
+        else:
+            runs.append([place])
+    return runs
+
+
+def check_list(n, words, w, d, between=None, classes=None):
+    """Refuses the first word of another weight, the first pair of equal words, the first pair that is too close: d is the distance within a
+    class, and that of all pairs where there are no classes, and `between` that of words of two classes."""
     for i, word in enumerate(words):
         require(w is None or word.bit_count() == w, f"weight {i}")
     last = {word: i for i, word in enumerate(words)}
     for i, word in enumerate(words):
         require(last[word] == i, f"repeated {i} {words.index(word, i + 1) if last[word] != i else i}")
+    near, behind = Near(sum_planes(n, [], words), len(words)), {}
+    if classes:
+        behind = {of: i + 1 for i, of in enumerate(classes)}
     for i, word in enumerate(words):
-        distances = list(map(int.bit_count, map(word.__xor__, words[i + 1:])))
-        for j, distance in enumerate(distances if min(distances, default=d) < d else [], i + 1):
-            if distance < need(i, j):
-                raise No(f"close {i} {j} {distance}" + (f" classes {classes[i]} {classes[j]} need {need(i, j)}" if classes else ""))
+        stop = behind[classes[i]] if classes else len(words)
+        found = near.first_below(word, d, i + 1, stop)
+        if found:
+            raise No("close {} {} {}".format(i, *found) + (f" classes {classes[i]} {classes[i]} need {d}" if classes else ""))
+        found = near.first_below(word, between, stop) if classes else None
+        if found:
+            raise No("close {} {} {}".format(i, *found) + f" classes {classes[i]} {classes[found[0]]} need {between}")
+
+
+# ---- distances of many words at once: a plane is a number that has a bit for each word, and a list of planes, lowest first, a number for each
+def sum_planes(n, basis, chosen):
+    """The planes of the digits, lowest first, of the sums of each chosen word with all sums of the basis, those of one word together."""
+    planes, count = [0] * n, 1
+    for word in basis:
+        every = (1 << count) - 1
+        planes = [plane | (plane ^ (every if word >> p & 1 else 0)) << count for p, plane in enumerate(planes)]
+        count *= 2
+    if len(chosen) == 1:
+        return [plane ^ ((1 << count) - 1 if chosen[0] >> p & 1 else 0) for p, plane in enumerate(planes)]
+    texts = [(f"{plane:0{count}b}", f"{plane ^ (1 << count) - 1:0{count}b}") for plane in planes]
+    return [int("".join(texts[p][word >> p & 1] for word in reversed(chosen)), 2) for p in range(n)]
+
+
+def added(a, b):
+    """The sums of numbers."""
+    found, carry = [], 0
+    for p in range(max(len(a), len(b))):
+        x, y = a[p] if p < len(a) else 0, b[p] if p < len(b) else 0
+        both = x ^ y
+        found.append(both ^ carry)
+        carry = x & y | both & carry
+    return found + [carry] if carry else found
+
+
+class Near:
+    """Finds which of many words are near to a word. Distances are added up from those in parts of at most ten digits, which are kept."""
+
+    def __init__(self, planes, count):
+        """Takes the planes of the words' digits, and their number."""
+        self.every, self.kept = (1 << count) - 1, {}
+        self.parts = [(p, planes[p:p + 10]) for p in range(0, len(planes), 10)]
+
+    def part(self, first, planes, digits):
+        """The distances from digits in a part."""
+        if (first, digits) not in self.kept:
+            found = []
+            for p, plane in enumerate(planes):
+                found = added(found, [plane ^ (self.every if digits >> p & 1 else 0)])
+            self.kept[first, digits] = found
+        return self.kept[first, digits]
+
+    def first_below(self, word, least, start, stop=None):
+        """The first place from a start on, before a stop, whose word has a distance below the least, with that; or nothing."""
+        distances = []
+        for first, planes in self.parts:
+            distances = added(distances, self.part(first, planes, word >> first & 1023))
+        below = 0
+        for p in range(max(len(distances), least.bit_length())):
+            zeros = self.every ^ distances[p] if p < len(distances) else self.every
+            below = below | zeros if least >> p & 1 else below & zeros
+        below >>= start
+        if stop is not None:
+            below &= (1 << stop - start) - 1
+        if not below:
+            return None
+        place = start + (below & -below).bit_length() - 1
+        return place, sum((plane >> place & 1) << p for p, plane in enumerate(distances))
 
 
 # ---- the document

@@ -1,5 +1,7 @@
 """Derivations are checked as the program's `verify` checks them."""
 
+import random
+import time
 import tomllib
 import unittest
 
@@ -74,6 +76,19 @@ VERDICTS = [
 ]
 
 
+def span(basis):
+    """All sums of words."""
+    sums = [0]
+    for word in basis:
+        sums += [word ^ other for other in sums]
+    return sums
+
+
+def texts(words, n):
+    """A list of words as documents write it."""
+    return "[" + ", ".join(f"'{word:0{n}b}'" for word in words) + "]"
+
+
 class CheckDerivation(unittest.TestCase):
     def test_verdicts(self):
         for lines, verdict in VERDICTS:
@@ -104,6 +119,49 @@ class CheckDerivation(unittest.TestCase):
                                (partition + "line 1 lower 4 4 value 6 by L10 p4", "no 8 rule")]:
             with self.subTest(lines=lines):
                 self.assertEqual(check_derivation.verdict(f"derivation\n{lines}\ndone\n".encode()), verdict)
+
+    def test_large_evidence_is_checked_in_time(self):
+        checks = [x for x in range(3, 64) if x.bit_count() > 1]
+        basis = [1 << i | checks[i] << 14 for i in range(14)]
+        words, long = span(basis), [1 << i | checks[i] << 22 for i in range(22)]
+        random.Random(1).shuffle(words)
+        for keys, n, size in [(f"kind = 'words'\nwords = {texts(words, 20)}", 20, 16384),
+                              (f"kind = 'cosets'\nbasis = []\nrepresentatives = {texts(words[:4096], 20)}", 20, 4096),
+                              (f"kind = 'cosets'\nbasis = {texts(long, 28)}\nrepresentatives = {texts([0], 28)}", 28, 2 ** 22),
+                              (f"kind = 'partition'\nd1 = 1\nclasses = [{texts(words[:2000], 20)}, {texts([w ^ 1 for w in words[:2000]], 20)}]", 20, None)]:
+            line = f"line 1 lower {n} 3 value {size} by L10 a" if size else f"line 1 lower {n} 3 value 2 by L2"
+            begin = time.process_time()
+            self.assertEqual(check_derivation.verdict(f"derivation\nevidence a\nn = {n}\nd = 3\n{keys}\nend\n{line}\ndone\n".encode()), "yes")
+            self.assertLess(time.process_time() - begin, 2)
+
+    def test_the_first_pair_that_is_too_close_is_that_of_all_pairs(self):
+        chance, seen = random.Random(1), set()
+        for _ in range(300):
+            n, d = chance.randrange(8, 20), chance.randrange(3, 5)
+            words = chance.sample(range(2 ** n), chance.randrange(2, 6))
+            of = sorted(chance.randrange(2) for _ in words)
+            pairs = [(i, j) for i in range(len(words)) for j in range(i + 1, len(words))]
+            near = {(i, j): (words[i] ^ words[j]).bit_count() for i, j in pairs}
+            first = next(((i, j) for i, j in pairs if near[i, j] < d), None)
+            self.check(f"kind = 'words'\nwords = {texts(words, n)}", n, d, first and "close {} {} {}".format(*first, near[first]))
+            basis = chance.sample(range(1, 2 ** n), 2)
+            sums = [word ^ other for word in words for other in span(basis)]
+            first = next(((i, j) for i in range(len(sums)) for j in range(i + 1, len(sums)) if (sums[i] ^ sums[j]).bit_count() < d), None)
+            self.check(f"kind = 'cosets'\nbasis = {texts(basis, n)}\nrepresentatives = {texts(words, n)}", n, d,
+                       first and "close {} {} {}".format(*first, (sums[first[0]] ^ sums[first[1]]).bit_count()))
+            if 0 in of and 1 in of:
+                need = {(i, j): d if of[i] == of[j] else 2 for i, j in pairs}
+                first = next(((i, j) for i, j in pairs if near[i, j] < need[i, j]), None)
+                classes = ", ".join(texts([word for word, one in zip(words, of) if one == c], n) for c in (0, 1))
+                self.check(f"kind = 'partition'\nd1 = 2\nclasses = [{classes}]", n, d, first and "close {} {} {} classes {} {} need {}".format(
+                    *first, near[first], of[first[0]], of[first[1]], need[first]))
+            seen.add(first is None)
+        self.assertEqual(seen, {True, False})
+
+    def check(self, keys, n, d, refusal):
+        """Whether the evidence is refused so, or is none."""
+        said = check_derivation.verdict(f"derivation\nevidence a\nn = {n}\nd = {d}\n{keys}\nend\nline 1 lower {n} {d} value 1 by L1\ndone\n".encode())
+        self.assertEqual(said, f"no 2 evidence {refusal}" if refusal else "yes")
 
     def test_documents_whose_verdict_is_known(self):
         for group in tomllib.loads((TOP / "crates/ct_verify_tests/data/verdicts.toml").read_text())["group"]:
