@@ -7,8 +7,10 @@ use Rattle.ct_codes.specs.declared.claim.Side.{Side}
 use Rattle.ct_codes.specs.declared.claim.Side.TheVariants.{Lower, Upper}
 use Rattle.ct_text.specs.Number.{spaced}
 use Rattle.ct_text.specs.EntryText.{entry_words}
+use Rattle.ct_rules.specs.declared.arguments.Arguments.{Arguments}
+use Rattle.ct_rules.specs.declared.arguments.Arguments.TheVariants.{Nothing, Number, Numbers, Place}
 use Rattle.ct_rules.specs.declared.rule.Rule.{Rule}
-use Rattle.ct_rules.specs.declared.rule.Rule.TheVariants.{L1, L2, L3, L4, L5, L6, L7, L8, L9, L10, L11, M1, M2, M3, M4, M5, M6, M7, M8, M9, M10, U0, U1, U2, U3, U4, U5, U6, U7, U8, U9, U10, U11, V0, V1, V2, V3, V4, V5, V6, V7, V8, V9}
+use Rattle.ct_rules.specs.Rule.{name_of, arguments_of}
 use Rattle.ct_rules.specs.Derivation.{LineValue}
 use Rattle.ct_derive.specs.Check.{numbers_at}
 use Rattle.ct_derive.specs.Derivation.{DerivationValue}
@@ -18,51 +20,16 @@ abbrev pub id_word : Option (List ℕ) → List ℕ
 id_word None = []
 id_word (Some id) = 32 ∷ id
 
--- a rule and its arguments, where the pieces have these ids
+-- the arguments of a rule, where the pieces have these ids
+abbrev pub argument_words : List (List ℕ) → Arguments → List ℕ
+argument_words ids Nothing = []
+argument_words ids (Number k) = spaced k
+argument_words ids (Numbers k m) = spaced k ++ spaced m
+argument_words ids (Place place) = id_word (slice_get ids place)
+
+-- a rule, its name before its arguments, where the pieces have these ids
 abbrev pub rule_words : List (List ℕ) → Rule → List ℕ
-rule_words ids L1 = codes "L1"
-rule_words ids L2 = codes "L2"
-rule_words ids L3 = codes "L3"
-rule_words ids L4 = codes "L4"
-rule_words ids L5 = codes "L5"
-rule_words ids L6 = codes "L6"
-rule_words ids L7 = codes "L7"
-rule_words ids L8 = codes "L8"
-rule_words ids (L9 w) = codes "L9" ++ spaced w
-rule_words ids (L10 place) = codes "L10" ++ id_word (slice_get ids place)
-rule_words ids (L11 n d) = codes "L11" ++ spaced n ++ spaced d
-rule_words ids M1 = codes "M1"
-rule_words ids M2 = codes "M2"
-rule_words ids M3 = codes "M3"
-rule_words ids M4 = codes "M4"
-rule_words ids M5 = codes "M5"
-rule_words ids M6 = codes "M6"
-rule_words ids M7 = codes "M7"
-rule_words ids M8 = codes "M8"
-rule_words ids (M9 r) = codes "M9" ++ spaced r
-rule_words ids (M10 place) = codes "M10" ++ id_word (slice_get ids place)
-rule_words ids U0 = codes "U0"
-rule_words ids U1 = codes "U1"
-rule_words ids U2 = codes "U2"
-rule_words ids U3 = codes "U3"
-rule_words ids U4 = codes "U4"
-rule_words ids U5 = codes "U5"
-rule_words ids U6 = codes "U6"
-rule_words ids U7 = codes "U7"
-rule_words ids U8 = codes "U8"
-rule_words ids U9 = codes "U9"
-rule_words ids (U10 w) = codes "U10" ++ spaced w
-rule_words ids (U11 place) = codes "U11" ++ id_word (slice_get ids place)
-rule_words ids V0 = codes "V0"
-rule_words ids V1 = codes "V1"
-rule_words ids V2 = codes "V2"
-rule_words ids V3 = codes "V3"
-rule_words ids V4 = codes "V4"
-rule_words ids V5 = codes "V5"
-rule_words ids V6 = codes "V6"
-rule_words ids V7 = codes "V7"
-rule_words ids V8 = codes "V8"
-rule_words ids (V9 place) = codes "V9" ++ id_word (slice_get ids place)
+rule_words ids r = name_of r ++ argument_words ids (arguments_of r)
 
 -- the side of a bound
 abbrev pub side_text : Side → List ℕ

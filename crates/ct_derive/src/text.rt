@@ -5,11 +5,11 @@ ghost use Rattle.std.specs.List.{flat_map};
 ghost use Rattle.ct_text.specs.Number.{spaced};
 ghost use Rattle.ct_derive.specs.Check.{numbers_at};
 ghost use Rattle.ct_derive.specs.Derivation.{AreOrdered};
-ghost use Rattle.ct_derive.specs.Text.{id_word, rule_words, side_text, claim_words, from_words, reason_words, line_text, lines_text, document_lines, evidence_text};
+ghost use Rattle.ct_derive.specs.Text.{id_word, argument_words, rule_words, side_text, claim_words, from_words, reason_words, line_text, lines_text, document_lines, evidence_text};
 
 use ct_codes::{Claim, Side};
 use ct_lines::LINE_FEED;
-use ct_rules::{Line, Rule};
+use ct_rules::{Arguments, Line, Rule, arguments_of, rule_name};
 use ct_text::{Id, put_entry_words, put_number, put_spaced};
 use std::alloc::{AllocError, Global};
 
@@ -26,80 +26,32 @@ fn put_id(text: &mut Vec<u8>, ids: &[Id], place: u32) -> Result<(), AllocError>
     }
 }
 
-/// Puts the rule and its arguments at the end of the text.
+/// Puts the arguments of a rule, each after a space, at the end of the text.
+fn put_arguments(
+    alloc: Global,
+    text: &mut Vec<u8>,
+    ids: &[Id],
+    arguments: Arguments,
+) -> Result<(), AllocError>
+    ensures { OnOk result (text.new.items ≡ text.old.items ++ argument_words ids.now arguments) }
+{
+    match arguments {
+        Arguments::Nothing => Ok(()),
+        Arguments::Number(number) => put_spaced(alloc, text, u64::from(number)),
+        Arguments::Numbers(first, second) => {
+            put_spaced(alloc, text, u64::from(first))?;
+            put_spaced(alloc, text, u64::from(second))
+        }
+        Arguments::Place(place) => put_id(text, ids, place),
+    }
+}
+
+/// Puts the name of the rule and its arguments at the end of the text.
 fn put_rule(alloc: Global, text: &mut Vec<u8>, ids: &[Id], rule: Rule) -> Result<(), AllocError>
     ensures { OnOk result (text.new.items ≡ text.old.items ++ rule_words ids.now rule) }
 {
-    match rule {
-        Rule::L1 => text.extend_from_slice(b"L1"),
-        Rule::L2 => text.extend_from_slice(b"L2"),
-        Rule::L3 => text.extend_from_slice(b"L3"),
-        Rule::L4 => text.extend_from_slice(b"L4"),
-        Rule::L5 => text.extend_from_slice(b"L5"),
-        Rule::L6 => text.extend_from_slice(b"L6"),
-        Rule::L7 => text.extend_from_slice(b"L7"),
-        Rule::L8 => text.extend_from_slice(b"L8"),
-        Rule::L9(w) => {
-            text.extend_from_slice(b"L9")?;
-            put_spaced(alloc, text, u64::from(w))
-        }
-        Rule::L10(place) => {
-            text.extend_from_slice(b"L10")?;
-            put_id(text, ids, place)
-        }
-        Rule::L11(n, d) => {
-            text.extend_from_slice(b"L11")?;
-            put_spaced(alloc, text, u64::from(n))?;
-            put_spaced(alloc, text, u64::from(d))
-        }
-        Rule::M1 => text.extend_from_slice(b"M1"),
-        Rule::M2 => text.extend_from_slice(b"M2"),
-        Rule::M3 => text.extend_from_slice(b"M3"),
-        Rule::M4 => text.extend_from_slice(b"M4"),
-        Rule::M5 => text.extend_from_slice(b"M5"),
-        Rule::M6 => text.extend_from_slice(b"M6"),
-        Rule::M7 => text.extend_from_slice(b"M7"),
-        Rule::M8 => text.extend_from_slice(b"M8"),
-        Rule::M9(r) => {
-            text.extend_from_slice(b"M9")?;
-            put_spaced(alloc, text, u64::from(r))
-        }
-        Rule::M10(place) => {
-            text.extend_from_slice(b"M10")?;
-            put_id(text, ids, place)
-        }
-        Rule::U0 => text.extend_from_slice(b"U0"),
-        Rule::U1 => text.extend_from_slice(b"U1"),
-        Rule::U2 => text.extend_from_slice(b"U2"),
-        Rule::U3 => text.extend_from_slice(b"U3"),
-        Rule::U4 => text.extend_from_slice(b"U4"),
-        Rule::U5 => text.extend_from_slice(b"U5"),
-        Rule::U6 => text.extend_from_slice(b"U6"),
-        Rule::U7 => text.extend_from_slice(b"U7"),
-        Rule::U8 => text.extend_from_slice(b"U8"),
-        Rule::U9 => text.extend_from_slice(b"U9"),
-        Rule::U10(w) => {
-            text.extend_from_slice(b"U10")?;
-            put_spaced(alloc, text, u64::from(w))
-        }
-        Rule::U11(place) => {
-            text.extend_from_slice(b"U11")?;
-            put_id(text, ids, place)
-        }
-        Rule::V0 => text.extend_from_slice(b"V0"),
-        Rule::V1 => text.extend_from_slice(b"V1"),
-        Rule::V2 => text.extend_from_slice(b"V2"),
-        Rule::V3 => text.extend_from_slice(b"V3"),
-        Rule::V4 => text.extend_from_slice(b"V4"),
-        Rule::V5 => text.extend_from_slice(b"V5"),
-        Rule::V6 => text.extend_from_slice(b"V6"),
-        Rule::V7 => text.extend_from_slice(b"V7"),
-        Rule::V8 => text.extend_from_slice(b"V8"),
-        Rule::V9(place) => {
-            text.extend_from_slice(b"V9")?;
-            put_id(text, ids, place)
-        }
-    }
+    text.extend_from_slice(rule_name(rule).as_bytes())?;
+    put_arguments(alloc, text, ids, arguments_of(rule))
 }
 
 /// Puts the side at the end of the text.

@@ -57,13 +57,6 @@ pub(crate) fn code_by_rule(
         Rule::M6 => with_zero(alloc, &only(codes), w.unwrap_or(0)),
         Rule::M7 => complement(alloc, &only(codes)),
         Rule::M9(r) => sum_class(alloc, entry, r),
-        Rule::U0 | Rule::U1 | Rule::U2 | Rule::U3 | Rule::U4 | Rule::U5 | Rule::U6 | Rule::U7 => {
-            unreachable!()
-        }
-        Rule::U8 | Rule::U9 | Rule::U10(_) | Rule::U11(_) => unreachable!(),
-        Rule::V0 | Rule::V1 | Rule::V2 | Rule::V3 | Rule::V4 | Rule::V5 | Rule::V6 | Rule::V7 => {
-            unreachable!()
-        }
-        Rule::V8 | Rule::V9(_) => unreachable!(),
+        _ => unreachable!(),
     }
 }

@@ -1,4 +1,4 @@
--- All words: U0.
+-- All words.
 use Rattle.std.proofs.Common.{[], ◌^◌, Contains, arith, pow_pos}
 use Rattle.std.specs.Prelude.{Option, Some}
 use Rattle.ct_codes.specs.declared.claim.Side.TheVariants.{Upper}

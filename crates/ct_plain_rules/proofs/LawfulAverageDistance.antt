@@ -1,4 +1,4 @@
--- The average distance of the words: U2.
+-- The average distance of the words.
 use Rattle.std.proofs.Common.{◌≡◌, ℕ, ◌+◌, ◌-◌, ◌*◌, ◌%◌, ◌≤◌, [], Contains, refl, sym, subst, ◌∙◌, arith}
 use Rattle.std.specs.Prelude.{Bool, true, false, ◌==◌, nat_le, nat_lt, if◌then◌else◌, not, is_some, IfSome, Option, Some}
 use Rattle.std.proofs.lemmas.Bool.{and_parts}

@@ -1,4 +1,4 @@
--- Balls about the words: U3.
+-- Balls about the words.
 use Rattle.std.proofs.Common.{◌-◌, ◌/◌, ◌^◌, [], Contains, arith}
 use Rattle.std.specs.Prelude.{Option, Some}
 use Rattle.std.proofs.lemmas.Nat.{le-div}

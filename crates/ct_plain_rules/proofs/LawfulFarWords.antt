@@ -1,4 +1,4 @@
--- Far words: U1.
+-- Far words.
 use Rattle.std.proofs.Common.{[], Contains, nat_lt, ltb-true, subst, arith}
 use Rattle.std.specs.Prelude.{not, Option}
 use Rattle.std.proofs.lemmas.Bool.{and_parts}

@@ -1,4 +1,4 @@
--- A code that is handed in: L10.
+-- A code that is handed in.
 use Rattle.std.proofs.Common.{[], Contains, arith}
 use Rattle.std.specs.Prelude.{Option}
 use Rattle.ct_codes.specs.declared.claim.Side.TheVariants.{Lower}

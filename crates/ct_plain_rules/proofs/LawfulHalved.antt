@@ -1,4 +1,4 @@
--- Halves: L7 and U6.
+-- Halves.
 use Rattle.std.proofs.Common.{◌≡◌, ◌+◌, ◌-◌, ◌*◌, length, arith, refl}
 use Rattle.std.specs.Prelude.{Option}
 use Rattle.ct_codes.specs.declared.claim.Side.TheVariants.{Lower, Upper}

@@ -1,4 +1,4 @@
--- A digit more: L3 and U8.
+-- A digit more.
 use Rattle.std.proofs.Common.{◌≡◌, ◌+◌, ◌-◌, arith, refl}
 use Rattle.std.specs.Prelude.{Option}
 use Rattle.ct_codes.specs.declared.claim.Side.TheVariants.{Lower, Upper}

@@ -1,4 +1,4 @@
--- A smaller distance: L4 and U7.
+-- A smaller distance.
 use Rattle.std.proofs.Common.{◌+◌, ◌-◌, arith, refl}
 use Rattle.std.specs.Prelude.{Option}
 use Rattle.ct_codes.specs.declared.claim.Side.TheVariants.{Lower, Upper}

@@ -1,4 +1,4 @@
--- The words 0..0 and 1..1: L2.
+-- The words 0..0 and 1..1.
 use Rattle.std.proofs.Common.{[], Contains, nat_le, leb-true, arith}
 use Rattle.std.specs.Prelude.{not, Option, Some}
 use Rattle.std.proofs.lemmas.Bool.{and_parts}

@@ -1,4 +1,4 @@
--- A place left out: L6 and U5.
+-- A place left out.
 use Rattle.std.proofs.Common.{◌≡◌, ◌+◌, ◌-◌, arith}
 use Rattle.std.specs.Prelude.{Option}
 use Rattle.ct_codes.specs.declared.claim.Side.TheVariants.{Lower, Upper}

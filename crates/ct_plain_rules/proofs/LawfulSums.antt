@@ -1,4 +1,4 @@
--- u followed by u + v: L8.
+-- u followed by u + v.
 use Rattle.std.proofs.Common.{◌≡◌, ℕ, ◌-◌, ◌*◌, ◌/◌, ◌%◌, ◌^◌, ◌==◌, ◌≤◌, min, nat_lt, List, [], ◌∷◌, length, Contains, Bool, true, false, refl, inl, inr, arith, eqb-true, ltb-true, pow_pos, mul-pos}
 use Rattle.std.specs.Prelude.{cond, not, Option}
 use Rattle.std.proofs.Math.Nat.{mul-le-mul, mul-le-mul_left}

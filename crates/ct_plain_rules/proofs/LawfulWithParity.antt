@@ -1,4 +1,4 @@
--- A parity digit: L5 and U4.
+-- A parity digit.
 use Rattle.std.proofs.Common.{◌≡◌, ◌+◌, ◌-◌, ◌%◌, ◌==◌, arith, eqb-true}
 use Rattle.std.specs.Prelude.{not, Option}
 use Rattle.std.proofs.lemmas.Bool.{and_parts}

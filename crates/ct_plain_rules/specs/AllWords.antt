@@ -3,7 +3,7 @@ use Rattle.std.specs.Prelude.{◌^◌, [], not, Some}
 use Rattle.ct_codes.specs.declared.claim.Side.TheVariants.{Upper}
 use Rattle.ct_rule_parts.specs.Parts.{RuleParts, has_weight}
 
--- U0: A(n,d) is at most 2^n
+-- A(n,d) is at most 2^n
 abbrev pub all_words : RuleParts
 all_words = record {
   side = Upper;

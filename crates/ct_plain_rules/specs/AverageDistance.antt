@@ -4,7 +4,7 @@ use Rattle.ct_codes.specs.declared.claim.Side.TheVariants.{Upper}
 use Rattle.ct_elementary.specs.Bounds.{plotkin_value}
 use Rattle.ct_rule_parts.specs.Parts.{RuleParts, has_weight}
 
--- U2: A(n,d) is at most 2⌊d/(2d-n)⌋ for even d and d ≤ n < 2d, 4d for n = 2d; at odd d that of A(n+1,d+1)
+-- A(n,d) is at most 2⌊d/(2d-n)⌋ for even d and d ≤ n < 2d, 4d for n = 2d; at odd d that of A(n+1,d+1)
 abbrev pub average_distance : RuleParts
 average_distance = record {
   side = Upper;

@@ -4,7 +4,7 @@ use Rattle.ct_codes.specs.declared.claim.Side.TheVariants.{Upper}
 use Rattle.ct_elementary.specs.Bounds.{hamming_value}
 use Rattle.ct_rule_parts.specs.Parts.{RuleParts, has_weight}
 
--- U3: A(n,d) is at most ⌊2^n/V(n,⌊(d-1)/2⌋)⌋, V(n,e) the size of a ball of radius e
+-- A(n,d) is at most ⌊2^n/V(n,⌊(d-1)/2⌋)⌋, V(n,e) the size of a ball of radius e
 abbrev pub balls : RuleParts
 balls = record {
   side = Upper;

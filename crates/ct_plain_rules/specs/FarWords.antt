@@ -4,7 +4,7 @@ use Rattle.ct_codes.specs.declared.claim.Side.TheVariants.{Upper}
 use Rattle.ct_elementary.specs.Bounds.{far_value}
 use Rattle.ct_rule_parts.specs.Parts.{RuleParts, has_weight}
 
--- U1: where d > n, A(n,d) is at most 1
+-- where d > n, A(n,d) is at most 1
 abbrev pub far_words : RuleParts
 far_words = record {
   side = Upper;

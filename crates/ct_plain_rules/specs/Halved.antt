@@ -4,7 +4,7 @@ use Rattle.ct_codes.specs.declared.claim.Side.TheVariants.{Lower, Upper}
 use Rattle.ct_rule_parts.specs.Parts.{RuleParts, has_weight, half_up, first}
 use Rattle.ct_plain_rules.specs.Neighbours.{shorter, longer}
 
--- L7: A(n,d) is at least ⌈A(n+1,d)/2⌉
+-- A(n,d) is at least ⌈A(n+1,d)/2⌉
 abbrev pub halved_below : RuleParts
 halved_below = record {
   side = Lower;
@@ -14,7 +14,7 @@ halved_below = record {
   rested_on_by = λ e. shorter e ∷ [];
 }
 
--- U6: A(n,d) is at most 2·A(n-1,d)
+-- A(n,d) is at most 2·A(n-1,d)
 abbrev pub halved_above : RuleParts
 halved_above = record {
   side = Upper;

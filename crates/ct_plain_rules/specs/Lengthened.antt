@@ -4,7 +4,7 @@ use Rattle.ct_codes.specs.declared.claim.Side.TheVariants.{Lower, Upper}
 use Rattle.ct_rule_parts.specs.Parts.{RuleParts, has_weight, first}
 use Rattle.ct_plain_rules.specs.Neighbours.{shorter, longer}
 
--- L3: A(n,d) is at least A(n-1,d)
+-- A(n,d) is at least A(n-1,d)
 abbrev pub lengthened_below : RuleParts
 lengthened_below = record {
   side = Lower;
@@ -14,7 +14,7 @@ lengthened_below = record {
   rested_on_by = λ e. longer e ∷ [];
 }
 
--- U8: A(n,d) is at most A(n+1,d)
+-- A(n,d) is at most A(n+1,d)
 abbrev pub lengthened_above : RuleParts
 lengthened_above = record {
   side = Upper;

@@ -4,7 +4,7 @@ use Rattle.ct_codes.specs.declared.claim.Side.TheVariants.{Lower, Upper}
 use Rattle.ct_rule_parts.specs.Parts.{RuleParts, has_weight, first}
 use Rattle.ct_plain_rules.specs.Neighbours.{nearer, farther}
 
--- L4: A(n,d) is at least A(n,d+1)
+-- A(n,d) is at least A(n,d+1)
 abbrev pub nearer_below : RuleParts
 nearer_below = record {
   side = Lower;
@@ -14,7 +14,7 @@ nearer_below = record {
   rested_on_by = λ e. nearer e ∷ [];
 }
 
--- U7: A(n,d) is at most A(n,d-1)
+-- A(n,d) is at most A(n,d-1)
 abbrev pub nearer_above : RuleParts
 nearer_above = record {
   side = Upper;

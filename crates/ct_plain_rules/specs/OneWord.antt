@@ -3,7 +3,7 @@ use Rattle.std.specs.Prelude.{[], not, Some}
 use Rattle.ct_codes.specs.declared.claim.Side.TheVariants.{Lower}
 use Rattle.ct_rule_parts.specs.Parts.{RuleParts, has_weight}
 
--- L1: A(n,d) is at least 1
+-- A(n,d) is at least 1
 abbrev pub one_word : RuleParts
 one_word = record {
   side = Lower;

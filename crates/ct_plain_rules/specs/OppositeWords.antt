@@ -3,7 +3,7 @@ use Rattle.std.specs.Prelude.{◌&&◌, nat_le, [], not, Some}
 use Rattle.ct_codes.specs.declared.claim.Side.TheVariants.{Lower}
 use Rattle.ct_rule_parts.specs.Parts.{RuleParts, has_weight}
 
--- L2: where d ≤ n, A(n,d) is at least 2
+-- where d ≤ n, A(n,d) is at least 2
 abbrev pub opposite_words : RuleParts
 opposite_words = record {
   side = Lower;

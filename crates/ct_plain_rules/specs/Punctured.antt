@@ -4,7 +4,7 @@ use Rattle.ct_codes.specs.declared.claim.Side.TheVariants.{Lower, Upper}
 use Rattle.ct_rule_parts.specs.Parts.{RuleParts, has_weight, first}
 use Rattle.ct_plain_rules.specs.Neighbours.{shorter_and_nearer, longer_and_farther}
 
--- L6: A(n,d) is at least A(n+1,d+1)
+-- A(n,d) is at least A(n+1,d+1)
 abbrev pub punctured_below : RuleParts
 punctured_below = record {
   side = Lower;
@@ -14,7 +14,7 @@ punctured_below = record {
   rested_on_by = λ e. shorter_and_nearer e ∷ [];
 }
 
--- U5: A(n,d) is at most A(n-1,d-1)
+-- A(n,d) is at most A(n-1,d-1)
 abbrev pub punctured_above : RuleParts
 punctured_above = record {
   side = Upper;

@@ -12,7 +12,7 @@ abbrev pub longer_and_far : Entry → List Entry
 longer_and_far e =
     flat_map (λ n. map (λ d. unrestricted n d) (range_with_len (e.d + 3) (MAX_N - (e.d + 2)))) (range_with_len (e.n + 1) (MAX_N - e.n))
 
--- L11 m c: A(n,d) is at least the least of A(m,c) and A(n-m,d-c)
+-- with the length m and the distance c: A(n,d) is at least the least of A(m,c) and A(n-m,d-c)
 abbrev pub side_by_side : ℕ → ℕ → RuleParts
 side_by_side m c = record {
   side = Lower;

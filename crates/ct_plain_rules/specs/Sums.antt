@@ -16,7 +16,7 @@ parts_of_sums e =
 abbrev pub count_of_sums : Entry → List ℕ → ℕ
 count_of_sums e vs = if nat_lt e.d 5 then 2 ^ (e.n / 2 - 1) * first vs else first vs * second vs
 
--- L8: for n = 2m, A(n,d) is at least A(m,⌈d/2⌉)·A(m,d), and 2^(m-1)·A(m,d) where d is 3 or 4
+-- for n = 2m, A(n,d) is at least A(m,⌈d/2⌉)·A(m,d), and 2^(m-1)·A(m,d) where d is 3 or 4
 abbrev pub sums : RuleParts
 sums = record {
   side = Lower;

@@ -4,7 +4,7 @@ use Rattle.ct_codes.specs.declared.claim.Side.TheVariants.{Lower, Upper}
 use Rattle.ct_rule_parts.specs.Parts.{RuleParts, has_weight, first}
 use Rattle.ct_plain_rules.specs.Neighbours.{shorter_and_nearer, longer_and_farther}
 
--- L5: for even d, A(n,d) is at least A(n-1,d-1)
+-- for even d, A(n,d) is at least A(n-1,d-1)
 abbrev pub parity_below : RuleParts
 parity_below = record {
   side = Lower;
@@ -14,7 +14,7 @@ parity_below = record {
   rested_on_by = λ e. longer_and_farther e ∷ [];
 }
 
--- U4: for odd d, A(n,d) is at most A(n+1,d+1)
+-- for odd d, A(n,d) is at most A(n+1,d+1)
 abbrev pub parity_above : RuleParts
 parity_above = record {
   side = Upper;

@@ -1,4 +1,4 @@
-//! All words: U0.
+//! All words.
 
 ghost use Rattle.std.specs.Prelude.{◌≡◌, ◌+◌, true, false, [], Some};
 ghost use Rattle.ct_words.specs.declared.limits.TheConstants.{MAX_N, MAX_BOUND};
@@ -6,7 +6,7 @@ ghost use Rattle.ct_codes.specs.Entry.{unrestricted, constant_weight};
 ghost use Rattle.ct_rule_parts.specs.Parts.{is_defined};
 ghost use Rattle.ct_plain_rules.specs.AllWords.{all_words};
 
-/// Where U0 is defined, that it rests on nothing, and what it gives.
+/// Where the rule is defined, that it rests on nothing, and what it gives.
 pub fn known_all_words()
     ensures defined { is_defined all_words (unrestricted 1 MAX_N) ≡ true }
     ensures rests_on { all_words.rests_on (unrestricted 1 MAX_N) ≡ [] }

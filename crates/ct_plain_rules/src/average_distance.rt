@@ -1,4 +1,4 @@
-//! The average distance of the words: U2.
+//! The average distance of the words.
 
 ghost use Rattle.std.specs.Prelude.{◌≡◌, ◌+◌, true, false, [], Some};
 ghost use Rattle.ct_words.specs.declared.limits.TheConstants.{MAX_N};
@@ -6,7 +6,7 @@ ghost use Rattle.ct_codes.specs.Entry.{unrestricted, constant_weight};
 ghost use Rattle.ct_rule_parts.specs.Parts.{is_defined};
 ghost use Rattle.ct_plain_rules.specs.AverageDistance.{average_distance};
 
-/// Where U2 is defined, with the least and the greatest lengths at even and odd distances, that it rests on nothing, and
+/// Where the rule is defined, with the least and the greatest lengths at even and odd distances, that it rests on nothing, and
 /// what it gives.
 pub fn known_average_distance()
     ensures defined { is_defined average_distance (unrestricted 10 6) ≡ true }

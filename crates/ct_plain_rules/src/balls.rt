@@ -1,4 +1,4 @@
-//! Balls about the words: U3.
+//! Balls about the words.
 
 ghost use Rattle.std.specs.Prelude.{◌≡◌, ◌+◌, true, false, [], Some};
 ghost use Rattle.ct_words.specs.declared.limits.TheConstants.{MAX_N};
@@ -6,7 +6,7 @@ ghost use Rattle.ct_codes.specs.Entry.{unrestricted, constant_weight};
 ghost use Rattle.ct_rule_parts.specs.Parts.{is_defined};
 ghost use Rattle.ct_plain_rules.specs.Balls.{balls};
 
-/// Where U3 is defined, that it rests on nothing, and what it gives: A(23,7) ≤ 4096, which Golay's code has, and so on.
+/// Where the rule is defined, that it rests on nothing, and what it gives: A(23,7) ≤ 4096, which Golay's code has, and so on.
 pub fn known_balls()
     ensures defined { is_defined balls (unrestricted 1 MAX_N) ≡ true }
     ensures rests_on { balls.rests_on (unrestricted 1 MAX_N) ≡ [] }

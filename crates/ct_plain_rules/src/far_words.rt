@@ -1,4 +1,4 @@
-//! Far words: U1.
+//! Far words.
 
 ghost use Rattle.std.specs.Prelude.{◌≡◌, ◌-◌, ◌+◌, true, false, [], Some};
 ghost use Rattle.ct_words.specs.declared.limits.TheConstants.{MAX_N};
@@ -6,7 +6,7 @@ ghost use Rattle.ct_codes.specs.Entry.{unrestricted, constant_weight};
 ghost use Rattle.ct_rule_parts.specs.Parts.{is_defined};
 ghost use Rattle.ct_plain_rules.specs.FarWords.{far_words};
 
-/// Where U1 is defined, that it rests on nothing, and that it gives 1.
+/// Where the rule is defined, that it rests on nothing, and that it gives 1.
 pub fn known_far_words()
     ensures defined { is_defined far_words (unrestricted (MAX_N - 1) MAX_N) ≡ true }
     ensures rests_on { far_words.rests_on (unrestricted (MAX_N - 1) MAX_N) ≡ [] }

@@ -1,4 +1,4 @@
-//! A code that is handed in: L10.
+//! A code that is handed in.
 
 ghost use Rattle.std.specs.Prelude.{◌≡◌, true, false, [], Some, None};
 ghost use Rattle.ct_codes.specs.Entry.{unrestricted, constant_weight};

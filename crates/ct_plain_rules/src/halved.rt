@@ -1,4 +1,4 @@
-//! Halves: L7 and U6.
+//! Halves.
 
 ghost use Rattle.std.specs.Prelude.{◌≡◌, ◌/◌, ◌-◌, true, false, [], ◌∷◌, ◌+◌, Some};
 ghost use Rattle.ct_words.specs.declared.limits.TheConstants.{MAX_N, MAX_BOUND};
@@ -7,7 +7,7 @@ ghost use Rattle.ct_codes.specs.Entry.{unrestricted, constant_weight};
 ghost use Rattle.ct_rule_parts.specs.Parts.{is_defined, within_limit};
 ghost use Rattle.ct_plain_rules.specs.Halved.{halved_below, halved_above};
 
-/// Where L7 and U6 are defined, with the least and the greatest lengths, what they rest on and what they give.
+/// Where the rules are defined, with the least and the greatest lengths, what they rest on and what they give.
 pub fn known_halved()
     ensures below_last { is_defined halved_below (unrestricted (MAX_N - 1) MAX_N) ≡ true }
     ensures below_rests_on { halved_below.rests_on (unrestricted (MAX_N - 1) MAX_N) ≡ unrestricted MAX_N MAX_N ∷ [] }

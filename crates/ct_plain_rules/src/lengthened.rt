@@ -1,4 +1,4 @@
-//! A digit more: L3 and U8.
+//! A digit more.
 
 ghost use Rattle.std.specs.Prelude.{◌≡◌, ◌-◌, true, false, [], ◌∷◌, ◌+◌, Some};
 ghost use Rattle.ct_words.specs.declared.limits.TheConstants.{MAX_N, MAX_BOUND};
@@ -7,7 +7,7 @@ ghost use Rattle.ct_codes.specs.Entry.{unrestricted, constant_weight};
 ghost use Rattle.ct_rule_parts.specs.Parts.{is_defined, within_limit};
 ghost use Rattle.ct_plain_rules.specs.Lengthened.{lengthened_below, lengthened_above};
 
-/// Where L3 and U8 are defined, with the least and the greatest lengths, what they rest on and what they give.
+/// Where the rules are defined, with the least and the greatest lengths, what they rest on and what they give.
 pub fn known_lengthened()
     ensures below_first { is_defined lengthened_below (unrestricted 2 3) ≡ true }
     ensures below_rests_on { lengthened_below.rests_on (unrestricted 2 3) ≡ unrestricted 1 3 ∷ [] }

@@ -1,4 +1,4 @@
-//! A smaller distance: L4 and U7.
+//! A smaller distance.
 
 ghost use Rattle.std.specs.Prelude.{◌≡◌, ◌-◌, ◌+◌, true, false, [], ◌∷◌, Some};
 ghost use Rattle.ct_words.specs.declared.limits.TheConstants.{MAX_N};
@@ -6,7 +6,7 @@ ghost use Rattle.ct_codes.specs.Entry.{unrestricted, constant_weight};
 ghost use Rattle.ct_rule_parts.specs.Parts.{is_defined};
 ghost use Rattle.ct_plain_rules.specs.Nearer.{nearer_below, nearer_above};
 
-/// Where L4 and U7 are defined, with the least and the greatest distances, what they rest on and what they give.
+/// Where the rules are defined, with the least and the greatest distances, what they rest on and what they give.
 pub fn known_nearer()
     ensures below_last { is_defined nearer_below (unrestricted MAX_N (MAX_N - 1)) ≡ true }
     ensures below_rests_on { nearer_below.rests_on (unrestricted MAX_N (MAX_N - 1)) ≡ unrestricted MAX_N MAX_N ∷ [] }

@@ -1,4 +1,4 @@
-//! The words 0..0 and 1..1: L2.
+//! The words 0..0 and 1..1.
 
 ghost use Rattle.std.specs.Prelude.{◌≡◌, ◌+◌, true, false, [], Some};
 ghost use Rattle.ct_words.specs.declared.limits.TheConstants.{MAX_N};
@@ -6,7 +6,7 @@ ghost use Rattle.ct_codes.specs.Entry.{unrestricted, constant_weight};
 ghost use Rattle.ct_rule_parts.specs.Parts.{is_defined};
 ghost use Rattle.ct_plain_rules.specs.OppositeWords.{opposite_words};
 
-/// Where L2 is defined, that it rests on nothing, and that it gives 2.
+/// Where the rule is defined, that it rests on nothing, and that it gives 2.
 pub fn known_opposite_words()
     ensures defined { is_defined opposite_words (unrestricted 5 5) ≡ true }
     ensures rests_on { opposite_words.rests_on (unrestricted 5 5) ≡ [] }

@@ -1,4 +1,4 @@
-//! A place left out: L6 and U5.
+//! A place left out.
 
 ghost use Rattle.std.specs.Prelude.{◌≡◌, ◌-◌, ◌+◌, true, false, [], ◌∷◌, Some};
 ghost use Rattle.ct_words.specs.declared.limits.TheConstants.{MAX_N};
@@ -6,7 +6,7 @@ ghost use Rattle.ct_codes.specs.Entry.{unrestricted, constant_weight};
 ghost use Rattle.ct_rule_parts.specs.Parts.{is_defined};
 ghost use Rattle.ct_plain_rules.specs.Punctured.{punctured_below, punctured_above};
 
-/// Where L6 and U5 are defined, with the least and the greatest lengths and distances, what they rest on and what they give.
+/// Where the rules are defined, with the least and the greatest lengths and distances, what they rest on and what they give.
 pub fn known_punctured()
     ensures below_last { is_defined punctured_below (unrestricted (MAX_N - 1) (MAX_N - 1)) ≡ true }
     ensures below_rests_on { punctured_below.rests_on (unrestricted (MAX_N - 1) (MAX_N - 1)) ≡ unrestricted MAX_N MAX_N ∷ [] }

@@ -1,4 +1,4 @@
-//! Words side by side: L11.
+//! Words side by side.
 
 ghost use Rattle.std.specs.Prelude.{◌≡◌, ◌+◌, ℕ, true, false, ◌∷◌, [], Some};
 ghost use Rattle.ct_words.specs.declared.limits.TheConstants.{MAX_N};
@@ -28,7 +28,7 @@ pub fn parts_side_by_side(m: u32, c: u32, entry: Entry) -> Entries<'static>
     Entries::Two(first, second)
 }
 
-/// Where L11 is defined, with the least lengths and distances of its parts, what it rests on and what it gives.
+/// Where the rule is defined, with the least lengths and distances of its parts, what it rests on and what it gives.
 pub fn known_side_by_side()
     ensures middle { is_defined (side_by_side 5 3) (unrestricted 12 7) ≡ true }
     ensures middle_rests_on { (side_by_side 5 3).rests_on (unrestricted 12 7) ≡ unrestricted 5 3 ∷ unrestricted 7 4 ∷ [] }

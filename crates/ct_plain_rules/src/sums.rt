@@ -1,4 +1,4 @@
-//! u followed by u + v: L8.
+//! u followed by u + v.
 
 ghost use Rattle.std.specs.Prelude.{◌≡◌, ◌/◌, ◌+◌, true, false, ◌^◌, ◌∷◌, [], Some, None};
 ghost use Rattle.ct_words.specs.declared.limits.TheConstants.{MAX_N, MAX_BOUND};
@@ -50,7 +50,7 @@ pub fn sums_of(entry: Entry) -> Entries<'static>
     )
 }
 
-/// Where L8 is defined, what it rests on and what it gives: A(16,4) ≥ 2048 and A(16,8) ≥ 32 from A(8,4) = 16 and
+/// Where the rule is defined, what it rests on and what it gives: A(16,4) ≥ 2048 and A(16,8) ≥ 32 from A(8,4) = 16 and
 /// A(8,8) = 2, and so on. A number above `MAX_BOUND` is no bound.
 pub fn known_sums()
     ensures first { is_defined sums (unrestricted 2 3) ≡ true }

@@ -1,4 +1,4 @@
-//! A parity digit: L5 and U4.
+//! A parity digit.
 
 ghost use Rattle.std.specs.Prelude.{◌≡◌, ◌-◌, ◌+◌, true, false, [], ◌∷◌, Some};
 ghost use Rattle.ct_words.specs.declared.limits.TheConstants.{MAX_N};
@@ -6,7 +6,7 @@ ghost use Rattle.ct_codes.specs.Entry.{unrestricted, constant_weight};
 ghost use Rattle.ct_rule_parts.specs.Parts.{is_defined};
 ghost use Rattle.ct_plain_rules.specs.WithParity.{parity_below, parity_above};
 
-/// Where L5 and U4 are defined, with the least and the greatest lengths and with even and odd distances, what they rest on
+/// Where the rules are defined, with the least and the greatest lengths and with even and odd distances, what they rest on
 /// and what they give.
 pub fn known_with_parity()
     ensures below_first { is_defined parity_below (unrestricted 2 4) ≡ true }

@@ -1,5 +1,5 @@
 -- Printed lines are read one by one, and `done` after them.
-use Rattle.std.proofs.Common.{◌≡◌, ◌≢◌, ℕ, suc, ◌+◌, Bool, true, false, cond, not, List, [], ◌∷◌, ◌++◌, map, length, Some, refl, sym, ap, subst, ◌∙◌, append_assoc, append-nil, length-append, arith, codes}
+use Rattle.std.proofs.Common.{◌≡◌, ◌≢◌, ℕ, suc, ◌+◌, Bool, true, false, cond, not, List, [], ◌∷◌, ◌++◌, map, length, Option, Some, refl, sym, ap, subst, ◌∙◌, append_assoc, append-nil, length-append, arith, codes}
 use Rattle.std.specs.Prelude.{slice_get, ◌==◌}
 use Rattle.std.specs.Option.{unwrap_or}
 use Rattle.std.proofs.lemmas.Bool.Decides.{nat_tests}
@@ -8,8 +8,10 @@ use Rattle.ct_lines.specs.declared.TheConstants.{LINE_FEED}
 use Rattle.ct_lines.specs.Lines.{lines_of}
 use Rattle.ct_lines.proofs.LinesLemmas.{lines_of-next}
 use Rattle.ct_rules.specs.declared.rule.Rule.{Rule}
-use Rattle.ct_rules.specs.declared.rule.Rule.TheVariants.{L10, M10, U11, V9}
-use Rattle.ct_rules.specs.Rule.{row_of, place_of}
+use Rattle.ct_rules.specs.declared.arguments.Arguments.{Arguments}
+use Rattle.ct_rules.specs.declared.arguments.Arguments.TheVariants.{Nothing, Number, Numbers, Place}
+use Rattle.ct_rules.specs.Rule.{place_of, arguments_of, bare}
+use Rattle.ct_rules.proofs.RuleNames.{place_among, place_is, bare-placed}
 use Rattle.ct_rules.specs.Derivation.{LineValue, Follows}
 use Rattle.ct_ledger.specs.Piece.{PieceValue, place_of as piece_place}
 use Rattle.ct_ledger.specs.Supports.{supports_of}
@@ -27,9 +29,9 @@ use Rattle.ct_verify.specs.declared.step.Step.TheVariants.{On, Failed}
 use Rattle.ct_verify.specs.declared.verdict.Why.TheVariants as why
 use Rattle.ct_verify.specs.declared.verdict.Verdict.TheVariants.{Yes}
 use Rattle.ct_printed.proofs.WordTexts.{spaced_words, known_word, IsLine-words, words_again}
-use Rattle.ct_printed.proofs.RuleTexts.{stated_of, IsStatedAgain, stated_again}
+use Rattle.ct_printed.proofs.RuleTexts.{stated_as, stated_of, IsStatedAgain, stated_again}
 use Rattle.ct_printed.proofs.LineTexts.{IsPrintableLine, line_parts, line_text-words, line_parts-are, stated_line, line_read}
-use Rattle.ct_printed.proofs.PrintedLines.{new_place, moved_rule, moved_line}
+use Rattle.ct_printed.proofs.PrintedLines.{new_place, moved_by, moved_rule, moved_line}
 
 -- the text lines from here on are verified, whatever their numbers
 abbrev pub IsVerified : ReadingValue → List (List ℕ) → Type 0
@@ -49,15 +51,20 @@ abbrev pub HasNewPlace : List (List ℕ) → List PieceValue → List ℕ → Ru
 HasNewPlace ids printed places r =
     (p : ℕ) → place_of r ≡ Some p → piece_place (unwrap_or (slice_get ids p) []) printed ≡ Some (new_place places p)
 
--- a rule that is stated is the moved rule
+-- a rule that is stated is the moved rule, where its arguments are these
+resolved_as : (ids : List (List ℕ)) (printed : List PieceValue) (places : List ℕ) (r : Rule) (arguments : Arguments) → arguments_of r ≡ arguments
+    → HasNewPlace ids printed places r
+    → resolved printed (stated_as ids r arguments).rule (stated_as ids r arguments).id ≡ Some (moved_by places r (place_among arguments))
+resolved_as ids printed places r Nothing is h = refl
+resolved_as ids printed places r (Number k) is h = refl
+resolved_as ids printed places r (Numbers k m) is h = refl
+resolved_as ids printed places r (Place p) is h =
+    ap (at_place (bare r)) (h p (sym (place_is r) ∙ ap place_among is)) ∙ ap Some (bare-placed r p (new_place places p) is)
+
 resolved_again : (ids : List (List ℕ)) (printed : List PieceValue) (places : List ℕ) (r : Rule) → HasNewPlace ids printed places r
     → resolved printed (stated_of ids r).rule (stated_of ids r).id ≡ Some (moved_rule places r)
-unfolding row_of
-resolved_again ids printed places (L10 p) h = ap (at_place (L10 0)) (h p refl)
-resolved_again ids printed places (M10 p) h = ap (at_place (M10 0)) (h p refl)
-resolved_again ids printed places (U11 p) h = ap (at_place (U11 0)) (h p refl)
-resolved_again ids printed places (V9 p) h = ap (at_place (V9 0)) (h p refl)
-resolved_again ids printed places r h = refl
+resolved_again ids printed places r h =
+    resolved_as ids printed places r (arguments_of r) refl h ∙ ap (λ (place : Option ℕ). Some (moved_by places r place)) (place_is r)
 
 is_next : (m n : ℕ) → m ≡ n + 1 → (m == suc n) ≡ true
 is_next m n h = grind (arith, nat_tests)

@@ -1,8 +1,8 @@
 -- The lines of an explanation can be printed, and each follows over the printed pieces.
-use Rattle.std.proofs.Common.{◌≡◌, ℕ, suc, ◌-◌, ◌^◌, ◌<◌, ◌≤◌, true, List, [], ◌∷◌, ◌++◌, map, length, take, Option, Some, option_map, refl, sym, ap, subst, ◌∙◌, append_assoc, arith}
+use Rattle.std.proofs.Common.{◌≡◌, ℕ, suc, ◌-◌, ◌^◌, ◌<◌, ◌≤◌, Bool, true, false, List, [], ◌∷◌, ◌++◌, map, length, take, Option, Some, option_map, refl, sym, ap, subst, ◌∙◌, append_assoc, arith}
 use Rattle.std.specs.Prelude.{All, slice_get}
 use Rattle.std.specs.Option.{option_to_list, unwrap_or}
-use Rattle.std.proofs.lemmas.Bool.{and_parts}
+use Rattle.std.proofs.lemmas.Bool.{and_parts, false≢true}
 use Rattle.std.proofs.lemmas.List.{length-map, length-take-le}
 use Rattle.std.proofs.lemmas.List.Elements.{All-head, All-tail, All-cons, All-nil, All-contains}
 use Rattle.std.proofs.lemmas.Option.{slice_get-map, slice_get_within, get_or_from_slice_get}
@@ -21,8 +21,11 @@ use Rattle.ct_weight_rules.specs.SumClass.{class_of_sum}
 use Rattle.ct_weight_rules.proofs.LawfulSumClass.{known_class}
 use Rattle.ct_weight_rules.specs.Neighbours.{even_of_weight, of_weight}
 use Rattle.ct_rules.specs.declared.rule.Rule.{Rule}
-use Rattle.ct_rules.specs.declared.rule.Rule.TheVariants.{L9, L10, L11, M9, M10, U10, U11, V9}
-use Rattle.ct_rules.specs.Rule.{row_of, place_of, applies}
+use Rattle.ct_rules.specs.declared.rule.Rule.TheVariants.{L9, L11, M9, U10}
+use Rattle.ct_rules.specs.declared.arguments.Arguments.{Arguments}
+use Rattle.ct_rules.specs.declared.arguments.Arguments.TheVariants.{Nothing, Number, Numbers, Place}
+use Rattle.ct_rules.specs.Rule.{row_of, place_of, arguments_of, applies}
+use Rattle.ct_rules.proofs.RuleNames.{place_among, place_is}
 use Rattle.ct_rules.specs.Derivation.{LineValue, Follows, IsDerivation}
 use Rattle.ct_rules.proofs.Applied.{defined, applies_from_premises}
 use Rattle.ct_rules.proofs.LoweredRules.{support_there}
@@ -34,7 +37,7 @@ use Rattle.ct_derive.specs.Pieces.{cited_places, AreNeeded}
 use Rattle.ct_derive.specs.Pieces.IsNeeded.{by_line}
 use Rattle.ct_derive.proofs.NeededPieces.{cited_of_line}
 use Rattle.ct_explain.specs.Parts.{parts_of_each}
-use Rattle.ct_printed.proofs.RuleTexts.{HasId, IsPrintable}
+use Rattle.ct_printed.proofs.RuleTexts.{HasId, ArePrintable, IsPrintable}
 use Rattle.ct_printed.proofs.SmallEntries.{small_numbers}
 use Rattle.ct_printed.proofs.PrintedLines.{is_among, new_place, items_at, AreThere, NamesOne, among_from, among_to, moved_item, moved_line, Follows-moved}
 use Rattle.ct_printed.proofs.LineSteps.{HasNewPlace, IsReady, AreReady}
@@ -61,13 +64,27 @@ named_piece pieces r place e h applied names =
 first_entry : (e : Entry) (es : List Entry) → are_entries (e ∷ es) ≡ true → is_entry e ≡ true
 first_entry e es h = (and_parts (is_entry e) (are_entries es) h).0
 
+-- whether arguments are numbers
+abbrev are_numbers : Arguments → Bool
+are_numbers Nothing = false
+are_numbers (Number k) = true
+are_numbers (Numbers k m) = true
+are_numbers (Place place) = false
+
+-- what a rule names without numbers that applies can be printed
+printable_rest : (pieces : List PieceValue) (r : Rule) (arguments : Arguments) (e : Entry) → arguments_of r ≡ arguments → are_numbers arguments ≡ false → AreStanding pieces
+    → applies (supports_of pieces) r e ≡ true → ArePrintable (ids_of pieces) arguments
+printable_rest pieces r Nothing e is none h applied = tt
+printable_rest pieces r (Number k) e is none h applied = absurd (false≢true (sym none))
+printable_rest pieces r (Numbers k m) e is none h applied = absurd (false≢true (sym none))
+printable_rest pieces r (Place place) e is none h applied = named_piece pieces r place e h applied (sym (place_is r) ∙ ap place_among is)
+
 -- what a rule names that applies can be printed
 rule_printable : (pieces : List PieceValue) (r : Rule) (e : Entry) → AreStanding pieces → applies (supports_of pieces) r e ≡ true → IsPrintable (ids_of pieces) r
 unfolding row_of
 rule_printable pieces (L9 w) e h applied =
     let weight = (small_numbers (even_of_weight e w) (first_entry (even_of_weight e w) [] (defined (without_weight w) e applied).premises)).weight_small w refl in
     omega (arith, weight)
-rule_printable pieces (L10 place) e h applied = named_piece pieces (L10 place) place e h applied refl
 rule_printable pieces (L11 n d) e h applied =
     let entries = (defined (side_by_side n d) e applied).premises in
     let numbers = small_numbers (unrestricted n d) (first_entry (unrestricted n d) (unrestricted (e.n - n) (e.d - d) ∷ []) entries) in
@@ -79,13 +96,10 @@ rule_printable pieces (M9 k) e h applied =
     let below = (known_class k e is.condition).residue in
     let length = (entry_limits e is.entry).length_to in
     omega (arith, below, length)
-rule_printable pieces (M10 place) e h applied = named_piece pieces (M10 place) place e h applied refl
 rule_printable pieces (U10 w) e h applied =
     let weight = (small_numbers (of_weight e w) (first_entry (of_weight e w) [] (defined (averaging w) e applied).premises)).weight_small w refl in
     omega (arith, weight)
-rule_printable pieces (U11 place) e h applied = named_piece pieces (U11 place) place e h applied refl
-rule_printable pieces (V9 place) e h applied = named_piece pieces (V9 place) place e h applied refl
-rule_printable pieces r e h applied = tt
+rule_printable pieces r e h applied = printable_rest pieces r (arguments_of r) e refl refl h applied
 
 numbers_small : (n : ℕ) (from : List ℕ) → n < 2 ^ 64 → All (λ p. p < n) from → All (λ m. m < 2 ^ 64) (numbers_at from)
 numbers_small n [] small h = All-nil (λ m. m < 2 ^ 64)

@@ -1,4 +1,4 @@
-//! The code of M9: a sum class.
+//! The code of a sum class.
 
 ghost use Rattle.std.specs.Prelude.{◌≡◌, [], length, true, IfOk, Some};
 ghost use Rattle.ct_codes.specs.Entry.{IsEntry};
@@ -10,7 +10,7 @@ use ct_sum_classes::sum_class_list;
 use std::alloc::{AllocError, Global};
 
 /// The words of the length and the weight of the entry, which is in the table, the places of whose ones add up to r modulo the
-/// length, where M9 with this residue is defined. `Err` is want of memory.
+/// length, where there is such a class. `Err` is want of memory.
 pub fn sum_class(alloc: Global, entry: Entry, r: u32) -> Result<Code, AllocError>
     requires entry { IsEntry entry }
     requires defined { (class_of_sum r).condition entry ≡ true }

@@ -1,5 +1,5 @@
 -- Names and arguments lead back to the rules, and rules that names lead to are of their names.
-use Rattle.std.proofs.Common.{◌≡◌, ℕ, List, [], ◌∷◌, ◌++◌, refl, ap, subst, ◌∙◌}
+use Rattle.std.proofs.Common.{◌≡◌, ℕ, List, [], ◌∷◌, ◌++◌, refl, sym, ap, subst, ◌∙◌}
 use Rattle.std.specs.Prelude.{Bool, true, false, cond, Option, Some, None}
 use Rattle.std.specs.Option.{option_or}
 use Rattle.std.specs.Str.{bytes_eq}
@@ -11,7 +11,7 @@ use Rattle.ct_rules.specs.declared.arguments.Arguments.{Arguments}
 use Rattle.ct_rules.specs.declared.arguments.Arguments.TheVariants.{Nothing, Number, Numbers, Place}
 use Rattle.ct_rules.specs.declared.rule.Rule.{Rule}
 use Rattle.ct_rules.specs.declared.rule.Rule.TheVariants.{L9}
-use Rattle.ct_rules.specs.Rule.{row_of, rule_side, name_of, arguments_of, with_arguments, with_place, place_of, bare}
+use Rattle.ct_rules.specs.Rule.{row_of, rule_side, name_of, arguments_of, with_arguments, with_place, place_of, bare, Written, no_arguments, one_number, two_numbers, one_place, written_in, argued_in}
 use Rattle.ct_rules.specs.Listing.{rules_on, first_named, rule_named}
 
 -- the name of a rule leads to it, but for its arguments
@@ -38,6 +38,16 @@ unfolding row_of
 bare_arguments (L9 w) = refl
 bare_arguments r = refl
 
+-- no arguments change no rule
+argued_nothing : (r : Rule) (written : Written) → argued_in r written Nothing ≡ r
+argued_nothing r no_arguments = refl
+argued_nothing r (one_number named k) = refl
+argued_nothing r (two_numbers named k m) = refl
+argued_nothing r (one_place named place) = refl
+
+pub with_nothing : (r : Rule) → with_arguments r Nothing ≡ r
+with_nothing r = argued_nothing r (written_in (row_of r))
+
 -- the place of a support among arguments
 abbrev pub place_among : Arguments → Option ℕ
 place_among Nothing = None
@@ -50,6 +60,18 @@ pub placed : (r : Rule) (place : ℕ) → with_arguments r (Place place) ≡ wit
 unfolding row_of
 placed (L9 w) place = refl
 placed r place = refl
+
+-- the last place that is put in stays
+placed_twice : (r : Rule) (place other : ℕ) → with_place (with_place r place) other ≡ with_place r other
+unfolding row_of
+placed_twice (L9 w) place other = refl
+placed_twice r place other = refl
+
+-- so a place put in for 0 is put in for the rule's own
+pub bare-placed : (r : Rule) (place other : ℕ) → arguments_of r ≡ Place place → with_place (bare r) other ≡ with_place r other
+bare-placed r place other is =
+    sym (placed_twice (bare r) place other)
+    ∙ ap (λ (q : Rule). with_place q other) (sym (placed (bare r) place) ∙ ap (with_arguments (bare r)) (sym is) ∙ argued_again r)
 
 pub place_is : (r : Rule) → place_among (arguments_of r) ≡ place_of r
 unfolding row_of

@@ -31,7 +31,6 @@ pub use rule::{
     UPPER_WEIGHT_RULES, rule_name,
 };
 pub use rule_laws::{
-    better_bounds_say_more, claims_bound_slots, known_premises, known_ranges, known_supports,
-    known_values, premises_are_entries, rules_are_monotone, rules_are_sound, rules_have_names,
-    standing_duals_give_their_bounds,
+    better_bounds_say_more, claims_bound_slots, known_supports, premises_are_entries,
+    rules_are_monotone, rules_are_sound, rules_have_names, standing_duals_give_their_bounds,
 };

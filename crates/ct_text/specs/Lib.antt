@@ -7,3 +7,4 @@ pub mod TableNumbers
 pub mod EntryText
 pub mod Gathering
 pub mod Inside
+pub mod Side

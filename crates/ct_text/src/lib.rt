@@ -10,6 +10,7 @@ mod id;
 mod laws;
 mod line;
 mod number;
+mod side;
 mod table_numbers;
 mod text;
 
@@ -21,5 +22,6 @@ pub use id::{Id, MAX_ID};
 pub use laws::numbers_are_read_as_printed;
 pub use line::first_words;
 pub use number::parse_number;
+pub use side::parse_side;
 pub use table_numbers::{TableNumbers, parse_table_numbers};
 pub use text::Text;

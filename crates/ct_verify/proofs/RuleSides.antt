@@ -9,47 +9,17 @@ use Rattle.ct_codes.specs.declared.claim.Claim.{Claim}
 use Rattle.ct_text.specs.Number.{number_of}
 use Rattle.ct_rule_parts.specs.Parts.{RuleParts}
 use Rattle.ct_rules.specs.declared.rule.Rule.{Rule}
-use Rattle.ct_rules.specs.Rule.{rule_side, row_of, with_place}
+use Rattle.ct_rules.specs.declared.arguments.Arguments.{Arguments}
+use Rattle.ct_rules.specs.declared.arguments.Arguments.TheVariants.{Nothing, Number, Numbers, Place}
+use Rattle.ct_rules.specs.Rule.{rule_side, arguments_of, with_arguments, with_place}
+use Rattle.ct_rules.specs.Listing.{rule_named}
+use Rattle.ct_rules.proofs.RuleNames.{argued-side, rule_named-is}
 use Rattle.ct_rules.proofs.LawfulRows.{parts_of-placed}
 use Rattle.ct_ledger.specs.Piece.{PieceValue, place_of}
-use Rattle.ct_verify.specs.StatedRule.{Named, alone, one_number, two_numbers, one_piece, plain_lower_names, weight_lower_names, argued_lower_names, plain_upper_names, weight_upper_names, argued_upper_names, or_else, first_argument, second_argument, first_id, numbered, citing, with_arguments, rule_among, stated_rule, resolved}
-use Rattle.ct_verify.specs.StatedLine.{StatedLineValue, side_of, entry_of, bound_of, premises_of_words, claim_of, line_from, with_rule, with_reason, with_value, line_of}
+use Rattle.ct_verify.specs.StatedRule.{first_argument, second_argument, first_id, numbered, citing, with_words, stated_rule, resolved}
+use Rattle.ct_text.specs.Side.{side_of}
+use Rattle.ct_verify.specs.StatedLine.{StatedLineValue, entry_of, bound_of, premises_of_words, claim_of, line_from, with_rule, with_reason, with_value, line_of}
 use Rattle.ct_verify.specs.declared.stated_rule.StatedRule.{StatedRule}
-
--- a name whose rules are of this side
-abbrev IsOfSide : Side → Named → Type 0
-IsOfSide side (alone rule) = rule_side rule ≡ side
-IsOfSide side (one_number rule) = (n : ℕ) → rule_side (rule n) ≡ side
-IsOfSide side (two_numbers rule) = (n m : ℕ) → rule_side (rule n m) ≡ side
-IsOfSide side (one_piece rule) = (n : ℕ) → rule_side (rule n) ≡ side
-
-abbrev AreOfSide : Side → List (List ℕ × Named) → Type 0
-AreOfSide side [] = Unit {0}
-AreOfSide side (row ∷ rows) = IsOfSide side row.1 × AreOfSide side rows
-
-plain_lower-side : AreOfSide Lower plain_lower_names
-unfolding row_of
-plain_lower-side = (refl, (refl, (refl, (refl, (refl, (refl, (refl, (refl, tt))))))))
-
-weight_lower-side : AreOfSide Lower weight_lower_names
-unfolding row_of
-weight_lower-side = (refl, (refl, (refl, (refl, (refl, (refl, (refl, (refl, tt))))))))
-
-argued_lower-side : AreOfSide Lower argued_lower_names
-unfolding row_of
-argued_lower-side = (λ n. refl, (λ n. refl, (λ n m. refl, (λ n. refl, (λ n. refl, tt)))))
-
-plain_upper-side : AreOfSide Upper plain_upper_names
-unfolding row_of
-plain_upper-side = (refl, (refl, (refl, (refl, (refl, (refl, (refl, (refl, (refl, (refl, tt))))))))))
-
-weight_upper-side : AreOfSide Upper weight_upper_names
-unfolding row_of
-weight_upper-side = (refl, (refl, (refl, (refl, (refl, (refl, (refl, (refl, (refl, tt)))))))))
-
-argued_upper-side : AreOfSide Upper argued_upper_names
-unfolding row_of
-argued_upper-side = (λ n. refl, (λ n. refl, (λ n. refl, tt)))
 
 -- where something comes of it, there was something
 mapped : {X Y : Type 0} (f : X → Y) (o : Option X) (y : Y) → option_map f o ≡ Some y → (x : X) × (f x ≡ y)
@@ -62,50 +32,29 @@ side_from side s r same of = ap (λ (q : StatedRule). rule_side q.rule) (sym sam
 same_rule : (s r : StatedRule) → Some s ≡ Some r → s ≡ r
 same_rule s r h = cc
 
-with_arguments-side : (side : Side) (named : Named) (words : List (List ℕ)) (r : StatedRule) → IsOfSide side named → with_arguments named words ≡ Some r → rule_side r.rule ≡ side
-with_arguments-side side (alone rule) words r of h = side_from side (numbered 0 rule) r (same_rule (numbered 0 rule) r h) of
-with_arguments-side side (one_number rule) words r of h =
-    let found = mapped (λ (n : ℕ). numbered 1 (rule n)) (first_argument words) r h in
-    side_from side (numbered 1 (rule found.0)) r found.1 (of found.0)
-with_arguments-side side (two_numbers rule) words r of h = go (first_argument words) h where
-  go : (o : Option ℕ) → option_and_then (λ (n : ℕ). option_map (λ (m : ℕ). numbered 2 (rule n m)) (second_argument words)) o ≡ Some r → rule_side r.rule ≡ side
+-- arguments change no side
+with_words-side : (rule : Rule) (arguments : Arguments) (words : List (List ℕ)) (r : StatedRule) → with_words rule arguments words ≡ Some r
+    → rule_side r.rule ≡ rule_side rule
+with_words-side rule Nothing words r h = side_from (rule_side rule) (numbered 0 rule) r (same_rule (numbered 0 rule) r h) refl
+with_words-side rule (Number k) words r h =
+    let found = mapped (λ (n : ℕ). numbered 1 (with_arguments rule (Number n))) (first_argument words) r h in
+    side_from (rule_side rule) (numbered 1 (with_arguments rule (Number found.0))) r found.1 (argued-side rule (Number found.0))
+with_words-side rule (Numbers k m) words r h = go (first_argument words) h where
+  go : (o : Option ℕ) → option_and_then (λ (n : ℕ). option_map (λ (m : ℕ). numbered 2 (with_arguments rule (Numbers n m))) (second_argument words)) o ≡ Some r
+      → rule_side r.rule ≡ rule_side rule
   go None e = absurd cc
   go (Some n) e =
-      let found = mapped (λ (m : ℕ). numbered 2 (rule n m)) (second_argument words) r e in
-      side_from side (numbered 2 (rule n found.0)) r found.1 (of n found.0)
-with_arguments-side side (one_piece rule) words r of h =
-    let found = mapped (citing (rule 0)) (first_id words) r h in
-    side_from side (citing (rule 0) found.0) r found.1 (of 0)
-
-rule_among-side : (side : Side) (rows : List (List ℕ × Named)) (name : List ℕ) (words : List (List ℕ)) (r : StatedRule) → AreOfSide side rows → rule_among rows name words ≡ Some r
-    → rule_side r.rule ≡ side
-rule_among-side side [] name words r of h = absurd cc
-rule_among-side side (row ∷ rows) name words r of h = at (bytes_eq name row.0) h (rule_among-side side rows name words r of.1) where
-  at : (b : Bool) → cond b (with_arguments row.1 words) (rule_among rows name words) ≡ Some r → (rule_among rows name words ≡ Some r → rule_side r.rule ≡ side) → rule_side r.rule ≡ side
-  at true e later = with_arguments-side side row.1 words r of.0 e
-  at false e later = later e
-
-or_else-side : (side : Side) (rule other : Option StatedRule) (r : StatedRule) → (rule ≡ Some r → rule_side r.rule ≡ side)
-    → (other ≡ Some r → rule_side r.rule ≡ side) → or_else rule other ≡ Some r → rule_side r.rule ≡ side
-or_else-side side (Some rule) other r first second h = first h
-or_else-side side None other r first second h = second h
+      let found = mapped (λ (m : ℕ). numbered 2 (with_arguments rule (Numbers n m))) (second_argument words) r e in
+      side_from (rule_side rule) (numbered 2 (with_arguments rule (Numbers n found.0))) r found.1 (argued-side rule (Numbers n found.0))
+with_words-side rule (Place place) words r h =
+    let found = mapped (citing rule) (first_id words) r h in
+    side_from (rule_side rule) (citing rule found.0) r found.1 refl
 
 stated_rule-side : (side : Side) (name : List ℕ) (words : List (List ℕ)) (r : StatedRule) → stated_rule side name words ≡ Some r → rule_side r.rule ≡ side
-unfolding stated_rule
-stated_rule-side Lower name words r h =
-    or_else-side Lower (rule_among plain_lower_names name words) (or_else (rule_among weight_lower_names name words) (rule_among argued_lower_names name words)) r
-    (rule_among-side Lower plain_lower_names name words r plain_lower-side)
-    (or_else-side Lower (rule_among weight_lower_names name words) (rule_among argued_lower_names name words) r
-    (rule_among-side Lower weight_lower_names name words r weight_lower-side)
-    (rule_among-side Lower argued_lower_names name words r argued_lower-side))
-    h
-stated_rule-side Upper name words r h =
-    or_else-side Upper (rule_among plain_upper_names name words) (or_else (rule_among weight_upper_names name words) (rule_among argued_upper_names name words)) r
-    (rule_among-side Upper plain_upper_names name words r plain_upper-side)
-    (or_else-side Upper (rule_among weight_upper_names name words) (rule_among argued_upper_names name words) r
-    (rule_among-side Upper weight_upper_names name words r weight_upper-side)
-    (rule_among-side Upper argued_upper_names name words r argued_upper-side))
-    h
+stated_rule-side side name words r h = go (rule_named side name) refl h where
+  go : (o : Option Rule) → rule_named side name ≡ o → option_and_then (λ rule. with_words rule (arguments_of rule) words) o ≡ Some r → rule_side r.rule ≡ side
+  go None is e = absurd cc
+  go (Some rule) is e = with_words-side rule (arguments_of rule) words r e ∙ (rule_named-is side name rule is).1.0
 
 -- a line whose rule is of its side
 abbrev pub HasItsSide : StatedLineValue → Type 0

@@ -5,9 +5,9 @@ use Rattle.std.specs.Str.{bytes_eq}
 use Rattle.ct_words.specs.declared.limits.TheConstants.{MAX_BOUND}
 use Rattle.ct_codes.specs.declared.entry.Entry.{Entry}
 use Rattle.ct_codes.specs.declared.claim.Side.{Side}
-use Rattle.ct_codes.specs.declared.claim.Side.TheVariants.{Lower, Upper}
 use Rattle.ct_codes.specs.declared.claim.Claim.{Claim}
 use Rattle.ct_text.specs.Number.{number_of}
+use Rattle.ct_text.specs.Side.{side_of}
 use Rattle.ct_text.specs.EntryNumbers.{entry_numbers_of, named_entry}
 use Rattle.ct_derive.specs.Check.{and_values}
 use Rattle.ct_verify.specs.StatedRule.{stated_rule}
@@ -19,10 +19,6 @@ pub record StatedLineValue : Type 0 where
   pub claim : Claim
   pub rule : StatedRule
   pub from : List ℕ
-
--- the side that a word names
-abbrev pub side_of : List ℕ → Option Side
-side_of word = if bytes_eq word (codes "lower") then Some Lower else (if bytes_eq word (codes "upper") then Some Upper else None)
 
 -- the entry of the table that the words name
 abbrev pub entry_of : List (List ℕ) → Option Entry

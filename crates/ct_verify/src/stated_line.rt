@@ -2,11 +2,12 @@
 
 ghost use Rattle.std.specs.Prelude.{◌≡◌, drop, map, IfOk, option_map};
 ghost use Rattle.ct_text.specs.Number.{number_of};
-ghost use Rattle.ct_verify.specs.StatedLine.{side_of, entry_of, bound_of, all_numbers, premises_of_words, claim_of, with_rule, with_reason, with_value, line_of};
+ghost use Rattle.ct_text.specs.Side.{side_of};
+ghost use Rattle.ct_verify.specs.StatedLine.{entry_of, bound_of, all_numbers, premises_of_words, claim_of, with_rule, with_reason, with_value, line_of};
 
 use crate::stated_rule::{StatedRule, parse_rule};
-use ct_codes::{Claim, Entry, Side};
-use ct_text::{parse_entry_numbers, parse_number};
+use ct_codes::{Claim, Entry};
+use ct_text::{parse_entry_numbers, parse_number, parse_side};
 use ct_words::MAX_BOUND;
 use std::alloc::{AllocError, Global};
 use std::marker::Model;
@@ -30,19 +31,6 @@ impl Model for StatedLine {
     ghost Value = { StatedLineValue };
 
     ghost view = { λ l. record { number = l.number; claim = l.claim; rule = l.rule; from = l.from.items } };
-}
-
-/// The side that a word names.
-fn parse_side(word: &[u8]) -> Option<Side>
-    ensures { result ≡ side_of word.now }
-{
-    if word == b"lower".as_slice() {
-        Some(Side::Lower)
-    } else if word == b"upper".as_slice() {
-        Some(Side::Upper)
-    } else {
-        None
-    }
 }
 
 /// The entry of the table that the words name.

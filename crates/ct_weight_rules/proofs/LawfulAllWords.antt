@@ -1,4 +1,4 @@
--- All words of the weight: V0.
+-- All words of the weight.
 use Rattle.std.proofs.Common.{[], Contains, arith}
 use Rattle.std.specs.Prelude.{Option, Some}
 use Rattle.ct_counting.specs.Binomials.{choose}

@@ -1,4 +1,4 @@
--- The average over translates: U10.
+-- The average over translates.
 use Rattle.std.proofs.Common.{ℕ, refl, arith}
 use Rattle.std.specs.Prelude.{Option}
 use Rattle.ct_codes.specs.declared.claim.Side.TheVariants.{Upper}

@@ -1,4 +1,4 @@
--- Pairs of words with a one at one place: V8.
+-- Pairs of words with a one at one place.
 use Rattle.std.proofs.Common.{◌≡◌, ℕ, ◌-◌, [], Contains, option_map, subst, refl, arith}
 use Rattle.std.specs.Prelude.{is_some, Option, Some, None}
 use Rattle.std.proofs.lemmas.Bool.{and_parts}

@@ -1,4 +1,4 @@
--- Complements: M7 and V3.
+-- Complements.
 use Rattle.std.proofs.Common.{◌≡◌, ◌-◌, arith}
 use Rattle.std.specs.Prelude.{Option}
 use Rattle.ct_codes.specs.declared.entry.Entry.{Entry}

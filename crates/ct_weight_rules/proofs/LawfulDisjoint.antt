@@ -1,4 +1,4 @@
--- Words with no one in common: M2 and V2.
+-- Words with no one in common.
 use Rattle.std.proofs.Common.{◌≡◌, ◌*◌, ◌/◌, ◌==◌, ◌≤◌, [], Contains, true, ap, subst, ◌∙◌, eqb-true, arith}
 use Rattle.std.specs.Prelude.{Option, Some}
 use Rattle.std.proofs.lemmas.Bool.{and_parts}

@@ -1,4 +1,4 @@
--- Far words: V1.
+-- Far words.
 use Rattle.std.proofs.Common.{◌-◌, ◌*◌, min, nat_lt, [], Contains, ltb-true, arith}
 use Rattle.std.specs.Prelude.{Option, Some}
 use Rattle.std.proofs.lemmas.Bool.{and_parts}

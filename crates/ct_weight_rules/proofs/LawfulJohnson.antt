@@ -1,4 +1,4 @@
--- The words outside the balls: U9.
+-- The words outside the balls.
 use Rattle.std.proofs.Common.{◌≡◌, ◌+◌, ◌-◌, ◌%◌, ◌≤◌, subst, refl, arith}
 use Rattle.std.specs.Prelude.{Option, IfSome}
 use Rattle.ct_words.specs.declared.limits.TheConstants.{MAX_BOUND}

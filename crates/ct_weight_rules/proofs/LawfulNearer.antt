@@ -1,4 +1,4 @@
--- A smaller distance: M8 and V7.
+-- A smaller distance.
 use Rattle.std.proofs.Common.{◌+◌, ◌-◌, arith}
 use Rattle.std.specs.Prelude.{Option}
 use Rattle.ct_codes.specs.declared.claim.Side.TheVariants.{Lower, Upper}

@@ -1,4 +1,4 @@
--- One word: M1.
+-- One word.
 use Rattle.std.proofs.Common.{[], Contains, arith}
 use Rattle.std.specs.Prelude.{Option, Some}
 use Rattle.ct_codes.specs.declared.claim.Side.TheVariants.{Lower}

@@ -1,4 +1,4 @@
--- Words by one digit: V6.
+-- Words by one digit.
 use Rattle.std.proofs.Common.{ℕ, ◌+◌, ◌-◌, ◌≤◌, nat_le, [], ◌∷◌, Contains, leb-true, arith}
 use Rattle.std.specs.Prelude.{Option}
 use Rattle.std.proofs.lemmas.Bool.{and_parts}

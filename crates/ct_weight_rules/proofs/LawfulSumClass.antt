@@ -1,4 +1,4 @@
--- A sum class: M9.
+-- A sum class.
 use Rattle.std.proofs.Common.{◌≡◌, ℕ, ◌==◌, ◌&&◌, [], length, Contains, ◌<◌, ◌≤◌, true, if◌then◌else◌, refl, subst, sym, ap₂, eqb-true, lt-ltb, arith}
 use Rattle.std.specs.Prelude.{Option, Some, None, is_some, nat_lt}
 use Rattle.std.proofs.lemmas.Bool.{and_parts, ltb-true, false≢true}

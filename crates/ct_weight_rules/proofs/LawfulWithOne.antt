@@ -1,4 +1,4 @@
--- Words with a one at a place: M5 and V4.
+-- Words with a one at a place.
 use Rattle.std.proofs.Common.{◌≡◌, ℕ, ◌+◌, ◌-◌, ◌*◌, ◌/◌, ◌≤◌, nat_le, arith, leb-true, mul-pos}
 use Rattle.std.specs.Prelude.{true, Option}
 use Rattle.std.specs.Int.{div_ceil}

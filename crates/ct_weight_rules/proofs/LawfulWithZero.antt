@@ -1,4 +1,4 @@
--- Words with a zero at a place: M6 and V5.
+-- Words with a zero at a place.
 use Rattle.std.proofs.Common.{ℕ, ◌+◌, ◌-◌, ◌*◌, ◌/◌, ◌≤◌, refl, arith, mul-pos}
 use Rattle.std.specs.Prelude.{Option}
 use Rattle.std.specs.Int.{div_ceil}

@@ -1,4 +1,4 @@
--- Codes of constant weight, without it: L9.
+-- Codes of constant weight, without it.
 use Rattle.std.proofs.Common.{ℕ, ◌-◌, ◌*◌, ◌%◌, [], ◌∷◌, Contains, refl, inl, inr, arith}
 use Rattle.std.specs.Prelude.{Option}
 use Rattle.std.proofs.lemmas.Bool.{cases_lt}

@@ -4,7 +4,7 @@ use Rattle.ct_codes.specs.declared.claim.Side.TheVariants.{Upper}
 use Rattle.ct_counting.specs.Binomials.{choose}
 use Rattle.ct_rule_parts.specs.Parts.{RuleParts, has_weight, weight_of}
 
--- V0: A(n,d,w) is at most C(n,w)
+-- A(n,d,w) is at most C(n,w)
 abbrev pub all_words : RuleParts
 all_words = record {
   side = Upper;

@@ -6,7 +6,7 @@ use Rattle.ct_johnson.specs.Bounds.{average}
 use Rattle.ct_rule_parts.specs.Parts.{RuleParts, has_weight, first}
 use Rattle.ct_weight_rules.specs.Neighbours.{of_weight, unweighted}
 
--- U10 w: for even d, A(n,d) is at most ⌊2^(n-1)·A(n,d,w)/C(n,w)⌋
+-- with the weight w: for even d, A(n,d) is at most ⌊2^(n-1)·A(n,d,w)/C(n,w)⌋
 abbrev pub averaging : ℕ → RuleParts
 averaging w = record {
   side = Upper;

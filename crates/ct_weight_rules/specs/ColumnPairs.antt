@@ -10,7 +10,7 @@ use Rattle.ct_rule_parts.specs.Parts.{RuleParts, has_weight, weight_of}
 abbrev pub below_too_many : Entry → Option ℕ
 below_too_many e = option_map (λ m. m - 1) (column_count_value e.n e.d (weight_of e))
 
--- V8: A(n,d,w) is at most M - 1, for the least M from 2 to 1,000 that is too many
+-- A(n,d,w) is at most M - 1, for the least M from 2 to 1,000 that is too many
 abbrev pub column_pairs : RuleParts
 column_pairs = record {
   side = Upper;

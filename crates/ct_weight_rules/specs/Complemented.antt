@@ -4,7 +4,7 @@ use Rattle.ct_codes.specs.declared.claim.Side.TheVariants.{Lower, Upper}
 use Rattle.ct_rule_parts.specs.Parts.{RuleParts, has_weight, first}
 use Rattle.ct_weight_rules.specs.Neighbours.{turned}
 
--- M7: A(n,d,w) is at least A(n,d,n-w)
+-- A(n,d,w) is at least A(n,d,n-w)
 abbrev pub complemented_below : RuleParts
 complemented_below = record {
   side = Lower;
@@ -14,7 +14,7 @@ complemented_below = record {
   rested_on_by = λ e. turned e ∷ [];
 }
 
--- V3: A(n,d,w) is at most A(n,d,n-w)
+-- A(n,d,w) is at most A(n,d,n-w)
 abbrev pub complemented_above : RuleParts
 complemented_above = record {
   side = Upper;

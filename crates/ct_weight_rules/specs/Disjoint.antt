@@ -13,7 +13,7 @@ has_disjoint_words e = has_weight e && weight_of e == e.d / 2
 abbrev pub count_of_disjoint : Entry → ℕ
 count_of_disjoint e = e.n / (e.d / 2)
 
--- M2: for w = δ = d/2, A(n,d,w) is at least ⌊n/δ⌋
+-- for w = δ = d/2, A(n,d,w) is at least ⌊n/δ⌋
 abbrev pub disjoint_below : RuleParts
 disjoint_below = record {
   side = Lower;
@@ -23,7 +23,7 @@ disjoint_below = record {
   rested_on_by = λ e. [];
 }
 
--- V2: for d = 2w, A(n,d,w) is at most ⌊n/w⌋
+-- for d = 2w, A(n,d,w) is at most ⌊n/w⌋
 abbrev pub disjoint_above : RuleParts
 disjoint_above = record {
   side = Upper;

@@ -9,7 +9,7 @@ use Rattle.ct_rule_parts.specs.Parts.{RuleParts, has_weight, weight_of}
 abbrev pub has_no_far_words : Entry → Bool
 has_no_far_words e = has_weight e && nat_lt (2 * min (weight_of e) (e.n - weight_of e)) e.d
 
--- V1: for d > 2·min(w, n - w), A(n,d,w) is at most 1
+-- for d > 2·min(w, n - w), A(n,d,w) is at most 1
 abbrev pub far_words : RuleParts
 far_words = record {
   side = Upper;

@@ -5,7 +5,7 @@ use Rattle.ct_rule_parts.specs.declared.support.Support.{Support}
 use Rattle.ct_rule_parts.specs.Parts.{RuleParts, has_weight}
 use Rattle.ct_rule_parts.specs.Support.{size_at}
 
--- M10 of a support: A(n,d,w) is at least the number of words of the code that supports it
+-- of a support: A(n,d,w) is at least the number of words of the code that supports it
 abbrev pub given_code : Option Support → RuleParts
 given_code c = record {
   side = Lower;

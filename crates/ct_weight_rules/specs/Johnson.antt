@@ -6,7 +6,7 @@ use Rattle.ct_johnson.specs.Bounds.{johnson_odd}
 use Rattle.ct_rule_parts.specs.Parts.{RuleParts, has_weight, half_up, first}
 use Rattle.ct_weight_rules.specs.Neighbours.{around, unweighted_and_nearer}
 
--- U9: for d = 2δ - 1 ≤ n, A(n,d) is at most ⌊2^n·F/(F·V(n,δ-1)+R)⌋, with F = ⌊n/δ⌋, V(n,e) the size of a ball and
+-- for d = 2δ - 1 ≤ n, A(n,d) is at most ⌊2^n·F/(F·V(n,δ-1)+R)⌋, with F = ⌊n/δ⌋, V(n,e) the size of a ball and
 -- R = C(n,δ) - C(d,δ-1)·A(n,d+1,d); there is no number where R is not above 0
 abbrev pub johnson : RuleParts
 johnson = record {

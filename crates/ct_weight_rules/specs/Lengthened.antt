@@ -4,7 +4,7 @@ use Rattle.ct_codes.specs.declared.claim.Side.TheVariants.{Lower}
 use Rattle.ct_rule_parts.specs.Parts.{RuleParts, has_weight, weight_of, first}
 use Rattle.ct_weight_rules.specs.Neighbours.{zero_less, zero_more, one_less, one_more}
 
--- M3, by a 0 after each word: A(n,d,w) is at least A(n-1,d,w)
+-- by a 0 after each word: A(n,d,w) is at least A(n-1,d,w)
 abbrev pub lengthened_by_zero : RuleParts
 lengthened_by_zero = record {
   side = Lower;
@@ -14,7 +14,7 @@ lengthened_by_zero = record {
   rested_on_by = λ e. zero_more e ∷ [];
 }
 
--- M4, by a 1 after each word: for w ≥ 1, A(n,d,w) is at least A(n-1,d,w-1)
+-- by a 1 after each word: for w ≥ 1, A(n,d,w) is at least A(n-1,d,w-1)
 abbrev pub lengthened_by_one : RuleParts
 lengthened_by_one = record {
   side = Lower;

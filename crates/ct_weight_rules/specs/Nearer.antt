@@ -4,7 +4,7 @@ use Rattle.ct_codes.specs.declared.claim.Side.TheVariants.{Lower, Upper}
 use Rattle.ct_rule_parts.specs.Parts.{RuleParts, has_weight, first}
 use Rattle.ct_weight_rules.specs.Neighbours.{two_nearer, two_farther}
 
--- M8: A(n,d,w) is at least A(n,d+2,w)
+-- A(n,d,w) is at least A(n,d+2,w)
 abbrev pub nearer_below : RuleParts
 nearer_below = record {
   side = Lower;
@@ -14,7 +14,7 @@ nearer_below = record {
   rested_on_by = λ e. two_nearer e ∷ [];
 }
 
--- V7: A(n,d,w) is at most A(n,d-2,w)
+-- A(n,d,w) is at most A(n,d-2,w)
 abbrev pub nearer_above : RuleParts
 nearer_above = record {
   side = Upper;

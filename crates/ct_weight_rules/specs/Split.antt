@@ -5,7 +5,7 @@ use Rattle.ct_codes.specs.declared.claim.Side.TheVariants.{Upper}
 use Rattle.ct_rule_parts.specs.Parts.{RuleParts, has_weight, weight_of, first, second}
 use Rattle.ct_weight_rules.specs.Neighbours.{zero_less, zero_more, one_less, one_more}
 
--- V6: for w ≥ 1, A(n,d,w) is at most A(n-1,d,w) + A(n-1,d,w-1)
+-- for w ≥ 1, A(n,d,w) is at most A(n-1,d,w) + A(n-1,d,w-1)
 abbrev pub split : RuleParts
 split = record {
   side = Upper;

@@ -13,7 +13,7 @@ size_of_class r e =
     Some (length (sum_class e.n (weight_of e) r))
     else None
 
--- M9 r: A(n,4,w) is at least the number of words of the sum class r
+-- with the residue r: A(n,4,w) is at least the number of words of the sum class r
 abbrev pub class_of_sum : ℕ → RuleParts
 class_of_sum r = record {
   side = Lower;

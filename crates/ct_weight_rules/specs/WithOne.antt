@@ -6,7 +6,7 @@ use Rattle.ct_codes.specs.declared.claim.Side.TheVariants.{Lower, Upper}
 use Rattle.ct_rule_parts.specs.Parts.{RuleParts, has_weight, weight_of, first}
 use Rattle.ct_weight_rules.specs.Neighbours.{one_less, one_more}
 
--- M5: A(n,d,w) is at least ⌈(w+1)·A(n+1,d,w+1)/(n+1)⌉
+-- A(n,d,w) is at least ⌈(w+1)·A(n+1,d,w+1)/(n+1)⌉
 abbrev pub with_one_below : RuleParts
 with_one_below = record {
   side = Lower;
@@ -16,7 +16,7 @@ with_one_below = record {
   rested_on_by = λ e. one_less e ∷ [];
 }
 
--- V4: for w ≥ 1, A(n,d,w) is at most ⌊n·A(n-1,d,w-1)/w⌋
+-- for w ≥ 1, A(n,d,w) is at most ⌊n·A(n-1,d,w-1)/w⌋
 abbrev pub with_one_above : RuleParts
 with_one_above = record {
   side = Upper;

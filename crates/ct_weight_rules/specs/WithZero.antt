@@ -6,7 +6,7 @@ use Rattle.ct_codes.specs.declared.claim.Side.TheVariants.{Lower, Upper}
 use Rattle.ct_rule_parts.specs.Parts.{RuleParts, has_weight, weight_of, first}
 use Rattle.ct_weight_rules.specs.Neighbours.{zero_less, zero_more}
 
--- M6: A(n,d,w) is at least ⌈(n+1-w)·A(n+1,d,w)/(n+1)⌉
+-- A(n,d,w) is at least ⌈(n+1-w)·A(n+1,d,w)/(n+1)⌉
 abbrev pub with_zero_below : RuleParts
 with_zero_below = record {
   side = Lower;
@@ -16,7 +16,7 @@ with_zero_below = record {
   rested_on_by = λ e. zero_less e ∷ [];
 }
 
--- V5: A(n,d,w) is at most ⌊n·A(n-1,d,w)/(n-w)⌋; w < n, since w is at most the length n - 1
+-- A(n,d,w) is at most ⌊n·A(n-1,d,w)/(n-w)⌋; w < n, since w is at most the length n - 1
 abbrev pub with_zero_above : RuleParts
 with_zero_above = record {
   side = Upper;

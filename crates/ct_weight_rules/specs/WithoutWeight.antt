@@ -4,7 +4,7 @@ use Rattle.ct_codes.specs.declared.claim.Side.TheVariants.{Lower}
 use Rattle.ct_rule_parts.specs.Parts.{RuleParts, has_weight, first}
 use Rattle.ct_weight_rules.specs.Neighbours.{even_of_weight, unweighted, unweighted_and_nearer}
 
--- L9 w: A(n,d) is at least A(n,2⌈d/2⌉,w)
+-- with the weight w: A(n,d) is at least A(n,2⌈d/2⌉,w)
 abbrev pub without_weight : ℕ → RuleParts
 without_weight w = record {
   side = Lower;

@@ -1,4 +1,4 @@
-//! All words of the weight: V0.
+//! All words of the weight.
 
 ghost use Rattle.std.specs.Prelude.{◌≡◌, ◌+◌, true, false, [], Some};
 ghost use Rattle.ct_words.specs.declared.limits.TheConstants.{MAX_N};
@@ -6,7 +6,7 @@ ghost use Rattle.ct_codes.specs.Entry.{unrestricted, constant_weight};
 ghost use Rattle.ct_rule_parts.specs.Parts.{is_defined};
 ghost use Rattle.ct_weight_rules.specs.AllWords.{all_words};
 
-/// Where V0 is defined, that it rests on nothing, and what it gives.
+/// Where the rule is defined, that it rests on nothing, and what it gives.
 pub fn known_all_words()
     ensures defined { is_defined all_words (constant_weight MAX_N MAX_N 0) ≡ true }
     ensures rests_on { all_words.rests_on (constant_weight MAX_N MAX_N 0) ≡ [] }

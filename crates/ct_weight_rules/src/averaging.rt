@@ -1,4 +1,4 @@
-//! The average over translates: U10.
+//! The average over translates.
 
 ghost use Rattle.std.specs.Prelude.{◌≡◌, ◌+◌, true, false, [], ◌∷◌, Some};
 ghost use Rattle.ct_words.specs.declared.limits.TheConstants.{MAX_N};
@@ -18,7 +18,7 @@ pub fn averaged(w: u32, entry: Entry, values: &[u32]) -> u64
     average(entry.n, w, first(values) as u32)
 }
 
-/// Where U10 is defined, with the least and the greatest weights, what it rests on and what it gives: A(8,4) ≤ 25 from
+/// Where the rule is defined, with the least and the greatest weights, what it rests on and what it gives: A(8,4) ≤ 25 from
 /// A(8,4,4) = 14, A(16,6) ≤ 458 from A(16,6,6) = 112.
 pub fn known_averaging()
     ensures defined { is_defined (averaging 4) (unrestricted 8 4) ≡ true }

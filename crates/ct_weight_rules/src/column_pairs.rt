@@ -1,4 +1,4 @@
-//! Pairs of words with a one at one place: V8.
+//! Pairs of words with a one at one place.
 
 ghost use Rattle.std.specs.Prelude.{◌≡◌, ◌+◌, true, false, [], Some, None};
 ghost use Rattle.ct_words.specs.declared.limits.TheConstants.{MAX_N};
@@ -19,7 +19,7 @@ pub fn below_too_many(entry: Entry) -> Option<u64>
     Some(u64::from(least - 1))
 }
 
-/// Where V8 is defined, that it rests on nothing, and what it gives: A(7,4,3) ≤ 7, which a code has, and so on.
+/// Where the rule is defined, that it rests on nothing, and what it gives: A(7,4,3) ≤ 7, which a code has, and so on.
 #[tactic(auto, unfolding(ct_johnson::specs::Bounds::least_from))]
 pub fn known_column_pairs()
     ensures defined { is_defined column_pairs (constant_weight 7 4 3) ≡ true }

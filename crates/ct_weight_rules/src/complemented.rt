@@ -1,4 +1,4 @@
-//! Complements: M7 and V3.
+//! Complements.
 
 ghost use Rattle.std.specs.Prelude.{◌≡◌, ◌+◌, true, false, [], ◌∷◌, Some};
 ghost use Rattle.ct_words.specs.declared.limits.TheConstants.{MAX_N};
@@ -6,7 +6,7 @@ ghost use Rattle.ct_codes.specs.Entry.{unrestricted, constant_weight};
 ghost use Rattle.ct_rule_parts.specs.Parts.{is_defined};
 ghost use Rattle.ct_weight_rules.specs.Complemented.{complemented_below, complemented_above};
 
-/// Where M7 and V3 are defined, with the least and the greatest weights, what they rest on and what they give: A(8,4,3) is
+/// Where the rules are defined, with the least and the greatest weights, what they rest on and what they give: A(8,4,3) is
 /// A(8,4,5) = 8. At half the length an entry rests on itself.
 pub fn known_complemented()
     ensures below_few_ones { complemented_below.rests_on (constant_weight 8 4 3) ≡ constant_weight 8 4 5 ∷ [] }

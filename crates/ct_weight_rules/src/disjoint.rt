@@ -1,4 +1,4 @@
-//! Words with no one in common: M2 and V2.
+//! Words with no one in common.
 
 ghost use Rattle.std.specs.Prelude.{◌≡◌, ◌+◌, ◌/◌, true, false, [], Some};
 ghost use Rattle.ct_codes.specs.Entry.{IsEntry, unrestricted, constant_weight};
@@ -27,7 +27,7 @@ pub fn count_of_disjoint(entry: Entry) -> u64
     u64::from(entry.n / (entry.d / 2))
 }
 
-/// Where M2 and V2 are defined, with the least and the greatest distances, that they rest on nothing and what they give:
+/// Where the rules are defined, with the least and the greatest distances, that they rest on nothing and what they give:
 /// A(13,6,3) is 4.
 pub fn known_disjoint()
     ensures below_first { is_defined disjoint_below (constant_weight 2 4 2) ≡ true }

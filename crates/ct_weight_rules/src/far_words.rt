@@ -1,4 +1,4 @@
-//! Far words: V1.
+//! Far words.
 
 ghost use Rattle.std.specs.Prelude.{◌≡◌, ◌+◌, ◌-◌, ◌/◌, true, false, [], Some};
 ghost use Rattle.ct_codes.specs.Entry.{IsEntry, unrestricted, constant_weight};
@@ -19,7 +19,7 @@ pub fn has_no_far_words(entry: Entry) -> bool
     }
 }
 
-/// Where V1 is defined, with few ones and with few zeros, that it rests on nothing, and that it gives 1.
+/// Where the rule is defined, with few ones and with few zeros, that it rests on nothing, and that it gives 1.
 pub fn known_far_words()
     ensures few_ones { is_defined far_words (constant_weight MAX_N 6 2) ≡ true }
     ensures few_zeros { is_defined far_words (constant_weight MAX_N 6 (MAX_N - 2)) ≡ true }

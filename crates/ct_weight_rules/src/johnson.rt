@@ -1,4 +1,4 @@
-//! The words outside the balls: U9.
+//! The words outside the balls.
 
 ghost use Rattle.std.specs.Prelude.{◌≡◌, ◌+◌, ◌-◌, true, false, [], ◌∷◌, Some, None};
 ghost use Rattle.ct_words.specs.declared.limits.TheConstants.{MAX_N};
@@ -19,7 +19,7 @@ pub fn johnson_bound(entry: Entry, values: &[u32]) -> Option<u64>
     johnson_odd(entry.n, entry.d.div_ceil(2), first(values) as u32)
 }
 
-/// Where U9 is defined, with the least and the greatest distances, what it rests on and what it gives: A(11,5) ≤ 24 from
+/// Where the rule is defined, with the least and the greatest distances, what it rests on and what it gives: A(11,5) ≤ 24 from
 /// A(11,6,5) = 11, which a code has, and A(8,3) ≤ 25 from A(8,4,3) = 8; nothing from A(7,4,3) = 7.
 pub fn known_johnson()
     ensures defined { is_defined johnson (unrestricted 11 5) ≡ true }

@@ -1,4 +1,4 @@
-//! A digit more: M3 and M4.
+//! A digit more.
 
 ghost use Rattle.std.specs.Prelude.{◌≡◌, ◌+◌, ◌-◌, true, false, [], ◌∷◌, Some};
 ghost use Rattle.ct_codes.specs.Entry.{unrestricted, constant_weight};
@@ -7,7 +7,7 @@ ghost use Rattle.ct_weight_rules.specs.Lengthened.{lengthened_by_zero, lengthene
 
 use ct_words::MAX_N;
 
-/// Where M3 and M4 are defined, with the least and the greatest lengths and weights, what they rest on and what they
+/// Where the rules are defined, with the least and the greatest lengths and weights, what they rest on and what they
 /// give: a 0 after each word keeps the weight, a 1 adds one to it.
 pub fn known_lengthened()
     ensures zero_first { is_defined lengthened_by_zero (constant_weight 2 4 1) ≡ true }

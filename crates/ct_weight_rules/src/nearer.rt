@@ -1,4 +1,4 @@
-//! A smaller distance: M8 and V7.
+//! A smaller distance.
 
 ghost use Rattle.std.specs.Prelude.{◌≡◌, ◌+◌, ◌-◌, ◌/◌, true, false, [], ◌∷◌, Some};
 ghost use Rattle.ct_codes.specs.Entry.{unrestricted, constant_weight};
@@ -7,7 +7,7 @@ ghost use Rattle.ct_weight_rules.specs.Nearer.{nearer_below, nearer_above};
 
 use ct_words::MAX_N;
 
-/// Where M8 and V7 are defined, with the least and the greatest distances and weights, what they rest on and what they
+/// Where the rules are defined, with the least and the greatest distances and weights, what they rest on and what they
 /// give.
 pub fn known_nearer()
     ensures below_last { is_defined nearer_below (constant_weight MAX_N (MAX_N - 2) (MAX_N / 2)) ≡ true }

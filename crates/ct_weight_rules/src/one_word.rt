@@ -1,4 +1,4 @@
-//! One word: M1.
+//! One word.
 
 ghost use Rattle.std.specs.Prelude.{◌≡◌, ◌+◌, true, false, [], Some};
 ghost use Rattle.ct_words.specs.declared.limits.TheConstants.{MAX_N};
@@ -6,7 +6,7 @@ ghost use Rattle.ct_codes.specs.Entry.{unrestricted, constant_weight};
 ghost use Rattle.ct_rule_parts.specs.Parts.{is_defined};
 ghost use Rattle.ct_weight_rules.specs.OneWord.{one_word};
 
-/// Where M1 is defined, that it rests on nothing, and that it gives 1.
+/// Where the rule is defined, that it rests on nothing, and that it gives 1.
 pub fn known_one_word()
     ensures defined { is_defined one_word (constant_weight 4 4 4) ≡ true }
     ensures rests_on { one_word.rests_on (constant_weight 4 4 4) ≡ [] }

@@ -1,4 +1,4 @@
-//! Words by one digit: V6.
+//! Words by one digit.
 
 ghost use Rattle.std.specs.Prelude.{◌≡◌, ◌+◌, ◌-◌, ◌/◌, true, false, ◌∷◌, [], Some};
 ghost use Rattle.ct_codes.specs.declared.claim.Side.TheVariants.{Upper};
@@ -28,7 +28,7 @@ pub fn split_into(entry: Entry) -> Entries<'static>
     Entries::Two(zero_more(entry), one_more(entry))
 }
 
-/// Where V6 is defined, with the least and the greatest lengths and weights, what it rests on, the words with a 0 first,
+/// Where the rule is defined, with the least and the greatest lengths and weights, what it rests on, the words with a 0 first,
 /// and what it gives: a number above `MAX_BOUND` is taken as `MAX_BOUND`.
 pub fn known_split()
     ensures first { is_defined split (constant_weight 2 4 1) ≡ true }

@@ -1,4 +1,4 @@
-//! A sum class: M9.
+//! A sum class.
 
 ghost use Rattle.std.specs.Prelude.{◌≡◌, true, false, [], Some, None};
 ghost use Rattle.ct_codes.specs.Entry.{IsEntry, unrestricted, constant_weight};
@@ -23,7 +23,7 @@ pub fn size_of_class(r: u32, entry: Entry) -> Option<u64>
     if size > 0 { Some(size) } else { None }
 }
 
-/// Where M9 is defined, with the least and the greatest residues, that it rests on nothing and what it gives: A(6,4,3) is 4.
+/// Where the rule is defined, with the least and the greatest residues, that it rests on nothing and what it gives: A(6,4,3) is 4.
 pub fn known_sum_class()
     ensures value { (class_of_sum 0).number (constant_weight 6 4 3) [] ≡ Some 4 }
     ensures other_value { (class_of_sum 1).number (constant_weight 6 4 3) [] ≡ Some 3 }

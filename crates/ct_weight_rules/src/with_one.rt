@@ -1,4 +1,4 @@
-//! Words with a one at a place: M5 and V4.
+//! Words with a one at a place.
 
 ghost use Rattle.std.specs.Prelude.{◌≡◌, ◌+◌, ◌-◌, true, false, [], ◌∷◌, Some};
 ghost use Rattle.ct_words.specs.declared.limits.TheConstants.{MAX_N};
@@ -31,7 +31,7 @@ pub fn bound_by_ones(entry: Entry, values: &[u32]) -> u64
     ones.checked_div(u64::from(w)).unwrap_or(0)
 }
 
-/// Where M5 and V4 are defined, with the least and the greatest lengths, distances and weights, what they rest on and what they
+/// Where the rules are defined, with the least and the greatest lengths, distances and weights, what they rest on and what they
 /// give: A(9,4,2) = 4 from A(10,4,3) = 13, and the other way round.
 pub fn known_with_one()
     ensures below_first { is_defined with_one_below (constant_weight 1 4 0) ≡ true }

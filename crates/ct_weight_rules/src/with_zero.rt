@@ -1,4 +1,4 @@
-//! Words with a zero at a place: M6 and V5.
+//! Words with a zero at a place.
 
 ghost use Rattle.std.specs.Prelude.{◌≡◌, ◌+◌, ◌-◌, true, false, [], ◌∷◌, Some};
 ghost use Rattle.ct_words.specs.declared.limits.TheConstants.{MAX_N};
@@ -34,7 +34,7 @@ pub fn bound_by_zeros(entry: Entry, values: &[u32]) -> u64
         .unwrap_or(0)
 }
 
-/// Where M6 and V5 are defined, with the least and the greatest lengths, distances and weights, what they rest on and what they
+/// Where the rules are defined, with the least and the greatest lengths, distances and weights, what they rest on and what they
 /// give: A(9,4,3) ≥ 10 from A(10,4,3) = 13, and A(10,4,7) = 13 from A(9,4,7) = 4.
 pub fn known_with_zero()
     ensures below_first { is_defined with_zero_below (constant_weight 1 4 0) ≡ true }

@@ -1,4 +1,4 @@
-//! Codes of constant weight, without it: L9.
+//! Codes of constant weight, without it.
 
 ghost use Rattle.std.specs.Prelude.{◌≡◌, ◌+◌, ◌-◌, true, false, [], ◌∷◌, Some};
 ghost use Rattle.ct_words.specs.declared.limits.TheConstants.{MAX_N};
@@ -6,7 +6,7 @@ ghost use Rattle.ct_codes.specs.Entry.{unrestricted, constant_weight};
 ghost use Rattle.ct_rule_parts.specs.Parts.{is_defined};
 ghost use Rattle.ct_weight_rules.specs.WithoutWeight.{without_weight};
 
-/// Where L9 is defined, with the least and the greatest weights, what it rests on and what it gives: A(7,3) ≥ A(7,4,3) = 7
+/// Where the rule is defined, with the least and the greatest weights, what it rests on and what it gives: A(7,3) ≥ A(7,4,3) = 7
 /// and A(8,4) ≥ A(8,4,4) = 14.
 pub fn known_without_weight()
     ensures even { is_defined (without_weight 4) (unrestricted 8 4) ≡ true }

@@ -1,6 +1,6 @@
 use Rattle.std.proofs.Common.{refl}
 use Rattle.ct_rules.specs.Rule.{row_of}
-use Rattle.ct_rules.proofs.rule_laws.known_premises.Goals as goal
+use Rattle.ct_table_tests.proofs.rules.known_premises.Goals as goal
 
 pub returns : goal.returns
 unfolding row_of
