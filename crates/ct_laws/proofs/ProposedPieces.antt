@@ -23,7 +23,8 @@ use Rattle.ct_finder_run.specs.Run.{End}
 use Rattle.ct_finder_run.specs.Run.End.{Least, Turns, Wide}
 use Rattle.ct_finder.specs.Found.{bound_of, stop_of}
 use Rattle.ct_proposals.specs.declared.found.TheConstants.{MAX_TURNS}
-use Rattle.ct_proposals.specs.Proposal.{find_id, found_dual, proposed_piece, run_for, stop_text}
+use Rattle.ct_files.proofs.Evidences.{read_of-within}
+use Rattle.ct_proposals.specs.Proposal.{dual_evidence, find_id, found_dual, proposed_piece, run_for, stop_text}
 use Rattle.ct_proposals.proofs.Accepted.{made-proposed, stored-none}
 use Rattle.ct_proposals.proofs.FindIds.{find_id-named, find_id-different}
 use Rattle.ct_proposals.proofs.FoundDuals.{bound-is}
@@ -58,9 +59,13 @@ entries : (es : List Entry) (text : List ℕ) (h : AreProposed es text) → map 
 entries [] text h = refl
 entries (e ∷ es) text (own, rest, here, are, is) = ap (λ fs. e ∷ fs) (entries es rest are)
 
+-- its document is within the limit, since it is read
+within : (e : Entry) (text : List ℕ) (h : IsProposed e text) → length h.proposal.0 ≤ MAX_DOCUMENT
+within e text h = read_of-within h.proposal.0 (dual_evidence h.dual.entry.w h.dual) h.proposal.1
+
 short : (es : List Entry) (text : List ℕ) (h : AreProposed es text) → AreShort (pieces es text h)
 short [] text h = All-nil (λ (p : PieceValue). length p.document ≤ MAX_DOCUMENT)
-short (e ∷ es) text (own, rest, here, are, is) = All-cons (λ (p : PieceValue). length p.document ≤ MAX_DOCUMENT) (piece e own here) (pieces es rest are) here.short (short es rest are)
+short (e ∷ es) text (own, rest, here, are, is) = All-cons (λ (p : PieceValue). length p.document ≤ MAX_DOCUMENT) (piece e own here) (pieces es rest are) (within e own here) (short es rest are)
 
 abbrev IsNamed : PieceValue → Type 0
 IsNamed p = IsTrue (is_id p.id)
@@ -180,7 +185,7 @@ proposal-command e own rest h entry =
     ∙ ap (λ t. commands_of (lines_of t)) (append_assoc (line ++ LINE_FEED ∷ []) (piece_dump p) rest ∙ append_assoc line (LINE_FEED ∷ []) after)
     ∙ ap commands_of (lines_of-next line after (IsLine-comment (bound_of h.dual) stop (bound_small e h.dual entry h.found) (stop_line (run_for e))))
     ∙ nothing line (lines_of after) (form_of-comment (bound_of h.dual) stop)
-    ∙ piece_dump-command p rest h.short (find_id-named e entry)
+    ∙ piece_dump-command p rest (within e own h) (find_id-named e entry)
 
 commands : (es : List Entry) (text : List ℕ) (h : AreProposed es text) → All IsEntry es → commands_of (lines_of text) ≡ map submission_of (pieces es text h)
 commands [] text is all = ap (λ t. commands_of (lines_of t)) is

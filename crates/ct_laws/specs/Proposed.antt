@@ -1,19 +1,17 @@
 -- What `find` writes for entries of the table, as the input of a session.
-use Rattle.std.specs.Prelude.{◌≡◌, ℕ, ◌≤◌, List, [], ◌∷◌, ◌++◌, length, codes, Some}
+use Rattle.std.specs.Prelude.{◌≡◌, ℕ, List, [], ◌∷◌, ◌++◌, codes, Some}
 use Rattle.ct_lines.specs.declared.TheConstants.{LINE_FEED}
 use Rattle.ct_codes.specs.declared.entry.Entry.{Entry}
 use Rattle.ct_duals.specs.declared.dual.Dual.{Dual}
-use Rattle.ct_fields.specs.declared.document.TheConstants.{MAX_DOCUMENT}
 use Rattle.ct_finder.specs.Found.{bound_of, stop_of}
 use Rattle.ct_proposals.specs.declared.found.TheConstants.{MAX_TURNS}
 use Rattle.ct_proposals.specs.Proposal.{find_id, found_dual, run_for, IsProposal}
 
--- the text proposes the dual that is found for the entry, in a document within the limit
+-- the text proposes the dual that is found for the entry
 pub record IsProposed (e : Entry) (text : List ℕ) : Type 0 where
   pub dual : Dual
   pub found : found_dual e ≡ Some dual
   pub proposal : IsProposal e dual (bound_of dual) (stop_of MAX_TURNS (run_for e)) text
-  pub short : length proposal.0 ≤ MAX_DOCUMENT
 
 -- the text does so for each of the entries, one after another
 abbrev pub AreProposed : List Entry → List ℕ → Type 0

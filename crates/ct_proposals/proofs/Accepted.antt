@@ -9,9 +9,8 @@ use Rattle.ct_duals.specs.declared.dual.Dual.{Dual}
 use Rattle.ct_duals.specs.Check.{dual_fault}
 use Rattle.ct_duals.specs.declared.fault.DualFault.{DualFault}
 use Rattle.ct_codes.specs.Numbers.{numbers_of}
-use Rattle.ct_fields.specs.declared.document.TheConstants.{MAX_DOCUMENT}
-use Rattle.ct_files.specs.Evidence.{read_without_limit}
-use Rattle.ct_files.proofs.DocumentAnswers.{read_of-short}
+use Rattle.ct_files.specs.Evidence.{read_without_limit, read_of}
+use Rattle.ct_files.proofs.Evidences.{read_of-without_limit}
 use Rattle.ct_ledger.specs.Named.{NamedCode}
 use Rattle.ct_ledger.specs.Piece.{PieceValue, stored_by, stored_words}
 use Rattle.ct_ledger.specs.Codes.{codes_of}
@@ -41,8 +40,9 @@ stored-none e d document = stored-at e.w (find_id e) document e d
 
 -- the document of a proposal makes the piece that is proposed
 pub made-proposed : (known : List NamedCode) (e : Entry) (d : Dual) (document : List ℕ) → IsEntry e → found_dual e ≡ Some d
-    → read_without_limit document ≡ Ok (dual_evidence d.entry.w d) → piece_from known (find_id e) document (read_without_limit document) ≡ Ok (proposed_piece e d document)
-made-proposed known e d document entry same reads =
+    → read_of document ≡ Ok (dual_evidence d.entry.w d) → piece_from known (find_id e) document (read_without_limit document) ≡ Ok (proposed_piece e d document)
+made-proposed known e d document entry same is_read =
+    let reads = read_of-without_limit document (dual_evidence d.entry.w d) is_read in
     let f = found e d entry same in
     let none = subst (λ (x : Entry). dual_fault (numbers_of x) d ≡ None) (sym f.entry) f.accepted in
     ap (piece_from known (find_id e) document) (reads ∙ ap (λ (x : Entry). Ok (dual_evidence x.w d)) f.entry)
@@ -50,16 +50,17 @@ made-proposed known e d document entry same reads =
     ∙ ap (λ (x : Entry). Ok (record { id = find_id e; document = document; evidence = dual_evidence e.w d; entry = x; size = None })) f.entry
 
 pub accepted-beside : (e : Entry) (d : Dual) (document : List ℕ) (pieces : List PieceValue) → IsEntry e → found_dual e ≡ Some d
-    → read_without_limit document ≡ Ok (dual_evidence d.entry.w d) → length document ≤ MAX_DOCUMENT → All (λ (q : PieceValue). q.id ≢ find_id e) pieces
-    → length pieces < MAX_PIECES → stored_words pieces ≤ MAX_STORED → submitted pieces (find_id e) document ≡ Ok (proposed_piece e d document)
-accepted-beside e d document pieces entry same reads short free room small =
+    → read_of document ≡ Ok (dual_evidence d.entry.w d) → All (λ (q : PieceValue). q.id ≢ find_id e) pieces → length pieces < MAX_PIECES
+    → stored_words pieces ≤ MAX_STORED → submitted pieces (find_id e) document ≡ Ok (proposed_piece e d document)
+accepted-beside e d document pieces entry same reads free room small =
     let known = codes_of pieces in
-    let made = ap (piece_from known (find_id e) document) (read_of-short document short) ∙ made-proposed known e d document entry same reads in
+    let same_read = reads ∙ sym (read_of-without_limit document (dual_evidence d.entry.w d) reads) in
+    let made = ap (piece_from known (find_id e) document) same_read ∙ made-proposed known e d document entry same reads in
     let stored = stored-none e d document in
     submitted-from pieces (find_id e) document (proposed_piece e d document)
     (record { free = not_taken (find_id e) pieces free; room = room; made = made; small = omega (arith, stored, small) })
 
-pub accepted-alone : (e : Entry) (d : Dual) (document : List ℕ) → IsEntry e → found_dual e ≡ Some d → read_without_limit document ≡ Ok (dual_evidence d.entry.w d)
-    → length document ≤ MAX_DOCUMENT → submitted [] (find_id e) document ≡ Ok (proposed_piece e d document)
-accepted-alone e d document entry same reads short =
-    accepted-beside e d document [] entry same reads short (All-nil (λ (q : PieceValue). q.id ≢ find_id e)) (lit< tt) (omega arith)
+pub accepted-alone : (e : Entry) (d : Dual) (document : List ℕ) → IsEntry e → found_dual e ≡ Some d → read_of document ≡ Ok (dual_evidence d.entry.w d)
+    → submitted [] (find_id e) document ≡ Ok (proposed_piece e d document)
+accepted-alone e d document entry same reads =
+    accepted-beside e d document [] entry same reads (All-nil (λ (q : PieceValue). q.id ≢ find_id e)) (lit< tt) (omega arith)

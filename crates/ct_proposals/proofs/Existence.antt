@@ -1,5 +1,5 @@
 -- Each input has an output: documents of duals that are found, proposals, and replies.
-use Rattle.std.proofs.Common.{◌≡◌, ◌∙◌, ℕ, suc, ◌≤◌, ◌^◌, Bool, true, false, List, [], ◌∷◌, ◌++◌, codes, replicate, All, Option, Some, None, Result, Ok, IfSome, IsSome, refl, ap, arith}
+use Rattle.std.proofs.Common.{◌≡◌, ℕ, suc, ◌≤◌, ◌^◌, Bool, true, false, List, [], ◌∷◌, ◌++◌, codes, length, replicate, All, Option, Some, None, Ok, IfSome, refl, arith}
 use Rattle.std.specs.Prelude.{ℤ, pos, negsuc, ◌≤ℤ◌, ◌<ℤ◌, ◌||◌, FitsSigned}
 use Rattle.std.specs.Int.{w64}
 use Rattle.std.proofs.lemmas.Int.{fits_signed_from_abs, ints}
@@ -12,12 +12,11 @@ use Rattle.ct_codes.proofs.EntryLemmas.{entry_limits}
 use Rattle.ct_duals.specs.declared.dual.Dual.{Dual}
 use Rattle.ct_duals.specs.Dual.{IsDual}
 use Rattle.ct_fields.specs.Document.{table_of}
-use Rattle.ct_fields.specs.Steps.{◌>>=◌}
-use Rattle.ct_fields.specs.declared.fault.FileFault.{FileFault}
 use Rattle.ct_evidence.specs.declared.evidence.Evidence.TheVariants as evidence
-use Rattle.ct_files.specs.Evidence.{read_without_limit}
-use Rattle.ct_files.proofs.DocumentAnswers.{evidence_of-dual, evidence_of-johnson_dual}
-use Rattle.ct_dual_files.proofs.WrittenDuals.{states_dual, states_johnson_dual, dual_of-dual_table, johnson_dual_of-johnson_dual_table}
+use Rattle.ct_files.specs.Evidence.{read_of}
+use Rattle.ct_files.proofs.Lengths.{written-read}
+use Rattle.ct_fields.specs.Inside.Room.{IsSimpleTable, table_room}
+use Rattle.ct_fields.proofs.TextLengths.{document_length}
 use Rattle.ct_dual_files.specs.WrittenDuals.{dual_table, johnson_dual_table}
 use Rattle.ct_duals.specs.Dual.{degree_of}
 use Rattle.ct_codes.specs.Numbers.{numbers_of}
@@ -117,46 +116,45 @@ johnson_dual_plain n d w c n_small d_small w_small c_fits = (
   ),
 )
 
--- a table that is plain is that of some bytes
-bytes_of : (ms : Members) → ArePlain ms → (bytes : List ℕ) × (table_of bytes ≡ Some (table ms))
+-- a table that is plain is that of some bytes, which are no more than there is room for
+record Bytes (ms : Members) : Type 0 where
+  bytes : List ℕ
+  written : table_of bytes ≡ Some (table ms)
+  room : IsSimpleTable ms → length bytes ≤ table_room ms
+
+bytes_of : (ms : Members) → ArePlain ms → Bytes ms
 unfolding table_of
 bytes_of ms plain =
-    let (bytes, utf8, parsed) = plain_text ms plain in
-    (bytes, rw (is_utf8-from_IsUtf8 bytes utf8, parsed) refl)
-
-read_dual : (d : Dual) (bytes : List ℕ) → IsDual d → d.entry.w ≡ None → table_of bytes ≡ Some (table (dual_table d)) → read_without_limit bytes ≡ Ok (evidence.Dual d)
-unfolding read_without_limit
-read_dual d bytes form plain written =
-    rw written (evidence_of-dual (table (dual_table d)) (states_dual d form plain).fields.of_kind
-    ∙ ap (λ (r : Result Dual FileFault). r >>= (λ found. Ok (evidence.Dual found))) (dual_of-dual_table d form plain))
-
-read_johnson_dual : (d : Dual) (bytes : List ℕ) → IsDual d → IsSome d.entry.w → table_of bytes ≡ Some (table (johnson_dual_table d)) → read_without_limit bytes ≡ Ok (evidence.JohnsonDual d)
-unfolding read_without_limit
-read_johnson_dual d bytes form some written =
-    rw written (evidence_of-johnson_dual (table (johnson_dual_table d)) (states_johnson_dual d form some).fields.of_kind
-    ∙ ap (λ (r : Result Dual FileFault). r >>= (λ found. Ok (evidence.JohnsonDual found))) (johnson_dual_of-johnson_dual_table d form some))
+    let (bytes, utf8, parsed, text) = plain_text ms plain in
+    record {
+      bytes = bytes;
+      written = rw (is_utf8-from_IsUtf8 bytes utf8, parsed) refl;
+      room = λ simple. document_length ms bytes simple text;
+    }
 
 -- each dual that allows nothing has a document
 plain_document : (n d : ℕ) (even : Bool) (c : List ℤ) → IsDual (with_multipliers (unrestricted n d) even c)
-    → (document : List ℕ) × (read_without_limit document ≡ Ok (evidence.Dual (with_multipliers (unrestricted n d) even c)))
+    → (document : List ℕ) × (read_of document ≡ Ok (evidence.Dual (with_multipliers (unrestricted n d) even c)))
 plain_document n d even c form =
     let limits = entry_limits (unrestricted n d) form.entry in
-    let (bytes, written) = bytes_of (dual_table (with_multipliers (unrestricted n d) even c))
+    let own = with_multipliers (unrestricted n d) even c in
+    let b = bytes_of (dual_table own)
     (dual_plain n d even c limits.length_to limits.distance_to (all_fit c form.multipliers form.signed.0)) in
-    (bytes, read_dual (with_multipliers (unrestricted n d) even c) bytes form refl written)
+    (b.bytes, written-read (evidence.Dual own) (dual_table own) b.bytes (form, refl) tt refl b.written b.room)
 
 weighted_document : (n d w : ℕ) (c : List ℤ) → IsDual (with_multipliers (constant_weight n d w) false c)
-    → (document : List ℕ) × (read_without_limit document ≡ Ok (evidence.JohnsonDual (with_multipliers (constant_weight n d w) false c)))
+    → (document : List ℕ) × (read_of document ≡ Ok (evidence.JohnsonDual (with_multipliers (constant_weight n d w) false c)))
 weighted_document n d w c form =
     let limits = entry_limits (constant_weight n d w) form.entry in
     let weight = limits.weight in
     let length_to = limits.length_to in
-    let (bytes, written) = bytes_of (johnson_dual_table (with_multipliers (constant_weight n d w) false c))
+    let own = with_multipliers (constant_weight n d w) false c in
+    let b = bytes_of (johnson_dual_table own)
     (johnson_dual_plain n d w c limits.length_to limits.distance_to (omega (arith, weight.2)) (all_fit c form.multipliers form.signed.0)) in
-    (bytes, read_johnson_dual (with_multipliers (constant_weight n d w) false c) bytes form refl written)
+    (b.bytes, written-read (evidence.JohnsonDual own) (johnson_dual_table own) b.bytes (form, refl) tt refl b.written b.room)
 
 -- each proposal with a document has a text
-proposal_exists : (e : Entry) (d : Dual) (bound : ℕ) (stop : Stop) → (document : List ℕ) × (read_without_limit document ≡ Ok (dual_evidence d.entry.w d))
+proposal_exists : (e : Entry) (d : Dual) (bound : ℕ) (stop : Stop) → (document : List ℕ) × (read_of document ≡ Ok (dual_evidence d.entry.w d))
     → (text : List ℕ) × IsProposal e d bound stop text
 proposal_exists e d bound stop (document, reads) = (bound_line bound stop ++ submission_text (find_id e) document, (document, reads, refl))
 

@@ -169,8 +169,12 @@ members_sorted no_members plain = refl
 members_sorted (member k d ms) (ascii, order, value, plain) = rw (order, plain_sorted d value, members_sorted ms plain) refl
 
 -- a plain table has a text
-pub plain_text : (ms : Members) → ArePlain ms → (text : List ℕ) × IsUtf8 text × (parse_document text ≡ Some ms)
+pub plain_text : (ms : Members) → ArePlain ms → (text : List ℕ) × IsUtf8 text × (parse_document text ≡ Some ms) × IsDocumentText false ms text
 plain_text ms plain =
     let (text, written, ascii) = document_written ms plain in
-    let shallow = members_plain_depth ms plain in
-    (text, IsUtf8-from_ascii text ascii, parse_document-printed false ms text written (omega arith) (members_dates ms plain) (members_sorted ms plain))
+    let shallow = members_plain_depth ms plain in (
+      text,
+      IsUtf8-from_ascii text ascii,
+      parse_document-printed false ms text written (omega arith) (members_dates ms plain) (members_sorted ms plain),
+      written,
+    )

@@ -6,7 +6,7 @@ use Rattle.ct_codes.specs.declared.entry.Entry.{Entry}
 use Rattle.ct_duals.specs.declared.dual.Dual.{Dual}
 use Rattle.ct_evidence.specs.declared.evidence.Evidence.{Evidence}
 use Rattle.ct_evidence.specs.declared.evidence.Evidence.TheVariants as evidence
-use Rattle.ct_files.specs.Evidence.{read_without_limit}
+use Rattle.ct_files.specs.Evidence.{read_of}
 use Rattle.ct_ledger.specs.Dump.{line_count}
 use Rattle.ct_ledger.specs.Piece.{PieceValue}
 use Rattle.ct_finder_run.specs.Run.{End}
@@ -64,7 +64,7 @@ submission_text id document = codes "submit " ++ id ++ codes " lines " ++ decima
 -- a proposal: the comment, and the submission of a document that reads as the dual
 abbrev pub IsProposal : Entry → Dual → ℕ → Stop → List ℕ → Type 0
 IsProposal e d bound stop text =
-    (document : List ℕ) × (read_without_limit document ≡ Ok (dual_evidence d.entry.w d)) × (text ≡ bound_line bound stop ++ submission_text (find_id e) document)
+    (document : List ℕ) × (read_of document ≡ Ok (dual_evidence d.entry.w d)) × (text ≡ bound_line bound stop ++ submission_text (find_id e) document)
 
 -- what is written for an entry of the table: the proposal of the dual, with its bound and how the run stopped, or `none`
 abbrev pub AnswersEntry : Entry → Option Dual → List ℕ → Type 0

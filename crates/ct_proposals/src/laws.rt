@@ -11,7 +11,6 @@ ghost use Rattle.ct_duals.specs.Dual.{IsDual, multiplier, combination};
 ghost use Rattle.ct_duals.specs.Check.{dual_fault};
 ghost use Rattle.ct_duals.specs.Bound.{dual_premises, natural};
 ghost use Rattle.ct_codes.specs.Numbers.{numbers_of};
-ghost use Rattle.ct_fields.specs.declared.document.TheConstants.{MAX_DOCUMENT};
 ghost use Rattle.ct_ledger.specs.Piece.{PieceValue, stored_words};
 ghost use Rattle.ct_ledger.specs.Submission.{submitted};
 ghost use Rattle.ct_ledger.specs.declared.limits.TheConstants.{MAX_PIECES, MAX_STORED};
@@ -36,16 +35,15 @@ pub fn found_duals_bound_codes()
     ensures without_weight { (e : Entry) → e.w ≡ None → IsSome (found_dual e) }
 {}
 
-/// What is proposed for an entry of the table is accepted: its document, where it is at most `MAX_DOCUMENT` bytes long, submitted under
-/// its id, makes a piece that is the dual, of this entry and without a size. So it is over the empty ledger, and over whatever pieces
-/// where none has the id, fewer than `MAX_PIECES` stand and they store no more words than they may. The id is one, and those of
-/// different entries differ.
+/// What is proposed for an entry of the table is accepted: its document, submitted under its id, makes a piece that is the dual, of this
+/// entry and without a size. So it is over the empty ledger, and over whatever pieces where none has the id, fewer than `MAX_PIECES`
+/// stand and they store no more words than they may. The id is one, and those of different entries differ.
 pub fn proposals_are_accepted()
     ensures alone { (e : Entry) (d : Dual) (bound : ℕ) (stop : Stop) (text : List ℕ) (proposal : IsProposal e d bound stop text) →
-        IsEntry e → found_dual e ≡ Some d → length proposal.0 ≤ MAX_DOCUMENT →
+        IsEntry e → found_dual e ≡ Some d →
         submitted [] (find_id e) proposal.0 ≡ Ok (proposed_piece e d proposal.0) }
     ensures beside { (e : Entry) (d : Dual) (bound : ℕ) (stop : Stop) (text : List ℕ) (proposal : IsProposal e d bound stop text)
-        (pieces : List PieceValue) → IsEntry e → found_dual e ≡ Some d → length proposal.0 ≤ MAX_DOCUMENT →
+        (pieces : List PieceValue) → IsEntry e → found_dual e ≡ Some d →
         All (λ q. q.id ≢ find_id e) pieces → length pieces < MAX_PIECES → stored_words pieces ≤ MAX_STORED →
         submitted pieces (find_id e) proposal.0 ≡ Ok (proposed_piece e d proposal.0) }
     ensures named { (e : Entry) → IsEntry e → IsTrue (is_id (find_id e)) }

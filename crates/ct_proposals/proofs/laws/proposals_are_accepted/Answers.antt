@@ -4,8 +4,8 @@ use Rattle.ct_proposals.proofs.laws.proposals_are_accepted.Goals as goal
 
 pub returns : goal.returns
 returns c = record {
-  alone = λ e d bound stop text proposal entry same short. accepted-alone e d proposal.0 entry same proposal.1 short;
-  beside = λ e d bound stop text proposal pieces entry same short free room small. accepted-beside e d proposal.0 pieces entry same proposal.1 short free room small;
+  alone = λ e d bound stop text proposal entry same. accepted-alone e d proposal.0 entry same proposal.1;
+  beside = λ e d bound stop text proposal pieces entry same free room small. accepted-beside e d proposal.0 pieces entry same proposal.1 free room small;
   named = find_id-named;
   different = find_id-different;
 }
