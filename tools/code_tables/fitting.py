@@ -16,7 +16,7 @@ PLACES = {"weight": 1, "digits": 1, "repeated": 2, "close": 2}
 class Standing:
     """The pieces that stand as the replies say, ids in order; `fits` takes the replies one by one."""
 
-    def __init__(self):
+    def __init__(self) -> None:
         self.ids: list[str] = []
 
     def fault(self, command: Command, reply: Lines) -> str | None:
@@ -27,6 +27,7 @@ class Standing:
         return judge(command, reply) if judge else "the command is none, and can only be refused"
 
     def refused(self, command: Command, words: Lines) -> str | None:
+        """Of a refusal, by its words."""
         fault, rest = words[0], words[1:]
         is_submission = command.words[0] == "submit"
         if not is_submission and fault not in ("command", "entry", "nosuch", "inuse"):
@@ -47,6 +48,7 @@ class Standing:
         return None
 
     def submit(self, command: Command, reply: Lines) -> str | None:
+        """Of a submission."""
         told = re.fullmatch(r"accepted (\S+)(?: size (\d+))?", reply[0])
         if not told:
             return "a submission is accepted or refused"
@@ -65,6 +67,7 @@ class Standing:
         return None
 
     def withdraw(self, command: Command, reply: Lines) -> str | None:
+        """Of a withdrawal."""
         if reply != [f"withdrawn {command.id}"]:
             return f"the command withdraws {command.id}"
         if command.id not in self.ids:
@@ -73,13 +76,16 @@ class Standing:
         return None
 
     def show(self, command: Command, reply: Lines) -> str | None:
+        """Of the bounds of an entry."""
         return entries_fault([numbers_of(command.words[1:])], reply)
 
     def table(self, command: Command, reply: Lines) -> str | None:
+        """Of the bounds of a column."""
         numbers = numbers_of(command.words[1:])
         return entries_fault([(n, *numbers) for n in range(max(1, *numbers[1:], 1), 29)], reply)
 
     def list(self, command: Command, reply: Lines) -> str | None:
+        """Of the words of a code."""
         told = re.fullmatch(r"code ((?:\d+ )+)size (\d+)", reply[0])
         numbers = numbers_of(command.words[1:])
         if not told or numbers_of(told[1].split()) != numbers:
@@ -89,13 +95,16 @@ class Standing:
         return None
 
     def explain(self, command: Command, reply: Lines) -> str | None:
+        """Of a derivation."""
         return None if reply[0] == "derivation" and reply[-1] == "done" else "a derivation has to follow"
 
     def ledger(self, command: Command, reply: Lines) -> str | None:
+        """Of the list of pieces."""
         told = [line.split(" ")[0] for line in reply[:-1]]
         return None if reply[-1] == f"pieces {len(self.ids)}" and told == self.ids else f"{len(self.ids)} pieces stand: {' '.join(self.ids)}"
 
     def dump(self, command: Command, reply: Lines) -> str | None:
+        """Of a dump."""
         return None if reply[0] == f"# dump of {len(self.ids)} pieces" else f"{len(self.ids)} pieces stand"
 
 

@@ -186,7 +186,7 @@ def representatives(words: Iterable[int], basis: Iterable[int]) -> list[int]:
 class Planes:
     """Words digit by digit: the number of a digit has a bit for each word, so that an operation on it is one on all words."""
 
-    def __init__(self, words: Sequence[int], basis: Iterable[int] = ()):
+    def __init__(self, words: Sequence[int], basis: Iterable[int] = ()) -> None:
         """The sums of each of the words with all sums of the basis, those of one word together."""
         n = max([word.bit_length() for word in [*words, *basis]], default=0)
         self.count = 1

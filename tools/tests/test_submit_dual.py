@@ -2,7 +2,7 @@
 
 import unittest
 
-from support import data, needs_program, run, session
+from support import call, data, needs_program, run, session
 
 
 def lines(letter, numbers, scale):
@@ -37,12 +37,21 @@ class SubmitDual(unittest.TestCase):
                 ((13, 6), "c 0 1\nc 1 -0.2\n", "c 1 is -0.2, below 0"), ((13, 6), "c 1 1\n", "c 0 is not above 0"),
                 ((13, 6), "c 0 x\n", "line 1: x is no decimal"), ((13, 6), "c 14 1\n", "line 1: there is no multiplier c 14"),
                 ((13, 6), "y 7 1\n", "line 1: there is no multiplier y 7"), ((13, 6), "c 0\n", "line 1 has not the form"),
+                ((13, 6), "cy 0 1\n", "line 1 has not the form"), ((13, 6), "c 01 1\n", "line 1: 01 is no whole number below 2^64"),
+                ((13, 6), "c 18446744073709551616 1\n", "line 1: 18446744073709551616 is no whole number below 2^64"), ((13, 6), "c 0 1e999999999\n", "line 1: 1e999999999 is no decimal and no fraction"),
+                ((13, 6), "c 0 1/0\n", "line 1: 1/0 is no decimal"), ((13, 6), "c 0 nan\n", "line 1: nan is no decimal"),
                 ((8, 4, 4), "y 2 1\n", "line 1: there is no multiplier y 2"), ((29, 4), "", "A(29,4) is no entry"),
                 ((8, 5, 4), "", "A(8,5,4) is no entry")]:
             with self.subTest(fault=fault):
-                out, said, status = run("submit_dual.py", "a", *words, text=text)
+                out, said, status = call("submit_dual", "a", *words, text=text)
                 self.assertEqual((out, status), ("", 1))
                 self.assertIn("submit_dual: refused: " + fault, said)
+
+    def test_numbers_of_the_command_line_are_whole(self):
+        for words in (("1_3", 6), ("13.0", 6), (13, "-6"), (13, 6, "x"), (13, "18446744073709551616")):
+            with self.subTest(words=words):
+                out, said, status = call("submit_dual", "a", *words, text="c 0 1\n")
+                self.assertEqual((out, status), ("", 2))
 
     @needs_program
     def test_the_program_accepts_them(self):

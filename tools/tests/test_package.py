@@ -1,0 +1,127 @@
+"""The package for Python: its examples, its session, and that it is installed without any other."""
+
+import ast
+import doctest
+import importlib
+import pkgutil
+import subprocess
+import sys
+import tempfile
+import tomllib
+import unittest
+
+from support import TOOLS, TOP, needs_program
+
+import code_tables
+from code_tables import Bounds, Refusal, Refused, Session, bounds, explain, submit, verify
+
+MODULES = [f"code_tables.{module.name}" for module in pkgutil.iter_modules(code_tables.__path__)]
+SIX = ["1111111111", "1111000000", "1000111000", "0100100110", "0010010101", "0001001011"]
+
+
+class Sources(unittest.TestCase):
+    def test_it_stands_on_the_standard_library_alone(self):
+        self.assertEqual(tomllib.loads((TOOLS / "pyproject.toml").read_text())["project"]["dependencies"], [])
+        for file in (TOOLS / "code_tables").glob("*.py"):
+            for node in ast.walk(ast.parse(file.read_text())):
+                names = [alias.name for alias in node.names] if isinstance(node, ast.Import) else [node.module] if isinstance(node, ast.ImportFrom) and not node.level else []
+                self.assertTrue({name.split(".")[0] for name in names} <= sys.stdlib_module_names, file.name)
+
+    def test_each_function_is_typed_and_described(self):
+        for file in (TOOLS / "code_tables").glob("*.py"):
+            for node in ast.walk(ast.parse(file.read_text())):
+                if isinstance(node, ast.FunctionDef):
+                    with self.subTest(file=file.name, function=node.name):
+                        arguments = [one for one in node.args.args + node.args.kwonlyargs if one.arg != "self"]
+                        self.assertTrue(node.returns is not None and all(one.annotation is not None for one in arguments))
+                        self.assertTrue(ast.get_docstring(node) or node.name.startswith("_"))
+
+    def test_it_can_be_installed(self):
+        with tempfile.TemporaryDirectory() as folder:
+            ended = subprocess.run([sys.executable, "-m", "pip", "install", "--quiet", "--no-index", "--disable-pip-version-check",
+                                    "--target", f"{folder}/there", TOOLS], cwd=folder, capture_output=True, text=True)
+            if "No module named pip" in ended.stderr:
+                self.skipTest("there is no pip")
+            self.assertEqual(ended.returncode, 0, ended.stderr)
+            imported = subprocess.run([sys.executable, "-c", "import code_tables; print(code_tables.__file__)"], cwd="/",
+                                      env={"PYTHONPATH": f"{folder}/there"}, capture_output=True, text=True)
+            self.assertEqual(imported.stdout, f"{folder}/there/code_tables/__init__.py\n", imported.stderr)
+
+    def test_the_checker_shares_nothing_with_it(self):
+        self.assertNotIn("code_tables", [name for node in ast.walk(ast.parse((TOOLS / "check_derivation.py").read_text()))
+                                         if isinstance(node, (ast.Import, ast.ImportFrom)) for name in [getattr(node, "module", None) or node.names[0].name]])
+
+
+@needs_program
+class Package(unittest.TestCase):
+    def setUp(self):
+        self.session = Session()
+        self.addCleanup(self.session.close)
+
+    def test_its_examples(self):
+        for name in ["code_tables", *MODULES]:
+            with self.subTest(module=name):
+                self.assertEqual(doctest.testmod(importlib.import_module(name)).failed, 0)
+
+    def test_evidence_betters_bounds(self):
+        self.assertEqual(self.session.bounds(10, 6).lower, 4)
+        self.assertEqual(self.session.submit("six", SIX), 6)
+        self.assertEqual(self.session.bounds(10, 6), Bounds(6, 6))
+        self.assertTrue(self.session.bounds(10, 6).is_exact)
+        self.assertEqual(self.session.words(10, 6), sorted(SIX))
+        self.assertEqual([(piece.id, piece.kind, piece.entry, piece.size) for piece in self.session.pieces()], [("six", "words", (10, 6), 6)])
+        self.session.withdraw("six")
+        self.assertEqual((self.session.pieces(), self.session.bounds(10, 6).lower), ([], 4))
+
+    def test_words_may_be_sequences_of_digits_and_evidence_a_document(self):
+        self.assertEqual(self.session.submit("lists", [[1, 1, 0, 0], (0, 0, 1, 1)]), 2)
+        self.assertEqual(self.session.submit("stated", ["0000", "1111"], d=3), 2)
+        self.assertIsNone(self.session.submit("dual", "kind = 'dual'\nn = 16\nd = 6\neven = true\nc = [560, 350, 168, 79, 28, 5]\n"))
+        self.assertEqual(self.session.pieces()[-1].size, None)
+
+    def test_a_refusal_is_an_error_with_its_text(self):
+        for evidence, fault in (("kind = 'words'\nn = 4\nd = 4\nwords = ['0000', '0011']", "close 0 1 2"), ("", "kind"), ("end\n", "toml")):
+            with self.assertRaises(Refused) as raised:
+                self.session.submit("a", evidence)
+            self.assertEqual(str(raised.exception), fault)
+        with self.assertRaises(Refused):
+            self.session.bounds(29, 3)
+        self.assertEqual(self.session.bounds(5, 3), Bounds(4, 4))
+
+    def test_no_text_writes_another_command(self):
+        for command in ("show 5 3\nshow 6 3", "submit a", "", "# a remark"):
+            with self.assertRaises(Refusal):
+                self.session.ask(command)
+        with self.assertRaises(Refusal):
+            self.session.submit("a\nb", SIX)
+        self.assertEqual(len(self.session.table(4)), 28)
+        self.assertEqual(len(self.session.table(4, 20)), 9)
+
+    def test_derivations_are_verified(self):
+        self.session.submit("six", SIX)
+        derivation = self.session.explain("lower", 10, 6)
+        self.assertEqual((verify(derivation), verify(derivation.replace("value 6", "value 7"))), ("yes", "no 7 value 7 6"))
+
+    def test_a_dump_leads_to_the_same_pieces(self):
+        self.session.submit("six", SIX)
+        with Session() as other:
+            other.run(self.session.dump())
+            self.assertEqual(other.pieces(), self.session.pieces())
+
+    def test_sessions_of_files_come_first_and_tell_what_is_refused(self):
+        with Session(str(TOP / "examples/nordstrom-robinson.session")) as held:
+            self.assertEqual(held.bounds(16, 6), Bounds(256, 256))
+            self.assertEqual(held.refused, [("submit closer", "close 0 32 6")])
+
+    def test_a_session_that_has_ended_says_so(self):
+        self.assertEqual(self.session.close(), 0)
+        with self.assertRaises(Refusal):
+            self.session.bounds(5, 3)
+
+    def test_the_functions_share_one_session(self):
+        submit("shared", SIX)
+        self.assertEqual((bounds(10, 6), verify(explain("lower", 10, 6))), (Bounds(6, 6), "yes"))
+
+
+if __name__ == "__main__":
+    unittest.main()
