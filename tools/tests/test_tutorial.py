@@ -1,11 +1,14 @@
 """The commands of the tutorial, and of the README, answer what stands below them."""
 
+import doctest
+import os
 import re
 import shlex
 import subprocess
+import sys
 import unittest
 
-from support import TOP, needs_program, session, workplace
+from support import TOOLS, TOP, needs_program, session, workplace
 
 from code_tables.program import program
 
@@ -49,6 +52,15 @@ class Tutorial(unittest.TestCase):
     def test_the_tutorial(self):
         if self.check("docs/TUTORIAL.md"):
             self.skipTest("this program explains nothing yet: those blocks were left out")
+
+    @needs_program
+    def test_the_lines_of_python(self):
+        """What stands after `>>> ` in the tutorial, from the repository's folder."""
+        examples = doctest.DocTestParser().get_examples((TOP / "docs/TUTORIAL.md").read_text())
+        self.assertTrue(examples)
+        script = "".join(f"print(repr({one.source.strip()}))\n" if one.want else one.source for one in examples)
+        ended = subprocess.run([sys.executable, "-c", script], cwd=TOP, env=os.environ | {"PYTHONPATH": str(TOOLS)}, capture_output=True, text=True)
+        self.assertEqual((ended.stdout, ended.stderr), ("".join(one.want.split("```")[0] for one in examples), ""))
 
     @needs_program
     def test_the_readme(self):
