@@ -107,7 +107,8 @@ pub fn pieces_have_codes()
         → (IsSome (code_of_place pieces place) ↔ IsTrue (has_code p.evidence)) }
 {}
 
-/// What pieces that stand give to the table stands: each size is that of a code of its entry, from 1 to `MAX_BOUND`.
+/// What pieces that stand give to the table stands: each size is that of a code of its entry, from 1 to `MAX_BOUND`, and each dual
+/// meets its inequalities.
 pub fn pieces_give_supports()
     ensures { (pieces : List PieceValue) → AreStanding pieces → AllStand (supports_of pieces) }
 {}
