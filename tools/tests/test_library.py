@@ -1,9 +1,11 @@
-"""The library is accepted, and reaches what docs/LIBRARY.md says."""
+"""The library is accepted, and reaches what docs/LIBRARY.md says, which compares it with what is remembered as published."""
 
+import json
 import re
 import unittest
+from functools import cache
 
-from support import TOP, needs_program
+from support import TOOLS, TOP, needs_program
 
 from code_tables import sessions
 import table
@@ -11,6 +13,9 @@ import table
 FILES = sorted((TOP / "examples/library").glob("*.session"))
 # The last of them holds the duals.
 CODES = FILES[:-1]
+TEXT = (TOP / "docs/LIBRARY.md").read_text()
+PLAIN = r"^\| A\((\d+),(\d+)\) \| (\d+) \| (\d+) \| (\w+) \| (\d+) \| (\d+) \| (\w+) \|$"
+WEIGHT = r"^\| A\((\d+),(\d+),(\d+)\) \| (\d+) \| (\d+) \| (\w+) \|$"
 
 
 def exact(found, length):
@@ -20,7 +25,18 @@ def exact(found, length):
 
 def told(row):
     """The two numbers of a row of the document."""
-    return tuple(map(int, re.search(re.escape(f"| {row} |") + r" (\d+) \| (\d+) \|", (TOP / "docs/LIBRARY.md").read_text()).groups()))
+    return tuple(map(int, re.search(re.escape(f"| {row} |") + r" (\d+) \| (\d+) \|", TEXT).groups()))
+
+
+def rows(pattern):
+    """The rows of a table of the document, numbers as such."""
+    return [[int(cell) if cell.isdigit() else cell for cell in cells] for cells in re.findall(pattern, TEXT, re.M)]
+
+
+@cache
+def whole():
+    """What the program holds over the whole library."""
+    return table.held(table.read_sessions(FILES), table.ask_all())
 
 
 class Library(unittest.TestCase):
@@ -31,27 +47,49 @@ class Library(unittest.TestCase):
                     self.assertTrue(command.remarks, f"{file.name}: {command.id}")
 
     def test_the_document_counts_the_pieces(self):
-        text = (TOP / "docs/LIBRARY.md").read_text()
-        for file, number in zip(FILES, ("eleven", "23", "14", "65", "138")):
-            submitted = [command for command in sessions.commands(file.read_text()) if command.words[0] == "submit"]
-            self.assertEqual(len(submitted), 11 if number == "eleven" else int(number))
-            self.assertIn(f"| `{file.name}` | {number} ", text)
+        counts = {file.name: sum(command.words[0] == "submit" for command in sessions.commands(file.read_text())) for file in FILES}
+        told_of = {name: 11 if number == "eleven" else int(number) for name, number in re.findall(r"^\| `([^`]+)` \| (\w+) ", TEXT, re.M)}
+        self.assertEqual(told_of, counts)
+        self.assertIn(f"`examples/library/` has {sum(counts.values())} pieces", (TOP / "README.md").read_text())
 
     @needs_program
     def test_all_codes_are_accepted_and_reach_what_is_said(self):
         found = table.held(table.read_sessions(CODES), table.ask_all())
         self.assertEqual(found.refused, [])
-        self.assertEqual((len(found.bounds), exact(found, 2), exact(found, 3)), (6370, *told("the four sessions of codes")))
+        self.assertEqual((len(found.bounds), exact(found, 2), exact(found, 3)), (6370, *told("the five sessions of codes")))
 
     @needs_program
     def test_all_duals_are_accepted_and_reach_what_is_said(self):
-        found = table.held(table.read_sessions(FILES), table.ask_all())
-        self.assertEqual(found.refused, [])
-        if (exact(found, 2), exact(found, 3)) == told("the four sessions of codes"):
-            self.skipTest("no rule of this program uses duals yet")
-        self.assertEqual((len(found.bounds), exact(found, 2), exact(found, 3)), (6370, *told("all five sessions")))
-        for entry, low, high in re.findall(r"^\| A\((\d+,\d+)\) \| (\d+) \| \d+ \| \w+ \| (\d+) \|", (TOP / "docs/LIBRARY.md").read_text(), re.M):
-            self.assertEqual(found.bounds[tuple(map(int, entry.split(",")))], (int(low), int(high)))
+        self.assertEqual(whole().refused, [])
+        self.assertEqual((len(whole().bounds), exact(whole(), 2), exact(whole(), 3)), (6370, *told("all six sessions")))
+
+    def test_11_what_is_published_stands_in_the_document_and_in_the_data(self):
+        data = json.loads((TOOLS / "published.json").read_text())
+        self.assertEqual([[n, d, lower, upper] for n, d, _, lower, _, _, upper, _ in rows(PLAIN)], data["plain"])
+        self.assertEqual([[n, d, w, lower] for n, d, w, _, lower, _ in rows(WEIGHT)], data["weight"])
+        self.assertTrue({(12, 4, 5, 80), (13, 4, 5, 123), (24, 10, 8, 69)} <= set(map(tuple, data["weight"])))
+
+    @needs_program
+    def test_11_the_document_compares_the_bounds_of_the_program(self):
+        self.assertEqual(len(rows(PLAIN)), sum(low < high for (n, d, *w), (low, high) in whole().bounds.items() if d % 2 == 0 and not w))
+        for n, d, low, lower, is_low, high, upper, is_high in rows(PLAIN):
+            self.assertEqual(((low, high), is_low, is_high), (whole().bounds[n, d], table.compared(low, lower), table.compared(high, upper)))
+        for n, d, w, low, lower, is_low in rows(WEIGHT):
+            self.assertEqual((low, is_low), (whole().bounds[n, d, w][0], table.compared(low, lower)), (n, d, w))
+
+    @needs_program
+    def test_11_the_products_of_the_examples_are_the_best_of_the_library(self):
+        found = table.held(table.read_sessions([TOP / "examples/partitions.session"]), [])
+        products = [piece for piece in found.pieces.values() if piece.kind == "product"]
+        self.assertEqual([(piece.entry, piece.size) for piece in products], [((8, 4), 16), ((8, 4, 4), 14)])
+        for piece in products:
+            self.assertEqual(whole().bounds[piece.entry][0], piece.size)
+
+    @needs_program
+    def test_11_each_code_of_constant_weight_that_was_searched_for_is_needed(self):
+        for name in re.findall(r"^submit (\S+)$", (TOP / "examples/library/5-weights-searched.session").read_text(), re.M):
+            piece = whole().pieces[name]
+            self.assertEqual(whole().bounds[piece.entry][0], piece.size, name)
 
 
 if __name__ == "__main__":
