@@ -1,5 +1,6 @@
 -- What a verdict says of what was read.
 use Rattle.std.proofs.Common.{◌≡◌, ◌≢◌, ℕ, ◌+◌, List, [], ◌∷◌, refl, sym, ap, subst, ◌∙◌}
+use Rattle.std.specs.Prelude.{Result, Ok, Err, IfOk}
 use Rattle.ct_lines.specs.Lines.{lines_of, IsNextLine}
 use Rattle.ct_lines.proofs.LinesLemmas.{lines_of-from_next}
 use Rattle.ct_rules.proofs.Derivations.{lines_are_true}
@@ -80,8 +81,8 @@ failed_next r k l w before line after h is =
 
 -- a document whose verdict is `Yes` is verified
 pub verified : (document : List ℕ) (v : Verdict) → v ≡ verdict_of document → v ≡ Yes → IsVerified document
-verified document v is yes =
-    let read = read_from_yes (lines_of document) unread 1 (sym is ∙ yes) in
+verified document v is said =
+    let read = read_from_yes (lines_of document) unread 1 (sym is ∙ said) in
     let sound = AreRead-sound (lines_of document) unread read.0 1 read.1 unread-sound in
     record {
       reading = read.0;
@@ -91,3 +92,8 @@ verified document v is yes =
       derivation = sound.derivation;
       claims = lines_are_true (supports_of read.0.pieces) read.0.lines (supports_stand read.0.pieces sound.standing) sound.derivation;
     }
+
+pub verified_where_yes : {E : Type 0} (document : List ℕ) (r : Result Verdict E) → IfOk r (λ v. v ≡ verdict_of document)
+    → IfOk r (λ v. v ≡ Yes → IsVerified document)
+verified_where_yes document (Ok v) h = verified document v h
+verified_where_yes document (Err e) h = tt

@@ -23,12 +23,10 @@ fn next_line(text: &[u8]) -> (&[u8], &[u8])
     }
 }
 
-/// The verdict on a derivation document: its text lines are read from the first, and the first that fails decides. Its evidence is
-/// submitted in order to an empty ledger, and no table is made. `Yes` makes each line of the document a true claim. `Err` is want
-/// of memory.
-pub fn verify(alloc: Global, document: &[u8]) -> Result<Verdict, AllocError>
-    ensures verdict { IfOk result (λ verdict. verdict ≡ verdict_of document.now) }
-    ensures verified { IfOk result (λ verdict. verdict ≡ Yes → IsVerified document.now) }
+/// The verdict on a derivation document: its text lines are read from the first, and the first that fails decides. `Err` is want of
+/// memory.
+fn first_verdict(alloc: Global, document: &[u8]) -> Result<Verdict, AllocError>
+    ensures { IfOk result (λ verdict. verdict ≡ verdict_of document.now) }
 {
     let mut reading = Reading::new(alloc);
     let mut number = 1;
@@ -43,4 +41,14 @@ pub fn verify(alloc: Global, document: &[u8]) -> Result<Verdict, AllocError>
         rest = after;
     }
     Ok(reading.ended(number))
+}
+
+/// The verdict on a derivation document: its text lines are read from the first, and the first that fails decides. Its evidence is
+/// submitted in order to an empty ledger, and no table is made. `Yes` makes each line of the document a true claim. `Err` is want
+/// of memory.
+pub fn verify(alloc: Global, document: &[u8]) -> Result<Verdict, AllocError>
+    ensures verdict { IfOk result (λ verdict. verdict ≡ verdict_of document.now) }
+    ensures verified { IfOk result (λ verdict. verdict ≡ Yes → IsVerified document.now) }
+{
+    first_verdict(alloc, document)
 }
