@@ -2,4 +2,6 @@
 #![tactic(auto)]
 
 #[cfg(test)]
+mod products;
+#[cfg(test)]
 mod sums;

@@ -1,0 +1,178 @@
+//! Partitions that are handed in, and products of them.
+
+ghost use Rattle.std.specs.Prelude.{◌≡◌, ◌^◌, ◌<◌, ◌≤◌, true, All, IfOk};
+ghost use Rattle.ct_codes.specs.Entry.{unrestricted};
+ghost use Rattle.ct_partitions.specs.Partition.{word_lists, all_words};
+
+use ct_codes::{Code, Entry};
+use ct_partitions::{
+    Partition, PartitionFault, check_partition, product_distance, product_list, product_size,
+};
+use ct_words::Word;
+use std::alloc::{AllocError, Global};
+use std::process::Abort;
+use std::test::Fail;
+
+/// A(4,4), or A(4,4,w).
+fn of_length_four(w: Option<u32>) -> Entry
+    ensures { result ≡ record { n = 4; d = 4; w = w } }
+{
+    Entry { n: 4, d: 4, w }
+}
+
+/// The words of even weight in pairs of complements.
+const EVEN_PAIRS: [&[Word]; 4] = [
+    &[0b0000, 0b1111],
+    &[0b0011, 0b1100],
+    &[0b0101, 0b1010],
+    &[0b0110, 0b1001],
+];
+
+/// The classes as vectors.
+fn classes_of(alloc: Global, classes: &[&[Word]]) -> Result<Vec<Vec<Word>>, AllocError> {
+    let mut lists = Vec::new(alloc);
+    for class in classes {
+        lists.push(class.to_vec(alloc)?)?;
+    }
+    Ok(lists)
+}
+
+/// Whether all words have length n.
+fn is_of_length(words: &[Word], n: u32) -> bool
+    requires { n ≤ 28 }
+    ensures { result ≡ true → All (λ x. x < 2 ^ n) words.now }
+{
+    words.iter().all(|word| *word < 1 << n)
+}
+
+/// Whether all words of the classes have length n.
+fn are_of_length(classes: &[Vec<Word>], n: u32) -> bool
+    requires { n ≤ 28 }
+    ensures { result ≡ true → All (λ x. x < 2 ^ n) (all_words (word_lists classes.now)) }
+{
+    for class in classes {
+        if !is_of_length(class, n) {
+            return false;
+        }
+    }
+    true
+}
+
+/// What `check_partition` answers for the classes.
+fn answer(
+    rt: &impl Abort,
+    alloc: Global,
+    entry: Entry,
+    between: u32,
+    classes: &[&[Word]],
+) -> Result<Result<Partition, PartitionFault>, Fail>
+    ensures entry { IfOk result (λ answered. IfOk answered (λ p. p.entry ≡ entry)) }
+    ensures between { IfOk result (λ answered. IfOk answered (λ p. p.between ≡ between)) }
+{
+    let lists = classes_of(alloc, classes)?;
+    assert!(rt; entry.in_table() && 1 <= between && between <= entry.d);
+    assert!(rt; entry.n <= 28 && are_of_length(&lists, entry.n));
+    Ok(check_partition(alloc, entry, between, lists))
+}
+
+/// Classes that are a partition stay as they are handed in.
+#[test]
+fn classes_that_are_a_partition(rt: HostRuntime) -> Result<(), Fail> {
+    let entry = of_length_four(None);
+    for between in [1, 2] {
+        let partition = answer(&rt, rt.alloc(), entry, between, &EVEN_PAIRS)??;
+        assert!(rt; partition.entry() == entry && partition.between() == between);
+        assert!(rt; partition.classes().len() == 4);
+        for (class, words) in partition.classes().iter().zip(EVEN_PAIRS) {
+            assert!(rt; class.as_slice() == words);
+        }
+    }
+    Ok(())
+}
+
+/// Classes with each fault, and with two: a count comes before a weight, a weight before a pair of equal words, and that
+/// before a closer pair. Two words of different classes at distance 2 are too close where they need 3, two of one class
+/// where they need 4.
+#[test]
+fn classes_with_faults(rt: HostRuntime) -> Result<(), Fail> {
+    let across = PartitionFault::Close {
+        i: 0,
+        j: 2,
+        distance: 2,
+        class_i: 0,
+        class_j: 1,
+        need: 3,
+    };
+    let within = PartitionFault::Close {
+        i: 1,
+        j: 2,
+        distance: 2,
+        class_i: 1,
+        class_j: 1,
+        need: 4,
+    };
+    let rows: [(Option<u32>, u32, &[&[Word]], PartitionFault); 7] = [
+        (None, 3, &EVEN_PAIRS, across),
+        (None, 1, &[&[0b0000], &[0b0011, 0b0110]], within),
+        (None, 2, &[], PartitionFault::Size(0)),
+        (Some(2), 2, &[&[0b0001], &[]], PartitionFault::Size(0)),
+        (
+            Some(2),
+            2,
+            &[&[0b0011, 0b0011], &[0b0001]],
+            PartitionFault::Weight(2),
+        ),
+        (
+            None,
+            2,
+            &[&[0b0000, 0b0001], &[0b0001]],
+            PartitionFault::Repeated(1, 2),
+        ),
+        (
+            Some(4),
+            4,
+            &[&[0b1111, 0b1111]],
+            PartitionFault::Repeated(0, 1),
+        ),
+    ];
+    for (w, between, classes, fault) in rows {
+        let refused = answer(&rt, rt.alloc(), of_length_four(w), between, classes)?;
+        assert!(rt; refused.err() == Some(fault), "{fault:?}");
+    }
+    Ok(())
+}
+
+/// The distance, the size and the code of the product of a partition of A(4,4) with itself.
+fn product_with_itself(alloc: Global, part: Partition) -> Result<(u32, u64, Code), AllocError>
+    requires entry { part.entry ≡ unrestricted 4 4 }
+    requires between { part.between ≡ 2 }
+{
+    let parts = [part];
+    let pairs = [(0, 0)];
+    let distance = product_distance(&parts, &pairs);
+    let size = product_size(&parts, &pairs);
+    let entry = Entry {
+        n: 8,
+        d: 4,
+        w: None,
+    };
+    let code = product_list(alloc, entry, &parts, &pairs)?;
+    Ok((distance, size, code))
+}
+
+/// The 16 words of length 8 that are a word of a pair of complements followed by a word of the same pair.
+#[test]
+fn product_of_even_words(rt: HostRuntime) -> Result<(), Fail> {
+    let alloc = rt.alloc();
+    let part = answer(&rt, alloc, of_length_four(None), 2, &EVEN_PAIRS)??;
+    let (distance, size, code) = product_with_itself(alloc, part)?;
+    assert!(rt; distance == 4 && size == 16);
+    assert!(rt; code.n() == 8 && code.d() == 4 && code.w().is_none());
+    let words = [
+        0b00000000, 0b00001111, 0b00110011, 0b00111100, 0b01010101, 0b01011010, 0b01100110,
+        0b01101001, 0b10010110, 0b10011001, 0b10100101, 0b10101010, 0b11000011, 0b11001100,
+        0b11110000, 0b11111111,
+    ];
+    assert!(rt; code.words() == words.as_slice());
+    Ok(())
+}
