@@ -17,7 +17,8 @@ use Rattle.ct_text.specs.declared.table_numbers.TableNumbers.{TableNumbers}
 use Rattle.ct_text.specs.declared.gathering.Gathered.{Gathered}
 use Rattle.ct_text.specs.declared.gathering.Gathered.TheVariants.{More, Whole}
 use Rattle.ct_text.specs.declared.gathering.Extent.TheVariants.{ToEnd}
-use Rattle.ct_commands.specs.Form.{form_of, id_of, lines_form, submit_form, only_id, alone, side_of, explanation_of, explanation, command_of, words_form}
+use Rattle.ct_text.specs.Side.{side_of}
+use Rattle.ct_commands.specs.Form.{form_of, id_of, lines_form, submit_form, only_id, alone, explanation_of, explanation, command_of, words_form}
 use Rattle.ct_commands.specs.Command.{opened, going_on, open_after, asked, finished, completed_by, completed, open_after_all, cut_off, commands_of}
 use Rattle.ct_commands.specs.declared.form.Form.{Form}
 use Rattle.ct_commands.specs.declared.form.Form.TheVariants.{Nothing, Submit}

@@ -3,10 +3,10 @@ use Rattle.std.specs.Option.{option_map, unwrap_or}
 use Rattle.std.specs.Prelude.{ℕ, suc, ◌==◌, if◌then◌else◌, List, [], ◌∷◌, Option, Some, None, codes, slice_index}
 use Rattle.std.specs.Str.{bytes_eq}
 use Rattle.ct_codes.specs.declared.claim.Side.{Side}
-use Rattle.ct_codes.specs.declared.claim.Side.TheVariants.{Lower, Upper}
 use Rattle.ct_text.specs.Line.{words_of}
 use Rattle.ct_text.specs.Number.{number_of}
 use Rattle.ct_text.specs.Id.{is_id}
+use Rattle.ct_text.specs.Side.{side_of}
 use Rattle.ct_text.specs.EntryNumbers.{entry_numbers_of}
 use Rattle.ct_text.specs.TableNumbers.{table_numbers_of}
 use Rattle.ct_text.specs.declared.entry_numbers.EntryNumbers.{EntryNumbers}
@@ -40,13 +40,6 @@ only_id words = None
 abbrev pub alone : Command → List (List ℕ) → Option Command
 alone c [] = Some c
 alone c (word ∷ words) = None
-
--- the side that a word names, if it names one
-abbrev pub side_of : List ℕ → Option Side
-side_of word =
-    if bytes_eq word (codes "lower") then Some Lower
-    else (if bytes_eq word (codes "upper") then Some Upper
-    else None)
 
 -- the explanation of the bound on a side of an entry, where both are named
 abbrev pub explanation_of : Option Side → Option EntryNumbers → Option Command

@@ -4,11 +4,12 @@ ghost use Rattle.std.specs.Prelude.{◌≡◌, ◌==◌, IfOk, map, slice_index}
 ghost use Rattle.ct_text.specs.Number.{number_of};
 ghost use Rattle.ct_text.specs.EntryNumbers.{entry_numbers_of};
 ghost use Rattle.ct_text.specs.TableNumbers.{table_numbers_of};
-ghost use Rattle.ct_commands.specs.Form.{form_of, words_form, submit_form, lines_form, only_id, alone, side_of, explanation, command_of};
+ghost use Rattle.ct_commands.specs.Form.{form_of, words_form, submit_form, lines_form, only_id, alone, explanation, command_of};
 
 use crate::command::Command;
-use ct_codes::Side;
-use ct_text::{Extent, Id, first_words, parse_entry_numbers, parse_number, parse_table_numbers};
+use ct_text::{
+    Extent, Id, first_words, parse_entry_numbers, parse_number, parse_side, parse_table_numbers,
+};
 use std::alloc::{AllocError, Global};
 
 // So many words of a line tell what it asks for: no form has more than five, and a sixth shows that there are too many.
@@ -70,19 +71,6 @@ fn alone(command: Command, words: &[&[u8]]) -> Option<Command>
     }
 }
 
-/// The side that the word names, if it names one.
-fn side_of(word: &[u8]) -> Option<Side>
-    ensures { result ≡ side_of word.now }
-{
-    if word == b"lower".as_slice() {
-        Some(Side::Lower)
-    } else if word == b"upper".as_slice() {
-        Some(Side::Upper)
-    } else {
-        None
-    }
-}
-
 /// The explanation that the words ask for, if they are a side and the numbers of an entry.
 fn explanation(words: &[&[u8]]) -> Option<Command>
     ensures { result ≡ explanation (map (λ word. word.now) words.now) }
@@ -90,7 +78,7 @@ fn explanation(words: &[&[u8]]) -> Option<Command>
     let [side, numbers @ ..] = words else {
         return None;
     };
-    Some(Command::Explain(side_of(side)?, parse_entry_numbers(numbers)?))
+    Some(Command::Explain(parse_side(side)?, parse_entry_numbers(numbers)?))
 }
 
 /// The command that a name and the words after it make, if they make one: a row for each command that is one line.

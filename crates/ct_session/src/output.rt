@@ -226,32 +226,16 @@ fn put_code_heading<K: Sink>(
     let n = Digits::of(u64::from(code.n()));
     let d = Digits::of(u64::from(code.d()));
     let size = Digits::of(code.words().len() as u64);
+    let (n, d, size) = (n.as_bytes(), d.as_bytes(), size.as_bytes());
     match code.w() {
         None => {
-            let parts: [&[u8]; 7] = [
-                b"code ",
-                n.as_bytes(),
-                b" ",
-                d.as_bytes(),
-                b" size ",
-                size.as_bytes(),
-                b"\n",
-            ];
+            let parts: [&[u8]; 7] = [b"code ", n, b" ", d, b" size ", size, b"\n"];
             put_parts(sink, gathered, &parts)
         }
         Some(w) => {
             let w = Digits::of(u64::from(w));
-            let parts: [&[u8]; 9] = [
-                b"code ",
-                n.as_bytes(),
-                b" ",
-                d.as_bytes(),
-                b" ",
-                w.as_bytes(),
-                b" size ",
-                size.as_bytes(),
-                b"\n",
-            ];
+            let w = w.as_bytes();
+            let parts: [&[u8]; 9] = [b"code ", n, b" ", d, b" ", w, b" size ", size, b"\n"];
             put_parts(sink, gathered, &parts)
         }
     }
