@@ -24,7 +24,7 @@ import textwrap
 from code_tables import sessions
 from code_tables.fitting import Standing
 from code_tables.program import TOP
-from code_tables.sessions import Refusal, texts_in, texts_of, words_of
+from code_tables.sessions import Refusal, texts_of, words_of
 from code_tables.words import MOST_WORK, distance, span
 
 # The ranges of the fields, as docs/FORMATS.md says them.

@@ -133,7 +133,7 @@ CodeTables_Submission := function(id, code, stated)
     else
         from := Concatenation("the distance ", String(d), " was stated");
     fi;
-    return Concatenation("# GUAVA says: ", String(code), "\n# ", from, "\nsubmit ", id, "\nkind = \"", kind, "\"\nn = ", String(WordLength(code)), "\nd = ", String(d), "\n",
+    return Concatenation("# GUAVA says: ", NormalizedWhitespace(String(code)), "\n# ", from, "\nsubmit ", id, "\nkind = \"", kind, "\"\nn = ", String(WordLength(code)), "\nd = ", String(d), "\n",
         keys, "end\n");
 end;
 

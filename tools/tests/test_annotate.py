@@ -1,12 +1,15 @@
 """Replies stand beside their commands, refusals with what they mean there."""
 
 import tempfile
+import tomllib
 import unittest
 from pathlib import Path
 
 from support import DATA, TOP, call, data, needs_program, run, session
 
 import annotate
+from code_tables import sessions
+from code_tables.fitting import Standing
 from code_tables.sessions import Command
 
 
@@ -63,7 +66,8 @@ class Annotate(unittest.TestCase):
                 (pair, "accepted other size 2", 1, "the submission is pair"), (pair, "accepted pair size 3", 1, "the document has 2 words"),
                 (pair, "accepted pair", 1, "a dual has no size"), (pair, "A(4,4) = 2", 1, "a submission is accepted or refused"),
                 (pair, "refused close 0 2 3", 1, "the document has 2 words"), (pair, "refused nosuch a", 1, "the document names no a"),
-                (pair, "refused taken", 1, "no piece has the id pair"), (pair + pair, "accepted pair size 2\naccepted pair size 2", 2, "a piece of this id stands"),
+                (pair, "refused taken", 1, "no piece has the id pair"),
+                (pair + pair, "accepted pair size 2\naccepted pair size 2", 2, "a piece of this id stands"),
                 (pair + "ledger\n", "accepted pair size 2\npieces 0", 2, "1 pieces stand: pair"),
                 (pair + "dump\n", "accepted pair size 2\n# dump of 0 pieces", 2, "1 pieces stand"),
                 ("show 16 6\n", "A(16,8) = 32", 1, "bounds of A(16,6)"), ("show 16 6\n", "accepted a size 1", 1, "bounds of A(16,6)"),
@@ -77,6 +81,26 @@ class Annotate(unittest.TestCase):
                 self.assertEqual(status, 1)
                 self.assertIn(f"annotate: refused: line {line} of the replies", said)
                 self.assertIn(fault, said)
+
+    def test_replies_that_the_program_gives_fit(self):
+        tried = 0
+        for name in ("rows.toml", "made.toml"):
+            table = tomllib.loads((TOP / "crates/ct_rows/data" / name).read_text())
+            parts = {part["name"]: part for part in table["part"]}
+            for row in table["row"]:
+                if row.get("words", ["session"]) != ["session"] or row["status"] not in ("Done", "Refused"):
+                    continue
+                pieces = [parts[part] for part in row.get("after", [])] + [row]
+                text, output = ("".join(piece.get(key, "") for piece in pieces) for key in ("input", "output"))
+                if "words of the greatest size" in row.get("after", []):
+                    continue
+                tried += 1
+                with self.subTest(row=row["name"]):
+                    standing = Standing()
+                    for command, reply in sessions.replies(sessions.commands(text), output):
+                        self.assertTrue(reply)
+                        self.assertIsNone(standing.fault(command, reply), (command.words, reply[0]))
+        self.assertGreater(tried, 500)
 
     def test_a_code_without_words_is_told(self):
         for text in ("kind = 'words'\nwords = []", "kind = 'cosets'\nbasis = []\nrepresentatives = []", "kind = 'partition'\nd1 = 1\nclasses = [[]]", ""):

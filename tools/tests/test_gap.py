@@ -36,9 +36,18 @@ class Gap(unittest.TestCase):
         self.assertEqual(first.stderr, b"")
         for submitted in sessions.commands(text):
             self.assertEqual(len(submitted.fields["basis"]), 5)
-        self.assertIn("# GUAVA says: a linear [16,5,8]6 Reed-Muller (1,4) code over GF(2)\n# the distance 8 was computed from a generator matrix\nsubmit rm\n", text)
-        self.assertEqual(again.stderr.decode(), "".join(f"Error, code_tables: refused: {file} has a submission of {name} already\n" for name in ("rm", "hadamard")))
+        self.assertIn("# GUAVA says: a linear [16,5,8]6 Reed-Muller (1,4) code over GF(2)\n"
+                      "# the distance 8 was computed from a generator matrix\nsubmit rm\n", text)
+        self.assertEqual(again.stderr.decode(), "".join(f"Error, code_tables: refused: {file} has a submission of {name} already\n"
+                                                        for name in ("rm", "hadamard")))
         self.assertEqual(text.count("submit "), 2)
+
+    @needs("gap")
+    def test_a_name_of_a_code_writes_no_command(self):
+        ended = gap('Read("tools/code_tables.g");\nc := RepetitionCode(5, GF(2));;\nc!.name := "mine\\nshow 5 3";;\nSubmitCode("a", c);\n')
+        if b"guava" in ended.stderr:
+            self.skipTest("GUAVA isn't there")
+        self.assertEqual([command.words[:2] for command in sessions.commands(ended.stdout.decode())], [["submit", "a"]])
 
     def test_a_submission_says_whose_distance_it_is(self):
         for command in sessions.commands(data("gap/codes.out")):

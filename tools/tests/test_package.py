@@ -24,7 +24,8 @@ class Sources(unittest.TestCase):
         self.assertEqual(tomllib.loads((TOOLS / "pyproject.toml").read_text())["project"]["dependencies"], [])
         for file in (TOOLS / "code_tables").glob("*.py"):
             for node in ast.walk(ast.parse(file.read_text())):
-                names = [alias.name for alias in node.names] if isinstance(node, ast.Import) else [node.module] if isinstance(node, ast.ImportFrom) and not node.level else []
+                names = [alias.name for alias in node.names] if isinstance(node, ast.Import) else []
+                names += [node.module] if isinstance(node, ast.ImportFrom) and not node.level else []
                 self.assertTrue({name.split(".")[0] for name in names} <= sys.stdlib_module_names, file.name)
 
     def test_each_function_is_typed_and_described(self):

@@ -14,7 +14,8 @@ from support import DATA, FAKE, FAKE_PROGRAM, TOOLS, TOP, needs_program, run
 from code_tables.program import program
 
 # Runs a script as an older Python would, up to the place where it says so.
-OLDER = "import runpy, sys; sys.version_info = (3, 10, 4, 'final', 0); sys.argv = sys.argv[1:]; sys.path.insert(0, {!r}); runpy.run_path(sys.argv[0], run_name='__main__')"
+OLDER = ("import runpy, sys; sys.version_info = (3, 10, 4, 'final', 0); sys.argv = sys.argv[1:]; sys.path.insert(0, {!r}); "
+         "runpy.run_path(sys.argv[0], run_name='__main__')")
 
 
 class Named(unittest.TestCase):

@@ -61,7 +61,8 @@ class SubmitWords(unittest.TestCase):
 
     def test_faults_are_named_and_nothing_is_written(self):
         for words, more, fault in [
-                ("", [], "there is no word"), ("01\n012\n", [], "line 2 is no word of digits 0 and 1: `012`"), ("01\n011\n", [], "line 2 has 3 digits, and the first word has 2: `011`"),
+                ("", [], "there is no word"), ("01\n012\n", [], "line 2 is no word of digits 0 and 1: `012`"),
+                ("01\n011\n", [], "line 2 has 3 digits, and the first word has 2: `011`"),
                 ("0110\n# x\n0110\n", [], "line 3 has the word of line 1 again: `0110`"), ("0000\n0011\n", [], "the distance is 2"),
                 ("0000\n", [], "one word has no distance"), ("[[0, 1], [1\n", [], "a bracket isn't closed"),
                 ("0" * 29 + "\n", [], "the words have length 29"), ]:
