@@ -5,6 +5,7 @@ import os
 import shutil
 import subprocess
 import tempfile
+import time
 import unittest
 from pathlib import Path
 from unittest import mock
@@ -102,6 +103,22 @@ class Origin(unittest.TestCase):
         (top / "crates/ct_program/src/text").write_text("changed")
         subprocess.run([top / "code_tables"], check=True, capture_output=True)
         self.assertEqual(provenance(), Provenance(sum_of(built), "unknown", "false-kit logic 0"))
+
+
+    @needs("git")
+    def test_of_what_the_gate_built_the_commit_is_known_alone(self):
+        top = self.checkout()
+        # The gate makes each out/ anew before it reads the sources.
+        time.sleep(1.1)
+        out = top / "crates/ct_program/out"
+        out.mkdir()
+        for name in ("ct_program", "ct_program.by-rattle"):
+            (out / name).write_text("#!/bin/sh\n")
+            (out / name).chmod(0o755)
+        ended = subprocess.run([top / "code_tables"], capture_output=True)
+        if ended.stderr:
+            self.skipTest("this file system keeps no times of birth")
+        self.assertEqual(provenance(), Provenance(sum_of(out / "ct_program"), self.git(top, "rev-parse", "HEAD"), "unknown"))
 
 
 if __name__ == "__main__":
