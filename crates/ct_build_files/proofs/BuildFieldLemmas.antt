@@ -6,7 +6,7 @@ use Rattle.std.specs.Str.{bytes_eq}
 use Rattle.std.proofs.lemmas.Bool.{and_parts, and_from, cases_Bool, leb-true, ltb-true, lt-ltb}
 use Rattle.std.proofs.lemmas.List.Elements.{All-nil, All-cons, All-head, All-tail}
 use Rattle.std.proofs.lemmas.Option.{option_and_then_some, cond_some}
-use Rattle.toml.specs.Data.{Data, string, integer, float, boolean, datetime, array, table, Items, no_items, item, get, as_str}
+use Rattle.toml.specs.Data.{Data, string, integer, float, boolean, datetime, array, table, get, as_str}
 use Rattle.toml.specs.View.{items_of}
 use Rattle.ct_words.specs.declared.limits.TheConstants.{MAX_N}
 use Rattle.ct_words.specs.Text.{is_binary_digit}
@@ -15,7 +15,7 @@ use Rattle.ct_fields.specs.Field.{field_text}
 use Rattle.ct_fields.specs.Ids.{id_in}
 use Rattle.ct_fields.specs.Fields.{field, number_in}
 use Rattle.ct_build_files.specs.Operation.{operation_text, operations, named_among, operation_named}
-use Rattle.ct_build_files.specs.BuildFields.{operation_in, operation_field, numbers_of, ascend, are_left_out, places_in, digits_of, id_field}
+use Rattle.ct_build_files.specs.BuildFields.{operation_in, operation_field, ascend, are_left_out, places_in, digits_of, id_field}
 use Rattle.ct_build_files.specs.BuildDocument.{HasText, HasNumbers, HasId}
 use Rattle.ct_fields.specs.declared.field.FieldName.{FieldName}
 use Rattle.ct_fields.specs.declared.field.FieldName.TheVariants as name
@@ -24,7 +24,9 @@ use Rattle.ct_build_files.specs.declared.operation.Operation.TheVariants.{Length
 use Rattle.ct_fields.specs.declared.fault.FileFault.TheVariants.{Field}
 use Rattle.ct_fields.proofs.StepLemmas.{ok_or-ok}
 use Rattle.ct_fields.proofs.IdTexts.{id_in-some}
-use Rattle.ct_fields.proofs.FieldLemmas.{bytes_eq-true, number_in-some}
+use Rattle.ct_fields.proofs.FieldLemmas.{bytes_eq-true}
+use Rattle.ct_fields.specs.Forms.{all_of}
+use Rattle.ct_fields.proofs.FormLemmas.{all-some, all-from, index-reads}
 
 -- a value that is a text
 as_str-some : (d : Data) (text : List ℕ) → as_str d ≡ Some text → d ≡ string text
@@ -92,22 +94,6 @@ id_field-ok name document id e =
 pub id_field-from : (name : FieldName) (document : Data) (id : List ℕ) → HasId name document id → id_field name document ≡ Ok id
 id_field-from name document id (text, named) = rw (text, named) refl
 
--- numbers that are read are the items
-numbers_of-some : (ds : Items) (ks : List ℕ) → numbers_of ds ≡ Some ks → ds ≡ items_of (map (λ k. integer (pos k)) ks)
-numbers_of-some no_items ks e = let same : [] ≡ ks = cc in rw (← same) refl
-numbers_of-some (item d ds) ks e =
-    option_and_then_some _ (number_in 0 MAX_N d) ks e (λ k k-is next.
-    option_and_then_some _ (numbers_of ds) ks next (λ more more-are last.
-    let same : k ∷ more ≡ ks = cc in
-    let (d-is, above, below) = number_in-some 0 MAX_N d k k-is in
-    rw (← same) (λ i. item (d-is i) (numbers_of-some ds more more-are i))))
-
--- small numbers are read from the items that they are
-numbers_of-items : (ks : List ℕ) → All (λ k. k ≤ MAX_N) ks → numbers_of (items_of (map (λ k. integer (pos k)) ks)) ≡ Some ks
-numbers_of-items [] small = refl
-numbers_of-items (k ∷ ks) small =
-    rw (le-leb 0 k (omega arith), le-leb k MAX_N (All-head (λ j. j ≤ MAX_N) k ks small), numbers_of-items ks (All-tail (λ j. j ≤ MAX_N) k ks small)) refl
-
 -- numbers that pass the test are below the limit and ascend
 ascend-within : (low high : ℕ) (ks : List ℕ) → ascend low high ks ≡ true → All (λ k. k < high) ks
 ascend-within low high [] e = All-nil (λ k. k < high)
@@ -169,9 +155,9 @@ left_out-from n places some are few =
 places_in-some : (n : ℕ) (d : Data) (places : List ℕ) → places_in n d ≡ Some places
     → (d ≡ array (items_of (map (λ k. integer (pos k)) places))) × (are_left_out n places ≡ true)
 places_in-some n (array ds) places e =
-    option_and_then_some _ (numbers_of ds) places e (λ ks ks-are next.
+    option_and_then_some _ (all_of (number_in 0 MAX_N) ds) places e (λ ks ks-are next.
     let (test, same) = cond_some (are_left_out n ks) ks places next in
-    (ap array (numbers_of-some ds ks ks-are) ∙ ap (λ (ps : List ℕ). array (items_of (map (λ k. integer (pos k)) ps))) same, subst (λ ps. are_left_out n ps ≡ true) same test))
+    (ap array ((all-some (number_in 0 MAX_N) (λ k. integer (pos k)) (λ k. k ≤ MAX_N) index-reads ds ks ks-are).0) ∙ ap (λ (ps : List ℕ). array (items_of (map (λ k. integer (pos k)) ps))) same, subst (λ ps. are_left_out n ps ≡ true) same test))
 places_in-some n (string s) places e = absurd cc
 places_in-some n (integer z) places e = absurd cc
 places_in-some n (float x) places e = absurd cc
@@ -195,7 +181,7 @@ places_small m (p ∷ ps) room within =
 pub places_field-from : (n : ℕ) (document : Data) (places : List ℕ) → HasNumbers name.Places document places
     → 1 ≤ length places → ArePlaces (n + length places) places → n + length places ≤ MAX_N → field (places_in n) name.Places document ≡ Ok places
 places_field-from n document places h some are few =
-    rw (h, numbers_of-items places (places_small (n + length places) places few are.within), left_out-from n places some are few) refl
+    rw (h, all-from (number_in 0 MAX_N) (λ k. integer (pos k)) (λ k. k ≤ MAX_N) index-reads places (places_small (n + length places) places few are.within), left_out-from n places some are few) refl
 
 -- a binary digit is a digit's character
 digit-character : (b : ℕ) → is_binary_digit b ≡ true → (b ≡ 48 + (b - 48)) × (b - 48 < 2)

@@ -2,7 +2,7 @@
 use Rattle.std.specs.Prelude.{ℕ, suc, ◌+◌, ◌-◌, Bool, true, nat_le, nat_lt, ◌==◌, ◌&&◌, if◌then◌else◌, List, [], ◌∷◌, length, map, Option, Some, None, option_map, Result, Ok}
 use Rattle.std.specs.List.{list_all}
 use Rattle.std.specs.Option.{option_and_then}
-use Rattle.toml.specs.Data.{Data, array, Items, no_items, item, as_str}
+use Rattle.toml.specs.Data.{Data, array, as_str}
 use Rattle.ct_words.specs.declared.limits.TheConstants.{MAX_N}
 use Rattle.ct_words.specs.Text.{is_binary_digit, word_of}
 use Rattle.ct_build.specs.declared.building.TheConstants.{MAX_BUILT}
@@ -10,6 +10,7 @@ use Rattle.ct_build.specs.declared.step.Step.{Step}
 use Rattle.ct_build.specs.declared.step.Step.TheVariants as step
 use Rattle.ct_fields.specs.Steps.{◌>>=◌}
 use Rattle.ct_fields.specs.Fields.{field, number_in, number_field}
+use Rattle.ct_fields.specs.Forms.{all_of}
 use Rattle.ct_fields.specs.Ids.{id_in}
 use Rattle.ct_build_files.specs.Operation.{operation_named, takes_other}
 use Rattle.ct_fields.specs.declared.field.FieldName.{FieldName}
@@ -26,11 +27,6 @@ operation_in d = option_and_then operation_named (as_str d)
 abbrev pub operation_field : Data → Result Operation FileFault
 operation_field document = field operation_in name.Op document
 
--- the numbers of items that all are integers from 0 to MAX_N
-abbrev pub numbers_of : Items → Option (List ℕ)
-numbers_of no_items = Some []
-numbers_of (item d ds) = option_and_then (λ k. option_and_then (λ ks. Some (k ∷ ks)) (numbers_of ds)) (number_in 0 MAX_N d)
-
 -- whether the numbers ascend, the first one at least low, and are below high
 abbrev pub ascend : ℕ → ℕ → List ℕ → Bool
 ascend low high [] = true
@@ -42,7 +38,7 @@ are_left_out n places = nat_le 1 (length places) && nat_le (n + length places) M
 
 -- the places that the list is, whose leaving out makes words of length n
 abbrev pub places_in : ℕ → Data → Option (List ℕ)
-places_in n (array ds) = option_and_then (λ places. if are_left_out n places then Some places else None) (numbers_of ds)
+places_in n (array ds) = option_and_then (λ places. if are_left_out n places then Some places else None) (all_of (number_in 0 MAX_N) ds)
 places_in n _ = None
 
 -- the digits that the text writes, where it is so many digits `0` and `1`

@@ -1,15 +1,15 @@
 //! The own fields of documents of kind build.
 ghost use Rattle.std.specs.Prelude.{◌≡◌, ◌≤◌, length, IfOk, option_map};
 ghost use Rattle.toml.specs.Data.{as_str};
-ghost use Rattle.toml.specs.View.{view, items_view};
+ghost use Rattle.toml.specs.View.{view};
 ghost use Rattle.ct_words.specs.declared.limits.TheConstants.{MAX_N};
 ghost use Rattle.ct_fields.specs.Reads.{Reads};
-ghost use Rattle.ct_fields.specs.Fields.{field, number_in};
-ghost use Rattle.ct_build_files.specs.BuildFields.{operation_field, numbers_of, ascend, are_left_out, places_in, digits_of, by_field, step_fields, id_field, other_field};
+ghost use Rattle.ct_fields.specs.Fields.{field};
+ghost use Rattle.ct_build_files.specs.BuildFields.{operation_field, ascend, are_left_out, places_in, digits_of, by_field, step_fields, id_field, other_field};
 
 use crate::operation::Operation;
 use ct_build::{MAX_BUILT, Numbers, Step};
-use ct_fields::{FieldName, FileFault, id_in, number_field};
+use ct_fields::{FieldName, FileFault, all_of, id_in, number_field};
 use ct_text::Id;
 use ct_words::{MAX_N, Word, parse_word};
 use std::alloc::{AllocError, Global};
@@ -26,35 +26,6 @@ pub fn operation_field(document: &Value) -> Result<Operation, FileFault>
         },
         _ => Err(FileFault::Field(FieldName::Op)),
     }
-}
-
-/// The number, where it is an integer from 0 to `MAX_N`.
-fn number_in(value: &Value) -> Option<u32>
-    ensures { result ≡ number_in 0 MAX_N (view value.now) }
-{
-    match value {
-        Value::Integer(number) => {
-            if *number < 0 || *number > i64::from(MAX_N) {
-                return None;
-            }
-            Some(*number as u32)
-        }
-        _ => None,
-    }
-}
-
-/// The numbers, where all are integers from 0 to `MAX_N`.
-fn numbers_of(alloc: Global, values: &[Value]) -> Result<Option<Vec<u32>>, AllocError>
-    ensures { IfOk result (λ o. option_map (λ v. v.items) o ≡ numbers_of (items_view values.now)) }
-{
-    let mut numbers = Vec::new(alloc);
-    for value in values {
-        let Some(number) = number_in(value) else {
-            return Ok(None);
-        };
-        numbers.push(number)?;
-    }
-    Ok(Some(numbers))
 }
 
 /// Whether the numbers ascend and are below `high`.
@@ -89,7 +60,7 @@ fn places_field(alloc: Global, n: u32, document: &Value) -> Result<Vec<u32>, Fil
     ensures { Reads (λ v. v.items) result (field (places_in n) FieldName.Places (view document.now)) }
 {
     match document.get(FieldName::Places.text()) {
-        Some(Value::Array(values)) => match numbers_of(alloc, values)? {
+        Some(Value::Array(values)) => match all_of::<u32>(alloc, values)? {
             Some(places) => {
                 if !are_left_out(n, &places) {
                     return Err(FileFault::Field(FieldName::Places));

@@ -1,13 +1,12 @@
 -- What the fields of a dual are, where they are read.
-use Rattle.std.proofs.Common.{◌≡◌, ℕ, suc, ◌%◌, ◌^◌, ◌≤◌, Bool, true, false, not, ◌==◌, ◌&&◌, ◌||◌, nat_le, List, [], ◌∷◌, length, map, Option, Some, None, Result, Ok, Err, cond, inl, inr, refl, sym, ap, ◌∙◌, subst, le-leb, leb-true, eq-eqb, eqb-true, arith}
-use Rattle.std.specs.Prelude.{ℤ, pos, ◌≤ℤ◌, ◌<ℤ◌, int_le, int_lt, IsTrue, All, is_some}
+use Rattle.std.proofs.Common.{◌≡◌, ℕ, suc, ◌%◌, ◌^◌, ◌≤◌, Bool, true, false, not, ◌==◌, ◌&&◌, ◌||◌, nat_le, List, [], ◌∷◌, length, Option, Some, None, Result, Ok, Err, cond, inl, inr, refl, sym, ap, ◌∙◌, subst, le-leb, leb-true, eq-eqb, eqb-true, arith}
+use Rattle.std.specs.Prelude.{ℤ, pos, ◌≤ℤ◌, ◌<ℤ◌, int_le, int_lt, IsTrue, All, is_some, ⊤}
 use Rattle.std.specs.List.{list_all}
 use Rattle.std.proofs.lemmas.Bool.{and_parts, and_from}
 use Rattle.std.proofs.lemmas.Int.{ints}
 use Rattle.std.proofs.lemmas.List.Elements.{All-head, All-tail}
 use Rattle.std.proofs.lemmas.Option.{option_and_then_some, cond_some}
-use Rattle.toml.specs.Data.{Data, string, integer, float, boolean, datetime, array, table, Items, no_items, item, get, as_integer, as_bool}
-use Rattle.toml.specs.View.{items_of}
+use Rattle.toml.specs.Data.{Data, string, integer, float, boolean, datetime, array, table, get, as_integer, as_bool}
 use Rattle.ct_words.specs.declared.limits.TheConstants.{MAX_N}
 use Rattle.ct_codes.specs.declared.entry.Entry.{Entry}
 use Rattle.ct_fields.specs.Field.{field_text}
@@ -18,24 +17,16 @@ use Rattle.ct_fields.specs.declared.field.FieldName.TheVariants as name
 use Rattle.ct_fields.specs.declared.fault.FileFault.{FileFault}
 use Rattle.ct_fields.specs.declared.fault.FileFault.TheVariants.{Field}
 use Rattle.ct_fields.proofs.StepLemmas.{bind-ok, bind-err, check-ok, check-err, ok_or-ok, ok_or-err}
-use Rattle.ct_fields.proofs.FieldLemmas.{number_in-some}
+use Rattle.ct_fields.specs.Forms.{pair_in, all_of}
+use Rattle.ct_fields.proofs.FormLemmas.{ReadsBack, pair-reads, all-some, all-from, integer-reads, index-reads}
 use Rattle.ct_duals.specs.Dual.{degree_of, is_in_range}
 use Rattle.ct_duals.specs.Form.{is_number, are_multipliers, are_allowances_from, are_allowances}
 use Rattle.ct_duals.proofs.FormLemmas.{multipliers-from, allowances-from}
-use Rattle.ct_dual_files.specs.Fields.{integers_of, pair_in, pairs_of, multipliers_in, allowances_in, even_field, multipliers_field, allowances_field}
-use Rattle.ct_dual_files.specs.WrittenDuals.{integer_list, pair_data, pair_list}
+use Rattle.ct_dual_files.specs.Fields.{multipliers_in, allowances_in, even_field, multipliers_field, allowances_field}
+use Rattle.ct_dual_files.specs.WrittenDuals.{integer_list, index_pair, pair_list}
 use Rattle.ct_dual_files.specs.DualDocument.{HasEven, HasMultipliers, AreAllowances, HasAllowances}
 
--- a value that is a whole number, and one that is a truth value
-as_integer-some : (d : Data) (z : ℤ) → as_integer d ≡ Some z → d ≡ integer z
-as_integer-some (integer y) z e = let same : y ≡ z = cc in ap integer same
-as_integer-some (string s) z e = absurd cc
-as_integer-some (float x) z e = absurd cc
-as_integer-some (boolean b) z e = absurd cc
-as_integer-some (datetime t) z e = absurd cc
-as_integer-some (array ds) z e = absurd cc
-as_integer-some (table ms) z e = absurd cc
-
+-- a value that is a truth value
 as_bool-some : (d : Data) (b : Bool) → as_bool d ≡ Some b → d ≡ boolean b
 as_bool-some (boolean a) b e = let same : a ≡ b = cc in ap boolean same
 as_bool-some (string s) b e = absurd cc
@@ -45,53 +36,12 @@ as_bool-some (datetime t) b e = absurd cc
 as_bool-some (array ds) b e = absurd cc
 as_bool-some (table ms) b e = absurd cc
 
--- whole numbers that are read are the items, and they are read from them
-integers_of-some : (ds : Items) (c : List ℤ) → integers_of ds ≡ Some c → ds ≡ items_of (map (λ z. integer z) c)
-integers_of-some no_items c e = let same : [] ≡ c = cc in rw (← same) refl
-integers_of-some (item d ds) c e =
-    option_and_then_some _ (as_integer d) c e (λ z z-is next.
-    option_and_then_some _ (integers_of ds) c next (λ more more-are last.
-    let same : z ∷ more ≡ c = cc in
-    let d-is = as_integer-some d z z-is in
-    rw (← same) (λ i. item (d-is i) (integers_of-some ds more more-are i))))
+-- pairs that are read are those that are written, whose indices are small
+abbrev IsIndexPair : ℕ × ℤ → Type 0
+IsIndexPair p = (p.0 ≤ MAX_N) × ⊤
 
-integers_of-items : (c : List ℤ) → integers_of (items_of (map (λ z. integer z) c)) ≡ Some c
-integers_of-items [] = refl
-integers_of-items (z ∷ c) = rw (integers_of-items c) refl
-
--- so with pairs whose indices are small
-pair_in-some : (d : Data) (p : ℕ × ℤ) → pair_in d ≡ Some p → d ≡ pair_data p
-pair_in-some (array (item i (item v no_items))) p e =
-    option_and_then_some _ (number_in 0 MAX_N i) p e (λ k k-is next.
-    option_and_then_some _ (as_integer v) p next (λ z z-is last.
-    let same : (k, z) ≡ p = cc in
-    let i-is = (number_in-some 0 MAX_N i k k-is).0 in
-    let v-is = as_integer-some v z z-is in
-    rw (← same) (λ j. array (item (i-is j) (item (v-is j) no_items)))))
-pair_in-some (array no_items) p e = absurd cc
-pair_in-some (array (item i no_items)) p e = absurd cc
-pair_in-some (array (item i (item v (item x ds)))) p e = absurd cc
-pair_in-some (string s) p e = absurd cc
-pair_in-some (integer z) p e = absurd cc
-pair_in-some (float x) p e = absurd cc
-pair_in-some (boolean b) p e = absurd cc
-pair_in-some (datetime t) p e = absurd cc
-pair_in-some (table ms) p e = absurd cc
-
-pairs_of-some : (ds : Items) (y : List (ℕ × ℤ)) → pairs_of ds ≡ Some y → ds ≡ items_of (map pair_data y)
-pairs_of-some no_items y e = let same : [] ≡ y = cc in rw (← same) refl
-pairs_of-some (item d ds) y e =
-    option_and_then_some _ (pair_in d) y e (λ p p-is next.
-    option_and_then_some _ (pairs_of ds) y next (λ more more-are last.
-    let same : p ∷ more ≡ y = cc in
-    let d-is = pair_in-some d p p-is in
-    rw (← same) (λ i. item (d-is i) (pairs_of-some ds more more-are i))))
-
-pairs_of-items : (y : List (ℕ × ℤ)) → All (λ p. p.0 ≤ MAX_N) y → pairs_of (items_of (map pair_data y)) ≡ Some y
-pairs_of-items [] small = refl
-pairs_of-items (p ∷ y) small =
-    rw (le-leb 0 p.0 (omega arith), le-leb p.0 MAX_N (All-head (λ (q : ℕ × ℤ). q.0 ≤ MAX_N) p y small), pairs_of-items y (All-tail (λ (q : ℕ × ℤ). q.0 ≤ MAX_N) p y small))
-    refl
+pairs-read : ReadsBack (pair_in (number_in 0 MAX_N) as_integer) index_pair IsIndexPair
+pairs-read = pair-reads (number_in 0 MAX_N) as_integer (λ k. integer (pos k)) integer (λ k. k ≤ MAX_N) (λ z. ⊤) index-reads integer-reads
 
 -- numbers of the form of multipliers pass the test
 nonneg-true : (z : ℤ) → pos 0 ≤ℤ z → int_le (pos 0) z ≡ true
@@ -147,9 +97,9 @@ are-small e even y few are k d within = in_range-small e even _ few (are.1 k d w
 -- the multipliers are read exactly where the field is a list of them
 multipliers_in-some : (e : Entry) (d : Data) (c : List ℤ) → multipliers_in e d ≡ Some c → (d ≡ integer_list c) × (are_multipliers e c ≡ true)
 multipliers_in-some e (array ds) c h =
-    option_and_then_some (λ c. cond (are_multipliers e c) (Some c) None) (integers_of ds) c h (λ x found is.
+    option_and_then_some (λ c. cond (are_multipliers e c) (Some c) None) (all_of as_integer ds) c h (λ x found is.
     let (test, same) = cond_some (are_multipliers e x) x c is in
-    subst (λ c. (array ds ≡ integer_list c) × (are_multipliers e c ≡ true)) same (ap array (integers_of-some ds x found), test))
+    subst (λ c. (array ds ≡ integer_list c) × (are_multipliers e c ≡ true)) same (ap array (all-some as_integer integer (λ z. ⊤) integer-reads ds x found).0, test))
 multipliers_in-some e (string s) c h = absurd cc
 multipliers_in-some e (integer z) c h = absurd cc
 multipliers_in-some e (float x) c h = absurd cc
@@ -165,7 +115,7 @@ multipliers-stated e document c h =
     (found ∙ ap Some d-is, some, few, all, small))
 
 pub multipliers-read : (e : Entry) (document : Data) (c : List ℤ) → HasMultipliers e document c → multipliers_field e document ≡ Ok c
-multipliers-read e document c (has, some, few, all, small) = rw (has, integers_of-items c, are_multipliers-true e c some few all small) refl
+multipliers-read e document c (has, some, few, all, small) = rw (has, all-from as_integer integer (λ z. ⊤) integer-reads c (λ k d l. tt), are_multipliers-true e c some few all small) refl
 
 pub multipliers-err : (e : Entry) (document : Data) (fault : FileFault) → multipliers_field e document ≡ Err fault → Field name.C ≡ fault
 multipliers-err e document fault h = (ok_or-err _ (Field name.C) fault h).1
@@ -174,9 +124,9 @@ multipliers-err e document fault h = (ok_or-err _ (Field name.C) fault h).1
 allowances_in-some : (e : Entry) (even : Bool) (d : Data) (y : List (ℕ × ℤ)) → allowances_in e even d ≡ Some y
     → (d ≡ pair_list y) × (are_allowances e even y ≡ true)
 allowances_in-some e even (array ds) y h =
-    option_and_then_some (λ y. cond (are_allowances e even y) (Some y) None) (pairs_of ds) y h (λ x found is.
+    option_and_then_some (λ y. cond (are_allowances e even y) (Some y) None) (all_of (pair_in (number_in 0 MAX_N) as_integer) ds) y h (λ x found is.
     let (test, same) = cond_some (are_allowances e even x) x y is in
-    subst (λ y. (array ds ≡ pair_list y) × (are_allowances e even y ≡ true)) same (ap array (pairs_of-some ds x found), test))
+    subst (λ y. (array ds ≡ pair_list y) × (are_allowances e even y ≡ true)) same (ap array (all-some (pair_in (number_in 0 MAX_N) as_integer) index_pair IsIndexPair pairs-read ds x found).0, test))
 allowances_in-some e even (string s) y h = absurd cc
 allowances_in-some e even (integer z) y h = absurd cc
 allowances_in-some e even (float x) y h = absurd cc
@@ -200,7 +150,7 @@ allowances-stated e even document y h = go (get (field_text name.Y) document) re
 pub allowances-read : (e : Entry) (even : Bool) (document : Data) (y : List (ℕ × ℤ)) → degree_of e ≤ MAX_N → HasAllowances e even document y
     → allowances_field e even document ≡ Ok y
 allowances-read e even document y few (inl (has, are)) =
-    rw (has, pairs_of-items y (are-small e even y few are), are_allowances_from-true e even 0 y (λ k d l. omega arith) are) refl
+    rw (has, all-from (pair_in (number_in 0 MAX_N) as_integer) index_pair IsIndexPair pairs-read y (λ k d l. (are-small e even y few are k d l, tt)), are_allowances_from-true e even 0 y (λ k d l. omega arith) are) refl
 allowances-read e even document y few (inr (none, empty)) = rw (none, empty) refl
 
 pub allowances-err : (e : Entry) (even : Bool) (document : Data) (fault : FileFault) → allowances_field e even document ≡ Err fault → Field name.Y ≡ fault

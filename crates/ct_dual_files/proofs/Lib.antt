@@ -1,5 +1,4 @@
 mod EntryLemmas
-mod PairLemmas
 mod DualFieldLemmas
 pub mod DualAnswers
 pub mod JohnsonDualAnswers

@@ -12,7 +12,7 @@ use Rattle.ct_fields.proofs.MemberLemmas.{members_depth-put}
 use Rattle.ct_duals.specs.declared.dual.Dual.{Dual}
 use Rattle.ct_duals.specs.Dual.{IsDual}
 use Rattle.ct_dual_files.specs.Dual.{dual_of, johnson_dual_of}
-use Rattle.ct_dual_files.specs.WrittenDuals.{integer_list, pair_data, pair_list, dual_table, johnson_dual_table}
+use Rattle.ct_dual_files.specs.WrittenDuals.{integer_list, index_pair, pair_list, dual_table, johnson_dual_table}
 use Rattle.ct_dual_files.specs.DualDocument.{dual_fields, johnson_dual_fields, StatesDual, StatesJohnsonDual}
 use Rattle.ct_dual_files.proofs.DualAnswers.{dual_answer-from}
 use Rattle.ct_dual_files.proofs.JohnsonDualAnswers.{johnson_dual_answer-from}
@@ -76,7 +76,7 @@ integers_depth : (c : List ℤ) → items_depth (items_of (map (λ z. integer z)
 integers_depth [] = refl
 integers_depth (z ∷ c) = rw (integers_depth c) refl
 
-pairs_depth : (y : List (ℕ × ℤ)) → items_depth (items_of (map pair_data y)) ≤ 1
+pairs_depth : (y : List (ℕ × ℤ)) → items_depth (items_of (map index_pair y)) ≤ 1
 pairs_depth [] = lit≤ tt
 pairs_depth (p ∷ y) = let rest = pairs_depth y in omega arith
 

@@ -1,40 +1,26 @@
 -- The fields of the documents of duals.
-use Rattle.std.specs.Prelude.{ℕ, ℤ, ◌%◌, ◌==◌, ◌||◌, not, Bool, false, if◌then◌else◌, List, [], ◌∷◌, Option, Some, None, Result, Ok}
+use Rattle.std.specs.Prelude.{ℕ, ℤ, ◌%◌, ◌==◌, ◌||◌, not, Bool, false, if◌then◌else◌, List, [], Option, Some, None, Result, Ok}
 use Rattle.std.specs.Option.{option_and_then}
-use Rattle.toml.specs.Data.{Data, array, Items, no_items, item, as_integer, as_bool}
+use Rattle.toml.specs.Data.{Data, array, as_integer, as_bool}
 use Rattle.ct_words.specs.declared.limits.TheConstants.{MAX_N}
 use Rattle.ct_codes.specs.declared.entry.Entry.{Entry}
 use Rattle.ct_fields.specs.Steps.{◌>>=◌, check}
 use Rattle.ct_fields.specs.Fields.{field, number_in}
+use Rattle.ct_fields.specs.Forms.{pair_in, all_of}
 use Rattle.ct_fields.specs.StatedEntry.{has_field}
 use Rattle.ct_fields.specs.declared.field.FieldName.TheVariants as name
 use Rattle.ct_fields.specs.declared.fault.FileFault.{FileFault}
 use Rattle.ct_fields.specs.declared.fault.FileFault.TheVariants.{Field}
 use Rattle.ct_duals.specs.Form.{are_multipliers, are_allowances}
 
--- the whole numbers of items that all are such
-abbrev pub integers_of : Items → Option (List ℤ)
-integers_of no_items = Some []
-integers_of (item d ds) = option_and_then (λ z. option_and_then (λ zs. Some (z ∷ zs)) (integers_of ds)) (as_integer d)
-
--- an index up to MAX_N and a whole number
-abbrev pub pair_in : Data → Option (ℕ × ℤ)
-pair_in (array (item i (item v no_items))) = option_and_then (λ k. option_and_then (λ z. Some (k, z)) (as_integer v)) (number_in 0 MAX_N i)
-pair_in _ = None
-
--- the pairs of items that all are such
-abbrev pub pairs_of : Items → Option (List (ℕ × ℤ))
-pairs_of no_items = Some []
-pairs_of (item d ds) = option_and_then (λ p. option_and_then (λ ps. Some (p ∷ ps)) (pairs_of ds)) (pair_in d)
-
 -- the multipliers that a list is: 1 to degree + 1 whole numbers of at least 0, in 64 signed bits
 abbrev pub multipliers_in : Entry → Data → Option (List ℤ)
-multipliers_in e (array ds) = option_and_then (λ c. if are_multipliers e c then Some c else None) (integers_of ds)
+multipliers_in e (array ds) = option_and_then (λ c. if are_multipliers e c then Some c else None) (all_of as_integer ds)
 multipliers_in e _ = None
 
 -- the allowances that a list of pairs is: indices of the range in ascending order, each with a number of at least 0, in 64 signed bits
 abbrev pub allowances_in : Entry → Bool → Data → Option (List (ℕ × ℤ))
-allowances_in e even (array ds) = option_and_then (λ y. if are_allowances e even y then Some y else None) (pairs_of ds)
+allowances_in e even (array ds) = option_and_then (λ y. if are_allowances e even y then Some y else None) (all_of (pair_in (number_in 0 MAX_N) as_integer) ds)
 allowances_in e even _ = None
 
 -- whether the dual speaks of even distances alone, which needs an even distance; it does not where the key is not there

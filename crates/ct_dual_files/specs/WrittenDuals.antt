@@ -1,22 +1,22 @@
 -- The tables that are written for duals.
-use Rattle.std.specs.Prelude.{ℕ, ℤ, pos, List, [], ◌∷◌, map, codes}
-use Rattle.toml.specs.Data.{Data, integer, boolean, array, Members}
-use Rattle.toml.specs.View.{items_of}
+use Rattle.std.specs.Prelude.{ℕ, ℤ, pos, List, codes}
+use Rattle.toml.specs.Data.{Data, integer, boolean, Members}
+use Rattle.ct_fields.specs.Forms.{pair_data, list_data}
 use Rattle.ct_fields.specs.Written.{put, put_weight, entry_table}
 use Rattle.ct_fields.specs.declared.field.FieldName.TheVariants as name
 use Rattle.ct_duals.specs.declared.dual.Dual.{Dual}
 
 -- the list of whole numbers
 abbrev pub integer_list : List ℤ → Data
-integer_list c = array (items_of (map (λ z. integer z) c))
+integer_list = list_data integer
 
 -- the list of an index and a number
-abbrev pub pair_data : ℕ × ℤ → Data
-pair_data p = array (items_of (integer (pos p.0) ∷ integer p.1 ∷ []))
+abbrev pub index_pair : ℕ × ℤ → Data
+index_pair = pair_data (λ k. integer (pos k)) integer
 
 -- the list of pairs
 abbrev pub pair_list : List (ℕ × ℤ) → Data
-pair_list y = array (items_of (map pair_data y))
+pair_list = list_data index_pair
 
 -- the table of a dual without weight
 abbrev pub dual_table : Dual → Members

@@ -1,7 +1,7 @@
 //! The tables of duals.
 ghost use Rattle.std.specs.Prelude.{◌≡◌, IfOk};
 ghost use Rattle.toml.specs.View.{view, table_view};
-ghost use Rattle.ct_dual_files.specs.WrittenDuals.{integer_list, pair_data, pair_list, dual_table, johnson_dual_table};
+ghost use Rattle.ct_dual_files.specs.WrittenDuals.{integer_list, index_pair, pair_list, dual_table, johnson_dual_table};
 
 use ct_duals::Dual;
 use ct_fields::{FieldName, entry_table, put, put_weight};
@@ -61,7 +61,7 @@ fn pair_list(alloc: Global, pairs: &[(u32, i64)]) -> Result<Value, AllocError>
 
 /// An index and a number as a value.
 fn pair_value(alloc: Global, i: u32, number: i64) -> Result<Value, AllocError>
-    ensures { IfOk result (λ value. view value ≡ pair_data (i, number)) }
+    ensures { IfOk result (λ value. view value ≡ index_pair (i, number)) }
 {
     let mut values = Vec::with_capacity(alloc, 2)?;
     values.push(Value::from(i))?;

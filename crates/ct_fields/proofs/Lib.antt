@@ -6,5 +6,6 @@ pub mod WordsLemmas
 pub mod MemberLemmas
 pub mod WordTexts
 pub mod IdTexts
+pub mod FormLemmas
 pub mod TextLengths
 pub mod RoomLemmas

@@ -8,4 +8,5 @@ pub mod Tables
 pub mod StatesEntry
 pub mod Written
 pub mod Ids
+pub mod Forms
 pub mod Inside

@@ -6,6 +6,7 @@ mod entry;
 mod fault;
 mod field;
 mod fields;
+mod forms;
 mod ids;
 mod writing;
 
@@ -16,5 +17,6 @@ pub use entry::{
 pub use fault::FileFault;
 pub use field::FieldName;
 pub use fields::{number_field, texts_field, texts_of, words_from};
+pub use forms::{Form, all_of};
 pub use ids::{id_in, id_value};
 pub use writing::{entry_table, put, put_weight, put_words, word_value, word_values};

@@ -11,6 +11,7 @@ use Rattle.ct_codes.specs.declared.entry.Entry.{Entry}
 use Rattle.ct_codes.specs.Entry.{IsEntry}
 use Rattle.ct_codes.proofs.EntryLemmas.{WeightFits, Limits, entry_limits}
 use Rattle.ct_partitions.specs.Partition.{all_words}
+use Rattle.ct_fields.specs.Forms.{pair_data}
 use Rattle.ct_fields.specs.Written.{word_texts, put, put_weight, entry_table}
 use Rattle.ct_fields.specs.declared.field.FieldName.TheVariants as name
 use Rattle.ct_fields.proofs.FieldLemmas.{has_only-true}
@@ -18,7 +19,7 @@ use Rattle.ct_fields.proofs.MemberLemmas.{members_depth-put}
 use Rattle.ct_fields.proofs.WordTexts.{texts_depth}
 use Rattle.ct_partition_files.specs.PartitionDocument.{partition_fields, class_texts, StatesPartition}
 use Rattle.ct_partition_files.specs.ProductDocument.{product_fields, IsPairCount, StatesProduct}
-use Rattle.ct_partition_files.specs.Written.{AreIds, class_list, pair_data, pair_list, partition_table, product_table}
+use Rattle.ct_partition_files.specs.Written.{AreIds, class_list, pair_list, partition_table, product_table}
 
 -- what holds of two lists, one after the other, holds of each
 All-append_parts : (P : ℕ → Type 0) (xs ys : List ℕ) → All P (xs ++ ys) → All P xs × All P ys
@@ -131,7 +132,7 @@ classes_depth n (words ∷ classes) =
     let rest = classes_depth n classes in
     omega arith
 
-pairs_depth : (pairs : List (List ℕ × List ℕ)) → items_depth (items_of (map pair_data pairs)) ≤ 1
+pairs_depth : (pairs : List (List ℕ × List ℕ)) → items_depth (items_of (map (pair_data string string) pairs)) ≤ 1
 pairs_depth [] = lit≤ tt
 pairs_depth (p ∷ pairs) = let rest = pairs_depth pairs in omega arith
 

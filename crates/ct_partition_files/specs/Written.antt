@@ -1,9 +1,10 @@
 -- The tables that are written for partitions and products.
-use Rattle.std.specs.Prelude.{ℕ, pos, List, [], ◌∷◌, map, IsTrue, codes}
+use Rattle.std.specs.Prelude.{ℕ, pos, List, map, IsTrue, codes}
 use Rattle.toml.specs.Data.{Data, string, integer, array, Members}
 use Rattle.toml.specs.View.{items_of}
 use Rattle.ct_text.specs.Id.{is_id}
 use Rattle.ct_codes.specs.declared.entry.Entry.{Entry}
+use Rattle.ct_fields.specs.Forms.{pair_data, list_data}
 use Rattle.ct_fields.specs.Written.{word_texts, put, put_weight, entry_table}
 use Rattle.ct_fields.specs.declared.field.FieldName.TheVariants as name
 
@@ -15,13 +16,9 @@ AreIds p = IsTrue (is_id p.0) × IsTrue (is_id p.1)
 abbrev pub class_list : ℕ → List (List ℕ) → Data
 class_list n classes = array (items_of (map (word_texts n) classes))
 
--- the list of two texts
-abbrev pub pair_data : List ℕ × List ℕ → Data
-pair_data p = array (items_of (string p.0 ∷ string p.1 ∷ []))
-
 -- the list of pairs of texts
 abbrev pub pair_list : List (List ℕ × List ℕ) → Data
-pair_list pairs = array (items_of (map pair_data pairs))
+pair_list = list_data (pair_data string string)
 
 -- the table of a partition
 abbrev pub partition_table : Entry → ℕ → List (List ℕ) → Members

@@ -1,9 +1,11 @@
 //! The tables of partitions and of products.
 ghost use Rattle.std.specs.Prelude.{◌≡◌, ◌^◌, ◌<◌, ◌≤◌, All, IfOk};
+ghost use Rattle.toml.specs.Data.{string};
 ghost use Rattle.toml.specs.View.{view, table_view};
 ghost use Rattle.ct_words.specs.declared.limits.TheConstants.{MAX_N};
 ghost use Rattle.ct_partitions.specs.Partition.{word_lists, all_words};
-ghost use Rattle.ct_partition_files.specs.Written.{AreIds, class_list, pair_data, pair_list, partition_table, product_table};
+ghost use Rattle.ct_fields.specs.Forms.{pair_data};
+ghost use Rattle.ct_partition_files.specs.Written.{AreIds, class_list, pair_list, partition_table, product_table};
 
 use ct_codes::Entry;
 use ct_fields::{FieldName, entry_table, id_value, put, put_weight, word_values};
@@ -71,7 +73,7 @@ fn pair_list(alloc: Global, pairs: &[(Id, Id)]) -> Result<Value, AllocError>
 
 /// Two ids as a value.
 fn pair_value(alloc: Global, first: &Id, second: &Id) -> Result<Value, AllocError>
-    ensures list { IfOk result (λ value. view value ≡ pair_data (first.now, second.now)) }
+    ensures list { IfOk result (λ value. view value ≡ pair_data string string (first.now, second.now)) }
     ensures ids { IfOk result (λ _. AreIds (first.now, second.now)) }
 {
     let mut values = Vec::with_capacity(alloc, 2)?;

@@ -4,7 +4,9 @@ use Rattle.std.proofs.lemmas.List.Elements.{All-more}
 use Rattle.toml.specs.Data.{Data, array}
 use Rattle.toml.specs.View.{view, items_of}
 use Rattle.toml.proofs.Views.{view-Array}
-use Rattle.ct_partition_files.specs.Written.{AreIds, pair_data}
+use Rattle.toml.specs.Data.{string}
+use Rattle.ct_fields.specs.Forms.{pair_data}
+use Rattle.ct_partition_files.specs.Written.{AreIds}
 use Rattle.ct_partition_files.proofs.WrittenLists.{pushed, all_pushed}
 use Rattle.ct_partition_files.proofs.written.pair_list.Goals as goal
 
@@ -14,7 +16,7 @@ loop-first-preserved c =
     let pairs = c.args.pairs.now in
     let pair = c.loop-first-item.result in
     let listed =
-    pushed view pair_data c.loop-first.values.items c.push.new.self.items c.in_ok-pair_value.field-0 pairs i pair c.loop-first-test.true
+    pushed view (pair_data string string) c.loop-first.values.items c.push.new.self.items c.in_ok-pair_value.field-0 pairs i pair c.loop-first-test.true
     c.loop-first-item.is c.in_ok-pair_value.ensures.list c.in_ok-push.ensures.items c.loop-first.invariant.0 in
     let ids =
     All-more AreIds pairs i pair c.loop-first-test.true c.loop-first.invariant.1
@@ -25,7 +27,7 @@ pub returns-clause-list : goal.returns-clause-list
 returns-clause-list c =
     view-Array c.loop-first.values
     ∙ ap (λ (ds : List Data). array (items_of ds))
-    (all_pushed view pair_data c.loop-first.values.items c.args.pairs.now c.loop-first.first-index c.loop-first-test.false c.loop-first.invariant.0)
+    (all_pushed view (pair_data string string) c.loop-first.values.items c.args.pairs.now c.loop-first.first-index c.loop-first-test.false c.loop-first.invariant.0)
 
 pub returns-clause-ids : goal.returns-clause-ids
 returns-clause-ids c =

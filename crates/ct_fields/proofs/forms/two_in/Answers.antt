@@ -2,9 +2,9 @@ use Rattle.std.proofs.Common.{map, sym, ap, ◌∙◌, arith}
 use Rattle.std.proofs.lemmas.List.{length-map}
 use Rattle.toml.specs.View.{view}
 use Rattle.toml.proofs.Views.{view-Array}
-use Rattle.ct_partition_files.specs.Pairs.{two_in}
-use Rattle.ct_partition_files.proofs.PairLemmas.{two_in-other, two_in-both}
-use Rattle.ct_partition_files.proofs.pairs.two_in.Goals as goal
+use Rattle.ct_fields.specs.Forms.{two_in}
+use Rattle.ct_fields.proofs.FormLemmas.{two_in-other, two_in-both}
+use Rattle.ct_fields.proofs.forms.two_in.Goals as goal
 
 pub returns-then-len-ne2 : goal.returns-then-len-ne2
 returns-then-len-ne2 c =
