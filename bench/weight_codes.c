@@ -1,13 +1,14 @@
 /* Looks for codes of constant weight as unions of orbits of a permutation group.
 
        cc -O3 -march=native -o weight_codes weight_codes.c
-       weight_codes N D W SECONDS SEED AT_LEAST
+       weight_codes N D W SECONDS SEED AT_LEAST [LENGTH]
 
    Permutation groups of the N places are taken by chance from those of a few forms: translations of one or two cyclic groups on copies of
-   them, with or without multiplications, rotations of the copies and the projective line. The orbits of words of weight W whose words are at
-   distance D from each other are the vertices of a graph; sets of orbits that stand at that distance are looked for by a tabu search. Each
-   time a code of more words than AT_LEAST and all before is found, one line with the group follows and then its words, a line each, and an
-   empty line. Nothing here is proved, and nothing is trusted: the program checks what is handed in. */
+   them, with or without multiplications, rotations of the copies and the projective line; with LENGTH only of cycles of that length. The
+   orbits of words of weight W whose words are at distance D from each other are the vertices of a graph; sets of orbits that stand at that
+   distance are looked for by a tabu search. Each time a code of more words than AT_LEAST and all before is found, one line with the group
+   follows and then its words, a line each, and an empty line. Nothing here is proved, and nothing is trusted: the program checks what is handed
+   in. */
 
 #include <stdint.h>
 #include <stdio.h>
@@ -15,12 +16,12 @@
 #include <string.h>
 #include <time.h>
 
-enum { MOST_PLACES = 28, MOST_ELEMENTS = 8192, MOST_VERTICES = 14000 };
+enum { MOST_PLACES = 28, MOST_ELEMENTS = 8192, MOST_VERTICES = 20000 };
 
 typedef struct { uint8_t to[MOST_PLACES]; } Permutation;
 typedef struct { uint32_t word; int size; } Orbit;
 
-static int n, d, w, best;
+static int n, d, w, best, only;
 static double until;
 static uint64_t state;
 static Permutation generators[8];
@@ -109,7 +110,7 @@ static int projective(void) {
 
 /* Copies of Z_a x Z_b, or of Z_a alone where b is 1, with translations, and by chance more. */
 static int translations(void) {
-    int a = 2 + below(n - 1), b = below(3) ? 1 : 2 + below(5), size = a * b;
+    int a = only ? only : 2 + below(n - 1), b = only || below(3) ? 1 : 2 + below(5), size = a * b;
     if (size > n) return 0;
     int fixed = below(3) ? n % size : n % size + size * below(n / size), copies = (n - fixed) / size;
     if (copies < 1 || fixed > 6) return 0;
@@ -310,21 +311,22 @@ static void search(double stop) {
 }
 
 int main(int count, char **words) {
-    if (count != 7) return 2;
+    if (count != 7 && count != 8) return 2;
     n = atoi(words[1]), d = atoi(words[2]), w = atoi(words[3]);
     double seconds = atof(words[4]);
     state = 88172645463325252ull + 7919 * strtoull(words[5], 0, 10);
     best = atoi(words[6]);
-    if (n < 4 || n > MOST_PLACES || w < 1 || w > n / 2) return 2;
+    only = count == 8 ? atoi(words[7]) : 0;
+    if (n < 4 || n > MOST_PLACES || w < 1 || w > n / 2 || only < 0 || only == 1 || only > n) return 2;
     for (int i = 0; i < 20; i++) next();
     until = now() + seconds;
     seen = malloc((size_t)1 << (n > 3 ? n - 3 : 0));
     conflict = malloc((size_t)MOST_VERTICES * MOST_VERTICES);
-    if (!seen || !conflict) return 1;
+    if (!seen || !conflict) return 1; // What isn't written of the second takes no memory.
     while (now() < until) {
         generator_count = 0;
         told[0] = 0;
-        int kind = below(8);
+        int kind = only ? 2 : below(8);
         if (!(kind == 0 ? projective() : kind == 1 ? two_lengths() : translations())) continue;
         if (!close_group() || !find_orbits() || !find_conflicts()) continue;
         double stop = now() + seconds / 12 + 0.05;
