@@ -52,25 +52,30 @@ class Library(unittest.TestCase):
         self.assertEqual(told_of, counts)
         self.assertIn(f"`examples/library/` has {sum(counts.values())} pieces", (TOP / "README.md").read_text())
 
+    def test_the_document_counts_the_entries(self):
+        self.assertIn(f"of all {len(table.entries()):,} entries", " ".join(TEXT.split()))
+        plain = sum(len(entry) == 2 for entry in table.entries())
+        self.assertIn(f"| A(n,d), of {plain} | A(n,d,w), of {len(table.entries()) - plain} |", TEXT)
+
     @needs_program
     def test_all_codes_are_accepted_and_reach_what_is_said(self):
         found = table.held(table.read_sessions(CODES), table.ask_all())
         self.assertEqual(found.refused, [])
-        self.assertEqual((len(found.bounds), exact(found, 2), exact(found, 3)), (6370, *told("the five sessions of codes")))
+        self.assertEqual((len(found.bounds), exact(found, 2), exact(found, 3)), (len(table.entries()), *told("the five sessions of codes")))
 
     @needs_program
     def test_all_duals_are_accepted_and_reach_what_is_said(self):
         self.assertEqual(whole().refused, [])
-        self.assertEqual((len(whole().bounds), exact(whole(), 2), exact(whole(), 3)), (6370, *told("all six sessions")))
+        self.assertEqual((len(whole().bounds), exact(whole(), 2), exact(whole(), 3)), (len(table.entries()), *told("all six sessions")))
 
-    def test_11_what_is_published_stands_in_the_document_and_in_the_data(self):
+    def test_what_is_published_stands_in_the_document_and_in_the_data(self):
         data = json.loads((TOOLS / "published.json").read_text())
         self.assertEqual([[n, d, lower, upper] for n, d, _, lower, _, _, upper, _ in rows(PLAIN)], data["plain"])
         self.assertEqual([[n, d, w, lower] for n, d, w, _, lower, _ in rows(WEIGHT)], data["weight"])
         self.assertTrue({(12, 4, 5, 80), (13, 4, 5, 123), (24, 10, 8, 69)} <= set(map(tuple, data["weight"])))
 
     @needs_program
-    def test_11_the_document_compares_the_bounds_of_the_program(self):
+    def test_the_document_compares_the_bounds_of_the_program(self):
         self.assertEqual(len(rows(PLAIN)), sum(low < high for (n, d, *w), (low, high) in whole().bounds.items() if d % 2 == 0 and not w))
         for n, d, low, lower, is_low, high, upper, is_high in rows(PLAIN):
             self.assertEqual(((low, high), is_low, is_high), (whole().bounds[n, d], table.compared(low, lower), table.compared(high, upper)))
@@ -78,7 +83,7 @@ class Library(unittest.TestCase):
             self.assertEqual((low, is_low), (whole().bounds[n, d, w][0], table.compared(low, lower)), (n, d, w))
 
     @needs_program
-    def test_11_the_products_of_the_examples_are_the_best_of_the_library(self):
+    def test_the_products_of_the_examples_are_the_best_of_the_library(self):
         found = table.held(table.read_sessions([TOP / "examples/partitions.session"]), [])
         products = [piece for piece in found.pieces.values() if piece.kind == "product"]
         self.assertEqual([(piece.entry, piece.size) for piece in products], [((8, 4), 16), ((8, 4, 4), 14)])
@@ -86,7 +91,7 @@ class Library(unittest.TestCase):
             self.assertEqual(whole().bounds[piece.entry][0], piece.size)
 
     @needs_program
-    def test_11_each_code_of_constant_weight_that_was_searched_for_is_needed(self):
+    def test_each_code_of_constant_weight_that_was_searched_for_is_needed(self):
         for name in re.findall(r"^submit (\S+)$", (TOP / "examples/library/5-weights-searched.session").read_text(), re.M):
             piece = whole().pieces[name]
             self.assertEqual(whole().bounds[piece.entry][0], piece.size, name)

@@ -61,23 +61,23 @@ class Page(unittest.TestCase):
         self.assertEqual(self.reader.others, [])
         self.assertNotRegex(self.text, r"url\(|@import|https?:")
 
-    def test_9_each_entry_has_an_anchor(self):
+    def test_each_entry_has_an_anchor(self):
         ids = set(self.reader.ids)
-        self.assertEqual(len(table.entries()), 6370)
+        self.assertEqual(len(set(table.entries())), len(table.entries()))
         self.assertEqual([entry for entry in table.entries() if f"a{page.anchor(entry)}" not in ids], [])
         self.holds('<td id="a24-8-8" class="wide"><span id="a24-8-16"></span><a href="#b24-8-8"')
         self.holds('<td id="a15-5" class="wide">')
 
-    def test_9_cells_have_bounds_and_the_marks_of_rules(self):
+    def test_cells_have_bounds_and_the_marks_of_rules(self):
         self.holds('<td id="a10-6" class="wide"><a href="#b10-6" title="1 ≤ A(10,6) ≤ 1024">1<sup>L10</sup><br>1024<sup>U0</sup></a></td>')
         self.holds('<td id="a5-6" class="trivial">1</td>')
 
-    def test_9_reasons_have_the_sentences_and_sources_of_rules(self):
+    def test_reasons_have_the_sentences_and_sources_of_rules(self):
         self.assertIn('<li><a href="#b10-6">A(10,6)</a> ≥ 1 by <a href="#r-L10">L10</a> <a href="#p-hexa">hexa</a>: <span class="why">A(n,d) is at least the number '
                       "of words of the piece (the entry of a piece): the piece&#x27;s words are a code of the entry</span></li>", self.reason("10-6"))
         self.holds('<dt id="r-V9">V9</dt><dd>A(n,d,w) ≤ ⌊f(0)/c_0⌋')
 
-    def test_9_rules_are_those_of_the_document(self):
+    def test_rules_are_those_of_the_document(self):
         rows = []
         for line in (TOP / "docs/RULES.md").read_text().split("\n"):
             cells = [cell.strip() for cell in line.strip("|").split(" | ")]
@@ -85,12 +85,12 @@ class Page(unittest.TestCase):
                 rows.append(dict(zip(("rule", "where", "says", "source"), [cells[0].split(" ")[0], *cells[1:4]])))
         self.assertEqual(rows, json.loads((TOOLS / "rules.json").read_text()))
 
-    def test_9_the_case_of_a_rule_is_that_of_its_entry(self):
+    def test_the_case_of_a_rule_is_that_of_its_entry(self):
         for rule, entry, case in [("L8", (8, 4), "d ≤ 4"), ("L8", (16, 6), "d ≥ 5"), ("U2", (12, 8), "d ≤ n < 2d"), ("U2", (12, 6), "n = 2d"),
                                   ("U2", (11, 7), "d ≤ n < 2d+1"), ("U2", (11, 5), "n = 2d+1")]:
             self.assertIn(case, table.rule_row(rule, entry)["where"])
 
-    def test_9_pieces_have_title_source_and_document(self):
+    def test_pieces_have_title_source_and_document(self):
         self.assertIn("hexa</a> (words of A(10,6), 1 word): The six words &lt;of length ten&gt; &amp; nothing else</li>", self.reason("10-6"))
         self.assertNotIn("A remark that belongs to nothing", self.text)
         piece = re.search(r'<li id="p-hexa">.*?</li>', self.text, re.S)[0]
@@ -101,28 +101,28 @@ class Page(unittest.TestCase):
         self.assertIn('Built from <a href="#p-hexa">hexa</a>', longer)
         self.assertIn("No source is stated.", longer)
 
-    def test_9_what_is_known_stands_beside(self):
+    def test_what_is_known_stands_beside(self):
         for name, words in [("17-4", "Published: 2816 and 3276; the lower bound here is below, the upper above."), ("16-3", "Published: 2816 and 3276;"),
                             ("12-4-5", "Remembered as published: at least 80; the lower bound here is below."), ("20-4-7", "Not compared with published values."),
                             ("17-4", "semidefinite programming")]:
             self.assertIn(words, self.reason(name))
 
-    def test_9_above_what_is_published_is_unconfirmed(self):
+    def test_above_what_is_published_is_unconfirmed(self):
         self.assertTrue(page.is_unconfirmed((25, 6), (20480, 48148)) and page.is_unconfirmed((24, 5), (20480, 48148)))
         self.assertFalse(page.is_unconfirmed((25, 6), (17920, 48148)) or page.is_unconfirmed((16, 6), (256, 256)))
         self.assertIn("Unconfirmed against present tables", page.Page(table.Held()).known((25, 6), 20480, 48148))
         self.assertNotIn("Unconfirmed", page.Page(table.Held()).known((25, 6), 17920, 48148))
 
-    def test_9_it_says_when_and_by_what_it_was_made(self):
+    def test_it_says_when_and_by_what_it_was_made(self):
         self.holds("<dt>Made on</dt><dd>1970-01-02</dd>")
         self.assertRegex(self.text, r"<dt>Program \(SHA-256\)</dt><dd>[0-9a-f]{64}</dd>\n<dt>Program \(commit\)</dt><dd>unknown</dd>")
 
-    def test_9_a_dark_mode(self):
+    def test_a_dark_mode(self):
         self.holds("@media screen and (prefers-color-scheme: dark) { :root:not([data-theme=light])")
         self.holds(":root[data-theme=dark] {")
 
     @needs("chromium")
-    def test_9_field_and_arrow_keys(self):
+    def test_field_and_arrow_keys(self):
         script = ("addEventListener('load', () => { const said = []; const go = text => { document.querySelector('[name=entry]').value = text;"
                   " document.getElementById('go').requestSubmit(); said.push(location.hash); };"
                   " const key = name => { document.activeElement.dispatchEvent(new KeyboardEvent('keydown', {key: name, bubbles: true}));"

@@ -60,13 +60,13 @@ class Data(unittest.TestCase):
                 cls.rows = list(csv.reader(file))
             cls.json = json.loads(Path(folder + "/t.json").read_text(encoding="utf-8"))
 
-    def test_10_the_csv_has_every_entry(self):
+    def test_the_csv_has_every_entry(self):
         self.assertEqual(self.rows[0], ["n", "d", "w", "lower", "upper", "lower_rule", "upper_rule", "lower_pieces", "upper_pieces"])
         self.assertEqual([tuple(map(int, filter(None, row[:3]))) for row in self.rows[1:]], table.entries())
         self.assertIn(["10", "6", "", "1", "1024", "L10", "U0", "hexa", ""], self.rows)
         self.assertIn(["11", "6", "", "1", "2048", "L10", "U0", "hexa longer", ""], self.rows)
 
-    def test_10_the_json_has_every_entry_with_rule_derivation_and_documents(self):
+    def test_the_json_has_every_entry_with_rule_derivation_and_documents(self):
         self.assertEqual([(e["n"], e["d"]) if e["w"] is None else (e["n"], e["d"], e["w"]) for e in self.json["entries"]], table.entries())
         entry = next(e for e in self.json["entries"] if (e["n"], e["d"], e["w"]) == (10, 6, None))
         self.assertEqual(entry["lower"], {"value": 1, "rule": "L10", "derivation": ["line 1 lower 10 6 value 1 by L10 hexa"], "evidence": ["hexa"]})
@@ -75,7 +75,7 @@ class Data(unittest.TestCase):
         self.assertIn('\nop = "lengthen"\n', self.json["pieces"][1]["document"])
         self.assertEqual((self.json["made"], self.json["program"]["commit"]), ("1970-01-01", "unknown"))
 
-    def test_10_the_schema_takes_the_data_and_nothing_less(self):
+    def test_the_schema_takes_the_data_and_nothing_less(self):
         self.assertEqual(list(faults(self.json, SCHEMA)), [])
         for change in (lambda d: d.pop("made"), lambda d: d["entries"][0]["lower"].pop("rule"), lambda d: d["entries"][0].update(w=-1),
                        lambda d: d["pieces"][0].update(kind="guess"), lambda d: d["entries"][5]["upper"].update(derivation=[]), lambda d: d.update(more=1)):
@@ -83,11 +83,14 @@ class Data(unittest.TestCase):
             change(changed)
             self.assertNotEqual(list(faults(changed, SCHEMA)), [])
 
-    def test_10_refusals_end_with_1(self):
+    def test_the_schema_ends_where_the_table_does(self):
+        self.assertEqual([SCHEMA["$defs"][name]["maximum"] for name in "ndw"], [table.LAST] * 3)
+
+    def test_refusals_end_with_1(self):
         self.assertEqual(self.said, ("", "table_data: submit hexa: refused taken\n", 1))
 
     @needs_program
-    def test_10_each_bound_can_be_checked_again_from_the_data(self):
+    def test_each_bound_can_be_checked_again_from_the_data(self):
         text = (TOP / "examples/octads.session").read_text()
         held = table.held(text, table.ask_all() + [f"explain {side} {entry}" for side in table_data.SIDES for entry in ("24 8 8", "23 8 7", "20 8 12", "22 7")])
         pieces = {"pieces": list(map(table_data.piece_of, held.pieces.values()))}
@@ -103,7 +106,7 @@ class Release(unittest.TestCase):
     def release(self, folder, *sessions, program=FAKE_PROGRAM):
         return subprocess.run([TOOLS / "release.sh", folder, *sessions], env=FAKE | {"CODE_TABLES": str(program)}, capture_output=True, text=True)
 
-    def test_10_a_release_is_one_folder_with_checksums(self):
+    def test_a_release_is_one_folder_with_checksums(self):
         with tempfile.TemporaryDirectory() as place:
             folder = Path(place) / "a release"
             ended = self.release(folder, TOP / "examples/six-words.session")
@@ -121,7 +124,7 @@ class Release(unittest.TestCase):
             again = self.release(folder)
             self.assertEqual((again.stderr, again.returncode), (f"release: {folder} is there already\n", 1))
 
-    def test_10_a_release_with_a_refusal_is_none(self):
+    def test_a_release_with_a_refusal_is_none(self):
         with tempfile.TemporaryDirectory() as place:
             ended = self.release(Path(place) / "new", SMALL)
             self.assertEqual((ended.returncode, list(Path(place).iterdir())), (1, []))
