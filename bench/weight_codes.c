@@ -4,11 +4,11 @@
        weight_codes N D W SECONDS SEED AT_LEAST [LENGTH]
 
    Permutation groups of the N places are taken by chance from those of a few forms: translations of one or two cyclic groups on copies of
-   them, with or without multiplications, rotations of the copies and the projective line; with LENGTH only of cycles of that length. The
-   orbits of words of weight W whose words are at distance D from each other are the vertices of a graph; sets of orbits that stand at that
-   distance are looked for by a tabu search. Each time a code of more words than AT_LEAST and all before is found, one line with the group
-   follows and then its words, a line each, and an empty line. Nothing here is proved, and nothing is trusted: the program checks what is handed
-   in. */
+   them, with or without multiplications, rotations of the copies, the projective line and binary spaces; with LENGTH only of cycles of that
+   length. The orbits of words of weight W whose words are at distance D from each other are the vertices of a graph; sets of orbits that stand
+   at that distance are looked for by a tabu search. Each time a code of more words than AT_LEAST and all before is found, one line with the
+   group follows and then its words, a line each, and an empty line. Nothing here is proved, and nothing is trusted: the program checks what is
+   handed in. */
 
 #include <stdint.h>
 #include <stdio.h>
@@ -153,6 +153,42 @@ static int translations(void) {
         generators[generator_count - 1] = more;
         tell(", the fixed ones turned with the last", 0, 0);
     }
+    return 1;
+}
+
+/* Copies of a space of 2^k words, with its translations, and by chance a linear map and a rotation of the copies. */
+static int affine(void) {
+    int k = 2 + below(3), size = 1 << k, copies = n / size, fixed = n % size;
+    if (copies < 1 || fixed > 4) return 0;
+    int to[5] = {0};
+    for (int tries = 0, full = 0; !full && tries < 100; tries++) {
+        full = 1;
+        for (int i = 0; i < k; i++) to[i] = 1 + below(size - 1);
+        for (int x = 1; x < size; x++) {
+            int sum = 0;
+            for (int i = 0; i < k; i++) sum ^= x >> i & 1 ? to[i] : 0;
+            if (sum == 0) full = 0;
+        }
+    }
+    int linear = below(3), rotated = copies > 1 && below(2);
+    Permutation map = identity(), rotation = identity();
+    for (int i = 0; i < k; i++) {
+        Permutation shift = identity();
+        for (int at = 0; at < copies * size; at++) shift.to[at] = (uint8_t)(at ^ 1 << i);
+        add(shift);
+    }
+    for (int at = 0; at < copies * size; at++) {
+        int sum = 0;
+        for (int i = 0; i < k; i++) sum ^= at >> i & 1 ? to[i] : 0;
+        map.to[at] = (uint8_t)(at / size * size + sum);
+        rotation.to[at] = (uint8_t)((at + size) % (copies * size));
+    }
+    if (linear) add(map);
+    if (rotated) add(rotation);
+    tell("translations of %d words on %d copies", size, copies);
+    if (linear) tell(", a linear map", 0, 0);
+    if (rotated) tell(", a rotation of the copies", 0, 0);
+    if (fixed) tell(", %d fixed", fixed, 0);
     return 1;
 }
 
@@ -326,8 +362,8 @@ int main(int count, char **words) {
     while (now() < until) {
         generator_count = 0;
         told[0] = 0;
-        int kind = only ? 2 : below(8);
-        if (!(kind == 0 ? projective() : kind == 1 ? two_lengths() : translations())) continue;
+        int kind = only ? 3 : below(9);
+        if (!(kind == 0 ? projective() : kind == 1 ? two_lengths() : kind == 2 ? affine() : translations())) continue;
         if (!close_group() || !find_orbits() || !find_conflicts()) continue;
         double stop = now() + seconds / 12 + 0.05;
         search(stop < until ? stop : until);

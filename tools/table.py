@@ -18,7 +18,7 @@ LENGTHS = range(1, LAST + 1)
 DISTANCES = range(3, LAST + 1)
 EVEN = range(4, LAST + 1, 2)
 # How many explanations are asked for in one session: they are as long as the documents that they rest on.
-AT_ONCE = 1500
+AT_ONCE = 500
 
 
 @dataclass

@@ -27,5 +27,5 @@ def codes(pieces, most):
             continue
         read[piece.id] = code = Code(piece.document.encode("utf-8", "surrogateescape"))
         code.check(read)
-        if piece.size is not None and piece.size <= most:
+        if piece.kind != "partition" and piece.size <= most:
             yield piece.id, code.n, code.words()

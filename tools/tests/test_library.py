@@ -61,12 +61,12 @@ class Library(unittest.TestCase):
     def test_all_codes_are_accepted_and_reach_what_is_said(self):
         found = table.held(table.read_sessions(CODES), table.ask_all())
         self.assertEqual(found.refused, [])
-        self.assertEqual((len(found.bounds), exact(found, 2), exact(found, 3)), (len(table.entries()), *told("the five sessions of codes")))
+        self.assertEqual((len(found.bounds), exact(found, 2), exact(found, 3)), (len(table.entries()), *told("the six sessions of codes")))
 
     @needs_program
     def test_all_duals_are_accepted_and_reach_what_is_said(self):
         self.assertEqual(whole().refused, [])
-        self.assertEqual((len(whole().bounds), exact(whole(), 2), exact(whole(), 3)), (len(table.entries()), *told("all six sessions")))
+        self.assertEqual((len(whole().bounds), exact(whole(), 2), exact(whole(), 3)), (len(table.entries()), *told("all seven sessions")))
 
     def test_what_is_published_stands_in_the_document_and_in_the_data(self):
         data = json.loads((TOOLS / "published.json").read_text())
@@ -92,9 +92,14 @@ class Library(unittest.TestCase):
 
     @needs_program
     def test_each_code_of_constant_weight_that_was_searched_for_is_needed(self):
-        for name in re.findall(r"^submit (\S+)$", (TOP / "examples/library/5-weights-searched.session").read_text(), re.M):
-            piece = whole().pieces[name]
-            self.assertEqual(whole().bounds[piece.entry][0], piece.size, name)
+        searched = table.read_sessions(sorted((TOP / "examples/library").glob("[56]-*.session")))
+        pieces = [whole().pieces[command.id] for command in sessions.commands(searched)]
+        self.assertEqual({piece.kind for piece in pieces}, {"words", "partition", "product"})
+        for piece in pieces:
+            if piece.kind != "partition":
+                self.assertEqual(whole().bounds[piece.entry][0], piece.size, piece.id)
+        parts = {name for piece in pieces for name in piece.parts}
+        self.assertEqual({piece.id for piece in pieces if piece.kind == "partition"}, parts)
 
 
 if __name__ == "__main__":

@@ -14,6 +14,8 @@ from support import DATA, FAKE, FAKE_PROGRAM, TOOLS, TOP, needs_program, run, se
 import check_derivation
 import table
 import table_data
+import words_of_pieces
+from code_tables import sessions
 
 SMALL = DATA / "page/small.session"
 SCHEMA = json.loads((TOOLS / "table.schema.json").read_text())
@@ -100,6 +102,17 @@ class Data(unittest.TestCase):
             self.assertEqual(session(document, "verify"), "yes\n")
             self.assertEqual(session(text + f"\nexplain {side} {' '.join(map(str, entry))}\n")[-len(document):], document)
         self.assertEqual(check_derivation.verdict(document.encode()), "yes")
+
+
+class Words(unittest.TestCase):
+    def test_words_are_those_of_each_code_and_of_no_partition(self):
+        text = (TOP / "examples/partitions.session").read_text() + (TOP / "examples/octads.session").read_text()
+        sizes = {"octads": 759, "golay": 4096, "hamming": 16, "product8": 14}
+        pieces = [table.piece_of(f"{command.id} {command.fields['kind']} 1 1 size {sizes.get(command.id, 1)}", {command.id: command})
+                  for command in sessions.commands(text) if command.words[0] == "submit"]
+        found = {name: list(words) for name, _, words in words_of_pieces.codes(pieces, 1000)}
+        self.assertEqual({name: len(words) for name, words in found.items()}, {"hamming": 16, "product8": 14, "octads": 759})
+        self.assertEqual(found["product8"][:3], [0b00001111, 0b00110011, 0b00111100])
 
 
 class Release(unittest.TestCase):
