@@ -15,12 +15,12 @@ fn weighted(n: u32, d: u32, w: u32) -> Entry {
 
 /// Duals of the linear program, from the literature or found by a solver and put into whole numbers, with the bounds that
 /// they give: those of the extended Golay code, of its words of weight 8, of the Nordstrom-Robinson code and of Steiner
-/// systems are met.
+/// systems are met. Where 0 is allowed at an index, the bound rests on no entry for it.
 #[test]
 fn known_bounds(rt: HostRuntime) -> Result<(), Fail> {
     let alloc = rt.alloc();
     let golay = [3024, 3024, 1869, 924, 344, 100, 15];
-    let rows: [(Entry, bool, &[i64], &[(u32, i64)], &[u32], u32); 11] = [
+    let rows: [(Entry, bool, &[i64], &[(u32, i64)], &[u32], u32); 12] = [
         (
             plain(13, 6),
             true,
@@ -36,6 +36,14 @@ fn known_bounds(rt: HostRuntime) -> Result<(), Fail> {
             &[(10, 16), (12, 48)],
             &[4, 2],
             38,
+        ),
+        (
+            plain(13, 6),
+            true,
+            &[5, 1, 1],
+            &[(8, 0), (10, 16), (12, 48)],
+            &[4, 1],
+            32,
         ),
         (plain(16, 6), true, &[60, 60, 18, 12, 3], &[], &[], 256),
         (plain(16, 6), true, &[20, 20, 6, 4, 1], &[], &[], 256),
