@@ -2,4 +2,4 @@ pub mod Sound
 pub mod StepLemmas
 pub mod BuiltCodes
 pub mod BuildFaults
-mod RightBuilds
+pub mod RightBuilds

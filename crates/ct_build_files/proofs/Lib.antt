@@ -4,3 +4,5 @@ pub mod BuildAnswers
 pub mod BuildFaultAnswers
 pub mod WrittenBuild
 pub mod BuildRooms
+pub mod BuildKind
+pub mod BuildChecks

@@ -5,3 +5,5 @@ pub mod Build
 pub mod BuildDocument
 pub mod WrittenBuild
 pub mod BuildAnswer
+pub mod BuildKind
+pub mod BuildFaultText

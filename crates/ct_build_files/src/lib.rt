@@ -2,10 +2,13 @@
 #![tactic(auto)]
 
 mod build;
+mod build_fault_text;
 mod build_fields;
+pub mod build_kind;
 mod entry;
 mod operation;
 mod written_build;
 
 pub use build::build_evidence;
+pub use build_fault_text::put_build_fault;
 pub use written_build::build_table;

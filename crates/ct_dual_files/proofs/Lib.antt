@@ -5,3 +5,4 @@ pub mod JohnsonDualAnswers
 pub mod FormedDuals
 pub mod WrittenDuals
 pub mod DualRooms
+pub mod DualKind

@@ -3,3 +3,5 @@ pub mod Dual
 pub mod WrittenDuals
 pub mod DualDocument
 pub mod Examples
+pub mod DualKind
+pub mod DualFaultText

@@ -1,12 +1,15 @@
 //! Documents of duals, read and written.
 #![tactic(auto)]
 
+mod dual_fault_text;
+pub mod dual_kind;
 mod entries;
 mod fields;
 mod laws;
 mod reading;
 mod written;
 
+pub use dual_fault_text::put_dual_fault;
 pub use laws::{answers_to_duals, duals_read_back, known_documents};
 pub use reading::{dual_of, johnson_dual_of};
 pub use written::{dual_table, johnson_dual_table};

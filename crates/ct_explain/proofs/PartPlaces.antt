@@ -9,13 +9,13 @@ use Rattle.std.proofs.lemmas.Option.{slice_get-map, slice_get_within, get_or_fro
 use Rattle.std.proofs.lemmas.Slice.Eq.{bytes_eq-Decides}
 use Rattle.ct_derive.specs.Pieces.{AreEarlier}
 use Rattle.ct_evidence.specs.declared.evidence.Evidence.{Evidence}
-use Rattle.ct_ledger.specs.Named.{is_known}
-use Rattle.ct_ledger.specs.Kind.{parts_of, names}
-use Rattle.ct_ledger.specs.Piece.{PieceValue, has_id}
-use Rattle.ct_ledger.specs.Codes.{codes_of}
-use Rattle.ct_ledger.specs.Standing.{AreStanding}
-use Rattle.ct_ledger.proofs.CodeLemmas.{known_where_taken}
-use Rattle.ct_ledger.proofs.MakingLemmas.{IsRight, none_missing, right_at, right-parts}
+use Rattle.ct_kind.specs.Named.{is_known}
+use Rattle.ct_pieces.specs.Kind.{parts_of, names}
+use Rattle.ct_pieces.specs.Piece.{PieceValue, has_id}
+use Rattle.ct_pieces.specs.Codes.{codes_of}
+use Rattle.ct_pieces.specs.Standing.{AreStanding}
+use Rattle.ct_pieces.proofs.CodeLemmas.{known_where_taken}
+use Rattle.ct_pieces.proofs.MakingLemmas.{IsRight, none_missing, right_at, right-parts}
 use Rattle.ct_explain.specs.Parts.{places_where, part_places, parts_of_each}
 
 -- the places with one more item at the end

@@ -17,7 +17,7 @@ struct Shown<'a> {
 }
 
 impl<'a> Model for Shown<'a> {
-    ghost use Rattle.ct_ledger.specs.Piece.{PieceValue};
+    ghost use Rattle.ct_pieces.specs.Piece.{PieceValue};
 
     ghost Value = { PieceValue };
 

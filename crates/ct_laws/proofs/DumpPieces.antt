@@ -20,19 +20,19 @@ use Rattle.ct_commands.specs.Command.{commands_of}
 use Rattle.ct_commands.specs.declared.form.Form.TheVariants.{Submit}
 use Rattle.ct_commands.specs.declared.command.Command.{Command}
 use Rattle.ct_commands.specs.declared.command.Command.TheVariants as command
-use Rattle.ct_ledger.specs.Named.{NamedCode}
-use Rattle.ct_ledger.specs.Piece.{PieceValue, has_id, first_user, stored_by}
-use Rattle.ct_ledger.specs.Codes.{codes_of}
-use Rattle.ct_ledger.specs.Submission.{piece_from, submitted, with_piece}
-use Rattle.ct_ledger.specs.Withdrawal.{without, withdrawn, unless_used, left_by}
-use Rattle.ct_ledger.specs.Standing.{AreStanding, IsMade}
-use Rattle.ct_ledger.specs.Dump.{line_count, piece_dump, dump_text}
-use Rattle.ct_ledger.specs.declared.fault.SubmitFault.{SubmitFault}
-use Rattle.ct_ledger.specs.declared.fault.WithdrawFault.{WithdrawFault}
-use Rattle.ct_ledger.specs.declared.fault.WithdrawFault.TheVariants as withdraw
-use Rattle.ct_ledger.proofs.CodeLemmas.{AreMade-back}
-use Rattle.ct_ledger.proofs.StandingLemmas.{WasMade, submitted-ok, submitted-from, piece_from-names, piece_from-within}
-use Rattle.ct_ledger.proofs.Accepting.{not_taken}
+use Rattle.ct_kind.specs.Named.{NamedCode}
+use Rattle.ct_pieces.specs.Piece.{PieceValue, has_id, first_user, stored_by}
+use Rattle.ct_pieces.specs.Codes.{codes_of}
+use Rattle.ct_pieces.specs.Submission.{piece_from, submitted, with_piece}
+use Rattle.ct_pieces.specs.Withdrawal.{without, withdrawn, unless_used, left_by}
+use Rattle.ct_pieces.specs.Standing.{AreStanding, IsMade}
+use Rattle.ct_pieces.specs.Dump.{line_count, piece_dump, dump_text}
+use Rattle.ct_kind.specs.declared.fault.SubmitFault.{SubmitFault}
+use Rattle.ct_pieces.specs.declared.fault.WithdrawFault.{WithdrawFault}
+use Rattle.ct_pieces.specs.declared.fault.WithdrawFault.TheVariants as withdraw
+use Rattle.ct_pieces.proofs.CodeLemmas.{AreMade-back}
+use Rattle.ct_pieces.proofs.StandingLemmas.{WasMade, submitted-ok, submitted-from, piece_from-names, piece_from-within}
+use Rattle.ct_pieces.proofs.Accepting.{not_taken}
 use Rattle.ct_session.specs.Reply.{pieces_after, submission_reply, is_refusal}
 use Rattle.ct_session.specs.Run.{AreReplies, AnswersCommands, IsRun, pieces_of}
 use Rattle.ct_session.specs.Text.{reply_text}

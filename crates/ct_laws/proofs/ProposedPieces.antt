@@ -32,12 +32,12 @@ use Rattle.ct_commands.specs.Form.{form_of}
 use Rattle.ct_commands.specs.Command.{commands_of}
 use Rattle.ct_commands.specs.declared.form.Form.TheVariants.{Nothing}
 use Rattle.ct_commands.specs.declared.command.Command.{Command}
-use Rattle.ct_ledger.specs.Named.{NamedCode}
-use Rattle.ct_ledger.specs.Codes.{named_code}
-use Rattle.ct_ledger.specs.Dump.{piece_dump}
-use Rattle.ct_ledger.specs.Piece.{PieceValue, stored_by, stored_words}
-use Rattle.ct_ledger.specs.Standing.{AreMade, AreStanding}
-use Rattle.ct_ledger.specs.declared.limits.TheConstants.{MAX_PIECES}
+use Rattle.ct_kind.specs.Named.{NamedCode}
+use Rattle.ct_pieces.specs.Codes.{named_code}
+use Rattle.ct_pieces.specs.Dump.{piece_dump}
+use Rattle.ct_pieces.specs.Piece.{PieceValue, stored_by, stored_words}
+use Rattle.ct_pieces.specs.Standing.{AreMade, AreStanding}
+use Rattle.ct_pieces.specs.declared.limits.TheConstants.{MAX_PIECES}
 use Rattle.ct_session.specs.Reply.{pieces_after}
 use Rattle.ct_session.specs.Run.{AnswersCommands, IsRun, pieces_of}
 use Rattle.ct_session.specs.Text.{reply_text}

@@ -15,18 +15,19 @@ use Rattle.ct_rules.specs.Derivation.{IsBest}
 use Rattle.ct_rules.proofs.GivenCodes.{support-derived}
 use Rattle.ct_evidence.specs.declared.evidence.Evidence.{Evidence}
 use Rattle.ct_evidence.specs.declared.evidence.Evidence.TheVariants.{Words, Cosets, Partition, Build, Product, Dual, JohnsonDual}
-use Rattle.ct_ledger.specs.Ascending.{ascending}
-use Rattle.ct_ledger.specs.Kind.{kind_of, stated_entry, has_code, words_over}
-use Rattle.ct_ledger.specs.Piece.{PieceValue}
-use Rattle.ct_ledger.specs.Codes.{code_at, codes_of, code_of_place}
-use Rattle.ct_ledger.specs.Supports.{support_of, supports_of}
-use Rattle.ct_ledger.specs.Standing.{AreStanding}
+use Rattle.ct_kind.specs.Ascending.{ascending}
+use Rattle.ct_pieces.specs.Kind.{kind_of, stated_entry, has_code, words_over}
+use Rattle.ct_pieces.specs.Piece.{PieceValue}
+use Rattle.ct_kind.specs.Ascending.{code_at}
+use Rattle.ct_pieces.specs.Codes.{codes_of, code_of_place}
+use Rattle.ct_pieces.specs.Supports.{support_of, supports_of}
+use Rattle.ct_pieces.specs.Standing.{AreStanding}
 use Rattle.ct_duals.specs.Check.{dual_fault}
 use Rattle.ct_codes.specs.Numbers.{numbers_of}
-use Rattle.ct_ledger.proofs.KindLaws.Dual.{gives_no_size}
-use Rattle.ct_ledger.proofs.AscendingLemmas.{ascending-moved}
-use Rattle.ct_ledger.proofs.SizeLemmas.{code-le}
-use Rattle.ct_ledger.proofs.PartLemmas.{IsPlaced, placed, Some-piece, piece-coded}
+use Rattle.ct_dual_files.proofs.DualKind.{gives_no_size}
+use Rattle.ct_kind.proofs.AscendingLemmas.{ascending-moved}
+use Rattle.ct_kind.proofs.SizeLemmas.{code-le}
+use Rattle.ct_pieces.proofs.PartLemmas.{IsPlaced, placed, Some-piece, piece-coded}
 
 -- what a piece of a kind that has a code gives, which has a size
 gives-size : (evidence : Evidence) (k : ℕ) → has_code evidence ≡ true → (kind_of evidence).gives (Some k) ≡ Size (stated_entry evidence) k

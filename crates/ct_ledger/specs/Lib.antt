@@ -1,16 +1,1 @@
-pub mod Named
-pub mod KindParts
-pub mod Kinds
-pub mod Kind
-pub mod Piece
-pub mod Ascending
-pub mod Codes
-pub mod Submission
-pub mod Refusals
-pub mod Withdrawal
-pub mod Standing
-pub mod Text
-pub mod Dump
-pub mod Supports
 pub mod Ledger
-pub mod Inside

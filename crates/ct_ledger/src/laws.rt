@@ -1,117 +1,23 @@
-//! Facts about every submission.
+//! Facts about every ledger.
 
-ghost use Rattle.std.specs.Prelude.{◌≡◌, ◌≢◌, ◌↔◌, ℕ, ◌+◌, ◌<◌, ◌≤◌, List, length, Option, Ok, Err, Some, All, Contains, IfSome, IsSome, IsTrue, map, slice_get};
-ghost use Rattle.std.specs.List.Sorted.{IsPermutation, IsSorted};
-ghost use Rattle.std.specs.Ordering.{nat_cmp};
+ghost use Rattle.std.specs.Prelude.{◌≡◌, ℕ, ◌<◌, ◌≤◌, List, length, All, Some, map, slice_get};
+ghost use Rattle.ct_codes.specs.declared.claim.Claim.{Claim};
+ghost use Rattle.ct_codes.specs.declared.claim.Side.TheVariants.{Lower, Upper};
 ghost use Rattle.ct_codes.specs.declared.entry.Entry.{Entry};
-ghost use Rattle.ct_build.specs.declared.step.Step.{Step};
-ghost use Rattle.ct_partitions.specs.Partition.{all_words};
+ghost use Rattle.ct_codes.specs.Code.{CodeValue};
+ghost use Rattle.ct_codes.specs.Numbers.{numbers_of};
 ghost use Rattle.ct_duals.specs.declared.dual.Dual.{Dual};
 ghost use Rattle.ct_duals.specs.Dual.{combination};
 ghost use Rattle.ct_duals.specs.Bound.{dual_premises, dual_bound};
-ghost use Rattle.ct_codes.specs.Numbers.{numbers_of};
 ghost use Rattle.ct_evidence.specs.declared.evidence.Evidence.TheVariants as evidence;
-ghost use Rattle.ct_codes.specs.Code.{CodeValue, IsSoundCode};
-ghost use Rattle.ct_codes.specs.declared.claim.Claim.{Claim};
-ghost use Rattle.ct_codes.specs.declared.claim.Side.TheVariants.{Lower, Upper};
-ghost use Rattle.ct_fields.specs.declared.document.TheConstants.{MAX_DOCUMENT};
-ghost use Rattle.ct_ledger.specs.Codes.{codes_of, code_of_place};
-ghost use Rattle.ct_ledger.specs.Piece.{PieceValue, has_id};
-ghost use Rattle.ct_ledger.specs.Ascending.{ascending};
-ghost use Rattle.ct_ledger.specs.Kind.{kind_of, has_code};
-ghost use Rattle.ct_ledger.specs.KindParts.{stored_for};
-ghost use Rattle.ct_ledger.specs.Refusals.{IsRefused, IsNotWithdrawn};
-ghost use Rattle.ct_ledger.specs.Withdrawal.{withdrawn};
-ghost use Rattle.ct_ledger.specs.declared.limits.TheConstants.{MAX_PIECES, MAX_STORED};
-ghost use Rattle.ct_ledger.specs.declared.fault.WithdrawFault.{WithdrawFault};
-ghost use Rattle.ct_ledger.specs.Standing.{AreStanding};
-ghost use Rattle.ct_fields.specs.declared.fault.FileFault.{FileFault};
-ghost use Rattle.ct_evidence.specs.declared.evidence.Evidence.{Evidence};
-ghost use Rattle.ct_files.specs.Evidence.{read_without_limit};
-ghost use Rattle.ct_ledger.specs.Submission.{submitted, admitted, IsAccepted};
-ghost use Rattle.ct_ledger.specs.Supports.{support_of, supports_of};
-ghost use Rattle.ct_ledger.specs.declared.fault.SubmitFault.{SubmitFault};
-ghost use Rattle.ct_ledger.specs.declared.fault.SubmitFault.TheVariants as fault;
-ghost use Rattle.ct_rule_parts.specs.declared.support.Support.TheVariants.{Size, Bound};
+ghost use Rattle.ct_rule_parts.specs.declared.support.Support.TheVariants.{Size};
 ghost use Rattle.ct_rule_parts.specs.Parts.{slots_on};
 ghost use Rattle.ct_rule_parts.specs.Slot.{slot_of};
-ghost use Rattle.ct_rule_parts.specs.Support.{AllStand};
 ghost use Rattle.ct_rules.specs.Derivation.{IsDerived, IsBest};
-
-/// A submission over pieces that stand makes a piece exactly where its id is free, there is room, each part that its
-/// document names stands and is right, the document states a code of its entry, whose check is within the limit, a partition, or
-/// a dual whose f is nowhere above what is allowed, and the words of the piece may be stored beside the others.
-pub fn submissions_that_are_accepted()
-    ensures accepted { (pieces : List PieceValue) (id document : List ℕ) (p : PieceValue) → AreStanding pieces
-        → (submitted pieces id document ≡ Ok p) ↔ IsAccepted pieces id document p }
-    ensures within { (pieces : List PieceValue) (id document : List ℕ) (p : PieceValue)
-        → submitted pieces id document ≡ Ok p → length document ≤ MAX_DOCUMENT }
-    ensures taken_ids { (id : List ℕ) (pieces : List PieceValue)
-        → IsTrue (has_id id pieces) ↔ Contains (map (λ p. p.id) pieces) id }
-{}
-
-/// Why a submission is refused: each reason comes exactly where it is the first, in the order in which `SubmitFault` names them. Its id
-/// stands; so many pieces do that there is no room; the document has a fault of its own; it names a part that does not stand; a part,
-/// the words, the classes, the step, the product or the dual is refused by the kind's own check; the words would be too many.
-pub fn refusals_in_order()
-    ensures { (pieces : List PieceValue) (id document : List ℕ) (reason : SubmitFault)
-        → (submitted pieces id document ≡ Err reason) ↔ IsRefused pieces id document reason }
-{}
-
-/// Evidence that is admitted with a document within the limit, which reads as it, makes what a submission of the document makes; and no
-/// reason against it is a fault of a document.
-pub fn evidence_that_is_admitted()
-    ensures within { (pieces : List PieceValue) (id document : List ℕ) (evidence : Evidence) → length document ≤ MAX_DOCUMENT
-        → read_without_limit document ≡ Ok evidence → admitted pieces id document evidence ≡ submitted pieces id document }
-    ensures unread { (pieces : List PieceValue) (id document : List ℕ) (evidence : Evidence) (reason : FileFault)
-        → admitted pieces id document evidence ≢ Err (fault.File reason) }
-{}
-
-/// Why a withdrawal takes nothing out: no piece has the id; or a piece names it, and then the first that does is told.
-pub fn withdrawals_that_are_refused()
-    ensures { (pieces : List PieceValue) (id : List ℕ) (reason : WithdrawFault)
-        → (withdrawn pieces id ≡ Err reason) ↔ IsNotWithdrawn pieces id reason }
-{}
-
-/// The words that a piece stores, by its kind: those of its document, a basis and representatives or the words of all classes among them,
-/// and of a build those of its code. A product and a dual store none. A ledger has at most 1,000 pieces, and they store at most 1,000,000 words.
-pub fn stored_words_by_kind()
-    ensures words { (e : Entry) (words : List ℕ) (size : Option ℕ)
-        → stored_for (kind_of (evidence.Words e words)) size ≡ length words }
-    ensures cosets { (e : Entry) (basis representatives : List ℕ) (size : Option ℕ)
-        → stored_for (kind_of (evidence.Cosets e basis representatives)) size ≡ length basis + length representatives }
-    ensures build { (e : Entry) (step : Step) (part : List ℕ) (other : Option (List ℕ)) (size : ℕ)
-        → stored_for (kind_of (evidence.Build e step part other)) (Some size) ≡ size }
-    ensures partition { (e : Entry) (between : ℕ) (classes : List (List ℕ)) (size : Option ℕ)
-        → stored_for (kind_of (evidence.Partition e between classes)) size ≡ length (all_words classes) }
-    ensures product { (e : Entry) (pairs : List (List ℕ × List ℕ)) (size : Option ℕ)
-        → stored_for (kind_of (evidence.Product e pairs)) size ≡ 0 }
-    ensures dual { (d : Dual) (size : Option ℕ) → stored_for (kind_of (evidence.Dual d)) size ≡ 0 }
-    ensures johnson_dual { (d : Dual) (size : Option ℕ) → stored_for (kind_of (evidence.JohnsonDual d)) size ≡ 0 }
-    ensures pieces { MAX_PIECES ≡ 1000 }
-    ensures limit { MAX_STORED ≡ 1000000 }
-{}
-
-/// Numbers put into ascending order: the same numbers, each as often, and none before a smaller one.
-pub fn ascending_numbers()
-    ensures numbers { (xs : List ℕ) → IsPermutation xs (ascending xs) }
-    ensures order { (xs : List ℕ) → IsSorted nat_cmp (ascending xs) }
-{}
-
-/// The codes of pieces that stand are codes, each of its piece's id, and in the order of the pieces. A piece has one exactly where its
-/// kind has.
-pub fn pieces_have_codes()
-    ensures codes { (pieces : List PieceValue) → AreStanding pieces → All (λ k. IfSome k.code IsSoundCode) (codes_of pieces) }
-    ensures ids { (pieces : List PieceValue) → map (λ k. k.id) (codes_of pieces) ≡ map (λ p. p.id) pieces }
-    ensures each { (pieces : List PieceValue) (place : ℕ) (p : PieceValue) → AreStanding pieces → slice_get pieces place ≡ Some p
-        → (IsSome (code_of_place pieces place) ↔ IsTrue (has_code p.evidence)) }
-{}
-
-/// What pieces that stand give to the table stands: each size is that of a code of its entry, from 1 to `MAX_BOUND`, and each dual
-/// meets its inequalities.
-pub fn pieces_give_supports()
-    ensures { (pieces : List PieceValue) → AreStanding pieces → AllStand (supports_of pieces) }
-{}
+ghost use Rattle.ct_pieces.specs.Codes.{code_of_place};
+ghost use Rattle.ct_pieces.specs.Piece.{PieceValue};
+ghost use Rattle.ct_pieces.specs.Standing.{AreStanding};
+ghost use Rattle.ct_pieces.specs.Supports.{supports_of};
 
 /// The best lower bound of an entry is at least the number of words of each code of it that a standing piece has, of whatever kind.
 pub fn pieces_reach_their_bounds()
@@ -125,16 +31,6 @@ pub fn sizes_are_those_of_codes()
     ensures { (pieces : List PieceValue) (place : ℕ) (e : Entry) (size : ℕ) → AreStanding pieces
         → slice_get (supports_of pieces) place ≡ Some (Size e size)
         → (c : CodeValue) × (code_of_place pieces place ≡ Some c) × (record { n = c.n; d = c.d; w = c.w } ≡ e) × (length c.words ≡ size) }
-{}
-
-/// A piece that stands and is a dual, without weight or with one, gives its bound to the table: the dual with its f(0).
-pub fn duals_give_their_bounds()
-    ensures plain { (pieces : List PieceValue) (place : ℕ) (p : PieceValue) (d : Dual) → AreStanding pieces
-        → slice_get pieces place ≡ Some p → p.evidence ≡ evidence.Dual d
-        → support_of p ≡ Bound (record { dual = d; at_zero = combination (numbers_of d.entry) d.c 0 }) }
-    ensures weighted { (pieces : List PieceValue) (place : ℕ) (p : PieceValue) (d : Dual) → AreStanding pieces
-        → slice_get pieces place ≡ Some p → p.evidence ≡ evidence.JohnsonDual d
-        → support_of p ≡ Bound (record { dual = d; at_zero = combination (numbers_of d.entry) d.c 0 }) }
 {}
 
 /// The best upper bound of the entry of a standing piece that is a dual, without weight or with one, is no greater than the bound of

@@ -1,25 +1,22 @@
 //! The ledger.
 
-ghost use Rattle.std.specs.Prelude.{◌≡◌, ◌≢◌, ◌<◌, ◌∷◌, ◌++◌, List, Ok, Err, IfOk, IfErr, IsSome, OnOk, OnErr, [], All, length};
+ghost use Rattle.std.specs.Prelude.{◌≡◌, ◌≢◌, ◌<◌, ◌∷◌, ◌++◌, List, Ok, Err, IfOk, IfErr, IsSome, OnOk, OnErr, [], All, is_some, length};
 ghost use Rattle.ct_codes.specs.Code.{IsSoundCode};
-ghost use Rattle.ct_ledger.specs.Piece.{PieceValue, stored_words};
-ghost use Rattle.ct_ledger.specs.Codes.{code_of_place};
+ghost use Rattle.ct_pieces.specs.Piece.{PieceValue, stored_words};
+ghost use Rattle.ct_pieces.specs.Codes.{code_of_place};
 ghost use Rattle.ct_files.specs.Evidence.{read_without_limit};
-ghost use Rattle.ct_ledger.specs.Submission.{submitted, admitted};
-ghost use Rattle.ct_ledger.specs.declared.fault.SubmitFault.{SubmitFault};
-ghost use Rattle.ct_ledger.specs.Withdrawal.{withdrawn};
-ghost use Rattle.ct_ledger.specs.Supports.{support_of, supports_of};
-ghost use Rattle.ct_ledger.specs.Standing.{AreStanding, HasTrueSize};
-ghost use Rattle.ct_ledger.specs.Ledger.{AddsPiece, AdmitsPiece};
-ghost use Rattle.ct_ledger.specs.Dump.{dump_text};
+ghost use Rattle.ct_pieces.specs.Submission.{submitted, admitted};
+ghost use Rattle.ct_kind.specs.declared.fault.SubmitFault.{SubmitFault};
+ghost use Rattle.ct_pieces.specs.Withdrawal.{withdrawn};
+ghost use Rattle.ct_pieces.specs.Supports.{support_of, supports_of};
+ghost use Rattle.ct_pieces.specs.Standing.{AreStanding, HasTrueSize};
+ghost use Rattle.ct_pieces.specs.Submission.{AddsPiece, AdmitsPiece};
+ghost use Rattle.ct_pieces.specs.Dump.{dump_text};
 
-use crate::dump::put_dump;
-use crate::fault::{SubmitFault, WithdrawFault};
-use crate::piece::Piece;
-use crate::pieces::Pieces;
 use ct_codes::Code;
 use ct_files::Evidence;
-use ct_rules::Support;
+use ct_pieces::{Piece, Pieces, SubmitFault, WithdrawFault};
+use ct_rule_parts::Support;
 use ct_table::Table;
 use ct_text::{Id, Text};
 use std::alloc::{AllocError, Global};
@@ -35,8 +32,8 @@ pub struct Ledger {
 
 impl Model for Ledger {
     ghost use Rattle.std.specs.Prelude.{◌≡◌};
-    ghost use Rattle.ct_ledger.specs.Piece.{stored_words};
-    ghost use Rattle.ct_ledger.specs.Supports.{supports_of};
+    ghost use Rattle.ct_pieces.specs.Piece.{stored_words};
+    ghost use Rattle.ct_pieces.specs.Supports.{supports_of};
     ghost use Rattle.ct_ledger.specs.Ledger.{LedgerValue};
 
     ghost Value = { LedgerValue };
@@ -178,6 +175,14 @@ impl Ledger {
         Ok(())
     }
 
+    /// Whether the piece at the place has a code: whether its kind has one. A partition and a dual have none.
+    pub fn has_code(&self, place: usize) -> bool
+        requires place { place < length self.now.pieces }
+        ensures { result ≡ is_some (code_of_place self.now.pieces place) }
+    {
+        self.pieces.has_code(place)
+    }
+
     /// The code of the piece at the place, whose kind has one, over the codes of its parts: its length, distance and weight are
     /// those of the piece's entry, and its words are those of the document, of all choices of cosets, those that the step
     /// makes, or the product. `Err` is want of memory.
@@ -194,8 +199,6 @@ impl Ledger {
     pub fn dump(&self, alloc: Global) -> Result<Vec<u8>, AllocError>
         ensures { IfOk result (λ text. text.items ≡ dump_text self.now.pieces) }
     {
-        let mut text = Vec::new(alloc);
-        put_dump(alloc, &mut text, self.pieces.pieces())?;
-        Ok(text)
+        self.pieces.dump(alloc)
     }
 }

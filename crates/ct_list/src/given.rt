@@ -2,7 +2,7 @@
 
 ghost use Rattle.std.specs.Prelude.{◌≡◌, length, slice_get, Some, IfOk, IsSome};
 ghost use Rattle.ct_rule_parts.specs.Support.{size_at};
-ghost use Rattle.ct_ledger.specs.Supports.{supports_of};
+ghost use Rattle.ct_pieces.specs.Supports.{supports_of};
 ghost use Rattle.ct_rule_codes.specs.CodeEntry.{entry_of};
 
 use ct_codes::{Code, Entry};

@@ -6,3 +6,6 @@ pub mod PartitionAnswers
 pub mod ProductAnswers
 pub mod WrittenPartitions
 pub mod Rooms
+pub mod PartitionKind
+pub mod ProductKind
+pub mod ProductChecks

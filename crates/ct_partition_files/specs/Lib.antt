@@ -5,3 +5,6 @@ pub mod Pairs
 pub mod Product
 pub mod ProductDocument
 pub mod Written
+pub mod PartitionKind
+pub mod ProductKind
+pub mod PartitionFaultText

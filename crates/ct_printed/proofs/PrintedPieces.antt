@@ -12,12 +12,12 @@ use Rattle.std.proofs.lemmas.Option.{slice_get-map, slice_get_within, get_or_fro
 use Rattle.std.proofs.lemmas.Slice.Eq.{bytes_eq-Decides}
 use Rattle.ct_rule_parts.specs.declared.support.Support.{Support}
 use Rattle.ct_rules.specs.Derivation.{LineValue, IsDerivation}
-use Rattle.ct_ledger.specs.Kind.{parts_of, names}
-use Rattle.ct_ledger.specs.Piece.{PieceValue, place_of as piece_place}
-use Rattle.ct_ledger.specs.Standing.{AreStanding}
-use Rattle.ct_ledger.specs.Supports.{support_of, supports_of}
-use Rattle.ct_ledger.proofs.StandingLemmas.{AreStanding-passing}
-use Rattle.ct_ledger.proofs.LeavingLemmas.{AllPassed, ArePassed}
+use Rattle.ct_pieces.specs.Kind.{parts_of, names}
+use Rattle.ct_pieces.specs.Piece.{PieceValue, place_of as piece_place}
+use Rattle.ct_pieces.specs.Standing.{AreStanding}
+use Rattle.ct_pieces.specs.Supports.{support_of, supports_of}
+use Rattle.ct_pieces.proofs.StandingLemmas.{AreStanding-passing}
+use Rattle.ct_pieces.proofs.LeavingLemmas.{AllPassed, ArePassed}
 use Rattle.ct_derive.specs.Pieces.{cited_places, parts_at, IsNeeded, AreNeeded}
 use Rattle.ct_derive.specs.Pieces.IsNeeded.{by_line, by_piece}
 use Rattle.ct_derive.specs.Text.{block_text, evidence_text}

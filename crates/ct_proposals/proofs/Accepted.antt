@@ -11,14 +11,14 @@ use Rattle.ct_duals.specs.declared.fault.DualFault.{DualFault}
 use Rattle.ct_codes.specs.Numbers.{numbers_of}
 use Rattle.ct_files.specs.Evidence.{read_without_limit, read_of}
 use Rattle.ct_files.proofs.Evidences.{read_of-without_limit}
-use Rattle.ct_ledger.specs.Named.{NamedCode}
-use Rattle.ct_ledger.specs.Piece.{PieceValue, stored_by, stored_words}
-use Rattle.ct_ledger.specs.Codes.{codes_of}
-use Rattle.ct_ledger.specs.Submission.{made_of, piece_of, made_unless, piece_from, submitted}
-use Rattle.ct_ledger.specs.declared.fault.SubmitFault.TheVariants as fault
-use Rattle.ct_ledger.specs.declared.limits.TheConstants.{MAX_PIECES, MAX_STORED}
-use Rattle.ct_ledger.proofs.Accepting.{not_taken}
-use Rattle.ct_ledger.proofs.StandingLemmas.{submitted-from}
+use Rattle.ct_kind.specs.Named.{NamedCode}
+use Rattle.ct_pieces.specs.Piece.{PieceValue, stored_by, stored_words}
+use Rattle.ct_pieces.specs.Codes.{codes_of}
+use Rattle.ct_pieces.specs.Submission.{made_of, piece_of, made_unless, piece_from, submitted}
+use Rattle.ct_kind.specs.declared.fault.SubmitFault.TheVariants as fault
+use Rattle.ct_pieces.specs.declared.limits.TheConstants.{MAX_PIECES, MAX_STORED}
+use Rattle.ct_pieces.proofs.Accepting.{not_taken}
+use Rattle.ct_pieces.proofs.StandingLemmas.{submitted-from}
 use Rattle.ct_proposals.specs.Proposal.{dual_evidence, find_id, found_dual, proposed_piece}
 use Rattle.ct_proposals.proofs.FoundDuals.{found}
 

@@ -7,8 +7,8 @@ use Rattle.ct_duals.specs.declared.dual.Dual.{Dual}
 use Rattle.ct_evidence.specs.declared.evidence.Evidence.{Evidence}
 use Rattle.ct_evidence.specs.declared.evidence.Evidence.TheVariants as evidence
 use Rattle.ct_files.specs.Evidence.{read_of}
-use Rattle.ct_ledger.specs.Dump.{line_count}
-use Rattle.ct_ledger.specs.Piece.{PieceValue}
+use Rattle.ct_pieces.specs.Dump.{line_count}
+use Rattle.ct_pieces.specs.Piece.{PieceValue}
 use Rattle.ct_finder_run.specs.Run.{End}
 use Rattle.ct_finder.specs.Found.{bound_of, dual_of, end_of_run, least_dual, stop_of}
 use Rattle.ct_finder.specs.declared.found.Stop.{Stop}

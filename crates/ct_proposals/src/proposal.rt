@@ -12,8 +12,8 @@ use ct_duals::Dual;
 use ct_evidence::Evidence;
 use ct_files::write_evidence;
 use ct_finder::{Found, Stop};
-use ct_ledger::line_count;
 use ct_lines::LINE_FEED;
+use ct_pieces::line_count;
 use ct_text::put_number;
 use std::alloc::{AllocError, Global};
 

@@ -8,18 +8,18 @@ use Rattle.std.proofs.lemmas.List.Folds.{fold-map}
 use Rattle.std.proofs.lemmas.List.Sums.{sum_by-cons, fold-append}
 use Rattle.ct_evidence.specs.declared.evidence.Evidence.{Evidence}
 use Rattle.ct_rule_parts.specs.declared.support.Support.{Support}
-use Rattle.ct_ledger.specs.Named.{NamedCode}
-use Rattle.ct_ledger.specs.Kind.{names}
-use Rattle.ct_ledger.specs.Piece.{PieceValue, has_id, stored_by, stored_words, first_user}
-use Rattle.ct_ledger.specs.Codes.{named_code, codes_after, codes_of}
-use Rattle.ct_ledger.specs.Submission.{evidence_reason, piece_of, made_unless, made_of, stored_beside, unless_full, admitted}
-use Rattle.ct_ledger.specs.Supports.{support_of, supports_of}
-use Rattle.ct_ledger.specs.Withdrawal.{without, unless_used, withdrawn}
-use Rattle.ct_ledger.specs.declared.limits.TheConstants.{MAX_PIECES, MAX_STORED}
-use Rattle.ct_ledger.specs.declared.fault.SubmitFault.{SubmitFault}
-use Rattle.ct_ledger.specs.declared.fault.SubmitFault.TheVariants as fault
-use Rattle.ct_ledger.specs.declared.fault.WithdrawFault.{WithdrawFault}
-use Rattle.ct_ledger.specs.declared.fault.WithdrawFault.TheVariants as withdraw
+use Rattle.ct_kind.specs.Named.{NamedCode}
+use Rattle.ct_pieces.specs.Kind.{names}
+use Rattle.ct_pieces.specs.Piece.{PieceValue, has_id, stored_by, stored_words, first_user}
+use Rattle.ct_pieces.specs.Codes.{named_code, codes_after, codes_of}
+use Rattle.ct_pieces.specs.Submission.{evidence_reason, piece_of, made_unless, made_of, stored_beside, unless_full, admitted}
+use Rattle.ct_pieces.specs.Supports.{support_of, supports_of}
+use Rattle.ct_pieces.specs.Withdrawal.{without, unless_used, withdrawn}
+use Rattle.ct_pieces.specs.declared.limits.TheConstants.{MAX_PIECES, MAX_STORED}
+use Rattle.ct_kind.specs.declared.fault.SubmitFault.{SubmitFault}
+use Rattle.ct_kind.specs.declared.fault.SubmitFault.TheVariants as fault
+use Rattle.ct_pieces.specs.declared.fault.WithdrawFault.{WithdrawFault}
+use Rattle.ct_pieces.specs.declared.fault.WithdrawFault.TheVariants as withdraw
 use Rattle.ct_sample.specs.Drawn.{may_lengthen, lengthening, last_lengthening, drawn_dual, drawn_words, drawn_cosets, drawn_evidence}
 use Rattle.ct_sample.specs.Command.{step_id, is_used, command_of}
 use Rattle.ct_sample.specs.declared.command.Command.TheVariants.{Submit, Withdraw}

@@ -3,11 +3,11 @@ use Rattle.std.proofs.Common.{◌≡◌, ℕ, ◌+◌, Bool, true, false, cond, 
 use Rattle.std.specs.Int.{from_bool}
 use Rattle.std.proofs.lemmas.List.{map-append}
 use Rattle.ct_evidence.specs.declared.evidence.Evidence.{Evidence}
-use Rattle.ct_ledger.specs.Piece.{PieceValue}
-use Rattle.ct_ledger.specs.Submission.{admitted, with_piece}
-use Rattle.ct_ledger.specs.Withdrawal.{withdrawn, left_by}
-use Rattle.ct_ledger.specs.declared.fault.SubmitFault.{SubmitFault}
-use Rattle.ct_ledger.specs.declared.fault.WithdrawFault.{WithdrawFault}
+use Rattle.ct_pieces.specs.Piece.{PieceValue}
+use Rattle.ct_pieces.specs.Submission.{admitted, with_piece}
+use Rattle.ct_pieces.specs.Withdrawal.{withdrawn, left_by}
+use Rattle.ct_kind.specs.declared.fault.SubmitFault.{SubmitFault}
+use Rattle.ct_pieces.specs.declared.fault.WithdrawFault.{WithdrawFault}
 use Rattle.ct_sample.specs.Run.{RunValue, bare, bares, after_submission, after_withdrawal}
 use Rattle.ct_sample.proofs.Bare.{bare_made, bare_left, admitted-bares, withdrawn-bares}
 

@@ -6,22 +6,22 @@ use Rattle.ct_codes.specs.Entry.{IsEntry}
 use Rattle.ct_rule_parts.specs.Support.{Stands, AllStand}
 use Rattle.ct_evidence.specs.declared.evidence.Evidence.{Evidence}
 use Rattle.ct_files.specs.Evidence.{IsSound}
-use Rattle.ct_ledger.specs.Named.{NamedCode}
-use Rattle.ct_ledger.specs.Kind.{words_over}
-use Rattle.ct_ledger.specs.Piece.{PieceValue, has_id, first_user}
-use Rattle.ct_ledger.specs.Codes.{named_code, codes_of}
-use Rattle.ct_ledger.specs.Submission.{made_of, admitted, with_piece}
-use Rattle.ct_ledger.specs.Supports.{support_of, supports_of}
-use Rattle.ct_ledger.specs.Withdrawal.{without, unless_used, withdrawn, left_by}
-use Rattle.ct_ledger.specs.declared.fault.SubmitFault.{SubmitFault}
-use Rattle.ct_ledger.specs.declared.fault.WithdrawFault.{WithdrawFault}
-use Rattle.ct_ledger.specs.declared.fault.WithdrawFault.TheVariants as withdraw
-use Rattle.ct_ledger.proofs.CodeLemmas.{codes_of-push}
-use Rattle.ct_ledger.proofs.Stating.{AreSound, HasSoundCode}
-use Rattle.ct_ledger.proofs.MakingLemmas.{IsRight, making, states_code, over-sound}
-use Rattle.ct_ledger.proofs.LeavingLemmas.{other_than, ArePassed-others, codes-passing}
-use Rattle.ct_ledger.proofs.SupportLemmas.{supports-push}
-use Rattle.ct_ledger.proofs.Admitting.{admitted-made}
+use Rattle.ct_kind.specs.Named.{NamedCode}
+use Rattle.ct_pieces.specs.Kind.{words_over}
+use Rattle.ct_pieces.specs.Piece.{PieceValue, has_id, first_user}
+use Rattle.ct_pieces.specs.Codes.{named_code, codes_of}
+use Rattle.ct_pieces.specs.Submission.{made_of, admitted, with_piece}
+use Rattle.ct_pieces.specs.Supports.{support_of, supports_of}
+use Rattle.ct_pieces.specs.Withdrawal.{without, unless_used, withdrawn, left_by}
+use Rattle.ct_kind.specs.declared.fault.SubmitFault.{SubmitFault}
+use Rattle.ct_pieces.specs.declared.fault.WithdrawFault.{WithdrawFault}
+use Rattle.ct_pieces.specs.declared.fault.WithdrawFault.TheVariants as withdraw
+use Rattle.ct_pieces.proofs.CodeLemmas.{codes_of-push}
+use Rattle.ct_kind.specs.Sound.{AreSound, HasSoundCode}
+use Rattle.ct_pieces.proofs.MakingLemmas.{IsRight, making, states_code, over-sound}
+use Rattle.ct_pieces.proofs.LeavingLemmas.{other_than, ArePassed-others, codes-passing}
+use Rattle.ct_pieces.proofs.SupportLemmas.{supports-push}
+use Rattle.ct_pieces.proofs.Admitting.{admitted-made}
 use Rattle.ct_sample.specs.Command.{step_id, first_unused, command_of}
 use Rattle.ct_sample.specs.Drawn.{drawn_evidence}
 use Rattle.ct_sample.specs.Inside.Sound.{IsSoundCommand}

@@ -1,11 +1,11 @@
 -- The run of the sample: what its commands leave. The document of a piece is written from its evidence, and nothing else is said of it; so the run
 -- speaks of the pieces without their documents.
 use Rattle.std.specs.Prelude.{ℕ, zero, suc, ◌+◌, if◌then◌else◌, List, [], Option, Some, None, Result, is_ok, map}
-use Rattle.ct_ledger.specs.Piece.{PieceValue}
-use Rattle.ct_ledger.specs.Submission.{admitted, with_piece}
-use Rattle.ct_ledger.specs.Withdrawal.{withdrawn, left_by}
-use Rattle.ct_ledger.specs.declared.fault.SubmitFault.{SubmitFault}
-use Rattle.ct_ledger.specs.declared.fault.WithdrawFault.{WithdrawFault}
+use Rattle.ct_pieces.specs.Piece.{PieceValue}
+use Rattle.ct_pieces.specs.Submission.{admitted, with_piece}
+use Rattle.ct_pieces.specs.Withdrawal.{withdrawn, left_by}
+use Rattle.ct_kind.specs.declared.fault.SubmitFault.{SubmitFault}
+use Rattle.ct_pieces.specs.declared.fault.WithdrawFault.{WithdrawFault}
 use Rattle.ct_sample.specs.Random.{drawn}
 use Rattle.ct_sample.specs.Command.{command_of}
 use Rattle.ct_sample.specs.declared.command.Command.{Command}

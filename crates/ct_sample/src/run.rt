@@ -2,9 +2,9 @@
 
 ghost use Rattle.std.specs.Prelude.{◌≡◌, ◌≤◌, ◌<◌, ◌+◌, ◌^◌, [], IfOk, OnOk, Some, IfSome, Ok, is_ok, length};
 ghost use Rattle.ct_files.specs.Evidence.{IsSound, read_without_limit};
-ghost use Rattle.ct_ledger.specs.Submission.{admitted, with_piece};
-ghost use Rattle.ct_ledger.specs.Supports.{supports_of};
-ghost use Rattle.ct_ledger.specs.Withdrawal.{withdrawn, left_by};
+ghost use Rattle.ct_pieces.specs.Submission.{admitted, with_piece};
+ghost use Rattle.ct_pieces.specs.Supports.{supports_of};
+ghost use Rattle.ct_pieces.specs.Withdrawal.{withdrawn, left_by};
 ghost use Rattle.ct_sample.specs.Run.{bares, after_submission, after_withdrawal, after_command, no_commands, run_to};
 ghost use Rattle.ct_sample.specs.Inside.Sound.{IsSoundCommand};
 

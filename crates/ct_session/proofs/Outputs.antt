@@ -12,8 +12,8 @@ use Rattle.ct_io.specs.Told.{AppendsProperPrefix}
 use Rattle.ct_io.specs.Faults.{Rose}
 use Rattle.ct_codes.specs.Code.{CodeValue}
 use Rattle.ct_text.specs.EntryText.{weight_word}
-use Rattle.ct_ledger.specs.Piece.{PieceValue}
-use Rattle.ct_ledger.specs.Dump.{line_count, piece_dump, dump_text}
+use Rattle.ct_pieces.specs.Piece.{PieceValue}
+use Rattle.ct_pieces.specs.Dump.{line_count, piece_dump, dump_text}
 use Rattle.ct_session.specs.declared.serve.ServeFault.{ServeFault}
 use Rattle.ct_session.specs.declared.serve.ServeFault.TheVariants.{Write, Memory}
 use Rattle.ct_session.specs.Text.{code_heading, word_lines, code_text}

@@ -14,13 +14,13 @@ use Rattle.ct_rule_parts.specs.Slot.{claim_at}
 use Rattle.ct_text.specs.EntryNumbers.{named_entry}
 use Rattle.ct_commands.specs.declared.command.Command.{Command}
 use Rattle.ct_commands.specs.declared.command.Command.TheVariants as command
-use Rattle.ct_ledger.specs.Piece.{PieceValue}
-use Rattle.ct_ledger.specs.Submission.{submitted, with_piece}
-use Rattle.ct_ledger.specs.Withdrawal.{withdrawn, left_by}
-use Rattle.ct_ledger.specs.Dump.{dump_text}
-use Rattle.ct_ledger.specs.Supports.{supports_of}
-use Rattle.ct_ledger.specs.declared.fault.SubmitFault.{SubmitFault}
-use Rattle.ct_ledger.specs.declared.fault.WithdrawFault.{WithdrawFault}
+use Rattle.ct_pieces.specs.Piece.{PieceValue}
+use Rattle.ct_pieces.specs.Submission.{submitted, with_piece}
+use Rattle.ct_pieces.specs.Withdrawal.{withdrawn, left_by}
+use Rattle.ct_pieces.specs.Dump.{dump_text}
+use Rattle.ct_pieces.specs.Supports.{supports_of}
+use Rattle.ct_kind.specs.declared.fault.SubmitFault.{SubmitFault}
+use Rattle.ct_pieces.specs.declared.fault.WithdrawFault.{WithdrawFault}
 use Rattle.ct_derive.specs.Derivation.{DerivationValue}
 use Rattle.ct_explain.specs.Explained.{ExplainsBest, explanation_text}
 use Rattle.ct_list.specs.Listed.{IsListedCode}

@@ -4,7 +4,7 @@ use Rattle.std.specs.List.{flat_map, list_any}
 use Rattle.ct_lines.specs.Lines.{lines_of}
 use Rattle.ct_commands.specs.Command.{commands_of}
 use Rattle.ct_commands.specs.declared.command.Command.{Command}
-use Rattle.ct_ledger.specs.Piece.{PieceValue}
+use Rattle.ct_pieces.specs.Piece.{PieceValue}
 use Rattle.ct_session.specs.Reply.{IsReply, leaves_choice, pieces_after, is_refusal}
 use Rattle.ct_session.specs.Text.{reply_text}
 use Rattle.ct_session.specs.declared.reply.Reply.{Reply}

@@ -6,8 +6,8 @@ use Rattle.ct_lines.specs.declared.TheConstants.{LINE_FEED}
 use Rattle.ct_words.specs.Text.{word_text}
 use Rattle.ct_codes.specs.Code.{CodeValue}
 use Rattle.ct_text.specs.EntryText.{entry_text, entry_words}
-use Rattle.ct_ledger.specs.Piece.{PieceValue}
-use Rattle.ct_ledger.specs.Text.{submit_fault_text, withdraw_fault_text, size_text, piece_text}
+use Rattle.ct_pieces.specs.Piece.{PieceValue}
+use Rattle.ct_pieces.specs.Text.{submit_fault_text, withdraw_fault_text, size_text, piece_text}
 use Rattle.ct_rule_codes.specs.CodeEntry.{entry_of}
 use Rattle.ct_session.specs.declared.reply.Reply.{Reply}
 use Rattle.ct_session.specs.declared.reply.Reply.TheVariants.{Accepted, Withdrawn, Shown, Table, Lines, Refused}

@@ -4,8 +4,8 @@ ghost use Rattle.std.specs.Prelude.{◌≡◌, ◌≢◌, ◌↔◌, Some, IfOk,
 ghost use Rattle.std.specs.List.{AllZip};
 ghost use Rattle.ct_codes.specs.Entry.{IsEntry};
 ghost use Rattle.ct_text.specs.EntryNumbers.{named_entry};
-ghost use Rattle.ct_ledger.specs.Submission.{submitted, with_piece};
-ghost use Rattle.ct_ledger.specs.Withdrawal.{withdrawn, left_by};
+ghost use Rattle.ct_pieces.specs.Submission.{submitted, with_piece};
+ghost use Rattle.ct_pieces.specs.Withdrawal.{withdrawn, left_by};
 ghost use Rattle.ct_session.specs.Reply.{IsReply, AreBoundsOf, IsShowReply, IsTableReply, IsExplainReply, IsListReply, column, pieces_after, submission_reply, withdrawal_reply};
 ghost use Rattle.ct_session.specs.Inside.LongReply.{reply_of};
 

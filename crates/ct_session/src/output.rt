@@ -7,7 +7,7 @@ ghost use Rattle.std.specs.Io.KnownBytes.{Appends};
 ghost use Rattle.ct_io.specs.Faults.{Rose};
 ghost use Rattle.ct_io.specs.Told.{AppendsProperPrefix};
 ghost use Rattle.ct_words.specs.declared.limits.TheConstants.{MAX_N};
-ghost use Rattle.ct_ledger.specs.Dump.{dump_text, piece_dump};
+ghost use Rattle.ct_pieces.specs.Dump.{dump_text, piece_dump};
 ghost use Rattle.ct_session.specs.Text.{code_heading, word_lines, code_text};
 ghost use Rattle.ct_session.specs.Inside.LongReply.{long_text};
 ghost use Rattle.ct_session.specs.Inside.Writing.{BreaksOff, HasRoom, PutsOut};

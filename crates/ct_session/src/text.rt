@@ -5,7 +5,7 @@ ghost use Rattle.std.specs.Fmt.{decimal};
 ghost use Rattle.std.specs.List.{flat_map};
 ghost use Rattle.ct_text.specs.EntryText.{entry_text};
 ghost use Rattle.ct_text.specs.Growing.{Grows};
-ghost use Rattle.ct_ledger.specs.Text.{size_text, piece_text};
+ghost use Rattle.ct_pieces.specs.Text.{size_text, piece_text};
 ghost use Rattle.ct_session.specs.Text.{refusal_text, bounds_text, reply_text, ended, ledger_text};
 
 use crate::reply::{Bounds, Refusal, Reply};

@@ -17,14 +17,14 @@ use Rattle.ct_rules.specs.declared.rule.Rule.{Rule}
 use Rattle.ct_rules.specs.Rule.{rule_side}
 use Rattle.ct_rules.specs.Derivation.{LineValue, IsDerivation}
 use Rattle.ct_rules.proofs.Derivations.{derivation-nil}
-use Rattle.ct_ledger.specs.Piece.{PieceValue}
-use Rattle.ct_ledger.specs.Submission.{submitted}
-use Rattle.ct_ledger.specs.Standing.{AreStanding}
-use Rattle.ct_ledger.specs.Supports.{supports_of}
-use Rattle.ct_ledger.specs.declared.fault.SubmitFault.{SubmitFault}
-use Rattle.ct_ledger.specs.declared.fault.SubmitFault.TheVariants.{Memory}
-use Rattle.ct_ledger.proofs.StandingLemmas.{AreStanding-none, AreStanding-submitted}
-use Rattle.ct_ledger.proofs.Refusing.{refused-for}
+use Rattle.ct_pieces.specs.Piece.{PieceValue}
+use Rattle.ct_pieces.specs.Submission.{submitted}
+use Rattle.ct_pieces.specs.Standing.{AreStanding}
+use Rattle.ct_pieces.specs.Supports.{supports_of}
+use Rattle.ct_kind.specs.declared.fault.SubmitFault.{SubmitFault}
+use Rattle.ct_kind.specs.declared.fault.SubmitFault.TheVariants.{Memory}
+use Rattle.ct_pieces.proofs.StandingLemmas.{AreStanding-none, AreStanding-submitted}
+use Rattle.ct_pieces.proofs.Refusing.{refused-for}
 use Rattle.ct_derive.specs.Check.{line_fault, line_by}
 use Rattle.ct_derive.specs.declared.check.LineFault.{LineFault}
 use Rattle.ct_derive.specs.declared.check.LineFault.TheVariants.{NoRule, NoPremise, OtherValue}

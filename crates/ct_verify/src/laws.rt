@@ -4,9 +4,9 @@ ghost use Rattle.std.specs.Prelude.{◌≡◌, ◌≢◌, ◌↔◌, ◌∷◌, 
 ghost use Rattle.ct_lines.specs.Lines.{lines_of};
 ghost use Rattle.ct_codes.specs.Claim.{IsTrueClaim};
 ghost use Rattle.ct_rules.specs.Derivation.{IsDerivation};
-ghost use Rattle.ct_ledger.specs.Standing.{AreStanding};
-ghost use Rattle.ct_ledger.specs.Supports.{supports_of};
-ghost use Rattle.ct_ledger.specs.declared.fault.SubmitFault.TheVariants.{Memory};
+ghost use Rattle.ct_pieces.specs.Standing.{AreStanding};
+ghost use Rattle.ct_pieces.specs.Supports.{supports_of};
+ghost use Rattle.ct_kind.specs.declared.fault.SubmitFault.TheVariants.{Memory};
 ghost use Rattle.ct_verify.specs.Read.{ReadingValue, unread};
 ghost use Rattle.ct_verify.specs.Verdict.{verdict_of, AreRead};
 ghost use Rattle.ct_verify.specs.declared.verdict.Verdict.TheVariants.{Yes, No};

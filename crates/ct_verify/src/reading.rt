@@ -1,7 +1,7 @@
 //! What was read of a derivation document.
 
 use crate::part::Part;
-use ct_ledger::Pieces;
+use ct_pieces::Pieces;
 use ct_rules::{Line, Support};
 use std::marker::Model;
 
@@ -16,7 +16,7 @@ pub struct Reading {
 
 impl Model for Reading {
     ghost use Rattle.std.specs.Prelude.{◌≡◌};
-    ghost use Rattle.ct_ledger.specs.Supports.{supports_of};
+    ghost use Rattle.ct_pieces.specs.Supports.{supports_of};
     ghost use Rattle.ct_verify.specs.Read.{ReadingValue};
 
     ghost Value = { ReadingValue };

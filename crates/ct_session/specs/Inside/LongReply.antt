@@ -1,7 +1,7 @@
 -- What answers a command, and what is still to be put for it.
 use Rattle.std.specs.Prelude.{ℕ, List, [], Option, None, Some}
-use Rattle.ct_ledger.specs.Piece.{PieceValue}
-use Rattle.ct_ledger.specs.Dump.{dump_text}
+use Rattle.ct_pieces.specs.Piece.{PieceValue}
+use Rattle.ct_pieces.specs.Dump.{dump_text}
 use Rattle.ct_session.specs.Text.{code_text}
 use Rattle.ct_session.specs.declared.answer.AnyReply.{AnyReply}
 use Rattle.ct_session.specs.declared.answer.AnyReply.TheVariants.{Short, Long}

@@ -6,7 +6,7 @@ use Rattle.ct_io.specs.Faults.{Rose}
 use Rattle.ct_io.specs.Reader.{Reader, NeedsNoRead}
 use Rattle.ct_io.specs.Told.{AppendsProperPrefix}
 use Rattle.ct_commands.specs.declared.command.Command.{Command}
-use Rattle.ct_ledger.specs.Piece.{PieceValue}
+use Rattle.ct_pieces.specs.Piece.{PieceValue}
 use Rattle.ct_session.specs.Reply.{IsReply}
 use Rattle.ct_session.specs.Text.{reply_text}
 use Rattle.ct_session.specs.declared.reply.Reply.{Reply}

@@ -1,6 +1,6 @@
 use Rattle.std.proofs.Common.{◌≡◌, ◌↔◌, ℕ, false, not, nat_eq, List, [], ◌∷◌, length, refl, arith}
 use Rattle.std.proofs.lemmas.Bool.{eqb-true, not-false}
-use Rattle.ct_ledger.specs.Kinds.Product.{ids_of}
+use Rattle.ct_partition_files.specs.ProductKind.{ids_of}
 use Rattle.ct_explain.proofs.parts.has_parts.Goals as goal
 
 -- pairs name no id just where there is none of them

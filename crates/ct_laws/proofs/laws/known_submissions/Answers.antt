@@ -15,9 +15,9 @@ use Rattle.ct_files.proofs.OnLiterals.{evidence_on_literals}
 use Rattle.ct_evidence.specs.declared.evidence.Evidence.TheVariants.{Words, Cosets}
 use Rattle.ct_fields.specs.declared.fault.FileFault.TheVariants as file
 use Rattle.ct_commands.specs.Form.{form_of}
-use Rattle.ct_ledger.specs.Piece.{PieceValue}
-use Rattle.ct_ledger.specs.Submission.{submitted}
-use Rattle.ct_ledger.specs.declared.fault.SubmitFault.TheVariants as submit
+use Rattle.ct_pieces.specs.Piece.{PieceValue}
+use Rattle.ct_pieces.specs.Submission.{submitted}
+use Rattle.ct_kind.specs.declared.fault.SubmitFault.TheVariants as submit
 use Rattle.ct_session.specs.Text.{reply_text}
 use Rattle.ct_session.specs.declared.reply.Reply.TheVariants.{Accepted, Shown, Refused}
 use Rattle.ct_session.specs.declared.reply.Refusal.TheVariants as refusal

@@ -1,4 +1,4 @@
-use Rattle.ct_ledger.proofs.DualSupports.{bound_reached, johnson_bound_reached}
+use Rattle.ct_ledger.proofs.DualReaching.{bound_reached, johnson_bound_reached}
 use Rattle.ct_ledger.proofs.laws.duals_reach_their_bounds.Goals as goal
 
 pub returns : goal.returns

@@ -2,10 +2,10 @@ use Rattle.std.proofs.Common.{List, [], ◌∷◌, ◌++◌, ◌≡◌, length, 
 use Rattle.std.proofs.lemmas.List.{length-map}
 use Rattle.ct_rule_parts.specs.declared.support.Support.{Support}
 use Rattle.ct_rule_parts.specs.Support.{Stands}
-use Rattle.ct_ledger.specs.Piece.{PieceValue}
-use Rattle.ct_ledger.specs.Standing.{AreStanding}
-use Rattle.ct_ledger.specs.Supports.{support_of, supports_of}
-use Rattle.ct_ledger.proofs.SupportLemmas.{last_stands, supports-push}
+use Rattle.ct_pieces.specs.Piece.{PieceValue}
+use Rattle.ct_pieces.specs.Standing.{AreStanding}
+use Rattle.ct_pieces.specs.Supports.{support_of, supports_of}
+use Rattle.ct_pieces.proofs.SupportLemmas.{last_stands, supports-push}
 use Rattle.ct_ledger.proofs.ledger.support_last.Goals as goal
 
 pub add-requires-clause-stands : goal.add-requires-clause-stands

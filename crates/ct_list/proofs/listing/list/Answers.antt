@@ -1,4 +1,4 @@
-use Rattle.ct_ledger.specs.Supports.{supports_of}
+use Rattle.ct_pieces.specs.Supports.{supports_of}
 use Rattle.ct_list.proofs.Walk.{explained_by, listed}
 use Rattle.ct_list.proofs.listing.list.Goals as goal
 

@@ -1,4 +1,4 @@
-use Rattle.ct_ledger.specs.Supports.{supports_of}
+use Rattle.ct_pieces.specs.Supports.{supports_of}
 use Rattle.ct_list.proofs.RowCodes.{punctured_made, far_sums_made, side_by_side_made, complemented_made}
 use Rattle.ct_list.proofs.rows.code_by_rule.Goals as goal
 

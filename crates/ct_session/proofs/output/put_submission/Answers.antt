@@ -2,7 +2,7 @@ use Rattle.std.proofs.Common.{List, ℕ, ◌++◌, ap, ◌∙◌, subst}
 use Rattle.std.specs.Prelude.{OnErr}
 use Rattle.std.specs.Fmt.{decimal}
 use Rattle.ct_io.specs.Told.{AppendsProperPrefix}
-use Rattle.ct_ledger.specs.Dump.{line_count}
+use Rattle.ct_pieces.specs.Dump.{line_count}
 use Rattle.ct_session.proofs.Outputs.{submission_is}
 use Rattle.ct_session.proofs.output.put_submission.Goals as goal
 

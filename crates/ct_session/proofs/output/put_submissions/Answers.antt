@@ -1,6 +1,6 @@
 use Rattle.std.proofs.Common.{rules, arith, List, ℕ, ◌++◌, ◌+◌, sym, subst, drop}
 use Rattle.std.specs.List.{flat_map}
-use Rattle.ct_ledger.specs.Dump.{piece_dump}
+use Rattle.ct_pieces.specs.Dump.{piece_dump}
 use Rattle.ct_io.specs.Told.{AppendsProperPrefix}
 use Rattle.ct_session.specs.Inside.Writing.{PutsOut}
 use Rattle.ct_session.proofs.Outputs.{puts_more, fails_before, items_more, items_all}

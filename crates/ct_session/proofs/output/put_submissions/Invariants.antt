@@ -1,6 +1,6 @@
 use Rattle.std.proofs.Common.{◌≤◌, take}
 use Rattle.std.specs.List.{flat_map}
-use Rattle.ct_ledger.specs.Dump.{piece_dump}
+use Rattle.ct_pieces.specs.Dump.{piece_dump}
 use Rattle.ct_session.specs.Inside.Writing.{HasRoom, PutsOut}
 use Rattle.ct_session.proofs.output.put_submissions.Given as goal
 

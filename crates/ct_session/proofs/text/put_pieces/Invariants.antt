@@ -1,6 +1,6 @@
 use Rattle.std.proofs.Common.{◌≡◌, ◌++◌, take}
 use Rattle.std.specs.List.{flat_map}
-use Rattle.ct_ledger.specs.Text.{piece_text}
+use Rattle.ct_pieces.specs.Text.{piece_text}
 use Rattle.ct_session.specs.Text.{ended}
 use Rattle.ct_session.proofs.text.put_pieces.Given as goal
 

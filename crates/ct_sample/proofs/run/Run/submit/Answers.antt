@@ -1,5 +1,5 @@
 use Rattle.std.proofs.Common.{Bool, cond, ap, ◌∙◌, ℕ, []}
-use Rattle.ct_ledger.specs.Submission.{admitted}
+use Rattle.ct_pieces.specs.Submission.{admitted}
 use Rattle.ct_sample.specs.Run.{RunValue, after_submission}
 use Rattle.ct_sample.proofs.Obeying.{bit_is, submitted_one}
 use Rattle.ct_sample.proofs.run.Run.submit.Goals as goal

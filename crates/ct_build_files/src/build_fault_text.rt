@@ -1,0 +1,34 @@
+//! The texts of faults of builds.
+
+ghost use Rattle.std.specs.Prelude.{◌≡◌, ◌++◌, OnOk};
+ghost use Rattle.ct_build_files.specs.BuildFaultText.{build_fault_text};
+
+use ct_build::BuildFault;
+use ct_kind::put_numbered;
+use ct_text::put_spaced;
+use std::alloc::{AllocError, Global};
+
+/// Puts at the end of the text why a build makes no code. `Err` is want of memory.
+pub fn put_build_fault(
+    alloc: Global,
+    text: &mut Vec<u8>,
+    fault: BuildFault,
+) -> Result<(), AllocError>
+    ensures { OnOk result (text.new.items ≡ text.old.items ++ build_fault_text fault) }
+{
+    match fault {
+        BuildFault::Short(have, want) => {
+            text.extend_from_slice(b"short")?;
+            put_spaced(alloc, text, u64::from(have))?;
+            put_spaced(alloc, text, u64::from(want))
+        }
+        BuildFault::Size(count) => put_numbered(alloc, text, b"size", count),
+        BuildFault::Few(have, want) => {
+            text.extend_from_slice(b"few")?;
+            put_spaced(alloc, text, have)?;
+            put_spaced(alloc, text, want)
+        }
+        BuildFault::Empty => text.extend_from_slice(b"empty"),
+        BuildFault::WrongPart(_) | BuildFault::Memory => Ok(()),
+    }
+}

@@ -1,0 +1,47 @@
+-- Evidence of kind dual or jdual.
+use Rattle.std.proofs.Common.{◌≡◌, ℕ, List, Option, Some, None, option_map, refl, ap}
+use Rattle.ct_duals.specs.declared.dual.Dual.{Dual}
+use Rattle.ct_duals.specs.declared.fault.DualFault.{DualFault}
+use Rattle.ct_duals.specs.Dual.{IsDual}
+use Rattle.ct_duals.specs.Check.{dual_fault}
+use Rattle.ct_duals.proofs.Faults.{below-from_none, none-from_below, accepted-from_none}
+use Rattle.ct_codes.specs.Numbers.{numbers_of}
+use Rattle.ct_codes.specs.declared.entry.Entry.{Entry}
+use Rattle.ct_rule_parts.specs.declared.support.Support.TheVariants.{Size}
+use Rattle.ct_rule_parts.specs.Support.{Stands}
+use Rattle.ct_kind.specs.Named.{NamedCode}
+use Rattle.ct_dual_files.specs.DualKind.{dual_kind, dual_support, IsDualChecked}
+use Rattle.ct_kind.specs.declared.fault.SubmitFault.TheVariants as fault
+use Rattle.ct_kind.proofs.Stating.{option_map-none, StatesWell, SaysSame}
+
+-- what an accepted dual gives stands
+dual_stands : (d : Dual) → IsDual d → (o : Option DualFault) → dual_fault (numbers_of d.entry) d ≡ o → Stands (dual_support o d)
+dual_stands d form None none = accepted-from_none d form none
+dual_stands d form (Some reason) is = tt
+
+-- nor is it a size
+pub gives_no_size : (d : Dual) (o : Option DualFault) (e : Entry) (size : ℕ) → dual_support o d ≡ Size e size → ⊥
+gives_no_size d None e size h = absurd cc
+gives_no_size d (Some reason) e size h = absurd cc
+
+-- a dual against which there is no reason is one, whatever the word of its kind
+pub dual_states : (known : List NamedCode) (text : List ℕ) (d : Dual) → IsDual d → (dual_kind text d).reason known ≡ None
+    → StatesWell (dual_kind text d) known (IsDualChecked d)
+dual_states known text d form own =
+    record {
+      entry = form.entry;
+      checked = below-from_none (numbers_of d.entry) d (option_map-none fault.Dual _ own);
+      coded = refl;
+      code = tt;
+      size = λ yes. absurd cc;
+      partition = tt;
+      stands = dual_stands d form (dual_fault (numbers_of d.entry) d) refl;
+    }
+
+-- a dual has no reason against it
+pub dual_accepted : (d : Dual) → IsDualChecked d → option_map fault.Dual (dual_fault (numbers_of d.entry) d) ≡ None
+dual_accepted d checked = ap (option_map fault.Dual) (none-from_below (numbers_of d.entry) d checked.0 checked.1)
+
+-- it is the same over all codes
+pub dual_same : (text : List ℕ) (d : Dual) (left right : List NamedCode) → SaysSame (dual_kind text d) left right
+dual_same text d left right = record { reason = refl; words = refl; size = refl }

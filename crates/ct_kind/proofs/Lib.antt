@@ -1,0 +1,5 @@
+pub mod AscendingLemmas
+pub mod CodeAt
+pub mod SizeLemmas
+pub mod Stating
+pub mod NamedLemmas

@@ -1,0 +1,4 @@
+pub mod Named
+pub mod KindParts
+pub mod Ascending
+pub mod Sound

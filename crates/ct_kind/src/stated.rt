@@ -1,0 +1,67 @@
+//! Partitions as their documents state them.
+
+ghost use Rattle.std.specs.Prelude.{◌≡◌, IfOk};
+ghost use Rattle.ct_partitions.specs.Partition.{word_lists, IsSoundPartition};
+
+use ct_codes::Entry;
+use ct_partitions::Partition;
+use ct_words::Word;
+use std::alloc::{AllocError, Global};
+use std::marker::Model;
+
+/// A partition as its document states it. Contracts see the partition.
+#[derive(Drop)]
+pub struct StatedPartition<'a> {
+    entry: Entry,
+    between: u32,
+    classes: &'a [Vec<Word>],
+}
+
+impl<'a> Model for StatedPartition<'a> {
+    ghost use Rattle.ct_partitions.specs.Partition.{word_lists, PartitionValue};
+
+    ghost Value = { PartitionValue };
+
+    ghost view = { λ p. record { entry = p.entry; between = p.between; classes = word_lists p.classes.now } };
+}
+
+impl<'a> StatedPartition<'a> {
+    /// The partition of the entry with these classes.
+    pub fn new(entry: Entry, between: u32, classes: &'a [Vec<Word>]) -> StatedPartition<'a>
+        ensures { result ≡ record { entry = entry; between = between; classes = word_lists classes.now } }
+    {
+        StatedPartition {
+            entry,
+            between,
+            classes,
+        }
+    }
+
+    /// The entry of which each class is stated as a code.
+    pub fn entry(&self) -> Entry
+        ensures { result ≡ self.now.entry }
+    {
+        self.entry
+    }
+
+    /// The partition by itself, where it is one.
+    pub fn copied(&self, alloc: Global) -> Result<Partition, AllocError>
+        requires { IsSoundPartition self.now }
+        ensures { IfOk result (λ partition. partition ≡ self.now) }
+    {
+        let classes = copied(alloc, self.classes)?;
+        Ok(Partition::from_classes(self.entry, self.between, classes))
+    }
+}
+
+/// The same lists of words.
+fn copied(alloc: Global, classes: &[Vec<Word>]) -> Result<Vec<Vec<Word>>, AllocError>
+    ensures { IfOk result (λ copies. word_lists copies.items ≡ word_lists classes.now) }
+{
+    let mut copies = Vec::new(alloc);
+    for class in classes {
+        let copy = Vec::from_slice(alloc, class)?;
+        copies.push(copy)?;
+    }
+    Ok(copies)
+}

@@ -1,6 +1,0 @@
-pub mod Words
-pub mod Cosets
-pub mod Partition
-pub mod Build
-pub mod Product
-pub mod Dual

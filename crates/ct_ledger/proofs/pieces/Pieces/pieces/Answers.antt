@@ -1,8 +1,0 @@
-use Rattle.std.proofs.Common.{List, subst}
-use Rattle.ct_ledger.specs.Piece.{PieceValue}
-use Rattle.ct_ledger.specs.Standing.{AreStanding}
-use Rattle.ct_ledger.proofs.StandingLemmas.{AreStanding-true}
-use Rattle.ct_ledger.proofs.pieces.Pieces.pieces.Goals as goal
-
-pub returns-clause-sizes : goal.returns-clause-sizes
-returns-clause-sizes c = AreStanding-true _ (subst (λ (ps : List PieceValue). AreStanding ps) c.self.view_is c.self.invariant.0)

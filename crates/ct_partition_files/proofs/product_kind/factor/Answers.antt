@@ -1,0 +1,20 @@
+use Rattle.std.proofs.Common.{Option, Some, sym, ap, subst, ◌∙◌}
+use Rattle.std.specs.Prelude.{IfSome, IsSome}
+use Rattle.std.proofs.lemmas.Result.{IfOk-weaker}
+use Rattle.ct_partitions.specs.Partition.{PartitionValue, IsSoundPartition}
+use Rattle.ct_kind.proofs.NamedLemmas.{partition-sound}
+use Rattle.ct_partition_files.proofs.product_kind.factor.Goals as goal
+
+pub unreachable-requires : goal.unreachable-requires
+unreachable-requires g c =
+    let never = subst IsSome (sym c.partition.ensures ∙ c.in_default.is) c.requires.there in
+    cc
+
+pub copied-requires : goal.copied-requires
+copied-requires g c =
+    let sound = partition-sound c.args.id (g.P.Partitions.known c.args.pieces.now) c.are_sound.ensures in
+    subst (λ (o : Option PartitionValue). IfSome o IsSoundPartition) (sym c.partition.ensures ∙ c.in-Some.is) sound
+
+pub returns : goal.returns
+returns g c =
+    IfOk-weaker c.copied.result _ _ (λ (p : PartitionValue) same. sym c.partition.ensures ∙ c.in-Some.is ∙ ap Some (sym same)) c.copied.ensures

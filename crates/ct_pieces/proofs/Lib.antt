@@ -1,0 +1,15 @@
+pub mod CodeLemmas
+pub mod PartitionPlaces
+pub mod Stating
+pub mod KindLemmas
+pub mod MakingLemmas
+pub mod LeavingLemmas
+pub mod StandingLemmas
+pub mod SupportLemmas
+pub mod KeptLemmas
+pub mod PartLemmas
+pub mod Accepting
+pub mod Refusing
+pub mod Admitting
+pub mod DocumentLines
+pub mod DualSupports

@@ -1,0 +1,8 @@
+use Rattle.std.proofs.Common.{List, subst}
+use Rattle.ct_pieces.specs.Piece.{PieceValue}
+use Rattle.ct_pieces.specs.Standing.{AreStanding}
+use Rattle.ct_pieces.proofs.StandingLemmas.{AreStanding-true}
+use Rattle.ct_pieces.proofs.pieces.Pieces.pieces.Goals as goal
+
+pub returns-clause-sizes : goal.returns-clause-sizes
+returns-clause-sizes c = AreStanding-true _ (subst (λ (ps : List PieceValue). AreStanding ps) c.self.view_is c.self.invariant.0)

@@ -1,0 +1,67 @@
+-- Evidence by its kind, and what each kind says of it.
+use Rattle.std.specs.Prelude.{ℕ, Bool, List, Option, codes}
+use Rattle.std.specs.List.{list_any}
+use Rattle.std.specs.Str.{bytes_eq}
+use Rattle.ct_codes.specs.declared.entry.Entry.{Entry}
+use Rattle.ct_partitions.specs.Partition.{IsPartition}
+use Rattle.ct_evidence.specs.declared.evidence.Evidence.{Evidence}
+use Rattle.ct_evidence.specs.declared.evidence.Evidence.TheVariants.{Words, Cosets, Partition, Build, Product, Dual, JohnsonDual}
+use Rattle.ct_kind.specs.Named.{NamedCode, code_named, other_named}
+use Rattle.ct_kind.specs.KindParts.{KindParts}
+use Rattle.ct_word_files.specs.WordsKind.{words_kind}
+use Rattle.ct_word_files.specs.CosetsKind.{cosets_kind, IsCosetsChecked}
+use Rattle.ct_partition_files.specs.PartitionKind.{partition_kind}
+use Rattle.ct_build_files.specs.BuildKind.{build_kind, IsBuildChecked}
+use Rattle.ct_partition_files.specs.ProductKind.{product_kind, IsProductChecked}
+use Rattle.ct_dual_files.specs.DualKind.{dual_kind, IsDualChecked}
+use Rattle.ct_kind.specs.declared.fault.SubmitFault.{SubmitFault}
+
+-- what evidence comes to by its kind
+abbrev pub kind_of : Evidence → KindParts
+kind_of (Words e words) = words_kind e words
+kind_of (Cosets e basis representatives) = cosets_kind e basis representatives
+kind_of (Partition e between classes) = partition_kind e between classes
+kind_of (Build e step part other) = build_kind e step part other
+kind_of (Product e pairs) = product_kind e pairs
+kind_of (Dual d) = dual_kind (codes "dual") d
+kind_of (JohnsonDual d) = dual_kind (codes "jdual") d
+
+-- the entry that evidence is about
+abbrev pub stated_entry : Evidence → Entry
+stated_entry evidence = (kind_of evidence).entry
+
+-- the ids of the pieces that evidence names as its parts, in the order of its document
+abbrev pub parts_of : Evidence → List (List ℕ)
+parts_of evidence = (kind_of evidence).parts
+
+-- whether evidence names the piece of this id as a part of its own
+abbrev pub names : Evidence → List ℕ → Bool
+names evidence id = list_any (λ part. bytes_eq part id) (parts_of evidence)
+
+-- whether the kind of the evidence has a code
+abbrev pub has_code : Evidence → Bool
+has_code evidence = (kind_of evidence).has_code
+
+-- the first reason of the kind's own check against evidence whose parts stand
+abbrev pub own_reason : List NamedCode → Evidence → Option SubmitFault
+own_reason known evidence = (kind_of evidence).reason known
+
+-- the words of the code that evidence states, where its kind has one
+abbrev pub words_over : List NamedCode → Evidence → Option (List ℕ)
+words_over known evidence = (kind_of evidence).words known
+
+-- the size of the piece that evidence makes, where it has one
+abbrev pub size_over : List NamedCode → Evidence → Option ℕ
+size_over known evidence = (kind_of evidence).size known
+
+-- what more is asked of evidence that is accepted than that its words are a code: for cosets that the work of the check is within the limit, for a
+-- partition, which has no code, that its classes are one, for a build that its step finds nothing against the codes of its parts, for a product that
+-- its pairs have one of the distance that is stated, and for a dual, which has no code, that it is one
+abbrev pub IsChecked : List NamedCode → Evidence → Type 0
+IsChecked known (Words e words) = Unit {0}
+IsChecked known (Cosets e basis representatives) = IsCosetsChecked basis representatives
+IsChecked known (Partition e between classes) = IsPartition e.n e.d e.w between classes
+IsChecked known (Build e step part other) = IsBuildChecked e step (code_named part known) (other_named other known)
+IsChecked known (Product e pairs) = IsProductChecked e known pairs
+IsChecked known (Dual d) = IsDualChecked d
+IsChecked known (JohnsonDual d) = IsDualChecked d

@@ -1,0 +1,72 @@
+//! The check of evidence that is handed in.
+
+ghost use Rattle.std.specs.Prelude.{◌≡◌, ◌≢◌, Ok, Err, IfOk, IfErr, []};
+ghost use Rattle.ct_files.specs.Evidence.{IsSound, read_of};
+ghost use Rattle.ct_pieces.specs.Codes.{codes_of};
+ghost use Rattle.ct_pieces.specs.Standing.{AreMade};
+ghost use Rattle.ct_pieces.specs.Submission.{made_of, piece_from};
+ghost use Rattle.ct_pieces.specs.Inside.Kept.{kept_over, kept_codes};
+
+use crate::kinds::{check, kind_of};
+use crate::piece::Piece;
+use ct_codes::Code;
+use ct_files::{Evidence, FileFault, read_evidence};
+use ct_kind::SubmitFault;
+use ct_text::{Id, Text};
+use std::alloc::Global;
+
+/// A piece that was made, and the code that is kept beside it.
+#[derive(Drop)]
+pub(crate) struct Made {
+    pub(crate) piece: Piece,
+    pub(crate) kept: Option<Code>,
+}
+
+/// The piece that the evidence makes under the id over the pieces, or why it makes none. Whether its id is taken is not
+/// looked at. The codes that are kept stand at the places of their pieces.
+pub(crate) fn make_piece(
+    alloc: Global,
+    pieces: &[Piece],
+    kept: &[Option<Code>],
+    id: Id,
+    document: Text,
+    evidence: Evidence,
+) -> Result<Made, SubmitFault>
+    requires standing { AreMade [] pieces.now }
+    requires kept { kept.now ≡ kept_codes pieces.now }
+    requires sound { IsSound evidence }
+    ensures made { IfOk result (λ made. made_of (codes_of pieces.now) id document evidence ≡ Ok made.piece) }
+    ensures kept { IfOk result (λ made. made.kept ≡ kept_over (codes_of pieces.now) made.piece.evidence) }
+    ensures fault { IfErr result (λ fault. fault ≢ SubmitFault.Memory
+        → made_of (codes_of pieces.now) id document evidence ≡ Err fault) }
+{
+    let checked = check(alloc, pieces, kept, &evidence)?;
+    let entry = kind_of(&evidence).entry;
+    Ok(Made {
+        piece: Piece::new(id, document, evidence, entry, checked.size),
+        kept: checked.kept,
+    })
+}
+
+/// The piece that the document makes under the id over the pieces, or why it makes none. Whether its id is taken is not
+/// looked at. The codes that are kept stand at the places of their pieces.
+pub(crate) fn check_document(
+    alloc: Global,
+    pieces: &[Piece],
+    kept: &[Option<Code>],
+    id: Id,
+    document: Text,
+) -> Result<Made, SubmitFault>
+    requires standing { AreMade [] pieces.now }
+    requires kept { kept.now ≡ kept_codes pieces.now }
+    ensures made { IfOk result (λ made. piece_from (codes_of pieces.now) id document (read_of document) ≡ Ok made.piece) }
+    ensures kept { IfOk result (λ made. made.kept ≡ kept_over (codes_of pieces.now) made.piece.evidence) }
+    ensures fault { IfErr result (λ fault. fault ≢ SubmitFault.Memory
+        → piece_from (codes_of pieces.now) id document (read_of document) ≡ Err fault) }
+{
+    match read_evidence(alloc, document.bytes()) {
+        Ok(evidence) => make_piece(alloc, pieces, kept, id, document, evidence),
+        Err(FileFault::Memory) => Err(SubmitFault::Memory),
+        Err(fault) => Err(SubmitFault::File(fault)),
+    }
+}

@@ -1,0 +1,77 @@
+//! Where pieces are found, and their codes: those that are kept beside them, and those that are made where they are needed.
+
+ghost use Rattle.std.specs.Prelude.{◌≡◌, ◌<◌, Some, IfOk, IsSome, length, take, []};
+ghost use Rattle.ct_pieces.specs.Codes.{code_of_place};
+ghost use Rattle.ct_pieces.specs.Standing.{AreMade};
+ghost use Rattle.ct_pieces.specs.Inside.Kept.{kept_codes};
+ghost use Rattle.ct_pieces.specs.Piece.{place_of};
+
+use crate::kinds::listed_code;
+use crate::piece::Piece;
+use ct_codes::Code;
+use ct_kind::Found;
+use ct_text::Id;
+use std::alloc::{AllocError, Global};
+
+/// The place of the first piece with the id.
+pub(crate) fn place_of(pieces: &[Piece], id: Id) -> Option<usize>
+    ensures { result ≡ place_of id pieces.now }
+{
+    pieces.iter().position(|piece| piece.id() == id)
+}
+
+/// The pieces before a place.
+fn pieces_before(pieces: &[Piece], place: usize) -> &[Piece]
+    requires { place < length pieces.now }
+    ensures { result.now ≡ take place pieces.now }
+{
+    &pieces[..place]
+}
+
+/// The code of the piece at the place, where its kind has one. The codes that are kept stand at the places of their pieces.
+pub(crate) fn find_code<'a>(
+    alloc: Global,
+    pieces: &[Piece],
+    kept: &'a [Option<Code>],
+    place: usize,
+) -> Result<Found<'a>, AllocError>
+    requires made { AreMade [] pieces.now }
+    requires kept { kept.now ≡ kept_codes pieces.now }
+    requires place { place < length pieces.now }
+    ensures { IfOk result (λ found. found ≡ code_of_place pieces.now place) }
+{
+    if let Some(code) = &kept[place] {
+        return Ok(Found::kept(code));
+    }
+    let made = listed_code(
+        alloc,
+        pieces_before(pieces, place),
+        pieces[place].evidence(),
+    )?;
+    Ok(Found::made(made))
+}
+
+/// The code of the piece at the place, where its kind has one, as a code of its own.
+pub(crate) fn code_at_place(
+    alloc: Global,
+    pieces: &[Piece],
+    kept: &[Option<Code>],
+    place: usize,
+) -> Result<Code, AllocError>
+    requires made { AreMade [] pieces.now }
+    requires kept { kept.now ≡ kept_codes pieces.now }
+    requires place { place < length pieces.now }
+    requires coded { IsSome (code_of_place pieces.now place) }
+    ensures { IfOk result (λ code. code_of_place pieces.now place ≡ Some code) }
+{
+    if let Some(code) = &kept[place] {
+        return code.try_copy();
+    }
+    let made = listed_code(
+        alloc,
+        pieces_before(pieces, place),
+        pieces[place].evidence(),
+    )?;
+    let Some(code) = made else { unreachable!() };
+    Ok(code)
+}

@@ -1,0 +1,119 @@
+//! A piece of evidence that was accepted.
+
+ghost use Rattle.std.specs.Prelude.{◌≡◌, ◌++◌, OnOk, IfOk};
+ghost use Rattle.ct_files.specs.Evidence.{IsSound};
+ghost use Rattle.ct_pieces.specs.Kind.{names};
+ghost use Rattle.ct_pieces.specs.Supports.{support_of};
+ghost use Rattle.ct_pieces.specs.Text.{piece_text};
+
+use crate::kinds::{gives, names};
+use crate::text::put_piece;
+use ct_codes::Entry;
+use ct_files::Evidence;
+use ct_rule_parts::Support;
+use ct_text::{Id, Text};
+use std::alloc::{AllocError, Global};
+use std::marker::Model;
+
+/// A piece of evidence that was accepted under an id.
+#[derive(Debug, Drop)]
+pub struct Piece {
+    id: Id,
+    document: Text,
+    evidence: Evidence,
+    entry: Entry,
+    size: Option<u32>,
+}
+
+impl Model for Piece {
+    ghost use Rattle.ct_files.specs.Evidence.{IsSound};
+    ghost use Rattle.ct_pieces.specs.Piece.{PieceValue};
+
+    ghost Value = { PieceValue };
+
+    ghost view = { λ p. record { id = p.id; document = p.document; evidence = p.evidence; entry = p.entry; size = p.size } };
+
+    ghost invariant = { λ p. IsSound p.evidence };
+}
+
+impl Piece {
+    /// A piece of these parts.
+    pub(crate) fn new(
+        id: Id,
+        document: Text,
+        evidence: Evidence,
+        entry: Entry,
+        size: Option<u32>,
+    ) -> Piece
+        requires sound { IsSound evidence }
+        ensures { result ≡ record { id = id; document = document; evidence = evidence; entry = entry; size = size } }
+    {
+        Piece {
+            id,
+            document,
+            evidence,
+            entry,
+            size,
+        }
+    }
+
+    /// The id under which it was submitted.
+    pub fn id(&self) -> Id
+        ensures { result ≡ self.now.id }
+    {
+        self.id
+    }
+
+    /// What its document states.
+    pub fn evidence(&self) -> &Evidence
+        ensures evidence { result.now ≡ self.now.evidence }
+        ensures sound { IsSound result.now }
+    {
+        &self.evidence
+    }
+
+    /// Whether it names the piece of this id as a part of its own.
+    pub fn names(&self, id: Id) -> bool
+        ensures { result ≡ names self.now.evidence id }
+    {
+        names(&self.evidence, id)
+    }
+
+    /// The entry of the table that it is about.
+    pub fn entry(&self) -> Entry
+        ensures { result ≡ self.now.entry }
+    {
+        self.entry
+    }
+
+    /// The number of words of its code or of its classes; none for a dual.
+    pub fn size(&self) -> Option<u32>
+        ensures { result ≡ self.now.size }
+    {
+        self.size
+    }
+
+    /// What it gives to a table: by its kind, of its size. `Err` is want of memory.
+    pub fn support(&self) -> Result<Support, AllocError>
+        ensures { IfOk result (λ support. support ≡ support_of self.now) }
+    {
+        gives(&self.evidence, self.size)
+    }
+
+    /// The bytes of its document, as they were handed in.
+    pub fn document(&self) -> &[u8]
+        ensures { result.now ≡ self.now.document }
+    {
+        self.document.bytes()
+    }
+
+    /// Its line in a list of pieces, `ID KIND ENTRY` and ` size S` where it has a size, without a line feed. `Err` is want of
+    /// memory.
+    pub fn describe(&self, alloc: Global) -> Result<Vec<u8>, AllocError>
+        ensures { IfOk result (λ text. text.items ≡ piece_text self.now) }
+    {
+        let mut text = Vec::new(alloc);
+        put_piece(alloc, &mut text, self)?;
+        Ok(text)
+    }
+}

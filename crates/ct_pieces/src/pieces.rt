@@ -1,0 +1,296 @@
+//! Pieces of evidence by themselves, without a table.
+
+ghost use Rattle.std.specs.Prelude.{◌≡◌, ◌≢◌, ◌≤◌, ◌<◌, ◌+◌, ◌^◌, ◌∷◌, ◌++◌, ℕ, List, Result, Ok, Err, Some, None, false, IfOk, IfErr, IfSome, IsSome, IsTrue, OnOk, OnErr, [], All, filter, find, is_some, length, not, option_map, remove};
+ghost use Rattle.ct_codes.specs.Code.{IsSoundCode};
+ghost use Rattle.ct_text.specs.Id.{is_id};
+ghost use Rattle.ct_files.specs.Evidence.{read_of, read_without_limit};
+ghost use Rattle.ct_pieces.specs.Piece.{PieceValue, has_id, stored_by, stored_words, first_user};
+ghost use Rattle.ct_pieces.specs.Codes.{code_of_place, codes_of};
+ghost use Rattle.ct_pieces.specs.Submission.{submitted, admitted, piece_from, if_stored, unless_full};
+ghost use Rattle.ct_kind.specs.declared.fault.SubmitFault.{SubmitFault};
+ghost use Rattle.ct_pieces.specs.Withdrawal.{withdrawn};
+ghost use Rattle.ct_pieces.specs.Standing.{AreStanding, HasTrueSize, IsMade};
+ghost use Rattle.ct_pieces.specs.Inside.Kept.{kept_over};
+ghost use Rattle.ct_pieces.specs.Dump.{dump_text};
+ghost use Rattle.ct_pieces.specs.Submission.{AddsPiece, AdmitsPiece};
+ghost use Rattle.ct_pieces.specs.Piece.{place_of};
+
+use crate::check::{Made, check_document, make_piece};
+use crate::dump::put_dump;
+use crate::fault::WithdrawFault;
+use crate::kept::{code_at_place, place_of};
+use crate::kinds::{kind_of, listed, names};
+use crate::limits::{MAX_PIECES, MAX_STORED};
+use crate::piece::Piece;
+use crate::standing::has_code;
+use ct_codes::Code;
+use ct_files::Evidence;
+use ct_kind::SubmitFault;
+use ct_text::{Id, Text};
+use std::alloc::{AllocError, Global};
+use std::marker::Model;
+
+/// The pieces of evidence that were accepted and not withdrawn, in the order in which they were accepted, without a table of what
+/// they give. Contracts see the list of the pieces.
+#[derive(Debug, Drop)]
+pub struct Pieces {
+    pieces: Vec<Piece>,
+    kept: Vec<Option<Code>>,
+    stored: u64,
+}
+
+impl Model for Pieces {
+    ghost use Rattle.std.specs.Prelude.{◌≡◌, List};
+    ghost use Rattle.ct_pieces.specs.Piece.{PieceValue, stored_words};
+    ghost use Rattle.ct_pieces.specs.Standing.{AreStanding};
+    ghost use Rattle.ct_pieces.specs.Inside.Kept.{kept_codes};
+
+    ghost Value = { List PieceValue };
+
+    ghost view = { λ l. l.pieces.items };
+
+    ghost invariant = { λ l. AreStanding l.pieces.items × (l.stored ≡ stored_words l.pieces.items) × (l.kept.items ≡ kept_codes l.pieces.items) };
+}
+
+/// How many words the piece stores.
+fn stored_by(piece: &Piece) -> u64
+    ensures words { result ≡ stored_by piece.now }
+    ensures bound { result < 2 ^ 63 }
+{
+    let evidence = piece.evidence();
+    let listed = listed(evidence);
+    if kind_of(evidence).is_stored {
+        listed + u64::from(piece.size().unwrap_or(0))
+    } else {
+        listed
+    }
+}
+
+/// Whether a piece has the id.
+fn has_id(pieces: &[Piece], id: Id) -> bool
+    ensures has { result ≡ has_id id pieces.now }
+    ensures id { IsTrue (is_id id) }
+{
+    let name = id.text();
+    pieces.iter().any(|piece| piece.id().text() == name)
+}
+
+/// How many words are stored with the piece beside so many others, or that they are too many.
+fn stored_with(stored: u64, piece: &Piece) -> Result<u64, SubmitFault>
+    requires { stored ≤ MAX_STORED }
+    ensures total { IfOk result (λ total. (total ≡ stored + stored_by piece.now) × (total ≤ MAX_STORED)) }
+    ensures room { IfOk result (λ _. if_stored (stored + stored_by piece.now) piece.now ≡ Ok piece.now) }
+    ensures fault { IfErr result (λ fault. if_stored (stored + stored_by piece.now) piece.now ≡ Err fault) }
+{
+    let total = stored + stored_by(piece);
+    if total > MAX_STORED {
+        return Err(SubmitFault::FullWords(total));
+    }
+    Ok(total)
+}
+
+/// The first piece that names the id.
+fn first_user(pieces: &[Piece], id: Id) -> Option<Id>
+    ensures { result ≡ option_map (λ p. p.id) (first_user id pieces.now) }
+{
+    pieces
+        .iter()
+        .find(|piece| names(piece.evidence(), id))
+        .map(|piece| piece.id())
+}
+
+/// Whether there is room for one more piece, of this id.
+fn room_for(pieces: &[Piece], id: Id) -> Result<(), SubmitFault>
+    ensures id { IsTrue (is_id id) }
+    ensures free { OnOk result (has_id id pieces.now ≡ false) }
+    ensures room { OnOk result (length pieces.now < MAX_PIECES) }
+    ensures fault { IfErr result (λ fault. (made : Result PieceValue SubmitFault)
+        → unless_full (has_id id pieces.now) (length pieces.now) made ≡ Err fault) }
+{
+    if has_id(pieces, id) {
+        return Err(SubmitFault::Taken);
+    }
+    if pieces.len() >= MAX_PIECES {
+        return Err(SubmitFault::FullPieces(pieces.len() as u64));
+    }
+    Ok(())
+}
+
+impl Pieces {
+    /// No pieces.
+    pub fn new(alloc: Global) -> Pieces
+        ensures { result ≡ [] }
+    {
+        Pieces {
+            pieces: Vec::new(alloc),
+            kept: Vec::new(alloc),
+            stored: 0,
+        }
+    }
+
+    /// The pieces that stand, in the order in which they were accepted.
+    pub fn pieces(&self) -> &[Piece]
+        ensures pieces { result.now ≡ self.now }
+        ensures standing { AreStanding self.now }
+        ensures sizes { All HasTrueSize self.now }
+    {
+        &self.pieces
+    }
+
+    /// How many words the pieces store: those that their documents list, and those of the codes of builds.
+    pub fn stored(&self) -> u64
+        ensures { result ≡ stored_words self.now }
+    {
+        self.stored
+    }
+
+    /// The place of the piece with the id, where there is one.
+    pub fn place_of(&self, id: Id) -> Option<usize>
+        ensures place { result ≡ place_of id self.now }
+        ensures few { IfSome result (λ place. place < MAX_PIECES) }
+    {
+        place_of(&self.pieces, id)
+    }
+
+    /// Whether the piece at the place has a code: whether its kind has one. A partition and a dual have none.
+    pub fn has_code(&self, place: usize) -> bool
+        requires place { place < length self.now }
+        ensures { result ≡ is_some (code_of_place self.now place) }
+    {
+        has_code(&self.pieces, place)
+    }
+
+    /// The dump of the pieces: a session whose commands lead to them, with their own documents. `Err` is want of memory.
+    pub fn dump(&self, alloc: Global) -> Result<Vec<u8>, AllocError>
+        ensures { IfOk result (λ text. text.items ≡ dump_text self.now) }
+    {
+        let mut text = Vec::new(alloc);
+        put_dump(alloc, &mut text, &self.pieces)?;
+        Ok(text)
+    }
+
+    /// Where the pieces are kept.
+    pub fn allocator(&self) -> Global {
+        *self.pieces.allocator()
+    }
+
+    /// Takes a document under an id, which it keeps byte for byte: the size of its code, where it is accepted. Else it gives
+    /// the first fault, and the pieces are as before.
+    pub fn submit(&mut self, id: Id, document: &[u8]) -> Result<Option<u32>, SubmitFault>
+        ensures accepted { IfOk result (AddsPiece self.old self.new id document.now) }
+        ensures fault { IfErr result (λ fault. fault ≢ SubmitFault.Memory → submitted self.old id document.now ≡ Err fault) }
+        ensures unchanged { OnErr result (self.new ≡ self.old) }
+    {
+        let text = Text::copied(self.allocator(), document)?;
+        self.submit_text(id, text)
+    }
+
+    /// `submit` of a document that is handed over, and so is not copied.
+    #[tactic(auto, unfolding(crate::specs::Submission::submitted))]
+    pub fn submit_text(&mut self, id: Id, document: Text) -> Result<Option<u32>, SubmitFault>
+        ensures accepted { IfOk result (AddsPiece self.old self.new id document) }
+        ensures fault { IfErr result (λ fault. fault ≢ SubmitFault.Memory → submitted self.old id document ≡ Err fault) }
+        ensures unchanged { OnErr result (self.new ≡ self.old) }
+    {
+        room_for(&self.pieces, id)?;
+        let alloc = *self.pieces.allocator();
+        let made = check_document(alloc, &self.pieces, &self.kept, id, document)?;
+        self.put_made(made)
+    }
+
+    /// `submit_text` of evidence that is handed over with a document that reads as it, however long that is: the document is
+    /// kept, and is not read.
+    #[tactic(auto, unfolding(crate::specs::Submission::admitted))]
+    pub fn admit(
+        &mut self,
+        id: Id,
+        evidence: Evidence,
+        document: Text,
+    ) -> Result<Option<u32>, SubmitFault>
+        requires read { read_without_limit document ≡ Ok evidence }
+        ensures accepted { IfOk result (AdmitsPiece self.old self.new id document evidence) }
+        ensures fault { IfErr result (λ fault. fault ≢ SubmitFault.Memory → admitted self.old id document evidence ≡ Err fault) }
+        ensures unchanged { OnErr result (self.new ≡ self.old) }
+    {
+        room_for(&self.pieces, id)?;
+        let alloc = *self.pieces.allocator();
+        let made = make_piece(alloc, &self.pieces, &self.kept, id, document, evidence)?;
+        self.put_made(made)
+    }
+
+    /// Puts a piece at the end, which was made over those that stand, where its words may be stored beside theirs: its size. Else
+    /// the pieces are as before.
+    fn put_made(&mut self, made: Made) -> Result<Option<u32>, SubmitFault>
+        requires made { IsMade (codes_of self.old) made.piece }
+        requires kept { made.kept ≡ kept_over (codes_of self.old) made.piece.evidence }
+        requires named { IsTrue (is_id made.piece.id) }
+        requires free { has_id made.piece.id self.old ≡ false }
+        requires room { length self.old < MAX_PIECES }
+        ensures pieces { OnOk result (self.new ≡ self.old ++ made.piece ∷ []) }
+        ensures size { IfOk result (λ size. size ≡ made.piece.size) }
+        ensures stored { OnOk result (if_stored (stored_words self.old + stored_by made.piece) made.piece ≡ Ok made.piece) }
+        ensures fault { IfErr result (λ fault. fault ≢ SubmitFault.Memory
+            → if_stored (stored_words self.old + stored_by made.piece) made.piece ≡ Err fault) }
+        ensures unchanged { OnErr result (self.new ≡ self.old) }
+    {
+        let stored = stored_with(self.stored, &made.piece)?;
+        let size = made.piece.size();
+        self.pieces.reserve(1)?;
+        self.kept.reserve(1)?;
+        self.pieces.push_reserved(made.piece);
+        self.kept.push_reserved(made.kept);
+        self.stored = stored;
+        Ok(size)
+    }
+
+    /// Takes the last piece out; there is one.
+    pub fn take_back(&mut self)
+        requires { 0 < length self.old }
+        ensures { (front : List PieceValue) (p : PieceValue) → self.old ≡ front ++ p ∷ [] → self.new ≡ front }
+    {
+        let last = self.pieces.len() - 1;
+        let piece = self.pieces.remove(last);
+        self.kept.remove(last);
+        self.stored -= stored_by(&piece);
+    }
+
+    /// The place of the piece with the id, where it can be withdrawn. `NoSuch` comes exactly where no piece has it, and `InUse` where
+    /// another names it.
+    pub fn place_to_leave(&self, id: Id) -> Result<usize, WithdrawFault>
+        ensures place { IfOk result (λ place. place_of id self.now ≡ Some place) }
+        ensures free { OnOk result (option_map (λ p. p.id) (first_user id self.now) ≡ None) }
+        ensures fault { IfErr result (λ fault. withdrawn self.now id ≡ Err fault) }
+    {
+        let Some(place) = place_of(&self.pieces, id) else {
+            return Err(WithdrawFault::NoSuch);
+        };
+        if let Some(user) = first_user(&self.pieces, id) {
+            return Err(WithdrawFault::InUse(user));
+        }
+        Ok(place)
+    }
+
+    /// Takes the piece of the id out, which stands at the place, and which no piece names.
+    pub fn take_out(&mut self, id: Id, place: usize)
+        requires place { place_of id self.old ≡ Some place }
+        requires free { option_map (λ p. p.id) (first_user id self.old) ≡ None }
+        ensures pieces { self.new ≡ remove self.old place }
+        ensures left { withdrawn self.old id ≡ Ok self.new }
+    {
+        let piece = self.pieces.remove(place);
+        self.kept.remove(place);
+        self.stored -= stored_by(&piece);
+    }
+
+    /// The code of the piece at the place, whose kind has one, over the codes of its parts: its length, distance and weight are
+    /// those of the piece's entry, and its words are those of the document, of all choices of cosets, those that the step
+    /// makes, or the product. `Err` is want of memory.
+    pub fn code(&self, alloc: Global, place: usize) -> Result<Code, AllocError>
+        requires place { place < length self.now }
+        requires coded { IsSome (code_of_place self.now place) }
+        ensures code { IfOk result (λ code. code_of_place self.now place ≡ Some code) }
+        ensures sound { IfOk result IsSoundCode }
+    {
+        code_at_place(alloc, &self.pieces, &self.kept, place)
+    }
+}
