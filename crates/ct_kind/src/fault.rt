@@ -40,6 +40,17 @@ pub enum SubmitFault {
     Memory,
 }
 
+impl SubmitFault {
+    ghost use Rattle.std.specs.Prelude.{◌≡◌, ◌↔◌, IsTrue};
+
+    /// Whether memory ran out.
+    pub fn is_memory(&self) -> bool
+        ensures { IsTrue result ↔ (self.now ≡ SubmitFault.Memory) }
+    {
+        matches!(self, SubmitFault::Memory)
+    }
+}
+
 impl From<AllocError> for SubmitFault {
     ghost use Rattle.std.specs.Prelude.{◌≡◌};
     ghost use Rattle.ct_kind.specs.declared.fault.SubmitFault.TheVariants.{Memory};

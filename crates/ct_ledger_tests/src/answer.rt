@@ -28,7 +28,7 @@ impl Answer {
     ) -> Result<Answer, AllocError> {
         match came {
             Ok(size) => Ok(Answer::Accepted(size)),
-            Err(SubmitFault::Memory) => Ok(Answer::Memory),
+            Err(fault) if fault.is_memory() => Ok(Answer::Memory),
             Err(fault) => Ok(Answer::Refused(submit_refusal(alloc, &fault)?)),
         }
     }

@@ -1,6 +1,6 @@
 //! The run of the sample: a ledger that obeys its commands.
 
-ghost use Rattle.std.specs.Prelude.{◌≡◌, ◌≤◌, ◌<◌, ◌+◌, ◌^◌, [], IfOk, OnOk, Some, IfSome, Ok, is_ok, length};
+ghost use Rattle.std.specs.Prelude.{◌≡◌, ◌≢◌, ◌≤◌, ◌<◌, ◌+◌, ◌^◌, [], IfOk, OnOk, Some, IfSome, Ok, false, is_ok, length};
 ghost use Rattle.ct_files.specs.Evidence.{IsSound, read_without_limit};
 ghost use Rattle.ct_pieces.specs.Submission.{admitted, with_piece};
 ghost use Rattle.ct_pieces.specs.Supports.{supports_of};
@@ -48,9 +48,18 @@ fn submit_evidence(
 {
     match ledger.admit(id, evidence, document) {
         Ok(_) => Ok(true),
-        Err(SubmitFault::Memory) => Err(AllocError),
-        Err(_) => Ok(false),
+        Err(fault) => refused(fault),
     }
+}
+
+/// Nothing is accepted where there is a fault; want of memory is no fault.
+fn refused(fault: SubmitFault) -> Result<bool, AllocError>
+    ensures { IfOk result (λ accepted. (fault ≢ SubmitFault.Memory) × (accepted ≡ false)) }
+{
+    if fault.is_memory() {
+        return Err(AllocError);
+    }
+    Ok(false)
 }
 
 /// Withdraws the piece of the id: whether it is withdrawn. `Err` is want of memory.

@@ -1,6 +1,6 @@
 //! Answers to commands over the pieces that stand.
 
-ghost use Rattle.std.specs.Prelude.{◌≡◌, ◌≢◌, ◌↔◌, Some, IfOk, IsTrue, OnOk, OnErr};
+ghost use Rattle.std.specs.Prelude.{◌≡◌, ◌≢◌, Some, IfOk, OnOk, OnErr};
 ghost use Rattle.std.specs.List.{AllZip};
 ghost use Rattle.ct_codes.specs.Entry.{IsEntry};
 ghost use Rattle.ct_text.specs.EntryNumbers.{named_entry};
@@ -136,17 +136,10 @@ fn submit(ledger: &mut Ledger, id: Id, document: Text) -> Result<Reply, AllocErr
 fn refused(fault: SubmitFault) -> Result<Reply, AllocError>
     ensures reply { IfOk result (λ reply. (fault ≢ SubmitFault.Memory) × (reply ≡ Reply.Refused (Refusal.Submission fault))) }
 {
-    if is_memory(&fault) {
+    if fault.is_memory() {
         return Err(AllocError);
     }
     Ok(Reply::Refused(Refusal::Submission(fault)))
-}
-
-/// Whether the fault is want of memory.
-fn is_memory(fault: &SubmitFault) -> bool
-    ensures { IsTrue result ↔ (fault.now ≡ SubmitFault.Memory) }
-{
-    matches!(fault, SubmitFault::Memory)
 }
 
 /// Answers a submission, if its line is of a form of `submit`. After an `Err`, which is want of memory, the ledger is as before.

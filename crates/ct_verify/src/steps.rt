@@ -1,6 +1,6 @@
 //! What one more text line makes of what was read.
 
-ghost use Rattle.std.specs.Prelude.{◌≡◌, ◌<◌, ◌^◌, [], ◌∷◌, ◌++◌, List, IfOk, IfSome, Some, None, Option, Result, length, map};
+ghost use Rattle.std.specs.Prelude.{◌≡◌, ◌≢◌, ◌<◌, ◌^◌, [], ◌∷◌, ◌++◌, List, IfOk, IfSome, Some, None, Option, Result, length, map};
 ghost use Rattle.ct_text.specs.Line.{words_of};
 ghost use Rattle.ct_text.specs.Gathering.{gathered};
 ghost use Rattle.ct_rules.specs.Rule.{rule_side};
@@ -26,6 +26,16 @@ use ct_rules::{Rule, Support};
 use ct_text::{Gathered, Gathering, Id, Text, first_words};
 use std::alloc::{AllocError, Global};
 use std::mem;
+
+/// The block of evidence that began on this text line fails by the fault; want of memory is no verdict.
+fn refused(begun: usize, fault: SubmitFault) -> Result<Step, AllocError>
+    ensures { IfOk result (λ step. (fault ≢ SubmitFault.Memory) × (step ≡ Step.Failed begun (Why.Evidence fault))) }
+{
+    if fault.is_memory() {
+        return Err(AllocError);
+    }
+    Ok(Step::Failed(begun, Why::Evidence(fault)))
+}
 
 /// Why a line fails that does not follow from those before it.
 fn why_of(fault: LineFault) -> Why
@@ -176,8 +186,7 @@ impl Reading {
         ensures { IfOk result (λ step. step ≡ after_block self begun (submitted self.pieces id document)) }
     {
         match self.pieces.submit_text(id, document) {
-            Err(SubmitFault::Memory) => Err(AllocError),
-            Err(fault) => Ok(Step::Failed(begun, Why::Evidence(fault))),
+            Err(fault) => refused(begun, fault),
             Ok(_) => {
                 let support = last_support(self.pieces.pieces())?;
                 self.supports.push(support)?;
