@@ -5,8 +5,7 @@ ghost use Rattle.ct_rules.specs.Derivation.{LineValue};
 ghost use Rattle.ct_rules.specs.Rule.{place_of};
 ghost use Rattle.ct_rules.specs.Removal.{names_one, only, lowered_line};
 
-use ct_rules::lowered;
-use ct_rules::{Line, place_of};
+use ct_rules::{Line, lowered, place_of};
 
 /// Lowers the rule of each line, as it is over the supports that are left once the one at a place is taken out.
 pub(crate) fn lower_lines(lines: &mut [Line], place: u32)

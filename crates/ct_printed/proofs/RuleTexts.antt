@@ -124,7 +124,7 @@ stated_form ids r (Numbers k m) is h = record {
   reads = λ rest.
       named_stated r (Numbers k m) (decimal k ∷ decimal m ∷ rest) is
       ∙ ap₂ (λ (a b : Option ℕ). option_and_then (λ n. option_map (λ o. numbered 2 (with_arguments (bare r) (Numbers n o))) b) a)
-          (argument k h.0) (argument m h.1)
+      (argument k h.0) (argument m h.1)
       ∙ ap (λ (q : Rule). Some (numbered 2 q)) (own_arguments r (Numbers k m) is);
   count = refl;
 }
