@@ -15,7 +15,8 @@ use Rattle.ct_rule_parts.specs.Support.{size_at, dual_at}
 use Rattle.ct_rule_parts.proofs.SlotLemmas.{IsNoBetter-self}
 use Rattle.ct_rules.specs.declared.rule.Rule.{Rule}
 use Rattle.ct_rules.specs.declared.rule.Rule.TheVariants.{L9, L10, L11, M9, M10, U9, U10, U11, V9}
-use Rattle.ct_rules.specs.Listing.{rules_alone, side_by_side_rules, sum_class_rules, rules_by_weight, rules_of_supports, rules_at}
+use Rattle.ct_rules.specs.Listing.{rules_alone}
+use Rattle.ct_rules.specs.Inside.AllRules.{side_by_side_rules, sum_class_rules, rules_by_weight, rules_of_supports, rules_at}
 use Rattle.ct_rules.specs.Closed.{AreTrue}
 use Rattle.ct_rules.specs.Rule.{row_of, parts_over, rule_side, is_by_weight, applies}
 use Rattle.ct_rules.proofs.Applied.{defined}

@@ -19,10 +19,6 @@ side_of Nothing = Lower
 side_of (Size e size) = Lower
 side_of (Bound a) = Upper
 
--- the places of all supports that give something to an entry are among these
-abbrev pub ArePlacesAt : List Support → Entry → List ℕ → Type 0
-ArePlacesAt supports e places = (place : ℕ) (support : Support) → slice_get supports place ≡ Some support → GivesTo support e → Contains places place
-
 -- the entry of the table to which a support gives something, where there is one
 abbrev pub entry_of : Support → Option Entry
 entry_of Nothing = None

@@ -15,7 +15,8 @@ use Rattle.ct_codes.specs.Entry.{unrestricted, constant_weight}
 use Rattle.ct_rule_parts.specs.declared.support.Support.{Support}
 use Rattle.ct_rule_parts.specs.declared.support.Support.TheVariants.{Nothing}
 use Rattle.ct_rules.specs.declared.rule.TheConstants.{LOWER_RULES, UPPER_RULES, LOWER_WEIGHT_RULES, UPPER_WEIGHT_RULES}
-use Rattle.ct_rules.specs.Listing.{alone_on, rules_alone}
+use Rattle.ct_rules.specs.Listing.{rules_alone}
+use Rattle.ct_rules.specs.Inside.AllRules.{alone_on}
 use Rattle.ct_rule_parts.proofs.Lawful.{IsLawful}
 use Rattle.ct_plain_rules.proofs.LawfulOneWord.{one_word-lawful}
 use Rattle.ct_plain_rules.proofs.LawfulOppositeWords.{opposite_words-lawful}

@@ -21,7 +21,8 @@ use Rattle.ct_rules.specs.declared.rule.Rule.{Rule}
 use Rattle.ct_rules.specs.declared.rule.Rule.TheVariants.{L9, L10, L11, M9, M10, U9, U10, U11, V9}
 use Rattle.ct_rules.specs.Rule.{row_of, rule_side, place_of, is_alone, is_by_weight, parts_over, applies}
 use Rattle.ct_rules.specs.Closed.{IsSatisfied, IsClosed}
-use Rattle.ct_rules.specs.Listing.{rules_alone, side_by_side_rules, sum_class_rules, rules_with_numbers, rules_by_weight, rules_of_supports, rules_at}
+use Rattle.ct_rules.specs.Listing.{rules_alone}
+use Rattle.ct_rules.specs.Inside.AllRules.{side_by_side_rules, sum_class_rules, rules_with_numbers, rules_by_weight, rules_of_supports, rules_at}
 use Rattle.ct_rules.proofs.Applied.{IsDefined, defined, applies_from_premises}
 use Rattle.ct_rules.proofs.LawfulRows.{alone_at, alone-parts, not_alone}
 

@@ -13,7 +13,7 @@ use Rattle.ct_rule_parts.specs.declared.support.Support.{Support}
 use Rattle.ct_rules.specs.Rule.{rule_side, parts_over, applies}
 use Rattle.ct_rules.proofs.Applied.{defined}
 use Rattle.ct_rule_parts.specs.Slot.{Slot}
-use Rattle.ct_rules.specs.Listing.{rules_at}
+use Rattle.ct_rules.specs.Inside.AllRules.{rules_at}
 use Rattle.ct_rule_parts.proofs.EntryLists.{Contains-range_with_len, Contains-flat_map}
 use Rattle.ct_rules.proofs.RuleLists.{rules_at-complete}
 

@@ -4,3 +4,4 @@ pub mod Closed
 pub mod Listing
 pub mod Removal
 pub mod DualRule
+pub mod Inside
