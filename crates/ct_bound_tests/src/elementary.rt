@@ -62,6 +62,8 @@ fn bounds(rt: HostRuntime) {
         (11, 5, Some(24)),
         (15, 7, Some(32)),
         (3, 3, Some(2)),
+        (4, 3, Some(2)),
+        (6, 5, Some(2)),
         (5, 6, None),
         (13, 6, None),
         (4, 5, None),

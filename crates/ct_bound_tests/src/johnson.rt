@@ -97,6 +97,25 @@ fn pairs_in_columns(rt: HostRuntime) {
     }
 }
 
+// The greatest least number of words that is too many, over all entries with weight: 197, at (28,14,13), and at its complement.
+// A plain program that counts up to 5,000 finds the same.
+#[test]
+fn greatest_count(rt: HostRuntime) {
+    let mut greatest = 0;
+    for n in 1..MAX_N + 1 {
+        for half in 2..15 {
+            for w in 0..n + 1 {
+                let d = 2 * half;
+                assert!(rt; Entry { n, d, w: Some(w) }.in_table());
+                let count = column_count(n, d, w).unwrap_or(0);
+                greatest = count.max(greatest);
+                assert!(rt; count < 197 || n == 28 && d == 14 && (w == 13 || w == 15));
+            }
+        }
+    }
+    assert!(rt; greatest == 197);
+}
+
 // A(8,4) ≤ 25 from A(8,4,4) = 14, A(16,6) ≤ 458 from A(16,6,6) = 112, and the ends.
 #[test]
 fn averages(rt: HostRuntime) {

@@ -82,6 +82,16 @@ fn lists_that_are_codes(rt: HostRuntime) -> Result<(), Fail> {
     Ok(())
 }
 
+/// One word more than the limit, each of a wrong weight: the count comes first.
+#[test]
+fn count_before_weight(rt: HostRuntime) -> Result<(), Fail> {
+    let alloc = rt.alloc();
+    let words = vec![in alloc; 0; MAX_WORDS + 1]?;
+    let refused = answer(&rt, alloc, WEIGHTED, &words)?;
+    assert!(rt; refused.err() == Some(CodeFault::Size(16385)));
+    Ok(())
+}
+
 /// Lists with each fault.
 #[test]
 fn lists_with_faults(rt: HostRuntime) -> Result<(), Fail> {
