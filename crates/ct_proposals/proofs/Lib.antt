@@ -6,3 +6,4 @@ mod FoundLemmas
 pub mod FoundDuals
 pub mod FindIds
 pub mod Accepted
+mod Alike

@@ -1,5 +1,5 @@
 -- The replies to the lines of an input.
-use Rattle.std.specs.Prelude.{◌≡◌, ℕ, Bool, true, false, ◌||◌, List, [], ◌∷◌, ◌++◌, codes, Option, Some, None, IfSome}
+use Rattle.std.specs.Prelude.{◌≡◌, ◌⊎◌, ℕ, Bool, true, false, ◌||◌, List, [], ◌∷◌, ◌++◌, codes, Option, Some, None, IfSome}
 use Rattle.std.specs.Io.KnownBytes.{Appends}
 use Rattle.ct_io.specs.Told.{AppendsProperPrefix}
 use Rattle.ct_lines.specs.Lines.{lines_of}
@@ -8,7 +8,8 @@ use Rattle.ct_codes.specs.declared.entry.Entry.{Entry}
 use Rattle.ct_text.specs.Line.{words_of}
 use Rattle.ct_text.specs.EntryNumbers.{entry_numbers_of, named_entry}
 use Rattle.ct_text.specs.declared.entry_numbers.EntryNumbers.{EntryNumbers}
-use Rattle.ct_proposals.specs.Proposal.{AnswersEntry, found_dual}
+use Rattle.ct_files.specs.Evidence.{read_of}
+use Rattle.ct_proposals.specs.Proposal.{AnswersEntry, found_dual, submission_text}
 
 -- the reply to numbers that name this entry of the table, or none, and whether it is a refusal
 abbrev pub IsReplyToEntry : Option Entry → List ℕ → Bool → Type 0
@@ -38,6 +39,19 @@ AreReplies (line ∷ lines) text refused =
 -- the output of the mode on an input: the replies to its lines
 abbrev pub IsFound : List ℕ → List ℕ → Bool → Type 0
 IsFound input output refused = AreReplies (lines_of input) output refused
+
+-- two replies to one line: equal, or the same but for the bytes of a document that is submitted, which reads alike
+abbrev pub DifferInDocument : List ℕ → List ℕ → Type 0
+DifferInDocument text other =
+    (text ≡ other)
+    ⊎ ((front id document another : List ℕ) × (read_of document ≡ read_of another)
+    × (text ≡ front ++ submission_text id document) × (other ≡ front ++ submission_text id another))
+
+-- two outputs are a reply for each line, in order, and these differ in the bytes of their documents alone
+abbrev pub DifferInDocuments : List (List ℕ) → List ℕ → List ℕ → Type 0
+DifferInDocuments [] text other = (text ≡ []) × (other ≡ [])
+DifferInDocuments (line ∷ lines) text other =
+    (reply rest another more : List ℕ) × DifferInDocument reply another × DifferInDocuments lines rest more × (text ≡ reply ++ rest) × (other ≡ another ++ more)
 
 -- what a sink holds grew by the output on what a source has left, where it tells this; it tells whether a reply is a refusal
 abbrev pub Writes : Option (List ℕ) → Option (List ℕ) → Option (List ℕ) → Bool → Type 0

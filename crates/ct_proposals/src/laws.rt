@@ -1,7 +1,8 @@
 //! What the mode `find` promises of what it writes; the functions do nothing.
 
-ghost use Rattle.std.specs.Prelude.{◌≡◌, ◌≢◌, ◌↔◌, ℕ, ◌<◌, ◌≤◌, ◌/◌, ◌%◌, min, List, [], length, All, IsSome, IsTrue, Some, None, Ok, true};
+ghost use Rattle.std.specs.Prelude.{◌≡◌, ◌≢◌, ◌↔◌, ℕ, Bool, ◌<◌, ◌≤◌, ◌/◌, ◌%◌, min, List, [], length, All, IsSome, IsTrue, Some, None, Ok, true};
 ghost use Rattle.ct_words.specs.declared.limits.TheConstants.{MAX_BOUND};
+ghost use Rattle.ct_lines.specs.Lines.{lines_of};
 ghost use Rattle.ct_codes.specs.declared.entry.Entry.{Entry};
 ghost use Rattle.ct_codes.specs.Code.{IsTrueUpper};
 ghost use Rattle.ct_codes.specs.Entry.{IsEntry};
@@ -17,6 +18,7 @@ ghost use Rattle.ct_pieces.specs.declared.limits.TheConstants.{MAX_PIECES, MAX_S
 ghost use Rattle.ct_finder.specs.Found.{bound_of};
 ghost use Rattle.ct_finder.specs.declared.found.Stop.{Stop};
 ghost use Rattle.ct_proposals.specs.Proposal.{find_id, found_dual, proposed_piece, IsProposal};
+ghost use Rattle.ct_proposals.specs.Reply.{IsFound, DifferInDocuments};
 
 /// The dual that is found for an entry of the table is one of this entry, and it is accepted. It speaks of even distances alone exactly
 /// where there is no weight and d is even, and allows nothing. Its bound is ⌊f(0)/c_0⌋, limited by `MAX_BOUND`; it rests on no other
@@ -33,6 +35,15 @@ pub fn found_duals_bound_codes()
     ensures no_premises { (e : Entry) (d : Dual) → IsEntry e → found_dual e ≡ Some d → dual_premises d ≡ [] }
     ensures true_upper { (e : Entry) (d : Dual) → IsEntry e → found_dual e ≡ Some d → IsTrueUpper e (bound_of d) }
     ensures without_weight { (e : Entry) → e.w ≡ None → IsSome (found_dual e) }
+{}
+
+/// Two outputs for one input are alike: the replies to a line are equal, or proposals that differ in the bytes of their
+/// documents alone, which read alike; and in both some reply is a refusal, or in none.
+pub fn outputs_differ_in_documents_alone()
+    ensures output { (input output other : List ℕ) (a b : Bool) → IsFound input output a → IsFound input other b →
+        DifferInDocuments (lines_of input) output other }
+    ensures refused { (input output other : List ℕ) (a b : Bool) → IsFound input output a → IsFound input other b →
+        a ≡ b }
 {}
 
 /// What is proposed for an entry of the table is accepted: its document, submitted under its id, makes a piece that is the dual, of this

@@ -8,5 +8,7 @@ mod reply;
 mod source;
 
 pub use found::MAX_TURNS;
-pub use laws::{found_duals_bound_codes, proposals_are_accepted};
+pub use laws::{
+    found_duals_bound_codes, outputs_differ_in_documents_alone, proposals_are_accepted,
+};
 pub use source::find_source;

@@ -32,12 +32,12 @@ pub nothing_of_output : (named : Option Mode) (left held : Option (List ℕ)) �
 nothing_of_output None left held = tt
 nothing_of_output (Some mode) left held = nothing_is_prefix mode left held
 
-nothing_at_want : (mode : Mode) (left held : Option (List ℕ)) → LeftByMemory mode left held held
+nothing_at_want : (mode : Mode) (left held : Option (List ℕ)) → LeftByMemory mode left left held held
 nothing_at_want Session left held = (at_once left held).whole_replies refl
 nothing_at_want Verify left held = Keeps-refl held
 nothing_at_want Find left held = Keeps-refl held
 nothing_at_want (Sample number) left held = Keeps-refl held
 
-pub nothing_answered : (P : Type 0) (named : Option Mode) (left held : Option (List ℕ)) → IfSome named (λ mode. P → LeftByMemory mode left held held)
+pub nothing_answered : (P : Type 0) (named : Option Mode) (left held : Option (List ℕ)) → IfSome named (λ mode. P → LeftByMemory mode left left held held)
 nothing_answered P None left held = tt
 nothing_answered P (Some mode) left held = λ p. nothing_at_want mode left held

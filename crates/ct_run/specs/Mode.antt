@@ -88,9 +88,10 @@ LeftByTooLong Verify left now old new = Keeps old new
 LeftByTooLong Find left now old new = Keeps old new
 LeftByTooLong (Sample number) left now old new = ⊥
 
--- what want of memory leaves in the sink, mode by mode. Of a session: whole replies. Of `verify`, `find` and `sample`: nothing
-abbrev pub LeftByMemory : Mode → Option (List ℕ) → Option (List ℕ) → Option (List ℕ) → Type 0
-LeftByMemory Session left old new = WritesWholeReplies left old new
-LeftByMemory Verify left old new = Keeps old new
-LeftByMemory Find left old new = Keeps old new
-LeftByMemory (Sample number) left old new = Keeps old new
+-- what want of memory leaves in the sink, mode by mode. Of a session: whole replies, which answer all but at most MAX_READ + 1 of the lines that were
+-- taken. Of `verify`, `find` and `sample`: nothing
+abbrev pub LeftByMemory : Mode → Option (List ℕ) → Option (List ℕ) → Option (List ℕ) → Option (List ℕ) → Type 0
+LeftByMemory Session left now old new = WritesWholeReplies left now old new
+LeftByMemory Verify left now old new = Keeps old new
+LeftByMemory Find left now old new = Keeps old new
+LeftByMemory (Sample number) left now old new = Keeps old new

@@ -122,7 +122,7 @@ pub fn run<S: Source, K: Sink>(
     ensures after_too_long { IfSome (mode_of (bytes_of words.now)) (λ mode. result ≡ Status.TooLong
         → LeftByTooLong mode (S.left source.old) (S.left source.new) (K.holds sink.old) (K.holds sink.new)) }
     ensures after_memory { IfSome (mode_of (bytes_of words.now)) (λ mode. result ≡ Status.Memory
-        → LeftByMemory mode (S.left source.old) (K.holds sink.old) (K.holds sink.new)) }
+        → LeftByMemory mode (S.left source.old) (S.left source.new) (K.holds sink.old) (K.holds sink.new)) }
 
     // When each fault comes.
     ensures read_fault { result ≡ Status.ReadFault

@@ -8,7 +8,7 @@ use Rattle.ct_io.specs.declared.TheConstants.{MAX_INPUT, MAX_READ}
 use Rattle.ct_io.specs.declared.line_fault.LineFault.{LineFault}
 use Rattle.ct_io.specs.declared.line_fault.LineFault.TheVariants as line_fault
 use Rattle.ct_io.specs.Faults.{Rose}
-use Rattle.ct_io.specs.Reader.{Reader, Takes, NeedsNoRead, IsLineThenRead, fresh_reader}
+use Rattle.ct_io.specs.Reader.{Reader, Takes, NeedsNoRead, IsLineThenRead, fresh_reader, input_of}
 use Rattle.ct_io.specs.Told.{AppendsProperPrefix}
 use Rattle.ct_commands.specs.Command.{cut_off}
 use Rattle.ct_session.specs.declared.serve.ServeFault.{ServeFault}
@@ -16,12 +16,13 @@ use Rattle.ct_session.specs.declared.serve.ServeFault.TheVariants.{Read, Write, 
 use Rattle.ct_session.specs.Run.{PutsAnswers}
 use Rattle.ct_session.specs.Serve.{WritesRun, WritesRunPrefix, WritesRunProperPrefix, AnswersTaken, AnswersButLastBytes, WritesWholeReplies}
 use Rattle.ct_session.specs.Inside.Ending.{Ends}
-use Rattle.ct_session.specs.Inside.Serving.{Took, Serves}
+use Rattle.ct_session.specs.Inside.Serving.{LeavesFew, Took, Serves}
 use Rattle.ct_session.specs.Inside.State.{State, fresh_state}
 use Rattle.ct_session.specs.Inside.Writing.{BreaksOff, IsReady, WritesSome, read_fault}
+use Rattle.ct_session.proofs.FewLeft.{few_at_start, few_at_fault}
 use Rattle.ct_session.proofs.Serving.{begins, after_writing, took_more, not_long, long_exactly, one_read, all_taken, prefix_of, proper_prefix_of, weaker_prefix, prefix_of_run, run_of, run_in_part, nothing_gathered, nothing_gathered_long, taken_answered, last_bytes_unanswered, whole_replies}
 
-ends_memory : (left now old new : Option (List ℕ)) (reads reads' writes writes' n : ℕ) → WritesRunPrefix left old new → WritesWholeReplies left old new → Took left now n → n ≤ MAX_INPUT → Ends (Err Memory) left now old new reads reads' writes writes'
+ends_memory : (left now old new : Option (List ℕ)) (reads reads' writes writes' n : ℕ) → WritesRunPrefix left old new → WritesWholeReplies left now old new → Took left now n → n ≤ MAX_INPUT → Ends (Err Memory) left now old new reads reads' writes writes'
 ends_memory left now old new reads reads' writes writes' n part whole took few = record {
   run = tt;
   to_end = tt;
@@ -105,7 +106,7 @@ pub ends_at_once : (left held : Option (List ℕ)) (reads writes : ℕ) → Ends
 ends_at_once left held reads writes =
     let h = begins left held reads writes in
     ends_memory left left held held reads reads writes writes 0 (prefix_of fresh_reader fresh_state [] left left held held held reads reads writes writes [] [] h refl (Appends-nil held))
-    (whole_replies fresh_reader fresh_state [] left left held held held reads reads writes writes h (Appends-nil held)) h.took (omega arith)
+    (whole_replies fresh_reader fresh_state [] left left left held held held reads reads writes writes h (few_at_start left) (Appends-nil held)) h.took (omega arith)
 
 -- the gathered replies could not be written
 pub ends_unwritten : (r : Reader) (s : State) (g : List ℕ) (left now old held new : Option (List ℕ)) (reads reads' writes writes' writes'' : ℕ) (f : ServeFault) → Serves r s g left now old held reads reads' writes writes'
@@ -116,12 +117,12 @@ ends_unwritten r s g left now old held new reads reads' writes writes' writes'' 
 
 -- memory ran out, the gathered replies are written, and so many bytes were taken
 pub ends_broken : (r : Reader) (s : State) (g : List ℕ) (left now next old held new : Option (List ℕ)) (reads reads' reads'' writes writes' writes'' n : ℕ) (result : ServeFault) → Serves r s g left now old held reads reads' writes writes'
-    → Took left next n → n ≤ MAX_INPUT → BreaksOff Memory result g held new writes' writes'' → Ends (Err result) left next old new reads reads'' writes writes''
-ends_broken r s g left now next old held new reads reads' reads'' writes writes' writes'' n result h took few (inl w) =
+    → Took left next n → n ≤ MAX_INPUT → LeavesFew (input_of r now) next → BreaksOff Memory result g held new writes' writes'' → Ends (Err result) left next old new reads reads'' writes writes''
+ends_broken r s g left now next old held new reads reads' reads'' writes writes' writes'' n result h took few rest (inl w) =
     subst (λ (e : ServeFault). Ends (Err e) left next old new reads reads'' writes writes'') (sym w.0)
     (ends_memory left next old new reads reads'' writes writes'' n (prefix_of r s g left now old held new reads reads' writes writes' g [] h (sym (append-nil g)) w.1)
-    (whole_replies r s g left now old held new reads reads' writes writes' h w.1) took few)
-ends_broken r s g left now next old held new reads reads' reads'' writes writes' writes'' n result h took few (inr w) =
+    (whole_replies r s g left now next old held new reads reads' writes writes' h rest w.1) took few)
+ends_broken r s g left now next old held new reads reads' reads'' writes writes' writes'' n result h took few rest (inr w) =
     subst (λ (e : ServeFault). Ends (Err e) left next old new reads reads'' writes writes'') (sym w.0)
     (ends_write left next old new reads reads'' writes writes'' n (proper_prefix_of r s g left now old held new reads reads' writes writes' h w.1) (rose_later writes writes' writes'' h.write_count w.2) took few)
 
@@ -147,6 +148,7 @@ pub record Faulted (r q : Reader) (reads reads' : ℕ) (fault : LineFault) : Typ
   pub part : (t : ℕ) → fault ≡ line_fault.TooLong t → IsLineThenRead q.held
   pub above : MAX_INPUT < q.taken → fault ≡ line_fault.TooLong q.taken
   pub few : q.taken ≤ MAX_INPUT + MAX_READ
+  pub looks : fault ≡ line_fault.Memory → (q.held ≡ r.held) ⊎ IsLineThenRead q.held
   pub unread : NeedsNoRead r.held r.ended → q.taken ≡ r.taken
   pub lasts : r.ended ≡ true → q.ended ≡ true
   pub going : fault ≢ line_fault.Memory → q.ended ≡ false
@@ -202,7 +204,7 @@ ends_fault r q s g left now next old held new reads reads' reads'' writes writes
     absurd (no_part held new (subst (AppendsProperPrefix held new) (none_gathered r q s g left now next old held reads reads' reads'' writes writes' (line_fault.TooLong t) h ready takes f (λ e. cc)) w.1))
 ends_fault r q s g left now next old held new reads reads' reads'' writes writes' writes'' line_fault.Memory result h ready takes f counted w =
     ends_broken r s g left now next old held new reads reads' reads'' writes writes' writes'' q.taken result h (took_more left now next r.taken q.taken takes.0 h.took takes.1 takes.2)
-    (below MAX_INPUT q.taken (λ many. let e = f.above many in cc)) w
+    (below MAX_INPUT q.taken (λ many. let e = f.above many in cc)) (few_at_fault r q now next h.few takes (f.looks refl)) w
 
 -- all was taken, and the rest of the replies was written
 pub ends_well : (r : Reader) (s : State) (g g' : List ℕ) (left now old held new : Option (List ℕ)) (reads reads' writes writes' writes'' : ℕ) (all b : Bool) → Serves r s g left now old held reads reads' writes writes'

@@ -3,6 +3,7 @@ pub mod Answering
 pub mod Existence
 pub mod Uniqueness
 pub mod Taking
+pub mod FewLeft
 pub mod Serving
 pub mod Endings
 mod PassingOver

@@ -78,6 +78,7 @@ past r rest count s g left now old held reads reads' writes writes' h none e =
         took = h.took;
         within = h.within;
         inside = omega (arith, size, inside);
+        few = let few = h.few in omega (arith, size, few);
         ended = h.ended;
         healthy = h.healthy;
         read_count = h.read_count;

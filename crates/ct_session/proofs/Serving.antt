@@ -19,7 +19,7 @@ use Rattle.ct_io.specs.Told.{WhereTold, IsAboveLimit, AppendsProperPrefix}
 use Rattle.ct_commands.specs.Command.{completed, commands_of, cut_off}
 use Rattle.ct_session.specs.Run.{AnswersCommands, IsRun, PutsAnswers}
 use Rattle.ct_session.specs.Serve.{WritesRun, WritesRunPrefix, WritesRunProperPrefix, AnswersLines, AnswersTaken, AnswersButLastBytes, WritesWholeReplies}
-use Rattle.ct_session.specs.Inside.Serving.{Follows, Took, Given, Serves, unserved}
+use Rattle.ct_session.specs.Inside.Serving.{Follows, LeavesFew, Took, Given, Serves, unserved}
 use Rattle.ct_session.specs.Inside.State.{State, fresh_state, TakesLines, PutsLines}
 use Rattle.ct_session.specs.Inside.Writing.{WritesSome, IsReady}
 use Rattle.ct_session.proofs.Taking.{takes_none, takes_more, whole_run, prefix_written, proper_prefix_written}
@@ -97,6 +97,7 @@ begins left held reads writes = record {
   took = took_none left;
   within = omega arith;
   inside = omega arith;
+  few = omega arith;
   ended = λ e. absurd cc;
   healthy = refl;
   read_count = omega arith;
@@ -118,6 +119,7 @@ after_writing r s g g' left now old held new reads reads' writes writes' writes'
       took = h.took;
       within = h.within;
       inside = h.inside;
+      few = h.few;
       ended = h.ended;
       healthy = h.healthy;
       read_count = h.read_count;
@@ -151,9 +153,9 @@ not_ended false is h e = refl
 -- a line was given and taken
 pub serves_on : (r q : Reader) (s t : State) (g g' : List ℕ) (left now next old held : Option (List ℕ)) (reads reads' reads'' writes writes' : ℕ) (line : Vec ℕ Global)
     → Serves r s g left now old held reads reads' writes writes' → LosesFirstLine (input_of r now) (input_of q next) line.items → Takes r q now next (Ok (Some line)) → q.taken ≤ MAX_INPUT
-    → (r.ended ≡ true → q.ended ≡ true) → (q.ended ≡ true → IsAtEnd next) → q.fault ≡ None → reads' ≤ reads'' → PutsLines s t (line.items ∷ []) g g'
+    → (r.ended ≡ true → q.ended ≡ true) → (q.ended ≡ true → IsAtEnd next) → q.fault ≡ None → reads' ≤ reads'' → length q.held ≤ MAX_READ → PutsLines s t (line.items ∷ []) g g'
     → Serves q t g' left next old held reads reads'' writes writes'
-serves_on r q s t g g' left now next old held reads reads' reads'' writes writes' line h loses takes within lasts ended healthy counted puts =
+serves_on r q s t g g' left now next old held reads reads' reads'' writes writes' line h loses takes within lasts ended healthy counted few puts =
     let advance = line_advances r q now next line takes h.inside within in
     let before = h.read_count in
     record {
@@ -166,6 +168,7 @@ serves_on r q s t g g' left now next old held reads reads' reads'' writes writes
       took = took_more left now next r.taken q.taken takes.0 h.took takes.1 takes.2;
       within = within;
       inside = advance.1;
+      few = few;
       ended = ended;
       healthy = healthy;
       read_count = omega (arith, before, counted);
@@ -205,6 +208,7 @@ serves_to_end r q s g left now next old held reads reads' reads'' writes writes'
       took = took_more left now next r.taken q.taken takes.0 h.took takes.1 takes.2;
       within = within;
       inside = Takes-within r q now next (Ok None) takes h.inside;
+      few = omega (arith, ap length none);
       ended = λ e. done;
       healthy = healthy;
       read_count = omega (arith, before, counted);
@@ -328,12 +332,12 @@ last_bytes_unanswered r q s g (Some input) now next old held reads reads' writes
     )
 
 -- where all that was gathered is written, what was written is whole replies
-replies_written : (left now old new : Option (List ℕ)) (s : State) (lines : List (List ℕ)) (text : List ℕ) → TakesLines fresh_state s lines text → Follows left now lines → Appends old new text → WritesWholeReplies left old new
-replies_written None now old new s lines text h follows wrote = tt
-replies_written (Some input) None old new s lines text h follows wrote = absurd follows
-replies_written (Some input) (Some rest) old new s lines text h follows wrote = (lines, lines_of rest, text, h.refused, follows, h.answers, wrote)
+replies_written : (left now next old new : Option (List ℕ)) (s : State) (lines : List (List ℕ)) (text : List ℕ) → TakesLines fresh_state s lines text → Follows left now lines → LeavesFew now next → Appends old new text → WritesWholeReplies left next old new
+replies_written None now next old new s lines text h follows few wrote = tt
+replies_written (Some input) None next old new s lines text h follows few wrote = absurd follows
+replies_written (Some input) (Some rest) next old new s lines text h follows few wrote = (lines, lines_of rest, text, h.refused, follows, few, h.answers, wrote)
 
-pub whole_replies : (r : Reader) (s : State) (g : List ℕ) (left now old held new : Option (List ℕ)) (reads reads' writes writes' : ℕ) → Serves r s g left now old held reads reads' writes writes'
-    → Appends held new g → WritesWholeReplies left old new
-whole_replies r s g left now old held new reads reads' writes writes' h written =
-    replies_written left (input_of r now) old new s h.lines (h.written ++ g) h.takes h.follows (Appends-trans old held new _ _ h.wrote written)
+pub whole_replies : (r : Reader) (s : State) (g : List ℕ) (left now next old held new : Option (List ℕ)) (reads reads' writes writes' : ℕ) → Serves r s g left now old held reads reads' writes writes'
+    → LeavesFew (input_of r now) next → Appends held new g → WritesWholeReplies left next old new
+whole_replies r s g left now next old held new reads reads' writes writes' h few written =
+    replies_written left (input_of r now) next old new s h.lines (h.written ++ g) h.takes h.follows few (Appends-trans old held new _ _ h.wrote written)

@@ -1,5 +1,5 @@
 -- What serving a session does to a source and a sink that tell their bytes.
-use Rattle.std.specs.Prelude.{◌≡◌, ◌≤◌, ℕ, ⊤, Bool, List, [], ◌++◌, length, Option, Some, None}
+use Rattle.std.specs.Prelude.{◌≡◌, ◌+◌, ◌≤◌, ℕ, ⊤, Bool, List, [], ◌++◌, length, Option, Some, None}
 use Rattle.std.specs.Io.KnownBytes.{Appends, Consumes}
 use Rattle.ct_lines.specs.Lines.{lines_of, whole_lines}
 use Rattle.ct_io.specs.declared.TheConstants.{MAX_READ}
@@ -38,8 +38,15 @@ AnswersButLastBytes None after old new = ⊤
 AnswersButLastBytes (Some input) after old new =
     (front last : List ℕ) × Consumes (Some input) after (front ++ last) × (length last ≤ MAX_READ) × AnswersLines front old new
 
--- whole replies were written: those to the commands that some lines at the front of what the source had left complete
-abbrev pub WritesWholeReplies : Option (List ℕ) → Option (List ℕ) → Option (List ℕ) → Type 0
-WritesWholeReplies None old new = ⊤
-WritesWholeReplies (Some input) old new =
-    (lines rest : List (List ℕ)) × (text : List ℕ) × (refused : Bool) × (lines_of input ≡ lines ++ rest) × AnswersCommands [] (completed None lines) text refused × Appends old new text
+-- of these lines few were taken from the source: they are at most MAX_READ + 1 more than the lines that it has left
+abbrev pub AreFewMore : List (List ℕ) → Option (List ℕ) → Type 0
+AreFewMore rest None = ⊤
+AreFewMore rest (Some after) = length rest ≤ length (lines_of after) + (MAX_READ + 1)
+
+-- whole replies were written: those to the commands that some lines at the front of what the source had left complete; of the lines that were taken
+-- from it, at most MAX_READ + 1 stay unanswered
+abbrev pub WritesWholeReplies : Option (List ℕ) → Option (List ℕ) → Option (List ℕ) → Option (List ℕ) → Type 0
+WritesWholeReplies None after old new = ⊤
+WritesWholeReplies (Some input) after old new =
+    (lines rest : List (List ℕ)) × (text : List ℕ) × (refused : Bool) × (lines_of input ≡ lines ++ rest) × AreFewMore rest after
+    × AnswersCommands [] (completed None lines) text refused × Appends old new text

@@ -230,7 +230,7 @@ pub fn serve_session<S: Source, K: Sink>(
     ensures last_bytes_unanswered { result ≡ Err ServeFault.TooLong
         → AnswersButLastBytes (S.left source.old) (S.left source.new) (K.holds sink.old) (K.holds sink.new) }
     ensures whole_replies { result ≡ Err ServeFault.Memory
-        → WritesWholeReplies (S.left source.old) (K.holds sink.old) (K.holds sink.new) }
+        → WritesWholeReplies (S.left source.old) (S.left source.new) (K.holds sink.old) (K.holds sink.new) }
 
     // When each fault comes.
     ensures read_fault { result ≡ Err ServeFault.Read → Rose (S.faults source.old) (S.faults source.new) }

@@ -16,7 +16,7 @@ pub record Ends (result : Result Bool ServeFault) (left now old new : Option (Li
   pub written_in_part : result ≡ Err Write → WritesRunProperPrefix left old new
   pub taken_answered : result ≡ Err Read → AnswersTaken left now old new
   pub last_bytes_unanswered : result ≡ Err TooLong → AnswersButLastBytes left now old new
-  pub whole_replies : result ≡ Err Memory → WritesWholeReplies left old new
+  pub whole_replies : result ≡ Err Memory → WritesWholeReplies left now old new
   pub read_fault : result ≡ Err Read → Rose reads reads'
   pub write_fault : result ≡ Err Write → Rose writes writes'
   pub too_long : WhereTold left now (λ before after. (result ≡ Err TooLong) ↔ IsAboveLimit before after)

@@ -2,11 +2,12 @@
 use Rattle.std.specs.Prelude.{◌≡◌, ◌⊎◌, ◌≤◌, ◌<◌, ◌-◌, ⊤, ℕ, true, false, List, [], ◌++◌, All, length, Option, Some, None, Result, Ok, Err}
 use Rattle.std.specs.Io.KnownBytes.{Appends, Consumes, IsAtEnd}
 use Rattle.ct_lines.specs.Lines.{lines_of, IsLine, ended_lines}
-use Rattle.ct_io.specs.declared.TheConstants.{MAX_INPUT}
+use Rattle.ct_io.specs.declared.TheConstants.{MAX_INPUT, MAX_READ}
 use Rattle.ct_io.specs.Reader.{Reader, PassesEmptyLines, input_of}
 use Rattle.ct_session.specs.declared.serve.ServeFault.{ServeFault}
 use Rattle.ct_session.specs.declared.serve.Step.{Step}
 use Rattle.ct_session.specs.declared.serve.Step.TheVariants.{Line, End}
+use Rattle.ct_session.specs.Serve.{AreFewMore}
 use Rattle.ct_session.specs.Inside.Ending.{Ends}
 use Rattle.ct_session.specs.Inside.State.{State, fresh_state, TakesLines}
 
@@ -15,6 +16,11 @@ abbrev pub Follows : Option (List ℕ) → Option (List ℕ) → List (List ℕ)
 Follows None now lines = ⊤
 Follows (Some input) None lines = ⊥
 Follows (Some input) (Some now) lines = lines_of input ≡ lines ++ lines_of now
+
+-- of the bytes that a reader still has before it, and the source with it, few lines were taken from the source
+abbrev pub LeavesFew : Option (List ℕ) → Option (List ℕ) → Type 0
+LeavesFew None after = ⊤
+LeavesFew (Some rest) after = AreFewMore (lines_of rest) after
 
 -- known bytes lost n of them
 abbrev pub Took : Option (List ℕ) → Option (List ℕ) → ℕ → Type 0
@@ -38,6 +44,7 @@ pub record Serves (r : Reader) (s : State) (gathered : List ℕ) (left now old h
   pub took : Took left now r.taken
   pub within : r.taken ≤ MAX_INPUT
   pub inside : length r.held ≤ r.taken
+  pub few : length r.held ≤ MAX_READ
   pub ended : r.ended ≡ true → IsAtEnd now
   pub healthy : r.fault ≡ None
   pub read_count : reads ≤ reads'

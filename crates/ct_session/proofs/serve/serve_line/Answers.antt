@@ -3,6 +3,7 @@ use Rattle.std.proofs.lemmas.Result.{err_from_is_err_and}
 use Rattle.ct_io.specs.Reader.{Reader}
 use Rattle.ct_session.specs.Inside.Serving.{unserved}
 use Rattle.ct_session.proofs.Serving.{advances, after_writing, at_end, serves_on, serves_to_end, took_more, within_limit}
+use Rattle.ct_session.proofs.FewLeft.{few_past_line, still_few}
 use Rattle.ct_session.proofs.PassingOver.{passed_over, sooner}
 use Rattle.ct_session.proofs.Gathering.{few_kept}
 use Rattle.ct_session.proofs.Endings.{Faulted, readied, risen, err_is, ends_unwritten, ends_fault}
@@ -28,6 +29,7 @@ returns-in-Err-clause-step g c = λ left old reads writes begun.
       part = λ t is. e.last_read t (ap Err is);
       above = λ many. err_is _ _ (e.above_limit many);
       few = e.one_read_past;
+      looks = λ is. e.few_at_memory (ap Err is);
       unread = λ need. (e.unread need).0;
       lasts = e.ended;
       going = e.unended;
@@ -43,13 +45,15 @@ returns-in_err-answer_line-in-Ok-Some-clause-step g c = λ left old reads writes
     let e = c.in-Ok-Some.ensures in
     let takes = rw c.in-Ok-Some.field-0-is at e.taken in
     let loses = rw c.in-Ok-Some.field-0-is at e.lines in
+    let little = rw c.in-Ok-Some.field-0-is at e.little in
+    let few = still_few _ _ h.few little in
     let within = within_limit _ _ e.above_limit in
     let took = took_more _ _ _ _ _ e.taken.0 h.took e.taken.1 e.taken.2 in
     let done = at_end g.S.Source.left _ _ c.make_ready.new.reader.ended _ h.ended e.end (λ ended. (e.unread (inr ended)).1) in
     let p = err_from_is_err_and c.from_residual-in_err-answer_line-in-Ok-Some.result c.from_residual-in_err-answer_line-in-Ok-Some.ensures.1 in
     rw (p.1, p.2)
-    (ends_at_line _ c.next_line.new.self _ _ _ _ _ _ _ _ _ _ _ _ _ _ _ _ _ _ h took within
-    (λ all puts. serves_on _ _ _ _ _ _ _ _ _ _ _ _ _ _ _ _ c.in-Ok-Some.line h loses takes within e.ended done e.remembered e.counted puts)
+    (ends_at_line _ c.next_line.new.self _ _ _ _ _ _ _ _ _ _ _ _ _ _ _ _ _ _ h took within (few_past_line c.make_ready.new.reader c.next_line.new.self _ _ _ few loses)
+    (λ all puts. serves_on _ _ _ _ _ _ _ _ _ _ _ _ _ _ _ _ c.in-Ok-Some.line h loses takes within e.ended done e.remembered e.counted few puts)
     c.in_err-answer_line-in-Ok-Some.ensures.broken_off)
 
 pub returns-in_ok-answer_line-in-Ok-Some-clause-step : goal.returns-in_ok-answer_line-in-Ok-Some-clause-step
@@ -60,12 +64,14 @@ returns-in_ok-answer_line-in-Ok-Some-clause-step g c = λ left old reads writes 
     let e = c.in-Ok-Some.ensures in
     let takes = rw c.in-Ok-Some.field-0-is at e.taken in
     let loses = rw c.in-Ok-Some.field-0-is at e.lines in
+    let little = rw c.in-Ok-Some.field-0-is at e.little in
+    let few = still_few _ _ h.few little in
     let within = within_limit _ _ e.above_limit in
     let q = c.next_line.new.self in
     let done = at_end g.S.Source.left _ _ c.make_ready.new.reader.ended _ h.ended e.end (λ ended. (e.unread (inr ended)).1) in
     let a = c.in_ok-answer_line-in-Ok-Some.ensures in (
       after_writing _ _ _ _ _ _ _ _ _ _ _ _ _ _
-          (serves_on _ _ _ _ _ a.line.0 _ _ _ _ _ _ _ _ _ _ c.in-Ok-Some.line h loses takes within e.ended done e.remembered e.counted a.line.1)
+          (serves_on _ _ _ _ _ a.line.0 _ _ _ _ _ _ _ _ _ _ c.in-Ok-Some.line h loses takes within e.ended done e.remembered e.counted few a.line.1)
           a.line.2 a.counted,
       sooner (unserved q) _ _ (subst (λ (r : Reader). unserved q < unserved r) m.same (advances c.make_ready.new.reader q _ _ _ _ _ _ _ _ _ _ _ c.in-Ok-Some.line h takes within)) past.1,
     )
