@@ -1,6 +1,6 @@
 //! Documents of the greatest size, and of the greatest numbers of words.
 
-use ct_files::{Evidence, FileFault, read_evidence};
+use ct_files::{Evidence, FieldName, FileFault, read_evidence};
 use std::alloc::{AllocError, Global};
 use std::test::Fail;
 
@@ -20,135 +20,266 @@ fn long_documents(rt: HostRuntime) -> Result<(), Fail> {
     Ok(())
 }
 
-// The text followed by so many copies of the item.
-fn with_items(alloc: Global, text: &str, count: usize, item: &str) -> Result<String, AllocError> {
-    let mut text = String::from_str(alloc, text)?;
+// The starts of documents.
+const WORDS: &str = "kind = 'words'\nn = 1\nd = 3\nwords = [";
+
+const COSETS: &str = "kind = 'cosets'\nn = 1\nd = 3\nbasis = [";
+
+const REPRESENTATIVES: &str = "]\nrepresentatives = [";
+
+const PARTITION: &str = "kind = 'partition'\nn = 1\nd = 3\nd1 = 1\nclasses = [";
+
+const PRODUCT: &str = "kind = 'product'\nn = 8\nd = 4\npairs = [";
+
+// A document: its start, so many copies of an item, text, so many copies of another item, and its end; and the number of its words,
+// classes or pairs, or its fault.
+type Counted = (
+    &'static str,
+    usize,
+    &'static str,
+    &'static str,
+    usize,
+    &'static str,
+    &'static str,
+    Result<usize, FileFault>,
+);
+
+// The greatest numbers and one more.
+const COUNTED: [Counted; 24] = [
+    // Words of length 1: the count comes after the digits.
+    (WORDS, 16383, "'1',", "'0'", 0, "", "]", Ok(16384)),
+    (
+        WORDS,
+        16384,
+        "'1',",
+        "'0'",
+        0,
+        "",
+        "]",
+        Err(FileFault::Size(16385)),
+    ),
+    (
+        WORDS,
+        16384,
+        "'1',",
+        "'2'",
+        0,
+        "",
+        "]",
+        Err(FileFault::Digits(16384)),
+    ),
+    // Basis words and representatives of length 1: the basis is counted first.
+    (COSETS, 0, "'1',", REPRESENTATIVES, 1, "'0',", "]", Ok(1)),
+    (
+        COSETS,
+        28,
+        "'1',",
+        REPRESENTATIVES,
+        4096,
+        "'0',",
+        "]",
+        Ok(4124),
+    ),
+    (
+        COSETS,
+        29,
+        "'1',",
+        REPRESENTATIVES,
+        1,
+        "'0',",
+        "]",
+        Err(FileFault::Size(29)),
+    ),
+    (
+        COSETS,
+        29,
+        "'1',",
+        REPRESENTATIVES,
+        0,
+        "'0',",
+        "]",
+        Err(FileFault::Size(29)),
+    ),
+    (
+        COSETS,
+        28,
+        "'1',",
+        REPRESENTATIVES,
+        0,
+        "'0',",
+        "]",
+        Err(FileFault::Size(0)),
+    ),
+    (
+        COSETS,
+        28,
+        "'1',",
+        REPRESENTATIVES,
+        4097,
+        "'0',",
+        "]",
+        Err(FileFault::Size(4097)),
+    ),
+    // Classes are counted first, then those without words, then words, and all after the digits.
+    (PARTITION, 4095, "['1'],", "['0']", 0, "", "]", Ok(4096)),
+    (
+        PARTITION,
+        4096,
+        "['1'],",
+        "['0']",
+        0,
+        "",
+        "]",
+        Err(FileFault::Size(4097)),
+    ),
+    (
+        PARTITION,
+        4096,
+        "[],",
+        "['0']",
+        0,
+        "",
+        "]",
+        Err(FileFault::Size(4097)),
+    ),
+    (
+        PARTITION,
+        4095,
+        "['1'],",
+        "[]",
+        0,
+        "",
+        "]",
+        Err(FileFault::Size(0)),
+    ),
+    (
+        PARTITION,
+        4095,
+        "['1', '1', '0', '1'],",
+        "['0', '0', '0', '0']",
+        0,
+        "",
+        "]",
+        Ok(4096),
+    ),
+    (
+        PARTITION,
+        4095,
+        "['1', '1', '0', '1'],",
+        "['0', '0', '0', '0', '0']",
+        0,
+        "",
+        "]",
+        Err(FileFault::Size(16385)),
+    ),
+    (
+        PARTITION,
+        4095,
+        "['1', '1', '0', '1', '1'],",
+        "[]",
+        0,
+        "",
+        "]",
+        Err(FileFault::Size(0)),
+    ),
+    (
+        PARTITION,
+        4096,
+        "['1'],",
+        "['2']",
+        0,
+        "",
+        "]",
+        Err(FileFault::Digits(4096)),
+    ),
+    // Pairs with and without a weight.
+    (PRODUCT, 1, "['a', 'b'],", "]\n", 0, "", "", Ok(1)),
+    (
+        PRODUCT,
+        2,
+        "['a', 'b'],",
+        "]\n",
+        0,
+        "",
+        "",
+        Err(FileFault::Field(FieldName::Pairs)),
+    ),
+    (
+        PRODUCT,
+        29,
+        "['a', 'b'],",
+        "]\n",
+        0,
+        "",
+        "",
+        Err(FileFault::Field(FieldName::Pairs)),
+    ),
+    (PRODUCT, 1, "['a', 'b'],", "]\n", 0, "", "w = 4", Ok(1)),
+    (PRODUCT, 2, "['a', 'b'],", "]\n", 0, "", "w = 4", Ok(2)),
+    (PRODUCT, 29, "['a', 'b'],", "]\n", 0, "", "w = 4", Ok(29)),
+    (
+        PRODUCT,
+        30,
+        "['a', 'b'],",
+        "]\n",
+        0,
+        "",
+        "w = 4",
+        Err(FileFault::Field(FieldName::Pairs)),
+    ),
+];
+
+fn put_items(text: &mut String, count: usize, item: &str) -> Result<(), AllocError> {
     for _ in 0..count {
         text.push_str(item)?;
     }
-    Ok(text)
-}
-
-// The number of words of a document of words.
-fn number_of_words(alloc: Global, bytes: &[u8]) -> Result<usize, FileFault> {
-    match read_evidence(alloc, bytes)? {
-        Evidence::Words { words, .. } => Ok(words.as_slice().len()),
-        _ => Err(FileFault::Kind),
-    }
-}
-
-/// The greatest number of words of length 1, and one more: the count comes after the digits.
-#[test]
-fn numbers_of_words(rt: HostRuntime) -> Result<(), Fail> {
-    let alloc = rt.alloc();
-    let rows = [
-        ("'0'", 16383, Ok(16384)),
-        ("'0'", 16384, Err(FileFault::Size(16385))),
-        ("'2'", 16384, Err(FileFault::Digits(16384))),
-    ];
-    for (last, before, number) in rows {
-        let start = "kind = 'words'\nn = 1\nd = 3\nwords = [";
-        let mut text = with_items(alloc, start, before, "'1',")?;
-        text.push_str(last)?;
-        text.push(']')?;
-        assert!(rt;
-            number_of_words(alloc, text.as_bytes()) == number,
-            "{before} {last}"
-        );
-    }
     Ok(())
 }
 
-/// The greatest numbers of basis words and representatives of length 1, and one more: the basis is counted first.
-#[test]
-fn numbers_of_cosets(rt: HostRuntime) -> Result<(), Fail> {
-    let alloc = rt.alloc();
-    let rows = [
-        (0, 1, None),
-        (28, 4096, None),
-        (29, 1, Some(FileFault::Size(29))),
-        (29, 0, Some(FileFault::Size(29))),
-        (28, 0, Some(FileFault::Size(0))),
-        (28, 4097, Some(FileFault::Size(4097))),
-    ];
-    for (basis, representatives, fault) in rows {
-        let mut text = with_items(
-            alloc,
-            "kind = 'cosets'\nn = 1\nd = 3\nbasis = [",
+// The number of words, classes or pairs of the evidence.
+fn size(evidence: &Evidence) -> usize {
+    match evidence {
+        Evidence::Words { words, .. } => words.as_slice().len(),
+        Evidence::Cosets {
             basis,
-            "'1',",
-        )?;
-        text.push_str("]\nrepresentatives = [")?;
-        let items = with_items(alloc, "", representatives, "'0',")?;
-        text.push_str(items.as_str())?;
-        text.push(']')?;
-        assert!(rt;
-            read_evidence(alloc, text.as_bytes()).err() == fault,
-            "{basis} {representatives}"
-        );
+            representatives,
+            ..
+        } => basis
+            .as_slice()
+            .len()
+            .saturating_add(representatives.as_slice().len()),
+        Evidence::Partition { classes, .. } => classes.as_slice().len(),
+        Evidence::Product { pairs, .. } => pairs.as_slice().len(),
+        _ => 0,
     }
-    Ok(())
 }
 
-/// The greatest numbers of classes and of their words, and one more: classes are counted first, then those without words,
-/// then words, and all after the digits.
-#[test]
-fn numbers_of_classes(rt: HostRuntime) -> Result<(), Fail> {
-    let alloc = rt.alloc();
-    let rows = [
-        (4095, "['1'],", "['0']", None),
-        (4096, "['1'],", "['0']", Some(FileFault::Size(4097))),
-        (4096, "[],", "['0']", Some(FileFault::Size(4097))),
-        (4095, "['1'],", "[]", Some(FileFault::Size(0))),
-        (4095, "['1', '1', '0', '1'],", "['0', '0', '0', '0']", None),
-        (
-            4095,
-            "['1', '1', '0', '1'],",
-            "['0', '0', '0', '0', '0']",
-            Some(FileFault::Size(16385)),
-        ),
-        (
-            4095,
-            "['1', '1', '0', '1', '1'],",
-            "[]",
-            Some(FileFault::Size(0)),
-        ),
-        (4096, "['1'],", "['2']", Some(FileFault::Digits(4096))),
-    ];
-    for (before, class, last, fault) in rows {
-        let start = "kind = 'partition'\nn = 1\nd = 3\nd1 = 1\nclasses = [";
-        let mut text = with_items(alloc, start, before, class)?;
-        text.push_str(last)?;
-        text.push(']')?;
-        assert!(rt;
-            read_evidence(alloc, text.as_bytes()).err() == fault,
-            "{before} {last}"
-        );
-    }
-    Ok(())
+// That of the evidence of the document.
+fn number(alloc: Global, bytes: &[u8]) -> Result<usize, FileFault> {
+    let evidence = read_evidence(alloc, bytes)?;
+    Ok(size(&evidence))
 }
 
-/// The greatest numbers of pairs with and without a weight, and one more.
+// Whether the document has that number, or that fault.
+fn is_counted(alloc: Global, row: Counted) -> Result<bool, AllocError> {
+    let (start, first, item, middle, second, other, end, expected) = row;
+    let mut text = String::from_str(alloc, start)?;
+    put_items(&mut text, first, item)?;
+    text.push_str(middle)?;
+    put_items(&mut text, second, other)?;
+    text.push_str(end)?;
+    Ok(number(alloc, text.as_bytes()) == expected)
+}
+
 #[test]
-fn numbers_of_pairs(rt: HostRuntime) -> Result<(), Fail> {
-    let alloc = rt.alloc();
-    let rows = [
-        ("", 1, true),
-        ("", 2, false),
-        ("", 29, false),
-        ("w = 4", 1, true),
-        ("w = 4", 2, true),
-        ("w = 4", 29, true),
-        ("w = 4", 30, false),
-    ];
-    for (weight, count, taken) in rows {
-        let start = "kind = 'product'\nn = 8\nd = 4\npairs = [";
-        let mut text = with_items(alloc, start, count, "['a', 'b'],")?;
-        text.push_str("]\n")?;
-        text.push_str(weight)?;
+fn numbers(rt: HostRuntime) -> Result<(), Fail> {
+    for row in COUNTED {
         assert!(rt;
-            read_evidence(alloc, text.as_bytes()).is_ok() == taken,
-            "{weight} {count}"
+            is_counted(rt.alloc(), row)?,
+            "{} {} {}",
+            row.0,
+            row.1,
+            row.4
         );
     }
     Ok(())

@@ -2,7 +2,8 @@
 
 use ct_build::Step;
 use ct_codes::Entry;
-use ct_files::{Evidence, FieldName, MAX_DOCUMENT, read_evidence};
+use ct_files::{Evidence, FieldName, FileFault, MAX_DOCUMENT, read_evidence};
+use std::alloc::Global;
 use std::test::Fail;
 
 // Documents of words, and their length, distance, weight and words.
@@ -93,11 +94,23 @@ fn is_words(evidence: &Evidence, n: u32, d: u32, w: Option<u32>, list: &[u32]) -
     }
 }
 
+// Whether the document states these words for this entry.
+fn states_words(
+    alloc: Global,
+    text: &str,
+    n: u32,
+    d: u32,
+    w: Option<u32>,
+    list: &[u32],
+) -> Result<bool, FileFault> {
+    let evidence = read_evidence(alloc, text.as_bytes())?;
+    Ok(is_words(&evidence, n, d, w, list))
+}
+
 #[test]
 fn documents_of_words(rt: HostRuntime) -> Result<(), Fail> {
     for (text, n, d, w, list) in WORDS {
-        let evidence = read_evidence(rt.alloc(), text.as_bytes())?;
-        assert!(rt; is_words(&evidence, n, d, w, list), "{text}");
+        assert!(rt; states_words(rt.alloc(), text, n, d, w, list)?, "{text}");
     }
     Ok(())
 }

@@ -1,6 +1,7 @@
 //! What is written for evidence.
 
 use ct_files::{read_evidence, write_evidence};
+use std::alloc::Global;
 use std::test::Fail;
 
 // A document whose keys stand in another order than they are written in, and what is written for it.
@@ -91,15 +92,24 @@ const WRITTEN: [(&str, &str); 21] = [
     ),
 ];
 
+// What is written for the evidence of the document.
+fn written(alloc: Global, text: &str) -> Result<Vec<u8>, Fail> {
+    let evidence = read_evidence(alloc, text.as_bytes())?;
+    Ok(write_evidence(alloc, &evidence)?)
+}
+
 /// The keys are written in their order; what is written is read and written again.
 #[test]
 fn documents_in_their_order(rt: HostRuntime) -> Result<(), Fail> {
-    let alloc = rt.alloc();
     for (text, expected) in WRITTEN {
-        let bytes = write_evidence(alloc, &read_evidence(alloc, text.as_bytes())?)?;
-        assert!(rt; bytes.as_slice() == expected.as_bytes(), "{text}");
-        let again = write_evidence(alloc, &read_evidence(alloc, &bytes)?)?;
-        assert!(rt; again.as_slice() == expected.as_bytes(), "{text}");
+        assert!(rt;
+            written(rt.alloc(), text)?.as_slice() == expected.as_bytes(),
+            "{text}"
+        );
+        assert!(rt;
+            written(rt.alloc(), expected)?.as_slice() == expected.as_bytes(),
+            "{text}"
+        );
     }
     Ok(())
 }
