@@ -9,3 +9,4 @@ pub mod Rooms
 pub mod PartitionKind
 pub mod ProductKind
 pub mod ProductChecks
+pub mod WrongIds

@@ -40,23 +40,23 @@ pub record ArePaired (e : Entry) (long : ℕ) (a b : Option PartitionValue) : Ty
   pub whole : (unwrap_or a no_partition).entry.n + (unwrap_or b no_partition).entry.n ≡ e.n
   pub weights : IfSome e.w (λ k. added_weights (unwrap_or a no_partition).entry.w (unwrap_or b no_partition).entry.w ≡ Some k)
 
-not-false : (b : Bool) → not b ≡ false → b ≡ true
+pub not-false : (b : Bool) → not b ≡ false → b ≡ true
 not-false true h = refl
 not-false false h = absurd cc
 
-none-parts : (a b : Bool) (i j : List ℕ) → cond a (Some i) (cond b (Some j) None) ≡ None → (a ≡ false) × (b ≡ false)
+pub none-parts : (a b : Bool) (i j : List ℕ) → cond a (Some i) (cond b (Some j) None) ≡ None → (a ≡ false) × (b ≡ false)
 none-parts true b i j h = absurd cc
 none-parts false true i j h = absurd cc
 none-parts false false i j h = (refl, refl)
 
 -- weights that add up
-added : (w v u : Option ℕ) → add_up w v u ≡ true → IfSome w (λ k. added_weights v u ≡ Some k)
+pub added : (w v u : Option ℕ) → add_up w v u ≡ true → IfSome w (λ k. added_weights v u ≡ Some k)
 added None v u h = tt
 added (Some w) None u h = absurd cc
 added (Some w) (Some v) None h = absurd cc
 added (Some w) (Some v) (Some u) h = ap Some (eqb-true (v + u) w h)
 
-added-from : (w v u : Option ℕ) → IfSome w (λ k. added_weights v u ≡ Some k) → add_up w v u ≡ true
+pub added-from : (w v u : Option ℕ) → IfSome w (λ k. added_weights v u ≡ Some k) → add_up w v u ≡ true
 added-from None v u h = refl
 added-from (Some w) None u h = absurd cc
 added-from (Some w) (Some v) None h = absurd cc

@@ -8,3 +8,4 @@ pub mod Written
 pub mod PartitionKind
 pub mod ProductKind
 pub mod PartitionFaultText
+pub mod ProductRefusal

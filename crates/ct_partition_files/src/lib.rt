@@ -8,9 +8,11 @@ mod partition_fault_text;
 pub mod partition_kind;
 mod product;
 pub mod product_kind;
+mod product_laws;
 mod written;
 
 pub use partition::partition_evidence;
 pub use partition_fault_text::put_partition_fault;
 pub use product::product_evidence;
+pub use product_laws::wrong_ids_of_products;
 pub use written::{partition_table, product_table};

@@ -1,0 +1,40 @@
+-- Which id of a product is wrong, without the steps by which it is found.
+use Rattle.std.specs.Prelude.{◌≡◌, ◌⊎◌, ℕ, ◌+◌, List, ◌∷◌, ◌++◌, All, Option, Some, None, IfSome, IsSome}
+use Rattle.ct_codes.specs.declared.entry.Entry.{Entry}
+use Rattle.ct_constructions.specs.Juxtaposed.{added_weights}
+use Rattle.ct_partitions.specs.Partition.{PartitionValue}
+use Rattle.ct_kind.specs.Named.{NamedCode, partition_named}
+use Rattle.ct_partition_files.specs.ProductKind.{Ids, factor_named, first_length}
+
+-- a first id is right: its piece is a partition of this length, which has a weight where one is stated
+abbrev pub IsRightFirst : Option ℕ → ℕ → Option PartitionValue → Type 0
+IsRightFirst w long None = ⊥
+IsRightFirst w long (Some x) = (x.entry.n ≡ long) × IfSome w (λ k. IsSome x.entry.w)
+
+-- a second id is right beside a first partition: its piece is a partition, both lengths add up to that of the entry, and both weights to the stated one
+abbrev pub IsRightSecond : Entry → PartitionValue → Option PartitionValue → Type 0
+IsRightSecond e x None = ⊥
+IsRightSecond e x (Some y) = (x.entry.n + y.entry.n ≡ e.n) × IfSome e.w (λ k. added_weights x.entry.w y.entry.w ≡ Some k)
+
+-- both ids of a pair are right
+abbrev pub IsRightPair : Entry → ℕ → List NamedCode → Ids → Type 0
+IsRightPair e long known p = IsRightFirst e.w long (partition_named p.0 known) × IsRightSecond e (factor_named known p.0) (partition_named p.1 known)
+
+-- this id of a pair is the first that is wrong: its first id, or else its second
+abbrev pub IsWrongOf : Entry → ℕ → List NamedCode → Ids → List ℕ → Type 0
+IsWrongOf e long known p id =
+    (¬ (IsRightFirst e.w long (partition_named p.0 known)) × (id ≡ p.0))
+    ⊎ (IsRightFirst e.w long (partition_named p.0 known) × ¬ (IsRightSecond e (factor_named known p.0) (partition_named p.1 known)) × (id ≡ p.1))
+
+-- this id is the first of the pairs that is wrong, where the first partitions are to have this length: both ids of each pair before are right
+pub record IsFirstWrongAt (e : Entry) (long : ℕ) (known : List NamedCode) (pairs : List Ids) (id : List ℕ) : Type 0 where
+  pub before : List Ids
+  pub pair : Ids
+  pub after : List Ids
+  pub split : pairs ≡ before ++ pair ∷ after
+  pub right : All (IsRightPair e long known) before
+  pub wrong : IsWrongOf e long known pair id
+
+-- this id is the first that is wrong: the first partitions are to have the length of that of the first pair
+abbrev pub IsFirstWrong : Entry → List NamedCode → List Ids → List ℕ → Type 0
+IsFirstWrong e known pairs id = IsFirstWrongAt e (first_length known pairs) known pairs id
