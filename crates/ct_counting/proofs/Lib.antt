@@ -17,7 +17,6 @@ pub mod PartTotals
 pub mod Characters
 pub mod Choices
 pub mod Matchings
-pub mod PascalRows
 pub mod PairLists
 pub mod PlaceKinds
 pub mod KindMatchings

@@ -10,7 +10,7 @@ use Rattle.ct_counting.specs.Binomials.{choose, factorial}
 use Rattle.ct_counting.proofs.Alternating.{total_below-bounded, unsigned_abs-signed}
 use Rattle.ct_counting.proofs.Binomials.{one-le-factorial, choose_past, choose-suc}
 use Rattle.ct_counting.proofs.Matchings.{matchings, matchings-product-le}
-use Rattle.ct_counting.proofs.PascalRows.{matchings-small}
+use Rattle.ct_words.proofs.MatchingSizes.{matchings-small}
 use Rattle.ct_counting.proofs.ZeroTerms.{total_below-zeros, total_below-past}
 use Rattle.ct_words.specs.declared.limits.TheConstants.{MAX_N}
 use Rattle.ct_scheme.specs.Numbers.{term_count}

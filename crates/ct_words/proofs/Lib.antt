@@ -8,3 +8,4 @@ pub mod PairProducts
 pub mod AllWords
 pub mod DigitValues
 pub mod PascalRows
+pub mod MatchingSizes

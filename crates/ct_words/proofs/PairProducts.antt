@@ -12,7 +12,7 @@ use Rattle.ct_counting.proofs.Binomials.{one-le-factorial}
 use Rattle.ct_counting.proofs.PairTotals.{total-squares, pair_total-congruence_within, pair_total-scale}
 use Rattle.ct_counting.proofs.PairLists.{product-mul, total-pair_lists}
 use Rattle.ct_counting.proofs.Matchings.{signed_matchings, signed_matchings-le}
-use Rattle.ct_counting.proofs.PascalRows.{matchings-small}
+use Rattle.ct_words.proofs.MatchingSizes.{matchings-small}
 use Rattle.ct_counting.proofs.PlaceKinds.{weight_of_kinds, count, pair_list_total-by_kinds}
 use Rattle.ct_counting.proofs.KindMatchings.{orders, by_kinds-matchings}
 use Rattle.ct_words.specs.declared.limits.TheConstants.{MAX_N}
