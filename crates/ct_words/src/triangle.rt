@@ -1,7 +1,9 @@
 //! Tables of binomial coefficients and of the sizes of balls, as far as the table of bounds needs them.
 
+use crate::limits::MAX_N;
+
 /// How many rows a table has, from row 0 on, and how many numbers each row.
-pub(crate) const ROWS: usize = 31;
+pub(crate) const ROWS: usize = MAX_N as usize + 1;
 
 /// Row n has at place k the binomial coefficient of n over k, which is 0 where k is above n.
 pub(crate) static BINOMIALS: [[u32; ROWS]; ROWS] = [
