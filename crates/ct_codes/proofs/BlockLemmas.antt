@@ -124,7 +124,7 @@ first_or_none-join test low mid high None order before after = none_passes-join 
 first_or_none-join test low mid high (Some k) order before first = first-join test low mid high k order before first
 
 -- the sums of the parts are few
-pub span-small : (rows block steps basis : List ℕ) → AreParts rows block steps basis → length steps * 64 ≤ 268435456
+pub span-small : (rows block steps basis : List ℕ) → AreParts rows block steps basis → length steps * 64 ≤ 2 ^ MAX_N
 span-small rows block steps basis parts =
     let long = steps_long rows block steps basis parts in
     let short = parts.size.1 in

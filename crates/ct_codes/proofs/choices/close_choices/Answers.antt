@@ -2,6 +2,7 @@ use Rattle.std.proofs.Common.{◌≡◌, ◌∙◌, sym, ap, ℕ, ◌*◌, ◌%�
 use Rattle.std.proofs.Math.Facts.{Fits-lt-pow}
 use Rattle.std.proofs.lemmas.Nat.{one_shl}
 use Rattle.std.proofs.lemmas.List.Elements.{All-from_get_or}
+use Rattle.ct_words.specs.declared.limits.TheConstants.{MAX_N}
 use Rattle.ct_words.specs.Word.{distance}
 use Rattle.ct_codes.proofs.PairLemmas.{close_any_length, shifted-none_before, shifted-row_found, shifted-end}
 use Rattle.ct_codes.proofs.SpanLemmas.{length-coset_list}
@@ -9,7 +10,7 @@ use Rattle.ct_codes.proofs.CosetLemmas.{row-within, rows-of_choices}
 use Rattle.ct_codes.proofs.choices.close_choices.Goals as goal
 
 -- the number of choices of a representative
-span_is : (k : ℕ) → k ≤ 28 → 1 * 2 ^ k % 18446744073709551616 ≡ 2 ^ k
+span_is : (k : ℕ) → k ≤ MAX_N → 1 * 2 ^ k % 18446744073709551616 ≡ 2 ^ k
 span_is k few = one_shl k 64 (omega arith)
 
 pub overflow_mul-first : goal.overflow_mul-first

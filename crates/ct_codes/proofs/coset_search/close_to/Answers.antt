@@ -3,6 +3,8 @@ use Rattle.std.specs.Int.Bits.{xor_self}
 use Rattle.std.proofs.Math.Facts.{Fits-lt-pow}
 use Rattle.std.proofs.Math.Nat.{mul-le-mul_right}
 use Rattle.std.proofs.lemmas.List.Elements.{All-from_get_or}
+use Rattle.ct_words.specs.declared.limits.TheConstants.{MAX_N}
+use Rattle.ct_codes.specs.declared.fault.TheConstants.{MAX_REPRESENTATIVES}
 use Rattle.ct_codes.specs.Coset.{choice_count}
 use Rattle.ct_codes.specs.Inside.First.{NonePasses, IsFirst}
 use Rattle.ct_codes.specs.Inside.Span.{AreParts, is_close_sum, is_close_choice}
@@ -15,10 +17,10 @@ overflow_mul-span c =
     record { fits = omega arith }
 
 -- the number of a choice
-row-small : (rows block steps basis : List ℕ) (b r : ℕ) → AreParts rows block steps basis → b < r → r ≤ 4096 → b * (length steps * 64) ≤ 1099511627776
+row-small : (rows block steps basis : List ℕ) (b r : ℕ) → AreParts rows block steps basis → b < r → r ≤ MAX_REPRESENTATIVES → b * (length steps * 64) ≤ MAX_REPRESENTATIVES * 2 ^ MAX_N
 row-small rows block steps basis b r parts within few =
     let small = span-small rows block steps basis parts in
-    let most : b * (length steps * 64) ≤ 4096 * (length steps * 64) = mul-le-mul_right (length steps * 64) (omega arith) in
+    let most : b * (length steps * 64) ≤ MAX_REPRESENTATIVES * (length steps * 64) = mul-le-mul_right (length steps * 64) (omega arith) in
     omega arith
 
 pub overflow_mul-result : goal.overflow_mul-result

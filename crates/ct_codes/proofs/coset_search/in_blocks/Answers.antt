@@ -2,7 +2,9 @@ use Rattle.std.proofs.Common.{◌≡◌, ◌∙◌, sym, subst, ap, ap₂, ℕ, 
 use Rattle.std.proofs.Math.Facts.{Fits-lt-pow}
 use Rattle.std.proofs.Math.Nat.{mul-le-mul_right}
 use Rattle.std.proofs.lemmas.List.Elements.{All-from_get_or}
+use Rattle.ct_words.specs.declared.limits.TheConstants.{MAX_N}
 use Rattle.ct_words.specs.Word.{distance}
+use Rattle.ct_codes.specs.declared.fault.TheConstants.{MAX_REPRESENTATIVES}
 use Rattle.ct_codes.specs.Coset.{coset_list}
 use Rattle.ct_codes.specs.Inside.First.{NonePasses, IsFirst}
 use Rattle.ct_codes.specs.Inside.Span.{AreParts, is_close_choice}
@@ -13,10 +15,10 @@ use Rattle.ct_codes.proofs.BlockLemmas.{steps_long, span-small, position-first, 
 use Rattle.ct_codes.proofs.coset_search.in_blocks.Goals as goal
 
 -- the number of a representative alone
-row-small : (rows block steps basis : List ℕ) (b r : ℕ) → AreParts rows block steps basis → b < r → r ≤ 4096 → b * length steps * 64 ≤ 1099511627776
+row-small : (rows block steps basis : List ℕ) (b r : ℕ) → AreParts rows block steps basis → b < r → r ≤ MAX_REPRESENTATIVES → b * length steps * 64 ≤ MAX_REPRESENTATIVES * 2 ^ MAX_N
 row-small rows block steps basis b r parts within few =
     let small = span-small rows block steps basis parts in
-    let most : b * (length steps * 64) ≤ 4096 * (length steps * 64) = mul-le-mul_right (length steps * 64) (omega arith) in
+    let most : b * (length steps * 64) ≤ MAX_REPRESENTATIVES * (length steps * 64) = mul-le-mul_right (length steps * 64) (omega arith) in
     omega arith
 
 pub overflow_mul-result : goal.overflow_mul-result
