@@ -35,14 +35,14 @@ krawtchouk-step n (suc k) i h l =
     ∙ ap₂ (λ z m. ((pos (n - i) -ℤ pos i) *ℤ z) -ℤ (pos m *ℤ signed_binomial i (n - i) k)) (sym (coefficient n (suc k) i)) rest
     ∙ ap (λ z. ((pos (n - i) -ℤ pos i) *ℤ krawtchouk n (suc k) i) -ℤ (pos (n + 1 - suc k) *ℤ z)) (sym (coefficient n k i))
 
--- a number is at most 2^28
-pub krawtchouk-le : (n k i : ℕ) → i ≤ n → n ≤ MAX_N → unsigned_abs (krawtchouk n k i) ≤ 2 ^ 28
+-- a number is at most 2^MAX_N
+pub krawtchouk-le : (n k i : ℕ) → i ≤ n → n ≤ MAX_N → unsigned_abs (krawtchouk n k i) ≤ 2 ^ MAX_N
 krawtchouk-le n k i h short =
     let size = signed_binomial-le_power n k i h in
     let same = ap unsigned_abs (coefficient n k i) in
     let power : 2 ^ n ≤ 2 ^ MAX_N = pow-le-pow_right (omega arith) short in
     omega arith
 
-pub krawtchouk_before-le : (n k i : ℕ) → i ≤ n → n ≤ MAX_N → unsigned_abs (krawtchouk_before n k i) ≤ 2 ^ 28
+pub krawtchouk_before-le : (n k i : ℕ) → i ≤ n → n ≤ MAX_N → unsigned_abs (krawtchouk_before n k i) ≤ 2 ^ MAX_N
 krawtchouk_before-le n zero i h short = omega arith
 krawtchouk_before-le n (suc k) i h short = krawtchouk-le n k i h short

@@ -1,6 +1,6 @@
 //! The Krawtchouk numbers, each from the two before it.
 
-ghost use Rattle.std.specs.Prelude.{◌≡◌, suc, ◌<◌, ◌≤◌, ◌^◌, ℤ, pos, ◌*ℤ◌, unsigned_abs};
+ghost use Rattle.std.specs.Prelude.{◌≡◌, suc, ◌<◌, ◌≤◌, ◌*◌, ◌^◌, ℤ, pos, ◌*ℤ◌, unsigned_abs};
 ghost use Rattle.ct_words.specs.declared.limits.TheConstants.{MAX_N};
 ghost use Rattle.ct_codes.specs.Numbers.{krawtchouk};
 ghost use Rattle.ct_krawtchouk.specs.Krawtchouk.{krawtchouk_before};
@@ -40,10 +40,10 @@ fn next_number(n: u32, k: u32, i: u32, number: i64, before: i64) -> i64
 
 /// The product of a factor of the recurrence and a Krawtchouk number.
 fn product(factor: i64, number: i64) -> i64
-    requires factor { unsigned_abs factor ≤ 2 ^ 5 }
-    requires number { unsigned_abs number ≤ 2 ^ 28 }
+    requires factor { unsigned_abs factor ≤ suc MAX_N }
+    requires number { unsigned_abs number ≤ 2 ^ MAX_N }
     ensures value { result ≡ factor *ℤ number }
-    ensures small { unsigned_abs result ≤ 2 ^ 33 }
+    ensures small { unsigned_abs result ≤ suc MAX_N * 2 ^ MAX_N }
 {
     factor * number
 }
