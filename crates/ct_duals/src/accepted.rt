@@ -1,5 +1,5 @@
 //! Accepted duals and their bounds.
-ghost use Rattle.std.specs.Prelude.{◌≡◌, ◌+◌, ◌*◌, ◌/◌, ◌≤◌, ◌<◌, ◌^◌, min, pos, ◌+ℤ◌, ◌≤ℤ◌, length, unsigned_abs, IfOk};
+ghost use Rattle.std.specs.Prelude.{◌≡◌, ◌+◌, ◌*◌, ◌/◌, ◌≤◌, ◌<◌, ◌^◌, min, pos, ◌+ℤ◌, ◌≤ℤ◌, length, suc, unsigned_abs, IfOk};
 ghost use Rattle.ct_words.specs.declared.limits.TheConstants.{MAX_BOUND, MAX_N};
 ghost use Rattle.ct_codes.specs.Code.{IsTrueUpper};
 ghost use Rattle.ct_duals.specs.Bound.{AcceptedValue, IsAccepted, AreTrueUppers, dual_bound, dual_premises, positive, charges, near_charge, far_charge, is_far, natural};
@@ -55,7 +55,7 @@ impl<'a> Accepted<'a> {
 
     /// The bound of the dual from one upper bound for each index where more than 0 is allowed, in ascending order: the
     /// least of `MAX_BOUND` and ⌊(f(0) + S + T)/c_0⌋. Where the upper bounds are true, no code of the entry is larger; one that
-    /// is missing counts as 0. It takes no memory, and every sum fits: a product is below 2^95, and there are at most 28 of them.
+    /// is missing counts as 0. It takes no memory, and every sum fits: a product is below 2^95, and there are at most `MAX_N` of them.
     #[tactic(auto, unfolding(crate::specs::Bound::dual_bound))]
     pub fn bound(&self, uppers: &[u32]) -> u32
         ensures value { result ≡ dual_bound self.now.dual self.now.at_zero uppers.now }
@@ -76,7 +76,7 @@ fn charge(entry: Entry, y: &[(u32, i64)], uppers: &[u32]) -> u128
     requires distances { entry.d ≤ MAX_N }
     ensures value { result ≡ near_charge entry (charges (positive y.now) uppers.now)
         + far_charge entry (charges (positive y.now) uppers.now) }
-    ensures small { result ≤ 29 * 2 ^ 95 }
+    ensures small { result ≤ suc MAX_N * 2 ^ 95 }
 {
     let mut near: u128 = 0;
     let mut far: u128 = 0;
@@ -118,7 +118,7 @@ fn quotient(at_zero: i128, charge: u128, lead: i64) -> u32
     requires lead { pos 1 ≤ℤ lead }
     requires least { lead ≤ℤ at_zero }
     requires at_zero { unsigned_abs at_zero < 2 ^ 116 }
-    requires charge { charge ≤ 29 * 2 ^ 95 }
+    requires charge { charge ≤ suc MAX_N * 2 ^ 95 }
     ensures value { result ≡ min MAX_BOUND (natural (at_zero +ℤ pos charge) / natural lead) }
     ensures some { 1 ≤ result }
 {

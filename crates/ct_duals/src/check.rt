@@ -1,6 +1,7 @@
 //! The check of a dual.
 ghost use Rattle.std.specs.Prelude.{◌≡◌, ◌≤◌, ◌+◌, ◌+ℤ◌, ◌*ℤ◌, ◌^◌, ◌<◌, suc, length, unsigned_abs, IfOk, Some, None};
 ghost use Rattle.std.specs.Result.{result_err};
+ghost use Rattle.ct_words.specs.declared.limits.TheConstants.{MAX_N};
 ghost use Rattle.ct_codes.specs.Scheme.{IsSmall};
 ghost use Rattle.ct_duals.specs.Dual.{Fits, IsDual, degree_of, combination, allowed};
 ghost use Rattle.ct_duals.specs.Check.{dual_fault, lead_fault, above_fault, fault_at};
@@ -16,7 +17,7 @@ use ct_codes::Scheme;
 ///
 /// The refusals in order: `Lead` where c_0 is 0, and `Above` with the least i of the range where f(i) is above what is
 /// allowed, and both numbers. It takes no memory, and every sum fits: the multipliers are below 2^63, the numbers of a
-/// scheme below 2^47, and there are at most 29 of each.
+/// scheme below 2^47, and there are at most `MAX_N` + 1 of each.
 pub fn check_dual<'a, S: Scheme>(scheme: &S, dual: &'a Dual) -> Result<Accepted<'a>, DualFault>
     requires fits { Fits (S.belongs scheme.now) (S.index scheme.now) (S.degree scheme.now) (S.number scheme.now) dual.now.entry }
     requires form { IsDual dual.now }
@@ -108,7 +109,7 @@ fn allowed(y: &[(u32, i64)], i: u32) -> i64
 fn combination<S: Scheme>(scheme: &S, c: &[i64], i: u32) -> i128
     requires index { i ≤ S.degree scheme.now }
     requires rows { length c.now ≤ suc (S.degree scheme.now) }
-    requires few { length c.now ≤ 29 }
+    requires few { length c.now ≤ suc MAX_N }
     ensures value { result ≡ combination (S.number scheme.now) c.now i }
     ensures small { unsigned_abs result < 2 ^ 116 }
 {
