@@ -1,9 +1,10 @@
 -- The number below a bound at which a function is greatest; the largest sum class.
-use Rattle.std.proofs.Common.{◌≡◌, ℕ, zero, suc, ◌<◌, ◌≤◌, Bool, true, false, nat_lt, if◌then◌else◌, List, length, refl, sym, ap, ◌∙◌, inl, inr, ◌⊎◌, ◌+◌, ◌^◌, Some, set, length-set, get_or-set_other, arith, ltb-true, ltb-false}
+use Rattle.std.proofs.Common.{◌≡◌, ℕ, zero, suc, ◌<◌, ◌≤◌, Bool, true, false, nat_lt, if◌then◌else◌, List, length, refl, sym, ap, ◌∙◌, inl, inr, ◌⊎◌, ◌+◌, Some, set, length-set, get_or-set_other, arith, ltb-true, ltb-false}
 use Rattle.std.specs.Prelude.{slice_get, slice_index}
 use Rattle.std.proofs.lemmas.Grind.{get_or-set_at}
 use Rattle.std.proofs.lemmas.Option.{slice_get-get_or}
 use Rattle.std.proofs.lemmas.Bool.{cases_eq}
+use Rattle.ct_words.specs.declared.limits.TheConstants.{MAX_N, MAX_BOUND}
 use Rattle.ct_sum_classes.specs.SumClass.{sum_class, greatest_below, largest_class}
 use Rattle.ct_sum_classes.specs.Inside.Sizes.{IsRow}
 use Rattle.ct_sum_classes.proofs.SizeLemmas.{size-le, size-is}
@@ -71,8 +72,8 @@ pub largest_class-most : (n w r : ℕ) → r < n → length (sum_class n w r) �
 unfolding largest_class
 largest_class-most n w r within = greatest_below-most (λ s. length (sum_class n w s)) n r within
 
--- a class has at most as many as there are words of length 28
-pub sum_class-few : (n w r : ℕ) → n ≤ 28 → length (sum_class n w r) ≤ 2 ^ 28
+-- a class has at most as many as there are words of the greatest length
+pub sum_class-few : (n w r : ℕ) → n ≤ MAX_N → length (sum_class n w r) ≤ MAX_BOUND
 sum_class-few n w r few = let same = size-is n w r in let most = size-le n n w r few in omega arith
 
 -- in a row of sizes the first of the greatest is that of the largest class

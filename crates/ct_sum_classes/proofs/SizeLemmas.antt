@@ -10,6 +10,7 @@ use Rattle.ct_counting.proofs.Sums.{sum_by-congruence, sum_by-zero}
 use Rattle.ct_words.specs.Word.{digit, weight}
 use Rattle.ct_words.specs.Text.{tabulate}
 use Rattle.ct_words.specs.Characters.{words_of_length}
+use Rattle.ct_words.specs.declared.limits.TheConstants.{MAX_N, MAX_BOUND}
 use Rattle.ct_words.proofs.TextLemmas.{length-tabulate}
 use Rattle.ct_words.proofs.WordLemmas.{last_digit, digit_half}
 use Rattle.ct_constructions.specs.Joined.{followed_by}
@@ -137,11 +138,11 @@ unfolding weight place_sum
 size-empty_more n k s = ap (λ b. 0 + cond {A = ℕ} (b && 0 % n == s) 1 0) (ne_eqb 0 (suc k) (λ e. omega arith))
 
 -- there are at most as many as words
-pub size-le : (n m k s : ℕ) → m ≤ 28 → size_of n m k s ≤ 2 ^ 28
+pub size-le : (n m k s : ℕ) → m ≤ MAX_N → size_of n m k s ≤ MAX_BOUND
 size-le n m k s few =
     let most = count_by-le-length (λ x. weight m x == k && place_sum m x % n == s) (words_of_length m) in
     let long = length-tabulate (λ x. x) (2 ^ m) in
-    let powers : 2 ^ m ≤ 2 ^ 28 = pow-le-pow_right (omega arith) few in
+    let powers : 2 ^ m ≤ MAX_BOUND = pow-le-pow_right (omega arith) few in
     omega arith
 
 -- and these are the words of the class
@@ -165,7 +166,7 @@ pub first_row-next : (n m : ℕ) (row : List ℕ) → IsRow n m 0 row → IsRow 
 first_row-next n m row is = λ s within. is s within ∙ sym (size-none_more n m s)
 
 -- a row of sizes is low
-pub row-low : (n m k : ℕ) (row : List ℕ) → m ≤ 28 → IsRow n m k row → IsLow n row
+pub row-low : (n m k : ℕ) (row : List ℕ) → m ≤ MAX_N → IsRow n m k row → IsLow n row
 row-low n m k row few is = λ s within. let same = is s within in let most = size-le n m k s few in omega arith
 
 -- what holds of an item that is not written still holds

@@ -1,7 +1,8 @@
 -- How many subsets of the first numbers there are, by how many elements they have and by the sum of these.
-use Rattle.std.specs.Prelude.{◌≡◌, ℕ, ◌%◌, ◌^◌, ◌<◌, ◌≤◌, ◌==◌, ◌&&◌, List, [], slice_index, count_by}
+use Rattle.std.specs.Prelude.{◌≡◌, ℕ, ◌%◌, ◌<◌, ◌≤◌, ◌==◌, ◌&&◌, List, [], slice_index, count_by}
 use Rattle.std.proofs.Common.{get_or}
 use Rattle.ct_words.specs.Word.{weight}
+use Rattle.ct_words.specs.declared.limits.TheConstants.{MAX_BOUND}
 use Rattle.ct_words.specs.Characters.{words_of_length}
 use Rattle.ct_sum_classes.specs.SumClass.{place_sum}
 
@@ -17,6 +18,6 @@ IsRow n m k row = (s : ℕ) → s < n → slice_index row s ≡ size_of n m k s
 abbrev pub IsTable : ℕ → ℕ → ℕ → List (List ℕ) → Type 0
 IsTable n m w table = (k : ℕ) → k ≤ w → IsRow n m k (get_or table k [])
 
--- no number of the row is above 2^28
+-- no number of the row is above the greatest bound
 abbrev pub IsLow : ℕ → List ℕ → Type 0
-IsLow n row = (s : ℕ) → s < n → slice_index row s ≤ 2 ^ 28
+IsLow n row = (s : ℕ) → s < n → slice_index row s ≤ MAX_BOUND
