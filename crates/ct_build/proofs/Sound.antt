@@ -1,7 +1,6 @@
 -- When a list of words is the value of a code.
-use Rattle.std.proofs.Common.{◌≡◌, ℕ, ◌^◌, ◌<◌, ◌≤◌, List, get_or, Option, Some, None, IfSome, All, arith, pow_mono}
+use Rattle.std.proofs.Common.{◌≡◌, ℕ, ◌≤◌, List, get_or, Option, Some, None, IfSome, All, arith}
 use Rattle.std.specs.Option.{ForSome}
-use Rattle.std.proofs.lemmas.List.Elements.{All-weaker}
 use Rattle.ct_words.specs.declared.limits.TheConstants.{MAX_N}
 use Rattle.ct_words.specs.Word.{weight}
 use Rattle.ct_words.proofs.WordLemmas.{weight-le}
@@ -24,11 +23,6 @@ weight_within c sound = go c.w sound.code.weights
         let few = weight-le c.n (get_or c.words 0 0) in
         let same : v ≡ k = cc in
         omega arith
-
--- the words of a code that is not of the greatest length have one digit less than the longest
-pub words_below : (c : CodeValue) → IsSoundCode c → c.n < MAX_N → All (λ x. x < 2 ^ 27) c.words
-words_below c sound short =
-    All-weaker (λ x. x < 2 ^ c.n) (λ x. x < 2 ^ 27) (λ x h. let more = pow_mono {i = c.n} {j = 27} (omega arith) in omega arith) c.words sound.code.lengths
 
 -- so it is at most the greatest length
 pub weight_limit : (c : CodeValue) → IsSoundCode c → ForSome c.w (λ k. k ≤ MAX_N)

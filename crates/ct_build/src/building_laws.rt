@@ -115,6 +115,6 @@ pub fn known_reasons()
     ensures few { early_fault (Trim 3) (unrestricted 26 3)
         (record { n = 26; d = 3; w = None; size = 2 }) None ≡ Some (Few 2 3) }
     ensures most_places { early_fault (Puncture (0 ∷ 1 ∷ 2 ∷ 3 ∷ 4 ∷ 5 ∷ 6 ∷ 7 ∷ 8 ∷ 9 ∷ 10 ∷ 11 ∷ 12 ∷ 13 ∷ 14 ∷ 15 ∷ 16 ∷ 17 ∷
-        18 ∷ 19 ∷ 20 ∷ 21 ∷ 22 ∷ 23 ∷ 24 ∷ 25 ∷ 26 ∷ [])) (unrestricted 1 3)
-        (record { n = 28; d = 28; w = None; size = 2 }) None ≡ Some (Short 1 3) }
+        18 ∷ 19 ∷ 20 ∷ 21 ∷ 22 ∷ 23 ∷ 24 ∷ 25 ∷ 26 ∷ 27 ∷ 28 ∷ [])) (unrestricted 1 3)
+        (record { n = 30; d = 30; w = None; size = 2 }) None ≡ Some (Short 1 3) }
 {}
