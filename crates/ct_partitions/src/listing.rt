@@ -85,7 +85,7 @@ fn append_class(
     m: u32,
 ) -> Result<(), AllocError>
     requires length { m ≤ MAX_N }
-    requires first { All (λ x. x < 2 ^ (28 - m)) first.now }
+    requires first { All (λ x. x < 2 ^ (MAX_N - m)) first.now }
     requires second { All (λ y. y < 2 ^ m) second.now }
     ensures { OnOk result (words.new.items ≡ words.old.items ++ all_followed m first.now second.now) }
 {
@@ -98,7 +98,7 @@ fn append_class(
 /// Puts the word at the end, followed by each word of the list, of length m.
 fn append_word(words: &mut Vec<Word>, x: Word, second: &[Word], m: u32) -> Result<(), AllocError>
     requires length { m ≤ MAX_N }
-    requires word { x < 2 ^ (28 - m) }
+    requires word { x < 2 ^ (MAX_N - m) }
     requires second { All (λ y. y < 2 ^ m) second.now }
     ensures { OnOk result (words.new.items ≡ words.old.items ++ map (λ y. followed_by m x y) second.now) }
 {

@@ -1,6 +1,7 @@
 //! Products of partitions: their distance, their size and their words.
 
-ghost use Rattle.std.specs.Prelude.{◌≡◌, ◌+◌, ◌*◌, ◌^◌, ◌<◌, ◌≤◌, min, length};
+ghost use Rattle.std.specs.Prelude.{◌≡◌, ◌+◌, ◌*◌, ◌^◌, ◌<◌, ◌≤◌, min, suc, length};
+ghost use Rattle.ct_words.specs.declared.limits.TheConstants.{MAX_N};
 ghost use Rattle.ct_partitions.specs.Product.{product, product_size, pair_distance, weight_gap, distances, product_distance, pairs_at, ArePlaces};
 ghost use Rattle.ct_partitions.specs.Inside.Pairs.{nearest_at, weights_apart, size_of_pair};
 
@@ -57,11 +58,11 @@ fn weight_gap(first: &Partition, other: &Partition) -> u32
     2 * v.abs_diff(w)
 }
 
-/// How many words the product of at most 31 pairs of partitions has: the products of the sizes of the i-th classes, added up
+/// How many words the product of at most `MAX_N` + 1 pairs of partitions has: the products of the sizes of the i-th classes, added up
 /// over all pairs and classes. It takes no memory.
 pub fn product_size(parts: &[Partition], pairs: &[(u32, u32)]) -> u64
     requires places { ArePlaces (length parts.now) pairs.now }
-    requires few { length pairs.now ≤ 31 }
+    requires few { length pairs.now ≤ suc MAX_N }
     ensures { result ≡ product_size (pairs_at parts.now pairs.now) }
 {
     let mut size: u64 = 0;

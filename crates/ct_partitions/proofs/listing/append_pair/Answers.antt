@@ -1,5 +1,6 @@
 use Rattle.std.proofs.Common.{◌-◌, ◌^◌, ◌<◌, List, [], ◌++◌, take, get_or, All, ap, ap₂, sym, subst, ◌∙◌, arith, append_assoc}
 use Rattle.std.specs.Prelude.{ℕ}
+use Rattle.ct_words.specs.declared.limits.TheConstants.{MAX_N}
 use Rattle.ct_constructions.proofs.JoinedLemmas.{words_wider}
 use Rattle.ct_partitions.specs.Product.{all_followed, class_products}
 use Rattle.ct_partitions.proofs.ProductLemmas.{class_items, class_count, classes_step, classes_all}
@@ -18,7 +19,7 @@ append_class-requires-clause-first c =
     ∙ class_items c.classes-firsts.result.now k c.index-firsts-class.result cs c.classes-firsts.ensures.value
     (omega arith) c.index-firsts-class.is in
     let code = c.classes-firsts.ensures.sound.partition.classes_are_codes k [] (omega arith) in
-    subst (All (λ (x : ℕ). x < 2 ^ (28 - m))) (sym items) (words_wider n (28 - m) (get_or cs k []) (omega arith) code.lengths)
+    subst (All (λ (x : ℕ). x < 2 ^ (MAX_N - m))) (sym items) (words_wider n (MAX_N - m) (get_or cs k []) (omega arith) code.lengths)
 
 pub append_class-requires-clause-second : goal.append_class-requires-clause-second
 append_class-requires-clause-second c =

@@ -1,5 +1,6 @@
 use Rattle.std.proofs.Common.{◌≡◌, ℕ, ◌-◌, ◌+◌, ◌*◌, ◌%◌, ◌^◌, ◌≤◌, List, [], ◌∷◌, ◌++◌, get_or, map, take, bit_or, sym, ap, ap₂, ◌∙◌, arith, append_assoc}
 use Rattle.std.proofs.lemmas.List.{map_more}
+use Rattle.ct_words.specs.declared.limits.TheConstants.{MAX_N}
 use Rattle.ct_constructions.specs.Joined.{followed_by}
 use Rattle.ct_constructions.proofs.JoinedLemmas.{or-followed_by}
 use Rattle.ct_partitions.proofs.listing.append_word.Goals as goal
@@ -12,9 +13,9 @@ loop-y-preserved c =
     let i = c.loop-y.y-index in
     let y = get_or ys i 0 in
     let f : ℕ → ℕ = λ z. followed_by m x z in
-    let room : 28 - m + m ≤ 32 = let few = c.requires.length in omega arith in
+    let room : MAX_N - m + m ≤ 32 = let few = c.requires.length in omega arith in
     let pushed : bit_or (x * 2 ^ m % 2 ^ 32) y ≡ f y =
-    or-followed_by (28 - m) m x y c.requires.word (c.requires.second i 0 c.loop-y-test.true) room in
+    or-followed_by (MAX_N - m) m x y c.requires.word (c.requires.second i 0 c.loop-y-test.true) room in
     c.in_ok-push.ensures.items
     ∙ ap₂ (λ (ws : List ℕ) (w : ℕ). ws ++ w ∷ []) c.loop-y.invariant pushed
     ∙ append_assoc c.args.words.now.items (map f (take i ys)) (f y ∷ [])
