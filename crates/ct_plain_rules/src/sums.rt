@@ -68,8 +68,8 @@ pub fn known_sums()
     ensures far { sums.number (unrestricted 16 8) (16 ∷ 2 ∷ []) ≡ Some 32 }
     ensures at_five { sums.number (unrestricted 6 5) (2 ∷ 1 ∷ []) ≡ Some 2 }
     ensures greatest { within_limit Lower (sums.number (unrestricted MAX_N 6) (MAX_BOUND / 2 ∷ 2 ∷ [])) ≡ Some MAX_BOUND }
-    // 17 · 15,790,321 is 2^28 + 1.
-    ensures above { within_limit Lower (sums.number (unrestricted 28 6) (17 ∷ 15790321 ∷ [])) ≡ None }
+    // 25 · 42,949,673 is 2^30 + 1.
+    ensures above { within_limit Lower (sums.number (unrestricted 30 6) (25 ∷ 42949673 ∷ [])) ≡ None }
     ensures far_above { within_limit Lower (sums.number (unrestricted MAX_N 6) (MAX_BOUND / 2 ∷ 4 ∷ [])) ≡ None }
     ensures odd_length { is_defined sums (unrestricted 7 4) ≡ false }
     ensures within { is_defined sums (unrestricted 8 6) ≡ true }
