@@ -34,7 +34,7 @@ pub fn known_averaging()
     ensures least { is_defined (averaging 1) (unrestricted 1 4) ≡ true }
     ensures least_value { (averaging 1).number (unrestricted 1 4) (1 ∷ []) ≡ Some 1 }
     ensures greatest { is_defined (averaging MAX_N) (unrestricted MAX_N MAX_N) ≡ true }
-    ensures above { (averaging 0).number (unrestricted 28 4) (4 ∷ []) ≡ Some 536870912 }
+    ensures above { (averaging 0).number (unrestricted 30 4) (4 ∷ []) ≡ Some 2147483648 }
     ensures of_weight { is_defined (averaging 4) (constant_weight 8 4 4) ≡ false }
     ensures no_entry { is_defined (averaging 4) (unrestricted (MAX_N + 1) 4) ≡ false }
     ensures rested_on_by { (averaging 4).rested_on_by (constant_weight 8 4 4) ≡ unrestricted 8 4 ∷ [] }

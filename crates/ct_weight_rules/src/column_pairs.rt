@@ -26,7 +26,7 @@ pub fn known_column_pairs()
     ensures rests_on { column_pairs.rests_on (constant_weight 7 4 3) ≡ [] }
     ensures value { column_pairs.number (constant_weight 7 4 3) [] ≡ Some 7 }
     ensures of_twelve { column_pairs.number (constant_weight 12 6 4) [] ≡ Some 9 }
-    ensures many { column_pairs.number (constant_weight 28 14 13) [] ≡ Some 196 }
+    ensures many { column_pairs.number (constant_weight 30 14 11) [] ≡ Some 210 }
     ensures first_fails { column_pairs.number (constant_weight 8 8 3) [] ≡ None }
     ensures least_weight { column_pairs.number (constant_weight 8 8 4) [] ≡ Some 2 }
     ensures one_word { column_pairs.number (constant_weight 5 6 3) [] ≡ Some 1 }

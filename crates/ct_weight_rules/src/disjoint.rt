@@ -36,7 +36,7 @@ pub fn known_disjoint()
     ensures below_last_value { disjoint_below.number (constant_weight MAX_N MAX_N (MAX_N / 2)) [] ≡ Some 2 }
     ensures below_rests_on { disjoint_below.rests_on (constant_weight 13 6 3) ≡ [] }
     ensures below_value { disjoint_below.number (constant_weight 13 6 3) [] ≡ Some 4 }
-    ensures below_many { disjoint_below.number (constant_weight 28 4 2) [] ≡ Some 14 }
+    ensures below_many { disjoint_below.number (constant_weight MAX_N 4 2) [] ≡ Some (MAX_N / 2) }
     ensures below_light { is_defined disjoint_below (constant_weight 13 6 2) ≡ false }
     ensures below_heavy { is_defined disjoint_below (constant_weight 13 6 4) ≡ false }
     ensures below_long_word { is_defined disjoint_below (constant_weight 2 6 3) ≡ false }
@@ -48,7 +48,7 @@ pub fn known_disjoint()
     ensures above_last_value { disjoint_above.number (constant_weight MAX_N MAX_N (MAX_N / 2)) [] ≡ Some 2 }
     ensures above_rests_on { disjoint_above.rests_on (constant_weight 13 6 3) ≡ [] }
     ensures above_value { disjoint_above.number (constant_weight 13 6 3) [] ≡ Some 4 }
-    ensures above_many { disjoint_above.number (constant_weight 28 4 2) [] ≡ Some 14 }
+    ensures above_many { disjoint_above.number (constant_weight MAX_N 4 2) [] ≡ Some (MAX_N / 2) }
     ensures above_light { is_defined disjoint_above (constant_weight 13 6 2) ≡ false }
     ensures above_heavy { is_defined disjoint_above (constant_weight 13 6 4) ≡ false }
     ensures above_long_word { is_defined disjoint_above (constant_weight 2 6 3) ≡ false }
