@@ -82,7 +82,7 @@ length-sorted_side_by_side w k words moved =
 block_value : (w k y : ℕ) → w * suc k ≤ MAX_N → y ≡ all_ones w → y * 2 ^ (w * k) % 4294967296 ≡ followed_by (w * k) (all_ones w) 0
 block_value w k y short is =
     let below = followed_by-lt w (w * k) (all_ones w) 0 (ones_lt w) (pow_pos (w * k)) in
-    let powers = pow_mono {i = w + w * k} {j = 28} (omega arith) in
+    let powers = pow_mono {i = w + w * k} {j = MAX_N} (omega arith) in
     let value = ap (λ z. z * 2 ^ (w * k)) is in
     omega arith
 

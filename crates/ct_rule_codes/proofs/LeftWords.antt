@@ -3,6 +3,7 @@ use Rattle.std.proofs.Common.{◌≡◌, ℕ, ◌*◌, ◌^◌, ◌<◌, ◌≤�
 use Rattle.std.specs.Int.{div_ceil}
 use Rattle.std.proofs.Math.Nat.{mul-le-mul}
 use Rattle.std.proofs.lemmas.Grind.{div_ceil_times}
+use Rattle.ct_words.specs.declared.limits.TheConstants.{MAX_N}
 use Rattle.ct_words.specs.Word.{weight}
 use Rattle.ct_codes.specs.Code.{CodeValue, IsSoundCode}
 use Rattle.ct_codes.proofs.CheckLemmas.{code_size-le}
@@ -14,9 +15,9 @@ pub few_digits : (c : CodeValue) (k : ℕ) → IsSoundCode c → k ≤ c.n → k
 few_digits c k sound few =
     let long = sound.length_in_range.1 in
     let size = code_size-le c.n c.d c.w c.words sound.code in
-    let all = pow_mono {i = c.n} {j = 28} (omega arith) in
-    let small : k ≤ 28 = omega arith in
-    let fewer : length c.words ≤ 2 ^ 28 = omega arith in
+    let all = pow_mono {i = c.n} {j = MAX_N} (omega arith) in
+    let small : k ≤ MAX_N = omega arith in
+    let fewer : length c.words ≤ 2 ^ MAX_N = omega arith in
     let product = mul-le-mul small fewer in
     omega arith
 
