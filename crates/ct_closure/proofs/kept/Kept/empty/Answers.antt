@@ -1,5 +1,6 @@
-use Rattle.std.proofs.Common.{◌≡◌, ◌*◌, ℕ, List, length, replicate, ap, ◌∙◌}
+use Rattle.std.proofs.Common.{◌≡◌, ◌*◌, ◌++◌, ℕ, List, length, replicate, ap, ap₂, ◌∙◌}
 use Rattle.std.proofs.lemmas.List.{length-replicate}
+use Rattle.ct_rules.specs.Derivation.{LineValue}
 use Rattle.ct_closure.specs.Number.{side_size}
 use Rattle.ct_closure.proofs.kept.Kept.empty.Goals as goal
 
@@ -17,3 +18,6 @@ returns-clause-bounds c = all_zeros (2 * side_size) c.in_ok-no_bounds.field-0.it
 
 pub returns-clause-reasons : goal.returns-clause-reasons
 returns-clause-reasons c = all_zeros (2 * side_size) c.in_ok-no_reasons.field-0.items c.in_ok-no_reasons.ensures
+
+pub returns-clause-lines : goal.returns-clause-lines
+returns-clause-lines c = ap₂ (λ (xs ys : List LineValue). xs ++ ys) c.new.ensures.items c.new-2.ensures.items
