@@ -2,6 +2,7 @@
 use Rattle.std.proofs.Common.{◌≡◌, ℕ, ◌≤◌, List, [], ◌∷◌, length, codes, IsTrue, Option, Some, None, IfSome, refl, arith, pos}
 use Rattle.std.specs.Prelude.{◌+◌, ◌*◌}
 use Rattle.toml.specs.Data.{string, integer, Members}
+use Rattle.ct_words.specs.declared.limits.TheConstants.{MAX_N}
 use Rattle.ct_words.specs.Text.{word_text}
 use Rattle.ct_words.proofs.TextLemmas.{length-word_text}
 use Rattle.ct_codes.specs.declared.entry.Entry.{Entry}
@@ -57,19 +58,32 @@ digits-length : (digits : List ℕ) → length (digits_text digits) ≡ length d
 digits-length [] = refl
 digits-length (a ∷ digits) = let rest = digits-length digits in omega (arith, rest)
 
+-- the room of at most MAX_N numbers and of at most MAX_N digits, and of the fields that have them
+abbrev list_room : ℕ
+list_room = 2 + 22 * MAX_N
+
+abbrev text_room : ℕ
+text_room = 2 + MAX_N
+
+abbrev places_room : ℕ
+places_room = 10 + list_room
+
+abbrev step_room : ℕ
+step_room = 10 + text_room + places_room
+
 -- the fields of a step that fits
-places_hold : (places : List ℕ) (ms : Members) (b : ℕ) → length places ≤ 28 → Holds ms b → Holds (put_step (Puncture places) 0 ms) (628 + b)
+places_hold : (places : List ℕ) (ms : Members) (b : ℕ) → length places ≤ MAX_N → Holds ms b → Holds (put_step (Puncture places) 0 ms) (places_room + b)
 places_hold places ms b few h =
     let list = numbers-room places in
-    holds-more _ _ _ (holds-put (codes "places") (number_list places) ms 6 618 b (omega arith) (omega arith) refl (numbers-simple places) (omega (arith, list, few)) h) (omega arith)
+    holds-more _ _ _ (holds-put (codes "places") (number_list places) ms 6 list_room b (omega arith) (omega arith) refl (numbers-simple places) (omega (arith, list, few)) h) (omega arith)
 
-by_holds : (n by : ℕ) (ms : Members) (b : ℕ) → n ≤ 28 → Holds ms b → Holds (put_step (Translate by) n ms) (668 + b)
+by_holds : (n by : ℕ) (ms : Members) (b : ℕ) → n ≤ MAX_N → Holds ms b → Holds (put_step (Translate by) n ms) (step_room + b)
 by_holds n by ms b small h =
     holds-more _ _ _
-    (holds-put (codes "by") (string (word_text n by)) ms 2 30 b (omega arith) (omega arith) refl (word_text-simple n by) (omega (arith, length-word_text n by, small)) h)
+    (holds-put (codes "by") (string (word_text n by)) ms 2 text_room b (omega arith) (omega arith) refl (word_text-simple n by) (omega (arith, length-word_text n by, small)) h)
     (omega arith)
 
-step_holds : (s : Step) (e : Entry) (ms : Members) (b : ℕ) → e.n ≤ 28 → FieldsFit s e → Holds ms b → Holds (put_step s e.n ms) (668 + b)
+step_holds : (s : Step) (e : Entry) (ms : Members) (b : ℕ) → e.n ≤ MAX_N → FieldsFit s e → Holds ms b → Holds (put_step s e.n ms) (step_room + b)
 unfolding FieldsFit
 step_holds Lengthen e ms b small fits h = holds-more _ _ _ h (omega arith)
 step_holds AppendOne e ms b small fits h = holds-more _ _ _ h (omega arith)
@@ -79,10 +93,10 @@ step_holds Uuv e ms b small fits h = holds-more _ _ _ h (omega arith)
 step_holds Juxtapose e ms b small fits h = holds-more _ _ _ h (omega arith)
 step_holds (Puncture places) e ms b small (plain, some, are, within) h = holds-more _ _ _ (places_hold places ms b (omega (arith, within)) h) (omega arith)
 step_holds (Shorten places digits) e ms b small (some, are, within, same, binary) h =
-    let few : length places ≤ 28 = omega (arith, within) in
+    let few : length places ≤ MAX_N = omega (arith, within) in
     let many = digits-length digits in
     holds-more _ _ _
-    (holds-put (codes "digits") (string (digits_text digits)) _ 6 30 (628 + b) (omega arith) (omega arith) refl (characters-bare digits binary) (omega (arith, many, same, few))
+    (holds-put (codes "digits") (string (digits_text digits)) _ 6 text_room (places_room + b) (omega arith) (omega arith) refl (characters-bare digits binary) (omega (arith, many, same, few))
     (places_hold places ms b few h))
     (omega arith)
 step_holds (Translate by) e ms b small fits h = by_holds e.n by ms b small h
