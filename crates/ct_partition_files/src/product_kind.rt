@@ -187,7 +187,7 @@ fn factors<P: Partitions>(
     pairs: &[(Id, Id)],
 ) -> Result<NamedFactors, AllocError>
     requires there { All (λ p. IsSome (partition_named p.0 (P.known pieces.now)) × IsSome (partition_named p.1 (P.known pieces.now))) pairs.now }
-    requires few { length pairs.now ≤ 31 }
+    requires few { length pairs.now ≤ suc MAX_N }
     ensures places { IfOk result (λ f. ArePlaces (length f.parts.items) f.places.items) }
     ensures count { IfOk result (λ f. length f.places.items ≡ length pairs.now) }
     ensures factors { IfOk result (λ f. pairs_at f.parts.items f.places.items ≡ factors_named (P.known pieces.now) pairs.now) }
@@ -206,7 +206,7 @@ fn factors<P: Partitions>(
 /// How many words the product of the pairs has, at most as many as a code of the table.
 fn size_of(named: &NamedFactors) -> u32
     requires places { ArePlaces (length named.now.parts.items) named.now.places.items }
-    requires few { length named.now.places.items ≤ 31 }
+    requires few { length named.now.places.items ≤ suc MAX_N }
     requires small { product_size (pairs_at named.now.parts.items named.now.places.items) ≤ MAX_BOUND }
     ensures { result ≡ product_size (pairs_at named.now.parts.items named.now.places.items) }
 {
@@ -217,7 +217,7 @@ fn size_of(named: &NamedFactors) -> u32
 fn sized(entry: Entry, named: &NamedFactors) -> Result<u32, SubmitFault>
     requires places { ArePlaces (length named.now.parts.items) named.now.places.items }
     requires some { 1 ≤ length named.now.places.items }
-    requires few { length named.now.places.items ≤ 31 }
+    requires few { length named.now.places.items ≤ suc MAX_N }
     requires small { entry.d ≤ product_distance (pairs_at named.now.parts.items named.now.places.items)
         → product_size (pairs_at named.now.parts.items named.now.places.items) ≤ MAX_BOUND }
     ensures size { IfOk result (λ size. size ≡ product_size (pairs_at named.now.parts.items named.now.places.items)) }
