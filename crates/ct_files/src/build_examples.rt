@@ -14,15 +14,15 @@ pub fn builds_are_read()
         ≡ Ok (Build (unrestricted 2 3) Lengthen (codes "base") None) }
     ensures append_one { read_of (build_document (codes "2") (codes "4") (codes "'append_one'") (codes "'base'") (codes "w = 1"))
         ≡ Ok (Build (constant_weight 2 4 1) AppendOne (codes "base") None) }
-    ensures parity { read_of (build_document (codes "28") (codes "28") (codes "'parity'") (codes "'base'") [])
-        ≡ Ok (Build (unrestricted 28 28) Parity (codes "base") None) }
+    ensures parity { read_of (build_document (codes "30") (codes "30") (codes "'parity'") (codes "'base'") [])
+        ≡ Ok (Build (unrestricted 30 30) Parity (codes "base") None) }
     ensures puncture { read_of (build_document (codes "3") (codes "3") (codes "'puncture'") (codes "'base'") (codes "places = [0, 4]"))
         ≡ Ok (Build (unrestricted 3 3) (Puncture (0 ∷ 4 ∷ [])) (codes "base") None) }
     // The most places that can be left out.
     ensures most_places { read_of (build_document (codes "1") (codes "3") (codes "'puncture'") (codes "'base'")
-        (codes "places = [0, 1, 2, 3, 4, 5, 6, 7, 8, 9, 10, 11, 12, 13, 14, 15, 16, 17, 18, 19, 20, 21, 22, 23, 24, 25, 26]"))
+        (codes "places = [0, 1, 2, 3, 4, 5, 6, 7, 8, 9, 10, 11, 12, 13, 14, 15, 16, 17, 18, 19, 20, 21, 22, 23, 24, 25, 26, 27, 28]"))
         ≡ Ok (Build (unrestricted 1 3) (Puncture (0 ∷ 1 ∷ 2 ∷ 3 ∷ 4 ∷ 5 ∷ 6 ∷ 7 ∷ 8 ∷ 9 ∷ 10 ∷ 11 ∷ 12 ∷ 13
-        ∷ 14 ∷ 15 ∷ 16 ∷ 17 ∷ 18 ∷ 19 ∷ 20 ∷ 21 ∷ 22 ∷ 23 ∷ 24 ∷ 25 ∷ 26 ∷ [])) (codes "base") None) }
+        ∷ 14 ∷ 15 ∷ 16 ∷ 17 ∷ 18 ∷ 19 ∷ 20 ∷ 21 ∷ 22 ∷ 23 ∷ 24 ∷ 25 ∷ 26 ∷ 27 ∷ 28 ∷ [])) (codes "base") None) }
     ensures shorten { read_of (build_document (codes "1") (codes "4") (codes "'shorten'") (codes "'base'") (codes "w = 0\nplaces = [1, 2]\ndigits = '01'"))
         ≡ Ok (Build (constant_weight 1 4 0) (Shorten (1 ∷ 2 ∷ []) (0 ∷ 1 ∷ [])) (codes "base") None) }
     ensures translate { read_of (build_document (codes "3") (codes "3") (codes "'translate'") (codes "'base'") (codes "by = '110'"))
@@ -41,7 +41,7 @@ pub fn builds_are_read()
 
 /// Documents of kind build with a wrong entry or operation: n, d and w come before the operation, and for `select` d is even.
 pub fn wrong_entries()
-    ensures n { read_of (build_document (codes "29") (codes "2") (codes "1") (codes "1") [])
+    ensures n { read_of (build_document (codes "31") (codes "2") (codes "1") (codes "1") [])
         ≡ Err (Field name.N) }
     ensures d { read_of (build_document (codes "2") (codes "2") (codes "1") (codes "1") (codes "w = 3"))
         ≡ Err (Field name.D) }
@@ -101,7 +101,7 @@ pub fn wrong_own_fields()
         ≡ Err (Field name.Places) }
     ensures negative { read_of (build_document (codes "2") (codes "3") (codes "'puncture'") (codes "1") (codes "places = [-1, 0]"))
         ≡ Err (Field name.Places) }
-    ensures too_long { read_of (build_document (codes "28") (codes "3") (codes "'shorten'") (codes "1") (codes "places = [0]\ndigits = 1"))
+    ensures too_long { read_of (build_document (codes "30") (codes "3") (codes "'shorten'") (codes "1") (codes "places = [0]\ndigits = 1"))
         ≡ Err (Field name.Places) }
     ensures text_place { read_of (build_document (codes "2") (codes "3") (codes "'puncture'") (codes "1") (codes "places = ['0']"))
         ≡ Err (Field name.Places) }

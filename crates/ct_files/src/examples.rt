@@ -34,8 +34,8 @@ pub fn no_kinds()
 pub fn weights()
     ensures read { read_of (words_document (codes "2") (codes "4") (codes "['01', '11']") (codes "w = 1"))
         ≡ Ok (Words (constant_weight 2 4 1) (1 ∷ 3 ∷ [])) }
-    ensures zero { read_of (words_document (codes "2") (codes "28") (codes "['00']") (codes "w = 0"))
-        ≡ Ok (Words (constant_weight 2 28 0) (0 ∷ [])) }
+    ensures zero { read_of (words_document (codes "2") (codes "30") (codes "['00']") (codes "w = 0"))
+        ≡ Ok (Words (constant_weight 2 30 0) (0 ∷ [])) }
     ensures odd { read_of (words_document (codes "2") (codes "3") (codes "['01']") (codes "w = 1")) ≡ Err (Field name.D) }
     ensures odd_beside_text { read_of (words_document (codes "2") (codes "5") (codes "['01']") (codes "w = ''"))
         ≡ Err (Field name.D) }
@@ -71,7 +71,7 @@ pub fn cosets()
 pub fn wrong_fields()
     ensures n_missing { read_of (codes "kind = 'words'\nd = 2\nwords = ['1']") ≡ Err (Field name.N) }
     ensures n_text { read_of (words_document (codes "'10'") (codes "6") (codes "[]") []) ≡ Err (Field name.N) }
-    ensures n_above { read_of (words_document (codes "29") (codes "2") (codes "[]") []) ≡ Err (Field name.N) }
+    ensures n_above { read_of (words_document (codes "31") (codes "2") (codes "[]") []) ≡ Err (Field name.N) }
     ensures d_missing { read_of (codes "kind = 'words'\nn = 1\nwords = 1") ≡ Err (Field name.D) }
     ensures d_below { read_of (words_document (codes "10") (codes "2") (codes "1") []) ≡ Err (Field name.D) }
     ensures words_missing { read_of (codes "kind = 'words'\nn = 1\nd = 3\nv = 1") ≡ Err (Field name.Words) }
