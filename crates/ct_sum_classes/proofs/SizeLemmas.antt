@@ -63,7 +63,7 @@ count-none p xs none =
     sum_by-congruence (λ x. cond (p x) 1 0) (λ x. 0) xs (λ x. ap (λ t. cond {A = ℕ} t 1 0) (none x)) ∙ sum_by-zero xs
 
 -- a remainder does not change under the divisor
-mod_shifted : (n t u : ℕ) → (t % n + u) % n ≡ (t + u) % n
+pub mod_shifted : (n t u : ℕ) → (t % n + u) % n ≡ (t + u) % n
 mod_shifted n t u =
     let parts = mod-add-div t n in
     let whole : t % n + u + n * (t / n) ≡ t + u = omega arith in
@@ -85,7 +85,7 @@ residue_before n m s t within below = elim (cases_eq ((m + t) % n) s) [
 ]
 
 -- two numbers are equal where the next ones are
-suc_eqb : (a b : ℕ) → (suc a == suc b) ≡ (a == b)
+pub suc_eqb : (a b : ℕ) → (suc a == suc b) ≡ (a == b)
 suc_eqb a b = elim (cases_eq a b) [
   | inl same ↦ eq-eqb (suc a) (suc b) (ap suc same) ∙ sym (eq-eqb a b same)
   | inr other ↦ ne_eqb (suc a) (suc b) (λ e. other (omega arith)) ∙ sym (ne_eqb a b other)

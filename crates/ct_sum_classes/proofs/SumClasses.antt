@@ -19,7 +19,7 @@ use Rattle.ct_sum_classes.specs.SumClass.{place_sum, in_sum_class, sum_class}
 use Rattle.ct_sum_classes.proofs.PlaceSums.{AreNear, sums_of_two}
 
 -- numbers with one remainder do not differ by less than the divisor
-not_near : (n s t : ℕ) → s % n ≡ t % n → s < t → t < s + n → ⊥
+pub not_near : (n s t : ℕ) → s % n ≡ t % n → s < t → t < s + n → ⊥
 not_near n s t same low high =
     let first = div-add-mod' s n in
     let second = div-add-mod' t n in

@@ -1,13 +1,15 @@
 //! The words of a sum class.
 
-ghost use Rattle.std.specs.Prelude.{◌≡◌, ◌^◌, ◌<◌, ◌≤◌, length, Some, IfOk};
+ghost use Rattle.std.specs.Prelude.{◌≡◌, ◌+◌, ◌%◌, ◌^◌, ◌<◌, ◌≤◌, ◌++◌, length, map, Some, IfOk, OnOk};
+ghost use Rattle.ct_counting.specs.Binomials.{choose};
 ghost use Rattle.ct_words.specs.declared.limits.TheConstants.{MAX_N};
 ghost use Rattle.ct_codes.specs.Code.{IsSoundCode};
-ghost use Rattle.ct_sum_classes.specs.SumClass.{place_sum, in_sum_class, sum_class};
+ghost use Rattle.ct_sum_classes.specs.SumClass.{sum_class};
+ghost use Rattle.ct_sum_classes.specs.Inside.Listing.{words_of_sum};
 
 use crate::sizes::sum_class_count;
 use ct_codes::Code;
-use ct_words::{Word, weight};
+use ct_words::{Word, binomial};
 use std::alloc::{AllocError, Global};
 
 /// The code of the words of length n, from 1 to `MAX_N`, and weight w up to n, whose ones' places add up to r modulo n, for
@@ -36,33 +38,58 @@ fn words_of_class(alloc: Global, n: u32, w: u32, r: u32) -> Result<Vec<Word>, Al
 {
     let size = sum_class_count(n, w, r) as usize;
     let mut words = Vec::with_capacity(alloc, size)?;
-    for word in 0..1 << n {
-        if is_in_class(word, n, w, r) {
-            words.push(word)?;
-        }
-    }
+    let least = (binomial(w, 2) % u64::from(n)) as u32;
+    append_words(&mut words, 0, n, n, w, difference_modulo(n, r, least))?;
     Ok(words)
 }
 
-/// Whether the word of length n has weight w, and the places of its ones add up to r modulo n.
-fn is_in_class(word: Word, n: u32, w: u32, r: u32) -> bool
-    requires length { (1 ≤ n) × (n ≤ MAX_N) }
-    requires word { word < 2 ^ n }
-    ensures { result ≡ in_sum_class n w r word }
+/// Appends to the words those that begin with the ones of another, and end with the words of length m and weight k, in
+/// ascending order, whose ones' places add up to 0 + 1 + .. + (k − 1), the least sum of k places, and the excess more,
+/// modulo n.
+///
+/// The greatest sum of k of the m places is the least one and k (m − k), and a one at the first place leaves the excess to the
+/// k − 1 others at the m − 1 other places, where a zero leaves k less of it, one for each one. So a call without a word to
+/// append ends at once.
+fn append_words(
+    words: &mut Vec<Word>,
+    beginning: Word,
+    n: u32,
+    m: u32,
+    k: u32,
+    excess: u32,
+) -> Result<(), AllocError>
+    requires length { (m ≤ n) × (n ≤ MAX_N) }
+    requires weight { k ≤ n }
+    requires excess { excess < n }
+    requires beginning { beginning + 2 ^ m ≤ 2 ^ MAX_N }
+    ensures { OnOk result (words.new.items
+        ≡ words.old.items ++ map (λ x. beginning + x) (words_of_sum n m k (choose k 2 + excess))) }
 {
-    weight(word) == w && place_sum(word, n) % n == r
+    if m < k || k * (m - k) < excess {
+        return Ok(());
+    }
+    if k == 0 {
+        words.push(beginning)?;
+        return Ok(());
+    }
+    let others = m - 1;
+    append_words(
+        words,
+        beginning,
+        n,
+        others,
+        k,
+        difference_modulo(n, excess, k),
+    )?;
+    append_words(words, beginning + (1 << others), n, others, k - 1, excess)
 }
 
-/// The sum of the places at which the word of length n has a one.
-fn place_sum(word: Word, n: u32) -> u32
-    requires { n ≤ MAX_N }
-    ensures { result ≡ place_sum n word }
+/// The number below n that the difference of a, which is below n, and b, at most n, is modulo n.
+fn difference_modulo(n: u32, a: u32, b: u32) -> u32
+    requires minuend { a < n }
+    requires subtrahend { b ≤ n }
+    ensures below { result < n }
+    ensures difference { (result + b) % n ≡ a }
 {
-    let mut sum = 0;
-    for place in 0..n {
-        if (word >> (n - 1 - place)) % 2 == 1 {
-            sum += place;
-        }
-    }
-    sum
+    if a < b { a + (n - b) } else { a - b }
 }
