@@ -231,6 +231,32 @@ words_of_sum-zero n (suc m) some =
     ∙ filter-append passes (tabulate (λ x. 0 * 2 ^ m + x) (2 ^ m)) (tabulate (λ x. 1 * 2 ^ m + x) (2 ^ m))
     ∙ ap₂ (λ xs ys. xs ++ ys) front back
 
+-- with one one left there is the word with it at the place that is to be added
+pub words_of_sum-one : (n m e : ℕ) → m ≤ n → e < m → words_of_sum n m 1 e ≡ 2 ^ (m - 1 - e) ∷ []
+words_of_sum-one n zero e few within = absurd (omega arith)
+words_of_sum-one n (suc m) zero few within =
+    let last : (n - 1 + 1) % n ≡ 0 % n = let whole : n - 1 + 1 ≡ 0 + n = omega arith in ap (λ z. z % n) whole ∙ add-mod_right 0 n in
+    let plain : 2 ^ m + 0 ≡ 2 ^ m = omega arith in
+    let m_is : m ≡ suc m - 1 - 0 = omega arith in
+    words_of_sum-first n m 0 0 (n - 1) 0 (omega arith) last refl
+    ∙ ap₂ (λ xs ys. xs ++ map (λ x. 2 ^ m + x) ys) (none m few) (words_of_sum-zero n m (omega arith))
+    ∙ ap (λ x. x ∷ []) (plain ∙ ap (λ i. 2 ^ i) m_is)
+  where
+    none : (m : ℕ) → suc m ≤ n → words_of_sum n m 1 (n - 1) ≡ []
+    none zero few = words_of_sum-short n 0 1 (n - 1) (omega arith)
+    none (suc m) few =
+        let least : n - 1 ≡ choose 1 2 + (n - 1) = omega arith in
+        ap (words_of_sum n (suc m) 1) least ∙ words_of_sum-far n (suc m) 1 (n - 1) (omega arith) (omega arith) (omega arith)
+words_of_sum-one n (suc m) (suc e) few within =
+    let e_is : e + 1 ≡ suc e = omega arith in
+    let plain : suc e + 0 ≡ suc e = omega arith in
+    let least : suc e ≡ choose 0 2 + suc e = omega arith in
+    let same : m - 1 - e ≡ suc m - 1 - suc e = omega arith in
+    words_of_sum-first n m 0 (suc e) e (suc e) (omega arith) (ap (λ z. z % n) e_is) (ap (λ z. z % n) plain)
+    ∙ ap₂ (λ xs ys. xs ++ map (λ x. 2 ^ m + x) ys) (words_of_sum-one n m e (omega arith) (omega arith))
+    (ap (words_of_sum n m 0) least ∙ words_of_sum-far n m 0 (suc e) (omega arith) (omega arith) (omega arith))
+    ∙ ap (λ i. 2 ^ i ∷ []) same
+
 -- those of the whole length are the words of the class
 pub words_of_sum-class : (n w r e : ℕ) → (e + choose w 2 % n) % n ≡ r → map (λ x. 0 + x) (words_of_sum n n w (choose w 2 + e)) ≡ sum_class n w r
 words_of_sum-class n w r e same =
@@ -264,6 +290,11 @@ words_of_sum-next b n (suc m) (suc k) e less some few digits same =
     ∙ ap (λ ys. map (λ x. b + x) (words_of_sum n m (suc k) (pairs + less)) ++ ys)
     (map-map (λ x. b + x) (λ x. 2 ^ m + x) (words_of_sum n m k (choose k 2 + e))
     ∙ (λ i. map (λ x. together x i) (words_of_sum n m k (choose k 2 + e)))))
+
+-- a list to which one word is appended, where there is only one
+pub appended-only : (b x : ℕ) (before after words : List ℕ) → after ≡ before ++ (b + x) ∷ [] → words ≡ x ∷ []
+    → after ≡ before ++ map (λ y. b + y) words
+appended-only b x before after words after_is only = after_is ∙ ap (λ ys. before ++ map (λ y. b + y) ys) (sym only)
 
 -- a list to which the ones are appended, and then the others, is the list before with all of them
 pub appended-both : (b n m k e less one : ℕ) (before first second : List ℕ) → 1 ≤ k → k ≤ n → 1 ≤ m → (less + k) % n ≡ e

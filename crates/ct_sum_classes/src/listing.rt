@@ -1,6 +1,6 @@
 //! The words of a sum class.
 
-ghost use Rattle.std.specs.Prelude.{◌≡◌, ◌+◌, ◌%◌, ◌^◌, ◌<◌, ◌≤◌, ◌++◌, length, map, Some, IfOk, OnOk};
+ghost use Rattle.std.specs.Prelude.{◌≡◌, ℕ, ◌+◌, ◌-◌, ◌*◌, ◌%◌, ◌^◌, ◌<◌, ◌≤◌, [], ◌∷◌, ◌++◌, length, map, Some, IfOk, OnOk};
 ghost use Rattle.ct_counting.specs.Binomials.{choose};
 ghost use Rattle.ct_words.specs.declared.limits.TheConstants.{MAX_N};
 ghost use Rattle.ct_codes.specs.Code.{IsSoundCode};
@@ -47,8 +47,8 @@ fn words_of_class(alloc: Global, n: u32, w: u32, r: u32) -> Result<Vec<Word>, Al
 /// ascending order, whose ones' places add up to 0 + 1 + .. + (k − 1), the least sum of k places, and the excess more,
 /// modulo n.
 ///
-/// The greatest sum of k of the m places is the least one and k (m − k), and a one at the first place leaves the excess to the
-/// k − 1 others at the m − 1 other places, where a zero leaves k less of it, one for each one. So a call without a word to
+/// The greatest sum of k of the m places is the least one and k (m − k). A one at the first place leaves the excess to the
+/// k − 1 others at the m − 1 other places, and a zero leaves k less of it, one for each one. So a call without a word to
 /// append ends at once.
 fn append_words(
     words: &mut Vec<Word>,
@@ -68,20 +68,25 @@ fn append_words(
     if m < k || k * (m - k) < excess {
         return Ok(());
     }
-    if k == 0 {
-        words.push(beginning)?;
+    if k <= 1 {
+        words.push(beginning + only_word(m, k, excess))?;
         return Ok(());
     }
     let others = m - 1;
-    append_words(
-        words,
-        beginning,
-        n,
-        others,
-        k,
-        difference_modulo(n, excess, k),
-    )?;
+    let less = difference_modulo(n, excess, k);
+    append_words(words, beginning, n, others, k, less)?;
     append_words(words, beginning + (1 << others), n, others, k - 1, excess)
+}
+
+/// The word of length m and weight k, which is 0 or 1, whose one, if any, has the excess as its place.
+fn only_word(m: u32, k: u32, excess: u32) -> Word
+    requires length { m ≤ MAX_N }
+    requires weight { (k ≤ 1) × (k ≤ m) }
+    requires excess { excess ≤ k * (m - k) }
+    ensures length { result < 2 ^ m }
+    ensures only { (n : ℕ) → 1 ≤ n → m ≤ n → words_of_sum n m k (choose k 2 + excess) ≡ result ∷ [] }
+{
+    if k == 0 { 0 } else { 1 << (m - 1 - excess) }
 }
 
 /// The number below n that the difference of a, which is below n, and b, at most n, is modulo n.
