@@ -11,19 +11,16 @@ use Rattle.ct_words.specs.Word.{places, digit, weight}
 use Rattle.ct_words.specs.Text.{tabulate}
 use Rattle.ct_words.specs.Characters.{words_of_length}
 use Rattle.ct_words.proofs.AllWords.{tabulate-add}
-use Rattle.ct_words.proofs.TextLemmas.{first_digit, next_digit}
+use Rattle.ct_words.proofs.TextLemmas.{next_digit}
 use Rattle.ct_words.proofs.WordLemmas.{places_same, places-le, weight-le}
+use Rattle.ct_constructions.proofs.JoinedLemmas.{weight-followed_by}
 use Rattle.ct_sum_classes.specs.SumClass.{sum_of_places, place_sum, sum_class}
 use Rattle.ct_sum_classes.specs.Inside.Listing.{words_of_sum}
 use Rattle.ct_sum_classes.proofs.PlaceSums.{sum_of_places_same}
 use Rattle.ct_sum_classes.proofs.SumClasses.{not_near}
 use Rattle.ct_sum_classes.proofs.SizeLemmas.{mod_shifted}
 
--- a test at one place more, before the others
-places-first : (f : ℕ → Bool) (m : ℕ) → places f (suc m) ≡ (if f 0 then 1 else 0) + places (λ p. f (suc p)) m
-places-first f zero = refl
-places-first f (suc m) = let before = places-first f m in omega arith
-
+-- the sum of the places that pass, with one place more before the others
 sum_of_places-first : (f : ℕ → Bool) (m : ℕ) → sum_of_places f (suc m) ≡ sum_of_places (λ p. f (suc p)) m + places (λ p. f (suc p)) m
 sum_of_places-first f zero = no_place (f 0)
   where
@@ -37,19 +34,16 @@ sum_of_places-first f (suc m) = let before = sum_of_places-first f m in more (f 
     more false m s t c same = omega arith
 
 -- a word that begins with a digit
-weight-first : (m c x : ℕ) → c < 2 → x < 2 ^ m → weight (suc m) (c * 2 ^ m + x) ≡ c + weight m x
+one_digit : (c : ℕ) → c < 2 → weight 1 c ≡ c
 unfolding weight
+one_digit zero h = refl
+one_digit (suc zero) h = refl
+one_digit (suc (suc c)) h = absurd (omega arith)
+
+weight-first : (m c x : ℕ) → c < 2 → x < 2 ^ m → weight (suc m) (c * 2 ^ m + x) ≡ c + weight m x
 weight-first m c x small below =
-    places-first (λ p. digit (suc m) (c * 2 ^ m + x) p == 1) m
-    ∙ ap₂ (λ i j. i + j)
-    (ap (λ q. if q == 1 then 1 else 0) (first_digit m c x small below) ∙ counted c small)
-    (places_same (λ p. digit (suc m) (c * 2 ^ m + x) (suc p) == 1) (λ p. digit m x p == 1) m
-    (λ p within. ap (λ q. q == 1) (next_digit m c x p within)))
-  where
-    counted : (c : ℕ) → c < 2 → (if c == 1 then 1 else 0) ≡ c
-    counted zero h = refl
-    counted (suc zero) h = refl
-    counted (suc (suc c)) h = absurd (omega arith)
+    let longer : suc m ≡ 1 + m = omega arith in
+    ap (λ i. weight i (c * 2 ^ m + x)) longer ∙ weight-followed_by 1 m c x below ∙ ap (λ i. i + weight m x) (one_digit c small)
 
 place_sum-first : (m c x : ℕ) → c < 2 → x < 2 ^ m → place_sum (suc m) (c * 2 ^ m + x) ≡ place_sum m x + weight m x
 unfolding weight place_sum
