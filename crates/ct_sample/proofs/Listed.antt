@@ -66,7 +66,7 @@ pub listed : (e : Entry) → IsEntry e → Contains table_entries e
 unfolding table_entries
 listed e entry = let limits = entry_limits e entry in to_there MAX_N e entry limits.length_from limits.length_to
 
-pub count : length table_entries ≡ 6370
+pub count : length table_entries ≡ 7770
 unfolding table_entries
 count = refl
 
@@ -87,10 +87,10 @@ all_entries e there = All-contains IsEntry table_entries e all_listed there
 -- a number that rises from entry to entry
 rank_beside : Entry → Option ℕ → ℕ
 rank_beside e None = e.d
-rank_beside e (Some w) = (e.d + 28) * 29 + w
+rank_beside e (Some w) = (e.d + MAX_N) * suc MAX_N + w
 
 rank : Entry → ℕ
-rank e = e.n * 2000 + rank_beside e e.w
+rank e = e.n * (2 * suc MAX_N * suc MAX_N) + rank_beside e e.w
 
 rises : ℕ → List Entry → Bool
 rises low [] = true

@@ -19,11 +19,11 @@ pub fn samples_are_one()
     ensures one { (number : ℕ) (left right : List ℕ) → IsSampleOutput number left → IsSampleOutput number right → left ≡ right }
 {}
 
-/// The entries that are summed are those of the table, each once: 6,370 of them.
+/// The entries that are summed are those of the table, each once: 7,770 of them.
 pub fn table_entries_are_all()
     ensures each { (e : Entry) → IsEntry e ↔ Contains table_entries e }
     ensures once { AllPairs (λ e f. e ≢ f) table_entries }
-    ensures count { length table_entries ≡ 6370 }
+    ensures count { length table_entries ≡ 7770 }
 {}
 
 /// Numbers that are drawn, and commands of samples: a sum class of length 8 and weight 3, three words of the Golay code, a dual, the last code that is not too
