@@ -6,6 +6,7 @@ use Rattle.std.proofs.lemmas.List.Elements.{All-head, All-tail, All-cons, All-ni
 use Rattle.std.specs.List.{IsDistinct}
 use Rattle.std.proofs.lemmas.List.Folds.{Any-from_list_any}
 use Rattle.std.proofs.lemmas.Map.Steps.{length-le_from_distinct_below}
+use Rattle.ct_words.specs.declared.limits.TheConstants.{MAX_N, MAX_BOUND}
 use Rattle.ct_codes.specs.declared.claim.Side.{Side}
 use Rattle.ct_codes.specs.declared.claim.Side.TheVariants.{Lower, Upper}
 use Rattle.ct_codes.specs.declared.claim.Claim.{Claim}
@@ -42,34 +43,34 @@ side_number-le : (s : Side) → side_number s ≤ 1
 side_number-le Lower = omega arith
 side_number-le Upper = omega arith
 
-weight_number-le : (w : Option ℕ) → ((v : ℕ) → w ≡ Some v → v ≤ 28) → weight_number w ≤ 29
+weight_number-le : (w : Option ℕ) → ((v : ℕ) → w ≡ Some v → v ≤ MAX_N) → weight_number w ≤ suc MAX_N
 weight_number-le None h = omega arith
 weight_number-le (Some v) h = let few = h v refl in omega (arith, few)
 
 -- the number of a claim, digit by digit
 abbrev by_weight : ℕ → ℕ → ℕ → ℕ → ℕ
-by_weight s n d w = ((s * 29 + n) * 29 + d) * 30 + w
+by_weight s n d w = ((s * suc MAX_N + n) * suc MAX_N + d) * suc (suc MAX_N) + w
 
 abbrev number_from : ℕ → ℕ → ℕ → ℕ → ℕ → ℕ
-number_from s n d w v = by_weight s n d w * 268435457 + v
+number_from s n d w v = by_weight s n d w * suc MAX_BOUND + v
 
 abbrev number_of_claim : Claim → ℕ
 number_of_claim c = number_from (side_number c.side) c.entry.n c.entry.d (weight_number c.entry.w) c.value
 
 -- equal numbers have equal digits
-digits_29 : (a b x y : ℕ) → x ≤ 28 → y ≤ 28 → a * 29 + x ≡ b * 29 + y → (a ≡ b) × (x ≡ y)
-digits_29 a b x y h k e = (omega (arith, h, k, e), omega (arith, h, k, e))
+length_digits : (a b x y : ℕ) → x ≤ MAX_N → y ≤ MAX_N → a * suc MAX_N + x ≡ b * suc MAX_N + y → (a ≡ b) × (x ≡ y)
+length_digits a b x y h k e = (omega (arith, h, k, e), omega (arith, h, k, e))
 
-digits_30 : (a b x y : ℕ) → x ≤ 29 → y ≤ 29 → a * 30 + x ≡ b * 30 + y → (a ≡ b) × (x ≡ y)
-digits_30 a b x y h k e = (omega (arith, h, k, e), omega (arith, h, k, e))
+weight_digits : (a b x y : ℕ) → x ≤ suc MAX_N → y ≤ suc MAX_N → a * suc (suc MAX_N) + x ≡ b * suc (suc MAX_N) + y → (a ≡ b) × (x ≡ y)
+weight_digits a b x y h k e = (omega (arith, h, k, e), omega (arith, h, k, e))
 
-digits_bound : (a b x y : ℕ) → x ≤ 268435456 → y ≤ 268435456 → a * 268435457 + x ≡ b * 268435457 + y → (a ≡ b) × (x ≡ y)
-digits_bound a b x y h k e = (omega (arith, h, k, e), omega (arith, h, k, e))
+bound_digits : (a b x y : ℕ) → x ≤ MAX_BOUND → y ≤ MAX_BOUND → a * suc MAX_BOUND + x ≡ b * suc MAX_BOUND + y → (a ≡ b) × (x ≡ y)
+bound_digits a b x y h k e = (omega (arith, h, k, e), omega (arith, h, k, e))
 
 -- what is known of a claim that is true
 record IsSmall (c : Claim) : Type 0 where
   entry : HasSmallNumbers c.entry
-  value : c.value ≤ 268435456
+  value : c.value ≤ MAX_BOUND
 
 small : (c : Claim) → IsTrueClaim c → IsSmall c
 small c h = let few = h.range.1 in record { entry = small_numbers c.entry h.entry; value = omega (arith, few) }
@@ -85,10 +86,10 @@ same_claim : (c e : Claim) → IsSmall c → IsSmall e → number_of_claim c ≡
 same_claim c e h k same =
     let weight_c = weight_number-le c.entry.w h.entry.weight_small in
     let weight_e = weight_number-le e.entry.w k.entry.weight_small in
-    let values = digits_bound (by_weight (side_number c.side) c.entry.n c.entry.d (weight_number c.entry.w)) (by_weight (side_number e.side) e.entry.n e.entry.d (weight_number e.entry.w)) c.value e.value h.value k.value same in
-    let weights = digits_30 ((side_number c.side * 29 + c.entry.n) * 29 + c.entry.d) ((side_number e.side * 29 + e.entry.n) * 29 + e.entry.d) (weight_number c.entry.w) (weight_number e.entry.w) weight_c weight_e values.0 in
-    let distances = digits_29 (side_number c.side * 29 + c.entry.n) (side_number e.side * 29 + e.entry.n) c.entry.d e.entry.d h.entry.distance_small k.entry.distance_small weights.0 in
-    let lengths = digits_29 (side_number c.side) (side_number e.side) c.entry.n e.entry.n h.entry.length_small k.entry.length_small distances.0 in
+    let values = bound_digits (by_weight (side_number c.side) c.entry.n c.entry.d (weight_number c.entry.w)) (by_weight (side_number e.side) e.entry.n e.entry.d (weight_number e.entry.w)) c.value e.value h.value k.value same in
+    let weights = weight_digits ((side_number c.side * suc MAX_N + c.entry.n) * suc MAX_N + c.entry.d) ((side_number e.side * suc MAX_N + e.entry.n) * suc MAX_N + e.entry.d) (weight_number c.entry.w) (weight_number e.entry.w) weight_c weight_e values.0 in
+    let distances = length_digits (side_number c.side * suc MAX_N + c.entry.n) (side_number e.side * suc MAX_N + e.entry.n) c.entry.d e.entry.d h.entry.distance_small k.entry.distance_small weights.0 in
+    let lengths = length_digits (side_number c.side) (side_number e.side) c.entry.n e.entry.n h.entry.length_small k.entry.length_small distances.0 in
     sym (claim_from c)
     ∙ ap₂ (λ s n. built s n c.entry.d (weight_number c.entry.w) c.value) lengths.0 lengths.1
     ∙ ap₂ (λ d w. built (side_number e.side) e.entry.n d w c.value) distances.1 weights.1

@@ -24,7 +24,7 @@ pub record StatedLineValue : Type 0 where
 abbrev pub entry_of : List (List ℕ) → Option Entry
 entry_of words = option_and_then named_entry (entry_numbers_of words)
 
--- the bound that a word writes: from 1 to 2^28
+-- the bound that a word writes: from 1 to MAX_BOUND
 abbrev pub bound_of : List ℕ → Option ℕ
 bound_of word = option_and_then (λ n. if nat_le 1 n && nat_le n MAX_BOUND then Some n else None) (number_of word)
 
