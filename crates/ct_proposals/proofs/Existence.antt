@@ -6,6 +6,7 @@ use Rattle.std.proofs.lemmas.Int.{fits_signed_from_abs, ints}
 use Rattle.std.proofs.lemmas.Str.{is_utf8-from_IsUtf8}
 use Rattle.toml.specs.Data.{table, Members}
 use Rattle.toml_writer.specs.Text.{key_text, string_text, encoding_of, escaped, needs_escape, quotes_after}
+use Rattle.ct_words.specs.declared.limits.TheConstants.{MAX_N}
 use Rattle.ct_codes.specs.declared.entry.Entry.{Entry}
 use Rattle.ct_codes.specs.Entry.{IsEntry, unrestricted, constant_weight}
 use Rattle.ct_codes.proofs.EntryLemmas.{entry_limits}
@@ -50,10 +51,10 @@ all_fit c positive below k d within = fits _ (positive k d within) (below k d wi
 abbrev with_multipliers : Entry → Bool → List ℤ → Dual
 with_multipliers e even c = record { entry = e; even = even; c = c; y = [] }
 
-number_fits : (n : ℕ) → n ≤ 28 → FitsSigned w64 (pos n)
+number_fits : (n : ℕ) → n ≤ MAX_N → FitsSigned w64 (pos n)
 number_fits n h = fits_signed_from_abs w64 (pos n) (omega arith)
 
-dual_plain : (n d : ℕ) (even : Bool) (c : List ℤ) → n ≤ 28 → d ≤ 28 → All (FitsSigned w64) c → ArePlain (dual_table (with_multipliers (unrestricted n d) even c))
+dual_plain : (n d : ℕ) (even : Bool) (c : List ℤ) → n ≤ MAX_N → d ≤ MAX_N → All (FitsSigned w64) c → ArePlain (dual_table (with_multipliers (unrestricted n d) even c))
 unfolding key_text string_text encoding_of escaped needs_escape quotes_after
 dual_plain n d even c n_small d_small c_fits = (
   small (codes "c") refl,
@@ -87,7 +88,7 @@ dual_plain n d even c n_small d_small c_fits = (
   ),
 )
 
-johnson_dual_plain : (n d w : ℕ) (c : List ℤ) → n ≤ 28 → d ≤ 28 → w ≤ 28 → All (FitsSigned w64) c → ArePlain (johnson_dual_table (with_multipliers (constant_weight n d w) false c))
+johnson_dual_plain : (n d w : ℕ) (c : List ℤ) → n ≤ MAX_N → d ≤ MAX_N → w ≤ MAX_N → All (FitsSigned w64) c → ArePlain (johnson_dual_table (with_multipliers (constant_weight n d w) false c))
 unfolding key_text string_text encoding_of escaped needs_escape quotes_after
 johnson_dual_plain n d w c n_small d_small w_small c_fits = (
   small (codes "c") refl,

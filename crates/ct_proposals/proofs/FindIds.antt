@@ -11,6 +11,7 @@ use Rattle.std.proofs.lemmas.List.Elements.{All-cons, All-nil, All-push, All-wea
 use Rattle.std.proofs.lemmas.List.Folds.{list_all-append}
 use Rattle.std.proofs.lemmas.List.Splits.{slice_split_none, slice_split_at}
 use Rattle.std.proofs.lemmas.List.Sums.{list_all-from_AllPass}
+use Rattle.ct_words.specs.declared.limits.TheConstants.{MAX_N}
 use Rattle.ct_codes.specs.declared.entry.Entry.{Entry}
 use Rattle.ct_codes.specs.Entry.{IsEntry}
 use Rattle.ct_codes.proofs.EntryLemmas.{WeightFits, entry_limits}
@@ -44,10 +45,10 @@ named_by b bs short letter all =
     (and_from (nat_le (length (b ∷ bs)) MAX_ID) (is_ascii_lowercase b) (le-leb (length (b ∷ bs)) MAX_ID short) letter)
     (and_parts (is_id_byte b) (list_all is_id_byte bs) all).1
 
-short_decimal : (n : ℕ) → n ≤ 28 → length (decimal n) ≤ 2
+short_decimal : (n : ℕ) → n ≤ MAX_N → length (decimal n) ≤ 2
 short_decimal n small = length-decimal-le 2 n (lit< tt) (omega arith) (omega arith)
 
-weight_named : (e : Entry) (w : Option ℕ) → e.n ≤ 28 → WeightFits e w → (list_all is_id_byte (weight_part w) ≡ true) × (length (weight_part w) ≤ 3)
+weight_named : (e : Entry) (w : Option ℕ) → e.n ≤ MAX_N → WeightFits e w → (list_all is_id_byte (weight_part w) ≡ true) × (length (weight_part w) ≤ 3)
 weight_named e None n_small fits = (refl, omega arith)
 weight_named e (Some w) n_small fits =
     let within = fits.2 in
@@ -97,7 +98,7 @@ parts_of_id e n_small d_small w_small =
     ∙ ap (λ parts. codes "find" ∷ parts) (slice_split_at is_dash (decimal e.n) 45 (decimal e.d ++ weight_part e.w) (no_dash e.n n_small) refl)
     ∙ ap (λ parts. codes "find" ∷ decimal e.n ∷ parts) (weight_split e.d e.w d_small w_small)
 
-small_weight : (e : Entry) (w : Option ℕ) → e.n ≤ 28 → WeightFits e w → IfSome w (λ k. k < 2 ^ 64)
+small_weight : (e : Entry) (w : Option ℕ) → e.n ≤ MAX_N → WeightFits e w → IfSome w (λ k. k < 2 ^ 64)
 small_weight e None n_small fits = tt
 small_weight e (Some w) n_small fits = let within = fits.2 in omega arith
 
