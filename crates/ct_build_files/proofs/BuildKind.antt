@@ -1,16 +1,14 @@
 -- Evidence of kind build.
-use Rattle.std.proofs.Common.{◌≡◌, ℕ, ◌≤◌, Bool, true, false, ◌||◌, cond, List, [], ◌∷◌, length, Option, Some, None, is_some, option_map, refl, sym, ap, ap₂, subst}
+use Rattle.std.proofs.Common.{◌≡◌, ℕ, ◌≤◌, true, List, [], ◌∷◌, length, Option, Some, None, is_some, option_map, refl, sym, ap, ap₂, subst}
 use Rattle.std.specs.Prelude.{IfSome}
 use Rattle.std.specs.List.{list_any}
-use Rattle.std.specs.Option.{option_to_list}
+use Rattle.std.specs.Option.{option_to_list, MatchOption}
 use Rattle.std.specs.Str.{bytes_eq}
-use Rattle.std.proofs.lemmas.List.Elements.{All-head, All-tail}
-use Rattle.std.proofs.lemmas.Slice.Eq.{bytes_eq-Decides}
 use Rattle.ct_codes.specs.declared.entry.Entry.{Entry}
 use Rattle.ct_codes.specs.Entry.{IsEntry}
 use Rattle.ct_codes.specs.Code.{CodeValue, IsCode, IsCodeOf, IsSoundCode}
 use Rattle.ct_build.specs.declared.step.Step.{Step}
-use Rattle.ct_build.specs.Build.{FitsStated, build_fault}
+use Rattle.ct_build.specs.Build.{FitsStated, build_fault, IsRightBuild}
 use Rattle.ct_build.proofs.RightBuilds.{right_from, none_from}
 use Rattle.ct_build.proofs.StepLemmas.{ready}
 use Rattle.ct_build.proofs.BuiltCodes.{built_code}
@@ -18,8 +16,8 @@ use Rattle.ct_build.proofs.BuildFaults.{early_none, built-size}
 use Rattle.ct_rule_parts.specs.Support.{Stands}
 use Rattle.ct_kind.specs.Named.{NamedCode, code_named, other_named}
 use Rattle.ct_kind.specs.KindParts.{support_from}
-use Rattle.ct_build_files.specs.BuildKind.{build_refusal, step_reason, built_over, build_kind, IsBuildChecked}
-use Rattle.ct_kind.specs.Sound.{HasSoundCode, AreSound}
+use Rattle.ct_build_files.specs.BuildKind.{build_refusal, step_reason, built_over, build_kind}
+use Rattle.ct_kind.specs.Sound.{AreSound}
 use Rattle.ct_kind.proofs.Stating.{option_map-none, StatesWell, SaysSame, IsAlike}
 use Rattle.ct_kind.proofs.NamedLemmas.{or-later, bytes_eq-same, named-sound}
 use Rattle.ct_kind.proofs.SizeLemmas.{size-stands}
@@ -62,10 +60,20 @@ size-gives : (e : Entry) (words : Option (List ℕ)) → IsEntry e → is_some w
 size-gives e None entry some code = absurd cc
 size-gives e (Some words) entry some code = size-stands e words entry code.0 code.1
 
+-- the first part has a code, and the step is right over it and the other code
+build-right : (e : Entry) (step : Step) (first beside : Option CodeValue) → IsRightStep e step first beside → MatchOption first ⊥ (λ code. IsRightBuild step e code beside)
+build-right e step first beside right =
+    subst (λ (o : Option CodeValue). MatchOption o ⊥ (λ code. IsRightBuild step e code beside)) (sym right.is) (right_from step e right.code beside right.faultless)
+
+-- so a build against which there is no reason is what is asked
+pub build_checked : (e : Entry) (step : Step) (part : List ℕ) (other : Option (List ℕ)) (first beside : Option CodeValue) → step_reason e step part other first beside ≡ None
+    → MatchOption first ⊥ (λ code. IsRightBuild step e code beside)
+build_checked e step part other first beside none = build-right e step first beside (step_reason-none e step part other first beside none)
+
 -- a build against which there is no reason states a code
 pub build_states : (known : List NamedCode) (e : Entry) (step : Step) (part : List ℕ) (other : Option (List ℕ)) → AreSound known → FitsStated step e
     → (build_kind e step part other).reason known ≡ None
-    → StatesWell (build_kind e step part other) known (IsBuildChecked e step (code_named part known) (other_named other known))
+    → StatesWell (build_kind e step part other) known (MatchOption (code_named part known) ⊥ (λ code. IsRightBuild step e code (other_named other known)))
 build_states known e step part other sound fits own =
     let first = code_named part known in
     let beside = other_named other known in
@@ -74,7 +82,7 @@ build_states known e step part other sound fits own =
     let some = built-some e step first beside right in
     record {
       entry = fits.entry;
-      checked = subst (λ (o : Option CodeValue). IsBuildChecked e step o beside) (sym right.is) (right_from step e right.code beside right.faultless);
+      checked = build-right e step first beside right;
       coded = some;
       code = code;
       size = λ yes. refl;
@@ -83,7 +91,7 @@ build_states known e step part other sound fits own =
     }
 
 -- a build whose step is right has no reason against it
-pub build_accepted : (e : Entry) (step : Step) (part : List ℕ) (other : Option (List ℕ)) (first beside : Option CodeValue) → IsBuildChecked e step first beside
+pub build_accepted : (e : Entry) (step : Step) (part : List ℕ) (other : Option (List ℕ)) (first beside : Option CodeValue) → MatchOption first ⊥ (λ code. IsRightBuild step e code beside)
     → step_reason e step part other first beside ≡ None
 build_accepted e step part other None beside h = absurd h
 build_accepted e step part other (Some code) beside h = ap (option_map (build_refusal part other)) (none_from step e code beside h)

@@ -6,3 +6,4 @@ pub mod WrittenBuild
 pub mod BuildRooms
 pub mod BuildKind
 pub mod BuildChecks
+pub mod BuildReasons

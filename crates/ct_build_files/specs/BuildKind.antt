@@ -1,12 +1,12 @@
 -- Evidence of kind build: the words that a step makes of the codes of pieces that stand, its parts.
-use Rattle.std.specs.Prelude.{◌≡◌, ℕ, zero, suc, true, List, ◌∷◌, length, Option, Some, None, option_map, codes}
+use Rattle.std.specs.Prelude.{ℕ, zero, suc, true, List, ◌∷◌, length, Option, Some, None, option_map, codes}
 use Rattle.std.specs.Option.{option_to_list, unwrap_or}
 use Rattle.ct_codes.specs.declared.entry.Entry.{Entry}
 use Rattle.ct_codes.specs.Code.{CodeValue}
 use Rattle.ct_build.specs.declared.fault.BuildFault.{BuildFault}
 use Rattle.ct_build.specs.declared.fault.BuildFault.TheVariants as build
 use Rattle.ct_build.specs.declared.step.Step.{Step}
-use Rattle.ct_build.specs.Build.{built, build_fault, IsRightBuild}
+use Rattle.ct_build.specs.Build.{built, build_fault}
 use Rattle.ct_kind.specs.Named.{code_named, other_named}
 use Rattle.ct_kind.specs.KindParts.{KindParts, support_from}
 use Rattle.ct_kind.specs.declared.fault.SubmitFault.{SubmitFault}
@@ -42,8 +42,3 @@ build_kind e step part other = record {
   is_stored = true;
   gives = support_from e;
 }
-
--- the first part has a code, and the step is right over it and the other code
-abbrev pub IsBuildChecked : Entry → Step → Option CodeValue → Option CodeValue → Type 0
-IsBuildChecked e step None beside = ⊥
-IsBuildChecked e step (Some code) beside = IsRightBuild step e code beside

@@ -7,3 +7,4 @@ pub mod WrittenBuild
 pub mod BuildAnswer
 pub mod BuildKind
 pub mod BuildFaultText
+pub mod BuildRefusal

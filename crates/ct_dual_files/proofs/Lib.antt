@@ -6,3 +6,4 @@ pub mod FormedDuals
 pub mod WrittenDuals
 pub mod DualRooms
 pub mod DualKind
+pub mod DualReasons

@@ -5,3 +5,4 @@ pub mod DualDocument
 pub mod Examples
 pub mod DualKind
 pub mod DualFaultText
+pub mod DualRefusal

@@ -1,5 +1,6 @@
-//! What documents of duals read as: where each answer comes, what is read back, and worked documents; the functions do nothing.
-ghost use Rattle.std.specs.Prelude.{◌≡◌, ◌↔◌, [], ◌∷◌, true, false, pos, negsuc, Result, Ok, Err, None, IsSome, codes};
+//! What documents of duals read as: where each answer comes, what is read back, why a dual is
+//! refused, and worked documents; the functions do nothing.
+ghost use Rattle.std.specs.Prelude.{◌≡◌, ◌↔◌, ℕ, List, [], ◌∷◌, true, false, pos, negsuc, Result, Ok, Err, Some, None, IsSome, codes};
 ghost use Rattle.toml.specs.Data.{table, Members};
 ghost use Rattle.ct_fields.specs.Tables.{IsOfKind};
 ghost use Rattle.ct_fields.specs.declared.fault.FileFault.{FileFault};
@@ -7,8 +8,12 @@ ghost use Rattle.ct_fields.specs.declared.field.FieldName.TheVariants as name;
 ghost use Rattle.ct_fields.specs.declared.fault.FileFault.TheVariants.{Field};
 ghost use Rattle.ct_duals.specs.declared.dual.Dual.{Dual};
 ghost use Rattle.ct_duals.specs.Dual.{IsDual};
+ghost use Rattle.ct_kind.specs.Named.{NamedCode};
+ghost use Rattle.ct_kind.specs.declared.fault.SubmitFault.{SubmitFault};
 ghost use Rattle.ct_dual_files.specs.Dual.{dual_of, johnson_dual_of};
 ghost use Rattle.ct_dual_files.specs.DualDocument.{IsDualAnswer, IsJohnsonDualAnswer};
+ghost use Rattle.ct_dual_files.specs.DualKind.{dual_kind};
+ghost use Rattle.ct_dual_files.specs.DualRefusal.{IsDualRefusal};
 ghost use Rattle.ct_dual_files.specs.WrittenDuals.{dual_table, johnson_dual_table};
 ghost use Rattle.ct_dual_files.specs.Examples.{thirteen_six, eight_four_four, document};
 
@@ -26,6 +31,13 @@ pub fn duals_read_back()
     ensures dual { (d : Dual) → IsDual d → d.entry.w ≡ None → dual_of (table (dual_table d)) ≡ Ok d }
     ensures johnson { (d : Dual) → IsDual d → IsSome d.entry.w →
         johnson_dual_of (table (johnson_dual_table d)) ≡ Ok d }
+{}
+
+/// A dual is refused for a reason exactly where its plain condition holds: c_0 is below 1; or, where it isn't, f is above what is allowed at
+/// the index that is named and at no lesser one.
+pub fn reasons_against_duals()
+    ensures { (known : List NamedCode) (text : List ℕ) (d : Dual) (reason : SubmitFault)
+        → ((dual_kind text d).reason known ≡ Some reason) ↔ IsDualRefusal d reason }
 {}
 
 /// Two duals read back from their tables, and documents with a wrong field: `even` only with an even d; c not empty, and

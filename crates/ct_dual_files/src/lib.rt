@@ -10,6 +10,6 @@ mod reading;
 mod written;
 
 pub use dual_fault_text::put_dual_fault;
-pub use laws::{answers_to_duals, duals_read_back, known_documents};
+pub use laws::{answers_to_duals, duals_read_back, known_documents, reasons_against_duals};
 pub use reading::{dual_of, johnson_dual_of};
 pub use written::{dual_table, johnson_dual_table};

@@ -3,3 +3,4 @@ pub mod CodeAt
 pub mod SizeLemmas
 pub mod Stating
 pub mod NamedLemmas
+pub mod Reasons

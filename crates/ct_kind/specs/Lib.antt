@@ -2,3 +2,4 @@ pub mod Named
 pub mod KindParts
 pub mod Ascending
 pub mod Sound
+pub mod Weights

@@ -10,3 +10,5 @@ pub mod PartitionKind
 pub mod ProductKind
 pub mod ProductChecks
 pub mod WrongIds
+pub mod PartitionReasons
+pub mod ProductReasons

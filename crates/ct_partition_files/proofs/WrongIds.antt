@@ -1,15 +1,16 @@
 -- The first wrong id of a product, by its plain condition.
-use Rattle.std.proofs.Common.{◌≡◌, ℕ, ◌+◌, ◌==◌, Bool, true, false, ◌||◌, ◌&&◌, not, cond, List, [], ◌∷◌, ◌++◌, Option, Some, None, is_some, refl, sym, ap, ap₂, subst, ◌∙◌, inl, inr, eq-eqb}
+use Rattle.std.proofs.Common.{◌≡◌, ℕ, ◌+◌, ◌==◌, Bool, true, false, ◌&&◌, not, cond, List, [], ◌∷◌, ◌++◌, Option, Some, None, is_some, refl, sym, ap, ap₂, ◌∙◌, inl, inr, eq-eqb}
 use Rattle.std.specs.Prelude.{All, IfSome, IsSome}
 use Rattle.std.proofs.lemmas.Bool.{eqb-true, or_parts, or_from}
 use Rattle.std.proofs.lemmas.List.Elements.{All-nil, All-cons, All-head, All-tail}
 use Rattle.ct_codes.specs.declared.entry.Entry.{Entry}
 use Rattle.ct_codes.specs.Pairs.{first_of}
-use Rattle.ct_constructions.specs.Juxtaposed.{added_weights}
+use Rattle.ct_codes.proofs.CheckLemmas.{first_of-None}
 use Rattle.ct_partitions.specs.Partition.{PartitionValue}
 use Rattle.ct_kind.specs.Named.{NamedCode, partition_named}
+use Rattle.ct_kind.proofs.Reasons.{Says}
 use Rattle.ct_partition_files.specs.ProductKind.{Ids, factor_named, first_length, is_wrong_first, add_up, is_wrong_second, wrong_of_pair, wrong_of_pairs, wrong_id}
-use Rattle.ct_partition_files.specs.ProductRefusal.{IsRightFirst, IsRightSecond, IsRightPair, IsWrongOf, IsFirstWrongAt, IsFirstWrong}
+use Rattle.ct_partition_files.specs.ProductRefusal.{IsRightFirst, IsRightSecond, IsRightPair, IsWrongOf, IsFirstWrongAt, IsFirstWrong, AreRightPairs}
 use Rattle.ct_partition_files.proofs.ProductKind.{not-false, none-parts, added, added-from}
 
 weighted : (w v : Option ℕ) → (is_some w && not (is_some v)) ≡ false → IfSome w (λ k. IsSome v)
@@ -128,3 +129,25 @@ wrong_id-is e known pairs id h = first-wrong e (first_length known pairs) known 
 pub wrong_id-from : (e : Entry) (known : List NamedCode) (pairs : List Ids) (id : List ℕ) → IsFirstWrong e known pairs id → wrong_id e known pairs ≡ Some id
 wrong_id-from e known pairs id h =
     ap (wrong_of_pairs e (first_length known pairs) known) h.split ∙ wrong-first e (first_length known pairs) known h.before h.pair h.after id h.right h.wrong
+
+-- where none is wrong, both ids of each pair are right, and back
+pairs-right : (e : Entry) (long : ℕ) (known : List NamedCode) (pairs : List Ids) → wrong_of_pairs e long known pairs ≡ None → All (IsRightPair e long known) pairs
+pairs-right e long known [] h = All-nil (IsRightPair e long known)
+pairs-right e long known (p ∷ ps) h =
+    let both = first_of-None (wrong_of_pair e long known p) (wrong_of_pairs e long known ps) h in
+    All-cons (IsRightPair e long known) p ps (pair-right e long known p both.0) (pairs-right e long known ps both.1)
+
+right-pairs : (e : Entry) (long : ℕ) (known : List NamedCode) (pairs : List Ids) → All (IsRightPair e long known) pairs → wrong_of_pairs e long known pairs ≡ None
+right-pairs e long known [] h = refl
+right-pairs e long known (p ∷ ps) h =
+    ap (λ (o : Option (List ℕ)). first_of o (wrong_of_pairs e long known ps)) (right-pair e long known p (All-head (IsRightPair e long known) p ps h))
+    ∙ right-pairs e long known ps (All-tail (IsRightPair e long known) p ps h)
+
+-- what the search for a wrong id says
+pub says-wrong : (e : Entry) (known : List NamedCode) (pairs : List Ids) → Says (wrong_id e known pairs) (AreRightPairs e known pairs) (IsFirstWrong e known pairs)
+says-wrong e known pairs = record {
+  clear = pairs-right e (first_length known pairs) known pairs;
+  clears = right-pairs e (first_length known pairs) known pairs;
+  told = wrong_id-is e known pairs;
+  tells = wrong_id-from e known pairs;
+}

@@ -9,3 +9,4 @@ pub mod PartitionKind
 pub mod ProductKind
 pub mod PartitionFaultText
 pub mod ProductRefusal
+pub mod PartitionRefusal

@@ -1,10 +1,14 @@
--- Which id of a product is wrong, without the steps by which it is found.
-use Rattle.std.specs.Prelude.{◌≡◌, ◌⊎◌, ℕ, ◌+◌, List, ◌∷◌, ◌++◌, All, Option, Some, None, IfSome, IsSome}
+-- Why a product makes no code, and which of its ids is wrong, without the steps by which that is found.
+use Rattle.std.specs.Prelude.{◌≡◌, ◌⊎◌, ◌<◌, ℕ, ◌+◌, List, ◌∷◌, ◌++◌, All, Option, Some, None, IfSome, IsSome}
 use Rattle.ct_codes.specs.declared.entry.Entry.{Entry}
 use Rattle.ct_constructions.specs.Juxtaposed.{added_weights}
+use Rattle.ct_build.specs.declared.fault.BuildFault.TheVariants as build
 use Rattle.ct_partitions.specs.Partition.{PartitionValue}
+use Rattle.ct_partitions.specs.Product.{product_distance}
 use Rattle.ct_kind.specs.Named.{NamedCode, partition_named}
-use Rattle.ct_partition_files.specs.ProductKind.{Ids, factor_named, first_length}
+use Rattle.ct_kind.specs.declared.fault.SubmitFault.{SubmitFault}
+use Rattle.ct_kind.specs.declared.fault.SubmitFault.TheVariants as fault
+use Rattle.ct_partition_files.specs.ProductKind.{Ids, factor_named, factors_named, first_length}
 
 -- a first id is right: its piece is a partition of this length, which has a weight where one is stated
 abbrev pub IsRightFirst : Option ℕ → ℕ → Option PartitionValue → Type 0
@@ -38,3 +42,14 @@ pub record IsFirstWrongAt (e : Entry) (long : ℕ) (known : List NamedCode) (pai
 -- this id is the first that is wrong: the first partitions are to have the length of that of the first pair
 abbrev pub IsFirstWrong : Entry → List NamedCode → List Ids → List ℕ → Type 0
 IsFirstWrong e known pairs id = IsFirstWrongAt e (first_length known pairs) known pairs id
+
+-- both ids of each pair are right
+abbrev pub AreRightPairs : Entry → List NamedCode → List Ids → Type 0
+AreRightPairs e known pairs = All (IsRightPair e (first_length known pairs) known) pairs
+
+-- evidence of kind product is refused for this reason: the first wrong id, or else that the distance of the product is too small
+abbrev pub IsProductRefusal : Entry → List NamedCode → List Ids → SubmitFault → Type 0
+IsProductRefusal e known pairs (fault.WrongPart id) = IsFirstWrong e known pairs id
+IsProductRefusal e known pairs (fault.Build (build.Short have want)) =
+    AreRightPairs e known pairs × (have ≡ product_distance (factors_named known pairs)) × (want ≡ e.d) × (have < want)
+IsProductRefusal e known pairs reason = ⊥

@@ -108,7 +108,7 @@ made_from : (pieces : List PieceValue) (id document : List ℕ) (p : PieceValue)
 made_from pieces id document p h =
     let known = codes_of pieces in
     let q = piece_of known id document h.evidence in
-    let own = no_own_reason known h.evidence (read_of-sound document h.evidence h.read) h.checked h.code in
+    let own = no_own_reason known h.evidence (read_of-sound document h.evidence h.read) h.checked in
     let none = ap (λ (o : Option (List ℕ)). first_of (option_map fault.NoSuch o) (own_reason known h.evidence)) (parts_known pieces (parts_of h.evidence) h.parts) ∙ own in
     let made = ap (piece_from known id document) h.read ∙ ap (λ (reason : Option SubmitFault). made_unless reason q) none ∙ ap Ok (sym h.piece) in
     submitted-from pieces id document p (record { free = not_taken id pieces h.free; room = h.room; made = made; small = h.small })

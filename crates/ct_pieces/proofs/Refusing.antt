@@ -38,7 +38,9 @@ use Rattle.ct_pieces.specs.Refusals.{HasRoom, IsRead, IsFirstMissing, IsOwnReaso
 use Rattle.ct_pieces.specs.declared.limits.TheConstants.{MAX_PIECES, MAX_STORED}
 use Rattle.ct_kind.specs.declared.fault.SubmitFault.{SubmitFault}
 use Rattle.ct_kind.specs.declared.fault.SubmitFault.TheVariants.{Taken, FullPieces, File, NoSuch, WrongPart, Code, Partition, Build, Dual, FullWords, Memory}
+use Rattle.ct_files.proofs.Evidences.{read_of-sound}
 use Rattle.ct_pieces.proofs.CodeLemmas.{known_where_taken}
+use Rattle.ct_pieces.proofs.KindLemmas.{own-told, own-tells, own_checked, no_own_reason}
 use Rattle.ct_pieces.proofs.StandingLemmas.{has_id-none}
 use Rattle.ct_pieces.proofs.Accepting.{not_taken, taken, parts_stand, parts_known, stand-known, known-stand}
 
@@ -223,7 +225,7 @@ read-refused pieces id document evidence reason read h =
     above true few none own same = absurd cc
     above false many none own same =
         same-refused pieces id document (FullWords total) reason same
-        (record { evidence = evidence; read = read; parts = parts_stand pieces (parts_of evidence) none; right = own; sum = refl; many = leb-false total MAX_STORED many })
+        (record { evidence = evidence; read = read; parts = parts_stand pieces (parts_of evidence) none; checked = own_checked (codes_of pieces) evidence (read_of-sound document evidence read.read) own; sum = refl; many = leb-false total MAX_STORED many })
 
     at : (missing : Option (List ℕ)) (own : Option SubmitFault) → first_missing (codes_of pieces) (parts_of evidence) ≡ missing → own_reason (codes_of pieces) evidence ≡ own
         → judged pieces id document evidence missing own ≡ Err reason → IsRefused pieces id document reason
@@ -232,7 +234,7 @@ read-refused pieces id document evidence reason read h =
     at None (Some first) is own_is same =
         same-refused pieces id document first reason same
         (own-refused pieces id document first (reason-own (codes_of pieces) evidence first own_is)
-        (record { evidence = evidence; read = read; parts = parts_stand pieces (parts_of evidence) is; own = own_is }))
+        (record { evidence = evidence; read = read; parts = parts_stand pieces (parts_of evidence) is; own = own-told (codes_of pieces) evidence first own_is }))
     at None None is own_is same = above (nat_le total MAX_STORED) refl is own_is same
 
 -- the reason of a submission that has room
@@ -262,7 +264,7 @@ refused-for pieces id document reason h = at (has_id id pieces) refl where
 own-refuses : (pieces : List PieceValue) (id document : List ℕ) (reason : SubmitFault) → IsOwnReason pieces id document reason → submitted pieces id document ≡ Err reason
 own-refuses pieces id document reason h =
     let none = parts_known pieces (parts_of h.evidence) h.parts in
-    submitted-read pieces id document h.evidence h.read ∙ ap₂ (judged pieces id document h.evidence) none h.own
+    submitted-read pieces id document h.evidence h.read ∙ ap₂ (judged pieces id document h.evidence) none (own-tells (codes_of pieces) h.evidence reason h.own)
 
 -- and each reason that holds refuses
 pub refuses : (pieces : List PieceValue) (id document : List ℕ) (reason : SubmitFault) → IsRefused pieces id document reason → submitted pieces id document ≡ Err reason
@@ -280,10 +282,11 @@ refuses pieces id document (Build reason) h = own-refuses pieces id document (Bu
 refuses pieces id document (Dual reason) h = own-refuses pieces id document (Dual reason) h
 refuses pieces id document (FullWords total) h =
     let none = parts_known pieces (parts_of h.evidence) h.parts in
+    let own = no_own_reason (codes_of pieces) h.evidence (read_of-sound document h.evidence h.read.read) h.checked in
     let p = piece_of (codes_of pieces) id document h.evidence in
     let count = stored_words pieces + stored_by p in
     let above : MAX_STORED < count = subst (λ (n : ℕ). MAX_STORED < n) h.sum h.many in
-    submitted-read pieces id document h.evidence h.read ∙ ap₂ (judged pieces id document h.evidence) none h.right
+    submitted-read pieces id document h.evidence h.read ∙ ap₂ (judged pieces id document h.evidence) none own
     ∙ ap (λ (b : Bool). cond b (Ok p) (Err (FullWords count))) (lt-leb count MAX_STORED above) ∙ ap (λ (n : ℕ). Err (FullWords n)) (sym h.sum)
 refuses pieces id document Memory h = absurd h
 

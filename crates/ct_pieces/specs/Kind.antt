@@ -1,19 +1,28 @@
 -- Evidence by its kind, and what each kind says of it.
 use Rattle.std.specs.Prelude.{ℕ, Bool, List, Option, codes}
 use Rattle.std.specs.List.{list_any}
+use Rattle.std.specs.Option.{MatchOption}
 use Rattle.std.specs.Str.{bytes_eq}
 use Rattle.ct_codes.specs.declared.entry.Entry.{Entry}
+use Rattle.ct_codes.specs.Code.{IsCodeOf}
+use Rattle.ct_build.specs.Build.{IsRightBuild}
 use Rattle.ct_partitions.specs.Partition.{IsPartition}
 use Rattle.ct_evidence.specs.declared.evidence.Evidence.{Evidence}
 use Rattle.ct_evidence.specs.declared.evidence.Evidence.TheVariants.{Words, Cosets, Partition, Build, Product, Dual, JohnsonDual}
 use Rattle.ct_kind.specs.Named.{NamedCode, code_named, other_named}
 use Rattle.ct_kind.specs.KindParts.{KindParts}
 use Rattle.ct_word_files.specs.WordsKind.{words_kind}
+use Rattle.ct_word_files.specs.WordsRefusal.{IsWordsRefusal}
 use Rattle.ct_word_files.specs.CosetsKind.{cosets_kind, IsCosetsChecked}
+use Rattle.ct_word_files.specs.CosetsRefusal.{IsCosetsRefusal}
 use Rattle.ct_partition_files.specs.PartitionKind.{partition_kind}
-use Rattle.ct_build_files.specs.BuildKind.{build_kind, IsBuildChecked}
+use Rattle.ct_partition_files.specs.PartitionRefusal.{IsPartitionRefusal}
+use Rattle.ct_build_files.specs.BuildKind.{build_kind}
+use Rattle.ct_build_files.specs.BuildRefusal.{IsBuildRefusal}
 use Rattle.ct_partition_files.specs.ProductKind.{product_kind, IsProductChecked}
+use Rattle.ct_partition_files.specs.ProductRefusal.{IsProductRefusal}
 use Rattle.ct_dual_files.specs.DualKind.{dual_kind, IsDualChecked}
+use Rattle.ct_dual_files.specs.DualRefusal.{IsDualRefusal}
 use Rattle.ct_kind.specs.declared.fault.SubmitFault.{SubmitFault}
 
 -- what evidence comes to by its kind
@@ -54,14 +63,25 @@ words_over known evidence = (kind_of evidence).words known
 abbrev pub size_over : List NamedCode → Evidence → Option ℕ
 size_over known evidence = (kind_of evidence).size known
 
--- what more is asked of evidence that is accepted than that its words are a code: for cosets that the work of the check is within the limit, for a
--- partition, which has no code, that its classes are one, for a build that its step finds nothing against the codes of its parts, for a product that
--- its pairs have one of the distance that is stated, and for a dual, which has no code, that it is one
+-- what is asked of evidence that is accepted, beside that its parts stand: that its words, or those of all choices of cosets, are a code of its entry,
+-- and for cosets that the work of the check is within the limit; for a partition that its classes are one; for a build that its first part has a code
+-- over which, and over that of the other, its step is right; for a product that its pairs have one of the distance that is stated; and for a dual that
+-- it is one
 abbrev pub IsChecked : List NamedCode → Evidence → Type 0
-IsChecked known (Words e words) = Unit {0}
-IsChecked known (Cosets e basis representatives) = IsCosetsChecked basis representatives
+IsChecked known (Words e words) = IsCodeOf e words
+IsChecked known (Cosets e basis representatives) = IsCosetsChecked e basis representatives
 IsChecked known (Partition e between classes) = IsPartition e.n e.d e.w between classes
-IsChecked known (Build e step part other) = IsBuildChecked e step (code_named part known) (other_named other known)
+IsChecked known (Build e step part other) = MatchOption (code_named part known) ⊥ (λ code. IsRightBuild step e code (other_named other known))
 IsChecked known (Product e pairs) = IsProductChecked e known pairs
 IsChecked known (Dual d) = IsDualChecked d
 IsChecked known (JohnsonDual d) = IsDualChecked d
+
+-- this reason is the first that the kind of the evidence has against it, where its parts stand
+abbrev pub IsOwnRefusal : List NamedCode → Evidence → SubmitFault → Type 0
+IsOwnRefusal known (Words e words) reason = IsWordsRefusal e words reason
+IsOwnRefusal known (Cosets e basis representatives) reason = IsCosetsRefusal e basis representatives reason
+IsOwnRefusal known (Partition e between classes) reason = IsPartitionRefusal e between classes reason
+IsOwnRefusal known (Build e step part other) reason = IsBuildRefusal e step part other (code_named part known) (other_named other known) reason
+IsOwnRefusal known (Product e pairs) reason = IsProductRefusal e known pairs reason
+IsOwnRefusal known (Dual d) reason = IsDualRefusal d reason
+IsOwnRefusal known (JohnsonDual d) reason = IsDualRefusal d reason

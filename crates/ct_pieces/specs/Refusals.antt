@@ -1,8 +1,8 @@
 -- Why a submission or a withdrawal over the pieces that stand is refused, reason by reason: each holds where those before it don't.
-use Rattle.std.specs.Prelude.{◌≡◌, ◌≢◌, ◌<◌, ◌≤◌, ℕ, true, false, ◌+◌, List, ◌∷◌, ◌++◌, length, map, All, Contains, Some, None, Ok, Err}
+use Rattle.std.specs.Prelude.{◌≡◌, ◌≢◌, ◌<◌, ◌≤◌, ℕ, true, false, ◌+◌, List, ◌∷◌, ◌++◌, length, map, All, Contains, Ok, Err}
 use Rattle.ct_evidence.specs.declared.evidence.Evidence.{Evidence}
 use Rattle.ct_files.specs.Evidence.{read_of}
-use Rattle.ct_pieces.specs.Kind.{names, parts_of, own_reason}
+use Rattle.ct_pieces.specs.Kind.{names, parts_of, IsChecked, IsOwnRefusal}
 use Rattle.ct_pieces.specs.Piece.{PieceValue, stored_by, stored_words}
 use Rattle.ct_pieces.specs.Codes.{codes_of}
 use Rattle.ct_pieces.specs.Submission.{piece_of}
@@ -34,12 +34,12 @@ pub record IsFirstMissing (pieces : List PieceValue) (ids : List (List ℕ)) (id
   pub stand : All (IsTaken pieces) before
   pub missing : All (λ q. q.id ≢ id) pieces
 
--- the document is read as evidence whose parts stand, and this is the first reason of its kind's own check
+-- the document is read as evidence whose parts stand, and its kind has this reason against it, by its plain condition
 pub record IsOwnReason (pieces : List PieceValue) (id document : List ℕ) (reason : SubmitFault) : Type 0 where
   pub evidence : Evidence
   pub read : IsRead pieces id document evidence
   pub parts : All (IsTaken pieces) (parts_of evidence)
-  pub own : own_reason (codes_of pieces) evidence ≡ Some reason
+  pub own : IsOwnRefusal (codes_of pieces) evidence reason
 
 -- the document names this part first of those that don't stand
 pub record NamesMissing (pieces : List PieceValue) (id document part : List ℕ) : Type 0 where
@@ -47,12 +47,12 @@ pub record NamesMissing (pieces : List PieceValue) (id document part : List ℕ)
   pub read : IsRead pieces id document evidence
   pub first : IsFirstMissing pieces (parts_of evidence) part
 
--- nothing is against the evidence, but so many words would be stored with it, which are too many
+-- the evidence is as its kind asks, but so many words would be stored with it, which are too many
 pub record IsAboveStored (pieces : List PieceValue) (id document : List ℕ) (total : ℕ) : Type 0 where
   pub evidence : Evidence
   pub read : IsRead pieces id document evidence
   pub parts : All (IsTaken pieces) (parts_of evidence)
-  pub right : own_reason (codes_of pieces) evidence ≡ None
+  pub checked : IsChecked (codes_of pieces) evidence
   pub sum : total ≡ stored_words pieces + stored_by (piece_of (codes_of pieces) id document evidence)
   pub many : MAX_STORED < total
 

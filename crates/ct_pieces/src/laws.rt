@@ -1,6 +1,6 @@
 //! Facts about every submission.
 
-ghost use Rattle.std.specs.Prelude.{◌≡◌, ◌≢◌, ◌↔◌, ℕ, ◌+◌, ◌≤◌, List, length, Option, Ok, Err, Some, All, Contains, IfSome, IsSome, IsTrue, map, slice_get};
+ghost use Rattle.std.specs.Prelude.{◌≡◌, ◌≢◌, ◌↔◌, ℕ, ◌+◌, ◌≤◌, List, length, Option, Ok, Err, Some, None, All, Contains, IfSome, IsSome, IsTrue, map, slice_get};
 ghost use Rattle.std.specs.List.Sorted.{IsPermutation, IsSorted};
 ghost use Rattle.std.specs.Ordering.{nat_cmp};
 ghost use Rattle.ct_codes.specs.declared.entry.Entry.{Entry};
@@ -15,8 +15,9 @@ ghost use Rattle.ct_fields.specs.declared.document.TheConstants.{MAX_DOCUMENT};
 ghost use Rattle.ct_pieces.specs.Codes.{codes_of, code_of_place};
 ghost use Rattle.ct_pieces.specs.Piece.{PieceValue, has_id};
 ghost use Rattle.ct_kind.specs.Ascending.{ascending};
-ghost use Rattle.ct_pieces.specs.Kind.{kind_of, has_code};
+ghost use Rattle.ct_pieces.specs.Kind.{kind_of, has_code, own_reason, IsChecked, IsOwnRefusal};
 ghost use Rattle.ct_kind.specs.KindParts.{stored_for};
+ghost use Rattle.ct_kind.specs.Named.{NamedCode};
 ghost use Rattle.ct_pieces.specs.Refusals.{IsRefused, IsNotWithdrawn};
 ghost use Rattle.ct_pieces.specs.Withdrawal.{withdrawn};
 ghost use Rattle.ct_pieces.specs.declared.limits.TheConstants.{MAX_PIECES, MAX_STORED};
@@ -24,7 +25,7 @@ ghost use Rattle.ct_pieces.specs.declared.fault.WithdrawFault.{WithdrawFault};
 ghost use Rattle.ct_pieces.specs.Standing.{AreStanding};
 ghost use Rattle.ct_fields.specs.declared.fault.FileFault.{FileFault};
 ghost use Rattle.ct_evidence.specs.declared.evidence.Evidence.{Evidence};
-ghost use Rattle.ct_files.specs.Evidence.{read_without_limit};
+ghost use Rattle.ct_files.specs.Evidence.{read_without_limit, IsSound};
 ghost use Rattle.ct_pieces.specs.Submission.{submitted, admitted, IsAccepted};
 ghost use Rattle.ct_pieces.specs.Supports.{support_of, supports_of};
 ghost use Rattle.ct_kind.specs.declared.fault.SubmitFault.{SubmitFault};
@@ -50,6 +51,16 @@ pub fn submissions_that_are_accepted()
 pub fn refusals_in_order()
     ensures { (pieces : List PieceValue) (id document : List ℕ) (reason : SubmitFault)
         → (submitted pieces id document ≡ Err reason) ↔ IsRefused pieces id document reason }
+{}
+
+/// Why a kind has a reason of its own against evidence, over the codes and partitions that it may name: exactly where the plain condition of
+/// the reason holds, and where that of no reason before it does. It has none against evidence that was read exactly where this is as the
+/// kind asks.
+pub fn reasons_of_kinds()
+    ensures reason { (known : List NamedCode) (evidence : Evidence) (reason : SubmitFault)
+        → (own_reason known evidence ≡ Some reason) ↔ IsOwnRefusal known evidence reason }
+    ensures none { (known : List NamedCode) (evidence : Evidence) → IsSound evidence
+        → (own_reason known evidence ≡ None) ↔ IsChecked known evidence }
 {}
 
 /// Evidence that is admitted with a document within the limit, which reads as it, makes what a submission of the document makes; and no

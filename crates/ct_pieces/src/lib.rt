@@ -19,8 +19,8 @@ pub use dump::line_count;
 pub use fault::WithdrawFault;
 pub use laws::{
     ascending_numbers, duals_give_their_bounds, evidence_that_is_admitted, pieces_give_supports,
-    pieces_have_codes, refusals_in_order, stored_words_by_kind, submissions_that_are_accepted,
-    withdrawals_that_are_refused,
+    pieces_have_codes, reasons_of_kinds, refusals_in_order, stored_words_by_kind,
+    submissions_that_are_accepted, withdrawals_that_are_refused,
 };
 pub use limits::{MAX_PIECES, MAX_STORED};
 pub use piece::Piece;

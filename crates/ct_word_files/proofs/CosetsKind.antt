@@ -6,7 +6,7 @@ use Rattle.ct_words.specs.declared.limits.TheConstants.{MAX_N}
 use Rattle.ct_codes.specs.declared.entry.Entry.{Entry}
 use Rattle.ct_codes.specs.declared.fault.TheConstants.{MAX_REPRESENTATIVES}
 use Rattle.ct_codes.specs.Entry.{IsEntry}
-use Rattle.ct_codes.specs.Code.{CodeValue, IsCodeOf, IsSoundCode}
+use Rattle.ct_codes.specs.Code.{CodeValue, IsSoundCode}
 use Rattle.ct_codes.specs.Coset.{CosetValue, coset_list}
 use Rattle.ct_codes.proofs.EntryLemmas.{entry_limits}
 use Rattle.ct_codes.proofs.CosetLemmas.{cosets_from_no_fault, choice_count-pos, no_fault_of_cosets}
@@ -22,7 +22,7 @@ use Rattle.ct_word_files.specs.CosetsKind.{cosets_kind, IsCosetsChecked}
 -- cosets against which there is no reason are a code, and the check is within the limit
 pub cosets_state : (known : List NamedCode) (e : Entry) (basis representatives : List ℕ) → IsEntry e → e.w ≡ None → All (λ x. x < 2 ^ e.n) basis
     → All (λ x. x < 2 ^ e.n) representatives → (cosets_kind e basis representatives).reason known ≡ None
-    → StatesWell (cosets_kind e basis representatives) known (IsCosetsChecked basis representatives)
+    → StatesWell (cosets_kind e basis representatives) known (IsCosetsChecked e basis representatives)
 cosets_state known e basis representatives entry plain within_basis within own =
     let limits = entry_limits e entry in
     let far = limits.distance_from in
@@ -32,7 +32,7 @@ cosets_state known e basis representatives entry plain within_basis within own =
     let some : 1 ≤ length (coset_list basis representatives) = omega arith in
     record {
       entry = entry;
-      checked = whole.3;
+      checked = (whole.3, whole.4);
       coded = refl;
       code = (some, whole.4);
       size = λ yes. refl;
@@ -40,12 +40,17 @@ cosets_state known e basis representatives entry plain within_basis within own =
       stands = size-stands e (coset_list basis representatives) entry some whole.4;
     }
 
+-- so they are what is asked
+pub cosets_checked : (known : List NamedCode) (e : Entry) (basis representatives : List ℕ) → IsEntry e → e.w ≡ None → All (λ x. x < 2 ^ e.n) basis
+    → All (λ x. x < 2 ^ e.n) representatives → (cosets_kind e basis representatives).reason known ≡ None → IsCosetsChecked e basis representatives
+cosets_checked known e basis representatives entry plain within_basis within own = (cosets_state known e basis representatives entry plain within_basis within own).checked
+
 -- cosets that are a code, and whose check is within the limit, have no reason against them
 pub cosets_accepted : (known : List NamedCode) (e : Entry) (basis representatives : List ℕ) → length basis ≤ MAX_N → 1 ≤ length representatives
-    → length representatives ≤ MAX_REPRESENTATIVES → IsCosetsChecked basis representatives → IsCodeOf e (coset_list basis representatives)
+    → length representatives ≤ MAX_REPRESENTATIVES → IsCosetsChecked e basis representatives
     → (cosets_kind e basis representatives).reason known ≡ None
-cosets_accepted known e basis representatives few_basis some few checked code =
-    ap (option_map fault.Code) (no_fault_of_cosets e basis representatives few_basis some few checked code)
+cosets_accepted known e basis representatives few_basis some few checked =
+    ap (option_map fault.Code) (no_fault_of_cosets e basis representatives few_basis some few checked.0 checked.1)
 
 -- they are the same over all codes
 pub cosets_same : (e : Entry) (basis representatives : List ℕ) (left right : List NamedCode) → SaysSame (cosets_kind e basis representatives) left right

@@ -14,18 +14,22 @@ use Rattle.ct_word_files.specs.WordsKind.{words_kind}
 
 -- words against which there is no reason are a code
 pub words_state : (known : List NamedCode) (e : Entry) (words : List ℕ) → IsEntry e → All (λ x. x < 2 ^ e.n) words → (words_kind e words).reason known ≡ None
-    → StatesWell (words_kind e words) known (Unit {0})
+    → StatesWell (words_kind e words) known (IsCodeOf e words)
 words_state known e words entry within own =
     let whole = code_from_no_fault e words within (option_map-none fault.Code _ own) in
     record {
       entry = entry;
-      checked = tt;
+      checked = whole.2;
       coded = refl;
       code = (whole.0, whole.2);
       size = λ yes. refl;
       partition = tt;
       stands = size-stands e words entry whole.0 whole.2;
     }
+
+-- so they are what is asked
+pub words_checked : (known : List NamedCode) (e : Entry) (words : List ℕ) → All (λ x. x < 2 ^ e.n) words → (words_kind e words).reason known ≡ None → IsCodeOf e words
+words_checked known e words within own = (code_from_no_fault e words within (option_map-none fault.Code _ own)).2
 
 -- words that are a code have no reason against them
 pub words_accepted : (known : List NamedCode) (e : Entry) (words : List ℕ) → 1 ≤ length words → length words ≤ MAX_WORDS → IsCodeOf e words

@@ -2,6 +2,7 @@
 use Rattle.std.specs.Prelude.{◌≤◌, ℕ, ◌+◌, true, false, List, [], length, Some, None, option_map, codes}
 use Rattle.ct_codes.specs.declared.entry.Entry.{Entry}
 use Rattle.ct_codes.specs.declared.fault.TheConstants.{MAX_COSET_WORK}
+use Rattle.ct_codes.specs.Code.{IsCodeOf}
 use Rattle.ct_codes.specs.Coset.{coset_list, coset_fault, coset_work}
 use Rattle.ct_kind.specs.KindParts.{KindParts, support_from}
 use Rattle.ct_kind.specs.declared.fault.SubmitFault.TheVariants as fault
@@ -22,6 +23,6 @@ cosets_kind e basis representatives = record {
   gives = support_from e;
 }
 
--- the work of the check is within the limit
-abbrev pub IsCosetsChecked : List ℕ → List ℕ → Type 0
-IsCosetsChecked basis representatives = coset_work basis representatives ≤ MAX_COSET_WORK
+-- the work of the check is within the limit, and the words of all choices are a code of the entry
+abbrev pub IsCosetsChecked : Entry → List ℕ → List ℕ → Type 0
+IsCosetsChecked e basis representatives = (coset_work basis representatives ≤ MAX_COSET_WORK) × IsCodeOf e (coset_list basis representatives)

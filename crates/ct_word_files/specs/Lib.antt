@@ -6,3 +6,5 @@ pub mod WrittenWords
 pub mod WordsKind
 pub mod CosetsKind
 pub mod WordFaultText
+pub mod WordsRefusal
+pub mod CosetsRefusal
