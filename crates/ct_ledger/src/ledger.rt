@@ -4,13 +4,13 @@ ghost use Rattle.std.specs.Prelude.{◌≡◌, ◌≢◌, ◌<◌, ◌∷◌, �
 ghost use Rattle.ct_codes.specs.Code.{IsSoundCode};
 ghost use Rattle.ct_pieces.specs.Piece.{PieceValue, stored_words};
 ghost use Rattle.ct_pieces.specs.Codes.{code_of_place};
-ghost use Rattle.ct_files.specs.Evidence.{read_without_limit};
-ghost use Rattle.ct_pieces.specs.Submission.{submitted, admitted};
+ghost use Rattle.ct_files.specs.Evidence.{read_of};
+ghost use Rattle.ct_pieces.specs.Submission.{submitted};
 ghost use Rattle.ct_kind.specs.declared.fault.SubmitFault.{SubmitFault};
 ghost use Rattle.ct_pieces.specs.Withdrawal.{withdrawn};
 ghost use Rattle.ct_pieces.specs.Supports.{support_of, supports_of};
 ghost use Rattle.ct_pieces.specs.Standing.{AreStanding, HasTrueSize};
-ghost use Rattle.ct_pieces.specs.Submission.{AddsPiece, AdmitsPiece};
+ghost use Rattle.ct_pieces.specs.Submission.{AddsPiece};
 ghost use Rattle.ct_pieces.specs.Dump.{dump_text};
 
 use ct_codes::Code;
@@ -142,18 +142,18 @@ impl Ledger {
         Ok(size)
     }
 
-    /// `submit_text` of evidence that is handed over with a document that reads as it, however long that is: the document is
-    /// kept, and is not read.
+    /// `submit_text` of a document that is handed over with the evidence that it reads as: the document is kept, and is not read
+    /// again.
     pub fn admit(
         &mut self,
         id: Id,
         evidence: Evidence,
         document: Text,
     ) -> Result<Option<u32>, SubmitFault>
-        requires read { read_without_limit document ≡ Ok evidence }
-        ensures accepted { IfOk result (AdmitsPiece self.old.pieces self.new.pieces id document evidence) }
+        requires read { read_of document ≡ Ok evidence }
+        ensures accepted { IfOk result (AddsPiece self.old.pieces self.new.pieces id document) }
         ensures fault { IfErr result (λ fault. fault ≢ SubmitFault.Memory
-            → admitted self.old.pieces id document evidence ≡ Err fault) }
+            → submitted self.old.pieces id document ≡ Err fault) }
         ensures unchanged { OnErr result (self.new ≡ self.old) }
     {
         let size = self.pieces.admit(id, evidence, document)?;

@@ -55,11 +55,6 @@ unfoldable pub submitted : List PieceValue → List ℕ → List ℕ → Result 
 submitted pieces id document =
     unless_full (has_id id pieces) (length pieces) (stored_beside (stored_words pieces) (piece_from (codes_of pieces) id document (read_of document)))
 
--- what evidence makes over the pieces that stand, with a document that is not read for it: what a submission makes, but for the reading
-unfoldable pub admitted : List PieceValue → List ℕ → List ℕ → Evidence → Result PieceValue SubmitFault
-admitted pieces id document evidence =
-    unless_full (has_id id pieces) (length pieces) (stored_beside (stored_words pieces) (made_of (codes_of pieces) id document evidence))
-
 -- the pieces with the one that is made, if one is, at the end
 abbrev pub with_piece : List PieceValue → Result PieceValue SubmitFault → List PieceValue
 with_piece pieces (Ok piece) = pieces ++ piece ∷ []
@@ -82,12 +77,5 @@ pub record IsAccepted (pieces : List PieceValue) (id document : List ℕ) (p : P
 pub record AddsPiece (old new : List PieceValue) (id document : List ℕ) (size : Option ℕ) : Type 0 where
   pub piece : PieceValue
   pub made : submitted old id document ≡ Ok piece
-  pub pieces : new ≡ old ++ piece ∷ []
-  pub answer : size ≡ piece.size
-
--- the evidence made a piece with this document, whose size is answered, and the pieces are those of before and this one after them
-pub record AdmitsPiece (old new : List PieceValue) (id document : List ℕ) (evidence : Evidence) (size : Option ℕ) : Type 0 where
-  pub piece : PieceValue
-  pub made : admitted old id document evidence ≡ Ok piece
   pub pieces : new ≡ old ++ piece ∷ []
   pub answer : size ≡ piece.size

@@ -25,8 +25,8 @@ ghost use Rattle.ct_pieces.specs.declared.fault.WithdrawFault.{WithdrawFault};
 ghost use Rattle.ct_pieces.specs.Standing.{AreStanding};
 ghost use Rattle.ct_fields.specs.declared.fault.FileFault.{FileFault};
 ghost use Rattle.ct_evidence.specs.declared.evidence.Evidence.{Evidence};
-ghost use Rattle.ct_files.specs.Evidence.{read_without_limit, IsSound};
-ghost use Rattle.ct_pieces.specs.Submission.{submitted, admitted, IsAccepted};
+ghost use Rattle.ct_files.specs.Evidence.{read_of, IsSound};
+ghost use Rattle.ct_pieces.specs.Submission.{submitted, IsAccepted};
 ghost use Rattle.ct_pieces.specs.Supports.{support_of, supports_of};
 ghost use Rattle.ct_kind.specs.declared.fault.SubmitFault.{SubmitFault};
 ghost use Rattle.ct_kind.specs.declared.fault.SubmitFault.TheVariants as fault;
@@ -63,13 +63,10 @@ pub fn reasons_of_kinds()
         → (own_reason known evidence ≡ None) ↔ IsChecked known evidence }
 {}
 
-/// Evidence that is admitted with a document within the limit, which reads as it, makes what a submission of the document makes; and no
-/// reason against it is a fault of a document.
+/// A submission whose document is read is refused by no fault of the document, so neither is evidence that is admitted with it.
 pub fn evidence_that_is_admitted()
-    ensures within { (pieces : List PieceValue) (id document : List ℕ) (evidence : Evidence) → length document ≤ MAX_DOCUMENT
-        → read_without_limit document ≡ Ok evidence → admitted pieces id document evidence ≡ submitted pieces id document }
-    ensures unread { (pieces : List PieceValue) (id document : List ℕ) (evidence : Evidence) (reason : FileFault)
-        → admitted pieces id document evidence ≢ Err (fault.File reason) }
+    ensures { (pieces : List PieceValue) (id document : List ℕ) (evidence : Evidence) (reason : FileFault)
+        → read_of document ≡ Ok evidence → submitted pieces id document ≢ Err (fault.File reason) }
 {}
 
 /// Why a withdrawal takes nothing out: no piece has the id; or a piece names it, and then the first that does is told.

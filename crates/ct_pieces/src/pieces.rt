@@ -1,18 +1,18 @@
 //! Pieces of evidence by themselves, without a table.
 
-ghost use Rattle.std.specs.Prelude.{◌≡◌, ◌≢◌, ◌≤◌, ◌<◌, ◌+◌, ◌^◌, ◌∷◌, ◌++◌, ℕ, List, Result, Ok, Err, Some, None, false, IfOk, IfErr, IfSome, IsSome, IsTrue, OnOk, OnErr, [], All, filter, find, is_some, length, not, option_map, remove};
+ghost use Rattle.std.specs.Prelude.{◌≡◌, ◌≢◌, ◌≤◌, ◌<◌, ◌+◌, ◌^◌, ◌∷◌, ◌++◌, List, Result, Ok, Err, Some, None, false, IfOk, IfErr, IfSome, IsSome, IsTrue, OnOk, OnErr, [], All, find, is_some, length, not, option_map, remove};
 ghost use Rattle.ct_codes.specs.Code.{IsSoundCode};
 ghost use Rattle.ct_text.specs.Id.{is_id};
-ghost use Rattle.ct_files.specs.Evidence.{read_of, read_without_limit};
+ghost use Rattle.ct_files.specs.Evidence.{read_of};
 ghost use Rattle.ct_pieces.specs.Piece.{PieceValue, has_id, stored_by, stored_words, first_user};
 ghost use Rattle.ct_pieces.specs.Codes.{code_of_place, codes_of};
-ghost use Rattle.ct_pieces.specs.Submission.{submitted, admitted, piece_from, if_stored, unless_full};
+ghost use Rattle.ct_pieces.specs.Submission.{submitted, if_stored, unless_full};
 ghost use Rattle.ct_kind.specs.declared.fault.SubmitFault.{SubmitFault};
 ghost use Rattle.ct_pieces.specs.Withdrawal.{withdrawn};
 ghost use Rattle.ct_pieces.specs.Standing.{AreStanding, HasTrueSize, IsMade};
 ghost use Rattle.ct_pieces.specs.Inside.Kept.{kept_over};
 ghost use Rattle.ct_pieces.specs.Dump.{dump_text};
-ghost use Rattle.ct_pieces.specs.Submission.{AddsPiece, AdmitsPiece};
+ghost use Rattle.ct_pieces.specs.Submission.{AddsPiece};
 ghost use Rattle.ct_pieces.specs.Piece.{place_of};
 
 use crate::check::{Made, check_document, make_piece};
@@ -198,18 +198,18 @@ impl Pieces {
         self.put_made(made)
     }
 
-    /// `submit_text` of evidence that is handed over with a document that reads as it, however long that is: the document is
-    /// kept, and is not read.
-    #[tactic(auto, unfolding(crate::specs::Submission::admitted))]
+    /// `submit_text` of a document that is handed over with the evidence that it reads as: the document is kept, and is not read
+    /// again.
+    #[tactic(auto, unfolding(crate::specs::Submission::submitted))]
     pub fn admit(
         &mut self,
         id: Id,
         evidence: Evidence,
         document: Text,
     ) -> Result<Option<u32>, SubmitFault>
-        requires read { read_without_limit document ≡ Ok evidence }
-        ensures accepted { IfOk result (AdmitsPiece self.old self.new id document evidence) }
-        ensures fault { IfErr result (λ fault. fault ≢ SubmitFault.Memory → admitted self.old id document evidence ≡ Err fault) }
+        requires read { read_of document ≡ Ok evidence }
+        ensures accepted { IfOk result (AddsPiece self.old self.new id document) }
+        ensures fault { IfErr result (λ fault. fault ≢ SubmitFault.Memory → submitted self.old id document ≡ Err fault) }
         ensures unchanged { OnErr result (self.new ≡ self.old) }
     {
         room_for(&self.pieces, id)?;

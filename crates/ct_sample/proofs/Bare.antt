@@ -7,23 +7,25 @@ use Rattle.std.proofs.lemmas.List.{length-map}
 use Rattle.std.proofs.lemmas.List.Folds.{fold-map}
 use Rattle.std.proofs.lemmas.List.Sums.{sum_by-cons, fold-append}
 use Rattle.ct_evidence.specs.declared.evidence.Evidence.{Evidence}
+use Rattle.ct_files.specs.Evidence.{read_of}
 use Rattle.ct_rule_parts.specs.declared.support.Support.{Support}
 use Rattle.ct_kind.specs.Named.{NamedCode}
 use Rattle.ct_pieces.specs.Kind.{names}
 use Rattle.ct_pieces.specs.Piece.{PieceValue, has_id, stored_by, stored_words, first_user}
 use Rattle.ct_pieces.specs.Codes.{named_code, codes_after, codes_of}
-use Rattle.ct_pieces.specs.Submission.{evidence_reason, piece_of, made_unless, made_of, stored_beside, unless_full, admitted}
+use Rattle.ct_pieces.specs.Submission.{evidence_reason, piece_of, made_unless, made_of, stored_beside, unless_full, submitted}
 use Rattle.ct_pieces.specs.Supports.{support_of, supports_of}
 use Rattle.ct_pieces.specs.Withdrawal.{without, unless_used, withdrawn}
 use Rattle.ct_pieces.specs.declared.limits.TheConstants.{MAX_PIECES, MAX_STORED}
 use Rattle.ct_kind.specs.declared.fault.SubmitFault.{SubmitFault}
+use Rattle.ct_pieces.proofs.Admitting.{made_of-read}
 use Rattle.ct_kind.specs.declared.fault.SubmitFault.TheVariants as fault
 use Rattle.ct_pieces.specs.declared.fault.WithdrawFault.{WithdrawFault}
 use Rattle.ct_pieces.specs.declared.fault.WithdrawFault.TheVariants as withdraw
 use Rattle.ct_sample.specs.Drawn.{may_lengthen, lengthening, last_lengthening, drawn_dual, drawn_words, drawn_cosets, drawn_evidence}
 use Rattle.ct_sample.specs.Command.{step_id, is_used, command_of}
 use Rattle.ct_sample.specs.declared.command.Command.TheVariants.{Submit, Withdraw}
-use Rattle.ct_sample.specs.Run.{bare, bares}
+use Rattle.ct_sample.specs.Run.{bare, bares, made_bare}
 
 has_id-bares : (id : List ℕ) (ps : List PieceValue) → has_id id (bares ps) ≡ has_id id ps
 has_id-bares id [] = refl
@@ -89,10 +91,10 @@ full-bare true full count made = refl
 full-bare false true count made = refl
 full-bare false false count made = refl
 
--- evidence makes over pieces without documents what it makes over them, but for the documents
-pub admitted-bares : (ps : List PieceValue) (id document : List ℕ) (evidence : Evidence) → admitted (bares ps) id [] evidence ≡ bare_made (admitted ps id document evidence)
-unfolding admitted
-admitted-bares ps id document evidence =
+-- a submission of a document that reads as the evidence makes over pieces what this makes over them without documents, but for the documents
+pub made-bares : (ps : List PieceValue) (id document : List ℕ) (evidence : Evidence) → read_of document ≡ Ok evidence → made_bare (bares ps) id evidence ≡ bare_made (submitted ps id document)
+unfolding made_bare submitted
+made-bares ps id document evidence read =
     let known = codes_of ps in
     let own = made_of known id document evidence in
     ap (λ (taken : Bool). unless_full taken (length (bares ps)) (stored_beside (stored_words (bares ps)) (made_of (codes_of (bares ps)) id [] evidence))) (has_id-bares id ps)
@@ -102,6 +104,8 @@ admitted-bares ps id document evidence =
     ∙ ap (λ (made : Result PieceValue SubmitFault). unless_full (has_id id ps) (length ps) (stored_beside (stored_words ps) made)) (unless-bare (evidence_reason known evidence) (piece_of known id document evidence))
     ∙ ap (λ (made : Result PieceValue SubmitFault). unless_full (has_id id ps) (length ps) made) (stored-bare (stored_words ps) own)
     ∙ full-bare (has_id id ps) (nat_le MAX_PIECES (length ps)) (length ps) (stored_beside (stored_words ps) own)
+    ∙ ap (λ (made : Result PieceValue SubmitFault). bare_made (unless_full (has_id id ps) (length ps) (stored_beside (stored_words ps) made)))
+    (sym (made_of-read known id document evidence own read refl))
 
 used-bare : (user : Option PieceValue) (rest : List PieceValue) → unless_used (option_map bare user) (bares rest) ≡ bare_left (unless_used user rest)
 used-bare None rest = refl

@@ -3,13 +3,14 @@ use Rattle.std.proofs.Common.{◌≡◌, ℕ, ◌+◌, Bool, true, false, cond, 
 use Rattle.std.specs.Int.{from_bool}
 use Rattle.std.proofs.lemmas.List.{map-append}
 use Rattle.ct_evidence.specs.declared.evidence.Evidence.{Evidence}
+use Rattle.ct_files.specs.Evidence.{read_of}
 use Rattle.ct_pieces.specs.Piece.{PieceValue}
-use Rattle.ct_pieces.specs.Submission.{admitted, with_piece}
+use Rattle.ct_pieces.specs.Submission.{submitted, with_piece}
 use Rattle.ct_pieces.specs.Withdrawal.{withdrawn, left_by}
 use Rattle.ct_kind.specs.declared.fault.SubmitFault.{SubmitFault}
 use Rattle.ct_pieces.specs.declared.fault.WithdrawFault.{WithdrawFault}
-use Rattle.ct_sample.specs.Run.{RunValue, bare, bares, after_submission, after_withdrawal}
-use Rattle.ct_sample.proofs.Bare.{bare_made, bare_left, admitted-bares, withdrawn-bares}
+use Rattle.ct_sample.specs.Run.{RunValue, bare, bares, made_bare, after_submission, after_withdrawal}
+use Rattle.ct_sample.proofs.Bare.{bare_made, bare_left, made-bares, withdrawn-bares}
 
 -- what is seen of a run
 abbrev pub run_value : List PieceValue → ℕ → ℕ → RunValue
@@ -28,13 +29,14 @@ with-bare : (old : List PieceValue) (made : Result PieceValue SubmitFault) → b
 with-bare old (Ok p) = map-append bare old (p ∷ [])
 with-bare old (Err reason) = refl
 
-pub submitted_one : (old new : List PieceValue) (a w one : ℕ) (id document : List ℕ) (evidence : Evidence) → new ≡ with_piece old (admitted old id document evidence)
-    → one ≡ cond (is_ok (admitted old id document evidence)) 1 0 → run_value new (a + one) w ≡ after_submission (run_value old a w) (admitted (bares old) id [] evidence)
-submitted_one old new a w one id document evidence pieces counted =
-    let made = admitted old id document evidence in
+pub submitted_one : (old new : List PieceValue) (a w one : ℕ) (id document : List ℕ) (evidence : Evidence) → read_of document ≡ Ok evidence
+    → new ≡ with_piece old (submitted old id document)
+    → one ≡ cond (is_ok (submitted old id document)) 1 0 → run_value new (a + one) w ≡ after_submission (run_value old a w) (made_bare (bares old) id evidence)
+submitted_one old new a w one id document evidence read pieces counted =
+    let made = submitted old id document in
     let left : bares new ≡ with_piece (bares old) (bare_made made) = ap bares pieces ∙ with-bare old made in
     let count : a + one ≡ a + cond (is_ok (bare_made made)) 1 0 = ap (λ (n : ℕ). a + n) (counted ∙ ap (λ (b : Bool). cond {A = ℕ} b 1 0) (sym (ok-bare made))) in
-    (λ i. record { pieces = left i; accepted = count i; withdrawn = w }) ∙ ap (after_submission (run_value old a w)) (sym (admitted-bares old id document evidence))
+    (λ i. record { pieces = left i; accepted = count i; withdrawn = w }) ∙ ap (after_submission (run_value old a w)) (sym (made-bares old id document evidence read))
 
 ok-left : (left : Result (List PieceValue) WithdrawFault) → is_ok (bare_left left) ≡ is_ok left
 ok-left (Ok rest) = refl

@@ -1,5 +1,5 @@
 -- What holds of the pieces of a run, which has no documents: what they give to the table stands, their codes are codes, and their entries are of the table.
-use Rattle.std.proofs.Common.{◌≡◌, ℕ, zero, suc, ◌+◌, ◌≤◌, ◌%◌, ◌==◌, Bool, true, false, cond, List, [], ◌∷◌, ◌++◌, Option, Some, None, option_map, Result, Ok, Err, is_ok, refl, sym, subst, arith}
+use Rattle.std.proofs.Common.{◌≡◌, ℕ, zero, suc, ◌+◌, ◌≤◌, ◌%◌, ◌==◌, Bool, true, false, cond, List, [], ◌∷◌, ◌++◌, length, Option, Some, None, option_map, Result, Ok, Err, is_ok, refl, sym, subst, arith}
 use Rattle.std.specs.Prelude.{IfSome, filter}
 use Rattle.std.proofs.lemmas.List.Elements.{All-nil, All-cons, All-push, All-head, All-tail, All-filter}
 use Rattle.ct_codes.specs.Entry.{IsEntry}
@@ -8,9 +8,9 @@ use Rattle.ct_evidence.specs.declared.evidence.Evidence.{Evidence}
 use Rattle.ct_files.specs.Evidence.{IsSound}
 use Rattle.ct_kind.specs.Named.{NamedCode}
 use Rattle.ct_pieces.specs.Kind.{words_over}
-use Rattle.ct_pieces.specs.Piece.{PieceValue, has_id, first_user}
+use Rattle.ct_pieces.specs.Piece.{PieceValue, has_id, stored_words, first_user}
 use Rattle.ct_pieces.specs.Codes.{named_code, codes_of}
-use Rattle.ct_pieces.specs.Submission.{made_of, admitted, with_piece}
+use Rattle.ct_pieces.specs.Submission.{made_of, stored_beside, with_piece}
 use Rattle.ct_pieces.specs.Supports.{support_of, supports_of}
 use Rattle.ct_pieces.specs.Withdrawal.{without, unless_used, withdrawn, left_by}
 use Rattle.ct_kind.specs.declared.fault.SubmitFault.{SubmitFault}
@@ -21,12 +21,12 @@ use Rattle.ct_kind.specs.Sound.{AreSound, HasSoundCode}
 use Rattle.ct_pieces.proofs.MakingLemmas.{IsRight, making, states_code, over-sound}
 use Rattle.ct_pieces.proofs.LeavingLemmas.{other_than, ArePassed-others, codes-passing}
 use Rattle.ct_pieces.proofs.SupportLemmas.{supports-push}
-use Rattle.ct_pieces.proofs.Admitting.{admitted-made}
+use Rattle.ct_pieces.proofs.StandingLemmas.{unless_full-ok, stored_beside-ok}
 use Rattle.ct_sample.specs.Command.{step_id, first_unused, command_of}
 use Rattle.ct_sample.specs.Drawn.{drawn_evidence}
 use Rattle.ct_sample.specs.Inside.Sound.{IsSoundCommand}
 use Rattle.ct_sample.specs.Random.{drawn}
-use Rattle.ct_sample.specs.Run.{RunValue, after_command, run_to}
+use Rattle.ct_sample.specs.Run.{RunValue, made_bare, after_command, run_to}
 use Rattle.ct_sample.specs.declared.command.Command.{Command}
 use Rattle.ct_sample.specs.declared.command.Command.TheVariants.{Submit, Withdraw}
 use Rattle.ct_sample.proofs.DrawnSound.{AreEntries, drawn-sound}
@@ -65,10 +65,18 @@ running-push pieces p h good = record {
   entries = All-push (λ (q : PieceValue). IsEntry q.entry) pieces p h.entries good.entry;
 }
 
+-- evidence that makes a piece without its document makes it over the codes of the pieces
+bare-made : (pieces : List PieceValue) (id : List ℕ) (evidence : Evidence) (p : PieceValue) → made_bare pieces id evidence ≡ Ok p → made_of (codes_of pieces) id [] evidence ≡ Ok p
+unfolding made_bare
+bare-made pieces id evidence p h =
+    let made = made_of (codes_of pieces) id [] evidence in
+    let whole = unless_full-ok (has_id id pieces) (length pieces) (stored_beside (stored_words pieces) made) p h in
+    (stored_beside-ok (stored_words pieces) made p whole.2).0
+
 running-made : (pieces : List PieceValue) (id : List ℕ) (evidence : Evidence) (made : Result PieceValue SubmitFault) → IsRunning pieces → IsSound evidence
-    → admitted pieces id [] evidence ≡ made → IsRunning (with_piece pieces made)
+    → made_bare pieces id evidence ≡ made → IsRunning (with_piece pieces made)
 running-made pieces id evidence (Ok p) h sound is =
-    running-push pieces p h (made-good (codes_of pieces) id [] evidence p h.sound sound (admitted-made pieces id [] evidence p is))
+    running-push pieces p h (made-good (codes_of pieces) id [] evidence p h.sound sound (bare-made pieces id evidence p is))
 running-made pieces id evidence (Err reason) h sound is = h
 
 stand-filter : (test : PieceValue → Bool) (ps : List PieceValue) → AllStand (supports_of ps) → AllStand (supports_of (filter test ps))
@@ -106,7 +114,7 @@ running-left pieces id h =
 
 running-after : (run : RunValue) (command : Option Command) → IsRunning run.pieces → IfSome command IsSoundCommand → IsRunning (after_command run command).pieces
 running-after run None h sound = h
-running-after run (Some (Submit id evidence)) h sound = running-made run.pieces id evidence (admitted run.pieces id [] evidence) h sound refl
+running-after run (Some (Submit id evidence)) h sound = running-made run.pieces id evidence (made_bare run.pieces id evidence) h sound refl
 running-after run (Some (Withdraw id)) h sound = running-left run.pieces id h
 
 withdraw-sound : (id : Option (List ℕ)) → IfSome (option_map Withdraw id) IsSoundCommand
@@ -133,7 +141,7 @@ counted false = omega arith
 
 counts-after : (run : RunValue) (command : Option Command) → (after_command run command).accepted + (after_command run command).withdrawn ≤ run.accepted + run.withdrawn + 1
 counts-after run None = omega arith
-counts-after run (Some (Submit id evidence)) = let one = counted (is_ok (admitted run.pieces id [] evidence)) in omega (arith, one)
+counts-after run (Some (Submit id evidence)) = let one = counted (is_ok (made_bare run.pieces id evidence)) in omega (arith, one)
 counts-after run (Some (Withdraw id)) = let one = counted (is_ok (withdrawn run.pieces id)) in omega (arith, one)
 
 -- no more commands are followed than there were steps

@@ -1,8 +1,10 @@
 -- The run of the sample: what its commands leave. The document of a piece is written from its evidence, and nothing else is said of it; so the run
 -- speaks of the pieces without their documents.
-use Rattle.std.specs.Prelude.{ℕ, zero, suc, ◌+◌, if◌then◌else◌, List, [], Option, Some, None, Result, is_ok, map}
-use Rattle.ct_pieces.specs.Piece.{PieceValue}
-use Rattle.ct_pieces.specs.Submission.{admitted, with_piece}
+use Rattle.std.specs.Prelude.{ℕ, zero, suc, ◌+◌, if◌then◌else◌, List, [], length, Option, Some, None, Result, is_ok, map}
+use Rattle.ct_pieces.specs.Piece.{PieceValue, has_id, stored_words}
+use Rattle.ct_evidence.specs.declared.evidence.Evidence.{Evidence}
+use Rattle.ct_pieces.specs.Codes.{codes_of}
+use Rattle.ct_pieces.specs.Submission.{made_of, stored_beside, unless_full, with_piece}
 use Rattle.ct_pieces.specs.Withdrawal.{withdrawn, left_by}
 use Rattle.ct_kind.specs.declared.fault.SubmitFault.{SubmitFault}
 use Rattle.ct_pieces.specs.declared.fault.WithdrawFault.{WithdrawFault}
@@ -18,6 +20,11 @@ bare p = record { id = p.id; document = []; evidence = p.evidence; entry = p.ent
 -- pieces without their documents
 abbrev pub bares : List PieceValue → List PieceValue
 bares pieces = map bare pieces
+
+-- what evidence makes over pieces, without its document: what a submission makes of each document that reads as it, but for the document
+unfoldable pub made_bare : List PieceValue → List ℕ → Evidence → Result PieceValue SubmitFault
+made_bare pieces id evidence =
+    unless_full (has_id id pieces) (length pieces) (stored_beside (stored_words pieces) (made_of (codes_of pieces) id [] evidence))
 
 -- what commands leave: the pieces that stand, without their documents, how many submissions were accepted, and how many withdrawals were made
 pub record RunValue : Type 0 where
@@ -42,7 +49,7 @@ after_withdrawal run left =
 -- after a command, where there is one
 abbrev pub after_command : RunValue → Option Command → RunValue
 after_command run None = run
-after_command run (Some (Submit id evidence)) = after_submission run (admitted run.pieces id [] evidence)
+after_command run (Some (Submit id evidence)) = after_submission run (made_bare run.pieces id evidence)
 after_command run (Some (Withdraw id)) = after_withdrawal run (withdrawn run.pieces id)
 
 -- after so many steps of the sample of a number of commands

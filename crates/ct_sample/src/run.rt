@@ -1,11 +1,11 @@
 //! The run of the sample: a ledger that obeys its commands.
 
 ghost use Rattle.std.specs.Prelude.{◌≡◌, ◌≢◌, ◌≤◌, ◌<◌, ◌+◌, ◌^◌, [], IfOk, OnOk, Some, IfSome, Ok, false, is_ok, length};
-ghost use Rattle.ct_files.specs.Evidence.{IsSound, read_without_limit};
-ghost use Rattle.ct_pieces.specs.Submission.{admitted, with_piece};
+ghost use Rattle.ct_files.specs.Evidence.{IsSound, read_of};
+ghost use Rattle.ct_pieces.specs.Submission.{submitted, with_piece};
 ghost use Rattle.ct_pieces.specs.Supports.{supports_of};
 ghost use Rattle.ct_pieces.specs.Withdrawal.{withdrawn, left_by};
-ghost use Rattle.ct_sample.specs.Run.{bares, after_submission, after_withdrawal, after_command, no_commands, run_to};
+ghost use Rattle.ct_sample.specs.Run.{bares, made_bare, after_submission, after_withdrawal, after_command, no_commands, run_to};
 ghost use Rattle.ct_sample.specs.Inside.Sound.{IsSoundCommand};
 
 use crate::command::{Command, command_of};
@@ -42,9 +42,9 @@ fn submit_evidence(
     evidence: Evidence,
     document: Text,
 ) -> Result<bool, AllocError>
-    requires read { read_without_limit document ≡ Ok evidence }
-    ensures accepted { IfOk result (λ accepted. accepted ≡ is_ok (admitted ledger.old.pieces id document evidence)) }
-    ensures pieces { OnOk result (ledger.new.pieces ≡ with_piece ledger.old.pieces (admitted ledger.old.pieces id document evidence)) }
+    requires read { read_of document ≡ Ok evidence }
+    ensures accepted { IfOk result (λ accepted. accepted ≡ is_ok (submitted ledger.old.pieces id document)) }
+    ensures pieces { OnOk result (ledger.new.pieces ≡ with_piece ledger.old.pieces (submitted ledger.old.pieces id document)) }
 {
     match ledger.admit(id, evidence, document) {
         Ok(_) => Ok(true),
@@ -90,7 +90,7 @@ impl Run {
     fn submit(&mut self, alloc: Global, id: Id, evidence: Evidence) -> Result<(), AllocError>
         requires sound { IsSound evidence }
         requires room { self.old.accepted + 1 < 2 ^ 32 }
-        ensures { OnOk result (self.new ≡ after_submission self.old (admitted self.old.pieces id [] evidence)) }
+        ensures { OnOk result (self.new ≡ after_submission self.old (made_bare self.old.pieces id evidence)) }
     {
         let document = Text::from_vec(write_evidence(alloc, &evidence)?);
         let accepted = submit_evidence(&mut self.ledger, id, evidence, document)?;

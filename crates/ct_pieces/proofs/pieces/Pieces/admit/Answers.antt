@@ -1,20 +1,20 @@
 use Rattle.std.proofs.Common.{ℕ, List, Ok, ◌≡◌, ap, ◌∙◌, subst}
-use Rattle.ct_files.proofs.Evidences.{read_without_limit-sound}
+use Rattle.ct_files.proofs.Evidences.{read_of-sound}
 use Rattle.ct_pieces.specs.Piece.{PieceValue, has_id}
 use Rattle.ct_pieces.specs.Codes.{codes_of}
 use Rattle.ct_pieces.specs.Submission.{made_of}
-use Rattle.ct_pieces.proofs.StandingLemmas.{piece_from-names}
-use Rattle.ct_pieces.proofs.Admitting.{made_of-made, admits_piece, admits_fault}
+use Rattle.ct_pieces.proofs.StandingLemmas.{piece_from-names, piece_from-made}
+use Rattle.ct_pieces.proofs.Admitting.{made_of-read, submits_piece, submits_fault}
 use Rattle.ct_pieces.proofs.pieces.Pieces.admit.Goals as goal
 
 pub make_piece-requires-clause-sound : goal.make_piece-requires-clause-sound
-make_piece-requires-clause-sound c = read_without_limit-sound c.args.document c.args.evidence c.requires.read
+make_piece-requires-clause-sound c = read_of-sound c.args.document c.args.evidence c.requires.read
 
 pub put_made-requires-clause-made : goal.put_made-requires-clause-made
 put_made-requires-clause-made c =
     let p = c.in_ok-made.made.piece in
     let made = subst (λ (ps : List PieceValue). made_of (codes_of ps) c.args.id c.args.document c.args.evidence ≡ Ok p) (c.deref-2.ensures.value ∙ c.self.view_is) c.in_ok-made.ensures.made in
-    made_of-made (codes_of c.args.self.now) c.args.id c.args.document c.args.evidence p c.requires.read made
+    piece_from-made (codes_of c.args.self.now) c.args.id c.args.document p (made_of-read (codes_of c.args.self.now) c.args.id c.args.document c.args.evidence (Ok p) c.requires.read made)
 
 pub put_made-requires-clause-free : goal.put_made-requires-clause-free
 put_made-requires-clause-free c =
@@ -31,7 +31,8 @@ returns-clause-accepted c =
     let free = rw (c.deref.ensures.value, c.self.view_is) at c.in_ok-room_for.ensures.free in
     let room = rw (c.deref.ensures.value, c.self.view_is) at c.in_ok-room_for.ensures.room in
     let e = c.put_made.ensures in
-    admits_piece c.args.self.now c.put_made.new.self c.args.id c.args.document c.args.evidence p c.put_made.result free room made e.pieces e.size e.stored
+    submits_piece c.args.self.now c.put_made.new.self c.args.id c.args.document p c.put_made.result free room
+    (made_of-read (codes_of c.args.self.now) c.args.id c.args.document c.args.evidence (Ok p) c.requires.read made) e.pieces e.size e.stored
 
 pub returns-clause-fault : goal.returns-clause-fault
 returns-clause-fault c =
@@ -39,4 +40,5 @@ returns-clause-fault c =
     let made = subst (λ (ps : List PieceValue). made_of (codes_of ps) c.args.id c.args.document c.args.evidence ≡ Ok p) (c.deref-2.ensures.value ∙ c.self.view_is) c.in_ok-made.ensures.made in
     let free = rw (c.deref.ensures.value, c.self.view_is) at c.in_ok-room_for.ensures.free in
     let room = rw (c.deref.ensures.value, c.self.view_is) at c.in_ok-room_for.ensures.room in
-    admits_fault c.args.self.now c.args.id c.args.document c.args.evidence p c.put_made.result free room made c.put_made.ensures.fault
+    submits_fault c.args.self.now c.args.id c.args.document p c.put_made.result free room
+    (made_of-read (codes_of c.args.self.now) c.args.id c.args.document c.args.evidence (Ok p) c.requires.read made) c.put_made.ensures.fault
