@@ -1,3 +1,6 @@
 pub mod Forms
-mod Submissions
+pub mod SpacedWords
+pub mod DocumentLines
+pub mod Submissions
+pub mod WrittenSubmissions
 pub mod Naming

@@ -1,10 +1,10 @@
 -- A submission takes the lines of its document with it.
-use Rattle.std.proofs.Common.{◌≡◌, ℕ, suc, ◌+◌, ◌-◌, Bool, true, false, cond, List, [], ◌∷◌, ◌++◌, length, take, Option, Some, None, refl, sym, ap, ◌∙◌, append_assoc, append-nil, length-append, arith}
+use Rattle.std.proofs.Common.{◌≡◌, ℕ, suc, ◌+◌, Bool, true, false, cond, List, [], ◌∷◌, ◌++◌, length, Option, Some, None, refl, sym, ap, ◌∙◌, append_assoc, append-nil, arith}
 use Rattle.std.specs.Prelude.{All}
-use Rattle.std.specs.List.{join_with_byte, AllByRecursion, flat_map}
+use Rattle.std.specs.List.{join_with_byte, AllByRecursion}
 use Rattle.std.proofs.lemmas.List.Elements.{recursion_from_All}
-use lib.Seq.{take-append_seam}
 use Rattle.ct_lines.specs.declared.TheConstants.{LINE_FEED}
+use Rattle.ct_lines.specs.Lines.{ended_lines}
 use Rattle.std.specs.Option.{option_to_list}
 use Rattle.ct_text.specs.Gathering.{is_end, less_last, with_line, gathered}
 use Rattle.ct_text.specs.declared.gathering.Gathering.{Gathering}
@@ -19,10 +19,7 @@ use Rattle.ct_commands.specs.declared.form.Form.TheVariants.{Submit}
 use Rattle.ct_commands.specs.declared.command_reader.Pending.{Pending}
 use Rattle.ct_commands.specs.declared.command.Command.{Command}
 use Rattle.ct_commands.specs.declared.command.Command.TheVariants as command
-
--- the lines, each with its line feed
-abbrev fed : List (List ℕ) → List ℕ
-fed lines = flat_map (λ line. line ++ LINE_FEED ∷ []) lines
+use Rattle.ct_commands.proofs.DocumentLines.{front, joined, grouped}
 
 -- a submission that is open
 abbrev at : Option (List ℕ) → Extent → List ℕ → Option Pending
@@ -32,28 +29,10 @@ at id extent text = Some (record { id = id; document = record { extent = extent;
 abbrev from : Option Pending → List (List ℕ) → List Command
 from pending lines = completed pending lines ++ cut_off (open_after_all pending lines)
 
--- a text and one more byte, without its last byte
-front : (xs : List ℕ) (b : ℕ) → less_last (xs ++ b ∷ []) ≡ xs
-front xs b =
-    let both = length-append xs (b ∷ []) in
-    let size : length (xs ++ b ∷ []) - 1 ≡ length xs = omega (arith, both) in
-    ap (λ n. take n (xs ++ b ∷ [])) size ∙ take-append_seam xs (b ∷ [])
-
--- lines with their line feeds, but for the last, are the lines joined
-joined : (line : List ℕ) (lines : List (List ℕ)) → fed (line ∷ lines) ≡ join_with_byte LINE_FEED (line ∷ lines) ++ LINE_FEED ∷ []
-joined line [] = append-nil (line ++ LINE_FEED ∷ [])
-joined line (next ∷ lines) =
-    let rest = join_with_byte LINE_FEED (next ∷ lines) in
-    ap (λ text. (line ++ LINE_FEED ∷ []) ++ text) (joined next lines) ∙ append_assoc line (LINE_FEED ∷ []) (rest ++ LINE_FEED ∷ [])
-    ∙ sym (append_assoc line (LINE_FEED ∷ rest) (LINE_FEED ∷ []))
-
-less_last_fed : (lines : List (List ℕ)) → less_last (fed lines) ≡ join_with_byte LINE_FEED lines
-less_last_fed [] = refl
-less_last_fed (line ∷ lines) = ap less_last (joined line lines) ∙ front (join_with_byte LINE_FEED (line ∷ lines)) LINE_FEED
-
--- a text, one more line and further lines, grouped both ways
-grouped : (text line : List ℕ) (lines : List (List ℕ)) → with_line text line ++ fed lines ≡ text ++ fed (line ∷ lines)
-grouped text line lines = ap (λ t. t ++ fed lines) (append_assoc text line (LINE_FEED ∷ [])) ∙ append_assoc text (line ++ LINE_FEED ∷ []) (fed lines)
+-- lines with their line feeds, without the last byte, are the lines joined
+less_last_ended : (lines : List (List ℕ)) → less_last (ended_lines lines) ≡ join_with_byte LINE_FEED lines
+less_last_ended [] = refl
+less_last_ended (line ∷ lines) = ap less_last (joined line lines) ∙ front (join_with_byte LINE_FEED (line ∷ lines)) LINE_FEED
 
 -- a line of the document, after which it goes on
 goes_on : (id : Option (List ℕ)) (old new : Gathering) (line : List ℕ) (lines : List (List ℕ)) → gathered old line ≡ More new
@@ -74,7 +53,7 @@ opens id extent line lines h =
 
 -- the lines of a document that goes to its end are taken in
 taken_in : (id : Option (List ℕ)) (text : List ℕ) (document rest : List (List ℕ)) → AllByRecursion (λ l. is_end l ≡ false) document
-    → from (at id ToEnd text) (document ++ rest) ≡ from (at id ToEnd (text ++ fed document)) rest
+    → from (at id ToEnd text) (document ++ rest) ≡ from (at id ToEnd (text ++ ended_lines document)) rest
 taken_in id text [] rest none = ap (λ t. from (at id ToEnd t) rest) (sym (append-nil text))
 taken_in id text (line ∷ document) rest none =
     let old : Gathering = record { extent = ToEnd; text = text } in
@@ -85,12 +64,12 @@ taken_in id text (line ∷ document) rest none =
 pub to_end : (line : List ℕ) (id : Option (List ℕ)) (document : List (List ℕ)) (end : List ℕ) (rest : List (List ℕ)) → form_of line ≡ Submit id ToEnd → All (λ l. is_end l ≡ false) document
     → is_end end ≡ true → commands_of (line ∷ document ++ end ∷ rest) ≡ command.Submission id (join_with_byte LINE_FEED document) ∷ commands_of rest
 to_end line id document end rest begins none ends =
-    let all : Gathering = record { extent = ToEnd; text = fed document } in
-    let new : Gathering = record { extent = ToEnd; text = with_line (fed document) end } in
+    let all : Gathering = record { extent = ToEnd; text = ended_lines document } in
+    let new : Gathering = record { extent = ToEnd; text = with_line (ended_lines document) end } in
     opens id ToEnd line (document ++ end ∷ rest) begins
     ∙ taken_in id [] document (end ∷ rest) (recursion_from_All (λ l. is_end l ≡ false) document none)
-    ∙ is_whole id all (less_last (fed document)) end rest (ap (λ (b : Bool). cond b (Whole (less_last (fed document))) (More new)) ends)
-    ∙ ap (λ d. command.Submission id d ∷ commands_of rest) (less_last_fed document)
+    ∙ is_whole id all (less_last (ended_lines document)) end rest (ap (λ (b : Bool). cond b (Whole (less_last (ended_lines document))) (More new)) ends)
+    ∙ ap (λ d. command.Submission id d ∷ commands_of rest) (less_last_ended document)
 
 pub without_end : (line : List ℕ) (id : Option (List ℕ)) (document : List (List ℕ)) → form_of line ≡ Submit id ToEnd → All (λ l. is_end l ≡ false) document → commands_of (line ∷ document) ≡ command.CutOff ∷ []
 without_end line id document begins none =
@@ -99,7 +78,7 @@ without_end line id document begins none =
 
 -- so many lines as are asked for are the whole document
 all_counted : (id : Option (List ℕ)) (text first : List ℕ) (document rest : List (List ℕ))
-    → from (at id (Lines (length document + 1)) text) (first ∷ document ++ rest) ≡ command.Submission id (less_last (text ++ fed (first ∷ document))) ∷ commands_of rest
+    → from (at id (Lines (length document + 1)) text) (first ∷ document ++ rest) ≡ command.Submission id (less_last (text ++ ended_lines (first ∷ document))) ∷ commands_of rest
 all_counted id text first [] rest =
     ap (λ t. command.Submission id (less_last t) ∷ commands_of rest) (sym (append-nil (with_line text first)) ∙ grouped text first [])
 all_counted id text first (second ∷ document) rest =
@@ -114,7 +93,7 @@ pub counted : (line : List ℕ) (id : Option (List ℕ)) (first : List ℕ) (doc
     → commands_of (line ∷ first ∷ document ++ rest) ≡ command.Submission id (join_with_byte LINE_FEED (first ∷ document)) ∷ commands_of rest
 counted line id first document rest begins =
     opens id (Lines (length document + 1)) line (first ∷ document ++ rest) begins ∙ all_counted id [] first document rest
-    ∙ ap (λ d. command.Submission id d ∷ commands_of rest) (less_last_fed (first ∷ document))
+    ∙ ap (λ d. command.Submission id d ∷ commands_of rest) (less_last_ended (first ∷ document))
 
 -- fewer lines than are asked for are no document
 not_all : (id : Option (List ℕ)) (text : List ℕ) (document : List (List ℕ)) (more : ℕ) → from (at id (Lines (length document + 1 + more)) text) document ≡ command.CutOff ∷ []

@@ -1,14 +1,17 @@
 //! Facts about the commands of every input.
 
-ghost use Rattle.std.specs.Prelude.{◌≡◌, ◌+◌, ℕ, List, [], ◌∷◌, ◌++◌, All, length, map, replicate, codes, Option, Some, None, false, true};
+ghost use Rattle.std.specs.Prelude.{◌≡◌, ◌+◌, ◌<◌, ◌^◌, ℕ, List, [], ◌∷◌, ◌++◌, All, length, map, replicate, codes, Option, Some, None, false, true};
 ghost use Rattle.std.specs.List.{join_with_byte};
 ghost use Rattle.ct_lines.specs.declared.TheConstants.{LINE_FEED};
 ghost use Rattle.ct_codes.specs.declared.claim.Side.TheVariants.{Lower, Upper};
+ghost use Rattle.ct_lines.specs.Lines.{lines_of};
+ghost use Rattle.ct_text.specs.Id.{is_id};
 ghost use Rattle.ct_text.specs.Gathering.{is_end};
 ghost use Rattle.ct_text.specs.declared.gathering.Extent.{Extent};
 ghost use Rattle.ct_text.specs.declared.gathering.Extent.TheVariants.{ToEnd, Lines};
 ghost use Rattle.ct_commands.specs.Form.{form_of};
 ghost use Rattle.ct_commands.specs.Command.{commands_of};
+ghost use Rattle.ct_commands.specs.Submission.{line_count, submission_text};
 ghost use Rattle.ct_commands.specs.declared.form.Form.TheVariants.{Nothing, Submit, Whole};
 ghost use Rattle.ct_commands.specs.declared.command.Command.{Command};
 ghost use Rattle.ct_commands.specs.declared.command.Command.TheVariants as command;
@@ -31,6 +34,13 @@ pub fn submissions_take_their_lines()
     ensures too_few { (line : List ℕ) (id : Option (List ℕ)) (document : List (List ℕ)) (more : ℕ)
         → form_of line ≡ Submit id (Lines (length document + 1 + more))
         → commands_of (line ∷ document) ≡ command.CutOff ∷ [] }
+{}
+
+/// The text of a submission is one command, the submission of the document under the id, whatever follows.
+pub fn submissions_are_read_as_written()
+    ensures { (id document rest : List ℕ) → is_id id ≡ true → line_count document < 2 ^ 64
+        → commands_of (lines_of (submission_text id document ++ rest))
+        ≡ command.Submission (Some id) document ∷ commands_of (lines_of rest) }
 {}
 
 /// Every other line stands alone: it asks for nothing, or it is a command by itself.

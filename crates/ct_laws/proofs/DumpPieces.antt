@@ -1,32 +1,35 @@
 -- The dump of pieces that stand leads to them.
-use Rattle.std.proofs.Common.{◌≡◌, ℕ, ◌^◌, ◌<◌, ◌≤◌, Bool, true, false, cond, not, List, [], ◌∷◌, ◌++◌, map, length, Option, Some, None, Result, Ok, Err, refl, sym, subst, ap, ◌∙◌, append_assoc, append-nil, length-append, arith}
+use Rattle.std.proofs.Common.{◌≡◌, ℕ, ◌^◌, ◌<◌, ◌≤◌, Bool, true, false, cond, not, List, [], ◌∷◌, ◌++◌, map, length, Option, Some, None, Result, Ok, Err, refl, sym, subst, ap, ◌∙◌, append_assoc, append-nil, length-append, codes, arith}
 use Rattle.std.proofs.Math.ListN.{get_or-append}
 use Rattle.std.proofs.Math.Seq.{get_or-append_seam}
 use Rattle.std.specs.Prelude.{All, fold}
 use Rattle.std.specs.List.{flat_map, list_any}
 use Rattle.std.specs.Str.{bytes_eq}
+use Rattle.std.specs.Fmt.{decimal}
 use Rattle.std.proofs.lemmas.List.Elements.{All-head, All-tail, All-push, All-filter, All-nil}
-use Rattle.std.proofs.lemmas.List.Splits.{length-slice_split}
 use Rattle.std.proofs.lemmas.List.Sums.{sum_by-append, sum_by-cons, count_by-le-length}
 use Rattle.ct_lines.specs.declared.TheConstants.{LINE_FEED}
-use Rattle.ct_lines.specs.Lines.{lines_of}
+use Rattle.ct_lines.specs.Lines.{lines_of, IsLine}
 use Rattle.ct_lines.proofs.LinesLemmas.{is_feed, lines_of-next}
 use Rattle.ct_text.specs.Id.{is_id}
-use Rattle.ct_text.specs.declared.gathering.Extent.TheVariants.{Lines}
 use Rattle.ct_fields.specs.declared.document.TheConstants.{MAX_DOCUMENT}
 use Rattle.ct_files.specs.Evidence.{read_of}
 use Rattle.ct_files.proofs.DocumentAnswers.{read_of-short}
+use Rattle.ct_commands.specs.Form.{form_of}
 use Rattle.ct_commands.specs.Command.{commands_of}
-use Rattle.ct_commands.specs.declared.form.Form.TheVariants.{Submit}
+use Rattle.ct_commands.specs.declared.form.Form.TheVariants.{Nothing}
 use Rattle.ct_commands.specs.declared.command.Command.{Command}
 use Rattle.ct_commands.specs.declared.command.Command.TheVariants as command
+use Rattle.ct_commands.proofs.SpacedWords.{known_word, decimal_word, IsLine-words}
+use Rattle.ct_commands.proofs.Submissions.{alone}
+use Rattle.ct_commands.proofs.WrittenSubmissions.{written_is_read}
 use Rattle.ct_kind.specs.Named.{NamedCode}
 use Rattle.ct_pieces.specs.Piece.{PieceValue, has_id, first_user, stored_by}
 use Rattle.ct_pieces.specs.Codes.{codes_of}
 use Rattle.ct_pieces.specs.Submission.{piece_from, submitted, with_piece}
 use Rattle.ct_pieces.specs.Withdrawal.{without, withdrawn, unless_used, left_by}
 use Rattle.ct_pieces.specs.Standing.{AreStanding, IsMade}
-use Rattle.ct_pieces.specs.Dump.{line_count, piece_dump, dump_text}
+use Rattle.ct_pieces.specs.Dump.{piece_dump, dump_text}
 use Rattle.ct_kind.specs.declared.fault.SubmitFault.{SubmitFault}
 use Rattle.ct_pieces.specs.declared.fault.WithdrawFault.{WithdrawFault}
 use Rattle.ct_pieces.specs.declared.fault.WithdrawFault.TheVariants as withdraw
@@ -39,8 +42,6 @@ use Rattle.ct_session.specs.Text.{reply_text}
 use Rattle.ct_session.specs.declared.reply.Reply.{Reply}
 use Rattle.ct_session.specs.declared.reply.Reply.TheVariants.{Accepted}
 use Rattle.ct_laws.specs.Acceptance.{acceptance_text}
-use Rattle.ct_laws.proofs.DumpCommands.{submission, nothing}
-use Rattle.ct_laws.proofs.DumpHeadings.{heading, comment, IsLine-heading, IsLine-comment, form_of-heading, form_of-comment}
 
 -- the command that a piece is dumped as
 abbrev pub submission_of : PieceValue → Command
@@ -92,10 +93,7 @@ IsNamed p = is_id p.id ≡ true
 pub piece_dump-command : (p : PieceValue) (rest : List ℕ) → length p.document ≤ MAX_DOCUMENT → IsNamed p → commands_of (lines_of (piece_dump p ++ rest)) ≡ submission_of p ∷ commands_of (lines_of rest)
 piece_dump-command p rest short named =
     let feeds = count_by-le-length is_feed p.document in
-    let some : 0 < line_count p.document = omega arith in
-    let small : line_count p.document < 2 ^ 64 = omega (arith, short, feeds) in
-    submission (heading p.id (line_count p.document)) (Some p.id) p.document rest (IsLine-heading p.id (line_count p.document) named small)
-    (form_of-heading p.id (line_count p.document) named some small ∙ ap (λ k. Submit (Some p.id) (Lines k)) (sym (length-slice_split is_feed p.document)))
+    written_is_read p.id p.document rest named (omega (arith, short, feeds))
 
 -- and those of pieces are theirs
 pieces_dump-commands : (pieces : List PieceValue) → AreShort pieces → All IsNamed pieces → commands_of (lines_of (flat_map piece_dump pieces)) ≡ map submission_of pieces
@@ -104,6 +102,19 @@ pieces_dump-commands (p ∷ pieces) short named =
     piece_dump-command p (flat_map piece_dump pieces) (AreShort-head p pieces short) (All-head IsNamed p pieces named)
     ∙ ap (λ cs. submission_of p ∷ cs) (pieces_dump-commands pieces (AreShort-tail p pieces short) (All-tail IsNamed p pieces named))
 
+-- the comment before the pieces
+abbrev comment : ℕ → List ℕ
+comment count = codes "# dump of " ++ decimal count ++ codes " pieces"
+
+IsLine-comment : (count : ℕ) → count < 2 ^ 64 → IsLine (comment count)
+IsLine-comment count small =
+    IsLine-words (codes "#") (codes "dump" ∷ codes "of" ∷ decimal count ∷ codes "pieces" ∷ []) (known_word (codes "#") refl)
+    (known_word (codes "dump") refl, (known_word (codes "of") refl, (decimal_word count small, (known_word (codes "pieces") refl, tt))))
+
+form_of-comment : (count : ℕ) → form_of (comment count) ≡ Nothing
+unfolding form_of
+form_of-comment count = refl
+
 -- the commands of a dump are the submissions of its pieces
 dump_text-commands : (pieces : List PieceValue) → AreStanding pieces → AreShort pieces → commands_of (lines_of (dump_text pieces)) ≡ map submission_of pieces
 dump_text-commands pieces h short =
@@ -111,7 +122,7 @@ dump_text-commands pieces h short =
     let rest = flat_map piece_dump pieces in
     ap (λ t. commands_of (lines_of t)) (append_assoc (comment (length pieces)) (LINE_FEED ∷ []) rest)
     ∙ ap commands_of (lines_of-next (comment (length pieces)) rest (IsLine-comment (length pieces) small))
-    ∙ nothing (comment (length pieces)) (lines_of rest) (form_of-comment (length pieces))
+    ∙ alone Nothing (comment (length pieces)) (lines_of rest) (form_of-comment (length pieces)) refl
     ∙ pieces_dump-commands pieces short h.named
 
 -- the dump of pieces that stand leads to them

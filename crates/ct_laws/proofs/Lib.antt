@@ -3,8 +3,6 @@ mod OneLine
 mod WordAlone
 mod ShownReplies
 mod Columns
-mod DumpCommands
-mod DumpHeadings
 mod DumpPieces
 mod ProposedPieces
 mod VerifiedReplies

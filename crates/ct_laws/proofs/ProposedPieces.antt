@@ -5,7 +5,7 @@ use Rattle.std.specs.List.{flat_map}
 use Rattle.std.specs.Fmt.{decimal}
 use Rattle.std.proofs.Math.Nat.{min-le_left}
 use Rattle.std.proofs.lemmas.List.{get_or-map, length-map}
-use Rattle.std.proofs.lemmas.List.Elements.{All-append, All-cons, All-nil, All-head, All-tail, All-weaker, All-get_or, All-from_recursion}
+use Rattle.std.proofs.lemmas.List.Elements.{All-cons, All-nil, All-head, All-tail, All-get_or}
 use Rattle.std.proofs.lemmas.List.Sums.{sum_by-cons}
 use Rattle.ct_words.specs.declared.limits.TheConstants.{MAX_BOUND}
 use Rattle.ct_lines.specs.declared.TheConstants.{LINE_FEED}
@@ -22,6 +22,8 @@ use Rattle.ct_codes.specs.Numbers.{numbers_of}
 use Rattle.ct_finder_run.specs.Run.{End}
 use Rattle.ct_finder_run.specs.Run.End.{Least, Turns, Wide}
 use Rattle.ct_finder.specs.Found.{bound_of, stop_of}
+use Rattle.ct_finder.specs.declared.found.Stop.{Stop}
+use Rattle.ct_finder.specs.declared.found.Stop.TheVariants as stop
 use Rattle.ct_proposals.specs.declared.found.TheConstants.{MAX_TURNS}
 use Rattle.ct_files.proofs.Evidences.{read_of-within}
 use Rattle.ct_proposals.specs.Proposal.{dual_evidence, find_id, found_dual, proposed_piece, run_for, stop_text}
@@ -32,6 +34,8 @@ use Rattle.ct_commands.specs.Form.{form_of}
 use Rattle.ct_commands.specs.Command.{commands_of}
 use Rattle.ct_commands.specs.declared.form.Form.TheVariants.{Nothing}
 use Rattle.ct_commands.specs.declared.command.Command.{Command}
+use Rattle.ct_commands.proofs.SpacedWords.{AreWords, spaced_words, known_word, decimal_word, IsLine-words}
+use Rattle.ct_commands.proofs.Submissions.{alone}
 use Rattle.ct_kind.specs.Named.{NamedCode}
 use Rattle.ct_pieces.specs.Codes.{named_code}
 use Rattle.ct_pieces.specs.Dump.{piece_dump}
@@ -43,8 +47,6 @@ use Rattle.ct_session.specs.Run.{AnswersCommands, IsRun, pieces_of}
 use Rattle.ct_session.specs.Text.{reply_text}
 use Rattle.ct_laws.specs.Acceptance.{acceptance_text}
 use Rattle.ct_laws.specs.Proposed.{IsProposed, AreProposed, taken_text}
-use Rattle.ct_laws.proofs.DumpCommands.{nothing}
-use Rattle.ct_laws.proofs.DumpHeadings.{visible_decimal}
 use Rattle.ct_laws.proofs.DumpPieces.{AreShort, submission_of, piece_dump-command, brought_back, submissions_are_accepted}
 
 -- the piece that is proposed for an entry, and those for entries
@@ -130,42 +132,37 @@ standing es text h all apart few =
 
 -- the comment before a proposal
 abbrev comment : ℕ → List ℕ → List ℕ
-comment bound stop = codes "# bound " ++ decimal bound ++ codes " " ++ stop
+comment bound how = codes "# bound " ++ decimal bound ++ codes " " ++ how
 
-form_of-comment : (bound : ℕ) (stop : List ℕ) → form_of (comment bound stop) ≡ Nothing
+form_of-comment : (bound : ℕ) (how : List ℕ) → form_of (comment bound how) ≡ Nothing
 unfolding form_of
-form_of-comment bound stop = refl
+form_of-comment bound how = refl
 
-abbrev AreNoFeeds : List ℕ → Type 0
-AreNoFeeds bytes = All (λ b. b ≢ LINE_FEED) bytes
+-- the words of how a run stopped
+abbrev stop_words : Stop → List (List ℕ)
+stop_words stop.Least = codes "least" ∷ []
+stop_words (stop.Turns turns) = codes "turns" ∷ decimal turns ∷ []
+stop_words (stop.Wide x) = codes "wide" ∷ []
 
-decimal_line : (n : ℕ) → n < 2 ^ 64 → AreNoFeeds (decimal n)
-decimal_line n small = All-weaker (λ b. 32 < b) (λ b. b ≢ LINE_FEED) (λ b k e. absurd (omega arith)) (decimal n) (visible_decimal n small)
+stop_text-words : (s : Stop) → spaced_words (stop_words s) ≡ codes " " ++ stop_text s
+stop_text-words stop.Least = refl
+stop_text-words (stop.Turns turns) = ap (λ (t : List ℕ). codes " turns " ++ t) (append-nil (decimal turns))
+stop_text-words (stop.Wide x) = refl
 
-above_feed : (b : ℕ) → 31 < b → b ≢ LINE_FEED
-above_feed b k = λ e. absurd (omega arith)
+stop_words-are : (end : End) → AreWords (stop_words (stop_of MAX_TURNS end))
+stop_words-are (Least cost) = (known_word (codes "least") refl, tt)
+stop_words-are Turns = (known_word (codes "turns") refl, (decimal_word MAX_TURNS (lit< tt), tt))
+stop_words-are (Wide x) = (known_word (codes "wide") refl, tt)
 
-stop_line : (end : End) → AreNoFeeds (stop_text (stop_of MAX_TURNS end))
-stop_line (Least cost) = All-weaker (λ b. 31 < b) (λ b. b ≢ LINE_FEED) above_feed (codes "least")
-    (All-from_recursion (λ b. 31 < b) (codes "least") (lit< tt, (lit< tt, (lit< tt, (lit< tt, (lit< tt, tt))))))
-stop_line Turns =
-    All-append (λ b. b ≢ LINE_FEED) (codes "turns ") (decimal MAX_TURNS)
-    (All-weaker (λ b. 31 < b) (λ b. b ≢ LINE_FEED) above_feed (codes "turns ")
-    (All-from_recursion (λ b. 31 < b) (codes "turns ") (lit< tt, (lit< tt, (lit< tt, (lit< tt, (lit< tt, (lit< tt, tt))))))))
-    (decimal_line MAX_TURNS (lit< tt))
-stop_line (Wide x) = All-weaker (λ b. 31 < b) (λ b. b ≢ LINE_FEED) above_feed (codes "wide")
-    (All-from_recursion (λ b. 31 < b) (codes "wide") (lit< tt, (lit< tt, (lit< tt, (lit< tt, tt)))))
-
-IsLine-comment : (bound : ℕ) (stop : List ℕ) → bound < 2 ^ 64 → AreNoFeeds stop → IsLine (comment bound stop)
-IsLine-comment bound stop small line =
-    let P : ℕ → Type 0 = λ (b : ℕ). b ≢ LINE_FEED in
-    All-append P (codes "# bound " ++ decimal bound ++ codes " ") stop
-    (All-append P (codes "# bound " ++ decimal bound) (codes " ")
-    (All-append P (codes "# bound ") (decimal bound)
-    (All-weaker (λ b. 31 < b) P above_feed (codes "# bound ")
-    (All-from_recursion (λ b. 31 < b) (codes "# bound ") (lit< tt, (lit< tt, (lit< tt, (lit< tt, (lit< tt, (lit< tt, (lit< tt, (lit< tt, tt)))))))))
-    ) (decimal_line bound small))
-    (All-weaker (λ b. 31 < b) P above_feed (codes " ") (All-from_recursion (λ b. 31 < b) (codes " ") (lit< tt, tt)))) line
+IsLine-comment : (bound : ℕ) (end : End) → bound < 2 ^ 64 → IsLine (comment bound (stop_text (stop_of MAX_TURNS end)))
+IsLine-comment bound end small =
+    let stopped = stop_of MAX_TURNS end in
+    let words = codes "bound" ∷ decimal bound ∷ stop_words stopped in
+    let spelled : codes "#" ++ spaced_words words ≡ comment bound (stop_text stopped) =
+    ap (λ (t : List ℕ). codes "# bound " ++ (decimal bound ++ t)) (stop_text-words stopped)
+    ∙ ap (λ (t : List ℕ). codes "# bound " ++ t) (sym (append_assoc (decimal bound) (codes " ") (stop_text stopped))) in
+    subst IsLine spelled
+    (IsLine-words (codes "#") words (known_word (codes "#") refl) (known_word (codes "bound") refl, (decimal_word bound small, stop_words-are end)))
 
 bound_small : (e : Entry) (d : Dual) → IsEntry e → found_dual e ≡ Some d → bound_of d < 2 ^ 64
 bound_small e d entry same =
@@ -178,13 +175,13 @@ proposal-command : (e : Entry) (own rest : List ℕ) (h : IsProposed e own) → 
     → commands_of (lines_of (own ++ rest)) ≡ submission_of (piece e own h) ∷ commands_of (lines_of rest)
 proposal-command e own rest h entry =
     let p = piece e own h in
-    let stop = stop_text (stop_of MAX_TURNS (run_for e)) in
-    let line = comment (bound_of h.dual) stop in
+    let stopped = stop_text (stop_of MAX_TURNS (run_for e)) in
+    let line = comment (bound_of h.dual) stopped in
     let after = piece_dump p ++ rest in
     ap (λ t. commands_of (lines_of (t ++ rest))) h.proposal.2
     ∙ ap (λ t. commands_of (lines_of t)) (append_assoc (line ++ LINE_FEED ∷ []) (piece_dump p) rest ∙ append_assoc line (LINE_FEED ∷ []) after)
-    ∙ ap commands_of (lines_of-next line after (IsLine-comment (bound_of h.dual) stop (bound_small e h.dual entry h.found) (stop_line (run_for e))))
-    ∙ nothing line (lines_of after) (form_of-comment (bound_of h.dual) stop)
+    ∙ ap commands_of (lines_of-next line after (IsLine-comment (bound_of h.dual) (run_for e) (bound_small e h.dual entry h.found)))
+    ∙ alone Nothing line (lines_of after) (form_of-comment (bound_of h.dual) stopped) refl
     ∙ piece_dump-command p rest (within e own h) (find_id-named e entry)
 
 commands : (es : List Entry) (text : List ℕ) (h : AreProposed es text) → All IsEntry es → commands_of (lines_of text) ≡ map submission_of (pieces es text h)

@@ -11,5 +11,4 @@ pub mod PartLemmas
 pub mod Accepting
 pub mod Refusing
 pub mod Admitting
-pub mod DocumentLines
 pub mod DualSupports

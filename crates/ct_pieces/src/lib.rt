@@ -15,7 +15,6 @@ mod standing;
 mod text;
 
 pub use ct_kind::SubmitFault;
-pub use dump::line_count;
 pub use fault::WithdrawFault;
 pub use laws::{
     ascending_numbers, duals_give_their_bounds, evidence_that_is_admitted, pieces_give_supports,

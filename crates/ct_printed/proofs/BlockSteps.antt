@@ -18,7 +18,7 @@ use Rattle.ct_fields.specs.declared.document.TheConstants.{MAX_DOCUMENT}
 use Rattle.ct_pieces.specs.Piece.{PieceValue}
 use Rattle.ct_pieces.specs.Submission.{submitted}
 use Rattle.ct_pieces.specs.Standing.{AreStanding}
-use Rattle.ct_pieces.proofs.DocumentLines.{front, joined, grouped, lines_of-document, regrouped}
+use Rattle.ct_commands.proofs.DocumentLines.{front, joined, grouped, lines_of-document, regrouped}
 use Rattle.ct_pieces.proofs.Accepting.{made_again}
 use Rattle.ct_pieces.proofs.StandingLemmas.{submitted-from}
 use Rattle.ct_derive.specs.Text.{document_lines, evidence_text}
@@ -29,7 +29,7 @@ use Rattle.ct_verify.specs.Verdict.{going_on, verdict_from}
 use Rattle.ct_verify.specs.declared.part.Part.TheVariants as part
 use Rattle.ct_verify.specs.declared.step.Step.{Step}
 use Rattle.ct_verify.specs.declared.step.Step.TheVariants.{On}
-use Rattle.ct_printed.proofs.WordTexts.{AreWords, spaced_words, known_word, decimal_word, id_is_word, IsLine-words, words_again}
+use Rattle.ct_commands.proofs.SpacedWords.{AreWords, spaced_words, known_word, decimal_word, id_is_word, IsLine-words, words_again}
 use Rattle.ct_printed.proofs.LineSteps.{IsVerified, in_body, next_verified}
 
 -- where a block is open under the id, which began on this line and wants so many lines more

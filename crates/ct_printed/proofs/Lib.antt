@@ -1,4 +1,3 @@
-mod WordTexts
 mod SmallEntries
 mod RuleTexts
 mod FewLines

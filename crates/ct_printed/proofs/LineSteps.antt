@@ -28,7 +28,7 @@ use Rattle.ct_verify.specs.declared.step.Step.{Step}
 use Rattle.ct_verify.specs.declared.step.Step.TheVariants.{On, Failed}
 use Rattle.ct_verify.specs.declared.verdict.Why.TheVariants as why
 use Rattle.ct_verify.specs.declared.verdict.Verdict.TheVariants.{Yes}
-use Rattle.ct_printed.proofs.WordTexts.{spaced_words, known_word, IsLine-words, words_again}
+use Rattle.ct_commands.proofs.SpacedWords.{spaced_words, known_word, IsLine-words, words_again}
 use Rattle.ct_printed.proofs.RuleTexts.{stated_as, stated_of, IsStatedAgain, stated_again}
 use Rattle.ct_printed.proofs.LineTexts.{IsPrintableLine, line_parts, line_text-words, line_parts-are, stated_line, line_read}
 use Rattle.ct_printed.proofs.PrintedLines.{new_place, moved_by, moved_rule, moved_line}

@@ -27,7 +27,7 @@ use Rattle.ct_verify.specs.StatedRule.{stated_rule}
 use Rattle.ct_text.specs.Side.{side_of}
 use Rattle.ct_verify.specs.StatedLine.{StatedLineValue, entry_of, bound_of, all_numbers, premises_of_words, claim_of, line_from, with_rule, with_reason, with_value, line_of}
 use Rattle.ct_verify.specs.declared.stated_rule.StatedRule.{StatedRule}
-use Rattle.ct_printed.proofs.WordTexts.{IsWord, AreWords, spaced_words, AreWords-append, known_word, decimal_word, decimal_words}
+use Rattle.ct_commands.proofs.SpacedWords.{IsWord, AreWords, spaced_words, AreWords-append, known_word, decimal_word, decimal_words}
 use Rattle.ct_printed.proofs.SmallEntries.{HasSmallNumbers, small_numbers}
 use Rattle.ct_printed.proofs.RuleTexts.{IsPrintable, stated_of, IsStatedAgain}
 

@@ -26,7 +26,7 @@ use Rattle.ct_verify.specs.Verdict.{verdict_of}
 use Rattle.ct_verify.specs.declared.step.Step.TheVariants.{On, Failed}
 use Rattle.ct_verify.specs.declared.verdict.Why.TheVariants as why
 use Rattle.ct_verify.specs.declared.verdict.Verdict.TheVariants.{Yes}
-use Rattle.ct_printed.proofs.WordTexts.{known_word, IsLine-words, words_again}
+use Rattle.ct_commands.proofs.SpacedWords.{known_word, IsLine-words, words_again}
 use Rattle.ct_printed.proofs.FewLines.{few_lines}
 use Rattle.ct_printed.proofs.PrintedLines.{items_at, moved_line}
 use Rattle.ct_printed.proofs.LineSteps.{IsVerified, in_body, next_verified, lines_verified, done_verified}

@@ -17,7 +17,7 @@ use Rattle.ct_rules.proofs.RuleNames.{zeros, named_again, argued_again, bare_arg
 use Rattle.ct_derive.specs.Text.{id_word, argument_words, rule_words}
 use Rattle.ct_verify.specs.StatedRule.{argument_of, numbered, citing, with_words, stated_rule}
 use Rattle.ct_verify.specs.declared.stated_rule.StatedRule.{StatedRule}
-use Rattle.ct_printed.proofs.WordTexts.{IsWord, AreWords, spaced_words, known_word, decimal_word, id_is_word}
+use Rattle.ct_commands.proofs.SpacedWords.{IsWord, AreWords, spaced_words, known_word, decimal_word, id_is_word}
 
 -- a piece has its place, and its id is one
 abbrev pub HasId : List (List ℕ) → ℕ → Type 0

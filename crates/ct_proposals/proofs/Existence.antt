@@ -33,7 +33,8 @@ use Rattle.ct_text.specs.Line.{words_of}
 use Rattle.ct_text.specs.EntryNumbers.{entry_numbers_of, named_entry}
 use Rattle.ct_text.specs.declared.entry_numbers.EntryNumbers.{EntryNumbers}
 use Rattle.ct_proposals.specs.declared.found.TheConstants.{MAX_TURNS}
-use Rattle.ct_proposals.specs.Proposal.{is_even, run_for, dual_at, found_dual, dual_evidence, bound_line, find_id, submission_text, IsProposal, AnswersEntry}
+use Rattle.ct_proposals.specs.Proposal.{is_even, run_for, dual_at, found_dual, dual_evidence, bound_line, find_id, IsProposal, AnswersEntry}
+use Rattle.ct_commands.specs.Submission.{submission_text}
 use Rattle.ct_proposals.specs.Reply.{IsReplyToEntry, IsReplyToNumbers, IsReplyToWords, AreReplies, IsFound}
 use Rattle.ct_proposals.proofs.EntryLemmas.{named-is_entry}
 use Rattle.ct_proposals.proofs.FoundLemmas.{plain-asked}

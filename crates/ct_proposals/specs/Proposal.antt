@@ -7,7 +7,7 @@ use Rattle.ct_duals.specs.declared.dual.Dual.{Dual}
 use Rattle.ct_evidence.specs.declared.evidence.Evidence.{Evidence}
 use Rattle.ct_evidence.specs.declared.evidence.Evidence.TheVariants as evidence
 use Rattle.ct_files.specs.Evidence.{read_of}
-use Rattle.ct_pieces.specs.Dump.{line_count}
+use Rattle.ct_commands.specs.Submission.{submission_text}
 use Rattle.ct_pieces.specs.Piece.{PieceValue}
 use Rattle.ct_finder_run.specs.Run.{End}
 use Rattle.ct_finder.specs.Found.{bound_of, dual_of, end_of_run, least_dual, stop_of}
@@ -56,10 +56,6 @@ weight_part (Some w) = codes "-" ++ decimal w
 -- the id: find-N-D, or find-N-D-W
 abbrev pub find_id : Entry → List ℕ
 find_id e = codes "find-" ++ decimal e.n ++ codes "-" ++ decimal e.d ++ weight_part e.w
-
--- a submission: `submit ID lines K`, and the document's K lines
-abbrev pub submission_text : List ℕ → List ℕ → List ℕ
-submission_text id document = codes "submit " ++ id ++ codes " lines " ++ decimal (line_count document) ++ LINE_FEED ∷ [] ++ document ++ LINE_FEED ∷ []
 
 -- a proposal: the comment, and the submission of a document that reads as the dual
 abbrev pub IsProposal : Entry → Dual → ℕ → Stop → List ℕ → Type 0

@@ -9,7 +9,8 @@ use Rattle.ct_text.specs.Line.{words_of}
 use Rattle.ct_text.specs.EntryNumbers.{entry_numbers_of, named_entry}
 use Rattle.ct_text.specs.declared.entry_numbers.EntryNumbers.{EntryNumbers}
 use Rattle.ct_files.specs.Evidence.{read_of}
-use Rattle.ct_proposals.specs.Proposal.{AnswersEntry, found_dual, submission_text}
+use Rattle.ct_commands.specs.Submission.{submission_text}
+use Rattle.ct_proposals.specs.Proposal.{AnswersEntry, found_dual}
 
 -- the reply to numbers that name this entry of the table, or none, and whether it is a refusal
 abbrev pub IsReplyToEntry : Option Entry → List ℕ → Bool → Type 0

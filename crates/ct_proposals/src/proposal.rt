@@ -4,16 +4,16 @@ ghost use Rattle.std.specs.Prelude.{◌≡◌, ◌++◌, codes, IfOk, OnOk};
 ghost use Rattle.ct_codes.specs.Entry.{IsEntry};
 ghost use Rattle.ct_duals.specs.Dual.{IsDual};
 ghost use Rattle.ct_files.specs.Evidence.{IsSound};
-ghost use Rattle.ct_proposals.specs.Proposal.{bound_line, dual_evidence, find_id, found_dual, stop_text, submission_text, weight_part, AnswersEntry, IsProposal};
+ghost use Rattle.ct_proposals.specs.Proposal.{bound_line, dual_evidence, find_id, found_dual, stop_text, weight_part, AnswersEntry, IsProposal};
 
 use crate::found::found_for;
 use ct_codes::Entry;
+use ct_commands::put_submission;
 use ct_duals::Dual;
 use ct_evidence::Evidence;
 use ct_files::write_evidence;
 use ct_finder::{Found, Stop};
 use ct_lines::LINE_FEED;
-use ct_pieces::line_count;
 use ct_text::put_number;
 use std::alloc::{AllocError, Global};
 
@@ -81,25 +81,6 @@ fn find_id(alloc: Global, entry: Entry) -> Result<Vec<u8>, AllocError>
     Ok(id)
 }
 
-/// Puts the submission of the document under the id at the end of the text.
-fn put_submission(
-    alloc: Global,
-    text: &mut Vec<u8>,
-    id: &[u8],
-    document: &[u8],
-) -> Result<(), AllocError>
-    ensures { OnOk result (text.new.items ≡ text.old.items ++ submission_text id.now document.now) }
-{
-    text.extend_from_slice(b"submit ")?;
-    text.extend_from_slice(id)?;
-    text.extend_from_slice(b" lines ")?;
-    put_number(alloc, text, line_count(document))?;
-    text.push(LINE_FEED)?;
-    text.extend_from_slice(document)?;
-    text.push(LINE_FEED)?;
-    Ok(())
-}
-
 /// The text of what was found: its bound, and its dual as a submission.
 fn proposal(alloc: Global, entry: Entry, found: Found) -> Result<Vec<u8>, AllocError>
     requires form { IsDual found.dual }
@@ -109,7 +90,7 @@ fn proposal(alloc: Global, entry: Entry, found: Found) -> Result<Vec<u8>, AllocE
     let mut text = Vec::new(alloc);
     put_bound(alloc, &mut text, found.bound, found.stop)?;
     let document = write_evidence(alloc, &dual_evidence(found.dual))?;
-    put_submission(alloc, &mut text, &id, &document)?;
+    put_submission(&mut text, &id, &document)?;
     Ok(text)
 }
 

@@ -13,7 +13,7 @@ use Rattle.ct_io.specs.Faults.{Rose}
 use Rattle.ct_codes.specs.Code.{CodeValue}
 use Rattle.ct_text.specs.EntryText.{weight_word}
 use Rattle.ct_pieces.specs.Piece.{PieceValue}
-use Rattle.ct_pieces.specs.Dump.{line_count, piece_dump, dump_text}
+use Rattle.ct_pieces.specs.Dump.{piece_dump, dump_text}
 use Rattle.ct_session.specs.declared.serve.ServeFault.{ServeFault}
 use Rattle.ct_session.specs.declared.serve.ServeFault.TheVariants.{Write, Memory}
 use Rattle.ct_session.specs.Text.{code_heading, word_lines, code_text}
@@ -103,22 +103,6 @@ comment_of n = codes "# dump of " ++ (decimal n ++ codes " pieces\n")
 -- a dump is its comment, and the submissions after it
 dump_is : (pieces : List PieceValue) → comment_of (length pieces) ++ flat_map piece_dump pieces ≡ dump_text pieces
 dump_is pieces = ap (λ (t : List ℕ). codes "# dump of " ++ (t ++ flat_map piece_dump pieces)) (sym (append_assoc (decimal (length pieces)) (codes " pieces") (10 ∷ [])))
-
--- the parts of a submission, one after the other
-spelled : (id lines count document : List ℕ) → ((((id ++ lines) ++ count) ++ (10 ∷ [])) ++ document) ++ (10 ∷ []) ≡ id ++ (lines ++ (count ++ (10 ∷ (document ++ (10 ∷ [])))))
-spelled id lines count document =
-    append_assoc (((id ++ lines) ++ count) ++ (10 ∷ [])) document (10 ∷ [])
-    ∙ append_assoc ((id ++ lines) ++ count) (10 ∷ []) (document ++ (10 ∷ []))
-    ∙ append_assoc (id ++ lines) count (10 ∷ (document ++ (10 ∷ [])))
-    ∙ append_assoc id lines (count ++ (10 ∷ (document ++ (10 ∷ []))))
-
-pub submission_is : (p : PieceValue) (id count document : List ℕ) → id ≡ p.id → count ≡ decimal (line_count p.document) → document ≡ p.document
-    → codes "submit " ++ (id ++ (codes " lines " ++ (count ++ (10 ∷ (document ++ (10 ∷ [])))))) ≡ piece_dump p
-submission_is p id count document is counts tells =
-    ap (λ (t : List ℕ). codes "submit " ++ (t ++ (codes " lines " ++ (count ++ (10 ∷ (document ++ (10 ∷ []))))))) is
-    ∙ ap (λ (t : List ℕ). codes "submit " ++ (p.id ++ (codes " lines " ++ (t ++ (10 ∷ (document ++ (10 ∷ []))))))) counts
-    ∙ ap (λ (t : List ℕ). codes "submit " ++ (p.id ++ (codes " lines " ++ (decimal (line_count p.document) ++ (10 ∷ (t ++ (10 ∷ []))))))) tells
-    ∙ ap (λ (t : List ℕ). codes "submit " ++ t) (sym (spelled p.id (codes " lines ") (decimal (line_count p.document)) p.document))
 
 -- the comment was put, and then the submissions
 pub dump_put : (pieces : List PieceValue) (a b c : Option (List ℕ)) (g g' g'' : List ℕ) → PutsOut (comment_of (length pieces)) g g' a b → PutsOut (flat_map piece_dump pieces) g' g'' b c → PutsOut (dump_text pieces) g g'' a c

@@ -17,8 +17,9 @@ use crate::answer::LongReply;
 use crate::serve::ServeFault;
 use crate::word_lines::{EightDigits, eight_digits, print_lines};
 use ct_codes::Code;
+use ct_commands::{line_count, submission_parts};
 use ct_io::{Sink, write_all};
-use ct_ledger::{Piece, line_count};
+use ct_ledger::Piece;
 use ct_lines::LINE_FEED;
 use ct_text::Digits;
 use ct_words::{MAX_N, Word};
@@ -130,16 +131,9 @@ fn put_submission<K: Sink>(
     ensures counted { K.faults sink.old ≤ K.faults sink.new }
 {
     let id = piece.id();
-    let count = Digits::of(line_count(piece.document()));
-    let parts: [&[u8]; 7] = [
-        b"submit ",
-        id.text(),
-        b" lines ",
-        count.as_bytes(),
-        b"\n",
-        piece.document(),
-        b"\n",
-    ];
+    let document = piece.document();
+    let count = Digits::of(line_count(document));
+    let parts = submission_parts(id.text(), count.as_bytes(), document);
     put_parts(sink, gathered, &parts)
 }
 
