@@ -8,7 +8,7 @@ ghost use Rattle.ct_files.specs.Evidence.{read_of};
 ghost use Rattle.ct_pieces.specs.Submission.{submitted};
 ghost use Rattle.ct_kind.specs.declared.fault.SubmitFault.{SubmitFault};
 ghost use Rattle.ct_pieces.specs.Withdrawal.{withdrawn};
-ghost use Rattle.ct_pieces.specs.Supports.{support_of, supports_of};
+ghost use Rattle.ct_pieces.specs.Supports.{supports_of};
 ghost use Rattle.ct_pieces.specs.Standing.{AreStanding, HasTrueSize};
 ghost use Rattle.ct_pieces.specs.Submission.{AddsPiece};
 ghost use Rattle.ct_pieces.specs.Dump.{dump_text};
@@ -43,16 +43,6 @@ impl Model for Ledger {
     ghost invariant = { λ l. l.table.supports ≡ supports_of l.pieces };
 }
 
-/// What the last of the pieces gives to a table, where there is one. `Err` is want of memory.
-fn last_support(pieces: &[Piece]) -> Result<Support, AllocError>
-    ensures { (front : List PieceValue) (p : PieceValue) → pieces.now ≡ front ++ p ∷ [] → IfOk result (λ support. support ≡ support_of p) }
-{
-    match pieces.last() {
-        Some(piece) => piece.support(),
-        None => Ok(Support::Nothing),
-    }
-}
-
 /// Takes the last of the pieces out again, where memory ran out.
 fn give_up(pieces: &mut Pieces) -> SubmitFault
     requires { 0 < length pieces.old }
@@ -63,19 +53,17 @@ fn give_up(pieces: &mut Pieces) -> SubmitFault
     SubmitFault::Memory
 }
 
-/// Puts what the last of the pieces gives at the end of the table, which holds what those before it give. Where memory runs out,
-/// takes that piece out again.
-fn support_last(pieces: &mut Pieces, table: &mut Table) -> Result<(), SubmitFault>
-    requires { (front : List PieceValue) × (p : PieceValue) × (pieces.old ≡ front ++ p ∷ []) × (table.old.supports ≡ supports_of front) }
+/// Puts at the end of the table, which holds what the pieces before the last give, what the last gives. Where memory runs out, takes that
+/// piece out again.
+fn put_support(pieces: &mut Pieces, table: &mut Table, support: Support) -> Result<(), SubmitFault>
+    requires standing { AreStanding pieces.old }
+    requires last { supports_of pieces.old ≡ table.old.supports ++ support ∷ [] }
     ensures kept { OnOk result (pieces.new ≡ pieces.old) }
     ensures supports { OnOk result (table.new.supports ≡ supports_of pieces.old) }
     ensures left { OnErr result ((front : List PieceValue) (p : PieceValue) → pieces.old ≡ front ++ p ∷ [] → pieces.new ≡ front) }
     ensures unchanged { OnErr result (table.new ≡ table.old) }
     ensures fault { IfErr result (λ fault. fault ≡ SubmitFault.Memory) }
 {
-    let Ok(support) = last_support(pieces.pieces()) else {
-        return Err(give_up(pieces));
-    };
     if table.add(support).is_err() {
         return Err(give_up(pieces));
     }
@@ -137,9 +125,9 @@ impl Ledger {
             → submitted self.old.pieces id document ≡ Err fault) }
         ensures unchanged { OnErr result (self.new ≡ self.old) }
     {
-        let size = self.pieces.submit_text(id, document)?;
-        support_last(&mut self.pieces, &mut self.table)?;
-        Ok(size)
+        let new_piece = self.pieces.submit_text(id, document)?;
+        put_support(&mut self.pieces, &mut self.table, new_piece.support)?;
+        Ok(new_piece.size)
     }
 
     /// `submit_text` of a document that is handed over with the evidence that it reads as: the document is kept, and is not read
@@ -156,9 +144,9 @@ impl Ledger {
             → submitted self.old.pieces id document ≡ Err fault) }
         ensures unchanged { OnErr result (self.new ≡ self.old) }
     {
-        let size = self.pieces.admit(id, evidence, document)?;
-        support_last(&mut self.pieces, &mut self.table)?;
-        Ok(size)
+        let new_piece = self.pieces.admit(id, evidence, document)?;
+        put_support(&mut self.pieces, &mut self.table, new_piece.support)?;
+        Ok(new_piece.size)
     }
 
     /// Takes the piece of the id out. `NoSuch` comes exactly where no piece has it, and `InUse` where another names it. After an

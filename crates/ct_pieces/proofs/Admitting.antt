@@ -8,6 +8,7 @@ use Rattle.ct_pieces.specs.Piece.{PieceValue, has_id, stored_by, stored_words}
 use Rattle.ct_pieces.specs.Codes.{codes_of}
 use Rattle.ct_pieces.specs.Submission.{made_of, piece_from, if_stored, submitted}
 use Rattle.ct_pieces.specs.Submission.{AddsPiece}
+use Rattle.ct_pieces.specs.declared.new_piece.NewPiece.{NewPiece}
 use Rattle.ct_pieces.specs.declared.limits.TheConstants.{MAX_PIECES}
 use Rattle.ct_kind.specs.declared.fault.SubmitFault.{SubmitFault}
 use Rattle.ct_kind.specs.declared.fault.SubmitFault.TheVariants as fault
@@ -15,17 +16,17 @@ use Rattle.ct_pieces.proofs.StandingLemmas.{submitted-beside}
 use Rattle.ct_pieces.proofs.Refusing.{refused-for}
 
 -- what a submission answers, once its piece is made over the pieces and put at their end where its words may be stored
-pub submits_piece : (pieces new : List PieceValue) (id document : List ℕ) (p : PieceValue) (r : Result (Option ℕ) SubmitFault) → has_id id pieces ≡ false → length pieces < MAX_PIECES
-    → piece_from (codes_of pieces) id document (read_of document) ≡ Ok p → OnOk r (new ≡ pieces ++ p ∷ []) → IfOk r (λ (size : Option ℕ). size ≡ p.size)
-    → OnOk r (if_stored (stored_words pieces + stored_by p) p ≡ Ok p) → IfOk r (AddsPiece pieces new id document)
-submits_piece pieces new id document p (Ok size) free room made is answer fits =
+pub submits_piece : (pieces new : List PieceValue) (id document : List ℕ) (p : PieceValue) (r : Result NewPiece SubmitFault) → has_id id pieces ≡ false → length pieces < MAX_PIECES
+    → piece_from (codes_of pieces) id document (read_of document) ≡ Ok p → OnOk r (new ≡ pieces ++ p ∷ []) → IfOk r (λ (n : NewPiece). n.size ≡ p.size)
+    → OnOk r (if_stored (stored_words pieces + stored_by p) p ≡ Ok p) → IfOk r (λ (n : NewPiece). AddsPiece pieces new id document n.size)
+submits_piece pieces new id document p (Ok n) free room made is answer fits =
     record { piece = p; made = submitted-beside pieces id document p free room made ∙ fits; pieces = is; answer = answer }
 submits_piece pieces new id document p (Err reason) free room made is answer fits = tt
 
-pub submits_fault : (pieces : List PieceValue) (id document : List ℕ) (p : PieceValue) (r : Result (Option ℕ) SubmitFault) → has_id id pieces ≡ false → length pieces < MAX_PIECES
+pub submits_fault : (pieces : List PieceValue) (id document : List ℕ) (p : PieceValue) (r : Result NewPiece SubmitFault) → has_id id pieces ≡ false → length pieces < MAX_PIECES
     → piece_from (codes_of pieces) id document (read_of document) ≡ Ok p → IfErr r (λ f. f ≢ fault.Memory → if_stored (stored_words pieces + stored_by p) p ≡ Err f)
     → IfErr r (λ f. f ≢ fault.Memory → submitted pieces id document ≡ Err f)
-submits_fault pieces id document p (Ok size) free room made many = tt
+submits_fault pieces id document p (Ok n) free room made many = tt
 submits_fault pieces id document p (Err reason) free room made many = λ other. submitted-beside pieces id document p free room made ∙ many other
 
 -- the document of an evidence that is read makes what the evidence makes

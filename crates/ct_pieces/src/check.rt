@@ -5,21 +5,24 @@ ghost use Rattle.ct_files.specs.Evidence.{IsSound, read_of};
 ghost use Rattle.ct_pieces.specs.Codes.{codes_of};
 ghost use Rattle.ct_pieces.specs.Standing.{AreMade};
 ghost use Rattle.ct_pieces.specs.Submission.{made_of, piece_from};
+ghost use Rattle.ct_pieces.specs.Supports.{support_of};
 ghost use Rattle.ct_pieces.specs.Inside.Kept.{kept_over, kept_codes};
 
-use crate::kinds::{check, kind_of};
+use crate::kinds::{Checked, check, kind_of};
 use crate::piece::Piece;
 use ct_codes::Code;
 use ct_files::{Evidence, FileFault, read_evidence};
 use ct_kind::SubmitFault;
+use ct_rule_parts::Support;
 use ct_text::{Id, Text};
 use std::alloc::Global;
 
-/// A piece that was made, and the code that is kept beside it.
+/// A piece that was made, the code that is kept beside it, and what it gives to a table.
 #[derive(Drop)]
 pub(crate) struct Made {
     pub(crate) piece: Piece,
     pub(crate) kept: Option<Code>,
+    pub(crate) support: Support,
 }
 
 /// The piece that the evidence makes under the id over the pieces, or why it makes none. Whether its id is taken is not
@@ -37,14 +40,21 @@ pub(crate) fn make_piece(
     requires sound { IsSound evidence }
     ensures made { IfOk result (λ made. made_of (codes_of pieces.now) id document evidence ≡ Ok made.piece) }
     ensures kept { IfOk result (λ made. made.kept ≡ kept_over (codes_of pieces.now) made.piece.evidence) }
+    ensures support { IfOk result (λ made. made.support ≡ support_of made.piece) }
     ensures fault { IfErr result (λ fault. fault ≢ SubmitFault.Memory
         → made_of (codes_of pieces.now) id document evidence ≡ Err fault) }
 {
-    let checked = check(alloc, pieces, kept, &evidence)?;
+    let Checked {
+        size,
+        kept,
+        support,
+    } = check(alloc, pieces, kept, &evidence)?;
     let entry = kind_of(&evidence).entry;
+    let piece = Piece::new(id, document, evidence, entry, size);
     Ok(Made {
-        piece: Piece::new(id, document, evidence, entry, checked.size),
-        kept: checked.kept,
+        piece,
+        kept,
+        support,
     })
 }
 
@@ -61,6 +71,7 @@ pub(crate) fn check_document(
     requires kept { kept.now ≡ kept_codes pieces.now }
     ensures made { IfOk result (λ made. piece_from (codes_of pieces.now) id document (read_of document) ≡ Ok made.piece) }
     ensures kept { IfOk result (λ made. made.kept ≡ kept_over (codes_of pieces.now) made.piece.evidence) }
+    ensures support { IfOk result (λ made. made.support ≡ support_of made.piece) }
     ensures fault { IfErr result (λ fault. fault ≢ SubmitFault.Memory
         → piece_from (codes_of pieces.now) id document (read_of document) ≡ Err fault) }
 {

@@ -1,6 +1,6 @@
 //! Evidence by its kind. Each kind has a room of its own; here it is told which one evidence belongs in.
 
-ghost use Rattle.std.specs.Prelude.{◌≡◌, ◌≢◌, ◌<◌, ◌^◌, [], Some, None, IfOk, IfErr, OnOk};
+ghost use Rattle.std.specs.Prelude.{◌≡◌, ◌≢◌, ◌<◌, ◌^◌, [], length, Some, None, IfOk, IfErr, OnOk};
 ghost use Rattle.ct_files.specs.Evidence.{IsSound};
 ghost use Rattle.ct_pieces.specs.Codes.{codes_of};
 ghost use Rattle.ct_kind.specs.KindParts.{support_from};
@@ -12,10 +12,10 @@ ghost use Rattle.ct_pieces.specs.Inside.Kept.{kept_over, listed_code, kept_codes
 use crate::piece::Piece;
 use crate::standing::{Standing, Stated};
 use ct_build_files::build_kind;
-use ct_codes::Code;
+use ct_codes::{Code, Entry};
 use ct_dual_files::dual_kind;
 use ct_files::Evidence;
-use ct_kind::{Checked, Kind, StatedPartition, SubmitFault, support_from};
+use ct_kind::{Kind, StatedPartition, SubmitFault, support_from};
 use ct_partition_files::{partition_kind, product_kind};
 use ct_rule_parts::Support;
 use ct_text::Id;
@@ -76,24 +76,71 @@ pub(crate) fn names(evidence: &Evidence, id: Id) -> bool
     }
 }
 
-/// What a piece of the evidence gives to the table, which has this size. `Err` is want of memory.
-pub(crate) fn gives(evidence: &Evidence, size: Option<u32>) -> Result<Support, AllocError>
-    requires sound { IsSound evidence.now }
-    ensures { IfOk result (λ support. support ≡ (kind_of evidence.now).gives size) }
-{
-    match evidence {
-        Evidence::Words { entry, .. }
-        | Evidence::Cosets { entry, .. }
-        | Evidence::Build { entry, .. }
-        | Evidence::Product { entry, .. } => Ok(support_from(*entry, size)),
-        Evidence::Partition { .. } => Ok(Support::Nothing),
-        Evidence::Dual(dual) => dual_kind::support(dual),
-        Evidence::JohnsonDual(dual) => dual_kind::support(dual),
+/// What the check of evidence gives: the size of its piece, where it has one, the code that is kept beside it, and what the piece gives to
+/// a table.
+#[derive(Drop)]
+pub(crate) struct Checked {
+    pub(crate) size: Option<u32>,
+    pub(crate) kept: Option<Code>,
+    pub(crate) support: Support,
+}
+
+impl Checked {
+    /// A code of the entry with so many words, which is not kept.
+    fn of_code(entry: Entry, size: u32) -> Checked
+        ensures size { result.size ≡ Some size }
+        ensures kept { result.kept ≡ None }
+        ensures support { result.support ≡ support_from entry (Some size) }
+    {
+        Checked {
+            size: Some(size),
+            kept: None,
+            support: support_from(entry, Some(size)),
+        }
+    }
+
+    /// A partition with so many classes.
+    fn of_classes(count: u32) -> Checked
+        ensures size { result.size ≡ Some count }
+        ensures kept { result.kept ≡ None }
+        ensures support { result.support ≡ Support.Nothing }
+    {
+        Checked {
+            size: Some(count),
+            kept: None,
+            support: Support::Nothing,
+        }
+    }
+
+    /// The code of the entry that a build makes, which is kept.
+    fn of_build(entry: Entry, code: Code) -> Checked
+        ensures size { result.size ≡ Some (length code.words) }
+        ensures kept { result.kept ≡ Some code }
+        ensures support { result.support ≡ support_from entry (Some (length code.words)) }
+    {
+        let size = Some(build_kind::size_of(&code));
+        Checked {
+            size,
+            kept: Some(code),
+            support: support_from(entry, size),
+        }
+    }
+
+    /// A dual that gives this.
+    fn of_dual(support: Support) -> Checked
+        ensures size { result.size ≡ None }
+        ensures kept { result.kept ≡ None }
+        ensures support { result.support ≡ support }
+    {
+        Checked {
+            size: None,
+            kept: None,
+            support,
+        }
     }
 }
 
-/// The size of the piece that the evidence makes over the pieces, where it has one, and the code that is kept beside it; or why it
-/// makes none. The codes that are kept stand at the places of their pieces.
+/// What the evidence comes to over the pieces; or why it makes no piece. The codes that are kept stand at the places of their pieces.
 pub(crate) fn check(
     alloc: Global,
     pieces: &[Piece],
@@ -105,6 +152,7 @@ pub(crate) fn check(
     requires sound { IsSound evidence.now }
     ensures size { IfOk result (λ checked. checked.size ≡ size_over (codes_of pieces.now) evidence.now) }
     ensures kept { IfOk result (λ checked. checked.kept ≡ kept_over (codes_of pieces.now) evidence.now) }
+    ensures support { IfOk result (λ checked. checked.support ≡ (kind_of evidence.now).gives checked.size) }
     ensures accepted { OnOk result (evidence_reason (codes_of pieces.now) evidence.now ≡ None) }
     ensures fault { IfErr result (λ fault. fault ≢ SubmitFault.Memory
         → evidence_reason (codes_of pieces.now) evidence.now ≡ Some fault) }
@@ -112,37 +160,24 @@ pub(crate) fn check(
     match evidence {
         Evidence::Words { entry, words } => {
             let size = words_kind::check(alloc, *entry, words.as_slice())?;
-            Ok(Checked {
-                size: Some(size),
-                kept: None,
-            })
+            Ok(Checked::of_code(*entry, size))
         }
         Evidence::Cosets {
             entry,
             basis,
             representatives,
         } => {
-            let size = cosets_kind::check(
-                alloc,
-                *entry,
-                basis.as_slice(),
-                representatives.as_slice(),
-            )?;
-            Ok(Checked {
-                size: Some(size),
-                kept: None,
-            })
+            let representatives = representatives.as_slice();
+            let size = cosets_kind::check(alloc, *entry, basis.as_slice(), representatives)?;
+            Ok(Checked::of_code(*entry, size))
         }
         Evidence::Partition {
             entry,
             between,
             classes,
         } => {
-            let size = partition_kind::check(alloc, *entry, *between, classes.as_slice())?;
-            Ok(Checked {
-                size: Some(size),
-                kept: None,
-            })
+            let count = partition_kind::check(alloc, *entry, *between, classes.as_slice())?;
+            Ok(Checked::of_classes(count))
         }
         Evidence::Build {
             entry,
@@ -150,28 +185,16 @@ pub(crate) fn check(
             part,
             other,
         } => {
-            let code = build_kind::check(
-                alloc,
-                &Standing::new(pieces, kept),
-                *entry,
-                step,
-                *part,
-                *other,
-            )?;
-            Ok(Checked {
-                size: Some(build_kind::size_of(&code)),
-                kept: Some(code),
-            })
+            let standing = Standing::new(pieces, kept);
+            let code = build_kind::check(alloc, &standing, *entry, step, *part, *other)?;
+            Ok(Checked::of_build(*entry, code))
         }
         Evidence::Product { entry, pairs } => {
             let size = product_kind::check(alloc, &Stated::new(pieces), *entry, pairs.as_slice())?;
-            Ok(Checked {
-                size: Some(size),
-                kept: None,
-            })
+            Ok(Checked::of_code(*entry, size))
         }
-        Evidence::Dual(dual) => dual_kind::check(dual),
-        Evidence::JohnsonDual(dual) => dual_kind::check(dual),
+        Evidence::Dual(dual) => Ok(Checked::of_dual(dual_kind::check(dual)?)),
+        Evidence::JohnsonDual(dual) => Ok(Checked::of_dual(dual_kind::check(dual)?)),
     }
 }
 

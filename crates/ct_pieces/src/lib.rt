@@ -9,6 +9,7 @@ mod kept;
 mod kinds;
 mod laws;
 mod limits;
+mod new_piece;
 mod piece;
 mod pieces;
 mod standing;
@@ -22,6 +23,7 @@ pub use laws::{
     submissions_that_are_accepted, withdrawals_that_are_refused,
 };
 pub use limits::{MAX_PIECES, MAX_STORED};
+pub use new_piece::NewPiece;
 pub use piece::Piece;
 pub use pieces::Pieces;
 pub use text::{submit_refusal, withdraw_refusal};

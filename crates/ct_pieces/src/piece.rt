@@ -3,14 +3,12 @@
 ghost use Rattle.std.specs.Prelude.{◌≡◌, ◌++◌, OnOk, IfOk};
 ghost use Rattle.ct_files.specs.Evidence.{IsSound};
 ghost use Rattle.ct_pieces.specs.Kind.{names};
-ghost use Rattle.ct_pieces.specs.Supports.{support_of};
 ghost use Rattle.ct_pieces.specs.Text.{piece_text};
 
-use crate::kinds::{gives, names};
+use crate::kinds::names;
 use crate::text::put_piece;
 use ct_codes::Entry;
 use ct_files::Evidence;
-use ct_rule_parts::Support;
 use ct_text::{Id, Text};
 use std::alloc::{AllocError, Global};
 use std::marker::Model;
@@ -91,13 +89,6 @@ impl Piece {
         ensures { result ≡ self.now.size }
     {
         self.size
-    }
-
-    /// What it gives to a table: by its kind, of its size. `Err` is want of memory.
-    pub fn support(&self) -> Result<Support, AllocError>
-        ensures { IfOk result (λ support. support ≡ support_of self.now) }
-    {
-        gives(&self.evidence, self.size)
     }
 
     /// The bytes of its document, as they were handed in.

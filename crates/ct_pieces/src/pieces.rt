@@ -13,6 +13,7 @@ ghost use Rattle.ct_pieces.specs.Standing.{AreStanding, HasTrueSize, IsMade};
 ghost use Rattle.ct_pieces.specs.Inside.Kept.{kept_over};
 ghost use Rattle.ct_pieces.specs.Dump.{dump_text};
 ghost use Rattle.ct_pieces.specs.Submission.{AddsPiece};
+ghost use Rattle.ct_pieces.specs.Supports.{support_of, supports_of};
 ghost use Rattle.ct_pieces.specs.Piece.{place_of};
 
 use crate::check::{Made, check_document, make_piece};
@@ -21,6 +22,7 @@ use crate::fault::WithdrawFault;
 use crate::kept::{code_at_place, place_of};
 use crate::kinds::{kind_of, listed, names};
 use crate::limits::{MAX_PIECES, MAX_STORED};
+use crate::new_piece::NewPiece;
 use crate::piece::Piece;
 use crate::standing::has_code;
 use ct_codes::Code;
@@ -174,10 +176,12 @@ impl Pieces {
         *self.pieces.allocator()
     }
 
-    /// Takes a document under an id, which it keeps byte for byte: the size of its code, where it is accepted. Else it gives
-    /// the first fault, and the pieces are as before.
-    pub fn submit(&mut self, id: Id, document: &[u8]) -> Result<Option<u32>, SubmitFault>
-        ensures accepted { IfOk result (AddsPiece self.old self.new id document.now) }
+    /// Takes a document under an id, which it keeps byte for byte: the size of its code, where it is accepted, and what it gives to a table. Else
+    /// it gives the first fault, and the pieces are as before.
+    pub fn submit(&mut self, id: Id, document: &[u8]) -> Result<NewPiece, SubmitFault>
+        ensures accepted { IfOk result (λ new_piece. AddsPiece self.old self.new id document.now new_piece.size) }
+        ensures supports { IfOk result (λ new_piece. supports_of self.new ≡ supports_of self.old ++ new_piece.support ∷ []) }
+        ensures standing { OnOk result (AreStanding self.new) }
         ensures fault { IfErr result (λ fault. fault ≢ SubmitFault.Memory → submitted self.old id document.now ≡ Err fault) }
         ensures unchanged { OnErr result (self.new ≡ self.old) }
     {
@@ -187,8 +191,10 @@ impl Pieces {
 
     /// `submit` of a document that is handed over, and so is not copied.
     #[tactic(auto, unfolding(crate::specs::Submission::submitted))]
-    pub fn submit_text(&mut self, id: Id, document: Text) -> Result<Option<u32>, SubmitFault>
-        ensures accepted { IfOk result (AddsPiece self.old self.new id document) }
+    pub fn submit_text(&mut self, id: Id, document: Text) -> Result<NewPiece, SubmitFault>
+        ensures accepted { IfOk result (λ new_piece. AddsPiece self.old self.new id document new_piece.size) }
+        ensures supports { IfOk result (λ new_piece. supports_of self.new ≡ supports_of self.old ++ new_piece.support ∷ []) }
+        ensures standing { OnOk result (AreStanding self.new) }
         ensures fault { IfErr result (λ fault. fault ≢ SubmitFault.Memory → submitted self.old id document ≡ Err fault) }
         ensures unchanged { OnErr result (self.new ≡ self.old) }
     {
@@ -206,9 +212,11 @@ impl Pieces {
         id: Id,
         evidence: Evidence,
         document: Text,
-    ) -> Result<Option<u32>, SubmitFault>
+    ) -> Result<NewPiece, SubmitFault>
         requires read { read_of document ≡ Ok evidence }
-        ensures accepted { IfOk result (AddsPiece self.old self.new id document) }
+        ensures accepted { IfOk result (λ new_piece. AddsPiece self.old self.new id document new_piece.size) }
+        ensures supports { IfOk result (λ new_piece. supports_of self.new ≡ supports_of self.old ++ new_piece.support ∷ []) }
+        ensures standing { OnOk result (AreStanding self.new) }
         ensures fault { IfErr result (λ fault. fault ≢ SubmitFault.Memory → submitted self.old id document ≡ Err fault) }
         ensures unchanged { OnErr result (self.new ≡ self.old) }
     {
@@ -218,16 +226,19 @@ impl Pieces {
         self.put_made(made)
     }
 
-    /// Puts a piece at the end, which was made over those that stand, where its words may be stored beside theirs: its size. Else
-    /// the pieces are as before.
-    fn put_made(&mut self, made: Made) -> Result<Option<u32>, SubmitFault>
+    /// Puts a piece at the end, which was made over those that stand, where its words may be stored beside theirs: its size, and what it gives
+    /// to a table. Else the pieces are as before.
+    fn put_made(&mut self, made: Made) -> Result<NewPiece, SubmitFault>
         requires made { IsMade (codes_of self.old) made.piece }
         requires kept { made.kept ≡ kept_over (codes_of self.old) made.piece.evidence }
+        requires support { made.support ≡ support_of made.piece }
         requires named { IsTrue (is_id made.piece.id) }
         requires free { has_id made.piece.id self.old ≡ false }
         requires room { length self.old < MAX_PIECES }
         ensures pieces { OnOk result (self.new ≡ self.old ++ made.piece ∷ []) }
-        ensures size { IfOk result (λ size. size ≡ made.piece.size) }
+        ensures size { IfOk result (λ new_piece. new_piece.size ≡ made.piece.size) }
+        ensures supports { IfOk result (λ new_piece. supports_of self.new ≡ supports_of self.old ++ new_piece.support ∷ []) }
+        ensures standing { OnOk result (AreStanding self.new) }
         ensures stored { OnOk result (if_stored (stored_words self.old + stored_by made.piece) made.piece ≡ Ok made.piece) }
         ensures fault { IfErr result (λ fault. fault ≢ SubmitFault.Memory
             → if_stored (stored_words self.old + stored_by made.piece) made.piece ≡ Err fault) }
@@ -240,7 +251,10 @@ impl Pieces {
         self.pieces.push_reserved(made.piece);
         self.kept.push_reserved(made.kept);
         self.stored = stored;
-        Ok(size)
+        Ok(NewPiece {
+            size,
+            support: made.support,
+        })
     }
 
     /// Takes the last piece out; there is one.

@@ -6,7 +6,6 @@ ghost use Rattle.ct_text.specs.Gathering.{gathered};
 ghost use Rattle.ct_rules.specs.Rule.{rule_side};
 ghost use Rattle.ct_pieces.specs.Piece.{PieceValue};
 ghost use Rattle.ct_pieces.specs.Submission.{submitted};
-ghost use Rattle.ct_pieces.specs.Supports.{support_of};
 ghost use Rattle.ct_verify.specs.Heading.{heading_of};
 ghost use Rattle.ct_verify.specs.StatedLine.{StatedLineValue, line_of};
 ghost use Rattle.ct_verify.specs.Read.{unread};
@@ -21,8 +20,8 @@ use crate::stated_line::{StatedLine, parse_line};
 use crate::step::Step;
 use crate::verdict::{Verdict, Why};
 use ct_derive::{LineFault, add_line};
-use ct_pieces::{Piece, Pieces, SubmitFault};
-use ct_rules::{Rule, Support};
+use ct_pieces::{Pieces, SubmitFault};
+use ct_rules::Rule;
 use ct_text::{Gathered, Gathering, Id, Text, first_words};
 use std::alloc::{AllocError, Global};
 use std::mem;
@@ -63,16 +62,6 @@ fn all_words(alloc: Global, line: &[u8]) -> Result<Vec<&[u8]>, AllocError>
     ensures { IfOk result (λ words. map (λ word. word.now) words.items ≡ words_of line.now) }
 {
     first_words(alloc, line, line.len() + 1)
-}
-
-/// What the last of the pieces gives to a table, where there is one. `Err` is want of memory.
-fn last_support(pieces: &[Piece]) -> Result<Support, AllocError>
-    ensures { (front : List PieceValue) (p : PieceValue) → pieces.now ≡ front ++ p ∷ [] → IfOk result (λ support. support ≡ support_of p) }
-{
-    match pieces.last() {
-        Some(piece) => piece.support(),
-        None => Ok(Support::Nothing),
-    }
 }
 
 impl Reading {
@@ -187,9 +176,8 @@ impl Reading {
     {
         match self.pieces.submit_text(id, document) {
             Err(fault) => refused(begun, fault),
-            Ok(_) => {
-                let support = last_support(self.pieces.pieces())?;
-                self.supports.push(support)?;
+            Ok(new_piece) => {
+                self.supports.push(new_piece.support)?;
                 Ok(Step::On(self.in_part(Part::Body)))
             }
         }
