@@ -1,6 +1,6 @@
 //! Constructions whose words are known, against the sets written out.
 
-use crate::parts::{Words, answers, code_of, even_code, plain, shows, weighted};
+use crate::parts::{Words, answers, code_of, even_code, shows};
 use crate::steps::{are_binary, are_places, has_length};
 use ct_build::{
     BuildFault, append_one, complement, juxtapose, lengthen, parity, puncture, select_weight,
@@ -13,36 +13,19 @@ use std::process::Abort;
 use std::test::Fail;
 
 /// Four words of length 6, each digit of two three times over, in no order.
-const THRICE: Words = Words {
-    n: 6,
-    d: 3,
-    w: None,
-    words: &[0b111000, 0b000000, 0b111111, 0b000111],
-};
+const THRICE: Words = ((6, 3, None), &[0b111000, 0b000000, 0b111111, 0b000111]);
 
 /// The four words of length 6 and weight 3 whose places of ones add up to a multiple of 6.
-const SUMS: Words = Words {
-    n: 6,
-    d: 4,
-    w: Some(3),
-    words: &[0b000111, 0b011100, 0b101010, 0b110001],
-};
+const SUMS: Words = ((6, 4, Some(3)), &[0b000111, 0b011100, 0b101010, 0b110001]);
 
 /// Two words of length 4 and weight 2.
-const PAIRS: Words = Words {
-    n: 4,
-    d: 4,
-    w: Some(2),
-    words: &[0b0011, 0b1100],
-};
+const PAIRS: Words = ((4, 4, Some(2)), &[0b0011, 0b1100]);
 
 /// Two words of length 5 and weight 2.
-const TWO: Words = Words {
-    n: 5,
-    d: 4,
-    w: Some(2),
-    words: &[0b00011, 0b01100],
-};
+const TWO: Words = ((5, 4, Some(2)), &[0b00011, 0b01100]);
+
+/// Four words of even weight and length 7.
+const EVEN: Words = ((7, 4, None), &[0b0000000, 0b0001111, 0b1110001, 0b1111110]);
 
 /// Each two of four words, one after the other.
 const PAIRS_OF_THRICE: [Word; 16] = [
@@ -75,13 +58,11 @@ const MOST_PLACES: [u32; 27] = [
     26,
 ];
 
+/// The least and the greatest word of the greatest length.
+const ENDS: Words = ((28, 28, None), &[0, 0xfff_ffff]);
+
 /// Two words that differ at each place, of the greatest length.
-const OPPOSITE: Words = Words {
-    n: 28,
-    d: 28,
-    w: None,
-    words: &[0x0000003, 0xffffffc],
-};
+const OPPOSITE: Words = ((28, 28, None), &[0x000_0003, 0xfff_fffc]);
 
 /// A construction of one code.
 #[derive(Clone, Copy)]
@@ -105,43 +86,194 @@ enum OfTwo {
     Juxtapose,
 }
 
-/// What the construction makes of the code, whose condition is tested.
-fn made_of_one(
-    rt: &impl Abort,
-    alloc: Global,
-    construction: OfOne,
-    part: &Code,
-) -> Result<Code, BuildFault> {
-    let n = part.n();
-    match construction {
-        OfOne::Lengthen | OfOne::AppendOne | OfOne::Parity => {
-            Ok(made_longer(rt, alloc, construction, part)?)
-        }
-        OfOne::Puncture(places) => {
-            assert!(rt; are_places(places, n) && places.len() < n as usize);
-            assert!(rt; places.len() < part.d() as usize);
-            Ok(puncture(alloc, part, places)?)
-        }
-        OfOne::Shorten(places, digits) => {
-            assert!(rt; are_places(places, n) && places.len() < n as usize);
-            assert!(rt; digits.len() == places.len() && are_binary(digits));
-            shorten(alloc, part, places, digits)
-        }
-        OfOne::Translate(by) => {
-            assert!(rt; has_length(by, n));
-            Ok(translate(alloc, part, by)?)
-        }
-        OfOne::Complement => Ok(complement(alloc, part)?),
-        OfOne::Select(by, w) => {
-            assert!(rt; has_length(by, n) && w <= n);
-            select_weight(alloc, part, by, w)
-        }
-        OfOne::Trim(size) => {
-            assert!(rt; 1 <= size);
-            trim(alloc, part, size)
-        }
-    }
-}
+/// Each construction of one code, and what it makes of a code. Among them: two words of odd distance at the greatest length that grows by a
+/// parity; words without the first place, without two, without none, and without the most that can be left out, 27; a 1 at the first
+/// place, digits that no word has, and words of constant weight with two digits, and with a 0 inside.
+const MADE_OF_ONE: [(OfOne, Words, Result<Words, BuildFault>); 31] = [
+    (
+        OfOne::Lengthen,
+        THRICE,
+        Ok(((7, 3, None), &[0b0000000, 0b0001110, 0b1110000, 0b1111110])),
+    ),
+    (
+        OfOne::Lengthen,
+        SUMS,
+        Ok((
+            (7, 4, Some(3)),
+            &[0b0001110, 0b0111000, 0b1010100, 0b1100010],
+        )),
+    ),
+    (
+        OfOne::AppendOne,
+        THRICE,
+        Ok(((7, 3, None), &[0b0000001, 0b0001111, 0b1110001, 0b1111111])),
+    ),
+    (
+        OfOne::AppendOne,
+        SUMS,
+        Ok((
+            (7, 4, Some(4)),
+            &[0b0001111, 0b0111001, 0b1010101, 0b1100011],
+        )),
+    ),
+    (
+        OfOne::Parity,
+        THRICE,
+        Ok(((7, 4, None), &[0b0000000, 0b0001111, 0b1110001, 0b1111110])),
+    ),
+    (
+        OfOne::Parity,
+        SUMS,
+        Ok((
+            (7, 4, Some(4)),
+            &[0b0001111, 0b0111001, 0b1010101, 0b1100011],
+        )),
+    ),
+    (
+        OfOne::Parity,
+        TWO,
+        Ok(((6, 4, Some(2)), &[0b000110, 0b011000])),
+    ),
+    (
+        OfOne::Parity,
+        ((27, 27, None), &[0x7fffffe, 0x0000001]),
+        Ok(OPPOSITE),
+    ),
+    (
+        OfOne::Translate(0b100000),
+        THRICE,
+        Ok(((6, 3, None), &[0b011000, 0b011111, 0b100000, 0b100111])),
+    ),
+    (
+        OfOne::Translate(0b000111),
+        SUMS,
+        Ok(((6, 4, None), &[0b000000, 0b011011, 0b101101, 0b110110])),
+    ),
+    (OfOne::Translate(0xfffffff), OPPOSITE, Ok(OPPOSITE)),
+    (
+        OfOne::Complement,
+        THRICE,
+        Ok(((6, 3, None), &[0b000000, 0b000111, 0b111000, 0b111111])),
+    ),
+    (
+        OfOne::Complement,
+        TWO,
+        Ok(((5, 4, Some(3)), &[0b10011, 0b11100])),
+    ),
+    (OfOne::Complement, OPPOSITE, Ok(OPPOSITE)),
+    (
+        OfOne::Select(0b000000, 3),
+        THRICE,
+        Ok(((6, 4, Some(3)), &[0b000111, 0b111000])),
+    ),
+    (
+        OfOne::Select(0b000111, 4),
+        SUMS,
+        Ok(((6, 4, Some(4)), &[0b011011, 0b101101, 0b110110])),
+    ),
+    (
+        OfOne::Select(0b000111, 0),
+        SUMS,
+        Ok(((6, 4, Some(0)), &[0b000000])),
+    ),
+    (OfOne::Select(0b000111, 2), SUMS, Err(BuildFault::Empty)),
+    (
+        OfOne::Trim(3),
+        THRICE,
+        Ok(((6, 3, None), &[0b000000, 0b000111, 0b111000])),
+    ),
+    (OfOne::Trim(1), SUMS, Ok(((6, 4, Some(3)), &[0b000111]))),
+    (OfOne::Trim(4), SUMS, Ok(SUMS)),
+    (OfOne::Trim(5), SUMS, Err(BuildFault::Few(4, 5))),
+    (
+        OfOne::Puncture(&[0]),
+        EVEN,
+        Ok(((6, 3, None), &[0b000000, 0b001111, 0b110001, 0b111110])),
+    ),
+    (
+        OfOne::Puncture(&[1, 6]),
+        EVEN,
+        Ok(((5, 2, None), &[0b00000, 0b00111, 0b11000, 0b11111])),
+    ),
+    (OfOne::Puncture(&[]), EVEN, Ok(EVEN)),
+    (
+        OfOne::Puncture(&MANY_PLACES),
+        ENDS,
+        Ok(((3, 3, None), &[0b000, 0b111])),
+    ),
+    (
+        OfOne::Puncture(&MOST_PLACES),
+        ENDS,
+        Ok(((1, 1, None), &[0, 1])),
+    ),
+    (
+        OfOne::Shorten(&[0], &[1]),
+        THRICE,
+        Ok(((5, 3, None), &[0b11000, 0b11111])),
+    ),
+    (
+        OfOne::Shorten(&[0, 1], &[0, 1]),
+        THRICE,
+        Err(BuildFault::Empty),
+    ),
+    (
+        OfOne::Shorten(&[0, 5], &[1, 0]),
+        SUMS,
+        Ok(((4, 4, Some(2)), &[0b0101])),
+    ),
+    (
+        OfOne::Shorten(&[3], &[0]),
+        SUMS,
+        Ok(((5, 4, Some(3)), &[0b10110, 0b11001])),
+    ),
+];
+
+/// What two codes make. Four words with themselves: the words of each two of them, as their sums are words again; two codes of two words, of
+/// which the words u followed by v would be others. Side by side: four words with themselves, and codes of different sizes, two of constant
+/// weight, and one of constant weight with one without.
+const MADE_OF_TWO: [(OfTwo, Words, Words, Words); 5] = [
+    (
+        OfTwo::Uuv,
+        THRICE,
+        THRICE,
+        ((12, 3, None), &PAIRS_OF_THRICE),
+    ),
+    (
+        OfTwo::Uuv,
+        ((4, 4, None), &[0b0000, 0b1111]),
+        ((4, 3, None), &[0b0000, 0b0111]),
+        (
+            (8, 3, None),
+            &[0b00000000, 0b00000111, 0b11111000, 0b11111111],
+        ),
+    ),
+    (
+        OfTwo::Juxtapose,
+        THRICE,
+        THRICE,
+        (
+            (12, 6, None),
+            &[
+                0b000000000000,
+                0b000111000111,
+                0b111000111000,
+                0b111111111111,
+            ],
+        ),
+    ),
+    (
+        OfTwo::Juxtapose,
+        SUMS,
+        PAIRS,
+        ((10, 8, Some(5)), &[0b0001110011, 0b0111001100]),
+    ),
+    (
+        OfTwo::Juxtapose,
+        PAIRS,
+        THRICE,
+        ((10, 7, None), &[0b0011000000, 0b1100000111]),
+    ),
+];
 
 /// The words with a 0, with a 1, or with their parity behind them.
 fn made_longer(
@@ -155,6 +287,75 @@ fn made_longer(
         OfOne::Lengthen => lengthen(alloc, part),
         OfOne::AppendOne => append_one(alloc, part),
         _ => parity(alloc, part),
+    }
+}
+
+/// The words without the places, each digit there the same.
+fn punctured(
+    rt: &impl Abort,
+    alloc: Global,
+    part: &Code,
+    places: &[u32],
+) -> Result<Code, AllocError> {
+    assert!(rt; are_places(places, part.n()) && places.len() < part.n() as usize);
+    assert!(rt; places.len() < part.d() as usize);
+    puncture(alloc, part, places)
+}
+
+/// The words with these digits at the places, without them.
+fn shortened(
+    rt: &impl Abort,
+    alloc: Global,
+    part: &Code,
+    places: &[u32],
+    digits: &[u32],
+) -> Result<Code, BuildFault> {
+    assert!(rt; are_places(places, part.n()) && places.len() < part.n() as usize);
+    assert!(rt; digits.len() == places.len() && are_binary(digits));
+    shorten(alloc, part, places, digits)
+}
+
+/// The sums with the word.
+fn translated(rt: &impl Abort, alloc: Global, part: &Code, by: Word) -> Result<Code, AllocError> {
+    assert!(rt; has_length(by, part.n()));
+    translate(alloc, part, by)
+}
+
+/// The sums with the word that have the weight.
+fn selected(
+    rt: &impl Abort,
+    alloc: Global,
+    part: &Code,
+    by: Word,
+    w: u32,
+) -> Result<Code, BuildFault> {
+    assert!(rt; has_length(by, part.n()) && w <= part.n());
+    select_weight(alloc, part, by, w)
+}
+
+/// The first words.
+fn trimmed(rt: &impl Abort, alloc: Global, part: &Code, size: u32) -> Result<Code, BuildFault> {
+    assert!(rt; 1 <= size);
+    trim(alloc, part, size)
+}
+
+/// What the construction makes of the code, whose condition is tested.
+fn made_of_one(
+    rt: &impl Abort,
+    alloc: Global,
+    construction: OfOne,
+    part: &Code,
+) -> Result<Code, BuildFault> {
+    match construction {
+        OfOne::Lengthen | OfOne::AppendOne | OfOne::Parity => {
+            Ok(made_longer(rt, alloc, construction, part)?)
+        }
+        OfOne::Puncture(places) => Ok(punctured(rt, alloc, part, places)?),
+        OfOne::Shorten(places, digits) => shortened(rt, alloc, part, places, digits),
+        OfOne::Translate(by) => Ok(translated(rt, alloc, part, by)?),
+        OfOne::Complement => Ok(complement(alloc, part)?),
+        OfOne::Select(by, w) => selected(rt, alloc, part, by, w),
+        OfOne::Trim(size) => trimmed(rt, alloc, part, size),
     }
 }
 
@@ -179,214 +380,66 @@ fn made_of_two(
     }
 }
 
-/// Each construction of one code. Among them: two words of odd distance at the greatest length that grows by a parity; words without the
-/// first place, without two, without none, and without the most that can be left out, 27; a 1 at the first place, digits that no word has,
-/// and words of constant weight with two digits, and with a 0 inside.
+/// Whether the construction makes this of the code.
+fn is_made_of_one(
+    rt: &impl Abort,
+    alloc: Global,
+    construction: OfOne,
+    part: Words,
+    wanted: Result<Words, BuildFault>,
+) -> Result<bool, Fail> {
+    let part = code_of(rt, alloc, part)?;
+    Ok(answers(&made_of_one(rt, alloc, construction, &part), wanted))
+}
+
 #[test]
 fn constructions_of_one_code(rt: HostRuntime) -> Result<(), Fail> {
-    let alloc = rt.alloc();
-    let even = plain(7, 4, &[0b0000000, 0b0001111, 0b1110001, 0b1111110]);
-    let ends = plain(28, 28, &[0, 0xfff_ffff]);
-    for (row, (construction, part, wanted)) in [
-        (
-            OfOne::Lengthen,
-            THRICE,
-            Ok(plain(7, 3, &[0b0000000, 0b0001110, 0b1110000, 0b1111110])),
-        ),
-        (
-            OfOne::Lengthen,
-            SUMS,
-            Ok(weighted(7, 4, 3, &[0b0001110, 0b0111000, 0b1010100, 0b1100010])),
-        ),
-        (
-            OfOne::AppendOne,
-            THRICE,
-            Ok(plain(7, 3, &[0b0000001, 0b0001111, 0b1110001, 0b1111111])),
-        ),
-        (
-            OfOne::AppendOne,
-            SUMS,
-            Ok(weighted(7, 4, 4, &[0b0001111, 0b0111001, 0b1010101, 0b1100011])),
-        ),
-        (
-            OfOne::Parity,
-            THRICE,
-            Ok(plain(7, 4, &[0b0000000, 0b0001111, 0b1110001, 0b1111110])),
-        ),
-        (
-            OfOne::Parity,
-            SUMS,
-            Ok(weighted(7, 4, 4, &[0b0001111, 0b0111001, 0b1010101, 0b1100011])),
-        ),
-        (
-            OfOne::Parity,
-            TWO,
-            Ok(weighted(6, 4, 2, &[0b000110, 0b011000])),
-        ),
-        (
-            OfOne::Parity,
-            plain(27, 27, &[0x7fffffe, 0x0000001]),
-            Ok(OPPOSITE),
-        ),
-        (
-            OfOne::Translate(0b100000),
-            THRICE,
-            Ok(plain(6, 3, &[0b011000, 0b011111, 0b100000, 0b100111])),
-        ),
-        (
-            OfOne::Translate(0b000111),
-            SUMS,
-            Ok(plain(6, 4, &[0b000000, 0b011011, 0b101101, 0b110110])),
-        ),
-        (OfOne::Translate(0xfffffff), OPPOSITE, Ok(OPPOSITE)),
-        (
-            OfOne::Complement,
-            THRICE,
-            Ok(plain(6, 3, &[0b000000, 0b000111, 0b111000, 0b111111])),
-        ),
-        (
-            OfOne::Complement,
-            TWO,
-            Ok(weighted(5, 4, 3, &[0b10011, 0b11100])),
-        ),
-        (OfOne::Complement, OPPOSITE, Ok(OPPOSITE)),
-        (
-            OfOne::Select(0b000000, 3),
-            THRICE,
-            Ok(weighted(6, 4, 3, &[0b000111, 0b111000])),
-        ),
-        (
-            OfOne::Select(0b000111, 4),
-            SUMS,
-            Ok(weighted(6, 4, 4, &[0b011011, 0b101101, 0b110110])),
-        ),
-        (
-            OfOne::Select(0b000111, 0),
-            SUMS,
-            Ok(weighted(6, 4, 0, &[0b000000])),
-        ),
-        (OfOne::Select(0b000111, 2), SUMS, Err(BuildFault::Empty)),
-        (
-            OfOne::Trim(3),
-            THRICE,
-            Ok(plain(6, 3, &[0b000000, 0b000111, 0b111000])),
-        ),
-        (OfOne::Trim(1), SUMS, Ok(weighted(6, 4, 3, &[0b000111]))),
-        (OfOne::Trim(4), SUMS, Ok(SUMS)),
-        (OfOne::Trim(5), SUMS, Err(BuildFault::Few(4, 5))),
-        (
-            OfOne::Puncture(&[0]),
-            even,
-            Ok(plain(6, 3, &[0b000000, 0b001111, 0b110001, 0b111110])),
-        ),
-        (
-            OfOne::Puncture(&[1, 6]),
-            even,
-            Ok(plain(5, 2, &[0b00000, 0b00111, 0b11000, 0b11111])),
-        ),
-        (OfOne::Puncture(&[]), even, Ok(even)),
-        (
-            OfOne::Puncture(&MANY_PLACES),
-            ends,
-            Ok(plain(3, 3, &[0b000, 0b111])),
-        ),
-        (
-            OfOne::Puncture(&MOST_PLACES),
-            ends,
-            Ok(plain(1, 1, &[0, 1])),
-        ),
-        (
-            OfOne::Shorten(&[0], &[1]),
-            THRICE,
-            Ok(plain(5, 3, &[0b11000, 0b11111])),
-        ),
-        (
-            OfOne::Shorten(&[0, 1], &[0, 1]),
-            THRICE,
-            Err(BuildFault::Empty),
-        ),
-        (
-            OfOne::Shorten(&[0, 5], &[1, 0]),
-            SUMS,
-            Ok(weighted(4, 4, 2, &[0b0101])),
-        ),
-        (
-            OfOne::Shorten(&[3], &[0]),
-            SUMS,
-            Ok(weighted(5, 4, 3, &[0b10110, 0b11001])),
-        ),
-    ]
-    .into_iter()
-    .enumerate()
-    {
-        let part = code_of(&rt, alloc, part)?;
-        let made = made_of_one(&rt, alloc, construction, &part);
-        assert!(rt; answers(&made, wanted), "row {row}");
+    for (row, (construction, part, wanted)) in MADE_OF_ONE.iter().enumerate() {
+        assert!(rt;
+            is_made_of_one(&rt, rt.alloc(), *construction, *part, *wanted)?,
+            "row {row}"
+        );
     }
     Ok(())
 }
 
-/// Four words with themselves: the words of each two of them, as their sums are words again; two codes of two words, of which the words
-/// u followed by v would be others. Side by side: four words with themselves, and codes of different sizes, two of constant weight, and
-/// one of constant weight with one without.
+/// Whether the construction makes this of the two codes.
+fn is_made_of_two(
+    rt: &impl Abort,
+    alloc: Global,
+    construction: OfTwo,
+    part: Words,
+    other: Words,
+    wanted: Words,
+) -> Result<bool, Fail> {
+    let part = code_of(rt, alloc, part)?;
+    let other = code_of(rt, alloc, other)?;
+    Ok(shows(
+        &made_of_two(rt, alloc, construction, &part, &other)?,
+        wanted,
+    ))
+}
+
 #[test]
 fn constructions_of_two_codes(rt: HostRuntime) -> Result<(), Fail> {
-    let alloc = rt.alloc();
-    for (row, (construction, part, other, wanted)) in [
-        (OfTwo::Uuv, THRICE, THRICE, plain(12, 3, &PAIRS_OF_THRICE)),
-        (
-            OfTwo::Uuv,
-            plain(4, 4, &[0b0000, 0b1111]),
-            plain(4, 3, &[0b0000, 0b0111]),
-            plain(8, 3, &[0b00000000, 0b00000111, 0b11111000, 0b11111111]),
-        ),
-        (
-            OfTwo::Juxtapose,
-            THRICE,
-            THRICE,
-            plain(
-                12,
-                6,
-                &[
-                    0b000000000000,
-                    0b000111000111,
-                    0b111000111000,
-                    0b111111111111,
-                ],
-            ),
-        ),
-        (
-            OfTwo::Juxtapose,
-            SUMS,
-            PAIRS,
-            weighted(10, 8, 5, &[0b0001110011, 0b0111001100]),
-        ),
-        (
-            OfTwo::Juxtapose,
-            PAIRS,
-            THRICE,
-            plain(10, 7, &[0b0011000000, 0b1100000111]),
-        ),
-    ]
-    .into_iter()
-    .enumerate()
-    {
-        let part = code_of(&rt, alloc, part)?;
-        let other = code_of(&rt, alloc, other)?;
-        let made = made_of_two(&rt, alloc, construction, &part, &other)?;
-        assert!(rt; shows(&made, wanted), "row {row}");
+    for (row, (construction, part, other, wanted)) in MADE_OF_TWO.iter().enumerate() {
+        let is_made = is_made_of_two(&rt, rt.alloc(), *construction, *part, *other, *wanted)?;
+        assert!(rt; is_made, "row {row}");
     }
     Ok(())
 }
+
+/// Words of even weight.
+const EVEN_WORDS: [Words; 2] = [
+    ((1, 2, None), &[0]),
+    ((3, 2, None), &[0b000, 0b011, 0b101, 0b110]),
+];
 
 #[test]
 fn words_of_even_weight(rt: HostRuntime) -> Result<(), Fail> {
-    let alloc = rt.alloc();
-    for (n, wanted) in [
-        (1, plain(1, 2, &[0])),
-        (3, plain(3, 2, &[0b000, 0b011, 0b101, 0b110])),
-    ] {
-        assert!(rt; shows(&even_code(&rt, alloc, n)?, wanted));
+    for wanted in &EVEN_WORDS {
+        let code = even_code(&rt, rt.alloc(), wanted.0.0)?;
+        assert!(rt; shows(&code, *wanted));
     }
     Ok(())
 }

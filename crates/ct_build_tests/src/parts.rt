@@ -1,5 +1,8 @@
 //! Codes that constructions and builds begin with, and that they make.
 
+ghost use Rattle.std.specs.Prelude.{◌≡◌, ◌<◌, ◌^◌, true, All};
+
+use crate::steps::are_below;
 use ct_build::{BuildFault, even_words};
 use ct_codes::{Code, Entry, check_cosets, check_words};
 use ct_words::{MAX_N, Word};
@@ -7,51 +10,30 @@ use std::alloc::Global;
 use std::process::Abort;
 use std::test::Fail;
 
-/// A code written out: its length, distance and weight, and its words.
-#[derive(Clone, Copy)]
-pub(crate) struct Words {
-    pub(crate) n: u32,
-    pub(crate) d: u32,
-    pub(crate) w: Option<u32>,
-    pub(crate) words: &'static [Word],
+/// The length, the distance and the weight of an entry.
+pub(crate) type Place = (u32, u32, Option<u32>);
+
+/// A code written out: its entry and its words.
+pub(crate) type Words = (Place, &'static [Word]);
+
+/// The entry A(n,d), or A(n,d,w).
+pub(crate) fn entry_of((n, d, w): Place) -> Entry {
+    Entry { n, d, w }
 }
 
-/// The code (n,d) of the words.
-pub(crate) fn plain(n: u32, d: u32, words: &'static [Word]) -> Words {
-    Words {
-        n,
-        d,
-        w: None,
-        words,
-    }
-}
-
-/// The code (n,d,w) of the words.
-pub(crate) fn weighted(n: u32, d: u32, w: u32, words: &'static [Word]) -> Words {
-    Words {
-        n,
-        d,
-        w: Some(w),
-        words,
-    }
-}
-
-/// The entry of a code with this length, distance and weight.
-pub(crate) fn entry_of(code: Words) -> Entry {
-    Entry {
-        n: code.n,
-        d: code.d,
-        w: code.w,
-    }
+/// Whether each word has length n.
+fn have_length(words: &[Word], n: u32) -> bool
+    ensures { result ≡ true → All (λ x. x < 2 ^ n) words.now }
+{
+    n < 32 && are_below(words, 1 << n)
 }
 
 /// The code of the words, which are checked.
-pub(crate) fn code_of(rt: &impl Abort, alloc: Global, code: Words) -> Result<Code, Fail> {
-    let entry = entry_of(code);
+pub(crate) fn code_of(rt: &impl Abort, alloc: Global, (place, words): Words) -> Result<Code, Fail> {
+    let entry = entry_of(place);
     assert!(rt; entry.in_table());
-    assert!(rt; entry.n < 32);
-    assert!(rt; code.words.iter().all(|word| *word < 1 << entry.n));
-    Ok(check_words(alloc, entry, code.words.to_vec(alloc)?)?)
+    assert!(rt; have_length(words, entry.n));
+    Ok(check_words(alloc, entry, words.to_vec(alloc)?)?)
 }
 
 /// The code of the words, where any are given.
@@ -82,18 +64,14 @@ pub(crate) fn linear_code(
 ) -> Result<Code, Fail> {
     let entry = Entry { n, d, w: None };
     assert!(rt; entry.in_table());
-    assert!(rt; n < 32);
-    assert!(rt; basis.iter().all(|word| *word < 1 << n));
+    assert!(rt; have_length(basis, n));
     let cosets = check_cosets(alloc, entry, basis.to_vec(alloc)?, [0].to_vec(alloc)?)?;
     Ok(cosets.list(alloc)?)
 }
 
 /// Whether the code is just this one, whose words are written in ascending order.
-pub(crate) fn shows(code: &Code, wanted: Words) -> bool {
-    code.n() == wanted.n
-        && code.d() == wanted.d
-        && code.w() == wanted.w
-        && code.words() == wanted.words
+pub(crate) fn shows(code: &Code, (place, words): Words) -> bool {
+    (code.n(), code.d(), code.w()) == place && code.words() == words
 }
 
 /// Whether the answer is just this code, or this fault.

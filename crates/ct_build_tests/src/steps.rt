@@ -124,7 +124,7 @@ pub(crate) fn are_places(places: &[u32], n: u32) -> bool
 }
 
 /// Whether each number is below n.
-fn are_below(numbers: &[u32], n: u32) -> bool
+pub(crate) fn are_below(numbers: &[u32], n: u32) -> bool
     ensures { result ≡ true → All (λ a. a < n) numbers.now }
 {
     numbers.iter().all(|number| *number < n)
