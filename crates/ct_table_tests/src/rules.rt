@@ -61,6 +61,14 @@ const RULES: [Rule; 43] = [
     Rule::V9(0),
 ];
 
+/// A length, a distance and a weight.
+type Place = (u32, u32, Option<u32>);
+
+/// A(n,d), or A(n,d,w).
+fn entry_of((n, d, w): Place) -> Entry {
+    Entry { n, d, w }
+}
+
 /// A(n,d).
 fn plain(n: u32, d: u32) -> Entry {
     Entry { n, d, w: None }
@@ -83,302 +91,349 @@ fn is_undefined(supports: &[Support], rule: Rule, entry: Entry) -> bool {
         && value(supports, rule, entry, &[1, 1]).is_none()
 }
 
-// A premise is read off the rule: for L5 at (2,4) it is A(2 - 1,4 - 1), for L8 at (28,27) the lengths are 28/2 = 14 and
-// the distances (27 + 1)/2 = 14 and 27.
+/// What a rule rests on at a length and a distance: how many premises it has, and the lengths and distances of the first two.
+type Premises = (
+    Rule,
+    u32,
+    u32,
+    usize,
+    Option<(u32, u32)>,
+    Option<(u32, u32)>,
+);
+
+/// A premise is read off the rule: for L5 at (2,4) it is A(2 - 1,4 - 1), for L8 at (28,27) the lengths are 28/2 = 14 and the distances
+/// (27 + 1)/2 = 14 and 27.
+const PREMISES: [Premises; 27] = [
+    (Rule::L1, 28, 28, 0, None, None),
+    (Rule::L2, 28, 28, 0, None, None),
+    (Rule::L3, 2, 28, 1, Some((1, 28)), None),
+    (Rule::L4, 1, 27, 1, Some((1, 28)), None),
+    (Rule::L5, 2, 4, 1, Some((1, 3)), None),
+    (Rule::L5, 28, 28, 1, Some((27, 27)), None),
+    (Rule::L6, 27, 27, 1, Some((28, 28)), None),
+    (Rule::L7, 27, 28, 1, Some((28, 28)), None),
+    (Rule::L8, 2, 3, 1, Some((1, 3)), None),
+    (Rule::L8, 28, 4, 1, Some((14, 4)), None),
+    (Rule::L8, 28, 5, 2, Some((14, 3)), Some((14, 5))),
+    (Rule::L8, 28, 27, 2, Some((14, 14)), Some((14, 27))),
+    (Rule::L11(1, 3), 2, 6, 2, Some((1, 3)), Some((1, 3))),
+    (Rule::L11(9, 25), 28, 28, 2, Some((9, 25)), Some((19, 3))),
+    (Rule::U0, 1, 28, 0, None, None),
+    (Rule::U1, 27, 28, 0, None, None),
+    (Rule::U2, 3, 3, 0, None, None),
+    (Rule::U2, 28, 14, 0, None, None),
+    (Rule::U2, 27, 13, 0, None, None),
+    (Rule::U3, 28, 28, 0, None, None),
+    (Rule::U4, 1, 3, 1, Some((2, 4)), None),
+    (Rule::U4, 27, 27, 1, Some((28, 28)), None),
+    (Rule::U5, 2, 4, 1, Some((1, 3)), None),
+    (Rule::U5, 28, 28, 1, Some((27, 27)), None),
+    (Rule::U6, 2, 28, 1, Some((1, 28)), None),
+    (Rule::U7, 1, 4, 1, Some((1, 3)), None),
+    (Rule::U8, 27, 28, 1, Some((28, 28)), None),
+];
+
+/// Whether the rule rests on just these premises, and has a value.
+fn rests_on((rule, n, d, count, first, second): Premises) -> bool {
+    let at = |j| premise(&[], rule, plain(n, d), j);
+    premise_count(&[], rule, plain(n, d)) == Some(count)
+        && at(0) == on_side(rule, first)
+        && at(1) == on_side(rule, second)
+        && at(2).is_none()
+        && at(usize::MAX).is_none()
+        && value(&[], rule, plain(n, d), &[1, 1]).is_some()
+}
+
 #[test]
 fn premises_at_the_ends(rt: HostRuntime) {
-    for (rule, n, d, count, first, second) in [
-        (Rule::L1, 28, 28, 0, None, None),
-        (Rule::L2, 28, 28, 0, None, None),
-        (Rule::L3, 2, 28, 1, Some((1, 28)), None),
-        (Rule::L4, 1, 27, 1, Some((1, 28)), None),
-        (Rule::L5, 2, 4, 1, Some((1, 3)), None),
-        (Rule::L5, 28, 28, 1, Some((27, 27)), None),
-        (Rule::L6, 27, 27, 1, Some((28, 28)), None),
-        (Rule::L7, 27, 28, 1, Some((28, 28)), None),
-        (Rule::L8, 2, 3, 1, Some((1, 3)), None),
-        (Rule::L8, 28, 4, 1, Some((14, 4)), None),
-        (Rule::L8, 28, 5, 2, Some((14, 3)), Some((14, 5))),
-        (Rule::L8, 28, 27, 2, Some((14, 14)), Some((14, 27))),
-        (Rule::L11(1, 3), 2, 6, 2, Some((1, 3)), Some((1, 3))),
-        (Rule::L11(9, 25), 28, 28, 2, Some((9, 25)), Some((19, 3))),
-        (Rule::U0, 1, 28, 0, None, None),
-        (Rule::U1, 27, 28, 0, None, None),
-        (Rule::U2, 3, 3, 0, None, None),
-        (Rule::U2, 28, 14, 0, None, None),
-        (Rule::U2, 27, 13, 0, None, None),
-        (Rule::U3, 28, 28, 0, None, None),
-        (Rule::U4, 1, 3, 1, Some((2, 4)), None),
-        (Rule::U4, 27, 27, 1, Some((28, 28)), None),
-        (Rule::U5, 2, 4, 1, Some((1, 3)), None),
-        (Rule::U5, 28, 28, 1, Some((27, 27)), None),
-        (Rule::U6, 2, 28, 1, Some((1, 28)), None),
-        (Rule::U7, 1, 4, 1, Some((1, 3)), None),
-        (Rule::U8, 27, 28, 1, Some((28, 28)), None),
-    ] {
-        let at = |j| premise(&[], rule, plain(n, d), j);
-        assert!(rt;
-            premise_count(&[], rule, plain(n, d)) == Some(count),
-            "{rule:?}"
-        );
-        assert!(rt; at(0) == on_side(rule, first), "{rule:?}");
-        assert!(rt; at(1) == on_side(rule, second), "{rule:?}");
-        assert!(rt; at(2).is_none() && at(usize::MAX).is_none(), "{rule:?}");
-        assert!(rt; value(&[], rule, plain(n, d), &[1, 1]).is_some());
+    for (number, row) in PREMISES.iter().enumerate() {
+        assert!(rt; rests_on(*row), "row {number}");
     }
 }
 
-// Each digit turned, a word of length n and weight w has the weight n - w: of 28 places with none 28, with 14 as many; at
-// (28,4,14) the rules rest on their own entry.
+/// Each digit turned, a word of length n and weight w has the weight n - w: of 28 places with none 28, with 14 as many; at (28,4,14) the
+/// rules rest on their own entry.
+const TURNED: [(u32, u32, u32, u32); 6] = [
+    (1, 4, 0, 1),
+    (1, 28, 1, 0),
+    (8, 6, 3, 5),
+    (28, 4, 14, 14),
+    (28, 28, 0, 28),
+    (28, 28, 28, 0),
+];
+
+/// Whether the rule of turned digits rests on this weight alone.
+fn turns(rule: Rule, side: Side, (n, d, w, turned): (u32, u32, u32, u32)) -> bool {
+    let entry = weighted(n, d, w);
+    let at = |j| premise(&[], rule, entry, j);
+    premise_count(&[], rule, entry) == Some(1)
+        && at(0) == Some((side, weighted(n, d, turned)))
+        && at(1).is_none()
+        && at(usize::MAX).is_none()
+}
+
 #[test]
 fn premises_by_weight(rt: HostRuntime) {
-    for (n, d, w, turned) in [
-        (1, 4, 0, 1),
-        (1, 28, 1, 0),
-        (8, 6, 3, 5),
-        (28, 4, 14, 14),
-        (28, 28, 0, 28),
-        (28, 28, 28, 0),
-    ] {
-        let entry = weighted(n, d, w);
-        for (rule, side) in [(Rule::M7, Side::Lower), (Rule::V3, Side::Upper)] {
-            let at = |j| premise(&[], rule, entry, j);
-            assert!(rt; premise_count(&[], rule, entry) == Some(1), "{entry:?}");
-            assert!(rt; at(0) == Some((side, weighted(n, d, turned))), "{entry:?}");
-            assert!(rt; at(1).is_none() && at(usize::MAX).is_none(), "{entry:?}");
-        }
-        for rule in [Rule::M1, Rule::V0] {
-            assert!(rt; premise_count(&[], rule, entry) == Some(0), "{entry:?}");
-        }
+    for row in &TURNED {
+        assert!(rt; turns(Rule::M7, Side::Lower, *row), "{row:?}");
+        assert!(rt; turns(Rule::V3, Side::Upper, *row), "{row:?}");
+        let entry = weighted(row.0, row.1, row.2);
+        assert!(rt; premise_count(&[], Rule::M1, entry) == Some(0), "{row:?}");
+        assert!(rt; premise_count(&[], Rule::V0, entry) == Some(0), "{row:?}");
     }
 }
 
-// One step past the ends of each range, and the greatest numbers that L11 can name.
+/// One step past the ends of each range, and the greatest numbers that L11 can name.
+const PAST: [(Rule, u32, u32); 31] = [
+    (Rule::L2, 27, 28),
+    (Rule::L3, 1, 28),
+    (Rule::L4, 1, 28),
+    (Rule::L5, 28, 27),
+    (Rule::L5, 1, 4),
+    (Rule::L6, 28, 27),
+    (Rule::L6, 27, 28),
+    (Rule::L7, 28, 28),
+    (Rule::L8, 27, 4),
+    (Rule::L11(0, 25), 28, 28),
+    (Rule::L11(28, 25), 28, 28),
+    (Rule::L11(9, 2), 28, 28),
+    (Rule::L11(9, 26), 28, 28),
+    (Rule::L11(u32::MAX, 3), 28, 28),
+    (Rule::L11(1, u32::MAX), 28, 28),
+    (Rule::L11(u32::MAX, u32::MAX), 28, 28),
+    (Rule::M1, 28, 28),
+    (Rule::M7, 28, 28),
+    (Rule::U1, 28, 28),
+    (Rule::U2, 27, 28),
+    (Rule::U2, 25, 12),
+    (Rule::U2, 28, 13),
+    (Rule::U4, 27, 28),
+    (Rule::U4, 28, 27),
+    (Rule::U5, 1, 28),
+    (Rule::U5, 28, 3),
+    (Rule::U6, 1, 28),
+    (Rule::U7, 28, 3),
+    (Rule::U8, 28, 28),
+    (Rule::V0, 28, 28),
+    (Rule::V3, 28, 28),
+];
+
+/// Rules that are not defined at an entry with a weight.
+const WITHOUT_WEIGHT: [Rule; 8] = [
+    Rule::L1,
+    Rule::L2,
+    Rule::L8,
+    Rule::L11(1, 3),
+    Rule::U0,
+    Rule::U3,
+    Rule::U6,
+    Rule::U7,
+];
+
 #[test]
 fn past_the_ends(rt: HostRuntime) {
-    for (rule, n, d) in [
-        (Rule::L2, 27, 28),
-        (Rule::L3, 1, 28),
-        (Rule::L4, 1, 28),
-        (Rule::L5, 28, 27),
-        (Rule::L5, 1, 4),
-        (Rule::L6, 28, 27),
-        (Rule::L6, 27, 28),
-        (Rule::L7, 28, 28),
-        (Rule::L8, 27, 4),
-        (Rule::L11(0, 25), 28, 28),
-        (Rule::L11(28, 25), 28, 28),
-        (Rule::L11(9, 2), 28, 28),
-        (Rule::L11(9, 26), 28, 28),
-        (Rule::L11(u32::MAX, 3), 28, 28),
-        (Rule::L11(1, u32::MAX), 28, 28),
-        (Rule::L11(u32::MAX, u32::MAX), 28, 28),
-        (Rule::M1, 28, 28),
-        (Rule::M7, 28, 28),
-        (Rule::U1, 28, 28),
-        (Rule::U2, 27, 28),
-        (Rule::U2, 25, 12),
-        (Rule::U2, 28, 13),
-        (Rule::U4, 27, 28),
-        (Rule::U4, 28, 27),
-        (Rule::U5, 1, 28),
-        (Rule::U5, 28, 3),
-        (Rule::U6, 1, 28),
-        (Rule::U7, 28, 3),
-        (Rule::U8, 28, 28),
-        (Rule::V0, 28, 28),
-        (Rule::V3, 28, 28),
-    ] {
-        assert!(rt;
-            is_undefined(&[], rule, plain(n, d)),
-            "{rule:?} at ({n},{d})"
-        );
+    for (number, (rule, n, d)) in PAST.iter().enumerate() {
+        assert!(rt; is_undefined(&[], *rule, plain(*n, *d)), "row {number}");
     }
-    for rule in [
-        Rule::L1,
-        Rule::L2,
-        Rule::L8,
-        Rule::L11(1, 3),
-        Rule::U0,
-        Rule::U3,
-        Rule::U6,
-        Rule::U7,
-    ] {
+    for (number, rule) in WITHOUT_WEIGHT.iter().enumerate() {
         assert!(rt;
-            is_undefined(&[], rule, weighted(28, 6, 3)),
-            "{rule:?} with a weight"
+            is_undefined(&[], *rule, weighted(28, 6, 3)),
+            "row {number}"
         );
     }
 }
 
-// No rule is defined outside of the table, whatever it names, though its support is of just that entry.
+/// Lengths, distances and weights outside of the table.
+const OUTSIDE: [Place; 8] = [
+    (0, 3, None),
+    (29, 3, None),
+    (28, 2, None),
+    (28, 29, None),
+    (u32::MAX, u32::MAX, None),
+    (28, 5, Some(2)),
+    (28, 4, Some(29)),
+    (u32::MAX, 4, Some(u32::MAX)),
+];
+
+/// Whether no rule is defined at the entry, though its support is of just that entry.
+fn has_no_rule(entry: Entry) -> bool {
+    let supports = [Support::Size { entry, size: 1 }];
+    RULES
+        .iter()
+        .all(|rule| is_undefined(&supports, *rule, entry))
+}
+
 #[test]
 fn nothing_outside_the_table(rt: HostRuntime) {
-    let most = u32::MAX;
-    for entry in [
-        plain(0, 3),
-        plain(29, 3),
-        plain(28, 2),
-        plain(28, 29),
-        plain(most, most),
-        weighted(28, 5, 2),
-        weighted(28, 4, 29),
-        weighted(most, 4, most),
-    ] {
-        let supports = [Support::Size { entry, size: 1 }];
-        for rule in RULES {
-            assert!(rt;
-                is_undefined(&supports, rule, entry),
-                "{rule:?} at {entry:?}"
-            );
-        }
+    for place in &OUTSIDE {
+        assert!(rt; has_no_rule(entry_of(*place)), "{place:?}");
     }
 }
 
-// Half of 2^28 - 1, rounded up, is 2^27. At (28,4) the factor of L8 is 2^13, and 2^13 · 2^15 = 2^28; at (28,5) 2^14 · 2^14
-// is 2^28. There are 2^28 words of length 28. At (28,14) Plotkin's bound is 4 · 14, at (27,13) 4 · 13 + 4; a ball of radius 13
-// has (2^28 - C(28,14)) / 2 words, more than a third of all. A rule looks at no more values than it has premises.
+/// A rule at a length and a distance, two premise values, and what it gives.
+type Given = (Rule, u32, u32, u32, u32, Option<u32>);
+
+/// Half of 2^28 - 1, rounded up, is 2^27. At (28,4) the factor of L8 is 2^13, and 2^13 · 2^15 = 2^28; at (28,5) 2^14 · 2^14 is 2^28. There are
+/// 2^28 words of length 28. At (28,14) Plotkin's bound is 4 · 14, at (27,13) 4 · 13 + 4; a ball of radius 13 has (2^28 - C(28,14)) / 2 words,
+/// more than a third of all. A rule looks at no more values than it has premises.
+const VALUES: [Given; 36] = [
+    (Rule::L1, 1, 3, 0, 0, Some(1)),
+    (Rule::L2, 3, 3, 0, 0, Some(2)),
+    (Rule::L3, 28, 3, MAX_BOUND, 0, Some(MAX_BOUND)),
+    (Rule::L3, 28, 3, MAX_BOUND + 1, 0, None),
+    (Rule::L4, 28, 27, 2, 9, Some(2)),
+    (Rule::L5, 28, 28, 2, 9, Some(2)),
+    (Rule::L6, 1, 3, 1, 9, Some(1)),
+    (Rule::L6, 1, 3, u32::MAX, 0, None),
+    (Rule::L7, 27, 3, 0, 0, Some(0)),
+    (Rule::L7, 27, 3, 1, 0, Some(1)),
+    (Rule::L7, 27, 3, MAX_BOUND - 1, 0, Some(1 << 27)),
+    (Rule::L7, 27, 3, MAX_BOUND, 0, Some(1 << 27)),
+    (Rule::L7, 27, 3, u32::MAX, 0, None),
+    (Rule::L8, 2, 4, 1, 9, Some(1)),
+    (Rule::L8, 28, 4, 1 << 15, 9, Some(MAX_BOUND)),
+    (Rule::L8, 28, 4, (1 << 15) + 1, 0, None),
+    (Rule::L8, 28, 5, 1 << 14, 1 << 14, Some(MAX_BOUND)),
+    (Rule::L8, 28, 5, 1 << 14, (1 << 14) + 1, None),
+    (Rule::L8, 28, 5, u32::MAX, u32::MAX, None),
+    (Rule::L11(14, 14), 28, 28, 5, 7, Some(5)),
+    (Rule::L11(14, 14), 28, 28, 7, 5, Some(5)),
+    (Rule::L11(14, 14), 28, 28, u32::MAX, 1 << 28, Some(1 << 28)),
+    (Rule::U0, 1, 28, 9, 9, Some(2)),
+    (Rule::U0, 28, 3, 9, 9, Some(MAX_BOUND)),
+    (Rule::U1, 1, 3, 9, 9, Some(1)),
+    (Rule::U2, 3, 3, 9, 9, Some(2)),
+    (Rule::U2, 28, 14, 9, 9, Some(56)),
+    (Rule::U2, 27, 13, 9, 9, Some(56)),
+    (Rule::U3, 28, 28, 9, 9, Some(2)),
+    (Rule::U4, 27, 27, 2, 9, Some(2)),
+    (Rule::U5, 28, 28, 2, 9, Some(2)),
+    (Rule::U6, 2, 3, 1, 9, Some(2)),
+    (Rule::U6, 28, 3, MAX_BOUND / 2, 9, Some(MAX_BOUND)),
+    (Rule::U6, 28, 3, u32::MAX, 9, Some(MAX_BOUND)),
+    (Rule::U7, 28, 4, MAX_BOUND, 9, Some(MAX_BOUND)),
+    (Rule::U8, 27, 3, MAX_BOUND + 1, 9, Some(MAX_BOUND)),
+];
+
 #[test]
 fn values_at_the_ends(rt: HostRuntime) {
-    for (rule, n, d, first, second, want) in [
-        (Rule::L1, 1, 3, 0, 0, Some(1)),
-        (Rule::L2, 3, 3, 0, 0, Some(2)),
-        (Rule::L3, 28, 3, MAX_BOUND, 0, Some(MAX_BOUND)),
-        (Rule::L3, 28, 3, MAX_BOUND + 1, 0, None),
-        (Rule::L4, 28, 27, 2, 9, Some(2)),
-        (Rule::L5, 28, 28, 2, 9, Some(2)),
-        (Rule::L6, 1, 3, 1, 9, Some(1)),
-        (Rule::L6, 1, 3, u32::MAX, 0, None),
-        (Rule::L7, 27, 3, 0, 0, Some(0)),
-        (Rule::L7, 27, 3, 1, 0, Some(1)),
-        (Rule::L7, 27, 3, MAX_BOUND - 1, 0, Some(1 << 27)),
-        (Rule::L7, 27, 3, MAX_BOUND, 0, Some(1 << 27)),
-        (Rule::L7, 27, 3, u32::MAX, 0, None),
-        (Rule::L8, 2, 4, 1, 9, Some(1)),
-        (Rule::L8, 28, 4, 1 << 15, 9, Some(MAX_BOUND)),
-        (Rule::L8, 28, 4, (1 << 15) + 1, 0, None),
-        (Rule::L8, 28, 5, 1 << 14, 1 << 14, Some(MAX_BOUND)),
-        (Rule::L8, 28, 5, 1 << 14, (1 << 14) + 1, None),
-        (Rule::L8, 28, 5, u32::MAX, u32::MAX, None),
-        (Rule::L11(14, 14), 28, 28, 5, 7, Some(5)),
-        (Rule::L11(14, 14), 28, 28, 7, 5, Some(5)),
-        (Rule::L11(14, 14), 28, 28, u32::MAX, 1 << 28, Some(1 << 28)),
-        (Rule::U0, 1, 28, 9, 9, Some(2)),
-        (Rule::U0, 28, 3, 9, 9, Some(MAX_BOUND)),
-        (Rule::U1, 1, 3, 9, 9, Some(1)),
-        (Rule::U2, 3, 3, 9, 9, Some(2)),
-        (Rule::U2, 28, 14, 9, 9, Some(56)),
-        (Rule::U2, 27, 13, 9, 9, Some(56)),
-        (Rule::U3, 28, 28, 9, 9, Some(2)),
-        (Rule::U4, 27, 27, 2, 9, Some(2)),
-        (Rule::U5, 28, 28, 2, 9, Some(2)),
-        (Rule::U6, 2, 3, 1, 9, Some(2)),
-        (Rule::U6, 28, 3, MAX_BOUND / 2, 9, Some(MAX_BOUND)),
-        (Rule::U6, 28, 3, u32::MAX, 9, Some(MAX_BOUND)),
-        (Rule::U7, 28, 4, MAX_BOUND, 9, Some(MAX_BOUND)),
-        (Rule::U8, 27, 3, MAX_BOUND + 1, 9, Some(MAX_BOUND)),
-    ] {
-        let given = value(&[], rule, plain(n, d), &[first, second, 3]);
-        assert!(rt; given == want, "{rule:?} of {first}, {second}");
+    for (number, (rule, n, d, first, second, want)) in VALUES.iter().enumerate() {
+        let given = value(&[], *rule, plain(*n, *d), &[*first, *second, 3]);
+        assert!(rt; given == *want, "row {number}");
     }
 }
 
-// There are 28!/14!^2 = 40,116,600 words of length 28 and weight 14. With each digit turned there are as many words, from
-// below MAX_BOUND at most. A value that is missing counts as 0.
+/// There are 28!/14!^2 = 40,116,600 words of length 28 and weight 14. A value that is missing counts as 0.
+const WITHOUT_PREMISES: [(Rule, Place, u32); 6] = [
+    (Rule::M1, (28, 28, Some(28)), 1),
+    (Rule::V0, (28, 28, Some(0)), 1),
+    (Rule::V0, (28, 28, Some(14)), 40116600),
+    (Rule::V0, (28, 28, Some(28)), 1),
+    (Rule::L3, (28, 28, None), 0),
+    (Rule::L11(14, 14), (28, 28, None), 0),
+];
+
+/// With each digit turned there are as many words, from below `MAX_BOUND` at most.
+const TURNED_VALUES: [(Rule, u32, Option<u32>); 6] = [
+    (Rule::M7, 14, Some(14)),
+    (Rule::M7, MAX_BOUND, Some(MAX_BOUND)),
+    (Rule::M7, MAX_BOUND + 1, None),
+    (Rule::V3, 14, Some(14)),
+    (Rule::V3, MAX_BOUND, Some(MAX_BOUND)),
+    (Rule::V3, MAX_BOUND + 1, Some(MAX_BOUND)),
+];
+
 #[test]
 fn values_by_weight_and_without_premises(rt: HostRuntime) {
-    for (rule, entry, want) in [
-        (Rule::M1, weighted(28, 28, 28), 1),
-        (Rule::V0, weighted(28, 28, 0), 1),
-        (Rule::V0, weighted(28, 28, 14), 40116600),
-        (Rule::V0, weighted(28, 28, 28), 1),
-        (Rule::L3, plain(28, 28), 0),
-        (Rule::L11(14, 14), plain(28, 28), 0),
-    ] {
-        assert!(rt;
-            value(&[], rule, entry, &[]) == Some(want),
-            "{rule:?} at {entry:?}"
-        );
+    for (number, (rule, place, want)) in WITHOUT_PREMISES.iter().enumerate() {
+        let given = value(&[], *rule, entry_of(*place), &[]);
+        assert!(rt; given == Some(*want), "row {number}");
     }
     assert!(rt; value(&[], Rule::L8, plain(28, 5), &[7]) == Some(0));
-    for (rule, first, want) in [
-        (Rule::M7, 14, Some(14)),
-        (Rule::M7, MAX_BOUND, Some(MAX_BOUND)),
-        (Rule::M7, MAX_BOUND + 1, None),
-        (Rule::V3, 14, Some(14)),
-        (Rule::V3, MAX_BOUND, Some(MAX_BOUND)),
-        (Rule::V3, MAX_BOUND + 1, Some(MAX_BOUND)),
-    ] {
-        let given = value(&[], rule, weighted(28, 4, 2), &[first, 9]);
-        assert!(rt; given == want, "{rule:?} of {first}");
+    for (number, (rule, first, want)) in TURNED_VALUES.iter().enumerate() {
+        let given = value(&[], *rule, weighted(28, 4, 2), &[*first, 9]);
+        assert!(rt; given == *want, "row {number}");
     }
 }
 
-// Of the sets of three of the numbers 0 to 5 these add up to 0 modulo 6: 0 1 5, 0 2 4, 1 2 3 and 3 4 5; these to 1: 0 2 5, 0 3 4
-// and 1 2 4; these to 5: 0 1 4, 0 2 3 and 2 4 5. All 28 numbers add up to 378 = 13 · 28 + 14.
+/// Of the sets of three of the numbers 0 to 5 these add up to 0 modulo 6: 0 1 5, 0 2 4, 1 2 3 and 3 4 5; these to 1: 0 2 5, 0 3 4 and 1 2 4;
+/// these to 5: 0 1 4, 0 2 3 and 2 4 5. All 28 numbers add up to 378 = 13 · 28 + 14.
+const SUM_CLASSES: [(u32, Place, u32); 6] = [
+    (0, (6, 4, Some(3)), 4),
+    (1, (6, 4, Some(3)), 3),
+    (5, (6, 4, Some(3)), 3),
+    (0, (6, 4, Some(0)), 1),
+    (0, (1, 4, Some(1)), 1),
+    (14, (28, 4, Some(28)), 1),
+];
+
+/// Sums that no set has, and entries without sum classes.
+const NO_SUM_CLASSES: [(u32, Place); 6] = [
+    (6, (6, 4, Some(3))),
+    (u32::MAX, (6, 4, Some(3))),
+    (1, (6, 4, Some(0))),
+    (13, (28, 4, Some(28))),
+    (0, (6, 6, Some(3))),
+    (0, (6, 4, None)),
+];
+
+/// Whether the rule of the sum class gives so many words, and rests on nothing.
+fn has_words(r: u32, place: Place, want: u32) -> bool {
+    let (rule, entry) = (Rule::M9(r), entry_of(place));
+    rule_side(rule) == Side::Lower
+        && premise_count(&[], rule, entry) == Some(0)
+        && value(&[], rule, entry, &[9]) == Some(want)
+}
+
 #[test]
 fn sum_classes(rt: HostRuntime) {
-    for (r, entry, want) in [
-        (0, weighted(6, 4, 3), 4),
-        (1, weighted(6, 4, 3), 3),
-        (5, weighted(6, 4, 3), 3),
-        (0, weighted(6, 4, 0), 1),
-        (0, weighted(1, 4, 1), 1),
-        (14, weighted(28, 4, 28), 1),
-    ] {
-        let rule = Rule::M9(r);
-        assert!(rt; rule_side(rule) == Side::Lower);
-        assert!(rt; premise_count(&[], rule, entry) == Some(0));
+    for (number, (r, place, want)) in SUM_CLASSES.iter().enumerate() {
+        assert!(rt; has_words(*r, *place, *want), "row {number}");
+    }
+    for (number, (r, place)) in NO_SUM_CLASSES.iter().enumerate() {
         assert!(rt;
-            value(&[], rule, entry, &[9]) == Some(want),
-            "{r} at {entry:?}"
+            is_undefined(&[], Rule::M9(*r), entry_of(*place)),
+            "row {number}"
         );
-    }
-    for (r, entry) in [
-        (6, weighted(6, 4, 3)),
-        (u32::MAX, weighted(6, 4, 3)),
-        (1, weighted(6, 4, 0)),
-        (13, weighted(28, 4, 28)),
-        (0, weighted(6, 6, 3)),
-        (0, plain(6, 4)),
-    ] {
-        assert!(rt; is_undefined(&[], Rule::M9(r), entry), "{r} at {entry:?}");
     }
 }
 
-/// How many rules of the list are defined at the entry, beside those of one word and of all words, which each side of an entry
-/// has from the start, and that of words side by side.
-fn defined_rules(entry: Entry) -> u32 {
-    let mut count: u32 = 0;
-    for rule in RULES {
-        let other = !matches!(
-            rule,
-            Rule::L1 | Rule::L11(_, _) | Rule::M1 | Rule::U0 | Rule::V0
-        );
-        if other && premise_count(&[], rule, entry).is_some() {
-            count = count.saturating_add(1);
-        }
-    }
-    count
+/// Whether it is none of the rules of one word and of all words, which each side of an entry has from the start, and not that of words
+/// side by side.
+fn is_counted(rule: Rule) -> bool {
+    !matches!(
+        rule,
+        Rule::L1 | Rule::L11(_, _) | Rule::M1 | Rule::U0 | Rule::V0
+    )
 }
 
-// At A(1,3) L4, L6, L7, L9, U1, U3, U4 and U8 are defined; at A(4,5) L3, L4, L6 to L9, U1 and U3 to U8; at A(4,8) L3 to L9, U1, U3,
-// U5 to U8 and U10; at A(8,6) L2 to L9, U2, U3, U5 to U8 and U10; at A(9,5) L2 to L4, L6, L7, L9 and U2 to U9. At A(4,8,2) M3 to M8,
-// V1 and V3 to V7; at A(8,8,4) M2 to M8 and V2 to V8, as three words of weight 4 have no one in common only from 12 places on;
-// at A(1,28,0) M5 to M7, V1, V3 and V7.
+/// How many rules of the list that are counted are defined at the entry.
+fn defined_rules(entry: Entry) -> usize {
+    RULES
+        .iter()
+        .filter(|rule| is_counted(**rule) && premise_count(&[], **rule, entry).is_some())
+        .count()
+}
+
+/// At A(1,3) L4, L6, L7, L9, U1, U3, U4 and U8 are defined; at A(4,5) L3, L4, L6 to L9, U1 and U3 to U8; at A(4,8) L3 to L9, U1, U3, U5 to U8
+/// and U10; at A(8,6) L2 to L9, U2, U3, U5 to U8 and U10; at A(9,5) L2 to L4, L6, L7, L9 and U2 to U9. At A(4,8,2) M3 to M8, V1 and V3 to
+/// V7; at A(8,8,4) M2 to M8 and V2 to V8, as three words of weight 4 have no one in common only from 12 places on; at A(1,28,0) M5 to M7,
+/// V1, V3 and V7.
+const RULES_OF_ENTRIES: [(Place, usize); 8] = [
+    ((1, 3, None), 8),
+    ((4, 5, None), 13),
+    ((4, 8, None), 14),
+    ((8, 6, None), 15),
+    ((9, 5, None), 14),
+    ((4, 8, Some(2)), 12),
+    ((8, 8, Some(4)), 14),
+    ((1, 28, Some(0)), 6),
+];
+
 #[test]
 fn rules_of_entries(rt: HostRuntime) {
-    for (entry, want) in [
-        (plain(1, 3), 8),
-        (plain(4, 5), 13),
-        (plain(4, 8), 14),
-        (plain(8, 6), 15),
-        (plain(9, 5), 14),
-        (weighted(4, 8, 2), 12),
-        (weighted(8, 8, 4), 14),
-        (weighted(1, 28, 0), 6),
-    ] {
-        assert!(rt; defined_rules(entry) == want, "{entry:?}");
+    for (place, want) in &RULES_OF_ENTRIES {
+        assert!(rt; defined_rules(entry_of(*place)) == *want, "{place:?}");
     }
 }
 
@@ -389,79 +444,87 @@ fn rests(rule: Rule, entry: Entry) -> bool {
 }
 
 /// How many rules of the list rest on A(5,4) at the entry.
-fn resting_rules(entry: Entry) -> u32 {
-    let mut count: u32 = 0;
-    for rule in RULES {
-        if rests(rule, entry) {
-            count = count.saturating_add(1);
-        }
-    }
-    count
+fn resting_rules(entry: Entry) -> usize {
+    RULES.iter().filter(|rule| rests(**rule, entry)).count()
 }
 
-// On A(5,4) from below rest A(6,4), A(5,3), A(4,3), A(4,4), by u followed by u + v A(10,4), A(10,7) and A(10,8), and beside words
-// of A(1,3) A(6,7). On A(5,4) from above rest A(4,3), A(6,5), A(6,4), A(5,5) and A(4,4).
+/// On A(5,4) from below rest A(6,4), A(5,3), A(4,3), A(4,4), by u followed by u + v A(10,4), A(10,7) and A(10,8), and beside words of A(1,3)
+/// A(6,7). On A(5,4) from above rest A(4,3), A(6,5), A(6,4), A(5,5) and A(4,4).
+const RESTING: [(Rule, u32, u32); 13] = [
+    (Rule::L3, 6, 4),
+    (Rule::L4, 5, 3),
+    (Rule::L6, 4, 3),
+    (Rule::L7, 4, 4),
+    (Rule::L8, 10, 4),
+    (Rule::L8, 10, 7),
+    (Rule::L8, 10, 8),
+    (Rule::L11(1, 3), 6, 7),
+    (Rule::U4, 4, 3),
+    (Rule::U5, 6, 5),
+    (Rule::U6, 6, 4),
+    (Rule::U7, 5, 5),
+    (Rule::U8, 4, 4),
+];
+
 #[test]
 fn what_rests_on_an_entry(rt: HostRuntime) {
-    for (rule, n, d) in [
-        (Rule::L3, 6, 4),
-        (Rule::L4, 5, 3),
-        (Rule::L6, 4, 3),
-        (Rule::L7, 4, 4),
-        (Rule::L8, 10, 4),
-        (Rule::L8, 10, 7),
-        (Rule::L8, 10, 8),
-        (Rule::L11(1, 3), 6, 7),
-        (Rule::U4, 4, 3),
-        (Rule::U5, 6, 5),
-        (Rule::U6, 6, 4),
-        (Rule::U7, 5, 5),
-        (Rule::U8, 4, 4),
-    ] {
-        assert!(rt; rests(rule, plain(n, d)), "{rule:?} at ({n},{d})");
+    for (number, (rule, n, d)) in RESTING.iter().enumerate() {
+        assert!(rt; rests(*rule, plain(*n, *d)), "row {number}");
     }
-    let mut count: u32 = 0;
+    let mut count: usize = 0;
     for number in 0..NUMBERS {
         count = count.saturating_add(resting_rules(entry_at(number)));
     }
-    assert!(rt; count == 13);
+    assert!(rt; count == RESTING.len());
 }
 
-// A support gives its own size at its own entry, where the rule names its place and the size is a bound of the table.
+/// The support of a size at an entry.
+fn size_at(n: u32, d: u32, w: Option<u32>, size: u32) -> Support {
+    Support::Size {
+        entry: Entry { n, d, w },
+        size,
+    }
+}
+
+/// A rule that names a support, an entry, how many premises it has there, and what it gives.
+type OfSupport = (Rule, Place, Option<usize>, Option<u32>);
+
+/// A support gives its own size at its own entry, where the rule names its place and the size is a bound of the table.
+const OF_SUPPORTS: [OfSupport; 13] = [
+    (Rule::L10(0), (28, 3, None), None, None),
+    (Rule::L10(1), (28, 3, None), Some(0), Some(MAX_BOUND)),
+    (Rule::L10(1), (28, 4, None), None, None),
+    (Rule::L10(1), (27, 3, None), None, None),
+    (Rule::L10(2), (28, 3, None), Some(0), None),
+    (Rule::L10(3), (28, 4, Some(2)), None, None),
+    (Rule::L10(4), (29, 3, None), None, None),
+    (Rule::L10(5), (28, 3, None), None, None),
+    (Rule::L10(u32::MAX), (28, 3, None), None, None),
+    (Rule::M10(3), (28, 4, Some(2)), Some(0), Some(14)),
+    (Rule::M10(3), (28, 4, Some(26)), None, None),
+    (Rule::M10(1), (28, 3, None), None, None),
+    (Rule::M10(u32::MAX), (28, 4, Some(2)), None, None),
+];
+
+/// Whether the rule gives just this.
+fn gives(supports: &[Support], (rule, place, count, want): OfSupport) -> bool {
+    let entry = entry_of(place);
+    premise_count(supports, rule, entry) == count
+        && value(supports, rule, entry, &[]) == want
+        && premise(supports, rule, entry, 0).is_none()
+}
+
 #[test]
 fn sizes_of_supports(rt: HostRuntime) {
-    let size_of = |entry, size| Support::Size { entry, size };
     let supports = [
         Support::Nothing,
-        size_of(plain(28, 3), MAX_BOUND),
-        size_of(plain(28, 3), MAX_BOUND + 1),
-        size_of(weighted(28, 4, 2), 14),
-        size_of(plain(29, 3), 2),
+        size_at(28, 3, None, MAX_BOUND),
+        size_at(28, 3, None, MAX_BOUND + 1),
+        size_at(28, 4, Some(2), 14),
+        size_at(29, 3, None, 2),
     ];
-    for (rule, entry, count, want) in [
-        (Rule::L10(0), plain(28, 3), None, None),
-        (Rule::L10(1), plain(28, 3), Some(0), Some(MAX_BOUND)),
-        (Rule::L10(1), plain(28, 4), None, None),
-        (Rule::L10(1), plain(27, 3), None, None),
-        (Rule::L10(2), plain(28, 3), Some(0), None),
-        (Rule::L10(3), weighted(28, 4, 2), None, None),
-        (Rule::L10(4), plain(29, 3), None, None),
-        (Rule::L10(5), plain(28, 3), None, None),
-        (Rule::L10(u32::MAX), plain(28, 3), None, None),
-        (Rule::M10(3), weighted(28, 4, 2), Some(0), Some(14)),
-        (Rule::M10(3), weighted(28, 4, 26), None, None),
-        (Rule::M10(1), plain(28, 3), None, None),
-        (Rule::M10(u32::MAX), weighted(28, 4, 2), None, None),
-    ] {
-        assert!(rt;
-            premise_count(&supports, rule, entry) == count,
-            "{rule:?} at {entry:?}"
-        );
-        assert!(rt;
-            value(&supports, rule, entry, &[]) == want,
-            "{rule:?} at {entry:?}"
-        );
-        assert!(rt; premise(&supports, rule, entry, 0).is_none());
+    for (number, row) in OF_SUPPORTS.iter().enumerate() {
+        assert!(rt; gives(&supports, *row), "row {number}");
     }
 }
 
