@@ -53,15 +53,16 @@ impl Answer {
 
     /// Prints it as a line.
     pub fn print(&self, rt: &impl Print) -> io::Result<()> {
-        match self {
-            Answer::Accepted(Some(size)) => println!(rt; "accepted size {size}"),
-            Answer::Accepted(None) => println!(rt; "accepted"),
-            Answer::Withdrawn => println!(rt; "withdrawn"),
+        let words = match self {
+            Answer::Accepted(Some(size)) => return println!(rt; "accepted size {size}"),
+            Answer::Accepted(None) => "accepted",
+            Answer::Withdrawn => "withdrawn",
             Answer::Refused(text) => {
-                println!(rt; "refused {}", str::from_utf8(text).unwrap_or("no text"))
+                return println!(rt; "refused {}", str::from_utf8(text).unwrap_or("no text"));
             }
-            Answer::Memory => println!(rt; "want of memory"),
-            Answer::NoId => println!(rt; "no id"),
-        }
+            Answer::Memory => "want of memory",
+            Answer::NoId => "no id",
+        };
+        println!(rt; "{words}")
     }
 }

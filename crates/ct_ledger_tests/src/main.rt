@@ -38,6 +38,21 @@ fn without_want(
     Ok(make(rt.alloc(), ledger, call, piece)?)
 }
 
+/// Makes the call, and prints what changed where it is to change nothing: its answer.
+fn watched(
+    rt: &(impl Print + AllocGlobal),
+    ledger: &mut Ledger,
+    call: Call,
+    piece: Stated<'_>,
+) -> io::Result<Answer> {
+    let noted = Noted::of(rt.alloc(), ledger)?;
+    let answer = make(rt.alloc(), ledger, call, piece)?;
+    if answer.is_fault() {
+        tell_changes(rt, &noted, ledger)?;
+    }
+    Ok(answer)
+}
+
 /// Makes the call, again where it wants memory, and prints its answer. Prints what changed by a call that is to change nothing.
 fn try_call(
     rt: &(impl Print + Eprint + AllocGlobal),
@@ -46,28 +61,43 @@ fn try_call(
     piece: Stated<'_>,
 ) -> io::Result<()> {
     print!(rt; "{} {}: ", call.name(), piece.id)?;
-    let noted = Noted::of(rt.alloc(), ledger)?;
-    let answer = make(rt.alloc(), ledger, call, piece)?;
-    if answer.is_fault() {
-        tell_changes(rt, &noted, ledger)?;
-    }
-    drop(noted);
+    let answer = watched(rt, ledger, call, piece)?;
     without_want(rt, ledger, call, piece, answer)?.print(rt)
+}
+
+/// Tries to submit the piece, to withdraw it and to admit it.
+fn try_each_call(
+    rt: &(impl Print + Eprint + AllocGlobal),
+    ledger: &mut Ledger,
+    piece: Stated<'_>,
+) -> io::Result<()> {
+    try_call(rt, ledger, Call::Submit, piece)?;
+    try_call(rt, ledger, Call::Withdraw, piece)?;
+    try_call(rt, ledger, Call::Admit, piece)
+}
+
+/// Tries all calls.
+fn try_all(rt: &(impl Print + Eprint + AllocGlobal), ledger: &mut Ledger) -> io::Result<()> {
+    for piece in &STANDING {
+        try_call(rt, ledger, Call::Submit, *piece)?;
+    }
+    for piece in &TRIED {
+        try_each_call(rt, ledger, *piece)?;
+    }
+    for (call, piece) in &REFUSED {
+        try_call(rt, ledger, *call, *piece)?;
+    }
+    Ok(())
+}
+
+/// Prints how many pieces and bounds the ledger has.
+fn print_counts(rt: &(impl Print + AllocGlobal), ledger: &Ledger) -> io::Result<()> {
+    let noted = Noted::of(rt.alloc(), ledger)?;
+    println!(rt; "{} pieces, {} bounds", noted.pieces(), noted.bounds())
 }
 
 fn main(rt: HostRuntime) -> io::Result<()> {
     let mut ledger = Ledger::new(rt.alloc())?;
-    for piece in STANDING {
-        try_call(&rt, &mut ledger, Call::Submit, piece)?;
-    }
-    for piece in TRIED {
-        for call in [Call::Submit, Call::Withdraw, Call::Admit] {
-            try_call(&rt, &mut ledger, call, piece)?;
-        }
-    }
-    for (call, piece) in REFUSED {
-        try_call(&rt, &mut ledger, call, piece)?;
-    }
-    let noted = Noted::of(rt.alloc(), &ledger)?;
-    println!(rt; "{} pieces, {} bounds", noted.pieces(), noted.bounds())
+    try_all(&rt, &mut ledger)?;
+    print_counts(&rt, &ledger)
 }
