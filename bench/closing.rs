@@ -5,11 +5,12 @@
 use std::collections::VecDeque;
 use std::time::Instant;
 
-const MAX_N: u32 = 28;
-const MAX_BOUND: u64 = 1 << 28;
-const DISTANCES: usize = 26;
-const EVEN_DISTANCES: usize = 13;
-const ENTRIES: usize = entries_to(28);
+const MAX_N: u32 = 30;
+const MAX_BOUND: u64 = 1 << MAX_N;
+const DISTANCES: usize = MAX_N as usize - 2;
+const EVEN_DISTANCES: usize = MAX_N as usize / 2 - 1;
+const ENTRIES: usize = entries_to(MAX_N as usize);
+const ROWS: usize = MAX_N as usize + 1;
 
 const fn entries_to(k: usize) -> usize {
     k * DISTANCES + EVEN_DISTANCES * (k * (k + 3) / 2)
@@ -144,12 +145,12 @@ fn slot(upper: bool, entry: Entry) -> usize {
     if upper { ENTRIES + entry.number() } else { entry.number() }
 }
 
-const BINOMIALS: [[u64; 29]; 29] = binomials();
+const BINOMIALS: [[u64; ROWS]; ROWS] = binomials();
 
-const fn binomials() -> [[u64; 29]; 29] {
-    let mut rows = [[0; 29]; 29];
+const fn binomials() -> [[u64; ROWS]; ROWS] {
+    let mut rows = [[0; ROWS]; ROWS];
     let mut n = 0;
-    while n <= 28 {
+    while n < ROWS {
         rows[n][0] = 1;
         let mut k = 1;
         while k <= n {
@@ -589,7 +590,7 @@ fn report() {
             });
         }
     }
-    for (n, d) in [(5, 3), (24, 8), (23, 7), (28, 3)] {
+    for (n, d) in [(5, 3), (24, 8), (23, 7), (30, 3)] {
         println!("{} <= A({n},{d}) <= {}", table.bound(false, plain(n, d)), table.bound(true, plain(n, d)));
     }
 }

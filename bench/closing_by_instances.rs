@@ -5,10 +5,12 @@
 use std::collections::VecDeque;
 use std::time::Instant;
 
-const MAX_N: u32 = 28;
-const MAX_BOUND: u64 = 1 << 28;
-const ROW: usize = 30;
-const ENTRIES: usize = 28 * 26 * ROW;
+const MAX_N: u32 = 30;
+const MAX_BOUND: u64 = 1 << MAX_N;
+const DISTANCES: u32 = MAX_N - 2;
+const ROWS: usize = MAX_N as usize + 1;
+const ROW: usize = ROWS + 1;
+const ENTRIES: usize = (MAX_N * DISTANCES) as usize * ROW;
 
 #[derive(Clone, Copy, PartialEq)]
 enum Rule {
@@ -83,16 +85,16 @@ struct Table {
 }
 
 fn slot(upper: bool, n: u32, d: u32, w: Option<u32>) -> usize {
-    let entry = ((n - 1) * 26 + (d - 3)) as usize * ROW + w.map_or(0, |w| w as usize + 1);
+    let entry = ((n - 1) * DISTANCES + (d - 3)) as usize * ROW + w.map_or(0, |w| w as usize + 1);
     if upper { ENTRIES + entry } else { entry }
 }
 
-const BINOMIALS: [[u64; 29]; 29] = binomials();
+const BINOMIALS: [[u64; ROWS]; ROWS] = binomials();
 
-const fn binomials() -> [[u64; 29]; 29] {
-    let mut rows = [[0; 29]; 29];
+const fn binomials() -> [[u64; ROWS]; ROWS] {
+    let mut rows = [[0; ROWS]; ROWS];
     let mut n = 0;
-    while n <= 28 {
+    while n < ROWS {
         rows[n][0] = 1;
         let mut k = 1;
         while k <= n {
@@ -173,7 +175,7 @@ fn is_defined(i: &Instance) -> bool {
         Rule::M2 | Rule::V2 => d == 2 * w,
         Rule::M3 | Rule::V5 => n >= 2 && w < n,
         Rule::M4 | Rule::V4 => n >= 2 && w > 0,
-        Rule::M8 => d <= 26,
+        Rule::M8 => d + 2 <= MAX_N,
         Rule::V1 => d > 2 * w.min(n - w),
         Rule::V6 => n >= 2 && 0 < w && w < n,
         Rule::V7 => d >= 6,
@@ -456,7 +458,7 @@ fn report(upper: bool) {
             });
         }
     }
-    for (n, d) in [(5, 3), (24, 8), (23, 7), (28, 3)] {
+    for (n, d) in [(5, 3), (24, 8), (23, 7), (30, 3)] {
         let at = |upper| table.bounds[slot(upper, n, d, None)];
         println!("{} <= A({n},{d}) <= {}", at(false), at(true));
     }

@@ -13,6 +13,8 @@ from fractions import Fraction
 from math import comb, factorial, gcd
 
 WIDEST = 2**63 - 1
+# The greatest bound of the table.
+GREATEST = 2**30
 
 
 def krawtchouk(n, k, i):
@@ -96,7 +98,7 @@ def dual(n, d, w=None, even=False, turns=20000):
 def find(n, d, w=None, even=False, turns=20000):
     """The bound, or None, and how the run stopped."""
     c, text, at_zero = dual(n, d, w, even, turns)
-    return c and min(2**28, at_zero // c[0]), text
+    return c and min(GREATEST, at_zero // c[0]), text
 
 
 def line(n, d, w, even, turns):

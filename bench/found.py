@@ -13,11 +13,12 @@ import subprocess
 import sys
 
 TOP = pathlib.Path(__file__).resolve().parent.parent
+MOST = 30
 
 
 def entries():
-    for n in range(1, 29):
-        for d in range(3, 29):
+    for n in range(1, MOST + 1):
+        for d in range(3, MOST + 1):
             yield n, d
             if d % 2 == 0:
                 for w in range(n + 1):

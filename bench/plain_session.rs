@@ -19,7 +19,7 @@ fn main() -> io::Result<()> {
         let text = line.trim_end_matches('\n');
         if !text.is_empty() && !text.starts_with('#') {
             match entry(text) {
-                Some((n, d)) if (1..=28).contains(&n) && (3..=28).contains(&d) => {
+                Some((n, d)) if (1..=30).contains(&n) && (3..=30).contains(&d) => {
                     writeln!(output, "1 <= A({n},{d}) <= {}", 1u32 << n)?;
                 }
                 Some(_) => writeln!(output, "refused entry")?,

@@ -1,4 +1,4 @@
-//! What a table costs, for comparison with a session. `tables` prints a session of the 26 tables without evidence, and `pieces` one of 200
+//! What a table costs, for comparison with a session. `tables` prints a session of the 28 tables without evidence, and `pieces` one of 200
 //! submissions, each followed by the bounds of its entry: ever greater parts of the linear codes that the session given as a file hands in,
 //! and then smaller parts, which improve nothing. `session` answers such sessions as the program does, by a worklist over the same rules. It
 //! reads no other session.
@@ -7,12 +7,13 @@ use std::collections::VecDeque;
 use std::fs;
 use std::io::{self, BufWriter, Read, Write};
 
-const MAX_N: usize = 28;
-const DISTANCES: usize = 26;
-const EVEN_DISTANCES: usize = 13;
+const MAX_N: usize = 30;
+/// The distances are 3 to `MAX_N`.
+const DISTANCES: usize = MAX_N - 2;
+const EVEN_DISTANCES: usize = MAX_N / 2 - 1;
 const WITHOUT_WEIGHT: usize = MAX_N * DISTANCES;
 const ENTRIES: usize = WITHOUT_WEIGHT + MAX_N * EVEN_DISTANCES * (MAX_N + 1);
-const MAX_BOUND: u64 = 1 << 28;
+const MAX_BOUND: u64 = 1 << MAX_N;
 
 /// The number of an entry without weight.
 fn number(n: usize, d: usize) -> usize {
@@ -131,12 +132,12 @@ fn lower_rules(n: usize, d: usize) -> Vec<Rule> {
             rules.push(Rule::Same(number(n - 1, d - 1)));
         }
     }
-    if d <= 27 {
+    if d < MAX_N {
         rules.push(Rule::Same(number(n, d + 1)));
     }
-    if n <= 27 {
+    if n < MAX_N {
         rules.push(Rule::Half(number(n + 1, d)));
-        if d <= 27 {
+        if d < MAX_N {
             rules.push(Rule::Same(number(n + 1, d + 1)));
         }
     }
@@ -165,12 +166,12 @@ fn lower_weight_rules(n: usize, d: usize, w: usize) -> Vec<Rule> {
     if n >= 2 && w >= 1 {
         rules.push(Rule::Same(weighted(n - 1, d, w - 1)));
     }
-    if n <= 27 {
+    if n < MAX_N {
         let (ones, zeros, places) = (w as u64 + 1, (n + 1 - w) as u64, n as u64 + 1);
         rules.push(Rule::Above(ones, weighted(n + 1, d, w + 1), places));
         rules.push(Rule::Above(zeros, weighted(n + 1, d, w), places));
     }
-    if d <= 26 {
+    if d + 2 <= MAX_N {
         rules.push(Rule::Same(weighted(n, d + 2, w)));
     }
     rules
@@ -183,7 +184,7 @@ fn upper_rules(n: usize, d: usize) -> Vec<Rule> {
         rules.push(Rule::Constant(1));
     }
     rules.extend(plotkin(n, d).map(Rule::Constant));
-    if n <= 27 {
+    if n < MAX_N {
         rules.push(Rule::Same(upper(n + 1, d)));
         if d % 2 == 1 {
             rules.push(Rule::Same(upper(n + 1, d + 1)));
@@ -243,7 +244,7 @@ impl Table {
     fn new() -> Table {
         let mut instances = Vec::new();
         for n in 1..=MAX_N {
-            for d in 3..=28 {
+            for d in 3..=MAX_N {
                 let mut put = |slot, rules: Vec<Rule>| instances.extend(rules.into_iter().map(|rule| Instance { slot, rule }));
                 put(number(n, d), lower_rules(n, d));
                 put(upper(n, d), upper_rules(n, d));
@@ -411,7 +412,7 @@ fn print_pieces(codes: &[Code]) {
 fn main() -> io::Result<()> {
     let words: Vec<String> = std::env::args().skip(1).collect();
     match words.iter().map(String::as_str).collect::<Vec<&str>>().as_slice() {
-        ["tables"] => (3..=28).for_each(|d| println!("table {d}")),
+        ["tables"] => (3..=MAX_N).for_each(|d| println!("table {d}")),
         ["pieces", file] => print_pieces(&read_codes(&fs::read_to_string(file)?)),
         ["session"] => {
             let mut input = String::new();

@@ -10,9 +10,10 @@ from math import comb, factorial
 from pathlib import Path
 
 DATA = Path(__file__).resolve().parent.parent / "crates/ct_rows/data"
-LENGTHS = range(1, 29)
-DISTANCES = range(3, 29)
-EVEN = range(4, 29, 2)
+MOST = 30
+LENGTHS = range(1, MOST + 1)
+DISTANCES = range(3, MOST + 1)
+EVEN = range(4, MOST + 1, 2)
 SAMPLES = [1, 2, 3, 4, 17, 60, 100, 365, 777, 1000, 1999, 2000]
 
 
@@ -23,6 +24,7 @@ def weights(n):
     return range(n + 1)
 
 
+@cache
 def ball(n, radius):
     """How many words lie within a distance of a word."""
     return sum(comb(n, k) for k in range(radius + 1))
@@ -42,6 +44,7 @@ def plotkin(n, d):
     return [2 * (d // (2 * d - n))] if d <= n < 2 * d else []
 
 
+@cache
 def too_many(n, d, w):
     """One word fewer than the least number of words that is too many (V8)."""
     for m in range(2, 1001):
@@ -64,7 +67,7 @@ def lower_plain(low, n, d):
     half = n // 2
     if n % 2 == 0:
         yield (2 ** (half - 1) if d <= 4 else low[half, up(d, 2)]) * low[half, d]
-    if d + d % 2 <= 28:
+    if d + d % 2 <= MOST:
         yield from (low[n, d + d % 2, w] for w in weights(n))
     for m, c in product(range(1, n), range(3, d - 2)):
         yield min(low[m, c], low[n - m, d - c])
@@ -103,15 +106,21 @@ def sum_classes(n):
     return counts
 
 
+@cache
+def largest_sum_class(n, w):
+    """How many words the largest class of sums has."""
+    return max(sum_classes(n)[w])
+
+
 def lower_weighted(low, n, d, w):
     """What the rules M1 to M9 give."""
     yield 1
     if d == 4:
-        yield from sum_classes(n)[w]
+        yield largest_sum_class(n, w)
     if d == 2 * w:
         yield n // w
     yield from (low[e] for e in [(n - 1, d, w), (n - 1, d, w - 1), (n, d, n - w), (n, d + 2, w)] if e in low)
-    if n < 28:
+    if n < MOST:
         yield up((w + 1) * low[n + 1, d, w + 1], n + 1)
         yield up((n + 1 - w) * low[n + 1, d, w], n + 1)
 
@@ -159,7 +168,7 @@ def bounds(codes, duals=()):
     """The lower and the upper bound of each entry that the rules give from the sizes of codes (L10, M10) and from duals."""
     entries = list(product(LENGTHS, DISTANCES)) + [(n, d, w) for n in LENGTHS for d in EVEN for w in weights(n)]
     low = dict.fromkeys(entries, 1) | codes
-    high = dict.fromkeys(entries, 2 ** 28)
+    high = dict.fromkeys(entries, 2 ** MOST)
     before = None
     while before != (low, high):
         before = dict(low), dict(high)
@@ -230,7 +239,7 @@ PUNCTURED = [word[:-1] for word in GOLAY]
 REED_MULLER = [0xFFFF, 0x00FF, 0x0F0F, 0x3333, 0x5555]
 NORDSTROM_ROBINSON = [0x0000, 0x111E, 0x0539, 0x036A, 0x065C, 0x1247, 0x1472, 0x1724]
 
-# Eleven binary linear codes, of which no greater one of their length and distance is known: id, length, distance, basis.
+# Fifteen binary linear codes, of which no greater one of their length and distance is known: id, length, distance, basis.
 LINEAR = [
     # Golay 1949.
     ("golay", 24, 8, GOLAY),
@@ -272,6 +281,21 @@ LINEAR = [
         "110000100011001010111", "111000010001100101011", "111100001000110010101", "111110000100011001010", "011111000010001100101"]),
     # Each place of the even code of length 3, three times.
     ("tri9", 9, 6, ["111111000", "000111111"]),
+    # The BCH code [31,21,5], shortened at one place.
+    ("bch30-20", 30, 5, [text(0b10010110111 << 19 >> s, 30) for s in range(20)]),
+    # A quasi-cyclic code in blocks of 15.
+    ("quasi30-16", 30, 7, [
+        "101011001000100110000100000110", "010101100100010011000010000011", "001010110010001101100001000001", "100101011001000110110000100000",
+        "010010101100100011011000010000", "001001010110010001101100001000", "000100101011001000110110000100", "100010010101100000011011000010",
+        "010001001010110000001101100001", "001000100101011100000110110000", "100100010010101010000011011000", "110010001001010001000001101100",
+        "011001000100101000100000110110", "101100100010010000010000011011", "010110010001001100001000001101", "100001111000000100101010101100"]),
+    # A quasi-cyclic code in blocks of 6.
+    ("quasi30-12", 30, 9, [
+        "101110100101101111111110110110", "010111110010110111011111011011", "101011011001111011101111101101", "110101101100111101110111110110",
+        "111010010110111110111011011011", "011101001011011111111101101101", "100101110110011000001111001000", "110010011011001100100111000100",
+        "011001101101000110110011000010", "101100110110000011111001000001", "010110011011100001111100100000", "001011101101110000011110010000"]),
+    # The BCH code [31,11,11], shortened at one place.
+    ("bch30-10", 30, 11, [text(0b101010110110010001101 << 9 >> s, 30) for s in range(10)]),
 ]
 
 # Duals of Delsarte's linear program, found by the simplex method in fractions (examples/duals.session): id, length, distance, weight,
@@ -284,7 +308,7 @@ DUALS = [
     ("s21", 21, 8, None, [140, 55, 19, 5, 1], {8: 256, 18: 256, 20: 1280}),
 ]
 
-# For n = 1 to 28 and d = 3 to 28 the greatest dimension k of a binary linear code of length n and distance at least d that is known, from
+# For n = 1 to 30 and d = 3 to 30 the greatest dimension k of a binary linear code of length n and distance at least d that is known, from
 # the tables of linear codes that the field keeps; such a code has 2^k words. Where numbers are missing at the end of a line they are 0.
 BEST_DIMENSIONS = """
 0
@@ -315,6 +339,8 @@ BEST_DIMENSIONS = """
 21 20 16 15 13 12 9 8 7 6 4 3 2 2 2 1 1 1 1 1 1 1 1 1
 22 21 17 16 14 13 10 9 7 7 5 4 3 2 2 2 1 1 1 1 1 1 1 1 1
 23 22 18 17 14 14 10 10 8 7 5 5 3 3 2 2 1 1 1 1 1 1 1 1 1 1
+24 23 19 18 15 14 11 10 9 8 6 5 4 3 2 2 2 1 1 1 1 1 1 1 1 1 1
+25 24 20 19 16 15 12 11 10 9 6 6 5 4 2 2 2 2 1 1 1 1 1 1 1 1 1 1
 """
 
 
@@ -418,7 +444,7 @@ class Rows:
 
 def write_tables(rows):
     """The whole table without codes, over the linear codes, and over the Golay code with its octads."""
-    columns = [(d, None) for d in DISTANCES] + list(product(EVEN, range(29)))
+    columns = [(d, None) for d in DISTANCES] + list(product(EVEN, weights(MOST)))
     asked = "".join(f"table {d}\n" if w is None else f"table {d} {w}\n" for d, w in columns)
     asked = rows.file("tables.in", asked)
     linear = {(n, d): 2 ** len(basis) for _, n, d, basis in LINEAR}
@@ -430,13 +456,13 @@ def write_tables(rows):
     tables = {}
     for name, short, after, codes in starts:
         table = tables[short] = bounds(codes)
-        entries = [(n, d) if w is None else (n, d, w) for d, w in columns for n in range(max(w or 0, 1), 29)]
+        entries = [(n, d) if w is None else (n, d, w) for d, w in columns for n in LENGTHS if n >= (w or 0)]
         answered = rows.file(f"tables-{short}.out", "".join(line(table, *entry) for entry in entries))
         rows.part(f"tables {name}", input_file=asked, output_file=answered)
         rows.row(f"tables {name}", after=[*after, f"tables {name}"])
     low = tables["linear"][0]
     for n, dimensions in zip(LENGTHS, BEST_DIMENSIONS.strip().split("\n")):
-        dimensions = dimensions.split() + ["0"] * 26
+        dimensions = dimensions.split() + ["0"] * len(DISTANCES)
         for d, dimension in zip(DISTANCES, dimensions):
             assert low[n, d] >= 2 ** int(dimension), (n, d)
     write_duals(rows, entries)
@@ -586,8 +612,8 @@ def write_sizes(rows, table):
     more = f"'{'1' * 24}'{end}"
     rows.row("one word more than the greatest size", more, f"refused size 16385\n{shown}", status="Refused", after=after)
     # r(r + 1)/2 · 2^k comparisons: those of 24 basis words and one representative are at the limit.
-    for basis, reply in ((24, "close 0 1 0"), (25, f"work {2 ** 25}"), (28, f"work {2 ** 28}"), (29, "size 29")):
-        document = submit("a", cosets(28, 3, ["0" * 28] * basis))
+    for basis, reply in ((24, "close 0 1 0"), (25, f"work {2 ** 25}"), (MOST, f"work {2 ** MOST}"), (MOST + 1, f"size {MOST + 1}")):
+        document = submit("a", cosets(MOST, 3, ["0" * MOST] * basis))
         rows.row(f"cosets of {basis} basis words", document, f"refused {reply}\n", status="Refused")
     size = 2 ** 18
     commands = [

@@ -1,5 +1,5 @@
 #!/bin/sh
-# Times the program on the 26 tables of a session without evidence, and on 200 submissions, each followed by a `show`, of which 80
+# Times the program on the 28 tables of a session without evidence, and on 200 submissions, each followed by a `show`, of which 80
 # improve the table. Beside it stands a plain program in Rust that answers the same sessions: processor seconds of five runs each. Ends with 1
 # where the two don't write the same. Wants `rustc`.
 set -e
