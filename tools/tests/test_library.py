@@ -48,7 +48,7 @@ class Library(unittest.TestCase):
 
     def test_the_document_counts_the_pieces(self):
         counts = {file.name: sum(command.words[0] == "submit" for command in sessions.commands(file.read_text())) for file in FILES}
-        told_of = {name: 11 if number == "eleven" else int(number) for name, number in re.findall(r"^\| `([^`]+)` \| (\w+) ", TEXT, re.M)}
+        told_of = {name: 15 if number == "fifteen" else int(number) for name, number in re.findall(r"^\| `([^`]+)` \| (\w+) ", TEXT, re.M)}
         self.assertEqual(told_of, counts)
         self.assertIn(f"`examples/library/` has {sum(counts.values())} pieces", (TOP / "README.md").read_text())
 
@@ -76,7 +76,7 @@ class Library(unittest.TestCase):
 
     @needs_program
     def test_the_document_compares_the_bounds_of_the_program(self):
-        self.assertEqual(len(rows(PLAIN)), sum(low < high for (n, d, *w), (low, high) in whole().bounds.items() if d % 2 == 0 and not w))
+        self.assertEqual(len(rows(PLAIN)), sum(low < high for (n, d, *w), (low, high) in whole().bounds.items() if n <= 28 and d % 2 == 0 and not w))
         for n, d, low, lower, is_low, high, upper, is_high in rows(PLAIN):
             self.assertEqual(((low, high), is_low, is_high), (whole().bounds[n, d], table.compared(low, lower), table.compared(high, upper)))
         for n, d, w, low, lower, is_low in rows(WEIGHT):
