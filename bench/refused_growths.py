@@ -119,7 +119,7 @@ BUILDS = [("lengthen", 11, 6, ""), ("append_one", 11, 6, ""), ("parity", 11, 6, 
           ("shorten", 9, 6, 'places = [0]\ndigits = "1"\n'), ("translate", 10, 6, 'by = "1111111111"\n'), ("complement", 10, 6, ""),
           ("select", 10, 6, 'w = 4\nby = "0000000000"\n'), ("uuv", 20, 6, 'other = "hexa"\n'), ("juxtapose", 20, 12, 'other = "hexa"\n'),
           ("trim", 10, 6, "size = 2\n")]
-COMMANDS = "show 10 6\nshow 6 4 3\ntable 28\ntable 6 3\nexplain lower 10 6\nexplain upper 13 6\nlist 10 6\nlist 6 4 3\nledger\ndump\n"
+COMMANDS = "show 10 6\nshow 6 4 3\ntable 30\ntable 6 3\nexplain lower 10 6\nexplain upper 13 6\nlist 10 6\nlist 6 4 3\nledger\ndump\n"
 REFUSED = "submit hexa\nend\nsubmit a\nkind = 3\nend\nwithdraw none\nwithdraw hexa\nshow 2 2\nfoo\nsubmit c\n"
 
 

@@ -134,7 +134,7 @@ def dual(n, d, even):
 
 def over_duals(last):
     """Five hundred duals, and then a piece that comes and goes so many times."""
-    kinds = [(n, d, even) for n in range(28, 3, -1) for d in range(3, n + 1) for even in ("false", "true")[:2 - d % 2]]
+    kinds = [(n, d, even) for n in range(30, 3, -1) for d in range(3, n + 1) for even in ("false", "true")[:2 - d % 2]]
     standing = "".join(submit(f"d{i}", dual(*kind)) for i, kind in enumerate(kinds[:500]))
     return lambda size: standing + (submit("last", last) + "withdraw last\n") * (100 if size is None else size)
 
@@ -173,7 +173,7 @@ SESSIONS = {
     "withdrawals": withdrawals,
     "words_of_a_build": words_of_a_build,
     "dumped_words": dumped_words,
-    "duals": over_duals(dual(28, 3, "false")),
+    "duals": over_duals(dual(30, 3, "false")),
     "duals_and_a_code": over_duals(cosets(27, 3, linear(27, 12))),
     "feeds": feeds,
     "shows": shows,

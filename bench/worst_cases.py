@@ -17,10 +17,13 @@ import tempfile
 from pathlib import Path
 
 LIMIT, DOCUMENT = 67108864, 4194304
+# The greatest length and distance of the table.
+MOST = 30
+LENGTHS, DISTANCES, EVEN = range(1, MOST + 1), range(3, MOST + 1), range(4, MOST + 1, 2)
 TWO_ONES = [x for x in range(64) if x.bit_count() >= 2]
 GOLAY = [sum(1 << (22 - s - j) for j in (0, 2, 4, 5, 6, 10, 11)) for s in range(12)]
 GOLAY = [x << 1 | x.bit_count() & 1 for x in GOLAY]
-HEAD = "kind = 'words'\nn = 28\nd = 28\n"
+HEAD = f"kind = 'words'\nn = {MOST}\nd = {MOST}\n"
 
 
 # ---- documents
@@ -136,7 +139,7 @@ def long_list(size):
 
 
 def list_of_texts(size):
-    return filled(size, f"'{'0' * 28}', ", HEAD + "words = [", f"'{'1' * 28}']")
+    return filled(size, f"'{'0' * MOST}', ", HEAD + "words = [", f"'{'1' * MOST}']")
 
 
 def floats(size):
@@ -199,14 +202,14 @@ def partition_at_the_limit(part):
 def product_of_pairs(count):
     """A product of so many pairs, of weights that are 2 apart as far as the length allows: then some are alike, and the product is refused."""
     def make(_):
-        half, out, names = 14, [], []
+        half, out, names = MOST // 2, [], []
         for i in range(count):
-            weight = 2 * i % (half + 2)
-            first, second = (1 << weight) - 1, (1 << half - weight) - 1 if weight <= half else 0
+            weight = 2 * (i % (half // 2 + 1))
+            first, second = (1 << weight) - 1, (1 << half - weight) - 1
             for side, word in (("x", first), ("y", second)):
                 out.append(submit(f"{side}{i}", partition(half, 4, 4, [[word]], word.bit_count())))
             names.append([f"x{i}", f"y{i}"])
-        product = f"kind = 'product'\nn = 28\nd = 4\nw = {half}\npairs = {names}\n"
+        product = f"kind = 'product'\nn = {MOST}\nd = 4\nw = {half}\npairs = {names}\n"
         return "".join(out) + submit("product", product)
     return make
 
@@ -246,18 +249,18 @@ def refused_builds(part):
 
 def greatest_duals(part):
     great = 2 ** 63 - 1
-    return "".join(submit(f"d{i}", dual(28, 3, [great] * 29, [(j, great) for j in range(3, 29)])) for i in range(1000 // part))
+    return "".join(submit(f"d{i}", dual(MOST, 3, [great] * (MOST + 1), [(j, great) for j in DISTANCES])) for i in range(1000 // part))
 
 
 def greatest_johnson_duals(part):
     great = 2 ** 63 - 1
-    return "".join(submit(f"d{i}", johnson_dual(28, 4, 14, [1, *[0] * 13, great])) for i in range(1000 // part))
+    return "".join(submit(f"d{i}", johnson_dual(MOST, 4, MOST // 2, [1, *[0] * (MOST // 2 - 1), great])) for i in range(1000 // part))
 
 
 def resting_duals(part):
     """Duals that rest on every bound of constant weight, and a code that comes and goes and betters these."""
-    duals = "".join(submit(f"d{i}", dual(28, 4, [1], [(j, 1) for j in range(4, 29)])) for i in range(900))
-    code = words(28, 4, span(linear(28, 3))[:4])
+    duals = "".join(submit(f"d{i}", dual(MOST, 4, [1], [(j, 1) for j in range(4, MOST + 1)])) for i in range(900))
+    code = words(MOST, 4, span(linear(MOST, 3))[:4])
     return duals + (submit("last", code) + "withdraw last\n") * (100 // part)
 
 
@@ -311,17 +314,17 @@ def repeated(line):
 
 
 def lists(part):
-    return "list 28 3\n" * (100 // part)
+    return "list 30 3\n" * (20 // part)
 
 
 def explain_all(part):
-    entries = [(n, d) for n in range(1, 29) for d in range(3, 29)] + [(n, d, w) for n in range(1, 29) for d in range(4, 29, 2) for w in range(n + 1)]
+    entries = [(n, d) for n in LENGTHS for d in DISTANCES] + [(n, d, w) for n in LENGTHS for d in EVEN for w in range(n + 1)]
     return submit("golay", cosets(24, 8, GOLAY)) + "".join(f"explain {side} {' '.join(map(str, e))}\n" for e in entries[::part] for side in ("lower", "upper"))
 
 
 def explain_over_many(part):
     """Each bound of a distance explained over a thousand pieces."""
-    return thousand_pieces(1) + "".join(f"explain {side} {n} 4\n" for n in range(1, 29) for side in ("lower", "upper")) * (20 // part)
+    return thousand_pieces(1) + "".join(f"explain {side} {n} 4\n" for n in LENGTHS for side in ("lower", "upper")) * (20 // part)
 
 
 def eight_pairs():
@@ -350,14 +353,14 @@ def explain_great_documents(part):
 
 def derivation_of_lines(part):
     """A derivation of 64 MiB, of lines that rest on the one before."""
-    pair = "line {} upper 28 3 value 268435456 by U0\n"
+    pair = "line {} upper 30 3 value 1073741824 by U0\n"
     return filled(LIMIT // part, lambda i: pair.format(i + 1), "derivation\n", "done\n")
 
 
 def derivation_of_premises(part):
     """Lines that each rest on the one before: zeros and ones exchanged at half weight is the same entry."""
-    first = "line 1 lower 28 4 14 value 1 by M1\n"
-    return filled(LIMIT // part, lambda i: f"line {i + 1} lower 28 4 14 value 1 by M7 from {i}\n" if i else first, "derivation\n", "done\n")
+    first = "line 1 lower 30 4 15 value 1 by M1\n"
+    return filled(LIMIT // part, lambda i: f"line {i + 1} lower 30 4 15 value 1 by M7 from {i}\n" if i else first, "derivation\n", "done\n")
 
 
 def sum_class(n, w, r):
@@ -373,7 +376,7 @@ def sum_class(n, w, r):
 
 def derivation_of_sum_classes(part):
     """4 MiB of lines of the rule that counts most."""
-    line = f"line {{}} lower 28 4 14 value {sum_class(28, 14, 0)} by M9 0\n"
+    line = f"line {{}} lower 30 4 15 value {sum_class(30, 15, 0)} by M9 0\n"
     return filled(LIMIT // 16 // part, lambda i: line.format(i + 1), "derivation\n", "done\n")
 
 
@@ -388,7 +391,7 @@ def full_columns(n, d, w):
 
 def derivation_of_columns(part):
     """Lines of the rule that tries most numbers of words."""
-    m, n, d, w = max((full_columns(n, d, w), n, d, w) for n in range(1, 29) for d in range(4, 29, 2) for w in range(d // 2, n + 1))
+    m, n, d, w = max((full_columns(n, d, w), n, d, w) for n in LENGTHS for d in EVEN for w in range(d // 2, n + 1))
     return filled(LIMIT // part, lambda i: f"line {i + 1} upper {n} {d} {w} value {m - 1} by V8\n", "derivation\n", "done\n")
 
 
@@ -402,7 +405,7 @@ def derivation_of_evidence(part):
 
 
 def all_finds(_):
-    return "".join(f"{n} {d}\n" for n in range(1, 29) for d in range(3, 29))
+    return "".join(f"{n} {d}\n" for n in LENGTHS for d in DISTANCES)
 
 
 def finds_of(entry, count):
@@ -430,7 +433,7 @@ CASES = {
     "escapes": ("session", as_document(escapes), True, "4 MiB of escapes"),
     "long_list": ("session", as_document(long_list), True, "one list of 2 Mi numbers"),
     "floats": ("session", as_document(floats), True, "4 MiB of floats"),
-    "list_of_texts": ("session", as_document(list_of_texts), True, "131,000 words, refused for their number"),
+    "list_of_texts": ("session", as_document(list_of_texts), True, "123,000 words, refused for their number"),
     "empty_lines": ("session", as_document(empty_lines), True, "a document of 4 Mi empty lines"),
     "refused_long_documents": ("session", refused_long_documents, True, "16 refused documents of 4 MiB"),
     "words": ("session", pairs(14), False, "16,384 words, accepted"),
@@ -442,7 +445,7 @@ CASES = {
     "cosets_close": ("session", close_last, False, "24 basis words, their sum alone too close"),
     "partition": ("session", partition_at_the_limit, False, "16,384 words in 4,096 classes"),
     "product": ("session", large_product, False, "a product of one pair of 256 words in classes"),
-    "product_of_29_pairs": ("session", product_of_pairs(29), False, "a product of 29 pairs, refused"),
+    "product_of_31_pairs": ("session", product_of_pairs(31), False, "a product of 31 pairs, refused"),
     "product_of_8_pairs": ("session", product_of_pairs(8), False, "a product of 8 pairs"),
     "great_builds": ("session", chain_of_great_builds, True, "40 builds of 262,144 words, three stored"),
     "refused_builds": ("session", refused_builds, True, "20 builds over 262,144 words, with no word"),
@@ -457,9 +460,9 @@ CASES = {
     "refused_taken": ("session", refused_taken, True, "64 MiB of submissions under one id"),
     "dumps": ("session", dumps, True, "16 dumps of 983,040 stored words"),
     "ledgers": ("session", ledgers, True, "`ledger` 1,000 times over 1,000 pieces"),
-    "lists": ("session", lists, True, "`list 28 3` 100 times"),
-    "explain_all": ("session", explain_all, True, "all 12,740 explanations over Golay's code"),
-    "explain_over_many": ("session", explain_over_many, True, "1,120 explanations over 1,000 pieces"),
+    "lists": ("session", lists, True, "`list 30 3` 20 times"),
+    "explain_all": ("session", explain_all, True, "all 15,540 explanations over Golay's code"),
+    "explain_over_many": ("session", explain_over_many, True, "1,200 explanations over 1,000 pieces"),
     "explain_over_products": ("session", explain_over_products, True, "20 explanations over 984 products of 8 pairs"),
     "explain_great_documents": ("session", explain_great_documents, True, "4 explanations with documents of 56 MiB"),
     "derivation_of_lines": ("verify", derivation_of_lines, True, "64 MiB of lines without premises"),
@@ -469,9 +472,9 @@ CASES = {
     "derivation_of_long_line": ("verify", derivation_of_long_line, True, "one line of 64 MiB"),
     "derivation_of_evidence": ("verify", derivation_of_evidence, True, "64 MiB of evidence of 8,192 words each"),
     "finds": ("find", all_finds, False, "a dual for each entry without weight"),
-    "finds_of_length_28": ("find", finds_of("28 3", 1000), True, "a dual of A(28,3) 1,000 times"),
+    "finds_of_length_30": ("find", finds_of("30 3", 1000), True, "a dual of A(30,3) 1,000 times"),
     "finds_of_one_word": ("find", finds_of("1 3", 1000000), True, "a dual of A(1,3) a million times"),
-    "finds_with_weight": ("find", finds_of("28 4 14", 1000), True, "a dual of A(28,4,14) 1,000 times"),
+    "finds_with_weight": ("find", finds_of("30 4 15", 1000), True, "a dual of A(30,4,15) 1,000 times"),
     "finds_of_none": ("find", repeated("a\n"), True, "64 MiB of lines that are no entry"),
     "sample": ("sample --number 2000", lambda _: "", False, "the greatest sample"),
 }
