@@ -24,19 +24,19 @@ import textwrap
 from code_tables import sessions
 from code_tables.fitting import Standing
 from code_tables.program import TOP
-from code_tables.sessions import Refusal, texts_of, words_of
+from code_tables.sessions import LAST, Refusal, texts_of, words_of
 from code_tables.words import MOST_WORK, distance, span
 
 # The ranges of the fields, as docs/FORMATS.md says them.
 RANGES = {
-    "n": "a whole number from 1 to 28; for some builds at least 2, or even",
-    "d": "a whole number from 3 to 28, even where `w` stands",
+    "n": f"a whole number from 1 to {LAST}; for some builds at least 2, or even",
+    "d": f"a whole number from 3 to {LAST}, even where `w` stands",
     "w": "a whole number from 0 to n; whether it may stand, or has to, the kind and the operation say",
     "words": "a list of texts", "basis": "a list of texts", "representatives": "a list of texts", "classes": "a list of lists of texts",
     "d1": "a whole number from 1 to d", "op": "the text of one of the operations",
-    "places": "a list of at least one place, ascending, each below the part's length, which is at most 28",
+    "places": f"a list of at least one place, ascending, each below the part's length, which is at most {LAST}",
     "digits": "a text, with a digit for each place", "by": "a text of n digits", "size": "a whole number from 1 to 262144",
-    "part": "the text of an id", "other": "the text of an id", "pairs": "1 to 29 lists of two ids; exactly one where `w` is left out",
+    "part": "the text of an id", "other": "the text of an id", "pairs": f"1 to {LAST + 1} lists of two ids; exactly one where `w` is left out",
     "even": "true or false; true only where d is even", "c": "a list of whole numbers of at least 0, as many as the degree and one more at most",
     "y": "a list of pairs of a distance, ascending from d to n, even where `even` is set, and a whole number of at least 0",
 }

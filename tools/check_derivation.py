@@ -21,7 +21,9 @@ import tomllib
 from itertools import combinations
 from math import comb, factorial
 
-MAX = 2 ** 28
+# The greatest length and distance of the table, and its greatest bound.
+LAST = 30
+MAX = 2 ** LAST
 
 
 class No(Exception):
@@ -47,7 +49,7 @@ def up(a, b):
 def in_table(entry):
     """Whether the table has an entry."""
     n, d, w = (*entry, None)[:3]
-    return 1 <= n <= 28 and 3 <= d <= 28 and (w is None or d % 2 == 0 and w <= n)
+    return 1 <= n <= LAST and 3 <= d <= LAST and (w is None or d % 2 == 0 and w <= n)
 
 
 def scheme_number(n, w, k, i):
@@ -231,8 +233,8 @@ class Piece:
         weighted, op = self.kind not in ("cosets", "dual") and "w" in self.table, self.table.get("op")
         even = weighted or self.kind == "jdual" or self.kind == "build" and op == "select"
         self.known, self.lists, self.parts, self.y, self.w = {"kind"}, [], [], {}, None
-        self.n = self.field("n", lambda v: is_number(v, 1, 28))
-        self.d = self.field("d", lambda v: is_number(v, 3, 28) and not (even and v % 2))
+        self.n = self.field("n", lambda v: is_number(v, 1, LAST))
+        self.d = self.field("d", lambda v: is_number(v, 3, LAST) and not (even and v % 2))
         if weighted or self.kind == "jdual":
             self.w = self.field("w", lambda v: is_number(v, 0, self.n))
         self.entry = (self.n, self.d) if self.w is None else (self.n, self.d, self.w)
@@ -263,7 +265,7 @@ class Piece:
     def read_product(self):
         """The fields of a product."""
         pairs = self.field("pairs", lambda v: is_list(v, lambda p: is_list(p, is_id) and len(p) == 2)
-                           and 1 <= len(v) <= (1 if self.w is None else 29))
+                           and 1 <= len(v) <= (1 if self.w is None else LAST + 1))
         self.parts = [name for pair in pairs for name in pair]
 
     def read_dual(self):
@@ -284,7 +286,7 @@ class Piece:
         own, self.places = OPERATIONS[op], []
         if "places" in own:
             self.places = self.field("places", lambda v: is_list(v, lambda p: is_number(p, 0, self.n + len(v) - 1)) and v
-                                     and v == sorted(set(v)) and self.n + len(v) <= 28)
+                                     and v == sorted(set(v)) and self.n + len(v) <= LAST)
         for name, length in ("digits", len(self.places)), ("by", self.n):
             if name in own:
                 self.lists = [([self.field(name, lambda v: isinstance(v, str))], length)]
@@ -313,7 +315,7 @@ class Piece:
         """Refuses cosets that are not as stated. The first word of a pair that is too close may be taken to be a representative."""
         basis, self.chosen = self.numbers
         count, k = len(self.chosen), len(basis)
-        require(k <= 28, f"size {k}")
+        require(k <= LAST, f"size {k}")
         require(0 < count <= 4096, f"size {count}")
         require(count * (count + 1) // 2 << k <= 2 ** 24, f"work {count * (count + 1) // 2 << k}")
         self.size = count << k

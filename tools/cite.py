@@ -17,7 +17,7 @@ import sys
 import table
 from code_tables import provenance, sessions
 from code_tables.program import TOP
-from code_tables.sessions import Refusal, name_of
+from code_tables.sessions import Refusal, is_entry, name_of
 
 
 def rule_sources():
@@ -87,8 +87,7 @@ def read_entry(words):
     if len(numbers) < 2 or words[:len(numbers)] != numbers or len(words) == len(numbers):
         raise Refusal("give N D, or N D W, and then the sessions")
     entry = tuple(map(int, numbers))
-    n, d, w = (*entry, None)[:3]
-    if not (1 <= n <= 28 and 3 <= d <= 28 and (w is None or d % 2 == 0 and w <= n)):
+    if not is_entry(entry):
         raise Refusal(f"{name_of(entry)} is no entry of the table")
     return entry, words[len(numbers):]
 

@@ -20,6 +20,9 @@
 
 LoadPackage("guava", false);
 
+# The greatest length and the greatest distance of the table.
+CodeTables_Last := 30;
+
 # The digits of a codeword.
 CodeTables_Digits := word -> Concatenation(List(VectorCodeword(word), function(x)
     if IsZero(x) then return "0"; fi;
@@ -59,8 +62,8 @@ CodeTables_Check := function(id, code)
     if not IsCode(code) or Size(LeftActingDomain(code)) <> 2 then
         Error("code_tables: refused: no binary code");
     fi;
-    if WordLength(code) > 28 then
-        Error("code_tables: refused: the code has length ", WordLength(code), ", and the table ends at 28");
+    if WordLength(code) > CodeTables_Last then
+        Error("code_tables: refused: the code has length ", WordLength(code), ", and the table ends at ", CodeTables_Last);
     fi;
 end;
 
@@ -75,8 +78,8 @@ CodeTables_Stated := function(d, stated)
     if d = infinity then
         Error("code_tables: refused: one word has no distance: state one");
     fi;
-    if d < 3 or d > 28 then
-        Error("code_tables: refused: the distance is ", d, ", and the table has the distances 3 to 28");
+    if d < 3 or d > CodeTables_Last then
+        Error("code_tables: refused: the distance is ", d, ", and the table has the distances 3 to ", CodeTables_Last);
     fi;
     return d;
 end;

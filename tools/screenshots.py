@@ -40,7 +40,7 @@ VIEWS = [
     ("phone", PHONE, "", "", "none", ""),
     ("phone-dark", PHONE, "#a15-5", "dark", "none", ""),
     ("phone-cell", PHONE, "#a16-6", "", "none", ""),
-    ("phone-far-cell", PHONE, "#a28-6-14", "", "none", ""),
+    ("phone-far-cell", PHONE, "#a30-6-15", "", "none", ""),
     ("phone-derivation", PHONE, "#b24-8-8", "", "none", ""),
     ("phone-pieces", PHONE, "#pieces", "", "none", ""),
     ("paper", PAPER, "#plain", "print", "none", ""),

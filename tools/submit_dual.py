@@ -29,7 +29,7 @@ from fractions import Fraction
 from functools import cache
 from math import comb, factorial, gcd
 
-from code_tables.sessions import Refusal, name_of, number_of
+from code_tables.sessions import Refusal, is_entry, name_of, number_of
 from code_tables.words import check_id
 
 # A decimal or a fraction, of no more digits than a number of 64 bits with its scale can need.
@@ -59,8 +59,9 @@ class Program:
     """The inequalities of an entry."""
 
     def __init__(self, n, d, w):
-        if not (1 <= n <= 28 and 3 <= d <= 28 and (w is None or d % 2 == 0 and 0 <= w <= n)):
-            raise Refusal(f"{name_of((n, d) if w is None else (n, d, w))} is no entry of the table")
+        entry = (n, d) if w is None else (n, d, w)
+        if not is_entry(entry):
+            raise Refusal(f"{name_of(entry)} is no entry of the table")
         self.n, self.d, self.w, self.even = n, d, w, w is None and d % 2 == 0
         self.degree = n if w is None else min(w, n - w)
         step = 2 if self.even else 1

@@ -11,9 +11,8 @@ from functools import cache
 from pathlib import Path
 
 from code_tables import program, sessions
-from code_tables.sessions import Refusal
+from code_tables.sessions import LAST, Refusal
 
-LAST = 28
 LENGTHS = range(1, LAST + 1)
 DISTANCES = range(3, LAST + 1)
 EVEN = range(4, LAST + 1, 2)

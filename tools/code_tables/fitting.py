@@ -5,7 +5,7 @@ It judges forms, ids, entries, sizes and counts, and no bound and no code: those
 import re
 from collections.abc import Sequence
 
-from .sessions import SIZELESS, Command, Entry, bounds_of, name_of, numbers_of, size_of, texts_of
+from .sessions import LAST, SIZELESS, Command, Entry, bounds_of, name_of, numbers_of, size_of, texts_of
 
 # The lines of a reply.
 Lines = Sequence[str]
@@ -82,7 +82,7 @@ class Standing:
     def table(self, command: Command, reply: Lines) -> str | None:
         """Of the bounds of a column."""
         numbers = numbers_of(command.words[1:])
-        return entries_fault([(n, *numbers) for n in range(max(1, *numbers[1:], 1), 29)], reply)
+        return entries_fault([(n, *numbers) for n in range(max(1, *numbers[1:], 1), LAST + 1)], reply)
 
     def list(self, command: Command, reply: Lines) -> str | None:
         """Of the words of a code."""

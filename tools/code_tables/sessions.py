@@ -16,6 +16,8 @@ from typing import Any
 # The numbers of an entry: n and d, or n, d and w.
 Entry = tuple[int, ...]
 
+# The greatest length and the greatest distance of the table.
+LAST = 30
 
 # The kinds of evidence without a size: those of upper bounds.
 SIZELESS = ("dual", "jdual")
@@ -97,7 +99,7 @@ def size_of(fields: dict[str, Any]) -> int | None:
         return len(texts_in(fields.get("words", [])))
     if kind == "partition":
         return len(texts_in(fields.get("classes", [])))
-    if kind == "cosets" and len(texts_in(fields.get("basis", []))) <= 28:
+    if kind == "cosets" and len(texts_in(fields.get("basis", []))) <= LAST:
         return len(texts_in(fields.get("representatives", []))) << len(texts_in(fields.get("basis", [])))
     return None
 
@@ -152,7 +154,7 @@ def read_reply(words: list[str], lines: Iterator[str]) -> list[str]:
         if words == ["ledger"]:
             take_to(r"pieces [0-9]+", found, lines)
         elif words[0] == "table":
-            found += islice(lines, 27 if len(words) == 2 else 28 - max(1, int(words[2])))
+            found += islice(lines, LAST - max(1, *map(int, words[2:]), 1))
         elif words[0] == "list":
             found += islice(lines, int(words_of(found[0])[-1]))
         elif words[0] == "dump":
@@ -227,6 +229,12 @@ def read_text(path: str | Path) -> str:
 def entry_of(fields: dict[str, Any]) -> Entry:
     """The entry that a document states, as numbers."""
     return tuple(fields[name] for name in ("n", "d", "w") if name in fields)
+
+
+def is_entry(entry: Entry) -> bool:
+    """Whether the table has an entry."""
+    n, d, *w = entry
+    return 1 <= n <= LAST and 3 <= d <= LAST and all(d % 2 == 0 and 0 <= weight <= n for weight in w)
 
 
 def name_of(entry: Entry) -> str:

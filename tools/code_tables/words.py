@@ -17,7 +17,7 @@ import re
 from collections.abc import Iterable, Sequence
 from random import Random
 
-from .sessions import Refusal
+from .sessions import LAST, Refusal
 
 # The limits of docs/FORMATS.md.
 MOST_WORDS, MOST_REPRESENTATIVES, MOST_WORK = 16384, 4096, 2 ** 24
@@ -98,8 +98,8 @@ def read_words(lines: Iterable[str]) -> tuple[list[int], int]:
             words[int(digits, 2)] = number
     if length is None:
         raise Refusal("there is no word")
-    if length > 28:
-        raise Refusal(f"the words have length {length}, and the table ends at 28")
+    if length > LAST:
+        raise Refusal(f"the words have length {length}, and the table ends at {LAST}")
     return list(words), length
 
 
@@ -128,7 +128,7 @@ def functional(words: Sequence[int], k: int, chance: Random) -> int:
     """Digits u with u.k odd for which the words w with u.w even and odd are not the same in number; 0 where the code, with k added, is the
     code again: then there are none. Some are tried by chance; then a sum over the words, with signs, is folded digit by digit so that it doesn't
     vanish."""
-    for u in map(chance.getrandbits, [28] * 8):
+    for u in map(chance.getrandbits, [LAST] * 8):
         u ^= 0 if (u & k).bit_count() % 2 else k & -k
         if 2 * sum((u & word).bit_count() & 1 for word in words) != len(words):
             return u
@@ -297,8 +297,8 @@ def submission(name: str, words: Sequence[int], n: int, *, generator: bool = Fal
         d = distance(chosen, basis)
     if d is None:
         raise Refusal("one word has no distance: state one with --distance")
-    if not 3 <= d <= 28:
-        raise Refusal(f"the distance is {d}, and the table has the distances 3 to 28")
+    if not 3 <= d <= LAST:
+        raise Refusal(f"the distance is {d}, and the table has the distances 3 to {LAST}")
     if generator:
         text = f'kind = "cosets"\nn = {n}\nd = {d}\n{listed("basis", basis, n)}\nrepresentatives = ["{"0" * n}"]'
     else:

@@ -27,7 +27,7 @@ def reply(command, pieces):
         return [f"accepted {command.id} size 1"]
     if word == "table":
         d, *weight = numbers
-        return [bounds(n, d, *weight) for n in range(max(1, *weight, 1), 29)]
+        return [bounds(n, d, *weight) for n in range(max(1, *weight, 1), sessions.LAST + 1)]
     if word == "show":
         return [bounds(*numbers)]
     if word == "ledger":

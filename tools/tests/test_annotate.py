@@ -37,7 +37,7 @@ class Annotate(unittest.TestCase):
     def test_replies_to_another_session_are_refused(self):
         out, said, status = run("annotate.py", DATA / "annotate/many.session", text=data("annotate/many.replies") + "accepted more size 1\n")
         self.assertEqual(status, 1)
-        self.assertIn("annotate: refused: line 49 of the replies answers no command", said)
+        self.assertIn("annotate: refused: line 50 of the replies answers no command", said)
 
     def test_a_session_that_is_not_there_is_refused(self):
         self.assertIn("annotate: refused: no/such can't be read", run("annotate.py", "no/such")[1])
@@ -56,7 +56,7 @@ class Annotate(unittest.TestCase):
             return call("annotate", path, text=replies)
 
     def test_a_refusal_has_no_sentence_of_find(self):
-        for session, reply in (("show 29 3\n", "refused entry"), ("nonsense\n", "refused command")):
+        for session, reply in (("show 31 3\n", "refused entry"), ("nonsense\n", "refused command")):
             self.assertNotIn("no line is a comment here", self.annotated(session, reply)[0])
             self.assertNotIn("the numbers are those of no entry", self.annotated(session, reply)[0])
 
@@ -71,7 +71,7 @@ class Annotate(unittest.TestCase):
                 (pair + "ledger\n", "accepted pair size 2\npieces 0", 2, "1 pieces stand: pair"),
                 (pair + "dump\n", "accepted pair size 2\n# dump of 0 pieces", 2, "1 pieces stand"),
                 ("show 16 6\n", "A(16,8) = 32", 1, "bounds of A(16,6)"), ("show 16 6\n", "accepted a size 1", 1, "bounds of A(16,6)"),
-                ("table 28 27\n", "A(27,28,27) = 1\nA(28,28,26) = 1", 1, "bounds of A(28,28,27)"),
+                ("table 30 29\n", "A(29,30,29) = 1\nA(30,30,28) = 1", 1, "bounds of A(30,30,29)"),
                 ("list 5 3\n", "code 5 3 size 1\n0000", 1, "1 words of length 5"), ("list 5 3\n", "code 6 3 size 1\n000000", 1, "a code of A(5,3)"),
                 ("list 5 3\n", "nothing", 1, "a code of A(5,3)"), ("list 5 3\n", "", 1, "a code of A(5,3)"),
                 ("withdraw a\n", "withdrawn b", 1, "withdraws a"), ("withdraw a\n", "withdrawn a", 1, "no such piece stands"),

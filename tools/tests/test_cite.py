@@ -29,7 +29,7 @@ class Cite(unittest.TestCase):
         self.assertIn("Rests on hexa.", out)
 
     def test_faults_are_named(self):
-        for words, fault in [((10, 6), "give N D, or N D W"), ((29, 6, "x"), "A(29,6) is no entry"), ((10, 5, 3, "x"), "A(10,5,3) is no entry"),
+        for words, fault in [((10, 6), "give N D, or N D W"), ((31, 6, "x"), "A(31,6) is no entry"), ((10, 5, 3, "x"), "A(10,5,3) is no entry"),
                              ((10, 6, "no/such"), "no/such can't be read")]:
             out, said, status = run("cite.py", *words, env=FAKE)
             self.assertEqual((out, status), ("", 1))

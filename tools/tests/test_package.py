@@ -86,7 +86,7 @@ class Package(unittest.TestCase):
                 self.session.submit("a", evidence)
             self.assertEqual(str(raised.exception), fault)
         with self.assertRaises(Refused):
-            self.session.bounds(29, 3)
+            self.session.bounds(31, 3)
         self.assertEqual(self.session.bounds(5, 3), Bounds(4, 4))
 
     def test_no_text_writes_another_command(self):
@@ -95,8 +95,8 @@ class Package(unittest.TestCase):
                 self.session.ask(command)
         with self.assertRaises(Refusal):
             self.session.submit("a\nb", SIX)
-        self.assertEqual(len(self.session.table(4)), 28)
-        self.assertEqual(len(self.session.table(4, 20)), 9)
+        self.assertEqual(len(self.session.table(4)), 30)
+        self.assertEqual(len(self.session.table(4, 20)), 11)
 
     def test_derivations_are_verified(self):
         self.session.submit("six", SIX)

@@ -127,7 +127,7 @@ class Page(unittest.TestCase):
                   " document.getElementById('go').requestSubmit(); said.push(location.hash); };"
                   " const key = name => { document.activeElement.dispatchEvent(new KeyboardEvent('keydown', {key: name, bubbles: true}));"
                   " said.push(document.activeElement.closest('td').id); };"
-                  " go('A(24,8,16)'); go('28 29'); said.push(document.querySelector('output').textContent); go('16 6'); key('ArrowRight'); key('ArrowDown');"
+                  " go('A(24,8,16)'); go('30 31'); said.push(document.querySelector('output').textContent); go('16 6'); key('ArrowRight'); key('ArrowDown');"
                   " key('ArrowLeft'); key('ArrowUp'); document.getElementById('shade').click(); said.push(document.documentElement.dataset.theme);"
                   " document.title = said.join(' | '); document.body.textContent = ''; });")
         with tempfile.TemporaryDirectory(ignore_cleanup_errors=True) as folder:
@@ -138,7 +138,7 @@ class Page(unittest.TestCase):
         self.assertIn("<title>#a24-8-16 | #a24-8-16 | The table has no such entry. | #a16-6 | a16-8 | a17-8 | a17-6 | a16-6 | dark</title>", shown)
 
     def test_totals(self):
-        self.assertRegex(self.text, r"<dt>A\(n,d\)</dt><dd>728 entries: \d+ exact")
+        self.assertRegex(self.text, r"<dt>A\(n,d\)</dt><dd>840 entries: \d+ exact")
         self.holds("<dd>2 pieces</dd>")
 
     def test_refusals_are_said(self):

@@ -40,7 +40,7 @@ class SubmitDual(unittest.TestCase):
                 ((13, 6), "cy 0 1\n", "line 1 has not the form"), ((13, 6), "c 01 1\n", "line 1: 01 is no whole number below 2^64"),
                 ((13, 6), "c 18446744073709551616 1\n", "line 1: 18446744073709551616 is no whole number below 2^64"), ((13, 6), "c 0 1e999999999\n", "line 1: 1e999999999 is no decimal and no fraction"),
                 ((13, 6), "c 0 1/0\n", "line 1: 1/0 is no decimal"), ((13, 6), "c 0 nan\n", "line 1: nan is no decimal"),
-                ((8, 4, 4), "y 2 1\n", "line 1: there is no multiplier y 2"), ((29, 4), "", "A(29,4) is no entry"),
+                ((8, 4, 4), "y 2 1\n", "line 1: there is no multiplier y 2"), ((31, 4), "", "A(31,4) is no entry"),
                 ((8, 5, 4), "", "A(8,5,4) is no entry")]:
             with self.subTest(fault=fault):
                 out, said, status = call("submit_dual", "a", *words, text=text)

@@ -65,7 +65,7 @@ class SubmitWords(unittest.TestCase):
                 ("01\n011\n", [], "line 2 has 3 digits, and the first word has 2: `011`"),
                 ("0110\n# x\n0110\n", [], "line 3 has the word of line 1 again: `0110`"), ("0000\n0011\n", [], "the distance is 2"),
                 ("0000\n", [], "one word has no distance"), ("[[0, 1], [1\n", [], "a bracket isn't closed"),
-                ("0" * 29 + "\n", [], "the words have length 29"), ]:
+                ("0" * 31 + "\n", [], "the words have length 31"), ]:
             with self.subTest(fault=fault):
                 out, said, status = call("submit_words", "a", *more, text=words)
                 self.assertEqual((out, status), ("", 1))
@@ -124,7 +124,7 @@ class SubmitWords(unittest.TestCase):
     @needs_program
     def test_the_program_accepts_them(self):
         made = [run("submit_words.py", "pairs", text="1100\n0011\n")[0], run("submit_words.py", "many", text=text(large(), 24))[0],
-                run("submit_words.py", "one", "--distance", "28", text="01\n")[0],
+                run("submit_words.py", "one", "--distance", "30", text="01\n")[0],
                 run("submit_words.py", "hamming", "--generator", text="1000011\n0100101\n0010110\n0001111\n")[0]]
         self.assertEqual(session("".join(made)), "accepted pairs size 2\naccepted many size 4096\naccepted one size 1\naccepted hamming size 16\n")
 

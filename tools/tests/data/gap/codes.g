@@ -8,7 +8,7 @@ SubmitCode("pair", ElementsCode(["1100", "0011"], GF(2)));
 SubmitCode("zero", NullCode(5, GF(2)), "", 5);
 SubmitCode("far", RepetitionCode(5, GF(2)), "", 6);
 SubmitCode("Upper", RepetitionCode(5, GF(2)));
-SubmitCode("long", RepetitionCode(29, GF(2)));
+SubmitCode("long", RepetitionCode(31, GF(2)));
 SubmitCode("near", WholeSpaceCode(4, GF(2)));
 SubmitCode("one", ElementsCode(["1100"], GF(2)));
 SubmitCode("field", RepetitionCode(5, GF(3)));
