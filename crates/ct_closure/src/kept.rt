@@ -8,7 +8,7 @@ ghost use Rattle.ct_closure.specs.Number.{bound_of, entries_to, side_number, sid
 ghost use Rattle.ct_closure.specs.Kept.{with_line_put, reason_of, set_back, starts_by_class, ground_rule, IsKept};
 ghost use Rattle.ct_rule_parts.specs.Parts.{weight_of};
 ghost use Rattle.ct_rules.specs.Rule.{place_of};
-ghost use Rattle.ct_rules.specs.Removal.{names_one, only, lowered_line};
+ghost use Rattle.ct_rules.specs.Removal.{names_one, marked, lowered_line};
 ghost use Rattle.ct_closure.specs.Inside.Ground.{class_of, AreLargest, ground_value, ground_line};
 ghost use Rattle.ct_closure.specs.Inside.Started.{IsStarted};
 
@@ -348,19 +348,19 @@ impl Kept {
         self.later = undo.later;
     }
 
-    /// Whether the rule of a line after those of the base names the support at a place.
-    pub fn names(&self, place: u32) -> bool
-        ensures { (result ≡ false) ↔ All (λ l. names_one (only place) (place_of l.rule) ≡ false) (drop self.now.base self.now.lines) }
+    /// Whether the rule of a line after those of the base names a support at a marked place.
+    pub fn names(&self, gone: &[bool]) -> bool
+        ensures { (result ≡ false) ↔ All (λ l. names_one (marked gone.now) (place_of l.rule) ≡ false) (drop self.now.base self.now.lines) }
     {
-        names_place(&self.later, place)
+        names_place(&self.later, gone)
     }
 
-    /// Lowers the rule of each line after those of the base, as it is over the supports that are left once the one at a place
-    /// is taken out. It takes no memory.
-    pub fn lower(&mut self, place: u32)
-        ensures { self.new ≡ record { bounds = self.old.bounds; reasons = self.old.reasons; lines = take self.old.base self.old.lines ++ map (lowered_line (only place)) (drop self.old.base self.old.lines); base = self.old.base } }
+    /// Lowers the rule of each line after those of the base, as it is over the supports that are left once those at the marked
+    /// places are taken out. It takes no memory.
+    pub fn lower(&mut self, gone: &[bool])
+        ensures { self.new ≡ record { bounds = self.old.bounds; reasons = self.old.reasons; lines = take self.old.base self.old.lines ++ map (lowered_line (marked gone.now)) (drop self.old.base self.old.lines); base = self.old.base } }
     {
-        lower_lines(&mut self.later, place);
+        lower_lines(&mut self.later, gone);
     }
 
     /// Puts the ground lines of the side of all entries of the length n. `Err` is want of memory.

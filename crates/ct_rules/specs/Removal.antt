@@ -1,5 +1,5 @@
 -- What is left of rules and lines once supports are taken out.
-use Rattle.std.specs.Prelude.{◌≡◌, ℕ, zero, suc, ◌+◌, ◌-◌, ◌==◌, if◌then◌else◌, Bool, true, false, List, [], ◌∷◌, Contains, slice_get, Option, Some, None}
+use Rattle.std.specs.Prelude.{◌≡◌, ℕ, zero, suc, ◌+◌, ◌-◌, ◌==◌, if◌then◌else◌, Bool, true, false, List, [], ◌∷◌, Contains, slice_get, slice_index_or, Option, Some, None}
 use Rattle.ct_rule_parts.specs.declared.support.Support.{Support}
 use Rattle.ct_rule_parts.specs.declared.support.Support.TheVariants.{Nothing}
 use Rattle.ct_rules.specs.declared.rule.Rule.{Rule}
@@ -18,6 +18,10 @@ without gone (x ∷ xs) = if gone 0 then without (λ p. gone (suc p)) xs else x 
 -- the set of one place
 abbrev pub only : ℕ → Places
 only place p = p == place
+
+-- the places that are marked
+abbrev pub marked : List Bool → Places
+marked marks p = slice_index_or marks p false
 
 -- how many places below this one are in the set
 unfoldable pub count_below : Places → ℕ → ℕ

@@ -23,7 +23,7 @@ pub use derivation_laws::{
 pub use instance::{applies, defined_on, premise, premise_count, value, value_where_defined};
 pub use line::Line;
 pub use listing::{rule_named, rules_alone};
-pub use lowering::lowered;
+pub use lowering::{is_gone, lowered, names_one};
 pub use removal_laws::removal_of_places;
 pub use rows::{place_of, rested_on_by, rests_on, rule_side, with_place};
 pub use rule::{

@@ -13,3 +13,4 @@ pub mod FollowLemmas
 pub mod CallLemmas
 pub mod ReasonLemmas
 pub mod GrowthLemmas
+mod ExchangeLemmas

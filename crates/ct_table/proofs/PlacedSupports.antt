@@ -1,8 +1,5 @@
 -- The supports that have their places, and whose slots are marked.
 use Rattle.std.proofs.Common.{◌≡◌, ℕ, zero, suc, ◌+◌, ◌<◌, List, [], ◌∷◌, ◌++◌, length, map, take, All, get_or, Option, Some, option_map, slice_get, slice_set, refl, sym, ap, subst, ◌∙◌, inl, inr, arith}
-use Rattle.std.specs.Prelude.{Bool, false, remove}
-use Rattle.std.proofs.lemmas.Bool.Decides.{nat_tests}
-use Rattle.std.proofs.lemmas.Bool.{cases_eq}
 use Rattle.std.proofs.lemmas.List.{take_more, map-append, length-map}
 use Rattle.std.proofs.lemmas.List.Elements.{All-nil, All-cons, All-head, All-tail, All-append}
 use Rattle.std.proofs.lemmas.Option.{none-some, same_Some, slice_get-map, slice_get_within, get_or_from_slice_get}
@@ -14,8 +11,6 @@ use Rattle.ct_rule_parts.specs.Slot.{Slot}
 use Rattle.ct_rules.proofs.Places.{slice_get_last}
 use Rattle.ct_closure.specs.Places.{GivesTo, ArePlaces, side_of, entry_of}
 use Rattle.ct_closure.specs.Worklist.{WorkValue, IsMarked}
-use Rattle.ct_closure.proofs.GetLemmas.{slice_get-set_same, slice_get-set_other}
-use Rattle.ct_rules.specs.Removal.{Places, only, voided, voided_by}
 use Rattle.ct_table.specs.Inside.Starting.{IsMarkedIfGiven}
 use Rattle.ct_table.proofs.MoreLemmas.{gives_entry, AreGivenMarked}
 
@@ -97,63 +92,9 @@ ArePlaces-push supports places x are = record {
 }
 
 -- where one gives nothing any more
-nothing_given : (e : Entry) → GivesTo Nothing e → ⊥
+pub nothing_given : (e : Entry) → GivesTo Nothing e → ⊥
 nothing_given e (inl gives) = gives refl
 nothing_given e (inr gives) = gives refl
-
-length-set : {X : Type 0} (xs : List X) (i : ℕ) (x : X) → length (slice_set xs i x) ≡ length xs
-length-set [] i x = refl
-length-set (y ∷ ys) zero x = refl
-length-set (y ∷ ys) (suc i) x = ap suc (length-set ys i x)
-
-pub ArePlaces-nothing : (supports : List Support) (places : List (Option Entry)) (at : ℕ) → at < length supports
-    → ArePlaces supports places → ArePlaces (slice_set supports at Nothing) places
-ArePlaces-nothing supports places at within are = record {
-  count = are.count ∙ sym (length-set supports at Nothing);
-  given = λ place support e entry there gives. elim (cases_eq place at) [
-    | inl same ↦
-        let one : Nothing ≡ support =
-        same_Some Nothing support
-        (sym (slice_get-set_same supports at Nothing within) ∙ ap (slice_get (slice_set supports at Nothing)) (sym same)
-        ∙ there) in
-        absurd (nothing_given e (subst (λ (y : Support). GivesTo y e) (sym one) gives))
-    | inr other ↦
-        are.given place support e entry (sym (slice_get-set_other supports at place Nothing other) ∙ there) gives
-  ];
-}
-
--- a support in whose place there is nothing is one of a set of one that gives nothing
-voided-none : (gone : Places) (xs : List Support) → ((p : ℕ) → gone p ≡ false) → voided gone xs ≡ xs
-unfolding voided
-voided-none gone [] none = refl
-voided-none gone (x ∷ xs) none =
-    ap (λ (b : Bool). voided_by b x ∷ voided (λ p. gone (suc p)) xs) (none 0)
-    ∙ ap (λ (ys : List Support). x ∷ ys) (voided-none (λ p. gone (suc p)) xs (λ p. none (suc p)))
-
-voided-same : (gone other : Places) (xs : List Support) → ((p : ℕ) → gone p ≡ other p) → voided gone xs ≡ voided other xs
-unfolding voided
-voided-same gone other [] same = refl
-voided-same gone other (x ∷ xs) same =
-    ap (λ (b : Bool). voided_by b x ∷ voided (λ p. gone (suc p)) xs) (same 0)
-    ∙ ap (λ (ys : List Support). voided_by (other 0) x ∷ ys)
-    (voided-same (λ p. gone (suc p)) (λ p. other (suc p)) xs (λ p. same (suc p)))
-
-pub voided-only : (place : ℕ) (xs : List Support) → voided (only place) xs ≡ slice_set xs place Nothing
-unfolding voided
-voided-only place [] = refl
-voided-only zero (x ∷ xs) =
-    ap (λ (ys : List Support). Nothing ∷ ys) (voided-none (λ p. only 0 (suc p)) xs (λ p. grind (arith, nat_tests)))
-voided-only (suc place) (x ∷ xs) =
-    ap (λ (b : Bool). voided_by b x ∷ voided (λ p. only (suc place) (suc p)) xs) (let e : only (suc place) 0 ≡ false = grind (arith, nat_tests) in e)
-    ∙ ap (λ (ys : List Support). x ∷ ys)
-    (voided-same (λ p. only (suc place) (suc p)) (only place) xs (λ p. grind (arith, nat_tests)) ∙ voided-only place xs)
-
--- and it is put back
-pub put_again : {X : Type 0} (xs : List X) (place : ℕ) (x y : X) → slice_get xs place ≡ Some x
-    → slice_set (slice_set xs place y) place x ≡ xs
-put_again [] place x y there = refl
-put_again {X} (z ∷ zs) zero x y there = ap (λ (w : X). w ∷ zs) (sym (same_Some z x there))
-put_again {X} (z ∷ zs) (suc place) x y there = ap (λ (ws : List X). z ∷ ws) (put_again zs place x y there)
 
 -- the last of more supports
 pub last_there : (supports olds : List Support) (x : Support) (place : ℕ) → supports ≡ olds ++ x ∷ [] → place ≡ length olds
@@ -165,9 +106,3 @@ pub last_is : (supports olds : List Support) (x d : Support) (place : ℕ) → s
     → get_or supports place d ≡ x
 last_is supports olds x d place are end =
     get_or_from_slice_get supports place x d (last_there supports olds x place are end)
-
--- an item that is written and then taken out
-pub remove-set : {X : Type 0} (xs : List X) (place : ℕ) (x : X) → remove (slice_set xs place x) place ≡ remove xs place
-remove-set [] place x = refl
-remove-set (y ∷ ys) zero x = refl
-remove-set {X} (y ∷ ys) (suc place) x = ap (λ (zs : List X). y ∷ zs) (remove-set ys place x)

@@ -2,3 +2,4 @@
 pub mod Walk
 pub mod Removing
 pub mod Starting
+pub mod Exchanged

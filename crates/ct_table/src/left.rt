@@ -1,9 +1,9 @@
-//! What is left of the lines once a support is taken out: one walk over the lines that followed those of the base.
+//! What is left of the lines once supports are taken out: one walk over the lines that followed those of the base.
 
 ghost use Rattle.std.specs.Prelude.{◌≡◌, ◌+◌, ◌<◌, ◌≤◌, ◌++◌, ◌∷◌, [], ℕ, List, Some, None, All, IfOk, OnOk, OnErr, option_map, length, slice_index_or};
 ghost use Rattle.ct_codes.specs.Entry.{IsEntry};
 ghost use Rattle.ct_rule_parts.specs.declared.support.Support.{Support};
-ghost use Rattle.ct_rules.specs.Removal.{only, names_one, voided};
+ghost use Rattle.ct_rules.specs.Removal.{marked, names_one, voided};
 ghost use Rattle.ct_rules.specs.Derivation.{LineValue};
 ghost use Rattle.ct_rules.specs.Rule.{place_of};
 ghost use Rattle.ct_closure.specs.Closing.{HasMoreLines};
@@ -18,7 +18,7 @@ ghost use Rattle.ct_table.specs.Inside.Removing.{IsSetBack, IsMarkedIfLost, IsTa
 
 use ct_closure::{Base, Closing, Kept, SupportPlaces, Worklist, close, is_better};
 use ct_codes::Claim;
-use ct_rules::{Line, Support, place_of};
+use ct_rules::{Line, Support, names_one};
 use smallvec::SmallVec;
 use std::alloc::{AllocError, Global};
 
@@ -53,7 +53,7 @@ fn moved_places(
 }
 
 /// Puts a line again with the places to which the lines that it names have moved, and gives its own; `None` where it stays
-/// behind, because its rule names the support at the place, or because it names a line that stayed behind. After an `Err`,
+/// behind, because its rule names a support at a marked place, or because it names a line that stayed behind. After an `Err`,
 /// which is want of memory, what is kept is as before.
 fn move_line(
     alloc: Global,
@@ -61,14 +61,14 @@ fn move_line(
     base: usize,
     moved: &[Option<usize>],
     line: &Line,
-    place: u32,
+    gone: &[bool],
 ) -> Result<Option<usize>, AllocError>
     requires { IsEntry line.now.claim.entry }
-    ensures kept { OnOk result (kept.new ≡ with_moved kept.old (moved_line base (only place) moved.now line.now)) }
-    ensures there { IfOk result (λ there. there ≡ option_map (λ _. length kept.old.lines) (moved_line base (only place) moved.now line.now)) }
+    ensures kept { OnOk result (kept.new ≡ with_moved kept.old (moved_line base (marked gone.now) moved.now line.now)) }
+    ensures there { IfOk result (λ there. there ≡ option_map (λ _. length kept.old.lines) (moved_line base (marked gone.now) moved.now line.now)) }
     ensures unchanged { OnErr result (kept.new ≡ kept.old) }
 {
-    if place_of(line.rule) == Some(place) {
+    if names_one(gone, line.rule) {
         return Ok(None);
     }
     let Some(from) = moved_places(alloc, base, moved, line.from.as_slice())? else {
@@ -83,17 +83,22 @@ fn move_line(
     Ok(Some(there))
 }
 
-/// Puts the later lines again after those of the base, but those that rest on the support at the place. After an `Err`, which is
-/// want of memory, some may have been put.
-fn keep_lines(alloc: Global, kept: &mut Kept, later: &[Line], place: u32) -> Result<(), AllocError>
+/// Puts the later lines again after those of the base, but those that rest on a support at a marked place. After an `Err`, which
+/// is want of memory, some may have been put.
+fn keep_lines(
+    alloc: Global,
+    kept: &mut Kept,
+    later: &[Line],
+    gone: &[bool],
+) -> Result<(), AllocError>
     requires { All (λ l. IsEntry l.claim.entry) later.now }
-    ensures walked { OnOk result (kept.new ≡ walk (length kept.old.lines) (only place) [] kept.old later.now) }
+    ensures walked { OnOk result (kept.new ≡ walk (length kept.old.lines) (marked gone.now) [] kept.old later.now) }
     ensures lines { HasMoreLines kept.old kept.new }
 {
     let base = kept.line_count();
     let mut moved = Vec::new(alloc);
     for line in later {
-        let there = move_line(alloc, kept, base, &moved, line, place)?;
+        let there = move_line(alloc, kept, base, &moved, line, gone)?;
         moved.push(there)?;
     }
     Ok(())
@@ -124,7 +129,7 @@ fn mark_lost(kept: &Kept, work: &mut Worklist, later: &[Line]) -> Result<(), All
     Ok(())
 }
 
-/// Puts the lines again that do not rest on the support at the place, and closes the table over the others. After an `Err`, which
+/// Puts the lines again that rest on no support at a marked place, and closes the table over the others. After an `Err`, which
 /// is want of memory, lines may have been put after those of the base.
 fn settle(
     alloc: Global,
@@ -132,42 +137,42 @@ fn settle(
     places: &SupportPlaces,
     closing: &mut Closing,
     later: &[Line],
-    place: u32,
+    gone: &[bool],
 ) -> Result<(), AllocError>
-    requires back { (full : List Support) × (old : KeptValue) × (base : BaseValue) × IsSetBack full old base closing.now later.now × (supports.now ≡ voided (only place) full) }
+    requires back { (full : List Support) × (old : KeptValue) × (base : BaseValue) × IsSetBack full old base closing.now later.now × (supports.now ≡ voided (marked gone.now) full) }
     requires places { ArePlaces supports.now places.now }
     ensures taken { OnOk result ((full : List Support) (old : KeptValue) (base : BaseValue) → IsSetBack full old base closing.old later.now →
-        supports.now ≡ voided (only place) full → IsTakenOut (only place) full old closing.new) }
+        supports.now ≡ voided (marked gone.now) full → IsTakenOut (marked gone.now) full old closing.new) }
     ensures lines { HasMoreLines closing.old.kept closing.new.kept }
 {
-    keep_lines(alloc, &mut closing.kept, later, place)?;
+    keep_lines(alloc, &mut closing.kept, later, gone)?;
     mark_lost(&closing.kept, &mut closing.work, later)?;
     close(alloc, supports, places, closing)
 }
 
-/// Takes out the support at a place, in which there is nothing any more. Where no line names it, all stays as it is. After an `Err`, which is want of memory, what is kept is
-/// as before.
+/// Takes out the supports at the marked places, in which there is nothing any more. Where no line names one, all stays as it is.
+/// After an `Err`, which is want of memory, what is kept is as before.
 pub(crate) fn take_out(
     alloc: Global,
     supports: &[Support],
     places: &SupportPlaces,
     base: &Base,
     closing: &mut Closing,
-    place: u32,
+    gone: &[bool],
 ) -> Result<(), AllocError>
-    requires table { (full : List Support) × IsTable full closing.now.kept base.now closing.now.work × (supports.now ≡ voided (only place) full) }
+    requires table { (full : List Support) × IsTable full closing.now.kept base.now closing.now.work × (supports.now ≡ voided (marked gone.now) full) }
     requires places { ArePlaces supports.now places.now }
     ensures taken { OnOk result ((full : List Support) → IsTable full closing.old.kept base.now closing.old.work →
-        supports.now ≡ voided (only place) full → IsTakenOut (only place) full closing.old.kept closing.new) }
+        supports.now ≡ voided (marked gone.now) full → IsTakenOut (marked gone.now) full closing.old.kept closing.new) }
     ensures lines { OnOk result (HasMoreLines (set_back base.now closing.old.kept) closing.new.kept) }
     ensures unchanged { OnErr result (closing.new.kept ≡ closing.old.kept) }
     ensures idle { OnErr result (IsIdle closing.new.work) }
 {
-    if !closing.kept.names(place) {
+    if !closing.kept.names(gone) {
         return Ok(());
     }
     let undo = closing.kept.set_back(base, alloc)?;
-    let done = settle(alloc, supports, places, closing, undo.later(), place);
+    let done = settle(alloc, supports, places, closing, undo.later(), gone);
     if done.is_err() {
         closing.work.clear();
         closing.kept.put_back(undo);

@@ -1,6 +1,7 @@
 //! The table: for each entry the best bounds that any derivation from its supports gives, kept while supports come and go.
 #![tactic(auto)]
 
+mod exchanging;
 mod follow;
 pub mod laws;
 mod left;

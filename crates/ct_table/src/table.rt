@@ -7,10 +7,11 @@ ghost use Rattle.ct_codes.specs.declared.claim.Side.{Side};
 ghost use Rattle.ct_rule_parts.specs.Slot.{claim_at};
 ghost use Rattle.ct_rule_parts.specs.Support.{Stands, AllStand};
 ghost use Rattle.ct_rules.specs.Derivation.{IsDerivation, IsBest};
-ghost use Rattle.ct_rules.specs.Removal.{only};
+ghost use Rattle.ct_rules.specs.Removal.{only, marked, without};
 ghost use Rattle.ct_table.specs.Removal.{KeepsReasons};
 ghost use Rattle.ct_table.specs.Table.{Grew, IsShownTable, bound_at, reason_at};
 
+use crate::exchanging::{exchange, leave_out, nothings, only};
 use crate::follow::follow;
 use crate::left::take_out;
 use crate::start::{begin, close_over};
@@ -19,7 +20,6 @@ use ct_codes::{Entry, Side};
 use ct_rules::{Line, Support};
 use std::alloc::{AllocError, Global};
 use std::marker::Model;
-use std::mem;
 
 /// For each entry of the table the best bounds that derivations from its supports give, and a derivation of each. Contracts see
 /// the supports, the lines, and for each side of each entry its bound and the number of the line that is its reason.
@@ -107,22 +107,36 @@ impl Table {
         ensures unchanged { OnErr result (self.new ≡ self.old) }
     {
         let alloc = *self.supports.allocator();
-        let taken = mem::replace(&mut self.supports[place], Support::Nothing);
+        let gone = only(alloc, self.supports.len(), place)?;
+        self.remove_all(&gone)
+    }
+
+    /// Takes out the supports at the marked places; the others move down and keep their order. Where a reason rested on none of
+    /// them, neither by its rule nor through its lines, its claim and its rule stay, the rule's place lowered by how many of them
+    /// were below it. After an `Err`, which is want of memory, the table is as before.
+    pub fn remove_all(&mut self, gone: &[bool]) -> Result<(), AllocError>
+        ensures supports { OnOk result (self.new.supports ≡ without (marked gone.now) self.old.supports) }
+        ensures reasons { OnOk result (KeepsReasons (marked gone.now) self.old self.new) }
+        ensures unchanged { OnErr result (self.new ≡ self.old) }
+    {
+        let alloc = *self.supports.allocator();
+        let mut taken = nothings(alloc, self.supports.len())?;
+        exchange(&mut self.supports, &mut taken, gone);
         let done = take_out(
             alloc,
             &self.supports,
             &self.places,
             &self.base,
             &mut self.closing,
-            place as u32,
+            gone,
         );
         if let Err(error) = done {
-            self.supports[place] = taken;
+            exchange(&mut taken, &mut self.supports, gone);
             return Err(error);
         }
         drop(taken);
-        self.closing.kept.lower(place as u32);
-        self.supports.remove(place);
+        self.closing.kept.lower(gone);
+        leave_out(&mut self.supports, gone);
         self.places.rebuild(&self.supports);
         Ok(())
     }

@@ -1,7 +1,7 @@
 use Rattle.std.proofs.Common.{◌<◌, length, slice_set, sym, ap, ◌∙◌, arith}
 use Rattle.std.proofs.lemmas.List.Edits.{map_over_more}
 use Rattle.ct_rules.specs.Derivation.{LineValue}
-use Rattle.ct_rules.specs.Removal.{only, lowered_line}
+use Rattle.ct_rules.specs.Removal.{marked, lowered_line}
 use Rattle.ct_closure.proofs.lowering.lower_lines.Goals as goal
 
 pub loop-line-preserved : goal.loop-line-preserved
@@ -14,7 +14,7 @@ loop-line-preserved c =
       rule = c.lowered-line-inside.ensures j;
       from = c.line.inside.from.items;
     })
-    ∙ ap (λ (l : LineValue). slice_set c.loop-line.lines c.loop-line.line-index (lowered_line (only c.args.place) l))
+    ∙ ap (λ (l : LineValue). slice_set c.loop-line.lines c.loop-line.line-index (lowered_line (marked c.args.gone.now) l))
     (c.line.view_is ∙ sym c.line-item.is)
-    ∙ map_over_more (lowered_line (only c.args.place)) c.args.lines.now c.loop-line.lines c.loop-line.line-index
+    ∙ map_over_more (lowered_line (marked c.args.gone.now)) c.args.lines.now c.loop-line.lines c.loop-line.line-index
     c.line-item.result within c.loop-line.invariant c.line-item.is

@@ -1,7 +1,7 @@
 use Rattle.std.proofs.Common.{◌≡◌, ◌+◌, ◌++◌, ◌∷◌, [], List, ℕ, Option, length, drop, option_map, sym, ap, subst, ◌∙◌}
 use Rattle.std.proofs.lemmas.List.{at_drop_more}
 use Rattle.ct_rules.specs.Derivation.{LineValue}
-use Rattle.ct_rules.specs.Removal.{only}
+use Rattle.ct_rules.specs.Removal.{marked}
 use Rattle.ct_closure.specs.Closing.{HasMoreLines}
 use Rattle.ct_closure.specs.Kept.{KeptValue}
 use Rattle.ct_table.specs.Inside.Walk.{moved_line, with_moved, walk}
@@ -12,12 +12,12 @@ pub returns-in_err-push-clause-lines : goal.returns-in_err-push-clause-lines
 returns-in_err-push-clause-lines c =
     subst (HasMoreLines c.args.kept.now) (sym c.in_ok-there.ensures.kept)
     (HasMoreLines-moved c.args.kept.now c.loop-line.kept
-    (moved_line c.line_count-base.result (only c.args.place) c.deref.result.now c.line-item.result) c.loop-line.invariant.1)
+    (moved_line c.line_count-base.result (marked c.args.gone.now) c.deref.result.now c.line-item.result) c.loop-line.invariant.1)
 
 pub loop-line-preserved : goal.loop-line-preserved
 loop-line-preserved c =
     let base = c.line_count-base.result in
-    let gone = only c.args.place in
+    let gone = marked c.args.gone.now in
     let later = c.args.later.now in
     let i = c.loop-line.line-index in
     let l = c.line-item.result in
@@ -26,10 +26,10 @@ loop-line-preserved c =
     let rest = drop (c.loop-line.line-index + 1) c.args.later.now in
     let next =
     at_drop_more (walk base gone moved kept) later i l c.loop-line-test.true
-    ∙ ap (λ (k : LineValue). walk c.line_count-base.result (only c.args.place) c.loop-line.moved.items c.loop-line.kept (k ∷ drop (c.loop-line.line-index + 1) c.args.later.now)) (sym c.line-item.is) in
-    let moves : moved_line c.line_count-base.result (only c.args.place) c.deref.result.now c.line-item.result
-    ≡ moved_line c.line_count-base.result (only c.args.place) c.loop-line.moved.items c.line-item.result =
-    ap (λ (marks : List (Option ℕ)). moved_line c.line_count-base.result (only c.args.place) marks c.line-item.result) c.deref.ensures.value in
+    ∙ ap (λ (k : LineValue). walk c.line_count-base.result (marked c.args.gone.now) c.loop-line.moved.items c.loop-line.kept (k ∷ drop (c.loop-line.line-index + 1) c.args.later.now)) (sym c.line-item.is) in
+    let moves : moved_line c.line_count-base.result (marked c.args.gone.now) c.deref.result.now c.line-item.result
+    ≡ moved_line c.line_count-base.result (marked c.args.gone.now) c.loop-line.moved.items c.line-item.result =
+    ap (λ (marks : List (Option ℕ)). moved_line c.line_count-base.result (marked c.args.gone.now) marks c.line-item.result) c.deref.ensures.value in
     let two : moved ++ option_map (λ (k : LineValue). length kept.lines) (moved_line base gone moved l) ∷ [] ≡ c.push.new.self.items =
     ap (λ (o : Option LineValue). c.loop-line.moved.items ++ option_map (λ (k : LineValue). length c.loop-line.kept.lines) o ∷ []) (sym moves)
     ∙ ap (λ (o : Option ℕ). c.loop-line.moved.items ++ o ∷ []) (sym c.in_ok-there.ensures.there) ∙ sym c.in_ok-push.ensures.items in
@@ -40,5 +40,5 @@ loop-line-preserved c =
           ∙ ap (λ (k : KeptValue). walk base gone c.push.new.self.items k rest) three,
       subst (HasMoreLines c.args.kept.now) (sym c.in_ok-there.ensures.kept)
           (HasMoreLines-moved c.args.kept.now c.loop-line.kept
-          (moved_line c.line_count-base.result (only c.args.place) c.deref.result.now c.line-item.result) c.loop-line.invariant.1),
+          (moved_line c.line_count-base.result (marked c.args.gone.now) c.deref.result.now c.line-item.result) c.loop-line.invariant.1),
     )

@@ -1,7 +1,7 @@
 use Rattle.std.proofs.Common.{◌≡◌, List, sym, subst}
 use Rattle.std.specs.Prelude.{Result, Ok, Err, OnOk}
 use Rattle.ct_rule_parts.specs.declared.support.Support.{Support}
-use Rattle.ct_rules.specs.Removal.{only, voided}
+use Rattle.ct_rules.specs.Removal.{marked, voided}
 use Rattle.ct_closure.specs.Closing.{ClosingValue, CanClose, IsClosing}
 use Rattle.ct_closure.specs.Kept.{KeptValue, BaseValue}
 use Rattle.ct_table.specs.Inside.Removing.{IsSetBack, IsTakenOut}
@@ -23,10 +23,10 @@ close-requires-clause-closing c =
     let back = c.requires.back in
     let before : ClosingValue =
     record { kept = c.closing.inside.kept; work = c.closing.inside.work; evaluations = c.closing.inside.evaluations } in
-    let marked : ClosingValue =
+    let to_close : ClosingValue =
     record { kept = c.keep_lines.new.kept; work = c.mark_lost.new.work; evaluations = c.closing.inside.evaluations } in
-    subst (λ (supports : List Support). CanClose supports marked) (sym back.4)
-    (CanClose-left (only c.args.place) back.0 back.1 back.2 before c.args.later.now c.keep_lines.new.kept
+    subst (λ (supports : List Support). CanClose supports to_close) (sym back.4)
+    (CanClose-left (marked c.args.gone.now) back.0 back.1 back.2 before c.args.later.now c.keep_lines.new.kept
     c.mark_lost.new.work c.closing.inside.evaluations
     (subst (λ (k : ClosingValue). IsSetBack back.0 back.1 back.2 k c.args.later.now) (sym c.closing.view_is) back.3)
     c.in_ok-keep_lines.ensures.walked c.in_ok-mark_lost.ensures)
@@ -39,14 +39,14 @@ pub returns-clause-taken : goal.returns-clause-taken
 returns-clause-taken c =
     let before : ClosingValue =
     record { kept = c.closing.inside.kept; work = c.closing.inside.work; evaluations = c.closing.inside.evaluations } in
-    let marked : ClosingValue =
+    let to_close : ClosingValue =
     record { kept = c.keep_lines.new.kept; work = c.mark_lost.new.work; evaluations = c.closing.inside.evaluations } in
-    on_ok c.close.result (IsClosing c.args.supports.now marked c.close.new.closing)
+    on_ok c.close.result (IsClosing c.args.supports.now to_close c.close.new.closing)
     ((full : List Support) (old : KeptValue) (base : BaseValue) → IsSetBack full old base c.args.closing.now c.args.later.now
-    → c.args.supports.now ≡ voided (only c.args.place) full → IsTakenOut (only c.args.place) full old c.close.new.closing)
+    → c.args.supports.now ≡ voided (marked c.args.gone.now) full → IsTakenOut (marked c.args.gone.now) full old c.close.new.closing)
     (λ closed full old base back is.
-    IsTakenOut-closed (only c.args.place) full old base before c.args.later.now marked c.close.new.closing
+    IsTakenOut-closed (marked c.args.gone.now) full old base before c.args.later.now to_close c.close.new.closing
     (subst (λ (k : ClosingValue). IsSetBack full old base k c.args.later.now) (sym c.closing.view_is) back)
     c.in_ok-keep_lines.ensures.walked
-    (subst (λ (supports : List Support). IsClosing supports marked c.close.new.closing) is closed))
+    (subst (λ (supports : List Support). IsClosing supports to_close c.close.new.closing) is closed))
     c.close.ensures.closed
