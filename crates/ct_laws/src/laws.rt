@@ -26,10 +26,10 @@ pub fn known_runs()
     ensures empty { IsRun [] [] false }
     ensures shown { IsRun (codes "show 5 3\n") (codes "A(5,3) = 4\n") false }
     ensures shown_weight { IsRun (codes "show 4 4 0\n") (codes "A(4,4,0) = 1\n") false }
-    ensures shown_column { IsRun (codes "table 4 28\n") (codes "A(28,4,28) = 1\n") false }
+    ensures shown_column { IsRun (codes "table 4 30\n") (codes "A(30,4,30) = 1\n") false }
     ensures no_table { IsRun (codes "table 2\n") (codes "refused entry\n") true }
     ensures odd_table { IsRun (codes "table 5 2\n") (codes "refused entry\n") true }
-    ensures heavy_table { IsRun (codes "table 4 29\n") (codes "refused entry\n") true }
+    ensures heavy_table { IsRun (codes "table 4 31\n") (codes "refused entry\n") true }
     ensures no_number { IsRun (codes "table x\n") (codes "refused command\n") true }
     ensures outside { IsRun (codes "show 28 2\n") (codes "refused entry\n") true }
     ensures odd { IsRun (codes "show 12 5 6\n") (codes "refused entry\n") true }
@@ -37,7 +37,7 @@ pub fn known_runs()
     ensures explained { IsRun (codes "explain lower 4 4 0\n") (codes "derivation\nline 1 lower 4 4 0 value 1 by M1\ndone\n") false }
     ensures explained_so { IsRun (codes "explain upper 4 4 0\n") (codes "derivation\nline 1 upper 4 4 0 value 1 by V0\ndone\n") false }
     ensures explained_otherwise { IsRun (codes "explain upper 4 4 0\n") (codes "derivation\nline 1 upper 4 4 0 value 1 by V1\ndone\n") false }
-    ensures not_explained { IsRun (codes "explain lower 29 4\n") (codes "refused entry\n") true }
+    ensures not_explained { IsRun (codes "explain lower 31 4\n") (codes "refused entry\n") true }
     ensures no_side { IsRun (codes "explain 5 3\n") (codes "refused command\n") true }
     ensures listed { IsRun (codes "list 4 4 0\n") (codes "code 4 4 0 size 1\n0000\n") false }
     ensures not_listed { IsRun (codes "list 3 2\n") (codes "refused entry\n") true }

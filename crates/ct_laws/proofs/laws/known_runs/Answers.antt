@@ -39,10 +39,10 @@ returns-clause-shown_weight c =
 pub returns-clause-shown_column : goal.returns-clause-shown_column
 unfolding form_of words_of number_of reply_text digits column
 returns-clause-shown_column c =
-    let one : Bounds = record { entry = constant_weight 28 4 28; lower = 1; upper = 1 } in
+    let one : Bounds = record { entry = constant_weight 30 4 30; lower = 1; upper = 1 } in
     record {
       replies = Table (one ∷ []) ∷ [];
-      are = (record { bounds = one ∷ []; of_entries = (one_word_alone 28 4 28 refl (choose_all 28), tt); shown = refl }, tt);
+      are = (record { bounds = one ∷ []; of_entries = (one_word_alone 30 4 30 refl (choose_all 30), tt); shown = refl }, tt);
       texts = refl;
       mark = refl;
     }
