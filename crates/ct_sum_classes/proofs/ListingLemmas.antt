@@ -18,7 +18,7 @@ use Rattle.ct_sum_classes.specs.SumClass.{sum_of_places, place_sum, sum_class}
 use Rattle.ct_sum_classes.specs.Inside.Listing.{words_of_sum}
 use Rattle.ct_sum_classes.proofs.PlaceSums.{sum_of_places_same}
 use Rattle.ct_sum_classes.proofs.SumClasses.{not_near}
-use Rattle.ct_sum_classes.proofs.SizeLemmas.{mod_shifted}
+use Rattle.ct_sum_classes.proofs.SizeLemmas.{mod_shifted, remainders_shifted}
 
 -- the sum of the places that pass, with one place more before the others
 sum_of_places-first : (f : ℕ → Bool) (m : ℕ) → sum_of_places f (suc m) ≡ sum_of_places (λ p. f (suc p)) m + places (λ p. f (suc p)) m
@@ -75,22 +75,6 @@ words_of_length-first m =
     let ones : (x : ℕ) → 2 ^ m + x ≡ 1 * 2 ^ m + x = λ x. omega arith in
     ap (tabulate (λ x. x)) twice ∙ tabulate-add (λ x. x) (2 ^ m) (2 ^ m)
     ∙ (λ i. tabulate (λ x. zeros x i) (2 ^ m) ++ tabulate (λ x. ones x i) (2 ^ m))
-
--- two numbers have one remainder where they have one with k more
-remainders_shifted : (n k s t : ℕ) → k ≤ n → ((s + k) % n == (t + k) % n) ≡ (s % n == t % n)
-remainders_shifted n k s t few = elim (cases_eq (s % n) (t % n)) [
-  | inl same ↦
-      let whole = sym (mod_shifted n s k) ∙ ap (λ r. (r + k) % n) same ∙ mod_shifted n t k in
-      eq-eqb ((s + k) % n) ((t + k) % n) whole ∙ sym (eq-eqb (s % n) (t % n) same)
-  | inr other ↦
-      ne_eqb ((s + k) % n) ((t + k) % n) (λ same.
-      other (sym (turned s) ∙ ap (λ r. (r + (n - k)) % n) same ∙ turned t)) ∙ sym (ne_eqb (s % n) (t % n) other)
-]
-  where
-    turned : (u : ℕ) → ((u + k) % n + (n - k)) % n ≡ u % n
-    turned u =
-        let whole : u + k + (n - k) ≡ u + n = omega arith in
-        mod_shifted n (u + k) (n - k) ∙ ap (λ z. z % n) whole ∙ add-mod_right u n
 
 -- whether a word that begins with a digit has the weight and the sum of places
 test-first : (n m k s t c x : ℕ) → k ≤ n → c < 2 → x < 2 ^ m → (t + k) % n ≡ s % n

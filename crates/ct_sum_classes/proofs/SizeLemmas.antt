@@ -69,20 +69,28 @@ mod_shifted n t u =
     let whole : t % n + u + n * (t / n) ≡ t + u = omega arith in
     sym (add-mul-mod_self_left (t % n + u) n (t / n)) ∙ ap (λ z. z % n) whole
 
+-- two numbers have one remainder where they have one with k more
+pub remainders_shifted : (n k s t : ℕ) → k ≤ n → ((s + k) % n == (t + k) % n) ≡ (s % n == t % n)
+remainders_shifted n k s t few = elim (cases_eq (s % n) (t % n)) [
+  | inl same ↦
+      let whole = sym (mod_shifted n s k) ∙ ap (λ r. (r + k) % n) same ∙ mod_shifted n t k in
+      eq-eqb ((s + k) % n) ((t + k) % n) whole ∙ sym (eq-eqb (s % n) (t % n) same)
+  | inr other ↦
+      ne_eqb ((s + k) % n) ((t + k) % n) (λ same.
+      other (sym (turned s) ∙ ap (λ r. (r + (n - k)) % n) same ∙ turned t)) ∙ sym (ne_eqb (s % n) (t % n) other)
+]
+  where
+    turned : (u : ℕ) → ((u + k) % n + (n - k)) % n ≡ u % n
+    turned u =
+        let whole : u + k + (n - k) ≡ u + n = omega arith in
+        mod_shifted n (u + k) (n - k) ∙ ap (λ z. z % n) whole ∙ add-mod_right u n
+
 -- with m more a number has the remainder s just where it had that of s - m
 residue_before : (n m s t : ℕ) → m < n → s < n → ((m + t) % n == s) ≡ (t % n == (s + (n - m)) % n)
-residue_before n m s t within below = elim (cases_eq ((m + t) % n) s) [
-  | inl same ↦
-      let whole : m + t + (n - m) ≡ t + n = omega arith in
-      let back = sym (ap (λ r. (r + (n - m)) % n) same) ∙ mod_shifted n (m + t) (n - m) ∙ ap (λ z. z % n) whole ∙ add-mod_right t n in
-      eq-eqb ((m + t) % n) s same ∙ sym (eq-eqb (t % n) ((s + (n - m)) % n) (sym back))
-  | inr other ↦
-      ne_eqb ((m + t) % n) s other ∙ sym (ne_eqb (t % n) ((s + (n - m)) % n) (λ same.
-      let whole : s + (n - m) + m ≡ s + n = omega arith in
-      let turned : m + t ≡ t + m = omega arith in
-      other (ap (λ z. z % n) turned ∙ sym (mod_shifted n t m) ∙ ap (λ r. (r + m) % n) same ∙ mod_shifted n (s + (n - m)) m
-      ∙ ap (λ z. z % n) whole ∙ add-mod_right s n ∙ mod-eq_of_lt below)))
-]
+residue_before n m s t within below =
+    let whole : m + t + (n - m) ≡ t + n = omega arith in
+    ap (λ r. (m + t) % n == r) (sym (mod-eq_of_lt below)) ∙ sym (remainders_shifted n (n - m) (m + t) s (omega arith))
+    ∙ ap (λ r. r == (s + (n - m)) % n) (ap (λ z. z % n) whole ∙ add-mod_right t n)
 
 -- two numbers are equal where the next ones are
 pub suc_eqb : (a b : ℕ) → (suc a == suc b) ≡ (a == b)
