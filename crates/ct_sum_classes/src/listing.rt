@@ -43,9 +43,9 @@ fn words_of_class(alloc: Global, n: u32, w: u32, r: u32) -> Result<Vec<Word>, Al
     Ok(words)
 }
 
-/// Appends to the words those that begin with the ones of another, and end with the words of length m and weight k, in
-/// ascending order, whose ones' places add up to 0 + 1 + .. + (k − 1), the least sum of k places, and the excess more,
-/// modulo n.
+/// Appends, in ascending order, the sums of the beginning and of each word of length m and weight k whose ones' places add
+/// up to 0 + 1 + .. + (k − 1), the least sum of k places, and the excess more, modulo n. The beginning has the digits before
+/// these m.
 ///
 /// The greatest sum of k of the m places is the least one and k (m − k). A one at the first place leaves the excess to the
 /// k − 1 others at the m − 1 other places, and a zero leaves k less of it, one for each one. So a call without a word to
