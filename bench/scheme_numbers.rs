@@ -1,4 +1,4 @@
-// All numbers of the Hamming scheme at n = 28, or of the Johnson schemes at n = 28 of every weight, as many times as asked, by the same
+// All numbers of the Hamming scheme at n = 30, or of the Johnson schemes at n = 30 of every weight, as many times as asked, by the same
 // recurrences as the program: `scheme_numbers krawtchouk 1000` or `scheme_numbers johnson 1000` prints a sum over them.
 
 const BINOMIALS: [[u64; 31]; 31] = binomials();
@@ -58,17 +58,17 @@ fn main() {
     let mut sum = 0i64;
     for _ in 0..turns {
         if words[1] == "krawtchouk" {
-            for k in 0..=28 {
-                for i in 0..=28 {
-                    sum = mixed(sum, krawtchouk(28, k, i));
+            for k in 0..=30 {
+                for i in 0..=30 {
+                    sum = mixed(sum, krawtchouk(30, k, i));
                 }
             }
         } else {
-            for w in 0..=28u32 {
-                let degree = w.min(28 - w);
+            for w in 0..=30u32 {
+                let degree = w.min(30 - w);
                 for k in 0..=degree {
                     for i in 0..=degree {
-                        sum = mixed(sum, johnson(28, w, k, i));
+                        sum = mixed(sum, johnson(30, w, k, i));
                     }
                 }
             }

@@ -16,7 +16,7 @@
 #include <string.h>
 #include <time.h>
 
-enum { MOST_PLACES = 28, MOST_ELEMENTS = 8192, MOST_VERTICES = 20000 };
+enum { MOST_PLACES = 30, MOST_ELEMENTS = 8192, MOST_VERTICES = 20000 };
 
 typedef struct { uint8_t to[MOST_PLACES]; } Permutation;
 typedef struct { uint32_t word; int size; } Orbit;
