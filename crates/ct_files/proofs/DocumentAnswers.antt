@@ -1,6 +1,6 @@
 -- Where each answer comes for bytes and for the table that they write: what is said of each kind, and once of all.
 use Rattle.std.proofs.Common.{◌≡◌, ℕ, ◌<◌, ◌≤◌, Bool, true, false, nat_le, List, [], ◌∷◌, length, Option, Some, None, option_map, Result, Ok, Err, ◌⊎◌, inl, inr, refl, sym, ap, ◌∙◌, subst, le-leb, leb-false}
-use Rattle.std.specs.Prelude.{◌↔◌}
+use Rattle.std.specs.Prelude.{◌↔◌, if◌then◌else◌}
 use Rattle.std.specs.Str.{is_utf8}
 use Rattle.std.proofs.lemmas.Bool.{cases_Bool, leb-true, lt-leb, false≢true}
 use Rattle.std.proofs.lemmas.Str.{IsUtf8-from_is_utf8, is_utf8-from_IsUtf8}
@@ -31,12 +31,7 @@ use Rattle.ct_files.proofs.DualEvidence.{dual_evidences, johnson_dual_evidences}
 pub evidence_of-kind : (k : Kind) (document : Data) → IsOfKind (kind_text k) document → evidence_of document ≡ evidence_by k document
 unfolding evidence_of
 evidence_of-kind kind.words document of_kind = rw of_kind refl
-evidence_of-kind kind.cosets document of_kind = rw of_kind refl
-evidence_of-kind kind.partition document of_kind = rw of_kind refl
-evidence_of-kind kind.build document of_kind = rw of_kind refl
-evidence_of-kind kind.product document of_kind = rw of_kind refl
-evidence_of-kind kind.dual document of_kind = rw of_kind refl
-evidence_of-kind kind.johnson_dual document of_kind = rw of_kind refl
+evidence_of-kind k document of_kind = rw of_kind refl
 
 -- each answer to a document of the kind comes where it is said to come
 answers_by : (k : Kind) (ms : Members) → IsOfKind (kind_text k) (table ms) → (answer : Result Evidence FileFault)
@@ -52,19 +47,13 @@ answers_by kind.johnson_dual = johnson_dual_evidences
 -- the evidence of a document of the kind is of the kind
 of_its_kind : (k : Kind) (document : Data) (e : Evidence) → IsAnswer k document (Ok e) → k ≡ kind_of e
 of_its_kind kind.words document (evidence.Words _ _) states = refl
-of_its_kind kind.words document other never = absurd never
 of_its_kind kind.cosets document (evidence.Cosets _ _ _) states = refl
-of_its_kind kind.cosets document other never = absurd never
 of_its_kind kind.partition document (evidence.Partition _ _ _) states = refl
-of_its_kind kind.partition document other never = absurd never
 of_its_kind kind.build document (evidence.Build _ _ _ _) states = refl
-of_its_kind kind.build document other never = absurd never
 of_its_kind kind.product document (evidence.Product _ _) states = refl
-of_its_kind kind.product document other never = absurd never
 of_its_kind kind.dual document (evidence.Dual _) states = refl
-of_its_kind kind.dual document other never = absurd never
 of_its_kind kind.johnson_dual document (evidence.JohnsonDual _) states = refl
-of_its_kind kind.johnson_dual document other never = absurd never
+of_its_kind k document other never = absurd never
 
 -- the faults of bytes and of a kind are none of a document of the kind
 record NoneOutside (k : Kind) (document : Data) : Type 0 where
@@ -74,12 +63,7 @@ record NoneOutside (k : Kind) (document : Data) : Type 0 where
 
 none_outside : (k : Kind) (document : Data) → NoneOutside k document
 none_outside kind.words document = record { bytes = λ b h. h; no_toml = λ h. h; no_kind = λ h. h }
-none_outside kind.cosets document = record { bytes = λ b h. h; no_toml = λ h. h; no_kind = λ h. h }
-none_outside kind.partition document = record { bytes = λ b h. h; no_toml = λ h. h; no_kind = λ h. h }
-none_outside kind.build document = record { bytes = λ b h. h; no_toml = λ h. h; no_kind = λ h. h }
-none_outside kind.product document = record { bytes = λ b h. h; no_toml = λ h. h; no_kind = λ h. h }
-none_outside kind.dual document = record { bytes = λ b h. h; no_toml = λ h. h; no_kind = λ h. h }
-none_outside kind.johnson_dual document = record { bytes = λ b h. h; no_toml = λ h. h; no_kind = λ h. h }
+none_outside k document = record { bytes = λ b h. h; no_toml = λ h. h; no_kind = λ h. h }
 
 -- ---- documents of any kind
 
@@ -88,23 +72,26 @@ other_kind : (document : Data) → IsOfNoKind document → (k : Kind) → is_of_
 other_kind document none k =
     elim (cases_Bool (is_of_kind (kind_text k) document)) [ inl same ↦ absurd (none k (is_of_kind-true (kind_text k) document same)) | inr other ↦ other ]
 
--- a document of no kind is refused
-evidence_of-other : (document : Data) → IsOfNoKind document → evidence_of document ≡ Err NoKind
-unfolding evidence_of
-evidence_of-other document none =
-    rw (
-      other_kind document none kind.words,
-      other_kind document none kind.cosets,
-      other_kind document none kind.partition,
-      other_kind document none kind.build,
-      other_kind document none kind.product,
-      other_kind document none kind.dual,
-      other_kind document none kind.johnson_dual,
-    ) refl
-
 -- the kinds in the order in which a document is asked for them
 abbrev kinds : List Kind
 kinds = kind.words ∷ kind.cosets ∷ kind.partition ∷ kind.build ∷ kind.product ∷ kind.dual ∷ kind.johnson_dual ∷ []
+
+-- the evidence of a document by the first of these kinds that it is of
+abbrev evidence_among : List Kind → Data → Result Evidence FileFault
+evidence_among [] document = Err NoKind
+evidence_among (k ∷ ks) document = if is_of_kind (kind_text k) document then evidence_by k document else evidence_among ks document
+
+evidence_of-among : (document : Data) → evidence_of document ≡ evidence_among kinds document
+unfolding evidence_of
+evidence_of-among document = refl
+
+evidence_among-other : (ks : List Kind) (document : Data) → IsOfNoKind document → evidence_among ks document ≡ Err NoKind
+evidence_among-other [] document none = refl
+evidence_among-other (k ∷ ks) document none = rw (other_kind document none k) (evidence_among-other ks document none)
+
+-- a document of no kind is refused
+evidence_of-other : (document : Data) → IsOfNoKind document → evidence_of document ≡ Err NoKind
+evidence_of-other document none = evidence_of-among document ∙ evidence_among-other kinds document none
 
 -- the document is of none of these kinds
 abbrev NoneOf : List Kind → Data → Type 0
