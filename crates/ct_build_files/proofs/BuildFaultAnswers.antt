@@ -409,6 +409,11 @@ own_fault document e Trim name.Size never =
     (λ size read. never size (number_field-ok name.Size 1 MAX_BUILT document size read)) (number_field-err name.Size 1 MAX_BUILT document))
 own_fault document e o field_name never = absurd never
 
+-- so is the operation's first own field that is missing or of another form
+own_field_first : (document : Data) (field_name : FieldName)
+    → (e : Entry) × (o : Operation) × SuitsEntry document e o × IsOwnFault o e.n document field_name → build_evidence_of document ≡ Err (Field field_name)
+own_field_first document field_name (e, o, suits, never) = own_first document e o field_name suits (own_fault document e o field_name never)
+
 no_operation : (document : Data) (e : Entry) → StatesBuildEntry document e → ((o : Operation) → ¬ (HasText name.Op document (operation_text o)))
     → build_evidence_of document ≡ Err (Field name.Op)
 unfolding build_evidence_of
@@ -442,19 +447,7 @@ fault_from ms (Field name.Other) (e, o, names, takes, never) =
     ∙ bind-at_err (other_field o (table ms)) _ (Field name.Other)
     (rw takes (bind-at_err (id_field name.Other (table ms)) _ (Field name.Other)
     (none_read id_in name.Other (table ms) (λ id read. never id (id_field-ok name.Other (table ms) id read)))))
-fault_from ms (Field name.Places) (e, o, suits, never) = own_first (table ms) e o name.Places suits (own_fault (table ms) e o name.Places never)
-fault_from ms (Field name.Digits) (e, o, suits, never) = own_first (table ms) e o name.Digits suits (own_fault (table ms) e o name.Digits never)
-fault_from ms (Field name.By) (e, o, suits, never) = own_first (table ms) e o name.By suits (own_fault (table ms) e o name.By never)
-fault_from ms (Field name.Size) (e, o, suits, never) = own_first (table ms) e o name.Size suits (own_fault (table ms) e o name.Size never)
-fault_from ms (Field name.Words) (e, o, suits, never) = own_first (table ms) e o name.Words suits (own_fault (table ms) e o name.Words never)
-fault_from ms (Field name.Basis) (e, o, suits, never) = own_first (table ms) e o name.Basis suits (own_fault (table ms) e o name.Basis never)
-fault_from ms (Field name.Representatives) (e, o, suits, never) = own_first (table ms) e o name.Representatives suits (own_fault (table ms) e o name.Representatives never)
-fault_from ms (Field name.D1) (e, o, suits, never) = own_first (table ms) e o name.D1 suits (own_fault (table ms) e o name.D1 never)
-fault_from ms (Field name.Classes) (e, o, suits, never) = own_first (table ms) e o name.Classes suits (own_fault (table ms) e o name.Classes never)
-fault_from ms (Field name.Pairs) (e, o, suits, never) = own_first (table ms) e o name.Pairs suits (own_fault (table ms) e o name.Pairs never)
-fault_from ms (Field name.Even) (e, o, suits, never) = own_first (table ms) e o name.Even suits (own_fault (table ms) e o name.Even never)
-fault_from ms (Field name.C) (e, o, suits, never) = own_first (table ms) e o name.C suits (own_fault (table ms) e o name.C never)
-fault_from ms (Field name.Y) (e, o, suits, never) = own_first (table ms) e o name.Y suits (own_fault (table ms) e o name.Y never)
+fault_from ms (Field field_name) first = own_field_first (table ms) field_name first
 fault_from ms Unknown (e, o, key, both, further) =
     let (found, found-is) = own_read o e.n (table ms) both.first.own in
     let (part, other, read) = read_parts (table ms) e o found both found-is in
