@@ -1,6 +1,6 @@
 -- Where a piece leaves that none names, the others are made as before, and have the same codes.
 use Rattle.std.proofs.Common.{◌≡◌, ◌≢◌, ℕ, zero, suc, ◌+◌, ◌<◌, Bool, true, false, ◌||◌, cond, not, List, [], ◌∷◌, ◌++◌, length, Option, Some, None, option_map, Ok, refl, sym, ap, ap₂, subst, ◌∙◌, append-nil, arith}
-use Rattle.std.specs.Prelude.{All, AllPairs, filter, find, remove}
+use Rattle.std.specs.Prelude.{All, AllPairs, filter, find, map, remove}
 use Rattle.std.specs.List.{list_any, position_or_len}
 use Rattle.std.specs.Str.{bytes_eq}
 use Rattle.std.proofs.lemmas.List.Elements.{filter-append, All-head, All-tail}
@@ -16,7 +16,8 @@ use Rattle.ct_kind.specs.Ascending.{code_at}
 use Rattle.ct_pieces.specs.Codes.{named_code, codes_after, codes_of}
 use Rattle.ct_pieces.specs.Submission.{evidence_reason, made_unless, piece_from}
 use Rattle.ct_pieces.specs.Standing.{IsMade, AreMade}
-use Rattle.ct_pieces.specs.Inside.Kept.{is_kept, kept_after}
+use Rattle.ct_pieces.specs.Inside.Kept.{is_kept, kept_over, kept_after}
+use Rattle.ct_pieces.specs.Inside.Unmarked.{unmarked}
 use Rattle.ct_kind.specs.declared.fault.SubmitFault.{SubmitFault}
 use Rattle.ct_kind.specs.declared.fault.SubmitFault.TheVariants as fault
 use Rattle.ct_pieces.proofs.CodeLemmas.{is_named}
@@ -195,6 +196,32 @@ ArePassed-others id (p ∷ ps) none =
 kept-same : (p : PieceValue) (left right : List NamedCode) → named_code left p ≡ named_code right p
     → cond (is_kept p.evidence) (named_code left p).code None ≡ cond (is_kept p.evidence) (named_code right p).code None
 kept-same p left right same = ap (λ (k : NamedCode). cond (is_kept p.evidence) k.code None) same
+
+-- the pieces whose ids pass keep the codes that were kept beside them
+pub kept-passing : (out : List ℕ → Bool) (known : List NamedCode) (ps : List PieceValue) → ArePassed (λ i. not (out i)) ps
+    → kept_after (those (λ i. not (out i)) known) (passing (λ i. not (out i)) ps) ≡ unmarked (map (λ (p : PieceValue). out p.id) ps) (kept_after known ps)
+kept-passing out known [] all = refl
+kept-passing out known (p ∷ ps) all = at (out p.id) refl (kept-passing out next ps all.1) (those-push test known own) where
+  test : List ℕ → Bool
+  test i = not (out i)
+
+  own : NamedCode
+  own = named_code known p
+
+  next : List NamedCode
+  next = known ++ own ∷ []
+
+  marks : List Bool
+  marks = map (λ (q : PieceValue). out q.id) ps
+
+  at : (b : Bool) → out p.id ≡ b → kept_after (those test next) (passing test ps) ≡ unmarked marks (kept_after next ps) → those test next ≡ those test known ++ cond (not b) (own ∷ []) []
+      → kept_after (those test known) (cond (not b) (p ∷ passing test ps) (passing test ps)) ≡ unmarked (b ∷ marks) (kept_over known p.evidence ∷ kept_after next ps)
+  at true is rest split = ap (λ (k : List NamedCode). kept_after k (passing test ps)) (sym (split ∙ append-nil (those test known))) ∙ rest
+  at false is rest split =
+      let same = those-code test known p (all.0 (ap not is)) in
+      ap₂ (λ (k : Option CodeValue) (ks : List (Option CodeValue)). k ∷ ks) (kept-same p (those test known) known same)
+      (ap (λ (k : NamedCode). kept_after (those test known ++ k ∷ []) (passing test ps)) same
+      ∙ ap (λ (k : List NamedCode). kept_after k (passing test ps)) (sym split) ∙ rest)
 
 -- pieces of other ids keep the same codes
 kept-others : (id : List ℕ) (known : List NamedCode) (ps : List PieceValue) → All (λ (q : PieceValue). id ≢ q.id) ps → first_user id ps ≡ None

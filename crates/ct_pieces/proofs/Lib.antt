@@ -12,3 +12,6 @@ pub mod Accepting
 pub mod Refusing
 pub mod Admitting
 pub mod DualSupports
+pub mod EarlierParts
+pub mod AlongLemmas
+pub mod TakenAlong

@@ -1,6 +1,6 @@
 //! Facts about every submission.
 
-ghost use Rattle.std.specs.Prelude.{◌≡◌, ◌≢◌, ◌↔◌, ℕ, ◌+◌, ◌≤◌, List, length, Option, Ok, Err, Some, None, All, Contains, IfSome, IsSome, IsTrue, map, slice_get};
+ghost use Rattle.std.specs.Prelude.{◌≡◌, ◌≢◌, ◌↔◌, ℕ, ◌+◌, ◌≤◌, List, length, Option, Ok, Err, Some, None, All, Contains, IfSome, IsSome, IsTrue, map, slice_get, Bool, true};
 ghost use Rattle.std.specs.List.Sorted.{IsPermutation, IsSorted};
 ghost use Rattle.std.specs.Ordering.{nat_cmp};
 ghost use Rattle.ct_codes.specs.declared.entry.Entry.{Entry};
@@ -15,13 +15,14 @@ ghost use Rattle.ct_fields.specs.declared.document.TheConstants.{MAX_DOCUMENT};
 ghost use Rattle.ct_pieces.specs.Codes.{codes_of, code_of_place};
 ghost use Rattle.ct_pieces.specs.Piece.{PieceValue, has_id};
 ghost use Rattle.ct_kind.specs.Ascending.{ascending};
-ghost use Rattle.ct_pieces.specs.Kind.{kind_of, has_code, own_reason, IsChecked, IsOwnRefusal};
+ghost use Rattle.ct_pieces.specs.Kind.{kind_of, has_code, own_reason, IsChecked, IsOwnRefusal, names};
 ghost use Rattle.ct_kind.specs.KindParts.{stored_for};
 ghost use Rattle.ct_kind.specs.Named.{NamedCode};
 ghost use Rattle.ct_pieces.specs.Refusals.{IsRefused, IsNotWithdrawn};
-ghost use Rattle.ct_pieces.specs.Withdrawal.{withdrawn};
+ghost use Rattle.ct_pieces.specs.Withdrawal.{withdrawn, withdrawn_all, taken_along, is_among, IsTakenAlong};
 ghost use Rattle.ct_pieces.specs.declared.limits.TheConstants.{MAX_PIECES, MAX_STORED};
 ghost use Rattle.ct_pieces.specs.declared.fault.WithdrawFault.{WithdrawFault};
+ghost use Rattle.ct_pieces.specs.declared.fault.WithdrawFault.TheVariants as withdraw;
 ghost use Rattle.ct_pieces.specs.Standing.{AreStanding};
 ghost use Rattle.ct_fields.specs.declared.fault.FileFault.{FileFault};
 ghost use Rattle.ct_evidence.specs.declared.evidence.Evidence.{Evidence};
@@ -73,6 +74,21 @@ pub fn evidence_that_is_admitted()
 pub fn withdrawals_that_are_refused()
     ensures { (pieces : List PieceValue) (id : List ℕ) (reason : WithdrawFault)
         → (withdrawn pieces id ≡ Err reason) ↔ IsNotWithdrawn pieces id reason }
+{}
+
+/// What a withdrawal with all that rests on a piece takes out: the pieces of the least set of places that holds the one of the id and
+/// each one whose piece names one of the set. It is refused exactly where no piece has the id, and the pieces that it leaves stand.
+pub fn pieces_taken_along()
+    ensures taken { (pieces : List PieceValue) (id : List ℕ) (i : ℕ) (p : PieceValue) → AreStanding pieces → slice_get pieces i ≡ Some p
+        → (is_among (taken_along pieces id) p.id ≡ true) ↔ IsTakenAlong pieces id i }
+    ensures least { (pieces : List PieceValue) (id : List ℕ) (places : ℕ → Bool)
+        → ((i : ℕ) (p : PieceValue) → slice_get pieces i ≡ Some p → p.id ≡ id → places i ≡ true)
+        → ((i j : ℕ) (p q : PieceValue) → slice_get pieces i ≡ Some p → slice_get pieces j ≡ Some q → names p.evidence q.id ≡ true
+        → places j ≡ true → places i ≡ true)
+        → (i : ℕ) → IsTakenAlong pieces id i → places i ≡ true }
+    ensures refused { (pieces : List PieceValue) (id : List ℕ) (reason : WithdrawFault)
+        → (withdrawn_all pieces id ≡ Err reason) ↔ ((reason ≡ withdraw.NoSuch) × All (λ q. q.id ≢ id) pieces) }
+    ensures stand { (pieces left : List PieceValue) (id : List ℕ) → AreStanding pieces → withdrawn_all pieces id ≡ Ok left → AreStanding left }
 {}
 
 /// The words that a piece stores, by its kind: those of its document, a basis and representatives or the words of all classes among them,

@@ -2,6 +2,7 @@
 //! of what they give is kept.
 #![tactic(auto)]
 
+mod along;
 mod check;
 mod dump;
 mod fault;
@@ -19,8 +20,8 @@ pub use ct_kind::SubmitFault;
 pub use fault::WithdrawFault;
 pub use laws::{
     ascending_numbers, duals_give_their_bounds, evidence_that_is_admitted, pieces_give_supports,
-    pieces_have_codes, reasons_of_kinds, refusals_in_order, stored_words_by_kind,
-    submissions_that_are_accepted, withdrawals_that_are_refused,
+    pieces_have_codes, pieces_taken_along, reasons_of_kinds, refusals_in_order,
+    stored_words_by_kind, submissions_that_are_accepted, withdrawals_that_are_refused,
 };
 pub use limits::{MAX_PIECES, MAX_STORED};
 pub use new_piece::NewPiece;

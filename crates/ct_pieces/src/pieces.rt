@@ -1,6 +1,6 @@
 //! Pieces of evidence by themselves, without a table.
 
-ghost use Rattle.std.specs.Prelude.{◌≡◌, ◌≢◌, ◌≤◌, ◌<◌, ◌+◌, ◌^◌, ◌∷◌, ◌++◌, List, Result, Ok, Err, Some, None, false, IfOk, IfErr, IfSome, IsSome, IsTrue, OnOk, OnErr, [], All, find, is_some, length, not, option_map, remove};
+ghost use Rattle.std.specs.Prelude.{◌≡◌, ◌≢◌, ◌≤◌, ◌<◌, ◌+◌, ◌^◌, ◌∷◌, ◌++◌, List, Result, Ok, Err, Some, None, false, IfOk, IfErr, IfSome, IsSome, IsTrue, OnOk, OnErr, [], All, find, is_some, length, not, option_map, remove, ℕ, true, filter};
 ghost use Rattle.ct_codes.specs.Code.{IsSoundCode};
 ghost use Rattle.ct_text.specs.Id.{is_id};
 ghost use Rattle.ct_files.specs.Evidence.{read_of};
@@ -8,7 +8,7 @@ ghost use Rattle.ct_pieces.specs.Piece.{PieceValue, has_id, stored_by, stored_wo
 ghost use Rattle.ct_pieces.specs.Codes.{code_of_place, codes_of};
 ghost use Rattle.ct_pieces.specs.Submission.{submitted, if_stored, unless_full};
 ghost use Rattle.ct_kind.specs.declared.fault.SubmitFault.{SubmitFault};
-ghost use Rattle.ct_pieces.specs.Withdrawal.{withdrawn};
+ghost use Rattle.ct_pieces.specs.Withdrawal.{withdrawn, withdrawn_all, taken_along, without_all, marks_along};
 ghost use Rattle.ct_pieces.specs.Standing.{AreStanding, HasTrueSize, IsMade};
 ghost use Rattle.ct_pieces.specs.Inside.Kept.{kept_over};
 ghost use Rattle.ct_pieces.specs.Dump.{dump_text};
@@ -16,6 +16,7 @@ ghost use Rattle.ct_pieces.specs.Submission.{AddsPiece};
 ghost use Rattle.ct_pieces.specs.Supports.{support_of, supports_of};
 ghost use Rattle.ct_pieces.specs.Piece.{place_of};
 
+use crate::along::{leave_out, marks_along};
 use crate::check::{Made, check_document, make_piece};
 use crate::dump::put_dump;
 use crate::fault::WithdrawFault;
@@ -55,7 +56,7 @@ impl Model for Pieces {
 }
 
 /// How many words the piece stores.
-fn stored_by(piece: &Piece) -> u64
+pub(crate) fn stored_by(piece: &Piece) -> u64
     ensures words { result ≡ stored_by piece.now }
     ensures bound { result < 2 ^ 63 }
 {
@@ -294,6 +295,32 @@ impl Pieces {
         let piece = self.pieces.remove(place);
         self.kept.remove(place);
         self.stored -= stored_by(&piece);
+    }
+
+    /// For each piece, whether it goes where the piece of the id is withdrawn with all that rests on it. `NoSuch` comes exactly where no
+    /// piece has the id.
+    pub fn marks_to_leave(&self, id: Id) -> Result<Vec<bool>, WithdrawFault>
+        ensures marks { IfOk result (λ gone. gone.items ≡ marks_along self.now id) }
+        ensures stands { OnOk result (has_id id self.now ≡ true) }
+        ensures fault { IfErr result (λ fault. fault ≢ WithdrawFault.Memory → withdrawn_all self.now id ≡ Err fault) }
+    {
+        if !has_id(&self.pieces, id) {
+            return Err(WithdrawFault::NoSuch);
+        }
+        Ok(marks_along(self.allocator(), &self.pieces, id)?)
+    }
+
+    /// Takes out the piece of the id, which stands, with all that rests on it, which are marked: how many pieces these are.
+    pub fn take_out_all(&mut self, id: Id, gone: &[bool]) -> u32
+        requires stands { has_id id self.old ≡ true }
+        requires marks { gone.now ≡ marks_along self.old id }
+        ensures pieces { self.new ≡ without_all (taken_along self.old id) self.old }
+        ensures left { withdrawn_all self.old id ≡ Ok self.new }
+        ensures count { result + length self.new ≡ length self.old }
+    {
+        let before = self.pieces.len();
+        self.stored = leave_out(&mut self.pieces, &mut self.kept, self.stored, gone);
+        (before - self.pieces.len()) as u32
     }
 
     /// The code of the piece at the place, whose kind has one, over the codes of its parts: its length, distance and weight are

@@ -1,0 +1,8 @@
+-- A list without the items that are marked.
+use Rattle.std.specs.Prelude.{Bool, true, false, List, [], ◌∷◌}
+
+abbrev pub unmarked : {X : Type 0} → List Bool → List X → List X
+unmarked [] xs = xs
+unmarked (mark ∷ marks) [] = []
+unmarked (true ∷ marks) (x ∷ xs) = unmarked marks xs
+unmarked (false ∷ marks) (x ∷ xs) = x ∷ unmarked marks xs
