@@ -1,13 +1,13 @@
 //! The ledger.
 
-ghost use Rattle.std.specs.Prelude.{◌≡◌, ◌≢◌, ◌<◌, ◌∷◌, ◌++◌, List, Ok, Err, IfOk, IfErr, IsSome, OnOk, OnErr, [], All, is_some, length};
+ghost use Rattle.std.specs.Prelude.{◌≡◌, ◌≢◌, ◌+◌, ◌<◌, ◌∷◌, ◌++◌, List, Ok, Err, IfOk, IfErr, IsSome, OnOk, OnErr, [], All, is_some, length};
 ghost use Rattle.ct_codes.specs.Code.{IsSoundCode};
 ghost use Rattle.ct_pieces.specs.Piece.{PieceValue, stored_words};
 ghost use Rattle.ct_pieces.specs.Codes.{code_of_place};
 ghost use Rattle.ct_files.specs.Evidence.{read_of};
 ghost use Rattle.ct_pieces.specs.Submission.{submitted};
 ghost use Rattle.ct_kind.specs.declared.fault.SubmitFault.{SubmitFault};
-ghost use Rattle.ct_pieces.specs.Withdrawal.{withdrawn};
+ghost use Rattle.ct_pieces.specs.Withdrawal.{withdrawn, withdrawn_all};
 ghost use Rattle.ct_pieces.specs.Supports.{supports_of};
 ghost use Rattle.ct_pieces.specs.Standing.{AreStanding, HasTrueSize};
 ghost use Rattle.ct_pieces.specs.Submission.{AddsPiece};
@@ -161,6 +161,20 @@ impl Ledger {
         self.table.remove(place)?;
         self.pieces.take_out(id, place);
         Ok(())
+    }
+
+    /// Takes the piece of the id out with all that rests on it: how many pieces these are. `NoSuch` comes exactly where no piece has
+    /// the id. After an `Err` the ledger is as before, its table too.
+    pub fn withdraw_all(&mut self, id: Id) -> Result<u32, WithdrawFault>
+        ensures left { OnOk result (withdrawn_all self.old.pieces id ≡ Ok self.new.pieces) }
+        ensures count { IfOk result (λ count. count + length self.new.pieces ≡ length self.old.pieces) }
+        ensures fault { IfErr result (λ fault. fault ≢ WithdrawFault.Memory
+            → withdrawn_all self.old.pieces id ≡ Err fault) }
+        ensures unchanged { OnErr result (self.new ≡ self.old) }
+    {
+        let gone = self.pieces.marks_to_leave(id)?;
+        self.table.remove_all(&gone)?;
+        Ok(self.pieces.take_out_all(id, &gone))
     }
 
     /// Whether the piece at the place has a code: whether its kind has one. A partition and a dual have none.
