@@ -14,8 +14,7 @@ use Rattle.ct_pieces.specs.Kind.{parts_of, names}
 use Rattle.ct_pieces.specs.Piece.{PieceValue, has_id}
 use Rattle.ct_pieces.specs.Codes.{codes_of}
 use Rattle.ct_pieces.specs.Standing.{AreStanding}
-use Rattle.ct_pieces.proofs.CodeLemmas.{known_where_taken}
-use Rattle.ct_pieces.proofs.MakingLemmas.{IsRight, none_missing, right_at, right-parts}
+use Rattle.ct_pieces.proofs.EarlierParts.{part_earlier}
 use Rattle.ct_explain.specs.Parts.{places_where, part_places, parts_of_each}
 
 -- the places with one more item at the end
@@ -114,51 +113,11 @@ parts_named ps p i = (from, to) where
   to : At i → Contains (part_places ps p) i
   to at = let here : 0 + i ≡ i = omega arith in subst (Contains (part_places ps p)) here (Contains-places test 0 ps i at.0 at.1 at.2)
 
--- what holds of each id holds of one that is among them
-named_part : (P : List ℕ → Type 0) (ids : List (List ℕ)) (id : List ℕ) → All P ids → list_any (λ (part : List ℕ). bytes_eq part id) ids ≡ true → P id
-named_part P [] id h is = absurd cc
-named_part P (part ∷ ids) id h is = at (bytes_eq part id) refl is (named_part P ids id (All-tail P part ids h)) where
-  at : (b : Bool) → bytes_eq part id ≡ b → (b || list_any (λ (q : List ℕ). bytes_eq q id) ids) ≡ true
-      → (list_any (λ (q : List ℕ). bytes_eq q id) ids ≡ true → P id) → P id
-  at true same is later = subst P ((bytes_eq-Decides part id).0 same) (All-head P part ids h)
-  at false unlike is later = later is
-
--- the ids of the pieces are different
-abbrev AreDifferent : List PieceValue → Type 0
-AreDifferent ps = AllPairs (λ (p q : PieceValue). p.id ≢ q.id) ps
-
-different-tail : (p : PieceValue) (ps : List PieceValue) → AreDifferent (p ∷ ps) → AreDifferent ps
-different-tail p ps h i j d before within = h (suc i) (suc j) d (omega (arith, before)) (omega (arith, within))
-
-different-first : (p : PieceValue) (ps : List PieceValue) (i : ℕ) (q : PieceValue) → AreDifferent (p ∷ ps) → slice_get ps i ≡ Some q → p.id ≢ q.id
-different-first p ps i q h is =
-    let within = slice_get_within ps i q is in
-    subst (λ (r : PieceValue). p.id ≢ r.id) (get_or_from_slice_get ps i q p is) (h 0 (suc i) p (omega arith) (omega (arith, within)))
-
--- a piece whose id one of the first k has is among these
-among_first : (ps : List PieceValue) (k i : ℕ) (q : PieceValue) → AreDifferent ps → slice_get ps i ≡ Some q → has_id q.id (take k ps) ≡ true → i < k
-among_first [] k i q h is taken = absurd cc
-among_first (p ∷ ps) zero i q h is taken = absurd cc
-among_first (p ∷ ps) (suc k) zero q h is taken = omega arith
-among_first (p ∷ ps) (suc k) (suc i) q h is taken = at (bytes_eq p.id q.id) refl taken (among_first ps k i q (different-tail p ps h) is) where
-  at : (b : Bool) → bytes_eq p.id q.id ≡ b → (b || has_id q.id (take k ps)) ≡ true → (has_id q.id (take k ps) ≡ true → i < k) → suc i < suc k
-  at true same t later = absurd (different-first p ps i q h is ((bytes_eq-Decides p.id q.id).0 same))
-  at false unlike t later = let before = later t in omega (arith, before)
-
 -- the parts of a piece that stands are before it
 piece_earlier : (ps : List PieceValue) (k : ℕ) (p : PieceValue) → AreStanding ps → slice_get ps k ≡ Some p → All (λ i. i < k) (part_places ps p)
-piece_earlier ps k p h is = All-places (λ i. i < k) (λ q. names p.evidence q.id) 0 ps before where
-  known : All (λ (id : List ℕ). is_known id (codes_of (take k ps)) ≡ true) (parts_of p.evidence)
-  known =
-      let within = slice_get_within ps k p is in
-      let right = subst (λ (r : PieceValue). IsRight (codes_of (take k ps)) r.evidence) (get_or_from_slice_get ps k p p is) (right_at ps k p h.made within) in
-      none_missing (codes_of (take k ps)) (parts_of p.evidence) (right-parts (codes_of (take k ps)) p.evidence right)
-
-  before : (i : ℕ) (q : PieceValue) → slice_get ps i ≡ Some q → names p.evidence q.id ≡ true → 0 + i < k
-  before i q at named =
-      let there = named_part (λ (id : List ℕ). is_known id (codes_of (take k ps)) ≡ true) (parts_of p.evidence) q.id known named in
-      let first = among_first ps k i q h.different at (sym (known_where_taken q.id [] (take k ps)) ∙ there) in
-      omega (arith, first)
+piece_earlier ps k p h is =
+    All-places (λ i. i < k) (λ q. names p.evidence q.id) 0 ps
+    (λ i q at named. let first = part_earlier ps k i p q h is at named in omega (arith, first))
 
 pub parts_earlier : (ps : List PieceValue) → AreStanding ps → AreEarlier (parts_of_each ps)
 parts_earlier ps h k places at = of_piece (slice_get ps k) refl (sym (slice_get-map (part_places ps) ps k) ∙ at) where
