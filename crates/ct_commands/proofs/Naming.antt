@@ -18,7 +18,7 @@ use Rattle.ct_text.specs.declared.gathering.Gathered.{Gathered}
 use Rattle.ct_text.specs.declared.gathering.Gathered.TheVariants.{More, Whole}
 use Rattle.ct_text.specs.declared.gathering.Extent.TheVariants.{ToEnd}
 use Rattle.ct_text.specs.Side.{side_of}
-use Rattle.ct_commands.specs.Form.{form_of, id_of, lines_form, submit_form, only_id, alone, explanation_of, explanation, command_of, words_form}
+use Rattle.ct_commands.specs.Form.{form_of, id_of, lines_form, submit_form, withdrawal, alone, explanation_of, explanation, command_of, words_form}
 use Rattle.ct_commands.specs.Command.{opened, going_on, open_after, asked, finished, completed_by, completed, open_after_all, cut_off, commands_of}
 use Rattle.ct_commands.specs.declared.form.Form.{Form}
 use Rattle.ct_commands.specs.declared.form.Form.TheVariants.{Nothing, Submit}
@@ -76,6 +76,16 @@ withdraw-named : (id : Option (List ℕ)) → AnyIsNamed (option_map command.Wit
 withdraw-named None = tt
 withdraw-named (Some id) = tt
 
+withdraw_all-named : (id : Option (List ℕ)) → AnyIsNamed (option_map command.WithdrawAll id)
+withdraw_all-named None = tt
+withdraw_all-named (Some id) = tt
+
+withdrawal-named : (words : List (List ℕ)) → AnyIsNamed (withdrawal words)
+withdrawal-named [] = tt
+withdrawal-named (id ∷ []) = withdraw-named (id_of id)
+withdrawal-named (id ∷ word ∷ []) = any_chosen (bytes_eq word (codes "all")) _ _ (withdraw_all-named (id_of id)) tt
+withdrawal-named (id ∷ word ∷ more ∷ words) = tt
+
 show-named : (numbers : Option EntryNumbers) → AnyIsNamed (option_map command.Show numbers)
 show-named None = tt
 show-named (Some numbers) = tt
@@ -104,7 +114,7 @@ alone-named c (word ∷ words) h = tt
 
 command_of-named : (name : List ℕ) (words : List (List ℕ)) → AnyIsNamed (command_of name words)
 command_of-named name words =
-    any_chosen (bytes_eq name (codes "withdraw")) _ _ (withdraw-named (only_id words))
+    any_chosen (bytes_eq name (codes "withdraw")) _ _ (withdrawal-named words)
     (any_chosen (bytes_eq name (codes "show")) _ _ (show-named (entry_numbers_of words))
     (any_chosen (bytes_eq name (codes "table")) _ _ (table-named (table_numbers_of words))
     (any_chosen (bytes_eq name (codes "explain")) _ _ (explanation-named words)

@@ -31,10 +31,11 @@ submit_form (id ∷ []) = Submit (id_of id) ToEnd
 submit_form (id ∷ word ∷ count ∷ []) = if bytes_eq word (codes "lines") then lines_form (id_of id) (number_of count) else Submit None ToEnd
 submit_form words = Submit None ToEnd
 
--- the id that the words are, if they are one word and this is an id
-abbrev pub only_id : List (List ℕ) → Option (List ℕ)
-only_id (word ∷ []) = id_of word
-only_id words = None
+-- the withdrawal that the words ask for: ID, or ID all
+abbrev pub withdrawal : List (List ℕ) → Option Command
+withdrawal (id ∷ []) = option_map command.Withdraw (id_of id)
+withdrawal (id ∷ word ∷ []) = if bytes_eq word (codes "all") then option_map command.WithdrawAll (id_of id) else None
+withdrawal words = None
 
 -- the command, where no words stand after its name
 abbrev pub alone : Command → List (List ℕ) → Option Command
@@ -54,7 +55,7 @@ explanation (side ∷ numbers) = explanation_of (side_of side) (entry_numbers_of
 -- the command that a name and the words after it make, if they make one: a row for each command that is one line
 abbrev pub command_of : List ℕ → List (List ℕ) → Option Command
 command_of name words =
-    if bytes_eq name (codes "withdraw") then option_map command.Withdraw (only_id words)
+    if bytes_eq name (codes "withdraw") then withdrawal words
     else (if bytes_eq name (codes "show") then option_map command.Show (entry_numbers_of words)
     else (if bytes_eq name (codes "table") then option_map command.Table (table_numbers_of words)
     else (if bytes_eq name (codes "explain") then explanation words

@@ -12,6 +12,8 @@ pub enum Command {
     CutOff,
     /// The withdrawal of the piece with this id.
     Withdraw(Id),
+    /// The withdrawal of the piece with this id, and of all that rests on it.
+    WithdrawAll(Id),
     /// The bounds of the entry with these numbers.
     Show(EntryNumbers),
     /// The bounds of the entries in the part of the table with these numbers.

@@ -4,7 +4,7 @@ ghost use Rattle.std.specs.Prelude.{◌≡◌, ◌==◌, IfOk, map, slice_index}
 ghost use Rattle.ct_text.specs.Number.{number_of};
 ghost use Rattle.ct_text.specs.EntryNumbers.{entry_numbers_of};
 ghost use Rattle.ct_text.specs.TableNumbers.{table_numbers_of};
-ghost use Rattle.ct_commands.specs.Form.{form_of, words_form, submit_form, lines_form, only_id, alone, explanation, command_of};
+ghost use Rattle.ct_commands.specs.Form.{form_of, words_form, submit_form, lines_form, withdrawal, alone, explanation, command_of};
 
 use crate::command::Command;
 use ct_text::{
@@ -50,12 +50,13 @@ fn submission(words: &[&[u8]]) -> Form
     }
 }
 
-/// The id that the words are, if they are one word and this is an id.
-fn only_id(words: &[&[u8]]) -> Option<Id>
-    ensures { result ≡ only_id (map (λ word. word.now) words.now) }
+/// The withdrawal that the words ask for, if they are an id, or an id and `all`.
+fn withdrawal(words: &[&[u8]]) -> Option<Command>
+    ensures { result ≡ withdrawal (map (λ word. word.now) words.now) }
 {
     match words {
-        [id] => Id::parse(id),
+        [id] => Id::parse(id).map(Command::Withdraw),
+        [id, word] if *word == b"all".as_slice() => Id::parse(id).map(Command::WithdrawAll),
         _ => None,
     }
 }
@@ -86,7 +87,7 @@ fn command_of(name: &[u8], words: &[&[u8]]) -> Option<Command>
     ensures { result ≡ command_of name.now (map (λ word. word.now) words.now) }
 {
     if name == b"withdraw".as_slice() {
-        only_id(words).map(Command::Withdraw)
+        withdrawal(words)
     } else if name == b"show".as_slice() {
         parse_entry_numbers(words).map(Command::Show)
     } else if name == b"table".as_slice() {

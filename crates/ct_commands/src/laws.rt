@@ -59,6 +59,10 @@ pub fn known_forms()
     ensures no_submit { map form_of (codes "submit" ∷ codes "submit a lines" ∷ codes "submit a lines 3 x" ∷ codes "submit a lines 0" ∷ codes "submit a line 3"
         ∷ codes "submit A" ∷ []) ≡ replicate 6 (Submit None ToEnd) }
     ensures withdraw { form_of (codes "withdraw a") ≡ Whole (command.Withdraw (codes "a")) }
+    ensures withdraw_all { form_of (codes "withdraw a all") ≡ Whole (command.WithdrawAll (codes "a")) }
+    ensures named_all { form_of (codes "withdraw all") ≡ Whole (command.Withdraw (codes "all")) }
+    ensures all_of_all { form_of (codes "withdraw all all") ≡ Whole (command.WithdrawAll (codes "all")) }
+    ensures no_withdraw_all { map form_of (codes "withdraw A all" ∷ codes "withdraw a all b" ∷ codes "withdraw a alle" ∷ []) ≡ replicate 3 (Whole command.Unknown) }
     ensures show { form_of (codes "show 4 3") ≡ Whole (command.Show (record { n = 4; d = 3; w = None })) }
     ensures show_weight { form_of (codes "show 8 4 2") ≡ Whole (command.Show (record { n = 8; d = 4; w = Some 2 })) }
     ensures table { form_of (codes "table 4") ≡ Whole (command.Table (record { d = 4; w = None })) }

@@ -15,7 +15,7 @@ use Rattle.ct_commands.specs.declared.command.Command.TheVariants as command
 use Rattle.ct_commands.proofs.Naming.{CommandIsNamed, AreNamed, commands_of-named}
 use Rattle.ct_pieces.specs.Piece.{PieceValue}
 use Rattle.ct_pieces.specs.Submission.{submitted}
-use Rattle.ct_pieces.specs.Withdrawal.{withdrawn}
+use Rattle.ct_pieces.specs.Withdrawal.{withdrawn, withdrawn_all}
 use Rattle.ct_pieces.specs.Standing.{AreStanding}
 use Rattle.ct_pieces.specs.Dump.{dump_text}
 use Rattle.ct_kind.specs.Ascending.{ascending}
@@ -24,11 +24,12 @@ use Rattle.ct_pieces.specs.Supports.{supports_of}
 use Rattle.ct_kind.proofs.AscendingLemmas.{ascending-moved}
 use Rattle.ct_kind.proofs.CodeAt.{code_at-sound}
 use Rattle.ct_pieces.proofs.StandingLemmas.{AreStanding-none, AreStanding-submitted, AreStanding-withdrawn}
+use Rattle.ct_pieces.proofs.TakenAlong.{AreStanding-withdrawn_all}
 use Rattle.ct_rules.specs.Derivation.{IsBest}
 use Rattle.ct_explain.specs.Explained.{explanation_text}
 use Rattle.ct_explain.proofs.ExplainedBounds.{explained}
 use Rattle.ct_list.specs.Listed.{IsListedCode}
-use Rattle.ct_session.specs.Reply.{IsReply, IsShowReply, IsTableReply, IsExplainReply, IsListReply, column, submission_reply, withdrawal_reply, pieces_after, is_refusal}
+use Rattle.ct_session.specs.Reply.{IsReply, IsShowReply, IsTableReply, IsExplainReply, IsListReply, column, submission_reply, withdrawal_reply, withdrawal_all_reply, pieces_after, is_refusal}
 use Rattle.ct_session.specs.Run.{AreReplies, AnswersCommands, IsRun, pieces_of}
 use Rattle.ct_session.specs.Text.{reply_text, ledger_text, code_text}
 use Rattle.ct_session.specs.declared.reply.Reply.{Reply}
@@ -41,6 +42,7 @@ pub AreStanding-after : (pieces : List PieceValue) (c : Command) → CommandIsNa
 AreStanding-after pieces (command.Submission None document) named h = h
 AreStanding-after pieces (command.Submission (Some id) document) named h = AreStanding-submitted pieces id document (submitted pieces id document) named refl h
 AreStanding-after pieces (command.Withdraw id) named h = AreStanding-withdrawn pieces id h
+AreStanding-after pieces (command.WithdrawAll id) named h = AreStanding-withdrawn_all pieces id h
 AreStanding-after pieces command.CutOff named h = h
 AreStanding-after pieces (command.Show numbers) named h = h
 AreStanding-after pieces (command.Table numbers) named h = h
@@ -102,6 +104,7 @@ some_reply pieces (command.Submission None document) h = (Refused refusal.NoComm
 some_reply pieces (command.Submission (Some id) document) h = (submission_reply id (submitted pieces id document), refl)
 some_reply pieces command.CutOff h = (Refused refusal.CutOff, refl)
 some_reply pieces (command.Withdraw id) h = (withdrawal_reply id (withdrawn pieces id), refl)
+some_reply pieces (command.WithdrawAll id) h = (withdrawal_all_reply id pieces (withdrawn_all pieces id), refl)
 some_reply pieces (command.Show numbers) h =
     let e : Entry = record { n = numbers.n; d = numbers.d; w = numbers.w } in
     named_reply pieces e (is_entry e) refl h

@@ -45,6 +45,7 @@ one_reply_only pieces (command.Submission None document) r s none h k = h ∙ sy
 one_reply_only pieces (command.Submission (Some id) document) r s none h k = h ∙ sym k
 one_reply_only pieces command.CutOff r s none h k = h ∙ sym k
 one_reply_only pieces (command.Withdraw id) r s none h k = h ∙ sym k
+one_reply_only pieces (command.WithdrawAll id) r s none h k = h ∙ sym k
 one_reply_only pieces (command.Show numbers) r s none h k = one_show_reply pieces (named_entry numbers) r s h k
 one_reply_only pieces (command.Table numbers) r s none h k = one_table_reply pieces (column numbers.d numbers.w) r s h k
 one_reply_only pieces (command.Explain side numbers) r s none h k = one_explain_reply pieces side (named_entry numbers) r s none h k
@@ -68,6 +69,7 @@ one_mark : (pieces : List PieceValue) (c : Command) (r s : Reply) → IsReply pi
 one_mark pieces (command.Submission id document) r s h k = ap is_refusal (one_reply_only pieces (command.Submission id document) r s refl h k)
 one_mark pieces command.CutOff r s h k = ap is_refusal (one_reply_only pieces command.CutOff r s refl h k)
 one_mark pieces (command.Withdraw id) r s h k = ap is_refusal (one_reply_only pieces (command.Withdraw id) r s refl h k)
+one_mark pieces (command.WithdrawAll id) r s h k = ap is_refusal (one_reply_only pieces (command.WithdrawAll id) r s refl h k)
 one_mark pieces (command.Show numbers) r s h k = ap is_refusal (one_reply_only pieces (command.Show numbers) r s refl h k)
 one_mark pieces (command.Table numbers) r s h k = ap is_refusal (one_reply_only pieces (command.Table numbers) r s refl h k)
 one_mark pieces (command.Explain side numbers) r s h k = one_explain_mark pieces side (named_entry numbers) r s h k

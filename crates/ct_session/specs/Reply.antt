@@ -1,5 +1,5 @@
 -- The reply to a command over the pieces that stand, and the pieces after it.
-use Rattle.std.specs.Prelude.{◌≡◌, ℕ, Bool, true, false, List, [], ◌∷◌, map, filter, Option, Some, None, Result, Ok, Err}
+use Rattle.std.specs.Prelude.{◌≡◌, ℕ, ◌-◌, length, Bool, true, false, List, [], ◌∷◌, map, filter, Option, Some, None, Result, Ok, Err}
 use Rattle.std.specs.List.{AllZip, range_with_len}
 use Rattle.std.specs.Option.{is_some}
 use Rattle.ct_words.specs.declared.limits.TheConstants.{MAX_N}
@@ -16,7 +16,7 @@ use Rattle.ct_commands.specs.declared.command.Command.{Command}
 use Rattle.ct_commands.specs.declared.command.Command.TheVariants as command
 use Rattle.ct_pieces.specs.Piece.{PieceValue}
 use Rattle.ct_pieces.specs.Submission.{submitted, with_piece}
-use Rattle.ct_pieces.specs.Withdrawal.{withdrawn, left_by}
+use Rattle.ct_pieces.specs.Withdrawal.{withdrawn, withdrawn_all, left_by}
 use Rattle.ct_pieces.specs.Dump.{dump_text}
 use Rattle.ct_pieces.specs.Supports.{supports_of}
 use Rattle.ct_kind.specs.declared.fault.SubmitFault.{SubmitFault}
@@ -27,7 +27,7 @@ use Rattle.ct_list.specs.Listed.{IsListedCode}
 use Rattle.ct_session.specs.Text.{ledger_text, code_text}
 use Rattle.ct_session.specs.declared.reply.Bounds.{Bounds}
 use Rattle.ct_session.specs.declared.reply.Reply.{Reply}
-use Rattle.ct_session.specs.declared.reply.Reply.TheVariants.{Accepted, Withdrawn, Shown, Table, Lines, Refused}
+use Rattle.ct_session.specs.declared.reply.Reply.TheVariants.{Accepted, Withdrawn, WithdrawnAll, Shown, Table, Lines, Refused}
 use Rattle.ct_session.specs.declared.reply.Refusal.TheVariants as refusal
 
 -- the reply to a submission
@@ -39,6 +39,11 @@ submission_reply id (Err fault) = Refused (refusal.Submission fault)
 abbrev pub withdrawal_reply : List ℕ → Result (List PieceValue) WithdrawFault → Reply
 withdrawal_reply id (Ok left) = Withdrawn id
 withdrawal_reply id (Err fault) = Refused (refusal.Withdrawal id fault)
+
+-- the reply to a withdrawal with all that rests on the piece of the id: how many of the pieces go
+abbrev pub withdrawal_all_reply : List ℕ → List PieceValue → Result (List PieceValue) WithdrawFault → Reply
+withdrawal_all_reply id pieces (Ok left) = WithdrawnAll id (length pieces - length left)
+withdrawal_all_reply id pieces (Err fault) = Refused (refusal.Withdrawal id fault)
 
 -- the bound is the best that derivations over the pieces that stand give, and the claim of it is true
 pub record IsShownBound (pieces : List PieceValue) (side : Side) (e : Entry) (v : ℕ) : Type 0 where
@@ -106,6 +111,7 @@ IsReply pieces (command.Submission None document) reply = reply ≡ Refused refu
 IsReply pieces (command.Submission (Some id) document) reply = reply ≡ submission_reply id (submitted pieces id document)
 IsReply pieces command.CutOff reply = reply ≡ Refused refusal.CutOff
 IsReply pieces (command.Withdraw id) reply = reply ≡ withdrawal_reply id (withdrawn pieces id)
+IsReply pieces (command.WithdrawAll id) reply = reply ≡ withdrawal_all_reply id pieces (withdrawn_all pieces id)
 IsReply pieces (command.Show numbers) reply = IsShowReply pieces (named_entry numbers) reply
 IsReply pieces (command.Table numbers) reply = IsTableReply pieces (column numbers.d numbers.w) reply
 IsReply pieces (command.Explain side numbers) reply = IsExplainReply pieces side (named_entry numbers) reply
@@ -120,6 +126,7 @@ abbrev pub leaves_choice : Command → Bool
 leaves_choice (command.Submission id document) = false
 leaves_choice command.CutOff = false
 leaves_choice (command.Withdraw id) = false
+leaves_choice (command.WithdrawAll id) = false
 leaves_choice (command.Show numbers) = false
 leaves_choice (command.Table numbers) = false
 leaves_choice (command.Explain side numbers) = is_some (named_entry numbers)
@@ -133,6 +140,7 @@ abbrev pub pieces_after : List PieceValue → Command → List PieceValue
 pieces_after pieces (command.Submission None document) = pieces
 pieces_after pieces (command.Submission (Some id) document) = with_piece pieces (submitted pieces id document)
 pieces_after pieces (command.Withdraw id) = left_by pieces (withdrawn pieces id)
+pieces_after pieces (command.WithdrawAll id) = left_by pieces (withdrawn_all pieces id)
 pieces_after pieces c = pieces
 
 -- whether a reply is a refusal

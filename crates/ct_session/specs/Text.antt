@@ -10,7 +10,7 @@ use Rattle.ct_pieces.specs.Piece.{PieceValue}
 use Rattle.ct_pieces.specs.Text.{submit_fault_text, withdraw_fault_text, size_text, piece_text}
 use Rattle.ct_rule_codes.specs.CodeEntry.{entry_of}
 use Rattle.ct_session.specs.declared.reply.Reply.{Reply}
-use Rattle.ct_session.specs.declared.reply.Reply.TheVariants.{Accepted, Withdrawn, Shown, Table, Lines, Refused}
+use Rattle.ct_session.specs.declared.reply.Reply.TheVariants.{Accepted, Withdrawn, WithdrawnAll, Shown, Table, Lines, Refused}
 use Rattle.ct_session.specs.declared.reply.Bounds.{Bounds}
 use Rattle.ct_session.specs.declared.reply.Refusal.{Refusal}
 use Rattle.ct_session.specs.declared.reply.Refusal.TheVariants as refusal
@@ -53,6 +53,7 @@ code_text c = code_heading c ++ word_lines c.n c.words
 unfoldable pub reply_text : Reply → List ℕ
 reply_text (Accepted id size) = ended (codes "accepted " ++ id ++ size_text size)
 reply_text (Withdrawn id) = ended (codes "withdrawn " ++ id)
+reply_text (WithdrawnAll id count) = ended (codes "withdrawn " ++ id ++ codes " count " ++ decimal count)
 reply_text (Shown bounds) = ended (bounds_text bounds)
 reply_text (Table column) = flat_map (λ bounds. ended (bounds_text bounds)) column
 reply_text (Lines lines) = lines

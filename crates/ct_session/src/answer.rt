@@ -5,8 +5,8 @@ ghost use Rattle.std.specs.List.{AllZip};
 ghost use Rattle.ct_codes.specs.Entry.{IsEntry};
 ghost use Rattle.ct_text.specs.EntryNumbers.{named_entry};
 ghost use Rattle.ct_pieces.specs.Submission.{submitted, with_piece};
-ghost use Rattle.ct_pieces.specs.Withdrawal.{withdrawn, left_by};
-ghost use Rattle.ct_session.specs.Reply.{IsReply, AreBoundsOf, IsShowReply, IsTableReply, IsExplainReply, IsListReply, column, pieces_after, submission_reply, withdrawal_reply};
+ghost use Rattle.ct_pieces.specs.Withdrawal.{withdrawn, withdrawn_all, left_by};
+ghost use Rattle.ct_session.specs.Reply.{IsReply, AreBoundsOf, IsShowReply, IsTableReply, IsExplainReply, IsListReply, column, pieces_after, submission_reply, withdrawal_reply, withdrawal_all_reply};
 ghost use Rattle.ct_session.specs.Inside.LongReply.{reply_of};
 
 use crate::reply::{Bounds, BoundsList, Refusal, Reply};
@@ -167,6 +167,20 @@ fn withdraw(ledger: &mut Ledger, id: Id) -> Result<Reply, AllocError>
     }
 }
 
+/// Answers a withdrawal with all that rests on a piece: the reply, and the pieces after it. After an `Err`, which is want of memory,
+/// the ledger is as before.
+fn withdraw_all(ledger: &mut Ledger, id: Id) -> Result<Reply, AllocError>
+    ensures reply { IfOk result (λ reply. reply ≡ withdrawal_all_reply id ledger.old.pieces (withdrawn_all ledger.old.pieces id)) }
+    ensures pieces { OnOk result (ledger.new.pieces ≡ left_by ledger.old.pieces (withdrawn_all ledger.old.pieces id)) }
+    ensures unchanged { OnErr result (ledger.new ≡ ledger.old) }
+{
+    match ledger.withdraw_all(id) {
+        Ok(count) => Ok(Reply::WithdrawnAll(id, count)),
+        Err(WithdrawFault::Memory) => Err(AllocError),
+        Err(fault) => Ok(Reply::Refused(Refusal::Withdrawal(id, fault))),
+    }
+}
+
 /// Answers a command: the reply, and the pieces after it. After an `Err`, which is want of memory, the ledger is as before.
 pub(crate) fn answer(
     alloc: Global,
@@ -181,6 +195,7 @@ pub(crate) fn answer(
         Command::Submission(id, document) => submit_any(ledger, id, document)?,
         Command::CutOff => Reply::Refused(Refusal::CutOff),
         Command::Withdraw(id) => withdraw(ledger, id)?,
+        Command::WithdrawAll(id) => withdraw_all(ledger, id)?,
         Command::Show(numbers) => show(ledger, numbers),
         Command::Table(numbers) => table(alloc, ledger, numbers)?,
         Command::Explain(side, numbers) => explain(alloc, ledger, side, numbers)?,

@@ -71,6 +71,8 @@ pub enum Reply {
     Accepted(Id, Option<u32>),
     /// The piece of the id was withdrawn.
     Withdrawn(Id),
+    /// The piece of the id was withdrawn with all that rests on it; how many pieces these are.
+    WithdrawnAll(Id, u32),
     /// The bounds of an entry.
     Shown(Bounds),
     /// The bounds of all entries of a distance and, where one is named, a weight, in the order of their lengths.

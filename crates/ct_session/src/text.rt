@@ -149,6 +149,24 @@ fn put_withdrawn(text: &mut Vec<u8>, id: &[u8]) -> Result<(), AllocError>
     Ok(())
 }
 
+/// Puts the line of a withdrawal of so many pieces at the end of the text.
+fn put_withdrawn_all(
+    alloc: Global,
+    text: &mut Vec<u8>,
+    id: &[u8],
+    count: u32,
+) -> Result<(), AllocError>
+    ensures ok { OnOk result (text.new.items ≡ text.old.items ++ ended (codes "withdrawn " ++ id.now ++ codes " count " ++ decimal count)) }
+    ensures grown { Grows text.old.items text.new.items }
+{
+    text.extend_from_slice(b"withdrawn ")?;
+    text.extend_from_slice(id)?;
+    text.extend_from_slice(b" count ")?;
+    put_number(alloc, text, u64::from(count))?;
+    text.push(LINE_FEED)?;
+    Ok(())
+}
+
 /// Puts the line of a refusal at the end of the text.
 fn put_refused(alloc: Global, text: &mut Vec<u8>, refusal: &Refusal) -> Result<(), AllocError>
     ensures ok { OnOk result (text.new.items ≡ text.old.items ++ ended (codes "refused " ++ refusal_text refusal.now)) }
@@ -169,6 +187,7 @@ fn put_lines(alloc: Global, text: &mut Vec<u8>, reply: &Reply) -> Result<(), All
     match reply {
         Reply::Accepted(id, size) => put_accepted(alloc, text, id.text(), *size),
         Reply::Withdrawn(id) => put_withdrawn(text, id.text()),
+        Reply::WithdrawnAll(id, count) => put_withdrawn_all(alloc, text, id.text(), *count),
         Reply::Shown(bounds) => put_line(alloc, text, *bounds),
         Reply::Table(column) => put_column(alloc, text, column.as_slice()),
         Reply::Lines(lines) => text.extend_from_slice(lines.bytes()),

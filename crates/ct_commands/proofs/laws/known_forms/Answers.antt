@@ -24,6 +24,22 @@ pub returns-clause-withdraw : goal.returns-clause-withdraw
 unfolding form_of words_of number_of
 returns-clause-withdraw c = refl
 
+pub returns-clause-withdraw_all : goal.returns-clause-withdraw_all
+unfolding form_of words_of number_of
+returns-clause-withdraw_all c = refl
+
+pub returns-clause-named_all : goal.returns-clause-named_all
+unfolding form_of words_of number_of
+returns-clause-named_all c = refl
+
+pub returns-clause-all_of_all : goal.returns-clause-all_of_all
+unfolding form_of words_of number_of
+returns-clause-all_of_all c = refl
+
+pub returns-clause-no_withdraw_all : goal.returns-clause-no_withdraw_all
+unfolding form_of words_of number_of
+returns-clause-no_withdraw_all c = refl
+
 pub returns-clause-show : goal.returns-clause-show
 unfolding form_of words_of number_of
 returns-clause-show c = refl
