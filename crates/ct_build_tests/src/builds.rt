@@ -1,6 +1,8 @@
 //! Builds whose words are known, and such that are refused, with the first reason where there are several.
 
-use crate::parts::{Place, Words, answers, code_of, entry_of, even_code, optional_code, shows};
+use crate::parts::{
+    Few, Place, Words, answers, code_of, entry_of, even_code, optional_code, shows,
+};
 use crate::steps::{Change, build};
 use ct_build::BuildFault;
 use ct_codes::Code;
@@ -10,34 +12,28 @@ use std::process::Abort;
 use std::test::Fail;
 
 /// The least and the greatest word of length 3.
-const ENDS: Words = ((3, 3, None), &[0b000, 0b111]);
+const ENDS: Words = ((3, 3, None), Few::Two([0b000, 0b111]));
 
 /// The least and the greatest word of length 5.
-const LONG_ENDS: Words = ((5, 5, None), &[0b00000, 0b11111]);
+const LONG_ENDS: Words = ((5, 5, None), Few::Two([0b00000, 0b11111]));
 
 /// The same words, with a distance that is smaller than theirs.
-const APART: Words = ((5, 3, None), &[0b00000, 0b11111]);
+const APART: Words = ((5, 3, None), Few::Two([0b00000, 0b11111]));
 
 /// Two words of length 4 and weight 2.
-const PAIRS: Words = ((4, 4, Some(2)), &[0b0011, 0b1100]);
+const PAIRS: Words = ((4, 4, Some(2)), Few::Two([0b0011, 0b1100]));
 
 /// One word of length 4 and weight 3.
-const ONES: Words = ((4, 4, Some(3)), &[0b0111]);
+const ONES: Words = ((4, 4, Some(3)), Few::One([0b0111]));
 
 /// One word of length 3 and weight 1.
-const ONE: Words = ((3, 4, Some(1)), &[0b010]);
+const ONE: Words = ((3, 4, Some(1)), Few::One([0b010]));
 
 /// Two words of length 6 and weight 3.
-const TRIPLES: Words = ((6, 6, Some(3)), &[0b000111, 0b111000]);
+const TRIPLES: Words = ((6, 6, Some(3)), Few::Two([0b000111, 0b111000]));
 
 /// A change, the part and the other code that it is given, the stated entry, and what is built: the words, or the reason against it.
-type Row = (
-    Change,
-    Words,
-    Option<Words>,
-    Place,
-    Result<&'static [Word], BuildFault>,
-);
+type Row = (Change, Words, Option<Words>, Place, Result<Few, BuildFault>);
 
 /// Longer codes, shorter ones, such of the same length, and codes of two parts, with and without a weight. A stated
 /// distance may be smaller than the one that the step gives, and a step that needs no other code takes one.
@@ -51,85 +47,91 @@ const BUILDS: [Row; 41] = [
         ENDS,
         None,
         (4, 3, None),
-        Ok(&[0b0000, 0b1110]),
+        Ok(Few::Two([0b0000, 0b1110])),
     ),
     (
         Change::Lengthen,
         PAIRS,
         None,
         (5, 4, Some(2)),
-        Ok(&[0b00110, 0b11000]),
+        Ok(Few::Two([0b00110, 0b11000])),
     ),
     (
         Change::AppendOne,
         PAIRS,
         None,
         (5, 4, Some(3)),
-        Ok(&[0b00111, 0b11001]),
+        Ok(Few::Two([0b00111, 0b11001])),
     ),
-    (Change::Parity, ONES, None, (5, 4, Some(4)), Ok(&[0b01111])),
+    (
+        Change::Parity,
+        ONES,
+        None,
+        (5, 4, Some(4)),
+        Ok(Few::One([0b01111])),
+    ),
     (
         Change::Parity,
         PAIRS,
         Some(ENDS),
         (5, 3, None),
-        Ok(&[0b00110, 0b11000]),
+        Ok(Few::Two([0b00110, 0b11000])),
     ),
     (
-        Change::Puncture(&[1, 4]),
+        Change::Puncture(Few::Two([1, 4])),
         LONG_ENDS,
         None,
         (3, 3, None),
-        Ok(&[0b000, 0b111]),
+        Ok(Few::Two([0b000, 0b111])),
     ),
     (
-        Change::Shorten(&[5], &[1]),
+        Change::Shorten(Few::One([5]), Few::One([1])),
         TRIPLES,
         None,
         (5, 6, Some(2)),
-        Ok(&[0b00011]),
+        Ok(Few::One([0b00011])),
     ),
     (
         Change::Translate(0b100000),
         TRIPLES,
         None,
         (6, 5, None),
-        Ok(&[0b011000, 0b100111]),
+        Ok(Few::Two([0b011000, 0b100111])),
     ),
     (
         Change::Complement,
         TRIPLES,
         None,
         (6, 4, Some(3)),
-        Ok(&[0b000111, 0b111000]),
+        Ok(Few::Two([0b000111, 0b111000])),
     ),
     (
         Change::Select(0b00011),
         LONG_ENDS,
         None,
         (5, 6, Some(3)),
-        Ok(&[0b11100]),
+        Ok(Few::One([0b11100])),
     ),
     (
         Change::Trim(1),
         TRIPLES,
         None,
         (6, 6, Some(3)),
-        Ok(&[0b000111]),
+        Ok(Few::One([0b000111])),
     ),
     (
         Change::Juxtapose,
         PAIRS,
         Some(ENDS),
         (7, 7, None),
-        Ok(&[0b0011000, 0b1100111]),
+        Ok(Few::Two([0b0011000, 0b1100111])),
     ),
     (
         Change::Juxtapose,
         PAIRS,
         Some(ONE),
         (7, 8, Some(3)),
-        Ok(&[0b0011010]),
+        Ok(Few::One([0b0011010])),
     ),
     (
         Change::Lengthen,
@@ -167,14 +169,14 @@ const BUILDS: [Row; 41] = [
         Err(BuildFault::WrongPart(0)),
     ),
     (
-        Change::Puncture(&[0]),
+        Change::Puncture(Few::One([0])),
         PAIRS,
         None,
         (4, 3, None),
         Err(BuildFault::WrongPart(0)),
     ),
     (
-        Change::Shorten(&[0], &[1]),
+        Change::Shorten(Few::One([0]), Few::One([1])),
         PAIRS,
         None,
         (3, 4, Some(2)),
@@ -265,14 +267,14 @@ const BUILDS: [Row; 41] = [
         Err(BuildFault::WrongPart(1)),
     ),
     (
-        Change::Puncture(&[0, 1, 2, 3]),
+        Change::Puncture(Few::Four([0, 1, 2, 3])),
         APART,
         None,
         (1, 3, None),
         Err(BuildFault::Short(0, 3)),
     ),
     (
-        Change::Puncture(&[0, 1]),
+        Change::Puncture(Few::Two([0, 1])),
         APART,
         None,
         (3, 3, None),
@@ -350,41 +352,35 @@ fn builds_of_few_words(rt: HostRuntime) -> Result<(), Fail> {
 }
 
 /// The sums of the words of even weight with two words.
-const SUMS: Words = (
-    (6, 3, None),
-    &[
-        0b000000, 0b000111, 0b011011, 0b011100, 0b101010, 0b101101, 0b110001, 0b110110,
-    ],
-);
+const SUMS: [Word; 8] = [
+    0b000000, 0b000111, 0b011011, 0b011100, 0b101010, 0b101101, 0b110001, 0b110110,
+];
 
-/// The words of even weight, and their sums with two words.
 #[test]
 fn built_of_even_words(rt: HostRuntime) -> Result<(), Fail> {
     let alloc = rt.alloc();
     let even = even_code(&rt, alloc, 3)?;
     let ends = code_of(&rt, alloc, ENDS)?;
-    let code = build(
-        &rt,
-        alloc,
-        Change::Uuv,
-        entry_of(SUMS.0),
-        &even,
-        Some(&ends),
-    )??;
-    assert!(rt; shows(&code, SUMS));
+    let place = (6, 3, None);
+    let code = build(&rt, alloc, Change::Uuv, entry_of(place), &even, Some(&ends))??;
+    assert!(rt; shows(&code, place, &SUMS));
     Ok(())
 }
-
-/// A word of length 14 with itself.
-const TWICE: Words = ((28, 28, None), &[5 * 16384 + 5]);
 
 /// The greatest distances of both parts add up to more than a code may have.
 #[test]
 fn great_distances(rt: HostRuntime) -> Result<(), Fail> {
     let alloc = rt.alloc();
     let far = Code::from_sorted(14, 60, None, [5].to_vec(alloc)?);
-    let stated = entry_of(TWICE.0);
-    let code = build(&rt, alloc, Change::Juxtapose, stated, &far, Some(&far))??;
-    assert!(rt; shows(&code, TWICE));
+    let place = (28, 28, None);
+    let code = build(
+        &rt,
+        alloc,
+        Change::Juxtapose,
+        entry_of(place),
+        &far,
+        Some(&far),
+    )??;
+    assert!(rt; shows(&code, place, &[5 * 16384 + 5]));
     Ok(())
 }

@@ -1,6 +1,6 @@
 //! Constructions whose words are known, against the sets written out.
 
-use crate::parts::{Words, answers, code_of, even_code, shows};
+use crate::parts::{Few, Place, Words, answers, code_of, even_code, shows};
 use crate::steps::{are_binary, are_places, has_length};
 use ct_build::{
     BuildFault, append_one, complement, juxtapose, lengthen, parity, puncture, select_weight,
@@ -13,19 +13,28 @@ use std::process::Abort;
 use std::test::Fail;
 
 /// Four words of length 6, each digit of two three times over, in no order.
-const THRICE: Words = ((6, 3, None), &[0b111000, 0b000000, 0b111111, 0b000111]);
+const THRICE: Words = (
+    (6, 3, None),
+    Few::Four([0b111000, 0b000000, 0b111111, 0b000111]),
+);
 
 /// The four words of length 6 and weight 3 whose places of ones add up to a multiple of 6.
-const SUMS: Words = ((6, 4, Some(3)), &[0b000111, 0b011100, 0b101010, 0b110001]);
+const SUMS: Words = (
+    (6, 4, Some(3)),
+    Few::Four([0b000111, 0b011100, 0b101010, 0b110001]),
+);
 
 /// Two words of length 4 and weight 2.
-const PAIRS: Words = ((4, 4, Some(2)), &[0b0011, 0b1100]);
+const PAIRS: Words = ((4, 4, Some(2)), Few::Two([0b0011, 0b1100]));
 
 /// Two words of length 5 and weight 2.
-const TWO: Words = ((5, 4, Some(2)), &[0b00011, 0b01100]);
+const TWO: Words = ((5, 4, Some(2)), Few::Two([0b00011, 0b01100]));
 
 /// Four words of even weight and length 7.
-const EVEN: Words = ((7, 4, None), &[0b0000000, 0b0001111, 0b1110001, 0b1111110]);
+const EVEN: Words = (
+    (7, 4, None),
+    Few::Four([0b0000000, 0b0001111, 0b1110001, 0b1111110]),
+);
 
 /// Each two of four words, one after the other.
 const PAIRS_OF_THRICE: [Word; 16] = [
@@ -47,11 +56,6 @@ const PAIRS_OF_THRICE: [Word; 16] = [
     0b111111_111111,
 ];
 
-/// The first 25 places of a word.
-const MANY_PLACES: [u32; 25] = [
-    0, 1, 2, 3, 4, 5, 6, 7, 8, 9, 10, 11, 12, 13, 14, 15, 16, 17, 18, 19, 20, 21, 22, 23, 24,
-];
-
 /// All places of a word of the greatest length but the last.
 const MOST_PLACES: [u32; 27] = [
     0, 1, 2, 3, 4, 5, 6, 7, 8, 9, 10, 11, 12, 13, 14, 15, 16, 17, 18, 19, 20, 21, 22, 23, 24, 25,
@@ -59,10 +63,10 @@ const MOST_PLACES: [u32; 27] = [
 ];
 
 /// The least and the greatest word of the greatest length.
-const ENDS: Words = ((28, 28, None), &[0, 0xfff_ffff]);
+const ENDS: Words = ((28, 28, None), Few::Two([0, 0xfff_ffff]));
 
 /// Two words that differ at each place, of the greatest length.
-const OPPOSITE: Words = ((28, 28, None), &[0x000_0003, 0xfff_fffc]);
+const OPPOSITE: Words = ((28, 28, None), Few::Two([0x000_0003, 0xfff_fffc]));
 
 /// A construction of one code.
 #[derive(Clone, Copy)]
@@ -70,8 +74,10 @@ enum OfOne {
     Lengthen,
     AppendOne,
     Parity,
-    Puncture(&'static [u32]),
-    Shorten(&'static [u32], &'static [u32]),
+    Puncture(Few),
+    /// Without so many of the first places.
+    PunctureFirst(usize),
+    Shorten(Few, Few),
     Translate(Word),
     Complement,
     /// The sums with the word that have the weight.
@@ -93,158 +99,179 @@ const MADE_OF_ONE: [(OfOne, Words, Result<Words, BuildFault>); 31] = [
     (
         OfOne::Lengthen,
         THRICE,
-        Ok(((7, 3, None), &[0b0000000, 0b0001110, 0b1110000, 0b1111110])),
+        Ok((
+            (7, 3, None),
+            Few::Four([0b0000000, 0b0001110, 0b1110000, 0b1111110]),
+        )),
     ),
     (
         OfOne::Lengthen,
         SUMS,
         Ok((
             (7, 4, Some(3)),
-            &[0b0001110, 0b0111000, 0b1010100, 0b1100010],
+            Few::Four([0b0001110, 0b0111000, 0b1010100, 0b1100010]),
         )),
     ),
     (
         OfOne::AppendOne,
         THRICE,
-        Ok(((7, 3, None), &[0b0000001, 0b0001111, 0b1110001, 0b1111111])),
+        Ok((
+            (7, 3, None),
+            Few::Four([0b0000001, 0b0001111, 0b1110001, 0b1111111]),
+        )),
     ),
     (
         OfOne::AppendOne,
         SUMS,
         Ok((
             (7, 4, Some(4)),
-            &[0b0001111, 0b0111001, 0b1010101, 0b1100011],
+            Few::Four([0b0001111, 0b0111001, 0b1010101, 0b1100011]),
         )),
     ),
     (
         OfOne::Parity,
         THRICE,
-        Ok(((7, 4, None), &[0b0000000, 0b0001111, 0b1110001, 0b1111110])),
+        Ok((
+            (7, 4, None),
+            Few::Four([0b0000000, 0b0001111, 0b1110001, 0b1111110]),
+        )),
     ),
     (
         OfOne::Parity,
         SUMS,
         Ok((
             (7, 4, Some(4)),
-            &[0b0001111, 0b0111001, 0b1010101, 0b1100011],
+            Few::Four([0b0001111, 0b0111001, 0b1010101, 0b1100011]),
         )),
     ),
     (
         OfOne::Parity,
         TWO,
-        Ok(((6, 4, Some(2)), &[0b000110, 0b011000])),
+        Ok(((6, 4, Some(2)), Few::Two([0b000110, 0b011000]))),
     ),
     (
         OfOne::Parity,
-        ((27, 27, None), &[0x7fffffe, 0x0000001]),
+        ((27, 27, None), Few::Two([0x7fffffe, 0x0000001])),
         Ok(OPPOSITE),
     ),
     (
         OfOne::Translate(0b100000),
         THRICE,
-        Ok(((6, 3, None), &[0b011000, 0b011111, 0b100000, 0b100111])),
+        Ok((
+            (6, 3, None),
+            Few::Four([0b011000, 0b011111, 0b100000, 0b100111]),
+        )),
     ),
     (
         OfOne::Translate(0b000111),
         SUMS,
-        Ok(((6, 4, None), &[0b000000, 0b011011, 0b101101, 0b110110])),
+        Ok((
+            (6, 4, None),
+            Few::Four([0b000000, 0b011011, 0b101101, 0b110110]),
+        )),
     ),
     (OfOne::Translate(0xfffffff), OPPOSITE, Ok(OPPOSITE)),
     (
         OfOne::Complement,
         THRICE,
-        Ok(((6, 3, None), &[0b000000, 0b000111, 0b111000, 0b111111])),
+        Ok((
+            (6, 3, None),
+            Few::Four([0b000000, 0b000111, 0b111000, 0b111111]),
+        )),
     ),
     (
         OfOne::Complement,
         TWO,
-        Ok(((5, 4, Some(3)), &[0b10011, 0b11100])),
+        Ok(((5, 4, Some(3)), Few::Two([0b10011, 0b11100]))),
     ),
     (OfOne::Complement, OPPOSITE, Ok(OPPOSITE)),
     (
         OfOne::Select(0b000000, 3),
         THRICE,
-        Ok(((6, 4, Some(3)), &[0b000111, 0b111000])),
+        Ok(((6, 4, Some(3)), Few::Two([0b000111, 0b111000]))),
     ),
     (
         OfOne::Select(0b000111, 4),
         SUMS,
-        Ok(((6, 4, Some(4)), &[0b011011, 0b101101, 0b110110])),
+        Ok(((6, 4, Some(4)), Few::Three([0b011011, 0b101101, 0b110110]))),
     ),
     (
         OfOne::Select(0b000111, 0),
         SUMS,
-        Ok(((6, 4, Some(0)), &[0b000000])),
+        Ok(((6, 4, Some(0)), Few::One([0b000000]))),
     ),
     (OfOne::Select(0b000111, 2), SUMS, Err(BuildFault::Empty)),
     (
         OfOne::Trim(3),
         THRICE,
-        Ok(((6, 3, None), &[0b000000, 0b000111, 0b111000])),
+        Ok(((6, 3, None), Few::Three([0b000000, 0b000111, 0b111000]))),
     ),
-    (OfOne::Trim(1), SUMS, Ok(((6, 4, Some(3)), &[0b000111]))),
+    (
+        OfOne::Trim(1),
+        SUMS,
+        Ok(((6, 4, Some(3)), Few::One([0b000111]))),
+    ),
     (OfOne::Trim(4), SUMS, Ok(SUMS)),
     (OfOne::Trim(5), SUMS, Err(BuildFault::Few(4, 5))),
     (
-        OfOne::Puncture(&[0]),
+        OfOne::Puncture(Few::One([0])),
         EVEN,
-        Ok(((6, 3, None), &[0b000000, 0b001111, 0b110001, 0b111110])),
+        Ok((
+            (6, 3, None),
+            Few::Four([0b000000, 0b001111, 0b110001, 0b111110]),
+        )),
     ),
     (
-        OfOne::Puncture(&[1, 6]),
+        OfOne::Puncture(Few::Two([1, 6])),
         EVEN,
-        Ok(((5, 2, None), &[0b00000, 0b00111, 0b11000, 0b11111])),
+        Ok((
+            (5, 2, None),
+            Few::Four([0b00000, 0b00111, 0b11000, 0b11111]),
+        )),
     ),
-    (OfOne::Puncture(&[]), EVEN, Ok(EVEN)),
+    (OfOne::PunctureFirst(0), EVEN, Ok(EVEN)),
     (
-        OfOne::Puncture(&MANY_PLACES),
+        OfOne::PunctureFirst(25),
         ENDS,
-        Ok(((3, 3, None), &[0b000, 0b111])),
+        Ok(((3, 3, None), Few::Two([0b000, 0b111]))),
     ),
     (
-        OfOne::Puncture(&MOST_PLACES),
+        OfOne::PunctureFirst(27),
         ENDS,
-        Ok(((1, 1, None), &[0, 1])),
+        Ok(((1, 1, None), Few::Two([0, 1]))),
     ),
     (
-        OfOne::Shorten(&[0], &[1]),
+        OfOne::Shorten(Few::One([0]), Few::One([1])),
         THRICE,
-        Ok(((5, 3, None), &[0b11000, 0b11111])),
+        Ok(((5, 3, None), Few::Two([0b11000, 0b11111]))),
     ),
     (
-        OfOne::Shorten(&[0, 1], &[0, 1]),
+        OfOne::Shorten(Few::Two([0, 1]), Few::Two([0, 1])),
         THRICE,
         Err(BuildFault::Empty),
     ),
     (
-        OfOne::Shorten(&[0, 5], &[1, 0]),
+        OfOne::Shorten(Few::Two([0, 5]), Few::Two([1, 0])),
         SUMS,
-        Ok(((4, 4, Some(2)), &[0b0101])),
+        Ok(((4, 4, Some(2)), Few::One([0b0101]))),
     ),
     (
-        OfOne::Shorten(&[3], &[0]),
+        OfOne::Shorten(Few::One([3]), Few::One([0])),
         SUMS,
-        Ok(((5, 4, Some(3)), &[0b10110, 0b11001])),
+        Ok(((5, 4, Some(3)), Few::Two([0b10110, 0b11001]))),
     ),
 ];
 
-/// What two codes make. Four words with themselves: the words of each two of them, as their sums are words again; two codes of two words, of
-/// which the words u followed by v would be others. Side by side: four words with themselves, and codes of different sizes, two of constant
+/// What two codes make. Two codes of two words, of which the words u followed by v would be others. Side by side: four words with themselves, and codes of different sizes, two of constant
 /// weight, and one of constant weight with one without.
-const MADE_OF_TWO: [(OfTwo, Words, Words, Words); 5] = [
+const MADE_OF_TWO: [(OfTwo, Words, Words, Words); 4] = [
     (
         OfTwo::Uuv,
-        THRICE,
-        THRICE,
-        ((12, 3, None), &PAIRS_OF_THRICE),
-    ),
-    (
-        OfTwo::Uuv,
-        ((4, 4, None), &[0b0000, 0b1111]),
-        ((4, 3, None), &[0b0000, 0b0111]),
+        ((4, 4, None), Few::Two([0b0000, 0b1111])),
+        ((4, 3, None), Few::Two([0b0000, 0b0111])),
         (
             (8, 3, None),
-            &[0b00000000, 0b00000111, 0b11111000, 0b11111111],
+            Few::Four([0b00000000, 0b00000111, 0b11111000, 0b11111111]),
         ),
     ),
     (
@@ -253,25 +280,25 @@ const MADE_OF_TWO: [(OfTwo, Words, Words, Words); 5] = [
         THRICE,
         (
             (12, 6, None),
-            &[
+            Few::Four([
                 0b000000000000,
                 0b000111000111,
                 0b111000111000,
                 0b111111111111,
-            ],
+            ]),
         ),
     ),
     (
         OfTwo::Juxtapose,
         SUMS,
         PAIRS,
-        ((10, 8, Some(5)), &[0b0001110011, 0b0111001100]),
+        ((10, 8, Some(5)), Few::Two([0b0001110011, 0b0111001100])),
     ),
     (
         OfTwo::Juxtapose,
         PAIRS,
         THRICE,
-        ((10, 7, None), &[0b0011000000, 0b1100000111]),
+        ((10, 7, None), Few::Two([0b0011000000, 0b1100000111])),
     ),
 ];
 
@@ -290,7 +317,12 @@ fn made_longer(
     }
 }
 
-/// The words without the places, each digit there the same.
+/// So many of the first places, but not the last of the greatest length.
+fn first_places(count: usize) -> &'static [u32] {
+    &MOST_PLACES[..count.min(MOST_PLACES.len())]
+}
+
+/// The words without the places.
 fn punctured(
     rt: &impl Abort,
     alloc: Global,
@@ -350,8 +382,11 @@ fn made_of_one(
         OfOne::Lengthen | OfOne::AppendOne | OfOne::Parity => {
             Ok(made_longer(rt, alloc, construction, part)?)
         }
-        OfOne::Puncture(places) => Ok(punctured(rt, alloc, part, places)?),
-        OfOne::Shorten(places, digits) => shortened(rt, alloc, part, places, digits),
+        OfOne::Puncture(places) => Ok(punctured(rt, alloc, part, places.as_slice())?),
+        OfOne::PunctureFirst(count) => Ok(punctured(rt, alloc, part, first_places(count))?),
+        OfOne::Shorten(places, digits) => {
+            shortened(rt, alloc, part, places.as_slice(), digits.as_slice())
+        }
         OfOne::Translate(by) => Ok(translated(rt, alloc, part, by)?),
         OfOne::Complement => Ok(complement(alloc, part)?),
         OfOne::Select(by, w) => selected(rt, alloc, part, by, w),
@@ -414,10 +449,8 @@ fn is_made_of_two(
 ) -> Result<bool, Fail> {
     let part = code_of(rt, alloc, part)?;
     let other = code_of(rt, alloc, other)?;
-    Ok(shows(
-        &made_of_two(rt, alloc, construction, &part, &other)?,
-        wanted,
-    ))
+    let made = made_of_two(rt, alloc, construction, &part, &other)?;
+    Ok(shows(&made, wanted.0, wanted.1.as_slice()))
 }
 
 #[test]
@@ -429,17 +462,25 @@ fn constructions_of_two_codes(rt: HostRuntime) -> Result<(), Fail> {
     Ok(())
 }
 
-/// Words of even weight.
-const EVEN_WORDS: [Words; 2] = [
-    ((1, 2, None), &[0]),
-    ((3, 2, None), &[0b000, 0b011, 0b101, 0b110]),
-];
+/// Four words with themselves: the words of each two of them, as their sums are words again.
+#[test]
+fn sums_of_four_words(rt: HostRuntime) -> Result<(), Fail> {
+    let alloc = rt.alloc();
+    let part = code_of(&rt, alloc, THRICE)?;
+    let made = made_of_two(&rt, alloc, OfTwo::Uuv, &part, &part)?;
+    assert!(rt; shows(&made, (12, 3, None), &PAIRS_OF_THRICE));
+    Ok(())
+}
+
+/// Whether these are the words of even weight, at distance 2.
+fn are_even_words(rt: &impl Abort, alloc: Global, n: u32, words: &[Word]) -> Result<bool, Fail> {
+    let place: Place = (n, 2, None);
+    Ok(shows(&even_code(rt, alloc, n)?, place, words))
+}
 
 #[test]
 fn words_of_even_weight(rt: HostRuntime) -> Result<(), Fail> {
-    for wanted in &EVEN_WORDS {
-        let code = even_code(&rt, rt.alloc(), wanted.0.0)?;
-        assert!(rt; shows(&code, *wanted));
-    }
+    assert!(rt; are_even_words(&rt, rt.alloc(), 1, &[0])?);
+    assert!(rt; are_even_words(&rt, rt.alloc(), 3, &[0b000, 0b011, 0b101, 0b110])?);
     Ok(())
 }

@@ -1,6 +1,6 @@
 //! Builds from well-known codes, and of as many words as the limit or more.
 
-use crate::parts::{Place, Words, code_of, entry_of, even_code, linear_code};
+use crate::parts::{Few, Place, Words, code_of, entry_of, even_code, linear_code};
 use crate::steps::{Change, build};
 use ct_build::BuildFault;
 use ct_codes::Code;
@@ -31,7 +31,7 @@ const CHECKS: [Word; 19] = [
 ];
 
 /// Two words of length 4.
-const ENDS: Words = ((4, 4, None), &[0b0000, 0b1111]);
+const ENDS: Words = ((4, 4, None), Few::Two([0b0000, 0b1111]));
 
 /// A change of one code, the stated entry, and the number of words that are built.
 type Built = (Change, Place, usize);
@@ -64,7 +64,11 @@ fn refuses(
 
 /// The code of Golay shortened, and its words of one weight.
 const OF_GOLAY: [Built; 2] = [
-    (Change::Shorten(&[0], &[0]), (23, 8, None), 2048),
+    (
+        Change::Shorten(Few::One([0]), Few::One([0])),
+        (23, 8, None),
+        2048,
+    ),
     (Change::Select(0), (24, 8, Some(8)), 759),
 ];
 
@@ -102,7 +106,7 @@ fn golay_code_trimmed(rt: HostRuntime) -> Result<(), Fail> {
     let alloc = rt.alloc();
     let golay = linear_code(&rt, alloc, 24, 8, &GOLAY)?;
     let place = (23, 8, None);
-    let shorter = Change::Shorten(&[0], &[0]);
+    let shorter = Change::Shorten(Few::One([0]), Few::One([0]));
     let half = build(&rt, alloc, shorter, entry_of(place), &golay, None)??;
     let many = (Change::Trim(2049), place, BuildFault::Few(2048, 2049));
     assert!(rt; refuses(&rt, alloc, many, &half, None)?);
@@ -114,8 +118,10 @@ fn golay_code_trimmed(rt: HostRuntime) -> Result<(), Fail> {
 /// The shortened Hamming code of length n: a word for each of the checks, below the highest places.
 fn hamming_code(rt: &impl Abort, alloc: Global, n: u32, checks: &[Word]) -> Result<Code, Fail> {
     let mut basis = Vec::new(alloc);
-    for (check, place) in checks.iter().zip((0..n).rev()) {
-        basis.push((1 << place) | *check)?;
+    let mut place: Word = 1u32.wrapping_shl(n.saturating_sub(1));
+    for check in checks {
+        basis.push(place | *check)?;
+        place /= 2;
     }
     linear_code(rt, alloc, n, 3, &basis)
 }
@@ -164,9 +170,13 @@ const OF_MOST: [Built; 6] = [
 
 /// Steps over that code with its parities.
 const OF_MOST_EVEN: [Built; 4] = [
-    (Change::Puncture(&[0]), (23, 3, None), 262_144),
-    (Change::Puncture(&[23]), (23, 3, None), 262_144),
-    (Change::Shorten(&[0], &[1]), (23, 4, None), 131_072),
+    (Change::Puncture(Few::One([0])), (23, 3, None), 262_144),
+    (Change::Puncture(Few::One([23])), (23, 3, None), 262_144),
+    (
+        Change::Shorten(Few::One([0]), Few::One([1])),
+        (23, 4, None),
+        131_072,
+    ),
     (Change::Select(0), (24, 4, Some(0)), 1),
 ];
 

@@ -13,8 +13,29 @@ use std::test::Fail;
 /// The length, the distance and the weight of an entry.
 pub(crate) type Place = (u32, u32, Option<u32>);
 
+/// Up to four numbers. They stand in a row of a table itself, for each reference from a row to others is dear to prove.
+#[derive(Clone, Copy)]
+pub(crate) enum Few {
+    One([u32; 1]),
+    Two([u32; 2]),
+    Three([u32; 3]),
+    Four([u32; 4]),
+}
+
+impl Few {
+    /// The numbers.
+    pub(crate) fn as_slice(&self) -> &[u32] {
+        match self {
+            Few::One(numbers) => numbers,
+            Few::Two(numbers) => numbers,
+            Few::Three(numbers) => numbers,
+            Few::Four(numbers) => numbers,
+        }
+    }
+}
+
 /// A code written out: its entry and its words.
-pub(crate) type Words = (Place, &'static [Word]);
+pub(crate) type Words = (Place, Few);
 
 /// The entry A(n,d), or A(n,d,w).
 pub(crate) fn entry_of((n, d, w): Place) -> Entry {
@@ -29,8 +50,9 @@ fn have_length(words: &[Word], n: u32) -> bool
 }
 
 /// The code of the words, which are checked.
-pub(crate) fn code_of(rt: &impl Abort, alloc: Global, (place, words): Words) -> Result<Code, Fail> {
+pub(crate) fn code_of(rt: &impl Abort, alloc: Global, (place, few): Words) -> Result<Code, Fail> {
     let entry = entry_of(place);
+    let words = few.as_slice();
     assert!(rt; entry.in_table());
     assert!(rt; have_length(words, entry.n));
     Ok(check_words(alloc, entry, words.to_vec(alloc)?)?)
@@ -70,14 +92,14 @@ pub(crate) fn linear_code(
 }
 
 /// Whether the code is just this one, whose words are written in ascending order.
-pub(crate) fn shows(code: &Code, (place, words): Words) -> bool {
+pub(crate) fn shows(code: &Code, place: Place, words: &[Word]) -> bool {
     (code.n(), code.d(), code.w()) == place && code.words() == words
 }
 
 /// Whether the answer is just this code, or this fault.
 pub(crate) fn answers(made: &Result<Code, BuildFault>, wanted: Result<Words, BuildFault>) -> bool {
     match (made, wanted) {
-        (Ok(code), Ok(wanted)) => shows(code, wanted),
+        (Ok(code), Ok((place, words))) => shows(code, place, words.as_slice()),
         (Err(fault), Err(wanted)) => *fault == wanted,
         _ => false,
     }

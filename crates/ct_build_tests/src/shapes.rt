@@ -3,7 +3,7 @@
 ghost use Rattle.std.specs.Option.{ForSome};
 ghost use Rattle.ct_build.specs.Build.{IsShape};
 
-use crate::parts::{Place, entry_of};
+use crate::parts::{Few, Place, entry_of};
 use crate::steps::{Change, fits, step_of};
 use ct_build::{BuildFault, Shape, early_fault, result_size};
 use std::alloc::Global;
@@ -46,8 +46,12 @@ const MOST: u64 = 262_144;
 /// Steps over one part of length 26 and just so many words as the limit, the stated entry, and how many words it is known that they make.
 const OF_ONE: [(Change, Place, Option<u64>); 5] = [
     (Change::Lengthen, (27, 4, None), Some(MOST)),
-    (Change::Puncture(&[0]), (25, 3, None), Some(MOST)),
-    (Change::Shorten(&[0], &[1]), (25, 4, None), None),
+    (Change::Puncture(Few::One([0])), (25, 3, None), Some(MOST)),
+    (
+        Change::Shorten(Few::One([0]), Few::One([1])),
+        (25, 4, None),
+        None,
+    ),
     (Change::Select(1), (26, 4, Some(13)), None),
     (Change::Trim(5), (26, 4, None), Some(5)),
 ];

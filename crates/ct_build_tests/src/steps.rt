@@ -6,6 +6,7 @@ ghost use Rattle.ct_codes.specs.declared.entry.Entry.{Entry};
 ghost use Rattle.ct_constructions.specs.Places.{ArePlaces};
 ghost use Rattle.ct_build.specs.Build.{FieldsFit, FitsStated};
 
+use crate::parts::Few;
 use ct_build::{BuildFault, MAX_BUILT, Numbers, Step, apply};
 use ct_codes::{Code, Entry};
 use ct_words::{MAX_N, Word};
@@ -13,14 +14,14 @@ use std::alloc::Global;
 use std::process::Abort;
 use std::test::Fail;
 
-/// What a step does, with its numbers in slices.
+/// What a step does, with its numbers.
 #[derive(Clone, Copy)]
 pub(crate) enum Change {
     Lengthen,
     AppendOne,
     Parity,
-    Puncture(&'static [u32]),
-    Shorten(&'static [u32], &'static [u32]),
+    Puncture(Few),
+    Shorten(Few, Few),
     Translate(Word),
     Complement,
     Select(Word),
@@ -35,10 +36,10 @@ pub(crate) fn step_of(alloc: Global, change: Change) -> Result<Step, Fail> {
         Change::Lengthen => Step::Lengthen,
         Change::AppendOne => Step::AppendOne,
         Change::Parity => Step::Parity,
-        Change::Puncture(places) => Step::Puncture(numbers(alloc, places)?),
+        Change::Puncture(places) => Step::Puncture(numbers(alloc, places.as_slice())?),
         Change::Shorten(places, digits) => {
-            let places = numbers(alloc, places)?;
-            Step::Shorten(places, numbers(alloc, digits)?)
+            let places = numbers(alloc, places.as_slice())?;
+            Step::Shorten(places, numbers(alloc, digits.as_slice())?)
         }
         Change::Translate(by) => Step::Translate(by),
         Change::Complement => Step::Complement,
