@@ -66,13 +66,9 @@ pub(crate) fn names(evidence: &Evidence, id: Id) -> bool
     ensures { result ≡ names evidence.now id }
 {
     match evidence {
-        Evidence::Words { .. }
-        | Evidence::Cosets { .. }
-        | Evidence::Partition { .. }
-        | Evidence::Dual(_)
-        | Evidence::JohnsonDual(_) => false,
         Evidence::Build { part, other, .. } => build_kind::names(*part, *other, id),
         Evidence::Product { pairs, .. } => product_kind::names(pairs.as_slice(), id),
+        _ => false,
     }
 }
 
@@ -208,12 +204,7 @@ pub(crate) fn partition_of<'a>(evidence: &'a Evidence) -> Option<StatedPartition
             between,
             classes,
         } => Some(StatedPartition::new(*entry, *between, classes.as_slice())),
-        Evidence::Words { .. }
-        | Evidence::Cosets { .. }
-        | Evidence::Build { .. }
-        | Evidence::Product { .. }
-        | Evidence::Dual(_)
-        | Evidence::JohnsonDual(_) => None,
+        _ => None,
     }
 }
 
