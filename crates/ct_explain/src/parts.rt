@@ -17,11 +17,7 @@ fn has_parts(evidence: &Evidence) -> bool
     match evidence {
         Evidence::Build { .. } => true,
         Evidence::Product { pairs, .. } => !pairs.as_slice().is_empty(),
-        Evidence::Words { .. }
-        | Evidence::Cosets { .. }
-        | Evidence::Partition { .. }
-        | Evidence::Dual(_)
-        | Evidence::JohnsonDual(_) => false,
+        _ => false,
     }
 }
 
