@@ -3,7 +3,7 @@
 ghost use Rattle.std.specs.Prelude.{◌≡◌};
 ghost use Rattle.ct_kind.specs.KindParts.{support_from};
 
-use ct_codes::{Code, Entry};
+use ct_codes::Entry;
 use ct_rule_parts::Support;
 
 /// What evidence comes to, whatever its kind.
@@ -17,15 +17,6 @@ pub struct Kind {
     pub is_stored: bool,
     /// Whether its kind has a code.
     pub has_code: bool,
-}
-
-/// What the check of evidence gives: the size of its piece, where it has one, and the code that is kept beside it.
-#[derive(Drop)]
-pub struct Checked {
-    /// The number of the words of its code, or of its classes.
-    pub size: Option<u32>,
-    /// The code, where its words are stored.
-    pub kept: Option<Code>,
 }
 
 /// The size of a code at an entry, where there is one, else nothing.

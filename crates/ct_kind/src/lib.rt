@@ -8,7 +8,7 @@ mod stated;
 mod text;
 
 pub use fault::SubmitFault;
-pub use kind::{Checked, Kind, support_from};
+pub use kind::{Kind, support_from};
 pub use parts::{Codes, Found, Partitions};
 pub use stated::StatedPartition;
 pub use text::put_numbered;
