@@ -1,10 +1,9 @@
 //! What one more text line makes of what was read.
 
-ghost use Rattle.std.specs.Prelude.{◌≡◌, ◌≢◌, ◌<◌, ◌^◌, [], ◌∷◌, ◌++◌, List, IfOk, IfSome, Some, None, Option, Result, length, map};
+ghost use Rattle.std.specs.Prelude.{◌≡◌, ◌≢◌, ◌<◌, ◌^◌, [], IfOk, IfSome, Some, None, Option, Result, length, map};
 ghost use Rattle.ct_text.specs.Line.{words_of};
 ghost use Rattle.ct_text.specs.Gathering.{gathered};
 ghost use Rattle.ct_rules.specs.Rule.{rule_side};
-ghost use Rattle.ct_pieces.specs.Piece.{PieceValue};
 ghost use Rattle.ct_pieces.specs.Submission.{submitted};
 ghost use Rattle.ct_verify.specs.Heading.{heading_of};
 ghost use Rattle.ct_verify.specs.StatedLine.{StatedLineValue, line_of};
