@@ -18,6 +18,7 @@ class Standing:
 
     def __init__(self) -> None:
         self.ids: list[str] = []
+        self.parts: dict[str, list[str]] = {}
 
     def fault(self, command: Command, reply: Lines) -> str | None:
         """Why a reply can't be that to a command here; None where it can."""
@@ -64,15 +65,31 @@ class Standing:
         if size is not None and told[2] != str(size):
             return f"the document has {size} words"
         self.ids.append(told[1])
+        self.parts[told[1]] = command.parts
         return None
 
     def withdraw(self, command: Command, reply: Lines) -> str | None:
         """Of a withdrawal."""
+        if command.words[2:] == ["all"]:
+            return self.withdraw_all(command, reply)
         if reply != [f"withdrawn {command.id}"]:
             return f"the command withdraws {command.id}"
         if command.id not in self.ids:
             return "no such piece stands"
         self.ids.remove(command.id)
+        return None
+
+    def withdraw_all(self, command: Command, reply: Lines) -> str | None:
+        """Of a withdrawal with all that rests on the piece."""
+        if command.id not in self.ids:
+            return "no such piece stands"
+        gone = [command.id]
+        for id in self.ids:
+            if any(part in gone for part in self.parts[id]):
+                gone.append(id)
+        if reply != [f"withdrawn {command.id} count {len(gone)}"]:
+            return f"the command takes {len(gone)} pieces out: {' '.join(gone)}"
+        self.ids = [id for id in self.ids if id not in gone]
         return None
 
     def show(self, command: Command, reply: Lines) -> str | None:

@@ -75,6 +75,8 @@ class Annotate(unittest.TestCase):
                 ("list 5 3\n", "code 5 3 size 1\n0000", 1, "1 words of length 5"), ("list 5 3\n", "code 6 3 size 1\n000000", 1, "a code of A(5,3)"),
                 ("list 5 3\n", "nothing", 1, "a code of A(5,3)"), ("list 5 3\n", "", 1, "a code of A(5,3)"),
                 ("withdraw a\n", "withdrawn b", 1, "withdraws a"), ("withdraw a\n", "withdrawn a", 1, "no such piece stands"),
+                (pair + "withdraw pair all\n", "accepted pair size 2\nwithdrawn pair", 2, "takes 1 pieces out"),
+                (pair + "withdraw pair all\n", "accepted pair size 2\nwithdrawn pair count 2", 2, "takes 1 pieces out"),
                 ("nonsense\n", "A(16,8) = 32", 1, "can only be refused"), ("show 16 6\n", "refused toml", 1, "only a submission")]:
             with self.subTest(session=session, replies=replies):
                 out, said, status = self.annotated(session, replies + "\n")
