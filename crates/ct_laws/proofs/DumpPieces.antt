@@ -27,7 +27,7 @@ use Rattle.ct_kind.specs.Named.{NamedCode}
 use Rattle.ct_pieces.specs.Piece.{PieceValue, has_id, first_user, stored_by}
 use Rattle.ct_pieces.specs.Codes.{codes_of}
 use Rattle.ct_pieces.specs.Submission.{piece_from, submitted, with_piece}
-use Rattle.ct_pieces.specs.Withdrawal.{without, withdrawn, unless_used, left_by}
+use Rattle.ct_pieces.specs.Withdrawal.{without, withdrawn, unless_used, taken_along, is_among, without_all, withdrawn_all, left_by}
 use Rattle.ct_pieces.specs.Standing.{AreStanding, IsMade}
 use Rattle.ct_pieces.specs.Dump.{piece_dump, dump_text}
 use Rattle.ct_kind.specs.declared.fault.SubmitFault.{SubmitFault}
@@ -187,11 +187,18 @@ withdrawn-short pieces id h =
     withdrawn-cases (has_id id pieces) (unless_used (first_user id pieces) (without id pieces)) withdraw.NoSuch pieces h
     (left_by-short (first_user id pieces) pieces (without id pieces) h (All-filter (λ (q : PieceValue). not (bytes_eq q.id id)) (λ (q : PieceValue). length q.document ≤ MAX_DOCUMENT) pieces h))
 
+withdrawn_all-short : (pieces : List PieceValue) (id : List ℕ) → AreShort pieces → AreShort (left_by pieces (withdrawn_all pieces id))
+unfolding withdrawn_all
+withdrawn_all-short pieces id h =
+    withdrawn-cases (has_id id pieces) (Ok (without_all (taken_along pieces id) pieces)) withdraw.NoSuch pieces h
+    (All-filter (λ (q : PieceValue). not (is_among (taken_along pieces id) q.id)) (λ (q : PieceValue). length q.document ≤ MAX_DOCUMENT) pieces h)
+
 -- so does each command
 pub pieces_after-short : (pieces : List PieceValue) (c : Command) → AreShort pieces → AreShort (pieces_after pieces c)
 pieces_after-short pieces (command.Submission None document) h = h
 pieces_after-short pieces (command.Submission (Some id) document) h = with_piece-short pieces id document (submitted pieces id document) refl h
 pieces_after-short pieces (command.Withdraw id) h = withdrawn-short pieces id h
+pieces_after-short pieces (command.WithdrawAll id) h = withdrawn_all-short pieces id h
 pieces_after-short pieces command.CutOff h = h
 pieces_after-short pieces (command.Show numbers) h = h
 pieces_after-short pieces (command.Table numbers) h = h

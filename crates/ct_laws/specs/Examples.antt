@@ -41,3 +41,7 @@ heavier_word = codes "submit a\nkind = 'words'\nn = 6\nd = 4\nw = 3\nwords = ['0
 -- four words of length 6 and weight 3, each two at distance 4
 abbrev pub four_triples : List ℕ
 four_triples = codes "submit a\nkind = 'words'\nn = 6\nd = 4\nw = 3\nwords = ['000111', '011100', '101010', '110001']\nend\n"
+
+-- a code of two words, and the one that is made of it with a 0 at the end of each word; the first is withdrawn with all that rests on it
+abbrev pub withdrawn_with_all : List ℕ
+withdrawn_with_all = codes "submit a\nkind = 'words'\nn = 3\nd = 3\nwords = ['000', '111']\nend\nsubmit b\nkind = 'build'\nop = 'lengthen'\nn = 4\nd = 3\npart = 'a'\nend\nwithdraw a all\nledger\n"

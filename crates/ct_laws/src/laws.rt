@@ -16,9 +16,9 @@ ghost use Rattle.ct_pieces.specs.Supports.{supports_of};
 ghost use Rattle.ct_session.specs.Reply.{column};
 ghost use Rattle.ct_session.specs.Run.{IsRun, pieces_of};
 ghost use Rattle.ct_session.specs.Text.{reply_text};
-ghost use Rattle.ct_session.specs.declared.reply.Reply.TheVariants.{Shown, Table, Refused};
+ghost use Rattle.ct_session.specs.declared.reply.Reply.TheVariants.{Withdrawn, WithdrawnAll, Shown, Table, Refused};
 ghost use Rattle.ct_session.specs.declared.reply.Refusal.TheVariants as refusal;
-ghost use Rattle.ct_laws.specs.Examples.{six_words, close_words, repeated_words, no_words, linear_code, close_choices, heavier_word, four_triples};
+ghost use Rattle.ct_laws.specs.Examples.{six_words, close_words, repeated_words, no_words, linear_code, close_choices, heavier_word, four_triples, withdrawn_with_all};
 
 /// Inputs whose run is known: the empty one, entries of the table and others outside it, with weight and without, a column, columns
 /// that have no entry, bounds that are explained, one of them in two ways, a code that is listed, a submission that is cut off, and the lists of no pieces.
@@ -46,10 +46,12 @@ pub fn known_runs()
     ensures ledger { IsRun (codes "ledger\n") (codes "pieces 0\n") false }
     ensures dump { IsRun (codes "dump\n") (codes "# dump of 0 pieces\n") false }
     ensures withdraw { IsRun (codes "withdraw hexa\n") (codes "refused nosuch hexa\n") true }
+    ensures withdraw_all { IsRun (codes "withdraw hexa all\n") (codes "refused nosuch hexa\n") true }
 {}
 
 /// Sessions with a submission whose run is known: six words that are a code, and words that are too close, repeated and none; a linear
-/// code by its basis, and a basis whose words are heavy enough but not their sum; a word of another weight than is stated.
+/// code by its basis, and a basis whose words are heavy enough but not their sum; a word of another weight than is stated; a code that is
+/// withdrawn with the one that is made of it.
 pub fn known_submissions()
     ensures accepted { IsRun six_words (codes "accepted hexa size 6\nA(10,6) = 6\n") false }
     ensures close { IsRun close_words (codes "refused close 0 1 5\n") true }
@@ -58,6 +60,7 @@ pub fn known_submissions()
     ensures linear { IsRun linear_code (codes "accepted linear size 8\nA(6,3) = 8\n") false }
     ensures choices { IsRun close_choices (codes "refused close 0 3 2\n") true }
     ensures weight { IsRun heavier_word (codes "refused weight 2\n") true }
+    ensures with_all { IsRun withdrawn_with_all (codes "accepted a size 2\naccepted b size 2\nwithdrawn a count 2\npieces 0\n") false }
 {}
 
 /// A piece of four words of weight 3 supports the entry of this weight.
@@ -104,6 +107,8 @@ pub fn known_texts()
     ensures table { reply_text (Table (record { entry = unrestricted 27 28; lower = 1; upper = 1 }
         ∷ record { entry = unrestricted 28 3; lower = 8388608; upper = 9256395 } ∷ []))
         ≡ codes "A(27,28) = 1\n8388608 <= A(28,3) <= 9256395\n" }
+    ensures withdrawn { reply_text (Withdrawn (codes "golay")) ≡ codes "withdrawn golay\n" }
+    ensures withdrawn_all { reply_text (WithdrawnAll (codes "golay") 2) ≡ codes "withdrawn golay count 2\n" }
     ensures cut { reply_text (Refused refusal.CutOff) ≡ codes "refused cut\n" }
     ensures command { reply_text (Refused refusal.NoCommand) ≡ codes "refused command\n" }
     ensures entry { reply_text (Refused refusal.NoEntry) ≡ codes "refused entry\n" }

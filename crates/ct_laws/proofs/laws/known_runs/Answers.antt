@@ -9,7 +9,7 @@ use Rattle.ct_codes.specs.Entry.{unrestricted, constant_weight}
 use Rattle.ct_counting.proofs.Binomials.{choose_all}
 use Rattle.ct_commands.specs.Form.{form_of}
 use Rattle.ct_pieces.specs.Dump.{dump_text}
-use Rattle.ct_pieces.specs.Withdrawal.{withdrawn}
+use Rattle.ct_pieces.specs.Withdrawal.{withdrawn, withdrawn_all}
 use Rattle.ct_pieces.specs.declared.fault.WithdrawFault.TheVariants as withdraw
 use Rattle.ct_rules.specs.declared.rule.Rule.TheVariants.{M1, V0, V1}
 use Rattle.ct_rules.specs.Rule.{row_of}
@@ -132,6 +132,10 @@ returns-clause-ledger c = record { replies = Lines (ledger_text []) ∷ []; are 
 pub returns-clause-dump : goal.returns-clause-dump
 unfolding form_of words_of number_of reply_text digits withdrawn
 returns-clause-dump c = record { replies = Lines (dump_text []) ∷ []; are = (refl, tt); texts = refl; mark = refl }
+
+pub returns-clause-withdraw_all : goal.returns-clause-withdraw_all
+unfolding form_of words_of number_of reply_text digits withdrawn_all
+returns-clause-withdraw_all c = record { replies = Refused (refusal.Withdrawal (codes "hexa") withdraw.NoSuch) ∷ []; are = (refl, tt); texts = refl; mark = refl }
 
 pub returns-clause-withdraw : goal.returns-clause-withdraw
 unfolding form_of words_of number_of reply_text digits withdrawn

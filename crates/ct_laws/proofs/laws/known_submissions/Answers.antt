@@ -18,8 +18,11 @@ use Rattle.ct_commands.specs.Form.{form_of}
 use Rattle.ct_pieces.specs.Piece.{PieceValue}
 use Rattle.ct_pieces.specs.Submission.{submitted}
 use Rattle.ct_kind.specs.declared.fault.SubmitFault.TheVariants as submit
-use Rattle.ct_session.specs.Text.{reply_text}
-use Rattle.ct_session.specs.declared.reply.Reply.TheVariants.{Accepted, Shown, Refused}
+use Rattle.ct_session.specs.Text.{reply_text, ledger_text}
+use Rattle.ct_pieces.specs.Withdrawal.{withdrawn_all}
+use Rattle.ct_kind.specs.Ascending.{ascending}
+use Rattle.ct_build.specs.Build.{build_fault, early_fault, few_fault, sizes_fault, result_size, built, step_distance, other_of, is_right_other, is_right_weight, gives_weight, is_right_length}
+use Rattle.ct_session.specs.declared.reply.Reply.TheVariants.{Accepted, WithdrawnAll, Shown, Lines, Refused}
 use Rattle.ct_session.specs.declared.reply.Refusal.TheVariants as refusal
 use Rattle.ct_rules.specs.declared.rule.Rule.TheVariants.{L10, U2}
 use Rattle.ct_rule_parts.specs.declared.support.Support.{Support}
@@ -119,6 +122,15 @@ unfolding form_of words_of number_of reply_text digits submitted coset_fault cos
 returns-clause-linear c = record {
   replies = Accepted (codes "linear") (Some 8) ∷ Shown (record { entry = short_entry; lower = 8; upper = 8 }) ∷ [];
   are = (refl, (record { bounds = record { entry = short_entry; lower = 8; upper = 8 }; of_entry = eight_at_six; shown = refl }, tt));
+  texts = refl;
+  mark = refl;
+}
+
+pub returns-clause-with_all : goal.returns-clause-with_all
+unfolding form_of words_of number_of reply_text digits submitted code_fault distance evidence_on_literals withdrawn_all build_fault early_fault few_fault sizes_fault result_size built step_distance other_of is_right_other is_right_weight gives_weight is_right_length ascending
+returns-clause-with_all c = record {
+  replies = Accepted (codes "a") (Some 2) ∷ Accepted (codes "b") (Some 2) ∷ WithdrawnAll (codes "a") 2 ∷ Lines (ledger_text []) ∷ [];
+  are = (refl, (refl, (refl, (refl, tt))));
   texts = refl;
   mark = refl;
 }

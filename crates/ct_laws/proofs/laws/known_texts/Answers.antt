@@ -15,6 +15,14 @@ pub returns-clause-table : goal.returns-clause-table
 unfolding reply_text digits
 returns-clause-table c = refl
 
+pub returns-clause-withdrawn : goal.returns-clause-withdrawn
+unfolding reply_text digits
+returns-clause-withdrawn c = refl
+
+pub returns-clause-withdrawn_all : goal.returns-clause-withdrawn_all
+unfolding reply_text digits
+returns-clause-withdrawn_all c = refl
+
 pub returns-clause-cut : goal.returns-clause-cut
 unfolding reply_text digits
 returns-clause-cut c = refl
