@@ -38,14 +38,14 @@ fn counts(rt: HostRuntime) {
     }
 }
 
-// The table of A(n,d) of Brouwer, and by hand; (28,28) has two words, all zeros and all ones.
+// The table of A(n,d) of Brouwer, and by hand; (30,30) has two words, all zeros and all ones.
 #[test]
 fn bounds(rt: HostRuntime) {
     for (n, d, want) in [
-        (1, 28, Some(1)),
+        (1, 30, Some(1)),
         (2, 3, Some(1)),
-        (27, 28, Some(1)),
-        (28, 28, None),
+        (29, 30, Some(1)),
+        (30, 30, None),
         (3, 3, None),
     ] {
         assert!(rt; Entry { n, d, w: None }.in_table());
@@ -57,7 +57,7 @@ fn bounds(rt: HostRuntime) {
         (11, 6, Some(12)),
         (12, 6, Some(24)),
         (16, 8, Some(32)),
-        (28, 28, Some(2)),
+        (30, 30, Some(2)),
         (9, 5, Some(6)),
         (11, 5, Some(24)),
         (15, 7, Some(32)),
@@ -78,9 +78,9 @@ fn bounds(rt: HostRuntime) {
         (23, 7, 4096),
         (24, 8, 7216),
         (28, 3, 9256395),
-        (28, 28, 2),
+        (30, 30, 2),
         (1, 3, 1),
-        (5, 28, 1),
+        (5, 30, 1),
     ] {
         assert!(rt; Entry { n, d, w: None }.in_table());
         assert!(rt; hamming(n, d) == want, "hamming at ({n},{d})");

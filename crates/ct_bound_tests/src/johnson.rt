@@ -20,12 +20,12 @@ fn words_with_a_one(rt: HostRuntime) {
         (24, 8, 253, 759),
         (2, 1, 1, 2),
         (2, 2, 1, 1),
-        (28, 28, MAX_BOUND, MAX_BOUND),
-        (28, 27, 258848476, 268435456),
-        (28, 27, 258848475, 268435455),
-        (28, 1, 9586980, 268435440),
-        (28, 1, 9586981, MAX_BOUND),
-        (28, 1, MAX_BOUND, MAX_BOUND),
+        (30, 30, MAX_BOUND, MAX_BOUND),
+        (30, 29, 1037950430, MAX_BOUND),
+        (30, 29, 1037950429, 1073741823),
+        (30, 1, 35791394, 1073741820),
+        (30, 1, 35791395, MAX_BOUND),
+        (30, 1, MAX_BOUND, MAX_BOUND),
     ] {
         assert!(rt; 2 <= n && n <= MAX_N && 1 <= w && w <= n && 1 <= u && u <= MAX_BOUND);
         assert!(rt; drop_one(n, w, u) == want, "at ({n},{w}) from {u}");
@@ -44,11 +44,11 @@ fn words_with_a_zero(rt: HostRuntime) {
         (24, 16, 253, 759),
         (2, 0, 1, 1),
         (2, 1, 1, 2),
-        (28, 0, MAX_BOUND, MAX_BOUND),
-        (28, 1, 258848475, 268435455),
-        (28, 27, 9586980, 268435440),
-        (28, 27, 9586981, MAX_BOUND),
-        (28, 27, MAX_BOUND, MAX_BOUND),
+        (30, 0, MAX_BOUND, MAX_BOUND),
+        (30, 1, 1037950429, 1073741823),
+        (30, 29, 35791394, 1073741820),
+        (30, 29, 35791395, MAX_BOUND),
+        (30, 29, MAX_BOUND, MAX_BOUND),
     ] {
         assert!(rt; 2 <= n && n <= MAX_N && w < n && 1 <= u && u <= MAX_BOUND);
         assert!(rt; drop_zero(n, w, u) == want, "at ({n},{w}) from {u}");
@@ -62,8 +62,8 @@ fn both_halves(rt: HostRuntime) {
         (7, 7, 14),
         (3, 4, 7),
         (1, 1, 2),
-        (268435455, 1, MAX_BOUND),
-        (268435454, 1, 268435455),
+        (1073741823, 1, MAX_BOUND),
+        (1073741822, 1, 1073741823),
         (MAX_BOUND, 1, MAX_BOUND),
         (MAX_BOUND, MAX_BOUND, MAX_BOUND),
     ] {
@@ -73,7 +73,7 @@ fn both_halves(rt: HostRuntime) {
 }
 
 // A(7,4,3) = 7, A(8,6,4) = 2, A(9,6,4) = 3, A(10,6,4) = 5, A(11,6,4) = 6, A(12,6,4) = 9, each by hand; A(28,14,13) is
-// at most 196.
+// at most 196, and A(30,14,11) at most 210.
 #[test]
 fn pairs_in_columns(rt: HostRuntime) {
     for (n, d, w, want) in [
@@ -84,8 +84,10 @@ fn pairs_in_columns(rt: HostRuntime) {
         (11, 6, 4, Some(7)),
         (12, 6, 4, Some(10)),
         (28, 14, 13, Some(197)),
+        (30, 14, 11, Some(211)),
+        (30, 14, 19, Some(211)),
         (28, 28, 14, Some(3)),
-        (28, 28, 28, Some(2)),
+        (30, 30, 30, Some(2)),
         (8, 4, 4, None),
         (10, 6, 2, None),
         (4, 4, 0, None),
@@ -97,23 +99,23 @@ fn pairs_in_columns(rt: HostRuntime) {
     }
 }
 
-// The greatest least number of words that is too many, over all entries with weight: 197, at (28,14,13), and at its complement.
+// The greatest least number of words that is too many, over all entries with weight: 211, at (30,14,11), and at its complement.
 // A plain program that counts up to 5,000 finds the same.
 #[test]
 fn greatest_count(rt: HostRuntime) {
     let mut greatest = 0;
     for n in 1..MAX_N + 1 {
-        for half in 2..15 {
+        for half in 2..MAX_N / 2 + 1 {
             for w in 0..n + 1 {
                 let d = 2 * half;
                 assert!(rt; Entry { n, d, w: Some(w) }.in_table());
                 let count = column_count(n, d, w).unwrap_or(0);
                 greatest = count.max(greatest);
-                assert!(rt; count < 197 || n == 28 && d == 14 && (w == 13 || w == 15));
+                assert!(rt; count < 211 || n == 30 && d == 14 && (w == 11 || w == 19));
             }
         }
     }
-    assert!(rt; greatest == 197);
+    assert!(rt; greatest == 211);
 }
 
 // A(8,4) ≤ 25 from A(8,4,4) = 14, A(16,6) ≤ 458 from A(16,6,6) = 112, and the ends.
@@ -127,10 +129,11 @@ fn averages(rt: HostRuntime) {
         (1, 0, 1, 1),
         (1, 1, 1, 1),
         (28, 0, 1, 134217728),
-        (28, 28, 2, MAX_BOUND),
-        (28, 0, 3, MAX_BOUND),
-        (28, 14, 1, 3),
-        (28, 14, MAX_BOUND, MAX_BOUND),
+        (30, 0, 1, 536870912),
+        (30, 30, 2, MAX_BOUND),
+        (30, 0, 3, MAX_BOUND),
+        (30, 15, 1, 3),
+        (30, 15, MAX_BOUND, MAX_BOUND),
     ] {
         assert!(rt; 1 <= n && n <= MAX_N && w <= n && 1 <= u && u <= MAX_BOUND);
         assert!(rt; averaging(n, w, u) == want, "at ({n},{w}) from {u}");
@@ -151,14 +154,15 @@ fn outside_the_balls(rt: HostRuntime) {
         (10, 5, 6, Some(13)),
         (13, 5, 18, Some(69)),
         (28, 3, 121, Some(8926594)),
-        (28, 27, 1, Some(2)),
+        (30, 3, 140, Some(33554432)),
+        (30, 29, 1, Some(2)),
         (3, 3, 1, None),
         (7, 3, 7, None),
-        (28, 3, 126, None),
-        (27, 27, 1, None),
-        (28, 27, MAX_BOUND, None),
+        (30, 3, 145, None),
+        (29, 29, 1, None),
+        (30, 29, MAX_BOUND, None),
         (8, 4, 14, None),
-        (28, 28, 1, None),
+        (30, 30, 1, None),
         (4, 5, 1, None),
     ] {
         let entry = Entry { n, d, w: None };

@@ -146,12 +146,12 @@ fn limits_of_cosets(rt: HostRuntime) -> Result<(), Fail> {
     let alloc = rt.alloc();
     assert!(rt; MAX_REPRESENTATIVES == 4096 && MAX_COSET_WORK == 16777216);
     let rows = [
-        (29, 4097, CodeFault::Size(29)),
-        (29, 0, CodeFault::Size(29)),
-        (28, 0, CodeFault::Size(0)),
-        (28, 4097, CodeFault::Size(4097)),
+        (31, 4097, CodeFault::Size(31)),
+        (31, 0, CodeFault::Size(31)),
+        (30, 0, CodeFault::Size(0)),
+        (30, 4097, CodeFault::Size(4097)),
         (0, 4097, CodeFault::Size(4097)),
-        (28, 4096, CodeFault::Work(2252349569499136)),
+        (30, 4096, CodeFault::Work(9009398277996544)),
         (25, 1, CodeFault::Work(33554432)),
         (23, 2, CodeFault::Work(25165824)),
         (2, 4096, CodeFault::Work(33562624)),
@@ -164,7 +164,7 @@ fn limits_of_cosets(rt: HostRuntime) -> Result<(), Fail> {
     for (basis_size, size, wanted) in rows {
         let basis = vec![in alloc; 0; basis_size]?;
         let representatives = vec![in alloc; 0; size]?;
-        let refused = answer(&rt, alloc, 28, 3, &basis, &representatives)?;
+        let refused = answer(&rt, alloc, 30, 3, &basis, &representatives)?;
         assert!(rt; refused.err() == Some(wanted), "{basis_size} and {size}");
     }
     Ok(())

@@ -46,7 +46,7 @@ fn printed_words(rt: HostRuntime) {
 /// Texts that are no words, and the shortest and the longest that are.
 #[test]
 fn refused_texts(rt: HostRuntime) {
-    assert!(rt; MAX_N == 28 && MAX_BOUND == 268435456);
+    assert!(rt; MAX_N == 30 && MAX_BOUND == 1073741824);
     let rows: [(&[u8], u32, Result<Word, WordFault>); 7] = [
         (b"0110", 5, Err(WordFault::BadLength(4))),
         (b"01 2", 5, Err(WordFault::BadLength(4))),
@@ -54,7 +54,7 @@ fn refused_texts(rt: HostRuntime) {
         (b"01 2x", 5, Err(WordFault::BadDigit(2))),
         (b"/1", 2, Err(WordFault::BadDigit(0))),
         (b"1", 1, Ok(1)),
-        (&[b'1'; 28], 28, Ok(268435455)),
+        (&[b'1'; 30], 30, Ok(1073741823)),
     ];
     for (text, n, wanted) in rows {
         assert!(rt; 1 <= n && n <= MAX_N);

@@ -83,25 +83,28 @@ fn known_bounds(rt: HostRuntime) -> Result<(), Fail> {
     Ok(())
 }
 
-/// The greatest multipliers at length 28: the sums fit, and the bound is the least of what they give and 2^28.
+/// The greatest multipliers at lengths 28 and 30: the sums fit, and the bound is the least of what they give and 2^30. With all of them f is
+/// that number times 2^n at 0, so 2^28 stands at length 28.
 #[test]
 fn greatest_numbers(rt: HostRuntime) -> Result<(), Fail> {
     let alloc = rt.alloc();
     let most = 9223372036854775807;
-    let all = [most; 29];
-    let got = answer_to(alloc, plain(28, 28), false, &all, &[], &[])?;
+    let all = [most; 31];
+    let got = answer_to(alloc, plain(28, 28), false, &all[..29], &[], &[])?;
     assert!(rt; got == Answer::Bound(268435456), "{got:?}");
-    let one = answer_to(alloc, plain(28, 28), false, &[most], &[(28, most)], &[1])?;
+    let longer = answer_to(alloc, plain(30, 3), false, &all, &[], &[])?;
+    assert!(rt; longer == Answer::Bound(1073741824), "{longer:?}");
+    let one = answer_to(alloc, plain(30, 30), false, &[most], &[(30, most)], &[1])?;
     assert!(rt; one == Answer::Bound(2), "{one:?}");
     let large = answer_to(
         alloc,
-        plain(28, 28),
+        plain(30, 30),
         false,
         &[1],
-        &[(28, most)],
-        &[268435456],
+        &[(30, most)],
+        &[1073741824],
     )?;
-    assert!(rt; large == Answer::Bound(268435456), "{large:?}");
+    assert!(rt; large == Answer::Bound(1073741824), "{large:?}");
     Ok(())
 }
 
@@ -154,7 +157,7 @@ fn refused_duals(rt: HostRuntime) -> Result<(), Fail> {
 fn malformed_duals(rt: HostRuntime) -> Result<(), Fail> {
     let alloc = rt.alloc();
     let rows: [(Entry, bool, &[i64], &[(u32, i64)]); 12] = [
-        (plain(29, 6), false, &[1], &[]),
+        (plain(31, 6), false, &[1], &[]),
         (plain(13, 5), true, &[1], &[]),
         (plain(13, 6), false, &[], &[]),
         (plain(3, 3), false, &[1, 1, 1, 1, 1], &[]),

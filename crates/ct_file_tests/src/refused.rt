@@ -50,7 +50,7 @@ const REFUSED: [(&str, FileFault); 73] = [
         NO_TOML,
     ),
     ("kind = 'words'\nn = 0\nd = 4\nwords = ['1']\n", LENGTH),
-    ("kind = 'words'\nn = 29\nd = 4\nwords = []\n", LENGTH),
+    ("kind = 'words'\nn = 31\nd = 4\nwords = []\n", LENGTH),
     ("kind = 'words'\nn = -7\nd = 4\nwords = []\n", LENGTH),
     (
         "kind = 'words'\nn = 4294967302\nd = 4\nwords = []\n",
@@ -75,7 +75,7 @@ const REFUSED: [(&str, FileFault); 73] = [
     ),
     ("kind = 'words'\nn = 0\nd = 2\nwords = []\n", LENGTH),
     ("kind = 'words'\nn = 6\nd = 2\nwords = []\n", DISTANCE),
-    ("kind = 'words'\nn = 6\nd = 29\nwords = []\n", DISTANCE),
+    ("kind = 'words'\nn = 6\nd = 31\nwords = []\n", DISTANCE),
     ("kind = 'words'\nn = 6\nd = nan\nwords = []\n", DISTANCE),
     ("kind = 'words'\nn = 6\nd = 0\nwords = 6\n", DISTANCE),
     ("kind = 'words'\nn = 6\nd = 4\nwords = '111100'\n", WORDS),
@@ -202,7 +202,7 @@ const REFUSED: [(&str, FileFault); 73] = [
         PLACES,
     ),
     (
-        "kind = 'build'\nn = 4\npart = 'a'\nd = 4\nop = 'puncture'\nplaces = [0, 1, 2, 3, 4, 5, 6, 7, 8, 9, 10, 11, 12, 13, 14, 15, 16, 17, 18, 19, 20, 21, 22, 23, 24]",
+        "kind = 'build'\nn = 4\npart = 'a'\nd = 4\nop = 'puncture'\nplaces = [0, 1, 2, 3, 4, 5, 6, 7, 8, 9, 10, 11, 12, 13, 14, 15, 16, 17, 18, 19, 20, 21, 22, 23, 24, 25, 26]",
         PLACES,
     ),
     (

@@ -80,7 +80,7 @@ const TURNS: [(&[u8], &[u8]); 22] = [
     (b"ledger\n", b"two words 4 3 size 2\npieces 1\n"),
     (b"submit two lines 1\n", b""),
     (b"kind = \"words\"\n", b"refused taken\n"),
-    (b"table 4 28\n", b"A(28,4,28) = 1\n"),
+    (b"table 4 30\n", b"A(30,4,30) = 1\n"),
     (b"table 2\n", b"refused entry\n"),
     (b"show 4\n", b"refused command\n"),
     (b"withdraw three\n", b"refused nosuch three\n"),

@@ -78,7 +78,7 @@ fn note_entries(table: &Table, bounds: &mut Vec<Bound>, n: u32, d: u32) -> Resul
 /// All bounds of a table.
 fn bounds_of(alloc: Global, table: &Table) -> Result<Vec<Bound>, AllocError> {
     let mut bounds = Vec::new(alloc);
-    bounds.reserve(12_740)?;
+    bounds.reserve(15_540)?;
     for n in 1..=MAX_N {
         for d in 3..=MAX_N {
             note_entries(table, &mut bounds, n, d)?;

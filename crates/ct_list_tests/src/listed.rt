@@ -21,7 +21,7 @@ struct Listing {
 const OVER_NOTHING: [Listing; 4] = [
     Listing {
         n: 1,
-        d: 28,
+        d: 30,
         w: None,
         size: 1,
     },

@@ -1,6 +1,7 @@
 //! Partitions that are handed in, and products of them.
 
 ghost use Rattle.std.specs.Prelude.{◌≡◌, ◌^◌, ◌<◌, ◌≤◌, true, All, IfOk};
+ghost use Rattle.ct_words.specs.declared.limits.TheConstants.{MAX_N};
 ghost use Rattle.ct_codes.specs.Entry.{unrestricted};
 ghost use Rattle.ct_partitions.specs.Partition.{word_lists, all_words};
 
@@ -8,7 +9,7 @@ use ct_codes::{Code, Entry};
 use ct_partitions::{
     Partition, PartitionFault, check_partition, product_distance, product_list, product_size,
 };
-use ct_words::Word;
+use ct_words::{MAX_N, Word};
 use std::alloc::{AllocError, Global};
 use std::process::Abort;
 use std::test::Fail;
@@ -39,7 +40,7 @@ fn classes_of(alloc: Global, classes: &[&[Word]]) -> Result<Vec<Vec<Word>>, Allo
 
 /// Whether all words have length n.
 fn is_of_length(words: &[Word], n: u32) -> bool
-    requires { n ≤ 28 }
+    requires { n ≤ MAX_N }
     ensures { result ≡ true → All (λ x. x < 2 ^ n) words.now }
 {
     words.iter().all(|word| *word < 1 << n)
@@ -47,7 +48,7 @@ fn is_of_length(words: &[Word], n: u32) -> bool
 
 /// Whether all words of the classes have length n.
 fn are_of_length(classes: &[Vec<Word>], n: u32) -> bool
-    requires { n ≤ 28 }
+    requires { n ≤ MAX_N }
     ensures { result ≡ true → All (λ x. x < 2 ^ n) (all_words (word_lists classes.now)) }
 {
     for class in classes {
@@ -71,7 +72,7 @@ fn answer(
 {
     let lists = classes_of(alloc, classes)?;
     assert!(rt; entry.in_table() && 1 <= between && between <= entry.d);
-    assert!(rt; entry.n <= 28 && are_of_length(&lists, entry.n));
+    assert!(rt; entry.n <= MAX_N && are_of_length(&lists, entry.n));
     Ok(check_partition(alloc, entry, between, lists))
 }
 

@@ -20,7 +20,7 @@ struct Listing {
 const LISTINGS: [Listing; 6] = [
     Listing {
         n: 1,
-        d: 28,
+        d: 30,
         w: None,
         size: 1,
     },

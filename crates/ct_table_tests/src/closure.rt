@@ -16,34 +16,34 @@ use ct_rules::Support;
 use std::alloc::{AllocError, Global};
 use std::test::Fail;
 
-// The first and the last entries of the table, by hand: at each length n the 26 distances without weight come first, and then
-// n + 1 weights for each of 13 even distances. 5967 entries are shorter than 28: 27 times 26, and 13 times the 405 pairs of a
-// length from 1 to 27 and a weight.
+// The first and the last entries of the table, by hand: at each length n the 28 distances without weight come first, and then
+// n + 1 weights for each of 14 even distances. 7308 entries are shorter than 30: 29 times 28, and 14 times the 464 pairs of a
+// length from 1 to 29 and a weight.
 #[test]
 fn numbers_of_slots(rt: HostRuntime) {
     for (n, d, w, want) in [
         (1, 3, None, 0),
         (1, 4, None, 1),
-        (1, 28, None, 25),
-        (1, 4, Some(0), 26),
-        (1, 4, Some(1), 27),
-        (1, 6, Some(0), 28),
-        (1, 28, Some(1), 51),
-        (2, 3, None, 52),
-        (2, 4, Some(0), 78),
-        (28, 3, None, 5967),
-        (28, 28, None, 5992),
-        (28, 4, Some(0), 5993),
-        (28, 28, Some(28), 6369),
+        (1, 30, None, 27),
+        (1, 4, Some(0), 28),
+        (1, 4, Some(1), 29),
+        (1, 6, Some(0), 30),
+        (1, 30, Some(1), 55),
+        (2, 3, None, 56),
+        (2, 4, Some(0), 84),
+        (30, 3, None, 7308),
+        (30, 30, None, 7335),
+        (30, 4, Some(0), 7336),
+        (30, 30, Some(30), 7769),
     ] {
         let entry = Entry { n, d, w };
         assert!(rt; entry.in_table());
         assert!(rt; slot_number(Side::Lower, entry) == want, "{entry:?}");
-        assert!(rt; slot_number(Side::Upper, entry) == want + 6370, "{entry:?}");
+        assert!(rt; slot_number(Side::Upper, entry) == want + 7770, "{entry:?}");
     }
 }
 
-// 28 lengths and 26 distances without weight; 13 even distances and 434 pairs of a length and a weight. No two slots have one
+// 30 lengths and 28 distances without weight; 14 even distances and 495 pairs of a length and a weight. No two slots have one
 // number, so that each number below `SLOTS` is one of a slot.
 #[test]
 fn count_of_slots(rt: HostRuntime) {
@@ -53,8 +53,8 @@ fn count_of_slots(rt: HostRuntime) {
             count = count.saturating_add(1);
         }
     }
-    assert!(rt; count == 6370);
-    assert!(rt; ENTRIES == count && SLOTS == 2 * 6370);
+    assert!(rt; count == 7770);
+    assert!(rt; ENTRIES == count && SLOTS == 2 * 7770);
 }
 
 /// The places of the supports.
@@ -114,7 +114,7 @@ fn closes_over_no_supports(rt: HostRuntime) -> Result<(), Fail> {
     for (n, d, want) in [
         (1, 3, 1),
         (3, 3, 2),
-        (28, 28, 2),
+        (30, 30, 2),
         (5, 3, 4),
         (6, 4, 4),
         (7, 3, 16),

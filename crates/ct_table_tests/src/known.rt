@@ -180,15 +180,15 @@ pub fn table_of_golay(rt: &impl Abort, alloc: Global) -> Result<Table, Fail> {
     Ok(table)
 }
 
-/// How many numbers `entry_at` has to be asked for to meet all entries of the table: 28 lengths, 26 distances, and 30 for no
-/// weight and those from 0 to 28.
-pub const NUMBERS: u32 = 28 * 26 * 30;
+/// How many numbers `entry_at` has to be asked for to meet all entries of the table: 30 lengths, 28 distances, and 32 for no
+/// weight and those from 0 to 30.
+pub const NUMBERS: u32 = 30 * 28 * 32;
 
 /// An entry for each number, which may lie outside of the table; each entry of the table has one number below `NUMBERS`.
 pub fn entry_at(number: u32) -> Entry {
     Entry {
-        n: (number / 780).saturating_add(1),
-        d: number % 780 / 30 + 3,
-        w: (number % 30).checked_sub(1),
+        n: (number / 896).saturating_add(1),
+        d: number % 896 / 32 + 3,
+        w: (number % 32).checked_sub(1),
     }
 }

@@ -101,36 +101,36 @@ type Premises = (
     Option<(u32, u32)>,
 );
 
-/// A premise is read off the rule: for L5 at (2,4) it is A(2 - 1,4 - 1), for L8 at (28,27) the lengths are 28/2 = 14 and the distances
-/// (27 + 1)/2 = 14 and 27.
+/// A premise is read off the rule: for L5 at (2,4) it is A(2 - 1,4 - 1), for L8 at (30,29) the lengths are 30/2 = 15 and the distances
+/// (29 + 1)/2 = 15 and 29.
 const PREMISES: [Premises; 27] = [
-    (Rule::L1, 28, 28, 0, None, None),
-    (Rule::L2, 28, 28, 0, None, None),
-    (Rule::L3, 2, 28, 1, Some((1, 28)), None),
-    (Rule::L4, 1, 27, 1, Some((1, 28)), None),
+    (Rule::L1, 30, 30, 0, None, None),
+    (Rule::L2, 30, 30, 0, None, None),
+    (Rule::L3, 2, 30, 1, Some((1, 30)), None),
+    (Rule::L4, 1, 29, 1, Some((1, 30)), None),
     (Rule::L5, 2, 4, 1, Some((1, 3)), None),
-    (Rule::L5, 28, 28, 1, Some((27, 27)), None),
-    (Rule::L6, 27, 27, 1, Some((28, 28)), None),
-    (Rule::L7, 27, 28, 1, Some((28, 28)), None),
+    (Rule::L5, 30, 30, 1, Some((29, 29)), None),
+    (Rule::L6, 29, 29, 1, Some((30, 30)), None),
+    (Rule::L7, 29, 30, 1, Some((30, 30)), None),
     (Rule::L8, 2, 3, 1, Some((1, 3)), None),
-    (Rule::L8, 28, 4, 1, Some((14, 4)), None),
-    (Rule::L8, 28, 5, 2, Some((14, 3)), Some((14, 5))),
-    (Rule::L8, 28, 27, 2, Some((14, 14)), Some((14, 27))),
+    (Rule::L8, 30, 4, 1, Some((15, 4)), None),
+    (Rule::L8, 30, 5, 2, Some((15, 3)), Some((15, 5))),
+    (Rule::L8, 30, 29, 2, Some((15, 15)), Some((15, 29))),
     (Rule::L11(1, 3), 2, 6, 2, Some((1, 3)), Some((1, 3))),
-    (Rule::L11(9, 25), 28, 28, 2, Some((9, 25)), Some((19, 3))),
-    (Rule::U0, 1, 28, 0, None, None),
-    (Rule::U1, 27, 28, 0, None, None),
+    (Rule::L11(9, 27), 30, 30, 2, Some((9, 27)), Some((21, 3))),
+    (Rule::U0, 1, 30, 0, None, None),
+    (Rule::U1, 29, 30, 0, None, None),
     (Rule::U2, 3, 3, 0, None, None),
     (Rule::U2, 28, 14, 0, None, None),
     (Rule::U2, 27, 13, 0, None, None),
-    (Rule::U3, 28, 28, 0, None, None),
+    (Rule::U3, 30, 30, 0, None, None),
     (Rule::U4, 1, 3, 1, Some((2, 4)), None),
-    (Rule::U4, 27, 27, 1, Some((28, 28)), None),
+    (Rule::U4, 29, 29, 1, Some((30, 30)), None),
     (Rule::U5, 2, 4, 1, Some((1, 3)), None),
-    (Rule::U5, 28, 28, 1, Some((27, 27)), None),
-    (Rule::U6, 2, 28, 1, Some((1, 28)), None),
+    (Rule::U5, 30, 30, 1, Some((29, 29)), None),
+    (Rule::U6, 2, 30, 1, Some((1, 30)), None),
     (Rule::U7, 1, 4, 1, Some((1, 3)), None),
-    (Rule::U8, 27, 28, 1, Some((28, 28)), None),
+    (Rule::U8, 29, 30, 1, Some((30, 30)), None),
 ];
 
 /// Whether the rule rests on just these premises, and has a value.
@@ -151,15 +151,15 @@ fn premises_at_the_ends(rt: HostRuntime) {
     }
 }
 
-/// Each digit turned, a word of length n and weight w has the weight n - w: of 28 places with none 28, with 14 as many; at (28,4,14) the
+/// Each digit turned, a word of length n and weight w has the weight n - w: of 30 places with none 30, with 15 as many; at (30,4,15) the
 /// rules rest on their own entry.
 const TURNED: [(u32, u32, u32, u32); 6] = [
     (1, 4, 0, 1),
-    (1, 28, 1, 0),
+    (1, 30, 1, 0),
     (8, 6, 3, 5),
-    (28, 4, 14, 14),
-    (28, 28, 0, 28),
-    (28, 28, 28, 0),
+    (30, 4, 15, 15),
+    (30, 30, 0, 30),
+    (30, 30, 30, 0),
 ];
 
 /// Whether the rule of turned digits rests on this weight alone.
@@ -185,37 +185,37 @@ fn premises_by_weight(rt: HostRuntime) {
 
 /// One step past the ends of each range, and the greatest numbers that L11 can name.
 const PAST: [(Rule, u32, u32); 31] = [
-    (Rule::L2, 27, 28),
-    (Rule::L3, 1, 28),
-    (Rule::L4, 1, 28),
-    (Rule::L5, 28, 27),
+    (Rule::L2, 29, 30),
+    (Rule::L3, 1, 30),
+    (Rule::L4, 1, 30),
+    (Rule::L5, 30, 29),
     (Rule::L5, 1, 4),
-    (Rule::L6, 28, 27),
-    (Rule::L6, 27, 28),
-    (Rule::L7, 28, 28),
-    (Rule::L8, 27, 4),
-    (Rule::L11(0, 25), 28, 28),
-    (Rule::L11(28, 25), 28, 28),
-    (Rule::L11(9, 2), 28, 28),
-    (Rule::L11(9, 26), 28, 28),
-    (Rule::L11(u32::MAX, 3), 28, 28),
-    (Rule::L11(1, u32::MAX), 28, 28),
-    (Rule::L11(u32::MAX, u32::MAX), 28, 28),
-    (Rule::M1, 28, 28),
-    (Rule::M7, 28, 28),
-    (Rule::U1, 28, 28),
-    (Rule::U2, 27, 28),
+    (Rule::L6, 30, 29),
+    (Rule::L6, 29, 30),
+    (Rule::L7, 30, 30),
+    (Rule::L8, 29, 4),
+    (Rule::L11(0, 27), 30, 30),
+    (Rule::L11(30, 27), 30, 30),
+    (Rule::L11(9, 2), 30, 30),
+    (Rule::L11(9, 28), 30, 30),
+    (Rule::L11(u32::MAX, 3), 30, 30),
+    (Rule::L11(1, u32::MAX), 30, 30),
+    (Rule::L11(u32::MAX, u32::MAX), 30, 30),
+    (Rule::M1, 30, 30),
+    (Rule::M7, 30, 30),
+    (Rule::U1, 30, 30),
+    (Rule::U2, 29, 30),
     (Rule::U2, 25, 12),
     (Rule::U2, 28, 13),
-    (Rule::U4, 27, 28),
-    (Rule::U4, 28, 27),
-    (Rule::U5, 1, 28),
-    (Rule::U5, 28, 3),
-    (Rule::U6, 1, 28),
-    (Rule::U7, 28, 3),
-    (Rule::U8, 28, 28),
-    (Rule::V0, 28, 28),
-    (Rule::V3, 28, 28),
+    (Rule::U4, 29, 30),
+    (Rule::U4, 30, 29),
+    (Rule::U5, 1, 30),
+    (Rule::U5, 30, 3),
+    (Rule::U6, 1, 30),
+    (Rule::U7, 30, 3),
+    (Rule::U8, 30, 30),
+    (Rule::V0, 30, 30),
+    (Rule::V3, 30, 30),
 ];
 
 /// Rules that are not defined at an entry with a weight.
@@ -246,12 +246,12 @@ fn past_the_ends(rt: HostRuntime) {
 /// Lengths, distances and weights outside of the table.
 const OUTSIDE: [Place; 8] = [
     (0, 3, None),
-    (29, 3, None),
-    (28, 2, None),
-    (28, 29, None),
+    (31, 3, None),
+    (30, 2, None),
+    (30, 31, None),
     (u32::MAX, u32::MAX, None),
-    (28, 5, Some(2)),
-    (28, 4, Some(29)),
+    (30, 5, Some(2)),
+    (30, 4, Some(31)),
     (u32::MAX, 4, Some(u32::MAX)),
 ];
 
@@ -273,46 +273,46 @@ fn nothing_outside_the_table(rt: HostRuntime) {
 /// A rule at a length and a distance, two premise values, and what it gives.
 type Given = (Rule, u32, u32, u32, u32, Option<u32>);
 
-/// Half of 2^28 - 1, rounded up, is 2^27. At (28,4) the factor of L8 is 2^13, and 2^13 · 2^15 = 2^28; at (28,5) 2^14 · 2^14 is 2^28. There are
-/// 2^28 words of length 28. At (28,14) Plotkin's bound is 4 · 14, at (27,13) 4 · 13 + 4; a ball of radius 13 has (2^28 - C(28,14)) / 2 words,
+/// Half of 2^30 - 1, rounded up, is 2^29. At (30,4) the factor of L8 is 2^14, and 2^14 · 2^16 = 2^30; at (30,5) 2^15 · 2^15 is 2^30. There are
+/// 2^30 words of length 30. At (28,14) Plotkin's bound is 4 · 14, at (27,13) 4 · 13 + 4; a ball of radius 14 has (2^30 - C(30,15)) / 2 words,
 /// more than a third of all. A rule looks at no more values than it has premises.
 const VALUES: [Given; 36] = [
     (Rule::L1, 1, 3, 0, 0, Some(1)),
     (Rule::L2, 3, 3, 0, 0, Some(2)),
-    (Rule::L3, 28, 3, MAX_BOUND, 0, Some(MAX_BOUND)),
-    (Rule::L3, 28, 3, MAX_BOUND + 1, 0, None),
-    (Rule::L4, 28, 27, 2, 9, Some(2)),
-    (Rule::L5, 28, 28, 2, 9, Some(2)),
+    (Rule::L3, 30, 3, MAX_BOUND, 0, Some(MAX_BOUND)),
+    (Rule::L3, 30, 3, MAX_BOUND + 1, 0, None),
+    (Rule::L4, 30, 29, 2, 9, Some(2)),
+    (Rule::L5, 30, 30, 2, 9, Some(2)),
     (Rule::L6, 1, 3, 1, 9, Some(1)),
     (Rule::L6, 1, 3, u32::MAX, 0, None),
-    (Rule::L7, 27, 3, 0, 0, Some(0)),
-    (Rule::L7, 27, 3, 1, 0, Some(1)),
-    (Rule::L7, 27, 3, MAX_BOUND - 1, 0, Some(1 << 27)),
-    (Rule::L7, 27, 3, MAX_BOUND, 0, Some(1 << 27)),
-    (Rule::L7, 27, 3, u32::MAX, 0, None),
+    (Rule::L7, 29, 3, 0, 0, Some(0)),
+    (Rule::L7, 29, 3, 1, 0, Some(1)),
+    (Rule::L7, 29, 3, MAX_BOUND - 1, 0, Some(1 << 29)),
+    (Rule::L7, 29, 3, MAX_BOUND, 0, Some(1 << 29)),
+    (Rule::L7, 29, 3, u32::MAX, 0, None),
     (Rule::L8, 2, 4, 1, 9, Some(1)),
-    (Rule::L8, 28, 4, 1 << 15, 9, Some(MAX_BOUND)),
-    (Rule::L8, 28, 4, (1 << 15) + 1, 0, None),
-    (Rule::L8, 28, 5, 1 << 14, 1 << 14, Some(MAX_BOUND)),
-    (Rule::L8, 28, 5, 1 << 14, (1 << 14) + 1, None),
-    (Rule::L8, 28, 5, u32::MAX, u32::MAX, None),
-    (Rule::L11(14, 14), 28, 28, 5, 7, Some(5)),
-    (Rule::L11(14, 14), 28, 28, 7, 5, Some(5)),
-    (Rule::L11(14, 14), 28, 28, u32::MAX, 1 << 28, Some(1 << 28)),
-    (Rule::U0, 1, 28, 9, 9, Some(2)),
-    (Rule::U0, 28, 3, 9, 9, Some(MAX_BOUND)),
+    (Rule::L8, 30, 4, 1 << 16, 9, Some(MAX_BOUND)),
+    (Rule::L8, 30, 4, (1 << 16) + 1, 0, None),
+    (Rule::L8, 30, 5, 1 << 15, 1 << 15, Some(MAX_BOUND)),
+    (Rule::L8, 30, 5, 1 << 15, (1 << 15) + 1, None),
+    (Rule::L8, 30, 5, u32::MAX, u32::MAX, None),
+    (Rule::L11(15, 15), 30, 30, 5, 7, Some(5)),
+    (Rule::L11(15, 15), 30, 30, 7, 5, Some(5)),
+    (Rule::L11(15, 15), 30, 30, u32::MAX, 1 << 30, Some(1 << 30)),
+    (Rule::U0, 1, 30, 9, 9, Some(2)),
+    (Rule::U0, 30, 3, 9, 9, Some(MAX_BOUND)),
     (Rule::U1, 1, 3, 9, 9, Some(1)),
     (Rule::U2, 3, 3, 9, 9, Some(2)),
     (Rule::U2, 28, 14, 9, 9, Some(56)),
     (Rule::U2, 27, 13, 9, 9, Some(56)),
-    (Rule::U3, 28, 28, 9, 9, Some(2)),
-    (Rule::U4, 27, 27, 2, 9, Some(2)),
-    (Rule::U5, 28, 28, 2, 9, Some(2)),
+    (Rule::U3, 30, 30, 9, 9, Some(2)),
+    (Rule::U4, 29, 29, 2, 9, Some(2)),
+    (Rule::U5, 30, 30, 2, 9, Some(2)),
     (Rule::U6, 2, 3, 1, 9, Some(2)),
-    (Rule::U6, 28, 3, MAX_BOUND / 2, 9, Some(MAX_BOUND)),
-    (Rule::U6, 28, 3, u32::MAX, 9, Some(MAX_BOUND)),
-    (Rule::U7, 28, 4, MAX_BOUND, 9, Some(MAX_BOUND)),
-    (Rule::U8, 27, 3, MAX_BOUND + 1, 9, Some(MAX_BOUND)),
+    (Rule::U6, 30, 3, MAX_BOUND / 2, 9, Some(MAX_BOUND)),
+    (Rule::U6, 30, 3, u32::MAX, 9, Some(MAX_BOUND)),
+    (Rule::U7, 30, 4, MAX_BOUND, 9, Some(MAX_BOUND)),
+    (Rule::U8, 29, 3, MAX_BOUND + 1, 9, Some(MAX_BOUND)),
 ];
 
 #[test]
@@ -323,14 +323,14 @@ fn values_at_the_ends(rt: HostRuntime) {
     }
 }
 
-/// There are 28!/14!^2 = 40,116,600 words of length 28 and weight 14. A value that is missing counts as 0.
+/// There are 30!/15!^2 = 155,117,520 words of length 30 and weight 15. A value that is missing counts as 0.
 const WITHOUT_PREMISES: [(Rule, Place, u32); 6] = [
-    (Rule::M1, (28, 28, Some(28)), 1),
-    (Rule::V0, (28, 28, Some(0)), 1),
-    (Rule::V0, (28, 28, Some(14)), 40116600),
-    (Rule::V0, (28, 28, Some(28)), 1),
-    (Rule::L3, (28, 28, None), 0),
-    (Rule::L11(14, 14), (28, 28, None), 0),
+    (Rule::M1, (30, 30, Some(30)), 1),
+    (Rule::V0, (30, 30, Some(0)), 1),
+    (Rule::V0, (30, 30, Some(15)), 155117520),
+    (Rule::V0, (30, 30, Some(30)), 1),
+    (Rule::L3, (30, 30, None), 0),
+    (Rule::L11(15, 15), (30, 30, None), 0),
 ];
 
 /// With each digit turned there are as many words, from below `MAX_BOUND` at most.
@@ -357,14 +357,14 @@ fn values_by_weight_and_without_premises(rt: HostRuntime) {
 }
 
 /// Of the sets of three of the numbers 0 to 5 these add up to 0 modulo 6: 0 1 5, 0 2 4, 1 2 3 and 3 4 5; these to 1: 0 2 5, 0 3 4 and 1 2 4;
-/// these to 5: 0 1 4, 0 2 3 and 2 4 5. All 28 numbers add up to 378 = 13 · 28 + 14.
+/// these to 5: 0 1 4, 0 2 3 and 2 4 5. All 30 numbers add up to 435 = 14 · 30 + 15.
 const SUM_CLASSES: [(u32, Place, u32); 6] = [
     (0, (6, 4, Some(3)), 4),
     (1, (6, 4, Some(3)), 3),
     (5, (6, 4, Some(3)), 3),
     (0, (6, 4, Some(0)), 1),
     (0, (1, 4, Some(1)), 1),
-    (14, (28, 4, Some(28)), 1),
+    (15, (30, 4, Some(30)), 1),
 ];
 
 /// Sums that no set has, and entries without sum classes.
@@ -372,7 +372,7 @@ const NO_SUM_CLASSES: [(u32, Place); 6] = [
     (6, (6, 4, Some(3))),
     (u32::MAX, (6, 4, Some(3))),
     (1, (6, 4, Some(0))),
-    (13, (28, 4, Some(28))),
+    (14, (30, 4, Some(30))),
     (0, (6, 6, Some(3))),
     (0, (6, 4, None)),
 ];
@@ -417,7 +417,7 @@ fn defined_rules(entry: Entry) -> usize {
 
 /// At A(1,3) L4, L6, L7, L9, U1, U3, U4 and U8 are defined; at A(4,5) L3, L4, L6 to L9, U1 and U3 to U8; at A(4,8) L3 to L9, U1, U3, U5 to U8
 /// and U10; at A(8,6) L2 to L9, U2, U3, U5 to U8 and U10; at A(9,5) L2 to L4, L6, L7, L9 and U2 to U9. At A(4,8,2) M3 to M8, V1 and V3 to
-/// V7; at A(8,8,4) M2 to M8 and V2 to V8, as three words of weight 4 have no one in common only from 12 places on; at A(1,28,0) M5 to M7,
+/// V7; at A(8,8,4) M2 to M8 and V2 to V8, as three words of weight 4 have no one in common only from 12 places on; at A(1,30,0) M5 to M7,
 /// V1, V3 and V7.
 const RULES_OF_ENTRIES: [(Place, usize); 8] = [
     ((1, 3, None), 8),
@@ -427,7 +427,7 @@ const RULES_OF_ENTRIES: [(Place, usize); 8] = [
     ((9, 5, None), 14),
     ((4, 8, Some(2)), 12),
     ((8, 8, Some(4)), 14),
-    ((1, 28, Some(0)), 6),
+    ((1, 30, Some(0)), 6),
 ];
 
 #[test]
@@ -497,7 +497,7 @@ const OF_SUPPORTS: [OfSupport; 13] = [
     (Rule::L10(1), (27, 3, None), None, None),
     (Rule::L10(2), (28, 3, None), Some(0), None),
     (Rule::L10(3), (28, 4, Some(2)), None, None),
-    (Rule::L10(4), (29, 3, None), None, None),
+    (Rule::L10(4), (31, 3, None), None, None),
     (Rule::L10(5), (28, 3, None), None, None),
     (Rule::L10(u32::MAX), (28, 3, None), None, None),
     (Rule::M10(3), (28, 4, Some(2)), Some(0), Some(14)),
@@ -521,7 +521,7 @@ fn sizes_of_supports(rt: HostRuntime) {
         size_at(28, 3, None, MAX_BOUND),
         size_at(28, 3, None, MAX_BOUND + 1),
         size_at(28, 4, Some(2), 14),
-        size_at(29, 3, None, 2),
+        size_at(31, 3, None, 2),
     ];
     for (number, row) in OF_SUPPORTS.iter().enumerate() {
         assert!(rt; gives(&supports, *row), "row {number}");
@@ -623,8 +623,8 @@ pub fn known_values()
     ensures all_longest_words { value_of [] U0 (unrestricted MAX_N 3) [] ≡ Some MAX_BOUND }
     ensures all_words_of_weight { value_of [] V0 (constant_weight 4 4 2) [] ≡ Some 6 }
     ensures greatest { value_of [] L8 (unrestricted MAX_N 6) (MAX_BOUND / 2 ∷ 2 ∷ []) ≡ Some MAX_BOUND }
-    // 17 · 15,790,321 is 2^28 + 1.
-    ensures above { value_of [] L8 (unrestricted 28 6) (17 ∷ 15790321 ∷ []) ≡ None }
+    // 25 · 42,949,673 is 2^30 + 1.
+    ensures above { value_of [] L8 (unrestricted 30 6) (25 ∷ 42949673 ∷ []) ≡ None }
     ensures far_above { value_of [] L8 (unrestricted MAX_N 6) (MAX_BOUND / 2 ∷ 4 ∷ []) ≡ None }
     ensures cut { within_limit Upper (Some (MAX_BOUND + 1)) ≡ Some MAX_BOUND }
     ensures far_words { value_of [] U1 (unrestricted 5 6) [] ≡ Some 1 }

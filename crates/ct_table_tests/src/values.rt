@@ -15,10 +15,10 @@ type Row = (u32, u32, Option<u32>, u32);
 
 // A(5,3) is at least A(6,4) = 2^2 · A(3,4) = 4 by L6, L8 and L1; A(8,4) = 2^3 · A(4,4) = 16 by L8 and L2. A(24,8) is at least
 // A(12,4) · A(12,8) by L8, where A(12,4) = 2^5 · A(6,4) = 128 and A(12,8) = A(6,4) · A(6,8) = 4. By L6 A(23,7) is no less, and
-// A(7,3) is at least A(8,4); so by L8 A(14,3) = 2^6 · 16 and A(28,3) = 2^13 · 2^10. Two words of weight 4 have no one in common
+// A(7,3) is at least A(8,4); so by L8 A(14,3) = 2^6 · 16 and A(28,3) = 2^13 · 2^10, and A(30,3) = 2^14 · 2^11 from A(15,3). Two words of weight 4 have no one in common
 // at A(8,8,4), so that A(8,6,4) is at least 2 by M8; at A(28,28,14) two and at A(20,8,4) five have none, by M2. Four words of length 6
 // and weight 3 have ones at places that add up to 0 modulo 6: 0 1 5, 0 2 4, 1 2 3 and 3 4 5; so A(6,4,3) is at least 4 by M9.
-const LOWER_BOUNDS: [Row; 15] = [
+const LOWER_BOUNDS: [Row; 16] = [
     (1, 3, None, 1),
     (5, 3, None, 4),
     (6, 4, None, 4),
@@ -27,9 +27,10 @@ const LOWER_BOUNDS: [Row; 15] = [
     (12, 4, None, 128),
     (23, 7, None, 512),
     (24, 8, None, 512),
-    (27, 28, None, 1),
+    (29, 30, None, 1),
     (28, 3, None, 8388608),
-    (28, 28, None, 2),
+    (30, 3, None, 33554432),
+    (30, 30, None, 2),
     (6, 4, Some(3), 4),
     (8, 6, Some(4), 2),
     (28, 28, Some(14), 2),
@@ -37,15 +38,16 @@ const LOWER_BOUNDS: [Row; 15] = [
 ];
 
 // By Plotkin's bound A(5,3) is at most 4. By Johnson's A(28,3) is at most 2^28 · 14 / (14 · 29 + C(28,2) - 3 · 121), with 121 for
-// A(28,4,3); and A(15,5) at most 2^15 · 5 / (5 · 121 + C(15,3) - 10 · 42) = 256, with 42 for A(15,6,5): Nordstrom's and Robinson's
+// A(28,4,3), and A(30,3) at most 2^30 · 15 / (15 · 31 + C(30,2) - 3 · 140) = 2^25, with 140 for A(30,4,3); and A(15,5) at most 2^15 · 5 / (5 · 121 + C(15,3) - 10 · 42) = 256, with 42 for A(15,6,5): Nordstrom's and Robinson's
 // code, less a place, has as many words. The others by V4: 4 = 6/3 · 2 blocks of 3 of 6 points; the Steiner systems S(3,4,8) with
 // 14 = 8/4 · 7, S(2,5,21) with 21 = 21/5 · 5, S(3,6,22) with 77 = 22/6 · 21, S(4,7,23) with 253 = 23/7 · 77 and S(5,8,24) with
 // 759 = 24/8 · 253 blocks; and 22 = 12/6 · 11 blocks of 6 of 12 points, from the matrix of Hadamard of order 12.
-const UPPER_BOUNDS: [Row; 13] = [
+const UPPER_BOUNDS: [Row; 14] = [
     (5, 3, None, 4),
     (15, 5, None, 256),
     (16, 6, None, 256),
     (28, 3, None, 8926594),
+    (30, 3, None, 33554432),
     (6, 4, Some(3), 4),
     (8, 4, Some(4), 14),
     (12, 6, Some(6), 22),
