@@ -1,6 +1,7 @@
 -- A list without the items that are marked.
 use Rattle.std.specs.Prelude.{Bool, true, false, List, [], ◌∷◌}
 
+-- the items that are not marked, in their order
 abbrev pub unmarked : {X : Type 0} → List Bool → List X → List X
 unmarked [] xs = xs
 unmarked (mark ∷ marks) [] = []
