@@ -1,20 +1,17 @@
 -- What is taken along with a piece, and that the others stand.
-use Rattle.std.proofs.Common.{◌≡◌, ℕ, zero, suc, ◌+◌, ◌<◌, ◌≤◌, Bool, true, false, ◌||◌, cond, not, List, [], ◌∷◌, ◌++◌, length, map, get_or, Option, Some, None, Ok, Err, refl, sym, ap, subst, ◌∙◌, arith, inl, inr, ◌⊎◌, ◌↔◌}
+use Rattle.std.proofs.Common.{◌≡◌, ℕ, zero, suc, ◌<◌, ◌≤◌, Bool, true, false, ◌||◌, cond, not, List, [], ◌∷◌, ◌++◌, length, map, get_or, Some, Ok, Err, refl, sym, ap, subst, arith, inl, inr, ◌⊎◌}
 use Rattle.std.specs.Prelude.{slice_get, remove}
-use Rattle.std.specs.List.{list_any}
 use Rattle.std.specs.Str.{bytes_eq}
-use Rattle.std.proofs.lemmas.Option.{none-some, same_Some, slice_get_within}
 use Rattle.std.proofs.lemmas.Slice.Eq.{bytes_eq-Decides}
-use Rattle.ct_pieces.specs.Kind.{parts_of, names}
+use Rattle.ct_pieces.specs.Kind.{names}
 use Rattle.ct_pieces.specs.Piece.{PieceValue, has_id}
 use Rattle.ct_pieces.specs.Standing.{AreStanding}
-use Rattle.ct_pieces.specs.Withdrawal.{IsTakenAlong, names_any, ids_along, taken_along, is_among, without_all, withdrawn_all, marks_along}
+use Rattle.ct_pieces.specs.Withdrawal.{names_any, ids_along, taken_along, is_among, without_all, withdrawn_all, marks_along}
 use Rattle.ct_pieces.specs.declared.fault.WithdrawFault.TheVariants as fault
-use Rattle.ct_pieces.specs.Withdrawal.IsTakenAlong.{itself, by_part}
 use Rattle.ct_pieces.specs.Inside.Kept.{kept_codes}
 use Rattle.ct_pieces.specs.Inside.Unmarked.{unmarked}
 use Rattle.ct_pieces.proofs.EarlierParts.{part_earlier}
-use Rattle.ct_pieces.proofs.LeavingLemmas.{ArePassed, AllPassed, passing, kept-passing}
+use Rattle.ct_pieces.proofs.LeavingLemmas.{ArePassed, passing, kept-passing}
 use Rattle.ct_pieces.proofs.StandingLemmas.{AreStanding-passing}
 
 or-true : (a b : Bool) → b ≡ true → (a || b) ≡ true
@@ -90,12 +87,6 @@ names-none (i ∷ ids) p part none h named = at (bytes_eq i part) refl (names p.
   at b same true named_is none h rest = absurd cc
   at true same false named_is none h rest = absurd (let e = ap (names p.evidence) ((bytes_eq-Decides i part).0 same) in cc)
   at false same false named_is none h rest = rest none h
-
-names-one : (ids : List (List ℕ)) (p : PieceValue) (part : List ℕ) → is_among ids part ≡ true → names p.evidence part ≡ true → names_any ids p ≡ true
-names-one ids p part h named = at (names_any ids p) refl where
-  at : (b : Bool) → names_any ids p ≡ b → b ≡ true
-  at true is = refl
-  at false is = absurd (names-none ids p part is h named)
 
 -- a piece with the id is at a place
 pub has_id-at : (id : List ℕ) (ps : List PieceValue) → has_id id ps ≡ true → (i : ℕ) × (q : PieceValue) × (slice_get ps i ≡ Some q) × (q.id ≡ id)

@@ -1,8 +1,5 @@
-use Rattle.std.proofs.Common.{◌≡◌, ℕ, suc, ◌+◌, ◌-◌, ◌<◌, ◌≤◌, Bool, List, Option, length, get_or, true, false, sym, ap, ◌∙◌, subst, arith}
+use Rattle.std.proofs.Common.{◌≡◌, ℕ, suc, ◌-◌, ◌<◌, ◌≤◌, Bool, List, length, get_or, true, false, sym, ap, ◌∙◌, arith}
 use Rattle.std.specs.Prelude.{remove}
-use Rattle.ct_codes.specs.Code.{CodeValue}
-use Rattle.ct_pieces.specs.Piece.{PieceValue, stored_words}
-use Rattle.ct_pieces.specs.Inside.Unmarked.{unmarked}
 use Rattle.ct_pieces.proofs.AlongLemmas.{unmarked_from, unmarked_from-end, unmarked_from-start, unmarked_from-out, unmarked_from-in, unmarked_from-within}
 use Rattle.ct_pieces.proofs.along.leave_out.Goals as goal
 

@@ -1,7 +1,6 @@
-use Rattle.std.proofs.Common.{◌≡◌, ℕ, ◌+◌, List, get_or, sym, ap, ◌∙◌, arith}
-use Rattle.std.specs.Prelude.{remove}
+use Rattle.std.proofs.Common.{◌≡◌, get_or, sym, ap, arith}
 use Rattle.std.proofs.lemmas.List.Sums.{sum_by-remove}
-use Rattle.ct_pieces.specs.Piece.{PieceValue, stored_by, stored_words}
+use Rattle.ct_pieces.specs.Piece.{stored_by, stored_words}
 use Rattle.ct_pieces.proofs.along.take_at.Goals as goal
 
 pub returns-clause-stored : goal.returns-clause-stored

@@ -1,13 +1,11 @@
-use Rattle.std.proofs.Common.{◌≡◌, ℕ, ◌+◌, ◌-◌, ◌≤◌, Bool, List, Option, Ok, length, map, sym, ap, ◌∙◌, subst, arith, rules}
-use Rattle.std.specs.Vec.{vec_len}
+use Rattle.std.proofs.Common.{◌≡◌, Bool, List, Option, Ok, length, sym, ap, ◌∙◌, subst, arith, rules}
 use Rattle.std.proofs.lemmas.List.{length-map}
 use Rattle.ct_codes.specs.Code.{CodeValue}
-use Rattle.ct_pieces.specs.Piece.{PieceValue, has_id, stored_words}
+use Rattle.ct_pieces.specs.Piece.{PieceValue}
 use Rattle.ct_pieces.specs.Standing.{AreStanding}
-use Rattle.ct_pieces.specs.Withdrawal.{taken_along, is_among, without_all, withdrawn_all, marks_along}
+use Rattle.ct_pieces.specs.Withdrawal.{taken_along, is_among, without_all, marks_along}
 use Rattle.ct_pieces.specs.Inside.Kept.{kept_codes}
 use Rattle.ct_pieces.specs.Inside.Unmarked.{unmarked}
-use Rattle.ct_pieces.specs.declared.limits.TheConstants.{MAX_PIECES}
 use Rattle.ct_pieces.proofs.KeptLemmas.{length-kept_codes}
 use Rattle.ct_pieces.proofs.AlongLemmas.{AreStanding-along, kept-along, unmarked-along, length-unmarked, withdrawn_all-left}
 use Rattle.ct_pieces.proofs.pieces.Pieces.take_out_all.Goals as goal
