@@ -228,7 +228,7 @@ const BUILDS: [Row; 41] = [
         Change::Uuv,
         ENDS,
         None,
-        (6, 28, None),
+        (6, 30, None),
         Err(BuildFault::WrongPart(1)),
     ),
     (
@@ -249,7 +249,7 @@ const BUILDS: [Row; 41] = [
         Change::Juxtapose,
         PAIRS,
         Some(ENDS),
-        (8, 28, None),
+        (8, 30, None),
         Err(BuildFault::WrongPart(1)),
     ),
     (
@@ -371,8 +371,8 @@ fn built_of_even_words(rt: HostRuntime) -> Result<(), Fail> {
 #[test]
 fn great_distances(rt: HostRuntime) -> Result<(), Fail> {
     let alloc = rt.alloc();
-    let far = Code::from_sorted(14, 60, None, [5].to_vec(alloc)?);
-    let place = (28, 28, None);
+    let far = Code::from_sorted(15, 60, None, [5].to_vec(alloc)?);
+    let place = (30, 30, None);
     let code = build(
         &rt,
         alloc,
@@ -381,6 +381,6 @@ fn great_distances(rt: HostRuntime) -> Result<(), Fail> {
         &far,
         Some(&far),
     )??;
-    assert!(rt; shows(&code, place, &[5 * 16384 + 5]));
+    assert!(rt; shows(&code, place, &[5 * 32768 + 5]));
     Ok(())
 }

@@ -57,16 +57,19 @@ const PAIRS_OF_THRICE: [Word; 16] = [
 ];
 
 /// All places of a word of the greatest length but the last.
-const MOST_PLACES: [u32; 27] = [
+const MOST_PLACES: [u32; 29] = [
     0, 1, 2, 3, 4, 5, 6, 7, 8, 9, 10, 11, 12, 13, 14, 15, 16, 17, 18, 19, 20, 21, 22, 23, 24, 25,
-    26,
+    26, 27, 28,
 ];
 
+/// The least and the greatest word of half the greatest length.
+const HALVES: Words = ((15, 15, None), Few::Two([0, 0x7fff]));
+
 /// The least and the greatest word of the greatest length.
-const ENDS: Words = ((28, 28, None), Few::Two([0, 0xfff_ffff]));
+const ENDS: Words = ((30, 30, None), Few::Two([0, 0x3fff_ffff]));
 
 /// Two words that differ at each place, of the greatest length.
-const OPPOSITE: Words = ((28, 28, None), Few::Two([0x000_0003, 0xfff_fffc]));
+const OPPOSITE: Words = ((30, 30, None), Few::Two([0x0000_0003, 0x3fff_fffc]));
 
 /// A construction of one code.
 #[derive(Clone, Copy)]
@@ -93,7 +96,7 @@ enum OfTwo {
 }
 
 /// Each construction of one code, and what it makes of a code. Among them: two words of odd distance at the greatest length that grows by a
-/// parity; words without the first place, without two, without none, and without the most that can be left out, 27; a 1 at the first
+/// parity; words without the first place, without two, without none, and without the most that can be left out, 29; a 1 at the first
 /// place, digits that no word has, and words of constant weight with two digits, and with a 0 inside.
 const MADE_OF_ONE: [(OfOne, Words, Result<Words, BuildFault>); 31] = [
     (
@@ -151,7 +154,7 @@ const MADE_OF_ONE: [(OfOne, Words, Result<Words, BuildFault>); 31] = [
     ),
     (
         OfOne::Parity,
-        ((27, 27, None), Few::Two([0x7fffffe, 0x0000001])),
+        ((29, 29, None), Few::Two([0x1fff_fffe, 0x0000_0001])),
         Ok(OPPOSITE),
     ),
     (
@@ -170,7 +173,7 @@ const MADE_OF_ONE: [(OfOne, Words, Result<Words, BuildFault>); 31] = [
             Few::Four([0b000000, 0b011011, 0b101101, 0b110110]),
         )),
     ),
-    (OfOne::Translate(0xfffffff), OPPOSITE, Ok(OPPOSITE)),
+    (OfOne::Translate(0x3fff_ffff), OPPOSITE, Ok(OPPOSITE)),
     (
         OfOne::Complement,
         THRICE,
@@ -231,12 +234,12 @@ const MADE_OF_ONE: [(OfOne, Words, Result<Words, BuildFault>); 31] = [
     ),
     (OfOne::PunctureFirst(0), EVEN, Ok(EVEN)),
     (
-        OfOne::PunctureFirst(25),
+        OfOne::PunctureFirst(27),
         ENDS,
         Ok(((3, 3, None), Few::Two([0b000, 0b111]))),
     ),
     (
-        OfOne::PunctureFirst(27),
+        OfOne::PunctureFirst(29),
         ENDS,
         Ok(((1, 1, None), Few::Two([0, 1]))),
     ),
@@ -262,9 +265,19 @@ const MADE_OF_ONE: [(OfOne, Words, Result<Words, BuildFault>); 31] = [
     ),
 ];
 
-/// What two codes make. Two codes of two words, of which the words u followed by v would be others. Side by side: four words with themselves, and codes of different sizes, two of constant
+/// What two codes make. Two words with themselves, at the greatest length; two codes of two words, of which the words u followed by v would be others. Side by side: four words with themselves, and codes of different sizes, two of constant
 /// weight, and one of constant weight with one without.
-const MADE_OF_TWO: [(OfTwo, Words, Words, Words); 4] = [
+const MADE_OF_TWO: [(OfTwo, Words, Words, Words); 6] = [
+    (
+        OfTwo::Uuv,
+        HALVES,
+        HALVES,
+        (
+            (30, 15, None),
+            Few::Four([0x0000_0000, 0x0000_7fff, 0x3fff_8000, 0x3fff_ffff]),
+        ),
+    ),
+    (OfTwo::Juxtapose, HALVES, HALVES, ENDS),
     (
         OfTwo::Uuv,
         ((4, 4, None), Few::Two([0b0000, 0b1111])),
