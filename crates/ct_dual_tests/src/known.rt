@@ -83,28 +83,29 @@ fn known_bounds(rt: HostRuntime) -> Result<(), Fail> {
     Ok(())
 }
 
-/// The greatest multipliers at lengths 28 and 30: the sums fit, and the bound is the least of what they give and 2^30. With all of them f is
-/// that number times 2^n at 0, so 2^28 stands at length 28.
+/// The greatest multipliers at lengths 28 and 30: the sums fit, and the bound is the least of what they give and 2^30.
 #[test]
 fn greatest_numbers(rt: HostRuntime) -> Result<(), Fail> {
     let alloc = rt.alloc();
     let most = 9223372036854775807;
     let all = [most; 31];
-    let got = answer_to(alloc, plain(28, 28), false, &all[..29], &[], &[])?;
-    assert!(rt; got == Answer::Bound(268435456), "{got:?}");
-    let longer = answer_to(alloc, plain(30, 3), false, &all, &[], &[])?;
-    assert!(rt; longer == Answer::Bound(1073741824), "{longer:?}");
-    let one = answer_to(alloc, plain(30, 30), false, &[most], &[(30, most)], &[1])?;
-    assert!(rt; one == Answer::Bound(2), "{one:?}");
-    let large = answer_to(
-        alloc,
-        plain(30, 30),
-        false,
-        &[1],
-        &[(30, most)],
-        &[1073741824],
-    )?;
-    assert!(rt; large == Answer::Bound(1073741824), "{large:?}");
+    let rows: [(Entry, &[i64], &[(u32, i64)], &[u32], u32); 5] = [
+        (plain(28, 28), &all[..29], &[], &[], 268435456),
+        (plain(30, 3), &all, &[], &[], 1073741824),
+        (plain(30, 30), &all, &[], &[], 1073741824),
+        (plain(30, 30), &[most], &[(30, most)], &[1], 2),
+        (
+            plain(30, 30),
+            &[1],
+            &[(30, most)],
+            &[1073741824],
+            1073741824,
+        ),
+    ];
+    for (entry, c, y, uppers, want) in rows {
+        let got = answer_to(alloc, entry, false, c, y, uppers)?;
+        assert!(rt; got == Answer::Bound(want), "{entry:?} {c:?}: {got:?}");
+    }
     Ok(())
 }
 

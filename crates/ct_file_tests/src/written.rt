@@ -23,16 +23,16 @@ const WRITTEN: [(&str, &str); 21] = [
         "d = 3\nkind = \"build\"\nn = 2\nop = \"lengthen\"\npart = \"a\"\n",
     ),
     (
-        "op = 'append_one'\npart = 'z9-_'\nkind = 'build'\nw = 28\nn = 28\nd = 28",
-        "d = 28\nkind = \"build\"\nn = 28\nop = \"append_one\"\npart = \"z9-_\"\nw = 28\n",
+        "op = 'append_one'\npart = 'z9-_'\nkind = 'build'\nw = 30\nn = 30\nd = 30",
+        "d = 30\nkind = \"build\"\nn = 30\nop = \"append_one\"\npart = \"z9-_\"\nw = 30\n",
     ),
     (
         "op = 'parity'\npart = 'a'\nkind = 'build'\nn = 24\nd = 8",
         "d = 8\nkind = \"build\"\nn = 24\nop = \"parity\"\npart = \"a\"\n",
     ),
     (
-        "op = 'puncture'\nplaces = [0, 2, 27]\npart = 'a'\nkind = 'build'\nn = 25\nd = 5",
-        "d = 5\nkind = \"build\"\nn = 25\nop = \"puncture\"\npart = \"a\"\nplaces = [0, 2, 27]\n",
+        "op = 'puncture'\nplaces = [0, 2, 29]\npart = 'a'\nkind = 'build'\nn = 27\nd = 5",
+        "d = 5\nkind = \"build\"\nn = 27\nop = \"puncture\"\npart = \"a\"\nplaces = [0, 2, 29]\n",
     ),
     (
         "op = 'shorten'\ndigits = '10'\nplaces = [0x1, 3]\npart = 'a'\nkind = 'build'\nn = 2\nd = 4\nw = 0",

@@ -17,13 +17,31 @@ struct Listing {
     size: u32,
 }
 
-// The extended Hamming code has 16 words; the triples of six places whose sum is 0 modulo 6 are 4.
-const OVER_NOTHING: [Listing; 4] = [
+// The extended Hamming code has 16 words; two words differ at all of 30 places, or have 15 ones each and none in common; the triples of six places whose sum is 0 modulo 6 are 4.
+const OVER_NOTHING: [Listing; 7] = [
     Listing {
         n: 1,
         d: 30,
         w: None,
         size: 1,
+    },
+    Listing {
+        n: 29,
+        d: 30,
+        w: None,
+        size: 1,
+    },
+    Listing {
+        n: 30,
+        d: 30,
+        w: None,
+        size: 2,
+    },
+    Listing {
+        n: 30,
+        d: 30,
+        w: Some(15),
+        size: 2,
     },
     Listing {
         n: 5,

@@ -20,6 +20,23 @@ fn listed(rt: HostRuntime) -> Result<(), Fail> {
     Ok(())
 }
 
+/// The classes of 15 of 30 places, by the residue of their sum, up to 15: a greatest one and the others. Worked out by adding one place after the
+/// other.
+const OF_HALF: [u64; 16] = [
+    5170604, 5170575, 5170575, 5170600, 5170575, 5170578, 5170600, 5170575, 5170575, 5170600,
+    5170578, 5170575, 5170600, 5170575, 5170575, 5170604,
+];
+
+#[test]
+fn of_half_the_places(rt: HostRuntime) {
+    for r in 0..16 {
+        assert!(rt;
+            sum_class_count(30, 15, r) == OF_HALF[r as usize],
+            "residue {r}"
+        );
+    }
+}
+
 /// Every sum class of lengths up to 12, against a plain count of all words.
 #[test]
 fn counted(rt: HostRuntime) {
