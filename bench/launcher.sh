@@ -31,7 +31,7 @@ all)
     find .. -path '*/out' -prune -o -type f -exec sha256sum {} + | sort -k 2 | sha256sum >"$work/read"
     sleep 1000 &
     echo "$! $$" >>"$work/processes"
-    for name in ct_counting ct_lines ct_words; do
+    for name in ct_words ct_lines ct_io; do
         sleep "$(cat "$work/pause")"
         echo "== $name"
     done
@@ -135,7 +135,7 @@ cp -p "$work/kept" "$source"
 check 'a source that is put back needs no build' runs 0
 rm "$repository/crates/ct_lines/proofs/Lib.antt"
 check 'after a deleted source it builds' runs 2
-rm -r "$repository/crates/ct_counting/proofs"
+rm -r "$repository/crates/ct_words/proofs"
 check 'after a deleted folder of sources it builds' runs 2
 touch "$source" "$repository/crates.txt"
 check 'a touched source needs no build' runs 0

@@ -5,9 +5,9 @@ use Rattle.ct_words.proofs.WordLemmas.{distance_same}
 use Rattle.std.specs.Prelude.{Bool, None, Some}
 use Rattle.std.proofs.lemmas.List.{length-map}
 use Rattle.std.proofs.lemmas.List.Elements.{All-map}
-use Rattle.ct_counting.specs.Words.{apart, ones}
-use Rattle.ct_counting.proofs.Pairs.{AllPairs-map, AllPairs-weaker, AllPairs-within}
-use Rattle.ct_counting.proofs.Spread.{IsSpread, IsSpreadOfWeight, IsSpreadBound, IsWeightBound}
+use Rattle.ct_words.specs.Counting.Words.{apart, ones}
+use Rattle.ct_words.proofs.Counting.Pairs.{AllPairs-map, AllPairs-weaker, AllPairs-within}
+use Rattle.ct_words.proofs.Counting.Spread.{IsSpread, IsSpreadOfWeight, IsSpreadBound, IsWeightBound}
 use Rattle.ct_words.specs.Word.{distance, weight}
 use Rattle.ct_words.proofs.DigitLists.{digits_of, length-digits_of, ones-digits_of, apart-digits_of}
 use Rattle.ct_words.proofs.DigitValues.{word_value, word_value-lt, weight-word_value, distance-word_value}

@@ -1,7 +1,7 @@
 -- The numbers of the Hamming scheme, by Krawtchouk, and of the Johnson scheme: the first eigenmatrices of Delsarte 1973.
 use Rattle.std.specs.Prelude.{ℕ, suc, ◌-◌, ◌*◌, ℤ, pos, ◌*ℤ◌, Option, Some, None}
-use Rattle.ct_counting.specs.Alternating.{total_below, sign}
-use Rattle.ct_counting.specs.Binomials.{choose, factorial}
+use Rattle.ct_words.specs.Counting.Alternating.{total_below, sign}
+use Rattle.ct_words.specs.Counting.Binomials.{choose, factorial}
 use Rattle.ct_codes.specs.declared.entry.Entry.{Entry}
 
 -- the Krawtchouk number K_k(i) at length n: the sum over j = 0, .., k of (-1)^j C(i,j) C(n - i,k - j) (Krawtchouk 1929; MacWilliams and Sloane, chapter 5, section 2)

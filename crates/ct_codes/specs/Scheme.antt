@@ -1,6 +1,6 @@
 -- Delsarte's inequalities (Delsarte 1973, An algebraic approach to the association schemes of coding theory; MacWilliams and Sloane, chapter 21).
 use Rattle.std.specs.Prelude.{ℕ, ℤ, pos, ◌≤ℤ◌, ◌^◌, ◌<◌, unsigned_abs, List, All}
-use Rattle.ct_counting.specs.PairTotals.{pair_total}
+use Rattle.ct_words.specs.Counting.PairTotals.{pair_total}
 
 -- over each list of words of a space, repeats included, the values at the indices of all ordered pairs of its words add up to at least 0
 abbrev pub IsPositive : (ℕ → Type 0) → (ℕ → ℕ → ℕ) → (ℕ → ℤ) → Type 0

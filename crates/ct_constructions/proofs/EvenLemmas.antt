@@ -7,7 +7,7 @@ use Rattle.std.proofs.lemmas.Nat.{mod_below}
 use Rattle.std.proofs.lemmas.List.{map_push, length-map}
 use Rattle.std.proofs.lemmas.List.Elements.{All-from_get_or, All-filter, All-weaker, filter_passes, filter-append}
 use Rattle.std.proofs.lemmas.List.Kept.{AllPairs-from_increasing, IsStrictlyIncreasing-filter}
-use Rattle.ct_counting.proofs.Pairs.{AllPairs-weaker, AllPairs-within}
+use Rattle.ct_words.proofs.Counting.Pairs.{AllPairs-weaker, AllPairs-within}
 use Rattle.ct_words.specs.Word.{weight, distance}
 use Rattle.ct_words.specs.Text.{tabulate}
 use Rattle.ct_words.specs.Characters.{words_of_length}

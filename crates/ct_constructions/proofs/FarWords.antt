@@ -1,7 +1,7 @@
 -- Codes as lists of words each two of which are different and far apart.
 use Rattle.std.proofs.Common.{◌≡◌, ◌≢◌, ℕ, ◌^◌, ◌<◌, ◌≤◌, List, get_or, All, ap, lt_trans, arith}
 use Rattle.std.specs.Prelude.{AllPairs, Option, IfSome}
-use Rattle.ct_counting.proofs.Pairs.{AllPairs-weaker}
+use Rattle.ct_words.proofs.Counting.Pairs.{AllPairs-weaker}
 use Rattle.ct_words.specs.Word.{weight, distance}
 use Rattle.ct_words.proofs.WordLemmas.{distance-pos, distance_same, distance_comm}
 use Rattle.ct_codes.specs.Code.{IsCode}

@@ -3,7 +3,7 @@ use Rattle.std.proofs.Common.{◌≡◌, ◌≢◌, ℕ, ◌+◌, ◌^◌, ◌<�
 use Rattle.std.specs.List.Sorted.{IsStrictlyIncreasing}
 use Rattle.std.proofs.lemmas.List.{get_or-take}
 use Rattle.std.proofs.lemmas.List.Elements.{All-take}
-use Rattle.ct_counting.proofs.Pairs.{AllPairs-take, AllPairs-weaker}
+use Rattle.ct_words.proofs.Counting.Pairs.{AllPairs-take, AllPairs-weaker}
 use Rattle.ct_words.specs.Word.{weight, distance}
 use Rattle.ct_codes.specs.Code.{IsCode}
 

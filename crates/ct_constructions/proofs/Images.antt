@@ -5,7 +5,7 @@ use Rattle.std.specs.Option.{option_map}
 use Rattle.std.specs.List.Sorted.{IsStrictlyIncreasing}
 use Rattle.std.proofs.lemmas.List.{length-map, get_or-map}
 use Rattle.std.proofs.lemmas.List.Elements.{All-map}
-use Rattle.ct_counting.proofs.Pairs.{AllPairs-map, AllPairs-within}
+use Rattle.ct_words.proofs.Counting.Pairs.{AllPairs-map, AllPairs-within}
 use Rattle.ct_words.specs.Word.{weight, distance}
 use Rattle.ct_codes.specs.Code.{IsCode}
 

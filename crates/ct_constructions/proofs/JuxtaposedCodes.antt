@@ -8,7 +8,7 @@ use Rattle.std.proofs.lemmas.List.{length-map}
 use Rattle.std.proofs.lemmas.List.Elements.{All-nil, All-cons, All-head, All-tail}
 use Rattle.std.proofs.lemmas.List.Kept.{AllPairs-cons, AllPairs-from_increasing}
 use Rattle.std.proofs.lemmas.Slice.Zip.{length-zip}
-use Rattle.ct_counting.proofs.Pairs.{AllPairs-head, AllPairs-tail}
+use Rattle.ct_words.proofs.Counting.Pairs.{AllPairs-head, AllPairs-tail}
 use Rattle.ct_words.specs.Word.{weight}
 use Rattle.ct_words.specs.declared.limits.TheConstants.{MAX_N}
 use Rattle.ct_codes.specs.declared.code.TheConstants.{MAX_CODE_DISTANCE}

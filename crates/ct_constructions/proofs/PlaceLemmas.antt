@@ -9,7 +9,7 @@ use Rattle.std.proofs.lemmas.List.Elements.{All-from_get_or, All-cons, All-head,
 use Rattle.std.proofs.lemmas.List.Folds.{list_any-append, list_any_none}
 use Rattle.std.proofs.lemmas.List.Kept.{AllPairs-from_increasing}
 use Rattle.std.proofs.lemmas.List.Sums.{sum_by-cons, sum_by-append}
-use Rattle.ct_counting.proofs.Sums.{sum_by-constant}
+use Rattle.ct_words.proofs.Counting.Sums.{sum_by-constant}
 use Rattle.ct_words.specs.Text.{tabulate}
 use Rattle.ct_words.specs.PairProducts.{all_places}
 use Rattle.ct_words.proofs.TextLemmas.{tabulate_same, length-tabulate, get_or-tabulate}

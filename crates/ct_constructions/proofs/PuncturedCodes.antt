@@ -4,7 +4,7 @@ use Rattle.std.specs.Prelude.{not, ◌==◌, cond, count_by, Option, None}
 use Rattle.std.proofs.lemmas.List.{length-map}
 use Rattle.std.proofs.lemmas.List.Elements.{All-map}
 use Rattle.std.proofs.lemmas.List.Sums.{count_by-le-length}
-use Rattle.ct_counting.proofs.Pairs.{AllPairs-map, AllPairs-weaker}
+use Rattle.ct_words.proofs.Counting.Pairs.{AllPairs-map, AllPairs-weaker}
 use Rattle.ct_words.specs.Word.{digit, distance}
 use Rattle.ct_codes.specs.Code.{IsCode}
 use Rattle.ct_constructions.specs.Places.{ArePlaces, other_places, read_at}

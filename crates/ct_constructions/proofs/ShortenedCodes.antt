@@ -11,7 +11,7 @@ use Rattle.std.proofs.lemmas.List.Sums.{sum_by-cons, get_or-le-sum_by, length-fi
 use Rattle.std.proofs.lemmas.List.Folds.{list_all_at}
 use Rattle.std.proofs.lemmas.Slice.Zip.{length-zip, get_or-zip}
 use Rattle.std.proofs.lemmas.List.Filters.{length-filter_both}
-use Rattle.ct_counting.proofs.Pairs.{AllPairs-map, AllPairs-within}
+use Rattle.ct_words.proofs.Counting.Pairs.{AllPairs-map, AllPairs-within}
 use Rattle.ct_words.specs.Word.{digit, weight}
 use Rattle.ct_words.proofs.WordLemmas.{digit-lt}
 use Rattle.ct_codes.specs.Code.{IsCode, CodeValue, IsSoundCode}

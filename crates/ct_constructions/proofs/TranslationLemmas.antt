@@ -9,7 +9,7 @@ use Rattle.std.proofs.lemmas.List.{length-map, map_more}
 use Rattle.std.proofs.lemmas.Bool.{cases_Bool}
 use Rattle.std.proofs.lemmas.List.Elements.{All-filter, All-weaker, filter_passes, filter-append}
 use Rattle.std.proofs.lemmas.List.Kept.{AllPairs-filter}
-use Rattle.ct_counting.proofs.Pairs.{AllPairs-within}
+use Rattle.ct_words.proofs.Counting.Pairs.{AllPairs-within}
 use Rattle.ct_words.specs.Word.{places, digit, weight, distance}
 use Rattle.ct_words.proofs.WordLemmas.{one, digit-lt, weights_of_pair, IsSum-bit_xor, distance-sum, distance_same, same_from_distance}
 use Rattle.ct_codes.specs.Code.{IsCode, CodeValue, IsSoundCode}

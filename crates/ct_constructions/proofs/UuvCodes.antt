@@ -4,7 +4,7 @@ use Rattle.std.specs.Prelude.{◌⊎◌, AllPairs, Option, None}
 use Rattle.std.proofs.lemmas.List.{length-map}
 use Rattle.std.proofs.lemmas.List.Elements.{All-nil, All-append, All-map, All-head, All-tail}
 use Rattle.std.proofs.lemmas.Nat.{xor_lt, xor_comm}
-use Rattle.ct_counting.proofs.Pairs.{AllPairs-head, AllPairs-tail, AllPairs-append, AllPairs-map, AllPairs-within, AllPairs-others}
+use Rattle.ct_words.proofs.Counting.Pairs.{AllPairs-head, AllPairs-tail, AllPairs-append, AllPairs-map, AllPairs-within, AllPairs-others}
 use Rattle.ct_words.specs.Word.{distance, IsSum}
 use Rattle.ct_words.proofs.WordLemmas.{IsSum-bit_xor, distance_same, distance_comm, distance-triangle, distance-sum}
 use Rattle.ct_codes.specs.Code.{IsCode}

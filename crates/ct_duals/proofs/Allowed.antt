@@ -7,10 +7,10 @@ use Rattle.std.proofs.lemmas.Nat.{mul-le}
 use Rattle.std.proofs.lemmas.Bool.{cases_Bool, cases_eq}
 use Rattle.std.proofs.lemmas.List.Elements.{recursion_from_All}
 use Rattle.std.proofs.lemmas.List.Sums.{sum_by-cons}
-use Rattle.ct_counting.specs.Sums.{total}
-use Rattle.ct_counting.proofs.Sums.{sum_by-scale}
-use Rattle.ct_counting.proofs.Totals.{total-zero, total-add}
-use Rattle.ct_counting.proofs.Pairs.{AllPairs-head, AllPairs-tail}
+use Rattle.ct_words.specs.Counting.Sums.{total}
+use Rattle.ct_words.proofs.Counting.Sums.{sum_by-scale}
+use Rattle.ct_words.proofs.Counting.Totals.{total-zero, total-add}
+use Rattle.ct_words.proofs.Counting.Pairs.{AllPairs-head, AllPairs-tail}
 use Rattle.ct_codes.specs.declared.entry.Entry.{Entry}
 use Rattle.ct_duals.specs.Dual.{allowed}
 use Rattle.ct_duals.specs.Bound.{natural, positive, charges, is_far, near_charge, far_charge}

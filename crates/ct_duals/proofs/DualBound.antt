@@ -6,7 +6,7 @@ use Rattle.std.proofs.lemmas.Int.{ints}
 use Rattle.std.proofs.lemmas.Nat.{le-div}
 use Rattle.std.proofs.Math.Nat.{pow-le-pow_right}
 use Rattle.std.proofs.lemmas.List.Kept.{AllPairs-filter}
-use Rattle.ct_counting.proofs.Pairs.{AllPairs-weaker, AllPairs-head, AllPairs-tail}
+use Rattle.ct_words.proofs.Counting.Pairs.{AllPairs-weaker, AllPairs-head, AllPairs-tail}
 use Rattle.std.proofs.lemmas.List.Elements.{All-head, All-tail}
 use Rattle.std.proofs.lemmas.Bool.{and_parts}
 use Rattle.ct_words.specs.declared.limits.TheConstants.{MAX_BOUND, MAX_N}

@@ -5,10 +5,10 @@ use Rattle.std.specs.List.{All, AllPairs}
 use Rattle.std.proofs.lemmas.Bool.{cases_Bool}
 use Rattle.std.proofs.lemmas.List.Elements.{All-map, All-cons, All-nil, recursion_from_All}
 use Rattle.std.proofs.lemmas.List.Sums.{length-filter}
-use Rattle.ct_counting.specs.Words.{apart, differ}
-use Rattle.ct_counting.proofs.Sums.{sum_by-map, sum_by-congruence_within}
-use Rattle.ct_counting.proofs.Pairs.{AllPairs-others}
-use Rattle.ct_counting.proofs.DoubleCounting.{count_by-none}
+use Rattle.ct_words.specs.Counting.Words.{apart, differ}
+use Rattle.ct_words.proofs.Counting.Sums.{sum_by-map, sum_by-congruence_within}
+use Rattle.ct_words.proofs.Counting.Pairs.{AllPairs-others}
+use Rattle.ct_words.proofs.Counting.DoubleCounting.{count_by-none}
 use Rattle.ct_words.specs.Word.{weight, distance}
 use Rattle.ct_words.proofs.WordLemmas.{IsSum-bit_xor, distance-is_weight, distance_comm, weights_of_pair}
 use Rattle.ct_words.proofs.DigitLists.{digits_of, length-digits_of, apart-digits_of}

@@ -5,11 +5,11 @@ use Rattle.std.specs.List.{AllByRecursion}
 use Rattle.std.proofs.lemmas.Int.{ints}
 use Rattle.std.proofs.lemmas.Nat.{mul-le}
 use Rattle.std.proofs.lemmas.Bool.{cases_lt}
-use Rattle.ct_counting.specs.Sums.{total}
-use Rattle.ct_counting.specs.PairTotals.{pair_total}
-use Rattle.ct_counting.specs.Alternating.{total_below}
-use Rattle.ct_counting.proofs.Totals.{total-congruence, total-zero, total-add}
-use Rattle.ct_counting.proofs.PairTotals.{pair_total-scale}
+use Rattle.ct_words.specs.Counting.Sums.{total}
+use Rattle.ct_words.specs.Counting.PairTotals.{pair_total}
+use Rattle.ct_words.specs.Counting.Alternating.{total_below}
+use Rattle.ct_words.proofs.Counting.Totals.{total-congruence, total-zero, total-add}
+use Rattle.ct_words.proofs.Counting.PairTotals.{pair_total-scale}
 
 -- a product of numbers that are not negative is not negative
 pub product-nonneg : (a b : ℤ) → pos 0 ≤ℤ a → pos 0 ≤ℤ b → pos 0 ≤ℤ (a *ℤ b)

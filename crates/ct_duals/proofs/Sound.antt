@@ -5,12 +5,12 @@ use Rattle.std.specs.List.{All, AllPairs, AllByRecursion}
 use Rattle.std.proofs.lemmas.Int.{ints}
 use Rattle.std.proofs.lemmas.Nat.{mul-le}
 use Rattle.std.proofs.lemmas.List.Elements.{All-cons, All-nil, recursion_from_All}
-use Rattle.ct_counting.specs.Sums.{total}
-use Rattle.ct_counting.specs.PairTotals.{pair_total}
-use Rattle.ct_counting.specs.Alternating.{total_below}
-use Rattle.ct_counting.proofs.Pairs.{AllPairs-others}
-use Rattle.ct_counting.proofs.DoubleCounting.{count_by-le_one}
-use Rattle.ct_counting.proofs.PairTotals.{pair_total-congruence_within}
+use Rattle.ct_words.specs.Counting.Sums.{total}
+use Rattle.ct_words.specs.Counting.PairTotals.{pair_total}
+use Rattle.ct_words.specs.Counting.Alternating.{total_below}
+use Rattle.ct_words.proofs.Counting.Pairs.{AllPairs-others}
+use Rattle.ct_words.proofs.Counting.DoubleCounting.{count_by-le_one}
+use Rattle.ct_words.proofs.Counting.PairTotals.{pair_total-congruence_within}
 use Rattle.ct_words.specs.Word.{distance}
 use Rattle.ct_words.proofs.WordLemmas.{distance_comm, distance_same, distance-triangle}
 use Rattle.ct_codes.specs.Scheme.{IsPositive}

@@ -1,6 +1,6 @@
 -- Duals of Delsarte's linear program (Delsarte 1973; MacWilliams and Sloane, chapter 17, section 4), and the spaces of words that they speak of.
 use Rattle.std.specs.Prelude.{◌≡◌, ℕ, suc, ◌-◌, ◌/◌, ◌%◌, ◌^◌, ◌<◌, ◌≤◌, min, Bool, true, false, not, ◌==◌, ◌&&◌, ◌||◌, nat_le, if◌then◌else◌, IsTrue, List, [], ◌∷◌, length, get_or, ℤ, pos, ◌*ℤ◌, ◌≤ℤ◌, ◌<ℤ◌, All, AllPairs, Option, Some, None, IfSome}
-use Rattle.ct_counting.specs.Alternating.{total_below}
+use Rattle.ct_words.specs.Counting.Alternating.{total_below}
 use Rattle.ct_words.specs.Word.{weight, distance}
 use Rattle.ct_codes.specs.declared.entry.Entry.{Entry}
 use Rattle.ct_codes.specs.Entry.{IsEntry}

@@ -4,11 +4,11 @@ use Rattle.std.proofs.Math.Nat.{le_of_mul-le-mul_left, mul-le-mul}
 use Rattle.std.proofs.lemmas.Bool.{cases_lt, cases_eq}
 use Rattle.std.proofs.lemmas.Nat.{le-div}
 use Rattle.std.specs.Prelude.{Bool, ◌⊎◌}
-use Rattle.ct_counting.specs.Words.{apart, ones}
-use Rattle.ct_counting.proofs.Distances.{apart_symmetric}
-use Rattle.ct_counting.proofs.Spread.{IsSpread}
-use Rattle.ct_counting.proofs.PairSums.{pair_sum, pair_sum-ge}
-use Rattle.ct_counting.proofs.Places.{difference, zeros, ones-zeros, column_pairs, distances-le}
+use Rattle.ct_words.specs.Counting.Words.{apart, ones}
+use Rattle.ct_words.proofs.Counting.Distances.{apart_symmetric}
+use Rattle.ct_words.proofs.Counting.Spread.{IsSpread}
+use Rattle.ct_words.proofs.Counting.PairSums.{pair_sum, pair_sum-ge}
+use Rattle.ct_words.proofs.Counting.Places.{difference, zeros, ones-zeros, column_pairs, distances-le}
 
 -- four times a product of two numbers, and the square of their difference, are the square of their sum
 square_gap : (k t : ℕ) → 2 * (2 * (k * (k + t))) + t * t ≡ (k + (k + t)) * (k + (k + t))

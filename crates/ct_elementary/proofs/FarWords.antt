@@ -1,8 +1,8 @@
 -- Words of n digits differ at no more than n places.
 use Rattle.std.proofs.Common.{ℕ, ◌<◌, ◌≤◌, List, [], ◌∷◌, length, arith}
 use Rattle.std.specs.Prelude.{Bool}
-use Rattle.ct_counting.proofs.Spread.{IsSpread}
-use Rattle.ct_counting.proofs.Distances.{apart-le-length}
+use Rattle.ct_words.proofs.Counting.Spread.{IsSpread}
+use Rattle.ct_words.proofs.Counting.Distances.{apart-le-length}
 
 -- so at most one word has distance above n
 pub spread_far : (n d : ℕ) → n < d → (cs : List (List Bool)) → IsSpread n d cs → length cs ≤ 1

@@ -2,8 +2,8 @@
 use Rattle.std.proofs.Common.{◌≡◌, ℕ, zero, suc, ◌-◌, ◌*◌, ◌/◌, ◌≤◌, List, length, ap, ◌∙◌, arith}
 use Rattle.std.proofs.Math.Nat.{div-one}
 use Rattle.std.specs.Prelude.{Bool, true, false}
-use Rattle.ct_counting.proofs.Spread.{IsSpread}
-use Rattle.ct_counting.proofs.Shortened.{shortened, spread-shortened, length-halves}
+use Rattle.ct_words.proofs.Counting.Spread.{IsSpread}
+use Rattle.ct_words.proofs.Counting.Shortened.{shortened, spread-shortened, length-halves}
 use Rattle.ct_elementary.proofs.Averages.{spread_plotkin}
 
 -- Plotkin's bound for n = 2d, where n = m + 1

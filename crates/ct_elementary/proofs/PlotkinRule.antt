@@ -9,11 +9,11 @@ use Rattle.ct_words.specs.declared.limits.TheConstants.{MAX_N, MAX_BOUND}
 use Rattle.ct_codes.specs.Code.{IsTrueUpper}
 use Rattle.ct_codes.specs.Entry.{unrestricted}
 use Rattle.ct_elementary.specs.Bounds.{plotkin_even}
-use Rattle.ct_counting.proofs.Spread.{IsSpread}
+use Rattle.ct_words.proofs.Counting.Spread.{IsSpread}
 use Rattle.ct_codes.proofs.DigitCodes.{bound_from_spread}
 use Rattle.ct_elementary.proofs.Averages.{spread_plotkin}
 use Rattle.ct_elementary.proofs.Halves.{spread_double}
-use Rattle.ct_counting.proofs.Parity.{extended, spread_extended}
+use Rattle.ct_words.proofs.Counting.Parity.{extended, spread_extended}
 
 -- where the rule for an even distance gives a value, and which
 even_cases : (n d v : ℕ) → 1 ≤ d → plotkin_even n d ≡ Some v → ((d ≤ n) × (n < 2 * d) × (2 * (d / (2 * d - n)) ≡ v)) ⊎ ((n ≡ 2 * d) × (4 * d ≡ v))

@@ -1,7 +1,7 @@
 -- Three elementary upper bounds on A(n,d) (MacWilliams and Sloane, The Theory of Error-Correcting Codes, chapter 1, section 5 and
 -- chapter 2, section 2).
 use Rattle.std.specs.Prelude.{ℕ, ◌+◌, ◌-◌, ◌*◌, ◌/◌, ◌%◌, ◌^◌, ◌==◌, ◌&&◌, nat_le, nat_lt, if◌then◌else◌, Option, Some, None}
-use Rattle.ct_counting.specs.Binomials.{volume}
+use Rattle.ct_words.specs.Counting.Binomials.{volume}
 
 -- where d is above n, a code has at most one word
 abbrev pub far_value : ℕ → ℕ → Option ℕ

@@ -4,9 +4,9 @@ use Rattle.std.specs.Prelude.{ℤ, pos, negsuc, neg_ℤ, ◌+ℤ◌, ◌-ℤ◌,
 use Rattle.std.proofs.lemmas.Int.{ints, unsigned_abs-mul}
 use Rattle.std.proofs.lemmas.Nat.{mul-le}
 use Rattle.std.proofs.lemmas.Bool.{ne_eqb, eqb-false}
-use Rattle.ct_counting.specs.Alternating.{total_below}
-use Rattle.ct_counting.proofs.Totals.{int_dist}
-use Rattle.ct_counting.proofs.Products.{int_mul_assoc, int_mul_neg, int_neg_mul, int_dist_right}
+use Rattle.ct_words.specs.Counting.Alternating.{total_below}
+use Rattle.ct_words.proofs.Counting.Totals.{int_dist}
+use Rattle.ct_words.proofs.Counting.Products.{int_mul_assoc, int_mul_neg, int_neg_mul, int_dist_right}
 
 -- a product with a difference
 pub int_sub_mul : (a b c : ℤ) → (a -ℤ b) *ℤ c ≡ (a *ℤ c) -ℤ (b *ℤ c)

@@ -5,12 +5,12 @@ use Rattle.std.proofs.lemmas.Int.{ints}
 use Rattle.std.proofs.lemmas.Bool.{and_parts}
 use Rattle.std.proofs.lemmas.List.{length-replicate, get_or-replicate}
 use Rattle.std.proofs.lemmas.List.Elements.{All-replicate}
-use Rattle.ct_counting.specs.Sums.{sum_below}
-use Rattle.ct_counting.specs.Alternating.{total_below}
-use Rattle.ct_counting.specs.Binomials.{choose}
-use Rattle.ct_counting.proofs.Binomials.{choose_past, row_total}
-use Rattle.ct_counting.proofs.Convolutions.{total_below-congruence}
-use Rattle.ct_counting.proofs.SignedBinomials.{signed_binomial, signed_binomial-first, signed_binomial-none, signed_binomial-plus, signed_binomial-minus, signed_binomial-le}
+use Rattle.ct_words.specs.Counting.Sums.{sum_below}
+use Rattle.ct_words.specs.Counting.Alternating.{total_below}
+use Rattle.ct_words.specs.Counting.Binomials.{choose}
+use Rattle.ct_words.proofs.Counting.Binomials.{choose_past, row_total}
+use Rattle.ct_words.proofs.Counting.Convolutions.{total_below-congruence}
+use Rattle.ct_words.proofs.Counting.SignedBinomials.{signed_binomial, signed_binomial-first, signed_binomial-none, signed_binomial-plus, signed_binomial-minus, signed_binomial-le}
 use Rattle.ct_codes.specs.Entry.{unrestricted}
 use Rattle.ct_codes.proofs.EntryLemmas.{entry_limits}
 use Rattle.ct_codes.specs.Numbers.{krawtchouk}

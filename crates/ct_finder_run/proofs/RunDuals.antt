@@ -6,9 +6,9 @@ use Rattle.std.proofs.lemmas.Int.{ints}
 use Rattle.std.proofs.lemmas.Bool.{and_parts, eqb-false}
 use Rattle.std.proofs.lemmas.List.Elements.{All-cons, All-map}
 use Rattle.std.proofs.lemmas.List.FromFn.{length-map-range_with_len, get_or-map-range_with_len}
-use Rattle.ct_counting.specs.Alternating.{total_below}
-use Rattle.ct_counting.proofs.Products.{int_mul_neg}
-use Rattle.ct_counting.proofs.Convolutions.{total_below-congruence, total_below-first}
+use Rattle.ct_words.specs.Counting.Alternating.{total_below}
+use Rattle.ct_words.proofs.Counting.Products.{int_mul_neg}
+use Rattle.ct_words.proofs.Counting.Convolutions.{total_below-congruence, total_below-first}
 use Rattle.ct_words.specs.declared.limits.TheConstants.{MAX_BOUND}
 use Rattle.ct_codes.specs.declared.entry.Entry.{Entry}
 use Rattle.ct_codes.specs.Pairs.{first_of}

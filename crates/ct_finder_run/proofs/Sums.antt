@@ -4,7 +4,7 @@ use Rattle.std.specs.Prelude.{ℤ, pos, ◌-ℤ◌, ◌*ℤ◌, ◌≤ℤ◌}
 use Rattle.std.specs.List.{All, range_with_len}
 use Rattle.std.proofs.lemmas.Int.{ints}
 use Rattle.std.proofs.lemmas.List.Elements.{All-nil, All-cons, All-map}
-use Rattle.ct_counting.specs.Alternating.{total_below}
+use Rattle.ct_words.specs.Counting.Alternating.{total_below}
 use Rattle.ct_finder_run.specs.Column.{Column, rows_to, columns, opening_entry, cost_entry, opening_row, opening}
 use Rattle.ct_finder_run.specs.Column.Column.{Z, S}
 use Rattle.ct_finder_run.specs.Divisor.{divisor}

@@ -1,6 +1,6 @@
 -- What each row of a run is: a sum of the opening rows.
 use Rattle.std.specs.Prelude.{◌≡◌, ℕ, zero, suc, List, map, length, Option, Some, None, All, ℤ, pos, ◌+ℤ◌, ◌*ℤ◌, ◌≤ℤ◌}
-use Rattle.ct_counting.specs.Alternating.{total_below}
+use Rattle.ct_words.specs.Counting.Alternating.{total_below}
 use Rattle.ct_finder_run.specs.Column.{Column, Tableau, cost_entry, opening_row}
 use Rattle.ct_finder_run.specs.Column.Column.{Z, S}
 use Rattle.ct_finder_run.specs.Turn.{entering, pivot_row, turned}

@@ -6,18 +6,18 @@ use Rattle.std.proofs.lemmas.Bool.{cases_eq, eq-eqb, ne_eqb, cond-true}
 use Rattle.std.proofs.lemmas.List.{length-map}
 use Rattle.std.proofs.Math.Nat.{mul-le-mul_left}
 use Rattle.std.proofs.lemmas.Nat.{le-div}
-use Rattle.ct_counting.specs.Binomials.{choose}
-use Rattle.ct_counting.specs.Words.{all_words, apart, ones}
-use Rattle.ct_counting.proofs.Binomials.{one-le-choose, choose-le-half}
-use Rattle.ct_counting.proofs.Sums.{sum_by-constant, sum_by-scale, sum_by-congruence}
-use Rattle.ct_counting.proofs.DoubleCounting.{double_count, count_by-none}
-use Rattle.ct_counting.proofs.Words.{lengths-all_words}
-use Rattle.ct_counting.proofs.Distances.{apart_symmetric}
-use Rattle.ct_counting.proofs.Spread.{IsSpread, IsSpreadBound, IsWeightBound}
-use Rattle.ct_counting.proofs.Spheres.{sphere_size}
-use Rattle.ct_counting.proofs.CommonOnes.{common_ones, ones-common}
-use Rattle.ct_counting.proofs.Parity.{evened, spread-evened, weights-evened, half_have_parity}
-use Rattle.ct_counting.proofs.Translations.{around, length-around, spread-around}
+use Rattle.ct_words.specs.Counting.Binomials.{choose}
+use Rattle.ct_words.specs.Counting.Words.{all_words, apart, ones}
+use Rattle.ct_words.proofs.Counting.Binomials.{one-le-choose, choose-le-half}
+use Rattle.ct_words.proofs.Counting.Sums.{sum_by-constant, sum_by-scale, sum_by-congruence}
+use Rattle.ct_words.proofs.Counting.DoubleCounting.{double_count, count_by-none}
+use Rattle.ct_words.proofs.Counting.Words.{lengths-all_words}
+use Rattle.ct_words.proofs.Counting.Distances.{apart_symmetric}
+use Rattle.ct_words.proofs.Counting.Spread.{IsSpread, IsSpreadBound, IsWeightBound}
+use Rattle.ct_words.proofs.Counting.Spheres.{sphere_size}
+use Rattle.ct_words.proofs.Counting.CommonOnes.{common_ones, ones-common}
+use Rattle.ct_words.proofs.Counting.Parity.{evened, spread-evened, weights-evened, half_have_parity}
+use Rattle.ct_words.proofs.Counting.Translations.{around, length-around, spread-around}
 use Rattle.ct_codes.specs.Entry.{constant_weight, unrestricted}
 use Rattle.ct_codes.specs.Code.{IsTrueUpper}
 use Rattle.ct_codes.proofs.DigitCodes.{bound_from_spread, weight_bound_from_codes}

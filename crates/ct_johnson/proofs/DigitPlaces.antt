@@ -7,9 +7,9 @@ use Rattle.std.proofs.Math.Nat.{mul-le-mul_left}
 use Rattle.std.proofs.lemmas.Bool.{cases_lt}
 use Rattle.std.proofs.lemmas.List.{length-take-le}
 use Rattle.std.proofs.lemmas.List.Elements.{All-nil, All-cons, recursion_from_All}
-use Rattle.ct_counting.specs.Sums.{sum_below}
-use Rattle.ct_counting.proofs.Sums.{sum_by-congruence, sum_by-congruence_within, sum_by-constant, sum_below-congruence}
-use Rattle.ct_counting.proofs.Shortened.{sum_below-sum_by}
+use Rattle.ct_words.specs.Counting.Sums.{sum_below}
+use Rattle.ct_words.proofs.Counting.Sums.{sum_by-congruence, sum_by-congruence_within, sum_by-constant, sum_below-congruence}
+use Rattle.ct_words.proofs.Counting.Shortened.{sum_below-sum_by}
 use Rattle.ct_words.specs.Word.{places, digit, weight}
 use Rattle.ct_words.proofs.WordLemmas.{one, digit-lt}
 use Rattle.ct_codes.specs.Code.{IsCode, IsTrueLower}

@@ -5,9 +5,9 @@ use Rattle.std.specs.Prelude.{Option, Some, None, IfSome}
 use Rattle.std.proofs.lemmas.Bool.{cases_lt, lt-ltb, le-ltb}
 use Rattle.std.proofs.lemmas.Nat.{le-div}
 use Rattle.std.proofs.lemmas.Option.{cond_some}
-use Rattle.ct_counting.specs.Binomials.{choose, volume}
-use Rattle.ct_counting.proofs.Binomials.{choose-le, volume-le, one-le-volume}
-use Rattle.ct_counting.proofs.Spread.{IsSpreadBound, IsWeightBound}
+use Rattle.ct_words.specs.Counting.Binomials.{choose, volume}
+use Rattle.ct_words.proofs.Counting.Binomials.{choose-le, volume-le, one-le-volume}
+use Rattle.ct_words.proofs.Counting.Spread.{IsSpreadBound, IsWeightBound}
 use Rattle.ct_words.specs.declared.limits.TheConstants.{MAX_N, MAX_BOUND}
 use Rattle.ct_codes.specs.Entry.{constant_weight, unrestricted}
 use Rattle.ct_codes.specs.Code.{IsTrueUpper}

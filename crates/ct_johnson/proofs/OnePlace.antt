@@ -3,11 +3,11 @@ use Rattle.std.proofs.Common.{◌≡◌, ℕ, zero, suc, ◌+◌, ◌-◌, ◌*�
 use Rattle.std.proofs.lemmas.Nat.{le-div}
 use Rattle.std.proofs.lemmas.List.Elements.{recursion_from_All}
 use Rattle.std.specs.Prelude.{Bool, true, false}
-use Rattle.ct_counting.specs.Words.{ones}
-use Rattle.ct_counting.proofs.Sums.{sum_by-constant, sum_by-congruence_within, sum_below-bound}
-use Rattle.ct_counting.proofs.Spread.{IsSpreadOfWeight, IsWeightBound}
-use Rattle.ct_counting.proofs.Complements.{complement_bound}
-use Rattle.ct_counting.proofs.Shortened.{shortened, weight-shortened, length-halves, ones-by_places}
+use Rattle.ct_words.specs.Counting.Words.{ones}
+use Rattle.ct_words.proofs.Counting.Sums.{sum_by-constant, sum_by-congruence_within, sum_below-bound}
+use Rattle.ct_words.proofs.Counting.Spread.{IsSpreadOfWeight, IsWeightBound}
+use Rattle.ct_words.proofs.Counting.Complements.{complement_bound}
+use Rattle.ct_words.proofs.Counting.Shortened.{shortened, weight-shortened, length-halves, ones-by_places}
 
 -- the ones of all words: w for each word, and at most u at each place
 pub one_at_places : (n d w u : ℕ) → IsWeightBound n d w u → (cs : List (List Bool)) → IsSpreadOfWeight (suc n) d (suc w) cs → length cs * suc w ≤ suc n * u

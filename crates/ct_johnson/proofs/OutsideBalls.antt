@@ -9,19 +9,19 @@ use Rattle.std.proofs.Math.Nat.{mul-le-mul_left}
 use Rattle.std.proofs.lemmas.List.Elements.{recursion_from_All}
 use Rattle.std.proofs.lemmas.List.Sums.{sum_by-le-sum_by}
 use Rattle.std.proofs.lemmas.Nat.{le-div}
-use Rattle.ct_counting.specs.Binomials.{choose, volume}
-use Rattle.ct_counting.specs.Words.{all_words, apart}
-use Rattle.ct_counting.proofs.Binomials.{choose_symmetric_at}
-use Rattle.ct_counting.proofs.Sums.{sum_by-constant, sum_by-scale, sum_by-add, sum_by-congruence, sum_by-congruence_within, sum_by-le_within}
-use Rattle.ct_counting.proofs.Pairs.{AllPairs-others}
-use Rattle.ct_counting.proofs.DoubleCounting.{double_count, count_by-swap, count_by-none}
-use Rattle.ct_counting.proofs.Words.{length-all_words, lengths-all_words}
-use Rattle.ct_counting.proofs.Distances.{apart_symmetric, apart_triangle}
-use Rattle.ct_counting.proofs.Between.{lies_between, count_between}
-use Rattle.ct_counting.proofs.Spread.{IsSpread, IsSpreadBound, IsWeightBound}
-use Rattle.ct_counting.proofs.Spheres.{ball_size, sphere_size, one_ball}
-use Rattle.ct_counting.proofs.CommonOnes.{spread-even_distance, disjoint_words}
-use Rattle.ct_counting.proofs.Translations.{around, length-around, spread-around}
+use Rattle.ct_words.specs.Counting.Binomials.{choose, volume}
+use Rattle.ct_words.specs.Counting.Words.{all_words, apart}
+use Rattle.ct_words.proofs.Counting.Binomials.{choose_symmetric_at}
+use Rattle.ct_words.proofs.Counting.Sums.{sum_by-constant, sum_by-scale, sum_by-add, sum_by-congruence, sum_by-congruence_within, sum_by-le_within}
+use Rattle.ct_words.proofs.Counting.Pairs.{AllPairs-others}
+use Rattle.ct_words.proofs.Counting.DoubleCounting.{double_count, count_by-swap, count_by-none}
+use Rattle.ct_words.proofs.Counting.Words.{length-all_words, lengths-all_words}
+use Rattle.ct_words.proofs.Counting.Distances.{apart_symmetric, apart_triangle}
+use Rattle.ct_words.proofs.Counting.Between.{lies_between, count_between}
+use Rattle.ct_words.proofs.Counting.Spread.{IsSpread, IsSpreadBound, IsWeightBound}
+use Rattle.ct_words.proofs.Counting.Spheres.{ball_size, sphere_size, one_ball}
+use Rattle.ct_words.proofs.Counting.CommonOnes.{spread-even_distance, disjoint_words}
+use Rattle.ct_words.proofs.Counting.Translations.{around, length-around, spread-around}
 
 -- how many words of the code lie within distance e of x
 abbrev pub near : ℕ → List (List Bool) → List Bool → ℕ

@@ -7,12 +7,12 @@ use Rattle.std.proofs.lemmas.Bool.{cases_lt, le-ltb, le-leb}
 use Rattle.std.proofs.lemmas.Option.{same_Some, none-some}
 use Rattle.std.proofs.lemmas.List.{length-take-le}
 use Rattle.std.proofs.lemmas.List.Elements.{recursion_from_All}
-use Rattle.ct_counting.specs.Words.{apart, ones}
-use Rattle.ct_counting.proofs.Sums.{sum_by-constant, sum_by-congruence_within}
-use Rattle.ct_counting.proofs.Pairs.{AllPairs-within}
-use Rattle.ct_counting.proofs.PairSums.{pair_sum, pair_sum-le}
-use Rattle.ct_counting.proofs.Spread.{IsSpreadOfWeight, IsWeightBound, spread-take}
-use Rattle.ct_counting.proofs.CommonOnes.{common_ones, ones-common, common_self, common_symmetric, columns-ge}
+use Rattle.ct_words.specs.Counting.Words.{apart, ones}
+use Rattle.ct_words.proofs.Counting.Sums.{sum_by-constant, sum_by-congruence_within}
+use Rattle.ct_words.proofs.Counting.Pairs.{AllPairs-within}
+use Rattle.ct_words.proofs.Counting.PairSums.{pair_sum, pair_sum-le}
+use Rattle.ct_words.proofs.Counting.Spread.{IsSpreadOfWeight, IsWeightBound, spread-take}
+use Rattle.ct_words.proofs.Counting.CommonOnes.{common_ones, ones-common, common_self, common_symmetric, columns-ge}
 use Rattle.ct_codes.specs.Entry.{constant_weight}
 use Rattle.ct_codes.specs.Code.{IsTrueUpper}
 use Rattle.ct_codes.proofs.DigitCodes.{bound_from_weight}

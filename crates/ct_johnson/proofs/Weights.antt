@@ -3,17 +3,17 @@ use Rattle.std.proofs.Common.{◌≡◌, ℕ, ◌-◌, ◌*◌, ◌/◌, ◌<◌
 use Rattle.std.specs.Prelude.{Bool, cond, ◌==◌, nat_le, count_by, Some}
 use Rattle.std.proofs.lemmas.Bool.{cases_eq, cases_lt, eq-eqb, ne_eqb, cond-true, cond-false, lt-leb}
 use Rattle.std.proofs.lemmas.Nat.{le-div}
-use Rattle.ct_counting.specs.Binomials.{choose}
-use Rattle.ct_counting.specs.Words.{all_words, apart, ones}
-use Rattle.ct_counting.proofs.Sums.{sum_by-constant}
-use Rattle.ct_counting.proofs.DoubleCounting.{double_count, count_by-none}
-use Rattle.ct_counting.proofs.Words.{lengths-all_words, count_of_weight}
-use Rattle.ct_counting.proofs.Distances.{same_from_apart}
-use Rattle.ct_counting.proofs.Places.{ones-zeros}
-use Rattle.ct_counting.proofs.Spread.{IsSpreadOfWeight, IsWeightBound}
-use Rattle.ct_counting.proofs.Spheres.{ball_size, one_ball}
-use Rattle.ct_counting.proofs.Complements.{complement_bound}
-use Rattle.ct_counting.proofs.CommonOnes.{ones-common, disjoint_words}
+use Rattle.ct_words.specs.Counting.Binomials.{choose}
+use Rattle.ct_words.specs.Counting.Words.{all_words, apart, ones}
+use Rattle.ct_words.proofs.Counting.Sums.{sum_by-constant}
+use Rattle.ct_words.proofs.Counting.DoubleCounting.{double_count, count_by-none}
+use Rattle.ct_words.proofs.Counting.Words.{lengths-all_words, count_of_weight}
+use Rattle.ct_words.proofs.Counting.Distances.{same_from_apart}
+use Rattle.ct_words.proofs.Counting.Places.{ones-zeros}
+use Rattle.ct_words.proofs.Counting.Spread.{IsSpreadOfWeight, IsWeightBound}
+use Rattle.ct_words.proofs.Counting.Spheres.{ball_size, one_ball}
+use Rattle.ct_words.proofs.Counting.Complements.{complement_bound}
+use Rattle.ct_words.proofs.Counting.CommonOnes.{ones-common, disjoint_words}
 use Rattle.ct_codes.specs.Code.{IsCode}
 
 -- two words that differ nowhere have one weight

@@ -1,7 +1,7 @@
 -- Johnson's bounds on A(n,d,w) and A(n,d) (Johnson 1962; MacWilliams and Sloane, The Theory of Error-Correcting Codes,
 -- chapter 17; Brouwer, Shearer, Sloane and Smith 1990). A bound above the greatest of the table is taken as that one.
 use Rattle.std.specs.Prelude.{ℕ, zero, suc, ◌+◌, ◌-◌, ◌*◌, ◌/◌, ◌%◌, ◌^◌, ◌<◌, ◌≤◌, min, Bool, ◌==◌, ◌&&◌, nat_lt, nat_le, if◌then◌else◌, Option, Some, None, IsTrue, IsFalse}
-use Rattle.ct_counting.specs.Binomials.{choose, volume}
+use Rattle.ct_words.specs.Counting.Binomials.{choose, volume}
 use Rattle.ct_words.specs.declared.limits.TheConstants.{MAX_BOUND}
 use Rattle.ct_johnson.specs.declared.columns.TheConstants.{MAX_COUNTED}
 

@@ -2,7 +2,7 @@
 
 ghost use Rattle.std.specs.Prelude.{◌≡◌, ℕ, ◌+◌, ◌-◌, ◌*◌, ◌/◌, ◌<◌, ◌≤◌, min, List, [], ◌∷◌, length, All, Some};
 ghost use Rattle.std.specs.Int.{div_ceil};
-ghost use Rattle.ct_counting.specs.Binomials.{choose};
+ghost use Rattle.ct_words.specs.Counting.Binomials.{choose};
 ghost use Rattle.ct_words.specs.Word.{weight};
 ghost use Rattle.ct_codes.specs.Entry.{constant_weight};
 ghost use Rattle.ct_codes.specs.Code.{IsCode, IsTrueUpper};

@@ -3,8 +3,8 @@ use Rattle.std.proofs.Common.{◌≡◌, ℕ, zero, suc, ◌+◌, ◌-◌, ◌*�
 use Rattle.std.specs.Prelude.{ℤ, pos, ◌-ℤ◌, ◌*ℤ◌, unsigned_abs}
 use Rattle.std.proofs.Math.Nat.{pow-le-pow_right}
 use Rattle.std.proofs.lemmas.Int.{ints}
-use Rattle.ct_counting.proofs.SignedBinomials.{signed_binomial, signed_binomial-le_power}
-use Rattle.ct_counting.proofs.BinomialSteps.{signed_binomial-second, signed_binomial-step}
+use Rattle.ct_words.proofs.Counting.SignedBinomials.{signed_binomial, signed_binomial-le_power}
+use Rattle.ct_words.proofs.Counting.BinomialSteps.{signed_binomial-second, signed_binomial-step}
 use Rattle.ct_words.specs.declared.limits.TheConstants.{MAX_N}
 use Rattle.ct_codes.specs.Numbers.{krawtchouk}
 use Rattle.ct_krawtchouk.specs.Krawtchouk.{krawtchouk_before}

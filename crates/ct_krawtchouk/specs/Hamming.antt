@@ -3,7 +3,7 @@ use Rattle.std.specs.Prelude.{◌≡◌, ℕ, ◌-◌, ◌≤◌, pos}
 use Rattle.ct_words.specs.declared.limits.TheConstants.{MAX_N}
 use Rattle.ct_words.specs.Word.{distance}
 use Rattle.ct_codes.specs.Scheme.{IsPositive, IsSmall}
-use Rattle.ct_counting.proofs.SignedBinomials.{signed_binomial, signed_binomial-first}
+use Rattle.ct_words.proofs.Counting.SignedBinomials.{signed_binomial, signed_binomial-first}
 use Rattle.ct_words.proofs.Characters.{pair_total-nonneg, signed_binomial-small}
 use Rattle.ct_codes.specs.Numbers.{krawtchouk}
 

@@ -1,8 +1,8 @@
 //! Facts about Krawtchouk numbers and the characters of words, each a clause of a function that does nothing.
 
 ghost use Rattle.std.specs.Prelude.{◌≡◌, ℕ, List};
-ghost use Rattle.ct_counting.specs.Sums.{total};
-ghost use Rattle.ct_counting.specs.PairTotals.{pair_total, square};
+ghost use Rattle.ct_words.specs.Counting.Sums.{total};
+ghost use Rattle.ct_words.specs.Counting.PairTotals.{pair_total, square};
 ghost use Rattle.ct_words.specs.Word.{distance, weight};
 ghost use Rattle.ct_words.specs.Characters.{character, words_of_weight};
 ghost use Rattle.ct_codes.specs.Numbers.{krawtchouk};

@@ -4,7 +4,7 @@ use Rattle.std.proofs.lemmas.List.Elements.{All-nil}
 use Rattle.ct_codes.specs.declared.entry.Entry.{Entry}
 use Rattle.ct_codes.specs.declared.claim.Side.TheVariants.{Lower, Upper}
 use Rattle.ct_codes.specs.Entry.{IsEntry, unrestricted, constant_weight}
-use Rattle.ct_counting.specs.Binomials.{choose}
+use Rattle.ct_words.specs.Counting.Binomials.{choose}
 use Rattle.ct_rules.specs.declared.rule.Rule.TheVariants.{M1, V0}
 use Rattle.ct_rules.specs.Derivation.{IsDerived}
 use Rattle.ct_rules.specs.Rule.{row_of, applies}

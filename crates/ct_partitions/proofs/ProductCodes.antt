@@ -8,8 +8,8 @@ use Rattle.std.proofs.lemmas.List.{length-map, get_or_append_left, get_or-append
 use Rattle.std.proofs.lemmas.List.Kept.{AllPairs-cons}
 use Rattle.std.proofs.lemmas.List.Elements.{All-nil, All-cons, All-append, All-map, All-head, All-tail, All-weaker}
 use Rattle.std.proofs.lemmas.List.Concat.{length-flat_map}
-use Rattle.ct_counting.proofs.Sums.{sum_by-congruence}
-use Rattle.ct_counting.proofs.Pairs.{AllPairs-head, AllPairs-tail, AllPairs-append, AllPairs-map, AllPairs-within, AllPairs-weaker}
+use Rattle.ct_words.proofs.Counting.Sums.{sum_by-congruence}
+use Rattle.ct_words.proofs.Counting.Pairs.{AllPairs-head, AllPairs-tail, AllPairs-append, AllPairs-map, AllPairs-within, AllPairs-weaker}
 use Rattle.ct_words.specs.Word.{places, digit, weight, distance}
 use Rattle.ct_words.proofs.WordLemmas.{one, distance_comm, places_within_two, places-none, weights_of_pair}
 use Rattle.ct_codes.specs.Code.{IsCode}

@@ -2,9 +2,9 @@
 use Rattle.std.proofs.Common.{◌-◌, ◌/◌, ◌^◌, [], Contains, arith}
 use Rattle.std.specs.Prelude.{Option, Some}
 use Rattle.std.proofs.lemmas.Nat.{le-div}
-use Rattle.ct_counting.specs.Binomials.{volume}
-use Rattle.ct_counting.proofs.Binomials.{one-le-volume, volume-le}
-use Rattle.ct_counting.proofs.Spheres.{spread_hamming}
+use Rattle.ct_words.specs.Counting.Binomials.{volume}
+use Rattle.ct_words.proofs.Counting.Binomials.{one-le-volume, volume-le}
+use Rattle.ct_words.proofs.Counting.Spheres.{spread_hamming}
 use Rattle.ct_codes.specs.declared.claim.Side.TheVariants.{Upper}
 use Rattle.ct_codes.proofs.EntryLemmas.{entry_limits}
 use Rattle.ct_codes.proofs.DigitCodes.{bound_from_spread}

@@ -4,7 +4,7 @@ use Rattle.std.specs.Prelude.{Option}
 use Rattle.std.specs.List.{range_with_len}
 use Rattle.std.proofs.lemmas.Bool.{and_parts}
 use Rattle.ct_words.specs.declared.limits.TheConstants.{MAX_N}
-use Rattle.ct_counting.proofs.Words.{Contains-map}
+use Rattle.ct_words.proofs.Counting.Words.{Contains-map}
 use Rattle.ct_codes.specs.declared.entry.Entry.{Entry}
 use Rattle.ct_codes.specs.declared.claim.Side.TheVariants.{Lower}
 use Rattle.ct_codes.specs.Entry.{is_entry, unrestricted}

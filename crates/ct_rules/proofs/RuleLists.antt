@@ -5,7 +5,7 @@ use Rattle.std.specs.List.{range_with_len}
 use Rattle.std.proofs.lemmas.Bool.{and_parts, false≢true}
 use Rattle.std.proofs.lemmas.List.Elements.{All-contains, Contains-append_left, Contains-append_right}
 use Rattle.std.proofs.lemmas.Option.{none-some, slice_get_within}
-use Rattle.ct_counting.proofs.Words.{Contains-map}
+use Rattle.ct_words.proofs.Counting.Words.{Contains-map}
 use Rattle.ct_codes.specs.declared.claim.Side.TheVariants.{Lower, Upper}
 use Rattle.ct_codes.specs.declared.entry.Entry.{Entry}
 use Rattle.ct_codes.specs.Entry.{IsEntry, is_entry, unrestricted, constant_weight}

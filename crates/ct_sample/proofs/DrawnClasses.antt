@@ -4,7 +4,7 @@ use Rattle.std.specs.Prelude.{Contains, if◌then◌else◌}
 use Rattle.std.proofs.lemmas.Bool.{and_parts}
 use Rattle.std.proofs.lemmas.Bool.{cases_eq}
 use Rattle.std.proofs.Math.Nat.{mod-lt}
-use Rattle.ct_counting.specs.Binomials.{choose}
+use Rattle.ct_words.specs.Counting.Binomials.{choose}
 use Rattle.ct_words.specs.Word.{weight}
 use Rattle.ct_sum_classes.specs.SumClass.{place_sum, sum_class}
 use Rattle.ct_sum_classes.specs.Inside.Sizes.{size_of}

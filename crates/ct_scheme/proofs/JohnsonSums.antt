@@ -5,13 +5,13 @@ use Rattle.std.proofs.Math.Nat.{mul-le-mul, mul-le-mul_left}
 use Rattle.std.proofs.lemmas.Bool.{cases_lt}
 use Rattle.std.proofs.lemmas.Int.{ints}
 use Rattle.std.proofs.lemmas.Nat.{div-mul-add}
-use Rattle.ct_counting.specs.Alternating.{total_below, sign}
-use Rattle.ct_counting.specs.Binomials.{choose, factorial}
-use Rattle.ct_counting.proofs.Alternating.{total_below-bounded, unsigned_abs-signed}
-use Rattle.ct_counting.proofs.Binomials.{one-le-factorial, choose_past, choose-suc}
-use Rattle.ct_counting.proofs.Matchings.{matchings, matchings-product-le}
+use Rattle.ct_words.specs.Counting.Alternating.{total_below, sign}
+use Rattle.ct_words.specs.Counting.Binomials.{choose, factorial}
+use Rattle.ct_words.proofs.Counting.Alternating.{total_below-bounded, unsigned_abs-signed}
+use Rattle.ct_words.proofs.Counting.Binomials.{one-le-factorial, choose_past, choose-suc}
+use Rattle.ct_words.proofs.Counting.Matchings.{matchings, matchings-product-le}
 use Rattle.ct_words.proofs.MatchingSizes.{matchings-small}
-use Rattle.ct_counting.proofs.ZeroTerms.{total_below-zeros, total_below-past}
+use Rattle.ct_words.proofs.Counting.ZeroTerms.{total_below-zeros, total_below-past}
 use Rattle.ct_words.specs.declared.limits.TheConstants.{MAX_N}
 use Rattle.ct_scheme.specs.Numbers.{term_count}
 

@@ -3,7 +3,7 @@ use Rattle.std.specs.Prelude.{◌≡◌, ℕ, ◌-◌, ◌/◌, ◌^◌, ◌<◌
 use Rattle.ct_words.specs.declared.limits.TheConstants.{MAX_N}
 use Rattle.ct_words.specs.Word.{distance, weight}
 use Rattle.ct_codes.specs.Scheme.{IsPositive, IsSmall}
-use Rattle.ct_counting.proofs.Matchings.{signed_matchings, signed_matchings-first}
+use Rattle.ct_words.proofs.Counting.Matchings.{signed_matchings, signed_matchings-first}
 use Rattle.ct_words.proofs.PairProducts.{pair_total-matchings_nonneg, signed_matchings-small}
 use Rattle.ct_codes.specs.Numbers.{johnson}
 

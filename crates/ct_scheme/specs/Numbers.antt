@@ -1,6 +1,6 @@
 -- The terms of the Johnson numbers.
 use Rattle.std.specs.Prelude.{ℕ, ◌-◌, ◌*◌}
-use Rattle.ct_counting.specs.Binomials.{choose, factorial}
+use Rattle.ct_words.specs.Counting.Binomials.{choose, factorial}
 
 -- the term of j in the sum that the Johnson number J_k(i) is, without its sign
 abbrev pub term_count : ℕ → ℕ → ℕ → ℕ → ℕ → ℕ

@@ -1,10 +1,10 @@
 //! Delsarte's inequalities of the Johnson scheme as an identity, the clause of a function that does nothing.
 
 ghost use Rattle.std.specs.Prelude.{◌≡◌, ℕ, ◌*◌, ◌/◌, ◌^◌, pos, ◌*ℤ◌, List, All};
-ghost use Rattle.ct_counting.specs.Sums.{total};
-ghost use Rattle.ct_counting.specs.Binomials.{factorial};
-ghost use Rattle.ct_counting.specs.PairTotals.{pair_total, square};
-ghost use Rattle.ct_counting.specs.PairLists.{pair_lists};
+ghost use Rattle.ct_words.specs.Counting.Sums.{total};
+ghost use Rattle.ct_words.specs.Counting.Binomials.{factorial};
+ghost use Rattle.ct_words.specs.Counting.PairTotals.{pair_total, square};
+ghost use Rattle.ct_words.specs.Counting.PairLists.{pair_lists};
 ghost use Rattle.ct_words.specs.Word.{distance, weight};
 ghost use Rattle.ct_words.specs.PairProducts.{all_places, difference_product};
 ghost use Rattle.ct_codes.specs.Numbers.{johnson};

@@ -6,7 +6,7 @@ use Rattle.std.proofs.lemmas.Bool.{cases_eq, cases_Bool}
 use Rattle.std.proofs.lemmas.List.{map-append}
 use Rattle.std.proofs.lemmas.List.Elements.{filter-append}
 use Rattle.std.proofs.lemmas.Simd.{map-map}
-use Rattle.ct_counting.specs.Binomials.{choose}
+use Rattle.ct_words.specs.Counting.Binomials.{choose}
 use Rattle.ct_words.specs.Word.{places, digit, weight}
 use Rattle.ct_words.specs.Text.{tabulate}
 use Rattle.ct_words.specs.Characters.{words_of_length}

@@ -6,7 +6,7 @@ use Rattle.std.proofs.lemmas.Bool.{cases_eq}
 use Rattle.std.proofs.lemmas.Nat.{mod-mul-add, div-mul-add}
 use Rattle.std.proofs.lemmas.List.{get_or-replicate}
 use Rattle.std.proofs.lemmas.List.Sums.{sum_by-append, length-filter, count_by-le-length}
-use Rattle.ct_counting.proofs.Sums.{sum_by-congruence, sum_by-zero}
+use Rattle.ct_words.proofs.Counting.Sums.{sum_by-congruence, sum_by-zero}
 use Rattle.ct_words.specs.Word.{digit, weight}
 use Rattle.ct_words.specs.Text.{tabulate}
 use Rattle.ct_words.specs.Characters.{words_of_length}

@@ -7,7 +7,7 @@ use Rattle.std.proofs.lemmas.Bool.{cases_lt, cases_Bool, and_parts, and_from}
 use Rattle.std.proofs.lemmas.List.{get_or_default}
 use Rattle.std.proofs.lemmas.List.Elements.{All-contains, All-filter, All-weaker, filter_passes}
 use Rattle.std.proofs.lemmas.List.Kept.{AllPairs-from_increasing, IsStrictlyIncreasing-filter}
-use Rattle.ct_counting.proofs.Pairs.{AllPairs-weaker, AllPairs-within}
+use Rattle.ct_words.proofs.Counting.Pairs.{AllPairs-weaker, AllPairs-within}
 use Rattle.ct_words.specs.Word.{digit, weight, distance}
 use Rattle.ct_words.specs.Characters.{words_of_length}
 use Rattle.ct_words.specs.declared.limits.TheConstants.{MAX_N}

@@ -1,7 +1,7 @@
 //! The words of a sum class.
 
 ghost use Rattle.std.specs.Prelude.{◌≡◌, ℕ, ◌+◌, ◌-◌, ◌*◌, ◌%◌, ◌^◌, ◌<◌, ◌≤◌, [], ◌∷◌, ◌++◌, length, map, Some, IfOk, OnOk};
-ghost use Rattle.ct_counting.specs.Binomials.{choose};
+ghost use Rattle.ct_words.specs.Counting.Binomials.{choose};
 ghost use Rattle.ct_words.specs.declared.limits.TheConstants.{MAX_N};
 ghost use Rattle.ct_codes.specs.Code.{IsSoundCode};
 ghost use Rattle.ct_sum_classes.specs.SumClass.{sum_class};

@@ -1,8 +1,8 @@
 -- All words of the weight.
 use Rattle.std.proofs.Common.{[], Contains, arith}
 use Rattle.std.specs.Prelude.{Option, Some}
-use Rattle.ct_counting.specs.Binomials.{choose}
-use Rattle.ct_counting.proofs.Binomials.{one-le-choose}
+use Rattle.ct_words.specs.Counting.Binomials.{choose}
+use Rattle.ct_words.proofs.Counting.Binomials.{one-le-choose}
 use Rattle.ct_codes.specs.declared.claim.Side.TheVariants.{Upper}
 use Rattle.ct_codes.proofs.EntryLemmas.{entry_limits}
 use Rattle.ct_codes.proofs.DigitCodes.{bound_from_weight}

@@ -4,7 +4,7 @@ use Rattle.std.specs.Prelude.{Bool, true, false, ◌==◌}
 use Rattle.std.proofs.Math.Nat.{mul-add-div, div-eq_of_lt}
 use Rattle.std.proofs.lemmas.List.{map-append}
 use Rattle.std.proofs.lemmas.Simd.{map-map}
-use Rattle.ct_counting.specs.Words.{all_words}
+use Rattle.ct_words.specs.Counting.Words.{all_words}
 use Rattle.ct_words.specs.Word.{digit}
 use Rattle.ct_words.specs.Text.{tabulate}
 use Rattle.ct_words.specs.Characters.{words_of_length}

@@ -4,15 +4,15 @@ use Rattle.std.specs.Prelude.{Bool, cond, ◌&&◌, ◌==◌, ℤ, pos, ◌≤�
 use Rattle.std.specs.List.{All}
 use Rattle.std.proofs.Math.Nat.{pow-le-pow_right}
 use Rattle.std.proofs.lemmas.List.Elements.{All-map}
-use Rattle.ct_counting.specs.Sums.{total}
-use Rattle.ct_counting.specs.PairTotals.{pair_total, square}
-use Rattle.ct_counting.specs.Words.{all_words, apart, ones}
-use Rattle.ct_counting.specs.Alternating.{sign}
-use Rattle.ct_counting.proofs.Totals.{total-congruence, total-map, total_of_squares}
-use Rattle.ct_counting.proofs.PartTotals.{total-filter}
-use Rattle.ct_counting.proofs.PairTotals.{pair_total-map}
-use Rattle.ct_counting.proofs.SignedBinomials.{signed_binomial, signed_binomial-le_power}
-use Rattle.ct_counting.proofs.Characters.{common_digits, digit_character, digit_words, zeros, ones-zeros, total-digit_character, pair_total-digit_characters}
+use Rattle.ct_words.specs.Counting.Sums.{total}
+use Rattle.ct_words.specs.Counting.PairTotals.{pair_total, square}
+use Rattle.ct_words.specs.Counting.Words.{all_words, apart, ones}
+use Rattle.ct_words.specs.Counting.Alternating.{sign}
+use Rattle.ct_words.proofs.Counting.Totals.{total-congruence, total-map, total_of_squares}
+use Rattle.ct_words.proofs.Counting.PartTotals.{total-filter}
+use Rattle.ct_words.proofs.Counting.PairTotals.{pair_total-map}
+use Rattle.ct_words.proofs.Counting.SignedBinomials.{signed_binomial, signed_binomial-le_power}
+use Rattle.ct_words.proofs.Counting.Characters.{common_digits, digit_character, digit_words, zeros, ones-zeros, total-digit_character, pair_total-digit_characters}
 use Rattle.ct_words.specs.declared.limits.TheConstants.{MAX_N}
 use Rattle.ct_words.specs.Word.{places, digit, weight, distance}
 use Rattle.ct_words.specs.Characters.{character, words_of_length, words_of_weight}

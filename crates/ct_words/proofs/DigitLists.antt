@@ -4,7 +4,7 @@ use Rattle.std.specs.Prelude.{Bool, cond, not, ◌==◌, ◌⊎◌}
 use Rattle.std.proofs.lemmas.Bool.{cases_eq}
 use Rattle.ct_words.specs.Word.{places, digit, weight, distance}
 use Rattle.ct_words.proofs.WordLemmas.{places_same}
-use Rattle.ct_counting.specs.Words.{apart, differ, ones}
+use Rattle.ct_words.specs.Counting.Words.{apart, differ, ones}
 
 -- the digits p 0, .., p (n - 1)
 abbrev pub digits_from : (ℕ → Bool) → ℕ → List Bool

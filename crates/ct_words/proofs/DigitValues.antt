@@ -1,7 +1,7 @@
 -- A list of digits as the word that it writes: the way back from counting to numbers.
 use Rattle.std.proofs.Common.{◌≡◌, ℕ, zero, suc, ◌+◌, ◌*◌, ◌^◌, ◌<◌, List, [], ◌∷◌, length, refl, sym, ap, ap₂, ◌∙◌, arith, pow-suc}
 use Rattle.std.specs.Prelude.{Bool, true, false, cond, ◌==◌}
-use Rattle.ct_counting.specs.Words.{apart, ones}
+use Rattle.ct_words.specs.Counting.Words.{apart, ones}
 use Rattle.ct_words.specs.Word.{digit, weight, distance}
 use Rattle.ct_words.proofs.TextLemmas.{first_digit, next_digit}
 use Rattle.ct_words.proofs.DigitLists.{digits_from, digits_of, ones-digits_of, apart-digits_of}

@@ -1,3 +1,4 @@
+pub mod Counting
 pub mod DigitLists
 pub mod TextLemmas
 pub mod OrderLemmas

@@ -3,9 +3,9 @@ use Rattle.std.proofs.Common.{◌≡◌, ℕ, zero, suc, ◌+◌, ◌-◌, ◌*�
 use Rattle.std.specs.Prelude.{Bool, true, false, nat_lt, ◌&&◌}
 use Rattle.std.proofs.lemmas.Bool.{cases_order, ltb-true}
 use Rattle.std.proofs.Math.Nat.{mul-le-mul, mul-le-mul_right}
-use Rattle.ct_counting.specs.Binomials.{choose, factorial}
-use Rattle.ct_counting.proofs.Choices.{choose-monotone}
-use Rattle.ct_counting.proofs.Matchings.{matchings}
+use Rattle.ct_words.specs.Counting.Binomials.{choose, factorial}
+use Rattle.ct_words.proofs.Counting.Choices.{choose-monotone}
+use Rattle.ct_words.proofs.Counting.Matchings.{matchings}
 use Rattle.ct_words.specs.declared.limits.TheConstants.{MAX_N}
 use Rattle.ct_words.specs.declared.triangle.TheConstants.{BINOMIALS}
 use Rattle.ct_words.proofs.PascalRows.{binomial_is}

@@ -1,8 +1,8 @@
 -- The kinds of the places of two words, and how many places of each kind two words of one weight have.
 use Rattle.std.proofs.Common.{◌≡◌, ℕ, zero, suc, ◌+◌, ◌-◌, ◌/◌, ◌<◌, ◌≤◌, List, ◌∷◌, refl, ap₂, ◌∙◌, arith}
 use Rattle.std.specs.Prelude.{Bool, true, false, ◌==◌, pos, ◌-ℤ◌, ◌*ℤ◌}
-use Rattle.ct_counting.specs.Words.{ones, apart}
-use Rattle.ct_counting.proofs.PlaceKinds.{Kind, both, neither, first, second, same, weight_of_kinds, count}
+use Rattle.ct_words.specs.Counting.Words.{ones, apart}
+use Rattle.ct_words.proofs.Counting.PlaceKinds.{Kind, both, neither, first, second, same, weight_of_kinds, count}
 use Rattle.ct_words.specs.Word.{digit, weight, distance}
 use Rattle.ct_words.specs.Text.{tabulate}
 use Rattle.ct_words.specs.PairProducts.{all_places}

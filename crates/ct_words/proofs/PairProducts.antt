@@ -4,17 +4,17 @@ use Rattle.std.specs.Prelude.{ℤ, pos, negsuc, ◌-ℤ◌, ◌*ℤ◌, ◌≤�
 use Rattle.std.specs.List.{All}
 use Rattle.std.proofs.lemmas.Int.{ints}
 use Rattle.std.proofs.Math.Nat.{mul-le-mul}
-use Rattle.ct_counting.specs.Sums.{total}
-use Rattle.ct_counting.specs.PairTotals.{pair_total, square}
-use Rattle.ct_counting.specs.PairLists.{pair_lists, product}
-use Rattle.ct_counting.proofs.Totals.{total-congruence, total_of_squares}
-use Rattle.ct_counting.proofs.Binomials.{one-le-factorial}
-use Rattle.ct_counting.proofs.PairTotals.{total-squares, pair_total-congruence_within, pair_total-scale}
-use Rattle.ct_counting.proofs.PairLists.{product-mul, total-pair_lists}
-use Rattle.ct_counting.proofs.Matchings.{signed_matchings, signed_matchings-le}
+use Rattle.ct_words.specs.Counting.Sums.{total}
+use Rattle.ct_words.specs.Counting.PairTotals.{pair_total, square}
+use Rattle.ct_words.specs.Counting.PairLists.{pair_lists, product}
+use Rattle.ct_words.proofs.Counting.Totals.{total-congruence, total_of_squares}
+use Rattle.ct_words.proofs.Counting.Binomials.{one-le-factorial}
+use Rattle.ct_words.proofs.Counting.PairTotals.{total-squares, pair_total-congruence_within, pair_total-scale}
+use Rattle.ct_words.proofs.Counting.PairLists.{product-mul, total-pair_lists}
+use Rattle.ct_words.proofs.Counting.Matchings.{signed_matchings, signed_matchings-le}
 use Rattle.ct_words.proofs.MatchingSizes.{matchings-small}
-use Rattle.ct_counting.proofs.PlaceKinds.{weight_of_kinds, count, pair_list_total-by_kinds}
-use Rattle.ct_counting.proofs.KindMatchings.{orders, by_kinds-matchings}
+use Rattle.ct_words.proofs.Counting.PlaceKinds.{weight_of_kinds, count, pair_list_total-by_kinds}
+use Rattle.ct_words.proofs.Counting.KindMatchings.{orders, by_kinds-matchings}
 use Rattle.ct_words.specs.declared.limits.TheConstants.{MAX_N}
 use Rattle.ct_words.specs.Word.{digit, weight, distance}
 use Rattle.ct_words.specs.PairProducts.{all_places, difference_product}

@@ -1,7 +1,7 @@
 -- Tables by Pascal's rule: each row is the sums of neighbours of the row above, after a 1.
 use Rattle.std.proofs.Common.{◌≡◌, ℕ, zero, suc, ◌+◌, ◌-◌, ◌<◌, List, [], ◌∷◌, length, get_or, replicate, refl, sym, ap, ap₂, subst, ◌∙◌, arith}
-use Rattle.ct_counting.specs.Binomials.{choose, volume}
-use Rattle.ct_counting.proofs.Binomials.{volume-suc}
+use Rattle.ct_words.specs.Counting.Binomials.{choose, volume}
+use Rattle.ct_words.proofs.Counting.Binomials.{volume-suc}
 use Rattle.ct_words.specs.declared.triangle.TheConstants.{ROWS, BINOMIALS, BALLS}
 
 -- the sums of neighbours, x before the numbers

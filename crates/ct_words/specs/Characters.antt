@@ -1,6 +1,6 @@
 -- The characters of binary words, and the words of a weight (MacWilliams and Sloane, chapter 5, section 4).
 use Rattle.std.specs.Prelude.{ℕ, ◌^◌, ◌&&◌, ◌==◌, ℤ, List, filter}
-use Rattle.ct_counting.specs.Alternating.{sign}
+use Rattle.ct_words.specs.Counting.Alternating.{sign}
 use Rattle.ct_words.specs.Word.{places, digit, weight}
 use Rattle.ct_words.specs.Text.{tabulate}
 

@@ -1,3 +1,4 @@
+pub mod Counting
 pub mod Word
 pub mod Text
 pub mod Characters

@@ -1,6 +1,6 @@
 -- Products of differences of a word's digits, over lists of pairs of places.
 use Rattle.std.specs.Prelude.{ℕ, ℤ, pos, ◌-ℤ◌, List}
-use Rattle.ct_counting.specs.PairLists.{product}
+use Rattle.ct_words.specs.Counting.PairLists.{product}
 use Rattle.ct_words.specs.Word.{digit}
 use Rattle.ct_words.specs.Text.{tabulate}
 

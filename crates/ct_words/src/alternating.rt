@@ -1,7 +1,7 @@
 //! Alternating sums of counts.
 
 ghost use Rattle.std.specs.Prelude.{◌≡◌, pos, ◌+ℤ◌, ◌*ℤ◌, ◌^◌, ◌<◌, unsigned_abs};
-ghost use Rattle.ct_counting.specs.Alternating.{sign};
+ghost use Rattle.ct_words.specs.Counting.Alternating.{sign};
 
 /// The sum with (-1)^j · `count` added to it: one step of an alternating sum. The sum is below 2^120 in absolute value.
 pub fn add_alternating(sum: i128, j: u32, count: u64) -> i128

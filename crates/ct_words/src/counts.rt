@@ -2,7 +2,7 @@
 
 ghost use Rattle.std.specs.Prelude.{◌≡◌, ◌≤◌};
 ghost use Rattle.ct_words.specs.declared.limits.TheConstants.{MAX_N};
-ghost use Rattle.ct_counting.specs.Binomials.{choose, factorial as factorial_of, volume};
+ghost use Rattle.ct_words.specs.Counting.Binomials.{choose, factorial as factorial_of, volume};
 
 use crate::triangle::{BALLS, BINOMIALS};
 

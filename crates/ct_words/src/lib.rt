@@ -1,7 +1,9 @@
-//! Binary words of a code: their distance, weight and text, and the limits of the table.
+//! Binary words of a code: their distance, weight and text, and the limits of the table; and the mathematics that the bounds rest on:
+//! binomial coefficients, words as lists of digits, and counting.
 #![tactic(auto)]
 
 mod alternating;
+mod counting_laws;
 mod counts;
 mod laws;
 mod limits;
@@ -12,6 +14,7 @@ mod word;
 mod word_list;
 
 pub use alternating::add_alternating;
+pub use counting_laws::{binomial_laws, pair_list_laws, word_laws};
 pub use counts::{ball, binomial, factorial};
 pub use laws::{
     distance_is_metric, distance_is_weight_of_sum, golay_words, texts_are_words,

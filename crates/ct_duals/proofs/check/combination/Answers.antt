@@ -4,7 +4,7 @@ use Rattle.std.specs.Prelude.{ℤ, pos, ◌+ℤ◌, ◌*ℤ◌}
 use Rattle.std.proofs.lemmas.Int.{to_z-of_z}
 use mir.Val.{SFits}
 use mir.Syntax.{w64, w128}
-use Rattle.ct_counting.specs.Alternating.{total_below}
+use Rattle.ct_words.specs.Counting.Alternating.{total_below}
 use Rattle.ct_duals.specs.Dual.{multiplier}
 use Rattle.ct_duals.proofs.check.combination.Goals as goal
 

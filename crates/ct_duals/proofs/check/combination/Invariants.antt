@@ -1,7 +1,7 @@
 -- The sum is that of the products before k, and small.
 use Rattle.std.proofs.Common.{◌≡◌, ◌≤◌, ◌*◌, ◌^◌, unsigned_abs, ℕ}
 use Rattle.std.specs.Prelude.{◌*ℤ◌}
-use Rattle.ct_counting.specs.Alternating.{total_below}
+use Rattle.ct_words.specs.Counting.Alternating.{total_below}
 use Rattle.ct_duals.specs.Dual.{multiplier}
 use Rattle.ct_duals.proofs.check.combination.Given as goal
 

@@ -2,13 +2,13 @@
 use Rattle.std.proofs.Common.{◌≡◌, ℕ, ◌-◌, ◌*◌, ◌/◌, ◌%◌, ◌^◌, ◌≤◌, ap, ◌∙◌, arith}
 use Rattle.std.proofs.Math.Nat.{pow-le-pow_right, div-le_self}
 use Rattle.std.proofs.lemmas.Nat.{le-div, one_shl}
-use Rattle.ct_counting.specs.Binomials.{volume}
-use Rattle.ct_counting.proofs.Binomials.{one-le-volume, volume-le}
+use Rattle.ct_words.specs.Counting.Binomials.{volume}
+use Rattle.ct_words.proofs.Counting.Binomials.{one-le-volume, volume-le}
 use Rattle.ct_words.specs.declared.limits.TheConstants.{MAX_N, MAX_BOUND}
 use Rattle.ct_elementary.specs.Bounds.{hamming_value}
 use Rattle.ct_elementary.proofs.Entries.{IsWithin-from_entry}
 use Rattle.ct_codes.proofs.DigitCodes.{bound_from_spread}
-use Rattle.ct_counting.proofs.Spheres.{spread_hamming}
+use Rattle.ct_words.proofs.Counting.Spheres.{spread_hamming}
 use Rattle.ct_elementary.proofs.bounds.hamming.Goals as goal
 
 -- the quotient that the code computes is the bound

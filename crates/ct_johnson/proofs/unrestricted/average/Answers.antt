@@ -2,8 +2,8 @@
 use Rattle.std.proofs.Common.{◌≡◌, ℕ, ◌-◌, ◌*◌, ◌/◌, ◌%◌, ◌^◌, ◌<◌, ap, ap₂, sym, ◌∙◌, arith}
 use Rattle.std.proofs.Math.Nat.{div-zero}
 use Rattle.std.proofs.lemmas.Nat.{one_shl}
-use Rattle.ct_counting.specs.Binomials.{choose}
-use Rattle.ct_counting.proofs.Binomials.{one-le-choose, choose_past}
+use Rattle.ct_words.specs.Counting.Binomials.{choose}
+use Rattle.ct_words.proofs.Counting.Binomials.{one-le-choose, choose_past}
 use Rattle.ct_johnson.specs.Bounds.{average}
 use Rattle.ct_johnson.proofs.unrestricted.average.Goals as goal
 

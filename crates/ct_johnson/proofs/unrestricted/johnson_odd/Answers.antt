@@ -1,7 +1,7 @@
 -- The products stay below 2^64, and the quotient at most 2^n.
 use Rattle.std.proofs.Common.{◌≡◌, ℕ, ◌-◌, ◌*◌, ◌/◌, ◌≤◌, arith}
-use Rattle.ct_counting.specs.Binomials.{choose, volume}
-use Rattle.ct_counting.proofs.Binomials.{choose-le}
+use Rattle.ct_words.specs.Counting.Binomials.{choose, volume}
+use Rattle.ct_words.proofs.Counting.Binomials.{choose-le}
 use Rattle.ct_words.specs.declared.limits.TheConstants.{MAX_N, MAX_BOUND}
 use Rattle.ct_johnson.proofs.JohnsonRule.{fits_taken, fits_balls, power-le}
 use Rattle.ct_johnson.proofs.unrestricted.johnson_odd.Goals as goal

@@ -1,4 +1,4 @@
-use Rattle.ct_counting.proofs.SignedBinomials.{signed_binomial}
+use Rattle.ct_words.proofs.Counting.SignedBinomials.{signed_binomial}
 use Rattle.ct_words.proofs.Characters.{pair_total-characters}
 use Rattle.ct_codes.specs.Numbers.{krawtchouk}
 use Rattle.ct_krawtchouk.proofs.laws.krawtchouk_sums_are_sums_of_squares.Goals as goal

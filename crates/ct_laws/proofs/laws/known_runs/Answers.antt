@@ -6,7 +6,7 @@ use Rattle.ct_text.specs.Line.{words_of}
 use Rattle.ct_text.specs.Number.{number_of}
 use Rattle.ct_codes.specs.declared.claim.Side.TheVariants.{Lower, Upper}
 use Rattle.ct_codes.specs.Entry.{unrestricted, constant_weight}
-use Rattle.ct_counting.proofs.Binomials.{choose_all}
+use Rattle.ct_words.proofs.Counting.Binomials.{choose_all}
 use Rattle.ct_commands.specs.Form.{form_of}
 use Rattle.ct_pieces.specs.Dump.{dump_text}
 use Rattle.ct_pieces.specs.Withdrawal.{withdrawn, withdrawn_all}

@@ -1,6 +1,6 @@
 -- The count is that of j, and the sum has the terms up to j, which is no greater than k and i.
 use Rattle.std.proofs.Common.{◌≡◌, ◌+◌, ◌-◌, ◌≤◌, min, suc}
-use Rattle.ct_counting.specs.Alternating.{total_below}
+use Rattle.ct_words.specs.Counting.Alternating.{total_below}
 use Rattle.ct_scheme.specs.Numbers.{term_count}
 use Rattle.ct_scheme.proofs.JohnsonSums.{term}
 use Rattle.ct_scheme.proofs.numbers.johnson_number.Given as goal

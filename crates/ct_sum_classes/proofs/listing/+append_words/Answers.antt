@@ -1,7 +1,7 @@
 use Rattle.std.proofs.Common.{◌≡◌, ◌+◌, ◌%◌, ◌^◌, ◌≤◌, ◌++◌, map, ◌-◌, ◌*◌, [], ap, sym, ◌∙◌, append-nil, arith}
 use Rattle.std.proofs.Math.Nat.{pow-le-pow_right, mod-eq_of_lt}
 use Rattle.std.proofs.lemmas.Result.{on_ok_weaker}
-use Rattle.ct_counting.specs.Binomials.{choose}
+use Rattle.ct_words.specs.Counting.Binomials.{choose}
 use Rattle.ct_sum_classes.specs.Inside.Listing.{words_of_sum}
 use Rattle.ct_sum_classes.proofs.ListingLemmas.{words_of_sum-short, words_of_sum-far, appended-only, appended-both}
 use Rattle.ct_sum_classes.proofs.listing.+append_words.Goals as goal

@@ -1,6 +1,6 @@
 use Rattle.std.proofs.Common.{◌+◌, ◌%◌, ◌^◌, ◌≤◌, ◌++◌, map, sym, ap, ap₂, ◌∙◌, arith}
 use Rattle.std.proofs.Math.Nat.{pow-le-pow_right}
-use Rattle.ct_counting.specs.Binomials.{choose}
+use Rattle.ct_words.specs.Counting.Binomials.{choose}
 use Rattle.ct_words.specs.declared.limits.TheConstants.{MAX_N}
 use Rattle.ct_sum_classes.specs.Inside.Listing.{words_of_sum}
 use Rattle.ct_sum_classes.proofs.ListingLemmas.{words_of_sum-class}

@@ -1,7 +1,7 @@
 -- The sign is that of the parity of j.
 use Rattle.std.proofs.Common.{arith, ◌≡◌, ◌%◌}
 use Rattle.std.proofs.lemmas.Int.{ints}
-use Rattle.ct_counting.proofs.Alternating.{signed-even, signed-odd}
+use Rattle.ct_words.proofs.Counting.Alternating.{signed-even, signed-odd}
 use Rattle.ct_words.proofs.alternating.add_alternating.Goals as goal
 
 pub returns-then-j-eq0 : goal.returns-then-j-eq0

@@ -1,10 +1,10 @@
 -- What is looked up is the size of the ball: a radius above the length adds nothing.
 use Rattle.std.proofs.Common.{◌≡◌, ℕ, suc, ◌+◌, ◌-◌, min, sym, ap, ◌∙◌, arith, inl, inr}
 use Rattle.std.proofs.lemmas.Bool.{cases_lt}
-use Rattle.ct_counting.specs.Sums.{sum_below}
-use Rattle.ct_counting.specs.Binomials.{choose, volume}
-use Rattle.ct_counting.proofs.Binomials.{choose_past}
-use Rattle.ct_counting.proofs.Sums.{sum_below-past}
+use Rattle.ct_words.specs.Counting.Sums.{sum_below}
+use Rattle.ct_words.specs.Counting.Binomials.{choose, volume}
+use Rattle.ct_words.proofs.Counting.Binomials.{choose_past}
+use Rattle.ct_words.proofs.Counting.Sums.{sum_below-past}
 use Rattle.ct_words.proofs.PascalRows.{ball_is}
 use Rattle.ct_words.proofs.counts.ball.Goals as goal
 

@@ -1,6 +1,6 @@
 -- What is looked up is the binomial coefficient.
 use Rattle.std.proofs.Common.{sym, ◌∙◌, arith}
-use Rattle.ct_counting.proofs.Binomials.{choose_past}
+use Rattle.ct_words.proofs.Counting.Binomials.{choose_past}
 use Rattle.ct_words.proofs.PascalRows.{binomial_is}
 use Rattle.ct_words.proofs.counts.binomial.Goals as goal
 

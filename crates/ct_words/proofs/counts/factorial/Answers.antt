@@ -1,7 +1,7 @@
 -- Each product is a factorial of at most 20.
 use Rattle.std.proofs.Common.{◌≡◌, ℕ, suc, ◌+◌, ◌-◌, ◌*◌, ◌^◌, ◌<◌, ap, arith}
-use Rattle.ct_counting.specs.Binomials.{factorial}
-use Rattle.ct_counting.proofs.Binomials.{factorial-le}
+use Rattle.ct_words.specs.Counting.Binomials.{factorial}
+use Rattle.ct_words.proofs.Counting.Binomials.{factorial-le}
 use Rattle.ct_words.proofs.counts.factorial.Goals as goal
 
 -- one factor more fits, up to 20

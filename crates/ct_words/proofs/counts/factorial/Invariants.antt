@@ -1,6 +1,6 @@
 -- The product so far is the factorial of j.
 use Rattle.std.proofs.Common.{◌≡◌}
-use Rattle.ct_counting.specs.Binomials.{factorial}
+use Rattle.ct_words.specs.Counting.Binomials.{factorial}
 use Rattle.ct_words.proofs.counts.factorial.Given as goal
 
 abbrev pub invariant-loop-j : goal.invariant-loop-j
