@@ -9,14 +9,14 @@ use Rattle.ct_codes.specs.declared.entry.Entry.{Entry}
 use Rattle.ct_codes.specs.Code.{CodeValue}
 use Rattle.ct_codes.specs.Pairs.{first_of}
 use Rattle.ct_codes.proofs.CheckLemmas.{first_of-None}
-use Rattle.ct_constructions.specs.Translation.{translated}
-use Rattle.ct_constructions.specs.Shortened.{has_digits, shortened}
-use Rattle.ct_constructions.proofs.AppendLemmas.{length-lengthened, length-one_appended, length-with_parity}
-use Rattle.ct_constructions.proofs.TranslationLemmas.{length-translated, length-complemented}
-use Rattle.ct_constructions.proofs.PuncturedCodes.{length-punctured}
-use Rattle.ct_constructions.proofs.ShortenedCodes.{length-shortened}
-use Rattle.ct_constructions.proofs.UuvCodes.{length-uuv_words}
-use Rattle.ct_constructions.proofs.JuxtaposedCodes.{length-juxtaposed}
+use Rattle.ct_codes.specs.Constructions.Translation.{translated}
+use Rattle.ct_codes.specs.Constructions.Shortened.{has_digits, shortened}
+use Rattle.ct_codes.proofs.Constructions.AppendLemmas.{length-lengthened, length-one_appended, length-with_parity}
+use Rattle.ct_codes.proofs.Constructions.TranslationLemmas.{length-translated, length-complemented}
+use Rattle.ct_codes.proofs.Constructions.PuncturedCodes.{length-punctured}
+use Rattle.ct_codes.proofs.Constructions.ShortenedCodes.{length-shortened}
+use Rattle.ct_codes.proofs.Constructions.UuvCodes.{length-uuv_words}
+use Rattle.ct_codes.proofs.Constructions.JuxtaposedCodes.{length-juxtaposed}
 use Rattle.ct_build.specs.declared.building.TheConstants.{MAX_BUILT}
 use Rattle.ct_build.specs.declared.fault.BuildFault.{BuildFault}
 use Rattle.ct_build.specs.declared.fault.BuildFault.TheVariants.{Size, Few, Empty, Memory}

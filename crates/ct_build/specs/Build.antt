@@ -7,14 +7,14 @@ use Rattle.ct_codes.specs.Entry.{IsEntry, same_weight}
 use Rattle.ct_codes.specs.declared.code.TheConstants.{MAX_CODE_DISTANCE}
 use Rattle.ct_codes.specs.Code.{CodeValue}
 use Rattle.ct_codes.specs.Pairs.{first_of}
-use Rattle.ct_constructions.specs.Even.{even_from}
-use Rattle.ct_constructions.specs.Append.{lengthened, one_appended, with_parity}
-use Rattle.ct_constructions.specs.Places.{ArePlaces}
-use Rattle.ct_constructions.specs.Punctured.{punctured}
-use Rattle.ct_constructions.specs.Shortened.{shortened}
-use Rattle.ct_constructions.specs.Translation.{translated, complemented, selected}
-use Rattle.ct_constructions.specs.Uuv.{uuv_words}
-use Rattle.ct_constructions.specs.Juxtaposed.{juxtaposed, added_weights}
+use Rattle.ct_codes.specs.Constructions.Even.{even_from}
+use Rattle.ct_codes.specs.Constructions.Append.{lengthened, one_appended, with_parity}
+use Rattle.ct_codes.specs.Constructions.Places.{ArePlaces}
+use Rattle.ct_codes.specs.Constructions.Punctured.{punctured}
+use Rattle.ct_codes.specs.Constructions.Shortened.{shortened}
+use Rattle.ct_codes.specs.Constructions.Translation.{translated, complemented, selected}
+use Rattle.ct_codes.specs.Constructions.Uuv.{uuv_words}
+use Rattle.ct_codes.specs.Constructions.Juxtaposed.{juxtaposed, added_weights}
 use Rattle.ct_build.specs.declared.building.TheConstants.{MAX_BUILT}
 use Rattle.ct_build.specs.declared.fault.BuildFault.{BuildFault}
 use Rattle.ct_build.specs.declared.fault.BuildFault.TheVariants.{WrongPart, Short, Size, Few, Empty}

@@ -4,9 +4,9 @@ ghost use Rattle.std.specs.Prelude.{◌≡◌, ◌+◌, ◌<◌, ◌≤◌, map,
 ghost use Rattle.std.specs.Option.{option_map, ForSome};
 ghost use Rattle.ct_words.specs.declared.limits.TheConstants.{MAX_N};
 ghost use Rattle.ct_codes.specs.Code.{IsSoundCode};
-ghost use Rattle.ct_constructions.specs.Joined.{followed_by};
-ghost use Rattle.ct_constructions.specs.Even.{even_from};
-ghost use Rattle.ct_constructions.specs.Append.{lengthened, one_appended, with_parity};
+ghost use Rattle.ct_codes.specs.Constructions.Joined.{followed_by};
+ghost use Rattle.ct_codes.specs.Constructions.Even.{even_from};
+ghost use Rattle.ct_codes.specs.Constructions.Append.{lengthened, one_appended, with_parity};
 
 use crate::even::even_from;
 use ct_codes::Code;

@@ -3,7 +3,7 @@
 ghost use Rattle.std.specs.Prelude.{◌≡◌, ◌-◌, ◌^◌, ◌<◌, ◌≤◌, length, None, IfOk};
 ghost use Rattle.ct_words.specs.declared.limits.TheConstants.{MAX_N};
 ghost use Rattle.ct_codes.specs.Code.{IsSoundCode};
-ghost use Rattle.ct_constructions.specs.Even.{even_from, even_words};
+ghost use Rattle.ct_codes.specs.Constructions.Even.{even_from, even_words};
 
 use ct_codes::Code;
 use ct_words::{Word, weight};

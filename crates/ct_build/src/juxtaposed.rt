@@ -5,7 +5,7 @@ ghost use Rattle.std.specs.Option.{ForSome};
 ghost use Rattle.ct_words.specs.declared.limits.TheConstants.{MAX_N};
 ghost use Rattle.ct_codes.specs.declared.code.TheConstants.{MAX_CODE_DISTANCE};
 ghost use Rattle.ct_codes.specs.Code.{IsSoundCode};
-ghost use Rattle.ct_constructions.specs.Juxtaposed.{juxtaposed, added_weights};
+ghost use Rattle.ct_codes.specs.Constructions.Juxtaposed.{juxtaposed, added_weights};
 
 use ct_codes::Code;
 use ct_words::Word;

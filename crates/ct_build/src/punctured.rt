@@ -3,8 +3,8 @@
 ghost use Rattle.std.specs.Prelude.{◌≡◌, ◌-◌, ◌^◌, ◌<◌, ◌≤◌, length, All, IfOk, IsPermutation};
 ghost use Rattle.ct_words.specs.declared.limits.TheConstants.{MAX_N};
 ghost use Rattle.ct_codes.specs.Code.{IsSoundCode};
-ghost use Rattle.ct_constructions.specs.Places.{ArePlaces};
-ghost use Rattle.ct_constructions.specs.Punctured.{punctured};
+ghost use Rattle.ct_codes.specs.Constructions.Places.{ArePlaces};
+ghost use Rattle.ct_codes.specs.Constructions.Punctured.{punctured};
 
 use crate::places::without_places;
 use crate::sorted::code_of;

@@ -3,8 +3,8 @@
 ghost use Rattle.std.specs.Prelude.{◌≡◌, ◌↔◌, ◌-◌, ◌^◌, ◌<◌, ◌≤◌, ◌==◌, [], length, count_by, All, IfOk, IfErr, IsOk, ◌⊎◌};
 ghost use Rattle.ct_words.specs.declared.limits.TheConstants.{MAX_N};
 ghost use Rattle.ct_codes.specs.Code.{IsSoundCode};
-ghost use Rattle.ct_constructions.specs.Places.{ArePlaces};
-ghost use Rattle.ct_constructions.specs.Shortened.{has_digits, shortened, shortened_weight};
+ghost use Rattle.ct_codes.specs.Constructions.Places.{ArePlaces};
+ghost use Rattle.ct_codes.specs.Constructions.Shortened.{has_digits, shortened, shortened_weight};
 ghost use Rattle.ct_build.specs.declared.fault.BuildFault.TheVariants.{Empty, Memory};
 
 use crate::fault::BuildFault;

@@ -6,8 +6,8 @@ ghost use Rattle.std.specs.List.Sorted.{IsSorted};
 ghost use Rattle.std.specs.Ordering.{nat_cmp};
 ghost use Rattle.ct_words.specs.declared.limits.TheConstants.{MAX_N};
 ghost use Rattle.ct_codes.specs.Code.{IsSoundCode};
-ghost use Rattle.ct_constructions.specs.Even.{even_from};
-ghost use Rattle.ct_constructions.specs.Translation.{translated, all_ones, complemented, selected};
+ghost use Rattle.ct_codes.specs.Constructions.Even.{even_from};
+ghost use Rattle.ct_codes.specs.Constructions.Translation.{translated, all_ones, complemented, selected};
 ghost use Rattle.ct_build.specs.declared.fault.BuildFault.TheVariants.{Empty, Memory};
 
 use crate::even::even_from;

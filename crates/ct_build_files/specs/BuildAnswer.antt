@@ -3,7 +3,7 @@ use Rattle.std.specs.Prelude.{◌≡◌, ◌≢◌, ℕ, ◌+◌, ◌%◌, ◌<�
 use Rattle.toml.specs.Data.{Data, get}
 use Rattle.ct_words.specs.declared.limits.TheConstants.{MAX_N}
 use Rattle.ct_codes.specs.declared.entry.Entry.{Entry}
-use Rattle.ct_constructions.specs.Places.{ArePlaces}
+use Rattle.ct_codes.specs.Constructions.Places.{ArePlaces}
 use Rattle.ct_build.specs.declared.building.TheConstants.{MAX_BUILT}
 use Rattle.ct_fields.specs.Tables.{HasNumber, IsNamed, HasOther, IsWordText}
 use Rattle.ct_fields.specs.StatesEntry.{HasLength, HasDistanceBeside, HasWeight}

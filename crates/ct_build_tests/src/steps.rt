@@ -3,7 +3,7 @@
 ghost use Rattle.std.specs.Prelude.{◌≡◌, ◌+◌, ◌^◌, ◌<◌, ◌≤◌, true, length, All};
 ghost use Rattle.std.specs.List.Sorted.{IsStrictlyIncreasing};
 ghost use Rattle.ct_codes.specs.declared.entry.Entry.{Entry};
-ghost use Rattle.ct_constructions.specs.Places.{ArePlaces};
+ghost use Rattle.ct_codes.specs.Constructions.Places.{ArePlaces};
 ghost use Rattle.ct_build.specs.Build.{FieldsFit, FitsStated};
 
 use crate::parts::Few;

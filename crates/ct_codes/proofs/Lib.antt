@@ -9,3 +9,4 @@ mod RowLemmas
 pub mod BlockLemmas
 pub mod SpanLemmas
 pub mod CosetLemmas
+pub mod Constructions

@@ -7,3 +7,4 @@ pub mod Claim
 pub mod Scheme
 pub mod Numbers
 pub mod Inside
+pub mod Constructions

@@ -1,4 +1,5 @@
-//! Codes of the table: lists of words that are checked for length, difference, distance and weight.
+//! Codes of the table: lists of words that are checked for length, difference, distance and weight; and what constructions make of
+//! codes: words with more digits, with fewer, with one word added to each, and put together.
 #![tactic(auto)]
 
 mod across;
@@ -6,6 +7,7 @@ mod check;
 mod choices;
 mod claim;
 mod code;
+mod construction_laws;
 mod coset;
 mod coset_laws;
 mod coset_search;
@@ -21,6 +23,11 @@ mod span;
 pub use check::check_words;
 pub use claim::{Claim, Side};
 pub use code::{Code, MAX_CODE_DISTANCE};
+pub use construction_laws::{
+    added_words_are_sums, digits_at_places, digits_of_constructions, even_words_are_a_code,
+    juxtaposed_codes, longer_words_are_codes, parts_of_codes_are_codes, punctured_codes,
+    shortened_codes, sizes_of_constructions, translated_words_are_codes, uuv_codes,
+};
 pub use coset::{CosetCode, check_cosets};
 pub use coset_laws::{
     choices_are_sums, coset_lists_hold_all_choices, faultless_cosets_are_codes, known_cosets,

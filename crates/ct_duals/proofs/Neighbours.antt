@@ -15,15 +15,15 @@ use Rattle.ct_words.proofs.DigitLists.{digits_of, length-digits_of, apart-digits
 use Rattle.ct_codes.specs.declared.entry.Entry.{Entry}
 use Rattle.ct_codes.specs.Entry.{constant_weight}
 use Rattle.ct_codes.specs.Code.{IsCode}
-use Rattle.ct_constructions.specs.Even.{even_from}
-use Rattle.ct_constructions.specs.Translation.{selected}
-use Rattle.ct_constructions.specs.Append.{with_parity}
-use Rattle.ct_constructions.specs.Joined.{followed_by}
-use Rattle.ct_constructions.specs.Places.{ArePlaces}
-use Rattle.ct_constructions.specs.Punctured.{punctured}
-use Rattle.ct_constructions.proofs.TranslationLemmas.{IsCode-selected}
-use Rattle.ct_constructions.proofs.AppendLemmas.{IsCode-with_parity, length-with_parity, weight-with_parity}
-use Rattle.ct_constructions.proofs.PuncturedCodes.{IsCode-punctured, length-punctured}
+use Rattle.ct_codes.specs.Constructions.Even.{even_from}
+use Rattle.ct_codes.specs.Constructions.Translation.{selected}
+use Rattle.ct_codes.specs.Constructions.Append.{with_parity}
+use Rattle.ct_codes.specs.Constructions.Joined.{followed_by}
+use Rattle.ct_codes.specs.Constructions.Places.{ArePlaces}
+use Rattle.ct_codes.specs.Constructions.Punctured.{punctured}
+use Rattle.ct_codes.proofs.Constructions.TranslationLemmas.{IsCode-selected}
+use Rattle.ct_codes.proofs.Constructions.AppendLemmas.{IsCode-with_parity, length-with_parity, weight-with_parity}
+use Rattle.ct_codes.proofs.Constructions.PuncturedCodes.{IsCode-punctured, length-punctured}
 use Rattle.ct_duals.specs.Bound.{AreTrueUppers, is_far}
 use Rattle.ct_duals.proofs.Allowed.{count_at, AreWithin}
 

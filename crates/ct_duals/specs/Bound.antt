@@ -6,7 +6,7 @@ use Rattle.ct_codes.specs.declared.entry.Entry.{Entry}
 use Rattle.ct_codes.specs.Entry.{constant_weight}
 use Rattle.ct_codes.specs.Numbers.{numbers_of}
 use Rattle.ct_codes.specs.Code.{IsTrueUpper}
-use Rattle.ct_constructions.specs.Even.{even_from}
+use Rattle.ct_codes.specs.Constructions.Even.{even_from}
 use Rattle.ct_duals.specs.declared.dual.Dual.{Dual}
 use Rattle.ct_duals.specs.Dual.{IsDual, multiplier, combination}
 use Rattle.ct_duals.specs.Check.{IsBelow}

@@ -2,7 +2,7 @@
 ghost use Rattle.std.specs.Prelude.{◌≡◌, ◌≤◌, ◌↔◌, true, pos, IsTrue, Contains, map, length, slice_get, option_map};
 ghost use Rattle.ct_words.specs.declared.limits.TheConstants.{MAX_N};
 ghost use Rattle.ct_codes.specs.Entry.{IsEntry, constant_weight};
-ghost use Rattle.ct_constructions.specs.Even.{even_from};
+ghost use Rattle.ct_codes.specs.Constructions.Even.{even_from};
 ghost use Rattle.ct_duals.specs.Bound.{positive};
 
 use ct_codes::Entry;

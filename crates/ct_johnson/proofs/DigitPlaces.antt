@@ -14,10 +14,10 @@ use Rattle.ct_words.specs.Word.{places, digit, weight}
 use Rattle.ct_words.proofs.WordLemmas.{one, digit-lt}
 use Rattle.ct_codes.specs.Code.{IsCode, IsTrueLower}
 use Rattle.ct_codes.specs.Entry.{constant_weight}
-use Rattle.ct_constructions.specs.Places.{ArePlaces}
-use Rattle.ct_constructions.specs.Shortened.{shortened}
-use Rattle.ct_constructions.proofs.FrontLemmas.{IsCode-take}
-use Rattle.ct_constructions.proofs.ShortenedCodes.{IsCode-shortened, length-shortened}
+use Rattle.ct_codes.specs.Constructions.Places.{ArePlaces}
+use Rattle.ct_codes.specs.Constructions.Shortened.{shortened}
+use Rattle.ct_codes.proofs.Constructions.FrontLemmas.{IsCode-take}
+use Rattle.ct_codes.proofs.Constructions.ShortenedCodes.{IsCode-shortened, length-shortened}
 use Rattle.ct_johnson.proofs.RoundedUp.{div_ceil-le}
 
 -- at how many places the word x of length n has the digit a

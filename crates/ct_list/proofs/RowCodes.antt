@@ -5,14 +5,14 @@ use Rattle.std.proofs.lemmas.Bool.{and_parts, le-ltb}
 use Rattle.ct_codes.specs.declared.entry.Entry.{Entry}
 use Rattle.ct_codes.specs.Code.{CodeValue}
 use Rattle.ct_codes.specs.Entry.{unrestricted}
-use Rattle.ct_constructions.specs.Juxtaposed.{juxtaposed, added_weights}
-use Rattle.ct_constructions.specs.Punctured.{punctured}
-use Rattle.ct_constructions.specs.Translation.{complemented}
-use Rattle.ct_constructions.specs.Uuv.{uuv_words}
-use Rattle.ct_constructions.proofs.JuxtaposedCodes.{length-juxtaposed}
-use Rattle.ct_constructions.proofs.PuncturedCodes.{length-punctured}
-use Rattle.ct_constructions.proofs.TranslationLemmas.{length-complemented}
-use Rattle.ct_constructions.proofs.UuvCodes.{length-uuv_words}
+use Rattle.ct_codes.specs.Constructions.Juxtaposed.{juxtaposed, added_weights}
+use Rattle.ct_codes.specs.Constructions.Punctured.{punctured}
+use Rattle.ct_codes.specs.Constructions.Translation.{complemented}
+use Rattle.ct_codes.specs.Constructions.Uuv.{uuv_words}
+use Rattle.ct_codes.proofs.Constructions.JuxtaposedCodes.{length-juxtaposed}
+use Rattle.ct_codes.proofs.Constructions.PuncturedCodes.{length-punctured}
+use Rattle.ct_codes.proofs.Constructions.TranslationLemmas.{length-complemented}
+use Rattle.ct_codes.proofs.Constructions.UuvCodes.{length-uuv_words}
 use Rattle.ct_rule_parts.specs.declared.support.Support.{Support}
 use Rattle.ct_rule_parts.specs.Parts.{has_weight, weight_of, half_up}
 use Rattle.ct_rule_parts.proofs.PlainEntries.{Weightless, no_weight, a_weight}

@@ -1,7 +1,7 @@
 //! The codes of lines, each kept as long as a later line needs it.
 
 ghost use Rattle.std.specs.Prelude.{◌≡◌, ◌<◌, ◌++◌, ◌||◌, List, length, All, slice_get, slice_set, Some, None, IfOk, OnOk, if◌then◌else◌};
-ghost use Rattle.ct_constructions.specs.Places.{is_among};
+ghost use Rattle.ct_codes.specs.Constructions.Places.{is_among};
 ghost use Rattle.ct_codes.specs.Code.{CodeValue};
 ghost use Rattle.ct_rules.specs.Derivation.{LineValue};
 ghost use Rattle.ct_list.specs.Inside.Kept.{AreCodesFor, AreKept, is_named, named_by};

@@ -16,7 +16,7 @@ use Rattle.ct_codes.specs.Entry.{IsEntry}
 use Rattle.ct_codes.specs.Pairs.{first_of}
 use Rattle.ct_codes.proofs.CheckLemmas.{first_of-None}
 use Rattle.ct_codes.proofs.EntryLemmas.{entry_limits}
-use Rattle.ct_constructions.specs.Juxtaposed.{added_weights}
+use Rattle.ct_codes.specs.Constructions.Juxtaposed.{added_weights}
 use Rattle.ct_build.specs.declared.fault.BuildFault.TheVariants as build
 use Rattle.ct_partitions.specs.Partition.{PartitionValue, IsSoundPartition}
 use Rattle.ct_partitions.specs.Product.{Factors, product, product_size, product_distance, AreFactors, AreSound as AreSoundFactors, no_partition, pairs_at, ArePlaces}

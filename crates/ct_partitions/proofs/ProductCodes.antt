@@ -13,10 +13,10 @@ use Rattle.ct_words.proofs.Counting.Pairs.{AllPairs-head, AllPairs-tail, AllPair
 use Rattle.ct_words.specs.Word.{places, digit, weight, distance}
 use Rattle.ct_words.proofs.WordLemmas.{one, distance_comm, places_within_two, places-none, weights_of_pair}
 use Rattle.ct_codes.specs.Code.{IsCode}
-use Rattle.ct_constructions.specs.Joined.{followed_by}
-use Rattle.ct_constructions.specs.Juxtaposed.{added_weights}
-use Rattle.ct_constructions.proofs.JoinedLemmas.{followed_by-lt, weight-followed_by, distance-followed_by}
-use Rattle.ct_constructions.proofs.FarWords.{AreFar, code_from_far}
+use Rattle.ct_codes.specs.Constructions.Joined.{followed_by}
+use Rattle.ct_codes.specs.Constructions.Juxtaposed.{added_weights}
+use Rattle.ct_codes.proofs.Constructions.JoinedLemmas.{followed_by-lt, weight-followed_by, distance-followed_by}
+use Rattle.ct_codes.proofs.Constructions.FarWords.{AreFar, code_from_far}
 use Rattle.ct_partitions.specs.Partition.{all_words, IsPartition}
 use Rattle.ct_partitions.specs.Product.{Factors, all_followed, class_products, product, weight_of, pair_distance, weight_gap, distances, least, product_size, product_distance, AreFactors}
 

@@ -4,8 +4,8 @@ use Rattle.std.specs.Prelude.{◌≡◌, ℕ, ◌+◌, ◌-◌, ◌*◌, ◌<◌
 use Rattle.std.specs.List.{flat_map, zip}
 use Rattle.std.specs.Option.{unwrap_or}
 use Rattle.ct_codes.specs.Entry.{unrestricted}
-use Rattle.ct_constructions.specs.Joined.{followed_by}
-use Rattle.ct_constructions.specs.Juxtaposed.{added_weights}
+use Rattle.ct_codes.specs.Constructions.Joined.{followed_by}
+use Rattle.ct_codes.specs.Constructions.Juxtaposed.{added_weights}
 use Rattle.ct_partitions.specs.Partition.{PartitionValue, IsSoundPartition}
 
 -- two partitions

@@ -3,7 +3,7 @@
 ghost use Rattle.std.specs.Prelude.{◌≡◌, ◌+◌, ◌-◌, ◌^◌, ◌<◌, ◌≤◌, ◌++◌, length, map, All, OnOk, IfOk, IsPermutation};
 ghost use Rattle.ct_words.specs.declared.limits.TheConstants.{MAX_N};
 ghost use Rattle.ct_codes.specs.Code.{IsSoundCode};
-ghost use Rattle.ct_constructions.specs.Joined.{followed_by};
+ghost use Rattle.ct_codes.specs.Constructions.Joined.{followed_by};
 ghost use Rattle.ct_partitions.specs.Partition.{IsSoundPartition};
 ghost use Rattle.ct_partitions.specs.Product.{all_followed, class_products, product, product_distance, AreFactors, AreSound, pairs_at, ArePlaces};
 

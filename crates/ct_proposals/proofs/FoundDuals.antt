@@ -5,7 +5,7 @@ use Rattle.ct_words.specs.declared.limits.TheConstants.{MAX_BOUND}
 use Rattle.ct_codes.specs.declared.entry.Entry.{Entry}
 use Rattle.ct_codes.specs.Code.{IsTrueUpper}
 use Rattle.ct_codes.specs.Entry.{IsEntry, unrestricted, constant_weight}
-use Rattle.ct_constructions.specs.Even.{even_from}
+use Rattle.ct_codes.specs.Constructions.Even.{even_from}
 use Rattle.ct_duals.specs.declared.dual.Dual.{Dual}
 use Rattle.ct_duals.specs.Dual.{IsDual, degree_of, multiplier, combination}
 use Rattle.ct_duals.specs.Check.{dual_fault}

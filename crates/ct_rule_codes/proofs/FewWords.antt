@@ -15,10 +15,10 @@ use Rattle.ct_codes.specs.Entry.{IsEntry}
 use Rattle.ct_codes.specs.Code.{IsCode, IsSoundCode}
 use Rattle.ct_codes.proofs.BoundLemmas.{one_word_code}
 use Rattle.ct_codes.proofs.EntryLemmas.{WeightFits, entry_limits}
-use Rattle.ct_constructions.specs.Joined.{followed_by}
-use Rattle.ct_constructions.specs.Translation.{all_ones}
-use Rattle.ct_constructions.proofs.JoinedLemmas.{followed_by-lt}
-use Rattle.ct_constructions.proofs.SortedCodes.{sound_from_sort}
+use Rattle.ct_codes.specs.Constructions.Joined.{followed_by}
+use Rattle.ct_codes.specs.Constructions.Translation.{all_ones}
+use Rattle.ct_codes.proofs.Constructions.JoinedLemmas.{followed_by-lt}
+use Rattle.ct_codes.proofs.Constructions.SortedCodes.{sound_from_sort}
 use Rattle.ct_rule_parts.proofs.Constructions.{IsCode-two}
 use Rattle.ct_weight_rules.proofs.DisjointWords.{side_by_side, length-side_by_side, IsCode-side_by_side}
 

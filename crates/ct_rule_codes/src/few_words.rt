@@ -4,7 +4,7 @@ ghost use Rattle.std.specs.Prelude.{◌≡◌, ◌<◌, ◌≤◌, ◌*◌, ◌/
 ghost use Rattle.ct_words.specs.declared.limits.TheConstants.{MAX_N};
 ghost use Rattle.ct_codes.specs.Code.{IsSoundCode};
 ghost use Rattle.ct_codes.specs.Entry.{IsEntry};
-ghost use Rattle.ct_constructions.specs.Translation.{all_ones};
+ghost use Rattle.ct_codes.specs.Constructions.Translation.{all_ones};
 ghost use Rattle.ct_rule_codes.specs.CodeEntry.{entry_of};
 ghost use Rattle.ct_weight_rules.proofs.DisjointWords.{side_by_side};
 

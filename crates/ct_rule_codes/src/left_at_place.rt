@@ -2,7 +2,7 @@
 
 ghost use Rattle.std.specs.Prelude.{◌≡◌, ◌-◌, ◌*◌, ◌/◌, ◌%◌, ◌^◌, ◌==◌, ◌<◌, ◌≤◌, [], ◌∷◌, ℕ, length, count_by, option_map, IfOk, None, Some};
 ghost use Rattle.std.specs.Int.{div_ceil};
-ghost use Rattle.ct_constructions.specs.Shortened.{shortened};
+ghost use Rattle.ct_codes.specs.Constructions.Shortened.{shortened};
 ghost use Rattle.ct_rule_parts.specs.Parts.{half_up};
 
 use crate::first_words::first_words;

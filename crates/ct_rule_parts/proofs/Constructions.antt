@@ -10,22 +10,22 @@ use Rattle.ct_words.specs.Word.{digit, distance, IsSum}
 use Rattle.ct_words.proofs.WordLemmas.{distance-is_weight, weight-ones}
 use Rattle.ct_codes.specs.Entry.{unrestricted, constant_weight}
 use Rattle.ct_codes.specs.Code.{IsCode, IsTrueLower}
-use Rattle.ct_constructions.specs.Even.{even_from, even_words}
-use Rattle.ct_constructions.specs.Append.{lengthened, with_parity}
-use Rattle.ct_constructions.specs.Translation.{all_ones}
-use Rattle.ct_constructions.specs.Places.{ArePlaces}
-use Rattle.ct_constructions.specs.Punctured.{punctured}
-use Rattle.ct_constructions.specs.Shortened.{shortened}
-use Rattle.ct_constructions.specs.Uuv.{uuv_words}
-use Rattle.ct_constructions.specs.Juxtaposed.{juxtaposed}
-use Rattle.ct_constructions.proofs.FarWords.{AreFar, code_from_far}
-use Rattle.ct_constructions.proofs.FrontLemmas.{IsCode-nearer, IsCode-unweighted}
-use Rattle.ct_constructions.proofs.AppendLemmas.{IsCode-lengthened, IsCode-with_parity, length-lengthened, length-with_parity}
-use Rattle.ct_constructions.proofs.EvenLemmas.{IsCode-even_words, length-even_words}
-use Rattle.ct_constructions.proofs.PuncturedCodes.{IsCode-punctured, length-punctured}
-use Rattle.ct_constructions.proofs.ShortenedCodes.{IsCode-shortened, halves-shortened}
-use Rattle.ct_constructions.proofs.UuvCodes.{IsCode-uuv, length-uuv_words}
-use Rattle.ct_constructions.proofs.JuxtaposedCodes.{IsCode-juxtaposed, length-juxtaposed}
+use Rattle.ct_codes.specs.Constructions.Even.{even_from, even_words}
+use Rattle.ct_codes.specs.Constructions.Append.{lengthened, with_parity}
+use Rattle.ct_codes.specs.Constructions.Translation.{all_ones}
+use Rattle.ct_codes.specs.Constructions.Places.{ArePlaces}
+use Rattle.ct_codes.specs.Constructions.Punctured.{punctured}
+use Rattle.ct_codes.specs.Constructions.Shortened.{shortened}
+use Rattle.ct_codes.specs.Constructions.Uuv.{uuv_words}
+use Rattle.ct_codes.specs.Constructions.Juxtaposed.{juxtaposed}
+use Rattle.ct_codes.proofs.Constructions.FarWords.{AreFar, code_from_far}
+use Rattle.ct_codes.proofs.Constructions.FrontLemmas.{IsCode-nearer, IsCode-unweighted}
+use Rattle.ct_codes.proofs.Constructions.AppendLemmas.{IsCode-lengthened, IsCode-with_parity, length-lengthened, length-with_parity}
+use Rattle.ct_codes.proofs.Constructions.EvenLemmas.{IsCode-even_words, length-even_words}
+use Rattle.ct_codes.proofs.Constructions.PuncturedCodes.{IsCode-punctured, length-punctured}
+use Rattle.ct_codes.proofs.Constructions.ShortenedCodes.{IsCode-shortened, halves-shortened}
+use Rattle.ct_codes.proofs.Constructions.UuvCodes.{IsCode-uuv, length-uuv_words}
+use Rattle.ct_codes.proofs.Constructions.JuxtaposedCodes.{IsCode-juxtaposed, length-juxtaposed}
 use Rattle.ct_rule_parts.specs.Parts.{half_up}
 use Rattle.ct_rule_parts.proofs.SlotLemmas.{IsTrueLower-fewer}
 

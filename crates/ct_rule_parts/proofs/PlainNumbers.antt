@@ -4,7 +4,7 @@ use Rattle.ct_codes.specs.declared.entry.Entry.{Entry}
 use Rattle.ct_codes.specs.declared.claim.Side.TheVariants.{Lower, Upper}
 use Rattle.ct_codes.specs.Entry.{unrestricted}
 use Rattle.ct_codes.specs.Code.{IsTrueLower, IsTrueUpper}
-use Rattle.ct_constructions.specs.Even.{even_from}
+use Rattle.ct_codes.specs.Constructions.Even.{even_from}
 use Rattle.ct_rule_parts.proofs.Constructions.{HasCode, HasCode-parity}
 use Rattle.ct_rule_parts.proofs.Lawful.{IsTrueNumber}
 use Rattle.ct_rule_parts.proofs.PlainEntries.{Weightless}

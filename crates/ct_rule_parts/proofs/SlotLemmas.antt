@@ -8,7 +8,7 @@ use Rattle.ct_codes.specs.declared.claim.Side.{Side}
 use Rattle.ct_codes.specs.declared.claim.Side.TheVariants.{Lower, Upper}
 use Rattle.ct_codes.specs.Code.{IsTrueLower}
 use Rattle.ct_codes.specs.Claim.{IsTrueOn}
-use Rattle.ct_constructions.proofs.FrontLemmas.{IsCode-take}
+use Rattle.ct_codes.proofs.Constructions.FrontLemmas.{IsCode-take}
 use Rattle.ct_rule_parts.specs.Slot.{IsNoBetter, AreNoBetter}
 
 -- where some code has u words, some code has v ≤ u

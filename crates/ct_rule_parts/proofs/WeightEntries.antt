@@ -7,8 +7,8 @@ use Rattle.ct_codes.specs.declared.claim.Side.TheVariants.{Lower, Upper}
 use Rattle.ct_codes.specs.Entry.{IsEntry, constant_weight}
 use Rattle.ct_codes.specs.Code.{IsCode, IsTrueLower, IsTrueUpper}
 use Rattle.ct_codes.proofs.EntryLemmas.{WeightFits, entry_limits}
-use Rattle.ct_constructions.specs.Translation.{complemented}
-use Rattle.ct_constructions.proofs.TranslationLemmas.{IsCode-complemented, length-complemented}
+use Rattle.ct_codes.specs.Constructions.Translation.{complemented}
+use Rattle.ct_codes.proofs.Constructions.TranslationLemmas.{IsCode-complemented, length-complemented}
 use Rattle.ct_rule_parts.specs.Parts.{weight_of}
 use Rattle.ct_rule_parts.proofs.Lawful.{IsTrueNumber}
 use Rattle.ct_rule_parts.proofs.PlainEntries.{Weighted}

@@ -10,7 +10,7 @@ use Rattle.ct_codes.specs.declared.claim.Side.TheVariants.{Upper}
 use Rattle.ct_codes.specs.declared.entry.Entry.{Entry}
 use Rattle.ct_codes.specs.Code.{IsTrueUpper}
 use Rattle.ct_codes.specs.Entry.{constant_weight}
-use Rattle.ct_constructions.specs.Even.{even_from}
+use Rattle.ct_codes.specs.Constructions.Even.{even_from}
 use Rattle.ct_duals.specs.Dual.{IsDual, IsPlainOf}
 use Rattle.ct_duals.specs.Bound.{AcceptedValue, IsAccepted, AreTrueUppers, AreAtMost, positive, dual_premises, dual_bound}
 use Rattle.ct_duals.proofs.Monotone.{dual_bound-monotone}

@@ -6,8 +6,8 @@ use Rattle.ct_codes.specs.declared.claim.Side.TheVariants.{Lower}
 use Rattle.ct_codes.specs.Code.{IsTrueLower}
 use Rattle.ct_codes.specs.Entry.{constant_weight}
 use Rattle.ct_codes.proofs.EntryLemmas.{entry_limits}
-use Rattle.ct_constructions.specs.Append.{lengthened, one_appended}
-use Rattle.ct_constructions.proofs.AppendLemmas.{IsCode-lengthened, IsCode-one_appended, length-lengthened, length-one_appended}
+use Rattle.ct_codes.specs.Constructions.Append.{lengthened, one_appended}
+use Rattle.ct_codes.proofs.Constructions.AppendLemmas.{IsCode-lengthened, IsCode-one_appended, length-lengthened, length-one_appended}
 use Rattle.ct_rule_parts.specs.declared.support.Support.{Support}
 use Rattle.ct_rule_parts.specs.Parts.{has_weight, weight_of, first}
 use Rattle.ct_rule_parts.proofs.Lawful.{IsLawful, only_value, same_number, no_worse-other, first-no_better, defined_entry, defined_condition}

@@ -3,7 +3,7 @@ use Rattle.std.specs.Prelude.{◌≡◌, ◌<◌, ℕ, Bool, List, [], ◌∷◌
 use Rattle.std.specs.List.{flat_map, list_any}
 use Rattle.ct_codes.specs.declared.claim.Claim.{Claim}
 use Rattle.ct_codes.specs.Code.{CodeValue}
-use Rattle.ct_constructions.specs.Places.{is_among}
+use Rattle.ct_codes.specs.Constructions.Places.{is_among}
 use Rattle.ct_rules.specs.Derivation.{LineValue}
 use Rattle.ct_rule_codes.specs.CodeEntry.{entry_of}
 

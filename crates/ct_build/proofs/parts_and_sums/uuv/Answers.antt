@@ -3,8 +3,8 @@ use Rattle.std.proofs.lemmas.List.Sorted.{length_permutation, IsPermutation-tran
 use Rattle.std.specs.Prelude.{None}
 use Rattle.ct_codes.specs.Code.{IsCode, CodeValue}
 use Rattle.ct_codes.proofs.CheckLemmas.{IsCode-permutation}
-use Rattle.ct_constructions.specs.Uuv.{uuv_words}
-use Rattle.ct_constructions.proofs.UuvCodes.{length-uuv_words, IsCode-uuv}
+use Rattle.ct_codes.specs.Constructions.Uuv.{uuv_words}
+use Rattle.ct_codes.proofs.Constructions.UuvCodes.{length-uuv_words, IsCode-uuv}
 use Rattle.ct_build.proofs.parts_and_sums.uuv.Goals as goal
 
 -- the words of the two codes, as they were read

@@ -1,8 +1,8 @@
 use Rattle.std.proofs.Common.{◌≡◌, ◌-◌, length, sym, ap, subst, ◌∙◌, arith}
 use Rattle.std.proofs.lemmas.Bool.{eqb-false}
 use Rattle.ct_codes.specs.Code.{IsSoundCode}
-use Rattle.ct_constructions.specs.Shortened.{shortened, shortened_weight}
-use Rattle.ct_constructions.proofs.ShortenedCodes.{IsSoundCode-shortened}
+use Rattle.ct_codes.specs.Constructions.Shortened.{shortened, shortened_weight}
+use Rattle.ct_codes.proofs.Constructions.ShortenedCodes.{IsSoundCode-shortened}
 use Rattle.ct_build.proofs.shortened.shorten.Goals as goal
 
 pub from_sorted-requires : goal.from_sorted-requires

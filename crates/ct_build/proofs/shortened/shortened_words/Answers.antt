@@ -1,5 +1,5 @@
 use Rattle.std.proofs.Common.{sym, ◌∙◌}
-use Rattle.ct_constructions.proofs.ShortenedCodes.{shortened-some}
+use Rattle.ct_codes.proofs.Constructions.ShortenedCodes.{shortened-some}
 use Rattle.ct_build.proofs.shortened.shortened_words.Goals as goal
 
 pub returns-in_err-push-clause-none : goal.returns-in_err-push-clause-none

@@ -1,7 +1,7 @@
 use Rattle.std.proofs.Common.{length, subst, refl, sym, ap, ◌∙◌, Some, IsPermutation, arith}
 use Rattle.std.proofs.lemmas.Bool.{eqb-false}
-use Rattle.ct_constructions.specs.Even.{even_from}
-use Rattle.ct_constructions.proofs.TranslationLemmas.{sound-selected}
+use Rattle.ct_codes.specs.Constructions.Even.{even_from}
+use Rattle.ct_codes.proofs.Constructions.TranslationLemmas.{sound-selected}
 use Rattle.ct_build.proofs.Sound.{IsSoundCode-same}
 use Rattle.ct_build.proofs.translation.select_weight.Goals as goal
 

@@ -8,7 +8,7 @@ use mir.Val.{SFits}
 use mir.Syntax.{w64}
 use Rattle.ct_codes.specs.Entry.{same_entry, constant_weight}
 use Rattle.ct_codes.proofs.EntryLemmas.{same_entry_is, same_entry-self}
-use Rattle.ct_constructions.specs.Even.{even_from}
+use Rattle.ct_codes.specs.Constructions.Even.{even_from}
 use Rattle.ct_duals.proofs.Premises.{premises, entry_test, among-first, among-others, among-none}
 use Rattle.ct_duals.proofs.premise.is_premise.Goals as goal
 use Rattle.ct_duals.proofs.premise.is_premise.Goals.{else-number-gt0-via-then-number-gt0+else-eq, else-number-gt0-via-else-number-gt0}

@@ -1,8 +1,8 @@
 use Rattle.std.proofs.Common.{◌≡◌, ℕ, ◌-◌, ◌+◌, ◌*◌, ◌%◌, ◌^◌, ◌≤◌, List, [], ◌∷◌, ◌++◌, get_or, map, take, bit_or, sym, ap, ap₂, ◌∙◌, arith, append_assoc}
 use Rattle.std.proofs.lemmas.List.{map_more}
 use Rattle.ct_words.specs.declared.limits.TheConstants.{MAX_N}
-use Rattle.ct_constructions.specs.Joined.{followed_by}
-use Rattle.ct_constructions.proofs.JoinedLemmas.{or-followed_by}
+use Rattle.ct_codes.specs.Constructions.Joined.{followed_by}
+use Rattle.ct_codes.proofs.Constructions.JoinedLemmas.{or-followed_by}
 use Rattle.ct_partitions.proofs.listing.append_word.Goals as goal
 
 pub loop-y-preserved : goal.loop-y-preserved

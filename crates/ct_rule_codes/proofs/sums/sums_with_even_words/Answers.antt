@@ -2,8 +2,8 @@ use Rattle.std.proofs.Common.{◌≡◌, ℕ, ◌-◌, ◌*◌, ◌^◌, List, l
 use Rattle.std.specs.Prelude.{IsPermutation}
 use Rattle.std.proofs.lemmas.List.Sorted.{length_permutation}
 use Rattle.ct_codes.specs.Code.{CodeValue}
-use Rattle.ct_constructions.specs.Uuv.{uuv_words}
-use Rattle.ct_constructions.proofs.UuvCodes.{length-uuv_words}
+use Rattle.ct_codes.specs.Constructions.Uuv.{uuv_words}
+use Rattle.ct_codes.proofs.Constructions.UuvCodes.{length-uuv_words}
 use Rattle.ct_rule_codes.proofs.sums.sums_with_even_words.Goals as goal
 
 -- as many words as pairs

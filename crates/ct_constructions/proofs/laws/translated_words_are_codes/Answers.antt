@@ -1,5 +1,0 @@
-use Rattle.ct_constructions.proofs.TranslationLemmas.{IsCode-translated, IsCode-complemented, IsCode-selected}
-use Rattle.ct_constructions.proofs.laws.translated_words_are_codes.Goals as goal
-
-pub returns : goal.returns
-returns c = record { translate = IsCode-translated; complement = IsCode-complemented; select = IsCode-selected }
