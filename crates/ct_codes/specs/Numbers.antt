@@ -1,5 +1,5 @@
 -- The numbers of the Hamming scheme, by Krawtchouk, and of the Johnson scheme: the first eigenmatrices of Delsarte 1973.
-use Rattle.std.specs.Prelude.{ℕ, suc, ◌-◌, ◌*◌, ℤ, pos, ◌*ℤ◌, Option, Some, None}
+use Rattle.std.specs.Prelude.{ℕ, suc, ◌-◌, ◌*◌, ℤ, pos, ◌*ℤ◌, List, length, get_or, Option, Some, None}
 use Rattle.ct_words.specs.Counting.Alternating.{total_below, sign}
 use Rattle.ct_words.specs.Counting.Binomials.{choose, factorial}
 use Rattle.ct_codes.specs.declared.entry.Entry.{Entry}
@@ -21,3 +21,11 @@ number_at n (Some w) k i = johnson n w k i
 -- the numbers of the scheme of an entry
 abbrev pub numbers_of : Entry → ℕ → ℕ → ℤ
 numbers_of e = number_at e.n e.w
+
+-- the number at place k, 0 past the end
+abbrev pub multiplier : List ℤ → ℕ → ℤ
+multiplier c k = get_or c k (pos 0)
+
+-- f(i): the sum of c_k times the number of the scheme at k and i
+abbrev pub combination : (ℕ → ℕ → ℤ) → List ℤ → ℕ → ℤ
+combination number c i = total_below (λ k. multiplier c k *ℤ number k i) (length c)

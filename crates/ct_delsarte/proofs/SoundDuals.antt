@@ -2,8 +2,8 @@
 use Rattle.std.proofs.Common.{ℕ, ◌≤◌, List, sym, subst}
 use Rattle.std.specs.Prelude.{ℤ, ◌≤ℤ◌}
 use Rattle.ct_codes.specs.Code.{IsTrueUpper}
-use Rattle.ct_codes.specs.Numbers.{numbers_of}
-use Rattle.ct_duals.specs.Dual.{IsWordOf, index_of, degree_of, multiplier}
+use Rattle.ct_codes.specs.Numbers.{numbers_of, multiplier}
+use Rattle.ct_duals.specs.Dual.{IsWordOf, index_of, degree_of}
 use Rattle.ct_duals.specs.Bound.{AcceptedValue, IsAccepted, AreTrueUppers, dual_premises, dual_bound}
 use Rattle.ct_duals.proofs.DualBound.{lead-least, dual_bound-true}
 use Rattle.ct_duals.proofs.Faults.{none-from_accepted}

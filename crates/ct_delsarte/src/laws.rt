@@ -2,10 +2,10 @@
 ghost use Rattle.std.specs.Prelude.{◌≡◌, ℕ, ◌≤◌, List, [], ◌∷◌, ℤ, pos, None};
 ghost use Rattle.ct_codes.specs.Code.{IsTrueUpper};
 ghost use Rattle.ct_duals.specs.declared.dual.Dual.{Dual};
-ghost use Rattle.ct_duals.specs.Dual.{IsDual, combination};
+ghost use Rattle.ct_duals.specs.Dual.{IsDual};
 ghost use Rattle.ct_duals.specs.Check.{dual_fault};
 ghost use Rattle.ct_duals.specs.Bound.{AcceptedValue, IsAccepted, AreTrueUppers, dual_premises, dual_bound};
-ghost use Rattle.ct_codes.specs.Numbers.{numbers_of};
+ghost use Rattle.ct_codes.specs.Numbers.{numbers_of, combination};
 ghost use Rattle.ct_duals.specs.Examples.{thirteen_six, eight_four_four, one_everywhere, above_at_last};
 
 /// No code of the entry of an accepted dual is larger than its bound, where the upper bounds that it rests on are true.

@@ -1,9 +1,9 @@
 //! The check of a dual in the scheme of its entry.
 ghost use Rattle.std.specs.Prelude.{◌≡◌, IfOk};
 ghost use Rattle.std.specs.Result.{result_err};
-ghost use Rattle.ct_duals.specs.Dual.{IsDual, combination};
+ghost use Rattle.ct_duals.specs.Dual.{IsDual};
 ghost use Rattle.ct_duals.specs.Check.{dual_fault};
-ghost use Rattle.ct_codes.specs.Numbers.{numbers_of};
+ghost use Rattle.ct_codes.specs.Numbers.{numbers_of, combination};
 
 use ct_duals::{Accepted, Dual, DualFault, check_dual};
 use ct_krawtchouk::Hamming;

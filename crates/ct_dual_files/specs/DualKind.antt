@@ -1,10 +1,9 @@
 -- Evidence of kind dual or jdual: a dual of Delsarte's linear program, which is judged by its own numbers.
 use Rattle.std.specs.Prelude.{◌≤ℤ◌, ℕ, pos, false, List, [], Option, Some, None, option_map}
 use Rattle.ct_duals.specs.declared.dual.Dual.{Dual}
-use Rattle.ct_duals.specs.Dual.{multiplier, combination}
 use Rattle.ct_duals.specs.declared.fault.DualFault.{DualFault}
 use Rattle.ct_duals.specs.Check.{dual_fault, IsBelow}
-use Rattle.ct_codes.specs.Numbers.{numbers_of}
+use Rattle.ct_codes.specs.Numbers.{numbers_of, multiplier, combination}
 use Rattle.ct_rule_parts.specs.declared.support.Support.{Support}
 use Rattle.ct_rule_parts.specs.declared.support.Support.TheVariants.{Nothing, Bound}
 use Rattle.ct_kind.specs.KindParts.{KindParts}

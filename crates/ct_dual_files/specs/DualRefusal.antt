@@ -1,9 +1,8 @@
 -- Why a dual is refused: each reason by its plain condition.
 use Rattle.std.specs.Prelude.{ℤ, pos, ◌≤ℤ◌}
-use Rattle.ct_codes.specs.Numbers.{numbers_of}
+use Rattle.ct_codes.specs.Numbers.{numbers_of, multiplier}
 use Rattle.ct_duals.specs.declared.dual.Dual.{Dual}
 use Rattle.ct_duals.specs.declared.fault.DualFault.TheVariants as dual
-use Rattle.ct_duals.specs.Dual.{multiplier}
 use Rattle.ct_duals.specs.Check.{IsLeastAbove}
 use Rattle.ct_kind.specs.declared.fault.SubmitFault.{SubmitFault}
 use Rattle.ct_kind.specs.declared.fault.SubmitFault.TheVariants as fault

@@ -15,7 +15,7 @@ use Rattle.ct_codes.specs.declared.entry.Entry.{Entry}
 use Rattle.ct_duals.specs.Dual.{allowed}
 use Rattle.ct_duals.specs.Bound.{natural, positive, charges, is_far, near_charge, far_charge}
 use Rattle.ct_duals.proofs.Charges.{positive-yes, positive-no, near_charge-first, far_charge-first}
-use Rattle.ct_duals.proofs.Rows.{total-le_within}
+use Rattle.ct_words.proofs.Counting.Combinations.{total-le_within}
 
 -- how many elements have the index i
 abbrev pub count_at : {X : Type 0} → (X → ℕ) → List X → ℕ → ℕ

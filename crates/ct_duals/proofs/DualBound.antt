@@ -17,7 +17,8 @@ use Rattle.ct_codes.proofs.EntryLemmas.{entry_limits}
 use Rattle.ct_codes.proofs.BoundLemmas.{one_is_lower}
 use Rattle.ct_codes.proofs.CheckLemmas.{code_size-le}
 use Rattle.ct_duals.specs.declared.dual.Dual.{Dual}
-use Rattle.ct_duals.specs.Dual.{IsWordOf, as_index, index_of, greatest_index, degree_of, Fits, multiplier, combination, is_in_range, IsDual, IsPlainOf}
+use Rattle.ct_codes.specs.Numbers.{multiplier, combination}
+use Rattle.ct_duals.specs.Dual.{IsWordOf, as_index, index_of, greatest_index, degree_of, Fits, is_in_range, IsDual, IsPlainOf}
 use Rattle.ct_duals.specs.Check.{dual_fault}
 use Rattle.ct_duals.specs.Bound.{natural, positive, charges, is_far, near_charge, far_charge, dual_premises, dual_bound, AreTrueUppers}
 use Rattle.ct_duals.proofs.Allowed.{count_at, weighed, weighed-positive, weighed-charge, natural-is}

@@ -4,12 +4,12 @@ use Rattle.std.specs.Prelude.{ℤ, pos, ◌≤ℤ◌, ◌<ℤ◌, int_lt, Option
 use Rattle.std.proofs.lemmas.Int.{ints}
 use Rattle.std.proofs.lemmas.Bool.{and_parts, and_from}
 use Rattle.std.proofs.lemmas.Option.{none-some, cond_some}
-use Rattle.ct_codes.specs.Numbers.{numbers_of}
+use Rattle.ct_codes.specs.Numbers.{numbers_of, multiplier, combination}
 use Rattle.ct_codes.specs.Pairs.{first_of}
 use Rattle.ct_duals.specs.declared.dual.Dual.{Dual}
 use Rattle.ct_duals.specs.declared.fault.DualFault.{DualFault}
 use Rattle.ct_duals.specs.declared.fault.DualFault.TheVariants.{Lead, Above}
-use Rattle.ct_duals.specs.Dual.{as_index, degree_of, multiplier, combination, allowed, is_in_range, IsDual}
+use Rattle.ct_duals.specs.Dual.{as_index, degree_of, allowed, is_in_range, IsDual}
 use Rattle.ct_duals.specs.Check.{first_below, is_above, fault_at, above_fault, dual_fault, IsBelow, IsLeastAbove}
 use Rattle.ct_duals.specs.Bound.{AcceptedValue, IsAccepted}
 use Rattle.ct_duals.proofs.First.{found_below, none_below, first_below-found}

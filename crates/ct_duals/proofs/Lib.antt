@@ -1,6 +1,5 @@
 pub mod Charges
 pub mod First
-pub mod Rows
 pub mod Allowed
 pub mod Neighbours
 pub mod Sound

@@ -6,7 +6,7 @@ use Rattle.std.proofs.lemmas.Nat.{mul-le, le-div}
 use Rattle.std.proofs.Math.Nat.{div-mul-le_self}
 use Rattle.ct_codes.specs.declared.entry.Entry.{Entry}
 use Rattle.ct_duals.specs.declared.dual.Dual.{Dual}
-use Rattle.ct_duals.specs.Dual.{multiplier}
+use Rattle.ct_codes.specs.Numbers.{multiplier}
 use Rattle.ct_duals.specs.Bound.{natural, positive, charges, is_far, near_charge, far_charge, dual_bound, AreAtMost}
 use Rattle.ct_duals.proofs.Charges.{near_charge-first, far_charge-first}
 

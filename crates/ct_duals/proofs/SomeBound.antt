@@ -3,7 +3,7 @@ use Rattle.std.proofs.Common.{◌≡◌, ℕ, ◌+◌, ◌≤◌, List, ap, arit
 use Rattle.std.specs.Prelude.{pos, ◌+ℤ◌, ◌≤ℤ◌}
 use Rattle.std.proofs.lemmas.Int.{ints}
 use Rattle.std.proofs.lemmas.Nat.{le-div}
-use Rattle.ct_duals.specs.Dual.{multiplier}
+use Rattle.ct_codes.specs.Numbers.{multiplier}
 use Rattle.ct_duals.specs.Bound.{AcceptedValue, natural, positive, charges, near_charge, far_charge, dual_bound}
 use Rattle.ct_duals.proofs.Allowed.{natural-is}
 

@@ -16,9 +16,10 @@ use Rattle.ct_words.proofs.WordLemmas.{distance_comm, distance_same, distance-tr
 use Rattle.ct_codes.specs.Scheme.{IsPositive}
 use Rattle.ct_codes.proofs.EntryLemmas.{entry_limits}
 use Rattle.ct_duals.specs.declared.dual.Dual.{Dual}
-use Rattle.ct_duals.specs.Dual.{IsWordOf, as_index, index_of, Fits, multiplier, combination, allowed, is_in_range, IsDual}
+use Rattle.ct_codes.specs.Numbers.{multiplier, combination}
+use Rattle.ct_duals.specs.Dual.{IsWordOf, as_index, index_of, Fits, allowed, is_in_range, IsDual}
 use Rattle.ct_duals.specs.Check.{IsBelow}
-use Rattle.ct_duals.proofs.Rows.{combination-below, total-le_within, total-constant, words-within}
+use Rattle.ct_words.proofs.Counting.Combinations.{combination-below, total-le_within, total-constant, words-within}
 use Rattle.ct_duals.proofs.Allowed.{count_at, weighed, weighed-cons, allowed-within}
 
 -- what a scheme keeps

@@ -4,7 +4,8 @@ use Rattle.ct_codes.specs.Pairs.{first_of}
 use Rattle.ct_duals.specs.declared.dual.Dual.{Dual}
 use Rattle.ct_duals.specs.declared.fault.DualFault.{DualFault}
 use Rattle.ct_duals.specs.declared.fault.DualFault.TheVariants.{Lead, Above}
-use Rattle.ct_duals.specs.Dual.{degree_of, multiplier, combination, allowed, is_in_range}
+use Rattle.ct_codes.specs.Numbers.{multiplier, combination}
+use Rattle.ct_duals.specs.Dual.{degree_of, allowed, is_in_range}
 
 -- what f gives at the least number below the bound where it gives something
 abbrev pub first_below : {X : Type 0} → (ℕ → Option X) → ℕ → Option X

@@ -1,6 +1,5 @@
 -- Duals of Delsarte's linear program (Delsarte 1973; MacWilliams and Sloane, chapter 17, section 4), and the spaces of words that they speak of.
-use Rattle.std.specs.Prelude.{◌≡◌, ℕ, suc, ◌-◌, ◌/◌, ◌%◌, ◌^◌, ◌<◌, ◌≤◌, min, Bool, true, false, not, ◌==◌, ◌&&◌, ◌||◌, nat_le, if◌then◌else◌, IsTrue, List, [], ◌∷◌, length, get_or, ℤ, pos, ◌*ℤ◌, ◌≤ℤ◌, ◌<ℤ◌, All, AllPairs, Option, Some, None, IfSome}
-use Rattle.ct_words.specs.Counting.Alternating.{total_below}
+use Rattle.std.specs.Prelude.{◌≡◌, ℕ, suc, ◌-◌, ◌/◌, ◌%◌, ◌^◌, ◌<◌, ◌≤◌, min, Bool, true, false, not, ◌==◌, ◌&&◌, ◌||◌, nat_le, if◌then◌else◌, IsTrue, List, [], ◌∷◌, length, ℤ, pos, ◌≤ℤ◌, ◌<ℤ◌, All, AllPairs, Option, Some, None, IfSome}
 use Rattle.ct_words.specs.Word.{weight, distance}
 use Rattle.ct_codes.specs.declared.entry.Entry.{Entry}
 use Rattle.ct_codes.specs.Entry.{IsEntry}
@@ -35,14 +34,6 @@ pub record Fits (belongs : ℕ → Type 0) (index : ℕ → ℕ → ℕ) (degree
   pub same_index : (x y : ℕ) → index x y ≡ index_of e x y
   pub same_degree : degree ≡ degree_of e
   pub numbers : (k i : ℕ) → number k i ≡ numbers_of e k i
-
--- the number at place k, 0 past the end
-abbrev pub multiplier : List ℤ → ℕ → ℤ
-multiplier c k = get_or c k (pos 0)
-
--- f(i): the sum of c_k times the number of the scheme at k and i
-abbrev pub combination : (ℕ → ℕ → ℤ) → List ℤ → ℕ → ℤ
-combination number c i = total_below (λ k. multiplier c k *ℤ number k i) (length c)
 
 -- what is allowed at i: y_i, and 0 where no y_i is named
 abbrev pub allowed : List (ℕ × ℤ) → ℕ → ℤ

@@ -3,7 +3,8 @@ ghost use Rattle.std.specs.Prelude.{◌≡◌, ◌≤◌, ◌+◌, ◌+ℤ◌, �
 ghost use Rattle.std.specs.Result.{result_err};
 ghost use Rattle.ct_words.specs.declared.limits.TheConstants.{MAX_N};
 ghost use Rattle.ct_codes.specs.Scheme.{IsSmall};
-ghost use Rattle.ct_duals.specs.Dual.{Fits, IsDual, degree_of, combination, allowed};
+ghost use Rattle.ct_codes.specs.Numbers.{combination};
+ghost use Rattle.ct_duals.specs.Dual.{Fits, IsDual, degree_of, allowed};
 ghost use Rattle.ct_duals.specs.Check.{dual_fault, lead_fault, above_fault, fault_at};
 
 use crate::accepted::Accepted;

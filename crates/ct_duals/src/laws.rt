@@ -3,7 +3,8 @@ ghost use Rattle.std.specs.Prelude.{◌≡◌, ◌≢◌, ◌↔◌, ℕ, ◌≤
 ghost use Rattle.ct_codes.specs.Code.{IsTrueUpper};
 ghost use Rattle.ct_duals.specs.declared.dual.Dual.{Dual};
 ghost use Rattle.ct_duals.specs.declared.fault.DualFault.TheVariants.{Lead, Above};
-ghost use Rattle.ct_duals.specs.Dual.{Fits, IsDual, multiplier, combination};
+ghost use Rattle.ct_codes.specs.Numbers.{multiplier, combination};
+ghost use Rattle.ct_duals.specs.Dual.{Fits, IsDual};
 ghost use Rattle.ct_duals.specs.Check.{dual_fault, IsBelow, IsLeastAbove};
 ghost use Rattle.ct_duals.specs.Bound.{AreTrueUppers, AreAtMost, dual_premises, dual_bound};
 

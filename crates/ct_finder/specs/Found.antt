@@ -2,9 +2,8 @@
 use Rattle.std.specs.Prelude.{ℕ, Bool, [], Option, Some, None, false}
 use Rattle.ct_codes.specs.declared.entry.Entry.{Entry}
 use Rattle.ct_duals.specs.declared.dual.Dual.{Dual}
-use Rattle.ct_duals.specs.Dual.{combination}
 use Rattle.ct_duals.specs.Bound.{dual_bound}
-use Rattle.ct_codes.specs.Numbers.{numbers_of}
+use Rattle.ct_codes.specs.Numbers.{numbers_of, combination}
 use Rattle.ct_finder_run.specs.Run.{End, run_of, run_dual, ones_dual}
 use Rattle.ct_finder_run.specs.Run.End.{Least as LeastEnd, Turns as TurnsEnd, Wide as WideEnd}
 use Rattle.ct_finder.specs.declared.found.Stop.{Stop}

@@ -15,7 +15,8 @@ use Rattle.ct_codes.specs.Pairs.{first_of}
 use Rattle.ct_duals.specs.declared.dual.Dual.{Dual}
 use Rattle.ct_duals.specs.declared.fault.DualFault.{DualFault}
 use Rattle.ct_duals.specs.declared.fault.DualFault.TheVariants.{Lead, Above}
-use Rattle.ct_duals.specs.Dual.{IsDual, as_index, degree_of, multiplier, combination, allowed, is_in_range}
+use Rattle.ct_codes.specs.Numbers.{multiplier, combination}
+use Rattle.ct_duals.specs.Dual.{IsDual, as_index, degree_of, allowed, is_in_range}
 use Rattle.ct_duals.specs.Check.{first_below, fault_at, above_fault, dual_fault}
 use Rattle.ct_duals.specs.Bound.{natural, dual_bound}
 use Rattle.ct_finder_run.specs.Column.{Column, range_of, rows_to, columns, opening_entry, cost_entry, opening_row}

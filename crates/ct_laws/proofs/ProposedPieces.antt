@@ -16,9 +16,8 @@ use Rattle.ct_codes.specs.Entry.{IsEntry}
 use Rattle.ct_text.specs.Id.{is_id}
 use Rattle.ct_duals.specs.declared.dual.Dual.{Dual}
 use Rattle.ct_fields.specs.declared.document.TheConstants.{MAX_DOCUMENT}
-use Rattle.ct_duals.specs.Dual.{multiplier, combination}
 use Rattle.ct_duals.specs.Bound.{natural}
-use Rattle.ct_codes.specs.Numbers.{numbers_of}
+use Rattle.ct_codes.specs.Numbers.{numbers_of, multiplier, combination}
 use Rattle.ct_finder_run.specs.Run.{End}
 use Rattle.ct_finder_run.specs.Run.End.{Least, Turns, Wide}
 use Rattle.ct_finder.specs.Found.{bound_of, stop_of}

@@ -4,9 +4,8 @@ use Rattle.std.specs.Prelude.{slice_get}
 use Rattle.std.proofs.lemmas.Option.{slice_get-get_or, slice_get_within}
 use Rattle.ct_duals.specs.declared.dual.Dual.{Dual}
 use Rattle.ct_duals.specs.declared.fault.DualFault.{DualFault}
-use Rattle.ct_duals.specs.Dual.{combination}
 use Rattle.ct_duals.proofs.Faults.{none-from_below}
-use Rattle.ct_codes.specs.Numbers.{numbers_of}
+use Rattle.ct_codes.specs.Numbers.{numbers_of, combination}
 use Rattle.ct_rule_parts.specs.declared.support.Support.TheVariants.{Bound}
 use Rattle.ct_evidence.specs.declared.evidence.Evidence.{Evidence}
 use Rattle.ct_evidence.specs.declared.evidence.Evidence.TheVariants as evidence

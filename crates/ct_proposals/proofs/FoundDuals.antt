@@ -7,10 +7,10 @@ use Rattle.ct_codes.specs.Code.{IsTrueUpper}
 use Rattle.ct_codes.specs.Entry.{IsEntry, unrestricted, constant_weight}
 use Rattle.ct_codes.specs.Constructions.Even.{even_from}
 use Rattle.ct_duals.specs.declared.dual.Dual.{Dual}
-use Rattle.ct_duals.specs.Dual.{IsDual, degree_of, multiplier, combination}
+use Rattle.ct_duals.specs.Dual.{IsDual, degree_of}
 use Rattle.ct_duals.specs.Check.{dual_fault}
 use Rattle.ct_duals.specs.Bound.{natural, positive, dual_premises, AreTrueUppers}
-use Rattle.ct_codes.specs.Numbers.{numbers_of}
+use Rattle.ct_codes.specs.Numbers.{numbers_of, multiplier, combination}
 use Rattle.ct_duals.proofs.Faults.{accepted-from_none}
 use Rattle.ct_delsarte.proofs.SoundDuals.{accepted-sound}
 use Rattle.ct_finder_run.specs.Column.{range_of}

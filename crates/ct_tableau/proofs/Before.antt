@@ -4,7 +4,7 @@ use Rattle.std.specs.Prelude.{ℤ, pos, ◌*ℤ◌, ◌-ℤ◌, ◌≤ℤ◌, �
 use Rattle.std.proofs.lemmas.Int.{ints, by_lt_z}
 use Rattle.std.proofs.lemmas.Bool.{ltb-true, ltb-false, lt-ltb}
 use Rattle.ct_words.proofs.Counting.Products.{int_mul_assoc, int_mul_comm}
-use Rattle.ct_duals.proofs.Rows.{product-nonneg}
+use Rattle.ct_words.proofs.Counting.Combinations.{product-nonneg}
 use Rattle.ct_finder_run.proofs.Crossed.{int_sub_mul, positive-mul}
 
 -- products with a positive number keep the order

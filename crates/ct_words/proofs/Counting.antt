@@ -30,3 +30,4 @@ pub mod CommonOnes
 pub mod Translations
 pub mod Shortened
 pub mod Between
+pub mod Combinations

@@ -1,7 +1,7 @@
 -- What the code of an accepted dual keeps of it.
 use Rattle.std.specs.Prelude.{ℕ, ◌^◌, ◌<◌, List, ◌≤ℤ◌, unsigned_abs}
 use Rattle.ct_codes.specs.Code.{IsTrueUpper}
-use Rattle.ct_duals.specs.Dual.{multiplier}
+use Rattle.ct_codes.specs.Numbers.{multiplier}
 use Rattle.ct_duals.specs.Bound.{AcceptedValue, IsAccepted, AreTrueUppers, dual_premises, dual_bound}
 
 -- the dual stands; and, by the law of the scheme in which it was checked, f(0) is at least c_0, sums with it fit the code's numbers, and no code of its entry is larger than its bound

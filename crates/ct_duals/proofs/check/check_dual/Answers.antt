@@ -4,8 +4,7 @@ use Rattle.std.specs.Prelude.{ℕ, ℤ, unsigned_abs, ◌<◌, ◌^◌}
 use Rattle.std.proofs.lemmas.Int.{to_z-of_z}
 use mir.Val.{SFits}
 use mir.Syntax.{w128}
-use Rattle.ct_codes.specs.Numbers.{numbers_of}
-use Rattle.ct_duals.specs.Dual.{combination}
+use Rattle.ct_codes.specs.Numbers.{numbers_of, combination}
 use Rattle.ct_duals.specs.Check.{dual_fault, IsBelow}
 use Rattle.ct_duals.specs.Inside.Proven.{IsProven}
 use Rattle.ct_duals.proofs.Faults.{below-from_none}
