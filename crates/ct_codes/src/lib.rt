@@ -16,6 +16,7 @@ mod fault;
 mod laws;
 mod near;
 mod pairs;
+mod products;
 mod rows;
 mod scheme;
 mod span;
@@ -41,4 +42,5 @@ pub use laws::{
 };
 pub use near::first_close;
 pub use pairs::first_close_pair;
+pub use products::add_product;
 pub use scheme::{Scheme, scheme_laws};

@@ -1,6 +1,6 @@
 -- The bound of an accepted dual is true, by the laws of a scheme alone.
-use Rattle.std.proofs.Common.{◌≡◌, ℕ, suc, ◌+◌, ◌*◌, ◌/◌, ◌%◌, ◌^◌, ◌<◌, ◌≤◌, Bool, true, false, not, ◌==◌, ◌&&◌, ◌||◌, List, [], ◌∷◌, length, get_or, refl, sym, ap, ap₂, ◌∙◌, arith, eq-eqb, leb-true, le-leb}
-use Rattle.std.specs.Prelude.{ℤ, pos, ◌+ℤ◌, ◌≤ℤ◌, int_lt, Option, None, Some, nat_le, IfSome, IsTrue}
+use Rattle.std.proofs.Common.{◌≡◌, ℕ, suc, ◌+◌, ◌*◌, ◌/◌, ◌%◌, ◌^◌, ◌<◌, ◌≤◌, Bool, true, false, not, ◌==◌, ◌&&◌, ◌||◌, List, [], ◌∷◌, length, get_or, refl, sym, ap, ap₂, ◌∙◌, subst, arith, eq-eqb, leb-true, le-leb}
+use Rattle.std.specs.Prelude.{ℤ, pos, ◌+ℤ◌, ◌*ℤ◌, ◌≤ℤ◌, int_lt, Option, None, Some, nat_le, IfSome, IsTrue}
 use Rattle.std.specs.List.{All, AllPairs}
 use Rattle.std.proofs.lemmas.Int.{ints}
 use Rattle.std.proofs.lemmas.Nat.{le-div}
@@ -11,7 +11,9 @@ use Rattle.std.proofs.lemmas.List.Elements.{All-head, All-tail}
 use Rattle.std.proofs.lemmas.Bool.{and_parts}
 use Rattle.ct_words.specs.declared.limits.TheConstants.{MAX_BOUND, MAX_N}
 use Rattle.ct_words.specs.Word.{weight, distance}
+use Rattle.ct_words.specs.Counting.PairTotals.{pair_total}
 use Rattle.ct_codes.specs.declared.entry.Entry.{Entry}
+use Rattle.ct_codes.specs.Entry.{IsEntry}
 use Rattle.ct_codes.specs.Code.{IsCode, IsCodeOf, IsTrueUpper}
 use Rattle.ct_codes.proofs.EntryLemmas.{entry_limits}
 use Rattle.ct_codes.proofs.BoundLemmas.{one_is_lower}
@@ -20,10 +22,10 @@ use Rattle.ct_duals.specs.declared.dual.Dual.{Dual}
 use Rattle.ct_codes.specs.Numbers.{multiplier, combination}
 use Rattle.ct_duals.specs.Dual.{IsWordOf, as_index, index_of, greatest_index, degree_of, Fits, is_in_range, IsDual, IsPlainOf}
 use Rattle.ct_duals.specs.Check.{dual_fault}
-use Rattle.ct_duals.specs.Bound.{natural, positive, charges, is_far, near_charge, far_charge, dual_premises, dual_bound, AreTrueUppers}
+use Rattle.ct_duals.specs.Bound.{natural, positive, charges, is_far, near_charge, far_charge, dual_premises, dual_spread, IsSpread, dual_bound, AreTrueUppers}
 use Rattle.ct_duals.proofs.Allowed.{count_at, weighed, weighed-positive, weighed-charge, natural-is}
 use Rattle.ct_duals.proofs.Neighbours.{within_uppers, one_far, evened, length-evened, IsCode-evened, distances-evened}
-use Rattle.ct_duals.proofs.Sound.{AreLaws, AreInRange, some_index, lead-within, size-within}
+use Rattle.ct_duals.proofs.Sound.{AreLaws, AreInRange, some_index, lead-within, pairs-at_most, size-within}
 use Rattle.ct_duals.proofs.Faults.{below-from_none}
 
 -- the words of a code are words of the space
@@ -122,6 +124,27 @@ lead-least belongs index degree number d laws fits form =
     let word = words_of_code d.entry some.0 some.1 0 0 (omega (arith, some.2)) in
     lead-within belongs index degree number d laws fits form (get_or some.0 0 0) word
 
+-- f adds up to at most the spread for each word of a code, where the upper bounds that it rests on are true
+pub dual_spread-true : (belongs : ℕ → Type 0) (index : ℕ → ℕ → ℕ) (degree : ℕ) (number : ℕ → ℕ → ℤ) (d : Dual) → AreLaws belongs index degree number
+    → Fits belongs index degree number d.entry → IsDual d → dual_fault number d ≡ None → (us : List ℕ) → AreTrueUppers (dual_premises d) us
+    → IsSpread d.entry (combination number d.c) (dual_spread d (combination number d.c 0) us)
+dual_spread-true belongs index degree number d laws fits form none us known words code =
+    let e = d.entry in
+    let kept = below-from_none number d none in
+    let lead = kept.0 in
+    let least = lead-least belongs index degree number d laws fits form in
+    let a = natural (combination number d.c 0) in
+    let start : combination number d.c 0 ≡ pos a = natural-is (combination number d.c 0) (omega (arith, ints)) in
+    let cs = charges (positive d.y) us in
+    let r = near_charge e cs + far_charge e cs in
+    let other = ranged_code belongs index degree number d laws fits form words code in
+    let all = words_of_code e other.0 other.2 in
+    let most = pairs-at_most number d form kept.1 a r start other.0 other.3 (λ p o l. allowed_about d us other.0 form other.2 known (get_or other.0 p o) (all p o l).0) in
+    let sum : combination number d.c 0 +ℤ pos r ≡ pos (a + r) = ap (λ z. z +ℤ pos r) start in
+    let many = ap (λ (m : ℕ). m * (a + r)) other.1 in
+    let product : pos (length other.0 * (a + r)) ≡ pos (length words) *ℤ (combination number d.c 0 +ℤ pos r) = ap pos many ∙ ap (λ z. pos (length words) *ℤ z) (sym sum) in
+    (other.0, other.1, other.2, subst (λ (z : ℤ). pair_total (λ x y. combination number d.c (index_of e x y)) other.0 ≤ℤ z) product most)
+
 -- no code of the entry is larger than the bound, where the upper bounds that it rests on are true
 pub dual_bound-true : (belongs : ℕ → Type 0) (index : ℕ → ℕ → ℕ) (degree : ℕ) (number : ℕ → ℕ → ℤ) (d : Dual) → AreLaws belongs index degree number
     → Fits belongs index degree number d.entry → IsDual d → dual_fault number d ≡ None → (us : List ℕ) → AreTrueUppers (dual_premises d) us
@@ -165,21 +188,21 @@ ascending-few low high (p ∷ y) ordered above below some =
     let rest = ascending-few (suc p.0) high y (AllPairs-tail R p y ordered) (λ k d l. AllPairs-head R p y ordered k d l) (All-tail (λ (q : ℕ × ℤ). q.0 < high) p y below) end in
     omega arith
 
--- so a dual allows something at no more than MAX_N indices
-pub few_allowances : (d : Dual) → IsDual d → length d.y ≤ MAX_N
-few_allowances d form =
-    let e = d.entry in
-    let limits = entry_limits e form.entry in
-    let ends : (i : ℕ) → is_in_range e d.even i ≡ true → (1 ≤ i) × (i < suc e.n) =
+-- so a list names no more than MAX_N indices of the range of an entry in ascending order
+pub few_indices : (e : Entry) (even : Bool) (y : List (ℕ × ℤ)) → IsEntry e → AllPairs (λ p q. p.0 < q.0) y
+    → All (λ p. IsTrue (is_in_range e even p.0) × (pos 0 ≤ℤ p.1)) y → length y ≤ MAX_N
+few_indices e even y entry ascending each =
+    let limits = entry_limits e entry in
+    let ends : (i : ℕ) → is_in_range e even i ≡ true → (1 ≤ i) × (i < suc e.n) =
     λ i h.
-    let parts = and_parts (nat_le (as_index e.w e.d) i && nat_le i (degree_of e)) (not d.even || i % 2 == 0) h in
+    let parts = and_parts (nat_le (as_index e.w e.d) i && nat_le i (degree_of e)) (not even || i % 2 == 0) h in
     let both = and_parts (nat_le (as_index e.w e.d) i) (nat_le i (degree_of e)) parts.0 in
     let low = leb-true (as_index e.w e.d) i both.0 in
     let high = leb-true i (degree_of e) both.1 in
     let first = some_index e.w e.d limits.distance_from in
     let last = greatest_index-le e.n e.w in
     (omega arith, omega arith) in
-    let few = ascending-few 1 (suc e.n) d.y form.ascending (λ k o l. (ends _ (is_true (form.allowances k o l).0)).0) (λ k o l. (ends _ (is_true (form.allowances k o l).0)).1) (omega arith) in
+    let few = ascending-few 1 (suc e.n) y ascending (λ k o l. (ends _ (is_true (each k o l).0)).0) (λ k o l. (ends _ (is_true (each k o l).0)).1) (omega arith) in
     let short = limits.length_to in
     omega arith
   where
@@ -189,3 +212,7 @@ few_allowances d form =
 
     is_true : {b : Bool} → IsTrue b → b ≡ true
     is_true h = h
+
+-- so a dual allows something at no more than MAX_N indices
+pub few_allowances : (d : Dual) → IsDual d → length d.y ≤ MAX_N
+few_allowances d form = few_indices d.entry d.even d.y form.entry form.ascending form.allowances

@@ -133,17 +133,15 @@ lead-within belongs index degree number d laws fits form x word =
     let itself = ap (combination number d.c) (sym (fits.same_index x x) ∙ laws.itself x (fits.words x word)) in
     omega (arith, ints)
 
--- where each word has at most r allowed, there are at most (f(0) + r) / c_0 words
-pub size-within : (belongs : ℕ → Type 0) (index : ℕ → ℕ → ℕ) (degree : ℕ) (number : ℕ → ℕ → ℤ) (d : Dual) → AreLaws belongs index degree number
-    → Fits belongs index degree number d.entry → IsDual d → IsBelow number d → (a c r : ℕ) → combination number d.c 0 ≡ pos a → multiplier d.c 0 ≡ pos c → 1 ≤ c
-    → (words : List ℕ) → All (IsWordOf d.entry) words → AllPairs (AreInRange d) words
+-- where each word has at most r allowed, f adds up to at most f(0) + r for each word
+pub pairs-at_most : (number : ℕ → ℕ → ℤ) (d : Dual) → IsDual d → IsBelow number d → (a r : ℕ) → combination number d.c 0 ≡ pos a
+    → (words : List ℕ) → AllPairs (AreInRange d) words
     → ((p e : ℕ) → p < length words → weighed (count_at (index_of d.entry (get_or words p e)) words) d.y ≤ r)
-    → c * length words ≤ a + r
-size-within belongs index degree number d laws fits form below a c r start lead some words all apart rests =
+    → pair_total (λ x y. combination number d.c (index_of d.entry x y)) words ≤ℤ pos (length words * (a + r))
+pairs-at_most number d form below a r start words apart rests =
     let e = d.entry in
     let limits = entry_limits e form.entry in
     let f : ℕ → ℕ → ℤ = λ x z. combination number d.c (index_of e x z) in
-    let pairs = pairs-at_least belongs index degree number d laws fits form words all in
     let each : All (λ x. total (f x) words ≤ℤ pos (a + r)) words =
     λ p o l.
     let row = row-within number d a words limits.distance_from (λ k q h. (form.allowances k q h).1) below start apart p o l in
@@ -151,5 +149,16 @@ size-within belongs index degree number d laws fits form below a c r start lead 
     omega (arith, ints) in
     let most = total-le_within (λ x. total (f x) words) (λ x. pos (a + r)) words (recursion_from_All (λ x. total (f x) words ≤ℤ pos (a + r)) words each) in
     let size = total-constant (a + r) words in
+    omega (arith, ints)
+
+-- where each word has at most r allowed, there are at most (f(0) + r) / c_0 words
+pub size-within : (belongs : ℕ → Type 0) (index : ℕ → ℕ → ℕ) (degree : ℕ) (number : ℕ → ℕ → ℤ) (d : Dual) → AreLaws belongs index degree number
+    → Fits belongs index degree number d.entry → IsDual d → IsBelow number d → (a c r : ℕ) → combination number d.c 0 ≡ pos a → multiplier d.c 0 ≡ pos c → 1 ≤ c
+    → (words : List ℕ) → All (IsWordOf d.entry) words → AllPairs (AreInRange d) words
+    → ((p e : ℕ) → p < length words → weighed (count_at (index_of d.entry (get_or words p e)) words) d.y ≤ r)
+    → c * length words ≤ a + r
+size-within belongs index degree number d laws fits form below a c r start lead some words all apart rests =
+    let pairs = pairs-at_least belongs index degree number d laws fits form words all in
+    let most = pairs-at_most number d form below a r start words apart rests in
     let lead_is = ap (λ z. z *ℤ pos (length words * length words)) lead in
     words-within c (a + r) (length words) some (omega (arith, ints))

@@ -1,14 +1,15 @@
 -- The bound that an accepted dual gives (Delsarte 1973), from bounds of the codes of constant weight that lie about a word (Best, Brouwer, MacWilliams, Odlyzko and Sloane 1978).
-use Rattle.std.specs.Prelude.{◌≡◌, ℕ, ◌+◌, ◌*◌, ◌/◌, ◌≤◌, min, max, Bool, not, nat_le, List, [], ◌∷◌, map, filter, ℤ, pos, negsuc, ◌+ℤ◌, ◌≤ℤ◌, int_lt}
+use Rattle.std.specs.Prelude.{◌≡◌, ℕ, ◌+◌, ◌*◌, ◌/◌, ◌≤◌, min, max, Bool, not, nat_le, List, [], ◌∷◌, length, map, filter, ℤ, pos, negsuc, ◌+ℤ◌, ◌*ℤ◌, ◌≤ℤ◌, int_lt}
 use Rattle.std.specs.List.{sum_by}
 use Rattle.ct_words.specs.declared.limits.TheConstants.{MAX_BOUND}
 use Rattle.ct_codes.specs.declared.entry.Entry.{Entry}
 use Rattle.ct_codes.specs.Entry.{constant_weight}
 use Rattle.ct_codes.specs.Numbers.{numbers_of, multiplier, combination}
-use Rattle.ct_codes.specs.Code.{IsTrueUpper}
+use Rattle.ct_words.specs.Counting.PairTotals.{pair_total}
+use Rattle.ct_codes.specs.Code.{IsCodeOf, IsTrueUpper}
 use Rattle.ct_codes.specs.Constructions.Even.{even_from}
 use Rattle.ct_duals.specs.declared.dual.Dual.{Dual}
-use Rattle.ct_duals.specs.Dual.{IsDual}
+use Rattle.ct_duals.specs.Dual.{index_of, IsDual}
 use Rattle.ct_duals.specs.Check.{IsBelow}
 
 -- a whole number as a natural number, 0 where it is below 0
@@ -58,11 +59,21 @@ near_charge e charges = sum_by (λ p. p.1) (filter (λ p. not (is_far e p.0)) ch
 abbrev pub far_charge : Entry → List (ℕ × ℕ) → ℕ
 far_charge e charges = greatest (map (λ p. p.1) (filter (λ p. is_far e p.0) charges))
 
+-- f(0) + S + T: over a word of a code and all its words, each pair of different words at an index of the range, f adds up to at most that
+abbrev pub dual_spread : Dual → ℤ → List ℕ → ℤ
+dual_spread d at_zero uppers =
+    let all = charges (positive d.y) uppers in
+    at_zero +ℤ pos (near_charge d.entry all + far_charge d.entry all)
+
 -- the least of MAX_BOUND and ⌊(f(0) + S + T)/c_0⌋
 unfoldable pub dual_bound : Dual → ℤ → List ℕ → ℕ
-dual_bound d at_zero uppers =
-    let all = charges (positive d.y) uppers in
-    min MAX_BOUND (natural (at_zero +ℤ pos (near_charge d.entry all + far_charge d.entry all)) / natural (multiplier d.c 0))
+dual_bound d at_zero uppers = min MAX_BOUND (natural (dual_spread d at_zero uppers) / natural (multiplier d.c 0))
+
+-- each code of an entry has as many words as a code of the entry over whose ordered pairs, each word with itself included, f adds up to at most s for each word
+abbrev pub IsSpread : Entry → (ℕ → ℤ) → ℤ → Type 0
+IsSpread e f s =
+    (words : List ℕ) → IsCodeOf e words
+    → (others : List ℕ) × (length others ≡ length words) × IsCodeOf e others × (pair_total (λ x y. f (index_of e x y)) others ≤ℤ (pos (length words) *ℤ s))
 
 -- a dual as callers of an accepted one see it, and what stands for its f(0)
 pub record AcceptedValue : Type 0 where

@@ -2,7 +2,8 @@
 ghost use Rattle.std.specs.Prelude.{◌≡◌, ◌+◌, ◌*◌, ◌/◌, ◌≤◌, ◌<◌, ◌^◌, min, pos, ◌+ℤ◌, ◌≤ℤ◌, length, suc, unsigned_abs, IfOk};
 ghost use Rattle.ct_words.specs.declared.limits.TheConstants.{MAX_BOUND, MAX_N};
 ghost use Rattle.ct_codes.specs.Code.{IsTrueUpper};
-ghost use Rattle.ct_duals.specs.Bound.{AcceptedValue, IsAccepted, AreTrueUppers, dual_bound, dual_premises, positive, charges, near_charge, far_charge, is_far, natural};
+ghost use Rattle.ct_codes.specs.Numbers.{numbers_of, combination};
+ghost use Rattle.ct_duals.specs.Bound.{AcceptedValue, IsAccepted, AreTrueUppers, IsSpread, dual_bound, dual_spread, dual_premises, positive, charges, near_charge, far_charge, is_far, natural};
 ghost use Rattle.ct_duals.specs.Inside.Proven.{IsProven};
 
 use crate::accepted_dual::AcceptedDual;
@@ -51,6 +52,19 @@ impl<'a> Accepted<'a> {
     {
         let dual = self.dual.try_copy()?;
         Ok(AcceptedDual::new(dual, self.at_zero))
+    }
+
+    /// f(0) + S + T, from one upper bound for each index where more than 0 is allowed, in ascending order; one that is missing counts
+    /// as 0. Where the upper bounds are true, each code of the entry has as many words as a code of the entry over whose ordered pairs,
+    /// each word with itself included, f adds up to at most that for each word. It takes no memory, and every sum fits: f(0) is below
+    /// 2^116, a product below 2^95, and there are at most `MAX_N` of them.
+    pub fn spread(&self, uppers: &[u32]) -> i128
+        ensures value { result ≡ dual_spread self.now.dual self.now.at_zero uppers.now }
+        ensures pairs { AreTrueUppers (dual_premises self.now.dual) uppers.now →
+            IsSpread self.now.dual.entry (combination (numbers_of self.now.dual.entry) self.now.dual.c) result }
+    {
+        let charge = charge(self.dual.entry, self.dual.y.as_slice(), uppers);
+        sum(self.at_zero, charge)
     }
 
     /// The bound of the dual from one upper bound for each index where more than 0 is allowed, in ascending order: the
@@ -111,6 +125,15 @@ fn is_far(entry: Entry, i: u32) -> bool
     ensures { result ≡ is_far entry i }
 {
     2 * u64::from(entry.n) <= 2 * u64::from(i) + u64::from(entry.d)
+}
+
+/// f(0) + charge.
+fn sum(at_zero: i128, charge: u128) -> i128
+    requires at_zero { unsigned_abs at_zero < 2 ^ 116 }
+    requires charge { charge ≤ suc MAX_N * 2 ^ 95 }
+    ensures { result ≡ at_zero +ℤ pos charge }
+{
+    at_zero + charge as i128
 }
 
 /// The least of `MAX_BOUND` and ⌊(f(0) + charge)/c_0⌋.

@@ -3,7 +3,8 @@ ghost use Rattle.std.specs.Prelude.{◌≡◌, ◌≤◌, ◌↔◌, IsTrue, Con
 ghost use Rattle.ct_words.specs.declared.limits.TheConstants.{MAX_BOUND, MAX_N};
 ghost use Rattle.ct_codes.specs.Code.{IsTrueUpper};
 ghost use Rattle.ct_codes.specs.Entry.{IsEntry};
-ghost use Rattle.ct_duals.specs.Bound.{IsAccepted, AreTrueUppers, dual_bound, dual_premises};
+ghost use Rattle.ct_codes.specs.Numbers.{numbers_of, combination};
+ghost use Rattle.ct_duals.specs.Bound.{IsAccepted, AreTrueUppers, IsSpread, dual_bound, dual_spread, dual_premises};
 ghost use Rattle.ct_duals.specs.Inside.Proven.{IsProven};
 
 use crate::accepted::Accepted;
@@ -88,6 +89,16 @@ impl AcceptedDual {
         ensures { IsTrue result ↔ Contains (dual_premises self.now.dual) entry }
     {
         is_premise(self.dual.entry, self.dual.y.as_slice(), entry)
+    }
+
+    /// f(0) + S + T from one upper bound for each of the entries that it rests on, in their order, as `Accepted::spread` says. It takes
+    /// no memory.
+    pub fn spread(&self, uppers: &[u32]) -> i128
+        ensures value { result ≡ dual_spread self.now.dual self.now.at_zero uppers.now }
+        ensures pairs { AreTrueUppers (dual_premises self.now.dual) uppers.now →
+            IsSpread self.now.dual.entry (combination (numbers_of self.now.dual.entry) self.now.dual.c) result }
+    {
+        Accepted::new(&self.dual, self.at_zero).spread(uppers)
     }
 
     /// Its bound from one upper bound for each of the entries that it rests on, in their order, as `Accepted::bound` says. It

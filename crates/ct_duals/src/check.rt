@@ -11,7 +11,7 @@ use crate::accepted::Accepted;
 use crate::dual::Dual;
 use crate::fault::DualFault;
 use crate::form::is_in_range;
-use ct_codes::Scheme;
+use ct_codes::{Scheme, add_product};
 
 /// The dual as an accepted one, where c_0 is at least 1 and f(i) at most what is allowed at each index i of the range:
 /// then no code of its entry is larger than its bound. The scheme fits the entry of the dual.
@@ -119,23 +119,4 @@ fn combination<S: Scheme>(scheme: &S, c: &[i64], i: u32) -> i128
         sum = add_product(sum, c[k], scheme.number(k as u32, i));
     }
     sum
-}
-
-/// The sum with the product of a multiplier and a number of a scheme added to it.
-fn add_product(sum: i128, multiplier: i64, number: i128) -> i128
-    requires sum { unsigned_abs sum < 2 ^ 116 }
-    requires number { IsSmall number }
-    ensures value { result ≡ sum +ℤ (multiplier *ℤ number) }
-    ensures small { unsigned_abs result ≤ unsigned_abs sum + 2 ^ 110 }
-{
-    sum + product(multiplier, number)
-}
-
-/// The product of a multiplier and a number of a scheme.
-fn product(multiplier: i64, number: i128) -> i128
-    requires { IsSmall number }
-    ensures value { result ≡ multiplier *ℤ number }
-    ensures small { unsigned_abs result ≤ 2 ^ 110 }
-{
-    i128::from(multiplier) * number
 }

@@ -1,15 +1,16 @@
 -- An accepted dual is sound, by the laws of the scheme.
 use Rattle.std.proofs.Common.{◌≡◌, None, sym, ap, ◌∙◌, subst}
-use Rattle.std.specs.Prelude.{ℕ, ℤ, unsigned_abs, ◌<◌, ◌^◌}
+use Rattle.std.specs.Prelude.{ℕ, ℤ, List, unsigned_abs, ◌<◌, ◌^◌}
 use Rattle.std.proofs.lemmas.Int.{to_z-of_z}
 use mir.Val.{SFits}
 use mir.Syntax.{w128}
 use Rattle.ct_codes.specs.Numbers.{numbers_of, combination}
 use Rattle.ct_duals.specs.Check.{dual_fault, IsBelow}
+use Rattle.ct_duals.specs.Bound.{AreTrueUppers, dual_premises, dual_spread, IsSpread}
 use Rattle.ct_duals.specs.Inside.Proven.{IsProven}
 use Rattle.ct_duals.proofs.Faults.{below-from_none}
 use Rattle.ct_duals.proofs.Sound.{AreLaws}
-use Rattle.ct_duals.proofs.DualBound.{lead-least, dual_bound-true}
+use Rattle.ct_duals.proofs.DualBound.{lead-least, dual_spread-true, dual_bound-true}
 use Rattle.ct_duals.proofs.check.check_dual.Goals as goal
 
 pub new-requires : goal.new-requires
@@ -41,6 +42,8 @@ new-requires g c =
       };
       least = lead-least belongs index degree number d laws c.requires.fits c.requires.form;
       small = subst (λ z. unsigned_abs z < 2 ^ 116) value small;
+      spread = subst (λ (ns : ℕ → ℕ → ℤ). (us : List ℕ) → AreTrueUppers (dual_premises d) us → IsSpread d.entry (combination ns d.c) (dual_spread d (combination number d.c 0) us))
+          same (dual_spread-true belongs index degree number d laws c.requires.fits c.requires.form none);
       sound = dual_bound-true belongs index degree number d laws c.requires.fits c.requires.form none;
     } in
     subst (λ z. IsProven (record { dual = d; at_zero = z })) (sym (to_z-of_z w128 c.combination-at_zero.result f ∙ value)) proven
