@@ -1,9 +1,12 @@
 -- Sums of characters over the words of a weight, and Delsarte's inequalities of the Hamming scheme: over all pairs of words by their distance.
-use Rattle.std.proofs.Common.{◌≡◌, ℕ, zero, suc, ◌-◌, ◌^◌, ◌<◌, ◌≤◌, List, map, length, refl, sym, ap, ap₂, ◌∙◌, subst, arith}
+use Rattle.std.proofs.Common.{◌≡◌, ℕ, zero, suc, ◌-◌, ◌*◌, ◌%◌, ◌^◌, ◌<◌, ◌≤◌, List, map, length, refl, sym, ap, ap₂, ◌∙◌, subst, arith}
 use Rattle.std.specs.Prelude.{Bool, cond, ◌&&◌, ◌==◌, ℤ, pos, ◌≤ℤ◌, unsigned_abs}
 use Rattle.std.specs.List.{All}
 use Rattle.std.proofs.Math.Nat.{pow-le-pow_right}
 use Rattle.std.proofs.lemmas.List.Elements.{All-map}
+use Rattle.std.proofs.lemmas.Int.{ints}
+use Rattle.std.proofs.lemmas.List.Sums.{length-filter}
+use Rattle.ct_words.specs.Counting.Binomials.{choose}
 use Rattle.ct_words.specs.Counting.Sums.{total}
 use Rattle.ct_words.specs.Counting.PairTotals.{pair_total, square}
 use Rattle.ct_words.specs.Counting.Words.{all_words, apart, ones}
@@ -11,11 +14,14 @@ use Rattle.ct_words.specs.Counting.Alternating.{sign}
 use Rattle.ct_words.proofs.Counting.Totals.{total-congruence, total-map, total_of_squares}
 use Rattle.ct_words.proofs.Counting.PartTotals.{total-filter}
 use Rattle.ct_words.proofs.Counting.PairTotals.{pair_total-map}
+use Rattle.ct_words.proofs.Counting.Words.{count_of_weight}
+use Rattle.ct_words.proofs.Counting.Combinations.{total-le, total-constant}
+use Rattle.ct_words.proofs.Counting.OddSums.{square-signs}
 use Rattle.ct_words.proofs.Counting.SignedBinomials.{signed_binomial, signed_binomial-le_power}
 use Rattle.ct_words.proofs.Counting.Characters.{common_digits, digit_character, digit_words, zeros, ones-zeros, total-digit_character, pair_total-digit_characters}
 use Rattle.ct_words.specs.declared.limits.TheConstants.{MAX_N}
 use Rattle.ct_words.specs.Word.{places, digit, weight, distance}
-use Rattle.ct_words.specs.Characters.{character, words_of_length, words_of_weight}
+use Rattle.ct_words.specs.Characters.{common_ones, character, words_of_length, words_of_weight}
 use Rattle.ct_words.proofs.DigitLists.{digits_from, digits_of, length-digits_of, ones-digits_of, apart-digits_of, places-first}
 use Rattle.ct_words.proofs.AllWords.{digits-words_of_length}
 
@@ -88,3 +94,20 @@ signed_binomial-small n k i within short =
     let bound = signed_binomial-le_power n k i within in
     let power : 2 ^ n ≤ 2 ^ MAX_N = pow-le-pow_right (omega arith) short in
     omega arith
+
+-- there are as many words of weight k as there are choices of k places
+total-count : (n k : ℕ) → total (λ u. pos 1) (words_of_weight n k) ≡ pos (choose n k)
+total-count n k =
+    let words = digit_words n k in
+    let all = total-constant 1 words in
+    let many = length-filter (λ u. ones u == k) (all_words n) ∙ count_of_weight n k in
+    let one : length words * 1 ≡ choose n k = omega arith in
+    sym (total-words_of_weight (λ u. pos 1) n k) ∙ all ∙ ap pos one
+
+-- over all pairs of an odd number of words such coefficients add up to at least the number of words of weight k, since each sum of characters is odd
+pub pair_total-odd : (n k : ℕ) (words : List ℕ) → length words % 2 ≡ 1 → pos (choose n k) ≤ℤ pair_total (λ x y. signed_binomial (distance n x y) (n - distance n x y) k) words
+pair_total-odd n k words odd =
+    let squares = total-le (λ u. pos 1) (λ u. square (total (character n u) words)) (words_of_weight n k) (λ u. square-signs (common_ones n u) words odd) in
+    let many = total-count n k in
+    let sums = pair_total-characters n k words in
+    omega (arith, ints)

@@ -31,3 +31,4 @@ pub mod Translations
 pub mod Shortened
 pub mod Between
 pub mod Combinations
+pub mod OddSums

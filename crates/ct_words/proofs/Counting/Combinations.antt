@@ -1,6 +1,6 @@
 -- Combinations of the rows of a scheme, added over all pairs of words.
-use Rattle.std.proofs.Common.{◌≡◌, ℕ, zero, suc, ◌*◌, ◌≤◌, List, [], ◌∷◌, length, ap, ap₂, ◌∙◌, arith, inl, inr}
-use Rattle.std.specs.Prelude.{ℤ, pos, negsuc, ◌+ℤ◌, ◌*ℤ◌, ◌≤ℤ◌}
+use Rattle.std.proofs.Common.{◌≡◌, ℕ, zero, suc, ◌*◌, ◌<◌, ◌≤◌, List, [], ◌∷◌, length, ap, ap₂, ◌∙◌, arith, inl, inr}
+use Rattle.std.specs.Prelude.{ℤ, pos, negsuc, neg_ℤ, ◌+ℤ◌, ◌*ℤ◌, ◌≤ℤ◌}
 use Rattle.std.specs.List.{AllByRecursion}
 use Rattle.std.proofs.lemmas.Int.{ints}
 use Rattle.std.proofs.lemmas.Nat.{mul-le}
@@ -8,7 +8,8 @@ use Rattle.std.proofs.lemmas.Bool.{cases_lt}
 use Rattle.ct_words.specs.Counting.Sums.{total}
 use Rattle.ct_words.specs.Counting.PairTotals.{pair_total}
 use Rattle.ct_words.specs.Counting.Alternating.{total_below}
-use Rattle.ct_words.proofs.Counting.Totals.{total-congruence, total-zero, total-add}
+use Rattle.ct_words.proofs.Counting.Totals.{int_dist, total-congruence, total-zero, total-add}
+use Rattle.ct_words.proofs.Counting.Products.{int_mul_neg}
 use Rattle.ct_words.proofs.Counting.PairTotals.{pair_total-scale}
 
 -- a product of numbers that are not negative is not negative
@@ -23,6 +24,14 @@ total-le_within f g [] h = omega (arith, ints)
 total-le_within f g (x ∷ xs) h =
     let ih = total-le_within f g xs h.1 in
     let first = h.0 in
+    omega (arith, ints)
+
+-- terms that are at most others have at most their total
+pub total-le : {X : Type 0} (f g : X → ℤ) (xs : List X) → ((x : X) → f x ≤ℤ g x) → total f xs ≤ℤ total g xs
+total-le f g [] h = omega (arith, ints)
+total-le f g (x ∷ xs) h =
+    let ih = total-le f g xs h in
+    let first = h x in
     omega (arith, ints)
 
 -- one number over and over
@@ -43,6 +52,23 @@ pair_total-combination c f zero xs = total-congruence (λ x. total (λ _. pos 0)
 pair_total-combination {X} c f (suc m) xs =
     pair_total-add (λ x y. total_below (λ k. c k *ℤ f k x y) m) (λ x y. c m *ℤ f m x y) xs
     ∙ ap₂ (λ a b. a +ℤ b) (pair_total-combination c f m xs) (pair_total-scale (c m) (f m) xs)
+
+-- terms that are at most others add up to at most what these do
+pub total_below-le : (f g : ℕ → ℤ) (m : ℕ) → ((k : ℕ) → k < m → f k ≤ℤ g k) → total_below f m ≤ℤ total_below g m
+total_below-le f g zero h = omega (arith, ints)
+total_below-le f g (suc m) h =
+    let ih = total_below-le f g m (λ k l. h k (omega arith)) in
+    let last = h m (omega arith) in
+    omega (arith, ints)
+
+-- a factor that is not negative keeps the order
+pub product-le : (a b c : ℤ) → pos 0 ≤ℤ a → b ≤ℤ c → (a *ℤ b) ≤ℤ (a *ℤ c)
+product-le a b c some below =
+    let more : pos 0 ≤ℤ (c +ℤ neg_ℤ b) = omega (arith, ints) in
+    let all = product-nonneg a (c +ℤ neg_ℤ b) some more in
+    let split = int_dist a c (neg_ℤ b) in
+    let turned = int_mul_neg a b in
+    omega (arith, ints)
 
 -- a sum of terms that are not negative is at least its first term
 pub total_below-first_le : (f : ℕ → ℤ) (m : ℕ) → ((k : ℕ) → k ≤ m → pos 0 ≤ℤ f k) → f 0 ≤ℤ total_below f (suc m)
