@@ -11,23 +11,36 @@ cp "$here/bench/gate.tsv" "$repository/bench"
 for crate in "$here"/crates/*; do
     name=${crate##*/}
     mkdir "$repository/crates/$name"
-    cp -R "$crate/src" "$crate/specs" "$crate/proofs" "$repository/crates/$name"
+    for part in src specs proofs; do
+        [ ! -d "$crate/$part" ] || cp -R "$crate/$part" "$repository/crates/$name"
+    done
 done
 HOME=$work/home PATH=$work/bin:$PATH
 export HOME PATH work
 unset XDG_CACHE_HOME CODE_TABLES
 
 # The false rt notes its calls, reads the sources where it begins, leaves a child while it proves, and makes a program that says which
-# sources it was built from. It takes $work/pause seconds, and fails where $work/fails is there.
+# sources it was built from. It takes $work/pause seconds, and fails where $work/fails is there. Where $work/newer is there, it is one whose
+# gate keeps what it proved.
+mkdir -p "$work/tools/kit"
 cat >"$work/bin/rt" <<'END'
 #!/bin/sh
-if [ "$1" = version ]; then
+case $1 in
+version)
     echo "false-kit logic 0"
     exit
-fi
+    ;;
+help)
+    [ ! -e "$work/newer" ] || echo "  rt ci NAME..  the same for these" >&2
+    exit
+    ;;
+doc)
+    echo "$work/tools/kit/START-HERE.md"
+    exit
+    ;;
+esac
 echo "$*" >>"$work/calls"
-case $1 in
-all)
+prove() {
     find .. -path '*/out' -prune -o -type f -exec sha256sum {} + | sort -k 2 | sha256sum >"$work/read"
     sleep 1000 &
     echo "$! $$" >>"$work/processes"
@@ -37,12 +50,16 @@ all)
     done
     kill $!
     [ ! -e "$work/fails" ]
-    ;;
-run)
+}
+build() {
     mkdir -p out
     printf '#!/bin/sh\ncat <<END\n%s\nEND\n' "$(cat "$work/read")" >out/ct_program
     chmod "$(cat "$work/mode")" out/ct_program
-    ;;
+}
+case $1 in
+all) prove ;;
+run) build ;;
+ci) cd crates/ct_program && prove && build ;;
 esac
 END
 chmod +x "$work/bin/rt"
@@ -155,7 +172,7 @@ check 'a source that is edited during the build is built in the end' runs 4
 wait
 echo '// edited' >>"$source"
 before=$(calls)
-(begins "$before" && rm "$repository/crates/ct_words/proofs/Lib.antt") &
+(begins "$before" && rm "$repository/crates/ct_codes/proofs/Lib.antt") &
 check 'a source that is deleted during the build is not built in the end' runs 4
 wait
 echo '// edited' >>"$source"
@@ -182,6 +199,19 @@ chmod -x "$program"
 check 'a program that can not be executed is built again' runs 2
 echo 'echo wrong' >"$program"
 check 'a program that was replaced is built again' runs 2
+
+touch "$work/newer"
+echo '// edited' >>"$source"
+check 'where the gate keeps what it proved, it builds' runs 1
+check 'and nothing of the build is left' [ -z "$(ls -A "$work/home/.cache" 2>/dev/null)" ]
+check 'the next start builds nothing' runs 0
+check 'Ctrl-C ends such a build with 130, its processes and its log' is_stopped_by INT - 130
+check 'the next start builds' runs 1
+touch "$work/fails"
+echo '// edited' >>"$source"
+check 'where that proves nothing the status is 125, and no program is run' ends 125
+rm "$work/fails" "$work/newer"
+check 'an older toolchain builds as before' runs 2
 
 rm -rf "$repository"/crates/*/out
 sleep 2
