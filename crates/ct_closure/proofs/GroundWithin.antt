@@ -1,7 +1,6 @@
 -- The rule of the ground line of a slot gives nothing better than what stands there.
 use Rattle.std.proofs.Common.{◌≡◌, ℕ, ◌≤◌, Bool, true, false, ◌&&◌, nat_lt, if◌then◌else◌, List, [], ◌∷◌, length, map, drop, All, Some, None, refl, subst, ap, ap₂, ◌∙◌, sym, eq-eqb, ltb-false, arith}
-use Rattle.std.specs.Prelude.{Option}
-use Rattle.std.proofs.lemmas.List.Elements.{All-cons}
+use Rattle.std.specs.Prelude.{Option, slice_get}
 use Rattle.std.proofs.lemmas.Bool.{false≢true}
 use Rattle.std.proofs.lemmas.Option.{same_Some}
 use Rattle.ct_codes.specs.declared.claim.Side.{Side}
@@ -21,14 +20,13 @@ use Rattle.ct_rules.specs.Derivation.{LineValue, claims_at, Follows}
 use Rattle.ct_rules.specs.Listing.{rules_alone}
 use Rattle.ct_rules.specs.Rule.{row_of, value_of}
 use Rattle.ct_rules.proofs.Applied.{premises-defined, value-given, limit_of}
-use Rattle.ct_closure.specs.Kept.{KeptValue, IsKept, IsGround, starts_by_class, ground_rule}
-use Rattle.ct_closure.specs.Number.{bound_of}
-use Rattle.ct_closure.specs.Inside.Ground.{ground_value}
-use Rattle.ct_closure.specs.Inside.Pulling.{value_over, IsWithin}
-use Rattle.ct_closure.proofs.GroundLemmas.{is_ground_rule, start_class, ground_value-class, ground_value-word}
-use Rattle.ct_closure.proofs.KeptLemmas.{line-no_better}
-use Rattle.ct_closure.proofs.PulledLemmas.{within_better}
-use Rattle.ct_closure.proofs.PullingLemmas.{over-value}
+use Rattle.ct_kept.specs.Kept.{KeptValue, IsKept, IsGround, starts_by_class, ground_rule}
+use Rattle.ct_slots.specs.Number.{bound_of}
+use Rattle.ct_kept.specs.Inside.Ground.{ground_value}
+use Rattle.ct_offers.specs.Offers.{value_over, AreGrounded, IsWithin}
+use Rattle.ct_kept.proofs.GroundLemmas.{is_ground_rule, start_class, ground_value-class, ground_value-word}
+use Rattle.ct_kept.proofs.KeptLemmas.{line-no_better}
+use Rattle.ct_offers.proofs.PullingLemmas.{over-value}
 
 -- the value of a ground line
 line_value : (supports : List Support) (before : List LineValue) (l : LineValue) (s : Slot) → Follows supports before l
@@ -107,7 +105,7 @@ class_gives supports f r e v value =
     let same : limit.0 ≡ v = omega arith in
     limit.1.number ∙ ap Some same
 
-pub class_within : (supports : List Support) (kept : KeptValue) (e : Entry) (r : ℕ) → IsKept supports kept → IsEntry e
+class_within : (supports : List Support) (kept : KeptValue) (e : Entry) (r : ℕ) → IsKept supports kept → IsEntry e
     → IsWithin supports (bound_of kept.bounds) (Lower, e) (bound_of kept.bounds (Lower, e)) (M9 r)
 class_within supports kept e r good entry v value = go e.n e.d e.w entry (class_given r e v (class_gives supports (bound_of kept.bounds) r e v value))
   where
@@ -149,15 +147,12 @@ first_within supports kept Lower n d (Some w) good entry = λ v value.
 first_within supports kept Upper n d None good entry = ground_within supports kept (Upper, unrestricted n d) good entry
 first_within supports kept Upper n d (Some w) good entry = ground_within supports kept (Upper, constant_weight n d w) good entry
 
--- so no rule of these gives anything better where none of the others does
-pub all_but_ground : (supports : List Support) (kept : KeptValue) (side : Side) (e : Entry) (best : ℕ) → IsKept supports kept → IsEntry e
-    → IsNoBetter side (bound_of kept.bounds (side, e)) best
-    → All (IsWithin supports (bound_of kept.bounds) (side, e) best) (drop 1 (rules_alone (side, e)))
-    → All (IsWithin supports (bound_of kept.bounds) (side, e) best) (rules_alone (side, e))
-all_but_ground supports kept side e best good entry worse others =
-    let P = IsWithin supports (bound_of kept.bounds) (side, e) best in
-    subst (All P) (sym (front side e.n e.d e.w))
-    (All-cons P (first_rule (side, e)) (drop 1 (rules_alone (side, e)))
-    (within_better supports (bound_of kept.bounds) (side, e) (bound_of kept.bounds (side, e)) best (first_rule (side, e)) worse
-    (first_within supports kept side e.n e.d e.w good entry))
-    others)
+-- what is kept well is no worse at any slot than what the rules that rest on nothing give
+pub are_grounded : (supports : List Support) (kept : KeptValue) → IsKept supports kept → AreGrounded supports (bound_of kept.bounds)
+are_grounded supports kept good = record {
+  first = λ s r entry at.
+      subst (IsWithin supports (bound_of kept.bounds) s (bound_of kept.bounds s))
+      (same_Some (first_rule s) r (sym (ap (λ (rules : List Rule). slice_get rules 0) (front s.0 s.1.n s.1.d s.1.w)) ∙ at))
+      (first_within supports kept s.0 s.1.n s.1.d s.1.w good entry);
+  classes = λ e k entry. class_within supports kept e k good entry;
+}

@@ -8,9 +8,9 @@ use Rattle.ct_codes.specs.declared.claim.Side.TheVariants.{Lower, Upper}
 use Rattle.ct_codes.specs.declared.entry.Entry.{Entry}
 use Rattle.ct_codes.specs.Entry.{IsEntry}
 use Rattle.ct_rule_parts.specs.Slot.{Slot, IsBetter}
-use Rattle.ct_closure.specs.Inside.Pulling.{slack}
-use Rattle.ct_closure.specs.Number.{bound_of, side_size, slot_number}
-use Rattle.ct_closure.proofs.NumberLemmas.{lower_number-bound, slot_number-bound}
+use Rattle.ct_closure.specs.Inside.Turn.{slack}
+use Rattle.ct_slots.specs.Number.{bound_of, side_size, slot_number}
+use Rattle.ct_slots.proofs.NumberLemmas.{lower_number-bound, slot_number-bound}
 
 -- a smaller term makes a smaller sum
 sum_by-smaller : (f : ℕ → ℕ) (xs : List ℕ) (k v : ℕ) → k < length xs → f v < f (slice_index xs k)

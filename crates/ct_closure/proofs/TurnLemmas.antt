@@ -21,18 +21,19 @@ use Rattle.ct_rules.proofs.ClosedBounds.{AreTrue-from_derived}
 use Rattle.ct_rules.proofs.Derivations.{derived_from_line}
 use Rattle.ct_rules.proofs.RuleLaws.{rule_entry}
 use Rattle.ct_closure.specs.Closing.{IsSatisfiedAt, IsPending, HasMoreLines}
-use Rattle.ct_closure.specs.Kept.{KeptValue, IsKept, Grew, reason_of, with_line_put}
-use Rattle.ct_closure.specs.Number.{slot_number, bound_of, side_size}
-use Rattle.ct_closure.specs.Worklist.{WorkValue, IsMarked, IsIdle, waiting}
-use Rattle.ct_closure.specs.Inside.Marking.{IsPendingBut, KeepsMarks, IsTestedAt, IsTestedFrom, AreTestedByWeight, AreTestedFromDuals, AreTested}
-use Rattle.ct_closure.specs.Inside.Pulling.{value_over, line_by, IsGiven, IsWithin, slack, potential}
-use Rattle.ct_closure.proofs.DualLemmas.{dual_side, tested_from_duals}
-use Rattle.ct_closure.proofs.DependentLemmas.{RestsAlone, IsOtherRule, rests_on-cases}
-use Rattle.ct_closure.proofs.KeptLemmas.{reason_line, IsKept-with_line, Grew-with_line, Follows-line_by}
-use Rattle.ct_closure.proofs.NumberLemmas.{slot_number-injective}
-use Rattle.ct_closure.proofs.PullingLemmas.{over-limit}
-use Rattle.ct_closure.proofs.PutLemmas.{bound-put, bound-put_other}
-use Rattle.ct_closure.proofs.SatisfiedLemmas.{IsBetterAt, better-at, satisfied_after, satisfied_within, within_from_satisfied}
+use Rattle.ct_kept.specs.Kept.{KeptValue, IsKept, Grew, reason_of, with_line_put}
+use Rattle.ct_slots.specs.Number.{slot_number, bound_of, side_size}
+use Rattle.ct_slots.specs.Worklist.{WorkValue, IsMarked, IsIdle, waiting}
+use Rattle.ct_offers.specs.Inside.Marking.{KeepsMarks, IsTestedAt, IsTestedFrom, AreTestedByWeight, AreTestedFromDuals, AreTested}
+use Rattle.ct_closure.specs.Inside.Turn.{IsPendingBut}
+use Rattle.ct_offers.specs.Offers.{value_over, IsGiven, IsWithin}
+use Rattle.ct_closure.specs.Inside.Turn.{line_by, slack, potential}
+use Rattle.ct_kept.proofs.KeptLemmas.{reason_line, IsKept-with_line, Grew-with_line}
+use Rattle.ct_closure.proofs.LineByLemmas.{Follows-line_by}
+use Rattle.ct_slots.proofs.NumberLemmas.{slot_number-injective}
+use Rattle.ct_offers.proofs.PullingLemmas.{over-limit}
+use Rattle.ct_kept.proofs.PutLemmas.{bound-put, bound-put_other}
+use Rattle.ct_offers.proofs.SatisfiedLemmas.{IsBetterAt, better-at, satisfied_after, satisfied_within, within_from_satisfied}
 use Rattle.ct_rules.proofs.ClosedBounds.{no_better-trans}
 use Rattle.ct_closure.proofs.SlackLemmas.{slack-set}
 
@@ -70,33 +71,6 @@ pending_satisfied supports bounds work s v stands within pending t entry unmarke
         subst (λ (o : Side). IsWithin supports (bound_of bounds) (o, s.1) (bound_of bounds (o, s.1)) r → IsSatisfied supports (bound_of bounds) r s.1)
         side (satisfied_within supports (bound_of bounds) r s.1)
         (subst (λ u. IsWithin supports (bound_of bounds) s u r) stands (within r side))
-
--- all that rests on a slot was tested, where this holds by rule
-pub tested_by_rules : (supports : List Support) (bounds : List ℕ) (work : WorkValue) (side : Side) (e : Entry)
-    → All (IsTestedFrom supports bounds work e) (rules_alone (side, e))
-    → AreTestedByWeight supports bounds work (side, e)
-    → ((m c : ℕ) (f : Entry) → rule_side (L11 m c) ≡ side → applies supports (L11 m c) f ≡ true
-    → Contains ((parts_over supports (L11 m c)).rests_on f) e → IsTestedAt supports bounds work (L11 m c) f)
-    → (side ≡ Upper → AreTestedFromDuals supports bounds work e)
-    → AreTested supports bounds work (side, e)
-tested_by_rules supports bounds work side e alone by_weight sums duals r f same defined rests = go (rests_on-cases supports r e f defined rests)
-  where
-    go : RestsAlone r e f ⊎ IsOtherRule r → IsTestedAt supports bounds work r f
-    go (inl is) =
-        All-contains (IsTestedFrom supports bounds work e) (rules_alone (side, e)) r alone
-        (subst (λ (s : Side). Contains (rules_alone (s, e)) r) same is.listed) f is.among
-    go (inr (inr (inl by))) = by_weight r f by same defined rests
-    go (inr (inr (inr (place, is)))) =
-        subst (λ (q : Rule). IsTestedAt supports bounds work q f) (sym is)
-        (tested_from_duals supports bounds work e f place
-        (duals (sym (subst (λ (q : Rule). rule_side q ≡ side) is same) ∙ dual_side place))
-        (subst (λ (q : Rule). applies supports q f ≡ true) is defined)
-        (subst (λ (q : Rule). Contains ((parts_over supports q).rests_on f) e) is rests))
-    go (inr (inl (m, c, is))) =
-        subst (λ (q : Rule). IsTestedAt supports bounds work q f) (sym is)
-        (sums m c f (subst (λ (q : Rule). rule_side q ≡ side) is same)
-        (subst (λ (q : Rule). applies supports q f ≡ true) is defined)
-        (subst (λ (q : Rule). Contains ((parts_over supports q).rests_on f) e) is rests))
 
 -- a rule gives a better bound of a slot, and no rule gives one that is better yet
 pub record IsImprovement (supports : List Support) (kept : KeptValue) (r : Rule) (e : Entry) (v : ℕ) : Type 0 where

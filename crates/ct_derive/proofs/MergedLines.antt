@@ -15,7 +15,7 @@ use Rattle.ct_codes.proofs.EntryLemmas.{same_entry_is, same_entry-self}
 use Rattle.ct_rule_parts.specs.declared.support.Support.{Support}
 use Rattle.ct_rule_parts.specs.Slot.{Slot, slot_of, claim_at}
 use Rattle.ct_rules.specs.Derivation.{LineValue, claims_at, Follows, IsDerivation, IsDerived}
-use Rattle.ct_rules.proofs.Places.{IsAtSeam, slice_get-take, slice_get-append_left, slice_get-append_cases, slice_get_last}
+use Rattle.ct_rule_parts.proofs.Places.{IsAtSeam, slice_get-take, slice_get-append_left, slice_get-append_cases, slice_get_last}
 use Rattle.ct_rules.proofs.Derivations.{derivation-nil, derivation-take, derivation-push}
 use Rattle.ct_derive.specs.Explanation.{IsExplanation}
 use Rattle.ct_derive.specs.Inside.Pruning.{pruned, unmarked}

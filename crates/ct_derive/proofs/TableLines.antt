@@ -9,7 +9,7 @@ use Rattle.ct_codes.specs.declared.claim.Side.TheVariants.{Lower, Upper}
 use Rattle.ct_rule_parts.specs.Slot.{slot_of, IsBetter}
 use Rattle.ct_rules.specs.Derivation.{LineValue}
 use Rattle.ct_rules.proofs.Derivations.{derivation-take}
-use Rattle.ct_closure.specs.Kept.{Rise}
+use Rattle.ct_kept.specs.Kept.{Rise}
 use Rattle.ct_table.specs.Table.{TableValue, IsShownTable}
 use Rattle.ct_derive.specs.Explanation.{IsExplanation}
 use Rattle.ct_derive.specs.Inside.Pruning.{AreMarked, unmarked, pruned}

@@ -10,8 +10,8 @@ use Rattle.ct_codes.specs.Code.{CodeValue}
 use Rattle.ct_codes.specs.Constructions.Places.{is_among}
 use Rattle.ct_codes.proofs.Constructions.PlaceLemmas.{take-next}
 use Rattle.ct_rules.specs.Derivation.{LineValue}
-use Rattle.ct_rules.proofs.Places.{slice_get-append_left, slice_get_last}
-use Rattle.ct_closure.proofs.GetLemmas.{slice_get-set_other}
+use Rattle.ct_rule_parts.proofs.Places.{slice_get-append_left, slice_get_last}
+use Rattle.ct_rule_parts.proofs.GetLemmas.{slice_get-set_other}
 use Rattle.ct_list.specs.Inside.Kept.{IsCodeFor, AreCodesFor, IsKept, AreKept, named_by, is_named}
 
 -- a place that is not among some is another than each of them

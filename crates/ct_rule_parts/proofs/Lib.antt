@@ -6,3 +6,5 @@ pub mod PlainNumbers
 pub mod EntryLists
 pub mod WeightEntries
 pub mod DualLemmas
+pub mod Places
+pub mod GetLemmas

@@ -12,7 +12,7 @@ use Rattle.ct_rule_parts.specs.Support.{AllStand}
 use Rattle.ct_rules.specs.Rule.{rule_side}
 use Rattle.ct_rule_parts.specs.Slot.{claim_at}
 use Rattle.ct_rules.specs.Derivation.{LineValue, claims_at, Follows, IsDerivation, IsDerived}
-use Rattle.ct_rules.proofs.Places.{IsAtSeam, slice_get-take, slice_get-append_cases, slice_get_last}
+use Rattle.ct_rule_parts.proofs.Places.{IsAtSeam, slice_get-take, slice_get-append_cases, slice_get_last}
 use Rattle.ct_rules.proofs.Applied.{cited-stands}
 use Rattle.ct_rules.proofs.RuleLaws.{value_is_sound}
 

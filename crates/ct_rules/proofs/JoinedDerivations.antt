@@ -10,7 +10,7 @@ use Rattle.ct_rule_parts.specs.declared.support.Support.{Support}
 use Rattle.ct_rules.specs.Rule.{rule_side, premises_of, value_of}
 use Rattle.ct_rule_parts.specs.Slot.{slot_of, claim_at}
 use Rattle.ct_rules.specs.Derivation.{LineValue, claims_at, Follows, IsDerivation, IsDerived}
-use Rattle.ct_rules.proofs.Places.{IsAtSeam, slice_get-append_left, slice_get-append_right, slice_get-append_cases, slice_get_last}
+use Rattle.ct_rule_parts.proofs.Places.{IsAtSeam, slice_get-append_left, slice_get-append_right, slice_get-append_cases, slice_get_last}
 use Rattle.ct_rules.proofs.Derivations.{derivation-push}
 
 -- a line whose places are k further on

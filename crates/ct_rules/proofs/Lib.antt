@@ -2,7 +2,6 @@ pub mod LawfulRows
 pub mod Applied
 pub mod RuleValues
 pub mod RuleLaws
-pub mod Places
 pub mod Derivations
 pub mod JoinedDerivations
 pub mod MoreSupports

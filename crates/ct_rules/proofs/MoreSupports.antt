@@ -10,7 +10,7 @@ use Rattle.ct_rule_parts.specs.Slot.{Slot, slot_of, claim_at, IsNoBetter}
 use Rattle.ct_rules.specs.declared.rule.Rule.{Rule}
 use Rattle.ct_rules.specs.Rule.{rule_side, place_of, support_at, cited, parts_of, parts_over, applies, premises_of, value_of}
 use Rattle.ct_rules.specs.Derivation.{LineValue, claims_at, Follows, IsDerivation, IsDerived, IsBest}
-use Rattle.ct_rules.proofs.Places.{slice_get-append_left}
+use Rattle.ct_rule_parts.proofs.Places.{slice_get-append_left}
 use Rattle.ct_rules.proofs.LawfulRows.{needs_support}
 pub use Rattle.ct_rules.proofs.Applied.{applies_from_premises}
 use Rattle.ct_rules.proofs.Applied.{defined, applies_from_value}

@@ -10,7 +10,7 @@ use Rattle.ct_rules.specs.Derivation.{LineValue, claims_at, Follows}
 use Rattle.ct_rules.specs.Rule.{place_of, support_at, cited, applies}
 use Rattle.ct_rules.proofs.Applied.{applies_from_premises}
 use Rattle.ct_rules.proofs.LoweredRules.{support_there, premises_of-alike, value_of-alike}
-use Rattle.ct_closure.specs.Kept.{KeptValue, BaseValue, IsKept, IsBase, set_back}
+use Rattle.ct_kept.specs.Kept.{KeptValue, BaseValue, IsKept, IsBase, set_back}
 
 -- a rule that is defined over no supports names none
 pub names_nothing : (r : Rule) (e : Entry) → applies [] r e ≡ true → place_of r ≡ None

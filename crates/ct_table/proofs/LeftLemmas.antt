@@ -24,11 +24,11 @@ use Rattle.ct_rules.proofs.RuleLaws.{premises_in_table, premises_on_side, value_
 use Rattle.ct_rules.specs.Removal.{Places, RestsOnPlaces, voided}
 use Rattle.ct_rules.proofs.VoidedSupports.{IsClosed-voided, AllStand-voided}
 use Rattle.ct_closure.specs.Closing.{IsPending}
-use Rattle.ct_closure.specs.Kept.{KeptValue, IsKept, Grew, reason_of}
-use Rattle.ct_closure.specs.Number.{bound_of}
-use Rattle.ct_closure.specs.Worklist.{WorkValue, IsMarked}
-use Rattle.ct_closure.proofs.GetLemmas.{slice_get-append_some}
-use Rattle.ct_closure.proofs.KeptLemmas.{IsReasonLine, reason_line, reason-within, line-no_better, Grew-no_worse}
+use Rattle.ct_kept.specs.Kept.{KeptValue, IsKept, Grew, reason_of}
+use Rattle.ct_slots.specs.Number.{bound_of}
+use Rattle.ct_slots.specs.Worklist.{WorkValue, IsMarked}
+use Rattle.ct_rule_parts.proofs.GetLemmas.{slice_get-append_some}
+use Rattle.ct_kept.proofs.KeptLemmas.{IsReasonLine, reason_line, reason-within, line-no_better, Grew-no_worse}
 use Rattle.ct_table.specs.Inside.Walk.{moved_place}
 use Rattle.ct_table.specs.Inside.Removing.{IsMarkedIfLost}
 use Rattle.ct_table.specs.Removal.{claim_and_rule}

@@ -10,7 +10,7 @@ use Rattle.ct_rules.specs.Derivation.{LineValue}
 use Rattle.ct_rules.specs.Rule.{place_of}
 use Rattle.ct_rules.specs.Removal.{Places, without, lowered, lowered_by, voided, lowered_line}
 use Rattle.ct_rules.proofs.LoweredLines.{IsDerivation-lowered}
-use Rattle.ct_closure.specs.Kept.{KeptValue, BaseValue, IsKept, IsBase, IsGround, reason_of}
+use Rattle.ct_kept.specs.Kept.{KeptValue, BaseValue, IsKept, IsBase, IsGround, reason_of}
 use Rattle.ct_table.proofs.BaseLemmas.{line_names_nothing}
 
 -- with its rules lowered

@@ -18,15 +18,15 @@ use Rattle.ct_rules.specs.declared.rule.Rule.TheVariants.{L10, M10, U11, V9}
 use Rattle.ct_rules.specs.Closed.{IsSatisfied, IsClosed}
 use Rattle.ct_rules.specs.Rule.{row_of, rule_side, place_of, support_at, cited, parts_over, applies}
 use Rattle.ct_rules.proofs.Applied.{defined, applies_from_premises}
-use Rattle.ct_rules.proofs.Places.{slice_get-append_left, slice_get-append_right}
+use Rattle.ct_rule_parts.proofs.Places.{slice_get-append_left, slice_get-append_right}
 use Rattle.ct_rules.proofs.LoweredRules.{premises_of-alike, value_of-alike}
 use Rattle.ct_closure.specs.Closing.{IsPending}
-use Rattle.ct_closure.specs.Number.{bound_of}
-use Rattle.ct_closure.specs.Places.{GivesTo, side_of, entry_of}
-use Rattle.ct_closure.specs.Worklist.{WorkValue, IsMarked}
-use Rattle.ct_closure.specs.Inside.Pulling.{IsWithin}
-use Rattle.ct_closure.specs.Inside.Pulled.{given_rule}
-use Rattle.ct_closure.proofs.SatisfiedLemmas.{satisfied_within}
+use Rattle.ct_slots.specs.Number.{bound_of}
+use Rattle.ct_slots.specs.Places.{GivesTo, side_of, entry_of}
+use Rattle.ct_slots.specs.Worklist.{WorkValue, IsMarked}
+use Rattle.ct_offers.specs.Offers.{IsWithin}
+use Rattle.ct_offers.specs.Inside.Pulled.{given_rule}
+use Rattle.ct_offers.proofs.SatisfiedLemmas.{satisfied_within}
 use Rattle.ct_table.proofs.BaseLemmas.{cited-nothing}
 
 -- a support that gives something to an entry of the table is one of that entry

@@ -2,7 +2,7 @@
 use Rattle.std.proofs.Common.{List, [], ◌∷◌, ◌++◌, Option, Some, None, refl, sym, ap, ◌∙◌, append_assoc, append-nil}
 use Rattle.ct_rules.specs.Derivation.{LineValue}
 use Rattle.ct_closure.specs.Closing.{HasMoreLines}
-use Rattle.ct_closure.specs.Kept.{KeptValue}
+use Rattle.ct_kept.specs.Kept.{KeptValue}
 use Rattle.ct_table.specs.Inside.Walk.{with_moved}
 
 pub HasMoreLines-refl : (kept : KeptValue) → HasMoreLines kept kept

@@ -8,16 +8,16 @@ use Rattle.ct_codes.specs.Entry.{IsEntry}
 use Rattle.ct_rule_parts.specs.declared.support.Support.{Support}
 use Rattle.ct_rules.specs.declared.rule.Rule.{Rule}
 use Rattle.ct_rules.specs.Derivation.{LineValue}
-use Rattle.ct_rules.proofs.Places.{slice_get-take, slice_get-append_right}
+use Rattle.ct_rule_parts.proofs.Places.{slice_get-take, slice_get-append_right}
 use Rattle.ct_rules.specs.Removal.{Places, without, lowered, voided, lowered_line}
 use Rattle.ct_rules.proofs.VoidedSupports.{AllStand-voided, AllStand-without, length-voided, IsClosed-without}
 use Rattle.ct_rules.proofs.WithoutLemmas.{length-without}
 use Rattle.ct_closure.specs.Closing.{ClosingValue, CanClose, IsClosing, HasMoreLines}
-use Rattle.ct_closure.specs.Kept.{KeptValue, BaseValue, IsBase, reason_of, set_back}
-use Rattle.ct_closure.specs.Number.{bound_of}
-use Rattle.ct_closure.specs.Worklist.{WorkValue}
-use Rattle.ct_closure.proofs.KeptLemmas.{line_entry}
-use Rattle.ct_closure.proofs.LineLemmas.{kept_in}
+use Rattle.ct_kept.specs.Kept.{KeptValue, BaseValue, IsBase, reason_of, set_back}
+use Rattle.ct_slots.specs.Number.{bound_of}
+use Rattle.ct_slots.specs.Worklist.{WorkValue}
+use Rattle.ct_kept.proofs.KeptLemmas.{line_entry}
+use Rattle.ct_kept.proofs.LineLemmas.{kept_in}
 use Rattle.ct_table.specs.Inside.Walk.{moved_place, walk}
 use Rattle.ct_table.specs.Inside.Removing.{IsSetBack, IsMarkedIfLost, IsTakenOut}
 use Rattle.ct_table.specs.Removal.{claim_and_rule, claim_and_lowered_rule, KeepsReasons}

@@ -6,12 +6,12 @@ use Rattle.std.proofs.lemmas.Option.{slice_get_within, get_or_from_slice_get}
 use Rattle.ct_rule_parts.specs.declared.support.Support.{Support}
 use Rattle.ct_rules.specs.Derivation.{LineValue, Follows}
 use Rattle.ct_rules.specs.Rule.{place_of}
-use Rattle.ct_rules.proofs.Places.{slice_get-append_right}
+use Rattle.ct_rule_parts.proofs.Places.{slice_get-append_right}
 use Rattle.ct_rules.specs.Removal.{Places, names_one, voided}
 use Rattle.ct_rules.proofs.VoidedSupports.{premises_of-voided, value_of-voided, IsClosed-voided}
 use Rattle.ct_closure.specs.Closing.{ClosingValue, HasMoreLines}
-use Rattle.ct_closure.specs.Kept.{KeptValue, BaseValue, IsKept, set_back}
-use Rattle.ct_closure.specs.Number.{bound_of}
+use Rattle.ct_kept.specs.Kept.{KeptValue, BaseValue, IsKept, set_back}
+use Rattle.ct_slots.specs.Number.{bound_of}
 use Rattle.ct_table.specs.Inside.Removing.{IsTakenOut}
 use Rattle.ct_table.specs.Table.{IsTable}
 use Rattle.ct_table.proofs.BaseLemmas.{base_count, line_names_nothing}

@@ -12,13 +12,13 @@ use Rattle.ct_rule_parts.specs.declared.support.Support.{Support}
 use Rattle.ct_rule_parts.specs.Slot.{Slot, slot_of, claim_at, IsBetter}
 use Rattle.ct_rules.specs.Derivation.{LineValue, claims_at, Follows}
 use Rattle.ct_rules.specs.Rule.{place_of, value_of}
-use Rattle.ct_rules.proofs.Places.{slice_get-append_right, slice_get_last}
+use Rattle.ct_rule_parts.proofs.Places.{slice_get-append_right, slice_get_last}
 use Rattle.ct_rules.specs.Removal.{Places, names_one, RestsOnPlaces, voided}
 use Rattle.ct_rules.proofs.VoidedSupports.{premises_of-voided, value_of-voided}
-use Rattle.ct_closure.specs.Kept.{KeptValue, IsKept, reason_of, with_line_put}
-use Rattle.ct_closure.specs.Number.{bound_of}
-use Rattle.ct_closure.proofs.GetLemmas.{IsOldOrNew, slice_get-append_some, slice_get_push_cases}
-use Rattle.ct_closure.proofs.KeptLemmas.{IsReasonLine, reason_line, line_entry, IsKept-with_line}
+use Rattle.ct_kept.specs.Kept.{KeptValue, IsKept, reason_of, with_line_put}
+use Rattle.ct_slots.specs.Number.{bound_of}
+use Rattle.ct_rule_parts.proofs.GetLemmas.{IsOldOrNew, slice_get-append_some, slice_get_push_cases}
+use Rattle.ct_kept.proofs.KeptLemmas.{IsReasonLine, reason_line, line_entry, IsKept-with_line}
 use Rattle.ct_table.specs.Inside.Walk.{moved_place, and_places, moved_places, moved_line, with_moved, walk}
 use Rattle.ct_table.proofs.MovedPlaces.{moved-within, moved-push_cases, moved-push_old, moved-push_new, moved-push_none, HasUnmoved, moved_line-none, IsMoved, moved_line-some}
 

@@ -6,9 +6,9 @@ use Rattle.ct_rule_parts.specs.Slot.{Slot, slot_of, claim_at, IsBetter}
 use Rattle.ct_rule_parts.specs.Support.{AllStand}
 use Rattle.ct_rules.specs.Closed.{IsClosed}
 use Rattle.ct_rules.specs.Derivation.{LineValue, IsDerivation}
-use Rattle.ct_closure.specs.Kept.{KeptValue, BaseValue, IsKept, IsBase, IsGround, Rise}
-use Rattle.ct_closure.specs.Number.{bound_of, side_size, slot_number}
-use Rattle.ct_closure.specs.Worklist.{WorkValue, IsIdle}
+use Rattle.ct_kept.specs.Kept.{KeptValue, BaseValue, IsKept, IsBase, IsGround, Rise}
+use Rattle.ct_slots.specs.Number.{bound_of, side_size, slot_number}
+use Rattle.ct_slots.specs.Worklist.{WorkValue, IsIdle}
 
 -- a table as callers see it: its supports, the lines of a derivation, and by the numbers of the slots their bounds and the numbers of the lines that give them
 pub record TableValue : Type 0 where

@@ -6,31 +6,40 @@ ghost use Rattle.ct_rule_parts.specs.declared.support.Support.{Support};
 ghost use Rattle.ct_rule_parts.specs.Support.{AllStand};
 ghost use Rattle.ct_rules.specs.Closed.{IsClosed};
 ghost use Rattle.ct_closure.specs.Closing.{CanClose, IsClosing, HasMoreLines};
-ghost use Rattle.ct_closure.specs.Kept.{IsKept};
-ghost use Rattle.ct_closure.specs.Number.{bound_of};
-ghost use Rattle.ct_closure.specs.Places.{ArePlaces};
-ghost use Rattle.ct_closure.specs.Worklist.{IsIdle};
-ghost use Rattle.ct_closure.specs.Inside.Pulling.{IsWithin};
-ghost use Rattle.ct_closure.specs.Inside.Pulled.{given_rule};
+ghost use Rattle.ct_kept.specs.Kept.{IsKept};
+ghost use Rattle.ct_slots.specs.Number.{bound_of};
+ghost use Rattle.ct_slots.specs.Places.{ArePlaces};
+ghost use Rattle.ct_slots.specs.Worklist.{IsIdle};
+ghost use Rattle.ct_offers.specs.Offers.{IsWithin};
+ghost use Rattle.ct_offers.specs.Inside.Pulled.{given_rule};
 ghost use Rattle.ct_table.specs.Inside.Starting.{CanFollow};
 
 use crate::start::mark_given;
-use ct_closure::{
-    Closing, Kept, SupportPlaces, close, entry_of, given_rule, is_better, offer, side_of,
-};
+use ct_closure::{Closing, close};
 use ct_codes::{Entry, Side};
+use ct_kept::Kept;
+use ct_offers::{given_rule, is_better, offer};
 use ct_rules::Support;
+use ct_slots::{Bounds, SupportPlaces, entry_of, side_of};
 use std::alloc::{AllocError, Global};
+
+/// Whether the support at a place gives a better bound on a side of an entry of the table than stands there.
+fn is_bettered(supports: &[Support], bounds: &Bounds, side: Side, entry: Entry, place: u32) -> bool
+    requires { IsEntry entry }
+    ensures { result ≡ false → IsWithin supports.now (bound_of bounds.now) (side, entry) (bound_of bounds.now (side, entry)) (given_rule (side, entry) place) }
+{
+    match offer(supports, bounds, given_rule(side, entry, place), entry) {
+        Some(value) => is_better(side, value, bounds.bound(side, entry)),
+        None => false,
+    }
+}
 
 /// Whether the support at a place betters the bound on a side of an entry of the table.
 fn betters(supports: &[Support], kept: &Kept, side: Side, entry: Entry, place: u32) -> bool
     requires { IsEntry entry }
     ensures { result ≡ false → IsWithin supports.now (bound_of kept.now.bounds) (side, entry) (bound_of kept.now.bounds (side, entry)) (given_rule (side, entry) place) }
 {
-    match offer(supports, kept, given_rule(side, entry, place), entry) {
-        Some(value) => is_better(side, value, kept.bound(side, entry)),
-        None => false,
-    }
+    is_bettered(supports, kept.bounds(), side, entry, place)
 }
 
 /// Closes over the supports, of which the one at the place is new. After an `Err`, which is want of memory, lines may have been

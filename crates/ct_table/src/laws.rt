@@ -9,8 +9,8 @@ ghost use Rattle.ct_rules.specs.declared.rule.Rule.TheVariants.{L2, L4, L6, L10,
 ghost use Rattle.ct_rules.specs.Rule.{place_of};
 ghost use Rattle.ct_rules.specs.Derivation.{LineValue};
 ghost use Rattle.ct_rules.specs.Removal.{Places, only, RestsOnPlaces, lowered_line};
-ghost use Rattle.ct_closure.specs.Kept.{KeptValue, with_line_put};
-ghost use Rattle.ct_closure.specs.Number.{bound_of, side_size};
+ghost use Rattle.ct_kept.specs.Kept.{KeptValue, with_line_put};
+ghost use Rattle.ct_slots.specs.Number.{bound_of, side_size};
 ghost use Rattle.ct_table.specs.Removal.{KeepsReasons};
 ghost use Rattle.ct_table.specs.Table.{TableValue, IsShownTable, Grew, HasReason, bound_at, reason_at, table_of};
 

@@ -7,18 +7,21 @@ ghost use Rattle.ct_rules.specs.Removal.{marked, names_one, voided};
 ghost use Rattle.ct_rules.specs.Derivation.{LineValue};
 ghost use Rattle.ct_rules.specs.Rule.{place_of};
 ghost use Rattle.ct_closure.specs.Closing.{HasMoreLines};
-ghost use Rattle.ct_closure.specs.Kept.{KeptValue, BaseValue, set_back};
-ghost use Rattle.ct_closure.specs.Places.{ArePlaces};
-ghost use Rattle.ct_closure.specs.Worklist.{IsMarked, IsIdle};
-ghost use Rattle.ct_closure.specs.Number.{bound_of};
+ghost use Rattle.ct_kept.specs.Kept.{KeptValue, BaseValue, set_back};
+ghost use Rattle.ct_slots.specs.Places.{ArePlaces};
+ghost use Rattle.ct_slots.specs.Worklist.{IsMarked, IsIdle};
+ghost use Rattle.ct_slots.specs.Number.{bound_of};
 ghost use Rattle.ct_rule_parts.specs.Slot.{Slot, slot_of, IsBetter};
 ghost use Rattle.ct_table.specs.Table.{IsTable};
 ghost use Rattle.ct_table.specs.Inside.Walk.{moved_place, moved_places, moved_line, with_moved, walk};
 ghost use Rattle.ct_table.specs.Inside.Removing.{IsSetBack, IsMarkedIfLost, IsTakenOut};
 
-use ct_closure::{Base, Closing, Kept, SupportPlaces, Worklist, close, is_better};
+use ct_closure::{Closing, close};
 use ct_codes::Claim;
+use ct_kept::{Base, Kept};
+use ct_offers::is_better;
 use ct_rules::{Line, Support, names_one};
+use ct_slots::{SupportPlaces, Worklist};
 use smallvec::SmallVec;
 use std::alloc::{AllocError, Global};
 

@@ -6,14 +6,16 @@ ghost use Rattle.ct_rule_parts.specs.Slot.{Slot};
 ghost use Rattle.ct_rule_parts.specs.Support.{AllStand};
 ghost use Rattle.ct_rules.specs.Closed.{IsClosed};
 ghost use Rattle.ct_closure.specs.Closing.{IsClosing};
-ghost use Rattle.ct_closure.specs.Kept.{IsKept};
-ghost use Rattle.ct_closure.specs.Number.{bound_of};
-ghost use Rattle.ct_closure.specs.Places.{entry_of, ArePlaces};
-ghost use Rattle.ct_closure.specs.Worklist.{IsMarked};
+ghost use Rattle.ct_kept.specs.Kept.{IsKept};
+ghost use Rattle.ct_slots.specs.Number.{bound_of};
+ghost use Rattle.ct_slots.specs.Places.{entry_of, ArePlaces};
+ghost use Rattle.ct_slots.specs.Worklist.{IsMarked};
 ghost use Rattle.ct_table.specs.Inside.Starting.{IsBegun, IsMarkedIfGiven};
 
-use ct_closure::{Closing, Kept, SupportPlaces, Worklist, close, entry_of, side_of};
+use ct_closure::{Closing, close};
+use ct_kept::Kept;
 use ct_rules::Support;
+use ct_slots::{SupportPlaces, Worklist, entry_of, side_of};
 use std::alloc::{AllocError, Global};
 
 /// What is kept of no supports before anything is closed: every slot is still to be looked at. `Err` is want of memory.

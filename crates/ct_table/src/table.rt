@@ -15,9 +15,11 @@ use crate::exchanging::{exchange, leave_out, nothings, only};
 use crate::follow::follow;
 use crate::left::take_out;
 use crate::start::{begin, close_over};
-use ct_closure::{Base, Closing, SupportPlaces};
+use ct_closure::Closing;
 use ct_codes::{Entry, Side};
+use ct_kept::Base;
 use ct_rules::{Line, Support};
+use ct_slots::SupportPlaces;
 use std::alloc::{AllocError, Global};
 use std::marker::Model;
 
@@ -32,7 +34,7 @@ pub struct Table {
 }
 
 impl Model for Table {
-    ghost use Rattle.ct_closure.specs.Places.{ArePlaces};
+    ghost use Rattle.ct_slots.specs.Places.{ArePlaces};
     ghost use Rattle.ct_table.specs.Table.{TableValue, IsTable, table_of};
 
     ghost Value = { TableValue };

@@ -1,18 +1,20 @@
 //! Numbers of slots, and closed tables, by hand.
 
 ghost use Rattle.std.specs.Prelude.{◌<◌, ◌^◌, List, IfOk, length};
-ghost use Rattle.ct_closure.specs.Kept.{IsKept};
-ghost use Rattle.ct_closure.specs.Places.{ArePlaces};
-ghost use Rattle.ct_closure.specs.Worklist.{IsMarked};
+ghost use Rattle.ct_kept.specs.Kept.{IsKept};
+ghost use Rattle.ct_slots.specs.Places.{ArePlaces};
+ghost use Rattle.ct_slots.specs.Worklist.{IsMarked};
 ghost use Rattle.ct_codes.specs.Entry.{IsEntry};
 ghost use Rattle.ct_rule_parts.specs.declared.support.Support.{Support};
 ghost use Rattle.ct_rule_parts.specs.Slot.{Slot};
 ghost use Rattle.ct_rule_parts.specs.Support.{AllStand};
 
 use crate::known::{CODES, NUMBERS, entry_at, support_of};
-use ct_closure::{Closing, ENTRIES, Kept, SLOTS, SupportPlaces, Worklist, close, slot_number};
+use ct_closure::{Closing, close};
 use ct_codes::{Entry, Side};
+use ct_kept::Kept;
 use ct_rules::Support;
+use ct_slots::{ENTRIES, SLOTS, SupportPlaces, Worklist, slot_number};
 use std::alloc::{AllocError, Global};
 use std::test::Fail;
 

@@ -6,10 +6,10 @@ use Rattle.ct_rule_parts.specs.declared.support.Support.{Support}
 use Rattle.ct_rule_parts.specs.Support.{AllStand}
 use Rattle.ct_rules.specs.Closed.{IsClosed}
 use Rattle.ct_closure.specs.Closing.{ClosingValue}
-use Rattle.ct_closure.specs.Kept.{IsKept}
-use Rattle.ct_closure.specs.Number.{bound_of}
-use Rattle.ct_closure.specs.Places.{GivesTo, side_of}
-use Rattle.ct_closure.specs.Worklist.{WorkValue, IsMarked, IsIdle}
+use Rattle.ct_kept.specs.Kept.{IsKept}
+use Rattle.ct_slots.specs.Number.{bound_of}
+use Rattle.ct_slots.specs.Places.{GivesTo, side_of}
+use Rattle.ct_slots.specs.Worklist.{WorkValue, IsMarked, IsIdle}
 
 -- closed over no supports, with no base yet
 pub record IsBegun (closing : ClosingValue) : Type 0 where

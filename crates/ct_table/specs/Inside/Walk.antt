@@ -2,7 +2,7 @@
 use Rattle.std.specs.Prelude.{ℕ, ◌-◌, nat_lt, if◌then◌else◌, List, [], ◌∷◌, ◌++◌, length, slice_index_or, Option, Some, None, option_map}
 use Rattle.ct_rules.specs.Derivation.{LineValue}
 use Rattle.ct_rules.specs.Rule.{place_of}
-use Rattle.ct_closure.specs.Kept.{KeptValue, with_line_put}
+use Rattle.ct_kept.specs.Kept.{KeptValue, with_line_put}
 use Rattle.ct_rules.specs.Removal.{Places, names_one}
 
 -- where a line has moved: those of the base stay at their places, of the others those that moved so far

@@ -1,6 +1,6 @@
 use Rattle.std.proofs.Common.{ap, subst, ◌∙◌}
 use Rattle.ct_closure.specs.Closing.{ClosingValue}
-use Rattle.ct_closure.specs.Kept.{Grew}
+use Rattle.ct_kept.specs.Kept.{Grew}
 use Rattle.ct_closure.proofs.TurnLemmas.{closed_when_idle}
 use Rattle.ct_closure.proofs.closing.close.Goals as goal
 

@@ -1,4 +1,4 @@
-use Rattle.ct_closure.proofs.PullingLemmas.{listed_in_table}
+use Rattle.ct_offers.proofs.PullingLemmas.{listed_in_table}
 use Rattle.ct_closure.proofs.closing.improve.Goals as goal
 
 pub reasons-requires : goal.reasons-requires

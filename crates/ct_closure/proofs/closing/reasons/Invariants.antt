@@ -2,7 +2,7 @@
 use Rattle.std.proofs.Common.{◌≡◌, map, take}
 use Rattle.ct_rule_parts.specs.Entries.{listed}
 use Rattle.ct_rule_parts.specs.Parts.{slots_on}
-use Rattle.ct_closure.specs.Kept.{reason_of}
+use Rattle.ct_kept.specs.Kept.{reason_of}
 use Rattle.ct_closure.proofs.closing.reasons.Given as goal
 
 abbrev pub invariant-loop-place : goal.invariant-loop-place

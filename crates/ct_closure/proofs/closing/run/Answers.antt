@@ -1,4 +1,4 @@
-use Rattle.ct_closure.proofs.KeptLemmas.{Grew-trans}
+use Rattle.ct_kept.proofs.KeptLemmas.{Grew-trans}
 use Rattle.ct_closure.proofs.TurnLemmas.{pending_taken, more_lines-trans}
 use Rattle.ct_closure.proofs.closing.run.Goals as goal
 

@@ -1,6 +1,6 @@
 use Rattle.ct_closure.specs.Closing.{IsPending, HasMoreLines}
-use Rattle.ct_closure.specs.Kept.{IsKept, Grew}
-use Rattle.ct_closure.specs.Inside.Pulling.{potential}
+use Rattle.ct_kept.specs.Kept.{IsKept, Grew}
+use Rattle.ct_closure.specs.Inside.Turn.{potential}
 use Rattle.ct_closure.proofs.closing.run.Given as goal
 
 -- what holds each time that a slot is taken

@@ -8,8 +8,8 @@ returns-in_default-clause-pending c =
     (none_found c.args.supports.now c.args.kept.now (c.args.side, c.args.entry) best.value best.rule c.in_default.is c.pull-best.ensures.given)
     c.pull-best.ensures.within c.requires.pending
 
-pub mark_dependents-requires-clause-true_bounds : goal.mark_dependents-requires-clause-true_bounds
-mark_dependents-requires-clause-true_bounds c =
+pub mark_from-requires-clause-true_bounds : goal.mark_from-requires-clause-true_bounds
+mark_from-requires-clause-true_bounds c =
     let best = c.pull-best.result in
     let found =
     improvement c.args.supports.now c.args.kept.now c.args.side c.args.entry best.value best.rule c.in-Some.rule c.requires.entry c.in-Some.is
@@ -43,8 +43,8 @@ returns-clause-pending c =
     improvement c.args.supports.now c.args.kept.now c.args.side c.args.entry best.value best.rule c.in-Some.rule c.requires.entry c.in-Some.is
     c.pull-best.ensures.given c.pull-best.ensures.within in
     turn_pending c.args.supports.now c.args.kept.now c.improve.new.kept c.args.side c.in-Some.rule c.args.entry best.value c.args.work.now
-    c.mark_dependents.new.work found.0 c.in_ok-improve.ensures.improved c.requires.kept found.1 c.in_ok-mark_dependents.ensures.kept
-    c.in_ok-mark_dependents.ensures.tested c.requires.pending
+    c.mark_from.new.work found.0 c.in_ok-improve.ensures.improved c.requires.kept found.1 c.in_ok-mark_from.ensures.kept
+    c.in_ok-mark_from.ensures.tested c.requires.pending
 
 pub returns-clause-potential : goal.returns-clause-potential
 returns-clause-potential c =
@@ -53,4 +53,4 @@ returns-clause-potential c =
     improvement c.args.supports.now c.args.kept.now c.args.side c.args.entry best.value best.rule c.in-Some.rule c.requires.entry c.in-Some.is
     c.pull-best.ensures.given c.pull-best.ensures.within in
     turn_uses c.args.supports.now c.args.kept.now c.improve.new.kept c.in-Some.rule c.args.entry best.value c.args.work.now
-    c.mark_dependents.new.work c.in_ok-improve.ensures.improved c.requires.kept found.1 c.waits_for_few.ensures
+    c.mark_from.new.work c.in_ok-improve.ensures.improved c.requires.kept found.1 c.waits_for_few.ensures

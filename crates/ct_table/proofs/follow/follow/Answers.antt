@@ -4,10 +4,10 @@ use Rattle.ct_codes.specs.declared.claim.Side.{Side}
 use Rattle.ct_rule_parts.specs.declared.support.Support.{Support}
 use Rattle.ct_codes.specs.declared.entry.Entry.{Entry}
 use Rattle.ct_closure.specs.Closing.{ClosingValue}
-use Rattle.ct_closure.specs.Number.{bound_of}
-use Rattle.ct_closure.specs.Places.{entry_of, side_of}
-use Rattle.ct_closure.specs.Inside.Pulling.{IsWithin}
-use Rattle.ct_closure.specs.Inside.Pulled.{given_rule}
+use Rattle.ct_slots.specs.Number.{bound_of}
+use Rattle.ct_slots.specs.Places.{entry_of, side_of}
+use Rattle.ct_offers.specs.Offers.{IsWithin}
+use Rattle.ct_offers.specs.Inside.Pulled.{given_rule}
 use Rattle.ct_table.proofs.FollowLemmas.{IsClosing-same}
 use Rattle.ct_table.proofs.PlacedSupports.{last_is}
 use Rattle.ct_table.proofs.follow.follow.Goals as goal

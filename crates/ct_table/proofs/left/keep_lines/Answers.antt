@@ -3,7 +3,7 @@ use Rattle.std.proofs.lemmas.List.{at_drop_more}
 use Rattle.ct_rules.specs.Derivation.{LineValue}
 use Rattle.ct_rules.specs.Removal.{marked}
 use Rattle.ct_closure.specs.Closing.{HasMoreLines}
-use Rattle.ct_closure.specs.Kept.{KeptValue}
+use Rattle.ct_kept.specs.Kept.{KeptValue}
 use Rattle.ct_table.specs.Inside.Walk.{moved_line, with_moved, walk}
 use Rattle.ct_table.proofs.MoreLines.{HasMoreLines-moved}
 use Rattle.ct_table.proofs.left.keep_lines.Goals as goal

@@ -1,5 +1,5 @@
 use Rattle.std.proofs.Common.{map, sym, ap, subst, ◌∙◌, take_all}
-use Rattle.ct_closure.specs.Places.{ArePlaces, entry_of}
+use Rattle.ct_slots.specs.Places.{ArePlaces, entry_of}
 use Rattle.ct_table.proofs.PlacedSupports.{ArePlaces-map}
 use Rattle.ct_table_tests.proofs.closure.places_of.Goals as goal
 

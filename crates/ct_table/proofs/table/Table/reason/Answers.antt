@@ -2,7 +2,7 @@ use Rattle.std.proofs.Common.{◌≡◌, ◌∙◌, ℕ, Some, ap, subst, option
 use Rattle.ct_rule_parts.specs.Slot.{claim_at}
 use Rattle.ct_rules.specs.Derivation.{LineValue, IsBest}
 use Rattle.ct_table.specs.declared.table.Table.TheInside.{Inside}
-use Rattle.ct_closure.specs.Kept.{reason_of}
+use Rattle.ct_kept.specs.Kept.{reason_of}
 use Rattle.ct_table.specs.Table.{TableValue}
 use Rattle.ct_table.proofs.CallLemmas.{read_reason}
 use Rattle.ct_table.proofs.table.Table.reason.Goals as goal

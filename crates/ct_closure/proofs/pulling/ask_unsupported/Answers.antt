@@ -1,8 +1,0 @@
-use Rattle.ct_closure.specs.Number.{bound_of}
-use Rattle.ct_closure.proofs.LimitLemmas.{at_limit}
-use Rattle.ct_closure.proofs.pulling.ask_unsupported.Goals as goal
-
-pub returns-then-best-limit-clause-by_weight : goal.returns-then-best-limit-clause-by_weight
-returns-then-best-limit-clause-by_weight c = λ r by side.
-    at_limit c.args.supports.now (bound_of c.args.kept.now.bounds) (c.args.side, c.args.entry) c.ask_alone.new.best.value c.args.limit
-    c.if-best-limit.true c.requires.limit r side

@@ -1,0 +1,389 @@
+//! What a table keeps: the lines of a derivation, and for each slot its bound and the line that gives it.
+
+ghost use Rattle.std.specs.Prelude.{◌≡◌, ◌+◌, ◌-◌, ◌<◌, ◌≤◌, ◌*◌, ◌++◌, ◌↔◌, false, if◌then◌else◌, [], ℕ, List, All, OnOk, OnErr, IfOk, length, map, replicate, take, drop, slice_get, Some, None};
+ghost use Rattle.ct_codes.specs.declared.claim.Side.TheVariants.{Lower};
+ghost use Rattle.ct_codes.specs.Entry.{IsEntry};
+ghost use Rattle.ct_rule_parts.specs.declared.support.Support.{Support};
+ghost use Rattle.ct_slots.specs.Number.{bound_of, entries_to, side_number, side_size};
+ghost use Rattle.ct_kept.specs.Kept.{with_line_put, reason_of, set_back, starts_by_class, ground_rule, IsKept};
+ghost use Rattle.ct_rule_parts.specs.Parts.{weight_of};
+ghost use Rattle.ct_rules.specs.Rule.{place_of};
+ghost use Rattle.ct_rules.specs.Removal.{names_one, marked, lowered_line};
+ghost use Rattle.ct_kept.specs.Inside.Ground.{class_of, AreLargest, ground_value, ground_line};
+ghost use Rattle.ct_kept.specs.Inside.Started.{IsStarted};
+
+use crate::lowering::{lower_lines, names_place};
+use ct_codes::{Claim, Entry, Side};
+use ct_rules::{Line, Rule, value};
+use ct_slots::{Bounds, SLOTS, count_in_length, entry_in, slot_number};
+use ct_sum_classes::{LargestClass, largest_sum_classes};
+use ct_words::MAX_N;
+use smallvec::SmallVec;
+use std::alloc::{AllocError, Global};
+use std::marker::Model;
+use std::mem;
+
+/// What a table keeps: the lines of a derivation, and for each side of each entry, by its number, the bound and the place of
+/// the line that gives it. The first lines are those of the base, which rest on no support whatever comes and goes. Contracts
+/// see bounds, reasons and all lines in a row, and how many of these the base has.
+#[derive(Debug, Drop)]
+pub struct Kept {
+    bounds: Bounds,
+    reasons: Vec<usize>,
+    first: Vec<Line>,
+    later: Vec<Line>,
+}
+
+impl Model for Kept {
+    ghost use Rattle.std.specs.Prelude.{◌≡◌, ◌*◌, ◌++◌, length};
+    ghost use Rattle.ct_slots.specs.Number.{side_size};
+    ghost use Rattle.ct_kept.specs.Kept.{KeptValue};
+
+    ghost Value = { KeptValue };
+
+    ghost view = { λ k. record { bounds = k.bounds; reasons = k.reasons.items; lines = k.first.items ++ k.later.items; base = length k.first.items } };
+
+    ghost invariant = { λ k. length k.reasons.items ≡ 2 * side_size };
+}
+
+/// The bounds and reasons of a table at one time, and how many lines it had.
+#[derive(Debug, Drop)]
+pub struct Saved {
+    bounds: Bounds,
+    reasons: Vec<usize>,
+    count: usize,
+}
+
+impl Model for Saved {
+    ghost use Rattle.std.specs.Prelude.{◌≡◌, ◌*◌, length};
+    ghost use Rattle.ct_slots.specs.Number.{side_size};
+    ghost use Rattle.ct_kept.specs.Kept.{SavedValue};
+
+    ghost Value = { SavedValue };
+
+    ghost view = { λ s. record { bounds = s.bounds; reasons = s.reasons.items; count = s.count } };
+
+    ghost invariant = { λ s. length s.reasons.items ≡ 2 * side_size };
+}
+
+/// The bounds and reasons of a base.
+#[derive(Debug, Drop)]
+pub struct Base {
+    bounds: Bounds,
+    reasons: Vec<usize>,
+}
+
+impl Model for Base {
+    ghost use Rattle.std.specs.Prelude.{◌≡◌, ◌*◌, length};
+    ghost use Rattle.ct_slots.specs.Number.{side_size};
+    ghost use Rattle.ct_kept.specs.Kept.{BaseValue};
+
+    ghost Value = { BaseValue };
+
+    ghost view = { λ b. record { bounds = b.bounds; reasons = b.reasons.items } };
+
+    ghost invariant = { λ b. length b.reasons.items ≡ 2 * side_size };
+}
+
+/// What was kept beside the lines of the base when it was set back: bounds, reasons and the lines that followed.
+#[derive(Debug, Drop)]
+pub struct Undo {
+    bounds: Bounds,
+    reasons: Vec<usize>,
+    later: Vec<Line>,
+}
+
+impl Model for Undo {
+    ghost use Rattle.std.specs.Prelude.{◌≡◌, ◌*◌, length};
+    ghost use Rattle.ct_slots.specs.Number.{side_size};
+    ghost use Rattle.ct_kept.specs.Kept.{UndoValue};
+
+    ghost Value = { UndoValue };
+
+    ghost view = { λ u. record { bounds = u.bounds; reasons = u.reasons.items; later = u.later.items } };
+
+    ghost invariant = { λ u. length u.reasons.items ≡ 2 * side_size };
+}
+
+impl Undo {
+    /// The lines that followed those of the base.
+    pub fn later(&self) -> &[Line]
+        ensures { result.now ≡ self.now.later }
+    {
+        &self.later
+    }
+}
+
+/// So many places, all 0. `Err` is want of memory.
+fn no_reasons(alloc: Global, count: usize) -> Result<Vec<usize>, AllocError>
+    ensures { IfOk result (λ v. v.items ≡ replicate count 0) }
+{
+    let mut numbers = Vec::with_capacity(alloc, count)?;
+    for _ in 0..count {
+        numbers.push(0)?;
+    }
+    Ok(numbers)
+}
+
+/// The sum class of an entry with weight, of distance 4, that has the most words, where it has more than one, found among the
+/// largest of the entry's length.
+fn class_from(entry: Entry, classes: &[LargestClass]) -> Option<LargestClass>
+    requires entry { IsEntry entry }
+    requires classes { AreLargest entry.n classes.now }
+    ensures { result ≡ (if starts_by_class entry then Some (class_of entry.n (weight_of entry)) else None) }
+{
+    let w = entry.w?;
+    let class = classes[w as usize];
+    if entry.d == 4 && class.size > 1 {
+        Some(class)
+    } else {
+        None
+    }
+}
+
+/// The rule that gives a bound of the side at each entry, with or without weight, whatever the supports, where no sum class
+/// gives it.
+fn plain_ground_rule(side: Side, entry: Entry) -> Rule
+    requires { side ≡ Lower → starts_by_class entry ≡ false }
+    ensures { result ≡ ground_rule (side, entry) }
+{
+    match (side, entry.w) {
+        (Side::Lower, None) => Rule::L1,
+        (Side::Lower, Some(_)) => Rule::M1,
+        (Side::Upper, None) => Rule::U0,
+        (Side::Upper, Some(_)) => Rule::V0,
+    }
+}
+
+/// The line that gives a bound of the side of an entry of the table, where no sum class gives it, whatever the supports, and
+/// rests on no other line.
+fn plain_ground_line(alloc: Global, side: Side, entry: Entry) -> Line
+    requires entry { IsEntry entry }
+    requires no_class { side ≡ Lower → starts_by_class entry ≡ false }
+    ensures value { ground_value (side, entry) ≡ Some result.claim.value }
+    ensures line { result ≡ ground_line (side, entry) result.claim.value }
+{
+    let rule = plain_ground_rule(side, entry);
+    let Some(value) = value(&[], rule, entry, &[]) else {
+        unreachable!()
+    };
+    Line {
+        claim: Claim { side, entry, value },
+        rule,
+        from: SmallVec::new(alloc),
+    }
+}
+
+/// The line that gives a bound of the side of an entry of the table whatever the supports, and rests on no other line. The
+/// largest sum classes are those of the entry's length.
+fn ground_line(alloc: Global, side: Side, entry: Entry, classes: &[LargestClass]) -> Line
+    requires entry { IsEntry entry }
+    requires classes { AreLargest entry.n classes.now }
+    ensures value { ground_value (side, entry) ≡ Some result.claim.value }
+    ensures line { result ≡ ground_line (side, entry) result.claim.value }
+{
+    match side {
+        Side::Upper => plain_ground_line(alloc, side, entry),
+        Side::Lower => match class_from(entry, classes) {
+            None => plain_ground_line(alloc, side, entry),
+            Some(class) => Line {
+                claim: Claim {
+                    side,
+                    entry,
+                    value: class.size,
+                },
+                rule: Rule::M9(class.residue),
+                from: SmallVec::new(alloc),
+            },
+        },
+    }
+}
+
+impl Kept {
+    /// The bound that stands on a side of an entry of the table.
+    pub fn bound(&self, side: Side, entry: Entry) -> u32
+        requires { IsEntry entry }
+        ensures { result ≡ bound_of self.now.bounds (side, entry) }
+    {
+        self.bounds.bound(side, entry)
+    }
+
+    /// The bounds that stand.
+    pub fn bounds(&self) -> &Bounds
+        ensures { result.now ≡ self.now.bounds }
+    {
+        &self.bounds
+    }
+
+    /// The place of the line that gives the bound of a side of an entry of the table.
+    pub fn reason(&self, side: Side, entry: Entry) -> usize
+        requires { IsEntry entry }
+        ensures { result ≡ reason_of self.now (side, entry) }
+    {
+        self.reasons[slot_number(side, entry)]
+    }
+
+    /// How many lines there are.
+    pub fn line_count(&self) -> usize
+        ensures { result ≡ length self.now.lines }
+    {
+        self.first.len() + self.later.len()
+    }
+
+    /// The line at a place.
+    pub fn line(&self, number: usize) -> &Line
+        requires { number < length self.now.lines }
+        ensures { slice_get self.now.lines number ≡ Some result.now }
+    {
+        if number < self.first.len() {
+            &self.first[number]
+        } else {
+            &self.later[number - self.first.len()]
+        }
+    }
+
+    /// Puts a line at the end; its claim is now the bound of its slot. After an `Err`, which is want of memory, all is as
+    /// before.
+    pub fn put(&mut self, line: Line) -> Result<(), AllocError>
+        requires { IsEntry line.claim.entry }
+        ensures put { OnOk result (self.new ≡ with_line_put self.old line) }
+        ensures unchanged { OnErr result (self.new ≡ self.old) }
+    {
+        let Claim { side, entry, value } = line.claim;
+        let number = slot_number(side, entry);
+        let place = self.first.len() + self.later.len();
+        self.later.push(line)?;
+        self.bounds.set(side, entry, value);
+        self.reasons[number] = place;
+        Ok(())
+    }
+
+    /// No lines, and 0 for each bound and reason. `Err` is want of memory.
+    pub fn empty(alloc: Global) -> Result<Kept, AllocError>
+        ensures bounds { IfOk result (λ kept. length kept.bounds ≡ 2 * side_size) }
+        ensures reasons { IfOk result (λ kept. length kept.reasons ≡ 2 * side_size) }
+        ensures lines { IfOk result (λ kept. kept.lines ≡ []) }
+        ensures base { IfOk result (λ kept. kept.base ≡ 0) }
+    {
+        Ok(Kept {
+            bounds: Bounds::zero(alloc)?,
+            reasons: no_reasons(alloc, SLOTS)?,
+            first: Vec::new(alloc),
+            later: Vec::new(alloc),
+        })
+    }
+
+    /// What is needed to take back what comes after. `Err` is want of memory.
+    pub fn save(&self, alloc: Global) -> Result<Saved, AllocError>
+        ensures { IfOk result (λ saved. saved ≡ record { bounds = self.now.bounds; reasons = self.now.reasons; count = length self.now.lines }) }
+    {
+        Ok(Saved {
+            bounds: self.bounds.try_copy(alloc)?,
+            reasons: Vec::from_slice(alloc, &self.reasons)?,
+            count: self.line_count(),
+        })
+    }
+
+    /// Takes back all that came after: the bounds and reasons are those that were saved, and the lines are as many as then.
+    pub fn restore(&mut self, saved: Saved)
+        requires lines { saved.count ≤ length self.now.lines }
+        requires base { self.now.base ≤ saved.count }
+        ensures { self.new ≡ record { bounds = saved.bounds; reasons = saved.reasons; lines = take saved.count self.old.lines; base = self.old.base } }
+    {
+        self.bounds = saved.bounds;
+        self.reasons = saved.reasons;
+        self.later.truncate(saved.count - self.first.len());
+    }
+
+    /// Makes all lines those of the base, where it has none yet, and gives its bounds and reasons. After an `Err`, which is
+    /// want of memory, all is as before.
+    pub fn begin(&mut self, alloc: Global) -> Result<Base, AllocError>
+        requires { self.now.base ≡ 0 }
+        ensures base { IfOk result (λ base. base ≡ record { bounds = self.old.bounds; reasons = self.old.reasons }) }
+        ensures begun { OnOk result (self.new ≡ record { bounds = self.old.bounds; reasons = self.old.reasons; lines = self.old.lines; base = length self.old.lines }) }
+        ensures unchanged { OnErr result (self.new ≡ self.old) }
+    {
+        let base = Base {
+            bounds: self.bounds.try_copy(alloc)?,
+            reasons: Vec::from_slice(alloc, &self.reasons)?,
+        };
+        mem::swap(&mut self.first, &mut self.later);
+        Ok(base)
+    }
+
+    /// Sets back to the base: its bounds and reasons, and its lines alone. Gives what is needed to put back what was there.
+    /// After an `Err`, which is want of memory, all is as before.
+    pub fn set_back(&mut self, base: &Base, alloc: Global) -> Result<Undo, AllocError>
+        ensures back { OnOk result (self.new ≡ set_back base.now self.old) }
+        ensures undo { IfOk result (λ undo. undo ≡ record { bounds = self.old.bounds; reasons = self.old.reasons; later = drop self.old.base self.old.lines }) }
+        ensures unchanged { OnErr result (self.new ≡ self.old) }
+    {
+        let bounds = base.bounds.try_copy(alloc)?;
+        let reasons = Vec::from_slice(alloc, &base.reasons)?;
+        Ok(Undo {
+            bounds: mem::replace(&mut self.bounds, bounds),
+            reasons: mem::replace(&mut self.reasons, reasons),
+            later: mem::replace(&mut self.later, Vec::new(alloc)),
+        })
+    }
+
+    /// Puts back what was there beside the lines of the base. It takes no memory.
+    pub fn put_back(&mut self, undo: Undo)
+        ensures { self.new ≡ record { bounds = undo.bounds; reasons = undo.reasons; lines = take self.old.base self.old.lines ++ undo.later; base = self.old.base } }
+    {
+        self.bounds = undo.bounds;
+        self.reasons = undo.reasons;
+        self.later = undo.later;
+    }
+
+    /// Whether the rule of a line after those of the base names a support at a marked place.
+    pub fn names(&self, gone: &[bool]) -> bool
+        ensures { (result ≡ false) ↔ All (λ l. names_one (marked gone.now) (place_of l.rule) ≡ false) (drop self.now.base self.now.lines) }
+    {
+        names_place(&self.later, gone)
+    }
+
+    /// Lowers the rule of each line after those of the base, as it is over the supports that are left once those at the marked
+    /// places are taken out. It takes no memory.
+    pub fn lower(&mut self, gone: &[bool])
+        ensures { self.new ≡ record { bounds = self.old.bounds; reasons = self.old.reasons; lines = take self.old.base self.old.lines ++ map (lowered_line (marked gone.now)) (drop self.old.base self.old.lines); base = self.old.base } }
+    {
+        lower_lines(&mut self.later, gone);
+    }
+
+    /// Puts the ground lines of the side of all entries of the length n. `Err` is want of memory.
+    fn start_length(&mut self, alloc: Global, side: Side, n: u32) -> Result<(), AllocError>
+        requires from { 1 ≤ n }
+        requires to { n ≤ MAX_N }
+        requires before { IsStarted (side_number side * side_size + entries_to (n - 1)) self.now }
+        ensures { OnOk result (IsStarted (side_number side * side_size + entries_to n) self.new) }
+    {
+        let classes = largest_sum_classes(n);
+        for place in 0..count_in_length(n) {
+            self.put(ground_line(alloc, side, entry_in(n, place), &classes))?;
+        }
+        Ok(())
+    }
+
+    /// Puts the ground lines of the side of all entries of the table. `Err` is want of memory.
+    fn start_side(&mut self, alloc: Global, side: Side) -> Result<(), AllocError>
+        requires { IsStarted (side_number side * side_size) self.now }
+        ensures { OnOk result (IsStarted (side_number side * side_size + side_size) self.new) }
+    {
+        for n in 1..MAX_N + 1 {
+            self.start_length(alloc, side, n)?;
+        }
+        Ok(())
+    }
+
+    /// A bound for each side of each entry of the table, by a rule that rests on nothing. `Err` is want of memory.
+    pub fn start(alloc: Global) -> Result<Kept, AllocError>
+        ensures kept { IfOk result (λ kept. (supports : List Support) → IsKept supports kept) }
+        ensures base { IfOk result (λ kept. kept.base ≡ 0) }
+    {
+        let mut kept = Kept::empty(alloc)?;
+        kept.start_side(alloc, Side::Lower)?;
+        kept.start_side(alloc, Side::Upper)?;
+        Ok(kept)
+    }
+}

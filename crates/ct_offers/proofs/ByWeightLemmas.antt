@@ -1,0 +1,147 @@
+-- The rules that lead from entries with weight to those without, in the closing of a table.
+use Rattle.std.proofs.Common.{◌≡◌, ℕ, ◌≤◌, List, Some, None, true, false, refl, sym, subst, ◌∙◌}
+use Rattle.std.specs.Prelude.{Option}
+use Rattle.std.proofs.lemmas.Bool.{and_parts, false≢true}
+use Rattle.std.proofs.lemmas.Option.{same_Some}
+use Rattle.ct_codes.specs.declared.claim.Side.{Side}
+use Rattle.ct_codes.specs.declared.claim.Side.TheVariants.{Lower, Upper}
+use Rattle.ct_codes.specs.declared.entry.Entry.{Entry}
+use Rattle.ct_codes.specs.Entry.{is_entry}
+use Rattle.ct_codes.proofs.EntryLemmas.{entry_limits}
+use Rattle.ct_rule_parts.specs.declared.support.Support.{Support}
+use Rattle.ct_rule_parts.specs.Slot.{Slot}
+use Rattle.ct_rule_parts.proofs.PlainEntries.{one_item, two_items}
+use Rattle.ct_weight_rules.specs.Neighbours.{of_weight, even_of_weight, around, unweighted, unweighted_and_nearer}
+use Rattle.ct_weight_rules.specs.WithoutWeight.{without_weight}
+use Rattle.ct_weight_rules.specs.Averaging.{averaging}
+use Rattle.ct_weight_rules.specs.Johnson.{johnson}
+use Rattle.ct_rules.specs.declared.rule.Rule.{Rule}
+use Rattle.ct_rules.specs.declared.rule.Rule.TheVariants.{L9, U9, U10}
+use Rattle.ct_rules.specs.Rule.{row_of, rule_side, is_by_weight, applies}
+use Rattle.ct_rules.proofs.Applied.{defined}
+use Rattle.ct_rules.proofs.LawfulRows.{lawful}
+use Rattle.ct_slots.specs.Worklist.{WorkValue}
+use Rattle.ct_offers.specs.Inside.Marking.{KeepsMarks, IsTestedAt, AreTestedByWeight}
+use Rattle.ct_offers.specs.Offers.{IsWithin}
+use Rattle.ct_offers.proofs.MarkingLemmas.{tested_at_more}
+use Rattle.ct_offers.proofs.PullingLemmas.{over-applies}
+
+-- they are defined at entries without weight alone
+plain_alone : (supports : List Support) (r : Rule) (n d k : ℕ) → is_by_weight r ≡ true
+    → applies supports r (record { n = n; d = d; w = Some k }) ≡ true → false ≡ true
+unfolding row_of
+plain_alone supports (L9 v) n d k by here = (defined (without_weight v) (record { n = n; d = d; w = Some k }) here).condition
+plain_alone supports U9 n d k by here = (defined johnson (record { n = n; d = d; w = Some k }) here).condition
+plain_alone supports (U10 v) n d k by here = (defined (averaging v) (record { n = n; d = d; w = Some k }) here).condition
+plain_alone supports r n d k by here = absurd (false≢true by)
+
+pub by_weight_none : (supports : List Support) (f : Slot → ℕ) (side : Side) (e : Entry) (k best : ℕ) → e.w ≡ Some k
+    → (r : Rule) → is_by_weight r ≡ true → IsWithin supports f (side, e) best r
+by_weight_none supports f side e k best weight r by v value =
+    let here : applies supports r (record { n = e.n; d = e.d; w = e.w }) ≡ true = over-applies supports f r e v value in
+    absurd (false≢true (plain_alone supports r e.n e.d k by
+    (subst (λ (w : Option ℕ). applies supports r (record { n = e.n; d = e.d; w = w }) ≡ true) weight here)))
+
+-- the weight of the entry that they rest on is not above the length
+below_length : (supports : List Support) (v : ℕ) (e : Entry) → applies supports (L9 v) e ≡ true → v ≤ e.n
+unfolding row_of
+below_length supports v e here =
+    (entry_limits (even_of_weight e v) (and_parts (is_entry (even_of_weight e v)) true (defined (without_weight v) e here).premises).0).weight.2
+
+above_length : (supports : List Support) (v : ℕ) (e : Entry) → applies supports (U10 v) e ≡ true → v ≤ e.n
+unfolding row_of
+above_length supports v e here =
+    (entry_limits (of_weight e v) (and_parts (is_entry (of_weight e v)) true (defined (averaging v) e here).premises).0).weight.2
+
+-- all of a side
+pub by_weight_below : (supports : List Support) (f : Slot → ℕ) (e : Entry) (best : ℕ)
+    → ((w : ℕ) → w ≤ e.n → IsWithin supports f (Lower, e) best (L9 w)) → (r : Rule) → is_by_weight r ≡ true
+    → rule_side r ≡ Lower → IsWithin supports f (Lower, e) best r
+unfolding row_of
+by_weight_below supports f e best within (L9 w) by side = λ v value.
+    within w (below_length supports w e (over-applies supports f (L9 w) e v value)) v value
+by_weight_below supports f e best within U9 by side = let clash : Upper ≡ Lower = side in absurd cc
+by_weight_below supports f e best within (U10 w) by side = let clash : Upper ≡ Lower = side in absurd cc
+by_weight_below supports f e best within r by side = absurd (false≢true by)
+
+pub by_weight_above : (supports : List Support) (f : Slot → ℕ) (e : Entry) (best : ℕ) → IsWithin supports f (Upper, e) best U9
+    → ((w : ℕ) → w ≤ e.n → IsWithin supports f (Upper, e) best (U10 w)) → (r : Rule) → is_by_weight r ≡ true
+    → rule_side r ≡ Upper → IsWithin supports f (Upper, e) best r
+unfolding row_of
+by_weight_above supports f e best own within (U10 w) by side = λ v value.
+    within w (above_length supports w e (over-applies supports f (U10 w) e v value)) v value
+by_weight_above supports f e best own within U9 by side = own
+by_weight_above supports f e best own within (L9 w) by side = let clash : Lower ≡ Upper = side in absurd cc
+by_weight_above supports f e best own within r by side = absurd (false≢true by)
+
+-- from one side to its name
+pub by_weight_on : (supports : List Support) (f : Slot → ℕ) (side own : Side) (e : Entry) (best : ℕ) → side ≡ own
+    → ((r : Rule) → is_by_weight r ≡ true → rule_side r ≡ own → IsWithin supports f (own, e) best r)
+    → (r : Rule) → is_by_weight r ≡ true → rule_side r ≡ side → IsWithin supports f (side, e) best r
+by_weight_on supports f side own e best same each =
+    subst (λ (s : Side). (r : Rule) → is_by_weight r ≡ true → rule_side r ≡ s → IsWithin supports f (s, e) best r) (sym same) each
+
+-- an entry that rests on one with a weight by such a rule is one of two, and the rule has that weight
+pub tested_below : (supports : List Support) (bounds : List ℕ) (work : WorkValue) (f : Entry) (w : ℕ) → f.w ≡ Some w
+    → IsTestedAt supports bounds work (L9 w) (unweighted f) → IsTestedAt supports bounds work (L9 w) (unweighted_and_nearer f)
+    → AreTestedByWeight supports bounds work (Lower, f)
+unfolding row_of
+tested_below supports bounds work f w weight same nearer (L9 v) e by side here rests =
+    let named : f.w ≡ Some v = one_item (λ g. g.w ≡ Some v) (even_of_weight e v) f refl rests in
+    let is : w ≡ v = same_Some w v (sym weight ∙ named) in
+    subst (λ u. IsTestedAt supports bounds work (L9 u) e) is
+    (two_items (λ g. IsTestedAt supports bounds work (L9 w) g) (unweighted f) (unweighted_and_nearer f) e same nearer
+    ((lawful (L9 v) None).dependents e f here rests))
+tested_below supports bounds work f w weight same nearer U9 e by side here rests = let clash : Upper ≡ Lower = side in absurd cc
+tested_below supports bounds work f w weight same nearer (U10 v) e by side here rests = let clash : Upper ≡ Lower = side in absurd cc
+tested_below supports bounds work f w weight same nearer r e by side here rests = absurd (false≢true by)
+
+pub tested_above : (supports : List Support) (bounds : List ℕ) (work : WorkValue) (f : Entry) (w : ℕ) → f.w ≡ Some w
+    → IsTestedAt supports bounds work (U10 w) (unweighted f) → IsTestedAt supports bounds work U9 (unweighted_and_nearer f)
+    → AreTestedByWeight supports bounds work (Upper, f)
+unfolding row_of
+tested_above supports bounds work f w weight same nearer (U10 v) e by side here rests =
+    let named : f.w ≡ Some v = one_item (λ g. g.w ≡ Some v) (of_weight e v) f refl rests in
+    let is : w ≡ v = same_Some w v (sym weight ∙ named) in
+    subst (λ u. IsTestedAt supports bounds work (U10 u) e) is
+    (one_item (λ g. IsTestedAt supports bounds work (U10 w) g) (unweighted f) e same ((lawful (U10 v) None).dependents e f here rests))
+tested_above supports bounds work f w weight same nearer U9 e by side here rests =
+    one_item (λ g. IsTestedAt supports bounds work U9 g) (unweighted_and_nearer f) e nearer ((lawful U9 None).dependents e f here rests)
+tested_above supports bounds work f w weight same nearer (L9 v) e by side here rests = let clash : Lower ≡ Upper = side in absurd cc
+tested_above supports bounds work f w weight same nearer r e by side here rests = absurd (false≢true by)
+
+-- none rests on an entry without weight
+pub tested_by_none : (supports : List Support) (bounds : List ℕ) (work : WorkValue) (side : Side) (f : Entry) → f.w ≡ None
+    → AreTestedByWeight supports bounds work (side, f)
+unfolding row_of
+tested_by_none supports bounds work side f none (L9 v) e by same here rests =
+    let named : f.w ≡ Some v = one_item (λ g. g.w ≡ Some v) (even_of_weight e v) f refl rests in
+    let clash : None ≡ Some v = sym none ∙ named in absurd cc
+tested_by_none supports bounds work side f none U9 e by same here rests =
+    let named : f.w ≡ Some e.d = one_item (λ g. g.w ≡ Some e.d) (around e) f refl rests in
+    let clash : None ≡ Some e.d = sym none ∙ named in absurd cc
+tested_by_none supports bounds work side f none (U10 v) e by same here rests =
+    let named : f.w ≡ Some v = one_item (λ g. g.w ≡ Some v) (of_weight e v) f refl rests in
+    let clash : None ≡ Some v = sym none ∙ named in absurd cc
+tested_by_none supports bounds work side f none r e by same here rests = absurd (false≢true by)
+
+-- both were tested, one after the other
+pub marked_below : (supports : List Support) (bounds : List ℕ) (first second : WorkValue) (side : Side) (f same nearer : Entry) (w : ℕ)
+    → side ≡ Lower → f.w ≡ Some w → same ≡ unweighted f → nearer ≡ unweighted_and_nearer f → KeepsMarks first second
+    → IsTestedAt supports bounds first (L9 w) same → IsTestedAt supports bounds second (L9 w) nearer
+    → AreTestedByWeight supports bounds second (side, f)
+marked_below supports bounds first second side f same nearer w low weight is_same is_nearer keeps one other =
+    subst (λ (s : Side). AreTestedByWeight supports bounds second (s, f)) (sym low)
+    (tested_below supports bounds second f w weight
+    (subst (IsTestedAt supports bounds second (L9 w)) is_same (tested_at_more supports bounds first second (L9 w) same keeps one))
+    (subst (IsTestedAt supports bounds second (L9 w)) is_nearer other))
+
+pub marked_above : (supports : List Support) (bounds : List ℕ) (first second : WorkValue) (side : Side) (f same nearer : Entry) (w : ℕ)
+    → side ≡ Upper → f.w ≡ Some w → same ≡ unweighted f → nearer ≡ unweighted_and_nearer f → KeepsMarks first second
+    → IsTestedAt supports bounds first (U10 w) same → IsTestedAt supports bounds second U9 nearer
+    → AreTestedByWeight supports bounds second (side, f)
+marked_above supports bounds first second side f same nearer w up weight is_same is_nearer keeps one other =
+    subst (λ (s : Side). AreTestedByWeight supports bounds second (s, f)) (sym up)
+    (tested_above supports bounds second f w weight
+    (subst (IsTestedAt supports bounds second (U10 w)) is_same (tested_at_more supports bounds first second (U10 w) same keeps one))
+    (subst (IsTestedAt supports bounds second U9) is_nearer other))

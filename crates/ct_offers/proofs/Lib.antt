@@ -1,0 +1,12 @@
+pub mod SatisfiedLemmas
+pub mod PullingLemmas
+pub mod ByWeightLemmas
+pub mod DependentLemmas
+pub mod SideBySideLemmas
+pub mod PulledLemmas
+pub mod LimitLemmas
+pub mod MarkingLemmas
+pub mod RowLemmas
+pub mod DualLemmas
+pub mod TestedLemmas
+pub mod GroundedLemmas

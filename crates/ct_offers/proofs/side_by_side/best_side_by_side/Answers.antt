@@ -1,0 +1,48 @@
+use Rattle.std.proofs.Common.{[], subst, sym, arith, inl, inr}
+use Rattle.std.proofs.lemmas.Bool.{cases_eq, cases_lt}
+use Rattle.ct_codes.specs.declared.claim.Side.TheVariants.{Lower}
+use Rattle.ct_rules.specs.declared.rule.Rule.TheVariants.{L11}
+use Rattle.ct_slots.specs.Number.{bound_of}
+use Rattle.ct_offers.specs.Offers.{IsWithin}
+use Rattle.ct_offers.proofs.PulledLemmas.{IsPulled-trans, within_better}
+use Rattle.ct_offers.proofs.SideBySideLemmas.{lengths_enough}
+use Rattle.ct_offers.proofs.side_by_side.best_side_by_side.Goals as goal
+
+pub best_with_first-requires-clause-some : goal.best_with_first-requires-clause-some
+best_with_first-requires-clause-some c =
+    let better = (c.loop-m.invariant.0 []).no_worse in
+    let some = c.requires.some in
+    omega (arith, better, some)
+
+pub loop-m-preserved : goal.loop-m-preserved
+loop-m-preserved c =
+    let f = bound_of c.args.bounds.now in
+    let e = c.args.entry in
+    let old = c.loop-m.best in
+    let new = c.best_with_first.new.best in (
+      λ supports. IsPulled-trans supports f (Lower, e) c.args.best.now old new (c.loop-m.invariant.0 supports) (c.best_with_first.ensures.pulled supports),
+      λ supports m k from below. elim (cases_eq m c.loop-m.m) [
+        | inl here ↦ subst (λ i. IsWithin supports f (Lower, e) new.value (L11 i k)) (sym here) (c.best_with_first.ensures.within supports k)
+        | inr other ↦
+            within_better supports f (Lower, e) old.value new.value (L11 m k) (c.best_with_first.ensures.pulled supports).no_worse
+            (c.loop-m.invariant.1 supports m k from (omega arith))
+      ],
+    )
+
+pub returns-clause-within : goal.returns-clause-within
+returns-clause-within c =
+    let f = bound_of c.args.bounds.now in
+    let e = c.args.entry in
+    λ supports m k.
+    let better = (c.loop-m.invariant.0 supports).no_worse in
+    let some = c.requires.some in
+    let last = c.saturating_sub-m-end.ensures in
+    elim (cases_lt m 3) [
+      | inl short ↦ lengths_enough supports f m k e c.loop-m.best.value c.requires.true_bounds (omega (arith, better, some)) (inl short)
+      | inr from ↦ elim (cases_lt m c.loop-m.m) [
+        | inl below ↦ c.loop-m.invariant.1 supports m k from below
+        | inr above ↦
+            lengths_enough supports f m k e c.loop-m.best.value c.requires.true_bounds (omega (arith, better, some))
+            (inr (omega (arith, above, last, c.loop-m-test.false)))
+      ]
+    ]

@@ -1,0 +1,11 @@
+//! What the rules give at a slot over the bounds that stand: the best of it, and the slots that are marked for it.
+#![tactic(auto)]
+
+mod best;
+mod marking;
+mod pulling;
+mod side_by_side;
+
+pub use best::{Best, is_better};
+pub use marking::mark_dependents;
+pub use pulling::{best_offer, given_rule, offer};
