@@ -9,7 +9,7 @@ use Rattle.ct_rules.proofs.Derivations.{derived_from_line, derived_claims_are_tr
 use Rattle.ct_derive.specs.Derivation.{AreOrdered}
 use Rattle.ct_derive.specs.Explanation.{IsExplanation}
 use Rattle.ct_derive.proofs.MarkedLines.{named_below_line}
-use Rattle.ct_derive.proofs.TableLines.{line_with_claim}
+use Rattle.ct_derive.proofs.ClaimedLines.{line_with_claim}
 
 pub derived_from_explanation : (supports : List Support) (s : Slot) (v : ℕ) (lines : List LineValue)
     → IsExplanation supports s v lines → IsDerived supports (claim_at s v)

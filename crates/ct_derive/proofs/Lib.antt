@@ -1,7 +1,7 @@
 pub mod PrunedLines
 pub mod MarkedLines
 pub mod MergedLines
-pub mod TableLines
+pub mod ClaimedLines
 pub mod NeededPieces
 pub mod NumberedLines
 pub mod CheckedLines

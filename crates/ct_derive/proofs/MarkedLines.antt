@@ -7,7 +7,7 @@ use Rattle.std.proofs.lemmas.List.{length-replicate, length-set, get_or-set_same
 use Rattle.std.proofs.lemmas.List.Elements.{All-nil, All-cons, All-head, All-tail, All-weaker}
 use Rattle.ct_rule_parts.specs.declared.support.Support.{Support}
 use Rattle.ct_rules.specs.Derivation.{LineValue, IsDerivation}
-use Rattle.ct_derive.specs.Inside.Pruning.{is_marked, with_marks, IsNamedByMarked, AreMarkedFrom, AreMarked}
+use Rattle.ct_derive.specs.Pruning.{is_marked, with_marks, IsNamedByMarked, AreMarkedFrom, AreMarked}
 use Rattle.ct_derive.proofs.PrunedLines.{some_at}
 
 -- a marked place is one of the list

@@ -18,7 +18,7 @@ use Rattle.ct_rules.specs.Derivation.{LineValue, claims_at, Follows, IsDerivatio
 use Rattle.ct_rule_parts.proofs.Places.{IsAtSeam, slice_get-take, slice_get-append_left, slice_get-append_cases, slice_get_last}
 use Rattle.ct_rules.proofs.Derivations.{derivation-nil, derivation-take, derivation-push}
 use Rattle.ct_derive.specs.Explanation.{IsExplanation}
-use Rattle.ct_derive.specs.Inside.Pruning.{pruned, unmarked}
+use Rattle.ct_derive.specs.Pruning.{pruned, unmarked}
 use Rattle.ct_derive.proofs.PrunedLines.{some_at, get_of_take, pairs_from_places, pair_at_places, explanation_of_last}
 use Rattle.ct_derive.proofs.MarkedLines.{marks_exist}
 

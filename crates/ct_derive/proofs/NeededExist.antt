@@ -11,7 +11,7 @@ use Rattle.ct_rules.specs.Derivation.{LineValue, IsDerived}
 use Rattle.ct_derive.specs.Derivation.{DerivationValue}
 use Rattle.ct_derive.specs.Explanation.{IsExplanation}
 use Rattle.ct_derive.specs.Pieces.{cited_places, AreEarlier, AreNeeded}
-use Rattle.ct_derive.specs.Inside.Pruning.{is_marked, with_marks, ArePlacesBelow}
+use Rattle.ct_derive.specs.Pruning.{is_marked, with_marks, ArePlacesBelow}
 use Rattle.ct_derive.specs.Inside.Needed.{AreMarkedPieces}
 use Rattle.ct_derive.proofs.PrunedLines.{some_at, under}
 use Rattle.ct_derive.proofs.MarkedLines.{marked-within}

@@ -16,7 +16,7 @@ use Rattle.ct_rules.proofs.Applied.{applies_from_premises}
 use Rattle.ct_rules.proofs.LoweredRules.{support_there}
 use Rattle.ct_derive.specs.Pieces.{cited_places, parts_at, IsNeeded, AreNeeded}
 use Rattle.ct_derive.specs.Pieces.IsNeeded.{by_line, by_piece}
-use Rattle.ct_derive.specs.Inside.Pruning.{is_marked, with_marks}
+use Rattle.ct_derive.specs.Pruning.{is_marked, with_marks}
 use Rattle.ct_derive.specs.Inside.Needed.{AreMarkedPieces}
 use Rattle.ct_derive.proofs.MarkedLines.{length-with_marks, with_marks-kept, with_marks-there, with_marks-cases, none-marked}
 

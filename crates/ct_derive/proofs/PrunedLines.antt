@@ -13,7 +13,7 @@ use Rattle.ct_rules.specs.Derivation.{LineValue, claims_at, Follows, IsDerivatio
 use Rattle.ct_rules.specs.Removal.{Places, without, count_below, lowered_place}
 use Rattle.ct_rules.proofs.WithoutLemmas.{was_at, slice_get-without, without-out, without-in}
 use Rattle.ct_derive.specs.Explanation.{IsNamedLater, IsExplanation}
-use Rattle.ct_derive.specs.Inside.Pruning.{is_marked, unmarked, moved_line, renumbered, pruned, AreMarked, IsNamedByMarked, ArePlacesLeft}
+use Rattle.ct_derive.specs.Pruning.{is_marked, unmarked, moved_line, renumbered, pruned, AreMarked, IsNamedByMarked, ArePlacesLeft}
 
 -- places that stay keep their order
 count_le : (gone : Places) (p : ℕ) → count_below gone p ≤ p

@@ -1,3 +1,2 @@
 -- Words that the contracts of inner functions alone cite.
-pub mod Pruning
 pub mod Needed

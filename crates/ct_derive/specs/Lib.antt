@@ -1,7 +1,9 @@
 pub mod Explanation
 pub mod Pieces
 pub mod Derivation
+pub mod Pruning
 pub mod Check
 pub mod Text
 pub mod Examples
 pub mod Inside
+pub mod Listed

@@ -1,24 +1,22 @@
-//! Bounds followed to their reasons.
+//! Explanations of bounds: lines and the pieces that they need, their documents, and the check of a stated line; no table.
 #![tactic(auto)]
 
 mod check;
 mod derivation;
-mod explaining;
 mod laws;
-mod marking;
 mod marks;
 mod needed;
 mod parts;
 mod printing;
-mod pruning;
 mod text;
 
 pub use check::{LineFault, add_line, line_fault};
 pub use derivation::Derivation;
-pub use explaining::{explain, lines_to};
 pub use laws::{
     bounds_can_be_shown, explanations_are_true, explanations_exist, known_explanations,
     known_faults, known_texts, lines_without_fault_follow,
 };
+pub use marks::mark;
+pub use needed::needed_pieces;
 pub use parts::Parts;
 pub use printing::{ShownPiece, print};

@@ -2,12 +2,12 @@
 
 ghost use Rattle.std.specs.Prelude.{◌≡◌, ◌↔◌, ◌<◌, ◌^◌, ℕ, true, All, Contains, IfOk, length};
 ghost use Rattle.std.specs.List.Sorted.{IsStrictlyIncreasing};
-ghost use Rattle.ct_derive.specs.Inside.Pruning.{is_marked, with_marks};
+ghost use Rattle.ct_derive.specs.Pruning.{is_marked, with_marks};
 
 use std::alloc::{AllocError, Global};
 
 /// Marks the places.
-pub(crate) fn mark(marks: &mut [bool], places: &[usize])
+pub fn mark(marks: &mut [bool], places: &[usize])
     requires { All (λ p. p < length marks.old) places.now }
     ensures { marks.new ≡ with_marks places.now marks.old }
 {

@@ -6,7 +6,7 @@ ghost use Rattle.ct_rules.specs.Derivation.{LineValue};
 ghost use Rattle.ct_rules.specs.Rule.{place_of};
 ghost use Rattle.ct_derive.specs.Pieces.{cited_places, AreEarlier, AreNeeded};
 ghost use Rattle.ct_derive.specs.Inside.Needed.{AreMarkedPieces};
-ghost use Rattle.ct_derive.specs.Inside.Pruning.{with_marks};
+ghost use Rattle.ct_derive.specs.Pruning.{with_marks};
 
 use crate::marks::{mark, marked_places};
 use crate::parts::Parts;
@@ -84,11 +84,7 @@ fn needed_marks(alloc: Global, parts: &[Parts], lines: &[Line]) -> Result<Vec<bo
 }
 
 /// The places of the pieces that the lines need, ascending. `Err` is want of memory.
-pub(crate) fn needed_pieces(
-    alloc: Global,
-    parts: &[Parts],
-    lines: &[Line],
-) -> Result<Vec<u32>, AllocError>
+pub fn needed_pieces(alloc: Global, parts: &[Parts], lines: &[Line]) -> Result<Vec<u32>, AllocError>
     requires few { length parts.now < 2 ^ 32 }
     requires cited { All (λ p. p < length parts.now) (cited_places lines.now) }
     requires earlier { AreEarlier parts.now }

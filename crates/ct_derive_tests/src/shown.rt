@@ -1,7 +1,8 @@
 //! A bound that is shown.
 
 use ct_codes::{Entry, Side};
-use ct_derive::{Parts, ShownPiece, explain, print};
+use ct_derive::{Parts, ShownPiece, print};
+use ct_reasons::explain;
 use ct_table::Table;
 use ct_text::Id;
 use std::alloc::{AllocError, Global};

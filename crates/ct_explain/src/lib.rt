@@ -1,11 +1,10 @@
-//! The bounds of a ledger followed to their reasons: its pieces of evidence, and lines by the rules.
+//! Explanations over pieces of evidence: the parts of pieces, what explains a bound of them, and its document; no table.
 #![tactic(auto)]
 
-mod explaining;
 mod laws;
 mod parts;
 mod printing;
 
-pub use explaining::explain;
 pub use laws::{bounds_are_explained, explained_bounds_are_true, parts_are_named_pieces};
+pub use parts::parts_of_each;
 pub use printing::print;

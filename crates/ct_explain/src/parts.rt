@@ -6,7 +6,7 @@ ghost use Rattle.ct_explain.specs.Parts.{part_places, parts_of_each};
 
 use ct_derive::Parts;
 use ct_evidence::Evidence;
-use ct_ledger::Piece;
+use ct_pieces::Piece;
 use smallvec::SmallVec;
 use std::alloc::{AllocError, Global};
 
@@ -45,7 +45,7 @@ fn part_places(alloc: Global, pieces: &[Piece], piece: &Piece) -> Result<Parts, 
 }
 
 /// The places of the parts of each of the pieces. `Err` is want of memory.
-pub(crate) fn parts_of_each(alloc: Global, pieces: &[Piece]) -> Result<Vec<Parts>, AllocError>
+pub fn parts_of_each(alloc: Global, pieces: &[Piece]) -> Result<Vec<Parts>, AllocError>
     ensures { IfOk result (λ parts. parts.items ≡ parts_of_each pieces.now) }
 {
     let mut parts = Vec::new(alloc);

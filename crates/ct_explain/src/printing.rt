@@ -5,7 +5,7 @@ ghost use Rattle.ct_derive.specs.Derivation.{AreOrdered};
 ghost use Rattle.ct_explain.specs.Explained.{explanation_text};
 
 use ct_derive::{Derivation, ShownPiece};
-use ct_ledger::{Ledger, Piece};
+use ct_pieces::Piece;
 use ct_text::Id;
 use std::alloc::{AllocError, Global};
 use std::marker::Model;
@@ -49,12 +49,16 @@ fn shown_pieces<'a>(alloc: Global, pieces: &'a [Piece]) -> Result<Vec<Shown<'a>>
     Ok(shown)
 }
 
-/// The document of a derivation over the pieces of the ledger: those that it needs with their own ids, each with its document byte for
-/// byte, and its lines. `Err` is want of memory.
-pub fn print(alloc: Global, ledger: &Ledger, derivation: &Derivation) -> Result<Vec<u8>, AllocError>
+/// The document of a derivation over the pieces: those that it needs with their own ids, each with its document byte for byte, and its
+/// lines. `Err` is want of memory.
+pub fn print(
+    alloc: Global,
+    pieces: &[Piece],
+    derivation: &Derivation,
+) -> Result<Vec<u8>, AllocError>
     requires { AreOrdered derivation.now.lines }
-    ensures { IfOk result (λ text. text.items ≡ explanation_text ledger.now.pieces derivation.now) }
+    ensures { IfOk result (λ text. text.items ≡ explanation_text pieces.now derivation.now) }
 {
-    let shown = shown_pieces(alloc, ledger.pieces())?;
+    let shown = shown_pieces(alloc, pieces)?;
     ct_derive::print(alloc, &shown, derivation)
 }

@@ -36,11 +36,12 @@ use Rattle.ct_pieces.specs.declared.fault.WithdrawFault.TheVariants as withdraw
 use Rattle.ct_pieces.proofs.CodeLemmas.{AreMade-back}
 use Rattle.ct_pieces.proofs.StandingLemmas.{WasMade, submitted-ok, submitted-from, piece_from-names, piece_from-within}
 use Rattle.ct_pieces.proofs.Accepting.{not_taken}
-use Rattle.ct_session.specs.Reply.{pieces_after, submission_reply, is_refusal}
+use Rattle.ct_session.specs.Reply.{pieces_after, submission_reply}
+use Rattle.ct_replies.specs.Refusals.{is_refusal}
 use Rattle.ct_session.specs.Run.{AreReplies, AnswersCommands, IsRun, pieces_of}
-use Rattle.ct_session.specs.Text.{reply_text}
-use Rattle.ct_session.specs.declared.reply.Reply.{Reply}
-use Rattle.ct_session.specs.declared.reply.Reply.TheVariants.{Accepted}
+use Rattle.ct_replies.specs.Text.{reply_text}
+use Rattle.ct_replies.specs.declared.reply.Reply.{Reply}
+use Rattle.ct_replies.specs.declared.reply.Reply.TheVariants.{Accepted}
 use Rattle.ct_laws.specs.Acceptance.{acceptance_text}
 
 -- the command that a piece is dumped as

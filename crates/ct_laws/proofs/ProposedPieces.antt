@@ -43,7 +43,7 @@ use Rattle.ct_pieces.specs.Standing.{AreMade, AreStanding}
 use Rattle.ct_pieces.specs.declared.limits.TheConstants.{MAX_PIECES}
 use Rattle.ct_session.specs.Reply.{pieces_after}
 use Rattle.ct_session.specs.Run.{AnswersCommands, IsRun, pieces_of}
-use Rattle.ct_session.specs.Text.{reply_text}
+use Rattle.ct_replies.specs.Text.{reply_text}
 use Rattle.ct_laws.specs.Acceptance.{acceptance_text}
 use Rattle.ct_laws.specs.Proposed.{IsProposed, AreProposed, taken_text}
 use Rattle.ct_laws.proofs.DumpPieces.{AreShort, submission_of, piece_dump-command, brought_back, submissions_are_accepted}

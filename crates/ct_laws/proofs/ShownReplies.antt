@@ -16,10 +16,10 @@ use Rattle.ct_pieces.specs.Standing.{AreStanding}
 use Rattle.ct_pieces.specs.Supports.{supports_of}
 use Rattle.ct_rule_codes.specs.CodeEntry.{entry_of}
 use Rattle.ct_session.specs.Reply.{AreBoundsOf, IsShowReply, IsExplainReply, IsListReply}
-use Rattle.ct_session.specs.Text.{code_text}
-use Rattle.ct_session.specs.declared.reply.Bounds.{Bounds}
-use Rattle.ct_session.specs.declared.reply.Reply.{Reply}
-use Rattle.ct_session.specs.declared.reply.Reply.TheVariants.{Shown, Lines}
+use Rattle.ct_replies.specs.Text.{code_text}
+use Rattle.ct_replies.specs.declared.reply.Bounds.{Bounds}
+use Rattle.ct_replies.specs.declared.reply.Reply.{Reply}
+use Rattle.ct_replies.specs.declared.reply.Reply.TheVariants.{Shown, Lines}
 use Rattle.ct_laws.specs.Sides.{bound_on}
 
 -- the bounds that are shown are those of the entry

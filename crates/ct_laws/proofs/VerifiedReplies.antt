@@ -19,10 +19,11 @@ use Rattle.ct_pieces.proofs.StandingLemmas.{AreStanding-none}
 use Rattle.ct_verify.specs.Verdict.{verdict_of}
 use Rattle.ct_verify.specs.declared.verdict.Verdict.TheVariants.{Yes}
 use Rattle.ct_printed.proofs.PrintedDerivations.{printed_is_verified}
-use Rattle.ct_session.specs.Reply.{IsExplainReply, IsReply, pieces_after, is_refusal}
+use Rattle.ct_session.specs.Reply.{IsExplainReply, IsReply, pieces_after}
+use Rattle.ct_replies.specs.Refusals.{is_refusal}
 use Rattle.ct_session.specs.Run.{AreReplies}
-use Rattle.ct_session.specs.Text.{reply_text}
-use Rattle.ct_session.specs.declared.reply.Reply.{Reply}
+use Rattle.ct_replies.specs.Text.{reply_text}
+use Rattle.ct_replies.specs.declared.reply.Reply.{Reply}
 use Rattle.ct_session.proofs.Existence.{AreStanding-after}
 use Rattle.ct_laws.proofs.DumpPieces.{AreShort, pieces_after-short}
 

@@ -4,7 +4,7 @@ use Rattle.std.proofs.lemmas.List.Elements.{All-nil, All-cons}
 use Rattle.ct_codes.specs.Code.{CodeValue}
 use Rattle.ct_words.specs.Word.{weight}
 use Rattle.ct_codes.specs.Entry.{constant_weight}
-use Rattle.ct_list.specs.Listed.{IsListedCode}
+use Rattle.ct_derive.specs.Listed.{IsListedCode}
 use Rattle.ct_laws.proofs.EqualBounds.{one_word_alone}
 
 abbrev pub word_alone : CodeValue

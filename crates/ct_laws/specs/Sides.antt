@@ -2,7 +2,7 @@
 use Rattle.std.specs.Prelude.{ℕ}
 use Rattle.ct_codes.specs.declared.claim.Side.{Side}
 use Rattle.ct_codes.specs.declared.claim.Side.TheVariants.{Lower, Upper}
-use Rattle.ct_session.specs.declared.reply.Bounds.{Bounds}
+use Rattle.ct_replies.specs.declared.reply.Bounds.{Bounds}
 
 -- the bound on a side
 abbrev pub bound_on : Side → Bounds → ℕ

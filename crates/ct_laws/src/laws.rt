@@ -15,9 +15,9 @@ ghost use Rattle.ct_rule_parts.specs.declared.support.Support.TheVariants.{Size}
 ghost use Rattle.ct_pieces.specs.Supports.{supports_of};
 ghost use Rattle.ct_session.specs.Reply.{column};
 ghost use Rattle.ct_session.specs.Run.{IsRun, pieces_of};
-ghost use Rattle.ct_session.specs.Text.{reply_text};
-ghost use Rattle.ct_session.specs.declared.reply.Reply.TheVariants.{Withdrawn, WithdrawnAll, Shown, Table, Refused};
-ghost use Rattle.ct_session.specs.declared.reply.Refusal.TheVariants as refusal;
+ghost use Rattle.ct_replies.specs.Text.{reply_text};
+ghost use Rattle.ct_replies.specs.declared.reply.Reply.TheVariants.{Withdrawn, WithdrawnAll, Shown, Table, Refused};
+ghost use Rattle.ct_replies.specs.declared.reply.Refusal.TheVariants as refusal;
 ghost use Rattle.ct_laws.specs.Examples.{six_words, close_words, repeated_words, no_words, linear_code, close_choices, heavier_word, four_triples, withdrawn_with_all};
 
 /// Inputs whose run is known: the empty one, entries of the table and others outside it, with weight and without, a column, columns

@@ -14,8 +14,8 @@ use Rattle.ct_rules.specs.Rule.{rule_side, parts_over}
 use Rattle.ct_rules.specs.Derivation.{LineValue, IsBest}
 use Rattle.ct_table.specs.Table.{TableValue}
 use Rattle.ct_derive.specs.Explanation.{IsExplanation}
-use Rattle.ct_derive.proofs.TableLines.{line_with_claim}
-use Rattle.ct_list.specs.Listed.{IsListedCode}
+use Rattle.ct_derive.proofs.ClaimedLines.{line_with_claim}
+use Rattle.ct_derive.specs.Listed.{IsListedCode}
 use Rattle.ct_list.specs.Inside.Kept.{IsCodeFor, AreCodesFor, AreKept, named_by}
 use Rattle.ct_list.specs.Inside.Rows.{AreParts, IsMadeBy}
 use Rattle.ct_list.proofs.LowerLines.{lower_lines}

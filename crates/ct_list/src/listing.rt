@@ -8,14 +8,14 @@ ghost use Rattle.ct_derive.specs.Explanation.{IsExplanation};
 ghost use Rattle.ct_pieces.specs.Supports.{supports_of};
 ghost use Rattle.ct_rule_parts.specs.Slot.{claim_at};
 ghost use Rattle.ct_rules.specs.Derivation.{LineValue};
-ghost use Rattle.ct_list.specs.Listed.{IsListedCode};
+ghost use Rattle.ct_derive.specs.Listed.{IsListedCode};
 ghost use Rattle.ct_list.specs.Inside.Kept.{AreKept, IsCodeFor, named_by};
 
 use crate::kept::take_codes;
 use crate::rows::code_by_rule;
 use ct_codes::{Code, Entry, Side};
-use ct_derive::lines_to;
 use ct_ledger::Ledger;
+use ct_reasons::lines_to;
 use ct_rules::Line;
 use std::alloc::{AllocError, Global};
 

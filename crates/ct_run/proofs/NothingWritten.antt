@@ -5,8 +5,8 @@ use Rattle.ct_verify.specs.Verdict.{verdict_of}
 use Rattle.ct_verification.specs.Verification.{is_no, verdict_line}
 use Rattle.ct_proposals.proofs.Existence.{found_exists}
 use Rattle.ct_sample.proofs.Summaries.{some_output}
-use Rattle.ct_session.specs.Inside.Ending.{Ends}
-use Rattle.ct_session.specs.declared.serve.ServeFault.TheVariants.{Memory}
+use Rattle.ct_session.specs.Ending.{Ends}
+use Rattle.ct_io.specs.declared.run_fault.RunFault.TheVariants.{Memory}
 use Rattle.ct_session.proofs.Endings.{ends_at_once}
 use Rattle.ct_command_line.specs.declared.mode.Mode.{Mode}
 use Rattle.ct_command_line.specs.declared.mode.Mode.TheVariants.{Session, Verify, Find, Sample}

@@ -1,14 +1,14 @@
 -- What a status says of the session that it is of.
 use Rattle.std.proofs.Common.{◌≡◌, Bool, true, false, List, ℕ, Option, Some, None, Result, Ok, Err, refl}
-use Rattle.ct_session.specs.declared.serve.ServeFault.{ServeFault}
-use Rattle.ct_session.specs.declared.serve.ServeFault.TheVariants as fault
+use Rattle.ct_io.specs.declared.run_fault.RunFault.{RunFault}
+use Rattle.ct_io.specs.declared.run_fault.RunFault.TheVariants as fault
 use Rattle.ct_session.specs.Serve.{WritesRunProperPrefix}
 use Rattle.ct_command_line.specs.declared.mode.Mode.TheVariants.{Session}
 use Rattle.ct_run.specs.declared.status.Status.TheVariants.{WriteFault}
 use Rattle.ct_run.specs.Exit.{result_status}
 use Rattle.ct_run.specs.Mode.{WritesProperPrefix}
 
-pub sink_failed : (r : Result Bool ServeFault) → result_status r ≡ WriteFault → r ≡ Err fault.Write
+pub sink_failed : (r : Result Bool RunFault) → result_status r ≡ WriteFault → r ≡ Err fault.Write
 sink_failed (Ok true) e = absurd cc
 sink_failed (Ok false) e = absurd cc
 sink_failed (Err fault.Read) e = absurd cc

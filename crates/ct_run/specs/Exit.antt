@@ -2,8 +2,6 @@
 use Rattle.std.specs.Prelude.{ℕ, Bool, false, List, Option, Some, None, Result, Ok, Err, codes}
 use Rattle.ct_io.specs.declared.run_fault.RunFault.{RunFault}
 use Rattle.ct_io.specs.declared.run_fault.RunFault.TheVariants as run_fault
-use Rattle.ct_session.specs.declared.serve.ServeFault.{ServeFault}
-use Rattle.ct_session.specs.declared.serve.ServeFault.TheVariants as fault
 use Rattle.ct_run.specs.Mode.{status_of}
 use Rattle.ct_run.specs.declared.status.Status.{Status}
 use Rattle.ct_run.specs.declared.status.Status.TheVariants.{Done, Refused, Usage, ReadFault, WriteFault, TooLong, Memory}
@@ -29,14 +27,14 @@ status_reason TooLong = Some (codes "the input is longer than 67108864 bytes")
 status_reason Memory = Some (codes "out of memory")
 
 -- the status of a session that is broken off
-abbrev pub fault_status : ServeFault → Status
-fault_status fault.Read = ReadFault
-fault_status fault.Write = WriteFault
-fault_status fault.TooLong = TooLong
-fault_status fault.Memory = Memory
+abbrev pub fault_status : RunFault → Status
+fault_status run_fault.Read = ReadFault
+fault_status run_fault.Write = WriteFault
+fault_status run_fault.TooLong = TooLong
+fault_status run_fault.Memory = Memory
 
 -- the status of a session
-abbrev pub result_status : Result Bool ServeFault → Status
+abbrev pub result_status : Result Bool RunFault → Status
 result_status (Ok refused) = status_of refused
 result_status (Err reason) = fault_status reason
 

@@ -11,11 +11,11 @@ ghost use Rattle.ct_run.specs.Exit.{broken_status, fault_status, mode_status, re
 ghost use Rattle.ct_run.specs.Program.{usage_line, WritesUsage};
 
 use crate::status::Status;
+use ct_answers::serve_session;
 use ct_command_line::{Mode, named_mode};
 use ct_io::{RunFault, Sink, Source, write_all};
 use ct_proposals::find_source;
 use ct_sample::write_sample;
-use ct_session::{ServeFault, serve_session};
 use ct_verification::verify_source;
 use std::alloc::Global;
 
@@ -34,19 +34,19 @@ fn status_of(refused: bool) -> Status
 }
 
 /// The status of a session that is broken off.
-fn fault_status(fault: ServeFault) -> Status
+fn fault_status(fault: RunFault) -> Status
     ensures { result ≡ fault_status fault }
 {
     match fault {
-        ServeFault::Read => Status::ReadFault,
-        ServeFault::Write => Status::WriteFault,
-        ServeFault::TooLong => Status::TooLong,
-        ServeFault::Memory => Status::Memory,
+        RunFault::Read => Status::ReadFault,
+        RunFault::Write => Status::WriteFault,
+        RunFault::TooLong => Status::TooLong,
+        RunFault::Memory => Status::Memory,
     }
 }
 
 /// The status of a session, which tells whether a reply is a refusal, or why it is broken off.
-fn result_status(result_of: Result<bool, ServeFault>) -> Status
+fn result_status(result_of: Result<bool, RunFault>) -> Status
     ensures { result ≡ result_status result_of }
 {
     match result_of {

@@ -7,17 +7,18 @@ use Rattle.std.proofs.lemmas.Grind.{flat_map-append}
 use Rattle.std.proofs.lemmas.List.Folds.{list_any-append}
 use Rattle.ct_commands.specs.declared.command.Command.{Command}
 use Rattle.ct_pieces.specs.Piece.{PieceValue}
-use Rattle.ct_session.specs.Reply.{IsReply, pieces_after, is_refusal}
+use Rattle.ct_session.specs.Reply.{IsReply, pieces_after}
+use Rattle.ct_replies.specs.Refusals.{is_refusal}
 use Rattle.ct_session.specs.Run.{AreReplies, AnswersCommands, PutsAnswers}
 use Rattle.ct_commands.specs.Command.{cut_off}
 use Rattle.ct_commands.specs.declared.command_reader.Pending.{Pending}
 use Rattle.ct_commands.specs.declared.command.Command.TheVariants as command
-use Rattle.ct_session.specs.declared.answer.LongReply.{LongReply}
-use Rattle.ct_session.specs.declared.reply.Reply.TheVariants.{Lines, Refused}
-use Rattle.ct_session.specs.declared.reply.Refusal.TheVariants as refusal
-use Rattle.ct_session.specs.Inside.LongReply.{long_text}
-use Rattle.ct_session.specs.Text.{reply_text}
-use Rattle.ct_session.specs.declared.reply.Reply.{Reply}
+use Rattle.ct_replies.specs.declared.reply.LongReply.{LongReply}
+use Rattle.ct_replies.specs.declared.reply.Reply.TheVariants.{Lines, Refused}
+use Rattle.ct_replies.specs.declared.reply.Refusal.TheVariants as refusal
+use Rattle.ct_replies.specs.LongReply.{long_text}
+use Rattle.ct_replies.specs.Text.{reply_text}
+use Rattle.ct_replies.specs.declared.reply.Reply.{Reply}
 
 -- one reply to one command
 pub one_answer : (pieces : List PieceValue) (c : Command) (r : Reply) → IsReply pieces c r → AnswersCommands pieces (c ∷ []) (reply_text r) (is_refusal r)

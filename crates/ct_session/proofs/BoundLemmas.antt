@@ -17,7 +17,7 @@ use Rattle.ct_pieces.specs.Standing.{AreStanding}
 use Rattle.ct_pieces.specs.Supports.{supports_of}
 use Rattle.ct_pieces.proofs.SupportLemmas.{supports_stand}
 use Rattle.ct_session.specs.Reply.{IsShownBound, AreBoundsOf, column}
-use Rattle.ct_session.specs.declared.reply.Bounds.{Bounds}
+use Rattle.ct_replies.specs.declared.reply.Bounds.{Bounds}
 
 -- each side of an entry of the table has a best bound, which is true
 pub shown : (pieces : List PieceValue) (side : Side) (e : Entry) → AreStanding pieces → IsEntry e → (v : ℕ) × IsShownBound pieces side e v

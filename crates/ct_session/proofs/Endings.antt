@@ -11,14 +11,15 @@ use Rattle.ct_io.specs.Faults.{Rose}
 use Rattle.ct_io.specs.Reader.{Reader, Takes, NeedsNoRead, IsLineThenRead, fresh_reader, input_of}
 use Rattle.ct_io.specs.Told.{AppendsProperPrefix}
 use Rattle.ct_commands.specs.Command.{cut_off}
-use Rattle.ct_session.specs.declared.serve.ServeFault.{ServeFault}
-use Rattle.ct_session.specs.declared.serve.ServeFault.TheVariants.{Read, Write, TooLong, Memory}
+use Rattle.ct_io.specs.declared.run_fault.RunFault.{RunFault}
+use Rattle.ct_io.specs.declared.run_fault.RunFault.TheVariants.{Read, Write, TooLong, Memory}
 use Rattle.ct_session.specs.Run.{PutsAnswers}
 use Rattle.ct_session.specs.Serve.{WritesRun, WritesRunPrefix, WritesRunProperPrefix, AnswersTaken, AnswersButLastBytes, WritesWholeReplies}
-use Rattle.ct_session.specs.Inside.Ending.{Ends}
+use Rattle.ct_session.specs.Ending.{Ends}
 use Rattle.ct_session.specs.Inside.Serving.{LeavesFew, Took, Serves}
 use Rattle.ct_session.specs.Inside.State.{State, fresh_state}
-use Rattle.ct_session.specs.Inside.Writing.{BreaksOff, IsReady, WritesSome, read_fault}
+use Rattle.ct_session.specs.Inside.Writing.{IsReady, read_fault}
+use Rattle.ct_replies.specs.Writing.{BreaksOff, WritesSome}
 use Rattle.ct_session.proofs.FewLeft.{few_at_start, few_at_fault}
 use Rattle.ct_session.proofs.Serving.{begins, after_writing, took_more, not_long, long_exactly, one_read, all_taken, prefix_of, proper_prefix_of, weaker_prefix, prefix_of_run, run_of, run_in_part, nothing_gathered, nothing_gathered_long, taken_answered, last_bytes_unanswered, whole_replies}
 
@@ -109,21 +110,21 @@ ends_at_once left held reads writes =
     (whole_replies fresh_reader fresh_state [] left left left held held held reads reads writes writes h (few_at_start left) (Appends-nil held)) h.took (omega arith)
 
 -- the gathered replies could not be written
-pub ends_unwritten : (r : Reader) (s : State) (g : List ℕ) (left now old held new : Option (List ℕ)) (reads reads' writes writes' writes'' : ℕ) (f : ServeFault) → Serves r s g left now old held reads reads' writes writes'
+pub ends_unwritten : (r : Reader) (s : State) (g : List ℕ) (left now old held new : Option (List ℕ)) (reads reads' writes writes' writes'' : ℕ) (f : RunFault) → Serves r s g left now old held reads reads' writes writes'
     → AppendsProperPrefix held new g → f ≡ Write → Rose writes' writes'' → Ends (Err f) left now old new reads reads' writes writes''
 ends_unwritten r s g left now old held new reads reads' writes writes' writes'' f h part is rose =
-    subst (λ (e : ServeFault). Ends (Err e) left now old new reads reads' writes writes'') (sym is)
+    subst (λ (e : RunFault). Ends (Err e) left now old new reads reads' writes writes'') (sym is)
     (ends_write left now old new reads reads' writes writes'' r.taken (proper_prefix_of r s g left now old held new reads reads' writes writes' h part) (rose_later writes writes' writes'' h.write_count rose) h.took h.within)
 
 -- memory ran out, the gathered replies are written, and so many bytes were taken
-pub ends_broken : (r : Reader) (s : State) (g : List ℕ) (left now next old held new : Option (List ℕ)) (reads reads' reads'' writes writes' writes'' n : ℕ) (result : ServeFault) → Serves r s g left now old held reads reads' writes writes'
+pub ends_broken : (r : Reader) (s : State) (g : List ℕ) (left now next old held new : Option (List ℕ)) (reads reads' reads'' writes writes' writes'' n : ℕ) (result : RunFault) → Serves r s g left now old held reads reads' writes writes'
     → Took left next n → n ≤ MAX_INPUT → LeavesFew (input_of r now) next → BreaksOff Memory result g held new writes' writes'' → Ends (Err result) left next old new reads reads'' writes writes''
 ends_broken r s g left now next old held new reads reads' reads'' writes writes' writes'' n result h took few rest (inl w) =
-    subst (λ (e : ServeFault). Ends (Err e) left next old new reads reads'' writes writes'') (sym w.0)
+    subst (λ (e : RunFault). Ends (Err e) left next old new reads reads'' writes writes'') (sym w.0)
     (ends_memory left next old new reads reads'' writes writes'' n (prefix_of r s g left now old held new reads reads' writes writes' g [] h (sym (append-nil g)) w.1)
     (whole_replies r s g left now next old held new reads reads' writes writes' h rest w.1) took few)
 ends_broken r s g left now next old held new reads reads' reads'' writes writes' writes'' n result h took few rest (inr w) =
-    subst (λ (e : ServeFault). Ends (Err e) left next old new reads reads'' writes writes'') (sym w.0)
+    subst (λ (e : RunFault). Ends (Err e) left next old new reads reads'' writes writes'') (sym w.0)
     (ends_write left next old new reads reads'' writes writes'' n (proper_prefix_of r s g left now old held new reads reads' writes writes' h w.1) (rose_later writes writes' writes'' h.write_count w.2) took few)
 
 -- nothing is left of an empty text
@@ -191,13 +192,13 @@ none_gathered r q s g left now next old held reads reads' reads'' writes writes'
 none_gathered r q s g left now next old held reads reads' reads'' writes writes' line_fault.Memory h ready takes f other = absurd (other refl)
 
 -- the reader gave a fault
-pub ends_fault : (r q : Reader) (s : State) (g : List ℕ) (left now next old held new : Option (List ℕ)) (reads reads' reads'' writes writes' writes'' : ℕ) (fault : LineFault) (result : ServeFault)
+pub ends_fault : (r q : Reader) (s : State) (g : List ℕ) (left now next old held new : Option (List ℕ)) (reads reads' reads'' writes writes' writes'' : ℕ) (fault : LineFault) (result : RunFault)
     → Serves r s g left now old held reads reads' writes writes' → IsReady g r → Takes r q now next (Err fault) → Faulted r q reads' reads'' fault → writes' ≤ writes''
     → BreaksOff (read_fault fault) result g held new writes' writes'' → Ends (Err result) left next old new reads reads'' writes writes''
 ends_fault r q s g left now next old held new reads reads' reads'' writes writes' writes'' line_fault.ReadFault result h ready takes f counted (inl w) =
-    subst (λ (e : ServeFault). Ends (Err e) left next old new reads reads'' writes writes'') (sym w.0) (ends_unread r q s g left now next old held new reads reads' reads'' writes writes' writes'' h ready takes f counted w.1)
+    subst (λ (e : RunFault). Ends (Err e) left next old new reads reads'' writes writes'') (sym w.0) (ends_unread r q s g left now next old held new reads reads' reads'' writes writes' writes'' h ready takes f counted w.1)
 ends_fault r q s g left now next old held new reads reads' reads'' writes writes' writes'' (line_fault.TooLong t) result h ready takes f counted (inl w) =
-    subst (λ (e : ServeFault). Ends (Err e) left next old new reads reads'' writes writes'') (sym w.0) (ends_too_long r q s g left now next old held new reads reads' reads'' writes writes' writes'' t h ready takes f counted w.1)
+    subst (λ (e : RunFault). Ends (Err e) left next old new reads reads'' writes writes'') (sym w.0) (ends_too_long r q s g left now next old held new reads reads' reads'' writes writes' writes'' t h ready takes f counted w.1)
 ends_fault r q s g left now next old held new reads reads' reads'' writes writes' writes'' line_fault.ReadFault result h ready takes f counted (inr w) =
     absurd (no_part held new (subst (AppendsProperPrefix held new) (none_gathered r q s g left now next old held reads reads' reads'' writes writes' line_fault.ReadFault h ready takes f (λ e. cc)) w.1))
 ends_fault r q s g left now next old held new reads reads' reads'' writes writes' writes'' (line_fault.TooLong t) result h ready takes f counted (inr w) =
@@ -213,10 +214,10 @@ ends_well r s g g' left now old held new reads reads' writes writes' writes'' al
     ends_run left now old new reads reads' writes writes'' r.taken all (run_of r s g g' left now old held new reads reads' writes writes' all b h (all_taken r now none ended) puts mark written) (h.ended ended) h.took h.within
 
 -- all was taken, and the rest of the replies could not be written
-pub ends_last_unwritten : (r : Reader) (s : State) (g g' : List ℕ) (left now old held new : Option (List ℕ)) (reads reads' writes writes' writes'' : ℕ) (b : Bool) (f : ServeFault) → Serves r s g left now old held reads reads' writes writes'
+pub ends_last_unwritten : (r : Reader) (s : State) (g g' : List ℕ) (left now old held new : Option (List ℕ)) (reads reads' writes writes' writes'' : ℕ) (b : Bool) (f : RunFault) → Serves r s g left now old held reads reads' writes writes'
     → r.held ≡ [] → r.ended ≡ true → PutsAnswers s.pieces (cut_off s.pending) b g g' → AppendsProperPrefix held new g' → f ≡ Write → Rose writes' writes'' → Ends (Err f) left now old new reads reads' writes writes''
 ends_last_unwritten r s g g' left now old held new reads reads' writes writes' writes'' b f h none ended puts part is rose =
-    subst (λ (e : ServeFault). Ends (Err e) left now old new reads reads' writes writes'') (sym is)
+    subst (λ (e : RunFault). Ends (Err e) left now old new reads reads' writes writes'') (sym is)
     (ends_write left now old new reads reads' writes writes'' r.taken (run_in_part r s g g' left now old held new reads reads' writes writes' b h (all_taken r now none ended) puts part) (rose_later writes writes' writes'' h.write_count rose) h.took h.within)
 
 -- some of the gathered replies were written, and the reader is the same

@@ -28,13 +28,14 @@ use Rattle.ct_pieces.proofs.TakenAlong.{AreStanding-withdrawn_all}
 use Rattle.ct_rules.specs.Derivation.{IsBest}
 use Rattle.ct_explain.specs.Explained.{explanation_text}
 use Rattle.ct_explain.proofs.ExplainedBounds.{explained}
-use Rattle.ct_list.specs.Listed.{IsListedCode}
-use Rattle.ct_session.specs.Reply.{IsReply, IsShowReply, IsTableReply, IsExplainReply, IsListReply, column, submission_reply, withdrawal_reply, withdrawal_all_reply, pieces_after, is_refusal}
+use Rattle.ct_derive.specs.Listed.{IsListedCode}
+use Rattle.ct_session.specs.Reply.{IsReply, IsShowReply, IsTableReply, IsExplainReply, IsListReply, column, submission_reply, withdrawal_reply, withdrawal_all_reply, pieces_after}
+use Rattle.ct_replies.specs.Refusals.{is_refusal}
 use Rattle.ct_session.specs.Run.{AreReplies, AnswersCommands, IsRun, pieces_of}
-use Rattle.ct_session.specs.Text.{reply_text, ledger_text, code_text}
-use Rattle.ct_session.specs.declared.reply.Reply.{Reply}
-use Rattle.ct_session.specs.declared.reply.Reply.TheVariants.{Shown, Table, Lines, Refused}
-use Rattle.ct_session.specs.declared.reply.Refusal.TheVariants as refusal
+use Rattle.ct_replies.specs.Text.{reply_text, ledger_text, code_text}
+use Rattle.ct_replies.specs.declared.reply.Reply.{Reply}
+use Rattle.ct_replies.specs.declared.reply.Reply.TheVariants.{Shown, Table, Lines, Refused}
+use Rattle.ct_replies.specs.declared.reply.Refusal.TheVariants as refusal
 use Rattle.ct_session.proofs.BoundLemmas.{shown, some_bounds, some_bounds_of_all, column_entries}
 
 -- the pieces after a command stand, where those before it do

@@ -6,9 +6,9 @@ use Rattle.ct_commands.specs.Command.{completed_by}
 use Rattle.ct_commands.specs.declared.command.Command.{Command}
 use Rattle.ct_pieces.specs.Piece.{PieceValue}
 use Rattle.ct_session.specs.Run.{AreReplies}
-use Rattle.ct_session.specs.Text.{reply_text}
-use Rattle.ct_session.specs.declared.reply.Reply.{Reply}
-use Rattle.ct_session.specs.declared.output.TheConstants.{MAX_GATHERED}
+use Rattle.ct_replies.specs.Text.{reply_text}
+use Rattle.ct_replies.specs.declared.reply.Reply.{Reply}
+use Rattle.ct_replies.specs.declared.output.TheConstants.{MAX_GATHERED}
 use Rattle.ct_session.specs.Inside.State.{State, PutsLines}
 use Rattle.ct_session.specs.Inside.Writing.{IsOneReply, HoldsFew}
 

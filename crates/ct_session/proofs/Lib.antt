@@ -10,4 +10,3 @@ mod PassingOver
 mod Gathering
 mod Outputs
 mod LineEndings
-mod WordTexts

@@ -2,14 +2,14 @@
 use Rattle.std.proofs.Common.{ℕ, ◌≤◌, List, [], ◌∷◌, Option, Err, inl, inr}
 use Rattle.ct_io.specs.declared.TheConstants.{MAX_INPUT}
 use Rattle.ct_io.specs.Reader.{Reader, input_of}
-use Rattle.ct_session.specs.declared.serve.ServeFault.{ServeFault}
-use Rattle.ct_session.specs.Inside.Ending.{Ends}
+use Rattle.ct_io.specs.declared.run_fault.RunFault.{RunFault}
+use Rattle.ct_session.specs.Ending.{Ends}
 use Rattle.ct_session.specs.Inside.Serving.{LeavesFew, Serves, Took}
 use Rattle.ct_session.specs.Inside.State.{State, PutsLines}
 use Rattle.ct_session.specs.Inside.Writing.{BreaksOffAt}
 use Rattle.ct_session.proofs.Endings.{ends_broken, ends_unwritten}
 
-pub ends_at_line : (r q : Reader) (s t : State) (g line : List ℕ) (left now next old held new : Option (List ℕ)) (reads reads' reads'' writes writes' writes'' n : ℕ) (fault : ServeFault)
+pub ends_at_line : (r q : Reader) (s t : State) (g line : List ℕ) (left now next old held new : Option (List ℕ)) (reads reads' reads'' writes writes' writes'' n : ℕ) (fault : RunFault)
     → Serves r s g left now old held reads reads' writes writes' → Took left next n → n ≤ MAX_INPUT → LeavesFew (input_of r now) next
     → ((all : List ℕ) → PutsLines s t (line ∷ []) g all → Serves q t all left next old held reads reads'' writes writes')
     → BreaksOffAt fault s t line g held new writes' writes'' → Ends (Err fault) left next old new reads reads'' writes writes''

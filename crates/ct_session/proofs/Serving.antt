@@ -21,7 +21,8 @@ use Rattle.ct_session.specs.Run.{AnswersCommands, IsRun, PutsAnswers}
 use Rattle.ct_session.specs.Serve.{WritesRun, WritesRunPrefix, WritesRunProperPrefix, AnswersLines, AnswersTaken, AnswersButLastBytes, WritesWholeReplies}
 use Rattle.ct_session.specs.Inside.Serving.{Follows, LeavesFew, Took, Given, Serves, unserved}
 use Rattle.ct_session.specs.Inside.State.{State, fresh_state, TakesLines, PutsLines}
-use Rattle.ct_session.specs.Inside.Writing.{WritesSome, IsReady}
+use Rattle.ct_session.specs.Inside.Writing.{IsReady}
+use Rattle.ct_replies.specs.Writing.{WritesSome}
 use Rattle.ct_session.proofs.Taking.{takes_none, takes_more, whole_run, prefix_written, proper_prefix_written}
 
 -- ---- the bytes that were taken

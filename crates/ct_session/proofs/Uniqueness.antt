@@ -8,11 +8,12 @@ use Rattle.ct_text.specs.EntryNumbers.{named_entry}
 use Rattle.ct_commands.specs.declared.command.Command.{Command}
 use Rattle.ct_commands.specs.declared.command.Command.TheVariants as command
 use Rattle.ct_pieces.specs.Piece.{PieceValue}
-use Rattle.ct_session.specs.Reply.{IsReply, IsShown, IsShowReply, IsTableReply, IsExplainReply, IsListReply, column, leaves_choice, pieces_after, is_refusal}
+use Rattle.ct_session.specs.Reply.{IsReply, IsShown, IsShowReply, IsTableReply, IsExplainReply, IsListReply, column, leaves_choice, pieces_after}
+use Rattle.ct_replies.specs.Refusals.{is_refusal}
 use Rattle.ct_session.specs.Run.{AreReplies, AnswersCommands, DifferInChoices}
-use Rattle.ct_session.specs.Text.{reply_text}
-use Rattle.ct_session.specs.declared.reply.Reply.{Reply}
-use Rattle.ct_session.specs.declared.reply.Reply.TheVariants.{Shown, Table}
+use Rattle.ct_replies.specs.Text.{reply_text}
+use Rattle.ct_replies.specs.declared.reply.Reply.{Reply}
+use Rattle.ct_replies.specs.declared.reply.Reply.TheVariants.{Shown, Table}
 use Rattle.ct_session.proofs.BoundLemmas.{same_bounds, same_bounds_of_all}
 
 or_parts : (a b : Bool) → (a || b) ≡ false → (a ≡ false) × (b ≡ false)

@@ -1,7 +1,4 @@
 -- Words that the contracts of inner functions alone cite.
 pub mod State
 pub mod Writing
-pub mod Ending
 pub mod Serving
-pub mod LongReply
-pub mod Texts

@@ -1,5 +1,5 @@
-pub mod Text
 pub mod Reply
 pub mod Run
 pub mod Serve
+pub mod Ending
 pub mod Inside

@@ -23,12 +23,12 @@ use Rattle.ct_kind.specs.declared.fault.SubmitFault.{SubmitFault}
 use Rattle.ct_pieces.specs.declared.fault.WithdrawFault.{WithdrawFault}
 use Rattle.ct_derive.specs.Derivation.{DerivationValue}
 use Rattle.ct_explain.specs.Explained.{ExplainsBest, explanation_text}
-use Rattle.ct_list.specs.Listed.{IsListedCode}
-use Rattle.ct_session.specs.Text.{ledger_text, code_text}
-use Rattle.ct_session.specs.declared.reply.Bounds.{Bounds}
-use Rattle.ct_session.specs.declared.reply.Reply.{Reply}
-use Rattle.ct_session.specs.declared.reply.Reply.TheVariants.{Accepted, Withdrawn, WithdrawnAll, Shown, Table, Lines, Refused}
-use Rattle.ct_session.specs.declared.reply.Refusal.TheVariants as refusal
+use Rattle.ct_derive.specs.Listed.{IsListedCode}
+use Rattle.ct_replies.specs.Text.{ledger_text, code_text}
+use Rattle.ct_replies.specs.declared.reply.Bounds.{Bounds}
+use Rattle.ct_replies.specs.declared.reply.Reply.{Reply}
+use Rattle.ct_replies.specs.declared.reply.Reply.TheVariants.{Accepted, Withdrawn, WithdrawnAll, Shown, Table, Lines, Refused}
+use Rattle.ct_replies.specs.declared.reply.Refusal.TheVariants as refusal
 
 -- the reply to a submission
 abbrev pub submission_reply : List ℕ → Result PieceValue SubmitFault → Reply
@@ -142,8 +142,3 @@ pieces_after pieces (command.Submission (Some id) document) = with_piece pieces 
 pieces_after pieces (command.Withdraw id) = left_by pieces (withdrawn pieces id)
 pieces_after pieces (command.WithdrawAll id) = left_by pieces (withdrawn_all pieces id)
 pieces_after pieces c = pieces
-
--- whether a reply is a refusal
-abbrev pub is_refusal : Reply → Bool
-is_refusal (Refused r) = true
-is_refusal reply = false

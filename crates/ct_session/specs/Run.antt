@@ -5,9 +5,10 @@ use Rattle.ct_lines.specs.Lines.{lines_of}
 use Rattle.ct_commands.specs.Command.{commands_of}
 use Rattle.ct_commands.specs.declared.command.Command.{Command}
 use Rattle.ct_pieces.specs.Piece.{PieceValue}
-use Rattle.ct_session.specs.Reply.{IsReply, leaves_choice, pieces_after, is_refusal}
-use Rattle.ct_session.specs.Text.{reply_text}
-use Rattle.ct_session.specs.declared.reply.Reply.{Reply}
+use Rattle.ct_session.specs.Reply.{IsReply, leaves_choice, pieces_after}
+use Rattle.ct_replies.specs.Refusals.{is_refusal}
+use Rattle.ct_replies.specs.Text.{reply_text}
+use Rattle.ct_replies.specs.declared.reply.Reply.{Reply}
 
 -- the replies to the commands in order, one each, over the pieces that the commands before it left
 abbrev pub AreReplies : List PieceValue → List Command → List Reply → Type 0

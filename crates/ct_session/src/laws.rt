@@ -16,7 +16,7 @@ ghost use Rattle.ct_pieces.specs.Standing.{AreStanding};
 ghost use Rattle.ct_pieces.specs.Supports.{supports_of};
 ghost use Rattle.ct_commands.specs.declared.command.Command.{Command};
 ghost use Rattle.ct_session.specs.Reply.{IsShownBound, IsReply, leaves_choice};
-ghost use Rattle.ct_session.specs.declared.reply.Reply.{Reply};
+ghost use Rattle.ct_replies.specs.declared.reply.Reply.{Reply};
 ghost use Rattle.ct_session.specs.Run.{IsRun, DifferInChoices, pieces_of};
 
 /// Every input has a run.

@@ -1,49 +1,34 @@
 //! The loop that serves a session.
 
-ghost use Rattle.std.specs.Prelude.{◌≡◌, ◌≢◌, ◌≤◌, ◌<◌, ◌+◌, ◌↔◌, ℕ, Bool, true, Option, List, Err, IfOk, IfErr, OnOk, OnErr, [], ◌∷◌, length};
-ghost use Rattle.std.specs.Io.KnownBytes.{Appends, IsAtEnd};
+ghost use Rattle.std.specs.Prelude.{◌≡◌, ◌≤◌, ◌<◌, ℕ, true, Option, List, IfErr, OnOk, OnErr, [], length};
 ghost use Rattle.ct_io.specs.Faults.{Rose};
-ghost use Rattle.ct_io.specs.Told.{AppendsProperPrefix, WhereTold, IsAboveLimit};
-ghost use Rattle.ct_io.specs.declared.TheConstants.{MAX_INPUT, MAX_READ};
+ghost use Rattle.ct_io.specs.Told.{AppendsProperPrefix};
 ghost use Rattle.ct_io.specs.Reader.{Reader};
-ghost use Rattle.ct_session.specs.Inside.Ending.{Ends};
+ghost use Rattle.ct_session.specs.Ending.{Ends};
 ghost use Rattle.ct_session.specs.Inside.Serving.{PassesOver, Serves, StepsTo};
-ghost use Rattle.ct_session.specs.Inside.LongReply.{long_text};
-ghost use Rattle.ct_session.specs.Inside.Writing.{AnswersLine, BreaksLong, BreaksOffAt, HasRoom, HoldsFew, IsReady, PutsOut, WritesSome, read_fault};
-ghost use Rattle.ct_session.specs.Serve.{WritesRun, WritesRunPrefix, WritesRunProperPrefix, AnswersTaken, AnswersButLastBytes, WritesWholeReplies};
+ghost use Rattle.ct_replies.specs.LongReply.{long_text};
+ghost use Rattle.ct_session.specs.Inside.Writing.{AnswersLine, BreaksLong, BreaksOffAt, HoldsFew, IsReady, read_fault};
+ghost use Rattle.ct_replies.specs.Writing.{PutsOut, WritesSome};
 
-use crate::answer::LongReply;
-use crate::output::{MAX_GATHERED, break_off, put_long, write_gathered};
+use crate::answers::Answers;
 use crate::session::Session;
-use ct_io::{LineFault, LineReader, Sink, Source};
-use ct_ledger::Piece;
+use ct_io::{LineFault, LineReader, RunFault, Sink, Source};
+use ct_pieces::Piece;
+use ct_replies::{LongReply, MAX_GATHERED, break_off, put_long, write_gathered};
 use std::alloc::Global;
-
-/// Why a session is broken off.
-#[derive(Clone, Copy, Debug, PartialEq, Eq)]
-pub enum ServeFault {
-    /// The source failed.
-    Read,
-    /// The sink failed.
-    Write,
-    /// More than `ct_io::MAX_INPUT` bytes were taken.
-    TooLong,
-    /// Memory ran out.
-    Memory,
-}
 
 /// Writes the replies that were gathered where the reader is about to read, or where they are many.
 fn make_ready<K: Sink>(
     reader: &mut LineReader,
     sink: &mut K,
     gathered: &mut Vec<u8>,
-) -> Result<(), ServeFault>
+) -> Result<(), RunFault>
     ensures same { reader.new ≡ reader.old }
     ensures written { OnOk result (WritesSome gathered.old.items gathered.new.items (K.holds sink.old) (K.holds sink.new)) }
     ensures ready { OnOk result (IsReady gathered.new.items reader.new) }
     ensures few { OnOk result (length gathered.new.items < MAX_GATHERED) }
     ensures prefix { OnErr result (AppendsProperPrefix (K.holds sink.old) (K.holds sink.new) gathered.old.items) }
-    ensures fault { IfErr result (λ fault. fault ≡ ServeFault.Write) }
+    ensures fault { IfErr result (λ fault. fault ≡ RunFault.Write) }
     ensures failed { OnErr result (Rose (K.faults sink.old) (K.faults sink.new)) }
     ensures counted { K.faults sink.old ≤ K.faults sink.new }
 {
@@ -54,13 +39,13 @@ fn make_ready<K: Sink>(
 }
 
 /// The fault of a session whose reader has this one.
-fn read_fault(fault: LineFault) -> ServeFault
+fn read_fault(fault: LineFault) -> RunFault
     ensures { result ≡ read_fault fault }
 {
     match fault {
-        LineFault::ReadFault => ServeFault::Read,
-        LineFault::TooLong(_) => ServeFault::TooLong,
-        LineFault::Memory => ServeFault::Memory,
+        LineFault::ReadFault => RunFault::Read,
+        LineFault::TooLong(_) => RunFault::TooLong,
+        LineFault::Memory => RunFault::Memory,
     }
 }
 
@@ -79,7 +64,7 @@ fn answer_long<K: Sink>(
     reply: &LongReply,
     gathered: &mut Vec<u8>,
     sink: &mut K,
-) -> Result<(), ServeFault>
+) -> Result<(), RunFault>
     requires { length gathered.old.items < MAX_GATHERED }
     ensures put { OnOk result (PutsOut (long_text reply.now pieces.now) gathered.old.items gathered.new.items
         (K.holds sink.old) (K.holds sink.new)) }
@@ -89,20 +74,20 @@ fn answer_long<K: Sink>(
     ensures counted { K.faults sink.old ≤ K.faults sink.new }
 {
     let Ok(()) = gathered.reserve(MAX_GATHERED) else {
-        return Err(break_off(sink, gathered, ServeFault::Memory));
+        return Err(break_off(sink, gathered, RunFault::Memory));
     };
     put_long(sink, gathered, pieces, reply)
 }
 
 /// Answers the command that the line completes, if it completes one, among the replies that are gathered. After an `Err` the session is
 /// broken off.
-fn answer_line<K: Sink>(
+fn answer_line<A: Answers, K: Sink>(
     alloc: Global,
-    session: &mut Session,
+    session: &mut Session<A>,
     line: Vec<u8>,
     gathered: &mut Vec<u8>,
     sink: &mut K,
-) -> Result<(), ServeFault>
+) -> Result<(), RunFault>
     requires { length gathered.old.items < MAX_GATHERED }
     ensures line { OnOk result (AnswersLine session.old session.new line.items gathered.old.items gathered.new.items
         (K.holds sink.old) (K.holds sink.new)) }
@@ -114,12 +99,12 @@ fn answer_line<K: Sink>(
     match session.take_line(alloc, &line, gathered) {
         Ok(None) => Ok(()),
         Ok(Some(reply)) => answer_long(session.pieces(), &reply, gathered, sink),
-        Err(_) => Err(break_off(sink, gathered, ServeFault::Memory)),
+        Err(_) => Err(break_off(sink, gathered, RunFault::Memory)),
     }
 }
 
 /// Passes over empty lines that ask for nothing: those that the reader holds before the next line, where no submission is open.
-fn pass_over(reader: &mut LineReader, session: &Session)
+fn pass_over<A: Answers>(reader: &mut LineReader, session: &Session<A>)
     ensures { PassesOver session.now reader.old reader.new }
 {
     if !session.has_open_submission() {
@@ -129,14 +114,14 @@ fn pass_over(reader: &mut LineReader, session: &Session)
 
 /// Takes the next line, if there is one, and answers the command that it completes. Whatever was served before, it is gone on with, or
 /// the session ends as it is to end. What is gathered stays below `MAX_GATHERED` bytes and one reply.
-fn serve_line<S: Source, K: Sink>(
+fn serve_line<A: Answers, S: Source, K: Sink>(
     alloc: Global,
     reader: &mut LineReader,
-    session: &mut Session,
+    session: &mut Session<A>,
     gathered: &mut Vec<u8>,
     source: &mut S,
     sink: &mut K,
-) -> Result<Step, ServeFault>
+) -> Result<Step, RunFault>
     ensures step { (left old : Option (List ℕ)) (reads writes : ℕ)
         → Serves reader.old session.old gathered.old.items left (S.left source.old) old (K.holds sink.old)
         reads (S.faults source.old) writes (K.faults sink.old)
@@ -157,12 +142,12 @@ fn serve_line<S: Source, K: Sink>(
 }
 
 /// Takes the end of the input, and writes the replies that are still gathered. `Ok` tells whether any reply is a refusal.
-fn end_session<K: Sink>(
+fn end_session<A: Answers, K: Sink>(
     alloc: Global,
-    session: Session,
+    session: Session<A>,
     gathered: Vec<u8>,
     sink: &mut K,
-) -> Result<bool, ServeFault>
+) -> Result<bool, RunFault>
     ensures { (r : Reader) (left now old : Option (List ℕ)) (reads reads' writes : ℕ)
         → Serves r session gathered.items left now old (K.holds sink.old) reads reads' writes (K.faults sink.old)
         → r.held ≡ [] → r.ended ≡ true
@@ -170,27 +155,28 @@ fn end_session<K: Sink>(
 {
     let mut gathered = gathered;
     let Ok(refused) = session.finish(alloc, &mut gathered) else {
-        return Err(break_off(sink, &gathered, ServeFault::Memory));
+        return Err(break_off(sink, &gathered, RunFault::Memory));
     };
     write_gathered(sink, &mut gathered)?;
     Ok(refused)
 }
 
-/// Serves a session, as `serve_session` does.
-fn serve_lines<S: Source, K: Sink>(
+/// Serves a session whose commands are answered so: takes the lines of the source to its end, and writes the replies to the sink. `Ok` tells
+/// whether any reply is a refusal.
+pub fn serve_lines<A: Answers, S: Source, K: Sink>(
     alloc: Global,
+    answers: A,
     source: &mut S,
     sink: &mut K,
-) -> Result<bool, ServeFault>
+) -> Result<bool, RunFault>
+    requires { A.standing answers ≡ [] }
     ensures { Ends result (S.left source.old) (S.left source.new) (K.holds sink.old) (K.holds sink.new)
         (S.faults source.old) (S.faults source.new) (K.faults sink.old) (K.faults sink.new) }
 {
     let Ok(mut reader) = LineReader::new(alloc) else {
-        return Err(ServeFault::Memory);
+        return Err(RunFault::Memory);
     };
-    let Ok(mut session) = Session::new(alloc) else {
-        return Err(ServeFault::Memory);
-    };
+    let mut session = Session::new(answers);
     let mut gathered = Vec::new(alloc);
     'lines: loop {
         match serve_line(
@@ -206,39 +192,4 @@ fn serve_lines<S: Source, K: Sink>(
         }
     }
     end_session(alloc, session, gathered, sink)
-}
-
-/// Serves a session: takes the lines of the source to its end, and writes the replies to the sink. `Ok` tells whether any reply is a
-/// refusal.
-///
-/// Replies are written at the latest before the source is read again, and whole replies before the session is broken off.
-pub fn serve_session<S: Source, K: Sink>(
-    alloc: Global,
-    source: &mut S,
-    sink: &mut K,
-) -> Result<bool, ServeFault>
-    // The input was read to its end, and what was written is a run.
-    ensures run { IfOk result (WritesRun (S.left source.old) (K.holds sink.old) (K.holds sink.new)) }
-    ensures to_end { OnOk result (IsAtEnd (S.left source.new)) }
-
-    // Whatever comes of it, a prefix of a run was written; each fault says how much of it.
-    ensures prefix { WritesRunPrefix (S.left source.old) (K.holds sink.old) (K.holds sink.new) }
-    ensures written_in_part { result ≡ Err ServeFault.Write
-        → WritesRunProperPrefix (S.left source.old) (K.holds sink.old) (K.holds sink.new) }
-    ensures taken_answered { result ≡ Err ServeFault.Read
-        → AnswersTaken (S.left source.old) (S.left source.new) (K.holds sink.old) (K.holds sink.new) }
-    ensures last_bytes_unanswered { result ≡ Err ServeFault.TooLong
-        → AnswersButLastBytes (S.left source.old) (S.left source.new) (K.holds sink.old) (K.holds sink.new) }
-    ensures whole_replies { result ≡ Err ServeFault.Memory
-        → WritesWholeReplies (S.left source.old) (S.left source.new) (K.holds sink.old) (K.holds sink.new) }
-
-    // When each fault comes.
-    ensures read_fault { result ≡ Err ServeFault.Read → Rose (S.faults source.old) (S.faults source.new) }
-    ensures write_fault { result ≡ Err ServeFault.Write → Rose (K.faults sink.old) (K.faults sink.new) }
-    ensures too_long { WhereTold (S.left source.old) (S.left source.new)
-        (λ before after. (result ≡ Err ServeFault.TooLong) ↔ IsAboveLimit before after) }
-    ensures one_read_past { WhereTold (S.left source.old) (S.left source.new)
-        (λ before after. length before ≤ length after + MAX_INPUT + MAX_READ) }
-{
-    serve_lines(alloc, source, sink)
 }

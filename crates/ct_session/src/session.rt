@@ -5,47 +5,46 @@ ghost use Rattle.std.specs.Option.{option_to_list, is_some};
 ghost use Rattle.ct_commands.specs.Command.{cut_off};
 ghost use Rattle.ct_session.specs.Reply.{pieces_after};
 ghost use Rattle.ct_session.specs.Run.{PutsAnswers};
-ghost use Rattle.ct_session.specs.Inside.LongReply.{owed_text};
+ghost use Rattle.ct_replies.specs.LongReply.{owed_text};
 
-use crate::answer::{AnyReply, LongReply, answer};
-use crate::reply::{Refusal, Reply};
-use crate::text::put_reply;
+use crate::answers::Answers;
 use ct_commands::{Command, CommandReader};
-use ct_ledger::{Ledger, Piece};
+use ct_pieces::Piece;
+use ct_replies::{AnyReply, LongReply, Refusal, Reply, put_reply};
 use std::alloc::{AllocError, Global};
 use std::marker::Model;
 
 /// A session after some of its lines.
-#[derive(Debug, Drop)]
-pub(crate) struct Session {
-    ledger: Ledger,
+#[derive(Drop)]
+pub(crate) struct Session<A: Answers> {
+    answers: A,
     reader: CommandReader,
     refused: bool,
 }
 
-impl Model for Session {
+impl<A: Answers> Model for Session<A> {
     ghost use Rattle.ct_session.specs.Inside.State.{State};
 
     ghost Value = { State };
 
-    ghost view = { λ s. record { pieces = s.ledger.pieces; pending = s.reader; refused = s.refused } };
+    ghost view = { λ s. record { pieces = A.standing s.answers; pending = s.reader; refused = s.refused } };
 }
 
 /// Answers a command: whether the reply is a refusal. It is put at the end of the text, but for one that may be long, which is owed then.
 /// After an `Err`, which is want of memory, the text is as before.
-fn respond(
+fn respond<A: Answers>(
     alloc: Global,
-    ledger: &mut Ledger,
+    answers: &mut A,
     command: Command,
     replies: &mut Vec<u8>,
 ) -> Result<(Option<LongReply>, bool), AllocError>
-    ensures reply { IfOk result (λ r. PutsAnswers ledger.old.pieces (command ∷ []) r.1
-        replies.old.items (replies.new.items ++ owed_text r.0 ledger.new.pieces)) }
+    ensures reply { IfOk result (λ r. PutsAnswers (A.standing answers.old) (command ∷ []) r.1
+        replies.old.items (replies.new.items ++ owed_text r.0 (A.standing answers.new))) }
     ensures unput { IfOk result (λ r. IsSome r.0 → replies.new.items ≡ replies.old.items) }
-    ensures pieces { OnOk result (ledger.new.pieces ≡ pieces_after ledger.old.pieces command) }
+    ensures pieces { OnOk result (A.standing answers.new ≡ pieces_after (A.standing answers.old) command) }
     ensures unchanged { OnErr result (replies.new.items ≡ replies.old.items) }
 {
-    match answer(alloc, ledger, command)? {
+    match answers.answer(alloc, command)? {
         AnyReply::Short(reply) => {
             put_reply(alloc, replies, &reply)?;
             Ok((None, reply.is_refusal()))
@@ -55,36 +54,37 @@ fn respond(
 }
 
 /// Answers the command, if there is one, as `respond` does.
-fn respond_to_any(
+fn respond_to_any<A: Answers>(
     alloc: Global,
-    ledger: &mut Ledger,
+    answers: &mut A,
     command: Option<Command>,
     replies: &mut Vec<u8>,
 ) -> Result<(Option<LongReply>, bool), AllocError>
-    ensures reply { IfOk result (λ r. PutsAnswers ledger.old.pieces (option_to_list command) r.1
-        replies.old.items (replies.new.items ++ owed_text r.0 ledger.new.pieces)) }
+    ensures reply { IfOk result (λ r. PutsAnswers (A.standing answers.old) (option_to_list command) r.1
+        replies.old.items (replies.new.items ++ owed_text r.0 (A.standing answers.new))) }
     ensures unput { IfOk result (λ r. IsSome r.0 → replies.new.items ≡ replies.old.items) }
-    ensures pieces { OnOk result (ledger.new.pieces ≡ fold pieces_after ledger.old.pieces (option_to_list command)) }
+    ensures pieces { OnOk result (A.standing answers.new ≡ fold pieces_after (A.standing answers.old) (option_to_list command)) }
     ensures unchanged { OnErr result (replies.new.items ≡ replies.old.items) }
 {
     match command {
-        Some(command) => respond(alloc, ledger, command, replies),
+        Some(command) => respond(alloc, answers, command, replies),
         None => Ok((None, false)),
     }
 }
 
-impl Session {
+impl<A: Answers> Session<A> {
     ghost use Rattle.ct_session.specs.Inside.State.{fresh_state, PutsLines};
 
-    /// A session before its first line. `Err` is want of memory.
-    pub(crate) fn new(alloc: Global) -> Result<Session, AllocError>
-        ensures { IfOk result (λ session. session ≡ fresh_state) }
+    /// A session before its first line, whose commands are answered so; no piece stands.
+    pub(crate) fn new(answers: A) -> Session<A>
+        requires { A.standing answers ≡ [] }
+        ensures { result ≡ fresh_state }
     {
-        Ok(Session {
-            ledger: Ledger::new(alloc)?,
+        Session {
+            answers,
             reader: CommandReader::new(),
             refused: false,
-        })
+        }
     }
 
     /// Whether a submission is open, whose document goes on.
@@ -98,7 +98,7 @@ impl Session {
     pub(crate) fn pieces(&self) -> &[Piece]
         ensures { result.now ≡ self.now.pieces }
     {
-        self.ledger.pieces()
+        self.answers.pieces()
     }
 
     /// Takes the next line, and puts the reply to the command that it completes, if it completes one, at the end of the text, or tells
@@ -116,7 +116,7 @@ impl Session {
         ensures unchanged { OnErr result (replies.new.items ≡ replies.old.items) }
     {
         let command = self.reader.take_line(alloc, line)?;
-        let (owed, refused) = respond_to_any(alloc, &mut self.ledger, command, replies)?;
+        let (owed, refused) = respond_to_any(alloc, &mut self.answers, command, replies)?;
         self.refused = self.refused || refused;
         Ok(owed)
     }

@@ -2,7 +2,7 @@
 use Rattle.std.specs.Prelude.{◌≡◌, ◌≤◌, ℕ, Bool, true, List, length, All, Contains, slice_get, Some}
 use Rattle.ct_rules.specs.Derivation.{LineValue}
 use Rattle.ct_derive.specs.Pieces.{cited_places, IsNeeded}
-use Rattle.ct_derive.specs.Inside.Pruning.{is_marked}
+use Rattle.ct_derive.specs.Pruning.{is_marked}
 
 -- a mark for each piece: only needed pieces are marked, those that lines name are, and so are the parts of marked ones from this place on
 pub record AreMarkedPieces (place : ℕ) (parts : List (List ℕ)) (lines : List LineValue) (marks : List Bool) : Type 0 where

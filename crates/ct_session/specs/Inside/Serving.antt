@@ -4,11 +4,11 @@ use Rattle.std.specs.Io.KnownBytes.{Appends, Consumes, IsAtEnd}
 use Rattle.ct_lines.specs.Lines.{lines_of, IsLine, ended_lines}
 use Rattle.ct_io.specs.declared.TheConstants.{MAX_INPUT, MAX_READ}
 use Rattle.ct_io.specs.Reader.{Reader, PassesEmptyLines, input_of}
-use Rattle.ct_session.specs.declared.serve.ServeFault.{ServeFault}
+use Rattle.ct_io.specs.declared.run_fault.RunFault.{RunFault}
 use Rattle.ct_session.specs.declared.serve.Step.{Step}
 use Rattle.ct_session.specs.declared.serve.Step.TheVariants.{Line, End}
 use Rattle.ct_session.specs.Serve.{AreFewMore}
-use Rattle.ct_session.specs.Inside.Ending.{Ends}
+use Rattle.ct_session.specs.Ending.{Ends}
 use Rattle.ct_session.specs.Inside.State.{State, fresh_state, TakesLines}
 
 -- the lines of an input are those that were taken, and those of the bytes that are left, where the source tells its bytes
@@ -59,7 +59,7 @@ abbrev pub unserved : Reader → ℕ
 unserved r = MAX_INPUT - (r.taken - length r.held)
 
 -- what a step comes to, after which the reader is q: a line was taken, and less is left; all of the input was taken; or the session is broken off
-abbrev pub StepsTo : Result Step ServeFault → Reader → Reader → State → List ℕ → Option (List ℕ) → Option (List ℕ) → Option (List ℕ) → Option (List ℕ) → ℕ → ℕ → ℕ → ℕ → Type 0
+abbrev pub StepsTo : Result Step RunFault → Reader → Reader → State → List ℕ → Option (List ℕ) → Option (List ℕ) → Option (List ℕ) → Option (List ℕ) → ℕ → ℕ → ℕ → ℕ → Type 0
 StepsTo (Ok Line) r q s gathered left now old held reads reads' writes writes' = Serves q s gathered left now old held reads reads' writes writes' × (unserved q < unserved r)
 StepsTo (Ok End) r q s gathered left now old held reads reads' writes writes' = Serves q s gathered left now old held reads reads' writes writes' × (q.held ≡ []) × (q.ended ≡ true)
 StepsTo (Err fault) r q s gathered left now old held reads reads' writes writes' = Ends (Err fault) left now old held reads reads' writes writes'

@@ -1,6 +1,6 @@
 use Rattle.std.proofs.Common.{List, ℕ, sym, ◌∙◌}
 use Rattle.std.proofs.lemmas.List.{at_drop_more, at_drop_all}
-use Rattle.ct_derive.specs.Inside.Pruning.{with_marks}
+use Rattle.ct_derive.specs.Pruning.{with_marks}
 use Rattle.ct_derive.proofs.marks.mark.Goals as goal
 
 pub loop-place-preserved : goal.loop-place-preserved

@@ -1,5 +1,5 @@
 use Rattle.std.proofs.Common.{◌≡◌, drop}
-use Rattle.ct_derive.specs.Inside.Pruning.{with_marks}
+use Rattle.ct_derive.specs.Pruning.{with_marks}
 use Rattle.ct_derive.proofs.marks.mark.Given as goal
 
 -- the marks of the places that are left are all

@@ -1,4 +1,4 @@
-use Rattle.ct_derive.specs.Inside.Pruning.{ArePlacesBelow}
+use Rattle.ct_derive.specs.Pruning.{ArePlacesBelow}
 use Rattle.ct_derive.proofs.marks.marked_places.Given as goal
 
 abbrev pub invariant-loop-place : goal.invariant-loop-place

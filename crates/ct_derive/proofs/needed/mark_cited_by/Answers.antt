@@ -6,7 +6,7 @@ use Rattle.ct_rules.specs.declared.rule.Rule.{Rule}
 use Rattle.ct_rules.specs.Rule.{place_of}
 use Rattle.ct_rules.specs.Derivation.{LineValue}
 use Rattle.ct_derive.specs.Pieces.{cited_places}
-use Rattle.ct_derive.specs.Inside.Pruning.{with_marks}
+use Rattle.ct_derive.specs.Pruning.{with_marks}
 use Rattle.ct_derive.proofs.NeededPieces.{cited_of_line, with_marks-cons}
 use Rattle.ct_derive.proofs.needed.mark_cited_by.Goals as goal
 

@@ -1,6 +1,6 @@
 use Rattle.std.proofs.Common.{◌≡◌, drop}
 use Rattle.ct_derive.specs.Pieces.{cited_places}
-use Rattle.ct_derive.specs.Inside.Pruning.{with_marks}
+use Rattle.ct_derive.specs.Pruning.{with_marks}
 use Rattle.ct_derive.proofs.needed.mark_cited_by.Given as goal
 
 -- with the marks of the lines that are left, these are all

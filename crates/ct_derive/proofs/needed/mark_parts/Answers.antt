@@ -1,6 +1,6 @@
 use Rattle.std.proofs.Common.{List, Bool, ℕ, ap, subst, sym, refl, ◌∙◌}
 use Rattle.std.proofs.lemmas.Option.{slice_get_read}
-use Rattle.ct_derive.specs.Inside.Pruning.{with_marks}
+use Rattle.ct_derive.specs.Pruning.{with_marks}
 use Rattle.ct_derive.specs.Inside.Needed.{AreMarkedPieces}
 use Rattle.ct_derive.proofs.NeededPieces.{pieces_unmarked, pieces_marked}
 use Rattle.ct_derive.proofs.needed.mark_parts.Goals as goal

@@ -15,10 +15,10 @@ use Rattle.ct_rules.specs.declared.rule.Rule.TheVariants.{M1, V0, V1}
 use Rattle.ct_rules.specs.Rule.{row_of}
 use Rattle.ct_explain.specs.Explained.{explanation_text}
 use Rattle.ct_session.specs.Reply.{column}
-use Rattle.ct_session.specs.Text.{reply_text, ledger_text, code_text}
-use Rattle.ct_session.specs.declared.reply.Reply.TheVariants.{Shown, Table, Lines, Refused}
-use Rattle.ct_session.specs.declared.reply.Refusal.TheVariants as refusal
-use Rattle.ct_session.specs.declared.reply.Bounds.{Bounds}
+use Rattle.ct_replies.specs.Text.{reply_text, ledger_text, code_text}
+use Rattle.ct_replies.specs.declared.reply.Reply.TheVariants.{Shown, Table, Lines, Refused}
+use Rattle.ct_replies.specs.declared.reply.Refusal.TheVariants as refusal
+use Rattle.ct_replies.specs.declared.reply.Bounds.{Bounds}
 use Rattle.ct_laws.proofs.EqualBounds.{four_at_five, one_word_alone}
 use Rattle.ct_laws.proofs.WordAlone.{word_alone, word_alone_listed}
 use Rattle.ct_laws.proofs.OneLine.{lone, lone_explains}

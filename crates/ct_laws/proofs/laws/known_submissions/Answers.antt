@@ -18,12 +18,12 @@ use Rattle.ct_commands.specs.Form.{form_of}
 use Rattle.ct_pieces.specs.Piece.{PieceValue}
 use Rattle.ct_pieces.specs.Submission.{submitted}
 use Rattle.ct_kind.specs.declared.fault.SubmitFault.TheVariants as submit
-use Rattle.ct_session.specs.Text.{reply_text, ledger_text}
+use Rattle.ct_replies.specs.Text.{reply_text, ledger_text}
 use Rattle.ct_pieces.specs.Withdrawal.{withdrawn_all}
 use Rattle.ct_kind.specs.Ascending.{ascending}
 use Rattle.ct_build.specs.Build.{build_fault, early_fault, few_fault, sizes_fault, result_size, built, step_distance, other_of, is_right_other, is_right_weight, gives_weight, is_right_length}
-use Rattle.ct_session.specs.declared.reply.Reply.TheVariants.{Accepted, WithdrawnAll, Shown, Lines, Refused}
-use Rattle.ct_session.specs.declared.reply.Refusal.TheVariants as refusal
+use Rattle.ct_replies.specs.declared.reply.Reply.TheVariants.{Accepted, WithdrawnAll, Shown, Lines, Refused}
+use Rattle.ct_replies.specs.declared.reply.Refusal.TheVariants as refusal
 use Rattle.ct_rules.specs.declared.rule.Rule.TheVariants.{L10, U2}
 use Rattle.ct_rule_parts.specs.declared.support.Support.{Support}
 use Rattle.ct_rule_parts.specs.declared.support.Support.TheVariants.{Size}

@@ -1,6 +1,6 @@
 use Rattle.std.proofs.Common.{refl}
 use Rattle.std.specs.Fmt.{digits}
-use Rattle.ct_session.specs.Text.{reply_text}
+use Rattle.ct_replies.specs.Text.{reply_text}
 use Rattle.ct_laws.proofs.laws.known_texts.Goals as goal
 
 pub returns-clause-bounds : goal.returns-clause-bounds

@@ -1,6 +1,6 @@
 use Rattle.std.proofs.Common.{is_some, ap}
 use Rattle.std.proofs.lemmas.Result.{on_ok_weaker}
-use Rattle.ct_session.specs.Inside.LongReply.{long_text}
+use Rattle.ct_replies.specs.LongReply.{long_text}
 use Rattle.ct_session.proofs.Gathering.{few_kept}
 use Rattle.ct_session.proofs.Outputs.{line_answered, few_answered, text_answered, breaks_line}
 use Rattle.ct_session.proofs.serve.answer_line.Goals as goal

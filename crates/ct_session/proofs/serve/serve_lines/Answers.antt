@@ -7,11 +7,8 @@ use Rattle.ct_session.proofs.serve.serve_lines.Goals as goal
 pub returns-in_default : goal.returns-in_default
 returns-in_default g c = ends_at_once _ _ _ _
 
-pub returns-in_default-new : goal.returns-in_default-new
-returns-in_default-new g c = ends_at_once _ _ _ _
-
 pub lines-init : goal.lines-init
-lines-init g c = rw (c.in-Ok.ensures, c.in-Ok-new.ensures, c.new-gathered.ensures.items) (begins _ _ _ _, few_kept [] (omega arith))
+lines-init g c = rw (c.in-Ok.ensures, c.new-session.ensures, c.new-gathered.ensures.items) (begins _ _ _ _, few_kept [] (omega arith))
 
 pub returns-in_err-serve_line : goal.returns-in_err-serve_line
 returns-in_err-serve_line g c =

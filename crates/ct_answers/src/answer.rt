@@ -1,0 +1,231 @@
+//! Answers to commands over the pieces that stand.
+
+ghost use Rattle.std.specs.Prelude.{◌≡◌, ◌≢◌, Some, IfOk, OnOk, OnErr};
+ghost use Rattle.std.specs.List.{AllZip};
+ghost use Rattle.ct_codes.specs.Entry.{IsEntry};
+ghost use Rattle.ct_text.specs.EntryNumbers.{named_entry};
+ghost use Rattle.ct_pieces.specs.Submission.{submitted, with_piece};
+ghost use Rattle.ct_pieces.specs.Withdrawal.{withdrawn, withdrawn_all, left_by};
+ghost use Rattle.ct_session.specs.Reply.{IsReply, AreBoundsOf, IsShowReply, IsTableReply, IsExplainReply, IsListReply, column, pieces_after, submission_reply, withdrawal_reply, withdrawal_all_reply};
+ghost use Rattle.ct_replies.specs.LongReply.{reply_of};
+
+use crate::explaining;
+use ct_codes::{Entry, Side};
+use ct_commands::Command;
+use ct_ledger::{Ledger, Piece, SubmitFault, WithdrawFault};
+use ct_replies::{AnyReply, Bounds, BoundsList, LongReply, Refusal, Reply, ledger_text};
+use ct_session::Answers;
+use ct_text::{EntryNumbers, Id, TableNumbers, Text};
+use ct_words::MAX_N;
+use std::alloc::{AllocError, Global};
+use std::marker::Model;
+
+/// The bounds of an entry of the table.
+fn bounds_of(ledger: &Ledger, entry: Entry) -> Bounds
+    requires { IsEntry entry }
+    ensures { AreBoundsOf ledger.now.pieces entry result }
+{
+    let table = ledger.table();
+    Bounds {
+        entry,
+        lower: table.lower(entry),
+        upper: table.upper(entry),
+    }
+}
+
+/// The reply to `show`: the bounds of the entry of the table with these numbers, if there is one.
+fn show(ledger: &Ledger, numbers: EntryNumbers) -> Reply
+    ensures { IsShowReply ledger.now.pieces (named_entry numbers) result }
+{
+    match numbers.entry() {
+        Some(entry) => Reply::Shown(bounds_of(ledger, entry)),
+        None => Reply::Refused(Refusal::NoEntry),
+    }
+}
+
+/// The bounds of all entries of a column of the table, in the order of their lengths: none where the column has no entry.
+fn column_of(
+    alloc: Global,
+    ledger: &Ledger,
+    numbers: TableNumbers,
+) -> Result<BoundsList, AllocError>
+    ensures { IfOk result (λ bounds. AllZip (AreBoundsOf ledger.now.pieces) (column numbers.d numbers.w) bounds) }
+{
+    let mut list = Vec::new(alloc);
+    for n in 1..MAX_N + 1 {
+        if let Some(entry) = numbers.entry(n) {
+            list.push(bounds_of(ledger, entry))?;
+        }
+    }
+    Ok(BoundsList::from_vec(list))
+}
+
+/// The reply to `table`: the bounds of the column with these numbers, where it has an entry. `Err` is want of memory.
+fn table(alloc: Global, ledger: &Ledger, numbers: TableNumbers) -> Result<Reply, AllocError>
+    ensures { IfOk result (IsTableReply ledger.now.pieces (column numbers.d numbers.w)) }
+{
+    let bounds = column_of(alloc, ledger, numbers)?;
+    if bounds.as_slice().is_empty() {
+        Ok(Reply::Refused(Refusal::NoEntry))
+    } else {
+        Ok(Reply::Table(bounds))
+    }
+}
+
+/// The reply to `explain`: the document of an explanation of the best bound on this side of the entry of the table with these numbers,
+/// if there is one. `Err` is want of memory.
+fn explain(
+    alloc: Global,
+    ledger: &Ledger,
+    side: Side,
+    numbers: EntryNumbers,
+) -> Result<Reply, AllocError>
+    ensures { IfOk result (IsExplainReply ledger.now.pieces side (named_entry numbers)) }
+{
+    let Some(entry) = numbers.entry() else {
+        return Ok(Reply::Refused(Refusal::NoEntry));
+    };
+    let derivation = explaining::explain(alloc, ledger, side, entry)?;
+    let document = ct_explain::print(alloc, ledger.pieces(), &derivation)?;
+    Ok(Reply::Lines(Text::from_vec(document)))
+}
+
+/// Answers `list`: a code of the entry of the table with these numbers, if there is one, which has as many words as the lower bound says.
+/// `Err` is want of memory.
+fn list(alloc: Global, ledger: &Ledger, numbers: EntryNumbers) -> Result<AnyReply, AllocError>
+    ensures { IfOk result (λ answer. IsListReply ledger.now.pieces (named_entry numbers) (reply_of answer ledger.now.pieces)) }
+{
+    match numbers.entry() {
+        Some(entry) => {
+            let code = ct_list::list(alloc, ledger, entry)?;
+            Ok(AnyReply::Long(LongReply::Code(code)))
+        }
+        None => Ok(AnyReply::Short(Reply::Refused(Refusal::NoEntry))),
+    }
+}
+
+/// Answers a submission: the reply, and the pieces after it. After an `Err`, which is want of memory, the ledger is as before.
+fn submit(ledger: &mut Ledger, id: Id, document: Text) -> Result<Reply, AllocError>
+    ensures reply { IfOk result (λ reply. reply ≡ submission_reply id (submitted ledger.old.pieces id document)) }
+    ensures pieces { OnOk result (ledger.new.pieces ≡ with_piece ledger.old.pieces (submitted ledger.old.pieces id document)) }
+    ensures unchanged { OnErr result (ledger.new ≡ ledger.old) }
+{
+    match ledger.submit_text(id, document) {
+        Ok(size) => Ok(Reply::Accepted(id, size)),
+        Err(fault) => refused(fault),
+    }
+}
+
+/// The reply to a submission that has the fault; want of memory is no reply.
+fn refused(fault: SubmitFault) -> Result<Reply, AllocError>
+    ensures reply { IfOk result (λ reply. (fault ≢ SubmitFault.Memory) × (reply ≡ Reply.Refused (Refusal.Submission fault))) }
+{
+    if fault.is_memory() {
+        return Err(AllocError);
+    }
+    Ok(Reply::Refused(Refusal::Submission(fault)))
+}
+
+/// Answers a submission, if its line is of a form of `submit`. After an `Err`, which is want of memory, the ledger is as before.
+fn submit_any(ledger: &mut Ledger, id: Option<Id>, document: Text) -> Result<Reply, AllocError>
+    ensures reply { IfOk result (IsReply ledger.old.pieces (Command.Submission id document)) }
+    ensures pieces { OnOk result (ledger.new.pieces ≡ pieces_after ledger.old.pieces (Command.Submission id document)) }
+    ensures unchanged { OnErr result (ledger.new ≡ ledger.old) }
+{
+    match id {
+        Some(id) => submit(ledger, id, document),
+        None => Ok(Reply::Refused(Refusal::NoCommand)),
+    }
+}
+
+/// Answers a withdrawal: the reply, and the pieces after it. After an `Err`, which is want of memory, the ledger is as before.
+fn withdraw(ledger: &mut Ledger, id: Id) -> Result<Reply, AllocError>
+    ensures reply { IfOk result (λ reply. reply ≡ withdrawal_reply id (withdrawn ledger.old.pieces id)) }
+    ensures pieces { OnOk result (ledger.new.pieces ≡ left_by ledger.old.pieces (withdrawn ledger.old.pieces id)) }
+    ensures unchanged { OnErr result (ledger.new ≡ ledger.old) }
+{
+    match ledger.withdraw(id) {
+        Ok(()) => Ok(Reply::Withdrawn(id)),
+        Err(WithdrawFault::Memory) => Err(AllocError),
+        Err(fault) => Ok(Reply::Refused(Refusal::Withdrawal(id, fault))),
+    }
+}
+
+/// Answers a withdrawal with all that rests on a piece: the reply, and the pieces after it. After an `Err`, which is want of memory,
+/// the ledger is as before.
+fn withdraw_all(ledger: &mut Ledger, id: Id) -> Result<Reply, AllocError>
+    ensures reply { IfOk result (λ reply. reply ≡ withdrawal_all_reply id ledger.old.pieces (withdrawn_all ledger.old.pieces id)) }
+    ensures pieces { OnOk result (ledger.new.pieces ≡ left_by ledger.old.pieces (withdrawn_all ledger.old.pieces id)) }
+    ensures unchanged { OnErr result (ledger.new ≡ ledger.old) }
+{
+    match ledger.withdraw_all(id) {
+        Ok(count) => Ok(Reply::WithdrawnAll(id, count)),
+        Err(WithdrawFault::Memory) => Err(AllocError),
+        Err(fault) => Ok(Reply::Refused(Refusal::Withdrawal(id, fault))),
+    }
+}
+
+/// Answers a command: the reply, and the pieces after it. After an `Err`, which is want of memory, the ledger is as before.
+fn answer(alloc: Global, ledger: &mut Ledger, command: Command) -> Result<AnyReply, AllocError>
+    ensures reply { IfOk result (λ answer. IsReply ledger.old.pieces command (reply_of answer ledger.new.pieces)) }
+    ensures pieces { OnOk result (ledger.new.pieces ≡ pieces_after ledger.old.pieces command) }
+    ensures unchanged { OnErr result (ledger.new ≡ ledger.old) }
+{
+    let reply = match command {
+        Command::Submission(id, document) => submit_any(ledger, id, document)?,
+        Command::CutOff => Reply::Refused(Refusal::CutOff),
+        Command::Withdraw(id) => withdraw(ledger, id)?,
+        Command::WithdrawAll(id) => withdraw_all(ledger, id)?,
+        Command::Show(numbers) => show(ledger, numbers),
+        Command::Table(numbers) => table(alloc, ledger, numbers)?,
+        Command::Explain(side, numbers) => explain(alloc, ledger, side, numbers)?,
+        Command::List(numbers) => return list(alloc, ledger, numbers),
+        Command::Ledger => {
+            let lines = ledger_text(alloc, ledger.pieces())?;
+            Reply::Lines(Text::from_vec(lines))
+        }
+        Command::Dump => return Ok(AnyReply::Long(LongReply::Dump)),
+        Command::Unknown => Reply::Refused(Refusal::NoCommand),
+    };
+    Ok(AnyReply::Short(reply))
+}
+
+/// Answers commands by a ledger. Contracts see its pieces.
+#[derive(Drop)]
+pub(crate) struct LedgerAnswers {
+    ledger: Ledger,
+}
+
+impl Model for LedgerAnswers {
+    ghost use Rattle.std.specs.Prelude.{List};
+    ghost use Rattle.ct_pieces.specs.Piece.{PieceValue};
+
+    ghost Value = { List PieceValue };
+
+    ghost view = { λ a. a.ledger.pieces };
+}
+
+impl LedgerAnswers {
+    ghost use Rattle.std.specs.Prelude.{◌≡◌, [], IfOk};
+
+    /// With a ledger that has no piece yet. `Err` is want of memory.
+    pub(crate) fn new(alloc: Global) -> Result<LedgerAnswers, AllocError>
+        ensures { IfOk result (λ answers. answers ≡ []) }
+    {
+        Ok(LedgerAnswers {
+            ledger: Ledger::new(alloc)?,
+        })
+    }
+}
+
+impl Answers for LedgerAnswers {
+    ghost standing = { λ pieces. pieces };
+
+    fn pieces(&self) -> &[Piece] {
+        self.ledger.pieces()
+    }
+
+    fn answer(&mut self, alloc: Global, command: Command) -> Result<AnyReply, AllocError> {
+        answer(alloc, &mut self.ledger, command)
+    }
+}

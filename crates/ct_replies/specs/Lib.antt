@@ -1,0 +1,5 @@
+pub mod Text
+pub mod Refusals
+pub mod LongReply
+pub mod Writing
+pub mod Inside

@@ -1,8 +1,0 @@
-use Rattle.std.proofs.Common.{◌≡◌, ◌++◌, take}
-use Rattle.std.specs.List.{flat_map}
-use Rattle.ct_pieces.specs.Text.{piece_text}
-use Rattle.ct_session.specs.Text.{ended}
-use Rattle.ct_session.proofs.text.put_pieces.Given as goal
-
-abbrev pub invariant-loop-piece : goal.invariant-loop-piece
-invariant-loop-piece l = l.text.items ≡ l.fn.text.items ++ flat_map (λ p. ended (piece_text p)) (take l.piece-index l.pieces)
