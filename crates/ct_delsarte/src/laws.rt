@@ -1,10 +1,10 @@
 //! What duals promise at the entries of the table; the functions do nothing.
-ghost use Rattle.std.specs.Prelude.{◌≡◌, ℕ, ◌≤◌, List, [], ◌∷◌, ℤ, pos, None};
+ghost use Rattle.std.specs.Prelude.{◌≡◌, ℕ, ◌≤◌, List, [], ◌∷◌, ℤ, pos, ◌≤ℤ◌, None};
 ghost use Rattle.ct_codes.specs.Code.{IsTrueUpper};
 ghost use Rattle.ct_duals.specs.declared.dual.Dual.{Dual};
 ghost use Rattle.ct_duals.specs.Dual.{IsDual};
 ghost use Rattle.ct_duals.specs.Check.{dual_fault};
-ghost use Rattle.ct_duals.specs.Bound.{AcceptedValue, IsAccepted, AreTrueUppers, dual_premises, dual_bound};
+ghost use Rattle.ct_duals.specs.Bound.{AcceptedValue, IsAccepted, AreTrueUppers, IsSpread, dual_premises, dual_spread, dual_bound};
 ghost use Rattle.ct_codes.specs.Numbers.{numbers_of, combination};
 ghost use Rattle.ct_duals.specs.Examples.{thirteen_six, eight_four_four, one_everywhere, above_at_last};
 
@@ -16,13 +16,19 @@ pub fn duals_bound_codes()
 {}
 
 /// A dual that stands is sound: no code of its entry is larger than its bound, wherever the upper bounds that it rests on are
-/// true, and that bound is at least 1. A dual of the form of one stands with its f(0) where the check accepts it.
+/// true, and f adds up to at most its spread for each word of a code; that bound and that spread are at least 1. A dual of the
+/// form of one stands with its f(0) where the check accepts it.
 pub fn accepted_duals_are_sound()
     ensures sound { (accepted : AcceptedValue) (uppers : List ℕ) → IsAccepted accepted →
         AreTrueUppers (dual_premises accepted.dual) uppers →
         IsTrueUpper accepted.dual.entry (dual_bound accepted.dual accepted.at_zero uppers) }
     ensures some { (accepted : AcceptedValue) (uppers : List ℕ) → IsAccepted accepted →
         1 ≤ dual_bound accepted.dual accepted.at_zero uppers }
+    ensures spread { (accepted : AcceptedValue) (uppers : List ℕ) → IsAccepted accepted →
+        AreTrueUppers (dual_premises accepted.dual) uppers →
+        IsSpread accepted.dual.entry (combination (numbers_of accepted.dual.entry) accepted.dual.c) (dual_spread accepted.dual accepted.at_zero uppers) }
+    ensures some_spread { (accepted : AcceptedValue) (uppers : List ℕ) → IsAccepted accepted →
+        pos 1 ≤ℤ dual_spread accepted.dual accepted.at_zero uppers }
     ensures checked { (dual : Dual) → IsDual dual → dual_fault (numbers_of dual.entry) dual ≡ None →
         IsAccepted (record { dual = dual; at_zero = combination (numbers_of dual.entry) dual.c 0 }) }
 {}

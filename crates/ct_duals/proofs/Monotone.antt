@@ -1,4 +1,4 @@
--- Smaller upper bounds never give a greater bound.
+-- Smaller upper bounds never give a greater spread, nor a greater bound.
 use Rattle.std.proofs.Common.{ℕ, zero, suc, ◌+◌, ◌*◌, ◌/◌, ◌≤◌, Bool, true, false, cond, List, [], ◌∷◌, arith}
 use Rattle.std.specs.Prelude.{ℤ, pos, negsuc, ◌+ℤ◌, ◌≤ℤ◌}
 use Rattle.std.proofs.lemmas.Int.{ints}
@@ -7,7 +7,7 @@ use Rattle.std.proofs.Math.Nat.{div-mul-le_self}
 use Rattle.ct_codes.specs.declared.entry.Entry.{Entry}
 use Rattle.ct_duals.specs.declared.dual.Dual.{Dual}
 use Rattle.ct_codes.specs.Numbers.{multiplier}
-use Rattle.ct_duals.specs.Bound.{natural, positive, charges, is_far, near_charge, far_charge, dual_bound, AreAtMost}
+use Rattle.ct_duals.specs.Bound.{natural, positive, charges, is_far, near_charge, far_charge, dual_spread, dual_bound, AreAtMost}
 use Rattle.ct_duals.proofs.Charges.{near_charge-first, far_charge-first}
 
 charges-le : (e : Entry) (ps : List (ℕ × ℤ)) (us vs : List ℕ) → AreAtMost us vs
@@ -50,15 +50,20 @@ div-le m n (suc c) h =
     let part = div-mul-le_self m (suc c) in
     le-div (m / suc c) n (suc c) (omega arith) (omega arith)
 
-pub dual_bound-monotone : (d : Dual) (at_zero : ℤ) (us vs : List ℕ) → AreAtMost us vs → dual_bound d at_zero us ≤ dual_bound d at_zero vs
-unfolding dual_bound
-dual_bound-monotone d at_zero us vs h =
+pub dual_spread-monotone : (d : Dual) (at_zero : ℤ) (us vs : List ℕ) → AreAtMost us vs → dual_spread d at_zero us ≤ℤ dual_spread d at_zero vs
+dual_spread-monotone d at_zero us vs h =
     let both = charges-le d.entry (positive d.y) us vs h in
     let first = both.0 in
     let second = both.1 in
-    let c = natural (multiplier d.c 0) in
     let r = near_charge d.entry (charges (positive d.y) us) + far_charge d.entry (charges (positive d.y) us) in
     let s = near_charge d.entry (charges (positive d.y) vs) + far_charge d.entry (charges (positive d.y) vs) in
-    let sum = natural-le (at_zero +ℤ pos r) (at_zero +ℤ pos s) (omega (arith, ints)) in
-    let quotient = div-le (natural (at_zero +ℤ pos r)) (natural (at_zero +ℤ pos s)) c sum in
+    let grown : r ≤ s = omega arith in
+    omega (arith, ints)
+
+pub dual_bound-monotone : (d : Dual) (at_zero : ℤ) (us vs : List ℕ) → AreAtMost us vs → dual_bound d at_zero us ≤ dual_bound d at_zero vs
+unfolding dual_bound
+dual_bound-monotone d at_zero us vs h =
+    let c = natural (multiplier d.c 0) in
+    let sum = natural-le (dual_spread d at_zero us) (dual_spread d at_zero vs) (dual_spread-monotone d at_zero us vs h) in
+    let quotient = div-le (natural (dual_spread d at_zero us)) (natural (dual_spread d at_zero vs)) c sum in
     omega arith

@@ -6,7 +6,7 @@ ghost use Rattle.ct_duals.specs.declared.fault.DualFault.TheVariants.{Lead, Abov
 ghost use Rattle.ct_codes.specs.Numbers.{multiplier, combination};
 ghost use Rattle.ct_duals.specs.Dual.{Fits, IsDual};
 ghost use Rattle.ct_duals.specs.Check.{dual_fault, IsBelow, IsLeastAbove};
-ghost use Rattle.ct_duals.specs.Bound.{AreTrueUppers, AreAtMost, dual_premises, dual_bound};
+ghost use Rattle.ct_duals.specs.Bound.{AreTrueUppers, AreAtMost, dual_premises, dual_spread, dual_bound};
 
 use ct_codes::Scheme;
 
@@ -35,8 +35,10 @@ pub fn faults_of_duals()
         (dual_fault number dual ≡ Some (Above at value allowed)) ↔ IsLeastAbove number dual at value allowed }
 {}
 
-/// Smaller upper bounds never give a greater bound.
+/// Smaller upper bounds never give a greater spread, nor a greater bound.
 pub fn bounds_of_duals_are_monotone()
-    ensures { (dual : Dual) (at_zero : ℤ) (uppers others : List ℕ) →
+    ensures spread { (dual : Dual) (at_zero : ℤ) (uppers others : List ℕ) →
+        AreAtMost uppers others → dual_spread dual at_zero uppers ≤ℤ dual_spread dual at_zero others }
+    ensures bound { (dual : Dual) (at_zero : ℤ) (uppers others : List ℕ) →
         AreAtMost uppers others → dual_bound dual at_zero uppers ≤ dual_bound dual at_zero others }
 {}
