@@ -1,7 +1,7 @@
 -- The entries that rest on one by a dual, in the closing of a table.
 use Rattle.std.proofs.Common.{◌≡◌, ℕ, ◌<◌, List, Contains, Option, Some, None, true, false, refl, sym, subst, inl, inr, ◌⊎◌, ◌∙◌}
-use Rattle.std.specs.Prelude.{ℤ, slice_get, is_some, get_or, not}
-use Rattle.std.proofs.lemmas.Bool.{and_parts, false≢true}
+use Rattle.std.specs.Prelude.{ℤ, [], ◌∷◌, slice_get, get_or}
+use Rattle.std.proofs.lemmas.Bool.{false≢true}
 use Rattle.std.proofs.lemmas.List.Elements.{All-map, All-contains}
 use Rattle.std.proofs.lemmas.Option.{none-some}
 use Rattle.ct_codes.specs.declared.claim.Side.{Side}
@@ -11,40 +11,41 @@ use Rattle.ct_codes.specs.Entry.{constant_weight, is_entry}
 use Rattle.ct_codes.specs.Constructions.Even.{even_from}
 use Rattle.ct_duals.specs.Bound.{AcceptedValue, positive, dual_premises}
 use Rattle.ct_rule_parts.specs.declared.support.Support.{Support}
-use Rattle.ct_rule_parts.specs.Parts.{has_weight}
-use Rattle.ct_rule_parts.specs.Support.{dual_at}
+use Rattle.ct_rule_parts.specs.Support.{dual_behind}
 use Rattle.ct_rule_parts.proofs.PlainEntries.{no_item, two_items}
 use Rattle.ct_weight_rules.specs.Neighbours.{unweighted, unweighted_and_nearer}
 use Rattle.ct_weight_rules.specs.Delsarte.{premises_of_dual}
-use Rattle.ct_rules.specs.declared.rule.Rule.TheVariants.{U11}
-use Rattle.ct_rules.specs.Rule.{row_of, rule_side, cited, parts_over, applies}
+use Rattle.ct_rules.specs.declared.rule.Rule.{Rule}
+use Rattle.ct_rules.specs.Rule.{cited, parts_over, applies}
 use Rattle.ct_rules.proofs.Applied.{defined}
 use Rattle.ct_rules.proofs.LawfulRows.{lawful}
 use Rattle.ct_slots.specs.Places.{ArePlaces, IsPlaceOf, IsUpTo}
 use Rattle.ct_slots.specs.Worklist.{WorkValue}
+use Rattle.ct_offers.specs.Inside.Pulled.{bounding_rule}
 use Rattle.ct_offers.specs.Inside.Marking.{KeepsMarks, IsTestedAt, IsTestedByDual, AreTestedByDuals, AreTestedFromDuals}
+use Rattle.ct_offers.proofs.BoundingRules.{bounding_rests, bounding_back, bounding_dual}
 use Rattle.ct_offers.proofs.MarkingLemmas.{tested_at_more}
 use Rattle.ct_offers.proofs.PulledLemmas.{above_step, dual_support_there}
 
-pub dual_side : (place : ℕ) → rule_side (U11 place) ≡ Upper
-unfolding row_of
-dual_side place = refl
+-- the rule by which the support at a place bounds from above
+abbrev pub by_support : List Support → ℕ → Rule
+by_support supports place = bounding_rule (slice_get supports place) place
 
 pub below-not_above : (side : Side) → side ≡ Lower → side ≡ Upper → ⊥
 below-not_above side low up = let clash : Lower ≡ Upper = sym low ∙ up in absurd cc
 
 -- what was tested from an entry, at one that rests on it
 pub tested_from_duals : (supports : List Support) (bounds : List ℕ) (work : WorkValue) (from e : Entry) (place : ℕ)
-    → AreTestedFromDuals supports bounds work from → applies supports (U11 place) e ≡ true
-    → Contains ((parts_over supports (U11 place)).rests_on e) from → IsTestedAt supports bounds work (U11 place) e
-unfolding row_of
-tested_from_duals supports bounds work from e place each here rests = each e place here rests
+    → AreTestedFromDuals supports bounds work from → applies supports (by_support supports place) e ≡ true
+    → Contains ((parts_over supports (by_support supports place)).rests_on e) from → IsTestedAt supports bounds work (by_support supports place) e
+tested_from_duals supports bounds work from e place each here rests =
+    each e place here (subst (λ es. Contains es from) (bounding_rests supports place e) rests)
 
 -- more marks
 by_dual_more : (supports : List Support) (bounds : List ℕ) (work new : WorkValue) (from e : Entry) (place : ℕ) → KeepsMarks work new
     → IsTestedByDual supports bounds work from e place → IsTestedByDual supports bounds new from e place
 by_dual_more supports bounds work new from e place keeps tested rests =
-    tested_at_more supports bounds work new (U11 place) e keeps (tested rests)
+    tested_at_more supports bounds work new (by_support supports place) e keeps (tested rests)
 
 pub by_duals_more : (supports : List Support) (bounds : List ℕ) (work new : WorkValue) (from e : Entry) → KeepsMarks work new
     → AreTestedByDuals supports bounds work from e → AreTestedByDuals supports bounds new from e
@@ -67,12 +68,10 @@ tested_step supports bounds work new from e entries place next keeps above here 
 
 -- a dual that is defined at an entry stands at one of its places
 dual_place : (supports : List Support) (e : Entry) (entries : List (Option Entry)) (place : ℕ) → ArePlaces supports entries
-    → applies supports (U11 place) e ≡ true → IsPlaceOf entries e place
-unfolding row_of
+    → applies supports (by_support supports place) e ≡ true → IsPlaceOf entries e place
 dual_place supports e entries place are here =
-    let is = defined (parts_over supports (U11 place)) e here in
-    let there =
-    dual_support_there supports place e (and_parts (not (has_weight e)) (is_some (dual_at (slice_get supports place) e)) is.condition).1 in
+    let is = defined (parts_over supports (by_support supports place)) e here in
+    let there = dual_support_there supports place e (bounding_dual supports place e here) in
     are.given place there.0 e is.entry there.1 there.2
 
 -- once none is left
@@ -88,21 +87,24 @@ tested_all supports bounds work from e entries are above place here =
 pub none_outside : (supports : List Support) (bounds : List ℕ) (work : WorkValue) (from e : Entry) → is_entry e ≡ false
     → AreTestedByDuals supports bounds work from e
 none_outside supports bounds work from e outside place here =
-    absurd (false≢true (sym outside ∙ (defined (parts_over supports (U11 place)) e here).entry))
+    absurd (false≢true (sym outside ∙ (defined (parts_over supports (by_support supports place)) e here).entry))
 
 -- an entry that rests on another by a dual is one of two
 pub tested_at_two : (supports : List Support) (bounds : List ℕ) (work : WorkValue) (from same nearer : Entry)
     → same ≡ unweighted from → nearer ≡ unweighted_and_nearer from
     → AreTestedByDuals supports bounds work from same → AreTestedByDuals supports bounds work from nearer
     → AreTestedFromDuals supports bounds work from
-unfolding row_of
 tested_at_two supports bounds work from same nearer is_same is_nearer first second e place here rests =
     two_items IsTestedThere (unweighted from) (unweighted_and_nearer from) e
     (subst IsTestedThere is_same (first place)) (subst IsTestedThere is_nearer (second place))
-    ((lawful (U11 place) (cited supports (U11 place))).dependents e from here rests) here rests
+    (subst (λ es. Contains es e) (bounding_back (slice_get supports place) (cited supports r) place from)
+    ((lawful r (cited supports r)).dependents e from here (subst (λ es. Contains es from) (sym (bounding_rests supports place e)) rests))) here rests
   where
+    r : Rule
+    r = by_support supports place
+
     IsTestedThere : Entry → Type 0
-    IsTestedThere g = applies supports (U11 place) g ≡ true → IsTestedByDual supports bounds work from g place
+    IsTestedThere g = applies supports (by_support supports place) g ≡ true → IsTestedByDual supports bounds work from g place
 
 -- a dual rests on entries with a weight alone
 weighted_premises : (a : AcceptedValue) (f : Entry) → Contains (dual_premises a.dual) f → f.w ≡ None → ⊥
@@ -119,8 +121,8 @@ weighted_premises a f rests = All-contains IsWeighted (dual_premises a.dual) f (
 
 pub tested_from_plain : (supports : List Support) (bounds : List ℕ) (work : WorkValue) (from : Entry) → from.w ≡ None
     → AreTestedFromDuals supports bounds work from
-tested_from_plain supports bounds work from none e place here rests = go (dual_at (slice_get supports place) e) rests
+tested_from_plain supports bounds work from none e place here rests = go (dual_behind (slice_get supports place) e) rests
   where
-    go : (o : Option AcceptedValue) → Contains (premises_of_dual o) from → IsTestedAt supports bounds work (U11 place) e
-    go None rests = no_item (IsTestedAt supports bounds work (U11 place) e) from rests
+    go : (o : Option AcceptedValue) → Contains (premises_of_dual o) from → IsTestedAt supports bounds work (by_support supports place) e
+    go None rests = no_item (IsTestedAt supports bounds work (by_support supports place) e) from rests
     go (Some a) rests = absurd (weighted_premises a from rests none)

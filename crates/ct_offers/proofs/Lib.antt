@@ -10,3 +10,4 @@ pub mod RowLemmas
 pub mod DualLemmas
 pub mod TestedLemmas
 pub mod GroundedLemmas
+pub mod BoundingRules

@@ -11,10 +11,11 @@ use Rattle.ct_codes.specs.declared.entry.Entry.{Entry}
 use Rattle.ct_codes.specs.Entry.{IsEntry}
 use Rattle.ct_rule_parts.specs.declared.support.Support.{Support}
 use Rattle.ct_rule_parts.specs.Slot.{Slot, IsNoBetter}
-use Rattle.ct_rule_parts.specs.Support.{size_at, dual_at}
+use Rattle.ct_rule_parts.specs.Support.{size_at, dual_at, dual_behind}
+use Rattle.ct_rule_parts.proofs.DualLemmas.{behind-bound}
 use Rattle.ct_rule_parts.proofs.SlotLemmas.{IsNoBetter-self}
 use Rattle.ct_rules.specs.declared.rule.Rule.{Rule}
-use Rattle.ct_rules.specs.declared.rule.Rule.TheVariants.{L9, L10, L11, M9, M10, U9, U10, U11, V9}
+use Rattle.ct_rules.specs.declared.rule.Rule.TheVariants.{L9, L10, L11, M9, M10, U9, U10, U11, U12, V9}
 use Rattle.ct_rules.specs.Listing.{rules_alone}
 use Rattle.ct_rules.specs.Inside.AllRules.{side_by_side_rules, sum_class_rules, rules_by_weight, rules_of_supports, rules_at}
 use Rattle.ct_rules.specs.Closed.{AreTrue}
@@ -26,7 +27,8 @@ use Rattle.ct_rules.proofs.RuleLists.{rules_at-complete}
 use Rattle.ct_offers.specs.declared.best.Best.{Best}
 use Rattle.ct_slots.specs.Places.{GivesTo, ArePlaces, IsPlaceOf, IsUpTo}
 use Rattle.ct_offers.specs.Offers.{IsGiven, IsWithin}
-use Rattle.ct_offers.specs.Inside.Pulled.{IsPulled, given_rule}
+use Rattle.ct_offers.specs.Inside.Pulled.{IsPulled, bounding_rule, given_rule}
+use Rattle.ct_offers.proofs.BoundingRules.{bounding-bound, bounding-odd, bounding_dual}
 use Rattle.ct_offers.proofs.PullingLemmas.{over-applies}
 
 pub IsPulled-refl : (supports : List Support) (f : Slot → ℕ) (s : Slot) (best : Best) → IsPulled supports f s best best
@@ -55,7 +57,7 @@ all_within_better supports f s u v (r ∷ rules) worse each =
 -- the supports that stand for the entry are asked for, but those up to the next one
 abbrev pub AreAskedAbove : List Support → (Slot → ℕ) → Slot → List (Option Entry) → ℕ → Option ℕ → Type 0
 AreAskedAbove supports f s entries best next = (place : ℕ) → IsPlaceOf entries s.1 place
-    → IsUpTo next place ⊎ IsWithin supports f s best (given_rule s place)
+    → IsUpTo next place ⊎ IsWithin supports f s best (given_rule (slice_get supports place) s place)
 
 abbrev pub IsNext : List (Option Entry) → Entry → Option ℕ → Type 0
 IsNext entries e next = (place : ℕ) → next ≡ Some place → IsPlaceOf entries e place
@@ -80,12 +82,12 @@ above_step P Q entries e place next still above here holds last other at = elim 
 -- after the next one is asked for
 pub asked_step : (supports : List Support) (f : Slot → ℕ) (s : Slot) (entries : List (Option Entry)) (u v place : ℕ) (next : Option ℕ)
     → IsNoBetter s.0 u v → AreAskedAbove supports f s entries u (Some place) → IsPlaceOf entries s.1 place
-    → IsWithin supports f s v (given_rule s place)
+    → IsWithin supports f s v (given_rule (slice_get supports place) s place)
     → ((g : Entry) (other : ℕ) → IsPlaceOf entries g place → IsPlaceOf entries g other → other < place → IsUpTo next other)
     → AreAskedAbove supports f s entries v next
 asked_step supports f s entries u v place next worse asked here within last =
-    above_step (λ p. IsWithin supports f s u (given_rule s p)) (λ p. IsWithin supports f s v (given_rule s p)) entries s.1 place next
-    (λ p before. within_better supports f s u v (given_rule s p) worse before) asked here within last
+    above_step (λ p. IsWithin supports f s u (given_rule (slice_get supports p) s p)) (λ p. IsWithin supports f s v (given_rule (slice_get supports p) s p))
+    entries s.1 place next (λ p before. within_better supports f s u v (given_rule (slice_get supports p) s p) worse before) asked here within last
 
 -- a support that gives something is there
 support_there : (supports : List Support) (place : ℕ) (e : Entry) → is_some (size_at (slice_get supports place) e) ≡ true
@@ -97,17 +99,17 @@ support_there supports place e h = go (slice_get supports place) refl h
     go None at is = absurd cc
     go (Some support) at is = (support, at, inl (λ none. let clash : false ≡ true = sym (ap is_some none) ∙ is in cc))
 
-pub dual_support_there : (supports : List Support) (place : ℕ) (e : Entry) → is_some (dual_at (slice_get supports place) e) ≡ true
+pub dual_support_there : (supports : List Support) (place : ℕ) (e : Entry) → is_some (dual_behind (slice_get supports place) e) ≡ true
     → (support : Support) × (slice_get supports place ≡ Some support) × GivesTo support e
 dual_support_there supports place e h = go (slice_get supports place) refl h
   where
-    go : (c : Option Support) → slice_get supports place ≡ c → is_some (dual_at c e) ≡ true
+    go : (c : Option Support) → slice_get supports place ≡ c → is_some (dual_behind c e) ≡ true
         → (support : Support) × (slice_get supports place ≡ Some support) × GivesTo support e
     go None at is = absurd cc
     go (Some support) at is = (support, at, inr (λ none. let clash : false ≡ true = sym (ap is_some none) ∙ is in cc))
 
 given_there : (supports : List Support) (side : Side) (n d : ℕ) (w : Option ℕ) (place : ℕ)
-    → applies supports (given_rule (side, record { n = n; d = d; w = w }) place) (record { n = n; d = d; w = w }) ≡ true
+    → applies supports (given_rule (slice_get supports place) (side, record { n = n; d = d; w = w }) place) (record { n = n; d = d; w = w }) ≡ true
     → (support : Support) × (slice_get supports place ≡ Some support) × GivesTo support (record { n = n; d = d; w = w })
 unfolding row_of
 given_there supports Lower n d None place h =
@@ -119,17 +121,16 @@ given_there supports Lower n d (Some w) place h =
     let is = defined (parts_over supports (M10 place)) e h in
     support_there supports place e (and_parts true (is_some (size_at (slice_get supports place) e)) is.condition).1
 given_there supports Upper n d None place h =
-    let e : Entry = record { n = n; d = d; w = None } in
-    let is = defined (parts_over supports (U11 place)) e h in
-    dual_support_there supports place e (and_parts true (is_some (dual_at (slice_get supports place) e)) is.condition).1
+    let e : Entry = record { n = n; d = d; w = None } in dual_support_there supports place e (bounding_dual supports place e h)
 given_there supports Upper n d (Some w) place h =
     let e : Entry = record { n = n; d = d; w = Some w } in
     let is = defined (parts_over supports (V9 place)) e h in
-    dual_support_there supports place e (and_parts true (is_some (dual_at (slice_get supports place) e)) is.condition).1
+    dual_support_there supports place e
+    (behind-bound (slice_get supports place) e (and_parts true (is_some (dual_at (slice_get supports place) e)) is.condition).1)
 
 -- a rule that names a support and is defined at an entry of the table names one of its places
 pub given_place : (supports : List Support) (s : Slot) (entries : List (Option Entry)) (place : ℕ) → IsEntry s.1 → ArePlaces supports entries
-    → applies supports (given_rule s place) s.1 ≡ true → IsPlaceOf entries s.1 place
+    → applies supports (given_rule (slice_get supports place) s place) s.1 ≡ true → IsPlaceOf entries s.1 place
 given_place supports s entries place entry are here =
     let there = given_there supports s.0 s.1.n s.1.d s.1.w place here in
     are.given place there.0 s.1 entry there.1 there.2
@@ -137,12 +138,23 @@ given_place supports s entries place entry are here =
 -- once none is left, no support gives anything better
 pub asked_all : (supports : List Support) (f : Slot → ℕ) (s : Slot) (entries : List (Option Entry)) (best : ℕ) → IsEntry s.1
     → ArePlaces supports entries → AreAskedAbove supports f s entries best None
-    → (place : ℕ) → IsWithin supports f s best (given_rule s place)
+    → (place : ℕ) → IsWithin supports f s best (given_rule (slice_get supports place) s place)
 asked_all supports f s entries best entry are asked place v value =
-    elim (asked place (given_place supports s entries place entry are (over-applies supports f (given_rule s place) s.1 v value))) [
+    elim (asked place (given_place supports s entries place entry are (over-applies supports f (given_rule (slice_get supports place) s place) s.1 v value))) [
       | inl none ↦ absurd none
       | inr within ↦ within v value
     ]
+
+-- of the two rules that may name a support as an upper bound without weight the one is defined nowhere that is not the support's
+bounded_within : (supports : List Support) (f : Slot → ℕ) (s : Slot) (best place : ℕ)
+    → IsWithin supports f s best (bounding_rule (slice_get supports place) place) → IsWithin supports f s best (U11 place)
+bounded_within supports f s best place within v value =
+    subst (IsWithin supports f s best) (sym (bounding-bound supports place s.1 (over-applies supports f (U11 place) s.1 v value))) within v value
+
+odd_within : (supports : List Support) (f : Slot → ℕ) (s : Slot) (best place : ℕ)
+    → IsWithin supports f s best (bounding_rule (slice_get supports place) place) → IsWithin supports f s best (U12 place)
+odd_within supports f s best place within v value =
+    subst (IsWithin supports f s best) (sym (bounding-odd supports place s.1 (over-applies supports f (U12 place) s.1 v value))) within v value
 
 -- what holds of each item of lists that are put together
 all_map : {X Y : Type 0} (P : Y → Type 0) (f : X → Y) (xs : List X) → ((x : X) → P (f x)) → All P (map f xs)
@@ -158,7 +170,7 @@ all_listed : (supports : List Support) (f : Slot → ℕ) (side : Side) (n d : �
     → All (IsWithin supports f (side, record { n = n; d = d; w = w }) best) (rules_alone (side, record { n = n; d = d; w = w }))
     → (side ≡ Lower → w ≡ None → (m c : ℕ) → IsWithin supports f (Lower, record { n = n; d = d; w = w }) best (L11 m c))
     → (side ≡ Lower → (k : ℕ) → IsWithin supports f (Lower, record { n = n; d = d; w = w }) best (M9 k))
-    → ((place : ℕ) → IsWithin supports f (side, record { n = n; d = d; w = w }) best (given_rule (side, record { n = n; d = d; w = w }) place))
+    → ((place : ℕ) → IsWithin supports f (side, record { n = n; d = d; w = w }) best (given_rule (slice_get supports place) (side, record { n = n; d = d; w = w }) place))
     → ((r : Rule) → is_by_weight r ≡ true → rule_side r ≡ side → IsWithin supports f (side, record { n = n; d = d; w = w }) best r)
     → All (IsWithin supports f (side, record { n = n; d = d; w = w }) best) (rules_at (length supports) (side, record { n = n; d = d; w = w }))
 unfolding rules_at row_of
@@ -186,7 +198,9 @@ all_listed supports f Upper n d None best alone sums classes given by_weight =
     (All-append P (rules_alone (Upper, e)) (rules_by_weight (Upper, e)) alone
     (All-cons P U9 (map (λ w. U10 w) (range_with_len 0 (n + 1))) (by_weight U9 refl refl)
     (all_map P (λ w. U10 w) (range_with_len 0 (n + 1)) (λ w. by_weight (U10 w) refl refl))))
-    (all_map P (λ place. U11 place) (range_with_len 0 (length supports)) given)
+    (All-append P (map (λ place. U11 place) (range_with_len 0 (length supports))) (map (λ place. U12 place) (range_with_len 0 (length supports)))
+    (all_map P (λ place. U11 place) (range_with_len 0 (length supports)) (λ place. bounded_within supports f (Upper, e) best place (given place)))
+    (all_map P (λ place. U12 place) (range_with_len 0 (length supports)) (λ place. odd_within supports f (Upper, e) best place (given place))))
 all_listed supports f Upper n d (Some w) best alone sums classes given by_weight =
     let e : Entry = record { n = n; d = d; w = Some w } in
     let P : Rule → Type 0 = IsWithin supports f (Upper, e) best in
@@ -197,7 +211,7 @@ pub all_asked : (supports : List Support) (f : Slot → ℕ) (side : Side) (e : 
     → All (IsWithin supports f (side, e) best) (rules_alone (side, e))
     → (side ≡ Lower → e.w ≡ None → (m c : ℕ) → IsWithin supports f (Lower, e) best (L11 m c))
     → (side ≡ Lower → (k : ℕ) → IsWithin supports f (Lower, e) best (M9 k))
-    → ((place : ℕ) → IsWithin supports f (side, e) best (given_rule (side, e) place))
+    → ((place : ℕ) → IsWithin supports f (side, e) best (given_rule (slice_get supports place) (side, e) place))
     → ((r : Rule) → is_by_weight r ≡ true → rule_side r ≡ side → IsWithin supports f (side, e) best r)
     → (r : Rule) → rule_side r ≡ side → IsWithin supports f (side, e) best r
 all_asked supports f side e best alone sums classes given by_weight r same v value =
@@ -241,7 +255,7 @@ first_next entries e (Some p) h other is = subst (IsPlaceOf entries e) (same_Som
 pub asked_upper : (supports : List Support) (f : Slot → ℕ) (side : Side) (e : Entry) (middle best : ℕ) → side ≡ Upper
     → All (IsWithin supports f (side, e) middle) (rules_alone (side, e))
     → ((r : Rule) → is_by_weight r ≡ true → rule_side r ≡ side → IsWithin supports f (side, e) middle r) → IsNoBetter side middle best
-    → ((place : ℕ) → IsWithin supports f (side, e) best (given_rule (side, e) place))
+    → ((place : ℕ) → IsWithin supports f (side, e) best (given_rule (slice_get supports place) (side, e) place))
     → (r : Rule) → rule_side r ≡ side → IsWithin supports f (side, e) best r
 asked_upper supports f side e middle best up alone by_weight worse given =
     all_asked supports f side e best
@@ -256,7 +270,7 @@ pub asked_lower : (supports : List Support) (f : Slot → ℕ) (side : Side) (e 
     → ((r : Rule) → is_by_weight r ≡ true → rule_side r ≡ side → IsWithin supports f (side, e) middle r) → middle ≤ best
     → (e.w ≡ None → (m c : ℕ) → IsWithin supports f (Lower, e) best (L11 m c))
     → ((k : ℕ) → IsWithin supports f (Lower, e) best (M9 k))
-    → ((place : ℕ) → IsWithin supports f (Lower, e) best (given_rule (Lower, e) place))
+    → ((place : ℕ) → IsWithin supports f (Lower, e) best (given_rule (slice_get supports place) (Lower, e) place))
     → (r : Rule) → rule_side r ≡ side → IsWithin supports f (side, e) best r
 asked_lower supports f side e middle best low alone by_weight worse sums classes given =
     let no_worse : IsNoBetter side middle best = subst (λ (s : Side). IsNoBetter s middle best) (sym low) worse in
@@ -264,7 +278,7 @@ asked_lower supports f side e middle best low alone by_weight worse sums classes
     (all_within_better supports f (side, e) middle best (rules_alone (side, e)) no_worse alone)
     (λ here none. sums none)
     (λ here. classes)
-    (subst (λ (s : Side). (place : ℕ) → IsWithin supports f (s, e) best (given_rule (s, e) place)) (sym low) given)
+    (subst (λ (s : Side). (place : ℕ) → IsWithin supports f (s, e) best (given_rule (slice_get supports place) (s, e) place)) (sym low) given)
     (λ r by same. within_better supports f (side, e) middle best r no_worse (by_weight r by same))
 
 -- from the first bound to the last

@@ -11,10 +11,10 @@ ghost use Rattle.ct_slots.specs.Places.{ArePlaces};
 ghost use Rattle.ct_offers.specs.Inside.Marking.{KeepsMarks, IsTestedAt, IsTestedFrom, AreTestedByWeight, IsTestedByDual, AreTestedByDuals, AreTestedFromDuals, AreTested};
 
 use crate::best::is_better;
-use crate::pulling::offer;
+use crate::pulling::{bounding_rule, offer};
 use crate::side_by_side::mark_side_by_side;
 use ct_codes::{Entry, Side};
-use ct_rule_parts::dual_at;
+use ct_rule_parts::dual_behind;
 use ct_rules::{Rule, Support, rested_on_by, rule_side, rules_alone};
 use ct_slots::{Bounds, SupportPlaces, Worklist};
 use ct_weight_rules::{unweighted, unweighted_and_nearer};
@@ -134,7 +134,7 @@ fn mark_by_weight(
     }
 }
 
-/// Marks the entry, where the dual that the support at the place gives there rests on the other one and gives something better.
+/// Marks the entry, where the dual that the support at the place has there rests on the other one and something better is given by it.
 fn mark_by_dual(
     supports: &[Support],
     bounds: &Bounds,
@@ -149,16 +149,17 @@ fn mark_by_dual(
     ensures tested { OnOk result (IsTestedByDual supports.now bounds.now work.new from entry place) }
     ensures kept { KeepsMarks work.old work.new }
 {
-    let Some(dual) = dual_at(supports, place as usize, entry) else {
+    let Some(dual) = dual_behind(supports, place as usize, entry) else {
         return Ok(());
     };
     if !dual.rests_on(from) {
         return Ok(());
     }
-    test(supports, bounds, work, Rule::U11(place), entry, evaluations)
+    let rule = bounding_rule(supports, place);
+    test(supports, bounds, work, rule, entry, evaluations)
 }
 
-/// Marks the entry, where one of the duals that supports give there rests on the other one and gives something better. It looks at
+/// Marks the entry, where one of the duals that supports have there rests on the other one and something better is given by it. It looks at
 /// the supports of the entry alone.
 fn mark_by_duals(
     supports: &[Support],

@@ -1,8 +1,8 @@
 //! The best bound that the rules give at a slot over what stands.
 
-ghost use Rattle.std.specs.Prelude.{◌≡◌, ◌<◌, ◌≤◌, ◌^◌, ℕ, List, true, false, if◌then◌else◌, Some, None, IfSome, All, drop, take, map, length};
+ghost use Rattle.std.specs.Prelude.{◌≡◌, ◌<◌, ◌≤◌, ◌^◌, ℕ, List, true, false, if◌then◌else◌, Some, None, IfSome, All, drop, take, map, length, slice_get};
 ghost use Rattle.ct_words.specs.declared.limits.TheConstants.{MAX_BOUND, MAX_N};
-ghost use Rattle.ct_codes.specs.declared.claim.Side.TheVariants.{Lower};
+ghost use Rattle.ct_codes.specs.declared.claim.Side.TheVariants.{Lower, Upper};
 ghost use Rattle.ct_codes.specs.Entry.{IsEntry, is_entry};
 ghost use Rattle.ct_rule_parts.specs.Parts.{are_entries, slots_on};
 ghost use Rattle.ct_duals.specs.Bound.{dual_premises};
@@ -16,7 +16,7 @@ ghost use Rattle.ct_rules.specs.Rule.{rule_side, is_by_weight, parts_over};
 ghost use Rattle.ct_slots.specs.Number.{bound_of};
 ghost use Rattle.ct_slots.specs.Places.{ArePlaces};
 ghost use Rattle.ct_offers.specs.Offers.{value_over, AreGrounded, IsGiven, IsLimit, IsWithin};
-ghost use Rattle.ct_offers.specs.Inside.Pulled.{IsPulled, given_rule, rule_of_weight};
+ghost use Rattle.ct_offers.specs.Inside.Pulled.{IsPulled, bounding_rule, given_rule, rule_of_weight};
 
 use crate::best::Best;
 use crate::side_by_side::best_side_by_side;
@@ -276,15 +276,29 @@ fn ask_unsupported(
     ask_by_weight(supports, bounds, side, entry, best, evaluations);
 }
 
+/// The rule by which the support at a place bounds an entry without weight from above.
+#[tactic(auto, unfolding(ct_rules::specs::Rule::row_of))]
+pub(crate) fn bounding_rule(supports: &[Support], place: u32) -> Rule
+    ensures rule { result ≡ bounding_rule (slice_get supports.now place) place }
+    ensures side { rule_side result ≡ Upper }
+{
+    match supports.get(place as usize) {
+        Some(Support::Odd { .. }) => Rule::U12(place),
+        Some(Support::Nothing | Support::Size { .. } | Support::Bound(_)) | None => Rule::U11(
+            place,
+        ),
+    }
+}
+
 /// The rule by which the support at a place gives to a side of an entry.
-pub fn given_rule(side: Side, entry: Entry, place: u32) -> Rule
-    ensures rule { result ≡ given_rule (side, entry) place }
+pub fn given_rule(supports: &[Support], side: Side, entry: Entry, place: u32) -> Rule
+    ensures rule { result ≡ given_rule (slice_get supports.now place) (side, entry) place }
     ensures side { rule_side result ≡ side }
 {
     match (side, entry.w) {
         (Side::Lower, None) => Rule::L10(place),
         (Side::Lower, Some(_)) => Rule::M10(place),
-        (Side::Upper, None) => Rule::U11(place),
+        (Side::Upper, None) => bounding_rule(supports, place),
         (Side::Upper, Some(_)) => Rule::V9(place),
     }
 }
@@ -302,11 +316,11 @@ fn ask_supports(
     requires entry { IsEntry entry }
     requires places { ArePlaces supports.now places.now }
     ensures pulled { IsPulled supports.now (bound_of bounds.now) (side, entry) best.old best.new }
-    ensures within { (place : ℕ) → IsWithin supports.now (bound_of bounds.now) (side, entry) best.new.value (given_rule (side, entry) place) }
+    ensures within { (place : ℕ) → IsWithin supports.now (bound_of bounds.now) (side, entry) best.new.value (given_rule (slice_get supports.now place) (side, entry) place) }
 {
     let mut next = places.last(entry);
     while let Some(place) = next {
-        let rule = given_rule(side, entry, place);
+        let rule = given_rule(supports, side, entry, place);
         ask(supports, bounds, rule, side, entry, best, evaluations);
         next = places.before(place);
     }
@@ -326,7 +340,7 @@ fn ask_below(
     requires true_bounds { AreTrue (bound_of bounds.now) }
     requires some { 1 ≤ best.old.value }
     ensures pulled { IsPulled supports.now (bound_of bounds.now) (Lower, entry) best.old best.new }
-    ensures given { (place : ℕ) → IsWithin supports.now (bound_of bounds.now) (Lower, entry) best.new.value (given_rule (Lower, entry) place) }
+    ensures given { (place : ℕ) → IsWithin supports.now (bound_of bounds.now) (Lower, entry) best.new.value (given_rule (slice_get supports.now place) (Lower, entry) place) }
     ensures sums { entry.w ≡ None → (m c : ℕ) → IsWithin supports.now (bound_of bounds.now) (Lower, entry) best.new.value (L11 m c) }
 {
     ask_supports(

@@ -8,4 +8,4 @@ mod support;
 pub use ct_duals::AcceptedDual;
 pub use entries::Entries;
 pub use number::{first, second, within_limit};
-pub use support::{Support, dual_at, size_at};
+pub use support::{OddDual, Support, dual_at, dual_behind, odd_at, size_at};

@@ -49,8 +49,9 @@ use Rattle.ct_weight_rules.proofs.LawfulSumClass.{class_of_sum-lawful}
 use Rattle.ct_weight_rules.proofs.LawfulGivenCode.{given_code-lawful as given_code_of_weight-lawful}
 use Rattle.ct_weight_rules.proofs.LawfulAllWords.{all_words-lawful as all_words_of_weight-lawful}
 use Rattle.ct_weight_rules.proofs.LawfulDelsarte.{dual_above-lawful, dual_above_of_weight-lawful}
+use Rattle.ct_weight_rules.proofs.LawfulOddSizes.{odd_size_above-lawful}
 use Rattle.ct_rules.specs.declared.rule.Rule.{Rule}
-use Rattle.ct_rules.specs.declared.rule.Rule.TheVariants.{L1, L2, L3, L4, L5, L6, L7, L8, L9, L10, L11, M1, M2, M3, M4, M5, M6, M7, M8, M9, M10, U0, U1, U2, U3, U4, U5, U6, U7, U8, U9, U10, U11, V0, V1, V2, V3, V4, V5, V6, V7, V8, V9}
+use Rattle.ct_rules.specs.declared.rule.Rule.TheVariants.{L1, L2, L3, L4, L5, L6, L7, L8, L9, L10, L11, M1, M2, M3, M4, M5, M6, M7, M8, M9, M10, U0, U1, U2, U3, U4, U5, U6, U7, U8, U9, U10, U11, U12, V0, V1, V2, V3, V4, V5, V6, V7, V8, V9}
 use Rattle.ct_rules.specs.Rule.{Row, by_itself, by_numbers, by_weight, by_support, row_of, parts_in, parts_of, parts_over, place_of, with_place, is_alone_in, is_alone, is_by_weight, cited, rule_side}
 
 -- what each rule is made of is lawful
@@ -89,6 +90,7 @@ lawful U8 c = lengthened_above-lawful c
 lawful U9 c = johnson-lawful c
 lawful (U10 w) c = averaging-lawful w c
 lawful (U11 place) c = dual_above-lawful c
+lawful (U12 place) c = odd_size_above-lawful c
 lawful V0 c = all_words_of_weight-lawful c
 lawful V1 c = far_words_of_weight-lawful c
 lawful V2 c = disjoint_above-lawful c
@@ -106,6 +108,7 @@ unfolding row_of
 side_is (L10 place) c = refl
 side_is (M10 place) c = refl
 side_is (U11 place) c = refl
+side_is (U12 place) c = refl
 side_is (V9 place) c = refl
 side_is r c = refl
 
@@ -121,6 +124,7 @@ unfolding row_of
 needs_support (L10 place) other e names = fails (not (has_weight e))
 needs_support (M10 place) other e names = fails (has_weight e)
 needs_support (U11 place) other e names = fails (not (has_weight e))
+needs_support (U12 place) other e names = fails (not (has_weight e))
 needs_support (V9 place) other e names = fails (has_weight e)
 needs_support r place e names = absurd (none-some place names)
 
@@ -131,16 +135,18 @@ unfolding row_of
 needs_something (L10 place) other e names = fails (not (has_weight e))
 needs_something (M10 place) other e names = fails (has_weight e)
 needs_something (U11 place) other e names = fails (not (has_weight e))
+needs_something (U12 place) other e names = fails (not (has_weight e))
 needs_something (V9 place) other e names = fails (has_weight e)
 needs_something r place e names = absurd (none-some place names)
 
--- a rule that names a support rests on nothing, but for one
+-- a rule that names a support rests on nothing, but for two
 pub supported-rests : (r : Rule) (place : ℕ) (c : Option Support) (e : Entry) → place_of r ≡ Some place
-    → ((parts_of r c).rests_on e ≡ []) ⊎ (r ≡ U11 place)
+    → ((parts_of r c).rests_on e ≡ []) ⊎ ((r ≡ U11 place) ⊎ (r ≡ U12 place))
 unfolding row_of
 supported-rests (L10 place) other c e names = inl refl
 supported-rests (M10 place) other c e names = inl refl
-supported-rests (U11 place) other c e names = inr (ap U11 (same_Some place other names))
+supported-rests (U11 place) other c e names = inr (inl (ap U11 (same_Some place other names)))
+supported-rests (U12 place) other c e names = inr (inr (ap U12 (same_Some place other names)))
 supported-rests (V9 place) other c e names = inl refl
 supported-rests r place c e names = absurd (none-some place names)
 
@@ -150,6 +156,7 @@ unfolding row_of
 place_of-placed (L10 place) was other names = refl
 place_of-placed (M10 place) was other names = refl
 place_of-placed (U11 place) was other names = refl
+place_of-placed (U12 place) was other names = refl
 place_of-placed (V9 place) was other names = refl
 place_of-placed r was other names = absurd (none-some was names)
 
@@ -158,6 +165,7 @@ unfolding row_of
 parts_of-placed (L10 place) other c = refl
 parts_of-placed (M10 place) other c = refl
 parts_of-placed (U11 place) other c = refl
+parts_of-placed (U12 place) other c = refl
 parts_of-placed (V9 place) other c = refl
 parts_of-placed r other c = refl
 
@@ -166,6 +174,7 @@ unfolding row_of
 placed_again (L10 place) other was names = ap L10 (sym (same_Some place was names))
 placed_again (M10 place) other was names = ap M10 (sym (same_Some place was names))
 placed_again (U11 place) other was names = ap U11 (sym (same_Some place was names))
+placed_again (U12 place) other was names = ap U12 (sym (same_Some place was names))
 placed_again (V9 place) other was names = ap V9 (sym (same_Some place was names))
 placed_again r other was names = absurd (none-some was names)
 
@@ -330,6 +339,7 @@ not_alone (U10 w) names alone = inr (inr refl)
 not_alone (L10 place) names alone = absurd (none-some place (sym names))
 not_alone (M10 place) names alone = absurd (none-some place (sym names))
 not_alone (U11 place) names alone = absurd (none-some place (sym names))
+not_alone (U12 place) names alone = absurd (none-some place (sym names))
 not_alone (V9 place) names alone = absurd (none-some place (sym names))
 not_alone r names alone = absurd (false≢true (sym alone))
 
@@ -363,6 +373,7 @@ rests_on_kind (L11 m c) n d w alone = absurd (false≢true alone)
 rests_on_kind (M9 k) n d w alone = absurd (false≢true alone)
 rests_on_kind (M10 place) n d w alone = absurd (false≢true alone)
 rests_on_kind (U11 place) n d w alone = absurd (false≢true alone)
+rests_on_kind (U12 place) n d w alone = absurd (false≢true alone)
 rests_on_kind (V9 place) n d w alone = absurd (false≢true alone)
 rests_on_kind U9 n d w alone = absurd (false≢true alone)
 rests_on_kind (U10 v) n d w alone = absurd (false≢true alone)

@@ -14,11 +14,11 @@ use Rattle.ct_rule_parts.specs.declared.support.Support.{Support}
 use Rattle.ct_rule_parts.specs.Parts.{RuleParts}
 use Rattle.ct_rule_parts.specs.Slot.{Slot}
 use Rattle.ct_rule_parts.proofs.EntryLists.{Contains-range_with_len, Contains-flat_map}
-use Rattle.ct_rule_parts.specs.Support.{size_at, dual_at}
+use Rattle.ct_rule_parts.specs.Support.{size_at, dual_at, odd_at}
 use Rattle.ct_weight_rules.specs.Neighbours.{of_weight, even_of_weight}
 use Rattle.ct_weight_rules.proofs.LawfulSumClass.{known_class}
 use Rattle.ct_rules.specs.declared.rule.Rule.{Rule}
-use Rattle.ct_rules.specs.declared.rule.Rule.TheVariants.{L9, L10, L11, M9, M10, U9, U10, U11, V9}
+use Rattle.ct_rules.specs.declared.rule.Rule.TheVariants.{L9, L10, L11, M9, M10, U9, U10, U11, U12, V9}
 use Rattle.ct_rules.specs.Rule.{row_of, rule_side, place_of, is_alone, is_by_weight, parts_over, applies}
 use Rattle.ct_rules.specs.Closed.{IsSatisfied, IsClosed}
 use Rattle.ct_rules.specs.Listing.{rules_alone}
@@ -50,6 +50,15 @@ dual_support_there : (supports : List Support) (place : ℕ) (e : Entry) → is_
 dual_support_there supports place e h = go (slice_get supports place) refl h
   where
     go : (c : Option Support) → slice_get supports place ≡ c → is_some (dual_at c e) ≡ true → place < length supports
+    go None at is = absurd (false≢true is)
+    go (Some support) at is = slice_get_within supports place support at
+
+-- and those of a number of words that may be excluded
+odd_support_there : (supports : List Support) (place : ℕ) (e : Entry) → is_some (odd_at (slice_get supports place) e) ≡ true
+    → place < length supports
+odd_support_there supports place e h = go (slice_get supports place) refl h
+  where
+    go : (c : Option Support) → slice_get supports place ≡ c → is_some (odd_at c e) ≡ true → place < length supports
     go None at is = absurd (false≢true is)
     go (Some support) at is = slice_get_within supports place support at
 
@@ -148,8 +157,17 @@ listed_given supports (U11 place) other n d None names is =
     let there = dual_support_there supports place e (and_parts true (is_some (dual_at (slice_get supports place) e)) is.condition).1 in
     Contains-append_right (rules_alone (Upper, e)) (rules_by_weight (Upper, e) ++ rules_of_supports (length supports) (Upper, e)) (U11 place)
     (Contains-append_right (rules_by_weight (Upper, e)) (rules_of_supports (length supports) (Upper, e)) (U11 place)
+    (Contains-append_left (map (λ p. U11 p) (range_with_len 0 (length supports))) (map (λ p. U12 p) (range_with_len 0 (length supports))) (U11 place)
     (Contains-map (λ p. U11 p) (range_with_len 0 (length supports)) place
-    (Contains-range_with_len 0 (length supports) place (omega arith) (omega arith))))
+    (Contains-range_with_len 0 (length supports) place (omega arith) (omega arith)))))
+listed_given supports (U12 place) other n d None names is =
+    let e : Entry = unrestricted n d in
+    let there = odd_support_there supports place e (and_parts true (is_some (odd_at (slice_get supports place) e)) is.condition).1 in
+    Contains-append_right (rules_alone (Upper, e)) (rules_by_weight (Upper, e) ++ rules_of_supports (length supports) (Upper, e)) (U12 place)
+    (Contains-append_right (rules_by_weight (Upper, e)) (rules_of_supports (length supports) (Upper, e)) (U12 place)
+    (Contains-append_right (map (λ p. U11 p) (range_with_len 0 (length supports))) (map (λ p. U12 p) (range_with_len 0 (length supports))) (U12 place)
+    (Contains-map (λ p. U12 p) (range_with_len 0 (length supports)) place
+    (Contains-range_with_len 0 (length supports) place (omega arith) (omega arith)))))
 listed_given supports (V9 place) other n d (Some w) names is =
     let e : Entry = constant_weight n d w in
     let there = dual_support_there supports place e (and_parts true (is_some (dual_at (slice_get supports place) e)) is.condition).1 in
@@ -157,6 +175,7 @@ listed_given supports (V9 place) other n d (Some w) names is =
     (Contains-map (λ p. V9 p) (range_with_len 0 (length supports)) place
     (Contains-range_with_len 0 (length supports) place (omega arith) (omega arith)))
 listed_given supports (U11 place) other n d (Some w) names is = absurd (false≢true is.condition)
+listed_given supports (U12 place) other n d (Some w) names is = absurd (false≢true is.condition)
 listed_given supports (V9 place) other n d None names is = absurd (false≢true is.condition)
 listed_given supports (L10 place) other n d (Some w) names is = absurd (false≢true is.condition)
 listed_given supports (M10 place) other n d None names is = absurd (false≢true is.condition)

@@ -36,10 +36,11 @@ use Rattle.ct_weight_rules.specs.SumClass.{class_of_sum}
 use Rattle.ct_weight_rules.specs.GivenCode.{given_code as given_code_of_weight}
 use Rattle.ct_weight_rules.specs.AllWords.{all_words as all_words_of_weight}
 use Rattle.ct_weight_rules.specs.Delsarte.{dual_above, dual_above_of_weight}
+use Rattle.ct_weight_rules.specs.OddSizes.{odd_size_above}
 use Rattle.ct_rules.specs.declared.arguments.Arguments.{Arguments}
 use Rattle.ct_rules.specs.declared.arguments.Arguments.TheVariants.{Nothing, Number, Numbers, Place}
 use Rattle.ct_rules.specs.declared.rule.Rule.{Rule}
-use Rattle.ct_rules.specs.declared.rule.Rule.TheVariants.{L1, L2, L3, L4, L5, L6, L7, L8, L9, L10, L11, M1, M2, M3, M4, M5, M6, M7, M8, M9, M10, U0, U1, U2, U3, U4, U5, U6, U7, U8, U9, U10, U11, V0, V1, V2, V3, V4, V5, V6, V7, V8, V9}
+use Rattle.ct_rules.specs.declared.rule.Rule.TheVariants.{L1, L2, L3, L4, L5, L6, L7, L8, L9, L10, L11, M1, M2, M3, M4, M5, M6, M7, M8, M9, M10, U0, U1, U2, U3, U4, U5, U6, U7, U8, U9, U10, U11, U12, V0, V1, V2, V3, V4, V5, V6, V7, V8, V9}
 
 -- what stands after the name of a rule: nothing; a number; two; or the place of a support; each with the rule that others make in its place
 pub data Written : Type 0 where
@@ -91,6 +92,7 @@ row_of U8 = by_itself (codes "U8") lengthened_above
 row_of U9 = by_weight (codes "U9") no_arguments johnson
 row_of (U10 w) = by_weight (codes "U10") (one_number U10 w) (averaging w)
 row_of (U11 place) = by_support (codes "U11") U11 place dual_above
+row_of (U12 place) = by_support (codes "U12") U12 place odd_size_above
 row_of V0 = by_itself (codes "V0") all_words_of_weight
 row_of V1 = by_itself (codes "V1") far_words_of_weight
 row_of V2 = by_itself (codes "V2") disjoint_above

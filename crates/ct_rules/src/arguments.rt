@@ -26,9 +26,11 @@ pub fn arguments_of(rule: Rule) -> Arguments
     match rule {
         Rule::L9(k) | Rule::M9(k) | Rule::U10(k) => Arguments::Number(k),
         Rule::L11(n, d) => Arguments::Numbers(n, d),
-        Rule::L10(place) | Rule::M10(place) | Rule::U11(place) | Rule::V9(place) => {
-            Arguments::Place(place)
-        }
+        Rule::L10(place)
+        | Rule::M10(place)
+        | Rule::U11(place)
+        | Rule::U12(place)
+        | Rule::V9(place) => Arguments::Place(place),
         _ => Arguments::Nothing,
     }
 }
@@ -46,6 +48,7 @@ pub fn with_arguments(rule: Rule, arguments: Arguments) -> Rule
         (Rule::M10(_), Arguments::Place(place)) => Rule::M10(place),
         (Rule::U10(_), Arguments::Number(w)) => Rule::U10(w),
         (Rule::U11(_), Arguments::Place(place)) => Rule::U11(place),
+        (Rule::U12(_), Arguments::Place(place)) => Rule::U12(place),
         (Rule::V9(_), Arguments::Place(place)) => Rule::V9(place),
         _ => rule,
     }

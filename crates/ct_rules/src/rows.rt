@@ -3,8 +3,9 @@
 ghost use Rattle.std.specs.Prelude.{◌≡◌, true, if◌then◌else◌, Some, None, option_map, slice_get};
 ghost use Rattle.ct_codes.specs.Entry.{IsEntry, unrestricted, constant_weight};
 ghost use Rattle.ct_rule_parts.specs.Entries.{listed};
-ghost use Rattle.ct_rule_parts.specs.Support.{dual_at};
+ghost use Rattle.ct_rule_parts.specs.Support.{dual_at, odd_at};
 ghost use Rattle.ct_weight_rules.specs.Delsarte.{bound_of_dual, dual_above};
+ghost use Rattle.ct_weight_rules.specs.OddSizes.{size_below, odd_size_above};
 ghost use Rattle.ct_rules.specs.Rule.{rule_side, place_of, with_place, is_alone, parts_of, parts_over, row_of};
 
 use crate::arguments::{Arguments, arguments_of, with_arguments};
@@ -15,12 +16,12 @@ use ct_plain_rules::{
     count_of_sums, farther, longer, longer_and_farther, nearer, parts_of_sums, parts_side_by_side,
     shorter, shorter_and_nearer, sums_of,
 };
-use ct_rule_parts::{Entries, Support, dual_at, first, second, size_at};
+use ct_rule_parts::{Entries, Support, dual_at, first, odd_at, second, size_at};
 use ct_weight_rules::{
     around, averaged, below_too_many, bound_by_ones, bound_by_zeros, count_of_disjoint,
     count_with_one, count_with_zero, even_of_weight, has_disjoint_words, has_no_far_words,
-    johnson_bound, of_weight, one_less, one_more, parts_of_split, size_of_class, split_into,
-    turned, two_farther, two_nearer, zero_less, zero_more,
+    johnson_bound, of_weight, one_less, one_more, parts_of_split, size_below, size_of_class,
+    split_into, turned, two_farther, two_nearer, zero_less, zero_more,
 };
 use ct_words::binomial;
 
@@ -80,6 +81,27 @@ fn bound_of_dual(supports: &[Support], place: u32, entry: Entry, values: &[u32])
     Some(u64::from(dual.bound(values)))
 }
 
+/// The entries that the dual by which the support at the place may exclude a number of words rests on, in order, where the support
+/// has such a dual for an entry without weight.
+fn premises_of_odd(supports: &[Support], place: u32, entry: Entry) -> Option<Entries<'_>>
+    ensures { option_map listed result
+        ≡ (if (odd_size_above (slice_get supports.now place)).condition entry then Some ((odd_size_above (slice_get supports.now place)).rests_on entry) else None) }
+{
+    if entry.w.is_some() {
+        return None;
+    }
+    let odd = odd_at(supports, place as usize, entry)?;
+    Some(Entries::OfDual(odd.dual))
+}
+
+/// One below the number of words that the support at the place excludes at the entry, from these values.
+fn size_by_odd(supports: &[Support], place: u32, entry: Entry, values: &[u32]) -> Option<u64>
+    ensures { result ≡ size_below (odd_at (slice_get supports.now place) entry) values.now }
+{
+    let odd = odd_at(supports, place as usize, entry)?;
+    size_below(odd.dual, odd.m, values)
+}
+
 /// What `rests_on` says at A(n,d).
 #[tactic(auto, unfolding(crate::specs::Rule::row_of))]
 fn rests_on_without_weight(supports: &[Support], rule: Rule, n: u32, d: u32) -> Option<Entries<'_>>
@@ -110,6 +132,7 @@ fn rests_on_without_weight(supports: &[Support], rule: Rule, n: u32, d: u32) -> 
         Rule::U9 => Some(Entries::One(around(entry))),
         Rule::U10(w) => Some(Entries::One(of_weight(entry, w))),
         Rule::U11(place) => premises_of_dual(supports, place, entry),
+        Rule::U12(place) => premises_of_odd(supports, place, entry),
         _ => None,
     }
 }
@@ -193,6 +216,7 @@ pub(crate) fn number(supports: &[Support], rule: Rule, entry: Entry, values: &[u
         Rule::U9 => johnson_bound(entry, values),
         Rule::U10(w) => Some(averaged(w, entry, values)),
         Rule::U11(place) | Rule::V9(place) => bound_of_dual(supports, place, entry, values),
+        Rule::U12(place) => size_by_odd(supports, place, entry, values),
         Rule::M2 | Rule::V2 => Some(count_of_disjoint(entry)),
         Rule::M3 | Rule::M4 | Rule::M7 | Rule::M8 | Rule::V7 => Some(first(values)),
         Rule::M5 => Some(count_with_one(entry, values)),

@@ -82,6 +82,10 @@ pub enum Rule {
     /// each i where it allows y_i above 0: in the group G, 2i ≥ 2n−d, the greatest is T, and of the others the sum is S (Delsarte;
     /// Best, Brouwer, MacWilliams, Odlyzko and Sloane).
     U11(u32),
+    /// A(n,d) ≤ m − 1 for the dual and the odd m of the support at this place, where L > m·E: E is f(0)+S+T as in U11, and L the sum
+    /// c_0·m² + c_1·C(n,1) + c_2·C(n,2) + .. that f reaches over the pairs of any m words; nothing elsewhere (Best, Brouwer,
+    /// MacWilliams, Odlyzko and Sloane).
+    U12(u32),
     /// A(n,d,w) ≤ C(n,w): all words of the weight.
     V0,
     /// A(n,d,w) ≤ 1 where d > 2·min(w, n−w): two words differ at no more places than they have ones, or zeros.
@@ -165,7 +169,13 @@ pub const OTHER_LOWER_RULES: [Rule; 5] = [
 ];
 
 /// The others that give upper bounds, with arguments that are 0.
-pub const OTHER_UPPER_RULES: [Rule; 4] = [Rule::U9, Rule::U10(0), Rule::U11(0), Rule::V9(0)];
+pub const OTHER_UPPER_RULES: [Rule; 5] = [
+    Rule::U9,
+    Rule::U10(0),
+    Rule::U11(0),
+    Rule::U12(0),
+    Rule::V9(0),
+];
 
 /// The name of a rule for lower bounds.
 #[tactic(auto, unfolding(crate::specs::Rule::row_of))]
@@ -218,6 +228,7 @@ fn upper_name(rule: Rule) -> &'static str
         Rule::U9 => "U9",
         Rule::U10(_) => "U10",
         Rule::U11(_) => "U11",
+        Rule::U12(_) => "U12",
         Rule::V0 => "V0",
         Rule::V1 => "V1",
         Rule::V2 => "V2",

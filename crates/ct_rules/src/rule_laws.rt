@@ -1,7 +1,7 @@
 //! What the rules of the table mean, for all entries and all premises: what they rest on, that they are sound and
 //! monotone, and that their names stand for them. And what is known of supports.
 
-ghost use Rattle.std.specs.Prelude.{◌≡◌, ◌↔◌, ◌⊎◌, EachIndex, slice_index, ℕ, ◌≤◌, List, [], ◌∷◌, length, map, All, Some, None, IsSome, slice_get};
+ghost use Rattle.std.specs.Prelude.{◌≡◌, ◌↔◌, ◌⊎◌, EachIndex, slice_index, ℕ, ◌≤◌, List, [], ◌∷◌, length, map, All, Some, None, IsSome, slice_get, pos};
 ghost use Rattle.ct_codes.specs.declared.entry.Entry.{Entry};
 ghost use Rattle.ct_codes.specs.declared.claim.Claim.{Claim};
 ghost use Rattle.ct_codes.specs.declared.claim.Side.{Side};
@@ -10,9 +10,9 @@ ghost use Rattle.ct_codes.specs.Claim.{IsTrueOn, IsTrueClaim};
 ghost use Rattle.ct_codes.specs.Entry.{IsEntry, unrestricted, constant_weight};
 ghost use Rattle.ct_duals.specs.Bound.{AcceptedValue, dual_premises, dual_bound};
 ghost use Rattle.ct_rules.specs.declared.rule.Rule.{Rule};
-ghost use Rattle.ct_rules.specs.declared.rule.Rule.TheVariants.{L10, M10};
+ghost use Rattle.ct_rules.specs.declared.rule.Rule.TheVariants.{L10, M10, U11, U12};
 ghost use Rattle.ct_rule_parts.specs.declared.support.Support.{Support};
-ghost use Rattle.ct_rule_parts.specs.declared.support.Support.TheVariants.{Nothing, Size, Bound};
+ghost use Rattle.ct_rule_parts.specs.declared.support.Support.TheVariants.{Nothing, Size, Bound, Odd};
 ghost use Rattle.ct_rule_parts.specs.Support.{Stands};
 ghost use Rattle.ct_words.specs.declared.limits.TheConstants.{MAX_N};
 ghost use Rattle.std.specs.Option.{ForSome};
@@ -21,6 +21,7 @@ ghost use Rattle.ct_rules.specs.Rule.{rule_side, cited, premises_of, value_of, n
 ghost use Rattle.ct_rules.specs.Listing.{rule_named};
 ghost use Rattle.ct_rule_parts.specs.Parts.{slots_on, within_limit};
 ghost use Rattle.ct_rules.specs.DualRule.{rule_of_dual};
+ghost use Rattle.ct_weight_rules.specs.OddExamples.{nine_four};
 
 /// A claim is a bound of a slot, and a bound of a slot is a claim.
 pub fn claims_bound_slots()
@@ -113,4 +114,11 @@ pub fn known_supports()
     // Each of the two rules is for its own entries.
     ensures weight_by_code { premises_of (Size (constant_weight 8 4 4) 14 ∷ []) (L10 0) (constant_weight 8 4 4) ≡ None }
     ensures code_by_weight { premises_of (Size (unrestricted 5 3) 4 ∷ []) (M10 0) (unrestricted 5 3) ≡ None }
+    // A dual with a number of words that it may exclude gives by its own rule, and a dual alone does not.
+    ensures odd_size { value_of (Nothing ∷ Odd (record { dual = nine_four; at_zero = pos 48 }) 21 ∷ []) (U12 1) (unrestricted 9 4) (1 ∷ []) ≡ Some 20 }
+    ensures odd_premises { premises_of (Odd (record { dual = nine_four; at_zero = pos 48 }) 21 ∷ []) (U12 0) (unrestricted 9 4) ≡
+        Some (slots_on Upper (constant_weight 9 4 8 ∷ [])) }
+    ensures not_excluded { value_of (Odd (record { dual = nine_four; at_zero = pos 48 }) 19 ∷ []) (U12 0) (unrestricted 9 4) (1 ∷ []) ≡ None }
+    ensures odd_as_bound { premises_of (Odd (record { dual = nine_four; at_zero = pos 48 }) 21 ∷ []) (U11 0) (unrestricted 9 4) ≡ None }
+    ensures bound_as_odd { premises_of (Bound (record { dual = nine_four; at_zero = pos 48 }) ∷ []) (U12 0) (unrestricted 9 4) ≡ None }
 {}

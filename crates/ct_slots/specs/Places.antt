@@ -5,25 +5,27 @@ use Rattle.ct_codes.specs.declared.claim.Side.TheVariants.{Lower, Upper}
 use Rattle.ct_codes.specs.declared.entry.Entry.{Entry}
 use Rattle.ct_codes.specs.Entry.{IsEntry, is_entry}
 use Rattle.ct_rule_parts.specs.declared.support.Support.{Support}
-use Rattle.ct_rule_parts.specs.declared.support.Support.TheVariants.{Nothing, Size, Bound}
-use Rattle.ct_rule_parts.specs.Support.{size_at, dual_at}
+use Rattle.ct_rule_parts.specs.declared.support.Support.TheVariants.{Nothing, Size, Bound, Odd}
+use Rattle.ct_rule_parts.specs.Support.{size_at, dual_behind}
 use Rattle.ct_slots.specs.Number.{entry_number, side_size}
 
--- a support gives something to an entry: a size, or the bound of a dual
+-- a support gives something to an entry: a size, or something by a dual
 abbrev pub GivesTo : Support → Entry → Type 0
-GivesTo support e = (size_at (Some support) e ≢ None) ⊎ (dual_at (Some support) e ≢ None)
+GivesTo support e = (size_at (Some support) e ≢ None) ⊎ (dual_behind (Some support) e ≢ None)
 
 -- the side on which a support gives something, where it gives anything
 abbrev pub side_of : Support → Side
 side_of Nothing = Lower
 side_of (Size e size) = Lower
 side_of (Bound a) = Upper
+side_of (Odd a m) = Upper
 
 -- the entry of the table to which a support gives something, where there is one
 abbrev pub entry_of : Support → Option Entry
 entry_of Nothing = None
 entry_of (Size e size) = if is_entry e then Some e else None
 entry_of (Bound a) = if is_entry a.dual.entry then Some a.dual.entry else None
+entry_of (Odd a m) = if is_entry a.dual.entry then Some a.dual.entry else None
 
 -- the place stands for the entry
 abbrev pub IsPlaceOf : List (Option Entry) → Entry → ℕ → Type 0

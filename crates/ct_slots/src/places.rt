@@ -43,7 +43,7 @@ pub fn entry_of(support: &Support) -> Option<Entry>
         Support::Nothing => None,
         Support::Size { entry, .. } if entry.in_table() => Some(*entry),
         Support::Size { .. } => None,
-        Support::Bound(dual) => Some(dual.entry()),
+        Support::Bound(dual) | Support::Odd { dual, .. } => Some(dual.entry()),
     }
 }
 
@@ -53,7 +53,7 @@ pub fn side_of(support: &Support) -> Side
 {
     match support {
         Support::Nothing | Support::Size { .. } => Side::Lower,
-        Support::Bound(_) => Side::Upper,
+        Support::Bound(_) | Support::Odd { .. } => Side::Upper,
     }
 }
 

@@ -1,5 +1,5 @@
 -- A table to which a support is added.
-use Rattle.std.proofs.Common.{◌≡◌, ℕ, List, [], ◌∷◌, length, take, Some, refl, sym, ap, subst, ◌∙◌}
+use Rattle.std.proofs.Common.{◌≡◌, ℕ, List, [], ◌∷◌, length, take, Option, Some, slice_get, refl, sym, ap, subst, ◌∙◌}
 use Rattle.std.proofs.lemmas.List.{take_at}
 use Rattle.ct_codes.specs.declared.entry.Entry.{Entry}
 use Rattle.ct_rule_parts.specs.declared.support.Support.{Support}
@@ -16,7 +16,7 @@ use Rattle.ct_kept.proofs.LineLemmas.{kept_in}
 use Rattle.ct_closure.specs.Closing.{IsPending}
 use Rattle.ct_table.specs.Inside.Starting.{CanFollow, IsMarkedIfGiven}
 use Rattle.ct_table.proofs.MoreLemmas.{pending_over_more, closed_over_one}
-use Rattle.ct_table.proofs.PlacedSupports.{given_marked}
+use Rattle.ct_table.proofs.PlacedSupports.{given_marked, last_there}
 use Rattle.std.proofs.lemmas.List.Elements.{All-nil, All-cons}
 
 -- where the slot of the new support is marked it can be closed
@@ -38,7 +38,7 @@ CanClose-marked supports place closing marked can same given = record {
 pub IsClosing-same : (supports : List Support) (place : ℕ) (closing new : ClosingValue) → (can : CanFollow supports place closing)
     → new.kept ≡ closing.kept → new.work ≡ closing.work
     → ((e : Entry) → entry_of can.new_one ≡ Some e
-    → IsWithin supports (bound_of closing.kept.bounds) (side_of can.new_one, e) (bound_of closing.kept.bounds (side_of can.new_one, e)) (given_rule (side_of can.new_one, e) place))
+    → IsWithin supports (bound_of closing.kept.bounds) (side_of can.new_one, e) (bound_of closing.kept.bounds (side_of can.new_one, e)) (given_rule (slice_get supports place) (side_of can.new_one, e) place))
     → IsClosing supports closing new
 IsClosing-same supports place closing new can kept work within =
     let closed : IsClosed supports (bound_of closing.kept.bounds) =
@@ -46,9 +46,12 @@ IsClosing-same supports place closing new can kept work within =
     (closed_over_one can.olds can.new_one (bound_of closing.kept.bounds) can.closed
     (λ e is.
     subst (λ (these : List Support). IsWithin these (bound_of closing.kept.bounds) (side_of can.new_one, e)
-    (bound_of closing.kept.bounds (side_of can.new_one, e)) (given_rule (side_of can.new_one, e) (length can.olds))) can.are
+    (bound_of closing.kept.bounds (side_of can.new_one, e)) (given_rule (Some can.new_one) (side_of can.new_one, e) (length can.olds))) can.are
     (subst (λ (p : ℕ). IsWithin supports (bound_of closing.kept.bounds) (side_of can.new_one, e)
-    (bound_of closing.kept.bounds (side_of can.new_one, e)) (given_rule (side_of can.new_one, e) p)) can.end (within e is)))) in
+    (bound_of closing.kept.bounds (side_of can.new_one, e)) (given_rule (Some can.new_one) (side_of can.new_one, e) p)) can.end
+    (subst (λ (o : Option Support). IsWithin supports (bound_of closing.kept.bounds) (side_of can.new_one, e)
+    (bound_of closing.kept.bounds (side_of can.new_one, e)) (given_rule o (side_of can.new_one, e) place))
+    (last_there supports can.olds can.new_one place can.are can.end) (within e is))))) in
     record {
       kept = subst (IsKept supports) (sym kept) can.kept;
       base = ap (λ (k : KeptValue). k.base) kept;

@@ -9,12 +9,13 @@ use Rattle.ct_codes.specs.declared.entry.Entry.{Entry}
 use Rattle.ct_codes.specs.Entry.{IsEntry, same_entry}
 use Rattle.ct_codes.proofs.EntryLemmas.{same_entry_is}
 use Rattle.ct_rule_parts.specs.declared.support.Support.{Support}
-use Rattle.ct_rule_parts.specs.declared.support.Support.TheVariants.{Nothing, Size, Bound}
+use Rattle.ct_rule_parts.specs.declared.support.Support.TheVariants.{Nothing, Size, Bound, Odd}
 use Rattle.ct_rule_parts.specs.Parts.{has_weight}
 use Rattle.ct_rule_parts.specs.Slot.{Slot, IsNoBetter}
-use Rattle.ct_rule_parts.specs.Support.{size_at, dual_at}
+use Rattle.ct_rule_parts.specs.Support.{size_at, dual_at, odd_at, dual_behind}
+use Rattle.ct_rule_parts.proofs.DualLemmas.{behind-bound, behind-odd}
 use Rattle.ct_rules.specs.declared.rule.Rule.{Rule}
-use Rattle.ct_rules.specs.declared.rule.Rule.TheVariants.{L10, M10, U11, V9}
+use Rattle.ct_rules.specs.declared.rule.Rule.TheVariants.{L10, M10, U11, U12, V9}
 use Rattle.ct_rules.specs.Closed.{IsSatisfied, IsClosed}
 use Rattle.ct_rules.specs.Rule.{row_of, rule_side, place_of, support_at, cited, parts_over, applies}
 use Rattle.ct_rules.proofs.Applied.{defined, applies_from_premises}
@@ -25,7 +26,8 @@ use Rattle.ct_slots.specs.Number.{bound_of}
 use Rattle.ct_slots.specs.Places.{GivesTo, side_of, entry_of}
 use Rattle.ct_slots.specs.Worklist.{WorkValue, IsMarked}
 use Rattle.ct_offers.specs.Offers.{IsWithin}
-use Rattle.ct_offers.specs.Inside.Pulled.{given_rule}
+use Rattle.ct_offers.specs.Inside.Pulled.{bounding_rule, given_rule}
+use Rattle.ct_offers.proofs.BoundingRules.{bounding-bound, bounding-odd}
 use Rattle.ct_offers.proofs.SatisfiedLemmas.{satisfied_within}
 use Rattle.ct_table.proofs.BaseLemmas.{cited-nothing}
 
@@ -35,6 +37,7 @@ gives_entry Nothing e (inl gives) entry = absurd (gives refl)
 gives_entry Nothing e (inr gives) entry = absurd (gives refl)
 gives_entry (Size f size) e (inr gives) entry = absurd (gives refl)
 gives_entry (Bound a) e (inl gives) entry = absurd (gives refl)
+gives_entry (Odd a m) e (inl gives) entry = absurd (gives refl)
 gives_entry (Size f size) e (inl gives) entry = go (same_entry f e) refl
   where
     go : (b : Bool) → same_entry f e ≡ b → entry_of (Size f size) ≡ Some e
@@ -50,6 +53,14 @@ gives_entry (Bound a) e (inr gives) entry = go (same_entry a.dual.entry e) refl
         ap (λ (b : Bool). if b then Some a.dual.entry else None) (subst IsEntry (sym same) entry) ∙ ap Some same
     go false is =
         absurd (gives (ap (λ (b : Bool). if b then Some a else None) is))
+gives_entry (Odd a m) e (inr gives) entry = go (same_entry a.dual.entry e) refl
+  where
+    go : (b : Bool) → same_entry a.dual.entry e ≡ b → entry_of (Odd a m) ≡ Some e
+    go true is =
+        let same : a.dual.entry ≡ e = same_entry_is a.dual.entry e is in
+        ap (λ (b : Bool). if b then Some a.dual.entry else None) (subst IsEntry (sym same) entry) ∙ ap Some same
+    go false is =
+        absurd (gives (ap (λ (b : Bool). if b then Some a else None) is))
 
 -- a rule that is defined and names a support: it is the one by which that support gives something
 pub record IsNamed (supports : List Support) (r : Rule) (place : ℕ) (e : Entry) : Type 0 where
@@ -57,7 +68,7 @@ pub record IsNamed (supports : List Support) (r : Rule) (place : ℕ) (e : Entry
   pub there : slice_get supports place ≡ Some support
   pub gives : GivesTo support e
   pub side : rule_side r ≡ side_of support
-  pub rule : r ≡ given_rule (side_of support, e) place
+  pub rule : r ≡ given_rule (Some support) (side_of support, e) place
 
 -- a support that gives something on a side
 abbrev IsGiving : Option Support → Entry → Side → Type 0
@@ -67,22 +78,26 @@ giving : (o : Option Support) (e : Entry) → is_some (size_at o e) ≡ true →
 giving None e is = absurd (false≢true is)
 giving (Some Nothing) e is = absurd (false≢true is)
 giving (Some (Bound a)) e is = absurd (false≢true is)
+giving (Some (Odd a m)) e is = absurd (false≢true is)
 giving (Some (Size f size)) e is = (Size f size, refl, inl (λ none. false≢true (sym (ap is_some none) ∙ is)), refl)
 
-giving_dual : (o : Option Support) (e : Entry) → is_some (dual_at o e) ≡ true → IsGiving o e Upper
+giving_dual : (o : Option Support) (e : Entry) → is_some (dual_behind o e) ≡ true → IsGiving o e Upper
 giving_dual None e is = absurd (false≢true is)
 giving_dual (Some Nothing) e is = absurd (false≢true is)
 giving_dual (Some (Size f size)) e is = absurd (false≢true is)
 giving_dual (Some (Bound a)) e is = (Bound a, refl, inr (λ none. false≢true (sym (ap is_some none) ∙ is)), refl)
+giving_dual (Some (Odd a m)) e is = (Odd a m, refl, inr (λ none. false≢true (sym (ap is_some none) ∙ is)), refl)
 
 named_by : (supports : List Support) (r : Rule) (p place : ℕ) (e : Entry) (side : Side) → p ≡ place → IsGiving (slice_get supports p) e side
-    → rule_side r ≡ side → r ≡ given_rule (side, e) p → IsNamed supports r place e
+    → rule_side r ≡ side → r ≡ given_rule (slice_get supports p) (side, e) p → IsNamed supports r place e
 named_by supports r p place e side same one own rule = record {
   support = one.0;
   there = subst (λ (q : ℕ). slice_get supports q ≡ Some one.0) same one.1;
   gives = one.2;
   side = own ∙ one.3;
-  rule = rule ∙ ap (given_rule (side, e)) same ∙ ap (λ (s : Side). given_rule (s, e) place) one.3;
+  rule =
+      rule ∙ ap (λ (o : Option Support). given_rule o (side, e) p) one.1 ∙ ap (given_rule (Some one.0) (side, e)) same
+      ∙ ap (λ (s : Side). given_rule (Some one.0) (s, e) place) one.3;
 }
 
 pub named : (supports : List Support) (r : Rule) (place : ℕ) (e : Entry) → place_of r ≡ Some place
@@ -101,13 +116,23 @@ named supports (M10 p) place e names h =
 named supports (U11 p) place e names h =
     let is = defined (parts_over supports (U11 p)) e h in
     let parts = and_parts (not (has_weight e)) (is_some (dual_at (slice_get supports p) e)) is.condition in
-    named_by supports (U11 p) p place e Upper (same_Some p place names) (giving_dual (slice_get supports p) e parts.1) refl
-    (sym (ap (λ (b : Bool). if b then V9 p else U11 p) (not-true (has_weight e) parts.0)))
+    named_by supports (U11 p) p place e Upper (same_Some p place names)
+    (giving_dual (slice_get supports p) e (behind-bound (slice_get supports p) e parts.1)) refl
+    (bounding-bound supports p e h
+    ∙ sym (ap (λ (b : Bool). if b then V9 p else bounding_rule (slice_get supports p) p) (not-true (has_weight e) parts.0)))
+named supports (U12 p) place e names h =
+    let is = defined (parts_over supports (U12 p)) e h in
+    let parts = and_parts (not (has_weight e)) (is_some (odd_at (slice_get supports p) e)) is.condition in
+    named_by supports (U12 p) p place e Upper (same_Some p place names)
+    (giving_dual (slice_get supports p) e (behind-odd (slice_get supports p) e parts.1)) refl
+    (bounding-odd supports p e h
+    ∙ sym (ap (λ (b : Bool). if b then V9 p else bounding_rule (slice_get supports p) p) (not-true (has_weight e) parts.0)))
 named supports (V9 p) place e names h =
     let is = defined (parts_over supports (V9 p)) e h in
     let parts = and_parts (has_weight e) (is_some (dual_at (slice_get supports p) e)) is.condition in
-    named_by supports (V9 p) p place e Upper (same_Some p place names) (giving_dual (slice_get supports p) e parts.1) refl
-    (sym (ap (λ (b : Bool). if b then V9 p else U11 p) parts.0))
+    named_by supports (V9 p) p place e Upper (same_Some p place names)
+    (giving_dual (slice_get supports p) e (behind-bound (slice_get supports p) e parts.1)) refl
+    (sym (ap (λ (b : Bool). if b then V9 p else bounding_rule (slice_get supports p) p) parts.0))
 named supports r place e names h = absurd (none-some place names)
 
 -- one of more supports that gives something to the entry, by the rule that names it
@@ -117,7 +142,7 @@ pub record IsNew (olds added : List Support) (r : Rule) (e : Entry) : Type 0 whe
   pub there : slice_get added index ≡ Some support
   pub gives : GivesTo support e
   pub side : rule_side r ≡ side_of support
-  pub rule : r ≡ given_rule (side_of support, e) (length olds + index)
+  pub rule : r ≡ given_rule (Some support) (side_of support, e) (length olds + index)
 
 -- a rule gives nothing better than what was closed, but where it names one of the new supports
 pub satisfied_over_more : (olds added : List Support) (bounds : Slot → ℕ) (r : Rule) (e : Entry) → IsClosed olds bounds
@@ -145,7 +170,7 @@ satisfied_over_more olds added bounds r e closed new slots v premises value = go
           there = sym there ∙ is.there;
           gives = is.gives;
           side = is.side;
-          rule = is.rule ∙ ap (given_rule (side_of is.support, e)) (sym at);
+          rule = is.rule ∙ ap (given_rule (Some is.support) (side_of is.support, e)) (sym at);
         })
         slots v premises value
 
@@ -177,20 +202,21 @@ pending_over_more olds added bounds work closed marked s entry unmarked r side =
 -- where the one new support betters nothing, all is closed as before
 pub closed_over_one : (olds : List Support) (x : Support) (bounds : Slot → ℕ) → IsClosed olds bounds
     → ((e : Entry) → entry_of x ≡ Some e
-    → IsWithin (olds ++ x ∷ []) bounds (side_of x, e) (bounds (side_of x, e)) (given_rule (side_of x, e) (length olds)))
+    → IsWithin (olds ++ x ∷ []) bounds (side_of x, e) (bounds (side_of x, e)) (given_rule (Some x) (side_of x, e) (length olds)))
     → IsClosed (olds ++ x ∷ []) bounds
 closed_over_one olds x bounds closed within r e =
     satisfied_over_more olds (x ∷ []) bounds r e closed (λ entry is. go entry is.index is.support is.there is.gives is.side is.rule)
   where
     go : IsEntry e → (index : ℕ) (support : Support) → slice_get (x ∷ []) index ≡ Some support → GivesTo support e
-        → rule_side r ≡ side_of support → r ≡ given_rule (side_of support, e) (length olds + index) → IsSatisfied (olds ++ x ∷ []) bounds r e
+        → rule_side r ≡ side_of support → r ≡ given_rule (Some support) (side_of support, e) (length olds + index) → IsSatisfied (olds ++ x ∷ []) bounds r e
     go entry (suc index) support there gives side rule = absurd (none-some support there)
     go entry zero support there gives side rule =
         let one : x ≡ support = same_Some x support there in
         let end : length olds + 0 ≡ length olds = omega arith in
         let own : rule_side r ≡ side_of x = side ∙ ap side_of (sym one) in
-        let by : r ≡ given_rule (side_of x, e) (length olds) =
-        rule ∙ ap (given_rule (side_of support, e)) end ∙ ap (λ (y : Support). given_rule (side_of y, e) (length olds)) (sym one) in
+        let by : r ≡ given_rule (Some x) (side_of x, e) (length olds) =
+        rule ∙ ap (given_rule (Some support) (side_of support, e)) end
+        ∙ ap (λ (y : Support). given_rule (Some y) (side_of y, e) (length olds)) (sym one) in
         let is = within e (gives_entry x e (subst (λ (y : Support). GivesTo y e) (sym one) gives) entry) in
         satisfied_within (olds ++ x ∷ []) bounds r e
         (subst (λ (d : Side). IsWithin (olds ++ x ∷ []) bounds (d, e) (bounds (d, e)) r) (sym own)

@@ -1,6 +1,6 @@
 //! What a new support changes: nothing where it betters nothing, else what rests on its entry is closed again.
 
-ghost use Rattle.std.specs.Prelude.{◌≡◌, ◌+◌, ◌<◌, ◌≤◌, ◌^◌, ◌++◌, ◌∷◌, [], ℕ, List, Some, false, OnOk, OnErr, length};
+ghost use Rattle.std.specs.Prelude.{◌≡◌, ◌+◌, ◌<◌, ◌≤◌, ◌^◌, ◌++◌, ◌∷◌, [], ℕ, List, Some, false, OnOk, OnErr, length, slice_get};
 ghost use Rattle.ct_codes.specs.Entry.{IsEntry};
 ghost use Rattle.ct_rule_parts.specs.declared.support.Support.{Support};
 ghost use Rattle.ct_rule_parts.specs.Support.{AllStand};
@@ -26,9 +26,14 @@ use std::alloc::{AllocError, Global};
 /// Whether the support at a place gives a better bound on a side of an entry of the table than stands there.
 fn is_bettered(supports: &[Support], bounds: &Bounds, side: Side, entry: Entry, place: u32) -> bool
     requires { IsEntry entry }
-    ensures { result ≡ false → IsWithin supports.now (bound_of bounds.now) (side, entry) (bound_of bounds.now (side, entry)) (given_rule (side, entry) place) }
+    ensures { result ≡ false → IsWithin supports.now (bound_of bounds.now) (side, entry) (bound_of bounds.now (side, entry)) (given_rule (slice_get supports.now place) (side, entry) place) }
 {
-    match offer(supports, bounds, given_rule(side, entry, place), entry) {
+    match offer(
+        supports,
+        bounds,
+        given_rule(supports, side, entry, place),
+        entry,
+    ) {
         Some(value) => is_better(side, value, bounds.bound(side, entry)),
         None => false,
     }
@@ -37,7 +42,7 @@ fn is_bettered(supports: &[Support], bounds: &Bounds, side: Side, entry: Entry, 
 /// Whether the support at a place betters the bound on a side of an entry of the table.
 fn betters(supports: &[Support], kept: &Kept, side: Side, entry: Entry, place: u32) -> bool
     requires { IsEntry entry }
-    ensures { result ≡ false → IsWithin supports.now (bound_of kept.now.bounds) (side, entry) (bound_of kept.now.bounds (side, entry)) (given_rule (side, entry) place) }
+    ensures { result ≡ false → IsWithin supports.now (bound_of kept.now.bounds) (side, entry) (bound_of kept.now.bounds (side, entry)) (given_rule (slice_get supports.now place) (side, entry) place) }
 {
     is_bettered(supports, kept.bounds(), side, entry, place)
 }

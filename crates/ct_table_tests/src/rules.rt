@@ -15,7 +15,7 @@ use ct_rules::{Rule, Support, premise, premise_count, rule_side, value};
 use ct_words::MAX_BOUND;
 
 /// Each rule, with the first support, the weight 0, and a length and a distance, where it names any.
-const RULES: [Rule; 43] = [
+const RULES: [Rule; 44] = [
     Rule::L1,
     Rule::L2,
     Rule::L3,
@@ -49,6 +49,7 @@ const RULES: [Rule; 43] = [
     Rule::U9,
     Rule::U10(0),
     Rule::U11(0),
+    Rule::U12(0),
     Rule::V0,
     Rule::V1,
     Rule::V2,

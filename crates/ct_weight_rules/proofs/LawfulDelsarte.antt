@@ -28,14 +28,14 @@ use Rattle.ct_weight_rules.specs.Neighbours.{unweighted, unweighted_and_nearer}
 use Rattle.ct_weight_rules.specs.Delsarte.{premises_of_dual, bound_of_dual, dual_above, dual_above_of_weight}
 
 -- true values of upper slots are true upper bounds
-true_uppers : (es : List Entry) (vs : List ℕ) → AreTrueAt (slots_on Upper es) vs → AreTrueUppers es vs
+pub true_uppers : (es : List Entry) (vs : List ℕ) → AreTrueAt (slots_on Upper es) vs → AreTrueUppers es vs
 true_uppers [] [] h = tt
 true_uppers [] (v ∷ vs) h = absurd h
 true_uppers (e ∷ es) [] h = absurd h
 true_uppers (e ∷ es) (v ∷ vs) h = (h.0.truth, true_uppers es vs h.1)
 
 -- better upper bounds are smaller
-at_most : (us vs : List ℕ) → AreNoBetter Upper us vs → AreAtMost vs us
+pub at_most : (us vs : List ℕ) → AreNoBetter Upper us vs → AreAtMost vs us
 at_most [] [] h = tt
 at_most [] (v ∷ vs) h = absurd h
 at_most (u ∷ us) [] h = absurd h
@@ -61,7 +61,7 @@ dual-monotone (Some a) us vs x h is =
     (dual_bound-monotone a.dual a.at_zero vs us (at_most us vs h)) is
 
 -- an entry whose dual rests on another is at its distance, or one place nearer
-dual-back : (e f : Entry) (a : AcceptedValue) → Weightless e → a.dual.entry ≡ e → Contains (dual_premises a.dual) f
+pub dual-back : (e f : Entry) (a : AcceptedValue) → Weightless e → a.dual.entry ≡ e → Contains (dual_premises a.dual) f
     → Contains (unweighted f ∷ unweighted_and_nearer f ∷ []) e
 dual-back e f a none same rests = All-contains IsBack (dual_premises a.dual) f (All-map IsBack at (positive a.dual.y) (λ k o l. back (get_or (positive a.dual.y) k o))) rests
   where

@@ -17,3 +17,4 @@ pub mod LawfulFarWords
 pub mod LawfulSplit
 pub mod LawfulSumClass
 pub mod LawfulDelsarte
+pub mod LawfulOddSizes

@@ -16,3 +16,5 @@ pub mod FarWords
 pub mod Split
 pub mod SumClass
 pub mod Delsarte
+pub mod OddSizes
+pub mod OddExamples

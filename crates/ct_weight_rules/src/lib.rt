@@ -14,6 +14,7 @@ mod johnson;
 mod lengthened;
 mod nearer;
 mod neighbours;
+mod odd_sizes;
 mod one_word;
 mod split;
 mod sum_class;
@@ -36,6 +37,7 @@ pub use neighbours::{
     around, even_of_weight, of_weight, one_less, one_more, turned, two_farther, two_nearer,
     unweighted, unweighted_and_nearer, zero_less, zero_more,
 };
+pub use odd_sizes::{known_odd_sizes, parity_excludes_sizes, size_below};
 pub use one_word::known_one_word;
 pub use split::{known_split, parts_of_split, split_into};
 pub use sum_class::{known_sum_class, size_of_class};

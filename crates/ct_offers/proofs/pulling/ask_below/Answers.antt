@@ -1,4 +1,5 @@
 use Rattle.std.proofs.Common.{arith}
+use Rattle.std.specs.Prelude.{slice_get}
 use Rattle.ct_codes.specs.declared.claim.Side.TheVariants.{Lower}
 use Rattle.ct_slots.specs.Number.{bound_of}
 use Rattle.ct_offers.specs.Inside.Pulled.{given_rule}
@@ -19,5 +20,5 @@ returns-in-None-clause-pulled c =
 pub returns-in-None-clause-given : goal.returns-in-None-clause-given
 returns-in-None-clause-given c place =
     within_better c.args.supports.now (bound_of c.args.bounds.now) (Lower, c.args.entry) c.ask_supports.new.best.value
-    c.best_side_by_side.new.best.value (given_rule (Lower, c.args.entry) place) (c.best_side_by_side.ensures.pulled c.args.supports.now).no_worse
+    c.best_side_by_side.new.best.value (given_rule (slice_get c.args.supports.now place) (Lower, c.args.entry) place) (c.best_side_by_side.ensures.pulled c.args.supports.now).no_worse
     (c.ask_supports.ensures.within place)

@@ -16,4 +16,9 @@ returns c = record {
   without_weight = refl;
   weight_by_code = refl;
   code_by_weight = refl;
+  odd_size = refl;
+  odd_premises = refl;
+  not_excluded = refl;
+  odd_as_bound = refl;
+  bound_as_odd = refl;
 }

@@ -1,4 +1,4 @@
-use Rattle.std.proofs.Common.{◌≡◌, Some, None, sym, subst, ap, ◌∙◌, refl}
+use Rattle.std.proofs.Common.{◌≡◌, Some, None, slice_get, sym, subst, ap, ◌∙◌, refl}
 use Rattle.std.proofs.lemmas.Option.{none-some, same_Some}
 use Rattle.ct_codes.specs.declared.claim.Side.{Side}
 use Rattle.ct_rule_parts.specs.declared.support.Support.{Support}
@@ -35,9 +35,9 @@ returns-then-not-betters-clause-closed c =
     let new_is = c.index-supports-place.is ∙ last_is c.args.supports.now new.olds new.new_one c.index-supports-place.result c.args.place new.are new.end in
     let side : c.side_of-side.result ≡ side_of new.new_one = c.side_of-side.ensures ∙ ap side_of new_is in
     subst (λ (k : ClosingValue). IsWithin c.args.supports.now (bound_of k.kept.bounds) (side_of new.new_one, e)
-    (bound_of k.kept.bounds (side_of new.new_one, e)) (given_rule (side_of new.new_one, e) c.args.place)) c.closing.view_is
+    (bound_of k.kept.bounds (side_of new.new_one, e)) (given_rule (slice_get c.args.supports.now c.args.place) (side_of new.new_one, e) c.args.place)) c.closing.view_is
     (subst (λ (s : Side). IsWithin c.args.supports.now (bound_of c.closing.inside.kept.bounds) (s, e)
-    (bound_of c.closing.inside.kept.bounds (s, e)) (given_rule (s, e) c.args.place)) side
+    (bound_of c.closing.inside.kept.bounds (s, e)) (given_rule (slice_get c.args.supports.now c.args.place) (s, e) c.args.place)) side
     (subst (λ (f : Entry). IsWithin c.args.supports.now (bound_of c.closing.inside.kept.bounds) (c.side_of-side.result, f)
-    (bound_of c.closing.inside.kept.bounds (c.side_of-side.result, f)) (given_rule (c.side_of-side.result, f) c.args.place)) same
+    (bound_of c.closing.inside.kept.bounds (c.side_of-side.result, f)) (given_rule (slice_get c.args.supports.now c.args.place) (c.side_of-side.result, f) c.args.place)) same
     (c.if-not-betters.ensures refl))))
