@@ -2,6 +2,7 @@ pub mod Growing
 pub mod Line
 pub mod Number
 pub mod Id
+pub mod Cite
 pub mod EntryNumbers
 pub mod TableNumbers
 pub mod EntryText

@@ -3,6 +3,7 @@
 #![tactic(auto)]
 
 mod append;
+mod cite;
 mod digits;
 mod entry_numbers;
 mod gathering;
@@ -15,6 +16,7 @@ mod table_numbers;
 mod text;
 
 pub use append::{put_entry, put_entry_words, put_number, put_spaced};
+pub use cite::{Cite, MAX_CITE, is_cite};
 pub use digits::Digits;
 pub use entry_numbers::{EntryNumbers, parse_entry_numbers};
 pub use gathering::{Extent, Gathered, Gathering};

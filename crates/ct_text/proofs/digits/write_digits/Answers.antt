@@ -1,4 +1,4 @@
-use Rattle.std.proofs.Common.{arith, rules}
+use Rattle.std.proofs.Common.{rules}
 use Rattle.ct_text.proofs.WrittenDigits.{one_more, the_first}
 use Rattle.ct_text.proofs.digits.write_digits.Goals as goal
 
