@@ -15,7 +15,7 @@ use Rattle.toml.specs.Data.{Data, string, integer, float, boolean, datetime, arr
 use Rattle.toml.specs.View.{items_of}
 use Rattle.ct_fields.specs.Field.{field_text}
 use Rattle.ct_fields.specs.Fields.{is_text, is_of_kind, field, number_in, number_field, texts_of, texts_in, texts_field, is_named, keys_are_named, has_only}
-use Rattle.ct_fields.specs.Tables.{IsOfKind, HasNumber, HasTexts, IsNamed, HasOther}
+use Rattle.ct_fields.specs.Tables.{IsOfKind, HasNumber, HasTexts, IsNamed}
 use Rattle.ct_fields.specs.declared.field.FieldName.{FieldName}
 use Rattle.ct_fields.specs.declared.fault.FileFault.TheVariants.{Field}
 use Rattle.ct_fields.proofs.StepLemmas.{ok_or-ok}
@@ -160,19 +160,19 @@ keys_are_named-false names (member l d ms) e =
 pub has_only-true : (names : List FieldName) (ms : Members) → has_only names (table ms) ≡ true → (key : List ℕ) → IsSome (get key (table ms)) → IsNamed names key
 has_only-true names ms e = keys_are_named-true names ms e
 
-pub has_only-false : (names : List FieldName) (ms : Members) → has_only names (table ms) ≡ false → (key : List ℕ) × HasOther names (table ms) key
+pub has_only-false : (names : List FieldName) (ms : Members) → has_only names (table ms) ≡ false → (key : List ℕ) × IsSome (get key (table ms)) × ¬ (IsNamed names key)
 has_only-false names ms e =
     let (key, some, other) = keys_are_named-false names ms e in
-    (key, (some, λ named. false≢true (sym other ∙ is_named-from names key named)))
+    (key, some, λ named. false≢true (sym other ∙ is_named-from names key named))
 
 pub has_only-from : (names : List FieldName) (ms : Members) → ((key : List ℕ) → IsSome (get key (table ms)) → IsNamed names key) → has_only names (table ms) ≡ true
 has_only-from names ms only =
     elim (cases_Bool (has_only names (table ms))) [
       | inl holds ↦ holds
-      | inr fails ↦ let (key, other) = has_only-false names ms fails in absurd (other.1 (only key other.0))
+      | inr fails ↦ let (key, some, other) = has_only-false names ms fails in absurd (other (only key some))
     ]
 
-pub has_only-from_other : (names : List FieldName) (ms : Members) (key : List ℕ) → HasOther names (table ms) key → has_only names (table ms) ≡ false
+pub has_only-from_other : (names : List FieldName) (ms : Members) (key : List ℕ) → IsSome (get key (table ms)) × ¬ (IsNamed names key) → has_only names (table ms) ≡ false
 has_only-from_other names ms key other =
     elim (cases_Bool (has_only names (table ms))) [
       | inl holds ↦ absurd (other.1 (has_only-true names ms holds key other.0))

@@ -9,3 +9,9 @@ pub mod IdTexts
 pub mod FormLemmas
 pub mod TextLengths
 pub mod RoomLemmas
+mod CiteTexts
+pub mod CiteLemmas
+pub mod LastLemmas
+pub mod CitedTables
+pub mod PushedValues
+pub mod CiteRooms

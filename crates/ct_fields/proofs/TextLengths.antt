@@ -1,9 +1,11 @@
 -- The text of a table with simple values has no more bytes than there is room for.
-use Rattle.std.proofs.Common.{◌≡◌, ℕ, ◌<◌, ◌≤◌, Bool, true, false, nat_lt, ◌==◌, List, [], ◌∷◌, ◌++◌, length, codes, refl, ap, arith, append-nil, length-append}
+use Rattle.std.proofs.Common.{◌≡◌, ℕ, ◌<◌, ◌≤◌, Bool, true, false, nat_lt, ◌==◌, List, [], ◌∷◌, ◌++◌, length, codes, Ordering, Less, Equal, Greater, nat_cmp, refl, ap, arith, append-nil, length-append}
 use Rattle.std.specs.Prelude.{◌+◌, FitsSigned, pos, negsuc}
 use Rattle.std.specs.Int.{w64}
 use Rattle.std.specs.List.{list_all, list_any}
 use Rattle.std.specs.Fmt.{signed_decimal}
+use Rattle.std.specs.Cmp.Lexicographic.{slice_cmp}
+use Rattle.std.specs.Ordering.{match_ordering}
 use Rattle.std.proofs.lemmas.Bool.{and_parts}
 use Rattle.std.proofs.lemmas.Bool.Decides.{nat_tests}
 use Rattle.std.proofs.lemmas.Int.{ints}
@@ -14,6 +16,7 @@ use Rattle.toml_writer.specs.Text.{is_control, needs_escape, quotes_after, escap
 use Rattle.toml.specs.Tables.{key_value}
 use Rattle.toml.specs.Data.{Data, string, integer, float, boolean, datetime, array, table, Items, no_items, item, Members, no_members, member}
 use Rattle.toml.specs.Text.{IsValueText, IsItemsText, IsLinesText, IsDocumentText, breaks_lines, is_section, section, sections, pairs}
+use Rattle.ct_fields.specs.Written.{set_member}
 use Rattle.ct_fields.specs.Inside.Room.{IsBare, IsSimple, AreSimple, IsSimpleTable, room, items_room, table_room}
 
 -- ---- texts
@@ -79,7 +82,7 @@ number_length : (k : ℕ) → FitsSigned w64 (pos k) → length (signed_decimal 
 number_length k fits = length_signed_le 19 (pos k) (omega (arith, ints)) (omega (arith, ints))
 
 -- few values are no lines
-no_breaks : (ds : Items) → breaks_lines false ds ≡ false
+pub no_breaks : (ds : Items) → breaks_lines false ds ≡ false
 no_breaks no_items = refl
 no_breaks (item d no_items) = refl
 no_breaks (item d (item e ds)) = refl
@@ -144,9 +147,53 @@ no_lines key (table ms) simple = absurd simple
 
 -- ---- tables
 
-no_sections : (path : List (List ℕ)) (ms : Members) → IsSimpleTable ms → sections path ms ≡ []
-no_sections path no_members simple = refl
-no_sections path (member k d ms) (some, bare, simple, all) = rw (no_lines (path, k) d simple, no_sections path ms all) refl
+-- a value is no table, and its text has so many bytes at most
+pub record HasRoom (d : Data) (r : ℕ) : Type 0 where
+  pub no_table : is_section d ≡ false
+  pub no_section : (key : Key) → section key d ≡ []
+  pub short : (text : List ℕ) → IsValueText false d text → length text ≤ r
+
+-- so it is with a simple value
+pub simple-room : (d : Data) → IsSimple d → HasRoom d (room d)
+simple-room d simple = record {
+  no_table = no_section d simple;
+  no_section = λ key. no_lines key d simple;
+  short = λ text written. value_length d text simple written;
+}
+
+-- the keys of a table are bare, its values are no tables, and its text has so many bytes at most
+abbrev pub Fits : Members → ℕ → Type 0
+Fits no_members b = Unit {0}
+Fits (member k d ms) b =
+    (r : ℕ) × (a : ℕ) × (0 < length k) × IsBare k × HasRoom d r × Fits ms a × (length k + 4 + r + a ≤ b)
+
+-- so it is with a simple table
+pub simple-fits : (ms : Members) → IsSimpleTable ms → Fits ms (table_room ms)
+simple-fits no_members simple = tt
+simple-fits (member k d ms) (some, bare, simple, all) =
+    (room d, table_room ms, some, bare, simple-room d simple, simple-fits ms all, omega arith)
+
+-- more room is enough too
+pub fits-more : (ms : Members) (a b : ℕ) → Fits ms a → a ≤ b → Fits ms b
+fits-more no_members a b fits more = tt
+fits-more (member k d ms) a b (r, c, some, bare, has, rest, within) more = (r, c, some, bare, has, rest, omega (arith, within, more))
+
+-- what is put at a key takes its own room
+pub fits-put : (k : List ℕ) (d : Data) (ms : Members) (r b : ℕ) → 0 < length k → IsBare k → HasRoom d r → Fits ms b
+    → Fits (set_member k d ms) (length k + 4 + r + b)
+fits-put k d no_members r b some bare has fits = (r, 0, some, bare, has, tt, omega arith)
+fits-put k d (member l e ms) r b some bare has (s, a, is_some, is_bare, other, rest, within) =
+    at (slice_cmp nat_cmp k l) (fits-put k d ms r a some bare has rest)
+  where
+    at : (o : Ordering) → Fits (set_member k d ms) (length k + 4 + r + a)
+        → Fits (match_ordering o (member k d (member l e ms)) (member l d ms) (member l e (set_member k d ms))) (length k + 4 + r + b)
+    at Less more = (r, b, some, bare, has, (s, a, is_some, is_bare, other, rest, within), omega arith)
+    at Equal more = (r, a, is_some, is_bare, has, rest, omega (arith, within))
+    at Greater more = (s, length k + 4 + r + a, is_some, is_bare, other, more, omega (arith, within))
+
+no_sections : (path : List (List ℕ)) (ms : Members) (b : ℕ) → Fits ms b → sections path ms ≡ []
+no_sections path no_members b fits = refl
+no_sections path (member k d ms) b (r, a, some, bare, has, rest, within) = rw (has.no_section (path, k), no_sections path ms a rest) refl
 
 -- the bytes of a line, and of what follows it
 line_length : (k value rest : List ℕ) → length ((k ++ (codes " = " ++ (value ++ 10 ∷ []))) ++ rest) ≡ (length k + (4 + length value)) + length rest
@@ -157,19 +204,23 @@ line_length k value rest =
       length-append value (10 ∷ []),
     ) (omega arith)
 
-lines_length : (started : Bool) (ms : Members) (text : List ℕ) → IsSimpleTable ms → IsLinesText false started (pairs ms) text → length text ≤ table_room ms
-lines_length started no_members text simple is = rw is (omega arith)
-lines_length started (member k d ms) text (some, bare, simple, all) written =
-    at (λ rest more. lines_length true ms rest all more) (rw (no_section d simple) at written)
+lines_length : (started : Bool) (ms : Members) (b : ℕ) (text : List ℕ) → Fits ms b → IsLinesText false started (pairs ms) text → length text ≤ b
+lines_length started no_members b text fits is = rw is (omega arith)
+lines_length started (member k d ms) b text (r, a, some, bare, has, fits, within) written =
+    at (λ rest more. lines_length true ms a rest fits more) (rw has.no_table at written)
   where
-    at : ((rest : List ℕ) → IsLinesText false true (pairs ms) rest → length rest ≤ table_room ms)
-        → IsLinesText false started ((([], k), key_value d) ∷ pairs ms) text → length text ≤ table_room (member k d ms)
+    at : ((rest : List ℕ) → IsLinesText false true (pairs ms) rest → length rest ≤ a)
+        → IsLinesText false started ((([], k), key_value d) ∷ pairs ms) text → length text ≤ b
     at later (this, rest, is, (value, line, writes), more) =
-        let here = value_length d value simple writes in
+        let here = has.short value writes in
         let after = later rest more in
         let same : dotted_text ([], k) ≡ k = key_text-bare k some bare in
-        rw (is, line, same, line_length k value rest) (omega (arith, here, after))
+        rw (is, line, same, line_length k value rest) (omega (arith, here, after, within))
+
+-- the text of a table that fits has no more bytes than that
+pub fitting_length : (ms : Members) (b : ℕ) (text : List ℕ) → Fits ms b → IsDocumentText false ms text → length text ≤ b
+fitting_length ms b text fits written = lines_length false ms b text fits (rw (no_sections [] ms b fits, append-nil (pairs ms)) at written)
 
 -- the text of a simple table has no more bytes than there is room for
 pub document_length : (ms : Members) (text : List ℕ) → IsSimpleTable ms → IsDocumentText false ms text → length text ≤ table_room ms
-document_length ms text simple written = lines_length false ms text simple (rw (no_sections [] ms simple, append-nil (pairs ms)) at written)
+document_length ms text simple written = fitting_length ms (table_room ms) text (simple-fits ms simple) written

@@ -11,5 +11,5 @@ unfoldable pub table_of : List ℕ → Option Data
 table_of bytes = if is_utf8 bytes then option_map table (parse_document bytes) else None
 
 -- the table of a document; the fault of bytes that write none
-abbrev pub document_of : List ℕ → Result Data FileFault
-document_of bytes = ok_or (table_of bytes) NotToml
+abbrev pub read_table : List ℕ → Result Data FileFault
+read_table bytes = ok_or (table_of bytes) NotToml

@@ -1,10 +1,11 @@
 -- The keys of the fields of evidence documents.
 use Rattle.std.specs.Prelude.{ℕ, List, codes}
 use Rattle.ct_fields.specs.declared.field.FieldName.{FieldName}
-use Rattle.ct_fields.specs.declared.field.FieldName.TheVariants.{N, D, W, Words, Basis, Representatives, D1, Classes, Op, Places, Digits, By, Size, Part, Other, Pairs, Even, C, Y}
+use Rattle.ct_fields.specs.declared.field.FieldName.TheVariants.{Format, N, D, W, Words, Basis, Representatives, D1, Classes, Op, Places, Digits, By, Size, Part, Other, Pairs, Even, C, Y, Cites}
 
 -- the key of a field
 abbrev pub field_text : FieldName → List ℕ
+field_text Format = codes "format"
 field_text N = codes "n"
 field_text D = codes "d"
 field_text W = codes "w"
@@ -24,3 +25,4 @@ field_text Pairs = codes "pairs"
 field_text Even = codes "even"
 field_text C = codes "c"
 field_text Y = codes "y"
+field_text Cites = codes "cites"

@@ -6,10 +6,10 @@ use Rattle.std.specs.Str.{bytes_eq}
 use Rattle.toml.specs.Data.{Data, string, integer, array, table, Items, no_items, item, Members, no_members, member, get, as_str}
 use Rattle.ct_words.specs.Text.{word_of}
 use Rattle.ct_fields.specs.Field.{field_text}
-use Rattle.ct_fields.specs.Steps.{◌>>=◌, check}
+use Rattle.ct_fields.specs.Steps.{◌>>=◌}
 use Rattle.ct_fields.specs.declared.field.FieldName.{FieldName}
 use Rattle.ct_fields.specs.declared.fault.FileFault.{FileFault}
-use Rattle.ct_fields.specs.declared.fault.FileFault.TheVariants.{Field, Unknown, Digits}
+use Rattle.ct_fields.specs.declared.fault.FileFault.TheVariants.{Field, Digits}
 
 -- whether the value is this text
 abbrev pub is_text : List ℕ → Data → Bool
@@ -61,10 +61,6 @@ keys_are_named names (member key d rest) = is_named names key && keys_are_named 
 abbrev pub has_only : List FieldName → Data → Bool
 has_only names (table members) = keys_are_named names members
 has_only names _ = false
-
--- the fault of a key that isn't named
-abbrev pub no_other_key : List FieldName → Data → Result (Unit {0}) FileFault
-no_other_key names document = check (has_only names document) Unknown
 
 -- the words of length n that the texts write
 -- (the fault of the first text that writes none, where the texts are counted from place)

@@ -9,4 +9,8 @@ pub mod StatesEntry
 pub mod Written
 pub mod Ids
 pub mod Forms
+pub mod Format
+pub mod Cites
+pub mod LastFields
+pub mod HasCites
 pub mod Inside

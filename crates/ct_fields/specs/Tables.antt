@@ -1,5 +1,5 @@
 -- The table that bytes write, and what it has at its keys.
-use Rattle.std.specs.Prelude.{◌≡◌, ℕ, pos, ◌^◌, ◌<◌, ◌≤◌, List, ◌∷◌, length, map, Some, IsSome, Contains, slice_get, IsUtf8, codes}
+use Rattle.std.specs.Prelude.{◌≡◌, ℕ, pos, ◌^◌, ◌<◌, ◌≤◌, List, ◌∷◌, length, map, Some, Contains, slice_get, IsUtf8, codes}
 use Rattle.toml.specs.Data.{Data, string, integer, array, table, Members, get}
 use Rattle.toml.specs.Parse.{parse_document}
 use Rattle.toml.specs.View.{items_of}
@@ -29,10 +29,6 @@ HasTexts name document texts = get (field_text name) document ≡ Some (array (i
 -- the key is `kind` or that of one of the fields
 abbrev pub IsNamed : List FieldName → List ℕ → Type 0
 IsNamed names key = Contains (codes "kind" ∷ map field_text names) key
-
--- the table has the key, which is neither `kind` nor that of one of the fields
-abbrev pub HasOther : List FieldName → Data → List ℕ → Type 0
-HasOther names document key = IsSome (get key document) × ¬ (IsNamed names key)
 
 -- the text is that of a word of length n
 abbrev pub IsWordText : ℕ → List ℕ → Type 0

@@ -5,6 +5,8 @@ ghost use Rattle.ct_fields.specs.Field.{field_text};
 /// A field of an evidence document.
 #[derive(Clone, Copy, Debug, PartialEq, Eq)]
 pub enum FieldName {
+    /// The format of the document, `format`.
+    Format,
     /// The length of the words, `n`.
     N,
     /// The distance, `d`.
@@ -43,6 +45,8 @@ pub enum FieldName {
     C,
     /// What a dual allows, `y`.
     Y,
+    /// Where the evidence comes from, `cites`.
+    Cites,
 }
 
 impl FieldName {
@@ -51,6 +55,7 @@ impl FieldName {
         ensures { result.now ≡ field_text self.now }
     {
         match self {
+            FieldName::Format => "format",
             FieldName::N => "n",
             FieldName::D => "d",
             FieldName::W => "w",
@@ -70,6 +75,7 @@ impl FieldName {
             FieldName::Even => "even",
             FieldName::C => "c",
             FieldName::Y => "y",
+            FieldName::Cites => "cites",
         }
     }
 }

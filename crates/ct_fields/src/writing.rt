@@ -1,13 +1,16 @@
 //! What is written at the keys of a table.
-ghost use Rattle.std.specs.Prelude.{◌≡◌, ◌^◌, ◌<◌, ◌≤◌, All, IfOk, OnOk, string_bytes};
+ghost use Rattle.std.specs.Prelude.{◌≡◌, ◌^◌, ◌<◌, ◌≤◌, All, IfOk, IsTrue, OnOk, string_bytes};
 ghost use Rattle.toml.specs.Data.{string};
 ghost use Rattle.toml.specs.View.{view, table_view};
 ghost use Rattle.ct_words.specs.declared.limits.TheConstants.{MAX_N};
 ghost use Rattle.ct_words.specs.Text.{word_text};
+ghost use Rattle.ct_text.specs.Cite.{is_cite};
 ghost use Rattle.ct_fields.specs.Field.{field_text};
-ghost use Rattle.ct_fields.specs.Written.{word_texts, put, put_weight, entry_table};
+ghost use Rattle.ct_fields.specs.Written.{word_texts, put, put_weight, put_cites, entry_table};
 
+use crate::cites::cite_values;
 use crate::field::FieldName;
+use ct_text::Cite;
 use ct_words::{Word, print_word};
 use std::alloc::{AllocError, Global};
 use toml::{Table, Value};
@@ -89,6 +92,19 @@ pub fn put_weight(alloc: Global, table: &mut Table, w: Option<u32>) -> Result<()
         Some(w) => put(alloc, table, FieldName::W, Value::from(w)),
         None => Ok(()),
     }
+}
+
+/// Puts the cites and, as they are for format 2 alone, that format, where there are any.
+pub fn put_cites(alloc: Global, table: &mut Table, cites: &[Cite]) -> Result<(), AllocError>
+    ensures table { OnOk result (table_view table.new ≡ put_cites cites.now (table_view table.old)) }
+    ensures cites { OnOk result (All (λ cite. IsTrue (is_cite cite)) cites.now) }
+{
+    if cites.is_empty() {
+        return Ok(());
+    }
+    let value = cite_values(alloc, cites)?;
+    put(alloc, table, FieldName::Format, Value::from(2u32))?;
+    put(alloc, table, FieldName::Cites, value)
 }
 
 /// The table of a document of the kind, with its length and its distance.

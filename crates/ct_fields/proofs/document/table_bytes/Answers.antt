@@ -12,3 +12,6 @@ returns-in-Ok-clause-written c =
 pub returns-in-Ok-clause-room : goal.returns-in-Ok-clause-room
 returns-in-Ok-clause-room c = λ simple.
     rw c.into_bytes.ensures.value (document_length _ (string_bytes c.in-Ok.text) simple c.in-Ok.ensures.text)
+
+pub returns-in-Ok-clause-text : goal.returns-in-Ok-clause-text
+returns-in-Ok-clause-text c = rw c.into_bytes.ensures.value c.in-Ok.ensures.text

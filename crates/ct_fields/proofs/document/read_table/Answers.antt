@@ -2,7 +2,7 @@ use Rattle.std.proofs.Common.{sym, ◌∙◌, refl}
 use Rattle.std.proofs.lemmas.Bool.{false≢true}
 use Rattle.toml.proofs.Views.{view-Table}
 use Rattle.ct_fields.proofs.Documents.{table_of-parsed, table_of-refused}
-use Rattle.ct_fields.proofs.document.read_document.Goals as goal
+use Rattle.ct_fields.proofs.document.read_table.Goals as goal
 
 pub returns-in-Ok : goal.returns-in-Ok
 returns-in-Ok c = rw (view-Table c.in-Ok.table, table_of-parsed c.args.bytes.now _ c.in-Ok.ensures.ok.0 c.in-Ok.ensures.ok.1) refl

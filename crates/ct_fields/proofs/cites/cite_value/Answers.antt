@@ -1,0 +1,10 @@
+use Rattle.std.proofs.Common.{sym, subst, ◌∙◌}
+use Rattle.std.specs.Str.{IsAscii}
+use Rattle.std.proofs.lemmas.Str.{IsUtf8-from_ascii}
+use Rattle.ct_fields.proofs.CiteTexts.{IsAscii-cite}
+use Rattle.ct_fields.proofs.cites.cite_value.Goals as goal
+
+pub unwrap-requires : goal.unwrap-requires
+unwrap-requires c =
+    let ascii = IsAscii-cite c.args.cite.now c.text.ensures.cite in
+    c.from_utf8.ensures.succeeds (IsUtf8-from_ascii _ (subst IsAscii (sym (c.in_ok-text.ensures.items ∙ c.text.ensures.text)) ascii))
