@@ -9,7 +9,8 @@ use Rattle.ct_words.specs.Text.{word_text}
 use Rattle.ct_codes.specs.declared.entry.Entry.{Entry}
 use Rattle.ct_codes.specs.declared.fault.TheConstants.{MAX_REPRESENTATIVES}
 use Rattle.ct_fields.specs.Steps.{◌>>=◌, check}
-use Rattle.ct_fields.specs.Fields.{texts_in, texts_field, has_only, no_other_key, words_from}
+use Rattle.ct_fields.specs.Fields.{texts_in, texts_field, words_from}
+use Rattle.ct_fields.specs.LastFields.{last_fields}
 use Rattle.ct_fields.specs.StatedEntry.{plain_entry_of}
 use Rattle.ct_fields.specs.StatesEntry.{StatesPlainEntry, IsPlainEntryFault}
 use Rattle.ct_word_files.specs.Cosets.{coset_count, cosets_evidence_of}
@@ -18,11 +19,12 @@ use Rattle.ct_word_files.specs.CosetsDocument.{HasCosets, cosets_fields, IsCoset
 use Rattle.ct_evidence.specs.declared.evidence.Evidence.{Evidence}
 use Rattle.ct_evidence.specs.declared.evidence.Evidence.TheVariants as evidence
 use Rattle.ct_fields.specs.declared.field.FieldName.{FieldName}
-use Rattle.ct_fields.specs.declared.field.FieldName.TheVariants.{N, D, Basis, Representatives}
+use Rattle.ct_fields.specs.declared.field.FieldName.TheVariants.{N, D, Basis, Representatives, Cites}
 use Rattle.ct_fields.specs.declared.fault.FileFault.{FileFault}
 use Rattle.ct_fields.specs.declared.fault.FileFault.TheVariants.{Bytes, NotToml, Kind, Field, Unknown, Digits, Size, Memory}
 use Rattle.ct_fields.proofs.StepLemmas.{bind-ok, bind-err, bind-at, bind-at_err, bind-cases, check-ok, check-err}
-use Rattle.ct_fields.proofs.FieldLemmas.{texts_field-ok, texts_field-from, field-missing, has_only-true, has_only-false, has_only-from, has_only-from_other}
+use Rattle.ct_fields.proofs.FieldLemmas.{texts_field-ok, texts_field-from, field-missing}
+use Rattle.ct_fields.proofs.LastLemmas.{last_fields-ok, last_fields-from, last_fields-err, last_fields-wrong, last_fields-other, wrong_cites, other_key}
 use Rattle.ct_fields.proofs.EntryAnswers.{plain_entry_of-ok, plain_entry_of-from, plain_entry_of-err, plain_entry_of-fault}
 use Rattle.ct_fields.proofs.WordsLemmas.{words_from-ok, words_from-from, words_from-err, words_from-wrong, words_from-append}
 use Rattle.ct_word_files.proofs.WordsAnswers.{count_within, count_outside, count_refused, field_fault}
@@ -90,8 +92,8 @@ cosets_answer ms of_kind =
     let at_basis = texts_field-ok Basis document basis_texts basis-are in
     bind-cases P (texts_field Representatives document) _ (λ texts texts-are.
     let fields : HasCosets document e basis_texts texts = record { of_kind = of_kind; entry = entry; with_basis = at_basis; with_representatives = texts_field-ok Representatives document texts texts-are } in
-    bind-cases P (no_other_key cosets_fields document) _ (λ passed only-is.
-    let form : IsCosetsDocument document e basis_texts texts = record { fields = fields; only = has_only-true cosets_fields ms (check-ok (has_only cosets_fields document) Unknown passed only-is) } in
+    bind-cases P (last_fields cosets_fields document) _ (λ passed last-is.
+    let form : IsCosetsDocument document e basis_texts texts = record { fields = fields; last = last_fields-ok cosets_fields ms passed last-is } in
     bind-cases P (words_from e.n 0 basis_texts) _ (λ basis basis_words-are.
     let (same_basis, short_basis) = words_from-ok e.n 0 basis_texts basis basis_words-are in
     bind-cases P (words_from e.n (length basis_texts) texts) _ (λ words words-are.
@@ -110,9 +112,10 @@ cosets_answer ms of_kind =
     (λ fault e-is.
     first_wrong document e basis_texts texts fault form (wrong_before e.n basis_texts texts fault e-is)))
     (λ fault e-is.
-    let (out, is) = check-err (has_only cosets_fields document) Unknown fault e-is in
-    let (key, other) = has_only-false cosets_fields ms out in
-    subst (λ f. P (Err f)) is (e, basis_texts, texts, key, fields, other)))
+    elim (last_fields-err cosets_fields ms fault e-is) [
+      | wrong_cites is wrong ↦ subst (λ f. P (Err f)) is (e, basis_texts, texts, fields, wrong)
+      | other_key is right key other ↦ subst (λ f. P (Err f)) is (e, basis_texts, texts, key, fields, right, other)
+    ]))
     (λ fault e-is.
     subst (λ f. P (Err f)) (field_fault _ (Field Representatives) fault e-is)
     ((e, entry), (basis_texts, at_basis), λ texts has. let read = texts_field-from Representatives document texts has in cc)))
@@ -124,7 +127,7 @@ cosets_answer ms of_kind =
 
 -- the steps up to the texts
 reads_fields : (document : Data) (e : Entry) (basis_texts texts : List (List ℕ)) (answer : Result Evidence FileFault) → HasCosets document e basis_texts texts
-    → (no_other_key cosets_fields document >>= (λ _. words_from e.n 0 basis_texts >>= (λ basis. words_from e.n (length basis_texts) texts
+    → (last_fields cosets_fields document >>= (λ _. words_from e.n 0 basis_texts >>= (λ basis. words_from e.n (length basis_texts) texts
     >>= (λ words. coset_count basis words >>= (λ _. Ok (evidence.Cosets e basis words)))))) ≡ answer
     → cosets_evidence_of document ≡ answer
 unfolding cosets_evidence_of
@@ -140,7 +143,7 @@ reads_form : (ms : Members) (e : Entry) (basis_texts texts : List (List ℕ)) (a
     >>= (λ words. coset_count basis words >>= (λ _. Ok (evidence.Cosets e basis words))))) ≡ answer
     → cosets_evidence_of (table ms) ≡ answer
 reads_form ms e basis_texts texts answer form rest =
-    reads_fields (table ms) e basis_texts texts answer form.fields (rw (has_only-from cosets_fields ms form.only) rest)
+    reads_fields (table ms) e basis_texts texts answer form.fields (rw (last_fields-from cosets_fields ms form.last) rest)
 
 -- the steps up to the words
 reads_words : (ms : Members) (e : Entry) (basis words : List ℕ) (answer : Result Evidence FileFault) → StatesCosets (table ms) e basis words
@@ -203,9 +206,11 @@ cosets_answer-from ms (Err (Field N)) first = without_entry (table ms) N first
 cosets_answer-from ms (Err (Field D)) first = without_entry (table ms) D first
 cosets_answer-from ms (Err (Field Basis)) ((e, entry), none) = without_basis (table ms) e entry none
 cosets_answer-from ms (Err (Field Representatives)) ((e, entry), (basis, at_basis), none) = without_representatives (table ms) e basis entry at_basis none
+cosets_answer-from ms (Err (Field Cites)) (e, basis, texts, fields, wrong) =
+    reads_fields (table ms) e basis texts (Err (Field Cites)) fields (rw (last_fields-wrong cosets_fields (table ms) wrong) refl)
 cosets_answer-from ms (Err (Field name)) never = absurd never
-cosets_answer-from ms (Err Unknown) (e, basis, texts, key, fields, other) =
-    reads_fields (table ms) e basis texts (Err Unknown) fields (rw (has_only-from_other cosets_fields ms key other) refl)
+cosets_answer-from ms (Err Unknown) (e, basis, texts, key, fields, right, other) =
+    reads_fields (table ms) e basis texts (Err Unknown) fields (rw (last_fields-other cosets_fields ms key right other) refl)
 cosets_answer-from ms (Err (Digits i)) (e, basis, texts, form, first) = with_wrong_text ms e basis texts i form first
 cosets_answer-from ms (Err (Size c)) (e, basis, words, states, wrong) =
     reads_words ms e basis words (Err (Size c)) states (bind-at_err (coset_count basis words) _ (Size c) (wrong_count basis words c wrong))

@@ -8,7 +8,8 @@ use Rattle.ct_words.specs.Text.{word_text}
 use Rattle.ct_codes.specs.declared.entry.Entry.{Entry}
 use Rattle.ct_codes.specs.declared.fault.TheConstants.{MAX_WORDS}
 use Rattle.ct_fields.specs.Steps.{◌>>=◌}
-use Rattle.ct_fields.specs.Fields.{texts_in, texts_field, has_only, no_other_key, words_from}
+use Rattle.ct_fields.specs.Fields.{texts_in, texts_field, words_from}
+use Rattle.ct_fields.specs.LastFields.{last_fields}
 use Rattle.ct_fields.specs.StatedEntry.{entry_of}
 use Rattle.ct_fields.specs.StatesEntry.{StatesEntry, IsEntryFault}
 use Rattle.ct_word_files.specs.Words.{word_count, words_evidence_of}
@@ -17,11 +18,12 @@ use Rattle.ct_word_files.specs.WordsDocument.{HasWords, words_fields, IsWordsDoc
 use Rattle.ct_evidence.specs.declared.evidence.Evidence.{Evidence}
 use Rattle.ct_evidence.specs.declared.evidence.Evidence.TheVariants as evidence
 use Rattle.ct_fields.specs.declared.field.FieldName.{FieldName}
-use Rattle.ct_fields.specs.declared.field.FieldName.TheVariants.{N, D, W, Words}
+use Rattle.ct_fields.specs.declared.field.FieldName.TheVariants.{N, D, W, Words, Cites}
 use Rattle.ct_fields.specs.declared.fault.FileFault.{FileFault}
 use Rattle.ct_fields.specs.declared.fault.FileFault.TheVariants.{Bytes, NotToml, Kind, Field, Unknown, Digits, Size, Memory}
 use Rattle.ct_fields.proofs.StepLemmas.{bind-at, bind-at_err, bind-cases, check-ok, check-err, ok_or-err}
-use Rattle.ct_fields.proofs.FieldLemmas.{texts_field-ok, texts_field-from, field-missing, has_only-true, has_only-false, has_only-from, has_only-from_other}
+use Rattle.ct_fields.proofs.FieldLemmas.{texts_field-ok, texts_field-from, field-missing}
+use Rattle.ct_fields.proofs.LastLemmas.{last_fields-ok, last_fields-from, last_fields-err, last_fields-wrong, last_fields-other, wrong_cites, other_key}
 use Rattle.ct_fields.proofs.EntryAnswers.{entry_of-ok, entry_of-from, entry_of-err, entry_of-fault}
 use Rattle.ct_fields.proofs.WordsLemmas.{words_from-ok, words_from-from, words_from-err, words_from-wrong}
 
@@ -66,8 +68,8 @@ words_answer ms of_kind =
     let entry = entry_of-ok document e e-is in
     bind-cases P (texts_field Words document) _ (λ texts texts-are.
     let fields : HasWords document e texts = record { of_kind = of_kind; entry = entry; with_texts = texts_field-ok Words document texts texts-are } in
-    bind-cases P (no_other_key words_fields document) _ (λ passed only-is.
-    let form : IsWordsDocument document e texts = record { fields = fields; only = has_only-true words_fields ms (check-ok (has_only words_fields document) Unknown passed only-is) } in
+    bind-cases P (last_fields words_fields document) _ (λ passed last-is.
+    let form : IsWordsDocument document e texts = record { fields = fields; last = last_fields-ok words_fields ms passed last-is } in
     bind-cases P (words_from e.n 0 texts) _ (λ words words-are.
     let (same, short) = words_from-ok e.n 0 texts words words-are in
     let states : StatesWords document e words = record { form = subst (IsWordsDocument document e) same form; lengths = All-from_recursion (λ x. x < 2 ^ e.n) words short } in
@@ -80,9 +82,10 @@ words_answer ms of_kind =
     let (i, is, first) = words_from-err e.n 0 texts fault e-is in
     subst (λ f. P (Err f)) is (e, texts, form, rw (zero-add i) first)))
     (λ fault e-is.
-    let (out, is) = check-err (has_only words_fields document) Unknown fault e-is in
-    let (key, other) = has_only-false words_fields ms out in
-    subst (λ f. P (Err f)) is (e, texts, key, fields, other)))
+    elim (last_fields-err words_fields ms fault e-is) [
+      | wrong_cites is wrong ↦ subst (λ f. P (Err f)) is (e, texts, fields, wrong)
+      | other_key is right key other ↦ subst (λ f. P (Err f)) is (e, texts, key, fields, right, other)
+    ]))
     (λ fault e-is.
     subst (λ f. P (Err f)) (field_fault _ (Field Words) fault e-is) ((e, entry), λ texts has. let read = texts_field-from Words document texts has in cc)))
     (λ fault e-is.
@@ -91,7 +94,7 @@ words_answer ms of_kind =
 
 -- the steps up to the texts
 reads_fields : (document : Data) (e : Entry) (texts : List (List ℕ)) (answer : Result Evidence FileFault) → HasWords document e texts
-    → (no_other_key words_fields document >>= (λ _. words_from e.n 0 texts >>= (λ words. word_count words >>= (λ _. Ok (evidence.Words e words))))) ≡ answer
+    → (last_fields words_fields document >>= (λ _. words_from e.n 0 texts >>= (λ words. word_count words >>= (λ _. Ok (evidence.Words e words))))) ≡ answer
     → words_evidence_of document ≡ answer
 unfolding words_evidence_of
 reads_fields document e texts answer fields rest =
@@ -104,7 +107,7 @@ reads_form : (ms : Members) (e : Entry) (texts : List (List ℕ)) (answer : Resu
     → (words_from e.n 0 texts >>= (λ words. word_count words >>= (λ _. Ok (evidence.Words e words)))) ≡ answer
     → words_evidence_of (table ms) ≡ answer
 reads_form ms e texts answer form rest =
-    reads_fields (table ms) e texts answer form.fields (rw (has_only-from words_fields ms form.only) rest)
+    reads_fields (table ms) e texts answer form.fields (rw (last_fields-from words_fields ms form.last) rest)
 
 -- the steps up to the words
 reads_words : (ms : Members) (e : Entry) (words : List ℕ) (answer : Result Evidence FileFault) → StatesWords (table ms) e words
@@ -135,9 +138,11 @@ words_answer-from ms (Err (Field N)) first = without_entry (table ms) N first
 words_answer-from ms (Err (Field D)) first = without_entry (table ms) D first
 words_answer-from ms (Err (Field W)) first = without_entry (table ms) W first
 words_answer-from ms (Err (Field Words)) ((e, entry), none) = without_texts (table ms) e entry none
+words_answer-from ms (Err (Field Cites)) (e, texts, fields, wrong) =
+    reads_fields (table ms) e texts (Err (Field Cites)) fields (rw (last_fields-wrong words_fields (table ms) wrong) refl)
 words_answer-from ms (Err (Field name)) never = absurd never
-words_answer-from ms (Err Unknown) (e, texts, key, fields, other) =
-    reads_fields (table ms) e texts (Err Unknown) fields (rw (has_only-from_other words_fields ms key other) refl)
+words_answer-from ms (Err Unknown) (e, texts, key, fields, right, other) =
+    reads_fields (table ms) e texts (Err Unknown) fields (rw (last_fields-other words_fields ms key right other) refl)
 words_answer-from ms (Err (Digits i)) (e, texts, form, first) =
     reads_form ms e texts (Err (Digits i)) form (bind-at_err (words_from e.n 0 texts) _ (Digits i) (words_from-wrong e.n 0 texts i first ∙ ap (λ k. Err (Digits k)) (zero-add i)))
 words_answer-from ms (Err (Size c)) (e, words, states, same, out) =

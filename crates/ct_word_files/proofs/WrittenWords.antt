@@ -3,18 +3,24 @@ use Rattle.std.proofs.Common.{ap, lit≤, ◌≤◌, ◌^◌, map, codes, Option
 use Rattle.std.specs.Prelude.{All}
 use Rattle.std.proofs.lemmas.Bool.{false≢true}
 use Rattle.std.proofs.lemmas.Simd.{map-map}
-use Rattle.toml.specs.Data.{string, array, table, members_depth}
+use Rattle.toml.specs.Data.{Data, string, array, table, get, members_depth}
 use Rattle.toml.specs.View.{items_of}
 use Rattle.ct_words.specs.Text.{word_text}
 use Rattle.ct_codes.specs.declared.entry.Entry.{Entry}
 use Rattle.ct_codes.specs.Entry.{IsEntry}
 use Rattle.ct_codes.proofs.EntryLemmas.{WeightFits, Limits, entry_limits}
+use Rattle.ct_fields.specs.Field.{field_text}
 use Rattle.ct_fields.specs.Fields.{has_only}
+use Rattle.ct_fields.specs.LastFields.{last_fields}
+use Rattle.ct_fields.specs.StatedEntry.{entry_of, plain_entry_of}
 use Rattle.ct_fields.specs.Tables.{IsOfKind, HasTexts}
 use Rattle.ct_fields.specs.StatesEntry.{StatesEntry}
 use Rattle.ct_fields.specs.declared.field.FieldName.TheVariants as name
-use Rattle.ct_fields.proofs.FieldLemmas.{has_only-true}
+use Rattle.ct_fields.proofs.LastLemmas.{AreOwn, HasLast-own, not_there}
+use Rattle.ct_fields.proofs.CitedTables.{Alike}
 use Rattle.ct_fields.proofs.WordTexts.{texts_depth}
+use Rattle.ct_word_files.specs.Words.{words_evidence_of}
+use Rattle.ct_word_files.specs.Cosets.{cosets_evidence_of}
 use Rattle.ct_word_files.specs.WordsDocument.{words_fields, StatesWords}
 use Rattle.ct_word_files.specs.CosetsDocument.{cosets_fields, StatesCosets}
 use Rattle.ct_word_files.specs.WrittenWords.{words_table, cosets_table}
@@ -52,6 +58,13 @@ states_entry e words entry = at e.w limits.weight
       with_weight = (refl, omega arith, fits.2);
     }
 
+-- the kinds name neither `format` nor `cites`
+own_words : AreOwn words_fields
+own_words = record { no_format = refl; no_cites = refl }
+
+own_cosets : AreOwn cosets_fields
+own_cosets = record { no_format = refl; no_cites = refl }
+
 -- it has no other key, and the texts of the words
 words_keys : (e : Entry) (words : List ℕ) (w : Option ℕ) → has_only words_fields (table (words_table (record { n = e.n; d = e.d; w = w }) words)) ≡ true
 words_keys e words None = refl
@@ -72,7 +85,7 @@ states_words e words entry short =
     record {
       form = record {
         fields = record { of_kind = words_kind e words e.w; entry = states_entry e words entry; with_texts = words_texts e words e.w };
-        only = has_only-true words_fields (words_table e words) (words_keys e words e.w);
+        last = HasLast-own words_fields (words_table e words) own_words (words_keys e words e.w);
       };
       lengths = short;
     }
@@ -94,8 +107,29 @@ states_cosets e basis representatives entry plain short_basis short =
           with_basis = ap (λ ds. Some (array (items_of ds))) (sym (map-map string (word_text e.n) basis));
           with_representatives = ap (λ ds. Some (array (items_of ds))) (sym (map-map string (word_text e.n) representatives));
         };
-        only = has_only-true cosets_fields (cosets_table e basis representatives) refl;
+        last = HasLast-own cosets_fields (cosets_table e basis representatives) own_cosets refl;
       };
       basis_lengths = short_basis;
       lengths = short;
     }
+
+-- the tables say no format
+pub words-unformatted : (e : Entry) (words : List ℕ) → get (field_text name.Format) (table (words_table e words)) ≡ None
+words-unformatted e words = not_there words_fields (words_table e words) (field_text name.Format) (words_keys e words e.w) own_words.no_format
+
+pub cosets-unformatted : (e : Entry) (basis representatives : List ℕ) → get (field_text name.Format) (table (cosets_table e basis representatives)) ≡ None
+cosets-unformatted e basis representatives =
+    not_there cosets_fields (cosets_table e basis representatives) (field_text name.Format) refl own_cosets.no_format
+
+-- tables that have the same at the keys of the kind, and of which the same is judged last, read as the same
+pub words-alike : (document other : Data) → Alike document other → last_fields words_fields other ≡ last_fields words_fields document
+    → words_evidence_of other ≡ words_evidence_of document
+unfolding words_evidence_of entry_of
+words-alike document other alike last =
+    rw (alike.fields name.N refl, alike.fields name.D refl, alike.fields name.W refl, alike.fields name.Words refl, last) refl
+
+pub cosets-alike : (document other : Data) → Alike document other → last_fields cosets_fields other ≡ last_fields cosets_fields document
+    → cosets_evidence_of other ≡ cosets_evidence_of document
+unfolding cosets_evidence_of plain_entry_of
+cosets-alike document other alike last =
+    rw (alike.fields name.N refl, alike.fields name.D refl, alike.fields name.Basis refl, alike.fields name.Representatives refl, last) refl

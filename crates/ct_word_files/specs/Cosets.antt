@@ -5,7 +5,8 @@ use Rattle.ct_words.specs.declared.limits.TheConstants.{MAX_N}
 use Rattle.ct_codes.specs.declared.entry.Entry.{Entry}
 use Rattle.ct_codes.specs.declared.fault.TheConstants.{MAX_REPRESENTATIVES}
 use Rattle.ct_fields.specs.Steps.{◌>>=◌, ◌>>◌, check}
-use Rattle.ct_fields.specs.Fields.{texts_field, no_other_key, words_from}
+use Rattle.ct_fields.specs.Fields.{texts_field, words_from}
+use Rattle.ct_fields.specs.LastFields.{last_fields}
 use Rattle.ct_fields.specs.StatedEntry.{plain_entry_of}
 use Rattle.ct_evidence.specs.declared.evidence.Evidence.{Evidence}
 use Rattle.ct_evidence.specs.declared.evidence.Evidence.TheVariants.{Cosets}
@@ -33,7 +34,7 @@ cosets_evidence_of document = do
   e ← plain_entry_of document
   basis_texts ← texts_field name.Basis document
   texts ← texts_field name.Representatives document
-  no_other_key (name.N ∷ name.D ∷ name.Basis ∷ name.Representatives ∷ []) document
+  last_fields (name.N ∷ name.D ∷ name.Basis ∷ name.Representatives ∷ []) document
   basis ← words_from e.n 0 basis_texts
   representatives ← words_from e.n (length basis_texts) texts
   coset_count basis representatives

@@ -1,14 +1,15 @@
 -- Which documents are accepted as cosets, and where each fault of a document of kind cosets comes.
-use Rattle.std.specs.Prelude.{◌≡◌, ℕ, ◌^◌, ◌<◌, ◌≤◌, ◌⊎◌, List, [], ◌∷◌, ◌++◌, length, map, IsSome, Result, Ok, Err, All, codes}
-use Rattle.toml.specs.Data.{Data, get}
+use Rattle.std.specs.Prelude.{◌≡◌, ℕ, ◌^◌, ◌<◌, ◌≤◌, ◌⊎◌, List, [], ◌∷◌, ◌++◌, length, map, Result, Ok, Err, All, codes}
+use Rattle.toml.specs.Data.{Data}
 use Rattle.ct_words.specs.declared.limits.TheConstants.{MAX_N}
 use Rattle.ct_words.specs.Text.{word_text}
 use Rattle.ct_codes.specs.declared.entry.Entry.{Entry}
 use Rattle.ct_codes.specs.declared.fault.TheConstants.{MAX_REPRESENTATIVES}
-use Rattle.ct_fields.specs.Tables.{IsDocument, IsOfKind, HasTexts, IsNamed, HasOther, IsFirstWrong}
+use Rattle.ct_fields.specs.Tables.{IsDocument, IsOfKind, HasTexts, IsFirstWrong}
+use Rattle.ct_fields.specs.HasCites.{HasRightFormat, HasRightCites, HasWrongCites, HasOther, HasLast}
 use Rattle.ct_fields.specs.StatesEntry.{StatesPlainEntry, IsPlainEntryFault}
 use Rattle.ct_fields.specs.declared.field.FieldName.{FieldName}
-use Rattle.ct_fields.specs.declared.field.FieldName.TheVariants.{N, D, Basis, Representatives}
+use Rattle.ct_fields.specs.declared.field.FieldName.TheVariants.{N, D, Basis, Representatives, Cites}
 use Rattle.ct_evidence.specs.declared.evidence.Evidence.{Evidence}
 use Rattle.ct_evidence.specs.declared.evidence.Evidence.TheVariants as evidence
 use Rattle.ct_fields.specs.declared.fault.FileFault.{FileFault}
@@ -25,10 +26,10 @@ pub record HasCosets (document : Data) (e : Entry) (basis representatives : List
   pub with_basis : HasTexts Basis document basis
   pub with_representatives : HasTexts Representatives document representatives
 
--- the same, and no other key
+-- the same, and what stands last is right
 pub record IsCosetsDocument (document : Data) (e : Entry) (basis representatives : List (List ℕ)) : Type 0 where
   pub fields : HasCosets document e basis representatives
-  pub only : (key : List ℕ) → IsSome (get key document) → IsNamed cosets_fields key
+  pub last : HasLast cosets_fields document
 
 -- the table is a document of kind cosets for the entry, and its texts are those of the words, each of the length of the entry
 pub record StatesCosets (document : Data) (e : Entry) (basis representatives : List ℕ) : Type 0 where
@@ -51,12 +52,15 @@ IsCosetsAnswer document (Err (Field Basis)) =
 IsCosetsAnswer document (Err (Field Representatives)) =
     ((e : Entry) × StatesPlainEntry document e) × ((basis : List (List ℕ)) × HasTexts Basis document basis)
     × ((texts : List (List ℕ)) → ¬ (HasTexts Representatives document texts))
+-- the cites are
+IsCosetsAnswer document (Err (Field Cites)) =
+    (e : Entry) × (basis : List (List ℕ)) × (texts : List (List ℕ)) × HasCosets document e basis texts × HasWrongCites document
 -- another field is
 IsCosetsAnswer document (Err (Field name)) = IsPlainEntryFault document name
 -- there is another key
 IsCosetsAnswer document (Err Unknown) =
     (e : Entry) × (basis : List (List ℕ)) × (texts : List (List ℕ)) × (key : List ℕ) × HasCosets document e basis texts
-    × HasOther cosets_fields document key
+    × HasRightCites document × HasOther cosets_fields document key
 -- a text is that of no word: the texts of the representatives come after those of the basis
 IsCosetsAnswer document (Err (Digits i)) =
     (e : Entry) × (basis : List (List ℕ)) × (texts : List (List ℕ)) × IsCosetsDocument document e basis texts
@@ -75,6 +79,7 @@ IsCosetsAnswer document (Err fault) = ⊥
 pub record AcceptsCosets (bytes : List ℕ) (e : Entry) (basis representatives : List ℕ) : Type 0 where
   pub document : Data
   pub written : IsDocument bytes document
+  pub format : HasRightFormat document
   pub states : StatesCosets document e basis representatives
   pub few_basis : length basis ≤ MAX_N
   pub some : 1 ≤ length representatives

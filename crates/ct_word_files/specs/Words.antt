@@ -4,7 +4,8 @@ use Rattle.toml.specs.Data.{Data}
 use Rattle.ct_codes.specs.declared.entry.Entry.{Entry}
 use Rattle.ct_codes.specs.declared.fault.TheConstants.{MAX_WORDS}
 use Rattle.ct_fields.specs.Steps.{◌>>=◌, ◌>>◌, check}
-use Rattle.ct_fields.specs.Fields.{texts_field, no_other_key, words_from}
+use Rattle.ct_fields.specs.Fields.{texts_field, words_from}
+use Rattle.ct_fields.specs.LastFields.{last_fields}
 use Rattle.ct_fields.specs.StatedEntry.{entry_of}
 use Rattle.ct_evidence.specs.declared.evidence.Evidence.{Evidence}
 use Rattle.ct_evidence.specs.declared.evidence.Evidence.TheVariants.{Words}
@@ -28,7 +29,7 @@ unfoldable pub words_evidence_of : Data → Result Evidence FileFault
 words_evidence_of document = do
   e ← entry_of document
   texts ← texts_field name.Words document
-  no_other_key (name.N ∷ name.D ∷ name.W ∷ name.Words ∷ []) document
+  last_fields (name.N ∷ name.D ∷ name.W ∷ name.Words ∷ []) document
   words ← words_from e.n 0 texts
   word_count words
   Ok (Words e words)

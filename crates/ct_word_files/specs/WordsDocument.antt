@@ -1,13 +1,14 @@
 -- Which documents are accepted as words, and where each fault of a document of kind words comes.
-use Rattle.std.specs.Prelude.{◌≡◌, ℕ, ◌^◌, ◌<◌, ◌≤◌, ◌⊎◌, List, [], ◌∷◌, length, map, IsSome, Result, Ok, Err, All, codes}
-use Rattle.toml.specs.Data.{Data, get}
+use Rattle.std.specs.Prelude.{◌≡◌, ℕ, ◌^◌, ◌<◌, ◌≤◌, ◌⊎◌, List, [], ◌∷◌, length, map, Result, Ok, Err, All, codes}
+use Rattle.toml.specs.Data.{Data}
 use Rattle.ct_words.specs.Text.{word_text}
 use Rattle.ct_codes.specs.declared.entry.Entry.{Entry}
 use Rattle.ct_codes.specs.declared.fault.TheConstants.{MAX_WORDS}
-use Rattle.ct_fields.specs.Tables.{IsDocument, IsOfKind, HasTexts, IsNamed, HasOther, IsFirstWrong}
+use Rattle.ct_fields.specs.Tables.{IsDocument, IsOfKind, HasTexts, IsFirstWrong}
+use Rattle.ct_fields.specs.HasCites.{HasRightFormat, HasRightCites, HasWrongCites, HasOther, HasLast}
 use Rattle.ct_fields.specs.StatesEntry.{StatesEntry, IsEntryFault}
 use Rattle.ct_fields.specs.declared.field.FieldName.{FieldName}
-use Rattle.ct_fields.specs.declared.field.FieldName.TheVariants.{N, D, W, Words}
+use Rattle.ct_fields.specs.declared.field.FieldName.TheVariants.{N, D, W, Words, Cites}
 use Rattle.ct_evidence.specs.declared.evidence.Evidence.{Evidence}
 use Rattle.ct_evidence.specs.declared.evidence.Evidence.TheVariants as evidence
 use Rattle.ct_fields.specs.declared.fault.FileFault.{FileFault}
@@ -23,10 +24,10 @@ pub record HasWords (document : Data) (e : Entry) (texts : List (List ℕ)) : Ty
   pub entry : StatesEntry document e
   pub with_texts : HasTexts Words document texts
 
--- the table is of kind words, states the entry, has these texts at words, and no other key
+-- the same, and what stands last is right
 pub record IsWordsDocument (document : Data) (e : Entry) (texts : List (List ℕ)) : Type 0 where
   pub fields : HasWords document e texts
-  pub only : (key : List ℕ) → IsSome (get key document) → IsNamed words_fields key
+  pub last : HasLast words_fields document
 
 -- the table is a document of kind words for the entry, and its texts are those of the words, each of the length of the entry
 pub record StatesWords (document : Data) (e : Entry) (words : List ℕ) : Type 0 where
@@ -37,11 +38,13 @@ pub record StatesWords (document : Data) (e : Entry) (words : List ℕ) : Type 0
 abbrev pub IsWordsAnswer : Data → Result Evidence FileFault → Type 0
 -- the texts are missing or wrong
 IsWordsAnswer document (Err (Field Words)) = ((e : Entry) × StatesEntry document e) × ((texts : List (List ℕ)) → ¬ (HasTexts Words document texts))
--- another field is
+-- the cites are wrong
+IsWordsAnswer document (Err (Field Cites)) = (e : Entry) × (texts : List (List ℕ)) × HasWords document e texts × HasWrongCites document
+-- another field is missing or wrong
 IsWordsAnswer document (Err (Field name)) = IsEntryFault document name
 -- there is another key
 IsWordsAnswer document (Err Unknown) =
-    (e : Entry) × (texts : List (List ℕ)) × (key : List ℕ) × HasWords document e texts × HasOther words_fields document key
+    (e : Entry) × (texts : List (List ℕ)) × (key : List ℕ) × HasWords document e texts × HasRightCites document × HasOther words_fields document key
 -- a text is that of no word
 IsWordsAnswer document (Err (Digits i)) = (e : Entry) × (texts : List (List ℕ)) × IsWordsDocument document e texts × IsFirstWrong e.n texts i
 -- there is no word, or there are too many
@@ -56,6 +59,7 @@ IsWordsAnswer document (Err fault) = ⊥
 pub record AcceptsWords (bytes : List ℕ) (e : Entry) (words : List ℕ) : Type 0 where
   pub document : Data
   pub written : IsDocument bytes document
+  pub format : HasRightFormat document
   pub states : StatesWords document e words
   pub some : 1 ≤ length words
   pub few : length words ≤ MAX_WORDS

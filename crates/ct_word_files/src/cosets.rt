@@ -7,7 +7,7 @@ ghost use Rattle.ct_word_files.specs.Cosets.{coset_count, cosets_of_texts, coset
 
 use ct_codes::{Entry, MAX_REPRESENTATIVES};
 use ct_evidence::Evidence;
-use ct_fields::{FieldName, FileFault, no_other_key, plain_entry, texts_field, words_from};
+use ct_fields::{FieldName, FileFault, last_fields, plain_entry, texts_field, words_from};
 use ct_words::{MAX_N, Word, WordList};
 use std::alloc::Global;
 use toml::Value;
@@ -65,6 +65,6 @@ pub fn cosets_evidence(alloc: Global, document: &Value) -> Result<Evidence, File
         FieldName::Basis,
         FieldName::Representatives,
     ];
-    no_other_key(document, &names)?;
+    last_fields(document, &names)?;
     cosets_of_texts(alloc, entry, &basis_texts, &texts)
 }

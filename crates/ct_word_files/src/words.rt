@@ -7,7 +7,7 @@ ghost use Rattle.ct_word_files.specs.Words.{word_count, words_of_texts, words_ev
 
 use ct_codes::{Entry, MAX_WORDS};
 use ct_evidence::Evidence;
-use ct_fields::{FieldName, FileFault, no_other_key, stated_entry, texts_field, words_from};
+use ct_fields::{FieldName, FileFault, last_fields, stated_entry, texts_field, words_from};
 use ct_words::{Word, WordList};
 use std::alloc::Global;
 use toml::Value;
@@ -44,6 +44,6 @@ pub fn words_evidence(alloc: Global, document: &Value) -> Result<Evidence, FileF
     let entry = stated_entry(document)?;
     let texts = texts_field(alloc, document, FieldName::Words)?;
     let names = [FieldName::N, FieldName::D, FieldName::W, FieldName::Words];
-    no_other_key(document, &names)?;
+    last_fields(document, &names)?;
     words_of_texts(alloc, entry, &texts)
 }
