@@ -7,18 +7,20 @@ use Rattle.ct_codes.specs.declared.entry.Entry.{Entry}
 use Rattle.ct_partitions.specs.Partition.{all_words}
 use Rattle.ct_partitions.specs.Check.{wrong_count}
 use Rattle.ct_fields.specs.Steps.{◌>>=◌}
-use Rattle.ct_fields.specs.Fields.{number_field, has_only, no_other_key}
+use Rattle.ct_fields.specs.Fields.{number_field}
+use Rattle.ct_fields.specs.LastFields.{last_fields}
 use Rattle.ct_fields.specs.StatedEntry.{entry_of}
 use Rattle.ct_fields.specs.StatesEntry.{StatesEntry, IsEntryFault}
 use Rattle.ct_fields.specs.Tables.{IsOfKind}
 use Rattle.ct_evidence.specs.declared.evidence.Evidence.{Evidence}
 use Rattle.ct_evidence.specs.declared.evidence.Evidence.TheVariants as evidence
 use Rattle.ct_fields.specs.declared.field.FieldName.{FieldName}
-use Rattle.ct_fields.specs.declared.field.FieldName.TheVariants.{N, D, W, D1, Classes}
+use Rattle.ct_fields.specs.declared.field.FieldName.TheVariants.{N, D, W, D1, Classes, Cites}
 use Rattle.ct_fields.specs.declared.fault.FileFault.{FileFault}
 use Rattle.ct_fields.specs.declared.fault.FileFault.TheVariants.{Bytes, NotToml, Kind, Field, Unknown, Digits, Size, Memory}
-use Rattle.ct_fields.proofs.StepLemmas.{bind-at, bind-at_err, bind-cases, check-ok, check-err, ok_or-err, only_fault}
-use Rattle.ct_fields.proofs.FieldLemmas.{number_field-ok, number_field-from, field-missing, has_only-true, has_only-false, has_only-from, has_only-from_other}
+use Rattle.ct_fields.proofs.StepLemmas.{bind-at, bind-at_err, bind-cases, ok_or-err, only_fault}
+use Rattle.ct_fields.proofs.FieldLemmas.{number_field-ok, number_field-from, field-missing}
+use Rattle.ct_fields.proofs.LastLemmas.{last_fields-ok, last_fields-from, last_fields-err, last_fields-wrong, last_fields-other, wrong_cites, other_key}
 use Rattle.ct_fields.proofs.EntryAnswers.{entry_of-ok, entry_of-from, entry_of-err, entry_of-fault}
 use Rattle.ct_partition_files.specs.Lists.{text_lists_in, text_lists_field, classes_from, class_count}
 use Rattle.ct_partition_files.specs.Partition.{partition_of_lists, partition_evidence_of}
@@ -54,11 +56,8 @@ partition_answer ms of_kind =
       with_between = at_d1;
       with_lists = text_lists_field-ok Classes document lists lists-are;
     } in
-    bind-cases P (no_other_key partition_fields document) _ (λ passed only-is.
-    let form : IsPartitionDocument document e between lists = record {
-      fields = fields;
-      only = has_only-true partition_fields ms (check-ok (has_only partition_fields document) Unknown passed only-is);
-    } in
+    bind-cases P (last_fields partition_fields document) _ (λ passed last-is.
+    let form : IsPartitionDocument document e between lists = record { fields = fields; last = last_fields-ok partition_fields ms passed last-is } in
     bind-cases P (classes_from e.n 0 lists) _ (λ classes classes-are.
     let (same, short) = classes_from-ok e.n 0 lists classes classes-are in
     let states : StatesPartition document e between classes = record {
@@ -73,9 +72,10 @@ partition_answer ms of_kind =
     let (i, is, first) = classes_from-err e.n 0 lists fault wrong in
     subst (λ f. P (Err f)) is (e, between, lists, form, rw (zero-add i) first)))
     (λ fault wrong.
-    let (out, is) = check-err (has_only partition_fields document) Unknown fault wrong in
-    let (key, other) = has_only-false partition_fields ms out in
-    subst (λ f. P (Err f)) is (e, between, lists, key, fields, other)))
+    elim (last_fields-err partition_fields ms fault wrong) [
+      | wrong_cites is cites ↦ subst (λ f. P (Err f)) is (e, between, lists, fields, cites)
+      | other_key is right key other ↦ subst (λ f. P (Err f)) is (e, between, lists, key, fields, right, other)
+    ]))
     (λ fault wrong.
     subst (λ f. P (Err f)) (field_fault _ (Field Classes) fault wrong)
     (e, between, entry, at_d1, λ lists has. let read = text_lists_field-from Classes document lists has in cc)))
@@ -89,7 +89,7 @@ partition_answer ms of_kind =
 -- the steps up to the keys
 reads_fields : (document : Data) (e : Entry) (between : ℕ) (lists : List (List (List ℕ))) (answer : Result Evidence FileFault)
     → HasPartition document e between lists
-    → (no_other_key partition_fields document >>= (λ _. partition_of_lists e between lists)) ≡ answer
+    → (last_fields partition_fields document >>= (λ _. partition_of_lists e between lists)) ≡ answer
     → partition_evidence_of document ≡ answer
 unfolding partition_evidence_of
 reads_fields document e between lists answer fields rest =
@@ -103,7 +103,7 @@ reads_form : (ms : Members) (e : Entry) (between : ℕ) (lists : List (List (Lis
     → IsPartitionDocument (table ms) e between lists → partition_of_lists e between lists ≡ answer
     → partition_evidence_of (table ms) ≡ answer
 reads_form ms e between lists answer form rest =
-    reads_fields (table ms) e between lists answer form.fields (rw (has_only-from partition_fields ms form.only) rest)
+    reads_fields (table ms) e between lists answer form.fields (rw (last_fields-from partition_fields ms form.last) rest)
 
 -- the steps up to the classes
 reads_classes : (ms : Members) (e : Entry) (between : ℕ) (classes : List (List ℕ)) (answer : Result Evidence FileFault)
@@ -151,9 +151,11 @@ partition_answer-from ms (Err (Field D)) first = without_entry (table ms) D firs
 partition_answer-from ms (Err (Field W)) first = without_entry (table ms) W first
 partition_answer-from ms (Err (Field D1)) (e, entry, none) = without_between (table ms) e entry none
 partition_answer-from ms (Err (Field Classes)) (e, between, entry, at_d1, none) = without_classes (table ms) e between entry at_d1 none
+partition_answer-from ms (Err (Field Cites)) (e, between, lists, fields, wrong) =
+    reads_fields (table ms) e between lists (Err (Field Cites)) fields (rw (last_fields-wrong partition_fields (table ms) wrong) refl)
 partition_answer-from ms (Err (Field name)) never = absurd never
-partition_answer-from ms (Err Unknown) (e, between, lists, key, fields, other) =
-    reads_fields (table ms) e between lists (Err Unknown) fields (rw (has_only-from_other partition_fields ms key other) refl)
+partition_answer-from ms (Err Unknown) (e, between, lists, key, fields, right, other) =
+    reads_fields (table ms) e between lists (Err Unknown) fields (rw (last_fields-other partition_fields ms key right other) refl)
 partition_answer-from ms (Err (Digits i)) (e, between, lists, form, first) =
     reads_form ms e between lists (Err (Digits i)) form
     (bind-at_err (classes_from e.n 0 lists) _ (Digits i) (classes_from-wrong e.n 0 lists i first ∙ ap (λ k. Err (Digits k)) (zero-add i)))

@@ -4,18 +4,19 @@ use Rattle.std.specs.Prelude.{◌↔◌}
 use Rattle.toml.specs.Data.{Data, table, Members}
 use Rattle.ct_codes.specs.declared.entry.Entry.{Entry}
 use Rattle.ct_fields.specs.Steps.{◌>>=◌}
-use Rattle.ct_fields.specs.Fields.{has_only, no_other_key}
+use Rattle.ct_fields.specs.LastFields.{last_fields}
 use Rattle.ct_fields.specs.StatedEntry.{entry_of}
 use Rattle.ct_fields.specs.StatesEntry.{StatesEntry, IsEntryFault}
 use Rattle.ct_fields.specs.Tables.{IsOfKind}
 use Rattle.ct_evidence.specs.declared.evidence.Evidence.{Evidence}
 use Rattle.ct_evidence.specs.declared.evidence.Evidence.TheVariants as evidence
 use Rattle.ct_fields.specs.declared.field.FieldName.{FieldName}
-use Rattle.ct_fields.specs.declared.field.FieldName.TheVariants.{N, D, W, Pairs}
+use Rattle.ct_fields.specs.declared.field.FieldName.TheVariants.{N, D, W, Pairs, Cites}
 use Rattle.ct_fields.specs.declared.fault.FileFault.{FileFault}
 use Rattle.ct_fields.specs.declared.fault.FileFault.TheVariants.{Bytes, NotToml, Kind, Field, Unknown, Digits, Size, Memory}
-use Rattle.ct_fields.proofs.StepLemmas.{bind-at, bind-at_err, bind-cases, check-ok, check-err, ok_or-err}
-use Rattle.ct_fields.proofs.FieldLemmas.{field-missing, has_only-true, has_only-false, has_only-from, has_only-from_other}
+use Rattle.ct_fields.proofs.StepLemmas.{bind-at, bind-at_err, bind-cases, ok_or-err}
+use Rattle.ct_fields.proofs.FieldLemmas.{field-missing}
+use Rattle.ct_fields.proofs.LastLemmas.{last_fields-ok, last_fields-from, last_fields-err, last_fields-wrong, last_fields-other, wrong_cites, other_key}
 use Rattle.ct_fields.proofs.EntryAnswers.{entry_of-ok, entry_of-from, entry_of-err, entry_of-fault}
 use Rattle.ct_partition_files.specs.Pairs.{pairs_in, pairs_field}
 use Rattle.ct_partition_files.specs.Product.{product_evidence_of}
@@ -47,12 +48,12 @@ product_answer ms of_kind =
       entry = entry;
       with_pairs = pairs_field-ok e.w document pairs pairs-are;
     } in
-    bind-cases P (no_other_key product_fields document) _ (λ passed only-is.
-    record { fields = fields; only = has_only-true product_fields ms (check-ok (has_only product_fields document) Unknown passed only-is) })
+    bind-cases P (last_fields product_fields document) _ (λ passed last-is. record { fields = fields; last = last_fields-ok product_fields ms passed last-is })
     (λ fault wrong.
-    let (out, is) = check-err (has_only product_fields document) Unknown fault wrong in
-    let (key, other) = has_only-false product_fields ms out in
-    subst (λ f. P (Err f)) is (e, pairs, key, fields, other)))
+    elim (last_fields-err product_fields ms fault wrong) [
+      | wrong_cites is cites ↦ subst (λ f. P (Err f)) is (e, pairs, fields, cites)
+      | other_key is right key other ↦ subst (λ f. P (Err f)) is (e, pairs, key, fields, right, other)
+    ]))
     (λ fault wrong.
     subst (λ f. P (Err f)) (pairs_fault _ fault wrong)
     (e, entry, λ pairs has. let read = pairs_field-from e.w document pairs has in cc)))
@@ -62,7 +63,7 @@ product_answer ms of_kind =
 
 -- the steps up to the keys
 reads_fields : (document : Data) (e : Entry) (pairs : List (List ℕ × List ℕ)) (answer : Result Evidence FileFault) → HasProduct document e pairs
-    → (no_other_key product_fields document >>= (λ _. Ok (evidence.Product e pairs))) ≡ answer
+    → (last_fields product_fields document >>= (λ _. Ok (evidence.Product e pairs))) ≡ answer
     → product_evidence_of document ≡ answer
 unfolding product_evidence_of
 reads_fields document e pairs answer fields rest =
@@ -88,15 +89,17 @@ without_pairs document e entry none =
 pub product_answer-from : (ms : Members) (answer : Result Evidence FileFault) → IsProductAnswer (table ms) answer
     → product_evidence_of (table ms) ≡ answer
 product_answer-from ms (Ok (evidence.Product e pairs)) states =
-    reads_fields (table ms) e pairs (Ok (evidence.Product e pairs)) states.fields (rw (has_only-from product_fields ms states.only) refl)
+    reads_fields (table ms) e pairs (Ok (evidence.Product e pairs)) states.fields (rw (last_fields-from product_fields ms states.last) refl)
 product_answer-from ms (Ok other) never = absurd never
 product_answer-from ms (Err (Field N)) first = without_entry (table ms) N first
 product_answer-from ms (Err (Field D)) first = without_entry (table ms) D first
 product_answer-from ms (Err (Field W)) first = without_entry (table ms) W first
 product_answer-from ms (Err (Field Pairs)) (e, entry, none) = without_pairs (table ms) e entry none
+product_answer-from ms (Err (Field Cites)) (e, pairs, fields, wrong) =
+    reads_fields (table ms) e pairs (Err (Field Cites)) fields (rw (last_fields-wrong product_fields (table ms) wrong) refl)
 product_answer-from ms (Err (Field name)) never = absurd never
-product_answer-from ms (Err Unknown) (e, pairs, key, fields, other) =
-    reads_fields (table ms) e pairs (Err Unknown) fields (rw (has_only-from_other product_fields ms key other) refl)
+product_answer-from ms (Err Unknown) (e, pairs, key, fields, right, other) =
+    reads_fields (table ms) e pairs (Err Unknown) fields (rw (last_fields-other product_fields ms key right other) refl)
 product_answer-from ms (Err (Bytes b)) never = absurd never
 product_answer-from ms (Err NotToml) never = absurd never
 product_answer-from ms (Err Kind) never = absurd never

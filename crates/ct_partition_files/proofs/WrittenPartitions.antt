@@ -4,19 +4,25 @@ use Rattle.std.specs.Prelude.{All}
 use Rattle.std.proofs.lemmas.Bool.{false≢true}
 use Rattle.std.proofs.lemmas.List.Elements.{All-nil, All-cons, All-head, All-tail}
 use Rattle.std.proofs.lemmas.Simd.{map-map}
-use Rattle.toml.specs.Data.{string, integer, array, table, items_depth, members_depth}
+use Rattle.toml.specs.Data.{Data, string, integer, array, table, get, items_depth, members_depth}
 use Rattle.toml.specs.View.{items_of}
 use Rattle.ct_words.specs.Text.{word_text}
 use Rattle.ct_codes.specs.declared.entry.Entry.{Entry}
 use Rattle.ct_codes.specs.Entry.{IsEntry}
 use Rattle.ct_codes.proofs.EntryLemmas.{WeightFits, Limits, entry_limits}
 use Rattle.ct_partitions.specs.Partition.{all_words}
+use Rattle.ct_fields.specs.Field.{field_text}
 use Rattle.ct_fields.specs.Forms.{pair_data}
+use Rattle.ct_fields.specs.LastFields.{last_fields}
+use Rattle.ct_fields.specs.StatedEntry.{entry_of}
 use Rattle.ct_fields.specs.Written.{word_texts, put, put_weight, entry_table}
 use Rattle.ct_fields.specs.declared.field.FieldName.TheVariants as name
-use Rattle.ct_fields.proofs.FieldLemmas.{has_only-true}
+use Rattle.ct_fields.proofs.LastLemmas.{AreOwn, HasLast-own}
+use Rattle.ct_fields.proofs.CitedTables.{Alike}
 use Rattle.ct_fields.proofs.MemberLemmas.{members_depth-put}
 use Rattle.ct_fields.proofs.WordTexts.{texts_depth}
+use Rattle.ct_partition_files.specs.Partition.{partition_evidence_of}
+use Rattle.ct_partition_files.specs.Product.{product_evidence_of}
 use Rattle.ct_partition_files.specs.PartitionDocument.{partition_fields, class_texts, StatesPartition}
 use Rattle.ct_partition_files.specs.ProductDocument.{product_fields, IsPairCount, StatesProduct}
 use Rattle.ct_partition_files.specs.Written.{AreIds, class_list, pair_list, partition_table, product_table}
@@ -40,6 +46,13 @@ short_classes n [] short = All-nil (λ words. All (λ x. x < 2 ^ n) words)
 short_classes n (words ∷ classes) short =
     let both = All-append_parts (λ x. x < 2 ^ n) words (all_words classes) short in
     All-cons (λ words. All (λ x. x < 2 ^ n) words) words classes both.0 (short_classes n classes both.1)
+
+-- the kinds name neither `format` nor `cites`
+own_partition : AreOwn partition_fields
+own_partition = record { no_format = refl; no_cites = refl }
+
+own_product : AreOwn product_fields
+own_product = record { no_format = refl; no_cites = refl }
 
 -- the table of a partition states it
 pub states_partition : (e : Entry) (between : ℕ) (classes : List (List ℕ)) → IsEntry e → 1 ≤ between → between ≤ e.d
@@ -66,7 +79,7 @@ states_partition e between classes entry some nearer short = at e.w limits.weigh
           with_between = (refl, some, nearer);
           with_lists = ap (λ ds. Some (array (items_of ds))) (class_texts-are e.n classes);
         };
-        only = has_only-true partition_fields (partition_table (stated None) between classes) refl;
+        last = HasLast-own partition_fields (partition_table (stated None) between classes) own_partition refl;
       };
       lengths = short;
     }
@@ -82,7 +95,7 @@ states_partition e between classes entry some nearer short = at e.w limits.weigh
           with_between = (refl, some, nearer);
           with_lists = ap (λ ds. Some (array (items_of ds))) (class_texts-are e.n classes);
         };
-        only = has_only-true partition_fields (partition_table (stated (Some w)) between classes) refl;
+        last = HasLast-own partition_fields (partition_table (stated (Some w)) between classes) own_partition refl;
       };
       lengths = short;
     }
@@ -109,7 +122,7 @@ states_product e pairs entry ids count = at e.w limits.weight count
         };
         with_pairs = (refl, ids, counted);
       };
-      only = has_only-true product_fields (product_table (stated None) pairs) refl;
+      last = HasLast-own product_fields (product_table (stated None) pairs) own_product refl;
     }
     at (Some w) fits counted = record {
       fields = record {
@@ -121,7 +134,7 @@ states_product e pairs entry ids count = at e.w limits.weight count
         };
         with_pairs = (refl, ids, counted);
       };
-      only = has_only-true product_fields (product_table (stated (Some w)) pairs) refl;
+      last = HasLast-own product_fields (product_table (stated (Some w)) pairs) own_product refl;
     }
 
 -- the tables are no deeper than a document may be
@@ -152,3 +165,40 @@ product_depth e pairs =
     let lists = pairs_depth pairs in
     members_depth-put 80 (codes "pairs") (pair_list pairs) (put_weight e.w (entry_table (codes "product") e.n e.d)) (omega arith)
     (weight_depth (codes "product") e.w e.n e.d)
+
+-- the tables say no format
+pub partition-unformatted : (e : Entry) (between : ℕ) (classes : List (List ℕ))
+    → get (field_text name.Format) (table (partition_table e between classes)) ≡ None
+partition-unformatted e between classes = at e.w
+  where
+    at : (w : Option ℕ) → get (field_text name.Format)
+        (table (partition_table (record { n = e.n; d = e.d; w = w }) between classes)) ≡ None
+    at None = refl
+    at (Some w) = refl
+
+pub product-unformatted : (e : Entry) (pairs : List (List ℕ × List ℕ)) → get (field_text name.Format) (table (product_table e pairs)) ≡ None
+product-unformatted e pairs = at e.w
+  where
+    at : (w : Option ℕ) → get (field_text name.Format) (table (product_table (record { n = e.n; d = e.d; w = w }) pairs)) ≡ None
+    at None = refl
+    at (Some w) = refl
+
+-- tables that have the same at the keys of the kind, and of which the same is judged last, read as the same
+pub partition-alike : (document other : Data) → Alike document other → last_fields partition_fields other ≡ last_fields partition_fields document
+    → partition_evidence_of other ≡ partition_evidence_of document
+unfolding partition_evidence_of entry_of
+partition-alike document other alike last =
+    rw (
+      alike.fields name.N refl,
+      alike.fields name.D refl,
+      alike.fields name.W refl,
+      alike.fields name.D1 refl,
+      alike.fields name.Classes refl,
+      last,
+    ) refl
+
+pub product-alike : (document other : Data) → Alike document other → last_fields product_fields other ≡ last_fields product_fields document
+    → product_evidence_of other ≡ product_evidence_of document
+unfolding product_evidence_of entry_of
+product-alike document other alike last =
+    rw (alike.fields name.N refl, alike.fields name.D refl, alike.fields name.W refl, alike.fields name.Pairs refl, last) refl

@@ -3,7 +3,8 @@ use Rattle.std.specs.Prelude.{ℕ, List, [], ◌∷◌, Result, Ok}
 use Rattle.toml.specs.Data.{Data}
 use Rattle.ct_codes.specs.declared.entry.Entry.{Entry}
 use Rattle.ct_fields.specs.Steps.{◌>>=◌, ◌>>◌}
-use Rattle.ct_fields.specs.Fields.{number_field, no_other_key}
+use Rattle.ct_fields.specs.Fields.{number_field}
+use Rattle.ct_fields.specs.LastFields.{last_fields}
 use Rattle.ct_fields.specs.StatedEntry.{entry_of}
 use Rattle.ct_evidence.specs.declared.evidence.Evidence.{Evidence}
 use Rattle.ct_evidence.specs.declared.evidence.Evidence.TheVariants.{Partition}
@@ -24,5 +25,5 @@ partition_evidence_of document = do
   e ← entry_of document
   between ← number_field name.D1 1 e.d document
   lists ← text_lists_field name.Classes document
-  no_other_key (name.N ∷ name.D ∷ name.W ∷ name.D1 ∷ name.Classes ∷ []) document
+  last_fields (name.N ∷ name.D ∷ name.W ∷ name.D1 ∷ name.Classes ∷ []) document
   partition_of_lists e between lists

@@ -1,5 +1,5 @@
 -- Which documents are accepted as partitions, and where each fault of a document of kind partition comes.
-use Rattle.std.specs.Prelude.{◌≡◌, ℕ, ◌^◌, ◌<◌, ◌≤◌, ◌⊎◌, List, [], ◌∷◌, length, map, Some, IsSome, Contains, Result, Ok, Err, All, codes}
+use Rattle.std.specs.Prelude.{◌≡◌, ℕ, ◌^◌, ◌<◌, ◌≤◌, ◌⊎◌, List, [], ◌∷◌, length, map, Some, Contains, Result, Ok, Err, All, codes}
 use Rattle.std.specs.List.{flat_map}
 use Rattle.toml.specs.Data.{Data, string, array, get}
 use Rattle.toml.specs.View.{items_of}
@@ -10,10 +10,11 @@ use Rattle.ct_partitions.specs.declared.fault.TheConstants.{MAX_CLASSES}
 use Rattle.ct_partitions.specs.Partition.{all_words}
 use Rattle.ct_partitions.specs.Check.{counted}
 use Rattle.ct_fields.specs.Field.{field_text}
-use Rattle.ct_fields.specs.Tables.{IsDocument, IsOfKind, HasNumber, IsNamed, HasOther, IsFirstWrong}
+use Rattle.ct_fields.specs.Tables.{IsDocument, IsOfKind, HasNumber, IsFirstWrong}
+use Rattle.ct_fields.specs.HasCites.{HasRightFormat, HasRightCites, HasWrongCites, HasOther, HasLast}
 use Rattle.ct_fields.specs.StatesEntry.{StatesEntry, IsEntryFault}
 use Rattle.ct_fields.specs.declared.field.FieldName.{FieldName}
-use Rattle.ct_fields.specs.declared.field.FieldName.TheVariants.{N, D, W, D1, Classes}
+use Rattle.ct_fields.specs.declared.field.FieldName.TheVariants.{N, D, W, D1, Classes, Cites}
 use Rattle.ct_evidence.specs.declared.evidence.Evidence.{Evidence}
 use Rattle.ct_evidence.specs.declared.evidence.Evidence.TheVariants as evidence
 use Rattle.ct_fields.specs.declared.fault.FileFault.{FileFault}
@@ -47,10 +48,10 @@ pub record HasPartition (document : Data) (e : Entry) (between : ℕ) (lists : L
   pub with_between : HasBetween e document between
   pub with_lists : HasTextLists Classes document lists
 
--- the same, and no other key
+-- the same, and what stands last is right
 pub record IsPartitionDocument (document : Data) (e : Entry) (between : ℕ) (lists : List (List (List ℕ))) : Type 0 where
   pub fields : HasPartition document e between lists
-  pub only : (key : List ℕ) → IsSome (get key document) → IsNamed partition_fields key
+  pub last : HasLast partition_fields document
 
 -- the table is such a document, and its texts are those of the words of the classes, each of the length of the entry
 pub record StatesPartition (document : Data) (e : Entry) (between : ℕ) (classes : List (List ℕ)) : Type 0 where
@@ -84,12 +85,15 @@ IsPartitionAnswer document (Err (Field D1)) = (e : Entry) × StatesEntry documen
 IsPartitionAnswer document (Err (Field Classes)) =
     (e : Entry) × (between : ℕ) × StatesEntry document e × HasBetween e document between
     × ((lists : List (List (List ℕ))) → ¬ (HasTextLists Classes document lists))
+-- the cites are
+IsPartitionAnswer document (Err (Field Cites)) =
+    (e : Entry) × (between : ℕ) × (lists : List (List (List ℕ))) × HasPartition document e between lists × HasWrongCites document
 -- another field is
 IsPartitionAnswer document (Err (Field name)) = IsEntryFault document name
 -- there is another key
 IsPartitionAnswer document (Err Unknown) =
     (e : Entry) × (between : ℕ) × (lists : List (List (List ℕ))) × (key : List ℕ) × HasPartition document e between lists
-    × HasOther partition_fields document key
+    × HasRightCites document × HasOther partition_fields document key
 -- a text is that of no word: the texts are counted through all classes
 IsPartitionAnswer document (Err (Digits i)) =
     (e : Entry) × (between : ℕ) × (lists : List (List (List ℕ))) × IsPartitionDocument document e between lists
@@ -108,5 +112,6 @@ IsPartitionAnswer document (Err fault) = ⊥
 pub record AcceptsPartition (bytes : List ℕ) (e : Entry) (between : ℕ) (classes : List (List ℕ)) : Type 0 where
   pub document : Data
   pub written : IsDocument bytes document
+  pub format : HasRightFormat document
   pub states : StatesPartition document e between classes
   pub counted_classes : AreCountedClasses classes

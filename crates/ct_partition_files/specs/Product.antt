@@ -2,7 +2,7 @@
 use Rattle.std.specs.Prelude.{[], ◌∷◌, Result, Ok}
 use Rattle.toml.specs.Data.{Data}
 use Rattle.ct_fields.specs.Steps.{◌>>=◌, ◌>>◌}
-use Rattle.ct_fields.specs.Fields.{no_other_key}
+use Rattle.ct_fields.specs.LastFields.{last_fields}
 use Rattle.ct_fields.specs.StatedEntry.{entry_of}
 use Rattle.ct_evidence.specs.declared.evidence.Evidence.{Evidence}
 use Rattle.ct_evidence.specs.declared.evidence.Evidence.TheVariants.{Product}
@@ -15,5 +15,5 @@ unfoldable pub product_evidence_of : Data → Result Evidence FileFault
 product_evidence_of document = do
   e ← entry_of document
   pairs ← pairs_field e.w document
-  no_other_key (name.N ∷ name.D ∷ name.W ∷ name.Pairs ∷ []) document
+  last_fields (name.N ∷ name.D ∷ name.W ∷ name.Pairs ∷ []) document
   Ok (Product e pairs)

@@ -1,13 +1,14 @@
 -- Which documents are accepted as products, and where each fault of a document of kind product comes.
-use Rattle.std.specs.Prelude.{◌≡◌, ℕ, suc, ◌≤◌, List, [], ◌∷◌, length, Option, Some, None, IsSome, Result, Ok, Err, All, codes}
+use Rattle.std.specs.Prelude.{◌≡◌, ℕ, suc, ◌≤◌, List, [], ◌∷◌, length, Option, Some, None, Result, Ok, Err, All, codes}
 use Rattle.toml.specs.Data.{Data, get}
 use Rattle.ct_words.specs.declared.limits.TheConstants.{MAX_N}
 use Rattle.ct_codes.specs.declared.entry.Entry.{Entry}
 use Rattle.ct_fields.specs.Field.{field_text}
-use Rattle.ct_fields.specs.Tables.{IsDocument, IsOfKind, IsNamed, HasOther}
+use Rattle.ct_fields.specs.Tables.{IsDocument, IsOfKind}
+use Rattle.ct_fields.specs.HasCites.{HasRightFormat, HasRightCites, HasWrongCites, HasOther, HasLast}
 use Rattle.ct_fields.specs.StatesEntry.{StatesEntry, IsEntryFault}
 use Rattle.ct_fields.specs.declared.field.FieldName.{FieldName}
-use Rattle.ct_fields.specs.declared.field.FieldName.TheVariants.{N, D, W, Pairs}
+use Rattle.ct_fields.specs.declared.field.FieldName.TheVariants.{N, D, W, Pairs, Cites}
 use Rattle.ct_evidence.specs.declared.evidence.Evidence.{Evidence}
 use Rattle.ct_evidence.specs.declared.evidence.Evidence.TheVariants as evidence
 use Rattle.ct_fields.specs.declared.fault.FileFault.{FileFault}
@@ -34,21 +35,24 @@ pub record HasProduct (document : Data) (e : Entry) (pairs : List (List ℕ × L
   pub entry : StatesEntry document e
   pub with_pairs : HasPairs e.w document pairs
 
--- the same, and no other key
+-- the same, and what stands last is right
 pub record StatesProduct (document : Data) (e : Entry) (pairs : List (List ℕ × List ℕ)) : Type 0 where
   pub fields : HasProduct document e pairs
-  pub only : (key : List ℕ) → IsSome (get key document) → IsNamed product_fields key
+  pub last : HasLast product_fields document
 
 -- where each answer comes for a document of kind product; each line is the case that comes after those above it
 abbrev pub IsProductAnswer : Data → Result Evidence FileFault → Type 0
 -- the pairs are missing or wrong
 IsProductAnswer document (Err (Field Pairs)) =
     (e : Entry) × StatesEntry document e × ((pairs : List (List ℕ × List ℕ)) → ¬ (HasPairs e.w document pairs))
+-- the cites are
+IsProductAnswer document (Err (Field Cites)) = (e : Entry) × (pairs : List (List ℕ × List ℕ)) × HasProduct document e pairs × HasWrongCites document
 -- another field is
 IsProductAnswer document (Err (Field name)) = IsEntryFault document name
 -- there is another key
 IsProductAnswer document (Err Unknown) =
-    (e : Entry) × (pairs : List (List ℕ × List ℕ)) × (key : List ℕ) × HasProduct document e pairs × HasOther product_fields document key
+    (e : Entry) × (pairs : List (List ℕ × List ℕ)) × (key : List ℕ) × HasProduct document e pairs × HasRightCites document
+    × HasOther product_fields document key
 -- all is right
 IsProductAnswer document (Ok (evidence.Product e pairs)) = StatesProduct document e pairs
 -- no other answer comes
@@ -59,4 +63,5 @@ IsProductAnswer document (Err fault) = ⊥
 pub record AcceptsProduct (bytes : List ℕ) (e : Entry) (pairs : List (List ℕ × List ℕ)) : Type 0 where
   pub document : Data
   pub written : IsDocument bytes document
+  pub format : HasRightFormat document
   pub states : StatesProduct document e pairs

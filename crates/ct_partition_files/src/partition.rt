@@ -10,7 +10,7 @@ ghost use Rattle.ct_partition_files.specs.Partition.{partition_of_lists, partiti
 use crate::lists::{classes_from, text_lists_field};
 use ct_codes::Entry;
 use ct_evidence::{Evidence, WordLists};
-use ct_fields::{FieldName, FileFault, no_other_key, number_field, stated_entry};
+use ct_fields::{FieldName, FileFault, last_fields, number_field, stated_entry};
 use ct_partitions::wrong_count;
 use ct_words::Word;
 use std::alloc::Global;
@@ -63,6 +63,6 @@ pub fn partition_evidence(alloc: Global, document: &Value) -> Result<Evidence, F
         FieldName::D1,
         FieldName::Classes,
     ];
-    no_other_key(document, &names)?;
+    last_fields(document, &names)?;
     partition_of_lists(alloc, entry, between, &lists)
 }

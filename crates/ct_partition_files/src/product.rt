@@ -6,7 +6,7 @@ ghost use Rattle.ct_partition_files.specs.Product.{product_evidence_of};
 
 use crate::pairs::pairs_field;
 use ct_evidence::{Evidence, IdPairs};
-use ct_fields::{FieldName, FileFault, no_other_key, stated_entry};
+use ct_fields::{FieldName, FileFault, last_fields, stated_entry};
 use std::alloc::Global;
 use toml::Value;
 
@@ -18,7 +18,7 @@ pub fn product_evidence(alloc: Global, document: &Value) -> Result<Evidence, Fil
     let entry = stated_entry(document)?;
     let pairs = pairs_field(alloc, entry.w, document)?;
     let names = [FieldName::N, FieldName::D, FieldName::W, FieldName::Pairs];
-    no_other_key(document, &names)?;
+    last_fields(document, &names)?;
     let pairs = IdPairs::from_vec(pairs);
     Ok(Evidence::Product { entry, pairs })
 }

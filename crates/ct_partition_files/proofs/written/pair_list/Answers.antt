@@ -7,7 +7,7 @@ use Rattle.toml.proofs.Views.{view-Array}
 use Rattle.toml.specs.Data.{string}
 use Rattle.ct_fields.specs.Forms.{pair_data}
 use Rattle.ct_partition_files.specs.Written.{AreIds}
-use Rattle.ct_partition_files.proofs.WrittenLists.{pushed, all_pushed}
+use Rattle.ct_fields.proofs.PushedValues.{pushed, all_pushed}
 use Rattle.ct_partition_files.proofs.written.pair_list.Goals as goal
 
 pub loop-first-preserved : goal.loop-first-preserved
