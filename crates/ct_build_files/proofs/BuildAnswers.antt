@@ -11,7 +11,8 @@ use Rattle.ct_build.specs.declared.step.Step.{Step}
 use Rattle.ct_build.specs.declared.step.Step.TheVariants as step
 use Rattle.ct_build.specs.Build.{FieldsFit}
 use Rattle.ct_fields.specs.Steps.{◌>>=◌, check}
-use Rattle.ct_fields.specs.Fields.{is_text, field, number_field, no_other_key}
+use Rattle.ct_fields.specs.Fields.{is_text, field, number_field}
+use Rattle.ct_fields.specs.LastFields.{last_fields}
 use Rattle.ct_build_files.specs.BuildEntry.{selects, build_entry_of}
 use Rattle.ct_build_files.specs.Operation.{operation_text, operation_of, makes_length, takes_weight, takes_other, build_fields}
 use Rattle.ct_build_files.specs.BuildFields.{operation_field, places_in, digits_of, by_field, step_fields, id_field, other_field}
@@ -25,7 +26,8 @@ use Rattle.ct_build_files.specs.declared.operation.Operation.TheVariants.{Length
 use Rattle.ct_fields.specs.declared.fault.FileFault.{FileFault}
 use Rattle.ct_fields.specs.declared.fault.FileFault.TheVariants.{Field, Unknown}
 use Rattle.ct_fields.proofs.StepLemmas.{bind-ok, bind-at}
-use Rattle.ct_fields.proofs.FieldLemmas.{number_field-ok, number_field-from, has_only-from}
+use Rattle.ct_fields.proofs.FieldLemmas.{number_field-ok, number_field-from}
+use Rattle.ct_fields.proofs.LastLemmas.{last_fields-from}
 use Rattle.ct_build_files.proofs.BuildEntryAnswers.{build_entry_of-from}
 use Rattle.ct_build_files.proofs.BuildFieldLemmas.{text_field-ok, text_field-from, operation_field-from, id_field-ok, id_field-from, left_out-true, places_field-ok, places_field-from, digits_of-some, digits_of-text}
 
@@ -181,7 +183,7 @@ step_from (step.Trim size) e document has (some, few) =
     bind-at (number_field name.Size 1 MAX_BUILT document) _ size (number_field-from name.Size 1 MAX_BUILT document size (has, some, few))
 
 -- a step that fits the entry is of an operation that makes words of its length, and takes its weight or none
-length_made : (s : Step) (e : Entry) → FieldsFit s e → makes_length (operation_of s) e.n ≡ true
+pub length_made : (s : Step) (e : Entry) → FieldsFit s e → makes_length (operation_of s) e.n ≡ true
 unfolding FieldsFit
 length_made step.Lengthen e fits = le-leb 2 e.n fits
 length_made step.AppendOne e fits = le-leb 2 e.n fits
@@ -195,7 +197,7 @@ length_made step.Uuv e fits = eq-eqb (e.n % 2) 0 fits.1
 length_made step.Juxtapose e fits = le-leb 2 e.n fits
 length_made (step.Trim size) e fits = refl
 
-weight_taken : (s : Step) (e : Entry) → FieldsFit s e → takes_weight (operation_of s) e.w ≡ true
+pub weight_taken : (s : Step) (e : Entry) → FieldsFit s e → takes_weight (operation_of s) e.w ≡ true
 unfolding FieldsFit
 weight_taken step.Lengthen e fits = refl
 weight_taken step.AppendOne e fits = refl
@@ -242,7 +244,7 @@ other_named s document None none = none
 other_named s document (Some id) some = some
 
 -- where the operation is `select`, a weight stands beside the distance
-even_selected : (s : Step) (e : Entry) (document : Data) → StatesEntry document e → FieldsFit s e
+pub even_selected : (s : Step) (e : Entry) (document : Data) → StatesEntry document e → FieldsFit s e
     → HasText name.Op document (operation_text (operation_of s)) → selects document ≡ true → e.d % 2 ≡ 0
 unfolding FieldsFit
 even_selected s e document states fits has selected = at s fits (rw has at selected) where
@@ -270,4 +272,4 @@ build_answer-from ms e s part other states =
     ∙ bind-at (step_fields o e.n document) _ (Some s) (step_from s e document states.fields states.fits)
     ∙ bind-at (id_field name.Part document) _ part (id_field-from name.Part document part states.part_named)
     ∙ bind-at (other_field o document) _ other (other_field-from o document other (other_named s document other states.other_named))
-    ∙ bind-at (no_other_key (build_fields o) document) _ tt (ap (λ b. check b Unknown) (has_only-from (build_fields o) ms states.only))
+    ∙ bind-at (last_fields (build_fields o) document) _ tt (last_fields-from (build_fields o) ms states.last)

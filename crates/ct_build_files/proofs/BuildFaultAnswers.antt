@@ -11,8 +11,10 @@ use Rattle.ct_build.specs.declared.step.Step.{Step}
 use Rattle.ct_build.specs.declared.step.Step.TheVariants as step
 use Rattle.ct_fields.specs.Steps.{◌>>=◌, ◌>>◌, check}
 use Rattle.ct_fields.specs.Ids.{id_in}
-use Rattle.ct_fields.specs.Fields.{field, number_field, has_only, no_other_key}
-use Rattle.ct_fields.specs.Tables.{IsOfKind, IsNamed, IsWordText}
+use Rattle.ct_fields.specs.Fields.{field, number_field}
+use Rattle.ct_fields.specs.LastFields.{last_fields}
+use Rattle.ct_fields.specs.HasCites.{HasLast}
+use Rattle.ct_fields.specs.Tables.{IsOfKind, IsWordText}
 use Rattle.ct_fields.specs.declared.field.FieldName.{FieldName}
 use Rattle.ct_fields.specs.declared.field.FieldName.TheVariants as name
 use Rattle.ct_fields.specs.declared.fault.FileFault.{FileFault}
@@ -28,7 +30,8 @@ use Rattle.ct_build_files.specs.BuildAnswer.{StatesBuildEntry, IsBuildEntryFault
 use Rattle.ct_build_files.specs.declared.operation.Operation.{Operation}
 use Rattle.ct_build_files.specs.declared.operation.Operation.TheVariants.{Lengthen, AppendOne, Parity, Puncture, Shorten, Translate, Complement, Select, Uuv, Juxtapose, Trim}
 use Rattle.ct_fields.proofs.StepLemmas.{bind-ok, bind-err, bind-at, bind-at_err, bind-cases, check-ok, check-err, ok_or-ok, ok_or-err, only_fault}
-use Rattle.ct_fields.proofs.FieldLemmas.{number_field-ok, number_field-from, has_only-true, has_only-false, has_only-from, has_only-from_other}
+use Rattle.ct_fields.proofs.FieldLemmas.{number_field-ok, number_field-from}
+use Rattle.ct_fields.proofs.LastLemmas.{last_fields-ok, last_fields-from, last_fields-err, last_fields-wrong, last_fields-other, wrong_cites, other_key}
 use Rattle.ct_fields.proofs.EntryAnswers.{number_field-err}
 use Rattle.ct_build_files.proofs.BuildEntryAnswers.{build_entry_of-ok, stated-ok, stated-from, stated-err, stated-fault}
 use Rattle.ct_build_files.proofs.BuildFieldLemmas.{text_field-ok, text_field-from, operation_field-ok, operation_field-from, id_field-ok, id_field-from, left_out-true, places_field-ok, places_field-from, digits_of-some, digits_of-text}
@@ -292,8 +295,8 @@ build_answer ms of_kind =
     let names : NamesPart document e o = record { suits = suits; own = own; part = (part, id_field-ok name.Part document part part-is) } in
     bind-cases P (other_field o document) _ (λ other other-is.
     let both : NamesParts document e o = record { first = names; other = other_there o document other (other_field-ok o document other other-is) } in
-    bind-cases P (no_other_key (build_fields o) document) _ (λ z only-is.
-    let only = has_only-true (build_fields o) ms (check-ok (has_only (build_fields o) document) Unknown z only-is) in
+    bind-cases P (last_fields (build_fields o) document) _ (λ z last-is.
+    let last = last_fields-ok (build_fields o) ms z last-is in
     bind-cases P (ok_or found (Digits 0)) _ (λ s s-is.
     let is_step = step_ok o e document s makes weighs (found-is ∙ ap (λ f. Ok f) (ok_or-ok found (Digits 0) s s-is)) in
     let states : StatesBuild document e s part other = record {
@@ -304,17 +307,18 @@ build_answer ms of_kind =
       fits = is_step.fits;
       part_named = id_field-ok name.Part document part part-is;
       other_named = names_other s o document other is_step.same (other_field-ok o document other other-is);
-      only = subst (λ p. (key : List ℕ) → IsSome (get key document) → IsNamed (build_fields p) key) (sym is_step.same) only;
+      last = subst (λ p. HasLast (build_fields p) document) (sym is_step.same) last;
     } in
     states)
     (λ other_fault f-is.
     let (none, is) = ok_or-err found (Digits 0) other_fault f-is in
     let wrong = wrong_text o e.n document (found-is ∙ ap (λ f. Ok f) none) in
-    subst (λ f. P (Err f)) is (e, o, both, only, wrong, refl)))
+    subst (λ f. P (Err f)) is (e, o, both, last, wrong, refl)))
     (λ other_fault f-is.
-    let (out, is) = check-err (has_only (build_fields o) document) Unknown other_fault f-is in
-    let (key, further) = has_only-false (build_fields o) ms out in
-    subst (λ f. P (Err f)) is (e, o, key, both, further)))
+    elim (last_fields-err (build_fields o) ms other_fault f-is) [
+      | wrong_cites is cites ↦ subst (λ f. P (Err f)) is (e, o, both, cites)
+      | other_key is right key further ↦ subst (λ f. P (Err f)) is (e, o, key, both, right, further)
+    ]))
     (λ other_fault f-is.
     let (is, takes_one, never) = other_err o document other_fault f-is in
     subst (λ f. P (Err f)) is (e, o, names, takes_one, never)))
@@ -362,7 +366,7 @@ read_own document e o found suits found-is =
 
 read_parts : (document : Data) (e : Entry) (o : Operation) (found : Option Step) → NamesParts document e o → step_fields o e.n document ≡ Ok found
     → (part : List ℕ) × (other : Option (List ℕ))
-    × (build_evidence_of document ≡ (no_other_key (build_fields o) document >> (ok_or found (Digits 0) >>= (λ s. Ok (Build e s part other)))))
+    × (build_evidence_of document ≡ (last_fields (build_fields o) document >> (ok_or found (Digits 0) >>= (λ s. Ok (Build e s part other)))))
 read_parts document e o found both found-is =
     let (part, has) = both.first.part in
     let (other, other-is) = other_read o document both.other in (
@@ -447,15 +451,19 @@ fault_from ms (Field name.Other) (e, o, names, takes, never) =
     ∙ bind-at_err (other_field o (table ms)) _ (Field name.Other)
     (rw takes (bind-at_err (id_field name.Other (table ms)) _ (Field name.Other)
     (none_read id_in name.Other (table ms) (λ id read. never id (id_field-ok name.Other (table ms) id read)))))
-fault_from ms (Field field_name) first = own_field_first (table ms) field_name first
-fault_from ms Unknown (e, o, key, both, further) =
+fault_from ms (Field name.Cites) (e, o, both, wrong) =
     let (found, found-is) = own_read o e.n (table ms) both.first.own in
     let (part, other, read) = read_parts (table ms) e o found both found-is in
-    read ∙ bind-at_err (no_other_key (build_fields o) (table ms)) _ Unknown (ap (λ b. check b Unknown) (has_only-from_other (build_fields o) ms key further))
-fault_from ms (Digits i) (e, o, both, only, wrong, is) =
+    read ∙ bind-at_err (last_fields (build_fields o) (table ms)) _ (Field name.Cites) (last_fields-wrong (build_fields o) (table ms) wrong)
+fault_from ms (Field field_name) first = own_field_first (table ms) field_name first
+fault_from ms Unknown (e, o, key, both, right, further) =
+    let (found, found-is) = own_read o e.n (table ms) both.first.own in
+    let (part, other, read) = read_parts (table ms) e o found both found-is in
+    read ∙ bind-at_err (last_fields (build_fields o) (table ms)) _ Unknown (last_fields-other (build_fields o) ms key right further)
+fault_from ms (Digits i) (e, o, both, last, wrong, is) =
     let found-is = wrong_text-from o e.n (table ms) wrong in
     let (part, other, read) = read_parts (table ms) e o None both found-is in
-    read ∙ bind-at (no_other_key (build_fields o) (table ms)) _ tt (ap (λ b. check b Unknown) (has_only-from (build_fields o) ms only))
+    read ∙ bind-at (last_fields (build_fields o) (table ms)) _ tt (last_fields-from (build_fields o) ms last)
     ∙ ap (λ k. Err (Digits k)) (sym is)
 fault_from ms other never = absurd never
 

@@ -2,6 +2,7 @@ pub mod BuildEntryAnswers
 pub mod BuildFieldLemmas
 pub mod BuildAnswers
 pub mod BuildFaultAnswers
+pub mod AlikeBuilds
 pub mod WrittenBuild
 pub mod BuildRooms
 pub mod BuildKind

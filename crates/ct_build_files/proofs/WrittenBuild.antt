@@ -6,7 +6,7 @@ use Rattle.std.specs.Str.{IsAscii}
 use Rattle.std.proofs.lemmas.Bool.{false≢true}
 use Rattle.std.proofs.lemmas.List.Elements.{All-head, All-tail}
 use Rattle.std.proofs.lemmas.Str.Ascii.{IsAscii-nil, IsAscii-cons}
-use Rattle.toml.specs.Data.{string, integer, table, Members, get_member, items_depth, members_depth}
+use Rattle.toml.specs.Data.{string, integer, table, Members, get, get_member, items_depth, members_depth}
 use Rattle.toml.specs.View.{items_of}
 use Rattle.ct_text.specs.Id.{is_id}
 use Rattle.ct_words.specs.Text.{word_text}
@@ -15,15 +15,17 @@ use Rattle.ct_codes.proofs.EntryLemmas.{WeightFits, entry_limits}
 use Rattle.ct_build.specs.Build.{FitsStated}
 use Rattle.ct_build.specs.declared.step.Step.{Step}
 use Rattle.ct_build.specs.declared.step.Step.TheVariants.{Lengthen, AppendOne, Parity, Puncture, Shorten, Translate, Complement, Select, Uuv, Juxtapose, Trim}
+use Rattle.ct_fields.specs.Field.{field_text}
 use Rattle.ct_fields.specs.Fields.{keys_are_named}
 use Rattle.ct_build_files.specs.Operation.{operation_of, needs_other, build_fields}
+use Rattle.ct_build_files.specs.declared.operation.Operation.{Operation}
 use Rattle.ct_fields.specs.StatesEntry.{HasWeight}
 use Rattle.ct_build_files.specs.BuildDocument.{HasStepFields, NamesOther, StatesBuild}
 use Rattle.ct_fields.specs.Written.{put, put_weight}
 use Rattle.ct_build_files.specs.WrittenBuild.{number_list, digits_text, put_step, put_other, base_table, build_table}
 use Rattle.ct_fields.specs.declared.field.FieldName.TheVariants as name
 use Rattle.ct_build_files.specs.declared.operation.Operation.TheVariants as operation
-use Rattle.ct_fields.proofs.FieldLemmas.{has_only-true}
+use Rattle.ct_fields.proofs.LastLemmas.{AreOwn, HasLast-own, not_there}
 use Rattle.ct_fields.proofs.MemberLemmas.{get_member-same, get_member-other, keys_are_named-put, members_depth-put}
 
 -- digits written as characters are ASCII
@@ -169,6 +171,29 @@ weight_keys : (s : Step) (w : Option ℕ) (ms : Members) → keys_are_named (bui
 weight_keys s None ms named = named
 weight_keys s (Some w) ms named = keys_are_named-put (build_fields (operation_of s)) (codes "w") (integer (pos w)) ms refl named
 
+build_keys : (e : Entry) (s : Step) (part : List ℕ) (other : Option (List ℕ)) → is_some other ≡ needs_other s
+    → keys_are_named (build_fields (operation_of s)) (build_table e s part other) ≡ true
+build_keys e s part other named =
+    weight_keys s e.w (before_weight e s part other) (other_keys s other (before_other e s part) named (step_keys s e.n (base_table e s part) refl))
+
+-- no operation names `format` or `cites`
+own_build : (o : Operation) → AreOwn (build_fields o)
+own_build operation.Puncture = record { no_format = refl; no_cites = refl }
+own_build operation.Shorten = record { no_format = refl; no_cites = refl }
+own_build operation.Translate = record { no_format = refl; no_cites = refl }
+own_build operation.Select = record { no_format = refl; no_cites = refl }
+own_build operation.Uuv = record { no_format = refl; no_cites = refl }
+own_build operation.Juxtapose = record { no_format = refl; no_cites = refl }
+own_build operation.Trim = record { no_format = refl; no_cites = refl }
+own_build o = record { no_format = refl; no_cites = refl }
+
+-- the table says no format
+pub build-unformatted : (e : Entry) (s : Step) (part : List ℕ) (other : Option (List ℕ)) → is_some other ≡ needs_other s
+    → get (field_text name.Format) (table (build_table e s part other)) ≡ None
+build-unformatted e s part other named =
+    not_there (build_fields (operation_of s)) (build_table e s part other) (field_text name.Format) (build_keys e s part other named)
+    (own_build (operation_of s)).no_format
+
 -- the table of a build states it
 pub states_build : (e : Entry) (s : Step) (part : List ℕ) (other : Option (List ℕ)) → FitsStated s e → is_some other ≡ needs_other s
     → IsTrue (is_id part)
@@ -187,8 +212,7 @@ states_build e s part other fits named id ids =
       fits = fits.fields;
       part_named = (at_base (codes "part") e s part other refl refl refl refl refl refl, id);
       other_named = states_other e s part other named ids;
-      only = has_only-true (build_fields (operation_of s)) (build_table e s part other)
-          (weight_keys s e.w (before_weight e s part other) (other_keys s other (before_other e s part) named (step_keys s e.n (base_table e s part) refl)));
+      last = HasLast-own (build_fields (operation_of s)) (build_table e s part other) (own_build (operation_of s)) (build_keys e s part other named);
     }
 
 -- numbers don't nest

@@ -4,7 +4,7 @@ use Rattle.toml.specs.Data.{Data}
 use Rattle.ct_codes.specs.declared.entry.Entry.{Entry}
 use Rattle.ct_build.specs.declared.step.Step.{Step}
 use Rattle.ct_fields.specs.Steps.{◌>>=◌, ◌>>◌, check}
-use Rattle.ct_fields.specs.Fields.{no_other_key}
+use Rattle.ct_fields.specs.LastFields.{last_fields}
 use Rattle.ct_build_files.specs.BuildEntry.{build_entry_of}
 use Rattle.ct_build_files.specs.Operation.{makes_length, takes_weight, build_fields}
 use Rattle.ct_build_files.specs.BuildFields.{operation_field, step_fields, id_field, other_field}
@@ -20,7 +20,7 @@ abbrev pub build_with : Entry → Operation → Option Step → Data → Result 
 build_with e operation found document = do
   part ← id_field name.Part document
   other ← other_field operation document
-  no_other_key (build_fields operation) document
+  last_fields (build_fields operation) document
   step ← ok_or found (Digits 0)
   Ok (Build e step part other)
 
@@ -32,7 +32,7 @@ build_by e operation document = do
   found ← step_fields operation e.n document
   build_with e operation found document
 
--- the evidence of a document of kind build: the fields of the operation come before the part, and the text of digits is judged after the keys
+-- the evidence of a document of kind build: the fields of the operation come before the part, and the text of digits is judged after the cites and the keys
 unfoldable pub build_evidence_of : Data → Result Evidence FileFault
 build_evidence_of document = do
   e ← build_entry_of document
@@ -42,6 +42,6 @@ build_evidence_of document = do
   found ← step_fields operation e.n document
   part ← id_field name.Part document
   other ← other_field operation document
-  no_other_key (build_fields operation) document
+  last_fields (build_fields operation) document
   step ← ok_or found (Digits 0)
   Ok (Build e step part other)

@@ -1,11 +1,12 @@
 -- Where each answer comes for a document of kind build.
-use Rattle.std.specs.Prelude.{◌≡◌, ◌≢◌, ℕ, ◌+◌, ◌%◌, ◌<◌, ◌≤◌, ◌⊎◌, List, length, map, All, Option, IsSome, IsTrue, IsFalse, Result, Ok, Err, ⊤}
-use Rattle.toml.specs.Data.{Data, get}
+use Rattle.std.specs.Prelude.{◌≡◌, ◌≢◌, ℕ, ◌+◌, ◌%◌, ◌<◌, ◌≤◌, ◌⊎◌, List, length, map, All, Option, IsTrue, IsFalse, Result, Ok, Err, ⊤}
+use Rattle.toml.specs.Data.{Data}
 use Rattle.ct_words.specs.declared.limits.TheConstants.{MAX_N}
 use Rattle.ct_codes.specs.declared.entry.Entry.{Entry}
 use Rattle.ct_codes.specs.Constructions.Places.{ArePlaces}
 use Rattle.ct_build.specs.declared.building.TheConstants.{MAX_BUILT}
-use Rattle.ct_fields.specs.Tables.{HasNumber, IsNamed, HasOther, IsWordText}
+use Rattle.ct_fields.specs.Tables.{HasNumber, IsWordText}
+use Rattle.ct_fields.specs.HasCites.{HasRightCites, HasWrongCites, HasOther, HasLast}
 use Rattle.ct_fields.specs.StatesEntry.{HasLength, HasDistanceBeside, HasWeight}
 use Rattle.ct_fields.specs.declared.field.FieldName.{FieldName}
 use Rattle.ct_fields.specs.declared.field.FieldName.TheVariants as name
@@ -112,14 +113,17 @@ IsBuildFault document (Field name.Part) =
 -- the other piece is not named
 IsBuildFault document (Field name.Other) =
     (e : Entry) × (o : Operation) × NamesPart document e o × IsTrue (takes_other o) × ((id : List ℕ) → ¬ (HasId name.Other document id))
+-- the cites are wrong
+IsBuildFault document (Field name.Cites) = (e : Entry) × (o : Operation) × NamesParts document e o × HasWrongCites document
 -- an own field of the operation is missing or wrong, before the part
 IsBuildFault document (Field name) = (e : Entry) × (o : Operation) × SuitsEntry document e o × IsOwnFault o e.n document name
 -- there is another key
 IsBuildFault document Unknown =
-    (e : Entry) × (o : Operation) × (key : List ℕ) × NamesParts document e o × HasOther (build_fields o) document key
+    (e : Entry) × (o : Operation) × (key : List ℕ) × NamesParts document e o × HasRightCites document
+    × HasOther (build_fields o) document key
 -- the text of digits writes no word of this length, or not so many digits as there are places
 IsBuildFault document (Digits i) =
-    (e : Entry) × (o : Operation) × NamesParts document e o × ((key : List ℕ) → IsSome (get key document) → IsNamed (build_fields o) key)
+    (e : Entry) × (o : Operation) × NamesParts document e o × HasLast (build_fields o) document
     × IsWrongText o e.n document × (i ≡ 0)
 -- no other fault comes
 IsBuildFault document fault = ⊥

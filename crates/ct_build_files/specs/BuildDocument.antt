@@ -10,7 +10,8 @@ use Rattle.ct_build.specs.declared.step.Step.{Step}
 use Rattle.ct_build.specs.declared.step.Step.TheVariants.{Puncture, Shorten, Translate, Select, Trim}
 use Rattle.ct_fields.specs.Field.{field_text}
 use Rattle.ct_build_files.specs.Operation.{operation_text, operation_of, needs_other, build_fields}
-use Rattle.ct_fields.specs.Tables.{IsDocument, IsOfKind, IsNamed}
+use Rattle.ct_fields.specs.Tables.{IsDocument, IsOfKind}
+use Rattle.ct_fields.specs.HasCites.{HasRightFormat, HasLast}
 use Rattle.ct_fields.specs.StatesEntry.{StatesEntry}
 use Rattle.ct_fields.specs.declared.field.FieldName.{FieldName}
 use Rattle.ct_fields.specs.declared.field.FieldName.TheVariants as name
@@ -50,10 +51,11 @@ pub record StatesBuild (document : Data) (e : Entry) (step : Step) (part : List 
   pub fits : FieldsFit step e
   pub part_named : HasId name.Part document part
   pub other_named : NamesOther step document other
-  pub only : (key : List ℕ) → IsSome (get key document) → IsNamed (build_fields (operation_of step)) key
+  pub last : HasLast (build_fields (operation_of step)) document
 
 -- the bytes are a document that states the build
 pub record AcceptsBuild (bytes : List ℕ) (e : Entry) (step : Step) (part : List ℕ) (other : Option (List ℕ)) : Type 0 where
   pub document : Data
   pub written : IsDocument bytes document
+  pub format : HasRightFormat document
   pub states : StatesBuild document e step part other

@@ -3,7 +3,7 @@ ghost use Rattle.std.specs.Prelude.{◌≡◌, ◌≤◌};
 ghost use Rattle.toml.specs.View.{view};
 ghost use Rattle.ct_words.specs.declared.limits.TheConstants.{MAX_N};
 ghost use Rattle.ct_fields.specs.Reads.{Reads};
-ghost use Rattle.ct_fields.specs.Fields.{no_other_key};
+ghost use Rattle.ct_fields.specs.LastFields.{last_fields};
 ghost use Rattle.ct_build_files.specs.Operation.{build_fields};
 ghost use Rattle.ct_build_files.specs.Build.{build_with, build_by, build_evidence_of};
 
@@ -13,26 +13,26 @@ use crate::operation::Operation;
 use ct_build::Step;
 use ct_codes::Entry;
 use ct_evidence::Evidence;
-use ct_fields::{FieldName, FileFault, no_other_key};
+use ct_fields::{FieldName, FileFault, last_fields};
 use std::alloc::Global;
 use toml::Value;
 
-/// Refuses a document that has another key than those of a build by the operation.
-fn no_other_build_key(operation: Operation, document: &Value) -> Result<(), FileFault>
-    ensures { result ≡ no_other_key (build_fields operation) (view document.now) }
+/// Refuses wrong cites, and then another key than those of a build by the operation.
+fn last_build_fields(operation: Operation, document: &Value) -> Result<(), FileFault>
+    ensures { result ≡ last_fields (build_fields operation) (view document.now) }
 {
     use FieldName::{By, D, Digits, N, Op, Other, Part, Places, Size, W};
     match operation {
-        Operation::Puncture => no_other_key(document, &[N, D, W, Op, Part, Places]),
-        Operation::Shorten => no_other_key(document, &[N, D, W, Op, Part, Places, Digits]),
+        Operation::Puncture => last_fields(document, &[N, D, W, Op, Part, Places]),
+        Operation::Shorten => last_fields(document, &[N, D, W, Op, Part, Places, Digits]),
         Operation::Translate | Operation::Select => {
-            no_other_key(document, &[N, D, W, Op, Part, By])
+            last_fields(document, &[N, D, W, Op, Part, By])
         }
         Operation::Uuv | Operation::Juxtapose => {
-            no_other_key(document, &[N, D, W, Op, Part, Other])
+            last_fields(document, &[N, D, W, Op, Part, Other])
         }
-        Operation::Trim => no_other_key(document, &[N, D, W, Op, Part, Size]),
-        _ => no_other_key(document, &[N, D, W, Op, Part]),
+        Operation::Trim => last_fields(document, &[N, D, W, Op, Part, Size]),
+        _ => last_fields(document, &[N, D, W, Op, Part]),
     }
 }
 
@@ -47,7 +47,7 @@ fn build_with(
 {
     let part = id_field(document, FieldName::Part)?;
     let other = other_field(operation, document)?;
-    no_other_build_key(operation, document)?;
+    last_build_fields(operation, document)?;
     match found {
         Some(step) => Ok(Evidence::Build {
             entry,
