@@ -5,7 +5,7 @@ use Rattle.toml.specs.Data.{Data, table, Members}
 use Rattle.ct_words.specs.declared.limits.TheConstants.{MAX_N}
 use Rattle.ct_codes.specs.declared.entry.Entry.{Entry}
 use Rattle.ct_fields.specs.Steps.{◌>>=◌}
-use Rattle.ct_fields.specs.Fields.{has_only, no_other_key}
+use Rattle.ct_fields.specs.LastFields.{last_fields}
 use Rattle.ct_fields.specs.StatedEntry.{plain_entry_of}
 use Rattle.ct_fields.specs.StatesEntry.{StatesPlainEntry, IsPlainEntryFault}
 use Rattle.ct_fields.specs.Tables.{IsOfKind}
@@ -13,8 +13,8 @@ use Rattle.ct_fields.specs.declared.field.FieldName.{FieldName}
 use Rattle.ct_fields.specs.declared.field.FieldName.TheVariants as name
 use Rattle.ct_fields.specs.declared.fault.FileFault.{FileFault}
 use Rattle.ct_fields.specs.declared.fault.FileFault.TheVariants.{Bytes, NotToml, Kind, Field, Unknown, Digits, Size, Memory}
-use Rattle.ct_fields.proofs.StepLemmas.{bind-at, bind-at_err, bind-cases, check-ok, check-err, only_fault}
-use Rattle.ct_fields.proofs.FieldLemmas.{has_only-true, has_only-false, has_only-from, has_only-from_other}
+use Rattle.ct_fields.proofs.StepLemmas.{bind-at, bind-at_err, bind-cases, only_fault}
+use Rattle.ct_fields.proofs.LastLemmas.{last_fields-ok, last_fields-from, last_fields-err, last_fields-wrong, last_fields-other, wrong_cites, other_key}
 use Rattle.ct_fields.proofs.EntryAnswers.{plain_entry_of-ok, plain_entry_of-from, plain_entry_of-err, plain_entry_of-fault}
 use Rattle.ct_duals.specs.declared.dual.Dual.{Dual}
 use Rattle.ct_duals.specs.Dual.{degree_of}
@@ -48,12 +48,12 @@ dual_answer ms of_kind =
     bind-cases P (allowances_field e even document) _ (λ y y-is.
     let d : Dual = record { entry = e; even = even; c = c; y = y } in
     let fields : HasDual document d = record { of_kind = of_kind; entry = states; multipliers = at_c; allowances = allowances-stated e even document y y-is } in
-    bind-cases P (no_other_key dual_fields document) _ (λ passed only-is.
-    record { fields = fields; only = has_only-true dual_fields ms (check-ok (has_only dual_fields document) Unknown passed only-is) })
+    bind-cases P (last_fields dual_fields document) _ (λ passed last-is. record { fields = fields; last = last_fields-ok dual_fields ms passed last-is })
     (λ fault wrong.
-    let (out, is) = check-err (has_only dual_fields document) Unknown fault wrong in
-    let (key, other) = has_only-false dual_fields ms out in
-    subst (λ f. P (Err f)) is (d, key, fields, other)))
+    elim (last_fields-err dual_fields ms fault wrong) [
+      | wrong_cites is cites ↦ subst (λ f. P (Err f)) is (d, fields, cites)
+      | other_key is right key other ↦ subst (λ f. P (Err f)) is (d, key, fields, right, other)
+    ]))
     (λ fault wrong.
     subst (λ f. P (Err f)) (allowances-err e even document fault wrong)
     (e, even, c, states, at_c, λ y has. let read = allowances-read e even document y (small_degree document e entry) has in cc)))
@@ -68,7 +68,7 @@ dual_answer ms of_kind =
 
 -- the steps up to the keys
 reads_fields : (document : Data) (d : Dual) (answer : Result Dual FileFault) → HasDual document d
-    → (no_other_key dual_fields document >>= (λ _. Ok d)) ≡ answer → dual_of document ≡ answer
+    → (last_fields dual_fields document >>= (λ _. Ok d)) ≡ answer → dual_of document ≡ answer
 unfolding dual_of
 reads_fields document d answer has rest =
     bind-at (plain_entry_of document) _ d.entry (plain_entry_of-from document d.entry has.entry.entry)
@@ -114,15 +114,17 @@ without_allowances document e even c states at_c none =
 
 -- where an answer is said to come, it comes
 pub dual_answer-from : (ms : Members) (answer : Result Dual FileFault) → IsDualAnswer (table ms) answer → dual_of (table ms) ≡ answer
-dual_answer-from ms (Ok d) states = reads_fields (table ms) d (Ok d) states.fields (rw (has_only-from dual_fields ms states.only) refl)
+dual_answer-from ms (Ok d) states = reads_fields (table ms) d (Ok d) states.fields (rw (last_fields-from dual_fields ms states.last) refl)
 dual_answer-from ms (Err (Field name.N)) first = without_entry (table ms) name.N first
 dual_answer-from ms (Err (Field name.D)) first = without_entry (table ms) name.D first
 dual_answer-from ms (Err (Field name.Even)) (e, entry, none) = without_mark (table ms) e entry none
 dual_answer-from ms (Err (Field name.C)) (e, even, states, none) = without_multipliers (table ms) e even states none
 dual_answer-from ms (Err (Field name.Y)) (e, even, c, states, at_c, none) = without_allowances (table ms) e even c states at_c none
+dual_answer-from ms (Err (Field name.Cites)) (d, fields, wrong) =
+    reads_fields (table ms) d (Err (Field name.Cites)) fields (rw (last_fields-wrong dual_fields (table ms) wrong) refl)
 dual_answer-from ms (Err (Field name)) never = absurd never
-dual_answer-from ms (Err Unknown) (d, key, fields, other) =
-    reads_fields (table ms) d (Err Unknown) fields (rw (has_only-from_other dual_fields ms key other) refl)
+dual_answer-from ms (Err Unknown) (d, key, fields, right, other) =
+    reads_fields (table ms) d (Err Unknown) fields (rw (last_fields-other dual_fields ms key right other) refl)
 dual_answer-from ms (Err (Bytes b)) never = absurd never
 dual_answer-from ms (Err NotToml) never = absurd never
 dual_answer-from ms (Err Kind) never = absurd never

@@ -8,7 +8,7 @@ use Rattle.ct_codes.specs.declared.entry.Entry.{Entry}
 use Rattle.ct_codes.specs.Entry.{IsEntry, unrestricted, constant_weight}
 use Rattle.ct_codes.proofs.EntryLemmas.{entry_from_limits}
 use Rattle.ct_fields.specs.Reads.{Reads}
-use Rattle.ct_fields.specs.Fields.{no_other_key}
+use Rattle.ct_fields.specs.LastFields.{last_fields}
 use Rattle.ct_fields.specs.StatedEntry.{plain_entry_of}
 use Rattle.ct_fields.specs.declared.fault.FileFault.{FileFault}
 use Rattle.ct_fields.proofs.StepLemmas.{bind-ok}
@@ -93,7 +93,7 @@ dual_of-formed document d h =
     let (c, c-is, h3) = bind-ok (multipliers_field e document) _ d h2 in
     let (y, y-is, h4) = bind-ok (allowances_field e even document) _ d h3 in
     let stated : Dual = record { entry = e; even = even; c = c; y = y } in
-    let (u, u-is, h5) = bind-ok (no_other_key dual_fields document) (λ _. Ok stated) d h4 in
+    let (u, u-is, h5) = bind-ok (last_fields dual_fields document) (λ _. Ok stated) d h4 in
     let states : StatesEven document e even = record { entry = plain_entry_of-ok document e e-is; marked = even-stated e.d document even even-is } in
     subst IsDual (same_ok stated d h5)
     (formed_plain document stated states (multipliers-stated e document c c-is) (allowances-stated e even document y y-is))
@@ -105,7 +105,7 @@ johnson_dual_of-formed document d h =
     let (e, e-is, h1) = bind-ok (weighted_entry_of document) _ d h in
     let (c, c-is, h2) = bind-ok (multipliers_field e document) _ d h1 in
     let stated : Dual = record { entry = e; even = false; c = c; y = [] } in
-    let (u, u-is, h3) = bind-ok (no_other_key johnson_dual_fields document) (λ _. Ok stated) d h2 in
+    let (u, u-is, h3) = bind-ok (last_fields johnson_dual_fields document) (λ _. Ok stated) d h2 in
     subst IsDual (same_ok stated d h3)
     (formed_weighted document stated (weighted-ok document e e-is) refl (multipliers-stated e document c c-is) refl)
 

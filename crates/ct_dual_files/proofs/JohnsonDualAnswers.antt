@@ -6,15 +6,17 @@ use Rattle.ct_words.specs.declared.limits.TheConstants.{MAX_N}
 use Rattle.ct_codes.specs.declared.entry.Entry.{Entry}
 use Rattle.ct_codes.specs.Entry.{constant_weight}
 use Rattle.ct_fields.specs.Steps.{◌>>=◌}
-use Rattle.ct_fields.specs.Fields.{number_field, has_only, no_other_key}
+use Rattle.ct_fields.specs.Fields.{number_field}
+use Rattle.ct_fields.specs.LastFields.{last_fields}
 use Rattle.ct_fields.specs.StatedEntry.{distance_beside}
 use Rattle.ct_fields.specs.Tables.{IsOfKind}
 use Rattle.ct_fields.specs.declared.field.FieldName.{FieldName}
 use Rattle.ct_fields.specs.declared.field.FieldName.TheVariants as name
 use Rattle.ct_fields.specs.declared.fault.FileFault.{FileFault}
 use Rattle.ct_fields.specs.declared.fault.FileFault.TheVariants.{Bytes, NotToml, Kind, Field, Unknown, Digits, Size, Memory}
-use Rattle.ct_fields.proofs.StepLemmas.{bind-ok, bind-err, bind-at, bind-at_err, bind-cases, check-ok, check-err, only_fault}
-use Rattle.ct_fields.proofs.FieldLemmas.{number_field-ok, number_field-from, has_only-true, has_only-false, has_only-from, has_only-from_other}
+use Rattle.ct_fields.proofs.StepLemmas.{bind-ok, bind-err, bind-at, bind-at_err, bind-cases, only_fault}
+use Rattle.ct_fields.proofs.FieldLemmas.{number_field-ok, number_field-from}
+use Rattle.ct_fields.proofs.LastLemmas.{last_fields-ok, last_fields-from, last_fields-err, last_fields-wrong, last_fields-other, wrong_cites, other_key}
 use Rattle.ct_fields.proofs.EntryAnswers.{number_field-err, distance_beside-err, distance-ok, distance-from}
 use Rattle.ct_duals.specs.declared.dual.Dual.{Dual}
 use Rattle.ct_dual_files.specs.Fields.{multipliers_field}
@@ -122,12 +124,13 @@ johnson_dual_answer ms of_kind =
       multipliers = multipliers-stated e document c c-is;
       none_allowed = refl;
     } in
-    bind-cases P (no_other_key johnson_dual_fields document) _ (λ passed only-is.
-    record { fields = fields; only = has_only-true johnson_dual_fields ms (check-ok (has_only johnson_dual_fields document) Unknown passed only-is) })
+    bind-cases P (last_fields johnson_dual_fields document) _ (λ passed last-is.
+    record { fields = fields; last = last_fields-ok johnson_dual_fields ms passed last-is })
     (λ fault wrong.
-    let (out, is) = check-err (has_only johnson_dual_fields document) Unknown fault wrong in
-    let (key, other) = has_only-false johnson_dual_fields ms out in
-    subst (λ f. P (Err f)) is (stated e c, key, fields, other)))
+    elim (last_fields-err johnson_dual_fields ms fault wrong) [
+      | wrong_cites is cites ↦ subst (λ f. P (Err f)) is (stated e c, fields, cites)
+      | other_key is right key other ↦ subst (λ f. P (Err f)) is (stated e c, key, fields, right, other)
+    ]))
     (λ fault wrong.
     subst (λ f. P (Err f)) (multipliers-err e document fault wrong) (e, entry, λ c has. let read = multipliers-read e document c has in cc)))
     (λ fault wrong.
@@ -136,7 +139,7 @@ johnson_dual_answer ms of_kind =
 
 -- the steps up to the keys
 reads_fields : (document : Data) (d : Dual) (answer : Result Dual FileFault) → HasJohnsonDual document d
-    → (no_other_key johnson_dual_fields document >>= (λ _. Ok (stated d.entry d.c))) ≡ answer → johnson_dual_of document ≡ answer
+    → (last_fields johnson_dual_fields document >>= (λ _. Ok (stated d.entry d.c))) ≡ answer → johnson_dual_of document ≡ answer
 unfolding johnson_dual_of
 reads_fields document d answer has rest =
     bind-at (weighted_entry_of document) _ d.entry (weighted-from document d.entry has.entry)
@@ -163,14 +166,16 @@ without_multipliers document e states none =
 -- where an answer is said to come, it comes
 pub johnson_dual_answer-from : (ms : Members) (answer : Result Dual FileFault) → IsJohnsonDualAnswer (table ms) answer → johnson_dual_of (table ms) ≡ answer
 johnson_dual_answer-from ms (Ok d) states =
-    reads_fields (table ms) d (Ok d) states.fields (rw (has_only-from johnson_dual_fields ms states.only) (same_dual (table ms) d states.fields))
+    reads_fields (table ms) d (Ok d) states.fields (rw (last_fields-from johnson_dual_fields ms states.last) (same_dual (table ms) d states.fields))
 johnson_dual_answer-from ms (Err (Field name.N)) first = without_entry (table ms) name.N first
 johnson_dual_answer-from ms (Err (Field name.D)) first = without_entry (table ms) name.D first
 johnson_dual_answer-from ms (Err (Field name.W)) first = without_entry (table ms) name.W first
 johnson_dual_answer-from ms (Err (Field name.C)) (e, states, none) = without_multipliers (table ms) e states none
+johnson_dual_answer-from ms (Err (Field name.Cites)) (d, fields, wrong) =
+    reads_fields (table ms) d (Err (Field name.Cites)) fields (rw (last_fields-wrong johnson_dual_fields (table ms) wrong) refl)
 johnson_dual_answer-from ms (Err (Field name)) never = absurd never
-johnson_dual_answer-from ms (Err Unknown) (d, key, fields, other) =
-    reads_fields (table ms) d (Err Unknown) fields (rw (has_only-from_other johnson_dual_fields ms key other) refl)
+johnson_dual_answer-from ms (Err Unknown) (d, key, fields, right, other) =
+    reads_fields (table ms) d (Err Unknown) fields (rw (last_fields-other johnson_dual_fields ms key right other) refl)
 johnson_dual_answer-from ms (Err (Bytes b)) never = absurd never
 johnson_dual_answer-from ms (Err NotToml) never = absurd never
 johnson_dual_answer-from ms (Err Kind) never = absurd never

@@ -2,20 +2,31 @@
 use Rattle.std.proofs.Common.{◌≡◌, ℕ, ◌≤◌, List, [], ◌∷◌, map, codes, Option, Some, None, Ok, IsSome, lit≤, refl, inl, arith}
 use Rattle.std.specs.Prelude.{ℤ}
 use Rattle.std.proofs.lemmas.Bool.{false≢true}
-use Rattle.toml.specs.Data.{integer, boolean, table, items_depth, members_depth}
+use Rattle.toml.specs.Data.{Data, integer, boolean, table, get, items_depth, members_depth}
 use Rattle.toml.specs.View.{items_of}
 use Rattle.ct_codes.proofs.EntryLemmas.{entry_limits}
+use Rattle.ct_fields.specs.Field.{field_text}
+use Rattle.ct_fields.specs.LastFields.{last_fields}
+use Rattle.ct_fields.specs.StatedEntry.{plain_entry_of}
 use Rattle.ct_fields.specs.Written.{put, put_weight, entry_table}
 use Rattle.ct_fields.specs.declared.field.FieldName.TheVariants as name
-use Rattle.ct_fields.proofs.FieldLemmas.{has_only-true}
+use Rattle.ct_fields.proofs.LastLemmas.{AreOwn, HasLast-own, not_there}
+use Rattle.ct_fields.proofs.CitedTables.{Alike}
 use Rattle.ct_fields.proofs.MemberLemmas.{members_depth-put}
 use Rattle.ct_duals.specs.declared.dual.Dual.{Dual}
 use Rattle.ct_duals.specs.Dual.{IsDual}
-use Rattle.ct_dual_files.specs.Dual.{dual_of, johnson_dual_of}
+use Rattle.ct_dual_files.specs.Dual.{dual_of, weighted_entry_of, johnson_dual_of}
 use Rattle.ct_dual_files.specs.WrittenDuals.{integer_list, index_pair, pair_list, dual_table, johnson_dual_table}
 use Rattle.ct_dual_files.specs.DualDocument.{dual_fields, johnson_dual_fields, StatesDual, StatesJohnsonDual}
 use Rattle.ct_dual_files.proofs.DualAnswers.{dual_answer-from}
 use Rattle.ct_dual_files.proofs.JohnsonDualAnswers.{johnson_dual_answer-from}
+
+-- the kinds name neither `format` nor `cites`
+own_dual : AreOwn dual_fields
+own_dual = record { no_format = refl; no_cites = refl }
+
+own_johnson_dual : AreOwn johnson_dual_fields
+own_johnson_dual = record { no_format = refl; no_cites = refl }
 
 -- the table of a dual without weight states it
 pub states_dual : (d : Dual) → IsDual d → d.entry.w ≡ None → StatesDual (table (dual_table d)) d
@@ -35,7 +46,7 @@ states_dual d form plain =
         multipliers = (refl, form.some, form.few, form.multipliers, form.signed.0);
         allowances = inl (refl, (form.ascending, form.allowances, form.signed.1));
       };
-      only = has_only-true dual_fields (dual_table d) refl;
+      last = HasLast-own dual_fields (dual_table d) own_dual refl;
     }
 
 -- the table of a dual with a weight states it
@@ -61,7 +72,7 @@ states_johnson_dual d form some = at d.entry.w form some
             multipliers = (refl, form.some, form.few, form.multipliers, form.signed.0);
             none_allowed = form.weighted.1;
           };
-          only = has_only-true johnson_dual_fields (johnson_dual_table (weighted (Some w))) refl;
+          last = HasLast-own johnson_dual_fields (johnson_dual_table (weighted (Some w))) own_johnson_dual refl;
         }
 
 -- so they read back
@@ -95,3 +106,28 @@ pub johnson_dual_depth : (d : Dual) → members_depth (johnson_dual_table d) ≤
 johnson_dual_depth d =
     members_depth-put 80 (codes "c") (integer_list d.c) (put_weight d.entry.w (entry_table (codes "jdual") d.entry.n d.entry.d))
     (rw (integers_depth d.c) (lit≤ tt)) (weight_depth d.entry.w d.entry.n d.entry.d)
+
+-- the tables say no format
+pub dual-unformatted : (d : Dual) → get (field_text name.Format) (table (dual_table d)) ≡ None
+dual-unformatted d = not_there dual_fields (dual_table d) (field_text name.Format) refl own_dual.no_format
+
+pub johnson_dual-unformatted : (d : Dual) → get (field_text name.Format) (table (johnson_dual_table d)) ≡ None
+johnson_dual-unformatted d = at d.entry.w
+  where
+    at : (w : Option ℕ) → get (field_text name.Format)
+        (table (put name.C (integer_list d.c) (put_weight w (entry_table (codes "jdual") d.entry.n d.entry.d)))) ≡ None
+    at None = refl
+    at (Some w) = refl
+
+-- tables that have the same at the keys of the kind, and of which the same is judged last, read as the same
+pub dual-alike : (document other : Data) → Alike document other → last_fields dual_fields other ≡ last_fields dual_fields document
+    → dual_of other ≡ dual_of document
+unfolding dual_of plain_entry_of
+dual-alike document other alike last =
+    rw (alike.fields name.N refl, alike.fields name.D refl, alike.fields name.Even refl, alike.fields name.C refl, alike.fields name.Y refl, last) refl
+
+pub johnson_dual-alike : (document other : Data) → Alike document other
+    → last_fields johnson_dual_fields other ≡ last_fields johnson_dual_fields document → johnson_dual_of other ≡ johnson_dual_of document
+unfolding johnson_dual_of weighted_entry_of
+johnson_dual-alike document other alike last =
+    rw (alike.fields name.N refl, alike.fields name.D refl, alike.fields name.W refl, alike.fields name.C refl, last) refl

@@ -5,21 +5,22 @@ use Rattle.ct_words.specs.declared.limits.TheConstants.{MAX_N}
 use Rattle.ct_codes.specs.declared.entry.Entry.{Entry}
 use Rattle.ct_codes.specs.Entry.{constant_weight}
 use Rattle.ct_fields.specs.Steps.{◌>>=◌, ◌>>◌}
-use Rattle.ct_fields.specs.Fields.{number_field, no_other_key}
+use Rattle.ct_fields.specs.Fields.{number_field}
+use Rattle.ct_fields.specs.LastFields.{last_fields}
 use Rattle.ct_fields.specs.StatedEntry.{plain_entry_of, distance_beside}
 use Rattle.ct_fields.specs.declared.field.FieldName.TheVariants as name
 use Rattle.ct_fields.specs.declared.fault.FileFault.{FileFault}
 use Rattle.ct_duals.specs.declared.dual.Dual.{Dual}
 use Rattle.ct_dual_files.specs.Fields.{even_field, multipliers_field, allowances_field}
 
--- the dual of a document of kind dual: n, d, even, c and y, and no other key
+-- the dual of a document of kind dual: n, d, even, c and y, and what stands last in any document
 unfoldable pub dual_of : Data → Result Dual FileFault
 dual_of document = do
   e ← plain_entry_of document
   even ← even_field e.d document
   c ← multipliers_field e document
   y ← allowances_field e even document
-  no_other_key (name.N ∷ name.D ∷ name.Even ∷ name.C ∷ name.Y ∷ []) document
+  last_fields (name.N ∷ name.D ∷ name.Even ∷ name.C ∷ name.Y ∷ []) document
   Ok (record { entry = e; even = even; c = c; y = y })
 
 -- the entry of a document of kind jdual: n, an even d, and w
@@ -30,10 +31,10 @@ weighted_entry_of document = do
   w ← number_field name.W 0 n document
   Ok (constant_weight n d w)
 
--- the dual of a document of kind jdual: n, d, w and c, and no other key
+-- the dual of a document of kind jdual: n, d, w and c, and what stands last in any document
 unfoldable pub johnson_dual_of : Data → Result Dual FileFault
 johnson_dual_of document = do
   e ← weighted_entry_of document
   c ← multipliers_field e document
-  no_other_key (name.N ∷ name.D ∷ name.W ∷ name.C ∷ []) document
+  last_fields (name.N ∷ name.D ∷ name.W ∷ name.C ∷ []) document
   Ok (record { entry = e; even = false; c = c; y = [] })

@@ -1,9 +1,10 @@
 -- Which tables state duals, and where each answer comes for a document of kind dual or jdual.
-use Rattle.std.specs.Prelude.{◌≡◌, ℕ, suc, ◌%◌, ◌^◌, ◌<◌, ◌≤◌, ◌⊎◌, Bool, true, false, List, [], ◌∷◌, length, Some, None, IsSome, IsTrue, Result, Ok, Err, All, AllPairs, ℤ, pos, ◌≤ℤ◌, ◌<ℤ◌, codes}
+use Rattle.std.specs.Prelude.{◌≡◌, ℕ, suc, ◌%◌, ◌^◌, ◌<◌, ◌≤◌, ◌⊎◌, Bool, true, false, List, [], ◌∷◌, length, Some, None, IsTrue, Result, Ok, Err, All, AllPairs, ℤ, pos, ◌≤ℤ◌, ◌<ℤ◌, codes}
 use Rattle.toml.specs.Data.{Data, boolean, get}
 use Rattle.ct_codes.specs.declared.entry.Entry.{Entry}
 use Rattle.ct_fields.specs.Field.{field_text}
-use Rattle.ct_fields.specs.Tables.{IsOfKind, HasNumber, IsNamed, HasOther}
+use Rattle.ct_fields.specs.Tables.{IsOfKind, HasNumber}
+use Rattle.ct_fields.specs.HasCites.{HasRightCites, HasWrongCites, HasOther, HasLast}
 use Rattle.ct_fields.specs.StatesEntry.{HasLength, HasDistance, StatesPlainEntry, IsPlainEntryFault}
 use Rattle.ct_fields.specs.declared.field.FieldName.{FieldName}
 use Rattle.ct_fields.specs.declared.field.FieldName.TheVariants as name
@@ -56,10 +57,10 @@ pub record HasDual (document : Data) (d : Dual) : Type 0 where
   pub multipliers : HasMultipliers d.entry document d.c
   pub allowances : HasAllowances d.entry d.even document d.y
 
--- the same, and no other key
+-- the same, and what stands last is right
 pub record StatesDual (document : Data) (d : Dual) : Type 0 where
   pub fields : HasDual document d
-  pub only : (key : List ℕ) → IsSome (get key document) → IsNamed dual_fields key
+  pub last : HasLast dual_fields document
 
 -- where each fault comes for a document of kind dual; each line is the case that comes after those above it
 abbrev pub IsDualFault : Data → FileFault → Type 0
@@ -72,10 +73,12 @@ IsDualFault document (Field name.C) =
 IsDualFault document (Field name.Y) =
     (e : Entry) × (even : Bool) × (c : List ℤ) × StatesEven document e even × HasMultipliers e document c
     × ((y : List (ℕ × ℤ)) → ¬ (HasAllowances e even document y))
+-- the cites are wrong
+IsDualFault document (Field name.Cites) = (d : Dual) × HasDual document d × HasWrongCites document
 -- the length or the distance is missing or wrong
 IsDualFault document (Field name) = IsPlainEntryFault document name
 -- there is another key
-IsDualFault document Unknown = (d : Dual) × (key : List ℕ) × HasDual document d × HasOther dual_fields document key
+IsDualFault document Unknown = (d : Dual) × (key : List ℕ) × HasDual document d × HasRightCites document × HasOther dual_fields document key
 -- no other fault comes
 IsDualFault document fault = ⊥
 
@@ -114,19 +117,23 @@ pub record HasJohnsonDual (document : Data) (d : Dual) : Type 0 where
   pub multipliers : HasMultipliers d.entry document d.c
   pub none_allowed : d.y ≡ []
 
--- the same, and no other key
+-- the same, and what stands last is right
 pub record StatesJohnsonDual (document : Data) (d : Dual) : Type 0 where
   pub fields : HasJohnsonDual document d
-  pub only : (key : List ℕ) → IsSome (get key document) → IsNamed johnson_dual_fields key
+  pub last : HasLast johnson_dual_fields document
 
 -- where each fault comes for a document of kind jdual; each line is the case that comes after those above it
 abbrev pub IsJohnsonDualFault : Data → FileFault → Type 0
 -- the multipliers are missing or wrong
 IsJohnsonDualFault document (Field name.C) = (e : Entry) × StatesWeightedEntry document e × ((c : List ℤ) → ¬ (HasMultipliers e document c))
+-- the cites are wrong
+IsJohnsonDualFault document (Field name.Cites) = (d : Dual) × HasJohnsonDual document d × HasWrongCites document
 -- the length, the distance or the weight is missing or wrong
 IsJohnsonDualFault document (Field name) = IsWeightedEntryFault document name
 -- there is another key
-IsJohnsonDualFault document Unknown = (d : Dual) × (key : List ℕ) × HasJohnsonDual document d × HasOther johnson_dual_fields document key
+IsJohnsonDualFault document Unknown =
+    (d : Dual) × (key : List ℕ) × HasJohnsonDual document d × HasRightCites document
+    × HasOther johnson_dual_fields document key
 -- no other fault comes
 IsJohnsonDualFault document fault = ⊥
 

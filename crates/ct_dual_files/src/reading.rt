@@ -8,7 +8,7 @@ ghost use Rattle.ct_dual_files.specs.Dual.{dual_of, johnson_dual_of};
 use crate::entries::{plain_entry_field, weighted_entry_field};
 use crate::fields::{allowances_field, even_field, multipliers_field};
 use ct_duals::{Allowances, Dual, Multipliers};
-use ct_fields::{FieldName, FileFault, no_other_key};
+use ct_fields::{FieldName, FileFault, last_fields};
 use std::alloc::Global;
 use toml::Value;
 
@@ -35,7 +35,7 @@ fn read_dual(alloc: Global, document: &Value) -> Result<Dual, FileFault>
         FieldName::C,
         FieldName::Y,
     ];
-    no_other_key(document, &names)?;
+    last_fields(document, &names)?;
     let c = Multipliers::from_vec(c);
     let y = Allowances::from_vec(y);
     Ok(Dual { entry, even, c, y })
@@ -56,7 +56,7 @@ fn read_johnson_dual(alloc: Global, document: &Value) -> Result<Dual, FileFault>
     let entry = weighted_entry_field(document)?;
     let c = multipliers_field(alloc, entry, document)?;
     let names = [FieldName::N, FieldName::D, FieldName::W, FieldName::C];
-    no_other_key(document, &names)?;
+    last_fields(document, &names)?;
     let c = Multipliers::from_vec(c);
     let y = Allowances::from_vec(Vec::new(alloc));
     Ok(Dual {
