@@ -12,6 +12,8 @@ pub enum Answer {
     Accepted(Option<u32>),
     /// The piece is gone.
     Withdrawn,
+    /// So many pieces are gone.
+    WithdrawnAll(u32),
     /// The text of a refusal.
     Refused(Vec<u8>),
     /// Memory ran out.
@@ -46,6 +48,18 @@ impl Answer {
         }
     }
 
+    /// The answer of a withdrawal with all that rests on a piece. `Err` is want of memory for the text of a refusal.
+    pub fn of_withdrawal_of_all(
+        alloc: Global,
+        id: Id,
+        came: Result<u32, WithdrawFault>,
+    ) -> Result<Answer, AllocError> {
+        match came {
+            Ok(count) => Ok(Answer::WithdrawnAll(count)),
+            Err(fault) => Answer::of_withdrawal(alloc, id, Err(fault)),
+        }
+    }
+
     /// Whether the ledger has to be as before.
     pub fn is_fault(&self) -> bool {
         matches!(self, Answer::Refused(_) | Answer::Memory)
@@ -57,6 +71,7 @@ impl Answer {
             Answer::Accepted(Some(size)) => return println!(rt; "accepted size {size}"),
             Answer::Accepted(None) => "accepted",
             Answer::Withdrawn => "withdrawn",
+            Answer::WithdrawnAll(count) => return println!(rt; "withdrawn count {count}"),
             Answer::Refused(text) => {
                 return println!(rt; "refused {}", str::from_utf8(text).unwrap_or("no text"));
             }

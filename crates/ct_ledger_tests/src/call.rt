@@ -13,6 +13,7 @@ pub enum Call {
     Submit,
     Admit,
     Withdraw,
+    WithdrawAll,
 }
 
 impl Call {
@@ -22,6 +23,7 @@ impl Call {
             Call::Submit => "submit",
             Call::Admit => "admit",
             Call::Withdraw => "withdraw",
+            Call::WithdrawAll => "withdraw_all",
         }
     }
 }
@@ -51,5 +53,6 @@ pub fn make(
         }
         Call::Admit => admit(alloc, ledger, id, piece.document),
         Call::Withdraw => Answer::of_withdrawal(alloc, id, ledger.withdraw(id)),
+        Call::WithdrawAll => Answer::of_withdrawal_of_all(alloc, id, ledger.withdraw_all(id)),
     }
 }

@@ -14,6 +14,12 @@ const HEXA: Stated<'static> = Stated {
     document: "kind='words'\nn=10\nd=6\nwords=['1111111111','1111000000','1000111000']",
 };
 
+/// The code of Nordstrom and Robinson.
+pub const NR: Stated<'static> = Stated {
+    id: "nr",
+    document: "kind='cosets'\nn=16\nd=6\nbasis=['1111111111111111','0000000011111111','0000111100001111','0011001100110011','0101010101010101']\nrepresentatives=['0000000000000000','0001000100011110','0000010100111001','0000001101101010','0000011001011100','0001001001000111','0001010001110010','0001011100100100']",
+};
+
 const PARTITION: Stated<'static> = Stated {
     id: "p4",
     document: "kind='partition'\nn=4\nd=4\nd1=2\nclasses=[['0000','1111'],['0011','1100'],['0101','1010'],['0110','1001']]",
@@ -40,10 +46,7 @@ pub const TRIED: [Stated<'static>; 7] = [
         id: "fano",
         document: "kind='words'\nn=7\nd=4\nw=3\nwords=['1101000','0110100','0011010','0001101','1000110','0100011','1010001']",
     },
-    Stated {
-        id: "nr",
-        document: "kind='cosets'\nn=16\nd=6\nbasis=['1111111111111111','0000000011111111','0000111100001111','0011001100110011','0101010101010101']\nrepresentatives=['0000000000000000','0001000100011110','0000010100111001','0000001101101010','0000011001011100','0001001001000111','0001010001110010','0001011100100100']",
-    },
+    NR,
     Stated {
         id: "q4",
         document: "kind='partition'\nn=4\nd=4\nw=2\nd1=2\nclasses=[['0011','1100'],['0101','1010'],['0110','1001']]",
@@ -66,8 +69,20 @@ pub const TRIED: [Stated<'static>; 7] = [
     },
 ];
 
-/// Calls that are refused: the id stands, words are too near each other, no piece has the id, another piece names it.
-pub const REFUSED: [(Call, Stated<'static>); 4] = [
+/// Codes made of that of Nordstrom and Robinson: it without a place, and this without another one.
+pub const OVER_NR: [Stated<'static>; 2] = [
+    Stated {
+        id: "nr15",
+        document: "kind='build'\nop='puncture'\nn=15\nd=5\npart='nr'\nplaces=[0]",
+    },
+    Stated {
+        id: "nr14",
+        document: "kind='build'\nop='puncture'\nn=14\nd=4\npart='nr15'\nplaces=[0]",
+    },
+];
+
+/// Calls that are refused: the id stands, words are too near each other, no piece has the id, another piece names it, and again no piece has the id.
+pub const REFUSED: [(Call, Stated<'static>); 5] = [
     (Call::Submit, HEXA),
     (
         Call::Submit,
@@ -84,4 +99,11 @@ pub const REFUSED: [(Call, Stated<'static>); 4] = [
         },
     ),
     (Call::Withdraw, PARTITION),
+    (
+        Call::WithdrawAll,
+        Stated {
+            id: "none",
+            document: "",
+        },
+    ),
 ];

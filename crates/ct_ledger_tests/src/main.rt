@@ -9,7 +9,7 @@ mod noted;
 
 use crate::answer::Answer;
 use crate::call::{Call, make};
-use crate::documents::{REFUSED, STANDING, Stated, TRIED};
+use crate::documents::{NR, OVER_NR, REFUSED, STANDING, Stated, TRIED};
 use crate::noted::Noted;
 use ct_ledger::Ledger;
 use std::io;
@@ -87,7 +87,10 @@ fn try_all(rt: &(impl Print + Eprint + AllocGlobal), ledger: &mut Ledger) -> io:
     for (call, piece) in &REFUSED {
         try_call(rt, ledger, *call, *piece)?;
     }
-    Ok(())
+    for piece in &OVER_NR {
+        try_call(rt, ledger, Call::Submit, *piece)?;
+    }
+    try_call(rt, ledger, Call::WithdrawAll, NR)
 }
 
 /// Prints how many pieces and bounds the ledger has.

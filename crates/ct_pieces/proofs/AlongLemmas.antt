@@ -1,6 +1,6 @@
 -- What is taken along with a piece, and that the others stand.
-use Rattle.std.proofs.Common.{◌≡◌, ℕ, zero, suc, ◌<◌, ◌≤◌, Bool, true, false, ◌||◌, cond, not, List, [], ◌∷◌, ◌++◌, length, map, get_or, Some, Ok, Err, refl, sym, ap, subst, arith, inl, inr, ◌⊎◌}
-use Rattle.std.specs.Prelude.{slice_get, remove}
+use Rattle.std.proofs.Common.{◌≡◌, ℕ, suc, ◌<◌, ◌≤◌, Bool, true, false, ◌||◌, cond, not, List, [], ◌∷◌, ◌++◌, length, map, Some, Ok, Err, refl, sym, ap, subst, arith, inl, inr, ◌⊎◌}
+use Rattle.std.specs.Prelude.{slice_get}
 use Rattle.std.specs.Str.{bytes_eq}
 use Rattle.std.proofs.lemmas.Slice.Eq.{bytes_eq-Decides}
 use Rattle.ct_pieces.specs.Kind.{names}
@@ -171,56 +171,6 @@ unmarked-passing out (p ∷ ps) = at (out p.id) (unmarked-passing out ps) where
 
 pub unmarked-along : (pieces : List PieceValue) (id : List ℕ) → unmarked (marks_along pieces id) pieces ≡ without_all (taken_along pieces id) pieces
 unmarked-along pieces id = unmarked-passing (is_among (taken_along pieces id)) pieces
-
--- a list of which only items from a place on are left out where they are marked
-unfoldable pub unmarked_from : {X : Type 0} → ℕ → List Bool → List X → List X
-unmarked_from zero marks xs = unmarked marks xs
-unmarked_from (suc k) marks [] = []
-unmarked_from (suc k) [] (x ∷ xs) = x ∷ xs
-unmarked_from (suc k) (mark ∷ marks) (x ∷ xs) = x ∷ unmarked_from k marks xs
-
-pub unmarked_from-end : {X : Type 0} (marks : List Bool) (xs : List X) → length marks ≡ length xs → unmarked_from (length marks) marks xs ≡ xs
-unfolding unmarked_from
-unmarked_from-end [] xs same = refl
-unmarked_from-end (mark ∷ marks) [] same = refl
-unmarked_from-end (mark ∷ marks) (x ∷ xs) same = ap (λ ys. x ∷ ys) (unmarked_from-end marks xs (omega (arith, same)))
-
-pub unmarked_from-start : {X : Type 0} (marks : List Bool) (xs : List X) → unmarked_from 0 marks xs ≡ unmarked marks xs
-unfolding unmarked_from
-unmarked_from-start marks xs = refl
-
--- one more item is left out, or stays
-pub unmarked_from-out : {X : Type 0} (marks : List Bool) (xs : List X) (k : ℕ) → k < length xs → length marks ≡ length xs → get_or marks k false ≡ true
-    → remove (unmarked_from (suc k) marks xs) k ≡ unmarked_from k marks xs
-unfolding unmarked_from
-unmarked_from-out [] [] k within same out = absurd (omega arith)
-unmarked_from-out [] (x ∷ xs) k within same out = absurd (omega (arith, same))
-unmarked_from-out (mark ∷ marks) [] k within same out = absurd (omega arith)
-unmarked_from-out (true ∷ marks) (x ∷ xs) zero within same out = refl
-unmarked_from-out (false ∷ marks) (x ∷ xs) zero within same out = absurd cc
-unmarked_from-out (mark ∷ marks) (x ∷ xs) (suc k) within same out =
-    ap (λ ys. x ∷ ys) (unmarked_from-out marks xs k (omega (arith, within)) (omega (arith, same)) out)
-
-pub unmarked_from-in : {X : Type 0} (marks : List Bool) (xs : List X) (k : ℕ) → k < length xs → length marks ≡ length xs → get_or marks k false ≡ false
-    → unmarked_from (suc k) marks xs ≡ unmarked_from k marks xs
-unfolding unmarked_from
-unmarked_from-in [] [] k within same stays = absurd (omega arith)
-unmarked_from-in [] (x ∷ xs) k within same stays = absurd (omega (arith, same))
-unmarked_from-in (mark ∷ marks) [] k within same stays = absurd (omega arith)
-unmarked_from-in (true ∷ marks) (x ∷ xs) zero within same stays = absurd cc
-unmarked_from-in (false ∷ marks) (x ∷ xs) zero within same stays = refl
-unmarked_from-in (mark ∷ marks) (x ∷ xs) (suc k) within same stays =
-    ap (λ ys. x ∷ ys) (unmarked_from-in marks xs k (omega (arith, within)) (omega (arith, same)) stays)
-
-pub unmarked_from-within : {X : Type 0} (marks : List Bool) (xs : List X) (k : ℕ) → k < length xs → length marks ≡ length xs
-    → k < length (unmarked_from (suc k) marks xs)
-unfolding unmarked_from
-unmarked_from-within [] [] k within same = absurd (omega arith)
-unmarked_from-within [] (x ∷ xs) k within same = absurd (omega (arith, same))
-unmarked_from-within (mark ∷ marks) [] k within same = absurd (omega arith)
-unmarked_from-within (mark ∷ marks) (x ∷ xs) zero within same = omega arith
-unmarked_from-within (mark ∷ marks) (x ∷ xs) (suc k) within same =
-    let rest = unmarked_from-within marks xs k (omega (arith, within)) (omega (arith, same)) in omega (arith, rest)
 
 pub length-unmarked : {X : Type 0} (marks : List Bool) (xs : List X) → length (unmarked marks xs) ≤ length xs
 length-unmarked [] xs = omega arith

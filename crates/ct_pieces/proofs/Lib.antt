@@ -15,3 +15,5 @@ pub mod DualSupports
 pub mod EarlierParts
 pub mod AlongLemmas
 pub mod TakenAlong
+mod LeftOut
+mod AlongPass

@@ -32,7 +32,7 @@ names_any-at (i ∷ ids) p h = at (names p.evidence i) refl h (names_any-at ids 
   at true named h rest = (i, ap (λ (b : Bool). b || is_among ids i) ((bytes_eq-Decides i i).1 refl), named)
   at false named h rest = let found = rest h in (found.0, later (bytes_eq i found.0) found.0 found.1, found.2)
 
-has_id-take : (id : List ℕ) (ps : List PieceValue) (k : ℕ) → has_id id (take k ps) ≡ true → has_id id ps ≡ true
+pub has_id-take : (id : List ℕ) (ps : List PieceValue) (k : ℕ) → has_id id (take k ps) ≡ true → has_id id ps ≡ true
 has_id-take id [] zero h = absurd cc
 has_id-take id [] (suc k) h = absurd cc
 has_id-take id (p ∷ ps) zero h = absurd cc

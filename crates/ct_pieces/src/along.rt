@@ -1,94 +1,117 @@
 //! The pieces that go with one that is withdrawn, because they rest on it, and those that are left without them.
 
-ghost use Rattle.std.specs.Prelude.{◌≡◌, ◌+◌, ◌<◌, ◌≤◌, IfOk, length, map, remove};
+ghost use Rattle.std.specs.Prelude.{◌≡◌, ◌||◌, ◌≤◌, ℕ, List, true, if◌then◌else◌, IfOk, OnOk, length};
+ghost use Rattle.std.specs.List.{list_any};
+ghost use Rattle.std.specs.Option.{option_to_list};
+ghost use Rattle.std.specs.Str.{bytes_eq};
+ghost use Rattle.ct_pieces.specs.Inside.Names.{has_name};
 ghost use Rattle.ct_pieces.specs.Inside.Unmarked.{unmarked};
+ghost use Rattle.ct_pieces.specs.Kind.{parts_of};
 ghost use Rattle.ct_pieces.specs.Piece.{stored_words};
-ghost use Rattle.ct_pieces.specs.Withdrawal.{names_any, taken_along, is_among, marks_along};
+ghost use Rattle.ct_pieces.specs.Standing.{AreStanding};
+ghost use Rattle.ct_pieces.specs.Withdrawal.{marks_along};
+ghost use Rattle.ct_pieces.specs.declared.limits.TheConstants.{MAX_STORED};
 
 use crate::piece::Piece;
 use crate::pieces::stored_by;
-use ct_codes::Code;
+use ct_files::Evidence;
 use ct_text::Id;
 use std::alloc::{AllocError, Global};
+use std::collections::HashSet;
 
-/// Whether the piece names one of the ids as a part.
-fn names_any(ids: &[Id], piece: &Piece) -> bool
-    ensures { result ≡ names_any ids.now piece.now }
+/// Whether the set has the id.
+fn has<'a>(names: &HashSet<&'a [u8]>, id: &'a Id) -> bool
+    ensures { result ≡ has_name names.now id.now }
 {
-    ids.iter().any(|id| piece.names(*id))
+    names.contains(&id.text())
 }
 
-/// Whether the id is one of these.
-fn is_among(ids: &[Id], id: Id) -> bool
-    ensures { result ≡ is_among ids.now id }
+/// Whether the set has the id, where there is one.
+fn has_other<'a>(names: &HashSet<&'a [u8]>, other: &'a Option<Id>) -> bool
+    ensures { result ≡ list_any (has_name names.now) (option_to_list other.now) }
 {
-    ids.iter().any(|other| *other == id)
-}
-
-/// The id, and those of the pieces that rest on the piece of the id. `Err` is want of memory.
-fn taken_along(alloc: Global, pieces: &[Piece], id: Id) -> Result<Vec<Id>, AllocError>
-    ensures { IfOk result (λ ids. ids.items ≡ taken_along pieces.now id) }
-{
-    let mut ids = vec![in alloc; id]?;
-    for piece in pieces {
-        if names_any(&ids, piece) {
-            ids.push(piece.id())?;
-        }
+    match other {
+        Some(id) => has(names, id),
+        None => false,
     }
-    Ok(ids)
 }
 
-/// For each piece, whether its id is one of these. `Err` is want of memory.
-fn marks(alloc: Global, pieces: &[Piece], ids: &[Id]) -> Result<Vec<bool>, AllocError>
-    ensures { IfOk result (λ gone. gone.items ≡ map (λ p. is_among ids.now p.id) pieces.now) }
+/// Whether the set has one of the pairs' ids.
+fn has_of_pairs<'a>(names: &HashSet<&'a [u8]>, pairs: &'a [(Id, Id)]) -> bool
+    ensures { result ≡ list_any (λ pair. has_name names.now pair.0 || has_name names.now pair.1) pairs.now }
 {
-    let mut gone = Vec::with_capacity(alloc, pieces.len())?;
-    for piece in pieces {
-        gone.push(is_among(ids, piece.id()))?;
-    }
-    Ok(gone)
+    pairs
+        .iter()
+        .any(|pair| has(names, &pair.0) || has(names, &pair.1))
 }
 
-/// For each piece, whether it goes with the piece of the id. `Err` is want of memory.
+/// Whether the set has one of the parts that the evidence names.
+fn has_part<'a>(names: &HashSet<&'a [u8]>, evidence: &'a Evidence) -> bool
+    ensures { result ≡ list_any (has_name names.now) (parts_of evidence.now) }
+{
+    match evidence {
+        Evidence::Build { part, other, .. } => has(names, part) || has_other(names, other),
+        Evidence::Product { pairs, .. } => has_of_pairs(names, pairs.as_slice()),
+        _ => false,
+    }
+}
+
+/// Whether the piece goes where those of the set do: it has the id, or names one of them as a part.
+fn goes<'a>(names: &HashSet<&'a [u8]>, piece: &'a Piece, id: Id) -> bool
+    ensures { result ≡ (bytes_eq piece.now.id id || list_any (has_name names.now) (parts_of piece.now.evidence)) }
+{
+    piece.id() == id || has_part(names, piece.evidence())
+}
+
+/// Puts the name of the piece to the others. `Err` is want of memory.
+fn put_name<'a>(names: &mut HashSet<&'a [u8]>, piece: &'a Piece) -> Result<(), AllocError>
+    ensures { OnOk result ((id : List ℕ) → has_name names.new id ≡ (if bytes_eq piece.now.id id then true else has_name names.old id)) }
+{
+    names.insert(piece.name())?;
+    Ok(())
+}
+
+/// For each piece, whether it goes with the piece of the id. A part stands before what names it, so one walk finds all that go. `Err` is
+/// want of memory.
 pub(crate) fn marks_along(alloc: Global, pieces: &[Piece], id: Id) -> Result<Vec<bool>, AllocError>
+    requires { AreStanding pieces.now }
     ensures { IfOk result (λ gone. gone.items ≡ marks_along pieces.now id) }
 {
-    let ids = taken_along(alloc, pieces, id)?;
-    marks(alloc, pieces, &ids)
+    let mut marks = Vec::with_capacity(alloc, pieces.len())?;
+    let mut names = HashSet::new(alloc);
+    for piece in pieces {
+        let gone = goes(&names, piece, id);
+        if gone {
+            put_name(&mut names, piece)?;
+        }
+        marks.push(gone)?;
+    }
+    Ok(marks)
 }
 
-/// Takes out the piece at the place with the code that is kept beside it: how many words it stored.
-pub(crate) fn take_at(pieces: &mut Vec<Piece>, kept: &mut Vec<Option<Code>>, place: usize) -> u64
-    requires place { place < length pieces.old.items }
-    requires kept { place < length kept.old.items }
-    ensures pieces { pieces.new.items ≡ remove pieces.old.items place }
-    ensures kept { kept.new.items ≡ remove kept.old.items place }
-    ensures stored { stored_words pieces.new.items + result ≡ stored_words pieces.old.items }
+/// Leaves out the marked items; the others keep their order.
+pub(crate) fn leave_out<T: Drop>(items: &mut Vec<T>, gone: &[bool])
+    requires { length gone.now ≡ length items.old.items }
+    ensures { items.new.items ≡ unmarked gone.now items.old.items }
 {
-    let piece = pieces.remove(place);
-    kept.remove(place);
-    stored_by(&piece)
-}
-
-/// Leaves out the marked pieces with the codes that are kept beside them: how many words the others store.
-pub(crate) fn leave_out(
-    pieces: &mut Vec<Piece>,
-    kept: &mut Vec<Option<Code>>,
-    stored: u64,
-    gone: &[bool],
-) -> u64
-    requires marks { length gone.now ≡ length pieces.old.items }
-    requires kept { length gone.now ≡ length kept.old.items }
-    requires stored { stored ≡ stored_words pieces.old.items }
-    ensures pieces { pieces.new.items ≡ unmarked gone.now pieces.old.items }
-    ensures kept { kept.new.items ≡ unmarked gone.now kept.old.items }
-    ensures stored { result ≡ stored_words pieces.new.items }
-{
-    let mut left = stored;
-    for place in (0..gone.len()).rev() {
-        if gone[place] {
-            left -= take_at(pieces, kept, place);
+    let mut left = 0;
+    for place in 0..gone.len() {
+        if !gone[place] {
+            items.swap(left, place);
+            left += 1;
         }
     }
-    left
+    items.truncate(left);
+}
+
+/// How many words the pieces store.
+pub(crate) fn stored_words(pieces: &[Piece]) -> u64
+    requires { stored_words pieces.now ≤ MAX_STORED }
+    ensures { result ≡ stored_words pieces.now }
+{
+    let mut stored = 0;
+    for piece in pieces {
+        stored += stored_by(piece);
+    }
+    stored
 }

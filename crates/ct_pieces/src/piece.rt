@@ -62,6 +62,13 @@ impl Piece {
         self.id
     }
 
+    /// The bytes of its id.
+    pub(crate) fn name(&self) -> &[u8]
+        ensures { result.now ≡ self.now.id }
+    {
+        self.id.text()
+    }
+
     /// What its document states.
     pub fn evidence(&self) -> &Evidence
         ensures evidence { result.now ≡ self.now.evidence }

@@ -16,7 +16,7 @@ ghost use Rattle.ct_pieces.specs.Submission.{AddsPiece};
 ghost use Rattle.ct_pieces.specs.Supports.{support_of, supports_of};
 ghost use Rattle.ct_pieces.specs.Piece.{place_of};
 
-use crate::along::{leave_out, marks_along};
+use crate::along::{leave_out, marks_along, stored_words};
 use crate::check::{Made, check_document, make_piece};
 use crate::dump::put_dump;
 use crate::fault::WithdrawFault;
@@ -319,7 +319,9 @@ impl Pieces {
         ensures count { result + length self.new ≡ length self.old }
     {
         let before = self.pieces.len();
-        self.stored = leave_out(&mut self.pieces, &mut self.kept, self.stored, gone);
+        leave_out(&mut self.pieces, gone);
+        leave_out(&mut self.kept, gone);
+        self.stored = stored_words(&self.pieces);
         (before - self.pieces.len()) as u32
     }
 

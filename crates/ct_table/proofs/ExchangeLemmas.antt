@@ -1,6 +1,6 @@
--- Supports that give way to others at some places, and back again; and the supports that are left without those at some places.
-use Rattle.std.proofs.Common.{◌≡◌, ℕ, zero, suc, ◌+◌, ◌<◌, ◌≤◌, ◌==◌, Bool, true, false, List, [], ◌∷◌, ◌++◌, length, replicate, take, drop, get_or, Option, Some, None, option_map, slice_get, slice_set, refl, sym, ap, ap₂, subst, ◌∙◌, arith}
-use Rattle.std.specs.Prelude.{if◌then◌else◌, remove}
+-- Supports that give way to others at some places, and back again.
+use Rattle.std.proofs.Common.{◌≡◌, ℕ, zero, suc, ◌+◌, ◌<◌, ◌≤◌, Bool, true, false, List, [], ◌∷◌, ◌++◌, length, replicate, take, drop, Option, Some, None, option_map, slice_get, slice_set, refl, sym, ap, ap₂, subst, ◌∙◌, arith}
+use Rattle.std.specs.Prelude.{if◌then◌else◌}
 use Rattle.std.proofs.lemmas.Bool.Decides.{nat_tests}
 use Rattle.std.proofs.lemmas.List.{take_at}
 use Rattle.std.proofs.lemmas.Option.{none-some, same_Some}
@@ -203,39 +203,3 @@ ArePlaces-voided gone supports places are = record {
         absurd (nothing_given e (subst (λ (y : Support). GivesTo y e) (sym (same_Some Nothing support is)) gives))
     go place support e entry gives false (Some s) at is =
         are.given place s e entry at (subst (λ (y : Support). GivesTo y e) (sym (same_Some s support is)) gives)
-
--- a list without the items of a set from a place on
-unfoldable pub without_from : {X : Type 0} → Places → ℕ → List X → List X
-without_from gone zero xs = without gone xs
-without_from gone (suc k) [] = []
-without_from gone (suc k) (x ∷ xs) = x ∷ without_from (past gone) k xs
-
-pub without_from-end : {X : Type 0} (gone : Places) (xs : List X) → without_from gone (length xs) xs ≡ xs
-unfolding without_from without
-without_from-end gone [] = refl
-without_from-end gone (x ∷ xs) = ap (λ ys. x ∷ ys) (without_from-end (past gone) xs)
-
-pub without_from-start : {X : Type 0} (gone : Places) (xs : List X) → without_from gone 0 xs ≡ without gone xs
-unfolding without_from
-without_from-start gone xs = refl
-
--- one more item is left out, or stays
-pub without_from-out : {X : Type 0} (gone : Places) (xs : List X) (k : ℕ) → k < length xs → gone k ≡ true
-    → remove (without_from gone (suc k) xs) k ≡ without_from gone k xs
-unfolding without_from
-without_from-out gone [] k within out = absurd (omega arith)
-without_from-out gone (x ∷ xs) zero within out = sym (without-out gone x xs out)
-without_from-out gone (x ∷ xs) (suc k) within out = ap (λ ys. x ∷ ys) (without_from-out (past gone) xs k (omega arith) out)
-
-pub without_from-in : {X : Type 0} (gone : Places) (xs : List X) (k : ℕ) → k < length xs → gone k ≡ false
-    → without_from gone (suc k) xs ≡ without_from gone k xs
-unfolding without_from
-without_from-in gone [] k within stays = absurd (omega arith)
-without_from-in gone (x ∷ xs) zero within stays = sym (without-in gone x xs stays)
-without_from-in gone (x ∷ xs) (suc k) within stays = ap (λ ys. x ∷ ys) (without_from-in (past gone) xs k (omega arith) stays)
-
-pub length-without_from : {X : Type 0} (gone : Places) (xs : List X) (k : ℕ) → k < length xs → k < length (without_from gone (suc k) xs)
-unfolding without_from
-length-without_from gone [] k within = absurd (omega arith)
-length-without_from gone (x ∷ xs) zero within = omega arith
-length-without_from gone (x ∷ xs) (suc k) within = let rest = length-without_from (past gone) xs k (omega arith) in omega (arith, rest)

@@ -14,3 +14,4 @@ pub mod CallLemmas
 pub mod ReasonLemmas
 pub mod GrowthLemmas
 mod ExchangeLemmas
+mod LeftOut

@@ -47,9 +47,12 @@ pub(crate) fn exchange(supports: &mut [Support], others: &mut [Support], gone: &
 pub(crate) fn leave_out(supports: &mut Vec<Support>, gone: &[bool])
     ensures { supports.new.items ≡ without (marked gone.now) supports.old.items }
 {
-    for place in (0..supports.len()).rev() {
-        if is_gone(gone, place) {
-            supports.remove(place);
+    let mut left = 0;
+    for place in 0..supports.len() {
+        if !is_gone(gone, place) {
+            supports.swap(left, place);
+            left += 1;
         }
     }
+    supports.truncate(left);
 }

@@ -1,10 +1,6 @@
-use Rattle.std.proofs.Common.{◌≡◌}
-use Rattle.ct_pieces.specs.Piece.{stored_words}
-use Rattle.ct_pieces.proofs.AlongLemmas.{unmarked_from}
+use Rattle.ct_pieces.proofs.LeftOut.{LeavesOut}
 use Rattle.ct_pieces.proofs.along.leave_out.Given as goal
 
--- the later ones are left out where they are marked
+-- what has been looked at is in place
 abbrev pub invariant-loop-place : goal.invariant-loop-place
-invariant-loop-place l = (l.pieces.items ≡ unmarked_from l.place l.gone l.fn.pieces.items)
-    × (l.kept.items ≡ unmarked_from l.place l.gone l.fn.kept.items)
-    × (l.left ≡ stored_words l.pieces.items)
+invariant-loop-place g l = LeavesOut l.gone l.initial.items.items l.items.items l.left l.place
