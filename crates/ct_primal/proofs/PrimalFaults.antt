@@ -43,6 +43,29 @@ sound-from_none number p none = go (int_lt p.q (pos 1)) refl none
       rows = λ k some within. row k some (int_lt (transformed number p k) (pos 0)) refl (none_below (row_fault number p) (suc (degree_of p.entry)) h k (omega arith));
     }
 
+-- and where the primal is sound, there is none
+pub none-from_sound : (number : ℕ → ℕ → ℤ) (p : PrimalValue) → IsSound number p → primal_fault number p ≡ None
+unfolding primal_fault
+none-from_sound number p sound =
+    ap (λ b. first_of (cond b (Some Scale) None) (first_below (row_fault number p) (suc (degree_of p.entry)))) (some_scale p.q sound.scale)
+    ∙ none (suc (degree_of p.entry)) (omega arith)
+  where
+    some_scale : (z : ℤ) → pos 1 ≤ℤ z → int_lt z (pos 1) ≡ false
+    some_scale z h = grind (arith, ints)
+
+    not_below : (z : ℤ) → pos 0 ≤ℤ z → int_lt z (pos 0) ≡ false
+    not_below z h = grind (arith, ints)
+
+    row : (k : ℕ) → k ≤ degree_of p.entry → row_fault number p k ≡ None
+    row zero l = refl
+    row (suc k) l =
+        ap₂ (λ a b. cond (a && b) (Some (Below (suc k) (transformed number p (suc k)))) None) (le-leb 1 (suc k) (omega arith))
+        (not_below (transformed number p (suc k)) (sound.rows (suc k) (omega arith) l))
+
+    none : (m : ℕ) → m ≤ suc (degree_of p.entry) → first_below (row_fault number p) m ≡ None
+    none zero l = refl
+    none (suc m) l = ap (λ o. first_of o (row_fault number p m)) (none m (omega arith)) ∙ row m (omega arith)
+
 -- numbers that are not negative add up to at least 0
 total-nonneg_within : (a : List (ℕ × ℤ)) → AllByRecursion (λ u. pos 0 ≤ℤ u.1) a → pos 0 ≤ℤ total (λ u. u.1) a
 total-nonneg_within [] h = omega (arith, ints)

@@ -1,6 +1,6 @@
 //! What primals promise, each a clause of a function that does nothing.
 
-ghost use Rattle.std.specs.Prelude.{◌≡◌, ◌≤◌, [], ◌∷◌, true, false, ℤ, pos, negsuc, Some, None};
+ghost use Rattle.std.specs.Prelude.{◌≡◌, ℕ, ◌≤◌, [], ◌∷◌, true, false, ℤ, pos, negsuc, Some, None};
 ghost use Rattle.ct_codes.specs.Entry.{unrestricted, constant_weight};
 ghost use Rattle.ct_codes.specs.Numbers.{numbers_of, combination};
 ghost use Rattle.ct_duals.specs.declared.dual.Dual.{Dual};
@@ -20,6 +20,12 @@ pub fn primals_lie_below_duals<S: Scheme>(scheme: &S)
         IsPrimal primal → IsSound (S.number scheme.now) primal → IsDual dual → dual.entry ≡ primal.entry → dual.even ≡ primal.even →
         dual.y ≡ [] → dual_fault (S.number scheme.now) dual ≡ None →
         primal_value primal ≤ dual_bound dual (combination (S.number scheme.now) dual.c 0) [] }
+{}
+
+/// A primal has no fault exactly where it is sound.
+pub fn sound_primals_have_no_fault()
+    ensures accepted { (number : ℕ → ℕ → ℤ) (primal : PrimalValue) → IsSound number primal → primal_fault number primal ≡ None }
+    ensures sound { (number : ℕ → ℕ → ℤ) (primal : PrimalValue) → primal_fault number primal ≡ None → IsSound number primal }
 {}
 
 /// A primal of A(8,4,4) with the value 14, which is A(8,4,4) itself; a larger number at the last index is refused, and so is the scale

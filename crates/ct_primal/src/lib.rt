@@ -8,5 +8,5 @@ mod solution;
 
 pub use check::check_primal;
 pub use fault::PrimalFault;
-pub use laws::{known_primals, primals_lie_below_duals};
+pub use laws::{known_primals, primals_lie_below_duals, sound_primals_have_no_fault};
 pub use solution::Primal;
