@@ -14,77 +14,94 @@ use Rattle.ct_finder_run.specs.Sum.{next_at, next_from, after}
 use Rattle.ct_finder_run.proofs.Entries.{same_column-is}
 use Rattle.ct_finder_run.proofs.Turns.{IsKept, kept-turned}
 
--- a turn that is not wide keeps it
-kept-unless_wide : (number : ℕ → ℕ → ℤ) (cs : List Column) (degree : ℕ) (o : Option ℤ) (t next : Tableau) → IsKept number cs degree t
-    → unless_wide o t ≡ goes next → IsKept number cs degree next
-kept-unless_wide number cs degree None t next kept is = let same : t ≡ next = cc in subst (IsKept number cs degree) same kept
-kept-unless_wide number cs degree (Some x) t next kept is = absurd cc
+-- what each turn keeps that a run makes, and what each turn keeps whatever the size of its entries
+abbrev pub KeepsNarrow : List Column → (Tableau → Type 0) → Type 0
+KeepsNarrow cs P =
+    (t : Tableau) (e i : ℕ) → entering cs t.cost ≡ Some e → pivot_row e t ≡ Some i → first_wide (turned e i t) ≡ None → P t → P (turned e i t)
 
-pub kept-turned_at : (number : ℕ → ℕ → ℤ) (cs : List Column) (degree e : ℕ) (o : Option ℕ) (t next : Tableau) → pivot_row e t ≡ o → IsKept number cs degree t
-    → turned_at e o t ≡ goes next → IsKept number cs degree next
-kept-turned_at number cs degree e None t next was kept is = let same : t ≡ next = cc in subst (IsKept number cs degree) same kept
-kept-turned_at number cs degree e (Some i) t next was kept is =
-    kept-unless_wide number cs degree (first_wide (turned e i t)) (turned e i t) next (kept-turned number cs degree e i t was kept) is
+abbrev pub Keeps : List Column → (Tableau → Type 0) → Type 0
+Keeps cs P = (t : Tableau) (e i : ℕ) → entering cs t.cost ≡ Some e → pivot_row e t ≡ Some i → P t → P (turned e i t)
 
-pub kept-step_at : (number : ℕ → ℕ → ℤ) (cs : List Column) (degree : ℕ) (o : Option ℕ) (t next : Tableau) → IsKept number cs degree t
-    → step_at o t ≡ goes next → IsKept number cs degree next
-kept-step_at number cs degree None t next kept is = absurd cc
-kept-step_at number cs degree (Some e) t next kept is = kept-turned_at number cs degree e (pivot_row e t) t next refl kept is
+-- so it is kept by each step
+on-unless_wide : (P : Tableau → Type 0) (o : Option ℤ) (t next : Tableau) → (o ≡ None → P t) → unless_wide o t ≡ goes next → P next
+on-unless_wide P None t next holds is = let same : t ≡ next = cc in subst P same (holds refl)
+on-unless_wide P (Some x) t next holds is = absurd cc
 
--- what is known of the tableau with which a run ends as least
-pub record IsLeastAt (number : ℕ → ℕ → ℤ) (cs : List Column) (degree : ℕ) (cost : List ℤ) : Type 0 where
-  pub last : Tableau
-  pub kept : IsKept number cs degree last
-  pub cost_is : last.cost ≡ cost
-  pub none : entering cs cost ≡ None
+on-turned_at : (P : Tableau → Type 0) (e : ℕ) (o : Option ℕ) (t next : Tableau) → P t
+    → ((i : ℕ) → o ≡ Some i → first_wide (turned e i t) ≡ None → P (turned e i t)) → turned_at e o t ≡ goes next → P next
+on-turned_at P e None t next holds turn is = let same : t ≡ next = cc in subst P same holds
+on-turned_at P e (Some i) t next holds turn is = on-unless_wide P (first_wide (turned e i t)) (turned e i t) next (turn i refl) is
 
-least-last_end : (number : ℕ → ℕ → ℤ) (cs : List Column) (degree : ℕ) (o : Option ℕ) (t : Tableau) (cost : List ℤ) → entering cs t.cost ≡ o
-    → IsKept number cs degree t → last_end o t ≡ Least cost → IsLeastAt number cs degree cost
-least-last_end number cs degree None t cost was kept is =
-    let same : t.cost ≡ cost = cc in
-    record { last = t; kept = kept; cost_is = same; none = ap (entering cs) (sym same) ∙ was }
-least-last_end number cs degree (Some e) t cost was kept is = absurd cc
+on-step_at : (P : Tableau → Type 0) (cs : List Column) → KeepsNarrow cs P → (o : Option ℕ) (t next : Tableau) → entering cs t.cost ≡ o → P t
+    → step_at o t ≡ goes next → P next
+on-step_at P cs keeps None t next enters holds is = absurd cc
+on-step_at P cs keeps (Some e) t next enters holds is =
+    on-turned_at P e (pivot_row e t) t next holds (λ i found narrow. keeps t e i enters found narrow holds) is
 
-least-unless_wide : (o : Option ℤ) (t : Tableau) (cost : List ℤ) → unless_wide o t ≡ ended (Least cost) → ⊥
-least-unless_wide None t cost is = absurd cc
-least-unless_wide (Some x) t cost is = absurd cc
+-- a run ends as least with a tableau that no column enters, where what was kept holds
+pub record IsEnd (P : Tableau → Type 0) (cs : List Column) (last : Tableau) : Type 0 where
+  pub kept : P last
+  pub none : entering cs last.cost ≡ None
 
-pub least-turned_at : (e : ℕ) (o : Option ℕ) (t : Tableau) (cost : List ℤ) → turned_at e o t ≡ ended (Least cost) → ⊥
-least-turned_at e None t cost is = absurd cc
-least-turned_at e (Some i) t cost is = least-unless_wide (first_wide (turned e i t)) (turned e i t) cost is
+end-last : (P : Tableau → Type 0) (cs : List Column) (o : Option ℕ) (t last : Tableau) → entering cs t.cost ≡ o → P t → last_end o t ≡ Least last → IsEnd P cs last
+end-last P cs None t last was holds is =
+    let same : t ≡ last = cc in
+    subst (IsEnd P cs) same (record { kept = holds; none = was })
+end-last P cs (Some e) t last was holds is = absurd cc
 
-least-step_at : (number : ℕ → ℕ → ℤ) (cs : List Column) (degree : ℕ) (o : Option ℕ) (t : Tableau) (cost : List ℤ) → entering cs t.cost ≡ o
-    → IsKept number cs degree t → step_at o t ≡ ended (Least cost) → IsLeastAt number cs degree cost
-least-step_at number cs degree None t cost was kept is =
-    let same : t.cost ≡ cost = cc in
-    record { last = t; kept = kept; cost_is = same; none = ap (entering cs) (sym same) ∙ was }
-least-step_at number cs degree (Some e) t cost was kept is = absurd (least-turned_at e (pivot_row e t) t cost is)
+least-unless_wide : (o : Option ℤ) (t last : Tableau) → unless_wide o t ≡ ended (Least last) → ⊥
+least-unless_wide None t last is = absurd cc
+least-unless_wide (Some x) t last is = absurd cc
 
-pub least-at : (number : ℕ → ℕ → ℤ) (cs : List Column) (degree n : ℕ) (t : Tableau) (cost : List ℤ) → IsKept number cs degree t
-    → run cs n t ≡ Least cost → IsLeastAt number cs degree cost
-least-at number cs degree zero t cost kept is = least-last_end number cs degree (entering cs t.cost) t cost refl kept is
-least-at number cs degree (suc n) t cost kept is =
-    go (step cs t) refl (λ next goes_on. least-at number cs degree n next cost (kept-step_at number cs degree (entering cs t.cost) t next kept goes_on)) is
+least-turned_at : (e : ℕ) (o : Option ℕ) (t last : Tableau) → turned_at e o t ≡ ended (Least last) → ⊥
+least-turned_at e None t last is = absurd cc
+least-turned_at e (Some i) t last is = least-unless_wide (first_wide (turned e i t)) (turned e i t) last is
+
+end-step_at : (P : Tableau → Type 0) (cs : List Column) (o : Option ℕ) (t last : Tableau) → entering cs t.cost ≡ o → P t → step_at o t ≡ ended (Least last)
+    → IsEnd P cs last
+end-step_at P cs None t last was holds is =
+    let same : t ≡ last = cc in
+    subst (IsEnd P cs) same (record { kept = holds; none = was })
+end-step_at P cs (Some e) t last was holds is = absurd (least-turned_at e (pivot_row e t) t last is)
+
+pub end-of_run : (P : Tableau → Type 0) (cs : List Column) → KeepsNarrow cs P → (n : ℕ) (t last : Tableau) → P t → run cs n t ≡ Least last → IsEnd P cs last
+end-of_run P cs keeps zero t last holds is = end-last P cs (entering cs t.cost) t last refl holds is
+end-of_run P cs keeps (suc n) t last holds is =
+    go (step cs t) refl (λ next goes_on. end-of_run P cs keeps n next last (on-step_at P cs keeps (entering cs t.cost) t next refl holds goes_on)) is
   where
-    go : (s : Step) → step cs t ≡ s → ((next : Tableau) → step cs t ≡ goes next → run cs n next ≡ Least cost → IsLeastAt number cs degree cost)
-        → elim s [ ended e ↦ e | goes next ↦ run cs n next ] ≡ Least cost → IsLeastAt number cs degree cost
-    go (ended e) was later is = least-step_at number cs degree (entering cs t.cost) t cost refl kept (was ∙ ap ended is)
+    go : (s : Step) → step cs t ≡ s → ((next : Tableau) → step cs t ≡ goes next → run cs n next ≡ Least last → IsEnd P cs last)
+        → elim s [ ended e ↦ e | goes next ↦ run cs n next ] ≡ Least last → IsEnd P cs last
+    go (ended e) was later is = end-step_at P cs (entering cs t.cost) t last refl holds (was ∙ ap ended is)
     go (goes next) was later is = later next was is
 
--- the tableaus after so many turns
-kept-next_at : (number : ℕ → ℕ → ℤ) (cs : List Column) (degree e : ℕ) (o : Option ℕ) (t : Tableau) → pivot_row e t ≡ o → IsKept number cs degree t
-    → IsKept number cs degree (next_at e o t)
-kept-next_at number cs degree e None t was kept = kept
-kept-next_at number cs degree e (Some i) t was kept = kept-turned number cs degree e i t was kept
+-- and after so many turns
+on-next_at : (P : Tableau → Type 0) (e : ℕ) (o : Option ℕ) (t : Tableau) → P t → ((i : ℕ) → o ≡ Some i → P (turned e i t)) → P (next_at e o t)
+on-next_at P e None t holds turn = holds
+on-next_at P e (Some i) t holds turn = turn i refl
 
-kept-next_from : (number : ℕ → ℕ → ℤ) (cs : List Column) (degree : ℕ) (o : Option ℕ) (t : Tableau) → IsKept number cs degree t → IsKept number cs degree (next_from o t)
-kept-next_from number cs degree None t kept = kept
-kept-next_from number cs degree (Some e) t kept = kept-next_at number cs degree e (pivot_row e t) t refl kept
+on-next_from : (P : Tableau → Type 0) (cs : List Column) → Keeps cs P → (o : Option ℕ) (t : Tableau) → entering cs t.cost ≡ o → P t → P (next_from o t)
+on-next_from P cs keeps None t enters holds = holds
+on-next_from P cs keeps (Some e) t enters holds = on-next_at P e (pivot_row e t) t holds (λ i found. keeps t e i enters found holds)
+
+pub kept-after_turns : (P : Tableau → Type 0) (cs : List Column) → Keeps cs P → (n : ℕ) (t : Tableau) → P t → P (after cs n t)
+kept-after_turns P cs keeps zero t holds = holds
+kept-after_turns P cs keeps (suc n) t holds =
+    kept-after_turns P cs keeps n (next_from (entering cs t.cost) t) (on-next_from P cs keeps (entering cs t.cost) t refl holds)
+
+-- what is known of the tableau with which a run ends as least
+pub record IsLeastAt (number : ℕ → ℕ → ℤ) (cs : List Column) (degree : ℕ) (last : Tableau) : Type 0 where
+  pub kept : IsKept number cs degree last
+  pub none : entering cs last.cost ≡ None
+
+pub least-at : (number : ℕ → ℕ → ℤ) (cs : List Column) (degree n : ℕ) (t last : Tableau) → IsKept number cs degree t
+    → run cs n t ≡ Least last → IsLeastAt number cs degree last
+least-at number cs degree n t last kept is =
+    let end = end-of_run (IsKept number cs degree) cs (λ s e i enters found narrow holds. kept-turned number cs degree e i s found holds) n t last kept is in
+    record { kept = end.kept; none = end.none }
 
 pub kept-after : (number : ℕ → ℕ → ℤ) (cs : List Column) (degree n : ℕ) (t : Tableau) → IsKept number cs degree t → IsKept number cs degree (after cs n t)
-kept-after number cs degree zero t kept = kept
-kept-after number cs degree (suc n) t kept =
-    kept-after number cs degree n (next_from (entering cs t.cost) t) (kept-next_from number cs degree (entering cs t.cost) t kept)
+kept-after number cs degree n t kept =
+    kept-after_turns (IsKept number cs degree) cs (λ s e i enters found holds. kept-turned number cs degree e i s found holds) n t kept
 
 -- where no column enters, no a or s of the cost row is negative
 abbrev enters : Column × ℤ → Bool

@@ -3,7 +3,16 @@ pub mod Entries
 pub mod Crossed
 pub mod Sums
 pub mod Turns
+pub mod Places
+pub mod PlaceEntries
+pub mod BasicTurns
 pub mod Ends
+pub mod BasicRuns
+pub mod RunScales
+pub mod RunPairs
+pub mod RunPoints
+pub mod RunPrimals
+pub mod RunShown
 pub mod NarrowCosts
 pub mod RunDuals
 pub mod Ones

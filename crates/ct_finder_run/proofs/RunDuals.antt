@@ -19,7 +19,7 @@ use Rattle.ct_codes.specs.Numbers.{multiplier, combination}
 use Rattle.ct_duals.specs.Dual.{IsDual, as_index, degree_of, allowed, is_in_range}
 use Rattle.ct_duals.specs.Check.{first_below, fault_at, above_fault, dual_fault}
 use Rattle.ct_duals.specs.Bound.{natural, dual_bound}
-use Rattle.ct_finder_run.specs.Column.{Column, range_of, rows_to, columns, opening_entry, cost_entry, opening_row}
+use Rattle.ct_finder_run.specs.Column.{Column, Tableau, range_of, rows_to, columns, opening_entry, cost_entry, opening_row}
 use Rattle.ct_finder_run.specs.Column.Column.{Z, A, S, Constant}
 use Rattle.ct_finder_run.specs.Run.{run_of, columns_of, opening_of, entry_of, multipliers_of, run_dual, IsAsked}
 use Rattle.ct_finder_run.specs.Run.End.{Least}
@@ -140,13 +140,13 @@ accepted-from number d no_allowance lead below =
             (ap (λ y. int_lt (allowed y k) (combination number d.c k)) no_allowance ∙ not_above (combination number d.c k) (below k is))
 
 -- the dual of a cost row that no column enters
-pub dual-form : (number : ℕ → ℕ → ℤ) (e : Entry) (even : Bool) (cost : List ℤ) → IsAsked e even
-    → IsLeastAt number (columns_of e even) (degree_of e) cost → All IsNarrow cost → IsDual (run_dual e even cost)
-dual-form number e even cost asked least narrow =
+pub dual-form : (number : ℕ → ℕ → ℤ) (e : Entry) (even : Bool) (last : Tableau) → IsAsked e even
+    → IsLeastAt number (columns_of e even) (degree_of e) last → All IsNarrow last.cost → IsDual (run_dual e even last.cost)
+dual-form number e even last asked least narrow =
     let cs = columns_of e even in
+    let cost = last.cost in
     let count = length-map-range_with_len (λ k. entry_of cs cost (S k)) 1 (degree_of e) in
-    let some = least.kept.sums.some_of_cost in
-    let lead : pos 1 ≤ℤ entry_of cs cost Z = subst (λ row. pos 1 ≤ℤ entry_of cs row Z) least.cost_is some in
+    let lead : pos 1 ≤ℤ entry_of cs cost Z = least.kept.sums.some_of_cost in
     let AtLeast : ℤ → Type 0 = λ (z : ℤ). pos 0 ≤ℤ z in
     let Below : ℤ → Type 0 = λ (z : ℤ). z <ℤ pos (2 ^ 63) in
     record {
@@ -167,13 +167,13 @@ dual-form number e even cost asked least narrow =
       );
     }
 
-pub dual-accepted : (number : ℕ → ℕ → ℤ) (e : Entry) (even : Bool) (cost : List ℤ) → ((i : ℕ) → number 0 i ≡ pos 1)
-    → IsLeastAt number (columns_of e even) (degree_of e) cost → dual_fault number (run_dual e even cost) ≡ None
-dual-accepted number e even cost ones least =
+pub dual-accepted : (number : ℕ → ℕ → ℤ) (e : Entry) (even : Bool) (last : Tableau) → ((i : ℕ) → number 0 i ≡ pos 1)
+    → IsLeastAt number (columns_of e even) (degree_of e) last → dual_fault number (run_dual e even last.cost) ≡ None
+dual-accepted number e even last ones least =
     let cs = columns_of e even in
-    let sum = subst (IsSum number cs (degree_of e)) least.cost_is least.kept.sums.cost in
-    accepted-from number (run_dual e even cost) refl
-    (subst (λ row. pos 1 ≤ℤ entry_of cs row Z) least.cost_is least.kept.sums.some_of_cost)
+    let cost = last.cost in
+    let sum = least.kept.sums.cost in
+    accepted-from number (run_dual e even cost) refl least.kept.sums.some_of_cost
     (λ i passes.
     let at_a = combination-at number (range_of e even) (degree_of e) cost i (among-range e even i passes) (ones i) sum in
     let nonneg = choices-nonneg cs cost least.none (A i) refl in
@@ -191,11 +191,11 @@ bound-without d at_zero none = go d.y none
     go [] e = ap (λ z. min MAX_BOUND (natural z / natural (multiplier d.c 0))) (zero_more at_zero)
     go (p ∷ y) e = absurd cc
 
-pub least-of : (number : ℕ → ℕ → ℤ) (e : Entry) (even : Bool) (turns : ℕ) (cost : List ℤ) → run_of number e even turns ≡ Least cost
-    → IsLeastAt number (columns_of e even) (degree_of e) cost
-least-of number e even turns cost is =
-    least-at number (columns_of e even) (degree_of e) turns (opening_of number e even) cost (kept-opening number (range_of e even) (degree_of e)) is
+pub least-of : (number : ℕ → ℕ → ℤ) (e : Entry) (even : Bool) (turns : ℕ) (last : Tableau) → run_of number e even turns ≡ Least last
+    → IsLeastAt number (columns_of e even) (degree_of e) last
+least-of number e even turns last is =
+    least-at number (columns_of e even) (degree_of e) turns (opening_of number e even) last (kept-opening number (range_of e even) (degree_of e)) is
 
-pub narrow-of : (number : ℕ → ℕ → ℤ) (e : Entry) (even : Bool) (turns : ℕ) (cost : List ℤ) → run_of number e even turns ≡ Least cost → All IsNarrow cost
-narrow-of number e even turns cost is =
-    narrow-at (columns_of e even) turns (opening_of number e even) cost (narrow-cost (range_of e even) (degree_of e)) is
+pub narrow-of : (number : ℕ → ℕ → ℤ) (e : Entry) (even : Bool) (turns : ℕ) (last : Tableau) → run_of number e even turns ≡ Least last → All IsNarrow last.cost
+narrow-of number e even turns last is =
+    narrow-at (columns_of e even) turns (opening_of number e even) last (narrow-cost (range_of e even) (degree_of e)) is

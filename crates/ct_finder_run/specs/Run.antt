@@ -8,9 +8,9 @@ use Rattle.ct_finder_run.specs.Column.{Column, Tableau, range_of, rows_to, colum
 use Rattle.ct_finder_run.specs.Column.Column.{Z, S}
 use Rattle.ct_finder_run.specs.Turn.{entering, pivot_row, turned, first_wide}
 
--- how a run ends: with the least bound, and this cost row; after as many turns as were asked for; before a turn that would give this wide entry
+-- how a run ends: with the least bound, and this tableau; after as many turns as were asked for; before a turn that would give this wide entry
 pub data End : Type 0 where
-  Least : List ℤ → End
+  Least : Tableau → End
   Turns : End
   Wide : ℤ → End
 
@@ -31,7 +31,7 @@ turned_at e (Some i) t = unless_wide (first_wide (turned e i t)) (turned e i t)
 
 -- the next turn at a column that may enter, or the end before it where none does
 abbrev pub step_at : Option ℕ → Tableau → Step
-step_at None t = ended (Least t.cost)
+step_at None t = ended (Least t)
 step_at (Some e) t = turned_at e (pivot_row e t) t
 
 -- the next turn at the first column that may enter, or the end before it
@@ -40,7 +40,7 @@ step cs t = step_at (entering cs t.cost) t
 
 -- how the run ends where no turn is left
 abbrev pub last_end : Option ℕ → Tableau → End
-last_end None t = Least t.cost
+last_end None t = Least t
 last_end (Some e) t = Turns
 
 -- how the run from a tableau ends, with at most so many turns

@@ -34,3 +34,21 @@ returns-clause-tied_turns c = refl
 pub returns-clause-tied_bound : goal.returns-clause-tied_bound
 unfolding dual_bound
 returns-clause-tied_bound c = refl
+
+pub returns-clause-weighted_primal : goal.returns-clause-weighted_primal
+returns-clause-weighted_primal c = refl
+
+pub returns-clause-weighted_pairs : goal.returns-clause-weighted_pairs
+returns-clause-weighted_pairs c = refl
+
+pub returns-clause-plain_primal : goal.returns-clause-plain_primal
+returns-clause-plain_primal c = refl
+
+pub returns-clause-plain_pairs : goal.returns-clause-plain_pairs
+returns-clause-plain_pairs c = refl
+
+pub returns-clause-tied_primal : goal.returns-clause-tied_primal
+returns-clause-tied_primal c = refl
+
+pub returns-clause-tied_pairs : goal.returns-clause-tied_pairs
+returns-clause-tied_pairs c = refl
