@@ -13,7 +13,7 @@ run-ended cs n t e h = ap (λ (s : Step). elim s [ ended end ↦ end | goes next
 pub run-goes : (cs : List Column) (n : ℕ) (t next : Tableau) → step cs t ≡ goes next → run cs (suc n) t ≡ run cs n next
 run-goes cs n t next h = ap (λ (s : Step). elim s [ ended end ↦ end | goes then ↦ run cs n then ]) h
 
-pub run-least : (cs : List Column) (t : Tableau) → entering cs t.cost ≡ None → run cs 0 t ≡ Least t.cost
+pub run-least : (cs : List Column) (t : Tableau) → entering cs t.cost ≡ None → run cs 0 t ≡ Least t
 run-least cs t h = ap (λ o. last_end o t) h
 
 pub run-turns : (cs : List Column) (t : Tableau) (e : ℕ) → entering cs t.cost ≡ Some e → run cs 0 t ≡ Turns

@@ -20,13 +20,13 @@ pub record IsReady (t : Tableau) : Type 0 where
   pub pivot : length t.pivot ≡ length t.cost
   pub some : 2 ≤ length t.cost
 
--- an end with the cost row
-abbrev pub end_of : Ending → List ℤ → End
-end_of Least cost = LeastEnd cost
-end_of Turns cost = TurnsEnd
-end_of (Wide x) cost = WideEnd x
+-- an end with the tableau
+abbrev pub end_of : Ending → TableauOf → End
+end_of Least t = LeastEnd t
+end_of Turns t = TurnsEnd
+end_of (Wide x) t = WideEnd x
 
 -- an end before a turn, or the tableau after it
 abbrev pub step_of : Option Ending → TableauOf → Step
 step_of None t = goes t
-step_of (Some end) t = ended (end_of end t.cost)
+step_of (Some end) t = ended (end_of end t)

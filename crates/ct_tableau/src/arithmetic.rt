@@ -24,7 +24,7 @@ pub(crate) fn cross(p: i64, x: i64, r: i64, y: i64) -> i128
 }
 
 /// The greatest common divisor, by Euclid's algorithm; without a division where a is 0, as most entries are.
-pub(crate) fn gcd(a: u128, b: u128) -> u128
+pub fn gcd(a: u128, b: u128) -> u128
     ensures value { result ≡ gcd_of_both a b }
     ensures small { a < 2 ^ 127 → b < 2 ^ 127 → result < 2 ^ 127 }
 {

@@ -7,6 +7,7 @@ mod row;
 mod tableau;
 mod turns;
 
+pub use arithmetic::gcd;
 pub use row::Row;
 pub use tableau::Tableau;
 pub use turns::{Ending, run};

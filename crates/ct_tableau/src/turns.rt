@@ -19,12 +19,12 @@ pub enum Ending {
 }
 
 /// Makes at most so many turns over a tableau whose columns are z, the a's and s's, and the constants: as many basic columns
-/// as rows, all rows of one width. After `Least` the cost row is that of the run's end; after `Wide`, which names the first
+/// as rows, all rows of one width. After `Least` the tableau is that of the run's end; after `Wide`, which names the first
 /// entry above 2^63 - 1 in absolute value that the next turn would give, the tableau is of no more use. It takes no memory.
 pub fn run(tableau: &mut Tableau, turns: u32) -> Ending
     requires ready { IsReady tableau.old }
     ensures end { (range : List ℕ) (degree : ℕ) → length tableau.old.cost ≡ length (columns range degree) →
-        end_of result tableau.new.cost ≡ run (columns range degree) turns (seen tableau.old) }
+        end_of result (seen tableau.new) ≡ run (columns range degree) turns (seen tableau.old) }
 {
     for made in 0..turns {
         if let Some(ending) = step(tableau) {

@@ -29,7 +29,7 @@ returns-in-Some c = record {
       let n = c.args.turns - suc c.loop-made.made in
       let whole = c.loop-made.invariant.2 range degree (suc n) same (omega arith) in
       let here = c.in-Some.ensures.value range degree (c.loop-made.invariant.1 ∙ same) in
-      sym (sym whole ∙ run-ended cs n (seen now) (end_of c.in-Some.ending c.step.new.tableau.cost) (sym here));
+      sym (sym whole ∙ run-ended cs n (seen now) (end_of c.in-Some.ending (seen c.step.new.tableau)) (sym here));
 }
 
 pub returns-in-None : goal.returns-in-None
