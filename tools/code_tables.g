@@ -16,7 +16,8 @@
 # distance is not the one in GUAVA's description of the code: of a linear code it is computed by MinimumDistance from a generator matrix, and of
 # any other here, from all pairs of words. A code of one word has no distance: state one as SubmitCode("id", C, "FILE" or "", d). The words of an
 # unrestricted code are written one by one, with their weight where all have the same; tools/submit_words.py writes them over their kernel.
-# What is refused is an error that says why, and nothing is written. The program checks all of it anew.
+# SubmitCode("id", C, "FILE" or "", d or fail, ["TEXT", ..]) lets the document cite where the code comes from: at most 16 texts, each of 1 to
+# 200 bytes of printable ASCII. What is refused is an error that says why, and nothing is written. The program checks all of it anew.
 
 LoadPackage("guava", false);
 
@@ -67,6 +68,33 @@ CodeTables_Check := function(id, code)
     fi;
 end;
 
+# Refuses what no document can cite.
+CodeTables_CheckCites := function(cites)
+    local at;
+    if not IsList(cites) or not ForAll(cites, IsString) then
+        Error("code_tables: refused: cites are a list of texts");
+    fi;
+    if Length(cites) > 16 then
+        Error("code_tables: refused: ", Length(cites), " cites, and a document has at most 16");
+    fi;
+    for at in [1 .. Length(cites)] do
+        if Length(cites[at]) < 1 or Length(cites[at]) > 200 then
+            Error("code_tables: refused: cite ", at, " has ", Length(cites[at]), " bytes, and a cite has 1 to 200");
+        fi;
+        if not ForAll(cites[at], c -> IntChar(c) in [32 .. 126]) then
+            Error("code_tables: refused: cite ", at, " has another sign than those of printable ASCII");
+        fi;
+    od;
+end;
+
+# The keys of a document that cites texts: none where there are none.
+CodeTables_Cites := function(cites)
+    if Length(cites) = 0 then
+        return "";
+    fi;
+    return Concatenation("format = 2\n", CodeTables_List("cites", List(cites, t -> ReplacedString(ReplacedString(t, "\\", "\\\\"), "\"", "\\\""))));
+end;
+
 # The distance to state: that of the code, or the stated one, which is no greater.
 CodeTables_Stated := function(d, stated)
     if stated <> fail then
@@ -107,9 +135,10 @@ CodeTables_Words := function(words, d)
 end;
 
 # The submission of a code, as a text.
-CodeTables_Submission := function(id, code, stated)
+CodeTables_Submission := function(id, code, stated, cites)
     local linear, words, d, kind, keys, least, from;
     CodeTables_Check(id, code);
+    CodeTables_CheckCites(cites);
     linear := IsLinearCode(code);
     words := [];
     if not linear then
@@ -136,7 +165,7 @@ CodeTables_Submission := function(id, code, stated)
     else
         from := Concatenation("the distance ", String(d), " was stated");
     fi;
-    return Concatenation("# GUAVA says: ", NormalizedWhitespace(String(code)), "\n# ", from, "\nsubmit ", id, "\nkind = \"", kind, "\"\nn = ", String(WordLength(code)), "\nd = ", String(d), "\n",
+    return Concatenation("# GUAVA says: ", NormalizedWhitespace(String(code)), "\n# ", from, "\nsubmit ", id, "\n", CodeTables_Cites(cites), "kind = \"", kind, "\"\nn = ", String(WordLength(code)), "\nd = ", String(d), "\n",
         keys, "end\n");
 end;
 
@@ -152,14 +181,18 @@ CodeTables_CheckFile := function(id, file)
     fi;
 end;
 
-# SubmitCode(id, code[, file[, distance]]): see above. A stream without formatting breaks no line at 80 columns.
+# SubmitCode(id, code[, file[, distance[, cites]]]): see above. A stream without formatting breaks no line at 80 columns.
 SubmitCode := function(id, code, more...)
-    local stated, text, stream;
+    local stated, cites, text, stream;
     stated := fail;
+    cites := [];
     if Length(more) > 1 then
         stated := more[2];
     fi;
-    text := CodeTables_Submission(id, code, stated);
+    if Length(more) > 2 then
+        cites := more[3];
+    fi;
+    text := CodeTables_Submission(id, code, stated, cites);
     if Length(more) > 0 and more[1] <> "" then
         CodeTables_CheckFile(id, more[1]);
         stream := OutputTextFile(more[1], true);

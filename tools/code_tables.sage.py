@@ -22,7 +22,7 @@
 
 SubmitCode takes any binary linear code; its distance is that of the words of a basis, and not one that is claimed. SubmitDelsarte(id, n, d[, w])
 solves the dual program exactly, by the solver PPL. Both print, or append to a file with file="FILE". A code of one word has no distance:
-state one with distance=D. What is refused is a ValueError that says why, and nothing is written. The program checks all of it anew."""
+state one with distance=D. With cites=["TEXT", ..] the document cites these texts. What is refused is a ValueError that says why, and nothing is written. The program checks all of it anew."""
 
 import sys
 from pathlib import Path
@@ -46,20 +46,20 @@ def put(text, file):
             out.write(text)
 
 
-def SubmitCode(id, code, distance=None, file=None):
+def SubmitCode(id, code, distance=None, file=None, cites=()):
     """Prints the submission of a binary linear code, or appends it to a file."""
     try:
         if code.base_ring().order() != 2:
             raise Refusal("no binary code")
         rows = ["".join(str(int(x)) for x in row) for row in code.basis()] or ["0" * int(code.length())]
         words, n = read_words(rows)
-        text = submission(id, words, n, generator=True, d=None if distance is None else int(distance), comment=str(code))
+        text = submission(id, words, n, generator=True, d=None if distance is None else int(distance), comment=str(code), cites=cites)
     except Refusal as refusal:
         raise ValueError(f"code_tables: refused: {refusal}") from None
     put(text, file)
 
 
-def SubmitDelsarte(id, n, d, w=None, file=None):
+def SubmitDelsarte(id, n, d, w=None, file=None, cites=()):
     """Prints the submission of a dual that is least, or appends it to a file."""
     try:
         program = submit_dual.Program(int(n), int(d), None if w is None else int(w))
@@ -77,7 +77,7 @@ def SubmitDelsarte(id, n, d, w=None, file=None):
         lines = [f"c {k} {values.get(k, 0)}" for k in indices]
         multipliers, y = submit_dual.read_multipliers(lines, program)
         submit_dual.check(program, multipliers, y, 0)
-        text = submit_dual.submission(id, program, *submit_dual.whole_dual(program, multipliers, y))
+        text = submit_dual.submission(id, program, *submit_dual.whole_dual(program, multipliers, y), cites)
     except Refusal as refusal:
         raise ValueError(f"code_tables: refused: {refusal}") from None
     put(text, file)

@@ -20,7 +20,7 @@ docs/FORMATS.md), a dual has f(i) <= y_i, or <= 0 where y_i isn't named, at each
 Values are rounded to whole numbers on the coarsest scale that still gives the bound of the multipliers as they are. What rounding breaks is
 mended: c_0 is lowered by as much as f is too great, since the scheme's number 0 is 1 everywhere. Where the multipliers themselves miss an
 inequality by more than --slack times c_0 + y_i, nothing is written, and standard error says which and by how much. Premises of A(n,d,w) are Johnson's bounds
-here; the program takes the best that its table has."""
+here; the program takes the best that its table has. What each --cite says, 1 to 200 bytes of printable ASCII, is what the document cites."""
 
 import argparse
 import re
@@ -29,6 +29,7 @@ from fractions import Fraction
 from functools import cache
 from math import comb, factorial, gcd
 
+from code_tables.cites import check_cites, citing
 from code_tables.sessions import Refusal, is_entry, name_of, number_of
 from code_tables.words import check_id
 
@@ -153,19 +154,19 @@ def whole_dual(program, c, y):
     raise Refusal(f"no dual in whole numbers below 2^63 gives the bound {goal}")
 
 
-def submission(name, program, c, y):
-    """The submission of a dual."""
+def submission(name, program, c, y, cites=()):
+    """The submission of a dual, with the texts that it cites."""
     shared = gcd(*c, *y.values())
     c, y = [x // shared for x in c], {i: x // shared for i, x in sorted(y.items())}
     while len(c) > 1 and c[-1] == 0:
         c.pop()
     entry = (program.n, program.d) if program.w is None else (program.n, program.d, program.w)
     premises = [f"{name_of((program.n, program.d + program.d % 2, i))} <= {johnson(program.n, program.d + program.d % 2, i)}" for i in y]
-    lines = [f"# {name_of(entry)} <= {int(program.value(c, y))}" + (f", by the premises {', '.join(premises)}" if premises else ""),
-             f"submit {name}", f'kind = "{"dual" if program.w is None else "jdual"}"', f"n = {program.n}", f"d = {program.d}"]
+    remark = f"# {name_of(entry)} <= {int(program.value(c, y))}" + (f", by the premises {', '.join(premises)}" if premises else "")
+    lines = [f'kind = "{"dual" if program.w is None else "jdual"}"', f"n = {program.n}", f"d = {program.d}"]
     lines += [f"w = {program.w}"] * (program.w is not None) + ["even = true"] * program.even + [f"c = {c}"]
     lines += [f"y = {[[i, x] for i, x in y.items()]}"] * bool(y)
-    return "\n".join([*lines, "end", ""])
+    return "\n".join([remark, f"submit {name}", citing("\n".join(lines), cites), "end", ""])
 
 
 def whole(word):
@@ -182,14 +183,16 @@ def main():
     parser.add_argument("n", type=whole)
     parser.add_argument("d", type=whole)
     parser.add_argument("w", type=whole, nargs="?")
+    parser.add_argument("--cite", action="append", default=[], metavar="TEXT", help="where the dual comes from, as the document cites it: up to 16 times")
     parser.add_argument("--slack", type=Fraction, default=Fraction(1, 10 ** 6), help="the part of c_0 and y by which f may be too great (1e-6)")
     options = parser.parse_args()
     try:
         check_id(options.id)
+        check_cites(options.cite)
         program = Program(options.n, options.d, options.w)
         c, y = read_multipliers(sys.stdin, program)
         check(program, c, y, options.slack)
-        sys.stdout.write(submission(options.id, program, *whole_dual(program, c, y)))
+        sys.stdout.write(submission(options.id, program, *whole_dual(program, c, y), options.cite))
     except Refusal as refusal:
         sys.exit(f"submit_dual: refused: {refusal}")
 

@@ -13,8 +13,9 @@
 The file FILE, or standard input, has a word a line, in digits 0 and 1, or a list of words or of lists of digits as Python or GAP print it. Spaces
 and commas between digits don't count, nor do lines that are empty or begin with #, nor a byte order mark. The distance is the least of all
 pairs, unless one is stated: that is left to the program. The weight is stated where all words have it. Where it is shorter, the words are
-written as coset representatives of the code's kernel: of the words k for which the code, with k added modulo 2, is the code again. What is
-refused goes to standard error with the line, and then nothing is written. The program checks all of it anew."""
+written as coset representatives of the code's kernel: of the words k for which the code, with k added modulo 2, is the code again. What each
+--cite says, 1 to 200 bytes of printable ASCII, is what the document cites: its source, as the program keeps it. What is refused goes to
+standard error with the line, and then nothing is written. The program checks all of it anew."""
 
 import argparse
 import sys
@@ -41,11 +42,12 @@ def main():
     parser.add_argument("--distance", type=int, help="the distance to state; the program checks it")
     parser.add_argument("--no-weight", action="store_true", help="state no weight, also where all words have the same")
     parser.add_argument("--comment", help="the remark above the submission")
+    parser.add_argument("--cite", action="append", default=[], metavar="TEXT", help="where the code comes from, as the document cites it: up to 16 times")
     options = parser.parse_args()
     try:
         words, n = read_words(lines_of(options.file))
         sys.stdout.write(submission(options.id, words, n, generator=options.generator, d=options.distance, may_have_weight=not options.no_weight,
-                                    comment=options.comment))
+                                    comment=options.comment, cites=options.cite))
     except Refusal as refusal:
         sys.exit(f"submit_words: refused: {refusal}")
 

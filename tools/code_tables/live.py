@@ -18,11 +18,11 @@
 """
 
 import subprocess
-from collections.abc import Iterable, Iterator
+from collections.abc import Iterable, Iterator, Sequence
 from typing import NamedTuple
 
 from . import program, sessions, words
-from .sessions import Refusal
+from .sessions import Piece, Refusal
 
 
 class Refused(Refusal):
@@ -40,26 +40,20 @@ class Bounds(NamedTuple):
         return self.lower == self.upper
 
 
-class Piece(NamedTuple):
-    """A piece that stands: its id and kind, its entry, and the number of words of its code, None for a dual."""
-    id: str
-    kind: str
-    entry: tuple[int, ...]
-    size: int | None
-
-
 def entry_words(n: int, d: int, w: int | None) -> str:
     """An entry as a command writes it."""
     return f"{int(n)} {int(d)}" + ("" if w is None else f" {int(w)}")
 
 
-def document_of(evidence: str | Iterable[object], d: int | None) -> str:
-    """The document of evidence: of words, with the distance d, or with their least one; or the text of a document itself."""
+def document_of(evidence: str | Iterable[object], d: int | None, cites: Sequence[str]) -> str:
+    """The document of evidence: of words, with the distance d, or with their least one, and what it cites; or the text of a document itself."""
     if isinstance(evidence, str):
+        if cites:
+            raise Refusal("a document says itself what it cites")
         return evidence
     given = [word if isinstance(word, str) else "".join(str(int(digit)) for digit in word) for word in evidence]
     read, n = words.read_words(given)
-    made = words.submission("a", read, n, d=d)
+    made = words.submission("a", read, n, d=d, cites=cites)
     return made.split("\nsubmit a\n", 1)[1].removesuffix("\nend\n")
 
 
@@ -129,11 +123,12 @@ class Session:
             raise Refused(reply[0].removeprefix("refused "))
         return reply
 
-    def submit(self, id: str, evidence: str | Iterable[object], d: int | None = None) -> int | None:
+    def submit(self, id: str, evidence: str | Iterable[object], d: int | None = None, cites: Sequence[str] = ()) -> int | None:
         """Hands in evidence: a document in TOML, or the words of a code, as texts or as sequences of digits, with the distance d to state, the
-        least where it is left out. The number of words of the piece, None for a dual; a refusal is an error."""
+        least where it is left out, and texts that say where the code comes from. The number of words of the piece, None for a dual; a refusal is
+        an error."""
         words.check_id(id)
-        lines = document_of(evidence, d).split("\n")
+        lines = document_of(evidence, d, cites).split("\n")
         asked = ["submit", id, "lines", str(len(lines))]
         reply = self._unless_refused(self._reply(" ".join(asked) + "\n" + "\n".join(lines) + "\n", asked), asked)
         size = sessions.words_of(reply[0])[3:]
@@ -162,12 +157,7 @@ class Session:
 
     def pieces(self) -> list[Piece]:
         """The pieces that stand."""
-        found = []
-        for line in self.ask("ledger")[:-1]:
-            id, kind, *rest = sessions.words_of(line)
-            size = int(rest[-1]) if "size" in rest else None
-            found.append(Piece(id, kind, tuple(map(int, rest[:rest.index("size")] if "size" in rest else rest)), size))
-        return found
+        return list(map(sessions.piece_of, self.ask("ledger")[:-1]))
 
     def dump(self) -> str:
         """A session that leads to the pieces that stand."""
@@ -211,9 +201,9 @@ def bounds(n: int, d: int, w: int | None = None) -> Bounds:
     return shared().bounds(n, d, w)
 
 
-def submit(id: str, evidence: str | Iterable[object], d: int | None = None) -> int | None:
+def submit(id: str, evidence: str | Iterable[object], d: int | None = None, cites: Sequence[str] = ()) -> int | None:
     """Hands evidence in to the shared session: a document, or the words of a code; see Session.submit."""
-    return shared().submit(id, evidence, d)
+    return shared().submit(id, evidence, d, cites)
 
 
 def explain(side: str, n: int, d: int, w: int | None = None) -> str:

@@ -11,7 +11,7 @@ from collections.abc import Iterable, Iterator
 from dataclasses import dataclass
 from itertools import islice
 from pathlib import Path
-from typing import Any
+from typing import Any, NamedTuple
 
 # The numbers of an entry: n and d, or n, d and w.
 Entry = tuple[int, ...]
@@ -25,6 +25,12 @@ SIZELESS = ("dual", "jdual")
 
 class Refusal(ValueError):
     """What a tool refuses, by name."""
+
+
+def quoted(line: str) -> str:
+    """A line as a refusal shows it."""
+    line = line.strip()
+    return f"`{line if len(line) <= 60 else line[:57] + '...'}`"
 
 
 @dataclass
@@ -240,6 +246,27 @@ def is_entry(entry: Entry) -> bool:
 def name_of(entry: Entry) -> str:
     """An entry as replies write it."""
     return f"A({','.join(map(str, entry))})"
+
+
+class Piece(NamedTuple):
+    """A piece that stands: its id and kind, its entry, the number of words of its code, None for a dual, and how many texts it cites."""
+    id: str
+    kind: str
+    entry: Entry
+    size: int | None
+    cites: int = 0
+
+
+def piece_of(line: str) -> Piece:
+    """The piece of a line of `ledger`.
+
+        >>> piece_of("hexa words 10 6 size 6 cites 1")
+        Piece(id='hexa', kind='words', entry=(10, 6), size=6, cites=1)
+    """
+    told = re.fullmatch(r"(\S+) (\S+) (\d+ \d+(?: \d+)?)(?: size (\d+))?(?: cites ([1-9]\d*))?", line)
+    if not told:
+        raise Refusal(f"no line of a piece: {line}")
+    return Piece(told[1], told[2], numbers_of(told[3].split()), int(told[4]) if told[4] else None, int(told[5] or 0))
 
 
 def bounds_of(line: str) -> tuple[Entry, int, int]:

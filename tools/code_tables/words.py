@@ -17,7 +17,8 @@ import re
 from collections.abc import Iterable, Sequence
 from random import Random
 
-from .sessions import LAST, Refusal
+from .cites import check_cites, citing
+from .sessions import LAST, Refusal, quoted
 
 # The limits of docs/FORMATS.md.
 MOST_WORDS, MOST_REPRESENTATIVES, MOST_WORK = 16384, 4096, 2 ** 24
@@ -28,12 +29,6 @@ def check_id(name: str) -> None:
     """Refuses what is no id of a piece."""
     if not ID.fullmatch(name):
         raise Refusal(f"{name} is no id: 1 to 32 lower-case letters, digits, - and _, a letter first")
-
-
-def quoted(line: str) -> str:
-    """A line as a refusal shows it."""
-    line = line.strip()
-    return f"`{line if len(line) <= 60 else line[:57] + '...'}`"
 
 
 # GAP's elements of the field of two elements.
@@ -281,10 +276,11 @@ def remarks(text: str) -> str:
 
 
 def submission(name: str, words: Sequence[int], n: int, *, generator: bool = False, d: int | None = None, may_have_weight: bool = True,
-               comment: str | None = None) -> str:
-    """The submission of the code of these words, or with `generator` of their span, with a remark above it that says what was found. A
-    distance that is stated is left to the program; where none is, it is the least."""
+               comment: str | None = None, cites: Sequence[str] = ()) -> str:
+    """The submission of the code of these words, or with `generator` of their span, with a remark above it that says what was found, and the
+    texts that it cites. A distance that is stated is left to the program; where none is, it is the least."""
     check_id(name)
+    check_cites(cites)
     if generator:
         basis = independent(words)
         if len(basis) > 24:
@@ -304,4 +300,4 @@ def submission(name: str, words: Sequence[int], n: int, *, generator: bool = Fal
     else:
         text = document(words, basis, n, d, may_have_weight)
     said = f"{size} word{'s' * (size > 1)} of length {n} at distance {d}, over a kernel of dimension {len(basis)}"
-    return f"{remarks(comment or said)}submit {name}\n{text}\nend\n"
+    return f"{remarks(comment or said)}submit {name}\n{citing(text, cites)}\nend\n"

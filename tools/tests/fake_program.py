@@ -8,6 +8,7 @@ from pathlib import Path
 sys.path.insert(0, str(Path(__file__).resolve().parent.parent))
 
 from code_tables import sessions
+from code_tables.cites import cites_of
 
 
 def bounds(n, d, w=None):
@@ -23,7 +24,8 @@ def reply(command, pieces):
         if command.id in pieces:
             return ["refused taken"]
         fields = command.fields
-        pieces[command.id] = f"{command.id} {fields['kind']} {' '.join(map(str, sessions.entry_of(fields)))} size 1"
+        cites = len(cites_of(fields))
+        pieces[command.id] = f"{command.id} {fields['kind']} {' '.join(map(str, sessions.entry_of(fields)))} size 1" + f" cites {cites}" * (cites > 0)
         return [f"accepted {command.id} size 1"]
     if word == "table":
         d, *weight = numbers

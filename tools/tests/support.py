@@ -25,6 +25,11 @@ HAS_PROGRAM = bool(os.environ.get("CODE_TABLES"))
 # The environment in which a tool takes the false program for the built one.
 FAKE_PROGRAM = TOOLS / "tests/fake_program.py"
 FAKE = os.environ | {"CODE_TABLES": str(FAKE_PROGRAM)}
+# What no document cites, with what the importers say of it.
+CITE_FAULTS = [([""], "cite 1 is empty"), (["a", "x" * 201], "cite 2 has 201 bytes, and a cite has at most 200: `x"),
+               (["\u00d6sterg\u00e5rd"], "cite 1 has the sign '\\xd6', and a cite has printable ASCII alone: `\u00d6sterg\u00e5rd`"),
+               (["a", "tab\there"], "cite 2 has the sign '\\t'"), (["line\nend"], "cite 1 has the sign '\\n'"), (["\x7f"], "cite 1 has the sign '\\x7f'"),
+               (["a"] * 17, "17 cites, and a document has at most 16")]
 needs_program = unittest.skipUnless(HAS_PROGRAM, "the program isn't built")
 
 

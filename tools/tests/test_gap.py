@@ -8,6 +8,7 @@ from pathlib import Path
 from support import TOP, data, needs, needs_program, session
 
 from code_tables import sessions
+from code_tables.cites import cites_of
 
 
 def gap(script):
@@ -49,6 +50,10 @@ class Gap(unittest.TestCase):
             self.skipTest("GUAVA isn't there")
         self.assertEqual([command.words[:2] for command in sessions.commands(ended.stdout.decode())], [["submit", "a"]])
 
+    def test_a_submission_cites_what_is_said(self):
+        cites = {command.id: cites_of(command.fields) for command in sessions.commands(data("gap/codes.out")) if command.words[0] == "submit"}
+        self.assertEqual({name: texts for name, texts in cites.items() if texts}, {"cited": ['A. Name, Of "pairs" and \\, 1990', "Another, 1991"]})
+
     def test_a_submission_says_whose_distance_it_is(self):
         for command in sessions.commands(data("gap/codes.out")):
             if command.words[0] == "submit":
@@ -57,7 +62,8 @@ class Gap(unittest.TestCase):
     @needs_program
     def test_the_program_accepts_what_is_stored(self):
         self.assertEqual(session(data("gap/codes.out")), "".join(f"accepted {name} size {size}\n" for name, size in [
-            ("hamming", 16), ("golay", 4096), ("residues17", 512), ("hadamard11", 12), ("conference9", 20), ("pair", 2), ("zero", 1)]))
+            ("hamming", 16), ("golay", 4096), ("residues17", 512), ("hadamard11", 12), ("conference9", 20), ("pair", 2), ("zero", 1),
+            ("cited", 2), ("none-cited", 2)]))
 
 
 if __name__ == "__main__":

@@ -1,17 +1,52 @@
 """Sage's codes and duals become submissions; where Sage isn't there, what it wrote is stored."""
 
+import contextlib
+import io
+import runpy
 import subprocess
+import sys
 import tempfile
 import unittest
 from pathlib import Path
+from types import SimpleNamespace
+from unittest import mock
 
-from support import TOP, data, needs, needs_program, session
+from support import TOOLS, TOP, data, needs, needs_program, session
 
 SIZES = {"hamming": 16, "golay": 4096, "reed-muller": 32, "zero": 1}
 DUALS = {"delsarte": 256, "odd": 64, "johnson": 14, "larger": 7723}
 
 
+def functions():
+    """The functions of the script, where Sage isn't there: those that ask Sage for nothing but a code work."""
+    there = {"sage.numerical.mip": SimpleNamespace(MixedIntegerLinearProgram=None), "sage.rings.rational_field": SimpleNamespace(QQ=None)}
+    with mock.patch.dict(sys.modules, there):
+        return SimpleNamespace(**runpy.run_path(str(TOOLS / "code_tables.sage.py")))
+
+
+class Pair:
+    """A code of two words, as Sage's codes answer."""
+
+    def __str__(self):
+        return "a pair"
+
+    def base_ring(self):
+        return SimpleNamespace(order=lambda: 2)
+
+    def basis(self):
+        return [(1, 1, 1)]
+
+
 class Sage(unittest.TestCase):
+    def test_a_submission_cites_what_is_said(self):
+        submit, out = functions().SubmitCode, io.StringIO()
+        with contextlib.redirect_stdout(out):
+            submit("pair", Pair(), cites=["A. Name, Pairs, 1990"])
+        self.assertEqual(out.getvalue(), '# a pair\nsubmit pair\nformat = 2\ncites = ["A. Name, Pairs, 1990"]\nkind = "cosets"\nn = 3\nd = 3\n'
+                                         'basis = ["111"]\nrepresentatives = ["000"]\nend\n')
+        with self.assertRaisesRegex(ValueError, "code_tables: refused: cite 1 is empty"):
+            submit("pair", Pair(), cites=[""])
+
     @needs("sage")
     def test_codes_and_duals_of_sage(self):
         with tempfile.TemporaryDirectory() as folder:

@@ -2,7 +2,7 @@
 
 import unittest
 
-from support import call, data, needs_program, run, session
+from support import CITE_FAULTS, call, data, needs_program, run, session
 
 
 def lines(letter, numbers, scale):
@@ -52,6 +52,24 @@ class SubmitDual(unittest.TestCase):
             with self.subTest(words=words):
                 out, said, status = call("submit_dual", "a", *words, text="c 0 1\n")
                 self.assertEqual((out, status), ("", 2))
+
+    def test_the_document_cites_what_is_said(self):
+        out, said, status = run("submit_dual.py", "a", 8, 4, 4, "--cite", "P. Name, 1973", text="c 0 4\nc 1 1.75\nc 2 0.3333333333\n")
+        self.assertEqual((said, status), ("", 0))
+        self.assertIn('\nsubmit a\nformat = 2\ncites = ["P. Name, 1973"]\nkind = "jdual"\n', out)
+
+    def test_what_no_document_cites_is_refused(self):
+        for cites, fault in CITE_FAULTS:
+            with self.subTest(fault=fault):
+                words = [word for text in cites for word in ("--cite", text)]
+                out, said, status = call("submit_dual", "a", 13, 6, *words, text=data("d13.multipliers"))
+                self.assertEqual((out, status), ("", 1))
+                self.assertIn("submit_dual: refused: " + fault, said)
+
+    @needs_program
+    def test_the_program_keeps_the_cites(self):
+        made = run("submit_dual.py", "a", 13, 6, "--cite", "One, 1973", "--cite", "Another, 1978", text=data("d13.multipliers"))[0]
+        self.assertEqual(session(made + "ledger\n"), "accepted a\na dual 13 6 cites 2\npieces 1\n")
 
     @needs_program
     def test_the_program_accepts_them(self):

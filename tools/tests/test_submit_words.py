@@ -5,7 +5,10 @@ import tempfile
 import time
 import unittest
 
-from support import call, needs_program, run, session
+from support import CITE_FAULTS, call, needs_program, run, session
+
+from code_tables import sessions
+from code_tables.cites import cites_of
 
 
 def text(words, n):
@@ -120,6 +123,28 @@ class SubmitWords(unittest.TestCase):
     def test_a_comment_writes_no_command(self):
         out = run("submit_words.py", "a", "--comment", "found\nshow 5 3\rwithdraw a\n", text="1100\n0011\n")[0]
         self.assertTrue(out.startswith("# found\n# show 5 3\n# withdraw a\nsubmit a\n"), out)
+
+    def test_the_document_cites_what_is_said(self):
+        out, said, status = run("submit_words.py", "a", "--cite", 'A. Name, A "title"', "--cite", "~ \\ " + "x" * 196, text="1100\n0011\n")
+        self.assertEqual((said, status), ("", 0))
+        fields = sessions.commands(out)[0].fields
+        self.assertEqual((cites_of(fields), fields["w"]), (['A. Name, A "title"', "~ \\ " + "x" * 196], 2))
+        self.assertEqual(out.count("format = 2\n"), 1)
+        self.assertNotIn("format", run("submit_words.py", "a", text="1100\n0011\n")[0])
+
+    def test_what_no_document_cites_is_refused(self):
+        for cites, fault in CITE_FAULTS:
+            with self.subTest(fault=fault):
+                words = [word for text in cites for word in ("--cite", text)]
+                out, said, status = call("submit_words", "a", *words, text="1100\n0011\n")
+                self.assertEqual((out, status), ("", 1))
+                self.assertIn("submit_words: refused: " + fault, said)
+
+    @needs_program
+    def test_the_program_keeps_the_cites(self):
+        words = [word for number in range(16) for word in ("--cite", f'{number}: a "name" and \\')]
+        made = run("submit_words.py", "a", *words, text="1100\n0011\n")[0]
+        self.assertEqual(session(made + "ledger\n"), "accepted a size 2\na words 4 4 2 size 2 cites 16\npieces 1\n")
 
     @needs_program
     def test_the_program_accepts_them(self):
