@@ -187,6 +187,7 @@ KINDS = ("words", "cosets", "partition", "build", "product", "dual", "jdual")
 OPERATIONS = {"lengthen": (), "append_one": (), "parity": (), "puncture": ("places",), "shorten": ("places", "digits"),
               "translate": ("by",), "complement": (), "select": ("by",), "uuv": (), "juxtapose": (), "trim": ("size",)}
 ID = re.compile("[a-z][a-z0-9_-]{0,31}")
+CITE = re.compile("[ -~]{1,200}")
 
 
 def is_number(value, least, most=2 ** 63):
@@ -207,6 +208,11 @@ def is_texts(value):
 def is_id(value):
     """Whether a value is the text of an id."""
     return isinstance(value, str) and bool(ID.fullmatch(value))
+
+
+def is_cite(value):
+    """Whether a value is a text that a document may cite."""
+    return isinstance(value, str) and bool(CITE.fullmatch(value))
 
 
 def is_whole(value):
@@ -230,15 +236,17 @@ class Piece:
         require(is_whole(self.table), "toml")
         self.kind = self.table.get("kind")
         require(self.kind in KINDS, "kind")
+        self.known, self.lists, self.parts, self.y, self.w = {"kind"}, [], [], {}, None
+        self.format = self.field("format", lambda v: is_number(v, 1, 2), 1)
         weighted, op = self.kind not in ("cosets", "dual") and "w" in self.table, self.table.get("op")
         even = weighted or self.kind == "jdual" or self.kind == "build" and op == "select"
-        self.known, self.lists, self.parts, self.y, self.w = {"kind"}, [], [], {}, None
         self.n = self.field("n", lambda v: is_number(v, 1, LAST))
         self.d = self.field("d", lambda v: is_number(v, 3, LAST) and not (even and v % 2))
         if weighted or self.kind == "jdual":
             self.w = self.field("w", lambda v: is_number(v, 0, self.n))
         self.entry = (self.n, self.d) if self.w is None else (self.n, self.d, self.w)
         getattr(self, "read_" + SAME_FORM.get(self.kind, self.kind))()
+        self.cites = self.field("cites", lambda v: is_list(v, is_cite) and len(v) <= 16, []) if self.format == 2 else []
         require(not set(self.table) - self.known, "unknown")
         for at, (word, length) in enumerate((word, length) for words, length in self.lists for word in words):
             require(re.fullmatch("[01]{%d}" % length, word), f"digits {at}")

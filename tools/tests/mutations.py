@@ -15,6 +15,8 @@ import check_derivation
 from code_tables import sessions
 from code_tables.program import program
 
+# What may stand in the place of a line of a document: keys of one that cites.
+CITING = ("format = 2", "format = 3", "cites = ['a']", "cites = ['']")
 SHORT = """derivation
 line 1 lower 3 4 value 1 by L1
 line 2 lower 6 4 value 4 by L8 from 1
@@ -94,7 +96,7 @@ def changes(document):
             continue
         for spot in [m.start() for m in re.finditer("[0-9]", line)][:40]:
             yield before + [line[:spot] + ("0" if line[spot] == "1" else "1") + line[spot + 1:]] + after
-        yield from (before + [other] + after for other in ("end", line + "\r", line + "\udcff", line + " # \u00e9"))
+        yield from (before + [other] + after for other in ("end", line + "\r", line + "\udcff", line + " # \u00e9", *CITING))
     for first, behind in blocks(lines):
         head = " ".join(lines[first].split(" ")[:2])
         yield lines[:first] + [head] + lines[first + 1:behind] + ["end"] + lines[behind:]

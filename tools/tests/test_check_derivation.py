@@ -27,6 +27,15 @@ done
 """
 PAIR = "evidence pair lines 4\nkind = 'words'\nn = 3\nd = 3\nwords = ['000', '111']\n"
 
+CITED = PAIR.replace("lines 4\n", "lines 6\nformat = 2\ncites = ['Golay 1949']\n")
+CITED_LINE = "line 1 lower 3 3 value 2 by L10 pair"
+# What stands in the place of the cites of CITED, and whether the document is refused then.
+CITES = [("[]", ""), ("['a', 'a']", ""), ("['~ !']", ""), (str(["x" * 200] * 16), ""), ("[\"\\u0041\\\\\"]", ""), ("['']", "field cites"),
+         (str(["x" * 201]), "field cites"), (str(["a"] * 17), "field cites"), ("['\u00e9']", "field cites"), ("[\"\\t\"]", "field cites"),
+         ("[\"\\u007f\"]", "field cites"), ("[1]", "field cites"), ("[['a']]", "field cites"), ("'a'", "field cites"), ("{}", "field cites")]
+# What stands in the place of its format, and whether the document is refused then.
+FORMATS = [("0x2", ""), ("1", "unknown"), ("0", "field format"), ("3", "field format"), ("true", "field format"), ("2.0", "field format"), ("'2'", "field format")]
+
 # Lines of a document between `derivation` and `done`, and the verdict.
 VERDICTS = [
     ("line 1 upper 11 6 4 value 6 by V8", "yes"),
@@ -69,6 +78,12 @@ VERDICTS = [
     (PAIR.replace("lines 4", "lines 0") + "line 1 lower 3 3 value 2 by L10 pair", "no 2 form"),
     (PAIR.replace("lines 4", "lines 40"), "no 2 form"),
     ("evidence pair\nkind = 'words'", "no 2 form"),
+    (CITED + CITED_LINE, "yes"),
+    (CITED.replace("format = 2", "# none") + CITED_LINE, "no 2 evidence unknown"),
+    (CITED.replace("cites = ['Golay 1949']", "# none") + CITED_LINE, "yes"),
+    (PAIR.replace("lines 4\n", "lines 5\nformat = 1\n") + CITED_LINE, "yes"),
+    *[(CITED.replace("['Golay 1949']", texts) + CITED_LINE, f"no 2 evidence {fault}" if fault else "yes") for texts, fault in CITES],
+    *[(CITED.replace("= 2", f"= {number}") + CITED_LINE, f"no 2 evidence {fault}" if fault else "yes") for number, fault in FORMATS],
     ("line 1 lower 3 3 value 2 by L2\n" + PAIR, "no 3 form"),
     ("# a remark", "no 2 form"),
     ("", "no 2 form"),
@@ -89,7 +104,49 @@ def texts(words, n):
     return "[" + ", ".join(f"'{word:0{n}b}'" for word in words) + "]"
 
 
+# Fields of documents with a fault each, in the order in which faults are judged: what is wrong, what is refused of it, and what is right.
+ORDERS = [
+    [("kind = 'code'", "kind", "kind = 'cosets'"), ("format = 0", "field format", "format = 2"), ("n = 31", "field n", "n = 3"), ("d = 2", "field d", "d = 3"),
+     ("basis = ''", "field basis", "basis = ['00']"), ("representatives = [0]", "field representatives", "representatives = []"),
+     ("cites = ['']", "field cites", "cites = ['a']"), ("more = 1", "unknown", ""), ("", "digits 0", "basis = []"), ("", "size 0", "representatives = ['000']")],
+    [("kind = 0", "kind", "kind = 'build'"), ("format = 3", "field format", "format = 2"), ("n = 0", "field n", "n = 4"), ("d = 31", "field d", "d = 4"),
+     ("op = 'none'", "field op", "op = 'uuv'"), ("part = 'A'", "field part", "part = 'a'"), ("other = 1", "field other", "other = 'b'"),
+     ("cites = 'a'", "field cites", "cites = ['a']"), ("more = 1", "unknown", ""), ("", "nosuch a", "")],
+    [("kind = ''", "kind", "kind = 'dual'"), ("format = [2]", "field format", "format = 2"), ("n = 0", "field n", "n = 4"), ("d = 31", "field d", "d = 4"),
+     ("even = 1", "field even", "even = true"), ("c = [-1]", "field c", "c = [0]"), ("y = [[3, 1]]", "field y", "y = []"),
+     ("cites = [1]", "field cites", "cites = []"), ("more = 1", "unknown", ""), ("", "lead", "c = [1]")],
+    [("kind = 'parts'", "kind", "kind = 'partition'"), ("format = 3", "field format", "format = 2"), ("n = 0", "field n", "n = 4"), ("d = 5", "field d", "d = 4"),
+     ("w = 5", "field w", "w = 2"), ("d1 = 5", "field d1", "d1 = 2"), ("classes = [0]", "field classes", "classes = [[], ['001']]"),
+     ("cites = [['a']]", "field cites", "cites = ['a']"), ("more = 1", "unknown", ""), ("", "digits 0", "classes = [[], ['0011']]"), ("", "size 0", "classes = [['0011']]")],
+    [("kind = 'pair'", "kind", "kind = 'product'"), ("format = 3", "field format", "format = 2"), ("n = 0", "field n", "n = 4"), ("d = 5", "field d", "d = 4"),
+     ("w = -1", "field w", "w = 2"), ("pairs = []", "field pairs", "pairs = [['a', 'b']]"), ("cites = ['a', '']", "field cites", ""), ("more = 1", "unknown", ""),
+     ("", "nosuch a", "")],
+]
+
+
+def in_order(fields):
+    """Documents with all faults, with all but the first, and so on, each with what is refused of it; nothing of one that has none left."""
+    right = []
+    for at, (_, fault, better) in enumerate(fields):
+        names = {line.split(" ")[0]: line for line in [*right, *(wrong for wrong, _, _ in fields[at:])] if line}
+        yield "\n".join(names.values()), fault
+        right.append(better)
+
+
 class CheckDerivation(unittest.TestCase):
+    def test_faults_are_judged_in_their_order(self):
+        for fields in ORDERS:
+            for document, fault in in_order(fields):
+                with self.subTest(document=document):
+                    self.assertEqual(check_derivation.verdict(f"derivation\nevidence a\n{document}\nend\n".encode()), f"no 2 evidence {fault}")
+
+    @needs_program
+    def test_the_program_judges_them_in_that_order(self):
+        documents = [pair for fields in ORDERS for pair in in_order(fields)]
+        documents += [(lines.split("\n", 1)[1].rsplit("\nline ", 1)[0], verdict.removeprefix("no 2 evidence ")) for lines, verdict in VERDICTS if "cites" in lines]
+        said = session("".join(f"submit a lines {len(document.split(chr(10)))}\n{document}\nwithdraw a\n" for document, _ in documents)).splitlines()[::2]
+        self.assertEqual(said, ["accepted a size 2" if fault == "yes" else f"refused {fault}" for _, fault in documents])
+
     def test_verdicts(self):
         for lines, verdict in VERDICTS:
             with self.subTest(lines=lines):
