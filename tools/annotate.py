@@ -22,6 +22,7 @@ import sys
 import textwrap
 
 from code_tables import sessions
+from code_tables.cites import LONGEST_CITE, MOST_CITES
 from code_tables.fitting import Standing
 from code_tables.program import TOP
 from code_tables.sessions import LAST, Refusal, texts_of, words_of
@@ -29,6 +30,8 @@ from code_tables.words import MOST_WORK, distance, span
 
 # The ranges of the fields, as docs/FORMATS.md says them.
 RANGES = {
+    "format": "the whole number 1 or 2, and 1 where it is left out",
+    "cites": f"a list of at most {MOST_CITES} texts, each of 1 to {LONGEST_CITE} bytes, in printable ASCII alone",
     "n": f"a whole number from 1 to {LAST}; for some builds at least 2, or even",
     "d": f"a whole number from 3 to {LAST}, even where `w` stands",
     "w": "a whole number from 0 to n; whether it may stand, or has to, the kind and the operation say",
@@ -95,6 +98,8 @@ def particulars(command, words):
     elif fault == "field" and rest[0] in RANGES:
         stated = command.fields.get(rest[0])
         yield f"{rest[0]} is {RANGES[rest[0]]}; " + ("it is missing" if stated is None else f"the document has {str(stated)[:60]}")
+    elif fault == "unknown" and "cites" in command.fields and command.fields.get("format", 1) == 1:
+        yield "the document has the key cites, and no `format = 2`"
     elif fault == "kind":
         yield f"the document has the kind {command.fields.get('kind')!r}"
     elif fault == "short":

@@ -4,11 +4,11 @@
     tools/cite.py 16 6 examples/nordstrom-robinson.session
     tools/cite.py 24 8 8 examples/library/*.session
 
-N D, or N D W, and then the sessions, which are run one behind the other. The pieces of each side are those of its derivation, with what the
-document cites or, where it cites nothing, the remarks right above the submission; the rules are those of the derivation, with their sources
-from docs/RULES.md. Then come the checksum of the program that answered, the commit of its sources and the toolchain that proved them, both
-`unknown` where no record beside the program holds them, and the hash of the sessions. The same as BibTeX stands below; `--bibtex` gives that
-alone."""
+N D, or N D W, and then the sessions, which are run one behind the other. The pieces of each side are those of its derivation, with the remarks
+right above the submission and what its document cites; the rules are those of the derivation, with their sources from docs/RULES.md. Then come
+the checksum of the program that answered, the commit of its sources and the toolchain that proved them, both `unknown` where no record beside
+the program holds them, and the hash of the sessions. The same as BibTeX stands below: an entry for the bound, and one more, with a `note`, for
+each text that its pieces cite. `--bibtex` gives that alone."""
 
 import argparse
 import re
@@ -45,7 +45,8 @@ def side_lines(held, side, entry, value):
         return
     for piece in table.resting(held, derivation.ids):
         size = "" if piece.size is None else f", {piece.size} words" if piece.size != 1 else ", 1 word"
-        yield f"  evidence {piece.id} ({piece.kind} of {name_of(piece.entry)}{size})" + (f": {' '.join(piece.sources)}" if piece.sources else "")
+        yield f"  evidence {piece.id} ({piece.kind} of {name_of(piece.entry)}{size})" + (f": {' '.join(piece.remarks)}" if piece.remarks else "")
+        yield from (f"    cites {text}" for text in piece.cites)
     sources = rule_sources()
     for rule in rules_of(derivation):
         yield f"  rule {rule}" + (f": {sources[rule]}" if rule in sources else "")
@@ -69,16 +70,24 @@ def escaped(text):
     return "".join(special.get(c, c) for c in text)
 
 
+def resting(held, entry):
+    """The pieces that the two bounds of an entry rest on, in ledger order."""
+    return table.resting(held, [name for side in ("lower", "upper") if (side, entry) in held.derivations for name in held.derivations[side, entry].ids])
+
+
 def as_bibtex(held, entry):
-    """The citation as an entry of BibTeX."""
+    """The citation as entries of BibTeX: the bound's, and one for each text that its pieces cite."""
     low, high = held.bounds[entry]
     claim = f"{name_of(entry)} = {low}" if low == high else rf"{low} \le {name_of(entry)} \le {high}"
-    ids = [piece.id for side in ("lower", "upper") if (side, entry) in held.derivations for piece in table.resting(held, held.derivations[side, entry].ids)]
-    rests = f"Rests on {', '.join(dict.fromkeys(ids))}. " if ids else ""
+    pieces = resting(held, entry)
+    rests = f"Rests on {', '.join(piece.id for piece in pieces)}. " if pieces else ""
     made = provenance.provenance()
     note = f"{rests}Program SHA-256 {made.program}; commit {made.commit}; toolchain {made.toolchain}; sessions SHA-256 {held.session_hash}"
-    return (f"@misc{{code-tables-{'-'.join(map(str, entry))},\n  title = {{Bounds of a proved table of codes: ${claim}$}},\n"
-            f"  author = {{{{code\\_tables}}}},\n  howpublished = {{Output of the program code\\_tables}},\n  note = {{{escaped(note)}}}\n}}\n")
+    key = f"code-tables-{'-'.join(map(str, entry))}"
+    own = (f"@misc{{{key},\n  title = {{Bounds of a proved table of codes: ${claim}$}},\n"
+           f"  author = {{{{code\\_tables}}}},\n  howpublished = {{Output of the program code\\_tables}},\n  note = {{{escaped(note)}}}\n}}\n")
+    others = [f"@misc{{{key}-cited-{number},\n  key = {{{key}}},\n  note = {{{escaped(text)}}}\n}}\n" for number, text in enumerate(table.cited(pieces), 1)]
+    return "\n".join([own, *others])
 
 
 def read_entry(words):

@@ -5,8 +5,8 @@
     accepted hexa size 6
     A(10,6) = 6
 
-Replies go to standard output. KEPT (SESSION.kept, where it isn't given) gets what `dump` prints at the end, and above each piece the remarks
-that stand right above its submission in SESSION. It is written only when all of it is there: a file of that name stays as it is where the
+Replies go to standard output. KEPT (SESSION.kept, where it isn't given) gets what `dump` prints at the end, documents with what they cite as
+they were handed in, and above each piece the remarks that stand right above its submission in SESSION. It is written only when all of it is there: a file of that name stays as it is where the
 program fails, or the session ends within a document. Ends as the program does, or with 2 where the words are wrong and 125 where nothing was
 kept. CODE_TABLES names another program than the repository's."""
 

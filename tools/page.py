@@ -5,8 +5,8 @@
 
 The sessions are run one behind the other. The page has the tables of A(n,d) and of A(n,d,w) for each d: each cell is coloured by its gap, has
 an anchor, as each entry of the table has one (`#a16-6`, `#a15-5`, `#a24-8-16`), and a mark for the last rule of each bound, and leads to its
-derivation, line by line with what each rule says and its source, to the pieces that this rests on, with their sources and documents, and to
-what is known beside it. With --csv FILE and --json FILE all entries are written beside it as data (tools/table_data.py says how), and the page
+derivation, line by line with what each rule says and its source, to the pieces that this rests on, with what they cite, their remarks and
+their documents, and to what is known beside it. With --csv FILE and --json FILE all entries are written beside it as data (tools/table_data.py says how), and the page
 links to them; with --words FOLDER the words of each code of at most 16,384 words, a file each. Else the page asks for nothing from elsewhere.
 A refused submission is said on the page and on standard error, and ends with 1."""
 
@@ -86,6 +86,18 @@ def kind_of(piece):
     """A piece's kind, entry and size."""
     size = "" if piece.size is None else ", 1 word" if piece.size == 1 else f", {piece.size} words"
     return f"{piece.kind} of {name_of(piece.entry)}{size}"
+
+
+def remarked(piece):
+    """The remarks above a piece, or that there is no source."""
+    text = " ".join(piece.remarks) or ("" if piece.cites else "No source is stated.")
+    return f"<p>{html.escape(text)}</p>" if text else ""
+
+
+def cited(piece):
+    """What the document of a piece cites, as a list; nothing where it cites nothing."""
+    texts = "".join(f"<li>{html.escape(text)}</li>" for text in piece.cites)
+    return f"<p>It cites:</p><ul>{texts}</ul>" if texts else ""
 
 
 # The colours of gaps, beside the words for them.
@@ -175,7 +187,7 @@ class Page:
             self.put("<p>This build of the program gives no derivations.</p>")
         pieces = table.resting(self.held, dict.fromkeys(ids))
         if pieces:
-            self.put("<ul>" + "".join(f"<li>{self.named(piece)}</li>" for piece in pieces) + "</ul>")
+            self.put("<ul>" + "".join(f"<li>{self.named(piece)}{cited(piece)}</li>" for piece in pieces) + "</ul>")
         self.put(f'<p><a href="#a{anchor(entry)}">to the table</a></p></details>')
 
     def known(self, entry, low, high):
@@ -214,14 +226,14 @@ class Page:
 
     # ---- the pieces, the rules and the numbers
     def pieces(self):
-        """All pieces, with their titles, sources, parts and documents."""
+        """All pieces, with their titles, remarks, cites, parts and documents."""
         self.put('<h2 id="pieces">Pieces of evidence</h2>', "<p>Each was checked by the program: every word and every distance, every inequality of a dual. A "
                  "document is handed in again by <code>submit</code> as it stands, with a line <code>end</code> below it.</p>", "<ul>")
         for piece in self.held.pieces.values():
             parts = ", ".join(f'<a href="#p-{part}">{part}</a>' for part in piece.parts)
             words = f'<p><a href="{self.words[piece.id]}" download>its words</a>, a line each</p>' if piece.id in self.words else ""
             self.put(f'<li id="p-{piece.id}"><details><summary><strong>{html.escape(piece.title)}</strong>: {piece.id}, {kind_of(piece)}</summary>',
-                     f"<p>{html.escape(' '.join(piece.sources)) or 'No source is stated.'}</p>", f"<p>Built from {parts}</p>" if parts else "", words,
+                     remarked(piece), cited(piece), f"<p>Built from {parts}</p>" if parts else "", words,
                      f'<p class="take" data-name="{piece.id}.toml"></p><pre>{html.escape(piece.document)}</pre></details></li>')
         self.put("</ul>")
 

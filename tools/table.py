@@ -5,12 +5,11 @@ tools/published.json remembers as published. The sentences of the rules are in t
 
 import hashlib
 import json
-import re
 from dataclasses import dataclass, field
 from functools import cache
 from pathlib import Path
 
-from code_tables import program, sessions
+from code_tables import cites, program, sessions
 from code_tables.sessions import LAST, Refusal
 
 LENGTHS = range(1, LAST + 1)
@@ -35,16 +34,22 @@ class Derivation:
 
 @dataclass
 class Piece:
-    """A piece of evidence: its id and kind, its entry, the number of words of its code, the ids of its parts, the lines that say where it is
-    from (what its document cites, or the remarks above it), its title and its document."""
+    """A piece of evidence: its id and kind, its entry, the number of words of its code, the ids of its parts, the remarks above its submission,
+    the texts that its document cites, its title and its document."""
     id: str
     kind: str
     entry: tuple
     size: int | None
     parts: list
-    sources: list
+    remarks: list
+    cites: list
     title: str
     document: str
+
+    @property
+    def sources(self):
+        """Where it is from: what it cites, or where it cites nothing the remarks."""
+        return self.cites or self.remarks
 
 
 @dataclass
@@ -165,22 +170,25 @@ def answers(text):
 def take_explanation(found, command, reply):
     """Takes the derivation that answers a command, where the program gives one."""
     if not reply[0].startswith("refused "):
-        ids = [line.split(" ")[1] for line in reply if line.startswith("evidence ")]
-        behind = sessions.passed(reply, 1, "evidence", None)
-        found.derivations[command.words[1], tuple(map(int, command.words[2:]))] = Derivation(ids, reply[behind:-1])
+        ids, at = [], 1
+        while (behind := sessions.passed(reply, at, "evidence", 1)) > at:
+            ids.append(reply[at].split(" ")[1])
+            at = behind
+        found.derivations[command.words[1], tuple(map(int, command.words[2:]))] = Derivation(ids, reply[at:-1])
 
 
 def piece_of(line, submitted):
-    """The piece of a line of `ledger`, with what stands above its submission."""
-    told = re.fullmatch(r"(\S+) (\S+) ((?:\d+ )*\d+?)(?: size (\d+))?", line)
-    command = submitted[told[1]]
-    fields = command.fields
-    parts = [fields[name] for name in ("part", "other") if name in fields] + [name for pair in fields.get("pairs", []) for name in pair]
-    cites = fields.get("cites", [])
-    sources = ([cites] if isinstance(cites, str) else list(cites)) or list(command.remarks)
-    title = fields.get("title") or first_sentence(" ".join(command.remarks or sources)) or told[1]
-    return Piece(told[1], told[2], tuple(map(int, told[3].split())), int(told[4]) if told[4] else None, list(dict.fromkeys(parts)), sources, title,
-                 command.document)
+    """The piece of a line of `ledger`, with what its document cites and what stands above its submission."""
+    told = sessions.piece_of(line)
+    command = submitted[told.id]
+    remarks, cited = list(command.remarks), cites.cites_of(command.fields)
+    title = first_sentence(" ".join(remarks)) or next(iter(cited), told.id)
+    return Piece(told.id, told.kind, told.entry, told.size, list(dict.fromkeys(command.parts)), remarks, cited, title, command.document)
+
+
+def cited(pieces):
+    """What pieces cite, in order, each text once."""
+    return list(dict.fromkeys(text for piece in pieces for text in piece.cites))
 
 
 def first_sentence(text):

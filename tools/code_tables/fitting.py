@@ -1,11 +1,12 @@
 """Whether replies can be those to the commands of a session: what no program can have answered is told by a sentence.
 
-It judges forms, ids, entries, sizes and counts, and no bound and no code: those are the program's."""
+It judges forms, ids, entries, sizes, cites and counts, and no bound and no code: those are the program's."""
 
 import re
 from collections.abc import Sequence
 
-from .sessions import LAST, SIZELESS, Command, Entry, bounds_of, name_of, numbers_of, size_of, texts_of
+from .cites import cites_of
+from .sessions import LAST, SIZELESS, Command, Entry, bounds_of, name_of, numbers_of, piece_of, size_of, texts_of
 
 # The lines of a reply.
 Lines = Sequence[str]
@@ -19,6 +20,7 @@ class Standing:
     def __init__(self) -> None:
         self.ids: list[str] = []
         self.parts: dict[str, list[str]] = {}
+        self.cites: dict[str, int | None] = {}
 
     def fault(self, command: Command, reply: Lines) -> str | None:
         """Why a reply can't be that to a command here; None where it can."""
@@ -66,6 +68,7 @@ class Standing:
             return f"the document has {size} words"
         self.ids.append(told[1])
         self.parts[told[1]] = command.parts
+        self.cites[told[1]] = len(cites_of(command.fields)) if command.fields else None
         return None
 
     def withdraw(self, command: Command, reply: Lines) -> str | None:
@@ -118,7 +121,18 @@ class Standing:
     def ledger(self, command: Command, reply: Lines) -> str | None:
         """Of the list of pieces."""
         told = [line.split(" ")[0] for line in reply[:-1]]
-        return None if reply[-1] == f"pieces {len(self.ids)}" and told == self.ids else f"{len(self.ids)} pieces stand: {' '.join(self.ids)}"
+        if reply[-1] != f"pieces {len(self.ids)}" or told != self.ids:
+            return f"{len(self.ids)} pieces stand: {' '.join(self.ids)}"
+        return next(filter(None, map(self.piece_fault, reply[:-1])), None)
+
+    def piece_fault(self, line: str) -> str | None:
+        """Why a line can't be that of a piece that stands."""
+        try:
+            piece = piece_of(line)
+        except ValueError:
+            return f"the line of a piece has to stand here, and not: {line}"
+        cites = self.cites[piece.id]
+        return None if cites in (None, piece.cites) else f"{piece.id} cites {cites} texts"
 
     def dump(self, command: Command, reply: Lines) -> str | None:
         """Of a dump."""

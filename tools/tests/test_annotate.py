@@ -13,6 +13,10 @@ from code_tables.fitting import Standing
 from code_tables.sessions import Command
 
 
+# A submission that cites two texts.
+CITED = "submit pair\nformat = 2\nkind = 'words'\nn = 4\nd = 4\nwords = ['0000', '1111']\ncites = ['a', 'b']\nend\n"
+
+
 class Annotate(unittest.TestCase):
     def test_each_reply_stands_beside_its_command(self):
         folder = DATA / "annotate"
@@ -70,6 +74,9 @@ class Annotate(unittest.TestCase):
                 (pair + pair, "accepted pair size 2\naccepted pair size 2", 2, "a piece of this id stands"),
                 (pair + "ledger\n", "accepted pair size 2\npieces 0", 2, "1 pieces stand: pair"),
                 (pair + "dump\n", "accepted pair size 2\n# dump of 0 pieces", 2, "1 pieces stand"),
+                (pair + "ledger\n", "accepted pair size 2\npair words 4 4 size 2 cites 1\npieces 1", 2, "pair cites 0 texts"),
+                (CITED + "ledger\n", "accepted pair size 2\npair words 4 4 size 2\npieces 1", 2, "pair cites 2 texts"),
+                (CITED + "ledger\n", "accepted pair size 2\npair words 4 4 size 2 cites 0\npieces 1", 2, "the line of a piece has to stand here"),
                 ("show 16 6\n", "A(16,8) = 32", 1, "bounds of A(16,6)"), ("show 16 6\n", "accepted a size 1", 1, "bounds of A(16,6)"),
                 ("table 30 29\n", "A(29,30,29) = 1\nA(30,30,28) = 1", 1, "bounds of A(30,30,29)"),
                 ("list 5 3\n", "code 5 3 size 1\n0000", 1, "1 words of length 5"), ("list 5 3\n", "code 6 3 size 1\n000000", 1, "a code of A(5,3)"),
@@ -83,6 +90,16 @@ class Annotate(unittest.TestCase):
                 self.assertEqual(status, 1)
                 self.assertIn(f"annotate: refused: line {line} of the replies", said)
                 self.assertIn(fault, said)
+
+    def test_documents_that_cite_are_explained(self):
+        for old, new, refusal, said in [("format = 2", "format = 3", "field format", "the whole number 1 or 2, and 1 where it is left out; the document has 3"),
+                                        ("'b'", "''", "field cites", "cites is a list of at most 16 texts, each of 1 to 200 bytes, in printable ASCII alone; the document has ['a', '']"),
+                                        ("format = 2\n", "", "unknown", "the document has the key cites, and no `format = 2`")]:
+            with self.subTest(refusal=refusal):
+                self.assertIn(said, self.annotated(CITED.replace(old, new), f"refused {refusal}\n")[0])
+        self.assertNotIn("no `format = 2`", self.annotated(CITED.replace("cites", "cite"), "refused unknown\n")[0])
+        whole = self.annotated(CITED + "ledger\n", "accepted pair size 2\npair words 4 4 size 2 cites 2\npieces 1\n")
+        self.assertEqual(whole[1:], ("", 0))
 
     def test_replies_that_the_program_gives_fit(self):
         tried = 0

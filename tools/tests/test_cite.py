@@ -27,6 +27,22 @@ class Cite(unittest.TestCase):
         self.assertTrue(out.startswith("@misc{code-tables-10-6,\n  title = {Bounds of a proved table of codes: $1 \\le A(10,6) \\le 1024$},\n"))
         self.assertEqual(out.count("{"), out.count("}"))
         self.assertIn("Rests on hexa.", out)
+        self.assertEqual(out.count("@misc"), 1)
+
+    def test_what_pieces_cite(self):
+        out, _, status = run("cite.py", 13, 6, DATA / "page/small.session", env=FAKE)
+        self.assertEqual(status, 0)
+        self.assertEqual(out.splitlines()[2:7], [
+            "  evidence cited (words of A(12,6), 1 word)", "    cites A. Name & B. Other, Of <codes>, 50% new", "    cites Another_one, 1991",
+            "  evidence longest (build of A(13,6), 1 word): The code `cited` and a digit: no word more.", "    cites Another_one, 1991"])
+
+    def test_what_pieces_cite_is_a_note_of_bibtex(self):
+        out, _, status = run("cite.py", "--bibtex", 13, 6, DATA / "page/small.session", env=FAKE)
+        self.assertEqual((status, out.count("@misc")), (0, 4))
+        self.assertIn("Rests on cited, longest.", out)
+        notes = (r"A. Name \& B. Other, Of <codes>, 50\% new", r"Another\_one, 1991", r"A third, \{1992\}")
+        self.assertEqual(out.split("\n\n", 1)[1], "\n".join(f"@misc{{code-tables-13-6-cited-{at},\n  key = {{code-tables-13-6}},\n  note = {{{note}}}\n}}\n"
+                                                            for at, note in enumerate(notes, 1)))
 
     def test_faults_are_named(self):
         for words, fault in [((10, 6), "give N D, or N D W"), ((31, 6, "x"), "A(31,6) is no entry"), ((10, 5, 3, "x"), "A(10,5,3) is no entry"),

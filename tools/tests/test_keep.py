@@ -53,6 +53,15 @@ class Keep(unittest.TestCase):
         self.assertEqual(pieces["a"].sources, ["C. Ode, by hand"])
 
     @needs_program
+    def test_documents_are_kept_with_what_they_cite(self):
+        piece = "# found by hand\nsubmit a\nformat = 2\nkind = 'words'\nn = 3\nd = 3\nwords = ['000']\ncites = ['C. Ode, 1990', 'D. Ode']\nend\n"
+        self.assertEqual(self.keep(piece + "ledger\n")[0], "accepted a size 1\na words 3 3 size 1 cites 2\npieces 1\n")
+        kept = self.kept.read_text()
+        self.assertIn("\ncites = ['C. Ode, 1990', 'D. Ode']", kept)
+        held = table.held(kept, []).pieces["a"]
+        self.assertEqual((held.cites, held.remarks, held.sources), (["C. Ode, 1990", "D. Ode"], ["found by hand"], ["C. Ode, 1990", "D. Ode"]))
+
+    @needs_program
     def test_a_dump_within_a_dump_is_no_end(self):
         out, _, status = self.keep("submit a\nkind = 'words'\nn = 3\nd = 3\nwords = ['000']\n# dump of 1 pieces\nend\ndump\nshow 3 3")
         self.assertEqual((status, out.splitlines()[-1]), (0, "A(3,3) = 2"))

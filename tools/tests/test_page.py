@@ -101,6 +101,18 @@ class Page(unittest.TestCase):
         self.assertIn('Built from <a href="#p-hexa">hexa</a>', longer)
         self.assertIn("No source is stated.", longer)
 
+    def test_pieces_stand_with_what_they_cite(self):
+        cited = "<p>It cites:</p><ul><li>A. Name &amp; B. Other, Of &lt;codes&gt;, 50% new</li><li>Another_one, 1991</li></ul>"
+        longest = "<p>It cites:</p><ul><li>Another_one, 1991</li><li>A third, {1992}</li></ul>"
+        reason = self.reason("13-6")
+        self.assertIn('<li><a href="#p-cited">cited</a> (words of A(12,6), 1 word): A. Name &amp; B. Other, Of &lt;codes&gt;, 50% new' + cited + "</li>", reason)
+        self.assertIn("The code `cited` and a digit" + longest + "</li>", reason)
+        self.assertNotIn("It cites", self.reason("10-6"))
+        piece, other = (re.search(f'<li id="p-{name}">.*?</details></li>', self.text, re.S)[0] for name in ("cited", "longest"))
+        self.assertIn(cited, piece)
+        self.assertNotIn("No source is stated.", piece)
+        self.assertIn("<p>The code `cited` and a digit: no word more.</p>\n" + longest, other)
+
     def test_what_is_known_stands_beside(self):
         for name, words in [("17-4", "Published: 2816 and 3276; the lower bound here is below, the upper above."), ("16-3", "Published: 2816 and 3276;"),
                             ("12-4-5", "Remembered as published: at least 80; the lower bound here is below."), ("20-4-7", "Not compared with published values."),
@@ -139,7 +151,7 @@ class Page(unittest.TestCase):
 
     def test_totals(self):
         self.assertRegex(self.text, r"<dt>A\(n,d\)</dt><dd>840 entries: \d+ exact")
-        self.holds("<dd>2 pieces</dd>")
+        self.holds("<dd>4 pieces</dd>")
 
     def test_refusals_are_said(self):
         self.assertEqual((self.said, self.status), ("page: submit hexa: refused taken\n", 1))
