@@ -18,6 +18,7 @@ TOP = Path(__file__).resolve().parent.parent
 sys.path.insert(0, str(TOP / "tools"))
 
 import table
+from code_tables.cites import citing
 
 EXTRA = 4
 
@@ -94,9 +95,15 @@ def product(found, m, n, w, parity):
     return sum(len(a) * len(b) for u, v in pairs for a, b in zip(found[m, u], found[n, v])), m, pairs
 
 
-def document(name, fields, remark):
-    """A submission with what it is."""
-    return "\n".join([*(f"# {line}" for line in textwrap.wrap(remark, 118)), f"submit {name}", *fields, "end\n"])
+# Where products of partitions are from.
+SOURCES = ["C. L. M. van Pul and T. Etzion, New lower bounds for constant weight codes, IEEE Trans. Inform. Theory 35 (1989), 1324-1329",
+           "A. E. Brouwer, J. B. Shearer, N. J. A. Sloane and W. D. Smith, A new table of constant weight codes, IEEE Trans. Inform. Theory 36 (1990), "
+           "1334-1380"]
+
+
+def document(name, fields, remark, cites=()):
+    """A submission with what it is, and what it cites."""
+    return "\n".join([*(f"# {line}" for line in textwrap.wrap(remark, 118)), f"submit {name}", citing("\n".join(fields), cites), "end\n"])
 
 
 def listed(classes, n):
@@ -125,7 +132,8 @@ def written(found, low):
     for n, w, size, m, pairs in products:
         texts = ", ".join(f'["p{m}-{u}", "p{n - m}-{v}"]' for u, v in pairs)
         fields = ['kind = "product"', f"n = {n}", "d = 4", f"w = {w}", f"pairs = [{texts}]"]
-        yield document(f"product{n}-{w}", fields, f"{size} words of length {n} and weight {w} at distance 4, as products of partitions of the lengths {m} and {n - m}.")
+        yield document(f"product{n}-{w}", fields, f"{size} words of length {n} and weight {w} at distance 4, as products of partitions of the lengths {m} and {n - m}.",
+                       SOURCES)
 
 
 def main():

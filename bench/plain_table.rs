@@ -310,7 +310,7 @@ struct Code {
     representatives: Vec<u32>,
 }
 
-/// The lines of a submission up to `end`.
+/// The lines of a submission up to `end`; texts that are no words, as those that are cited, are passed over.
 fn read_code<'a>(lines: &mut impl Iterator<Item = &'a str>) -> Code {
     let mut code = Code { n: 0, d: 0, basis: Vec::new(), representatives: Vec::new() };
     let mut is_basis = false;
@@ -324,7 +324,7 @@ fn read_code<'a>(lines: &mut impl Iterator<Item = &'a str>) -> Code {
         let words = if is_basis { &mut code.basis } else { &mut code.representatives };
         if line.contains('0') {
             let texts = line.split('"').skip(1).step_by(2);
-            words.extend(texts.map(|word| u32::from_str_radix(word, 2).unwrap()));
+            words.extend(texts.filter_map(|word| u32::from_str_radix(word, 2).ok()));
         }
     }
     code

@@ -39,7 +39,7 @@ def listed_cites(texts: Sequence[str]) -> str:
     """The key with a list of cites."""
     shown = ['"' + text.replace("\\", "\\\\").replace('"', '\\"') + '"' for text in texts]
     line = f"cites = [{', '.join(shown)}]"
-    return line if len(line) <= 100 else "cites = [\n  " + ",\n  ".join(shown) + "]"
+    return line if len(shown) == 1 or len(line) <= 100 else "cites = [\n  " + ",\n  ".join(shown) + "]"
 
 
 def citing(document: str, texts: Sequence[str]) -> str:

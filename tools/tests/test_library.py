@@ -7,8 +7,9 @@ from functools import cache
 
 from support import TOOLS, TOP, needs_program
 
-from code_tables import sessions
 import table
+from code_tables import sessions
+from code_tables.cites import check_cites, cites_of
 
 FILES = sorted((TOP / "examples/library").glob("*.session"))
 # The last of them holds the duals.
@@ -45,6 +46,48 @@ class Library(unittest.TestCase):
             for command in sessions.commands(file.read_text()):
                 if command.words[0] == "submit":
                     self.assertTrue(command.remarks, f"{file.name}: {command.id}")
+
+    def test_what_a_remark_names_is_cited(self):
+        for file in FILES:
+            for command in sessions.commands(file.read_text()):
+                remark, cited = " ".join(command.remarks), "\n".join(cites_of(command.fields))
+                named = re.findall(r"\b[A-Z\u00d6][\w-]+ \(?((?:19|20)\d\d)(?=[);:,.]|$| in | as )", remark) if command.words[0] == "submit" else []
+                named += re.findall(r"MacWilliams and Sloane, (ch\. \d+(?:, sec\. \d+)?)", remark)
+                with self.subTest(piece=command.id, remark=remark):
+                    self.assertEqual([name for name in named if name not in cited], [])
+
+    def test_what_a_session_names_above_all_is_cited(self):
+        for number, kinds, years in (4, ("words",), ["1990"]), (6, ("product",), ["1989", "1990"]), (7, ("dual", "jdual"), ["1973"]):
+            for command in sessions.commands(FILES[number - 1].read_text()):
+                if command.fields.get("kind") in kinds:
+                    cited = "\n".join(cites_of(command.fields))
+                    self.assertEqual([year for year in years if f"({year})" not in cited], [], command.id)
+
+    def test_cites_are_those_of_documents(self):
+        for file in FILES:
+            for command in sessions.commands(file.read_text()):
+                texts = cites_of(command.fields)
+                check_cites(texts)
+                self.assertEqual(command.fields.get("format", 1), 2 if texts else 1, command.id)
+                self.assertEqual(command.fields.get("cites", []), texts)
+
+    def test_a_work_is_cited_in_one_way(self):
+        works = {}
+        for file in FILES:
+            for command in sessions.commands(file.read_text()):
+                for text in cites_of(command.fields):
+                    title = re.sub(r", ch\. .*", "", text)
+                    works.setdefault((title[:24], re.findall(r"\d{4}", title)[0]), set()).add(title)
+        self.assertEqual([titles for titles in works.values() if len(titles) > 1], [])
+
+    def test_the_document_counts_the_pieces_that_cite(self):
+        found = sum(bool(cites_of(command.fields)) for file in FILES for command in sessions.commands(file.read_text()))
+        self.assertIn(f"{found} of the pieces cite", " ".join(TEXT.split()))
+
+    @needs_program
+    def test_the_program_keeps_what_is_cited(self):
+        cited = {command.id: cites_of(command.fields) for file in FILES for command in sessions.commands(file.read_text()) if command.words[0] == "submit"}
+        self.assertEqual({piece.id: piece.cites for piece in whole().pieces.values()}, cited)
 
     def test_the_document_counts_the_pieces(self):
         counts = {file.name: sum(command.words[0] == "submit" for command in sessions.commands(file.read_text())) for file in FILES}
