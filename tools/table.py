@@ -48,8 +48,8 @@ class Piece:
 
     @property
     def sources(self):
-        """Where it is from: what it cites, or where it cites nothing the remarks."""
-        return self.cites or self.remarks
+        """Where it is from: what it cites, then the remarks."""
+        return self.cites + self.remarks
 
 
 @dataclass

@@ -44,7 +44,7 @@ class Cites(unittest.TestCase):
         document = "format = 2\ncites = ['M. J. E. Golay, 1949', 'b']\nkind = 'words'"
         for remarks, title in [((), "M. J. E. Golay, 1949"), (("Golay's code: here.",), "Golay's code")]:
             piece = table.piece_of("a words 4 4 size 1 cites 2", {"a": Command(1, ["submit", "a"], document, remarks)})
-            self.assertEqual((piece.title, piece.sources, piece.remarks), (title, ["M. J. E. Golay, 1949", "b"], list(remarks)))
+            self.assertEqual((piece.title, piece.sources, piece.remarks), (title, ["M. J. E. Golay, 1949", "b", *remarks], list(remarks)))
         self.assertEqual(table.piece_of("a words 4 4 size 1", {"a": Command(1, ["submit", "a"], "kind = 'words'")}).title, "a")
 
     def test_evidence_is_told_from_texts_of_documents(self):

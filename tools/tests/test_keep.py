@@ -59,7 +59,7 @@ class Keep(unittest.TestCase):
         kept = self.kept.read_text()
         self.assertIn("\ncites = ['C. Ode, 1990', 'D. Ode']", kept)
         held = table.held(kept, []).pieces["a"]
-        self.assertEqual((held.cites, held.remarks, held.sources), (["C. Ode, 1990", "D. Ode"], ["found by hand"], ["C. Ode, 1990", "D. Ode"]))
+        self.assertEqual((held.cites, held.remarks, held.sources), (["C. Ode, 1990", "D. Ode"], ["found by hand"], ["C. Ode, 1990", "D. Ode", "found by hand"]))
 
     @needs_program
     def test_a_dump_within_a_dump_is_no_end(self):

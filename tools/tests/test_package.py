@@ -80,6 +80,15 @@ class Package(unittest.TestCase):
         self.assertIsNone(self.session.submit("dual", "kind = 'dual'\nn = 16\nd = 6\neven = true\nc = [560, 350, 168, 79, 28, 5]\n"))
         self.assertEqual(self.session.pieces()[-1].size, None)
 
+    def test_words_are_handed_in_with_what_they_cite(self):
+        self.session.submit("six", SIX, cites=["MacWilliams and Sloane, Appendix A", 'a "second"'])
+        self.session.submit("pair", 'format = 2\nkind = "words"\nn = 3\nd = 3\nwords = ["000", "111"]\ncites = ["by hand"]')
+        self.session.submit("none", ["0000", "1111"])
+        self.assertEqual([(piece.id, piece.size, piece.cites) for piece in self.session.pieces()], [("six", 6, 2), ("pair", 2, 1), ("none", 2, 0)])
+        for evidence, cites, fault in ((SIX, [""], "cite 1 is empty"), (SIX, "Golay 1949", "cites are a list of texts"), ("kind = 'words'", ["a"], "a document says itself")):
+            with self.assertRaisesRegex(Refusal, fault):
+                self.session.submit("more", evidence, cites=cites)
+
     def test_a_refusal_is_an_error_with_its_text(self):
         for evidence, fault in (("kind = 'words'\nn = 4\nd = 4\nwords = ['0000', '0011']", "close 0 1 2"), ("", "kind"), ("end\n", "toml")):
             with self.assertRaises(Refused) as raised:

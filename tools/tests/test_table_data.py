@@ -75,6 +75,9 @@ class Data(unittest.TestCase):
         self.assertEqual(self.json["pieces"][1] | {"document": ""}, {"id": "longer", "kind": "build", "n": 11, "d": 6, "w": None, "size": 1, "parts": ["hexa"],
                                                                      "title": "longer", "sources": [], "document": ""})
         self.assertIn('\nop = "lengthen"\n', self.json["pieces"][1]["document"])
+        self.assertEqual([piece["sources"] for piece in self.json["pieces"]], [
+            ["The six words <of length ten> & nothing else."], [], ["A. Name & B. Other, Of <codes>, 50% new", "Another_one, 1991"],
+            ["Another_one, 1991", "A third, {1992}", "The code `cited` and a digit: no word more."]])
         self.assertEqual((self.json["made"], self.json["program"]["commit"]), ("1970-01-01", "unknown"))
 
     def test_the_schema_takes_the_data_and_nothing_less(self):
