@@ -13,6 +13,7 @@
 
 SESSION is the session, and standard input what the program answered to it. The sentence of a refusal is that of docs/FORMATS.md; below it
 stand the words of a pair that is too close, the least distance of the whole list, the range of a field, the piece that stands in the way.
+Below a dual that the mode `find` wrote stands whether it is the least of its form: the primal above it is checked (tools/check_primal.py).
 With --refused only refusals are shown. Ends with 1 where there is one, as the program does, and where replies are missing or can't be those
 to this session: an id, an entry, a size or a count in them tells, and is named on standard error."""
 
@@ -21,6 +22,7 @@ import re
 import sys
 import textwrap
 
+import check_primal
 from code_tables import sessions
 from code_tables.cites import LONGEST_CITE, MOST_CITES
 from code_tables.fitting import Standing
@@ -126,6 +128,21 @@ def shown(reply):
     return f" {reply[0]}" if len(reply) == 1 else "\n    ".join(["", *reply])
 
 
+def proposed(command):
+    """What the lines of `find` above a submission say of its dual, checked."""
+    bounds, primals = ([told for remark in command.remarks if (told := read(remark))] for read in (check_primal.bound_of, check_primal.primal_of))
+    if command.words[0] != "submit" or len(bounds) != 1 or len(primals) > 1:
+        return
+    (bound, stop), primal = bounds[0], next(iter(primals), None)
+    try:
+        is_least = check_primal.checked(check_primal.Found(sessions.entry_of(command.fields), bound, stop, primal, command.document or ""))
+    except Refusal as fault:
+        yield f"    what find is said to have written above it is not so: {fault}"
+        return
+    yield f"    the dual's bound is {bound}; " + ("the primal above it is sound, so no dual of the form has a smaller bound" if is_least
+                                                 else f"that it is the least of its form is not shown: the run of find ended as {stop}")
+
+
 def annotated(session, output, known, refused_only):
     """The lines that are written, each with whether a reply was a refusal so far."""
     some, at, standing, missing = False, 0, Standing(), 0
@@ -140,6 +157,8 @@ def annotated(session, output, known, refused_only):
         if not refused_only or refused or not reply:
             yield f"{command.line}: {' '.join(command.words)}:{shown(reply)}", some
         for line in explained(command, reply[0], known) if refused else []:
+            yield line, some
+        for line in proposed(command) if reply and not refused and not refused_only else []:
             yield line, some
     if missing:
         raise Refusal(f"{missing} replies are missing: the program ended before the session did, or these are replies to another one")

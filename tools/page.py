@@ -8,6 +8,7 @@ an anchor, as each entry of the table has one (`#a16-6`, `#a15-5`, `#a24-8-16`),
 derivation, line by line with what each rule says and its source, to the pieces that this rests on, with what they cite, their remarks and
 their documents, and to what is known beside it. With --csv FILE and --json FILE all entries are written beside it as data (tools/table_data.py says how), and the page
 links to them; with --words FOLDER the words of each code of at most 16,384 words, a file each. Else the page asks for nothing from elsewhere.
+With --found FILE, what the mode `find` wrote, it is said of each bound by a dual whether the dual is the least of its form (tools/least.py).
 A refused submission is said on the page and on standard error, and ends with 1."""
 
 import argparse
@@ -15,6 +16,7 @@ import html
 import sys
 from pathlib import Path
 
+import least
 import table
 import table_data
 import words_of_pieces
@@ -109,10 +111,11 @@ KEY = ('<p class="key"><span><span class="equal">256<sup>L10 U9</sup></span>exac
 
 
 class Page:
-    """The page over what a table holds; `data` are the names of files beside it, `words` those of the words of pieces."""
+    """The page over what a table holds; `data` are the names of files beside it, `words` those of the words of pieces, `found` the replies of
+    the mode `find` by entry."""
 
-    def __init__(self, held, data=(), words=None):
-        self.held, self.data, self.words, self.out = held, data, words or {}, []
+    def __init__(self, held, data=(), words=None, found=None):
+        self.held, self.data, self.words, self.found, self.out = held, data, words or {}, found or {}, []
         self.linked = {f"a{anchor(entry)}" for entry in shown() if not is_trivial(entry)}
 
     def put(self, *lines):
@@ -183,12 +186,19 @@ class Page:
             if found:
                 ids += found.ids
                 self.put(f'<ol class="derivation">{"".join(map(self.line, found.lines))}</ol>')
+        self.least(entry)
         if not any((side, entry) in self.held.derivations for side in ("lower", "upper")):
             self.put("<p>This build of the program gives no derivations.</p>")
         pieces = table.resting(self.held, dict.fromkeys(ids))
         if pieces:
             self.put("<ul>" + "".join(f"<li>{self.named(piece)}{cited(piece)}</li>" for piece in pieces) + "</ul>")
         self.put(f'<p><a href="#a{anchor(entry)}">to the table</a></p></details>')
+
+    def least(self, entry):
+        """Whether the dual of the upper bound is the least of its form."""
+        told = least.said(self.held, entry, self.found)
+        if told:
+            self.put(f'<p class="least">{html.escape(told)}</p>')
 
     def known(self, entry, low, high):
         """What is known beside the bounds of an entry."""
@@ -313,14 +323,16 @@ def main():
     parser.add_argument("--json", help="a file for all entries, with their derivations and the documents of the pieces, as JSON")
     parser.add_argument("--schema", help="a file for the schema of the JSON file")
     parser.add_argument("--words", help="a folder for the words of the codes")
+    parser.add_argument("--found", help="a file with what the mode find wrote")
     parser.add_argument("--without-derivations", action="store_true", help="leave the derivations out")
     options = parser.parse_args()
     try:
+        found = least.read(options.found) if options.found else None
         entries = table.entries() if options.csv or options.json else [entry for entry in shown() if not is_trivial(entry)]
         asked = [] if options.without_derivations else [f"explain {side} {' '.join(map(str, entry))}" for entry in entries for side in ("lower", "upper")]
         held = table.held(table.read_sessions(options.sessions), table.ask_all() + asked)
         names = [beside(path) for path in (options.csv, options.json, options.schema) if path]
-        text = Page(held, names, write_words(options.words, held) if options.words else None).text()
+        text = Page(held, names, write_words(options.words, held) if options.words else None, found).text()
         if options.csv:
             table_data.write_csv(options.csv, held)
         if options.json:

@@ -6,6 +6,7 @@ import unittest
 from pathlib import Path
 
 from support import DATA, TOP, call, data, needs_program, run, session
+from test_check_primal import ONES, PLAIN
 
 import annotate
 from code_tables import sessions
@@ -120,6 +121,21 @@ class Annotate(unittest.TestCase):
                         self.assertTrue(reply)
                         self.assertIsNone(standing.fault(command, reply), (command.words, reply[0]))
         self.assertGreater(tried, 500)
+
+    def test_below_a_dual_that_was_found_stands_whether_it_is_the_least(self):
+        for text, words in [
+                (PLAIN, "the dual's bound is 256; the primal above it is sound, so no dual of the form has a smaller bound"),
+                (ONES, "the dual's bound is 16; that it is the least of its form is not shown: the run of find ended as turns 0"),
+                (PLAIN.replace("10:112", "10:113"), "what find is said to have written above it is not so: the primal is not sound: for k = 1"),
+                (PLAIN.replace("least", "wide"), "not so: the run ended as wide, and a primal is printed"),
+                (PLAIN.replace("n = 16", "n = 'x'"), "not so: the dual is refused: field n"), (PLAIN.replace("n = 16", "N = 16"), "not so: the dual is refused: field n"),
+                (PLAIN.replace("# bound", "# no bound"), None), (PLAIN.replace("# primal", "\n# primal"), None)]:
+            with self.subTest(text=text):
+                name = text.split("submit ")[1].split(" ")[0]
+                out, said, status = self.annotated(text, f"accepted {name}\n")
+                self.assertEqual((said, status, out.count("\n")), ("", 0, 1 + (words is not None)))
+                self.assertIn(words or "accepted", out)
+        self.assertNotIn("bound", self.annotated(PLAIN, "refused taken\n")[0])
 
     def test_a_code_without_words_is_told(self):
         for text in ("kind = 'words'\nwords = []", "kind = 'cosets'\nbasis = []\nrepresentatives = []", "kind = 'partition'\nd1 = 1\nclasses = [[]]", ""):
