@@ -57,7 +57,8 @@ class CheckPrimal(unittest.TestCase):
                 (PLAIN, "256", "255", "the dual's bound is 256, and 255 is printed"), (PLAIN, "[20,", "[0,", "the dual is refused: lead"),
                 (PLAIN, "20, 6,", "20, 7,", "the dual is refused: above 16 120 0"), (PLAIN, "lines 5", "lines 6\ny = [[6, 1]]", "the dual has a y"),
                 (PLAIN, "find-16-6", "find-16-8", "no dual of this entry"), (PLAIN, "find-16-6", "find-31-6", "no dual of this entry"),
-                (PLAIN, "least", "wide", "the run ended as wide, and a primal is printed"), (ONES, "turns 0", "least", "the run ended as least, and no primal is printed")]:
+                (PLAIN, "least", "wide", "the run ended as wide, and a primal is printed"), (ONES, "turns 0", "least", "the run ended as least, and no primal is printed"),
+                (ONES, "bound 16", "bound 17", "the dual's bound is 16, and 17 is printed")]:
             with self.subTest(new=new):
                 self.assertEqual(text.count(old), 1)
                 out, said, status = call("check_primal", text=text.replace(old, new))
