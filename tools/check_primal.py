@@ -1,12 +1,14 @@
 #!/usr/bin/env python3
 """Checks the primals that the mode `find` prints, without the program: that no dual of the same form has a smaller bound.
 
-    $ printf '8 4 4\\n23 6 11\\n' | ./code_tables find | tools/check_primal.py
+    $ printf '# bound 14 least\\n# primal 48 2:576 4:48\\nsubmit find-8-4-4 lines 5\\n' > found
+    $ printf 'kind = "jdual"\\nn = 8\\nd = 4\\nw = 4\\nc = [48, 21, 4]\\n' >> found
+    $ tools/check_primal.py < found
     A(8,4,4): 14 is the least bound
-    A(23,6,11): 9013 is a bound, not shown to be the least: the run ended as wide
 
-Standard input is what `find` wrote. A line `# primal Q I:A ..` stands for the numbers A_i = A/Q of Delsarte's linear program (docs/DUALS.md). It is
-sound where Q and each A are at least 1, the I ascend through the indices of the entry, even ones where the dual is of even distances, and
+Standard input is what `find` wrote, as in ./code_tables find < entries | tools/check_primal.py. A line `# primal Q I:A ..` stands for the numbers
+A_i = A/Q of Delsarte's linear program (docs/DUALS.md). It is sound where Q and each A are at least 1, the I ascend through the indices of the
+entry, even ones where the dual is of even distances, and
 
     N_k(0) + sum of A_i N_k(i) >= 0   for k = 1 to the degree,
 
