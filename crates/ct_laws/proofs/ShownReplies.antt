@@ -2,7 +2,7 @@
 use Rattle.std.proofs.Common.{◌≡◌, ℕ, List, All, length, Option, Some, None, sym, subst, ◌∙◌}
 use Rattle.ct_codes.specs.declared.entry.Entry.{Entry}
 use Rattle.ct_codes.specs.Claim.{IsTrueClaim}
-use Rattle.ct_codes.specs.Code.{CodeValue, IsSoundCode}
+use Rattle.ct_codes.specs.Code.{CodeValue, IsSoundCode, IsTrueUpper}
 use Rattle.ct_codes.specs.declared.claim.Side.{Side}
 use Rattle.ct_codes.specs.declared.claim.Side.TheVariants.{Lower, Upper}
 use Rattle.ct_rules.specs.Derivation.{IsBest}
@@ -20,6 +20,7 @@ use Rattle.ct_replies.specs.Text.{code_text}
 use Rattle.ct_replies.specs.declared.reply.Bounds.{Bounds}
 use Rattle.ct_replies.specs.declared.reply.Reply.{Reply}
 use Rattle.ct_replies.specs.declared.reply.Reply.TheVariants.{Shown, Lines}
+use Rattle.ct_laws.specs.GreatestSize.{IsGreatestSize}
 use Rattle.ct_laws.specs.Sides.{bound_on}
 
 -- the bounds that are shown are those of the entry
@@ -57,3 +58,17 @@ listed_shown pieces (Some e) b r h k =
       best_shown pieces Lower e b (length k.code.words) of_entry k.listed.best,
       k.shown,
     )
+
+-- bounds that are equal are the greatest size
+pub equal_exact : (pieces : List PieceValue) (e : Entry) (b : Bounds) → AreBoundsOf pieces e b → b.lower ≡ b.upper → IsGreatestSize e b.lower
+equal_exact pieces e b h same = record {
+  reached = h.lower.truth.truth;
+  greatest = subst (IsTrueUpper e) (sym same) h.upper.truth.truth;
+}
+
+-- where they are shown, those of the entry that they name
+pub exact_shown : (pieces : List PieceValue) (o : Option Entry) (b : Bounds) → IsShowReply pieces o (Shown b) → b.lower ≡ b.upper → IsGreatestSize b.entry b.lower
+exact_shown pieces None b h same = absurd cc
+exact_shown pieces (Some e) b h same =
+    let of_entry = bounds_shown pieces e b h in
+    subst (λ (f : Entry). IsGreatestSize f b.lower) (sym of_entry.entry) (equal_exact pieces e b of_entry same)

@@ -16,6 +16,7 @@ pub use laws::{
 };
 pub use proposed::proposals_are_taken;
 pub use replies::{
-    explained_bounds_are_shown, explained_bounds_are_verified, shown_lower_bounds_are_listed,
+    equal_bounds_are_exact, explained_bounds_are_shown, explained_bounds_are_verified,
+    shown_lower_bounds_are_listed,
 };
 pub use verdicts::verdicts_name_the_first_failure;

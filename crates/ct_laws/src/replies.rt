@@ -4,6 +4,7 @@ ghost use Rattle.std.specs.Prelude.{◌≡◌, ◌≤◌, ℕ, All, Bool, false,
 ghost use Rattle.ct_codes.specs.Claim.{IsTrueClaim};
 ghost use Rattle.ct_codes.specs.Code.{CodeValue, IsSoundCode};
 ghost use Rattle.ct_codes.specs.declared.claim.Side.{Side};
+ghost use Rattle.ct_codes.specs.declared.entry.Entry.{Entry};
 ghost use Rattle.ct_lines.specs.Lines.{lines_of};
 ghost use Rattle.ct_commands.specs.Command.{commands_of};
 ghost use Rattle.ct_commands.specs.declared.command.Command.TheVariants as command;
@@ -16,7 +17,7 @@ ghost use Rattle.ct_pieces.specs.Piece.{PieceValue};
 ghost use Rattle.ct_pieces.specs.Standing.{AreStanding};
 ghost use Rattle.ct_pieces.specs.Supports.{supports_of};
 ghost use Rattle.ct_rule_codes.specs.CodeEntry.{entry_of};
-ghost use Rattle.ct_session.specs.Reply.{IsReply};
+ghost use Rattle.ct_session.specs.Reply.{AreBoundsOf, IsReply};
 ghost use Rattle.ct_replies.specs.Refusals.{is_refusal};
 ghost use Rattle.ct_session.specs.Run.{IsRun};
 ghost use Rattle.ct_replies.specs.Text.{code_text, reply_text};
@@ -25,6 +26,7 @@ ghost use Rattle.ct_replies.specs.declared.reply.Reply.{Reply};
 ghost use Rattle.ct_replies.specs.declared.reply.Reply.TheVariants.{Shown, Lines};
 ghost use Rattle.ct_verify.specs.Verdict.{verdict_of};
 ghost use Rattle.ct_verify.specs.declared.verdict.Verdict.TheVariants.{Yes};
+ghost use Rattle.ct_laws.specs.GreatestSize.{IsGreatestSize};
 ghost use Rattle.ct_laws.specs.Sides.{bound_on};
 
 /// What `explain` shows over the same pieces is an explanation of the bound that `show` shows, and where they stand, all that it claims is
@@ -34,6 +36,14 @@ pub fn explained_bounds_are_shown()
         → IsReply pieces (command.Show numbers) (Shown b) → IsReply pieces (command.Explain side numbers) r
         → (d : DerivationValue) × IsExplanation (supports_of pieces) (side, b.entry) (bound_on side b) d.lines
         × (r ≡ Lines (explanation_text pieces d)) × All (λ l. IsTrueClaim l.claim) d.lines }
+{}
+
+/// Where `show` writes `A(N,D) = V` or `A(N,D,W) = V`, as it does where the two bounds are equal, V is that number: some code of the entry has
+/// so many words, and none has more. The same of each line of `table`.
+pub fn equal_bounds_are_exact()
+    ensures show { (pieces : List PieceValue) (numbers : EntryNumbers) (b : Bounds)
+        → IsReply pieces (command.Show numbers) (Shown b) → b.lower ≡ b.upper → IsGreatestSize b.entry b.lower }
+    ensures entry { (pieces : List PieceValue) (e : Entry) (b : Bounds) → AreBoundsOf pieces e b → b.lower ≡ b.upper → IsGreatestSize e b.lower }
 {}
 
 /// What `list` shows over the same pieces is a code of the entry with just as many words as the lower bound that `show` shows.
