@@ -11,7 +11,7 @@ use Rattle.ct_fields.specs.Document.{table_of}
 use Rattle.ct_fields.specs.Tables.{IsDocument, IsOfKind}
 use Rattle.ct_fields.specs.declared.document.TheConstants.{MAX_DOCUMENT}
 use Rattle.ct_fields.specs.declared.fault.FileFault.{FileFault}
-use Rattle.ct_fields.specs.declared.fault.FileFault.TheVariants.{Bytes, NotToml, Kind as NoKind}
+use Rattle.ct_fields.specs.declared.fault.FileFault.TheVariants.{Bytes, NotToml, Field, Kind as NoKind}
 use Rattle.ct_fields.proofs.FieldLemmas.{is_of_kind-true, is_of_kind-from}
 use Rattle.ct_evidence.specs.declared.evidence.Evidence.{Evidence}
 use Rattle.ct_evidence.specs.declared.evidence.Evidence.TheVariants as evidence
@@ -21,39 +21,76 @@ use Rattle.ct_partition_files.proofs.PartitionAnswers.{partition_answers}
 use Rattle.ct_partition_files.proofs.ProductAnswers.{product_answers}
 use Rattle.ct_build_files.proofs.BuildFaultAnswers.{build_answers}
 use Rattle.ct_files.specs.Evidence.{evidence_of, read_without_limit, read_of}
-use Rattle.ct_files.specs.Kinds.{Kind, kind_of, kind_text, evidence_by, IsAnswer, IsOfNoKind}
-use Rattle.ct_files.specs.Kinds as kind
+use Rattle.ct_files.specs.Kinds.{kind_of, kind_text, kind_in, evidence_by}
+use Rattle.ct_files.specs.Answers.{IsFieldsAnswer, IsAnswer, of_format, of_fields, IsOfNoKind}
+use Rattle.ct_files.specs.declared.kind.Kind.{Kind}
+use Rattle.ct_files.specs.declared.kind.Kind.TheVariants as kind
+use Rattle.ct_fields.specs.Steps.{◌>>=◌}
+use Rattle.ct_fields.specs.Format.{format_of}
+use Rattle.ct_fields.specs.HasCites.{HasRightFormat}
+use Rattle.ct_fields.specs.declared.field.FieldName.TheVariants.{Format}
+use Rattle.ct_fields.proofs.StepLemmas.{bind-at, bind-at_err, bind-cases}
+use Rattle.ct_fields.proofs.CiteLemmas.{format_of-ok, format_of-from, format_of-err, format_of-wrong}
 use Rattle.ct_files.proofs.DualEvidence.{dual_evidences, johnson_dual_evidences}
 
 -- ---- what is said of each kind
 
--- a document of the kind reads as its evidence
-pub evidence_of-kind : (k : Kind) (document : Data) → IsOfKind (kind_text k) document → evidence_of document ≡ evidence_by k document
-unfolding evidence_of
-evidence_of-kind kind.words document of_kind = rw of_kind refl
-evidence_of-kind k document of_kind = rw of_kind refl
+-- a document of the kind names it
+kind_in-named : (k : Kind) (document : Data) → IsOfKind (kind_text k) document → kind_in document ≡ Ok k
+kind_in-named kind.Words document of_kind = rw of_kind refl
+kind_in-named k document of_kind = rw of_kind refl
 
--- each answer to a document of the kind comes where it is said to come
+-- a document of the kind reads as its evidence, once its format is right
+pub evidence_of-kind : (k : Kind) (document : Data) → IsOfKind (kind_text k) document
+    → evidence_of document ≡ (format_of document >>= (λ _. evidence_by k document))
+unfolding evidence_of
+evidence_of-kind k document of_kind = bind-at (kind_in document) _ k (kind_in-named k document of_kind)
+
+-- each answer to its fields comes where it is said to come
+pub fields_by : (k : Kind) (ms : Members) → IsOfKind (kind_text k) (table ms) → (answer : Result Evidence FileFault)
+    → (evidence_by k (table ms) ≡ answer) ↔ IsFieldsAnswer k (table ms) answer
+fields_by kind.Words = words_answers
+fields_by kind.Cosets = cosets_answers
+fields_by kind.Partition = partition_answers
+fields_by kind.Build = build_answers
+fields_by kind.Product = product_answers
+fields_by kind.Dual = dual_evidences
+fields_by kind.JohnsonDual = johnson_dual_evidences
+
+-- and so does each answer to the document
+answer_by : (k : Kind) (ms : Members) → IsOfKind (kind_text k) (table ms) → IsAnswer k (table ms) (evidence_of (table ms))
+answer_by k ms named =
+    let P : Result Evidence FileFault → Type 0 = IsAnswer k (table ms) in
+    subst P (sym (evidence_of-kind k (table ms) named))
+    (bind-cases P (format_of (table ms)) (λ _. evidence_by k (table ms))
+    (λ f is. of_fields (f, format_of-ok (table ms) f is) ((fields_by k ms named (evidence_by k (table ms))).0 refl))
+    (λ fault is. let (same, wrong) = format_of-err (table ms) fault is in of_format wrong (ap (λ (f : FileFault). Err f) (sym same))))
+
+answer_by-from : (k : Kind) (ms : Members) → IsOfKind (kind_text k) (table ms) → (answer : Result Evidence FileFault) → IsAnswer k (table ms) answer
+    → evidence_of (table ms) ≡ answer
+answer_by-from k ms named answer (of_format wrong same) =
+    evidence_of-kind k (table ms) named ∙ bind-at_err (format_of (table ms)) _ (Field Format) (format_of-wrong (table ms) wrong) ∙ sym same
+answer_by-from k ms named answer (of_fields (f, has) comes) =
+    evidence_of-kind k (table ms) named ∙ bind-at (format_of (table ms)) _ f (format_of-from (table ms) f has) ∙ (fields_by k ms named answer).1 comes
+
 answers_by : (k : Kind) (ms : Members) → IsOfKind (kind_text k) (table ms) → (answer : Result Evidence FileFault)
-    → (evidence_by k (table ms) ≡ answer) ↔ IsAnswer k (table ms) answer
-answers_by kind.words = words_answers
-answers_by kind.cosets = cosets_answers
-answers_by kind.partition = partition_answers
-answers_by kind.build = build_answers
-answers_by kind.product = product_answers
-answers_by kind.dual = dual_evidences
-answers_by kind.johnson_dual = johnson_dual_evidences
+    → (evidence_of (table ms) ≡ answer) ↔ IsAnswer k (table ms) answer
+answers_by k ms named answer = (λ same. subst (IsAnswer k (table ms)) same (answer_by k ms named), answer_by-from k ms named answer)
 
 -- the evidence of a document of the kind is of the kind
+fields_of_kind : (k : Kind) (document : Data) (e : Evidence) → IsFieldsAnswer k document (Ok e) → k ≡ kind_of e
+fields_of_kind kind.Words document (evidence.Words _ _) states = refl
+fields_of_kind kind.Cosets document (evidence.Cosets _ _ _) states = refl
+fields_of_kind kind.Partition document (evidence.Partition _ _ _) states = refl
+fields_of_kind kind.Build document (evidence.Build _ _ _ _) states = refl
+fields_of_kind kind.Product document (evidence.Product _ _) states = refl
+fields_of_kind kind.Dual document (evidence.Dual _) states = refl
+fields_of_kind kind.JohnsonDual document (evidence.JohnsonDual _) states = refl
+fields_of_kind k document other never = absurd never
+
 of_its_kind : (k : Kind) (document : Data) (e : Evidence) → IsAnswer k document (Ok e) → k ≡ kind_of e
-of_its_kind kind.words document (evidence.Words _ _) states = refl
-of_its_kind kind.cosets document (evidence.Cosets _ _ _) states = refl
-of_its_kind kind.partition document (evidence.Partition _ _ _) states = refl
-of_its_kind kind.build document (evidence.Build _ _ _ _) states = refl
-of_its_kind kind.product document (evidence.Product _ _) states = refl
-of_its_kind kind.dual document (evidence.Dual _) states = refl
-of_its_kind kind.johnson_dual document (evidence.JohnsonDual _) states = refl
-of_its_kind k document other never = absurd never
+of_its_kind k document e (of_format wrong other) = absurd cc
+of_its_kind k document e (of_fields right states) = fields_of_kind k document e states
 
 -- the faults of bytes and of a kind are none of a document of the kind
 record NoneOutside (k : Kind) (document : Data) : Type 0 where
@@ -61,9 +98,28 @@ record NoneOutside (k : Kind) (document : Data) : Type 0 where
   no_toml : ¬ (IsAnswer k document (Err NotToml))
   no_kind : ¬ (IsAnswer k document (Err NoKind))
 
+record NoneOfFields (k : Kind) (document : Data) : Type 0 where
+  bytes : (b : ℕ) → ¬ (IsFieldsAnswer k document (Err (Bytes b)))
+  no_toml : ¬ (IsFieldsAnswer k document (Err NotToml))
+  no_kind : ¬ (IsFieldsAnswer k document (Err NoKind))
+
+none_of_fields : (k : Kind) (document : Data) → NoneOfFields k document
+none_of_fields kind.Words document = record { bytes = λ b h. h; no_toml = λ h. h; no_kind = λ h. h }
+none_of_fields k document = record { bytes = λ b h. h; no_toml = λ h. h; no_kind = λ h. h }
+
 none_outside : (k : Kind) (document : Data) → NoneOutside k document
-none_outside kind.words document = record { bytes = λ b h. h; no_toml = λ h. h; no_kind = λ h. h }
-none_outside k document = record { bytes = λ b h. h; no_toml = λ h. h; no_kind = λ h. h }
+none_outside k document = record { bytes = bytes_never; no_toml = toml_never; no_kind = kind_never } where
+  bytes_never : (b : ℕ) → ¬ (IsAnswer k document (Err (Bytes b)))
+  bytes_never b (of_format wrong other) = absurd cc
+  bytes_never b (of_fields right comes) = (none_of_fields k document).bytes b comes
+
+  toml_never : ¬ (IsAnswer k document (Err NotToml))
+  toml_never (of_format wrong other) = absurd cc
+  toml_never (of_fields right comes) = (none_of_fields k document).no_toml comes
+
+  kind_never : ¬ (IsAnswer k document (Err NoKind))
+  kind_never (of_format wrong other) = absurd cc
+  kind_never (of_fields right comes) = (none_of_fields k document).no_kind comes
 
 -- ---- documents of any kind
 
@@ -74,24 +130,24 @@ other_kind document none k =
 
 -- the kinds in the order in which a document is asked for them
 abbrev kinds : List Kind
-kinds = kind.words ∷ kind.cosets ∷ kind.partition ∷ kind.build ∷ kind.product ∷ kind.dual ∷ kind.johnson_dual ∷ []
+kinds = kind.Words ∷ kind.Cosets ∷ kind.Partition ∷ kind.Build ∷ kind.Product ∷ kind.Dual ∷ kind.JohnsonDual ∷ []
 
--- the evidence of a document by the first of these kinds that it is of
-abbrev evidence_among : List Kind → Data → Result Evidence FileFault
-evidence_among [] document = Err NoKind
-evidence_among (k ∷ ks) document = if is_of_kind (kind_text k) document then evidence_by k document else evidence_among ks document
+-- the first of these kinds that a document is of
+abbrev kind_among : List Kind → Data → Result Kind FileFault
+kind_among [] document = Err NoKind
+kind_among (k ∷ ks) document = if is_of_kind (kind_text k) document then Ok k else kind_among ks document
 
-evidence_of-among : (document : Data) → evidence_of document ≡ evidence_among kinds document
-unfolding evidence_of
-evidence_of-among document = refl
+kind_in-among : (document : Data) → kind_in document ≡ kind_among kinds document
+kind_in-among document = refl
 
-evidence_among-other : (ks : List Kind) (document : Data) → IsOfNoKind document → evidence_among ks document ≡ Err NoKind
-evidence_among-other [] document none = refl
-evidence_among-other (k ∷ ks) document none = rw (other_kind document none k) (evidence_among-other ks document none)
+kind_among-other : (ks : List Kind) (document : Data) → IsOfNoKind document → kind_among ks document ≡ Err NoKind
+kind_among-other [] document none = refl
+kind_among-other (k ∷ ks) document none = rw (other_kind document none k) (kind_among-other ks document none)
 
 -- a document of no kind is refused
 evidence_of-other : (document : Data) → IsOfNoKind document → evidence_of document ≡ Err NoKind
-evidence_of-other document none = evidence_of-among document ∙ evidence_among-other kinds document none
+unfolding evidence_of
+evidence_of-other document none = bind-at_err (kind_in document) _ NoKind (kind_in-among document ∙ kind_among-other kinds document none)
 
 -- the document is of none of these kinds
 abbrev NoneOf : List Kind → Data → Type 0
@@ -99,13 +155,13 @@ NoneOf [] document = Unit {0}
 NoneOf (k ∷ ks) document = ¬ (IsOfKind (kind_text k) document) × NoneOf ks document
 
 none_of_all : (document : Data) → NoneOf kinds document → IsOfNoKind document
-none_of_all document none kind.words = none.0
-none_of_all document none kind.cosets = none.1.0
-none_of_all document none kind.partition = none.1.1.0
-none_of_all document none kind.build = none.1.1.1.0
-none_of_all document none kind.product = none.1.1.1.1.0
-none_of_all document none kind.dual = none.1.1.1.1.1.0
-none_of_all document none kind.johnson_dual = none.1.1.1.1.1.1.0
+none_of_all document none kind.Words = none.0
+none_of_all document none kind.Cosets = none.1.0
+none_of_all document none kind.Partition = none.1.1.0
+none_of_all document none kind.Build = none.1.1.1.0
+none_of_all document none kind.Product = none.1.1.1.1.0
+none_of_all document none kind.Dual = none.1.1.1.1.1.0
+none_of_all document none kind.JohnsonDual = none.1.1.1.1.1.1.0
 
 -- the document is of one of these kinds or of none
 one_or_none : (ks : List Kind) (document : Data) → ((k : Kind) × IsOfKind (kind_text k) document) ⊎ NoneOf ks document
@@ -145,7 +201,7 @@ short_or_long bytes =
     ]
 
 -- the table of bytes that are not too many is the one that they write
-document_from : (bytes : List ℕ) (document : Data) → length bytes ≤ MAX_DOCUMENT → table_of bytes ≡ Some document → IsDocument bytes document
+pub document_from : (bytes : List ℕ) (document : Data) → length bytes ≤ MAX_DOCUMENT → table_of bytes ≡ Some document → IsDocument bytes document
 unfolding table_of
 document_from bytes document short e =
     elim (cases_Bool (is_utf8 bytes)) [
@@ -191,7 +247,7 @@ data DocumentAnswer (document : Data) (answer : Result Evidence FileFault) : Typ
 table_answer : (ms : Members) → DocumentAnswer (table ms) (evidence_of (table ms))
 table_answer ms =
     elim (one_or_none kinds (table ms)) [
-      | inl (k, named) ↦ of_kind k named ((answers_by k ms named (evidence_of (table ms))).0 (sym (evidence_of-kind k (table ms) named)))
+      | inl (k, named) ↦ of_kind k named (answer_by k ms named)
       | inr none ↦ let of_none = none_of_all (table ms) none in of_no_kind of_none (evidence_of-other (table ms) of_none)
     ]
 
@@ -223,15 +279,15 @@ pub answers : (k : Kind) (bytes : List ℕ) (document : Data) (answer : Result E
     → (read_of bytes ≡ answer) ↔ IsAnswer k document answer
 answers k bytes document answer written named =
     let (ms, parsed, same) = written.written in
-    let read = read_of-document bytes document written ∙ evidence_of-kind k document named in
+    let read = read_of-document bytes document written in
     let (to, from) =
-    subst (λ (d : Data). IsOfKind (kind_text k) d → (evidence_by k d ≡ answer) ↔ IsAnswer k d answer) (sym same) (λ here. answers_by k ms here answer) named
+    subst (λ (d : Data). IsOfKind (kind_text k) d → (evidence_of d ≡ answer) ↔ IsAnswer k d answer) (sym same) (λ here. answers_by k ms here answer) named
     in (λ e. to (sym read ∙ e), λ h. read ∙ from h)
 
 -- a table that states an evidence of its kind reads as it
 pub evidence_of-stated : (ms : Members) (e : Evidence) → IsOfKind (kind_text (kind_of e)) (table ms) → IsAnswer (kind_of e) (table ms) (Ok e)
     → evidence_of (table ms) ≡ Ok e
-evidence_of-stated ms e named states = evidence_of-kind (kind_of e) (table ms) named ∙ (answers_by (kind_of e) ms named (Ok e)).1 states
+evidence_of-stated ms e named states = answer_by-from (kind_of e) ms named (Ok e) states
 
 -- what a table reads as, its kind says of it
 stated_by : (document : Data) (e : Evidence) → DocumentAnswer document (Ok e) → IsAnswer (kind_of e) document (Ok e)
@@ -241,11 +297,17 @@ stated_by document e (of_no_kind none other) = absurd cc
 pub table_states : (ms : Members) (e : Evidence) → evidence_of (table ms) ≡ Ok e → IsAnswer (kind_of e) (table ms) (Ok e)
 table_states ms e read = stated_by (table ms) e (subst (DocumentAnswer (table ms)) read (table_answer ms))
 
+-- an evidence is stated by a right format and the fields of its kind
+pub stated_fields : (k : Kind) (document : Data) (e : Evidence) → IsAnswer k document (Ok e) → HasRightFormat document × IsFieldsAnswer k document (Ok e)
+stated_fields k document e (of_format wrong other) = absurd cc
+stated_fields k document e (of_fields right states) = (right, states)
+
 -- a document that is accepted as an evidence states it
 pub record Accepted (bytes : List ℕ) (e : Evidence) : Type 0 where
   pub document : Data
   pub written : IsDocument bytes document
-  pub states : IsAnswer (kind_of e) document (Ok e)
+  pub format : HasRightFormat document
+  pub states : IsFieldsAnswer (kind_of e) document (Ok e)
 
 pub accepted : (bytes : List ℕ) (e : Evidence) → read_of bytes ≡ Ok e → Accepted bytes e
 accepted bytes e read = at (rw read at (bytes_answer bytes))
@@ -253,12 +315,14 @@ accepted bytes e read = at (rw read at (bytes_answer bytes))
     at : BytesAnswer bytes (Ok e) → Accepted bytes e
     at (long many other) = absurd cc
     at (no_table short none other) = absurd cc
-    at (of_document document written answer) = record { document = document; written = written; states = stated_by document e answer }
+    at (of_document document written answer) =
+        let (format, states) = stated_fields (kind_of e) document e (stated_by document e answer) in
+        record { document = document; written = written; format = format; states = states }
 
 -- and one that states it is accepted so
 pub accepted-from : (bytes : List ℕ) (e : Evidence) (document : Data) → IsDocument bytes document → IsOfKind (kind_text (kind_of e)) document
-    → IsAnswer (kind_of e) document (Ok e) → read_of bytes ≡ Ok e
-accepted-from bytes e document written named states = (answers (kind_of e) bytes document (Ok e) written named).1 states
+    → HasRightFormat document → IsFieldsAnswer (kind_of e) document (Ok e) → read_of bytes ≡ Ok e
+accepted-from bytes e document written named format states = (answers (kind_of e) bytes document (Ok e) written named).1 (of_fields format states)
 
 -- the kind of a document is refused exactly where it is another one
 pub no_kind : (bytes : List ℕ) (document : Data) → IsDocument bytes document → (read_of bytes ≡ Err NoKind) ↔ IsOfNoKind document

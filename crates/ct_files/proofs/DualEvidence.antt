@@ -10,7 +10,7 @@ use Rattle.ct_dual_files.proofs.DualAnswers.{dual_answers, dual_answer-from}
 use Rattle.ct_dual_files.proofs.JohnsonDualAnswers.{johnson_dual_answers, johnson_dual_answer-from}
 use Rattle.ct_evidence.specs.declared.evidence.Evidence.{Evidence}
 use Rattle.ct_evidence.specs.declared.evidence.Evidence.TheVariants as evidence
-use Rattle.ct_files.specs.Evidence.{dual_evidence_of, johnson_dual_evidence_of}
+use Rattle.ct_files.specs.Kinds.{dual_evidence_of, johnson_dual_evidence_of}
 use Rattle.ct_files.specs.DualAnswer.{IsDualEvidence, IsJohnsonDualEvidence}
 
 -- the answer to a document of kind dual comes where it is said to come

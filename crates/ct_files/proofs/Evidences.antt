@@ -19,8 +19,9 @@ use Rattle.ct_fields.specs.declared.document.TheConstants.{MAX_DOCUMENT}
 use Rattle.ct_evidence.specs.declared.evidence.Evidence.{Evidence}
 use Rattle.ct_evidence.specs.declared.evidence.Evidence.TheVariants.{Words, Cosets, Partition, Build, Product, Dual, JohnsonDual}
 use Rattle.ct_fields.specs.declared.fault.FileFault.{FileFault}
-use Rattle.ct_files.specs.Kinds.{kind_of, IsAnswer}
-use Rattle.ct_files.proofs.DocumentAnswers.{table_states, without_limit-table, short_or_long, read_of-short, read_of-long}
+use Rattle.ct_files.specs.Kinds.{kind_of}
+use Rattle.ct_files.specs.Answers.{IsFieldsAnswer}
+use Rattle.ct_files.proofs.DocumentAnswers.{stated_fields, table_states, without_limit-table, short_or_long, read_of-short, read_of-long}
 
 -- a stated weight is one of the table beside the distance
 weight_of_stated : (document : Data) (e : Entry) (w : Option ℕ) → StatesEntry document e → HasWeight document e.n w → WeightFits e w
@@ -46,7 +47,7 @@ pairs_counted None count one = (omega arith, omega arith, λ _. one)
 pairs_counted (Some w) count (some, few) = (some, few, λ never. absurd cc)
 
 -- evidence that a table states is sound, by its kind
-stated-sound : (document : Data) (e : Evidence) → IsAnswer (kind_of e) document (Ok e) → IsSound e
+stated-sound : (document : Data) (e : Evidence) → IsFieldsAnswer (kind_of e) document (Ok e) → IsSound e
 stated-sound document (Words e listed) (states, some, few) = (entry_of_stated document e states.form.fields.entry, states.lengths, some, few)
 stated-sound document (Cosets e basis representatives) (states, few_basis, some, few) =
     let stated = states.form.fields.entry in
@@ -84,7 +85,7 @@ stated-sound document (JohnsonDual d) states =
 pub read_without_limit-sound : (bytes : List ℕ) (e : Evidence) → read_without_limit bytes ≡ Ok e → IsSound e
 read_without_limit-sound bytes e read =
     let (ms, states) = without_limit-table bytes e read in
-    stated-sound (table ms) e (table_states ms e states)
+    stated-sound (table ms) e (stated_fields (kind_of e) (table ms) e (table_states ms e states)).1
 
 -- bytes that read as evidence are within the limit, and read as it without the limit
 pub read_of-within : (bytes : List ℕ) (e : Evidence) → read_of bytes ≡ Ok e → length bytes ≤ MAX_DOCUMENT

@@ -81,20 +81,23 @@ dual_few d form =
         let below = leb-true p.0 (degree_of d.entry) to in
         omega (arith, below, degree)
 
--- it is within the limit
-pub most_bytes-within : (e : Evidence) → IsSound e → most_bytes e ≤ MAX_DOCUMENT
-most_bytes-within (evidence.Words e words) (entry, short, some, few) =
+-- it is within the limit, with room for what may be cited
+pub most_bytes-room : (e : Evidence) → IsSound e → most_bytes e + 8192 ≤ MAX_DOCUMENT
+most_bytes-room (evidence.Words e words) (entry, short, some, few) =
     let room = words_within e.n (length words) 16384 (entry-small e entry) few in omega (arith, room)
-most_bytes-within (evidence.Cosets e basis representatives) (entry, plain, short_basis, short, few_basis, some, few) =
+most_bytes-room (evidence.Cosets e basis representatives) (entry, plain, short_basis, short, few_basis, some, few) =
     let room = words_within e.n (length basis + length representatives) (MAX_N + MAX_REPRESENTATIVES) (entry-small e entry) (omega (arith, few_basis, few)) in omega (arith, room)
-most_bytes-within (evidence.Partition e between classes) (entry, some, nearer, short, right) =
+most_bytes-room (evidence.Partition e between classes) (entry, some, nearer, short, right) =
     let counts = counts_are_right classes right in
     let few_classes = counts.count.1 in
     let room = words_within e.n (length (all_words classes)) 16384 (entry-small e entry) counts.few_words in omega (arith, room, few_classes)
-most_bytes-within (evidence.Build e step part other) sound = omega arith
-most_bytes-within (evidence.Product e pairs) (entry, some, few, one) = omega (arith, few)
-most_bytes-within (evidence.Dual d) (form, plain) = let (few, listed) = dual_few d form in omega (arith, few, listed)
-most_bytes-within (evidence.JohnsonDual d) (form, some) = let (few, listed) = dual_few d form in omega (arith, few)
+most_bytes-room (evidence.Build e step part other) sound = omega arith
+most_bytes-room (evidence.Product e pairs) (entry, some, few, one) = omega (arith, few)
+most_bytes-room (evidence.Dual d) (form, plain) = let (few, listed) = dual_few d form in omega (arith, few, listed)
+most_bytes-room (evidence.JohnsonDual d) (form, some) = let (few, listed) = dual_few d form in omega (arith, few)
+
+pub most_bytes-within : (e : Evidence) → IsSound e → most_bytes e ≤ MAX_DOCUMENT
+most_bytes-within e sound = let within = most_bytes-room e sound in omega (arith, within)
 
 -- bytes that write the table have no more than so many
 pub written-short : (e : Evidence) (ms : Members) (bytes : List ℕ) → IsSound e → HasIds e → ms ≡ evidence_table e

@@ -1,6 +1,8 @@
 mod DualEvidence
 pub mod DocumentAnswers
 pub mod Evidences
+pub mod Documents
 mod Written
 pub mod OnLiterals
 pub mod Lengths
+mod WrittenDocuments

@@ -3,6 +3,7 @@ use Rattle.std.specs.Prelude.{ℕ, List, Result, Ok, Err}
 use Rattle.toml.specs.Data.{Data}
 use Rattle.ct_duals.specs.declared.dual.Dual.{Dual}
 use Rattle.ct_fields.specs.Tables.{IsDocument}
+use Rattle.ct_fields.specs.HasCites.{HasRightFormat}
 use Rattle.ct_fields.specs.declared.fault.FileFault.{FileFault}
 use Rattle.ct_dual_files.specs.DualDocument.{StatesDual, IsDualFault, StatesJohnsonDual, IsJohnsonDualFault}
 use Rattle.ct_evidence.specs.declared.evidence.Evidence.{Evidence}
@@ -24,10 +25,12 @@ IsJohnsonDualEvidence document (Err fault) = IsJohnsonDualFault document fault
 pub record AcceptsDual (bytes : List ℕ) (d : Dual) : Type 0 where
   pub document : Data
   pub written : IsDocument bytes document
+  pub format : HasRightFormat document
   pub states : StatesDual document d
 
 -- and of kind jdual
 pub record AcceptsJohnsonDual (bytes : List ℕ) (d : Dual) : Type 0 where
   pub document : Data
   pub written : IsDocument bytes document
+  pub format : HasRightFormat document
   pub states : StatesJohnsonDual document d

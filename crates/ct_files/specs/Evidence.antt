@@ -1,5 +1,5 @@
 -- The evidence that a document's bytes give, or the first fault of the document.
-use Rattle.std.specs.Prelude.{◌≡◌, ℕ, suc, ◌^◌, ◌<◌, ◌≤◌, nat_le, if◌then◌else◌, List, length, None, IsSome, is_some, Result, Ok, Err, All, codes}
+use Rattle.std.specs.Prelude.{◌≡◌, ℕ, suc, ◌^◌, ◌<◌, ◌≤◌, nat_le, List, length, None, IsSome, is_some, Result, All}
 use Rattle.toml.specs.Data.{Data}
 use Rattle.ct_words.specs.declared.limits.TheConstants.{MAX_N}
 use Rattle.ct_codes.specs.Entry.{IsEntry}
@@ -8,50 +8,28 @@ use Rattle.ct_partitions.specs.Partition.{all_words}
 use Rattle.ct_partitions.specs.Check.{wrong_count}
 use Rattle.ct_build.specs.Build.{FitsStated}
 use Rattle.ct_fields.specs.Steps.{◌>>=◌, ◌>>◌, check}
-use Rattle.ct_fields.specs.Fields.{is_of_kind}
-use Rattle.ct_word_files.specs.Words.{words_evidence_of}
-use Rattle.ct_word_files.specs.Cosets.{cosets_evidence_of}
-use Rattle.ct_partition_files.specs.Partition.{partition_evidence_of}
-use Rattle.ct_partition_files.specs.Product.{product_evidence_of}
 use Rattle.ct_build_files.specs.Operation.{needs_other}
-use Rattle.ct_build_files.specs.Build.{build_evidence_of}
 use Rattle.ct_duals.specs.Dual.{IsDual}
-use Rattle.ct_dual_files.specs.Dual.{dual_of, johnson_dual_of}
-use Rattle.ct_fields.specs.Document.{document_of}
+use Rattle.ct_fields.specs.Format.{format_of}
+use Rattle.ct_fields.specs.Document.{read_table}
+use Rattle.ct_files.specs.Kinds.{kind_in, evidence_by}
 use Rattle.ct_fields.specs.declared.document.TheConstants.{MAX_DOCUMENT}
 use Rattle.ct_evidence.specs.declared.evidence.Evidence.{Evidence}
 use Rattle.ct_evidence.specs.declared.evidence.Evidence.TheVariants.{Words, Cosets, Partition, Build, Product, Dual, JohnsonDual}
 use Rattle.ct_fields.specs.declared.fault.FileFault.{FileFault}
-use Rattle.ct_fields.specs.declared.fault.FileFault.TheVariants.{Bytes, Kind}
+use Rattle.ct_fields.specs.declared.fault.FileFault.TheVariants.{Bytes}
 
--- the evidence of a document of kind dual
-abbrev pub dual_evidence_of : Data → Result Evidence FileFault
-dual_evidence_of document = do
-  d ← dual_of document
-  Ok (Dual d)
-
--- the evidence of a document of kind jdual
-abbrev pub johnson_dual_evidence_of : Data → Result Evidence FileFault
-johnson_dual_evidence_of document = do
-  d ← johnson_dual_of document
-  Ok (JohnsonDual d)
-
--- the evidence of a document by its kind
+-- the evidence of a document: its kind is judged first, then its format, then the fields of its kind
 unfoldable pub evidence_of : Data → Result Evidence FileFault
-evidence_of document =
-    if is_of_kind (codes "words") document then words_evidence_of document
-    else if is_of_kind (codes "cosets") document then cosets_evidence_of document
-    else if is_of_kind (codes "partition") document then partition_evidence_of document
-    else if is_of_kind (codes "build") document then build_evidence_of document
-    else if is_of_kind (codes "product") document then product_evidence_of document
-    else if is_of_kind (codes "dual") document then dual_evidence_of document
-    else if is_of_kind (codes "jdual") document then johnson_dual_evidence_of document
-    else Err Kind
+evidence_of document = do
+  kind ← kind_in document
+  format_of document
+  evidence_by kind document
 
 -- what the bytes of a document read as, however many they are
 unfoldable pub read_without_limit : List ℕ → Result Evidence FileFault
 read_without_limit bytes = do
-  document ← document_of bytes
+  document ← read_table bytes
   evidence_of document
 
 -- what a document reads as: its evidence, or its first fault

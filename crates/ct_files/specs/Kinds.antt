@@ -1,73 +1,71 @@
--- The kinds of evidence: how a document names each, what documents of the kind read as, and where each answer comes.
-use Rattle.std.specs.Prelude.{ℕ, List, Result, codes}
+-- The kinds of evidence documents: how a document names each, and what documents of the kind read as.
+use Rattle.std.specs.Prelude.{ℕ, if◌then◌else◌, List, Result, Ok, Err, codes}
 use Rattle.toml.specs.Data.{Data}
-use Rattle.ct_fields.specs.Tables.{IsOfKind}
+use Rattle.ct_fields.specs.Steps.{◌>>=◌}
+use Rattle.ct_fields.specs.Fields.{is_of_kind}
 use Rattle.ct_fields.specs.declared.fault.FileFault.{FileFault}
+use Rattle.ct_fields.specs.declared.fault.FileFault.TheVariants as fault
 use Rattle.ct_evidence.specs.declared.evidence.Evidence.{Evidence}
 use Rattle.ct_evidence.specs.declared.evidence.Evidence.TheVariants as evidence
 use Rattle.ct_word_files.specs.Words.{words_evidence_of}
 use Rattle.ct_word_files.specs.Cosets.{cosets_evidence_of}
-use Rattle.ct_word_files.specs.WordsDocument.{IsWordsAnswer}
-use Rattle.ct_word_files.specs.CosetsDocument.{IsCosetsAnswer}
 use Rattle.ct_partition_files.specs.Partition.{partition_evidence_of}
 use Rattle.ct_partition_files.specs.Product.{product_evidence_of}
-use Rattle.ct_partition_files.specs.PartitionDocument.{IsPartitionAnswer}
-use Rattle.ct_partition_files.specs.ProductDocument.{IsProductAnswer}
 use Rattle.ct_build_files.specs.Build.{build_evidence_of}
-use Rattle.ct_build_files.specs.BuildAnswer.{IsBuildAnswer}
-use Rattle.ct_files.specs.Evidence.{dual_evidence_of, johnson_dual_evidence_of}
-use Rattle.ct_files.specs.DualAnswer.{IsDualEvidence, IsJohnsonDualEvidence}
-
--- the kinds of evidence
-pub data Kind : Type 0 where
-  words : Kind
-  cosets : Kind
-  partition : Kind
-  build : Kind
-  product : Kind
-  dual : Kind
-  johnson_dual : Kind
+use Rattle.ct_dual_files.specs.Dual.{dual_of, johnson_dual_of}
+use Rattle.ct_files.specs.declared.kind.Kind.{Kind}
+use Rattle.ct_files.specs.declared.kind.Kind.TheVariants.{Words, Cosets, Partition, Build, Product, Dual, JohnsonDual}
 
 -- the kind of an evidence
 abbrev pub kind_of : Evidence → Kind
-kind_of (evidence.Words _ _) = words
-kind_of (evidence.Cosets _ _ _) = cosets
-kind_of (evidence.Partition _ _ _) = partition
-kind_of (evidence.Build _ _ _ _) = build
-kind_of (evidence.Product _ _) = product
-kind_of (evidence.Dual _) = dual
-kind_of (evidence.JohnsonDual _) = johnson_dual
+kind_of (evidence.Words _ _) = Words
+kind_of (evidence.Cosets _ _ _) = Cosets
+kind_of (evidence.Partition _ _ _) = Partition
+kind_of (evidence.Build _ _ _ _) = Build
+kind_of (evidence.Product _ _) = Product
+kind_of (evidence.Dual _) = Dual
+kind_of (evidence.JohnsonDual _) = JohnsonDual
 
 -- the text that a document of the kind has at the key `kind`
 abbrev pub kind_text : Kind → List ℕ
-kind_text words = codes "words"
-kind_text cosets = codes "cosets"
-kind_text partition = codes "partition"
-kind_text build = codes "build"
-kind_text product = codes "product"
-kind_text dual = codes "dual"
-kind_text johnson_dual = codes "jdual"
+kind_text Words = codes "words"
+kind_text Cosets = codes "cosets"
+kind_text Partition = codes "partition"
+kind_text Build = codes "build"
+kind_text Product = codes "product"
+kind_text Dual = codes "dual"
+kind_text JohnsonDual = codes "jdual"
 
--- the evidence of a document of the kind, or its first fault
+-- the kind that a document names
+abbrev pub kind_in : Data → Result Kind FileFault
+kind_in document =
+    if is_of_kind (codes "words") document then Ok Words
+    else if is_of_kind (codes "cosets") document then Ok Cosets
+    else if is_of_kind (codes "partition") document then Ok Partition
+    else if is_of_kind (codes "build") document then Ok Build
+    else if is_of_kind (codes "product") document then Ok Product
+    else if is_of_kind (codes "dual") document then Ok Dual
+    else if is_of_kind (codes "jdual") document then Ok JohnsonDual
+    else Err fault.Kind
+
+-- the evidence of a document of kind dual
+abbrev pub dual_evidence_of : Data → Result Evidence FileFault
+dual_evidence_of document = do
+  d ← dual_of document
+  Ok (evidence.Dual d)
+
+-- the evidence of a document of kind jdual
+abbrev pub johnson_dual_evidence_of : Data → Result Evidence FileFault
+johnson_dual_evidence_of document = do
+  d ← johnson_dual_of document
+  Ok (evidence.JohnsonDual d)
+
+-- the evidence of a document of the kind, or the first fault of its fields
 abbrev pub evidence_by : Kind → Data → Result Evidence FileFault
-evidence_by words = words_evidence_of
-evidence_by cosets = cosets_evidence_of
-evidence_by partition = partition_evidence_of
-evidence_by build = build_evidence_of
-evidence_by product = product_evidence_of
-evidence_by dual = dual_evidence_of
-evidence_by johnson_dual = johnson_dual_evidence_of
-
--- where each answer comes for a document of the kind
-abbrev pub IsAnswer : Kind → Data → Result Evidence FileFault → Type 0
-IsAnswer words = IsWordsAnswer
-IsAnswer cosets = IsCosetsAnswer
-IsAnswer partition = IsPartitionAnswer
-IsAnswer build = IsBuildAnswer
-IsAnswer product = IsProductAnswer
-IsAnswer dual = IsDualEvidence
-IsAnswer johnson_dual = IsJohnsonDualEvidence
-
--- the table is of none of the kinds
-abbrev pub IsOfNoKind : Data → Type 0
-IsOfNoKind document = (kind : Kind) → ¬ (IsOfKind (kind_text kind) document)
+evidence_by Words = words_evidence_of
+evidence_by Cosets = cosets_evidence_of
+evidence_by Partition = partition_evidence_of
+evidence_by Build = build_evidence_of
+evidence_by Product = product_evidence_of
+evidence_by Dual = dual_evidence_of
+evidence_by JohnsonDual = johnson_dual_evidence_of

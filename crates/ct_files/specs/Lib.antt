@@ -1,6 +1,8 @@
-pub mod Evidence
-pub mod DualAnswer
 pub mod Kinds
+pub mod Evidence
+pub mod Document
+pub mod DualAnswer
+pub mod Answers
 pub mod Lengths
 pub mod Examples
 pub mod Inside

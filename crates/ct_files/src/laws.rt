@@ -10,8 +10,10 @@ ghost use Rattle.ct_evidence.specs.declared.evidence.Evidence.TheVariants as evi
 ghost use Rattle.ct_fields.specs.declared.fault.FileFault.{FileFault};
 ghost use Rattle.ct_fields.specs.declared.fault.FileFault.TheVariants.{Bytes, NotToml, Kind};
 ghost use Rattle.ct_files.specs.Evidence.{read_of};
-ghost use Rattle.ct_files.specs.Kinds as documents;
-ghost use Rattle.ct_files.specs.Kinds.{kind_text, IsAnswer, IsOfNoKind};
+ghost use Rattle.ct_files.specs.declared.kind.Kind as documents;
+ghost use Rattle.ct_files.specs.Kinds.{kind_text};
+ghost use Rattle.ct_files.specs.Answers.{IsAnswer, IsOfNoKind};
+ghost use Rattle.ct_files.specs.Document.{DocumentValue, document_read_of, evidence_part, AcceptsDocument};
 ghost use Rattle.ct_fields.specs.Tables.{IsDocument, IsOfKind};
 ghost use Rattle.ct_word_files.specs.WordsDocument.{AcceptsWords};
 ghost use Rattle.ct_word_files.specs.CosetsDocument.{AcceptsCosets};
@@ -61,4 +63,12 @@ pub fn answers_to_documents()
     ensures answers { (kind : documents.Kind) (bytes : List ℕ) (document : Data) (answer : Result Evidence FileFault) →
         IsDocument bytes document → IsOfKind (kind_text kind) document →
         (read_of bytes ≡ answer) ↔ IsAnswer kind document answer }
+{}
+
+/// What bytes read as with their cites: the evidence that they read as without them, or the same fault; and a document exactly
+/// where they read as its evidence and write a table that has its cites.
+pub fn documents_and_evidence()
+    ensures evidence { (bytes : List ℕ) → read_of bytes ≡ evidence_part (document_read_of bytes) }
+    ensures fault { (bytes : List ℕ) (fault : FileFault) → (document_read_of bytes ≡ Err fault) ↔ (read_of bytes ≡ Err fault) }
+    ensures accepted { (bytes : List ℕ) (d : DocumentValue) → (document_read_of bytes ≡ Ok d) ↔ AcceptsDocument bytes d }
 {}

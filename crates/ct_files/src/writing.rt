@@ -1,14 +1,19 @@
-//! Evidence written as a document.
-ghost use Rattle.std.specs.Prelude.{◌≡◌, ◌≤◌, length, Ok, IfOk};
+//! Evidence, and documents, written as bytes.
+ghost use Rattle.std.specs.Prelude.{◌≡◌, ◌≤◌, length, Some, Ok, IfOk};
+ghost use Rattle.toml.specs.Data.{Data};
 ghost use Rattle.toml.specs.View.{table_view};
+ghost use Rattle.ct_fields.specs.Document.{table_of};
+ghost use Rattle.ct_fields.specs.declared.cites.TheConstants.{MAX_CITES};
 ghost use Rattle.ct_files.specs.Evidence.{IsSound, read_without_limit, read_of};
-ghost use Rattle.ct_files.specs.Lengths.{most_bytes};
+ghost use Rattle.ct_files.specs.Document.{value_of, without_cites, document_without_limit, document_read_of, WritesFormat};
+ghost use Rattle.ct_files.specs.Lengths.{most_bytes, most_document_bytes};
 ghost use Rattle.ct_files.specs.Inside.Written.{evidence_table, HasIds};
 
+use crate::contents::Document;
 use ct_build_files::build_table;
 use ct_dual_files::{dual_table, johnson_dual_table};
 use ct_evidence::Evidence;
-use ct_fields::table_bytes;
+use ct_fields::{put_cites, table_bytes};
 use ct_partition_files::{partition_table, product_table};
 use ct_word_files::{cosets_table, words_table};
 use std::alloc::{AllocError, Global};
@@ -46,13 +51,36 @@ fn evidence_table(alloc: Global, evidence: &Evidence) -> Result<Table, AllocErro
 /// The document of the evidence, whose fields have the forms, ranges and counts of its kind: a TOML table with its keys
 /// in the order of their bytes. `Err` is want of memory.
 ///
-/// It reads as the same evidence, and has at most `most_bytes` bytes, so that it is within the limit of a document.
+/// It reads as the same evidence, which cites nothing, and has at most `most_bytes` bytes, so that it is within the limit of a document.
 pub fn write_evidence(alloc: Global, evidence: &Evidence) -> Result<Vec<u8>, AllocError>
     requires { IsSound evidence.now }
     ensures without_limit { IfOk result (λ bytes. read_without_limit bytes.items ≡ Ok evidence.now) }
     ensures read { IfOk result (λ bytes. read_of bytes.items ≡ Ok evidence.now) }
     ensures length { IfOk result (λ bytes. length bytes.items ≤ most_bytes evidence.now) }
+    ensures document_without_limit { IfOk result (λ bytes.
+        document_without_limit bytes.items ≡ Ok (without_cites evidence.now)) }
+    ensures document { IfOk result (λ bytes. document_read_of bytes.items ≡ Ok (without_cites evidence.now)) }
 {
     let table = evidence_table(alloc, evidence)?;
+    table_bytes(alloc, &table)
+}
+
+/// The document, whose evidence has the forms, ranges and counts of its kind, as bytes: a TOML table with its keys in the order
+/// of their bytes, of format 1, without the key `format`, exactly where nothing is cited, and else of format 2. `Err` is want of
+/// memory.
+///
+/// It reads as the same document, and has at most `most_document_bytes` bytes, so that it is within the limit.
+pub fn write_document(alloc: Global, document: &Document) -> Result<Vec<u8>, AllocError>
+    requires sound { IsSound document.now.evidence }
+    requires few { length document.now.cites.items ≤ MAX_CITES }
+    ensures without_limit { IfOk result (λ bytes.
+        document_without_limit bytes.items ≡ Ok (value_of document.now)) }
+    ensures read { IfOk result (λ bytes. document_read_of bytes.items ≡ Ok (value_of document.now)) }
+    ensures format { IfOk result (λ bytes. (written : Data) → table_of bytes.items ≡ Some written →
+        WritesFormat document.now.cites.items written) }
+    ensures length { IfOk result (λ bytes. length bytes.items ≤ most_document_bytes (value_of document.now)) }
+{
+    let mut table = evidence_table(alloc, &document.evidence)?;
+    put_cites(alloc, &mut table, &document.cites)?;
     table_bytes(alloc, &table)
 }

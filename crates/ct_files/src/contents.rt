@@ -1,0 +1,13 @@
+//! What a document holds.
+
+use ct_evidence::Evidence;
+use ct_text::Cite;
+
+/// An evidence, and the texts that say where it comes from.
+#[derive(Debug, Drop)]
+pub struct Document {
+    /// The evidence.
+    pub evidence: Evidence,
+    /// What is cited for it, in the order of the document; at most `MAX_CITES` in one that was read.
+    pub cites: Vec<Cite>,
+}

@@ -1,0 +1,20 @@
+//! The kinds of evidence documents.
+
+/// A kind of evidence document.
+#[derive(Clone, Copy)]
+pub enum Kind {
+    /// The words of a code.
+    Words,
+    /// A basis and representatives of cosets.
+    Cosets,
+    /// The classes of a partition.
+    Partition,
+    /// A step that makes a code of those of other pieces.
+    Build,
+    /// Pairs of partitions.
+    Product,
+    /// A dual of Delsarte's linear program for an entry without weight.
+    Dual,
+    /// One for an entry with weight.
+    JohnsonDual,
+}
