@@ -2,6 +2,8 @@
 #![tactic(auto)]
 
 #[cfg(test)]
+mod cites;
+#[cfg(test)]
 mod counts;
 #[cfg(test)]
 mod read;
