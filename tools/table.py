@@ -5,7 +5,6 @@ tools/published.json remembers as published. The sentences of the rules are in t
 
 import hashlib
 import json
-import re
 from dataclasses import dataclass, field
 from functools import cache
 from pathlib import Path
@@ -134,7 +133,7 @@ def held(text, more):
     submitted = {}
     for command, reply in answered[:len(before)]:
         if reply[0].startswith("accepted "):
-            submitted[command.id] = command
+            submitted[command.id] = sessions.without_primal(command)
         elif reply[0].startswith("refused ") and command.words != ["ledger"]:
             found.refused.append((command, reply[0]))
     for line in answered.pop()[1][:-1]:
@@ -182,7 +181,7 @@ def piece_of(line, submitted):
     """The piece of a line of `ledger`, with what its document cites and what stands above its submission."""
     told = sessions.piece_of(line)
     command = submitted[told.id]
-    remarks, cited = told_of(command), cites.cites_of(command.fields)
+    remarks, cited = list(command.remarks), cites.cites_of(command.fields)
     title = first_sentence(" ".join(remarks)) or next(iter(cited), told.id)
     return Piece(told.id, told.kind, told.entry, told.size, list(dict.fromkeys(command.parts)), remarks, cited, title, command.document)
 
@@ -190,11 +189,6 @@ def piece_of(line, submitted):
 def cited(pieces):
     """What pieces cite, in order, each text once."""
     return list(dict.fromkeys(text for piece in pieces for text in piece.cites))
-
-
-def told_of(command):
-    """The remarks above a submission, without the numbers of a primal that the mode `find` wrote."""
-    return [remark for remark in command.remarks if not re.fullmatch(r"primal [0-9]+( [0-9]+:[0-9]+)*", remark)]
 
 
 def first_sentence(text):

@@ -136,6 +136,12 @@ def commands(text: str) -> list[Command]:
     return found
 
 
+def without_primal(command: Command) -> Command:
+    """A submission whose remarks are without the numbers of a primal that the mode `find` wrote."""
+    remarks = [remark for remark in command.remarks if not re.fullmatch(r"primal [0-9]+( [0-9]+:[0-9]+)*", remark)]
+    return Command(command.line, command.words, command.document, tuple(remarks))
+
+
 def take_document(command: Command, lines: list[str], at: int) -> int:
     """Gives a submission its document, which begins at a place, and gives the place behind it."""
     count = number_of(command.words[3]) if len(command.words) == 4 and command.words[2] == "lines" else None

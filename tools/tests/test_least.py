@@ -3,6 +3,7 @@
 import tempfile
 import unittest
 from pathlib import Path
+from types import SimpleNamespace
 
 from support import DATA, FAKE, needs_program, run, session
 from test_check_primal import PLAIN, WEIGHT
@@ -11,6 +12,7 @@ import least
 import page
 import table
 from check_primal import replies
+from code_tables import sessions
 
 WIDE = PLAIN.replace("least\n# primal 1 6:112 8:30 10:112 16:1", "wide")
 
@@ -18,7 +20,7 @@ WIDE = PLAIN.replace("least\n# primal 1 6:112 8:30 10:112 16:1", "wide")
 def dual(c, more=""):
     """A piece of a dual of (16,6)."""
     document = f'kind = "dual"\nn = 16\nd = 6\neven = true\nc = {c}\n{more}'
-    return table.Piece(id="k16", kind="dual", entry=(16, 6), size=None, parts=[], sources=[], title="k16", document=document)
+    return SimpleNamespace(id="k16", kind="dual", entry=(16, 6), size=None, parts=[], sources=[], remarks=[], cites=[], title="k16", document=document)
 
 
 def held(piece, high, rule="U11 k16"):
@@ -59,6 +61,10 @@ class Least(unittest.TestCase):
                     out, fault, status = run("page.py", "--found", path, "--without-derivations", DATA / "page/small.session", env=FAKE)
                     self.assertTrue(fault.startswith(said) if said else status == 1 and "refused: " not in fault.replace("refused taken", ""))
                     self.assertEqual(bool(out), not said)
+
+    def test_a_piece_is_not_named_by_the_numbers_of_a_primal(self):
+        command, = sessions.commands("# bound 256 least\n# primal 1 6:112\n# primal numbers\nsubmit a lines 1\nkind = 'words'\n")
+        self.assertEqual(sessions.without_primal(command).remarks, ("bound 256 least", "primal numbers"))
 
     @needs_program
     def test_a_dual_of_the_program_is_the_least(self):
