@@ -181,9 +181,9 @@ def piece_of(line, submitted):
     """The piece of a line of `ledger`, with what its document cites and what stands above its submission."""
     told = sessions.piece_of(line)
     command = submitted[told.id]
-    remarks, cited = list(command.remarks), cites.cites_of(command.fields)
-    title = first_sentence(" ".join(remarks)) or next(iter(cited), told.id)
-    return Piece(told.id, told.kind, told.entry, told.size, list(dict.fromkeys(command.parts)), remarks, cited, title, command.document)
+    remarks, texts = list(command.remarks), cites.cites_of(command.fields)
+    title = first_sentence(" ".join(remarks)) or next(iter(texts), told.id)
+    return Piece(told.id, told.kind, told.entry, told.size, list(dict.fromkeys(command.parts)), remarks, texts, title, command.document)
 
 
 def cited(pieces):
