@@ -5,4 +5,4 @@ pub mod Documents
 mod Written
 pub mod OnLiterals
 pub mod Lengths
-mod WrittenDocuments
+pub mod WrittenDocuments

@@ -13,8 +13,8 @@ use Rattle.ct_lines.specs.Lines.{lines_of, IsLine}
 use Rattle.ct_lines.proofs.LinesLemmas.{is_feed, lines_of-next}
 use Rattle.ct_text.specs.Id.{is_id}
 use Rattle.ct_fields.specs.declared.document.TheConstants.{MAX_DOCUMENT}
-use Rattle.ct_files.specs.Evidence.{read_of}
-use Rattle.ct_files.proofs.DocumentAnswers.{read_of-short}
+use Rattle.ct_files.specs.Document.{document_read_of}
+use Rattle.ct_files.proofs.Documents.{document_read_of-short}
 use Rattle.ct_commands.specs.Form.{form_of}
 use Rattle.ct_commands.specs.Command.{commands_of}
 use Rattle.ct_commands.specs.declared.form.Form.TheVariants.{Nothing}
@@ -59,8 +59,8 @@ AreShort-tail : (p : PieceValue) (ps : List PieceValue) → AreShort (p ∷ ps) 
 AreShort-tail p ps h = All-tail (λ (q : PieceValue). length q.document ≤ MAX_DOCUMENT) p ps h
 
 -- a document within the limit makes what it makes without it
-within-made : (known : List NamedCode) (p : PieceValue) → length p.document ≤ MAX_DOCUMENT → IsMade known p → piece_from known p.id p.document (read_of p.document) ≡ Ok p
-within-made known p short made = ap (piece_from known p.id p.document) (read_of-short p.document short) ∙ made
+within-made : (known : List NamedCode) (p : PieceValue) → length p.document ≤ MAX_DOCUMENT → IsMade known p → piece_from known p.id p.document (document_read_of p.document) ≡ Ok p
+within-made known p short made = ap (piece_from known p.id p.document) (document_read_of-short p.document short) ∙ made
 
 -- a piece that stands after others is made over them
 made_again : (front : List PieceValue) (p : PieceValue) (back : List PieceValue) → AreStanding (front ++ p ∷ back) → length p.document ≤ MAX_DOCUMENT → WasMade front p.id p.document p
@@ -170,7 +170,7 @@ with_piece-short pieces id document (Ok p) is h =
     let was = submitted-ok pieces id document p is in
     let short = piece_from-within (codes_of pieces) id document p was.made in
     All-push (λ (q : PieceValue). length q.document ≤ MAX_DOCUMENT) pieces p h
-    (subst (λ (d : List ℕ). length d ≤ MAX_DOCUMENT) (sym (piece_from-names (codes_of pieces) id document (read_of document) p was.made).1) short)
+    (subst (λ (d : List ℕ). length d ≤ MAX_DOCUMENT) (sym (piece_from-names (codes_of pieces) id document (document_read_of document) p was.made).1) short)
 with_piece-short pieces id document (Err reason) is h = h
 
 left_by-short : (user : Option PieceValue) (pieces rest : List PieceValue) → AreShort pieces → AreShort rest → AreShort (left_by pieces (unless_used user rest))

@@ -24,7 +24,8 @@ use Rattle.ct_finder.specs.Found.{bound_of, stop_of}
 use Rattle.ct_finder.specs.declared.found.Stop.{Stop}
 use Rattle.ct_finder.specs.declared.found.Stop.TheVariants as stop
 use Rattle.ct_proposals.specs.declared.found.TheConstants.{MAX_TURNS}
-use Rattle.ct_files.proofs.Evidences.{read_of-within}
+use Rattle.ct_files.specs.Document.{without_cites}
+use Rattle.ct_files.proofs.Documents.{document_read_of-within}
 use Rattle.ct_proposals.specs.Proposal.{dual_evidence, find_id, found_dual, proposed_piece, run_for, stop_text}
 use Rattle.ct_proposals.proofs.Accepted.{made-proposed, stored-none}
 use Rattle.ct_proposals.proofs.FindIds.{find_id-named, find_id-different}
@@ -62,7 +63,7 @@ entries (e ∷ es) text (own, rest, here, are, is) = ap (λ fs. e ∷ fs) (entri
 
 -- its document is within the limit, since it is read
 within : (e : Entry) (text : List ℕ) (h : IsProposed e text) → length h.proposal.0 ≤ MAX_DOCUMENT
-within e text h = read_of-within h.proposal.0 (dual_evidence h.dual.entry.w h.dual) h.proposal.1
+within e text h = document_read_of-within h.proposal.0 (without_cites (dual_evidence h.dual.entry.w h.dual)) h.proposal.1
 
 short : (es : List Entry) (text : List ℕ) (h : AreProposed es text) → AreShort (pieces es text h)
 short [] text h = All-nil (λ (p : PieceValue). length p.document ≤ MAX_DOCUMENT)

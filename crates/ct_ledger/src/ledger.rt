@@ -4,7 +4,7 @@ ghost use Rattle.std.specs.Prelude.{◌≡◌, ◌≢◌, ◌+◌, ◌<◌, ◌�
 ghost use Rattle.ct_codes.specs.Code.{IsSoundCode};
 ghost use Rattle.ct_pieces.specs.Piece.{PieceValue, stored_words};
 ghost use Rattle.ct_pieces.specs.Codes.{code_of_place};
-ghost use Rattle.ct_files.specs.Evidence.{read_of};
+ghost use Rattle.ct_files.specs.Document.{document_read_of, without_cites};
 ghost use Rattle.ct_pieces.specs.Submission.{submitted};
 ghost use Rattle.ct_kind.specs.declared.fault.SubmitFault.{SubmitFault};
 ghost use Rattle.ct_pieces.specs.Withdrawal.{withdrawn, withdrawn_all};
@@ -130,15 +130,15 @@ impl Ledger {
         Ok(new_piece.size)
     }
 
-    /// `submit_text` of a document that is handed over with the evidence that it reads as: the document is kept, and is not read
-    /// again.
+    /// `submit_text` of a document without cites that is handed over with the evidence that it reads as: the document is kept, and is not
+    /// read again.
     pub fn admit(
         &mut self,
         id: Id,
         evidence: Evidence,
         document: Text,
     ) -> Result<Option<u32>, SubmitFault>
-        requires read { read_of document ≡ Ok evidence }
+        requires read { document_read_of document ≡ Ok (without_cites evidence) }
         ensures accepted { IfOk result (AddsPiece self.old.pieces self.new.pieces id document) }
         ensures fault { IfErr result (λ fault. fault ≢ SubmitFault.Memory
             → submitted self.old.pieces id document ≡ Err fault) }

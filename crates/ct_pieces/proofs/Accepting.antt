@@ -11,9 +11,8 @@ use Rattle.ct_codes.specs.declared.entry.Entry.{Entry}
 use Rattle.ct_codes.specs.Code.{IsCodeOf}
 use Rattle.ct_codes.specs.Pairs.{first_of}
 use Rattle.ct_fields.specs.declared.document.TheConstants.{MAX_DOCUMENT}
-use Rattle.ct_files.specs.Evidence.{read_of}
-use Rattle.ct_files.proofs.Evidences.{read_of-sound}
-use Rattle.ct_files.proofs.DocumentAnswers.{read_of-short}
+use Rattle.ct_files.specs.Document.{document_read_of}
+use Rattle.ct_files.proofs.Documents.{document_read_of-right, document_read_of-short}
 use Rattle.ct_kind.specs.Named.{NamedCode, is_known, first_missing}
 use Rattle.ct_pieces.specs.Kind.{stated_entry, parts_of, own_reason, words_over}
 use Rattle.ct_pieces.specs.Piece.{PieceValue, has_id, stored_by}
@@ -88,18 +87,18 @@ only-code e (Some words) h = h.1
 accepted_from : (pieces : List PieceValue) (id document : List ℕ) (p : PieceValue) → AreStanding pieces → WasMade pieces id document p → IsAccepted pieces id document p
 accepted_from pieces id document p standing w =
     let known = codes_of pieces in
-    let m = making known id document (read_of document) p w.made in
+    let m = making known id document (document_read_of document) p w.made in
     let sound = codes_after-sound [] pieces (All-nil HasSoundCode) standing.made in
-    let right : IsRight known m.evidence = record { sound = read_of-sound document m.evidence m.is; faultless = m.faultless } in
-    let states = states_code known m.evidence sound right in
+    let right : IsRight known m.stated.evidence = record { sound = (document_read_of-right document m.stated m.is).0; faultless = m.faultless } in
+    let states = states_code known m.stated.evidence sound right in
     record {
       free = has_id-none id pieces w.free;
       room = w.room;
-      evidence = m.evidence;
+      stated = m.stated;
       read = m.is;
-      parts = parts_stand pieces (parts_of m.evidence) (right-parts known m.evidence right);
+      parts = parts_stand pieces (parts_of m.stated.evidence) (right-parts known m.stated.evidence right);
       checked = states.checked;
-      code = only-code (stated_entry m.evidence) (words_over known m.evidence) states.code;
+      code = only-code (stated_entry m.stated.evidence) (words_over known m.stated.evidence) states.code;
       small = w.small;
       piece = sym m.piece;
     }
@@ -107,9 +106,9 @@ accepted_from pieces id document p standing w =
 made_from : (pieces : List PieceValue) (id document : List ℕ) (p : PieceValue) → IsAccepted pieces id document p → submitted pieces id document ≡ Ok p
 made_from pieces id document p h =
     let known = codes_of pieces in
-    let q = piece_of known id document h.evidence in
-    let own = no_own_reason known h.evidence (read_of-sound document h.evidence h.read) h.checked in
-    let none = ap (λ (o : Option (List ℕ)). first_of (option_map fault.NoSuch o) (own_reason known h.evidence)) (parts_known pieces (parts_of h.evidence) h.parts) ∙ own in
+    let q = piece_of known id document h.stated in
+    let own = no_own_reason known h.stated.evidence (document_read_of-right document h.stated h.read).0 h.checked in
+    let none = ap (λ (o : Option (List ℕ)). first_of (option_map fault.NoSuch o) (own_reason known h.stated.evidence)) (parts_known pieces (parts_of h.stated.evidence) h.parts) ∙ own in
     let made = ap (piece_from known id document) h.read ∙ ap (λ (reason : Option SubmitFault). made_unless reason q) none ∙ ap Ok (sym h.piece) in
     submitted-from pieces id document p (record { free = not_taken id pieces h.free; room = h.room; made = made; small = h.small })
 
@@ -121,8 +120,8 @@ pub accepted-within : (pieces : List PieceValue) (id document : List ℕ) (p : P
 accepted-within pieces id document p h = let was = submitted-ok pieces id document p h in piece_from-within (codes_of pieces) id document p was.made
 
 -- a document within the limit makes what it makes without it
-within-made : (known : List NamedCode) (p : PieceValue) → length p.document ≤ MAX_DOCUMENT → IsMade known p → piece_from known p.id p.document (read_of p.document) ≡ Ok p
-within-made known p short made = ap (piece_from known p.id p.document) (read_of-short p.document short) ∙ made
+within-made : (known : List NamedCode) (p : PieceValue) → length p.document ≤ MAX_DOCUMENT → IsMade known p → piece_from known p.id p.document (document_read_of p.document) ≡ Ok p
+within-made known p short made = ap (piece_from known p.id p.document) (document_read_of-short p.document short) ∙ made
 
 -- a piece that stands after others is made over them
 pub made_again : (front : List PieceValue) (p : PieceValue) (back : List PieceValue) → AreStanding (front ++ p ∷ back) → length p.document ≤ MAX_DOCUMENT → WasMade front p.id p.document p

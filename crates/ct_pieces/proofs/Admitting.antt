@@ -1,8 +1,10 @@
 -- Evidence that is admitted with a document that reads as it.
-use Rattle.std.proofs.Common.{◌≡◌, ◌≢◌, ℕ, ◌+◌, ◌<◌, false, List, [], ◌∷◌, ◌++◌, length, IfOk, IfErr, OnOk, Option, Result, Ok, Err, sym, ap, ◌∙◌}
+use Rattle.std.proofs.Common.{◌≡◌, ◌≢◌, ℕ, ◌+◌, ◌<◌, false, List, [], ◌∷◌, ◌++◌, length, IfOk, IfErr, OnOk, Result, Ok, Err, sym, ap, subst, ◌∙◌}
 use Rattle.ct_evidence.specs.declared.evidence.Evidence.{Evidence}
 use Rattle.ct_fields.specs.declared.fault.FileFault.{FileFault}
+use Rattle.ct_files.specs.Document.{DocumentValue, without_cites, document_read_of}
 use Rattle.ct_files.specs.Evidence.{read_of}
+use Rattle.ct_files.proofs.Documents.{document_read_of-err}
 use Rattle.ct_kind.specs.Named.{NamedCode}
 use Rattle.ct_pieces.specs.Piece.{PieceValue, has_id, stored_by, stored_words}
 use Rattle.ct_pieces.specs.Codes.{codes_of}
@@ -17,26 +19,32 @@ use Rattle.ct_pieces.proofs.Refusing.{refused-for}
 
 -- what a submission answers, once its piece is made over the pieces and put at their end where its words may be stored
 pub submits_piece : (pieces new : List PieceValue) (id document : List ℕ) (p : PieceValue) (r : Result NewPiece SubmitFault) → has_id id pieces ≡ false → length pieces < MAX_PIECES
-    → piece_from (codes_of pieces) id document (read_of document) ≡ Ok p → OnOk r (new ≡ pieces ++ p ∷ []) → IfOk r (λ (n : NewPiece). n.size ≡ p.size)
+    → piece_from (codes_of pieces) id document (document_read_of document) ≡ Ok p → OnOk r (new ≡ pieces ++ p ∷ []) → IfOk r (λ (n : NewPiece). n.size ≡ p.size)
     → OnOk r (if_stored (stored_words pieces + stored_by p) p ≡ Ok p) → IfOk r (λ (n : NewPiece). AddsPiece pieces new id document n.size)
 submits_piece pieces new id document p (Ok n) free room made is answer fits =
     record { piece = p; made = submitted-beside pieces id document p free room made ∙ fits; pieces = is; answer = answer }
 submits_piece pieces new id document p (Err reason) free room made is answer fits = tt
 
 pub submits_fault : (pieces : List PieceValue) (id document : List ℕ) (p : PieceValue) (r : Result NewPiece SubmitFault) → has_id id pieces ≡ false → length pieces < MAX_PIECES
-    → piece_from (codes_of pieces) id document (read_of document) ≡ Ok p → IfErr r (λ f. f ≢ fault.Memory → if_stored (stored_words pieces + stored_by p) p ≡ Err f)
+    → piece_from (codes_of pieces) id document (document_read_of document) ≡ Ok p → IfErr r (λ f. f ≢ fault.Memory → if_stored (stored_words pieces + stored_by p) p ≡ Err f)
     → IfErr r (λ f. f ≢ fault.Memory → submitted pieces id document ≡ Err f)
 submits_fault pieces id document p (Ok n) free room made many = tt
 submits_fault pieces id document p (Err reason) free room made many = λ other. submitted-beside pieces id document p free room made ∙ many other
 
--- the document of an evidence that is read makes what the evidence makes
-pub made_of-read : (known : List NamedCode) (id document : List ℕ) (evidence : Evidence) (made : Result PieceValue SubmitFault) → read_of document ≡ Ok evidence
-    → made_of known id document evidence ≡ made → piece_from known id document (read_of document) ≡ made
-made_of-read known id document evidence made read is = ap (piece_from known id document) read ∙ is
+-- a document that is read makes what it states makes
+pub made_of-read : (known : List NamedCode) (id document : List ℕ) (stated : DocumentValue) (made : Result PieceValue SubmitFault) → document_read_of document ≡ Ok stated
+    → made_of known id document stated ≡ made → piece_from known id document (document_read_of document) ≡ made
+made_of-read known id document stated made read is = ap (piece_from known id document) read ∙ is
+
+-- evidence makes a piece without cites where none are handed over with it
+pub made_without : (known : List NamedCode) (id document : List ℕ) (evidence : Evidence) (cites : List (List ℕ)) (made : Result PieceValue SubmitFault)
+    → cites ≡ [] → made_of known id document (record { evidence = evidence; cites = cites }) ≡ made → made_of known id document (without_cites evidence) ≡ made
+made_without known id document evidence cites made none is =
+    subst (λ (texts : List (List ℕ)). made_of known id document (record { evidence = evidence; cites = texts }) ≡ made) none is
 
 -- no reason against a document that is read is a fault of its own
 pub submitted-unread : (pieces : List PieceValue) (id document : List ℕ) (evidence : Evidence) (reason : FileFault) → read_of document ≡ Ok evidence
     → submitted pieces id document ≢ Err (fault.File reason)
 submitted-unread pieces id document evidence reason read refused =
     let unread = (refused-for pieces id document (fault.File reason) refused).1 in
-    absurd (let both = sym read ∙ unread in cc)
+    absurd (let both = sym read ∙ document_read_of-err document reason unread in cc)

@@ -98,10 +98,11 @@ those-reason test known evidence h =
 those-made : (test : List ℕ → Bool) (known : List NamedCode) (p : PieceValue) → AllPassed test (parts_of p.evidence) → IsMade known p → IsMade (those test known) p
 those-made test known p passed h =
     let m = making-of known p h in
+    let evidence = m.stated.evidence in
     let own = subst (λ (e : Evidence). AllPassed test (parts_of e)) (ap (λ (q : PieceValue). q.evidence) (sym m.piece)) passed in
-    let sized : Option ℕ → PieceValue = λ (size : Option ℕ). record { id = p.id; document = p.document; evidence = m.evidence; entry = stated_entry m.evidence; size = size } in
+    let sized : Option ℕ → PieceValue = λ (size : Option ℕ). record { id = p.id; document = p.document; evidence = evidence; cites = m.stated.cites; entry = stated_entry evidence; size = size } in
     ap (piece_from (those test known) p.id p.document) m.is
-    ∙ ap₂ (λ (reason : Option SubmitFault) (size : Option ℕ). made_unless reason (sized size)) (those-reason test known m.evidence own ∙ m.faultless) (those-same test known m.evidence own).size
+    ∙ ap₂ (λ (reason : Option SubmitFault) (size : Option ℕ). made_unless reason (sized size)) (those-reason test known evidence own ∙ m.faultless) (those-same test known evidence own).size
     ∙ ap Ok m.piece
 
 -- and has the same code

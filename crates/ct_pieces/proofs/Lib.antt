@@ -15,5 +15,6 @@ pub mod DualSupports
 pub mod EarlierParts
 pub mod AlongLemmas
 pub mod TakenAlong
+mod Citing
 mod LeftOut
 mod AlongPass

@@ -8,8 +8,9 @@ use Rattle.ct_codes.proofs.CheckLemmas.{first_of-None}
 use Rattle.ct_evidence.specs.declared.evidence.Evidence.{Evidence}
 use Rattle.ct_evidence.specs.declared.evidence.Evidence.TheVariants.{Words, Cosets, Partition, Build, Product, Dual, JohnsonDual}
 use Rattle.ct_fields.specs.declared.fault.FileFault.{FileFault}
-use Rattle.ct_files.specs.Evidence.{read_without_limit, IsSound}
-use Rattle.ct_files.proofs.Evidences.{read_without_limit-sound}
+use Rattle.ct_files.specs.Document.{DocumentValue, document_without_limit}
+use Rattle.ct_files.specs.Evidence.{IsSound}
+use Rattle.ct_files.proofs.Documents.{document_without_limit-right}
 use Rattle.ct_kind.specs.Named.{NamedCode, is_known, first_missing}
 use Rattle.ct_pieces.specs.Kind.{stated_entry, parts_of, own_reason, words_over}
 use Rattle.ct_pieces.specs.Piece.{PieceValue}
@@ -84,32 +85,32 @@ own_states known (JohnsonDual d) sound read own = dual_states known (codes "jdua
 pub states_code : (known : List NamedCode) (evidence : Evidence) → AreSound known → IsRight known evidence → StatesCode known evidence
 states_code known evidence sound h = own_states known evidence sound h.sound (right-own known evidence h)
 
--- the evidence of which a piece is made, whose document was read as this
-pub record IsMaking (known : List NamedCode) (id document : List ℕ) (read : Result Evidence FileFault) (p : PieceValue) : Type 0 where
-  pub evidence : Evidence
-  pub is : read ≡ Ok evidence
-  pub faultless : evidence_reason known evidence ≡ None
-  pub piece : piece_of known id document evidence ≡ p
+-- what the document states of which a piece is made, and which was read as this
+pub record IsMaking (known : List NamedCode) (id document : List ℕ) (read : Result DocumentValue FileFault) (p : PieceValue) : Type 0 where
+  pub stated : DocumentValue
+  pub is : read ≡ Ok stated
+  pub faultless : evidence_reason known stated.evidence ≡ None
+  pub piece : piece_of known id document stated ≡ p
 
 made_unless-ok : (reason : Option SubmitFault) (q p : PieceValue) → made_unless reason q ≡ Ok p → (reason ≡ None) × (q ≡ p)
 made_unless-ok None q p h = (refl, cc)
 made_unless-ok (Some reason) q p h = absurd cc
 
-pub making : (known : List NamedCode) (id document : List ℕ) (read : Result Evidence FileFault) (p : PieceValue) → piece_from known id document read ≡ Ok p → IsMaking known id document read p
-making known id document (Ok evidence) p h =
-    let both = made_unless-ok (evidence_reason known evidence) (piece_of known id document evidence) p h in
-    record { evidence = evidence; is = refl; faultless = both.0; piece = both.1 }
+pub making : (known : List NamedCode) (id document : List ℕ) (read : Result DocumentValue FileFault) (p : PieceValue) → piece_from known id document read ≡ Ok p → IsMaking known id document read p
+making known id document (Ok stated) p h =
+    let both = made_unless-ok (evidence_reason known stated.evidence) (piece_of known id document stated) p h in
+    record { stated = stated; is = refl; faultless = both.0; piece = both.1 }
 making known id document (Err reason) p h = absurd cc
 
-pub making-of : (known : List NamedCode) (p : PieceValue) → IsMade known p → IsMaking known p.id p.document (read_without_limit p.document) p
-making-of known p h = making known p.id p.document (read_without_limit p.document) p h
+pub making-of : (known : List NamedCode) (p : PieceValue) → IsMade known p → IsMaking known p.id p.document (document_without_limit p.document) p
+making-of known p h = making known p.id p.document (document_without_limit p.document) p h
 
 -- a piece that is made is right over the codes
 pub IsMade-right : (known : List NamedCode) (p : PieceValue) → IsMade known p → IsRight known p.evidence
 IsMade-right known p h =
     let m = making-of known p h in
     subst (λ (q : PieceValue). IsRight known q.evidence) m.piece
-    (record { sound = read_without_limit-sound p.document m.evidence m.is; faultless = m.faultless })
+    (record { sound = (document_without_limit-right p.document m.stated m.is).0; faultless = m.faultless })
 
 -- the code of words that are one is one
 pub over-sound : (known : List NamedCode) (evidence : Evidence) (words : Option (List ℕ)) → StatesCode known evidence → words_over known evidence ≡ words

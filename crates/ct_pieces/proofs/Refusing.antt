@@ -23,7 +23,7 @@ use Rattle.ct_evidence.specs.declared.evidence.Evidence.{Evidence}
 use Rattle.ct_evidence.specs.declared.evidence.Evidence.TheVariants.{Words, Cosets}
 use Rattle.ct_evidence.specs.declared.evidence.Evidence.TheVariants as evidence
 use Rattle.ct_fields.specs.declared.fault.FileFault.{FileFault}
-use Rattle.ct_files.specs.Evidence.{read_of}
+use Rattle.ct_files.specs.Document.{DocumentValue, document_read_of}
 use Rattle.ct_kind.specs.Named.{NamedCode, is_known, first_missing, code_named, other_named}
 use Rattle.ct_build_files.specs.BuildKind.{build_refusal, step_reason}
 use Rattle.ct_partition_files.specs.ProductKind.{factors_named, wrong_id, short_of}
@@ -38,7 +38,7 @@ use Rattle.ct_pieces.specs.Refusals.{HasRoom, IsRead, IsFirstMissing, IsOwnReaso
 use Rattle.ct_pieces.specs.declared.limits.TheConstants.{MAX_PIECES, MAX_STORED}
 use Rattle.ct_kind.specs.declared.fault.SubmitFault.{SubmitFault}
 use Rattle.ct_kind.specs.declared.fault.SubmitFault.TheVariants.{Taken, FullPieces, File, NoSuch, WrongPart, Code, Partition, Build, Dual, FullWords, Memory}
-use Rattle.ct_files.proofs.Evidences.{read_of-sound}
+use Rattle.ct_files.proofs.Documents.{document_read_of-right}
 use Rattle.ct_pieces.proofs.CodeLemmas.{known_where_taken}
 use Rattle.ct_pieces.proofs.KindLemmas.{own-told, own-tells, own_checked, no_own_reason}
 use Rattle.ct_pieces.proofs.StandingLemmas.{has_id-none}
@@ -104,36 +104,36 @@ first-missing pieces ids id h =
     ∙ find-from (λ (i : List ℕ). not (is_known i (codes_of pieces))) h.before h.after id (λ i d within. ap not (known i d within)) (ap not none)
 
 -- what a submission comes to where its id is free and there is room
-abbrev made_with : List PieceValue → List ℕ → List ℕ → Result Evidence FileFault → Result PieceValue SubmitFault
+abbrev made_with : List PieceValue → List ℕ → List ℕ → Result DocumentValue FileFault → Result PieceValue SubmitFault
 made_with pieces id document read = stored_beside (stored_words pieces) (piece_from (codes_of pieces) id document read)
 
-submitted-room : (pieces : List PieceValue) (id document : List ℕ) → HasRoom pieces id → submitted pieces id document ≡ made_with pieces id document (read_of document)
+submitted-room : (pieces : List PieceValue) (id document : List ℕ) → HasRoom pieces id → submitted pieces id document ≡ made_with pieces id document (document_read_of document)
 unfolding submitted
 submitted-room pieces id document h =
     let free = not_taken id pieces h.free in
     let below : nat_le MAX_PIECES (length pieces) ≡ false = lt-leb MAX_PIECES (length pieces) h.room in
-    let made = made_with pieces id document (read_of document) in
+    let made = made_with pieces id document (document_read_of document) in
     ap (λ (b : Bool). unless_full b (length pieces) made) free ∙ ap (λ (b : Bool). cond b (Err (FullPieces (length pieces))) made) below
 
 submitted-taken : (pieces : List PieceValue) (id document : List ℕ) → has_id id pieces ≡ true → submitted pieces id document ≡ Err Taken
 unfolding submitted
-submitted-taken pieces id document h = ap (λ (b : Bool). unless_full b (length pieces) (made_with pieces id document (read_of document))) h
+submitted-taken pieces id document h = ap (λ (b : Bool). unless_full b (length pieces) (made_with pieces id document (document_read_of document))) h
 
 submitted-full : (pieces : List PieceValue) (id document : List ℕ) → has_id id pieces ≡ false → MAX_PIECES ≤ length pieces
     → submitted pieces id document ≡ Err (FullPieces (length pieces))
 unfolding submitted
 submitted-full pieces id document free many =
-    let made = made_with pieces id document (read_of document) in
+    let made = made_with pieces id document (document_read_of document) in
     ap (λ (b : Bool). unless_full b (length pieces) made) free ∙ ap (λ (b : Bool). cond b (Err (FullPieces (length pieces))) made) (le-leb MAX_PIECES (length pieces) many)
 
--- and where its document is read as evidence: by its first missing part, or else its kind's own reason, or else its stored words
-abbrev judged : List PieceValue → List ℕ → List ℕ → Evidence → Option (List ℕ) → Option SubmitFault → Result PieceValue SubmitFault
-judged pieces id document evidence missing own =
-    stored_beside (stored_words pieces) (made_unless (first_of (option_map NoSuch missing) own) (piece_of (codes_of pieces) id document evidence))
+-- and where its document is read: by its first missing part, or else its kind's own reason, or else its stored words
+abbrev judged : List PieceValue → List ℕ → List ℕ → DocumentValue → Option (List ℕ) → Option SubmitFault → Result PieceValue SubmitFault
+judged pieces id document stated missing own =
+    stored_beside (stored_words pieces) (made_unless (first_of (option_map NoSuch missing) own) (piece_of (codes_of pieces) id document stated))
 
-submitted-read : (pieces : List PieceValue) (id document : List ℕ) (evidence : Evidence) → IsRead pieces id document evidence
-    → submitted pieces id document ≡ judged pieces id document evidence (first_missing (codes_of pieces) (parts_of evidence)) (own_reason (codes_of pieces) evidence)
-submitted-read pieces id document evidence h = submitted-room pieces id document h.place ∙ ap (made_with pieces id document) h.read
+submitted-read : (pieces : List PieceValue) (id document : List ℕ) (stated : DocumentValue) → IsRead pieces id document stated
+    → submitted pieces id document ≡ judged pieces id document stated (first_missing (codes_of pieces) (parts_of stated.evidence)) (own_reason (codes_of pieces) stated.evidence)
+submitted-read pieces id document stated h = submitted-room pieces id document h.place ∙ ap (made_with pieces id document) h.read
 
 -- a kind's own reasons
 abbrev pub IsOwn : SubmitFault → Type 0
@@ -212,37 +212,40 @@ same-refused : (pieces : List PieceValue) (id document : List ℕ) (first second
 same-refused pieces id document first second same h = let is : first ≡ second = cc in subst (IsRefused pieces id document) is h
 
 -- the reason of a submission whose document is read
-read-refused : (pieces : List PieceValue) (id document : List ℕ) (evidence : Evidence) (reason : SubmitFault) → IsRead pieces id document evidence
+read-refused : (pieces : List PieceValue) (id document : List ℕ) (stated : DocumentValue) (reason : SubmitFault) → IsRead pieces id document stated
     → submitted pieces id document ≡ Err reason → IsRefused pieces id document reason
-read-refused pieces id document evidence reason read h =
-    at (first_missing (codes_of pieces) (parts_of evidence)) (own_reason (codes_of pieces) evidence) refl refl (sym (submitted-read pieces id document evidence read) ∙ h)
+read-refused pieces id document stated reason read h =
+    at (first_missing (codes_of pieces) (parts_of stated.evidence)) (own_reason (codes_of pieces) stated.evidence) refl refl (sym (submitted-read pieces id document stated read) ∙ h)
   where
+    evidence : Evidence
+    evidence = stated.evidence
+
     total : ℕ
-    total = stored_words pieces + stored_by (piece_of (codes_of pieces) id document evidence)
+    total = stored_words pieces + stored_by (piece_of (codes_of pieces) id document stated)
 
     above : (b : Bool) → nat_le total MAX_STORED ≡ b → first_missing (codes_of pieces) (parts_of evidence) ≡ None → own_reason (codes_of pieces) evidence ≡ None
-        → cond b (Ok (piece_of (codes_of pieces) id document evidence)) (Err (FullWords total)) ≡ Err reason → IsRefused pieces id document reason
+        → cond b (Ok (piece_of (codes_of pieces) id document stated)) (Err (FullWords total)) ≡ Err reason → IsRefused pieces id document reason
     above true few none own same = absurd cc
     above false many none own same =
         same-refused pieces id document (FullWords total) reason same
-        (record { evidence = evidence; read = read; parts = parts_stand pieces (parts_of evidence) none; checked = own_checked (codes_of pieces) evidence (read_of-sound document evidence read.read) own; sum = refl; many = leb-false total MAX_STORED many })
+        (record { stated = stated; read = read; parts = parts_stand pieces (parts_of evidence) none; checked = own_checked (codes_of pieces) evidence (document_read_of-right document stated read.read).0 own; sum = refl; many = leb-false total MAX_STORED many })
 
     at : (missing : Option (List ℕ)) (own : Option SubmitFault) → first_missing (codes_of pieces) (parts_of evidence) ≡ missing → own_reason (codes_of pieces) evidence ≡ own
-        → judged pieces id document evidence missing own ≡ Err reason → IsRefused pieces id document reason
+        → judged pieces id document stated missing own ≡ Err reason → IsRefused pieces id document reason
     at (Some part) own is own_is same =
-        same-refused pieces id document (NoSuch part) reason same (record { evidence = evidence; read = read; first = missing-first pieces (parts_of evidence) part is })
+        same-refused pieces id document (NoSuch part) reason same (record { stated = stated; read = read; first = missing-first pieces (parts_of evidence) part is })
     at None (Some first) is own_is same =
         same-refused pieces id document first reason same
         (own-refused pieces id document first (reason-own (codes_of pieces) evidence first own_is)
-        (record { evidence = evidence; read = read; parts = parts_stand pieces (parts_of evidence) is; own = own-told (codes_of pieces) evidence first own_is }))
+        (record { stated = stated; read = read; parts = parts_stand pieces (parts_of evidence) is; own = own-told (codes_of pieces) evidence first own_is }))
     at None None is own_is same = above (nat_le total MAX_STORED) refl is own_is same
 
 -- the reason of a submission that has room
 room-refused : (pieces : List PieceValue) (id document : List ℕ) (reason : SubmitFault) → HasRoom pieces id → submitted pieces id document ≡ Err reason
     → IsRefused pieces id document reason
-room-refused pieces id document reason room h = at (read_of document) refl where
-  at : (read : Result Evidence FileFault) → read_of document ≡ read → IsRefused pieces id document reason
-  at (Ok evidence) is = read-refused pieces id document evidence reason (record { place = room; read = is }) h
+room-refused pieces id document reason room h = at (document_read_of document) refl where
+  at : (read : Result DocumentValue FileFault) → document_read_of document ≡ read → IsRefused pieces id document reason
+  at (Ok stated) is = read-refused pieces id document stated reason (record { place = room; read = is }) h
   at (Err fault) is =
       same-refused pieces id document (File fault) reason (sym (submitted-room pieces id document room ∙ ap (made_with pieces id document) is) ∙ h) (room, is)
 
@@ -263,8 +266,8 @@ refused-for pieces id document reason h = at (has_id id pieces) refl where
 -- a kind's own reason, where the parts stand
 own-refuses : (pieces : List PieceValue) (id document : List ℕ) (reason : SubmitFault) → IsOwnReason pieces id document reason → submitted pieces id document ≡ Err reason
 own-refuses pieces id document reason h =
-    let none = parts_known pieces (parts_of h.evidence) h.parts in
-    submitted-read pieces id document h.evidence h.read ∙ ap₂ (judged pieces id document h.evidence) none (own-tells (codes_of pieces) h.evidence reason h.own)
+    let none = parts_known pieces (parts_of h.stated.evidence) h.parts in
+    submitted-read pieces id document h.stated h.read ∙ ap₂ (judged pieces id document h.stated) none (own-tells (codes_of pieces) h.stated.evidence reason h.own)
 
 -- and each reason that holds refuses
 pub refuses : (pieces : List PieceValue) (id document : List ℕ) (reason : SubmitFault) → IsRefused pieces id document reason → submitted pieces id document ≡ Err reason
@@ -273,20 +276,20 @@ refuses pieces id document (FullPieces count) h =
     submitted-full pieces id document (not_taken id pieces h.0) h.1 ∙ ap (λ (n : ℕ). Err (FullPieces n)) (sym h.2)
 refuses pieces id document (File reason) h = submitted-room pieces id document h.0 ∙ ap (made_with pieces id document) h.1
 refuses pieces id document (NoSuch part) h =
-    submitted-read pieces id document h.evidence h.read
-    ∙ ap (λ (missing : Option (List ℕ)). judged pieces id document h.evidence missing (own_reason (codes_of pieces) h.evidence)) (first-missing pieces (parts_of h.evidence) part h.first)
+    submitted-read pieces id document h.stated h.read
+    ∙ ap (λ (missing : Option (List ℕ)). judged pieces id document h.stated missing (own_reason (codes_of pieces) h.stated.evidence)) (first-missing pieces (parts_of h.stated.evidence) part h.first)
 refuses pieces id document (WrongPart part) h = own-refuses pieces id document (WrongPart part) h
 refuses pieces id document (Code reason) h = own-refuses pieces id document (Code reason) h
 refuses pieces id document (Partition reason) h = own-refuses pieces id document (Partition reason) h
 refuses pieces id document (Build reason) h = own-refuses pieces id document (Build reason) h
 refuses pieces id document (Dual reason) h = own-refuses pieces id document (Dual reason) h
 refuses pieces id document (FullWords total) h =
-    let none = parts_known pieces (parts_of h.evidence) h.parts in
-    let own = no_own_reason (codes_of pieces) h.evidence (read_of-sound document h.evidence h.read.read) h.checked in
-    let p = piece_of (codes_of pieces) id document h.evidence in
+    let none = parts_known pieces (parts_of h.stated.evidence) h.parts in
+    let own = no_own_reason (codes_of pieces) h.stated.evidence (document_read_of-right document h.stated h.read.read).0 h.checked in
+    let p = piece_of (codes_of pieces) id document h.stated in
     let count = stored_words pieces + stored_by p in
     let above : MAX_STORED < count = subst (λ (n : ℕ). MAX_STORED < n) h.sum h.many in
-    submitted-read pieces id document h.evidence h.read ∙ ap₂ (judged pieces id document h.evidence) none own
+    submitted-read pieces id document h.stated h.read ∙ ap₂ (judged pieces id document h.stated) none own
     ∙ ap (λ (b : Bool). cond b (Ok p) (Err (FullWords count))) (lt-leb count MAX_STORED above) ∙ ap (λ (n : ℕ). Err (FullWords n)) (sym h.sum)
 refuses pieces id document Memory h = absurd h
 

@@ -12,11 +12,10 @@ use Rattle.std.proofs.lemmas.Slice.Eq.{bytes_eq-Decides}
 use Rattle.ct_codes.specs.declared.entry.Entry.{Entry}
 use Rattle.ct_codes.specs.Code.{IsCodeOf, IsTrueLower}
 use Rattle.ct_text.specs.Id.{is_id}
-use Rattle.ct_evidence.specs.declared.evidence.Evidence.{Evidence}
 use Rattle.ct_fields.specs.declared.document.TheConstants.{MAX_DOCUMENT}
 use Rattle.ct_fields.specs.declared.fault.FileFault.{FileFault}
-use Rattle.ct_files.specs.Evidence.{read_without_limit, read_of}
-use Rattle.ct_files.proofs.Evidences.{read_without_limit-sound, read_of-within, read_of-without_limit}
+use Rattle.ct_files.specs.Document.{DocumentValue, document_without_limit, document_read_of}
+use Rattle.ct_files.proofs.Documents.{document_without_limit-right, document_read_of-within, document_read_of-without_limit}
 use Rattle.ct_kind.specs.Named.{NamedCode}
 use Rattle.ct_pieces.specs.Kind.{stated_entry, words_over}
 use Rattle.ct_pieces.specs.Piece.{PieceValue, has_id, stored_by, stored_words, first_user}
@@ -35,25 +34,25 @@ use Rattle.ct_pieces.proofs.MakingLemmas.{IsRight, making, making-of, states_cod
 use Rattle.ct_pieces.proofs.LeavingLemmas.{other_than, ArePassed, passing, AreMade-passing, ArePassed-others}
 
 -- a piece that is made has the id and the document that it is made of
-pub piece_from-names : (known : List NamedCode) (id document : List ℕ) (read : Result Evidence FileFault) (p : PieceValue) → piece_from known id document read ≡ Ok p
+pub piece_from-names : (known : List NamedCode) (id document : List ℕ) (read : Result DocumentValue FileFault) (p : PieceValue) → piece_from known id document read ≡ Ok p
     → (p.id ≡ id) × (p.document ≡ document)
 piece_from-names known id document read p h =
     let m = making known id document read p h in
     (ap (λ (q : PieceValue). q.id) (sym m.piece), ap (λ (q : PieceValue). q.document) (sym m.piece))
 
 -- a document that makes a piece is within the limit
-pub piece_from-within : (known : List NamedCode) (id document : List ℕ) (p : PieceValue) → piece_from known id document (read_of document) ≡ Ok p → length document ≤ MAX_DOCUMENT
-piece_from-within known id document p h = let m = making known id document (read_of document) p h in read_of-within document m.evidence m.is
+pub piece_from-within : (known : List NamedCode) (id document : List ℕ) (p : PieceValue) → piece_from known id document (document_read_of document) ≡ Ok p → length document ≤ MAX_DOCUMENT
+piece_from-within known id document p h = let m = making known id document (document_read_of document) p h in document_read_of-within document m.stated m.is
 
 -- a piece that a document makes is made by its own document
-pub piece_from-made : (known : List NamedCode) (id document : List ℕ) (p : PieceValue) → piece_from known id document (read_of document) ≡ Ok p → IsMade known p
+pub piece_from-made : (known : List NamedCode) (id document : List ℕ) (p : PieceValue) → piece_from known id document (document_read_of document) ≡ Ok p → IsMade known p
 piece_from-made known id document p h =
-    let m = making known id document (read_of document) p h in
-    let names = piece_from-names known id document (read_of document) p h in
-    let read = sym (read_of-without_limit document m.evidence m.is) in
-    let made = subst (λ (r : Result Evidence FileFault). piece_from known id document r ≡ Ok p) (m.is ∙ read) h in
-    subst (λ (i : List ℕ). piece_from known i p.document (read_without_limit p.document) ≡ Ok p) (sym names.0)
-    (subst (λ (d : List ℕ). piece_from known id d (read_without_limit d) ≡ Ok p) (sym names.1) made)
+    let m = making known id document (document_read_of document) p h in
+    let names = piece_from-names known id document (document_read_of document) p h in
+    let read = sym (document_read_of-without_limit document m.stated m.is) in
+    let made = subst (λ (r : Result DocumentValue FileFault). piece_from known id document r ≡ Ok p) (m.is ∙ read) h in
+    subst (λ (i : List ℕ). piece_from known i p.document (document_without_limit p.document) ≡ Ok p) (sym names.0)
+    (subst (λ (d : List ℕ). piece_from known id d (document_without_limit d) ≡ Ok p) (sym names.1) made)
 
 -- so many words as a code of the entry has are a true lower bound
 true-size : (e : Entry) (words : Option (List ℕ)) → IfSome words (λ ws. (1 ≤ length ws) × IsCodeOf e ws) → IfSome (option_map length words) (IsTrueLower e)
@@ -64,10 +63,10 @@ true-size e (Some words) code = (words, code.1, refl)
 pub IsMade-true : (known : List NamedCode) (p : PieceValue) → AreSound known → IsMade known p → HasTrueSize p
 IsMade-true known p sound h =
     let m = making-of known p h in
-    let right : IsRight known m.evidence = record { sound = read_without_limit-sound p.document m.evidence m.is; faultless = m.faultless } in
-    let states = states_code known m.evidence sound right in
+    let right : IsRight known m.stated.evidence = record { sound = (document_without_limit-right p.document m.stated m.is).0; faultless = m.faultless } in
+    let states = states_code known m.stated.evidence sound right in
     subst HasTrueSize m.piece
-    (λ coded. subst (λ (size : Option ℕ). IfSome size (IsTrueLower (stated_entry m.evidence))) (sym (states.size coded)) (true-size (stated_entry m.evidence) (words_over known m.evidence) states.code))
+    (λ coded. subst (λ (size : Option ℕ). IfSome size (IsTrueLower (stated_entry m.stated.evidence))) (sym (states.size coded)) (true-size (stated_entry m.stated.evidence) (words_over known m.stated.evidence) states.code))
 
 -- and so for pieces that are made
 AreMade-true : (known : List NamedCode) (ps : List PieceValue) → AreSound known → AreMade known ps → All HasTrueSize ps
@@ -156,28 +155,28 @@ pub AreStanding-true : (pieces : List PieceValue) → AreStanding pieces → All
 AreStanding-true pieces h = AreMade-true [] pieces (All-nil HasSoundCode) h.made
 
 -- where an id is free and there is room, a submission whose document makes a piece goes by the words that are stored
-pub submitted-beside : (pieces : List PieceValue) (id document : List ℕ) (p : PieceValue) → has_id id pieces ≡ false → length pieces < MAX_PIECES → piece_from (codes_of pieces) id document (read_of document) ≡ Ok p
+pub submitted-beside : (pieces : List PieceValue) (id document : List ℕ) (p : PieceValue) → has_id id pieces ≡ false → length pieces < MAX_PIECES → piece_from (codes_of pieces) id document (document_read_of document) ≡ Ok p
     → submitted pieces id document ≡ if_stored (stored_words pieces + stored_by p) p
 unfolding submitted
 submitted-beside pieces id document p free room made =
     let stored = stored_words pieces in
     let below : nat_le MAX_PIECES (length pieces) ≡ false = lt-leb MAX_PIECES (length pieces) room in
-    ap (λ (taken : Bool). unless_full taken (length pieces) (stored_beside stored (piece_from (codes_of pieces) id document (read_of document)))) free
-    ∙ ap (λ (full : Bool). cond full (Err (fault.FullPieces (length pieces))) (stored_beside stored (piece_from (codes_of pieces) id document (read_of document)))) below
+    ap (λ (taken : Bool). unless_full taken (length pieces) (stored_beside stored (piece_from (codes_of pieces) id document (document_read_of document)))) free
+    ∙ ap (λ (full : Bool). cond full (Err (fault.FullPieces (length pieces))) (stored_beside stored (piece_from (codes_of pieces) id document (document_read_of document)))) below
     ∙ ap (stored_beside stored) made
 
 -- one more piece stands with the others, which its document makes under an id that is not taken
-pub AreStanding-made : (pieces : List PieceValue) (id document : List ℕ) (p : PieceValue) → AreStanding pieces → IsTrue (is_id id) → piece_from (codes_of pieces) id document (read_of document) ≡ Ok p → has_id id pieces ≡ false → length pieces < MAX_PIECES
+pub AreStanding-made : (pieces : List PieceValue) (id document : List ℕ) (p : PieceValue) → AreStanding pieces → IsTrue (is_id id) → piece_from (codes_of pieces) id document (document_read_of document) ≡ Ok p → has_id id pieces ≡ false → length pieces < MAX_PIECES
     → stored_words pieces + stored_by p ≤ MAX_STORED → AreStanding (pieces ++ p ∷ [])
 AreStanding-made pieces id document p h named made free room small =
-    let names = piece_from-names (codes_of pieces) id document (read_of document) p made in
+    let names = piece_from-names (codes_of pieces) id document (document_read_of document) p made in
     AreStanding-push pieces p h (piece_from-made (codes_of pieces) id document p made) (subst (λ (i : List ℕ). IsTrue (is_id i)) (sym names.0) named) (ap (λ i. has_id i pieces) names.0 ∙ free) room small
 
 -- what a submission that makes a piece was asked
 pub record WasMade (pieces : List PieceValue) (id document : List ℕ) (p : PieceValue) : Type 0 where
   pub free : has_id id pieces ≡ false
   pub room : length pieces < MAX_PIECES
-  pub made : piece_from (codes_of pieces) id document (read_of document) ≡ Ok p
+  pub made : piece_from (codes_of pieces) id document (document_read_of document) ≡ Ok p
   pub small : stored_words pieces + stored_by p ≤ MAX_STORED
 
 if_stored-ok : (total : ℕ) (q p : PieceValue) (b : Bool) → nat_le total MAX_STORED ≡ b → cond b (Ok q) (Err (fault.FullWords total)) ≡ Ok p → (q ≡ p) × (total ≤ MAX_STORED)
@@ -201,8 +200,8 @@ unless_full-ok false count made p h = let rest = room-ok count made p (nat_le MA
 pub submitted-ok : (pieces : List PieceValue) (id document : List ℕ) (p : PieceValue) → submitted pieces id document ≡ Ok p → WasMade pieces id document p
 unfolding submitted
 submitted-ok pieces id document p h =
-    let whole = unless_full-ok (has_id id pieces) (length pieces) (stored_beside (stored_words pieces) (piece_from (codes_of pieces) id document (read_of document))) p h in
-    let made = stored_beside-ok (stored_words pieces) (piece_from (codes_of pieces) id document (read_of document)) p whole.2 in
+    let whole = unless_full-ok (has_id id pieces) (length pieces) (stored_beside (stored_words pieces) (piece_from (codes_of pieces) id document (document_read_of document))) p h in
+    let made = stored_beside-ok (stored_words pieces) (piece_from (codes_of pieces) id document (document_read_of document)) p whole.2 in
     record { free = whole.0; room = whole.1; made = made.0; small = made.1 }
 
 -- and it makes it again over any pieces that are asked the same

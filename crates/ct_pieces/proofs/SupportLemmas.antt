@@ -9,8 +9,8 @@ use Rattle.std.proofs.lemmas.List.Sums.{sum_by-remove}
 use Rattle.std.proofs.lemmas.List.Elements.{All-push, All-nil, All-cons, All-head, All-tail}
 use Rattle.std.proofs.lemmas.Slice.Eq.{bytes_eq-Decides}
 use Rattle.ct_rule_parts.specs.Support.{Stands, AllStand}
-use Rattle.ct_files.specs.Evidence.{read_of}
-use Rattle.ct_files.proofs.Evidences.{read_without_limit-sound}
+use Rattle.ct_files.specs.Document.{document_read_of}
+use Rattle.ct_files.proofs.Documents.{document_without_limit-right}
 use Rattle.ct_kind.specs.Named.{NamedCode}
 use Rattle.ct_pieces.specs.Piece.{PieceValue, has_id, first_user, stored_by, stored_words}
 use Rattle.ct_pieces.specs.Codes.{named_code, codes_of}
@@ -33,12 +33,12 @@ use Rattle.ct_pieces.proofs.KeptLemmas.{length-kept_codes, kept_codes-push}
 pub IsMade-stands : (known : List NamedCode) (p : PieceValue) → AreSound known → IsMade known p → Stands (support_of p)
 IsMade-stands known p sound h =
     let m = making-of known p h in
-    let right : IsRight known m.evidence = record { sound = read_without_limit-sound p.document m.evidence m.is; faultless = m.faultless } in
-    let states = states_code known m.evidence sound right in
+    let right : IsRight known m.stated.evidence = record { sound = (document_without_limit-right p.document m.stated m.is).0; faultless = m.faultless } in
+    let states = states_code known m.stated.evidence sound right in
     subst (λ (q : PieceValue). Stands (support_of q)) m.piece states.stands
 
 -- and so does what a piece gives that its document makes over pieces that stand
-pub made_stands : (pieces : List PieceValue) (id document : List ℕ) (p : PieceValue) → AreStanding pieces → piece_from (codes_of pieces) id document (read_of document) ≡ Ok p → Stands (support_of p)
+pub made_stands : (pieces : List PieceValue) (id document : List ℕ) (p : PieceValue) → AreStanding pieces → piece_from (codes_of pieces) id document (document_read_of document) ≡ Ok p → Stands (support_of p)
 made_stands pieces id document p h made =
     IsMade-stands (codes_of pieces) p (codes_after-sound [] pieces (All-nil HasSoundCode) h.made) (piece_from-made (codes_of pieces) id document p made)
 

@@ -4,6 +4,7 @@ pub mod Codes
 pub mod Submission
 pub mod Refusals
 pub mod Withdrawal
+pub mod Citing
 pub mod Standing
 pub mod Text
 pub mod Dump

@@ -7,12 +7,13 @@ use Rattle.ct_evidence.specs.declared.evidence.Evidence.{Evidence}
 use Rattle.ct_kind.specs.KindParts.{stored_for}
 use Rattle.ct_pieces.specs.Kind.{kind_of, names}
 
--- a piece: its id, its document, the evidence that the document states, the entry that it is about, and its size, where it has one: the number of
--- words of its code, or of the classes of a partition
+-- a piece: its id, its document, the evidence that the document states and what it cites, the entry that it is about, and its size, where it has
+-- one: the number of words of its code, or of the classes of a partition
 pub record PieceValue : Type 0 where
   pub id : List ℕ
   pub document : List ℕ
   pub evidence : Evidence
+  pub cites : List (List ℕ)
   pub entry : Entry
   pub size : Option ℕ
 

@@ -1,7 +1,6 @@
 -- Why a submission or a withdrawal over the pieces that stand is refused, reason by reason: each holds where those before it don't.
 use Rattle.std.specs.Prelude.{◌≡◌, ◌≢◌, ◌<◌, ◌≤◌, ℕ, true, false, ◌+◌, List, ◌∷◌, ◌++◌, length, map, All, Contains, Ok, Err}
-use Rattle.ct_evidence.specs.declared.evidence.Evidence.{Evidence}
-use Rattle.ct_files.specs.Evidence.{read_of}
+use Rattle.ct_files.specs.Document.{DocumentValue, document_read_of}
 use Rattle.ct_pieces.specs.Kind.{names, parts_of, IsChecked, IsOwnRefusal}
 use Rattle.ct_pieces.specs.Piece.{PieceValue, stored_by, stored_words}
 use Rattle.ct_pieces.specs.Codes.{codes_of}
@@ -21,10 +20,10 @@ pub record HasRoom (pieces : List PieceValue) (id : List ℕ) : Type 0 where
   pub free : All (λ q. q.id ≢ id) pieces
   pub room : length pieces < MAX_PIECES
 
--- besides, the document is read, as this evidence
-pub record IsRead (pieces : List PieceValue) (id document : List ℕ) (evidence : Evidence) : Type 0 where
+-- besides, the document is read, and states this
+pub record IsRead (pieces : List PieceValue) (id document : List ℕ) (stated : DocumentValue) : Type 0 where
   pub place : HasRoom pieces id
-  pub read : read_of document ≡ Ok evidence
+  pub read : document_read_of document ≡ Ok stated
 
 -- the first of the ids that is none of the pieces'
 pub record IsFirstMissing (pieces : List PieceValue) (ids : List (List ℕ)) (id : List ℕ) : Type 0 where
@@ -36,24 +35,24 @@ pub record IsFirstMissing (pieces : List PieceValue) (ids : List (List ℕ)) (id
 
 -- the document is read as evidence whose parts stand, and its kind has this reason against it, by its plain condition
 pub record IsOwnReason (pieces : List PieceValue) (id document : List ℕ) (reason : SubmitFault) : Type 0 where
-  pub evidence : Evidence
-  pub read : IsRead pieces id document evidence
-  pub parts : All (IsTaken pieces) (parts_of evidence)
-  pub own : IsOwnRefusal (codes_of pieces) evidence reason
+  pub stated : DocumentValue
+  pub read : IsRead pieces id document stated
+  pub parts : All (IsTaken pieces) (parts_of stated.evidence)
+  pub own : IsOwnRefusal (codes_of pieces) stated.evidence reason
 
 -- the document names this part first of those that don't stand
 pub record NamesMissing (pieces : List PieceValue) (id document part : List ℕ) : Type 0 where
-  pub evidence : Evidence
-  pub read : IsRead pieces id document evidence
-  pub first : IsFirstMissing pieces (parts_of evidence) part
+  pub stated : DocumentValue
+  pub read : IsRead pieces id document stated
+  pub first : IsFirstMissing pieces (parts_of stated.evidence) part
 
 -- the evidence is as its kind asks, but so many words would be stored with it, which are too many
 pub record IsAboveStored (pieces : List PieceValue) (id document : List ℕ) (total : ℕ) : Type 0 where
-  pub evidence : Evidence
-  pub read : IsRead pieces id document evidence
-  pub parts : All (IsTaken pieces) (parts_of evidence)
-  pub checked : IsChecked (codes_of pieces) evidence
-  pub sum : total ≡ stored_words pieces + stored_by (piece_of (codes_of pieces) id document evidence)
+  pub stated : DocumentValue
+  pub read : IsRead pieces id document stated
+  pub parts : All (IsTaken pieces) (parts_of stated.evidence)
+  pub checked : IsChecked (codes_of pieces) stated.evidence
+  pub sum : total ≡ stored_words pieces + stored_by (piece_of (codes_of pieces) id document stated)
   pub many : MAX_STORED < total
 
 -- the submission is refused for this reason: in order, its id stands; a thousand pieces do; the document's own fault; a part that doesn't stand; a
@@ -61,7 +60,7 @@ pub record IsAboveStored (pieces : List PieceValue) (id document : List ℕ) (to
 abbrev pub IsRefused : List PieceValue → List ℕ → List ℕ → SubmitFault → Type 0
 IsRefused pieces id document Taken = IsTaken pieces id
 IsRefused pieces id document (FullPieces count) = All (λ q. q.id ≢ id) pieces × (MAX_PIECES ≤ length pieces) × (count ≡ length pieces)
-IsRefused pieces id document (File reason) = HasRoom pieces id × (read_of document ≡ Err reason)
+IsRefused pieces id document (File reason) = HasRoom pieces id × (document_read_of document ≡ Err reason)
 IsRefused pieces id document (NoSuch part) = NamesMissing pieces id document part
 IsRefused pieces id document (WrongPart part) = IsOwnReason pieces id document (WrongPart part)
 IsRefused pieces id document (Code reason) = IsOwnReason pieces id document (Code reason)

@@ -2,7 +2,7 @@
 use Rattle.std.specs.Prelude.{◌≡◌, ◌≢◌, ◌≤◌, List, [], ◌∷◌, ◌++◌, length, All, AllPairs, Ok, IfSome, IsTrue}
 use Rattle.ct_codes.specs.Code.{IsTrueLower}
 use Rattle.ct_text.specs.Id.{is_id}
-use Rattle.ct_files.specs.Evidence.{read_without_limit}
+use Rattle.ct_files.specs.Document.{document_without_limit}
 use Rattle.ct_kind.specs.Named.{NamedCode}
 use Rattle.ct_pieces.specs.Kind.{has_code}
 use Rattle.ct_pieces.specs.Piece.{PieceValue, stored_words}
@@ -12,7 +12,7 @@ use Rattle.ct_pieces.specs.declared.limits.TheConstants.{MAX_PIECES, MAX_STORED}
 
 -- a piece is the one that its document, however long it is, makes under its id over these codes
 abbrev pub IsMade : List NamedCode → PieceValue → Type 0
-IsMade known p = piece_from known p.id p.document (read_without_limit p.document) ≡ Ok p
+IsMade known p = piece_from known p.id p.document (document_without_limit p.document) ≡ Ok p
 
 -- each of the pieces is made by its document over the known codes and those of the pieces before it
 abbrev pub AreMade : List NamedCode → List PieceValue → Type 0

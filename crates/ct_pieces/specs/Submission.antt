@@ -3,7 +3,7 @@ use Rattle.std.specs.Prelude.{◌≡◌, ◌≢◌, ◌<◌, ◌≤◌, ℕ, ◌
 use Rattle.ct_codes.specs.Code.{IsCodeOf}
 use Rattle.ct_evidence.specs.declared.evidence.Evidence.{Evidence}
 use Rattle.ct_fields.specs.declared.fault.FileFault.{FileFault}
-use Rattle.ct_files.specs.Evidence.{read_of}
+use Rattle.ct_files.specs.Document.{DocumentValue, document_read_of}
 use Rattle.ct_kind.specs.Named.{NamedCode}
 use Rattle.ct_kind.specs.KindParts.{kind_reason}
 use Rattle.ct_pieces.specs.Kind.{kind_of, stated_entry, parts_of, words_over, size_over, IsChecked}
@@ -17,23 +17,29 @@ use Rattle.ct_kind.specs.declared.fault.SubmitFault.TheVariants as fault
 abbrev pub evidence_reason : List NamedCode → Evidence → Option SubmitFault
 evidence_reason known evidence = kind_reason (kind_of evidence) known
 
--- the piece of evidence, with its size, where it has one
-abbrev pub piece_of : List NamedCode → List ℕ → List ℕ → Evidence → PieceValue
-piece_of known id document evidence =
-    record { id = id; document = document; evidence = evidence; entry = stated_entry evidence; size = size_over known evidence }
+-- the piece of what a document states: its evidence with what it cites, and its size, where it has one
+abbrev pub piece_of : List NamedCode → List ℕ → List ℕ → DocumentValue → PieceValue
+piece_of known id document stated = record {
+  id = id;
+  document = document;
+  evidence = stated.evidence;
+  cites = stated.cites;
+  entry = stated_entry stated.evidence;
+  size = size_over known stated.evidence;
+}
 
 -- the piece, where there is no reason against it
 abbrev pub made_unless : Option SubmitFault → PieceValue → Result PieceValue SubmitFault
 made_unless None piece = Ok piece
 made_unless (Some reason) piece = Err reason
 
--- the piece that evidence makes over these codes, where there is no reason against it
-abbrev pub made_of : List NamedCode → List ℕ → List ℕ → Evidence → Result PieceValue SubmitFault
-made_of known id document evidence = made_unless (evidence_reason known evidence) (piece_of known id document evidence)
+-- the piece that a document makes which states this, over these codes, where there is no reason against its evidence
+abbrev pub made_of : List NamedCode → List ℕ → List ℕ → DocumentValue → Result PieceValue SubmitFault
+made_of known id document stated = made_unless (evidence_reason known stated.evidence) (piece_of known id document stated)
 
 -- the piece of a document that was read
-abbrev pub piece_from : List NamedCode → List ℕ → List ℕ → Result Evidence FileFault → Result PieceValue SubmitFault
-piece_from known id document (Ok evidence) = made_of known id document evidence
+abbrev pub piece_from : List NamedCode → List ℕ → List ℕ → Result DocumentValue FileFault → Result PieceValue SubmitFault
+piece_from known id document (Ok stated) = made_of known id document stated
 piece_from known id document (Err reason) = Err (fault.File reason)
 
 -- the piece where so many stored words are not too many
@@ -53,7 +59,7 @@ unless_full taken count made = if taken then Err fault.Taken else (if nat_le MAX
 -- words they store
 unfoldable pub submitted : List PieceValue → List ℕ → List ℕ → Result PieceValue SubmitFault
 submitted pieces id document =
-    unless_full (has_id id pieces) (length pieces) (stored_beside (stored_words pieces) (piece_from (codes_of pieces) id document (read_of document)))
+    unless_full (has_id id pieces) (length pieces) (stored_beside (stored_words pieces) (piece_from (codes_of pieces) id document (document_read_of document)))
 
 -- the pieces with the one that is made, if one is, at the end
 abbrev pub with_piece : List PieceValue → Result PieceValue SubmitFault → List PieceValue
@@ -65,13 +71,13 @@ with_piece pieces (Err reason) = pieces
 pub record IsAccepted (pieces : List PieceValue) (id document : List ℕ) (p : PieceValue) : Type 0 where
   pub free : All (λ q. q.id ≢ id) pieces
   pub room : length pieces < MAX_PIECES
-  pub evidence : Evidence
-  pub read : read_of document ≡ Ok evidence
-  pub parts : All (Contains (map (λ q. q.id) pieces)) (parts_of evidence)
-  pub checked : IsChecked (codes_of pieces) evidence
-  pub code : IfSome (words_over (codes_of pieces) evidence) (IsCodeOf (stated_entry evidence))
+  pub stated : DocumentValue
+  pub read : document_read_of document ≡ Ok stated
+  pub parts : All (Contains (map (λ q. q.id) pieces)) (parts_of stated.evidence)
+  pub checked : IsChecked (codes_of pieces) stated.evidence
+  pub code : IfSome (words_over (codes_of pieces) stated.evidence) (IsCodeOf (stated_entry stated.evidence))
   pub small : stored_words pieces + stored_by p ≤ MAX_STORED
-  pub piece : p ≡ piece_of (codes_of pieces) id document evidence
+  pub piece : p ≡ piece_of (codes_of pieces) id document stated
 
 -- the submission made a piece, whose size is answered, and the pieces are those of before and this one after them
 pub record AddsPiece (old new : List PieceValue) (id document : List ℕ) (size : Option ℕ) : Type 0 where

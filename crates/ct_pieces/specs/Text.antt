@@ -1,5 +1,5 @@
 -- The texts of refusals and of the lines of a ledger.
-use Rattle.std.specs.Prelude.{ℕ, List, [], ◌++◌, Option, Some, None, codes}
+use Rattle.std.specs.Prelude.{ℕ, List, [], ◌∷◌, ◌++◌, length, Option, Some, None, codes}
 use Rattle.ct_text.specs.Number.{spaced}
 use Rattle.ct_text.specs.EntryText.{entry_words}
 use Rattle.ct_fields.specs.Field.{field_text}
@@ -52,6 +52,11 @@ abbrev pub size_text : Option ℕ → List ℕ
 size_text None = []
 size_text (Some size) = codes " size" ++ spaced size
 
--- the line of a piece: ID KIND ENTRY, and its size where it has one
+-- how many texts a piece cites, where it cites one
+abbrev pub cites_text : List (List ℕ) → List ℕ
+cites_text [] = []
+cites_text (cite ∷ cites) = codes " cites" ++ spaced (length (cite ∷ cites))
+
+-- the line of a piece: ID KIND ENTRY, its size where it has one, and how many texts it cites where it cites one
 abbrev pub piece_text : PieceValue → List ℕ
-piece_text p = p.id ++ codes " " ++ (kind_of p.evidence).text ++ codes " " ++ entry_words p.entry ++ size_text p.size
+piece_text p = p.id ++ codes " " ++ (kind_of p.evidence).text ++ codes " " ++ entry_words p.entry ++ size_text p.size ++ cites_text p.cites

@@ -1,7 +1,10 @@
 //! The check of evidence that is handed in.
 
-ghost use Rattle.std.specs.Prelude.{◌≡◌, ◌≢◌, Ok, Err, IfOk, IfErr, []};
-ghost use Rattle.ct_files.specs.Evidence.{IsSound, read_of};
+ghost use Rattle.std.specs.Prelude.{◌≡◌, ◌≢◌, ◌≤◌, All, IsTrue, Ok, Err, IfOk, IfErr, [], length};
+ghost use Rattle.ct_text.specs.Cite.{is_cite};
+ghost use Rattle.ct_fields.specs.declared.cites.TheConstants.{MAX_CITES};
+ghost use Rattle.ct_files.specs.Document.{document_read_of, value_of};
+ghost use Rattle.ct_files.specs.Evidence.{IsSound};
 ghost use Rattle.ct_pieces.specs.Codes.{codes_of};
 ghost use Rattle.ct_pieces.specs.Standing.{AreMade};
 ghost use Rattle.ct_pieces.specs.Submission.{made_of, piece_from};
@@ -11,7 +14,7 @@ ghost use Rattle.ct_pieces.specs.Inside.Kept.{kept_over, kept_codes};
 use crate::kinds::{Checked, check, kind_of};
 use crate::piece::Piece;
 use ct_codes::Code;
-use ct_files::{Evidence, FileFault, read_evidence};
+use ct_files::{Document, FileFault, read_document};
 use ct_kind::SubmitFault;
 use ct_rule_parts::Support;
 use ct_text::{Id, Text};
@@ -25,7 +28,7 @@ pub(crate) struct Made {
     pub(crate) support: Support,
 }
 
-/// The piece that the evidence makes under the id over the pieces, or why it makes none. Whether its id is taken is not
+/// The piece that the document makes, which states this, under the id over the pieces, or why it makes none. Whether its id is taken is not
 /// looked at. The codes that are kept stand at the places of their pieces.
 pub(crate) fn make_piece(
     alloc: Global,
@@ -33,24 +36,26 @@ pub(crate) fn make_piece(
     kept: &[Option<Code>],
     id: Id,
     document: Text,
-    evidence: Evidence,
+    stated: Document,
 ) -> Result<Made, SubmitFault>
     requires standing { AreMade [] pieces.now }
     requires kept { kept.now ≡ kept_codes pieces.now }
-    requires sound { IsSound evidence }
-    ensures made { IfOk result (λ made. made_of (codes_of pieces.now) id document evidence ≡ Ok made.piece) }
+    requires sound { IsSound stated.evidence }
+    requires few { length stated.cites.items ≤ MAX_CITES }
+    requires each { All (λ cite. IsTrue (is_cite cite)) stated.cites.items }
+    ensures made { IfOk result (λ made. made_of (codes_of pieces.now) id document (value_of stated) ≡ Ok made.piece) }
     ensures kept { IfOk result (λ made. made.kept ≡ kept_over (codes_of pieces.now) made.piece.evidence) }
     ensures support { IfOk result (λ made. made.support ≡ support_of made.piece) }
     ensures fault { IfErr result (λ fault. fault ≢ SubmitFault.Memory
-        → made_of (codes_of pieces.now) id document evidence ≡ Err fault) }
+        → made_of (codes_of pieces.now) id document (value_of stated) ≡ Err fault) }
 {
     let Checked {
         size,
         kept,
         support,
-    } = check(alloc, pieces, kept, &evidence)?;
-    let entry = kind_of(&evidence).entry;
-    let piece = Piece::new(id, document, evidence, entry, size);
+    } = check(alloc, pieces, kept, &stated.evidence)?;
+    let entry = kind_of(&stated.evidence).entry;
+    let piece = Piece::new(id, document, stated, entry, size);
     Ok(Made {
         piece,
         kept,
@@ -69,14 +74,14 @@ pub(crate) fn check_document(
 ) -> Result<Made, SubmitFault>
     requires standing { AreMade [] pieces.now }
     requires kept { kept.now ≡ kept_codes pieces.now }
-    ensures made { IfOk result (λ made. piece_from (codes_of pieces.now) id document (read_of document) ≡ Ok made.piece) }
+    ensures made { IfOk result (λ made. piece_from (codes_of pieces.now) id document (document_read_of document) ≡ Ok made.piece) }
     ensures kept { IfOk result (λ made. made.kept ≡ kept_over (codes_of pieces.now) made.piece.evidence) }
     ensures support { IfOk result (λ made. made.support ≡ support_of made.piece) }
     ensures fault { IfErr result (λ fault. fault ≢ SubmitFault.Memory
-        → piece_from (codes_of pieces.now) id document (read_of document) ≡ Err fault) }
+        → piece_from (codes_of pieces.now) id document (document_read_of document) ≡ Err fault) }
 {
-    match read_evidence(alloc, document.bytes()) {
-        Ok(evidence) => make_piece(alloc, pieces, kept, id, document, evidence),
+    match read_document(alloc, document.bytes()) {
+        Ok(stated) => make_piece(alloc, pieces, kept, id, document, stated),
         Err(FileFault::Memory) => Err(SubmitFault::Memory),
         Err(fault) => Err(SubmitFault::File(fault)),
     }

@@ -25,7 +25,10 @@ ghost use Rattle.ct_pieces.specs.declared.fault.WithdrawFault.TheVariants as wit
 ghost use Rattle.ct_pieces.specs.Standing.{AreStanding};
 ghost use Rattle.ct_fields.specs.declared.fault.FileFault.{FileFault};
 ghost use Rattle.ct_evidence.specs.declared.evidence.Evidence.{Evidence};
+ghost use Rattle.ct_fields.specs.Cites.{IsCites};
+ghost use Rattle.ct_files.specs.Document.{DocumentValue, document_read_of};
 ghost use Rattle.ct_files.specs.Evidence.{read_of, IsSound};
+ghost use Rattle.ct_pieces.specs.Citing.{made_recited, uncited};
 ghost use Rattle.ct_pieces.specs.Submission.{submitted, IsAccepted};
 ghost use Rattle.ct_pieces.specs.Supports.{support_of, supports_of};
 ghost use Rattle.ct_kind.specs.declared.fault.SubmitFault.{SubmitFault};
@@ -88,6 +91,22 @@ pub fn pieces_taken_along()
     ensures refused { (pieces : List PieceValue) (id : List ℕ) (reason : WithdrawFault)
         → (withdrawn_all pieces id ≡ Err reason) ↔ ((reason ≡ withdraw.NoSuch) × All (λ q. q.id ≢ id) pieces) }
     ensures stand { (pieces left : List PieceValue) (id : List ℕ) → AreStanding pieces → withdrawn_all pieces id ≡ Ok left → AreStanding left }
+{}
+
+/// What a piece cites is what its document does, at most `MAX_CITES` texts, and is kept alone: a document of the same evidence makes the same piece
+/// or is refused for the same reason, whatever it cites; and submissions, what goes with a piece, and the table are the same where no piece
+/// cites anything.
+pub fn cites_are_kept()
+    ensures kept { (pieces : List PieceValue) (id document : List ℕ) (p : PieceValue) → submitted pieces id document ≡ Ok p
+        → (stated : DocumentValue) × (document_read_of document ≡ Ok stated) × (p.cites ≡ stated.cites) }
+    ensures right { (pieces : List PieceValue) → AreStanding pieces → All (λ p. IsCites p.cites) pieces }
+    ensures alike { (pieces : List PieceValue) (id document other : List ℕ) (stated another : DocumentValue)
+        → document_read_of document ≡ Ok stated → document_read_of other ≡ Ok another → stated.evidence ≡ another.evidence
+        → submitted pieces id other ≡ made_recited other another.cites (submitted pieces id document) }
+    ensures submissions { (pieces : List PieceValue) (id document : List ℕ)
+        → submitted (uncited pieces) id document ≡ submitted pieces id document }
+    ensures along { (pieces : List PieceValue) (id : List ℕ) → taken_along (uncited pieces) id ≡ taken_along pieces id }
+    ensures supports { (pieces : List PieceValue) → supports_of (uncited pieces) ≡ supports_of pieces }
 {}
 
 /// The words that a piece stores, by its kind: those of its document, a basis and representatives or the words of all classes among them,

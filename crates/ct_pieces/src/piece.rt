@@ -1,6 +1,8 @@
 //! A piece of evidence that was accepted.
 
-ghost use Rattle.std.specs.Prelude.{◌≡◌, ◌++◌, OnOk, IfOk};
+ghost use Rattle.std.specs.Prelude.{◌≡◌, ◌≤◌, ◌++◌, All, IsTrue, OnOk, IfOk, length};
+ghost use Rattle.ct_fields.specs.declared.cites.TheConstants.{MAX_CITES};
+ghost use Rattle.ct_text.specs.Cite.{is_cite};
 ghost use Rattle.ct_files.specs.Evidence.{IsSound};
 ghost use Rattle.ct_pieces.specs.Kind.{names};
 ghost use Rattle.ct_pieces.specs.Text.{piece_text};
@@ -8,8 +10,8 @@ ghost use Rattle.ct_pieces.specs.Text.{piece_text};
 use crate::kinds::names;
 use crate::text::put_piece;
 use ct_codes::Entry;
-use ct_files::Evidence;
-use ct_text::{Id, Text};
+use ct_files::{Document, Evidence};
+use ct_text::{Cite, Id, Text};
 use std::alloc::{AllocError, Global};
 use std::marker::Model;
 
@@ -19,19 +21,23 @@ pub struct Piece {
     id: Id,
     document: Text,
     evidence: Evidence,
+    cites: Vec<Cite>,
     entry: Entry,
     size: Option<u32>,
 }
 
 impl Model for Piece {
+    ghost use Rattle.std.specs.Prelude.{◌≤◌, All, IsTrue, length};
+    ghost use Rattle.ct_fields.specs.declared.cites.TheConstants.{MAX_CITES};
+    ghost use Rattle.ct_text.specs.Cite.{is_cite};
     ghost use Rattle.ct_files.specs.Evidence.{IsSound};
     ghost use Rattle.ct_pieces.specs.Piece.{PieceValue};
 
     ghost Value = { PieceValue };
 
-    ghost view = { λ p. record { id = p.id; document = p.document; evidence = p.evidence; entry = p.entry; size = p.size } };
+    ghost view = { λ p. record { id = p.id; document = p.document; evidence = p.evidence; cites = p.cites.items; entry = p.entry; size = p.size } };
 
-    ghost invariant = { λ p. IsSound p.evidence };
+    ghost invariant = { λ p. IsSound p.evidence × (length p.cites.items ≤ MAX_CITES) × All (λ cite. IsTrue (is_cite cite)) p.cites.items };
 }
 
 impl Piece {
@@ -39,17 +45,21 @@ impl Piece {
     pub(crate) fn new(
         id: Id,
         document: Text,
-        evidence: Evidence,
+        stated: Document,
         entry: Entry,
         size: Option<u32>,
     ) -> Piece
-        requires sound { IsSound evidence }
-        ensures { result ≡ record { id = id; document = document; evidence = evidence; entry = entry; size = size } }
+        requires sound { IsSound stated.evidence }
+        requires few { length stated.cites.items ≤ MAX_CITES }
+        requires each { All (λ cite. IsTrue (is_cite cite)) stated.cites.items }
+        ensures { result ≡ record { id = id; document = document; evidence = stated.evidence; cites = stated.cites.items; entry = entry; size = size } }
     {
+        let Document { evidence, cites } = stated;
         Piece {
             id,
             document,
             evidence,
+            cites,
             entry,
             size,
         }
@@ -75,6 +85,15 @@ impl Piece {
         ensures sound { IsSound result.now }
     {
         &self.evidence
+    }
+
+    /// The texts that its document cites, in the order of the document, at most `MAX_CITES`; none where it has no `cites`.
+    pub fn cites(&self) -> &[Cite]
+        ensures cites { result.now ≡ self.now.cites }
+        ensures few { length result.now ≤ MAX_CITES }
+        ensures each { All (λ cite. IsTrue (is_cite cite)) result.now }
+    {
+        &self.cites
     }
 
     /// Whether it names the piece of this id as a part of its own.
@@ -105,8 +124,8 @@ impl Piece {
         self.document.bytes()
     }
 
-    /// Its line in a list of pieces, `ID KIND ENTRY` and ` size S` where it has a size, without a line feed. `Err` is want of
-    /// memory.
+    /// Its line in a list of pieces, `ID KIND ENTRY`, ` size S` where it has a size, and ` cites C` where it cites C texts, at least one,
+    /// without a line feed. `Err` is want of memory.
     pub fn describe(&self, alloc: Global) -> Result<Vec<u8>, AllocError>
         ensures { IfOk result (λ text. text.items ≡ piece_text self.now) }
     {

@@ -3,7 +3,7 @@
 ghost use Rattle.std.specs.Prelude.{◌≡◌, ◌≢◌, ◌≤◌, ◌<◌, ◌+◌, ◌^◌, ◌∷◌, ◌++◌, List, Result, Ok, Err, Some, None, false, IfOk, IfErr, IfSome, IsSome, IsTrue, OnOk, OnErr, [], All, find, is_some, length, not, option_map, remove, ℕ, true, filter};
 ghost use Rattle.ct_codes.specs.Code.{IsSoundCode};
 ghost use Rattle.ct_text.specs.Id.{is_id};
-ghost use Rattle.ct_files.specs.Evidence.{read_of};
+ghost use Rattle.ct_files.specs.Document.{document_read_of, without_cites};
 ghost use Rattle.ct_pieces.specs.Piece.{PieceValue, has_id, stored_by, stored_words, first_user};
 ghost use Rattle.ct_pieces.specs.Codes.{code_of_place, codes_of};
 ghost use Rattle.ct_pieces.specs.Submission.{submitted, if_stored, unless_full};
@@ -27,7 +27,7 @@ use crate::new_piece::NewPiece;
 use crate::piece::Piece;
 use crate::standing::has_code;
 use ct_codes::Code;
-use ct_files::Evidence;
+use ct_files::{Document, Evidence};
 use ct_kind::SubmitFault;
 use ct_text::{Id, Text};
 use std::alloc::{AllocError, Global};
@@ -205,8 +205,8 @@ impl Pieces {
         self.put_made(made)
     }
 
-    /// `submit_text` of a document that is handed over with the evidence that it reads as: the document is kept, and is not read
-    /// again.
+    /// `submit_text` of a document without cites that is handed over with the evidence that it reads as: the document is kept, and is not
+    /// read again.
     #[tactic(auto, unfolding(crate::specs::Submission::submitted))]
     pub fn admit(
         &mut self,
@@ -214,7 +214,7 @@ impl Pieces {
         evidence: Evidence,
         document: Text,
     ) -> Result<NewPiece, SubmitFault>
-        requires read { read_of document ≡ Ok evidence }
+        requires read { document_read_of document ≡ Ok (without_cites evidence) }
         ensures accepted { IfOk result (λ new_piece. AddsPiece self.old self.new id document new_piece.size) }
         ensures supports { IfOk result (λ new_piece. supports_of self.new ≡ supports_of self.old ++ new_piece.support ∷ []) }
         ensures standing { OnOk result (AreStanding self.new) }
@@ -223,7 +223,11 @@ impl Pieces {
     {
         room_for(&self.pieces, id)?;
         let alloc = *self.pieces.allocator();
-        let made = make_piece(alloc, &self.pieces, &self.kept, id, document, evidence)?;
+        let stated = Document {
+            evidence,
+            cites: Vec::new(alloc),
+        };
+        let made = make_piece(alloc, &self.pieces, &self.kept, id, document, stated)?;
         self.put_made(made)
     }
 

@@ -1,7 +1,7 @@
 //! The texts of refusals and of the lines of a ledger.
 
 ghost use Rattle.std.specs.Prelude.{◌≡◌, ◌++◌, OnOk, IfOk};
-ghost use Rattle.ct_pieces.specs.Text.{file_fault_text, submit_fault_text, withdraw_fault_text, size_text, piece_text};
+ghost use Rattle.ct_pieces.specs.Text.{file_fault_text, submit_fault_text, withdraw_fault_text, size_text, cites_text, piece_text};
 
 use crate::fault::WithdrawFault;
 use crate::kinds::kind_of;
@@ -11,7 +11,7 @@ use ct_dual_files::put_dual_fault;
 use ct_files::FileFault;
 use ct_kind::{SubmitFault, put_numbered};
 use ct_partition_files::put_partition_fault;
-use ct_text::{Id, put_entry_words, put_spaced};
+use ct_text::{Cite, Id, put_entry_words, put_spaced};
 use ct_word_files::put_code_fault;
 use std::alloc::{AllocError, Global};
 
@@ -102,6 +102,17 @@ fn put_size(alloc: Global, text: &mut Vec<u8>, size: Option<u32>) -> Result<(), 
     }
 }
 
+/// Puts at the end of the text how many texts are cited, where one is.
+fn put_cites(alloc: Global, text: &mut Vec<u8>, cites: &[Cite]) -> Result<(), AllocError>
+    ensures { OnOk result (text.new.items ≡ text.old.items ++ cites_text cites.now) }
+{
+    if cites.is_empty() {
+        return Ok(());
+    }
+    text.extend_from_slice(b" cites")?;
+    put_spaced(alloc, text, cites.len() as u64)
+}
+
 /// Puts the line of a piece at the end of the text, without a line feed.
 pub(crate) fn put_piece(alloc: Global, text: &mut Vec<u8>, piece: &Piece) -> Result<(), AllocError>
     ensures { OnOk result (text.new.items ≡ text.old.items ++ piece_text piece.now) }
@@ -111,5 +122,6 @@ pub(crate) fn put_piece(alloc: Global, text: &mut Vec<u8>, piece: &Piece) -> Res
     text.extend_from_slice(kind_of(piece.evidence()).text)?;
     text.push(b' ')?;
     put_entry_words(alloc, text, piece.entry())?;
-    put_size(alloc, text, piece.size())
+    put_size(alloc, text, piece.size())?;
+    put_cites(alloc, text, piece.cites())
 }

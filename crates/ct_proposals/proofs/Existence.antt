@@ -1,5 +1,5 @@
 -- Each input has an output: documents of duals that are found, proposals, and replies.
-use Rattle.std.proofs.Common.{◌≡◌, ℕ, suc, ◌≤◌, ◌^◌, Bool, true, false, List, [], ◌∷◌, ◌++◌, codes, length, replicate, All, Option, Some, None, Ok, IfSome, refl, arith}
+use Rattle.std.proofs.Common.{◌≡◌, ℕ, suc, ◌≤◌, ◌^◌, Bool, true, false, List, [], ◌∷◌, ◌++◌, codes, length, replicate, All, Option, Some, None, Ok, IfSome, refl, ap, ◌∙◌, arith}
 use Rattle.std.specs.Prelude.{ℤ, pos, negsuc, ◌≤ℤ◌, ◌<ℤ◌, ◌||◌, FitsSigned}
 use Rattle.std.specs.Int.{w64}
 use Rattle.std.proofs.lemmas.Int.{fits_signed_from_abs, ints}
@@ -13,9 +13,15 @@ use Rattle.ct_codes.proofs.EntryLemmas.{entry_limits}
 use Rattle.ct_duals.specs.declared.dual.Dual.{Dual}
 use Rattle.ct_duals.specs.Dual.{IsDual}
 use Rattle.ct_fields.specs.Document.{table_of}
+use Rattle.ct_evidence.specs.declared.evidence.Evidence.{Evidence}
 use Rattle.ct_evidence.specs.declared.evidence.Evidence.TheVariants as evidence
-use Rattle.ct_files.specs.Evidence.{read_of}
+use Rattle.ct_files.specs.Document.{without_cites, document_read_of}
+use Rattle.ct_files.specs.Evidence.{IsSound}
+use Rattle.ct_files.specs.Inside.Written.{evidence_table, HasIds}
+use Rattle.ct_files.proofs.Documents.{document_read_of-short}
+use Rattle.ct_files.proofs.Evidences.{read_of-within}
 use Rattle.ct_files.proofs.Lengths.{written-read}
+use Rattle.ct_files.proofs.WrittenDocuments.{nothing_cited, document-written}
 use Rattle.ct_fields.specs.Inside.Room.{IsSimpleTable, table_room}
 use Rattle.ct_fields.proofs.TextLengths.{document_length}
 use Rattle.ct_dual_files.specs.WrittenDuals.{dual_table, johnson_dual_table}
@@ -134,18 +140,25 @@ bytes_of ms plain =
       room = λ simple. document_length ms bytes simple text;
     }
 
+-- the bytes of the table of evidence read as it, without cites
+written-document : (e : Evidence) (ms : Members) (bytes : List ℕ) → IsSound e → HasIds e → ms ≡ evidence_table e → table_of bytes ≡ Some (table ms)
+    → (IsSimpleTable ms → length bytes ≤ table_room ms) → document_read_of bytes ≡ Ok (without_cites e)
+written-document e ms bytes sound ids is written room =
+    document_read_of-short bytes (read_of-within bytes e (written-read e ms bytes sound ids is written room))
+    ∙ document-written e [] bytes sound ids nothing_cited (written ∙ ap (λ (t : Members). Some (table t)) is)
+
 -- each dual that allows nothing has a document
 plain_document : (n d : ℕ) (even : Bool) (c : List ℤ) → IsDual (with_multipliers (unrestricted n d) even c)
-    → (document : List ℕ) × (read_of document ≡ Ok (evidence.Dual (with_multipliers (unrestricted n d) even c)))
+    → (document : List ℕ) × (document_read_of document ≡ Ok (without_cites (evidence.Dual (with_multipliers (unrestricted n d) even c))))
 plain_document n d even c form =
     let limits = entry_limits (unrestricted n d) form.entry in
     let own = with_multipliers (unrestricted n d) even c in
     let b = bytes_of (dual_table own)
     (dual_plain n d even c limits.length_to limits.distance_to (all_fit c form.multipliers form.signed.0)) in
-    (b.bytes, written-read (evidence.Dual own) (dual_table own) b.bytes (form, refl) tt refl b.written b.room)
+    (b.bytes, written-document (evidence.Dual own) (dual_table own) b.bytes (form, refl) tt refl b.written b.room)
 
 weighted_document : (n d w : ℕ) (c : List ℤ) → IsDual (with_multipliers (constant_weight n d w) false c)
-    → (document : List ℕ) × (read_of document ≡ Ok (evidence.JohnsonDual (with_multipliers (constant_weight n d w) false c)))
+    → (document : List ℕ) × (document_read_of document ≡ Ok (without_cites (evidence.JohnsonDual (with_multipliers (constant_weight n d w) false c))))
 weighted_document n d w c form =
     let limits = entry_limits (constant_weight n d w) form.entry in
     let weight = limits.weight in
@@ -153,10 +166,10 @@ weighted_document n d w c form =
     let own = with_multipliers (constant_weight n d w) false c in
     let b = bytes_of (johnson_dual_table own)
     (johnson_dual_plain n d w c limits.length_to limits.distance_to (omega (arith, weight.2)) (all_fit c form.multipliers form.signed.0)) in
-    (b.bytes, written-read (evidence.JohnsonDual own) (johnson_dual_table own) b.bytes (form, refl) tt refl b.written b.room)
+    (b.bytes, written-document (evidence.JohnsonDual own) (johnson_dual_table own) b.bytes (form, refl) tt refl b.written b.room)
 
 -- each proposal with a document has a text
-proposal_exists : (e : Entry) (d : Dual) (bound : ℕ) (stop : Stop) → (document : List ℕ) × (read_of document ≡ Ok (dual_evidence d.entry.w d))
+proposal_exists : (e : Entry) (d : Dual) (bound : ℕ) (stop : Stop) → (document : List ℕ) × (document_read_of document ≡ Ok (without_cites (dual_evidence d.entry.w d)))
     → (text : List ℕ) × IsProposal e d bound stop text
 proposal_exists e d bound stop (document, reads) = (bound_line bound stop ++ submission_text (find_id e) document, (document, reads, refl))
 

@@ -6,7 +6,7 @@ use Rattle.ct_codes.specs.declared.entry.Entry.{Entry}
 use Rattle.ct_duals.specs.declared.dual.Dual.{Dual}
 use Rattle.ct_evidence.specs.declared.evidence.Evidence.{Evidence}
 use Rattle.ct_evidence.specs.declared.evidence.Evidence.TheVariants as evidence
-use Rattle.ct_files.specs.Evidence.{read_of}
+use Rattle.ct_files.specs.Document.{without_cites, document_read_of}
 use Rattle.ct_commands.specs.Submission.{submission_text}
 use Rattle.ct_pieces.specs.Piece.{PieceValue}
 use Rattle.ct_finder_run.specs.Run.{End}
@@ -57,10 +57,10 @@ weight_part (Some w) = codes "-" ++ decimal w
 abbrev pub find_id : Entry → List ℕ
 find_id e = codes "find-" ++ decimal e.n ++ codes "-" ++ decimal e.d ++ weight_part e.w
 
--- a proposal: the comment, and the submission of a document that reads as the dual
+-- a proposal: the comment, and the submission of a document that reads as the dual, without cites
 abbrev pub IsProposal : Entry → Dual → ℕ → Stop → List ℕ → Type 0
 IsProposal e d bound stop text =
-    (document : List ℕ) × (read_of document ≡ Ok (dual_evidence d.entry.w d)) × (text ≡ bound_line bound stop ++ submission_text (find_id e) document)
+    (document : List ℕ) × (document_read_of document ≡ Ok (without_cites (dual_evidence d.entry.w d))) × (text ≡ bound_line bound stop ++ submission_text (find_id e) document)
 
 -- what is written for an entry of the table: the proposal of the dual, with its bound and how the run stopped, or `none`
 abbrev pub AnswersEntry : Entry → Option Dual → List ℕ → Type 0
@@ -69,4 +69,4 @@ AnswersEntry e (Some d) text = IsProposal e d (bound_of d) (stop_of MAX_TURNS (r
 
 -- the piece that a document makes, submitted under the id of the entry, which reads as this dual
 abbrev pub proposed_piece : Entry → Dual → List ℕ → PieceValue
-proposed_piece e d document = record { id = find_id e; document = document; evidence = dual_evidence e.w d; entry = e; size = None }
+proposed_piece e d document = record { id = find_id e; document = document; evidence = dual_evidence e.w d; cites = []; entry = e; size = None }

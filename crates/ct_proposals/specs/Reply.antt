@@ -8,7 +8,7 @@ use Rattle.ct_codes.specs.declared.entry.Entry.{Entry}
 use Rattle.ct_text.specs.Line.{words_of}
 use Rattle.ct_text.specs.EntryNumbers.{entry_numbers_of, named_entry}
 use Rattle.ct_text.specs.declared.entry_numbers.EntryNumbers.{EntryNumbers}
-use Rattle.ct_files.specs.Evidence.{read_of}
+use Rattle.ct_files.specs.Document.{document_read_of}
 use Rattle.ct_commands.specs.Submission.{submission_text}
 use Rattle.ct_proposals.specs.Proposal.{AnswersEntry, found_dual}
 
@@ -45,7 +45,7 @@ IsFound input output refused = AreReplies (lines_of input) output refused
 abbrev pub DifferInDocument : List ℕ → List ℕ → Type 0
 DifferInDocument text other =
     (text ≡ other)
-    ⊎ ((front id document another : List ℕ) × (read_of document ≡ read_of another)
+    ⊎ ((front id document another : List ℕ) × (document_read_of document ≡ document_read_of another)
     × (text ≡ front ++ submission_text id document) × (other ≡ front ++ submission_text id another))
 
 -- two outputs are a reply for each line, in order, and these differ in the bytes of their documents alone

@@ -7,7 +7,7 @@ use Rattle.std.proofs.lemmas.List.{length-map}
 use Rattle.std.proofs.lemmas.List.Folds.{fold-map}
 use Rattle.std.proofs.lemmas.List.Sums.{sum_by-cons, fold-append}
 use Rattle.ct_evidence.specs.declared.evidence.Evidence.{Evidence}
-use Rattle.ct_files.specs.Evidence.{read_of}
+use Rattle.ct_files.specs.Document.{DocumentValue, without_cites, document_read_of}
 use Rattle.ct_rule_parts.specs.declared.support.Support.{Support}
 use Rattle.ct_kind.specs.Named.{NamedCode}
 use Rattle.ct_pieces.specs.Kind.{names}
@@ -91,21 +91,22 @@ full-bare true full count made = refl
 full-bare false true count made = refl
 full-bare false false count made = refl
 
--- a submission of a document that reads as the evidence makes over pieces what this makes over them without documents, but for the documents
-pub made-bares : (ps : List PieceValue) (id document : List ℕ) (evidence : Evidence) → read_of document ≡ Ok evidence → made_bare (bares ps) id evidence ≡ bare_made (submitted ps id document)
+-- a submission of a document without cites that reads as the evidence makes over pieces what this makes over them without documents, but for the documents
+pub made-bares : (ps : List PieceValue) (id document : List ℕ) (evidence : Evidence) → document_read_of document ≡ Ok (without_cites evidence) → made_bare (bares ps) id evidence ≡ bare_made (submitted ps id document)
 unfolding made_bare submitted
 made-bares ps id document evidence read =
     let known = codes_of ps in
-    let own = made_of known id document evidence in
-    ap (λ (taken : Bool). unless_full taken (length (bares ps)) (stored_beside (stored_words (bares ps)) (made_of (codes_of (bares ps)) id [] evidence))) (has_id-bares id ps)
-    ∙ ap (λ (count : ℕ). unless_full (has_id id ps) count (stored_beside (stored_words (bares ps)) (made_of (codes_of (bares ps)) id [] evidence))) (length-bares ps)
-    ∙ ap (λ (stored : ℕ). unless_full (has_id id ps) (length ps) (stored_beside stored (made_of (codes_of (bares ps)) id [] evidence))) (stored-bares ps)
-    ∙ ap (λ (codes : List NamedCode). unless_full (has_id id ps) (length ps) (stored_beside (stored_words ps) (made_of codes id [] evidence))) (codes-bares [] ps)
-    ∙ ap (λ (made : Result PieceValue SubmitFault). unless_full (has_id id ps) (length ps) (stored_beside (stored_words ps) made)) (unless-bare (evidence_reason known evidence) (piece_of known id document evidence))
+    let stated : DocumentValue = without_cites evidence in
+    let own = made_of known id document stated in
+    ap (λ (taken : Bool). unless_full taken (length (bares ps)) (stored_beside (stored_words (bares ps)) (made_of (codes_of (bares ps)) id [] stated))) (has_id-bares id ps)
+    ∙ ap (λ (count : ℕ). unless_full (has_id id ps) count (stored_beside (stored_words (bares ps)) (made_of (codes_of (bares ps)) id [] stated))) (length-bares ps)
+    ∙ ap (λ (stored : ℕ). unless_full (has_id id ps) (length ps) (stored_beside stored (made_of (codes_of (bares ps)) id [] stated))) (stored-bares ps)
+    ∙ ap (λ (codes : List NamedCode). unless_full (has_id id ps) (length ps) (stored_beside (stored_words ps) (made_of codes id [] stated))) (codes-bares [] ps)
+    ∙ ap (λ (made : Result PieceValue SubmitFault). unless_full (has_id id ps) (length ps) (stored_beside (stored_words ps) made)) (unless-bare (evidence_reason known evidence) (piece_of known id document stated))
     ∙ ap (λ (made : Result PieceValue SubmitFault). unless_full (has_id id ps) (length ps) made) (stored-bare (stored_words ps) own)
     ∙ full-bare (has_id id ps) (nat_le MAX_PIECES (length ps)) (length ps) (stored_beside (stored_words ps) own)
     ∙ ap (λ (made : Result PieceValue SubmitFault). bare_made (unless_full (has_id id ps) (length ps) (stored_beside (stored_words ps) made)))
-    (sym (made_of-read known id document evidence own read refl))
+    (sym (made_of-read known id document stated own read refl))
 
 used-bare : (user : Option PieceValue) (rest : List PieceValue) → unless_used (option_map bare user) (bares rest) ≡ bare_left (unless_used user rest)
 used-bare None rest = refl

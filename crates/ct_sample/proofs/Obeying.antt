@@ -3,7 +3,7 @@ use Rattle.std.proofs.Common.{◌≡◌, ℕ, ◌+◌, Bool, true, false, cond, 
 use Rattle.std.specs.Int.{from_bool}
 use Rattle.std.proofs.lemmas.List.{map-append}
 use Rattle.ct_evidence.specs.declared.evidence.Evidence.{Evidence}
-use Rattle.ct_files.specs.Evidence.{read_of}
+use Rattle.ct_files.specs.Document.{without_cites, document_read_of}
 use Rattle.ct_pieces.specs.Piece.{PieceValue}
 use Rattle.ct_pieces.specs.Submission.{submitted, with_piece}
 use Rattle.ct_pieces.specs.Withdrawal.{withdrawn, left_by}
@@ -29,7 +29,7 @@ with-bare : (old : List PieceValue) (made : Result PieceValue SubmitFault) → b
 with-bare old (Ok p) = map-append bare old (p ∷ [])
 with-bare old (Err reason) = refl
 
-pub submitted_one : (old new : List PieceValue) (a w one : ℕ) (id document : List ℕ) (evidence : Evidence) → read_of document ≡ Ok evidence
+pub submitted_one : (old new : List PieceValue) (a w one : ℕ) (id document : List ℕ) (evidence : Evidence) → document_read_of document ≡ Ok (without_cites evidence)
     → new ≡ with_piece old (submitted old id document)
     → one ≡ cond (is_ok (submitted old id document)) 1 0 → run_value new (a + one) w ≡ after_submission (run_value old a w) (made_bare (bares old) id evidence)
 submitted_one old new a w one id document evidence read pieces counted =

@@ -1,10 +1,11 @@
 -- What holds of the pieces of a run, which has no documents: what they give to the table stands, their codes are codes, and their entries are of the table.
-use Rattle.std.proofs.Common.{◌≡◌, ℕ, zero, suc, ◌+◌, ◌≤◌, ◌%◌, ◌==◌, Bool, true, false, cond, List, [], ◌∷◌, ◌++◌, length, Option, Some, None, option_map, Result, Ok, Err, is_ok, refl, sym, subst, arith}
+use Rattle.std.proofs.Common.{◌≡◌, ℕ, zero, suc, ◌+◌, ◌≤◌, ◌%◌, ◌==◌, Bool, true, false, cond, List, [], ◌∷◌, ◌++◌, length, Option, Some, None, option_map, Result, Ok, Err, is_ok, refl, sym, ap, subst, arith}
 use Rattle.std.specs.Prelude.{IfSome, filter}
 use Rattle.std.proofs.lemmas.List.Elements.{All-nil, All-cons, All-push, All-head, All-tail, All-filter}
 use Rattle.ct_codes.specs.Entry.{IsEntry}
 use Rattle.ct_rule_parts.specs.Support.{Stands, AllStand}
 use Rattle.ct_evidence.specs.declared.evidence.Evidence.{Evidence}
+use Rattle.ct_files.specs.Document.{DocumentValue, without_cites}
 use Rattle.ct_files.specs.Evidence.{IsSound}
 use Rattle.ct_kind.specs.Named.{NamedCode}
 use Rattle.ct_pieces.specs.Kind.{words_over}
@@ -45,16 +46,17 @@ record IsGood (known : List NamedCode) (p : PieceValue) : Type 0 where
   sound : HasSoundCode (named_code known p)
   entry : IsEntry p.entry
 
-made-good : (known : List NamedCode) (id document : List ℕ) (evidence : Evidence) (p : PieceValue) → AreSound known → IsSound evidence → made_of known id document evidence ≡ Ok p → IsGood known p
+made-good : (known : List NamedCode) (id document : List ℕ) (evidence : Evidence) (p : PieceValue) → AreSound known → IsSound evidence → made_of known id document (without_cites evidence) ≡ Ok p → IsGood known p
 made-good known id document evidence p codes sound made =
-    let m = making known id document (Ok evidence) p made in
-    let same : evidence ≡ m.evidence = let is = m.is in cc in
-    let right : IsRight known m.evidence = record { sound = subst IsSound same sound; faultless = m.faultless } in
-    let states = states_code known m.evidence codes right in
+    let m = making known id document (Ok (without_cites evidence)) p made in
+    let stated : without_cites evidence ≡ m.stated = let is = m.is in cc in
+    let same : evidence ≡ m.stated.evidence = ap (λ (d : DocumentValue). d.evidence) stated in
+    let right : IsRight known m.stated.evidence = record { sound = subst IsSound same sound; faultless = m.faultless } in
+    let states = states_code known m.stated.evidence codes right in
     record {
       stands = subst (λ (q : PieceValue). Stands (support_of q)) m.piece states.stands;
       sound = subst (λ (q : PieceValue). HasSoundCode (named_code known q)) m.piece
-          (record { code = over-sound known m.evidence (words_over known m.evidence) states refl; partition = states.partition });
+          (record { code = over-sound known m.stated.evidence (words_over known m.stated.evidence) states refl; partition = states.partition });
       entry = subst (λ (q : PieceValue). IsEntry q.entry) m.piece states.entry;
     }
 
@@ -66,10 +68,10 @@ running-push pieces p h good = record {
 }
 
 -- evidence that makes a piece without its document makes it over the codes of the pieces
-bare-made : (pieces : List PieceValue) (id : List ℕ) (evidence : Evidence) (p : PieceValue) → made_bare pieces id evidence ≡ Ok p → made_of (codes_of pieces) id [] evidence ≡ Ok p
+bare-made : (pieces : List PieceValue) (id : List ℕ) (evidence : Evidence) (p : PieceValue) → made_bare pieces id evidence ≡ Ok p → made_of (codes_of pieces) id [] (without_cites evidence) ≡ Ok p
 unfolding made_bare
 bare-made pieces id evidence p h =
-    let made = made_of (codes_of pieces) id [] evidence in
+    let made = made_of (codes_of pieces) id [] (without_cites evidence) in
     let whole = unless_full-ok (has_id id pieces) (length pieces) (stored_beside (stored_words pieces) made) p h in
     (stored_beside-ok (stored_words pieces) made p whole.2).0
 

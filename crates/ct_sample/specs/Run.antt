@@ -3,6 +3,7 @@
 use Rattle.std.specs.Prelude.{ℕ, zero, suc, ◌+◌, if◌then◌else◌, List, [], length, Option, Some, None, Result, is_ok, map}
 use Rattle.ct_pieces.specs.Piece.{PieceValue, has_id, stored_words}
 use Rattle.ct_evidence.specs.declared.evidence.Evidence.{Evidence}
+use Rattle.ct_files.specs.Document.{without_cites}
 use Rattle.ct_pieces.specs.Codes.{codes_of}
 use Rattle.ct_pieces.specs.Submission.{made_of, stored_beside, unless_full, with_piece}
 use Rattle.ct_pieces.specs.Withdrawal.{withdrawn, left_by}
@@ -15,16 +16,17 @@ use Rattle.ct_sample.specs.declared.command.Command.TheVariants.{Submit, Withdra
 
 -- a piece without its document
 abbrev pub bare : PieceValue → PieceValue
-bare p = record { id = p.id; document = []; evidence = p.evidence; entry = p.entry; size = p.size }
+bare p = record { id = p.id; document = []; evidence = p.evidence; cites = p.cites; entry = p.entry; size = p.size }
 
 -- pieces without their documents
 abbrev pub bares : List PieceValue → List PieceValue
 bares pieces = map bare pieces
 
--- what evidence makes over pieces, without its document: what a submission makes of each document that reads as it, but for the document
+-- what evidence makes over pieces, without its document: what a submission makes of each document without cites that reads as it, but for the
+-- document
 unfoldable pub made_bare : List PieceValue → List ℕ → Evidence → Result PieceValue SubmitFault
 made_bare pieces id evidence =
-    unless_full (has_id id pieces) (length pieces) (stored_beside (stored_words pieces) (made_of (codes_of pieces) id [] evidence))
+    unless_full (has_id id pieces) (length pieces) (stored_beside (stored_words pieces) (made_of (codes_of pieces) id [] (without_cites evidence)))
 
 -- what commands leave: the pieces that stand, without their documents, how many submissions were accepted, and how many withdrawals were made
 pub record RunValue : Type 0 where

@@ -1,7 +1,8 @@
 //! The run of the sample: a ledger that obeys its commands.
 
 ghost use Rattle.std.specs.Prelude.{◌≡◌, ◌≢◌, ◌≤◌, ◌<◌, ◌+◌, ◌^◌, [], IfOk, OnOk, Some, IfSome, Ok, false, is_ok, length};
-ghost use Rattle.ct_files.specs.Evidence.{IsSound, read_of};
+ghost use Rattle.ct_files.specs.Document.{document_read_of, without_cites};
+ghost use Rattle.ct_files.specs.Evidence.{IsSound};
 ghost use Rattle.ct_pieces.specs.Submission.{submitted, with_piece};
 ghost use Rattle.ct_pieces.specs.Supports.{supports_of};
 ghost use Rattle.ct_pieces.specs.Withdrawal.{withdrawn, left_by};
@@ -35,14 +36,14 @@ impl Model for Run {
     ghost view = { λ r. record { pieces = bares r.ledger.pieces; accepted = r.accepted; withdrawn = r.withdrawn } };
 }
 
-/// Submits evidence with a document that reads as it: whether it is accepted. `Err` is want of memory.
+/// Submits evidence with a document without cites that reads as it: whether it is accepted. `Err` is want of memory.
 fn submit_evidence(
     ledger: &mut Ledger,
     id: Id,
     evidence: Evidence,
     document: Text,
 ) -> Result<bool, AllocError>
-    requires read { read_of document ≡ Ok evidence }
+    requires read { document_read_of document ≡ Ok (without_cites evidence) }
     ensures accepted { IfOk result (λ accepted. accepted ≡ is_ok (submitted ledger.old.pieces id document)) }
     ensures pieces { OnOk result (ledger.new.pieces ≡ with_piece ledger.old.pieces (submitted ledger.old.pieces id document)) }
 {

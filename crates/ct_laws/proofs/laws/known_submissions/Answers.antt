@@ -55,7 +55,7 @@ abbrev six : List ℕ
 six = 0b1111111111 ∷ 0b1111000000 ∷ 0b1000111000 ∷ 0b0100100110 ∷ 0b0010010101 ∷ 0b0001001011 ∷ []
 
 abbrev hexa : PieceValue
-hexa = record { id = codes "hexa"; document = six_words_document; evidence = Words entry six; entry = entry; size = Some 6 }
+hexa = record { id = codes "hexa"; document = six_words_document; evidence = Words entry six; cites = []; entry = entry; size = Some 6 }
 
 -- the six words are a code
 six_code : IsTrueLower entry 6
@@ -95,7 +95,7 @@ abbrev basis : List ℕ
 basis = 0b100011 ∷ 0b010101 ∷ 0b001110 ∷ []
 
 abbrev linear_piece : PieceValue
-linear_piece = record { id = codes "linear"; document = linear_code_document; evidence = Cosets short_entry basis (0 ∷ []); entry = short_entry; size = Some 8 }
+linear_piece = record { id = codes "linear"; document = linear_code_document; evidence = Cosets short_entry basis (0 ∷ []); cites = []; entry = short_entry; size = Some 8 }
 
 -- the eight sums of basis words are a code
 linear_is_code : IsTrueLower short_entry 8

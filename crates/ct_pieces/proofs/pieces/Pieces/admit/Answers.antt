@@ -1,44 +1,57 @@
-use Rattle.std.proofs.Common.{ℕ, List, Ok, ◌≡◌, ap, ◌∙◌, subst}
-use Rattle.ct_files.proofs.Evidences.{read_of-sound}
+use Rattle.std.proofs.Common.{ℕ, List, [], Ok, ◌≡◌, ap, ◌∙◌, subst, rules}
+use Rattle.ct_files.specs.Document.{without_cites}
+use Rattle.ct_files.proofs.Documents.{document_read_of-right}
 use Rattle.ct_pieces.specs.Piece.{PieceValue, has_id}
 use Rattle.ct_pieces.specs.Codes.{codes_of}
 use Rattle.ct_pieces.specs.Submission.{made_of}
 use Rattle.ct_pieces.proofs.StandingLemmas.{piece_from-names, piece_from-made}
-use Rattle.ct_pieces.proofs.Admitting.{made_of-read, submits_piece, submits_fault}
+use Rattle.ct_pieces.proofs.Admitting.{made_without, made_of-read, submits_piece, submits_fault}
 use Rattle.ct_pieces.proofs.pieces.Pieces.admit.Goals as goal
 
 pub make_piece-requires-clause-sound : goal.make_piece-requires-clause-sound
-make_piece-requires-clause-sound c = read_of-sound c.args.document c.args.evidence c.requires.read
+make_piece-requires-clause-sound c = (document_read_of-right c.args.document (without_cites c.args.evidence) c.requires.read).0
 
 pub put_made-requires-clause-made : goal.put_made-requires-clause-made
 put_made-requires-clause-made c =
     let p = c.in_ok-made.made.piece in
-    let made = subst (λ (ps : List PieceValue). made_of (codes_of ps) c.args.id c.args.document c.args.evidence ≡ Ok p) (c.deref-2.ensures.value ∙ c.self.view_is) c.in_ok-made.ensures.made in
-    piece_from-made (codes_of c.args.self.now) c.args.id c.args.document p (made_of-read (codes_of c.args.self.now) c.args.id c.args.document c.args.evidence (Ok p) c.requires.read made)
+    let none : c.new.result.items ≡ [] = search rules in
+    let made = made_without (codes_of c.args.self.now) c.args.id c.args.document c.args.evidence c.new.result.items (Ok p) none
+    (subst (λ (ps : List PieceValue). made_of (codes_of ps) c.args.id c.args.document (record { evidence = c.args.evidence; cites = c.new.result.items }) ≡ Ok p)
+    (c.deref-2.ensures.value ∙ c.self.view_is) c.in_ok-made.ensures.made) in
+    piece_from-made (codes_of c.args.self.now) c.args.id c.args.document p (made_of-read (codes_of c.args.self.now) c.args.id c.args.document (without_cites c.args.evidence) (Ok p) c.requires.read made)
 
 pub put_made-requires-clause-free : goal.put_made-requires-clause-free
 put_made-requires-clause-free c =
     let p = c.in_ok-made.made.piece in
-    let made = subst (λ (ps : List PieceValue). made_of (codes_of ps) c.args.id c.args.document c.args.evidence ≡ Ok p) (c.deref-2.ensures.value ∙ c.self.view_is) c.in_ok-made.ensures.made in
-    let names = piece_from-names (codes_of c.args.self.now) c.args.id c.args.document (Ok c.args.evidence) p made in
+    let none : c.new.result.items ≡ [] = search rules in
+    let made = made_without (codes_of c.args.self.now) c.args.id c.args.document c.args.evidence c.new.result.items (Ok p) none
+    (subst (λ (ps : List PieceValue). made_of (codes_of ps) c.args.id c.args.document (record { evidence = c.args.evidence; cites = c.new.result.items }) ≡ Ok p)
+    (c.deref-2.ensures.value ∙ c.self.view_is) c.in_ok-made.ensures.made) in
+    let names = piece_from-names (codes_of c.args.self.now) c.args.id c.args.document (Ok (without_cites c.args.evidence)) p made in
     let free = rw (c.deref.ensures.value, c.self.view_is) at c.in_ok-room_for.ensures.free in
     ap (λ (i : List ℕ). has_id i c.args.self.now) names.0 ∙ free
 
 pub returns-clause-accepted : goal.returns-clause-accepted
 returns-clause-accepted c =
     let p = c.in_ok-made.made.piece in
-    let made = subst (λ (ps : List PieceValue). made_of (codes_of ps) c.args.id c.args.document c.args.evidence ≡ Ok p) (c.deref-2.ensures.value ∙ c.self.view_is) c.in_ok-made.ensures.made in
+    let none : c.new.result.items ≡ [] = search rules in
+    let made = made_without (codes_of c.args.self.now) c.args.id c.args.document c.args.evidence c.new.result.items (Ok p) none
+    (subst (λ (ps : List PieceValue). made_of (codes_of ps) c.args.id c.args.document (record { evidence = c.args.evidence; cites = c.new.result.items }) ≡ Ok p)
+    (c.deref-2.ensures.value ∙ c.self.view_is) c.in_ok-made.ensures.made) in
     let free = rw (c.deref.ensures.value, c.self.view_is) at c.in_ok-room_for.ensures.free in
     let room = rw (c.deref.ensures.value, c.self.view_is) at c.in_ok-room_for.ensures.room in
     let e = c.put_made.ensures in
     submits_piece c.args.self.now c.put_made.new.self c.args.id c.args.document p c.put_made.result free room
-    (made_of-read (codes_of c.args.self.now) c.args.id c.args.document c.args.evidence (Ok p) c.requires.read made) e.pieces e.size e.stored
+    (made_of-read (codes_of c.args.self.now) c.args.id c.args.document (without_cites c.args.evidence) (Ok p) c.requires.read made) e.pieces e.size e.stored
 
 pub returns-clause-fault : goal.returns-clause-fault
 returns-clause-fault c =
     let p = c.in_ok-made.made.piece in
-    let made = subst (λ (ps : List PieceValue). made_of (codes_of ps) c.args.id c.args.document c.args.evidence ≡ Ok p) (c.deref-2.ensures.value ∙ c.self.view_is) c.in_ok-made.ensures.made in
+    let none : c.new.result.items ≡ [] = search rules in
+    let made = made_without (codes_of c.args.self.now) c.args.id c.args.document c.args.evidence c.new.result.items (Ok p) none
+    (subst (λ (ps : List PieceValue). made_of (codes_of ps) c.args.id c.args.document (record { evidence = c.args.evidence; cites = c.new.result.items }) ≡ Ok p)
+    (c.deref-2.ensures.value ∙ c.self.view_is) c.in_ok-made.ensures.made) in
     let free = rw (c.deref.ensures.value, c.self.view_is) at c.in_ok-room_for.ensures.free in
     let room = rw (c.deref.ensures.value, c.self.view_is) at c.in_ok-room_for.ensures.room in
     submits_fault c.args.self.now c.args.id c.args.document p c.put_made.result free room
-    (made_of-read (codes_of c.args.self.now) c.args.id c.args.document c.args.evidence (Ok p) c.requires.read made) c.put_made.ensures.fault
+    (made_of-read (codes_of c.args.self.now) c.args.id c.args.document (without_cites c.args.evidence) (Ok p) c.requires.read made) c.put_made.ensures.fault

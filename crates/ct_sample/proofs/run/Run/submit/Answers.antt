@@ -7,5 +7,5 @@ pub returns : goal.returns
 returns c =
     let one = c.from.ensures ∙ bit_is c.in_ok-accepted.accepted ∙ ap (λ (b : Bool). cond {A = ℕ} b 1 0) c.in_ok-accepted.ensures.accepted in
     submitted_one c.self.inside.ledger.pieces c.submit_evidence.new.ledger.pieces c.self.inside.accepted c.self.inside.withdrawn c.from.result c.args.id
-    c.from_vec-document.result c.args.evidence (rw c.from_vec-document.ensures c.in_ok-write_evidence.ensures.read) c.in_ok-accepted.ensures.pieces one
+    c.from_vec-document.result c.args.evidence (rw c.from_vec-document.ensures c.in_ok-write_evidence.ensures.document) c.in_ok-accepted.ensures.pieces one
     ∙ ap (λ (r : RunValue). after_submission r (made_bare r.pieces c.args.id c.args.evidence)) c.self.view_is
