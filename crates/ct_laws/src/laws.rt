@@ -13,6 +13,7 @@ ghost use Rattle.ct_pieces.specs.declared.fault.WithdrawFault.TheVariants as wit
 ghost use Rattle.ct_codes.specs.Entry.{unrestricted, constant_weight};
 ghost use Rattle.ct_rule_parts.specs.declared.support.Support.TheVariants.{Size};
 ghost use Rattle.ct_pieces.specs.Supports.{supports_of};
+ghost use Rattle.ct_pieces.specs.Text.{cites_text};
 ghost use Rattle.ct_session.specs.Reply.{column};
 ghost use Rattle.ct_session.specs.Run.{IsRun, pieces_of};
 ghost use Rattle.ct_replies.specs.Text.{reply_text};
@@ -109,6 +110,8 @@ pub fn known_texts()
         ≡ codes "A(27,28) = 1\n8388608 <= A(28,3) <= 9256395\n" }
     ensures withdrawn { reply_text (Withdrawn (codes "golay")) ≡ codes "withdrawn golay\n" }
     ensures withdrawn_all { reply_text (WithdrawnAll (codes "golay") 2) ≡ codes "withdrawn golay count 2\n" }
+    ensures cites { cites_text (codes "page 52" ∷ codes "table I" ∷ []) ≡ codes " cites 2" }
+    ensures no_cites { cites_text [] ≡ [] }
     ensures cut { reply_text (Refused refusal.CutOff) ≡ codes "refused cut\n" }
     ensures command { reply_text (Refused refusal.NoCommand) ≡ codes "refused command\n" }
     ensures entry { reply_text (Refused refusal.NoEntry) ≡ codes "refused entry\n" }

@@ -23,6 +23,13 @@ pub returns-clause-withdrawn_all : goal.returns-clause-withdrawn_all
 unfolding reply_text digits
 returns-clause-withdrawn_all c = refl
 
+pub returns-clause-cites : goal.returns-clause-cites
+unfolding digits
+returns-clause-cites c = refl
+
+pub returns-clause-no_cites : goal.returns-clause-no_cites
+returns-clause-no_cites c = refl
+
 pub returns-clause-cut : goal.returns-clause-cut
 unfolding reply_text digits
 returns-clause-cut c = refl
