@@ -95,7 +95,8 @@ __attribute__((destructor)) static void tell(void) {
 }
 """
 
-WORDS = 'submit hexa\nkind = "words"\nn = 10\nd = 6\nwords = ["1111111111", "1111000000", "1000111000"]\nend\n'
+CITES = ", ".join(f'"page {i}"' for i in range(1, 17))
+WORDS = f'submit hexa\nkind = "words"\nformat = 2\nn = 10\nd = 6\nwords = ["1111111111", "1111000000", "1000111000"]\ncites = [{CITES}]\nend\n'
 WEIGHT = 'submit fano lines 5\nkind = "words"\nn = 6\nd = 4\nw = 3\nwords = ["111000", "100110", "010101", "001011"]\n'
 DUALS = '''submit d13
 kind = "dual"
@@ -120,7 +121,7 @@ BUILDS = [("lengthen", 11, 6, ""), ("append_one", 11, 6, ""), ("parity", 11, 6, 
           ("select", 10, 6, 'w = 4\nby = "0000000000"\n'), ("uuv", 20, 6, 'other = "hexa"\n'), ("juxtapose", 20, 12, 'other = "hexa"\n'),
           ("trim", 10, 6, "size = 2\n")]
 COMMANDS = "show 10 6\nshow 6 4 3\ntable 30\ntable 6 3\nexplain lower 10 6\nexplain upper 13 6\nlist 10 6\nlist 6 4 3\nledger\ndump\n"
-REFUSED = "submit hexa\nend\nsubmit a\nkind = 3\nend\nwithdraw none\nwithdraw hexa\nshow 2 2\nfoo\nsubmit c\n"
+REFUSED = "submit hexa\nend\nsubmit a\nkind = 3\nend\nwithdraw none\nwithdraw hexa\nwithdraw none all\nshow 2 2\nfoo\n"
 
 
 def session():
@@ -128,7 +129,7 @@ def session():
     builds = "".join(f'submit b-{op.replace("_", "-")}\nkind = "build"\nop = "{op}"\nn = {n}\nd = {d}\npart = "hexa"\n{more}end\n'
                      for op, n, d, more in BUILDS)
     golay = (TOP / "examples/golay.session").read_text()
-    return WORDS + WEIGHT + golay + DUALS + PARTITION + PRODUCT + builds + COMMANDS + "withdraw b-trim\n" + REFUSED
+    return WORDS + WEIGHT + golay + DUALS + PARTITION + PRODUCT + builds + COMMANDS + "withdraw b-trim\n" + REFUSED + "withdraw hexa all\nsubmit c\n"
 
 
 # The words of a command line, and the input.

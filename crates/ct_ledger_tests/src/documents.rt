@@ -40,8 +40,8 @@ pub const STANDING: [Stated<'static>; 4] = [
 ];
 
 /// A piece of each kind, each of which betters bounds or may be a part: the Fano plane, the code of Nordstrom and Robinson, a partition, a code
-/// beside itself, a product, a dual without weight and one with a weight.
-pub const TRIED: [Stated<'static>; 7] = [
+/// beside itself, a product, a dual without weight and one with a weight, and words with as many cites as there may be.
+pub const TRIED: [Stated<'static>; 8] = [
     Stated {
         id: "fano",
         document: "kind='words'\nn=7\nd=4\nw=3\nwords=['1101000','0110100','0011010','0001101','1000110','0100011','1010001']",
@@ -66,6 +66,10 @@ pub const TRIED: [Stated<'static>; 7] = [
     Stated {
         id: "j8",
         document: "kind='jdual'\nn=8\nd=4\nw=4\nc=[48,21,4]",
+    },
+    Stated {
+        id: "cited",
+        document: "kind='words'\nformat=2\nn=6\nd=4\nwords=['000000','111100','110011','001111']\ncites=['page 1','page 2','page 3','page 4','page 5','page 6','page 7','page 8','page 9','page 10','page 11','page 12','page 13','page 14','page 15','page 16']",
     },
 ];
 
