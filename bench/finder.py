@@ -4,8 +4,8 @@
     finder.py [--longest N] [--turns T] [N D [W]]
 
 Without an entry it writes a line for each entry of the table with n up to N (12) that has d at most n: `N D BOUND STOP`, `N D even BOUND STOP`
-or `N D W BOUND STOP`. STOP is `least`, `turns T` or `wide X`; the bound is that of the dual that `find` or `find_weight` answers, `none` where
-there is none. The rows are fractions here, each a positive multiple of the row of whole numbers without a common divisor; nothing is shared
+or `N D W BOUND STOP`. STOP is `least Q I:A ..` with the run's primal, `turns T` or `wide X`; the bound is that of the dual that `find` or `find_weight`
+answers, `none` where there is none. The rows are fractions here, each a positive multiple of the row of whole numbers without a common divisor; nothing is shared
 with the program.
 """
 import argparse
@@ -39,7 +39,8 @@ def whole(row):
 
 
 def run(number, degree, indices, turns):
-    """How the run ends, and the cost row: ('least', row), ('turns', None) or ('wide', x)."""
+    """How the run ends, with the cost row and the other rows and the places of their basic columns where it ends as least: ('least', row, pairs),
+    ('turns', None, None) or ('wide', x, None)."""
     columns = [("z", 0)] + [("a", i) for i in indices] + [("s", k) for k in range(1, degree + 1)] + [("constant", 0)]
     first_s = 1 + len(indices)
     rows = []
@@ -58,9 +59,9 @@ def run(number, degree, indices, turns):
     while True:
         entering = next((place for place in range(1, len(columns) - 1) if cost[place] < 0), None)
         if entering is None:
-            return "least", whole(cost)
+            return "least", whole(cost), [(whole(row), basic) for row, basic in rows]
         if made == turns:
-            return "turns", None
+            return "turns", None, None
         candidates = [pair for pair in rows if pair[0][entering] > 0]
         if candidates:
             pivot = min(candidates, key=lambda pair: (pair[0][-1] / pair[0][entering], pair[1]))
@@ -72,8 +73,28 @@ def run(number, degree, indices, turns):
             for row in [pair[0] for pair in rows] + [cost]:
                 for x in whole(row):
                     if abs(x) > WIDEST:
-                        return "wide", x
+                        return "wide", x, None
         made += 1
+
+
+def primal(indices, pairs):
+    """The scale of the primal that the last rows give, its numbers by index, and the first number that is too large, or None."""
+    of_a = [(row[basic], row[-1], indices[basic - 1]) for row, basic in pairs if basic <= len(indices)]
+    scale, scales = 1, []
+    for entry, _, _ in of_a:
+        scale = scale // gcd(scale, entry) * entry
+        scales.append(scale)
+    numbers = {index: Fraction(constant, entry) * scale for entry, constant, index in of_a}
+    made = scales + [numbers[index] for _, _, index in of_a]
+    return scale, {i: int(numbers[i]) for i in sorted(numbers) if numbers[i] > 0}, next((int(x) for x in made if x > WIDEST), None)
+
+
+def check_primal(n, w, indices, scale, numbers):
+    """Whether the primal is sound, and its value."""
+    degree, number = (n, lambda k, i: krawtchouk(n, k, i)) if w is None else (min(w, n - w), lambda k, i: johnson(n, w, k, i))
+    sound = scale >= 1 and all(i in indices and a >= 0 for i, a in numbers.items())
+    sound = sound and all(scale * number(k, 0) + sum(a * number(k, i) for i, a in numbers.items()) >= 0 for k in range(1, degree + 1))
+    return sound, min(GREATEST, (scale + sum(numbers.values())) // scale)
 
 
 def dual(n, d, w=None, even=False, turns=20000):
@@ -83,7 +104,7 @@ def dual(n, d, w=None, even=False, turns=20000):
     else:
         degree, least, number = min(w, n - w), d // 2, lambda k, i: johnson(n, w, k, i)
     indices = [i for i in range(least, degree + 1) if not even or i % 2 == 0]
-    stop, end = run(number, degree, indices, turns)
+    stop, end, pairs = run(number, degree, indices, turns)
     if stop == "least":
         first_s = 1 + len(indices)
         c = [end[0]] + end[first_s : first_s + degree]
@@ -92,6 +113,9 @@ def dual(n, d, w=None, even=False, turns=20000):
     else:
         c = None
     text = {"least": stop, "turns": f"turns {turns}", "wide": f"wide {end}"}[stop]
+    if stop == "least":
+        scale, numbers, large = primal(indices, pairs)
+        text = " ".join([stop, str(scale)] + [f"{i}:{a}" for i, a in numbers.items()]) if large is None else f"wide {large}"
     return c, text, c and sum(c[k] * number(k, 0) for k in range(degree + 1))
 
 

@@ -36,7 +36,7 @@ def main():
     print("# Entries, and the duals that are found for them with at most so many turns: length, distance, a weight or a mark, and the bound with")
     print("# the end of the run and the multipliers. Written by bench/finder_rows.py, which knows the run over fractions alone.")
     group(20000, entries(12, 13))
-    group(20000, [(16, 6, "even"), (26, 4, ""), (28, 4, ""), (30, 4, ""), (30, 30, ""), (22, 6, 11), (28, 4, 14), (30, 4, 15), (24, 8, 8)])
+    group(20000, [(16, 6, "even"), (26, 4, ""), (28, 4, ""), (30, 4, ""), (30, 30, ""), (22, 6, 11), (28, 4, 14), (30, 4, 15), (24, 8, 8), (23, 6, 11)])
     for turns in range(3):
         group(turns, [(16, 6, "even"), (6, 3, ""), (30, 3, ""), (8, 4, 4), (6, 4, 3)])
 

@@ -1,6 +1,6 @@
 -- The opening tableau, piece by piece.
 use Rattle.std.proofs.Common.{◌≡◌, ℕ, suc, ◌+◌, ◌<◌, ◌≤◌, ◌^◌, ◌==◌, Bool, true, false, cond, List, [], ◌∷◌, ◌++◌, map, length, replicate, refl, sym, ap, ap₂, ◌∙◌, arith, subst, append_assoc}
-use Rattle.std.specs.Prelude.{ℤ, pos, negsuc, neg_ℤ, unsigned_abs, All, nat_lt}
+use Rattle.std.specs.Prelude.{ℤ, pos, negsuc, neg_ℤ, ◌≤ℤ◌, unsigned_abs, All, nat_lt}
 use Rattle.std.specs.List.{range_with_len}
 use Rattle.std.proofs.lemmas.Int.{ints}
 use Rattle.std.proofs.lemmas.Simd.{map-map, splat_is_map}
@@ -10,7 +10,7 @@ use Rattle.std.proofs.lemmas.List.FromFn.{length-range_with_len}
 use Rattle.ct_codes.specs.declared.entry.Entry.{Entry}
 use Rattle.ct_codes.specs.Scheme.{IsSmall}
 use Rattle.ct_duals.specs.Dual.{degree_of, is_in_range}
-use Rattle.ct_finder_run.specs.Column.{Column, range_of, rows_to, columns, opening_entry, cost_entry, opening_row, opening}
+use Rattle.ct_finder_run.specs.Column.{Column, Tableau as TableauOf, range_of, rows_to, columns, opening_entry, cost_entry, opening_row, opening}
 use Rattle.ct_finder_run.specs.Column.Column.{Z, A, S, Constant}
 use Rattle.ct_finder_run.specs.Turn.{is_wide}
 use Rattle.ct_finder_run.specs.Sum.{HasWidth}
@@ -18,7 +18,9 @@ use Rattle.ct_finder_run.proofs.Sums.{All-range}
 use Rattle.ct_finder_run.specs.Run.{run}
 use Rattle.ct_finder_run.specs.Run.End.{Least}
 use Rattle.ct_finder_run.proofs.Turns.{kept-opening}
-use Rattle.ct_finder_run.proofs.Ends.{least-at}
+use Rattle.ct_finder_run.proofs.Ends.{least-at, end-of_run}
+use Rattle.ct_finder_run.proofs.Places.{length-columns}
+use Rattle.ct_finder_run.proofs.BasicRuns.{IsSolved, solved-opening, solved-narrow}
 use Rattle.ct_tableau.specs.declared.tableau.Tableau.{Tableau}
 use Rattle.ct_tableau.specs.Narrow.{AreNarrow}
 use Rattle.ct_tableau.specs.Ready.{seen, IsReady}
@@ -26,16 +28,6 @@ use Rattle.ct_tableau.specs.Ready.{seen, IsReady}
 -- 1 at k, and 0 elsewhere
 abbrev pub unit : ℕ → ℕ → ℤ
 unit k j = cond (j == k) (pos 1) (pos 0)
-
--- how many columns there are
-pub length-columns : (range : List ℕ) (degree : ℕ) → length (columns range degree) ≡ length range + degree + 2
-length-columns range degree =
-    let front = length-map range A in
-    let rows = length-map (rows_to degree) S in
-    let count = length-range_with_len 1 degree in
-    let both = length-append (map A range) (map S (rows_to degree) ++ Constant ∷ []) in
-    let rest = length-append (map S (rows_to degree)) (Constant ∷ []) in
-    omega arith
 
 -- an opening row
 pub opening_row-pieces : (number : ℕ → ℕ → ℤ) (range : List ℕ) (degree k : ℕ)
@@ -122,9 +114,15 @@ ready-opening t number range degree is pivot =
       some = omega arith;
     }
 
--- the cost row with which a run from it ends as least has an entry for each column
-pub least-width : (number : ℕ → ℕ → ℤ) (range : List ℕ) (degree turns : ℕ) (cost : List ℤ)
-    → run (columns range degree) turns (opening number range degree) ≡ Least cost → length cost ≡ length (columns range degree)
-least-width number range degree turns cost is =
-    let least = least-at number (columns range degree) degree turns (opening number range degree) cost (kept-opening number range degree) is in
-    ap length (sym least.cost_is) ∙ least.kept.width.cost
+-- the tableau with which a run from it ends as least has an entry for each column in its cost row
+pub least-width : (number : ℕ → ℕ → ℤ) (range : List ℕ) (degree turns : ℕ) (last : TableauOf)
+    → run (columns range degree) turns (opening number range degree) ≡ Least last → HasWidth (length (columns range degree)) last
+least-width number range degree turns last is =
+    (least-at number (columns range degree) degree turns (opening number range degree) last (kept-opening number range degree) is).kept.width
+
+-- and what is known of it beside
+pub least-solved : (number : ℕ → ℕ → ℤ) (range : List ℕ) (degree turns : ℕ) (last : TableauOf) → ((k : ℕ) → k ≤ degree → pos 0 ≤ℤ number k 0)
+    → run (columns range degree) turns (opening number range degree) ≡ Least last → IsSolved number range degree last
+least-solved number range degree turns last some is =
+    (end-of_run (IsSolved number range degree) (columns range degree) (solved-narrow number range degree) turns (opening number range degree) last
+    (solved-opening number range degree some) is).kept

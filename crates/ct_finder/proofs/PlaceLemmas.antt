@@ -1,4 +1,4 @@
--- The places of the s's among the columns, and the entries of a row there.
+-- The entries of a row at the s's.
 use Rattle.std.proofs.Common.{◌≡◌, ℕ, zero, suc, ◌+◌, ◌-◌, ◌<◌, ◌≤◌, ◌==◌, Bool, true, false, not, length-drop, cond, List, [], ◌∷◌, ◌++◌, map, length, take, drop, get_or, min, take_all, length-take, refl, sym, ap, ap₂, ◌∙◌, arith, eqb-true, eq-eqb}
 use Rattle.std.specs.Prelude.{ℤ, pos}
 use Rattle.std.specs.List.{range_with_len, position_or_len}
@@ -6,29 +6,7 @@ use Rattle.std.proofs.lemmas.Bool.{eqb-false, ne_eqb}
 use Rattle.ct_finder_run.specs.Column.{Column, same_column, rows_to, columns, place_of}
 use Rattle.ct_finder_run.specs.Column.Column.{Z, A, S, Constant}
 use Rattle.ct_finder_run.specs.Run.{entry_of, multipliers_of}
-use Rattle.ct_finder.proofs.OpeningLemmas.{length-columns}
-
--- past the a's
-place-past_a : (k : ℕ) (range : List ℕ) (rest : List Column) → place_of (S k) (map A range ++ rest) ≡ length range + place_of (S k) rest
-place-past_a k [] rest = omega arith
-place-past_a k (i ∷ range) rest = let ih = place-past_a k range rest in omega arith
-
--- among the s's
-place-among_s : (k a n : ℕ) (rest : List Column) → a ≤ k → k < a + n → a + place_of (S k) (map S (range_with_len a n) ++ rest) ≡ k
-place-among_s k a zero rest low high = absurd (omega arith)
-place-among_s k a (suc n) rest low high = go (a == k) refl (place-among_s k (a + 1) n rest)
-  where
-    go : (t : Bool) → (a == k) ≡ t → (a + 1 ≤ k → k < a + 1 + n → a + 1 + place_of (S k) (map S (range_with_len (a + 1) n) ++ rest) ≡ k)
-        → a + cond (not t) (1 + place_of (S k) (map S (range_with_len (a + 1) n) ++ rest)) 0 ≡ k
-    go true is ih = let same = eqb-true a k is in omega arith
-    go false is ih = let later = ih (omega (arith, eqb-false a k is)) (omega arith) in omega arith
-
--- the place of an s
-pub place-s : (range : List ℕ) (degree k : ℕ) → 1 ≤ k → k ≤ degree → place_of (S k) (columns range degree) ≡ length range + k
-place-s range degree k low high =
-    let past = place-past_a k range (map S (rows_to degree) ++ Constant ∷ []) in
-    let among = place-among_s k 1 degree (Constant ∷ []) low (omega arith) in
-    omega arith
+use Rattle.ct_finder_run.proofs.Places.{length-columns}
 
 -- a row without entries
 entry_of-none : (cs : List Column) (c : Column) → entry_of cs [] c ≡ pos 0

@@ -1,27 +1,36 @@
--- How a run ends, with the multipliers of its dual in place of its cost row.
-use Rattle.std.specs.Prelude.{ℕ, ℤ, List, Option, Some, None}
-use Rattle.ct_finder_run.specs.Column.{Column}
+-- How a run ends, with the multipliers of its dual, and what is read of its primal, in place of its tableau.
+use Rattle.std.specs.Prelude.{ℕ, ℤ, Bool, List, Option, Some, None}
+use Rattle.ct_codes.specs.declared.entry.Entry.{Entry}
+use Rattle.ct_finder_run.specs.Column.{columns}
 use Rattle.ct_finder_run.specs.Run.{End, multipliers_of}
 use Rattle.ct_finder_run.specs.Run.End.{Least as LeastEnd, Turns as TurnsEnd, Wide as WideEnd}
 use Rattle.ct_finder.specs.declared.ending.Ending.{Ending}
 use Rattle.ct_finder.specs.declared.ending.Ending.TheVariants.{Least, Turns, Wide}
+use Rattle.ct_finder.specs.declared.reading.Reading.{Reading}
+use Rattle.ct_finder.specs.declared.reading.Reading.TheVariants as reading
+use Rattle.ct_finder.specs.Reading.{reading_of}
 use Rattle.ct_finder.specs.declared.found.Stop.{Stop}
 use Rattle.ct_finder.specs.declared.found.Stop.TheVariants as stop
 
--- the end of a run, with the multipliers of the dual that its cost row gives
-abbrev pub ending_of : List Column → ℕ → End → Ending
-ending_of cs degree (LeastEnd cost) = Least (multipliers_of cs degree cost)
-ending_of cs degree TurnsEnd = Turns
-ending_of cs degree (WideEnd x) = Wide x
+-- the end of a run over a range, with the multipliers of the dual that its cost row gives, and its primal
+abbrev pub ending_of : Entry → Bool → List ℕ → ℕ → End → Ending
+ending_of e even range degree (LeastEnd t) = Least (multipliers_of (columns range degree) degree t.cost) (reading_of e even range t)
+ending_of e even range degree TurnsEnd = Turns
+ending_of e even range degree (WideEnd x) = Wide x
 
 -- the multipliers of an ending as least
 abbrev pub multipliers_from : Ending → Option (List ℤ)
-multipliers_from (Least c) = Some c
+multipliers_from (Least c r) = Some c
 multipliers_from Turns = None
 multipliers_from (Wide x) = None
 
+-- how a run that ended as least stopped
+abbrev pub stop_read : Reading → Stop
+stop_read (reading.Primal p) = stop.Least p
+stop_read (reading.Wide x) = stop.Wide x
+
 -- how the run stopped, with the turns that were asked for
 abbrev pub stop_from : ℕ → Ending → Stop
-stop_from turns (Least c) = stop.Least
+stop_from turns (Least c r) = stop_read r
 stop_from turns Turns = stop.Turns turns
 stop_from turns (Wide x) = stop.Wide x

@@ -1,11 +1,12 @@
-//! How a run ends, with the multipliers of its dual.
-ghost use Rattle.std.specs.Prelude.{◌≡◌, ◌≤◌, length, All, IfOk};
+//! How a run ends, with the multipliers of its dual and what is read of its primal.
+ghost use Rattle.std.specs.Prelude.{◌≡◌, ◌≤◌, ℕ, pos, ◌≤ℤ◌, length, All, IfOk};
 ghost use Rattle.ct_finder_run.specs.Column.{columns, opening};
 ghost use Rattle.ct_finder_run.specs.Run.{run, multipliers_of};
 ghost use Rattle.ct_finder.specs.Ending.{ending_of};
 
 use crate::opening::opening;
-use ct_codes::Scheme;
+use crate::reading::{Reading, read_primal};
+use ct_codes::{Entry, Scheme};
 use ct_duals::Multipliers;
 use ct_tableau::{Ending as TableauEnding, run};
 use std::alloc::{AllocError, Global};
@@ -13,31 +14,36 @@ use std::alloc::{AllocError, Global};
 /// How a run ends.
 #[derive(Debug, Drop)]
 pub(crate) enum Ending {
-    /// With the least bound, and these multipliers.
-    Least(Multipliers),
+    /// With the least bound: these multipliers, and what is read of the primal.
+    Least(Multipliers, Reading),
     /// After as many turns as were asked for.
     Turns,
     /// Before a turn that would give this entry.
     Wide(i128),
 }
 
-/// The run over the numbers of a scheme, with an a for each index of the range and at most so many turns.
+/// The run over the numbers of a scheme, with an a for each index of the range and at most so many turns; its primal is one of the
+/// entry and the mark. No number of the scheme at index 0 is below 0.
 pub(crate) fn run_over<S: Scheme>(
     alloc: Global,
     scheme: &S,
+    entry: Entry,
+    even: bool,
     range: &[u32],
     turns: u32,
 ) -> Result<Ending, AllocError>
     requires range { All (λ i. i ≤ S.degree scheme.now) range.now }
-    ensures { IfOk result (λ e. e ≡ ending_of (columns range.now (S.degree scheme.now)) (S.degree scheme.now)
+    requires some { (k : ℕ) → k ≤ S.degree scheme.now → pos 0 ≤ℤ S.number scheme.now k 0 }
+    ensures { IfOk result (λ e. e ≡ ending_of entry even range.now (S.degree scheme.now)
         (run (columns range.now (S.degree scheme.now)) turns
         (opening (S.number scheme.now) range.now (S.degree scheme.now)))) }
 {
     let mut tableau = opening(alloc, scheme, range)?;
     match run(&mut tableau, turns) {
         TableauEnding::Least => {
-            let cost = tableau.cost.as_slice();
-            Ok(Ending::Least(multipliers(alloc, cost, range, scheme.degree())?))
+            let c = multipliers(alloc, tableau.cost.as_slice(), range, scheme.degree())?;
+            let primal = read_primal(alloc, &tableau, entry, even, range)?;
+            Ok(Ending::Least(c, primal))
         }
         TableauEnding::Turns => Ok(Ending::Turns),
         TableauEnding::Wide(entry) => Ok(Ending::Wide(entry)),

@@ -6,12 +6,14 @@ ghost use Rattle.ct_duals.specs.Dual.{IsDual};
 ghost use Rattle.ct_duals.specs.Check.{dual_fault};
 ghost use Rattle.ct_codes.specs.Numbers.{numbers_of};
 ghost use Rattle.ct_finder_run.specs.Run.{IsAsked};
-ghost use Rattle.ct_finder.specs.Found.{end_of_run, dual_of, least_dual, bound_of, stop_of};
-ghost use Rattle.ct_finder.specs.Ending.{multipliers_from, stop_from};
+ghost use Rattle.ct_primal.specs.Primal.{PrimalValue};
+ghost use Rattle.ct_finder.specs.Found.{end_of_run, dual_of, least_dual, bound_of, stop_of, IsShown, IsLeast};
+ghost use Rattle.ct_finder.specs.Ending.{multipliers_from, stop_from, stop_read};
 
 use crate::ending::{Ending, run_over};
 use crate::found::{Found, Stop};
 use crate::opening::{push_repeated, range_of};
+use crate::reading::Reading;
 use ct_codes::Entry;
 use ct_delsarte::check_dual_of_table;
 use ct_duals::{Allowances, Dual, Multipliers};
@@ -21,12 +23,15 @@ use std::alloc::{AllocError, Global};
 
 /// A dual for A(n,d), by the finder's run with at most so many turns: the run's where it ends as least, else the one
 /// whose multipliers are n + 1 ones. Where `even` is set, which is only where d is even, the run and the dual speak of
-/// even distances alone. `Err` is want of memory.
+/// even distances alone. Where the stop is `Least`, its primal is accepted with the bound as its value, so no accepted dual of the
+/// entry with the same mark that allows nothing has a smaller one. `Err` is want of memory.
 pub fn find(alloc: Global, n: u32, d: u32, even: bool, turns: u32) -> Result<Found, AllocError>
     requires { IsAsked (unrestricted n d) even }
     ensures dual { IfOk result (λ f. f.dual ≡ dual_of (unrestricted n d) even (end_of_run (unrestricted n d) even turns)) }
     ensures bound { IfOk result (λ f. f.bound ≡ bound_of f.dual) }
-    ensures stop { IfOk result (λ f. f.stop ≡ stop_of turns (end_of_run (unrestricted n d) even turns)) }
+    ensures stop { IfOk result (λ f. f.stop ≡ stop_of (unrestricted n d) even turns (end_of_run (unrestricted n d) even turns)) }
+    ensures shown { IfOk result (λ f. IsShown f.stop f.dual) }
+    ensures least { IfOk result (λ f. (p : PrimalValue) → f.stop ≡ Stop.Least p → IsLeast f.dual) }
     ensures form { IfOk result (λ f. IsDual f.dual) }
     ensures accepted { IfOk result (λ f. dual_fault (numbers_of f.dual.entry) f.dual ≡ None) }
     ensures entry { IfOk result (λ f. f.dual.entry ≡ unrestricted n d) }
@@ -35,14 +40,14 @@ pub fn find(alloc: Global, n: u32, d: u32, even: bool, turns: u32) -> Result<Fou
 {
     let entry = Entry { n, d, w: None };
     let range = range_of(alloc, entry, even)?;
-    let ending = run_over(alloc, &Hamming { n }, &range, turns)?;
-    let stop = stop_of(turns, &ending);
-    let c = multipliers_or_ones(alloc, n, ending)?;
+    let ending = run_over(alloc, &Hamming { n }, entry, even, &range, turns)?;
+    let (multipliers, stop) = parts(turns, ending);
+    let c = multipliers_or_ones(alloc, n, multipliers)?;
     Ok(found(alloc, entry, even, c, stop))
 }
 
 /// A dual for A(n,d,w), by the finder's run with at most so many turns: the run's where it ends as least, else `None`.
-/// `Err` is want of memory.
+/// Its stop is `Least` where its primal fits, and else `Wide`. `Err` is want of memory.
 pub fn find_weight(
     alloc: Global,
     n: u32,
@@ -54,7 +59,10 @@ pub fn find_weight(
     ensures dual { IfOk result (λ o. option_map (λ f. f.dual) o ≡
         least_dual (constant_weight n d w) (end_of_run (constant_weight n d w) false turns)) }
     ensures bound { IfOk result (λ o. IfSome o (λ f. f.bound ≡ bound_of f.dual)) }
-    ensures stop { IfOk result (λ o. IfSome o (λ f. f.stop ≡ Stop.Least)) }
+    ensures stop { IfOk result (λ o. IfSome o (λ f.
+        f.stop ≡ stop_of (constant_weight n d w) false turns (end_of_run (constant_weight n d w) false turns))) }
+    ensures shown { IfOk result (λ o. IfSome o (λ f. IsShown f.stop f.dual)) }
+    ensures least { IfOk result (λ o. IfSome o (λ f. (p : PrimalValue) → f.stop ≡ Stop.Least p → IsLeast f.dual)) }
     ensures form { IfOk result (λ o. IfSome o (λ f. IsDual f.dual)) }
     ensures accepted { IfOk result (λ o. IfSome o (λ f. dual_fault (numbers_of f.dual.entry) f.dual ≡ None)) }
     ensures of_entry { IfOk result (λ o. IfSome o (λ f. f.dual.entry ≡ constant_weight n d w)) }
@@ -63,10 +71,11 @@ pub fn find_weight(
 {
     let entry = Entry { n, d, w: Some(w) };
     let range = range_of(alloc, entry, false)?;
-    let ending = run_over(alloc, &Johnson { n, w }, &range, turns)?;
-    match multipliers_of_least(ending) {
+    let ending = run_over(alloc, &Johnson { n, w }, entry, false, &range, turns)?;
+    let (multipliers, stop) = parts(turns, ending);
+    match multipliers {
         None => Ok(None),
-        Some(c) => Ok(Some(found(alloc, entry, false, c, Stop::Least))),
+        Some(c) => Ok(Some(found(alloc, entry, false, c, stop))),
     }
 }
 
@@ -99,32 +108,37 @@ fn bound(dual: &Dual) -> u32
     accepted.bound(&[])
 }
 
-/// How the run stopped, with the turns that were asked for.
-fn stop_of(turns: u32, ending: &Ending) -> Stop
-    ensures { result ≡ stop_from turns ending.now }
+/// How a run that ended as least stopped: with its primal, or with the first number of it that is too large.
+fn stop_read(reading: Reading) -> Stop
+    ensures { result ≡ stop_read reading }
 {
-    match ending {
-        Ending::Least(_) => Stop::Least,
-        Ending::Turns => Stop::Turns(turns),
-        Ending::Wide(x) => Stop::Wide(*x),
+    match reading {
+        Reading::Primal(primal) => Stop::Least(primal),
+        Reading::Wide(number) => Stop::Wide(number),
     }
 }
 
-/// The multipliers of a run that ended as least.
-fn multipliers_of_least(ending: Ending) -> Option<Multipliers>
-    ensures { result ≡ multipliers_from ending }
+/// The multipliers of a run that ended as least, and how the run stopped, with the turns that were asked for.
+fn parts(turns: u32, ending: Ending) -> (Option<Multipliers>, Stop)
+    ensures multipliers { result.0 ≡ multipliers_from ending }
+    ensures stop { result.1 ≡ stop_from turns ending }
 {
     match ending {
-        Ending::Least(c) => Some(c),
-        Ending::Turns | Ending::Wide(_) => None,
+        Ending::Least(c, reading) => (Some(c), stop_read(reading)),
+        Ending::Turns => (None, Stop::Turns(turns)),
+        Ending::Wide(entry) => (None, Stop::Wide(entry)),
     }
 }
 
-/// The multipliers of a run that ended as least, else 1, n + 1 times.
-fn multipliers_or_ones(alloc: Global, n: u32, ending: Ending) -> Result<Multipliers, AllocError>
-    ensures { IfOk result (λ c. c ≡ unwrap_or (multipliers_from ending) (replicate (suc n) (pos 1))) }
+/// The multipliers, or 1, n + 1 times, where there are none.
+fn multipliers_or_ones(
+    alloc: Global,
+    n: u32,
+    multipliers: Option<Multipliers>,
+) -> Result<Multipliers, AllocError>
+    ensures { IfOk result (λ c. c ≡ unwrap_or multipliers (replicate (suc n) (pos 1))) }
 {
-    match multipliers_of_least(ending) {
+    match multipliers {
         Some(c) => Ok(c),
         None => ones(alloc, n),
     }

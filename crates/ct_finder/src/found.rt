@@ -1,6 +1,7 @@
 //! What the finder answers.
 
 use ct_duals::Dual;
+use ct_primal::Primal;
 
 /// A dual that was found and checked, its bound, and how the run stopped.
 #[derive(Debug, Drop)]
@@ -14,12 +15,14 @@ pub struct Found {
 }
 
 /// How a run stopped.
-#[derive(Clone, Copy, Debug, PartialEq, Eq)]
+#[derive(Debug, Drop)]
 pub enum Stop {
-    /// With the least bound.
-    Least,
+    /// With the least bound, which this primal shows: no dual of the entry with the same mark that is accepted and allows nothing has a
+    /// smaller one.
+    Least(Primal),
     /// After so many turns, as many as were asked for.
     Turns(u32),
-    /// Before a turn that would give this entry, which is above 2^63 - 1 in absolute value.
+    /// Before a turn that would give this entry, or with a primal of which this is the first number in the order in which they are
+    /// made; it is above 2^63 - 1 in absolute value.
     Wide(i128),
 }

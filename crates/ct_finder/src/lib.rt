@@ -5,6 +5,7 @@ mod ending;
 mod finding;
 mod found;
 mod opening;
+mod reading;
 
 pub use finding::{find, find_weight};
 pub use found::{Found, Stop};

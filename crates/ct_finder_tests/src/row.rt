@@ -5,6 +5,7 @@ ghost use Rattle.ct_codes.specs.Entry.{IsEntry, unrestricted, constant_weight};
 
 use ct_codes::Entry;
 use ct_finder::{Found, Stop, find, find_weight};
+use ct_primal::Primal;
 use std::alloc::{AllocError, Global};
 use toml::Value;
 
@@ -32,14 +33,32 @@ pub fn number(value: Option<&Value>) -> u32 {
     }
 }
 
+/// A primal, in words: its scale, and its indices with their numbers.
+fn primal_text(alloc: Global, primal: &Primal) -> Result<String, AllocError> {
+    let mut text = primal.q.to_string(alloc)?;
+    for (i, number) in &primal.a {
+        text.push_str(&format!(in alloc; " {i}:{number}")?)?;
+    }
+    Ok(text)
+}
+
+/// How the run stopped, in words; with the primal where it is shown to be least.
+fn stop_text(alloc: Global, stop: &Stop) -> Result<String, AllocError> {
+    match stop {
+        Stop::Least(primal) => {
+            let shown = primal_text(alloc, primal)?;
+            format!(in alloc; "least {shown}")
+        }
+        Stop::Turns(turns) => format!(in alloc; "turns {turns}"),
+        Stop::Wide(x) => format!(in alloc; "wide {x}"),
+    }
+}
+
 /// What was found, in words: its bound, how the run stopped, and the multipliers of its dual.
 fn found_text(alloc: Global, found: &Found) -> Result<String, AllocError> {
     let bound = found.bound;
-    let mut text = match found.stop {
-        Stop::Least => format!(in alloc; "{bound} least:")?,
-        Stop::Turns(turns) => format!(in alloc; "{bound} turns {turns}:")?,
-        Stop::Wide(x) => format!(in alloc; "{bound} wide {x}:")?,
-    };
+    let stop = stop_text(alloc, &found.stop)?;
+    let mut text = format!(in alloc; "{bound} {stop}:")?;
     for multiplier in found.dual.c.as_slice() {
         text.push(' ')?;
         text.push_str(&multiplier.to_string(alloc)?)?;
