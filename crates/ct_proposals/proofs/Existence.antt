@@ -1,5 +1,5 @@
 -- Each input has an output: documents of duals that are found, proposals, and replies.
-use Rattle.std.proofs.Common.{◌≡◌, ℕ, suc, ◌≤◌, ◌^◌, Bool, true, false, List, [], ◌∷◌, ◌++◌, codes, length, replicate, All, Option, Some, None, Ok, IfSome, refl, ap, ◌∙◌, arith}
+use Rattle.std.proofs.Common.{◌≡◌, ℕ, suc, ◌≤◌, ◌^◌, Bool, true, false, List, [], ◌∷◌, ◌++◌, codes, length, replicate, All, Option, Some, None, Ok, IfSome, refl, sym, ap, ◌∙◌, arith}
 use Rattle.std.specs.Prelude.{ℤ, pos, negsuc, ◌≤ℤ◌, ◌<ℤ◌, ◌||◌, FitsSigned}
 use Rattle.std.specs.Int.{w64}
 use Rattle.std.proofs.lemmas.Int.{fits_signed_from_abs, ints}
@@ -31,15 +31,17 @@ use Rattle.ct_finder_run.specs.Run.{End, columns_of, multipliers_of, run_dual, o
 use Rattle.ct_finder_run.specs.Run.End.{Least as LeastEnd, Turns as TurnsEnd, Wide as WideEnd}
 use Rattle.ct_finder_run.proofs.RunDuals.{dual-form, least-of, narrow-of}
 use Rattle.ct_finder_run.proofs.Ones.{ones-form}
-use Rattle.ct_finder.specs.declared.found.Stop.{Stop}
+use Rattle.ct_finder_run.specs.Column.{Tableau}
+use Rattle.ct_finder.specs.Found.{bound_of, dual_of, IsShown}
 use Rattle.ct_finder.proofs.FoundLemmas.{asked-weighted}
+use Rattle.ct_proposals.proofs.FoundDuals.{plain_shown, weighted_shown}
 use Rattle.ct_lines.specs.Lines.{lines_of}
 use Rattle.ct_lines.specs.declared.TheConstants.{LINE_FEED}
 use Rattle.ct_text.specs.Line.{words_of}
 use Rattle.ct_text.specs.EntryNumbers.{entry_numbers_of, named_entry}
 use Rattle.ct_text.specs.declared.entry_numbers.EntryNumbers.{EntryNumbers}
 use Rattle.ct_proposals.specs.declared.found.TheConstants.{MAX_TURNS}
-use Rattle.ct_proposals.specs.Proposal.{is_even, run_for, dual_at, found_dual, dual_evidence, bound_line, find_id, IsProposal, AnswersEntry}
+use Rattle.ct_proposals.specs.Proposal.{is_even, run_for, dual_at, found_dual, stop_for, dual_evidence, comments, find_id, IsProposal, AnswersEntry}
 use Rattle.ct_commands.specs.Submission.{submission_text}
 use Rattle.ct_proposals.specs.Reply.{IsReplyToEntry, IsReplyToNumbers, IsReplyToWords, AreReplies, IsFound}
 use Rattle.ct_proposals.proofs.EntryLemmas.{named-is_entry}
@@ -168,41 +170,43 @@ weighted_document n d w c form =
     (johnson_dual_plain n d w c limits.length_to limits.distance_to (omega (arith, weight.2)) (all_fit c form.multipliers form.signed.0)) in
     (b.bytes, written-document (evidence.JohnsonDual own) (johnson_dual_table own) b.bytes (form, refl) tt refl b.written b.room)
 
--- each proposal with a document has a text
-proposal_exists : (e : Entry) (d : Dual) (bound : ℕ) (stop : Stop) → (document : List ℕ) × (document_read_of document ≡ Ok (without_cites (dual_evidence d.entry.w d)))
-    → (text : List ℕ) × IsProposal e d bound stop text
-proposal_exists e d bound stop (document, reads) = (bound_line bound stop ++ submission_text (find_id e) document, (document, reads, refl))
+-- each dual with a document that is shown has an answer
+answer_of : (e : Entry) (d : Dual) → IsShown (stop_for e) d → (document : List ℕ) × (document_read_of document ≡ Ok (without_cites (dual_evidence d.entry.w d)))
+    → (text : List ℕ) × (IsProposal e d (bound_of d) (stop_for e) text × IsShown (stop_for e) d)
+answer_of e d shown (document, reads) = (comments (bound_of d) (stop_for e) ++ submission_text (find_id e) document, ((document, reads, refl), shown))
 
 plain_answer : (n d : ℕ) → IsEntry (unrestricted n d) → (end : End) → run_for (unrestricted n d) ≡ end
+    → IsShown (stop_for (unrestricted n d)) (dual_of (unrestricted n d) (is_even None d) end)
     → (text : List ℕ) × AnswersEntry (unrestricted n d) (dual_at None (unrestricted n d) end) text
 unfolding run_for
-plain_answer n d entry (LeastEnd cost) is =
+plain_answer n d entry (LeastEnd t) is shown =
     let e = unrestricted n d in
     let even = is_even None d in
-    let form = dual-form (numbers_of e) e even cost (plain-asked n d entry) (least-of (numbers_of e) e even MAX_TURNS cost is)
-    (narrow-of (numbers_of e) e even MAX_TURNS cost is) in
-    proposal_exists e (run_dual e even cost) _ _ (plain_document n d even (multipliers_of (columns_of e even) (degree_of e) cost) form)
-plain_answer n d entry TurnsEnd is =
+    let form = dual-form (numbers_of e) e even t (plain-asked n d entry) (least-of (numbers_of e) e even MAX_TURNS t is)
+    (narrow-of (numbers_of e) e even MAX_TURNS t is) in
+    answer_of e (run_dual e even t.cost) shown (plain_document n d even (multipliers_of (columns_of e even) (degree_of e) t.cost) form)
+plain_answer n d entry TurnsEnd is shown =
     let even = is_even None d in
-    proposal_exists (unrestricted n d) (ones_dual (unrestricted n d) even) _ _ (plain_document n d even (replicate (suc n) (pos 1)) (ones-form n d even (plain-asked n d entry)))
-plain_answer n d entry (WideEnd x) is =
+    answer_of (unrestricted n d) (ones_dual (unrestricted n d) even) shown (plain_document n d even (replicate (suc n) (pos 1)) (ones-form n d even (plain-asked n d entry)))
+plain_answer n d entry (WideEnd x) is shown =
     let even = is_even None d in
-    proposal_exists (unrestricted n d) (ones_dual (unrestricted n d) even) _ _ (plain_document n d even (replicate (suc n) (pos 1)) (ones-form n d even (plain-asked n d entry)))
+    answer_of (unrestricted n d) (ones_dual (unrestricted n d) even) shown (plain_document n d even (replicate (suc n) (pos 1)) (ones-form n d even (plain-asked n d entry)))
 
 weighted_answer : (n d w : ℕ) → IsEntry (constant_weight n d w) → (end : End) → run_for (constant_weight n d w) ≡ end
+    → ((t : Tableau) → end ≡ LeastEnd t → IsShown (stop_for (constant_weight n d w)) (run_dual (constant_weight n d w) false t.cost))
     → (text : List ℕ) × AnswersEntry (constant_weight n d w) (dual_at (Some w) (constant_weight n d w) end) text
 unfolding run_for
-weighted_answer n d w entry (LeastEnd cost) is =
+weighted_answer n d w entry (LeastEnd t) is shown =
     let e = constant_weight n d w in
-    let form = dual-form (numbers_of e) e false cost (asked-weighted n d w entry) (least-of (numbers_of e) e false MAX_TURNS cost is)
-    (narrow-of (numbers_of e) e false MAX_TURNS cost is) in
-    proposal_exists e (run_dual e false cost) _ _ (weighted_document n d w (multipliers_of (columns_of e false) (degree_of e) cost) form)
-weighted_answer n d w entry TurnsEnd is = (codes "none" ++ LINE_FEED ∷ [], refl)
-weighted_answer n d w entry (WideEnd x) is = (codes "none" ++ LINE_FEED ∷ [], refl)
+    let form = dual-form (numbers_of e) e false t (asked-weighted n d w entry) (least-of (numbers_of e) e false MAX_TURNS t is)
+    (narrow-of (numbers_of e) e false MAX_TURNS t is) in
+    answer_of e (run_dual e false t.cost) (shown t refl) (weighted_document n d w (multipliers_of (columns_of e false) (degree_of e) t.cost) form)
+weighted_answer n d w entry TurnsEnd is shown = (codes "none" ++ LINE_FEED ∷ [], refl)
+weighted_answer n d w entry (WideEnd x) is shown = (codes "none" ++ LINE_FEED ∷ [], refl)
 
 answer_exists : (n d : ℕ) (w : Option ℕ) → IsEntry (record { n = n; d = d; w = w }) → (text : List ℕ) × AnswersEntry (record { n = n; d = d; w = w }) (found_dual (record { n = n; d = d; w = w })) text
-answer_exists n d None entry = plain_answer n d entry (run_for (unrestricted n d)) refl
-answer_exists n d (Some w) entry = weighted_answer n d w entry (run_for (constant_weight n d w)) refl
+answer_exists n d None entry = plain_answer n d entry (run_for (unrestricted n d)) refl (plain_shown n d entry)
+answer_exists n d (Some w) entry = weighted_answer n d w entry (run_for (constant_weight n d w)) refl (weighted_shown n d w entry)
 
 entry_reply_exists : (o : Option Entry) → IfSome o IsEntry → (text : List ℕ) × (refused : Bool) × IsReplyToEntry o text refused
 entry_reply_exists None entry = (codes "refused entry" ++ LINE_FEED ∷ [], true, (refl, refl))

@@ -13,15 +13,15 @@ use Rattle.ct_duals.specs.Bound.{natural, positive, dual_premises, AreTrueUppers
 use Rattle.ct_codes.specs.Numbers.{numbers_of, multiplier, combination}
 use Rattle.ct_duals.proofs.Faults.{accepted-from_none}
 use Rattle.ct_delsarte.proofs.SoundDuals.{accepted-sound}
-use Rattle.ct_finder_run.specs.Column.{range_of}
+use Rattle.ct_finder_run.specs.Column.{Tableau, range_of}
 use Rattle.ct_finder_run.specs.Run.{End, columns_of, multipliers_of, run_dual}
 use Rattle.ct_finder_run.specs.Run.End.{Least as LeastEnd, Turns as TurnsEnd, Wide as WideEnd}
 use Rattle.ct_finder_run.proofs.RunDuals.{bound-without}
 use Rattle.ct_finder.specs.Ending.{ending_of, multipliers_from, stop_from}
-use Rattle.ct_finder.specs.Found.{bound_of, dual_of, end_of_run, least_dual}
-use Rattle.ct_finder.proofs.FoundLemmas.{ending_at, plain-found, weighted-found}
+use Rattle.ct_finder.specs.Found.{bound_of, dual_of, end_of_run, least_dual, IsShown}
+use Rattle.ct_finder.proofs.FoundLemmas.{ending_at, plain-found, weighted-found, asked-weighted, shown-at}
 use Rattle.ct_proposals.specs.declared.found.TheConstants.{MAX_TURNS}
-use Rattle.ct_proposals.specs.Proposal.{is_even, run_for, dual_at, found_dual}
+use Rattle.ct_proposals.specs.Proposal.{is_even, run_for, stop_for, dual_at, found_dual}
 use Rattle.ct_proposals.proofs.FoundLemmas.{plain-asked, weighted-run}
 
 -- the dual is of the entry, accepted, of even distances alone where this is asked, and allows nothing
@@ -54,7 +54,7 @@ plain-at n d turns entry =
     let e = unrestricted n d in
     let even = is_even None d in
     let end = end_of_run e even turns in
-    let ending = ending_at e (range_of e even) turns in
+    let ending = ending_at e even (range_of e even) turns in
     let known = plain-found n d even turns (range_of e even) ending (unwrap_or (multipliers_from ending) (replicate (suc n) (pos 1))) (stop_from turns ending)
     (plain-asked n d entry) refl refl refl refl in
     record {
@@ -68,14 +68,13 @@ plain-at n d turns entry =
 -- with a weight, where the run ends as least
 weighted-at : (n d w turns : ℕ) → IsEntry (constant_weight n d w) → (end : End) → end_of_run (constant_weight n d w) false turns ≡ end → (dual : Dual)
     → least_dual (constant_weight n d w) end ≡ Some dual → IsFound (constant_weight n d w) dual
-weighted-at n d w turns entry (LeastEnd cost) is dual same =
+weighted-at n d w turns entry (LeastEnd t) is dual same =
     let e = constant_weight n d w in
-    let cs = columns_of e false in
-    let c = multipliers_of cs (degree_of e) cost in
-    let ending = ending_at e (range_of e false) turns in
-    let given : Some c ≡ multipliers_from ending = sym (ap (λ (t : End). multipliers_from (ending_of cs (degree_of e) t)) is) in
-    let known = weighted-found n d w turns (range_of e false) ending c entry refl refl given in
-    let own : run_dual e false cost ≡ dual = cc in
+    let c = multipliers_of (columns_of e false) (degree_of e) t.cost in
+    let ending = ending_at e false (range_of e false) turns in
+    let given : Some c ≡ multipliers_from ending = sym (ap (λ (end : End). multipliers_from (ending_of e false (range_of e false) (degree_of e) end)) is) in
+    let known = weighted-found n d w turns (range_of e false) ending c (stop_from turns ending) entry refl refl given refl in
+    let own : run_dual e false t.cost ≡ dual = cc in
     subst (IsFound e) own (record { entry = refl; form = known.form; accepted = known.accepted; even_is = refl; nothing = refl })
 weighted-at n d w turns entry TurnsEnd is dual same = absurd cc
 weighted-at n d w turns entry (WideEnd x) is dual same = absurd cc
@@ -128,3 +127,41 @@ bound-true e d entry same =
 -- without weight one is found
 pub plain-some : (e : Entry) → e.w ≡ None → IsSome (found_dual e)
 plain-some e none = subst (λ (w : Option ℕ). IsSome (dual_at w e (run_for e))) (sym none) refl
+
+-- the dual of an end is shown as the run stopped
+pub plain_shown : (n d : ℕ) → IsEntry (unrestricted n d) → IsShown (stop_for (unrestricted n d)) (dual_of (unrestricted n d) (is_even None d) (run_for (unrestricted n d)))
+unfolding run_for
+plain_shown n d entry =
+    let e = unrestricted n d in
+    let even = is_even None d in
+    shown-at e even MAX_TURNS (plain-asked n d entry) (end_of_run e even MAX_TURNS) refl (dual_of e even (end_of_run e even MAX_TURNS)) (λ t is. ap (dual_of e even) is)
+
+pub weighted_shown : (n d w : ℕ) → IsEntry (constant_weight n d w) → (t : Tableau) → run_for (constant_weight n d w) ≡ LeastEnd t
+    → IsShown (stop_for (constant_weight n d w)) (run_dual (constant_weight n d w) false t.cost)
+unfolding run_for
+weighted_shown n d w entry t is =
+    let e = constant_weight n d w in
+    shown-at e false MAX_TURNS (asked-weighted n d w entry) (end_of_run e false MAX_TURNS) refl (run_dual e false t.cost)
+    (λ u own. let both = sym is ∙ own in let same : t ≡ u = cc in ap (λ v. run_dual e false v.cost) same)
+
+shown-plain : (n d : ℕ) (dual : Dual) → IsEntry (unrestricted n d) → found_dual (unrestricted n d) ≡ Some dual → IsShown (stop_for (unrestricted n d)) dual
+shown-plain n d dual entry same =
+    let own : dual_of (unrestricted n d) (is_even None d) (run_for (unrestricted n d)) ≡ dual = cc in
+    subst (IsShown (stop_for (unrestricted n d))) own (plain_shown n d entry)
+
+shown-weighted : (n d w : ℕ) (dual : Dual) → IsEntry (constant_weight n d w) → (end : End) → run_for (constant_weight n d w) ≡ end
+    → least_dual (constant_weight n d w) end ≡ Some dual → IsShown (stop_for (constant_weight n d w)) dual
+shown-weighted n d w dual entry (LeastEnd t) is same =
+    let own : run_dual (constant_weight n d w) false t.cost ≡ dual = cc in
+    subst (IsShown (stop_for (constant_weight n d w))) own (weighted_shown n d w entry t is)
+shown-weighted n d w dual entry TurnsEnd is same = absurd cc
+shown-weighted n d w dual entry (WideEnd x) is same = absurd cc
+
+-- the dual that is found for an entry is shown as its run stopped
+pub shown : (e : Entry) (d : Dual) → IsEntry e → found_dual e ≡ Some d → IsShown (stop_for e) d
+shown e d entry same = at e.w entry same
+  where
+    at : (w : Option ℕ) → IsEntry (record { n = e.n; d = e.d; w = w }) → found_dual (record { n = e.n; d = e.d; w = w }) ≡ Some d
+        → IsShown (stop_for (record { n = e.n; d = e.d; w = w })) d
+    at None entry same = shown-plain e.n e.d d entry same
+    at (Some w) entry same = shown-weighted e.n e.d w d entry (run_for (constant_weight e.n e.d w)) refl same

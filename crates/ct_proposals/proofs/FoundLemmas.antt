@@ -1,17 +1,14 @@
 -- What the finder gives for an entry.
-use Rattle.std.proofs.Common.{◌≡◌, ◌∙◌, ℕ, List, false, Option, Some, None, Result, Ok, Err, IfOk, IfSome, option_map, refl, ap, subst, arith}
+use Rattle.std.proofs.Common.{◌≡◌, ℕ, List, false, Option, Some, None, refl, ap, subst, arith}
 use Rattle.std.proofs.lemmas.Bool.Decides.{nat_tests}
 use Rattle.ct_codes.specs.declared.entry.Entry.{Entry}
 use Rattle.ct_codes.specs.Entry.{IsEntry, unrestricted, constant_weight}
 use Rattle.ct_duals.specs.declared.dual.Dual.{Dual}
-use Rattle.ct_finder_run.specs.Run.{End, IsAsked}
-use Rattle.ct_finder_run.specs.Run.End.{Least as LeastEnd, Turns as TurnsEnd, Wide as WideEnd}
-use Rattle.ct_finder.specs.Found.{bound_of, end_of_run, least_dual, stop_of}
-use Rattle.ct_finder.specs.declared.found.Found.{Found}
+use Rattle.ct_finder_run.specs.Run.{IsAsked}
+use Rattle.ct_finder.specs.Found.{bound_of, end_of_run, IsShown}
 use Rattle.ct_finder.specs.declared.found.Stop.{Stop}
-use Rattle.ct_finder.specs.declared.found.Stop.TheVariants as stop
 use Rattle.ct_proposals.specs.declared.found.TheConstants.{MAX_TURNS}
-use Rattle.ct_proposals.specs.Proposal.{is_even, run_for, IsProposal, AnswersEntry}
+use Rattle.ct_proposals.specs.Proposal.{is_even, run_for, stop_for, IsProposal, AnswersEntry}
 
 -- an entry without weight, and one with this weight
 pub plain-is : (e : Entry) → e.w ≡ None → e ≡ unrestricted e.n e.d
@@ -24,24 +21,12 @@ weighted-is e w some = ap (λ (v : Option ℕ). record { n = e.n; d = e.d; w = v
 pub plain-asked : (n d : ℕ) → IsEntry (unrestricted n d) → IsAsked (unrestricted n d) (is_even None d)
 plain-asked n d entry = record { entry = entry; even_distance = λ h. grind (arith, nat_tests); weighted = tt }
 
--- where a dual with a weight is found the run ended as least
-pub least-stop : (e : Entry) (turns : ℕ) (end : End) (d : Dual) → Some d ≡ least_dual e end → stop.Least ≡ stop_of turns end
-least-stop e turns (LeastEnd cost) d is = refl
-least-stop e turns TurnsEnd d is = absurd cc
-least-stop e turns (WideEnd x) d is = absurd cc
-
-pub weighted-stop : {E : Type 0} (e : Entry) (turns : ℕ) (end : End) (r : Result (Option Found) E) → IfOk r (λ o. option_map (λ f. f.dual) o ≡ least_dual e end)
-    → IfOk r (λ o. IfSome o (λ f. f.stop ≡ stop.Least)) → IfOk r (λ o. IfSome o (λ f. f.stop ≡ stop_of turns end))
-weighted-stop {E} e turns end (Err reason) dual least = tt
-weighted-stop {E} e turns end (Ok None) dual least = tt
-weighted-stop {E} e turns end (Ok (Some f)) dual least = least ∙ least-stop e turns end f.dual dual
-
 -- what is written of what was found answers the entry
 pub answers : (e : Entry) (d : Dual) (bound : ℕ) (how : Stop) (o : Option Dual) (text : List ℕ) → Some d ≡ o → bound ≡ bound_of d
-    → how ≡ stop_of MAX_TURNS (run_for e) → IsProposal e d bound how text → AnswersEntry e o text
-answers e d bound how o text dual_is bound_is stop_is h =
+    → how ≡ stop_for e → IsShown how d → IsProposal e d bound how text → AnswersEntry e o text
+answers e d bound how o text dual_is bound_is stop_is shown h =
     subst (λ (found : Option Dual). AnswersEntry e found text) dual_is
-    (subst (λ (s : Stop). IsProposal e d (bound_of d) s text) stop_is (subst (λ (b : ℕ). IsProposal e d b how text) bound_is h))
+    (subst (λ (s : Stop). IsProposal e d (bound_of d) s text × IsShown s d) stop_is (subst (λ (b : ℕ). IsProposal e d b how text) bound_is h, shown))
 
 -- the run for an entry with weight
 pub weighted-run : (n d w : ℕ) → run_for (constant_weight n d w) ≡ end_of_run (constant_weight n d w) false MAX_TURNS

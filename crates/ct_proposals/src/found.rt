@@ -3,8 +3,8 @@
 ghost use Rattle.std.specs.Prelude.{◌≡◌, None, IfOk, IfSome, option_map};
 ghost use Rattle.ct_codes.specs.Entry.{IsEntry, unrestricted};
 ghost use Rattle.ct_duals.specs.Dual.{IsDual};
-ghost use Rattle.ct_finder.specs.Found.{bound_of, dual_of, end_of_run, stop_of};
-ghost use Rattle.ct_proposals.specs.Proposal.{is_even, found_dual, run_for};
+ghost use Rattle.ct_finder.specs.Found.{bound_of, dual_of, end_of_run, stop_of, IsShown};
+ghost use Rattle.ct_proposals.specs.Proposal.{is_even, found_dual, stop_for};
 
 use ct_codes::Entry;
 use ct_finder::{Found, find, find_weight};
@@ -19,7 +19,9 @@ fn plain_found_for(alloc: Global, n: u32, d: u32) -> Result<Found, AllocError>
     ensures dual { IfOk result (λ f. f.dual ≡
         dual_of (unrestricted n d) (is_even None d) (end_of_run (unrestricted n d) (is_even None d) MAX_TURNS)) }
     ensures bound { IfOk result (λ f. f.bound ≡ bound_of f.dual) }
-    ensures stop { IfOk result (λ f. f.stop ≡ stop_of MAX_TURNS (end_of_run (unrestricted n d) (is_even None d) MAX_TURNS)) }
+    ensures stop { IfOk result (λ f. f.stop ≡
+        stop_of (unrestricted n d) (is_even None d) MAX_TURNS (end_of_run (unrestricted n d) (is_even None d) MAX_TURNS)) }
+    ensures shown { IfOk result (λ f. IsShown f.stop f.dual) }
     ensures form { IfOk result (λ f. IsDual f.dual) }
     ensures of_entry { IfOk result (λ f. f.dual.entry ≡ unrestricted n d) }
 {
@@ -32,7 +34,8 @@ pub(crate) fn found_for(alloc: Global, entry: Entry) -> Result<Option<Found>, Al
     requires { IsEntry entry }
     ensures dual { IfOk result (λ o. option_map (λ f. f.dual) o ≡ found_dual entry) }
     ensures bound { IfOk result (λ o. IfSome o (λ f. f.bound ≡ bound_of f.dual)) }
-    ensures stop { IfOk result (λ o. IfSome o (λ f. f.stop ≡ stop_of MAX_TURNS (run_for entry))) }
+    ensures stop { IfOk result (λ o. IfSome o (λ f. f.stop ≡ stop_for entry)) }
+    ensures shown { IfOk result (λ o. IfSome o (λ f. IsShown f.stop f.dual)) }
     ensures form { IfOk result (λ o. IfSome o (λ f. IsDual f.dual)) }
     ensures of_entry { IfOk result (λ o. IfSome o (λ f. f.dual.entry ≡ entry)) }
 {

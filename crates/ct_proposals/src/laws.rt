@@ -15,14 +15,16 @@ ghost use Rattle.ct_codes.specs.Numbers.{numbers_of, multiplier, combination};
 ghost use Rattle.ct_pieces.specs.Piece.{PieceValue, stored_words};
 ghost use Rattle.ct_pieces.specs.Submission.{submitted};
 ghost use Rattle.ct_pieces.specs.declared.limits.TheConstants.{MAX_PIECES, MAX_STORED};
-ghost use Rattle.ct_finder.specs.Found.{bound_of};
+ghost use Rattle.ct_primal.specs.Primal.{PrimalValue};
+ghost use Rattle.ct_finder.specs.Found.{bound_of, IsShown, IsLeast};
 ghost use Rattle.ct_finder.specs.declared.found.Stop.{Stop};
-ghost use Rattle.ct_proposals.specs.Proposal.{find_id, found_dual, proposed_piece, IsProposal};
+ghost use Rattle.ct_proposals.specs.Proposal.{find_id, found_dual, proposed_piece, stop_for, IsProposal};
 ghost use Rattle.ct_proposals.specs.Reply.{IsFound, DifferInDocuments};
 
 /// The dual that is found for an entry of the table is one of this entry, and it is accepted. It speaks of even distances alone exactly
 /// where there is no weight and d is even, and allows nothing. Its bound is ⌊f(0)/c_0⌋, limited by `MAX_BOUND`; it rests on no other
-/// bound, and no code of the entry has more words. Without weight one is found for each entry.
+/// bound, and no code of the entry has more words. Where the run stopped as least, its primal shows that no accepted dual of the entry
+/// with the same mark that allows nothing has a smaller bound. Without weight one is found for each entry.
 pub fn found_duals_bound_codes()
     ensures entry { (e : Entry) (d : Dual) → IsEntry e → found_dual e ≡ Some d → d.entry ≡ e }
     ensures form { (e : Entry) (d : Dual) → IsEntry e → found_dual e ≡ Some d → IsDual d }
@@ -32,6 +34,8 @@ pub fn found_duals_bound_codes()
     ensures nothing_allowed { (e : Entry) (d : Dual) → IsEntry e → found_dual e ≡ Some d → d.y ≡ [] }
     ensures bound { (e : Entry) (d : Dual) → IsEntry e → found_dual e ≡ Some d →
         bound_of d ≡ min MAX_BOUND (natural (combination (numbers_of e) d.c 0) / natural (multiplier d.c 0)) }
+    ensures shown { (e : Entry) (d : Dual) → IsEntry e → found_dual e ≡ Some d → IsShown (stop_for e) d }
+    ensures least { (e : Entry) (d : Dual) (p : PrimalValue) → IsEntry e → found_dual e ≡ Some d → stop_for e ≡ Stop.Least p → IsLeast d }
     ensures no_premises { (e : Entry) (d : Dual) → IsEntry e → found_dual e ≡ Some d → dual_premises d ≡ [] }
     ensures true_upper { (e : Entry) (d : Dual) → IsEntry e → found_dual e ≡ Some d → IsTrueUpper e (bound_of d) }
     ensures without_weight { (e : Entry) → e.w ≡ None → IsSome (found_dual e) }

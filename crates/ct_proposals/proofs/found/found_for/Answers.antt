@@ -1,11 +1,12 @@
-use Rattle.std.proofs.Common.{◌≡◌, ◌∙◌, Some, None, IfSome, sym, ap, subst, rules}
+use Rattle.std.proofs.Common.{◌≡◌, ◌∙◌, false, Some, None, IfSome, sym, ap, subst, rules}
 use Rattle.std.proofs.lemmas.Result.{IfOk-weaker}
 use Rattle.ct_codes.specs.declared.entry.Entry.{Entry}
 use Rattle.ct_finder.specs.Found.{least_dual, stop_of}
 use Rattle.ct_codes.specs.Entry.{constant_weight}
 use Rattle.ct_proposals.specs.declared.found.TheConstants.{MAX_TURNS}
-use Rattle.ct_proposals.specs.Proposal.{found_dual, run_for}
-use Rattle.ct_proposals.proofs.FoundLemmas.{plain-is, weighted-is, weighted-run, weighted-stop}
+use Rattle.ct_finder_run.specs.Run.{End}
+use Rattle.ct_proposals.specs.Proposal.{found_dual, run_for, stop_for}
+use Rattle.ct_proposals.proofs.FoundLemmas.{plain-is, weighted-is, weighted-run}
 use Rattle.ct_proposals.proofs.found.found_for.Goals as goal
 
 pub returns-in_ok-plain_found_for-in-None-clause-dual : goal.returns-in_ok-plain_found_for-in-None-clause-dual
@@ -18,7 +19,7 @@ pub returns-in_ok-plain_found_for-in-None-clause-stop : goal.returns-in_ok-plain
 unfolding run_for
 returns-in_ok-plain_found_for-in-None-clause-stop c =
     let none : c.args.entry.w ≡ None = search rules in
-    c.in_ok-plain_found_for-in-None.ensures.stop ∙ sym (ap (λ (e : Entry). stop_of MAX_TURNS (run_for e)) (plain-is c.args.entry none))
+    c.in_ok-plain_found_for-in-None.ensures.stop ∙ sym (ap stop_for (plain-is c.args.entry none))
 
 pub returns-in-Some-clause-dual : goal.returns-in-Some-clause-dual
 returns-in-Some-clause-dual c =
@@ -34,6 +35,6 @@ returns-in-Some-clause-stop c =
     let asked = constant_weight c.args.entry.n c.args.entry.d c.in-Some.w in
     let run_is = weighted-run c.args.entry.n c.args.entry.d c.in-Some.w in
     IfOk-weaker c.find_weight.result _ _
-    (λ o h. subst (λ (e : Entry). IfSome o (λ f. f.stop ≡ stop_of MAX_TURNS (run_for e))) (sym (weighted-is c.args.entry c.in-Some.w some)) h)
-    (weighted-stop asked MAX_TURNS (run_for asked) c.find_weight.result
-    (IfOk-weaker c.find_weight.result _ _ (λ o h. h ∙ sym (ap (least_dual asked) run_is)) c.find_weight.ensures.dual) c.find_weight.ensures.stop)
+    (λ o h. subst (λ (e : Entry). IfSome o (λ f. f.stop ≡ stop_for e)) (sym (weighted-is c.args.entry c.in-Some.w some))
+    (subst (λ (end : End). IfSome o (λ f. f.stop ≡ stop_of asked false MAX_TURNS end)) (sym run_is) h))
+    c.find_weight.ensures.stop

@@ -1,9 +1,8 @@
 use Rattle.std.proofs.Common.{◌≡◌, Option, Some, IfSome, option_map, subst}
 use Rattle.std.proofs.lemmas.Result.{IfOk-weaker}
-use Rattle.ct_finder.specs.Found.{bound_of, stop_of}
+use Rattle.ct_finder.specs.Found.{bound_of, IsShown}
 use Rattle.ct_finder.specs.declared.found.Found.{Found}
-use Rattle.ct_proposals.specs.declared.found.TheConstants.{MAX_TURNS}
-use Rattle.ct_proposals.specs.Proposal.{found_dual, run_for}
+use Rattle.ct_proposals.specs.Proposal.{found_dual, stop_for}
 use Rattle.ct_proposals.proofs.FoundLemmas.{answers}
 use Rattle.ct_proposals.proofs.proposal.answer_entry.Goals as goal
 
@@ -14,5 +13,6 @@ returns-in-Some c =
     let known = c.in_ok-found_for.ensures in
     let dual_is : Some f.dual ≡ found_dual e = subst (λ (o : Option Found). option_map (λ g. g.dual) o ≡ found_dual e) c.in-Some.is known.dual in
     let bound_is : f.bound ≡ bound_of f.dual = subst (λ (o : Option Found). IfSome o (λ g. g.bound ≡ bound_of g.dual)) c.in-Some.is known.bound in
-    let stop_is : f.stop ≡ stop_of MAX_TURNS (run_for e) = subst (λ (o : Option Found). IfSome o (λ g. g.stop ≡ stop_of MAX_TURNS (run_for e))) c.in-Some.is known.stop in
-    IfOk-weaker c.proposal.result _ _ (λ text h. answers e f.dual f.bound f.stop (found_dual e) text.items dual_is bound_is stop_is h) c.proposal.ensures
+    let stop_is : f.stop ≡ stop_for e = subst (λ (o : Option Found). IfSome o (λ g. g.stop ≡ stop_for e)) c.in-Some.is known.stop in
+    let shown : IsShown f.stop f.dual = subst (λ (o : Option Found). IfSome o (λ g. IsShown g.stop g.dual)) c.in-Some.is known.shown in
+    IfOk-weaker c.proposal.result _ _ (λ text h. answers e f.dual f.bound f.stop (found_dual e) text.items dual_is bound_is stop_is shown h) c.proposal.ensures
