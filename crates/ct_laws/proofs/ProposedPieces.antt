@@ -1,11 +1,13 @@
 -- What `find` writes for entries leads to pieces of them.
-use Rattle.std.proofs.Common.{◌≡◌, ◌≢◌, ◌∙◌, ℕ, ◌/◌, ◌^◌, ◌<◌, ◌≤◌, false, List, [], ◌∷◌, ◌++◌, map, length, get_or, codes, Some, refl, sym, ap, subst, arith, lit<, append_assoc, append-nil}
-use Rattle.std.specs.Prelude.{All, AllPairs, IsTrue, fold}
-use Rattle.std.specs.List.{flat_map}
+use Rattle.std.proofs.Common.{◌≡◌, ◌≢◌, ◌∙◌, ℕ, ◌%◌, ◌/◌, ◌^◌, ◌<◌, ◌≤◌, ◌==◌, Bool, true, false, ◌&&◌, ◌||◌, not, nat_le, List, [], ◌∷◌, ◌++◌, map, length, get_or, codes, Option, Some, None, refl, sym, ap, subst, arith, lit<, append_assoc, append-nil, eq-eqb, leb-true}
+use Rattle.std.specs.Prelude.{All, AllPairs, IsTrue, fold, ℤ, pos, negsuc, ◌≤ℤ◌, ◌<ℤ◌, unsigned_abs}
+use Rattle.std.specs.List.{flat_map, list_all, AllByRecursion}
+use Rattle.std.proofs.lemmas.Int.{ints}
+use Rattle.std.proofs.lemmas.Bool.{and_parts}
 use Rattle.std.specs.Fmt.{decimal}
 use Rattle.std.proofs.Math.Nat.{min-le_left}
 use Rattle.std.proofs.lemmas.List.{get_or-map, length-map}
-use Rattle.std.proofs.lemmas.List.Elements.{All-cons, All-nil, All-head, All-tail, All-get_or}
+use Rattle.std.proofs.lemmas.List.Elements.{All-append, All-cons, All-nil, All-head, All-tail, All-get_or, All-weaker, All-from_recursion, recursion_from_All}
 use Rattle.std.proofs.lemmas.List.Sums.{sum_by-cons}
 use Rattle.ct_words.specs.declared.limits.TheConstants.{MAX_BOUND}
 use Rattle.ct_lines.specs.declared.TheConstants.{LINE_FEED}
@@ -18,18 +20,24 @@ use Rattle.ct_duals.specs.declared.dual.Dual.{Dual}
 use Rattle.ct_fields.specs.declared.document.TheConstants.{MAX_DOCUMENT}
 use Rattle.ct_duals.specs.Bound.{natural}
 use Rattle.ct_codes.specs.Numbers.{numbers_of, multiplier, combination}
+use Rattle.ct_codes.proofs.EntryLemmas.{entry_limits}
+use Rattle.ct_duals.specs.Dual.{as_index, degree_of, greatest_index, is_in_range}
+use Rattle.ct_primal.specs.Primal.{PrimalValue}
+use Rattle.ct_primal.proofs.PrimalFaults.{sound-from_none}
+use Rattle.ct_finder_run.specs.Column.{range_of}
+use Rattle.ct_finder_run.specs.RunPrimal.{wide_number, run_primal}
 use Rattle.ct_finder_run.specs.Run.{End}
 use Rattle.ct_finder_run.specs.Run.End.{Least, Turns, Wide}
-use Rattle.ct_finder.specs.Found.{bound_of, stop_of}
+use Rattle.ct_finder.specs.Found.{bound_of, least_stop, stop_of, IsShown}
 use Rattle.ct_finder.specs.declared.found.Stop.{Stop}
 use Rattle.ct_finder.specs.declared.found.Stop.TheVariants as stop
 use Rattle.ct_proposals.specs.declared.found.TheConstants.{MAX_TURNS}
 use Rattle.ct_files.specs.Document.{without_cites}
 use Rattle.ct_files.proofs.Documents.{document_read_of-within}
-use Rattle.ct_proposals.specs.Proposal.{dual_evidence, find_id, found_dual, proposed_piece, run_for, stop_text}
+use Rattle.ct_proposals.specs.Proposal.{is_even, dual_evidence, find_id, found_dual, pair_text, pairs_text, primal_line, proposed_piece, run_for, stop_for, stop_text}
 use Rattle.ct_proposals.proofs.Accepted.{made-proposed, stored-none}
 use Rattle.ct_proposals.proofs.FindIds.{find_id-named, find_id-different}
-use Rattle.ct_proposals.proofs.FoundDuals.{bound-is}
+use Rattle.ct_proposals.proofs.FoundDuals.{bound-is, shown}
 use Rattle.ct_commands.specs.Form.{form_of}
 use Rattle.ct_commands.specs.Command.{commands_of}
 use Rattle.ct_commands.specs.declared.form.Form.TheVariants.{Nothing}
@@ -140,29 +148,103 @@ form_of-comment bound how = refl
 
 -- the words of how a run stopped
 abbrev stop_words : Stop → List (List ℕ)
-stop_words stop.Least = codes "least" ∷ []
+stop_words (stop.Least p) = codes "least" ∷ []
 stop_words (stop.Turns turns) = codes "turns" ∷ decimal turns ∷ []
 stop_words (stop.Wide x) = codes "wide" ∷ []
 
 stop_text-words : (s : Stop) → spaced_words (stop_words s) ≡ codes " " ++ stop_text s
-stop_text-words stop.Least = refl
+stop_text-words (stop.Least p) = refl
 stop_text-words (stop.Turns turns) = ap (λ (t : List ℕ). codes " turns " ++ t) (append-nil (decimal turns))
 stop_text-words (stop.Wide x) = refl
 
-stop_words-are : (end : End) → AreWords (stop_words (stop_of MAX_TURNS end))
-stop_words-are (Least cost) = (known_word (codes "least") refl, tt)
-stop_words-are Turns = (known_word (codes "turns") refl, (decimal_word MAX_TURNS (lit< tt), tt))
-stop_words-are (Wide x) = (known_word (codes "wide") refl, tt)
+least_words : (o : Option ℤ) (p : PrimalValue) → AreWords (stop_words (least_stop o p))
+least_words None p = (known_word (codes "least") refl, tt)
+least_words (Some x) p = (known_word (codes "wide") refl, tt)
 
-IsLine-comment : (bound : ℕ) (end : End) → bound < 2 ^ 64 → IsLine (comment bound (stop_text (stop_of MAX_TURNS end)))
-IsLine-comment bound end small =
-    let stopped = stop_of MAX_TURNS end in
+stop_words-are : (e : Entry) (even : Bool) (end : End) → AreWords (stop_words (stop_of e even MAX_TURNS end))
+stop_words-are e even (Least t) = least_words (wide_number (length (range_of e even)) t) (run_primal e even t)
+stop_words-are e even Turns = (known_word (codes "turns") refl, (decimal_word MAX_TURNS (lit< tt), tt))
+stop_words-are e even (Wide x) = (known_word (codes "wide") refl, tt)
+
+IsLine-comment : (e : Entry) (bound : ℕ) → bound < 2 ^ 64 → IsLine (comment bound (stop_text (stop_for e)))
+IsLine-comment e bound small =
+    let stopped = stop_for e in
     let words = codes "bound" ∷ decimal bound ∷ stop_words stopped in
     let spelled : codes "#" ++ spaced_words words ≡ comment bound (stop_text stopped) =
     ap (λ (t : List ℕ). codes "# bound " ++ (decimal bound ++ t)) (stop_text-words stopped)
     ∙ ap (λ (t : List ℕ). codes "# bound " ++ t) (sym (append_assoc (decimal bound) (codes " ") (stop_text stopped))) in
     subst IsLine spelled
-    (IsLine-words (codes "#") words (known_word (codes "#") refl) (known_word (codes "bound") refl, (decimal_word bound small, stop_words-are end)))
+    (IsLine-words (codes "#") words (known_word (codes "#") refl)
+    (known_word (codes "bound") refl, (decimal_word bound small, stop_words-are e (is_even e.w e.d) (run_for e))))
+
+-- an index of a range is small
+index_small : (e : Entry) (even : Bool) → IsEntry e → (i : ℕ) → is_in_range e even i ≡ true → i < 2 ^ 64
+index_small e even entry i range =
+    let parts = and_parts (nat_le (as_index e.w e.d) i && nat_le i (degree_of e)) (not even || i % 2 == 0) range in
+    let ends = and_parts (nat_le (as_index e.w e.d) i) (nat_le i (degree_of e)) parts.0 in
+    let last = leb-true i (degree_of e) ends.1 in
+    let most = greatest_index-le e.n e.w in
+    let short = (entry_limits e entry).length_to in
+    omega (arith, last, most, short)
+  where
+    greatest_index-le : (n : ℕ) (w : Option ℕ) → greatest_index n w ≤ n
+    greatest_index-le n None = omega arith
+    greatest_index-le n (Some w) = omega arith
+
+-- the comment with a primal, without its line feed
+abbrev primal_comment : PrimalValue → List ℕ
+primal_comment p = codes "# primal " ++ decimal (unsigned_abs p.q) ++ pairs_text p.a
+
+form_of-primal : (p : PrimalValue) → form_of (primal_comment p) ≡ Nothing
+unfolding form_of
+form_of-primal p = refl
+
+-- a byte of a line
+abbrev IsInLine : ℕ → Type 0
+IsInLine b = b ≢ LINE_FEED
+
+decimal_line : (n : ℕ) → n < 2 ^ 64 → All IsInLine (decimal n)
+decimal_line n small = All-weaker (λ b. 32 < b) IsInLine (λ b h e. absurd (omega (arith, h, e))) (decimal n) (decimal_word n small).0
+
+below_64 : (z : ℤ) → pos 0 ≤ℤ z → z <ℤ pos (2 ^ 63) → unsigned_abs z < 2 ^ 64
+below_64 (pos n) some less = omega (arith, ints)
+below_64 (negsuc n) some less = absurd (omega (arith, ints))
+
+visible : (bs : List ℕ) → list_all (λ b. not (b == LINE_FEED)) bs ≡ true → All IsInLine bs
+visible bs h = All-from_recursion IsInLine bs (by_test bs h)
+  where
+    by_test : (bs : List ℕ) → list_all (λ b. not (b == LINE_FEED)) bs ≡ true → AllByRecursion IsInLine bs
+    by_test [] h = tt
+    by_test (b ∷ bs) h =
+        let both = and_parts (not (b == LINE_FEED)) (list_all (λ b. not (b == LINE_FEED)) bs) h in
+        ((λ e. absurd (let same = eq-eqb b LINE_FEED e in let test = sym (ap not same) ∙ both.0 in cc)), by_test bs both.1)
+
+pairs_line : (us : List (ℕ × ℤ)) → AllByRecursion (λ (u : ℕ × ℤ). (u.0 < 2 ^ 64) × (unsigned_abs u.1 < 2 ^ 64)) us → All IsInLine (pairs_text us)
+pairs_line [] h = All-nil IsInLine
+pairs_line (u ∷ us) h =
+    All-append IsInLine (pair_text u) (pairs_text us)
+    (All-append IsInLine (codes " " ++ decimal u.0 ++ codes ":") (decimal (unsigned_abs u.1))
+    (All-append IsInLine (codes " " ++ decimal u.0) (codes ":") (All-append IsInLine (codes " ") (decimal u.0) (visible (codes " ") refl) (decimal_line u.0 h.0.0)) (visible (codes ":") refl))
+    (decimal_line (unsigned_abs u.1) h.0.1))
+    (pairs_line us h.1)
+
+-- it is a comment, so no command
+primal-comment : (s : Stop) (d : Dual) (after : List ℕ) → IsShown s d → commands_of (lines_of (primal_line s ++ after)) ≡ commands_of (lines_of after)
+primal-comment (stop.Turns turns) d after shown = refl
+primal-comment (stop.Wide x) d after shown = refl
+primal-comment (stop.Least p) d after shown =
+    let body = primal_comment p in
+    let accepted = sound-from_none (numbers_of p.entry) p shown.accepted in
+    let scale = below_64 p.q (let one = accepted.scale in omega (arith, ints)) shown.scale in
+    let small : All (λ (u : ℕ × ℤ). (u.0 < 2 ^ 64) × (unsigned_abs u.1 < 2 ^ 64)) p.a = λ k o l.
+    let range = shown.form.numbers k o l in
+    (index_small p.entry p.even shown.form.entry _ range.0, below_64 _ range.1 (shown.numbers k o l)) in
+    let line = All-append IsInLine (codes "# primal " ++ decimal (unsigned_abs p.q)) (pairs_text p.a)
+    (All-append IsInLine (codes "# primal ") (decimal (unsigned_abs p.q)) (visible (codes "# primal ") refl) (decimal_line (unsigned_abs p.q) scale))
+    (pairs_line p.a (recursion_from_All (λ (u : ℕ × ℤ). (u.0 < 2 ^ 64) × (unsigned_abs u.1 < 2 ^ 64)) p.a small)) in
+    ap (λ t. commands_of (lines_of t)) (append_assoc body (LINE_FEED ∷ []) after)
+    ∙ ap commands_of (lines_of-next body after line)
+    ∙ alone Nothing body (lines_of after) (form_of-primal p) refl
 
 bound_small : (e : Entry) (d : Dual) → IsEntry e → found_dual e ≡ Some d → bound_of d < 2 ^ 64
 bound_small e d entry same =
@@ -175,13 +257,17 @@ proposal-command : (e : Entry) (own rest : List ℕ) (h : IsProposed e own) → 
     → commands_of (lines_of (own ++ rest)) ≡ submission_of (piece e own h) ∷ commands_of (lines_of rest)
 proposal-command e own rest h entry =
     let p = piece e own h in
-    let stopped = stop_text (stop_of MAX_TURNS (run_for e)) in
+    let stopped = stop_text (stop_for e) in
     let line = comment (bound_of h.dual) stopped in
+    let primal = primal_line (stop_for e) in
     let after = piece_dump p ++ rest in
     ap (λ t. commands_of (lines_of (t ++ rest))) h.proposal.2
-    ∙ ap (λ t. commands_of (lines_of t)) (append_assoc (line ++ LINE_FEED ∷ []) (piece_dump p) rest ∙ append_assoc line (LINE_FEED ∷ []) after)
-    ∙ ap commands_of (lines_of-next line after (IsLine-comment (bound_of h.dual) (run_for e) (bound_small e h.dual entry h.found)))
-    ∙ alone Nothing line (lines_of after) (form_of-comment (bound_of h.dual) stopped) refl
+    ∙ ap (λ t. commands_of (lines_of t))
+    (append_assoc ((line ++ LINE_FEED ∷ []) ++ primal) (piece_dump p) rest ∙ append_assoc (line ++ LINE_FEED ∷ []) primal after
+    ∙ append_assoc line (LINE_FEED ∷ []) (primal ++ after))
+    ∙ ap commands_of (lines_of-next line (primal ++ after) (IsLine-comment e (bound_of h.dual) (bound_small e h.dual entry h.found)))
+    ∙ alone Nothing line (lines_of (primal ++ after)) (form_of-comment (bound_of h.dual) stopped) refl
+    ∙ primal-comment (stop_for e) h.dual after (shown e h.dual entry h.found)
     ∙ piece_dump-command p rest (within e own h) (find_id-named e entry)
 
 commands : (es : List Entry) (text : List ℕ) (h : AreProposed es text) → All IsEntry es → commands_of (lines_of text) ≡ map submission_of (pieces es text h)
