@@ -20,6 +20,30 @@ use ct_slots::{Bounds, SupportPlaces, Worklist};
 use ct_weight_rules::{unweighted, unweighted_and_nearer};
 use std::alloc::AllocError;
 
+/// Marks an entry of the table that is not settled, where the rule gives something better there.
+fn mark_where_better(
+    supports: &[Support],
+    bounds: &Bounds,
+    work: &mut Worklist,
+    rule: Rule,
+    entry: Entry,
+    evaluations: &mut u64,
+) -> Result<(), AllocError>
+    requires { IsEntry entry }
+    ensures tested { OnOk result (IsTestedAt supports.now bounds.now work.new rule entry) }
+    ensures kept { KeepsMarks work.old work.new }
+{
+    let side = rule_side(rule);
+    *evaluations = evaluations.saturating_add(1);
+    let Some(value) = offer(supports, bounds, rule, entry) else {
+        return Ok(());
+    };
+    if is_better(side, value, bounds.bound(side, entry)) {
+        work.mark(side, entry)?;
+    }
+    Ok(())
+}
+
 /// Marks the entry, where it is in the table and the rule gives something better there; it gives nothing better where both
 /// bounds of the entry are one.
 fn test(
@@ -35,21 +59,13 @@ fn test(
     ensures tested { OnOk result (IsTestedAt supports.now bounds.now work.new rule entry) }
     ensures kept { KeepsMarks work.old work.new }
 {
-    let side = rule_side(rule);
-    if !entry.in_table() || work.is_marked(side, entry) {
+    if !entry.in_table() || work.is_marked(rule_side(rule), entry) {
         return Ok(());
     }
     if bounds.is_settled(entry) {
         return Ok(());
     }
-    *evaluations = evaluations.saturating_add(1);
-    let Some(value) = offer(supports, bounds, rule, entry) else {
-        return Ok(());
-    };
-    if is_better(side, value, bounds.bound(side, entry)) {
-        work.mark(side, entry)?;
-    }
-    Ok(())
+    mark_where_better(supports, bounds, work, rule, entry, evaluations)
 }
 
 /// Marks the entries that may rest on this one by the rule, where it gives something better there.

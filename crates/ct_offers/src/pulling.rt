@@ -1,6 +1,6 @@
 //! The best bound that the rules give at a slot over what stands.
 
-ghost use Rattle.std.specs.Prelude.{◌≡◌, ◌<◌, ◌≤◌, ◌^◌, ℕ, List, true, false, if◌then◌else◌, Some, None, IfSome, All, drop, take, map, length, slice_get};
+ghost use Rattle.std.specs.Prelude.{◌≡◌, ◌<◌, ◌≤◌, ◌^◌, ◌∷◌, [], ℕ, List, true, false, if◌then◌else◌, Some, None, IfSome, All, drop, take, map, length, slice_get};
 ghost use Rattle.ct_words.specs.declared.limits.TheConstants.{MAX_BOUND, MAX_N};
 ghost use Rattle.ct_codes.specs.declared.claim.Side.TheVariants.{Lower, Upper};
 ghost use Rattle.ct_codes.specs.Entry.{IsEntry, is_entry};
@@ -74,33 +74,86 @@ fn offer_of_dual(
     value_where_defined(supports, rule, entry, &values[..count])
 }
 
+/// The bound that a rule that rests on one entry gives at an entry of the table over what stands.
+fn offer_of_one(
+    supports: &[Support],
+    bounds: &Bounds,
+    rule: Rule,
+    entry: Entry,
+    first: Entry,
+) -> Option<u32>
+    requires entry { IsEntry entry }
+    requires condition { (parts_over supports.now rule).condition entry ≡ true }
+    requires rests_on { (parts_over supports.now rule).rests_on entry ≡ first ∷ [] }
+    ensures value { result ≡ value_over supports.now (bound_of bounds.now) rule entry }
+    ensures limit { IfSome result (λ v. v ≤ MAX_BOUND) }
+{
+    let values = [bound_in_table(bounds, rule_side(rule), first)?];
+    value_where_defined(supports, rule, entry, &values)
+}
+
+/// The bound that a rule that rests on two entries gives at an entry of the table over what stands.
+fn offer_of_two(
+    supports: &[Support],
+    bounds: &Bounds,
+    rule: Rule,
+    entry: Entry,
+    first: Entry,
+    second: Entry,
+) -> Option<u32>
+    requires entry { IsEntry entry }
+    requires condition { (parts_over supports.now rule).condition entry ≡ true }
+    requires rests_on { (parts_over supports.now rule).rests_on entry ≡ first ∷ second ∷ [] }
+    ensures value { result ≡ value_over supports.now (bound_of bounds.now) rule entry }
+    ensures limit { IfSome result (λ v. v ≤ MAX_BOUND) }
+{
+    let side = rule_side(rule);
+    let values = [
+        bound_in_table(bounds, side, first)?,
+        bound_in_table(bounds, side, second)?,
+    ];
+    value_where_defined(supports, rule, entry, &values)
+}
+
+/// The bound that a rule that rests on three entries gives at an entry of the table over what stands.
+fn offer_of_three(
+    supports: &[Support],
+    bounds: &Bounds,
+    rule: Rule,
+    entry: Entry,
+    first: Entry,
+    second: Entry,
+    third: Entry,
+) -> Option<u32>
+    requires entry { IsEntry entry }
+    requires condition { (parts_over supports.now rule).condition entry ≡ true }
+    requires rests_on { (parts_over supports.now rule).rests_on entry ≡ first ∷ second ∷ third ∷ [] }
+    ensures value { result ≡ value_over supports.now (bound_of bounds.now) rule entry }
+    ensures limit { IfSome result (λ v. v ≤ MAX_BOUND) }
+{
+    let side = rule_side(rule);
+    let values = [
+        bound_in_table(bounds, side, first)?,
+        bound_in_table(bounds, side, second)?,
+        bound_in_table(bounds, side, third)?,
+    ];
+    value_where_defined(supports, rule, entry, &values)
+}
+
 /// The bound that the rule gives at an entry of the table over what stands. It takes no memory.
 pub fn offer(supports: &[Support], bounds: &Bounds, rule: Rule, entry: Entry) -> Option<u32>
     requires { IsEntry entry }
     ensures value { result ≡ value_over supports.now (bound_of bounds.now) rule entry }
     ensures limit { IfSome result (λ v. v ≤ MAX_BOUND) }
 {
-    let side = rule_side(rule);
     match rests_on(supports, rule, entry)? {
         Entries::Zero => value_where_defined(supports, rule, entry, &[]),
-        Entries::One(first) => {
-            let values = [bound_in_table(bounds, side, first)?];
-            value_where_defined(supports, rule, entry, &values)
-        }
+        Entries::One(first) => offer_of_one(supports, bounds, rule, entry, first),
         Entries::Two(first, second) => {
-            let values = [
-                bound_in_table(bounds, side, first)?,
-                bound_in_table(bounds, side, second)?,
-            ];
-            value_where_defined(supports, rule, entry, &values)
+            offer_of_two(supports, bounds, rule, entry, first, second)
         }
         Entries::Three(first, second, third) => {
-            let values = [
-                bound_in_table(bounds, side, first)?,
-                bound_in_table(bounds, side, second)?,
-                bound_in_table(bounds, side, third)?,
-            ];
-            value_where_defined(supports, rule, entry, &values)
+            offer_of_three(supports, bounds, rule, entry, first, second, third)
         }
         Entries::OfDual(dual) => offer_of_dual(supports, bounds, rule, entry, dual),
     }
