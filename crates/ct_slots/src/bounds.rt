@@ -1,6 +1,6 @@
 //! The bounds of a table, by the numbers of the slots.
 
-ghost use Rattle.std.specs.Prelude.{◌≡◌, ◌==◌, ◌*◌, IfOk, length, replicate, slice_set};
+ghost use Rattle.std.specs.Prelude.{◌≡◌, ◌==◌, ◌*◌, IfOk, replicate, slice_set};
 ghost use Rattle.ct_codes.specs.declared.claim.Side.TheVariants.{Lower, Upper};
 ghost use Rattle.ct_codes.specs.Entry.{IsEntry};
 ghost use Rattle.ct_slots.specs.Number.{bound_of, side_size, slot_number};
@@ -80,12 +80,5 @@ impl Bounds {
     {
         let number = slot_number(side, entry);
         self.bounds[number] = value;
-    }
-
-    /// There is a bound for each number.
-    pub fn count(&self)
-        ensures { length self.now ≡ 2 * side_size }
-    {
-        let _bounds = &self.bounds;
     }
 }
