@@ -121,7 +121,8 @@ def dual_bound(piece):
 CODES = ("words", "cosets", "build", "product")
 NAMING = {
     "L10": (2, CODES, lambda piece: number(piece.size)), "M10": (3, CODES, lambda piece: number(piece.size)),
-    "U11": (2, ("dual",), dual_bound), "V9": (3, ("jdual",), lambda piece: number(piece.f(0) // piece.c[0])),
+    # No kind of document gives the dual with a number of words that U12 is about.
+    "U11": (2, ("dual",), dual_bound), "U12": (2, (), None), "V9": (3, ("jdual",), lambda piece: number(piece.f(0) // piece.c[0])),
 }
 PLAIN = {
     "L1": lambda n, d: number(1),
@@ -167,7 +168,7 @@ WEIGHTED = {
     "V7": lambda n, d, w: same(n, d - 2, w),
     "V8": column_pairs,
 }
-ARGUMENTS = {"L9": 1, "L10": 1, "L11": 2, "M9": 1, "M10": 1, "U10": 1, "U11": 1, "V9": 1}
+ARGUMENTS = {"L9": 1, "L10": 1, "L11": 2, "M9": 1, "M10": 1, "U10": 1, "U11": 1, "U12": 1, "V9": 1}
 
 
 def rule_at(pieces, name, entry, arguments):

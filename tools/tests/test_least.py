@@ -68,13 +68,13 @@ class Least(unittest.TestCase):
 
     @needs_program
     def test_a_dual_of_the_program_is_the_least(self):
-        printed = session("16 6\n", "find")
+        printed = session("22 10\n", "find")
         if "# primal" not in printed:
             self.skipTest("this program prints no primal")
-        answered = table.held(printed, ["show 16 6", "explain upper 16 6"])
-        if ("upper", (16, 6)) not in answered.derivations:
+        answered = table.held(printed, ["show 22 10", "explain upper 22 10"])
+        if ("upper", (22, 10)) not in answered.derivations:
             self.skipTest("this program gives no derivations")
-        self.assertIn("The dual find-16-6 is the least of its form", least.said(answered, (16, 6), {reply.entry: reply for reply in replies(printed)}))
+        self.assertIn("The dual find-22-10 is the least of its form", least.said(answered, (22, 10), {reply.entry: reply for reply in replies(printed)}))
 
 
 if __name__ == "__main__":
