@@ -4,12 +4,15 @@ that PROOFS, DEFINITIONS and RULES name is there, that each name of DEFINITIONS 
 CLAUSES has more than 120 characters, and that README has at most 140 lines. Prints what is not so, and then ends with 1. Notes which names
 stand in two rows of DEFINITIONS."""
 
+import fnmatch
 import re
 import sys
 from pathlib import Path
 
 TOP = Path(__file__).resolve().parent.parent
 CRATES = TOP / "crates"
+# The files of the crates, by their paths.
+FILES = [str(file) for part in ("src", "specs", "proofs") for file in CRATES.glob(f"*/{part}/**/*.*")]
 # Words of the languages and of goals, which no source of the repository defines.
 KNOWN = {"abbrev", "let", "rw", "_", "Copy", "Ok", "Err", "field-0-is"}
 
@@ -48,7 +51,7 @@ def check_files(name):
                 crate, folder = path.split("/")[0], path.rsplit("/", 1)[0]
                 found = list(CRATES.glob(path))
             else:
-                found = list(CRATES.glob(f"{folder}/{path}")) if folder else list(CRATES.glob(f"*/*/{path}")) + list(CRATES.glob(f"*/{path}"))
+                found = list(CRATES.glob(f"{folder}/{path}")) if folder else fnmatch.filter(FILES, "*/" + path)
             if not found:
                 said.append(f"{name}:{number}: no file {path}")
 
