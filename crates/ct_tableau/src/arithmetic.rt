@@ -15,12 +15,25 @@ pub(crate) fn product(x: i64, y: i64) -> i128
 
 /// p · x - r · y, where p is positive. It fits: the first product is at most (2^63 - 1) · 2^63 and the second 2^126, in
 /// absolute value.
-pub(crate) fn cross(p: i64, x: i64, r: i64, y: i64) -> i128
+fn difference(p: i64, x: i64, r: i64, y: i64) -> i128
     requires positive { pos 1 ≤ℤ p }
     ensures value { result ≡ (p *ℤ x) -ℤ (r *ℤ y) }
     ensures small { unsigned_abs result < 2 ^ 127 }
 {
     product(p, x) - product(r, y)
+}
+
+/// p · x - r · y, where p is positive; without a product where x and y are 0, as they are in the basic columns of all other
+/// rows, which are half of the columns.
+pub(crate) fn cross(p: i64, x: i64, r: i64, y: i64) -> i128
+    requires positive { pos 1 ≤ℤ p }
+    ensures value { result ≡ (p *ℤ x) -ℤ (r *ℤ y) }
+    ensures small { unsigned_abs result < 2 ^ 127 }
+{
+    if x == 0 && y == 0 {
+        return 0;
+    }
+    difference(p, x, r, y)
 }
 
 /// The greatest common divisor, by Euclid's algorithm; without a division where a is 0, as most entries are.

@@ -5,7 +5,7 @@ use Rattle.std.proofs.lemmas.Int.{to_z-of_z, fits_signed_from_abs}
 use mir.Val.{SFits}
 use mir.Syntax.{w64, w128}
 use Rattle.ct_words.proofs.Counting.Alternating.{unsigned_abs-sub}
-use Rattle.ct_tableau.proofs.arithmetic.cross.Goals as goal
+use Rattle.ct_tableau.proofs.arithmetic.difference.Goals as goal
 
 pub overflow_sub-result : goal.overflow_sub-result
 overflow_sub-result c =
