@@ -1,22 +1,10 @@
 -- Where two words of these weights lie far enough apart on the mean, no large number of words is too many.
-use Rattle.std.proofs.Common.{◌≡◌, ℕ, zero, suc, ◌+◌, ◌-◌, ◌*◌, ◌/◌, ◌%◌, ◌<◌, ◌≤◌, max, sym, ap, subst, inl, inr, arith}
+use Rattle.std.proofs.Common.{◌≡◌, ℕ, zero, suc, ◌+◌, ◌-◌, ◌*◌, ◌/◌, ◌%◌, ◌<◌, ◌≤◌, max, sym, ap, arith}
 use Rattle.std.specs.Prelude.{false}
 use Rattle.std.proofs.Math.Nat.{div-add-mod, mul-le-mul_left, le_of_mul-le-mul_left}
-use Rattle.std.proofs.lemmas.Bool.{cases_lt, le-ltb}
+use Rattle.std.proofs.lemmas.Bool.{le-ltb}
+use Rattle.ct_johnson.proofs.PairCounts.{quarter}
 use Rattle.ct_doubly.specs.Doubly.{least_squares, are_too_many}
-
--- the product of two numbers is at most a quarter of the square of their sum
-quarter : (r s : ℕ) → 4 * (r * s) ≤ (r + s) * (r + s)
-quarter r s = elim (cases_lt r s) [
-  | inl less ↦ let is : r + (s - r) ≡ s = omega arith in subst (λ z. 4 * (r * z) ≤ (r + z) * (r + z)) is (apart r (s - r))
-  | inr more ↦ let is : s + (r - s) ≡ r = omega arith in subst (λ z. 4 * (z * s) ≤ (z + s) * (z + s)) is (behind s (r - s))
-]
-  where
-    apart : (r k : ℕ) → 4 * (r * (r + k)) ≤ (r + (r + k)) * (r + (r + k))
-    apart r k = omega arith
-
-    behind : (s k : ℕ) → 4 * ((s + k) * s) ≤ ((s + k) + s) * ((s + k) + s)
-    behind s k = omega arith
 
 -- n times the least squares of t = nq + r ones are t² + r(n - r)
 squares-le_at : (n q r s t : ℕ) → n ≡ r + s → t ≡ n * q + r → 4 * (n * (n * (q * q) + 2 * (q * r) + r)) ≤ 4 * (t * t) + n * n

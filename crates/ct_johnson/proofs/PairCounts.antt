@@ -70,7 +70,7 @@ weight_bound-columns n δ w m h fits fails cs code =
     ]
 
 -- the product of two numbers is at most a quarter of the square of their sum
-quarter : (r s : ℕ) → 4 * (r * s) ≤ (r + s) * (r + s)
+pub quarter : (r s : ℕ) → 4 * (r * s) ≤ (r + s) * (r + s)
 quarter r s =
     elim (cases_lt r s) [
       | inl less ↦
