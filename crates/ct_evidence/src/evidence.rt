@@ -47,4 +47,10 @@ pub enum Evidence {
     Dual(Dual),
     /// One for an entry with weight: it speaks of no even distances alone, and allows nothing.
     JohnsonDual(Dual),
+    /// A dual for an entry without weight, and a number of words, odd and from 3 to `ct_parity::MAX_ODD`, which it may exclude: where
+    /// f adds up to more over the pairs of any `m` words than it does over those of a code.
+    Odd {
+        dual: Dual,
+        m: u32,
+    },
 }
