@@ -1,7 +1,7 @@
 -- The keys of the fields of evidence documents.
 use Rattle.std.specs.Prelude.{ℕ, List, codes}
 use Rattle.ct_fields.specs.declared.field.FieldName.{FieldName}
-use Rattle.ct_fields.specs.declared.field.FieldName.TheVariants.{Format, N, D, W, Words, Basis, Representatives, D1, Classes, Op, Places, Digits, By, Size, Part, Other, Pairs, Even, C, Y, Cites}
+use Rattle.ct_fields.specs.declared.field.FieldName.TheVariants.{Format, N, D, W, Words, Basis, Representatives, D1, Classes, Op, Places, Digits, By, Size, Part, Other, Pairs, Even, M, C, Y, Cites}
 
 -- the key of a field
 abbrev pub field_text : FieldName → List ℕ
@@ -23,6 +23,7 @@ field_text Part = codes "part"
 field_text Other = codes "other"
 field_text Pairs = codes "pairs"
 field_text Even = codes "even"
+field_text M = codes "m"
 field_text C = codes "c"
 field_text Y = codes "y"
 field_text Cites = codes "cites"

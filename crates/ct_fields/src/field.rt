@@ -41,6 +41,8 @@ pub enum FieldName {
     Pairs,
     /// Whether a dual speaks of even distances alone, `even`.
     Even,
+    /// The odd number of words that a dual may exclude, `m`.
+    M,
     /// The multipliers of a dual, `c`.
     C,
     /// What a dual allows, `y`.
@@ -73,6 +75,7 @@ impl FieldName {
             FieldName::Other => "other",
             FieldName::Pairs => "pairs",
             FieldName::Even => "even",
+            FieldName::M => "m",
             FieldName::C => "c",
             FieldName::Y => "y",
             FieldName::Cites => "cites",
