@@ -1,11 +1,8 @@
 -- Where each answer comes for a document of kind dual.
-use Rattle.std.proofs.Common.{◌≡◌, ℕ, ◌≤◌, Bool, List, codes, Result, Ok, Err, sym, subst, refl, ◌∙◌}
+use Rattle.std.proofs.Common.{◌≡◌, ℕ, Bool, List, codes, Result, Ok, Err, sym, subst, refl, ◌∙◌}
 use Rattle.std.specs.Prelude.{◌↔◌, ℤ}
 use Rattle.toml.specs.Data.{Data, table, Members}
-use Rattle.ct_words.specs.declared.limits.TheConstants.{MAX_N}
 use Rattle.ct_codes.specs.declared.entry.Entry.{Entry}
-use Rattle.ct_fields.specs.Steps.{◌>>=◌}
-use Rattle.ct_fields.specs.LastFields.{last_fields}
 use Rattle.ct_fields.specs.StatedEntry.{plain_entry_of}
 use Rattle.ct_fields.specs.StatesEntry.{StatesPlainEntry, IsPlainEntryFault}
 use Rattle.ct_fields.specs.Tables.{IsOfKind}
@@ -14,24 +11,35 @@ use Rattle.ct_fields.specs.declared.field.FieldName.TheVariants as name
 use Rattle.ct_fields.specs.declared.fault.FileFault.{FileFault}
 use Rattle.ct_fields.specs.declared.fault.FileFault.TheVariants.{Bytes, NotToml, Kind, Field, Unknown, Digits, Size, Memory}
 use Rattle.ct_fields.proofs.StepLemmas.{bind-at, bind-at_err, bind-cases, only_fault}
-use Rattle.ct_fields.proofs.LastLemmas.{last_fields-ok, last_fields-from, last_fields-err, last_fields-wrong, last_fields-other, wrong_cites, other_key}
 use Rattle.ct_fields.proofs.EntryAnswers.{plain_entry_of-ok, plain_entry_of-from, plain_entry_of-err, plain_entry_of-fault}
 use Rattle.ct_duals.specs.declared.dual.Dual.{Dual}
-use Rattle.ct_duals.specs.Dual.{degree_of}
-use Rattle.ct_dual_files.specs.Fields.{even_field, multipliers_field, allowances_field}
-use Rattle.ct_dual_files.specs.Dual.{dual_of}
-use Rattle.ct_dual_files.specs.DualDocument.{dual_fields, HasEven, HasMultipliers, HasAllowances, StatesEven, HasDual, IsDualAnswer}
-use Rattle.ct_dual_files.proofs.DualFieldLemmas.{multipliers-stated, multipliers-read, multipliers-err, allowances-stated, allowances-read, allowances-err, even-stated, even-read, even-err}
-
--- the greatest index is that of the entry's length
-small_degree : (document : Data) (e : Entry) → StatesPlainEntry document e → degree_of e ≤ MAX_N
-small_degree document e states = subst (λ f. degree_of f ≤ MAX_N) (sym states.plain) states.with_length.2
+use Rattle.ct_dual_files.specs.Fields.{even_field}
+use Rattle.ct_dual_files.specs.Dual.{dual_after, dual_of}
+use Rattle.ct_dual_files.specs.DualDocument.{dual_fields, HasEven, StatesEven, HasDual, IsDualAnswer}
+use Rattle.ct_dual_files.proofs.DualFieldLemmas.{even-stated, even-read, even-err}
+use Rattle.ct_dual_files.proofs.AfterMark.{small_degree, HasNumbers, dual_with, IsAfter, without_multipliers, without_allowances, citing_wrong, with_other, all_right, after_mark, after_mark-from}
 
 -- a wrong entry is answered as it is said
 entry_answer : (document : Data) (name : FieldName) → IsPlainEntryFault document name → IsDualAnswer document (Err (Field name))
 entry_answer document name.N none = none
 entry_answer document name.D none = none
 entry_answer document name never = absurd never
+
+-- so is what stands after the mark
+stated : (document : Data) (d : Dual) → IsOfKind (codes "dual") document → StatesEven document d.entry d.even → HasNumbers document d → HasDual document d
+stated document d of_kind states has = record { of_kind = of_kind; entry = states; multipliers = has.multipliers; allowances = has.allowances }
+
+after_answer : (document : Data) (e : Entry) (even : Bool) (answer : Result Dual FileFault) → IsOfKind (codes "dual") document → StatesEven document e even
+    → IsAfter dual_fields document e even answer → IsDualAnswer document answer
+after_answer document e even answer of_kind states (without_multipliers none is) = subst (IsDualAnswer document) (sym is) (e, even, states, none)
+after_answer document e even answer of_kind states (without_allowances c at_c none is) =
+    subst (IsDualAnswer document) (sym is) (e, even, c, states, at_c, none)
+after_answer document e even answer of_kind states (citing_wrong c y has wrong is) =
+    let d = dual_with e even c y in subst (IsDualAnswer document) (sym is) (d, stated document d of_kind states has, wrong)
+after_answer document e even answer of_kind states (with_other c y has right key other is) =
+    let d = dual_with e even c y in subst (IsDualAnswer document) (sym is) (d, key, stated document d of_kind states has, right, other)
+after_answer document e even answer of_kind states (all_right c y has last is) =
+    let d = dual_with e even c y in subst (IsDualAnswer document) (sym is) (record { fields = stated document d of_kind states has; last = last })
 
 -- the answer to a document of kind dual comes where it is said to come
 dual_answer : (ms : Members) → IsOfKind (codes "dual") (table ms) → IsDualAnswer (table ms) (dual_of (table ms))
@@ -43,40 +51,12 @@ dual_answer ms of_kind =
     let entry = plain_entry_of-ok document e e-is in
     bind-cases P (even_field e.d document) _ (λ even even-is.
     let states : StatesEven document e even = record { entry = entry; marked = even-stated e.d document even even-is } in
-    bind-cases P (multipliers_field e document) _ (λ c c-is.
-    let at_c = multipliers-stated e document c c-is in
-    bind-cases P (allowances_field e even document) _ (λ y y-is.
-    let d : Dual = record { entry = e; even = even; c = c; y = y } in
-    let fields : HasDual document d = record { of_kind = of_kind; entry = states; multipliers = at_c; allowances = allowances-stated e even document y y-is } in
-    bind-cases P (last_fields dual_fields document) _ (λ passed last-is. record { fields = fields; last = last_fields-ok dual_fields ms passed last-is })
-    (λ fault wrong.
-    elim (last_fields-err dual_fields ms fault wrong) [
-      | wrong_cites is cites ↦ subst (λ f. P (Err f)) is (d, fields, cites)
-      | other_key is right key other ↦ subst (λ f. P (Err f)) is (d, key, fields, right, other)
-    ]))
-    (λ fault wrong.
-    subst (λ f. P (Err f)) (allowances-err e even document fault wrong)
-    (e, even, c, states, at_c, λ y has. let read = allowances-read e even document y (small_degree document e entry) has in cc)))
-    (λ fault wrong.
-    subst (λ f. P (Err f)) (multipliers-err e document fault wrong)
-    (e, even, states, λ c has. let read = multipliers-read e document c has in cc)))
+    after_answer document e even (dual_after e even dual_fields document) of_kind states (after_mark dual_fields ms e even (small_degree document e entry)))
     (λ fault wrong.
     subst (λ f. P (Err f)) (even-err e.d document fault wrong) (e, entry, λ even has. let read = even-read e.d document even has in cc)))
     (λ fault wrong.
     let (name, is, first) = plain_entry_of-err document fault wrong in
     subst (λ f. P (Err f)) is (entry_answer document name first))
-
--- the steps up to the keys
-reads_fields : (document : Data) (d : Dual) (answer : Result Dual FileFault) → HasDual document d
-    → (last_fields dual_fields document >>= (λ _. Ok d)) ≡ answer → dual_of document ≡ answer
-unfolding dual_of
-reads_fields document d answer has rest =
-    bind-at (plain_entry_of document) _ d.entry (plain_entry_of-from document d.entry has.entry.entry)
-    ∙ bind-at (even_field d.entry.d document) _ d.even (even-read d.entry.d document d.even has.entry.marked)
-    ∙ bind-at (multipliers_field d.entry document) _ d.c (multipliers-read d.entry document d.c has.multipliers)
-    ∙ bind-at (allowances_field d.entry d.even document) _ d.y
-    (allowances-read d.entry d.even document d.y (small_degree document d.entry has.entry.entry) has.allowances)
-    ∙ rest
 
 -- a document without its entry
 without_entry : (document : Data) (name : FieldName) → IsPlainEntryFault document name → dual_of document ≡ Err (Field name)
@@ -91,40 +71,33 @@ without_mark document e entry none =
     ∙ bind-at_err (even_field e.d document) _ (Field name.Even)
     (only_fault _ (Field name.Even) (λ even is. none even (even-stated e.d document even is)) (even-err e.d document))
 
--- one without multipliers
-without_multipliers : (document : Data) (e : Entry) (even : Bool) → StatesEven document e even → ((c : List ℤ) → ¬ (HasMultipliers e document c))
-    → dual_of document ≡ Err (Field name.C)
+-- one with both
+with_mark : (ms : Members) (e : Entry) (even : Bool) (answer : Result Dual FileFault) → StatesEven (table ms) e even → IsAfter dual_fields (table ms) e even answer
+    → dual_of (table ms) ≡ answer
 unfolding dual_of
-without_multipliers document e even states none =
-    bind-at (plain_entry_of document) _ e (plain_entry_of-from document e states.entry)
-    ∙ bind-at (even_field e.d document) _ even (even-read e.d document even states.marked)
-    ∙ bind-at_err (multipliers_field e document) _ (Field name.C)
-    (only_fault _ (Field name.C) (λ c is. none c (multipliers-stated e document c is)) (multipliers-err e document))
+with_mark ms e even answer states after =
+    bind-at (plain_entry_of (table ms)) _ e (plain_entry_of-from (table ms) e states.entry)
+    ∙ bind-at (even_field e.d (table ms)) _ even (even-read e.d (table ms) even states.marked)
+    ∙ after_mark-from dual_fields ms e even answer (small_degree (table ms) e states.entry) after
 
--- one with wrong allowances
-without_allowances : (document : Data) (e : Entry) (even : Bool) (c : List ℤ) → StatesEven document e even → HasMultipliers e document c
-    → ((y : List (ℕ × ℤ)) → ¬ (HasAllowances e even document y)) → dual_of document ≡ Err (Field name.Y)
-unfolding dual_of
-without_allowances document e even c states at_c none =
-    bind-at (plain_entry_of document) _ e (plain_entry_of-from document e states.entry)
-    ∙ bind-at (even_field e.d document) _ even (even-read e.d document even states.marked)
-    ∙ bind-at (multipliers_field e document) _ c (multipliers-read e document c at_c)
-    ∙ bind-at_err (allowances_field e even document) _ (Field name.Y)
-    (only_fault _ (Field name.Y) (λ y is. none y (allowances-stated e even document y is)) (allowances-err e even document))
+numbers : (document : Data) (d : Dual) → HasDual document d → HasNumbers document d
+numbers document d has = record { multipliers = has.multipliers; allowances = has.allowances }
 
 -- where an answer is said to come, it comes
 pub dual_answer-from : (ms : Members) (answer : Result Dual FileFault) → IsDualAnswer (table ms) answer → dual_of (table ms) ≡ answer
-dual_answer-from ms (Ok d) states = reads_fields (table ms) d (Ok d) states.fields (rw (last_fields-from dual_fields ms states.last) refl)
+dual_answer-from ms (Ok d) states =
+    with_mark ms d.entry d.even (Ok d) states.fields.entry (all_right d.c d.y (numbers (table ms) d states.fields) states.last refl)
 dual_answer-from ms (Err (Field name.N)) first = without_entry (table ms) name.N first
 dual_answer-from ms (Err (Field name.D)) first = without_entry (table ms) name.D first
 dual_answer-from ms (Err (Field name.Even)) (e, entry, none) = without_mark (table ms) e entry none
-dual_answer-from ms (Err (Field name.C)) (e, even, states, none) = without_multipliers (table ms) e even states none
-dual_answer-from ms (Err (Field name.Y)) (e, even, c, states, at_c, none) = without_allowances (table ms) e even c states at_c none
+dual_answer-from ms (Err (Field name.C)) (e, even, states, none) = with_mark ms e even (Err (Field name.C)) states (without_multipliers none refl)
+dual_answer-from ms (Err (Field name.Y)) (e, even, c, states, at_c, none) =
+    with_mark ms e even (Err (Field name.Y)) states (without_allowances c at_c none refl)
 dual_answer-from ms (Err (Field name.Cites)) (d, fields, wrong) =
-    reads_fields (table ms) d (Err (Field name.Cites)) fields (rw (last_fields-wrong dual_fields (table ms) wrong) refl)
+    with_mark ms d.entry d.even (Err (Field name.Cites)) fields.entry (citing_wrong d.c d.y (numbers (table ms) d fields) wrong refl)
 dual_answer-from ms (Err (Field name)) never = absurd never
 dual_answer-from ms (Err Unknown) (d, key, fields, right, other) =
-    reads_fields (table ms) d (Err Unknown) fields (rw (last_fields-other dual_fields ms key right other) refl)
+    with_mark ms d.entry d.even (Err Unknown) fields.entry (with_other d.c d.y (numbers (table ms) d fields) right key other refl)
 dual_answer-from ms (Err (Bytes b)) never = absurd never
 dual_answer-from ms (Err NotToml) never = absurd never
 dual_answer-from ms (Err Kind) never = absurd never

@@ -11,20 +11,24 @@ use Rattle.ct_words.specs.declared.limits.TheConstants.{MAX_N}
 use Rattle.ct_codes.specs.declared.entry.Entry.{Entry}
 use Rattle.ct_fields.specs.Field.{field_text}
 use Rattle.ct_fields.specs.Steps.{◌>>=◌, check}
-use Rattle.ct_fields.specs.Fields.{field, number_in}
+use Rattle.ct_fields.specs.Fields.{field, number_in, number_field}
 use Rattle.ct_fields.specs.StatedEntry.{has_field}
 use Rattle.ct_fields.specs.declared.field.FieldName.TheVariants as name
 use Rattle.ct_fields.specs.declared.fault.FileFault.{FileFault}
 use Rattle.ct_fields.specs.declared.fault.FileFault.TheVariants.{Field}
-use Rattle.ct_fields.proofs.StepLemmas.{bind-ok, bind-err, check-ok, check-err, ok_or-ok, ok_or-err}
+use Rattle.ct_fields.proofs.StepLemmas.{bind-at, bind-ok, bind-err, check-ok, check-err, ok_or-ok, ok_or-err}
+use Rattle.ct_fields.proofs.FieldLemmas.{number_field-ok, number_field-from}
+use Rattle.ct_fields.proofs.EntryAnswers.{number_field-err}
 use Rattle.ct_fields.specs.Forms.{pair_in, all_of}
 use Rattle.ct_fields.proofs.FormLemmas.{ReadsBack, pair-reads, all-some, all-from, integer-reads, index-reads}
+use Rattle.ct_parity.specs.declared.sums.TheConstants.{MAX_ODD}
 use Rattle.ct_duals.specs.Dual.{degree_of, is_in_range}
 use Rattle.ct_duals.specs.Form.{is_number, are_multipliers, are_allowances_from, are_allowances}
 use Rattle.ct_duals.proofs.FormLemmas.{multipliers-from, allowances-from}
-use Rattle.ct_dual_files.specs.Fields.{multipliers_in, allowances_in, even_field, multipliers_field, allowances_field}
+use Rattle.ct_dual_files.specs.Fields.{multipliers_in, allowances_in, even_field, odd_size_field, multipliers_field, allowances_field}
 use Rattle.ct_dual_files.specs.WrittenDuals.{integer_list, index_pair, pair_list}
 use Rattle.ct_dual_files.specs.DualDocument.{HasEven, HasMultipliers, AreAllowances, HasAllowances}
+use Rattle.ct_dual_files.specs.OddDocument.{HasOddSize}
 
 -- a value that is a truth value
 as_bool-some : (d : Data) (b : Bool) → as_bool d ≡ Some b → d ≡ boolean b
@@ -202,3 +206,25 @@ even-err d document fault h = go (has_field name.Even document) h
         | inr (u, passed, last) ↦ absurd cc
       ]
     ]
+
+-- the number of words is read exactly where it is stated
+pub odd_size-stated : (document : Data) (m : ℕ) → odd_size_field document ≡ Ok m → HasOddSize document m
+odd_size-stated document m read =
+    let (k, found, rest) = bind-ok (number_field name.M 3 MAX_ODD document) _ m read in
+    let (u, passes, last) = bind-ok (check (k % 2 == 1) (Field name.M)) _ m rest in
+    let same : k ≡ m = cc in
+    let (has, low, high) = number_field-ok name.M 3 MAX_ODD document k found in
+    subst (HasOddSize document) same (has, (low, high, eqb-true (k % 2) 1 (check-ok (k % 2 == 1) (Field name.M) u passes)))
+
+pub odd_size-read : (document : Data) (m : ℕ) → HasOddSize document m → odd_size_field document ≡ Ok m
+odd_size-read document m (has, (low, high, odd)) =
+    bind-at (number_field name.M 3 MAX_ODD document) _ m (number_field-from name.M 3 MAX_ODD document m (has, low, high)) ∙ rw (eq-eqb (m % 2) 1 odd) refl
+
+pub odd_size-err : (document : Data) (fault : FileFault) → odd_size_field document ≡ Err fault → Field name.M ≡ fault
+odd_size-err document fault h = elim (bind-err (number_field name.M 3 MAX_ODD document) _ fault h) [
+  | inl wrong ↦ number_field-err name.M 3 MAX_ODD document fault wrong
+  | inr (k, found, rest) ↦ elim (bind-err (check (k % 2 == 1) (Field name.M)) _ fault rest) [
+    | inl even ↦ (check-err (k % 2 == 1) (Field name.M) fault even).1
+    | inr (u, passed, last) ↦ absurd cc
+  ]
+]

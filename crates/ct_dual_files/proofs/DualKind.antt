@@ -1,33 +1,40 @@
--- Evidence of kind dual or jdual.
+-- Evidence of kind dual, jdual or odd.
 use Rattle.std.proofs.Common.{◌≡◌, ℕ, List, Option, Some, None, option_map, refl, ap}
 use Rattle.ct_duals.specs.declared.dual.Dual.{Dual}
 use Rattle.ct_duals.specs.declared.fault.DualFault.{DualFault}
 use Rattle.ct_duals.specs.Dual.{IsDual}
+use Rattle.ct_duals.specs.Bound.{AcceptedValue, IsAccepted}
 use Rattle.ct_duals.specs.Check.{dual_fault}
 use Rattle.ct_duals.proofs.Faults.{below-from_none, none-from_below, accepted-from_none}
 use Rattle.ct_codes.specs.Numbers.{numbers_of}
 use Rattle.ct_codes.specs.declared.entry.Entry.{Entry}
-use Rattle.ct_rule_parts.specs.declared.support.Support.TheVariants.{Size}
+use Rattle.ct_rule_parts.specs.declared.support.Support.{Support}
+use Rattle.ct_rule_parts.specs.declared.support.Support.TheVariants.{Bound, Odd, Size}
 use Rattle.ct_rule_parts.specs.Support.{Stands}
 use Rattle.ct_kind.specs.Named.{NamedCode}
-use Rattle.ct_dual_files.specs.DualKind.{dual_kind, dual_support, IsDualChecked}
+use Rattle.ct_dual_files.specs.DualKind.{with_at_zero, support_by, kind_by, dual_kind, dual_support, odd_kind, odd_support, IsDualChecked}
 use Rattle.ct_kind.specs.declared.fault.SubmitFault.TheVariants as fault
 use Rattle.ct_kind.proofs.Stating.{option_map-none, StatesWell, SaysSame}
 
--- what an accepted dual gives stands
-dual_stands : (d : Dual) → IsDual d → (o : Option DualFault) → dual_fault (numbers_of d.entry) d ≡ o → Stands (dual_support o d)
-dual_stands d form None none = accepted-from_none d form none
-dual_stands d form (Some reason) is = tt
+-- what an accepted dual gives stands, where it does of each that is accepted
+support_stands : (given : AcceptedValue → Support) → ((a : AcceptedValue) → IsAccepted a → Stands (given a)) → (d : Dual) → IsDual d → (o : Option DualFault)
+    → dual_fault (numbers_of d.entry) d ≡ o → Stands (support_by given o d)
+support_stands given stands d form None none = stands (with_at_zero d) (accepted-from_none d form none)
+support_stands given stands d form (Some reason) is = tt
 
 -- nor is it a size
 pub gives_no_size : (d : Dual) (o : Option DualFault) (e : Entry) (size : ℕ) → dual_support o d ≡ Size e size → ⊥
 gives_no_size d None e size h = absurd cc
 gives_no_size d (Some reason) e size h = absurd cc
 
--- a dual against which there is no reason is one, whatever the word of its kind
-pub dual_states : (known : List NamedCode) (text : List ℕ) (d : Dual) → IsDual d → (dual_kind text d).reason known ≡ None
-    → StatesWell (dual_kind text d) known (IsDualChecked d)
-dual_states known text d form own =
+pub odd_gives_no_size : (d : Dual) (m : ℕ) (o : Option DualFault) (e : Entry) (size : ℕ) → odd_support m o d ≡ Size e size → ⊥
+odd_gives_no_size d m None e size h = absurd cc
+odd_gives_no_size d m (Some reason) e size h = absurd cc
+
+-- a dual against which there is no reason is one, whatever the word of its kind and what it gives
+kind_states : (given : AcceptedValue → Support) → ((a : AcceptedValue) → IsAccepted a → Stands (given a)) → (known : List NamedCode) (text : List ℕ) (d : Dual)
+    → IsDual d → (kind_by given text d).reason known ≡ None → StatesWell (kind_by given text d) known (IsDualChecked d)
+kind_states given stands known text d form own =
     record {
       entry = form.entry;
       checked = below-from_none (numbers_of d.entry) d (option_map-none fault.Dual _ own);
@@ -35,8 +42,16 @@ dual_states known text d form own =
       code = tt;
       size = λ yes. absurd cc;
       partition = tt;
-      stands = dual_stands d form (dual_fault (numbers_of d.entry) d) refl;
+      stands = support_stands given stands d form (dual_fault (numbers_of d.entry) d) refl;
     }
+
+pub dual_states : (known : List NamedCode) (text : List ℕ) (d : Dual) → IsDual d → (dual_kind text d).reason known ≡ None
+    → StatesWell (dual_kind text d) known (IsDualChecked d)
+dual_states known text d form own = kind_states Bound (λ a accepted. accepted) known text d form own
+
+pub odd_states : (known : List NamedCode) (text : List ℕ) (d : Dual) (m : ℕ) → IsDual d → (odd_kind text d m).reason known ≡ None
+    → StatesWell (odd_kind text d m) known (IsDualChecked d)
+odd_states known text d m form own = kind_states (λ accepted. Odd accepted m) (λ a accepted. accepted) known text d form own
 
 -- a dual has no reason against it
 pub dual_accepted : (d : Dual) → IsDualChecked d → option_map fault.Dual (dual_fault (numbers_of d.entry) d) ≡ None
@@ -45,3 +60,6 @@ dual_accepted d checked = ap (option_map fault.Dual) (none-from_below (numbers_o
 -- it is the same over all codes
 pub dual_same : (text : List ℕ) (d : Dual) (left right : List NamedCode) → SaysSame (dual_kind text d) left right
 dual_same text d left right = record { reason = refl; words = refl; size = refl }
+
+pub odd_same : (text : List ℕ) (d : Dual) (m : ℕ) (left right : List NamedCode) → SaysSame (odd_kind text d m) left right
+odd_same text d m left right = record { reason = refl; words = refl; size = refl }

@@ -10,15 +10,17 @@ use Rattle.ct_codes.proofs.EntryLemmas.{entry_from_limits}
 use Rattle.ct_fields.specs.Reads.{Reads}
 use Rattle.ct_fields.specs.LastFields.{last_fields}
 use Rattle.ct_fields.specs.StatedEntry.{plain_entry_of}
+use Rattle.ct_fields.specs.declared.field.FieldName.{FieldName}
 use Rattle.ct_fields.specs.declared.fault.FileFault.{FileFault}
 use Rattle.ct_fields.proofs.StepLemmas.{bind-ok}
 use Rattle.ct_fields.proofs.EntryAnswers.{plain_entry_of-ok}
 use Rattle.ct_duals.specs.declared.dual.Dual.{Dual}
 use Rattle.ct_duals.specs.Dual.{IsPlainOf, IsDual}
-use Rattle.ct_dual_files.specs.Fields.{even_field, multipliers_field, allowances_field}
-use Rattle.ct_dual_files.specs.Dual.{dual_of, weighted_entry_of, johnson_dual_of}
+use Rattle.ct_dual_files.specs.Fields.{even_field, odd_size_field, multipliers_field, allowances_field}
+use Rattle.ct_dual_files.specs.Dual.{dual_after, dual_of, odd_of, weighted_entry_of, johnson_dual_of}
 use Rattle.ct_dual_files.specs.DualDocument.{dual_fields, johnson_dual_fields, HasEven, HasMultipliers, AreAllowances, HasAllowances, StatesEven, StatesWeightedEntry}
-use Rattle.ct_dual_files.proofs.DualFieldLemmas.{IsAllowance, multipliers-stated, allowances-stated, even-stated}
+use Rattle.ct_dual_files.specs.OddDocument.{odd_fields, IsOddSize}
+use Rattle.ct_dual_files.proofs.DualFieldLemmas.{IsAllowance, multipliers-stated, allowances-stated, even-stated, odd_size-stated}
 use Rattle.ct_dual_files.proofs.JohnsonDualAnswers.{weighted-ok}
 
 -- a mark is set only beside an even distance
@@ -84,19 +86,37 @@ formed_weighted document d states unmarked (has, some, few, all, small) empty =
 same_ok : {A : Type 0} (x y : A) → ◌≡◌ {A = Result A FileFault} (Ok x) (Ok y) → x ≡ y
 same_ok x y e = cc
 
--- a document of kind dual states one
+-- the fields after the mark state one
+after-formed : (names : List FieldName) (document : Data) (e : Entry) (even : Bool) (d : Dual) → StatesEven document e even
+    → dual_after e even names document ≡ Ok d → IsDual d
+after-formed names document e even d states h =
+    let (c, c-is, h1) = bind-ok (multipliers_field e document) _ d h in
+    let (y, y-is, h2) = bind-ok (allowances_field e even document) _ d h1 in
+    let stated : Dual = record { entry = e; even = even; c = c; y = y } in
+    let (u, u-is, h3) = bind-ok (last_fields names document) (λ _. Ok stated) d h2 in
+    subst IsDual (same_ok stated d h3)
+    (formed_plain document stated states (multipliers-stated e document c c-is) (allowances-stated e even document y y-is))
+
+-- so a document of kind dual does
 dual_of-formed : (document : Data) (d : Dual) → dual_of document ≡ Ok d → IsDual d
 unfolding dual_of
 dual_of-formed document d h =
     let (e, e-is, h1) = bind-ok (plain_entry_of document) _ d h in
     let (even, even-is, h2) = bind-ok (even_field e.d document) _ d h1 in
-    let (c, c-is, h3) = bind-ok (multipliers_field e document) _ d h2 in
-    let (y, y-is, h4) = bind-ok (allowances_field e even document) _ d h3 in
-    let stated : Dual = record { entry = e; even = even; c = c; y = y } in
-    let (u, u-is, h5) = bind-ok (last_fields dual_fields document) (λ _. Ok stated) d h4 in
     let states : StatesEven document e even = record { entry = plain_entry_of-ok document e e-is; marked = even-stated e.d document even even-is } in
-    subst IsDual (same_ok stated d h5)
-    (formed_plain document stated states (multipliers-stated e document c c-is) (allowances-stated e even document y y-is))
+    after-formed dual_fields document e even d states h2
+
+-- and one of kind odd, with an odd number of words
+odd_of-formed : (document : Data) (odd : Dual × ℕ) → odd_of document ≡ Ok odd → IsDual odd.0 × IsOddSize odd.1
+unfolding odd_of
+odd_of-formed document odd h =
+    let (e, e-is, h1) = bind-ok (plain_entry_of document) _ odd h in
+    let (even, even-is, h2) = bind-ok (even_field e.d document) _ odd h1 in
+    let (m, m-is, h3) = bind-ok (odd_size_field document) _ odd h2 in
+    let (d, d-is, h4) = bind-ok (dual_after e even odd_fields document) (λ d. Ok (d, m)) odd h3 in
+    let states : StatesEven document e even = record { entry = plain_entry_of-ok document e e-is; marked = even-stated e.d document even even-is } in
+    let both : IsDual d × IsOddSize m = (after-formed odd_fields document e even d states d-is, (odd_size-stated document m m-is).1) in
+    subst (λ (o : Dual × ℕ). IsDual o.0 × IsOddSize o.1) (same_ok (d, m) odd h4) both
 
 -- a document of kind jdual states a dual
 johnson_dual_of-formed : (document : Data) (d : Dual) → johnson_dual_of document ≡ Ok d → IsDual d
@@ -113,6 +133,14 @@ johnson_dual_of-formed document d h =
 pub formed_dual : (document : Data) (r : Result Dual FileFault) → Reads (λ dual. dual) r (dual_of document) → IfOk r IsDual
 formed_dual document (Ok d) reads = dual_of-formed document d reads
 formed_dual document (Err fault) reads = tt
+
+pub formed_odd : (document : Data) (r : Result (Dual × ℕ) FileFault) → Reads (λ odd. odd) r (odd_of document) → IfOk r (λ odd. IsDual odd.0)
+formed_odd document (Ok odd) reads = (odd_of-formed document odd reads).0
+formed_odd document (Err fault) reads = tt
+
+pub sized_odd : (document : Data) (r : Result (Dual × ℕ) FileFault) → Reads (λ odd. odd) r (odd_of document) → IfOk r (λ odd. IsOddSize odd.1)
+sized_odd document (Ok odd) reads = (odd_of-formed document odd reads).1
+sized_odd document (Err fault) reads = tt
 
 pub formed_johnson_dual : (document : Data) (r : Result Dual FileFault) → Reads (λ dual. dual) r (johnson_dual_of document) → IfOk r IsDual
 formed_johnson_dual document (Ok d) reads = johnson_dual_of-formed document d reads

@@ -1,6 +1,8 @@
 mod EntryLemmas
 mod DualFieldLemmas
+mod AfterMark
 pub mod DualAnswers
+pub mod OddAnswers
 pub mod JohnsonDualAnswers
 pub mod FormedDuals
 pub mod WrittenDuals

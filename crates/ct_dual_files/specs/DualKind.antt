@@ -1,23 +1,28 @@
--- Evidence of kind dual or jdual: a dual of Delsarte's linear program, which is judged by its own numbers.
+-- Evidence of kind dual, jdual or odd: a dual of Delsarte's linear program, which is judged by its own numbers.
 use Rattle.std.specs.Prelude.{◌≤ℤ◌, ℕ, pos, false, List, [], Option, Some, None, option_map}
 use Rattle.ct_duals.specs.declared.dual.Dual.{Dual}
 use Rattle.ct_duals.specs.declared.fault.DualFault.{DualFault}
+use Rattle.ct_duals.specs.Bound.{AcceptedValue}
 use Rattle.ct_duals.specs.Check.{dual_fault, IsBelow}
 use Rattle.ct_codes.specs.Numbers.{numbers_of, multiplier, combination}
 use Rattle.ct_rule_parts.specs.declared.support.Support.{Support}
-use Rattle.ct_rule_parts.specs.declared.support.Support.TheVariants.{Nothing, Bound}
+use Rattle.ct_rule_parts.specs.declared.support.Support.TheVariants.{Nothing, Bound, Odd}
 use Rattle.ct_kind.specs.KindParts.{KindParts}
 use Rattle.ct_kind.specs.declared.fault.SubmitFault.TheVariants as fault
 
--- what a dual gives to the table where there is this reason against it: its bound where there is none
-abbrev pub dual_support : Option DualFault → Dual → Support
-dual_support None d = Bound (record { dual = d; at_zero = combination (numbers_of d.entry) d.c 0 })
-dual_support (Some reason) d = Nothing
+-- a dual with its f(0)
+abbrev pub with_at_zero : Dual → AcceptedValue
+with_at_zero d = record { dual = d; at_zero = combination (numbers_of d.entry) d.c 0 }
 
--- a dual has no code and no size, names no part and stores no words; its check is that of the numbers of its entry's scheme, and it gives its bound;
--- of this word of a kind
-abbrev pub dual_kind : List ℕ → Dual → KindParts
-dual_kind text d = record {
+-- what a dual gives to the table where there is this reason against it: nothing; and where there is none, what is given by it with its f(0)
+abbrev pub support_by : (AcceptedValue → Support) → Option DualFault → Dual → Support
+support_by given None d = given (with_at_zero d)
+support_by given (Some reason) d = Nothing
+
+-- what evidence comes to that is a dual and gives this to the table where it is accepted, of this word of a kind: it has no code and no size, names
+-- no part and stores no words, and its check is that of the numbers of its entry's scheme
+abbrev pub kind_by : (AcceptedValue → Support) → List ℕ → Dual → KindParts
+kind_by given text d = record {
   text = text;
   entry = d.entry;
   parts = [];
@@ -28,8 +33,22 @@ dual_kind text d = record {
   partition = None;
   listed = 0;
   is_stored = false;
-  gives = λ size. dual_support (dual_fault (numbers_of d.entry) d) d;
+  gives = λ size. support_by given (dual_fault (numbers_of d.entry) d) d;
 }
+
+-- a dual of kind dual or jdual gives its bound
+abbrev pub dual_support : Option DualFault → Dual → Support
+dual_support = support_by Bound
+
+abbrev pub dual_kind : List ℕ → Dual → KindParts
+dual_kind = kind_by Bound
+
+-- one of kind odd gives that it may exclude so many words
+abbrev pub odd_support : ℕ → Option DualFault → Dual → Support
+odd_support m = support_by (λ accepted. Odd accepted m)
+
+abbrev pub odd_kind : List ℕ → Dual → ℕ → KindParts
+odd_kind text d m = kind_by (λ accepted. Odd accepted m) text d
 
 -- c_0 is at least 1, and f(i) is at most what is allowed at each index that two words of a code of the entry may have
 abbrev pub IsDualChecked : Dual → Type 0

@@ -4,13 +4,14 @@ use Rattle.std.specs.Option.{option_and_then}
 use Rattle.toml.specs.Data.{Data, array, as_integer, as_bool}
 use Rattle.ct_words.specs.declared.limits.TheConstants.{MAX_N}
 use Rattle.ct_codes.specs.declared.entry.Entry.{Entry}
-use Rattle.ct_fields.specs.Steps.{◌>>=◌, check}
-use Rattle.ct_fields.specs.Fields.{field, number_in}
+use Rattle.ct_fields.specs.Steps.{◌>>=◌, ◌>>◌, check}
+use Rattle.ct_fields.specs.Fields.{field, number_in, number_field}
 use Rattle.ct_fields.specs.Forms.{pair_in, all_of}
 use Rattle.ct_fields.specs.StatedEntry.{has_field}
 use Rattle.ct_fields.specs.declared.field.FieldName.TheVariants as name
 use Rattle.ct_fields.specs.declared.fault.FileFault.{FileFault}
 use Rattle.ct_fields.specs.declared.fault.FileFault.TheVariants.{Field}
+use Rattle.ct_parity.specs.declared.sums.TheConstants.{MAX_ODD}
 use Rattle.ct_duals.specs.Form.{are_multipliers, are_allowances}
 
 -- the multipliers that a list is: 1 to degree + 1 whole numbers of at least 0, in 64 signed bits
@@ -29,6 +30,13 @@ even_field d document =
     if has_field name.Even document then
     field as_bool name.Even document >>= (λ even. check (not even || d % 2 == 0) (Field name.Even) >>= (λ _. Ok even))
     else Ok false
+
+-- the number of words that parity may exclude: odd, from 3 to MAX_ODD
+abbrev pub odd_size_field : Data → Result ℕ FileFault
+odd_size_field document = do
+  m ← number_field name.M 3 MAX_ODD document
+  check (m % 2 == 1) (Field name.M)
+  Ok m
 
 -- the multipliers
 abbrev pub multipliers_field : Entry → Data → Result (List ℤ) FileFault

@@ -2,6 +2,7 @@ pub mod Fields
 pub mod Dual
 pub mod WrittenDuals
 pub mod DualDocument
+pub mod OddDocument
 pub mod Examples
 pub mod DualKind
 pub mod DualFaultText

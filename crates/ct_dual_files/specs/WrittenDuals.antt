@@ -18,10 +18,18 @@ index_pair = pair_data (λ k. integer (pos k)) integer
 abbrev pub pair_list : List (ℕ × ℤ) → Data
 pair_list = list_data index_pair
 
--- the table of a dual without weight
+-- the table of a dual without weight, of this kind
+abbrev pub plain_table : List ℕ → Dual → Members
+plain_table kind d =
+    put name.Y (pair_list d.y) (put name.C (integer_list d.c) (put name.Even (boolean d.even) (entry_table kind d.entry.n d.entry.d)))
+
+-- that of kind dual
 abbrev pub dual_table : Dual → Members
-dual_table d =
-    put name.Y (pair_list d.y) (put name.C (integer_list d.c) (put name.Even (boolean d.even) (entry_table (codes "dual") d.entry.n d.entry.d)))
+dual_table = plain_table (codes "dual")
+
+-- that of kind odd, with the number of words
+abbrev pub odd_table : Dual → ℕ → Members
+odd_table d m = put name.M (integer (pos m)) (plain_table (codes "odd") d)
 
 -- the table of a dual with a weight
 abbrev pub johnson_dual_table : Dual → Members

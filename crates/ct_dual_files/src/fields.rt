@@ -3,11 +3,12 @@ ghost use Rattle.std.specs.Prelude.{◌≡◌};
 ghost use Rattle.toml.specs.View.{view};
 ghost use Rattle.ct_codes.specs.Entry.{IsEntry};
 ghost use Rattle.ct_fields.specs.Reads.{Reads};
-ghost use Rattle.ct_dual_files.specs.Fields.{even_field, multipliers_field, allowances_field};
+ghost use Rattle.ct_dual_files.specs.Fields.{even_field, odd_size_field, multipliers_field, allowances_field};
 
 use ct_codes::Entry;
 use ct_duals::{are_allowances, are_multipliers};
-use ct_fields::{FieldName, FileFault, all_of, has_field};
+use ct_fields::{FieldName, FileFault, all_of, has_field, number_field};
+use ct_parity::MAX_ODD;
 use std::alloc::Global;
 use toml::Value;
 
@@ -27,6 +28,17 @@ pub(crate) fn even_field(d: u32, document: &Value) -> Result<bool, FileFault>
         }
         _ => Err(FileFault::Field(FieldName::Even)),
     }
+}
+
+/// The number of words that parity may exclude.
+pub(crate) fn odd_size_field(document: &Value) -> Result<u32, FileFault>
+    ensures { result ≡ odd_size_field (view document.now) }
+{
+    let m = number_field(document, FieldName::M, 3, MAX_ODD)?;
+    if m % 2 != 1 {
+        return Err(FileFault::Field(FieldName::M));
+    }
+    Ok(m)
 }
 
 /// The multipliers.

@@ -1,43 +1,63 @@
 //! What documents of duals read as: where each answer comes, what is read back, why a dual is
 //! refused, and worked documents; the functions do nothing.
-ghost use Rattle.std.specs.Prelude.{◌≡◌, ◌↔◌, ℕ, List, [], ◌∷◌, true, false, pos, negsuc, Result, Ok, Err, Some, None, IsSome, codes};
-ghost use Rattle.toml.specs.Data.{table, Members};
+ghost use Rattle.std.specs.Prelude.{◌≡◌, ◌↔◌, ℕ, List, [], ◌∷◌, true, false, pos, negsuc, Result, Ok, Err, Option, Some, None, IsSome, codes};
+ghost use Rattle.toml.specs.Data.{string, integer, table, Members};
+ghost use Rattle.ct_codes.specs.Numbers.{numbers_of, combination};
 ghost use Rattle.ct_fields.specs.Tables.{IsOfKind};
 ghost use Rattle.ct_fields.specs.declared.fault.FileFault.{FileFault};
 ghost use Rattle.ct_fields.specs.declared.field.FieldName.TheVariants as name;
-ghost use Rattle.ct_fields.specs.declared.fault.FileFault.TheVariants.{Field};
+ghost use Rattle.ct_fields.specs.declared.fault.FileFault.TheVariants.{Field, Unknown};
+ghost use Rattle.ct_fields.specs.Written.{put};
 ghost use Rattle.ct_duals.specs.declared.dual.Dual.{Dual};
 ghost use Rattle.ct_duals.specs.Dual.{IsDual};
 ghost use Rattle.ct_kind.specs.Named.{NamedCode};
 ghost use Rattle.ct_kind.specs.declared.fault.SubmitFault.{SubmitFault};
-ghost use Rattle.ct_dual_files.specs.Dual.{dual_of, johnson_dual_of};
+ghost use Rattle.ct_rule_parts.specs.declared.support.Support.TheVariants.{Nothing, Odd};
+ghost use Rattle.ct_dual_files.specs.Dual.{dual_of, odd_of, johnson_dual_of};
 ghost use Rattle.ct_dual_files.specs.DualDocument.{IsDualAnswer, IsJohnsonDualAnswer};
-ghost use Rattle.ct_dual_files.specs.DualKind.{dual_kind};
+ghost use Rattle.ct_dual_files.specs.OddDocument.{IsOddSize, IsOddAnswer};
+ghost use Rattle.ct_dual_files.specs.DualKind.{dual_kind, odd_kind, IsDualChecked};
 ghost use Rattle.ct_dual_files.specs.DualRefusal.{IsDualRefusal};
-ghost use Rattle.ct_dual_files.specs.WrittenDuals.{dual_table, johnson_dual_table};
-ghost use Rattle.ct_dual_files.specs.Examples.{thirteen_six, eight_four_four, document};
+ghost use Rattle.ct_dual_files.specs.WrittenDuals.{plain_table, dual_table, odd_table, johnson_dual_table};
+ghost use Rattle.ct_dual_files.specs.Examples.{thirteen_six, eight_four_four, nine_four, document, odd_document};
 
-/// Where each answer comes for a table of kind dual, and for one of kind jdual: exactly where `IsDualAnswer` or
-/// `IsJohnsonDualAnswer` says, which field or which other fault it may be.
+/// Where each answer comes for a table of kind dual, for one of kind odd, and for one of kind jdual: exactly where `IsDualAnswer`,
+/// `IsOddAnswer` or `IsJohnsonDualAnswer` says, which field or which other fault it may be.
 pub fn answers_to_duals()
     ensures dual { (members : Members) (answer : Result Dual FileFault) → IsOfKind (codes "dual") (table members) →
         (dual_of (table members) ≡ answer) ↔ IsDualAnswer (table members) answer }
+    ensures odd { (members : Members) (answer : Result (Dual × ℕ) FileFault) → IsOfKind (codes "odd") (table members) →
+        (odd_of (table members) ≡ answer) ↔ IsOddAnswer (table members) answer }
     ensures johnson { (members : Members) (answer : Result Dual FileFault) → IsOfKind (codes "jdual") (table members) →
         (johnson_dual_of (table members) ≡ answer) ↔ IsJohnsonDualAnswer (table members) answer }
 {}
 
-/// Every dual reads back from its table: one without weight as of kind dual, one with a weight as of kind jdual.
+/// Every dual reads back from its table: one without weight as of kind dual, and with each odd number of words from 3 to `MAX_ODD` as of
+/// kind odd, one with a weight as of kind jdual.
 pub fn duals_read_back()
     ensures dual { (d : Dual) → IsDual d → d.entry.w ≡ None → dual_of (table (dual_table d)) ≡ Ok d }
+    ensures odd { (d : Dual) (m : ℕ) → IsDual d → d.entry.w ≡ None → IsOddSize m → odd_of (table (odd_table d m)) ≡ Ok (d, m) }
     ensures johnson { (d : Dual) → IsDual d → IsSome d.entry.w →
         johnson_dual_of (table (johnson_dual_table d)) ≡ Ok d }
 {}
 
 /// A dual is refused for a reason exactly where its plain condition holds: c_0 is below 1; or, where it isn't, f is above what is allowed at
-/// the index that is named and at no lesser one.
+/// the index that is named and at no lesser one. With an odd number of words it is refused for the same reasons, whatever the number.
 pub fn reasons_against_duals()
-    ensures { (known : List NamedCode) (text : List ℕ) (d : Dual) (reason : SubmitFault)
+    ensures dual { (known : List NamedCode) (text : List ℕ) (d : Dual) (reason : SubmitFault)
         → ((dual_kind text d).reason known ≡ Some reason) ↔ IsDualRefusal d reason }
+    ensures odd { (known : List NamedCode) (text : List ℕ) (d : Dual) (m : ℕ) (reason : SubmitFault)
+        → ((odd_kind text d m).reason known ≡ Some reason) ↔ IsDualRefusal d reason }
+{}
+
+/// What a dual gives to the table with an odd number of words: that parity may exclude so many by the dual with its f(0), where its
+/// conditions hold, and nothing where it is refused; it never gives its bound.
+pub fn odd_duals_give_their_sizes()
+    ensures accepted { (text : List ℕ) (d : Dual) (m : ℕ) (size : Option ℕ) → IsDualChecked d
+        → (odd_kind text d m).gives size ≡ Odd (record { dual = d; at_zero = combination (numbers_of d.entry) d.c 0 }) m }
+    ensures refused { (text : List ℕ) (d : Dual) (m : ℕ) (reason : SubmitFault) (size : Option ℕ) → IsDualRefusal d reason
+        → (odd_kind text d m).gives size ≡ Nothing }
+    ensures known { (size : Option ℕ) → (odd_kind (codes "odd") nine_four 21).gives size ≡ Odd (record { dual = nine_four; at_zero = pos 48 }) 21 }
 {}
 
 /// Two duals read back from their tables, and documents with a wrong field: `even` only with an even d; c not empty, and
@@ -51,4 +71,23 @@ pub fn known_documents()
     ensures odd_index { dual_of (document 6 true (pos 1 ∷ []) ((7, pos 1) ∷ [])) ≡ Err (Field name.Y) }
     ensures descending { dual_of (document 6 false (pos 1 ∷ []) ((8, pos 1) ∷ (7, pos 1) ∷ [])) ≡ Err (Field name.Y) }
     ensures near { dual_of (document 6 false (pos 1 ∷ []) ((5, pos 1) ∷ [])) ≡ Err (Field name.Y) }
+{}
+
+/// A dual with an odd number of words reads back from its table, with the least and the greatest number too; and documents with a wrong
+/// field: the number is judged after `even` and before `c`. In one of kind dual no number of words may stand, in one of kind odd no weight.
+pub fn known_odd_documents()
+    ensures read { odd_of (table (odd_table nine_four 21)) ≡ Ok (nine_four, 21) }
+    ensures least { odd_of (odd_document 4 (integer (pos 3)) nine_four.c) ≡ Ok (nine_four, 3) }
+    ensures greatest { odd_of (odd_document 4 (integer (pos 1048575)) nine_four.c) ≡ Ok (nine_four, 1048575) }
+    ensures missing { odd_of (table (plain_table (codes "odd") nine_four)) ≡ Err (Field name.M) }
+    ensures even_number { odd_of (odd_document 4 (integer (pos 20)) nine_four.c) ≡ Err (Field name.M) }
+    ensures one { odd_of (odd_document 4 (integer (pos 1)) nine_four.c) ≡ Err (Field name.M) }
+    ensures above { odd_of (odd_document 4 (integer (pos 1048577)) nine_four.c) ≡ Err (Field name.M) }
+    ensures negative { odd_of (odd_document 4 (integer (negsuc 20)) nine_four.c) ≡ Err (Field name.M) }
+    ensures text { odd_of (odd_document 4 (string (codes "21")) nine_four.c) ≡ Err (Field name.M) }
+    ensures before_multipliers { odd_of (odd_document 4 (integer (pos 20)) []) ≡ Err (Field name.M) }
+    ensures multipliers { odd_of (odd_document 4 (integer (pos 21)) []) ≡ Err (Field name.C) }
+    ensures after_even { odd_of (odd_document 5 (integer (pos 20)) []) ≡ Err (Field name.Even) }
+    ensures of_kind_dual { dual_of (table (put name.M (integer (pos 21)) (dual_table nine_four))) ≡ Err Unknown }
+    ensures weight { odd_of (table (put name.W (integer (pos 4)) (odd_table nine_four 21))) ≡ Err Unknown }
 {}

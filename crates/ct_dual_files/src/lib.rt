@@ -10,6 +10,9 @@ mod reading;
 mod written;
 
 pub use dual_fault_text::put_dual_fault;
-pub use laws::{answers_to_duals, duals_read_back, known_documents, reasons_against_duals};
-pub use reading::{dual_of, johnson_dual_of};
-pub use written::{dual_table, johnson_dual_table};
+pub use laws::{
+    answers_to_duals, duals_read_back, known_documents, known_odd_documents,
+    odd_duals_give_their_sizes, reasons_against_duals,
+};
+pub use reading::{dual_of, johnson_dual_of, odd_of};
+pub use written::{dual_table, johnson_dual_table, odd_table};

@@ -1,12 +1,15 @@
-//! Documents of kind dual and jdual.
+//! Documents of kind dual, odd and jdual.
 ghost use Rattle.std.specs.Prelude.{◌≡◌, IfOk};
 ghost use Rattle.toml.specs.View.{view};
 ghost use Rattle.ct_fields.specs.Reads.{Reads};
 ghost use Rattle.ct_duals.specs.Dual.{IsDual};
-ghost use Rattle.ct_dual_files.specs.Dual.{dual_of, johnson_dual_of};
+ghost use Rattle.ct_codes.specs.Entry.{IsEntry};
+ghost use Rattle.ct_dual_files.specs.Dual.{dual_after, dual_of, odd_of, johnson_dual_of};
+ghost use Rattle.ct_dual_files.specs.OddDocument.{IsOddSize};
 
 use crate::entries::{plain_entry_field, weighted_entry_field};
-use crate::fields::{allowances_field, even_field, multipliers_field};
+use crate::fields::{allowances_field, even_field, multipliers_field, odd_size_field};
+use ct_codes::Entry;
 use ct_duals::{Allowances, Dual, Multipliers};
 use ct_fields::{FieldName, FileFault, last_fields};
 use std::alloc::Global;
@@ -26,8 +29,6 @@ fn read_dual(alloc: Global, document: &Value) -> Result<Dual, FileFault>
 {
     let entry = plain_entry_field(document)?;
     let even = even_field(entry.d, document)?;
-    let c = multipliers_field(alloc, entry, document)?;
-    let y = allowances_field(alloc, entry, even, document)?;
     let names = [
         FieldName::N,
         FieldName::D,
@@ -35,7 +36,52 @@ fn read_dual(alloc: Global, document: &Value) -> Result<Dual, FileFault>
         FieldName::C,
         FieldName::Y,
     ];
-    last_fields(document, &names)?;
+    dual_after(alloc, entry, even, &names, document)
+}
+
+/// The dual and the number of words that the document states, of kind odd: the dual has the form of one, and the number is odd and from
+/// 3 to `ct_parity::MAX_ODD`.
+pub fn odd_of(alloc: Global, document: &Value) -> Result<(Dual, u32), FileFault>
+    ensures reads { Reads (λ odd. odd) result (odd_of (view document.now)) }
+    ensures form { IfOk result (λ odd. IsDual odd.0) }
+    ensures size { IfOk result (λ odd. IsOddSize odd.1) }
+{
+    read_odd(alloc, document)
+}
+
+#[tactic(auto, unfolding(crate::specs::Dual::odd_of))]
+fn read_odd(alloc: Global, document: &Value) -> Result<(Dual, u32), FileFault>
+    ensures { Reads (λ odd. odd) result (odd_of (view document.now)) }
+{
+    let entry = plain_entry_field(document)?;
+    let even = even_field(entry.d, document)?;
+    let m = odd_size_field(document)?;
+    let names = [
+        FieldName::N,
+        FieldName::D,
+        FieldName::Even,
+        FieldName::M,
+        FieldName::C,
+        FieldName::Y,
+    ];
+    let dual = dual_after(alloc, entry, even, &names, document)?;
+    Ok((dual, m))
+}
+
+/// The dual of the entry with the mark `even`, by the fields that come after it, in a document that has these fields.
+fn dual_after(
+    alloc: Global,
+    entry: Entry,
+    even: bool,
+    names: &[FieldName],
+    document: &Value,
+) -> Result<Dual, FileFault>
+    requires { IsEntry entry }
+    ensures { Reads (λ dual. dual) result (dual_after entry even names.now (view document.now)) }
+{
+    let c = multipliers_field(alloc, entry, document)?;
+    let y = allowances_field(alloc, entry, even, document)?;
+    last_fields(document, names)?;
     let c = Multipliers::from_vec(c);
     let y = Allowances::from_vec(y);
     Ok(Dual { entry, even, c, y })

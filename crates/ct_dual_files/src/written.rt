@@ -1,7 +1,7 @@
 //! The tables of duals.
 ghost use Rattle.std.specs.Prelude.{◌≡◌, IfOk};
 ghost use Rattle.toml.specs.View.{view, table_view};
-ghost use Rattle.ct_dual_files.specs.WrittenDuals.{integer_list, index_pair, pair_list, dual_table, johnson_dual_table};
+ghost use Rattle.ct_dual_files.specs.WrittenDuals.{integer_list, index_pair, pair_list, plain_table, dual_table, odd_table, johnson_dual_table};
 
 use ct_duals::Dual;
 use ct_fields::{FieldName, entry_table, put, put_weight};
@@ -12,7 +12,23 @@ use toml::{Table, Value};
 pub fn dual_table(alloc: Global, dual: &Dual) -> Result<Table, AllocError>
     ensures { IfOk result (λ table. table_view table ≡ dual_table dual.now) }
 {
-    let mut table = entry_table(alloc, "dual", dual.entry.n, dual.entry.d)?;
+    plain_table(alloc, "dual", dual)
+}
+
+/// The table of a dual without weight with a number of words.
+pub fn odd_table(alloc: Global, dual: &Dual, m: u32) -> Result<Table, AllocError>
+    ensures { IfOk result (λ table. table_view table ≡ odd_table dual.now m) }
+{
+    let mut table = plain_table(alloc, "odd", dual)?;
+    put(alloc, &mut table, FieldName::M, Value::from(m))?;
+    Ok(table)
+}
+
+/// The table of a dual without weight, of the kind.
+fn plain_table(alloc: Global, kind: &str, dual: &Dual) -> Result<Table, AllocError>
+    ensures { IfOk result (λ table. table_view table ≡ plain_table kind.now dual.now) }
+{
+    let mut table = entry_table(alloc, kind, dual.entry.n, dual.entry.d)?;
     put(
         alloc,
         &mut table,
