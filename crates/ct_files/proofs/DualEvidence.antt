@@ -1,17 +1,18 @@
--- Where each answer comes for a document of kind dual or jdual.
+-- Where each answer comes for a document of kind dual, jdual or odd.
 use Rattle.std.proofs.Common.{◌≡◌, codes, Result, Ok, Err, subst}
 use Rattle.std.specs.Prelude.{◌↔◌}
 use Rattle.toml.specs.Data.{table, Members}
 use Rattle.ct_fields.specs.Tables.{IsOfKind}
 use Rattle.ct_fields.specs.declared.fault.FileFault.{FileFault}
 use Rattle.ct_fields.proofs.StepLemmas.{bind-at, bind-at_err, bind-cases}
-use Rattle.ct_dual_files.specs.Dual.{dual_of, johnson_dual_of}
+use Rattle.ct_dual_files.specs.Dual.{dual_of, johnson_dual_of, odd_of}
 use Rattle.ct_dual_files.proofs.DualAnswers.{dual_answers, dual_answer-from}
 use Rattle.ct_dual_files.proofs.JohnsonDualAnswers.{johnson_dual_answers, johnson_dual_answer-from}
+use Rattle.ct_dual_files.proofs.OddAnswers.{odd_answers, odd_answer-from}
 use Rattle.ct_evidence.specs.declared.evidence.Evidence.{Evidence}
 use Rattle.ct_evidence.specs.declared.evidence.Evidence.TheVariants as evidence
-use Rattle.ct_files.specs.Kinds.{dual_evidence_of, johnson_dual_evidence_of}
-use Rattle.ct_files.specs.DualAnswer.{IsDualEvidence, IsJohnsonDualEvidence}
+use Rattle.ct_files.specs.Kinds.{dual_evidence_of, johnson_dual_evidence_of, odd_evidence_of}
+use Rattle.ct_files.specs.DualAnswer.{IsDualEvidence, IsJohnsonDualEvidence, IsOddEvidence}
 
 -- the answer to a document of kind dual comes where it is said to come
 pub dual_evidence : (ms : Members) → IsOfKind (codes "dual") (table ms) → IsDualEvidence (table ms) (dual_evidence_of (table ms))
@@ -47,3 +48,20 @@ pub johnson_dual_evidences : (ms : Members) → IsOfKind (codes "jdual") (table 
     → (johnson_dual_evidence_of (table ms) ≡ answer) ↔ IsJohnsonDualEvidence (table ms) answer
 johnson_dual_evidences ms of_kind answer =
     (λ same. subst (IsJohnsonDualEvidence (table ms)) same (johnson_dual_evidence ms of_kind), johnson_dual_evidence-from ms answer)
+
+-- and to a document of kind odd
+pub odd_evidence : (ms : Members) → IsOfKind (codes "odd") (table ms) → IsOddEvidence (table ms) (odd_evidence_of (table ms))
+odd_evidence ms of_kind =
+    bind-cases (IsOddEvidence (table ms)) (odd_of (table ms)) (λ odd. Ok (evidence.Odd odd.0 odd.1)) (λ odd is. (odd_answers ms of_kind (Ok odd)).0 is)
+    (λ fault is. (odd_answers ms of_kind (Err fault)).0 is)
+
+pub odd_evidence-from : (ms : Members) (answer : Result Evidence FileFault) → IsOddEvidence (table ms) answer → odd_evidence_of (table ms) ≡ answer
+odd_evidence-from ms (Ok (evidence.Odd d m)) states =
+    bind-at (odd_of (table ms)) (λ odd. Ok (evidence.Odd odd.0 odd.1)) (d, m) (odd_answer-from ms (Ok (d, m)) states)
+odd_evidence-from ms (Ok other) never = absurd never
+odd_evidence-from ms (Err fault) wrong =
+    bind-at_err (odd_of (table ms)) (λ odd. Ok (evidence.Odd odd.0 odd.1)) fault (odd_answer-from ms (Err fault) wrong)
+
+pub odd_evidences : (ms : Members) → IsOfKind (codes "odd") (table ms) → (answer : Result Evidence FileFault)
+    → (odd_evidence_of (table ms) ≡ answer) ↔ IsOddEvidence (table ms) answer
+odd_evidences ms of_kind answer = (λ same. subst (IsOddEvidence (table ms)) same (odd_evidence ms of_kind), odd_evidence-from ms answer)

@@ -17,7 +17,7 @@ use Rattle.ct_dual_files.proofs.FormedDuals.{formed_plain, formed_weighted}
 use Rattle.ct_fields.specs.Reads.{Reads}
 use Rattle.ct_fields.specs.declared.document.TheConstants.{MAX_DOCUMENT}
 use Rattle.ct_evidence.specs.declared.evidence.Evidence.{Evidence}
-use Rattle.ct_evidence.specs.declared.evidence.Evidence.TheVariants.{Words, Cosets, Partition, Build, Product, Dual, JohnsonDual}
+use Rattle.ct_evidence.specs.declared.evidence.Evidence.TheVariants.{Words, Cosets, Partition, Build, Product, Dual, JohnsonDual, Odd}
 use Rattle.ct_fields.specs.declared.fault.FileFault.{FileFault}
 use Rattle.ct_files.specs.Kinds.{kind_of}
 use Rattle.ct_files.specs.Answers.{IsFieldsAnswer}
@@ -80,6 +80,10 @@ stated-sound document (JohnsonDual d) states =
     let has = states.fields in
     let (w, is, at_w) = has.entry.with_weight in
     (formed_weighted document d has.entry has.unmarked has.multipliers has.none_allowed, subst IsSome (sym is) refl)
+stated-sound document (Odd d m) states =
+    let has = states.fields in
+    let marked = has.sized.entry in
+    (formed_plain document d marked has.multipliers has.allowances, ap (λ (f : Entry). f.w) marked.entry.plain, has.sized.size.1)
 
 -- evidence that bytes read as is sound, however many they are
 pub read_without_limit-sound : (bytes : List ℕ) (e : Evidence) → read_without_limit bytes ≡ Ok e → IsSound e

@@ -34,7 +34,8 @@ use Rattle.ct_partition_files.proofs.WrittenPartitions.{partition-alike, product
 use Rattle.ct_build_files.specs.Operation.{operation_of, build_fields}
 use Rattle.ct_build_files.proofs.AlikeBuilds.{build-alike}
 use Rattle.ct_dual_files.specs.DualDocument.{dual_fields, johnson_dual_fields}
-use Rattle.ct_dual_files.proofs.WrittenDuals.{dual-alike, johnson_dual-alike}
+use Rattle.ct_dual_files.specs.OddDocument.{odd_fields}
+use Rattle.ct_dual_files.proofs.WrittenDuals.{dual-alike, johnson_dual-alike, odd-alike}
 use Rattle.ct_files.specs.Kinds.{kind_of, evidence_by}
 use Rattle.ct_files.specs.Answers.{IsFieldsAnswer}
 use Rattle.ct_files.specs.Evidence.{IsSound, evidence_of}
@@ -78,6 +79,10 @@ reads_cited (evidence.Dual d) cites ms first states reads right =
 reads_cited (evidence.JohnsonDual d) cites ms first states reads right =
     ap (λ (read : Result Dual FileFault). read >>= (λ dual. Ok (evidence.JohnsonDual dual)))
     (johnson_dual-alike (table ms) (table (put_cites cites ms)) (alike-cited cites ms) (last_same johnson_dual_fields cites ms first states.last right))
+    ∙ reads
+reads_cited (evidence.Odd d m) cites ms first states reads right =
+    ap (λ (read : Result (Dual × ℕ) FileFault). read >>= (λ odd. Ok (evidence.Odd odd.0 odd.1)))
+    (odd-alike (table ms) (table (put_cites cites ms)) (alike-cited cites ms) (last_same odd_fields cites ms first states.last right))
     ∙ reads
 
 -- so it reads as the evidence with these cites

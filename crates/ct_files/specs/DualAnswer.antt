@@ -1,4 +1,4 @@
--- Where each answer comes for a document of kind dual or jdual, and which documents are accepted as one.
+-- Where each answer comes for a document of kind dual, jdual or odd, and which documents are accepted as one.
 use Rattle.std.specs.Prelude.{ℕ, List, Result, Ok, Err}
 use Rattle.toml.specs.Data.{Data}
 use Rattle.ct_duals.specs.declared.dual.Dual.{Dual}
@@ -6,6 +6,7 @@ use Rattle.ct_fields.specs.Tables.{IsDocument}
 use Rattle.ct_fields.specs.HasCites.{HasRightFormat}
 use Rattle.ct_fields.specs.declared.fault.FileFault.{FileFault}
 use Rattle.ct_dual_files.specs.DualDocument.{StatesDual, IsDualFault, StatesJohnsonDual, IsJohnsonDualFault}
+use Rattle.ct_dual_files.specs.OddDocument.{StatesOddDual, IsOddFault}
 use Rattle.ct_evidence.specs.declared.evidence.Evidence.{Evidence}
 use Rattle.ct_evidence.specs.declared.evidence.Evidence.TheVariants as evidence
 
@@ -21,6 +22,12 @@ IsJohnsonDualEvidence document (Ok (evidence.JohnsonDual d)) = StatesJohnsonDual
 IsJohnsonDualEvidence document (Ok other) = ⊥
 IsJohnsonDualEvidence document (Err fault) = IsJohnsonDualFault document fault
 
+-- where each answer comes for a document of kind odd
+abbrev pub IsOddEvidence : Data → Result Evidence FileFault → Type 0
+IsOddEvidence document (Ok (evidence.Odd d m)) = StatesOddDual document d m
+IsOddEvidence document (Ok other) = ⊥
+IsOddEvidence document (Err fault) = IsOddFault document fault
+
 -- the bytes are a document that states the dual, of kind dual
 pub record AcceptsDual (bytes : List ℕ) (d : Dual) : Type 0 where
   pub document : Data
@@ -34,3 +41,10 @@ pub record AcceptsJohnsonDual (bytes : List ℕ) (d : Dual) : Type 0 where
   pub written : IsDocument bytes document
   pub format : HasRightFormat document
   pub states : StatesJohnsonDual document d
+
+-- and of kind odd, with the number of words
+pub record AcceptsOddDual (bytes : List ℕ) (d : Dual) (m : ℕ) : Type 0 where
+  pub document : Data
+  pub written : IsDocument bytes document
+  pub format : HasRightFormat document
+  pub states : StatesOddDual document d m

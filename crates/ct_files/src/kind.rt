@@ -17,4 +17,6 @@ pub enum Kind {
     Dual,
     /// One for an entry with weight.
     JohnsonDual,
+    /// A dual for an entry without weight, with an odd number of words that it may exclude.
+    Odd,
 }
