@@ -1,6 +1,6 @@
 -- Where each answer comes for a document of kind dual.
-use Rattle.std.proofs.Common.{◌≡◌, ℕ, Bool, List, codes, Result, Ok, Err, sym, subst, refl, ◌∙◌}
-use Rattle.std.specs.Prelude.{◌↔◌, ℤ}
+use Rattle.std.proofs.Common.{◌≡◌, Bool, codes, Result, Ok, Err, sym, subst, refl, ◌∙◌}
+use Rattle.std.specs.Prelude.{◌↔◌}
 use Rattle.toml.specs.Data.{Data, table, Members}
 use Rattle.ct_codes.specs.declared.entry.Entry.{Entry}
 use Rattle.ct_fields.specs.StatedEntry.{plain_entry_of}
