@@ -42,7 +42,8 @@ RANGES = {
     "places": f"a list of at least one place, ascending, each below the part's length, which is at most {LAST}",
     "digits": "a text, with a digit for each place", "by": "a text of n digits", "size": "a whole number from 1 to 262144",
     "part": "the text of an id", "other": "the text of an id", "pairs": f"1 to {LAST + 1} lists of two ids; exactly one where `w` is left out",
-    "even": "true or false; true only where d is even", "c": "a list of whole numbers of at least 0, as many as the degree and one more at most",
+    "even": "true or false; true only where d is even", "m": "an odd whole number from 3 to 1048575",
+    "c": "a list of whole numbers of at least 0, as many as the degree and one more at most",
     "y": "a list of pairs of a distance, ascending from d to n, even where `even` is set, and a whole number of at least 0",
 }
 

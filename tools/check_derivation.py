@@ -106,23 +106,30 @@ def column_pairs(n, d, w):
     return None
 
 
-def dual_bound(piece):
-    """The rule of a dual: its premises are at the distances at which it has a y."""
+def by_spread(piece, bound):
+    """A rule of a dual: its premises are at the distances at which it has a y; the bound is made of its spread, E = f(0) + S + T."""
     (n, d), charged = piece.entry, [(i, y) for i, y in piece.y.items() if y]
 
-    def bound(*values):
+    def value(*uppers):
         """The bound from the premises' values."""
-        products = [(2 * i >= 2 * n - d, y * u) for (i, y), u in zip(charged, values)]
+        products = [(2 * i >= 2 * n - d, y * u) for (i, y), u in zip(charged, uppers)]
         far, near = ([p for is_far, p in products if is_far == side] for side in (True, False))
-        return (piece.f(0) + max(far, default=0) + sum(near)) // piece.c[0]
-    return [(n, 2 * up(d, 2), i) for i, _ in charged], bound
+        return bound(piece.f(0) + max(far, default=0) + sum(near))
+    return [(n, 2 * up(d, 2), i) for i, _ in charged], value
+
+
+def size_below(piece):
+    """The rule of a dual with an odd number m: m - 1, where over the pairs of m words f adds up to more than m times the spread."""
+    least = piece.c[0] * piece.m ** 2 + sum(c * comb(piece.n, k) for k, c in enumerate(piece.c) if k)
+    return by_spread(piece, lambda spread: piece.m - 1 if least > piece.m * spread else None)
 
 
 CODES = ("words", "cosets", "build", "product")
 NAMING = {
     "L10": (2, CODES, lambda piece: number(piece.size)), "M10": (3, CODES, lambda piece: number(piece.size)),
-    # No kind of document gives the dual with a number of words that U12 is about.
-    "U11": (2, ("dual",), dual_bound), "U12": (2, (), None), "V9": (3, ("jdual",), lambda piece: number(piece.f(0) // piece.c[0])),
+    "U11": (2, ("dual",), lambda piece: by_spread(piece, lambda spread: spread // piece.c[0])),
+    "U12": (2, ("odd",), size_below),
+    "V9": (3, ("jdual",), lambda piece: number(piece.f(0) // piece.c[0])),
 }
 PLAIN = {
     "L1": lambda n, d: number(1),
@@ -183,8 +190,9 @@ def rule_at(pieces, name, entry, arguments):
 
 
 # ---- evidence: each kind reads its fields in order, then is checked
-SAME_FORM = {"cosets": "words", "jdual": "dual"}
-KINDS = ("words", "cosets", "partition", "build", "product", "dual", "jdual")
+SAME_CHECK = {"jdual": "dual", "odd": "dual"}
+SAME_FORM = {"cosets": "words", **SAME_CHECK}
+KINDS = ("words", "cosets", "partition", "build", "product", "dual", "jdual", "odd")
 OPERATIONS = {"lengthen": (), "append_one": (), "parity": (), "puncture": ("places",), "shorten": ("places", "digits"),
               "translate": ("by",), "complement": (), "select": ("by",), "uuv": (), "juxtapose": (), "trim": ("size",)}
 ID = re.compile("[a-z][a-z0-9_-]{0,31}")
@@ -239,7 +247,7 @@ class Piece:
         require(self.kind in KINDS, "kind")
         self.known, self.lists, self.parts, self.y, self.w = {"kind"}, [], [], {}, None
         self.format = self.field("format", lambda v: is_number(v, 1, 2), 1)
-        weighted, op = self.kind not in ("cosets", "dual") and "w" in self.table, self.table.get("op")
+        weighted, op = self.kind not in ("cosets", "dual", "odd") and "w" in self.table, self.table.get("op")
         even = weighted or self.kind == "jdual" or self.kind == "build" and op == "select"
         self.n = self.field("n", lambda v: is_number(v, 1, LAST))
         self.d = self.field("d", lambda v: is_number(v, 3, LAST) and not (even and v % 2))
@@ -280,10 +288,13 @@ class Piece:
     def read_dual(self):
         """The fields of a dual, with a weight or without."""
         degree = self.n if self.w is None else min(self.w, self.n - self.w)
-        even = self.kind == "dual" and self.field("even", lambda v: v is False or v is True and self.d % 2 == 0, default=False)
+        plain = self.kind != "jdual"
+        even = plain and self.field("even", lambda v: v is False or v is True and self.d % 2 == 0, default=False)
+        if self.kind == "odd":
+            self.m = self.field("m", lambda v: is_number(v, 3, 2 ** 20 - 1) and v % 2)
         self.c = self.field("c", lambda v: is_list(v, lambda x: is_number(x, 0)) and 1 <= len(v) <= degree + 1)
         self.range = [i for i in range(self.d if self.w is None else self.d // 2, degree + 1) if not even or i % 2 == 0]
-        if self.kind == "dual":
+        if plain:
             self.y = dict(self.field("y", lambda v: is_list(v, lambda p: is_list(p, lambda x: is_number(x, 0)) and len(p) == 2
                                                             and p[0] in self.range) and [i for i, _ in v] == sorted({i for i, _ in v}), []))
 
@@ -312,7 +323,7 @@ class Piece:
             require(name in pieces, f"nosuch {name}")
         self.stored = sum(map(len, self.numbers))
         parts = [pieces[name] for name in self.parts]
-        getattr(self, "check_" + self.kind.removeprefix("j"))(*([parts] if parts else []))
+        getattr(self, "check_" + SAME_CHECK.get(self.kind, self.kind))(*([parts] if parts else []))
 
     def check_words(self):
         """Refuses words that are not as stated."""

@@ -11,8 +11,8 @@ import check_primal
 from code_tables import sessions
 from code_tables.sessions import Refusal, name_of
 
-# The rules of duals without a statement on parity or doubly constant weight, whose bound is that of Delsarte's linear program.
-RULES = ("U11", "V9")
+# The rules of duals.
+RULES = ("U11", "U12", "V9")
 
 
 def read(path):
@@ -29,7 +29,11 @@ def read(path):
 
 def sentence(piece, high, reply):
     """What a reply says of the dual of a piece, from which an entry has its upper bound."""
-    has_y = any(allowed for _, allowed in tomllib.loads(piece.document).get("y", []))
+    fields = tomllib.loads(piece.document)
+    has_y = any(allowed for _, allowed in fields.get("y", []))
+    if piece.kind == "odd":
+        beside = f" Of the duals that exclude no number of words and have no y {reply.bound} is the least bound, shown by a primal."
+        return f"The dual {piece.id} excludes {fields['m']} words, since that is odd." + beside * (reply.primal is not None)
     if reply.primal is None:
         return f"Whether the dual {piece.id} is the least is not shown: the run of find ended as {reply.stop}."
     if has_y:

@@ -1,6 +1,7 @@
 """The words of the codes of pieces, by what their documents say. The program checked them: here no distance is."""
 
 import check_derivation
+from code_tables.sessions import SIZELESS
 
 
 class Code(check_derivation.Piece):
@@ -23,7 +24,7 @@ def codes(pieces, most):
     """The id, the length and the words, ascending, of each code of at most so many words."""
     read = {}
     for piece in pieces:
-        if piece.kind in ("dual", "jdual"):
+        if piece.kind in SIZELESS:
             continue
         read[piece.id] = code = Code(piece.document.encode("utf-8", "surrogateescape"))
         code.check(read)

@@ -67,7 +67,9 @@ class Annotate(unittest.TestCase):
 
     def test_replies_that_can_not_be_those_to_the_session_are_told(self):
         pair = "submit pair\nkind = 'words'\nn = 4\nd = 4\nwords = ['0000', '1111']\nend\n"
+        odd = "submit o9\nkind = 'odd'\nn = 9\nd = 4\neven = true\nm = 21\nc = [3, 1, 1]\ny = [[8, 16]]\nend\n"
         for session, replies, line, fault in [
+                (odd, "accepted o9 size 20", 1, "a dual has no size"), (odd + "ledger\n", "accepted o9\npieces 0", 2, "1 pieces stand: o9"),
                 (pair, "accepted other size 2", 1, "the submission is pair"), (pair, "accepted pair size 3", 1, "the document has 2 words"),
                 (pair, "accepted pair", 1, "a dual has no size"), (pair, "A(4,4) = 2", 1, "a submission is accepted or refused"),
                 (pair, "refused close 0 2 3", 1, "the document has 2 words"), (pair, "refused nosuch a", 1, "the document names no a"),
@@ -101,6 +103,12 @@ class Annotate(unittest.TestCase):
         self.assertNotIn("no `format = 2`", self.annotated(CITED.replace("cites", "cite"), "refused unknown\n")[0])
         whole = self.annotated(CITED + "ledger\n", "accepted pair size 2\npair words 4 4 size 2 cites 2\npieces 1\n")
         self.assertEqual(whole[1:], ("", 0))
+
+    def test_an_odd_number_of_words_is_explained(self):
+        odd = "submit o9\nkind = 'odd'\nn = 9\nd = 4\neven = true\nm = 20\nc = [3, 1, 1]\ny = [[8, 16]]\nend\n"
+        for document, told in (odd, "the document has 20"), (odd.replace("m = 20\n", ""), "it is missing"):
+            self.assertIn(f"m is an odd whole number from 3 to 1048575; {told}", self.annotated(document, "refused field m\n")[0])
+        self.assertEqual(self.annotated(odd.replace("20", "21") + "ledger\n", "accepted o9\no9 odd 9 4\npieces 1\n")[1:], ("", 0))
 
     def test_replies_that_the_program_gives_fit(self):
         tried = 0

@@ -1,6 +1,7 @@
 """Derivations are checked as the program's `verify` checks them."""
 
 import random
+import re
 import time
 import tomllib
 import unittest
@@ -23,6 +24,49 @@ line 1 upper 13 6 3 value 4 by V2
 line 2 upper 13 6 10 value 4 by V3 from 1
 line 3 upper 13 6 12 value 1 by V1
 line 4 upper 13 6 value 32 by U11 d13 from 2 3
+done
+"""
+# Sizes that parity excludes, by hand. Of (9,4): f(0) = 3 + 9 + 36 = 48, f(8) = 3 - 7 + 20 = 16, and E = 48 + 16·A(9,4,8) = 64; with L = 3m² + 45,
+# m = 21 has 1368 > 21·64 = 1344, and m = 19 has 1128 < 19·64 = 1216. Of (5,3): f = 1, E = 1 + 1·2 + max(2·1, 1·1) = 5, and L = m².
+ODD = """derivation
+evidence o9
+kind = "odd"
+n = 9
+d = 4
+even = true
+m = 21
+c = [3, 1, 1]
+y = [[8, 16]]
+end
+line 1 upper 9 4 8 value 1 by V1
+line 2 upper 9 4 value 20 by U12 o9 from 1
+done
+"""
+ODD_ODD = """derivation
+evidence o5 lines 6
+kind = "odd"
+n = 5
+d = 3
+m = 7
+c = [1]
+y = [[3, 1], [4, 2], [5, 1]]
+line 1 upper 5 4 2 value 2 by V2
+line 2 upper 5 4 3 value 2 by V3 from 1
+line 3 upper 5 4 4 value 1 by V1
+line 4 upper 5 4 5 value 1 by V1
+line 5 upper 5 3 value 6 by U12 o5 from 2 3 4
+done
+"""
+# Of (5,5): f(0) = 7, f(5) = -3, and L = 2·9 + 5 = 23 is above 3·7 by no more than c_0.
+ODD_LEAST = """derivation
+evidence o5
+kind = "odd"
+n = 5
+d = 5
+m = 3
+c = [2, 1]
+end
+line 1 upper 5 5 value 2 by U12 o5
 done
 """
 PAIR = "evidence pair lines 4\nkind = 'words'\nn = 3\nd = 3\nwords = ['000', '111']\n"
@@ -115,6 +159,9 @@ ORDERS = [
     [("kind = ''", "kind", "kind = 'dual'"), ("format = [2]", "field format", "format = 2"), ("n = 0", "field n", "n = 4"), ("d = 31", "field d", "d = 4"),
      ("even = 1", "field even", "even = true"), ("c = [-1]", "field c", "c = [0]"), ("y = [[3, 1]]", "field y", "y = []"),
      ("cites = [1]", "field cites", "cites = []"), ("more = 1", "unknown", ""), ("", "lead", "c = [1]")],
+    [("kind = 'Odd'", "kind", "kind = 'odd'"), ("format = 0", "field format", "format = 2"), ("n = 0", "field n", "n = 4"),
+     ("d = 31", "field d", "d = 4"), ("even = 1", "field even", "even = true"), ("m = 4", "field m", "m = 5"), ("c = [-1]", "field c", "c = [0]"),
+     ("y = [[3, 1]]", "field y", "y = []"), ("cites = [1]", "field cites", "cites = []"), ("w = 2", "unknown", ""), ("", "lead", "c = [1]")],
     [("kind = 'parts'", "kind", "kind = 'partition'"), ("format = 3", "field format", "format = 2"), ("n = 0", "field n", "n = 4"), ("d = 5", "field d", "d = 4"),
      ("w = 5", "field w", "w = 2"), ("d1 = 5", "field d1", "d1 = 2"), ("classes = [0]", "field classes", "classes = [[], ['001']]"),
      ("cites = [['a']]", "field cites", "cites = ['a']"), ("more = 1", "unknown", ""), ("", "digits 0", "classes = [[], ['0011']]"), ("", "size 0", "classes = [['0011']]")],
@@ -165,6 +212,45 @@ class CheckDerivation(unittest.TestCase):
                                   ("from 2 3", "from 3 2", "no 13 premise"), ("c = [5", "c = [0", "no 2 evidence lead")]:
             with self.subTest(new=new):
                 self.assertEqual(run("check_derivation.py", text=DUAL.replace(old, new)), (verdict + "\n", "", int(verdict != "yes")))
+
+    def test_sizes_that_parity_excludes(self):
+        odd, numbers = "by U12 o9 from 1", (20, 1, -21, 1048577, "21.0", "true", "'21'", "[21]")
+        for old, new, verdict in [
+                ("m = 21", "m = 21", "yes"), ("m = 21", "m = 23", "no 12 value 20 22"), ("m = 21", "m = 19", "no 12 rule"),
+                ("m = 21", "m = 1048575", "no 12 value 20 1048574"), ("value 20", "value 21", "no 12 value 21 20"),
+                (odd, "by U11 o9 from 1", "no 12 rule"), (odd, "by U12 o8 from 1", "no 12 rule"), (odd, "by U12 o9", "no 12 premise"),
+                ("m = 21\n", "m = 19\nformat = 2\n", "no 13 rule"), ("9 4 value 20", "8 4 value 20", "no 12 rule"),
+                (", 1, 1]", ", 1]", "no 2 evidence above 4 4 0"), ("8, 16", "8, 15", "no 2 evidence above 8 16 15"),
+                ("c = [3", "c = [0", "no 2 evidence lead"), ('"odd"', '"dual"', "no 2 evidence unknown"),
+                ('"odd"', '"jdual"', "no 2 evidence field w"),
+                ("m = 21", "m = 21\nw = 4", "no 2 evidence unknown"), ("m = 21", "m = 20\nw = 4", "no 2 evidence field m"),
+                ("m = 21\n", "", "no 2 evidence field m"), *[("m = 21", f"m = {m}", "no 2 evidence field m") for m in numbers]]:
+            with self.subTest(new=new):
+                self.assertEqual(check_derivation.verdict(ODD.replace(old, new, 1).encode()), verdict)
+        premises = ODD.replace("m = 21", "m = 19").replace(odd, "by U12 o9 from 2")
+        self.assertEqual(check_derivation.verdict(premises.encode()), "no 12 premise")
+
+    def test_sizes_that_parity_excludes_at_an_odd_distance(self):
+        for old, new, verdict in [("m = 7", "m = 7", "yes"), ("m = 7", "m = 5", "no 13 rule"), ("from 2 3 4", "from 2 4 3", "no 13 premise"),
+                                  ("d = 3", "d = 3\neven = true", "no 2 evidence field even")]:
+            with self.subTest(new=new):
+                self.assertEqual(check_derivation.verdict(ODD_ODD.replace(old, new).encode()), verdict)
+        self.assertEqual(check_derivation.verdict(ODD_LEAST.encode()), "yes")
+
+    def test_the_worked_example_of_an_odd_number_of_words_is_so(self):
+        text = next(text for text in (file.read_text() for file in (TOP / "docs").glob("*.md")) if "# An odd number of words: odd\n" in text)
+        part = text.split("# An odd number of words: odd\n")[1].split("\n#")[0]
+        block = "\n".join(line[4:] for line in part.split("by hand**")[1].split("\n") if line.startswith("    "))
+        piece = check_derivation.Piece(block.encode())
+        piece.check({})
+        rows = [line.strip("| ").split(" | ") for line in re.findall(r"^\| [iKf].*$", part, re.M)]
+        table = {name: [int(cell) for cell in cells] for name, *cells in rows}
+        self.assertEqual(table.pop("i"), [0, *piece.range])
+        for name, numbers in table.items():
+            row = piece.f if name == "f" else lambda i: check_derivation.scheme_number(9, None, int(name[2]), i)
+            self.assertEqual(numbers, [row(i) for i in (0, *piece.range)], name)
+        self.assertEqual(check_derivation.verdict(ODD.encode()), "yes")
+        self.assertEqual(tomllib.loads(block), tomllib.loads(ODD.split("o9\n", 1)[1].split("end\n")[0]))
 
     def test_builds_and_partitions(self):
         partition = "evidence p4 lines 5\nkind = 'partition'\nn = 4\nd = 4\nd1 = 2\nclasses = [['0000', '1111'], ['0011', '1100'], ['0101', '1010']]\n"
@@ -231,7 +317,7 @@ class CheckDerivation(unittest.TestCase):
     def test_the_program_says_the_same(self):
         if session(mutations.SHORT, "verify") != "yes\n":
             self.skipTest("this program verifies nothing yet")
-        documents = [f"derivation\n{lines}\ndone\n" for lines, _ in VERDICTS] + [DUAL]
+        documents = [f"derivation\n{lines}\ndone\n" for lines, _ in VERDICTS] + [DUAL, ODD, ODD.replace("m = 21", "m = 19"), ODD_ODD, ODD_LEAST]
         for document in [*filter(mutations.is_built, documents), *mutations.changed(mutations.documents(), 300)]:
             with self.subTest(document=document):
                 self.assertEqual(*mutations.verdicts(document))

@@ -32,13 +32,17 @@ def held(piece, high, rule="U11 k16"):
 class Least(unittest.TestCase):
     def test_what_is_said_of_a_dual(self):
         shown, wide = ({reply.entry: reply for reply in replies(text)} for text in (PLAIN, WIDE))
-        least_dual, other = dual([20, 20, 6, 4, 1]), dual([1])
+        least_dual, other, odd = dual([20, 20, 6, 4, 1]), dual([1]), dual([20, 20, 6, 4, 1], "m = 257\n")
+        odd.kind = "odd"
         for what, found, words in [
                 (held(least_dual, 256), shown, "The dual k16 is the least of its form: no dual of the entry without y has a smaller bound"),
                 (held(other, 257), shown, "The dual k16 is not the least of its form: one has the bound 256."),
                 (held(dual([1], "y = [[6, 1]]\n"), 255), shown, "Of the duals without such bounds 256 is the least bound"),
                 (held(dual([20, 20, 6, 4, 1], "y = [[6, 0]]\n"), 256), shown, "is the least of its form"),
                 (held(least_dual, 256), wide, "is not shown: the run of find ended as wide."),
+                (held(odd, 256, "U12 k16"), shown, "The dual k16 excludes 257 words, since that is odd. Of the duals that exclude no number of "
+                                                   "words and have no y 256 is the least bound, shown by a primal."),
+                (held(odd, 256, "U12 k16"), wide, "The dual k16 excludes 257 words, since that is odd."),
                 (held(least_dual, 256), {}, ""), (held(least_dual, 256, "U7 from 1"), shown, ""), (table.Held(bounds={(16, 6): (1, 256)}), shown, "")]:
             with self.subTest(words=words):
                 told = least.said(what, (16, 6), found)

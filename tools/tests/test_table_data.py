@@ -91,6 +91,9 @@ class Data(unittest.TestCase):
     def test_the_schema_ends_where_the_table_does(self):
         self.assertEqual([SCHEMA["$defs"][name]["maximum"] for name in "ndw"], [table.LAST] * 3)
 
+    def test_the_schema_knows_each_kind(self):
+        self.assertEqual(set(SCHEMA["properties"]["pieces"]["items"]["properties"]["kind"]["enum"]), set(check_derivation.KINDS))
+
     def test_refusals_end_with_1(self):
         self.assertEqual(self.said, ("", "table_data: submit hexa: refused taken\n", 1))
 
@@ -109,10 +112,11 @@ class Data(unittest.TestCase):
 
 class Words(unittest.TestCase):
     def test_words_are_those_of_each_code_and_of_no_partition(self):
-        text = (TOP / "examples/partitions.session").read_text() + (TOP / "examples/octads.session").read_text()
+        text = table.read_sessions(TOP / f"examples/{name}.session" for name in ("partitions", "octads", "duals"))
         sizes = {"octads": 759, "golay": 4096, "hamming": 16, "product8": 14}
         pieces = [table.piece_of(f"{command.id} {command.fields['kind']} 1 1 size {sizes.get(command.id, 1)}", {command.id: command})
                   for command in sessions.commands(text) if command.words[0] == "submit"]
+        self.assertLess({"dual", "odd", "jdual", "partition"}, {piece.kind for piece in pieces})
         found = {name: list(words) for name, _, words in words_of_pieces.codes(pieces, 1000)}
         self.assertEqual({name: len(words) for name, words in found.items()}, {"hamming": 16, "product8": 14, "octads": 759})
         self.assertEqual(found["product8"][:3], [0b00001111, 0b00110011, 0b00111100])
