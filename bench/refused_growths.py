@@ -114,13 +114,23 @@ w = 4
 c = [48, 21, 4]
 end
 '''
+ODD = '''submit o9
+kind = "odd"
+n = 9
+d = 4
+even = true
+m = 21
+c = [3, 1, 1]
+y = [[8, 16]]
+end
+'''
 PARTITION = 'submit p4\nkind = "partition"\nn = 4\nd = 4\nd1 = 2\nclasses = [["0000", "1111"], ["0011", "1100"], ["0101", "1010"], ["0110", "1001"]]\nend\n'
 PRODUCT = 'submit e8\nkind = "product"\nn = 8\nd = 4\npairs = [["p4", "p4"]]\nend\n'
 BUILDS = [("lengthen", 11, 6, ""), ("append_one", 11, 6, ""), ("parity", 11, 6, ""), ("puncture", 9, 5, "places = [0]\n"),
           ("shorten", 9, 6, 'places = [0]\ndigits = "1"\n'), ("translate", 10, 6, 'by = "1111111111"\n'), ("complement", 10, 6, ""),
           ("select", 10, 6, 'w = 4\nby = "0000000000"\n'), ("uuv", 20, 6, 'other = "hexa"\n'), ("juxtapose", 20, 12, 'other = "hexa"\n'),
           ("trim", 10, 6, "size = 2\n")]
-COMMANDS = "show 10 6\nshow 6 4 3\ntable 30\ntable 6 3\nexplain lower 10 6\nexplain upper 13 6\nlist 10 6\nlist 6 4 3\nledger\ndump\n"
+COMMANDS = "show 10 6\nshow 6 4 3\ntable 30\ntable 6 3\nexplain lower 10 6\nexplain upper 13 6\nexplain upper 9 4\nlist 10 6\nlist 6 4 3\nledger\ndump\n"
 REFUSED = "submit hexa\nend\nsubmit a\nkind = 3\nend\nwithdraw none\nwithdraw hexa\nwithdraw none all\nshow 2 2\nfoo\n"
 
 
@@ -129,7 +139,7 @@ def session():
     builds = "".join(f'submit b-{op.replace("_", "-")}\nkind = "build"\nop = "{op}"\nn = {n}\nd = {d}\npart = "hexa"\n{more}end\n'
                      for op, n, d, more in BUILDS)
     golay = (TOP / "examples/golay.session").read_text()
-    return WORDS + WEIGHT + golay + DUALS + PARTITION + PRODUCT + builds + COMMANDS + "withdraw b-trim\n" + REFUSED + "withdraw hexa all\nsubmit c\n"
+    return WORDS + WEIGHT + golay + DUALS + ODD + PARTITION + PRODUCT + builds + COMMANDS + "withdraw b-trim\n" + REFUSED + "withdraw hexa all\nsubmit c\n"
 
 
 # The words of a command line, and the input.
@@ -137,6 +147,8 @@ MODES = [
     (["session"], session()),
     (["verify"], "derivation\nline 1 lower 3 4 value 1 by L1\nline 2 lower 6 4 value 4 by L8 from 1\nline 3 lower 5 3 value 4 by L6 from 2\ndone\n"),
     (["verify"], "derivation\nevidence d13\n" + DUALS.split("end\n")[0].removeprefix("submit d13\n") + "end\nline 1 upper 13 6 value 32 by U11 d13\ndone\n"),
+    (["verify"], "derivation\nevidence o9\n" + ODD.removeprefix("submit o9\n") + "line 1 upper 9 4 8 value 1 by V1\n"
+                 "line 2 upper 9 4 value 20 by U12 o9 from 1\ndone\n"),
     (["verify"], "derivation\nevidence a\nkind = 'dual'\nn = 13\nd = 6\nc = [1]\nend\nline 1 lower 3 4 value 1 by L1\ndone\n"),
     (["find"], "16 6\n8 4 4\n6 6\n40 4\nfoo\n"),
     (["sample", "--number", "3"], ""),

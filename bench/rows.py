@@ -155,13 +155,17 @@ def scheme_number(n, w, k, i):
 
 
 def by_duals(high, duals, n, d, w=None):
-    """What the duals of an entry give (U11, V9)."""
-    for _, *entry, c, y in duals:
+    """What the duals of an entry give (U11, U12, V9)."""
+    for _, *entry, c, y, odd in duals:
         if entry == [n, d, w]:
             charges = {i: v * high[n, d + d % 2, i] for i, v in y.items() if v}
             near = sum(charge for i, charge in charges.items() if 2 * i < 2 * n - d)
             far = max([charge for i, charge in charges.items() if 2 * i >= 2 * n - d], default=0)
-            yield (sum(m * scheme_number(n, w, k, 0) for k, m in enumerate(c)) + near + far) // c[0]
+            spread = sum(m * scheme_number(n, w, k, 0) for k, m in enumerate(c)) + near + far
+            if odd is None:
+                yield spread // c[0]
+            elif c[0] * odd ** 2 + sum(m * comb(n, k) for k, m in enumerate(c) if k) > odd * spread:
+                yield odd - 1
 
 
 def bounds(codes, duals=()):
@@ -202,11 +206,12 @@ def cosets(n, d, basis, representatives=()):
     return f"kind='cosets'\nn={n}\nd={d}\nbasis={basis}\nrepresentatives={list(representatives) or ['0' * n]}\n"
 
 
-def dual(n, d, w, c, y):
-    """A document of a dual, of even distances alone where it has no weight."""
+def dual(n, d, w, c, y, odd):
+    """A document of a dual, of even distances alone where it has no weight; with the odd number of words that it excludes, if it does."""
     if w is not None:
         return f"kind='jdual'\nn={n}\nd={d}\nw={w}\nc={c}\n"
-    return f"kind='dual'\nn={n}\nd={d}\neven=true\nc={c}\ny={[list(pair) for pair in y.items()]}\n"
+    kind, more = ("dual", "") if odd is None else ("odd", f"m={odd}\n")
+    return f"kind='{kind}'\nn={n}\nd={d}\neven=true\n{more}c={c}\ny={[list(pair) for pair in y.items()]}\n"
 
 
 def build(op, n, d, part, more=""):
@@ -299,13 +304,15 @@ LINEAR = [
 ]
 
 # Duals of Delsarte's linear program, found by the simplex method in fractions (examples/duals.session): id, length, distance, weight,
-# multipliers and allowances. Those without weight are of an even distance, and speak of even distances alone.
+# multipliers, allowances and an odd number of words that is excluded. Those without weight are of an even distance, and speak of even
+# distances alone. That of (9,4) gives 21 by itself and 20 for the number of words (Best, Brouwer, MacWilliams, Odlyzko and Sloane 1978).
 DUALS = [
-    ("d13", 13, 6, None, [5, 1, 1], {10: 16, 12: 48}),
-    ("k16", 16, 6, None, [60, 60, 18, 12, 3], {}),
-    ("j8", 8, 4, 4, [48, 21, 4], {}),
-    ("j24", 24, 8, 8, [10725120, 1927170, 210924, 17917, 1012], {}),
-    ("s21", 21, 8, None, [140, 55, 19, 5, 1], {8: 256, 18: 256, 20: 1280}),
+    ("d13", 13, 6, None, [5, 1, 1], {10: 16, 12: 48}, None),
+    ("k16", 16, 6, None, [60, 60, 18, 12, 3], {}, None),
+    ("j8", 8, 4, 4, [48, 21, 4], {}, None),
+    ("j24", 24, 8, 8, [10725120, 1927170, 210924, 17917, 1012], {}, None),
+    ("s21", 21, 8, None, [140, 55, 19, 5, 1], {8: 256, 18: 256, 20: 1280}, None),
+    ("o9", 9, 4, None, [3, 1, 1], {8: 16}, 21),
 ]
 
 # For n = 1 to 30 and d = 3 to 30 the greatest dimension k of a binary linear code of length n and distance at least d that is known, from

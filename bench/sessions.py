@@ -6,6 +6,8 @@ import sys
 # Numbers of at least two ones. A word with a one at a place of its own and the digits of such a number at the end is at distance 3 or more
 # from each sum of others.
 TWO_ONES = [x for x in range(64) if x.bit_count() >= 2]
+# The greatest odd number of words that a dual has.
+MOST_ODD = 2 ** 20 - 1
 
 
 def text(word, n):
@@ -127,15 +129,17 @@ def dumped_words(size):
     return "".join(submit(f"w{i}", document) for i in range((size or 65536) // 4096)) + "dump\n"
 
 
-def dual(n, d, even):
-    """A document of a dual, f = 1, that rests on an upper bound at each distance."""
-    return f"kind = 'dual'\nn = {n}\nd = {d}\neven = {even}\nc = [1]\ny = {[[i, 1] for i in range(d, n + 1, 1 + (even == 'true'))]}\n"
+def dual(n, d, even, odd=None):
+    """A document of a dual, f = 1, that rests on an upper bound at each distance; with an odd number of words where one is given."""
+    kind, more = ("dual", "") if odd is None else ("odd", f"m = {odd}\n")
+    y = [[i, 1] for i in range(d, n + 1, 1 + (even == "true"))]
+    return f"kind = '{kind}'\nn = {n}\nd = {d}\neven = {even}\n{more}c = [1]\ny = {y}\n"
 
 
-def over_duals(last):
-    """Five hundred duals, and then a piece that comes and goes so many times."""
+def over_duals(last, odd=None):
+    """Five hundred duals, with an odd number of words where one is given, and then a piece that comes and goes so many times."""
     kinds = [(n, d, even) for n in range(30, 3, -1) for d in range(3, n + 1) for even in ("false", "true")[:2 - d % 2]]
-    standing = "".join(submit(f"d{i}", dual(*kind)) for i, kind in enumerate(kinds[:500]))
+    standing = "".join(submit(f"d{i}", dual(*kind, odd)) for i, kind in enumerate(kinds[:500]))
     return lambda size: standing + (submit("last", last) + "withdraw last\n") * (100 if size is None else size)
 
 
@@ -174,6 +178,7 @@ SESSIONS = {
     "words_of_a_build": words_of_a_build,
     "dumped_words": dumped_words,
     "duals": over_duals(dual(30, 3, "false")),
+    "odd_duals": over_duals(dual(30, 3, "false", MOST_ODD), MOST_ODD),
     "duals_and_a_code": over_duals(cosets(27, 3, linear(27, 12))),
     "feeds": feeds,
     "shows": shows,

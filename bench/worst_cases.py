@@ -17,8 +17,8 @@ import tempfile
 from pathlib import Path
 
 LIMIT, DOCUMENT = 67108864, 4194304
-# The greatest length and distance of the table.
-MOST = 30
+# The greatest length and distance of the table, and the greatest odd number of words that a dual has.
+MOST, MOST_ODD = 30, 2 ** 20 - 1
 LENGTHS, DISTANCES, EVEN = range(1, MOST + 1), range(3, MOST + 1), range(4, MOST + 1, 2)
 TWO_ONES = [x for x in range(64) if x.bit_count() >= 2]
 GOLAY = [sum(1 << (22 - s - j) for j in (0, 2, 4, 5, 6, 10, 11)) for s in range(12)]
@@ -64,8 +64,10 @@ def build(op, n, d, part, more=""):
     return f"kind = 'build'\nop = '{op}'\nn = {n}\nd = {d}\npart = '{part}'\n{more}"
 
 
-def dual(n, d, c, y=(), even=False):
-    return f"kind = 'dual'\nn = {n}\nd = {d}\neven = {str(even).lower()}\nc = {list(c)}\ny = {[list(p) for p in y]}\n"
+def dual(n, d, c, y=(), even=False, odd=None):
+    """A dual, with an odd number of words that it may exclude where one is given."""
+    kind, more = ("dual", "") if odd is None else ("odd", f"m = {odd}\n")
+    return f"kind = '{kind}'\nn = {n}\nd = {d}\neven = {str(even).lower()}\n{more}c = {list(c)}\ny = {[list(p) for p in y]}\n"
 
 
 def johnson_dual(n, d, w, c):
@@ -247,9 +249,10 @@ def refused_builds(part):
     return part_of_builds() + "".join(submit("x", build("select", 26, 4, "c0", f"w = 26\nby = '{zero}'\n")) for _ in range(20 // part))
 
 
-def greatest_duals(part):
+def greatest_duals(odd=None):
     great = 2 ** 63 - 1
-    return "".join(submit(f"d{i}", dual(MOST, 3, [great] * (MOST + 1), [(j, great) for j in DISTANCES])) for i in range(1000 // part))
+    document = dual(MOST, 3, [great] * (MOST + 1), [(j, great) for j in DISTANCES], odd=odd)
+    return lambda part: "".join(submit(f"d{i}", document) for i in range(1000 // part))
 
 
 def greatest_johnson_duals(part):
@@ -257,11 +260,11 @@ def greatest_johnson_duals(part):
     return "".join(submit(f"d{i}", johnson_dual(MOST, 4, MOST // 2, [1, *[0] * (MOST // 2 - 1), great])) for i in range(1000 // part))
 
 
-def resting_duals(part):
+def resting_duals(odd=None):
     """Duals that rest on every bound of constant weight, and a code that comes and goes and betters these."""
-    duals = "".join(submit(f"d{i}", dual(MOST, 4, [1], [(j, 1) for j in range(4, MOST + 1)])) for i in range(900))
+    duals = "".join(submit(f"d{i}", dual(MOST, 4, [1], [(j, 1) for j in range(4, MOST + 1)], odd=odd)) for i in range(900))
     code = words(MOST, 4, span(linear(MOST, 3))[:4])
-    return duals + (submit("last", code) + "withdraw last\n") * (100 // part)
+    return lambda part: duals + (submit("last", code) + "withdraw last\n") * (100 // part)
 
 
 def thousand_pieces(part):
@@ -449,9 +452,11 @@ CASES = {
     "product_of_8_pairs": ("session", product_of_pairs(8), False, "a product of 8 pairs"),
     "great_builds": ("session", chain_of_great_builds, True, "40 builds of 262,144 words, three stored"),
     "refused_builds": ("session", refused_builds, True, "20 builds over 262,144 words, with no word"),
-    "duals": ("session", greatest_duals, True, "1,000 duals of the greatest multipliers"),
+    "duals": ("session", greatest_duals(), True, "1,000 duals of the greatest multipliers"),
+    "odd_duals": ("session", greatest_duals(MOST_ODD), True, "1,000 duals of the greatest multipliers and number of words"),
     "jduals": ("session", greatest_johnson_duals, True, "1,000 duals of the Johnson scheme, refused"),
-    "resting_duals": ("session", resting_duals, True, "900 duals, a code comes and goes 100 times"),
+    "resting_duals": ("session", resting_duals(), True, "900 duals, a code comes and goes 100 times"),
+    "resting_odd_duals": ("session", resting_duals(MOST_ODD), True, "900 duals with a number of words, a code comes and goes 100 times"),
     "pieces": ("session", thousand_pieces, True, "1,000 pieces"),
     "long_ids": ("session", long_ids, True, "1,000 ids that share 30 and 31 bytes, one looked for 100,000 times"),
     "named_parts": ("session", named_parts, True, "499 builds over a piece that is withdrawn in vain 20,000 times"),
