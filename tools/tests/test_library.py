@@ -7,15 +7,17 @@ from functools import cache
 
 from support import TOOLS, TOP, needs_program
 
+import check_derivation
 import table
 from code_tables import sessions
 from code_tables.cites import check_cites, cites_of
 
 FILES = sorted((TOP / "examples/library").glob("*.session"))
-# The last of them holds the duals.
-CODES = FILES[:-1]
+# The last two of them hold the duals, and the last those that exclude an odd number of words.
+CODES, PLAIN_DUALS = FILES[:-2], FILES[:-1]
 TEXT = (TOP / "docs/LIBRARY.md").read_text()
 PLAIN = r"^\| A\((\d+),(\d+)\) \| (\d+) \| (\d+) \| (\w+) \| (\d+) \| (\d+) \| (\w+) \|$"
+EXCLUDED = r"^\| A\((\d+),(\d+)\) \| (\d+) \| (\d+) \| (\d+|-) \| (\w+|-) \|$"
 WEIGHT = r"^\| A\((\d+),(\d+),(\d+)\) \| (\d+) \| (\d+) \| (\w+) \|$"
 
 
@@ -40,6 +42,12 @@ def whole():
     return table.held(table.read_sessions(FILES), table.ask_all())
 
 
+@cache
+def without_odd():
+    """What it holds over all of it but the duals that exclude an odd number of words."""
+    return table.held(table.read_sessions(PLAIN_DUALS), table.ask_all())
+
+
 class Library(unittest.TestCase):
     def test_each_submission_says_what_it_is(self):
         for file in FILES:
@@ -57,7 +65,8 @@ class Library(unittest.TestCase):
                     self.assertEqual([name for name in named if name not in cited], [])
 
     def test_what_a_session_names_above_all_is_cited(self):
-        for number, kinds, years in (4, ("words",), ["1990"]), (6, ("product",), ["1989", "1990"]), (7, ("dual", "jdual"), ["1973"]):
+        for number, kinds, years in [(4, ("words",), ["1990"]), (6, ("product",), ["1989", "1990"]), (7, ("dual", "jdual"), ["1973"]),
+                                     (8, ("odd",), ["1973", "1978"])]:
             for command in sessions.commands(FILES[number - 1].read_text()):
                 if command.fields.get("kind") in kinds:
                     cited = "\n".join(cites_of(command.fields))
@@ -108,8 +117,32 @@ class Library(unittest.TestCase):
 
     @needs_program
     def test_all_duals_are_accepted_and_reach_what_is_said(self):
-        self.assertEqual(whole().refused, [])
-        self.assertEqual((len(whole().bounds), exact(whole(), 2), exact(whole(), 3)), (len(table.entries()), *told("all seven sessions")))
+        for found, row in (without_odd(), "these and the seventh, of duals"), (whole(), "all eight sessions"):
+            self.assertEqual(found.refused, [])
+            self.assertEqual((len(found.bounds), exact(found, 2), exact(found, 3)), (len(table.entries()), *told(row)))
+
+    @needs_program
+    def test_the_document_says_what_an_odd_number_of_words_excludes(self):
+        better = [entry for entry, bounds in whole().bounds.items() if bounds != without_odd().bounds[entry]]
+        self.assertIn(f"better {len(better)} entries", " ".join(TEXT.split()))
+        listed = [entry for entry in better if entry[1] % 2 == 0 or entry[0] == sessions.LAST]
+        self.assertEqual(sorted((n, d) for n, d, *_ in rows(EXCLUDED)), sorted(listed))
+        self.assertEqual(sorted((n + 1, d + 1) for n, d in better if (n, d) not in listed), sorted(entry for entry in listed if entry[1] % 2 == 0))
+        for n, d, before, now, published, compared in rows(EXCLUDED):
+            self.assertEqual((without_odd().bounds[n, d][1], whole().bounds[n, d][1]), (before, now))
+            known = table.published_at((n, d)) or (published, published)
+            self.assertEqual((published, compared), ("-", "-") if published == "-" else (known[1], table.compared(now, known[1])), (n, d))
+
+    @needs_program
+    def test_each_dual_bounds_what_is_said_above_it(self):
+        rules = {"dual": "U11", "odd": "U12", "jdual": "V9"}
+        for piece in whole().pieces.values():
+            if piece.kind in rules:
+                read = check_derivation.Piece(piece.document.encode())
+                read.check({})
+                premises, formula = check_derivation.rule_at({piece.id: read}, rules[piece.kind], piece.entry, [piece.id])
+                bound = formula(*(whole().bounds[premise][1] for premise in premises))
+                self.assertRegex(piece.title, rf"^{re.escape(sessions.name_of(piece.entry))} is at most {bound}\b", piece.id)
 
     def test_what_is_published_stands_in_the_document_and_in_the_data(self):
         data = json.loads((TOOLS / "published.json").read_text())
