@@ -261,10 +261,10 @@ def greatest_johnson_duals(part):
 
 
 def resting_duals(odd=None):
-    """Duals that rest on every bound of constant weight, and a code that comes and goes and betters these."""
-    duals = "".join(submit(f"d{i}", dual(MOST, 4, [1], [(j, 1) for j in range(4, MOST + 1)], odd=odd)) for i in range(900))
-    code = words(MOST, 4, span(linear(MOST, 3))[:4])
-    return lambda part: duals + (submit("last", code) + "withdraw last\n") * (100 // part)
+    """Duals that rest on bounds of constant weight, and one of the Johnson scheme that comes and goes and betters one of these bounds."""
+    duals = "".join(submit(f"d{i}", dual(MOST, 12, [1], [(j, 1) for j in range(12, MOST + 1)], odd=odd)) for i in range(900))
+    better = johnson_dual(MOST, 12, 10, [1285440, 85956, 3960, 145])
+    return lambda part: duals + (submit("last", better) + "withdraw last\n") * (100 // part)
 
 
 def thousand_pieces(part):
@@ -455,8 +455,8 @@ CASES = {
     "duals": ("session", greatest_duals(), True, "1,000 duals of the greatest multipliers"),
     "odd_duals": ("session", greatest_duals(MOST_ODD), True, "1,000 duals of the greatest multipliers and number of words"),
     "jduals": ("session", greatest_johnson_duals, True, "1,000 duals of the Johnson scheme, refused"),
-    "resting_duals": ("session", resting_duals(), True, "900 duals, a code comes and goes 100 times"),
-    "resting_odd_duals": ("session", resting_duals(MOST_ODD), True, "900 duals with a number of words, a code comes and goes 100 times"),
+    "resting_duals": ("session", resting_duals(), True, "900 duals, one with a weight comes and goes 100 times"),
+    "resting_odd_duals": ("session", resting_duals(MOST_ODD), True, "900 duals with a number of words, one with a weight comes and goes 100 times"),
     "pieces": ("session", thousand_pieces, True, "1,000 pieces"),
     "long_ids": ("session", long_ids, True, "1,000 ids that share 30 and 31 bytes, one looked for 100,000 times"),
     "named_parts": ("session", named_parts, True, "499 builds over a piece that is withdrawn in vain 20,000 times"),
