@@ -109,6 +109,17 @@ fn written_in_their_format(rt: HostRuntime) -> Result<(), Fail> {
     Ok(())
 }
 
+/// A dual with an odd number of words is written with what it cites.
+#[test]
+fn cites_of_an_odd_dual(rt: HostRuntime) -> Result<(), Fail> {
+    let text =
+        "kind = 'odd'\nformat = 2\nn = 9\nd = 4\neven = true\nm = 21\nc = [3, 1, 1]\ny = [[8, 16]]\ncites = ['a']";
+    let expected =
+        "c = [3, 1, 1]\ncites = [\"a\"]\nd = 4\neven = true\nformat = 2\nkind = \"odd\"\nm = 21\nn = 9\ny = [[8, 16]]\n";
+    assert!(rt; written(rt.alloc(), text.as_bytes())?.as_slice() == expected.as_bytes());
+    Ok(())
+}
+
 // A document of format 2 that cites so many texts of so many letters.
 fn with_cites(alloc: Global, count: usize, length: usize) -> Result<Vec<u8>, Fail> {
     let mut text = Vec::from_slice(alloc, SIX_WORDS.as_bytes())?;

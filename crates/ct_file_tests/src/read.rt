@@ -195,6 +195,7 @@ fn keys_of_the_fields(rt: HostRuntime) {
         (FieldName::Part, "part"),
         (FieldName::Other, "other"),
         (FieldName::Pairs, "pairs"),
+        (FieldName::M, "m"),
     ];
     for (name, text) in texts {
         assert!(rt; name.text() == text);

@@ -10,6 +10,10 @@ const OPERATION: FileFault = FileFault::Field(FieldName::Op);
 
 const PLACES: FileFault = FileFault::Field(FieldName::Places);
 
+const MARK: FileFault = FileFault::Field(FieldName::Even);
+
+const NUMBER: FileFault = FileFault::Field(FieldName::M);
+
 const SIZE: FileFault = FileFault::Field(FieldName::Size);
 
 const WEIGHT: FileFault = FileFault::Field(FieldName::W);
@@ -22,8 +26,9 @@ const NO_KIND: FileFault = FileFault::Kind;
 
 const FURTHER_KEY: FileFault = FileFault::Unknown;
 
-// Documents of words, those that are of no kind or lack a field, and builds of words of length 4; and the fault.
-const REFUSED: [(&str, FileFault); 73] = [
+// Documents of words, those that are of no kind or lack a field, builds of words of length 4, and duals with a number of words; and the
+// fault.
+const REFUSED: [(&str, FileFault); 82] = [
     (
         "kind = 'words'\nn = 9223372036854775808\nd = 4\nwords = []\n",
         NO_TOML,
@@ -217,6 +222,33 @@ const REFUSED: [(&str, FileFault); 73] = [
         "kind = 'build'\nn = 4\npart = 'a'\nd = 4\nop = 'shorten'\nplaces = [4]\ndigits = '01'",
         FileFault::Digits(0),
     ),
+    (
+        "kind = 'odd'\nn = 9\nd = 4\neven = true\nm = 20\nc = [3, 1, 1]\ny = [[8, 16]]",
+        NUMBER,
+    ),
+    (
+        "kind = 'odd'\nn = 9\nd = 4\neven = true\nc = [3, 1, 1]\ny = [[8, 16]]",
+        NUMBER,
+    ),
+    ("kind = 'odd'\nn = 9\nd = 4\nm = 1\nc = [-1]", NUMBER),
+    ("kind = 'odd'\nn = 9\nd = 4\nm = 1048577\nc = [1]", NUMBER),
+    (
+        "kind = 'odd'\nn = 9\nd = 5\neven = true\nm = 20\nc = [1]",
+        MARK,
+    ),
+    (
+        "kind = 'odd'\nn = 9\nd = 4\nm = 3\nc = [1]\nw = 4",
+        FURTHER_KEY,
+    ),
+    (
+        "kind = 'odd'\nn = 9\nd = 4\nm = 3\nc = [1]\ncites = ['a']",
+        FURTHER_KEY,
+    ),
+    (
+        "kind = 'odd'\nn = 9\nd = 4\nm = 3\nc = [1]\ncites = 'a'\nformat = 2",
+        FileFault::Field(FieldName::Cites),
+    ),
+    ("kind = 'dual'\nn = 9\nd = 4\nm = 3\nc = [1]", FURTHER_KEY),
 ];
 
 #[test]

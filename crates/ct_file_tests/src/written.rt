@@ -5,7 +5,7 @@ use std::alloc::Global;
 use std::test::Fail;
 
 // A document whose keys stand in another order than they are written in, and what is written for it.
-const WRITTEN: [(&str, &str); 21] = [
+const WRITTEN: [(&str, &str); 23] = [
     (
         "kind = 'words'\nn = 10\nd = 6\nwords = ['0000000000', '1111100000']\n",
         "d = 6\nkind = \"words\"\nn = 10\nwords = [\"0000000000\", \"1111100000\"]\n",
@@ -89,6 +89,14 @@ const WRITTEN: [(&str, &str); 21] = [
     (
         "op = 'trim'\nsize = 1\npart = 'a'\nkind = 'build'\nn = 1\nd = 4\nw = 1",
         "d = 4\nkind = \"build\"\nn = 1\nop = \"trim\"\npart = \"a\"\nsize = 1\nw = 1\n",
+    ),
+    (
+        "kind = 'odd'\nn = 9\nd = 4\neven = true\nm = 21\nc = [3, 1, 1]\ny = [[8, 16]]",
+        "c = [3, 1, 1]\nd = 4\neven = true\nkind = \"odd\"\nm = 21\nn = 9\ny = [[8, 16]]\n",
+    ),
+    (
+        "kind = 'odd'\nm = 0xF_FFFF\nc = [0]\nd = 3\nn = 1",
+        "c = [0]\nd = 3\neven = false\nkind = \"odd\"\nm = 1048575\nn = 1\ny = []\n",
     ),
 ];
 
