@@ -36,17 +36,19 @@ kind_by given text d = record {
   gives = λ size. support_by given (dual_fault (numbers_of d.entry) d) d;
 }
 
--- a dual of kind dual or jdual gives its bound
+-- what a dual of kind dual or jdual gives: its bound
 abbrev pub dual_support : Option DualFault → Dual → Support
 dual_support = support_by Bound
 
+-- what evidence of kind dual or jdual comes to
 abbrev pub dual_kind : List ℕ → Dual → KindParts
 dual_kind = kind_by Bound
 
--- one of kind odd gives that it may exclude so many words
+-- what a dual of kind odd gives with its number of words: that parity may exclude so many
 abbrev pub odd_support : ℕ → Option DualFault → Dual → Support
 odd_support m = support_by (λ accepted. Odd accepted m)
 
+-- what evidence of kind odd comes to
 abbrev pub odd_kind : List ℕ → Dual → ℕ → KindParts
 odd_kind text d m = kind_by (λ accepted. Odd accepted m) text d
 

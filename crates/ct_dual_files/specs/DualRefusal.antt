@@ -1,5 +1,5 @@
 -- Why a dual is refused: each reason by its plain condition.
-use Rattle.std.specs.Prelude.{ℤ, pos, ◌≤ℤ◌}
+use Rattle.std.specs.Prelude.{pos, ◌≤ℤ◌}
 use Rattle.ct_codes.specs.Numbers.{numbers_of, multiplier}
 use Rattle.ct_duals.specs.declared.dual.Dual.{Dual}
 use Rattle.ct_duals.specs.declared.fault.DualFault.TheVariants as dual

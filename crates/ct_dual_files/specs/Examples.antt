@@ -24,8 +24,7 @@ eight_four_four = record { entry = constant_weight 8 4 4; even = false; c = pos 
 abbrev pub document : ℕ → Bool → List ℤ → List (ℕ × ℤ) → Data
 document d even c y = table (put name.Y (pair_list y) (put name.C (integer_list c) (put name.Even (boolean even) (entry_table (codes "dual") 13 d))))
 
--- a dual for A(9,4), of even distances alone, that rests on one upper bound: f = 3 + K_1 + K_2, which is 48 at 0 (Best, Brouwer, MacWilliams, Odlyzko
--- and Sloane 1978)
+-- a dual for A(9,4), of even distances alone, that rests on one upper bound: f = 3 + K_1 + K_2, which is 48 at 0
 abbrev pub nine_four : Dual
 nine_four = record { entry = unrestricted 9 4; even = true; c = pos 3 ∷ pos 1 ∷ pos 1 ∷ []; y = (8, pos 16) ∷ [] }
 
