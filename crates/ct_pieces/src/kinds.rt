@@ -37,6 +37,7 @@ pub(crate) fn kind_of(evidence: &Evidence) -> Kind
         Evidence::Product { entry, .. } => product_kind::kind(*entry),
         Evidence::Dual(dual) => dual_kind::kind(b"dual", dual),
         Evidence::JohnsonDual(dual) => dual_kind::kind(b"jdual", dual),
+        Evidence::Odd { dual, .. } => dual_kind::kind(b"odd", dual),
     }
 }
 
@@ -57,7 +58,8 @@ pub(crate) fn listed(evidence: &Evidence) -> u64
         Evidence::Build { .. }
         | Evidence::Product { .. }
         | Evidence::Dual(_)
-        | Evidence::JohnsonDual(_) => 0,
+        | Evidence::JohnsonDual(_)
+        | Evidence::Odd { .. } => 0,
     }
 }
 
@@ -191,6 +193,7 @@ pub(crate) fn check(
         }
         Evidence::Dual(dual) => Ok(Checked::of_dual(dual_kind::check(dual)?)),
         Evidence::JohnsonDual(dual) => Ok(Checked::of_dual(dual_kind::check(dual)?)),
+        Evidence::Odd { dual, m } => Ok(Checked::of_dual(dual_kind::check_odd(dual, *m)?)),
     }
 }
 
@@ -245,6 +248,7 @@ pub(crate) fn listed_code(
         Evidence::Partition { .. }
         | Evidence::Build { .. }
         | Evidence::Dual(_)
-        | Evidence::JohnsonDual(_) => Ok(None),
+        | Evidence::JohnsonDual(_)
+        | Evidence::Odd { .. } => Ok(None),
     }
 }
