@@ -21,15 +21,22 @@ use Rattle.ct_pieces.specs.Supports.{support_of, supports_of}
 use Rattle.ct_pieces.proofs.DualSupports.{gives_bound, gives_johnson_bound}
 use Rattle.ct_pieces.proofs.SupportLemmas.{supports_stand}
 
+-- what a piece that stands gives is the support at its place, and stands
+pub given_there : (ps : List PieceValue) (k : ℕ) (p : PieceValue) (s : Support) → AreStanding ps → slice_get ps k ≡ Some p → support_of p ≡ s
+    → (slice_get (supports_of ps) k ≡ Some s) × Stands s
+given_there ps k p s h read gives =
+    let at : slice_get (supports_of ps) k ≡ Some s =
+    slice_get-map support_of ps k ∙ ap (option_map support_of) read ∙ ap (λ (t : Support). Some t) gives in
+    let within = slice_get_within (supports_of ps) k s at in
+    (at, subst Stands (get_or_from_slice_get (supports_of ps) k s s at) (supports_stand ps h k s within))
+
 -- the best upper bound of the entry of a dual that stands is no greater than the dual's bound, from whatever upper bounds are derived of what it rests on
 dual-reached_by : (ps : List PieceValue) (k : ℕ) (p : PieceValue) (a : AcceptedValue) (claims : List Claim) (v : ℕ) → AreStanding ps → slice_get ps k ≡ Some p
     → support_of p ≡ Bound a → map slot_of claims ≡ slots_on Upper (dual_premises a.dual) → All (IsDerived (supports_of ps)) claims
     → IsBest (supports_of ps) (Upper, a.dual.entry) v → v ≤ dual_bound a.dual a.at_zero (map (λ c. c.value) claims)
 dual-reached_by ps k p a claims v h read gives premises each best =
-    let at : slice_get (supports_of ps) k ≡ Some (Bound a) = slice_get-map support_of ps k ∙ ap (option_map support_of) read ∙ ap (λ (s : Support). Some s) gives in
-    let within = slice_get_within (supports_of ps) k (Bound a) at in
-    let stands : Stands (Bound a) = subst Stands (get_or_from_slice_get (supports_of ps) k (Bound a) (Bound a) at) (supports_stand ps h k (Bound a) within) in
-    dual-reached (supports_of ps) k a claims v stands at premises each best
+    let there = given_there ps k p (Bound a) h read gives in
+    dual-reached (supports_of ps) k a claims v there.1 there.0 premises each best
 
 pub bound_reached : (ps : List PieceValue) (k : ℕ) (p : PieceValue) (d : Dual) (claims : List Claim) (v : ℕ) → AreStanding ps → slice_get ps k ≡ Some p
     → p.evidence ≡ evidence.Dual d → map slot_of claims ≡ slots_on Upper (dual_premises d) → All (IsDerived (supports_of ps)) claims

@@ -1,3 +1,4 @@
 pub mod Reaching
 pub mod DualReaching
+pub mod OddSizes
 mod LeftSupports

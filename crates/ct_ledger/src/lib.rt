@@ -10,5 +10,8 @@ pub use ct_pieces::{
     reasons_of_kinds, refusals_in_order, stored_words_by_kind, submissions_that_are_accepted,
     submit_refusal, withdraw_refusal, withdrawals_that_are_refused,
 };
-pub use laws::{duals_reach_their_bounds, pieces_reach_their_bounds, sizes_are_those_of_codes};
+pub use laws::{
+    duals_reach_their_bounds, odd_evidence_excludes_sizes, pieces_reach_their_bounds,
+    sizes_are_those_of_codes,
+};
 pub use ledger::Ledger;
