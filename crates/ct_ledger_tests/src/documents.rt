@@ -40,8 +40,8 @@ pub const STANDING: [Stated<'static>; 4] = [
 ];
 
 /// A piece of each kind, each of which betters bounds or may be a part: the Fano plane, the code of Nordstrom and Robinson, a partition, a code
-/// beside itself, a product, a dual without weight and one with a weight, and words with as many cites as there may be.
-pub const TRIED: [Stated<'static>; 8] = [
+/// beside itself, a product, a dual without weight, one with a weight and one with a number of words, and words with as many cites as there may be.
+pub const TRIED: [Stated<'static>; 9] = [
     Stated {
         id: "fano",
         document: "kind='words'\nn=7\nd=4\nw=3\nwords=['1101000','0110100','0011010','0001101','1000110','0100011','1010001']",
@@ -66,6 +66,10 @@ pub const TRIED: [Stated<'static>; 8] = [
     Stated {
         id: "j8",
         document: "kind='jdual'\nn=8\nd=4\nw=4\nc=[48,21,4]",
+    },
+    Stated {
+        id: "o9",
+        document: "kind='odd'\nn=9\nd=4\neven=true\nm=21\nc=[3,1,1]\ny=[[8,16]]",
     },
     Stated {
         id: "cited",
