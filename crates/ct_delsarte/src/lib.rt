@@ -5,5 +5,8 @@
 mod laws;
 mod schemes;
 
-pub use laws::{accepted_duals_are_sound, duals_bound_codes, known_duals, known_standing_duals};
+pub use laws::{
+    accepted_duals_are_sound, duals_bound_codes, known_duals, known_local_bounds,
+    known_standing_duals,
+};
 pub use schemes::check_dual_of_table;

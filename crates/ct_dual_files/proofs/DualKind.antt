@@ -2,7 +2,7 @@
 use Rattle.std.proofs.Common.{◌≡◌, ℕ, List, Option, Some, None, option_map, refl, ap}
 use Rattle.ct_duals.specs.declared.dual.Dual.{Dual}
 use Rattle.ct_duals.specs.declared.fault.DualFault.{DualFault}
-use Rattle.ct_duals.specs.Dual.{IsDual}
+use Rattle.ct_duals.specs.Dual.{AllowsNone, IsDual}
 use Rattle.ct_duals.specs.Bound.{AcceptedValue, IsAccepted}
 use Rattle.ct_duals.specs.Check.{dual_fault}
 use Rattle.ct_duals.proofs.Faults.{below-from_none, none-from_below, accepted-from_none}
@@ -16,11 +16,11 @@ use Rattle.ct_dual_files.specs.DualKind.{with_at_zero, support_by, kind_by, dual
 use Rattle.ct_kind.specs.declared.fault.SubmitFault.TheVariants as fault
 use Rattle.ct_kind.proofs.Stating.{option_map-none, StatesWell, SaysSame}
 
--- what an accepted dual gives stands, where it does of each that is accepted
-support_stands : (given : AcceptedValue → Support) → ((a : AcceptedValue) → IsAccepted a → Stands (given a)) → (d : Dual) → IsDual d → (o : Option DualFault)
+-- what an accepted dual gives stands, where that stands that is given by it
+support_stands : (given : AcceptedValue → Support) (d : Dual) → (IsAccepted (with_at_zero d) → Stands (given (with_at_zero d))) → IsDual d → (o : Option DualFault)
     → dual_fault (numbers_of d.entry) d ≡ o → Stands (support_by given o d)
-support_stands given stands d form None none = stands (with_at_zero d) (accepted-from_none d form none)
-support_stands given stands d form (Some reason) is = tt
+support_stands given d stands form None none = stands (accepted-from_none d form none)
+support_stands given d stands form (Some reason) is = tt
 
 -- nor is it a size
 pub gives_no_size : (d : Dual) (o : Option DualFault) (e : Entry) (size : ℕ) → dual_support o d ≡ Size e size → ⊥
@@ -32,9 +32,9 @@ odd_gives_no_size d m None e size h = absurd cc
 odd_gives_no_size d m (Some reason) e size h = absurd cc
 
 -- a dual against which there is no reason is one, whatever the word of its kind and what it gives
-kind_states : (given : AcceptedValue → Support) → ((a : AcceptedValue) → IsAccepted a → Stands (given a)) → (known : List NamedCode) (text : List ℕ) (d : Dual)
+kind_states : (given : AcceptedValue → Support) (known : List NamedCode) (text : List ℕ) (d : Dual) → (IsAccepted (with_at_zero d) → Stands (given (with_at_zero d)))
     → IsDual d → (kind_by given text d).reason known ≡ None → StatesWell (kind_by given text d) known (IsDualChecked d)
-kind_states given stands known text d form own =
+kind_states given known text d stands form own =
     record {
       entry = form.entry;
       checked = below-from_none (numbers_of d.entry) d (option_map-none fault.Dual _ own);
@@ -42,16 +42,16 @@ kind_states given stands known text d form own =
       code = tt;
       size = λ yes. absurd cc;
       partition = tt;
-      stands = support_stands given stands d form (dual_fault (numbers_of d.entry) d) refl;
+      stands = support_stands given d stands form (dual_fault (numbers_of d.entry) d) refl;
     }
 
-pub dual_states : (known : List NamedCode) (text : List ℕ) (d : Dual) → IsDual d → (dual_kind text d).reason known ≡ None
+pub dual_states : (known : List NamedCode) (text : List ℕ) (d : Dual) → IsDual d → AllowsNone d.entry.w d.y → (dual_kind text d).reason known ≡ None
     → StatesWell (dual_kind text d) known (IsDualChecked d)
-dual_states known text d form own = kind_states Bound (λ a accepted. accepted) known text d form own
+dual_states known text d form plain own = kind_states Bound known text d (λ accepted. (accepted, plain)) form own
 
 pub odd_states : (known : List NamedCode) (text : List ℕ) (d : Dual) (m : ℕ) → IsDual d → (odd_kind text d m).reason known ≡ None
     → StatesWell (odd_kind text d m) known (IsDualChecked d)
-odd_states known text d m form own = kind_states (λ accepted. Odd accepted m) (λ a accepted. accepted) known text d form own
+odd_states known text d m form own = kind_states (λ accepted. Odd accepted m) known text d (λ accepted. accepted) form own
 
 -- a dual has no reason against it
 pub dual_accepted : (d : Dual) → IsDualChecked d → option_map fault.Dual (dual_fault (numbers_of d.entry) d) ≡ None

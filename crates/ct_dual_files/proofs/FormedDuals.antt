@@ -15,7 +15,7 @@ use Rattle.ct_fields.specs.declared.fault.FileFault.{FileFault}
 use Rattle.ct_fields.proofs.StepLemmas.{bind-ok}
 use Rattle.ct_fields.proofs.EntryAnswers.{plain_entry_of-ok}
 use Rattle.ct_duals.specs.declared.dual.Dual.{Dual}
-use Rattle.ct_duals.specs.Dual.{IsPlainOf, IsDual}
+use Rattle.ct_duals.specs.Dual.{IsMarkOf, IsDual}
 use Rattle.ct_dual_files.specs.Fields.{even_field, odd_size_field, multipliers_field, allowances_field}
 use Rattle.ct_dual_files.specs.Dual.{dual_after, dual_of, odd_of, weighted_entry_of, johnson_dual_of}
 use Rattle.ct_dual_files.specs.DualDocument.{dual_fields, johnson_dual_fields, HasEven, HasMultipliers, AreAllowances, HasAllowances, StatesEven, StatesWeightedEntry}
@@ -49,7 +49,7 @@ formed_plain document d states (has, some, few, all, small) allows =
     record {
       entry = subst IsEntry (sym states.entry.plain) entry;
       even_distance = even_fits d.entry.d document d.even states.marked;
-      weighted = subst (λ (f : Entry). IsPlainOf f.w d.even d.y) (sym states.entry.plain) tt;
+      weighted = subst (λ (f : Entry). IsMarkOf f.w d.even) (sym states.entry.plain) tt;
       some = some;
       few = few;
       multipliers = all;
@@ -74,7 +74,7 @@ formed_weighted document d states unmarked (has, some, few, all, small) empty =
     record {
       entry = subst (λ v. IsEntry (record { n = d.entry.n; d = d.entry.d; w = v })) (sym is) entry;
       even_distance = λ set. absurd (false≢true (sym unmarked ∙ set));
-      weighted = subst (λ v. IsPlainOf v d.even d.y) (sym is) (unmarked, empty);
+      weighted = subst (λ v. IsMarkOf v d.even) (sym is) unmarked;
       some = some;
       few = few;
       multipliers = all;

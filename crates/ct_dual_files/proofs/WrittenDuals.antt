@@ -79,9 +79,9 @@ states_odd d m form plain size = record {
   last = HasLast-own odd_fields (odd_table d m) own_odd refl;
 }
 
--- the table of a dual with a weight states it
-pub states_johnson_dual : (d : Dual) → IsDual d → IsSome d.entry.w → StatesJohnsonDual (table (johnson_dual_table d)) d
-states_johnson_dual d form some = at d.entry.w form some
+-- the table of a dual with a weight that allows nothing states it
+pub states_johnson_dual : (d : Dual) → IsDual d → IsSome d.entry.w → d.y ≡ [] → StatesJohnsonDual (table (johnson_dual_table d)) d
+states_johnson_dual d form some empty = at d.entry.w form some
   where
     weighted : Option ℕ → Dual
     weighted w = record { entry = record { n = d.entry.n; d = d.entry.d; w = w }; even = d.even; c = d.c; y = d.y }
@@ -98,9 +98,9 @@ states_johnson_dual d form some = at d.entry.w form some
               with_distance = ((refl, limits.distance_from, limits.distance_to), limits.weight.0);
               with_weight = (w, refl, (refl, omega arith, limits.weight.2));
             };
-            unmarked = form.weighted.0;
+            unmarked = form.weighted;
             multipliers = (refl, form.some, form.few, form.multipliers, form.signed.0);
-            none_allowed = form.weighted.1;
+            none_allowed = empty;
           };
           last = HasLast-own johnson_dual_fields (johnson_dual_table (weighted (Some w))) own_johnson_dual refl;
         }
@@ -112,8 +112,8 @@ dual_of-dual_table d form plain = dual_answer-from (dual_table d) (Ok d) (states
 pub odd_of-odd_table : (d : Dual) (m : ℕ) → IsDual d → d.entry.w ≡ None → IsOddSize m → odd_of (table (odd_table d m)) ≡ Ok (d, m)
 odd_of-odd_table d m form plain size = odd_answer-from (odd_table d m) (Ok (d, m)) (states_odd d m form plain size)
 
-pub johnson_dual_of-johnson_dual_table : (d : Dual) → IsDual d → IsSome d.entry.w → johnson_dual_of (table (johnson_dual_table d)) ≡ Ok d
-johnson_dual_of-johnson_dual_table d form some = johnson_dual_answer-from (johnson_dual_table d) (Ok d) (states_johnson_dual d form some)
+pub johnson_dual_of-johnson_dual_table : (d : Dual) → IsDual d → IsSome d.entry.w → d.y ≡ [] → johnson_dual_of (table (johnson_dual_table d)) ≡ Ok d
+johnson_dual_of-johnson_dual_table d form some empty = johnson_dual_answer-from (johnson_dual_table d) (Ok d) (states_johnson_dual d form some empty)
 
 -- the tables are no deeper than a document may be
 integers_depth : (c : List ℤ) → items_depth (items_of (map (λ z. integer z) c)) ≡ 0

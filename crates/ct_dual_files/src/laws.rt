@@ -33,11 +33,11 @@ pub fn answers_to_duals()
 {}
 
 /// Every dual reads back from its table: one without weight as of kind dual, and with each odd number of words from 3 to `MAX_ODD` as of
-/// kind odd, one with a weight as of kind jdual.
+/// kind odd, one with a weight that allows nothing as of kind jdual.
 pub fn duals_read_back()
     ensures dual { (d : Dual) → IsDual d → d.entry.w ≡ None → dual_of (table (dual_table d)) ≡ Ok d }
     ensures odd { (d : Dual) (m : ℕ) → IsDual d → d.entry.w ≡ None → IsOddSize m → odd_of (table (odd_table d m)) ≡ Ok (d, m) }
-    ensures johnson { (d : Dual) → IsDual d → IsSome d.entry.w →
+    ensures johnson { (d : Dual) → IsDual d → IsSome d.entry.w → d.y ≡ [] →
         johnson_dual_of (table (johnson_dual_table d)) ≡ Ok d }
 {}
 

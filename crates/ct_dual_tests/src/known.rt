@@ -20,7 +20,7 @@ fn weighted(n: u32, d: u32, w: u32) -> Entry {
 fn known_bounds(rt: HostRuntime) -> Result<(), Fail> {
     let alloc = rt.alloc();
     let golay = [3024, 3024, 1869, 924, 344, 100, 15];
-    let rows: [(Entry, bool, &[i64], &[(u32, i64)], &[u32], u32); 12] = [
+    let rows: [(Entry, bool, &[i64], &[(u32, i64)], &[u32], u32); 13] = [
         (
             plain(13, 6),
             true,
@@ -58,6 +58,7 @@ fn known_bounds(rt: HostRuntime) -> Result<(), Fail> {
         ),
         (plain(5, 3), false, &[1, 1, 1, 1, 1, 1], &[], &[], 32),
         (weighted(8, 4, 4), false, &[48, 21, 4], &[], &[], 14),
+        (weighted(8, 4, 4), false, &[8, 1], &[(2, 8)], &[14], 17),
         (weighted(12, 6, 6), false, &[180, 55, 4], &[], &[], 22),
         (
             weighted(24, 8, 8),
@@ -117,7 +118,7 @@ fn refused_duals(rt: HostRuntime) -> Result<(), Fail> {
         Answer::Refused(DualFault::Above { at, value, allowed })
     };
     let lead = Answer::Refused(DualFault::Lead);
-    let rows: [(Entry, bool, &[i64], &[(u32, i64)], Answer); 9] = [
+    let rows: [(Entry, bool, &[i64], &[(u32, i64)], Answer); 10] = [
         (weighted(8, 4, 4), false, &[0, 21, 4], &[], lead),
         (plain(13, 6), true, &[0, 1, 1], &[], lead),
         (
@@ -144,6 +145,7 @@ fn refused_duals(rt: HostRuntime) -> Result<(), Fail> {
         ),
         (plain(5, 3), false, &[1], &[], above(3, 1, 0)),
         (weighted(8, 4, 4), false, &[48, 20, 4], &[], above(4, 16, 0)),
+        (weighted(8, 4, 4), false, &[8, 1], &[(2, 7)], above(2, 8, 7)),
         (weighted(8, 4, 4), false, &[1], &[], above(2, 1, 0)),
     ];
     for (entry, even, c, y, want) in rows {
@@ -157,7 +159,7 @@ fn refused_duals(rt: HostRuntime) -> Result<(), Fail> {
 #[test]
 fn malformed_duals(rt: HostRuntime) -> Result<(), Fail> {
     let alloc = rt.alloc();
-    let rows: [(Entry, bool, &[i64], &[(u32, i64)]); 12] = [
+    let rows: [(Entry, bool, &[i64], &[(u32, i64)]); 13] = [
         (plain(31, 6), false, &[1], &[]),
         (plain(13, 5), true, &[1], &[]),
         (plain(13, 6), false, &[], &[]),
@@ -169,7 +171,8 @@ fn malformed_duals(rt: HostRuntime) -> Result<(), Fail> {
         (plain(13, 6), false, &[1], &[(8, 1), (8, 1)]),
         (plain(13, 6), false, &[1], &[(8, -1)]),
         (weighted(8, 4, 4), true, &[1], &[]),
-        (weighted(8, 4, 4), false, &[1], &[(4, 1)]),
+        (weighted(8, 4, 4), false, &[1], &[(1, 1)]),
+        (weighted(8, 4, 4), false, &[1], &[(5, 1)]),
     ];
     for (entry, even, c, y) in rows {
         let got = answer_to(alloc, entry, even, c, y, &[])?;

@@ -6,6 +6,7 @@ use Rattle.std.proofs.lemmas.Int.{ints}
 use Rattle.std.proofs.lemmas.List.Sums.{sum_by-cons}
 use Rattle.ct_codes.specs.declared.entry.Entry.{Entry}
 use Rattle.ct_duals.specs.Bound.{natural, positive, charges, is_far, greatest, near_charge, far_charge}
+use Rattle.ct_duals.specs.Local.{local_charge}
 
 -- whether a number is above 0
 pub above_zero : (z : ℤ) → pos 1 ≤ℤ z → int_lt (pos 0) z ≡ true
@@ -108,3 +109,16 @@ gathers-end e all us near far g =
     let sum_was = g.sum in
     let greatest_was = g.greatest_of in
     omega arith
+
+-- the sum of the charges, by the first index
+pub local-yes : (p : ℕ × ℤ) (y : List (ℕ × ℤ)) (u : ℕ) (us : List ℕ) → int_lt (pos 0) p.1 ≡ true
+    → local_charge (p ∷ y) (u ∷ us) ≡ natural p.1 * u + local_charge y us
+local-yes p y u us h =
+    ap (λ ps. sum_by (λ (q : ℕ × ℕ). q.1) (charges ps (u ∷ us))) (positive-yes p y h)
+    ∙ sum_by-cons (λ (q : ℕ × ℕ). q.1) (p.0, natural p.1 * u) (charges (positive y) us)
+
+pub local-no : (p : ℕ × ℤ) (y : List (ℕ × ℤ)) (us : List ℕ) → int_lt (pos 0) p.1 ≡ false → local_charge (p ∷ y) us ≡ local_charge y us
+local-no p y us h = ap (λ ps. sum_by (λ (q : ℕ × ℕ). q.1) (charges ps us)) (positive-no p y h)
+
+pub local-past : (y : List (ℕ × ℤ)) → local_charge y [] ≡ 0
+local-past y = ap (λ cs. sum_by (λ (q : ℕ × ℕ). q.1) cs) (charges-none (positive y))

@@ -1,6 +1,6 @@
 -- The bound of an accepted dual is true, by the laws of a scheme alone.
 use Rattle.std.proofs.Common.{◌≡◌, ℕ, suc, ◌+◌, ◌*◌, ◌/◌, ◌%◌, ◌^◌, ◌<◌, ◌≤◌, Bool, true, false, not, ◌==◌, ◌&&◌, ◌||◌, List, [], ◌∷◌, length, get_or, refl, sym, ap, ap₂, ◌∙◌, subst, arith, eq-eqb, leb-true, le-leb}
-use Rattle.std.specs.Prelude.{ℤ, pos, ◌+ℤ◌, ◌*ℤ◌, ◌≤ℤ◌, int_lt, Option, None, Some, nat_le, IfSome, IsTrue}
+use Rattle.std.specs.Prelude.{min, ℤ, pos, ◌+ℤ◌, ◌*ℤ◌, ◌≤ℤ◌, int_lt, Option, None, Some, nat_le, IfSome, IsTrue}
 use Rattle.std.specs.List.{All, AllPairs}
 use Rattle.std.proofs.lemmas.Int.{ints}
 use Rattle.std.proofs.lemmas.Nat.{le-div}
@@ -20,21 +20,13 @@ use Rattle.ct_codes.proofs.BoundLemmas.{one_is_lower}
 use Rattle.ct_codes.proofs.CheckLemmas.{code_size-le}
 use Rattle.ct_duals.specs.declared.dual.Dual.{Dual}
 use Rattle.ct_codes.specs.Numbers.{multiplier, combination}
-use Rattle.ct_duals.specs.Dual.{IsWordOf, as_index, index_of, greatest_index, degree_of, Fits, is_in_range, IsDual, IsPlainOf}
+use Rattle.ct_duals.specs.Dual.{IsWordOf, as_index, index_of, greatest_index, degree_of, Fits, is_in_range, IsDual, IsMarkOf}
 use Rattle.ct_duals.specs.Check.{dual_fault}
 use Rattle.ct_duals.specs.Bound.{natural, positive, charges, is_far, near_charge, far_charge, dual_premises, dual_spread, IsSpread, dual_bound, AreTrueUppers}
 use Rattle.ct_duals.proofs.Allowed.{count_at, weighed, weighed-positive, weighed-charge, natural-is}
-use Rattle.ct_duals.proofs.Neighbours.{within_uppers, one_far, evened, length-evened, IsCode-evened, distances-evened}
+use Rattle.ct_duals.proofs.Neighbours.{words_of_code, within_uppers, one_far, evened, length-evened, IsCode-evened, distances-evened}
 use Rattle.ct_duals.proofs.Sound.{AreLaws, AreInRange, some_index, lead-within, pairs-at_most, size-within}
 use Rattle.ct_duals.proofs.Faults.{below-from_none}
-
--- the words of a code are words of the space
-words_of_code : (e : Entry) (words : List ℕ) → IsCodeOf e words → All (IsWordOf e) words
-words_of_code e words code = λ k o l. (code.lengths k o l, weighted e.w code.weights k o l)
-  where
-    weighted : (w : Option ℕ) → IfSome w (λ v. All (λ x. weight e.n x ≡ v) words) → (k o : ℕ) → k < length words → IfSome w (λ v. weight e.n (get_or words k o) ≡ v)
-    weighted None h k o l = tt
-    weighted (Some w) h k o l = h k o l
 
 -- a greater distance has no smaller index
 as_index-le : (w : Option ℕ) (s t : ℕ) → s ≤ t → as_index w s ≤ as_index w t
@@ -63,24 +55,18 @@ pairs-in_range belongs index degree number d laws fits words code parity =
     (far, in_range e d.even (index_of e x y) (as_index-le e.w e.d (distance e.n x y) far) (omega arith) (parity i j o l m))
 
 -- what is allowed about a word of a code is at most what the upper bounds allow
-allowed_about : (d : Dual) (us : List ℕ) (words : List ℕ) → IsDual d → IsCodeOf d.entry words → AreTrueUppers (dual_premises d) us → (x : ℕ) → x < 2 ^ d.entry.n
+allowed_about : (d : Dual) (us : List ℕ) (words : List ℕ) → IsDual d → IsCodeOf d.entry words → AreTrueUppers (dual_premises d) us → (x : ℕ) → IsWordOf d.entry x
     → weighed (count_at (index_of d.entry x) words) d.y ≤ near_charge d.entry (charges (positive d.y) us) + far_charge d.entry (charges (positive d.y) us)
-allowed_about d us words form code known x below = go d.entry.w refl form.weighted code
-  where
-    go : (w : Option ℕ) → d.entry.w ≡ w → IsPlainOf w d.even d.y → IsCode d.entry.n d.entry.d w words
-        → weighed (count_at (index_of d.entry x) words) d.y ≤ near_charge d.entry (charges (positive d.y) us) + far_charge d.entry (charges (positive d.y) us)
-    go (Some w) is plain code = let none = ap (weighed (count_at (index_of d.entry x) words)) plain.1 in omega arith
-    go None is plain code =
-        let e = d.entry in
-        let A = count_at (distance e.n x) words in
-        let same : weighed (count_at (index_of e x) words) d.y ≡ weighed A d.y = ap (λ v. weighed (count_at (λ z. as_index v (distance e.n x z)) words) d.y) is in
-        let some = weighed-positive A d.y in
-        let within = within_uppers e.n e.d x words below code (positive d.y) us known in
-        let R : ℕ × ℤ → ℕ × ℤ → Type 0 = λ p q. is_far e p.0 ≡ true → is_far e q.0 ≡ true → (A p.0 ≡ 0 → ⊥) → A q.0 ≡ 0 in
-        let one = AllPairs-weaker (λ (p q : ℕ × ℤ). p.0 < q.0) R (positive d.y) (λ p q less far_p far_q other. one_far e x p.0 q.0 words code less far_p far_q other)
-        (AllPairs-filter (λ (p q : ℕ × ℤ). p.0 < q.0) (λ (p : ℕ × ℤ). int_lt (pos 0) p.1) d.y form.ascending) in
-        let most = weighed-charge e A (positive d.y) us within one in
-        omega arith
+allowed_about d us words form code known x word =
+    let e = d.entry in
+    let A = count_at (index_of e x) words in
+    let some = weighed-positive A d.y in
+    let within = within_uppers e x words word code (positive d.y) us known in
+    let R : ℕ × ℤ → ℕ × ℤ → Type 0 = λ p q. is_far e p.0 ≡ true → is_far e q.0 ≡ true → (A p.0 ≡ 0 → ⊥) → A q.0 ≡ 0 in
+    let one = AllPairs-weaker (λ (p q : ℕ × ℤ). p.0 < q.0) R (positive d.y) (λ p q less far_p far_q other. one_far e x p.0 q.0 words word code less far_p far_q other)
+    (AllPairs-filter (λ (p q : ℕ × ℤ). p.0 < q.0) (λ (p : ℕ × ℤ). int_lt (pos 0) p.1) d.y form.ascending) in
+    let most = weighed-charge e A (positive d.y) us within one in
+    omega arith
 
 -- a code of the entry of as many words, whose indices are in the range
 ranged_code : (belongs : ℕ → Type 0) (index : ℕ → ℕ → ℕ) (degree : ℕ) (number : ℕ → ℕ → ℤ) (d : Dual) → AreLaws belongs index degree number
@@ -88,10 +74,10 @@ ranged_code : (belongs : ℕ → Type 0) (index : ℕ → ℕ → ℕ) (degree :
     → (others : List ℕ) × (length others ≡ length words) × IsCodeOf d.entry others × AllPairs (AreInRange d) others
 ranged_code belongs index degree number d laws fits form words code = go d.even refl
   where
-    even_code : (w : Option ℕ) → d.entry.w ≡ w → d.even ≡ true → IsPlainOf w d.even d.y → IsCode d.entry.n d.entry.d w words
+    even_code : (w : Option ℕ) → d.entry.w ≡ w → d.even ≡ true → IsMarkOf w d.even → IsCode d.entry.n d.entry.d w words
         → (others : List ℕ) × (length others ≡ length words) × IsCode d.entry.n d.entry.d w others × AllPairs (λ x y. index_of d.entry x y % 2 ≡ 0) others
-    even_code (Some w) is even plain code = absurd (let e = sym even ∙ plain.0 in cc)
-    even_code None is even plain code =
+    even_code (Some w) is even marked code = absurd (let e = sym even ∙ marked in cc)
+    even_code None is even marked code =
         let limits = entry_limits d.entry form.entry in
         let least = limits.distance_from in
         let other = evened d.entry.n words in
@@ -139,18 +125,18 @@ dual_spread-true belongs index degree number d laws fits form none us known word
     let r = near_charge e cs + far_charge e cs in
     let other = ranged_code belongs index degree number d laws fits form words code in
     let all = words_of_code e other.0 other.2 in
-    let most = pairs-at_most number d form kept.1 a r start other.0 other.3 (λ p o l. allowed_about d us other.0 form other.2 known (get_or other.0 p o) (all p o l).0) in
+    let most = pairs-at_most number d form kept.1 a r start other.0 other.3 (λ p o l. allowed_about d us other.0 form other.2 known (get_or other.0 p o) (all p o l)) in
     let sum : combination number d.c 0 +ℤ pos r ≡ pos (a + r) = ap (λ z. z +ℤ pos r) start in
     let many = ap (λ (m : ℕ). m * (a + r)) other.1 in
     let product : pos (length other.0 * (a + r)) ≡ pos (length words) *ℤ (combination number d.c 0 +ℤ pos r) = ap pos many ∙ ap (λ z. pos (length words) *ℤ z) (sym sum) in
     (other.0, other.1, other.2, subst (λ (z : ℤ). pair_total (λ x y. combination number d.c (index_of e x y)) other.0 ≤ℤ z) product most)
 
--- no code of the entry is larger than the bound, where the upper bounds that it rests on are true
-pub dual_bound-true : (belongs : ℕ → Type 0) (index : ℕ → ℕ → ℕ) (degree : ℕ) (number : ℕ → ℕ → ℤ) (d : Dual) → AreLaws belongs index degree number
-    → Fits belongs index degree number d.entry → IsDual d → dual_fault number d ≡ None → (us : List ℕ) → AreTrueUppers (dual_premises d) us
-    → IsTrueUpper d.entry (dual_bound d (combination number d.c 0) us)
-unfolding dual_bound
-dual_bound-true belongs index degree number d laws fits form none us known words code =
+-- where about each word of a code of the entry at most r is allowed, no code of the entry is larger than ⌊(f(0) + r)/c_0⌋
+pub allowing_bound-true : (belongs : ℕ → Type 0) (index : ℕ → ℕ → ℕ) (degree : ℕ) (number : ℕ → ℕ → ℤ) (d : Dual) → AreLaws belongs index degree number
+    → Fits belongs index degree number d.entry → IsDual d → dual_fault number d ≡ None → (r : ℕ)
+    → ((words : List ℕ) → IsCodeOf d.entry words → (x : ℕ) → IsWordOf d.entry x → weighed (count_at (index_of d.entry x) words) d.y ≤ r)
+    → IsTrueUpper d.entry (min MAX_BOUND (natural (combination number d.c 0 +ℤ pos r) / natural (multiplier d.c 0)))
+allowing_bound-true belongs index degree number d laws fits form none r rests words code =
     let e = d.entry in
     let limits = entry_limits e form.entry in
     let kept = below-from_none number d none in
@@ -161,12 +147,10 @@ dual_bound-true belongs index degree number d laws fits form none us known words
     let lead_is : multiplier d.c 0 ≡ pos c = natural-is (multiplier d.c 0) (omega (arith, ints)) in
     let start : combination number d.c 0 ≡ pos a = natural-is (combination number d.c 0) (omega (arith, ints)) in
     let some : 1 ≤ c = omega (arith, ints) in
-    let cs = charges (positive d.y) us in
-    let r = near_charge e cs + far_charge e cs in
     let other = ranged_code belongs index degree number d laws fits form words code in
     let all = words_of_code e other.0 other.2 in
     let size = size-within belongs index degree number d laws fits form kept.1 a c r start lead_is some other.0 all other.3
-    (λ p o l. allowed_about d us other.0 form other.2 known (get_or other.0 p o) (all p o l).0) in
+    (λ p o l. rests other.0 other.2 (get_or other.0 p o) (all p o l)) in
     let same = other.1 in
     let products = ap (λ m. c * m) same in
     let product : length words * c ≤ a + r = omega (arith, size, products) in
@@ -177,6 +161,16 @@ dual_bound-true belongs index degree number d laws fits form none us known words
     let power : 2 ^ e.n ≤ 2 ^ MAX_N = pow-le-pow_right (omega arith) limits.length_to in
     let limit : length words ≤ MAX_BOUND = omega arith in
     omega arith
+
+-- no code of the entry is larger than the bound, where the upper bounds that it rests on are true
+pub dual_bound-true : (belongs : ℕ → Type 0) (index : ℕ → ℕ → ℕ) (degree : ℕ) (number : ℕ → ℕ → ℤ) (d : Dual) → AreLaws belongs index degree number
+    → Fits belongs index degree number d.entry → IsDual d → dual_fault number d ≡ None → (us : List ℕ) → AreTrueUppers (dual_premises d) us
+    → IsTrueUpper d.entry (dual_bound d (combination number d.c 0) us)
+unfolding dual_bound
+dual_bound-true belongs index degree number d laws fits form none us known =
+    let cs = charges (positive d.y) us in
+    allowing_bound-true belongs index degree number d laws fits form none (near_charge d.entry cs + far_charge d.entry cs)
+    (λ words code x word. allowed_about d us words form code known x word)
 
 -- numbers of a range in ascending order are no more than the range has
 ascending-few : (low high : ℕ) (y : List (ℕ × ℤ)) → AllPairs (λ p q. p.0 < q.0) y → All (λ p. low ≤ p.0) y → All (λ p. p.0 < high) y → low ≤ high → low + length y ≤ high

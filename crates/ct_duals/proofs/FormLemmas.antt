@@ -1,5 +1,5 @@
 -- A dual that passes the tests has the form of one.
-use Rattle.std.proofs.Common.{◌≡◌, ℕ, suc, ◌%◌, ◌^◌, ◌<◌, ◌≤◌, Bool, true, false, ◌&&◌, nat_le, List, [], ◌∷◌, length, refl, arith, leb-true, eqb-true, eq-eqb}
+use Rattle.std.proofs.Common.{◌≡◌, ℕ, suc, ◌%◌, ◌^◌, ◌<◌, ◌≤◌, Bool, true, false, not, ◌&&◌, nat_le, ap, List, [], ◌∷◌, length, refl, arith, leb-true, eqb-true, eq-eqb}
 use Rattle.std.specs.Prelude.{ℤ, pos, ◌≤ℤ◌, ◌<ℤ◌, int_le, int_lt, Option, Some, None, IsTrue}
 use Rattle.std.specs.List.{All, AllPairs, list_all}
 use Rattle.std.proofs.lemmas.Int.{ints}
@@ -10,8 +10,8 @@ use Rattle.ct_words.proofs.Counting.Pairs.{AllPairs-head, AllPairs-tail}
 use Rattle.ct_codes.specs.declared.entry.Entry.{Entry}
 use Rattle.ct_codes.specs.Entry.{is_entry}
 use Rattle.ct_duals.specs.declared.dual.Dual.{Dual}
-use Rattle.ct_duals.specs.Dual.{degree_of, is_in_range, IsPlainOf, IsDual}
-use Rattle.ct_duals.specs.Form.{is_number, are_multipliers, are_allowances_from, are_allowances, are_marks, is_dual}
+use Rattle.ct_duals.specs.Dual.{degree_of, is_in_range, IsMarkOf, AllowsNone, IsDual}
+use Rattle.ct_duals.specs.Form.{is_number, are_multipliers, are_allowances_from, are_allowances, is_mark, is_dual}
 
 nonneg : (z : ℤ) → int_le (pos 0) z ≡ true → pos 0 ≤ℤ z
 nonneg z h = grind (arith, ints)
@@ -62,30 +62,29 @@ allowances-from e even low (p ∷ y) h =
     )
 
 -- marks
-even-from : (w : Option ℕ) (d : ℕ) (even : Bool) (y : List (ℕ × ℤ)) → are_marks w d even y ≡ true → even ≡ true → d % 2 ≡ 0
-even-from None d false y h is = absurd cc
-even-from None d true y h is = eqb-true (d % 2) 0 h
-even-from (Some w) d false y h is = absurd cc
-even-from (Some w) d true y h is = absurd cc
+even-from : (w : Option ℕ) (d : ℕ) (even : Bool) → is_mark w d even ≡ true → even ≡ true → d % 2 ≡ 0
+even-from None d false h is = absurd cc
+even-from None d true h is = eqb-true (d % 2) 0 h
+even-from (Some w) d false h is = absurd cc
+even-from (Some w) d true h is = absurd cc
 
-plain-from : (w : Option ℕ) (d : ℕ) (even : Bool) (y : List (ℕ × ℤ)) → are_marks w d even y ≡ true → IsPlainOf w even y
-plain-from None d even y h = tt
-plain-from (Some w) d true y h = absurd cc
-plain-from (Some w) d false [] h = (refl, refl)
-plain-from (Some w) d false (p ∷ y) h = absurd cc
+mark-from : (w : Option ℕ) (d : ℕ) (even : Bool) → is_mark w d even ≡ true → IsMarkOf w even
+mark-from None d even h = tt
+mark-from (Some w) d true h = absurd cc
+mark-from (Some w) d false h = refl
 
 pub form-from : (d : Dual) → is_dual d ≡ true → IsDual d
 form-from d h =
     let e = d.entry in
-    let three = and_parts (is_entry e && are_marks e.w e.d d.even d.y && are_multipliers e d.c) (are_allowances e d.even d.y) h in
-    let two = and_parts (is_entry e && are_marks e.w e.d d.even d.y) (are_multipliers e d.c) three.0 in
-    let one = and_parts (is_entry e) (are_marks e.w e.d d.even d.y) two.0 in
+    let three = and_parts (is_entry e && is_mark e.w e.d d.even && are_multipliers e d.c) (are_allowances e d.even d.y) h in
+    let two = and_parts (is_entry e && is_mark e.w e.d d.even) (are_multipliers e d.c) three.0 in
+    let one = and_parts (is_entry e) (is_mark e.w e.d d.even) two.0 in
     let numbers = multipliers-from e d.c two.1 in
     let pairs = allowances-from e d.even 0 d.y three.1 in
     record {
       entry = one.0;
-      even_distance = even-from e.w e.d d.even d.y one.1;
-      weighted = plain-from e.w e.d d.even d.y one.1;
+      even_distance = even-from e.w e.d d.even one.1;
+      weighted = mark-from e.w e.d d.even one.1;
       some = numbers.0;
       few = numbers.1;
       multipliers = numbers.2;
@@ -131,16 +130,25 @@ allowances-to e even low (p ∷ y) from ascending allowances most =
     (number-to p.1 here.1 (All-head M p y most)))
     (allowances-to e even (suc p.0) y later (AllPairs-tail R p y ascending) (All-tail (IsAllowance e even) p y allowances) (All-tail M p y most))
 
-marks-to : (w : Option ℕ) (d : ℕ) (even : Bool) (y : List (ℕ × ℤ)) → (even ≡ true → d % 2 ≡ 0) → IsPlainOf w even y → are_marks w d even y ≡ true
-marks-to None d false y halved plain = refl
-marks-to None d true y halved plain = eq-eqb (d % 2) 0 (halved refl)
-marks-to (Some w) d even y halved plain = rw plain.0 (rw plain.1 refl)
+mark-to : (w : Option ℕ) (d : ℕ) (even : Bool) → (even ≡ true → d % 2 ≡ 0) → IsMarkOf w even → is_mark w d even ≡ true
+mark-to None d false halved mark = refl
+mark-to None d true halved mark = eq-eqb (d % 2) 0 (halved refl)
+mark-to (Some w) d even halved mark = ap not mark
 
 pub form-to : (d : Dual) → IsDual d → is_dual d ≡ true
 form-to d form =
     let e = d.entry in
-    and_from (is_entry e && are_marks e.w e.d d.even d.y && are_multipliers e d.c) (are_allowances e d.even d.y)
-    (and_from (is_entry e && are_marks e.w e.d d.even d.y) (are_multipliers e d.c)
-    (and_from (is_entry e) (are_marks e.w e.d d.even d.y) form.entry (marks-to e.w e.d d.even d.y form.even_distance form.weighted))
+    and_from (is_entry e && is_mark e.w e.d d.even && are_multipliers e d.c) (are_allowances e d.even d.y)
+    (and_from (is_entry e && is_mark e.w e.d d.even) (are_multipliers e d.c)
+    (and_from (is_entry e) (is_mark e.w e.d d.even) form.entry (mark-to e.w e.d d.even form.even_distance form.weighted))
     (multipliers-to e d.c form.some form.few form.multipliers form.signed.0))
     (allowances-to e d.even 0 d.y (λ k p l. omega arith) form.ascending form.allowances form.signed.1)
+
+-- nothing is allowed with a weight where there is none, and where nothing is allowed at all
+pub allows_none-plain : (w : Option ℕ) (y : List (ℕ × ℤ)) → w ≡ None → AllowsNone w y
+allows_none-plain None y is = tt
+allows_none-plain (Some w) y is = absurd cc
+
+pub allows_none-empty : (w : Option ℕ) (y : List (ℕ × ℤ)) → y ≡ [] → AllowsNone w y
+allows_none-empty None y empty = tt
+allows_none-empty (Some w) y empty = empty

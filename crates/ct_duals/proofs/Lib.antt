@@ -9,3 +9,5 @@ pub mod Monotone
 pub mod FormLemmas
 pub mod Premises
 pub mod SomeBound
+pub mod LocalCodes
+pub mod LocalBound

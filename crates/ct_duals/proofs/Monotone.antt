@@ -1,9 +1,10 @@
 -- Smaller upper bounds never give a greater spread, nor a greater bound.
 use Rattle.std.proofs.Common.{ℕ, zero, suc, ◌+◌, ◌*◌, ◌/◌, ◌≤◌, Bool, true, false, cond, List, [], ◌∷◌, arith}
-use Rattle.std.specs.Prelude.{ℤ, pos, negsuc, ◌+ℤ◌, ◌≤ℤ◌}
+use Rattle.std.specs.Prelude.{min, ℤ, pos, negsuc, ◌+ℤ◌, ◌≤ℤ◌}
 use Rattle.std.proofs.lemmas.Int.{ints}
 use Rattle.std.proofs.lemmas.Nat.{mul-le, le-div}
 use Rattle.std.proofs.Math.Nat.{div-mul-le_self}
+use Rattle.ct_words.specs.declared.limits.TheConstants.{MAX_BOUND}
 use Rattle.ct_codes.specs.declared.entry.Entry.{Entry}
 use Rattle.ct_duals.specs.declared.dual.Dual.{Dual}
 use Rattle.ct_codes.specs.Numbers.{multiplier}
@@ -60,10 +61,18 @@ dual_spread-monotone d at_zero us vs h =
     let grown : r ≤ s = omega arith in
     omega (arith, ints)
 
+quotient-le : (lead y z : ℤ) → y ≤ℤ z → min MAX_BOUND (natural y / natural lead) ≤ min MAX_BOUND (natural z / natural lead)
+quotient-le lead y z h =
+    let sum = natural-le y z h in
+    let quotient = div-le (natural y) (natural z) (natural lead) sum in
+    omega arith
+
+-- where less is allowed, ⌊(f(0) + r)/c_0⌋ is no greater
+pub allowing_bound-le : (d : Dual) (at_zero : ℤ) (r s : ℕ) → r ≤ s
+    → min MAX_BOUND (natural (at_zero +ℤ pos r) / natural (multiplier d.c 0)) ≤ min MAX_BOUND (natural (at_zero +ℤ pos s) / natural (multiplier d.c 0))
+allowing_bound-le d at_zero r s h = quotient-le (multiplier d.c 0) (at_zero +ℤ pos r) (at_zero +ℤ pos s) (omega (arith, ints))
+
 pub dual_bound-monotone : (d : Dual) (at_zero : ℤ) (us vs : List ℕ) → AreAtMost us vs → dual_bound d at_zero us ≤ dual_bound d at_zero vs
 unfolding dual_bound
 dual_bound-monotone d at_zero us vs h =
-    let c = natural (multiplier d.c 0) in
-    let sum = natural-le (dual_spread d at_zero us) (dual_spread d at_zero vs) (dual_spread-monotone d at_zero us vs h) in
-    let quotient = div-le (natural (dual_spread d at_zero us)) (natural (dual_spread d at_zero vs)) c sum in
-    omega arith
+    quotient-le (multiplier d.c 0) (dual_spread d at_zero us) (dual_spread d at_zero vs) (dual_spread-monotone d at_zero us vs h)

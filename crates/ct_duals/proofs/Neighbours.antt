@@ -1,12 +1,12 @@
 -- The words of a code about one of its words, and a code of even distance whose weights are all even.
-use Rattle.std.proofs.Common.{◌≡◌, ◌≢◌, ℕ, ◌+◌, ◌-◌, ◌*◌, ◌%◌, ◌^◌, ◌<◌, ◌≤◌, Bool, true, false, cond, ◌==◌, List, [], ◌∷◌, map, length, get_or, sym, ap, ◌∙◌, subst, arith, inl, inr, eqb-true, leb-true}
-use Rattle.std.specs.Prelude.{ℤ, None, bit_xor}
+use Rattle.std.proofs.Common.{◌≡◌, ◌≢◌, ℕ, refl, eq-eqb, ◌+◌, ◌-◌, ◌*◌, ◌%◌, ◌^◌, ◌<◌, ◌≤◌, Bool, true, false, cond, ◌==◌, List, [], ◌∷◌, map, length, get_or, sym, ap, ◌∙◌, subst, arith, inl, inr, eqb-true, leb-true}
+use Rattle.std.specs.Prelude.{ℤ, Option, None, Some, IfSome, bit_xor}
 use Rattle.std.specs.List.{All, AllPairs}
 use Rattle.std.proofs.lemmas.Bool.{cases_Bool}
 use Rattle.std.proofs.lemmas.List.Elements.{All-map, All-cons, All-nil, recursion_from_All}
 use Rattle.std.proofs.lemmas.List.Sums.{length-filter}
 use Rattle.ct_words.specs.Counting.Words.{apart, differ}
-use Rattle.ct_words.proofs.Counting.Sums.{sum_by-map, sum_by-congruence_within}
+use Rattle.ct_words.proofs.Counting.Sums.{sum_by-map, sum_by-congruence_within, sum_by-le_within}
 use Rattle.ct_words.proofs.Counting.Pairs.{AllPairs-others}
 use Rattle.ct_words.proofs.Counting.DoubleCounting.{count_by-none}
 use Rattle.ct_words.specs.Word.{weight, distance}
@@ -14,7 +14,7 @@ use Rattle.ct_words.proofs.WordLemmas.{IsSum-bit_xor, distance-is_weight, distan
 use Rattle.ct_words.proofs.DigitLists.{digits_of, length-digits_of, apart-digits_of}
 use Rattle.ct_codes.specs.declared.entry.Entry.{Entry}
 use Rattle.ct_codes.specs.Entry.{constant_weight}
-use Rattle.ct_codes.specs.Code.{IsCode}
+use Rattle.ct_codes.specs.Code.{IsCode, IsCodeOf}
 use Rattle.ct_codes.specs.Constructions.Even.{even_from}
 use Rattle.ct_codes.specs.Constructions.Translation.{selected}
 use Rattle.ct_codes.specs.Constructions.Append.{with_parity}
@@ -24,6 +24,7 @@ use Rattle.ct_codes.specs.Constructions.Punctured.{punctured}
 use Rattle.ct_codes.proofs.Constructions.TranslationLemmas.{IsCode-selected}
 use Rattle.ct_codes.proofs.Constructions.AppendLemmas.{IsCode-with_parity, length-with_parity, weight-with_parity}
 use Rattle.ct_codes.proofs.Constructions.PuncturedCodes.{IsCode-punctured, length-punctured}
+use Rattle.ct_duals.specs.Dual.{IsWordOf, as_index, as_distance, index_of}
 use Rattle.ct_duals.specs.Bound.{AreTrueUppers, is_far}
 use Rattle.ct_duals.proofs.Allowed.{count_at, AreWithin}
 
@@ -72,35 +73,83 @@ count_at-selected n x i words below all =
     (recursion_from_All (λ z. cond {A = ℕ} (test (moved z)) 1 0 ≡ cond (distance n x z == i) 1 0) words
     (λ k d l. ap (λ w. cond {A = ℕ} (w == i) 1 0) (same _ (all k d l))))
 
--- so there are at most as many as a bound of the codes of weight i allows
-pub within_uppers : (n d x : ℕ) (words : List ℕ) → x < 2 ^ n → IsCode n d None words → (ps : List (ℕ × ℤ)) (us : List ℕ)
-    → AreTrueUppers (map (λ p. constant_weight n (even_from d) p.0) ps) us → AreWithin (count_at (distance n x) words) ps us
-within_uppers n d x words below code [] [] known = tt
-within_uppers n d x words below code [] (u ∷ us) known = absurd known
-within_uppers n d x words below code (p ∷ ps) [] known = absurd known
-within_uppers n d x words below code (p ∷ ps) (u ∷ us) known =
-    let most = known.0 (selected n x p.0 words) (IsCode-selected n d x p.0 None words below code) in
-    let size = count_at-selected n x p.0 words below code.lengths in
-    (omega arith, within_uppers n d x words below code ps us known.1)
+-- the words of a code are words of the space
+pub words_of_code : (e : Entry) (words : List ℕ) → IsCodeOf e words → All (IsWordOf e) words
+words_of_code e words code = λ k o l. (code.lengths k o l, weighted e.w code.weights k o l)
+  where
+    weighted : (w : Option ℕ) → IfSome w (λ v. All (λ x. weight e.n x ≡ v) words) → (k o : ℕ) → k < length words → IfSome w (λ v. weight e.n (get_or words k o) ≡ v)
+    weighted None h k o l = tt
+    weighted (Some w) h k o l = h k o l
 
--- a word has no words at two different distances of the group
-pub one_far : (e : Entry) (x i j : ℕ) (words : List ℕ) → IsCode e.n e.d None words → i < j → is_far e i ≡ true → is_far e j ≡ true
-    → count_at (distance e.n x) words i ≢ 0 → count_at (distance e.n x) words j ≡ 0
-one_far e x i j words code less first second some =
-    count_by-none (λ z. distance e.n x z == j) words (λ k f l. elim (cases_Bool (distance e.n x (get_or words k f) == j)) [
+-- two words of the space are at the distance of their index: with a weight they differ at an even number of places
+pub distance-index : (e : Entry) (x y : ℕ) → IsWordOf e x → IsWordOf e y → distance e.n x y ≡ as_distance e.w (index_of e x y)
+distance-index e x y p q = go e.w p.1 q.1
+  where
+    go : (w : Option ℕ) → IfSome w (λ v. weight e.n x ≡ v) → IfSome w (λ v. weight e.n y ≡ v) → distance e.n x y ≡ as_distance w (as_index w (distance e.n x y))
+    go None first second = refl
+    go (Some v) first second = let pair = weights_of_pair e.n x y in omega arith
+
+-- a greater index has a greater distance
+as_distance-lt : (w : Option ℕ) (i j : ℕ) → i < j → as_distance w i < as_distance w j
+as_distance-lt None i j less = less
+as_distance-lt (Some w) i j less = omega arith
+
+-- the words of a code at an index from a word are, with that word added, among those of the weight that is its distance
+pub count_at-index : (e : Entry) (x i : ℕ) (words : List ℕ) → IsWordOf e x → IsCodeOf e words
+    → count_at (index_of e x) words i ≤ length (selected e.n x (as_distance e.w i) words)
+count_at-index e x i words word code =
+    let n = e.n in
+    let t = as_distance e.w i in
+    let all = words_of_code e words code in
+    let size = count_at-selected n x t words word.0 code.lengths in
+    let each : All (λ z. cond {A = ℕ} (index_of e x z == i) 1 0 ≤ cond (distance n x z == t) 1 0) words =
+    λ k d l.
+    let z = get_or words k d in
+    at (index_of e x z) (distance n x z) (distance-index e x z word (all k d l)) in
+    let less = sum_by-le_within (λ z. cond {A = ℕ} (index_of e x z == i) 1 0) (λ z. cond {A = ℕ} (distance n x z == t) 1 0) words
+    (recursion_from_All (λ z. cond {A = ℕ} (index_of e x z == i) 1 0 ≤ cond (distance n x z == t) 1 0) words each) in
+    omega arith
+  where
+    at : (j s : ℕ) → s ≡ as_distance e.w j → cond {A = ℕ} (j == i) 1 0 ≤ cond (s == as_distance e.w i) 1 0
+    at j s is = elim (cases_Bool (j == i)) [
+      | inr fails ↦ rw fails (omega arith)
+      | inl there ↦ rw (there, eq-eqb s (as_distance e.w i) (is ∙ ap (as_distance e.w) (eqb-true j i there))) (omega arith)
+    ]
+
+-- so there are at most as many as a bound of the codes of that weight allows
+pub within_uppers : (e : Entry) (x : ℕ) (words : List ℕ) → IsWordOf e x → IsCodeOf e words → (ps : List (ℕ × ℤ)) (us : List ℕ)
+    → AreTrueUppers (map (λ p. constant_weight e.n (even_from e.d) (as_distance e.w p.0)) ps) us → AreWithin (count_at (index_of e x) words) ps us
+within_uppers e x words word code [] [] known = tt
+within_uppers e x words word code [] (u ∷ us) known = absurd known
+within_uppers e x words word code (p ∷ ps) [] known = absurd known
+within_uppers e x words word code (p ∷ ps) (u ∷ us) known =
+    let t = as_distance e.w p.0 in
+    let most = known.0 (selected e.n x t words) (IsCode-selected e.n e.d x t e.w words word.0 code) in
+    let size = count_at-index e x p.0 words word code in
+    (omega arith, within_uppers e x words word code ps us known.1)
+
+-- a word has no words at two different indices of the group
+pub one_far : (e : Entry) (x i j : ℕ) (words : List ℕ) → IsWordOf e x → IsCodeOf e words → i < j → is_far e i ≡ true → is_far e j ≡ true
+    → count_at (index_of e x) words i ≢ 0 → count_at (index_of e x) words j ≡ 0
+one_far e x i j words word code less first second some =
+    let all = words_of_code e words code in
+    count_by-none (λ z. index_of e x z == j) words (λ k f l. elim (cases_Bool (index_of e x (get_or words k f) == j)) [
       | inr fails ↦ fails
-      | inl at_j ↦ absurd (some (count_by-none (λ z. distance e.n x z == i) words (λ m g r. elim (cases_Bool (distance e.n x (get_or words m g) == i)) [
+      | inl at_j ↦ absurd (some (count_by-none (λ z. index_of e x z == i) words (λ m g r. elim (cases_Bool (index_of e x (get_or words m g) == i)) [
         | inr fails ↦ fails
         | inl at_i ↦
             let n = e.n in
             let y = get_or words k f in
             let z = get_or words m g in
-            let y_is = eqb-true (distance n x y) j at_j in
-            let z_is = eqb-true (distance n x z) i at_i in
-            let low = leb-true (2 * n) (2 * i + e.d) first in
-            let high = leb-true (2 * n) (2 * j + e.d) second in
+            let y_is = eqb-true (index_of e x y) j at_j in
+            let z_is = eqb-true (index_of e x z) i at_i in
+            let y_at = distance-index e x y word (all k f l) ∙ ap (as_distance e.w) y_is in
+            let z_at = distance-index e x z word (all m g r) ∙ ap (as_distance e.w) z_is in
+            let nearer = as_distance-lt e.w i j less in
+            let low = leb-true (2 * n) (2 * as_distance e.w i + e.d) first in
+            let high = leb-true (2 * n) (2 * as_distance e.w j + e.d) second in
             absurd (elim (AllPairs-others (λ a b. e.d ≤ distance n a b) words (λ a b h. let turned = distance_comm n a b in omega arith) code.apart k f l m g r) [
-              | inl same ↦ let equal = ap (distance n x) same in omega arith
+              | inl same ↦ let equal = ap (index_of e x) same in omega arith
               | inr far ↦ let three = distance_perimeter n x y z in omega arith
             ])
       ])))

@@ -2,7 +2,7 @@
 use Rattle.std.proofs.Common.{◌≡◌, ◌≢◌, ℕ, zero, suc, ◌%◌, ◌≤◌, true, false, ◌&&◌, ◌||◌, ◌==◌, not, ◌↔◌, List, [], ◌∷◌, length, map, get_or, Contains, All, refl, sym, ap, subst, ◌∙◌, arith, leb-true}
 use Rattle.std.specs.Prelude.{Bool, ℤ, pos, int_lt, nat_le, nat_eq, Option, Some, None, slice_get, option_map}
 use Rattle.std.specs.Option.{option_eq}
-use Rattle.std.proofs.lemmas.Option.{slice_get-map, none-some, same_Some}
+use Rattle.std.proofs.lemmas.Option.{slice_get-map, slice_get_within, get_or_from_slice_get, none-some, same_Some}
 use Rattle.std.proofs.lemmas.Bool.{and_parts}
 use Rattle.std.proofs.lemmas.List.Elements.{All-nil, All-map, All-filter}
 use Rattle.ct_codes.specs.declared.entry.Entry.{Entry}
@@ -11,7 +11,7 @@ use Rattle.ct_codes.proofs.EntryLemmas.{entry_limits, entry_from_limits}
 use Rattle.ct_codes.specs.Constructions.Even.{even_from}
 use Rattle.ct_words.specs.declared.limits.TheConstants.{MAX_N}
 use Rattle.ct_duals.specs.declared.dual.Dual.{Dual}
-use Rattle.ct_duals.specs.Dual.{IsDual, IsPlainOf, as_index, degree_of, greatest_index, is_in_range}
+use Rattle.ct_duals.specs.Dual.{IsDual, as_index, as_distance, degree_of, greatest_index, is_in_range}
 use Rattle.ct_duals.specs.Bound.{positive, dual_premises}
 use Rattle.ct_duals.proofs.Charges.{positive-yes, positive-no}
 use Rattle.ct_duals.proofs.DualBound.{few_allowances}
@@ -19,7 +19,7 @@ use Rattle.std.proofs.lemmas.List.{length-map}
 
 -- the entries of the indices where more than 0 is allowed
 abbrev pub premises : Entry → List (ℕ × ℤ) → List Entry
-premises e y = map (λ p. constant_weight e.n (even_from e.d) p.0) (positive y)
+premises e y = map (λ p. constant_weight e.n (even_from e.d) (as_distance e.w p.0)) (positive y)
 
 -- by the first index: the place among the others is one less where more than 0 is allowed there
 pub place-yes : (p : ℕ × ℤ) (y : List (ℕ × ℤ)) (k : ℕ) → int_lt (pos 0) p.1 ≡ true → slice_get (positive (p ∷ y)) (suc k) ≡ slice_get (positive y) k
@@ -47,12 +47,12 @@ entry_test e f =
     weights (Some v) (Some w) = refl
 
 -- an entry is the first premise, or one of the others
-pub among-first : (e f : Entry) (p : ℕ × ℤ) (y : List (ℕ × ℤ)) → int_lt (pos 0) p.1 ≡ true → constant_weight e.n (even_from e.d) p.0 ≡ f
+pub among-first : (e f : Entry) (p : ℕ × ℤ) (y : List (ℕ × ℤ)) → int_lt (pos 0) p.1 ≡ true → constant_weight e.n (even_from e.d) (as_distance e.w p.0) ≡ f
     → Contains (premises e (p ∷ y)) f
 among-first e f p y some is =
-    subst (λ ps. Contains (map (λ q. constant_weight e.n (even_from e.d) q.0) ps) f) (sym (positive-yes p y some)) (0, omega arith, is)
+    subst (λ ps. Contains (map (λ q. constant_weight e.n (even_from e.d) (as_distance e.w q.0)) ps) f) (sym (positive-yes p y some)) (0, omega arith, is)
 
-pub among-others : (e f : Entry) (p : ℕ × ℤ) (y : List (ℕ × ℤ)) → int_lt (pos 0) p.1 ≡ true → constant_weight e.n (even_from e.d) p.0 ≢ f
+pub among-others : (e f : Entry) (p : ℕ × ℤ) (y : List (ℕ × ℤ)) → int_lt (pos 0) p.1 ≡ true → constant_weight e.n (even_from e.d) (as_distance e.w p.0) ≢ f
     → Contains (premises e (p ∷ y)) f ↔ Contains (premises e y) f
 among-others e f p y some other = (
   λ there. past (subst (λ ps. Contains (map at ps) f) (positive-yes p y some) there),
@@ -61,7 +61,7 @@ among-others e f p y some other = (
 )
   where
     at : ℕ × ℤ → Entry
-    at q = constant_weight e.n (even_from e.d) q.0
+    at q = constant_weight e.n (even_from e.d) (as_distance e.w q.0)
 
     past : Contains (at p ∷ map at (positive y)) f → Contains (map at (positive y)) f
     past (zero, within, is) = absurd (other is)
@@ -71,43 +71,53 @@ pub among-none : (e f : Entry) (p : ℕ × ℤ) (y : List (ℕ × ℤ)) → int_
     → Contains (premises e (p ∷ y)) f ↔ Contains (premises e y) f
 among-none e f p y none =
     let same = positive-no p y none in (
-      λ there. subst (λ ps. Contains (map (λ q. constant_weight e.n (even_from e.d) q.0) ps) f) same there,
-      λ there. subst (λ ps. Contains (map (λ q. constant_weight e.n (even_from e.d) q.0) ps) f) (sym same) there,
+      λ there. subst (λ ps. Contains (map (λ q. constant_weight e.n (even_from e.d) (as_distance e.w q.0)) ps) f) same there,
+      λ there. subst (λ ps. Contains (map (λ q. constant_weight e.n (even_from e.d) (as_distance e.w q.0)) ps) f) (sym same) there,
     )
 
--- an index of the range of an entry without weight is at most the length
-within_length : (e : Entry) (even : Bool) (i : ℕ) → e.w ≡ None → is_in_range e even i ≡ true → i ≤ e.n
-within_length e even i plain h =
+-- the distance of an index of the range is at most the length
+within_length : (e : Entry) (even : Bool) (i : ℕ) → is_in_range e even i ≡ true → as_distance e.w i ≤ e.n
+within_length e even i h =
     let parts = and_parts (nat_le (as_index e.w e.d) i && nat_le i (degree_of e)) (not even || i % 2 == 0) h in
     let both = and_parts (nat_le (as_index e.w e.d) i) (nat_le i (degree_of e)) parts.0 in
-    let most = leb-true i (degree_of e) both.1 in
-    let same = ap (greatest_index e.n) plain in
+    go e.w (leb-true i (degree_of e) both.1)
+  where
+    go : (w : Option ℕ) → i ≤ greatest_index e.n w → as_distance w i ≤ e.n
+    go None most = most
+    go (Some w) most = omega arith
+
+-- so is the index
+as_distance-le : (w : Option ℕ) (i : ℕ) → i ≤ as_distance w i
+as_distance-le None i = omega arith
+as_distance-le (Some w) i = omega arith
+
+pub small_indices : (d : Dual) → IsDual d → All (λ p. p.0 ≤ MAX_N) d.y
+small_indices d form = λ k o l.
+    let limits = entry_limits d.entry form.entry in
+    let short = limits.length_to in
+    let i = (get_or d.y k o).0 in
+    let within = within_length d.entry d.even i (form.allowances k o l).0 in
+    let least = as_distance-le d.entry.w i in
     omega arith
 
 -- what a dual rests on is in the table
 pub premises_are_entries : (d : Dual) → IsDual d → All IsEntry (dual_premises d)
-premises_are_entries d form = go d.entry.w refl form.weighted
+premises_are_entries d form =
+    All-map IsEntry at (positive d.y) (All-filter (λ p. int_lt (pos 0) p.1) (λ p. IsEntry (at p)) d.y
+    (λ k o l. entry (get_or d.y k o) (form.allowances k o l).0))
   where
     at : ℕ × ℤ → Entry
-    at p = constant_weight d.entry.n (even_from d.entry.d) p.0
+    at p = constant_weight d.entry.n (even_from d.entry.d) (as_distance d.entry.w p.0)
 
-    entry : d.entry.w ≡ None → (p : ℕ × ℤ) → is_in_range d.entry d.even p.0 ≡ true → IsEntry (at p)
-    entry plain p h =
+    entry : (p : ℕ × ℤ) → is_in_range d.entry d.even p.0 ≡ true → IsEntry (at p)
+    entry p h =
         let limits = entry_limits d.entry form.entry in
-        let most = within_length d.entry d.even p.0 plain h in
+        let most = within_length d.entry d.even p.0 h in
         let low = limits.length_from in
         let high = limits.length_to in
         let near = limits.distance_from in
         let far = limits.distance_to in
         entry_from_limits (at p) low high (omega arith) (omega arith) (omega arith, omega arith, most)
-
-    each : d.entry.w ≡ None → All (λ p. IsEntry (at p)) d.y
-    each plain = λ k o l. entry plain (get_or d.y k o) (form.allowances k o l).0
-
-    go : (w : Option ℕ) → d.entry.w ≡ w → IsPlainOf w d.even d.y → All IsEntry (dual_premises d)
-    go (Some w) is plain = subst (λ y. All IsEntry (map at (positive y))) (sym plain.1) (All-nil IsEntry)
-    go None is plain =
-        All-map IsEntry at (positive d.y) (All-filter (λ p. int_lt (pos 0) p.1) (λ p. IsEntry (at p)) d.y (each is))
 
 -- no more of them than indices
 pub positive_few : (y : List (ℕ × ℤ)) → length (positive y) ≤ length y
@@ -123,17 +133,34 @@ pub premises_few : (d : Dual) → IsDual d → length (dual_premises d) ≤ MAX_
 premises_few d form =
     let few = few_allowances d form in
     let fewer = positive_few d.y in
-    let same = length-map (positive d.y) (λ p. constant_weight d.entry.n (even_from d.entry.d) p.0) in
+    let same = length-map (positive d.y) (λ p. constant_weight d.entry.n (even_from d.entry.d) (as_distance d.entry.w p.0)) in
     omega arith
+
+-- an index where more than 0 is allowed is small
+pub small_index : (d : Dual) (place i : ℕ) → IsDual d → option_map (λ p. p.0) (slice_get (positive d.y) place) ≡ Some i → i ≤ MAX_N
+small_index d place i form h = go (slice_get (positive d.y) place) refl h
+  where
+    small : All (λ p. p.0 ≤ MAX_N) (positive d.y)
+    small = All-filter (λ p. int_lt (pos 0) p.1) (λ p. p.0 ≤ MAX_N) d.y (small_indices d form)
+
+    go : (o : Option (ℕ × ℤ)) → slice_get (positive d.y) place ≡ o → option_map (λ p. p.0) o ≡ Some i → i ≤ MAX_N
+    go None at h = absurd (none-some i h)
+    go (Some p) at h =
+        let within = slice_get_within (positive d.y) place p at in
+        let there = get_or_from_slice_get (positive d.y) place p p at in
+        let least = small place p within in
+        let same = same_Some p.0 i h in
+        let moved = ap (λ (q : ℕ × ℤ). q.0) there in
+        omega arith
 
 -- the entry at a place, by the index there
 pub premise_there : (d : Dual) (place i : ℕ) → option_map (λ p. p.0) (slice_get (positive d.y) place) ≡ Some i
-    → slice_get (dual_premises d) place ≡ Some (constant_weight d.entry.n (even_from d.entry.d) i)
+    → slice_get (dual_premises d) place ≡ Some (constant_weight d.entry.n (even_from d.entry.d) (as_distance d.entry.w i))
 premise_there d place i h = slice_get-map at (positive d.y) place ∙ go (slice_get (positive d.y) place) h
   where
     at : ℕ × ℤ → Entry
-    at p = constant_weight d.entry.n (even_from d.entry.d) p.0
+    at p = constant_weight d.entry.n (even_from d.entry.d) (as_distance d.entry.w p.0)
 
-    go : (o : Option (ℕ × ℤ)) → option_map (λ p. p.0) o ≡ Some i → option_map at o ≡ Some (constant_weight d.entry.n (even_from d.entry.d) i)
+    go : (o : Option (ℕ × ℤ)) → option_map (λ p. p.0) o ≡ Some i → option_map at o ≡ Some (constant_weight d.entry.n (even_from d.entry.d) (as_distance d.entry.w i))
     go None h = absurd (none-some i h)
-    go (Some p) h = ap (λ j. Some (constant_weight d.entry.n (even_from d.entry.d) j)) (same_Some p.0 i h)
+    go (Some p) h = ap (λ j. Some (constant_weight d.entry.n (even_from d.entry.d) (as_distance d.entry.w j))) (same_Some p.0 i h)

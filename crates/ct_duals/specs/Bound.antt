@@ -9,7 +9,7 @@ use Rattle.ct_words.specs.Counting.PairTotals.{pair_total}
 use Rattle.ct_codes.specs.Code.{IsCodeOf, IsTrueUpper}
 use Rattle.ct_codes.specs.Constructions.Even.{even_from}
 use Rattle.ct_duals.specs.declared.dual.Dual.{Dual}
-use Rattle.ct_duals.specs.Dual.{index_of, IsDual}
+use Rattle.ct_duals.specs.Dual.{as_distance, index_of, IsDual}
 use Rattle.ct_duals.specs.Check.{IsBelow}
 
 -- a whole number as a natural number, 0 where it is below 0
@@ -21,9 +21,10 @@ natural (negsuc n) = 0
 abbrev pub positive : List (ℕ × ℤ) → List (ℕ × ℤ)
 positive y = filter (λ p. int_lt (pos 0) p.1) y
 
--- the entries whose bounds the dual rests on: A(n,2⌈d/2⌉,i) for each i where more than 0 is allowed. The words at distance i from a word of a code have, that word added, weight i
+-- the entries whose bounds the dual rests on: A(n,2⌈d/2⌉,t) for the distance t of each index where more than 0 is allowed. The words at
+-- distance t from a word of a code have, that word added, weight t
 abbrev pub dual_premises : Dual → List Entry
-dual_premises d = map (λ p. constant_weight d.entry.n (even_from d.entry.d) p.0) (positive d.y)
+dual_premises d = map (λ p. constant_weight d.entry.n (even_from d.entry.d) (as_distance d.entry.w p.0)) (positive d.y)
 
 -- each entry has the upper bound at its place
 abbrev pub AreTrueUppers : List Entry → List ℕ → Type 0
@@ -42,9 +43,9 @@ abbrev pub charges : List (ℕ × ℤ) → List ℕ → List (ℕ × ℕ)
 charges (p ∷ ps) (u ∷ us) = (p.0, natural p.1 * u) ∷ charges ps us
 charges ps us = []
 
--- the group G, 2i ≥ 2n - d: two words at different distances of it from one word are closer to each other than d
+-- the group G, 2t ≥ 2n - d for the distance t of the index: two words at different distances of it from one word are closer to each other than d
 abbrev pub is_far : Entry → ℕ → Bool
-is_far e i = nat_le (2 * e.n) (2 * i + e.d)
+is_far e i = nat_le (2 * e.n) (2 * as_distance e.w i + e.d)
 
 -- the greatest of the numbers, 0 where there is none
 abbrev pub greatest : List ℕ → ℕ

@@ -1,5 +1,5 @@
 -- Duals of Delsarte's linear program (Delsarte 1973; MacWilliams and Sloane, chapter 17, section 4), and the spaces of words that they speak of.
-use Rattle.std.specs.Prelude.{◌≡◌, ℕ, suc, ◌-◌, ◌/◌, ◌%◌, ◌^◌, ◌<◌, ◌≤◌, min, Bool, true, false, not, ◌==◌, ◌&&◌, ◌||◌, nat_le, if◌then◌else◌, IsTrue, List, [], ◌∷◌, length, ℤ, pos, ◌≤ℤ◌, ◌<ℤ◌, All, AllPairs, Option, Some, None, IfSome}
+use Rattle.std.specs.Prelude.{◌≡◌, ℕ, suc, ◌-◌, ◌*◌, ◌/◌, ◌%◌, ◌^◌, ◌<◌, ◌≤◌, min, Bool, true, false, not, ◌==◌, ◌&&◌, ◌||◌, nat_le, if◌then◌else◌, IsTrue, List, [], ◌∷◌, length, ℤ, pos, ◌≤ℤ◌, ◌<ℤ◌, All, AllPairs, Option, Some, None, IfSome}
 use Rattle.ct_words.specs.Word.{weight, distance}
 use Rattle.ct_codes.specs.declared.entry.Entry.{Entry}
 use Rattle.ct_codes.specs.Entry.{IsEntry}
@@ -14,6 +14,11 @@ IsWordOf e x = (x < 2 ^ e.n) × IfSome e.w (λ w. weight e.n x ≡ w)
 abbrev pub as_index : Option ℕ → ℕ → ℕ
 as_index None t = t
 as_index (Some w) t = t / 2
+
+-- the distance of two words of the space that have the index
+abbrev pub as_distance : Option ℕ → ℕ → ℕ
+as_distance None i = i
+as_distance (Some w) i = 2 * i
 
 -- the index of two words of the space
 abbrev pub index_of : Entry → ℕ → ℕ → ℕ
@@ -44,16 +49,21 @@ allowed (p ∷ y) i = if i == p.0 then p.1 else allowed y i
 abbrev pub is_in_range : Entry → Bool → ℕ → Bool
 is_in_range e even i = nat_le (as_index e.w e.d) i && nat_le i (degree_of e) && (not even || i % 2 == 0)
 
--- only duals of entries without weight speak of even distances alone, or allow more than 0
-abbrev pub IsPlainOf : Option ℕ → Bool → List (ℕ × ℤ) → Type 0
-IsPlainOf None even y = Unit {0}
-IsPlainOf (Some w) even y = (even ≡ false) × (y ≡ [])
+-- only duals of entries without weight speak of even distances alone
+abbrev pub IsMarkOf : Option ℕ → Bool → Type 0
+IsMarkOf None even = Unit {0}
+IsMarkOf (Some w) even = even ≡ false
+
+-- with a weight nothing is allowed
+abbrev pub AllowsNone : Option ℕ → List (ℕ × ℤ) → Type 0
+AllowsNone None y = Unit {0}
+AllowsNone (Some w) y = y ≡ []
 
 -- the form of a dual: it is of an entry of the table; c has 1 to degree + 1 numbers, all at least 0; y names indices of the range in ascending order, each with a number of at least 0; all these numbers are below 2^63
 pub record IsDual (d : Dual) : Type 0 where
   pub entry : IsEntry d.entry
   pub even_distance : d.even ≡ true → d.entry.d % 2 ≡ 0
-  pub weighted : IsPlainOf d.entry.w d.even d.y
+  pub weighted : IsMarkOf d.entry.w d.even
   pub some : 1 ≤ length d.c
   pub few : length d.c ≤ suc (degree_of d.entry)
   pub multipliers : All (λ z. pos 0 ≤ℤ z) d.c

@@ -16,6 +16,14 @@ thirteen_six = record {
 abbrev pub eight_four_four : Dual
 eight_four_four = record { entry = constant_weight 8 4 4; even = false; c = pos 48 ∷ pos 21 ∷ pos 4 ∷ []; y = [] }
 
+-- for A(8,4,4): f = 8 + J_1, and 8 allowed at the index 2
+abbrev pub eight_local : Dual
+eight_local = record { entry = constant_weight 8 4 4; even = false; c = pos 8 ∷ pos 1 ∷ []; y = (2, pos 8) ∷ [] }
+
+-- for A(8,4,4): f is 1 everywhere, and 1 is allowed at each index that words of a code may have
+abbrev pub ones_local : Dual
+ones_local = record { entry = constant_weight 8 4 4; even = false; c = pos 1 ∷ []; y = (2, pos 1) ∷ (3, pos 1) ∷ (4, pos 1) ∷ [] }
+
 -- of the entry (5,3): f is 1 everywhere, and nothing is allowed
 abbrev pub one_everywhere : Dual
 one_everywhere = record { entry = unrestricted 5 3; even = false; c = pos 1 ∷ []; y = [] }

@@ -24,17 +24,12 @@ are_allowances_from e even low (p ∷ y) =
 abbrev pub are_allowances : Entry → Bool → List (ℕ × ℤ) → Bool
 are_allowances e even y = are_allowances_from e even 0 y
 
--- whether there is no pair
-abbrev pub is_none_allowed : List (ℕ × ℤ) → Bool
-is_none_allowed [] = true
-is_none_allowed (p ∷ y) = false
-
--- whether the mark `even` and the allowances fit the weight and the distance
-abbrev pub are_marks : Option ℕ → ℕ → Bool → List (ℕ × ℤ) → Bool
-are_marks None d even y = not even || d % 2 == 0
-are_marks (Some w) d even y = not even && is_none_allowed y
+-- whether the mark `even` fits the weight and the distance
+abbrev pub is_mark : Option ℕ → ℕ → Bool → Bool
+is_mark None d even = not even || d % 2 == 0
+is_mark (Some w) d even = not even
 
 -- whether the dual has the form of one
 abbrev pub is_dual : Dual → Bool
 is_dual d =
-    is_entry d.entry && are_marks d.entry.w d.entry.d d.even d.y && are_multipliers d.entry d.c && are_allowances d.entry d.even d.y
+    is_entry d.entry && is_mark d.entry.w d.entry.d d.even && are_multipliers d.entry d.c && are_allowances d.entry d.even d.y

@@ -1,13 +1,15 @@
 //! Accepted duals and their bounds.
-ghost use Rattle.std.specs.Prelude.{◌≡◌, ◌+◌, ◌*◌, ◌/◌, ◌≤◌, ◌<◌, ◌^◌, min, pos, ◌+ℤ◌, ◌≤ℤ◌, length, suc, unsigned_abs, IfOk};
+ghost use Rattle.std.specs.Prelude.{◌≡◌, ℕ, ◌+◌, ◌*◌, ◌/◌, ◌≤◌, ◌<◌, ◌^◌, min, pos, ◌+ℤ◌, ◌≤ℤ◌, length, suc, unsigned_abs, Some, IfOk};
 ghost use Rattle.ct_words.specs.declared.limits.TheConstants.{MAX_BOUND, MAX_N};
 ghost use Rattle.ct_codes.specs.Code.{IsTrueUpper};
 ghost use Rattle.ct_codes.specs.Numbers.{numbers_of, combination};
 ghost use Rattle.ct_duals.specs.Bound.{AcceptedValue, IsAccepted, AreTrueUppers, IsSpread, dual_bound, dual_spread, dual_premises, positive, charges, near_charge, far_charge, is_far, natural};
+ghost use Rattle.ct_duals.specs.Local.{AreTrueLocals, local_charge, local_bound};
 ghost use Rattle.ct_duals.specs.Inside.Proven.{IsProven};
 
 use crate::accepted_dual::AcceptedDual;
 use crate::dual::Dual;
+use crate::premise::distance_at;
 use ct_codes::Entry;
 use ct_words::MAX_BOUND;
 use std::alloc::AllocError;
@@ -80,6 +82,22 @@ impl<'a> Accepted<'a> {
         let charge = charge(self.dual.entry, self.dual.y.as_slice(), uppers);
         quotient(self.at_zero, charge, self.dual.c.as_slice()[0])
     }
+
+    /// The bound of the dual, of an entry with a weight w, from one number U_i for each index i where more than 0 is allowed, in
+    /// ascending order: the least of `MAX_BOUND` and ⌊(f(0) + Σ y_i·U_i)/c_0⌋. Where no doubly constant code of (w,i,n−w,i,d) has more
+    /// than U_i words, no code of the entry is larger: those of its words that are at distance 2i from one of them are such a code. A
+    /// number that is missing counts as 0. It takes no memory, and every sum fits, as those of `bound` do.
+    #[tactic(auto, unfolding(crate::specs::Local::local_bound))]
+    pub fn local_bound(&self, uppers: &[u32]) -> u32
+        ensures value { result ≡ local_bound self.now.dual self.now.at_zero uppers.now }
+        ensures some { 1 ≤ result }
+        ensures limit { result ≤ MAX_BOUND }
+        ensures sound { (w : ℕ) → self.now.dual.entry.w ≡ Some w → AreTrueLocals self.now.dual.entry w (positive self.now.dual.y) uppers.now →
+            IsTrueUpper self.now.dual.entry result }
+    {
+        let charge = local_charge(self.dual.y.as_slice(), uppers);
+        quotient(self.at_zero, charge, self.dual.c.as_slice()[0])
+    }
 }
 
 /// S + T: for each index where more than 0 is allowed, this number times the upper bound at its place; of those in the
@@ -109,6 +127,23 @@ fn charge(entry: Entry, y: &[(u32, i64)], uppers: &[u32]) -> u128
     near + far
 }
 
+/// The sum of the numbers above 0 that are allowed, each times the upper bound at its place.
+fn local_charge(y: &[(u32, i64)], uppers: &[u32]) -> u128
+    requires few { length y.now ≤ MAX_N }
+    ensures value { result ≡ local_charge y.now uppers.now }
+    ensures small { result ≤ suc MAX_N * 2 ^ 95 }
+{
+    let mut sum: u128 = 0;
+    let mut taken = 0;
+    for (_, number) in y {
+        if *number > 0 && taken < uppers.len() {
+            sum += product(*number, uppers[taken]);
+            taken += 1;
+        }
+    }
+    sum
+}
+
 /// A number that is allowed, times an upper bound.
 fn product(number: i64, upper: u32) -> u128
     requires number { pos 1 ≤ℤ number }
@@ -118,13 +153,13 @@ fn product(number: i64, upper: u32) -> u128
     u128::from(number as u64) * u128::from(upper)
 }
 
-/// Whether the index is in the group G, 2i ≥ 2n - d.
+/// Whether the index is in the group G, 2t ≥ 2n - d for its distance t.
 fn is_far(entry: Entry, i: u32) -> bool
     requires length { entry.n ≤ MAX_N }
     requires distance { entry.d ≤ MAX_N }
     ensures { result ≡ is_far entry i }
 {
-    2 * u64::from(entry.n) <= 2 * u64::from(i) + u64::from(entry.d)
+    2 * u64::from(entry.n) <= 2 * distance_at(entry.w, i) + u64::from(entry.d)
 }
 
 /// f(0) + charge.

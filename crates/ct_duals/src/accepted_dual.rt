@@ -1,10 +1,11 @@
 //! Accepted duals that are kept.
-ghost use Rattle.std.specs.Prelude.{◌≡◌, ◌≤◌, ◌↔◌, IsTrue, Contains, All, length, slice_get};
+ghost use Rattle.std.specs.Prelude.{◌≡◌, ℕ, ◌≤◌, ◌↔◌, IsTrue, Contains, All, Some, length, slice_get};
 ghost use Rattle.ct_words.specs.declared.limits.TheConstants.{MAX_BOUND, MAX_N};
 ghost use Rattle.ct_codes.specs.Code.{IsTrueUpper};
 ghost use Rattle.ct_codes.specs.Entry.{IsEntry};
 ghost use Rattle.ct_codes.specs.Numbers.{numbers_of, combination};
-ghost use Rattle.ct_duals.specs.Bound.{IsAccepted, AreTrueUppers, IsSpread, dual_bound, dual_spread, dual_premises};
+ghost use Rattle.ct_duals.specs.Bound.{IsAccepted, AreTrueUppers, IsSpread, dual_bound, dual_spread, dual_premises, positive};
+ghost use Rattle.ct_duals.specs.Local.{AreTrueLocals, local_bound};
 ghost use Rattle.ct_duals.specs.Inside.Proven.{IsProven};
 
 use crate::accepted::Accepted;
@@ -75,8 +76,8 @@ impl AcceptedDual {
         self.dual.premise_count()
     }
 
-    /// The entry at a place, from 0, among those whose upper bounds its own rests on: A(n,2⌈d/2⌉,i) for each index i where more
-    /// than 0 is allowed, ascending. `None` past their end.
+    /// The entry at a place, from 0, among those whose upper bounds its own rests on: A(n,2⌈d/2⌉,t) for the distance t of each index
+    /// where more than 0 is allowed, ascending. `None` past their end.
     pub fn premise(&self, place: usize) -> Option<Entry>
         ensures { result ≡ slice_get (dual_premises self.now.dual) place }
     {
@@ -110,5 +111,17 @@ impl AcceptedDual {
         ensures sound { AreTrueUppers (dual_premises self.now.dual) uppers.now → IsTrueUpper self.now.dual.entry result }
     {
         Accepted::new(&self.dual, self.at_zero).bound(uppers)
+    }
+
+    /// Its bound, where its entry has a weight w, from one number for each index i where it allows more than 0, ascending, that bounds
+    /// the doubly constant codes of (w,i,n−w,i,d), as `Accepted::local_bound` says. It takes no memory.
+    pub fn local_bound(&self, uppers: &[u32]) -> u32
+        ensures value { result ≡ local_bound self.now.dual self.now.at_zero uppers.now }
+        ensures some { 1 ≤ result }
+        ensures limit { result ≤ MAX_BOUND }
+        ensures sound { (w : ℕ) → self.now.dual.entry.w ≡ Some w → AreTrueLocals self.now.dual.entry w (positive self.now.dual.y) uppers.now →
+            IsTrueUpper self.now.dual.entry result }
+    {
+        Accepted::new(&self.dual, self.at_zero).local_bound(uppers)
     }
 }

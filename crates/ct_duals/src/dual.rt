@@ -95,7 +95,7 @@ pub struct Dual {
     pub even: bool,
     /// The multipliers of the rows of the scheme.
     pub c: Multipliers,
-    /// What is allowed; nothing where the entry has a weight.
+    /// What is allowed, at indices: the distances of words, and with a weight their halves.
     pub y: Allowances,
 }
 

@@ -4,7 +4,7 @@ ghost use Rattle.std.specs.List.{list_all};
 ghost use Rattle.ct_words.specs.declared.limits.TheConstants.{MAX_N};
 ghost use Rattle.ct_codes.specs.Entry.{IsEntry};
 ghost use Rattle.ct_duals.specs.Dual.{IsDual, degree_of, is_in_range};
-ghost use Rattle.ct_duals.specs.Form.{is_dual, are_multipliers, are_allowances, are_marks, is_number};
+ghost use Rattle.ct_duals.specs.Form.{is_dual, are_multipliers, are_allowances, is_mark, is_number};
 
 use crate::dual::Dual;
 use ct_codes::Entry;
@@ -12,8 +12,7 @@ use ct_codes::Entry;
 impl Dual {
     /// Whether the dual has the form of one: its entry is in the table; there are 1 to degree + 1 multipliers, all at least
     /// 0; the indices at which it allows something are of the range and strictly ascending, and each number that is allowed
-    /// is at least 0; it speaks of even distances alone only where d is even; and with a weight it doesn't, and allows
-    /// nothing.
+    /// is at least 0; it speaks of even distances alone only where d is even; and with a weight it doesn't.
     pub fn is_formed(&self) -> bool
         ensures value { result ≡ is_dual self.now }
         ensures form { IsTrue result ↔ IsDual self.now }
@@ -25,7 +24,7 @@ impl Dual {
 fn is_dual(dual: &Dual) -> bool
     ensures { result ≡ is_dual dual.now }
 {
-    if !dual.entry.in_table() || !are_marks(dual) {
+    if !dual.entry.in_table() || !is_mark(dual) {
         return false;
     }
     if !are_multipliers(dual.entry, dual.c.as_slice()) {
@@ -34,13 +33,13 @@ fn is_dual(dual: &Dual) -> bool
     are_allowances(dual.entry, dual.even, dual.y.as_slice())
 }
 
-/// Whether the mark `even` and the allowances fit the weight and the distance.
-fn are_marks(dual: &Dual) -> bool
-    ensures { result ≡ are_marks dual.now.entry.w dual.now.entry.d dual.now.even dual.now.y }
+/// Whether the mark `even` fits the weight and the distance.
+fn is_mark(dual: &Dual) -> bool
+    ensures { result ≡ is_mark dual.now.entry.w dual.now.entry.d dual.now.even }
 {
     match dual.entry.w {
         None => !dual.even || dual.entry.d % 2 == 0,
-        Some(_) => !dual.even && dual.y.as_slice().is_empty(),
+        Some(_) => !dual.even,
     }
 }
 

@@ -6,7 +6,8 @@ ghost use Rattle.ct_duals.specs.declared.fault.DualFault.TheVariants.{Lead, Abov
 ghost use Rattle.ct_codes.specs.Numbers.{multiplier, combination};
 ghost use Rattle.ct_duals.specs.Dual.{Fits, IsDual};
 ghost use Rattle.ct_duals.specs.Check.{dual_fault, IsBelow, IsLeastAbove};
-ghost use Rattle.ct_duals.specs.Bound.{AreTrueUppers, AreAtMost, dual_premises, dual_spread, dual_bound};
+ghost use Rattle.ct_duals.specs.Bound.{AreTrueUppers, AreAtMost, positive, dual_premises, dual_spread, dual_bound};
+ghost use Rattle.ct_duals.specs.Local.{AreTrueLocals, local_bound};
 
 use ct_codes::Scheme;
 
@@ -23,6 +24,18 @@ pub fn accepted_duals_bound_codes<S: Scheme>(scheme: &S)
         IsTrueUpper dual.entry (dual_bound dual (combination (S.number scheme.now) dual.c 0) uppers) }
 {}
 
+/// No code of the entry A(n,d,w) of an accepted dual is larger than its local bound, where each U_i is at least as large as every doubly
+/// constant code of (w,i,n−w,i,d).
+///
+/// The words of a code at distance 2i from one of its words, that word added and their places put in the order of its ones and then its
+/// zeros, have i ones in each part: they are such a code. So what f adds up to over a word and all words is at most f(0) + Σ y_i·U_i.
+pub fn accepted_duals_bound_codes_about_words<S: Scheme>(scheme: &S)
+    ensures { (dual : Dual) (w : ℕ) (uppers : List ℕ) →
+        Fits (S.belongs scheme.now) (S.index scheme.now) (S.degree scheme.now) (S.number scheme.now) dual.entry → IsDual dual →
+        dual_fault (S.number scheme.now) dual ≡ None → dual.entry.w ≡ Some w → AreTrueLocals dual.entry w (positive dual.y) uppers →
+        IsTrueUpper dual.entry (local_bound dual (combination (S.number scheme.now) dual.c 0) uppers) }
+{}
+
 /// What the check of a dual says: it is accepted exactly where c_0 is at least 1 and f nowhere above what is allowed; `Lead` comes
 /// exactly where c_0 is below 1; and `Above` exactly where it isn't, and f is above at the index that it names and at no
 /// lesser one, with both numbers.
@@ -35,10 +48,12 @@ pub fn faults_of_duals()
         (dual_fault number dual ≡ Some (Above at value allowed)) ↔ IsLeastAbove number dual at value allowed }
 {}
 
-/// Smaller upper bounds never give a greater spread, nor a greater bound.
+/// Smaller upper bounds never give a greater spread, nor a greater bound, nor a greater local bound.
 pub fn bounds_of_duals_are_monotone()
     ensures spread { (dual : Dual) (at_zero : ℤ) (uppers others : List ℕ) →
         AreAtMost uppers others → dual_spread dual at_zero uppers ≤ℤ dual_spread dual at_zero others }
     ensures bound { (dual : Dual) (at_zero : ℤ) (uppers others : List ℕ) →
         AreAtMost uppers others → dual_bound dual at_zero uppers ≤ dual_bound dual at_zero others }
+    ensures local { (dual : Dual) (at_zero : ℤ) (uppers others : List ℕ) →
+        AreAtMost uppers others → local_bound dual at_zero uppers ≤ local_bound dual at_zero others }
 {}

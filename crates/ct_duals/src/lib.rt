@@ -16,4 +16,7 @@ pub use check::check_dual;
 pub use dual::{Allowances, Dual, Multipliers};
 pub use fault::DualFault;
 pub use form::{are_allowances, are_multipliers, degree, is_in_range};
-pub use laws::{accepted_duals_bound_codes, bounds_of_duals_are_monotone, faults_of_duals};
+pub use laws::{
+    accepted_duals_bound_codes, accepted_duals_bound_codes_about_words,
+    bounds_of_duals_are_monotone, faults_of_duals,
+};

@@ -79,7 +79,7 @@ stated-sound document (Dual d) states =
 stated-sound document (JohnsonDual d) states =
     let has = states.fields in
     let (w, is, at_w) = has.entry.with_weight in
-    (formed_weighted document d has.entry has.unmarked has.multipliers has.none_allowed, subst IsSome (sym is) refl)
+    (formed_weighted document d has.entry has.unmarked has.multipliers has.none_allowed, subst IsSome (sym is) refl, has.none_allowed)
 stated-sound document (Odd d m) states =
     let has = states.fields in
     let marked = has.sized.entry in

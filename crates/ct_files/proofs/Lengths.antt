@@ -38,7 +38,7 @@ evidence_holds (evidence.Partition e between classes) sound ids = partition_hold
 evidence_holds (evidence.Build e step part other) (fits, named) (id, ids) = build_holds e step part other fits id ids
 evidence_holds (evidence.Product e pairs) sound ids = product_holds e pairs ids
 evidence_holds (evidence.Dual d) (form, plain) ids = dual_holds d form
-evidence_holds (evidence.JohnsonDual d) (form, some) ids = johnson_dual_holds d form
+evidence_holds (evidence.JohnsonDual d) (form, some, empty) ids = johnson_dual_holds d form
 evidence_holds (evidence.Odd d m) (form, plain, size) ids = odd_holds d m form
 
 -- so many words of so many digits take so many bytes
@@ -95,7 +95,7 @@ most_bytes-room (evidence.Partition e between classes) (entry, some, nearer, sho
 most_bytes-room (evidence.Build e step part other) sound = omega arith
 most_bytes-room (evidence.Product e pairs) (entry, some, few, one) = omega (arith, few)
 most_bytes-room (evidence.Dual d) (form, plain) = let (few, listed) = dual_few d form in omega (arith, few, listed)
-most_bytes-room (evidence.JohnsonDual d) (form, some) = let (few, listed) = dual_few d form in omega (arith, few)
+most_bytes-room (evidence.JohnsonDual d) (form, some, empty) = let (few, listed) = dual_few d form in omega (arith, few)
 most_bytes-room (evidence.Odd d m) (form, plain, size) = let (few, listed) = dual_few d form in omega (arith, few, listed)
 
 pub most_bytes-within : (e : Evidence) → IsSound e → most_bytes e ≤ MAX_DOCUMENT

@@ -61,8 +61,8 @@ states_itself (Build e step part other) (fits, named) (id, ids) =
 states_itself (Dual d) (form, plain) ids =
     let states = states_dual d form plain in
     record { of_kind = states.fields.of_kind; states = states; unformatted = dual-unformatted d }
-states_itself (JohnsonDual d) (form, some) ids =
-    let states = states_johnson_dual d form some in
+states_itself (JohnsonDual d) (form, some, empty) ids =
+    let states = states_johnson_dual d form some empty in
     record { of_kind = states.fields.of_kind; states = states; unformatted = johnson_dual-unformatted d }
 states_itself (Odd d m) (form, plain, size) ids =
     let states = states_odd d m form plain size in

@@ -1,5 +1,5 @@
 -- The evidence that a document's bytes give, or the first fault of the document.
-use Rattle.std.specs.Prelude.{◌≡◌, ℕ, suc, ◌^◌, ◌<◌, ◌≤◌, nat_le, List, length, None, IsSome, is_some, Result, All}
+use Rattle.std.specs.Prelude.{◌≡◌, ℕ, suc, ◌^◌, ◌<◌, ◌≤◌, nat_le, List, [], length, None, IsSome, is_some, Result, All}
 use Rattle.toml.specs.Data.{Data}
 use Rattle.ct_words.specs.declared.limits.TheConstants.{MAX_N}
 use Rattle.ct_codes.specs.Entry.{IsEntry}
@@ -42,8 +42,8 @@ read_of bytes = do
 -- what evidence keeps that is read: an entry of the table, and words of its length, 1 to MAX_WORDS of them; of cosets, whose entry has no
 -- weight, at most MAX_N basis words and 1 to MAX_REPRESENTATIVES representatives; of a partition, a distance between classes from 1 to that of
 -- a class, words of the length of the entry, and no count that is wrong; of a product, 1 to MAX_N + 1 pairs, one alone without weight; of a build, a step that fits the entry, and another part exactly
--- where the step needs one; the form of a dual, whose entry has a weight exactly where its kind is jdual, and with it, where its kind is odd, a number
--- of words that is odd and in its range
+-- where the step needs one; the form of a dual, whose entry has a weight exactly where its kind is jdual, and which then allows nothing, and with it,
+-- where its kind is odd, a number of words that is odd and in its range
 abbrev pub IsSound : Evidence → Type 0
 IsSound (Words e words) = IsEntry e × All (λ x. x < 2 ^ e.n) words × (1 ≤ length words) × (length words ≤ MAX_WORDS)
 IsSound (Cosets e basis representatives) =
@@ -54,5 +54,5 @@ IsSound (Partition e between classes) =
 IsSound (Product e pairs) = IsEntry e × (1 ≤ length pairs) × (length pairs ≤ suc MAX_N) × (e.w ≡ None → length pairs ≡ 1)
 IsSound (Build e step part other) = FitsStated step e × (is_some other ≡ needs_other step)
 IsSound (Dual d) = IsDual d × (d.entry.w ≡ None)
-IsSound (JohnsonDual d) = IsDual d × IsSome d.entry.w
+IsSound (JohnsonDual d) = IsDual d × IsSome d.entry.w × (d.y ≡ [])
 IsSound (Odd d m) = IsDual d × (d.entry.w ≡ None) × IsOddSize m

@@ -138,7 +138,7 @@ pub record IsWeightedFound (e : Entry) (turns : ℕ) (c : List ℤ) (stop : Stop
 
 -- an entry with a weight is one that may be asked for
 pub asked-weighted : (n d w : ℕ) → IsEntry (constant_weight n d w) → IsAsked (constant_weight n d w) false
-asked-weighted n d w entry = record { entry = entry; even_distance = (λ h. absurd cc); weighted = (refl, refl) }
+asked-weighted n d w entry = record { entry = entry; even_distance = (λ h. absurd cc); weighted = refl }
 
 weighted-at : (n d w turns : ℕ) → IsEntry (constant_weight n d w) → (end : End) → end_of_run (constant_weight n d w) false turns ≡ end → (c : List ℤ) (stop : Stop)
     → Some c ≡ multipliers_from (ending_of (constant_weight n d w) false (range_of (constant_weight n d w) false) (degree_of (constant_weight n d w)) end)

@@ -3,7 +3,7 @@ use Rattle.std.specs.Prelude.{◌≡◌, ℕ, zero, suc, ◌%◌, Bool, true, re
 use Rattle.ct_codes.specs.declared.entry.Entry.{Entry}
 use Rattle.ct_codes.specs.Entry.{IsEntry}
 use Rattle.ct_duals.specs.declared.dual.Dual.{Dual}
-use Rattle.ct_duals.specs.Dual.{degree_of, IsPlainOf}
+use Rattle.ct_duals.specs.Dual.{degree_of, IsMarkOf}
 use Rattle.ct_finder_run.specs.Column.{Column, Tableau, range_of, rows_to, columns, opening, same_column}
 use Rattle.ct_finder_run.specs.Column.Column.{Z, S}
 use Rattle.ct_finder_run.specs.Turn.{entering, pivot_row, turned, first_wide}
@@ -52,7 +52,7 @@ run cs (suc n) t = elim (step cs t) [ ended e ↦ e | goes next ↦ run cs n nex
 pub record IsAsked (e : Entry) (even : Bool) : Type 0 where
   pub entry : IsEntry e
   pub even_distance : even ≡ true → e.d % 2 ≡ 0
-  pub weighted : IsPlainOf e.w even []
+  pub weighted : IsMarkOf e.w even
 
 -- the columns of an entry
 abbrev pub columns_of : Entry → Bool → List Column

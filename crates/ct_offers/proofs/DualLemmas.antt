@@ -9,6 +9,7 @@ use Rattle.ct_codes.specs.declared.claim.Side.TheVariants.{Lower, Upper}
 use Rattle.ct_codes.specs.declared.entry.Entry.{Entry}
 use Rattle.ct_codes.specs.Entry.{constant_weight, is_entry}
 use Rattle.ct_codes.specs.Constructions.Even.{even_from}
+use Rattle.ct_duals.specs.Dual.{as_distance}
 use Rattle.ct_duals.specs.Bound.{AcceptedValue, positive, dual_premises}
 use Rattle.ct_rule_parts.specs.declared.support.Support.{Support}
 use Rattle.ct_rule_parts.specs.Support.{dual_behind}
@@ -114,10 +115,10 @@ weighted_premises a f rests = All-contains IsWeighted (dual_premises a.dual) f (
     IsWeighted g = g.w ≡ None → ⊥
 
     at : ℕ × ℤ → Entry
-    at p = constant_weight a.dual.entry.n (even_from a.dual.entry.d) p.0
+    at p = constant_weight a.dual.entry.n (even_from a.dual.entry.d) (as_distance a.dual.entry.w p.0)
 
     weighted : (p : ℕ × ℤ) → IsWeighted (at p)
-    weighted p none = none-some p.0 (sym none)
+    weighted p none = none-some (as_distance a.dual.entry.w p.0) (sym none)
 
 pub tested_from_plain : (supports : List Support) (bounds : List ℕ) (work : WorkValue) (from : Entry) → from.w ≡ None
     → AreTestedFromDuals supports bounds work from

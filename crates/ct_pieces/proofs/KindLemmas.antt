@@ -16,6 +16,7 @@ use Rattle.ct_partition_files.proofs.ProductKind.{product_accepted, right-produc
 use Rattle.ct_partition_files.proofs.ProductReasons.{product-reasons}
 use Rattle.ct_build_files.proofs.BuildKind.{build_accepted, build_checked, build_same}
 use Rattle.ct_build_files.proofs.BuildReasons.{build-reasons}
+use Rattle.ct_duals.proofs.FormLemmas.{allows_none-plain, allows_none-empty}
 use Rattle.ct_dual_files.proofs.DualKind.{dual_accepted, dual_states, dual_same, odd_states, odd_same}
 use Rattle.ct_dual_files.proofs.DualReasons.{dual-reasons, odd-reasons}
 
@@ -59,8 +60,8 @@ own_checked known (Cosets e basis representatives) sound none = cosets_checked k
 own_checked known (Partition e between classes) sound none = (partition_states known e between classes sound.0 sound.1 sound.2 sound.3 none).checked
 own_checked known (Product e pairs) sound none = (right-product e known pairs sound.1 sound.3 none).checked
 own_checked known (Build e step part other) sound none = build_checked e step part other (code_named part known) (other_named other known) none
-own_checked known (Dual d) sound none = (dual_states known (codes "dual") d sound.0 none).checked
-own_checked known (JohnsonDual d) sound none = (dual_states known (codes "jdual") d sound.0 none).checked
+own_checked known (Dual d) sound none = (dual_states known (codes "dual") d sound.0 (allows_none-plain d.entry.w d.y sound.1) none).checked
+own_checked known (JohnsonDual d) sound none = (dual_states known (codes "jdual") d sound.0 (allows_none-empty d.entry.w d.y sound.2) none).checked
 own_checked known (Odd d m) sound none = (odd_states known (codes "odd") d m sound.0 none).checked
 
 pub no_own_reason : (known : List NamedCode) (evidence : Evidence) → IsSound evidence → IsChecked known evidence → own_reason known evidence ≡ None

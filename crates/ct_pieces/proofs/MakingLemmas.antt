@@ -30,6 +30,7 @@ use Rattle.ct_word_files.proofs.CosetsKind.{cosets_state}
 use Rattle.ct_partition_files.proofs.PartitionKind.{partition_states}
 use Rattle.ct_partition_files.proofs.ProductKind.{product_states}
 use Rattle.ct_build_files.proofs.BuildKind.{build_states}
+use Rattle.ct_duals.proofs.FormLemmas.{allows_none-plain, allows_none-empty}
 use Rattle.ct_dual_files.proofs.DualKind.{dual_states, odd_states}
 
 -- where none is found, the test fails of each
@@ -79,8 +80,8 @@ own_states known (Cosets e basis representatives) sound read own = cosets_state 
 own_states known (Partition e between classes) sound read own = partition_states known e between classes read.0 read.1 read.2 read.3 own
 own_states known (Product e pairs) sound read own = product_states known e pairs sound read.0 read.1 read.3 own
 own_states known (Build e step part other) sound read own = build_states known e step part other sound read.0 own
-own_states known (Dual d) sound read own = dual_states known (codes "dual") d read.0 own
-own_states known (JohnsonDual d) sound read own = dual_states known (codes "jdual") d read.0 own
+own_states known (Dual d) sound read own = dual_states known (codes "dual") d read.0 (allows_none-plain d.entry.w d.y read.1) own
+own_states known (JohnsonDual d) sound read own = dual_states known (codes "jdual") d read.0 (allows_none-empty d.entry.w d.y read.2) own
 own_states known (Odd d m) sound read own = odd_states known (codes "odd") d m read.0 own
 
 pub states_code : (known : List NamedCode) (evidence : Evidence) → AreSound known → IsRight known evidence → StatesCode known evidence

@@ -1,10 +1,10 @@
 -- Primals of Delsarte's linear program (Delsarte 1973; MacWilliams and Sloane, chapter 17, section 4): numbers that meet the inequalities of a distance distribution.
-use Rattle.std.specs.Prelude.{◌≡◌, ℕ, suc, ◌/◌, ◌%◌, ◌<◌, ◌≤◌, min, true, ◌&&◌, nat_le, if◌then◌else◌, Bool, IsTrue, List, [], ℤ, pos, ◌+ℤ◌, ◌*ℤ◌, ◌≤ℤ◌, int_lt, All, AllPairs, Option, Some, None}
+use Rattle.std.specs.Prelude.{◌≡◌, ℕ, suc, ◌/◌, ◌%◌, ◌<◌, ◌≤◌, min, true, ◌&&◌, nat_le, if◌then◌else◌, Bool, IsTrue, List, ℤ, pos, ◌+ℤ◌, ◌*ℤ◌, ◌≤ℤ◌, int_lt, All, AllPairs, Option, Some, None}
 use Rattle.ct_words.specs.declared.limits.TheConstants.{MAX_BOUND}
 use Rattle.ct_words.specs.Counting.Sums.{total}
 use Rattle.ct_codes.specs.Entry.{IsEntry}
 use Rattle.ct_codes.specs.Pairs.{first_of}
-use Rattle.ct_duals.specs.Dual.{degree_of, is_in_range, IsPlainOf}
+use Rattle.ct_duals.specs.Dual.{degree_of, is_in_range, IsMarkOf}
 use Rattle.ct_duals.specs.Check.{first_below}
 use Rattle.ct_duals.specs.Bound.{natural}
 use Rattle.ct_codes.specs.declared.entry.Entry.{Entry}
@@ -22,7 +22,7 @@ pub record PrimalValue : Type 0 where
 pub record IsPrimal (p : PrimalValue) : Type 0 where
   pub entry : IsEntry p.entry
   pub even_distance : p.even ≡ true → p.entry.d % 2 ≡ 0
-  pub weighted : IsPlainOf p.entry.w p.even []
+  pub weighted : IsMarkOf p.entry.w p.even
   pub ascending : AllPairs (λ u v. u.0 < v.0) p.a
   pub numbers : All (λ u. IsTrue (is_in_range p.entry p.even u.0) × (pos 0 ≤ℤ u.1)) p.a
 

@@ -168,7 +168,7 @@ weighted_document n d w c form =
     let own = with_multipliers (constant_weight n d w) false c in
     let b = bytes_of (johnson_dual_table own)
     (johnson_dual_plain n d w c limits.length_to limits.distance_to (omega (arith, weight.2)) (all_fit c form.multipliers form.signed.0)) in
-    (b.bytes, written-document (evidence.JohnsonDual own) (johnson_dual_table own) b.bytes (form, refl) tt refl b.written b.room)
+    (b.bytes, written-document (evidence.JohnsonDual own) (johnson_dual_table own) b.bytes (form, refl, refl) tt refl b.written b.room)
 
 -- each dual with a document that is shown has an answer
 answer_of : (e : Entry) (d : Dual) → IsShown (stop_for e) d → (document : List ℕ) × (document_read_of document ≡ Ok (without_cites (dual_evidence d.entry.w d)))

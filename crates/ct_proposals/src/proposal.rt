@@ -1,6 +1,6 @@
 //! The text of a dual that is proposed.
 
-ghost use Rattle.std.specs.Prelude.{◌≡◌, ◌++◌, codes, IfOk, OnOk};
+ghost use Rattle.std.specs.Prelude.{◌≡◌, ◌++◌, [], codes, IfOk, OnOk};
 ghost use Rattle.ct_codes.specs.Entry.{IsEntry};
 ghost use Rattle.ct_duals.specs.Dual.{IsDual};
 ghost use Rattle.ct_files.specs.Evidence.{IsSound};
@@ -17,9 +17,10 @@ use ct_lines::LINE_FEED;
 use ct_text::put_number;
 use std::alloc::{AllocError, Global};
 
-/// The dual as evidence: of kind dual where its entry has no weight, else of kind jdual.
+/// The dual, which allows nothing, as evidence: of kind dual where its entry has no weight, else of kind jdual.
 fn dual_evidence(dual: Dual) -> Evidence
     requires form { IsDual dual }
+    requires nothing { dual.y ≡ [] }
     ensures evidence { result ≡ dual_evidence dual.entry.w dual }
     ensures sound { IsSound result }
 {
@@ -131,6 +132,7 @@ fn find_id(alloc: Global, entry: Entry) -> Result<Vec<u8>, AllocError>
 /// The text of what was found: its bound, the primal that shows it, and its dual as a submission.
 fn proposal(alloc: Global, entry: Entry, found: Found) -> Result<Vec<u8>, AllocError>
     requires form { IsDual found.dual }
+    requires nothing { found.dual.y ≡ [] }
     ensures { IfOk result (λ text. IsProposal entry found.dual found.bound found.stop text.items) }
 {
     let id = find_id(alloc, entry)?;

@@ -4,6 +4,7 @@ use Rattle.ct_codes.specs.declared.entry.Entry.{Entry}
 use Rattle.ct_codes.specs.declared.claim.Side.TheVariants.{Lower}
 use Rattle.ct_codes.specs.Claim.{IsTrueClaim}
 use Rattle.ct_codes.specs.Entry.{same_entry}
+use Rattle.ct_duals.specs.Dual.{AllowsNone}
 use Rattle.ct_duals.specs.Bound.{AcceptedValue, IsAccepted}
 use Rattle.ct_rule_parts.specs.declared.support.Support.{Support}
 use Rattle.ct_rule_parts.specs.declared.support.Support.TheVariants.{Nothing, Size, Bound, Odd}
@@ -13,12 +14,12 @@ pub record OddValue : Type 0 where
   pub accepted : AcceptedValue
   pub m : ℕ
 
--- a support stands: its size is a true lower bound of its entry, and its dual meets its inequalities, with its own f(0)
+-- a support stands: its size is a true lower bound of its entry, and its dual meets its inequalities, with its own f(0); one that gives its bound with a weight allows nothing
 abbrev pub Stands : Support → Type 0
 Stands Nothing = Unit {0}
 Stands (Size e size) = IsTrueClaim (record { side = Lower; entry = e; value = size })
-Stands (Bound dual) = IsAccepted dual
-Stands (Odd dual m) = IsAccepted dual
+Stands (Bound a) = IsAccepted a × AllowsNone a.dual.entry.w a.dual.y
+Stands (Odd a m) = IsAccepted a
 
 -- all supports of the list stand
 abbrev pub AllStand : List Support → Type 0

@@ -12,7 +12,7 @@ use Rattle.ct_rule_parts.specs.declared.support.Support.{Support}
 use Rattle.ct_rule_parts.specs.declared.support.Support.TheVariants.{Bound}
 use Rattle.ct_rule_parts.specs.Parts.{are_entries, is_defined, has_weight, slots_on, within_limit}
 use Rattle.ct_rule_parts.specs.Slot.{Slot, slot_of, claim_at}
-use Rattle.ct_rule_parts.specs.Support.{dual_at}
+use Rattle.ct_rule_parts.specs.Support.{Stands, dual_at}
 use Rattle.ct_rule_parts.proofs.DualLemmas.{dual_at-own, are_entries-from_All}
 use Rattle.ct_weight_rules.specs.Delsarte.{premises_of_dual, bound_of_dual, dual_above, dual_above_of_weight}
 use Rattle.ct_weight_rules.proofs.LawfulDelsarte.{premises-none}
@@ -63,7 +63,7 @@ plain-gives supports place a h at light =
     }
 
 -- the rule of a dual with weight, which rests on nothing
-weighted-gives : (supports : List Support) (place : ℕ) (a : AcceptedValue) (w : ℕ) → IsAccepted a → slice_get supports place ≡ Some (Bound a) → a.dual.entry.w ≡ Some w
+weighted-gives : (supports : List Support) (place : ℕ) (a : AcceptedValue) (w : ℕ) → Stands (Bound a) → slice_get supports place ≡ Some (Bound a) → a.dual.entry.w ≡ Some w
     → GivesBound supports (V9 place) a
 unfolding row_of
 weighted-gives supports place a w h at weighted =
@@ -72,8 +72,8 @@ weighted-gives supports place a w h at weighted =
     let given = given-dual c a at in
     let heavy : has_weight e ≡ true = ap is_some weighted in
     let there : is_some (dual_at c e) ≡ true = ap is_some given in
-    let none = premises-none a w h.form weighted in
-    let defined : is_defined (dual_above_of_weight c) e ≡ true = rw (h.form.entry, heavy, there) refl in
+    let none = premises-none a w h.1 weighted in
+    let defined : is_defined (dual_above_of_weight c) e ≡ true = rw (h.0.form.entry, heavy, there) refl in
     record {
       side = refl;
       premises =
@@ -85,20 +85,20 @@ weighted-gives supports place a w h at weighted =
     }
 
 -- the rule that names a dual that stands
-pub dual-gives : (supports : List Support) (place : ℕ) (a : AcceptedValue) → IsAccepted a → slice_get supports place ≡ Some (Bound a)
+pub dual-gives : (supports : List Support) (place : ℕ) (a : AcceptedValue) → Stands (Bound a) → slice_get supports place ≡ Some (Bound a)
     → GivesBound supports (rule_of_dual place a.dual.entry) a
 dual-gives supports place a h at = go a.dual.entry.w refl
   where
     go : (w : Option ℕ) → a.dual.entry.w ≡ w → GivesBound supports (rule_of_dual place a.dual.entry) a
     go None plain =
         let light : has_weight a.dual.entry ≡ false = ap is_some plain in
-        subst (λ (r : Rule). GivesBound supports r a) (ap (λ (b : Bool). cond b (V9 place) (U11 place)) (sym light)) (plain-gives supports place a h at light)
+        subst (λ (r : Rule). GivesBound supports r a) (ap (λ (b : Bool). cond b (V9 place) (U11 place)) (sym light)) (plain-gives supports place a h.0 at light)
     go (Some w) weighted =
         let heavy : has_weight a.dual.entry ≡ true = ap is_some weighted in
         subst (λ (r : Rule). GivesBound supports r a) (ap (λ (b : Bool). cond b (V9 place) (U11 place)) (sym heavy)) (weighted-gives supports place a w h at weighted)
 
 -- so the best upper bound of its entry is no greater than its bound, from whatever upper bounds are derived of what it rests on
-pub dual-reached : (supports : List Support) (place : ℕ) (a : AcceptedValue) (claims : List Claim) (v : ℕ) → IsAccepted a
+pub dual-reached : (supports : List Support) (place : ℕ) (a : AcceptedValue) (claims : List Claim) (v : ℕ) → Stands (Bound a)
     → slice_get supports place ≡ Some (Bound a) → map slot_of claims ≡ slots_on Upper (dual_premises a.dual) → All (IsDerived supports) claims
     → IsBest supports (Upper, a.dual.entry) v → v ≤ dual_bound a.dual a.at_zero (map (λ c. c.value) claims)
 dual-reached supports place a claims v h at premises each best =

@@ -11,7 +11,7 @@ use Rattle.ct_codes.specs.declared.entry.Entry.{Entry}
 use Rattle.ct_codes.specs.Code.{IsTrueUpper}
 use Rattle.ct_codes.specs.Entry.{constant_weight}
 use Rattle.ct_codes.specs.Constructions.Even.{even_from}
-use Rattle.ct_duals.specs.Dual.{IsDual, IsPlainOf}
+use Rattle.ct_duals.specs.Dual.{as_distance, AllowsNone}
 use Rattle.ct_duals.specs.Bound.{AcceptedValue, IsAccepted, AreTrueUppers, AreAtMost, positive, dual_premises, dual_bound}
 use Rattle.ct_duals.proofs.Monotone.{dual_bound-monotone}
 use Rattle.ct_duals.proofs.Premises.{premises_few}
@@ -46,7 +46,7 @@ dual_number : (c : Option Support) (e : Entry) (a : AcceptedValue) (vs : List �
     → AreTrueUppers (dual_premises a.dual) vs → IsTrueNumber Upper e (dual_bound a.dual a.at_zero vs)
 dual_number c e a vs stand at known =
     let has = dual_there c e a at in
-    let accepted : IsAccepted a = stand (Bound a) has.support in
+    let accepted : IsAccepted a = (stand (Bound a) has.support).0 in
     record {
       some = accepted-some a accepted vs;
       truth = subst (λ (f : Entry). IsTrueUpper f (dual_bound a.dual a.at_zero vs)) has.entry (accepted-sound a accepted vs known);
@@ -69,7 +69,7 @@ dual-back e f a none same rests = All-contains IsBack (dual_premises a.dual) f (
     IsBack g = Contains (unweighted g ∷ unweighted_and_nearer g ∷ []) e
 
     at : ℕ × ℤ → Entry
-    at p = constant_weight a.dual.entry.n (even_from a.dual.entry.d) p.0
+    at p = constant_weight a.dual.entry.n (even_from a.dual.entry.d) (as_distance a.dual.entry.w p.0)
 
     back : (p : ℕ × ℤ) → IsBack (at p)
     back p =
@@ -104,7 +104,7 @@ dual_above-lawful c = record {
     few : (e : Entry) → ForSome c Stands → (o : Option AcceptedValue) → dual_at c e ≡ o → length (premises_of_dual o) ≤ MAX_N
     few e stand None at = omega arith
     few e stand (Some a) at =
-        let accepted : IsAccepted a = stand (Bound a) (dual_there c e a at).support in
+        let accepted : IsAccepted a = (stand (Bound a) (dual_there c e a at).support).0 in
         premises_few a.dual accepted.form
 
     dependents : (e f : Entry) → Weightless e → (o : Option AcceptedValue) → dual_at c e ≡ o → Contains (premises_of_dual o) f
@@ -112,11 +112,11 @@ dual_above-lawful c = record {
     dependents e f none None at rests = no_item (Contains (unweighted f ∷ unweighted_and_nearer f ∷ []) e) f rests
     dependents e f none (Some a) at rests = dual-back e f a none (dual_there c e a at).entry rests
 
--- a dual of an entry with weight rests on nothing
-pub premises-none : (a : AcceptedValue) (w : ℕ) → IsDual a.dual → a.dual.entry.w ≡ Some w → dual_premises a.dual ≡ []
-premises-none a w form is =
-    let plain = subst (λ (o : Option ℕ). IsPlainOf o a.dual.even a.dual.y) is form.weighted in
-    ap (λ y. map (λ p. constant_weight a.dual.entry.n (even_from a.dual.entry.d) p.0) (positive y)) plain.1
+-- a dual of an entry with weight that allows nothing rests on nothing
+pub premises-none : (a : AcceptedValue) (w : ℕ) → AllowsNone a.dual.entry.w a.dual.y → a.dual.entry.w ≡ Some w → dual_premises a.dual ≡ []
+premises-none a w none is =
+    ap (λ y. map (λ p. constant_weight a.dual.entry.n (even_from a.dual.entry.d) (as_distance a.dual.entry.w p.0)) (positive y))
+    (subst (λ (o : Option ℕ). AllowsNone o a.dual.y) is none)
 
 pub dual_above_of_weight-lawful : (c : Option Support) → IsLawful c (dual_above_of_weight c)
 dual_above_of_weight-lawful c = record {
@@ -133,7 +133,6 @@ dual_above_of_weight-lawful c = record {
     sound e (v ∷ vs) x stand weight (Some a) at known is = absurd known
     sound e [] x stand weight (Some a) at known is =
         let has = dual_there c e a at in
-        let form = (stand (Bound a) has.support).form in
-        let none = premises-none a weight.0 form (ap (λ (g : Entry). g.w) has.entry ∙ weight.1) in
+        let none = premises-none a weight.0 (stand (Bound a) has.support).1 (ap (λ (g : Entry). g.w) has.entry ∙ weight.1) in
         same_number Upper e (dual_bound a.dual a.at_zero []) x is
         (dual_number c e a [] stand at (subst (λ es. AreTrueUppers es []) (sym none) tt))

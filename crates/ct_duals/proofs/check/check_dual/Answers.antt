@@ -11,6 +11,7 @@ use Rattle.ct_duals.specs.Inside.Proven.{IsProven}
 use Rattle.ct_duals.proofs.Faults.{below-from_none}
 use Rattle.ct_duals.proofs.Sound.{AreLaws}
 use Rattle.ct_duals.proofs.DualBound.{lead-least, dual_spread-true, dual_bound-true}
+use Rattle.ct_duals.proofs.LocalBound.{local_bound-true}
 use Rattle.ct_duals.proofs.check.check_dual.Goals as goal
 
 pub new-requires : goal.new-requires
@@ -45,5 +46,6 @@ new-requires g c =
       spread = subst (λ (ns : ℕ → ℕ → ℤ). (us : List ℕ) → AreTrueUppers (dual_premises d) us → IsSpread d.entry (combination ns d.c) (dual_spread d (combination number d.c 0) us))
           same (dual_spread-true belongs index degree number d laws c.requires.fits c.requires.form none);
       sound = dual_bound-true belongs index degree number d laws c.requires.fits c.requires.form none;
+      local = local_bound-true belongs index degree number d laws c.requires.fits c.requires.form none;
     } in
     subst (λ z. IsProven (record { dual = d; at_zero = z })) (sym (to_z-of_z w128 c.combination-at_zero.result f ∙ value)) proven

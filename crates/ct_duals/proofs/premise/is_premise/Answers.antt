@@ -9,9 +9,13 @@ use mir.Syntax.{w64}
 use Rattle.ct_codes.specs.Entry.{same_entry, constant_weight}
 use Rattle.ct_codes.proofs.EntryLemmas.{same_entry_is, same_entry-self}
 use Rattle.ct_codes.specs.Constructions.Even.{even_from}
+use Rattle.ct_duals.specs.Dual.{as_distance}
 use Rattle.ct_duals.proofs.Premises.{premises, entry_test, among-first, among-others, among-none}
 use Rattle.ct_duals.proofs.premise.is_premise.Goals as goal
 use Rattle.ct_duals.proofs.premise.is_premise.Goals.{else-number-gt0-via-then-number-gt0+else-eq, else-number-gt0-via-else-number-gt0}
+
+pub premise_at-requires-clause-index : goal.premise_at-requires-clause-index
+premise_at-requires-clause-index c = c.requires.indices c.loop-i.i-index (0, pos 0) c.loop-i-test.true
 
 pub returns-then-eq : goal.returns-then-eq
 returns-then-eq c =
@@ -40,7 +44,7 @@ loop-i-preserved c =
       | else-number-gt0-via-then-number-gt0+else-eq w ↦
           let some : int_lt (pos 0) p.1 ≡ true = grind (arith, to_z-of_z, w.if-number-gt0.true) in
           let differs : same_entry w.premise_at.result c.args.other ≡ false = sym (entry_test w.premise_at.result c.args.other) ∙ sym w.eq.ensures ∙ w.if-eq.false in
-          let other : constant_weight e.n (even_from e.d) p.0 ≢ c.args.other =
+          let other : constant_weight e.n (even_from e.d) (as_distance e.w p.0) ≢ c.args.other =
           λ is. false≢true (sym (subst (λ g. same_entry w.premise_at.result g ≡ false) (sym (w.premise_at.ensures ∙ is)) differs) ∙ same_entry-self w.premise_at.result) in
           let step = among-others e c.args.other p rest some other in
           (λ there. step.0 (was.0 there), λ there. was.1 (step.1 there))

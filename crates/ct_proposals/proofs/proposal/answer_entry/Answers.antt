@@ -1,10 +1,18 @@
-use Rattle.std.proofs.Common.{◌≡◌, Option, Some, IfSome, option_map, subst}
+use Rattle.std.proofs.Common.{◌≡◌, Option, Some, IfSome, option_map, sym, subst}
 use Rattle.std.proofs.lemmas.Result.{IfOk-weaker}
 use Rattle.ct_finder.specs.Found.{bound_of, IsShown}
 use Rattle.ct_finder.specs.declared.found.Found.{Found}
 use Rattle.ct_proposals.specs.Proposal.{found_dual, stop_for}
+use Rattle.ct_proposals.proofs.FoundDuals.{found}
 use Rattle.ct_proposals.proofs.FoundLemmas.{answers}
 use Rattle.ct_proposals.proofs.proposal.answer_entry.Goals as goal
+
+pub proposal-requires-clause-nothing : goal.proposal-requires-clause-nothing
+proposal-requires-clause-nothing c =
+    let e = c.args.entry in
+    let f = c.in-Some.found in
+    let dual_is : Some f.dual ≡ found_dual e = subst (λ (o : Option Found). option_map (λ g. g.dual) o ≡ found_dual e) c.in-Some.is c.in_ok-found_for.ensures.dual in
+    (found e f.dual c.requires (sym dual_is)).nothing
 
 pub returns-in-Some : goal.returns-in-Some
 returns-in-Some c =
