@@ -91,6 +91,13 @@ as_distance-le : (w : Option ℕ) (i : ℕ) → i ≤ as_distance w i
 as_distance-le None i = omega arith
 as_distance-le (Some w) i = omega arith
 
+-- each index where something is allowed is at most the degree
+pub indices_within : (d : Dual) → IsDual d → All (λ p. p.0 ≤ degree_of d.entry) d.y
+indices_within d form = λ k o l.
+    let i = (get_or d.y k o).0 in
+    let parts = and_parts (nat_le (as_index d.entry.w d.entry.d) i && nat_le i (degree_of d.entry)) (not d.even || i % 2 == 0) (form.allowances k o l).0 in
+    leb-true i (degree_of d.entry) (and_parts (nat_le (as_index d.entry.w d.entry.d) i) (nat_le i (degree_of d.entry)) parts.0).1
+
 pub small_indices : (d : Dual) → IsDual d → All (λ p. p.0 ≤ MAX_N) d.y
 small_indices d form = λ k o l.
     let limits = entry_limits d.entry form.entry in

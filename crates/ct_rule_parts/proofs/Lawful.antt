@@ -15,7 +15,7 @@ use Rattle.ct_codes.specs.Entry.{IsEntry, is_entry, same_entry}
 use Rattle.ct_codes.proofs.EntryLemmas.{same_entry_is}
 use Rattle.ct_codes.proofs.BoundLemmas.{one_is_lower}
 use Rattle.ct_rule_parts.specs.declared.support.Support.{Support}
-use Rattle.ct_rule_parts.specs.declared.support.Support.TheVariants.{Nothing, Size, Bound, Odd}
+use Rattle.ct_rule_parts.specs.declared.support.Support.TheVariants.{Nothing, Size, Bound, Odd, Local}
 use Rattle.ct_rule_parts.specs.Parts.{RuleParts, first, second, are_entries, is_defined, slots_on}
 use Rattle.ct_rule_parts.specs.Slot.{Slot, slot_of, claim_at, IsNoBetter, AreNoBetter}
 use Rattle.ct_rule_parts.specs.Support.{Stands, size_at}
@@ -103,6 +103,7 @@ support_number None e x stand size = absurd (none-some x size)
 support_number (Some Nothing) e x stand size = absurd (none-some x size)
 support_number (Some (Bound a)) e x stand size = absurd (none-some x size)
 support_number (Some (Odd a m)) e x stand size = absurd (none-some x size)
+support_number (Some (Local a)) e x stand size = absurd (none-some x size)
 support_number (Some (Size f s)) e x stand size =
     let both = cond_some (same_entry f e) s x size in
     let claim = stand (Size f s) refl in

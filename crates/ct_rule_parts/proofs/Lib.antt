@@ -8,3 +8,4 @@ pub mod WeightEntries
 pub mod DualLemmas
 pub mod Places
 pub mod GetLemmas
+mod LesserLists

@@ -2,3 +2,4 @@ pub mod Support
 pub mod Slot
 pub mod Parts
 pub mod Entries
+pub mod Local

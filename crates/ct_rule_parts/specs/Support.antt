@@ -7,19 +7,21 @@ use Rattle.ct_codes.specs.Entry.{same_entry}
 use Rattle.ct_duals.specs.Dual.{AllowsNone}
 use Rattle.ct_duals.specs.Bound.{AcceptedValue, IsAccepted}
 use Rattle.ct_rule_parts.specs.declared.support.Support.{Support}
-use Rattle.ct_rule_parts.specs.declared.support.Support.TheVariants.{Nothing, Size, Bound, Odd}
+use Rattle.ct_rule_parts.specs.declared.support.Support.TheVariants.{Nothing, Size, Bound, Odd, Local}
 
 -- an accepted dual, and the number of words that parity may exclude by it
 pub record OddValue : Type 0 where
   pub accepted : AcceptedValue
   pub m : ℕ
 
--- a support stands: its size is a true lower bound of its entry, and its dual meets its inequalities, with its own f(0); one that gives its bound with a weight allows nothing
+-- a support stands: its size is a true lower bound of its entry, and its dual meets its inequalities, with its own f(0); one that gives its
+-- bound with a weight allows nothing
 abbrev pub Stands : Support → Type 0
 Stands Nothing = Unit {0}
 Stands (Size e size) = IsTrueClaim (record { side = Lower; entry = e; value = size })
 Stands (Bound a) = IsAccepted a × AllowsNone a.dual.entry.w a.dual.y
 Stands (Odd a m) = IsAccepted a
+Stands (Local a) = IsAccepted a
 
 -- all supports of the list stand
 abbrev pub AllStand : List Support → Type 0
@@ -40,8 +42,14 @@ abbrev pub odd_at : Option Support → Entry → Option OddValue
 odd_at (Some (Odd a m)) e = if same_entry a.dual.entry e then Some (record { accepted = a; m = m }) else None
 odd_at c e = None
 
+-- the dual whose local bound a support gives at the entry, where it gives one
+abbrev pub local_at : Option Support → Entry → Option AcceptedValue
+local_at (Some (Local a)) e = if same_entry a.dual.entry e then Some a else None
+local_at c e = None
+
 -- the dual that a support has at the entry, whatever it gives by it
 abbrev pub dual_behind : Option Support → Entry → Option AcceptedValue
 dual_behind (Some (Bound a)) e = if same_entry a.dual.entry e then Some a else None
 dual_behind (Some (Odd a m)) e = if same_entry a.dual.entry e then Some a else None
+dual_behind (Some (Local a)) e = if same_entry a.dual.entry e then Some a else None
 dual_behind c e = None

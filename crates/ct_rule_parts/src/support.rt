@@ -1,8 +1,9 @@
 //! What evidence gives to the table.
 
 ghost use Rattle.std.specs.Prelude.{◌≡◌, slice_get, option_map, Some};
-ghost use Rattle.ct_rule_parts.specs.Support.{OddValue, size_at, dual_at, odd_at, dual_behind};
+ghost use Rattle.ct_rule_parts.specs.Support.{OddValue, size_at, dual_at, odd_at, local_at, dual_behind};
 
+use crate::local_dual::LocalDual;
 use ct_codes::Entry;
 use ct_duals::AcceptedDual;
 
@@ -28,6 +29,9 @@ pub enum Support {
         /// The number of words that may be excluded; nothing is given where it is even, below 3 or above 1,048,575.
         m: u32,
     },
+    /// An upper bound of the entry of a dual that was accepted, which has a weight, from those of the entries A(n,d,2i) and bounds of doubly
+    /// constant codes.
+    Local(LocalDual),
 }
 
 /// An accepted dual, and the number of words that parity may exclude by it.
@@ -54,7 +58,7 @@ fn dual_of(support: &Support, entry: Entry) -> Option<&AcceptedDual>
     ensures { option_map (λ dual. dual.now) result ≡ dual_at (Some support.now) entry }
 {
     match support {
-        Support::Nothing | Support::Size { .. } | Support::Odd { .. } => None,
+        Support::Nothing | Support::Size { .. } | Support::Odd { .. } | Support::Local(_) => None,
         Support::Bound(dual) => {
             if dual.entry() == entry {
                 Some(dual)
@@ -77,7 +81,7 @@ fn odd_of(support: &Support, entry: Entry) -> Option<OddDual<'_>>
     ensures { option_map (λ odd. record { accepted = odd.dual.now; m = odd.m }) result ≡ odd_at (Some support.now) entry }
 {
     match support {
-        Support::Nothing | Support::Size { .. } | Support::Bound(_) => None,
+        Support::Nothing | Support::Size { .. } | Support::Bound(_) | Support::Local(_) => None,
         Support::Odd { dual, m } => {
             if dual.entry() == entry {
                 Some(OddDual { dual, m: *m })
@@ -96,6 +100,29 @@ pub fn odd_at(supports: &[Support], place: usize, entry: Entry) -> Option<OddDua
     odd_of(supports.get(place)?, entry)
 }
 
+/// The dual whose local bound the support gives at the entry, where it gives one.
+fn local_of(support: &Support, entry: Entry) -> Option<&LocalDual>
+    ensures { option_map (λ dual. dual.now) result ≡ local_at (Some support.now) entry }
+{
+    match support {
+        Support::Nothing | Support::Size { .. } | Support::Bound(_) | Support::Odd { .. } => None,
+        Support::Local(dual) => {
+            if dual.dual().entry() == entry {
+                Some(dual)
+            } else {
+                None
+            }
+        }
+    }
+}
+
+/// The dual whose local bound the support at the place gives at the entry, where there is one and it gives one.
+pub fn local_at(supports: &[Support], place: usize, entry: Entry) -> Option<&LocalDual>
+    ensures { option_map (λ dual. dual.now) result ≡ local_at (slice_get supports.now place) entry }
+{
+    local_of(supports.get(place)?, entry)
+}
+
 /// The dual that the support has at the entry, whatever it gives by it.
 fn behind(support: &Support, entry: Entry) -> Option<&AcceptedDual>
     ensures { option_map (λ dual. dual.now) result ≡ dual_behind (Some support.now) entry }
@@ -105,6 +132,13 @@ fn behind(support: &Support, entry: Entry) -> Option<&AcceptedDual>
         Support::Bound(dual) | Support::Odd { dual, .. } => {
             if dual.entry() == entry {
                 Some(dual)
+            } else {
+                None
+            }
+        }
+        Support::Local(dual) => {
+            if dual.dual().entry() == entry {
+                Some(dual.dual())
             } else {
                 None
             }

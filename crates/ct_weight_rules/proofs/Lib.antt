@@ -18,3 +18,4 @@ pub mod LawfulSplit
 pub mod LawfulSumClass
 pub mod LawfulDelsarte
 pub mod LawfulOddSizes
+pub mod LawfulLocalDuals

@@ -18,3 +18,4 @@ pub mod SumClass
 pub mod Delsarte
 pub mod OddSizes
 pub mod OddExamples
+pub mod LocalDuals

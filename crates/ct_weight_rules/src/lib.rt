@@ -12,6 +12,7 @@ mod far_words;
 mod given_code;
 mod johnson;
 mod lengthened;
+mod local_duals;
 mod nearer;
 mod neighbours;
 mod odd_sizes;
@@ -32,6 +33,7 @@ pub use far_words::{has_no_far_words, known_far_words};
 pub use given_code::known_given_code;
 pub use johnson::{johnson_bound, known_johnson};
 pub use lengthened::known_lengthened;
+pub use local_duals::{known_local_above, local_duals_bound_codes};
 pub use nearer::known_nearer;
 pub use neighbours::{
     around, even_of_weight, of_weight, one_less, one_more, turned, two_farther, two_nearer,
