@@ -50,8 +50,9 @@ use Rattle.ct_weight_rules.proofs.LawfulGivenCode.{given_code-lawful as given_co
 use Rattle.ct_weight_rules.proofs.LawfulAllWords.{all_words-lawful as all_words_of_weight-lawful}
 use Rattle.ct_weight_rules.proofs.LawfulDelsarte.{dual_above-lawful, dual_above_of_weight-lawful}
 use Rattle.ct_weight_rules.proofs.LawfulOddSizes.{odd_size_above-lawful}
+use Rattle.ct_weight_rules.proofs.LawfulLocalDuals.{local_above-lawful}
 use Rattle.ct_rules.specs.declared.rule.Rule.{Rule}
-use Rattle.ct_rules.specs.declared.rule.Rule.TheVariants.{L1, L2, L3, L4, L5, L6, L7, L8, L9, L10, L11, M1, M2, M3, M4, M5, M6, M7, M8, M9, M10, U0, U1, U2, U3, U4, U5, U6, U7, U8, U9, U10, U11, U12, V0, V1, V2, V3, V4, V5, V6, V7, V8, V9}
+use Rattle.ct_rules.specs.declared.rule.Rule.TheVariants.{L1, L2, L3, L4, L5, L6, L7, L8, L9, L10, L11, M1, M2, M3, M4, M5, M6, M7, M8, M9, M10, U0, U1, U2, U3, U4, U5, U6, U7, U8, U9, U10, U11, U12, V0, V1, V2, V3, V4, V5, V6, V7, V8, V9, V10}
 use Rattle.ct_rules.specs.Rule.{Row, by_itself, by_numbers, by_weight, by_support, row_of, parts_in, parts_of, parts_over, place_of, with_place, is_alone_in, is_alone, is_by_weight, cited, rule_side}
 
 -- what each rule is made of is lawful
@@ -101,6 +102,7 @@ lawful V6 c = split-lawful c
 lawful V7 c = nearer_above_of_weight-lawful c
 lawful V8 c = column_pairs-lawful c
 lawful (V9 place) c = dual_above_of_weight-lawful c
+lawful (V10 place) c = local_above-lawful c
 
 -- a rule has one side, whatever the support that it names
 pub side_is : (r : Rule) (c : Option Support) → (parts_of r c).side ≡ rule_side r
@@ -110,6 +112,7 @@ side_is (M10 place) c = refl
 side_is (U11 place) c = refl
 side_is (U12 place) c = refl
 side_is (V9 place) c = refl
+side_is (V10 place) c = refl
 side_is r c = refl
 
 -- what fails with what precedes it fails
@@ -126,6 +129,7 @@ needs_support (M10 place) other e names = fails (has_weight e)
 needs_support (U11 place) other e names = fails (not (has_weight e))
 needs_support (U12 place) other e names = fails (not (has_weight e))
 needs_support (V9 place) other e names = fails (has_weight e)
+needs_support (V10 place) other e names = fails (has_weight e)
 needs_support r place e names = absurd (none-some place names)
 
 -- nor over one that gives nothing
@@ -137,17 +141,19 @@ needs_something (M10 place) other e names = fails (has_weight e)
 needs_something (U11 place) other e names = fails (not (has_weight e))
 needs_something (U12 place) other e names = fails (not (has_weight e))
 needs_something (V9 place) other e names = fails (has_weight e)
+needs_something (V10 place) other e names = fails (has_weight e)
 needs_something r place e names = absurd (none-some place names)
 
--- a rule that names a support rests on nothing, but for two
+-- a rule that names a support rests on nothing, but for three
 pub supported-rests : (r : Rule) (place : ℕ) (c : Option Support) (e : Entry) → place_of r ≡ Some place
-    → ((parts_of r c).rests_on e ≡ []) ⊎ ((r ≡ U11 place) ⊎ (r ≡ U12 place))
+    → ((parts_of r c).rests_on e ≡ []) ⊎ ((r ≡ U11 place) ⊎ ((r ≡ U12 place) ⊎ (r ≡ V10 place)))
 unfolding row_of
 supported-rests (L10 place) other c e names = inl refl
 supported-rests (M10 place) other c e names = inl refl
 supported-rests (U11 place) other c e names = inr (inl (ap U11 (same_Some place other names)))
-supported-rests (U12 place) other c e names = inr (inr (ap U12 (same_Some place other names)))
+supported-rests (U12 place) other c e names = inr (inr (inl (ap U12 (same_Some place other names))))
 supported-rests (V9 place) other c e names = inl refl
+supported-rests (V10 place) other c e names = inr (inr (inr (ap V10 (same_Some place other names))))
 supported-rests r place c e names = absurd (none-some place names)
 
 -- a rule with another place names that place, and is made of the same
@@ -158,6 +164,7 @@ place_of-placed (M10 place) was other names = refl
 place_of-placed (U11 place) was other names = refl
 place_of-placed (U12 place) was other names = refl
 place_of-placed (V9 place) was other names = refl
+place_of-placed (V10 place) was other names = refl
 place_of-placed r was other names = absurd (none-some was names)
 
 pub parts_of-placed : (r : Rule) (other : ℕ) (c : Option Support) → parts_of (with_place r other) c ≡ parts_of r c
@@ -167,6 +174,7 @@ parts_of-placed (M10 place) other c = refl
 parts_of-placed (U11 place) other c = refl
 parts_of-placed (U12 place) other c = refl
 parts_of-placed (V9 place) other c = refl
+parts_of-placed (V10 place) other c = refl
 parts_of-placed r other c = refl
 
 pub placed_again : (r : Rule) (other place : ℕ) → place_of r ≡ Some place → with_place (with_place r other) place ≡ r
@@ -176,6 +184,7 @@ placed_again (M10 place) other was names = ap M10 (sym (same_Some place was name
 placed_again (U11 place) other was names = ap U11 (sym (same_Some place was names))
 placed_again (U12 place) other was names = ap U12 (sym (same_Some place was names))
 placed_again (V9 place) other was names = ap V9 (sym (same_Some place was names))
+placed_again (V10 place) other was names = ap V10 (sym (same_Some place was names))
 placed_again r other was names = absurd (none-some was names)
 
 -- the rules with neither numbers nor a support that give bounds from a side
@@ -341,6 +350,7 @@ not_alone (M10 place) names alone = absurd (none-some place (sym names))
 not_alone (U11 place) names alone = absurd (none-some place (sym names))
 not_alone (U12 place) names alone = absurd (none-some place (sym names))
 not_alone (V9 place) names alone = absurd (none-some place (sym names))
+not_alone (V10 place) names alone = absurd (none-some place (sym names))
 not_alone r names alone = absurd (false≢true (sym alone))
 
 -- where a rule alone is defined, what it rests on has a weight just where the entry has one
@@ -375,6 +385,7 @@ rests_on_kind (M10 place) n d w alone = absurd (false≢true alone)
 rests_on_kind (U11 place) n d w alone = absurd (false≢true alone)
 rests_on_kind (U12 place) n d w alone = absurd (false≢true alone)
 rests_on_kind (V9 place) n d w alone = absurd (false≢true alone)
+rests_on_kind (V10 place) n d w alone = absurd (false≢true alone)
 rests_on_kind U9 n d w alone = absurd (false≢true alone)
 rests_on_kind (U10 v) n d w alone = absurd (false≢true alone)
 rests_on_kind r n d None alone = refl

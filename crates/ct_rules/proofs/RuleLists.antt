@@ -14,11 +14,11 @@ use Rattle.ct_rule_parts.specs.declared.support.Support.{Support}
 use Rattle.ct_rule_parts.specs.Parts.{RuleParts}
 use Rattle.ct_rule_parts.specs.Slot.{Slot}
 use Rattle.ct_rule_parts.proofs.EntryLists.{Contains-range_with_len, Contains-flat_map}
-use Rattle.ct_rule_parts.specs.Support.{size_at, dual_at, odd_at}
+use Rattle.ct_rule_parts.specs.Support.{size_at, dual_at, odd_at, local_at}
 use Rattle.ct_weight_rules.specs.Neighbours.{of_weight, even_of_weight}
 use Rattle.ct_weight_rules.proofs.LawfulSumClass.{known_class}
 use Rattle.ct_rules.specs.declared.rule.Rule.{Rule}
-use Rattle.ct_rules.specs.declared.rule.Rule.TheVariants.{L9, L10, L11, M9, M10, U9, U10, U11, U12, V9}
+use Rattle.ct_rules.specs.declared.rule.Rule.TheVariants.{L9, L10, L11, M9, M10, U9, U10, U11, U12, V9, V10}
 use Rattle.ct_rules.specs.Rule.{row_of, rule_side, place_of, is_alone, is_by_weight, parts_over, applies}
 use Rattle.ct_rules.specs.Closed.{IsSatisfied, IsClosed}
 use Rattle.ct_rules.specs.Listing.{rules_alone}
@@ -59,6 +59,15 @@ odd_support_there : (supports : List Support) (place : ℕ) (e : Entry) → is_s
 odd_support_there supports place e h = go (slice_get supports place) refl h
   where
     go : (c : Option Support) → slice_get supports place ≡ c → is_some (odd_at c e) ≡ true → place < length supports
+    go None at is = absurd (false≢true is)
+    go (Some support) at is = slice_get_within supports place support at
+
+-- and those of a dual that gives its local bound
+local_support_there : (supports : List Support) (place : ℕ) (e : Entry) → is_some (local_at (slice_get supports place) e) ≡ true
+    → place < length supports
+local_support_there supports place e h = go (slice_get supports place) refl h
+  where
+    go : (c : Option Support) → slice_get supports place ≡ c → is_some (local_at c e) ≡ true → place < length supports
     go None at is = absurd (false≢true is)
     go (Some support) at is = slice_get_within supports place support at
 
@@ -172,11 +181,20 @@ listed_given supports (V9 place) other n d (Some w) names is =
     let e : Entry = constant_weight n d w in
     let there = dual_support_there supports place e (and_parts true (is_some (dual_at (slice_get supports place) e)) is.condition).1 in
     Contains-append_right (rules_alone (Upper, e)) (rules_of_supports (length supports) (Upper, e)) (V9 place)
+    (Contains-append_left (map (λ p. V9 p) (range_with_len 0 (length supports))) (map (λ p. V10 p) (range_with_len 0 (length supports))) (V9 place)
     (Contains-map (λ p. V9 p) (range_with_len 0 (length supports)) place
-    (Contains-range_with_len 0 (length supports) place (omega arith) (omega arith)))
+    (Contains-range_with_len 0 (length supports) place (omega arith) (omega arith))))
+listed_given supports (V10 place) other n d (Some w) names is =
+    let e : Entry = constant_weight n d w in
+    let there = local_support_there supports place e (and_parts true (is_some (local_at (slice_get supports place) e)) is.condition).1 in
+    Contains-append_right (rules_alone (Upper, e)) (rules_of_supports (length supports) (Upper, e)) (V10 place)
+    (Contains-append_right (map (λ p. V9 p) (range_with_len 0 (length supports))) (map (λ p. V10 p) (range_with_len 0 (length supports))) (V10 place)
+    (Contains-map (λ p. V10 p) (range_with_len 0 (length supports)) place
+    (Contains-range_with_len 0 (length supports) place (omega arith) (omega arith))))
 listed_given supports (U11 place) other n d (Some w) names is = absurd (false≢true is.condition)
 listed_given supports (U12 place) other n d (Some w) names is = absurd (false≢true is.condition)
 listed_given supports (V9 place) other n d None names is = absurd (false≢true is.condition)
+listed_given supports (V10 place) other n d None names is = absurd (false≢true is.condition)
 listed_given supports (L10 place) other n d (Some w) names is = absurd (false≢true is.condition)
 listed_given supports (M10 place) other n d None names is = absurd (false≢true is.condition)
 listed_given supports r place n d w names is = absurd (none-some place names)

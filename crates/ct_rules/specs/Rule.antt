@@ -37,10 +37,11 @@ use Rattle.ct_weight_rules.specs.GivenCode.{given_code as given_code_of_weight}
 use Rattle.ct_weight_rules.specs.AllWords.{all_words as all_words_of_weight}
 use Rattle.ct_weight_rules.specs.Delsarte.{dual_above, dual_above_of_weight}
 use Rattle.ct_weight_rules.specs.OddSizes.{odd_size_above}
+use Rattle.ct_weight_rules.specs.LocalDuals.{local_above}
 use Rattle.ct_rules.specs.declared.arguments.Arguments.{Arguments}
 use Rattle.ct_rules.specs.declared.arguments.Arguments.TheVariants.{Nothing, Number, Numbers, Place}
 use Rattle.ct_rules.specs.declared.rule.Rule.{Rule}
-use Rattle.ct_rules.specs.declared.rule.Rule.TheVariants.{L1, L2, L3, L4, L5, L6, L7, L8, L9, L10, L11, M1, M2, M3, M4, M5, M6, M7, M8, M9, M10, U0, U1, U2, U3, U4, U5, U6, U7, U8, U9, U10, U11, U12, V0, V1, V2, V3, V4, V5, V6, V7, V8, V9}
+use Rattle.ct_rules.specs.declared.rule.Rule.TheVariants.{L1, L2, L3, L4, L5, L6, L7, L8, L9, L10, L11, M1, M2, M3, M4, M5, M6, M7, M8, M9, M10, U0, U1, U2, U3, U4, U5, U6, U7, U8, U9, U10, U11, U12, V0, V1, V2, V3, V4, V5, V6, V7, V8, V9, V10}
 
 -- what stands after the name of a rule: nothing; a number; two; or the place of a support; each with the rule that others make in its place
 pub data Written : Type 0 where
@@ -103,6 +104,7 @@ row_of V6 = by_itself (codes "V6") split
 row_of V7 = by_itself (codes "V7") nearer_above_of_weight
 row_of V8 = by_itself (codes "V8") column_pairs
 row_of (V9 place) = by_support (codes "V9") V9 place dual_above_of_weight
+row_of (V10 place) = by_support (codes "V10") V10 place local_above
 
 -- what the rule of a row is made of, over the support that it names
 abbrev pub parts_in : Row → Option Support → RuleParts

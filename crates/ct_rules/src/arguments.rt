@@ -30,7 +30,8 @@ pub fn arguments_of(rule: Rule) -> Arguments
         | Rule::M10(place)
         | Rule::U11(place)
         | Rule::U12(place)
-        | Rule::V9(place) => Arguments::Place(place),
+        | Rule::V9(place)
+        | Rule::V10(place) => Arguments::Place(place),
         _ => Arguments::Nothing,
     }
 }
@@ -50,6 +51,7 @@ pub fn with_arguments(rule: Rule, arguments: Arguments) -> Rule
         (Rule::U11(_), Arguments::Place(place)) => Rule::U11(place),
         (Rule::U12(_), Arguments::Place(place)) => Rule::U12(place),
         (Rule::V9(_), Arguments::Place(place)) => Rule::V9(place),
+        (Rule::V10(_), Arguments::Place(place)) => Rule::V10(place),
         _ => rule,
     }
 }

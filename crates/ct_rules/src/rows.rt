@@ -3,8 +3,9 @@
 ghost use Rattle.std.specs.Prelude.{◌≡◌, true, if◌then◌else◌, Some, None, option_map, slice_get};
 ghost use Rattle.ct_codes.specs.Entry.{IsEntry, unrestricted, constant_weight};
 ghost use Rattle.ct_rule_parts.specs.Entries.{listed};
-ghost use Rattle.ct_rule_parts.specs.Support.{dual_at, odd_at};
+ghost use Rattle.ct_rule_parts.specs.Support.{dual_at, odd_at, local_at};
 ghost use Rattle.ct_weight_rules.specs.Delsarte.{bound_of_dual, dual_above};
+ghost use Rattle.ct_weight_rules.specs.LocalDuals.{local_bound_of, local_above};
 ghost use Rattle.ct_weight_rules.specs.OddSizes.{size_below, odd_size_above};
 ghost use Rattle.ct_rules.specs.Rule.{rule_side, place_of, with_place, is_alone, parts_of, parts_over, row_of};
 
@@ -16,7 +17,7 @@ use ct_plain_rules::{
     count_of_sums, farther, longer, longer_and_farther, nearer, parts_of_sums, parts_side_by_side,
     shorter, shorter_and_nearer, sums_of,
 };
-use ct_rule_parts::{Entries, Support, dual_at, first, odd_at, second, size_at};
+use ct_rule_parts::{Entries, Support, dual_at, first, local_at, odd_at, second, size_at};
 use ct_weight_rules::{
     around, averaged, below_too_many, bound_by_ones, bound_by_zeros, count_of_disjoint,
     count_with_one, count_with_zero, even_of_weight, has_disjoint_words, has_no_far_words,
@@ -102,6 +103,27 @@ fn size_by_odd(supports: &[Support], place: u32, entry: Entry, values: &[u32]) -
     size_below(odd.dual, odd.m, values)
 }
 
+/// The entries that the dual rests on by whose local bound the support at the place bounds an entry with weight, in order, where there is
+/// such a dual.
+fn premises_of_local(supports: &[Support], place: u32, entry: Entry) -> Option<Entries<'_>>
+    ensures { option_map listed result
+        ≡ (if (local_above (slice_get supports.now place)).condition entry then Some ((local_above (slice_get supports.now place)).rests_on entry) else None) }
+{
+    if entry.w.is_none() {
+        return None;
+    }
+    let local = local_at(supports, place as usize, entry)?;
+    Some(Entries::OfDual(local.dual()))
+}
+
+/// The local bound of the dual that the support at the place gives at the entry, from these values.
+fn bound_of_local(supports: &[Support], place: u32, entry: Entry, values: &[u32]) -> Option<u64>
+    ensures { result ≡ local_bound_of (local_at (slice_get supports.now place) entry) values.now }
+{
+    let local = local_at(supports, place as usize, entry)?;
+    Some(u64::from(local.bound(values)))
+}
+
 /// What `rests_on` says at A(n,d).
 #[tactic(auto, unfolding(crate::specs::Rule::row_of))]
 fn rests_on_without_weight(supports: &[Support], rule: Rule, n: u32, d: u32) -> Option<Entries<'_>>
@@ -171,6 +193,7 @@ fn rests_on_with_weight(
         Rule::V9(place) => dual_at(supports, place as usize, entry)
             .is_some()
             .then_some(Entries::Zero),
+        Rule::V10(place) => premises_of_local(supports, place, entry),
         _ => None,
     }
 }
@@ -217,6 +240,7 @@ pub(crate) fn number(supports: &[Support], rule: Rule, entry: Entry, values: &[u
         Rule::U10(w) => Some(averaged(w, entry, values)),
         Rule::U11(place) | Rule::V9(place) => bound_of_dual(supports, place, entry, values),
         Rule::U12(place) => size_by_odd(supports, place, entry, values),
+        Rule::V10(place) => bound_of_local(supports, place, entry, values),
         Rule::M2 | Rule::V2 => Some(count_of_disjoint(entry)),
         Rule::M3 | Rule::M4 | Rule::M7 | Rule::M8 | Rule::V7 => Some(first(values)),
         Rule::M5 => Some(count_with_one(entry, values)),

@@ -107,6 +107,10 @@ pub enum Rule {
     V8,
     /// A(n,d,w) ≤ ⌊f(0)/c_0⌋ for the dual of constant weight of the support at this place, f its combination (Delsarte).
     V9(u32),
+    /// A(n,d,w) ≤ ⌊(f(0)+Σ y_i·U_i)/c_0⌋ for the dual of constant weight of the support at this place, f its combination, and for each i
+    /// where it allows y_i above 0 the lesser U_i of A(n,d,2i) and a bound of the doubly constant codes of (w,i,n−w,i,d): a code seen from
+    /// one of its words (Johnson; Agrell, Vardy and Zeger).
+    V10(u32),
 }
 
 /// The rules that bound A(n,d) from below by bounds of A(n,d), without arguments.
@@ -169,12 +173,13 @@ pub const OTHER_LOWER_RULES: [Rule; 5] = [
 ];
 
 /// The others that give upper bounds, with arguments that are 0.
-pub const OTHER_UPPER_RULES: [Rule; 5] = [
+pub const OTHER_UPPER_RULES: [Rule; 6] = [
     Rule::U9,
     Rule::U10(0),
     Rule::U11(0),
     Rule::U12(0),
     Rule::V9(0),
+    Rule::V10(0),
 ];
 
 /// The name of a rule for lower bounds.
@@ -239,6 +244,7 @@ fn upper_name(rule: Rule) -> &'static str
         Rule::V7 => "V7",
         Rule::V8 => "V8",
         Rule::V9(_) => "V9",
+        Rule::V10(_) => "V10",
         _ => unreachable!(),
     }
 }

@@ -9,10 +9,11 @@ ghost use Rattle.ct_codes.specs.declared.claim.Side.TheVariants.{Upper};
 ghost use Rattle.ct_codes.specs.Claim.{IsTrueOn, IsTrueClaim};
 ghost use Rattle.ct_codes.specs.Entry.{IsEntry, unrestricted, constant_weight};
 ghost use Rattle.ct_duals.specs.Bound.{AcceptedValue, dual_premises, dual_bound};
+ghost use Rattle.ct_duals.specs.Examples.{eight_four_four, eight_local};
 ghost use Rattle.ct_rules.specs.declared.rule.Rule.{Rule};
-ghost use Rattle.ct_rules.specs.declared.rule.Rule.TheVariants.{L10, M10, U11, U12};
+ghost use Rattle.ct_rules.specs.declared.rule.Rule.TheVariants.{L10, M10, U11, U12, V9, V10};
 ghost use Rattle.ct_rule_parts.specs.declared.support.Support.{Support};
-ghost use Rattle.ct_rule_parts.specs.declared.support.Support.TheVariants.{Nothing, Size, Bound, Odd};
+ghost use Rattle.ct_rule_parts.specs.declared.support.Support.TheVariants.{Nothing, Size, Bound, Odd, Local};
 ghost use Rattle.ct_rule_parts.specs.Support.{Stands};
 ghost use Rattle.ct_words.specs.declared.limits.TheConstants.{MAX_N};
 ghost use Rattle.std.specs.Option.{ForSome};
@@ -121,4 +122,11 @@ pub fn known_supports()
     ensures not_excluded { value_of (Odd (record { dual = nine_four; at_zero = pos 48 }) 19 ∷ []) (U12 0) (unrestricted 9 4) (1 ∷ []) ≡ None }
     ensures odd_as_bound { premises_of (Odd (record { dual = nine_four; at_zero = pos 48 }) 21 ∷ []) (U11 0) (unrestricted 9 4) ≡ None }
     ensures bound_as_odd { premises_of (Bound (record { dual = nine_four; at_zero = pos 48 }) ∷ []) (U12 0) (unrestricted 9 4) ≡ None }
+    // So does a dual of a code seen from one of its words.
+    ensures local_bound { value_of (Nothing ∷ Local (record { dual = eight_local; at_zero = pos 24 }) ∷ []) (V10 1) (constant_weight 8 4 4)
+        (14 ∷ []) ≡ Some 15 }
+    ensures local_premises { premises_of (Local (record { dual = eight_local; at_zero = pos 24 }) ∷ []) (V10 0) (constant_weight 8 4 4) ≡
+        Some (slots_on Upper (constant_weight 8 4 4 ∷ [])) }
+    ensures local_as_bound { premises_of (Local (record { dual = eight_local; at_zero = pos 24 }) ∷ []) (V9 0) (constant_weight 8 4 4) ≡ None }
+    ensures bound_as_local { premises_of (Bound (record { dual = eight_four_four; at_zero = pos 672 }) ∷ []) (V10 0) (constant_weight 8 4 4) ≡ None }
 {}

@@ -7,7 +7,7 @@ use Rattle.ct_codes.specs.declared.claim.Side.TheVariants.{Lower, Upper}
 use Rattle.ct_rule_parts.specs.Parts.{has_weight}
 use Rattle.ct_rule_parts.specs.Slot.{Slot}
 use Rattle.ct_rules.specs.declared.rule.Rule.{Rule}
-use Rattle.ct_rules.specs.declared.rule.Rule.TheVariants.{L9, L10, L11, M9, M10, U9, U10, U11, U12, V9}
+use Rattle.ct_rules.specs.declared.rule.Rule.TheVariants.{L9, L10, L11, M9, M10, U9, U10, U11, U12, V9, V10}
 use Rattle.ct_rules.specs.declared.rule.TheConstants.{LOWER_RULES, UPPER_RULES, LOWER_WEIGHT_RULES, UPPER_WEIGHT_RULES}
 use Rattle.ct_rules.specs.Listing.{rules_alone}
 
@@ -38,7 +38,7 @@ rules_by_weight (Upper, e) = if has_weight e then [] else U9 ∷ map (λ w. U10 
 abbrev pub rules_of_supports : ℕ → Slot → List Rule
 rules_of_supports count (Lower, e) = map (λ place. if has_weight e then M10 place else L10 place) (range_with_len 0 count)
 rules_of_supports count (Upper, e) =
-    if has_weight e then map (λ place. V9 place) (range_with_len 0 count)
+    if has_weight e then map (λ place. V9 place) (range_with_len 0 count) ++ map (λ place. V10 place) (range_with_len 0 count)
     else map (λ place. U11 place) (range_with_len 0 count) ++ map (λ place. U12 place) (range_with_len 0 count)
 
 -- all rules that can be defined at the entry of a slot and bound it from its side, over so many supports

@@ -1,9 +1,12 @@
 use Rattle.std.proofs.Common.{refl}
+use Rattle.ct_duals.specs.Local.{local_bound}
+use Rattle.ct_johnson.specs.Bounds.{least_from}
+use Rattle.ct_doubly.specs.Doubly.{doubly_after}
 use Rattle.ct_rules.specs.Rule.{row_of}
 use Rattle.ct_rules.proofs.rule_laws.known_supports.Goals as goal
 
 pub returns : goal.returns
-unfolding row_of
+unfolding row_of local_bound doubly_after least_from
 returns c = record {
   code = refl;
   premises = refl;
@@ -21,4 +24,8 @@ returns c = record {
   not_excluded = refl;
   odd_as_bound = refl;
   bound_as_odd = refl;
+  local_bound = refl;
+  local_premises = refl;
+  local_as_bound = refl;
+  bound_as_local = refl;
 }
