@@ -11,7 +11,7 @@ use Rattle.ct_codes.specs.Code.{CodeValue, IsCodeOf}
 use Rattle.ct_codes.specs.Entry.{IsEntry}
 use Rattle.ct_rule_parts.specs.declared.support.Support.{Support}
 use Rattle.ct_rule_parts.specs.declared.support.Support.TheVariants as support
-use Rattle.ct_rule_parts.specs.declared.support.Support.TheVariants.{Nothing, Size, Bound}
+use Rattle.ct_rule_parts.specs.declared.support.Support.TheVariants.{Nothing, Size, Bound, Local}
 use Rattle.ct_rules.specs.Derivation.{IsBest}
 use Rattle.ct_rules.proofs.GivenCodes.{support-derived}
 use Rattle.ct_evidence.specs.declared.evidence.Evidence.{Evidence}
@@ -116,12 +116,14 @@ same_size e f s t same = (ap entry_in same, ap size_in same)
     entry_in Nothing = f
     entry_in (Bound d) = f
     entry_in (support.Odd d m) = f
+    entry_in (Local d) = f
     entry_in (Size g k) = g
 
     size_in : Support → ℕ
     size_in Nothing = t
     size_in (Bound d) = t
     size_in (support.Odd d m) = t
+    size_in (Local d) = t
     size_in (Size g k) = k
 
 -- where a piece gives a size, it is that of its code

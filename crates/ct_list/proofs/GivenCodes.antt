@@ -7,7 +7,7 @@ use Rattle.ct_codes.specs.Entry.{same_entry}
 use Rattle.ct_codes.specs.Code.{CodeValue}
 use Rattle.ct_codes.proofs.EntryLemmas.{same_entry_is, same_entry-self}
 use Rattle.ct_rule_parts.specs.declared.support.Support.{Support}
-use Rattle.ct_rule_parts.specs.declared.support.Support.TheVariants.{Nothing, Size, Bound, Odd}
+use Rattle.ct_rule_parts.specs.declared.support.Support.TheVariants.{Nothing, Size, Bound, Odd, Local}
 use Rattle.ct_rule_parts.specs.Support.{size_at}
 use Rattle.ct_pieces.specs.Codes.{code_of_place}
 use Rattle.ct_pieces.specs.Piece.{PieceValue}
@@ -22,6 +22,7 @@ support_at_entry None e some = absurd cc
 support_at_entry (Some Nothing) e some = absurd cc
 support_at_entry (Some (Bound d)) e some = absurd cc
 support_at_entry (Some (Odd d m)) e some = absurd cc
+support_at_entry (Some (Local d)) e some = absurd cc
 support_at_entry (Some (Size f size)) e some = go (same_entry f e) refl some
   where
     go : (b : Bool) → same_entry f e ≡ b → IsSome (if b then Some size else None) → (k : ℕ) × (◌≡◌ {A = Option Support} (Some (Size f size)) (Some (Size e k)))

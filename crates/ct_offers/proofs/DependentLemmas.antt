@@ -1,17 +1,18 @@
 -- Which rules rest on an entry, and where.
 use Rattle.std.proofs.Common.{◌≡◌, ℕ, List, [], Contains, Some, None, true, refl, subst, ◌∙◌, inl, inr, ◌⊎◌}
 use Rattle.std.specs.Prelude.{Bool, false, Option, slice_get}
+use Rattle.ct_codes.specs.declared.claim.Side.TheVariants.{Upper}
 use Rattle.ct_codes.specs.declared.entry.Entry.{Entry}
 use Rattle.ct_rule_parts.specs.declared.support.Support.{Support}
 use Rattle.ct_rule_parts.specs.Parts.{RuleParts}
 use Rattle.ct_rule_parts.proofs.Lawful.{defined_condition}
 use Rattle.ct_rule_parts.proofs.PlainEntries.{no_item}
 use Rattle.ct_rules.specs.declared.rule.Rule.{Rule}
-use Rattle.ct_rules.specs.declared.rule.Rule.TheVariants.{L11, M9, U11, U12}
+use Rattle.ct_rules.specs.declared.rule.Rule.TheVariants.{L11, M9, U11, U12, V10}
 use Rattle.ct_rules.specs.Rule.{row_of, is_alone, is_by_weight, place_of, cited, parts_of, parts_over, rule_side, applies}
 use Rattle.ct_rules.specs.Listing.{rules_alone}
-use Rattle.ct_offers.specs.Inside.Pulled.{bounding_rule}
-use Rattle.ct_offers.proofs.BoundingRules.{bounding-bound, bounding-odd}
+use Rattle.ct_offers.specs.Inside.Pulled.{given_rule}
+use Rattle.ct_offers.proofs.BoundingRules.{bounding-bound, bounding-odd, bounding-local}
 use Rattle.ct_rules.proofs.LawfulRows.{lawful, alone-parts, alone_at_rested, not_alone, supported-rests}
 
 -- an entry that rests on another by a rule does so by one alone, and is among those that it names, lays words side by side, leads from
@@ -22,9 +23,9 @@ pub record RestsAlone (r : Rule) (f e : Entry) : Type 0 where
   pub among : Contains ((parts_of r None).rested_on_by f) e
 
 -- the three others
-abbrev pub IsOtherRule : List Support → Rule → Type 0
-IsOtherRule supports r =
-    ((m : ℕ) × (c : ℕ) × (r ≡ L11 m c)) ⊎ ((is_by_weight r ≡ true) ⊎ ((place : ℕ) × (r ≡ bounding_rule (slice_get supports place) place)))
+abbrev pub IsOtherRule : List Support → Rule → Entry → Type 0
+IsOtherRule supports r e =
+    ((m : ℕ) × (c : ℕ) × (r ≡ L11 m c)) ⊎ ((is_by_weight r ≡ true) ⊎ ((place : ℕ) × (r ≡ given_rule (slice_get supports place) (Upper, e) place)))
 
 -- a sum class rests on nothing
 class_rests : (supports : List Support) (r : Rule) (k : ℕ) (e f : Entry) → r ≡ M9 k → Contains ((parts_over supports r).rests_on e) f
@@ -33,10 +34,10 @@ unfolding row_of
 class_rests supports r k e f same rests = subst (λ (q : Rule). Contains ((parts_over supports q).rests_on e) f) same rests
 
 pub rests_on-cases : (supports : List Support) (r : Rule) (f e : Entry) → applies supports r e ≡ true
-    → Contains ((parts_over supports r).rests_on e) f → RestsAlone r f e ⊎ IsOtherRule supports r
+    → Contains ((parts_over supports r).rests_on e) f → RestsAlone r f e ⊎ IsOtherRule supports r e
 rests_on-cases supports r f e defined rests = by_place (place_of r) refl
   where
-    by_itself_or_numbers : place_of r ≡ None → (b : Bool) → is_alone r ≡ b → RestsAlone r f e ⊎ IsOtherRule supports r
+    by_itself_or_numbers : place_of r ≡ None → (b : Bool) → is_alone r ≡ b → RestsAlone r f e ⊎ IsOtherRule supports r e
     by_itself_or_numbers none true alone =
         let same = alone-parts r supports alone in
         inl (record {
@@ -52,17 +53,19 @@ rests_on-cases supports r f e defined rests = by_place (place_of r) refl
     by_itself_or_numbers none false alone = elim (not_alone r none alone) [
       | inl sum ↦ inr (inl sum)
       | inr (inl class) ↦
-          no_item (RestsAlone r f e ⊎ IsOtherRule supports r) f (class_rests supports r class.0 e f class.1 rests)
+          no_item (RestsAlone r f e ⊎ IsOtherRule supports r e) f (class_rests supports r class.0 e f class.1 rests)
       | inr (inr by) ↦ inr (inr (inl by))
     ]
 
-    by_place : (place : Option ℕ) → place_of r ≡ place → RestsAlone r f e ⊎ IsOtherRule supports r
+    by_place : (place : Option ℕ) → place_of r ≡ place → RestsAlone r f e ⊎ IsOtherRule supports r e
     by_place None none = by_itself_or_numbers none (is_alone r) refl
     by_place (Some place) named =
         elim (supported-rests r place (cited supports r) e named) [
-          | inl nothing ↦ no_item (RestsAlone r f e ⊎ IsOtherRule supports r) f (subst (λ es. Contains es f) nothing rests)
+          | inl nothing ↦ no_item (RestsAlone r f e ⊎ IsOtherRule supports r e) f (subst (λ es. Contains es f) nothing rests)
           | inr (inl by) ↦
               inr (inr (inr (place, by ∙ bounding-bound supports place e (subst (λ (q : Rule). applies supports q e ≡ true) by defined))))
-          | inr (inr by) ↦
+          | inr (inr (inl by)) ↦
               inr (inr (inr (place, by ∙ bounding-odd supports place e (subst (λ (q : Rule). applies supports q e ≡ true) by defined))))
+          | inr (inr (inr by)) ↦
+              inr (inr (inr (place, by ∙ bounding-local supports place e (subst (λ (q : Rule). applies supports q e ≡ true) by defined))))
         ]

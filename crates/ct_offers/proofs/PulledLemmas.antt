@@ -11,11 +11,10 @@ use Rattle.ct_codes.specs.declared.entry.Entry.{Entry}
 use Rattle.ct_codes.specs.Entry.{IsEntry}
 use Rattle.ct_rule_parts.specs.declared.support.Support.{Support}
 use Rattle.ct_rule_parts.specs.Slot.{Slot, IsNoBetter}
-use Rattle.ct_rule_parts.specs.Support.{size_at, dual_at, dual_behind}
-use Rattle.ct_rule_parts.proofs.DualLemmas.{behind-bound}
+use Rattle.ct_rule_parts.specs.Support.{size_at, dual_behind}
 use Rattle.ct_rule_parts.proofs.SlotLemmas.{IsNoBetter-self}
 use Rattle.ct_rules.specs.declared.rule.Rule.{Rule}
-use Rattle.ct_rules.specs.declared.rule.Rule.TheVariants.{L9, L10, L11, M9, M10, U9, U10, U11, U12, V9}
+use Rattle.ct_rules.specs.declared.rule.Rule.TheVariants.{L9, L10, L11, M9, M10, U9, U10, U11, U12, V9, V10}
 use Rattle.ct_rules.specs.Listing.{rules_alone}
 use Rattle.ct_rules.specs.Inside.AllRules.{side_by_side_rules, sum_class_rules, rules_by_weight, rules_of_supports, rules_at}
 use Rattle.ct_rules.specs.Closed.{AreTrue}
@@ -27,8 +26,8 @@ use Rattle.ct_rules.proofs.RuleLists.{rules_at-complete}
 use Rattle.ct_offers.specs.declared.best.Best.{Best}
 use Rattle.ct_slots.specs.Places.{GivesTo, ArePlaces, IsPlaceOf, IsUpTo}
 use Rattle.ct_offers.specs.Offers.{IsGiven, IsWithin}
-use Rattle.ct_offers.specs.Inside.Pulled.{IsPulled, bounding_rule, given_rule}
-use Rattle.ct_offers.proofs.BoundingRules.{bounding-bound, bounding-odd, bounding_dual}
+use Rattle.ct_offers.specs.Inside.Pulled.{IsPulled, given_rule}
+use Rattle.ct_offers.proofs.BoundingRules.{bounding-bound, bounding-odd, bounding-weighted, bounding-local, bounding_dual}
 use Rattle.ct_offers.proofs.PullingLemmas.{over-applies}
 
 pub IsPulled-refl : (supports : List Support) (f : Slot → ℕ) (s : Slot) (best : Best) → IsPulled supports f s best best
@@ -123,10 +122,7 @@ given_there supports Lower n d (Some w) place h =
 given_there supports Upper n d None place h =
     let e : Entry = record { n = n; d = d; w = None } in dual_support_there supports place e (bounding_dual supports place e h)
 given_there supports Upper n d (Some w) place h =
-    let e : Entry = record { n = n; d = d; w = Some w } in
-    let is = defined (parts_over supports (V9 place)) e h in
-    dual_support_there supports place e
-    (behind-bound (slice_get supports place) e (and_parts true (is_some (dual_at (slice_get supports place) e)) is.condition).1)
+    let e : Entry = record { n = n; d = d; w = Some w } in dual_support_there supports place e (bounding_dual supports place e h)
 
 -- a rule that names a support and is defined at an entry of the table names one of its places
 pub given_place : (supports : List Support) (s : Slot) (entries : List (Option Entry)) (place : ℕ) → IsEntry s.1 → ArePlaces supports entries
@@ -145,16 +141,12 @@ asked_all supports f s entries best entry are asked place v value =
       | inr within ↦ within v value
     ]
 
--- of the two rules that may name a support as an upper bound without weight the one is defined nowhere that is not the support's
-bounded_within : (supports : List Support) (f : Slot → ℕ) (s : Slot) (best place : ℕ)
-    → IsWithin supports f s best (bounding_rule (slice_get supports place) place) → IsWithin supports f s best (U11 place)
-bounded_within supports f s best place within v value =
-    subst (IsWithin supports f s best) (sym (bounding-bound supports place s.1 (over-applies supports f (U11 place) s.1 v value))) within v value
-
-odd_within : (supports : List Support) (f : Slot → ℕ) (s : Slot) (best place : ℕ)
-    → IsWithin supports f s best (bounding_rule (slice_get supports place) place) → IsWithin supports f s best (U12 place)
-odd_within supports f s best place within v value =
-    subst (IsWithin supports f s best) (sym (bounding-odd supports place s.1 (over-applies supports f (U12 place) s.1 v value))) within v value
+-- of the rules that may name a support as an upper bound the others are defined nowhere that is not the support's
+by_own_rule : (supports : List Support) (f : Slot → ℕ) (e : Entry) (best place : ℕ) (r : Rule)
+    → (applies supports r e ≡ true → r ≡ given_rule (slice_get supports place) (Upper, e) place)
+    → IsWithin supports f (Upper, e) best (given_rule (slice_get supports place) (Upper, e) place) → IsWithin supports f (Upper, e) best r
+by_own_rule supports f e best place r own within v value =
+    subst (IsWithin supports f (Upper, e) best) (sym (own (over-applies supports f r e v value))) within v value
 
 -- what holds of each item of lists that are put together
 all_map : {X Y : Type 0} (P : Y → Type 0) (f : X → Y) (xs : List X) → ((x : X) → P (f x)) → All P (map f xs)
@@ -199,13 +191,15 @@ all_listed supports f Upper n d None best alone sums classes given by_weight =
     (All-cons P U9 (map (λ w. U10 w) (range_with_len 0 (n + 1))) (by_weight U9 refl refl)
     (all_map P (λ w. U10 w) (range_with_len 0 (n + 1)) (λ w. by_weight (U10 w) refl refl))))
     (All-append P (map (λ place. U11 place) (range_with_len 0 (length supports))) (map (λ place. U12 place) (range_with_len 0 (length supports)))
-    (all_map P (λ place. U11 place) (range_with_len 0 (length supports)) (λ place. bounded_within supports f (Upper, e) best place (given place)))
-    (all_map P (λ place. U12 place) (range_with_len 0 (length supports)) (λ place. odd_within supports f (Upper, e) best place (given place))))
+    (all_map P (λ place. U11 place) (range_with_len 0 (length supports)) (λ place. by_own_rule supports f e best place (U11 place) (bounding-bound supports place e) (given place)))
+    (all_map P (λ place. U12 place) (range_with_len 0 (length supports)) (λ place. by_own_rule supports f e best place (U12 place) (bounding-odd supports place e) (given place))))
 all_listed supports f Upper n d (Some w) best alone sums classes given by_weight =
     let e : Entry = record { n = n; d = d; w = Some w } in
     let P : Rule → Type 0 = IsWithin supports f (Upper, e) best in
     All-append P (rules_alone (Upper, e)) (rules_of_supports (length supports) (Upper, e)) alone
-    (all_map P (λ place. V9 place) (range_with_len 0 (length supports)) given)
+    (All-append P (map (λ place. V9 place) (range_with_len 0 (length supports))) (map (λ place. V10 place) (range_with_len 0 (length supports)))
+    (all_map P (λ place. V9 place) (range_with_len 0 (length supports)) (λ place. by_own_rule supports f e best place (V9 place) (bounding-weighted supports place e) (given place)))
+    (all_map P (λ place. V10 place) (range_with_len 0 (length supports)) (λ place. by_own_rule supports f e best place (V10 place) (bounding-local supports place e) (given place))))
 
 pub all_asked : (supports : List Support) (f : Slot → ℕ) (side : Side) (e : Entry) (best : ℕ)
     → All (IsWithin supports f (side, e) best) (rules_alone (side, e))

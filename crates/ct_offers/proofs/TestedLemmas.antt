@@ -12,7 +12,7 @@ use Rattle.ct_rules.specs.Listing.{rules_alone}
 use Rattle.ct_rules.specs.Rule.{rule_side, applies, parts_over}
 use Rattle.ct_slots.specs.Worklist.{WorkValue}
 use Rattle.ct_offers.specs.Inside.Marking.{IsTestedAt, IsTestedFrom, AreTestedByWeight, AreTestedFromDuals, AreTested}
-use Rattle.ct_offers.proofs.BoundingRules.{bounding_side}
+use Rattle.ct_offers.proofs.BoundingRules.{given_side}
 use Rattle.ct_offers.proofs.DualLemmas.{tested_from_duals}
 use Rattle.ct_offers.proofs.DependentLemmas.{RestsAlone, IsOtherRule, rests_on-cases}
 
@@ -26,7 +26,7 @@ pub tested_by_rules : (supports : List Support) (bounds : List ℕ) (work : Work
     → AreTested supports bounds work (side, e)
 tested_by_rules supports bounds work side e alone by_weight sums duals r f same defined rests = go (rests_on-cases supports r e f defined rests)
   where
-    go : RestsAlone r e f ⊎ IsOtherRule supports r → IsTestedAt supports bounds work r f
+    go : RestsAlone r e f ⊎ IsOtherRule supports r f → IsTestedAt supports bounds work r f
     go (inl is) =
         All-contains (IsTestedFrom supports bounds work e) (rules_alone (side, e)) r alone
         (subst (λ (s : Side). Contains (rules_alone (s, e)) r) same is.listed) f is.among
@@ -34,7 +34,7 @@ tested_by_rules supports bounds work side e alone by_weight sums duals r f same 
     go (inr (inr (inr (place, is)))) =
         subst (λ (q : Rule). IsTestedAt supports bounds work q f) (sym is)
         (tested_from_duals supports bounds work e f place
-        (duals (sym (subst (λ (q : Rule). rule_side q ≡ side) is same) ∙ bounding_side (slice_get supports place) place))
+        (duals (sym (subst (λ (q : Rule). rule_side q ≡ side) is same) ∙ given_side (slice_get supports place) f place))
         (subst (λ (q : Rule). applies supports q f ≡ true) is defined)
         (subst (λ (q : Rule). Contains ((parts_over supports q).rests_on f) e) is rests))
     go (inr (inl (m, c, is))) =

@@ -1,6 +1,6 @@
 //! The slots at which a better bound of another may lead to something better: they are marked.
 
-ghost use Rattle.std.specs.Prelude.{◌≡◌, true, OnOk, All};
+ghost use Rattle.std.specs.Prelude.{◌≡◌, suc, true, OnOk, All};
 ghost use Rattle.ct_codes.specs.Entry.{IsEntry};
 ghost use Rattle.ct_rule_parts.specs.Support.{AllStand};
 ghost use Rattle.ct_rules.specs.declared.rule.Rule.{Rule};
@@ -8,16 +8,16 @@ ghost use Rattle.ct_rules.specs.Closed.{AreTrue};
 ghost use Rattle.ct_rules.specs.Rule.{is_alone};
 ghost use Rattle.ct_slots.specs.Number.{bound_of};
 ghost use Rattle.ct_slots.specs.Places.{ArePlaces};
-ghost use Rattle.ct_offers.specs.Inside.Marking.{KeepsMarks, IsTestedAt, IsTestedFrom, AreTestedByWeight, IsTestedByDual, AreTestedByDuals, AreTestedFromDuals, AreTested};
+ghost use Rattle.ct_offers.specs.Inside.Marking.{KeepsMarks, IsTestedAt, IsTestedFrom, AreTestedByWeight, IsTestedByDual, AreTestedByDuals, AreTestedAtWeights, AreTestedFromDuals, AreTested};
 
 use crate::best::is_better;
-use crate::pulling::{bounding_rule, offer};
+use crate::pulling::{given_rule, offer};
 use crate::side_by_side::mark_side_by_side;
 use ct_codes::{Entry, Side};
 use ct_rule_parts::dual_behind;
 use ct_rules::{Rule, Support, rested_on_by, rule_side, rules_alone};
 use ct_slots::{Bounds, SupportPlaces, Worklist};
-use ct_weight_rules::{unweighted, unweighted_and_nearer};
+use ct_weight_rules::{of_weight, unweighted, unweighted_and_nearer};
 use std::alloc::AllocError;
 
 /// Marks an entry of the table that is not settled, where the rule gives something better there.
@@ -171,8 +171,9 @@ fn mark_by_dual(
     if !dual.rests_on(from) {
         return Ok(());
     }
-    let rule = bounding_rule(supports, place);
-    test(supports, bounds, work, rule, entry, evaluations)
+    let rule = given_rule(supports, Side::Upper, entry, place);
+    test(supports, bounds, work, rule, entry, evaluations)?;
+    Ok(())
 }
 
 /// Marks the entry, where one of the duals that supports have there rests on the other one and something better is given by it. It looks at
@@ -203,7 +204,37 @@ fn mark_by_duals(
     Ok(())
 }
 
-/// Marks the entries without weight that rest on this one by a dual, where it gives something better there.
+/// Marks the entries of the same length and distance, of each weight, that rest on this one by a dual, where it gives something better there.
+fn mark_each_weight(
+    supports: &[Support],
+    places: &SupportPlaces,
+    bounds: &Bounds,
+    work: &mut Worklist,
+    entry: Entry,
+    evaluations: &mut u64,
+) -> Result<(), AllocError>
+    requires entry { IsEntry entry }
+    requires places { ArePlaces supports.now places.now }
+    requires stand { AllStand supports.now }
+    requires true_bounds { AreTrue (bound_of bounds.now) }
+    ensures tested { OnOk result (AreTestedAtWeights supports.now bounds.now work.new entry (suc entry.n)) }
+    ensures kept { KeepsMarks work.old work.new }
+{
+    let Some(weight) = entry.w else {
+        return Ok(());
+    };
+    // A dual of an entry with weight rests on even weights, which are distances of two of its words.
+    if weight % 2 == 1 {
+        return Ok(());
+    }
+    for w in 0..entry.n + 1 {
+        let other = of_weight(entry, w);
+        mark_by_duals(supports, places, bounds, work, other, entry, evaluations)?;
+    }
+    Ok(())
+}
+
+/// Marks the entries that rest on this one by a dual, where it gives something better there.
 fn mark_from_duals(
     supports: &[Support],
     places: &SupportPlaces,
@@ -222,6 +253,7 @@ fn mark_from_duals(
     let (same, nearer) = (unweighted(entry), unweighted_and_nearer(entry));
     mark_by_duals(supports, places, bounds, work, same, entry, evaluations)?;
     mark_by_duals(supports, places, bounds, work, nearer, entry, evaluations)?;
+    mark_each_weight(supports, places, bounds, work, entry, evaluations)?;
     Ok(())
 }
 

@@ -16,7 +16,7 @@ ghost use Rattle.ct_rules.specs.Rule.{rule_side, is_by_weight, parts_over};
 ghost use Rattle.ct_slots.specs.Number.{bound_of};
 ghost use Rattle.ct_slots.specs.Places.{ArePlaces};
 ghost use Rattle.ct_offers.specs.Offers.{value_over, AreGrounded, IsGiven, IsLimit, IsWithin};
-ghost use Rattle.ct_offers.specs.Inside.Pulled.{IsPulled, bounding_rule, given_rule, rule_of_weight};
+ghost use Rattle.ct_offers.specs.Inside.Pulled.{IsPulled, bounding_rule, bounding_rule_of_weight, given_rule, rule_of_weight};
 
 use crate::best::Best;
 use crate::side_by_side::best_side_by_side;
@@ -331,15 +331,27 @@ fn ask_unsupported(
 
 /// The rule by which the support at a place bounds an entry without weight from above.
 #[tactic(auto, unfolding(ct_rules::specs::Rule::row_of))]
-pub(crate) fn bounding_rule(supports: &[Support], place: u32) -> Rule
+fn bounding_rule(supports: &[Support], place: u32) -> Rule
     ensures rule { result ≡ bounding_rule (slice_get supports.now place) place }
     ensures side { rule_side result ≡ Upper }
 {
     match supports.get(place as usize) {
         Some(Support::Odd { .. }) => Rule::U12(place),
-        Some(Support::Nothing | Support::Size { .. } | Support::Bound(_)) | None => Rule::U11(
-            place,
-        ),
+        Some(Support::Nothing | Support::Size { .. } | Support::Bound(_) | Support::Local(_))
+        | None => Rule::U11(place),
+    }
+}
+
+/// The rule by which the support at a place bounds an entry with weight from above.
+#[tactic(auto, unfolding(ct_rules::specs::Rule::row_of))]
+fn bounding_rule_of_weight(supports: &[Support], place: u32) -> Rule
+    ensures rule { result ≡ bounding_rule_of_weight (slice_get supports.now place) place }
+    ensures side { rule_side result ≡ Upper }
+{
+    match supports.get(place as usize) {
+        Some(Support::Local(_)) => Rule::V10(place),
+        Some(Support::Nothing | Support::Size { .. } | Support::Bound(_) | Support::Odd { .. })
+        | None => Rule::V9(place),
     }
 }
 
@@ -352,7 +364,7 @@ pub fn given_rule(supports: &[Support], side: Side, entry: Entry, place: u32) ->
         (Side::Lower, None) => Rule::L10(place),
         (Side::Lower, Some(_)) => Rule::M10(place),
         (Side::Upper, None) => bounding_rule(supports, place),
-        (Side::Upper, Some(_)) => Rule::V9(place),
+        (Side::Upper, Some(_)) => bounding_rule_of_weight(supports, place),
     }
 }
 

@@ -1,7 +1,7 @@
 -- What stands in lists that are put together.
-use Rattle.std.proofs.Common.{ℕ, zero, suc, ◌+◌, ◌-◌, ◌<◌, ◌≤◌, List, [], ◌∷◌, Contains, flat_map, arith}
+use Rattle.std.proofs.Common.{ℕ, zero, suc, ◌+◌, ◌-◌, ◌<◌, ◌≤◌, List, [], ◌∷◌, All, Contains, flat_map, arith}
 use Rattle.std.specs.List.{range_with_len}
-use Rattle.std.proofs.lemmas.List.Elements.{Contains-append_left, Contains-append_right}
+use Rattle.std.proofs.lemmas.List.Elements.{All-nil, All-cons, Contains-append_left, Contains-append_right}
 use Rattle.std.proofs.lemmas.List.FromFn.{length-range_with_len, get_or-range_with_len}
 
 -- a number between the ends of a range stands in it
@@ -20,3 +20,10 @@ Contains-flat_map f (z ∷ xs) x y (zero, within, is) k =
     Contains-append_left (f z) (flat_map f xs) y (rw is k)
 Contains-flat_map f (z ∷ xs) x y (suc i, within, is) k =
     Contains-append_right (f z) (flat_map f xs) y (Contains-flat_map f xs x y (i, omega arith, is) k)
+
+-- what holds of each number of a range holds of the range
+pub All-range : (P : ℕ → Type 0) (low count : ℕ) → ((k : ℕ) → low ≤ k → k < low + count → P k) → All P (range_with_len low count)
+All-range P low zero each = All-nil P
+All-range P low (suc count) each =
+    All-cons P low (range_with_len (low + 1) count) (each low (omega arith) (omega arith))
+    (All-range P (low + 1) count (λ k from below. each k (omega arith) (omega arith)))

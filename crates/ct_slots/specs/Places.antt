@@ -5,7 +5,7 @@ use Rattle.ct_codes.specs.declared.claim.Side.TheVariants.{Lower, Upper}
 use Rattle.ct_codes.specs.declared.entry.Entry.{Entry}
 use Rattle.ct_codes.specs.Entry.{IsEntry, is_entry}
 use Rattle.ct_rule_parts.specs.declared.support.Support.{Support}
-use Rattle.ct_rule_parts.specs.declared.support.Support.TheVariants.{Nothing, Size, Bound, Odd}
+use Rattle.ct_rule_parts.specs.declared.support.Support.TheVariants.{Nothing, Size, Bound, Odd, Local}
 use Rattle.ct_rule_parts.specs.Support.{size_at, dual_behind}
 use Rattle.ct_slots.specs.Number.{entry_number, side_size}
 
@@ -19,6 +19,7 @@ side_of Nothing = Lower
 side_of (Size e size) = Lower
 side_of (Bound a) = Upper
 side_of (Odd a m) = Upper
+side_of (Local a) = Upper
 
 -- the entry of the table to which a support gives something, where there is one
 abbrev pub entry_of : Support → Option Entry
@@ -26,6 +27,7 @@ entry_of Nothing = None
 entry_of (Size e size) = if is_entry e then Some e else None
 entry_of (Bound a) = if is_entry a.dual.entry then Some a.dual.entry else None
 entry_of (Odd a m) = if is_entry a.dual.entry then Some a.dual.entry else None
+entry_of (Local a) = if is_entry a.dual.entry then Some a.dual.entry else None
 
 -- the place stands for the entry
 abbrev pub IsPlaceOf : List (Option Entry) → Entry → ℕ → Type 0

@@ -44,6 +44,7 @@ pub fn entry_of(support: &Support) -> Option<Entry>
         Support::Size { entry, .. } if entry.in_table() => Some(*entry),
         Support::Size { .. } => None,
         Support::Bound(dual) | Support::Odd { dual, .. } => Some(dual.entry()),
+        Support::Local(dual) => Some(dual.dual().entry()),
     }
 }
 
@@ -53,7 +54,7 @@ pub fn side_of(support: &Support) -> Side
 {
     match support {
         Support::Nothing | Support::Size { .. } => Side::Lower,
-        Support::Bound(_) | Support::Odd { .. } => Side::Upper,
+        Support::Bound(_) | Support::Odd { .. } | Support::Local(_) => Side::Upper,
     }
 }
 

@@ -9,13 +9,13 @@ use Rattle.ct_codes.specs.declared.entry.Entry.{Entry}
 use Rattle.ct_codes.specs.Entry.{IsEntry, same_entry}
 use Rattle.ct_codes.proofs.EntryLemmas.{same_entry_is}
 use Rattle.ct_rule_parts.specs.declared.support.Support.{Support}
-use Rattle.ct_rule_parts.specs.declared.support.Support.TheVariants.{Nothing, Size, Bound, Odd}
+use Rattle.ct_rule_parts.specs.declared.support.Support.TheVariants.{Nothing, Size, Bound, Odd, Local}
 use Rattle.ct_rule_parts.specs.Parts.{has_weight}
 use Rattle.ct_rule_parts.specs.Slot.{Slot, IsNoBetter}
-use Rattle.ct_rule_parts.specs.Support.{size_at, dual_at, odd_at, dual_behind}
-use Rattle.ct_rule_parts.proofs.DualLemmas.{behind-bound, behind-odd}
+use Rattle.ct_rule_parts.specs.Support.{size_at, dual_at, odd_at, local_at, dual_behind}
+use Rattle.ct_rule_parts.proofs.DualLemmas.{behind-bound, behind-odd, behind-local}
 use Rattle.ct_rules.specs.declared.rule.Rule.{Rule}
-use Rattle.ct_rules.specs.declared.rule.Rule.TheVariants.{L10, M10, U11, U12, V9}
+use Rattle.ct_rules.specs.declared.rule.Rule.TheVariants.{L10, M10, U11, U12, V9, V10}
 use Rattle.ct_rules.specs.Closed.{IsSatisfied, IsClosed}
 use Rattle.ct_rules.specs.Rule.{row_of, rule_side, place_of, support_at, cited, parts_over, applies}
 use Rattle.ct_rules.proofs.Applied.{defined, applies_from_premises}
@@ -26,8 +26,8 @@ use Rattle.ct_slots.specs.Number.{bound_of}
 use Rattle.ct_slots.specs.Places.{GivesTo, side_of, entry_of}
 use Rattle.ct_slots.specs.Worklist.{WorkValue, IsMarked}
 use Rattle.ct_offers.specs.Offers.{IsWithin}
-use Rattle.ct_offers.specs.Inside.Pulled.{bounding_rule, given_rule}
-use Rattle.ct_offers.proofs.BoundingRules.{bounding-bound, bounding-odd}
+use Rattle.ct_offers.specs.Inside.Pulled.{given_rule}
+use Rattle.ct_offers.proofs.BoundingRules.{bounding-bound, bounding-odd, bounding-weighted, bounding-local}
 use Rattle.ct_offers.proofs.SatisfiedLemmas.{satisfied_within}
 use Rattle.ct_table.proofs.BaseLemmas.{cited-nothing}
 
@@ -38,6 +38,7 @@ gives_entry Nothing e (inr gives) entry = absurd (gives refl)
 gives_entry (Size f size) e (inr gives) entry = absurd (gives refl)
 gives_entry (Bound a) e (inl gives) entry = absurd (gives refl)
 gives_entry (Odd a m) e (inl gives) entry = absurd (gives refl)
+gives_entry (Local a) e (inl gives) entry = absurd (gives refl)
 gives_entry (Size f size) e (inl gives) entry = go (same_entry f e) refl
   where
     go : (b : Bool) → same_entry f e ≡ b → entry_of (Size f size) ≡ Some e
@@ -61,6 +62,14 @@ gives_entry (Odd a m) e (inr gives) entry = go (same_entry a.dual.entry e) refl
         ap (λ (b : Bool). if b then Some a.dual.entry else None) (subst IsEntry (sym same) entry) ∙ ap Some same
     go false is =
         absurd (gives (ap (λ (b : Bool). if b then Some a else None) is))
+gives_entry (Local a) e (inr gives) entry = go (same_entry a.dual.entry e) refl
+  where
+    go : (b : Bool) → same_entry a.dual.entry e ≡ b → entry_of (Local a) ≡ Some e
+    go true is =
+        let same : a.dual.entry ≡ e = same_entry_is a.dual.entry e is in
+        ap (λ (b : Bool). if b then Some a.dual.entry else None) (subst IsEntry (sym same) entry) ∙ ap Some same
+    go false is =
+        absurd (gives (ap (λ (b : Bool). if b then Some a else None) is))
 
 -- a rule that is defined and names a support: it is the one by which that support gives something
 pub record IsNamed (supports : List Support) (r : Rule) (place : ℕ) (e : Entry) : Type 0 where
@@ -79,6 +88,7 @@ giving None e is = absurd (false≢true is)
 giving (Some Nothing) e is = absurd (false≢true is)
 giving (Some (Bound a)) e is = absurd (false≢true is)
 giving (Some (Odd a m)) e is = absurd (false≢true is)
+giving (Some (Local a)) e is = absurd (false≢true is)
 giving (Some (Size f size)) e is = (Size f size, refl, inl (λ none. false≢true (sym (ap is_some none) ∙ is)), refl)
 
 giving_dual : (o : Option Support) (e : Entry) → is_some (dual_behind o e) ≡ true → IsGiving o e Upper
@@ -87,6 +97,7 @@ giving_dual (Some Nothing) e is = absurd (false≢true is)
 giving_dual (Some (Size f size)) e is = absurd (false≢true is)
 giving_dual (Some (Bound a)) e is = (Bound a, refl, inr (λ none. false≢true (sym (ap is_some none) ∙ is)), refl)
 giving_dual (Some (Odd a m)) e is = (Odd a m, refl, inr (λ none. false≢true (sym (ap is_some none) ∙ is)), refl)
+giving_dual (Some (Local a)) e is = (Local a, refl, inr (λ none. false≢true (sym (ap is_some none) ∙ is)), refl)
 
 named_by : (supports : List Support) (r : Rule) (p place : ℕ) (e : Entry) (side : Side) → p ≡ place → IsGiving (slice_get supports p) e side
     → rule_side r ≡ side → r ≡ given_rule (slice_get supports p) (side, e) p → IsNamed supports r place e
@@ -118,21 +129,25 @@ named supports (U11 p) place e names h =
     let parts = and_parts (not (has_weight e)) (is_some (dual_at (slice_get supports p) e)) is.condition in
     named_by supports (U11 p) p place e Upper (same_Some p place names)
     (giving_dual (slice_get supports p) e (behind-bound (slice_get supports p) e parts.1)) refl
-    (bounding-bound supports p e h
-    ∙ sym (ap (λ (b : Bool). if b then V9 p else bounding_rule (slice_get supports p) p) (not-true (has_weight e) parts.0)))
+    (bounding-bound supports p e h)
 named supports (U12 p) place e names h =
     let is = defined (parts_over supports (U12 p)) e h in
     let parts = and_parts (not (has_weight e)) (is_some (odd_at (slice_get supports p) e)) is.condition in
     named_by supports (U12 p) p place e Upper (same_Some p place names)
     (giving_dual (slice_get supports p) e (behind-odd (slice_get supports p) e parts.1)) refl
-    (bounding-odd supports p e h
-    ∙ sym (ap (λ (b : Bool). if b then V9 p else bounding_rule (slice_get supports p) p) (not-true (has_weight e) parts.0)))
+    (bounding-odd supports p e h)
 named supports (V9 p) place e names h =
     let is = defined (parts_over supports (V9 p)) e h in
     let parts = and_parts (has_weight e) (is_some (dual_at (slice_get supports p) e)) is.condition in
     named_by supports (V9 p) p place e Upper (same_Some p place names)
     (giving_dual (slice_get supports p) e (behind-bound (slice_get supports p) e parts.1)) refl
-    (sym (ap (λ (b : Bool). if b then V9 p else bounding_rule (slice_get supports p) p) parts.0))
+    (bounding-weighted supports p e h)
+named supports (V10 p) place e names h =
+    let is = defined (parts_over supports (V10 p)) e h in
+    let parts = and_parts (has_weight e) (is_some (local_at (slice_get supports p) e)) is.condition in
+    named_by supports (V10 p) p place e Upper (same_Some p place names)
+    (giving_dual (slice_get supports p) e (behind-local (slice_get supports p) e parts.1)) refl
+    (bounding-local supports p e h)
 named supports r place e names h = absurd (none-some place names)
 
 -- one of more supports that gives something to the entry, by the rule that names it

@@ -52,7 +52,8 @@ pub(crate) fn mark_given(work: &mut Worklist, support: &Support) -> Result<(), A
     let Some(entry) = entry_of(support) else {
         return Ok(());
     };
-    work.mark(side_of(support), entry)
+    work.mark(side_of(support), entry)?;
+    Ok(())
 }
 
 /// Puts each support into the places, which are none so far, and marks the slot to which it gives something. `Err` is want of

@@ -15,7 +15,7 @@ use ct_rules::{Rule, Support, premise, premise_count, rule_side, value};
 use ct_words::MAX_BOUND;
 
 /// Each rule, with the first support, the weight 0, and a length and a distance, where it names any.
-const RULES: [Rule; 44] = [
+const RULES: [Rule; 45] = [
     Rule::L1,
     Rule::L2,
     Rule::L3,
@@ -60,6 +60,7 @@ const RULES: [Rule; 44] = [
     Rule::V7,
     Rule::V8,
     Rule::V9(0),
+    Rule::V10(0),
 ];
 
 /// A length, a distance and a weight.

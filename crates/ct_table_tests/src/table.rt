@@ -223,7 +223,7 @@ fn copy_of(support: &Support) -> Option<Support>
             entry: *entry,
             size: *size,
         }),
-        Support::Bound(_) | Support::Odd { .. } => None,
+        Support::Bound(_) | Support::Odd { .. } | Support::Local(_) => None,
     }
 }
 

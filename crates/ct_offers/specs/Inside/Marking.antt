@@ -1,17 +1,17 @@
 -- Which slots were marked, and which rules were asked for them.
-use Rattle.std.specs.Prelude.{◌≡◌, ℕ, true, List, None, Contains, slice_get}
+use Rattle.std.specs.Prelude.{◌≡◌, ℕ, ◌<◌, true, List, None, Contains, slice_get}
+use Rattle.ct_codes.specs.declared.claim.Side.TheVariants.{Upper}
 use Rattle.ct_codes.specs.declared.entry.Entry.{Entry}
 use Rattle.ct_codes.specs.Entry.{IsEntry, unrestricted}
 use Rattle.ct_rule_parts.specs.declared.support.Support.{Support}
 use Rattle.ct_rule_parts.specs.Slot.{Slot}
-use Rattle.ct_rule_parts.specs.Support.{dual_behind}
-use Rattle.ct_weight_rules.specs.Delsarte.{premises_of_dual}
+use Rattle.ct_weight_rules.specs.Neighbours.{of_weight}
 use Rattle.ct_rules.specs.declared.rule.Rule.{Rule}
 use Rattle.ct_rules.specs.declared.rule.Rule.TheVariants.{L11}
 use Rattle.ct_rules.specs.Closed.{IsSatisfied}
 use Rattle.ct_rules.specs.Rule.{rule_side, is_by_weight, applies, parts_of, parts_over}
 use Rattle.ct_slots.specs.Number.{bound_of}
-use Rattle.ct_offers.specs.Inside.Pulled.{bounding_rule}
+use Rattle.ct_offers.specs.Inside.Pulled.{given_rule}
 use Rattle.ct_slots.specs.Worklist.{WorkValue, IsMarked}
 
 -- what was marked still is
@@ -46,16 +46,20 @@ abbrev pub AreTestedByWeight : List Support → List ℕ → WorkValue → Slot 
 AreTestedByWeight supports bounds work s = (r : Rule) (e : Entry) → is_by_weight r ≡ true → rule_side r ≡ s.0 → applies supports r e ≡ true →
     Contains ((parts_over supports r).rests_on e) s.1 → IsTestedAt supports bounds work r e
 
--- at an entry, where the dual that the support at a place has there rests on another
+-- at an entry, where the rule by which the support at a place bounds it from above rests on another
 abbrev pub IsTestedByDual : List Support → List ℕ → WorkValue → Entry → Entry → ℕ → Type 0
 IsTestedByDual supports bounds work from e place =
-    Contains (premises_of_dual (dual_behind (slice_get supports place) e)) from →
-    IsTestedAt supports bounds work (bounding_rule (slice_get supports place) place) e
+    Contains ((parts_over supports (given_rule (slice_get supports place) (Upper, e) place)).rests_on e) from →
+    IsTestedAt supports bounds work (given_rule (slice_get supports place) (Upper, e) place) e
 
 -- so by each dual that is defined there
 abbrev pub AreTestedByDuals : List Support → List ℕ → WorkValue → Entry → Entry → Type 0
 AreTestedByDuals supports bounds work from e =
-    (place : ℕ) → applies supports (bounding_rule (slice_get supports place) place) e ≡ true → IsTestedByDual supports bounds work from e place
+    (place : ℕ) → applies supports (given_rule (slice_get supports place) (Upper, e) place) e ≡ true → IsTestedByDual supports bounds work from e place
+
+-- so at the entries of the length and the distance of another, of each weight below one
+abbrev pub AreTestedAtWeights : List Support → List ℕ → WorkValue → Entry → ℕ → Type 0
+AreTestedAtWeights supports bounds work from below = (w : ℕ) → w < below → AreTestedByDuals supports bounds work from (of_weight from w)
 
 -- at each entry that rests on one by a dual
 abbrev pub AreTestedFromDuals : List Support → List ℕ → WorkValue → Entry → Type 0

@@ -4,11 +4,11 @@ use Rattle.ct_codes.specs.declared.claim.Side.{Side}
 use Rattle.ct_codes.specs.declared.claim.Side.TheVariants.{Lower, Upper}
 use Rattle.ct_codes.specs.declared.entry.Entry.{Entry}
 use Rattle.ct_rule_parts.specs.declared.support.Support.{Support}
-use Rattle.ct_rule_parts.specs.declared.support.Support.TheVariants.{Odd}
+use Rattle.ct_rule_parts.specs.declared.support.Support.TheVariants.{Odd, Local}
 use Rattle.ct_rule_parts.specs.Parts.{has_weight}
 use Rattle.ct_rule_parts.specs.Slot.{Slot, IsNoBetter}
 use Rattle.ct_rules.specs.declared.rule.Rule.{Rule}
-use Rattle.ct_rules.specs.declared.rule.Rule.TheVariants.{L9, L10, M10, U10, U11, U12, V9}
+use Rattle.ct_rules.specs.declared.rule.Rule.TheVariants.{L9, L10, M10, U10, U11, U12, V9, V10}
 use Rattle.ct_offers.specs.declared.best.Best.{Best}
 use Rattle.ct_offers.specs.Offers.{IsGiven}
 
@@ -22,10 +22,15 @@ abbrev pub bounding_rule : Option Support → ℕ → Rule
 bounding_rule (Some (Odd a m)) place = U12 place
 bounding_rule c place = U11 place
 
+-- the rule by which a support, at a place, bounds an entry with weight from above: V10 where its dual gives its local bound, else V9
+abbrev pub bounding_rule_of_weight : Option Support → ℕ → Rule
+bounding_rule_of_weight (Some (Local a)) place = V10 place
+bounding_rule_of_weight c place = V9 place
+
 -- the rule by which a support, at a place, gives to a side of an entry
 abbrev pub given_rule : Option Support → Slot → ℕ → Rule
 given_rule c (Lower, e) place = if has_weight e then M10 place else L10 place
-given_rule c (Upper, e) place = if has_weight e then V9 place else bounding_rule c place
+given_rule c (Upper, e) place = if has_weight e then bounding_rule_of_weight c place else bounding_rule c place
 
 -- the rule by which a bound of a weight leads to one without weight
 abbrev pub rule_of_weight : Side → ℕ → Rule

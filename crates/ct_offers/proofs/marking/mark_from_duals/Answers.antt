@@ -1,12 +1,18 @@
-use Rattle.ct_offers.proofs.DualLemmas.{by_duals_more, tested_at_two}
+use Rattle.ct_offers.proofs.MarkingLemmas.{keeps-trans}
+use Rattle.ct_offers.proofs.DualLemmas.{by_duals_more, tested_at_all}
 use Rattle.ct_offers.proofs.marking.mark_from_duals.Goals as goal
 
 pub returns-clause-tested : goal.returns-clause-tested
 returns-clause-tested c =
     let supports = c.args.supports.now in
     let bounds = c.args.bounds.now in
-    tested_at_two supports bounds c.mark_by_duals-2.new.work c.args.entry c.unweighted-same.result c.unweighted_and_nearer-nearer.result
+    let first = c.mark_by_duals.new.work in
+    let second = c.mark_by_duals-2.new.work in
+    let third = c.mark_each_weight.new.work in
+    let last = c.in_ok-mark_each_weight.ensures in
+    tested_at_all supports bounds third c.args.entry c.unweighted-same.result c.unweighted_and_nearer-nearer.result
     c.unweighted-same.ensures c.unweighted_and_nearer-nearer.ensures
-    (by_duals_more supports bounds c.mark_by_duals.new.work c.mark_by_duals-2.new.work c.args.entry c.unweighted-same.result
-    c.in_ok-mark_by_duals-2.ensures.kept c.in_ok-mark_by_duals.ensures.tested)
-    c.in_ok-mark_by_duals-2.ensures.tested
+    (by_duals_more supports bounds first third c.args.entry c.unweighted-same.result
+    (keeps-trans first second third c.in_ok-mark_by_duals-2.ensures.kept last.kept) c.in_ok-mark_by_duals.ensures.tested)
+    (by_duals_more supports bounds second third c.args.entry c.unweighted_and_nearer-nearer.result last.kept c.in_ok-mark_by_duals-2.ensures.tested)
+    last.tested

@@ -14,5 +14,4 @@ pub returns-in-Upper-None-clause-side : goal.returns-in-Upper-None-clause-side
 returns-in-Upper-None-clause-side c = c.bounding_rule.ensures.side ∙ sym c.in-Upper-None.is-0
 
 pub returns-in-Upper-Some-clause-side : goal.returns-in-Upper-Some-clause-side
-unfolding row_of
-returns-in-Upper-Some-clause-side c = sym c.in-Upper-Some.is-0
+returns-in-Upper-Some-clause-side c = c.bounding_rule_of_weight.ensures.side ∙ sym c.in-Upper-Some.is-0
