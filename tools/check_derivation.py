@@ -130,6 +130,8 @@ NAMING = {
     "U11": (2, ("dual",), lambda piece: by_spread(piece, lambda spread: spread // piece.c[0])),
     "U12": (2, ("odd",), size_below),
     "V9": (3, ("jdual",), lambda piece: number(piece.f(0) // piece.c[0])),
+    # No kind of document gives the dual with weight of V10.
+    "V10": (3, (), None),
 }
 PLAIN = {
     "L1": lambda n, d: number(1),
@@ -175,7 +177,7 @@ WEIGHTED = {
     "V7": lambda n, d, w: same(n, d - 2, w),
     "V8": column_pairs,
 }
-ARGUMENTS = {"L9": 1, "L10": 1, "L11": 2, "M9": 1, "M10": 1, "U10": 1, "U11": 1, "U12": 1, "V9": 1}
+ARGUMENTS = {"L9": 1, "L10": 1, "L11": 2, "M9": 1, "M10": 1, "U10": 1, "U11": 1, "U12": 1, "V9": 1, "V10": 1}
 
 
 def rule_at(pieces, name, entry, arguments):
