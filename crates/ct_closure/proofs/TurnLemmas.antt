@@ -23,7 +23,7 @@ use Rattle.ct_rules.proofs.RuleLaws.{rule_entry}
 use Rattle.ct_closure.specs.Closing.{IsSatisfiedAt, IsPending, HasMoreLines}
 use Rattle.ct_kept.specs.Kept.{KeptValue, IsKept, Grew, reason_of, with_line_put}
 use Rattle.ct_slots.specs.Number.{slot_number, bound_of, side_size}
-use Rattle.ct_slots.specs.Worklist.{WorkValue, IsMarked, IsIdle, waiting}
+use Rattle.ct_slots.specs.Worklist.{WorkValue, IsMarked, IsMarkedOrSettled, IsIdle, waiting}
 use Rattle.ct_offers.specs.Inside.Marking.{KeepsMarks, IsTestedAt, IsTestedFrom, AreTestedByWeight, AreTestedFromDuals, AreTested}
 use Rattle.ct_closure.specs.Inside.Turn.{IsPendingBut}
 use Rattle.ct_offers.specs.Offers.{value_over, IsGiven, IsWithin}
@@ -31,6 +31,7 @@ use Rattle.ct_closure.specs.Inside.Turn.{line_by, slack, potential}
 use Rattle.ct_kept.proofs.KeptLemmas.{reason_line, IsKept-with_line, Grew-with_line}
 use Rattle.ct_closure.proofs.LineByLemmas.{Follows-line_by}
 use Rattle.ct_slots.proofs.NumberLemmas.{slot_number-injective}
+use Rattle.ct_offers.proofs.LimitLemmas.{settled_satisfied}
 use Rattle.ct_offers.proofs.PullingLemmas.{over-limit}
 use Rattle.ct_kept.proofs.PutLemmas.{bound-put, bound-put_other}
 use Rattle.ct_offers.proofs.SatisfiedLemmas.{IsBetterAt, better-at, satisfied_after, satisfied_within, within_from_satisfied}
@@ -46,6 +47,15 @@ bounds_are_true supports kept stand good =
     let found = reason_line supports kept s good entry in
     subst (IsDerived supports) found.1.claim
     (derived_from_line supports kept.lines (reason_of kept s) found.0 found.1.there good.derivation))
+
+-- where each slot is marked or its entry is settled, each is marked or satisfied
+pub pending_started : (supports : List Support) (kept : KeptValue) (work : WorkValue) → AllStand supports → IsKept supports kept
+    → ((s : Slot) → IsEntry s.1 → IsMarkedOrSettled kept.bounds work s) → IsPending supports kept.bounds work
+pending_started supports kept work stand good each s entry unmarked r side = elim (each s entry) [
+  | inl marked ↦ absurd (unmarked marked)
+  | inr settled ↦
+      settled_satisfied supports (bound_of kept.bounds) r s.1 stand (bounds_are_true supports kept stand good) entry settled
+]
 
 -- once a slot is taken each other one is marked or satisfied
 pub pending_taken : (supports : List Support) (bounds : List ℕ) (work new : WorkValue) (s : Slot) → IsEntry s.1

@@ -4,6 +4,7 @@ ghost use Rattle.std.specs.Prelude.{◌≡◌, ◌≤◌, List, true, OnOk, OnEr
 ghost use Rattle.ct_codes.specs.Entry.{IsEntry};
 ghost use Rattle.ct_rule_parts.specs.Entries.{listed};
 ghost use Rattle.ct_rule_parts.specs.Parts.{are_entries, slots_on};
+ghost use Rattle.ct_rule_parts.specs.declared.support.Support.{Support};
 ghost use Rattle.ct_rule_parts.specs.Support.{AllStand};
 ghost use Rattle.ct_rules.specs.declared.rule.Rule.{Rule};
 ghost use Rattle.ct_rules.specs.Closed.{AreTrue};
@@ -21,7 +22,7 @@ use ct_codes::{Claim, Entry, Side};
 use ct_kept::Kept;
 use ct_offers::{Best, best_offer, mark_dependents};
 use ct_rules::{Entries, Line, Rule, Support, defined_on, rule_side};
-use ct_slots::{SupportPlaces, Worklist};
+use ct_slots::{SupportPlaces, Worklist, mark_unsettled};
 use smallvec::SmallVec;
 use std::alloc::{AllocError, Global};
 use std::marker::Model;
@@ -44,6 +45,25 @@ impl Model for Closing {
     ghost Value = { ClosingValue };
 
     ghost view = { λ c. record { kept = c.kept; work = c.work; evaluations = c.evaluations } };
+}
+
+impl Closing {
+    /// What rests on nothing, where every slot is still to be looked at, but those of entries whose bounds are one. `Err` is want of
+    /// memory.
+    pub fn start(alloc: Global) -> Result<Closing, AllocError>
+        ensures kept { IfOk result (λ closing. (supports : List Support) → IsKept supports closing.kept) }
+        ensures base { IfOk result (λ closing. closing.kept.base ≡ 0) }
+        ensures pending { IfOk result (λ closing. (supports : List Support) → AllStand supports → IsPending supports closing.kept.bounds closing.work) }
+    {
+        let kept = Kept::start(alloc)?;
+        let mut work = Worklist::none(alloc)?;
+        mark_unsettled(&mut work, kept.bounds())?;
+        Ok(Closing {
+            kept,
+            work,
+            evaluations: 0,
+        })
+    }
 }
 
 /// The places of the lines that give the bounds of the entries of the table, from a side, in order.

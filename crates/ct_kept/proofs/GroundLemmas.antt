@@ -1,179 +1,258 @@
--- Lines that rest on nothing: each slot of the table has one, by a rule that rests on no line and on no support.
-use Rattle.std.proofs.Common.{◌≡◌, ℕ, ◌<◌, ◌≤◌, ◌^◌, length, min, Bool, ◌==◌, ◌&&◌, true, false, nat_lt, if◌then◌else◌, List, [], Option, Some, None, refl, sym, subst, ap, ap₂, ◌∙◌, eqb-true, ltb-true, le-leb, arith}
-use Rattle.std.specs.Prelude.{is_some}
+-- Lines that rest on nothing: each slot of the table has one, the best that any rule gives that rests on nothing.
+use Rattle.std.proofs.Common.{◌≡◌, ℕ, ◌+◌, ◌<◌, ◌≤◌, ◌^◌, length, map, min, Bool, ◌==◌, ◌&&◌, true, false, if◌then◌else◌, List, [], ◌∷◌, All, Option, Some, None, refl, sym, subst, ap, ap₂, ◌∙◌, le-leb, eq-eqb, eqb-true, arith}
+use Rattle.std.specs.Prelude.{is_some, slice_index_or}
 use Rattle.std.proofs.lemmas.Bool.{and_parts, false≢true}
-use Rattle.std.proofs.lemmas.Option.{cond_some}
-use Rattle.std.proofs.lemmas.List.Elements.{All-nil}
+use Rattle.std.proofs.lemmas.Option.{cond_some, none-some, same_Some}
+use Rattle.std.proofs.lemmas.List.Elements.{All-nil, All-weaker, All-from_recursion}
 use Rattle.ct_words.specs.declared.limits.TheConstants.{MAX_BOUND}
 use Rattle.ct_words.specs.Counting.Binomials.{choose}
 use Rattle.ct_codes.specs.declared.claim.Side.{Side}
 use Rattle.ct_codes.specs.declared.claim.Side.TheVariants.{Lower, Upper}
 use Rattle.ct_codes.specs.declared.entry.Entry.{Entry}
-use Rattle.ct_codes.specs.Entry.{IsEntry, constant_weight}
+use Rattle.ct_codes.specs.Claim.{IsTrueClaim}
+use Rattle.ct_codes.specs.Entry.{IsEntry, unrestricted, constant_weight}
 use Rattle.ct_codes.proofs.EntryLemmas.{entry_limits}
 use Rattle.ct_sum_classes.specs.declared.largest.LargestClass.{LargestClass}
 use Rattle.ct_sum_classes.specs.SumClass.{sum_class, largest_class}
-use Rattle.ct_sum_classes.proofs.LargestLemmas.{largest_class-within, sum_class-few}
+use Rattle.ct_sum_classes.proofs.LargestLemmas.{largest_class-within, largest_class-most, sum_class-few}
 use Rattle.ct_weight_rules.specs.SumClass.{size_of_class}
-use Rattle.ct_weight_rules.proofs.LawfulSumClass.{class_defined}
-use Rattle.ct_rule_parts.specs.Parts.{weight_of, within_limit}
+use Rattle.ct_weight_rules.proofs.LawfulSumClass.{KnownClass, class_given, class_defined}
+use Rattle.ct_rule_parts.specs.Parts.{RuleParts, has_weight, weight_of, is_defined, slots_on, within_limit}
 use Rattle.ct_rule_parts.specs.declared.support.Support.{Support}
+use Rattle.ct_rule_parts.specs.Slot.{Slot, slot_of, IsNoBetter}
+use Rattle.ct_rule_parts.specs.Support.{Stands}
+use Rattle.ct_rule_parts.proofs.SlotLemmas.{IsNoBetter-self}
 use Rattle.ct_rules.specs.declared.rule.Rule.{Rule}
-use Rattle.ct_rules.specs.declared.rule.Rule.TheVariants.{M1, M9}
-use Rattle.ct_rules.specs.Derivation.{LineValue, Follows}
-use Rattle.ct_rules.specs.Rule.{row_of, rule_side, place_of, premises_of, value_of}
-use Rattle.ct_rule_parts.specs.Slot.{Slot}
-use Rattle.ct_kept.specs.Kept.{starts_by_class, ground_rule, IsGround}
-use Rattle.ct_kept.specs.Inside.Ground.{class_of, ground_value, ground_line}
+use Rattle.ct_rules.specs.declared.rule.Rule.TheVariants.{L2, M2, M9, U1, U2, U3, V1, V2, V8}
+use Rattle.ct_rules.specs.Derivation.{LineValue, Follows, claims_at}
+use Rattle.ct_rules.specs.Rule.{row_of, rule_side, place_of, support_at, parts_of, parts_over, premises_at, premises_of, value_of}
+use Rattle.ct_rules.proofs.Applied.{applies_from_value, value-given, limit_of, cited-stands}
+use Rattle.ct_rules.proofs.ClosedBounds.{no_better-trans}
+use Rattle.ct_rules.proofs.RuleLaws.{value_is_sound}
+use Rattle.ct_kept.specs.Kept.{RestsOnNothing, IsGroundBound, IsGround}
+use Rattle.ct_kept.specs.Inside.Ground.{class_of, GivesGround, IsGroundWithin, first_ground_rule, other_ground_rules, IsGroundLine}
 
--- where a sum class gives the bound, its distance is 4, and it has more than one word
-pub record IsStartClass (n d w : ℕ) : Type 0 where
-  pub distance : d ≡ 4
-  pub words : 1 < length (sum_class n w (largest_class n w))
+-- a rule without a support is made of the same over any supports, rests on the same, and gives the same
+parts_same : (supports : List Support) (r : Rule) → place_of r ≡ None → parts_over supports r ≡ parts_of r None
+parts_same supports r none = ap (λ (place : Option ℕ). parts_of r (support_at supports place)) none
 
-pub start_class : (n d w : ℕ) → starts_by_class (constant_weight n d w) ≡ true → IsStartClass n d w
-start_class n d w h =
-    let parts = and_parts (d == 4) (nat_lt 1 (length (sum_class n w (largest_class n w)))) h in
-    record { distance = eqb-true d 4 parts.0; words = ltb-true 1 (length (sum_class n w (largest_class n w))) parts.1 }
+pub rests_same : (supports : List Support) (r : Rule) (e : Entry) → RestsOnNothing r e → premises_at supports r e ≡ []
+rests_same supports r e nothing =
+    ap (λ (p : RuleParts). slots_on (rule_side r) (p.rests_on e)) (parts_same supports r nothing.0)
+    ∙ ap (slots_on (rule_side r)) nothing.1
 
--- its size is what its rule gives
-pub class_size : (n d w : ℕ) → 1 ≤ n → IsStartClass n d w
-    → size_of_class (largest_class n w) (constant_weight n d w) ≡ Some (length (sum_class n w (largest_class n w)))
-class_size n d w some is =
-    let more = is.words in
-    subst (λ (c : ℕ). size_of_class (largest_class n w) (constant_weight n c w) ≡ Some (length (sum_class n w (largest_class n w))))
-    (sym is.distance) (class_defined n w (largest_class n w) (largest_class-within n w some) (omega arith))
+pub value_same : (supports : List Support) (r : Rule) (e : Entry) → RestsOnNothing r e → value_of supports r e [] ≡ value_of [] r e []
+value_same supports r e nothing =
+    ap (λ (p : RuleParts). if is_defined p e then within_limit (rule_side r) (p.number e []) else None)
+    (parts_same supports r nothing.0 ∙ sym (parts_same [] r nothing.0))
 
--- a rule gives a bound of the side of a slot whatever the supports, and rests on nothing
-pub record IsGroundRule (supports : List Support) (s : Slot) (r : Rule) : Type 0 where
-  pub side : s.0 ≡ rule_side r
-  pub no_support : place_of r ≡ None
-  pub premises : IsEntry s.1 → premises_of supports r s.1 ≡ Some []
-  pub value : value_of supports r s.1 [] ≡ value_of [] r s.1 []
+-- the line of a slot follows from any lines over any supports
+nothing_premises : (supports : List Support) (r : Rule) (e : Entry) (v : ℕ) → RestsOnNothing r e → value_of supports r e [] ≡ Some v
+    → premises_of supports r e ≡ Some []
+nothing_premises supports r e v nothing value =
+    ap (λ (b : Bool). if b then Some (premises_at supports r e) else None) (applies_from_value supports r e [] v value)
+    ∙ ap Some (rests_same supports r e nothing)
 
-class_ground_rule : (supports : List Support) (n d w : ℕ) → IsStartClass n d w
-    → IsGroundRule supports (Lower, constant_weight n d w) (M9 (largest_class n w))
-unfolding row_of
-class_ground_rule supports n d w is = record {
-  side = refl;
-  no_support = refl;
-  premises = λ h.
-      let size = class_size n d w (entry_limits (constant_weight n d w) h).length_from is in
-      ap₂ (λ b (o : Option ℕ). if b && is_some o && true then Some [] else None) h size;
-  value = refl;
+pub Follows-ground : (supports : List Support) (before : List LineValue) (line : LineValue) → IsGroundLine (slot_of line.claim) line
+    → Follows supports before line
+Follows-ground supports before line ground =
+    let r = line.rule in
+    let e = line.claim.entry in
+    let none = sym ground.no_lines in
+    let value = value_same supports r e ground.given.nothing ∙ ground.given.value in
+    record {
+      earlier = subst (All (λ p. p < length before)) none (All-nil (λ p. p < length before));
+      side = sym ground.given.side;
+      premises =
+          subst (λ (places : List ℕ). premises_of supports r e ≡ Some (map slot_of (claims_at before places))) none
+          (nothing_premises supports r e line.claim.value ground.given.nothing value);
+      value =
+          subst (λ (places : List ℕ). value_of supports r e (map (λ c. c.value) (claims_at before places)) ≡ Some line.claim.value) none value;
+    }
+
+-- and rests on nothing
+pub IsGround-line : (s : Slot) (line : LineValue) → IsGroundLine s line → IsGround line
+IsGround-line s line ground = record {
+  no_lines = ground.no_lines;
+  no_support = ground.given.nothing.0;
+  best = subst (λ (t : Slot). IsGroundBound t line.claim.value) (sym ground.slot) ground.best;
 }
 
-word_ground_rule : (supports : List Support) (n d w : ℕ) → IsGroundRule supports (Lower, constant_weight n d w) M1
-unfolding row_of
-word_ground_rule supports n d w = record {
-  side = refl;
-  no_support = refl;
-  premises = λ h. ap (λ b. if b && true && true then Some [] else None) h;
-  value = refl;
-}
+-- what a rule gives is within a bound that is no worse than another within which it is, and within itself
+pub ground_within_better : (s : Slot) (u v : ℕ) (r : Rule) → IsNoBetter s.0 u v → IsGroundWithin s u r → IsGroundWithin s v r
+ground_within_better s u v r worse within x value = no_better-trans s.0 x u v (within x value) worse
 
--- so does the rule of the slot
-pub is_ground_rule : (supports : List Support) (side : Side) (n d : ℕ) (w : Option ℕ)
-    → IsGroundRule supports (side, record { n = n; d = d; w = w }) (ground_rule (side, record { n = n; d = d; w = w }))
+pub all_ground_within_better : (s : Slot) (u v : ℕ) (rules : List Rule) → IsNoBetter s.0 u v → All (IsGroundWithin s u) rules
+    → All (IsGroundWithin s v) rules
+all_ground_within_better s u v rules worse each =
+    All-weaker (IsGroundWithin s u) (IsGroundWithin s v) (λ r within. ground_within_better s u v r worse within) rules each
+
+pub own_ground_within : (s : Slot) (r : Rule) (v : ℕ) → value_of [] r s.1 [] ≡ Some v → IsGroundWithin s v r
+own_ground_within s r v given u value =
+    subst (λ x. IsNoBetter s.0 x v) (same_Some v u (sym given ∙ value)) (IsNoBetter-self s.0 v)
+
+-- the first rule of a slot has its side, rests on nothing, and gives a bound at each entry
+pub first_nothing : (side : Side) (n d : ℕ) (w : Option ℕ)
+    → (rule_side (first_ground_rule (side, record { n = n; d = d; w = w })) ≡ side)
+    × RestsOnNothing (first_ground_rule (side, record { n = n; d = d; w = w })) (record { n = n; d = d; w = w })
 unfolding row_of
-is_ground_rule supports Lower n d None = record {
-  side = refl;
-  no_support = refl;
-  premises = λ h. ap (λ b. if b && true && true then Some [] else None) h;
-  value = refl;
-}
-is_ground_rule supports Lower n d (Some w) = go (starts_by_class (constant_weight n d w)) refl
+first_nothing Lower n d None = (refl, (refl, refl))
+first_nothing Lower n d (Some w) = (refl, (refl, refl))
+first_nothing Upper n d None = (refl, (refl, refl))
+first_nothing Upper n d (Some w) = (refl, (refl, refl))
+
+pub first_given : (s : Slot) → IsEntry s.1 → (v : ℕ) × (value_of [] (first_ground_rule s) s.1 [] ≡ Some v)
+unfolding row_of
+first_given s = given s.0 s.1.n s.1.d s.1.w
   where
-    go : (b : Bool) → starts_by_class (constant_weight n d w) ≡ b
-        → IsGroundRule supports (Lower, constant_weight n d w) (if b then M9 (largest_class n w) else M1)
-    go true by = class_ground_rule supports n d w (start_class n d w by)
-    go false none = word_ground_rule supports n d w
-is_ground_rule supports Upper n d None = record {
-  side = refl;
-  no_support = refl;
-  premises = λ h. ap (λ b. if b && true && true then Some [] else None) h;
-  value = refl;
-}
-is_ground_rule supports Upper n d (Some w) = record {
-  side = refl;
-  no_support = refl;
-  premises = λ h. ap (λ b. if b && true && true then Some [] else None) h;
-  value = refl;
-}
-
--- what a sum class gives
-class_value : (n d w : ℕ) → IsEntry (constant_weight n d w) → IsStartClass n d w
-    → value_of [] (M9 (largest_class n w)) (constant_weight n d w) [] ≡ Some (length (sum_class n w (largest_class n w)))
-unfolding row_of
-class_value n d w h is =
-    let limits = entry_limits (constant_weight n d w) h in
-    let few = sum_class-few n w (largest_class n w) limits.length_to in
-    ap₂ (λ b (o : Option ℕ). if b && is_some o && true then within_limit Lower o else None) h (class_size n d w limits.length_from is)
-    ∙ ap (λ b. if b then Some (length (sum_class n w (largest_class n w))) else None)
-    (le-leb (length (sum_class n w (largest_class n w))) MAX_BOUND few)
-
--- what stands first at an entry with weight: the size of the largest sum class, or one word
-pub ground_value-class : (n d w : ℕ) → IsEntry (constant_weight n d w) → starts_by_class (constant_weight n d w) ≡ true
-    → ground_value (Lower, constant_weight n d w) ≡ Some (length (sum_class n w (largest_class n w)))
-ground_value-class n d w h by =
-    ap (λ b. value_of [] (if b then M9 (largest_class n w) else M1) (constant_weight n d w) []) by
-    ∙ class_value n d w h (start_class n d w by)
-
-pub ground_value-word : (n d w : ℕ) → IsEntry (constant_weight n d w) → starts_by_class (constant_weight n d w) ≡ false
-    → ground_value (Lower, constant_weight n d w) ≡ Some 1
-unfolding row_of
-ground_value-word n d w h none =
-    ap (λ b. value_of [] (if b then M9 (largest_class n w) else M1) (constant_weight n d w) []) none
-    ∙ ap (λ b. if b && true && true then Some 1 else None) h
-
--- the rule of a slot gives a bound at each entry of the table
-pub ground_value-given : (s : Slot) → IsEntry s.1 → (v : ℕ) × (ground_value s ≡ Some v)
-unfolding row_of
-ground_value-given s = given s.0 s.1.n s.1.d s.1.w
-  where
-    of_weight : (n d w : ℕ) → IsEntry (constant_weight n d w) → (b : Bool) → starts_by_class (constant_weight n d w) ≡ b
-        → (v : ℕ) × (ground_value (Lower, constant_weight n d w) ≡ Some v)
-    of_weight n d w h true by = (length (sum_class n w (largest_class n w)), ground_value-class n d w h by)
-    of_weight n d w h false none = (1, ground_value-word n d w h none)
-
     given : (side : Side) (n d : ℕ) (w : Option ℕ) → IsEntry (record { n = n; d = d; w = w })
-        → (v : ℕ) × (ground_value (side, record { n = n; d = d; w = w }) ≡ Some v)
+        → (v : ℕ) × (value_of [] (first_ground_rule (side, record { n = n; d = d; w = w })) (record { n = n; d = d; w = w }) [] ≡ Some v)
     given Lower n d None h = (1, ap (λ b. if b && true && true then Some 1 else None) h)
-    given Lower n d (Some w) h = of_weight n d w h (starts_by_class (constant_weight n d w)) refl
+    given Lower n d (Some w) h = (1, ap (λ b. if b && true && true then Some 1 else None) h)
     given Upper n d None h =
         (min (2 ^ n) MAX_BOUND, ap (λ b. if b && true && true then Some (min (2 ^ n) MAX_BOUND) else None) h)
     given Upper n d (Some w) h =
         (min (choose n w) MAX_BOUND, ap (λ b. if b && true && true then Some (min (choose n w) MAX_BOUND) else None) h)
 
--- its line follows from any lines over any supports
-pub Follows-ground : (supports : List Support) (before : List LineValue) (s : Slot) (v : ℕ) → IsEntry s.1
-    → ground_value s ≡ Some v → Follows supports before (ground_line s v)
-Follows-ground supports before s v entry given =
-    let rule = is_ground_rule supports s.0 s.1.n s.1.d s.1.w in
+pub first_gives : (s : Slot) (r : Rule) (v : ℕ) → r ≡ first_ground_rule s → value_of [] r s.1 [] ≡ Some v → GivesGround s r v
+first_gives s r v is value =
+    let known = first_nothing s.0 s.1.n s.1.d s.1.w in
     record {
-      earlier = All-nil (λ p. p < length before);
-      side = rule.side;
-      premises = rule.premises entry;
-      value = rule.value ∙ given;
+      side = ap rule_side is ∙ known.0;
+      nothing = subst (λ (q : Rule). RestsOnNothing q s.1) (sym is) known.1;
+      value = value;
     }
 
--- and rests on nothing
-pub IsGround-ground_line : (s : Slot) (v : ℕ) → IsGround (ground_line s v)
-IsGround-ground_line s v =
-    let rule = is_ground_rule [] s.0 s.1.n s.1.d s.1.w in
-    record { rule = refl; no_lines = refl; no_support = rule.no_support }
+-- what a rule gives from nothing is a true bound, so from 1 to the greatest
+given_range : (r : Rule) (e : Entry) (u : ℕ) → RestsOnNothing r e → value_of [] r e [] ≡ Some u → (1 ≤ u) × (u ≤ MAX_BOUND)
+given_range r e u nothing value =
+    (value_is_sound [] r e [] u (cited-stands [] r (All-nil Stands)) (nothing_premises [] r e u nothing value) (All-nil IsTrueClaim) value).range
 
--- where a class is found, its size is what the rule of the slot gives
-found_at : (n d : ℕ) (w : Option ℕ) (class : LargestClass) → IsEntry (record { n = n; d = d; w = w })
-    → (starts_by_class (record { n = n; d = d; w = w }) ≡ true) × (class_of n (weight_of (record { n = n; d = d; w = w })) ≡ class)
-    → ground_value (Lower, record { n = n; d = d; w = w }) ≡ Some class.size
-found_at n d None class entry (by, is) = absurd (false≢true by)
-found_at n d (Some w) class entry (by, is) =
-    ground_value-class n d w entry by ∙ ap (λ (k : LargestClass). Some k.size) is
+pub greatest_lower : (side : Side) (e : Entry) → side ≡ Lower → IsGroundBound (side, e) MAX_BOUND
+greatest_lower Lower e low r u same nothing value = (given_range r e u nothing value).1
+greatest_lower Upper e low r u same nothing value = absurd cc
 
-pub ground_value-found : (side : Side) (e : Entry) (found : Option LargestClass) (class : LargestClass) → side ≡ Lower → IsEntry e
-    → found ≡ (if starts_by_class e then Some (class_of e.n (weight_of e)) else None) → found ≡ Some class
-    → ground_value (side, e) ≡ Some class.size
-ground_value-found side e found class low entry is some =
-    let both = cond_some (starts_by_class e) (class_of e.n (weight_of e)) class (sym is ∙ some) in
-    subst (λ (s : Side). ground_value (s, e) ≡ Some class.size) (sym low) (found_at e.n e.d e.w class entry both)
+pub least_upper : (side : Side) (e : Entry) → side ≡ Upper → IsGroundBound (side, e) 1
+least_upper Upper e up r u same nothing value = (given_range r e u nothing value).0
+least_upper Lower e up r u same nothing value = absurd cc
+
+-- where the best has reached the limit, no rule gives anything better
+pub all_at_limit : (s : Slot) (best limit : ℕ) (rules : List Rule) → best ≡ limit → IsGroundBound s limit
+    → All (λ (r : Rule). rule_side r ≡ s.0) rules → All (λ (r : Rule). RestsOnNothing r s.1) rules → All (IsGroundWithin s best) rules
+all_at_limit s best limit rules reached is sides nothing k d within u value =
+    subst (λ b. IsNoBetter s.0 u b) (sym reached) (is (slice_index_or rules k d) u (sides k d within) (nothing k d within) value)
+
+-- the others have the side, and rest on nothing
+other_sides : (side : Side) (n d : ℕ) (w : Option ℕ) → All (λ (r : Rule). rule_side r ≡ side) (other_ground_rules (side, record { n = n; d = d; w = w }))
+unfolding row_of
+other_sides Lower n d None = All-from_recursion (λ (r : Rule). rule_side r ≡ Lower) (L2 ∷ []) (refl, tt)
+other_sides Lower n d (Some w) = All-from_recursion (λ (r : Rule). rule_side r ≡ Lower) (M2 ∷ []) (refl, tt)
+other_sides Upper n d None = All-from_recursion (λ (r : Rule). rule_side r ≡ Upper) (U1 ∷ U2 ∷ U3 ∷ []) (refl, (refl, (refl, tt)))
+other_sides Upper n d (Some w) = All-from_recursion (λ (r : Rule). rule_side r ≡ Upper) (V1 ∷ V2 ∷ V8 ∷ []) (refl, (refl, (refl, tt)))
+
+other_nothing : (side : Side) (n d : ℕ) (w : Option ℕ)
+    → All (λ (r : Rule). RestsOnNothing r (record { n = n; d = d; w = w })) (other_ground_rules (side, record { n = n; d = d; w = w }))
+unfolding row_of
+other_nothing Lower n d None =
+    All-from_recursion (λ (r : Rule). RestsOnNothing r (unrestricted n d)) (L2 ∷ []) ((refl, refl), tt)
+other_nothing Lower n d (Some w) =
+    All-from_recursion (λ (r : Rule). RestsOnNothing r (constant_weight n d w)) (M2 ∷ []) ((refl, refl), tt)
+other_nothing Upper n d None =
+    All-from_recursion (λ (r : Rule). RestsOnNothing r (unrestricted n d)) (U1 ∷ U2 ∷ U3 ∷ []) ((refl, refl), ((refl, refl), ((refl, refl), tt)))
+other_nothing Upper n d (Some w) =
+    All-from_recursion (λ (r : Rule). RestsOnNothing r (constant_weight n d w)) (V1 ∷ V2 ∷ V8 ∷ []) ((refl, refl), ((refl, refl), ((refl, refl), tt)))
+
+pub all_other_sides : (side : Side) (e : Entry) (rules : List Rule) → rules ≡ other_ground_rules (side, e)
+    → All (λ (r : Rule). rule_side r ≡ side) rules
+all_other_sides side e rules are = subst (All (λ (r : Rule). rule_side r ≡ side)) (sym are) (other_sides side e.n e.d e.w)
+
+pub all_other_nothing : (side : Side) (e : Entry) (rules : List Rule) → rules ≡ other_ground_rules (side, e)
+    → All (λ (r : Rule). RestsOnNothing r e) rules
+all_other_nothing side e rules are = subst (All (λ (r : Rule). RestsOnNothing r e)) (sym are) (other_nothing side e.n e.d e.w)
+
+-- what the sum classes of an entry give: the size of each, and nothing where the entry has no weight or another distance
+class_size : (k : ℕ) (e : Entry) (u : ℕ) → value_of [] (M9 k) e [] ≡ Some u → size_of_class k e ≡ Some u
+unfolding row_of
+class_size k e u value =
+    let limit = limit_of Lower (size_of_class k e) u (value-given [] (M9 k) e [] u value) in
+    let fits = limit.1.whole refl in
+    let least = limit.1.least in
+    let same : limit.0 ≡ u = omega arith in
+    limit.1.number ∙ ap Some same
+
+no_class : (e : Entry) (k v : ℕ) → (has_weight e && e.d == 4) ≡ false → IsGroundWithin (Lower, e) v (M9 k)
+no_class e k v none u value =
+    let known = (class_given k e u (class_size k e u value)).0 in
+    absurd (false≢true (sym none ∙ ap₂ (λ a b. a && b) known.weight (eq-eqb e.d 4 known.distance)))
+
+largest_within : (e : Entry) (k v : ℕ) → length (sum_class e.n (weight_of e) (largest_class e.n (weight_of e))) ≤ v
+    → IsGroundWithin (Lower, e) v (M9 k)
+largest_within e k v enough u value =
+    let given = class_given k e u (class_size k e u value) in
+    let most = largest_class-most e.n (weight_of e) k given.0.residue in
+    let size = given.1 in
+    omega arith
+
+class_gives : (n w v : ℕ) → IsEntry (constant_weight n 4 w) → v < length (sum_class n w (largest_class n w))
+    → GivesGround (Lower, constant_weight n 4 w) (M9 (largest_class n w)) (length (sum_class n w (largest_class n w)))
+unfolding row_of
+class_gives n w v h more =
+    let limits = entry_limits (constant_weight n 4 w) h in
+    let size = length (sum_class n w (largest_class n w)) in
+    let few = sum_class-few n w (largest_class n w) limits.length_to in
+    let there : size_of_class (largest_class n w) (constant_weight n 4 w) ≡ Some size =
+    class_defined n w (largest_class n w) (largest_class-within n w limits.length_from) (omega arith) in
+    record {
+      side = refl;
+      nothing = (refl, refl);
+      value =
+          ap₂ (λ b (o : Option ℕ). if b && is_some o && true then within_limit Lower o else None) h there
+          ∙ ap (λ b. if b then Some size else None) (le-leb size MAX_BOUND few);
+    }
+
+-- so where no class was found; and where one was, it gives more than a bound, or nothing better
+pub without_class : (e : Entry) (found : Option LargestClass) (k v : ℕ)
+    → found ≡ (if has_weight e && e.d == 4 then Some (class_of e.n (weight_of e)) else None) → found ≡ None → IsGroundWithin (Lower, e) v (M9 k)
+without_class e found k v is none = go (has_weight e && e.d == 4) refl
+  where
+    go : (b : Bool) → (has_weight e && e.d == 4) ≡ b → IsGroundWithin (Lower, e) v (M9 k)
+    go true some =
+        let there = ap (λ b. if b then Some (class_of e.n (weight_of e)) else None) some in
+        absurd (none-some (class_of e.n (weight_of e)) (sym none ∙ is ∙ there))
+    go false fails = no_class e k v fails
+
+-- the class that was found
+pub record IsFoundClass (e : Entry) (class : LargestClass) : Type 0 where
+  pub weight : has_weight e ≡ true
+  pub distance : e.d ≡ 4
+  pub class_is : class_of e.n (weight_of e) ≡ class
+
+pub found_class : (e : Entry) (found : Option LargestClass) (class : LargestClass)
+    → found ≡ (if has_weight e && e.d == 4 then Some (class_of e.n (weight_of e)) else None) → found ≡ Some class → IsFoundClass e class
+found_class e found class is some =
+    let both = cond_some (has_weight e && e.d == 4) (class_of e.n (weight_of e)) class (sym is ∙ some) in
+    let parts = and_parts (has_weight e) (e.d == 4) both.0 in
+    record { weight = parts.0; distance = eqb-true e.d 4 parts.1; class_is = both.1 }
+
+pub found_within : (e : Entry) (class : LargestClass) (k v : ℕ) → IsFoundClass e class → class.size ≤ v → IsGroundWithin (Lower, e) v (M9 k)
+found_within e class k v found enough =
+    largest_within e k v
+    (subst (λ (c : LargestClass). c.size ≤ v → length (sum_class e.n (weight_of e) (largest_class e.n (weight_of e))) ≤ v) found.class_is (λ h. h) enough)
+
+pub found_gives : (e : Entry) (class : LargestClass) (v : ℕ) → IsEntry e → IsFoundClass e class → v < class.size
+    → GivesGround (Lower, e) (M9 class.residue) class.size
+found_gives e class v entry found more = go e.n e.d e.w entry found
+  where
+    go : (n d : ℕ) (w : Option ℕ) → IsEntry (record { n = n; d = d; w = w }) → IsFoundClass (record { n = n; d = d; w = w }) class
+        → GivesGround (Lower, record { n = n; d = d; w = w }) (M9 class.residue) class.size
+    go n d None here found = absurd (false≢true found.weight)
+    go n d (Some w) here found =
+        subst (λ (c : LargestClass). v < c.size → GivesGround (Lower, constant_weight n d w) (M9 c.residue) c.size) found.class_is
+        (subst (λ f. IsEntry (constant_weight n f w) → v < length (sum_class n w (largest_class n w))
+        → GivesGround (Lower, constant_weight n f w) (M9 (largest_class n w)) (length (sum_class n w (largest_class n w))))
+        (sym found.distance) (class_gives n w v) here)
+        more
+
+-- no sum class is at an entry without weight
+pub without_weight : (n d k v : ℕ) → IsGroundWithin (Lower, unrestricted n d) v (M9 k)
+without_weight n d k v = no_class (unrestricted n d) k v refl

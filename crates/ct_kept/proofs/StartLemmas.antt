@@ -7,14 +7,14 @@ use Rattle.ct_rule_parts.specs.declared.support.Support.{Support}
 use Rattle.ct_codes.specs.declared.claim.Side.{Side}
 use Rattle.ct_words.specs.declared.limits.TheConstants.{MAX_N}
 use Rattle.ct_rules.specs.Derivation.{LineValue, Follows}
-use Rattle.ct_rule_parts.specs.Slot.{Slot, slot_of}
+use Rattle.ct_rule_parts.specs.Slot.{Slot, slot_of, claim_at}
 use Rattle.ct_rule_parts.proofs.Places.{slice_get_last}
 use Rattle.ct_kept.specs.Kept.{KeptValue, IsKept, reason_of, with_line_put}
-use Rattle.ct_kept.specs.Inside.Ground.{ground_value, ground_line}
+use Rattle.ct_kept.specs.Inside.Ground.{IsGroundLine}
 use Rattle.ct_kept.specs.Inside.Started.{HasGround, IsGroundBelow, IsStarted}
 use Rattle.ct_slots.specs.Number.{bound_of, side_size, side_number, slot_number, entries_to, entry_in, count_in_length}
 use Rattle.ct_rule_parts.proofs.GetLemmas.{IsOldOrNew, slice_get-append_some, slice_get_push_cases}
-use Rattle.ct_kept.proofs.GroundLemmas.{Follows-ground, IsGround-ground_line}
+use Rattle.ct_kept.proofs.GroundLemmas.{Follows-ground, IsGround-line}
 use Rattle.ct_kept.proofs.PutLemmas.{bound-put, reason-put, bound-put_other, reason-put_other}
 use Rattle.ct_slots.proofs.NumberLemmas.{slot_number-bound, slot_number-injective, slot_number-entry_in, entry_in-IsEntry}
 
@@ -30,10 +30,10 @@ IsStarted-none bounds reasons bound_count reason_count = record {
 }
 
 -- the ground line of the slot that has the number is put
-pub IsStarted-put : (count : ℕ) (kept : KeptValue) (s : Slot) (v : ℕ) → IsEntry s.1 → slot_number s ≡ count
-    → ground_value s ≡ Some v → IsStarted count kept → IsStarted (count + 1) (with_line_put kept (ground_line s v))
-IsStarted-put count kept s v entry number given started = record {
-  bound_count = length-set kept.bounds (slot_number s) v ∙ started.bound_count;
+pub IsStarted-put : (count : ℕ) (kept : KeptValue) (put : LineValue) → IsEntry put.claim.entry → slot_number (slot_of put.claim) ≡ count
+    → IsGroundLine (slot_of put.claim) put → IsStarted count kept → IsStarted (count + 1) (with_line_put kept put)
+IsStarted-put count kept put entry number ground started = record {
+  bound_count = length-set kept.bounds (slot_number s) put.claim.value ∙ started.bound_count;
   reason_count = length-set kept.reasons (slot_number s) (length kept.lines) ∙ started.reason_count;
   no_base = started.no_base;
   grounded = λ t t_entry below. elim (cases_eq (slot_number t) (slot_number s)) [
@@ -43,37 +43,31 @@ IsStarted-put count kept s v entry number given started = record {
   lines = λ i l found. line i l (slice_get_push_cases kept.lines put i l found);
 }
   where
-    put : LineValue
-    put = ground_line s v
+    s : Slot
+    s = slot_of put.claim
 
     new : KeptValue
     new = with_line_put kept put
-
-    bound : bound_of new.bounds s ≡ v
-    bound = bound-put kept put started.bound_count entry
 
     reason : reason_of new s ≡ length kept.lines
     reason = reason-put kept put started.reason_count entry
 
     here : HasGround new s
     here = record {
-      value = given ∙ ap Some (sym bound);
-      line =
-          ap (slice_get new.lines) reason ∙ slice_get_last kept.lines put
-          ∙ ap (λ x. Some (ground_line s x)) (sym bound);
+      line = put;
+      there = ap (slice_get new.lines) reason ∙ slice_get_last kept.lines put;
+      value = sym (bound-put kept put started.bound_count entry);
+      ground = ground;
     }
 
     kept_ground : (t : Slot) → slot_number t ≢ slot_number s → HasGround kept t → HasGround new t
-    kept_ground t other old =
-        let stays = bound-put_other kept put t other in
-        let ground = ground_line t (bound_of kept.bounds t) in
-        record {
-          value = old.value ∙ ap Some (sym stays);
-          line =
-              ap (slice_get new.lines) (reason-put_other kept put t other)
-              ∙ slice_get-append_some kept.lines (put ∷ []) (reason_of kept t) ground old.line
-              ∙ ap (λ x. Some (ground_line t x)) (sym stays);
-        }
+    kept_ground t other old = record {
+      line = old.line;
+      there = ap (slice_get new.lines) (reason-put_other kept put t other)
+          ∙ slice_get-append_some kept.lines (put ∷ []) (reason_of kept t) old.line old.there;
+      value = old.value ∙ sym (bound-put_other kept put t other);
+      ground = old.ground;
+    }
 
     line : (i : ℕ) (l : LineValue) → IsOldOrNew kept.lines put i l → IsGroundBelow new (count + 1) i l
     line i l (inl found) =
@@ -84,31 +78,37 @@ IsStarted-put count kept s v entry number given started = record {
           entry = old.entry;
           below = omega arith;
           reason = old.reason ∙ sym (reason-put_other kept put (slot_of l.claim) other);
-          value = old.value;
-          line = old.line;
+          ground = old.ground;
         }
     line i l (inr (place, same)) = subst (IsGroundBelow new (count + 1) i) same (record {
       entry = entry;
       below = omega (arith, number);
       reason = place ∙ sym reason;
-      value = given;
-      line = refl;
+      ground = ground;
     })
 
 -- that of the entry at a place among those of its length
-pub IsStarted-place : (kept : KeptValue) (side : Side) (n place v : ℕ) → 1 ≤ n → n ≤ MAX_N → place < count_in_length n
-    → ground_value (side, entry_in n place) ≡ Some v
+pub IsStarted-place : (kept : KeptValue) (side : Side) (n place : ℕ) (put : LineValue) → 1 ≤ n → n ≤ MAX_N → place < count_in_length n
+    → IsGroundLine (side, entry_in n place) put
     → IsStarted (side_number side * side_size + entries_to (n - 1) + place) kept
-    → IsStarted (side_number side * side_size + entries_to (n - 1) + (place + 1)) (with_line_put kept (ground_line (side, entry_in n place) v))
-IsStarted-place kept side n place v from to within given started =
+    → IsStarted (side_number side * side_size + entries_to (n - 1) + (place + 1)) (with_line_put kept put)
+IsStarted-place kept side n place put from to within ground started =
+    let s : Slot = (side, entry_in n place) in
     let count = side_number side * side_size + entries_to (n - 1) + place in
     let next : count + 1 ≡ side_number side * side_size + entries_to (n - 1) + (place + 1) = omega arith in
-    subst (λ k. IsStarted k (with_line_put kept (ground_line (side, entry_in n place) v))) next
-    (IsStarted-put count kept (side, entry_in n place) v (entry_in-IsEntry n place from to within) (slot_number-entry_in side n place) given started)
+    subst (λ k. IsStarted k (with_line_put kept put)) next
+    (IsStarted-put count kept put
+    (subst (λ (t : Slot). IsEntry t.1) (sym ground.slot) (entry_in-IsEntry n place from to within))
+    (ap slot_number ground.slot ∙ slot_number-entry_in side n place)
+    (subst (λ (t : Slot). IsGroundLine t put) (sym ground.slot) ground) started)
 
 -- up to another number that is the same
 pub IsStarted-same : (kept : KeptValue) (a b : ℕ) → a ≡ b → IsStarted a kept → IsStarted b kept
 IsStarted-same kept a b same started = subst (λ k. IsStarted k kept) same started
+
+-- the claim of a line whose slot and whose bound are known
+claim_of : (l : LineValue) (s : Slot) (v : ℕ) → slot_of l.claim ≡ s → l.claim.value ≡ v → l.claim ≡ claim_at s v
+claim_of l s v slot value = λ i. record { side = (slot i).0; entry = (slot i).1; value = value i }
 
 -- a table that is started up to the last number is kept well, whatever the supports
 pub IsKept-started : (kept : KeptValue) → IsStarted (2 * side_size) kept → (supports : List Support)
@@ -118,22 +118,22 @@ IsKept-started kept started supports = record {
   reason_count = started.reason_count;
   base_lines = (let h = started.no_base in omega arith);
   derivation = λ i l found. follows i l (started.lines i l found);
-  reasoned = λ s entry. ap (option_map (λ l. l.claim)) (ground s entry).line;
+  reasoned = λ s entry.
+      let own = ground s entry in
+      ap (option_map (λ l. l.claim)) own.there ∙ ap Some (claim_of own.line s (bound_of kept.bounds s) own.ground.slot own.value);
   last = λ i l found. let line = started.lines i l found in let h = line.reason in omega arith;
   rise = λ i j l m before first second same.
       absurd (apart i j l m before (started.lines i l first).reason (started.lines j m second).reason same);
   grounded = λ s entry.
-      let v = bound_of kept.bounds s in
-      (reason_of kept s, ground_line s v, (ground s entry).line, refl, IsGround-ground_line s v);
+      let own = ground s entry in
+      (reason_of kept s, own.line, own.there, own.ground.slot, IsGround-line s own.line own.ground);
 }
   where
     ground : (s : Slot) → IsEntry s.1 → HasGround kept s
     ground s entry = started.grounded s entry (slot_number-bound s entry)
 
     follows : (i : ℕ) (l : LineValue) → IsGroundBelow kept (2 * side_size) i l → Follows supports (take i kept.lines) l
-    follows i l line =
-        subst (Follows supports (take i kept.lines)) (sym line.line)
-        (Follows-ground supports (take i kept.lines) (slot_of l.claim) l.claim.value line.entry line.value)
+    follows i l line = Follows-ground supports (take i kept.lines) l line.ground
 
     apart : (i j : ℕ) (l m : LineValue) → i < j → i ≡ reason_of kept (slot_of l.claim)
         → j ≡ reason_of kept (slot_of m.claim)

@@ -1,16 +1,12 @@
 -- What a table keeps: the lines of a derivation, and for each slot its bound and the place of the line that gives it.
-use Rattle.std.specs.Prelude.{◌≡◌, ℕ, ◌*◌, ◌<◌, ◌≤◌, Bool, ◌==◌, ◌&&◌, nat_lt, if◌then◌else◌, List, [], ◌∷◌, ◌++◌, length, take, slice_get, slice_set, slice_index, All, Some, None, option_map}
+use Rattle.std.specs.Prelude.{◌≡◌, ℕ, ◌*◌, ◌<◌, ◌≤◌, List, [], ◌∷◌, ◌++◌, length, take, slice_get, slice_set, slice_index, All, Some, None, option_map}
 use Rattle.ct_codes.specs.declared.entry.Entry.{Entry}
 use Rattle.ct_codes.specs.Entry.{IsEntry}
-use Rattle.ct_codes.specs.declared.claim.Side.TheVariants.{Lower, Upper}
 use Rattle.ct_rule_parts.specs.declared.support.Support.{Support}
-use Rattle.ct_rule_parts.specs.Parts.{has_weight, weight_of}
-use Rattle.ct_rule_parts.specs.Slot.{IsBetter, Slot, slot_of, claim_at}
+use Rattle.ct_rule_parts.specs.Slot.{IsBetter, IsNoBetter, Slot, slot_of, claim_at}
 use Rattle.ct_rules.specs.declared.rule.Rule.{Rule}
-use Rattle.ct_rules.specs.declared.rule.Rule.TheVariants.{L1, M1, M9, U0, V0}
-use Rattle.ct_sum_classes.specs.SumClass.{sum_class, largest_class}
 use Rattle.ct_rules.specs.Derivation.{LineValue, IsDerivation}
-use Rattle.ct_rules.specs.Rule.{place_of}
+use Rattle.ct_rules.specs.Rule.{rule_side, place_of, parts_of, value_of}
 use Rattle.ct_slots.specs.Number.{slot_number, bound_of, side_size}
 
 -- what a table keeps, as callers see it: bounds and reasons by the numbers of the slots, lines, and how many of these rest on no support
@@ -55,20 +51,19 @@ with_line_put kept line = record {
   base = kept.base;
 }
 
--- whether a sum class gives the bound from which a slot starts: from below, at distance 4, where the largest has more than one word
-abbrev pub starts_by_class : Entry → Bool
-starts_by_class e = has_weight e && e.d == 4 && nat_lt 1 (length (sum_class e.n (weight_of e) (largest_class e.n (weight_of e))))
+-- a rule rests on nothing at an entry: on no support and on no bound
+abbrev pub RestsOnNothing : Rule → Entry → Type 0
+RestsOnNothing r e = (place_of r ≡ None) × ((parts_of r None).rests_on e ≡ [])
 
--- the rule that gives a bound of a slot whatever the supports
-abbrev pub ground_rule : Slot → Rule
-ground_rule (Lower, e) = if starts_by_class e then M9 (largest_class e.n (weight_of e)) else if has_weight e then M1 else L1
-ground_rule (Upper, e) = if has_weight e then V0 else U0
+-- no rule that rests on nothing gives a better bound of the slot
+abbrev pub IsGroundBound : Slot → ℕ → Type 0
+IsGroundBound s v = (r : Rule) (u : ℕ) → rule_side r ≡ s.0 → RestsOnNothing r s.1 → value_of [] r s.1 [] ≡ Some u → IsNoBetter s.0 u v
 
--- a line by that rule of its slot: it rests on no line and on no support
+-- a line that rests on no line and on no support, and whose bound no rule that rests on nothing betters
 pub record IsGround (line : LineValue) : Type 0 where
-  pub rule : line.rule ≡ ground_rule (slot_of line.claim)
   pub no_lines : line.from ≡ []
   pub no_support : place_of line.rule ≡ None
+  pub best : IsGroundBound (slot_of line.claim) line.claim.value
 
 -- two lines at different places bound one slot: the later does it better
 abbrev pub Rise : List LineValue → Type 0
@@ -89,7 +84,7 @@ pub record IsKept (supports : List Support) (kept : KeptValue) : Type 0 where
   -- it is the last line of its slot, and the lines of one slot rise
   pub last : (i : ℕ) (l : LineValue) → slice_get kept.lines i ≡ Some l → i ≤ reason_of kept (slot_of l.claim)
   pub rise : Rise kept.lines
-  -- each slot has a line that rests on nothing
+  -- each slot has a line that rests on nothing, the best such
   pub grounded : (s : Slot) → IsEntry s.1 → (i : ℕ) × (l : LineValue) × (slice_get kept.lines i ≡ Some l) × (slot_of l.claim ≡ s) × IsGround l
 
 -- the base: its bounds and reasons are those of the first lines, which are kept well over no supports

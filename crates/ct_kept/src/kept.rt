@@ -1,24 +1,23 @@
 //! What a table keeps: the lines of a derivation, and for each slot its bound and the line that gives it.
 
-ghost use Rattle.std.specs.Prelude.{◌≡◌, ◌+◌, ◌-◌, ◌<◌, ◌≤◌, ◌*◌, ◌++◌, ◌↔◌, false, if◌then◌else◌, [], ℕ, List, All, OnOk, OnErr, IfOk, length, map, replicate, take, drop, slice_get, Some, None};
+ghost use Rattle.std.specs.Prelude.{◌≡◌, ◌+◌, ◌-◌, ◌<◌, ◌≤◌, ◌*◌, ◌++◌, ◌↔◌, false, [], List, All, OnOk, OnErr, IfOk, length, map, replicate, take, drop, slice_get, Some};
 ghost use Rattle.ct_codes.specs.declared.claim.Side.TheVariants.{Lower};
 ghost use Rattle.ct_codes.specs.Entry.{IsEntry};
 ghost use Rattle.ct_rule_parts.specs.declared.support.Support.{Support};
 ghost use Rattle.ct_slots.specs.Number.{bound_of, entries_to, side_number, side_size};
-ghost use Rattle.ct_kept.specs.Kept.{with_line_put, reason_of, set_back, starts_by_class, ground_rule, IsKept};
-ghost use Rattle.ct_rule_parts.specs.Parts.{weight_of};
+ghost use Rattle.ct_kept.specs.Kept.{with_line_put, reason_of, set_back, IsKept};
 ghost use Rattle.ct_rules.specs.Rule.{place_of};
 ghost use Rattle.ct_rules.specs.Removal.{names_one, marked, lowered_line};
-ghost use Rattle.ct_kept.specs.Inside.Ground.{class_of, AreLargest, ground_value, ground_line};
+ghost use Rattle.ct_kept.specs.Inside.Ground.{AreLargest};
 ghost use Rattle.ct_kept.specs.Inside.Started.{IsStarted};
 
+use crate::ground::ground_line;
 use crate::lowering::{lower_lines, names_place};
 use ct_codes::{Claim, Entry, Side};
-use ct_rules::{Line, Rule, value};
+use ct_rules::Line;
 use ct_slots::{Bounds, SLOTS, count_in_length, entry_in, slot_number};
 use ct_sum_classes::{LargestClass, largest_sum_classes};
 use ct_words::MAX_N;
-use smallvec::SmallVec;
 use std::alloc::{AllocError, Global};
 use std::marker::Model;
 use std::mem;
@@ -123,80 +122,6 @@ fn no_reasons(alloc: Global, count: usize) -> Result<Vec<usize>, AllocError>
         numbers.push(0)?;
     }
     Ok(numbers)
-}
-
-/// The sum class of an entry with weight, of distance 4, that has the most words, where it has more than one, found among the
-/// largest of the entry's length.
-fn class_from(entry: Entry, classes: &[LargestClass]) -> Option<LargestClass>
-    requires entry { IsEntry entry }
-    requires classes { AreLargest entry.n classes.now }
-    ensures { result ≡ (if starts_by_class entry then Some (class_of entry.n (weight_of entry)) else None) }
-{
-    let w = entry.w?;
-    let class = classes[w as usize];
-    if entry.d == 4 && class.size > 1 {
-        Some(class)
-    } else {
-        None
-    }
-}
-
-/// The rule that gives a bound of the side at each entry, with or without weight, whatever the supports, where no sum class
-/// gives it.
-fn plain_ground_rule(side: Side, entry: Entry) -> Rule
-    requires { side ≡ Lower → starts_by_class entry ≡ false }
-    ensures { result ≡ ground_rule (side, entry) }
-{
-    match (side, entry.w) {
-        (Side::Lower, None) => Rule::L1,
-        (Side::Lower, Some(_)) => Rule::M1,
-        (Side::Upper, None) => Rule::U0,
-        (Side::Upper, Some(_)) => Rule::V0,
-    }
-}
-
-/// The line that gives a bound of the side of an entry of the table, where no sum class gives it, whatever the supports, and
-/// rests on no other line.
-fn plain_ground_line(alloc: Global, side: Side, entry: Entry) -> Line
-    requires entry { IsEntry entry }
-    requires no_class { side ≡ Lower → starts_by_class entry ≡ false }
-    ensures value { ground_value (side, entry) ≡ Some result.claim.value }
-    ensures line { result ≡ ground_line (side, entry) result.claim.value }
-{
-    let rule = plain_ground_rule(side, entry);
-    let Some(value) = value(&[], rule, entry, &[]) else {
-        unreachable!()
-    };
-    Line {
-        claim: Claim { side, entry, value },
-        rule,
-        from: SmallVec::new(alloc),
-    }
-}
-
-/// The line that gives a bound of the side of an entry of the table whatever the supports, and rests on no other line. The
-/// largest sum classes are those of the entry's length.
-fn ground_line(alloc: Global, side: Side, entry: Entry, classes: &[LargestClass]) -> Line
-    requires entry { IsEntry entry }
-    requires classes { AreLargest entry.n classes.now }
-    ensures value { ground_value (side, entry) ≡ Some result.claim.value }
-    ensures line { result ≡ ground_line (side, entry) result.claim.value }
-{
-    match side {
-        Side::Upper => plain_ground_line(alloc, side, entry),
-        Side::Lower => match class_from(entry, classes) {
-            None => plain_ground_line(alloc, side, entry),
-            Some(class) => Line {
-                claim: Claim {
-                    side,
-                    entry,
-                    value: class.size,
-                },
-                rule: Rule::M9(class.residue),
-                from: SmallVec::new(alloc),
-            },
-        },
-    }
 }
 
 impl Kept {
@@ -351,6 +276,27 @@ impl Kept {
         lower_lines(&mut self.later, gone);
     }
 
+    /// Puts the ground lines of the side of all entries of the length n, whose largest sum classes bounds from below take. `Err` is
+    /// want of memory.
+    fn put_length(
+        &mut self,
+        alloc: Global,
+        side: Side,
+        n: u32,
+        classes: &[LargestClass],
+    ) -> Result<(), AllocError>
+        requires from { 1 ≤ n }
+        requires to { n ≤ MAX_N }
+        requires classes { side ≡ Lower → AreLargest n classes.now }
+        requires before { IsStarted (side_number side * side_size + entries_to (n - 1)) self.now }
+        ensures { OnOk result (IsStarted (side_number side * side_size + entries_to n) self.new) }
+    {
+        for place in 0..count_in_length(n) {
+            self.put(ground_line(alloc, side, entry_in(n, place), classes))?;
+        }
+        Ok(())
+    }
+
     /// Puts the ground lines of the side of all entries of the length n. `Err` is want of memory.
     fn start_length(&mut self, alloc: Global, side: Side, n: u32) -> Result<(), AllocError>
         requires from { 1 ≤ n }
@@ -358,11 +304,10 @@ impl Kept {
         requires before { IsStarted (side_number side * side_size + entries_to (n - 1)) self.now }
         ensures { OnOk result (IsStarted (side_number side * side_size + entries_to n) self.new) }
     {
-        let classes = largest_sum_classes(n);
-        for place in 0..count_in_length(n) {
-            self.put(ground_line(alloc, side, entry_in(n, place), &classes))?;
+        match side {
+            Side::Lower => self.put_length(alloc, side, n, &largest_sum_classes(n)),
+            Side::Upper => self.put_length(alloc, side, n, &[]),
         }
-        Ok(())
     }
 
     /// Puts the ground lines of the side of all entries of the table. `Err` is want of memory.
@@ -376,7 +321,7 @@ impl Kept {
         Ok(())
     }
 
-    /// A bound for each side of each entry of the table, by a rule that rests on nothing. `Err` is want of memory.
+    /// For each side of each entry of the table the best bound that a rule gives that rests on nothing. `Err` is want of memory.
     pub fn start(alloc: Global) -> Result<Kept, AllocError>
         ensures kept { IfOk result (λ kept. (supports : List Support) → IsKept supports kept) }
         ensures base { IfOk result (λ kept. kept.base ≡ 0) }

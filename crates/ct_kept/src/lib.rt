@@ -1,9 +1,10 @@
 //! What a table keeps: the lines of a derivation, and for each slot its bound and the line that gives it.
 #![tactic(auto)]
 
+mod ground;
 mod kept;
 mod laws;
 mod lowering;
 
 pub use kept::{Base, Kept, Saved, Undo};
-pub use laws::known_ground_rules;
+pub use laws::known_grounds;

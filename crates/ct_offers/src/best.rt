@@ -1,10 +1,10 @@
 //! The best bound of a slot among those that rules offer.
 
-ghost use Rattle.std.specs.Prelude.{◌≡◌, ℕ, List, Some, None, MatchBool};
+ghost use Rattle.std.specs.Prelude.{◌≡◌, ℕ, List, Some, None};
 ghost use Rattle.ct_codes.specs.declared.entry.Entry.{Entry};
 ghost use Rattle.ct_codes.specs.Entry.{IsEntry};
 ghost use Rattle.ct_rule_parts.specs.declared.support.Support.{Support};
-ghost use Rattle.ct_rule_parts.specs.Slot.{Slot, IsBetter, IsNoBetter};
+ghost use Rattle.ct_rule_parts.specs.Slot.{Slot, IsNoBetter};
 ghost use Rattle.ct_rules.specs.Rule.{rule_side};
 ghost use Rattle.ct_slots.specs.Number.{bound_of};
 ghost use Rattle.ct_offers.specs.Offers.{value_over};
@@ -12,17 +12,7 @@ ghost use Rattle.ct_offers.specs.Inside.Pulled.{IsPulled};
 
 use ct_codes::{Entry, Side};
 use ct_rules::Rule;
-use ct_slots::Bounds;
-
-/// Whether the first bound is better than the second: from below greater, from above smaller.
-pub fn is_better(side: Side, bound: u32, other: u32) -> bool
-    ensures { MatchBool result (IsBetter side bound other) (IsNoBetter side bound other) }
-{
-    match side {
-        Side::Lower => bound > other,
-        Side::Upper => bound < other,
-    }
-}
+use ct_slots::{Bounds, is_better};
 
 /// The best bound of a slot that was found so far, and the rule that gives it, none where it is the one that stands.
 #[derive(Clone, Copy)]

@@ -6,6 +6,6 @@ mod marking;
 mod pulling;
 mod side_by_side;
 
-pub use best::{Best, is_better};
+pub use best::Best;
 pub use marking::mark_dependents;
 pub use pulling::{best_offer, given_rule, offer};

@@ -10,13 +10,12 @@ ghost use Rattle.ct_slots.specs.Number.{bound_of};
 ghost use Rattle.ct_slots.specs.Places.{ArePlaces};
 ghost use Rattle.ct_offers.specs.Inside.Marking.{KeepsMarks, IsTestedAt, IsTestedFrom, AreTestedByWeight, IsTestedByDual, AreTestedByDuals, AreTestedAtWeights, AreTestedFromDuals, AreTested};
 
-use crate::best::is_better;
 use crate::pulling::{given_rule, offer};
 use crate::side_by_side::mark_side_by_side;
 use ct_codes::{Entry, Side};
 use ct_rule_parts::dual_behind;
 use ct_rules::{Rule, Support, rested_on_by, rule_side, rules_alone};
-use ct_slots::{Bounds, SupportPlaces, Worklist};
+use ct_slots::{Bounds, SupportPlaces, Worklist, is_better};
 use ct_weight_rules::{of_weight, unweighted, unweighted_and_nearer};
 use std::alloc::AllocError;
 

@@ -1,5 +1,5 @@
 -- The numbers of the slots of a table: one for each side of each entry, in a row.
-use Rattle.std.specs.Prelude.{ℕ, ◌+◌, ◌-◌, ◌*◌, ◌/◌, ◌%◌, nat_lt, if◌then◌else◌, slice_index, List, Option, Some, None}
+use Rattle.std.specs.Prelude.{◌≡◌, ℕ, ◌+◌, ◌-◌, ◌*◌, ◌/◌, ◌%◌, nat_lt, if◌then◌else◌, slice_index, List, Option, Some, None}
 use Rattle.ct_words.specs.declared.limits.TheConstants.{MAX_N}
 use Rattle.ct_codes.specs.declared.entry.Entry.{Entry}
 use Rattle.ct_codes.specs.declared.claim.Side.{Side}
@@ -54,3 +54,7 @@ slot_number s = side_number s.0 * side_size + entry_number s.1
 -- the bound that stands at a slot, in a row of bounds by number
 abbrev pub bound_of : List ℕ → Slot → ℕ
 bound_of bounds s = slice_index bounds (slot_number s)
+
+-- the bounds of an entry from both sides are one
+abbrev pub IsSettled : List ℕ → Entry → Type 0
+IsSettled bounds e = bound_of bounds (Lower, e) ≡ bound_of bounds (Upper, e)

@@ -1,8 +1,8 @@
 -- The slots that are still to be looked at.
-use Rattle.std.specs.Prelude.{◌≡◌, ◌≢◌, ℕ, ◌*◌, Bool, true, List, length, Contains, All, AllPairs, slice_get, Some, sum_by, cond}
+use Rattle.std.specs.Prelude.{◌≡◌, ◌≢◌, ◌⊎◌, ℕ, ◌*◌, Bool, true, List, length, Contains, All, AllPairs, slice_get, Some, sum_by, cond}
 use Rattle.ct_codes.specs.Entry.{IsEntry}
 use Rattle.ct_rule_parts.specs.Slot.{Slot}
-use Rattle.ct_slots.specs.Number.{slot_number, side_size}
+use Rattle.ct_slots.specs.Number.{slot_number, side_size, IsSettled}
 
 -- a worklist as callers see it: for each slot, by its number, whether it is marked, and the slots in the order in which they will be taken
 pub record WorkValue : Type 0 where
@@ -12,6 +12,10 @@ pub record WorkValue : Type 0 where
 -- the slot is marked
 abbrev pub IsMarked : WorkValue → Slot → Type 0
 IsMarked work s = slice_get work.marks (slot_number s) ≡ Some true
+
+-- the slot is marked, or the bounds of its entry are one
+abbrev pub IsMarkedOrSettled : List ℕ → WorkValue → Slot → Type 0
+IsMarkedOrSettled bounds work s = IsMarked work s ⊎ IsSettled bounds s.1
 
 -- no slot is marked
 abbrev pub IsIdle : WorkValue → Type 0

@@ -1,8 +1,9 @@
 //! The bounds of a table, by the numbers of the slots.
 
-ghost use Rattle.std.specs.Prelude.{◌≡◌, ◌==◌, ◌*◌, IfOk, replicate, slice_set};
+ghost use Rattle.std.specs.Prelude.{◌≡◌, ◌==◌, ◌*◌, IfOk, MatchBool, replicate, slice_set};
 ghost use Rattle.ct_codes.specs.declared.claim.Side.TheVariants.{Lower, Upper};
 ghost use Rattle.ct_codes.specs.Entry.{IsEntry};
+ghost use Rattle.ct_rule_parts.specs.Slot.{IsBetter, IsNoBetter};
 ghost use Rattle.ct_slots.specs.Number.{bound_of, side_size, slot_number};
 
 use crate::number::{SLOTS, slot_number};
@@ -36,6 +37,16 @@ fn no_bounds(alloc: Global, count: usize) -> Result<Vec<u32>, AllocError>
         bounds.push(0)?;
     }
     Ok(bounds)
+}
+
+/// Whether the first bound is better than the second: from below greater, from above smaller.
+pub fn is_better(side: Side, bound: u32, other: u32) -> bool
+    ensures { MatchBool result (IsBetter side bound other) (IsNoBetter side bound other) }
+{
+    match side {
+        Side::Lower => bound > other,
+        Side::Upper => bound < other,
+    }
 }
 
 impl Bounds {

@@ -5,9 +5,11 @@
 mod bounds;
 mod number;
 mod places;
+mod unsettled;
 mod worklist;
 
-pub use bounds::Bounds;
+pub use bounds::{Bounds, is_better};
 pub use number::{ENTRIES, SLOTS, count_in_length, entry_in, slot_number, slots_have_numbers};
 pub use places::{SupportPlaces, entry_of, side_of};
+pub use unsettled::mark_unsettled;
 pub use worklist::Worklist;

@@ -1,16 +1,14 @@
 //! The slots that are still to be looked at.
 
-ghost use Rattle.std.specs.Prelude.{◌≡◌, ◌≢◌, ◌+◌, ◌-◌, ◌≤◌, ◌*◌, ◌⊎◌, ◌↔◌, IsTrue, replicate, false, OnOk, OnErr, IfOk, IfSome, IfNone, if◌then◌else◌, slice_index_or, ◌∷◌, ◌++◌, []};
+ghost use Rattle.std.specs.Prelude.{◌≡◌, ◌≢◌, ◌+◌, ◌≤◌, ◌*◌, ◌⊎◌, ◌↔◌, IsTrue, replicate, false, OnOk, OnErr, IfOk, IfSome, IfNone, if◌then◌else◌, slice_index_or, ◌∷◌, ◌++◌, []};
 ghost use Rattle.ct_codes.specs.declared.entry.Entry.{Entry};
 ghost use Rattle.ct_codes.specs.Entry.{IsEntry};
 ghost use Rattle.ct_rule_parts.specs.Slot.{Slot};
-ghost use Rattle.ct_slots.specs.Number.{entries_to, side_size, slot_number};
+ghost use Rattle.ct_slots.specs.Number.{side_size, slot_number};
 ghost use Rattle.ct_slots.specs.Worklist.{IsMarked, IsIdle, waiting};
-ghost use Rattle.ct_slots.specs.Inside.Marked.{AreMarkedBelow};
 
-use crate::number::{SLOTS, count_in_length, entry_in, slot_number};
+use crate::number::{SLOTS, slot_number};
 use ct_codes::{Entry, Side};
-use ct_words::MAX_N;
 use std::alloc::{AllocError, Global};
 use std::collections::VecDeque;
 use std::marker::Model;
@@ -82,41 +80,6 @@ impl Worklist {
         }
         self.queue.push_back((side, entry))?;
         self.marks[number] = true;
-        Ok(())
-    }
-
-    /// Marks the side of all entries of the length n. After an `Err`, which is want of memory, some may be marked.
-    fn mark_length(&mut self, side: Side, n: u32) -> Result<(), AllocError>
-        requires from { 1 ≤ n }
-        requires to { n ≤ MAX_N }
-        requires before { AreMarkedBelow side (entries_to (n - 1)) self.now }
-        ensures marked { OnOk result (AreMarkedBelow side (entries_to n) self.new) }
-        ensures kept { (t : Slot) → IsMarked self.old t → IsMarked self.new t }
-    {
-        for place in 0..count_in_length(n) {
-            self.mark(side, entry_in(n, place))?;
-        }
-        Ok(())
-    }
-
-    /// Marks the side of all entries of the table. After an `Err`, which is want of memory, some may be marked.
-    fn mark_side(&mut self, side: Side) -> Result<(), AllocError>
-        ensures marked { OnOk result ((e : Entry) → IsEntry e → IsMarked self.new (side, e)) }
-        ensures kept { (t : Slot) → IsMarked self.old t → IsMarked self.new t }
-    {
-        for n in 1..MAX_N + 1 {
-            self.mark_length(side, n)?;
-        }
-        Ok(())
-    }
-
-    /// Marks every slot of the table, those of upper bounds first: many of these show at once that a lower bound is the best. After an `Err`, which is want of memory, some may be marked.
-    pub fn mark_all(&mut self) -> Result<(), AllocError>
-        ensures marked { OnOk result ((s : Slot) → IsEntry s.1 → IsMarked self.new s) }
-        ensures kept { (t : Slot) → IsMarked self.old t → IsMarked self.new t }
-    {
-        self.mark_side(Side::Upper)?;
-        self.mark_side(Side::Lower)?;
         Ok(())
     }
 

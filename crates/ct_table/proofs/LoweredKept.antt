@@ -116,8 +116,8 @@ IsKept-lowered gone supports kept good = record {
       slice_get-map (lowered_line gone) kept.lines i ∙ ap (option_map (lowered_line gone)) there,
       slot,
       record {
-        rule = lowered-same gone l.rule ground.no_support ∙ ground.rule;
         no_lines = ground.no_lines;
         no_support = ap place_of (lowered-same gone l.rule ground.no_support) ∙ ground.no_support;
+        best = ground.best;
       },
     )

@@ -18,9 +18,9 @@ use crate::start::mark_given;
 use ct_closure::{Closing, close};
 use ct_codes::{Entry, Side};
 use ct_kept::Kept;
-use ct_offers::{given_rule, is_better, offer};
+use ct_offers::{given_rule, offer};
 use ct_rules::Support;
-use ct_slots::{Bounds, SupportPlaces, entry_of, side_of};
+use ct_slots::{Bounds, SupportPlaces, entry_of, is_better, side_of};
 use std::alloc::{AllocError, Global};
 
 /// Whether the support at a place gives a better bound on a side of an entry of the table than stands there.

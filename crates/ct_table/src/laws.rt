@@ -9,13 +9,13 @@ ghost use Rattle.ct_rules.specs.declared.rule.Rule.TheVariants.{L2, L4, L6, L10,
 ghost use Rattle.ct_rules.specs.Rule.{place_of};
 ghost use Rattle.ct_rules.specs.Derivation.{LineValue};
 ghost use Rattle.ct_rules.specs.Removal.{Places, only, RestsOnPlaces, lowered_line};
-ghost use Rattle.ct_kept.specs.Kept.{KeptValue, with_line_put};
+ghost use Rattle.ct_kept.specs.Kept.{KeptValue, IsGroundBound, with_line_put};
 ghost use Rattle.ct_slots.specs.Number.{bound_of, side_size};
 ghost use Rattle.ct_table.specs.Removal.{KeepsReasons};
 ghost use Rattle.ct_table.specs.Table.{TableValue, IsShownTable, Grew, HasReason, bound_at, reason_at, table_of};
 
 /// In a table the reason of each side of each entry is a line that gives its bound; no line of it comes after that reason;
-/// and one of its lines rests on no line and on no support.
+/// and one of its lines rests on no line and on no support, and gives the best bound of those that rules give so.
 pub fn tables_hold_reasons()
     ensures reasoned { (table : TableValue) (s : Slot) → IsShownTable table → IsEntry s.1 →
         (line : LineValue) × HasReason table s line × (line.claim ≡ claim_at s (bound_at table s)) }
@@ -23,7 +23,7 @@ pub fn tables_hold_reasons()
         slice_get table.lines i ≡ Some line → i ≤ reason_at table (slot_of line.claim) }
     ensures grounded { (table : TableValue) (s : Slot) → IsShownTable table → IsEntry s.1 →
         (i : ℕ) × (line : LineValue) × (slice_get table.lines i ≡ Some line) × (slot_of line.claim ≡ s) ×
-        (line.from ≡ []) × (place_of line.rule ≡ None) }
+        (line.from ≡ []) × (place_of line.rule ≡ None) × IsGroundBound s line.claim.value }
 {}
 
 /// Where a table grew its lines stay at their places, each later one is better than the bound that its slot had, and a reason

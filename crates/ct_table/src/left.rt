@@ -19,9 +19,8 @@ ghost use Rattle.ct_table.specs.Inside.Removing.{IsSetBack, IsMarkedIfLost, IsTa
 use ct_closure::{Closing, close};
 use ct_codes::Claim;
 use ct_kept::{Base, Kept};
-use ct_offers::is_better;
 use ct_rules::{Line, Support, names_one};
-use ct_slots::{SupportPlaces, Worklist};
+use ct_slots::{SupportPlaces, Worklist, is_better};
 use smallvec::SmallVec;
 use std::alloc::{AllocError, Global};
 

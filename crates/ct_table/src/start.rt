@@ -1,7 +1,6 @@
 //! How a table begins: over no supports, where it is the base of every table, and over its first supports.
 
 ghost use Rattle.std.specs.Prelude.{◌≡◌, ◌<◌, ◌^◌, [], List, All, IfOk, OnOk, length, map};
-ghost use Rattle.ct_codes.specs.Entry.{IsEntry};
 ghost use Rattle.ct_rule_parts.specs.Slot.{Slot};
 ghost use Rattle.ct_rule_parts.specs.Support.{AllStand};
 ghost use Rattle.ct_rules.specs.Closed.{IsClosed};
@@ -13,32 +12,15 @@ ghost use Rattle.ct_slots.specs.Worklist.{IsMarked};
 ghost use Rattle.ct_table.specs.Inside.Starting.{IsBegun, IsMarkedIfGiven};
 
 use ct_closure::{Closing, close};
-use ct_kept::Kept;
 use ct_rules::Support;
 use ct_slots::{SupportPlaces, Worklist, entry_of, side_of};
 use std::alloc::{AllocError, Global};
-
-/// What is kept of no supports before anything is closed: every slot is still to be looked at. `Err` is want of memory.
-fn fresh(alloc: Global) -> Result<Closing, AllocError>
-    ensures kept { IfOk result (λ closing. IsKept [] closing.kept) }
-    ensures base { IfOk result (λ closing. closing.kept.base ≡ 0) }
-    ensures marked { IfOk result (λ closing. (s : Slot) → IsEntry s.1 → IsMarked closing.work s) }
-{
-    let kept = Kept::start(alloc)?;
-    let mut work = Worklist::none(alloc)?;
-    work.mark_all()?;
-    Ok(Closing {
-        kept,
-        work,
-        evaluations: 0,
-    })
-}
 
 /// What is kept of no supports, closed under the rules. `Err` is want of memory.
 pub(crate) fn begin(alloc: Global) -> Result<Closing, AllocError>
     ensures { IfOk result (λ closing. IsBegun closing) }
 {
-    let mut closing = fresh(alloc)?;
+    let mut closing = Closing::start(alloc)?;
     let places = SupportPlaces::none(alloc)?;
     close(alloc, &[], &places, &mut closing)?;
     Ok(closing)

@@ -1,20 +1,14 @@
 //! Numbers of slots, and closed tables, by hand.
 
-ghost use Rattle.std.specs.Prelude.{◌<◌, ◌^◌, List, IfOk, length};
-ghost use Rattle.ct_kept.specs.Kept.{IsKept};
+ghost use Rattle.std.specs.Prelude.{◌<◌, ◌^◌, IfOk, length};
 ghost use Rattle.ct_slots.specs.Places.{ArePlaces};
-ghost use Rattle.ct_slots.specs.Worklist.{IsMarked};
-ghost use Rattle.ct_codes.specs.Entry.{IsEntry};
-ghost use Rattle.ct_rule_parts.specs.declared.support.Support.{Support};
-ghost use Rattle.ct_rule_parts.specs.Slot.{Slot};
 ghost use Rattle.ct_rule_parts.specs.Support.{AllStand};
 
 use crate::known::{CODES, NUMBERS, entry_at, support_of};
 use ct_closure::{Closing, close};
 use ct_codes::{Entry, Side};
-use ct_kept::Kept;
 use ct_rules::Support;
-use ct_slots::{ENTRIES, SLOTS, SupportPlaces, Worklist, slot_number};
+use ct_slots::{ENTRIES, SLOTS, SupportPlaces, slot_number};
 use std::alloc::{AllocError, Global};
 use std::test::Fail;
 
@@ -71,28 +65,13 @@ fn places_of(alloc: Global, supports: &[Support]) -> Result<SupportPlaces, Alloc
     Ok(places)
 }
 
-/// What rests on nothing, with every slot still to be looked at.
-fn fresh(alloc: Global) -> Result<Closing, AllocError>
-    ensures kept { IfOk result (λ closing. (supports : List Support) → IsKept supports closing.kept) }
-    ensures marked { IfOk result (λ closing. (s : Slot) → IsEntry s.1 → IsMarked closing.work s) }
-{
-    let kept = Kept::start(alloc)?;
-    let mut work = Worklist::none(alloc)?;
-    work.mark_all()?;
-    Ok(Closing {
-        kept,
-        work,
-        evaluations: 0,
-    })
-}
-
 /// The bounds closed over the supports.
 fn closed(alloc: Global, supports: &[Support]) -> Result<Closing, AllocError>
     requires few { length supports.now < 2 ^ 32 }
     requires stand { AllStand supports.now }
 {
     let places = places_of(alloc, supports)?;
-    let mut closing = fresh(alloc)?;
+    let mut closing = Closing::start(alloc)?;
     close(alloc, supports, &places, &mut closing)?;
     Ok(closing)
 }

@@ -4,21 +4,22 @@ use Rattle.ct_codes.specs.Entry.{IsEntry}
 use Rattle.ct_rules.specs.Derivation.{LineValue}
 use Rattle.ct_rule_parts.specs.Slot.{Slot, slot_of}
 use Rattle.ct_kept.specs.Kept.{KeptValue, reason_of}
-use Rattle.ct_kept.specs.Inside.Ground.{ground_value, ground_line}
+use Rattle.ct_kept.specs.Inside.Ground.{IsGroundLine}
 use Rattle.ct_slots.specs.Number.{bound_of, side_size, slot_number}
 
--- a slot has its ground line for its reason
+-- a slot has a ground line for its reason
 pub record HasGround (kept : KeptValue) (s : Slot) : Type 0 where
-  pub value : ground_value s ≡ Some (bound_of kept.bounds s)
-  pub line : slice_get kept.lines (reason_of kept s) ≡ Some (ground_line s (bound_of kept.bounds s))
+  pub line : LineValue
+  pub there : slice_get kept.lines (reason_of kept s) ≡ Some line
+  pub value : line.claim.value ≡ bound_of kept.bounds s
+  pub ground : IsGroundLine s line
 
 -- a line is the ground line of a slot with a smaller number, and the slot's reason
 pub record IsGroundBelow (kept : KeptValue) (count i : ℕ) (l : LineValue) : Type 0 where
   pub entry : IsEntry l.claim.entry
   pub below : slot_number (slot_of l.claim) < count
   pub reason : i ≡ reason_of kept (slot_of l.claim)
-  pub value : ground_value (slot_of l.claim) ≡ Some l.claim.value
-  pub line : l ≡ ground_line (slot_of l.claim) l.claim.value
+  pub ground : IsGroundLine (slot_of l.claim) l
 
 -- started up to a number
 pub record IsStarted (count : ℕ) (kept : KeptValue) : Type 0 where

@@ -1,7 +1,9 @@
-use Rattle.std.proofs.Common.{◌≡◌, Option, Some, None, refl, option_map}
+use Rattle.std.proofs.Common.{◌≡◌, Option, Some, None, refl, subst, option_map}
 use Rattle.std.specs.Prelude.{slice_get}
 use Rattle.ct_codes.specs.declared.claim.Claim.{Claim}
+use Rattle.ct_rule_parts.specs.Slot.{Slot}
 use Rattle.ct_rules.specs.Derivation.{LineValue}
+use Rattle.ct_kept.specs.Kept.{IsGroundBound}
 use Rattle.ct_table.specs.Table.{TableValue, bound_at, reason_at}
 use Rattle.ct_table.proofs.laws.tables_hold_reasons.Goals as goal
 
@@ -19,5 +21,12 @@ returns-clause-last c = λ table i line shown there. shown.last i line there
 
 pub returns-clause-grounded : goal.returns-clause-grounded
 returns-clause-grounded c = λ table s shown entry.
-    let at = shown.grounded s entry in
-    (at.0, at.1, at.2, at.3, at.4.no_lines, at.4.no_support)
+    let at = shown.grounded s entry in (
+      at.0,
+      at.1,
+      at.2,
+      at.3,
+      at.4.no_lines,
+      at.4.no_support,
+      subst (λ (t : Slot). IsGroundBound t at.1.claim.value) at.3 at.4.best,
+    )

@@ -5,5 +5,5 @@ close-requires-clause-closing c = record {
   stand = c.requires.stand;
   few = c.requires.few;
   kept = c.in_ok-closing.ensures.kept c.args.supports.now;
-  pending = λ s entry unmarked. absurd (unmarked (c.in_ok-closing.ensures.marked s entry));
+  pending = c.in_ok-closing.ensures.pending c.args.supports.now c.requires.stand;
 }

@@ -1,7 +1,7 @@
 use Rattle.std.proofs.Common.{◌+◌, ◌-◌, ◌*◌}
 use Rattle.ct_slots.specs.Number.{side_size, side_number, entries_to}
 use Rattle.ct_kept.specs.Inside.Started.{IsStarted}
-use Rattle.ct_kept.proofs.kept.Kept.start_length.Given as goal
+use Rattle.ct_kept.proofs.kept.Kept.put_length.Given as goal
 
 -- the slots with smaller numbers have their ground lines
 abbrev pub invariant-loop-place : goal.invariant-loop-place

@@ -1,0 +1,12 @@
+use Rattle.std.proofs.Common.{[], arith}
+use Rattle.std.proofs.lemmas.List.Elements.{All-nil}
+use Rattle.ct_rule_parts.specs.Support.{Stands}
+use Rattle.ct_table.proofs.start.begin.Goals as goal
+
+pub close-requires-clause-closing : goal.close-requires-clause-closing
+close-requires-clause-closing c = record {
+  stand = All-nil Stands;
+  few = omega arith;
+  kept = c.in_ok-closing.ensures.kept [];
+  pending = c.in_ok-closing.ensures.pending [] (All-nil Stands);
+}
