@@ -53,4 +53,7 @@ pub enum Evidence {
         dual: Dual,
         m: u32,
     },
+    /// A dual for an entry with weight that looks at a code from one of its words: it speaks of no even distances alone, and may allow
+    /// something at the indices that two words of a code may have.
+    JohnsonLocal(Dual),
 }
