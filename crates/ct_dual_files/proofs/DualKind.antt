@@ -9,10 +9,10 @@ use Rattle.ct_duals.proofs.Faults.{below-from_none, none-from_below, accepted-fr
 use Rattle.ct_codes.specs.Numbers.{numbers_of}
 use Rattle.ct_codes.specs.declared.entry.Entry.{Entry}
 use Rattle.ct_rule_parts.specs.declared.support.Support.{Support}
-use Rattle.ct_rule_parts.specs.declared.support.Support.TheVariants.{Bound, Odd, Size}
+use Rattle.ct_rule_parts.specs.declared.support.Support.TheVariants.{Bound, Odd, Local, Size}
 use Rattle.ct_rule_parts.specs.Support.{Stands}
 use Rattle.ct_kind.specs.Named.{NamedCode}
-use Rattle.ct_dual_files.specs.DualKind.{with_at_zero, support_by, kind_by, dual_kind, dual_support, odd_kind, odd_support, IsDualChecked}
+use Rattle.ct_dual_files.specs.DualKind.{with_at_zero, support_by, kind_by, dual_kind, dual_support, odd_kind, odd_support, local_kind, local_support, IsDualChecked}
 use Rattle.ct_kind.specs.declared.fault.SubmitFault.TheVariants as fault
 use Rattle.ct_kind.proofs.Stating.{option_map-none, StatesWell, SaysSame}
 
@@ -30,6 +30,10 @@ gives_no_size d (Some reason) e size h = absurd cc
 pub odd_gives_no_size : (d : Dual) (m : ℕ) (o : Option DualFault) (e : Entry) (size : ℕ) → odd_support m o d ≡ Size e size → ⊥
 odd_gives_no_size d m None e size h = absurd cc
 odd_gives_no_size d m (Some reason) e size h = absurd cc
+
+pub local_gives_no_size : (d : Dual) (o : Option DualFault) (e : Entry) (size : ℕ) → local_support o d ≡ Size e size → ⊥
+local_gives_no_size d None e size h = absurd cc
+local_gives_no_size d (Some reason) e size h = absurd cc
 
 -- a dual against which there is no reason is one, whatever the word of its kind and what it gives
 kind_states : (given : AcceptedValue → Support) (known : List NamedCode) (text : List ℕ) (d : Dual) → (IsAccepted (with_at_zero d) → Stands (given (with_at_zero d)))
@@ -53,6 +57,10 @@ pub odd_states : (known : List NamedCode) (text : List ℕ) (d : Dual) (m : ℕ)
     → StatesWell (odd_kind text d m) known (IsDualChecked d)
 odd_states known text d m form own = kind_states (λ accepted. Odd accepted m) known text d (λ accepted. accepted) form own
 
+pub local_states : (known : List NamedCode) (text : List ℕ) (d : Dual) → IsDual d → (local_kind text d).reason known ≡ None
+    → StatesWell (local_kind text d) known (IsDualChecked d)
+local_states known text d form own = kind_states Local known text d (λ accepted. accepted) form own
+
 -- a dual has no reason against it
 pub dual_accepted : (d : Dual) → IsDualChecked d → option_map fault.Dual (dual_fault (numbers_of d.entry) d) ≡ None
 dual_accepted d checked = ap (option_map fault.Dual) (none-from_below (numbers_of d.entry) d checked.0 checked.1)
@@ -63,3 +71,6 @@ dual_same text d left right = record { reason = refl; words = refl; size = refl 
 
 pub odd_same : (text : List ℕ) (d : Dual) (m : ℕ) (left right : List NamedCode) → SaysSame (odd_kind text d m) left right
 odd_same text d m left right = record { reason = refl; words = refl; size = refl }
+
+pub local_same : (text : List ℕ) (d : Dual) (left right : List NamedCode) → SaysSame (local_kind text d) left right
+local_same text d left right = record { reason = refl; words = refl; size = refl }

@@ -8,7 +8,7 @@ use Rattle.ct_duals.specs.declared.dual.Dual.{Dual}
 use Rattle.ct_duals.specs.Dual.{IsDual}
 use Rattle.ct_fields.specs.Inside.Room.{IsBare, IsSimple, room}
 use Rattle.ct_fields.proofs.RoomLemmas.{Holds, holds-put, holds-more, holds-weight, holds-entry}
-use Rattle.ct_dual_files.specs.WrittenDuals.{integer_list, pair_list, plain_table, dual_table, odd_table, johnson_dual_table}
+use Rattle.ct_dual_files.specs.WrittenDuals.{integer_list, pair_list, plain_table, dual_table, odd_table, weighted_table, johnson_dual_table, local_dual_table}
 
 -- whole numbers that are not negative
 integers-simple : (c : List ℤ) → All (λ z. pos 0 ≤ℤ z) c → IsSimple (integer_list c)
@@ -52,10 +52,22 @@ odd_holds d m form =
     (holds-put (codes "m") (integer (pos m)) _ 1 20 _ (omega arith) (omega arith) refl tt (omega arith) (plain_holds (codes "odd") d refl (omega arith) form))
     (omega arith)
 
-pub johnson_dual_holds : (d : Dual) → IsDual d → Holds (johnson_dual_table d) (128 + 22 * length d.c)
-johnson_dual_holds d form =
-    let stated = holds-weight d.entry.w _ _ (holds-entry (codes "jdual") d.entry.n d.entry.d 5 refl (omega arith)) in
+-- a dual with a weight of a kind with a short word
+weighted_holds : (kind : List ℕ) (d : Dual) → IsBare kind → length kind ≤ 6 → IsDual d → Holds (weighted_table kind d) (98 + 22 * length d.c)
+weighted_holds kind d bare short form =
+    let stated = holds-weight d.entry.w _ _ (holds-entry kind d.entry.n d.entry.d 6 bare short) in
     let numbers = integers-room d.c in
     holds-more _ _ _
     (holds-put (codes "c") (integer_list d.c) _ 1 (2 + 22 * length d.c) _ (omega arith) (omega arith) refl (integers-simple d.c form.multipliers) (omega (arith, numbers)) stated)
+    (omega arith)
+
+pub johnson_dual_holds : (d : Dual) → IsDual d → Holds (johnson_dual_table d) (128 + 22 * length d.c)
+johnson_dual_holds d form = holds-more _ _ _ (weighted_holds (codes "jdual") d refl (omega arith) form) (omega arith)
+
+pub local_dual_holds : (d : Dual) → IsDual d → Holds (local_dual_table d) (128 + 22 * length d.c + 48 * length d.y)
+local_dual_holds d form =
+    let pairs = pairs-room d.y in
+    holds-more _ _ _
+    (holds-put (codes "y") (pair_list d.y) _ 1 (2 + 48 * length d.y) _ (omega arith) (omega arith) refl (pairs-simple d.y (λ k p within. (form.allowances k p within).1))
+    (omega (arith, pairs)) (weighted_holds (codes "jlocal") d refl (omega arith) form))
     (omega arith)

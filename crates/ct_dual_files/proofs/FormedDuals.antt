@@ -17,9 +17,10 @@ use Rattle.ct_fields.proofs.EntryAnswers.{plain_entry_of-ok}
 use Rattle.ct_duals.specs.declared.dual.Dual.{Dual}
 use Rattle.ct_duals.specs.Dual.{IsMarkOf, IsDual}
 use Rattle.ct_dual_files.specs.Fields.{even_field, odd_size_field, multipliers_field, allowances_field}
-use Rattle.ct_dual_files.specs.Dual.{dual_after, dual_of, odd_of, weighted_entry_of, johnson_dual_of}
+use Rattle.ct_dual_files.specs.Dual.{dual_after, dual_of, odd_of, weighted_entry_of, johnson_dual_of, local_dual_of}
 use Rattle.ct_dual_files.specs.DualDocument.{dual_fields, johnson_dual_fields, HasEven, HasMultipliers, AreAllowances, HasAllowances, StatesEven, StatesWeightedEntry}
 use Rattle.ct_dual_files.specs.OddDocument.{odd_fields, IsOddSize}
+use Rattle.ct_dual_files.specs.LocalDocument.{local_dual_fields}
 use Rattle.ct_dual_files.proofs.DualFieldLemmas.{IsAllowance, multipliers-stated, allowances-stated, even-stated, odd_size-stated}
 use Rattle.ct_dual_files.proofs.JohnsonDualAnswers.{weighted-ok}
 
@@ -59,10 +60,10 @@ formed_plain document d states (has, some, few, all, small) allows =
     }
 
 -- and so with what states one with a weight
-pub formed_weighted : (document : Data) (d : Dual) → StatesWeightedEntry document d.entry → d.even ≡ false → HasMultipliers d.entry document d.c
-    → d.y ≡ []
+weighted_form : (document : Data) (d : Dual) → StatesWeightedEntry document d.entry → d.even ≡ false → HasMultipliers d.entry document d.c
+    → AreAllowances d.entry d.even d.y
     → IsDual d
-formed_weighted document d states unmarked (has, some, few, all, small) empty =
+weighted_form document d states unmarked (has, some, few, all, small) are =
     let (w, is, at_w) = states.with_weight in
     let n = states.with_length in
     let far = states.with_distance.0 in
@@ -70,7 +71,6 @@ formed_weighted document d states unmarked (has, some, few, all, small) empty =
     let near = far.1 in
     let entry : IsEntry (constant_weight d.entry.n d.entry.d w) =
     entry_from_limits (constant_weight d.entry.n d.entry.d w) n.1 n.2 far.1 far.2 (even, omega arith, at_w.2) in
-    let are = subst (AreAllowances d.entry d.even) (sym empty) (no_allowances d.entry d.even) in
     record {
       entry = subst (λ v. IsEntry (record { n = d.entry.n; d = d.entry.d; w = v })) (sym is) entry;
       even_distance = λ set. absurd (false≢true (sym unmarked ∙ set));
@@ -83,19 +83,39 @@ formed_weighted document d states unmarked (has, some, few, all, small) empty =
       signed = (small, are.2);
     }
 
+-- where it allows nothing
+pub formed_weighted : (document : Data) (d : Dual) → StatesWeightedEntry document d.entry → d.even ≡ false → HasMultipliers d.entry document d.c
+    → d.y ≡ []
+    → IsDual d
+formed_weighted document d states unmarked multipliers empty =
+    weighted_form document d states unmarked multipliers (subst (AreAllowances d.entry d.even) (sym empty) (no_allowances d.entry d.even))
+
+-- and where it states what it allows
+pub formed_local : (document : Data) (d : Dual) → StatesWeightedEntry document d.entry → d.even ≡ false → HasMultipliers d.entry document d.c
+    → HasAllowances d.entry d.even document d.y
+    → IsDual d
+formed_local document d states unmarked multipliers allows =
+    weighted_form document d states unmarked multipliers (are_allowances d.entry d.even document d.y allows)
+
 same_ok : {A : Type 0} (x y : A) → ◌≡◌ {A = Result A FileFault} (Ok x) (Ok y) → x ≡ y
 same_ok x y e = cc
 
--- the fields after the mark state one
-after-formed : (names : List FieldName) (document : Data) (e : Entry) (even : Bool) (d : Dual) → StatesEven document e even
+-- the fields after the mark state one, where an entry with multipliers and allowances does
+after_entry : (names : List FieldName) (document : Data) (e : Entry) (even : Bool) (d : Dual)
+    → ((c : List ℤ) (y : List (ℕ × ℤ)) → HasMultipliers e document c → HasAllowances e even document y
+    → IsDual (record { entry = e; even = even; c = c; y = y }))
     → dual_after e even names document ≡ Ok d → IsDual d
-after-formed names document e even d states h =
+after_entry names document e even d formed h =
     let (c, c-is, h1) = bind-ok (multipliers_field e document) _ d h in
     let (y, y-is, h2) = bind-ok (allowances_field e even document) _ d h1 in
     let stated : Dual = record { entry = e; even = even; c = c; y = y } in
     let (u, u-is, h3) = bind-ok (last_fields names document) (λ _. Ok stated) d h2 in
-    subst IsDual (same_ok stated d h3)
-    (formed_plain document stated states (multipliers-stated e document c c-is) (allowances-stated e even document y y-is))
+    subst IsDual (same_ok stated d h3) (formed c y (multipliers-stated e document c c-is) (allowances-stated e even document y y-is))
+
+after-formed : (names : List FieldName) (document : Data) (e : Entry) (even : Bool) (d : Dual) → StatesEven document e even
+    → dual_after e even names document ≡ Ok d → IsDual d
+after-formed names document e even d states h =
+    after_entry names document e even d (λ c y. formed_plain document (record { entry = e; even = even; c = c; y = y }) states) h
 
 -- so a document of kind dual does
 dual_of-formed : (document : Data) (d : Dual) → dual_of document ≡ Ok d → IsDual d
@@ -129,6 +149,14 @@ johnson_dual_of-formed document d h =
     subst IsDual (same_ok stated d h3)
     (formed_weighted document stated (weighted-ok document e e-is) refl (multipliers-stated e document c c-is) refl)
 
+-- and one of kind jlocal
+local_dual_of-formed : (document : Data) (d : Dual) → local_dual_of document ≡ Ok d → IsDual d
+unfolding local_dual_of
+local_dual_of-formed document d h =
+    let (e, e-is, h1) = bind-ok (weighted_entry_of document) _ d h in
+    after_entry local_dual_fields document e false d
+    (λ c y. formed_local document (record { entry = e; even = false; c = c; y = y }) (weighted-ok document e e-is) refl) h1
+
 -- so what is read has the form
 pub formed_dual : (document : Data) (r : Result Dual FileFault) → Reads (λ dual. dual) r (dual_of document) → IfOk r IsDual
 formed_dual document (Ok d) reads = dual_of-formed document d reads
@@ -145,3 +173,7 @@ sized_odd document (Err fault) reads = tt
 pub formed_johnson_dual : (document : Data) (r : Result Dual FileFault) → Reads (λ dual. dual) r (johnson_dual_of document) → IfOk r IsDual
 formed_johnson_dual document (Ok d) reads = johnson_dual_of-formed document d reads
 formed_johnson_dual document (Err fault) reads = tt
+
+pub formed_local_dual : (document : Data) (r : Result Dual FileFault) → Reads (λ dual. dual) r (local_dual_of document) → IfOk r IsDual
+formed_local_dual document (Ok d) reads = local_dual_of-formed document d reads
+formed_local_dual document (Err fault) reads = tt

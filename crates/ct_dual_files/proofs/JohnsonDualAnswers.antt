@@ -45,7 +45,7 @@ weighted-ok document e read =
       with_weight = (w, refl, number_field-ok name.W 0 n document w w-is);
     })
 
-weighted-from : (document : Data) (e : Entry) → StatesWeightedEntry document e → weighted_entry_of document ≡ Ok e
+pub weighted-from : (document : Data) (e : Entry) → StatesWeightedEntry document e → weighted_entry_of document ≡ Ok e
 unfolding weighted_entry_of
 weighted-from document e states =
     let (w, is, has) = states.with_weight in
@@ -55,7 +55,7 @@ weighted-from document e states =
     ∙ ap (λ (f : Entry). Ok f) (λ i. record { n = e.n; d = e.d; w = sym is i })
 
 -- its fault is its first wrong field
-weighted-err : (document : Data) (fault : FileFault) → weighted_entry_of document ≡ Err fault → (name : FieldName) × (Field name ≡ fault) × IsWeightedEntryFault document name
+pub weighted-err : (document : Data) (fault : FileFault) → weighted_entry_of document ≡ Err fault → (name : FieldName) × (Field name ≡ fault) × IsWeightedEntryFault document name
 unfolding weighted_entry_of
 weighted-err document fault read =
     elim (bind-err (number_field name.N 1 MAX_N document) _ fault read) [
@@ -81,7 +81,7 @@ weighted-err document fault read =
           ]
     ]
 
-weighted-fault : (document : Data) (name : FieldName) → IsWeightedEntryFault document name → weighted_entry_of document ≡ Err (Field name)
+pub weighted-fault : (document : Data) (name : FieldName) → IsWeightedEntryFault document name → weighted_entry_of document ≡ Err (Field name)
 unfolding weighted_entry_of
 weighted-fault document name.N none =
     bind-at_err (number_field name.N 1 MAX_N document) _ (Field name.N)

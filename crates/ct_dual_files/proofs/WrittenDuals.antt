@@ -4,6 +4,7 @@ use Rattle.std.specs.Prelude.{ℤ, pos}
 use Rattle.std.proofs.lemmas.Bool.{false≢true}
 use Rattle.toml.specs.Data.{Data, integer, boolean, table, get, items_depth, members_depth}
 use Rattle.toml.specs.View.{items_of}
+use Rattle.ct_codes.specs.Entry.{constant_weight}
 use Rattle.ct_codes.proofs.EntryLemmas.{entry_limits}
 use Rattle.ct_fields.specs.Field.{field_text}
 use Rattle.ct_fields.specs.LastFields.{last_fields}
@@ -15,13 +16,15 @@ use Rattle.ct_fields.proofs.CitedTables.{Alike}
 use Rattle.ct_fields.proofs.MemberLemmas.{members_depth-put}
 use Rattle.ct_duals.specs.declared.dual.Dual.{Dual}
 use Rattle.ct_duals.specs.Dual.{IsDual}
-use Rattle.ct_dual_files.specs.Dual.{dual_of, odd_of, weighted_entry_of, johnson_dual_of}
-use Rattle.ct_dual_files.specs.WrittenDuals.{integer_list, index_pair, pair_list, plain_table, dual_table, odd_table, johnson_dual_table}
-use Rattle.ct_dual_files.specs.DualDocument.{dual_fields, johnson_dual_fields, HasMultipliers, HasAllowances, StatesEven, StatesDual, StatesJohnsonDual}
+use Rattle.ct_dual_files.specs.Dual.{dual_of, odd_of, weighted_entry_of, johnson_dual_of, local_dual_of}
+use Rattle.ct_dual_files.specs.WrittenDuals.{integer_list, index_pair, pair_list, plain_table, dual_table, odd_table, weighted_table, johnson_dual_table, local_dual_table}
+use Rattle.ct_dual_files.specs.DualDocument.{dual_fields, johnson_dual_fields, HasMultipliers, HasAllowances, StatesEven, StatesDual, StatesWeightedEntry, StatesJohnsonDual}
 use Rattle.ct_dual_files.specs.OddDocument.{odd_fields, IsOddSize, StatesOddDual}
+use Rattle.ct_dual_files.specs.LocalDocument.{local_dual_fields, StatesLocalDual}
 use Rattle.ct_dual_files.proofs.DualAnswers.{dual_answer-from}
 use Rattle.ct_dual_files.proofs.OddAnswers.{odd_answer-from}
 use Rattle.ct_dual_files.proofs.JohnsonDualAnswers.{johnson_dual_answer-from}
+use Rattle.ct_dual_files.proofs.LocalAnswers.{local_dual_answer-from}
 
 -- the kinds name neither `format` nor `cites`
 own_dual : AreOwn dual_fields
@@ -32,6 +35,9 @@ own_odd = record { no_format = refl; no_cites = refl }
 
 own_johnson_dual : AreOwn johnson_dual_fields
 own_johnson_dual = record { no_format = refl; no_cites = refl }
+
+own_local_dual : AreOwn local_dual_fields
+own_local_dual = record { no_format = refl; no_cites = refl }
 
 -- a table with the length, the distance and the mark of a dual without weight states them
 stated_even : (document : Data) (d : Dual) → IsDual d → d.entry.w ≡ None → get (field_text name.N) document ≡ Some (integer (pos d.entry.n))
@@ -79,30 +85,57 @@ states_odd d m form plain size = record {
   last = HasLast-own odd_fields (odd_table d m) own_odd refl;
 }
 
+-- a table with the length, the distance and the weight of a dual with a weight states them
+abbrev weighted : Dual → Option ℕ → Dual
+weighted d w = record { entry = record { n = d.entry.n; d = d.entry.d; w = w }; even = d.even; c = d.c; y = d.y }
+
+stated_weight : (document : Data) (d : Dual) (w : ℕ) → IsDual (weighted d (Some w))
+    → get (field_text name.N) document ≡ Some (integer (pos d.entry.n)) → get (field_text name.D) document ≡ Some (integer (pos d.entry.d)) → get (field_text name.W) document ≡ Some (integer (pos w))
+    → StatesWeightedEntry document (constant_weight d.entry.n d.entry.d w)
+stated_weight document d w form at_n at_d at_w =
+    let limits = entry_limits (weighted d (Some w)).entry form.entry in
+    record {
+      with_length = (at_n, limits.length_from, limits.length_to);
+      with_distance = ((at_d, limits.distance_from, limits.distance_to), limits.weight.0);
+      with_weight = (w, refl, (at_w, omega arith, limits.weight.2));
+    }
+
 -- the table of a dual with a weight that allows nothing states it
 pub states_johnson_dual : (d : Dual) → IsDual d → IsSome d.entry.w → d.y ≡ [] → StatesJohnsonDual (table (johnson_dual_table d)) d
 states_johnson_dual d form some empty = at d.entry.w form some
   where
-    weighted : Option ℕ → Dual
-    weighted w = record { entry = record { n = d.entry.n; d = d.entry.d; w = w }; even = d.even; c = d.c; y = d.y }
-
-    at : (w : Option ℕ) → IsDual (weighted w) → IsSome w → StatesJohnsonDual (table (johnson_dual_table (weighted w))) (weighted w)
+    at : (w : Option ℕ) → IsDual (weighted d w) → IsSome w → StatesJohnsonDual (table (johnson_dual_table (weighted d w))) (weighted d w)
     at None form some = absurd (false≢true some)
     at (Some w) form some =
-        let limits = entry_limits (weighted (Some w)).entry form.entry in
+        let stated = weighted d (Some w) in
         record {
           fields = record {
             of_kind = refl;
-            entry = record {
-              with_length = (refl, limits.length_from, limits.length_to);
-              with_distance = ((refl, limits.distance_from, limits.distance_to), limits.weight.0);
-              with_weight = (w, refl, (refl, omega arith, limits.weight.2));
-            };
+            entry = stated_weight (table (johnson_dual_table stated)) d w form refl refl refl;
             unmarked = form.weighted;
-            multipliers = (refl, form.some, form.few, form.multipliers, form.signed.0);
+            multipliers = stated_multipliers (table (johnson_dual_table stated)) stated form refl;
             none_allowed = empty;
           };
-          last = HasLast-own johnson_dual_fields (johnson_dual_table (weighted (Some w))) own_johnson_dual refl;
+          last = HasLast-own johnson_dual_fields (johnson_dual_table stated) own_johnson_dual refl;
+        }
+
+-- and that with what it allows
+pub states_local_dual : (d : Dual) → IsDual d → IsSome d.entry.w → StatesLocalDual (table (local_dual_table d)) d
+states_local_dual d form some = at d.entry.w form some
+  where
+    at : (w : Option ℕ) → IsDual (weighted d w) → IsSome w → StatesLocalDual (table (local_dual_table (weighted d w))) (weighted d w)
+    at None form some = absurd (false≢true some)
+    at (Some w) form some =
+        let stated = weighted d (Some w) in
+        record {
+          fields = record {
+            of_kind = refl;
+            entry = stated_weight (table (local_dual_table stated)) d w form refl refl refl;
+            unmarked = form.weighted;
+            multipliers = stated_multipliers (table (local_dual_table stated)) stated form refl;
+            allowances = stated_allowances (table (local_dual_table stated)) stated form refl;
+          };
+          last = HasLast-own local_dual_fields (local_dual_table stated) own_local_dual refl;
         }
 
 -- so they read back
@@ -114,6 +147,9 @@ odd_of-odd_table d m form plain size = odd_answer-from (odd_table d m) (Ok (d, m
 
 pub johnson_dual_of-johnson_dual_table : (d : Dual) → IsDual d → IsSome d.entry.w → d.y ≡ [] → johnson_dual_of (table (johnson_dual_table d)) ≡ Ok d
 johnson_dual_of-johnson_dual_table d form some empty = johnson_dual_answer-from (johnson_dual_table d) (Ok d) (states_johnson_dual d form some empty)
+
+pub local_dual_of-local_dual_table : (d : Dual) → IsDual d → IsSome d.entry.w → local_dual_of (table (local_dual_table d)) ≡ Ok d
+local_dual_of-local_dual_table d form some = local_dual_answer-from (local_dual_table d) (Ok d) (states_local_dual d form some)
 
 -- the tables are no deeper than a document may be
 integers_depth : (c : List ℤ) → items_depth (items_of (map (λ z. integer z) c)) ≡ 0
@@ -137,14 +173,22 @@ dual_depth d = plain_depth (codes "dual") d
 pub odd_depth : (d : Dual) (m : ℕ) → members_depth (odd_table d m) ≤ 80
 odd_depth d m = members_depth-put 80 (codes "m") (integer (pos m)) (plain_table (codes "odd") d) (lit≤ tt) (plain_depth (codes "odd") d)
 
-weight_depth : (w : Option ℕ) (n d : ℕ) → members_depth (put_weight w (entry_table (codes "jdual") n d)) ≤ 80
-weight_depth None n d = lit≤ tt
-weight_depth (Some w) n d = lit≤ tt
+weight_depth : (kind : List ℕ) (w : Option ℕ) (n d : ℕ) → members_depth (put_weight w (entry_table kind n d)) ≤ 80
+weight_depth kind None n d = lit≤ tt
+weight_depth kind (Some w) n d = lit≤ tt
+
+weighted_depth : (kind : List ℕ) (d : Dual) → members_depth (weighted_table kind d) ≤ 80
+weighted_depth kind d =
+    members_depth-put 80 (codes "c") (integer_list d.c) (put_weight d.entry.w (entry_table kind d.entry.n d.entry.d))
+    (rw (integers_depth d.c) (lit≤ tt)) (weight_depth kind d.entry.w d.entry.n d.entry.d)
 
 pub johnson_dual_depth : (d : Dual) → members_depth (johnson_dual_table d) ≤ 80
-johnson_dual_depth d =
-    members_depth-put 80 (codes "c") (integer_list d.c) (put_weight d.entry.w (entry_table (codes "jdual") d.entry.n d.entry.d))
-    (rw (integers_depth d.c) (lit≤ tt)) (weight_depth d.entry.w d.entry.n d.entry.d)
+johnson_dual_depth d = weighted_depth (codes "jdual") d
+
+pub local_dual_depth : (d : Dual) → members_depth (local_dual_table d) ≤ 80
+local_dual_depth d =
+    let pairs = pairs_depth d.y in
+    members_depth-put 80 (codes "y") (pair_list d.y) (weighted_table (codes "jlocal") d) (omega arith) (weighted_depth (codes "jlocal") d)
 
 -- the tables say no format
 pub dual-unformatted : (d : Dual) → get (field_text name.Format) (table (dual_table d)) ≡ None
@@ -158,6 +202,14 @@ johnson_dual-unformatted d = at d.entry.w
   where
     at : (w : Option ℕ) → get (field_text name.Format)
         (table (put name.C (integer_list d.c) (put_weight w (entry_table (codes "jdual") d.entry.n d.entry.d)))) ≡ None
+    at None = refl
+    at (Some w) = refl
+
+pub local_dual-unformatted : (d : Dual) → get (field_text name.Format) (table (local_dual_table d)) ≡ None
+local_dual-unformatted d = at d.entry.w
+  where
+    at : (w : Option ℕ) → get (field_text name.Format)
+        (table (put name.Y (pair_list d.y) (put name.C (integer_list d.c) (put_weight w (entry_table (codes "jlocal") d.entry.n d.entry.d))))) ≡ None
     at None = refl
     at (Some w) = refl
 
@@ -187,3 +239,16 @@ pub johnson_dual-alike : (document other : Data) → Alike document other
 unfolding johnson_dual_of weighted_entry_of
 johnson_dual-alike document other alike last =
     rw (alike.fields name.N refl, alike.fields name.D refl, alike.fields name.W refl, alike.fields name.C refl, last) refl
+
+pub local_dual-alike : (document other : Data) → Alike document other
+    → last_fields local_dual_fields other ≡ last_fields local_dual_fields document → local_dual_of other ≡ local_dual_of document
+unfolding local_dual_of weighted_entry_of
+local_dual-alike document other alike last =
+    rw (
+      alike.fields name.N refl,
+      alike.fields name.D refl,
+      alike.fields name.W refl,
+      alike.fields name.C refl,
+      alike.fields name.Y refl,
+      last,
+    ) refl

@@ -53,3 +53,9 @@ johnson_dual_of document = do
   c ← multipliers_field e document
   last_fields (name.N ∷ name.D ∷ name.W ∷ name.C ∷ []) document
   Ok (record { entry = e; even = false; c = c; y = [] })
+
+-- the dual of a document of kind jlocal: n, d, w, c and y, and what stands last
+unfoldable pub local_dual_of : Data → Result Dual FileFault
+local_dual_of document = do
+  e ← weighted_entry_of document
+  dual_after e false (name.N ∷ name.D ∷ name.W ∷ name.C ∷ name.Y ∷ []) document

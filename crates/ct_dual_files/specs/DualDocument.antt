@@ -34,7 +34,8 @@ HasMultipliers e document c =
     (get (field_text name.C) document ≡ Some (integer_list c)) × (1 ≤ length c) × (length c ≤ suc (degree_of e)) × All (λ z. pos 0 ≤ℤ z) c
     × All (λ z. z <ℤ pos (2 ^ 63)) c
 
--- the pairs name indices from d to n, even ones alone where `even` is set, in ascending order, each with a number of at least 0 and below 2^63
+-- the pairs name indices of two words of a code, from d to n, or with a weight from d/2 to the degree, even ones alone where `even` is set, in
+-- ascending order, each with a number of at least 0 and below 2^63
 abbrev pub AreAllowances : Entry → Bool → List (ℕ × ℤ) → Type 0
 AreAllowances e even y =
     AllPairs (λ p q. p.0 < q.0) y × All (λ p. IsTrue (is_in_range e even p.0) × (pos 0 ≤ℤ p.1)) y × All (λ p. p.1 <ℤ pos (2 ^ 63)) y

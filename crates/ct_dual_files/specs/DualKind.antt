@@ -1,4 +1,4 @@
--- Evidence of kind dual, jdual or odd: a dual of Delsarte's linear program, which is judged by its own numbers.
+-- Evidence of kind dual, jdual, jlocal or odd: a dual of Delsarte's linear program, which is judged by its own numbers.
 use Rattle.std.specs.Prelude.{◌≤ℤ◌, ℕ, pos, false, List, [], Option, Some, None, option_map}
 use Rattle.ct_duals.specs.declared.dual.Dual.{Dual}
 use Rattle.ct_duals.specs.declared.fault.DualFault.{DualFault}
@@ -6,7 +6,7 @@ use Rattle.ct_duals.specs.Bound.{AcceptedValue}
 use Rattle.ct_duals.specs.Check.{dual_fault, IsBelow}
 use Rattle.ct_codes.specs.Numbers.{numbers_of, multiplier, combination}
 use Rattle.ct_rule_parts.specs.declared.support.Support.{Support}
-use Rattle.ct_rule_parts.specs.declared.support.Support.TheVariants.{Nothing, Bound, Odd}
+use Rattle.ct_rule_parts.specs.declared.support.Support.TheVariants.{Nothing, Bound, Odd, Local}
 use Rattle.ct_kind.specs.KindParts.{KindParts}
 use Rattle.ct_kind.specs.declared.fault.SubmitFault.TheVariants as fault
 
@@ -51,6 +51,14 @@ odd_support m = support_by (λ accepted. Odd accepted m)
 -- what evidence of kind odd comes to
 abbrev pub odd_kind : List ℕ → Dual → ℕ → KindParts
 odd_kind text d m = kind_by (λ accepted. Odd accepted m) text d
+
+-- what a dual of kind jlocal gives: its local bound
+abbrev pub local_support : Option DualFault → Dual → Support
+local_support = support_by Local
+
+-- what evidence of kind jlocal comes to
+abbrev pub local_kind : List ℕ → Dual → KindParts
+local_kind = kind_by Local
 
 -- c_0 is at least 1, and f(i) is at most what is allowed at each index that two words of a code of the entry may have
 abbrev pub IsDualChecked : Dual → Type 0

@@ -1,6 +1,6 @@
 -- Duals and documents whose reading is known.
 use Rattle.std.specs.Prelude.{ℕ, ℤ, pos, true, false, Bool, [], ◌∷◌, List, codes}
-use Rattle.toml.specs.Data.{Data, boolean, table}
+use Rattle.toml.specs.Data.{Data, integer, boolean, table}
 use Rattle.ct_codes.specs.Entry.{unrestricted, constant_weight}
 use Rattle.ct_fields.specs.Written.{put, entry_table}
 use Rattle.ct_fields.specs.declared.field.FieldName.TheVariants as name
@@ -32,3 +32,8 @@ nine_four = record { entry = unrestricted 9 4; even = true; c = pos 3 ∷ pos 1 
 abbrev pub odd_document : ℕ → Data → List ℤ → Data
 odd_document d m c =
     table (put name.M m (put name.Y (pair_list nine_four.y) (put name.C (integer_list c) (put name.Even (boolean true) (entry_table (codes "odd") 9 d)))))
+
+-- a document of kind jlocal for length 8 and weight 4, with its other fields
+abbrev pub local_document : ℕ → List ℤ → List (ℕ × ℤ) → Data
+local_document d c y =
+    table (put name.Y (pair_list y) (put name.C (integer_list c) (put name.W (integer (pos 4)) (entry_table (codes "jlocal") 8 d))))

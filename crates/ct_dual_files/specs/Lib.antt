@@ -3,6 +3,7 @@ pub mod Dual
 pub mod WrittenDuals
 pub mod DualDocument
 pub mod OddDocument
+pub mod LocalDocument
 pub mod Examples
 pub mod DualKind
 pub mod DualFaultText

@@ -31,7 +31,14 @@ dual_table = plain_table (codes "dual")
 abbrev pub odd_table : Dual → ℕ → Members
 odd_table d m = put name.M (integer (pos m)) (plain_table (codes "odd") d)
 
--- the table of a dual with a weight
+-- the multipliers of a dual with a weight, beside its entry, in the table of this kind
+abbrev pub weighted_table : List ℕ → Dual → Members
+weighted_table kind d = put name.C (integer_list d.c) (put_weight d.entry.w (entry_table kind d.entry.n d.entry.d))
+
+-- the table of kind jdual
 abbrev pub johnson_dual_table : Dual → Members
-johnson_dual_table d =
-    put name.C (integer_list d.c) (put_weight d.entry.w (entry_table (codes "jdual") d.entry.n d.entry.d))
+johnson_dual_table = weighted_table (codes "jdual")
+
+-- that of kind jlocal, with what is allowed
+abbrev pub local_dual_table : Dual → Members
+local_dual_table d = put name.Y (pair_list d.y) (weighted_table (codes "jlocal") d)

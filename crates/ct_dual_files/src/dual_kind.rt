@@ -1,15 +1,16 @@
-//! Evidence of kind dual, jdual or odd: a dual of Delsarte's linear program.
+//! Evidence of kind dual, jdual, jlocal or odd: a dual of Delsarte's linear program.
 
-ghost use Rattle.std.specs.Prelude.{◌≡◌, ◌≢◌, ◌<◌, ◌^◌, Some, None, IfOk, IfErr, OnOk, option_map, false};
+ghost use Rattle.std.specs.Prelude.{◌≡◌, ◌≢◌, ◌<◌, ◌^◌, Some, None, IfOk, IfErr, OnOk, option_map, false, IsSome};
 ghost use Rattle.ct_duals.specs.Dual.{IsDual};
 ghost use Rattle.ct_duals.specs.Check.{dual_fault};
-ghost use Rattle.ct_dual_files.specs.DualKind.{with_at_zero, dual_support, odd_support};
+ghost use Rattle.ct_dual_files.specs.DualKind.{with_at_zero, dual_support, odd_support, local_support};
 ghost use Rattle.ct_codes.specs.Numbers.{numbers_of};
 
 use ct_delsarte::check_dual_of_table;
 use ct_duals::{AcceptedDual, Dual};
 use ct_kind::{Kind, SubmitFault};
-use ct_rule_parts::Support;
+use ct_rule_parts::{LocalDual, Support};
+use std::alloc::Global;
 
 /// What the evidence comes to, whose kind has this word.
 pub fn kind(text: &'static [u8], dual: &Dual) -> Kind
@@ -63,4 +64,19 @@ pub fn check_odd(dual: &Dual, m: u32) -> Result<Support, SubmitFault>
 {
     let dual = accepted(dual)?;
     Ok(Support::Odd { dual, m })
+}
+
+/// What the dual, of an entry with weight, gives to the table, its local bound; or why it is not accepted. It is accepted exactly where it
+/// is by `check`. The bounds of doubly constant codes that it counts with are worked out here, once. Only a copy of its numbers and these
+/// bounds take memory.
+pub fn check_local(alloc: Global, dual: &Dual) -> Result<Support, SubmitFault>
+    requires form { IsDual dual.now }
+    requires weight { IsSome dual.now.entry.w }
+    ensures support { IfOk result (λ support. support ≡ local_support (dual_fault (numbers_of dual.now.entry) dual.now) dual.now) }
+    ensures accepted { OnOk result (dual_fault (numbers_of dual.now.entry) dual.now ≡ None) }
+    ensures fault { IfErr result (λ fault. fault ≢ SubmitFault.Memory
+        → option_map SubmitFault.Dual (dual_fault (numbers_of dual.now.entry) dual.now) ≡ Some fault) }
+{
+    let dual = accepted(dual)?;
+    Ok(Support::Local(LocalDual::new(alloc, dual)?))
 }

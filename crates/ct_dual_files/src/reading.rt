@@ -1,10 +1,10 @@
-//! Documents of kind dual, odd and jdual.
+//! Documents of kind dual, odd, jdual and jlocal.
 ghost use Rattle.std.specs.Prelude.{◌≡◌, IfOk};
 ghost use Rattle.toml.specs.View.{view};
 ghost use Rattle.ct_fields.specs.Reads.{Reads};
 ghost use Rattle.ct_duals.specs.Dual.{IsDual};
 ghost use Rattle.ct_codes.specs.Entry.{IsEntry};
-ghost use Rattle.ct_dual_files.specs.Dual.{dual_after, dual_of, odd_of, johnson_dual_of};
+ghost use Rattle.ct_dual_files.specs.Dual.{dual_after, dual_of, odd_of, johnson_dual_of, local_dual_of};
 ghost use Rattle.ct_dual_files.specs.OddDocument.{IsOddSize};
 
 use crate::entries::{plain_entry_field, weighted_entry_field};
@@ -111,4 +111,27 @@ fn read_johnson_dual(alloc: Global, document: &Value) -> Result<Dual, FileFault>
         c,
         y,
     })
+}
+
+/// The dual that the document states, of kind jlocal; it has the form of one.
+pub fn local_dual_of(alloc: Global, document: &Value) -> Result<Dual, FileFault>
+    ensures reads { Reads (λ dual. dual) result (local_dual_of (view document.now)) }
+    ensures form { IfOk result IsDual }
+{
+    read_local_dual(alloc, document)
+}
+
+#[tactic(auto, unfolding(crate::specs::Dual::local_dual_of))]
+fn read_local_dual(alloc: Global, document: &Value) -> Result<Dual, FileFault>
+    ensures { Reads (λ dual. dual) result (local_dual_of (view document.now)) }
+{
+    let entry = weighted_entry_field(document)?;
+    let names = [
+        FieldName::N,
+        FieldName::D,
+        FieldName::W,
+        FieldName::C,
+        FieldName::Y,
+    ];
+    dual_after(alloc, entry, false, &names, document)
 }

@@ -1,7 +1,7 @@
 //! The tables of duals.
 ghost use Rattle.std.specs.Prelude.{◌≡◌, IfOk};
 ghost use Rattle.toml.specs.View.{view, table_view};
-ghost use Rattle.ct_dual_files.specs.WrittenDuals.{integer_list, index_pair, pair_list, plain_table, dual_table, odd_table, johnson_dual_table};
+ghost use Rattle.ct_dual_files.specs.WrittenDuals.{integer_list, index_pair, pair_list, plain_table, dual_table, odd_table, weighted_table, johnson_dual_table, local_dual_table};
 
 use ct_duals::Dual;
 use ct_fields::{FieldName, entry_table, put, put_weight};
@@ -42,11 +42,28 @@ fn plain_table(alloc: Global, kind: &str, dual: &Dual) -> Result<Table, AllocErr
     Ok(table)
 }
 
-/// The table of a dual with a weight.
+/// The table of a dual with a weight that allows nothing.
 pub fn johnson_dual_table(alloc: Global, dual: &Dual) -> Result<Table, AllocError>
     ensures { IfOk result (λ table. table_view table ≡ johnson_dual_table dual.now) }
 {
-    let mut table = entry_table(alloc, "jdual", dual.entry.n, dual.entry.d)?;
+    weighted_table(alloc, "jdual", dual)
+}
+
+/// The table of a dual with a weight and with what it allows.
+pub fn local_dual_table(alloc: Global, dual: &Dual) -> Result<Table, AllocError>
+    ensures { IfOk result (λ table. table_view table ≡ local_dual_table dual.now) }
+{
+    let mut table = weighted_table(alloc, "jlocal", dual)?;
+    let y = pair_list(alloc, dual.y.as_slice())?;
+    put(alloc, &mut table, FieldName::Y, y)?;
+    Ok(table)
+}
+
+/// The multipliers of a dual with a weight, beside its entry, in the table of the kind.
+fn weighted_table(alloc: Global, kind: &str, dual: &Dual) -> Result<Table, AllocError>
+    ensures { IfOk result (λ table. table_view table ≡ weighted_table kind.now dual.now) }
+{
+    let mut table = entry_table(alloc, kind, dual.entry.n, dual.entry.d)?;
     put_weight(alloc, &mut table, dual.entry.w)?;
     let c = integer_list(alloc, dual.c.as_slice())?;
     put(alloc, &mut table, FieldName::C, c)?;
