@@ -31,7 +31,7 @@ use Rattle.ct_fields.specs.HasCites.{HasRightFormat}
 use Rattle.ct_fields.specs.declared.field.FieldName.TheVariants.{Format}
 use Rattle.ct_fields.proofs.StepLemmas.{bind-at, bind-at_err, bind-cases}
 use Rattle.ct_fields.proofs.CiteLemmas.{format_of-ok, format_of-from, format_of-err, format_of-wrong}
-use Rattle.ct_files.proofs.DualEvidence.{dual_evidences, johnson_dual_evidences, odd_evidences}
+use Rattle.ct_files.proofs.DualEvidence.{dual_evidences, johnson_dual_evidences, odd_evidences, local_dual_evidences}
 
 -- ---- what is said of each kind
 
@@ -57,6 +57,7 @@ fields_by kind.Product = product_answers
 fields_by kind.Dual = dual_evidences
 fields_by kind.JohnsonDual = johnson_dual_evidences
 fields_by kind.Odd = odd_evidences
+fields_by kind.JohnsonLocal = local_dual_evidences
 
 -- and so does each answer to the document
 answer_by : (k : Kind) (ms : Members) → IsOfKind (kind_text k) (table ms) → IsAnswer k (table ms) (evidence_of (table ms))
@@ -88,6 +89,7 @@ fields_of_kind kind.Product document (evidence.Product _ _) states = refl
 fields_of_kind kind.Dual document (evidence.Dual _) states = refl
 fields_of_kind kind.JohnsonDual document (evidence.JohnsonDual _) states = refl
 fields_of_kind kind.Odd document (evidence.Odd _ _) states = refl
+fields_of_kind kind.JohnsonLocal document (evidence.JohnsonLocal _) states = refl
 fields_of_kind k document other never = absurd never
 
 of_its_kind : (k : Kind) (document : Data) (e : Evidence) → IsAnswer k document (Ok e) → k ≡ kind_of e
@@ -132,7 +134,7 @@ other_kind document none k =
 
 -- the kinds in the order in which a document is asked for them
 abbrev kinds : List Kind
-kinds = kind.Words ∷ kind.Cosets ∷ kind.Partition ∷ kind.Build ∷ kind.Product ∷ kind.Dual ∷ kind.JohnsonDual ∷ kind.Odd ∷ []
+kinds = kind.Words ∷ kind.Cosets ∷ kind.Partition ∷ kind.Build ∷ kind.Product ∷ kind.Dual ∷ kind.JohnsonDual ∷ kind.Odd ∷ kind.JohnsonLocal ∷ []
 
 -- the first of these kinds that a document is of
 abbrev kind_among : List Kind → Data → Result Kind FileFault
@@ -165,6 +167,7 @@ none_of_all document none kind.Product = none.1.1.1.1.0
 none_of_all document none kind.Dual = none.1.1.1.1.1.0
 none_of_all document none kind.JohnsonDual = none.1.1.1.1.1.1.0
 none_of_all document none kind.Odd = none.1.1.1.1.1.1.1.0
+none_of_all document none kind.JohnsonLocal = none.1.1.1.1.1.1.1.1.0
 
 -- the document is of one of these kinds or of none
 one_or_none : (ks : List Kind) (document : Data) → ((k : Kind) × IsOfKind (kind_text k) document) ⊎ NoneOf ks document

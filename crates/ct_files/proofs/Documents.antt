@@ -24,6 +24,7 @@ use Rattle.ct_partition_files.specs.ProductDocument.{product_fields}
 use Rattle.ct_build_files.specs.Operation.{operation_of, build_fields}
 use Rattle.ct_dual_files.specs.DualDocument.{dual_fields, johnson_dual_fields}
 use Rattle.ct_dual_files.specs.OddDocument.{odd_fields}
+use Rattle.ct_dual_files.specs.LocalDocument.{local_dual_fields}
 use Rattle.ct_files.specs.Kinds.{kind_of}
 use Rattle.ct_files.specs.Answers.{IsFieldsAnswer}
 use Rattle.ct_files.specs.Evidence.{evidence_of, read_without_limit, read_of}
@@ -43,6 +44,7 @@ fields-last (evidence.Product e pairs) document states = (product_fields, states
 fields-last (evidence.Dual d) document states = (dual_fields, states.last)
 fields-last (evidence.JohnsonDual d) document states = (johnson_dual_fields, states.last)
 fields-last (evidence.Odd d m) document states = (odd_fields, states.last)
+fields-last (evidence.JohnsonLocal d) document states = (local_dual_fields, states.last)
 
 -- so a table that reads as an evidence has right cites
 table-cites : (ms : Members) (e : Evidence) → evidence_of (table ms) ≡ Ok e → HasRightCites (table ms)

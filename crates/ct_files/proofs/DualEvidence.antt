@@ -1,18 +1,19 @@
--- Where each answer comes for a document of kind dual, jdual or odd.
+-- Where each answer comes for a document of kind dual, jdual, odd or jlocal.
 use Rattle.std.proofs.Common.{◌≡◌, codes, Result, Ok, Err, subst}
 use Rattle.std.specs.Prelude.{◌↔◌}
 use Rattle.toml.specs.Data.{table, Members}
 use Rattle.ct_fields.specs.Tables.{IsOfKind}
 use Rattle.ct_fields.specs.declared.fault.FileFault.{FileFault}
 use Rattle.ct_fields.proofs.StepLemmas.{bind-at, bind-at_err, bind-cases}
-use Rattle.ct_dual_files.specs.Dual.{dual_of, johnson_dual_of, odd_of}
+use Rattle.ct_dual_files.specs.Dual.{dual_of, johnson_dual_of, odd_of, local_dual_of}
 use Rattle.ct_dual_files.proofs.DualAnswers.{dual_answers, dual_answer-from}
 use Rattle.ct_dual_files.proofs.JohnsonDualAnswers.{johnson_dual_answers, johnson_dual_answer-from}
 use Rattle.ct_dual_files.proofs.OddAnswers.{odd_answers, odd_answer-from}
+use Rattle.ct_dual_files.proofs.LocalAnswers.{local_dual_answers, local_dual_answer-from}
 use Rattle.ct_evidence.specs.declared.evidence.Evidence.{Evidence}
 use Rattle.ct_evidence.specs.declared.evidence.Evidence.TheVariants as evidence
-use Rattle.ct_files.specs.Kinds.{dual_evidence_of, johnson_dual_evidence_of, odd_evidence_of}
-use Rattle.ct_files.specs.DualAnswer.{IsDualEvidence, IsJohnsonDualEvidence, IsOddEvidence}
+use Rattle.ct_files.specs.Kinds.{dual_evidence_of, johnson_dual_evidence_of, odd_evidence_of, local_dual_evidence_of}
+use Rattle.ct_files.specs.DualAnswer.{IsDualEvidence, IsJohnsonDualEvidence, IsOddEvidence, IsLocalDualEvidence}
 
 -- the answer to a document of kind dual comes where it is said to come
 pub dual_evidence : (ms : Members) → IsOfKind (codes "dual") (table ms) → IsDualEvidence (table ms) (dual_evidence_of (table ms))
@@ -65,3 +66,23 @@ odd_evidence-from ms (Err fault) wrong =
 pub odd_evidences : (ms : Members) → IsOfKind (codes "odd") (table ms) → (answer : Result Evidence FileFault)
     → (odd_evidence_of (table ms) ≡ answer) ↔ IsOddEvidence (table ms) answer
 odd_evidences ms of_kind answer = (λ same. subst (IsOddEvidence (table ms)) same (odd_evidence ms of_kind), odd_evidence-from ms answer)
+
+-- and to a document of kind jlocal
+pub local_dual_evidence : (ms : Members) → IsOfKind (codes "jlocal") (table ms) → IsLocalDualEvidence (table ms) (local_dual_evidence_of (table ms))
+local_dual_evidence ms of_kind =
+    bind-cases (IsLocalDualEvidence (table ms)) (local_dual_of (table ms)) (λ d. Ok (evidence.JohnsonLocal d))
+    (λ d is. (local_dual_answers ms of_kind (Ok d)).0 is)
+    (λ fault is. (local_dual_answers ms of_kind (Err fault)).0 is)
+
+pub local_dual_evidence-from : (ms : Members) (answer : Result Evidence FileFault) → IsLocalDualEvidence (table ms) answer
+    → local_dual_evidence_of (table ms) ≡ answer
+local_dual_evidence-from ms (Ok (evidence.JohnsonLocal d)) states =
+    bind-at (local_dual_of (table ms)) (λ d. Ok (evidence.JohnsonLocal d)) d (local_dual_answer-from ms (Ok d) states)
+local_dual_evidence-from ms (Ok other) never = absurd never
+local_dual_evidence-from ms (Err fault) wrong =
+    bind-at_err (local_dual_of (table ms)) (λ d. Ok (evidence.JohnsonLocal d)) fault (local_dual_answer-from ms (Err fault) wrong)
+
+pub local_dual_evidences : (ms : Members) → IsOfKind (codes "jlocal") (table ms) → (answer : Result Evidence FileFault)
+    → (local_dual_evidence_of (table ms) ≡ answer) ↔ IsLocalDualEvidence (table ms) answer
+local_dual_evidences ms of_kind answer =
+    (λ same. subst (IsLocalDualEvidence (table ms)) same (local_dual_evidence ms of_kind), local_dual_evidence-from ms answer)

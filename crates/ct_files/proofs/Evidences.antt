@@ -13,11 +13,11 @@ use Rattle.ct_build_files.specs.BuildDocument.{NamesOther}
 use Rattle.ct_partition_files.specs.ProductDocument.{IsPairCount}
 use Rattle.ct_partition_files.proofs.CountLemmas.{counts_are_right-from}
 use Rattle.ct_words.specs.declared.limits.TheConstants.{MAX_N}
-use Rattle.ct_dual_files.proofs.FormedDuals.{formed_plain, formed_weighted}
+use Rattle.ct_dual_files.proofs.FormedDuals.{formed_plain, formed_weighted, formed_local}
 use Rattle.ct_fields.specs.Reads.{Reads}
 use Rattle.ct_fields.specs.declared.document.TheConstants.{MAX_DOCUMENT}
 use Rattle.ct_evidence.specs.declared.evidence.Evidence.{Evidence}
-use Rattle.ct_evidence.specs.declared.evidence.Evidence.TheVariants.{Words, Cosets, Partition, Build, Product, Dual, JohnsonDual, Odd}
+use Rattle.ct_evidence.specs.declared.evidence.Evidence.TheVariants.{Words, Cosets, Partition, Build, Product, Dual, JohnsonDual, Odd, JohnsonLocal}
 use Rattle.ct_fields.specs.declared.fault.FileFault.{FileFault}
 use Rattle.ct_files.specs.Kinds.{kind_of}
 use Rattle.ct_files.specs.Answers.{IsFieldsAnswer}
@@ -84,6 +84,10 @@ stated-sound document (Odd d m) states =
     let has = states.fields in
     let marked = has.sized.entry in
     (formed_plain document d marked has.multipliers has.allowances, ap (λ (f : Entry). f.w) marked.entry.plain, has.sized.size.1)
+stated-sound document (JohnsonLocal d) states =
+    let has = states.fields in
+    let (w, is, at_w) = has.entry.with_weight in
+    (formed_local document d has.entry has.unmarked has.multipliers has.allowances, subst IsSome (sym is) refl)
 
 -- evidence that bytes read as is sound, however many they are
 pub read_without_limit-sound : (bytes : List ℕ) (e : Evidence) → read_without_limit bytes ≡ Ok e → IsSound e

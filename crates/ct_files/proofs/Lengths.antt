@@ -21,7 +21,7 @@ use Rattle.ct_word_files.proofs.WordRooms.{words_hold, cosets_hold}
 use Rattle.ct_partition_files.proofs.CountLemmas.{counts_are_right}
 use Rattle.ct_partition_files.proofs.Rooms.{partition_holds, product_holds}
 use Rattle.ct_build_files.proofs.BuildRooms.{build_holds}
-use Rattle.ct_dual_files.proofs.DualRooms.{dual_holds, johnson_dual_holds, odd_holds}
+use Rattle.ct_dual_files.proofs.DualRooms.{dual_holds, johnson_dual_holds, odd_holds, local_dual_holds}
 use Rattle.ct_evidence.specs.declared.evidence.Evidence.{Evidence}
 use Rattle.ct_evidence.specs.declared.evidence.Evidence.TheVariants as evidence
 use Rattle.ct_files.specs.Evidence.{IsSound, read_of}
@@ -40,6 +40,7 @@ evidence_holds (evidence.Product e pairs) sound ids = product_holds e pairs ids
 evidence_holds (evidence.Dual d) (form, plain) ids = dual_holds d form
 evidence_holds (evidence.JohnsonDual d) (form, some, empty) ids = johnson_dual_holds d form
 evidence_holds (evidence.Odd d m) (form, plain, size) ids = odd_holds d m form
+evidence_holds (evidence.JohnsonLocal d) (form, some) ids = local_dual_holds d form
 
 -- so many words of so many digits take so many bytes
 words_within : (n k most : ℕ) → n ≤ MAX_N → k ≤ most → (n + 4) * k ≤ (MAX_N + 4) * most
@@ -97,6 +98,7 @@ most_bytes-room (evidence.Product e pairs) (entry, some, few, one) = omega (arit
 most_bytes-room (evidence.Dual d) (form, plain) = let (few, listed) = dual_few d form in omega (arith, few, listed)
 most_bytes-room (evidence.JohnsonDual d) (form, some, empty) = let (few, listed) = dual_few d form in omega (arith, few)
 most_bytes-room (evidence.Odd d m) (form, plain, size) = let (few, listed) = dual_few d form in omega (arith, few, listed)
+most_bytes-room (evidence.JohnsonLocal d) (form, some) = let (few, listed) = dual_few d form in omega (arith, few, listed)
 
 pub most_bytes-within : (e : Evidence) → IsSound e → most_bytes e ≤ MAX_DOCUMENT
 most_bytes-within e sound = let within = most_bytes-room e sound in omega (arith, within)

@@ -3,14 +3,14 @@ use Rattle.std.proofs.Common.{◌≤◌, suc, length, Option, Some, None, Ok, �
 use Rattle.toml.specs.Data.{table, get, members_depth}
 use Rattle.ct_fields.specs.Document.{table_of}
 use Rattle.ct_evidence.specs.declared.evidence.Evidence.{Evidence}
-use Rattle.ct_evidence.specs.declared.evidence.Evidence.TheVariants.{Words, Cosets, Partition, Build, Product, Dual, JohnsonDual, Odd}
+use Rattle.ct_evidence.specs.declared.evidence.Evidence.TheVariants.{Words, Cosets, Partition, Build, Product, Dual, JohnsonDual, Odd, JohnsonLocal}
 use Rattle.ct_word_files.proofs.WrittenWords.{words_depth, cosets_depth, states_words, states_cosets, words-unformatted, cosets-unformatted}
 use Rattle.ct_words.specs.declared.limits.TheConstants.{MAX_N}
 use Rattle.ct_partition_files.specs.ProductDocument.{IsPairCount}
 use Rattle.ct_partition_files.proofs.CountLemmas.{counts_are_right}
 use Rattle.ct_partition_files.proofs.WrittenPartitions.{states_partition, states_product, partition_depth, product_depth, partition-unformatted, product-unformatted}
 use Rattle.ct_build_files.proofs.WrittenBuild.{states_build, build_depth, build-unformatted}
-use Rattle.ct_dual_files.proofs.WrittenDuals.{states_dual, states_johnson_dual, states_odd, dual_depth, johnson_dual_depth, odd_depth, dual-unformatted, johnson_dual-unformatted, odd-unformatted}
+use Rattle.ct_dual_files.proofs.WrittenDuals.{states_dual, states_johnson_dual, states_odd, states_local_dual, dual_depth, johnson_dual_depth, odd_depth, local_dual_depth, dual-unformatted, johnson_dual-unformatted, odd-unformatted, local_dual-unformatted}
 use Rattle.ct_files.specs.Evidence.{IsSound, evidence_of, read_without_limit}
 use Rattle.ct_files.specs.Inside.Written.{evidence_table, HasIds}
 use Rattle.ct_files.specs.Kinds.{kind_of, kind_text}
@@ -30,6 +30,7 @@ evidence_depth (Build e step part other) = build_depth e step part other
 evidence_depth (Dual d) = dual_depth d
 evidence_depth (JohnsonDual d) = johnson_dual_depth d
 evidence_depth (Odd d m) = odd_depth d m
+evidence_depth (JohnsonLocal d) = local_dual_depth d
 
 -- so many pairs are as many as a product of the weight may have
 pair_count : (w : Option ℕ) (count : ℕ) → 1 ≤ count → count ≤ suc MAX_N → (w ≡ None → count ≡ 1) → IsPairCount w count
@@ -67,6 +68,9 @@ states_itself (JohnsonDual d) (form, some, empty) ids =
 states_itself (Odd d m) (form, plain, size) ids =
     let states = states_odd d m form plain size in
     record { of_kind = states.fields.of_kind; states = states; unformatted = odd-unformatted d m }
+states_itself (JohnsonLocal d) (form, some) ids =
+    let states = states_local_dual d form some in
+    record { of_kind = states.fields.of_kind; states = states; unformatted = local_dual-unformatted d }
 
 -- so it reads as the evidence
 evidence_of-evidence_table : (e : Evidence) → IsSound e → HasIds e → evidence_of (table (evidence_table e)) ≡ Ok e

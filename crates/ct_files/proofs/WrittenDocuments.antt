@@ -35,7 +35,8 @@ use Rattle.ct_build_files.specs.Operation.{operation_of, build_fields}
 use Rattle.ct_build_files.proofs.AlikeBuilds.{build-alike}
 use Rattle.ct_dual_files.specs.DualDocument.{dual_fields, johnson_dual_fields}
 use Rattle.ct_dual_files.specs.OddDocument.{odd_fields}
-use Rattle.ct_dual_files.proofs.WrittenDuals.{dual-alike, johnson_dual-alike, odd-alike}
+use Rattle.ct_dual_files.specs.LocalDocument.{local_dual_fields}
+use Rattle.ct_dual_files.proofs.WrittenDuals.{dual-alike, johnson_dual-alike, odd-alike, local_dual-alike}
 use Rattle.ct_files.specs.Kinds.{kind_of, evidence_by}
 use Rattle.ct_files.specs.Answers.{IsFieldsAnswer}
 use Rattle.ct_files.specs.Evidence.{IsSound, evidence_of}
@@ -83,6 +84,10 @@ reads_cited (evidence.JohnsonDual d) cites ms first states reads right =
 reads_cited (evidence.Odd d m) cites ms first states reads right =
     ap (λ (read : Result (Dual × ℕ) FileFault). read >>= (λ odd. Ok (evidence.Odd odd.0 odd.1)))
     (odd-alike (table ms) (table (put_cites cites ms)) (alike-cited cites ms) (last_same odd_fields cites ms first states.last right))
+    ∙ reads
+reads_cited (evidence.JohnsonLocal d) cites ms first states reads right =
+    ap (λ (read : Result Dual FileFault). read >>= (λ dual. Ok (evidence.JohnsonLocal dual)))
+    (local_dual-alike (table ms) (table (put_cites cites ms)) (alike-cited cites ms) (last_same local_dual_fields cites ms first states.last right))
     ∙ reads
 
 -- so it reads as the evidence with these cites

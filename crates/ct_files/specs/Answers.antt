@@ -12,10 +12,10 @@ use Rattle.ct_word_files.specs.CosetsDocument.{IsCosetsAnswer}
 use Rattle.ct_partition_files.specs.PartitionDocument.{IsPartitionAnswer}
 use Rattle.ct_partition_files.specs.ProductDocument.{IsProductAnswer}
 use Rattle.ct_build_files.specs.BuildAnswer.{IsBuildAnswer}
-use Rattle.ct_files.specs.DualAnswer.{IsDualEvidence, IsJohnsonDualEvidence, IsOddEvidence}
+use Rattle.ct_files.specs.DualAnswer.{IsDualEvidence, IsJohnsonDualEvidence, IsOddEvidence, IsLocalDualEvidence}
 use Rattle.ct_files.specs.Kinds.{kind_text}
 use Rattle.ct_files.specs.declared.kind.Kind.{Kind}
-use Rattle.ct_files.specs.declared.kind.Kind.TheVariants.{Words, Cosets, Partition, Build, Product, Dual, JohnsonDual, Odd}
+use Rattle.ct_files.specs.declared.kind.Kind.TheVariants.{Words, Cosets, Partition, Build, Product, Dual, JohnsonDual, Odd, JohnsonLocal}
 
 -- where each answer comes for a document of the kind whose format is right
 abbrev pub IsFieldsAnswer : Kind → Data → Result Evidence FileFault → Type 0
@@ -27,6 +27,7 @@ IsFieldsAnswer Product = IsProductAnswer
 IsFieldsAnswer Dual = IsDualEvidence
 IsFieldsAnswer JohnsonDual = IsJohnsonDualEvidence
 IsFieldsAnswer Odd = IsOddEvidence
+IsFieldsAnswer JohnsonLocal = IsLocalDualEvidence
 
 -- where each answer comes for a document of the kind: the format is judged before the fields of the kind
 pub data IsAnswer (kind : Kind) (document : Data) (answer : Result Evidence FileFault) : Type 0 where

@@ -1,4 +1,4 @@
--- Where each answer comes for a document of kind dual, jdual or odd, and which documents are accepted as one.
+-- Where each answer comes for a document of kind dual, jdual, odd or jlocal, and which documents are accepted as one.
 use Rattle.std.specs.Prelude.{ℕ, List, Result, Ok, Err}
 use Rattle.toml.specs.Data.{Data}
 use Rattle.ct_duals.specs.declared.dual.Dual.{Dual}
@@ -7,6 +7,7 @@ use Rattle.ct_fields.specs.HasCites.{HasRightFormat}
 use Rattle.ct_fields.specs.declared.fault.FileFault.{FileFault}
 use Rattle.ct_dual_files.specs.DualDocument.{StatesDual, IsDualFault, StatesJohnsonDual, IsJohnsonDualFault}
 use Rattle.ct_dual_files.specs.OddDocument.{StatesOddDual, IsOddFault}
+use Rattle.ct_dual_files.specs.LocalDocument.{StatesLocalDual, IsLocalDualFault}
 use Rattle.ct_evidence.specs.declared.evidence.Evidence.{Evidence}
 use Rattle.ct_evidence.specs.declared.evidence.Evidence.TheVariants as evidence
 
@@ -28,6 +29,12 @@ IsOddEvidence document (Ok (evidence.Odd d m)) = StatesOddDual document d m
 IsOddEvidence document (Ok other) = ⊥
 IsOddEvidence document (Err fault) = IsOddFault document fault
 
+-- where each answer comes for a document of kind jlocal
+abbrev pub IsLocalDualEvidence : Data → Result Evidence FileFault → Type 0
+IsLocalDualEvidence document (Ok (evidence.JohnsonLocal d)) = StatesLocalDual document d
+IsLocalDualEvidence document (Ok other) = ⊥
+IsLocalDualEvidence document (Err fault) = IsLocalDualFault document fault
+
 -- the bytes are a document that states the dual, of kind dual
 pub record AcceptsDual (bytes : List ℕ) (d : Dual) : Type 0 where
   pub document : Data
@@ -48,3 +55,10 @@ pub record AcceptsOddDual (bytes : List ℕ) (d : Dual) (m : ℕ) : Type 0 where
   pub written : IsDocument bytes document
   pub format : HasRightFormat document
   pub states : StatesOddDual document d m
+
+-- and of kind jlocal
+pub record AcceptsLocalDual (bytes : List ℕ) (d : Dual) : Type 0 where
+  pub document : Data
+  pub written : IsDocument bytes document
+  pub format : HasRightFormat document
+  pub states : StatesLocalDual document d

@@ -16,7 +16,7 @@ use Rattle.ct_fields.specs.Document.{read_table}
 use Rattle.ct_files.specs.Kinds.{kind_in, evidence_by}
 use Rattle.ct_fields.specs.declared.document.TheConstants.{MAX_DOCUMENT}
 use Rattle.ct_evidence.specs.declared.evidence.Evidence.{Evidence}
-use Rattle.ct_evidence.specs.declared.evidence.Evidence.TheVariants.{Words, Cosets, Partition, Build, Product, Dual, JohnsonDual, Odd}
+use Rattle.ct_evidence.specs.declared.evidence.Evidence.TheVariants.{Words, Cosets, Partition, Build, Product, Dual, JohnsonDual, Odd, JohnsonLocal}
 use Rattle.ct_fields.specs.declared.fault.FileFault.{FileFault}
 use Rattle.ct_fields.specs.declared.fault.FileFault.TheVariants.{Bytes}
 
@@ -42,8 +42,8 @@ read_of bytes = do
 -- what evidence keeps that is read: an entry of the table, and words of its length, 1 to MAX_WORDS of them; of cosets, whose entry has no
 -- weight, at most MAX_N basis words and 1 to MAX_REPRESENTATIVES representatives; of a partition, a distance between classes from 1 to that of
 -- a class, words of the length of the entry, and no count that is wrong; of a product, 1 to MAX_N + 1 pairs, one alone without weight; of a build, a step that fits the entry, and another part exactly
--- where the step needs one; the form of a dual, whose entry has a weight exactly where its kind is jdual, and which then allows nothing, and with it,
--- where its kind is odd, a number of words that is odd and in its range
+-- where the step needs one; the form of a dual, whose entry has a weight exactly where its kind is jdual or jlocal, and which allows nothing where it
+-- is jdual, and with it, where its kind is odd, a number of words that is odd and in its range
 abbrev pub IsSound : Evidence → Type 0
 IsSound (Words e words) = IsEntry e × All (λ x. x < 2 ^ e.n) words × (1 ≤ length words) × (length words ≤ MAX_WORDS)
 IsSound (Cosets e basis representatives) =
@@ -56,3 +56,4 @@ IsSound (Build e step part other) = FitsStated step e × (is_some other ≡ need
 IsSound (Dual d) = IsDual d × (d.entry.w ≡ None)
 IsSound (JohnsonDual d) = IsDual d × IsSome d.entry.w × (d.y ≡ [])
 IsSound (Odd d m) = IsDual d × (d.entry.w ≡ None) × IsOddSize m
+IsSound (JohnsonLocal d) = IsDual d × IsSome d.entry.w

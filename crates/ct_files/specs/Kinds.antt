@@ -12,9 +12,9 @@ use Rattle.ct_word_files.specs.Cosets.{cosets_evidence_of}
 use Rattle.ct_partition_files.specs.Partition.{partition_evidence_of}
 use Rattle.ct_partition_files.specs.Product.{product_evidence_of}
 use Rattle.ct_build_files.specs.Build.{build_evidence_of}
-use Rattle.ct_dual_files.specs.Dual.{dual_of, johnson_dual_of, odd_of}
+use Rattle.ct_dual_files.specs.Dual.{dual_of, johnson_dual_of, odd_of, local_dual_of}
 use Rattle.ct_files.specs.declared.kind.Kind.{Kind}
-use Rattle.ct_files.specs.declared.kind.Kind.TheVariants.{Words, Cosets, Partition, Build, Product, Dual, JohnsonDual, Odd}
+use Rattle.ct_files.specs.declared.kind.Kind.TheVariants.{Words, Cosets, Partition, Build, Product, Dual, JohnsonDual, Odd, JohnsonLocal}
 
 -- the kind of an evidence
 abbrev pub kind_of : Evidence → Kind
@@ -26,6 +26,7 @@ kind_of (evidence.Product _ _) = Product
 kind_of (evidence.Dual _) = Dual
 kind_of (evidence.JohnsonDual _) = JohnsonDual
 kind_of (evidence.Odd _ _) = Odd
+kind_of (evidence.JohnsonLocal _) = JohnsonLocal
 
 -- the text that a document of the kind has at the key `kind`
 abbrev pub kind_text : Kind → List ℕ
@@ -37,6 +38,7 @@ kind_text Product = codes "product"
 kind_text Dual = codes "dual"
 kind_text JohnsonDual = codes "jdual"
 kind_text Odd = codes "odd"
+kind_text JohnsonLocal = codes "jlocal"
 
 -- the kind that a document names
 abbrev pub kind_in : Data → Result Kind FileFault
@@ -49,6 +51,7 @@ kind_in document =
     else if is_of_kind (codes "dual") document then Ok Dual
     else if is_of_kind (codes "jdual") document then Ok JohnsonDual
     else if is_of_kind (codes "odd") document then Ok Odd
+    else if is_of_kind (codes "jlocal") document then Ok JohnsonLocal
     else Err fault.Kind
 
 -- the evidence of a document of kind dual
@@ -69,6 +72,12 @@ odd_evidence_of document = do
   odd ← odd_of document
   Ok (evidence.Odd odd.0 odd.1)
 
+-- the evidence of a document of kind jlocal
+abbrev pub local_dual_evidence_of : Data → Result Evidence FileFault
+local_dual_evidence_of document = do
+  d ← local_dual_of document
+  Ok (evidence.JohnsonLocal d)
+
 -- the evidence of a document of the kind, or the first fault of its fields
 abbrev pub evidence_by : Kind → Data → Result Evidence FileFault
 evidence_by Words = words_evidence_of
@@ -79,3 +88,4 @@ evidence_by Product = product_evidence_of
 evidence_by Dual = dual_evidence_of
 evidence_by JohnsonDual = johnson_dual_evidence_of
 evidence_by Odd = odd_evidence_of
+evidence_by JohnsonLocal = local_dual_evidence_of

@@ -2,7 +2,7 @@
 use Rattle.std.specs.Prelude.{ℕ, ◌+◌, ◌*◌, length}
 use Rattle.ct_partitions.specs.Partition.{all_words}
 use Rattle.ct_evidence.specs.declared.evidence.Evidence.{Evidence}
-use Rattle.ct_evidence.specs.declared.evidence.Evidence.TheVariants.{Words, Cosets, Partition, Build, Product, Dual, JohnsonDual, Odd}
+use Rattle.ct_evidence.specs.declared.evidence.Evidence.TheVariants.{Words, Cosets, Partition, Build, Product, Dual, JohnsonDual, Odd, JohnsonLocal}
 use Rattle.ct_fields.specs.Written.{cites_bytes}
 use Rattle.ct_files.specs.Document.{DocumentValue}
 
@@ -17,6 +17,7 @@ most_bytes (Product e pairs) = 128 + 76 * length pairs
 most_bytes (Dual d) = 128 + 22 * length d.c + 48 * length d.y
 most_bytes (JohnsonDual d) = 128 + 22 * length d.c
 most_bytes (Odd d m) = 128 + 22 * length d.c + 48 * length d.y
+most_bytes (JohnsonLocal d) = 128 + 22 * length d.c + 48 * length d.y
 
 -- so many for a document: those of its evidence, and what its cites add
 abbrev pub most_document_bytes : DocumentValue → ℕ

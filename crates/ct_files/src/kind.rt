@@ -19,4 +19,6 @@ pub enum Kind {
     JohnsonDual,
     /// A dual for an entry without weight, with an odd number of words that it may exclude.
     Odd,
+    /// A dual for an entry with weight that looks at a code from one of its words.
+    JohnsonLocal,
 }

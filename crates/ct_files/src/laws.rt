@@ -20,7 +20,7 @@ ghost use Rattle.ct_word_files.specs.CosetsDocument.{AcceptsCosets};
 ghost use Rattle.ct_partition_files.specs.PartitionDocument.{AcceptsPartition};
 ghost use Rattle.ct_partition_files.specs.ProductDocument.{AcceptsProduct};
 ghost use Rattle.ct_build_files.specs.BuildDocument.{AcceptsBuild};
-ghost use Rattle.ct_files.specs.DualAnswer.{AcceptsDual, AcceptsJohnsonDual, AcceptsOddDual};
+ghost use Rattle.ct_files.specs.DualAnswer.{AcceptsDual, AcceptsJohnsonDual, AcceptsOddDual, AcceptsLocalDual};
 
 /// Bytes are accepted as these words for this entry exactly where they are at most `MAX_DOCUMENT`, are UTF-8 and write
 /// by the grammar of TOML 1.1 a table of kind `words` that has n, d and, where there is one, w of the entry, each in its
@@ -30,7 +30,7 @@ ghost use Rattle.ct_files.specs.DualAnswer.{AcceptsDual, AcceptsJohnsonDual, Acc
 /// part and, exactly where the step needs another code, that of the other piece. For a partition the table has the distance
 /// between classes and the texts of the words of each class; for a product the ids of each pair. For a dual the table has its mark, its
 /// multipliers and its allowances, of which mark and allowances may be left out; for an odd the same and its number of words, odd
-/// and from 3 to `MAX_ODD`; for a jdual its weight and its multipliers.
+/// and from 3 to `MAX_ODD`; for a jdual its weight and its multipliers, and for a jlocal with these its allowances, which may be left out.
 pub fn accepted_documents()
     ensures words { (bytes : List ℕ) (e : Entry) (words : List ℕ) →
         (read_of bytes ≡ Ok (evidence.Words e words)) ↔ AcceptsWords bytes e words }
@@ -46,6 +46,8 @@ pub fn accepted_documents()
     ensures johnson_dual { (bytes : List ℕ) (d : Dual) →
         (read_of bytes ≡ Ok (evidence.JohnsonDual d)) ↔ AcceptsJohnsonDual bytes d }
     ensures odd { (bytes : List ℕ) (d : Dual) (m : ℕ) → (read_of bytes ≡ Ok (evidence.Odd d m)) ↔ AcceptsOddDual bytes d m }
+    ensures local_dual { (bytes : List ℕ) (d : Dual) →
+        (read_of bytes ≡ Ok (evidence.JohnsonLocal d)) ↔ AcceptsLocalDual bytes d }
 {}
 
 /// Where bytes are refused that are too many, or that write no table.

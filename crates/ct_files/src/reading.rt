@@ -11,7 +11,7 @@ ghost use Rattle.ct_files.specs.Document.{value_of, document_of, document_withou
 use crate::contents::Document;
 use crate::kind::Kind;
 use ct_build_files::build_evidence;
-use ct_dual_files::{dual_of, johnson_dual_of, odd_of};
+use ct_dual_files::{dual_of, johnson_dual_of, local_dual_of, odd_of};
 use ct_evidence::Evidence;
 use ct_fields::{FileFault, MAX_DOCUMENT, cites_of, format_of, is_of_kind, read_table};
 use ct_partition_files::{partition_evidence, product_evidence};
@@ -47,6 +47,9 @@ fn kind_in(document: &Value) -> Result<Kind, FileFault>
     if is_of_kind(document, "odd") {
         return Ok(Kind::Odd);
     }
+    if is_of_kind(document, "jlocal") {
+        return Ok(Kind::JohnsonLocal);
+    }
     Err(FileFault::Kind)
 }
 
@@ -71,6 +74,10 @@ fn evidence_by(alloc: Global, kind: Kind, document: &Value) -> Result<Evidence, 
         Kind::Odd => {
             let (dual, m) = odd_of(alloc, document)?;
             Ok(Evidence::Odd { dual, m })
+        }
+        Kind::JohnsonLocal => {
+            let dual = local_dual_of(alloc, document)?;
+            Ok(Evidence::JohnsonLocal(dual))
         }
     }
 }
@@ -161,6 +168,7 @@ pub fn read_document(alloc: Global, bytes: &[u8]) -> Result<Document, FileFault>
 /// | `dual` | `even`, a truth value, true only with an even d, false where it is left out; `c`, a list of 1 to n + 1 whole numbers of at least 0; `y`, a list of pairs `[i, v]`, empty where it is left out, i ascending from d to n, even ones alone where `even` is set, v at least 0 |
 /// | `jdual` | `w`, with an even d; `c`, a list of 1 to m + 1 whole numbers of at least 0, m the least of w and n - w |
 /// | `odd` | `even`, as of a `dual`; `m`, an odd integer from 3 to `ct_parity::MAX_ODD`; `c` and `y`, as of a `dual` |
+/// | `jlocal` | `w` and `c`, as of a `jdual`; `y`, a list of pairs `[i, v]`, empty where it is left out, i ascending from d/2 to m, v at least 0 |
 ///
 /// An operation is named for the `Step` that it is. `append_one`, `lengthen`, `parity` and `juxtapose` make words of at least
 /// 2 digits, `uuv` of an even number. `puncture`, `translate` and `uuv` take no weight, `select` takes one. `puncture` and

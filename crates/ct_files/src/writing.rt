@@ -11,7 +11,7 @@ ghost use Rattle.ct_files.specs.Inside.Written.{evidence_table, HasIds};
 
 use crate::contents::Document;
 use ct_build_files::build_table;
-use ct_dual_files::{dual_table, johnson_dual_table, odd_table};
+use ct_dual_files::{dual_table, johnson_dual_table, local_dual_table, odd_table};
 use ct_evidence::Evidence;
 use ct_fields::{put_cites, table_bytes};
 use ct_partition_files::{partition_table, product_table};
@@ -46,6 +46,7 @@ fn evidence_table(alloc: Global, evidence: &Evidence) -> Result<Table, AllocErro
         Evidence::Dual(dual) => dual_table(alloc, dual),
         Evidence::JohnsonDual(dual) => johnson_dual_table(alloc, dual),
         Evidence::Odd { dual, m } => odd_table(alloc, dual, *m),
+        Evidence::JohnsonLocal(dual) => local_dual_table(alloc, dual),
     }
 }
 

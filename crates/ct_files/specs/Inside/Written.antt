@@ -7,7 +7,7 @@ use Rattle.ct_evidence.specs.declared.evidence.Evidence.TheVariants as evidence
 use Rattle.ct_word_files.specs.WrittenWords.{words_table, cosets_table}
 use Rattle.ct_build_files.specs.WrittenBuild.{build_table}
 use Rattle.ct_partition_files.specs.Written.{AreIds, partition_table, product_table}
-use Rattle.ct_dual_files.specs.WrittenDuals.{dual_table, johnson_dual_table, odd_table}
+use Rattle.ct_dual_files.specs.WrittenDuals.{dual_table, johnson_dual_table, odd_table, local_dual_table}
 
 -- the table of an evidence
 abbrev pub evidence_table : Evidence → Members
@@ -19,6 +19,7 @@ evidence_table (evidence.Build e step part other) = build_table e step part othe
 evidence_table (evidence.Dual d) = dual_table d
 evidence_table (evidence.JohnsonDual d) = johnson_dual_table d
 evidence_table (evidence.Odd d m) = odd_table d m
+evidence_table (evidence.JohnsonLocal d) = local_dual_table d
 
 -- the names of pieces in an evidence are ids
 abbrev pub HasIds : Evidence → Type 0

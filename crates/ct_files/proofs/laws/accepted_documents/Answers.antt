@@ -1,4 +1,4 @@
-use Rattle.ct_evidence.specs.declared.evidence.Evidence.TheVariants.{Words, Cosets, Partition, Product, Build, Dual, JohnsonDual, Odd}
+use Rattle.ct_evidence.specs.declared.evidence.Evidence.TheVariants.{Words, Cosets, Partition, Product, Build, Dual, JohnsonDual, Odd, JohnsonLocal}
 use Rattle.ct_files.proofs.DocumentAnswers.{accepted, accepted-from}
 use Rattle.ct_files.proofs.laws.accepted_documents.Goals as goal
 
@@ -49,5 +49,9 @@ returns c = record {
   odd = λ bytes d m. (
     λ read. let a = accepted bytes (Odd d m) read in record { document = a.document; written = a.written; format = a.format; states = a.states },
     λ a. accepted-from bytes (Odd d m) a.document a.written a.states.fields.of_kind a.format a.states,
+  );
+  local_dual = λ bytes d. (
+    λ read. let a = accepted bytes (JohnsonLocal d) read in record { document = a.document; written = a.written; format = a.format; states = a.states },
+    λ a. accepted-from bytes (JohnsonLocal d) a.document a.written a.states.fields.of_kind a.format a.states,
   );
 }
