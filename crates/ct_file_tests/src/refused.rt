@@ -10,6 +10,8 @@ const OPERATION: FileFault = FileFault::Field(FieldName::Op);
 
 const PLACES: FileFault = FileFault::Field(FieldName::Places);
 
+const ALLOWED: FileFault = FileFault::Field(FieldName::Y);
+
 const MARK: FileFault = FileFault::Field(FieldName::Even);
 
 const NUMBER: FileFault = FileFault::Field(FieldName::M);
@@ -26,9 +28,9 @@ const NO_KIND: FileFault = FileFault::Kind;
 
 const FURTHER_KEY: FileFault = FileFault::Unknown;
 
-// Documents of words, those that are of no kind or lack a field, builds of words of length 4, and duals with a number of words; and the
-// fault.
-const REFUSED: [(&str, FileFault); 82] = [
+// Documents of words, those that are of no kind or lack a field, builds of words of length 4, duals with a number of words, and such that
+// look at a code from a word; and the fault.
+const REFUSED: [(&str, FileFault); 91] = [
     (
         "kind = 'words'\nn = 9223372036854775808\nd = 4\nwords = []\n",
         NO_TOML,
@@ -249,6 +251,42 @@ const REFUSED: [(&str, FileFault); 82] = [
         FileFault::Field(FieldName::Cites),
     ),
     ("kind = 'dual'\nn = 9\nd = 4\nm = 3\nc = [1]", FURTHER_KEY),
+    (
+        "kind = 'jlocal'\nn = 8\nd = 4\nw = 4\nc = [8, 1]\ny = [[1, 8]]",
+        ALLOWED,
+    ),
+    (
+        "kind = 'jlocal'\nn = 8\nd = 4\nw = 4\nc = [8, 1]\ny = [[5, 8]]",
+        ALLOWED,
+    ),
+    (
+        "kind = 'jlocal'\nn = 8\nd = 4\nw = 4\nc = [8, 1]\ny = [[3, 8], [2, 8]]",
+        ALLOWED,
+    ),
+    (
+        "kind = 'jlocal'\nn = 8\nd = 4\nw = 4\nc = [8, 1]\ny = [[2, -8]]\neven = false",
+        ALLOWED,
+    ),
+    (
+        "kind = 'jlocal'\nn = 8\nd = 4\nw = 4\nc = [-8]\ny = [[1, 8]]",
+        FileFault::Field(FieldName::C),
+    ),
+    (
+        "kind = 'jlocal'\nn = 8\nd = 5\nc = [8, 1]\ny = [[3, 8]]",
+        FileFault::Field(FieldName::D),
+    ),
+    (
+        "kind = 'jlocal'\nn = 8\nd = 4\nc = [8, 1]\ny = [[2, 8]]",
+        WEIGHT,
+    ),
+    (
+        "kind = 'jlocal'\nn = 8\nd = 4\nw = 4\nc = [8, 1]\ny = [[2, 8]]\neven = false",
+        FURTHER_KEY,
+    ),
+    (
+        "kind = 'jdual'\nn = 8\nd = 4\nw = 4\nc = [8, 1]\ny = [[2, 8]]",
+        FURTHER_KEY,
+    ),
 ];
 
 #[test]

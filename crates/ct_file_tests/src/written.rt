@@ -5,7 +5,7 @@ use std::alloc::Global;
 use std::test::Fail;
 
 // A document whose keys stand in another order than they are written in, and what is written for it.
-const WRITTEN: [(&str, &str); 23] = [
+const WRITTEN: [(&str, &str); 25] = [
     (
         "kind = 'words'\nn = 10\nd = 6\nwords = ['0000000000', '1111100000']\n",
         "d = 6\nkind = \"words\"\nn = 10\nwords = [\"0000000000\", \"1111100000\"]\n",
@@ -97,6 +97,14 @@ const WRITTEN: [(&str, &str); 23] = [
     (
         "kind = 'odd'\nm = 0xF_FFFF\nc = [0]\nd = 3\nn = 1",
         "c = [0]\nd = 3\neven = false\nkind = \"odd\"\nm = 1048575\nn = 1\ny = []\n",
+    ),
+    (
+        "kind = 'jlocal'\nn = 8\nd = 4\nw = 4\nc = [8, 1]\ny = [[2, 8], [4, 0]]",
+        "c = [8, 1]\nd = 4\nkind = \"jlocal\"\nn = 8\nw = 4\ny = [[2, 8], [4, 0]]\n",
+    ),
+    (
+        "kind = 'jlocal'\nc = [0]\nw = 0\nd = 30\nn = 1",
+        "c = [0]\nd = 30\nkind = \"jlocal\"\nn = 1\nw = 0\ny = []\n",
     ),
 ];
 
