@@ -1,4 +1,4 @@
--- A dual that stands gives its bound to the table, or that parity may exclude a number of words by it.
+-- A dual that stands gives its bound to the table, or that parity may exclude a number of words by it, or its local bound.
 use Rattle.std.proofs.Common.{◌≡◌, ℕ, List, take, get_or, Option, Some, sym, ap, subst, ◌∙◌, codes}
 use Rattle.std.specs.Prelude.{slice_get}
 use Rattle.std.proofs.lemmas.Option.{slice_get-get_or, slice_get_within}
@@ -7,12 +7,12 @@ use Rattle.ct_duals.specs.declared.fault.DualFault.{DualFault}
 use Rattle.ct_duals.specs.Check.{dual_fault}
 use Rattle.ct_duals.proofs.Faults.{none-from_below}
 use Rattle.ct_codes.specs.Numbers.{numbers_of, combination}
-use Rattle.ct_rule_parts.specs.declared.support.Support.TheVariants.{Bound, Odd}
+use Rattle.ct_rule_parts.specs.declared.support.Support.TheVariants.{Bound, Odd, Local}
 use Rattle.ct_evidence.specs.declared.evidence.Evidence.{Evidence}
 use Rattle.ct_evidence.specs.declared.evidence.Evidence.TheVariants as evidence
 use Rattle.ct_pieces.specs.Kind.{kind_of, IsChecked}
 use Rattle.ct_dual_files.specs.DualKind.{with_at_zero, dual_support, IsDualChecked}
-use Rattle.ct_dual_files.proofs.DualReasons.{odd_gives}
+use Rattle.ct_dual_files.proofs.DualReasons.{odd_gives, local_gives}
 use Rattle.ct_pieces.specs.Piece.{PieceValue}
 use Rattle.ct_pieces.specs.Codes.{codes_of}
 use Rattle.ct_pieces.specs.Standing.{AreStanding}
@@ -49,3 +49,9 @@ pub gives_odd : (ps : List PieceValue) (k : ℕ) (p : PieceValue) (d : Dual) (m 
 gives_odd ps k p d m h read is =
     ap (λ (e : Evidence). (kind_of e).gives p.size) is
     ∙ odd_gives (codes "odd") d m p.size (checked_as ps k p (evidence.Odd d m) h read is)
+
+pub gives_local : (ps : List PieceValue) (k : ℕ) (p : PieceValue) (d : Dual) → AreStanding ps → slice_get ps k ≡ Some p
+    → p.evidence ≡ evidence.JohnsonLocal d → support_of p ≡ Local (record { dual = d; at_zero = combination (numbers_of d.entry) d.c 0 })
+gives_local ps k p d h read is =
+    ap (λ (e : Evidence). (kind_of e).gives p.size) is
+    ∙ local_gives (codes "jlocal") d p.size (checked_as ps k p (evidence.JohnsonLocal d) h read is)

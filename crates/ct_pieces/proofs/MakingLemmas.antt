@@ -6,7 +6,7 @@ use Rattle.std.proofs.lemmas.List.Elements.{All-push, All-nil, All-cons, All-hea
 use Rattle.ct_codes.specs.Code.{IsCodeOf, IsSoundCode}
 use Rattle.ct_codes.proofs.CheckLemmas.{first_of-None}
 use Rattle.ct_evidence.specs.declared.evidence.Evidence.{Evidence}
-use Rattle.ct_evidence.specs.declared.evidence.Evidence.TheVariants.{Words, Cosets, Partition, Build, Product, Dual, JohnsonDual, Odd}
+use Rattle.ct_evidence.specs.declared.evidence.Evidence.TheVariants.{Words, Cosets, Partition, Build, Product, Dual, JohnsonDual, Odd, JohnsonLocal}
 use Rattle.ct_fields.specs.declared.fault.FileFault.{FileFault}
 use Rattle.ct_files.specs.Document.{DocumentValue, document_without_limit}
 use Rattle.ct_files.specs.Evidence.{IsSound}
@@ -31,7 +31,7 @@ use Rattle.ct_partition_files.proofs.PartitionKind.{partition_states}
 use Rattle.ct_partition_files.proofs.ProductKind.{product_states}
 use Rattle.ct_build_files.proofs.BuildKind.{build_states}
 use Rattle.ct_duals.proofs.FormLemmas.{allows_none-plain, allows_none-empty}
-use Rattle.ct_dual_files.proofs.DualKind.{dual_states, odd_states}
+use Rattle.ct_dual_files.proofs.DualKind.{dual_states, odd_states, local_states}
 
 -- where none is found, the test fails of each
 find-none_all : {X : Type 0} (test : X → Bool) (xs : List X) → find test xs ≡ None → All (λ (x : X). test x ≡ false) xs
@@ -83,6 +83,7 @@ own_states known (Build e step part other) sound read own = build_states known e
 own_states known (Dual d) sound read own = dual_states known (codes "dual") d read.0 (allows_none-plain d.entry.w d.y read.1) own
 own_states known (JohnsonDual d) sound read own = dual_states known (codes "jdual") d read.0 (allows_none-empty d.entry.w d.y read.2) own
 own_states known (Odd d m) sound read own = odd_states known (codes "odd") d m read.0 own
+own_states known (JohnsonLocal d) sound read own = local_states known (codes "jlocal") d read.0 own
 
 pub states_code : (known : List NamedCode) (evidence : Evidence) → AreSound known → IsRight known evidence → StatesCode known evidence
 states_code known evidence sound h = own_states known evidence sound h.sound (right-own known evidence h)

@@ -193,6 +193,7 @@ reason-own known (evidence.Build e step part other) reason h = step-own e step p
 reason-own known (evidence.Dual d) reason h = dual-own (dual_fault (numbers_of d.entry) d) reason h
 reason-own known (evidence.JohnsonDual d) reason h = dual-own (dual_fault (numbers_of d.entry) d) reason h
 reason-own known (evidence.Odd d m) reason h = dual-own (dual_fault (numbers_of d.entry) d) reason h
+reason-own known (evidence.JohnsonLocal d) reason h = dual-own (dual_fault (numbers_of d.entry) d) reason h
 
 -- a kind's own reason refuses
 own-refused : (pieces : List PieceValue) (id document : List ℕ) (reason : SubmitFault) → IsOwn reason → IsOwnReason pieces id document reason → IsRefused pieces id document reason

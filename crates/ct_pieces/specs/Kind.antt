@@ -8,7 +8,7 @@ use Rattle.ct_codes.specs.Code.{IsCodeOf}
 use Rattle.ct_build.specs.Build.{IsRightBuild}
 use Rattle.ct_partitions.specs.Partition.{IsPartition}
 use Rattle.ct_evidence.specs.declared.evidence.Evidence.{Evidence}
-use Rattle.ct_evidence.specs.declared.evidence.Evidence.TheVariants.{Words, Cosets, Partition, Build, Product, Dual, JohnsonDual, Odd}
+use Rattle.ct_evidence.specs.declared.evidence.Evidence.TheVariants.{Words, Cosets, Partition, Build, Product, Dual, JohnsonDual, Odd, JohnsonLocal}
 use Rattle.ct_kind.specs.Named.{NamedCode, code_named, other_named}
 use Rattle.ct_kind.specs.KindParts.{KindParts}
 use Rattle.ct_word_files.specs.WordsKind.{words_kind}
@@ -21,7 +21,7 @@ use Rattle.ct_build_files.specs.BuildKind.{build_kind}
 use Rattle.ct_build_files.specs.BuildRefusal.{IsBuildRefusal}
 use Rattle.ct_partition_files.specs.ProductKind.{product_kind, IsProductChecked}
 use Rattle.ct_partition_files.specs.ProductRefusal.{IsProductRefusal}
-use Rattle.ct_dual_files.specs.DualKind.{dual_kind, odd_kind, IsDualChecked}
+use Rattle.ct_dual_files.specs.DualKind.{dual_kind, odd_kind, local_kind, IsDualChecked}
 use Rattle.ct_dual_files.specs.DualRefusal.{IsDualRefusal}
 use Rattle.ct_kind.specs.declared.fault.SubmitFault.{SubmitFault}
 
@@ -35,6 +35,7 @@ kind_of (Product e pairs) = product_kind e pairs
 kind_of (Dual d) = dual_kind (codes "dual") d
 kind_of (JohnsonDual d) = dual_kind (codes "jdual") d
 kind_of (Odd d m) = odd_kind (codes "odd") d m
+kind_of (JohnsonLocal d) = local_kind (codes "jlocal") d
 
 -- the entry that evidence is about
 abbrev pub stated_entry : Evidence → Entry
@@ -77,6 +78,7 @@ IsChecked known (Product e pairs) = IsProductChecked e known pairs
 IsChecked known (Dual d) = IsDualChecked d
 IsChecked known (JohnsonDual d) = IsDualChecked d
 IsChecked known (Odd d m) = IsDualChecked d
+IsChecked known (JohnsonLocal d) = IsDualChecked d
 
 -- this reason is the first that the kind of the evidence has against it, where its parts stand
 abbrev pub IsOwnRefusal : List NamedCode → Evidence → SubmitFault → Type 0
@@ -88,3 +90,4 @@ IsOwnRefusal known (Product e pairs) reason = IsProductRefusal e known pairs rea
 IsOwnRefusal known (Dual d) reason = IsDualRefusal d reason
 IsOwnRefusal known (JohnsonDual d) reason = IsDualRefusal d reason
 IsOwnRefusal known (Odd d m) reason = IsDualRefusal d reason
+IsOwnRefusal known (JohnsonLocal d) reason = IsDualRefusal d reason

@@ -38,6 +38,7 @@ pub(crate) fn kind_of(evidence: &Evidence) -> Kind
         Evidence::Dual(dual) => dual_kind::kind(b"dual", dual),
         Evidence::JohnsonDual(dual) => dual_kind::kind(b"jdual", dual),
         Evidence::Odd { dual, .. } => dual_kind::kind(b"odd", dual),
+        Evidence::JohnsonLocal(dual) => dual_kind::kind(b"jlocal", dual),
     }
 }
 
@@ -59,7 +60,8 @@ pub(crate) fn listed(evidence: &Evidence) -> u64
         | Evidence::Product { .. }
         | Evidence::Dual(_)
         | Evidence::JohnsonDual(_)
-        | Evidence::Odd { .. } => 0,
+        | Evidence::Odd { .. }
+        | Evidence::JohnsonLocal(_) => 0,
     }
 }
 
@@ -194,6 +196,7 @@ pub(crate) fn check(
         Evidence::Dual(dual) => Ok(Checked::of_dual(dual_kind::check(dual)?)),
         Evidence::JohnsonDual(dual) => Ok(Checked::of_dual(dual_kind::check(dual)?)),
         Evidence::Odd { dual, m } => Ok(Checked::of_dual(dual_kind::check_odd(dual, *m)?)),
+        Evidence::JohnsonLocal(dual) => Ok(Checked::of_dual(dual_kind::check_local(alloc, dual)?)),
     }
 }
 
@@ -249,6 +252,7 @@ pub(crate) fn listed_code(
         | Evidence::Build { .. }
         | Evidence::Dual(_)
         | Evidence::JohnsonDual(_)
-        | Evidence::Odd { .. } => Ok(None),
+        | Evidence::Odd { .. }
+        | Evidence::JohnsonLocal(_) => Ok(None),
     }
 }

@@ -33,7 +33,7 @@ ghost use Rattle.ct_pieces.specs.Submission.{submitted, IsAccepted};
 ghost use Rattle.ct_pieces.specs.Supports.{support_of, supports_of};
 ghost use Rattle.ct_kind.specs.declared.fault.SubmitFault.{SubmitFault};
 ghost use Rattle.ct_kind.specs.declared.fault.SubmitFault.TheVariants as fault;
-ghost use Rattle.ct_rule_parts.specs.declared.support.Support.TheVariants.{Bound, Odd};
+ghost use Rattle.ct_rule_parts.specs.declared.support.Support.TheVariants.{Bound, Odd, Local};
 ghost use Rattle.ct_rule_parts.specs.Support.{AllStand};
 
 /// A submission over pieces that stand makes a piece exactly where its id is free, there is room, each part that its
@@ -125,6 +125,7 @@ pub fn stored_words_by_kind()
     ensures dual { (d : Dual) (size : Option ℕ) → stored_for (kind_of (evidence.Dual d)) size ≡ 0 }
     ensures johnson_dual { (d : Dual) (size : Option ℕ) → stored_for (kind_of (evidence.JohnsonDual d)) size ≡ 0 }
     ensures odd { (d : Dual) (m : ℕ) (size : Option ℕ) → stored_for (kind_of (evidence.Odd d m)) size ≡ 0 }
+    ensures local { (d : Dual) (size : Option ℕ) → stored_for (kind_of (evidence.JohnsonLocal d)) size ≡ 0 }
     ensures pieces { MAX_PIECES ≡ 1000 }
     ensures limit { MAX_STORED ≡ 1000000 }
 {}
@@ -150,7 +151,7 @@ pub fn pieces_give_supports()
 {}
 
 /// A piece that stands and is a dual, without weight or with one, gives its bound to the table: the dual with its f(0). One with a number
-/// of words gives that parity may exclude so many by it: the dual with its f(0), and the number.
+/// of words gives that parity may exclude so many by it: the dual with its f(0), and the number. One of kind jlocal gives its local bound.
 pub fn duals_give_their_bounds()
     ensures plain { (pieces : List PieceValue) (place : ℕ) (p : PieceValue) (d : Dual) → AreStanding pieces
         → slice_get pieces place ≡ Some p → p.evidence ≡ evidence.Dual d
@@ -161,4 +162,7 @@ pub fn duals_give_their_bounds()
     ensures odd { (pieces : List PieceValue) (place : ℕ) (p : PieceValue) (d : Dual) (m : ℕ) → AreStanding pieces
         → slice_get pieces place ≡ Some p → p.evidence ≡ evidence.Odd d m
         → support_of p ≡ Odd (record { dual = d; at_zero = combination (numbers_of d.entry) d.c 0 }) m }
+    ensures local { (pieces : List PieceValue) (place : ℕ) (p : PieceValue) (d : Dual) → AreStanding pieces
+        → slice_get pieces place ≡ Some p → p.evidence ≡ evidence.JohnsonLocal d
+        → support_of p ≡ Local (record { dual = d; at_zero = combination (numbers_of d.entry) d.c 0 }) }
 {}
