@@ -43,7 +43,7 @@ use Rattle.ct_pieces.specs.Piece.{PieceValue}
 use Rattle.ct_pieces.specs.Standing.{AreStanding}
 use Rattle.ct_pieces.specs.Supports.{supports_of}
 use Rattle.ct_pieces.proofs.DualSupports.{placed_piece, gives_odd}
-use Rattle.ct_ledger.specs.OddSupport.{IsOddSupport}
+use Rattle.ct_ledger.specs.EvidenceSupport.{IsSupportOf}
 use Rattle.ct_ledger.proofs.DualReaching.{given_there}
 
 -- what a support gives at the entry of its dual
@@ -102,7 +102,7 @@ record IsGiven (supports : List Support) (place : ℕ) (d : Dual) (m : ℕ) : Ty
   none : dual_fault (numbers_of d.entry) d ≡ None
   gives : GivesSize supports place (record { accepted = with_at_zero d; m = m })
 
-given : (known : List NamedCode) (supports : List Support) (place : ℕ) (d : Dual) (m : ℕ) → IsOddSupport known supports place d m
+given : (known : List NamedCode) (supports : List Support) (place : ℕ) (d : Dual) (m : ℕ) → IsSupportOf known supports place (evidence.Odd d m)
     → IsGiven supports place d m
 given known supports place d m h =
     let none = option_map-none fault.Dual (dual_fault (numbers_of d.entry) d) h.faultless in
@@ -110,12 +110,12 @@ given known supports place d m h =
     h.given ∙ ap (λ (reason : Option DualFault). Some (odd_support m reason d)) none in
     record { none = none; gives = odd-gives supports place (with_at_zero d) m (accepted-from_none d h.sound.0 none) h.sound.1 h.sound.2.1 at }
 
-pub odd_premises : (known : List NamedCode) (supports : List Support) (place : ℕ) (d : Dual) (m : ℕ) → IsOddSupport known supports place d m
+pub odd_premises : (known : List NamedCode) (supports : List Support) (place : ℕ) (d : Dual) (m : ℕ) → IsSupportOf known supports place (evidence.Odd d m)
     → premises_of supports (U12 place) d.entry ≡ Some (slots_on Upper (dual_premises d))
 odd_premises known supports place d m h = (given known supports place d m h).gives.premises
 
 pub odd_value : (known : List NamedCode) (supports : List Support) (place : ℕ) (d : Dual) (m : ℕ) (us : List ℕ)
-    → IsOddSupport known supports place d m → value_of supports (U12 place) d.entry us
+    → IsSupportOf known supports place (evidence.Odd d m) → value_of supports (U12 place) d.entry us
     ≡ (if int_lt (pos m *ℤ dual_spread d (combination (numbers_of d.entry) d.c 0) us) (odd_sum d.entry.n m d.c) then Some (m - 1) else None)
 odd_value known supports place d m us h =
     (given known supports place d m h).gives.value us
@@ -123,7 +123,7 @@ odd_value known supports place d m us h =
 
 -- no code is larger
 pub odd_sound : (known : List NamedCode) (supports : List Support) (place : ℕ) (d : Dual) (m : ℕ) (us : List ℕ) (v : ℕ)
-    → IsOddSupport known supports place d m → AreTrueUppers (dual_premises d) us → value_of supports (U12 place) d.entry us ≡ Some v → IsTrueUpper d.entry v
+    → IsSupportOf known supports place (evidence.Odd d m) → AreTrueUppers (dual_premises d) us → value_of supports (U12 place) d.entry us ≡ Some v → IsTrueUpper d.entry v
 odd_sound known supports place d m us v h uppers is =
     let both = cond_some (is_above_spread (with_at_zero d) m us) (m - 1) v (sym (odd_value known supports place d m us h) ∙ is) in
     let above = less (pos m *ℤ dual_spread d (combination (numbers_of d.entry) d.c 0) us) (odd_sum d.entry.n m d.c) both.0 in

@@ -1,2 +1,2 @@
 pub mod Ledger
-pub mod OddSupport
+pub mod EvidenceSupport

@@ -11,7 +11,7 @@ pub use ct_pieces::{
     submit_refusal, withdraw_refusal, withdrawals_that_are_refused,
 };
 pub use laws::{
-    duals_reach_their_bounds, odd_evidence_excludes_sizes, pieces_reach_their_bounds,
-    sizes_are_those_of_codes,
+    duals_reach_their_bounds, local_evidence_bounds_codes, odd_evidence_excludes_sizes,
+    pieces_reach_their_bounds, sizes_are_those_of_codes,
 };
 pub use ledger::Ledger;
