@@ -40,8 +40,8 @@ pub const STANDING: [Stated<'static>; 4] = [
 ];
 
 /// A piece of each kind, each of which betters bounds or may be a part: the Fano plane, the code of Nordstrom and Robinson, a partition, a code
-/// beside itself, a product, a dual without weight, one with a weight and one with a number of words, and words with as many cites as there may be.
-pub const TRIED: [Stated<'static>; 9] = [
+/// beside itself, a product, a dual without weight, one with a weight, one with a number of words and one with a weight that allows something, and words with as many cites as there may be.
+pub const TRIED: [Stated<'static>; 10] = [
     Stated {
         id: "fano",
         document: "kind='words'\nn=7\nd=4\nw=3\nwords=['1101000','0110100','0011010','0001101','1000110','0100011','1010001']",
@@ -70,6 +70,10 @@ pub const TRIED: [Stated<'static>; 9] = [
     Stated {
         id: "o9",
         document: "kind='odd'\nn=9\nd=4\neven=true\nm=21\nc=[3,1,1]\ny=[[8,16]]",
+    },
+    Stated {
+        id: "j17",
+        document: "kind='jlocal'\nn=17\nd=8\nw=7\nc=[1710,216,17]\ny=[[7,6120]]",
     },
     Stated {
         id: "cited",
