@@ -18,6 +18,7 @@ if sys.version_info < (3, 11):
     sys.exit("check_derivation: Python 3.11 or later is needed, and this is %d.%d" % sys.version_info[:2])
 
 import tomllib
+from functools import cache
 from itertools import combinations
 from math import comb, factorial
 
@@ -124,14 +125,42 @@ def size_below(piece):
     return by_spread(piece, lambda spread: piece.m - 1 if least > piece.m * spread else None)
 
 
+def least_squares(n, w, m):
+    """The squares of the ones at n places of m words of weight w, added up, at least."""
+    q, r = divmod(w * m, n) if n else (0, 0)
+    return n * q * q + 2 * q * r + r
+
+
+@cache
+def doubly(n1, w1, n2, w2, d, rounds=3):
+    """A bound on the codes whose words have w1 ones on the first n1 places and w2 on the last n2; each round takes out a place."""
+    if not rounds:
+        if d > 2 * (min(w1, n1 - w1) + min(w2, n2 - w2)):
+            return 1
+        counts = (m - 1 for m in range(2, 1001) if (w1 + w2) * m * m - least_squares(n1, w1, m) - least_squares(n2, w2, m) < d // 2 * m * (m - 1))
+        return min(comb(n1, w1) * comb(n2, w2), MAX, next(counts, MAX))
+    shorter = [(n1, w1, (n1 - 1, w1 - 1, n2, w2)), (n1, n1 - w1, (n1 - 1, w1, n2, w2)),
+               (n2, w2, (n1, w1, n2 - 1, w2 - 1)), (n2, n2 - w2, (n1, w1, n2 - 1, w2))]
+    return min([doubly(n1, w1, n2, w2, d, rounds - 1), *(n * doubly(*code, d, rounds - 1) // k for n, k, code in shorter if k)])
+
+
+def seen_from_a_word(piece):
+    """The rule of a dual that looks at a code from a word: the words at an index are, that word added, a doubly constant code."""
+    (n, d, w), charged = piece.entry, [(i, y) for i, y in piece.y.items() if y]
+
+    def value(*uppers):
+        """The bound from the premises' values."""
+        return (piece.f(0) + sum(y * min(u, doubly(w, i, n - w, i, d)) for (i, y), u in zip(charged, uppers))) // piece.c[0]
+    return [(n, d, 2 * i) for i, _ in charged], value
+
+
 CODES = ("words", "cosets", "build", "product")
 NAMING = {
     "L10": (2, CODES, lambda piece: number(piece.size)), "M10": (3, CODES, lambda piece: number(piece.size)),
     "U11": (2, ("dual",), lambda piece: by_spread(piece, lambda spread: spread // piece.c[0])),
     "U12": (2, ("odd",), size_below),
     "V9": (3, ("jdual",), lambda piece: number(piece.f(0) // piece.c[0])),
-    # No kind of document gives the dual with weight of V10.
-    "V10": (3, (), None),
+    "V10": (3, ("jlocal",), seen_from_a_word),
 }
 PLAIN = {
     "L1": lambda n, d: number(1),
@@ -192,9 +221,10 @@ def rule_at(pieces, name, entry, arguments):
 
 
 # ---- evidence: each kind reads its fields in order, then is checked
-SAME_CHECK = {"jdual": "dual", "odd": "dual"}
+SAME_CHECK = {"jdual": "dual", "odd": "dual", "jlocal": "dual"}
 SAME_FORM = {"cosets": "words", **SAME_CHECK}
-KINDS = ("words", "cosets", "partition", "build", "product", "dual", "jdual", "odd")
+KINDS = ("words", "cosets", "partition", "build", "product", "dual", "jdual", "odd", "jlocal")
+JOHNSON = ("jdual", "jlocal")
 OPERATIONS = {"lengthen": (), "append_one": (), "parity": (), "puncture": ("places",), "shorten": ("places", "digits"),
               "translate": ("by",), "complement": (), "select": ("by",), "uuv": (), "juxtapose": (), "trim": ("size",)}
 ID = re.compile("[a-z][a-z0-9_-]{0,31}")
@@ -250,10 +280,10 @@ class Piece:
         self.known, self.lists, self.parts, self.y, self.w = {"kind"}, [], [], {}, None
         self.format = self.field("format", lambda v: is_number(v, 1, 2), 1)
         weighted, op = self.kind not in ("cosets", "dual", "odd") and "w" in self.table, self.table.get("op")
-        even = weighted or self.kind == "jdual" or self.kind == "build" and op == "select"
+        even = weighted or self.kind in JOHNSON or self.kind == "build" and op == "select"
         self.n = self.field("n", lambda v: is_number(v, 1, LAST))
         self.d = self.field("d", lambda v: is_number(v, 3, LAST) and not (even and v % 2))
-        if weighted or self.kind == "jdual":
+        if weighted or self.kind in JOHNSON:
             self.w = self.field("w", lambda v: is_number(v, 0, self.n))
         self.entry = (self.n, self.d) if self.w is None else (self.n, self.d, self.w)
         getattr(self, "read_" + SAME_FORM.get(self.kind, self.kind))()
@@ -290,13 +320,12 @@ class Piece:
     def read_dual(self):
         """The fields of a dual, with a weight or without."""
         degree = self.n if self.w is None else min(self.w, self.n - self.w)
-        plain = self.kind != "jdual"
-        even = plain and self.field("even", lambda v: v is False or v is True and self.d % 2 == 0, default=False)
+        even = self.kind not in JOHNSON and self.field("even", lambda v: v is False or v is True and self.d % 2 == 0, default=False)
         if self.kind == "odd":
             self.m = self.field("m", lambda v: is_number(v, 3, 2 ** 20 - 1) and v % 2)
         self.c = self.field("c", lambda v: is_list(v, lambda x: is_number(x, 0)) and 1 <= len(v) <= degree + 1)
         self.range = [i for i in range(self.d if self.w is None else self.d // 2, degree + 1) if not even or i % 2 == 0]
-        if plain:
+        if self.kind != "jdual":
             self.y = dict(self.field("y", lambda v: is_list(v, lambda p: is_list(p, lambda x: is_number(x, 0)) and len(p) == 2
                                                             and p[0] in self.range) and [i for i, _ in v] == sorted({i for i, _ in v}), []))
 

@@ -20,7 +20,7 @@ Entry = tuple[int, ...]
 LAST = 30
 
 # The kinds of evidence without a size: those of upper bounds.
-SIZELESS = ("dual", "jdual", "odd")
+SIZELESS = ("dual", "jdual", "odd", "jlocal")
 
 
 class Refusal(ValueError):

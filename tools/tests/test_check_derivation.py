@@ -69,6 +69,36 @@ end
 line 1 upper 5 5 value 2 by U12 o5
 done
 """
+# Of (8,4,4): f(0) = 24, f(2) = 8, f(3) = 0 and f(4) = -8. A doubly constant code of (4,2,4,2,4) has at most 12 words: at (3,1,4,2) 7 are too many,
+# since 147 - 17 - 50 = 80 < 84, and 4/2 of 6 is 12. So (24 + 8·12)/8 = 15, where A(8,4,4) <= 14 alone would give 17. Of (13,6,5): f(0) = 17160,
+# f(3) = 1716 and f(4) = f(5) = 0; of (5,3,8,3,6) there are at most 16, and (17160 + 1716·16)/2200 = 20.2.
+LOCAL = """derivation
+evidence j8
+kind = "jlocal"
+n = 8
+d = 4
+w = 4
+c = [8, 1]
+y = [[2, 8]]
+end
+line 1 upper 6 4 2 value 3 by V2
+line 2 upper 7 4 3 value 7 by V4 from 1
+line 3 upper 8 4 4 value 14 by V4 from 2
+line 4 upper 8 4 4 value 15 by V10 j8 from 3
+done
+"""
+LOCAL_13 = """derivation
+evidence j13 lines 6
+kind = "jlocal"
+n = 13
+d = 6
+w = 5
+c = [2200, 192, 13]
+y = [[3, 1716]]
+line 1 upper 13 6 6 value 1716 by V0
+line 2 upper 13 6 5 value 20 by V10 j13 from 1
+done
+"""
 PAIR = "evidence pair lines 4\nkind = 'words'\nn = 3\nd = 3\nwords = ['000', '111']\n"
 
 CITED = PAIR.replace("lines 4\n", "lines 6\nformat = 2\ncites = ['Golay 1949']\n")
@@ -212,6 +242,26 @@ class CheckDerivation(unittest.TestCase):
                                   ("from 2 3", "from 3 2", "no 13 premise"), ("c = [5", "c = [0", "no 2 evidence lead")]:
             with self.subTest(new=new):
                 self.assertEqual(run("check_derivation.py", text=DUAL.replace(old, new)), (verdict + "\n", "", int(verdict != "yes")))
+
+    def test_a_code_seen_from_one_of_its_words(self):
+        for old, new, verdict in [
+                ("15 by", "15 by", "yes"), ("15 by", "17 by", "no 13 value 17 15"), ("V10 j8 from 3", "V10 j8", "no 13 premise"),
+                ("V10 j8 from 3", "V10 j8 from 2", "no 13 premise"), ("V10 j8 from 3", "V9 j8", "no 13 rule"), ("V10 j8", "V10 j9", "no 13 rule"),
+                ("8 4 4 value 15", "8 4 value 15", "no 13 rule"), ("2, 8]", "2, 7]", "no 2 evidence above 2 8 7"),
+                ("c = [8", "c = [0", "no 2 evidence lead"),
+                ("[[2, 8]]", "[[1, 8]]", "no 2 evidence field y"), ("[[2, 8]]", "[[2, 8], [5, 8]]", "no 2 evidence field y"),
+                ("[[2, 8]]", "[[3, 0], [2, 8]]", "no 2 evidence field y"), ("w = 4\nc = [8", "w = 4\neven = false\nc = [8", "no 2 evidence unknown"),
+                ("d = 4\nw = 4", "d = 5", "no 2 evidence field d"), ("w = 4\n", "", "no 2 evidence field w"),
+                ('"jlocal"', '"jdual"', "no 2 evidence unknown"),
+                ("y = [[2, 8]]", "y = [[2, 8], [4, 0]]", "yes"), ("8]]", "9]]", "no 13 value 15 16")]:
+            with self.subTest(new=new):
+                self.assertEqual(check_derivation.verdict(LOCAL.replace(old, new, 1).encode()), verdict)
+        self.assertEqual(check_derivation.verdict(LOCAL_13.encode()), "yes")
+
+    def test_the_bound_on_doubly_constant_codes(self):
+        for line in (TOP / "bench/doubly.tsv").read_text().splitlines()[1:]:
+            *code, bound, _ = map(int, line.split("\t"))
+            self.assertEqual(check_derivation.doubly(*code), bound)
 
     def test_sizes_that_parity_excludes(self):
         odd, numbers = "by U12 o9 from 1", (20, 1, -21, 1048577, "21.0", "true", "'21'", "[21]")
