@@ -77,6 +77,7 @@ may_stand-is names document key (inr (second, same)) =
 
 -- where it is right
 pub last_fields-ok : (names : List FieldName) (ms : Members) (x : Unit {0}) → last_fields names (table ms) ≡ Ok x → HasLast names (table ms)
+unfolding last_fields
 last_fields-ok names ms x e =
     let (y, first, next) = bind-ok (check (is_ok (cites_of (table ms))) (Field Cites)) _ x e in
     let only = has_only-true (all_fields (may_cite (table ms)) names) ms (check-ok _ Unknown x next) in
@@ -86,6 +87,7 @@ last_fields-ok names ms x e =
     }
 
 pub last_fields-from : (names : List FieldName) (ms : Members) → HasLast names (table ms) → last_fields names (table ms) ≡ Ok tt
+unfolding last_fields
 last_fields-from names ms h =
     rw (
       are_right-from (table ms) h.cited,
@@ -98,6 +100,7 @@ pub data LastFault (names : List FieldName) (document : Data) (fault : FileFault
   other_key : Unknown ≡ fault → HasRightCites document → (key : List ℕ) → HasOther names document key → LastFault names document fault
 
 pub last_fields-err : (names : List FieldName) (ms : Members) (fault : FileFault) → last_fields names (table ms) ≡ Err fault → LastFault names (table ms) fault
+unfolding last_fields
 last_fields-err names ms fault e =
     elim (bind-err (check (is_ok (cites_of (table ms))) (Field Cites)) _ fault e) [
       | inl wrong ↦
@@ -110,10 +113,12 @@ last_fields-err names ms fault e =
     ]
 
 pub last_fields-wrong : (names : List FieldName) (document : Data) → HasWrongCites document → last_fields names document ≡ Err (Field Cites)
+unfolding last_fields
 last_fields-wrong names document wrong = rw (are_right-wrong document wrong) refl
 
 pub last_fields-other : (names : List FieldName) (ms : Members) (key : List ℕ) → HasRightCites (table ms) → HasOther names (table ms) key
     → last_fields names (table ms) ≡ Err Unknown
+unfolding last_fields
 last_fields-other names ms key right (some, other) =
     let further = has_only-from_other (all_fields (may_cite (table ms)) names) ms key (some, λ named. other (may_stand-from names (table ms) key named)) in
     rw (are_right-from (table ms) right, further) refl

@@ -16,7 +16,7 @@ all_fields true names = Format ∷ Cites ∷ names
 all_fields false names = Format ∷ names
 
 -- the fault of wrong cites, or else of a key that neither the kind, whose fields these are, nor the format names
-abbrev pub last_fields : List FieldName → Data → Result (Unit {0}) FileFault
+unfoldable pub last_fields : List FieldName → Data → Result (Unit {0}) FileFault
 last_fields names document = do
   check (is_ok (cites_of document)) (Field Cites)
   check (has_only (all_fields (may_cite document) names) document) Unknown

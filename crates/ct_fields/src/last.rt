@@ -16,6 +16,7 @@ use toml::{Table, Value};
 
 /// Refuses wrong cites of a document of format 2, and then a key that is neither `kind`, nor `format`, nor that of one of the
 /// fields, which are those of its kind, nor, in format 2, `cites`. It takes no memory.
+#[tactic(auto, unfolding(crate::specs::LastFields::last_fields))]
 pub fn last_fields(document: &Value, names: &[FieldName]) -> Result<(), FileFault>
     ensures { result ≡ last_fields names.now (view document.now) }
 {

@@ -5,6 +5,7 @@ use Rattle.toml.proofs.OnLiterals.{toml_on_literals}
 use Rattle.ct_words.specs.Text.{word_of}
 use Rattle.ct_fields.specs.Document.{table_of}
 use Rattle.ct_fields.specs.StatedEntry.{entry_of, plain_entry_of}
+use Rattle.ct_fields.specs.LastFields.{last_fields}
 use Rattle.ct_build_files.specs.BuildEntry.{build_entry_of}
 use Rattle.ct_word_files.specs.Words.{words_evidence_of}
 use Rattle.ct_word_files.specs.Cosets.{cosets_evidence_of}
@@ -18,5 +19,5 @@ use Rattle.ct_files.specs.Evidence.{evidence_of, read_without_limit, read_of}
 use Rattle.ct_files.specs.Document.{document_of, document_without_limit, document_read_of}
 
 unfoldable pub evidence_on_literals : ⊤
-unfolding toml_on_literals chars is_utf8 word_of table_of entry_of plain_entry_of build_entry_of words_evidence_of cosets_evidence_of partition_evidence_of product_evidence_of operation_named digits_of step_fields build_evidence_of dual_of odd_of weighted_entry_of johnson_dual_of local_dual_of evidence_of read_without_limit read_of document_of document_without_limit document_read_of
+unfolding toml_on_literals chars is_utf8 word_of table_of entry_of plain_entry_of last_fields build_entry_of words_evidence_of cosets_evidence_of partition_evidence_of product_evidence_of operation_named digits_of step_fields build_evidence_of dual_of odd_of weighted_entry_of johnson_dual_of local_dual_of evidence_of read_without_limit read_of document_of document_without_limit document_read_of
 evidence_on_literals = tt
