@@ -12,7 +12,8 @@ ghost use Rattle.ct_replies.specs.LongReply.{reply_of};
 use crate::explaining;
 use ct_codes::{Entry, Side};
 use ct_commands::Command;
-use ct_ledger::{Ledger, Piece, SubmitFault, WithdrawFault};
+use ct_io::{RunFault, Sink};
+use ct_ledger::{Ledger, SubmitFault, WithdrawFault};
 use ct_replies::{AnyReply, Bounds, BoundsList, LongReply, Refusal, Reply, ledger_text};
 use ct_session::Answers;
 use ct_text::{EntryNumbers, Id, TableNumbers, Text};
@@ -221,11 +222,16 @@ impl LedgerAnswers {
 impl Answers for LedgerAnswers {
     ghost standing = { λ pieces. pieces };
 
-    fn pieces(&self) -> &[Piece] {
-        self.ledger.pieces()
-    }
-
     fn answer(&mut self, alloc: Global, command: Command) -> Result<AnyReply, AllocError> {
         answer(alloc, &mut self.ledger, command)
+    }
+
+    fn put_long<K: Sink>(
+        &self,
+        sink: &mut K,
+        gathered: &mut Vec<u8>,
+        reply: &LongReply,
+    ) -> Result<(), RunFault> {
+        ct_output::put_long(sink, gathered, self.ledger.pieces(), reply)
     }
 }

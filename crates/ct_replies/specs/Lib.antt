@@ -2,4 +2,3 @@ pub mod Text
 pub mod Refusals
 pub mod LongReply
 pub mod Writing
-pub mod Inside

@@ -1,16 +1,20 @@
 -- A line that is answered by a text that is put out, and what a failed write leaves of it.
 use Rattle.std.proofs.Common.{Result, Ok, Err, inl, inr, subst, ◌≡◌, ℕ, ◌<◌, List, [], ◌∷◌, ◌++◌, length, Option, append-nil, arith}
 use Rattle.std.specs.Prelude.{IfErr, OnOk, OnErr}
+use Rattle.std.proofs.KnownBytes.{Appends-nil}
 use Rattle.ct_io.specs.Faults.{Rose}
 use Rattle.ct_io.specs.Told.{AppendsProperPrefix}
 use Rattle.ct_io.specs.declared.run_fault.RunFault.{RunFault}
 use Rattle.ct_io.specs.declared.run_fault.RunFault.TheVariants.{Write, Memory}
 use Rattle.ct_replies.specs.Writing.{PutsOut, BreaksOff}
 use Rattle.ct_replies.specs.declared.output.TheConstants.{MAX_GATHERED}
-use Rattle.ct_replies.proofs.Outputs.{puts_none}
 use Rattle.ct_session.specs.Inside.State.{State, PutsLines}
 use Rattle.ct_session.specs.Inside.Writing.{AnswersLine, HoldsFew, BreaksLong, BreaksOffAt}
 use Rattle.ct_session.proofs.Gathering.{few_after}
+
+-- nothing was put
+puts_none : (gathered : List ℕ) (held : Option (List ℕ)) → PutsOut [] gathered gathered held held
+puts_none gathered held = ([], append-nil gathered, Appends-nil held)
 
 -- a long reply could not be put where the sink failed
 pub breaks_long : (r : Result (Unit {0}) RunFault) (g text : List ℕ) (old new : Option (List ℕ)) (before after : ℕ) → IfErr r (λ fault. fault ≡ Write) → OnErr r (AppendsProperPrefix old new (g ++ text))

@@ -13,8 +13,7 @@ ghost use Rattle.ct_replies.specs.Writing.{PutsOut, WritesSome};
 use crate::answers::Answers;
 use crate::session::Session;
 use ct_io::{LineFault, LineReader, RunFault, Sink, Source};
-use ct_pieces::Piece;
-use ct_replies::{LongReply, MAX_GATHERED, break_off, put_long, write_gathered};
+use ct_replies::{LongReply, MAX_GATHERED, break_off, write_gathered};
 use std::alloc::Global;
 
 /// Writes the replies that were gathered where the reader is about to read, or where they are many.
@@ -59,24 +58,24 @@ enum Step {
 
 /// Puts a long reply after the replies that are gathered. Space for what is gathered comes first: after an `Err` that is want of memory
 /// nothing of the reply was written.
-fn answer_long<K: Sink>(
-    pieces: &[Piece],
+fn answer_long<A: Answers, K: Sink>(
+    answers: &A,
     reply: &LongReply,
     gathered: &mut Vec<u8>,
     sink: &mut K,
 ) -> Result<(), RunFault>
     requires { length gathered.old.items < MAX_GATHERED }
-    ensures put { OnOk result (PutsOut (long_text reply.now pieces.now) gathered.old.items gathered.new.items
+    ensures put { OnOk result (PutsOut (long_text reply.now (A.standing answers.now)) gathered.old.items gathered.new.items
         (K.holds sink.old) (K.holds sink.new)) }
     ensures few { OnOk result (length gathered.new.items ≤ MAX_GATHERED) }
-    ensures broken_off { IfErr result (λ fault. BreaksLong fault gathered.old.items (long_text reply.now pieces.now)
+    ensures broken_off { IfErr result (λ fault. BreaksLong fault gathered.old.items (long_text reply.now (A.standing answers.now))
         (K.holds sink.old) (K.holds sink.new) (K.faults sink.old) (K.faults sink.new)) }
     ensures counted { K.faults sink.old ≤ K.faults sink.new }
 {
     let Ok(()) = gathered.reserve(MAX_GATHERED) else {
         return Err(break_off(sink, gathered, RunFault::Memory));
     };
-    put_long(sink, gathered, pieces, reply)
+    answers.put_long(sink, gathered, reply)
 }
 
 /// Answers the command that the line completes, if it completes one, among the replies that are gathered. After an `Err` the session is
@@ -98,7 +97,7 @@ fn answer_line<A: Answers, K: Sink>(
 {
     match session.take_line(alloc, &line, gathered) {
         Ok(None) => Ok(()),
-        Ok(Some(reply)) => answer_long(session.pieces(), &reply, gathered, sink),
+        Ok(Some(reply)) => answer_long(session.answers(), &reply, gathered, sink),
         Err(_) => Err(break_off(sink, gathered, RunFault::Memory)),
     }
 }

@@ -9,7 +9,6 @@ ghost use Rattle.ct_replies.specs.LongReply.{owed_text};
 
 use crate::answers::Answers;
 use ct_commands::{Command, CommandReader};
-use ct_pieces::Piece;
 use ct_replies::{AnyReply, LongReply, Refusal, Reply, put_reply};
 use std::alloc::{AllocError, Global};
 use std::marker::Model;
@@ -94,11 +93,11 @@ impl<A: Answers> Session<A> {
         self.reader.has_open_submission()
     }
 
-    /// The pieces that stand.
-    pub(crate) fn pieces(&self) -> &[Piece]
-        ensures { result.now ≡ self.now.pieces }
+    /// What answers its commands.
+    pub(crate) fn answers(&self) -> &A
+        ensures { A.standing result.now ≡ self.now.pieces }
     {
-        self.answers.pieces()
+        &self.answers
     }
 
     /// Takes the next line, and puts the reply to the command that it completes, if it completes one, at the end of the text, or tells

@@ -18,7 +18,7 @@ returns-in-Ok-None-clause-few g c =
 pub returns-in-Ok-Some-clause-line : goal.returns-in-Ok-Some-clause-line
 returns-in-Ok-Some-clause-line g c =
     let puts = rw (c.in-Ok-Some.field-0-is, c.deref.ensures.value) at c.in-Ok-Some.ensures.line in
-    let put = rw c.pieces.ensures at c.answer_long.ensures.put in
+    let put = rw c.answers.ensures at c.answer_long.ensures.put in
     text_answered _ _ _ _ _ c.take_line.new.replies.items _ (long_text c.in-Ok-Some.reply c.take_line.new.self.pieces) _ _ puts put
 
 pub returns-in-Ok-Some-clause-few : goal.returns-in-Ok-Some-clause-few
@@ -27,5 +27,5 @@ returns-in-Ok-Some-clause-few g c = on_ok_weaker _ (few_kept _) c.answer_long.en
 pub returns-in-Ok-Some-clause-broken_off : goal.returns-in-Ok-Some-clause-broken_off
 returns-in-Ok-Some-clause-broken_off g c =
     let puts = rw (c.in-Ok-Some.field-0-is, c.deref.ensures.value) at c.in-Ok-Some.ensures.line in
-    let broken = rw c.pieces.ensures at c.answer_long.ensures.broken_off in
+    let broken = rw c.answers.ensures at c.answer_long.ensures.broken_off in
     breaks_line _ _ _ _ _ _ _ _ _ _ _ puts (c.in-Ok-Some.ensures.unput (ap is_some c.in-Ok-Some.field-0-is)) broken

@@ -1,0 +1,2 @@
+mod Outputs
+mod WordTexts

@@ -1,4 +1,0 @@
-use Rattle.ct_replies.proofs.output.put_long.Goals as goal
-
-pub returns-in-Code-clause-prefix : goal.returns-in-Code-clause-prefix
-returns-in-Code-clause-prefix g c = rw c.in-Code.is c.put_code.ensures.prefix
