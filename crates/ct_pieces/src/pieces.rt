@@ -1,6 +1,6 @@
 //! Pieces of evidence by themselves, without a table.
 
-ghost use Rattle.std.specs.Prelude.{◌≡◌, ◌≢◌, ◌≤◌, ◌<◌, ◌+◌, ◌^◌, ◌∷◌, ◌++◌, List, Result, Ok, Err, Some, None, false, IfOk, IfErr, IfSome, IsSome, IsTrue, OnOk, OnErr, [], All, find, is_some, length, not, option_map, remove, ℕ, true, filter};
+ghost use Rattle.std.specs.Prelude.{◌≡◌, ◌≢◌, ◌≤◌, ◌<◌, ◌+◌, ◌^◌, ◌∷◌, ◌++◌, List, Result, Ok, Err, Some, None, false, IfOk, IfErr, IfSome, IsSome, IsTrue, OnOk, OnErr, [], All, find, is_some, length, not, option_map, remove, ℕ, true, filter, vec_len, vec_capacity};
 ghost use Rattle.ct_codes.specs.Code.{IsSoundCode};
 ghost use Rattle.ct_text.specs.Id.{is_id};
 ghost use Rattle.ct_files.specs.Document.{document_read_of, without_cites};
@@ -89,6 +89,30 @@ fn stored_with(stored: u64, piece: &Piece) -> Result<u64, SubmitFault>
     if total > MAX_STORED {
         return Err(SubmitFault::FullWords(total));
     }
+    Ok(total)
+}
+
+/// Makes room for one more of the pieces and one more of the codes, where the words of this piece may be stored beside so many: how many are
+/// stored with them. Pieces and codes stay as they are.
+fn make_room(
+    stored: u64,
+    piece: &Piece,
+    pieces: &mut Vec<Piece>,
+    kept: &mut Vec<Option<Code>>,
+) -> Result<u64, SubmitFault>
+    requires { stored ≤ MAX_STORED }
+    ensures total { IfOk result (λ total. (total ≡ stored + stored_by piece.now) × (total ≤ MAX_STORED)) }
+    ensures accepted { IfOk result (λ _. if_stored (stored + stored_by piece.now) piece.now ≡ Ok piece.now) }
+    ensures fault { IfErr result (λ fault. fault ≢ SubmitFault.Memory
+        → if_stored (stored + stored_by piece.now) piece.now ≡ Err fault) }
+    ensures pieces { pieces.new.items ≡ pieces.old.items }
+    ensures kept { kept.new.items ≡ kept.old.items }
+    ensures piece_room { OnOk result (vec_len pieces.new < vec_capacity pieces.new) }
+    ensures code_room { OnOk result (vec_len kept.new < vec_capacity kept.new) }
+{
+    let total = stored_with(stored, piece)?;
+    pieces.reserve(1)?;
+    kept.reserve(1)?;
     Ok(total)
 }
 
@@ -249,10 +273,8 @@ impl Pieces {
             → if_stored (stored_words self.old + stored_by made.piece) made.piece ≡ Err fault) }
         ensures unchanged { OnErr result (self.new ≡ self.old) }
     {
-        let stored = stored_with(self.stored, &made.piece)?;
+        let stored = make_room(self.stored, &made.piece, &mut self.pieces, &mut self.kept)?;
         let size = made.piece.size();
-        self.pieces.reserve(1)?;
-        self.kept.reserve(1)?;
         self.pieces.push_reserved(made.piece);
         self.kept.push_reserved(made.kept);
         self.stored = stored;

@@ -31,9 +31,9 @@ invariant_of-self-2 c =
     let small : stored_words items + stored_by p ≤ MAX_STORED = subst (λ (t : ℕ). t ≤ MAX_STORED) total c.in_ok-stored.ensures.total.1 in
     let standing = one_more items c.args.self.now p c.self.view_is c.self.invariant.0 c.requires.made c.requires.named c.requires.free c.requires.room small in
     let own = c.requires.kept ∙ ap (λ (ps : List PieceValue). kept_over (codes_of ps) p.evidence) (sym c.self.view_is) in
-    let kept = c.push_reserved-2.ensures.items ∙ ap (λ (ks : List (Option CodeValue)). ks ++ c.args.made.kept ∷ []) (c.in_ok-reserve-2.ensures.items ∙ c.self.invariant.2)
+    let kept = c.push_reserved-2.ensures.items ∙ ap (λ (ks : List (Option CodeValue)). ks ++ c.args.made.kept ∷ []) (c.in_ok-stored.ensures.kept ∙ c.self.invariant.2)
     ∙ ap (λ (k : Option CodeValue). kept_codes items ++ k ∷ []) own ∙ sym (kept_codes-push items p) in
-    let pushed : c.push_reserved.new.self.items ≡ items ++ p ∷ [] = c.push_reserved.ensures.items ∙ ap (λ (ps : List PieceValue). ps ++ p ∷ []) c.in_ok-reserve.ensures.items in
+    let pushed : c.push_reserved.new.self.items ≡ items ++ p ∷ [] = c.push_reserved.ensures.items ∙ ap (λ (ps : List PieceValue). ps ++ p ∷ []) c.in_ok-stored.ensures.pieces in
     rw pushed (standing, total ∙ sym (sum_by_push stored_by items p), kept)
 
 pub returns-clause-standing : goal.returns-clause-standing
@@ -42,13 +42,13 @@ returns-clause-standing c =
     let p = c.args.made.piece in
     let total : c.in_ok-stored.stored ≡ stored_words items + stored_by p = c.in_ok-stored.ensures.total.0 ∙ ap (λ (s : ℕ). s + stored_by p) c.self.invariant.1 in
     let small : stored_words items + stored_by p ≤ MAX_STORED = subst (λ (t : ℕ). t ≤ MAX_STORED) total c.in_ok-stored.ensures.total.1 in
-    let pushed : c.push_reserved.new.self.items ≡ items ++ p ∷ [] = c.push_reserved.ensures.items ∙ ap (λ (ps : List PieceValue). ps ++ p ∷ []) c.in_ok-reserve.ensures.items in
+    let pushed : c.push_reserved.new.self.items ≡ items ++ p ∷ [] = c.push_reserved.ensures.items ∙ ap (λ (ps : List PieceValue). ps ++ p ∷ []) c.in_ok-stored.ensures.pieces in
     rw pushed (one_more items c.args.self.now p c.self.view_is c.self.invariant.0 c.requires.made c.requires.named c.requires.free c.requires.room small)
 
 pub returns-clause-supports : goal.returns-clause-supports
 returns-clause-supports c =
     let items = c.self.inside.pieces.items in
     let p = c.args.made.piece in
-    let pushed : c.push_reserved.new.self.items ≡ items ++ p ∷ [] = c.push_reserved.ensures.items ∙ ap (λ (ps : List PieceValue). ps ++ p ∷ []) c.in_ok-reserve.ensures.items in
+    let pushed : c.push_reserved.new.self.items ≡ items ++ p ∷ [] = c.push_reserved.ensures.items ∙ ap (λ (ps : List PieceValue). ps ++ p ∷ []) c.in_ok-stored.ensures.pieces in
     ap supports_of pushed ∙ supports-push items p ∙ ap (λ (ps : List PieceValue). supports_of ps ++ support_of p ∷ []) c.self.view_is
     ∙ ap (λ (s : Support). supports_of c.args.self.now ++ s ∷ []) (sym c.requires.support)
