@@ -2,7 +2,7 @@
 use Rattle.std.proofs.Common.{◌≡◌, ℕ, ◌+◌, suc, ◌<◌, ◌≤◌, List, [], ◌∷◌, drop, ◌++◌, ◌-◌, length, map, flat_map, All, Contains, Option, Some, None, true, refl, sym, ap, subst, ◌∙◌, arith, inl, inr, ◌⊎◌}
 use Rattle.std.specs.Prelude.{slice_get, IfSome, false, is_some}
 use Rattle.std.proofs.lemmas.Bool.{and_parts, cases_eq}
-use Rattle.std.proofs.lemmas.List.Elements.{All-nil, All-cons, All-head, All-tail, All-append, All-contains, All-drop, All-weaker}
+use Rattle.std.proofs.lemmas.List.Elements.{All-nil, All-cons, All-head, All-tail, All-append, All-contains, All-drop, All-take, All-weaker}
 use Rattle.std.proofs.lemmas.Option.{none-some, same_Some}
 use Rattle.std.specs.List.{range_with_len}
 use Rattle.ct_codes.specs.declared.claim.Side.{Side}
@@ -26,7 +26,7 @@ use Rattle.ct_rules.proofs.RuleLists.{rules_at-complete}
 use Rattle.ct_offers.specs.declared.best.Best.{Best}
 use Rattle.ct_slots.specs.Places.{GivesTo, ArePlaces, IsPlaceOf, IsUpTo}
 use Rattle.ct_offers.specs.Offers.{IsGiven, IsWithin}
-use Rattle.ct_offers.specs.Inside.Pulled.{IsPulled, given_rule}
+use Rattle.ct_offers.specs.Inside.Pulled.{IsPulled, resting_rules, given_rule}
 use Rattle.ct_offers.proofs.BoundingRules.{bounding-bound, bounding-odd, bounding-weighted, bounding-local, bounding_dual}
 use Rattle.ct_offers.proofs.PullingLemmas.{over-applies}
 
@@ -222,11 +222,19 @@ sides_of Lower n d (Some w) = lower_weight_alone
 sides_of Upper n d None = upper_alone
 sides_of Upper n d (Some w) = upper_weight_alone
 
-pub sides_of_others : (side : Side) (e : Entry) (rules : List Rule) → rules ≡ drop 1 (rules_alone (side, e))
+resting_sides : (side : Side) (n d : ℕ) (w : Option ℕ) → All (λ (r : Rule). rule_side r ≡ side) (rules_alone (side, record { n = n; d = d; w = w }))
+    → All (λ (r : Rule). rule_side r ≡ side) (resting_rules (side, record { n = n; d = d; w = w }))
+resting_sides Lower n d w each = All-drop (λ (r : Rule). rule_side r ≡ Lower) 2 (rules_alone (Lower, record { n = n; d = d; w = w })) each
+resting_sides Upper n d None each = All-drop (λ (r : Rule). rule_side r ≡ Upper) 4 (rules_alone (Upper, record { n = n; d = d; w = None })) each
+resting_sides Upper n d (Some w) each =
+    All-take (λ (r : Rule). rule_side r ≡ Upper) 5 (drop 3 (rules_alone (Upper, record { n = n; d = d; w = Some w })))
+    (All-drop (λ (r : Rule). rule_side r ≡ Upper) 3 (rules_alone (Upper, record { n = n; d = d; w = Some w })) each)
+
+pub sides_of_resting : (side : Side) (e : Entry) (rules : List Rule) → rules ≡ resting_rules (side, e)
     → All (λ (r : Rule). rule_side r ≡ side) rules
-sides_of_others side e rules are =
+sides_of_resting side e rules are =
     subst (All (λ (r : Rule). rule_side r ≡ side)) (sym are)
-    (All-drop (λ (r : Rule). rule_side r ≡ side) 1 (rules_alone (side, e))
+    (resting_sides side e.n e.d e.w
     (All-weaker (IsAloneOn side) (λ (r : Rule). rule_side r ≡ side) (λ r h. h.1) (rules_alone (side, e)) (sides_of side e.n e.d e.w)))
 
 -- fewer are left after the next one

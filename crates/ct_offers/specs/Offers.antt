@@ -1,14 +1,11 @@
 -- What the rules give at a slot over the bounds that stand.
-use Rattle.std.specs.Prelude.{◌≡◌, ℕ, if◌then◌else◌, List, map, Option, Some, None, slice_get}
-use Rattle.ct_codes.specs.declared.claim.Side.TheVariants.{Lower}
+use Rattle.std.specs.Prelude.{◌≡◌, ℕ, if◌then◌else◌, List, [], map, Option, Some, None}
 use Rattle.ct_codes.specs.declared.entry.Entry.{Entry}
 use Rattle.ct_codes.specs.Entry.{IsEntry}
 use Rattle.ct_rule_parts.specs.declared.support.Support.{Support}
 use Rattle.ct_rule_parts.specs.Slot.{Slot, IsBetter, IsNoBetter}
 use Rattle.ct_rules.specs.declared.rule.Rule.{Rule}
-use Rattle.ct_rules.specs.declared.rule.Rule.TheVariants.{M9}
-use Rattle.ct_rules.specs.Listing.{rules_alone}
-use Rattle.ct_rules.specs.Rule.{rule_side, premises_at, applies, value_of}
+use Rattle.ct_rules.specs.Rule.{rule_side, place_of, parts_of, premises_at, applies, value_of}
 
 -- the bound that a rule gives at an entry over the bounds that stand
 abbrev pub value_over : List Support → (Slot → ℕ) → Rule → Entry → Option ℕ
@@ -28,8 +25,7 @@ IsWithin supports bounds s best r = (v : ℕ) → value_over supports bounds r s
 abbrev pub IsLimit : List Support → (Slot → ℕ) → Slot → ℕ → Type 0
 IsLimit supports bounds s limit = (r : Rule) → rule_side r ≡ s.0 → IsWithin supports bounds s limit r
 
--- no rule that rests on nothing gives anything better than what stands: neither the first of a slot with neither numbers nor a support, nor a
--- sum class
-pub record AreGrounded (supports : List Support) (bounds : Slot → ℕ) : Type 0 where
-  pub first : (s : Slot) (r : Rule) → IsEntry s.1 → slice_get (rules_alone s) 0 ≡ Some r → IsWithin supports bounds s (bounds s) r
-  pub classes : (e : Entry) (k : ℕ) → IsEntry e → IsWithin supports bounds (Lower, e) (bounds (Lower, e)) (M9 k)
+-- no rule that rests on nothing, neither on a support nor on a bound, gives anything better than what stands
+abbrev pub AreGrounded : List Support → (Slot → ℕ) → Type 0
+AreGrounded supports bounds = (r : Rule) (e : Entry) → IsEntry e → place_of r ≡ None → (parts_of r None).rests_on e ≡ [] →
+    IsWithin supports bounds (rule_side r, e) (bounds (rule_side r, e)) r

@@ -1,6 +1,6 @@
 //! The best bound that the rules give at a slot over what stands.
 
-ghost use Rattle.std.specs.Prelude.{◌≡◌, ◌<◌, ◌≤◌, ◌^◌, ◌∷◌, [], ℕ, List, true, false, if◌then◌else◌, Some, None, IfSome, All, drop, take, map, length, slice_get};
+ghost use Rattle.std.specs.Prelude.{◌≡◌, ◌<◌, ◌≤◌, ◌^◌, ◌∷◌, [], ℕ, List, true, false, if◌then◌else◌, Some, None, IfSome, All, take, map, length, slice_get};
 ghost use Rattle.ct_words.specs.declared.limits.TheConstants.{MAX_BOUND, MAX_N};
 ghost use Rattle.ct_codes.specs.declared.claim.Side.TheVariants.{Lower, Upper};
 ghost use Rattle.ct_codes.specs.Entry.{IsEntry, is_entry};
@@ -16,7 +16,7 @@ ghost use Rattle.ct_rules.specs.Rule.{rule_side, is_by_weight, parts_over};
 ghost use Rattle.ct_slots.specs.Number.{bound_of};
 ghost use Rattle.ct_slots.specs.Places.{ArePlaces};
 ghost use Rattle.ct_offers.specs.Offers.{value_over, AreGrounded, IsGiven, IsLimit, IsWithin};
-ghost use Rattle.ct_offers.specs.Inside.Pulled.{IsPulled, bounding_rule, bounding_rule_of_weight, given_rule, rule_of_weight};
+ghost use Rattle.ct_offers.specs.Inside.Pulled.{IsPulled, resting_rules, bounding_rule, bounding_rule_of_weight, given_rule, rule_of_weight};
 
 use crate::best::Best;
 use crate::side_by_side::best_side_by_side;
@@ -214,14 +214,20 @@ fn ask_each(
     }
 }
 
-/// The rules of the slot with neither numbers nor a support, but the first.
-fn others_alone(side: Side, entry: Entry) -> &'static [Rule]
-    ensures { result.now ≡ drop 1 (rules_alone (side, entry)) }
+/// The rules of the slot with neither numbers nor a support that rest on a bound.
+fn resting_rules(side: Side, entry: Entry) -> &'static [Rule]
+    ensures { result.now ≡ resting_rules (side, entry) }
 {
-    &rules_alone(side, entry)[1..]
+    let rules = rules_alone(side, entry);
+    match (side, entry.w) {
+        (Side::Lower, _) => &rules[2..],
+        (Side::Upper, None) => &rules[4..],
+        (Side::Upper, Some(_)) => &rules[3..8],
+    }
 }
 
-/// Asks each rule of the slot with neither numbers nor a support; the first gives what stands there from the start.
+/// Asks each rule of the slot with neither numbers nor a support, but those that rest on nothing: what stands there is no worse than what
+/// they give.
 fn ask_alone(
     supports: &[Support],
     bounds: &Bounds,
@@ -238,11 +244,11 @@ fn ask_alone(
     ensures pulled { IsPulled supports.now (bound_of bounds.now) (side, entry) best.old best.new }
     ensures within { All (IsWithin supports.now (bound_of bounds.now) (side, entry) best.new.value) (rules_alone (side, entry)) }
 {
-    let others = others_alone(side, entry);
+    let rules = resting_rules(side, entry);
     ask_each(
         supports,
         bounds,
-        others,
+        rules,
         side,
         entry,
         limit,

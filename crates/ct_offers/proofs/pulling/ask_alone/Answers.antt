@@ -1,19 +1,17 @@
-use Rattle.std.proofs.Common.{All, subst}
 use Rattle.ct_rule_parts.specs.Slot.{Slot}
 use Rattle.ct_slots.specs.Number.{bound_of}
-use Rattle.ct_offers.specs.Offers.{IsWithin}
 use Rattle.ct_rules.proofs.ClosedBounds.{no_better-trans}
-use Rattle.ct_offers.proofs.GroundedLemmas.{all_but_first}
-use Rattle.ct_offers.proofs.PulledLemmas.{sides_of_others}
+use Rattle.ct_offers.proofs.GroundedLemmas.{all_but_grounds}
+use Rattle.ct_offers.proofs.PulledLemmas.{sides_of_resting}
 use Rattle.ct_offers.proofs.pulling.ask_alone.Goals as goal
 
 pub ask_each-requires-clause-sides : goal.ask_each-requires-clause-sides
-ask_each-requires-clause-sides c = sides_of_others c.args.side c.args.entry c.others_alone-others.result.now c.others_alone-others.ensures
+ask_each-requires-clause-sides c = sides_of_resting c.args.side c.args.entry c.resting_rules-rules.result.now c.resting_rules-rules.ensures
 
 pub returns-clause-within : goal.returns-clause-within
 returns-clause-within c =
     let f = bound_of c.args.bounds.now in
     let s : Slot = (c.args.side, c.args.entry) in
-    all_but_first c.args.supports.now f c.args.side c.args.entry c.ask_each.new.best.value c.requires.grounded c.requires.entry
+    all_but_grounds c.args.supports.now f c.args.side c.args.entry c.ask_each.new.best.value c.requires.grounded c.requires.entry
     (no_better-trans c.args.side (f s) c.args.best.now.value c.ask_each.new.best.value c.requires.standing c.ask_each.ensures.pulled.no_worse)
-    (subst (All (IsWithin c.args.supports.now f s c.ask_each.new.best.value)) c.others_alone-others.ensures c.ask_each.ensures.within)
+    c.resting_rules-rules.result.now c.resting_rules-rules.ensures c.ask_each.ensures.within

@@ -1,6 +1,7 @@
 use Rattle.ct_slots.specs.Number.{bound_of}
 use Rattle.ct_codes.specs.declared.claim.Side.TheVariants.{Lower}
 use Rattle.ct_rules.specs.declared.rule.Rule.TheVariants.{M9}
+use Rattle.ct_offers.proofs.GroundedLemmas.{class_grounded}
 use Rattle.ct_offers.proofs.PulledLemmas.{within_better, asked_upper, asked_lower, some_below, from_standing}
 use Rattle.ct_offers.proofs.pulling.best_offer.Goals as goal
 
@@ -25,5 +26,5 @@ returns-in-Lower-clause-within c =
     (λ k. within_better supports f (Lower, c.args.entry) (f (Lower, c.args.entry)) c.ask_below.new.best.value (M9 k)
     (from_standing supports f c.args.side c.args.entry c.standing-best.result c.ask_unsupported.new.best c.ask_below.new.best c.in-Lower.is
     c.standing-best.ensures.value c.ask_unsupported.ensures.pulled c.ask_below.ensures.pulled)
-    (c.requires.grounded.classes c.args.entry k c.requires.entry))
+    (class_grounded supports f c.args.entry k c.requires.grounded c.requires.entry))
     c.ask_below.ensures.given
