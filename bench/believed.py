@@ -1,12 +1,14 @@
 #!/usr/bin/env python3
 """What has to be believed of `run`: the definitions that its clauses cite, those that these cite, and so on.
 
-believed.py            prints them by crate and file, each with the comment above it
-believed.py --missing  prints which of them docs/DEFINITIONS.md does not name, and ends with 1 where there are some
-believed.py --beyond   prints which names of docs/DEFINITIONS.md `run` does not reach
+believed.py            prints them by file, each with the comment above it
+believed.py --check    compares them with the rows of docs/THEOREM.md: says which of them no row has, which row has what `run` does not reach, which
+                       comes before something that it rests on or stands twice, and which stand in docs/LAWS.md too, where all other definitions have
+                       rows, but for those of specs/Inside/, which inner functions alone cite; ends with 1 where there are some
 
-A name in a clause or a definition stands for what its file defines or imports under that name. The types of `src/` are
-reached by their names too, and what a type's meaning (`ghost view`, `ghost Value`) cites; bodies, proofs and laws are not.
+A name in a clause or a definition stands for what its file defines or imports under that name. The types and constants of `src/` are
+reached by their names too, what a type's meaning (`impl Model`) cites, and the traits of the source and the sink; bodies, proofs and laws are not. A row names definitions, in
+backticks, and the files below crates/ in which they stand: a row `a`, `b` with two files has each name in whichever of the files has it.
 """
 
 import re
@@ -16,7 +18,10 @@ from pathlib import Path
 TOP = Path(__file__).resolve().parent.parent
 CRATES = TOP / "crates"
 RUN = "ct_run/src/dispatch.rt"
-HEAD = re.compile(r"(?:(?:abbrev|unfoldable|opaque) )*(?:pub )?(?:(?:abbrev|unfoldable|opaque) )*(?:(record|data) )?([^\s:(){}]+)(?= |:)")
+HEAD = re.compile(
+    r"(?!(?:pub )?(?:mod|infixl|infixr|unfolding) )(?:(?:abbrev|unfoldable|opaque) )*(?:pub )?(?:(?:abbrev|unfoldable|opaque) )*"
+    r"(?:(record|data) )?([^\s:(){}]+)(?= [\w({:◌=]|:)"
+)
 USE = re.compile(r"^\s*(?:pub )?(?:ghost )?(?:pub )?use Rattle\.(ct_\w+)\.specs\.([\w.]+?)\.\{([^}]*)\}", re.M)
 
 
@@ -62,11 +67,12 @@ class Spec:
 
 
 def imports(text):
-    """Where the names that a file imports are defined: (crate, module)."""
+    """What the names that a file imports stand for: (crate, module, name)."""
     found = {}
     for crate, module, names in USE.findall(text):
         for name in names.split(","):
-            found[name.strip()] = (crate, module)
+            name, _, other = name.strip().partition(" as ")
+            found[other or name] = (crate, module, name)
     return found
 
 
@@ -85,74 +91,136 @@ def clauses(path, call):
     return text[start:body], imports(text)
 
 
+def traits(path, call):
+    """The traits that a call of src/ asks of its types, whose clauses are a premise: (crate, module, name)."""
+    text = (CRATES / path).read_text()
+    asked = re.findall(r"\w+: (\w+)", re.search(rf"^pub fn {call}<([^>]*)>", text, re.M)[1])
+    for crate, names in re.findall(r"^use (ct_\w+)::\{([^}]*)\};", text, re.M):
+        for name in set(asked) & {it.strip() for it in names.split(",")}:
+            file = next(file for file in (CRATES / crate / "src").glob("**/*.rt") if f"pub trait {name} " in file.read_text())
+            yield crate, f"declared.{file.stem}.{name}", name
+
+
 def declared(crate, module, name):
-    """The text of a type's meaning in src/, with its file's imports: what its `Model` says, or its fields."""
+    """The text of a type's meaning in src/, with its file's imports: what its `Model` says; of a trait, its members and clauses."""
     parts = module.split(".")[1:]
     for length in range(len(parts), 0, -1):
         path = CRATES / crate / "src" / Path(*parts[:length]).with_suffix(".rt")
         if path.exists():
             text = path.read_text()
-            meaning = "\n".join(re.findall(rf"impl(?:<[^>]*>)? Model for {name}\b.*?^}}", text, re.M | re.S))
+            meaning = "\n".join(re.findall(rf"(?:impl(?:<[^>]*>)? Model for|^pub trait) {name}\b.*?^}}", text, re.M | re.S))
             return meaning, imports(text)
     return "", {}
 
 
+def cited_by(crate, module, name):
+    """What a definition, or the meaning of a type, cites: (crate, module, name)."""
+    spec = SPECS.get((crate, module))
+    if spec is None:
+        meaning, known = declared(crate, module, name)
+        words = tokens(meaning)
+        return [place for it, place in known.items() if cited(it, words)]
+    block = spec.blocks.get(name)
+    if block is None:
+        # a constructor or a field of a record: the block that has it
+        return [(crate, module, it) for it, text in spec.blocks.items() if re.search(rf"(?m)^\s+(?:pub )?{re.escape(name)} :", text)]
+    words = tokens(block)
+    return [(crate, module, it) for it in spec.names() if it != name and cited(it, words)] + [place for it, place in spec.imports.items() if cited(it, words)]
+
+
 def reached():
-    """All that the clauses of `run` rest on: (crate, module, name), in the order in which they are met."""
+    """All that the clauses of `run` and the traits that it asks for rest on: (crate, module, name)."""
     text, known = clauses(RUN, "run")
     words = tokens(text)
-    todo = [(*known[name], name) for name in known if cited(name, words)]
-    seen = {}
+    todo = [place for name, place in known.items() if cited(name, words)] + list(traits(RUN, "run"))
+    seen = set()
     while todo:
-        crate, module, name = todo.pop()
-        if (crate, module, name) in seen:
-            continue
-        seen[crate, module, name] = True
-        spec = SPECS.get((crate, module))
-        if spec is None:
-            meaning, known = declared(crate, module, name)
-            words = tokens(meaning)
-            todo += [(*known[it], it) for it in known if cited(it, words)]
-            continue
-        block = spec.blocks.get(name)
-        if block is None:
-            # a constructor or a field of a record: the block that has it
-            owners = [it for it, text in spec.blocks.items() if re.search(rf"(?m)^\s+(?:pub )?{re.escape(name)} :", text)]
-            todo += [(crate, module, it) for it in owners]
-            continue
-        words = tokens(block)
-        todo += [(crate, module, it) for it in spec.names() if it != name and cited(it, words)]
-        todo += [(*place, it) for it, place in spec.imports.items() if cited(it, words)]
-    return [it for it in seen if it[:2] in SPECS and it[2] in SPECS[it[:2]].blocks], [it for it in seen if it[:2] not in SPECS]
+        place = todo.pop()
+        if place not in seen:
+            seen.add(place)
+            todo += cited_by(*place)
+    return seen
 
 
-def listed():
-    """The names of docs/DEFINITIONS.md."""
-    names = set()
-    for line in (TOP / "docs" / "DEFINITIONS.md").read_text().split("\n"):
-        if line.startswith("| `"):
-            names |= {told.split("::")[-1] for told in re.findall(r"`([^`]+)`", line.split("|")[1])}
-    return names
+def is_definition(place):
+    crate, module, name = place
+    return (crate, module) in SPECS and name in SPECS[crate, module].blocks
+
+
+def file_of(place):
+    """The file below crates/ in which a definition, or a type or constant of src/, stands; none for a variant or a field."""
+    crate, module, name = place
+    if is_definition(place):
+        return f"{crate}/specs/{module.replace('.', '/')}.antt"
+    if not module.startswith("declared") or "TheVariants" in module:
+        return None
+    parts = [part for part in module.split(".")[1:] if part not in ("TheConstants", name)]
+    return f"{crate}/src/{'/'.join(parts) or 'lib'}.rt"
+
+
+def rows(document):
+    """The rows of a document that name definitions: the number of the line, the names, and the files."""
+    for number, line in enumerate((TOP / "docs" / document).read_text().split("\n"), 1):
+        cells = [cell.strip() for cell in line.strip().strip("|").split(" | ")]
+        if line.startswith("| `") and len(cells) == 3:
+            files = re.findall(r"`(ct_\w+/[^`]+)`", cells[2])
+            if files:
+                yield number, re.findall(r"`([^`]+)`", cells[0]), files
+
+
+def stands_in(name, file):
+    """Whether a file of the crates defines the name."""
+    path = CRATES / file
+    if not path.exists():
+        return False
+    if path.suffix == ".antt":
+        return name in Spec(path).blocks
+    return re.search(rf"(?m)^\s*(?:pub )?(?:ghost|const|enum|struct|trait|type) {re.escape(name)}\b", path.read_text()) is not None
+
+
+def listed(document, said):
+    """The places of what the rows of a document name, as (file, name), with their lines; what is no definition is said."""
+    found = {}
+    for number, names, files in rows(document):
+        for name in names:
+            places = [(file, name) for file in files if stands_in(name, file)]
+            if not places:
+                said.append(f"{document}:{number}: {name} stands in no {', '.join(files)}")
+            for place in places:
+                found.setdefault(place, []).append(number)
+    return found
+
+
+def check():
+    """What docs/THEOREM.md and docs/LAWS.md say that is not so."""
+    said = []
+    theorem, laws = listed("THEOREM.md", said), listed("LAWS.md", said)
+    places = {(file_of(place), place[2]): place for place in reached() if file_of(place)}
+    said += [f"THEOREM.md has no row for {name} of {file}, which run reaches" for file, name in sorted(set(places) - set(theorem))]
+    said += [f"THEOREM.md:{theorem[it][0]}: run does not reach {it[1]} of {it[0]}" for it in sorted(set(theorem) - set(places))]
+    said += [f"LAWS.md:{laws[it][0]}: {it[1]} of {it[0]} is reached by run, and stands in THEOREM.md" for it in sorted(set(laws) & set(places))]
+    others = {(f"{crate}/specs/{module.replace('.', '/')}.antt", name) for (crate, module), spec in SPECS.items() for name in spec.names()}
+    others = {it for it in others - set(theorem) - set(laws) if "/Inside/" not in it[0]}
+    said += [f"neither THEOREM.md nor LAWS.md has a row for {name} of {file}" for file, name in sorted(others) if not set(places) & {(file, name)}]
+    for document, found in ("THEOREM.md", theorem), ("LAWS.md", laws):
+        said += [f"{document}:{lines[1]}: {name} of {file} stands in line {lines[0]} too" for (file, name), lines in sorted(found.items()) if len(lines) > 1]
+    for it in sorted(set(theorem) & set(places)):
+        for other in cited_by(*places[it]):
+            before = (file_of(other), other[2])
+            if before[0] != it[0] and before in theorem and theorem[before][0] > theorem[it][0]:
+                said.append(f"THEOREM.md:{theorem[it][0]}: {it[1]} rests on {before[1]}, which comes later, in line {theorem[before][0]}")
+    return said, len([it for it in places if it[0].endswith(".antt")]), len([it for it in places if it[0].endswith(".rt")])
 
 
 def main():
-    definitions, types = reached()
-    if "--missing" in sys.argv:
-        names = listed()
-        missing = [it for it in definitions if it[2] not in names]
-        for crate, module, name in sorted(missing):
-            print(f"{crate}/specs/{module.replace('.', '/')}.antt: {name}: {SPECS[crate, module].comments[name]}")
-        print(f"{len(missing)} of {len(definitions)} definitions that run rests on are not listed")
-        sys.exit(bool(missing))
-    if "--beyond" in sys.argv:
-        names = {name for _, _, name in definitions} | {name for _, _, name in types}
-        beyond = sorted(listed() - names)
-        print("\n".join(beyond))
-        print(f"{len(beyond)} of {len(listed())} names that are listed are not reached by run")
-        return
-    for crate, module, name in sorted(definitions):
-        print(f"{crate}/specs/{module.replace('.', '/')}.antt: {name}: {SPECS[crate, module].comments[name]}")
-    print(f"{len(definitions)} definitions, {len(types)} types and constants of src/, of {sum(len(spec.blocks) for spec in SPECS.values())} definitions in all")
+    if sys.argv[1:] == ["--check"]:
+        said, definitions, others = check()
+        print("\n".join([*said, f"run rests on {definitions} definitions, and {others} types, traits and constants of src/: " + ("see above" if said else "THEOREM.md lists just these")]))
+        sys.exit(bool(said))
+    found = reached()
+    for place in sorted(place for place in found if is_definition(place)):
+        print(f"{file_of(place)}: {place[2]}: {SPECS[place[:2]].comments[place[2]]}")
+    print(f"{sum(map(is_definition, found))} definitions of {sum(len(spec.blocks) for spec in SPECS.values())}")
 
 
 main()

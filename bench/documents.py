@@ -1,8 +1,7 @@
 #!/usr/bin/env python3
-"""Checks what the documents say of the code: that each name in backticks in PROOFS and CLAUSES is one of the crates' sources, that each file
-that PROOFS, DEFINITIONS and RULES name is there, that each name of DEFINITIONS stands in the file of its row, that no cell of
-CLAUSES has more than 120 characters, and that README has at most 140 lines. Prints what is not so, and then ends with 1. Notes which names
-stand in two rows of DEFINITIONS."""
+"""Checks what the documents say of the code: that each name in backticks in PROOFS, THEOREM and LAWS is one of the crates' sources, that each
+file that these and RULES name is there, that no cell of a table of clauses has more than 120 characters, that THEOREM counts what the programs of
+known answers try, and that README has at most 160 lines. Prints what is not so, and then ends with 1. `bench/believed.py --check` compares the definitions of THEOREM with those that `run` reaches."""
 
 import fnmatch
 import re
@@ -14,10 +13,9 @@ CRATES = TOP / "crates"
 # The files of the crates, by their paths.
 FILES = [str(file) for part in ("src", "specs", "proofs") for file in CRATES.glob(f"*/{part}/**/*.*")]
 # Words of the languages and of goals, which no source of the repository defines.
-KNOWN = {"abbrev", "let", "rw", "_", "Copy", "Ok", "Err", "field-0-is"}
+KNOWN = {"abbrev", "let", "rw", "_", "Copy", "Ok", "Err", "field-0-is", "toml", "clap", "yes", "no", "D"}
 
 said = []
-noted = []
 
 
 def sources(*kinds):
@@ -57,7 +55,7 @@ def check_files(name):
 
 
 def defined():
-    """The names that the sources define: definitions, lemmas, fields, functions, types, clauses."""
+    """The names that the sources define: definitions, lemmas, fields, functions, types, clauses; and those that they import."""
     text = "\n".join(sources("specs", "src", "proofs").values())
     patterns = [
         r"(?m)^\s*(?:(?:abbrev|unfoldable|opaque|pub|record|data) )*([^\s:(){}]+)(?: \{[^}]*\}| \([^)]*\))* *:",
@@ -65,7 +63,8 @@ def defined():
         r"(?m)^\s*(?:abbrev |unfoldable |opaque )?pub (\S+)",
         r"\b(?:ensures|requires|invariant) (\w+) \{",
     ]
-    return {name for pattern in patterns for name in re.findall(pattern, text)}
+    imported = {name.strip() for names in re.findall(r"\buse Rattle\.[\w.]+\.\{([^}]*)\}", text) for name in names.split(",")}
+    return {name for pattern in patterns for name in re.findall(pattern, text)} | imported
 
 
 def check_names(name, names):
@@ -79,44 +78,36 @@ def check_names(name, names):
                 said.append(f"{name}:{number}: nothing is named {told}")
 
 
-def check_definitions():
-    """Each name stands in the file of its row, and none in two rows with two files."""
-    texts = sources("specs", "src")
-    section, rows = "", {}
-    for number, line in document("DEFINITIONS.md"):
-        section = line if line.startswith("#") else section
-        row = cells(line)
-        if len(row) < 3 or not row[0].startswith("`"):
-            continue
-        files = names_in(row[2])
-        crates = re.findall(r"ct_\w+", section)
-        for told in names_in(row[0]):
-            last = told.split("::")[-1]
-            rows.setdefault(last, []).append((number, row[2], section))
-            places = [path for path in texts for file in files if path.endswith("/" + file.split("/", 1)[-1] if file.startswith("ct_") else "/" + file)]
-            if files and not any(file.endswith((".antt", ".rt")) for file in files):
-                continue
-            pattern = re.compile(r"(?<![\w-])" + re.escape(last) + r"(?![\w-])")
-            if files and not any(pattern.search(texts[path]) for path in places if not crates or path.split("/")[0] in crates or "/" in files[0]):
-                said.append(f"DEFINITIONS.md:{number}: {told} stands in no {row[2]}")
-    for told, where in sorted(rows.items()):
-        if len({file for _, file, _ in where}) > 1 or len({section for *_, section in where}) > 1:
-            noted.append(f"note: DEFINITIONS.md: {told} stands twice, in lines {', '.join(str(number) for number, *_ in where)}")
+def check_cells(name, end):
+    """No cell of a table of clauses, which stand before a heading, is long."""
+    for number, line in document(name):
+        if line == end:
+            return
+        said.extend(f"{name}:{number}: a cell of {len(cell)} characters" for cell in cells(line) if len(cell) > 120)
+
+
+def check_counts():
+    """How many derivations and duals are known is what the programs that try them write."""
+    text = (TOP / "docs" / "THEOREM.md").read_text()
+    for crate, what in ("ct_verify_tests", "derivations"), ("ct_finder_tests", "duals"):
+        count = (CRATES / crate / "stdout").read_text().split()[0]
+        if f"{count} {what}" not in text:
+            said.append(f"THEOREM.md: {crate} tries {count} {what}")
 
 
 def main():
     names = defined()
-    for name in ("PROOFS.md", "DEFINITIONS.md", "RULES.md"):
+    for name in ("PROOFS.md", "THEOREM.md", "LAWS.md", "RULES.md"):
         check_files(name)
-    for name in ("PROOFS.md", "CLAUSES.md"):
+    for name in ("PROOFS.md", "THEOREM.md", "LAWS.md"):
         check_names(name, names)
-    check_definitions()
-    for number, line in document("CLAUSES.md"):
-        said.extend(f"CLAUSES.md:{number}: a cell of {len(cell)} characters" for cell in cells(line) if len(cell) > 120)
+    check_cells("THEOREM.md", "## What is only tested")
+    check_cells("LAWS.md", "## Definitions that only these cite")
+    check_counts()
     lines = (TOP / "README.md").read_text().count("\n")
-    if lines > 140:
+    if lines > 160:
         said.append(f"README.md: {lines} lines")
-    print("\n".join([*noted, *said, "the documents name what there is"][: None if not said else -1]))
+    print("\n".join(said) or "the documents name what there is")
     sys.exit(bool(said))
 
 
