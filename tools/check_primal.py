@@ -7,7 +7,7 @@
     A(8,4,4): 14 is the least bound
 
 Standard input is what `find` wrote, as in ./code_tables find < entries | tools/check_primal.py. A line `# primal Q I:A ..` stands for the numbers
-A_i = A/Q of Delsarte's linear program (docs/DUALS.md). It is sound where Q and each A are at least 1, the I ascend through the indices of the
+A_i = A/Q of Delsarte's linear program (docs/RULES.md). It is sound where Q and each A are at least 1, the I ascend through the indices of the
 entry, even ones where the dual is of even distances, and
 
     N_k(0) + sum of A_i N_k(i) >= 0   for k = 1 to the degree,

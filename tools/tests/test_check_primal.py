@@ -1,4 +1,4 @@
-"""Primals are checked as docs/DUALS.md says, and the dual beside each: the bound of both is the least."""
+"""Primals are checked as docs/RULES.md says, and the dual beside each: the bound of both is the least."""
 
 import re
 import unittest
@@ -89,7 +89,7 @@ class CheckPrimal(unittest.TestCase):
                 self.assertIn(f"check_primal: refused: line {line} begins no reply", said)
 
     def test_the_worked_primals_of_the_document_are_so(self):
-        text = (TOP / "docs/DUALS.md").read_text().split("## Least, shown by a primal")[1]
+        text = (TOP / "docs/RULES.md").read_text().split("### Least, shown by a primal")[1]
         for part, entry, even, bound in zip(text.split(" by hand.**")[1:], [(16, 6), (8, 4, 4)], (True, False), (256, 14)):
             primal = check_primal.primal_of(re.search(r"# primal [0-9: ]*[0-9]", part)[0])
             self.assertEqual((check_primal.fault(entry, even, primal), check_primal.value(primal)), (None, bound))
