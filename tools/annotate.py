@@ -18,18 +18,21 @@ With --refused only refusals are shown. Ends with 1 where there is one, as the p
 to this session: an id, an entry, a size or a count in them tells, and is named on standard error."""
 
 import argparse
+import json
 import re
 import sys
 import textwrap
+from pathlib import Path
 
 import check_primal
 from code_tables import sessions
 from code_tables.cites import LONGEST_CITE, MOST_CITES
 from code_tables.fitting import Standing
-from code_tables.program import TOP
 from code_tables.sessions import LAST, Refusal, texts_of, words_of
 from code_tables.words import MOST_WORK, distance, span
 
+# The sentences of the refusals: those of docs/FORMATS.md, with which a test compares them.
+REFUSALS = Path(__file__).with_name("refusals.json")
 # The ranges of the fields, as docs/FORMATS.md says them.
 RANGES = {
     "format": "the whole number 1 or 2, and 1 where it is left out",
@@ -48,15 +51,11 @@ RANGES = {
 }
 
 
-def sentences(document):
-    """The patterns of a session's refusals with the sentences of docs/FORMATS.md: those of the section `Refusals`, or above all sections."""
-    found, section = [], "Refusals"
-    for line in sessions.read_text(document).split("\n"):
-        section = line.removeprefix("## ") if line.startswith("## ") else section
-        row = re.match(r"\| `refused ([^`]*)` \| (.*) \|$", line)
-        if row and section == "Refusals":
-            found.append((" ".join("\\S+" if word.isupper() else re.escape(word) for word in row[1].split()), row[2].replace("`", "")))
-    return found
+def sentences(file):
+    """The patterns of a session's refusals with their sentences, as tools/refusals.json has them: a word in capitals stands for any."""
+    def pattern(text):
+        return " ".join(r"\S+" if word.isupper() else re.escape(word) for word in text.split())
+    return [(pattern(row["refused"]), row["where"].replace("`", "")) for row in json.loads(sessions.read_text(file))]
 
 
 def meanings(command, reply, known):
@@ -179,11 +178,11 @@ def main():
     parser = argparse.ArgumentParser(description=__doc__, formatter_class=argparse.RawDescriptionHelpFormatter)
     parser.add_argument("session", help="the session that was run")
     parser.add_argument("--refused", action="store_true", help="show refusals alone")
-    parser.add_argument("--formats", default=TOP / "docs/FORMATS.md", help="the document with the sentences (docs/FORMATS.md)")
+    parser.add_argument("--refusals", default=REFUSALS, metavar="FILE", help="the sentences (tools/refusals.json)")
     options = parser.parse_args()
     some = False
     try:
-        for line, some in annotated(sessions.read_text(options.session), sys.stdin.read(), sentences(options.formats), options.refused):
+        for line, some in annotated(sessions.read_text(options.session), sys.stdin.read(), sentences(options.refusals), options.refused):
             print(line)
     except Refusal as refusal:
         sys.stdout.flush()

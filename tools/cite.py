@@ -5,29 +5,17 @@
     tools/cite.py 24 8 8 examples/library/*.session
 
 N D, or N D W, and then the sessions, which are run one behind the other. The pieces of each side are those of its derivation, with the remarks
-right above the submission and what its document cites; the rules are those of the derivation, with their sources from docs/RULES.md. Then come
+right above the submission and what its document cites; the rules are those of the derivation, with their sources from tools/rules.json. Then come
 the checksum of the program that answered, the commit of its sources and the toolchain that proved them, both `unknown` where no record beside
 the program holds them, and the hash of the sessions. The same as BibTeX stands below: an entry for the bound, and one more, with a `note`, for
 each text that its pieces cite. `--bibtex` gives that alone."""
 
 import argparse
-import re
 import sys
 
 import table
-from code_tables import provenance, sessions
-from code_tables.program import TOP
+from code_tables import provenance
 from code_tables.sessions import Refusal, is_entry, name_of
-
-
-def rule_sources():
-    """The source of each rule, as docs/RULES.md has it."""
-    found = {}
-    for line in sessions.read_text(TOP / "docs/RULES.md").split("\n"):
-        cells = [cell.strip() for cell in line.strip("|").split("|")]
-        if re.fullmatch("[LMUV][0-9]+", cells[0]) and len(cells) > 4:
-            found.setdefault(cells[0], cells[3])
-    return found
 
 
 def rules_of(derivation):
@@ -47,9 +35,9 @@ def side_lines(held, side, entry, value):
         size = "" if piece.size is None else f", {piece.size} words" if piece.size != 1 else ", 1 word"
         yield f"  evidence {piece.id} ({piece.kind} of {name_of(piece.entry)}{size})" + (f": {' '.join(piece.remarks)}" if piece.remarks else "")
         yield from (f"    cites {text}" for text in piece.cites)
-    sources = rule_sources()
+    known = table.rules()
     for rule in rules_of(derivation):
-        yield f"  rule {rule}" + (f": {sources[rule]}" if rule in sources else "")
+        yield f"  rule {rule}" + (f": {known[rule][0]['source']}" if rule in known else "")
 
 
 def as_text(held, entry):

@@ -4,12 +4,13 @@ with it. `mutations.py [--most N]` takes the derivations that the program prints
 drawn by a fixed seed; it prints those on which the two differ, and ends with 1 where there are any."""
 
 import argparse
+import json
 import random
 import re
 import subprocess
 import sys
 
-from support import HAS_PROGRAM, TOP, session
+from support import HAS_PROGRAM, TOOLS, TOP, session
 
 import check_derivation
 from code_tables import sessions
@@ -23,8 +24,8 @@ line 2 lower 6 4 value 4 by L8 from 1
 line 3 lower 5 3 value 4 by L6 from 2
 done
 """
-# The rules that are built: those that docs/RULES.md lists.
-RULES = sorted(set(re.findall(r"^\| ([LMUV][0-9]+) \|", (TOP / "docs/RULES.md").read_text(), re.M)))
+# The rules that are built: those of tools/rules.json.
+RULES = sorted({row["rule"] for row in json.loads((TOOLS / "rules.json").read_text())})
 AHEAD = {*check_derivation.PLAIN, *check_derivation.WEIGHTED, *check_derivation.NAMING} - {*RULES}
 
 

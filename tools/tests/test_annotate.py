@@ -1,5 +1,7 @@
 """Replies stand beside their commands, refusals with what they mean there."""
 
+import json
+import re
 import tempfile
 import tomllib
 import unittest
@@ -21,7 +23,7 @@ CITED = "submit pair\nformat = 2\nkind = 'words'\nn = 4\nd = 4\nwords = ['0000',
 class Annotate(unittest.TestCase):
     def test_each_reply_stands_beside_its_command(self):
         folder = DATA / "annotate"
-        out, said, status = run("annotate.py", "--formats", folder / "formats.md", folder / "many.session", text=data("annotate/many.replies"))
+        out, said, status = run("annotate.py", "--refusals", folder / "refusals.json", folder / "many.session", text=data("annotate/many.replies"))
         self.assertEqual((said, status), ("", 1))
         self.assertEqual(out, data("annotate/many.annotated"))
 
@@ -32,12 +34,17 @@ class Annotate(unittest.TestCase):
         self.assertTrue(all("refused" in line for line in heads))
 
     def test_each_refusal_has_its_sentence(self):
-        known = annotate.sentences(TOP / "docs/FORMATS.md")
+        known = annotate.sentences(annotate.REFUSALS)
         for text in ["cut", "command", "entry", "taken", "full pieces 1000", "full words 1000001", "bytes 4194305", "toml", "kind", "field n",
                      "unknown", "digits 0", "size 0", "weight 1", "work 33554432", "repeated 0 1", "close 0 1 2", "nosuch a", "part a",
                      "short 4 5", "few 1 2", "empty", "inuse a"]:
             with self.subTest(text=text):
                 self.assertTrue(annotate.meanings(Command(1, ["submit", "a"]), f"refused {text}", known))
+
+    def test_the_sentences_are_those_of_the_document(self):
+        section = (TOP / "docs/FORMATS.md").read_text().split("\n## Refusals\n")[1].split("\n## ")[0]
+        rows = [{"refused": text, "where": where} for text, where in re.findall(r"^\| `refused ([^`]*)` \| (.*) \|$", section, re.M)]
+        self.assertEqual(rows, json.loads(annotate.REFUSALS.read_text()))
 
     def test_replies_to_another_session_are_refused(self):
         out, said, status = run("annotate.py", DATA / "annotate/many.session", text=data("annotate/many.replies") + "accepted more size 1\n")
