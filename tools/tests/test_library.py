@@ -1,4 +1,4 @@
-"""The library is accepted, and reaches what docs/LIBRARY.md says, which compares it with what is remembered as published."""
+"""The library is accepted, and reaches what examples/library/README.md says, which compares it with what is remembered as published."""
 
 import json
 import re
@@ -15,7 +15,7 @@ from code_tables.cites import check_cites, cites_of
 FILES = sorted((TOP / "examples/library").glob("*.session"))
 # The last two of them hold the duals, and the last those that exclude an odd number of words.
 CODES, PLAIN_DUALS = FILES[:-2], FILES[:-1]
-TEXT = (TOP / "docs/LIBRARY.md").read_text()
+TEXT = (TOP / "examples/library/README.md").read_text()
 PLAIN = r"^\| A\((\d+),(\d+)\) \| (\d+) \| (\d+) \| (\w+) \| (\d+) \| (\d+) \| (\w+) \|$"
 EXCLUDED = r"^\| A\((\d+),(\d+)\) \| (\d+) \| (\d+) \| (\d+|-) \| (\w+|-) \|$"
 WEIGHT = r"^\| A\((\d+),(\d+),(\d+)\) \| (\d+) \| (\d+) \| (\w+) \|$"
