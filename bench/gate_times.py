@@ -1,7 +1,7 @@
 #!/usr/bin/env python3
 """Runs the gate, and renews what is known of its cost from that one run.
 
-    bench/gate_times.py --anew          the whole gate from nothing, and then docs/GATE.md and bench/gate.tsv
+    bench/gate_times.py --anew          the whole gate from nothing, and then bench/gate.tsv and its sums in bench/RESULTS.md
     bench/gate_times.py NAME ..         these crates and those below them; their rows are printed, and no file changes
 
 The processor seconds of a crate are those of the prover's processes, by what they do: the proof of the crate, the proof of the crate with its
@@ -18,9 +18,9 @@ import time
 
 TOP = pathlib.Path(__file__).resolve().parent.parent
 TABLE = TOP / "bench" / "gate.tsv"
-PAGE = TOP / "docs" / "GATE.md"
+PAGE = TOP / "bench" / "RESULTS.md"
 KINDS = ("proof", "tests", "edits")
-FIRST, LAST = "<!-- The table is written by bench/gate_times.py. -->", "<!-- The end of the table. -->"
+FIRST, LAST = "<!-- These lines are written by bench/gate_times.py. -->", "<!-- The end of the lines. -->"
 TICKS = os.sysconf("SC_CLK_TCK")
 
 
@@ -88,11 +88,8 @@ def summary(table, wall):
 
 
 def written(table, wall):
-    """The lines between the two marks of docs/GATE.md."""
-    head = ["| crate | proof | with tests | edits | seconds of edits |", "|---|---|---|---|---|"]
-    cell = lambda number: str(number) if number else ""
-    body = [f"| `{name}` | {proof} | {cell(tests)} | {cell(count)} | {cell(edits)} |" for name, proof, tests, edits, count in table]
-    return [FIRST, "", *summary(table, wall), "", *head, *body, "", LAST]
+    """The lines between the two marks of bench/RESULTS.md."""
+    return [FIRST, "", *summary(table, wall), "", LAST]
 
 
 def renew(table, wall):
@@ -121,10 +118,10 @@ def main():
         print("\n".join(f"{row[0]}\t" + "\t".join(map(str, row[1:])) for row in table if any(row[1:4])))
         if not given.names:
             why = "the gate failed" if gate.returncode else f"{len(lacking)} crates were not proved in this run: --anew proves all"
-            print(f"gate_times: {why}; docs/GATE.md and bench/gate.tsv stay as they were", file=sys.stderr)
+            print(f"gate_times: {why}; bench/RESULTS.md and bench/gate.tsv stay as they were", file=sys.stderr)
     else:
         renew(table, wall)
-        print("\n".join(written(table, wall)))
+        print("\n".join(summary(table, wall)))
     sys.exit(gate.returncode)
 
 

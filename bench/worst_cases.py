@@ -1,5 +1,5 @@
 #!/usr/bin/env python3
-"""Measures the dearest inputs that the limits allow, of each command and kind, accepted and refused, and prints them as a table for docs/COSTS.md.
+"""Measures the dearest inputs that the limits allow, of each command and kind, accepted and refused, and prints them as a table for bench/RESULTS.md.
 
     bench/worst_cases.py PROGRAM [--plain PROGRAM] [--only NAME,NAME ..] [--runs N] [--instructions] [--list] [--write FOLDER]
 

@@ -73,8 +73,6 @@ class Origin(unittest.TestCase):
         for part in ("src", "specs", "proofs"):
             (top / "crates/ct_program" / part).mkdir(parents=True)
             (top / "crates/ct_program" / part / "text").write_text(part)
-        (top / "docs").mkdir()
-        (top / "docs/GATE.md").write_text("")
         (top / "crates.txt").write_text("ct_program:\n")
         (top / ".gitignore").write_text("out/\n")
         shutil.copy(TOP / "code_tables", top)
