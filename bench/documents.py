@@ -1,7 +1,8 @@
 #!/usr/bin/env python3
 """Checks what the documents say of the code: that each name in backticks in PROOFS, THEOREM and LAWS is one of the crates' sources, that each
-file that these and RULES name is there, that no cell of a table of clauses has more than 120 characters, that THEOREM counts what the programs of
-known answers try, and that README has at most 160 lines. Prints what is not so, and then ends with 1. `bench/believed.py --check` compares the definitions of THEOREM with those that `run` reaches."""
+file that these and RULES name is there, that each page `NAME.md` that a file of the repository names is there, that no cell of a table of clauses
+has more than 120 characters, that THEOREM counts what the programs of known answers try, and that README has at most 90 lines. Prints what is not
+so, and then ends with 1. `bench/believed.py --check` compares the definitions of THEOREM with those that `run` reaches."""
 
 import fnmatch
 import re
@@ -86,6 +87,19 @@ def check_cells(name, end):
         said.extend(f"{name}:{number}: a cell of {len(cell)} characters" for cell in cells(line) if len(cell) > 120)
 
 
+def check_pages():
+    """Each page that is named is there: below the root, or in docs/, or beside the file that names it."""
+    for path in sorted(TOP.rglob("*")):
+        file = path.relative_to(TOP)
+        if {"out", ".git", "__pycache__"} & set(file.parts) or not path.is_file():
+            continue
+        if path.suffix not in (".md", ".py", ".sh", ".rt", ".antt", ".toml", ".session", ".cff", ""):
+            continue
+        for page in set(re.findall(r"(?<![\w/.-])((?:[\w-]+/)*[A-Z]{4,}\.md)", path.read_text(errors="ignore"))):
+            if page != "NAME.md" and not any((folder / page).exists() for folder in (TOP, TOP / "docs", path.parent)):
+                said.append(f"{file}: no page {page}")
+
+
 def check_counts():
     """How many derivations and duals are known is what the programs that try them write."""
     text = (TOP / "docs" / "THEOREM.md").read_text()
@@ -103,9 +117,10 @@ def main():
         check_names(name, names)
     check_cells("THEOREM.md", "## What is only tested")
     check_cells("LAWS.md", "## Definitions that only these cite")
+    check_pages()
     check_counts()
     lines = (TOP / "README.md").read_text().count("\n")
-    if lines > 160:
+    if lines > 90:
         said.append(f"README.md: {lines} lines")
     print("\n".join(said) or "the documents name what there is")
     sys.exit(bool(said))
