@@ -24,7 +24,7 @@ themselves miss an inequality by more than --slack times c_0 + y_i, nothing is w
 bound is taken here, and the program takes the best that its table has. What each --cite says, 1 to 200 bytes of printable ASCII, is what the
 document cites.
 
-With --odd M, an odd number, the multipliers are to show that no code has M words, by parity (docs/DUALS.md, "An odd number of words"):
+With --odd M, an odd number, the multipliers are to show that no code has M words, by parity (docs/RULES.md, "An odd number of words"):
 
     $ printf 'c 0 1\\nc 1 1/3\\nc 2 1/3\\ny 8 16/3\\n' | tools/submit_dual.py o9 9 4 --odd 21
     # A(9,4) <= 20, by the premises A(9,4,8) <= 1
