@@ -12,7 +12,7 @@ from code_tables import sessions
 from code_tables.sessions import Refusal, name_of
 
 # The rules of duals.
-RULES = ("U11", "U12", "V9")
+RULES = ("U11", "U12", "V9", "V10")
 
 
 def read(path):

@@ -34,6 +34,8 @@ class Least(unittest.TestCase):
         shown, wide = ({reply.entry: reply for reply in replies(text)} for text in (PLAIN, WIDE))
         least_dual, other, odd = dual([20, 20, 6, 4, 1]), dual([1]), dual([20, 20, 6, 4, 1], "m = 257\n")
         odd.kind = "odd"
+        local = dual([1], "y = [[6, 1]]\n")
+        local.kind = "jlocal"
         for what, found, words in [
                 (held(least_dual, 256), shown, "The dual k16 is the least of its form: no dual of the entry without y has a smaller bound"),
                 (held(other, 257), shown, "The dual k16 is not the least of its form: one has the bound 256."),
@@ -42,6 +44,7 @@ class Least(unittest.TestCase):
                 (held(least_dual, 256), wide, "is not shown: the run of find ended as wide."),
                 (held(odd, 256, "U12 k16"), shown, "The dual k16 excludes 257 words, since that is odd. Of the duals that exclude no number of "
                                                    "words and have no y 256 is the least bound, shown by a primal."),
+                (held(local, 255, "V10 k16"), shown, "Of the duals without such bounds 256 is the least bound"),
                 (held(odd, 256, "U12 k16"), wide, "The dual k16 excludes 257 words, since that is odd."),
                 (held(least_dual, 256), {}, ""), (held(least_dual, 256, "U7 from 1"), shown, ""), (table.Held(bounds={(16, 6): (1, 256)}), shown, "")]:
             with self.subTest(words=words):
