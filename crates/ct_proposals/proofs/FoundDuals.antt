@@ -7,7 +7,7 @@ use Rattle.ct_codes.specs.Code.{IsTrueUpper}
 use Rattle.ct_codes.specs.Entry.{IsEntry, unrestricted, constant_weight}
 use Rattle.ct_codes.specs.Constructions.Even.{even_from}
 use Rattle.ct_duals.specs.declared.dual.Dual.{Dual}
-use Rattle.ct_duals.specs.Dual.{IsDual, degree_of}
+use Rattle.ct_duals.specs.Dual.{as_distance, IsDual, degree_of}
 use Rattle.ct_duals.specs.Check.{dual_fault}
 use Rattle.ct_duals.specs.Bound.{natural, positive, dual_premises, AreTrueUppers}
 use Rattle.ct_codes.specs.Numbers.{numbers_of, multiplier, combination}
@@ -108,7 +108,7 @@ even-distances e d entry same = even-where e.w e.d d.even (found e d entry same)
 
 -- what it rests on, its bound, and that this is true
 pub premises-none : (d : Dual) → d.y ≡ [] → dual_premises d ≡ []
-premises-none d nothing = ap (λ y. map (λ p. constant_weight d.entry.n (even_from d.entry.d) p.0) (positive y)) nothing
+premises-none d nothing = ap (λ y. map (λ p. constant_weight d.entry.n (even_from d.entry.d) (as_distance d.entry.w p.0)) (positive y)) nothing
 
 pub bound-is : (e : Entry) (d : Dual) → IsEntry e → found_dual e ≡ Some d
     → bound_of d ≡ min MAX_BOUND (natural (combination (numbers_of e) d.c 0) / natural (multiplier d.c 0))
