@@ -36,6 +36,20 @@ With --odd M, an odd number, the multipliers are to show that no code has M word
     m = 21
     c = [3, 1, 1]
     y = [[8, 16]]
+    end
+
+With --local, at an entry with weight, `y I VALUE` is for the bound on the words at distance 2I from a word, as the doubly constant code that they
+are or by A(n,d,2I), and `u I VALUE` says what A(n,d,2I) is at most (docs/DUALS.md, "Seen from a word: jlocal"):
+
+    $ printf 'c 0 8\\nc 1 1\\ny 2 8\\n' | tools/submit_dual.py j8 8 4 4 --local
+    # A(8,4,4) <= 15, with at most 12 words at distance 4 from a word
+    submit j8
+    kind = "jlocal"
+    n = 8
+    d = 4
+    w = 4
+    c = [8, 1]
+    y = [[2, 8]]
     end"""
 
 import argparse
@@ -45,6 +59,7 @@ from fractions import Fraction
 from functools import cache
 from math import comb, factorial, gcd
 
+from check_derivation import doubly
 from code_tables.cites import check_cites, citing
 from code_tables.sessions import LAST, Refusal, is_entry, name_of, number_of
 from code_tables.words import check_id
@@ -75,16 +90,18 @@ def johnson(n, d, w):
 
 
 class Program:
-    """The inequalities of an entry, with bounds on the words at a distance where they are better than Johnson's; and the odd number of words
-    that is to be excluded, where there is one."""
+    """The inequalities of an entry, with bounds on the words at a distance where they are better than Johnson's; the odd number of words
+    that is to be excluded, where there is one; and whether, at an entry with weight, the words at a distance from a word are bounded."""
 
-    def __init__(self, n, d, w, odd=None, uppers=None):
+    def __init__(self, n, d, w, odd=None, uppers=None, local=False):
         entry = (n, d) if w is None else (n, d, w)
         if not is_entry(entry):
             raise Refusal(f"{name_of(entry)} is no entry of the table")
         if odd is not None and (w is not None or odd % 2 == 0 or not 3 <= odd <= MOST_ODD):
             raise Refusal(f"--odd takes an odd number from 3 to {MOST_ODD}, at an entry without weight")
-        self.n, self.d, self.w, self.even, self.odd, self.uppers = n, d, w, w is None and d % 2 == 0, odd, uppers or {}
+        if local and w is None:
+            raise Refusal("--local takes an entry with weight")
+        self.n, self.d, self.w, self.even, self.odd, self.uppers, self.local = n, d, w, w is None and d % 2 == 0, odd, uppers or {}, local
         self.degree = n if w is None else min(w, n - w)
         step = 2 if self.even else 1
         self.range = range(d if w is None else d // 2, self.degree + 1, step)
@@ -99,15 +116,18 @@ class Program:
 
     def premise(self, i):
         """The entry that bounds the words at a distance."""
-        return self.n, self.d + self.d % 2, i
+        return self.n, self.d + self.d % 2, 2 * i if self.local else i
 
     def upper(self, i):
         """The bound on the words at a distance."""
-        return min(johnson(*self.premise(i)), self.uppers.get(i, MOST))
+        seen = doubly(self.w, i, self.n - self.w, i, self.d) if self.local else MOST
+        return min(johnson(*self.premise(i)), self.uppers.get(i, MOST), seen)
 
     def spread(self, c, y):
         """What the sum of f over the pairs of a code is at most, for each of its words: f(0) and what the y add."""
         products = {i: v * self.upper(i) for i, v in y.items()}
+        if self.local:
+            return self.f(c, 0) + sum(products.values())
         far = max((p for i, p in products.items() if 2 * i >= 2 * self.n - self.d), default=0)
         return self.f(c, 0) + far + sum(p for i, p in products.items() if 2 * i < 2 * self.n - self.d)
 
@@ -153,7 +173,7 @@ def read_multipliers(lines, program):
             raise Refusal(f"line {number}: {words[1]} is no whole number below 2^64")
         if value is None:
             raise Refusal(f"line {number}: {words[2]} is no decimal and no fraction")
-        if at > program.degree if name == "c" else at not in program.range or program.w is not None:
+        if at > program.degree if name == "c" else at not in program.range or program.w is not None and not program.local:
             raise Refusal(f"line {number}: there is no {'bound' if name == 'u' else 'multiplier'} {name} {at} at this entry")
         if name == "u" and (value < 1 or value.denominator != 1):
             raise Refusal(f"line {number}: {words[2]} is no number of words from 1 on")
@@ -217,7 +237,7 @@ def reduced(c, y):
 
 def document(program, c, y):
     """The document of a dual."""
-    kind = "jdual" if program.w is not None else "dual" if program.odd is None else "odd"
+    kind = "jlocal" if program.local else "jdual" if program.w is not None else "dual" if program.odd is None else "odd"
     lines = [f'kind = "{kind}"', f"n = {program.n}", f"d = {program.d}"]
     lines += [f"w = {program.w}"] * (program.w is not None) + ["even = true"] * program.even + [f"m = {program.odd}"] * (kind == "odd") + [f"c = {c}"]
     return "\n".join(lines + [f"y = {[[i, x] for i, x in y.items()]}"] * bool(y))
@@ -227,8 +247,11 @@ def submission(name, program, c, y, cites=()):
     """The submission of a dual, with the texts that it cites."""
     c, y = reduced(c, y)
     entry = (program.n, program.d) if program.w is None else (program.n, program.d, program.w)
-    premises = [f"{name_of(program.premise(i))} <= {program.upper(i)}" for i in y]
-    remark = f"# {name_of(entry)} <= {program.bound(c, y)}" + (f", by the premises {', '.join(premises)}" if premises else "")
+    if program.local:
+        premises, said = [f"{program.upper(i)} words at distance {2 * i}" for i in y], "with at most {} from a word"
+    else:
+        premises, said = [f"{name_of(program.premise(i))} <= {program.upper(i)}" for i in y], "by the premises {}"
+    remark = f"# {name_of(entry)} <= {program.bound(c, y)}" + (", " + said.format(", ".join(premises)) if premises else "")
     return "\n".join([remark, f"submit {name}", citing(document(program, c, y), cites), "end", ""])
 
 
@@ -247,13 +270,14 @@ def main():
     parser.add_argument("d", type=whole)
     parser.add_argument("w", type=whole, nargs="?")
     parser.add_argument("--odd", type=whole, metavar="M", help="the odd number of words that the dual is to exclude")
+    parser.add_argument("--local", action="store_true", help="bounds on the words at a distance, at an entry with weight")
     parser.add_argument("--cite", action="append", default=[], metavar="TEXT", help="where the dual comes from, as the document cites it: up to 16 times")
     parser.add_argument("--slack", type=Fraction, default=Fraction(1, 10 ** 6), help="the part of c_0 and y by which f may be too great (1e-6)")
     options = parser.parse_args()
     try:
         check_id(options.id)
         check_cites(options.cite)
-        program = Program(options.n, options.d, options.w, options.odd)
+        program = Program(options.n, options.d, options.w, options.odd, local=options.local)
         c, y = read_multipliers(sys.stdin, program)
         check(program, c, y, options.slack)
         sys.stdout.write(submission(options.id, program, *whole_dual(program, c, y), options.cite))

@@ -118,6 +118,27 @@ class SubmitDual(unittest.TestCase):
         self.assertEqual(session(made + "show 9 4\nshow 8 3\nledger\n").splitlines(),
                          ["accepted a", "16 <= A(9,4) <= 20", "16 <= A(8,3) <= 20", "a odd 9 4 cites 1", "pieces 1"])
 
+    def test_a_code_is_seen_from_a_word(self):
+        five = "c 0 1\nc 1 .0872727273\nc 2 .0059090909\ny 3 .78\n"
+        said = "# A(13,6,5) <= {}, with at most {} words at distance 6 from a word\nsubmit a\nkind = \"jlocal\"\nn = 13\nd = 6\nw = 5\nc = "
+        for text, bound, words in [(five, 20, 16), (five + "u 3 12\n", 17, 12), (five + "u 3 30\n", 20, 16)]:
+            with self.subTest(text=text):
+                out, fault, status = call("submit_dual", "a", 13, 6, 5, "--local", text=text)
+                self.assertEqual((fault, status), ("", 0))
+                self.assertIn(said.format(bound, words), out)
+        for words, text, fault in [((13, 6, "--local"), five, "--local takes an entry with weight"),
+                                   ((13, 6, 5, "--local", "--odd", 21), five, "--odd takes an odd number from 3 to 1048575, at an entry without weight"),
+                                   ((13, 6, 5, "--local"), "y 2 1\n", "line 1: there is no multiplier y 2 at this entry"),
+                                   ((13, 6, 5, "--local"), five.replace(".78", ".7"), "missed at 3: f is 0.78, above 0.7 by 0.08")]:
+            with self.subTest(fault=fault):
+                self.assertEqual(call("submit_dual", "a", *words, text=text), ("", f"submit_dual: refused: {fault}\n", 1))
+
+    @needs_program
+    def test_the_program_takes_a_dual_that_sees_a_code_from_a_word(self):
+        made = run("submit_dual.py", "a", 13, 6, 5, "--local", "--cite", "One, 1972", text="c 0 2200\nc 1 192\nc 2 13\ny 3 1716\n")[0]
+        self.assertEqual(session(made + "show 13 6 5\nledger\n").splitlines(),
+                         ["accepted a", "3 <= A(13,6,5) <= 20", "a jlocal 13 6 5 cites 1", "pieces 1"])
+
     @needs_program
     def test_the_program_accepts_them(self):
         made = run("submit_dual.py", "a", 13, 6, text=data("d13.multipliers"))[0] + run("submit_dual.py", "b", 8, 4, 4, text="c 0 4\nc 1 1.75\nc 2 0.3333333333\n")[0]
