@@ -39,7 +39,7 @@ With --odd M, an odd number, the multipliers are to show that no code has M word
     end
 
 With --local, at an entry with weight, `y I VALUE` is for the bound on the words at distance 2I from a word, as the doubly constant code that they
-are or by A(n,d,2I), and `u I VALUE` says what A(n,d,2I) is at most (docs/DUALS.md, "Seen from a word: jlocal"):
+are or by A(n,d,2I), and `u I VALUE` says what A(n,d,2I) is at most (docs/RULES.md, "Seen from a word: jlocal"):
 
     $ printf 'c 0 8\\nc 1 1\\ny 2 8\\n' | tools/submit_dual.py j8 8 4 4 --local
     # A(8,4,4) <= 15, with at most 12 words at distance 4 from a word

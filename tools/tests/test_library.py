@@ -13,11 +13,10 @@ from code_tables import sessions
 from code_tables.cites import check_cites, cites_of
 
 FILES = sorted((TOP / "examples/library").glob("*.session"))
-# The last two of them hold the duals, and the last those that exclude an odd number of words.
-CODES, PLAIN_DUALS = FILES[:-2], FILES[:-1]
 TEXT = (TOP / "examples/library/README.md").read_text()
 PLAIN = r"^\| A\((\d+),(\d+)\) \| (\d+) \| (\d+) \| (\w+) \| (\d+) \| (\d+) \| (\w+) \|$"
 EXCLUDED = r"^\| A\((\d+),(\d+)\) \| (\d+) \| (\d+) \| (\d+|-) \| (\w+|-) \|$"
+SEEN = r"^\| A\((\d+),(\d+),(\d+)\) \| (\d+) \| (\d+) \|$"
 WEIGHT = r"^\| A\((\d+),(\d+),(\d+)\) \| (\d+) \| (\d+) \| (\w+) \|$"
 
 
@@ -37,15 +36,14 @@ def rows(pattern):
 
 
 @cache
+def first(count):
+    """What the program holds over so many of the sessions."""
+    return table.held(table.read_sessions(FILES[:count]), table.ask_all())
+
+
 def whole():
-    """What the program holds over the whole library."""
-    return table.held(table.read_sessions(FILES), table.ask_all())
-
-
-@cache
-def without_odd():
-    """What it holds over all of it but the duals that exclude an odd number of words."""
-    return table.held(table.read_sessions(PLAIN_DUALS), table.ask_all())
+    """What it holds over the whole library."""
+    return first(len(FILES))
 
 
 class Library(unittest.TestCase):
@@ -66,7 +64,7 @@ class Library(unittest.TestCase):
 
     def test_what_a_session_names_above_all_is_cited(self):
         for number, kinds, years in [(4, ("words",), ["1990"]), (6, ("product",), ["1989", "1990"]), (7, ("dual", "jdual"), ["1973"]),
-                                     (8, ("odd",), ["1973", "1978"])]:
+                                     (8, ("odd",), ["1973", "1978"]), (9, ("jlocal",), ["1972", "1973", "2000"])]:
             for command in sessions.commands(FILES[number - 1].read_text()):
                 if command.fields.get("kind") in kinds:
                     cited = "\n".join(cites_of(command.fields))
@@ -110,32 +108,40 @@ class Library(unittest.TestCase):
         self.assertIn(f"| A(n,d), of {plain} | A(n,d,w), of {len(table.entries()) - plain} |", TEXT)
 
     @needs_program
-    def test_all_codes_are_accepted_and_reach_what_is_said(self):
-        found = table.held(table.read_sessions(CODES), table.ask_all())
-        self.assertEqual(found.refused, [])
-        self.assertEqual((len(found.bounds), exact(found, 2), exact(found, 3)), (len(table.entries()), *told("the six sessions of codes")))
-
-    @needs_program
-    def test_all_duals_are_accepted_and_reach_what_is_said(self):
-        for found, row in (without_odd(), "these and the seventh, of duals"), (whole(), "all eight sessions"):
+    def test_all_are_accepted_and_reach_what_is_said(self):
+        self.assertEqual(len(FILES), 9)
+        for count, row in [(6, "the six sessions of codes"), (7, "these and the seventh, of duals"), (8, "these and the eighth, of odd duals"),
+                           (9, "all nine sessions")]:
+            found = first(count)
             self.assertEqual(found.refused, [])
             self.assertEqual((len(found.bounds), exact(found, 2), exact(found, 3)), (len(table.entries()), *told(row)))
 
     @needs_program
     def test_the_document_says_what_an_odd_number_of_words_excludes(self):
-        better = [entry for entry, bounds in whole().bounds.items() if bounds != without_odd().bounds[entry]]
+        better = [entry for entry, bounds in first(8).bounds.items() if bounds != first(7).bounds[entry]]
         self.assertIn(f"better {len(better)} entries", " ".join(TEXT.split()))
         listed = [entry for entry in better if entry[1] % 2 == 0 or entry[0] == sessions.LAST]
         self.assertEqual(sorted((n, d) for n, d, *_ in rows(EXCLUDED)), sorted(listed))
         self.assertEqual(sorted((n + 1, d + 1) for n, d in better if (n, d) not in listed), sorted(entry for entry in listed if entry[1] % 2 == 0))
         for n, d, before, now, published, compared in rows(EXCLUDED):
-            self.assertEqual((without_odd().bounds[n, d][1], whole().bounds[n, d][1]), (before, now))
+            self.assertEqual((first(7).bounds[n, d][1], first(8).bounds[n, d][1]), (before, now))
             known = table.published_at((n, d)) or (published, published)
             self.assertEqual((published, compared), ("-", "-") if published == "-" else (known[1], table.compared(now, known[1])), (n, d))
 
     @needs_program
+    def test_the_document_says_what_is_seen_from_a_word(self):
+        better = {entry: (first(8).bounds[entry][1], high) for entry, (_, high) in whole().bounds.items() if high < first(8).bounds[entry][1]}
+        self.assertEqual({entry for entry in better if len(entry) == 2}, set())
+        listed = {(n, d, w): (before, now) for n, d, w, before, now in rows(SEEN)}
+        self.assertEqual(listed, {entry: pair for entry, pair in better.items() if 2 * entry[2] <= entry[0]})
+        duals = {piece.entry for piece in whole().pieces.values() if piece.kind == "jlocal"}
+        self.assertLessEqual(duals, set(listed))
+        more = len(better) - len(listed)
+        self.assertIn(f"better {len(listed)} entries A(n,d,w) with w at most n/2, those below, and {more} more by", " ".join(TEXT.split()))
+
+    @needs_program
     def test_each_dual_bounds_what_is_said_above_it(self):
-        rules = {"dual": "U11", "odd": "U12", "jdual": "V9"}
+        rules = {"dual": "U11", "odd": "U12", "jdual": "V9", "jlocal": "V10"}
         for piece in whole().pieces.values():
             if piece.kind in rules:
                 read = check_derivation.Piece(piece.document.encode())
@@ -156,6 +162,7 @@ class Library(unittest.TestCase):
         for n, d, low, lower, is_low, high, upper, is_high in rows(PLAIN):
             self.assertEqual(((low, high), is_low, is_high), (whole().bounds[n, d], table.compared(low, lower), table.compared(high, upper)))
         for n, d, w, low, lower, is_low in rows(WEIGHT):
+            self.assertLess(*whole().bounds[n, d, w])
             self.assertEqual((low, is_low), (whole().bounds[n, d, w][0], table.compared(low, lower)), (n, d, w))
 
     @needs_program
