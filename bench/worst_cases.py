@@ -70,8 +70,10 @@ def dual(n, d, c, y=(), even=False, odd=None):
     return f"kind = '{kind}'\nn = {n}\nd = {d}\neven = {str(even).lower()}\n{more}c = {list(c)}\ny = {[list(p) for p in y]}\n"
 
 
-def johnson_dual(n, d, w, c):
-    return f"kind = 'jdual'\nn = {n}\nd = {d}\nw = {w}\nc = {list(c)}\n"
+def johnson_dual(n, d, w, c, y=None):
+    """A dual with a weight, seen from a word where it is said what is allowed."""
+    kind, more = ("jdual", "") if y is None else ("jlocal", f"y = {[list(p) for p in y]}\n")
+    return f"kind = '{kind}'\nn = {n}\nd = {d}\nw = {w}\nc = {list(c)}\n{more}"
 
 
 def partition(n, d, between, classes, w=None):
@@ -267,6 +269,14 @@ def resting_duals(odd=None):
     return lambda part: duals + (submit("last", better) + "withdraw last\n") * (100 // part)
 
 
+def resting_local_duals(part):
+    """Duals of one length and distance that rest on all its bounds of even weight, and one of the Johnson scheme that comes and goes as above."""
+    entries = [(w, [(i, 1) for i in range(6, min(w, MOST - w) + 1)]) for w in range(6, MOST - 5)]
+    duals = "".join(submit(f"d{k}", johnson_dual(MOST, 12, entries[k % len(entries)][0], [1], entries[k % len(entries)][1])) for k in range(900))
+    better = johnson_dual(MOST, 12, 10, [1285440, 85956, 3960, 145])
+    return duals + (submit("last", better) + "withdraw last\n") * (100 // part)
+
+
 def thousand_pieces(part):
     return "".join(submit(f"p{i}", words(10, 4, [i])) for i in range(1000 // part))
 
@@ -457,6 +467,7 @@ CASES = {
     "jduals": ("session", greatest_johnson_duals, True, "1,000 duals of the Johnson scheme, refused"),
     "resting_duals": ("session", resting_duals(), True, "900 duals, one with a weight comes and goes 100 times"),
     "resting_odd_duals": ("session", resting_duals(MOST_ODD), True, "900 duals with a number of words, one with a weight comes and goes 100 times"),
+    "resting_local_duals": ("session", resting_local_duals, True, "900 duals that are seen from a word, one with a weight comes and goes 100 times"),
     "pieces": ("session", thousand_pieces, True, "1,000 pieces"),
     "long_ids": ("session", long_ids, True, "1,000 ids that share 30 and 31 bytes, one looked for 100,000 times"),
     "named_parts": ("session", named_parts, True, "499 builds over a piece that is withdrawn in vain 20,000 times"),
