@@ -7,4 +7,3 @@ pub mod WrittenBuild
 pub mod BuildRooms
 pub mod BuildKind
 pub mod BuildChecks
-pub mod BuildReasons

@@ -7,4 +7,3 @@ pub mod WrittenBuild
 pub mod BuildAnswer
 pub mod BuildKind
 pub mod BuildFaultText
-pub mod BuildRefusal

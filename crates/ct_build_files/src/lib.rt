@@ -5,12 +5,10 @@ mod build;
 mod build_fault_text;
 mod build_fields;
 pub mod build_kind;
-mod build_laws;
 mod entry;
 mod operation;
 mod written_build;
 
 pub use build::build_evidence;
 pub use build_fault_text::put_build_fault;
-pub use build_laws::reasons_against_builds;
 pub use written_build::build_table;

@@ -9,4 +9,3 @@ pub mod FormedDuals
 pub mod WrittenDuals
 pub mod DualRooms
 pub mod DualKind
-pub mod DualReasons

@@ -4,7 +4,5 @@ pub mod WrittenDuals
 pub mod DualDocument
 pub mod OddDocument
 pub mod LocalDocument
-pub mod Examples
 pub mod DualKind
 pub mod DualFaultText
-pub mod DualRefusal

@@ -3,6 +3,5 @@ pub mod DocumentAnswers
 pub mod Evidences
 pub mod Documents
 mod Written
-pub mod OnLiterals
 pub mod Lengths
 pub mod WrittenDocuments

@@ -4,5 +4,4 @@ pub mod Document
 pub mod DualAnswer
 pub mod Answers
 pub mod Lengths
-pub mod Examples
 pub mod Inside

@@ -3,4 +3,3 @@ pub mod CodeAt
 pub mod SizeLemmas
 pub mod Stating
 pub mod NamedLemmas
-pub mod Reasons

@@ -2,4 +2,3 @@ pub mod Named
 pub mod KindParts
 pub mod Ascending
 pub mod Sound
-pub mod Weights

@@ -1,5 +1,2 @@
 pub mod Reaching
-pub mod DualReaching
-pub mod OddSizes
-pub mod LocalBounds
 mod LeftSupports

@@ -9,6 +9,3 @@ pub mod Rooms
 pub mod PartitionKind
 pub mod ProductKind
 pub mod ProductChecks
-pub mod WrongIds
-pub mod PartitionReasons
-pub mod ProductReasons

@@ -8,5 +8,3 @@ pub mod Written
 pub mod PartitionKind
 pub mod ProductKind
 pub mod PartitionFaultText
-pub mod ProductRefusal
-pub mod PartitionRefusal

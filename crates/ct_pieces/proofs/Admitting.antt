@@ -1,10 +1,7 @@
 -- Evidence that is admitted with a document that reads as it.
-use Rattle.std.proofs.Common.{◌≡◌, ◌≢◌, ℕ, ◌+◌, ◌<◌, false, List, [], ◌∷◌, ◌++◌, length, IfOk, IfErr, OnOk, Result, Ok, Err, sym, ap, subst, ◌∙◌}
+use Rattle.std.proofs.Common.{◌≡◌, ◌≢◌, ℕ, ◌+◌, ◌<◌, false, List, [], ◌∷◌, ◌++◌, length, IfOk, IfErr, OnOk, Result, Ok, Err, ap, subst, ◌∙◌}
 use Rattle.ct_evidence.specs.declared.evidence.Evidence.{Evidence}
-use Rattle.ct_fields.specs.declared.fault.FileFault.{FileFault}
 use Rattle.ct_files.specs.Document.{DocumentValue, without_cites, document_read_of}
-use Rattle.ct_files.specs.Evidence.{read_of}
-use Rattle.ct_files.proofs.Documents.{document_read_of-err}
 use Rattle.ct_kind.specs.Named.{NamedCode}
 use Rattle.ct_pieces.specs.Piece.{PieceValue, has_id, stored_by, stored_words}
 use Rattle.ct_pieces.specs.Codes.{codes_of}
@@ -15,7 +12,6 @@ use Rattle.ct_pieces.specs.declared.limits.TheConstants.{MAX_PIECES}
 use Rattle.ct_kind.specs.declared.fault.SubmitFault.{SubmitFault}
 use Rattle.ct_kind.specs.declared.fault.SubmitFault.TheVariants as fault
 use Rattle.ct_pieces.proofs.StandingLemmas.{submitted-beside}
-use Rattle.ct_pieces.proofs.Refusing.{refused-for}
 
 -- what a submission answers, once its piece is made over the pieces and put at their end where its words may be stored
 pub submits_piece : (pieces new : List PieceValue) (id document : List ℕ) (p : PieceValue) (r : Result NewPiece SubmitFault) → has_id id pieces ≡ false → length pieces < MAX_PIECES
@@ -41,10 +37,3 @@ pub made_without : (known : List NamedCode) (id document : List ℕ) (evidence :
     → cites ≡ [] → made_of known id document (record { evidence = evidence; cites = cites }) ≡ made → made_of known id document (without_cites evidence) ≡ made
 made_without known id document evidence cites made none is =
     subst (λ (texts : List (List ℕ)). made_of known id document (record { evidence = evidence; cites = texts }) ≡ made) none is
-
--- no reason against a document that is read is a fault of its own
-pub submitted-unread : (pieces : List PieceValue) (id document : List ℕ) (evidence : Evidence) (reason : FileFault) → read_of document ≡ Ok evidence
-    → submitted pieces id document ≢ Err (fault.File reason)
-submitted-unread pieces id document evidence reason read refused =
-    let unread = (refused-for pieces id document (fault.File reason) refused).1 in
-    absurd (let both = sym read ∙ document_read_of-err document reason unread in cc)

@@ -9,12 +9,10 @@ pub mod SupportLemmas
 pub mod KeptLemmas
 pub mod PartLemmas
 pub mod Accepting
-pub mod Refusing
+pub mod NoMemory
 pub mod Admitting
-pub mod DualSupports
 pub mod EarlierParts
 pub mod AlongLemmas
 pub mod TakenAlong
-mod Citing
 mod LeftOut
 mod AlongPass

@@ -12,17 +12,11 @@ use Rattle.ct_evidence.specs.declared.evidence.Evidence.TheVariants.{Words, Cose
 use Rattle.ct_kind.specs.Named.{NamedCode, code_named, other_named}
 use Rattle.ct_kind.specs.KindParts.{KindParts}
 use Rattle.ct_word_files.specs.WordsKind.{words_kind}
-use Rattle.ct_word_files.specs.WordsRefusal.{IsWordsRefusal}
 use Rattle.ct_word_files.specs.CosetsKind.{cosets_kind, IsCosetsChecked}
-use Rattle.ct_word_files.specs.CosetsRefusal.{IsCosetsRefusal}
 use Rattle.ct_partition_files.specs.PartitionKind.{partition_kind}
-use Rattle.ct_partition_files.specs.PartitionRefusal.{IsPartitionRefusal}
 use Rattle.ct_build_files.specs.BuildKind.{build_kind}
-use Rattle.ct_build_files.specs.BuildRefusal.{IsBuildRefusal}
 use Rattle.ct_partition_files.specs.ProductKind.{product_kind, IsProductChecked}
-use Rattle.ct_partition_files.specs.ProductRefusal.{IsProductRefusal}
 use Rattle.ct_dual_files.specs.DualKind.{dual_kind, odd_kind, local_kind, IsDualChecked}
-use Rattle.ct_dual_files.specs.DualRefusal.{IsDualRefusal}
 use Rattle.ct_kind.specs.declared.fault.SubmitFault.{SubmitFault}
 
 -- what evidence comes to by its kind
@@ -79,15 +73,3 @@ IsChecked known (Dual d) = IsDualChecked d
 IsChecked known (JohnsonDual d) = IsDualChecked d
 IsChecked known (Odd d m) = IsDualChecked d
 IsChecked known (JohnsonLocal d) = IsDualChecked d
-
--- this reason is the first that the kind of the evidence has against it, where its parts stand
-abbrev pub IsOwnRefusal : List NamedCode → Evidence → SubmitFault → Type 0
-IsOwnRefusal known (Words e words) reason = IsWordsRefusal e words reason
-IsOwnRefusal known (Cosets e basis representatives) reason = IsCosetsRefusal e basis representatives reason
-IsOwnRefusal known (Partition e between classes) reason = IsPartitionRefusal e between classes reason
-IsOwnRefusal known (Build e step part other) reason = IsBuildRefusal e step part other (code_named part known) (other_named other known) reason
-IsOwnRefusal known (Product e pairs) reason = IsProductRefusal e known pairs reason
-IsOwnRefusal known (Dual d) reason = IsDualRefusal d reason
-IsOwnRefusal known (JohnsonDual d) reason = IsDualRefusal d reason
-IsOwnRefusal known (Odd d m) reason = IsDualRefusal d reason
-IsOwnRefusal known (JohnsonLocal d) reason = IsDualRefusal d reason

@@ -2,9 +2,7 @@ pub mod Kind
 pub mod Piece
 pub mod Codes
 pub mod Submission
-pub mod Refusals
 pub mod Withdrawal
-pub mod Citing
 pub mod Standing
 pub mod Text
 pub mod Dump

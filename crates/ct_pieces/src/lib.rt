@@ -8,7 +8,6 @@ mod dump;
 mod fault;
 mod kept;
 mod kinds;
-mod laws;
 mod limits;
 mod new_piece;
 mod piece;
@@ -18,12 +17,6 @@ mod text;
 
 pub use ct_kind::SubmitFault;
 pub use fault::WithdrawFault;
-pub use laws::{
-    ascending_numbers, cites_are_kept, duals_give_their_bounds, evidence_that_is_admitted,
-    pieces_give_supports, pieces_have_codes, pieces_taken_along, reasons_of_kinds,
-    refusals_in_order, stored_words_by_kind, submissions_that_are_accepted,
-    withdrawals_that_are_refused,
-};
 pub use limits::{MAX_PIECES, MAX_STORED};
 pub use new_piece::NewPiece;
 pub use piece::Piece;

@@ -24,7 +24,7 @@ use Rattle.ct_pieces.specs.Supports.{supports_of}
 use Rattle.ct_kind.specs.declared.fault.SubmitFault.{SubmitFault}
 use Rattle.ct_kind.specs.declared.fault.SubmitFault.TheVariants.{Memory}
 use Rattle.ct_pieces.proofs.StandingLemmas.{AreStanding-none, AreStanding-submitted}
-use Rattle.ct_pieces.proofs.Refusing.{refused-for}
+use Rattle.ct_pieces.proofs.NoMemory.{submitted-memory}
 use Rattle.ct_derive.specs.Check.{line_fault, line_by}
 use Rattle.ct_derive.specs.declared.check.LineFault.{LineFault}
 use Rattle.ct_derive.specs.declared.check.LineFault.TheVariants.{NoRule, NoPremise, OtherValue}
@@ -189,7 +189,7 @@ after_block-sound r begun id document (Ok p) h none named is =
     }
 after_block-sound r begun id document (Err fault) h none named is = λ e.
     let same : fault ≡ Memory = cc in
-    refused-for r.pieces id document Memory (is ∙ ap (λ (f : SubmitFault). Err f) same)
+    submitted-memory r.pieces id document (is ∙ ap (λ (f : SubmitFault). Err f) same)
 
 read_block-sound : (r : ReadingValue) (b : Block) (g : Gathered) → IsSound r → r.lines ≡ [] → IsTrue (is_id b.id) → IsSoundStep (read_block r b g)
 read_block-sound r b (More document) h none named = record { standing = h.standing; derivation = h.derivation; at = (none, named) }

@@ -4,4 +4,3 @@ pub mod WrittenWords
 pub mod WordRooms
 pub mod WordsKind
 pub mod CosetsKind
-pub mod WordReasons

@@ -6,5 +6,3 @@ pub mod WrittenWords
 pub mod WordsKind
 pub mod CosetsKind
 pub mod WordFaultText
-pub mod WordsRefusal
-pub mod CosetsRefusal

@@ -4,13 +4,11 @@
 mod cosets;
 pub mod cosets_kind;
 mod word_fault_text;
-mod word_laws;
 mod words;
 pub mod words_kind;
 mod written;
 
 pub use cosets::cosets_evidence;
 pub use word_fault_text::put_code_fault;
-pub use word_laws::{reasons_against_cosets, reasons_against_words};
 pub use words::words_evidence;
 pub use written::{cosets_table, words_table};

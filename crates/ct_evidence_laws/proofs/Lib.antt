@@ -1,0 +1,16 @@
+pub mod OnLiterals
+pub mod Citing
+pub mod DualSupports
+pub mod DualReaching
+pub mod OddSizes
+pub mod LocalBounds
+pub mod OwnReasons
+pub mod Refusing
+pub mod Accepted
+pub mod PartitionReasons
+pub mod ProductReasons
+pub mod WrongIds
+pub mod BuildReasons
+pub mod WordReasons
+pub mod DualReasons
+pub mod Says

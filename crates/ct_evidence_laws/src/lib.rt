@@ -1,0 +1,35 @@
+//! Laws of evidence: which documents are read as what, worked ones of each kind; why a kind has a reason against evidence; which submissions and
+//! withdrawals are refused, what pieces that stand give to the table, and what its bounds then reach. No call rests on them; each would notice a
+//! definition that is slightly wrong.
+#![tactic(auto)]
+
+mod documents;
+mod duals;
+mod ledger;
+mod pieces;
+mod reasons;
+pub mod worked;
+pub mod worked_builds;
+pub mod worked_cites;
+
+pub use documents::{
+    accepted_documents, answers_to_documents, bytes_without_table, documents_and_evidence,
+};
+pub use duals::{
+    answers_to_duals, duals_read_back, known_documents, known_local_documents, known_odd_documents,
+    local_duals_give_their_bounds, odd_duals_give_their_sizes, reasons_against_duals,
+};
+pub use ledger::{
+    duals_reach_their_bounds, local_evidence_bounds_codes, odd_evidence_excludes_sizes,
+    pieces_reach_their_bounds, sizes_are_those_of_codes,
+};
+pub use pieces::{
+    ascending_numbers, cites_are_kept, duals_give_their_bounds, evidence_that_is_admitted,
+    pieces_give_supports, pieces_have_codes, pieces_taken_along, reasons_of_kinds,
+    refusals_in_order, stored_words_by_kind, submissions_that_are_accepted,
+    withdrawals_that_are_refused,
+};
+pub use reasons::{
+    reasons_against_builds, reasons_against_cosets, reasons_against_partitions,
+    reasons_against_products, reasons_against_words, wrong_ids_of_products,
+};

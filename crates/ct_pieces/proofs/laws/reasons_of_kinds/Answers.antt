@@ -1,8 +1,0 @@
-use Rattle.ct_pieces.proofs.KindLemmas.{own-told, own-tells, own_checked, no_own_reason}
-use Rattle.ct_pieces.proofs.laws.reasons_of_kinds.Goals as goal
-
-pub returns-clause-reason : goal.returns-clause-reason
-returns-clause-reason c = λ known evidence reason. (own-told known evidence reason, own-tells known evidence reason)
-
-pub returns-clause-none : goal.returns-clause-none
-returns-clause-none c = λ known evidence sound. (own_checked known evidence sound, no_own_reason known evidence sound)
