@@ -1,17 +1,23 @@
-//! Laws of evidence: which documents are read as what, worked ones of each kind; why a kind has a reason against evidence; which submissions and
-//! withdrawals are refused, what pieces that stand give to the table, and what its bounds then reach. No call rests on them; each would notice a
-//! definition that is slightly wrong.
+//! Laws of evidence and of the lines that hand it in: which commands there are, and which numbers; which documents are read as what, worked ones of
+//! each kind; why a kind has a reason against evidence; which submissions and withdrawals are refused, what pieces that stand give to the table, and
+//! what its bounds then reach. No call rests on them; each would notice a definition that is slightly wrong.
 #![tactic(auto)]
 
+mod commands;
 mod documents;
 mod duals;
 mod ledger;
+mod numbers;
 mod pieces;
 mod reasons;
 pub mod worked;
 pub mod worked_builds;
 pub mod worked_cites;
 
+pub use commands::{
+    known_forms, other_lines_stand_alone, submissions_are_read_as_written,
+    submissions_take_their_lines,
+};
 pub use documents::{
     accepted_documents, answers_to_documents, bytes_without_table, documents_and_evidence,
 };
@@ -23,6 +29,7 @@ pub use ledger::{
     duals_reach_their_bounds, local_evidence_bounds_codes, odd_evidence_excludes_sizes,
     pieces_reach_their_bounds, sizes_are_those_of_codes,
 };
+pub use numbers::numbers_are_read_as_printed;
 pub use pieces::{
     ascending_numbers, cites_are_kept, duals_give_their_bounds, evidence_that_is_admitted,
     pieces_give_supports, pieces_have_codes, pieces_taken_along, reasons_of_kinds,

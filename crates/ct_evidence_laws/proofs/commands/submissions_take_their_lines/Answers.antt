@@ -1,5 +1,5 @@
 use Rattle.ct_commands.proofs.Submissions.{to_end, without_end, counted, too_few}
-use Rattle.ct_commands.proofs.laws.submissions_take_their_lines.Goals as goal
+use Rattle.ct_evidence_laws.proofs.commands.submissions_take_their_lines.Goals as goal
 
 pub returns-clause-to_end : goal.returns-clause-to_end
 returns-clause-to_end c = to_end

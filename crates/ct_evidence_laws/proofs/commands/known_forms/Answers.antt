@@ -2,7 +2,7 @@ use Rattle.std.proofs.Common.{refl}
 use Rattle.ct_text.specs.Line.{words_of}
 use Rattle.ct_text.specs.Number.{number_of}
 use Rattle.ct_commands.specs.Form.{form_of}
-use Rattle.ct_commands.proofs.laws.known_forms.Goals as goal
+use Rattle.ct_evidence_laws.proofs.commands.known_forms.Goals as goal
 
 pub returns-clause-nothing : goal.returns-clause-nothing
 unfolding form_of words_of number_of

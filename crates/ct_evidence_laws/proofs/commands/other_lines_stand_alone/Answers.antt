@@ -1,7 +1,7 @@
 use Rattle.std.proofs.Common.{refl}
 use Rattle.ct_commands.specs.declared.form.Form.TheVariants.{Nothing, Whole}
 use Rattle.ct_commands.proofs.Submissions.{alone}
-use Rattle.ct_commands.proofs.laws.other_lines_stand_alone.Goals as goal
+use Rattle.ct_evidence_laws.proofs.commands.other_lines_stand_alone.Goals as goal
 
 pub returns-clause-nothing : goal.returns-clause-nothing
 returns-clause-nothing c = λ line rest h. alone Nothing line rest h refl
