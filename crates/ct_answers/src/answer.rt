@@ -1,25 +1,21 @@
-//! Answers to commands over the pieces that stand.
+//! Answers to single commands over the pieces of a ledger.
 
 ghost use Rattle.std.specs.Prelude.{◌≡◌, ◌≢◌, Some, IfOk, OnOk, OnErr};
 ghost use Rattle.std.specs.List.{AllZip};
 ghost use Rattle.ct_codes.specs.Entry.{IsEntry};
 ghost use Rattle.ct_text.specs.EntryNumbers.{named_entry};
+ghost use Rattle.ct_commands.specs.declared.command.Command.TheVariants as command;
 ghost use Rattle.ct_pieces.specs.Submission.{submitted, with_piece};
 ghost use Rattle.ct_pieces.specs.Withdrawal.{withdrawn, withdrawn_all, left_by};
-ghost use Rattle.ct_session.specs.Reply.{IsReply, AreBoundsOf, IsShowReply, IsTableReply, IsExplainReply, IsListReply, column, pieces_after, submission_reply, withdrawal_reply, withdrawal_all_reply};
-ghost use Rattle.ct_replies.specs.LongReply.{reply_of};
+ghost use Rattle.ct_session.specs.Reply.{IsReply, AreBoundsOf, IsShowReply, IsTableReply, IsExplainReply, column, pieces_after, submission_reply, withdrawal_reply, withdrawal_all_reply};
 
 use crate::explaining;
 use ct_codes::{Entry, Side};
-use ct_commands::Command;
-use ct_io::{RunFault, Sink};
 use ct_ledger::{Ledger, SubmitFault, WithdrawFault};
-use ct_replies::{AnyReply, Bounds, BoundsList, LongReply, Refusal, Reply, ledger_text};
-use ct_session::Answers;
+use ct_replies::{Bounds, BoundsList, Refusal, Reply};
 use ct_text::{EntryNumbers, Id, TableNumbers, Text};
 use ct_words::MAX_N;
 use std::alloc::{AllocError, Global};
-use std::marker::Model;
 
 /// The bounds of an entry of the table.
 fn bounds_of(ledger: &Ledger, entry: Entry) -> Bounds
@@ -35,7 +31,7 @@ fn bounds_of(ledger: &Ledger, entry: Entry) -> Bounds
 }
 
 /// The reply to `show`: the bounds of the entry of the table with these numbers, if there is one.
-fn show(ledger: &Ledger, numbers: EntryNumbers) -> Reply
+pub fn show(ledger: &Ledger, numbers: EntryNumbers) -> Reply
     ensures { IsShowReply ledger.now.pieces (named_entry numbers) result }
 {
     match numbers.entry() {
@@ -62,7 +58,7 @@ fn column_of(
 }
 
 /// The reply to `table`: the bounds of the column with these numbers, where it has an entry. `Err` is want of memory.
-fn table(alloc: Global, ledger: &Ledger, numbers: TableNumbers) -> Result<Reply, AllocError>
+pub fn table(alloc: Global, ledger: &Ledger, numbers: TableNumbers) -> Result<Reply, AllocError>
     ensures { IfOk result (IsTableReply ledger.now.pieces (column numbers.d numbers.w)) }
 {
     let bounds = column_of(alloc, ledger, numbers)?;
@@ -75,7 +71,7 @@ fn table(alloc: Global, ledger: &Ledger, numbers: TableNumbers) -> Result<Reply,
 
 /// The reply to `explain`: the document of an explanation of the best bound on this side of the entry of the table with these numbers,
 /// if there is one. `Err` is want of memory.
-fn explain(
+pub fn explanation(
     alloc: Global,
     ledger: &Ledger,
     side: Side,
@@ -89,20 +85,6 @@ fn explain(
     let derivation = explaining::explain(alloc, ledger, side, entry)?;
     let document = ct_explain::print(alloc, ledger.pieces(), &derivation)?;
     Ok(Reply::Lines(Text::from_vec(document)))
-}
-
-/// Answers `list`: a code of the entry of the table with these numbers, if there is one, which has as many words as the lower bound says.
-/// `Err` is want of memory.
-fn list(alloc: Global, ledger: &Ledger, numbers: EntryNumbers) -> Result<AnyReply, AllocError>
-    ensures { IfOk result (λ answer. IsListReply ledger.now.pieces (named_entry numbers) (reply_of answer ledger.now.pieces)) }
-{
-    match numbers.entry() {
-        Some(entry) => {
-            let code = ct_list::list(alloc, ledger, entry)?;
-            Ok(AnyReply::Long(LongReply::Code(code)))
-        }
-        None => Ok(AnyReply::Short(Reply::Refused(Refusal::NoEntry))),
-    }
 }
 
 /// Answers a submission: the reply, and the pieces after it. After an `Err`, which is want of memory, the ledger is as before.
@@ -128,9 +110,9 @@ fn refused(fault: SubmitFault) -> Result<Reply, AllocError>
 }
 
 /// Answers a submission, if its line is of a form of `submit`. After an `Err`, which is want of memory, the ledger is as before.
-fn submit_any(ledger: &mut Ledger, id: Option<Id>, document: Text) -> Result<Reply, AllocError>
-    ensures reply { IfOk result (IsReply ledger.old.pieces (Command.Submission id document)) }
-    ensures pieces { OnOk result (ledger.new.pieces ≡ pieces_after ledger.old.pieces (Command.Submission id document)) }
+pub fn submit_any(ledger: &mut Ledger, id: Option<Id>, document: Text) -> Result<Reply, AllocError>
+    ensures reply { IfOk result (IsReply ledger.old.pieces (command.Submission id document)) }
+    ensures pieces { OnOk result (ledger.new.pieces ≡ pieces_after ledger.old.pieces (command.Submission id document)) }
     ensures unchanged { OnErr result (ledger.new ≡ ledger.old) }
 {
     match id {
@@ -140,7 +122,7 @@ fn submit_any(ledger: &mut Ledger, id: Option<Id>, document: Text) -> Result<Rep
 }
 
 /// Answers a withdrawal: the reply, and the pieces after it. After an `Err`, which is want of memory, the ledger is as before.
-fn withdraw(ledger: &mut Ledger, id: Id) -> Result<Reply, AllocError>
+pub fn withdraw(ledger: &mut Ledger, id: Id) -> Result<Reply, AllocError>
     ensures reply { IfOk result (λ reply. reply ≡ withdrawal_reply id (withdrawn ledger.old.pieces id)) }
     ensures pieces { OnOk result (ledger.new.pieces ≡ left_by ledger.old.pieces (withdrawn ledger.old.pieces id)) }
     ensures unchanged { OnErr result (ledger.new ≡ ledger.old) }
@@ -154,7 +136,7 @@ fn withdraw(ledger: &mut Ledger, id: Id) -> Result<Reply, AllocError>
 
 /// Answers a withdrawal with all that rests on a piece: the reply, and the pieces after it. After an `Err`, which is want of memory,
 /// the ledger is as before.
-fn withdraw_all(ledger: &mut Ledger, id: Id) -> Result<Reply, AllocError>
+pub fn withdraw_all(ledger: &mut Ledger, id: Id) -> Result<Reply, AllocError>
     ensures reply { IfOk result (λ reply. reply ≡ withdrawal_all_reply id ledger.old.pieces (withdrawn_all ledger.old.pieces id)) }
     ensures pieces { OnOk result (ledger.new.pieces ≡ left_by ledger.old.pieces (withdrawn_all ledger.old.pieces id)) }
     ensures unchanged { OnErr result (ledger.new ≡ ledger.old) }
@@ -163,75 +145,5 @@ fn withdraw_all(ledger: &mut Ledger, id: Id) -> Result<Reply, AllocError>
         Ok(count) => Ok(Reply::WithdrawnAll(id, count)),
         Err(WithdrawFault::Memory) => Err(AllocError),
         Err(fault) => Ok(Reply::Refused(Refusal::Withdrawal(id, fault))),
-    }
-}
-
-/// Answers a command: the reply, and the pieces after it. After an `Err`, which is want of memory, the ledger is as before.
-fn answer(alloc: Global, ledger: &mut Ledger, command: Command) -> Result<AnyReply, AllocError>
-    ensures reply { IfOk result (λ answer. IsReply ledger.old.pieces command (reply_of answer ledger.new.pieces)) }
-    ensures pieces { OnOk result (ledger.new.pieces ≡ pieces_after ledger.old.pieces command) }
-    ensures unchanged { OnErr result (ledger.new ≡ ledger.old) }
-{
-    let reply = match command {
-        Command::Submission(id, document) => submit_any(ledger, id, document)?,
-        Command::CutOff => Reply::Refused(Refusal::CutOff),
-        Command::Withdraw(id) => withdraw(ledger, id)?,
-        Command::WithdrawAll(id) => withdraw_all(ledger, id)?,
-        Command::Show(numbers) => show(ledger, numbers),
-        Command::Table(numbers) => table(alloc, ledger, numbers)?,
-        Command::Explain(side, numbers) => explain(alloc, ledger, side, numbers)?,
-        Command::List(numbers) => return list(alloc, ledger, numbers),
-        Command::Ledger => {
-            let lines = ledger_text(alloc, ledger.pieces())?;
-            Reply::Lines(Text::from_vec(lines))
-        }
-        Command::Dump => return Ok(AnyReply::Long(LongReply::Dump)),
-        Command::Unknown => Reply::Refused(Refusal::NoCommand),
-    };
-    Ok(AnyReply::Short(reply))
-}
-
-/// Answers commands by a ledger. Contracts see its pieces.
-#[derive(Drop)]
-pub(crate) struct LedgerAnswers {
-    ledger: Ledger,
-}
-
-impl Model for LedgerAnswers {
-    ghost use Rattle.std.specs.Prelude.{List};
-    ghost use Rattle.ct_pieces.specs.Piece.{PieceValue};
-
-    ghost Value = { List PieceValue };
-
-    ghost view = { λ a. a.ledger.pieces };
-}
-
-impl LedgerAnswers {
-    ghost use Rattle.std.specs.Prelude.{◌≡◌, [], IfOk};
-
-    /// With a ledger that has no piece yet. `Err` is want of memory.
-    pub(crate) fn new(alloc: Global) -> Result<LedgerAnswers, AllocError>
-        ensures { IfOk result (λ answers. answers ≡ []) }
-    {
-        Ok(LedgerAnswers {
-            ledger: Ledger::new(alloc)?,
-        })
-    }
-}
-
-impl Answers for LedgerAnswers {
-    ghost standing = { λ pieces. pieces };
-
-    fn answer(&mut self, alloc: Global, command: Command) -> Result<AnyReply, AllocError> {
-        answer(alloc, &mut self.ledger, command)
-    }
-
-    fn put_long<K: Sink>(
-        &self,
-        sink: &mut K,
-        gathered: &mut Vec<u8>,
-        reply: &LongReply,
-    ) -> Result<(), RunFault> {
-        ct_output::put_long(sink, gathered, self.ledger.pieces(), reply)
     }
 }

@@ -1,9 +1,8 @@
-//! Answers to commands by a ledger: bounds, explanations and codes over its pieces; and the session that it answers.
+//! Answers to single commands by a ledger: bounds, explanations, submissions and withdrawals.
 #![tactic(auto)]
 
 mod answer;
 mod explaining;
-mod serving;
 
+pub use answer::{explanation, show, submit_any, table, withdraw, withdraw_all};
 pub use explaining::explain;
-pub use serving::serve_session;

@@ -11,11 +11,11 @@ ghost use Rattle.ct_run.specs.Exit.{broken_status, fault_status, mode_status, re
 ghost use Rattle.ct_run.specs.Program.{usage_line, WritesUsage};
 
 use crate::status::Status;
-use ct_answers::serve_session;
 use ct_command_line::{Mode, named_mode};
 use ct_io::{RunFault, Sink, Source, write_all};
 use ct_proposals::find_source;
 use ct_sample::write_sample;
+use ct_serving::serve_session;
 use ct_verification::verify_source;
 use std::alloc::Global;
 

@@ -8,7 +8,7 @@ ghost use Rattle.ct_io.specs.declared.TheConstants.{MAX_INPUT, MAX_READ};
 ghost use Rattle.ct_session.specs.Ending.{Ends};
 ghost use Rattle.ct_session.specs.Serve.{WritesRun, WritesRunPrefix, WritesRunProperPrefix, AnswersTaken, AnswersButLastBytes, WritesWholeReplies};
 
-use crate::answer::LedgerAnswers;
+use crate::answering::LedgerAnswers;
 use ct_io::{RunFault, Sink, Source};
 use ct_session::serve_lines;
 use std::alloc::Global;
