@@ -1,7 +1,7 @@
 -- How many words a step makes, and when nothing is told against it.
 use Rattle.std.specs.Prelude.{IfErr}
 use Rattle.std.specs.Option.{option_map, unwrap_or}
-use Rattle.std.proofs.Common.{min, mul-le-mul_right, IfSome, ◌&&◌, Result, Ok, Err, ◌≡◌, ◌≢◌, ℕ, ◌*◌, ◌≤◌, ◌==◌, Bool, true, false, nat_lt, if◌then◌else◌, List, [], ◌∷◌, length, take, Option, Some, None, refl, ap, sym, subst, ◌∙◌, arith, ltb-true, ltb-false, length-take}
+use Rattle.std.proofs.Common.{min, mul-le-mul_right, IfSome, ◌&&◌, Result, Ok, Err, ◌≡◌, ◌≢◌, ℕ, zero, suc, ◌*◌, ◌≤◌, ◌==◌, Bool, true, false, nat_lt, if◌then◌else◌, List, [], ◌∷◌, length, take, Option, Some, None, refl, ap, sym, subst, ◌∙◌, arith, ltb-true, ltb-false, length-take}
 use Rattle.std.proofs.Math.Nat.{min-eq_right}
 use Rattle.std.proofs.lemmas.List.Sums.{length-filter, count_by-le-length}
 use Rattle.ct_words.specs.Word.{weight}
@@ -23,7 +23,7 @@ use Rattle.ct_build.specs.declared.fault.BuildFault.TheVariants.{Size, Few, Empt
 use Rattle.ct_build.specs.declared.shape.Shape.{Shape}
 use Rattle.ct_build.specs.declared.step.Step.{Step}
 use Rattle.ct_build.specs.declared.step.Step.TheVariants.{Lengthen, AppendOne, Parity, Puncture, Shorten, Translate, Complement, Select, Uuv, Juxtapose, Trim}
-use Rattle.ct_build.specs.Build.{FieldsFit, FitsStated, shape_of, is_right_length, is_right_weight, few_fault, size_of, distance_of, other_of, is_right_other, step_distance, result_size, part_fault, other_fault, short_fault, above_limit, selected_of, built, sizes_fault, empty_fault, counted_fault, early_fault, build_fault}
+use Rattle.ct_build.specs.Build.{FieldsFit, FitsStated, shape_of, is_right_length, is_right_weight, few_fault, size_of, distance_of, other_of, is_right_other, step_distance, result_size, part_fault, other_fault, short_fault, above_limit, selected_of, built, sizes_fault, empty_fault, counted_fault, early_fault, told_empty_fault, told_fault, build_fault}
 use Rattle.ct_build.proofs.StepLemmas.{IsReady, ready}
 
 shortened-few : (n : ℕ) (places digits words : List ℕ) → length (shortened n places digits words) ≤ length words
@@ -355,3 +355,58 @@ reasons_alone step e part other fits some second known = go (early_fault step e 
         → build_fault step e part other ≡ early_fault step e (shape_of part) (option_map shape_of other)
     go (Some f) is = fault_early step e part other f is ∙ sym is
     go None is = fault_none step e part other is (told_some step e part other fits some second (ready step e part other is) known) ∙ sym is
+
+-- a reason that the shapes tell is one against the step
+pub fault_of_shapes : (step : Step) (e : Entry) (part : CodeValue) (other : Option CodeValue) (f : BuildFault)
+    → told_fault step e (shape_of part) (option_map shape_of other) ≡ Some f → build_fault step e part other ≡ Some f
+fault_of_shapes step e part other f is = go (early_fault step e (shape_of part) (option_map shape_of other)) refl is
+  where
+    sized : (size : Option ℕ) → result_size step (shape_of part) (option_map shape_of other) ≡ size
+        → early_fault step e (shape_of part) (option_map shape_of other) ≡ None → told_empty_fault size ≡ Some f → build_fault step e part other ≡ Some f
+    sized (Some zero) known none told = fault_empty step e part other none (result_size-is step e part other 0 known) ∙ told
+    sized (Some (suc k)) known none told = cc
+    sized None known none told = cc
+
+    go : (r : Option BuildFault) → early_fault step e (shape_of part) (option_map shape_of other) ≡ r
+        → first_of r (told_empty_fault (result_size step (shape_of part) (option_map shape_of other))) ≡ Some f → build_fault step e part other ≡ Some f
+    go (Some g) early told = fault_early step e part other g early ∙ told
+    go None early told = sized (result_size step (shape_of part) (option_map shape_of other)) refl early told
+
+-- and where they tell none, and how many words result, there is none
+pub none_of_shapes : (step : Step) (e : Entry) (part : CodeValue) (other : Option CodeValue)
+    → result_size step (shape_of part) (option_map shape_of other) ≢ None
+    → told_fault step e (shape_of part) (option_map shape_of other) ≡ None → build_fault step e part other ≡ None
+none_of_shapes step e part other known none =
+    let both = first_of-None (early_fault step e (shape_of part) (option_map shape_of other)) (told_empty_fault (result_size step (shape_of part) (option_map shape_of other))) none in
+    fault_none step e part other both.0 (go (result_size step (shape_of part) (option_map shape_of other)) refl both.1)
+  where
+    go : (size : Option ℕ) → result_size step (shape_of part) (option_map shape_of other) ≡ size → told_empty_fault size ≡ None
+        → 1 ≤ length (built step e part other)
+    go (Some zero) is told = cc
+    go (Some (suc k)) is told = let long = result_size-is step e part other (suc k) is in omega arith
+    go None is told = absurd (known is)
+
+-- so they tell every reason, where they tell how many words result
+pub reasons_of_shapes : (step : Step) (e : Entry) (part : CodeValue) (other : Option CodeValue)
+    → result_size step (shape_of part) (option_map shape_of other) ≢ None
+    → build_fault step e part other ≡ told_fault step e (shape_of part) (option_map shape_of other)
+reasons_of_shapes step e part other known = go (told_fault step e (shape_of part) (option_map shape_of other)) refl
+  where
+    go : (r : Option BuildFault) → told_fault step e (shape_of part) (option_map shape_of other) ≡ r
+        → build_fault step e part other ≡ told_fault step e (shape_of part) (option_map shape_of other)
+    go (Some f) is = fault_of_shapes step e part other f is ∙ sym is
+    go None is = none_of_shapes step e part other known is ∙ sym is
+
+-- none of them is want of memory
+pub told_not_memory : (step : Step) (e : Entry) (part : Shape) (other : Option Shape) (f : BuildFault) → told_fault step e part other ≡ Some f → f ≢ Memory
+unfolding NotMemory
+told_not_memory step e part other f is memory = go (early_fault step e part other) refl (is ∙ ap Some memory)
+  where
+    empty : (size : Option ℕ) → told_empty_fault size ≢ Some Memory
+    empty (Some zero) = λ q. cc
+    empty (Some (suc k)) = λ q. cc
+    empty None = λ q. cc
+
+    go : (r : Option BuildFault) → early_fault step e part other ≡ r → first_of r (told_empty_fault (result_size step part other)) ≡ Some Memory → ⊥
+    go (Some g) early told = early_not_memory step e part other g early (Some-fault g Memory told)
+    go None early told = empty (result_size step part other) told

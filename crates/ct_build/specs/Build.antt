@@ -1,5 +1,5 @@
 -- The steps by which a code of a stated entry is built from one or two codes, and why a step is refused.
-use Rattle.std.specs.Prelude.{◌≡◌, ◌≢◌, ℕ, ◌+◌, ◌*◌, ◌-◌, ◌%◌, ◌^◌, ◌<◌, ◌≤◌, Bool, true, false, nat_lt, ◌==◌, ◌&&◌, if◌then◌else◌, List, [], ◌∷◌, length, take, count_by, All, min, ⊤, Option, Some, None, option_map, IsTrue}
+use Rattle.std.specs.Prelude.{◌≡◌, ◌≢◌, ℕ, zero, ◌+◌, ◌*◌, ◌-◌, ◌%◌, ◌^◌, ◌<◌, ◌≤◌, Bool, true, false, nat_lt, ◌==◌, ◌&&◌, if◌then◌else◌, List, [], ◌∷◌, length, take, count_by, All, min, ⊤, Option, Some, None, option_map, IsTrue}
 use Rattle.std.specs.Option.{unwrap_or, ForSome}
 use Rattle.ct_words.specs.declared.limits.TheConstants.{MAX_N}
 use Rattle.ct_codes.specs.declared.entry.Entry.{Entry}
@@ -192,6 +192,16 @@ counted_fault step e part other result =
 -- the first reason against the step that the shapes of the codes tell: of the number of words that result only where that does not depend on the words
 unfoldable pub early_fault : Step → Entry → Shape → Option Shape → Option BuildFault
 early_fault step e part other = counted_fault step e part other (unwrap_or (result_size step part other) 0)
+
+-- no word results, where the shapes tell so
+abbrev pub told_empty_fault : Option ℕ → Option BuildFault
+told_empty_fault (Some zero) = Some Empty
+told_empty_fault size = None
+
+-- the first reason against the step that the shapes of the codes tell, that no word results among them: every reason, where the number of words that
+-- result does not depend on the words
+abbrev pub told_fault : Step → Entry → Shape → Option Shape → Option BuildFault
+told_fault step e part other = first_of (early_fault step e part other) (told_empty_fault (result_size step part other))
 
 -- the first reason against the step, none where there is none: one of these, over the number of words that it makes, or that no word results
 unfoldable pub build_fault : Step → Entry → CodeValue → Option CodeValue → Option BuildFault

@@ -1,11 +1,11 @@
 //! Why a step does not build a code of a stated entry.
 
-ghost use Rattle.std.specs.Prelude.{◌≡◌, ◌≤◌, nat_lt, if◌then◌else◌, Some, None, IfNone};
+ghost use Rattle.std.specs.Prelude.{◌≡◌, ◌≤◌, nat_lt, if◌then◌else◌, Some, None, IfNone, IfOk, OnOk, IfErr};
 ghost use Rattle.std.specs.Option.{ForSome, unwrap_or};
 ghost use Rattle.ct_codes.specs.declared.code.TheConstants.{MAX_CODE_DISTANCE};
 ghost use Rattle.ct_build.specs.declared.building.TheConstants.{MAX_BUILT};
 ghost use Rattle.ct_build.specs.declared.fault.BuildFault.TheVariants.{Few};
-ghost use Rattle.ct_build.specs.Build.{FitsStated, IsShape, part_fault, other_fault, distance_of, step_distance, size_of, other_of, result_size, above_limit, sizes_fault, few_fault, short_fault, early_fault};
+ghost use Rattle.ct_build.specs.Build.{FitsStated, IsShape, part_fault, other_fault, distance_of, step_distance, size_of, other_of, result_size, above_limit, sizes_fault, few_fault, short_fault, early_fault, told_fault};
 
 use crate::building::MAX_BUILT;
 use crate::even::even_from;
@@ -30,6 +30,7 @@ pub fn early_fault(
     requires other { ForSome other IsShape }
     ensures value { result ≡ early_fault step.now stated part other }
     ensures sizes { IfNone result ((part.size ≤ MAX_BUILT) × (size_of (other_of step.now other) ≤ MAX_BUILT)) }
+    ensures made { IfNone result (unwrap_or (result_size step.now part other) 0 ≤ MAX_BUILT) }
 {
     if let Some(fault) = part_fault(step, stated, part) {
         return Some(fault);
@@ -44,6 +45,31 @@ pub fn early_fault(
         return Some(fault);
     }
     few_fault(step, part.size)
+}
+
+/// How many words the step makes of codes of these shapes, none where that depends on their words; or the first reason against
+/// it that the shapes tell, that no word results among them. Where the number is told, so is every reason.
+pub fn told_size(
+    step: &Step,
+    stated: Entry,
+    part: Shape,
+    other: Option<Shape>,
+) -> Result<Option<u32>, BuildFault>
+    requires fits { FitsStated step.now stated }
+    requires part { IsShape part }
+    requires other { ForSome other IsShape }
+    ensures size { IfOk result (λ size. size ≡ result_size step.now part other) }
+    ensures accepted { OnOk result (told_fault step.now stated part other ≡ None) }
+    ensures fault { IfErr result (λ fault. told_fault step.now stated part other ≡ Some fault) }
+{
+    if let Some(fault) = early_fault(step, stated, part, other) {
+        return Err(fault);
+    }
+    match result_size(step, part, other) {
+        Some(0) => Err(BuildFault::Empty),
+        Some(count) => Ok(Some(count as u32)),
+        None => Ok(None),
+    }
 }
 
 /// Whether the part has another length or weight than the step asks for.
@@ -129,6 +155,7 @@ fn above_limit(count: u64) -> Option<BuildFault>
 #[tactic(auto, unfolding(crate::specs::Build::sizes_fault))]
 fn size_fault(step: &Step, part: Shape, other: Option<Shape>) -> Option<BuildFault>
     ensures sizes { IfNone result ((part.size ≤ MAX_BUILT) × (size_of (other_of step.now other) ≤ MAX_BUILT)) }
+    ensures made { IfNone result (unwrap_or (result_size step.now part other) 0 ≤ MAX_BUILT) }
     ensures value { result ≡ sizes_fault step.now part other (unwrap_or (result_size step.now part other) 0) }
 {
     let second = size_of(other_of(step, other));

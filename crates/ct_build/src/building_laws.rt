@@ -9,7 +9,7 @@ ghost use Rattle.ct_build.specs.declared.building.TheConstants.{MAX_BUILT};
 ghost use Rattle.ct_build.specs.declared.fault.BuildFault.TheVariants.{WrongPart, Short, Size, Few, Empty};
 ghost use Rattle.ct_build.specs.declared.step.Step.{Step};
 ghost use Rattle.ct_build.specs.declared.step.Step.TheVariants.{Lengthen, AppendOne, Parity, Puncture, Select, Uuv, Juxtapose, Trim};
-ghost use Rattle.ct_build.specs.Build.{FitsStated, shape_of, result_size, built, empty_fault, early_fault, build_fault, IsRightBuild};
+ghost use Rattle.ct_build.specs.Build.{FitsStated, shape_of, result_size, built, empty_fault, early_fault, told_fault, build_fault, IsRightBuild};
 
 /// Where the step fits the stated entry and there is no reason against it, it makes 1 to `MAX_BUILT` words, which are a
 /// code of the entry. A step that needs no other code does not look at one.
@@ -37,6 +37,9 @@ pub fn shapes_tell_the_reasons()
         1 ≤ length part.words → IfSome other (λ o. 1 ≤ length o.words) →
         result_size step (shape_of part) (option_map shape_of other) ≢ None →
         build_fault step e part other ≡ early_fault step e (shape_of part) (option_map shape_of other) }
+    ensures told { (step : Step) (e : Entry) (part : CodeValue) (other : Option CodeValue) →
+        result_size step (shape_of part) (option_map shape_of other) ≢ None →
+        build_fault step e part other ≡ told_fault step e (shape_of part) (option_map shape_of other) }
     ensures size { (step : Step) (e : Entry) (part : CodeValue) (other : Option CodeValue) (k : ℕ) →
         result_size step (shape_of part) (option_map shape_of other) ≡ Some k → length (built step e part other) ≡ k }
     ensures most { (step : Step) (e : Entry) (part : CodeValue) (other : Option CodeValue) →

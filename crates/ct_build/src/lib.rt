@@ -22,7 +22,7 @@ mod step;
 mod translation;
 
 pub use append::{append_one, lengthen, parity};
-pub use build_faults::{early_fault, result_size};
+pub use build_faults::{early_fault, result_size, told_size};
 pub use building::{MAX_BUILT, apply};
 pub use building_laws::{builds_are_codes_of_the_entry, known_builds, shapes_tell_the_reasons};
 pub use even::even_words;
