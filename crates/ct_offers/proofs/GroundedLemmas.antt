@@ -1,5 +1,5 @@
 -- The rules of a slot with neither numbers nor a support, where those that rest on nothing give nothing better than what stands.
-use Rattle.std.proofs.Common.{◌≡◌, ℕ, List, [], ◌∷◌, All, Option, Some, None, refl, subst}
+use Rattle.std.proofs.Common.{◌≡◌, ℕ, List, [], ◌∷◌, All, Option, Some, None, refl}
 use Rattle.std.proofs.lemmas.List.Elements.{All-from_recursion, recursion_from_All}
 use Rattle.ct_codes.specs.declared.claim.Side.{Side}
 use Rattle.ct_codes.specs.declared.claim.Side.TheVariants.{Lower, Upper}
@@ -103,10 +103,10 @@ but_grounds supports f Upper n d (Some w) best grounded entry worse resting =
     )
 
 pub all_but_grounds : (supports : List Support) (f : Slot → ℕ) (side : Side) (e : Entry) (best : ℕ) → AreGrounded supports f → IsEntry e
-    → IsNoBetter side (f (side, e)) best → (rules : List Rule) → rules ≡ resting_rules (side, e)
-    → All (IsWithin supports f (side, e) best) rules → All (IsWithin supports f (side, e) best) (rules_alone (side, e))
-all_but_grounds supports f side e best grounded entry worse rules are resting =
-    but_grounds supports f side e.n e.d e.w best grounded entry worse (subst (All (IsWithin supports f (side, e) best)) are resting)
+    → IsNoBetter side (f (side, e)) best → All (IsWithin supports f (side, e) best) (resting_rules (side, e))
+    → All (IsWithin supports f (side, e) best) (rules_alone (side, e))
+all_but_grounds supports f side e best grounded entry worse resting =
+    but_grounds supports f side e.n e.d e.w best grounded entry worse resting
 
 -- nor does a sum class
 pub class_grounded : (supports : List Support) (f : Slot → ℕ) (e : Entry) (k : ℕ) → AreGrounded supports f → IsEntry e

@@ -4,8 +4,10 @@ pub mod ByWeightLemmas
 pub mod DependentLemmas
 pub mod SideBySideLemmas
 pub mod PulledLemmas
+pub mod AskedLemmas
 pub mod LimitLemmas
 pub mod MarkingLemmas
+pub mod FollowingLemmas
 pub mod RowLemmas
 pub mod DualLemmas
 pub mod TestedLemmas

@@ -1,7 +1,6 @@
 -- What a rule gives over true bounds is true, so it is no better than the bound of the other side.
-use Rattle.std.proofs.Common.{◌≡◌, ℕ, List, [], ◌∷◌, All, Some, refl, sym, ap, subst, ◌∙◌, arith}
+use Rattle.std.proofs.Common.{◌≡◌, ℕ, List, Some, refl, sym, ap, subst, ◌∙◌, arith}
 use Rattle.std.specs.Prelude.{if◌then◌else◌, None}
-use Rattle.std.proofs.lemmas.List.Elements.{All-nil, All-cons, All-head, All-tail}
 use Rattle.ct_codes.specs.declared.claim.Side.{Side}
 use Rattle.ct_codes.specs.declared.claim.Side.TheVariants.{Lower, Upper}
 use Rattle.ct_codes.specs.declared.entry.Entry.{Entry}
@@ -61,15 +60,6 @@ pub at_limit : (supports : List Support) (f : Slot → ℕ) (s : Slot) (best lim
     → (r : Rule) → rule_side r ≡ s.0 → IsWithin supports f s best r
 at_limit supports f s best limit reached is r side =
     subst (λ (b : ℕ). IsWithin supports f s b r) (sym reached) (is r side)
-
-pub all_at_limit : (supports : List Support) (f : Slot → ℕ) (s : Slot) (best limit : ℕ) (rules : List Rule) → best ≡ limit
-    → IsLimit supports f s limit → All (λ (r : Rule). rule_side r ≡ s.0) rules → All (IsWithin supports f s best) rules
-all_at_limit supports f s best limit [] reached is sides = All-nil (IsWithin supports f s best)
-all_at_limit supports f s best limit (r ∷ rules) reached is sides =
-    let own : All (λ (q : Rule). rule_side q ≡ s.0) (r ∷ rules) = sides in
-    All-cons (IsWithin supports f s best) r rules
-    (at_limit supports f s best limit reached is r (All-head (λ (q : Rule). rule_side q ≡ s.0) r rules own))
-    (all_at_limit supports f s best limit rules reached is (All-tail (λ (q : Rule). rule_side q ≡ s.0) r rules own))
 
 -- where both bounds are one, no rule gives anything better
 pub settled_satisfied : (supports : List Support) (f : Slot → ℕ) (r : Rule) (e : Entry) → AllStand supports → AreTrue f → IsEntry e

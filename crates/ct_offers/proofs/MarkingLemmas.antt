@@ -1,10 +1,9 @@
 -- Which entries were tested while slots are marked.
-use Rattle.std.proofs.Common.{◌≡◌, ℕ, ◌+◌, ◌-◌, ◌<◌, ◌≤◌, List, [], ◌∷◌, length, All, Contains, Some, None, true, refl, sym, ap, subst, ◌∙◌, arith, inl, inr}
+use Rattle.std.proofs.Common.{◌≡◌, ℕ, ◌+◌, ◌-◌, ◌<◌, ◌≤◌, List, [], ◌∷◌, length, All, Contains, Some, None, refl, sym, ap, subst, ◌∙◌, arith, inl, inr}
 use Rattle.std.specs.Prelude.{slice_get}
 use Rattle.std.proofs.lemmas.Bool.{cases_eq}
-use Rattle.std.proofs.lemmas.List.Elements.{All-nil, All-cons, All-head, All-tail, All-weaker}
+use Rattle.std.proofs.lemmas.List.Elements.{All-nil, All-cons, All-head, All-tail}
 use Rattle.std.proofs.lemmas.Option.{same_Some, slice_get-get_or}
-use Rattle.ct_codes.specs.declared.claim.Side.{Side}
 use Rattle.ct_codes.specs.declared.claim.Side.TheVariants.{Upper}
 use Rattle.ct_codes.specs.declared.entry.Entry.{Entry}
 use Rattle.ct_codes.specs.Entry.{unrestricted}
@@ -13,12 +12,9 @@ use Rattle.ct_rule_parts.specs.Slot.{Slot}
 use Rattle.ct_rule_parts.proofs.PlainEntries.{two_items}
 use Rattle.ct_rules.specs.declared.rule.Rule.{Rule}
 use Rattle.ct_rules.specs.declared.rule.Rule.TheVariants.{L11}
-use Rattle.ct_rules.specs.Listing.{rules_alone}
-use Rattle.ct_rules.specs.Rule.{row_of, rule_side, is_alone, parts_of, parts_over}
-use Rattle.ct_rules.proofs.LawfulRows.{IsAloneOn}
+use Rattle.ct_rules.specs.Rule.{row_of, rule_side, parts_of, parts_over}
 use Rattle.ct_slots.specs.Worklist.{WorkValue}
 use Rattle.ct_offers.specs.Inside.Marking.{KeepsMarks, IsTestedAt, IsTestedFrom, AreTestedByWeight}
-use Rattle.ct_offers.proofs.PulledLemmas.{sides_of}
 
 pub keeps-trans : (first middle last : WorkValue) → KeepsMarks first middle → KeepsMarks middle last → KeepsMarks first last
 keeps-trans first middle last one other t entry marked = other t entry (one t entry marked)
@@ -56,19 +52,6 @@ pub tested_from : (supports : List Support) (bounds : List ℕ) (work : WorkValu
 tested_from supports bounds work r from n es are enough each e among =
     let there = subst (λ (fs : List Entry). Contains fs e) (sym are) among in
     each there.0 e (omega (arith, there.1)) (slice_get-get_or es there.0 e there.1 ∙ ap Some there.2)
-
--- rules that are alone on a side are alone
-pub are_alone : (side : Side) (rules : List Rule) → All (IsAloneOn side) rules → All (λ (r : Rule). is_alone r ≡ true) rules
-are_alone side rules each = All-weaker (IsAloneOn side) (λ (r : Rule). is_alone r ≡ true) (λ r h. h.0) rules each
-
-pub all_alone : (side : Side) (e : Entry) → All (λ (r : Rule). is_alone r ≡ true) (rules_alone (side, e))
-all_alone side e = are_alone side (rules_alone (side, e)) (sides_of side e.n e.d e.w)
-
--- what was tested by these rules still is when more is marked
-pub rules_tested : (supports : List Support) (bounds : List ℕ) (work new : WorkValue) (from : Entry) (rules list : List Rule) → rules ≡ list
-    → KeepsMarks work new → All (IsTestedFrom supports bounds work from) rules → All (IsTestedFrom supports bounds new from) list
-rules_tested supports bounds work new from rules list are keeps each =
-    subst (All (IsTestedFrom supports bounds new from)) are (all_tested_more supports bounds work new from rules keeps each)
 
 -- and by those that lead from entries with weight to those without
 pub by_weight_more : (supports : List Support) (bounds : List ℕ) (work new : WorkValue) (s : Slot) → KeepsMarks work new

@@ -1,8 +1,8 @@
 -- The best bound of a slot while rules are asked.
-use Rattle.std.proofs.Common.{◌≡◌, ℕ, ◌+◌, suc, ◌<◌, ◌≤◌, List, [], ◌∷◌, drop, ◌++◌, ◌-◌, length, map, flat_map, All, Contains, Option, Some, None, true, refl, sym, ap, subst, ◌∙◌, arith, inl, inr, ◌⊎◌}
+use Rattle.std.proofs.Common.{◌≡◌, ℕ, ◌+◌, suc, ◌<◌, ◌≤◌, List, [], ◌∷◌, ◌++◌, ◌-◌, length, map, flat_map, All, Contains, Option, Some, None, true, refl, sym, ap, subst, ◌∙◌, arith, inl, inr, ◌⊎◌}
 use Rattle.std.specs.Prelude.{slice_get, IfSome, false, is_some}
 use Rattle.std.proofs.lemmas.Bool.{and_parts, cases_eq}
-use Rattle.std.proofs.lemmas.List.Elements.{All-nil, All-cons, All-head, All-tail, All-append, All-contains, All-drop, All-take, All-weaker}
+use Rattle.std.proofs.lemmas.List.Elements.{All-nil, All-cons, All-head, All-tail, All-append, All-contains}
 use Rattle.std.proofs.lemmas.Option.{none-some, same_Some}
 use Rattle.std.specs.List.{range_with_len}
 use Rattle.ct_codes.specs.declared.claim.Side.{Side}
@@ -21,12 +21,11 @@ use Rattle.ct_rules.specs.Closed.{AreTrue}
 use Rattle.ct_rules.specs.Rule.{row_of, parts_over, rule_side, is_by_weight, applies}
 use Rattle.ct_rules.proofs.Applied.{defined}
 use Rattle.ct_rules.proofs.ClosedBounds.{no_better-trans}
-use Rattle.ct_rules.proofs.LawfulRows.{IsAloneOn, lower_alone, lower_weight_alone, upper_alone, upper_weight_alone}
 use Rattle.ct_rules.proofs.RuleLists.{rules_at-complete}
 use Rattle.ct_offers.specs.declared.best.Best.{Best}
 use Rattle.ct_slots.specs.Places.{GivesTo, ArePlaces, IsPlaceOf, IsUpTo}
 use Rattle.ct_offers.specs.Offers.{IsGiven, IsWithin}
-use Rattle.ct_offers.specs.Inside.Pulled.{IsPulled, resting_rules, given_rule}
+use Rattle.ct_offers.specs.Inside.Pulled.{IsPulled, given_rule}
 use Rattle.ct_offers.proofs.BoundingRules.{bounding-bound, bounding-odd, bounding-weighted, bounding-local, bounding_dual}
 use Rattle.ct_offers.proofs.PullingLemmas.{over-applies}
 
@@ -215,28 +214,6 @@ all_asked supports f side e best alone sums classes given by_weight r same v val
     (rules_at-complete supports r e (over-applies supports f r e v value)))
     v value
 
--- the rules of each list have its side
-pub sides_of : (side : Side) (n d : ℕ) (w : Option ℕ) → All (IsAloneOn side) (rules_alone (side, record { n = n; d = d; w = w }))
-sides_of Lower n d None = lower_alone
-sides_of Lower n d (Some w) = lower_weight_alone
-sides_of Upper n d None = upper_alone
-sides_of Upper n d (Some w) = upper_weight_alone
-
-resting_sides : (side : Side) (n d : ℕ) (w : Option ℕ) → All (λ (r : Rule). rule_side r ≡ side) (rules_alone (side, record { n = n; d = d; w = w }))
-    → All (λ (r : Rule). rule_side r ≡ side) (resting_rules (side, record { n = n; d = d; w = w }))
-resting_sides Lower n d w each = All-drop (λ (r : Rule). rule_side r ≡ Lower) 2 (rules_alone (Lower, record { n = n; d = d; w = w })) each
-resting_sides Upper n d None each = All-drop (λ (r : Rule). rule_side r ≡ Upper) 4 (rules_alone (Upper, record { n = n; d = d; w = None })) each
-resting_sides Upper n d (Some w) each =
-    All-take (λ (r : Rule). rule_side r ≡ Upper) 5 (drop 3 (rules_alone (Upper, record { n = n; d = d; w = Some w })))
-    (All-drop (λ (r : Rule). rule_side r ≡ Upper) 3 (rules_alone (Upper, record { n = n; d = d; w = Some w })) each)
-
-pub sides_of_resting : (side : Side) (e : Entry) (rules : List Rule) → rules ≡ resting_rules (side, e)
-    → All (λ (r : Rule). rule_side r ≡ side) rules
-sides_of_resting side e rules are =
-    subst (All (λ (r : Rule). rule_side r ≡ side)) (sym are)
-    (resting_sides side e.n e.d e.w
-    (All-weaker (IsAloneOn side) (λ (r : Rule). rule_side r ≡ side) (λ r h. h.1) (rules_alone (side, e)) (sides_of side e.n e.d e.w)))
-
 -- fewer are left after the next one
 pub fewer_left : (entries : List (Option Entry)) (e : Entry) (next : Option ℕ) (place : ℕ)
     → IfSome next (λ other. (other < place) × IsPlaceOf entries e other) → left_to next < suc place
@@ -302,6 +279,14 @@ some_below supports f side e first best truth entry low value pulled =
     let own = (truth (side, e) entry).range.0 in
     let better : first.value ≤ best.value = subst (λ (s : Side). IsNoBetter s first.value best.value) low pulled.no_worse in
     omega arith
+
+pub some_lower : (f : Slot → ℕ) (side : Side) (e : Entry) (old new : ℕ) → AreTrue f → IsEntry e → IsNoBetter side (f (side, e)) old
+    → IsNoBetter side old new → side ≡ Lower → 1 ≤ new
+some_lower f side e old new truth entry stood worse low =
+    let own = (truth (side, e) entry).range.0 in
+    let one : f (side, e) ≤ old = subst (λ (s : Side). IsNoBetter s (f (side, e)) old) low stood in
+    let more : old ≤ new = subst (λ (s : Side). IsNoBetter s old new) low worse in
+    omega (arith, own, one, more)
 
 -- what was found from below is at least what stood
 pub from_standing : (supports : List Support) (f : Slot → ℕ) (side : Side) (e : Entry) (first middle last : Best) → side ≡ Lower

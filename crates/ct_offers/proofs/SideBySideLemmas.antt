@@ -108,7 +108,7 @@ abbrev pub least_of : (Slot → ℕ) → ℕ → ℕ → ℕ → ℕ → ℕ
 least_of f n d m c = min (f (lower_at m c)) (f (lower_at (n - m) (d - c)))
 
 -- a number within the limits of a lower bound
-limited : (x : ℕ) → x ≤ MAX_BOUND → within_limit Lower (Some x) ≡ Some x
+pub limited : (x : ℕ) → x ≤ MAX_BOUND → within_limit Lower (Some x) ≡ Some x
 limited x few = ap (λ (b : Bool). if b then Some x else None) (le-leb x MAX_BOUND few)
 
 -- it is what they give
@@ -265,6 +265,35 @@ lengths_enough supports f m c e best truth some out =
           let few = sum_far f e.n e.d m c truth is (inr (omega arith)) in
           omega arith
     ])
+
+-- the codes in the other order give the same
+pub turned_within : (supports : List Support) (f : Slot → ℕ) (m c : ℕ) (e : Entry) (best : ℕ) → AreTrue f → IsEntry e
+    → IsWithin supports f (Lower, e) best (L11 (e.n - m) (e.d - c)) → IsWithin supports f (Lower, e) best (L11 m c)
+turned_within supports f m c e best truth entry within =
+    sum_within supports f m c e best truth
+    (λ there.
+    let parts = sum_parts supports m c e there in
+    let turned = turned_sum e.n e.d m c parts.1 in
+    let most : least_of f e.n e.d (e.n - m) (e.d - c) ≤ best =
+    within (least_of f e.n e.d (e.n - m) (e.d - c))
+    (sum_value supports f (e.n - m) (e.d - c) e truth (sum_applies supports (e.n - m) (e.d - c) e entry parts.0 turned)) in
+    let less = turned_least f e.n e.d m c parts.1 in
+    omega (arith, most, less))
+
+-- so lengths of the first code up to half of the entry's are enough
+pub halves_enough : (supports : List Support) (f : Slot → ℕ) (e : Entry) (best end : ℕ) → AreTrue f → IsEntry e → 1 ≤ best → e.n < end + end
+    → ((m c : ℕ) → 3 ≤ m → m < end → IsWithin supports f (Lower, e) best (L11 m c))
+    → (m c : ℕ) → IsWithin supports f (Lower, e) best (L11 m c)
+halves_enough supports f e best end truth entry some half looked m c = elim (cases_lt m end) [
+  | inl below ↦ up_to m c below
+  | inr above ↦ turned_within supports f m c e best truth entry (up_to (e.n - m) (e.d - c) (omega arith))
+]
+  where
+    up_to : (k b : ℕ) → k < end → IsWithin supports f (Lower, e) best (L11 k b)
+    up_to k b below = elim (cases_lt k 3) [
+      | inl short ↦ lengths_enough supports f k b e best truth some (inl short)
+      | inr from ↦ looked k b from below
+    ]
 
 -- words side by side at an entry, within the limits
 pub sum_here : (e : Entry) (m c : ℕ) → IsEntry e → 3 ≤ m → m + 3 ≤ e.n → 3 ≤ c → c + 3 ≤ e.d → IsSum e.n e.d m c

@@ -2,8 +2,10 @@
 #![tactic(auto)]
 
 mod best;
+mod following;
 mod marking;
 mod pulling;
+mod resting;
 mod side_by_side;
 
 pub use best::Best;

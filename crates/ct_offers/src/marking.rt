@@ -1,6 +1,6 @@
 //! The slots at which a better bound of another may lead to something better: they are marked.
 
-ghost use Rattle.std.specs.Prelude.{◌≡◌, suc, true, OnOk, All};
+ghost use Rattle.std.specs.Prelude.{◌≡◌, suc, true, OnOk};
 ghost use Rattle.ct_codes.specs.Entry.{IsEntry};
 ghost use Rattle.ct_rule_parts.specs.Support.{AllStand};
 ghost use Rattle.ct_rules.specs.declared.rule.Rule.{Rule};
@@ -10,16 +10,18 @@ ghost use Rattle.ct_slots.specs.Number.{bound_of};
 ghost use Rattle.ct_slots.specs.Places.{ArePlaces};
 ghost use Rattle.ct_offers.specs.Inside.Marking.{KeepsMarks, IsTestedAt, IsTestedFrom, AreTestedByWeight, IsTestedByDual, AreTestedByDuals, AreTestedAtWeights, AreTestedFromDuals, AreTested};
 
+use crate::following::mark_by_resting;
 use crate::pulling::{given_rule, offer};
 use crate::side_by_side::mark_side_by_side;
 use ct_codes::{Entry, Side};
 use ct_rule_parts::dual_behind;
-use ct_rules::{Rule, Support, rested_on_by, rule_side, rules_alone};
+use ct_rules::{Rule, Support, rested_on_by, rule_side};
 use ct_slots::{Bounds, SupportPlaces, Worklist, is_better};
 use ct_weight_rules::{of_weight, unweighted, unweighted_and_nearer};
 use std::alloc::AllocError;
 
 /// Marks an entry of the table that is not settled, where the rule gives something better there.
+#[inline(always)]
 fn mark_where_better(
     supports: &[Support],
     bounds: &Bounds,
@@ -45,6 +47,7 @@ fn mark_where_better(
 
 /// Marks the entry, where it is in the table and the rule gives something better there; it gives nothing better where both
 /// bounds of the entry are one.
+#[inline(always)]
 fn test(
     supports: &[Support],
     bounds: &Bounds,
@@ -68,7 +71,8 @@ fn test(
 }
 
 /// Marks the entries that may rest on this one by the rule, where it gives something better there.
-fn mark_by_rule(
+#[inline(always)]
+pub(crate) fn mark_by_rule(
     supports: &[Support],
     bounds: &Bounds,
     work: &mut Worklist,
@@ -89,28 +93,6 @@ fn mark_by_rule(
             return Ok(());
         };
         test(supports, bounds, work, rule, dependent, evaluations)?;
-    }
-    Ok(())
-}
-
-/// Marks the entries that may rest on this one by one of the rules, where it gives something better there.
-fn mark_by_rules(
-    supports: &[Support],
-    bounds: &Bounds,
-    work: &mut Worklist,
-    rules: &[Rule],
-    entry: Entry,
-    evaluations: &mut u64,
-) -> Result<(), AllocError>
-    requires entry { IsEntry entry }
-    requires alone { All (λ (r : Rule). is_alone r ≡ true) rules.now }
-    requires stand { AllStand supports.now }
-    requires true_bounds { AreTrue (bound_of bounds.now) }
-    ensures tested { OnOk result (All (IsTestedFrom supports.now bounds.now work.new entry) rules.now) }
-    ensures kept { KeepsMarks work.old work.new }
-{
-    for rule in rules {
-        mark_by_rule(supports, bounds, work, *rule, entry, evaluations)?;
     }
     Ok(())
 }
@@ -143,6 +125,10 @@ fn mark_by_weight(
         }
         Side::Upper => {
             test(supports, bounds, work, Rule::U10(w), same, evaluations)?;
+            // Words at an odd distance from a word have that weight.
+            if w + 1 != entry.d {
+                return Ok(());
+            }
             test(supports, bounds, work, Rule::U9, nearer, evaluations)?;
             Ok(())
         }
@@ -274,8 +260,7 @@ pub fn mark_dependents(
     ensures tested { OnOk result (AreTested supports.now bounds.now work.new (side, entry)) }
     ensures kept { KeepsMarks work.old work.new }
 {
-    let rules = rules_alone(side, entry);
-    mark_by_rules(supports, bounds, work, rules, entry, evaluations)?;
+    mark_by_resting(supports, bounds, work, side, entry, evaluations)?;
     mark_by_weight(supports, bounds, work, side, entry, evaluations)?;
     match (side, entry.w) {
         (Side::Lower, None) => {

@@ -9,24 +9,26 @@ ghost use Rattle.ct_duals.specs.Bound.{dual_premises};
 ghost use Rattle.ct_rule_parts.specs.Slot.{IsNoBetter};
 ghost use Rattle.ct_rule_parts.specs.Support.{AllStand};
 ghost use Rattle.ct_rules.specs.declared.rule.Rule.{Rule};
-ghost use Rattle.ct_rules.specs.declared.rule.Rule.TheVariants.{L11};
+ghost use Rattle.ct_rules.specs.declared.rule.Rule.TheVariants.{L9, L11, U10};
 ghost use Rattle.ct_rules.specs.Closed.{AreTrue};
 ghost use Rattle.ct_rules.specs.Listing.{rules_alone};
 ghost use Rattle.ct_rules.specs.Rule.{rule_side, is_by_weight, parts_over};
 ghost use Rattle.ct_slots.specs.Number.{bound_of};
 ghost use Rattle.ct_slots.specs.Places.{ArePlaces};
 ghost use Rattle.ct_offers.specs.Offers.{value_over, AreGrounded, IsGiven, IsLimit, IsWithin};
-ghost use Rattle.ct_offers.specs.Inside.Pulled.{IsPulled, resting_rules, bounding_rule, bounding_rule_of_weight, given_rule, rule_of_weight};
+ghost use Rattle.ct_offers.specs.Inside.Pulled.{IsPulled, bounding_rule, bounding_rule_of_weight, given_rule};
 
 use crate::best::Best;
+use crate::resting::ask_resting;
 use crate::side_by_side::best_side_by_side;
 use ct_codes::{Entry, Side};
 use ct_rule_parts::AcceptedDual;
-use ct_rules::{Entries, Rule, Support, rests_on, rule_side, rules_alone, value_where_defined};
+use ct_rules::{Entries, Rule, Support, rests_on, rule_side, value_where_defined};
 use ct_slots::{Bounds, SupportPlaces};
 use ct_words::MAX_N;
 
 /// The bound that stands on a side of an entry, where it is in the table.
+#[inline(always)]
 fn bound_in_table(bounds: &Bounds, side: Side, entry: Entry) -> Option<u32>
     ensures { result ≡ (if is_entry entry then Some (bound_of bounds.now (side, entry)) else None) }
 {
@@ -75,6 +77,7 @@ fn offer_of_dual(
 }
 
 /// The bound that a rule that rests on one entry gives at an entry of the table over what stands.
+#[inline(always)]
 fn offer_of_one(
     supports: &[Support],
     bounds: &Bounds,
@@ -93,6 +96,7 @@ fn offer_of_one(
 }
 
 /// The bound that a rule that rests on two entries gives at an entry of the table over what stands.
+#[inline(always)]
 fn offer_of_two(
     supports: &[Support],
     bounds: &Bounds,
@@ -116,6 +120,7 @@ fn offer_of_two(
 }
 
 /// The bound that a rule that rests on three entries gives at an entry of the table over what stands.
+#[inline(always)]
 fn offer_of_three(
     supports: &[Support],
     bounds: &Bounds,
@@ -141,6 +146,7 @@ fn offer_of_three(
 }
 
 /// The bound that the rule gives at an entry of the table over what stands. It takes no memory.
+#[inline(always)]
 pub fn offer(supports: &[Support], bounds: &Bounds, rule: Rule, entry: Entry) -> Option<u32>
     requires { IsEntry entry }
     ensures value { result ≡ value_over supports.now (bound_of bounds.now) rule entry }
@@ -160,7 +166,8 @@ pub fn offer(supports: &[Support], bounds: &Bounds, rule: Rule, entry: Entry) ->
 }
 
 /// Asks a rule for its bound over what stands.
-fn ask(
+#[inline(always)]
+pub(crate) fn ask(
     supports: &[Support],
     bounds: &Bounds,
     rule: Rule,
@@ -189,43 +196,6 @@ fn limit_of(bounds: &Bounds, side: Side, entry: Entry) -> u32
     }
 }
 
-/// Asks each rule of the list, up to the limit of what a rule can give.
-fn ask_each(
-    supports: &[Support],
-    bounds: &Bounds,
-    rules: &[Rule],
-    side: Side,
-    entry: Entry,
-    limit: u32,
-    best: &mut Best,
-    evaluations: &mut u64,
-)
-    requires entry { IsEntry entry }
-    requires sides { All (λ (r : Rule). rule_side r ≡ side) rules.now }
-    requires limit { IsLimit supports.now (bound_of bounds.now) (side, entry) limit }
-    ensures pulled { IsPulled supports.now (bound_of bounds.now) (side, entry) best.old best.new }
-    ensures within { All (IsWithin supports.now (bound_of bounds.now) (side, entry) best.new.value) rules.now }
-{
-    for rule in rules {
-        if best.value == limit {
-            return;
-        }
-        ask(supports, bounds, *rule, side, entry, best, evaluations);
-    }
-}
-
-/// The rules of the slot with neither numbers nor a support that rest on a bound.
-fn resting_rules(side: Side, entry: Entry) -> &'static [Rule]
-    ensures { result.now ≡ resting_rules (side, entry) }
-{
-    let rules = rules_alone(side, entry);
-    match (side, entry.w) {
-        (Side::Lower, _) => &rules[2..],
-        (Side::Upper, None) => &rules[4..],
-        (Side::Upper, Some(_)) => &rules[3..8],
-    }
-}
-
 /// Asks each rule of the slot with neither numbers nor a support, but those that rest on nothing: what stands there is no worse than what
 /// they give.
 fn ask_alone(
@@ -233,61 +203,76 @@ fn ask_alone(
     bounds: &Bounds,
     side: Side,
     entry: Entry,
-    limit: u32,
     best: &mut Best,
     evaluations: &mut u64,
 )
     requires entry { IsEntry entry }
     requires grounded { AreGrounded supports.now (bound_of bounds.now) }
     requires standing { IsNoBetter side (bound_of bounds.now (side, entry)) best.old.value }
-    requires limit { IsLimit supports.now (bound_of bounds.now) (side, entry) limit }
     ensures pulled { IsPulled supports.now (bound_of bounds.now) (side, entry) best.old best.new }
     ensures within { All (IsWithin supports.now (bound_of bounds.now) (side, entry) best.new.value) (rules_alone (side, entry)) }
 {
-    let rules = resting_rules(side, entry);
-    ask_each(
-        supports,
-        bounds,
-        rules,
-        side,
-        entry,
-        limit,
-        best,
-        evaluations,
-    );
+    ask_resting(supports, bounds, side, entry, best, evaluations);
 }
 
-/// The rule by which a bound of a weight leads to one without weight.
-fn rule_of_weight(side: Side, w: u32) -> Rule
-    ensures rule { result ≡ rule_of_weight side w }
-    ensures side { rule_side result ≡ side }
+/// Asks for what the lower bound of each weight gives at an entry without weight.
+#[tactic(auto, unfolding(ct_rules::specs::Rule::row_of))]
+fn ask_lower_weights(
+    supports: &[Support],
+    bounds: &Bounds,
+    entry: Entry,
+    best: &mut Best,
+    evaluations: &mut u64,
+)
+    requires entry { IsEntry entry }
+    requires true_bounds { AreTrue (bound_of bounds.now) }
+    requires some { 1 ≤ best.old.value }
+    ensures pulled { IsPulled supports.now (bound_of bounds.now) (Lower, entry) best.old best.new }
+    ensures within { (w : ℕ) → w ≤ entry.n → IsWithin supports.now (bound_of bounds.now) (Lower, entry) best.new.value (L9 w) }
 {
-    match side {
-        Side::Lower => Rule::L9(w),
-        Side::Upper => Rule::U10(w),
+    // Of words with fewer ones than that, or fewer zeros, no two are so far apart.
+    let half = entry.d.div_ceil(2);
+    for w in half..(entry.n + 1).saturating_sub(half) {
+        ask(
+            supports,
+            bounds,
+            Rule::L9(w),
+            Side::Lower,
+            entry,
+            best,
+            evaluations,
+        );
     }
 }
 
-/// Asks for what the bound of each weight gives at an entry without weight.
-fn ask_weights(
+/// Asks for what the upper bound of each weight gives at an entry without weight.
+#[tactic(auto, unfolding(ct_rules::specs::Rule::row_of))]
+fn ask_upper_weights(
     supports: &[Support],
     bounds: &Bounds,
-    side: Side,
     entry: Entry,
     best: &mut Best,
     evaluations: &mut u64,
 )
     requires { IsEntry entry }
-    ensures pulled { IsPulled supports.now (bound_of bounds.now) (side, entry) best.old best.new }
-    ensures within { (w : ℕ) → w ≤ entry.n → IsWithin supports.now (bound_of bounds.now) (side, entry) best.new.value (rule_of_weight side w) }
+    ensures pulled { IsPulled supports.now (bound_of bounds.now) (Upper, entry) best.old best.new }
+    ensures within { (w : ℕ) → w ≤ entry.n → IsWithin supports.now (bound_of bounds.now) (Upper, entry) best.new.value (U10 w) }
 {
     for w in 0..entry.n + 1 {
-        let rule = rule_of_weight(side, w);
-        ask(supports, bounds, rule, side, entry, best, evaluations);
+        ask(
+            supports,
+            bounds,
+            Rule::U10(w),
+            Side::Upper,
+            entry,
+            best,
+            evaluations,
+        );
     }
 }
 
 /// Asks each rule that leads from entries with weight to those without.
+#[tactic(auto, unfolding(ct_rules::specs::Rule::row_of))]
 fn ask_by_weight(
     supports: &[Support],
     bounds: &Bounds,
@@ -296,17 +281,29 @@ fn ask_by_weight(
     best: &mut Best,
     evaluations: &mut u64,
 )
-    requires { IsEntry entry }
+    requires entry { IsEntry entry }
+    requires true_bounds { AreTrue (bound_of bounds.now) }
+    requires some { side ≡ Lower → 1 ≤ best.old.value }
     ensures pulled { IsPulled supports.now (bound_of bounds.now) (side, entry) best.old best.new }
     ensures within { (r : Rule) → is_by_weight r ≡ true → rule_side r ≡ side → IsWithin supports.now (bound_of bounds.now) (side, entry) best.new.value r }
 {
     if let Some(_) = entry.w {
         return;
     }
-    ask_weights(supports, bounds, side, entry, best, evaluations);
     match side {
-        Side::Lower => {}
-        Side::Upper => ask(supports, bounds, Rule::U9, side, entry, best, evaluations),
+        Side::Lower => ask_lower_weights(supports, bounds, entry, best, evaluations),
+        Side::Upper => {
+            ask_upper_weights(supports, bounds, entry, best, evaluations);
+            ask(
+                supports,
+                bounds,
+                Rule::U9,
+                Side::Upper,
+                entry,
+                best,
+                evaluations,
+            );
+        }
     }
 }
 
@@ -321,6 +318,7 @@ fn ask_unsupported(
     evaluations: &mut u64,
 )
     requires entry { IsEntry entry }
+    requires true_bounds { AreTrue (bound_of bounds.now) }
     requires grounded { AreGrounded supports.now (bound_of bounds.now) }
     requires standing { IsNoBetter side (bound_of bounds.now (side, entry)) best.old.value }
     requires limit { IsLimit supports.now (bound_of bounds.now) (side, entry) limit }
@@ -328,7 +326,7 @@ fn ask_unsupported(
     ensures alone { All (IsWithin supports.now (bound_of bounds.now) (side, entry) best.new.value) (rules_alone (side, entry)) }
     ensures by_weight { (r : Rule) → is_by_weight r ≡ true → rule_side r ≡ side → IsWithin supports.now (bound_of bounds.now) (side, entry) best.new.value r }
 {
-    ask_alone(supports, bounds, side, entry, limit, best, evaluations);
+    ask_alone(supports, bounds, side, entry, best, evaluations);
     if best.value == limit {
         return;
     }

@@ -64,16 +64,18 @@ pub(crate) fn best_side_by_side(
     ensures pulled { (supports : List Support) → IsPulled supports (bound_of bounds.now) (Lower, entry) best.old best.new }
     ensures within { (supports : List Support) (m c : ℕ) → IsWithin supports (bound_of bounds.now) (Lower, entry) best.new.value (L11 m c) }
 {
-    for m in 3..entry.n.saturating_sub(2) {
+    // The codes in the other order give the same.
+    for m in 3..entry.n / 2 + 1 {
         best_with_first(bounds, entry, m, best, evaluations);
     }
 }
 
-/// Marks A(n,d) where words of the entry's code side by side with others give something better there.
+/// Marks A(n,d) where words of the entry's code, which are as many as its own bound says, side by side with others give something better there.
 fn mark_sum(
     bounds: &Bounds,
     work: &mut Worklist,
     entry: Entry,
+    own: u32,
     n: u32,
     d: u32,
 ) -> Result<(), AllocError>
@@ -82,13 +84,13 @@ fn mark_sum(
     requires longer { IsEntry (unrestricted n d) }
     requires n { entry.n < n }
     requires d { entry.d + 3 ≤ d }
+    requires own { own ≡ bound_of bounds.now (lower_at entry.n entry.d) }
     requires true_bounds { AreTrue (bound_of bounds.now) }
     ensures tested { OnOk result (IsTestedAtSum bounds.now work.new entry n d) }
     ensures kept { KeepsMarks work.old work.new }
 {
     let other = plain_bound(bounds, n - entry.n, d - entry.d);
-    let value = plain_bound(bounds, entry.n, entry.d).min(other);
-    if value > plain_bound(bounds, n, d) {
+    if own.min(other) > plain_bound(bounds, n, d) {
         work.mark(Side::Lower, Entry { n, d, w: None })?;
     }
     Ok(())
@@ -110,10 +112,11 @@ fn mark_sums_of_length(
     ensures tested { OnOk result (AreTestedAtLength bounds.now work.new entry n) }
     ensures kept { KeepsMarks work.old work.new }
 {
+    let own = plain_bound(bounds, entry.n, entry.d);
     let end = (entry.d + (n - entry.n)).min(MAX_N) + 1;
     for d in entry.d + 3..end {
         *evaluations = evaluations.saturating_add(1);
-        mark_sum(bounds, work, entry, n, d)?;
+        mark_sum(bounds, work, entry, own, n, d)?;
     }
     Ok(())
 }

@@ -8,7 +8,7 @@ use Rattle.ct_rule_parts.specs.declared.support.Support.TheVariants.{Odd, Local}
 use Rattle.ct_rule_parts.specs.Parts.{has_weight}
 use Rattle.ct_rule_parts.specs.Slot.{Slot, IsNoBetter}
 use Rattle.ct_rules.specs.declared.rule.Rule.{Rule}
-use Rattle.ct_rules.specs.declared.rule.Rule.TheVariants.{L9, L10, M10, U10, U11, U12, V9, V10}
+use Rattle.ct_rules.specs.declared.rule.Rule.TheVariants.{L10, M10, U11, U12, V9, V10}
 use Rattle.ct_rules.specs.Listing.{rules_alone}
 use Rattle.ct_offers.specs.declared.best.Best.{Best}
 use Rattle.ct_offers.specs.Offers.{IsGiven}
@@ -37,8 +37,3 @@ bounding_rule_of_weight c place = V9 place
 abbrev pub given_rule : Option Support → Slot → ℕ → Rule
 given_rule c (Lower, e) place = if has_weight e then M10 place else L10 place
 given_rule c (Upper, e) place = if has_weight e then bounding_rule_of_weight c place else bounding_rule c place
-
--- the rule by which a bound of a weight leads to one without weight
-abbrev pub rule_of_weight : Side → ℕ → Rule
-rule_of_weight Lower w = L9 w
-rule_of_weight Upper w = U10 w

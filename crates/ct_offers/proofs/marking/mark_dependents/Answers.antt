@@ -1,28 +1,21 @@
-use Rattle.std.proofs.Common.{◌≡◌, All, true, sym, subst, ◌∙◌}
+use Rattle.std.proofs.Common.{sym, ◌∙◌}
 use Rattle.std.proofs.lemmas.Option.{none-some}
-use Rattle.ct_rules.specs.declared.rule.Rule.{Rule}
 use Rattle.ct_rules.specs.Listing.{rules_alone}
-use Rattle.ct_rules.specs.Rule.{is_alone}
-use Rattle.ct_offers.proofs.MarkingLemmas.{keeps-trans, all_alone, rules_tested, by_weight_more, sum_rests, sum_not_upper}
+use Rattle.ct_offers.proofs.MarkingLemmas.{keeps-trans, all_tested_more, by_weight_more, sum_rests, sum_not_upper}
 use Rattle.ct_offers.proofs.TestedLemmas.{tested_by_rules}
 use Rattle.ct_offers.proofs.DualLemmas.{below-not_above, tested_from_plain}
 use Rattle.ct_offers.proofs.marking.mark_dependents.Goals as goal
-
-pub mark_by_rules-requires-clause-alone : goal.mark_by_rules-requires-clause-alone
-mark_by_rules-requires-clause-alone c =
-    subst (All (λ (r : Rule). is_alone r ≡ true)) (sym c.rules_alone-rules.ensures) (all_alone c.args.side c.args.entry)
 
 pub returns-in_ok-mark_side_by_side-in-Lower-None-clause-tested : goal.returns-in_ok-mark_side_by_side-in-Lower-None-clause-tested
 returns-in_ok-mark_side_by_side-in-Lower-None-clause-tested c =
     let supports = c.args.supports.now in
     let bounds = c.args.bounds.now in
-    let first = c.mark_by_rules.new.work in
+    let first = c.mark_by_resting.new.work in
     let second = c.mark_by_weight.new.work in
     let third = c.mark_side_by_side.new.work in
     let last = c.in_ok-mark_side_by_side-in-Lower-None.ensures in
     tested_by_rules supports bounds third c.args.side c.args.entry
-    (rules_tested supports bounds first third c.args.entry c.rules_alone-rules.result.now (rules_alone (c.args.side, c.args.entry))
-    c.rules_alone-rules.ensures (keeps-trans first second third c.in_ok-mark_by_weight.ensures.kept last.kept) c.in_ok-mark_by_rules.ensures.tested)
+    (all_tested_more supports bounds first third c.args.entry (rules_alone (c.args.side, c.args.entry)) (keeps-trans first second third c.in_ok-mark_by_weight.ensures.kept last.kept) c.in_ok-mark_by_resting.ensures.tested)
     (by_weight_more supports bounds second third (c.args.side, c.args.entry) last.kept c.in_ok-mark_by_weight.ensures.tested)
     (λ m k f same there rests. last.tested supports m k f there rests)
     (λ up. absurd (below-not_above c.args.side c.in-Lower-None.is-0 up))
@@ -32,8 +25,7 @@ returns-in-Lower-Some-clause-tested c =
     let supports = c.args.supports.now in
     let bounds = c.args.bounds.now in
     tested_by_rules supports bounds c.mark_by_weight.new.work c.args.side c.args.entry
-    (rules_tested supports bounds c.mark_by_rules.new.work c.mark_by_weight.new.work c.args.entry c.rules_alone-rules.result.now
-    (rules_alone (c.args.side, c.args.entry)) c.rules_alone-rules.ensures c.in_ok-mark_by_weight.ensures.kept c.in_ok-mark_by_rules.ensures.tested)
+    (all_tested_more supports bounds c.mark_by_resting.new.work c.mark_by_weight.new.work c.args.entry (rules_alone (c.args.side, c.args.entry)) c.in_ok-mark_by_weight.ensures.kept c.in_ok-mark_by_resting.ensures.tested)
     c.in_ok-mark_by_weight.ensures.tested
     (λ m k f same there rests. absurd (none-some _ (sym (sum_rests supports m k f c.args.entry rests) ∙ c.in-Lower-Some.is-1)))
     (λ up. absurd (below-not_above c.args.side c.in-Lower-Some.is-0 up))
@@ -43,8 +35,7 @@ returns-in-Upper-None-clause-tested c =
     let supports = c.args.supports.now in
     let bounds = c.args.bounds.now in
     tested_by_rules supports bounds c.mark_by_weight.new.work c.args.side c.args.entry
-    (rules_tested supports bounds c.mark_by_rules.new.work c.mark_by_weight.new.work c.args.entry c.rules_alone-rules.result.now
-    (rules_alone (c.args.side, c.args.entry)) c.rules_alone-rules.ensures c.in_ok-mark_by_weight.ensures.kept c.in_ok-mark_by_rules.ensures.tested)
+    (all_tested_more supports bounds c.mark_by_resting.new.work c.mark_by_weight.new.work c.args.entry (rules_alone (c.args.side, c.args.entry)) c.in_ok-mark_by_weight.ensures.kept c.in_ok-mark_by_resting.ensures.tested)
     c.in_ok-mark_by_weight.ensures.tested
     (λ m k f same there rests. absurd (sum_not_upper m k (same ∙ c.in-Upper-None.is-0)))
     (λ up. tested_from_plain supports bounds c.mark_by_weight.new.work c.args.entry c.in-Upper-None.is-1)
@@ -53,13 +44,12 @@ pub returns-in_ok-mark_from_duals-in-Upper-Some-clause-tested : goal.returns-in_
 returns-in_ok-mark_from_duals-in-Upper-Some-clause-tested c =
     let supports = c.args.supports.now in
     let bounds = c.args.bounds.now in
-    let first = c.mark_by_rules.new.work in
+    let first = c.mark_by_resting.new.work in
     let second = c.mark_by_weight.new.work in
     let third = c.mark_from_duals.new.work in
     let last = c.in_ok-mark_from_duals-in-Upper-Some.ensures in
     tested_by_rules supports bounds third c.args.side c.args.entry
-    (rules_tested supports bounds first third c.args.entry c.rules_alone-rules.result.now (rules_alone (c.args.side, c.args.entry))
-    c.rules_alone-rules.ensures (keeps-trans first second third c.in_ok-mark_by_weight.ensures.kept last.kept) c.in_ok-mark_by_rules.ensures.tested)
+    (all_tested_more supports bounds first third c.args.entry (rules_alone (c.args.side, c.args.entry)) (keeps-trans first second third c.in_ok-mark_by_weight.ensures.kept last.kept) c.in_ok-mark_by_resting.ensures.tested)
     (by_weight_more supports bounds second third (c.args.side, c.args.entry) last.kept c.in_ok-mark_by_weight.ensures.tested)
     (λ m k f same there rests. absurd (sum_not_upper m k (same ∙ c.in-Upper-Some.is-0)))
     (λ up. last.tested)

@@ -1,11 +1,11 @@
 use Rattle.std.proofs.Common.{[], subst, sym, arith, inl, inr}
-use Rattle.std.proofs.lemmas.Bool.{cases_eq, cases_lt}
+use Rattle.std.proofs.lemmas.Bool.{cases_eq}
 use Rattle.ct_codes.specs.declared.claim.Side.TheVariants.{Lower}
 use Rattle.ct_rules.specs.declared.rule.Rule.TheVariants.{L11}
 use Rattle.ct_slots.specs.Number.{bound_of}
 use Rattle.ct_offers.specs.Offers.{IsWithin}
 use Rattle.ct_offers.proofs.PulledLemmas.{IsPulled-trans, within_better}
-use Rattle.ct_offers.proofs.SideBySideLemmas.{lengths_enough}
+use Rattle.ct_offers.proofs.SideBySideLemmas.{halves_enough}
 use Rattle.ct_offers.proofs.side_by_side.best_side_by_side.Goals as goal
 
 pub best_with_first-requires-clause-some : goal.best_with_first-requires-clause-some
@@ -33,16 +33,8 @@ pub returns-clause-within : goal.returns-clause-within
 returns-clause-within c =
     let f = bound_of c.args.bounds.now in
     let e = c.args.entry in
-    λ supports m k.
+    λ supports.
     let better = (c.loop-m.invariant.0 supports).no_worse in
     let some = c.requires.some in
-    let last = c.saturating_sub-m-end.ensures in
-    elim (cases_lt m 3) [
-      | inl short ↦ lengths_enough supports f m k e c.loop-m.best.value c.requires.true_bounds (omega (arith, better, some)) (inl short)
-      | inr from ↦ elim (cases_lt m c.loop-m.m) [
-        | inl below ↦ c.loop-m.invariant.1 supports m k from below
-        | inr above ↦
-            lengths_enough supports f m k e c.loop-m.best.value c.requires.true_bounds (omega (arith, better, some))
-            (inr (omega (arith, above, last, c.loop-m-test.false)))
-      ]
-    ]
+    halves_enough supports f e c.loop-m.best.value c.loop-m.m c.requires.true_bounds c.requires.entry (omega (arith, better, some))
+    (omega (arith, c.loop-m-test.false)) (c.loop-m.invariant.1 supports)

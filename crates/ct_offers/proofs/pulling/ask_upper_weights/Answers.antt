@@ -1,0 +1,22 @@
+use Rattle.std.proofs.Common.{arith}
+use Rattle.ct_codes.specs.declared.claim.Side.TheVariants.{Upper}
+use Rattle.ct_rule_parts.specs.Slot.{Slot}
+use Rattle.ct_rules.specs.declared.rule.Rule.TheVariants.{U10}
+use Rattle.ct_slots.specs.Number.{bound_of}
+use Rattle.ct_offers.proofs.AskedLemmas.{weights_more}
+use Rattle.ct_offers.proofs.PulledLemmas.{IsPulled-trans}
+use Rattle.ct_offers.proofs.pulling.ask_upper_weights.Goals as goal
+
+pub loop-w-preserved : goal.loop-w-preserved
+loop-w-preserved c =
+    let supports = c.args.supports.now in
+    let f = bound_of c.args.bounds.now in
+    let s : Slot = (Upper, c.args.entry) in
+    let old = c.loop-w.best in
+    let new = c.ask.new.best in (
+      IsPulled-trans supports f s c.args.best.now old new c.loop-w.invariant.0 c.ask.ensures.pulled,
+      weights_more supports f s old new U10 c.loop-w.w c.ask.ensures.pulled c.ask.ensures.within c.loop-w.invariant.1,
+    )
+
+pub returns-clause-within : goal.returns-clause-within
+returns-clause-within c = λ w within. c.loop-w.invariant.1 w (omega (arith, c.loop-w-test.false))
