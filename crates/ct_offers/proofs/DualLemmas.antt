@@ -1,10 +1,10 @@
 -- The entries that rest on one by a dual, in the closing of a table.
-use Rattle.std.proofs.Common.{◌≡◌, ℕ, suc, ◌+◌, ◌*◌, ◌%◌, ◌<◌, ap, List, All, Contains, arith, Option, Some, None, true, false, refl, sym, subst, inl, inr, ◌⊎◌, ◌∙◌}
+use Rattle.std.proofs.Common.{◌≡◌, ℕ, suc, ◌+◌, ◌*◌, ◌%◌, ◌<◌, ap, List, All, Contains, length, arith, Option, Some, None, true, false, refl, sym, subst, inl, inr, ◌⊎◌, ◌∙◌}
 use Rattle.std.specs.Prelude.{ℤ, [], ◌∷◌, slice_get, get_or, if◌then◌else◌}
 use Rattle.std.proofs.lemmas.Bool.{false≢true, cases_lt}
 use Rattle.std.specs.List.{range_with_len}
 use Rattle.std.proofs.lemmas.List.Elements.{All-nil, All-cons, All-append, All-map, All-contains}
-use Rattle.std.proofs.lemmas.Option.{none-some, same_Some, cond_some}
+use Rattle.std.proofs.lemmas.Option.{none-some, same_Some, cond_some, slice_get_within}
 use Rattle.ct_codes.specs.declared.claim.Side.{Side}
 use Rattle.ct_codes.specs.declared.claim.Side.TheVariants.{Lower, Upper}
 use Rattle.ct_codes.specs.declared.entry.Entry.{Entry}
@@ -104,6 +104,14 @@ at_weights_more supports bounds work new from below keeps each last w less = eli
       let same : below ≡ w = omega arith in
       subst (λ v. AreTestedByDuals supports bounds new from (of_weight from v)) same last
 ]
+
+-- without supports nothing rests on an entry by a dual
+pub tested_without : (supports : List Support) (bounds : List ℕ) (work : WorkValue) (from : Entry) → length supports ≡ 0
+    → AreTestedFromDuals supports bounds work from
+tested_without supports bounds work from none e place here rests =
+    let support = dual_support_there supports place e (bounding_dual supports place e here) in
+    let within : place < length supports = slice_get_within supports place support.0 support.1 in
+    absurd (omega arith)
 
 -- an entry that rests on another by a dual is one of two, or of its length and its distance with a weight
 pub tested_at_all : (supports : List Support) (bounds : List ℕ) (work : WorkValue) (from same nearer : Entry)

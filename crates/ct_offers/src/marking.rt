@@ -235,6 +235,9 @@ fn mark_from_duals(
     ensures tested { OnOk result (AreTestedFromDuals supports.now bounds.now work.new entry) }
     ensures kept { KeepsMarks work.old work.new }
 {
+    if supports.is_empty() {
+        return Ok(());
+    }
     let (same, nearer) = (unweighted(entry), unweighted_and_nearer(entry));
     mark_by_duals(supports, places, bounds, work, same, entry, evaluations)?;
     mark_by_duals(supports, places, bounds, work, nearer, entry, evaluations)?;

@@ -1,6 +1,12 @@
+use Rattle.std.proofs.Common.{length, sym, ◌∙◌, eqb-true}
 use Rattle.ct_offers.proofs.MarkingLemmas.{keeps-trans}
-use Rattle.ct_offers.proofs.DualLemmas.{by_duals_more, tested_at_all}
+use Rattle.ct_offers.proofs.DualLemmas.{by_duals_more, tested_at_all, tested_without}
 use Rattle.ct_offers.proofs.marking.mark_from_duals.Goals as goal
+
+pub returns-then-is_empty-clause-tested : goal.returns-then-is_empty-clause-tested
+returns-then-is_empty-clause-tested c =
+    tested_without c.args.supports.now c.args.bounds.now c.args.work.now c.args.entry
+    (eqb-true (length c.args.supports.now) 0 (sym c.is_empty.ensures ∙ c.if-is_empty.true))
 
 pub returns-clause-tested : goal.returns-clause-tested
 returns-clause-tested c =
