@@ -8,7 +8,7 @@ use Rattle.ct_fields.specs.LastFields.{last_fields}
 use Rattle.ct_fields.specs.HasCites.{HasLast}
 use Rattle.ct_fields.specs.declared.field.FieldName.TheVariants as name
 use Rattle.ct_fields.specs.declared.fault.FileFault.TheVariants.{Field, Digits}
-use Rattle.ct_evidence.specs.declared.evidence.Evidence.TheVariants.{Build}
+use Rattle.ct_kind.specs.declared.evidence.Evidence.TheVariants.{Build}
 use Rattle.ct_build_files.specs.BuildEntry.{build_entry_of}
 use Rattle.ct_build_files.specs.Operation.{operation_of, makes_length, takes_weight, build_fields}
 use Rattle.ct_build_files.specs.BuildFields.{operation_field, step_fields, id_field, other_field}

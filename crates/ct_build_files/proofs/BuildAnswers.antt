@@ -19,7 +19,7 @@ use Rattle.ct_build_files.specs.BuildFields.{operation_field, places_in, digits_
 use Rattle.ct_build_files.specs.Build.{build_evidence_of}
 use Rattle.ct_fields.specs.StatesEntry.{HasWeight, StatesEntry}
 use Rattle.ct_build_files.specs.BuildDocument.{HasText, HasId, HasStepFields, NamesOther, StatesBuild}
-use Rattle.ct_evidence.specs.declared.evidence.Evidence.TheVariants.{Build}
+use Rattle.ct_kind.specs.declared.evidence.Evidence.TheVariants.{Build}
 use Rattle.ct_fields.specs.declared.field.FieldName.TheVariants as name
 use Rattle.ct_build_files.specs.declared.operation.Operation.{Operation}
 use Rattle.ct_build_files.specs.declared.operation.Operation.TheVariants.{Lengthen, AppendOne, Parity, Puncture, Shorten, Translate, Complement, Select, Uuv, Juxtapose, Trim}

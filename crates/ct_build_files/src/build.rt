@@ -12,8 +12,8 @@ use crate::entry::build_entry;
 use crate::operation::Operation;
 use ct_build::Step;
 use ct_codes::Entry;
-use ct_evidence::Evidence;
 use ct_fields::{FieldName, FileFault, last_fields};
+use ct_kind::Evidence;
 use std::alloc::Global;
 use toml::Value;
 

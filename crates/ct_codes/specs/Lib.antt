@@ -8,3 +8,4 @@ pub mod Scheme
 pub mod Numbers
 pub mod Inside
 pub mod Constructions
+pub mod Doubly

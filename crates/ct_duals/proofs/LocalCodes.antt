@@ -20,7 +20,7 @@ use Rattle.ct_codes.specs.Constructions.Translation.{translated, selected}
 use Rattle.ct_codes.proofs.Constructions.Images.{IsCodeMap, IsCode-image}
 use Rattle.ct_codes.proofs.Constructions.ReadLemmas.{weight-all, distance-all, read_at-lt, read_at-append, weight-read_at, distance-read_at}
 use Rattle.ct_codes.proofs.Constructions.TranslationLemmas.{IsCode-selected}
-use Rattle.ct_scheme.specs.Doubly.{IsDoubly}
+use Rattle.ct_codes.specs.Doubly.{IsDoubly}
 
 -- whether the word x of length n has a one at the place
 abbrev pub has_one : ℕ → ℕ → ℕ → Bool

@@ -1,4 +1,4 @@
-//! Delsarte's bound: duals of its linear program in whole numbers, checked, and the upper bounds that they give.
+//! Delsarte's bound: duals of its linear program in whole numbers, checked in the scheme of their entry, and the bounds that they give.
 #![tactic(auto)]
 
 mod accepted;
@@ -9,6 +9,8 @@ mod fault;
 mod form;
 mod laws;
 mod premise;
+mod scheme_laws;
+mod schemes;
 
 pub use accepted::Accepted;
 pub use accepted_dual::AcceptedDual;
@@ -20,3 +22,8 @@ pub use laws::{
     accepted_duals_bound_codes, accepted_duals_bound_codes_about_words,
     bounds_of_duals_are_monotone, faults_of_duals,
 };
+pub use scheme_laws::{
+    accepted_duals_are_sound, duals_bound_codes, known_duals, known_local_bounds,
+    known_standing_duals,
+};
+pub use schemes::check_dual_of_table;

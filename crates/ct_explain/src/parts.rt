@@ -5,7 +5,7 @@ ghost use Rattle.ct_pieces.specs.Kind.{parts_of};
 ghost use Rattle.ct_explain.specs.Parts.{part_places, parts_of_each};
 
 use ct_derive::Parts;
-use ct_evidence::Evidence;
+use ct_kind::Evidence;
 use ct_pieces::Piece;
 use smallvec::SmallVec;
 use std::alloc::{AllocError, Global};

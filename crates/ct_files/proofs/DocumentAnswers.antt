@@ -13,8 +13,8 @@ use Rattle.ct_fields.specs.declared.document.TheConstants.{MAX_DOCUMENT}
 use Rattle.ct_fields.specs.declared.fault.FileFault.{FileFault}
 use Rattle.ct_fields.specs.declared.fault.FileFault.TheVariants.{Bytes, NotToml, Field, Kind as NoKind}
 use Rattle.ct_fields.proofs.FieldLemmas.{is_of_kind-true, is_of_kind-from}
-use Rattle.ct_evidence.specs.declared.evidence.Evidence.{Evidence}
-use Rattle.ct_evidence.specs.declared.evidence.Evidence.TheVariants as evidence
+use Rattle.ct_kind.specs.declared.evidence.Evidence.{Evidence}
+use Rattle.ct_kind.specs.declared.evidence.Evidence.TheVariants as evidence
 use Rattle.ct_word_files.proofs.WordsAnswers.{words_answers}
 use Rattle.ct_word_files.proofs.CosetsAnswers.{cosets_answers}
 use Rattle.ct_partition_files.proofs.PartitionAnswers.{partition_answers}

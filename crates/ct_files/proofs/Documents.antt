@@ -15,8 +15,8 @@ use Rattle.ct_fields.specs.declared.field.FieldName.{FieldName}
 use Rattle.ct_fields.specs.declared.fault.FileFault.{FileFault}
 use Rattle.ct_fields.proofs.StepLemmas.{bind-ok}
 use Rattle.ct_fields.proofs.CiteLemmas.{cites_of-ok, cites_of-from, HasCites-right}
-use Rattle.ct_evidence.specs.declared.evidence.Evidence.{Evidence}
-use Rattle.ct_evidence.specs.declared.evidence.Evidence.TheVariants as evidence
+use Rattle.ct_kind.specs.declared.evidence.Evidence.{Evidence}
+use Rattle.ct_kind.specs.declared.evidence.Evidence.TheVariants as evidence
 use Rattle.ct_word_files.specs.WordsDocument.{words_fields}
 use Rattle.ct_word_files.specs.CosetsDocument.{cosets_fields}
 use Rattle.ct_partition_files.specs.PartitionDocument.{partition_fields}

@@ -10,8 +10,8 @@ use Rattle.ct_dual_files.proofs.DualAnswers.{dual_answers, dual_answer-from}
 use Rattle.ct_dual_files.proofs.JohnsonDualAnswers.{johnson_dual_answers, johnson_dual_answer-from}
 use Rattle.ct_dual_files.proofs.OddAnswers.{odd_answers, odd_answer-from}
 use Rattle.ct_dual_files.proofs.LocalAnswers.{local_dual_answers, local_dual_answer-from}
-use Rattle.ct_evidence.specs.declared.evidence.Evidence.{Evidence}
-use Rattle.ct_evidence.specs.declared.evidence.Evidence.TheVariants as evidence
+use Rattle.ct_kind.specs.declared.evidence.Evidence.{Evidence}
+use Rattle.ct_kind.specs.declared.evidence.Evidence.TheVariants as evidence
 use Rattle.ct_files.specs.Kinds.{dual_evidence_of, johnson_dual_evidence_of, odd_evidence_of, local_dual_evidence_of}
 use Rattle.ct_files.specs.DualAnswer.{IsDualEvidence, IsJohnsonDualEvidence, IsOddEvidence, IsLocalDualEvidence}
 

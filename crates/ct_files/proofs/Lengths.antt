@@ -22,8 +22,8 @@ use Rattle.ct_partition_files.proofs.CountLemmas.{counts_are_right}
 use Rattle.ct_partition_files.proofs.Rooms.{partition_holds, product_holds}
 use Rattle.ct_build_files.proofs.BuildRooms.{build_holds}
 use Rattle.ct_dual_files.proofs.DualRooms.{dual_holds, johnson_dual_holds, odd_holds, local_dual_holds}
-use Rattle.ct_evidence.specs.declared.evidence.Evidence.{Evidence}
-use Rattle.ct_evidence.specs.declared.evidence.Evidence.TheVariants as evidence
+use Rattle.ct_kind.specs.declared.evidence.Evidence.{Evidence}
+use Rattle.ct_kind.specs.declared.evidence.Evidence.TheVariants as evidence
 use Rattle.ct_files.specs.Evidence.{IsSound, read_of}
 use Rattle.ct_files.specs.Lengths.{most_bytes}
 use Rattle.ct_files.specs.Inside.Written.{evidence_table, HasIds}

@@ -2,8 +2,8 @@
 use Rattle.std.proofs.Common.{◌≤◌, suc, length, Option, Some, None, Ok, ◌≡◌, ℕ, List, inl, refl}
 use Rattle.toml.specs.Data.{table, get, members_depth}
 use Rattle.ct_fields.specs.Document.{table_of}
-use Rattle.ct_evidence.specs.declared.evidence.Evidence.{Evidence}
-use Rattle.ct_evidence.specs.declared.evidence.Evidence.TheVariants.{Words, Cosets, Partition, Build, Product, Dual, JohnsonDual, Odd, JohnsonLocal}
+use Rattle.ct_kind.specs.declared.evidence.Evidence.{Evidence}
+use Rattle.ct_kind.specs.declared.evidence.Evidence.TheVariants.{Words, Cosets, Partition, Build, Product, Dual, JohnsonDual, Odd, JohnsonLocal}
 use Rattle.ct_word_files.proofs.WrittenWords.{words_depth, cosets_depth, states_words, states_cosets, words-unformatted, cosets-unformatted}
 use Rattle.ct_words.specs.declared.limits.TheConstants.{MAX_N}
 use Rattle.ct_partition_files.specs.ProductDocument.{IsPairCount}

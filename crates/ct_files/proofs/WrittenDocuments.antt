@@ -23,8 +23,8 @@ use Rattle.ct_fields.proofs.CiteRooms.{fits-cited, cites_bytes-few}
 use Rattle.ct_fields.proofs.TextLengths.{simple-fits, fits-more, fitting_length}
 use Rattle.ct_duals.specs.declared.dual.Dual.{Dual}
 use Rattle.ct_fields.specs.declared.fault.FileFault.{FileFault}
-use Rattle.ct_evidence.specs.declared.evidence.Evidence.{Evidence}
-use Rattle.ct_evidence.specs.declared.evidence.Evidence.TheVariants as evidence
+use Rattle.ct_kind.specs.declared.evidence.Evidence.{Evidence}
+use Rattle.ct_kind.specs.declared.evidence.Evidence.TheVariants as evidence
 use Rattle.ct_word_files.specs.WordsDocument.{words_fields}
 use Rattle.ct_word_files.specs.CosetsDocument.{cosets_fields}
 use Rattle.ct_word_files.proofs.WrittenWords.{words-alike, cosets-alike}

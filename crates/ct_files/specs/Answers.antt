@@ -6,7 +6,7 @@ use Rattle.ct_fields.specs.HasCites.{HasRightFormat, HasWrongFormat}
 use Rattle.ct_fields.specs.declared.field.FieldName.TheVariants.{Format}
 use Rattle.ct_fields.specs.declared.fault.FileFault.{FileFault}
 use Rattle.ct_fields.specs.declared.fault.FileFault.TheVariants.{Field}
-use Rattle.ct_evidence.specs.declared.evidence.Evidence.{Evidence}
+use Rattle.ct_kind.specs.declared.evidence.Evidence.{Evidence}
 use Rattle.ct_word_files.specs.WordsDocument.{IsWordsAnswer}
 use Rattle.ct_word_files.specs.CosetsDocument.{IsCosetsAnswer}
 use Rattle.ct_partition_files.specs.PartitionDocument.{IsPartitionAnswer}

@@ -8,8 +8,8 @@ use Rattle.ct_fields.specs.declared.fault.FileFault.{FileFault}
 use Rattle.ct_dual_files.specs.DualDocument.{StatesDual, IsDualFault, StatesJohnsonDual, IsJohnsonDualFault}
 use Rattle.ct_dual_files.specs.OddDocument.{StatesOddDual, IsOddFault}
 use Rattle.ct_dual_files.specs.LocalDocument.{StatesLocalDual, IsLocalDualFault}
-use Rattle.ct_evidence.specs.declared.evidence.Evidence.{Evidence}
-use Rattle.ct_evidence.specs.declared.evidence.Evidence.TheVariants as evidence
+use Rattle.ct_kind.specs.declared.evidence.Evidence.{Evidence}
+use Rattle.ct_kind.specs.declared.evidence.Evidence.TheVariants as evidence
 
 -- where each answer comes for a document of kind dual
 abbrev pub IsDualEvidence : Data → Result Evidence FileFault → Type 0

@@ -15,8 +15,8 @@ use Rattle.ct_fields.specs.Format.{format_of}
 use Rattle.ct_fields.specs.Document.{read_table}
 use Rattle.ct_files.specs.Kinds.{kind_in, evidence_by}
 use Rattle.ct_fields.specs.declared.document.TheConstants.{MAX_DOCUMENT}
-use Rattle.ct_evidence.specs.declared.evidence.Evidence.{Evidence}
-use Rattle.ct_evidence.specs.declared.evidence.Evidence.TheVariants.{Words, Cosets, Partition, Build, Product, Dual, JohnsonDual, Odd, JohnsonLocal}
+use Rattle.ct_kind.specs.declared.evidence.Evidence.{Evidence}
+use Rattle.ct_kind.specs.declared.evidence.Evidence.TheVariants.{Words, Cosets, Partition, Build, Product, Dual, JohnsonDual, Odd, JohnsonLocal}
 use Rattle.ct_fields.specs.declared.fault.FileFault.{FileFault}
 use Rattle.ct_fields.specs.declared.fault.FileFault.TheVariants.{Bytes}
 

@@ -1,6 +1,6 @@
 //! What a document holds.
 
-use ct_evidence::Evidence;
+use ct_kind::Evidence;
 use ct_text::Cite;
 
 /// An evidence, and the texts that say where it comes from.

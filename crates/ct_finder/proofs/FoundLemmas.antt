@@ -3,19 +3,19 @@ use Rattle.std.proofs.Common.{◌≡◌, ℕ, suc, Bool, false, ◌≤◌, List,
 use Rattle.std.specs.Prelude.{ℤ, pos, Option, Some, None, unwrap_or}
 use Rattle.ct_codes.specs.declared.entry.Entry.{Entry}
 use Rattle.ct_codes.specs.Entry.{IsEntry, unrestricted, constant_weight}
-use Rattle.ct_primal.specs.Primal.{PrimalValue}
-use Rattle.ct_primal.proofs.PrimalFaults.{sound-from_none, none-from_sound}
+use Rattle.ct_finder.specs.Primal.{PrimalValue}
+use Rattle.ct_finder.proofs.PrimalFaults.{sound-from_none, none-from_sound}
 use Rattle.ct_duals.specs.declared.dual.Dual.{Dual}
 use Rattle.ct_duals.specs.Dual.{IsDual, degree_of}
 use Rattle.ct_duals.specs.Check.{dual_fault}
 use Rattle.ct_codes.specs.Numbers.{numbers_of}
-use Rattle.ct_finder_run.specs.Column.{Tableau, range_of, columns, opening}
-use Rattle.ct_finder_run.specs.RunPrimal.{wide_number, run_primal}
-use Rattle.ct_finder_run.proofs.RunShown.{primal-form, solved-of, primal-sound, primal-value}
-use Rattle.ct_finder_run.specs.Run.{End, run, columns_of, multipliers_of, run_dual, IsAsked}
-use Rattle.ct_finder_run.specs.Run.End.{Least as LeastEnd, Turns as TurnsEnd, Wide as WideEnd}
-use Rattle.ct_finder_run.proofs.RunDuals.{dual-form, dual-accepted, least-of, narrow-of}
-use Rattle.ct_finder_run.proofs.Ones.{ones-form, ones-accepted}
+use Rattle.ct_finder.specs.Column.{Tableau, range_of, columns, opening}
+use Rattle.ct_finder.specs.RunPrimal.{wide_number, run_primal}
+use Rattle.ct_finder.proofs.RunShown.{primal-form, solved-of, primal-sound, primal-value}
+use Rattle.ct_finder.specs.Run.{End, run, columns_of, multipliers_of, run_dual, IsAsked}
+use Rattle.ct_finder.specs.Run.End.{Least as LeastEnd, Turns as TurnsEnd, Wide as WideEnd}
+use Rattle.ct_finder.proofs.RunDuals.{dual-form, dual-accepted, least-of, narrow-of}
+use Rattle.ct_finder.proofs.Ones.{ones-form, ones-accepted}
 use Rattle.ct_finder.specs.declared.ending.Ending.{Ending}
 use Rattle.ct_finder.specs.declared.ending.Ending.TheVariants.{Least}
 use Rattle.ct_finder.specs.declared.found.Stop.TheVariants as stops

@@ -1,3 +1,31 @@
+pub mod WeakDuality
+pub mod PrimalFaults
+pub mod Divisors
+pub mod Entries
+pub mod Crossed
+pub mod Sums
+pub mod TurnedTableaus
+pub mod Places
+pub mod PlaceEntries
+pub mod BasicTurns
+pub mod Ends
+pub mod BasicRuns
+pub mod RunScales
+pub mod RunPairs
+pub mod RunPoints
+pub mod RunPrimals
+pub mod RunShown
+pub mod NarrowCosts
+pub mod RunDuals
+pub mod Ones
+mod Written
+mod CrossedRows
+mod Entering
+mod Before
+mod Best
+mod TurnedRows
+mod Ready
+mod Steps
 pub mod OpeningLemmas
 pub mod PlaceLemmas
 pub mod RangeLemmas

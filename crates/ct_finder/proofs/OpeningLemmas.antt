@@ -10,20 +10,20 @@ use Rattle.std.proofs.lemmas.List.FromFn.{length-range_with_len}
 use Rattle.ct_codes.specs.declared.entry.Entry.{Entry}
 use Rattle.ct_codes.specs.Scheme.{IsSmall}
 use Rattle.ct_duals.specs.Dual.{degree_of, is_in_range}
-use Rattle.ct_finder_run.specs.Column.{Column, Tableau as TableauOf, range_of, rows_to, columns, opening_entry, cost_entry, opening_row, opening}
-use Rattle.ct_finder_run.specs.Column.Column.{Z, A, S, Constant}
-use Rattle.ct_finder_run.specs.Turn.{is_wide}
-use Rattle.ct_finder_run.specs.Sum.{HasWidth}
-use Rattle.ct_finder_run.proofs.Sums.{All-range}
-use Rattle.ct_finder_run.specs.Run.{run}
-use Rattle.ct_finder_run.specs.Run.End.{Least}
-use Rattle.ct_finder_run.proofs.Turns.{kept-opening}
-use Rattle.ct_finder_run.proofs.Ends.{least-at, end-of_run}
-use Rattle.ct_finder_run.proofs.Places.{length-columns}
-use Rattle.ct_finder_run.proofs.BasicRuns.{IsSolved, solved-opening, solved-narrow}
-use Rattle.ct_tableau.specs.declared.tableau.Tableau.{Tableau}
-use Rattle.ct_tableau.specs.Narrow.{AreNarrow}
-use Rattle.ct_tableau.specs.Ready.{seen, IsReady}
+use Rattle.ct_finder.specs.Column.{Column, Tableau as TableauOf, range_of, rows_to, columns, opening_entry, cost_entry, opening_row, opening}
+use Rattle.ct_finder.specs.Column.Column.{Z, A, S, Constant}
+use Rattle.ct_finder.specs.Turn.{is_wide}
+use Rattle.ct_finder.specs.Sum.{HasWidth}
+use Rattle.ct_finder.proofs.Sums.{All-range}
+use Rattle.ct_finder.specs.Run.{run}
+use Rattle.ct_finder.specs.Run.End.{Least}
+use Rattle.ct_finder.proofs.TurnedTableaus.{kept-opening}
+use Rattle.ct_finder.proofs.Ends.{least-at, end-of_run}
+use Rattle.ct_finder.proofs.Places.{length-columns}
+use Rattle.ct_finder.proofs.BasicRuns.{IsSolved, solved-opening, solved-narrow}
+use Rattle.ct_finder.specs.declared.tableau.Tableau.{Tableau}
+use Rattle.ct_finder.specs.Narrow.{AreNarrow}
+use Rattle.ct_finder.specs.Ready.{seen, IsReady}
 
 -- 1 at k, and 0 elsewhere
 abbrev pub unit : ℕ → ℕ → ℤ

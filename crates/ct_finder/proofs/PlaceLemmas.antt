@@ -3,10 +3,10 @@ use Rattle.std.proofs.Common.{◌≡◌, ℕ, zero, suc, ◌+◌, ◌-◌, ◌<�
 use Rattle.std.specs.Prelude.{ℤ, pos}
 use Rattle.std.specs.List.{range_with_len, position_or_len}
 use Rattle.std.proofs.lemmas.Bool.{eqb-false, ne_eqb}
-use Rattle.ct_finder_run.specs.Column.{Column, same_column, rows_to, columns, place_of}
-use Rattle.ct_finder_run.specs.Column.Column.{Z, A, S, Constant}
-use Rattle.ct_finder_run.specs.Run.{entry_of, multipliers_of}
-use Rattle.ct_finder_run.proofs.Places.{length-columns}
+use Rattle.ct_finder.specs.Column.{Column, same_column, rows_to, columns, place_of}
+use Rattle.ct_finder.specs.Column.Column.{Z, A, S, Constant}
+use Rattle.ct_finder.specs.Run.{entry_of, multipliers_of}
+use Rattle.ct_finder.proofs.Places.{length-columns}
 
 -- a row without entries
 entry_of-none : (cs : List Column) (c : Column) → entry_of cs [] c ≡ pos 0

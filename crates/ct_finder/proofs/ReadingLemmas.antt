@@ -7,19 +7,19 @@ use Rattle.std.proofs.Math.Nat.{div-mul_cancel}
 use Rattle.std.proofs.lemmas.List.{map-append, length-map, get_or-map, take_more, take_all}
 use Rattle.std.proofs.lemmas.List.FromFn.{length-range_with_len, get_or-range_with_len}
 use Rattle.std.proofs.lemmas.Slice.Zip.{length-zip, get_or-zip}
-use Rattle.ct_finder_run.specs.Basic.{row_at, basic_at}
-use Rattle.ct_finder_run.proofs.Divisors.{gcd-is}
-use Rattle.ct_finder_run.proofs.RunPoints.{lines_of, line-at}
+use Rattle.ct_finder.specs.Basic.{row_at, basic_at}
+use Rattle.ct_finder.proofs.Divisors.{gcd-is}
+use Rattle.ct_finder.proofs.RunPoints.{lines_of, line-at}
 use Rattle.ct_finder.specs.declared.reading.Line.{Line}
 use Rattle.std.proofs.lemmas.List.Elements.{All-filter, All-from_recursion, filter-append}
 use Rattle.ct_codes.specs.declared.entry.Entry.{Entry}
 use Rattle.ct_codes.specs.Pairs.{first_of}
 use Rattle.ct_duals.specs.Bound.{natural}
 use Rattle.ct_duals.proofs.Allowed.{natural-is}
-use Rattle.ct_finder_run.specs.Column.{Tableau}
-use Rattle.ct_finder_run.specs.Divisor.{gcd}
-use Rattle.ct_finder_run.specs.Turn.{at, constant_of, is_wide}
-use Rattle.ct_finder_run.specs.RunPrimal.{is_of_a, lines_of_a, next_scale, scales, last_scale, scaled, run_scale, wide_number, number_at_place, numbers_of_range, primal_over}
+use Rattle.ct_finder.specs.Column.{Tableau}
+use Rattle.ct_finder.specs.Divisor.{gcd}
+use Rattle.ct_finder.specs.Turn.{at, constant_of, is_wide}
+use Rattle.ct_finder.specs.RunPrimal.{is_of_a, lines_of_a, next_scale, scales, last_scale, scaled, run_scale, wide_number, number_at_place, numbers_of_range, primal_over}
 use Rattle.ct_finder.specs.declared.reading.Reading.TheVariants.{Primal, Wide}
 use Rattle.ct_finder.specs.Reading.{is_large, large, large_scale, large_number, line_of, scale_after, number_over, large_after, reading_at, reading_of}
 

@@ -17,8 +17,8 @@ use Rattle.ct_duals.specs.Dual.{IsWordOf, IsDual, as_index, index_of, greatest_i
 use Rattle.ct_duals.specs.Check.{dual_fault}
 use Rattle.ct_duals.specs.Bound.{dual_bound}
 use Rattle.ct_duals.proofs.Sound.{AreLaws}
-use Rattle.ct_primal.specs.Primal.{PrimalValue, IsPrimal, IsSound, primal_value}
-use Rattle.ct_primal.proofs.PrimalFaults.{primal-least}
+use Rattle.ct_finder.specs.Primal.{PrimalValue, IsPrimal, IsSound, primal_value}
+use Rattle.ct_finder.proofs.PrimalFaults.{primal-least}
 use Rattle.ct_finder.specs.Found.{bound_of}
 
 laws_of : (n : ℕ) (w : Option ℕ)

@@ -1,3 +1,15 @@
+pub mod Primal
+pub mod Column
+pub mod Divisor
+pub mod Turn
+pub mod Run
+pub mod Sum
+pub mod Basic
+pub mod RunPrimal
+pub mod Examples
+pub mod Narrow
+pub mod Ready
+pub mod Inside
 pub mod Reading
 pub mod Ending
 pub mod Found

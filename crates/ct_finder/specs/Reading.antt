@@ -1,12 +1,12 @@
 -- What is read off the tableau with which a run ends as least: its primal, or the first number of it that is too large.
 use Rattle.std.specs.Prelude.{ℕ, ◌*◌, ◌/◌, Bool, ◌&&◌, nat_le, if◌then◌else◌, List, [], ◌∷◌, zip, map, length, find, ℤ, pos, Option, Some, None}
 use Rattle.ct_codes.specs.declared.entry.Entry.{Entry}
-use Rattle.ct_primal.specs.Primal.{PrimalValue}
-use Rattle.ct_finder_run.specs.Column.{Tableau}
-use Rattle.ct_finder_run.specs.Divisor.{gcd}
-use Rattle.ct_finder_run.specs.Turn.{is_wide}
-use Rattle.ct_finder_run.specs.RunPrimal.{basic_entry, basic_constant, lines_of_a, scales, scaled, wide_number, primal_over}
-use Rattle.ct_tableau.specs.declared.tableau.Tableau.{Tableau as TableauOfCode}
+use Rattle.ct_finder.specs.Primal.{PrimalValue}
+use Rattle.ct_finder.specs.Column.{Tableau}
+use Rattle.ct_finder.specs.Divisor.{gcd}
+use Rattle.ct_finder.specs.Turn.{is_wide}
+use Rattle.ct_finder.specs.RunPrimal.{basic_entry, basic_constant, lines_of_a, scales, scaled, wide_number, primal_over}
+use Rattle.ct_finder.specs.declared.tableau.Tableau.{Tableau as TableauOfCode}
 use Rattle.ct_finder.specs.declared.reading.Line.{Line}
 use Rattle.ct_finder.specs.declared.reading.Reading.{Reading}
 use Rattle.ct_finder.specs.declared.reading.Reading.TheVariants.{Primal, Wide}

@@ -1,14 +1,14 @@
 //! How a run ends, with the multipliers of its dual and what is read of its primal.
 ghost use Rattle.std.specs.Prelude.{◌≡◌, ◌≤◌, ℕ, pos, ◌≤ℤ◌, length, All, IfOk};
-ghost use Rattle.ct_finder_run.specs.Column.{columns, opening};
-ghost use Rattle.ct_finder_run.specs.Run.{run, multipliers_of};
+ghost use Rattle.ct_finder.specs.Column.{columns, opening};
+ghost use Rattle.ct_finder.specs.Run.{run, multipliers_of};
 ghost use Rattle.ct_finder.specs.Ending.{ending_of};
 
 use crate::opening::opening;
 use crate::reading::{Reading, read_primal};
+use crate::turns::{Ending as TableauEnding, run};
 use ct_codes::{Entry, Scheme};
 use ct_duals::Multipliers;
-use ct_tableau::{Ending as TableauEnding, run};
 use std::alloc::{AllocError, Global};
 
 /// How a run ends.

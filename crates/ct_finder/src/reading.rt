@@ -1,18 +1,20 @@
 //! The primal of a run, read off the tableau that it ends with.
 ghost use Rattle.std.specs.Prelude.{◌≡◌, ◌≤◌, ◌<◌, ◌*◌, ◌/◌, ◌^◌, ◌++◌, pos, ◌≤ℤ◌, int_lt, length, filter, get_or, [], ◌∷◌, None, IfOk, IfSome, OnOk};
 ghost use Rattle.std.specs.Result.{result_err};
-ghost use Rattle.ct_finder_run.specs.Divisor.{gcd as gcd_of_both};
+ghost use Rattle.ct_finder.specs.Divisor.{gcd as gcd_of_both};
 ghost use Rattle.ct_duals.specs.Bound.{natural};
-ghost use Rattle.ct_finder_run.specs.Turn.{at, constant_of};
-ghost use Rattle.ct_finder_run.specs.Sum.{HasWidth};
-ghost use Rattle.ct_finder_run.specs.Basic.{AreBasic};
-ghost use Rattle.ct_finder_run.specs.RunPrimal.{run_scale, number_at_place, numbers_of_range};
-ghost use Rattle.ct_tableau.specs.Ready.{seen};
+ghost use Rattle.ct_finder.specs.Turn.{at, constant_of};
+ghost use Rattle.ct_finder.specs.Sum.{HasWidth};
+ghost use Rattle.ct_finder.specs.Basic.{AreBasic};
+ghost use Rattle.ct_finder.specs.RunPrimal.{run_scale, number_at_place, numbers_of_range};
+ghost use Rattle.ct_finder.specs.Ready.{seen};
 ghost use Rattle.ct_finder.specs.Reading.{large, large_after, large_number, large_scale, line_of, lines_seen, number_over, reading_of, scale_after};
 
+use crate::arithmetic::gcd;
+use crate::primal::Primal;
+use crate::row::Row;
+use crate::tableau::Tableau;
 use ct_codes::Entry;
-use ct_primal::Primal;
-use ct_tableau::{Row, Tableau, gcd};
 use std::alloc::{AllocError, Global};
 
 /// What is read off a tableau with which a run ended as least.

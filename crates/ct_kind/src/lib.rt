@@ -1,14 +1,20 @@
-//! What a kind of evidence is, whatever it is made of; what it may ask about the pieces that stand; and why evidence is refused.
+//! Evidence for a bound, as one type; what a kind of it is, whatever it is made of; what it may ask about pieces; and why it is refused.
 #![tactic(auto)]
 
+mod evidence;
 mod fault;
+mod id_pairs;
 mod kind;
 mod parts;
 mod stated;
 mod text;
+mod word_lists;
 
+pub use evidence::Evidence;
 pub use fault::SubmitFault;
+pub use id_pairs::IdPairs;
 pub use kind::{Kind, support_from};
 pub use parts::{Codes, Found, Partitions};
 pub use stated::StatedPartition;
 pub use text::put_numbered;
+pub use word_lists::WordLists;

@@ -22,22 +22,22 @@ use Rattle.ct_duals.specs.Bound.{natural}
 use Rattle.ct_codes.specs.Numbers.{numbers_of, multiplier, combination}
 use Rattle.ct_codes.proofs.EntryLemmas.{entry_limits}
 use Rattle.ct_duals.specs.Dual.{as_index, degree_of, greatest_index, is_in_range}
-use Rattle.ct_primal.specs.Primal.{PrimalValue}
-use Rattle.ct_primal.proofs.PrimalFaults.{sound-from_none}
-use Rattle.ct_finder_run.specs.Column.{range_of}
-use Rattle.ct_finder_run.specs.RunPrimal.{wide_number, run_primal}
-use Rattle.ct_finder_run.specs.Run.{End}
-use Rattle.ct_finder_run.specs.Run.End.{Least, Turns, Wide}
+use Rattle.ct_finder.specs.Primal.{PrimalValue}
+use Rattle.ct_finder.proofs.PrimalFaults.{sound-from_none}
+use Rattle.ct_finder.specs.Column.{range_of}
+use Rattle.ct_finder.specs.RunPrimal.{wide_number, run_primal}
+use Rattle.ct_finder.specs.Run.{End}
+use Rattle.ct_finder.specs.Run.End.{Least, Turns, Wide}
 use Rattle.ct_finder.specs.Found.{bound_of, least_stop, stop_of, IsShown}
 use Rattle.ct_finder.specs.declared.found.Stop.{Stop}
 use Rattle.ct_finder.specs.declared.found.Stop.TheVariants as stop
-use Rattle.ct_proposals.specs.declared.found.TheConstants.{MAX_TURNS}
+use Rattle.ct_find.specs.declared.found.TheConstants.{MAX_TURNS}
 use Rattle.ct_files.specs.Document.{without_cites}
 use Rattle.ct_files.proofs.Documents.{document_read_of-within}
-use Rattle.ct_proposals.specs.Proposal.{is_even, dual_evidence, find_id, found_dual, pair_text, pairs_text, primal_line, proposed_piece, run_for, stop_for, stop_text}
-use Rattle.ct_proposals.proofs.Accepted.{made-proposed, stored-none}
-use Rattle.ct_proposals.proofs.FindIds.{find_id-named, find_id-different}
-use Rattle.ct_proposals.proofs.FoundDuals.{bound-is, shown}
+use Rattle.ct_find.specs.Proposal.{is_even, dual_evidence, find_id, found_dual, pair_text, pairs_text, primal_line, proposed_piece, run_for, stop_for, stop_text}
+use Rattle.ct_find.proofs.Accepted.{made-proposed, stored-none}
+use Rattle.ct_find.proofs.FindIds.{find_id-named, find_id-different}
+use Rattle.ct_find.proofs.FoundDuals.{bound-is, shown}
 use Rattle.ct_commands.specs.Form.{form_of}
 use Rattle.ct_commands.specs.Command.{commands_of}
 use Rattle.ct_commands.specs.declared.form.Form.TheVariants.{Nothing}

@@ -18,7 +18,7 @@ use Rattle.ct_pieces.specs.Standing.{AreStanding}
 use Rattle.ct_pieces.proofs.StandingLemmas.{AreStanding-none}
 use Rattle.ct_verify.specs.Verdict.{verdict_of}
 use Rattle.ct_verify.specs.declared.verdict.Verdict.TheVariants.{Yes}
-use Rattle.ct_printed.proofs.PrintedDerivations.{printed_is_verified}
+use Rattle.ct_laws.proofs.PrintedDerivations.{printed_is_verified}
 use Rattle.ct_session.specs.Reply.{IsExplainReply, IsReply, pieces_after}
 use Rattle.ct_replies.specs.Refusals.{is_refusal}
 use Rattle.ct_session.specs.Run.{AreReplies}

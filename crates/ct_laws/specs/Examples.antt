@@ -1,6 +1,6 @@
 -- Worked sessions with a submission.
 use Rattle.std.specs.Prelude.{ℕ, List, ◌++◌, codes}
-use Rattle.ct_evidence_laws.specs.Examples.{two_words}
+use Rattle.ct_laws.specs.EvidenceExamples.{two_words}
 
 -- six words of length 10, each two at distance at least 6, as a document
 abbrev pub six_words_document : List ℕ

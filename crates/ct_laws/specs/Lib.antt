@@ -1,3 +1,16 @@
+pub mod EvidenceExamples
+pub mod DualExamples
+pub mod Citing
+pub mod EvidenceSupport
+pub mod OwnRefusal
+pub mod Refusals
+pub mod PartitionRefusal
+pub mod ProductRefusal
+pub mod BuildRefusal
+pub mod CosetsRefusal
+pub mod WordsRefusal
+pub mod DualRefusal
+pub mod Weights
 pub mod Examples
 pub mod Acceptance
 pub mod Sides

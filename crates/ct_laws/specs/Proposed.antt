@@ -4,7 +4,7 @@ use Rattle.ct_lines.specs.declared.TheConstants.{LINE_FEED}
 use Rattle.ct_codes.specs.declared.entry.Entry.{Entry}
 use Rattle.ct_duals.specs.declared.dual.Dual.{Dual}
 use Rattle.ct_finder.specs.Found.{bound_of}
-use Rattle.ct_proposals.specs.Proposal.{find_id, found_dual, stop_for, IsProposal}
+use Rattle.ct_find.specs.Proposal.{find_id, found_dual, stop_for, IsProposal}
 
 -- the text proposes the dual that is found for the entry
 pub record IsProposed (e : Entry) (text : List ℕ) : Type 0 where

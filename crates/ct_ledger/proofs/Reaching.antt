@@ -14,8 +14,8 @@ use Rattle.ct_rule_parts.specs.declared.support.Support.TheVariants as support
 use Rattle.ct_rule_parts.specs.declared.support.Support.TheVariants.{Nothing, Size, Bound, Local}
 use Rattle.ct_rules.specs.Derivation.{IsBest}
 use Rattle.ct_rules.proofs.GivenCodes.{support-derived}
-use Rattle.ct_evidence.specs.declared.evidence.Evidence.{Evidence}
-use Rattle.ct_evidence.specs.declared.evidence.Evidence.TheVariants.{Words, Cosets, Partition, Build, Product, Dual, JohnsonDual, Odd, JohnsonLocal}
+use Rattle.ct_kind.specs.declared.evidence.Evidence.{Evidence}
+use Rattle.ct_kind.specs.declared.evidence.Evidence.TheVariants.{Words, Cosets, Partition, Build, Product, Dual, JohnsonDual, Odd, JohnsonLocal}
 use Rattle.ct_kind.specs.Ascending.{ascending}
 use Rattle.ct_pieces.specs.Kind.{kind_of, stated_entry, has_code, words_over}
 use Rattle.ct_pieces.specs.Piece.{PieceValue}

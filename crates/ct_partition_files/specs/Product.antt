@@ -4,8 +4,8 @@ use Rattle.toml.specs.Data.{Data}
 use Rattle.ct_fields.specs.Steps.{◌>>=◌, ◌>>◌}
 use Rattle.ct_fields.specs.LastFields.{last_fields}
 use Rattle.ct_fields.specs.StatedEntry.{entry_of}
-use Rattle.ct_evidence.specs.declared.evidence.Evidence.{Evidence}
-use Rattle.ct_evidence.specs.declared.evidence.Evidence.TheVariants.{Product}
+use Rattle.ct_kind.specs.declared.evidence.Evidence.{Evidence}
+use Rattle.ct_kind.specs.declared.evidence.Evidence.TheVariants.{Product}
 use Rattle.ct_fields.specs.declared.field.FieldName.TheVariants as name
 use Rattle.ct_fields.specs.declared.fault.FileFault.{FileFault}
 use Rattle.ct_partition_files.specs.Pairs.{pairs_field}

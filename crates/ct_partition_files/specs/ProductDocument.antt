@@ -9,8 +9,8 @@ use Rattle.ct_fields.specs.HasCites.{HasRightFormat, HasRightCites, HasWrongCite
 use Rattle.ct_fields.specs.StatesEntry.{StatesEntry, IsEntryFault}
 use Rattle.ct_fields.specs.declared.field.FieldName.{FieldName}
 use Rattle.ct_fields.specs.declared.field.FieldName.TheVariants.{N, D, W, Pairs, Cites}
-use Rattle.ct_evidence.specs.declared.evidence.Evidence.{Evidence}
-use Rattle.ct_evidence.specs.declared.evidence.Evidence.TheVariants as evidence
+use Rattle.ct_kind.specs.declared.evidence.Evidence.{Evidence}
+use Rattle.ct_kind.specs.declared.evidence.Evidence.TheVariants as evidence
 use Rattle.ct_fields.specs.declared.fault.FileFault.{FileFault}
 use Rattle.ct_fields.specs.declared.fault.FileFault.TheVariants.{Field, Unknown}
 use Rattle.ct_partition_files.specs.Written.{AreIds, pair_list}

@@ -9,8 +9,8 @@ ghost use Rattle.ct_partition_files.specs.Partition.{partition_of_lists, partiti
 
 use crate::lists::{classes_from, text_lists_field};
 use ct_codes::Entry;
-use ct_evidence::{Evidence, WordLists};
 use ct_fields::{FieldName, FileFault, last_fields, number_field, stated_entry};
+use ct_kind::{Evidence, WordLists};
 use ct_partitions::wrong_count;
 use ct_words::Word;
 use std::alloc::Global;

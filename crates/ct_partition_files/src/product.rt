@@ -5,8 +5,8 @@ ghost use Rattle.ct_fields.specs.Reads.{Reads};
 ghost use Rattle.ct_partition_files.specs.Product.{product_evidence_of};
 
 use crate::pairs::pairs_field;
-use ct_evidence::{Evidence, IdPairs};
 use ct_fields::{FieldName, FileFault, last_fields, stated_entry};
+use ct_kind::{Evidence, IdPairs};
 use std::alloc::Global;
 use toml::Value;
 

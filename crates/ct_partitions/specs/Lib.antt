@@ -3,3 +3,4 @@ pub mod Check
 pub mod Product
 pub mod Known
 pub mod Inside
+pub mod SumClass

@@ -1,16 +1,26 @@
-//! Partitions of codes into codes of a greater distance, and products of them.
+//! Partitions of words into codes: their check and their products; and sum classes, which part the words of one weight into codes of distance 4.
 #![tactic(auto)]
 
 mod check;
+mod class_laws;
+mod class_listing;
+mod class_sizes;
 mod close;
 mod fault;
+mod largest_class;
 mod laws;
 mod listing;
 mod partition;
 mod product;
 
 pub use check::{check_partition, partition_fault, word_count, wrong_count};
+pub use class_laws::{
+    known_largest_classes, known_sum_classes, sum_classes_are_codes, words_of_sum_classes,
+};
+pub use class_listing::sum_class_list;
+pub use class_sizes::{sum_class_count, sum_class_sizes};
 pub use fault::{MAX_CLASSES, PartitionFault};
+pub use largest_class::{LargestClass, largest_sum_classes};
 pub use laws::{
     faultless_lists_are_partitions, known_partitions, known_products, products_are_codes,
     words_of_partitions,

@@ -1,6 +1,6 @@
 -- Evidence that is admitted with a document that reads as it.
 use Rattle.std.proofs.Common.{◌≡◌, ◌≢◌, ℕ, ◌+◌, ◌<◌, false, List, [], ◌∷◌, ◌++◌, length, IfOk, IfErr, OnOk, Result, Ok, Err, ap, subst, ◌∙◌}
-use Rattle.ct_evidence.specs.declared.evidence.Evidence.{Evidence}
+use Rattle.ct_kind.specs.declared.evidence.Evidence.{Evidence}
 use Rattle.ct_files.specs.Document.{DocumentValue, without_cites, document_read_of}
 use Rattle.ct_kind.specs.Named.{NamedCode}
 use Rattle.ct_pieces.specs.Piece.{PieceValue, has_id, stored_by, stored_words}

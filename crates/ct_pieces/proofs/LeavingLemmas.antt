@@ -8,7 +8,7 @@ use Rattle.std.proofs.lemmas.Slice.Eq.{bytes_eq-Decides}
 use Rattle.ct_codes.specs.Code.{CodeValue}
 use Rattle.ct_codes.specs.Pairs.{first_of}
 use Rattle.ct_partitions.specs.Partition.{PartitionValue}
-use Rattle.ct_evidence.specs.declared.evidence.Evidence.{Evidence}
+use Rattle.ct_kind.specs.declared.evidence.Evidence.{Evidence}
 use Rattle.ct_kind.specs.Named.{NamedCode, is_known, first_missing, code_named, partition_named}
 use Rattle.ct_pieces.specs.Kind.{kind_of, stated_entry, parts_of, names}
 use Rattle.ct_pieces.specs.Piece.{PieceValue, first_user}

@@ -7,8 +7,8 @@ use Rattle.ct_codes.specs.declared.entry.Entry.{Entry}
 use Rattle.ct_codes.specs.Code.{IsCodeOf}
 use Rattle.ct_build.specs.Build.{IsRightBuild}
 use Rattle.ct_partitions.specs.Partition.{IsPartition}
-use Rattle.ct_evidence.specs.declared.evidence.Evidence.{Evidence}
-use Rattle.ct_evidence.specs.declared.evidence.Evidence.TheVariants.{Words, Cosets, Partition, Build, Product, Dual, JohnsonDual, Odd, JohnsonLocal}
+use Rattle.ct_kind.specs.declared.evidence.Evidence.{Evidence}
+use Rattle.ct_kind.specs.declared.evidence.Evidence.TheVariants.{Words, Cosets, Partition, Build, Product, Dual, JohnsonDual, Odd, JohnsonLocal}
 use Rattle.ct_kind.specs.Named.{NamedCode, code_named, other_named}
 use Rattle.ct_kind.specs.KindParts.{KindParts}
 use Rattle.ct_word_files.specs.WordsKind.{words_kind}

@@ -4,8 +4,8 @@ use Rattle.std.specs.Io.KnownBytes.{Keeps}
 use Rattle.ct_io.specs.declared.run_fault.RunFault.{RunFault}
 use Rattle.ct_io.specs.declared.run_fault.RunFault.TheVariants as fault
 use Rattle.ct_io.proofs.ToldLemmas.{AppendsPrefix-from_proper}
-use Rattle.ct_proposals.specs.Reply.{Writes, WritesInPart}
-use Rattle.ct_proposals.proofs.Existence.{found_exists}
+use Rattle.ct_find.specs.Reply.{Writes, WritesInPart}
+use Rattle.ct_find.proofs.Existence.{found_exists}
 use Rattle.ct_command_line.specs.declared.mode.Mode.TheVariants.{Find}
 use Rattle.ct_run.specs.declared.status.Status.TheVariants.{WriteFault}
 use Rattle.ct_run.specs.Exit.{mode_status}

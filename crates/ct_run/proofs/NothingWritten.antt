@@ -2,8 +2,8 @@
 use Rattle.std.proofs.Common.{ℕ, false, List, [], Option, Some, None, IfSome, Err, refl}
 use Rattle.std.proofs.KnownBytes.{Appends-nil, Keeps-refl}
 use Rattle.ct_verify.specs.Verdict.{verdict_of}
-use Rattle.ct_verification.specs.Verification.{is_no, verdict_line}
-use Rattle.ct_proposals.proofs.Existence.{found_exists}
+use Rattle.ct_verify.specs.Verification.{is_no, verdict_line}
+use Rattle.ct_find.proofs.Existence.{found_exists}
 use Rattle.ct_sample.proofs.Summaries.{some_output}
 use Rattle.ct_session.specs.Ending.{Ends}
 use Rattle.ct_io.specs.declared.run_fault.RunFault.TheVariants.{Memory}

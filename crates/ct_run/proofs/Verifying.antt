@@ -7,7 +7,7 @@ use Rattle.ct_io.specs.declared.run_fault.RunFault.TheVariants as fault
 use Rattle.ct_io.specs.Told.{AppendsProperPrefix}
 use Rattle.ct_io.proofs.ToldLemmas.{AppendsPrefix-from_proper}
 use Rattle.ct_verify.specs.Verdict.{verdict_of}
-use Rattle.ct_verification.specs.Verification.{is_no, verdict_line}
+use Rattle.ct_verify.specs.Verification.{is_no, verdict_line}
 use Rattle.ct_command_line.specs.declared.mode.Mode.TheVariants.{Verify}
 use Rattle.ct_run.specs.declared.status.Status.TheVariants.{WriteFault, ReadFault, TooLong, Memory}
 use Rattle.ct_run.specs.Exit.{mode_status}

@@ -5,8 +5,8 @@ use Rattle.ct_io.specs.Told.{AppendsPrefix, AppendsProperPrefix}
 use Rattle.ct_session.specs.Run.{IsRun}
 use Rattle.ct_session.specs.Serve.{AnswersTaken, AnswersButLastBytes, WritesWholeReplies}
 use Rattle.ct_verify.specs.Verdict.{verdict_of}
-use Rattle.ct_verification.specs.Verification.{is_no, verdict_line}
-use Rattle.ct_proposals.specs.Reply.{IsFound}
+use Rattle.ct_verify.specs.Verification.{is_no, verdict_line}
+use Rattle.ct_find.specs.Reply.{IsFound}
 use Rattle.ct_sample.specs.Summary.{IsSampleOutput}
 use Rattle.ct_command_line.specs.declared.mode.Mode.{Mode}
 use Rattle.ct_command_line.specs.declared.mode.Mode.TheVariants.{Session, Verify, Find, Sample}

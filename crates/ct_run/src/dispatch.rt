@@ -12,11 +12,11 @@ ghost use Rattle.ct_run.specs.Program.{usage_line, WritesUsage};
 
 use crate::status::Status;
 use ct_command_line::{Mode, named_mode};
+use ct_find::find_source;
 use ct_io::{RunFault, Sink, Source, write_all};
-use ct_proposals::find_source;
 use ct_sample::write_sample;
 use ct_serving::serve_session;
-use ct_verification::verify_source;
+use ct_verify::verify_source;
 use std::alloc::Global;
 
 /// What is written where the words are no command.

@@ -11,8 +11,8 @@ use Rattle.ct_codes.specs.Entry.{IsEntry, unrestricted, constant_weight}
 use Rattle.ct_codes.proofs.EntryLemmas.{WeightFits, entry_limits, entry_from_limits}
 use Rattle.ct_build.specs.Build.{FieldsFit}
 use Rattle.ct_build.specs.declared.step.Step.TheVariants.{Lengthen}
-use Rattle.ct_sum_classes.proofs.SumClasses.{sum_class-below}
-use Rattle.ct_evidence.specs.declared.evidence.Evidence.{Evidence}
+use Rattle.ct_partitions.proofs.SumClasses.{sum_class-below}
+use Rattle.ct_kind.specs.declared.evidence.Evidence.{Evidence}
 use Rattle.ct_files.specs.Evidence.{IsSound}
 use Rattle.ct_pieces.specs.Piece.{PieceValue}
 use Rattle.ct_sample.specs.Drawn.{class_evidence, drawn_words, golay_word, golay_words, drawn_cosets, dual_of_ones, drawn_dual, is_code_kind, may_lengthen, lengthening, last_lengthening, drawn_evidence}

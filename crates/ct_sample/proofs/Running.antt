@@ -4,7 +4,7 @@ use Rattle.std.specs.Prelude.{IfSome, filter}
 use Rattle.std.proofs.lemmas.List.Elements.{All-nil, All-cons, All-push, All-head, All-tail, All-filter}
 use Rattle.ct_codes.specs.Entry.{IsEntry}
 use Rattle.ct_rule_parts.specs.Support.{Stands, AllStand}
-use Rattle.ct_evidence.specs.declared.evidence.Evidence.{Evidence}
+use Rattle.ct_kind.specs.declared.evidence.Evidence.{Evidence}
 use Rattle.ct_files.specs.Document.{DocumentValue, without_cites}
 use Rattle.ct_files.specs.Evidence.{IsSound}
 use Rattle.ct_kind.specs.Named.{NamedCode}

@@ -2,7 +2,7 @@
 -- speaks of the pieces without their documents.
 use Rattle.std.specs.Prelude.{ℕ, zero, suc, ◌+◌, if◌then◌else◌, List, [], length, Option, Some, None, Result, is_ok, map}
 use Rattle.ct_pieces.specs.Piece.{PieceValue, has_id, stored_words}
-use Rattle.ct_evidence.specs.declared.evidence.Evidence.{Evidence}
+use Rattle.ct_kind.specs.declared.evidence.Evidence.{Evidence}
 use Rattle.ct_files.specs.Document.{without_cites}
 use Rattle.ct_pieces.specs.Codes.{codes_of}
 use Rattle.ct_pieces.specs.Submission.{made_of, stored_beside, unless_full, with_piece}

@@ -4,7 +4,7 @@ ghost use Rattle.std.specs.Prelude.{◌≡◌, not, IfOk};
 ghost use Rattle.ct_sample.specs.Command.{step_id, is_used, first_unused, command_of};
 
 use crate::drawing::drawn_evidence;
-use ct_evidence::Evidence;
+use ct_kind::Evidence;
 use ct_ledger::Piece;
 use ct_text::{Id, put_number};
 use std::alloc::{AllocError, Global};

@@ -7,9 +7,9 @@ ghost use Rattle.ct_sample.specs.Drawn.{drawn_words, golay_words, drawn_cosets, 
 use ct_build::Step;
 use ct_codes::Entry;
 use ct_duals::{Allowances, Dual, Multipliers};
-use ct_evidence::Evidence;
+use ct_kind::Evidence;
 use ct_ledger::Piece;
-use ct_sum_classes::sum_class_list;
+use ct_partitions::sum_class_list;
 use ct_text::Id;
 use ct_words::{Word, WordList};
 use std::alloc::{AllocError, Global};

@@ -4,7 +4,7 @@ ghost use Rattle.std.specs.Prelude.{◌≡◌, ◌↔◌, ◌≢◌, ℕ, [], �
 ghost use Rattle.ct_codes.specs.declared.entry.Entry.{Entry};
 ghost use Rattle.ct_codes.specs.Entry.{IsEntry, constant_weight, unrestricted};
 ghost use Rattle.ct_build.specs.declared.step.Step.TheVariants.{Lengthen};
-ghost use Rattle.ct_evidence.specs.declared.evidence.Evidence.TheVariants.{Cosets, Build};
+ghost use Rattle.ct_kind.specs.declared.evidence.Evidence.TheVariants.{Cosets, Build};
 ghost use Rattle.ct_sample.specs.declared.command.Command.TheVariants.{Submit, Withdraw};
 ghost use Rattle.ct_sample.specs.Command.{command_of};
 ghost use Rattle.ct_sample.specs.Drawn.{class_evidence, dual_of_ones};

@@ -11,8 +11,8 @@ ghost use Rattle.ct_sample.specs.Inside.Sound.{IsSoundCommand};
 
 use crate::command::{Command, command_of};
 use crate::random::next;
-use ct_evidence::Evidence;
 use ct_files::write_evidence;
+use ct_kind::Evidence;
 use ct_ledger::{Ledger, MAX_PIECES, Piece, SubmitFault, WithdrawFault};
 use ct_table::Table;
 use ct_text::{Id, Text};

@@ -1,10 +1,14 @@
-//! Rules of the table, closed tables, and tables while supports come and go, at values by hand.
+//! Tests of the table: its rules, closed tables, tables while supports come and go, explained bounds, and codes that are listed.
 #![tactic(auto)]
 
 #[cfg(test)]
 mod closure;
 #[cfg(test)]
+mod explained;
+#[cfg(test)]
 mod known;
+#[cfg(test)]
+mod listed;
 #[cfg(test)]
 mod rules;
 #[cfg(test)]

@@ -5,3 +5,4 @@ pub mod Read
 pub mod Reading
 pub mod Verdict
 pub mod Text
+pub mod Verification

@@ -1,4 +1,4 @@
-//! Derivation documents, checked line by line.
+//! Derivation documents, checked line by line; and the mode `verify`, which reads one from a source and writes the verdict to a sink.
 #![tactic(auto)]
 
 mod heading;
@@ -11,6 +11,7 @@ mod step;
 mod steps;
 mod text;
 mod verdict;
+mod verification;
 mod verifying;
 
 pub use heading::Heading;
@@ -22,4 +23,5 @@ pub use stated_rule::StatedRule;
 pub use step::Step;
 pub use text::verdict_text;
 pub use verdict::{Verdict, Why};
+pub use verification::verify_source;
 pub use verifying::verify;

@@ -15,7 +15,7 @@ use Rattle.ct_duals.specs.Dual.{as_distance, AllowsNone}
 use Rattle.ct_duals.specs.Bound.{AcceptedValue, IsAccepted, AreTrueUppers, AreAtMost, positive, dual_premises, dual_bound}
 use Rattle.ct_duals.proofs.Monotone.{dual_bound-monotone}
 use Rattle.ct_duals.proofs.Premises.{premises_few}
-use Rattle.ct_delsarte.proofs.SoundDuals.{accepted-sound, accepted-some}
+use Rattle.ct_duals.proofs.SoundDuals.{accepted-sound, accepted-some}
 use Rattle.ct_rule_parts.specs.declared.support.Support.{Support}
 use Rattle.ct_rule_parts.specs.declared.support.Support.TheVariants.{Bound}
 use Rattle.ct_rule_parts.specs.Parts.{has_weight, slots_on}

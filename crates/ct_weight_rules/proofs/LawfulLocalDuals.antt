@@ -15,10 +15,10 @@ use Rattle.ct_codes.specs.Entry.{IsEntry, constant_weight}
 use Rattle.ct_codes.specs.Constructions.Even.{even_from}
 use Rattle.ct_codes.specs.Numbers.{numbers_of, combination}
 use Rattle.ct_codes.proofs.EntryLemmas.{WeightFits, entry_limits}
-use Rattle.ct_scheme.specs.Doubly.{IsDoubly}
-use Rattle.ct_doubly.specs.Doubly.{doubly}
-use Rattle.ct_doubly.proofs.DoublyTrue.{doubly-true}
-use Rattle.ct_doubly.proofs.Words.{IsCode-from_doubly}
+use Rattle.ct_codes.specs.Doubly.{IsDoubly}
+use Rattle.ct_johnson.specs.Doubly.{doubly}
+use Rattle.ct_johnson.proofs.DoublyTrue.{doubly-true}
+use Rattle.ct_johnson.proofs.Words.{IsCode-from_doubly}
 use Rattle.ct_duals.specs.declared.dual.Dual.{Dual}
 use Rattle.ct_duals.specs.Dual.{as_distance, degree_of, greatest_index, IsDual}
 use Rattle.ct_duals.specs.Bound.{AcceptedValue, IsAccepted, AreTrueUppers, AreAtMost, positive, dual_premises}
@@ -27,7 +27,7 @@ use Rattle.ct_duals.specs.Check.{dual_fault}
 use Rattle.ct_duals.proofs.Faults.{accepted-from_none}
 use Rattle.ct_duals.proofs.LocalBound.{local_bound-monotone}
 use Rattle.ct_duals.proofs.Premises.{premises_few, indices_within}
-use Rattle.ct_delsarte.proofs.SoundDuals.{accepted-local, accepted-some_local}
+use Rattle.ct_duals.proofs.SoundDuals.{accepted-local, accepted-some_local}
 use Rattle.ct_rule_parts.specs.declared.support.Support.{Support}
 use Rattle.ct_rule_parts.specs.declared.support.Support.TheVariants.{Local}
 use Rattle.ct_rule_parts.specs.Parts.{has_weight, weight_of, slots_on}

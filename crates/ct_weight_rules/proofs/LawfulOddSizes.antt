@@ -22,7 +22,7 @@ use Rattle.ct_duals.specs.Check.{dual_fault}
 use Rattle.ct_duals.proofs.Faults.{accepted-from_none}
 use Rattle.ct_duals.proofs.Monotone.{dual_spread-monotone}
 use Rattle.ct_duals.proofs.Premises.{premises_few}
-use Rattle.ct_delsarte.proofs.SoundDuals.{accepted-spread}
+use Rattle.ct_duals.proofs.SoundDuals.{accepted-spread}
 use Rattle.ct_parity.specs.OddSum.{odd_sum}
 use Rattle.ct_parity.specs.declared.sums.TheConstants.{MAX_ODD}
 use Rattle.ct_parity.proofs.OddLists.{odd_sum-le}

@@ -6,7 +6,7 @@ ghost use Rattle.ct_rule_parts.specs.Parts.{is_defined};
 ghost use Rattle.ct_weight_rules.specs.SumClass.{size_of_class, class_of_sum};
 
 use ct_codes::Entry;
-use ct_sum_classes::sum_class_count;
+use ct_partitions::sum_class_count;
 
 /// The number of M9 with the residue r: how many words of the length and the weight of the entry there are, the places of
 /// whose ones add up to r modulo n, where the distance is 4, r is below n and there is such a word (Graham and Sloane

@@ -16,8 +16,8 @@ use Rattle.ct_fields.specs.StatesEntry.{StatesPlainEntry, IsPlainEntryFault}
 use Rattle.ct_word_files.specs.Cosets.{coset_count, cosets_evidence_of}
 use Rattle.ct_fields.specs.Tables.{IsOfKind, HasTexts, IsFirstWrong}
 use Rattle.ct_word_files.specs.CosetsDocument.{HasCosets, cosets_fields, IsCosetsDocument, StatesCosets, IsWrongCount, IsCosetsAnswer}
-use Rattle.ct_evidence.specs.declared.evidence.Evidence.{Evidence}
-use Rattle.ct_evidence.specs.declared.evidence.Evidence.TheVariants as evidence
+use Rattle.ct_kind.specs.declared.evidence.Evidence.{Evidence}
+use Rattle.ct_kind.specs.declared.evidence.Evidence.TheVariants as evidence
 use Rattle.ct_fields.specs.declared.field.FieldName.{FieldName}
 use Rattle.ct_fields.specs.declared.field.FieldName.TheVariants.{N, D, Basis, Representatives, Cites}
 use Rattle.ct_fields.specs.declared.fault.FileFault.{FileFault}

@@ -15,8 +15,8 @@ use Rattle.ct_fields.specs.StatesEntry.{StatesEntry, IsEntryFault}
 use Rattle.ct_word_files.specs.Words.{word_count, words_evidence_of}
 use Rattle.ct_fields.specs.Tables.{IsOfKind, HasTexts}
 use Rattle.ct_word_files.specs.WordsDocument.{HasWords, words_fields, IsWordsDocument, StatesWords, IsWordsAnswer}
-use Rattle.ct_evidence.specs.declared.evidence.Evidence.{Evidence}
-use Rattle.ct_evidence.specs.declared.evidence.Evidence.TheVariants as evidence
+use Rattle.ct_kind.specs.declared.evidence.Evidence.{Evidence}
+use Rattle.ct_kind.specs.declared.evidence.Evidence.TheVariants as evidence
 use Rattle.ct_fields.specs.declared.field.FieldName.{FieldName}
 use Rattle.ct_fields.specs.declared.field.FieldName.TheVariants.{N, D, W, Words, Cites}
 use Rattle.ct_fields.specs.declared.fault.FileFault.{FileFault}

@@ -2,8 +2,8 @@
 use Rattle.std.specs.Prelude.{All, IfSome, IsTrue, ⊤}
 use Rattle.toml.specs.Data.{Members}
 use Rattle.ct_text.specs.Id.{is_id}
-use Rattle.ct_evidence.specs.declared.evidence.Evidence.{Evidence}
-use Rattle.ct_evidence.specs.declared.evidence.Evidence.TheVariants as evidence
+use Rattle.ct_kind.specs.declared.evidence.Evidence.{Evidence}
+use Rattle.ct_kind.specs.declared.evidence.Evidence.TheVariants as evidence
 use Rattle.ct_word_files.specs.WrittenWords.{words_table, cosets_table}
 use Rattle.ct_build_files.specs.WrittenBuild.{build_table}
 use Rattle.ct_partition_files.specs.Written.{AreIds, partition_table, product_table}

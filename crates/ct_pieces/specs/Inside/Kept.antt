@@ -1,7 +1,7 @@
 -- The codes that a ledger keeps beside its pieces.
 use Rattle.std.specs.Prelude.{Bool, if◌then◌else◌, List, [], ◌∷◌, ◌++◌, Option, None}
 use Rattle.ct_codes.specs.Code.{CodeValue}
-use Rattle.ct_evidence.specs.declared.evidence.Evidence.{Evidence}
+use Rattle.ct_kind.specs.declared.evidence.Evidence.{Evidence}
 use Rattle.ct_kind.specs.Named.{NamedCode}
 use Rattle.ct_pieces.specs.Kind.{kind_of}
 use Rattle.ct_pieces.specs.Piece.{PieceValue}

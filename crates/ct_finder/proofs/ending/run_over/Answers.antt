@@ -4,11 +4,11 @@ use Rattle.std.proofs.lemmas.List.{length-map}
 use Rattle.std.proofs.lemmas.Int.{to_z-of_z}
 use mir.Val.{SFits}
 use mir.Syntax.{w128}
-use Rattle.ct_finder_run.specs.Column.{columns, cost_entry}
-use Rattle.ct_finder_run.specs.Run.{run, multipliers_of}
-use Rattle.ct_finder_run.specs.Sum.{HasWidth}
-use Rattle.ct_finder_run.specs.Basic.{AreBasic}
-use Rattle.ct_tableau.specs.Ready.{seen}
+use Rattle.ct_finder.specs.Column.{columns, cost_entry}
+use Rattle.ct_finder.specs.Run.{run, multipliers_of}
+use Rattle.ct_finder.specs.Sum.{HasWidth}
+use Rattle.ct_finder.specs.Basic.{AreBasic}
+use Rattle.ct_finder.specs.Ready.{seen}
 use Rattle.ct_finder.specs.declared.ending.Ending.TheVariants.{Least}
 use Rattle.ct_finder.specs.Ending.{ending_of}
 use Rattle.ct_finder.proofs.OpeningLemmas.{least-width, least-solved}

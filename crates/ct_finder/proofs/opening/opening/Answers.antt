@@ -1,7 +1,7 @@
 use Rattle.std.proofs.Common.{◌≡◌, ℕ, List, map, length, sym, ap, ◌∙◌}
 use Rattle.std.proofs.lemmas.List.{length-map}
-use Rattle.ct_finder_run.specs.Column.{rows_to, columns, place_of, cost_entry}
-use Rattle.ct_finder_run.specs.Column.Column.{S}
+use Rattle.ct_finder.specs.Column.{rows_to, columns, place_of, cost_entry}
+use Rattle.ct_finder.specs.Column.Column.{S}
 use Rattle.ct_finder.proofs.OpeningLemmas.{ready-opening}
 use Rattle.ct_finder.proofs.opening.opening.Goals as goal
 

@@ -1,8 +1,8 @@
 use Rattle.std.proofs.Common.{◌≡◌, ℕ, suc, ◌+◌, List, [], ◌∷◌, ◌++◌, map, length, sym, ap₂, ◌∙◌, arith}
 use Rattle.std.proofs.lemmas.List.FromFn.{map-range_with_len_more}
-use Rattle.ct_finder_run.specs.Column.{columns, place_of}
-use Rattle.ct_finder_run.specs.Column.Column.{S}
-use Rattle.ct_finder_run.proofs.Places.{place-s}
+use Rattle.ct_finder.specs.Column.{columns, place_of}
+use Rattle.ct_finder.specs.Column.Column.{S}
+use Rattle.ct_finder.proofs.Places.{place-s}
 use Rattle.ct_finder.proofs.opening.opening_basics.Goals as goal
 
 pub loop-before-preserved : goal.loop-before-preserved

@@ -1,7 +1,7 @@
 use Rattle.std.proofs.Common.{◌≡◌, map}
 use Rattle.std.specs.List.{range_with_len}
-use Rattle.ct_finder_run.specs.Column.{columns, place_of}
-use Rattle.ct_finder_run.specs.Column.Column.{S}
+use Rattle.ct_finder.specs.Column.{columns, place_of}
+use Rattle.ct_finder.specs.Column.Column.{S}
 use Rattle.ct_finder.proofs.opening.opening_basics.Given as goal
 
 -- the places so far

@@ -3,8 +3,8 @@ use Rattle.std.specs.Prelude.{ℤ, pos, neg_ℤ}
 use Rattle.std.proofs.lemmas.Int.{to_z-of_z}
 use mir.Val.{SFits}
 use mir.Syntax.{w64}
-use Rattle.ct_finder_run.specs.Column.{rows_to, columns, opening_row}
-use Rattle.ct_tableau.specs.Narrow.{AreNarrow}
+use Rattle.ct_finder.specs.Column.{rows_to, columns, opening_row}
+use Rattle.ct_finder.specs.Narrow.{AreNarrow}
 use Rattle.ct_finder.proofs.OpeningLemmas.{unit, opening_row-pieces, narrow-opening_row}
 use Rattle.ct_finder.proofs.opening.opening_row.Goals as goal
 

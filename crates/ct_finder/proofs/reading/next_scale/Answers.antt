@@ -1,7 +1,7 @@
 -- The divisor is at least 1, and so is the multiple.
 use Rattle.std.proofs.Common.{◌≡◌, ◌≤◌, ◌*◌, ◌/◌, ℕ, sym, ap, ap₂, ◌∙◌, subst, arith}
-use Rattle.ct_finder_run.specs.Divisor.{gcd}
-use Rattle.ct_finder_run.proofs.RunScales.{next-multiple}
+use Rattle.ct_finder.specs.Divisor.{gcd}
+use Rattle.ct_finder.proofs.RunScales.{next-multiple}
 use Rattle.ct_finder.proofs.ReadingLemmas.{gcd-some}
 use Rattle.ct_finder.proofs.reading.next_scale.Goals as goal
 

@@ -2,9 +2,9 @@
 use Rattle.std.proofs.Common.{◌≡◌, sym, ap, ◌∙◌, List, ℕ, arith}
 use Rattle.std.specs.Prelude.{ℤ}
 use Rattle.std.proofs.lemmas.List.{drop_all}
-use Rattle.ct_finder_run.specs.RunPrimal.{number_at_place}
-use Rattle.ct_finder_run.proofs.RunPoints.{lines-count}
-use Rattle.ct_tableau.specs.Ready.{seen}
+use Rattle.ct_finder.specs.RunPrimal.{number_at_place}
+use Rattle.ct_finder.proofs.RunPoints.{lines-count}
+use Rattle.ct_finder.specs.Ready.{seen}
 use Rattle.ct_finder.specs.Reading.{lines_seen}
 use Rattle.ct_finder.proofs.reading.number_at.Goals as goal
 

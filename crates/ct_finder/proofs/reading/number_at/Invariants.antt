@@ -1,6 +1,6 @@
 -- The number is that of the rows that are left.
 use Rattle.std.proofs.Common.{◌≡◌, drop}
-use Rattle.ct_finder_run.specs.RunPrimal.{number_at_place}
+use Rattle.ct_finder.specs.RunPrimal.{number_at_place}
 use Rattle.ct_finder.specs.Reading.{lines_seen}
 use Rattle.ct_finder.proofs.reading.number_at.Given as goal
 

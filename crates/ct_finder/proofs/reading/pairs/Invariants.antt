@@ -1,8 +1,8 @@
 -- The pairs of the indices so far.
 use Rattle.std.proofs.Common.{◌≡◌, take}
 use Rattle.std.specs.Prelude.{pos, filter, int_lt}
-use Rattle.ct_finder_run.specs.RunPrimal.{numbers_of_range}
-use Rattle.ct_tableau.specs.Ready.{seen}
+use Rattle.ct_finder.specs.RunPrimal.{numbers_of_range}
+use Rattle.ct_finder.specs.Ready.{seen}
 use Rattle.ct_finder.proofs.reading.pairs.Given as goal
 
 abbrev pub invariant-loop-j : goal.invariant-loop-j

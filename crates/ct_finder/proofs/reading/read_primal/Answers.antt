@@ -3,7 +3,7 @@ use Rattle.std.proofs.Common.{◌≡◌, ℕ, ◌^◌, ◌<◌, List, sym, ap, a
 use Rattle.std.specs.Prelude.{ℤ, pos, Some}
 use Rattle.std.proofs.lemmas.Int.{to_z_pos}
 use mir.Syntax.{w64, w128}
-use Rattle.ct_tableau.specs.Ready.{seen}
+use Rattle.ct_finder.specs.Ready.{seen}
 use Rattle.ct_finder.specs.declared.reading.Reading.TheVariants.{Primal, Wide}
 use Rattle.ct_finder.proofs.ReadingLemmas.{reading-scale, reading-number, reading-primal}
 use Rattle.ct_finder.proofs.reading.read_primal.Goals as goal

@@ -2,9 +2,9 @@
 use Rattle.std.proofs.Common.{◌≡◌, sym, ap, ◌∙◌, List, ℕ, arith}
 use Rattle.std.specs.Prelude.{find, ℤ}
 use Rattle.std.proofs.lemmas.List.{drop_all}
-use Rattle.ct_finder_run.specs.RunPrimal.{scales, last_scale}
-use Rattle.ct_finder_run.proofs.RunPoints.{lines-count}
-use Rattle.ct_tableau.specs.Ready.{seen}
+use Rattle.ct_finder.specs.RunPrimal.{scales, last_scale}
+use Rattle.ct_finder.proofs.RunPoints.{lines-count}
+use Rattle.ct_finder.specs.Ready.{seen}
 use Rattle.ct_finder.specs.Reading.{is_large, lines_seen}
 use Rattle.ct_finder.proofs.ReadingLemmas.{of_a}
 use Rattle.ct_finder.proofs.reading.scale.Goals as goal

@@ -1,8 +1,8 @@
 -- From the scale so far, the rows that are left lead to the scale of the primal, or to the first that is too large.
 use Rattle.std.proofs.Common.{◌≡◌, ◌≤◌, ◌<◌, ◌^◌, drop}
 use Rattle.std.specs.Prelude.{find}
-use Rattle.ct_finder_run.specs.RunPrimal.{scales, last_scale, run_scale}
-use Rattle.ct_tableau.specs.Ready.{seen}
+use Rattle.ct_finder.specs.RunPrimal.{scales, last_scale, run_scale}
+use Rattle.ct_finder.specs.Ready.{seen}
 use Rattle.ct_finder.specs.Reading.{is_large, large_scale, lines_seen}
 use Rattle.ct_finder.proofs.ReadingLemmas.{of_a}
 use Rattle.ct_finder.proofs.reading.scale.Given as goal

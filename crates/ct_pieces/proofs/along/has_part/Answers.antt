@@ -1,6 +1,6 @@
 use Rattle.std.proofs.Common.{◌∙◌, ◌||◌, List, ap, sym}
 use Rattle.std.specs.List.{list_any}
-use Rattle.ct_evidence.specs.declared.evidence.Evidence.{Evidence}
+use Rattle.ct_kind.specs.declared.evidence.Evidence.{Evidence}
 use Rattle.ct_partition_files.specs.ProductKind.{Ids}
 use Rattle.ct_pieces.specs.Inside.Names.{has_name}
 use Rattle.ct_pieces.specs.Kind.{parts_of}

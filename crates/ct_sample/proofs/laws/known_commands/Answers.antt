@@ -2,8 +2,8 @@ use Rattle.std.proofs.Common.{◌≡◌, ℕ, ◌+◌, ◌<◌, List, [], ◌∷
 use Rattle.std.proofs.lemmas.Fmt.{decimal_digit}
 use Rattle.ct_codes.specs.Entry.{constant_weight, unrestricted}
 use Rattle.ct_build.specs.declared.step.Step.TheVariants.{Lengthen}
-use Rattle.ct_evidence.specs.declared.evidence.Evidence.{Evidence}
-use Rattle.ct_evidence.specs.declared.evidence.Evidence.TheVariants.{Cosets, Build}
+use Rattle.ct_kind.specs.declared.evidence.Evidence.{Evidence}
+use Rattle.ct_kind.specs.declared.evidence.Evidence.TheVariants.{Cosets, Build}
 use Rattle.ct_sample.specs.Drawn.{class_evidence, drawn_evidence, dual_of_ones}
 use Rattle.ct_sample.specs.Command.{step_id}
 use Rattle.ct_sample.specs.declared.command.Command.{Command}

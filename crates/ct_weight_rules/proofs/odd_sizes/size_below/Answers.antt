@@ -4,7 +4,7 @@ use Rattle.std.specs.Prelude.{ℤ, pos, ◌≤ℤ◌}
 use Rattle.std.proofs.lemmas.Int.{to_z-of_z}
 use mir.Val.{SFits}
 use mir.Syntax.{w128}
-use Rattle.ct_delsarte.proofs.SoundDuals.{accepted-some_spread}
+use Rattle.ct_duals.proofs.SoundDuals.{accepted-some_spread}
 use Rattle.ct_weight_rules.proofs.odd_sizes.size_below.Goals as goal
 
 pub is_above-requires-clause-most : goal.is_above-requires-clause-most

@@ -1,2 +1,0 @@
-mod SchemesOfEntries
-pub mod SoundDuals

@@ -1,5 +1,0 @@
-//! A bound of a table over nothing, explained and shown.
-#![tactic(auto)]
-
-#[cfg(test)]
-mod shown;

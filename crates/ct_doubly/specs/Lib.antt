@@ -1,2 +1,0 @@
-pub mod Doubly
-pub mod Inside

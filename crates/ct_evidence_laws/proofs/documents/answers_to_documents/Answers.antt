@@ -1,5 +1,0 @@
-use Rattle.ct_files.proofs.DocumentAnswers.{answers, no_kind}
-use Rattle.ct_evidence_laws.proofs.documents.answers_to_documents.Goals as goal
-
-pub returns : goal.returns
-returns c = record { no_kind = no_kind; answers = answers }

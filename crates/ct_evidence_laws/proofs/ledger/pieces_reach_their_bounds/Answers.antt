@@ -1,5 +1,0 @@
-use Rattle.ct_ledger.proofs.Reaching.{reached}
-use Rattle.ct_evidence_laws.proofs.ledger.pieces_reach_their_bounds.Goals as goal
-
-pub returns : goal.returns
-returns c = reached

@@ -1,5 +1,0 @@
-use Rattle.ct_pieces.proofs.SupportLemmas.{supports_stand}
-use Rattle.ct_evidence_laws.proofs.pieces.pieces_give_supports.Goals as goal
-
-pub returns : goal.returns
-returns c = supports_stand

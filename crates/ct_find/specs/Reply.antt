@@ -1,0 +1,63 @@
+-- The replies to the lines of an input.
+use Rattle.std.specs.Prelude.{◌≡◌, ◌⊎◌, ℕ, Bool, true, false, ◌||◌, List, [], ◌∷◌, ◌++◌, codes, Option, Some, None, IfSome}
+use Rattle.std.specs.Io.KnownBytes.{Appends}
+use Rattle.ct_io.specs.Told.{AppendsProperPrefix}
+use Rattle.ct_lines.specs.Lines.{lines_of}
+use Rattle.ct_lines.specs.declared.TheConstants.{LINE_FEED}
+use Rattle.ct_codes.specs.declared.entry.Entry.{Entry}
+use Rattle.ct_text.specs.Line.{words_of}
+use Rattle.ct_text.specs.EntryNumbers.{entry_numbers_of, named_entry}
+use Rattle.ct_text.specs.declared.entry_numbers.EntryNumbers.{EntryNumbers}
+use Rattle.ct_files.specs.Document.{document_read_of}
+use Rattle.ct_commands.specs.Submission.{submission_text}
+use Rattle.ct_find.specs.Proposal.{AnswersEntry, found_dual}
+
+-- the reply to numbers that name this entry of the table, or none, and whether it is a refusal
+abbrev pub IsReplyToEntry : Option Entry → List ℕ → Bool → Type 0
+IsReplyToEntry None text refused = (text ≡ codes "refused entry" ++ LINE_FEED ∷ []) × (refused ≡ true)
+IsReplyToEntry (Some e) text refused = AnswersEntry e (found_dual e) text × (refused ≡ false)
+
+-- the reply to words that are these numbers, or others
+abbrev pub IsReplyToNumbers : Option EntryNumbers → List ℕ → Bool → Type 0
+IsReplyToNumbers None text refused = (text ≡ codes "refused command" ++ LINE_FEED ∷ []) × (refused ≡ true)
+IsReplyToNumbers (Some numbers) text refused = IsReplyToEntry (named_entry numbers) text refused
+
+-- the reply to the words of a line: nothing where there are none
+abbrev pub IsReplyToWords : List (List ℕ) → List ℕ → Bool → Type 0
+IsReplyToWords [] text refused = (text ≡ []) × (refused ≡ false)
+IsReplyToWords (word ∷ words) text refused = IsReplyToNumbers (entry_numbers_of (word ∷ words)) text refused
+
+-- the reply to a line
+abbrev pub IsReply : List ℕ → List ℕ → Bool → Type 0
+IsReply line text refused = IsReplyToWords (words_of line) text refused
+
+-- the replies to lines, in order, and whether one of them is a refusal
+abbrev pub AreReplies : List (List ℕ) → List ℕ → Bool → Type 0
+AreReplies [] text refused = (text ≡ []) × (refused ≡ false)
+AreReplies (line ∷ lines) text refused =
+    (reply rest : List ℕ) × (here later : Bool) × IsReply line reply here × AreReplies lines rest later × (text ≡ reply ++ rest) × (refused ≡ (here || later))
+
+-- the output of the mode on an input: the replies to its lines
+abbrev pub IsFound : List ℕ → List ℕ → Bool → Type 0
+IsFound input output refused = AreReplies (lines_of input) output refused
+
+-- two replies to one line: equal, or the same but for the bytes of a document that is submitted, which reads alike
+abbrev pub DifferInDocument : List ℕ → List ℕ → Type 0
+DifferInDocument text other =
+    (text ≡ other)
+    ⊎ ((front id document another : List ℕ) × (document_read_of document ≡ document_read_of another)
+    × (text ≡ front ++ submission_text id document) × (other ≡ front ++ submission_text id another))
+
+-- two outputs are a reply for each line, in order, and these differ in the bytes of their documents alone
+abbrev pub DifferInDocuments : List (List ℕ) → List ℕ → List ℕ → Type 0
+DifferInDocuments [] text other = (text ≡ []) × (other ≡ [])
+DifferInDocuments (line ∷ lines) text other =
+    (reply rest another more : List ℕ) × DifferInDocument reply another × DifferInDocuments lines rest more × (text ≡ reply ++ rest) × (other ≡ another ++ more)
+
+-- what a sink holds grew by the output on what a source has left, where it tells this; it tells whether a reply is a refusal
+abbrev pub Writes : Option (List ℕ) → Option (List ℕ) → Option (List ℕ) → Bool → Type 0
+Writes left old new refused = IfSome left (λ input. (output : List ℕ) × IsFound input output refused × Appends old new output)
+
+-- it grew by a part of the output from its beginning on, and some of it is left
+abbrev pub WritesInPart : Option (List ℕ) → Option (List ℕ) → Option (List ℕ) → Type 0
+WritesInPart left old new = IfSome left (λ input. (output : List ℕ) × (refused : Bool) × IsFound input output refused × AppendsProperPrefix old new output)

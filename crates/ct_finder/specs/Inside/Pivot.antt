@@ -1,0 +1,12 @@
+-- The best of the first candidates for the pivot row.
+use Rattle.std.specs.Prelude.{ℕ, Bool, ◌&&◌, List, [], get_or, Option, Some, None, ℤ}
+use Rattle.ct_finder.specs.Turn.{is_candidate, comes_before}
+
+-- the row at a place, with its basic column; an empty one where there is none
+abbrev pub line_at : List (List ℤ × ℕ) → ℕ → List ℤ × ℕ
+line_at lines i = get_or lines i ([], 0)
+
+-- whether the line at the place i is a candidate that comes before the best so far
+abbrev pub is_better : ℕ → List (List ℤ × ℕ) → Option ℕ → ℕ → Bool
+is_better e lines None i = is_candidate e (line_at lines i)
+is_better e lines (Some b) i = is_candidate e (line_at lines i) && comes_before e (line_at lines i) (line_at lines b)

@@ -1,0 +1,15 @@
+use Rattle.std.proofs.Common.{refl}
+use Rattle.ct_laws.proofs.OnLiterals.{evidence_on_literals}
+use Rattle.ct_laws.proofs.worked_cites.cites_are_read.Goals as goal
+
+pub returns : goal.returns
+unfolding evidence_on_literals
+returns c = record {
+  none = refl;
+  one = refl;
+  order = refl;
+  escapes = refl;
+  ends = refl;
+  longest = refl;
+  most = refl;
+}

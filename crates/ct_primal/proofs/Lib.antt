@@ -1,2 +1,0 @@
-pub mod WeakDuality
-pub mod PrimalFaults

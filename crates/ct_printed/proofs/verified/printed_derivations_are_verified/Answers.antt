@@ -1,5 +1,0 @@
-use Rattle.ct_printed.proofs.PrintedDerivations.{printed_is_verified}
-use Rattle.ct_printed.proofs.verified.printed_derivations_are_verified.Goals as goal
-
-pub returns : goal.returns
-returns c = printed_is_verified

@@ -1,7 +1,0 @@
-use Rattle.std.proofs.Common.{◌≡◌, ◌++◌, drop}
-use Rattle.ct_proposals.specs.Proposal.{pairs_text}
-use Rattle.ct_proposals.proofs.proposal.put_pairs.Given as goal
-
--- with the pairs that are left the text is whole
-abbrev pub invariant-loop-i : goal.invariant-loop-i
-invariant-loop-i l = l.text.items ++ pairs_text (drop l.i-index l.pairs) ≡ l.fn.text.items ++ pairs_text l.pairs

@@ -1,9 +1,0 @@
-use Rattle.std.proofs.Common.{◌≡◌, ℕ, ◌+◌, ◌-◌, ◌%◌, ◌<◌, length, get_or}
-use Rattle.ct_words.specs.declared.limits.TheConstants.{MAX_N}
-use Rattle.ct_sum_classes.proofs.sizes.with_element.Given as goal
-
-abbrev pub invariant-loop-sum : goal.invariant-loop-sum
-invariant-loop-sum l = record {
-  room : length l.row ≡ MAX_N;
-  sums : (s : ℕ) → s < l.sum → get_or l.row s 0 ≡ get_or l.same s 0 + get_or l.fewer ((s + (l.n - l.element)) % l.n) 0;
-}

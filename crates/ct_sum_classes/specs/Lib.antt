@@ -1,2 +1,0 @@
-pub mod SumClass
-pub mod Inside

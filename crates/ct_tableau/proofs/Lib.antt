@@ -1,8 +1,0 @@
-mod Written
-mod CrossedRows
-mod Entering
-mod Before
-mod Best
-mod TurnedRows
-mod Ready
-mod Steps
