@@ -85,6 +85,16 @@ def tree(size):
     return submit("t1", cosets(24, 3, linear(24, 9))) + "".join(steps)
 
 
+def fan(size):
+    """Trims over one linear code of 262,144 words."""
+    return part(18) + "".join(submit(f"f{i}", build("trim", 26, 3, "part", f"size = {i + 1}\n")) for i in range(size or 40))
+
+
+def explained_builds(size):
+    """An explanation that needs one piece, over so many builds that it doesn't need."""
+    return lone_words(size or 400) + "explain lower 26 3\n" * 100
+
+
 def refused_size(size):
     """Builds over a piece of 524,288 words, which are refused for the size of their part."""
     large = submit("large", cosets(28, 3, linear(28, 19)))
@@ -143,6 +153,17 @@ def over_duals(last, odd=None):
     return lambda size: standing + (submit("last", last) + "withdraw last\n") * (100 if size is None else size)
 
 
+def sum_class_lines(size):
+    """A derivation document, for `verify`: lines that each count the words of weight 15 and length 30 whose places have the sum 0 modulo 30."""
+    classes = [[int(not (weight or rest)) for rest in range(30)] for weight in range(16)]
+    for place in range(30):
+        for weight in range(15, 0, -1):
+            for rest in range(30):
+                classes[weight][(rest + place) % 30] += classes[weight - 1][rest]
+    line = f"line {{}} lower 30 4 15 value {classes[15][0]} by M9 0\n"
+    return "derivation\n" + "".join(line.format(i + 1) for i in range(size or 1000)) + "done\n"
+
+
 def feeds(size):
     """Empty lines."""
     return "\n" * (size or 2 ** 24)
@@ -170,6 +191,9 @@ SESSIONS = {
     "translations": translations,
     "lone_words": lone_words,
     "tree": tree,
+    "fan": fan,
+    "explained_builds": explained_builds,
+    "sum_class_lines": sum_class_lines,
     "refused_size": refused_size,
     "refused_distance": refused_distance,
     "refused_few": refused_few,

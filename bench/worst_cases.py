@@ -126,6 +126,26 @@ def nested_to_the_limit(size):
     return filled(size, "[" * 78 + "]" * 78 + ",", HEAD + "words = [", "1]")
 
 
+PARTS = ".a" * 78
+
+
+def long_keys(size):
+    """Keys of 79 parts, each a table in a table."""
+    return filled(size, lambda i: f"k{i}{PARTS}=1\n", HEAD)
+
+
+def long_heads(size):
+    return filled(size, lambda i: f"[h{i}{PARTS}]\n", HEAD)
+
+
+def long_keys_in_lists(size):
+    return filled(size, f"{{a{PARTS}=1}},", HEAD + "words = [", "1]")
+
+
+def long_keys_of_tables_in_lists(size):
+    return filled(size, f"[[a]]\nb{PARTS}=1\n", HEAD)
+
+
 def dots(size):
     return HEAD + "a" + ".a" * ((size - 100) // 2) + "=1"
 
@@ -188,6 +208,11 @@ def long_basis(part):
     return submit("a", cosets(28, 3, linear(28, 23 - part + 1)))
 
 
+def come_and_go(document):
+    """64 MiB in which one piece comes and goes."""
+    return lambda part: filled(LIMIT // part, submit("a", document) + "withdraw a\n")
+
+
 def close_last(part):
     """A basis whose sum alone is too close to nothing."""
     basis = linear(28, 23 - part + 1)
@@ -201,6 +226,10 @@ def partition_at_the_limit(part):
     """16,384 words in 4,096 classes of four."""
     list_ = sorted(span(linear(24, 15 - part)))
     return submit("a", partition(24, 3, 3, [list_[i:i + 4] for i in range(0, len(list_), 4)]))
+
+
+def partition_of_one_class():
+    return partition(24, 3, 3, [sorted(span(linear(24, 14)))])
 
 
 def product_of_pairs(count):
@@ -218,7 +247,7 @@ def product_of_pairs(count):
     return make
 
 
-def large_product(_):
+def large_product():
     """A product of one pair of partitions of the words of even weight of length 9 in 16 classes."""
     classes = {}
     for x in range(2 ** 9):
@@ -231,12 +260,23 @@ def large_product(_):
     return submit("x", one) + submit("product", "kind = 'product'\nn = 18\nd = 4\npairs = [['x', 'x']]\n")
 
 
+def shortened_products(part):
+    """A product that is shortened, so that its words are made, again and again."""
+    shorter = build("shorten", 17, 4, "product", "places = [0]\ndigits = '0'\n")
+    return large_product() + (submit("s", shorter) + "withdraw s\n") * (200 // part)
+
+
 def part_of_builds(k=18):
     return submit("c0", cosets(26, 3, linear(26, k)))
 
 
 def by(number, n):
     return f"by = '{text(number * 32452843 % 2 ** n, n)}'\n"
+
+
+def builds_come_and_go(document):
+    """A build over 262,144 words that comes and goes 40 times."""
+    return lambda part: part_of_builds() + (submit("x", document) + "withdraw x\n") * (40 // part)
 
 
 def chain_of_great_builds(part):
@@ -309,9 +349,19 @@ def refused_taken(part):
     return filled(LIMIT // part, one)
 
 
-def refused_long_documents(part):
+def refused_long_documents(make):
     """As many documents of 4 MiB as fit."""
-    return submit("a", all_keys(DOCUMENT - 64)) * (16 // part)
+    return lambda part: submit("a", make(DOCUMENT - 64)) * (16 // part)
+
+
+def great_dumps(part):
+    """Dumps of sixteen documents of 3.5 MiB."""
+    pad = "#" * int(3.5 * 2 ** 20) + "\n"
+    return "".join(submit(f"q{i}", words(10, 4, [i]) + pad) for i in range(16)) + "dump\n" * (4 // part)
+
+
+def long_line_of_a_document(part):
+    return "submit a\n" + "x" * (LIMIT // part - 9)
 
 
 def dumps(part):
@@ -326,8 +376,8 @@ def repeated(line):
     return lambda part: filled(LIMIT // part, line)
 
 
-def lists(part):
-    return "list 30 3\n" * (20 // part)
+def lists(entry, count):
+    return lambda part: f"list {entry}\n" * (count // part)
 
 
 def explain_all(part):
@@ -340,20 +390,24 @@ def explain_over_many(part):
     return thousand_pieces(1) + "".join(f"explain {side} {n} 4\n" for n in LENGTHS for side in ("lower", "upper")) * (20 // part)
 
 
+# The first 29 bytes of ids that are alike as long as a thousand can be.
+ALIKE = "a" * 29
+
+
 def eight_pairs():
     """Sixteen partitions, and a product of eight pairs of them, which is accepted."""
     out, names = [], []
     for i in range(8):
         for side, weight in (("x", 2 * i), ("y", 14 - 2 * i)):
-            out.append(submit(f"{side}{'a' * 30}{i}", partition(14, 4, 4, [[(1 << weight) - 1]], weight)))
-        names.append([f"x{'a' * 30}{i}", f"y{'a' * 30}{i}"])
+            out.append(submit(f"{ALIKE}{side}0{i}", partition(14, 4, 4, [[(1 << weight) - 1]], weight)))
+        names.append([f"{ALIKE}x0{i}", f"{ALIKE}y0{i}"])
     return "".join(out), f"kind = 'product'\nn = 28\nd = 4\nw = 14\npairs = {names}\n"
 
 
 def explain_over_products(part):
-    """Bounds explained over 984 products, each of which names sixteen ids."""
+    """Bounds explained over 984 products, each of which names sixteen ids, all ids alike in 29 bytes."""
     partitions, product = eight_pairs()
-    return partitions + "".join(submit(f"p{i}", product) for i in range(984)) + "explain lower 1 3\n" * (20 // part)
+    return partitions + "".join(submit(f"{ALIKE}{i:03}", product) for i in range(984)) + "explain lower 1 3\n" * (20 // part)
 
 
 def explain_great_documents(part):
@@ -412,6 +466,17 @@ def derivation_of_long_line(part):
     return filled(LIMIT // part, " 1", "derivation\nline 1 lower 4 4 value 2 by L3 from", "\ndone\n")
 
 
+def derivation_of_long_keys(part):
+    return f"derivation\nevidence a\n{long_keys((DOCUMENT - 64) // part)}end\ndone\n"
+
+
+def derivation_of_trims(part):
+    """Trims of a coset code of 262,144 words, whose words are listed for each."""
+    code = f"evidence c\n{cosets(26, 3, linear(26, 18))}end\n"
+    trims = "".join(f"evidence t{i}\n{build('trim', 26, 3, 'c', 'size = 1' + chr(10))}end\n" for i in range(999 // part))
+    return f"derivation\n{code}{trims}line 1 lower 3 4 value 1 by L1\ndone\n"
+
+
 def derivation_of_evidence(part):
     document = "".join(f"'{text(x, 24)}'," for x in sorted(span(linear(24, 13))))
     return filled(LIMIT // part, lambda i: f"evidence e{i}\nkind='words'\nn=24\nd=3\nwords=[{document}]\nend\n", "derivation\n", "line 1 lower 3 4 value 1 by L1\ndone\n")
@@ -438,6 +503,10 @@ CASES = {
     "all_heads": ("session", as_document(all_heads), True, "4 MiB of headers of tables"),
     "all_tables_in_lists": ("session", as_document(all_tables_in_lists), True, "4 MiB of headers of tables in a list"),
     "dotted_keys": ("session", as_document(dotted_keys), True, "4 MiB of dotted keys of one table"),
+    "long_keys": ("session", as_document(long_keys), True, "4 MiB of keys of 79 parts"),
+    "long_heads": ("session", as_document(long_heads), True, "4 MiB of headers of 79 parts"),
+    "long_keys_in_lists": ("session", as_document(long_keys_in_lists), True, "4 MiB of inline tables with keys of 79 parts"),
+    "long_keys_of_tables_in_lists": ("session", as_document(long_keys_of_tables_in_lists), True, "4 MiB of tables in a list with keys of 79 parts"),
     "dots": ("session", as_document(dots), True, "4 MiB of parts of one key"),
     "nesting": ("session", as_document(nesting), True, "4 MiB of nested lists"),
     "nested_to_the_limit": ("session", as_document(nested_to_the_limit), True, "4 MiB of lists of 79 levels"),
@@ -448,7 +517,9 @@ CASES = {
     "floats": ("session", as_document(floats), True, "4 MiB of floats"),
     "list_of_texts": ("session", as_document(list_of_texts), True, "123,000 words, refused for their number"),
     "empty_lines": ("session", as_document(empty_lines), True, "a document of 4 Mi empty lines"),
-    "refused_long_documents": ("session", refused_long_documents, True, "16 refused documents of 4 MiB"),
+    "refused_long_documents": ("session", refused_long_documents(all_keys), True, "16 refused documents of 4 MiB of keys"),
+    "refused_long_keys": ("session", refused_long_documents(long_keys), True, "16 refused documents of 4 MiB of keys of 79 parts"),
+    "long_line_of_a_document": ("session", long_line_of_a_document, True, "one line of 64 MiB in a document"),
     "words": ("session", pairs(14), False, "16,384 words, accepted"),
     "words_close": ("session", pairs(14, True), False, "16,384 words, the last two too close"),
     "words_equal": ("session", equal_last, False, "16,384 words, the last two equal"),
@@ -457,9 +528,14 @@ CASES = {
     "long_basis": ("session", long_basis, False, "23 basis words"),
     "cosets_close": ("session", close_last, False, "24 basis words, their sum alone too close"),
     "partition": ("session", partition_at_the_limit, False, "16,384 words in 4,096 classes"),
-    "product": ("session", large_product, False, "a product of one pair of 256 words in classes"),
+    "long_bases": ("session", come_and_go(cosets(28, 3, linear(28, 23))), True, "64 MiB of 23 basis words that come and go"),
+    "partitions_of_one_class": ("session", come_and_go(partition_of_one_class()), True, "64 MiB of a partition of one class of 16,384 words that comes and goes"),
+    "product": ("session", lambda _: large_product(), False, "a product of one pair of 256 words in classes"),
     "product_of_31_pairs": ("session", product_of_pairs(31), False, "a product of 31 pairs, refused"),
     "product_of_8_pairs": ("session", product_of_pairs(8), False, "a product of 8 pairs"),
+    "translations": ("session", builds_come_and_go(build("translate", 26, 3, "c0", by(1, 26))), True, "a translation of 262,144 words comes and goes 40 times"),
+    "shortened": ("session", builds_come_and_go(build("shorten", 25, 3, "c0", "places = [0]\ndigits = '0'\n")), True, "262,144 words shortened come and go 40 times"),
+    "shortened_products": ("session", shortened_products, True, "a product of 4,096 words shortened comes and goes 200 times"),
     "great_builds": ("session", chain_of_great_builds, True, "40 builds of 262,144 words, three stored"),
     "refused_builds": ("session", refused_builds, True, "20 builds over 262,144 words, with no word"),
     "duals": ("session", greatest_duals(), True, "1,000 duals of the greatest multipliers"),
@@ -476,7 +552,9 @@ CASES = {
     "refused_taken": ("session", refused_taken, True, "64 MiB of submissions under one id"),
     "dumps": ("session", dumps, True, "16 dumps of 983,040 stored words"),
     "ledgers": ("session", ledgers, True, "`ledger` 1,000 times over 1,000 pieces"),
-    "lists": ("session", lists, True, "`list 30 3` 20 times"),
+    "lists": ("session", lists("30 3", 20), True, "`list 30 3` 20 times"),
+    "lists_with_weight": ("session", lists("30 4 15", 20), True, "`list 30 4 15` 20 times"),
+    "great_dumps": ("session", great_dumps, True, "4 dumps of documents of 56 MiB"),
     "explain_all": ("session", explain_all, True, "all 15,540 explanations over Golay's code"),
     "explain_over_many": ("session", explain_over_many, True, "1,200 explanations over 1,000 pieces"),
     "explain_over_products": ("session", explain_over_products, True, "20 explanations over 984 products of 8 pairs"),
@@ -486,6 +564,8 @@ CASES = {
     "derivation_of_sum_classes": ("verify", derivation_of_sum_classes, True, "4 MiB of lines that each count a sum class"),
     "derivation_of_columns": ("verify", derivation_of_columns, True, "64 MiB of lines that each try most numbers of words"),
     "derivation_of_long_line": ("verify", derivation_of_long_line, True, "one line of 64 MiB"),
+    "derivation_of_long_keys": ("verify", derivation_of_long_keys, True, "evidence of 4 MiB of keys of 79 parts"),
+    "derivation_of_trims": ("verify", derivation_of_trims, True, "999 trims of 262,144 words"),
     "derivation_of_evidence": ("verify", derivation_of_evidence, True, "64 MiB of evidence of 8,192 words each"),
     "finds": ("find", all_finds, False, "a dual for each entry without weight"),
     "finds_of_length_30": ("find", finds_of("30 3", 1000), True, "a dual of A(30,3) 1,000 times"),
@@ -497,7 +577,7 @@ CASES = {
 
 
 # What is too long to be kept goes to /dev/null, and is not counted.
-TO_NOWHERE = {"lists"}
+TO_NOWHERE = {"lists", "lists_with_weight"}
 
 
 # ---- runs
