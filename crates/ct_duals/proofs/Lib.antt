@@ -11,5 +11,5 @@ pub mod Premises
 pub mod SomeBound
 pub mod LocalCodes
 pub mod LocalBound
-mod SchemesOfEntries
+pub mod SchemesOfEntries
 pub mod SoundDuals

@@ -7,9 +7,7 @@ mod check;
 mod dual;
 mod fault;
 mod form;
-mod laws;
 mod premise;
-mod scheme_laws;
 mod schemes;
 
 pub use accepted::Accepted;
@@ -18,12 +16,4 @@ pub use check::check_dual;
 pub use dual::{Allowances, Dual, Multipliers};
 pub use fault::DualFault;
 pub use form::{are_allowances, are_multipliers, degree, is_in_range};
-pub use laws::{
-    accepted_duals_bound_codes, accepted_duals_bound_codes_about_words,
-    bounds_of_duals_are_monotone, faults_of_duals,
-};
-pub use scheme_laws::{
-    accepted_duals_are_sound, duals_bound_codes, known_duals, known_local_bounds,
-    known_standing_duals,
-};
 pub use schemes::check_dual_of_table;

@@ -10,7 +10,6 @@ mod pivot;
 mod primal;
 mod primal_check;
 mod primal_fault;
-mod primal_laws;
 mod reading;
 mod row;
 mod run_laws;
@@ -22,7 +21,6 @@ pub use found::{Found, Stop};
 pub use primal::Primal;
 pub use primal_check::check_primal;
 pub use primal_fault::PrimalFault;
-pub use primal_laws::{known_primals, primals_lie_below_duals, sound_primals_have_no_fault};
 pub use run_laws::{
     gcd_is_greatest, known_numbers_of_primals, known_runs, known_wide_entries,
     least_duals_are_accepted, least_primals_are_sound, ones_are_accepted,

@@ -2,29 +2,20 @@
 #![tactic(auto)]
 
 mod check;
-mod class_laws;
 mod class_listing;
 mod class_sizes;
 mod close;
 mod fault;
 mod largest_class;
-mod laws;
 mod listing;
 mod partition;
 mod product;
 
 pub use check::{check_partition, partition_fault, word_count, wrong_count};
-pub use class_laws::{
-    known_largest_classes, known_sum_classes, sum_classes_are_codes, words_of_sum_classes,
-};
 pub use class_listing::sum_class_list;
 pub use class_sizes::{sum_class_count, sum_class_sizes};
 pub use fault::{MAX_CLASSES, PartitionFault};
 pub use largest_class::{LargestClass, largest_sum_classes};
-pub use laws::{
-    faultless_lists_are_partitions, known_partitions, known_products, products_are_codes,
-    words_of_partitions,
-};
 pub use listing::product_list;
 pub use partition::Partition;
 pub use product::{product_distance, product_size};

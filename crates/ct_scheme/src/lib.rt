@@ -2,8 +2,6 @@
 #![tactic(auto)]
 
 mod johnson;
-mod laws;
 mod numbers;
 
 pub use johnson::Johnson;
-pub use laws::johnson_sums_are_sums_of_squares;

@@ -3,9 +3,7 @@
 #![tactic(auto)]
 
 mod alternating;
-mod counting_laws;
 mod counts;
-mod laws;
 mod limits;
 mod metric;
 mod text;
@@ -14,12 +12,7 @@ mod word;
 mod word_list;
 
 pub use alternating::add_alternating;
-pub use counting_laws::{binomial_laws, pair_list_laws, word_laws};
 pub use counts::{ball, binomial, factorial};
-pub use laws::{
-    distance_is_metric, distance_is_weight_of_sum, golay_words, texts_are_words,
-    words_are_ordered_as_texts,
-};
 pub use limits::{MAX_BOUND, MAX_N};
 pub use metric::{distance, weight};
 pub use text::{parse_word, print_word};

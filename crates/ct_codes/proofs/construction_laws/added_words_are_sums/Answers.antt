@@ -1,5 +1,0 @@
-use Rattle.ct_codes.proofs.Constructions.SumLemmas.{IsSum-translated, IsSum-uuv}
-use Rattle.ct_codes.proofs.construction_laws.added_words_are_sums.Goals as goal
-
-pub returns : goal.returns
-returns c = record { translate = IsSum-translated; uuv = IsSum-uuv }
