@@ -63,6 +63,7 @@ pub fn premise(supports: &[Support], rule: Rule, entry: Entry, j: usize) -> Opti
 }
 
 /// The bound that the rule gives at an entry where it is defined and its premises have these values, as `value` says.
+#[inline(always)]
 pub fn value_where_defined(
     supports: &[Support],
     rule: Rule,

@@ -28,6 +28,7 @@ use ct_words::binomial;
 
 /// The side of the bounds that the rule gives.
 #[tactic(auto, unfolding(crate::specs::Rule::row_of))]
+#[inline(always)]
 pub fn rule_side(rule: Rule) -> Side
     ensures { result ≡ rule_side rule }
 {
@@ -126,6 +127,7 @@ fn bound_of_local(supports: &[Support], place: u32, entry: Entry, values: &[u32]
 
 /// What `rests_on` says at A(n,d).
 #[tactic(auto, unfolding(crate::specs::Rule::row_of))]
+#[inline(always)]
 fn rests_on_without_weight(supports: &[Support], rule: Rule, n: u32, d: u32) -> Option<Entries<'_>>
     requires { IsEntry (unrestricted n d) }
     ensures { option_map listed result
@@ -161,6 +163,7 @@ fn rests_on_without_weight(supports: &[Support], rule: Rule, n: u32, d: u32) -> 
 
 /// What `rests_on` says at A(n,d,w).
 #[tactic(auto, unfolding(crate::specs::Rule::row_of))]
+#[inline(always)]
 fn rests_on_with_weight(
     supports: &[Support],
     rule: Rule,
@@ -200,6 +203,7 @@ fn rests_on_with_weight(
 
 /// The entries whose bounds the rule rests on at an entry of the table, in order, where its condition holds there, over the
 /// support that it names; else `None`.
+#[inline(always)]
 pub fn rests_on(supports: &[Support], rule: Rule, entry: Entry) -> Option<Entries<'_>>
     requires { IsEntry entry }
     ensures { option_map listed result
@@ -215,6 +219,7 @@ pub fn rests_on(supports: &[Support], rule: Rule, entry: Entry) -> Option<Entrie
 /// The number that the rule gives at an entry of the table where what it rests on has these values, before the limit of a
 /// bound is laid on it.
 #[tactic(auto, unfolding(crate::specs::Rule::row_of))]
+#[inline(always)]
 pub(crate) fn number(supports: &[Support], rule: Rule, entry: Entry, values: &[u32]) -> Option<u64>
     requires { IsEntry entry }
     ensures { result ≡ (parts_over supports.now rule).number entry values.now }
@@ -258,6 +263,7 @@ pub(crate) fn number(supports: &[Support], rule: Rule, entry: Entry, values: &[u
 /// The entries among which are all that rest on this one, which has to be in the table, by the rule, which has to have
 /// neither numbers nor a support, nor to lead from entries with weight to those without.
 #[tactic(auto, unfolding(crate::specs::Rule::row_of))]
+#[inline(always)]
 pub fn rested_on_by(rule: Rule, entry: Entry) -> Entries<'static>
     requires entry { IsEntry entry }
     requires alone { is_alone rule ≡ true }
