@@ -7,7 +7,7 @@ use Rattle.ct_fields.specs.Steps.{◌>>=◌, check}
 use Rattle.ct_fields.specs.LastFields.{last_fields}
 use Rattle.ct_fields.specs.HasCites.{HasLast}
 use Rattle.ct_fields.specs.declared.field.FieldName.TheVariants as name
-use Rattle.ct_fields.specs.declared.fault.FileFault.TheVariants.{Field, Digits}
+use Rattle.ct_fields.specs.declared.fault.DocumentFault.TheVariants.{Field, Digits}
 use Rattle.ct_kind.specs.declared.evidence.Evidence.TheVariants.{Build}
 use Rattle.ct_build_files.specs.BuildEntry.{build_entry_of}
 use Rattle.ct_build_files.specs.Operation.{operation_of, makes_length, takes_weight, build_fields}

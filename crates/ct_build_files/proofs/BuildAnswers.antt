@@ -23,8 +23,8 @@ use Rattle.ct_kind.specs.declared.evidence.Evidence.TheVariants.{Build}
 use Rattle.ct_fields.specs.declared.field.FieldName.TheVariants as name
 use Rattle.ct_build_files.specs.declared.operation.Operation.{Operation}
 use Rattle.ct_build_files.specs.declared.operation.Operation.TheVariants.{Lengthen, AppendOne, Parity, Puncture, Shorten, Translate, Complement, Select, Uuv, Juxtapose, Trim}
-use Rattle.ct_fields.specs.declared.fault.FileFault.{FileFault}
-use Rattle.ct_fields.specs.declared.fault.FileFault.TheVariants.{Field, Unknown}
+use Rattle.ct_fields.specs.declared.fault.DocumentFault.{DocumentFault}
+use Rattle.ct_fields.specs.declared.fault.DocumentFault.TheVariants.{Field, Unknown}
 use Rattle.ct_fields.proofs.StepLemmas.{bind-ok, bind-at}
 use Rattle.ct_fields.proofs.FieldLemmas.{number_field-ok, number_field-from}
 use Rattle.ct_fields.proofs.LastLemmas.{last_fields-from}
@@ -69,7 +69,7 @@ digits_found make count text s e = at (digits_of count text) refl e where
 
 -- a step without fields
 plain_step : (o : Operation) (e : Entry) (document : Data) (s t : Step)
-    → ◌≡◌ {A = Result (Option Step) FileFault} (Ok (Some s)) (Ok (Some t)) → IsStep o e document s → IsStep o e document t
+    → ◌≡◌ {A = Result (Option Step) DocumentFault} (Ok (Some s)) (Ok (Some t)) → IsStep o e document s → IsStep o e document t
 plain_step o e document s t read is = let same : s ≡ t = cc in subst (IsStep o e document) same is
 
 -- a step that is read has its fields in the document and fits the entry

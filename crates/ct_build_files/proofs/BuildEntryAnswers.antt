@@ -11,8 +11,8 @@ use Rattle.ct_fields.specs.StatedEntry.{has_field, distance_beside, weight_field
 use Rattle.ct_fields.specs.StatesEntry.{StatesEntry}
 use Rattle.ct_fields.specs.declared.field.FieldName.{FieldName}
 use Rattle.ct_fields.specs.declared.field.FieldName.TheVariants.{N, D, W, Op}
-use Rattle.ct_fields.specs.declared.fault.FileFault.{FileFault}
-use Rattle.ct_fields.specs.declared.fault.FileFault.TheVariants.{Field}
+use Rattle.ct_fields.specs.declared.fault.DocumentFault.{DocumentFault}
+use Rattle.ct_fields.specs.declared.fault.DocumentFault.TheVariants.{Field}
 use Rattle.ct_fields.proofs.StepLemmas.{bind-ok, bind-err, bind-at, bind-at_err, only_fault}
 use Rattle.ct_fields.proofs.FieldLemmas.{bytes_eq-true, bytes_eq-self, number_field-ok, number_field-from}
 use Rattle.ct_fields.proofs.EntryAnswers.{number_field-err, distance-ok, distance-from, distance_beside-err, weight_field-ok, weight_field-from, weight_field-err}
@@ -112,7 +112,7 @@ stated-from document e states =
     ∙ bind-at (weight_field e.n document) _ e.w (weight_field-from e.n document e.w states.with_weight)
 
 -- its fault is its first wrong field
-pub stated-err : (document : Data) (fault : FileFault) → build_entry_of document ≡ Err fault
+pub stated-err : (document : Data) (fault : DocumentFault) → build_entry_of document ≡ Err fault
     → (name : FieldName) × (Field name ≡ fault) × IsBuildEntryFault document name
 unfolding build_entry_of
 stated-err document fault read =

@@ -17,8 +17,8 @@ use Rattle.ct_fields.specs.HasCites.{HasLast}
 use Rattle.ct_fields.specs.Tables.{IsOfKind, IsWordText}
 use Rattle.ct_fields.specs.declared.field.FieldName.{FieldName}
 use Rattle.ct_fields.specs.declared.field.FieldName.TheVariants as name
-use Rattle.ct_fields.specs.declared.fault.FileFault.{FileFault}
-use Rattle.ct_fields.specs.declared.fault.FileFault.TheVariants.{Field, Unknown, Digits}
+use Rattle.ct_fields.specs.declared.fault.DocumentFault.{DocumentFault}
+use Rattle.ct_fields.specs.declared.fault.DocumentFault.TheVariants.{Field, Unknown, Digits}
 use Rattle.ct_kind.specs.declared.evidence.Evidence.{Evidence}
 use Rattle.ct_kind.specs.declared.evidence.Evidence.TheVariants.{Build}
 use Rattle.ct_build_files.specs.BuildEntry.{build_entry_of}
@@ -108,17 +108,17 @@ own_read Trim n document (size, has) =
     (Some (step.Trim size), bind-at (number_field name.Size 1 MAX_BUILT document) _ size (number_field-from name.Size 1 MAX_BUILT document size has))
 
 -- the fault of a text that is missing
-text_err : (name : FieldName) (document : Data) (other : FileFault) → field as_str name document ≡ Err other
+text_err : (name : FieldName) (document : Data) (other : DocumentFault) → field as_str name document ≡ Err other
     → (Field name ≡ other) × ((text : List ℕ) → ¬ (HasText name document text))
 text_err name document other e =
     ((ok_or-err _ (Field name) other e).1, λ text has. let read = text_field-from name document text has in absurd cc)
 
-places_err : (n : ℕ) (document : Data) (other : FileFault) → field (places_in n) name.Places document ≡ Err other
+places_err : (n : ℕ) (document : Data) (other : DocumentFault) → field (places_in n) name.Places document ≡ Err other
     → (Field name.Places ≡ other) × ((places : List ℕ) → ¬ (HasPlaces n document places))
 places_err n document other e =
     ((ok_or-err _ (Field name.Places) other e).1, λ places has. let read = read_places n document places has in absurd cc)
 
-by_err : (n : ℕ) (document : Data) (other : FileFault) → by_field n document ≡ Err other
+by_err : (n : ℕ) (document : Data) (other : DocumentFault) → by_field n document ≡ Err other
     → (Field name.By ≡ other) × ((text : List ℕ) → ¬ (HasText name.By document text))
 by_err n document other e =
     elim (bind-err (field as_str name.By document) _ other e) [
@@ -127,7 +127,7 @@ by_err n document other e =
     ]
 
 -- the fault of an operation's own fields is that of the first that is missing or wrong
-own_err : (o : Operation) (e : Entry) (document : Data) (other : FileFault) → SuitsEntry document e o → step_fields o e.n document ≡ Err other
+own_err : (o : Operation) (e : Entry) (document : Data) (other : DocumentFault) → SuitsEntry document e o → step_fields o e.n document ≡ Err other
     → IsBuildFault document other
 unfolding step_fields
 own_err Lengthen e document other suits read = absurd cc
@@ -247,7 +247,7 @@ wrong_text-from Select n document (text, stands, never) =
 wrong_text-from operation n document never = absurd never
 
 -- the other piece: its fault, and its id
-other_err : (o : Operation) (document : Data) (other : FileFault) → other_field o document ≡ Err other
+other_err : (o : Operation) (document : Data) (other : DocumentFault) → other_field o document ≡ Err other
     → (Field name.Other ≡ other) × (takes_other o ≡ true) × ((id : List ℕ) → ¬ (HasId name.Other document id))
 other_err o document other e = at (takes_other o) refl e where
   at : (b : Bool) → takes_other o ≡ b → (if b then (id_field name.Other document >>= (λ id. Ok (Some id))) else Ok None) ≡ Err other
@@ -280,7 +280,7 @@ pub build_answer : (ms : Members) → IsOfKind (codes "build") (table ms) → Is
 unfolding build_evidence_of
 build_answer ms of_kind =
     let document = table ms in
-    let P : Result Evidence FileFault → Type 0 = IsBuildAnswer document in
+    let P : Result Evidence DocumentFault → Type 0 = IsBuildAnswer document in
     bind-cases P (build_entry_of document) _ (λ e e-is.
     bind-cases P (operation_field document) _ (λ o o-is.
     let stated : StatesOperation document e o = record { entry = stated-ok document e e-is; operation = operation_field-ok document o o-is } in
@@ -427,7 +427,7 @@ no_operation document e entry never =
     (only_fault (operation_field document) (Field name.Op) (λ o read. never o (operation_field-ok document o read)) (λ other read. (ok_or-err _ (Field name.Op) other read).1))
 
 -- each fault comes where it is said to come
-fault_from : (ms : Members) (f : FileFault) → IsBuildFault (table ms) f → build_evidence_of (table ms) ≡ Err f
+fault_from : (ms : Members) (f : DocumentFault) → IsBuildFault (table ms) f → build_evidence_of (table ms) ≡ Err f
 fault_from ms (Field name.N) (inl first) = entry_first (table ms) name.N first
 fault_from ms (Field name.N) (inr (e, o, stated, out)) =
     read_operation (table ms) e o stated ∙ bind-at_err (check (makes_length o e.n) (Field name.N)) _ (Field name.N) (ap (λ b. check b (Field name.N)) out)
@@ -468,12 +468,12 @@ fault_from ms (Digits i) (e, o, both, last, wrong, is) =
 fault_from ms other never = absurd never
 
 -- and each answer comes there
-pub build_answers-from : (ms : Members) (answer : Result Evidence FileFault) → IsBuildAnswer (table ms) answer → build_evidence_of (table ms) ≡ answer
+pub build_answers-from : (ms : Members) (answer : Result Evidence DocumentFault) → IsBuildAnswer (table ms) answer → build_evidence_of (table ms) ≡ answer
 build_answers-from ms (Ok (Build e s part other)) states = build_answer-from ms e s part other states
 build_answers-from ms (Ok other) never = absurd never
 build_answers-from ms (Err f) comes = fault_from ms f comes
 
 -- the answer to a document of kind build comes exactly where it is said to come
-pub build_answers : (ms : Members) → IsOfKind (codes "build") (table ms) → (answer : Result Evidence FileFault)
+pub build_answers : (ms : Members) → IsOfKind (codes "build") (table ms) → (answer : Result Evidence DocumentFault)
     → (build_evidence_of (table ms) ≡ answer) ↔ IsBuildAnswer (table ms) answer
 build_answers ms of_kind answer = (λ same. subst (IsBuildAnswer (table ms)) same (build_answer ms of_kind), build_answers-from ms answer)

@@ -21,7 +21,7 @@ use Rattle.ct_fields.specs.declared.field.FieldName.{FieldName}
 use Rattle.ct_fields.specs.declared.field.FieldName.TheVariants as name
 use Rattle.ct_build_files.specs.declared.operation.Operation.{Operation}
 use Rattle.ct_build_files.specs.declared.operation.Operation.TheVariants.{Lengthen, AppendOne, Parity, Puncture, Shorten, Translate, Complement, Select, Uuv, Juxtapose, Trim}
-use Rattle.ct_fields.specs.declared.fault.FileFault.TheVariants.{Field}
+use Rattle.ct_fields.specs.declared.fault.DocumentFault.TheVariants.{Field}
 use Rattle.ct_fields.proofs.StepLemmas.{ok_or-ok}
 use Rattle.ct_fields.proofs.IdTexts.{id_in-some}
 use Rattle.ct_fields.proofs.FieldLemmas.{bytes_eq-true}

@@ -12,11 +12,11 @@ use Rattle.ct_build_files.specs.declared.operation.Operation.{Operation}
 use Rattle.ct_kind.specs.declared.evidence.Evidence.{Evidence}
 use Rattle.ct_kind.specs.declared.evidence.Evidence.TheVariants.{Build}
 use Rattle.ct_fields.specs.declared.field.FieldName.TheVariants as name
-use Rattle.ct_fields.specs.declared.fault.FileFault.{FileFault}
-use Rattle.ct_fields.specs.declared.fault.FileFault.TheVariants.{Field, Digits}
+use Rattle.ct_fields.specs.declared.fault.DocumentFault.{DocumentFault}
+use Rattle.ct_fields.specs.declared.fault.DocumentFault.TheVariants.{Field, Digits}
 
 -- the evidence of a build by the operation with the step that is found, none where a text of digits is wrong
-abbrev pub build_with : Entry → Operation → Option Step → Data → Result Evidence FileFault
+abbrev pub build_with : Entry → Operation → Option Step → Data → Result Evidence DocumentFault
 build_with e operation found document = do
   part ← id_field name.Part document
   other ← other_field operation document
@@ -25,7 +25,7 @@ build_with e operation found document = do
   Ok (Build e step part other)
 
 -- the evidence of a build by the operation, for the entry
-abbrev pub build_by : Entry → Operation → Data → Result Evidence FileFault
+abbrev pub build_by : Entry → Operation → Data → Result Evidence DocumentFault
 build_by e operation document = do
   check (makes_length operation e.n) (Field name.N)
   check (takes_weight operation e.w) (Field name.W)
@@ -33,7 +33,7 @@ build_by e operation document = do
   build_with e operation found document
 
 -- the evidence of a document of kind build: the fields of the operation come before the part, and the text of digits is judged after the cites and the keys
-unfoldable pub build_evidence_of : Data → Result Evidence FileFault
+unfoldable pub build_evidence_of : Data → Result Evidence DocumentFault
 build_evidence_of document = do
   e ← build_entry_of document
   operation ← operation_field document

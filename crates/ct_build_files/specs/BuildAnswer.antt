@@ -10,8 +10,8 @@ use Rattle.ct_fields.specs.HasCites.{HasRightCites, HasWrongCites, HasOther, Has
 use Rattle.ct_fields.specs.StatesEntry.{HasLength, HasDistanceBeside, HasWeight}
 use Rattle.ct_fields.specs.declared.field.FieldName.{FieldName}
 use Rattle.ct_fields.specs.declared.field.FieldName.TheVariants as name
-use Rattle.ct_fields.specs.declared.fault.FileFault.{FileFault}
-use Rattle.ct_fields.specs.declared.fault.FileFault.TheVariants.{Field, Unknown, Digits}
+use Rattle.ct_fields.specs.declared.fault.DocumentFault.{DocumentFault}
+use Rattle.ct_fields.specs.declared.fault.DocumentFault.TheVariants.{Field, Unknown, Digits}
 use Rattle.ct_kind.specs.declared.evidence.Evidence.{Evidence}
 use Rattle.ct_kind.specs.declared.evidence.Evidence.TheVariants.{Build}
 use Rattle.ct_build_files.specs.Operation.{operation_text, makes_length, takes_weight, takes_other, build_fields}
@@ -94,7 +94,7 @@ IsWrongText operation n document = ⊥
 
 -- where each fault comes for a document of kind build; each line is the case that comes after those above it, but that a length or a weight that
 -- is stated is judged with the operation
-abbrev pub IsBuildFault : Data → FileFault → Type 0
+abbrev pub IsBuildFault : Data → DocumentFault → Type 0
 -- the length is missing or wrong, or the operation makes no words of this length
 IsBuildFault document (Field name.N) =
     IsBuildEntryFault document name.N ⊎ ((e : Entry) × (o : Operation) × StatesOperation document e o × IsFalse (makes_length o e.n))
@@ -129,7 +129,7 @@ IsBuildFault document (Digits i) =
 IsBuildFault document fault = ⊥
 
 -- where each answer comes for a document of kind build
-abbrev pub IsBuildAnswer : Data → Result Evidence FileFault → Type 0
+abbrev pub IsBuildAnswer : Data → Result Evidence DocumentFault → Type 0
 IsBuildAnswer document (Ok (Build e step part other)) = StatesBuild document e step part other
 IsBuildAnswer document (Ok other) = ⊥
 IsBuildAnswer document (Err fault) = IsBuildFault document fault

@@ -17,14 +17,14 @@ use Rattle.ct_fields.specs.declared.field.FieldName.{FieldName}
 use Rattle.ct_fields.specs.declared.field.FieldName.TheVariants as name
 use Rattle.ct_build_files.specs.declared.operation.Operation.{Operation}
 use Rattle.ct_build_files.specs.declared.operation.Operation.TheVariants.{Lengthen, AppendOne, Parity, Puncture, Shorten, Translate, Complement, Select, Uuv, Juxtapose, Trim}
-use Rattle.ct_fields.specs.declared.fault.FileFault.{FileFault}
+use Rattle.ct_fields.specs.declared.fault.DocumentFault.{DocumentFault}
 
 -- the operation whose text the value is
 abbrev pub operation_in : Data → Option Operation
 operation_in d = option_and_then operation_named (as_str d)
 
 -- the operation of the document
-abbrev pub operation_field : Data → Result Operation FileFault
+abbrev pub operation_field : Data → Result Operation DocumentFault
 operation_field document = field operation_in name.Op document
 
 -- whether the numbers ascend, the first one at least low, and are below high
@@ -46,13 +46,13 @@ unfoldable pub digits_of : ℕ → List ℕ → Option (List ℕ)
 digits_of count text = if length text == count && list_all is_binary_digit text then Some (map (λ b. b - 48) text) else None
 
 -- the word of length n that the text at `by` writes, none where it writes no such word
-abbrev pub by_field : ℕ → Data → Result (Option ℕ) FileFault
+abbrev pub by_field : ℕ → Data → Result (Option ℕ) DocumentFault
 by_field n document = do
   text ← field as_str name.By document
   Ok (word_of n text)
 
 -- the step of the operation, with its fields; none where the text of digits that is one of them is not of its length in digits `0` and `1`
-unfoldable pub step_fields : Operation → ℕ → Data → Result (Option Step) FileFault
+unfoldable pub step_fields : Operation → ℕ → Data → Result (Option Step) DocumentFault
 step_fields Lengthen n document = Ok (Some step.Lengthen)
 step_fields AppendOne n document = Ok (Some step.AppendOne)
 step_fields Parity n document = Ok (Some step.Parity)
@@ -77,10 +77,10 @@ step_fields Trim n document = do
   Ok (Some (step.Trim size))
 
 -- the id at the field
-abbrev pub id_field : FieldName → Data → Result (List ℕ) FileFault
+abbrev pub id_field : FieldName → Data → Result (List ℕ) DocumentFault
 id_field name document = field id_in name document
 
 -- the id of the other piece, where the operation takes one
-abbrev pub other_field : Operation → Data → Result (Option (List ℕ)) FileFault
+abbrev pub other_field : Operation → Data → Result (Option (List ℕ)) DocumentFault
 other_field operation document =
     if takes_other operation then (id_field name.Other document >>= (λ id. Ok (Some id))) else Ok None

@@ -12,13 +12,13 @@ use crate::entry::build_entry;
 use crate::operation::Operation;
 use ct_build::Step;
 use ct_codes::Entry;
-use ct_fields::{FieldName, FileFault, last_fields};
+use ct_fields::{FieldName, DocumentFault, last_fields};
 use ct_kind::Evidence;
 use std::alloc::Global;
 use toml::Value;
 
 /// Refuses wrong cites, and then another key than those of a build by the operation.
-fn last_build_fields(operation: Operation, document: &Value) -> Result<(), FileFault>
+fn last_build_fields(operation: Operation, document: &Value) -> Result<(), DocumentFault>
     ensures { result ≡ last_fields (build_fields operation) (view document.now) }
 {
     use FieldName::{By, D, Digits, N, Op, Other, Part, Places, Size, W};
@@ -42,7 +42,7 @@ fn build_with(
     operation: Operation,
     found: Option<Step>,
     document: &Value,
-) -> Result<Evidence, FileFault>
+) -> Result<Evidence, DocumentFault>
     ensures { result ≡ build_with entry operation found (view document.now) }
 {
     let part = id_field(document, FieldName::Part)?;
@@ -55,7 +55,7 @@ fn build_with(
             part,
             other,
         }),
-        None => Err(FileFault::Digits(0)),
+        None => Err(DocumentFault::Digits(0)),
     }
 }
 
@@ -65,16 +65,16 @@ fn build_by(
     entry: Entry,
     operation: Operation,
     document: &Value,
-) -> Result<Evidence, FileFault>
+) -> Result<Evidence, DocumentFault>
     requires some { 1 ≤ entry.n }
     requires room { entry.n ≤ MAX_N }
     ensures { Reads (λ evidence. evidence) result (build_by entry operation (view document.now)) }
 {
     if !operation.makes_length(entry.n) {
-        return Err(FileFault::Field(FieldName::N));
+        return Err(DocumentFault::Field(FieldName::N));
     }
     if !operation.takes_weight(entry.w) {
-        return Err(FileFault::Field(FieldName::W));
+        return Err(DocumentFault::Field(FieldName::W));
     }
     let found = step_fields(alloc, operation, entry.n, document)?;
     build_with(entry, operation, found, document)
@@ -82,7 +82,7 @@ fn build_by(
 
 /// The evidence that the document states, of kind build.
 #[tactic(auto, unfolding(crate::specs::Build::build_evidence_of))]
-pub fn build_evidence(alloc: Global, document: &Value) -> Result<Evidence, FileFault>
+pub fn build_evidence(alloc: Global, document: &Value) -> Result<Evidence, DocumentFault>
     ensures { Reads (λ evidence. evidence) result (build_evidence_of (view document.now)) }
 {
     let entry = build_entry(document)?;

@@ -9,22 +9,22 @@ ghost use Rattle.ct_build_files.specs.BuildFields.{operation_field, ascend, are_
 
 use crate::operation::Operation;
 use ct_build::{MAX_BUILT, Numbers, Step};
-use ct_fields::{FieldName, FileFault, all_of, id_in, number_field};
+use ct_fields::{FieldName, DocumentFault, all_of, id_in, number_field};
 use ct_text::Id;
 use ct_words::{MAX_N, Word, parse_word};
 use std::alloc::{AllocError, Global};
 use toml::Value;
 
 /// The operation.
-pub fn operation_field(document: &Value) -> Result<Operation, FileFault>
+pub fn operation_field(document: &Value) -> Result<Operation, DocumentFault>
     ensures { result ≡ operation_field (view document.now) }
 {
     match document.get(FieldName::Op.text()) {
         Some(Value::String(text)) => match Operation::named(text.as_str()) {
             Some(operation) => Ok(operation),
-            None => Err(FileFault::Field(FieldName::Op)),
+            None => Err(DocumentFault::Field(FieldName::Op)),
         },
-        _ => Err(FileFault::Field(FieldName::Op)),
+        _ => Err(DocumentFault::Field(FieldName::Op)),
     }
 }
 
@@ -55,7 +55,7 @@ fn are_left_out(n: u32, places: &[u32]) -> bool
 }
 
 /// The places whose leaving out makes words of length `n`.
-fn places_field(alloc: Global, n: u32, document: &Value) -> Result<Vec<u32>, FileFault>
+fn places_field(alloc: Global, n: u32, document: &Value) -> Result<Vec<u32>, DocumentFault>
     requires { n ≤ MAX_N }
     ensures { Reads (λ v. v.items) result (field (places_in n) FieldName.Places (view document.now)) }
 {
@@ -63,23 +63,23 @@ fn places_field(alloc: Global, n: u32, document: &Value) -> Result<Vec<u32>, Fil
         Some(Value::Array(values)) => match all_of::<u32>(alloc, values)? {
             Some(places) => {
                 if !are_left_out(n, &places) {
-                    return Err(FileFault::Field(FieldName::Places));
+                    return Err(DocumentFault::Field(FieldName::Places));
                 }
                 Ok(places)
             }
-            None => Err(FileFault::Field(FieldName::Places)),
+            None => Err(DocumentFault::Field(FieldName::Places)),
         },
-        _ => Err(FileFault::Field(FieldName::Places)),
+        _ => Err(DocumentFault::Field(FieldName::Places)),
     }
 }
 
 /// The text at the field.
-fn text_field(document: &Value, name: FieldName) -> Result<&str, FileFault>
+fn text_field(document: &Value, name: FieldName) -> Result<&str, DocumentFault>
     ensures { Reads (λ text. text.now) result (field as_str name (view document.now)) }
 {
     match document.get(name.text()) {
         Some(Value::String(text)) => Ok(text.as_str()),
-        _ => Err(FileFault::Field(name)),
+        _ => Err(DocumentFault::Field(name)),
     }
 }
 
@@ -103,7 +103,7 @@ fn digits_of(alloc: Global, count: usize, text: &[u8]) -> Result<Option<Vec<u32>
 
 /// The step that leaves out places where words have certain digits, where the text of the digits is right.
 #[tactic(auto, unfolding(crate::specs::BuildFields::step_fields))]
-fn shorten_fields(alloc: Global, n: u32, document: &Value) -> Result<Option<Step>, FileFault>
+fn shorten_fields(alloc: Global, n: u32, document: &Value) -> Result<Option<Step>, DocumentFault>
     requires { n ≤ MAX_N }
     ensures { Reads (λ found. found) result (step_fields Operation.Shorten n (view document.now)) }
 {
@@ -119,7 +119,7 @@ fn shorten_fields(alloc: Global, n: u32, document: &Value) -> Result<Option<Step
 }
 
 /// The word that the field `by` writes, where its text is right.
-fn by_field(n: u32, document: &Value) -> Result<Option<Word>, FileFault>
+fn by_field(n: u32, document: &Value) -> Result<Option<Word>, DocumentFault>
     requires some { 1 ≤ n }
     requires room { n ≤ MAX_N }
     ensures { Reads (λ by. by) result (by_field n (view document.now)) }
@@ -135,7 +135,7 @@ pub fn step_fields(
     operation: Operation,
     n: u32,
     document: &Value,
-) -> Result<Option<Step>, FileFault>
+) -> Result<Option<Step>, DocumentFault>
     requires some { 1 ≤ n }
     requires room { n ≤ MAX_N }
     ensures { Reads (λ found. found) result (step_fields operation n (view document.now)) }
@@ -162,20 +162,20 @@ pub fn step_fields(
 }
 
 /// The id at the field.
-pub fn id_field(document: &Value, name: FieldName) -> Result<Id, FileFault>
+pub fn id_field(document: &Value, name: FieldName) -> Result<Id, DocumentFault>
     ensures { result ≡ id_field name (view document.now) }
 {
     match document.get(name.text()) {
         Some(value) => match id_in(value) {
             Some(id) => Ok(id),
-            None => Err(FileFault::Field(name)),
+            None => Err(DocumentFault::Field(name)),
         },
-        None => Err(FileFault::Field(name)),
+        None => Err(DocumentFault::Field(name)),
     }
 }
 
 /// The id of the other piece, where the operation takes one.
-pub fn other_field(operation: Operation, document: &Value) -> Result<Option<Id>, FileFault>
+pub fn other_field(operation: Operation, document: &Value) -> Result<Option<Id>, DocumentFault>
     ensures { result ≡ other_field operation (view document.now) }
 {
     if !operation.takes_other() {

@@ -5,7 +5,7 @@ ghost use Rattle.ct_words.specs.declared.limits.TheConstants.{MAX_N};
 ghost use Rattle.ct_build_files.specs.BuildEntry.{selects, build_entry_of};
 
 use ct_codes::Entry;
-use ct_fields::{FieldName, FileFault, distance_beside, has_field, length_field, weight_field};
+use ct_fields::{FieldName, DocumentFault, distance_beside, has_field, length_field, weight_field};
 use toml::Value;
 
 /// Whether the operation of the document is the text `select`.
@@ -20,7 +20,7 @@ fn selects(document: &Value) -> bool
 
 /// The entry of the fields `n`, `d` and `w` of a build, of which `w` may be left out.
 #[tactic(auto, unfolding(crate::specs::BuildEntry::build_entry_of))]
-pub fn build_entry(document: &Value) -> Result<Entry, FileFault>
+pub fn build_entry(document: &Value) -> Result<Entry, DocumentFault>
     ensures entry { result ≡ build_entry_of (view document.now) }
     ensures length { IfOk result (λ e. (1 ≤ e.n) × (e.n ≤ MAX_N)) }
 {

@@ -10,7 +10,7 @@ ghost use Rattle.ct_rules.specs.declared.rule.Rule.{Rule};
 ghost use Rattle.ct_rules.specs.Closed.{AreTrue};
 ghost use Rattle.ct_rules.specs.Rule.{rule_side, applies};
 ghost use Rattle.ct_slots.specs.Number.{bound_of};
-ghost use Rattle.ct_slots.specs.Places.{ArePlaces};
+ghost use Rattle.ct_slots.specs.Places.{AreSupportPlaces};
 ghost use Rattle.ct_slots.specs.Worklist.{IsIdle};
 ghost use Rattle.ct_kept.specs.Kept.{IsKept, Grew, with_line_put, reason_of};
 ghost use Rattle.ct_offers.specs.Offers.{IsGiven, IsWithin};
@@ -124,7 +124,7 @@ fn pull(
     requires entry { IsEntry entry }
     requires stand { AllStand supports.now }
     requires kept { IsKept supports.now kept.now }
-    requires places { ArePlaces supports.now places.now }
+    requires places { AreSupportPlaces supports.now places.now }
     ensures given { IsGiven supports.now (bound_of kept.now.bounds) (side, entry) result.value result.rule }
     ensures within { (r : Rule) → rule_side r ≡ side → IsWithin supports.now (bound_of kept.now.bounds) (side, entry) result.value r }
 {
@@ -143,7 +143,7 @@ fn mark_from(
     evaluations: &mut u64,
 ) -> Result<(), AllocError>
     requires entry { IsEntry entry }
-    requires places { ArePlaces supports.now places.now }
+    requires places { AreSupportPlaces supports.now places.now }
     requires stand { AllStand supports.now }
     requires true_bounds { AreTrue (bound_of kept.now.bounds) }
     ensures tested { OnOk result (AreTested supports.now kept.now.bounds work.new (side, entry)) }
@@ -174,7 +174,7 @@ fn turn(
 ) -> Result<(), AllocError>
     requires entry { IsEntry entry }
     requires stand { AllStand supports.now }
-    requires places { ArePlaces supports.now places.now }
+    requires places { AreSupportPlaces supports.now places.now }
     requires kept { IsKept supports.now kept.now }
     requires pending { IsPendingBut (side, entry) supports.now kept.now.bounds work.now }
     ensures kept { OnOk result (IsKept supports.now kept.new) }
@@ -203,7 +203,7 @@ fn run(
     evaluations: &mut u64,
 ) -> Result<(), AllocError>
     requires stand { AllStand supports.now }
-    requires places { ArePlaces supports.now places.now }
+    requires places { AreSupportPlaces supports.now places.now }
     requires kept { IsKept supports.now kept.now }
     requires pending { IsPending supports.now kept.now.bounds work.now }
     ensures kept { OnOk result (IsKept supports.now kept.new) }
@@ -236,7 +236,7 @@ pub fn close(
     closing: &mut Closing,
 ) -> Result<(), AllocError>
     requires closing { CanClose supports.now closing.now }
-    requires places { ArePlaces supports.now places.now }
+    requires places { AreSupportPlaces supports.now places.now }
     ensures closed { OnOk result (IsClosing supports.now closing.old closing.new) }
     ensures lines { HasMoreLines closing.old.kept closing.new.kept }
 {

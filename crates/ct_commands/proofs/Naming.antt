@@ -17,7 +17,7 @@ use Rattle.ct_text.specs.declared.table_numbers.TableNumbers.{TableNumbers}
 use Rattle.ct_text.specs.declared.gathering.Gathered.{Gathered}
 use Rattle.ct_text.specs.declared.gathering.Gathered.TheVariants.{More, Whole}
 use Rattle.ct_text.specs.declared.gathering.Extent.TheVariants.{ToEnd}
-use Rattle.ct_text.specs.Side.{side_of}
+use Rattle.ct_text.specs.Side.{side_of_word}
 use Rattle.ct_commands.specs.Form.{form_of, id_of, lines_form, submit_form, withdrawal, alone, explanation_of, explanation, command_of, words_form}
 use Rattle.ct_commands.specs.Command.{opened, going_on, open_after, asked, finished, completed_by, completed, open_after_all, cut_off, commands_of}
 use Rattle.ct_commands.specs.declared.form.Form.{Form}
@@ -102,7 +102,7 @@ explanation_of-named (Some side) (Some numbers) = tt
 
 explanation-named : (words : List (List ℕ)) → AnyIsNamed (explanation words)
 explanation-named [] = tt
-explanation-named (side ∷ numbers) = explanation_of-named (side_of side) (entry_numbers_of numbers)
+explanation-named (side ∷ numbers) = explanation_of-named (side_of_word side) (entry_numbers_of numbers)
 
 list-named : (numbers : Option EntryNumbers) → AnyIsNamed (option_map command.List numbers)
 list-named None = tt

@@ -6,7 +6,7 @@ use Rattle.ct_codes.specs.declared.claim.Side.{Side}
 use Rattle.ct_text.specs.Line.{words_of}
 use Rattle.ct_text.specs.Number.{number_of}
 use Rattle.ct_text.specs.Id.{is_id}
-use Rattle.ct_text.specs.Side.{side_of}
+use Rattle.ct_text.specs.Side.{side_of_word}
 use Rattle.ct_text.specs.EntryNumbers.{entry_numbers_of}
 use Rattle.ct_text.specs.TableNumbers.{table_numbers_of}
 use Rattle.ct_text.specs.declared.entry_numbers.EntryNumbers.{EntryNumbers}
@@ -50,7 +50,7 @@ explanation_of side numbers = None
 -- the explanation that the words ask for, if they are a side and the numbers of an entry
 abbrev pub explanation : List (List ℕ) → Option Command
 explanation [] = None
-explanation (side ∷ numbers) = explanation_of (side_of side) (entry_numbers_of numbers)
+explanation (side ∷ numbers) = explanation_of (side_of_word side) (entry_numbers_of numbers)
 
 -- the command that a name and the words after it make, if they make one: a row for each command that is one line
 abbrev pub command_of : List ℕ → List (List ℕ) → Option Command

@@ -10,8 +10,8 @@ use Rattle.ct_fields.specs.HasCites.{HasRightCites, HasWrongCites, HasOther, Has
 use Rattle.ct_fields.specs.StatesEntry.{StatesPlainEntry}
 use Rattle.ct_fields.specs.declared.field.FieldName.{FieldName}
 use Rattle.ct_fields.specs.declared.field.FieldName.TheVariants as name
-use Rattle.ct_fields.specs.declared.fault.FileFault.{FileFault}
-use Rattle.ct_fields.specs.declared.fault.FileFault.TheVariants.{Field, Unknown}
+use Rattle.ct_fields.specs.declared.fault.DocumentFault.{DocumentFault}
+use Rattle.ct_fields.specs.declared.fault.DocumentFault.TheVariants.{Field, Unknown}
 use Rattle.ct_fields.proofs.StepLemmas.{bind-at, bind-at_err, bind-cases, only_fault}
 use Rattle.ct_fields.proofs.LastLemmas.{last_fields-ok, last_fields-from, last_fields-err, last_fields-wrong, last_fields-other, wrong_cites, other_key}
 use Rattle.ct_duals.specs.declared.dual.Dual.{Dual}
@@ -34,7 +34,7 @@ abbrev pub dual_with : Entry → Bool → List ℤ → List (ℕ × ℤ) → Dua
 dual_with e even c y = record { entry = e; even = even; c = c; y = y }
 
 -- where each answer comes, in a document of these fields with this entry and mark
-pub data IsAfter (names : List FieldName) (document : Data) (e : Entry) (even : Bool) (answer : Result Dual FileFault) : Type 0 where
+pub data IsAfter (names : List FieldName) (document : Data) (e : Entry) (even : Bool) (answer : Result Dual DocumentFault) : Type 0 where
   without_multipliers : ((c : List ℤ) → ¬ (HasMultipliers e document c)) → answer ≡ Err (Field name.C) → IsAfter names document e even answer
   without_allowances : (c : List ℤ) → HasMultipliers e document c → ((y : List (ℕ × ℤ)) → ¬ (HasAllowances e even document y))
       → answer ≡ Err (Field name.Y) → IsAfter names document e even answer
@@ -50,7 +50,7 @@ pub after_mark : (names : List FieldName) (ms : Members) (e : Entry) (even : Boo
     → IsAfter names (table ms) e even (dual_after e even names (table ms))
 after_mark names ms e even small =
     let document = table ms in
-    let P : Result Dual FileFault → Type 0 = IsAfter names document e even in
+    let P : Result Dual DocumentFault → Type 0 = IsAfter names document e even in
     bind-cases P (multipliers_field e document) _ (λ c c-is.
     let at_c = multipliers-stated e document c c-is in
     bind-cases P (allowances_field e even document) _ (λ y y-is.
@@ -75,7 +75,7 @@ reads_numbers names document d small has =
     ∙ bind-at (allowances_field d.entry d.even document) _ d.y (allowances-read d.entry d.even document d.y small has.allowances)
 
 -- where an answer is said to come, it comes
-pub after_mark-from : (names : List FieldName) (ms : Members) (e : Entry) (even : Bool) (answer : Result Dual FileFault) → degree_of e ≤ MAX_N
+pub after_mark-from : (names : List FieldName) (ms : Members) (e : Entry) (even : Bool) (answer : Result Dual DocumentFault) → degree_of e ≤ MAX_N
     → IsAfter names (table ms) e even answer → dual_after e even names (table ms) ≡ answer
 after_mark-from names ms e even answer small (without_multipliers none is) =
     bind-at_err (multipliers_field e (table ms)) _ (Field name.C)

@@ -8,8 +8,8 @@ use Rattle.ct_fields.specs.StatesEntry.{StatesPlainEntry, IsPlainEntryFault}
 use Rattle.ct_fields.specs.Tables.{IsOfKind}
 use Rattle.ct_fields.specs.declared.field.FieldName.{FieldName}
 use Rattle.ct_fields.specs.declared.field.FieldName.TheVariants as name
-use Rattle.ct_fields.specs.declared.fault.FileFault.{FileFault}
-use Rattle.ct_fields.specs.declared.fault.FileFault.TheVariants.{Bytes, NotToml, Kind, Field, Unknown, Digits, Size, Memory}
+use Rattle.ct_fields.specs.declared.fault.DocumentFault.{DocumentFault}
+use Rattle.ct_fields.specs.declared.fault.DocumentFault.TheVariants.{Bytes, NotToml, Kind, Field, Unknown, Digits, Size, Memory}
 use Rattle.ct_fields.proofs.StepLemmas.{bind-at, bind-at_err, bind-cases, only_fault}
 use Rattle.ct_fields.proofs.EntryAnswers.{plain_entry_of-ok, plain_entry_of-from, plain_entry_of-err, plain_entry_of-fault}
 use Rattle.ct_duals.specs.declared.dual.Dual.{Dual}
@@ -29,7 +29,7 @@ entry_answer document name never = absurd never
 stated : (document : Data) (d : Dual) → IsOfKind (codes "dual") document → StatesEven document d.entry d.even → HasNumbers document d → HasDual document d
 stated document d of_kind states has = record { of_kind = of_kind; entry = states; multipliers = has.multipliers; allowances = has.allowances }
 
-after_answer : (document : Data) (e : Entry) (even : Bool) (answer : Result Dual FileFault) → IsOfKind (codes "dual") document → StatesEven document e even
+after_answer : (document : Data) (e : Entry) (even : Bool) (answer : Result Dual DocumentFault) → IsOfKind (codes "dual") document → StatesEven document e even
     → IsAfter dual_fields document e even answer → IsDualAnswer document answer
 after_answer document e even answer of_kind states (without_multipliers none is) = subst (IsDualAnswer document) (sym is) (e, even, states, none)
 after_answer document e even answer of_kind states (without_allowances c at_c none is) =
@@ -46,7 +46,7 @@ dual_answer : (ms : Members) → IsOfKind (codes "dual") (table ms) → IsDualAn
 unfolding dual_of
 dual_answer ms of_kind =
     let document = table ms in
-    let P : Result Dual FileFault → Type 0 = IsDualAnswer document in
+    let P : Result Dual DocumentFault → Type 0 = IsDualAnswer document in
     bind-cases P (plain_entry_of document) _ (λ e e-is.
     let entry = plain_entry_of-ok document e e-is in
     bind-cases P (even_field e.d document) _ (λ even even-is.
@@ -72,7 +72,7 @@ without_mark document e entry none =
     (only_fault _ (Field name.Even) (λ even is. none even (even-stated e.d document even is)) (even-err e.d document))
 
 -- one with both
-with_mark : (ms : Members) (e : Entry) (even : Bool) (answer : Result Dual FileFault) → StatesEven (table ms) e even → IsAfter dual_fields (table ms) e even answer
+with_mark : (ms : Members) (e : Entry) (even : Bool) (answer : Result Dual DocumentFault) → StatesEven (table ms) e even → IsAfter dual_fields (table ms) e even answer
     → dual_of (table ms) ≡ answer
 unfolding dual_of
 with_mark ms e even answer states after =
@@ -84,7 +84,7 @@ numbers : (document : Data) (d : Dual) → HasDual document d → HasNumbers doc
 numbers document d has = record { multipliers = has.multipliers; allowances = has.allowances }
 
 -- where an answer is said to come, it comes
-pub dual_answer-from : (ms : Members) (answer : Result Dual FileFault) → IsDualAnswer (table ms) answer → dual_of (table ms) ≡ answer
+pub dual_answer-from : (ms : Members) (answer : Result Dual DocumentFault) → IsDualAnswer (table ms) answer → dual_of (table ms) ≡ answer
 dual_answer-from ms (Ok d) states =
     with_mark ms d.entry d.even (Ok d) states.fields.entry (all_right d.c d.y (numbers (table ms) d states.fields) states.last refl)
 dual_answer-from ms (Err (Field name.N)) first = without_entry (table ms) name.N first
@@ -106,5 +106,5 @@ dual_answer-from ms (Err (Size c)) never = absurd never
 dual_answer-from ms (Err Memory) never = absurd never
 
 -- the answer to a document of kind dual comes exactly where it is said to come
-pub dual_answers : (ms : Members) → IsOfKind (codes "dual") (table ms) → (answer : Result Dual FileFault) → (dual_of (table ms) ≡ answer) ↔ IsDualAnswer (table ms) answer
+pub dual_answers : (ms : Members) → IsOfKind (codes "dual") (table ms) → (answer : Result Dual DocumentFault) → (dual_of (table ms) ≡ answer) ↔ IsDualAnswer (table ms) answer
 dual_answers ms of_kind answer = (λ same. subst (IsDualAnswer (table ms)) same (dual_answer ms of_kind), dual_answer-from ms answer)

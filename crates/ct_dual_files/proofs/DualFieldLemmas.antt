@@ -14,8 +14,8 @@ use Rattle.ct_fields.specs.Steps.{◌>>=◌, check}
 use Rattle.ct_fields.specs.Fields.{field, number_in, number_field}
 use Rattle.ct_fields.specs.StatedEntry.{has_field}
 use Rattle.ct_fields.specs.declared.field.FieldName.TheVariants as name
-use Rattle.ct_fields.specs.declared.fault.FileFault.{FileFault}
-use Rattle.ct_fields.specs.declared.fault.FileFault.TheVariants.{Field}
+use Rattle.ct_fields.specs.declared.fault.DocumentFault.{DocumentFault}
+use Rattle.ct_fields.specs.declared.fault.DocumentFault.TheVariants.{Field}
 use Rattle.ct_fields.proofs.StepLemmas.{bind-at, bind-ok, bind-err, check-ok, check-err, ok_or-ok, ok_or-err}
 use Rattle.ct_fields.proofs.FieldLemmas.{number_field-ok, number_field-from}
 use Rattle.ct_fields.proofs.EntryAnswers.{number_field-err}
@@ -121,7 +121,7 @@ multipliers-stated e document c h =
 pub multipliers-read : (e : Entry) (document : Data) (c : List ℤ) → HasMultipliers e document c → multipliers_field e document ≡ Ok c
 multipliers-read e document c (has, some, few, all, small) = rw (has, all-from as_integer integer (λ z. ⊤) integer-reads c (λ k d l. tt), are_multipliers-true e c some few all small) refl
 
-pub multipliers-err : (e : Entry) (document : Data) (fault : FileFault) → multipliers_field e document ≡ Err fault → Field name.C ≡ fault
+pub multipliers-err : (e : Entry) (document : Data) (fault : DocumentFault) → multipliers_field e document ≡ Err fault → Field name.C ≡ fault
 multipliers-err e document fault h = (ok_or-err _ (Field name.C) fault h).1
 
 -- the allowances are read exactly where the field is a list of them, and are none where it is not there
@@ -157,7 +157,7 @@ allowances-read e even document y few (inl (has, are)) =
     rw (has, all-from (pair_in (number_in 0 MAX_N) as_integer) index_pair IsIndexPair pairs-read y (λ k d l. (are-small e even y few are k d l, tt)), are_allowances_from-true e even 0 y (λ k d l. omega arith) are) refl
 allowances-read e even document y few (inr (none, empty)) = rw (none, empty) refl
 
-pub allowances-err : (e : Entry) (even : Bool) (document : Data) (fault : FileFault) → allowances_field e even document ≡ Err fault → Field name.Y ≡ fault
+pub allowances-err : (e : Entry) (even : Bool) (document : Data) (fault : DocumentFault) → allowances_field e even document ≡ Err fault → Field name.Y ≡ fault
 allowances-err e even document fault h = go (has_field name.Y document) h
   where
     go : (b : Bool) → cond b (field (allowances_in e even) name.Y document) (Ok []) ≡ Err fault → Field name.Y ≡ fault
@@ -173,7 +173,7 @@ passes_even : (even : Bool) (d : ℕ) → (even ≡ true → d % 2 ≡ 0) → (n
 passes_even true d even = eq-eqb (d % 2) 0 (even refl)
 passes_even false d even = refl
 
-abbrev marked : ℕ → Data → Result Bool FileFault
+abbrev marked : ℕ → Data → Result Bool DocumentFault
 marked d document = field as_bool name.Even document >>= (λ even. check (not even || d % 2 == 0) (Field name.Even) >>= (λ _. Ok even))
 
 pub even-stated : (d : ℕ) (document : Data) (even : Bool) → even_field d document ≡ Ok even → HasEven d document even
@@ -194,7 +194,7 @@ pub even-read : (d : ℕ) (document : Data) (even : Bool) → HasEven d document
 even-read d document even (inl (has, fits)) = rw (has, passes_even even d fits) refl
 even-read d document even (inr (none, unset)) = rw (none, unset) refl
 
-pub even-err : (d : ℕ) (document : Data) (fault : FileFault) → even_field d document ≡ Err fault → Field name.Even ≡ fault
+pub even-err : (d : ℕ) (document : Data) (fault : DocumentFault) → even_field d document ≡ Err fault → Field name.Even ≡ fault
 even-err d document fault h = go (has_field name.Even document) h
   where
     go : (b : Bool) → cond b (marked d document) (Ok false) ≡ Err fault → Field name.Even ≡ fault
@@ -220,7 +220,7 @@ pub odd_size-read : (document : Data) (m : ℕ) → HasOddSize document m → od
 odd_size-read document m (has, (low, high, odd)) =
     bind-at (number_field name.M 3 MAX_ODD document) _ m (number_field-from name.M 3 MAX_ODD document m (has, low, high)) ∙ rw (eq-eqb (m % 2) 1 odd) refl
 
-pub odd_size-err : (document : Data) (fault : FileFault) → odd_size_field document ≡ Err fault → Field name.M ≡ fault
+pub odd_size-err : (document : Data) (fault : DocumentFault) → odd_size_field document ≡ Err fault → Field name.M ≡ fault
 odd_size-err document fault h = elim (bind-err (number_field name.M 3 MAX_ODD document) _ fault h) [
   | inl wrong ↦ number_field-err name.M 3 MAX_ODD document fault wrong
   | inr (k, found, rest) ↦ elim (bind-err (check (k % 2 == 1) (Field name.M)) _ fault rest) [

@@ -6,10 +6,10 @@ use Rattle.ct_codes.specs.declared.entry.Entry.{Entry}
 use Rattle.ct_codes.specs.Entry.{IsEntry, unrestricted}
 use Rattle.ct_codes.proofs.EntryLemmas.{entry_from_limits}
 use Rattle.ct_fields.specs.StatedEntry.{plain_entry_of}
-use Rattle.ct_fields.specs.declared.fault.FileFault.{FileFault}
+use Rattle.ct_fields.specs.declared.fault.DocumentFault.{DocumentFault}
 use Rattle.ct_fields.proofs.EntryAnswers.{plain_entry_of-ok}
 
-pub plain_entry-stands : (document : Data) (r : Result Entry FileFault) → r ≡ plain_entry_of document → IfOk r IsEntry
+pub plain_entry-stands : (document : Data) (r : Result Entry DocumentFault) → r ≡ plain_entry_of document → IfOk r IsEntry
 plain_entry-stands document (Err fault) is = tt
 plain_entry-stands document (Ok e) is =
     let states = plain_entry_of-ok document e (sym is) in

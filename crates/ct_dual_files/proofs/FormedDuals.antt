@@ -11,7 +11,7 @@ use Rattle.ct_fields.specs.Reads.{Reads}
 use Rattle.ct_fields.specs.LastFields.{last_fields}
 use Rattle.ct_fields.specs.StatedEntry.{plain_entry_of}
 use Rattle.ct_fields.specs.declared.field.FieldName.{FieldName}
-use Rattle.ct_fields.specs.declared.fault.FileFault.{FileFault}
+use Rattle.ct_fields.specs.declared.fault.DocumentFault.{DocumentFault}
 use Rattle.ct_fields.proofs.StepLemmas.{bind-ok}
 use Rattle.ct_fields.proofs.EntryAnswers.{plain_entry_of-ok}
 use Rattle.ct_duals.specs.declared.dual.Dual.{Dual}
@@ -97,7 +97,7 @@ pub formed_local : (document : Data) (d : Dual) → StatesWeightedEntry document
 formed_local document d states unmarked multipliers allows =
     weighted_form document d states unmarked multipliers (are_allowances d.entry d.even document d.y allows)
 
-same_ok : {A : Type 0} (x y : A) → ◌≡◌ {A = Result A FileFault} (Ok x) (Ok y) → x ≡ y
+same_ok : {A : Type 0} (x y : A) → ◌≡◌ {A = Result A DocumentFault} (Ok x) (Ok y) → x ≡ y
 same_ok x y e = cc
 
 -- the fields after the mark state one, where an entry with multipliers and allowances does
@@ -158,22 +158,22 @@ local_dual_of-formed document d h =
     (λ c y. formed_local document (record { entry = e; even = false; c = c; y = y }) (weighted-ok document e e-is) refl) h1
 
 -- so what is read has the form
-pub formed_dual : (document : Data) (r : Result Dual FileFault) → Reads (λ dual. dual) r (dual_of document) → IfOk r IsDual
+pub formed_dual : (document : Data) (r : Result Dual DocumentFault) → Reads (λ dual. dual) r (dual_of document) → IfOk r IsDual
 formed_dual document (Ok d) reads = dual_of-formed document d reads
 formed_dual document (Err fault) reads = tt
 
-pub formed_odd : (document : Data) (r : Result (Dual × ℕ) FileFault) → Reads (λ odd. odd) r (odd_of document) → IfOk r (λ odd. IsDual odd.0)
+pub formed_odd : (document : Data) (r : Result (Dual × ℕ) DocumentFault) → Reads (λ odd. odd) r (odd_of document) → IfOk r (λ odd. IsDual odd.0)
 formed_odd document (Ok odd) reads = (odd_of-formed document odd reads).0
 formed_odd document (Err fault) reads = tt
 
-pub sized_odd : (document : Data) (r : Result (Dual × ℕ) FileFault) → Reads (λ odd. odd) r (odd_of document) → IfOk r (λ odd. IsOddSize odd.1)
+pub sized_odd : (document : Data) (r : Result (Dual × ℕ) DocumentFault) → Reads (λ odd. odd) r (odd_of document) → IfOk r (λ odd. IsOddSize odd.1)
 sized_odd document (Ok odd) reads = (odd_of-formed document odd reads).1
 sized_odd document (Err fault) reads = tt
 
-pub formed_johnson_dual : (document : Data) (r : Result Dual FileFault) → Reads (λ dual. dual) r (johnson_dual_of document) → IfOk r IsDual
+pub formed_johnson_dual : (document : Data) (r : Result Dual DocumentFault) → Reads (λ dual. dual) r (johnson_dual_of document) → IfOk r IsDual
 formed_johnson_dual document (Ok d) reads = johnson_dual_of-formed document d reads
 formed_johnson_dual document (Err fault) reads = tt
 
-pub formed_local_dual : (document : Data) (r : Result Dual FileFault) → Reads (λ dual. dual) r (local_dual_of document) → IfOk r IsDual
+pub formed_local_dual : (document : Data) (r : Result Dual DocumentFault) → Reads (λ dual. dual) r (local_dual_of document) → IfOk r IsDual
 formed_local_dual document (Ok d) reads = local_dual_of-formed document d reads
 formed_local_dual document (Err fault) reads = tt

@@ -12,8 +12,8 @@ use Rattle.ct_fields.specs.StatedEntry.{distance_beside}
 use Rattle.ct_fields.specs.Tables.{IsOfKind}
 use Rattle.ct_fields.specs.declared.field.FieldName.{FieldName}
 use Rattle.ct_fields.specs.declared.field.FieldName.TheVariants as name
-use Rattle.ct_fields.specs.declared.fault.FileFault.{FileFault}
-use Rattle.ct_fields.specs.declared.fault.FileFault.TheVariants.{Bytes, NotToml, Kind, Field, Unknown, Digits, Size, Memory}
+use Rattle.ct_fields.specs.declared.fault.DocumentFault.{DocumentFault}
+use Rattle.ct_fields.specs.declared.fault.DocumentFault.TheVariants.{Bytes, NotToml, Kind, Field, Unknown, Digits, Size, Memory}
 use Rattle.ct_fields.proofs.StepLemmas.{bind-ok, bind-err, bind-at, bind-at_err, bind-cases, only_fault}
 use Rattle.ct_fields.proofs.FieldLemmas.{number_field-ok, number_field-from}
 use Rattle.ct_fields.proofs.LastLemmas.{last_fields-ok, last_fields-from, last_fields-err, last_fields-wrong, last_fields-other, wrong_cites, other_key}
@@ -55,7 +55,7 @@ weighted-from document e states =
     ∙ ap (λ (f : Entry). Ok f) (λ i. record { n = e.n; d = e.d; w = sym is i })
 
 -- its fault is its first wrong field
-pub weighted-err : (document : Data) (fault : FileFault) → weighted_entry_of document ≡ Err fault → (name : FieldName) × (Field name ≡ fault) × IsWeightedEntryFault document name
+pub weighted-err : (document : Data) (fault : DocumentFault) → weighted_entry_of document ≡ Err fault → (name : FieldName) × (Field name ≡ fault) × IsWeightedEntryFault document name
 unfolding weighted_entry_of
 weighted-err document fault read =
     elim (bind-err (number_field name.N 1 MAX_N document) _ fault read) [
@@ -113,7 +113,7 @@ johnson_dual_answer : (ms : Members) → IsOfKind (codes "jdual") (table ms) →
 unfolding johnson_dual_of
 johnson_dual_answer ms of_kind =
     let document = table ms in
-    let P : Result Dual FileFault → Type 0 = IsJohnsonDualAnswer document in
+    let P : Result Dual DocumentFault → Type 0 = IsJohnsonDualAnswer document in
     bind-cases P (weighted_entry_of document) _ (λ e e-is.
     let entry = weighted-ok document e e-is in
     bind-cases P (multipliers_field e document) _ (λ c c-is.
@@ -138,7 +138,7 @@ johnson_dual_answer ms of_kind =
     subst (λ f. P (Err f)) is (entry_answer document name first))
 
 -- the steps up to the keys
-reads_fields : (document : Data) (d : Dual) (answer : Result Dual FileFault) → HasJohnsonDual document d
+reads_fields : (document : Data) (d : Dual) (answer : Result Dual DocumentFault) → HasJohnsonDual document d
     → (last_fields johnson_dual_fields document >>= (λ _. Ok (stated d.entry d.c))) ≡ answer → johnson_dual_of document ≡ answer
 unfolding johnson_dual_of
 reads_fields document d answer has rest =
@@ -147,7 +147,7 @@ reads_fields document d answer has rest =
     ∙ rest
 
 -- the dual is the one that is stated
-same_dual : (document : Data) (d : Dual) → HasJohnsonDual document d → ◌≡◌ {A = Result Dual FileFault} (Ok (stated d.entry d.c)) (Ok d)
+same_dual : (document : Data) (d : Dual) → HasJohnsonDual document d → ◌≡◌ {A = Result Dual DocumentFault} (Ok (stated d.entry d.c)) (Ok d)
 same_dual document d has = λ i. Ok (record { entry = d.entry; even = sym has.unmarked i; c = d.c; y = sym has.none_allowed i })
 
 -- a document without its entry, and one without multipliers
@@ -164,7 +164,7 @@ without_multipliers document e states none =
     (only_fault _ (Field name.C) (λ c is. none c (multipliers-stated e document c is)) (multipliers-err e document))
 
 -- where an answer is said to come, it comes
-pub johnson_dual_answer-from : (ms : Members) (answer : Result Dual FileFault) → IsJohnsonDualAnswer (table ms) answer → johnson_dual_of (table ms) ≡ answer
+pub johnson_dual_answer-from : (ms : Members) (answer : Result Dual DocumentFault) → IsJohnsonDualAnswer (table ms) answer → johnson_dual_of (table ms) ≡ answer
 johnson_dual_answer-from ms (Ok d) states =
     reads_fields (table ms) d (Ok d) states.fields (rw (last_fields-from johnson_dual_fields ms states.last) (same_dual (table ms) d states.fields))
 johnson_dual_answer-from ms (Err (Field name.N)) first = without_entry (table ms) name.N first
@@ -184,7 +184,7 @@ johnson_dual_answer-from ms (Err (Size c)) never = absurd never
 johnson_dual_answer-from ms (Err Memory) never = absurd never
 
 -- the answer to a document of kind jdual comes exactly where it is said to come
-pub johnson_dual_answers : (ms : Members) → IsOfKind (codes "jdual") (table ms) → (answer : Result Dual FileFault)
+pub johnson_dual_answers : (ms : Members) → IsOfKind (codes "jdual") (table ms) → (answer : Result Dual DocumentFault)
     → (johnson_dual_of (table ms) ≡ answer) ↔ IsJohnsonDualAnswer (table ms) answer
 johnson_dual_answers ms of_kind answer =
     (λ same. subst (IsJohnsonDualAnswer (table ms)) same (johnson_dual_answer ms of_kind), johnson_dual_answer-from ms answer)

@@ -8,8 +8,8 @@ use Rattle.ct_codes.specs.declared.entry.Entry.{Entry}
 use Rattle.ct_fields.specs.Tables.{IsOfKind}
 use Rattle.ct_fields.specs.declared.field.FieldName.{FieldName}
 use Rattle.ct_fields.specs.declared.field.FieldName.TheVariants as name
-use Rattle.ct_fields.specs.declared.fault.FileFault.{FileFault}
-use Rattle.ct_fields.specs.declared.fault.FileFault.TheVariants.{Bytes, NotToml, Kind, Field, Unknown, Digits, Size, Memory}
+use Rattle.ct_fields.specs.declared.fault.DocumentFault.{DocumentFault}
+use Rattle.ct_fields.specs.declared.fault.DocumentFault.TheVariants.{Bytes, NotToml, Kind, Field, Unknown, Digits, Size, Memory}
 use Rattle.ct_fields.proofs.StepLemmas.{bind-at, bind-at_err, bind-cases}
 use Rattle.ct_duals.specs.declared.dual.Dual.{Dual}
 use Rattle.ct_duals.specs.Dual.{greatest_index, degree_of}
@@ -41,7 +41,7 @@ stated : (document : Data) (e : Entry) (c : List ℤ) (y : List (ℕ × ℤ)) �
 stated document e c y of_kind states has =
     record { of_kind = of_kind; entry = states; unmarked = refl; multipliers = has.multipliers; allowances = has.allowances }
 
-after_answer : (document : Data) (e : Entry) (answer : Result Dual FileFault) → IsOfKind (codes "jlocal") document → StatesWeightedEntry document e
+after_answer : (document : Data) (e : Entry) (answer : Result Dual DocumentFault) → IsOfKind (codes "jlocal") document → StatesWeightedEntry document e
     → IsAfter local_dual_fields document e false answer → IsLocalDualAnswer document answer
 after_answer document e answer of_kind states (without_multipliers none is) = subst (IsLocalDualAnswer document) (sym is) (e, states, none)
 after_answer document e answer of_kind states (without_allowances c at_c none is) =
@@ -58,7 +58,7 @@ local_dual_answer : (ms : Members) → IsOfKind (codes "jlocal") (table ms) → 
 unfolding local_dual_of
 local_dual_answer ms of_kind =
     let document = table ms in
-    let P : Result Dual FileFault → Type 0 = IsLocalDualAnswer document in
+    let P : Result Dual DocumentFault → Type 0 = IsLocalDualAnswer document in
     bind-cases P (weighted_entry_of document) _ (λ e e-is.
     let states = weighted-ok document e e-is in
     after_answer document e (dual_after e false local_dual_fields document) of_kind states
@@ -73,7 +73,7 @@ unfolding local_dual_of
 without_entry document name first = bind-at_err (weighted_entry_of document) _ (Field name) (weighted-fault document name first)
 
 -- one with its entry
-with_entry : (ms : Members) (e : Entry) (answer : Result Dual FileFault) → StatesWeightedEntry (table ms) e
+with_entry : (ms : Members) (e : Entry) (answer : Result Dual DocumentFault) → StatesWeightedEntry (table ms) e
     → IsAfter local_dual_fields (table ms) e false answer → local_dual_of (table ms) ≡ answer
 unfolding local_dual_of
 with_entry ms e answer states after =
@@ -84,7 +84,7 @@ with_entry ms e answer states after =
 unmarked : (document : Data) (d : Dual) → HasLocalDual document d → d ≡ dual_with d.entry false d.c d.y
 unmarked document d has = λ i. record { entry = d.entry; even = has.unmarked i; c = d.c; y = d.y }
 
-same_ok : (document : Data) (d : Dual) → HasLocalDual document d → ◌≡◌ {A = Result Dual FileFault} (Ok d) (Ok (dual_with d.entry false d.c d.y))
+same_ok : (document : Data) (d : Dual) → HasLocalDual document d → ◌≡◌ {A = Result Dual DocumentFault} (Ok d) (Ok (dual_with d.entry false d.c d.y))
 same_ok document d has = λ i. Ok (unmarked document d has i)
 
 numbers : (document : Data) (d : Dual) → HasLocalDual document d → HasNumbers document (dual_with d.entry false d.c d.y)
@@ -93,7 +93,7 @@ numbers document d has =
     record { multipliers = plain.multipliers; allowances = plain.allowances }
 
 -- where an answer is said to come, it comes
-pub local_dual_answer-from : (ms : Members) (answer : Result Dual FileFault) → IsLocalDualAnswer (table ms) answer → local_dual_of (table ms) ≡ answer
+pub local_dual_answer-from : (ms : Members) (answer : Result Dual DocumentFault) → IsLocalDualAnswer (table ms) answer → local_dual_of (table ms) ≡ answer
 local_dual_answer-from ms (Ok d) states =
     with_entry ms d.entry (Ok d) states.fields.entry
     (all_right d.c d.y (numbers (table ms) d states.fields) states.last (same_ok (table ms) d states.fields))
@@ -116,7 +116,7 @@ local_dual_answer-from ms (Err (Size c)) never = absurd never
 local_dual_answer-from ms (Err Memory) never = absurd never
 
 -- the answer to a document of kind jlocal comes exactly where it is said to come
-pub local_dual_answers : (ms : Members) → IsOfKind (codes "jlocal") (table ms) → (answer : Result Dual FileFault)
+pub local_dual_answers : (ms : Members) → IsOfKind (codes "jlocal") (table ms) → (answer : Result Dual DocumentFault)
     → (local_dual_of (table ms) ≡ answer) ↔ IsLocalDualAnswer (table ms) answer
 local_dual_answers ms of_kind answer =
     (λ same. subst (IsLocalDualAnswer (table ms)) same (local_dual_answer ms of_kind), local_dual_answer-from ms answer)

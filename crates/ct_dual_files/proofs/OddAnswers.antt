@@ -9,8 +9,8 @@ use Rattle.ct_fields.specs.StatesEntry.{StatesPlainEntry, IsPlainEntryFault}
 use Rattle.ct_fields.specs.Tables.{IsOfKind}
 use Rattle.ct_fields.specs.declared.field.FieldName.{FieldName}
 use Rattle.ct_fields.specs.declared.field.FieldName.TheVariants as name
-use Rattle.ct_fields.specs.declared.fault.FileFault.{FileFault}
-use Rattle.ct_fields.specs.declared.fault.FileFault.TheVariants.{Bytes, NotToml, Kind, Field, Unknown, Digits, Size, Memory}
+use Rattle.ct_fields.specs.declared.fault.DocumentFault.{DocumentFault}
+use Rattle.ct_fields.specs.declared.fault.DocumentFault.TheVariants.{Bytes, NotToml, Kind, Field, Unknown, Digits, Size, Memory}
 use Rattle.ct_fields.proofs.StepLemmas.{bind-at, bind-at_err, bind-cases, only_fault}
 use Rattle.ct_fields.proofs.EntryAnswers.{plain_entry_of-ok, plain_entry_of-from, plain_entry_of-err, plain_entry_of-fault}
 use Rattle.ct_duals.specs.declared.dual.Dual.{Dual}
@@ -22,7 +22,7 @@ use Rattle.ct_dual_files.proofs.DualFieldLemmas.{even-stated, even-read, even-er
 use Rattle.ct_dual_files.proofs.AfterMark.{small_degree, HasNumbers, dual_with, IsAfter, without_multipliers, without_allowances, citing_wrong, with_other, all_right, after_mark, after_mark-from}
 
 -- the answer with the number of words
-abbrev sized : ℕ → Result Dual FileFault → Result (Dual × ℕ) FileFault
+abbrev sized : ℕ → Result Dual DocumentFault → Result (Dual × ℕ) DocumentFault
 sized m answer = answer >>= (λ d. Ok (d, m))
 
 -- a wrong entry is answered as it is said
@@ -36,7 +36,7 @@ stated : (document : Data) (d : Dual) (m : ℕ) → IsOfKind (codes "odd") docum
     → HasOddDual document d m
 stated document d m of_kind states has = record { of_kind = of_kind; sized = states; multipliers = has.multipliers; allowances = has.allowances }
 
-after_answer : (document : Data) (e : Entry) (even : Bool) (m : ℕ) (answer : Result Dual FileFault) → IsOfKind (codes "odd") document
+after_answer : (document : Data) (e : Entry) (even : Bool) (m : ℕ) (answer : Result Dual DocumentFault) → IsOfKind (codes "odd") document
     → StatesOddSize document e even m → IsAfter odd_fields document e even answer → IsOddAnswer document (sized m answer)
 after_answer document e even m answer of_kind states (without_multipliers none is) =
     subst (λ a. IsOddAnswer document (sized m a)) (sym is) (e, even, m, states, none)
@@ -55,7 +55,7 @@ odd_answer : (ms : Members) → IsOfKind (codes "odd") (table ms) → IsOddAnswe
 unfolding odd_of
 odd_answer ms of_kind =
     let document = table ms in
-    let P : Result (Dual × ℕ) FileFault → Type 0 = IsOddAnswer document in
+    let P : Result (Dual × ℕ) DocumentFault → Type 0 = IsOddAnswer document in
     bind-cases P (plain_entry_of document) _ (λ e e-is.
     let entry = plain_entry_of-ok document e e-is in
     bind-cases P (even_field e.d document) _ (λ even even-is.
@@ -94,7 +94,7 @@ without_size document e even states none =
     (only_fault _ (Field name.M) (λ m is. none m (odd_size-stated document m is)) (odd_size-err document))
 
 -- one with all three
-with_size : (ms : Members) (e : Entry) (even : Bool) (m : ℕ) (answer : Result Dual FileFault) → StatesOddSize (table ms) e even m
+with_size : (ms : Members) (e : Entry) (even : Bool) (m : ℕ) (answer : Result Dual DocumentFault) → StatesOddSize (table ms) e even m
     → IsAfter odd_fields (table ms) e even answer → odd_of (table ms) ≡ sized m answer
 unfolding odd_of
 with_size ms e even m answer states after =
@@ -107,7 +107,7 @@ numbers : (document : Data) (d : Dual) (m : ℕ) → HasOddDual document d m →
 numbers document d m has = record { multipliers = has.multipliers; allowances = has.allowances }
 
 -- where an answer is said to come, it comes
-pub odd_answer-from : (ms : Members) (answer : Result (Dual × ℕ) FileFault) → IsOddAnswer (table ms) answer → odd_of (table ms) ≡ answer
+pub odd_answer-from : (ms : Members) (answer : Result (Dual × ℕ) DocumentFault) → IsOddAnswer (table ms) answer → odd_of (table ms) ≡ answer
 odd_answer-from ms (Ok (d, m)) states =
     with_size ms d.entry d.even m (Ok d) states.fields.sized (all_right d.c d.y (numbers (table ms) d m states.fields) states.last refl)
 odd_answer-from ms (Err (Field name.N)) first = without_entry (table ms) name.N first
@@ -130,6 +130,6 @@ odd_answer-from ms (Err (Size c)) never = absurd never
 odd_answer-from ms (Err Memory) never = absurd never
 
 -- the answer to a document of kind odd comes exactly where it is said to come
-pub odd_answers : (ms : Members) → IsOfKind (codes "odd") (table ms) → (answer : Result (Dual × ℕ) FileFault)
+pub odd_answers : (ms : Members) → IsOfKind (codes "odd") (table ms) → (answer : Result (Dual × ℕ) DocumentFault)
     → (odd_of (table ms) ≡ answer) ↔ IsOddAnswer (table ms) answer
 odd_answers ms of_kind answer = (λ same. subst (IsOddAnswer (table ms)) same (odd_answer ms of_kind), odd_answer-from ms answer)

@@ -8,8 +8,8 @@ use Rattle.ct_fields.specs.HasCites.{HasRightCites, HasWrongCites, HasOther, Has
 use Rattle.ct_fields.specs.StatesEntry.{HasLength, HasDistance, StatesPlainEntry, IsPlainEntryFault}
 use Rattle.ct_fields.specs.declared.field.FieldName.{FieldName}
 use Rattle.ct_fields.specs.declared.field.FieldName.TheVariants as name
-use Rattle.ct_fields.specs.declared.fault.FileFault.{FileFault}
-use Rattle.ct_fields.specs.declared.fault.FileFault.TheVariants.{Field, Unknown}
+use Rattle.ct_fields.specs.declared.fault.DocumentFault.{DocumentFault}
+use Rattle.ct_fields.specs.declared.fault.DocumentFault.TheVariants.{Field, Unknown}
 use Rattle.ct_duals.specs.declared.dual.Dual.{Dual}
 use Rattle.ct_duals.specs.Dual.{degree_of, is_in_range}
 use Rattle.ct_dual_files.specs.WrittenDuals.{integer_list, pair_list}
@@ -64,7 +64,7 @@ pub record StatesDual (document : Data) (d : Dual) : Type 0 where
   pub last : HasLast dual_fields document
 
 -- where each fault comes for a document of kind dual; each line is the case that comes after those above it
-abbrev pub IsDualFault : Data → FileFault → Type 0
+abbrev pub IsDualFault : Data → DocumentFault → Type 0
 -- the mark `even` is wrong, or set at an odd distance
 IsDualFault document (Field name.Even) = (e : Entry) × StatesPlainEntry document e × ((even : Bool) → ¬ (HasEven e.d document even))
 -- the multipliers are missing or wrong
@@ -84,7 +84,7 @@ IsDualFault document Unknown = (d : Dual) × (key : List ℕ) × HasDual documen
 IsDualFault document fault = ⊥
 
 -- where each answer comes for a document of kind dual
-abbrev pub IsDualAnswer : Data → Result Dual FileFault → Type 0
+abbrev pub IsDualAnswer : Data → Result Dual DocumentFault → Type 0
 IsDualAnswer document (Ok d) = StatesDual document d
 IsDualAnswer document (Err fault) = IsDualFault document fault
 
@@ -124,7 +124,7 @@ pub record StatesJohnsonDual (document : Data) (d : Dual) : Type 0 where
   pub last : HasLast johnson_dual_fields document
 
 -- where each fault comes for a document of kind jdual; each line is the case that comes after those above it
-abbrev pub IsJohnsonDualFault : Data → FileFault → Type 0
+abbrev pub IsJohnsonDualFault : Data → DocumentFault → Type 0
 -- the multipliers are missing or wrong
 IsJohnsonDualFault document (Field name.C) = (e : Entry) × StatesWeightedEntry document e × ((c : List ℤ) → ¬ (HasMultipliers e document c))
 -- the cites are wrong
@@ -139,6 +139,6 @@ IsJohnsonDualFault document Unknown =
 IsJohnsonDualFault document fault = ⊥
 
 -- where each answer comes for a document of kind jdual
-abbrev pub IsJohnsonDualAnswer : Data → Result Dual FileFault → Type 0
+abbrev pub IsJohnsonDualAnswer : Data → Result Dual DocumentFault → Type 0
 IsJohnsonDualAnswer document (Ok d) = StatesJohnsonDual document d
 IsJohnsonDualAnswer document (Err fault) = IsJohnsonDualFault document fault

@@ -6,8 +6,8 @@ use Rattle.ct_fields.specs.Tables.{IsOfKind}
 use Rattle.ct_fields.specs.HasCites.{HasRightCites, HasWrongCites, HasOther, HasLast}
 use Rattle.ct_fields.specs.declared.field.FieldName.{FieldName}
 use Rattle.ct_fields.specs.declared.field.FieldName.TheVariants as name
-use Rattle.ct_fields.specs.declared.fault.FileFault.{FileFault}
-use Rattle.ct_fields.specs.declared.fault.FileFault.TheVariants.{Field, Unknown}
+use Rattle.ct_fields.specs.declared.fault.DocumentFault.{DocumentFault}
+use Rattle.ct_fields.specs.declared.fault.DocumentFault.TheVariants.{Field, Unknown}
 use Rattle.ct_duals.specs.declared.dual.Dual.{Dual}
 use Rattle.ct_dual_files.specs.DualDocument.{HasMultipliers, HasAllowances, StatesWeightedEntry, IsWeightedEntryFault}
 
@@ -29,7 +29,7 @@ pub record StatesLocalDual (document : Data) (d : Dual) : Type 0 where
   pub last : HasLast local_dual_fields document
 
 -- where each fault comes for a document of kind jlocal; each line is the case that comes after those above it
-abbrev pub IsLocalDualFault : Data → FileFault → Type 0
+abbrev pub IsLocalDualFault : Data → DocumentFault → Type 0
 -- the multipliers are missing or wrong
 IsLocalDualFault document (Field name.C) = (e : Entry) × StatesWeightedEntry document e × ((c : List ℤ) → ¬ (HasMultipliers e document c))
 -- the allowances are wrong
@@ -47,6 +47,6 @@ IsLocalDualFault document Unknown =
 IsLocalDualFault document fault = ⊥
 
 -- where each answer comes for a document of kind jlocal
-abbrev pub IsLocalDualAnswer : Data → Result Dual FileFault → Type 0
+abbrev pub IsLocalDualAnswer : Data → Result Dual DocumentFault → Type 0
 IsLocalDualAnswer document (Ok d) = StatesLocalDual document d
 IsLocalDualAnswer document (Err fault) = IsLocalDualFault document fault

@@ -8,8 +8,8 @@ use Rattle.ct_fields.specs.HasCites.{HasRightCites, HasWrongCites, HasOther, Has
 use Rattle.ct_fields.specs.StatesEntry.{StatesPlainEntry, IsPlainEntryFault}
 use Rattle.ct_fields.specs.declared.field.FieldName.{FieldName}
 use Rattle.ct_fields.specs.declared.field.FieldName.TheVariants as name
-use Rattle.ct_fields.specs.declared.fault.FileFault.{FileFault}
-use Rattle.ct_fields.specs.declared.fault.FileFault.TheVariants.{Field, Unknown}
+use Rattle.ct_fields.specs.declared.fault.DocumentFault.{DocumentFault}
+use Rattle.ct_fields.specs.declared.fault.DocumentFault.TheVariants.{Field, Unknown}
 use Rattle.ct_parity.specs.declared.sums.TheConstants.{MAX_ODD}
 use Rattle.ct_duals.specs.declared.dual.Dual.{Dual}
 use Rattle.ct_dual_files.specs.DualDocument.{HasEven, HasMultipliers, HasAllowances, StatesEven}
@@ -44,7 +44,7 @@ pub record StatesOddDual (document : Data) (d : Dual) (m : ℕ) : Type 0 where
   pub last : HasLast odd_fields document
 
 -- where each fault comes for a document of kind odd; each line is the case that comes after those above it
-abbrev pub IsOddFault : Data → FileFault → Type 0
+abbrev pub IsOddFault : Data → DocumentFault → Type 0
 -- the mark `even` is wrong, or set at an odd distance
 IsOddFault document (Field name.Even) = (e : Entry) × StatesPlainEntry document e × ((even : Bool) → ¬ (HasEven e.d document even))
 -- the number of words is missing or wrong
@@ -67,6 +67,6 @@ IsOddFault document Unknown =
 IsOddFault document fault = ⊥
 
 -- where each answer comes for a document of kind odd
-abbrev pub IsOddAnswer : Data → Result (Dual × ℕ) FileFault → Type 0
+abbrev pub IsOddAnswer : Data → Result (Dual × ℕ) DocumentFault → Type 0
 IsOddAnswer document (Ok odd) = StatesOddDual document odd.0 odd.1
 IsOddAnswer document (Err fault) = IsOddFault document fault

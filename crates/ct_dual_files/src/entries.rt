@@ -6,11 +6,11 @@ ghost use Rattle.ct_fields.specs.StatedEntry.{plain_entry_of};
 ghost use Rattle.ct_dual_files.specs.Dual.{weighted_entry_of};
 
 use ct_codes::Entry;
-use ct_fields::{FieldName, FileFault, distance_beside, length_field, number_field, plain_entry};
+use ct_fields::{FieldName, DocumentFault, distance_beside, length_field, number_field, plain_entry};
 use toml::Value;
 
 /// The entry without weight of the fields `n` and `d`, which is in the table.
-pub(crate) fn plain_entry_field(document: &Value) -> Result<Entry, FileFault>
+pub(crate) fn plain_entry_field(document: &Value) -> Result<Entry, DocumentFault>
     ensures entry { result ≡ plain_entry_of (view document.now) }
     ensures stands { IfOk result IsEntry }
 {
@@ -19,7 +19,7 @@ pub(crate) fn plain_entry_field(document: &Value) -> Result<Entry, FileFault>
 
 /// The entry of the fields `n`, `d` and `w`, which is in the table.
 #[tactic(auto, unfolding(crate::specs::Dual::weighted_entry_of))]
-pub(crate) fn weighted_entry_field(document: &Value) -> Result<Entry, FileFault>
+pub(crate) fn weighted_entry_field(document: &Value) -> Result<Entry, DocumentFault>
     ensures entry { result ≡ weighted_entry_of (view document.now) }
     ensures stands { IfOk result IsEntry }
 {

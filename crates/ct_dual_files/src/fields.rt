@@ -7,13 +7,13 @@ ghost use Rattle.ct_dual_files.specs.Fields.{even_field, odd_size_field, multipl
 
 use ct_codes::Entry;
 use ct_duals::{are_allowances, are_multipliers};
-use ct_fields::{FieldName, FileFault, all_of, has_field, number_field};
+use ct_fields::{FieldName, DocumentFault, all_of, has_field, number_field};
 use ct_parity::MAX_ODD;
 use std::alloc::Global;
 use toml::Value;
 
 /// Whether the dual speaks of even distances alone.
-pub(crate) fn even_field(d: u32, document: &Value) -> Result<bool, FileFault>
+pub(crate) fn even_field(d: u32, document: &Value) -> Result<bool, DocumentFault>
     ensures { result ≡ even_field d (view document.now) }
 {
     if !has_field(document, FieldName::Even) {
@@ -22,21 +22,21 @@ pub(crate) fn even_field(d: u32, document: &Value) -> Result<bool, FileFault>
     match document.get(FieldName::Even.text()) {
         Some(Value::Boolean(even)) => {
             if *even && d % 2 != 0 {
-                return Err(FileFault::Field(FieldName::Even));
+                return Err(DocumentFault::Field(FieldName::Even));
             }
             Ok(*even)
         }
-        _ => Err(FileFault::Field(FieldName::Even)),
+        _ => Err(DocumentFault::Field(FieldName::Even)),
     }
 }
 
 /// The number of words that parity may exclude.
-pub(crate) fn odd_size_field(document: &Value) -> Result<u32, FileFault>
+pub(crate) fn odd_size_field(document: &Value) -> Result<u32, DocumentFault>
     ensures { result ≡ odd_size_field (view document.now) }
 {
     let m = number_field(document, FieldName::M, 3, MAX_ODD)?;
     if m % 2 != 1 {
-        return Err(FileFault::Field(FieldName::M));
+        return Err(DocumentFault::Field(FieldName::M));
     }
     Ok(m)
 }
@@ -46,7 +46,7 @@ pub(crate) fn multipliers_field(
     alloc: Global,
     entry: Entry,
     document: &Value,
-) -> Result<Vec<i64>, FileFault>
+) -> Result<Vec<i64>, DocumentFault>
     requires { IsEntry entry }
     ensures { Reads (λ v. v.items) result (multipliers_field entry (view document.now)) }
 {
@@ -54,13 +54,13 @@ pub(crate) fn multipliers_field(
         Some(Value::Array(values)) => match all_of::<i64>(alloc, values)? {
             Some(c) => {
                 if !are_multipliers(entry, &c) {
-                    return Err(FileFault::Field(FieldName::C));
+                    return Err(DocumentFault::Field(FieldName::C));
                 }
                 Ok(c)
             }
-            None => Err(FileFault::Field(FieldName::C)),
+            None => Err(DocumentFault::Field(FieldName::C)),
         },
-        _ => Err(FileFault::Field(FieldName::C)),
+        _ => Err(DocumentFault::Field(FieldName::C)),
     }
 }
 
@@ -70,7 +70,7 @@ pub(crate) fn allowances_field(
     entry: Entry,
     even: bool,
     document: &Value,
-) -> Result<Vec<(u32, i64)>, FileFault>
+) -> Result<Vec<(u32, i64)>, DocumentFault>
     requires { IsEntry entry }
     ensures { Reads (λ v. v.items) result (allowances_field entry even (view document.now)) }
 {
@@ -81,12 +81,12 @@ pub(crate) fn allowances_field(
         Some(Value::Array(values)) => match all_of::<(u32, i64)>(alloc, values)? {
             Some(y) => {
                 if !are_allowances(entry, even, &y) {
-                    return Err(FileFault::Field(FieldName::Y));
+                    return Err(DocumentFault::Field(FieldName::Y));
                 }
                 Ok(y)
             }
-            None => Err(FileFault::Field(FieldName::Y)),
+            None => Err(DocumentFault::Field(FieldName::Y)),
         },
-        _ => Err(FileFault::Field(FieldName::Y)),
+        _ => Err(DocumentFault::Field(FieldName::Y)),
     }
 }

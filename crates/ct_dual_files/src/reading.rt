@@ -11,12 +11,12 @@ use crate::entries::{plain_entry_field, weighted_entry_field};
 use crate::fields::{allowances_field, even_field, multipliers_field, odd_size_field};
 use ct_codes::Entry;
 use ct_duals::{Allowances, Dual, Multipliers};
-use ct_fields::{FieldName, FileFault, last_fields};
+use ct_fields::{FieldName, DocumentFault, last_fields};
 use std::alloc::Global;
 use toml::Value;
 
 /// The dual that the document states, of kind dual; it has the form of one.
-pub fn dual_of(alloc: Global, document: &Value) -> Result<Dual, FileFault>
+pub fn dual_of(alloc: Global, document: &Value) -> Result<Dual, DocumentFault>
     ensures reads { Reads (λ dual. dual) result (dual_of (view document.now)) }
     ensures form { IfOk result IsDual }
 {
@@ -24,7 +24,7 @@ pub fn dual_of(alloc: Global, document: &Value) -> Result<Dual, FileFault>
 }
 
 #[tactic(auto, unfolding(crate::specs::Dual::dual_of))]
-fn read_dual(alloc: Global, document: &Value) -> Result<Dual, FileFault>
+fn read_dual(alloc: Global, document: &Value) -> Result<Dual, DocumentFault>
     ensures { Reads (λ dual. dual) result (dual_of (view document.now)) }
 {
     let entry = plain_entry_field(document)?;
@@ -41,7 +41,7 @@ fn read_dual(alloc: Global, document: &Value) -> Result<Dual, FileFault>
 
 /// The dual and the number of words that the document states, of kind odd: the dual has the form of one, and the number is odd and from
 /// 3 to `ct_parity::MAX_ODD`.
-pub fn odd_of(alloc: Global, document: &Value) -> Result<(Dual, u32), FileFault>
+pub fn odd_of(alloc: Global, document: &Value) -> Result<(Dual, u32), DocumentFault>
     ensures reads { Reads (λ odd. odd) result (odd_of (view document.now)) }
     ensures form { IfOk result (λ odd. IsDual odd.0) }
     ensures size { IfOk result (λ odd. IsOddSize odd.1) }
@@ -50,7 +50,7 @@ pub fn odd_of(alloc: Global, document: &Value) -> Result<(Dual, u32), FileFault>
 }
 
 #[tactic(auto, unfolding(crate::specs::Dual::odd_of))]
-fn read_odd(alloc: Global, document: &Value) -> Result<(Dual, u32), FileFault>
+fn read_odd(alloc: Global, document: &Value) -> Result<(Dual, u32), DocumentFault>
     ensures { Reads (λ odd. odd) result (odd_of (view document.now)) }
 {
     let entry = plain_entry_field(document)?;
@@ -75,7 +75,7 @@ fn dual_after(
     even: bool,
     names: &[FieldName],
     document: &Value,
-) -> Result<Dual, FileFault>
+) -> Result<Dual, DocumentFault>
     requires { IsEntry entry }
     ensures { Reads (λ dual. dual) result (dual_after entry even names.now (view document.now)) }
 {
@@ -88,7 +88,7 @@ fn dual_after(
 }
 
 /// The dual that the document states, of kind jdual; it has the form of one.
-pub fn johnson_dual_of(alloc: Global, document: &Value) -> Result<Dual, FileFault>
+pub fn johnson_dual_of(alloc: Global, document: &Value) -> Result<Dual, DocumentFault>
     ensures reads { Reads (λ dual. dual) result (johnson_dual_of (view document.now)) }
     ensures form { IfOk result IsDual }
 {
@@ -96,7 +96,7 @@ pub fn johnson_dual_of(alloc: Global, document: &Value) -> Result<Dual, FileFaul
 }
 
 #[tactic(auto, unfolding(crate::specs::Dual::johnson_dual_of))]
-fn read_johnson_dual(alloc: Global, document: &Value) -> Result<Dual, FileFault>
+fn read_johnson_dual(alloc: Global, document: &Value) -> Result<Dual, DocumentFault>
     ensures { Reads (λ dual. dual) result (johnson_dual_of (view document.now)) }
 {
     let entry = weighted_entry_field(document)?;
@@ -114,7 +114,7 @@ fn read_johnson_dual(alloc: Global, document: &Value) -> Result<Dual, FileFault>
 }
 
 /// The dual that the document states, of kind jlocal; it has the form of one.
-pub fn local_dual_of(alloc: Global, document: &Value) -> Result<Dual, FileFault>
+pub fn local_dual_of(alloc: Global, document: &Value) -> Result<Dual, DocumentFault>
     ensures reads { Reads (λ dual. dual) result (local_dual_of (view document.now)) }
     ensures form { IfOk result IsDual }
 {
@@ -122,7 +122,7 @@ pub fn local_dual_of(alloc: Global, document: &Value) -> Result<Dual, FileFault>
 }
 
 #[tactic(auto, unfolding(crate::specs::Dual::local_dual_of))]
-fn read_local_dual(alloc: Global, document: &Value) -> Result<Dual, FileFault>
+fn read_local_dual(alloc: Global, document: &Value) -> Result<Dual, DocumentFault>
     ensures { Reads (λ dual. dual) result (local_dual_of (view document.now)) }
 {
     let entry = weighted_entry_field(document)?;

@@ -24,5 +24,5 @@ abbrev pub plotkin_value : ℕ → ℕ → Option ℕ
 plotkin_value n d = if d % 2 == 0 then plotkin_even n d else plotkin_odd n d
 
 -- Hamming's bound, by packing balls of radius ⌊(d - 1) / 2⌋: ⌊2 ^ n / V(n, ⌊(d - 1) / 2⌋)⌋
-abbrev pub hamming_value : ℕ → ℕ → ℕ
-hamming_value n d = 2 ^ n / volume n ((d - 1) / 2)
+abbrev pub sphere_packing_value : ℕ → ℕ → ℕ
+sphere_packing_value n d = 2 ^ n / volume n ((d - 1) / 2)

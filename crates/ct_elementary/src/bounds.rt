@@ -3,7 +3,7 @@
 ghost use Rattle.std.specs.Prelude.{◌≡◌, ◌+◌, ◌≤◌, IfSome};
 ghost use Rattle.ct_codes.specs.Code.{IsTrueUpper};
 ghost use Rattle.ct_codes.specs.Entry.{IsEntry, unrestricted};
-ghost use Rattle.ct_elementary.specs.Bounds.{far_value, plotkin_even as even_value, plotkin_value, hamming_value};
+ghost use Rattle.ct_elementary.specs.Bounds.{far_value, plotkin_even as even_value, plotkin_value, sphere_packing_value};
 
 use ct_words::{MAX_BOUND, MAX_N, ball};
 
@@ -52,9 +52,9 @@ fn plotkin_even(n: u32, d: u32) -> Option<u32>
 /// Hamming's bound for an entry (n,d) of the table, n from 1 and d from 3, both to `MAX_N`: ⌊2^n / V⌋, where V is the
 /// number of words in a ball of radius ⌊(d - 1) / 2⌋. Such balls about the words of a code have no word in common
 /// (Hamming 1950; MacWilliams and Sloane, chapter 1, section 5).
-pub fn hamming(n: u32, d: u32) -> u32
+pub fn sphere_packing(n: u32, d: u32) -> u32
     requires { IsEntry (unrestricted n d) }
-    ensures value { result ≡ hamming_value n d }
+    ensures value { result ≡ sphere_packing_value n d }
     ensures range { (1 ≤ result) × (result ≤ MAX_BOUND) }
     ensures sound { IsTrueUpper (unrestricted n d) result }
 {

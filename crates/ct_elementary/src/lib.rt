@@ -3,4 +3,4 @@
 
 mod bounds;
 
-pub use bounds::{far, hamming, plotkin};
+pub use bounds::{far, sphere_packing, plotkin};

@@ -13,8 +13,8 @@ use Rattle.ct_fields.specs.Cites.{IsCites, items_count, cite_in, cites_in, cites
 use Rattle.ct_fields.specs.HasCites.{HasFormat, HasWrongFormat, IsSecond, HasCites, HasRightCites, HasWrongCites, listed, left_out, no_second}
 use Rattle.ct_fields.specs.declared.cites.TheConstants.{MAX_CITES}
 use Rattle.ct_fields.specs.declared.field.FieldName.TheVariants.{Format, Cites}
-use Rattle.ct_fields.specs.declared.fault.FileFault.{FileFault}
-use Rattle.ct_fields.specs.declared.fault.FileFault.TheVariants.{Field}
+use Rattle.ct_fields.specs.declared.fault.DocumentFault.{DocumentFault}
+use Rattle.ct_fields.specs.declared.fault.DocumentFault.TheVariants.{Field}
 use Rattle.ct_fields.specs.Fields.{number_field}
 use Rattle.ct_fields.proofs.StepLemmas.{ok_or-ok, ok_or-err, only_fault}
 use Rattle.ct_fields.proofs.FieldLemmas.{number_field-ok, number_field-from}
@@ -77,7 +77,7 @@ second-number document k e =
 -- the test of the format is passed exactly where it is 2
 pub may_cite-true : (document : Data) → may_cite document ≡ true → IsSecond document
 may_cite-true document e = at (number_field Format 2 2 document) refl e where
-  at : (read : Result ℕ FileFault) → number_field Format 2 2 document ≡ read → is_ok read ≡ true → IsSecond document
+  at : (read : Result ℕ DocumentFault) → number_field Format 2 2 document ≡ read → is_ok read ≡ true → IsSecond document
   at (Ok k) is e = second-number document k is
   at (Err fault) is e = absurd cc
 
@@ -104,13 +104,13 @@ format_of-from document f (inr has) =
     ap (λ (found : Option Data). if is_some found then number_field Format 1 2 document else Ok 1) has.0 ∙ number_field-from Format 1 2 document f has
 
 -- and else its own fault comes
-format_of-fault : (document : Data) (fault : FileFault) → format_of document ≡ Err fault → Field Format ≡ fault
+format_of-fault : (document : Data) (fault : DocumentFault) → format_of document ≡ Err fault → Field Format ≡ fault
 format_of-fault document fault e = at (get (field_text Format) document) e where
   at : (found : Option Data) → (if is_some found then number_field Format 1 2 document else Ok 1) ≡ Err fault → Field Format ≡ fault
   at None read = absurd cc
   at (Some d) read = (ok_or-err _ (Field Format) fault read).1
 
-pub format_of-err : (document : Data) (fault : FileFault) → format_of document ≡ Err fault → (Field Format ≡ fault) × HasWrongFormat document
+pub format_of-err : (document : Data) (fault : DocumentFault) → format_of document ≡ Err fault → (Field Format ≡ fault) × HasWrongFormat document
 format_of-err document fault e = (format_of-fault document fault e, λ f has. let never = sym (format_of-from document f has) ∙ e in absurd cc)
 
 pub format_of-wrong : (document : Data) → HasWrongFormat document → format_of document ≡ Err (Field Format)
@@ -150,7 +150,7 @@ HasCites-right document cites (no_second other none) = subst IsCites (sym none) 
 -- the test of the cites is passed exactly where they are right
 pub are_right-true : (document : Data) → is_ok (cites_of document) ≡ true → HasRightCites document
 are_right-true document e = at (cites_of document) refl e where
-  at : (read : Result (List (List ℕ)) FileFault) → cites_of document ≡ read → is_ok read ≡ true → HasRightCites document
+  at : (read : Result (List (List ℕ)) DocumentFault) → cites_of document ≡ read → is_ok read ≡ true → HasRightCites document
   at (Ok cites) is e = (cites, cites_of-ok document cites is)
   at (Err fault) is e = absurd cc
 

@@ -13,13 +13,13 @@ use Rattle.ct_fields.specs.StatedEntry.{has_field, distance_beside, weight_field
 use Rattle.ct_fields.specs.StatesEntry.{HasDistance, HasDistanceBeside, HasWeight, StatesEntry, StatesPlainEntry, IsEntryFault, IsPlainEntryFault}
 use Rattle.ct_fields.specs.declared.field.FieldName.{FieldName}
 use Rattle.ct_fields.specs.declared.field.FieldName.TheVariants.{N, D, W}
-use Rattle.ct_fields.specs.declared.fault.FileFault.{FileFault}
-use Rattle.ct_fields.specs.declared.fault.FileFault.TheVariants.{Field}
+use Rattle.ct_fields.specs.declared.fault.DocumentFault.{DocumentFault}
+use Rattle.ct_fields.specs.declared.fault.DocumentFault.TheVariants.{Field}
 use Rattle.ct_fields.proofs.StepLemmas.{bind-ok, bind-err, bind-at, bind-at_err, check-ok, check-err, ok_or-err, only_fault}
 use Rattle.ct_fields.proofs.FieldLemmas.{number_field-ok, number_field-from}
 
 -- the fault of a number is its field's
-pub number_field-err : (name : FieldName) (low high : ℕ) (document : Data) (fault : FileFault) → number_field name low high document ≡ Err fault → Field name ≡ fault
+pub number_field-err : (name : FieldName) (low high : ℕ) (document : Data) (fault : DocumentFault) → number_field name low high document ≡ Err fault → Field name ≡ fault
 number_field-err name low high document fault e = (ok_or-err _ (Field name) fault e).1
 
 -- a distance that passes is even where it has to be
@@ -45,7 +45,7 @@ distance_beside-from document d has =
     ∙ rw (passes_even (has_field W document) d has.1) refl
 
 -- the fault of a distance is its field's
-pub distance_beside-err : (b : Bool) (document : Data) (fault : FileFault) → distance_beside b document ≡ Err fault → Field D ≡ fault
+pub distance_beside-err : (b : Bool) (document : Data) (fault : DocumentFault) → distance_beside b document ≡ Err fault → Field D ≡ fault
 distance_beside-err b document fault read =
     elim (bind-err (number_field D 3 MAX_N document) _ fault read) [
       | inl none ↦ number_field-err D 3 MAX_N document fault none
@@ -71,7 +71,7 @@ pub weight_field-from : (n : ℕ) (document : Data) (w : Option ℕ) → HasWeig
 weight_field-from n document None has = rw has refl
 weight_field-from n document (Some w) has = rw (has.0, le-leb 0 w has.1, le-leb w n has.2) refl
 
-pub weight_field-err : (n : ℕ) (document : Data) (fault : FileFault) → weight_field n document ≡ Err fault → Field W ≡ fault
+pub weight_field-err : (n : ℕ) (document : Data) (fault : DocumentFault) → weight_field n document ≡ Err fault → Field W ≡ fault
 weight_field-err n document fault read = at (has_field W document) read
   where
     at : (b : Bool) → (if b then (number_field W 0 n document >>= (λ k. Ok (Some k))) else Ok None) ≡ Err fault → Field W ≡ fault
@@ -104,7 +104,7 @@ entry_of-from document e states =
     ∙ bind-at (weight_field e.n document) _ e.w (weight_field-from e.n document e.w states.with_weight)
 
 -- the fault of an entry is its first wrong field
-pub entry_of-err : (document : Data) (fault : FileFault) → entry_of document ≡ Err fault → (name : FieldName) × (Field name ≡ fault) × IsEntryFault document name
+pub entry_of-err : (document : Data) (fault : DocumentFault) → entry_of document ≡ Err fault → (name : FieldName) × (Field name ≡ fault) × IsEntryFault document name
 unfolding entry_of
 entry_of-err document fault read =
     elim (bind-err (number_field N 1 MAX_N document) _ fault read) [
@@ -163,7 +163,7 @@ plain_entry_of-from document e states =
     ∙ ap (λ (f : Entry). Ok f) (sym states.plain)
 
 -- its fault is its first wrong field
-pub plain_entry_of-err : (document : Data) (fault : FileFault) → plain_entry_of document ≡ Err fault → (name : FieldName) × (Field name ≡ fault) × IsPlainEntryFault document name
+pub plain_entry_of-err : (document : Data) (fault : DocumentFault) → plain_entry_of document ≡ Err fault → (name : FieldName) × (Field name ≡ fault) × IsPlainEntryFault document name
 unfolding plain_entry_of
 plain_entry_of-err document fault read =
     elim (bind-err (number_field N 1 MAX_N document) _ fault read) [

@@ -17,7 +17,7 @@ use Rattle.ct_fields.specs.Field.{field_text}
 use Rattle.ct_fields.specs.Fields.{is_text, is_of_kind, field, number_in, number_field, texts_of, texts_in, texts_field, is_named, keys_are_named, has_only}
 use Rattle.ct_fields.specs.Tables.{IsOfKind, HasNumber, HasTexts, IsNamed}
 use Rattle.ct_fields.specs.declared.field.FieldName.{FieldName}
-use Rattle.ct_fields.specs.declared.fault.FileFault.TheVariants.{Field}
+use Rattle.ct_fields.specs.declared.fault.DocumentFault.TheVariants.{Field}
 use Rattle.ct_fields.proofs.StepLemmas.{ok_or-ok}
 
 -- texts that pass the test are one

@@ -14,8 +14,8 @@ use Rattle.ct_fields.specs.LastFields.{all_fields, last_fields}
 use Rattle.ct_fields.specs.HasCites.{IsSecond, HasRightCites, HasWrongCites, MayStand, HasOther, HasLast, left_out}
 use Rattle.ct_fields.specs.declared.field.FieldName.{FieldName}
 use Rattle.ct_fields.specs.declared.field.FieldName.TheVariants.{Format, Cites}
-use Rattle.ct_fields.specs.declared.fault.FileFault.{FileFault}
-use Rattle.ct_fields.specs.declared.fault.FileFault.TheVariants.{Field, Unknown}
+use Rattle.ct_fields.specs.declared.fault.DocumentFault.{DocumentFault}
+use Rattle.ct_fields.specs.declared.fault.DocumentFault.TheVariants.{Field, Unknown}
 use Rattle.ct_fields.proofs.StepLemmas.{bind-ok, bind-err, check-ok, check-err}
 use Rattle.ct_fields.proofs.FieldLemmas.{bytes_eq-true, is_named-true, is_named-from, has_only-true, has_only-false, has_only-from, has_only-from_other}
 use Rattle.ct_fields.proofs.CiteLemmas.{may_cite-true, may_cite-from, are_right-true, are_right-from, are_right-false, are_right-wrong}
@@ -95,11 +95,11 @@ last_fields-from names ms h =
     ) refl
 
 -- where it is wrong: the cites are judged first, and then the keys
-pub data LastFault (names : List FieldName) (document : Data) (fault : FileFault) : Type 0 where
+pub data LastFault (names : List FieldName) (document : Data) (fault : DocumentFault) : Type 0 where
   wrong_cites : Field Cites ≡ fault → HasWrongCites document → LastFault names document fault
   other_key : Unknown ≡ fault → HasRightCites document → (key : List ℕ) → HasOther names document key → LastFault names document fault
 
-pub last_fields-err : (names : List FieldName) (ms : Members) (fault : FileFault) → last_fields names (table ms) ≡ Err fault → LastFault names (table ms) fault
+pub last_fields-err : (names : List FieldName) (ms : Members) (fault : DocumentFault) → last_fields names (table ms) ≡ Err fault → LastFault names (table ms) fault
 unfolding last_fields
 last_fields-err names ms fault e =
     elim (bind-err (check (is_ok (cites_of (table ms))) (Field Cites)) _ fault e) [

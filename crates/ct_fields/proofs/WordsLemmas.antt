@@ -7,8 +7,8 @@ use Rattle.ct_words.proofs.TextLemmas.{word_of-word_text, word_from_text}
 use Rattle.ct_fields.specs.Steps.{◌>>=◌}
 use Rattle.ct_fields.specs.Fields.{words_from}
 use Rattle.ct_fields.specs.Tables.{IsWordText, IsFirstWrong}
-use Rattle.ct_fields.specs.declared.fault.FileFault.{FileFault}
-use Rattle.ct_fields.specs.declared.fault.FileFault.TheVariants.{Digits}
+use Rattle.ct_fields.specs.declared.fault.DocumentFault.{DocumentFault}
+use Rattle.ct_fields.specs.declared.fault.DocumentFault.TheVariants.{Digits}
 use Rattle.ct_fields.proofs.StepLemmas.{bind-ok, bind-err, ok_or-ok, ok_or-err}
 
 -- the texts that are read are those of words of length n
@@ -50,7 +50,7 @@ later_wrong n x text texts i x-is first = record { wrong = first.wrong; before =
   before (suc j) t below e = first.before j t (omega arith) e
 
 -- the fault of texts names the first one of no word
-pub words_from-err : (n place : ℕ) (texts : List (List ℕ)) (fault : FileFault) → words_from n place texts ≡ Err fault → (i : ℕ) × (Digits (place + i) ≡ fault) × IsFirstWrong n texts i
+pub words_from-err : (n place : ℕ) (texts : List (List ℕ)) (fault : DocumentFault) → words_from n place texts ≡ Err fault → (i : ℕ) × (Digits (place + i) ≡ fault) × IsFirstWrong n texts i
 words_from-err n place [] fault e = absurd cc
 words_from-err n place (text ∷ texts) fault e =
     elim (bind-err (ok_or (word_of n text) (Digits place)) _ fault e) [
@@ -81,23 +81,23 @@ words_from-wrong n place (text ∷ texts) (suc i) first =
     rw (found, rest) (ap (λ p. Err (Digits p)) (omega arith))
 
 -- the words of two lists of texts, one after the other
-abbrev pub both_words : Result (List ℕ) FileFault → Result (List ℕ) FileFault → Result (List ℕ) FileFault
+abbrev pub both_words : Result (List ℕ) DocumentFault → Result (List ℕ) DocumentFault → Result (List ℕ) DocumentFault
 both_words first second = first >>= (λ xs. second >>= (λ ys. Ok (xs ++ ys)))
 
 -- none before
-none_before : (second : Result (List ℕ) FileFault) → both_words (Ok []) second ≡ second
+none_before : (second : Result (List ℕ) DocumentFault) → both_words (Ok []) second ≡ second
 none_before (Ok ys) = refl
 none_before (Err fault) = refl
 
 -- one word before
-one_before : (x : ℕ) (first second : Result (List ℕ) FileFault)
+one_before : (x : ℕ) (first second : Result (List ℕ) DocumentFault)
     → (both_words first second >>= (λ ws. Ok (x ∷ ws))) ≡ both_words (first >>= (λ xs. Ok (x ∷ xs))) second
 one_before x (Ok xs) (Ok ys) = refl
 one_before x (Ok xs) (Err fault) = refl
 one_before x (Err fault) second = refl
 
 -- the text of a word, or of none, before those of two lists
-one_more : (n place : ℕ) (read : Option ℕ) (texts more : List (List ℕ)) (after : Result (List ℕ) FileFault)
+one_more : (n place : ℕ) (read : Option ℕ) (texts more : List (List ℕ)) (after : Result (List ℕ) DocumentFault)
     → words_from n (suc place) (texts ++ more) ≡ both_words (words_from n (suc place) texts) after
     → (ok_or read (Digits place) >>= (λ x. words_from n (suc place) (texts ++ more) >>= (λ ws. Ok (x ∷ ws))))
     ≡ both_words (ok_or read (Digits place) >>= (λ x. words_from n (suc place) texts >>= (λ ws. Ok (x ∷ ws)))) after

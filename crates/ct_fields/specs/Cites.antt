@@ -8,8 +8,8 @@ use Rattle.ct_fields.specs.Forms.{all_of}
 use Rattle.ct_fields.specs.Format.{may_cite}
 use Rattle.ct_fields.specs.declared.cites.TheConstants.{MAX_CITES}
 use Rattle.ct_fields.specs.declared.field.FieldName.TheVariants.{Cites}
-use Rattle.ct_fields.specs.declared.fault.FileFault.{FileFault}
-use Rattle.ct_fields.specs.declared.fault.FileFault.TheVariants.{Field}
+use Rattle.ct_fields.specs.declared.fault.DocumentFault.{DocumentFault}
+use Rattle.ct_fields.specs.declared.fault.DocumentFault.TheVariants.{Field}
 
 -- the texts are what a document may cite: at most MAX_CITES, each a cite
 pub record IsCites (cites : List (List ℕ)) : Type 0 where
@@ -31,10 +31,10 @@ cites_in (array ds) = if nat_le (items_count ds) MAX_CITES then all_of cite_in d
 cites_in _ = None
 
 -- the cites of what stands at the key `cites`, none where the key is left out
-abbrev pub cites_at : Option Data → Result (List (List ℕ)) FileFault
+abbrev pub cites_at : Option Data → Result (List (List ℕ)) DocumentFault
 cites_at None = Ok []
 cites_at (Some d) = ok_or (cites_in d) (Field Cites)
 
 -- the cites of a document, which is of format 2 where it has any; in format 1 the key says nothing
-abbrev pub cites_of : Data → Result (List (List ℕ)) FileFault
+abbrev pub cites_of : Data → Result (List (List ℕ)) DocumentFault
 cites_of document = if may_cite document then cites_at (get (field_text Cites) document) else Ok []

@@ -8,8 +8,8 @@ use Rattle.ct_words.specs.Text.{word_of}
 use Rattle.ct_fields.specs.Field.{field_text}
 use Rattle.ct_fields.specs.Steps.{◌>>=◌}
 use Rattle.ct_fields.specs.declared.field.FieldName.{FieldName}
-use Rattle.ct_fields.specs.declared.fault.FileFault.{FileFault}
-use Rattle.ct_fields.specs.declared.fault.FileFault.TheVariants.{Field, Digits}
+use Rattle.ct_fields.specs.declared.fault.DocumentFault.{DocumentFault}
+use Rattle.ct_fields.specs.declared.fault.DocumentFault.TheVariants.{Field, Digits}
 
 -- whether the value is this text
 abbrev pub is_text : List ℕ → Data → Bool
@@ -22,7 +22,7 @@ is_of_kind kind document = option_map_or (is_text kind) (get (codes "kind") docu
 
 -- what stands at the key of the field, in the form that is asked
 -- (the fault of the field where it is missing or of another form)
-abbrev pub field : {A : Type 0} → (Data → Option A) → FieldName → Data → Result A FileFault
+abbrev pub field : {A : Type 0} → (Data → Option A) → FieldName → Data → Result A DocumentFault
 field form name document = ok_or (option_and_then form (get (field_text name) document)) (Field name)
 
 -- an integer from low to high
@@ -31,7 +31,7 @@ number_in low high (integer (pos k)) = if nat_le low k && nat_le k high then Som
 number_in low high _ = None
 
 -- the number of the field, an integer from low to high
-abbrev pub number_field : FieldName → ℕ → ℕ → Data → Result ℕ FileFault
+abbrev pub number_field : FieldName → ℕ → ℕ → Data → Result ℕ DocumentFault
 number_field name low high document = field (number_in low high) name document
 
 -- the texts of items that all are texts
@@ -45,7 +45,7 @@ texts_in (array ds) = texts_of ds
 texts_in _ = None
 
 -- the texts of the field, a list of texts
-abbrev pub texts_field : FieldName → Data → Result (List (List ℕ)) FileFault
+abbrev pub texts_field : FieldName → Data → Result (List (List ℕ)) DocumentFault
 texts_field name document = field texts_in name document
 
 -- whether the key is `kind` or that of one of the fields
@@ -64,7 +64,7 @@ has_only names _ = false
 
 -- the words of length n that the texts write
 -- (the fault of the first text that writes none, where the texts are counted from place)
-abbrev pub words_from : ℕ → ℕ → List (List ℕ) → Result (List ℕ) FileFault
+abbrev pub words_from : ℕ → ℕ → List (List ℕ) → Result (List ℕ) DocumentFault
 words_from n place [] = Ok []
 words_from n place (text ∷ texts) = do
   word ← ok_or (word_of n text) (Digits place)

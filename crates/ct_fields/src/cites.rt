@@ -7,7 +7,7 @@ ghost use Rattle.ct_fields.specs.Reads.{Reads};
 ghost use Rattle.ct_fields.specs.Forms.{all_of, list_data};
 ghost use Rattle.ct_fields.specs.Cites.{cite_in, cites_in, cites_of};
 
-use crate::fault::FileFault;
+use crate::fault::DocumentFault;
 use crate::field::FieldName;
 use crate::formats::may_cite;
 use ct_text::{Cite, is_cite};
@@ -18,7 +18,7 @@ use toml::Value;
 pub const MAX_CITES: usize = 16;
 
 /// The cites of the document, as the key `cites` of format 2 lists them; none where the key is left out, and in format 1.
-pub fn cites_of(alloc: Global, document: &Value) -> Result<Vec<Cite>, FileFault>
+pub fn cites_of(alloc: Global, document: &Value) -> Result<Vec<Cite>, DocumentFault>
     ensures { Reads (λ v. v.items) result (cites_of (view document.now)) }
 {
     if !may_cite(document) {
@@ -29,7 +29,7 @@ pub fn cites_of(alloc: Global, document: &Value) -> Result<Vec<Cite>, FileFault>
     };
     match cites_in(alloc, value)? {
         Some(cites) => Ok(cites),
-        None => Err(FileFault::Field(FieldName::Cites)),
+        None => Err(DocumentFault::Field(FieldName::Cites)),
     }
 }
 

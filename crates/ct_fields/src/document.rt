@@ -8,7 +8,7 @@ ghost use Rattle.ct_fields.specs.Fields.{is_of_kind};
 ghost use Rattle.ct_fields.specs.Document.{table_of, read_table};
 ghost use Rattle.ct_fields.specs.Inside.Room.{IsSimpleTable, table_room};
 
-use crate::fault::FileFault;
+use crate::fault::DocumentFault;
 use std::alloc::{AllocError, Global};
 use toml::{Table, Value};
 
@@ -16,16 +16,16 @@ use toml::{Table, Value};
 pub const MAX_DOCUMENT: usize = 4194304;
 
 /// The table that the bytes write, or `NotToml`.
-pub fn read_table(alloc: Global, bytes: &[u8]) -> Result<Value, FileFault>
+pub fn read_table(alloc: Global, bytes: &[u8]) -> Result<Value, DocumentFault>
     ensures { Reads view result (read_table bytes.now) }
 {
     match toml::table_from_slice(alloc, bytes) {
         Ok(table) => Ok(Value::Table(table)),
         Err(error) => {
             if error.is_memory() {
-                return Err(FileFault::Memory);
+                return Err(DocumentFault::Memory);
             }
-            Err(FileFault::NotToml)
+            Err(DocumentFault::NotToml)
         }
     }
 }

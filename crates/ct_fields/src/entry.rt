@@ -6,7 +6,7 @@ ghost use Rattle.ct_fields.specs.Fields.{number_field};
 ghost use Rattle.ct_fields.specs.declared.field.FieldName.TheVariants as name;
 ghost use Rattle.ct_fields.specs.StatedEntry.{has_field, distance_beside, weight_field, entry_of, plain_entry_of};
 
-use crate::fault::FileFault;
+use crate::fault::DocumentFault;
 use crate::field::FieldName;
 use crate::fields::number_field;
 use ct_codes::Entry;
@@ -14,14 +14,14 @@ use ct_words::MAX_N;
 use toml::Value;
 
 /// The length of the words.
-pub fn length_field(document: &Value) -> Result<u32, FileFault>
+pub fn length_field(document: &Value) -> Result<u32, DocumentFault>
     ensures { result ≡ number_field name.N 1 MAX_N (view document.now) }
 {
     number_field(document, FieldName::N, 1, MAX_N)
 }
 
 /// The distance.
-fn distance_field(document: &Value) -> Result<u32, FileFault>
+fn distance_field(document: &Value) -> Result<u32, DocumentFault>
     ensures { result ≡ number_field name.D 3 MAX_N (view document.now) }
 {
     number_field(document, FieldName::D, 3, MAX_N)
@@ -35,18 +35,18 @@ pub fn has_field(document: &Value, name: FieldName) -> bool
 }
 
 /// The distance, which is even where a weight stands beside it.
-pub fn distance_beside(weighted: bool, document: &Value) -> Result<u32, FileFault>
+pub fn distance_beside(weighted: bool, document: &Value) -> Result<u32, DocumentFault>
     ensures { result ≡ distance_beside weighted (view document.now) }
 {
     let d = distance_field(document)?;
     if weighted && d % 2 == 1 {
-        return Err(FileFault::Field(FieldName::D));
+        return Err(DocumentFault::Field(FieldName::D));
     }
     Ok(d)
 }
 
 /// The weight of words of length `n`, where the document has the key.
-pub fn weight_field(n: u32, document: &Value) -> Result<Option<u32>, FileFault>
+pub fn weight_field(n: u32, document: &Value) -> Result<Option<u32>, DocumentFault>
     ensures { result ≡ weight_field n (view document.now) }
 {
     if !has_field(document, FieldName::W) {
@@ -58,7 +58,7 @@ pub fn weight_field(n: u32, document: &Value) -> Result<Option<u32>, FileFault>
 
 /// The entry of the fields `n`, `d` and `w`, of which `w` may be left out.
 #[tactic(auto, unfolding(crate::specs::StatedEntry::entry_of))]
-pub fn stated_entry(document: &Value) -> Result<Entry, FileFault>
+pub fn stated_entry(document: &Value) -> Result<Entry, DocumentFault>
     ensures entry { result ≡ entry_of (view document.now) }
     ensures length { IfOk result (λ e. (1 ≤ e.n) × (e.n ≤ MAX_N)) }
 {
@@ -70,7 +70,7 @@ pub fn stated_entry(document: &Value) -> Result<Entry, FileFault>
 
 /// The entry without weight of the fields `n` and `d`.
 #[tactic(auto, unfolding(crate::specs::StatedEntry::plain_entry_of))]
-pub fn plain_entry(document: &Value) -> Result<Entry, FileFault>
+pub fn plain_entry(document: &Value) -> Result<Entry, DocumentFault>
     ensures entry { result ≡ plain_entry_of (view document.now) }
     ensures length { IfOk result (λ e. (1 ≤ e.n) × (e.n ≤ MAX_N)) }
 {

@@ -1,13 +1,13 @@
 //! Why a document is not read.
 ghost use Rattle.std.specs.Prelude.{◌≡◌};
-ghost use Rattle.ct_fields.specs.declared.fault.FileFault.TheVariants.{Memory};
+ghost use Rattle.ct_fields.specs.declared.fault.DocumentFault.TheVariants.{Memory};
 
 use crate::field::FieldName;
 use std::alloc::{AllocError, AllocFailed};
 
 /// Why a document is not read: the first of these that holds, in this order.
 #[derive(Clone, Copy, Debug, PartialEq, Eq)]
-pub enum FileFault {
+pub enum DocumentFault {
     /// The number of its bytes, which is above `MAX_DOCUMENT`.
     Bytes(u64),
     /// The bytes are no TOML document, of version 1.1 in UTF-8.
@@ -28,18 +28,18 @@ pub enum FileFault {
     Memory,
 }
 
-impl From<AllocError> for FileFault {
+impl From<AllocError> for DocumentFault {
     ghost from_gives = { λ _ e. e ≡ Memory };
 
-    fn from(_e: AllocError) -> FileFault {
-        FileFault::Memory
+    fn from(_e: AllocError) -> DocumentFault {
+        DocumentFault::Memory
     }
 }
 
-impl<T: Drop> From<AllocFailed<T>> for FileFault {
+impl<T: Drop> From<AllocFailed<T>> for DocumentFault {
     ghost from_gives = { λ _ e. e ≡ Memory };
 
-    fn from(_e: AllocFailed<T>) -> FileFault {
-        FileFault::Memory
+    fn from(_e: AllocFailed<T>) -> DocumentFault {
+        DocumentFault::Memory
     }
 }

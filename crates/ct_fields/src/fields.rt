@@ -6,7 +6,7 @@ ghost use Rattle.ct_words.specs.declared.limits.TheConstants.{MAX_N};
 ghost use Rattle.ct_fields.specs.Reads.{Reads, texts_behind};
 ghost use Rattle.ct_fields.specs.Fields.{number_field, texts_of, texts_field, words_from};
 
-use crate::fault::FileFault;
+use crate::fault::DocumentFault;
 use crate::field::FieldName;
 use ct_words::{Word, parse_word};
 use std::alloc::{AllocError, Global};
@@ -18,17 +18,17 @@ pub fn number_field(
     name: FieldName,
     low: u32,
     high: u32,
-) -> Result<u32, FileFault>
+) -> Result<u32, DocumentFault>
     ensures { result ≡ number_field name low high (view document.now) }
 {
     match document.get(name.text()) {
         Some(Value::Integer(number)) => {
             if *number < i64::from(low) || *number > i64::from(high) {
-                return Err(FileFault::Field(name));
+                return Err(DocumentFault::Field(name));
             }
             Ok(*number as u32)
         }
-        _ => Err(FileFault::Field(name)),
+        _ => Err(DocumentFault::Field(name)),
     }
 }
 
@@ -37,15 +37,15 @@ pub fn texts_field<'a>(
     alloc: Global,
     document: &'a Value,
     name: FieldName,
-) -> Result<Vec<&'a str>, FileFault>
+) -> Result<Vec<&'a str>, DocumentFault>
     ensures { Reads (λ v. texts_behind v.items) result (texts_field name (view document.now)) }
 {
     match document.get(name.text()) {
         Some(Value::Array(values)) => match texts_of(alloc, values)? {
             Some(texts) => Ok(texts),
-            None => Err(FileFault::Field(name)),
+            None => Err(DocumentFault::Field(name)),
         },
-        _ => Err(FileFault::Field(name)),
+        _ => Err(DocumentFault::Field(name)),
     }
 }
 
@@ -79,7 +79,7 @@ pub fn words_from(
     n: u32,
     first: usize,
     texts: &[&str],
-) -> Result<Vec<Word>, FileFault>
+) -> Result<Vec<Word>, DocumentFault>
     requires some { 1 ≤ n }
     requires room { n ≤ MAX_N }
     requires places { first + length texts.now < 2 ^ 64 }
@@ -88,7 +88,7 @@ pub fn words_from(
     let mut words = Vec::new(alloc);
     for (place, text) in texts.iter().enumerate() {
         let Ok(word) = parse_word(text.as_bytes(), n) else {
-            return Err(FileFault::Digits(first + place));
+            return Err(DocumentFault::Digits(first + place));
         };
         words.push(word)?;
     }

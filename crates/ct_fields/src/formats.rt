@@ -4,13 +4,13 @@ ghost use Rattle.toml.specs.View.{view};
 ghost use Rattle.ct_fields.specs.Format.{format_of, may_cite};
 
 use crate::entry::has_field;
-use crate::fault::FileFault;
+use crate::fault::DocumentFault;
 use crate::field::FieldName;
 use crate::fields::number_field;
 use toml::Value;
 
 /// The format of the document: 1 or 2, as it says at the key `format`, and 1 where the key is left out.
-pub fn format_of(document: &Value) -> Result<u32, FileFault>
+pub fn format_of(document: &Value) -> Result<u32, DocumentFault>
     ensures { result ≡ format_of (view document.now) }
 {
     if !has_field(document, FieldName::Format) {

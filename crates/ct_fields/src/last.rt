@@ -9,7 +9,7 @@ ghost use Rattle.ct_fields.specs.Format.{may_cite};
 ghost use Rattle.ct_fields.specs.LastFields.{all_fields, last_fields};
 
 use crate::cites::are_right;
-use crate::fault::FileFault;
+use crate::fault::DocumentFault;
 use crate::field::FieldName;
 use crate::formats::may_cite;
 use toml::{Table, Value};
@@ -17,14 +17,14 @@ use toml::{Table, Value};
 /// Refuses wrong cites of a document of format 2, and then a key that is neither `kind`, nor `format`, nor that of one of the
 /// fields, which are those of its kind, nor, in format 2, `cites`. It takes no memory.
 #[tactic(auto, unfolding(crate::specs::LastFields::last_fields))]
-pub fn last_fields(document: &Value, names: &[FieldName]) -> Result<(), FileFault>
+pub fn last_fields(document: &Value, names: &[FieldName]) -> Result<(), DocumentFault>
     ensures { result ≡ last_fields names.now (view document.now) }
 {
     if !are_right(document) {
-        return Err(FileFault::Field(FieldName::Cites));
+        return Err(DocumentFault::Field(FieldName::Cites));
     }
     if !has_only(document, may_cite(document), names) {
-        return Err(FileFault::Unknown);
+        return Err(DocumentFault::Unknown);
     }
     Ok(())
 }

@@ -18,7 +18,7 @@ pub use document::{MAX_DOCUMENT, is_of_kind, read_table, table_bytes};
 pub use entry::{
     distance_beside, has_field, length_field, plain_entry, stated_entry, weight_field,
 };
-pub use fault::FileFault;
+pub use fault::DocumentFault;
 pub use field::FieldName;
 pub use fields::{number_field, texts_field, texts_of, words_from};
 pub use formats::{format_of, may_cite};

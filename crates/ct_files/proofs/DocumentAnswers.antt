@@ -10,8 +10,8 @@ use Rattle.ct_fields.specs.Fields.{is_of_kind}
 use Rattle.ct_fields.specs.Document.{table_of}
 use Rattle.ct_fields.specs.Tables.{IsDocument, IsOfKind}
 use Rattle.ct_fields.specs.declared.document.TheConstants.{MAX_DOCUMENT}
-use Rattle.ct_fields.specs.declared.fault.FileFault.{FileFault}
-use Rattle.ct_fields.specs.declared.fault.FileFault.TheVariants.{Bytes, NotToml, Field, Kind as NoKind}
+use Rattle.ct_fields.specs.declared.fault.DocumentFault.{DocumentFault}
+use Rattle.ct_fields.specs.declared.fault.DocumentFault.TheVariants.{Bytes, NotToml, Field, Kind as NoKind}
 use Rattle.ct_fields.proofs.FieldLemmas.{is_of_kind-true, is_of_kind-from}
 use Rattle.ct_kind.specs.declared.evidence.Evidence.{Evidence}
 use Rattle.ct_kind.specs.declared.evidence.Evidence.TheVariants as evidence
@@ -47,7 +47,7 @@ unfolding evidence_of
 evidence_of-kind k document of_kind = bind-at (kind_in document) _ k (kind_in-named k document of_kind)
 
 -- each answer to its fields comes where it is said to come
-pub fields_by : (k : Kind) (ms : Members) → IsOfKind (kind_text k) (table ms) → (answer : Result Evidence FileFault)
+pub fields_by : (k : Kind) (ms : Members) → IsOfKind (kind_text k) (table ms) → (answer : Result Evidence DocumentFault)
     → (evidence_by k (table ms) ≡ answer) ↔ IsFieldsAnswer k (table ms) answer
 fields_by kind.Words = words_answers
 fields_by kind.Cosets = cosets_answers
@@ -62,20 +62,20 @@ fields_by kind.JohnsonLocal = local_dual_evidences
 -- and so does each answer to the document
 answer_by : (k : Kind) (ms : Members) → IsOfKind (kind_text k) (table ms) → IsAnswer k (table ms) (evidence_of (table ms))
 answer_by k ms named =
-    let P : Result Evidence FileFault → Type 0 = IsAnswer k (table ms) in
+    let P : Result Evidence DocumentFault → Type 0 = IsAnswer k (table ms) in
     subst P (sym (evidence_of-kind k (table ms) named))
     (bind-cases P (format_of (table ms)) (λ _. evidence_by k (table ms))
     (λ f is. of_fields (f, format_of-ok (table ms) f is) ((fields_by k ms named (evidence_by k (table ms))).0 refl))
-    (λ fault is. let (same, wrong) = format_of-err (table ms) fault is in of_format wrong (ap (λ (f : FileFault). Err f) (sym same))))
+    (λ fault is. let (same, wrong) = format_of-err (table ms) fault is in of_format wrong (ap (λ (f : DocumentFault). Err f) (sym same))))
 
-answer_by-from : (k : Kind) (ms : Members) → IsOfKind (kind_text k) (table ms) → (answer : Result Evidence FileFault) → IsAnswer k (table ms) answer
+answer_by-from : (k : Kind) (ms : Members) → IsOfKind (kind_text k) (table ms) → (answer : Result Evidence DocumentFault) → IsAnswer k (table ms) answer
     → evidence_of (table ms) ≡ answer
 answer_by-from k ms named answer (of_format wrong same) =
     evidence_of-kind k (table ms) named ∙ bind-at_err (format_of (table ms)) _ (Field Format) (format_of-wrong (table ms) wrong) ∙ sym same
 answer_by-from k ms named answer (of_fields (f, has) comes) =
     evidence_of-kind k (table ms) named ∙ bind-at (format_of (table ms)) _ f (format_of-from (table ms) f has) ∙ (fields_by k ms named answer).1 comes
 
-answers_by : (k : Kind) (ms : Members) → IsOfKind (kind_text k) (table ms) → (answer : Result Evidence FileFault)
+answers_by : (k : Kind) (ms : Members) → IsOfKind (kind_text k) (table ms) → (answer : Result Evidence DocumentFault)
     → (evidence_of (table ms) ≡ answer) ↔ IsAnswer k (table ms) answer
 answers_by k ms named answer = (λ same. subst (IsAnswer k (table ms)) same (answer_by k ms named), answer_by-from k ms named answer)
 
@@ -137,7 +137,7 @@ abbrev kinds : List Kind
 kinds = kind.Words ∷ kind.Cosets ∷ kind.Partition ∷ kind.Build ∷ kind.Product ∷ kind.Dual ∷ kind.JohnsonDual ∷ kind.Odd ∷ kind.JohnsonLocal ∷ []
 
 -- the first of these kinds that a document is of
-abbrev kind_among : List Kind → Data → Result Kind FileFault
+abbrev kind_among : List Kind → Data → Result Kind DocumentFault
 kind_among [] document = Err NoKind
 kind_among (k ∷ ks) document = if is_of_kind (kind_text k) document then Ok k else kind_among ks document
 
@@ -245,7 +245,7 @@ unfolding read_without_limit
 read_of-no_table bytes short none = read_of-short bytes short ∙ rw none refl
 
 -- where the answer to a document comes, which is of one of the kinds or of none
-data DocumentAnswer (document : Data) (answer : Result Evidence FileFault) : Type 0 where
+data DocumentAnswer (document : Data) (answer : Result Evidence DocumentFault) : Type 0 where
   of_kind : (k : Kind) → IsOfKind (kind_text k) document → IsAnswer k document answer → DocumentAnswer document answer
   of_no_kind : IsOfNoKind document → answer ≡ Err NoKind → DocumentAnswer document answer
 
@@ -264,7 +264,7 @@ document_answer bytes document written =
     rw (read_of-document bytes document written) (subst (λ (d : Data). DocumentAnswer d (evidence_of d)) (sym same) (table_answer ms))
 
 -- where the answer to bytes comes: they are too many, or write no table, or it is that to a document
-data BytesAnswer (bytes : List ℕ) (answer : Result Evidence FileFault) : Type 0 where
+data BytesAnswer (bytes : List ℕ) (answer : Result Evidence DocumentFault) : Type 0 where
   long : MAX_DOCUMENT < length bytes → answer ≡ Err (Bytes (length bytes)) → BytesAnswer bytes answer
   no_table : length bytes ≤ MAX_DOCUMENT → table_of bytes ≡ None → answer ≡ Err NotToml → BytesAnswer bytes answer
   of_document : (document : Data) → IsDocument bytes document → DocumentAnswer document answer → BytesAnswer bytes answer
@@ -281,7 +281,7 @@ bytes_answer bytes =
     ]
 
 -- what is said of each answer to a document of a kind
-pub answers : (k : Kind) (bytes : List ℕ) (document : Data) (answer : Result Evidence FileFault) → IsDocument bytes document → IsOfKind (kind_text k) document
+pub answers : (k : Kind) (bytes : List ℕ) (document : Data) (answer : Result Evidence DocumentFault) → IsDocument bytes document → IsOfKind (kind_text k) document
     → (read_of bytes ≡ answer) ↔ IsAnswer k document answer
 answers k bytes document answer written named =
     let (ms, parsed, same) = written.written in

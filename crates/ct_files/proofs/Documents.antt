@@ -12,7 +12,7 @@ use Rattle.ct_fields.specs.Cites.{cites_of}
 use Rattle.ct_fields.specs.HasCites.{HasRightCites, HasLast}
 use Rattle.ct_fields.specs.declared.document.TheConstants.{MAX_DOCUMENT}
 use Rattle.ct_fields.specs.declared.field.FieldName.{FieldName}
-use Rattle.ct_fields.specs.declared.fault.FileFault.{FileFault}
+use Rattle.ct_fields.specs.declared.fault.DocumentFault.{DocumentFault}
 use Rattle.ct_fields.proofs.StepLemmas.{bind-ok}
 use Rattle.ct_fields.proofs.CiteLemmas.{cites_of-ok, cites_of-from, HasCites-right}
 use Rattle.ct_kind.specs.declared.evidence.Evidence.{Evidence}
@@ -58,7 +58,7 @@ document_of-part : (ms : Members) → evidence_of (table ms) ≡ evidence_part (
 unfolding document_of
 document_of-part ms = at (evidence_of (table ms)) refl
   where
-    at : (read : Result Evidence FileFault) → evidence_of (table ms) ≡ read
+    at : (read : Result Evidence DocumentFault) → evidence_of (table ms) ≡ read
         → read ≡ evidence_part (read >>= (λ e. cites_of (table ms) >>= (λ cites. Ok (record { evidence = e; cites = cites }))))
     at (Err fault) is = refl
     at (Ok e) is = let (cites, has) = table-cites ms e is in rw (cites_of-from (table ms) cites has) refl
@@ -105,14 +105,14 @@ pub document_without_limit-evidence : (bytes : List ℕ) (d : DocumentValue) →
 document_without_limit-evidence bytes d read = read_without_limit-part bytes ∙ ap evidence_part read
 
 -- the fault is the same
-pub document_read_of-err : (bytes : List ℕ) (fault : FileFault) → document_read_of bytes ≡ Err fault → read_of bytes ≡ Err fault
+pub document_read_of-err : (bytes : List ℕ) (fault : DocumentFault) → document_read_of bytes ≡ Err fault → read_of bytes ≡ Err fault
 document_read_of-err bytes fault read = read_of-part bytes ∙ ap evidence_part read
 
-err-from : (read : Result DocumentValue FileFault) (fault : FileFault) → evidence_part read ≡ Err fault → read ≡ Err fault
+err-from : (read : Result DocumentValue DocumentFault) (fault : DocumentFault) → evidence_part read ≡ Err fault → read ≡ Err fault
 err-from (Ok d) fault e = absurd cc
-err-from (Err other) fault e = let same : other ≡ fault = cc in ap (λ (f : FileFault). Err f) same
+err-from (Err other) fault e = let same : other ≡ fault = cc in ap (λ (f : DocumentFault). Err f) same
 
-pub document_read_of-fault : (bytes : List ℕ) (fault : FileFault) → read_of bytes ≡ Err fault → document_read_of bytes ≡ Err fault
+pub document_read_of-fault : (bytes : List ℕ) (fault : DocumentFault) → read_of bytes ≡ Err fault → document_read_of bytes ≡ Err fault
 document_read_of-fault bytes fault read = err-from (document_read_of bytes) fault (sym (read_of-part bytes) ∙ read)
 
 -- a document that is read is within the limit, and reads so without it
@@ -159,7 +159,7 @@ pub document_read_of-right : (bytes : List ℕ) (d : DocumentValue) → document
 document_read_of-right bytes d read = document_without_limit-right bytes d (document_read_of-without_limit bytes d read)
 
 -- an answer that is what the bytes give is right
-pub Reads-right : {X : Type 0} (view : X → DocumentValue) (bytes : List ℕ) (answer : Result X FileFault) → Reads view answer (document_read_of bytes)
+pub Reads-right : {X : Type 0} (view : X → DocumentValue) (bytes : List ℕ) (answer : Result X DocumentFault) → Reads view answer (document_read_of bytes)
     → IfOk answer (λ x. IsRightDocument (view x))
 Reads-right view bytes (Ok x) reads = document_read_of-right bytes (view x) reads
 Reads-right view bytes (Err fault) reads = tt

@@ -3,7 +3,7 @@ use Rattle.std.proofs.Common.{◌≡◌, codes, Result, Ok, Err, subst}
 use Rattle.std.specs.Prelude.{◌↔◌}
 use Rattle.toml.specs.Data.{table, Members}
 use Rattle.ct_fields.specs.Tables.{IsOfKind}
-use Rattle.ct_fields.specs.declared.fault.FileFault.{FileFault}
+use Rattle.ct_fields.specs.declared.fault.DocumentFault.{DocumentFault}
 use Rattle.ct_fields.proofs.StepLemmas.{bind-at, bind-at_err, bind-cases}
 use Rattle.ct_dual_files.specs.Dual.{dual_of, johnson_dual_of, odd_of, local_dual_of}
 use Rattle.ct_dual_files.proofs.DualAnswers.{dual_answers, dual_answer-from}
@@ -21,12 +21,12 @@ dual_evidence ms of_kind =
     bind-cases (IsDualEvidence (table ms)) (dual_of (table ms)) (λ d. Ok (evidence.Dual d)) (λ d is. (dual_answers ms of_kind (Ok d)).0 is)
     (λ fault is. (dual_answers ms of_kind (Err fault)).0 is)
 
-pub dual_evidence-from : (ms : Members) (answer : Result Evidence FileFault) → IsDualEvidence (table ms) answer → dual_evidence_of (table ms) ≡ answer
+pub dual_evidence-from : (ms : Members) (answer : Result Evidence DocumentFault) → IsDualEvidence (table ms) answer → dual_evidence_of (table ms) ≡ answer
 dual_evidence-from ms (Ok (evidence.Dual d)) states = bind-at (dual_of (table ms)) (λ d. Ok (evidence.Dual d)) d (dual_answer-from ms (Ok d) states)
 dual_evidence-from ms (Ok other) never = absurd never
 dual_evidence-from ms (Err fault) wrong = bind-at_err (dual_of (table ms)) (λ d. Ok (evidence.Dual d)) fault (dual_answer-from ms (Err fault) wrong)
 
-pub dual_evidences : (ms : Members) → IsOfKind (codes "dual") (table ms) → (answer : Result Evidence FileFault)
+pub dual_evidences : (ms : Members) → IsOfKind (codes "dual") (table ms) → (answer : Result Evidence DocumentFault)
     → (dual_evidence_of (table ms) ≡ answer) ↔ IsDualEvidence (table ms) answer
 dual_evidences ms of_kind answer = (λ same. subst (IsDualEvidence (table ms)) same (dual_evidence ms of_kind), dual_evidence-from ms answer)
 
@@ -37,7 +37,7 @@ johnson_dual_evidence ms of_kind =
     (λ d is. (johnson_dual_answers ms of_kind (Ok d)).0 is)
     (λ fault is. (johnson_dual_answers ms of_kind (Err fault)).0 is)
 
-pub johnson_dual_evidence-from : (ms : Members) (answer : Result Evidence FileFault) → IsJohnsonDualEvidence (table ms) answer
+pub johnson_dual_evidence-from : (ms : Members) (answer : Result Evidence DocumentFault) → IsJohnsonDualEvidence (table ms) answer
     → johnson_dual_evidence_of (table ms) ≡ answer
 johnson_dual_evidence-from ms (Ok (evidence.JohnsonDual d)) states =
     bind-at (johnson_dual_of (table ms)) (λ d. Ok (evidence.JohnsonDual d)) d (johnson_dual_answer-from ms (Ok d) states)
@@ -45,7 +45,7 @@ johnson_dual_evidence-from ms (Ok other) never = absurd never
 johnson_dual_evidence-from ms (Err fault) wrong =
     bind-at_err (johnson_dual_of (table ms)) (λ d. Ok (evidence.JohnsonDual d)) fault (johnson_dual_answer-from ms (Err fault) wrong)
 
-pub johnson_dual_evidences : (ms : Members) → IsOfKind (codes "jdual") (table ms) → (answer : Result Evidence FileFault)
+pub johnson_dual_evidences : (ms : Members) → IsOfKind (codes "jdual") (table ms) → (answer : Result Evidence DocumentFault)
     → (johnson_dual_evidence_of (table ms) ≡ answer) ↔ IsJohnsonDualEvidence (table ms) answer
 johnson_dual_evidences ms of_kind answer =
     (λ same. subst (IsJohnsonDualEvidence (table ms)) same (johnson_dual_evidence ms of_kind), johnson_dual_evidence-from ms answer)
@@ -56,14 +56,14 @@ odd_evidence ms of_kind =
     bind-cases (IsOddEvidence (table ms)) (odd_of (table ms)) (λ odd. Ok (evidence.Odd odd.0 odd.1)) (λ odd is. (odd_answers ms of_kind (Ok odd)).0 is)
     (λ fault is. (odd_answers ms of_kind (Err fault)).0 is)
 
-pub odd_evidence-from : (ms : Members) (answer : Result Evidence FileFault) → IsOddEvidence (table ms) answer → odd_evidence_of (table ms) ≡ answer
+pub odd_evidence-from : (ms : Members) (answer : Result Evidence DocumentFault) → IsOddEvidence (table ms) answer → odd_evidence_of (table ms) ≡ answer
 odd_evidence-from ms (Ok (evidence.Odd d m)) states =
     bind-at (odd_of (table ms)) (λ odd. Ok (evidence.Odd odd.0 odd.1)) (d, m) (odd_answer-from ms (Ok (d, m)) states)
 odd_evidence-from ms (Ok other) never = absurd never
 odd_evidence-from ms (Err fault) wrong =
     bind-at_err (odd_of (table ms)) (λ odd. Ok (evidence.Odd odd.0 odd.1)) fault (odd_answer-from ms (Err fault) wrong)
 
-pub odd_evidences : (ms : Members) → IsOfKind (codes "odd") (table ms) → (answer : Result Evidence FileFault)
+pub odd_evidences : (ms : Members) → IsOfKind (codes "odd") (table ms) → (answer : Result Evidence DocumentFault)
     → (odd_evidence_of (table ms) ≡ answer) ↔ IsOddEvidence (table ms) answer
 odd_evidences ms of_kind answer = (λ same. subst (IsOddEvidence (table ms)) same (odd_evidence ms of_kind), odd_evidence-from ms answer)
 
@@ -74,7 +74,7 @@ local_dual_evidence ms of_kind =
     (λ d is. (local_dual_answers ms of_kind (Ok d)).0 is)
     (λ fault is. (local_dual_answers ms of_kind (Err fault)).0 is)
 
-pub local_dual_evidence-from : (ms : Members) (answer : Result Evidence FileFault) → IsLocalDualEvidence (table ms) answer
+pub local_dual_evidence-from : (ms : Members) (answer : Result Evidence DocumentFault) → IsLocalDualEvidence (table ms) answer
     → local_dual_evidence_of (table ms) ≡ answer
 local_dual_evidence-from ms (Ok (evidence.JohnsonLocal d)) states =
     bind-at (local_dual_of (table ms)) (λ d. Ok (evidence.JohnsonLocal d)) d (local_dual_answer-from ms (Ok d) states)
@@ -82,7 +82,7 @@ local_dual_evidence-from ms (Ok other) never = absurd never
 local_dual_evidence-from ms (Err fault) wrong =
     bind-at_err (local_dual_of (table ms)) (λ d. Ok (evidence.JohnsonLocal d)) fault (local_dual_answer-from ms (Err fault) wrong)
 
-pub local_dual_evidences : (ms : Members) → IsOfKind (codes "jlocal") (table ms) → (answer : Result Evidence FileFault)
+pub local_dual_evidences : (ms : Members) → IsOfKind (codes "jlocal") (table ms) → (answer : Result Evidence DocumentFault)
     → (local_dual_evidence_of (table ms) ≡ answer) ↔ IsLocalDualEvidence (table ms) answer
 local_dual_evidences ms of_kind answer =
     (λ same. subst (IsLocalDualEvidence (table ms)) same (local_dual_evidence ms of_kind), local_dual_evidence-from ms answer)

@@ -18,7 +18,7 @@ use Rattle.ct_fields.specs.Reads.{Reads}
 use Rattle.ct_fields.specs.declared.document.TheConstants.{MAX_DOCUMENT}
 use Rattle.ct_kind.specs.declared.evidence.Evidence.{Evidence}
 use Rattle.ct_kind.specs.declared.evidence.Evidence.TheVariants.{Words, Cosets, Partition, Build, Product, Dual, JohnsonDual, Odd, JohnsonLocal}
-use Rattle.ct_fields.specs.declared.fault.FileFault.{FileFault}
+use Rattle.ct_fields.specs.declared.fault.DocumentFault.{DocumentFault}
 use Rattle.ct_files.specs.Kinds.{kind_of}
 use Rattle.ct_files.specs.Answers.{IsFieldsAnswer}
 use Rattle.ct_files.proofs.DocumentAnswers.{stated_fields, table_states, without_limit-table, short_or_long, read_of-short, read_of-long}
@@ -110,6 +110,6 @@ pub read_of-sound : (bytes : List ℕ) (e : Evidence) → read_of bytes ≡ Ok e
 read_of-sound bytes e read = read_without_limit-sound bytes e (read_of-without_limit bytes e read)
 
 -- an answer that is what the bytes give is sound
-pub Reads-sound : (bytes : List ℕ) (answer : Result Evidence FileFault) → Reads (λ e. e) answer (read_of bytes) → IfOk answer IsSound
+pub Reads-sound : (bytes : List ℕ) (answer : Result Evidence DocumentFault) → Reads (λ e. e) answer (read_of bytes) → IfOk answer IsSound
 Reads-sound bytes (Ok e) reads = read_of-sound bytes e reads
 Reads-sound bytes (Err fault) reads = tt

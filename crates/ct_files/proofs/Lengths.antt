@@ -9,7 +9,7 @@ use Rattle.ct_codes.specs.declared.fault.TheConstants.{MAX_REPRESENTATIVES}
 use Rattle.ct_codes.specs.declared.entry.Entry.{Entry}
 use Rattle.ct_codes.specs.Entry.{IsEntry}
 use Rattle.ct_codes.proofs.EntryLemmas.{entry_limits}
-use Rattle.ct_partitions.specs.Partition.{all_words}
+use Rattle.ct_partitions.specs.Partition.{words_of_classes}
 use Rattle.ct_duals.specs.declared.dual.Dual.{Dual}
 use Rattle.ct_duals.specs.Dual.{IsDual, degree_of, greatest_index, as_index, is_in_range}
 use Rattle.toml.specs.Data.{Members, table}
@@ -92,7 +92,7 @@ most_bytes-room (evidence.Cosets e basis representatives) (entry, plain, short_b
 most_bytes-room (evidence.Partition e between classes) (entry, some, nearer, short, right) =
     let counts = counts_are_right classes right in
     let few_classes = counts.count.1 in
-    let room = words_within e.n (length (all_words classes)) 16384 (entry-small e entry) counts.few_words in omega (arith, room, few_classes)
+    let room = words_within e.n (length (words_of_classes classes)) 16384 (entry-small e entry) counts.few_words in omega (arith, room, few_classes)
 most_bytes-room (evidence.Build e step part other) sound = omega arith
 most_bytes-room (evidence.Product e pairs) (entry, some, few, one) = omega (arith, few)
 most_bytes-room (evidence.Dual d) (form, plain) = let (few, listed) = dual_few d form in omega (arith, few, listed)

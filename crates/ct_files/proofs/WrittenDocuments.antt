@@ -22,7 +22,7 @@ use Rattle.ct_fields.proofs.CitedTables.{alike-cited, cites-cited, last-cited, f
 use Rattle.ct_fields.proofs.CiteRooms.{fits-cited, cites_bytes-few}
 use Rattle.ct_fields.proofs.TextLengths.{simple-fits, fits-more, fitting_length}
 use Rattle.ct_duals.specs.declared.dual.Dual.{Dual}
-use Rattle.ct_fields.specs.declared.fault.FileFault.{FileFault}
+use Rattle.ct_fields.specs.declared.fault.DocumentFault.{DocumentFault}
 use Rattle.ct_kind.specs.declared.evidence.Evidence.{Evidence}
 use Rattle.ct_kind.specs.declared.evidence.Evidence.TheVariants as evidence
 use Rattle.ct_word_files.specs.WordsDocument.{words_fields}
@@ -74,19 +74,19 @@ reads_cited (evidence.Build e step part other) cites ms first states reads right
     build-alike ms (put_cites cites ms) e step part other (alike-cited cites ms) states
     (last-cited cites (build_fields (operation_of step)) ms first states.last right)
 reads_cited (evidence.Dual d) cites ms first states reads right =
-    ap (λ (read : Result Dual FileFault). read >>= (λ dual. Ok (evidence.Dual dual)))
+    ap (λ (read : Result Dual DocumentFault). read >>= (λ dual. Ok (evidence.Dual dual)))
     (dual-alike (table ms) (table (put_cites cites ms)) (alike-cited cites ms) (last_same dual_fields cites ms first states.last right))
     ∙ reads
 reads_cited (evidence.JohnsonDual d) cites ms first states reads right =
-    ap (λ (read : Result Dual FileFault). read >>= (λ dual. Ok (evidence.JohnsonDual dual)))
+    ap (λ (read : Result Dual DocumentFault). read >>= (λ dual. Ok (evidence.JohnsonDual dual)))
     (johnson_dual-alike (table ms) (table (put_cites cites ms)) (alike-cited cites ms) (last_same johnson_dual_fields cites ms first states.last right))
     ∙ reads
 reads_cited (evidence.Odd d m) cites ms first states reads right =
-    ap (λ (read : Result (Dual × ℕ) FileFault). read >>= (λ odd. Ok (evidence.Odd odd.0 odd.1)))
+    ap (λ (read : Result (Dual × ℕ) DocumentFault). read >>= (λ odd. Ok (evidence.Odd odd.0 odd.1)))
     (odd-alike (table ms) (table (put_cites cites ms)) (alike-cited cites ms) (last_same odd_fields cites ms first states.last right))
     ∙ reads
 reads_cited (evidence.JohnsonLocal d) cites ms first states reads right =
-    ap (λ (read : Result Dual FileFault). read >>= (λ dual. Ok (evidence.JohnsonLocal dual)))
+    ap (λ (read : Result Dual DocumentFault). read >>= (λ dual. Ok (evidence.JohnsonLocal dual)))
     (local_dual-alike (table ms) (table (put_cites cites ms)) (alike-cited cites ms) (last_same local_dual_fields cites ms first states.last right))
     ∙ reads
 

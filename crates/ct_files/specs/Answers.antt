@@ -4,8 +4,8 @@ use Rattle.toml.specs.Data.{Data}
 use Rattle.ct_fields.specs.Tables.{IsOfKind}
 use Rattle.ct_fields.specs.HasCites.{HasRightFormat, HasWrongFormat}
 use Rattle.ct_fields.specs.declared.field.FieldName.TheVariants.{Format}
-use Rattle.ct_fields.specs.declared.fault.FileFault.{FileFault}
-use Rattle.ct_fields.specs.declared.fault.FileFault.TheVariants.{Field}
+use Rattle.ct_fields.specs.declared.fault.DocumentFault.{DocumentFault}
+use Rattle.ct_fields.specs.declared.fault.DocumentFault.TheVariants.{Field}
 use Rattle.ct_kind.specs.declared.evidence.Evidence.{Evidence}
 use Rattle.ct_word_files.specs.WordsDocument.{IsWordsAnswer}
 use Rattle.ct_word_files.specs.CosetsDocument.{IsCosetsAnswer}
@@ -18,7 +18,7 @@ use Rattle.ct_files.specs.declared.kind.Kind.{Kind}
 use Rattle.ct_files.specs.declared.kind.Kind.TheVariants.{Words, Cosets, Partition, Build, Product, Dual, JohnsonDual, Odd, JohnsonLocal}
 
 -- where each answer comes for a document of the kind whose format is right
-abbrev pub IsFieldsAnswer : Kind → Data → Result Evidence FileFault → Type 0
+abbrev pub IsFieldsAnswer : Kind → Data → Result Evidence DocumentFault → Type 0
 IsFieldsAnswer Words = IsWordsAnswer
 IsFieldsAnswer Cosets = IsCosetsAnswer
 IsFieldsAnswer Partition = IsPartitionAnswer
@@ -30,7 +30,7 @@ IsFieldsAnswer Odd = IsOddEvidence
 IsFieldsAnswer JohnsonLocal = IsLocalDualEvidence
 
 -- where each answer comes for a document of the kind: the format is judged before the fields of the kind
-pub data IsAnswer (kind : Kind) (document : Data) (answer : Result Evidence FileFault) : Type 0 where
+pub data IsAnswer (kind : Kind) (document : Data) (answer : Result Evidence DocumentFault) : Type 0 where
   of_format : HasWrongFormat document → answer ≡ Err (Field Format) → IsAnswer kind document answer
   of_fields : HasRightFormat document → IsFieldsAnswer kind document answer → IsAnswer kind document answer
 

@@ -9,8 +9,8 @@ use Rattle.ct_fields.specs.HasCites.{IsSecond, HasCites}
 use Rattle.ct_fields.specs.Tables.{IsDocument}
 use Rattle.ct_fields.specs.declared.document.TheConstants.{MAX_DOCUMENT}
 use Rattle.ct_fields.specs.declared.field.FieldName.TheVariants.{Format}
-use Rattle.ct_fields.specs.declared.fault.FileFault.{FileFault}
-use Rattle.ct_fields.specs.declared.fault.FileFault.TheVariants.{Bytes}
+use Rattle.ct_fields.specs.declared.fault.DocumentFault.{DocumentFault}
+use Rattle.ct_fields.specs.declared.fault.DocumentFault.TheVariants.{Bytes}
 use Rattle.ct_kind.specs.declared.evidence.Evidence.{Evidence}
 use Rattle.ct_files.specs.Evidence.{IsSound, evidence_of, read_of}
 use Rattle.ct_files.specs.declared.contents.Document.{Document}
@@ -33,26 +33,26 @@ abbrev pub IsRightDocument : DocumentValue → Type 0
 IsRightDocument d = IsSound d.evidence × IsCites d.cites
 
 -- the document of a table: its evidence, and then its cites
-unfoldable pub document_of : Data → Result DocumentValue FileFault
+unfoldable pub document_of : Data → Result DocumentValue DocumentFault
 document_of written = do
   evidence ← evidence_of written
   cites ← cites_of written
   Ok (record { evidence = evidence; cites = cites })
 
 -- what bytes read as, however many they are
-unfoldable pub document_without_limit : List ℕ → Result DocumentValue FileFault
+unfoldable pub document_without_limit : List ℕ → Result DocumentValue DocumentFault
 document_without_limit bytes = do
   written ← read_table bytes
   document_of written
 
 -- what bytes read as: a document, or its first fault
-unfoldable pub document_read_of : List ℕ → Result DocumentValue FileFault
+unfoldable pub document_read_of : List ℕ → Result DocumentValue DocumentFault
 document_read_of bytes = do
   check (nat_le (length bytes) MAX_DOCUMENT) (Bytes (length bytes))
   document_without_limit bytes
 
 -- the evidence of a document, or the same fault
-abbrev pub evidence_part : Result DocumentValue FileFault → Result Evidence FileFault
+abbrev pub evidence_part : Result DocumentValue DocumentFault → Result Evidence DocumentFault
 evidence_part read = do
   document ← read
   Ok document.evidence

@@ -4,7 +4,7 @@ use Rattle.toml.specs.Data.{Data}
 use Rattle.ct_duals.specs.declared.dual.Dual.{Dual}
 use Rattle.ct_fields.specs.Tables.{IsDocument}
 use Rattle.ct_fields.specs.HasCites.{HasRightFormat}
-use Rattle.ct_fields.specs.declared.fault.FileFault.{FileFault}
+use Rattle.ct_fields.specs.declared.fault.DocumentFault.{DocumentFault}
 use Rattle.ct_dual_files.specs.DualDocument.{StatesDual, IsDualFault, StatesJohnsonDual, IsJohnsonDualFault}
 use Rattle.ct_dual_files.specs.OddDocument.{StatesOddDual, IsOddFault}
 use Rattle.ct_dual_files.specs.LocalDocument.{StatesLocalDual, IsLocalDualFault}
@@ -12,25 +12,25 @@ use Rattle.ct_kind.specs.declared.evidence.Evidence.{Evidence}
 use Rattle.ct_kind.specs.declared.evidence.Evidence.TheVariants as evidence
 
 -- where each answer comes for a document of kind dual
-abbrev pub IsDualEvidence : Data → Result Evidence FileFault → Type 0
+abbrev pub IsDualEvidence : Data → Result Evidence DocumentFault → Type 0
 IsDualEvidence document (Ok (evidence.Dual d)) = StatesDual document d
 IsDualEvidence document (Ok other) = ⊥
 IsDualEvidence document (Err fault) = IsDualFault document fault
 
 -- where each answer comes for a document of kind jdual
-abbrev pub IsJohnsonDualEvidence : Data → Result Evidence FileFault → Type 0
+abbrev pub IsJohnsonDualEvidence : Data → Result Evidence DocumentFault → Type 0
 IsJohnsonDualEvidence document (Ok (evidence.JohnsonDual d)) = StatesJohnsonDual document d
 IsJohnsonDualEvidence document (Ok other) = ⊥
 IsJohnsonDualEvidence document (Err fault) = IsJohnsonDualFault document fault
 
 -- where each answer comes for a document of kind odd
-abbrev pub IsOddEvidence : Data → Result Evidence FileFault → Type 0
+abbrev pub IsOddEvidence : Data → Result Evidence DocumentFault → Type 0
 IsOddEvidence document (Ok (evidence.Odd d m)) = StatesOddDual document d m
 IsOddEvidence document (Ok other) = ⊥
 IsOddEvidence document (Err fault) = IsOddFault document fault
 
 -- where each answer comes for a document of kind jlocal
-abbrev pub IsLocalDualEvidence : Data → Result Evidence FileFault → Type 0
+abbrev pub IsLocalDualEvidence : Data → Result Evidence DocumentFault → Type 0
 IsLocalDualEvidence document (Ok (evidence.JohnsonLocal d)) = StatesLocalDual document d
 IsLocalDualEvidence document (Ok other) = ⊥
 IsLocalDualEvidence document (Err fault) = IsLocalDualFault document fault

@@ -4,7 +4,7 @@ use Rattle.toml.specs.Data.{Data}
 use Rattle.ct_words.specs.declared.limits.TheConstants.{MAX_N}
 use Rattle.ct_codes.specs.Entry.{IsEntry}
 use Rattle.ct_codes.specs.declared.fault.TheConstants.{MAX_WORDS, MAX_REPRESENTATIVES}
-use Rattle.ct_partitions.specs.Partition.{all_words}
+use Rattle.ct_partitions.specs.Partition.{words_of_classes}
 use Rattle.ct_partitions.specs.Check.{wrong_count}
 use Rattle.ct_build.specs.Build.{FitsStated}
 use Rattle.ct_fields.specs.Steps.{◌>>=◌, ◌>>◌, check}
@@ -17,24 +17,24 @@ use Rattle.ct_files.specs.Kinds.{kind_in, evidence_by}
 use Rattle.ct_fields.specs.declared.document.TheConstants.{MAX_DOCUMENT}
 use Rattle.ct_kind.specs.declared.evidence.Evidence.{Evidence}
 use Rattle.ct_kind.specs.declared.evidence.Evidence.TheVariants.{Words, Cosets, Partition, Build, Product, Dual, JohnsonDual, Odd, JohnsonLocal}
-use Rattle.ct_fields.specs.declared.fault.FileFault.{FileFault}
-use Rattle.ct_fields.specs.declared.fault.FileFault.TheVariants.{Bytes}
+use Rattle.ct_fields.specs.declared.fault.DocumentFault.{DocumentFault}
+use Rattle.ct_fields.specs.declared.fault.DocumentFault.TheVariants.{Bytes}
 
 -- the evidence of a document: its kind is judged first, then its format, then the fields of its kind
-unfoldable pub evidence_of : Data → Result Evidence FileFault
+unfoldable pub evidence_of : Data → Result Evidence DocumentFault
 evidence_of document = do
   kind ← kind_in document
   format_of document
   evidence_by kind document
 
 -- what the bytes of a document read as, however many they are
-unfoldable pub read_without_limit : List ℕ → Result Evidence FileFault
+unfoldable pub read_without_limit : List ℕ → Result Evidence DocumentFault
 read_without_limit bytes = do
   document ← read_table bytes
   evidence_of document
 
 -- what a document reads as: its evidence, or its first fault
-unfoldable pub read_of : List ℕ → Result Evidence FileFault
+unfoldable pub read_of : List ℕ → Result Evidence DocumentFault
 read_of bytes = do
   check (nat_le (length bytes) MAX_DOCUMENT) (Bytes (length bytes))
   read_without_limit bytes
@@ -50,7 +50,7 @@ IsSound (Cosets e basis representatives) =
     IsEntry e × (e.w ≡ None) × All (λ x. x < 2 ^ e.n) basis × All (λ x. x < 2 ^ e.n) representatives × (length basis ≤ MAX_N)
     × (1 ≤ length representatives) × (length representatives ≤ MAX_REPRESENTATIVES)
 IsSound (Partition e between classes) =
-    IsEntry e × (1 ≤ between) × (between ≤ e.d) × All (λ x. x < 2 ^ e.n) (all_words classes) × (wrong_count classes ≡ None)
+    IsEntry e × (1 ≤ between) × (between ≤ e.d) × All (λ x. x < 2 ^ e.n) (words_of_classes classes) × (wrong_count classes ≡ None)
 IsSound (Product e pairs) = IsEntry e × (1 ≤ length pairs) × (length pairs ≤ suc MAX_N) × (e.w ≡ None → length pairs ≡ 1)
 IsSound (Build e step part other) = FitsStated step e × (is_some other ≡ needs_other step)
 IsSound (Dual d) = IsDual d × (d.entry.w ≡ None)

@@ -3,8 +3,8 @@ use Rattle.std.specs.Prelude.{ℕ, if◌then◌else◌, List, Result, Ok, Err, c
 use Rattle.toml.specs.Data.{Data}
 use Rattle.ct_fields.specs.Steps.{◌>>=◌}
 use Rattle.ct_fields.specs.Fields.{is_of_kind}
-use Rattle.ct_fields.specs.declared.fault.FileFault.{FileFault}
-use Rattle.ct_fields.specs.declared.fault.FileFault.TheVariants as fault
+use Rattle.ct_fields.specs.declared.fault.DocumentFault.{DocumentFault}
+use Rattle.ct_fields.specs.declared.fault.DocumentFault.TheVariants as fault
 use Rattle.ct_kind.specs.declared.evidence.Evidence.{Evidence}
 use Rattle.ct_kind.specs.declared.evidence.Evidence.TheVariants as evidence
 use Rattle.ct_word_files.specs.Words.{words_evidence_of}
@@ -41,7 +41,7 @@ kind_text Odd = codes "odd"
 kind_text JohnsonLocal = codes "jlocal"
 
 -- the kind that a document names
-abbrev pub kind_in : Data → Result Kind FileFault
+abbrev pub kind_in : Data → Result Kind DocumentFault
 kind_in document =
     if is_of_kind (codes "words") document then Ok Words
     else if is_of_kind (codes "cosets") document then Ok Cosets
@@ -55,31 +55,31 @@ kind_in document =
     else Err fault.Kind
 
 -- the evidence of a document of kind dual
-abbrev pub dual_evidence_of : Data → Result Evidence FileFault
+abbrev pub dual_evidence_of : Data → Result Evidence DocumentFault
 dual_evidence_of document = do
   d ← dual_of document
   Ok (evidence.Dual d)
 
 -- the evidence of a document of kind jdual
-abbrev pub johnson_dual_evidence_of : Data → Result Evidence FileFault
+abbrev pub johnson_dual_evidence_of : Data → Result Evidence DocumentFault
 johnson_dual_evidence_of document = do
   d ← johnson_dual_of document
   Ok (evidence.JohnsonDual d)
 
 -- the evidence of a document of kind odd
-abbrev pub odd_evidence_of : Data → Result Evidence FileFault
+abbrev pub odd_evidence_of : Data → Result Evidence DocumentFault
 odd_evidence_of document = do
   odd ← odd_of document
   Ok (evidence.Odd odd.0 odd.1)
 
 -- the evidence of a document of kind jlocal
-abbrev pub local_dual_evidence_of : Data → Result Evidence FileFault
+abbrev pub local_dual_evidence_of : Data → Result Evidence DocumentFault
 local_dual_evidence_of document = do
   d ← local_dual_of document
   Ok (evidence.JohnsonLocal d)
 
 -- the evidence of a document of the kind, or the first fault of its fields
-abbrev pub evidence_by : Kind → Data → Result Evidence FileFault
+abbrev pub evidence_by : Kind → Data → Result Evidence DocumentFault
 evidence_by Words = words_evidence_of
 evidence_by Cosets = cosets_evidence_of
 evidence_by Partition = partition_evidence_of

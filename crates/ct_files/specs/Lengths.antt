@@ -1,6 +1,6 @@
 -- How many bytes the document of an evidence has at most, by its kind.
 use Rattle.std.specs.Prelude.{ℕ, ◌+◌, ◌*◌, length}
-use Rattle.ct_partitions.specs.Partition.{all_words}
+use Rattle.ct_partitions.specs.Partition.{words_of_classes}
 use Rattle.ct_kind.specs.declared.evidence.Evidence.{Evidence}
 use Rattle.ct_kind.specs.declared.evidence.Evidence.TheVariants.{Words, Cosets, Partition, Build, Product, Dual, JohnsonDual, Odd, JohnsonLocal}
 use Rattle.ct_fields.specs.Written.{cites_bytes}
@@ -11,7 +11,7 @@ use Rattle.ct_files.specs.Document.{DocumentValue}
 abbrev pub most_bytes : Evidence → ℕ
 most_bytes (Words e words) = 128 + (e.n + 4) * length words
 most_bytes (Cosets e basis representatives) = 128 + (e.n + 4) * (length basis + length representatives)
-most_bytes (Partition e between classes) = 160 + 4 * length classes + (e.n + 4) * length (all_words classes)
+most_bytes (Partition e between classes) = 160 + 4 * length classes + (e.n + 4) * length (words_of_classes classes)
 most_bytes (Build e step part other) = 1024
 most_bytes (Product e pairs) = 128 + 76 * length pairs
 most_bytes (Dual d) = 128 + 22 * length d.c + 48 * length d.y

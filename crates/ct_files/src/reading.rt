@@ -12,7 +12,7 @@ use crate::contents::Document;
 use crate::kind::Kind;
 use ct_build_files::build_evidence;
 use ct_dual_files::{dual_of, johnson_dual_of, local_dual_of, odd_of};
-use ct_fields::{FileFault, MAX_DOCUMENT, cites_of, format_of, is_of_kind, read_table};
+use ct_fields::{DocumentFault, MAX_DOCUMENT, cites_of, format_of, is_of_kind, read_table};
 use ct_kind::Evidence;
 use ct_partition_files::{partition_evidence, product_evidence};
 use ct_word_files::{cosets_evidence, words_evidence};
@@ -20,7 +20,7 @@ use std::alloc::Global;
 use toml::Value;
 
 /// The kind that the document names.
-fn kind_in(document: &Value) -> Result<Kind, FileFault>
+fn kind_in(document: &Value) -> Result<Kind, DocumentFault>
     ensures { result ≡ kind_in (view document.now) }
 {
     if is_of_kind(document, "words") {
@@ -50,11 +50,11 @@ fn kind_in(document: &Value) -> Result<Kind, FileFault>
     if is_of_kind(document, "jlocal") {
         return Ok(Kind::JohnsonLocal);
     }
-    Err(FileFault::Kind)
+    Err(DocumentFault::Kind)
 }
 
 /// The evidence of a document of the kind.
-fn evidence_by(alloc: Global, kind: Kind, document: &Value) -> Result<Evidence, FileFault>
+fn evidence_by(alloc: Global, kind: Kind, document: &Value) -> Result<Evidence, DocumentFault>
     ensures { Reads (λ evidence. evidence) result (evidence_by kind (view document.now)) }
 {
     match kind {
@@ -83,7 +83,7 @@ fn evidence_by(alloc: Global, kind: Kind, document: &Value) -> Result<Evidence, 
 }
 
 #[tactic(auto, unfolding(crate::specs::Evidence::evidence_of))]
-fn evidence(alloc: Global, document: &Value) -> Result<Evidence, FileFault>
+fn evidence(alloc: Global, document: &Value) -> Result<Evidence, DocumentFault>
     ensures { Reads (λ evidence. evidence) result (evidence_of (view document.now)) }
 {
     let kind = kind_in(document)?;
@@ -92,7 +92,7 @@ fn evidence(alloc: Global, document: &Value) -> Result<Evidence, FileFault>
 }
 
 #[tactic(auto, unfolding(crate::specs::Document::document_of))]
-fn document(alloc: Global, table: &Value) -> Result<Document, FileFault>
+fn document(alloc: Global, table: &Value) -> Result<Document, DocumentFault>
     ensures { Reads value_of result (document_of (view table.now)) }
 {
     let evidence = evidence(alloc, table)?;
@@ -101,7 +101,7 @@ fn document(alloc: Global, table: &Value) -> Result<Document, FileFault>
 }
 
 #[tactic(auto, unfolding(crate::specs::Evidence::read_without_limit))]
-fn read_without_limit(alloc: Global, bytes: &[u8]) -> Result<Evidence, FileFault>
+fn read_without_limit(alloc: Global, bytes: &[u8]) -> Result<Evidence, DocumentFault>
     ensures { Reads (λ evidence. evidence) result (read_without_limit bytes.now) }
 {
     let table = read_table(alloc, bytes)?;
@@ -109,7 +109,7 @@ fn read_without_limit(alloc: Global, bytes: &[u8]) -> Result<Evidence, FileFault
 }
 
 #[tactic(auto, unfolding(crate::specs::Document::document_without_limit))]
-fn document_without_limit(alloc: Global, bytes: &[u8]) -> Result<Document, FileFault>
+fn document_without_limit(alloc: Global, bytes: &[u8]) -> Result<Document, DocumentFault>
     ensures { Reads value_of result (document_without_limit bytes.now) }
 {
     let table = read_table(alloc, bytes)?;
@@ -117,21 +117,21 @@ fn document_without_limit(alloc: Global, bytes: &[u8]) -> Result<Document, FileF
 }
 
 #[tactic(auto, unfolding(crate::specs::Evidence::read_of))]
-fn read(alloc: Global, bytes: &[u8]) -> Result<Evidence, FileFault>
+fn read(alloc: Global, bytes: &[u8]) -> Result<Evidence, DocumentFault>
     ensures { Reads (λ evidence. evidence) result (read_of bytes.now) }
 {
     if bytes.len() > MAX_DOCUMENT {
-        return Err(FileFault::Bytes(bytes.len() as u64));
+        return Err(DocumentFault::Bytes(bytes.len() as u64));
     }
     read_without_limit(alloc, bytes)
 }
 
 #[tactic(auto, unfolding(crate::specs::Document::document_read_of))]
-fn read_whole(alloc: Global, bytes: &[u8]) -> Result<Document, FileFault>
+fn read_whole(alloc: Global, bytes: &[u8]) -> Result<Document, DocumentFault>
     ensures { Reads value_of result (document_read_of bytes.now) }
 {
     if bytes.len() > MAX_DOCUMENT {
-        return Err(FileFault::Bytes(bytes.len() as u64));
+        return Err(DocumentFault::Bytes(bytes.len() as u64));
     }
     document_without_limit(alloc, bytes)
 }
@@ -139,9 +139,9 @@ fn read_whole(alloc: Global, bytes: &[u8]) -> Result<Document, FileFault>
 /// The document that the bytes write: the evidence that `read_evidence` reads, and what is cited for it.
 ///
 /// For bytes that write none the answer is the fault that `read_evidence` gives. `Memory` is want of memory.
-pub fn read_document(alloc: Global, bytes: &[u8]) -> Result<Document, FileFault>
+pub fn read_document(alloc: Global, bytes: &[u8]) -> Result<Document, DocumentFault>
     ensures read { IfOk result (λ document. document_read_of bytes.now ≡ Ok (value_of document)) }
-    ensures fault { IfErr result (λ fault. fault ≢ FileFault.Memory → document_read_of bytes.now ≡ Err fault) }
+    ensures fault { IfErr result (λ fault. fault ≢ DocumentFault.Memory → document_read_of bytes.now ≡ Err fault) }
     ensures sound { IfOk result (λ document. IsSound document.evidence) }
     ensures few { IfOk result (λ document. length document.cites.items ≤ MAX_CITES) }
     ensures each { IfOk result (λ document. All (λ cite. IsTrue (is_cite cite)) document.cites.items) }
@@ -178,11 +178,11 @@ pub fn read_document(alloc: Global, bytes: &[u8]) -> Result<Document, FileFault>
 ///
 /// Whole numbers are those of 64 signed bits. A `c` that is shorter than it may be stands for one with zeros at its end.
 ///
-/// For every other document the answer is its first fault, in the order of `FileFault`: `Field(Format)` comes after `Kind` and
+/// For every other document the answer is its first fault, in the order of `DocumentFault`: `Field(Format)` comes after `Kind` and
 /// before all other fields, `Field(Cites)` after them. `Memory` is want of memory.
-pub fn read_evidence(alloc: Global, bytes: &[u8]) -> Result<Evidence, FileFault>
+pub fn read_evidence(alloc: Global, bytes: &[u8]) -> Result<Evidence, DocumentFault>
     ensures read { IfOk result (λ evidence. read_of bytes.now ≡ Ok evidence) }
-    ensures fault { IfErr result (λ fault. fault ≢ FileFault.Memory → read_of bytes.now ≡ Err fault) }
+    ensures fault { IfErr result (λ fault. fault ≢ DocumentFault.Memory → read_of bytes.now ≡ Err fault) }
     ensures sound { IfOk result IsSound }
 {
     read(alloc, bytes)

@@ -32,7 +32,7 @@ use Rattle.ct_finder.specs.Run.End.{Least as LeastEnd, Turns as TurnsEnd, Wide a
 use Rattle.ct_finder.proofs.RunDuals.{dual-form, least-of, narrow-of}
 use Rattle.ct_finder.proofs.Ones.{ones-form}
 use Rattle.ct_finder.specs.Column.{Tableau}
-use Rattle.ct_finder.specs.Found.{bound_of, dual_of, IsShown}
+use Rattle.ct_finder.specs.Found.{bound_of_dual, dual_of, IsShown}
 use Rattle.ct_finder.proofs.FoundLemmas.{asked-weighted}
 use Rattle.ct_find.proofs.FoundDuals.{plain_shown, weighted_shown}
 use Rattle.ct_lines.specs.Lines.{lines_of}
@@ -40,7 +40,7 @@ use Rattle.ct_lines.specs.declared.TheConstants.{LINE_FEED}
 use Rattle.ct_text.specs.Line.{words_of}
 use Rattle.ct_text.specs.EntryNumbers.{entry_numbers_of, named_entry}
 use Rattle.ct_text.specs.declared.entry_numbers.EntryNumbers.{EntryNumbers}
-use Rattle.ct_find.specs.declared.found.TheConstants.{MAX_TURNS}
+use Rattle.ct_find.specs.declared.found.TheConstants.{MAX_PIVOTS}
 use Rattle.ct_find.specs.Proposal.{is_even, run_for, dual_at, found_dual, stop_for, dual_evidence, comments, find_id, IsProposal, AnswersEntry}
 use Rattle.ct_commands.specs.Submission.{submission_text}
 use Rattle.ct_find.specs.Reply.{IsReplyToEntry, IsReplyToNumbers, IsReplyToWords, AreReplies, IsFound}
@@ -172,8 +172,8 @@ weighted_document n d w c form =
 
 -- each dual with a document that is shown has an answer
 answer_of : (e : Entry) (d : Dual) → IsShown (stop_for e) d → (document : List ℕ) × (document_read_of document ≡ Ok (without_cites (dual_evidence d.entry.w d)))
-    → (text : List ℕ) × (IsProposal e d (bound_of d) (stop_for e) text × IsShown (stop_for e) d)
-answer_of e d shown (document, reads) = (comments (bound_of d) (stop_for e) ++ submission_text (find_id e) document, ((document, reads, refl), shown))
+    → (text : List ℕ) × (IsProposal e d (bound_of_dual d) (stop_for e) text × IsShown (stop_for e) d)
+answer_of e d shown (document, reads) = (comments (bound_of_dual d) (stop_for e) ++ submission_text (find_id e) document, ((document, reads, refl), shown))
 
 plain_answer : (n d : ℕ) → IsEntry (unrestricted n d) → (end : End) → run_for (unrestricted n d) ≡ end
     → IsShown (stop_for (unrestricted n d)) (dual_of (unrestricted n d) (is_even None d) end)
@@ -182,8 +182,8 @@ unfolding run_for
 plain_answer n d entry (LeastEnd t) is shown =
     let e = unrestricted n d in
     let even = is_even None d in
-    let form = dual-form (numbers_of e) e even t (plain-asked n d entry) (least-of (numbers_of e) e even MAX_TURNS t is)
-    (narrow-of (numbers_of e) e even MAX_TURNS t is) in
+    let form = dual-form (numbers_of e) e even t (plain-asked n d entry) (least-of (numbers_of e) e even MAX_PIVOTS t is)
+    (narrow-of (numbers_of e) e even MAX_PIVOTS t is) in
     answer_of e (run_dual e even t.cost) shown (plain_document n d even (multipliers_of (columns_of e even) (degree_of e) t.cost) form)
 plain_answer n d entry TurnsEnd is shown =
     let even = is_even None d in
@@ -198,8 +198,8 @@ weighted_answer : (n d w : ℕ) → IsEntry (constant_weight n d w) → (end : E
 unfolding run_for
 weighted_answer n d w entry (LeastEnd t) is shown =
     let e = constant_weight n d w in
-    let form = dual-form (numbers_of e) e false t (asked-weighted n d w entry) (least-of (numbers_of e) e false MAX_TURNS t is)
-    (narrow-of (numbers_of e) e false MAX_TURNS t is) in
+    let form = dual-form (numbers_of e) e false t (asked-weighted n d w entry) (least-of (numbers_of e) e false MAX_PIVOTS t is)
+    (narrow-of (numbers_of e) e false MAX_PIVOTS t is) in
     answer_of e (run_dual e false t.cost) (shown t refl) (weighted_document n d w (multipliers_of (columns_of e false) (degree_of e) t.cost) form)
 weighted_answer n d w entry TurnsEnd is shown = (codes "none" ++ LINE_FEED ∷ [], refl)
 weighted_answer n d w entry (WideEnd x) is shown = (codes "none" ++ LINE_FEED ∷ [], refl)

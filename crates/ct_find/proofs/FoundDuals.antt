@@ -18,9 +18,9 @@ use Rattle.ct_finder.specs.Run.{End, columns_of, multipliers_of, run_dual}
 use Rattle.ct_finder.specs.Run.End.{Least as LeastEnd, Turns as TurnsEnd, Wide as WideEnd}
 use Rattle.ct_finder.proofs.RunDuals.{bound-without}
 use Rattle.ct_finder.specs.Ending.{ending_of, multipliers_from, stop_from}
-use Rattle.ct_finder.specs.Found.{bound_of, dual_of, end_of_run, least_dual, IsShown}
+use Rattle.ct_finder.specs.Found.{bound_of_dual, dual_of, end_of_run, least_dual, IsShown}
 use Rattle.ct_finder.proofs.FoundLemmas.{ending_at, plain-found, weighted-found, asked-weighted, shown-at}
-use Rattle.ct_find.specs.declared.found.TheConstants.{MAX_TURNS}
+use Rattle.ct_find.specs.declared.found.TheConstants.{MAX_PIVOTS}
 use Rattle.ct_find.specs.Proposal.{is_even, run_for, stop_for, dual_at, found_dual}
 use Rattle.ct_find.proofs.FoundLemmas.{plain-asked, weighted-run}
 
@@ -48,14 +48,14 @@ plain-nothing e even (LeastEnd cost) = refl
 plain-nothing e even TurnsEnd = refl
 plain-nothing e even (WideEnd x) = refl
 
--- without weight, after at most so many turns
-plain-at : (n d turns : ℕ) → IsEntry (unrestricted n d) → IsFound (unrestricted n d) (dual_of (unrestricted n d) (is_even None d) (end_of_run (unrestricted n d) (is_even None d) turns))
-plain-at n d turns entry =
+-- without weight, after at most so many pivots
+plain-at : (n d pivots : ℕ) → IsEntry (unrestricted n d) → IsFound (unrestricted n d) (dual_of (unrestricted n d) (is_even None d) (end_of_run (unrestricted n d) (is_even None d) pivots))
+plain-at n d pivots entry =
     let e = unrestricted n d in
     let even = is_even None d in
-    let end = end_of_run e even turns in
-    let ending = ending_at e even (range_of e even) turns in
-    let known = plain-found n d even turns (range_of e even) ending (unwrap_or (multipliers_from ending) (replicate (suc n) (pos 1))) (stop_from turns ending)
+    let end = end_of_run e even pivots in
+    let ending = ending_at e even (range_of e even) pivots in
+    let known = plain-found n d even pivots (range_of e even) ending (unwrap_or (multipliers_from ending) (replicate (suc n) (pos 1))) (stop_from pivots ending)
     (plain-asked n d entry) refl refl refl refl in
     record {
       entry = plain-entry e even end;
@@ -66,28 +66,28 @@ plain-at n d turns entry =
     }
 
 -- with a weight, where the run ends as least
-weighted-at : (n d w turns : ℕ) → IsEntry (constant_weight n d w) → (end : End) → end_of_run (constant_weight n d w) false turns ≡ end → (dual : Dual)
+weighted-at : (n d w pivots : ℕ) → IsEntry (constant_weight n d w) → (end : End) → end_of_run (constant_weight n d w) false pivots ≡ end → (dual : Dual)
     → least_dual (constant_weight n d w) end ≡ Some dual → IsFound (constant_weight n d w) dual
-weighted-at n d w turns entry (LeastEnd t) is dual same =
+weighted-at n d w pivots entry (LeastEnd t) is dual same =
     let e = constant_weight n d w in
     let c = multipliers_of (columns_of e false) (degree_of e) t.cost in
-    let ending = ending_at e false (range_of e false) turns in
+    let ending = ending_at e false (range_of e false) pivots in
     let given : Some c ≡ multipliers_from ending = sym (ap (λ (end : End). multipliers_from (ending_of e false (range_of e false) (degree_of e) end)) is) in
-    let known = weighted-found n d w turns (range_of e false) ending c (stop_from turns ending) entry refl refl given refl in
+    let known = weighted-found n d w pivots (range_of e false) ending c (stop_from pivots ending) entry refl refl given refl in
     let own : run_dual e false t.cost ≡ dual = cc in
     subst (IsFound e) own (record { entry = refl; form = known.form; accepted = known.accepted; even_is = refl; nothing = refl })
-weighted-at n d w turns entry TurnsEnd is dual same = absurd cc
-weighted-at n d w turns entry (WideEnd x) is dual same = absurd cc
+weighted-at n d w pivots entry TurnsEnd is dual same = absurd cc
+weighted-at n d w pivots entry (WideEnd x) is dual same = absurd cc
 
 found-plain : (n d : ℕ) (dual : Dual) → IsEntry (unrestricted n d) → found_dual (unrestricted n d) ≡ Some dual → IsFound (unrestricted n d) dual
 unfolding run_for
 found-plain n d dual entry same =
     let e = unrestricted n d in
     let own : dual_of e (is_even None d) (run_for e) ≡ dual = cc in
-    subst (IsFound e) own (plain-at n d MAX_TURNS entry)
+    subst (IsFound e) own (plain-at n d MAX_PIVOTS entry)
 
 found-weighted : (n d w : ℕ) (dual : Dual) → IsEntry (constant_weight n d w) → found_dual (constant_weight n d w) ≡ Some dual → IsFound (constant_weight n d w) dual
-found-weighted n d w dual entry same = weighted-at n d w MAX_TURNS entry (run_for (constant_weight n d w)) (sym (weighted-run n d w)) dual same
+found-weighted n d w dual entry same = weighted-at n d w MAX_PIVOTS entry (run_for (constant_weight n d w)) (sym (weighted-run n d w)) dual same
 
 found-at : (n d : ℕ) (w : Option ℕ) (dual : Dual) → IsEntry (record { n = n; d = d; w = w }) → found_dual (record { n = n; d = d; w = w }) ≡ Some dual
     → IsFound (record { n = n; d = d; w = w }) dual
@@ -111,17 +111,17 @@ pub premises-none : (d : Dual) → d.y ≡ [] → dual_premises d ≡ []
 premises-none d nothing = ap (λ y. map (λ p. constant_weight d.entry.n (even_from d.entry.d) (as_distance d.entry.w p.0)) (positive y)) nothing
 
 pub bound-is : (e : Entry) (d : Dual) → IsEntry e → found_dual e ≡ Some d
-    → bound_of d ≡ min MAX_BOUND (natural (combination (numbers_of e) d.c 0) / natural (multiplier d.c 0))
+    → bound_of_dual d ≡ min MAX_BOUND (natural (combination (numbers_of e) d.c 0) / natural (multiplier d.c 0))
 bound-is e d entry same =
     let f = found e d entry same in
     bound-without d (combination (numbers_of d.entry) d.c 0) f.nothing
     ∙ ap (λ (x : Entry). min MAX_BOUND (natural (combination (numbers_of x) d.c 0) / natural (multiplier d.c 0))) f.entry
 
-pub bound-true : (e : Entry) (d : Dual) → IsEntry e → found_dual e ≡ Some d → IsTrueUpper e (bound_of d)
+pub bound-true : (e : Entry) (d : Dual) → IsEntry e → found_dual e ≡ Some d → IsTrueUpper e (bound_of_dual d)
 bound-true e d entry same =
     let f = found e d entry same in
     let none = subst (λ (x : Entry). dual_fault (numbers_of x) d ≡ None) (sym f.entry) f.accepted in
-    subst (λ (x : Entry). IsTrueUpper x (bound_of d)) f.entry
+    subst (λ (x : Entry). IsTrueUpper x (bound_of_dual d)) f.entry
     (accepted-sound (record { dual = d; at_zero = combination (numbers_of d.entry) d.c 0 }) (accepted-from_none d f.form none) [] (subst (λ es. AreTrueUppers es []) (sym (premises-none d f.nothing)) tt))
 
 -- without weight one is found
@@ -134,14 +134,14 @@ unfolding run_for
 plain_shown n d entry =
     let e = unrestricted n d in
     let even = is_even None d in
-    shown-at e even MAX_TURNS (plain-asked n d entry) (end_of_run e even MAX_TURNS) refl (dual_of e even (end_of_run e even MAX_TURNS)) (λ t is. ap (dual_of e even) is)
+    shown-at e even MAX_PIVOTS (plain-asked n d entry) (end_of_run e even MAX_PIVOTS) refl (dual_of e even (end_of_run e even MAX_PIVOTS)) (λ t is. ap (dual_of e even) is)
 
 pub weighted_shown : (n d w : ℕ) → IsEntry (constant_weight n d w) → (t : Tableau) → run_for (constant_weight n d w) ≡ LeastEnd t
     → IsShown (stop_for (constant_weight n d w)) (run_dual (constant_weight n d w) false t.cost)
 unfolding run_for
 weighted_shown n d w entry t is =
     let e = constant_weight n d w in
-    shown-at e false MAX_TURNS (asked-weighted n d w entry) (end_of_run e false MAX_TURNS) refl (run_dual e false t.cost)
+    shown-at e false MAX_PIVOTS (asked-weighted n d w entry) (end_of_run e false MAX_PIVOTS) refl (run_dual e false t.cost)
     (λ u own. let both = sym is ∙ own in let same : t ≡ u = cc in ap (λ v. run_dual e false v.cost) same)
 
 shown-plain : (n d : ℕ) (dual : Dual) → IsEntry (unrestricted n d) → found_dual (unrestricted n d) ≡ Some dual → IsShown (stop_for (unrestricted n d)) dual

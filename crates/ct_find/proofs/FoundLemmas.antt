@@ -5,9 +5,9 @@ use Rattle.ct_codes.specs.declared.entry.Entry.{Entry}
 use Rattle.ct_codes.specs.Entry.{IsEntry, unrestricted, constant_weight}
 use Rattle.ct_duals.specs.declared.dual.Dual.{Dual}
 use Rattle.ct_finder.specs.Run.{IsAsked}
-use Rattle.ct_finder.specs.Found.{bound_of, end_of_run, IsShown}
+use Rattle.ct_finder.specs.Found.{bound_of_dual, end_of_run, IsShown}
 use Rattle.ct_finder.specs.declared.found.Stop.{Stop}
-use Rattle.ct_find.specs.declared.found.TheConstants.{MAX_TURNS}
+use Rattle.ct_find.specs.declared.found.TheConstants.{MAX_PIVOTS}
 use Rattle.ct_find.specs.Proposal.{is_even, run_for, stop_for, IsProposal, AnswersEntry}
 
 -- an entry without weight, and one with this weight
@@ -22,13 +22,13 @@ pub plain-asked : (n d : ℕ) → IsEntry (unrestricted n d) → IsAsked (unrest
 plain-asked n d entry = record { entry = entry; even_distance = λ h. grind (arith, nat_tests); weighted = tt }
 
 -- what is written of what was found answers the entry
-pub answers : (e : Entry) (d : Dual) (bound : ℕ) (how : Stop) (o : Option Dual) (text : List ℕ) → Some d ≡ o → bound ≡ bound_of d
+pub answers : (e : Entry) (d : Dual) (bound : ℕ) (how : Stop) (o : Option Dual) (text : List ℕ) → Some d ≡ o → bound ≡ bound_of_dual d
     → how ≡ stop_for e → IsShown how d → IsProposal e d bound how text → AnswersEntry e o text
 answers e d bound how o text dual_is bound_is stop_is shown h =
     subst (λ (found : Option Dual). AnswersEntry e found text) dual_is
-    (subst (λ (s : Stop). IsProposal e d (bound_of d) s text × IsShown s d) stop_is (subst (λ (b : ℕ). IsProposal e d b how text) bound_is h, shown))
+    (subst (λ (s : Stop). IsProposal e d (bound_of_dual d) s text × IsShown s d) stop_is (subst (λ (b : ℕ). IsProposal e d b how text) bound_is h, shown))
 
 -- the run for an entry with weight
-pub weighted-run : (n d w : ℕ) → run_for (constant_weight n d w) ≡ end_of_run (constant_weight n d w) false MAX_TURNS
+pub weighted-run : (n d w : ℕ) → run_for (constant_weight n d w) ≡ end_of_run (constant_weight n d w) false MAX_PIVOTS
 unfolding run_for
 weighted-run n d w = refl

@@ -11,10 +11,10 @@ use Rattle.ct_commands.specs.Submission.{submission_text}
 use Rattle.ct_pieces.specs.Piece.{PieceValue}
 use Rattle.ct_finder.specs.Primal.{PrimalValue}
 use Rattle.ct_finder.specs.Run.{End}
-use Rattle.ct_finder.specs.Found.{bound_of, dual_of, end_of_run, least_dual, stop_of, IsShown}
+use Rattle.ct_finder.specs.Found.{bound_of_dual, dual_of, end_of_run, least_dual, stop_of, IsShown}
 use Rattle.ct_finder.specs.declared.found.Stop.{Stop}
 use Rattle.ct_finder.specs.declared.found.Stop.TheVariants.{Least, Turns, Wide}
-use Rattle.ct_find.specs.declared.found.TheConstants.{MAX_TURNS}
+use Rattle.ct_find.specs.declared.found.TheConstants.{MAX_PIVOTS}
 
 -- whether the run speaks of even distances alone: where there is no weight and d is even
 abbrev pub is_even : Option ℕ → ℕ → Bool
@@ -23,11 +23,11 @@ is_even (Some w) d = false
 
 -- how the run for an entry ends
 unfoldable pub run_for : Entry → End
-run_for e = end_of_run e (is_even e.w e.d) MAX_TURNS
+run_for e = end_of_run e (is_even e.w e.d) MAX_PIVOTS
 
 -- and how it stopped
 abbrev pub stop_for : Entry → Stop
-stop_for e = stop_of e (is_even e.w e.d) MAX_TURNS (run_for e)
+stop_for e = stop_of e (is_even e.w e.d) MAX_PIVOTS (run_for e)
 
 -- the dual of an end: with a weight that of the run alone, where it ends as least
 abbrev pub dual_at : Option ℕ → Entry → End → Option Dual
@@ -46,7 +46,7 @@ dual_evidence (Some w) d = evidence.JohnsonDual d
 -- how the run stopped
 abbrev pub stop_text : Stop → List ℕ
 stop_text (Least p) = codes "least"
-stop_text (Turns turns) = codes "turns " ++ decimal turns
+stop_text (Turns pivots) = codes "turns " ++ decimal pivots
 stop_text (Wide x) = codes "wide"
 
 -- the comment: the bound of the dual, and how the run stopped
@@ -68,7 +68,7 @@ primal_text p = codes "# primal " ++ decimal (unsigned_abs p.q) ++ pairs_text p.
 -- it is written where the run stopped as least
 abbrev pub primal_line : Stop → List ℕ
 primal_line (Least p) = primal_text p
-primal_line (Turns turns) = []
+primal_line (Turns pivots) = []
 primal_line (Wide x) = []
 
 -- the comments of a proposal
@@ -92,7 +92,7 @@ IsProposal e d bound stop text =
 -- what is written for an entry of the table: the proposal of the dual, with its bound, how the run stopped, and the primal that shows it to be a least one where the run stopped so, or `none`
 abbrev pub AnswersEntry : Entry → Option Dual → List ℕ → Type 0
 AnswersEntry e None text = text ≡ codes "none" ++ LINE_FEED ∷ []
-AnswersEntry e (Some d) text = IsProposal e d (bound_of d) (stop_for e) text × IsShown (stop_for e) d
+AnswersEntry e (Some d) text = IsProposal e d (bound_of_dual d) (stop_for e) text × IsShown (stop_for e) d
 
 -- the piece that a document makes, submitted under the id of the entry, which reads as this dual
 abbrev pub proposed_piece : Entry → Dual → List ℕ → PieceValue

@@ -3,37 +3,37 @@
 ghost use Rattle.std.specs.Prelude.{◌≡◌, None, IfOk, IfSome, option_map};
 ghost use Rattle.ct_codes.specs.Entry.{IsEntry, unrestricted};
 ghost use Rattle.ct_duals.specs.Dual.{IsDual};
-ghost use Rattle.ct_finder.specs.Found.{bound_of, dual_of, end_of_run, stop_of, IsShown};
+ghost use Rattle.ct_finder.specs.Found.{bound_of_dual, dual_of, end_of_run, stop_of, IsShown};
 ghost use Rattle.ct_find.specs.Proposal.{is_even, found_dual, stop_for};
 
 use ct_codes::Entry;
 use ct_finder::{Found, find, find_weight};
 use std::alloc::{AllocError, Global};
 
-/// The most turns of a run.
-pub const MAX_TURNS: u32 = 20_000;
+/// The most pivots of a run.
+pub const MAX_PIVOTS: u32 = 20_000;
 
-/// The dual that the finder gives for A(n,d), with at most `MAX_TURNS` turns; of even distances alone where d is even.
+/// The dual that the finder gives for A(n,d), with at most `MAX_PIVOTS` pivots; of even distances alone where d is even.
 fn plain_found_for(alloc: Global, n: u32, d: u32) -> Result<Found, AllocError>
     requires { IsEntry (unrestricted n d) }
     ensures dual { IfOk result (λ f. f.dual ≡
-        dual_of (unrestricted n d) (is_even None d) (end_of_run (unrestricted n d) (is_even None d) MAX_TURNS)) }
-    ensures bound { IfOk result (λ f. f.bound ≡ bound_of f.dual) }
+        dual_of (unrestricted n d) (is_even None d) (end_of_run (unrestricted n d) (is_even None d) MAX_PIVOTS)) }
+    ensures bound { IfOk result (λ f. f.bound ≡ bound_of_dual f.dual) }
     ensures stop { IfOk result (λ f. f.stop ≡
-        stop_of (unrestricted n d) (is_even None d) MAX_TURNS (end_of_run (unrestricted n d) (is_even None d) MAX_TURNS)) }
+        stop_of (unrestricted n d) (is_even None d) MAX_PIVOTS (end_of_run (unrestricted n d) (is_even None d) MAX_PIVOTS)) }
     ensures shown { IfOk result (λ f. IsShown f.stop f.dual) }
     ensures form { IfOk result (λ f. IsDual f.dual) }
     ensures of_entry { IfOk result (λ f. f.dual.entry ≡ unrestricted n d) }
 {
-    find(alloc, n, d, d % 2 == 0, MAX_TURNS)
+    find(alloc, n, d, d % 2 == 0, MAX_PIVOTS)
 }
 
-/// The dual that the finder gives for the entry, with at most `MAX_TURNS` turns; of even distances alone where there is no weight and d is
+/// The dual that the finder gives for the entry, with at most `MAX_PIVOTS` pivots; of even distances alone where there is no weight and d is
 /// even. `None` comes where there is a weight and the run does not end as least. `Err` is want of memory.
 pub(crate) fn found_for(alloc: Global, entry: Entry) -> Result<Option<Found>, AllocError>
     requires { IsEntry entry }
     ensures dual { IfOk result (λ o. option_map (λ f. f.dual) o ≡ found_dual entry) }
-    ensures bound { IfOk result (λ o. IfSome o (λ f. f.bound ≡ bound_of f.dual)) }
+    ensures bound { IfOk result (λ o. IfSome o (λ f. f.bound ≡ bound_of_dual f.dual)) }
     ensures stop { IfOk result (λ o. IfSome o (λ f. f.stop ≡ stop_for entry)) }
     ensures shown { IfOk result (λ o. IfSome o (λ f. IsShown f.stop f.dual)) }
     ensures form { IfOk result (λ o. IfSome o (λ f. IsDual f.dual)) }
@@ -41,6 +41,6 @@ pub(crate) fn found_for(alloc: Global, entry: Entry) -> Result<Option<Found>, Al
 {
     match entry.w {
         None => Ok(Some(plain_found_for(alloc, entry.n, entry.d)?)),
-        Some(w) => find_weight(alloc, entry.n, entry.d, w, MAX_TURNS),
+        Some(w) => find_weight(alloc, entry.n, entry.d, w, MAX_PIVOTS),
     }
 }

@@ -36,9 +36,9 @@ fn put_stop(alloc: Global, text: &mut Vec<u8>, stop: &Stop) -> Result<(), AllocE
 {
     match stop {
         Stop::Least(_) => text.extend_from_slice(b"least"),
-        Stop::Turns(turns) => {
+        Stop::Turns(pivots) => {
             text.extend_from_slice(b"turns ")?;
-            put_number(alloc, text, u64::from(*turns))
+            put_number(alloc, text, u64::from(*pivots))
         }
         Stop::Wide(_) => text.extend_from_slice(b"wide"),
     }

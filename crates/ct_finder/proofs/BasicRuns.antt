@@ -8,13 +8,13 @@ use Rattle.std.proofs.lemmas.List.{length-map}
 use Rattle.std.proofs.lemmas.List.FromFn.{length-range_with_len, get_or-map-range_with_len}
 use Rattle.ct_finder.specs.Column.{Column, Tableau, rows_to, columns, place_of, opening_entry, opening_row, cost_entry, opening}
 use Rattle.ct_finder.specs.Column.Column.{Z, S}
-use Rattle.ct_finder.specs.Turn.{at, constant_of}
+use Rattle.ct_finder.specs.Pivot.{at, constant_of}
 use Rattle.ct_finder.specs.Sum.{HasWidth, after}
 use Rattle.ct_finder.specs.Basic.{row_at, basic_at, Solves, AreBasic}
-use Rattle.ct_finder.proofs.TurnedTableaus.{IsKept, pivot_row-is, kept-opening, kept-turned}
-use Rattle.ct_finder.proofs.BasicTurns.{solves-back, basic-turned}
+use Rattle.ct_finder.proofs.TurnedTableaus.{IsKept, pivot_row-is, kept-opening, kept-pivoted}
+use Rattle.ct_finder.proofs.BasicPivots.{solves-back, basic-pivoted}
 use Rattle.ct_finder.proofs.Places.{length-columns, place-s, column-s, entering-choice, opening-at, opening-constant, cost-at}
-use Rattle.ct_finder.proofs.Ends.{KeepsNarrow, Keeps, kept-after_turns}
+use Rattle.ct_finder.proofs.Ends.{KeepsNarrow, Keeps, kept-after_pivots}
 
 -- the opening tableau
 pub opening-row_at : (number : ℕ → ℕ → ℤ) (range : List ℕ) (degree k : ℕ) → k < degree
@@ -71,40 +71,40 @@ solved-opening number range degree some = record {
   back = λ x solves. solves;
 }
 
-pub solved-turned : (number : ℕ → ℕ → ℤ) (range : List ℕ) (degree : ℕ) → Keeps (columns range degree) (IsSolved number range degree)
-solved-turned number range degree t e i enters found solved =
+pub solved-pivoted : (number : ℕ → ℕ → ℤ) (range : List ℕ) (degree : ℕ) → Keeps (columns range degree) (IsSolved number range degree)
+solved-pivoted number range degree t e i enters found solved =
     let cs = columns range degree in
     let known = pivot_row-is e t i found in
     let width = solved.kept.width in
     record {
-      kept = kept-turned number cs degree e i t found solved.kept;
-      basic = basic-turned (length cs) e i t width (entering-choice range degree e t.cost width.cost enters) found solved.basic;
+      kept = kept-pivoted number cs degree e i t found solved.kept;
+      basic = basic-pivoted (length cs) e i t width (entering-choice range degree e t.cost width.cost enters) found solved.basic;
       back = λ x solves. solved.back x (solves-back (length cs) e i t width known.0 known.1 x solves);
     }
 
 pub solved-narrow : (number : ℕ → ℕ → ℤ) (range : List ℕ) (degree : ℕ) → KeepsNarrow (columns range degree) (IsSolved number range degree)
-solved-narrow number range degree t e i enters found narrow solved = solved-turned number range degree t e i enters found solved
+solved-narrow number range degree t e i enters found narrow solved = solved-pivoted number range degree t e i enters found solved
 
--- what solves the rows after some turns solves the opening rows, whatever the numbers of the scheme are
+-- what solves the rows after some pivots solves the opening rows, whatever the numbers of the scheme are
 record IsBack (number : ℕ → ℕ → ℤ) (range : List ℕ) (degree : ℕ) (t : Tableau) : Type 0 where
   kept : IsKept number (columns range degree) degree t
   back : (x : List (ℕ × ℤ)) → Solves x t → Solves x (opening number range degree)
 
-pub back-after : (number : ℕ → ℕ → ℤ) (range : List ℕ) (degree turns : ℕ) (x : List (ℕ × ℤ))
-    → Solves x (after (columns range degree) turns (opening number range degree)) → Solves x (opening number range degree)
-back-after number range degree turns x =
+pub back-after : (number : ℕ → ℕ → ℤ) (range : List ℕ) (degree pivots : ℕ) (x : List (ℕ × ℤ))
+    → Solves x (after (columns range degree) pivots (opening number range degree)) → Solves x (opening number range degree)
+back-after number range degree pivots x =
     let cs = columns range degree in
-    (kept-after_turns (IsBack number range degree) cs
+    (kept-after_pivots (IsBack number range degree) cs
     (λ t e i enters found h.
     let known = pivot_row-is e t i found in
     record {
-      kept = kept-turned number cs degree e i t found h.kept;
+      kept = kept-pivoted number cs degree e i t found h.kept;
       back = λ y solves. h.back y (solves-back (length cs) e i t h.kept.width known.0 known.1 y solves);
     })
-    turns (opening number range degree) (record { kept = kept-opening number range degree; back = λ y solves. solves })).back x
+    pivots (opening number range degree) (record { kept = kept-opening number range degree; back = λ y solves. solves })).back x
 
-pub basic-after : (number : ℕ → ℕ → ℤ) (range : List ℕ) (degree turns : ℕ) → ((k : ℕ) → k ≤ degree → pos 0 ≤ℤ number k 0)
-    → AreBasic (length (columns range degree)) (after (columns range degree) turns (opening number range degree))
-basic-after number range degree turns some =
-    (kept-after_turns (IsSolved number range degree) (columns range degree) (solved-turned number range degree) turns (opening number range degree)
+pub basic-after : (number : ℕ → ℕ → ℤ) (range : List ℕ) (degree pivots : ℕ) → ((k : ℕ) → k ≤ degree → pos 0 ≤ℤ number k 0)
+    → AreBasic (length (columns range degree)) (after (columns range degree) pivots (opening number range degree))
+basic-after number range degree pivots some =
+    (kept-after_pivots (IsSolved number range degree) (columns range degree) (solved-pivoted number range degree) pivots (opening number range degree)
     (solved-opening number range degree some)).basic

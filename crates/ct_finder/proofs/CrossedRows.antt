@@ -5,7 +5,7 @@ use Rattle.std.proofs.lemmas.List.{length-map, get_or-map, drop_more}
 use Rattle.std.proofs.lemmas.Slice.Zip.{length-zip, get_or-zip}
 use Rattle.std.proofs.lemmas.Nat.Gcd.{same_from_IsGcd, dvd_refl, dvd_of_mod-eq-zero}
 use Rattle.ct_finder.specs.Divisor.{gcd}
-use Rattle.ct_finder.specs.Turn.{crossed}
+use Rattle.ct_finder.specs.Pivot.{crossed}
 use Rattle.ct_finder.proofs.Divisors.{gcd-is}
 
 pub length-crossed : (p r : ℤ) (pivot row : List ℤ) → length row ≡ length pivot → length (crossed p r pivot row) ≡ length row

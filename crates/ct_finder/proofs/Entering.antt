@@ -10,7 +10,7 @@ use Rattle.std.proofs.lemmas.Slice.Zip.{length-zip, get_or-zip}
 use Rattle.std.proofs.Math.Seq.{get_or-append_seam}
 use Rattle.ct_finder.specs.Column.{Column, is_choice, rows_to, columns}
 use Rattle.ct_finder.specs.Column.Column.{Z, A, S, Constant}
-use Rattle.ct_finder.specs.Turn.{entering}
+use Rattle.ct_finder.specs.Pivot.{entering}
 
 -- all columns but the first and the last are an a or an s
 IsChoice : Column → Type 0

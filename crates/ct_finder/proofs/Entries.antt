@@ -8,8 +8,8 @@ use Rattle.std.proofs.lemmas.Bool.{eqb-false}
 use Rattle.ct_finder.specs.Column.{Column, same_column, rows_to, columns}
 use Rattle.ct_finder.specs.Column.Column.{Z, A, S, Constant}
 use Rattle.ct_finder.specs.Divisor.{divisor, reduced}
-use Rattle.ct_finder.specs.Turn.{crossed}
-use Rattle.ct_finder.specs.Run.{entry_of}
+use Rattle.ct_finder.specs.Pivot.{crossed}
+use Rattle.ct_finder.specs.Run.{coefficient}
 use Rattle.ct_finder.proofs.Divisors.{divisor-some, divisor-divides, quotient-exact}
 
 -- columns that pass the test are one
@@ -36,11 +36,11 @@ abbrev pub is_among : List Column → Column → Bool
 is_among cs c = list_any (λ x. same_column x c) cs
 
 -- a row that is given column by column
-pub entry_of-map : (f : Column → ℤ) (cs : List Column) (c : Column) → is_among cs c ≡ true → entry_of cs (map f cs) c ≡ f c
-entry_of-map f [] c h = absurd cc
-entry_of-map f (x ∷ cs) c h = go (same_column x c) refl (entry_of-map f cs c)
+pub coefficient-map : (f : Column → ℤ) (cs : List Column) (c : Column) → is_among cs c ≡ true → coefficient cs (map f cs) c ≡ f c
+coefficient-map f [] c h = absurd cc
+coefficient-map f (x ∷ cs) c h = go (same_column x c) refl (coefficient-map f cs c)
   where
-    go : (t : Bool) → same_column x c ≡ t → (is_among cs c ≡ true → entry_of cs (map f cs) c ≡ f c) → cond t (f x) (entry_of cs (map f cs) c) ≡ f c
+    go : (t : Bool) → same_column x c ≡ t → (is_among cs c ≡ true → coefficient cs (map f cs) c ≡ f c) → cond t (f x) (coefficient cs (map f cs) c) ≡ f c
     go true is rest = ap f (same_column-is x c is)
     go false is rest = rest (ap (λ t. t || is_among cs c) (sym is) ∙ h)
 
@@ -83,33 +83,33 @@ has-constant range degree =
     later (map A range) (map S (rows_to degree) ++ Constant ∷ []) Constant (later (map S (rows_to degree)) (Constant ∷ []) Constant refl)
 
 -- the entries of p · R - r · P
-pub entry_of-crossed : (cs : List Column) (p r : ℤ) (pivot row : List ℤ) → length row ≡ length pivot → (c : Column)
-    → entry_of cs (crossed p r pivot row) c ≡ (p *ℤ entry_of cs row c) -ℤ (r *ℤ entry_of cs pivot c)
-entry_of-crossed [] p r pivot row e c = omega (arith, ints)
-entry_of-crossed (x ∷ cs) p r [] [] e c = omega (arith, ints)
-entry_of-crossed (x ∷ cs) p r [] (v ∷ row) e c = absurd (omega arith)
-entry_of-crossed (x ∷ cs) p r (u ∷ pivot) [] e c = absurd (omega arith)
-entry_of-crossed (x ∷ cs) p r (u ∷ pivot) (v ∷ row) e c = go (same_column x c) (entry_of-crossed cs p r pivot row (omega arith) c)
+pub coefficient-crossed : (cs : List Column) (p r : ℤ) (pivot row : List ℤ) → length row ≡ length pivot → (c : Column)
+    → coefficient cs (crossed p r pivot row) c ≡ (p *ℤ coefficient cs row c) -ℤ (r *ℤ coefficient cs pivot c)
+coefficient-crossed [] p r pivot row e c = omega (arith, ints)
+coefficient-crossed (x ∷ cs) p r [] [] e c = omega (arith, ints)
+coefficient-crossed (x ∷ cs) p r [] (v ∷ row) e c = absurd (omega arith)
+coefficient-crossed (x ∷ cs) p r (u ∷ pivot) [] e c = absurd (omega arith)
+coefficient-crossed (x ∷ cs) p r (u ∷ pivot) (v ∷ row) e c = go (same_column x c) (coefficient-crossed cs p r pivot row (omega arith) c)
   where
     go : (t : Bool)
-        → entry_of cs (crossed p r pivot row) c ≡ (p *ℤ entry_of cs row c) -ℤ (r *ℤ entry_of cs pivot c)
-        → cond t ((p *ℤ v) -ℤ (r *ℤ u)) (entry_of cs (crossed p r pivot row) c)
-        ≡ (p *ℤ cond t v (entry_of cs row c)) -ℤ (r *ℤ cond t u (entry_of cs pivot c))
+        → coefficient cs (crossed p r pivot row) c ≡ (p *ℤ coefficient cs row c) -ℤ (r *ℤ coefficient cs pivot c)
+        → cond t ((p *ℤ v) -ℤ (r *ℤ u)) (coefficient cs (crossed p r pivot row) c)
+        ≡ (p *ℤ cond t v (coefficient cs row c)) -ℤ (r *ℤ cond t u (coefficient cs pivot c))
     go true ih = refl
     go false ih = ih
 
 -- the entries of a row whose entries are divided
-entry_of-divided : (g : ℕ) → 1 ≤ g → (cs : List Column) (row : List ℤ) → AllByRecursion (λ z. g ∣ unsigned_abs z) row → (c : Column)
-    → pos g *ℤ entry_of cs (map (λ z. int_div z (pos g)) row) c ≡ entry_of cs row c
-entry_of-divided g some [] row h c = omega (arith, ints)
-entry_of-divided g some (x ∷ cs) [] h c = omega (arith, ints)
-entry_of-divided g some (x ∷ cs) (v ∷ row) h c = go (same_column x c) (entry_of-divided g some cs row h.1 c)
+coefficient-divided : (g : ℕ) → 1 ≤ g → (cs : List Column) (row : List ℤ) → AllByRecursion (λ z. g ∣ unsigned_abs z) row → (c : Column)
+    → pos g *ℤ coefficient cs (map (λ z. int_div z (pos g)) row) c ≡ coefficient cs row c
+coefficient-divided g some [] row h c = omega (arith, ints)
+coefficient-divided g some (x ∷ cs) [] h c = omega (arith, ints)
+coefficient-divided g some (x ∷ cs) (v ∷ row) h c = go (same_column x c) (coefficient-divided g some cs row h.1 c)
   where
     go : (t : Bool)
-        → pos g *ℤ entry_of cs (map (λ z. int_div z (pos g)) row) c ≡ entry_of cs row c
-        → pos g *ℤ cond t (int_div v (pos g)) (entry_of cs (map (λ z. int_div z (pos g)) row) c) ≡ cond t v (entry_of cs row c)
+        → pos g *ℤ coefficient cs (map (λ z. int_div z (pos g)) row) c ≡ coefficient cs row c
+        → pos g *ℤ cond t (int_div v (pos g)) (coefficient cs (map (λ z. int_div z (pos g)) row) c) ≡ cond t v (coefficient cs row c)
     go true ih = quotient-exact g v some h.0
     go false ih = ih
 
-pub entry_of-reduced : (cs : List Column) (row : List ℤ) (c : Column) → pos (divisor row) *ℤ entry_of cs (reduced row) c ≡ entry_of cs row c
-entry_of-reduced cs row c = entry_of-divided (divisor row) (divisor-some row) cs row (divisor-divides row) c
+pub coefficient-reduced : (cs : List Column) (row : List ℤ) (c : Column) → pos (divisor row) *ℤ coefficient cs (reduced row) c ≡ coefficient cs row c
+coefficient-reduced cs row c = coefficient-divided (divisor row) (divisor-some row) cs row (divisor-divides row) c

@@ -24,35 +24,35 @@ use Rattle.ct_finder.proofs.ReadingLemmas.{scale-fits, numbers-fit}
 use Rattle.ct_finder.proofs.Schemes.{below-duals, numbers-nonneg, numbers-first}
 use Rattle.ct_finder.specs.declared.found.Stop.{Stop}
 use Rattle.ct_finder.specs.Ending.{ending_of, multipliers_from, stop_from}
-use Rattle.ct_finder.specs.Found.{end_of_run, dual_of, least_dual, bound_of, least_stop, stop_of, IsShownBy, IsShown, IsLeast}
+use Rattle.ct_finder.specs.Found.{end_of_run, dual_of, least_dual, bound_of_dual, least_stop, stop_of, IsShownBy, IsShown, IsLeast}
 
 -- the ending of a run over the numbers of an entry, with a range of indices
 abbrev pub ending_at : Entry → Bool → List ℕ → ℕ → Ending
-ending_at e even range turns =
-    ending_of e even range (degree_of e) (run (columns range (degree_of e)) turns (opening (numbers_of e) range (degree_of e)))
+ending_at e even range pivots =
+    ending_of e even range (degree_of e) (run (columns range (degree_of e)) pivots (opening (numbers_of e) range (degree_of e)))
 
 -- the dual with these multipliers that allows nothing
 abbrev pub with_multipliers : Entry → Bool → List ℤ → Dual
 with_multipliers e even c = record { entry = e; even = even; c = c; y = [] }
 
 -- what is found without weight: a dual that is accepted, that of the run's end, and how the run stopped
-pub record IsPlainFound (e : Entry) (even : Bool) (turns : ℕ) (c : List ℤ) (stop : Stop) : Type 0 where
-  pub dual : with_multipliers e even c ≡ dual_of e even (end_of_run e even turns)
-  pub stop_is : stop ≡ stop_of e even turns (end_of_run e even turns)
+pub record IsPlainFound (e : Entry) (even : Bool) (pivots : ℕ) (c : List ℤ) (stop : Stop) : Type 0 where
+  pub dual : with_multipliers e even c ≡ dual_of e even (end_of_run e even pivots)
+  pub stop_is : stop ≡ stop_of e even pivots (end_of_run e even pivots)
   pub shown : IsShown stop (with_multipliers e even c)
   pub form : IsDual (with_multipliers e even c)
   pub accepted : dual_fault (numbers_of e) (with_multipliers e even c) ≡ None
 
-plain-at : (n d : ℕ) (even : Bool) (turns : ℕ) → IsAsked (unrestricted n d) even → (end : End) → end_of_run (unrestricted n d) even turns ≡ end
+plain-at : (n d : ℕ) (even : Bool) (pivots : ℕ) → IsAsked (unrestricted n d) even → (end : End) → end_of_run (unrestricted n d) even pivots ≡ end
     → (IsDual (dual_of (unrestricted n d) even end)) × (dual_fault (numbers_of (unrestricted n d)) (dual_of (unrestricted n d) even end) ≡ None)
-plain-at n d even turns asked (LeastEnd t) is =
+plain-at n d even pivots asked (LeastEnd t) is =
     let e = unrestricted n d in
-    let least = least-of (numbers_of e) e even turns t is in (
-      dual-form (numbers_of e) e even t asked least (narrow-of (numbers_of e) e even turns t is),
+    let least = least-of (numbers_of e) e even pivots t is in (
+      dual-form (numbers_of e) e even t asked least (narrow-of (numbers_of e) e even pivots t is),
       dual-accepted (numbers_of e) e even t (numbers-first e) least,
     )
-plain-at n d even turns asked TurnsEnd is = (ones-form n d even asked, ones-accepted n d even asked)
-plain-at n d even turns asked (WideEnd x) is = (ones-form n d even asked, ones-accepted n d even asked)
+plain-at n d even pivots asked TurnsEnd is = (ones-form n d even asked, ones-accepted n d even asked)
+plain-at n d even pivots asked (WideEnd x) is = (ones-form n d even asked, ones-accepted n d even asked)
 
 -- the multipliers and the stop of an ending are those of the end
 plain-dual : (n d : ℕ) (even : Bool) (end : End)
@@ -63,21 +63,21 @@ plain-dual n d even (LeastEnd t) = refl
 plain-dual n d even TurnsEnd = refl
 plain-dual n d even (WideEnd x) = refl
 
-stop-read : (turns : ℕ) (c : List ℤ) (o : Option ℤ) (p : PrimalValue) → stop_from turns (Least c (reading_at o p)) ≡ least_stop o p
-stop-read turns c None p = refl
-stop-read turns c (Some x) p = refl
+stop-read : (pivots : ℕ) (c : List ℤ) (o : Option ℤ) (p : PrimalValue) → stop_from pivots (Least c (reading_at o p)) ≡ least_stop o p
+stop-read pivots c None p = refl
+stop-read pivots c (Some x) p = refl
 
-stop-is : (e : Entry) (even : Bool) (turns : ℕ) (end : End) → stop_from turns (ending_of e even (range_of e even) (degree_of e) end) ≡ stop_of e even turns end
-stop-is e even turns (LeastEnd t) =
-    stop-read turns (multipliers_of (columns_of e even) (degree_of e) t.cost) (wide_number (length (range_of e even)) t) (run_primal e even t)
-stop-is e even turns TurnsEnd = refl
-stop-is e even turns (WideEnd x) = refl
+stop-is : (e : Entry) (even : Bool) (pivots : ℕ) (end : End) → stop_from pivots (ending_of e even (range_of e even) (degree_of e) end) ≡ stop_of e even pivots end
+stop-is e even pivots (LeastEnd t) =
+    stop-read pivots (multipliers_of (columns_of e even) (degree_of e) t.cost) (wide_number (length (range_of e even)) t) (run_primal e even t)
+stop-is e even pivots TurnsEnd = refl
+stop-is e even pivots (WideEnd x) = refl
 
 -- where the run ends as least, its primal shows the bound
-pub primal-shows : (e : Entry) (even : Bool) (turns : ℕ) (t : Tableau) → IsAsked e even → end_of_run e even turns ≡ LeastEnd t
+pub primal-shows : (e : Entry) (even : Bool) (pivots : ℕ) (t : Tableau) → IsAsked e even → end_of_run e even pivots ≡ LeastEnd t
     → wide_number (length (range_of e even)) t ≡ None → IsShownBy (run_primal e even t) (run_dual e even t.cost)
-primal-shows e even turns t asked is fits =
-    let solved = solved-of (numbers_of e) e even turns t (numbers-nonneg e asked.entry) is in
+primal-shows e even pivots t asked is fits =
+    let solved = solved-of (numbers_of e) e even pivots t (numbers-nonneg e asked.entry) is in
     record {
       entry = refl;
       even = refl;
@@ -88,50 +88,50 @@ primal-shows e even turns t asked is fits =
       numbers = numbers-fit (range_of e even) t fits;
     }
 
-pub shown-at : (e : Entry) (even : Bool) (turns : ℕ) → IsAsked e even → (end : End) → end_of_run e even turns ≡ end → (d : Dual) → ((t : Tableau) → end ≡ LeastEnd t → d ≡ run_dual e even t.cost)
-    → IsShown (stop_of e even turns end) d
-shown-at e even turns asked (LeastEnd t) is d dual = go (wide_number (length (range_of e even)) t) refl
+pub shown-at : (e : Entry) (even : Bool) (pivots : ℕ) → IsAsked e even → (end : End) → end_of_run e even pivots ≡ end → (d : Dual) → ((t : Tableau) → end ≡ LeastEnd t → d ≡ run_dual e even t.cost)
+    → IsShown (stop_of e even pivots end) d
+shown-at e even pivots asked (LeastEnd t) is d dual = go (wide_number (length (range_of e even)) t) refl
   where
     go : (o : Option ℤ) → wide_number (length (range_of e even)) t ≡ o → IsShown (least_stop o (run_primal e even t)) d
-    go None fits = subst (IsShownBy (run_primal e even t)) (sym (dual t refl)) (primal-shows e even turns t asked is fits)
+    go None fits = subst (IsShownBy (run_primal e even t)) (sym (dual t refl)) (primal-shows e even pivots t asked is fits)
     go (Some x) wide = tt
-shown-at e even turns asked TurnsEnd is d dual = tt
-shown-at e even turns asked (WideEnd x) is d dual = tt
+shown-at e even pivots asked TurnsEnd is d dual = tt
+shown-at e even pivots asked (WideEnd x) is d dual = tt
 
 -- and then no dual has a smaller one
 pub shown-least : (p : PrimalValue) (d : Dual) → IsShownBy p d → IsLeast d
 shown-least p d shown other form entry even nothing accepted =
-    subst (λ (b : ℕ). b ≤ bound_of other) shown.value
+    subst (λ (b : ℕ). b ≤ bound_of_dual other) shown.value
     (below-duals p shown.form (sound-from_none (numbers_of p.entry) p shown.accepted) other form (entry ∙ sym shown.entry) (even ∙ sym shown.even) nothing accepted)
 
 pub stop-least : (p : PrimalValue) (stop : Stop) (d : Dual) → IsShown stop d → stop ≡ stops.Least p → IsLeast d
 stop-least p stop d shown is = shown-least p d (subst (λ s. IsShown s d) is shown)
 
-pub plain-found : (n d : ℕ) (even : Bool) (turns : ℕ) (range : List ℕ) (ending : Ending) (c : List ℤ) (stop : Stop) → IsAsked (unrestricted n d) even
-    → range ≡ range_of (unrestricted n d) even → ending ≡ ending_at (unrestricted n d) even range turns
-    → c ≡ unwrap_or (multipliers_from ending) (replicate (suc n) (pos 1)) → stop ≡ stop_from turns ending
-    → IsPlainFound (unrestricted n d) even turns c stop
-plain-found n d even turns range ending c stop asked range_is ending_is c_is stop_is =
+pub plain-found : (n d : ℕ) (even : Bool) (pivots : ℕ) (range : List ℕ) (ending : Ending) (c : List ℤ) (stop : Stop) → IsAsked (unrestricted n d) even
+    → range ≡ range_of (unrestricted n d) even → ending ≡ ending_at (unrestricted n d) even range pivots
+    → c ≡ unwrap_or (multipliers_from ending) (replicate (suc n) (pos 1)) → stop ≡ stop_from pivots ending
+    → IsPlainFound (unrestricted n d) even pivots c stop
+plain-found n d even pivots range ending c stop asked range_is ending_is c_is stop_is =
     let e = unrestricted n d in
-    let end = end_of_run e even turns in
-    let whole = ending_is ∙ ap (λ r. ending_at e even r turns) range_is in
+    let end = end_of_run e even pivots in
+    let whole = ending_is ∙ ap (λ r. ending_at e even r pivots) range_is in
     let dual_is = ap (with_multipliers e even) (c_is ∙ ap (λ t. unwrap_or (multipliers_from t) (replicate (suc n) (pos 1))) whole)
     ∙ plain-dual n d even end in
-    let known = plain-at n d even turns asked end refl in
-    let stopped = stop_is ∙ ap (stop_from turns) whole ∙ stop-is e even turns end in
+    let known = plain-at n d even pivots asked end refl in
+    let stopped = stop_is ∙ ap (stop_from pivots) whole ∙ stop-is e even pivots end in
     record {
       dual = dual_is;
       stop_is = stopped;
       shown = subst (λ s. IsShown s (with_multipliers e even c)) (sym stopped)
-          (shown-at e even turns asked end refl (with_multipliers e even c) (λ t is. dual_is ∙ ap (dual_of e even) is));
+          (shown-at e even pivots asked end refl (with_multipliers e even c) (λ t is. dual_is ∙ ap (dual_of e even) is));
       form = subst IsDual (sym dual_is) known.0;
       accepted = subst (λ t. dual_fault (numbers_of e) t ≡ None) (sym dual_is) known.1;
     }
 
 -- what is found with a weight, where the run ends as least
-pub record IsWeightedFound (e : Entry) (turns : ℕ) (c : List ℤ) (stop : Stop) : Type 0 where
-  pub dual : Some (with_multipliers e false c) ≡ least_dual e (end_of_run e false turns)
-  pub stop_is : stop ≡ stop_of e false turns (end_of_run e false turns)
+pub record IsWeightedFound (e : Entry) (pivots : ℕ) (c : List ℤ) (stop : Stop) : Type 0 where
+  pub dual : Some (with_multipliers e false c) ≡ least_dual e (end_of_run e false pivots)
+  pub stop_is : stop ≡ stop_of e false pivots (end_of_run e false pivots)
   pub shown : IsShown stop (with_multipliers e false c)
   pub form : IsDual (with_multipliers e false c)
   pub accepted : dual_fault (numbers_of e) (with_multipliers e false c) ≡ None
@@ -140,36 +140,36 @@ pub record IsWeightedFound (e : Entry) (turns : ℕ) (c : List ℤ) (stop : Stop
 pub asked-weighted : (n d w : ℕ) → IsEntry (constant_weight n d w) → IsAsked (constant_weight n d w) false
 asked-weighted n d w entry = record { entry = entry; even_distance = (λ h. absurd cc); weighted = refl }
 
-weighted-at : (n d w turns : ℕ) → IsEntry (constant_weight n d w) → (end : End) → end_of_run (constant_weight n d w) false turns ≡ end → (c : List ℤ) (stop : Stop)
+weighted-at : (n d w pivots : ℕ) → IsEntry (constant_weight n d w) → (end : End) → end_of_run (constant_weight n d w) false pivots ≡ end → (c : List ℤ) (stop : Stop)
     → Some c ≡ multipliers_from (ending_of (constant_weight n d w) false (range_of (constant_weight n d w) false) (degree_of (constant_weight n d w)) end)
-    → stop ≡ stop_of (constant_weight n d w) false turns end
-    → IsWeightedFound (constant_weight n d w) turns c stop
-weighted-at n d w turns entry (LeastEnd t) is c stop c_is stop_is =
+    → stop ≡ stop_of (constant_weight n d w) false pivots end
+    → IsWeightedFound (constant_weight n d w) pivots c stop
+weighted-at n d w pivots entry (LeastEnd t) is c stop c_is stop_is =
     let e = constant_weight n d w in
     let asked = asked-weighted n d w entry in
     let same : c ≡ multipliers_of (columns_of e false) (degree_of e) t.cost = cc in
     let dual_is : with_multipliers e false c ≡ run_dual e false t.cost = ap (with_multipliers e false) same in
-    let least = least-of (numbers_of e) e false turns t is in
+    let least = least-of (numbers_of e) e false pivots t is in
     let read : (u : Tableau) → LeastEnd t ≡ LeastEnd u → with_multipliers e false c ≡ run_dual e false u.cost = λ u h.
     let last : t ≡ u = cc in dual_is ∙ ap (λ v. run_dual e false v.cost) last in
     record {
       dual = ap Some dual_is ∙ ap (least_dual e) (sym is);
-      stop_is = stop_is ∙ ap (stop_of e false turns) (sym is);
-      shown = subst (λ s. IsShown s (with_multipliers e false c)) (sym stop_is) (shown-at e false turns asked (LeastEnd t) is (with_multipliers e false c) read);
-      form = subst IsDual (sym dual_is) (dual-form (numbers_of e) e false t asked least (narrow-of (numbers_of e) e false turns t is));
+      stop_is = stop_is ∙ ap (stop_of e false pivots) (sym is);
+      shown = subst (λ s. IsShown s (with_multipliers e false c)) (sym stop_is) (shown-at e false pivots asked (LeastEnd t) is (with_multipliers e false c) read);
+      form = subst IsDual (sym dual_is) (dual-form (numbers_of e) e false t asked least (narrow-of (numbers_of e) e false pivots t is));
       accepted = subst (λ t. dual_fault (numbers_of e) t ≡ None) (sym dual_is) (dual-accepted (numbers_of e) e false t (numbers-first e) least);
     }
-weighted-at n d w turns entry TurnsEnd is c stop c_is stop_is = absurd cc
-weighted-at n d w turns entry (WideEnd x) is c stop c_is stop_is = absurd cc
+weighted-at n d w pivots entry TurnsEnd is c stop c_is stop_is = absurd cc
+weighted-at n d w pivots entry (WideEnd x) is c stop c_is stop_is = absurd cc
 
-pub weighted-found : (n d w turns : ℕ) (range : List ℕ) (ending : Ending) (c : List ℤ) (stop : Stop) → IsEntry (constant_weight n d w)
-    → range ≡ range_of (constant_weight n d w) false → ending ≡ ending_at (constant_weight n d w) false range turns
-    → Some c ≡ multipliers_from ending → stop ≡ stop_from turns ending → IsWeightedFound (constant_weight n d w) turns c stop
-weighted-found n d w turns range ending c stop entry range_is ending_is c_is stop_is =
+pub weighted-found : (n d w pivots : ℕ) (range : List ℕ) (ending : Ending) (c : List ℤ) (stop : Stop) → IsEntry (constant_weight n d w)
+    → range ≡ range_of (constant_weight n d w) false → ending ≡ ending_at (constant_weight n d w) false range pivots
+    → Some c ≡ multipliers_from ending → stop ≡ stop_from pivots ending → IsWeightedFound (constant_weight n d w) pivots c stop
+weighted-found n d w pivots range ending c stop entry range_is ending_is c_is stop_is =
     let e = constant_weight n d w in
-    let whole = ending_is ∙ ap (λ r. ending_at e false r turns) range_is in
-    let end = end_of_run e false turns in
-    weighted-at n d w turns entry end refl c stop (c_is ∙ ap multipliers_from whole) (stop_is ∙ ap (stop_from turns) whole ∙ stop-is e false turns end)
+    let whole = ending_is ∙ ap (λ r. ending_at e false r pivots) range_is in
+    let end = end_of_run e false pivots in
+    weighted-at n d w pivots entry end refl c stop (c_is ∙ ap multipliers_from whole) (stop_is ∙ ap (stop_from pivots) whole ∙ stop-is e false pivots end)
 
 -- and where it does not
 weighted-none_at : (e : Entry) (end : End) → None ≡ multipliers_from (ending_of e false (range_of e false) (degree_of e) end) → None ≡ least_dual e end
@@ -177,8 +177,8 @@ weighted-none_at e (LeastEnd t) is = absurd cc
 weighted-none_at e TurnsEnd is = refl
 weighted-none_at e (WideEnd x) is = refl
 
-pub weighted-none : (e : Entry) (turns : ℕ) (range : List ℕ) (ending : Ending) → range ≡ range_of e false → ending ≡ ending_at e false range turns
-    → None ≡ multipliers_from ending → None ≡ least_dual e (end_of_run e false turns)
-weighted-none e turns range ending range_is ending_is none =
-    let whole = ending_is ∙ ap (λ r. ending_at e false r turns) range_is in
-    weighted-none_at e (end_of_run e false turns) (none ∙ ap multipliers_from whole)
+pub weighted-none : (e : Entry) (pivots : ℕ) (range : List ℕ) (ending : Ending) → range ≡ range_of e false → ending ≡ ending_at e false range pivots
+    → None ≡ multipliers_from ending → None ≡ least_dual e (end_of_run e false pivots)
+weighted-none e pivots range ending range_is ending_is none =
+    let whole = ending_is ∙ ap (λ r. ending_at e false r pivots) range_is in
+    weighted-none_at e (end_of_run e false pivots) (none ∙ ap multipliers_from whole)

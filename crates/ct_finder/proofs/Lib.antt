@@ -7,7 +7,7 @@ pub mod Sums
 pub mod TurnedTableaus
 pub mod Places
 pub mod PlaceEntries
-pub mod BasicTurns
+pub mod BasicPivots
 pub mod Ends
 pub mod BasicRuns
 pub mod RunScales
@@ -23,7 +23,7 @@ mod CrossedRows
 mod Entering
 mod Before
 mod Best
-mod TurnedRows
+mod PivotedRows
 mod Ready
 mod Steps
 pub mod OpeningLemmas

@@ -12,7 +12,7 @@ use Rattle.ct_codes.specs.Scheme.{IsSmall}
 use Rattle.ct_duals.specs.Dual.{degree_of, is_in_range}
 use Rattle.ct_finder.specs.Column.{Column, Tableau as TableauOf, range_of, rows_to, columns, opening_entry, cost_entry, opening_row, opening}
 use Rattle.ct_finder.specs.Column.Column.{Z, A, S, Constant}
-use Rattle.ct_finder.specs.Turn.{is_wide}
+use Rattle.ct_finder.specs.Pivot.{is_wide}
 use Rattle.ct_finder.specs.Sum.{HasWidth}
 use Rattle.ct_finder.proofs.Sums.{All-range}
 use Rattle.ct_finder.specs.Run.{run}
@@ -97,7 +97,7 @@ range-within e even =
     All-filter (is_in_range e even) (λ i. i ≤ degree_of e) (range_with_len 0 (suc (degree_of e)))
     (All-range (λ i. i ≤ degree_of e) 0 (suc (degree_of e)) (λ k low high. omega arith))
 
--- the opening tableau is ready for turns
+-- the opening tableau is ready for pivots
 pub ready-opening : (t : Tableau) (number : ℕ → ℕ → ℤ) (range : List ℕ) (degree : ℕ) → seen t ≡ opening number range degree
     → length t.pivot ≡ length (columns range degree) → IsReady t
 ready-opening t number range degree is pivot =
@@ -115,14 +115,14 @@ ready-opening t number range degree is pivot =
     }
 
 -- the tableau with which a run from it ends as least has an entry for each column in its cost row
-pub least-width : (number : ℕ → ℕ → ℤ) (range : List ℕ) (degree turns : ℕ) (last : TableauOf)
-    → run (columns range degree) turns (opening number range degree) ≡ Least last → HasWidth (length (columns range degree)) last
-least-width number range degree turns last is =
-    (least-at number (columns range degree) degree turns (opening number range degree) last (kept-opening number range degree) is).kept.width
+pub least-width : (number : ℕ → ℕ → ℤ) (range : List ℕ) (degree pivots : ℕ) (last : TableauOf)
+    → run (columns range degree) pivots (opening number range degree) ≡ Least last → HasWidth (length (columns range degree)) last
+least-width number range degree pivots last is =
+    (least-at number (columns range degree) degree pivots (opening number range degree) last (kept-opening number range degree) is).kept.width
 
 -- and what is known of it beside
-pub least-solved : (number : ℕ → ℕ → ℤ) (range : List ℕ) (degree turns : ℕ) (last : TableauOf) → ((k : ℕ) → k ≤ degree → pos 0 ≤ℤ number k 0)
-    → run (columns range degree) turns (opening number range degree) ≡ Least last → IsSolved number range degree last
-least-solved number range degree turns last some is =
-    (end-of_run (IsSolved number range degree) (columns range degree) (solved-narrow number range degree) turns (opening number range degree) last
+pub least-solved : (number : ℕ → ℕ → ℤ) (range : List ℕ) (degree pivots : ℕ) (last : TableauOf) → ((k : ℕ) → k ≤ degree → pos 0 ≤ℤ number k 0)
+    → run (columns range degree) pivots (opening number range degree) ≡ Least last → IsSolved number range degree last
+least-solved number range degree pivots last some is =
+    (end-of_run (IsSolved number range degree) (columns range degree) (solved-narrow number range degree) pivots (opening number range degree) last
     (solved-opening number range degree some) is).kept

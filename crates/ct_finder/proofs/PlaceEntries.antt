@@ -1,4 +1,4 @@
--- What a turn makes of the entries of a row, place by place, and of what it gives for numbers at places.
+-- What a pivot makes of the entries of a row, place by place, and of what it gives for numbers at places.
 use Rattle.std.proofs.Common.{◌≡◌, ℕ, zero, suc, ◌+◌, ◌-◌, ◌<◌, ◌≤◌, List, [], ◌∷◌, map, length, refl, sym, ap, ◌∙◌, arith}
 use Rattle.std.specs.Prelude.{ℤ, pos, negsuc, ◌+ℤ◌, ◌-ℤ◌, ◌*ℤ◌, ◌≤ℤ◌, int_div, unsigned_abs}
 use Rattle.std.specs.List.{AllByRecursion}
@@ -6,11 +6,11 @@ use Rattle.std.specs.Int.{◌∣◌}
 use Rattle.std.proofs.lemmas.Int.{ints}
 use Rattle.ct_words.specs.Counting.Sums.{total}
 use Rattle.ct_finder.specs.Divisor.{divisor, reduced}
-use Rattle.ct_finder.specs.Turn.{at, constant_of, crossed, turned_row}
+use Rattle.ct_finder.specs.Pivot.{at, constant_of, crossed, pivoted_row}
 use Rattle.ct_finder.specs.Basic.{worth}
 use Rattle.ct_finder.proofs.Divisors.{divisor-some, divisor-divides, quotient-exact}
 use Rattle.ct_finder.proofs.Crossed.{product-crossed, sum-crossed}
-use Rattle.ct_finder.proofs.TurnedTableaus.{length-turned_row}
+use Rattle.ct_finder.proofs.TurnedTableaus.{length-pivoted_row}
 
 -- the entries of p · R - r · P
 at-crossed : (p r : ℤ) (pivot row : List ℤ) → length row ≡ length pivot → (b : ℕ) → at (crossed p r pivot row) b ≡ (p *ℤ at row b) -ℤ (r *ℤ at pivot b)
@@ -34,33 +34,33 @@ divisor_at e pivot row = divisor (crossed (at pivot e) (at row e) pivot row)
 pub divisor_at-some : (e : ℕ) (pivot row : List ℤ) → 1 ≤ divisor_at e pivot row
 divisor_at-some e pivot row = divisor-some (crossed (at pivot e) (at row e) pivot row)
 
--- what a turn makes of a row, place by place
-pub turned_row-entry : (e : ℕ) (pivot row : List ℤ) → length row ≡ length pivot → (b : ℕ)
-    → pos (divisor_at e pivot row) *ℤ at (turned_row e pivot row) b ≡ (at pivot e *ℤ at row b) -ℤ (at row e *ℤ at pivot b)
-turned_row-entry e pivot row same b =
+-- what a pivot makes of a row, place by place
+pub pivoted_row-entry : (e : ℕ) (pivot row : List ℤ) → length row ≡ length pivot → (b : ℕ)
+    → pos (divisor_at e pivot row) *ℤ at (pivoted_row e pivot row) b ≡ (at pivot e *ℤ at row b) -ℤ (at row e *ℤ at pivot b)
+pivoted_row-entry e pivot row same b =
     let whole = crossed (at pivot e) (at row e) pivot row in
     at-divided (divisor whole) (divisor-some whole) whole (divisor-divides whole) b ∙ at-crossed (at pivot e) (at row e) pivot row same b
 
 -- of its constant
-pub turned_row-constant : (e : ℕ) (pivot row : List ℤ) → length row ≡ length pivot
-    → pos (divisor_at e pivot row) *ℤ constant_of (turned_row e pivot row) ≡ (at pivot e *ℤ constant_of row) -ℤ (at row e *ℤ constant_of pivot)
-turned_row-constant e pivot row same =
+pub pivoted_row-constant : (e : ℕ) (pivot row : List ℤ) → length row ≡ length pivot
+    → pos (divisor_at e pivot row) *ℤ constant_of (pivoted_row e pivot row) ≡ (at pivot e *ℤ constant_of row) -ℤ (at row e *ℤ constant_of pivot)
+pivoted_row-constant e pivot row same =
     let last = length pivot - 1 in
-    let new_is : constant_of (turned_row e pivot row) ≡ at (turned_row e pivot row) last = ap (λ n. at (turned_row e pivot row) (n - 1)) (length-turned_row e pivot row same) in
+    let new_is : constant_of (pivoted_row e pivot row) ≡ at (pivoted_row e pivot row) last = ap (λ n. at (pivoted_row e pivot row) (n - 1)) (length-pivoted_row e pivot row same) in
     let old_is : constant_of row ≡ at row last = ap (λ n. at row (n - 1)) same in
-    ap (λ z. pos (divisor_at e pivot row) *ℤ z) new_is ∙ turned_row-entry e pivot row same last
+    ap (λ z. pos (divisor_at e pivot row) *ℤ z) new_is ∙ pivoted_row-entry e pivot row same last
     ∙ ap (λ z. (at pivot e *ℤ z) -ℤ (at row e *ℤ constant_of pivot)) (sym old_is)
 
 -- of what it gives
-pub turned_row-worth : (e : ℕ) (pivot row : List ℤ) → length row ≡ length pivot → (x : List (ℕ × ℤ))
-    → pos (divisor_at e pivot row) *ℤ worth x (turned_row e pivot row) ≡ (at pivot e *ℤ worth x row) -ℤ (at row e *ℤ worth x pivot)
-turned_row-worth e pivot row same [] = omega (arith, ints)
-turned_row-worth e pivot row same (u ∷ x) =
-    let new = turned_row e pivot row in
+pub pivoted_row-worth : (e : ℕ) (pivot row : List ℤ) → length row ≡ length pivot → (x : List (ℕ × ℤ))
+    → pos (divisor_at e pivot row) *ℤ worth x (pivoted_row e pivot row) ≡ (at pivot e *ℤ worth x row) -ℤ (at row e *ℤ worth x pivot)
+pivoted_row-worth e pivot row same [] = omega (arith, ints)
+pivoted_row-worth e pivot row same (u ∷ x) =
+    let new = pivoted_row e pivot row in
     let g = pos (divisor_at e pivot row) in
     sum-crossed g (at pivot e) (at row e) (at new u.0 *ℤ u.1) (at row u.0 *ℤ u.1) (at pivot u.0 *ℤ u.1) (worth x new) (worth x row) (worth x pivot)
-    (product-crossed g (at pivot e) (at row e) (at new u.0) (at row u.0) (at pivot u.0) u.1 (turned_row-entry e pivot row same u.0))
-    (turned_row-worth e pivot row same x)
+    (product-crossed g (at pivot e) (at row e) (at new u.0) (at row u.0) (at pivot u.0) u.1 (pivoted_row-entry e pivot row same u.0))
+    (pivoted_row-worth e pivot row same x)
 
 -- a number of which a positive multiple is 0 is 0, and one of which a positive multiple is at least 0 is so
 pub none-from_product : (p x : ℤ) → pos 1 ≤ℤ p → p *ℤ x ≡ pos 0 → x ≡ pos 0
@@ -75,11 +75,11 @@ nonneg-from_product zero x some h = absurd (omega arith)
 nonneg-from_product (suc m) (pos n) some h = omega (arith, ints)
 nonneg-from_product (suc m) (negsuc n) some h = absurd (omega (arith, ints))
 
--- what solves the pivot row and the turned row solves the row
+-- what solves the pivot row and the pivoted row solves the row
 pub worth-back : (e : ℕ) (pivot row : List ℤ) → length row ≡ length pivot → pos 1 ≤ℤ at pivot e → (x : List (ℕ × ℤ)) → worth x pivot ≡ pos 0
-    → worth x (turned_row e pivot row) ≡ pos 0 → worth x row ≡ pos 0
+    → worth x (pivoted_row e pivot row) ≡ pos 0 → worth x row ≡ pos 0
 worth-back e pivot row same some x none gone =
-    let whole = turned_row-worth e pivot row same x in
+    let whole = pivoted_row-worth e pivot row same x in
     let first = ap (λ z. pos (divisor_at e pivot row) *ℤ z) gone in
     let second = ap (λ z. at row e *ℤ z) none in
     none-from_product (at pivot e) (worth x row) some (omega (arith, ints))

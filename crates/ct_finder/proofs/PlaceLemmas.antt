@@ -5,18 +5,18 @@ use Rattle.std.specs.List.{range_with_len, position_or_len}
 use Rattle.std.proofs.lemmas.Bool.{eqb-false, ne_eqb}
 use Rattle.ct_finder.specs.Column.{Column, same_column, rows_to, columns, place_of}
 use Rattle.ct_finder.specs.Column.Column.{Z, A, S, Constant}
-use Rattle.ct_finder.specs.Run.{entry_of, multipliers_of}
+use Rattle.ct_finder.specs.Run.{coefficient, multipliers_of}
 use Rattle.ct_finder.proofs.Places.{length-columns}
 
 -- a row without entries
-entry_of-none : (cs : List Column) (c : Column) → entry_of cs [] c ≡ pos 0
-entry_of-none [] c = refl
-entry_of-none (x ∷ cs) c = refl
+coefficient-none : (cs : List Column) (c : Column) → coefficient cs [] c ≡ pos 0
+coefficient-none [] c = refl
+coefficient-none (x ∷ cs) c = refl
 
 entry-past_a : (k : ℕ) (range : List ℕ) (rest : List Column) (row : List ℤ)
-    → entry_of (map A range ++ rest) row (S k) ≡ entry_of rest (drop (length range) row) (S k)
+    → coefficient (map A range ++ rest) row (S k) ≡ coefficient rest (drop (length range) row) (S k)
 entry-past_a k [] rest row = refl
-entry-past_a k (i ∷ range) rest [] = sym (entry_of-none rest (S k))
+entry-past_a k (i ∷ range) rest [] = sym (coefficient-none rest (S k))
 entry-past_a k (i ∷ range) rest (v ∷ row) = entry-past_a k range rest row
 
 -- functions that agree from a on
@@ -26,14 +26,14 @@ map-range f g a (suc n) h =
     ap₂ (λ v vs. v ∷ vs) (h a (omega arith) (omega arith)) (map-range f g (a + 1) n (λ k low high. h k (omega arith) (omega arith)))
 
 entries-among_s : (a n : ℕ) (rest : List Column) (row : List ℤ) → n ≤ length row
-    → map (λ k. entry_of (map S (range_with_len a n) ++ rest) row (S k)) (range_with_len a n) ≡ take n row
+    → map (λ k. coefficient (map S (range_with_len a n) ++ rest) row (S k)) (range_with_len a n) ≡ take n row
 entries-among_s a zero rest row enough = refl
 entries-among_s a (suc n) rest [] enough = absurd (omega arith)
 entries-among_s a (suc n) rest (v ∷ row) enough =
     let cs = map S (range_with_len (a + 1) n) ++ rest in
-    ap₂ (λ u us. u ∷ us) (ap (λ t. cond t v (entry_of cs row (S a))) (eq-eqb a a refl))
-    (map-range (λ k. cond (a == k) v (entry_of cs row (S k))) (λ k. entry_of cs row (S k)) (a + 1) n
-    (λ k low high. ap (λ t. cond t v (entry_of cs row (S k))) (ne_eqb a k (λ e. omega arith)))
+    ap₂ (λ u us. u ∷ us) (ap (λ t. cond t v (coefficient cs row (S a))) (eq-eqb a a refl))
+    (map-range (λ k. cond (a == k) v (coefficient cs row (S k))) (λ k. coefficient cs row (S k)) (a + 1) n
+    (λ k low high. ap (λ t. cond t v (coefficient cs row (S k))) (ne_eqb a k (λ e. omega arith)))
     ∙ entries-among_s (a + 1) n rest row (omega arith))
 
 -- the multipliers of a cost row: its first entry, and those at the s's
@@ -44,8 +44,8 @@ multipliers-are range degree (v ∷ cost) width =
     let count = length-columns range degree in
     let next : suc (length range) ≡ length range + 1 = omega arith in
     ap (λ vs. v ∷ vs)
-    (map-range (λ k. entry_of (map A range ++ (map S (rows_to degree) ++ Constant ∷ [])) cost (S k))
-    (λ k. entry_of (map S (rows_to degree) ++ Constant ∷ []) (drop (length range) cost) (S k)) 1 degree
+    (map-range (λ k. coefficient (map A range ++ (map S (rows_to degree) ++ Constant ∷ [])) cost (S k))
+    (λ k. coefficient (map S (rows_to degree) ++ Constant ∷ []) (drop (length range) cost) (S k)) 1 degree
     (λ k low high. entry-past_a k range (map S (rows_to degree) ++ Constant ∷ []) cost)
     ∙ entries-among_s 1 degree (Constant ∷ []) (drop (length range) cost) (omega (arith, length-drop (length range) cost))
     ∙ ap (λ m. take degree (drop m (v ∷ cost))) next)

@@ -10,7 +10,7 @@ use Rattle.std.proofs.lemmas.List.Quantifiers.{position-Some}
 use Rattle.std.proofs.lemmas.Slice.Zip.{length-zip, get_or-zip}
 use Rattle.ct_finder.specs.Column.{Column, is_choice, rows_to, columns, place_of, opening_entry, opening_row, cost_entry}
 use Rattle.ct_finder.specs.Column.Column.{Z, A, S, Constant}
-use Rattle.ct_finder.specs.Turn.{at, constant_of, entering}
+use Rattle.ct_finder.specs.Pivot.{at, constant_of, entering}
 
 -- how many columns there are
 pub length-columns : (range : List ℕ) (degree : ℕ) → length (columns range degree) ≡ length range + degree + 2

@@ -18,7 +18,7 @@ use Rattle.ct_duals.specs.Bound.{natural}
 use Rattle.ct_duals.proofs.Allowed.{natural-is}
 use Rattle.ct_finder.specs.Column.{Tableau}
 use Rattle.ct_finder.specs.Divisor.{gcd}
-use Rattle.ct_finder.specs.Turn.{at, constant_of, is_wide}
+use Rattle.ct_finder.specs.Pivot.{at, constant_of, is_wide}
 use Rattle.ct_finder.specs.RunPrimal.{is_of_a, lines_of_a, next_scale, scales, last_scale, scaled, run_scale, wide_number, number_at_place, numbers_of_range, primal_over}
 use Rattle.ct_finder.specs.declared.reading.Reading.TheVariants.{Primal, Wide}
 use Rattle.ct_finder.specs.Reading.{is_large, large, large_scale, large_number, line_of, scale_after, number_over, large_after, reading_at, reading_of}

@@ -21,28 +21,28 @@ use Rattle.ct_duals.specs.Check.{first_below, fault_at, above_fault, dual_fault}
 use Rattle.ct_duals.specs.Bound.{natural, dual_bound}
 use Rattle.ct_finder.specs.Column.{Column, Tableau, range_of, rows_to, columns, opening_entry, cost_entry, opening_row}
 use Rattle.ct_finder.specs.Column.Column.{Z, A, S, Constant}
-use Rattle.ct_finder.specs.Run.{run_of, columns_of, opening_of, entry_of, multipliers_of, run_dual, IsAsked}
+use Rattle.ct_finder.specs.Run.{run_of, columns_of, opening_of, coefficient, multipliers_of, run_dual, IsAsked}
 use Rattle.ct_finder.specs.Run.End.{Least}
 use Rattle.ct_finder.specs.Sum.{IsSum}
-use Rattle.ct_finder.proofs.Entries.{entry_of-map, has-a, has-constant}
+use Rattle.ct_finder.proofs.Entries.{coefficient-map, has-a, has-constant}
 use Rattle.ct_finder.proofs.Sums.{All-range}
 use Rattle.ct_finder.proofs.TurnedTableaus.{kept-opening}
-use Rattle.ct_finder.proofs.NarrowCosts.{IsNarrow, entry_of-below, narrow-at, narrow-cost}
+use Rattle.ct_finder.proofs.NarrowCosts.{IsNarrow, coefficient-below, narrow-at, narrow-cost}
 use Rattle.ct_finder.proofs.Ends.{IsLeastAt, least-at, choices-nonneg}
 
 -- f of the multipliers of a cost row
 pub combination-run : (number : ℕ → ℕ → ℤ) (cs : List Column) (degree : ℕ) (cost : List ℤ) (i : ℕ)
     → combination number (multipliers_of cs degree cost) i
-    ≡ (entry_of cs cost Z *ℤ number 0 i) +ℤ total_below (λ k. entry_of cs cost (S (suc k)) *ℤ number (suc k) i) degree
+    ≡ (coefficient cs cost Z *ℤ number 0 i) +ℤ total_below (λ k. coefficient cs cost (S (suc k)) *ℤ number (suc k) i) degree
 combination-run number cs degree cost i =
     let c = multipliers_of cs degree cost in
     let f : ℕ → ℤ = λ (k : ℕ). multiplier c k *ℤ number k i in
-    let count : length c ≡ suc degree = ap suc (length-map-range_with_len (λ k. entry_of cs cost (S k)) 1 degree) in
+    let count : length c ≡ suc degree = ap suc (length-map-range_with_len (λ k. coefficient cs cost (S k)) 1 degree) in
     ap (total_below f) count ∙ total_below-first f degree
-    ∙ ap (λ z. (entry_of cs cost Z *ℤ number 0 i) +ℤ z)
-    (total_below-congruence (λ k. f (suc k)) (λ k. entry_of cs cost (S (suc k)) *ℤ number (suc k) i) degree
+    ∙ ap (λ z. (coefficient cs cost Z *ℤ number 0 i) +ℤ z)
+    (total_below-congruence (λ k. f (suc k)) (λ k. coefficient cs cost (S (suc k)) *ℤ number (suc k) i) degree
     (λ k l. ap (λ z. z *ℤ number (suc k) i)
-    (get_or-map-range_with_len (λ m. entry_of cs cost (S m)) 1 degree k (suc k) (pos 0) l (omega arith))))
+    (get_or-map-range_with_len (λ m. coefficient cs cost (S m)) 1 degree k (suc k) (pos 0) l (omega arith))))
 
 -- a sum of negated products
 total-negated : (x y : ℕ → ℤ) (n : ℕ) → total_below (λ k. x k *ℤ neg_ℤ (y k)) n ≡ neg_ℤ (total_below (λ k. x k *ℤ y k) n)
@@ -55,17 +55,17 @@ total-negated x y (suc n) =
 -- the entry at the a of an index is -f there
 pub combination-at : (number : ℕ → ℕ → ℤ) (range : List ℕ) (degree : ℕ) (cost : List ℤ) (i : ℕ) → list_any (λ j. j == i) range ≡ true → number 0 i ≡ pos 1
     → IsSum number (columns range degree) degree cost
-    → combination number (multipliers_of (columns range degree) degree cost) i ≡ neg_ℤ (entry_of (columns range degree) cost (A i))
+    → combination number (multipliers_of (columns range degree) degree cost) i ≡ neg_ℤ (coefficient (columns range degree) cost (A i))
 combination-at number range degree cost i member one sum =
     let cs = columns range degree in
     let here = has-a range degree i member in
-    let x : ℕ → ℤ = λ (k : ℕ). entry_of cs cost (S (suc k)) in
+    let x : ℕ → ℤ = λ (k : ℕ). coefficient cs cost (S (suc k)) in
     let whole = combination-run number cs degree cost i in
-    let cost_is = ap (λ z. entry_of cs cost Z *ℤ z) (entry_of-map cost_entry cs (A i) here) in
-    let rows_are = total_below-congruence (λ k. x k *ℤ entry_of cs (opening_row number cs (suc k)) (A i)) (λ k. x k *ℤ neg_ℤ (number (suc k) i)) degree
-    (λ k l. ap (λ z. x k *ℤ z) (entry_of-map (opening_entry number (suc k)) cs (A i) here)) in
+    let cost_is = ap (λ z. coefficient cs cost Z *ℤ z) (coefficient-map cost_entry cs (A i) here) in
+    let rows_are = total_below-congruence (λ k. x k *ℤ coefficient cs (opening_row number cs (suc k)) (A i)) (λ k. x k *ℤ neg_ℤ (number (suc k) i)) degree
+    (λ k l. ap (λ z. x k *ℤ z) (coefficient-map (opening_entry number (suc k)) cs (A i) here)) in
     let negated = total-negated x (λ k. number (suc k) i) degree in
-    let lead = ap (λ z. entry_of cs cost Z *ℤ z) one in
+    let lead = ap (λ z. coefficient cs cost Z *ℤ z) one in
     let sum_is = sum (A i) in
     omega (arith, ints)
 
@@ -73,16 +73,16 @@ combination-at number range degree cost i member one sum =
 pub combination-zero : (number : ℕ → ℕ → ℤ) (range : List ℕ) (degree : ℕ) (cost : List ℤ) → number 0 0 ≡ pos 1
     → IsSum number (columns range degree) degree cost
     → combination number (multipliers_of (columns range degree) degree cost) 0
-    ≡ entry_of (columns range degree) cost Z +ℤ entry_of (columns range degree) cost Constant
+    ≡ coefficient (columns range degree) cost Z +ℤ coefficient (columns range degree) cost Constant
 combination-zero number range degree cost one sum =
     let cs = columns range degree in
     let here = has-constant range degree in
-    let x : ℕ → ℤ = λ (k : ℕ). entry_of cs cost (S (suc k)) in
+    let x : ℕ → ℤ = λ (k : ℕ). coefficient cs cost (S (suc k)) in
     let whole = combination-run number cs degree cost 0 in
-    let cost_is = ap (λ z. entry_of cs cost Z *ℤ z) (entry_of-map cost_entry cs Constant here) in
-    let rows_are = total_below-congruence (λ k. x k *ℤ entry_of cs (opening_row number cs (suc k)) Constant) (λ k. x k *ℤ number (suc k) 0) degree
-    (λ k l. ap (λ z. x k *ℤ z) (entry_of-map (opening_entry number (suc k)) cs Constant here)) in
-    let lead = ap (λ z. entry_of cs cost Z *ℤ z) one in
+    let cost_is = ap (λ z. coefficient cs cost Z *ℤ z) (coefficient-map cost_entry cs Constant here) in
+    let rows_are = total_below-congruence (λ k. x k *ℤ coefficient cs (opening_row number cs (suc k)) Constant) (λ k. x k *ℤ number (suc k) 0) degree
+    (λ k l. ap (λ z. x k *ℤ z) (coefficient-map (opening_entry number (suc k)) cs Constant here)) in
+    let lead = ap (λ z. coefficient cs cost Z *ℤ z) one in
     let sum_is = sum Constant in
     omega (arith, ints)
 
@@ -145,8 +145,8 @@ pub dual-form : (number : ℕ → ℕ → ℤ) (e : Entry) (even : Bool) (last :
 dual-form number e even last asked least narrow =
     let cs = columns_of e even in
     let cost = last.cost in
-    let count = length-map-range_with_len (λ k. entry_of cs cost (S k)) 1 (degree_of e) in
-    let lead : pos 1 ≤ℤ entry_of cs cost Z = least.kept.sums.some_of_cost in
+    let count = length-map-range_with_len (λ k. coefficient cs cost (S k)) 1 (degree_of e) in
+    let lead : pos 1 ≤ℤ coefficient cs cost Z = least.kept.sums.some_of_cost in
     let AtLeast : ℤ → Type 0 = λ (z : ℤ). pos 0 ≤ℤ z in
     let Below : ℤ → Type 0 = λ (z : ℤ). z <ℤ pos (2 ^ 63) in
     record {
@@ -155,14 +155,14 @@ dual-form number e even last asked least narrow =
       weighted = asked.weighted;
       some = omega arith;
       few = omega arith;
-      multipliers = All-cons AtLeast (entry_of cs cost Z) (map (λ k. entry_of cs cost (S k)) (rows_to (degree_of e))) (omega (arith, ints))
-          (All-map AtLeast (λ k. entry_of cs cost (S k)) (rows_to (degree_of e))
-          (All-range (λ k. pos 0 ≤ℤ entry_of cs cost (S k)) 1 (degree_of e) (λ k low high. choices-nonneg cs cost least.none (S k) refl)));
+      multipliers = All-cons AtLeast (coefficient cs cost Z) (map (λ k. coefficient cs cost (S k)) (rows_to (degree_of e))) (omega (arith, ints))
+          (All-map AtLeast (λ k. coefficient cs cost (S k)) (rows_to (degree_of e))
+          (All-range (λ k. pos 0 ≤ℤ coefficient cs cost (S k)) 1 (degree_of e) (λ k low high. choices-nonneg cs cost least.none (S k) refl)));
       ascending = λ i j d l m. absurd (omega arith);
       allowances = λ k d l. absurd (omega arith);
       signed = (
-        All-cons Below (entry_of cs cost Z) (map (λ k. entry_of cs cost (S k)) (rows_to (degree_of e))) (entry_of-below cs cost Z narrow)
-            (All-map Below (λ k. entry_of cs cost (S k)) (rows_to (degree_of e)) (λ k d l. entry_of-below cs cost (S _) narrow)),
+        All-cons Below (coefficient cs cost Z) (map (λ k. coefficient cs cost (S k)) (rows_to (degree_of e))) (coefficient-below cs cost Z narrow)
+            (All-map Below (λ k. coefficient cs cost (S k)) (rows_to (degree_of e)) (λ k d l. coefficient-below cs cost (S _) narrow)),
         (λ k d l. absurd (omega arith)),
       );
     }
@@ -191,11 +191,11 @@ bound-without d at_zero none = go d.y none
     go [] e = ap (λ z. min MAX_BOUND (natural z / natural (multiplier d.c 0))) (zero_more at_zero)
     go (p ∷ y) e = absurd cc
 
-pub least-of : (number : ℕ → ℕ → ℤ) (e : Entry) (even : Bool) (turns : ℕ) (last : Tableau) → run_of number e even turns ≡ Least last
+pub least-of : (number : ℕ → ℕ → ℤ) (e : Entry) (even : Bool) (pivots : ℕ) (last : Tableau) → run_of number e even pivots ≡ Least last
     → IsLeastAt number (columns_of e even) (degree_of e) last
-least-of number e even turns last is =
-    least-at number (columns_of e even) (degree_of e) turns (opening_of number e even) last (kept-opening number (range_of e even) (degree_of e)) is
+least-of number e even pivots last is =
+    least-at number (columns_of e even) (degree_of e) pivots (opening_of number e even) last (kept-opening number (range_of e even) (degree_of e)) is
 
-pub narrow-of : (number : ℕ → ℕ → ℤ) (e : Entry) (even : Bool) (turns : ℕ) (last : Tableau) → run_of number e even turns ≡ Least last → All IsNarrow last.cost
-narrow-of number e even turns last is =
-    narrow-at (columns_of e even) turns (opening_of number e even) last (narrow-cost (range_of e even) (degree_of e)) is
+pub narrow-of : (number : ℕ → ℕ → ℤ) (e : Entry) (even : Bool) (pivots : ℕ) (last : Tableau) → run_of number e even pivots ≡ Least last → All IsNarrow last.cost
+narrow-of number e even pivots last is =
+    narrow-at (columns_of e even) pivots (opening_of number e even) last (narrow-cost (range_of e even) (degree_of e)) is

@@ -12,11 +12,11 @@ use Rattle.ct_words.proofs.Counting.Totals.{total-map}
 use Rattle.ct_words.proofs.Counting.Products.{int_mul_neg}
 use Rattle.ct_duals.proofs.Allowed.{natural-is}
 use Rattle.ct_finder.specs.Column.{Tableau}
-use Rattle.ct_finder.specs.Turn.{at, constant_of}
+use Rattle.ct_finder.specs.Pivot.{at, constant_of}
 use Rattle.ct_finder.specs.Sum.{HasWidth}
 use Rattle.ct_finder.specs.Basic.{worth, row_at, basic_at, Solves, AreBasic}
 use Rattle.ct_finder.specs.RunPrimal.{basic_entry, basic_constant}
-use Rattle.ct_finder.proofs.BasicTurns.{row-width}
+use Rattle.ct_finder.proofs.BasicPivots.{row-width}
 use Rattle.ct_finder.proofs.RunPairs.{AreApart}
 
 -- a sum of which all terms but one are 0, and one of which all are

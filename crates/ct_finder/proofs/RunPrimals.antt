@@ -14,8 +14,8 @@ use Rattle.ct_words.proofs.Counting.Totals.{int_dist}
 use Rattle.ct_words.proofs.Counting.Combinations.{product-nonneg}
 use Rattle.ct_finder.specs.Column.{Column, Tableau, columns, opening_entry, opening_row, cost_entry, opening}
 use Rattle.ct_finder.specs.Column.Column.{Z, A, S}
-use Rattle.ct_finder.specs.Turn.{at, constant_of}
-use Rattle.ct_finder.specs.Run.{entry_of}
+use Rattle.ct_finder.specs.Pivot.{at, constant_of}
+use Rattle.ct_finder.specs.Run.{coefficient}
 use Rattle.ct_finder.specs.Basic.{worth, row_at, basic_at, Solves, AreBasic}
 use Rattle.ct_finder.specs.RunPrimal.{basic_entry, basic_constant, is_of_a, lines_of_a, scaled, run_scale, numbers_of_range}
 use Rattle.ct_finder.proofs.Crossed.{int_cancel}
@@ -158,7 +158,7 @@ cost-term range degree q D l known =
         omega (arith, ints)
 
 -- the first entries of a tableau's rows
-pub first-entry : (range : List ℕ) (degree : ℕ) (row : List ℤ) → at row 0 ≡ entry_of (columns range degree) row Z
+pub first-entry : (range : List ℕ) (degree : ℕ) (row : List ℤ) → at row 0 ≡ coefficient (columns range degree) row Z
 first-entry range degree [] = refl
 first-entry range degree (v ∷ row) = refl
 
@@ -223,9 +223,9 @@ shown-from number range degree t solved =
 
     lead_is : (v k : ℤ) (c q d D : ℕ) → v ≡ pos c → c * d ≡ D → v *ℤ (k *ℤ pos (q * d)) ≡ k *ℤ pos (q * D)
     lead_is v k c q d D is whole =
-        let turn = sym (int_mul_assoc v k (pos (q * d))) ∙ ap (λ y. y *ℤ pos (q * d)) (int_mul_comm v k) ∙ int_mul_assoc k v (pos (q * d)) in
+        let pivot_on = sym (int_mul_assoc v k (pos (q * d))) ∙ ap (λ y. y *ℤ pos (q * d)) (int_mul_comm v k) ∙ int_mul_assoc k v (pos (q * d)) in
         let same : c * (q * d) ≡ q * (c * d) = omega arith in
-        turn ∙ ap (λ y. k *ℤ (y *ℤ pos (q * d))) is ∙ ap (λ m. k *ℤ pos m) (same ∙ ap (λ m. q * m) whole)
+        pivot_on ∙ ap (λ y. k *ℤ (y *ℤ pos (q * d))) is ∙ ap (λ m. k *ℤ pos m) (same ∙ ap (λ m. q * m) whole)
 
     row_shown : (k : ℕ) → 1 ≤ k → k ≤ degree → (D q : ℕ) (z : ℤ) → AllByRecursion (IsScaled (length (columns range degree)) (length range) q D) (lines_of t) → 1 ≤ D
         → Solves (point z q D (length (columns range degree)) (lines_of t)) (opening number range degree)
@@ -260,7 +260,7 @@ shown-from number range degree t solved =
         grown n a b z e D q whole constant sum =
             let minus = int_mul_neg n (pos (q * D)) in
             let split = int_dist (pos D) (pos q *ℤ n) b in
-            let turn : pos D *ℤ (pos q *ℤ n) ≡ n *ℤ pos (q * D) =
+            let pivot_on : pos D *ℤ (pos q *ℤ n) ≡ n *ℤ pos (q * D) =
             sym (int_mul_assoc (pos D) (pos q) n) ∙ int_mul_comm (pos D *ℤ pos q) n ∙ ap (λ y. n *ℤ y) (product D q) in
             omega (arith, ints)
           where
@@ -283,7 +283,7 @@ shown-from number range degree t solved =
         (λ l h. cost-term range degree q D l h) ls known) in
         let z_is : z ≡ pos D *ℤ total g ls = z_from z (constant_of row) (total f ls) (total g ls) D q whole last sum in
         int_cancel D (at t.cost 0 *ℤ total g ls) (constant_of t.cost *ℤ pos q) some
-        (turned (pos D) (at t.cost 0) (total g ls) ∙ ap (λ y. at t.cost 0 *ℤ y) (sym z_is) ∙ lead ∙ scale (constant_of t.cost) q D)
+        (swapped (pos D) (at t.cost 0) (total g ls) ∙ ap (λ y. at t.cost 0 *ℤ y) (sym z_is) ∙ lead ∙ scale (constant_of t.cost) q D)
       where
         cost_constant : constant_of (map cost_entry (columns range degree)) ≡ pos 0
         cost_constant =
@@ -305,8 +305,8 @@ shown-from number range degree t solved =
             let none = ap (λ y. y *ℤ neg_ℤ (pos (q * D))) last in
             omega (arith, ints)
 
-        turned : (x y w : ℤ) → x *ℤ (y *ℤ w) ≡ y *ℤ (x *ℤ w)
-        turned x y w = sym (int_mul_assoc x y w) ∙ ap (λ p. p *ℤ w) (int_mul_comm x y) ∙ int_mul_assoc y x w
+        swapped : (x y w : ℤ) → x *ℤ (y *ℤ w) ≡ y *ℤ (x *ℤ w)
+        swapped x y w = sym (int_mul_assoc x y w) ∙ ap (λ p. p *ℤ w) (int_mul_comm x y) ∙ int_mul_assoc y x w
 
         scale : (k : ℤ) (q D : ℕ) → k *ℤ pos (q * D) ≡ pos D *ℤ (k *ℤ pos q)
         scale k q D =

@@ -17,8 +17,8 @@ use Rattle.ct_finder.specs.Primal.{IsPrimal, IsSound, whole, primal_value}
 use Rattle.ct_finder.proofs.WeakDuality.{quotients-le}
 use Rattle.ct_finder.specs.Column.{Column, Tableau, range_of, rows_to, columns, opening}
 use Rattle.ct_finder.specs.Column.Column.{Z, A, S, Constant}
-use Rattle.ct_finder.specs.Turn.{at, constant_of}
-use Rattle.ct_finder.specs.Run.{run_of, run, columns_of, opening_of, entry_of, run_dual, IsAsked}
+use Rattle.ct_finder.specs.Pivot.{at, constant_of}
+use Rattle.ct_finder.specs.Run.{run_of, run, columns_of, opening_of, coefficient, run_dual, IsAsked}
 use Rattle.ct_finder.specs.Run.End.{Least}
 use Rattle.ct_finder.specs.RunPrimal.{run_scale, number_at_place, numbers_of_range, run_primal}
 use Rattle.ct_finder.proofs.Places.{length-columns}
@@ -98,10 +98,10 @@ primal-form e even t asked =
     }
 
 -- the last tableau of a run that ends as least
-pub solved-of : (number : ℕ → ℕ → ℤ) (e : Entry) (even : Bool) (turns : ℕ) (last : Tableau) → ((k : ℕ) → k ≤ degree_of e → pos 0 ≤ℤ number k 0)
-    → run_of number e even turns ≡ Least last → IsSolved number (range_of e even) (degree_of e) last
-solved-of number e even turns last some is =
-    (end-of_run (IsSolved number (range_of e even) (degree_of e)) (columns_of e even) (solved-narrow number (range_of e even) (degree_of e)) turns
+pub solved-of : (number : ℕ → ℕ → ℤ) (e : Entry) (even : Bool) (pivots : ℕ) (last : Tableau) → ((k : ℕ) → k ≤ degree_of e → pos 0 ≤ℤ number k 0)
+    → run_of number e even pivots ≡ Least last → IsSolved number (range_of e even) (degree_of e) last
+solved-of number e even pivots last some is =
+    (end-of_run (IsSolved number (range_of e even) (degree_of e)) (columns_of e even) (solved-narrow number (range_of e even) (degree_of e)) pivots
     (opening_of number e even) last (solved-opening number (range_of e even) (degree_of e) some) is).kept
 
 -- its primal is sound
@@ -118,21 +118,21 @@ primal-sound number e even t solved =
     }
 
 -- the constant of a row
-last-s : (a n : ℕ) (row : List ℤ) → length row ≡ suc n → entry_of (map S (range_with_len a n) ++ Constant ∷ []) row Constant ≡ at row n
+last-s : (a n : ℕ) (row : List ℤ) → length row ≡ suc n → coefficient (map S (range_with_len a n) ++ Constant ∷ []) row Constant ≡ at row n
 last-s a zero [] h = absurd (omega arith)
 last-s a zero (v ∷ row) h = refl
 last-s a (suc n) [] h = absurd (omega arith)
 last-s a (suc n) (v ∷ row) h = last-s (a + 1) n row (omega arith)
 
 last-a : (range : List ℕ) (degree : ℕ) (row : List ℤ) → length row ≡ length range + suc degree
-    → entry_of (map A range ++ (map S (rows_to degree) ++ Constant ∷ [])) row Constant ≡ at row (length range + degree)
+    → coefficient (map A range ++ (map S (rows_to degree) ++ Constant ∷ [])) row Constant ≡ at row (length range + degree)
 last-a [] degree row h = last-s 1 degree row (omega arith) ∙ ap (at row) (let same : degree ≡ 0 + degree = omega arith in same)
 last-a (i ∷ range) degree [] h = absurd (omega arith)
 last-a (i ∷ range) degree (v ∷ row) h =
     let next : suc (length range + degree) ≡ length (i ∷ range) + degree = omega arith in
     last-a range degree row (omega arith) ∙ ap (at (v ∷ row)) next
 
-pub constant-entry : (range : List ℕ) (degree : ℕ) (row : List ℤ) → length row ≡ length (columns range degree) → entry_of (columns range degree) row Constant ≡ constant_of row
+pub constant-entry : (range : List ℕ) (degree : ℕ) (row : List ℤ) → length row ≡ length (columns range degree) → coefficient (columns range degree) row Constant ≡ constant_of row
 constant-entry range degree [] h = absurd (let count = length-columns range degree in omega arith)
 constant-entry range degree (v ∷ row) h =
     let count = length-columns range degree in

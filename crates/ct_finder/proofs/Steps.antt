@@ -2,7 +2,7 @@
 use Rattle.std.proofs.Common.{◌≡◌, ℕ, suc, List, ap}
 use Rattle.std.specs.Prelude.{Some, None}
 use Rattle.ct_finder.specs.Column.{Column, Tableau}
-use Rattle.ct_finder.specs.Turn.{entering}
+use Rattle.ct_finder.specs.Pivot.{entering}
 use Rattle.ct_finder.specs.Run.{End, Step, step, run, last_end}
 use Rattle.ct_finder.specs.Run.End.{Least, Turns}
 use Rattle.ct_finder.specs.Run.Step.{ended, goes}
@@ -16,5 +16,5 @@ run-goes cs n t next h = ap (λ (s : Step). elim s [ ended end ↦ end | goes th
 pub run-least : (cs : List Column) (t : Tableau) → entering cs t.cost ≡ None → run cs 0 t ≡ Least t
 run-least cs t h = ap (λ o. last_end o t) h
 
-pub run-turns : (cs : List Column) (t : Tableau) (e : ℕ) → entering cs t.cost ≡ Some e → run cs 0 t ≡ Turns
-run-turns cs t e h = ap (λ o. last_end o t) h
+pub run-pivots : (cs : List Column) (t : Tableau) (e : ℕ) → entering cs t.cost ≡ Some e → run cs 0 t ≡ Turns
+run-pivots cs t e h = ap (λ o. last_end o t) h

@@ -1,4 +1,4 @@
--- Turns of tableaus: each row stays a sum of the opening rows, and as wide as the columns.
+-- Pivots of tableaus: each row stays a sum of the opening rows, and as wide as the columns.
 use Rattle.std.proofs.Common.{◌≡◌, ℕ, ◌<◌, true, ◌&&◌, List, [], map, length, get_or, sym, ap, ◌∙◌, arith}
 use Rattle.std.specs.Prelude.{zip, ℤ, pos, ◌≤ℤ◌, int_lt, Some}
 use Rattle.std.proofs.lemmas.Int.{ints}
@@ -9,14 +9,14 @@ use Rattle.std.proofs.lemmas.List.Quantifiers.{position-Some}
 use Rattle.std.proofs.lemmas.Slice.Zip.{length-zip, get_or-zip}
 use Rattle.ct_finder.specs.Column.{Column, Tableau, columns, opening_entry, opening_row, cost_entry, opening, rows_to}
 use Rattle.ct_finder.specs.Column.Column.{Z}
-use Rattle.ct_finder.specs.Turn.{at, is_candidate, is_unbeaten, pivot_row, turned_row, turned}
-use Rattle.ct_finder.specs.Run.{entry_of}
+use Rattle.ct_finder.specs.Pivot.{at, is_candidate, is_unbeaten, pivot_row, pivoted_row, pivoted}
+use Rattle.ct_finder.specs.Run.{coefficient}
 use Rattle.ct_finder.specs.Sum.{IsSum, AreSums, HasWidth}
-use Rattle.ct_finder.proofs.Sums.{sum-turned, none-turned, some-turned, sums-opening}
+use Rattle.ct_finder.proofs.Sums.{sum-pivoted, none-pivoted, some-pivoted, sums-opening}
 
--- a turn keeps the width of a row
-pub length-turned_row : (e : ℕ) (pivot row : List ℤ) → length row ≡ length pivot → length (turned_row e pivot row) ≡ length pivot
-length-turned_row e pivot row same =
+-- a pivot keeps the width of a row
+pub length-pivoted_row : (e : ℕ) (pivot row : List ℤ) → length row ≡ length pivot → length (pivoted_row e pivot row) ≡ length pivot
+length-pivoted_row e pivot row same =
     simp length-map (let both = length-zip row pivot in omega arith)
 
 -- what is known of the pivot row
@@ -36,35 +36,35 @@ pivot_row-is e t i found =
     above : (z : ℤ) → int_lt (pos 0) z ≡ true → pos 1 ≤ℤ z
     above z h = grind (arith, ints)
 
--- the tableau after a turn is as wide
-pub width-turned : (width e i : ℕ) (t : Tableau) → i < length t.rows → HasWidth width t → HasWidth width (turned e i t)
-width-turned width e i t within has =
+-- the tableau after a pivot is as wide
+pub width-pivoted : (width e i : ℕ) (t : Tableau) → i < length t.rows → HasWidth width t → HasWidth width (pivoted e i t)
+width-pivoted width e i t within has =
     let pivot = get_or t.rows i [] in
     let own : length pivot ≡ width = All-get_or (λ row. length row ≡ width) t.rows i [] within has.rows in
     record {
-      rows = All-set (λ row. length row ≡ width) (map (turned_row e pivot) t.rows) i pivot own
-          (All-map (λ row. length row ≡ width) (turned_row e pivot) t.rows
-          (λ k d l. length-turned_row e pivot _ (has.rows k d l ∙ sym own) ∙ own));
-      cost = length-turned_row e pivot t.cost (has.cost ∙ sym own) ∙ own;
+      rows = All-set (λ row. length row ≡ width) (map (pivoted_row e pivot) t.rows) i pivot own
+          (All-map (λ row. length row ≡ width) (pivoted_row e pivot) t.rows
+          (λ k d l. length-pivoted_row e pivot _ (has.rows k d l ∙ sym own) ∙ own));
+      cost = length-pivoted_row e pivot t.cost (has.cost ∙ sym own) ∙ own;
     }
 
 -- and its rows are sums of the opening rows
-pub sums-turned : (number : ℕ → ℕ → ℤ) (cs : List Column) (degree e i : ℕ) (t : Tableau) → i < length t.rows → pos 1 ≤ℤ at (get_or t.rows i []) e
-    → HasWidth (length cs) t → AreSums number cs degree t → AreSums number cs degree (turned e i t)
-sums-turned number cs degree e i t within some has sums =
+pub sums-pivoted : (number : ℕ → ℕ → ℤ) (cs : List Column) (degree e i : ℕ) (t : Tableau) → i < length t.rows → pos 1 ≤ℤ at (get_or t.rows i []) e
+    → HasWidth (length cs) t → AreSums number cs degree t → AreSums number cs degree (pivoted e i t)
+sums-pivoted number cs degree e i t within some has sums =
     let pivot = get_or t.rows i [] in
     let own : length pivot ≡ length cs = All-get_or (λ row. length row ≡ length cs) t.rows i [] within has.rows in
     let whole : IsSum number cs degree pivot = All-get_or (IsSum number cs degree) t.rows i [] within sums.rows in
-    let none : entry_of cs pivot Z ≡ pos 0 = All-get_or (λ row. entry_of cs row Z ≡ pos 0) t.rows i [] within sums.none_of_cost in
+    let none : coefficient cs pivot Z ≡ pos 0 = All-get_or (λ row. coefficient cs row Z ≡ pos 0) t.rows i [] within sums.none_of_cost in
     record {
-      rows = All-set (IsSum number cs degree) (map (turned_row e pivot) t.rows) i pivot whole
-          (All-map (IsSum number cs degree) (turned_row e pivot) t.rows
-          (λ k d l. sum-turned number cs degree e pivot _ (has.rows k d l ∙ sym own) whole (sums.rows k d l)));
-      cost = sum-turned number cs degree e pivot t.cost (has.cost ∙ sym own) whole sums.cost;
-      none_of_cost = All-set (λ row. entry_of cs row Z ≡ pos 0) (map (turned_row e pivot) t.rows) i pivot none
-          (All-map (λ row. entry_of cs row Z ≡ pos 0) (turned_row e pivot) t.rows
-          (λ k d l. none-turned cs e pivot _ (has.rows k d l ∙ sym own) none (sums.none_of_cost k d l)));
-      some_of_cost = some-turned cs e pivot t.cost (has.cost ∙ sym own) some none sums.some_of_cost;
+      rows = All-set (IsSum number cs degree) (map (pivoted_row e pivot) t.rows) i pivot whole
+          (All-map (IsSum number cs degree) (pivoted_row e pivot) t.rows
+          (λ k d l. sum-pivoted number cs degree e pivot _ (has.rows k d l ∙ sym own) whole (sums.rows k d l)));
+      cost = sum-pivoted number cs degree e pivot t.cost (has.cost ∙ sym own) whole sums.cost;
+      none_of_cost = All-set (λ row. coefficient cs row Z ≡ pos 0) (map (pivoted_row e pivot) t.rows) i pivot none
+          (All-map (λ row. coefficient cs row Z ≡ pos 0) (pivoted_row e pivot) t.rows
+          (λ k d l. none-pivoted cs e pivot _ (has.rows k d l ∙ sym own) none (sums.none_of_cost k d l)));
+      some_of_cost = some-pivoted cs e pivot t.cost (has.cost ∙ sym own) some none sums.some_of_cost;
     }
 
 -- what each tableau of a run keeps
@@ -83,11 +83,11 @@ kept-opening number range degree =
       };
     }
 
-pub kept-turned : (number : ℕ → ℕ → ℤ) (cs : List Column) (degree e i : ℕ) (t : Tableau) → pivot_row e t ≡ Some i
-    → IsKept number cs degree t → IsKept number cs degree (turned e i t)
-kept-turned number cs degree e i t found kept =
+pub kept-pivoted : (number : ℕ → ℕ → ℤ) (cs : List Column) (degree e i : ℕ) (t : Tableau) → pivot_row e t ≡ Some i
+    → IsKept number cs degree t → IsKept number cs degree (pivoted e i t)
+kept-pivoted number cs degree e i t found kept =
     let known = pivot_row-is e t i found in
     record {
-      sums = sums-turned number cs degree e i t known.0 known.1 kept.width kept.sums;
-      width = width-turned (length cs) e i t known.0 kept.width;
+      sums = sums-pivoted number cs degree e i t known.0 known.1 kept.width kept.sums;
+      width = width-pivoted (length cs) e i t known.0 kept.width;
     }

@@ -21,13 +21,13 @@ exchanged c number (suc m) a =
     let before : ℕ × ℤ → ℤ = λ u. u.1 *ℤ total_below (λ k. c k *ℤ number k u.0) m in
     let here : ℕ × ℤ → ℤ = λ u. c m *ℤ (u.1 *ℤ number m u.0) in
     let each : (u : ℕ × ℤ) → u.1 *ℤ (total_below (λ k. c k *ℤ number k u.0) m +ℤ (c m *ℤ number m u.0)) ≡ before u +ℤ here u =
-    λ u. int_dist u.1 (total_below (λ k. c k *ℤ number k u.0) m) (c m *ℤ number m u.0) ∙ ap (λ z. before u +ℤ z) (turned u.1 (c m) (number m u.0)) in
+    λ u. int_dist u.1 (total_below (λ k. c k *ℤ number k u.0) m) (c m *ℤ number m u.0) ∙ ap (λ z. before u +ℤ z) (pivoted u.1 (c m) (number m u.0)) in
     ap₂ (λ x y. x +ℤ y) (exchanged c number m a) (sym (total-scale (c m) (λ u. u.1 *ℤ number m u.0) a))
     ∙ sym (total-add before here a)
     ∙ sym (total-congruence (λ u. u.1 *ℤ (total_below (λ k. c k *ℤ number k u.0) m +ℤ (c m *ℤ number m u.0))) (λ u. before u +ℤ here u) a each)
   where
-    turned : (x y z : ℤ) → x *ℤ (y *ℤ z) ≡ y *ℤ (x *ℤ z)
-    turned x y z = sym (int_mul_assoc x y z) ∙ ap (λ p. p *ℤ z) (int_mul_comm x y) ∙ int_mul_assoc y x z
+    pivoted : (x y z : ℤ) → x *ℤ (y *ℤ z) ≡ y *ℤ (x *ℤ z)
+    pivoted x y z = sym (int_mul_assoc x y z) ∙ ap (λ p. p *ℤ z) (int_mul_comm x y) ∙ int_mul_assoc y x z
 
 -- the pairs of a primal, its scale at index 0
 abbrev pub with_scale : ℤ → List (ℕ × ℤ) → List (ℕ × ℤ)

@@ -2,7 +2,7 @@
 use Rattle.std.specs.Prelude.{◌≡◌, ◌≢◌, ℕ, ◌+◌, ◌<◌, ◌≤◌, List, [], length, get_or, ℤ, pos, ◌*ℤ◌, ◌≤ℤ◌}
 use Rattle.ct_words.specs.Counting.Sums.{total}
 use Rattle.ct_finder.specs.Column.{Tableau}
-use Rattle.ct_finder.specs.Turn.{at, constant_of}
+use Rattle.ct_finder.specs.Pivot.{at, constant_of}
 
 -- what a row gives for numbers at places: the sum of its entries there, each times the number
 abbrev pub worth : List (ℕ × ℤ) → List ℤ → ℤ

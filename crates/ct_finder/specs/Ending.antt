@@ -29,8 +29,8 @@ abbrev pub stop_read : Reading → Stop
 stop_read (reading.Primal p) = stop.Least p
 stop_read (reading.Wide x) = stop.Wide x
 
--- how the run stopped, with the turns that were asked for
+-- how the run stopped, with the pivots that were asked for
 abbrev pub stop_from : ℕ → Ending → Stop
-stop_from turns (Least c r) = stop_read r
-stop_from turns Turns = stop.Turns turns
-stop_from turns (Wide x) = stop.Wide x
+stop_from pivots (Least c r) = stop_read r
+stop_from pivots Turns = stop.Turns pivots
+stop_from pivots (Wide x) = stop.Wide x

@@ -8,9 +8,9 @@ use Rattle.ct_finder.specs.Run.{End, run_of, run_dual}
 use Rattle.ct_finder.specs.RunPrimal.{run_primal}
 use Rattle.ct_finder.specs.Primal.{PrimalValue}
 
--- the run for A(8,4,4), with at most so many turns, the tableau that it ends with, its dual and its primal
+-- the run for A(8,4,4), with at most so many pivots, the tableau that it ends with, its dual and its primal
 abbrev pub run_eight_four_four : ℕ → End
-run_eight_four_four turns = run_of (numbers_of (constant_weight 8 4 4)) (constant_weight 8 4 4) false turns
+run_eight_four_four pivots = run_of (numbers_of (constant_weight 8 4 4)) (constant_weight 8 4 4) false pivots
 
 -- the tableau that it ends with
 abbrev pub last_eight_four_four : Tableau
@@ -35,7 +35,7 @@ primal_eight_four_four = run_primal (constant_weight 8 4 4) false last_eight_fou
 
 -- the same for A(6,3)
 abbrev pub run_six_three : ℕ → End
-run_six_three turns = run_of (numbers_of (unrestricted 6 3)) (unrestricted 6 3) false turns
+run_six_three pivots = run_of (numbers_of (unrestricted 6 3)) (unrestricted 6 3) false pivots
 
 -- the tableau that it ends with
 abbrev pub last_six_three : Tableau
@@ -60,9 +60,9 @@ dual_six_three = run_dual (unrestricted 6 3) false last_six_three.cost
 abbrev pub primal_six_three : PrimalValue
 primal_six_three = run_primal (unrestricted 6 3) false last_six_three
 
--- the same for A(8,4), at all distances from 4 on; in four of its turns several rows have the least fraction
+-- the same for A(8,4), at all distances from 4 on; in four of its pivots several rows have the least fraction
 abbrev pub run_eight_four : ℕ → End
-run_eight_four turns = run_of (numbers_of (unrestricted 8 4)) (unrestricted 8 4) false turns
+run_eight_four pivots = run_of (numbers_of (unrestricted 8 4)) (unrestricted 8 4) false pivots
 
 -- the tableau that it ends with
 abbrev pub last_eight_four : Tableau

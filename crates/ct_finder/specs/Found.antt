@@ -16,7 +16,7 @@ use Rattle.ct_finder.specs.declared.found.Stop.TheVariants.{Least, Turns, Wide}
 
 -- how the run of an entry ends, over the numbers of the entry's scheme
 abbrev pub end_of_run : Entry → Bool → ℕ → End
-end_of_run e even turns = run_of (numbers_of e) e even turns
+end_of_run e even pivots = run_of (numbers_of e) e even pivots
 
 -- the dual without weight: the run's where it ends as least, else the one whose multipliers are n + 1 ones
 abbrev pub dual_of : Entry → Bool → End → Dual
@@ -31,19 +31,19 @@ least_dual e TurnsEnd = None
 least_dual e (WideEnd x) = None
 
 -- the bound of a dual that allows nothing
-abbrev pub bound_of : Dual → ℕ
-bound_of d = dual_bound d (combination (numbers_of d.entry) d.c 0) []
+abbrev pub bound_of_dual : Dual → ℕ
+bound_of_dual d = dual_bound d (combination (numbers_of d.entry) d.c 0) []
 
 -- the stop of a run that ends as least: with its primal, or with the first number of it that is too large
 abbrev pub least_stop : Option ℤ → PrimalValue → Stop
 least_stop None p = Least p
 least_stop (Some x) p = Wide x
 
--- how the run stopped, with the turns that were asked for, or with the entry that would be wide
+-- how the run stopped, with the pivots that were asked for, or with the entry that would be wide
 abbrev pub stop_of : Entry → Bool → ℕ → End → Stop
-stop_of e even turns (LeastEnd t) = least_stop (wide_number (length (range_of e even)) t) (run_primal e even t)
-stop_of e even turns TurnsEnd = Turns turns
-stop_of e even turns (WideEnd x) = Wide x
+stop_of e even pivots (LeastEnd t) = least_stop (wide_number (length (range_of e even)) t) (run_primal e even t)
+stop_of e even pivots TurnsEnd = Turns pivots
+stop_of e even pivots (WideEnd x) = Wide x
 
 -- a primal shows the bound of a dual to be a least one: it is of the entry and mark of the dual, is accepted, and has the bound as its value; its numbers are below 2^63
 pub record IsShownBy (p : PrimalValue) (d : Dual) : Type 0 where
@@ -51,7 +51,7 @@ pub record IsShownBy (p : PrimalValue) (d : Dual) : Type 0 where
   pub even : p.even ≡ d.even
   pub form : IsPrimal p
   pub accepted : primal_fault (numbers_of p.entry) p ≡ None
-  pub value : primal_value p ≡ bound_of d
+  pub value : primal_value p ≡ bound_of_dual d
   pub scale : p.q <ℤ pos (2 ^ 63)
   pub numbers : All (λ u. u.1 <ℤ pos (2 ^ 63)) p.a
 
@@ -65,4 +65,4 @@ IsShown (Wide x) d = Unit {0}
 abbrev pub IsLeast : Dual → Type 0
 IsLeast d =
     (other : Dual) → IsDual other → other.entry ≡ d.entry → other.even ≡ d.even → other.y ≡ [] → dual_fault (numbers_of other.entry) other ≡ None
-    → bound_of d ≤ bound_of other
+    → bound_of_dual d ≤ bound_of_dual other

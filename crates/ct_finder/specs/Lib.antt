@@ -1,7 +1,7 @@
 pub mod Primal
 pub mod Column
 pub mod Divisor
-pub mod Turn
+pub mod Pivot
 pub mod Run
 pub mod Sum
 pub mod Basic

@@ -1,6 +1,6 @@
 -- Rows whose entries are at most 2^63 - 1 in absolute value.
 use Rattle.std.specs.Prelude.{◌≡◌, false, List, All, ℤ}
-use Rattle.ct_finder.specs.Turn.{is_wide}
+use Rattle.ct_finder.specs.Pivot.{is_wide}
 
 -- no entry of the row is wide
 abbrev pub AreNarrow : List ℤ → Type 0

@@ -4,7 +4,7 @@ use Rattle.ct_codes.specs.declared.entry.Entry.{Entry}
 use Rattle.ct_finder.specs.Primal.{PrimalValue}
 use Rattle.ct_finder.specs.Column.{Tableau}
 use Rattle.ct_finder.specs.Divisor.{gcd}
-use Rattle.ct_finder.specs.Turn.{is_wide}
+use Rattle.ct_finder.specs.Pivot.{is_wide}
 use Rattle.ct_finder.specs.RunPrimal.{basic_entry, basic_constant, lines_of_a, scales, scaled, wide_number, primal_over}
 use Rattle.ct_finder.specs.declared.tableau.Tableau.{Tableau as TableauOfCode}
 use Rattle.ct_finder.specs.declared.reading.Line.{Line}

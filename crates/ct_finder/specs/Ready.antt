@@ -1,4 +1,4 @@
--- A tableau as the definitions see it, and what a turn needs of it.
+-- A tableau as the definitions see it, and what a pivot needs of it.
 use Rattle.std.specs.Prelude.{◌≡◌, ◌≤◌, List, length, Option, Some, None, ℤ}
 use Rattle.ct_finder.specs.Column.{Tableau as TableauOf}
 use Rattle.ct_finder.specs.Run.{End, Step}
@@ -6,8 +6,8 @@ use Rattle.ct_finder.specs.Run.End.{Least as LeastEnd, Turns as TurnsEnd, Wide a
 use Rattle.ct_finder.specs.Run.Step.{ended, goes}
 use Rattle.ct_finder.specs.Sum.{HasWidth}
 use Rattle.ct_finder.specs.declared.tableau.Tableau.{Tableau}
-use Rattle.ct_finder.specs.declared.turns.Ending.{Ending}
-use Rattle.ct_finder.specs.declared.turns.Ending.TheVariants.{Least, Turns, Wide}
+use Rattle.ct_finder.specs.declared.running.Ending.{Ending}
+use Rattle.ct_finder.specs.declared.running.Ending.TheVariants.{Least, Turns, Wide}
 
 -- a tableau as the definitions of the run see it
 abbrev pub seen : Tableau → TableauOf
@@ -26,7 +26,7 @@ end_of Least t = LeastEnd t
 end_of Turns t = TurnsEnd
 end_of (Wide x) t = WideEnd x
 
--- an end before a turn, or the tableau after it
+-- an end before a pivot, or the tableau after it
 abbrev pub step_of : Option Ending → TableauOf → Step
 step_of None t = goes t
 step_of (Some end) t = ended (end_of end t)

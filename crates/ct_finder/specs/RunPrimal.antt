@@ -6,7 +6,7 @@ use Rattle.ct_duals.specs.Bound.{natural}
 use Rattle.ct_finder.specs.Primal.{PrimalValue}
 use Rattle.ct_finder.specs.Column.{Tableau, range_of}
 use Rattle.ct_finder.specs.Divisor.{gcd}
-use Rattle.ct_finder.specs.Turn.{at, constant_of, is_wide}
+use Rattle.ct_finder.specs.Pivot.{at, constant_of, is_wide}
 
 -- β and κ: the entry of a row at its basic column, which stands beside it, and its constant
 abbrev pub basic_entry : List ℤ × ℕ → ℕ

@@ -1,7 +1,7 @@
 //! Products and greatest common divisors of entries.
 ghost use Rattle.std.specs.Prelude.{◌≡◌, ◌<◌, ◌≤◌, ◌^◌, ◌*◌, ◌-◌, ◌%◌, pos, ◌*ℤ◌, ◌-ℤ◌, ◌≤ℤ◌, unsigned_abs, int_div};
 ghost use Rattle.ct_finder.specs.Divisor.{gcd as gcd_of_both};
-ghost use Rattle.ct_finder.specs.Turn.{is_wide};
+ghost use Rattle.ct_finder.specs.Pivot.{is_wide};
 
 /// The product of two entries.
 pub(crate) fn product(x: i64, y: i64) -> i128

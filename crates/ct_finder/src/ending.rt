@@ -6,7 +6,7 @@ ghost use Rattle.ct_finder.specs.Ending.{ending_of};
 
 use crate::opening::opening;
 use crate::reading::{Reading, read_primal};
-use crate::turns::{Ending as TableauEnding, run};
+use crate::running::{Ending as TableauEnding, run};
 use ct_codes::{Entry, Scheme};
 use ct_duals::Multipliers;
 use std::alloc::{AllocError, Global};
@@ -16,13 +16,13 @@ use std::alloc::{AllocError, Global};
 pub(crate) enum Ending {
     /// With the least bound: these multipliers, and what is read of the primal.
     Least(Multipliers, Reading),
-    /// After as many turns as were asked for.
+    /// After as many pivots as were asked for.
     Turns,
-    /// Before a turn that would give this entry.
+    /// Before a pivot that would give this entry.
     Wide(i128),
 }
 
-/// The run over the numbers of a scheme, with an a for each index of the range and at most so many turns; its primal is one of the
+/// The run over the numbers of a scheme, with an a for each index of the range and at most so many pivots; its primal is one of the
 /// entry and the mark. No number of the scheme at index 0 is below 0.
 pub(crate) fn run_over<S: Scheme>(
     alloc: Global,
@@ -30,16 +30,16 @@ pub(crate) fn run_over<S: Scheme>(
     entry: Entry,
     even: bool,
     range: &[u32],
-    turns: u32,
+    pivots: u32,
 ) -> Result<Ending, AllocError>
     requires range { All (λ i. i ≤ S.degree scheme.now) range.now }
     requires some { (k : ℕ) → k ≤ S.degree scheme.now → pos 0 ≤ℤ S.number scheme.now k 0 }
     ensures { IfOk result (λ e. e ≡ ending_of entry even range.now (S.degree scheme.now)
-        (run (columns range.now (S.degree scheme.now)) turns
+        (run (columns range.now (S.degree scheme.now)) pivots
         (opening (S.number scheme.now) range.now (S.degree scheme.now)))) }
 {
     let mut tableau = opening(alloc, scheme, range)?;
-    match run(&mut tableau, turns) {
+    match run(&mut tableau, pivots) {
         TableauEnding::Least => {
             let c = multipliers(alloc, tableau.cost.as_slice(), range, scheme.degree())?;
             let primal = read_primal(alloc, &tableau, entry, even, range)?;

@@ -7,7 +7,7 @@ ghost use Rattle.ct_duals.specs.Check.{dual_fault};
 ghost use Rattle.ct_codes.specs.Numbers.{numbers_of};
 ghost use Rattle.ct_finder.specs.Run.{IsAsked};
 ghost use Rattle.ct_finder.specs.Primal.{PrimalValue};
-ghost use Rattle.ct_finder.specs.Found.{end_of_run, dual_of, least_dual, bound_of, stop_of, IsShown, IsLeast};
+ghost use Rattle.ct_finder.specs.Found.{end_of_run, dual_of, least_dual, bound_of_dual, stop_of, IsShown, IsLeast};
 ghost use Rattle.ct_finder.specs.Ending.{multipliers_from, stop_from, stop_read};
 
 use crate::ending::{Ending, run_over};
@@ -16,19 +16,18 @@ use crate::opening::{push_repeated, range_of};
 use crate::reading::Reading;
 use ct_codes::Entry;
 use ct_duals::{Allowances, Dual, Multipliers, check_dual_of_table};
-use ct_krawtchouk::Hamming;
-use ct_scheme::Johnson;
+use ct_scheme::{Hamming, Johnson};
 use std::alloc::{AllocError, Global};
 
-/// A dual for A(n,d), by the finder's run with at most so many turns: the run's where it ends as least, else the one
+/// A dual for A(n,d), by the finder's run with at most so many pivots: the run's where it ends as least, else the one
 /// whose multipliers are n + 1 ones. Where `even` is set, which is only where d is even, the run and the dual speak of
 /// even distances alone. Where the stop is `Least`, its primal is accepted with the bound as its value, so no accepted dual of the
 /// entry with the same mark that allows nothing has a smaller one. `Err` is want of memory.
-pub fn find(alloc: Global, n: u32, d: u32, even: bool, turns: u32) -> Result<Found, AllocError>
+pub fn find(alloc: Global, n: u32, d: u32, even: bool, pivots: u32) -> Result<Found, AllocError>
     requires { IsAsked (unrestricted n d) even }
-    ensures dual { IfOk result (λ f. f.dual ≡ dual_of (unrestricted n d) even (end_of_run (unrestricted n d) even turns)) }
-    ensures bound { IfOk result (λ f. f.bound ≡ bound_of f.dual) }
-    ensures stop { IfOk result (λ f. f.stop ≡ stop_of (unrestricted n d) even turns (end_of_run (unrestricted n d) even turns)) }
+    ensures dual { IfOk result (λ f. f.dual ≡ dual_of (unrestricted n d) even (end_of_run (unrestricted n d) even pivots)) }
+    ensures bound { IfOk result (λ f. f.bound ≡ bound_of_dual f.dual) }
+    ensures stop { IfOk result (λ f. f.stop ≡ stop_of (unrestricted n d) even pivots (end_of_run (unrestricted n d) even pivots)) }
     ensures shown { IfOk result (λ f. IsShown f.stop f.dual) }
     ensures least { IfOk result (λ f. (p : PrimalValue) → f.stop ≡ Stop.Least p → IsLeast f.dual) }
     ensures form { IfOk result (λ f. IsDual f.dual) }
@@ -39,27 +38,27 @@ pub fn find(alloc: Global, n: u32, d: u32, even: bool, turns: u32) -> Result<Fou
 {
     let entry = Entry { n, d, w: None };
     let range = range_of(alloc, entry, even)?;
-    let ending = run_over(alloc, &Hamming { n }, entry, even, &range, turns)?;
-    let (multipliers, stop) = parts(turns, ending);
+    let ending = run_over(alloc, &Hamming { n }, entry, even, &range, pivots)?;
+    let (multipliers, stop) = parts(pivots, ending);
     let c = multipliers_or_ones(alloc, n, multipliers)?;
     Ok(found(alloc, entry, even, c, stop))
 }
 
-/// A dual for A(n,d,w), by the finder's run with at most so many turns: the run's where it ends as least, else `None`.
+/// A dual for A(n,d,w), by the finder's run with at most so many pivots: the run's where it ends as least, else `None`.
 /// Its stop is `Least` where its primal fits, and else `Wide`. `Err` is want of memory.
 pub fn find_weight(
     alloc: Global,
     n: u32,
     d: u32,
     w: u32,
-    turns: u32,
+    pivots: u32,
 ) -> Result<Option<Found>, AllocError>
     requires { IsEntry (constant_weight n d w) }
     ensures dual { IfOk result (λ o. option_map (λ f. f.dual) o ≡
-        least_dual (constant_weight n d w) (end_of_run (constant_weight n d w) false turns)) }
-    ensures bound { IfOk result (λ o. IfSome o (λ f. f.bound ≡ bound_of f.dual)) }
+        least_dual (constant_weight n d w) (end_of_run (constant_weight n d w) false pivots)) }
+    ensures bound { IfOk result (λ o. IfSome o (λ f. f.bound ≡ bound_of_dual f.dual)) }
     ensures stop { IfOk result (λ o. IfSome o (λ f.
-        f.stop ≡ stop_of (constant_weight n d w) false turns (end_of_run (constant_weight n d w) false turns))) }
+        f.stop ≡ stop_of (constant_weight n d w) false pivots (end_of_run (constant_weight n d w) false pivots))) }
     ensures shown { IfOk result (λ o. IfSome o (λ f. IsShown f.stop f.dual)) }
     ensures least { IfOk result (λ o. IfSome o (λ f. (p : PrimalValue) → f.stop ≡ Stop.Least p → IsLeast f.dual)) }
     ensures form { IfOk result (λ o. IfSome o (λ f. IsDual f.dual)) }
@@ -70,8 +69,8 @@ pub fn find_weight(
 {
     let entry = Entry { n, d, w: Some(w) };
     let range = range_of(alloc, entry, false)?;
-    let ending = run_over(alloc, &Johnson { n, w }, entry, false, &range, turns)?;
-    let (multipliers, stop) = parts(turns, ending);
+    let ending = run_over(alloc, &Johnson { n, w }, entry, false, &range, pivots)?;
+    let (multipliers, stop) = parts(pivots, ending);
     match multipliers {
         None => Ok(None),
         Some(c) => Ok(Some(found(alloc, entry, false, c, stop))),
@@ -83,7 +82,7 @@ fn found(alloc: Global, entry: Entry, even: bool, c: Multipliers, stop: Stop) ->
     requires form { IsDual (record { entry = entry; even = even; c = c; y = [] }) }
     requires accepted { dual_fault (numbers_of entry) (record { entry = entry; even = even; c = c; y = [] }) ≡ None }
     ensures dual { result.dual ≡ record { entry = entry; even = even; c = c; y = [] } }
-    ensures bound { result.bound ≡ bound_of result.dual }
+    ensures bound { result.bound ≡ bound_of_dual result.dual }
     ensures stop { result.stop ≡ stop }
     ensures true_upper { IsTrueUpper entry result.bound }
 {
@@ -98,7 +97,7 @@ fn bound(dual: &Dual) -> u32
     requires form { IsDual dual.now }
     requires accepted { dual_fault (numbers_of dual.now.entry) dual.now ≡ None }
     requires nothing { dual.now.y ≡ [] }
-    ensures value { result ≡ bound_of dual.now }
+    ensures value { result ≡ bound_of_dual dual.now }
     ensures true_upper { IsTrueUpper dual.now.entry result }
 {
     let Ok(accepted) = check_dual_of_table(dual) else {
@@ -117,14 +116,14 @@ fn stop_read(reading: Reading) -> Stop
     }
 }
 
-/// The multipliers of a run that ended as least, and how the run stopped, with the turns that were asked for.
-fn parts(turns: u32, ending: Ending) -> (Option<Multipliers>, Stop)
+/// The multipliers of a run that ended as least, and how the run stopped, with the pivots that were asked for.
+fn parts(pivots: u32, ending: Ending) -> (Option<Multipliers>, Stop)
     ensures multipliers { result.0 ≡ multipliers_from ending }
-    ensures stop { result.1 ≡ stop_from turns ending }
+    ensures stop { result.1 ≡ stop_from pivots ending }
 {
     match ending {
         Ending::Least(c, reading) => (Some(c), stop_read(reading)),
-        Ending::Turns => (None, Stop::Turns(turns)),
+        Ending::Turns => (None, Stop::Turns(pivots)),
         Ending::Wide(entry) => (None, Stop::Wide(entry)),
     }
 }

@@ -20,9 +20,9 @@ pub enum Stop {
     /// With the least bound, which this primal shows: no dual of the entry with the same mark that is accepted and allows nothing has a
     /// smaller one.
     Least(Primal),
-    /// After so many turns, as many as were asked for.
+    /// After so many pivots, as many as were asked for.
     Turns(u32),
-    /// Before a turn that would give this entry, or with a primal of which this is the first number in the order in which they are
+    /// Before a pivot that would give this entry, or with a primal of which this is the first number in the order in which they are
     /// made; it is above 2^63 - 1 in absolute value.
     Wide(i128),
 }

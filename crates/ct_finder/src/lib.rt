@@ -14,7 +14,7 @@ mod reading;
 mod row;
 mod run_laws;
 mod tableau;
-mod turns;
+mod running;
 
 pub use finding::{find, find_weight};
 pub use found::{Found, Stop};

@@ -1,7 +1,7 @@
 //! The entering column and the pivot row.
 ghost use Rattle.std.specs.Prelude.{◌≡◌, ◌<◌, ◌≤◌, ℕ, List, ℤ, length, All, zip, get_or, [], IfSome, Option};
 ghost use Rattle.ct_finder.specs.Column.{columns};
-ghost use Rattle.ct_finder.specs.Turn.{entering, comes_before, pivot_row};
+ghost use Rattle.ct_finder.specs.Pivot.{entering, comes_before, pivot_row};
 ghost use Rattle.ct_finder.specs.Inside.Pivot.{is_better};
 
 use crate::arithmetic::product;

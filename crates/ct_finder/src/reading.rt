@@ -3,7 +3,7 @@ ghost use Rattle.std.specs.Prelude.{◌≡◌, ◌≤◌, ◌<◌, ◌*◌, ◌/
 ghost use Rattle.std.specs.Result.{result_err};
 ghost use Rattle.ct_finder.specs.Divisor.{gcd as gcd_of_both};
 ghost use Rattle.ct_duals.specs.Bound.{natural};
-ghost use Rattle.ct_finder.specs.Turn.{at, constant_of};
+ghost use Rattle.ct_finder.specs.Pivot.{at, constant_of};
 ghost use Rattle.ct_finder.specs.Sum.{HasWidth};
 ghost use Rattle.ct_finder.specs.Basic.{AreBasic};
 ghost use Rattle.ct_finder.specs.RunPrimal.{run_scale, number_at_place, numbers_of_range};

@@ -1,7 +1,7 @@
 //! Rows of a tableau.
 ghost use Rattle.std.specs.Prelude.{◌≡◌, ◌<◌, ◌≤◌, ◌^◌, None, pos, ◌≤ℤ◌, length, map, find, int_div};
 ghost use Rattle.ct_finder.specs.Divisor.{gcd_of, divisor};
-ghost use Rattle.ct_finder.specs.Turn.{at, is_wide, crossed, turned_row};
+ghost use Rattle.ct_finder.specs.Pivot.{at, is_wide, crossed, pivoted_row};
 ghost use Rattle.ct_finder.specs.Narrow.{AreNarrow};
 
 use crate::arithmetic::{cross, gcd, is_wide, quotient};
@@ -52,25 +52,25 @@ impl Row {
 
     /// What the row becomes once the pivot row has entered at the place e: p · R - r · P, divided by the greatest common
     /// divisor of its entries. Where an entry would be wide, the first such entry, and the row is of no more use.
-    pub(crate) fn turn(&mut self, pivot: &Row, e: usize) -> Option<i128>
+    pub(crate) fn pivot_on(&mut self, pivot: &Row, e: usize) -> Option<i128>
         requires width { length self.old ≡ length pivot.now }
         requires place { e < length pivot.now }
         requires positive { pos 1 ≤ℤ at pivot.now e }
-        ensures wide { result ≡ find is_wide (turned_row e pivot.now self.old) }
-        ensures row { result ≡ None → self.new ≡ turned_row e pivot.now self.old }
+        ensures wide { result ≡ find is_wide (pivoted_row e pivot.now self.old) }
+        ensures row { result ≡ None → self.new ≡ pivoted_row e pivot.now self.old }
     {
-        turn_entries(&mut self.entries, &pivot.entries, e)
+        pivot_entries(&mut self.entries, &pivot.entries, e)
     }
 }
 
 /// The same for the entries of a row.
-fn turn_entries(row: &mut [i64], pivot: &[i64], e: usize) -> Option<i128>
+fn pivot_entries(row: &mut [i64], pivot: &[i64], e: usize) -> Option<i128>
     requires width { length row.old ≡ length pivot.now }
     requires place { e < length pivot.now }
     requires positive { pos 1 ≤ℤ at pivot.now e }
     requires narrow { AreNarrow row.old }
-    ensures wide { result ≡ find is_wide (turned_row e pivot.now row.old) }
-    ensures row { result ≡ None → row.new ≡ turned_row e pivot.now row.old }
+    ensures wide { result ≡ find is_wide (pivoted_row e pivot.now row.old) }
+    ensures row { result ≡ None → row.new ≡ pivoted_row e pivot.now row.old }
     ensures narrow { AreNarrow row.new }
 {
     let p = pivot[e];

@@ -10,7 +10,7 @@ ghost use Rattle.ct_duals.specs.Dual.{IsDual, degree_of};
 ghost use Rattle.ct_duals.specs.Check.{dual_fault};
 ghost use Rattle.ct_duals.specs.Bound.{dual_bound, natural};
 ghost use Rattle.ct_finder.specs.Divisor.{gcd, divisor, reduced};
-ghost use Rattle.ct_finder.specs.Turn.{first_wide};
+ghost use Rattle.ct_finder.specs.Pivot.{first_wide};
 ghost use Rattle.ct_finder.specs.Run.End.{Least, Turns, Wide};
 ghost use Rattle.ct_finder.specs.Run.Step.{ended, goes};
 ghost use Rattle.ct_finder.specs.Run.{unless_wide};
@@ -24,17 +24,17 @@ ghost use Rattle.ct_finder.specs.Examples.{run_eight_four_four, last_eight_four_
 /// Each row of a tableau of a run is the sum of the opening rows, each times the row's entry at that opening row's s_k;
 /// the cost row alone has the opening cost row in it, at least once.
 pub fn rows_are_sums_of_opening_rows()
-    ensures { (number : ℕ → ℕ → ℤ) (e : Entry) (even : Bool) (turns : ℕ) →
-        AreSums number (columns_of e even) (degree_of e) (after (columns_of e even) turns (opening_of number e even)) }
+    ensures { (number : ℕ → ℕ → ℤ) (e : Entry) (even : Bool) (pivots : ℕ) →
+        AreSums number (columns_of e even) (degree_of e) (after (columns_of e even) pivots (opening_of number e even)) }
 {}
 
 /// Where a run ends as least, its dual has the form of one, is accepted, and has the bound ⌊f(0)/c_0⌋, limited by
 /// `MAX_BOUND`.
 pub fn least_duals_are_accepted()
-    ensures form { (number : ℕ → ℕ → ℤ) (e : Entry) (even : Bool) (turns : ℕ) (last : Tableau) → IsAsked e even →
-        run_of number e even turns ≡ Least last → IsDual (run_dual e even last.cost) }
-    ensures accepted { (number : ℕ → ℕ → ℤ) (e : Entry) (even : Bool) (turns : ℕ) (last : Tableau) →
-        ((i : ℕ) → number 0 i ≡ pos 1) → run_of number e even turns ≡ Least last →
+    ensures form { (number : ℕ → ℕ → ℤ) (e : Entry) (even : Bool) (pivots : ℕ) (last : Tableau) → IsAsked e even →
+        run_of number e even pivots ≡ Least last → IsDual (run_dual e even last.cost) }
+    ensures accepted { (number : ℕ → ℕ → ℤ) (e : Entry) (even : Bool) (pivots : ℕ) (last : Tableau) →
+        ((i : ℕ) → number 0 i ≡ pos 1) → run_of number e even pivots ≡ Least last →
         dual_fault number (run_dual e even last.cost) ≡ None }
     ensures bound { (e : Entry) (even : Bool) (cost : List ℤ) (at_zero : ℤ) →
         dual_bound (run_dual e even cost) at_zero [] ≡
@@ -58,11 +58,11 @@ pub fn ones_are_accepted()
 pub fn least_primals_are_sound()
     ensures form { (e : Entry) (even : Bool) (last : Tableau) → IsAsked e even →
         IsPrimal (run_primal e even last) }
-    ensures sound { (number : ℕ → ℕ → ℤ) (e : Entry) (even : Bool) (turns : ℕ) (last : Tableau) →
-        ((k : ℕ) → k ≤ degree_of e → pos 0 ≤ℤ number k 0) → run_of number e even turns ≡ Least last →
+    ensures sound { (number : ℕ → ℕ → ℤ) (e : Entry) (even : Bool) (pivots : ℕ) (last : Tableau) →
+        ((k : ℕ) → k ≤ degree_of e → pos 0 ≤ℤ number k 0) → run_of number e even pivots ≡ Least last →
         IsSound number (run_primal e even last) }
-    ensures value { (number : ℕ → ℕ → ℤ) (e : Entry) (even : Bool) (turns : ℕ) (last : Tableau) →
-        ((k : ℕ) → k ≤ degree_of e → pos 0 ≤ℤ number k 0) → number 0 0 ≡ pos 1 → run_of number e even turns ≡ Least last →
+    ensures value { (number : ℕ → ℕ → ℤ) (e : Entry) (even : Bool) (pivots : ℕ) (last : Tableau) →
+        ((k : ℕ) → k ≤ degree_of e → pos 0 ≤ℤ number k 0) → number 0 0 ≡ pos 1 → run_of number e even pivots ≡ Least last →
         primal_value (run_primal e even last) ≡
         dual_bound (run_dual e even last.cost) (combination number (run_dual e even last.cost).c 0) [] }
 {}
@@ -82,13 +82,13 @@ pub fn rows_are_divided_by_their_greatest_divisor()
     ensures exact { (row : List ℤ) → map (λ z. pos (divisor row) *ℤ z) (reduced row) ≡ row }
 {}
 
-/// Runs whose ends are known: A(8,4,4) is at most 14, after three turns, and A(6,3) at most 8, after two; A(8,4) at most
-/// 16, after six turns, in four of which several rows have the least fraction: the row whose basic column comes first is
+/// Runs whose ends are known: A(8,4,4) is at most 14, after three pivots, and A(6,3) at most 8, after two; A(8,4) at most
+/// 16, after six pivots, in four of which several rows have the least fraction: the row whose basic column comes first is
 /// taken, and another choice would end with other multipliers. Their primals have the bounds as their values.
 pub fn known_runs()
     ensures weighted { run_eight_four_four 3 ≡ Least last_eight_four_four }
     ensures weighted_bound { dual_bound dual_eight_four_four (pos 672) [] ≡ 14 }
-    ensures weighted_turns { run_eight_four_four 2 ≡ Turns }
+    ensures weighted_pivots { run_eight_four_four 2 ≡ Turns }
     ensures weighted_primal { primal_eight_four_four.q ≡ pos 48 }
     ensures weighted_pairs { primal_eight_four_four.a ≡ (2, pos 576) ∷ (4, pos 48) ∷ [] }
     ensures plain { run_six_three 2 ≡ Least last_six_three }
@@ -97,7 +97,7 @@ pub fn known_runs()
     ensures plain_pairs { primal_six_three.a ≡ (3, pos 8) ∷ (4, pos 6) ∷ [] }
     ensures tied { run_eight_four 6 ≡ Least last_eight_four }
     ensures tied_bound { dual_bound dual_eight_four (pos 64) [] ≡ 16 }
-    ensures tied_turns { run_eight_four 5 ≡ Turns }
+    ensures tied_pivots { run_eight_four 5 ≡ Turns }
     ensures tied_primal { primal_eight_four.q ≡ pos 8 }
     ensures tied_pairs { primal_eight_four.a ≡ (4, pos 112) ∷ (8, pos 8) ∷ [] }
 {}
@@ -112,7 +112,7 @@ pub fn known_numbers_of_primals()
 {}
 
 /// Wide entries of tableaus: those above 2^63 - 1 in absolute value; the first comes from the rows in their order, and from
-/// the cost row where no row has one. A turn that would give such a tableau is not made, and the run ends.
+/// the cost row where no row has one. A pivot that would give such a tableau is not made, and the run ends.
 pub fn known_wide_entries()
     ensures in_a_row { first_wide wide_tableau ≡ Some (negsuc (2 ^ 63 - 1)) }
     ensures in_the_cost_row { first_wide wide_cost_tableau ≡ Some (pos (2 ^ 63)) }
@@ -121,12 +121,12 @@ pub fn known_wide_entries()
     ensures goes_on { unless_wide (first_wide narrow_tableau) narrow_tableau ≡ goes narrow_tableau }
 {}
 
-/// Numbers at places that solve the tableau after some turns solve the opening tableau; where no number of the scheme at index 0 is
+/// Numbers at places that solve the tableau after some pivots solve the opening tableau; where no number of the scheme at index 0 is
 /// below 0, each row of it has a constant of at least 0, and its basic column to itself.
 pub fn solutions_of_rows_solve_opening_rows()
-    ensures solutions { (number : ℕ → ℕ → ℤ) (e : Entry) (even : Bool) (turns : ℕ) (x : List (ℕ × ℤ)) →
-        Solves x (after (columns_of e even) turns (opening_of number e even)) → Solves x (opening_of number e even) }
-    ensures basic { (number : ℕ → ℕ → ℤ) (e : Entry) (even : Bool) (turns : ℕ) →
+    ensures solutions { (number : ℕ → ℕ → ℤ) (e : Entry) (even : Bool) (pivots : ℕ) (x : List (ℕ × ℤ)) →
+        Solves x (after (columns_of e even) pivots (opening_of number e even)) → Solves x (opening_of number e even) }
+    ensures basic { (number : ℕ → ℕ → ℤ) (e : Entry) (even : Bool) (pivots : ℕ) →
         ((k : ℕ) → k ≤ degree_of e → pos 0 ≤ℤ number k 0) →
-        AreBasic (length (columns_of e even)) (after (columns_of e even) turns (opening_of number e even)) }
+        AreBasic (length (columns_of e even)) (after (columns_of e even) pivots (opening_of number e even)) }
 {}

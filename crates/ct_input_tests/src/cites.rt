@@ -1,24 +1,24 @@
 //! Documents that cite: what is read, refused and written.
 
-use ct_files::{Cite, Document, FieldName, FileFault, read_document, write_document};
+use ct_files::{Cite, Document, FieldName, DocumentFault, read_document, write_document};
 use std::alloc::Global;
 use std::test::Fail;
 
-const FORMAT: FileFault = FileFault::Field(FieldName::Format);
+const FORMAT: DocumentFault = DocumentFault::Field(FieldName::Format);
 
-const CITES: FileFault = FileFault::Field(FieldName::Cites);
+const CITES: DocumentFault = DocumentFault::Field(FieldName::Cites);
 
 // Six words with their pairwise distances at least 6.
 const SIX_WORDS: &str =
     "kind = 'words'\nn = 10\nd = 6\nwords = ['1111111111', '1111000000', '1000111000', '0100100110', '0010010101', '0001001011']\n";
 
 // What stands after the six words, and the fault of the whole.
-const REFUSED: [(&str, FileFault); 11] = [
+const REFUSED: [(&str, DocumentFault); 11] = [
     (
         "cites = ['MacWilliams and Sloane, Appendix A']",
-        FileFault::Unknown,
+        DocumentFault::Unknown,
     ),
-    ("format = 1\ncites = []", FileFault::Unknown),
+    ("format = 1\ncites = []", DocumentFault::Unknown),
     (
         "format = 3\ncites = ['MacWilliams and Sloane, Appendix A']",
         FORMAT,
@@ -32,7 +32,7 @@ const REFUSED: [(&str, FileFault); 11] = [
     ("format = 2\ncites = [\"a\\n\"]", CITES),
     (
         "format = 2\ncites = ['a']\nsource = 'a'",
-        FileFault::Unknown,
+        DocumentFault::Unknown,
     ),
 ];
 
@@ -58,7 +58,7 @@ const WRITTEN: [(&str, &str, &str); 6] = [
     ),
 ];
 
-fn read(alloc: Global, more: &str) -> Result<Document, FileFault> {
+fn read(alloc: Global, more: &str) -> Result<Document, DocumentFault> {
     let mut text = Vec::from_slice(alloc, SIX_WORDS.as_bytes())?;
     text.extend_from_slice(more.as_bytes())?;
     read_document(alloc, &text)

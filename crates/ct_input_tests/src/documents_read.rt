@@ -2,7 +2,7 @@
 
 use ct_build::Step;
 use ct_codes::Entry;
-use ct_files::{Evidence, FieldName, FileFault, MAX_DOCUMENT, read_evidence};
+use ct_files::{Evidence, FieldName, DocumentFault, MAX_DOCUMENT, read_evidence};
 use std::alloc::Global;
 use std::test::Fail;
 
@@ -102,7 +102,7 @@ fn states_words(
     d: u32,
     w: Option<u32>,
     list: &[u32],
-) -> Result<bool, FileFault> {
+) -> Result<bool, DocumentFault> {
     let evidence = read_evidence(alloc, text.as_bytes())?;
     Ok(is_words(&evidence, n, d, w, list))
 }

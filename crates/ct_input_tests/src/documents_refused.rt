@@ -1,36 +1,36 @@
 //! Documents that are refused, and the fault of each.
 
-use ct_files::{FieldName, FileFault, read_evidence};
+use ct_files::{FieldName, DocumentFault, read_evidence};
 
-const DISTANCE: FileFault = FileFault::Field(FieldName::D);
+const DISTANCE: DocumentFault = DocumentFault::Field(FieldName::D);
 
-const LENGTH: FileFault = FileFault::Field(FieldName::N);
+const LENGTH: DocumentFault = DocumentFault::Field(FieldName::N);
 
-const OPERATION: FileFault = FileFault::Field(FieldName::Op);
+const OPERATION: DocumentFault = DocumentFault::Field(FieldName::Op);
 
-const PLACES: FileFault = FileFault::Field(FieldName::Places);
+const PLACES: DocumentFault = DocumentFault::Field(FieldName::Places);
 
-const ALLOWED: FileFault = FileFault::Field(FieldName::Y);
+const ALLOWED: DocumentFault = DocumentFault::Field(FieldName::Y);
 
-const MARK: FileFault = FileFault::Field(FieldName::Even);
+const MARK: DocumentFault = DocumentFault::Field(FieldName::Even);
 
-const NUMBER: FileFault = FileFault::Field(FieldName::M);
+const NUMBER: DocumentFault = DocumentFault::Field(FieldName::M);
 
-const SIZE: FileFault = FileFault::Field(FieldName::Size);
+const SIZE: DocumentFault = DocumentFault::Field(FieldName::Size);
 
-const WEIGHT: FileFault = FileFault::Field(FieldName::W);
+const WEIGHT: DocumentFault = DocumentFault::Field(FieldName::W);
 
-const WORDS: FileFault = FileFault::Field(FieldName::Words);
+const WORDS: DocumentFault = DocumentFault::Field(FieldName::Words);
 
-const NO_TOML: FileFault = FileFault::NotToml;
+const NO_TOML: DocumentFault = DocumentFault::NotToml;
 
-const NO_KIND: FileFault = FileFault::Kind;
+const NO_KIND: DocumentFault = DocumentFault::Kind;
 
-const FURTHER_KEY: FileFault = FileFault::Unknown;
+const FURTHER_KEY: DocumentFault = DocumentFault::Unknown;
 
 // Documents of words, those that are of no kind or lack a field, builds of words of length 4, duals with a number of words, and such that
 // look at a code from a word; and the fault.
-const REFUSED: [(&str, FileFault); 91] = [
+const REFUSED: [(&str, DocumentFault); 91] = [
     (
         "kind = 'words'\nn = 9223372036854775808\nd = 4\nwords = []\n",
         NO_TOML,
@@ -131,23 +131,23 @@ const REFUSED: [(&str, FileFault); 91] = [
     ),
     (
         "kind = 'words'\nn = 6\nd = 4\nwords = ['111100', '11110', '1']\n",
-        FileFault::Digits(1),
+        DocumentFault::Digits(1),
     ),
     (
         "kind = 'words'\nn = 6\nd = 4\nwords = ['1111000']\n",
-        FileFault::Digits(0),
+        DocumentFault::Digits(0),
     ),
     (
         "kind = 'words'\nn = 6\nd = 4\nwords = ['111100', '111001', '11112a']\n",
-        FileFault::Digits(2),
+        DocumentFault::Digits(2),
     ),
     (
         "kind = 'words'\nn = 6\nd = 4\nwords = ['']\n",
-        FileFault::Digits(0),
+        DocumentFault::Digits(0),
     ),
     (
         "kind = 'words'\nn = 6\nd = 4\nwords = []\n",
-        FileFault::Size(0),
+        DocumentFault::Size(0),
     ),
     ("kind =", NO_TOML),
     ("kind = 'oracle'\nn =", NO_TOML),
@@ -214,15 +214,15 @@ const REFUSED: [(&str, FileFault); 91] = [
     ),
     (
         "kind = 'build'\nn = 4\npart = 'a'\nd = 4\nop = 'translate'\nby = ''",
-        FileFault::Digits(0),
+        DocumentFault::Digits(0),
     ),
     (
         "kind = 'build'\nn = 4\npart = 'a'\nd = 4\nop = 'translate'\nby = '01010'",
-        FileFault::Digits(0),
+        DocumentFault::Digits(0),
     ),
     (
         "kind = 'build'\nn = 4\npart = 'a'\nd = 4\nop = 'shorten'\nplaces = [4]\ndigits = '01'",
-        FileFault::Digits(0),
+        DocumentFault::Digits(0),
     ),
     (
         "kind = 'odd'\nn = 9\nd = 4\neven = true\nm = 20\nc = [3, 1, 1]\ny = [[8, 16]]",
@@ -248,7 +248,7 @@ const REFUSED: [(&str, FileFault); 91] = [
     ),
     (
         "kind = 'odd'\nn = 9\nd = 4\nm = 3\nc = [1]\ncites = 'a'\nformat = 2",
-        FileFault::Field(FieldName::Cites),
+        DocumentFault::Field(FieldName::Cites),
     ),
     ("kind = 'dual'\nn = 9\nd = 4\nm = 3\nc = [1]", FURTHER_KEY),
     (
@@ -269,11 +269,11 @@ const REFUSED: [(&str, FileFault); 91] = [
     ),
     (
         "kind = 'jlocal'\nn = 8\nd = 4\nw = 4\nc = [-8]\ny = [[1, 8]]",
-        FileFault::Field(FieldName::C),
+        DocumentFault::Field(FieldName::C),
     ),
     (
         "kind = 'jlocal'\nn = 8\nd = 5\nc = [8, 1]\ny = [[3, 8]]",
-        FileFault::Field(FieldName::D),
+        DocumentFault::Field(FieldName::D),
     ),
     (
         "kind = 'jlocal'\nn = 8\nd = 4\nc = [8, 1]\ny = [[2, 8]]",
@@ -301,5 +301,5 @@ fn refused_documents(rt: HostRuntime) {
 #[test]
 fn bytes_that_are_no_text(rt: HostRuntime) {
     let bytes = b"kind = 'words'\nn = 6\nd = 4\nwords = [] # \xff";
-    assert!(rt; read_evidence(rt.alloc(), bytes.as_slice()).err() == Some(FileFault::NotToml));
+    assert!(rt; read_evidence(rt.alloc(), bytes.as_slice()).err() == Some(DocumentFault::NotToml));
 }

@@ -1,6 +1,6 @@
 //! Documents of the greatest size, and of the greatest numbers of words.
 
-use ct_files::{Evidence, FieldName, FileFault, read_evidence};
+use ct_files::{Evidence, FieldName, DocumentFault, read_evidence};
 use std::alloc::{AllocError, Global};
 use std::test::Fail;
 
@@ -14,9 +14,9 @@ fn long_documents(rt: HostRuntime) -> Result<(), Fail> {
     bytes.resize(4194304, b'#')?;
     assert!(rt; read_evidence(alloc, &bytes).is_ok());
     bytes[0] = b'=';
-    assert!(rt; read_evidence(alloc, &bytes).err() == Some(FileFault::NotToml));
+    assert!(rt; read_evidence(alloc, &bytes).err() == Some(DocumentFault::NotToml));
     bytes.push(b'#')?;
-    assert!(rt; read_evidence(alloc, &bytes).err() == Some(FileFault::Bytes(4194305)));
+    assert!(rt; read_evidence(alloc, &bytes).err() == Some(DocumentFault::Bytes(4194305)));
     Ok(())
 }
 
@@ -41,7 +41,7 @@ type Counted = (
     usize,
     &'static str,
     &'static str,
-    Result<usize, FileFault>,
+    Result<usize, DocumentFault>,
 );
 
 // The greatest numbers and one more.
@@ -56,7 +56,7 @@ const COUNTED: [Counted; 24] = [
         0,
         "",
         "]",
-        Err(FileFault::Size(16385)),
+        Err(DocumentFault::Size(16385)),
     ),
     (
         WORDS,
@@ -66,7 +66,7 @@ const COUNTED: [Counted; 24] = [
         0,
         "",
         "]",
-        Err(FileFault::Digits(16384)),
+        Err(DocumentFault::Digits(16384)),
     ),
     // Basis words and representatives of length 1: the basis is counted first.
     (COSETS, 0, "'1',", REPRESENTATIVES, 1, "'0',", "]", Ok(1)),
@@ -88,7 +88,7 @@ const COUNTED: [Counted; 24] = [
         1,
         "'0',",
         "]",
-        Err(FileFault::Size(31)),
+        Err(DocumentFault::Size(31)),
     ),
     (
         COSETS,
@@ -98,7 +98,7 @@ const COUNTED: [Counted; 24] = [
         0,
         "'0',",
         "]",
-        Err(FileFault::Size(31)),
+        Err(DocumentFault::Size(31)),
     ),
     (
         COSETS,
@@ -108,7 +108,7 @@ const COUNTED: [Counted; 24] = [
         0,
         "'0',",
         "]",
-        Err(FileFault::Size(0)),
+        Err(DocumentFault::Size(0)),
     ),
     (
         COSETS,
@@ -118,7 +118,7 @@ const COUNTED: [Counted; 24] = [
         4097,
         "'0',",
         "]",
-        Err(FileFault::Size(4097)),
+        Err(DocumentFault::Size(4097)),
     ),
     // Classes are counted first, then those without words, then words, and all after the digits.
     (PARTITION, 4095, "['1'],", "['0']", 0, "", "]", Ok(4096)),
@@ -130,7 +130,7 @@ const COUNTED: [Counted; 24] = [
         0,
         "",
         "]",
-        Err(FileFault::Size(4097)),
+        Err(DocumentFault::Size(4097)),
     ),
     (
         PARTITION,
@@ -140,7 +140,7 @@ const COUNTED: [Counted; 24] = [
         0,
         "",
         "]",
-        Err(FileFault::Size(4097)),
+        Err(DocumentFault::Size(4097)),
     ),
     (
         PARTITION,
@@ -150,7 +150,7 @@ const COUNTED: [Counted; 24] = [
         0,
         "",
         "]",
-        Err(FileFault::Size(0)),
+        Err(DocumentFault::Size(0)),
     ),
     (
         PARTITION,
@@ -170,7 +170,7 @@ const COUNTED: [Counted; 24] = [
         0,
         "",
         "]",
-        Err(FileFault::Size(16385)),
+        Err(DocumentFault::Size(16385)),
     ),
     (
         PARTITION,
@@ -180,7 +180,7 @@ const COUNTED: [Counted; 24] = [
         0,
         "",
         "]",
-        Err(FileFault::Size(0)),
+        Err(DocumentFault::Size(0)),
     ),
     (
         PARTITION,
@@ -190,7 +190,7 @@ const COUNTED: [Counted; 24] = [
         0,
         "",
         "]",
-        Err(FileFault::Digits(4096)),
+        Err(DocumentFault::Digits(4096)),
     ),
     // Pairs with and without a weight.
     (PRODUCT, 1, "['a', 'b'],", "]\n", 0, "", "", Ok(1)),
@@ -202,7 +202,7 @@ const COUNTED: [Counted; 24] = [
         0,
         "",
         "",
-        Err(FileFault::Field(FieldName::Pairs)),
+        Err(DocumentFault::Field(FieldName::Pairs)),
     ),
     (
         PRODUCT,
@@ -212,7 +212,7 @@ const COUNTED: [Counted; 24] = [
         0,
         "",
         "",
-        Err(FileFault::Field(FieldName::Pairs)),
+        Err(DocumentFault::Field(FieldName::Pairs)),
     ),
     (PRODUCT, 1, "['a', 'b'],", "]\n", 0, "", "w = 4", Ok(1)),
     (PRODUCT, 2, "['a', 'b'],", "]\n", 0, "", "w = 4", Ok(2)),
@@ -225,7 +225,7 @@ const COUNTED: [Counted; 24] = [
         0,
         "",
         "w = 4",
-        Err(FileFault::Field(FieldName::Pairs)),
+        Err(DocumentFault::Field(FieldName::Pairs)),
     ),
 ];
 
@@ -255,7 +255,7 @@ fn size(evidence: &Evidence) -> usize {
 }
 
 // That of the evidence of the document.
-fn number(alloc: Global, bytes: &[u8]) -> Result<usize, FileFault> {
+fn number(alloc: Global, bytes: &[u8]) -> Result<usize, DocumentFault> {
     let evidence = read_evidence(alloc, bytes)?;
     Ok(size(&evidence))
 }

@@ -52,8 +52,8 @@ abbrev pub average : ℕ → ℕ → ℕ → ℕ
 average n w u = 2 ^ (n - 1) * u / choose n w
 
 -- the same as a bound of the table
-abbrev pub averaging_value : ℕ → ℕ → ℕ → ℕ
-averaging_value n w u = min (average n w u) MAX_BOUND
+abbrev pub elias_bassalygo_value : ℕ → ℕ → ℕ → ℕ
+elias_bassalygo_value n w u = min (average n w u) MAX_BOUND
 
 -- for the distance 2δ - 1: ⌊2^n·F / (F·V(n,δ - 1) + R)⌋, where F = ⌊n/δ⌋ and R = C(n,δ) - C(2δ - 1,δ - 1)·u is above 0
 abbrev pub johnson_odd : ℕ → ℕ → ℕ → Option ℕ

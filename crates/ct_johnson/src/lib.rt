@@ -13,4 +13,4 @@ mod unrestricted;
 pub use columns::{MAX_COUNTED, column_count};
 pub use places::{drop_one, drop_zero, split};
 pub use rounds::doubly;
-pub use unrestricted::{average, averaging, johnson, johnson_odd};
+pub use unrestricted::{average, elias_bassalygo, johnson, johnson_odd};

@@ -3,7 +3,7 @@
 ghost use Rattle.std.specs.Prelude.{◌≡◌, ℕ, ◌+◌, ◌*◌, ◌%◌, ◌≤◌, IfSome};
 ghost use Rattle.ct_codes.specs.Code.{IsTrueUpper};
 ghost use Rattle.ct_codes.specs.Entry.{IsEntry, constant_weight, unrestricted};
-ghost use Rattle.ct_johnson.specs.Bounds.{average, averaging_value, johnson_odd, johnson_value};
+ghost use Rattle.ct_johnson.specs.Bounds.{average, elias_bassalygo_value, johnson_odd, johnson_value};
 
 use crate::cap::capped;
 use ct_words::{MAX_BOUND, MAX_N, ball, binomial};
@@ -27,11 +27,11 @@ pub fn average(n: u32, w: u32, u: u32) -> u64
 
 /// The bound `average` on A(n,d) for an even d, at most `MAX_BOUND`, for n from 1 to `MAX_N` and w up to n. The number u,
 /// from 1 to `MAX_BOUND`, bounds A(n,d,w).
-pub fn averaging(n: u32, w: u32, u: u32) -> u32
+pub fn elias_bassalygo(n: u32, w: u32, u: u32) -> u32
     requires length { (1 ≤ n) × (n ≤ MAX_N) }
     requires weight { w ≤ n }
     requires premise { (1 ≤ u) × (u ≤ MAX_BOUND) }
-    ensures value { result ≡ averaging_value n w u }
+    ensures value { result ≡ elias_bassalygo_value n w u }
     ensures range { (1 ≤ result) × (result ≤ MAX_BOUND) }
     ensures sound { (d : ℕ) → 2 ≤ d → d % 2 ≡ 0 → IsTrueUpper (constant_weight n d w) u →
         IsTrueUpper (unrestricted n d) result }

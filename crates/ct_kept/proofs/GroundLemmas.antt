@@ -15,8 +15,8 @@ use Rattle.ct_codes.proofs.EntryLemmas.{entry_limits}
 use Rattle.ct_partitions.specs.declared.largest_class.LargestClass.{LargestClass}
 use Rattle.ct_partitions.specs.SumClass.{sum_class, largest_class}
 use Rattle.ct_partitions.proofs.LargestLemmas.{largest_class-within, largest_class-most, sum_class-few}
-use Rattle.ct_weight_rules.specs.SumClass.{size_of_class}
-use Rattle.ct_weight_rules.proofs.LawfulSumClass.{KnownClass, class_given, class_defined}
+use Rattle.ct_weight_rules.specs.GrahamSloane.{sum_class_size}
+use Rattle.ct_weight_rules.proofs.LawfulGrahamSloane.{KnownClass, class_given, class_defined}
 use Rattle.ct_rule_parts.specs.Parts.{RuleParts, has_weight, weight_of, is_defined, slots_on, within_limit}
 use Rattle.ct_rule_parts.specs.declared.support.Support.{Support}
 use Rattle.ct_rule_parts.specs.Slot.{Slot, slot_of, IsNoBetter}
@@ -171,10 +171,10 @@ pub all_other_nothing : (side : Side) (e : Entry) (rules : List Rule) → rules 
 all_other_nothing side e rules are = subst (All (λ (r : Rule). RestsOnNothing r e)) (sym are) (other_nothing side e.n e.d e.w)
 
 -- what the sum classes of an entry give: the size of each, and nothing where the entry has no weight or another distance
-class_size : (k : ℕ) (e : Entry) (u : ℕ) → value_of [] (M9 k) e [] ≡ Some u → size_of_class k e ≡ Some u
+class_size : (k : ℕ) (e : Entry) (u : ℕ) → value_of [] (M9 k) e [] ≡ Some u → sum_class_size k e ≡ Some u
 unfolding row_of
 class_size k e u value =
-    let limit = limit_of Lower (size_of_class k e) u (value-given [] (M9 k) e [] u value) in
+    let limit = limit_of Lower (sum_class_size k e) u (value-given [] (M9 k) e [] u value) in
     let fits = limit.1.whole refl in
     let least = limit.1.least in
     let same : limit.0 ≡ u = omega arith in
@@ -200,7 +200,7 @@ class_gives n w v h more =
     let limits = entry_limits (constant_weight n 4 w) h in
     let size = length (sum_class n w (largest_class n w)) in
     let few = sum_class-few n w (largest_class n w) limits.length_to in
-    let there : size_of_class (largest_class n w) (constant_weight n 4 w) ≡ Some size =
+    let there : sum_class_size (largest_class n w) (constant_weight n 4 w) ≡ Some size =
     class_defined n w (largest_class n w) (largest_class-within n w limits.length_from) (omega arith) in
     record {
       side = refl;

@@ -5,7 +5,7 @@ ghost use Rattle.std.specs.Prelude.{◌≡◌};
 use ct_build::BuildFault;
 use ct_codes::CodeFault;
 use ct_duals::DualFault;
-use ct_fields::FileFault;
+use ct_fields::DocumentFault;
 use ct_partitions::PartitionFault;
 use ct_text::Id;
 use std::alloc::{AllocError, AllocFailed};
@@ -18,7 +18,7 @@ pub enum SubmitFault {
     /// So many pieces stand that there is no room for another: `MAX_PIECES`.
     FullPieces(u64),
     /// The document is not read. The fault is never want of memory.
-    File(FileFault),
+    File(DocumentFault),
     /// The first part that is named, in the order of the document, and that does not stand.
     NoSuch(Id),
     /// The first part that is named and that does not fit. Of a build: it is of a kind without a code, or has not the length or

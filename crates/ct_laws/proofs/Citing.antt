@@ -6,7 +6,7 @@ use Rattle.std.proofs.lemmas.List.{length-map}
 use Rattle.std.proofs.lemmas.List.Elements.{All-nil, All-cons}
 use Rattle.std.proofs.lemmas.List.Sums.{sum_by-cons}
 use Rattle.ct_kind.specs.declared.evidence.Evidence.{Evidence}
-use Rattle.ct_fields.specs.declared.fault.FileFault.{FileFault}
+use Rattle.ct_fields.specs.declared.fault.DocumentFault.{DocumentFault}
 use Rattle.ct_fields.specs.Cites.{IsCites}
 use Rattle.ct_files.specs.Document.{DocumentValue, document_read_of}
 use Rattle.ct_files.proofs.Documents.{document_without_limit-right}
@@ -84,11 +84,11 @@ cites-alike pieces id document other stated another read read_other same =
     let count = length pieces in
     let stored = stored_words pieces in
     let own = made_of known id document stated in
-    ap (λ (r : Result DocumentValue FileFault). unless_full taken count (stored_beside stored (piece_from known id other r))) read_other
+    ap (λ (r : Result DocumentValue DocumentFault). unless_full taken count (stored_beside stored (piece_from known id other r))) read_other
     ∙ ap (λ (made : Result PieceValue SubmitFault). unless_full taken count (stored_beside stored made)) (made-recited known id document other stated another same)
     ∙ ap (λ (made : Result PieceValue SubmitFault). unless_full taken count made) (stored-recited other another.cites stored own)
     ∙ full-recited other another.cites taken (nat_le MAX_PIECES count) count (stored_beside stored own)
-    ∙ ap (λ (r : Result DocumentValue FileFault). made_recited other another.cites (unless_full taken count (stored_beside stored (piece_from known id document r)))) (sym read)
+    ∙ ap (λ (r : Result DocumentValue DocumentFault). made_recited other another.cites (unless_full taken count (stored_beside stored (piece_from known id document r)))) (sym read)
 
 -- pieces say the same if they cite nothing
 has_id-uncited : (id : List ℕ) (ps : List PieceValue) → has_id id (uncited ps) ≡ has_id id ps

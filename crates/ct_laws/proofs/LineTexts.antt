@@ -24,8 +24,8 @@ use Rattle.ct_rules.specs.Derivation.{LineValue}
 use Rattle.ct_derive.specs.Check.{numbers_at, and_values}
 use Rattle.ct_derive.specs.Text.{side_text, from_words, claim_words, reason_words, line_text}
 use Rattle.ct_verify.specs.StatedRule.{stated_rule}
-use Rattle.ct_text.specs.Side.{side_of}
-use Rattle.ct_verify.specs.StatedLine.{StatedLineValue, entry_of, bound_of, all_numbers, premises_of_words, claim_of, line_from, with_rule, with_reason, with_value, line_of}
+use Rattle.ct_text.specs.Side.{side_of_word}
+use Rattle.ct_verify.specs.StatedLine.{StatedLineValue, entry_of_words, bound_of_word, all_numbers, premises_of_words, claim_of, line_from, with_rule, with_reason, with_value, line_of}
 use Rattle.ct_verify.specs.declared.stated_rule.StatedRule.{StatedRule}
 use Rattle.ct_commands.proofs.SpacedWords.{IsWord, AreWords, spaced_words, AreWords-append, known_word, decimal_word, decimal_words}
 use Rattle.ct_laws.proofs.SmallEntries.{HasSmallNumbers, small_numbers}
@@ -169,11 +169,11 @@ line_parts-are ids number l stated s h =
     )
 
 -- the words read back
-side_read : (side : Side) → side_of (side_text side) ≡ Some side
+side_read : (side : Side) → side_of_word (side_text side) ≡ Some side
 side_read Lower = refl
 side_read Upper = refl
 
-bound_read : (v : ℕ) → 1 ≤ v → v ≤ MAX_BOUND → bound_of (decimal v) ≡ Some v
+bound_read : (v : ℕ) → 1 ≤ v → v ≤ MAX_BOUND → bound_of_word (decimal v) ≡ Some v
 bound_read v some small =
     ap (option_and_then (λ n. cond (nat_le 1 n && nat_le n MAX_BOUND) (Some n) None)) (read_number v (small_bound v small))
     ∙ ap₂ (λ (a b : Bool). cond (a && b) (Some v) None) (le-leb 1 v some) (le-leb v MAX_BOUND small)
@@ -191,7 +191,7 @@ entry_again : (m : EntryNumbers) (e : Entry) → IsEntry e → record { n = m.n;
 entry_again m e h same =
     ap (λ (f : Entry). cond (is_entry f) (Some f) None) same ∙ ap (λ (b : Bool). cond b (Some e) None) h
 
-entry_read : (n d : ℕ) (w : Option ℕ) → IsEntry (record { n = n; d = d; w = w }) → entry_of (decimal n ∷ decimal d ∷ weight_words w) ≡ Some (record { n = n; d = d; w = w })
+entry_read : (n d : ℕ) (w : Option ℕ) → IsEntry (record { n = n; d = d; w = w }) → entry_of_words (decimal n ∷ decimal d ∷ weight_words w) ≡ Some (record { n = n; d = d; w = w })
 entry_read n d None h =
     let e : Entry = record { n = n; d = d; w = None } in
     let small = small_numbers e h in
@@ -238,8 +238,8 @@ line_read ids number l s h =
     let c = l.claim in
     let small = small_numbers c.entry h.entry in
     let after : List (List ℕ) = s.arguments ++ from_parts (numbers_at l.from) in
-    let claimed : claim_of (side_of (side_text c.side)) (entry_of (entry_parts c.entry)) (bound_of (decimal c.value)) ≡ Some c =
-    ap₂ (λ (a : Option Side) (b : Option Entry). claim_of a b (bound_of (decimal c.value))) (side_read c.side) (entry_read c.entry.n c.entry.d c.entry.w h.entry)
+    let claimed : claim_of (side_of_word (side_text c.side)) (entry_of_words (entry_parts c.entry)) (bound_of_word (decimal c.value)) ≡ Some c =
+    ap₂ (λ (a : Option Side) (b : Option Entry). claim_of a b (bound_of_word (decimal c.value))) (side_read c.side) (entry_read c.entry.n c.entry.d c.entry.w h.entry)
     ∙ ap (claim_of (Some c.side) (Some c.entry)) (bound_read c.value h.range.0 h.range.1) in
     let ruled : stated_rule c.side s.name after ≡ Some (stated_of ids l.rule) =
     ap (λ (side : Side). stated_rule side s.name after) (sym h.side) ∙ s.reads (from_parts (numbers_at l.from)) in

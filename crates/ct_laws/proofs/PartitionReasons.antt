@@ -10,7 +10,7 @@ use Rattle.ct_codes.specs.Pairs.{first_of, least_pair, IsLeastPair, NoPair}
 use Rattle.ct_partitions.specs.declared.fault.PartitionFault.{PartitionFault}
 use Rattle.ct_partitions.specs.declared.fault.PartitionFault.TheVariants as partition
 use Rattle.ct_partitions.specs.declared.fault.TheConstants.{MAX_CLASSES}
-use Rattle.ct_partitions.specs.Partition.{all_words}
+use Rattle.ct_partitions.specs.Partition.{words_of_classes}
 use Rattle.ct_partitions.specs.Check.{class_at, counted, need, distance_at, is_close, wrong_count, size_fault, weight_fault, repeated_fault, close_fault, partition_fault}
 use Rattle.ct_laws.specs.Weights.{HaveWeight, IsFirstOfOtherWeight}
 use Rattle.ct_kind.specs.Named.{NamedCode}
@@ -46,13 +46,13 @@ empty-some classes empty = at (list_any (λ c. length c == 0) classes) refl wher
 -- the counts, one after the other
 abbrev after_count : List (List ℕ) → Option ℕ
 after_count classes =
-    first_of (cond (list_any (λ c. length c == 0) classes) (Some 0) None) (cond (nat_lt MAX_WORDS (length (all_words classes))) (Some (counted (length (all_words classes)))) None)
+    first_of (cond (list_any (λ c. length c == 0) classes) (Some 0) None) (cond (nat_lt MAX_WORDS (length (words_of_classes classes))) (Some (counted (length (words_of_classes classes)))) None)
 
 counts-are : (classes : List (List ℕ))
     → wrong_count classes ≡ first_of (cond (length classes == 0 || nat_lt MAX_CLASSES (length classes)) (Some (length classes)) None) (after_count classes)
 counts-are classes = at (length classes == 0 || nat_lt MAX_CLASSES (length classes)) (list_any (λ c. length c == 0) classes) where
   last : Option ℕ
-  last = cond (nat_lt MAX_WORDS (length (all_words classes))) (Some (counted (length (all_words classes)))) None
+  last = cond (nat_lt MAX_WORDS (length (words_of_classes classes))) (Some (counted (length (words_of_classes classes)))) None
 
   at : (a b : Bool) → cond a (Some (length classes)) (cond b (Some 0) last) ≡ first_of (cond a (Some (length classes)) None) (first_of (cond b (Some 0) None) last)
   at true b = refl
@@ -61,7 +61,7 @@ counts-are classes = at (length classes == 0 || nat_lt MAX_CLASSES (length class
 
 says-counts : (classes : List (List ℕ)) → Says (wrong_count classes) (HasRightSizes classes) (IsWrongSize classes)
 says-counts classes =
-    let total = length (all_words classes) in
+    let total = length (words_of_classes classes) in
     subst (λ (o : Option ℕ). Says o (HasRightSizes classes) (IsWrongSize classes)) (sym (counts-are classes))
     (says-also
     (says-first (cond (length classes == 0 || nat_lt MAX_CLASSES (length classes)) (Some (length classes)) None) (after_count classes)
@@ -90,18 +90,18 @@ close_of e between classes p =
 -- classes against which there is no reason
 pub record AreRightClasses (e : Entry) (between : ℕ) (classes : List (List ℕ)) : Type 0 where
   pub sizes : HasRightSizes classes
-  pub weights : HaveWeight e (all_words classes)
+  pub weights : HaveWeight e (words_of_classes classes)
   pub different : AreDifferent classes
-  pub apart : NoPair (is_close e.n e.d between classes) (all_places (length (all_words classes)))
+  pub apart : NoPair (is_close e.n e.d between classes) (all_places (length (words_of_classes classes)))
 
 -- the reasons, one after the other
 abbrev IsAnyFault : Entry → ℕ → List (List ℕ) → PartitionFault → Type 0
 IsAnyFault e between classes f =
     ((count : ℕ) × ◌≡◌ {A = PartitionFault} (partition.Size count) f × IsWrongSize classes count)
-    ⊎ (HasRightSizes classes × (((i : ℕ) × ◌≡◌ {A = PartitionFault} (partition.Weight i) f × IsFirstOfOtherWeight e (all_words classes) i)
-    ⊎ (HaveWeight e (all_words classes) × (((p : ℕ × ℕ) × ◌≡◌ {A = PartitionFault} (partition.Repeated p.0 p.1) f × IsLeastPair (λ x y. x == y) (all_words classes) p.0 p.1)
+    ⊎ (HasRightSizes classes × (((i : ℕ) × ◌≡◌ {A = PartitionFault} (partition.Weight i) f × IsFirstOfOtherWeight e (words_of_classes classes) i)
+    ⊎ (HaveWeight e (words_of_classes classes) × (((p : ℕ × ℕ) × ◌≡◌ {A = PartitionFault} (partition.Repeated p.0 p.1) f × IsLeastPair (λ x y. x == y) (words_of_classes classes) p.0 p.1)
     ⊎ (AreDifferent classes × ((p : ℕ × ℕ) × ◌≡◌ {A = PartitionFault} (close_of e between classes p) f
-    × IsLeastPair (is_close e.n e.d between classes) (all_places (length (all_words classes))) p.0 p.1))))))
+    × IsLeastPair (is_close e.n e.d between classes) (all_places (length (words_of_classes classes))) p.0 p.1))))))
 
 any-fault : (e : Entry) (between : ℕ) (classes : List (List ℕ)) (f : PartitionFault) → IsAnyFault e between classes f → IsClassesFault e between classes f
 any-fault e between classes f h = elim h [
@@ -129,7 +129,7 @@ fault-any e between classes partition.Memory h = absurd h
 pub says-classes : (e : Entry) (between : ℕ) (classes : List (List ℕ)) → Says (partition_fault e between classes) (AreRightClasses e between classes) (IsClassesFault e between classes)
 unfolding partition_fault
 says-classes e between classes =
-    let words = all_words classes in
+    let words = words_of_classes classes in
     says-also
     (says-first (size_fault classes) (first_of (weight_fault e.n e.w words) (first_of (repeated_fault words) (close_fault e.n e.d between classes)))
     (says-map partition.Size (wrong_count classes) (says-counts classes))

@@ -28,10 +28,10 @@ use Rattle.ct_finder.specs.Column.{range_of}
 use Rattle.ct_finder.specs.RunPrimal.{wide_number, run_primal}
 use Rattle.ct_finder.specs.Run.{End}
 use Rattle.ct_finder.specs.Run.End.{Least, Turns, Wide}
-use Rattle.ct_finder.specs.Found.{bound_of, least_stop, stop_of, IsShown}
+use Rattle.ct_finder.specs.Found.{bound_of_dual, least_stop, stop_of, IsShown}
 use Rattle.ct_finder.specs.declared.found.Stop.{Stop}
 use Rattle.ct_finder.specs.declared.found.Stop.TheVariants as stop
-use Rattle.ct_find.specs.declared.found.TheConstants.{MAX_TURNS}
+use Rattle.ct_find.specs.declared.found.TheConstants.{MAX_PIVOTS}
 use Rattle.ct_files.specs.Document.{without_cites}
 use Rattle.ct_files.proofs.Documents.{document_read_of-within}
 use Rattle.ct_find.specs.Proposal.{is_even, dual_evidence, find_id, found_dual, pair_text, pairs_text, primal_line, proposed_piece, run_for, stop_for, stop_text}
@@ -161,9 +161,9 @@ least_words : (o : Option ℤ) (p : PrimalValue) → AreWords (stop_words (least
 least_words None p = (known_word (codes "least") refl, tt)
 least_words (Some x) p = (known_word (codes "wide") refl, tt)
 
-stop_words-are : (e : Entry) (even : Bool) (end : End) → AreWords (stop_words (stop_of e even MAX_TURNS end))
+stop_words-are : (e : Entry) (even : Bool) (end : End) → AreWords (stop_words (stop_of e even MAX_PIVOTS end))
 stop_words-are e even (Least t) = least_words (wide_number (length (range_of e even)) t) (run_primal e even t)
-stop_words-are e even Turns = (known_word (codes "turns") refl, (decimal_word MAX_TURNS (lit< tt), tt))
+stop_words-are e even Turns = (known_word (codes "turns") refl, (decimal_word MAX_PIVOTS (lit< tt), tt))
 stop_words-are e even (Wide x) = (known_word (codes "wide") refl, tt)
 
 IsLine-comment : (e : Entry) (bound : ℕ) → bound < 2 ^ 64 → IsLine (comment bound (stop_text (stop_for e)))
@@ -246,7 +246,7 @@ primal-comment (stop.Least p) d after shown =
     ∙ ap commands_of (lines_of-next body after line)
     ∙ alone Nothing body (lines_of after) (form_of-primal p) refl
 
-bound_small : (e : Entry) (d : Dual) → IsEntry e → found_dual e ≡ Some d → bound_of d < 2 ^ 64
+bound_small : (e : Entry) (d : Dual) → IsEntry e → found_dual e ≡ Some d → bound_of_dual d < 2 ^ 64
 bound_small e d entry same =
     let is = bound-is e d entry same in
     let small = min-le_left MAX_BOUND (natural (combination (numbers_of e) d.c 0) / natural (multiplier d.c 0)) in
@@ -258,15 +258,15 @@ proposal-command : (e : Entry) (own rest : List ℕ) (h : IsProposed e own) → 
 proposal-command e own rest h entry =
     let p = piece e own h in
     let stopped = stop_text (stop_for e) in
-    let line = comment (bound_of h.dual) stopped in
+    let line = comment (bound_of_dual h.dual) stopped in
     let primal = primal_line (stop_for e) in
     let after = piece_dump p ++ rest in
     ap (λ t. commands_of (lines_of (t ++ rest))) h.proposal.2
     ∙ ap (λ t. commands_of (lines_of t))
     (append_assoc ((line ++ LINE_FEED ∷ []) ++ primal) (piece_dump p) rest ∙ append_assoc (line ++ LINE_FEED ∷ []) primal after
     ∙ append_assoc line (LINE_FEED ∷ []) (primal ++ after))
-    ∙ ap commands_of (lines_of-next line (primal ++ after) (IsLine-comment e (bound_of h.dual) (bound_small e h.dual entry h.found)))
-    ∙ alone Nothing line (lines_of (primal ++ after)) (form_of-comment (bound_of h.dual) stopped) refl
+    ∙ ap commands_of (lines_of-next line (primal ++ after) (IsLine-comment e (bound_of_dual h.dual) (bound_small e h.dual entry h.found)))
+    ∙ alone Nothing line (lines_of (primal ++ after)) (form_of-comment (bound_of_dual h.dual) stopped) refl
     ∙ primal-comment (stop_for e) h.dual after (shown e h.dual entry h.found)
     ∙ piece_dump-command p rest (within e own h) (find_id-named e entry)
 

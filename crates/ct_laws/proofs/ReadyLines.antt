@@ -14,11 +14,11 @@ use Rattle.ct_codes.proofs.EntryLemmas.{entry_limits}
 use Rattle.ct_text.specs.Id.{is_id}
 use Rattle.ct_rule_parts.specs.declared.support.Support.{Support}
 use Rattle.ct_rule_parts.specs.Parts.{are_entries}
-use Rattle.ct_plain_rules.specs.SideBySide.{side_by_side}
+use Rattle.ct_plain_rules.specs.Juxtaposition.{juxtaposition}
 use Rattle.ct_weight_rules.specs.WithoutWeight.{without_weight}
-use Rattle.ct_weight_rules.specs.Averaging.{averaging}
-use Rattle.ct_weight_rules.specs.SumClass.{class_of_sum}
-use Rattle.ct_weight_rules.proofs.LawfulSumClass.{known_class}
+use Rattle.ct_weight_rules.specs.EliasBassalygo.{elias_bassalygo}
+use Rattle.ct_weight_rules.specs.GrahamSloane.{graham_sloane}
+use Rattle.ct_weight_rules.proofs.LawfulGrahamSloane.{known_class}
 use Rattle.ct_weight_rules.specs.Neighbours.{even_of_weight, of_weight}
 use Rattle.ct_rules.specs.declared.rule.Rule.{Rule}
 use Rattle.ct_rules.specs.declared.rule.Rule.TheVariants.{L9, L11, M9, U10}
@@ -86,18 +86,18 @@ rule_printable pieces (L9 w) e h applied =
     let weight = (small_numbers (even_of_weight e w) (first_entry (even_of_weight e w) [] (defined (without_weight w) e applied).premises)).weight_small w refl in
     omega (arith, weight)
 rule_printable pieces (L11 n d) e h applied =
-    let entries = (defined (side_by_side n d) e applied).premises in
+    let entries = (defined (juxtaposition n d) e applied).premises in
     let numbers = small_numbers (unrestricted n d) (first_entry (unrestricted n d) (unrestricted (e.n - n) (e.d - d) ∷ []) entries) in
     let long = numbers.length_small in
     let far = numbers.distance_small in
     (omega (arith, long), omega (arith, far))
 rule_printable pieces (M9 k) e h applied =
-    let is = defined (class_of_sum k) e applied in
+    let is = defined (graham_sloane k) e applied in
     let below = (known_class k e is.condition).residue in
     let length = (entry_limits e is.entry).length_to in
     omega (arith, below, length)
 rule_printable pieces (U10 w) e h applied =
-    let weight = (small_numbers (of_weight e w) (first_entry (of_weight e w) [] (defined (averaging w) e applied).premises)).weight_small w refl in
+    let weight = (small_numbers (of_weight e w) (first_entry (of_weight e w) [] (defined (elias_bassalygo w) e applied).premises)).weight_small w refl in
     omega (arith, weight)
 rule_printable pieces r e h applied = printable_rest pieces r (arguments_of r) e refl refl h applied
 

@@ -5,7 +5,7 @@ use Rattle.std.proofs.lemmas.Bool.{lt-leb, le-leb, leb-false}
 use Rattle.std.proofs.lemmas.List.Elements.{All-nil, All-cons, All-head, All-tail}
 use Rattle.ct_codes.specs.Pairs.{first_of}
 use Rattle.ct_kind.specs.declared.evidence.Evidence.{Evidence}
-use Rattle.ct_fields.specs.declared.fault.FileFault.{FileFault}
+use Rattle.ct_fields.specs.declared.fault.DocumentFault.{DocumentFault}
 use Rattle.ct_files.specs.Document.{DocumentValue, document_read_of}
 use Rattle.ct_kind.specs.Named.{is_known, first_missing}
 use Rattle.ct_pieces.specs.Withdrawal.{without, withdrawn, unless_used}
@@ -89,7 +89,7 @@ first-missing pieces ids id h =
     ∙ find-from (λ (i : List ℕ). not (is_known i (codes_of pieces))) h.before h.after id (λ i d within. ap not (known i d within)) (ap not none)
 
 -- what a submission comes to where its id is free and there is room
-abbrev made_with : List PieceValue → List ℕ → List ℕ → Result DocumentValue FileFault → Result PieceValue SubmitFault
+abbrev made_with : List PieceValue → List ℕ → List ℕ → Result DocumentValue DocumentFault → Result PieceValue SubmitFault
 made_with pieces id document read = stored_beside (stored_words pieces) (piece_from (codes_of pieces) id document read)
 
 submitted-room : (pieces : List PieceValue) (id document : List ℕ) → HasRoom pieces id → submitted pieces id document ≡ made_with pieces id document (document_read_of document)
@@ -171,7 +171,7 @@ read-refused pieces id document stated reason read h =
 room-refused : (pieces : List PieceValue) (id document : List ℕ) (reason : SubmitFault) → HasRoom pieces id → submitted pieces id document ≡ Err reason
     → IsRefused pieces id document reason
 room-refused pieces id document reason room h = at (document_read_of document) refl where
-  at : (read : Result DocumentValue FileFault) → document_read_of document ≡ read → IsRefused pieces id document reason
+  at : (read : Result DocumentValue DocumentFault) → document_read_of document ≡ read → IsRefused pieces id document reason
   at (Ok stated) is = read-refused pieces id document stated reason (record { place = room; read = is }) h
   at (Err fault) is =
       same-refused pieces id document (File fault) reason (sym (submitted-room pieces id document room ∙ ap (made_with pieces id document) is) ∙ h) (room, is)
@@ -263,7 +263,7 @@ keeps pieces id (withdraw.InUse user) h =
 keeps pieces id withdraw.Memory h = absurd h
 
 -- no reason against a document that is read is a fault of its own
-pub submitted-unread : (pieces : List PieceValue) (id document : List ℕ) (evidence : Evidence) (reason : FileFault) → read_of document ≡ Ok evidence
+pub submitted-unread : (pieces : List PieceValue) (id document : List ℕ) (evidence : Evidence) (reason : DocumentFault) → read_of document ≡ Ok evidence
     → submitted pieces id document ≢ Err (File reason)
 submitted-unread pieces id document evidence reason read refused =
     let unread = (refused-for pieces id document (File reason) refused).1 in

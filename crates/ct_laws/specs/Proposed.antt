@@ -3,14 +3,14 @@ use Rattle.std.specs.Prelude.{◌≡◌, ℕ, List, [], ◌∷◌, ◌++◌, cod
 use Rattle.ct_lines.specs.declared.TheConstants.{LINE_FEED}
 use Rattle.ct_codes.specs.declared.entry.Entry.{Entry}
 use Rattle.ct_duals.specs.declared.dual.Dual.{Dual}
-use Rattle.ct_finder.specs.Found.{bound_of}
+use Rattle.ct_finder.specs.Found.{bound_of_dual}
 use Rattle.ct_find.specs.Proposal.{find_id, found_dual, stop_for, IsProposal}
 
 -- the text proposes the dual that is found for the entry
 pub record IsProposed (e : Entry) (text : List ℕ) : Type 0 where
   pub dual : Dual
   pub found : found_dual e ≡ Some dual
-  pub proposal : IsProposal e dual (bound_of dual) (stop_for e) text
+  pub proposal : IsProposal e dual (bound_of_dual dual) (stop_for e) text
 
 -- the text does so for each of the entries, one after another
 abbrev pub AreProposed : List Entry → List ℕ → Type 0

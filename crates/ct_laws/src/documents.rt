@@ -7,8 +7,8 @@ ghost use Rattle.ct_duals.specs.declared.dual.Dual.{Dual};
 ghost use Rattle.ct_fields.specs.declared.document.TheConstants.{MAX_DOCUMENT};
 ghost use Rattle.ct_kind.specs.declared.evidence.Evidence.{Evidence};
 ghost use Rattle.ct_kind.specs.declared.evidence.Evidence.TheVariants as evidence;
-ghost use Rattle.ct_fields.specs.declared.fault.FileFault.{FileFault};
-ghost use Rattle.ct_fields.specs.declared.fault.FileFault.TheVariants.{Bytes, NotToml, Kind};
+ghost use Rattle.ct_fields.specs.declared.fault.DocumentFault.{DocumentFault};
+ghost use Rattle.ct_fields.specs.declared.fault.DocumentFault.TheVariants.{Bytes, NotToml, Kind};
 ghost use Rattle.ct_files.specs.Evidence.{read_of};
 ghost use Rattle.ct_files.specs.declared.kind.Kind as documents;
 ghost use Rattle.ct_files.specs.Kinds.{kind_text};
@@ -64,7 +64,7 @@ pub fn bytes_without_table()
 pub fn answers_to_documents()
     ensures no_kind { (bytes : List ℕ) (document : Data) → IsDocument bytes document →
         (read_of bytes ≡ Err Kind) ↔ IsOfNoKind document }
-    ensures answers { (kind : documents.Kind) (bytes : List ℕ) (document : Data) (answer : Result Evidence FileFault) →
+    ensures answers { (kind : documents.Kind) (bytes : List ℕ) (document : Data) (answer : Result Evidence DocumentFault) →
         IsDocument bytes document → IsOfKind (kind_text kind) document →
         (read_of bytes ≡ answer) ↔ IsAnswer kind document answer }
 {}
@@ -73,6 +73,6 @@ pub fn answers_to_documents()
 /// where they read as its evidence and write a table that has its cites.
 pub fn documents_and_evidence()
     ensures evidence { (bytes : List ℕ) → read_of bytes ≡ evidence_part (document_read_of bytes) }
-    ensures fault { (bytes : List ℕ) (fault : FileFault) → (document_read_of bytes ≡ Err fault) ↔ (read_of bytes ≡ Err fault) }
+    ensures fault { (bytes : List ℕ) (fault : DocumentFault) → (document_read_of bytes ≡ Err fault) ↔ (read_of bytes ≡ Err fault) }
     ensures accepted { (bytes : List ℕ) (d : DocumentValue) → (document_read_of bytes ≡ Ok d) ↔ AcceptsDocument bytes d }
 {}

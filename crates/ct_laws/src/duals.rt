@@ -5,9 +5,9 @@ ghost use Rattle.toml.specs.Data.{string, integer, boolean, table, Members};
 ghost use Rattle.ct_codes.specs.Numbers.{numbers_of, combination};
 ghost use Rattle.ct_duals.specs.Examples.{eight_local};
 ghost use Rattle.ct_fields.specs.Tables.{IsOfKind};
-ghost use Rattle.ct_fields.specs.declared.fault.FileFault.{FileFault};
+ghost use Rattle.ct_fields.specs.declared.fault.DocumentFault.{DocumentFault};
 ghost use Rattle.ct_fields.specs.declared.field.FieldName.TheVariants as name;
-ghost use Rattle.ct_fields.specs.declared.fault.FileFault.TheVariants.{Field, Unknown};
+ghost use Rattle.ct_fields.specs.declared.fault.DocumentFault.TheVariants.{Field, Unknown};
 ghost use Rattle.ct_fields.specs.Written.{put, entry_table};
 ghost use Rattle.ct_duals.specs.declared.dual.Dual.{Dual};
 ghost use Rattle.ct_duals.specs.Dual.{IsDual};
@@ -26,13 +26,13 @@ ghost use Rattle.ct_laws.specs.DualExamples.{thirteen_six, eight_four_four, nine
 /// Where each answer comes for a table of kind dual, for one of kind odd, for one of kind jdual, and for one of kind jlocal: exactly where
 /// `IsDualAnswer`, `IsOddAnswer`, `IsJohnsonDualAnswer` or `IsLocalDualAnswer` says, which field or which other fault it may be.
 pub fn answers_to_duals()
-    ensures dual { (members : Members) (answer : Result Dual FileFault) → IsOfKind (codes "dual") (table members) →
+    ensures dual { (members : Members) (answer : Result Dual DocumentFault) → IsOfKind (codes "dual") (table members) →
         (dual_of (table members) ≡ answer) ↔ IsDualAnswer (table members) answer }
-    ensures odd { (members : Members) (answer : Result (Dual × ℕ) FileFault) → IsOfKind (codes "odd") (table members) →
+    ensures odd { (members : Members) (answer : Result (Dual × ℕ) DocumentFault) → IsOfKind (codes "odd") (table members) →
         (odd_of (table members) ≡ answer) ↔ IsOddAnswer (table members) answer }
-    ensures johnson { (members : Members) (answer : Result Dual FileFault) → IsOfKind (codes "jdual") (table members) →
+    ensures johnson { (members : Members) (answer : Result Dual DocumentFault) → IsOfKind (codes "jdual") (table members) →
         (johnson_dual_of (table members) ≡ answer) ↔ IsJohnsonDualAnswer (table members) answer }
-    ensures local { (members : Members) (answer : Result Dual FileFault) → IsOfKind (codes "jlocal") (table members) →
+    ensures local { (members : Members) (answer : Result Dual DocumentFault) → IsOfKind (codes "jlocal") (table members) →
         (local_dual_of (table members) ≡ answer) ↔ IsLocalDualAnswer (table members) answer }
 {}
 

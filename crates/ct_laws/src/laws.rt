@@ -7,7 +7,7 @@ ghost use Rattle.ct_text.specs.Gathering.{is_end};
 ghost use Rattle.ct_codes.specs.declared.fault.CodeFault.TheVariants as code;
 ghost use Rattle.ct_build.specs.declared.fault.BuildFault.TheVariants as build;
 ghost use Rattle.ct_fields.specs.declared.field.FieldName.TheVariants as name;
-ghost use Rattle.ct_fields.specs.declared.fault.FileFault.TheVariants as file;
+ghost use Rattle.ct_fields.specs.declared.fault.DocumentFault.TheVariants as file;
 ghost use Rattle.ct_kind.specs.declared.fault.SubmitFault.TheVariants as submit;
 ghost use Rattle.ct_pieces.specs.declared.fault.WithdrawFault.TheVariants as withdraw;
 ghost use Rattle.ct_codes.specs.Entry.{unrestricted, constant_weight};

@@ -5,7 +5,7 @@ ghost use Rattle.std.specs.List.Sorted.{IsPermutation, IsSorted};
 ghost use Rattle.std.specs.Ordering.{nat_cmp};
 ghost use Rattle.ct_codes.specs.declared.entry.Entry.{Entry};
 ghost use Rattle.ct_build.specs.declared.step.Step.{Step};
-ghost use Rattle.ct_partitions.specs.Partition.{all_words};
+ghost use Rattle.ct_partitions.specs.Partition.{words_of_classes};
 ghost use Rattle.ct_duals.specs.declared.dual.Dual.{Dual};
 ghost use Rattle.ct_codes.specs.Numbers.{numbers_of, combination};
 ghost use Rattle.ct_kind.specs.declared.evidence.Evidence.TheVariants as evidence;
@@ -24,7 +24,7 @@ ghost use Rattle.ct_pieces.specs.declared.limits.TheConstants.{MAX_PIECES, MAX_S
 ghost use Rattle.ct_pieces.specs.declared.fault.WithdrawFault.{WithdrawFault};
 ghost use Rattle.ct_pieces.specs.declared.fault.WithdrawFault.TheVariants as withdraw;
 ghost use Rattle.ct_pieces.specs.Standing.{AreStanding};
-ghost use Rattle.ct_fields.specs.declared.fault.FileFault.{FileFault};
+ghost use Rattle.ct_fields.specs.declared.fault.DocumentFault.{DocumentFault};
 ghost use Rattle.ct_kind.specs.declared.evidence.Evidence.{Evidence};
 ghost use Rattle.ct_fields.specs.Cites.{IsCites};
 ghost use Rattle.ct_files.specs.Document.{DocumentValue, document_read_of};
@@ -69,7 +69,7 @@ pub fn reasons_of_kinds()
 
 /// A submission whose document is read is refused by no fault of the document, so neither is evidence that is admitted with it.
 pub fn evidence_that_is_admitted()
-    ensures { (pieces : List PieceValue) (id document : List ℕ) (evidence : Evidence) (reason : FileFault)
+    ensures { (pieces : List PieceValue) (id document : List ℕ) (evidence : Evidence) (reason : DocumentFault)
         → read_of document ≡ Ok evidence → submitted pieces id document ≢ Err (fault.File reason) }
 {}
 
@@ -120,7 +120,7 @@ pub fn stored_words_by_kind()
     ensures build { (e : Entry) (step : Step) (part : List ℕ) (other : Option (List ℕ)) (size : ℕ)
         → stored_for (kind_of (evidence.Build e step part other)) (Some size) ≡ size }
     ensures partition { (e : Entry) (between : ℕ) (classes : List (List ℕ)) (size : Option ℕ)
-        → stored_for (kind_of (evidence.Partition e between classes)) size ≡ length (all_words classes) }
+        → stored_for (kind_of (evidence.Partition e between classes)) size ≡ length (words_of_classes classes) }
     ensures product { (e : Entry) (pairs : List (List ℕ × List ℕ)) (size : Option ℕ)
         → stored_for (kind_of (evidence.Product e pairs)) size ≡ 0 }
     ensures dual { (d : Dual) (size : Option ℕ) → stored_for (kind_of (evidence.Dual d)) size ≡ 0 }

@@ -3,7 +3,7 @@ ghost use Rattle.std.specs.Prelude.{◌≡◌, ℕ, List, ◌++◌, [], ◌∷�
 ghost use Rattle.ct_codes.specs.Entry.{unrestricted, constant_weight};
 ghost use Rattle.ct_kind.specs.declared.evidence.Evidence.TheVariants.{Words, Cosets};
 ghost use Rattle.ct_fields.specs.declared.field.FieldName.TheVariants as name;
-ghost use Rattle.ct_fields.specs.declared.fault.FileFault.TheVariants.{Bytes, NotToml, Kind, Field, Unknown, Digits, Size};
+ghost use Rattle.ct_fields.specs.declared.fault.DocumentFault.TheVariants.{Bytes, NotToml, Kind, Field, Unknown, Digits, Size};
 ghost use Rattle.ct_files.specs.Evidence.{read_of};
 ghost use Rattle.ct_laws.specs.EvidenceExamples.{words_document, cosets_document, two_words, two_words_evidence};
 

@@ -4,7 +4,7 @@ ghost use Rattle.ct_build.specs.declared.step.Step.TheVariants.{Lengthen, Append
 ghost use Rattle.ct_codes.specs.Entry.{unrestricted, constant_weight};
 ghost use Rattle.ct_kind.specs.declared.evidence.Evidence.TheVariants.{Build};
 ghost use Rattle.ct_fields.specs.declared.field.FieldName.TheVariants as name;
-ghost use Rattle.ct_fields.specs.declared.fault.FileFault.TheVariants.{Field, Unknown, Digits};
+ghost use Rattle.ct_fields.specs.declared.fault.DocumentFault.TheVariants.{Field, Unknown, Digits};
 ghost use Rattle.ct_files.specs.Evidence.{read_of};
 ghost use Rattle.ct_laws.specs.EvidenceExamples.{build_document};
 

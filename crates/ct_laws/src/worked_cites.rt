@@ -1,7 +1,7 @@
 //! Worked documents of both formats: what their bytes read as.
 ghost use Rattle.std.specs.Prelude.{◌≡◌, [], ◌∷◌, ◌++◌, replicate, Ok, Err, codes};
 ghost use Rattle.ct_fields.specs.declared.field.FieldName.TheVariants as name;
-ghost use Rattle.ct_fields.specs.declared.fault.FileFault.TheVariants.{Kind, Field, Unknown, Digits};
+ghost use Rattle.ct_fields.specs.declared.fault.DocumentFault.TheVariants.{Kind, Field, Unknown, Digits};
 ghost use Rattle.ct_files.specs.Evidence.{read_of};
 ghost use Rattle.ct_files.specs.Document.{document_read_of};
 ghost use Rattle.ct_laws.specs.EvidenceExamples.{one_word, cited_word, cited_one, quoted, words_document, build_document};

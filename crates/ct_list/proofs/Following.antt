@@ -17,13 +17,13 @@ use Rattle.ct_rules.specs.Rule.{rule_side, parts_over}
 use Rattle.ct_rules.specs.Derivation.{LineValue, claims_at, Follows}
 use Rattle.ct_rules.proofs.Applied.{applies_from_premises, premises-defined, value-given}
 use Rattle.ct_derive.proofs.PrunedLines.{get_of_take}
-use Rattle.ct_rule_codes.specs.CodeEntry.{entry_of}
+use Rattle.ct_rule_codes.specs.CodeEntry.{entry_of_code}
 use Rattle.ct_list.specs.Inside.Kept.{IsCodeFor, AreCodesFor}
 use Rattle.ct_list.specs.Inside.Rows.{sizes, AreParts, IsMadeBy}
 
 -- codes for claims are of their entries, with as many words as they say
 record AreOfClaims (claims : List Claim) (codes : List CodeValue) : Type 0 where
-  entries : map entry_of codes ≡ map (λ (c : Claim). c.entry) claims
+  entries : map entry_of_code codes ≡ map (λ (c : Claim). c.entry) claims
   values : sizes codes ≡ map (λ (c : Claim). c.value) claims
 
 of_claims : (lines : List LineValue) (places : List ℕ) (codes : List CodeValue) → AreCodesFor lines places codes

@@ -14,7 +14,7 @@ use Rattle.ct_pieces.specs.Piece.{PieceValue}
 use Rattle.ct_pieces.specs.Standing.{AreStanding}
 use Rattle.ct_pieces.specs.Supports.{supports_of}
 use Rattle.ct_ledger.proofs.Reaching.{size_of_code}
-use Rattle.ct_rule_codes.specs.CodeEntry.{entry_of}
+use Rattle.ct_rule_codes.specs.CodeEntry.{entry_of_code}
 
 -- what gives a size at an entry is a size of it
 support_at_entry : (o : Option Support) (e : Entry) → IsSome (size_at o e) → (size : ℕ) × (o ≡ Some (Size e size))
@@ -36,7 +36,7 @@ size_of_itself e size = ap (λ (b : Bool). if b then Some size else None) (same_
 -- the code behind it
 pub record IsGiven (pieces : List PieceValue) (place : ℕ) (e : Entry) (c : CodeValue) : Type 0 where
   pub code : code_of_place pieces place ≡ Some c
-  pub entry : entry_of c ≡ e
+  pub entry : entry_of_code c ≡ e
   pub size : size_at (slice_get (supports_of pieces) place) e ≡ Some (length c.words)
 
 pub given_at : (pieces : List PieceValue) (place : ℕ) (e : Entry) → AreStanding pieces
@@ -60,11 +60,11 @@ coded pieces place e standing some =
 
 pub given_entry : {E : Type 0} (pieces : List PieceValue) (place : ℕ) (e : Entry) (r : Result CodeValue E) → AreStanding pieces
     → IsSome (size_at (slice_get (supports_of pieces) place) e) → IfOk r (λ (c : CodeValue). code_of_place pieces place ≡ Some c)
-    → IfOk r (λ (c : CodeValue). entry_of c ≡ e)
+    → IfOk r (λ (c : CodeValue). entry_of_code c ≡ e)
 given_entry pieces place e (Ok c) standing some code =
     let given = given_at pieces place e standing some in
     let same = same_Some given.0 c (sym given.1.code ∙ code) in
-    subst (λ (d : CodeValue). entry_of d ≡ e) same given.1.entry
+    subst (λ (d : CodeValue). entry_of_code d ≡ e) same given.1.entry
 given_entry pieces place e (Err fault) standing some code = tt
 
 pub given_size : {E : Type 0} (pieces : List PieceValue) (place : ℕ) (e : Entry) (r : Result CodeValue E) → AreStanding pieces

@@ -9,7 +9,7 @@ use Rattle.ct_codes.specs.Entry.{IsEntry, is_entry}
 use Rattle.ct_codes.proofs.EntryLemmas.{Limits, entry_limits}
 use Rattle.ct_rule_parts.specs.Parts.{RuleParts, are_entries}
 use Rattle.ct_rule_parts.proofs.Lawful.{defined_entry, defined_condition, defined_premises}
-use Rattle.ct_rule_codes.specs.CodeEntry.{entry_of}
+use Rattle.ct_rule_codes.specs.CodeEntry.{entry_of_code}
 use Rattle.ct_list.specs.Inside.Rows.{sizes, AreParts, IsMadeBy}
 
 -- a length, a distance, a weight and a number of words are right for the code of a rule
@@ -65,7 +65,7 @@ pub record HasOnePart (p : RuleParts) (e x : Entry) (part : CodeValue) : Type 0 
 
 pub one_part : (p : RuleParts) (e x : Entry) (part : CodeValue) → p.rests_on e ≡ x ∷ [] → AreParts p e (part ∷ []) → HasOnePart p e x part
 one_part p e x part rests parts =
-    let is : entry_of part ≡ x = ap (first_entry x) (parts.entries ∙ rests) in
+    let is : entry_of_code part ≡ x = ap (first_entry x) (parts.entries ∙ rests) in
     let inside = and_parts (is_entry x) true (subst (λ es. are_entries es ≡ true) rests (defined_premises p e parts.defined)) in
     let within = defined_entry p e parts.defined in
     record {
@@ -94,8 +94,8 @@ pub record HasTwoParts (p : RuleParts) (e x y : Entry) (first second : CodeValue
 pub two_parts : (p : RuleParts) (e x y : Entry) (first second : CodeValue) → p.rests_on e ≡ x ∷ y ∷ [] → AreParts p e (first ∷ second ∷ [])
     → HasTwoParts p e x y first second
 two_parts p e x y first second rests parts =
-    let is : entry_of first ≡ x = ap (first_entry x) (parts.entries ∙ rests) in
-    let is_too : entry_of second ≡ y = ap (second_entry y) (parts.entries ∙ rests) in
+    let is : entry_of_code first ≡ x = ap (first_entry x) (parts.entries ∙ rests) in
+    let is_too : entry_of_code second ≡ y = ap (second_entry y) (parts.entries ∙ rests) in
     let inside = subst (λ es. are_entries es ≡ true) rests (defined_premises p e parts.defined) in
     let front = and_parts (is_entry x) (is_entry y && true) inside in
     let back = and_parts (is_entry y) true front.1 in

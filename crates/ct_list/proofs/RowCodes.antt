@@ -18,11 +18,11 @@ use Rattle.ct_rule_parts.specs.Parts.{has_weight, weight_of, half_up}
 use Rattle.ct_rule_parts.proofs.PlainEntries.{Weightless, no_weight, a_weight}
 use Rattle.ct_rule_parts.proofs.WeightEntries.{weight_is, weight_within}
 use Rattle.ct_plain_rules.specs.Punctured.{punctured_below}
-use Rattle.ct_plain_rules.specs.Sums.{sums}
-use Rattle.ct_plain_rules.specs.SideBySide.{side_by_side}
+use Rattle.ct_plain_rules.specs.Uuv.{uuv}
+use Rattle.ct_plain_rules.specs.Juxtaposition.{juxtaposition}
 use Rattle.ct_plain_rules.specs.Neighbours.{longer_and_farther, half_as_long}
 use Rattle.ct_weight_rules.specs.Complemented.{complemented_below}
-use Rattle.ct_weight_rules.specs.Neighbours.{turned}
+use Rattle.ct_weight_rules.specs.Neighbours.{complementary}
 use Rattle.ct_rules.specs.declared.rule.Rule.{Rule}
 use Rattle.ct_rules.specs.declared.rule.Rule.TheVariants.{L6, L8, L11, M7}
 use Rattle.ct_rules.specs.Rule.{parts_over, row_of}
@@ -39,11 +39,11 @@ punctured-right e part parts =
     record { same_n = omega arith; same_d = omega arith; same_w = sym (no_weight e known.condition); number = refl }
 
 -- L11: side by side
-pub side_by_side-right : (m k : ℕ) (e : Entry) (first second : CodeValue) → AreParts (side_by_side m k) e (first ∷ second ∷ [])
-    → IsRight (side_by_side m k) e (first ∷ second ∷ []) (first.n + second.n) (first.d + second.d) (added_weights first.w second.w)
+pub juxtaposition-right : (m k : ℕ) (e : Entry) (first second : CodeValue) → AreParts (juxtaposition m k) e (first ∷ second ∷ [])
+    → IsRight (juxtaposition m k) e (first ∷ second ∷ []) (first.n + second.n) (first.d + second.d) (added_weights first.w second.w)
     (min (length first.words) (length second.words))
-side_by_side-right m k e first second parts =
-    let known = two_parts (side_by_side m k) e (unrestricted m k) (unrestricted (e.n - m) (e.d - k)) first second refl parts in
+juxtaposition-right m k e first second parts =
+    let known = two_parts (juxtaposition m k) e (unrestricted m k) (unrestricted (e.n - m) (e.d - k)) first second refl parts in
     let n = known.first_n in
     let d = known.first_d in
     let other_n = known.second_n in
@@ -62,21 +62,21 @@ record IsTwice (e : Entry) : Type 0 where
   plain : Weightless e
   even : 2 * (e.n / 2) ≡ e.n
 
-twice : (e : Entry) → sums.condition e ≡ true → IsTwice e
+twice : (e : Entry) → uuv.condition e ≡ true → IsTwice e
 twice e condition =
     let both = and_parts (not (has_weight e)) (e.n % 2 == 0) condition in
     let even = eqb-true (e.n % 2) 0 both.1 in
     record { plain = no_weight e both.0; even = omega arith }
 
 -- L8 from distance 5 on
-pub far_rests : (e : Entry) → 5 ≤ e.d → sums.rests_on e ≡ half_as_long e (half_up e.d) ∷ half_as_long e e.d ∷ []
+pub far_rests : (e : Entry) → 5 ≤ e.d → uuv.rests_on e ≡ half_as_long e (half_up e.d) ∷ half_as_long e e.d ∷ []
 far_rests e far =
     ap (λ b. cond b (half_as_long e e.d ∷ []) (half_as_long e (half_up e.d) ∷ half_as_long e e.d ∷ [])) (le-ltb e.d 5 far)
 
-pub far_sums-right : (e : Entry) (first second : CodeValue) → 5 ≤ e.d → AreParts sums e (first ∷ second ∷ [])
-    → IsRight sums e (first ∷ second ∷ []) (2 * first.n) (min (2 * first.d) second.d) None (length first.words * length second.words)
+pub far_sums-right : (e : Entry) (first second : CodeValue) → 5 ≤ e.d → AreParts uuv e (first ∷ second ∷ [])
+    → IsRight uuv e (first ∷ second ∷ []) (2 * first.n) (min (2 * first.d) second.d) None (length first.words * length second.words)
 far_sums-right e first second far parts =
-    let known = two_parts sums e (half_as_long e (half_up e.d)) (half_as_long e e.d) first second (far_rests e far) parts in
+    let known = two_parts uuv e (half_as_long e (half_up e.d)) (half_as_long e e.d) first second (far_rests e far) parts in
     let is = twice e known.condition in
     let n = known.first_n in
     let d = known.first_d in
@@ -98,7 +98,7 @@ weight_of_entry e has = weight_is e (a_weight e has)
 pub complemented-right : (e : Entry) (part : CodeValue) → AreParts complemented_below e (part ∷ [])
     → IsRight complemented_below e (part ∷ []) part.n part.d (option_map (λ k. part.n - k) part.w) (length part.words)
 complemented-right e part parts =
-    let known = one_part complemented_below e (turned e) part refl parts in
+    let known = one_part complemented_below e (complementary e) part refl parts in
     let few = weight_within e known.is_entry (a_weight e known.condition) in
     let n = known.n in
     let weight : part.n - (e.n - weight_of e) ≡ weight_of e = omega arith in
@@ -132,28 +132,28 @@ pub far_sums_made : {E : Type 0} (supports : List Support) (r : Rule) (e : Entry
 unfolding row_of
 far_sums_made supports r e codes first second res is far parts both n d w words =
     subst (λ (q : Rule). IfOk res (IsMadeBy (parts_over supports q) e codes)) (sym is)
-    (made_of sums e codes (first ∷ second ∷ []) res both
-    (made sums e (first ∷ second ∷ []) res (2 * first.n) (min (2 * first.d) second.d) None (length first.words * length second.words) n d w
+    (made_of uuv e codes (first ∷ second ∷ []) res both
+    (made uuv e (first ∷ second ∷ []) res (2 * first.n) (min (2 * first.d) second.d) None (length first.words * length second.words) n d w
     (size_of_moved res (uuv_words first.n first.words second.words) (length first.words * length second.words) (length-uuv_words first.n first.words second.words) words)
     (far_sums-right e first second far
-    (parts_are sums e codes (first ∷ second ∷ []) both (subst (λ (q : Rule). AreParts (parts_over supports q) e codes) is parts)))))
+    (parts_are uuv e codes (first ∷ second ∷ []) both (subst (λ (q : Rule). AreParts (parts_over supports q) e codes) is parts)))))
 
 -- L11
-pub side_by_side_made : {E : Type 0} (supports : List Support) (r : Rule) (m k : ℕ) (e : Entry) (codes : List CodeValue) (first second : CodeValue)
+pub juxtaposition_made : {E : Type 0} (supports : List Support) (r : Rule) (m k : ℕ) (e : Entry) (codes : List CodeValue) (first second : CodeValue)
     (res : Result CodeValue E) → r ≡ L11 m k → AreParts (parts_over supports r) e codes → codes ≡ first ∷ second ∷ []
     → IfOk res (λ (c : CodeValue). c.n ≡ first.n + second.n) → IfOk res (λ (c : CodeValue). c.d ≡ first.d + second.d)
     → IfOk res (λ (c : CodeValue). c.w ≡ added_weights first.w second.w) → IfOk res (λ (c : CodeValue). c.words ≡ juxtaposed second.n first.words second.words)
     → IfOk res (IsMadeBy (parts_over supports r) e codes)
 unfolding row_of
-side_by_side_made supports r m k e codes first second res is parts both n d w words =
+juxtaposition_made supports r m k e codes first second res is parts both n d w words =
     subst (λ (q : Rule). IfOk res (IsMadeBy (parts_over supports q) e codes)) (sym is)
-    (made_of (side_by_side m k) e codes (first ∷ second ∷ []) res both
-    (made (side_by_side m k) e (first ∷ second ∷ []) res (first.n + second.n) (first.d + second.d) (added_weights first.w second.w)
+    (made_of (juxtaposition m k) e codes (first ∷ second ∷ []) res both
+    (made (juxtaposition m k) e (first ∷ second ∷ []) res (first.n + second.n) (first.d + second.d) (added_weights first.w second.w)
     (min (length first.words) (length second.words)) n d w
     (size_of_words res (juxtaposed second.n first.words second.words) (min (length first.words) (length second.words))
     (length-juxtaposed second.n first.words second.words) words)
-    (side_by_side-right m k e first second
-    (parts_are (side_by_side m k) e codes (first ∷ second ∷ []) both (subst (λ (q : Rule). AreParts (parts_over supports q) e codes) is parts)))))
+    (juxtaposition-right m k e first second
+    (parts_are (juxtaposition m k) e codes (first ∷ second ∷ []) both (subst (λ (q : Rule). AreParts (parts_over supports q) e codes) is parts)))))
 
 -- M7
 pub complemented_made : {E : Type 0} (supports : List Support) (r : Rule) (e : Entry) (codes : List CodeValue) (part : CodeValue) (res : Result CodeValue E)

@@ -3,7 +3,7 @@
 ghost use Rattle.std.specs.Prelude.{◌≡◌, length, slice_get, Some, IfOk, IsSome};
 ghost use Rattle.ct_rule_parts.specs.Support.{size_at};
 ghost use Rattle.ct_pieces.specs.Supports.{supports_of};
-ghost use Rattle.ct_rule_codes.specs.CodeEntry.{entry_of};
+ghost use Rattle.ct_rule_codes.specs.CodeEntry.{entry_of_code};
 
 use ct_codes::{Code, Entry};
 use ct_ledger::Ledger;
@@ -17,7 +17,7 @@ pub(crate) fn given_code(
     place: u32,
 ) -> Result<Code, AllocError>
     requires { IsSome (size_at (slice_get (supports_of ledger.now.pieces) place) entry) }
-    ensures entry { IfOk result (λ c. entry_of c ≡ entry) }
+    ensures entry { IfOk result (λ c. entry_of_code c ≡ entry) }
     ensures size { IfOk result (λ c. size_at (slice_get (supports_of ledger.now.pieces) place) entry ≡ Some (length c.words)) }
 {
     let pieces = ledger.pieces();

@@ -6,7 +6,7 @@ ghost use Rattle.ct_codes.specs.declared.entry.Entry.{Entry};
 ghost use Rattle.ct_codes.specs.declared.fault.TheConstants.{MAX_WORDS};
 ghost use Rattle.ct_partitions.specs.declared.fault.TheConstants.{MAX_CLASSES};
 ghost use Rattle.ct_partitions.specs.declared.fault.PartitionFault.TheVariants.{Size, Weight, Repeated, Close};
-ghost use Rattle.ct_partitions.specs.Partition.{all_words, IsPartition};
+ghost use Rattle.ct_partitions.specs.Partition.{words_of_classes, IsPartition};
 ghost use Rattle.ct_partitions.specs.Known.{even_pairs, two_pairs, near_pairs, no_ones, two_ones, four_ones};
 ghost use Rattle.ct_partitions.specs.Product.{Factors, AreFactors, AreSound, product, product_size, product_distance};
 ghost use Rattle.ct_partitions.specs.Check.{partition_fault, need, distance_at};
@@ -15,17 +15,17 @@ ghost use Rattle.ct_partitions.specs.Check.{partition_fault, need, distance_at};
 /// none empty, of at most `MAX_WORDS` words.
 pub fn faultless_lists_are_partitions()
     ensures { (e : Entry) (between : ℕ) (classes : List (List ℕ)) → 1 ≤ between → between ≤ e.d →
-        All (λ x. x < 2 ^ e.n) (all_words classes) →
+        All (λ x. x < 2 ^ e.n) (words_of_classes classes) →
         (partition_fault e between classes ≡ None) ↔
         ((1 ≤ length classes) × (length classes ≤ MAX_CLASSES) × All (λ c. 1 ≤ length c) classes ×
-        (length (all_words classes) ≤ MAX_WORDS) × IsPartition e.n e.d e.w between classes) }
+        (length (words_of_classes classes) ≤ MAX_WORDS) × IsPartition e.n e.d e.w between classes) }
 {}
 
 /// Two words of a partition, at two places of all its words, have the distance that they need: that of a class where they are
 /// in one, else that between classes.
 pub fn words_of_partitions()
     ensures { (n d : ℕ) (w : Option ℕ) (between : ℕ) (classes : List (List ℕ)) → IsPartition n d w between classes →
-        (i j : ℕ) → i < j → j < length (all_words classes) →
+        (i j : ℕ) → i < j → j < length (words_of_classes classes) →
         need d between classes i j ≤ distance_at n classes i j }
 {}
 

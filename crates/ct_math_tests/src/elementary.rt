@@ -1,7 +1,7 @@
 //! The bounds and counts at values from tables and by hand.
 
 use ct_codes::Entry;
-use ct_elementary::{far, hamming, plotkin};
+use ct_elementary::{far, sphere_packing, plotkin};
 use ct_words::{ball, binomial, factorial};
 
 // Values of Pascal's triangle, factorials and balls: the ball of the binary Golay code has 2^11 words.
@@ -84,6 +84,6 @@ fn bounds(rt: HostRuntime) {
         (5, 30, 1),
     ] {
         assert!(rt; Entry { n, d, w: None }.in_table());
-        assert!(rt; hamming(n, d) == want, "hamming at ({n},{d})");
+        assert!(rt; sphere_packing(n, d) == want, "hamming at ({n},{d})");
     }
 }

@@ -2,7 +2,7 @@
 //! stand as premises; A(8,4,4) = 14, A(12,6,6) = 22 and others are met.
 
 use ct_codes::Entry;
-use ct_johnson::{averaging, column_count, drop_one, drop_zero, johnson, split};
+use ct_johnson::{elias_bassalygo, column_count, drop_one, drop_zero, johnson, split};
 use ct_words::{MAX_BOUND, MAX_N};
 
 // Steiner systems meet the bounds: A(7,4,3) = 7, A(8,4,4) = 14, A(10,4,4) = 30, A(12,6,6) = 22, A(24,8,8) = 759.
@@ -134,7 +134,7 @@ fn averages(rt: HostRuntime) {
         (30, 15, MAX_BOUND, MAX_BOUND),
     ] {
         assert!(rt; 1 <= n && n <= MAX_N && w <= n && 1 <= u && u <= MAX_BOUND);
-        assert!(rt; averaging(n, w, u) == want, "at ({n},{w}) from {u}");
+        assert!(rt; elias_bassalygo(n, w, u) == want, "at ({n},{w}) from {u}");
     }
 }
 

@@ -3,7 +3,7 @@
 ghost use Rattle.std.specs.Prelude.{◌≡◌, ◌^◌, ◌<◌, ◌≤◌, true, All, IfOk};
 ghost use Rattle.ct_words.specs.declared.limits.TheConstants.{MAX_N};
 ghost use Rattle.ct_codes.specs.Entry.{unrestricted};
-ghost use Rattle.ct_partitions.specs.Partition.{word_lists, all_words};
+ghost use Rattle.ct_partitions.specs.Partition.{word_lists, words_of_classes};
 
 use ct_codes::{Code, Entry};
 use ct_partitions::{
@@ -49,7 +49,7 @@ fn is_of_length(words: &[Word], n: u32) -> bool
 /// Whether all words of the classes have length n.
 fn are_of_length(classes: &[Vec<Word>], n: u32) -> bool
     requires { n ≤ MAX_N }
-    ensures { result ≡ true → All (λ x. x < 2 ^ n) (all_words (word_lists classes.now)) }
+    ensures { result ≡ true → All (λ x. x < 2 ^ n) (words_of_classes (word_lists classes.now)) }
 {
     for class in classes {
         if !is_of_length(class, n) {

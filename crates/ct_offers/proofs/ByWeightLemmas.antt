@@ -17,7 +17,7 @@ use Rattle.ct_rule_parts.specs.Slot.{Slot, claim_at}
 use Rattle.ct_rule_parts.proofs.PlainEntries.{one_item, two_items}
 use Rattle.ct_weight_rules.specs.Neighbours.{of_weight, even_of_weight, around, unweighted, unweighted_and_nearer}
 use Rattle.ct_weight_rules.specs.WithoutWeight.{without_weight}
-use Rattle.ct_weight_rules.specs.Averaging.{averaging}
+use Rattle.ct_weight_rules.specs.EliasBassalygo.{elias_bassalygo}
 use Rattle.ct_weight_rules.specs.Johnson.{johnson}
 use Rattle.ct_rules.specs.declared.rule.Rule.{Rule}
 use Rattle.ct_rules.specs.declared.rule.Rule.TheVariants.{L9, U9, U10}
@@ -31,7 +31,7 @@ use Rattle.ct_offers.specs.Offers.{value_over, IsWithin}
 use Rattle.ct_offers.proofs.MarkingLemmas.{tested_at_more}
 use Rattle.ct_offers.proofs.PullingLemmas.{over-applies}
 use Rattle.ct_offers.proofs.SatisfiedLemmas.{value_over-defined}
-use Rattle.ct_offers.proofs.SideBySideLemmas.{limited}
+use Rattle.ct_offers.proofs.JuxtapositionLemmas.{limited}
 
 -- they are defined at entries without weight alone
 plain_alone : (supports : List Support) (r : Rule) (n d k : ℕ) → is_by_weight r ≡ true
@@ -39,7 +39,7 @@ plain_alone : (supports : List Support) (r : Rule) (n d k : ℕ) → is_by_weigh
 unfolding row_of
 plain_alone supports (L9 v) n d k by here = (defined (without_weight v) (record { n = n; d = d; w = Some k }) here).condition
 plain_alone supports U9 n d k by here = (defined johnson (record { n = n; d = d; w = Some k }) here).condition
-plain_alone supports (U10 v) n d k by here = (defined (averaging v) (record { n = n; d = d; w = Some k }) here).condition
+plain_alone supports (U10 v) n d k by here = (defined (elias_bassalygo v) (record { n = n; d = d; w = Some k }) here).condition
 plain_alone supports r n d k by here = absurd (false≢true by)
 
 pub by_weight_none : (supports : List Support) (f : Slot → ℕ) (side : Side) (e : Entry) (k best : ℕ) → e.w ≡ Some k
@@ -58,7 +58,7 @@ below_length supports v e here =
 above_length : (supports : List Support) (v : ℕ) (e : Entry) → applies supports (U10 v) e ≡ true → v ≤ e.n
 unfolding row_of
 above_length supports v e here =
-    (entry_limits (of_weight e v) (and_parts (is_entry (of_weight e v)) true (defined (averaging v) e here).premises).0).weight.2
+    (entry_limits (of_weight e v) (and_parts (is_entry (of_weight e v)) true (defined (elias_bassalygo v) e here).premises).0).weight.2
 
 -- all of a side
 pub by_weight_below : (supports : List Support) (f : Slot → ℕ) (e : Entry) (best : ℕ)

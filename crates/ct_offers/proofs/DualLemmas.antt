@@ -24,7 +24,7 @@ use Rattle.ct_rules.specs.declared.rule.Rule.{Rule}
 use Rattle.ct_rules.specs.Rule.{cited, parts_over, applies}
 use Rattle.ct_rules.proofs.Applied.{defined}
 use Rattle.ct_rules.proofs.LawfulRows.{lawful}
-use Rattle.ct_slots.specs.Places.{ArePlaces, IsPlaceOf, IsUpTo}
+use Rattle.ct_slots.specs.Places.{AreSupportPlaces, IsPlaceOf, IsUpTo}
 use Rattle.ct_slots.specs.Worklist.{WorkValue}
 use Rattle.ct_offers.specs.Inside.Pulled.{given_rule}
 use Rattle.ct_offers.specs.Inside.Marking.{KeepsMarks, IsTestedAt, IsTestedByDual, AreTestedByDuals, AreTestedAtWeights, AreTestedFromDuals}
@@ -72,7 +72,7 @@ tested_step supports bounds work new from e entries place next keeps above here 
     (λ p before. by_dual_more supports bounds work new from e p keeps before) above here tested last
 
 -- a dual that is defined at an entry stands at one of its places
-dual_place : (supports : List Support) (e : Entry) (entries : List (Option Entry)) (place : ℕ) → ArePlaces supports entries
+dual_place : (supports : List Support) (e : Entry) (entries : List (Option Entry)) (place : ℕ) → AreSupportPlaces supports entries
     → applies supports (by_support supports e place) e ≡ true → IsPlaceOf entries e place
 dual_place supports e entries place are here =
     let is = defined (parts_over supports (by_support supports e place)) e here in
@@ -81,7 +81,7 @@ dual_place supports e entries place are here =
 
 -- once none is left
 pub tested_all : (supports : List Support) (bounds : List ℕ) (work : WorkValue) (from e : Entry) (entries : List (Option Entry))
-    → ArePlaces supports entries → AreTestedAbove supports bounds work from e entries None → AreTestedByDuals supports bounds work from e
+    → AreSupportPlaces supports entries → AreTestedAbove supports bounds work from e entries None → AreTestedByDuals supports bounds work from e
 tested_all supports bounds work from e entries are above place here =
     elim (above place (dual_place supports e entries place are here)) [
       | inl none ↦ absurd none

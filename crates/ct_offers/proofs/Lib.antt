@@ -2,7 +2,7 @@ pub mod SatisfiedLemmas
 pub mod PullingLemmas
 pub mod ByWeightLemmas
 pub mod DependentLemmas
-pub mod SideBySideLemmas
+pub mod JuxtapositionLemmas
 pub mod PulledLemmas
 pub mod AskedLemmas
 pub mod LimitLemmas

@@ -16,14 +16,14 @@ use Rattle.ct_rule_parts.proofs.SlotLemmas.{IsNoBetter-self}
 use Rattle.ct_rules.specs.declared.rule.Rule.{Rule}
 use Rattle.ct_rules.specs.declared.rule.Rule.TheVariants.{L9, L10, L11, M9, M10, U9, U10, U11, U12, V9, V10}
 use Rattle.ct_rules.specs.Listing.{rules_alone}
-use Rattle.ct_rules.specs.Inside.AllRules.{side_by_side_rules, sum_class_rules, rules_by_weight, rules_of_supports, rules_at}
+use Rattle.ct_rules.specs.Inside.AllRules.{juxtaposition_rules, sum_class_rules, rules_by_weight, rules_of_supports, rules_at}
 use Rattle.ct_rules.specs.Closed.{AreTrue}
 use Rattle.ct_rules.specs.Rule.{row_of, parts_over, rule_side, is_by_weight, applies}
 use Rattle.ct_rules.proofs.Applied.{defined}
 use Rattle.ct_rules.proofs.ClosedBounds.{no_better-trans}
 use Rattle.ct_rules.proofs.RuleLists.{rules_at-complete}
 use Rattle.ct_offers.specs.declared.best.Best.{Best}
-use Rattle.ct_slots.specs.Places.{GivesTo, ArePlaces, IsPlaceOf, IsUpTo}
+use Rattle.ct_slots.specs.Places.{GivesTo, AreSupportPlaces, IsPlaceOf, IsUpTo}
 use Rattle.ct_offers.specs.Offers.{IsGiven, IsWithin}
 use Rattle.ct_offers.specs.Inside.Pulled.{IsPulled, given_rule}
 use Rattle.ct_offers.proofs.BoundingRules.{bounding-bound, bounding-odd, bounding-weighted, bounding-local, bounding_dual}
@@ -124,7 +124,7 @@ given_there supports Upper n d (Some w) place h =
     let e : Entry = record { n = n; d = d; w = Some w } in dual_support_there supports place e (bounding_dual supports place e h)
 
 -- a rule that names a support and is defined at an entry of the table names one of its places
-pub given_place : (supports : List Support) (s : Slot) (entries : List (Option Entry)) (place : ℕ) → IsEntry s.1 → ArePlaces supports entries
+pub given_place : (supports : List Support) (s : Slot) (entries : List (Option Entry)) (place : ℕ) → IsEntry s.1 → AreSupportPlaces supports entries
     → applies supports (given_rule (slice_get supports place) s place) s.1 ≡ true → IsPlaceOf entries s.1 place
 given_place supports s entries place entry are here =
     let there = given_there supports s.0 s.1.n s.1.d s.1.w place here in
@@ -132,7 +132,7 @@ given_place supports s entries place entry are here =
 
 -- once none is left, no support gives anything better
 pub asked_all : (supports : List Support) (f : Slot → ℕ) (s : Slot) (entries : List (Option Entry)) (best : ℕ) → IsEntry s.1
-    → ArePlaces supports entries → AreAskedAbove supports f s entries best None
+    → AreSupportPlaces supports entries → AreAskedAbove supports f s entries best None
     → (place : ℕ) → IsWithin supports f s best (given_rule (slice_get supports place) s place)
 asked_all supports f s entries best entry are asked place v value =
     elim (asked place (given_place supports s entries place entry are (over-applies supports f (given_rule (slice_get supports place) s place) s.1 v value))) [
@@ -168,9 +168,9 @@ unfolding rules_at row_of
 all_listed supports f Lower n d None best alone sums classes given by_weight =
     let e : Entry = record { n = n; d = d; w = None } in
     let P : Rule → Type 0 = IsWithin supports f (Lower, e) best in
-    All-append P (rules_alone (Lower, e)) (side_by_side_rules e ++ rules_by_weight (Lower, e) ++ rules_of_supports (length supports) (Lower, e)) alone
-    (All-append P (side_by_side_rules e ++ rules_by_weight (Lower, e)) (rules_of_supports (length supports) (Lower, e))
-    (All-append P (side_by_side_rules e) (rules_by_weight (Lower, e))
+    All-append P (rules_alone (Lower, e)) (juxtaposition_rules e ++ rules_by_weight (Lower, e) ++ rules_of_supports (length supports) (Lower, e)) alone
+    (All-append P (juxtaposition_rules e ++ rules_by_weight (Lower, e)) (rules_of_supports (length supports) (Lower, e))
+    (All-append P (juxtaposition_rules e) (rules_by_weight (Lower, e))
     (all_flat_map P (λ m. map (λ c. L11 m c) (range_with_len 3 (d - 5))) (range_with_len 1 (n - 1))
     (λ m. all_map P (λ c. L11 m c) (range_with_len 3 (d - 5)) (λ c. sums refl refl m c)))
     (all_map P (λ w. L9 w) (range_with_len 0 (n + 1)) (λ w. by_weight (L9 w) refl refl)))

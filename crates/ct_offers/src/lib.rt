@@ -6,7 +6,7 @@ mod following;
 mod marking;
 mod pulling;
 mod resting;
-mod side_by_side;
+mod juxtaposition;
 
 pub use best::Best;
 pub use marking::mark_dependents;

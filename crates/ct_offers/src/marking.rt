@@ -7,12 +7,12 @@ ghost use Rattle.ct_rules.specs.declared.rule.Rule.{Rule};
 ghost use Rattle.ct_rules.specs.Closed.{AreTrue};
 ghost use Rattle.ct_rules.specs.Rule.{is_alone};
 ghost use Rattle.ct_slots.specs.Number.{bound_of};
-ghost use Rattle.ct_slots.specs.Places.{ArePlaces};
+ghost use Rattle.ct_slots.specs.Places.{AreSupportPlaces};
 ghost use Rattle.ct_offers.specs.Inside.Marking.{KeepsMarks, IsTestedAt, IsTestedFrom, AreTestedByWeight, IsTestedByDual, AreTestedByDuals, AreTestedAtWeights, AreTestedFromDuals, AreTested};
 
 use crate::following::mark_by_resting;
 use crate::pulling::{given_rule, offer};
-use crate::side_by_side::mark_side_by_side;
+use crate::juxtaposition::mark_juxtaposition;
 use ct_codes::{Entry, Side};
 use ct_rule_parts::dual_behind;
 use ct_rules::{Rule, Support, rested_on_by, rule_side};
@@ -172,7 +172,7 @@ fn mark_by_duals(
     from: Entry,
     evaluations: &mut u64,
 ) -> Result<(), AllocError>
-    requires places { ArePlaces supports.now places.now }
+    requires places { AreSupportPlaces supports.now places.now }
     requires stand { AllStand supports.now }
     requires true_bounds { AreTrue (bound_of bounds.now) }
     ensures tested { OnOk result (AreTestedByDuals supports.now bounds.now work.new from entry) }
@@ -199,7 +199,7 @@ fn mark_each_weight(
     evaluations: &mut u64,
 ) -> Result<(), AllocError>
     requires entry { IsEntry entry }
-    requires places { ArePlaces supports.now places.now }
+    requires places { AreSupportPlaces supports.now places.now }
     requires stand { AllStand supports.now }
     requires true_bounds { AreTrue (bound_of bounds.now) }
     ensures tested { OnOk result (AreTestedAtWeights supports.now bounds.now work.new entry (suc entry.n)) }
@@ -229,7 +229,7 @@ fn mark_from_duals(
     evaluations: &mut u64,
 ) -> Result<(), AllocError>
     requires entry { IsEntry entry }
-    requires places { ArePlaces supports.now places.now }
+    requires places { AreSupportPlaces supports.now places.now }
     requires stand { AllStand supports.now }
     requires true_bounds { AreTrue (bound_of bounds.now) }
     ensures tested { OnOk result (AreTestedFromDuals supports.now bounds.now work.new entry) }
@@ -257,7 +257,7 @@ pub fn mark_dependents(
     evaluations: &mut u64,
 ) -> Result<(), AllocError>
     requires entry { IsEntry entry }
-    requires places { ArePlaces supports.now places.now }
+    requires places { AreSupportPlaces supports.now places.now }
     requires stand { AllStand supports.now }
     requires true_bounds { AreTrue (bound_of bounds.now) }
     ensures tested { OnOk result (AreTested supports.now bounds.now work.new (side, entry)) }
@@ -267,7 +267,7 @@ pub fn mark_dependents(
     mark_by_weight(supports, bounds, work, side, entry, evaluations)?;
     match (side, entry.w) {
         (Side::Lower, None) => {
-            mark_side_by_side(bounds, work, entry, evaluations)?;
+            mark_juxtaposition(bounds, work, entry, evaluations)?;
             Ok(())
         }
         (Side::Lower, Some(_)) => Ok(()),

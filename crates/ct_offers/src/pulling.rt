@@ -14,13 +14,13 @@ ghost use Rattle.ct_rules.specs.Closed.{AreTrue};
 ghost use Rattle.ct_rules.specs.Listing.{rules_alone};
 ghost use Rattle.ct_rules.specs.Rule.{rule_side, is_by_weight, parts_over};
 ghost use Rattle.ct_slots.specs.Number.{bound_of};
-ghost use Rattle.ct_slots.specs.Places.{ArePlaces};
+ghost use Rattle.ct_slots.specs.Places.{AreSupportPlaces};
 ghost use Rattle.ct_offers.specs.Offers.{value_over, AreGrounded, IsGiven, IsLimit, IsWithin};
 ghost use Rattle.ct_offers.specs.Inside.Pulled.{IsPulled, bounding_rule, bounding_rule_of_weight, given_rule};
 
 use crate::best::Best;
 use crate::resting::ask_resting;
-use crate::side_by_side::best_side_by_side;
+use crate::juxtaposition::best_juxtaposition;
 use ct_codes::{Entry, Side};
 use ct_rule_parts::AcceptedDual;
 use ct_rules::{Entries, Rule, Support, rests_on, rule_side, value_where_defined};
@@ -383,7 +383,7 @@ fn ask_supports(
     evaluations: &mut u64,
 )
     requires entry { IsEntry entry }
-    requires places { ArePlaces supports.now places.now }
+    requires places { AreSupportPlaces supports.now places.now }
     ensures pulled { IsPulled supports.now (bound_of bounds.now) (side, entry) best.old best.new }
     ensures within { (place : ℕ) → IsWithin supports.now (bound_of bounds.now) (side, entry) best.new.value (given_rule (slice_get supports.now place) (side, entry) place) }
 {
@@ -405,7 +405,7 @@ fn ask_below(
     evaluations: &mut u64,
 )
     requires entry { IsEntry entry }
-    requires places { ArePlaces supports.now places.now }
+    requires places { AreSupportPlaces supports.now places.now }
     requires true_bounds { AreTrue (bound_of bounds.now) }
     requires some { 1 ≤ best.old.value }
     ensures pulled { IsPulled supports.now (bound_of bounds.now) (Lower, entry) best.old best.new }
@@ -422,7 +422,7 @@ fn ask_below(
         evaluations,
     );
     match entry.w {
-        None => best_side_by_side(bounds, entry, best, evaluations),
+        None => best_juxtaposition(bounds, entry, best, evaluations),
         Some(_) => {}
     }
 }
@@ -440,7 +440,7 @@ pub fn best_offer(
     requires stand { AllStand supports.now }
     requires true_bounds { AreTrue (bound_of bounds.now) }
     requires grounded { AreGrounded supports.now (bound_of bounds.now) }
-    requires places { ArePlaces supports.now places.now }
+    requires places { AreSupportPlaces supports.now places.now }
     ensures given { IsGiven supports.now (bound_of bounds.now) (side, entry) result.value result.rule }
     ensures within { (r : Rule) → rule_side r ≡ side → IsWithin supports.now (bound_of bounds.now) (side, entry) result.value r }
 {

@@ -6,10 +6,10 @@ use Rattle.std.proofs.lemmas.Bool.{cases_Bool, eqb-false, ltb-true, ltb-false, l
 use Rattle.std.proofs.lemmas.List.Elements.{All-nil, All-cons, All-head, All-tail}
 use Rattle.ct_codes.specs.declared.fault.TheConstants.{MAX_WORDS}
 use Rattle.ct_partitions.specs.declared.fault.TheConstants.{MAX_CLASSES}
-use Rattle.ct_partitions.specs.Partition.{all_words}
+use Rattle.ct_partitions.specs.Partition.{words_of_classes}
 use Rattle.ct_partitions.specs.Check.{counted, wrong_count}
-use Rattle.ct_fields.specs.declared.fault.FileFault.{FileFault}
-use Rattle.ct_fields.specs.declared.fault.FileFault.TheVariants.{Size}
+use Rattle.ct_fields.specs.declared.fault.DocumentFault.{DocumentFault}
+use Rattle.ct_fields.specs.declared.fault.DocumentFault.TheVariants.{Size}
 use Rattle.ct_partition_files.specs.Lists.{refused}
 use Rattle.ct_partition_files.specs.PartitionDocument.{IsWrongClassCount, AreCountedClasses}
 
@@ -18,7 +18,7 @@ pub refused-ok : (count : Option ℕ) (x : Unit {0}) → refused count ≡ Ok x 
 refused-ok None x e = refl
 refused-ok (Some c) x e = absurd cc
 
-pub refused-err : (count : Option ℕ) (fault : FileFault) → refused count ≡ Err fault → (c : ℕ) × (count ≡ Some c) × (Size c ≡ fault)
+pub refused-err : (count : Option ℕ) (fault : DocumentFault) → refused count ≡ Err fault → (c : ℕ) × (count ≡ Some c) × (Size c ≡ fault)
 refused-err None fault e = absurd cc
 refused-err (Some c) fault e = (c, refl, cc)
 
@@ -95,11 +95,11 @@ count_is_wrong classes c e =
             let is : wrong_count classes ≡ Some 0 = rw (inside, empty) refl in
             let same : c ≡ 0 = cc in
             inr (inl (within (length classes) inside, same, some_empty classes empty))
-        | inr full ↦ elim (cases_Bool (nat_lt MAX_WORDS (length (all_words classes)))) [
+        | inr full ↦ elim (cases_Bool (nat_lt MAX_WORDS (length (words_of_classes classes)))) [
           | inl many ↦
-              let is : wrong_count classes ≡ Some (counted (length (all_words classes))) = rw (inside, full, many) refl in
-              let same : c ≡ counted (length (all_words classes)) = cc in
-              inr (inr (within (length classes) inside, none_empty classes full, same, ltb-true MAX_WORDS (length (all_words classes)) many))
+              let is : wrong_count classes ≡ Some (counted (length (words_of_classes classes))) = rw (inside, full, many) refl in
+              let same : c ≡ counted (length (words_of_classes classes)) = cc in
+              inr (inr (within (length classes) inside, none_empty classes full, same, ltb-true MAX_WORDS (length (words_of_classes classes)) many))
           | inr few ↦ let is : wrong_count classes ≡ None = rw (inside, full, few) refl in absurd cc
         ]
       ]
@@ -112,7 +112,7 @@ count_is_wrong-from classes c (inl (same, out)) =
 count_is_wrong-from classes c (inr (inl (count, same, empty))) =
     rw (within_from (length classes) count, some_empty_from classes empty) (ap Some (sym same))
 count_is_wrong-from classes c (inr (inr (count, full, same, many))) =
-    rw (within_from (length classes) count, none_empty_from classes full, lt-ltb MAX_WORDS (length (all_words classes)) many)
+    rw (within_from (length classes) count, none_empty_from classes full, lt-ltb MAX_WORDS (length (words_of_classes classes)) many)
     (ap Some (sym same))
 
 -- none is wrong exactly where all are in their range
@@ -122,13 +122,13 @@ counts_are_right classes e =
       | inl out ↦ let is : wrong_count classes ≡ Some (length classes) = rw out refl in absurd cc
       | inr inside ↦ elim (cases_Bool (list_any (λ c. length c == 0) classes)) [
         | inl empty ↦ let is : wrong_count classes ≡ Some 0 = rw (inside, empty) refl in absurd cc
-        | inr full ↦ elim (cases_Bool (nat_lt MAX_WORDS (length (all_words classes)))) [
+        | inr full ↦ elim (cases_Bool (nat_lt MAX_WORDS (length (words_of_classes classes)))) [
           | inl many ↦
-              let is : wrong_count classes ≡ Some (counted (length (all_words classes))) = rw (inside, full, many) refl in absurd cc
+              let is : wrong_count classes ≡ Some (counted (length (words_of_classes classes))) = rw (inside, full, many) refl in absurd cc
           | inr few ↦ record {
             count = within (length classes) inside;
             no_empty_class = none_empty classes full;
-            few_words = ltb-false MAX_WORDS (length (all_words classes)) few;
+            few_words = ltb-false MAX_WORDS (length (words_of_classes classes)) few;
           }
         ]
       ]
@@ -139,5 +139,5 @@ counts_are_right-from classes right =
     rw (
       within_from (length classes) right.count,
       none_empty_from classes right.no_empty_class,
-      le-ltb MAX_WORDS (length (all_words classes)) right.few_words,
+      le-ltb MAX_WORDS (length (words_of_classes classes)) right.few_words,
     ) refl

@@ -5,14 +5,14 @@ use Rattle.std.proofs.lemmas.Option.{option_and_then_some}
 use Rattle.toml.specs.Data.{Data, string, integer, float, boolean, datetime, array, table, Items, no_items, item, get}
 use Rattle.toml.specs.View.{items_of}
 use Rattle.ct_words.specs.Text.{word_text}
-use Rattle.ct_partitions.specs.Partition.{all_words}
+use Rattle.ct_partitions.specs.Partition.{words_of_classes}
 use Rattle.ct_fields.specs.Field.{field_text}
 use Rattle.ct_fields.specs.Steps.{◌>>=◌}
 use Rattle.ct_fields.specs.Fields.{texts_in, words_from}
 use Rattle.ct_fields.specs.Tables.{IsFirstWrong}
 use Rattle.ct_fields.specs.declared.field.FieldName.{FieldName}
-use Rattle.ct_fields.specs.declared.fault.FileFault.{FileFault}
-use Rattle.ct_fields.specs.declared.fault.FileFault.TheVariants.{Field, Digits}
+use Rattle.ct_fields.specs.declared.fault.DocumentFault.{DocumentFault}
+use Rattle.ct_fields.specs.declared.fault.DocumentFault.TheVariants.{Field, Digits}
 use Rattle.ct_fields.proofs.StepLemmas.{bind-ok, bind-at_err, ok_or-ok}
 use Rattle.ct_fields.proofs.FieldLemmas.{texts_in-some, texts_of-items_of}
 use Rattle.ct_fields.proofs.WordsLemmas.{words_from-ok, words_from-from, words_from-err, words_from-wrong, both_words, words_from-append}
@@ -70,7 +70,7 @@ on_second P (x ∷ xs) ys (first, rest) = on_second P xs ys rest
 
 -- the texts that are read are those of the words of the classes
 pub classes_from-ok : (n place : ℕ) (lists : List (List (List ℕ))) (classes : List (List ℕ)) → classes_from n place lists ≡ Ok classes
-    → (lists ≡ class_texts n classes) × AllByRecursion (λ x. x < 2 ^ n) (all_words classes)
+    → (lists ≡ class_texts n classes) × AllByRecursion (λ x. x < 2 ^ n) (words_of_classes classes)
 classes_from-ok n place [] classes e = let same : [] ≡ classes = cc in rw (← same) (refl, tt)
 classes_from-ok n place (texts ∷ lists) classes e =
     let (words, words-are, more) = bind-ok (words_from n place texts) _ classes e in
@@ -78,31 +78,31 @@ classes_from-ok n place (texts ∷ lists) classes e =
     let same : words ∷ rest ≡ classes = cc in
     let first = words_from-ok n place texts words words-are in
     let after = classes_from-ok n (place + length texts) lists rest rest-are in
-    let P : List (List ℕ) → Type 0 = λ cs. (texts ∷ lists ≡ class_texts n cs) × AllByRecursion (λ x. x < 2 ^ n) (all_words cs) in
-    subst P same (λ i. first.0 i ∷ after.0 i, on_both (λ x. x < 2 ^ n) words (all_words rest) first.1 after.1)
+    let P : List (List ℕ) → Type 0 = λ cs. (texts ∷ lists ≡ class_texts n cs) × AllByRecursion (λ x. x < 2 ^ n) (words_of_classes cs) in
+    subst P same (λ i. first.0 i ∷ after.0 i, on_both (λ x. x < 2 ^ n) words (words_of_classes rest) first.1 after.1)
 
 -- texts of words are read as these
-pub classes_from-from : (n place : ℕ) (classes : List (List ℕ)) → AllByRecursion (λ x. x < 2 ^ n) (all_words classes)
+pub classes_from-from : (n place : ℕ) (classes : List (List ℕ)) → AllByRecursion (λ x. x < 2 ^ n) (words_of_classes classes)
     → classes_from n place (class_texts n classes) ≡ Ok classes
 classes_from-from n place [] short = refl
 classes_from-from n place (words ∷ classes) short =
-    let first = words_from-from n place words (on_first (λ x. x < 2 ^ n) words (all_words classes) short) in
+    let first = words_from-from n place words (on_first (λ x. x < 2 ^ n) words (words_of_classes classes) short) in
     let rest =
     classes_from-from n (place + length (map (word_text n) words)) classes
-    (on_second (λ x. x < 2 ^ n) words (all_words classes) short) in
+    (on_second (λ x. x < 2 ^ n) words (words_of_classes classes) short) in
     rw (first, rest) refl
 
 -- the words of one list and those of the classes after it
-joined : (first : Result (List ℕ) FileFault) (rest : Result (List (List ℕ)) FileFault) (after : Result (List ℕ) FileFault)
-    → (rest >>= (λ classes. Ok (all_words classes))) ≡ after
-    → ((first >>= (λ words. rest >>= (λ classes. Ok (words ∷ classes)))) >>= (λ classes. Ok (all_words classes))) ≡ both_words first after
+joined : (first : Result (List ℕ) DocumentFault) (rest : Result (List (List ℕ)) DocumentFault) (after : Result (List ℕ) DocumentFault)
+    → (rest >>= (λ classes. Ok (words_of_classes classes))) ≡ after
+    → ((first >>= (λ words. rest >>= (λ classes. Ok (words ∷ classes)))) >>= (λ classes. Ok (words_of_classes classes))) ≡ both_words first after
 joined (Ok words) (Ok classes) after same = ap (both_words (Ok words)) same
 joined (Ok words) (Err fault) after same = ap (both_words (Ok words)) same
 joined (Err fault) rest after same = refl
 
 -- the words of all classes are read from all texts, one after the other
 classes_from-joined : (n place : ℕ) (lists : List (List (List ℕ)))
-    → (classes_from n place lists >>= (λ classes. Ok (all_words classes))) ≡ words_from n place (all_texts lists)
+    → (classes_from n place lists >>= (λ classes. Ok (words_of_classes classes))) ≡ words_from n place (all_texts lists)
 classes_from-joined n place [] = refl
 classes_from-joined n place (texts ∷ lists) =
     joined (words_from n place texts) (classes_from n (place + length texts) lists) (words_from n (place + length texts) (all_texts lists))
@@ -110,13 +110,13 @@ classes_from-joined n place (texts ∷ lists) =
     ∙ sym (words_from-append n place texts (all_texts lists))
 
 -- so the fault names the first text of no word
-pub classes_from-err : (n place : ℕ) (lists : List (List (List ℕ))) (fault : FileFault) → classes_from n place lists ≡ Err fault
+pub classes_from-err : (n place : ℕ) (lists : List (List (List ℕ))) (fault : DocumentFault) → classes_from n place lists ≡ Err fault
     → (i : ℕ) × (Digits (place + i) ≡ fault) × IsFirstWrong n (all_texts lists) i
 classes_from-err n place lists fault e =
     words_from-err n place (all_texts lists) fault
     (sym (classes_from-joined n place lists) ∙ bind-at_err (classes_from n place lists) _ fault e)
 
-own_fault : (read : Result (List (List ℕ)) FileFault) (fault : FileFault) → (read >>= (λ classes. Ok (all_words classes))) ≡ Err fault
+own_fault : (read : Result (List (List ℕ)) DocumentFault) (fault : DocumentFault) → (read >>= (λ classes. Ok (words_of_classes classes))) ≡ Err fault
     → read ≡ Err fault
 own_fault (Ok classes) fault e = absurd cc
 own_fault (Err other) fault e = let same : other ≡ fault = cc in ap Err same

@@ -8,7 +8,7 @@ use Rattle.ct_words.specs.declared.limits.TheConstants.{MAX_N}
 use Rattle.ct_fields.specs.Field.{field_text}
 use Rattle.ct_fields.specs.Ids.{id_in}
 use Rattle.ct_fields.specs.declared.field.FieldName.TheVariants.{Pairs}
-use Rattle.ct_fields.specs.declared.fault.FileFault.TheVariants.{Field}
+use Rattle.ct_fields.specs.declared.fault.DocumentFault.TheVariants.{Field}
 use Rattle.ct_fields.proofs.StepLemmas.{ok_or-ok}
 use Rattle.ct_fields.specs.Forms.{pair_in, all_of, pair_data}
 use Rattle.ct_fields.proofs.FormLemmas.{ReadsBack, pair-reads, all-some, all-from, id-reads}

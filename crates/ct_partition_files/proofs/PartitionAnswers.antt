@@ -4,7 +4,7 @@ use Rattle.std.specs.Prelude.{◌↔◌}
 use Rattle.std.proofs.lemmas.List.Elements.{All-from_recursion, recursion_from_All}
 use Rattle.toml.specs.Data.{Data, table, Members}
 use Rattle.ct_codes.specs.declared.entry.Entry.{Entry}
-use Rattle.ct_partitions.specs.Partition.{all_words}
+use Rattle.ct_partitions.specs.Partition.{words_of_classes}
 use Rattle.ct_partitions.specs.Check.{wrong_count}
 use Rattle.ct_fields.specs.Steps.{◌>>=◌}
 use Rattle.ct_fields.specs.Fields.{number_field}
@@ -16,8 +16,8 @@ use Rattle.ct_kind.specs.declared.evidence.Evidence.{Evidence}
 use Rattle.ct_kind.specs.declared.evidence.Evidence.TheVariants as evidence
 use Rattle.ct_fields.specs.declared.field.FieldName.{FieldName}
 use Rattle.ct_fields.specs.declared.field.FieldName.TheVariants.{N, D, W, D1, Classes, Cites}
-use Rattle.ct_fields.specs.declared.fault.FileFault.{FileFault}
-use Rattle.ct_fields.specs.declared.fault.FileFault.TheVariants.{Bytes, NotToml, Kind, Field, Unknown, Digits, Size, Memory}
+use Rattle.ct_fields.specs.declared.fault.DocumentFault.{DocumentFault}
+use Rattle.ct_fields.specs.declared.fault.DocumentFault.TheVariants.{Bytes, NotToml, Kind, Field, Unknown, Digits, Size, Memory}
 use Rattle.ct_fields.proofs.StepLemmas.{bind-at, bind-at_err, bind-cases, ok_or-err, only_fault}
 use Rattle.ct_fields.proofs.FieldLemmas.{number_field-ok, number_field-from, field-missing}
 use Rattle.ct_fields.proofs.LastLemmas.{last_fields-ok, last_fields-from, last_fields-err, last_fields-wrong, last_fields-other, wrong_cites, other_key}
@@ -29,7 +29,7 @@ use Rattle.ct_partition_files.proofs.ListLemmas.{text_lists_field-ok, text_lists
 use Rattle.ct_partition_files.proofs.CountLemmas.{refused-ok, refused-err, count_is_wrong, count_is_wrong-from, counts_are_right, counts_are_right-from}
 
 -- the fault of a field is its own
-field_fault : {A : Type 0} (found : Option A) (own fault : FileFault) → ok_or found own ≡ Err fault → own ≡ fault
+field_fault : {A : Type 0} (found : Option A) (own fault : DocumentFault) → ok_or found own ≡ Err fault → own ≡ fault
 field_fault found own fault e = let (_, same) = ok_or-err found own fault e in same
 
 -- a wrong entry is answered as it is said
@@ -44,7 +44,7 @@ pub partition_answer : (ms : Members) → IsOfKind (codes "partition") (table ms
 unfolding partition_evidence_of
 partition_answer ms of_kind =
     let document = table ms in
-    let P : Result Evidence FileFault → Type 0 = IsPartitionAnswer document in
+    let P : Result Evidence DocumentFault → Type 0 = IsPartitionAnswer document in
     bind-cases P (entry_of document) _ (λ e e-is.
     let entry = entry_of-ok document e e-is in
     bind-cases P (number_field D1 1 e.d document) _ (λ between between-is.
@@ -62,7 +62,7 @@ partition_answer ms of_kind =
     let (same, short) = classes_from-ok e.n 0 lists classes classes-are in
     let states : StatesPartition document e between classes = record {
       form = subst (IsPartitionDocument document e between) same form;
-      lengths = All-from_recursion (λ x. x < 2 ^ e.n) (all_words classes) short;
+      lengths = All-from_recursion (λ x. x < 2 ^ e.n) (words_of_classes classes) short;
     } in
     bind-cases P (class_count classes) _ (λ passed count-is. (states, counts_are_right classes (refused-ok (wrong_count classes) passed count-is)))
     (λ fault wrong.
@@ -87,7 +87,7 @@ partition_answer ms of_kind =
     subst (λ f. P (Err f)) is (entry_answer document name first))
 
 -- the steps up to the keys
-reads_fields : (document : Data) (e : Entry) (between : ℕ) (lists : List (List (List ℕ))) (answer : Result Evidence FileFault)
+reads_fields : (document : Data) (e : Entry) (between : ℕ) (lists : List (List (List ℕ))) (answer : Result Evidence DocumentFault)
     → HasPartition document e between lists
     → (last_fields partition_fields document >>= (λ _. partition_of_lists e between lists)) ≡ answer
     → partition_evidence_of document ≡ answer
@@ -99,21 +99,21 @@ reads_fields document e between lists answer fields rest =
     ∙ rest
 
 -- the steps up to the texts
-reads_form : (ms : Members) (e : Entry) (between : ℕ) (lists : List (List (List ℕ))) (answer : Result Evidence FileFault)
+reads_form : (ms : Members) (e : Entry) (between : ℕ) (lists : List (List (List ℕ))) (answer : Result Evidence DocumentFault)
     → IsPartitionDocument (table ms) e between lists → partition_of_lists e between lists ≡ answer
     → partition_evidence_of (table ms) ≡ answer
 reads_form ms e between lists answer form rest =
     reads_fields (table ms) e between lists answer form.fields (rw (last_fields-from partition_fields ms form.last) rest)
 
 -- the steps up to the classes
-reads_classes : (ms : Members) (e : Entry) (between : ℕ) (classes : List (List ℕ)) (answer : Result Evidence FileFault)
+reads_classes : (ms : Members) (e : Entry) (between : ℕ) (classes : List (List ℕ)) (answer : Result Evidence DocumentFault)
     → StatesPartition (table ms) e between classes
     → (class_count classes >>= (λ _. Ok (evidence.Partition e between classes))) ≡ answer
     → partition_evidence_of (table ms) ≡ answer
 reads_classes ms e between classes answer states rest =
     reads_form ms e between (class_texts e.n classes) answer states.form
     (bind-at (classes_from e.n 0 (class_texts e.n classes)) _ classes
-    (classes_from-from e.n 0 classes (recursion_from_All (λ x. x < 2 ^ e.n) (all_words classes) states.lengths))
+    (classes_from-from e.n 0 classes (recursion_from_All (λ x. x < 2 ^ e.n) (words_of_classes classes) states.lengths))
     ∙ rest)
 
 -- a document without its entry
@@ -141,7 +141,7 @@ without_classes document e between entry at_d1 none =
     (field-missing text_lists_in Classes document (λ lists is. none lists (text_lists_field-ok Classes document lists is)))
 
 -- where an answer is said to come, it comes
-pub partition_answer-from : (ms : Members) (answer : Result Evidence FileFault) → IsPartitionAnswer (table ms) answer
+pub partition_answer-from : (ms : Members) (answer : Result Evidence DocumentFault) → IsPartitionAnswer (table ms) answer
     → partition_evidence_of (table ms) ≡ answer
 partition_answer-from ms (Ok (evidence.Partition e between classes)) (states, right) =
     reads_classes ms e between classes (Ok (evidence.Partition e between classes)) states (rw (counts_are_right-from classes right) refl)
@@ -167,7 +167,7 @@ partition_answer-from ms (Err Kind) never = absurd never
 partition_answer-from ms (Err Memory) never = absurd never
 
 -- the answer to a document of kind partition comes exactly where it is said to come
-pub partition_answers : (ms : Members) → IsOfKind (codes "partition") (table ms) → (answer : Result Evidence FileFault)
+pub partition_answers : (ms : Members) → IsOfKind (codes "partition") (table ms) → (answer : Result Evidence DocumentFault)
     → (partition_evidence_of (table ms) ≡ answer) ↔ IsPartitionAnswer (table ms) answer
 partition_answers ms of_kind answer =
     (λ same. subst (IsPartitionAnswer (table ms)) same (partition_answer ms of_kind), partition_answer-from ms answer)

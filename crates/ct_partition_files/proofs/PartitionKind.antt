@@ -3,7 +3,7 @@ use Rattle.std.proofs.Common.{◌≡◌, ℕ, ◌^◌, ◌<◌, ◌≤◌, List,
 use Rattle.std.specs.Prelude.{All}
 use Rattle.ct_codes.specs.declared.entry.Entry.{Entry}
 use Rattle.ct_codes.specs.Entry.{IsEntry}
-use Rattle.ct_partitions.specs.Partition.{all_words, IsPartition}
+use Rattle.ct_partitions.specs.Partition.{words_of_classes, IsPartition}
 use Rattle.ct_partitions.specs.Check.{partition_fault, wrong_count}
 use Rattle.ct_partitions.proofs.PartitionFaults.{sizes_of_count, no_fault_of_partition, sound_from_check}
 use Rattle.ct_kind.specs.Named.{NamedCode}
@@ -13,7 +13,7 @@ use Rattle.ct_partition_files.specs.PartitionKind.{partition_kind}
 
 -- classes against which there is no reason are a partition
 pub partition_states : (known : List NamedCode) (e : Entry) (between : ℕ) (classes : List (List ℕ)) → IsEntry e → 1 ≤ between → between ≤ e.d
-    → All (λ x. x < 2 ^ e.n) (all_words classes) → (partition_kind e between classes).reason known ≡ None
+    → All (λ x. x < 2 ^ e.n) (words_of_classes classes) → (partition_kind e between classes).reason known ≡ None
     → StatesWell (partition_kind e between classes) known (IsPartition e.n e.d e.w between classes)
 partition_states known e between classes entry some nearer within own =
     let is = sound_from_check e between classes entry some nearer within (option_map-none fault.Partition (partition_fault e between classes) own) in

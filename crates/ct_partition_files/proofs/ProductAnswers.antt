@@ -12,8 +12,8 @@ use Rattle.ct_kind.specs.declared.evidence.Evidence.{Evidence}
 use Rattle.ct_kind.specs.declared.evidence.Evidence.TheVariants as evidence
 use Rattle.ct_fields.specs.declared.field.FieldName.{FieldName}
 use Rattle.ct_fields.specs.declared.field.FieldName.TheVariants.{N, D, W, Pairs, Cites}
-use Rattle.ct_fields.specs.declared.fault.FileFault.{FileFault}
-use Rattle.ct_fields.specs.declared.fault.FileFault.TheVariants.{Bytes, NotToml, Kind, Field, Unknown, Digits, Size, Memory}
+use Rattle.ct_fields.specs.declared.fault.DocumentFault.{DocumentFault}
+use Rattle.ct_fields.specs.declared.fault.DocumentFault.TheVariants.{Bytes, NotToml, Kind, Field, Unknown, Digits, Size, Memory}
 use Rattle.ct_fields.proofs.StepLemmas.{bind-at, bind-at_err, bind-cases, ok_or-err}
 use Rattle.ct_fields.proofs.FieldLemmas.{field-missing}
 use Rattle.ct_fields.proofs.LastLemmas.{last_fields-ok, last_fields-from, last_fields-err, last_fields-wrong, last_fields-other, wrong_cites, other_key}
@@ -24,7 +24,7 @@ use Rattle.ct_partition_files.specs.ProductDocument.{product_fields, HasPairs, H
 use Rattle.ct_partition_files.proofs.PairLemmas.{pairs_field-ok, pairs_field-from}
 
 -- the fault of the pairs is their own
-pairs_fault : {A : Type 0} (found : Option A) (fault : FileFault) → ok_or found (Field Pairs) ≡ Err fault → Field Pairs ≡ fault
+pairs_fault : {A : Type 0} (found : Option A) (fault : DocumentFault) → ok_or found (Field Pairs) ≡ Err fault → Field Pairs ≡ fault
 pairs_fault found fault e = let (_, same) = ok_or-err found (Field Pairs) fault e in same
 
 -- a wrong entry is answered as it is said
@@ -39,7 +39,7 @@ pub product_answer : (ms : Members) → IsOfKind (codes "product") (table ms) �
 unfolding product_evidence_of
 product_answer ms of_kind =
     let document = table ms in
-    let P : Result Evidence FileFault → Type 0 = IsProductAnswer document in
+    let P : Result Evidence DocumentFault → Type 0 = IsProductAnswer document in
     bind-cases P (entry_of document) _ (λ e e-is.
     let entry = entry_of-ok document e e-is in
     bind-cases P (pairs_field e.w document) _ (λ pairs pairs-are.
@@ -62,7 +62,7 @@ product_answer ms of_kind =
     subst (λ f. P (Err f)) is (entry_answer document name first))
 
 -- the steps up to the keys
-reads_fields : (document : Data) (e : Entry) (pairs : List (List ℕ × List ℕ)) (answer : Result Evidence FileFault) → HasProduct document e pairs
+reads_fields : (document : Data) (e : Entry) (pairs : List (List ℕ × List ℕ)) (answer : Result Evidence DocumentFault) → HasProduct document e pairs
     → (last_fields product_fields document >>= (λ _. Ok (evidence.Product e pairs))) ≡ answer
     → product_evidence_of document ≡ answer
 unfolding product_evidence_of
@@ -86,7 +86,7 @@ without_pairs document e entry none =
     (field-missing (pairs_in e.w) Pairs document (λ pairs is. none pairs (pairs_field-ok e.w document pairs is)))
 
 -- where an answer is said to come, it comes
-pub product_answer-from : (ms : Members) (answer : Result Evidence FileFault) → IsProductAnswer (table ms) answer
+pub product_answer-from : (ms : Members) (answer : Result Evidence DocumentFault) → IsProductAnswer (table ms) answer
     → product_evidence_of (table ms) ≡ answer
 product_answer-from ms (Ok (evidence.Product e pairs)) states =
     reads_fields (table ms) e pairs (Ok (evidence.Product e pairs)) states.fields (rw (last_fields-from product_fields ms states.last) refl)
@@ -108,7 +108,7 @@ product_answer-from ms (Err (Size c)) never = absurd never
 product_answer-from ms (Err Memory) never = absurd never
 
 -- the answer to a document of kind product comes exactly where it is said to come
-pub product_answers : (ms : Members) → IsOfKind (codes "product") (table ms) → (answer : Result Evidence FileFault)
+pub product_answers : (ms : Members) → IsOfKind (codes "product") (table ms) → (answer : Result Evidence DocumentFault)
     → (product_evidence_of (table ms) ≡ answer) ↔ IsProductAnswer (table ms) answer
 product_answers ms of_kind answer =
     (λ same. subst (IsProductAnswer (table ms)) same (product_answer ms of_kind), product_answer-from ms answer)

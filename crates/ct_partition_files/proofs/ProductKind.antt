@@ -19,7 +19,7 @@ use Rattle.ct_codes.proofs.EntryLemmas.{entry_limits}
 use Rattle.ct_codes.specs.Constructions.Juxtaposed.{added_weights}
 use Rattle.ct_build.specs.declared.fault.BuildFault.TheVariants as build
 use Rattle.ct_partitions.specs.Partition.{PartitionValue, IsSoundPartition}
-use Rattle.ct_partitions.specs.Product.{Factors, product, product_size, product_distance, AreFactors, AreSound as AreSoundFactors, no_partition, pairs_at, ArePlaces}
+use Rattle.ct_partitions.specs.Product.{Factors, product, product_size, product_distance, AreFactors, AreSound as AreSoundFactors, no_partition, pairs_at, ArePairsOfPlaces}
 use Rattle.ct_partitions.proofs.ProductCodes.{IsCode-product, length-product}
 use Rattle.ct_partitions.proofs.ProductLemmas.{some_of_product}
 use Rattle.ct_rule_parts.specs.Support.{Stands}
@@ -330,7 +330,7 @@ pub wrong_step : (e : Entry) (long : ℕ) (known : List NamedCode) (pairs : List
 wrong_step e long known pairs k d within = ap (wrong_of_pairs e long known) (drop_more pairs k d within)
 
 -- pairs of partitions at places, with two more partitions and their places
-pub pairs-push : (parts : List PartitionValue) (places : List (ℕ × ℕ)) (x y : PartitionValue) → ArePlaces (length parts) places
+pub pairs-push : (parts : List PartitionValue) (places : List (ℕ × ℕ)) (x y : PartitionValue) → ArePairsOfPlaces (length parts) places
     → pairs_at ((parts ++ x ∷ []) ++ y ∷ []) (places ++ (length parts, length parts + 1) ∷ []) ≡ pairs_at parts places ++ (x, y) ∷ []
 pairs-push parts [] x y within = λ i. (first i, second i) ∷ [] where
   first : slice_index_or ((parts ++ x ∷ []) ++ y ∷ []) (length parts) no_partition ≡ x
@@ -352,7 +352,7 @@ pairs-push parts (p ∷ ps) x y within =
         get_or-append (parts ++ x ∷ []) (y ∷ []) no_partition k (omega arith) ∙ get_or-append parts (x ∷ []) no_partition k below
 
 -- places of a list are places of a longer one
-pub places-push : (count : ℕ) (places : List (ℕ × ℕ)) → ArePlaces count places → ArePlaces (count + 2) (places ++ (count, count + 1) ∷ [])
+pub places-push : (count : ℕ) (places : List (ℕ × ℕ)) → ArePairsOfPlaces count places → ArePairsOfPlaces (count + 2) (places ++ (count, count + 1) ∷ [])
 places-push count places within =
     All-push (λ (q : ℕ × ℕ). (q.0 < count + 2) × (q.1 < count + 2)) places (count, count + 1)
     (All-weaker (λ (q : ℕ × ℕ). (q.0 < count) × (q.1 < count)) (λ (q : ℕ × ℕ). (q.0 < count + 2) × (q.1 < count + 2))
@@ -409,7 +409,7 @@ named-there e known pairs none =
 pub record AreListed (known : List NamedCode) (pairs : List Ids) (k : ℕ) (parts : List PartitionValue) (places : List (ℕ × ℕ)) : Type 0 where
   pub count : length parts ≡ 2 * k
   pub listed : length places ≡ k
-  pub within : ArePlaces (length parts) places
+  pub within : ArePairsOfPlaces (length parts) places
   pub factors : pairs_at parts places ≡ factors_named known (take k pairs)
 
 -- one pair more
@@ -434,7 +434,7 @@ listed-step known pairs k parts next places more x y p h within at first second 
     record {
       count = omega arith;
       listed = omega arith;
-      within = subst (λ (ls : List (ℕ × ℕ)). ArePlaces (length next) ls) (sym places_are) (subst (λ (n : ℕ). ArePlaces n (places ++ (length parts, length parts + 1) ∷ [])) long pushed);
+      within = subst (λ (ls : List (ℕ × ℕ)). ArePairsOfPlaces (length next) ls) (sym places_are) (subst (λ (n : ℕ). ArePairsOfPlaces n (places ++ (length parts, length parts + 1) ∷ [])) long pushed);
       factors = ap₂ pairs_at parts_are places_are ∙ pairs-push parts places x y h.within ∙ ap (λ (fs : List Factors). fs ++ (x, y) ∷ []) h.factors
           ∙ ap (λ (f : Factors). factors_named known (take k pairs) ++ f ∷ []) (here ∙ ap (factors_of known) at) ∙ sym (factors_more known pairs k p within);
     }

@@ -4,7 +4,7 @@ use Rattle.std.specs.Prelude.{◌+◌, ◌*◌, All}
 use Rattle.std.proofs.lemmas.List.Elements.{All-head, All-tail}
 use Rattle.toml.specs.Data.{integer}
 use Rattle.ct_codes.specs.declared.entry.Entry.{Entry}
-use Rattle.ct_partitions.specs.Partition.{all_words}
+use Rattle.ct_partitions.specs.Partition.{words_of_classes}
 use Rattle.ct_fields.specs.Inside.Room.{IsSimple, room}
 use Rattle.ct_fields.proofs.RoomLemmas.{Holds, holds-put, holds-more, holds-weight, holds-entry, words-simple, words-room, id-bare, id-short}
 use Rattle.ct_partition_files.specs.Written.{AreIds, class_list, pair_list, partition_table, product_table}
@@ -14,23 +14,23 @@ classes-simple : (n : ℕ) (classes : List (List ℕ)) → IsSimple (class_list 
 classes-simple n [] = tt
 classes-simple n (words ∷ classes) = (words-simple n words, classes-simple n classes)
 
-classes-room : (n : ℕ) (classes : List (List ℕ)) → room (class_list n classes) ≡ 2 + 4 * length classes + (n + 4) * length (all_words classes)
+classes-room : (n : ℕ) (classes : List (List ℕ)) → room (class_list n classes) ≡ 2 + 4 * length classes + (n + 4) * length (words_of_classes classes)
 classes-room n [] = omega arith
 classes-room n (words ∷ classes) =
     let here = words-room n words in
     let rest = classes-room n classes in
-    let split : (n + 4) * length (words ++ all_words classes) ≡ (n + 4) * length words + (n + 4) * length (all_words classes) =
-    rw (length-append words (all_words classes)) (omega arith)
+    let split : (n + 4) * length (words ++ words_of_classes classes) ≡ (n + 4) * length words + (n + 4) * length (words_of_classes classes) =
+    rw (length-append words (words_of_classes classes)) (omega arith)
     in omega (arith, here, rest, split)
 
 pub partition_holds : (e : Entry) (between : ℕ) (classes : List (List ℕ))
-    → Holds (partition_table e between classes) (160 + 4 * length classes + (e.n + 4) * length (all_words classes))
+    → Holds (partition_table e between classes) (160 + 4 * length classes + (e.n + 4) * length (words_of_classes classes))
 partition_holds e between classes =
     let stated = holds-weight e.w _ _ (holds-entry (codes "partition") e.n e.d 9 refl (omega arith)) in
     let apart = holds-put (codes "d1") (integer (pos between)) _ 2 20 _ (omega arith) (omega arith) refl tt (omega arith) stated in
     let lists = classes-room e.n classes in
     holds-more _ _ _
-    (holds-put (codes "classes") (class_list e.n classes) _ 7 (2 + 4 * length classes + (e.n + 4) * length (all_words classes)) _ (omega arith) (omega arith) refl
+    (holds-put (codes "classes") (class_list e.n classes) _ 7 (2 + 4 * length classes + (e.n + 4) * length (words_of_classes classes)) _ (omega arith) (omega arith) refl
     (classes-simple e.n classes) (omega (arith, lists)) apart)
     (omega arith)
 

@@ -10,7 +10,7 @@ use Rattle.ct_words.specs.Text.{word_text}
 use Rattle.ct_codes.specs.declared.entry.Entry.{Entry}
 use Rattle.ct_codes.specs.Entry.{IsEntry}
 use Rattle.ct_codes.proofs.EntryLemmas.{WeightFits, Limits, entry_limits}
-use Rattle.ct_partitions.specs.Partition.{all_words}
+use Rattle.ct_partitions.specs.Partition.{words_of_classes}
 use Rattle.ct_fields.specs.Field.{field_text}
 use Rattle.ct_fields.specs.Forms.{pair_data}
 use Rattle.ct_fields.specs.LastFields.{last_fields}
@@ -41,10 +41,10 @@ class_texts-are n [] = refl
 class_texts-are n (words ∷ classes) = λ i. array (items_of (sym (map-map string (word_text n) words) i)) ∷ class_texts-are n classes i
 
 -- where all words have the length, those of each class have it
-pub short_classes : (n : ℕ) (classes : List (List ℕ)) → All (λ x. x < 2 ^ n) (all_words classes) → All (λ words. All (λ x. x < 2 ^ n) words) classes
+pub short_classes : (n : ℕ) (classes : List (List ℕ)) → All (λ x. x < 2 ^ n) (words_of_classes classes) → All (λ words. All (λ x. x < 2 ^ n) words) classes
 short_classes n [] short = All-nil (λ words. All (λ x. x < 2 ^ n) words)
 short_classes n (words ∷ classes) short =
-    let both = All-append_parts (λ x. x < 2 ^ n) words (all_words classes) short in
+    let both = All-append_parts (λ x. x < 2 ^ n) words (words_of_classes classes) short in
     All-cons (λ words. All (λ x. x < 2 ^ n) words) words classes both.0 (short_classes n classes both.1)
 
 -- the kinds name neither `format` nor `cites`
@@ -56,7 +56,7 @@ own_product = record { no_format = refl; no_cites = refl }
 
 -- the table of a partition states it
 pub states_partition : (e : Entry) (between : ℕ) (classes : List (List ℕ)) → IsEntry e → 1 ≤ between → between ≤ e.d
-    → All (λ x. x < 2 ^ e.n) (all_words classes)
+    → All (λ x. x < 2 ^ e.n) (words_of_classes classes)
     → StatesPartition (table (partition_table e between classes)) e between classes
 states_partition e between classes entry some nearer short = at e.w limits.weight
   where

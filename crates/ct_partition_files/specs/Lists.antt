@@ -9,8 +9,8 @@ use Rattle.ct_fields.specs.Reads.{texts_behind}
 use Rattle.ct_fields.specs.Steps.{◌>>=◌}
 use Rattle.ct_fields.specs.Fields.{field, texts_in, words_from}
 use Rattle.ct_fields.specs.declared.field.FieldName.{FieldName}
-use Rattle.ct_fields.specs.declared.fault.FileFault.{FileFault}
-use Rattle.ct_fields.specs.declared.fault.FileFault.TheVariants.{Size}
+use Rattle.ct_fields.specs.declared.fault.DocumentFault.{DocumentFault}
+use Rattle.ct_fields.specs.declared.fault.DocumentFault.TheVariants.{Size}
 
 -- the texts to which the references of each list lead
 abbrev pub lists_behind : List (Vec (Bor (List ℕ)) Global) → List (List (List ℕ))
@@ -27,12 +27,12 @@ text_lists_in (array ds) = text_lists_of ds
 text_lists_in _ = None
 
 -- the lists of texts of the field, a list of lists of texts
-abbrev pub text_lists_field : FieldName → Data → Result (List (List (List ℕ))) FileFault
+abbrev pub text_lists_field : FieldName → Data → Result (List (List (List ℕ))) DocumentFault
 text_lists_field name document = field text_lists_in name document
 
 -- the classes of words of length n that the lists of texts write
 -- (the fault of the first text that writes none, where the texts are counted from place through all lists)
-abbrev pub classes_from : ℕ → ℕ → List (List (List ℕ)) → Result (List (List ℕ)) FileFault
+abbrev pub classes_from : ℕ → ℕ → List (List (List ℕ)) → Result (List (List ℕ)) DocumentFault
 classes_from n place [] = Ok []
 classes_from n place (texts ∷ lists) = do
   words ← words_from n place texts
@@ -40,10 +40,10 @@ classes_from n place (texts ∷ lists) = do
   Ok (words ∷ classes)
 
 -- the fault of a count, where it is wrong
-abbrev pub refused : Option ℕ → Result (Unit {0}) FileFault
+abbrev pub refused : Option ℕ → Result (Unit {0}) DocumentFault
 refused None = Ok tt
 refused (Some count) = Err (Size count)
 
 -- the fault of a wrong count of classes or of their words
-abbrev pub class_count : List (List ℕ) → Result (Unit {0}) FileFault
+abbrev pub class_count : List (List ℕ) → Result (Unit {0}) DocumentFault
 class_count classes = refused (wrong_count classes)

@@ -7,7 +7,7 @@ use Rattle.ct_fields.specs.Fields.{field}
 use Rattle.ct_fields.specs.Forms.{pair_in, all_of}
 use Rattle.ct_fields.specs.Ids.{id_in}
 use Rattle.ct_fields.specs.declared.field.FieldName.TheVariants as name
-use Rattle.ct_fields.specs.declared.fault.FileFault.{FileFault}
+use Rattle.ct_fields.specs.declared.fault.DocumentFault.{DocumentFault}
 
 -- whether a product of the weight may have so many pairs: exactly one where it has none, else 1 to MAX_N + 1, one for each weight
 -- that a word of length MAX_N may have
@@ -21,5 +21,5 @@ pairs_in w (array ds) = option_and_then (λ pairs. if is_pair_count w (length pa
 pairs_in w _ = None
 
 -- the pairs of the document, of a product of the weight
-abbrev pub pairs_field : Option ℕ → Data → Result (List (List ℕ × List ℕ)) FileFault
+abbrev pub pairs_field : Option ℕ → Data → Result (List (List ℕ × List ℕ)) DocumentFault
 pairs_field w document = field (pairs_in w) name.Pairs document

@@ -7,7 +7,7 @@ use Rattle.ct_words.specs.Text.{word_text}
 use Rattle.ct_codes.specs.declared.entry.Entry.{Entry}
 use Rattle.ct_codes.specs.declared.fault.TheConstants.{MAX_WORDS}
 use Rattle.ct_partitions.specs.declared.fault.TheConstants.{MAX_CLASSES}
-use Rattle.ct_partitions.specs.Partition.{all_words}
+use Rattle.ct_partitions.specs.Partition.{words_of_classes}
 use Rattle.ct_partitions.specs.Check.{counted}
 use Rattle.ct_fields.specs.Field.{field_text}
 use Rattle.ct_fields.specs.Tables.{IsDocument, IsOfKind, HasNumber, IsFirstWrong}
@@ -17,8 +17,8 @@ use Rattle.ct_fields.specs.declared.field.FieldName.{FieldName}
 use Rattle.ct_fields.specs.declared.field.FieldName.TheVariants.{N, D, W, D1, Classes, Cites}
 use Rattle.ct_kind.specs.declared.evidence.Evidence.{Evidence}
 use Rattle.ct_kind.specs.declared.evidence.Evidence.TheVariants as evidence
-use Rattle.ct_fields.specs.declared.fault.FileFault.{FileFault}
-use Rattle.ct_fields.specs.declared.fault.FileFault.TheVariants.{Field, Unknown, Digits, Size}
+use Rattle.ct_fields.specs.declared.fault.DocumentFault.{DocumentFault}
+use Rattle.ct_fields.specs.declared.fault.DocumentFault.TheVariants.{Field, Unknown, Digits, Size}
 
 -- the fields of a document of kind partition
 abbrev pub partition_fields : List FieldName
@@ -56,7 +56,7 @@ pub record IsPartitionDocument (document : Data) (e : Entry) (between : ℕ) (li
 -- the table is such a document, and its texts are those of the words of the classes, each of the length of the entry
 pub record StatesPartition (document : Data) (e : Entry) (between : ℕ) (classes : List (List ℕ)) : Type 0 where
   pub form : IsPartitionDocument document e between (class_texts e.n classes)
-  pub lengths : All (λ x. x < 2 ^ e.n) (all_words classes)
+  pub lengths : All (λ x. x < 2 ^ e.n) (words_of_classes classes)
 
 -- there are 1 to MAX_CLASSES classes
 abbrev pub HasClassCount : List (List ℕ) → Type 0
@@ -68,17 +68,17 @@ abbrev pub IsWrongClassCount : List (List ℕ) → ℕ → Type 0
 IsWrongClassCount classes c =
     ((c ≡ length classes) × ((c ≡ 0) ⊎ (MAX_CLASSES < c)))
     ⊎ ((HasClassCount classes × (c ≡ 0) × Contains classes [])
-    ⊎ (HasClassCount classes × All (λ words. 1 ≤ length words) classes × (c ≡ counted (length (all_words classes)))
-    × (MAX_WORDS < length (all_words classes))))
+    ⊎ (HasClassCount classes × All (λ words. 1 ≤ length words) classes × (c ≡ counted (length (words_of_classes classes)))
+    × (MAX_WORDS < length (words_of_classes classes))))
 
 -- there are 1 to MAX_CLASSES classes, none without words, and at most MAX_WORDS words
 pub record AreCountedClasses (classes : List (List ℕ)) : Type 0 where
   pub count : HasClassCount classes
   pub no_empty_class : All (λ words. 1 ≤ length words) classes
-  pub few_words : length (all_words classes) ≤ MAX_WORDS
+  pub few_words : length (words_of_classes classes) ≤ MAX_WORDS
 
 -- where each answer comes for a document of kind partition; each line is the case that comes after those above it
-abbrev pub IsPartitionAnswer : Data → Result Evidence FileFault → Type 0
+abbrev pub IsPartitionAnswer : Data → Result Evidence DocumentFault → Type 0
 -- the distance between classes is missing or wrong
 IsPartitionAnswer document (Err (Field D1)) = (e : Entry) × StatesEntry document e × ((between : ℕ) → ¬ (HasBetween e document between))
 -- the classes are missing or wrong

@@ -2,7 +2,7 @@
 use Rattle.std.specs.Prelude.{ℕ, false, List, [], length, Some, None, option_map, codes}
 use Rattle.ct_codes.specs.declared.entry.Entry.{Entry}
 use Rattle.ct_partitions.specs.Check.{partition_fault}
-use Rattle.ct_partitions.specs.Partition.{all_words}
+use Rattle.ct_partitions.specs.Partition.{words_of_classes}
 use Rattle.ct_rule_parts.specs.declared.support.Support.TheVariants.{Nothing}
 use Rattle.ct_kind.specs.KindParts.{KindParts}
 use Rattle.ct_kind.specs.declared.fault.SubmitFault.TheVariants as fault
@@ -15,10 +15,10 @@ partition_kind e between classes = record {
   parts = [];
   reason = λ known. option_map fault.Partition (partition_fault e between classes);
   words = λ known. None;
-  size = λ known. Some (length (all_words classes));
+  size = λ known. Some (length (words_of_classes classes));
   has_code = false;
   partition = Some (record { entry = e; between = between; classes = classes });
-  listed = length (all_words classes);
+  listed = length (words_of_classes classes);
   is_stored = false;
   gives = λ size. Nothing;
 }

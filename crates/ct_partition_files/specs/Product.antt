@@ -7,11 +7,11 @@ use Rattle.ct_fields.specs.StatedEntry.{entry_of}
 use Rattle.ct_kind.specs.declared.evidence.Evidence.{Evidence}
 use Rattle.ct_kind.specs.declared.evidence.Evidence.TheVariants.{Product}
 use Rattle.ct_fields.specs.declared.field.FieldName.TheVariants as name
-use Rattle.ct_fields.specs.declared.fault.FileFault.{FileFault}
+use Rattle.ct_fields.specs.declared.fault.DocumentFault.{DocumentFault}
 use Rattle.ct_partition_files.specs.Pairs.{pairs_field}
 
 -- the evidence of a document of kind product
-unfoldable pub product_evidence_of : Data → Result Evidence FileFault
+unfoldable pub product_evidence_of : Data → Result Evidence DocumentFault
 product_evidence_of document = do
   e ← entry_of document
   pairs ← pairs_field e.w document

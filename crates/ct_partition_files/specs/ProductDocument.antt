@@ -11,8 +11,8 @@ use Rattle.ct_fields.specs.declared.field.FieldName.{FieldName}
 use Rattle.ct_fields.specs.declared.field.FieldName.TheVariants.{N, D, W, Pairs, Cites}
 use Rattle.ct_kind.specs.declared.evidence.Evidence.{Evidence}
 use Rattle.ct_kind.specs.declared.evidence.Evidence.TheVariants as evidence
-use Rattle.ct_fields.specs.declared.fault.FileFault.{FileFault}
-use Rattle.ct_fields.specs.declared.fault.FileFault.TheVariants.{Field, Unknown}
+use Rattle.ct_fields.specs.declared.fault.DocumentFault.{DocumentFault}
+use Rattle.ct_fields.specs.declared.fault.DocumentFault.TheVariants.{Field, Unknown}
 use Rattle.ct_partition_files.specs.Written.{AreIds, pair_list}
 
 -- the fields of a document of kind product
@@ -41,7 +41,7 @@ pub record StatesProduct (document : Data) (e : Entry) (pairs : List (List ℕ �
   pub last : HasLast product_fields document
 
 -- where each answer comes for a document of kind product; each line is the case that comes after those above it
-abbrev pub IsProductAnswer : Data → Result Evidence FileFault → Type 0
+abbrev pub IsProductAnswer : Data → Result Evidence DocumentFault → Type 0
 -- the pairs are missing or wrong
 IsProductAnswer document (Err (Field Pairs)) =
     (e : Entry) × StatesEntry document e × ((pairs : List (List ℕ × List ℕ)) → ¬ (HasPairs e.w document pairs))

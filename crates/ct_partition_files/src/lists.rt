@@ -7,7 +7,7 @@ ghost use Rattle.ct_fields.specs.Reads.{Reads, texts_behind};
 ghost use Rattle.ct_fields.specs.Fields.{texts_in};
 ghost use Rattle.ct_partition_files.specs.Lists.{lists_behind, text_lists_of, text_lists_field, classes_from};
 
-use ct_fields::{FieldName, FileFault, texts_of, words_from};
+use ct_fields::{FieldName, DocumentFault, texts_of, words_from};
 use ct_words::Word;
 use std::alloc::{AllocError, Global};
 use toml::Value;
@@ -17,15 +17,15 @@ pub(crate) fn text_lists_field<'a>(
     alloc: Global,
     document: &'a Value,
     name: FieldName,
-) -> Result<Vec<Vec<&'a str>>, FileFault>
+) -> Result<Vec<Vec<&'a str>>, DocumentFault>
     ensures { Reads (λ v. lists_behind v.items) result (text_lists_field name (view document.now)) }
 {
     match document.get(name.text()) {
         Some(Value::Array(values)) => match text_lists_of(alloc, values)? {
             Some(lists) => Ok(lists),
-            None => Err(FileFault::Field(name)),
+            None => Err(DocumentFault::Field(name)),
         },
-        _ => Err(FileFault::Field(name)),
+        _ => Err(DocumentFault::Field(name)),
     }
 }
 
@@ -58,7 +58,7 @@ pub(crate) fn classes_from(
     alloc: Global,
     n: u32,
     lists: &[Vec<&str>],
-) -> Result<Vec<Vec<Word>>, FileFault>
+) -> Result<Vec<Vec<Word>>, DocumentFault>
     requires some { 1 ≤ n }
     requires room { n ≤ MAX_N }
     ensures { Reads (λ v. word_lists v.items) result (classes_from n 0 (lists_behind lists.now)) }
@@ -68,7 +68,7 @@ pub(crate) fn classes_from(
     for texts in lists {
         // More texts than there are places would not fit into memory.
         let Some(after) = first.checked_add(texts.len()) else {
-            return Err(FileFault::Memory);
+            return Err(DocumentFault::Memory);
         };
         classes.push(words_from(alloc, n, first, texts)?)?;
         first = after;

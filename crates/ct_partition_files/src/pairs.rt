@@ -4,7 +4,7 @@ ghost use Rattle.toml.specs.View.{view};
 ghost use Rattle.ct_fields.specs.Reads.{Reads};
 ghost use Rattle.ct_partition_files.specs.Pairs.{is_pair_count, pairs_field};
 
-use ct_fields::{FieldName, FileFault, all_of};
+use ct_fields::{FieldName, DocumentFault, all_of};
 use ct_text::Id;
 use ct_words::MAX_N;
 use std::alloc::Global;
@@ -15,20 +15,20 @@ pub(crate) fn pairs_field(
     alloc: Global,
     w: Option<u32>,
     document: &Value,
-) -> Result<Vec<(Id, Id)>, FileFault>
+) -> Result<Vec<(Id, Id)>, DocumentFault>
     ensures { Reads (λ v. v.items) result (pairs_field w (view document.now)) }
 {
     match document.get(FieldName::Pairs.text()) {
         Some(Value::Array(values)) => match all_of::<(Id, Id)>(alloc, values)? {
             Some(pairs) => {
                 if !is_pair_count(w, &pairs) {
-                    return Err(FileFault::Field(FieldName::Pairs));
+                    return Err(DocumentFault::Field(FieldName::Pairs));
                 }
                 Ok(pairs)
             }
-            None => Err(FileFault::Field(FieldName::Pairs)),
+            None => Err(DocumentFault::Field(FieldName::Pairs)),
         },
-        _ => Err(FileFault::Field(FieldName::Pairs)),
+        _ => Err(DocumentFault::Field(FieldName::Pairs)),
     }
 }
 

@@ -9,7 +9,7 @@ ghost use Rattle.ct_partition_files.specs.Partition.{partition_of_lists, partiti
 
 use crate::lists::{classes_from, text_lists_field};
 use ct_codes::Entry;
-use ct_fields::{FieldName, FileFault, last_fields, number_field, stated_entry};
+use ct_fields::{FieldName, DocumentFault, last_fields, number_field, stated_entry};
 use ct_kind::{Evidence, WordLists};
 use ct_partitions::wrong_count;
 use ct_words::Word;
@@ -18,11 +18,11 @@ use toml::Value;
 
 /// Refuses no class or more than `ct_partitions::MAX_CLASSES`, or else a class without words, or else more than
 /// `ct_codes::MAX_WORDS` words.
-fn class_count(classes: &[Vec<Word>]) -> Result<(), FileFault>
+fn class_count(classes: &[Vec<Word>]) -> Result<(), DocumentFault>
     ensures { result ≡ class_count (word_lists classes.now) }
 {
     match wrong_count(classes) {
-        Some(count) => Err(FileFault::Size(count)),
+        Some(count) => Err(DocumentFault::Size(count)),
         None => Ok(()),
     }
 }
@@ -33,7 +33,7 @@ fn partition_of_lists(
     entry: Entry,
     between: u32,
     lists: &[Vec<&str>],
-) -> Result<Evidence, FileFault>
+) -> Result<Evidence, DocumentFault>
     requires some { 1 ≤ entry.n }
     requires room { entry.n ≤ MAX_N }
     ensures { Reads (λ evidence. evidence) result (partition_of_lists entry between (lists_behind lists.now)) }
@@ -50,7 +50,7 @@ fn partition_of_lists(
 
 /// The evidence that the document states, of kind partition.
 #[tactic(auto, unfolding(crate::specs::Partition::partition_evidence_of))]
-pub fn partition_evidence(alloc: Global, document: &Value) -> Result<Evidence, FileFault>
+pub fn partition_evidence(alloc: Global, document: &Value) -> Result<Evidence, DocumentFault>
     ensures { Reads (λ evidence. evidence) result (partition_evidence_of (view document.now)) }
 {
     let entry = stated_entry(document)?;

@@ -3,7 +3,7 @@
 ghost use Rattle.std.specs.Prelude.{◌≡◌, ◌≢◌, ◌<◌, ◌≤◌, ◌^◌, All, Some, None, IfOk, IfErr, OnOk, length, option_map, false, codes};
 ghost use Rattle.ct_codes.specs.Entry.{IsEntry};
 ghost use Rattle.ct_partitions.specs.Check.{partition_fault, wrong_count};
-ghost use Rattle.ct_partitions.specs.Partition.{all_words, word_lists};
+ghost use Rattle.ct_partitions.specs.Partition.{words_of_classes, word_lists};
 
 use ct_codes::Entry;
 use ct_kind::{Kind, SubmitFault};
@@ -29,7 +29,7 @@ pub fn kind(entry: Entry) -> Kind
 /// How many words the classes have.
 pub fn listed(classes: &[Vec<Word>]) -> u64
     requires right { wrong_count (word_lists classes.now) ≡ None }
-    ensures listed { result ≡ length (all_words (word_lists classes.now)) }
+    ensures listed { result ≡ length (words_of_classes (word_lists classes.now)) }
     ensures few { result < 2 ^ 31 }
 {
     word_count(classes)
@@ -45,9 +45,9 @@ pub fn check(
     requires entry { IsEntry entry }
     requires some { 1 ≤ between }
     requires nearer { between ≤ entry.d }
-    requires words { All (λ x. x < 2 ^ entry.n) (all_words (word_lists classes.now)) }
+    requires words { All (λ x. x < 2 ^ entry.n) (words_of_classes (word_lists classes.now)) }
     requires right { wrong_count (word_lists classes.now) ≡ None }
-    ensures size { IfOk result (λ size. size ≡ length (all_words (word_lists classes.now))) }
+    ensures size { IfOk result (λ size. size ≡ length (words_of_classes (word_lists classes.now))) }
     ensures accepted { OnOk result (partition_fault entry between (word_lists classes.now) ≡ None) }
     ensures fault { IfErr result (λ fault. fault ≢ SubmitFault.Memory
         → option_map SubmitFault.Partition (partition_fault entry between (word_lists classes.now)) ≡ Some fault) }

@@ -5,14 +5,14 @@ ghost use Rattle.ct_fields.specs.Reads.{Reads};
 ghost use Rattle.ct_partition_files.specs.Product.{product_evidence_of};
 
 use crate::pairs::pairs_field;
-use ct_fields::{FieldName, FileFault, last_fields, stated_entry};
+use ct_fields::{FieldName, DocumentFault, last_fields, stated_entry};
 use ct_kind::{Evidence, IdPairs};
 use std::alloc::Global;
 use toml::Value;
 
 /// The evidence that the document states, of kind product.
 #[tactic(auto, unfolding(crate::specs::Product::product_evidence_of))]
-pub fn product_evidence(alloc: Global, document: &Value) -> Result<Evidence, FileFault>
+pub fn product_evidence(alloc: Global, document: &Value) -> Result<Evidence, DocumentFault>
     ensures { Reads (λ evidence. evidence) result (product_evidence_of (view document.now)) }
 {
     let entry = stated_entry(document)?;

@@ -9,7 +9,7 @@ ghost use Rattle.ct_words.specs.declared.limits.TheConstants.{MAX_N, MAX_BOUND};
 ghost use Rattle.ct_codes.specs.Code.{IsSoundCode};
 ghost use Rattle.ct_codes.specs.Entry.{IsEntry};
 ghost use Rattle.ct_codes.specs.Pairs.{first_of};
-ghost use Rattle.ct_partitions.specs.Product.{product, product_distance, product_size, pairs_at, ArePlaces, AreFactors};
+ghost use Rattle.ct_partitions.specs.Product.{product, product_distance, product_size, pairs_at, ArePairsOfPlaces, AreFactors};
 ghost use Rattle.ct_kind.specs.Ascending.{code_at};
 ghost use Rattle.ct_kind.specs.KindParts.{kind_reason};
 ghost use Rattle.ct_kind.specs.Named.{first_missing, partition_named};
@@ -188,7 +188,7 @@ fn factors<P: Partitions>(
 ) -> Result<NamedFactors, AllocError>
     requires there { All (λ p. IsSome (partition_named p.0 (P.known pieces.now)) × IsSome (partition_named p.1 (P.known pieces.now))) pairs.now }
     requires few { length pairs.now ≤ suc MAX_N }
-    ensures places { IfOk result (λ f. ArePlaces (length f.parts.items) f.places.items) }
+    ensures places { IfOk result (λ f. ArePairsOfPlaces (length f.parts.items) f.places.items) }
     ensures count { IfOk result (λ f. length f.places.items ≡ length pairs.now) }
     ensures factors { IfOk result (λ f. pairs_at f.parts.items f.places.items ≡ factors_named (P.known pieces.now) pairs.now) }
 {
@@ -205,7 +205,7 @@ fn factors<P: Partitions>(
 
 /// How many words the product of the pairs has, at most as many as a code of the table.
 fn size_of(named: &NamedFactors) -> u32
-    requires places { ArePlaces (length named.now.parts.items) named.now.places.items }
+    requires places { ArePairsOfPlaces (length named.now.parts.items) named.now.places.items }
     requires few { length named.now.places.items ≤ suc MAX_N }
     requires small { product_size (pairs_at named.now.parts.items named.now.places.items) ≤ MAX_BOUND }
     ensures { result ≡ product_size (pairs_at named.now.parts.items named.now.places.items) }
@@ -215,7 +215,7 @@ fn size_of(named: &NamedFactors) -> u32
 
 /// How many words the product of the pairs has, or that its distance is below that of the entry.
 fn sized(entry: Entry, named: &NamedFactors) -> Result<u32, SubmitFault>
-    requires places { ArePlaces (length named.now.parts.items) named.now.places.items }
+    requires places { ArePairsOfPlaces (length named.now.parts.items) named.now.places.items }
     requires some { 1 ≤ length named.now.places.items }
     requires few { length named.now.places.items ≤ suc MAX_N }
     requires small { entry.d ≤ product_distance (pairs_at named.now.parts.items named.now.places.items)
@@ -279,7 +279,7 @@ pub fn check<P: Partitions>(
 
 /// The code of the entry that the product of the pairs is.
 fn listed(alloc: Global, entry: Entry, named: &NamedFactors) -> Result<Code, AllocError>
-    requires places { ArePlaces (length named.now.parts.items) named.now.places.items }
+    requires places { ArePairsOfPlaces (length named.now.parts.items) named.now.places.items }
     requires factors { AreFactors entry.n entry.w (pairs_at named.now.parts.items named.now.places.items) }
     requires length { entry.n ≤ MAX_N }
     requires some { 1 ≤ entry.d }

@@ -3,7 +3,7 @@ ghost use Rattle.std.specs.Prelude.{◌≡◌, ◌^◌, ◌<◌, ◌≤◌, All,
 ghost use Rattle.toml.specs.Data.{string};
 ghost use Rattle.toml.specs.View.{view, table_view};
 ghost use Rattle.ct_words.specs.declared.limits.TheConstants.{MAX_N};
-ghost use Rattle.ct_partitions.specs.Partition.{word_lists, all_words};
+ghost use Rattle.ct_partitions.specs.Partition.{word_lists, words_of_classes};
 ghost use Rattle.ct_fields.specs.Forms.{pair_data};
 ghost use Rattle.ct_partition_files.specs.Written.{AreIds, class_list, pair_list, partition_table, product_table};
 
@@ -23,7 +23,7 @@ pub fn partition_table(
     classes: &[Vec<Word>],
 ) -> Result<Table, AllocError>
     requires room { entry.n ≤ MAX_N }
-    requires words { All (λ x. x < 2 ^ entry.n) (all_words (word_lists classes.now)) }
+    requires words { All (λ x. x < 2 ^ entry.n) (words_of_classes (word_lists classes.now)) }
     ensures { IfOk result (λ table. table_view table ≡ partition_table entry between (word_lists classes.now)) }
 {
     let mut table = entry_table(alloc, "partition", entry.n, entry.d)?;

@@ -5,7 +5,7 @@ use Rattle.std.proofs.lemmas.Bool.{cases_lt, lt-ltb, le-ltb}
 use Rattle.std.proofs.lemmas.List.{map-append, drop_more, take_more}
 use Rattle.std.proofs.lemmas.List.Concat.{flat_map-append}
 use Rattle.ct_words.specs.Word.{distance}
-use Rattle.ct_partitions.specs.Partition.{word_lists, all_words}
+use Rattle.ct_partitions.specs.Partition.{word_lists, words_of_classes}
 use Rattle.ct_partitions.specs.Check.{class_at, is_close}
 use Rattle.ct_partitions.specs.Inside.Rows.{is_near}
 
@@ -18,42 +18,42 @@ lists_split vs k v within =
 
 -- one list more
 pub lists_more : (vs : List (Vec ℕ Global)) (k : ℕ) (v : Vec ℕ Global) → k < length vs
-    → all_words (word_lists (take (k + 1) vs)) ≡ all_words (word_lists (take k vs)) ++ (get_or vs k v).items
+    → words_of_classes (word_lists (take (k + 1) vs)) ≡ words_of_classes (word_lists (take k vs)) ++ (get_or vs k v).items
 lists_more vs k v within =
-    ap (λ us. all_words (word_lists us)) (take_more vs k v within)
-    ∙ ap all_words (map-append (λ c. c.items) (take k vs) (get_or vs k v ∷ []))
+    ap (λ us. words_of_classes (word_lists us)) (take_more vs k v within)
+    ∙ ap words_of_classes (map-append (λ c. c.items) (take k vs) (get_or vs k v ∷ []))
     ∙ flat_map-append (λ (c : List ℕ). c) (word_lists (take k vs)) ((get_or vs k v).items ∷ [])
-    ∙ ap (λ ws. all_words (word_lists (take k vs)) ++ ws) (append-nil (get_or vs k v).items)
+    ∙ ap (λ ws. words_of_classes (word_lists (take k vs)) ++ ws) (append-nil (get_or vs k v).items)
 
 -- the words up to the end of a class are no more than all
 pub words_up_to : (vs : List (Vec ℕ Global)) (k : ℕ) (v : Vec ℕ Global) → k < length vs
-    → length (all_words (word_lists (take k vs))) + length (get_or vs k v).items ≤ length (all_words (word_lists vs))
+    → length (words_of_classes (word_lists (take k vs))) + length (get_or vs k v).items ≤ length (words_of_classes (word_lists vs))
 words_up_to vs k v within =
-    let whole = ap (λ ls. length (all_words ls)) (lists_split vs k v within) in
+    let whole = ap (λ ls. length (words_of_classes ls)) (lists_split vs k v within) in
     let parts = ap length (flat_map-append (λ (c : List ℕ). c) (word_lists (take k vs)) ((get_or vs k v).items ∷ word_lists (drop
     (k + 1) vs))) in
-    let first = length-append (all_words (word_lists (take k vs))) ((get_or vs k v).items ++ all_words (word_lists (drop (k + 1) vs))) in
-    let second = length-append (get_or vs k v).items (all_words (word_lists (drop (k + 1) vs))) in
+    let first = length-append (words_of_classes (word_lists (take k vs))) ((get_or vs k v).items ++ words_of_classes (word_lists (drop (k + 1) vs))) in
+    let second = length-append (get_or vs k v).items (words_of_classes (word_lists (drop (k + 1) vs))) in
     omega arith
 
 -- a place after the words of some lists
-pub class_at-after : (before rest : List (List ℕ)) (i : ℕ) → length (all_words before) ≤ i
-    → class_at (before ++ rest) i ≡ length before + class_at rest (i - length (all_words before))
+pub class_at-after : (before rest : List (List ℕ)) (i : ℕ) → length (words_of_classes before) ≤ i
+    → class_at (before ++ rest) i ≡ length before + class_at rest (i - length (words_of_classes before))
 class_at-after [] rest i after = let plain : i - 0 ≡ i = omega arith in ap (class_at rest) (sym plain) ∙ omega arith
 class_at-after (c ∷ cs) rest i after =
-    let whole = length-append c (all_words cs) in
+    let whole = length-append c (words_of_classes cs) in
     let past = le-ltb i (length c) (omega arith) in
-    let back : i - length c - length (all_words cs) ≡ i - length (c ++ all_words cs) = omega arith in
+    let back : i - length c - length (words_of_classes cs) ≡ i - length (c ++ words_of_classes cs) = omega arith in
     let later = class_at-after cs rest (i - length c) (omega arith) in
     ap (λ b. if b then 0 else suc (class_at (cs ++ rest) (i - length c))) past ∙ ap suc later
     ∙ ap (λ j. suc (length cs + class_at rest j)) back ∙ omega arith
 
 -- two places, the first of which is in a class, are of one class where the second is before its end
-pub same_class : (before after : List (List ℕ)) (c : List ℕ) (i j : ℕ) → length (all_words before) ≤ i
-    → i < length (all_words before) + length c → i < j
-    → (class_at (before ++ c ∷ after) i == class_at (before ++ c ∷ after) j) ≡ nat_lt j (length (all_words before) + length c)
+pub same_class : (before after : List (List ℕ)) (c : List ℕ) (i j : ℕ) → length (words_of_classes before) ≤ i
+    → i < length (words_of_classes before) + length c → i < j
+    → (class_at (before ++ c ∷ after) i == class_at (before ++ c ∷ after) j) ≡ nat_lt j (length (words_of_classes before) + length c)
 same_class before after c i j from inside order =
-    let start = length (all_words before) in
+    let start = length (words_of_classes before) in
     let first : class_at (before ++ c ∷ after) i ≡ length before + 0 =
     class_at-after before (c ∷ after) i from
     ∙ ap (λ b. length before + (if b then 0 else suc (class_at after (i - start - length c)))) (lt-ltb (i - start) (length c)
@@ -73,21 +73,21 @@ same_class before after c i j from inside order =
     ]
 
 -- so whether they are too close is told by the end of the class
-pub close_is_near : (d between : ℕ) (before after : List (List ℕ)) (c words : List ℕ) (i j : ℕ) → words ≡ all_words (before ++ c ∷ after)
-    → length (all_words before) ≤ i → i < length (all_words before) + length c → i < j
-    → is_close 32 d between (before ++ c ∷ after) i j ≡ is_near words (length (all_words before) + length c) d between i j
+pub close_is_near : (d between : ℕ) (before after : List (List ℕ)) (c words : List ℕ) (i j : ℕ) → words ≡ words_of_classes (before ++ c ∷ after)
+    → length (words_of_classes before) ≤ i → i < length (words_of_classes before) + length c → i < j
+    → is_close 32 d between (before ++ c ∷ after) i j ≡ is_near words (length (words_of_classes before) + length c) d between i j
 close_is_near d between before after c words i j are from inside order =
     ap₂ (λ (ws : List ℕ) b. nat_lt (distance 32 (get_or ws i 0) (get_or ws j 0)) (if b then d else between)) (sym are)
     (same_class before after c i j from inside order)
 
 -- the same where the class is told by its place
 pub row_same : (d between : ℕ) (vs : List (Vec ℕ Global)) (k : ℕ) (v : Vec ℕ Global) (words : List ℕ) → k < length vs
-    → words ≡ all_words (word_lists vs)
-    → (i j : ℕ) → length (all_words (word_lists (take k vs))) ≤ i
-    → i < length (all_words (word_lists (take k vs))) + length (get_or vs k v).items → i < j
+    → words ≡ words_of_classes (word_lists vs)
+    → (i j : ℕ) → length (words_of_classes (word_lists (take k vs))) ≤ i
+    → i < length (words_of_classes (word_lists (take k vs))) + length (get_or vs k v).items → i < j
     → is_close 32 d between (word_lists vs) i j
-    ≡ is_near words (length (all_words (word_lists (take k vs))) + length (get_or vs k v).items) d between i j
+    ≡ is_near words (length (words_of_classes (word_lists (take k vs))) + length (get_or vs k v).items) d between i j
 row_same d between vs k v words within are i j from inside order =
     ap (λ ls. is_close 32 d between ls i j) (lists_split vs k v within)
     ∙ close_is_near d between (word_lists (take k vs)) (word_lists (drop (k + 1) vs)) (get_or vs k v).items words i j
-    (are ∙ ap all_words (lists_split vs k v within)) from inside order
+    (are ∙ ap words_of_classes (lists_split vs k v within)) from inside order

@@ -11,7 +11,7 @@ use Rattle.ct_words.specs.Word.{distance}
 use Rattle.ct_words.specs.PairProducts.{all_places}
 use Rattle.ct_codes.specs.Pairs.{least_pair, IsLeastPair}
 use Rattle.ct_codes.proofs.PairLemmas.{least_pair-at, IsLeastPair-from, NoPair-from}
-use Rattle.ct_partitions.specs.Partition.{word_lists, all_words}
+use Rattle.ct_partitions.specs.Partition.{word_lists, words_of_classes}
 use Rattle.ct_partitions.specs.Check.{is_close, class_at}
 use Rattle.ct_partitions.specs.Inside.Rows.{NotAfter, IsLesser}
 use Rattle.ct_partitions.proofs.ClassLemmas.{lists_split, words_up_to, row_same}
@@ -116,24 +116,24 @@ item_left (a ∷ xs) ys zero h = refl
 item_left (a ∷ xs) ys (suc x) h = item_left xs ys x (omega arith)
 
 -- a word of a class among all words
-pub word_of_class : (vs : List (Vec ℕ Global)) (k : ℕ) (v : Vec ℕ Global) (words : List ℕ) → k < length vs → words ≡ all_words (word_lists vs)
+pub word_of_class : (vs : List (Vec ℕ Global)) (k : ℕ) (v : Vec ℕ Global) (words : List ℕ) → k < length vs → words ≡ words_of_classes (word_lists vs)
     → (x : ℕ) → x < length (get_or vs k v).items
-    → get_or words (length (all_words (word_lists (take k vs))) + x) 0 ≡ get_or (get_or vs k v).items x 0
+    → get_or words (length (words_of_classes (word_lists (take k vs))) + x) 0 ≡ get_or (get_or vs k v).items x 0
 word_of_class vs k v words within are x inside =
     let before = word_lists (take k vs) in
     let after = word_lists (drop (k + 1) vs) in
     let class = (get_or vs k v).items in
-    ap (λ (ws : List ℕ). get_or ws (length (all_words before) + x) 0)
-    (are ∙ ap all_words (lists_split vs k v within) ∙ flat_map-append (λ (c : List ℕ). c) before (class ∷ after))
-    ∙ get_or-append-add (all_words before) (class ++ all_words after) x 0 ∙ item_left class (all_words after) x inside
+    ap (λ (ws : List ℕ). get_or ws (length (words_of_classes before) + x) 0)
+    (are ∙ ap words_of_classes (lists_split vs k v within) ∙ flat_map-append (λ (c : List ℕ). c) before (class ∷ after))
+    ∙ get_or-append-add (words_of_classes before) (class ++ words_of_classes after) x 0 ∙ item_left class (words_of_classes after) x inside
 
 -- words closer than the least need are closer than they need to be
-pub close_between : (d between : ℕ) (classes : List (List ℕ)) (words : List ℕ) → words ≡ all_words classes → between ≤ d
+pub close_between : (d between : ℕ) (classes : List (List ℕ)) (words : List ℕ) → words ≡ words_of_classes classes → between ≤ d
     → (k m : ℕ) → at_places (λ x y. nat_lt (distance 32 x y) between) words k m ≡ true → is_close 32 d between classes k m ≡ true
 close_between d between classes words are nearer k m passes = go (class_at classes k == class_at classes m)
   where
     apart : ℕ
-    apart = distance 32 (get_or (all_words classes) k 0) (get_or (all_words classes) m 0)
+    apart = distance 32 (get_or (words_of_classes classes) k 0) (get_or (words_of_classes classes) m 0)
 
     here : nat_lt apart between ≡ true
     here = ap (λ (ws : List ℕ). nat_lt (distance 32 (get_or ws k 0) (get_or ws m 0)) between) (sym are) ∙ passes
@@ -144,15 +144,15 @@ close_between d between classes words are nearer k m passes = go (class_at class
 
 -- words of a class and later ones that are closer than they need to be
 pub close_from_class : (d between : ℕ) (vs : List (Vec ℕ Global)) (c : ℕ) (v : Vec ℕ Global) (words : List ℕ) → c < length vs
-    → words ≡ all_words (word_lists vs)
-    → (k m : ℕ) → length (all_words (word_lists (take c vs))) ≤ k
-    → k < length (all_words (word_lists (take c vs))) + length (get_or vs c v).items → k < m → is_close 32 d between (word_lists vs) k m ≡ true
+    → words ≡ words_of_classes (word_lists vs)
+    → (k m : ℕ) → length (words_of_classes (word_lists (take c vs))) ≤ k
+    → k < length (words_of_classes (word_lists (take c vs))) + length (get_or vs c v).items → k < m → is_close 32 d between (word_lists vs) k m ≡ true
     → (at_places (λ x y. nat_lt (distance 32 x y) between) words k m ≡ true)
-    ⊎ ((m < length (all_words (word_lists (take c vs))) + length (get_or vs c v).items)
-    × (at_places (λ x y. nat_lt (distance 32 x y) d) (get_or vs c v).items (k - length (all_words (word_lists (take c vs))))
-    (m - length (all_words (word_lists (take c vs)))) ≡ true))
+    ⊎ ((m < length (words_of_classes (word_lists (take c vs))) + length (get_or vs c v).items)
+    × (at_places (λ x y. nat_lt (distance 32 x y) d) (get_or vs c v).items (k - length (words_of_classes (word_lists (take c vs))))
+    (m - length (words_of_classes (word_lists (take c vs)))) ≡ true))
 close_from_class d between vs c v words within are k m from inside order closer =
-    let start = length (all_words (word_lists (take c vs))) in
+    let start = length (words_of_classes (word_lists (take c vs))) in
     let end = start + length (get_or vs c v).items in
     let apart = distance 32 (get_or words k 0) (get_or words m 0) in
     let near = sym (row_same d between vs c v words within are k m from inside order) ∙ closer in
@@ -171,25 +171,25 @@ close_from_class d between vs c v words within are k m from inside order closer 
     ]
 
 -- words of length 32 are so in each class
-pub class_fits : (vs : List (Vec ℕ Global)) (c : ℕ) (v : Vec ℕ Global) (words : List ℕ) → c < length vs → words ≡ all_words (word_lists vs)
+pub class_fits : (vs : List (Vec ℕ Global)) (c : ℕ) (v : Vec ℕ Global) (words : List ℕ) → c < length vs → words ≡ words_of_classes (word_lists vs)
     → All (λ x. x < 2 ^ 32) words → All (λ x. x < 2 ^ 32) (get_or vs c v).items
 class_fits vs c v words within are fits =
     All-from_get_or (λ (x : ℕ). x < 2 ^ 32) (get_or vs c v).items 0 (λ x inside.
     let most = words_up_to vs c v within in
     let all = ap length are in
     subst (λ (z : ℕ). z < 2 ^ 32) (word_of_class vs c v words within are x inside)
-    (fits (length (all_words (word_lists (take c vs))) + x) 0 (omega arith)))
+    (fits (length (words_of_classes (word_lists (take c vs))) + x) 0 (omega arith)))
 
 -- where the words before a class that are too close to a later one pass a test, so do those up to its end, if no two of its words are closer than d
 pub class_passed : (d between : ℕ) (vs : List (Vec ℕ Global)) (c : ℕ) (v : Vec ℕ Global) (words : List ℕ) → c < length vs
-    → words ≡ all_words (word_lists vs)
-    → ((k m : ℕ) → k < length (all_words (word_lists (take c vs))) → k < m → m < length words → is_close 32 d between (word_lists vs) k m ≡ true
+    → words ≡ words_of_classes (word_lists vs)
+    → ((k m : ℕ) → k < length (words_of_classes (word_lists (take c vs))) → k < m → m < length words → is_close 32 d between (word_lists vs) k m ≡ true
     → at_places (λ x y. nat_lt (distance 32 x y) between) words k m ≡ true)
     → least_pair (λ x y. nat_lt (distance 32 x y) d) (get_or vs c v).items ≡ None
-    → (k m : ℕ) → k < length (all_words (word_lists (take c vs))) + length (get_or vs c v).items → k < m → m < length words
+    → (k m : ℕ) → k < length (words_of_classes (word_lists (take c vs))) + length (get_or vs c v).items → k < m → m < length words
     → is_close 32 d between (word_lists vs) k m ≡ true → at_places (λ x y. nat_lt (distance 32 x y) between) words k m ≡ true
 class_passed d between vs c v words within are only none k m sooner order below closer =
-    let start = length (all_words (word_lists (take c vs))) in
+    let start = length (words_of_classes (word_lists (take c vs))) in
     elim (cases_lt k start) [
       | inl early ↦ only k m early order below closer
       | inr late ↦ elim (close_from_class d between vs c v words within are k m late sooner order closer) [
@@ -203,10 +203,10 @@ class_passed d between vs c v words within are only none k m sooner order below 
 
 -- the least pair of a class that is closer than d is too close
 pub class_close : (d between : ℕ) (vs : List (Vec ℕ Global)) (c : ℕ) (v : Vec ℕ Global) (words : List ℕ) → c < length vs
-    → words ≡ all_words (word_lists vs) → (i j : ℕ) → IsLeastPair (λ x y. nat_lt (distance 32 x y) d) (get_or vs c v).items i j
-    → is_close 32 d between (word_lists vs) (length (all_words (word_lists (take c vs))) + i) (length (all_words (word_lists (take c vs))) + j) ≡ true
+    → words ≡ words_of_classes (word_lists vs) → (i j : ℕ) → IsLeastPair (λ x y. nat_lt (distance 32 x y) d) (get_or vs c v).items i j
+    → is_close 32 d between (word_lists vs) (length (words_of_classes (word_lists (take c vs))) + i) (length (words_of_classes (word_lists (take c vs))) + j) ≡ true
 class_close d between vs c v words within are i j least =
-    let start = length (all_words (word_lists (take c vs))) in
+    let start = length (words_of_classes (word_lists (take c vs))) in
     let end = start + length (get_or vs c v).items in
     let order_is = least.order in
     let within_is = least.within in
@@ -218,12 +218,12 @@ class_close d between vs c v words within are i j least =
 
 -- and words that are too close pass the test, or do not come before that pair
 pub class_covered : (d between : ℕ) (vs : List (Vec ℕ Global)) (c : ℕ) (v : Vec ℕ Global) (words : List ℕ) → c < length vs
-    → words ≡ all_words (word_lists vs) → (i j : ℕ) → IsLeastPair (λ x y. nat_lt (distance 32 x y) d) (get_or vs c v).items i j
-    → ((k m : ℕ) → k < length (all_words (word_lists (take c vs))) → k < m → m < length words → is_close 32 d between (word_lists vs) k m ≡ true
+    → words ≡ words_of_classes (word_lists vs) → (i j : ℕ) → IsLeastPair (λ x y. nat_lt (distance 32 x y) d) (get_or vs c v).items i j
+    → ((k m : ℕ) → k < length (words_of_classes (word_lists (take c vs))) → k < m → m < length words → is_close 32 d between (word_lists vs) k m ≡ true
     → at_places (λ x y. nat_lt (distance 32 x y) between) words k m ≡ true)
     → (k m : ℕ) → k < m → m < length words → is_close 32 d between (word_lists vs) k m ≡ true
     → (at_places (λ x y. nat_lt (distance 32 x y) between) words k m ≡ true)
-    ⊎ NotAfter (length (all_words (word_lists (take c vs))) + i, length (all_words (word_lists (take c vs))) + j) (k, m)
+    ⊎ NotAfter (length (words_of_classes (word_lists (take c vs))) + i, length (words_of_classes (word_lists (take c vs))) + j) (k, m)
 class_covered d between vs c v words within are i j least only k m order below closer =
     elim (cases_lt k start) [
       | inl early ↦ inl (only k m early order below closer)
@@ -240,7 +240,7 @@ class_covered d between vs c v words within are i j least only k m order below c
     ]
   where
     start : ℕ
-    start = length (all_words (word_lists (take c vs)))
+    start = length (words_of_classes (word_lists (take c vs)))
 
     end : ℕ
     end = start + length (get_or vs c v).items

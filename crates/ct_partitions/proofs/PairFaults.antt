@@ -11,7 +11,7 @@ use Rattle.ct_codes.specs.Pairs.{first_of, least_pair}
 use Rattle.ct_codes.proofs.PairLemmas.{least_pair-none, NoPair-from}
 use Rattle.ct_codes.proofs.CheckLemmas.{equal_is_close}
 use Rattle.ct_partitions.specs.declared.fault.PartitionFault.TheVariants.{Repeated, Close}
-use Rattle.ct_partitions.specs.Partition.{all_words}
+use Rattle.ct_partitions.specs.Partition.{words_of_classes}
 use Rattle.ct_partitions.specs.Check.{class_at, need, distance_at, is_close, repeated_fault, close_fault}
 
 -- what two places need is at least the distance between classes
@@ -24,10 +24,10 @@ between-le-need d between classes i j nearer = go (class_at classes i == class_a
 
 -- where no pair is too close, each pair has what it needs
 pub needs_from_none : (n d between : ℕ) (classes : List (List ℕ))
-    → least_pair (is_close n d between classes) (all_places (length (all_words classes))) ≡ None
-    → (i j : ℕ) → i < j → j < length (all_words classes) → need d between classes i j ≤ distance_at n classes i j
+    → least_pair (is_close n d between classes) (all_places (length (words_of_classes classes))) ≡ None
+    → (i j : ℕ) → i < j → j < length (words_of_classes classes) → need d between classes i j ≤ distance_at n classes i j
 needs_from_none n d between classes none i j order within =
-    let total = length (all_words classes) in
+    let total = length (words_of_classes classes) in
     let long = length-tabulate (λ p. p) total in
     let fails = NoPair-from (is_close n d between classes) (all_places total) none i j order (omega arith) in
     let here = ap₂ (is_close n d between classes) (get_or-tabulate (λ p. p) total i (omega arith)) (get_or-tabulate
@@ -36,10 +36,10 @@ needs_from_none n d between classes none i j order within =
 
 -- then no two words are equal
 pub different_from_needs : (n d between : ℕ) (classes : List (List ℕ)) → 1 ≤ between → between ≤ d
-    → ((i j : ℕ) → i < j → j < length (all_words classes) → need d between classes i j ≤ distance_at n classes i j)
-    → least_pair (λ x y. x == y) (all_words classes) ≡ None
+    → ((i j : ℕ) → i < j → j < length (words_of_classes classes) → need d between classes i j ≤ distance_at n classes i j)
+    → least_pair (λ x y. x == y) (words_of_classes classes) ≡ None
 different_from_needs n d between classes some nearer needs =
-    let words = all_words classes in
+    let words = words_of_classes classes in
     least_pair-none (λ x y. x == y) words (λ i j order within.
     ne_eqb (get_or words i 0) (get_or words j 0) (λ same.
     let zero_is : distance n (get_or words i 0) (get_or words j 0) ≡ 0 =
@@ -48,11 +48,11 @@ different_from_needs n d between classes some nearer needs =
     let least = between-le-need d between classes i j nearer in
     absurd (omega arith)))
 
-pub no_pair_fault : (n d between : ℕ) (classes : List (List ℕ)) (words : List ℕ) → words ≡ all_words classes → 1 ≤ between → between ≤ d
+pub no_pair_fault : (n d between : ℕ) (classes : List (List ℕ)) (words : List ℕ) → words ≡ words_of_classes classes → 1 ≤ between → between ≤ d
     → least_pair (is_close n d between classes) (all_places (length words)) ≡ None
     → first_of (repeated_fault words) (close_fault n d between classes) ≡ None
 no_pair_fault n d between classes words are some nearer none =
-    let there : least_pair (is_close n d between classes) (all_places (length (all_words classes))) ≡ None =
+    let there : least_pair (is_close n d between classes) (all_places (length (words_of_classes classes))) ≡ None =
     ap (λ (ws : List ℕ). least_pair (is_close n d between classes) (all_places (length ws))) (sym are) ∙ none in
     let equal = ap (λ (ws : List ℕ). least_pair (λ x y. x == y) ws) are
     ∙ different_from_needs n d between classes some nearer (needs_from_none n d between classes there) in
@@ -66,14 +66,14 @@ repeated_pair_fault n d between classes words i j below found = rw (equal_is_clo
 
 -- and then the least pair that is too close
 pub close_pair_fault : (n d between : ℕ) (classes : List (List ℕ)) (words : List ℕ) (i j apart first second needed : ℕ)
-    → words ≡ all_words classes
+    → words ≡ words_of_classes classes
     → All (λ x. x < 2 ^ n) words → least_pair (λ x y. nat_lt (distance n x y) 1) words ≡ None
     → least_pair (is_close n d between classes) (all_places (length words)) ≡ Some (i, j)
     → apart ≡ distance n (get_or words i 0) (get_or words j 0) → first ≡ class_at classes i → second ≡ class_at classes j
     → needed ≡ need d between classes i j
     → Some (Close i j apart first second needed) ≡ first_of (repeated_fault words) (close_fault n d between classes)
 close_pair_fault n d between classes words i j apart first second needed are below different found apart_is first_is second_is needed_is =
-    let there : least_pair (is_close n d between classes) (all_places (length (all_words classes))) ≡ Some (i, j) =
+    let there : least_pair (is_close n d between classes) (all_places (length (words_of_classes classes))) ≡ Some (i, j) =
     ap (λ (ws : List ℕ). least_pair (is_close n d between classes) (all_places (length ws))) (sym are) ∙ found in
     let far : apart ≡ distance_at n classes i j = apart_is ∙ ap (λ (ws : List ℕ). distance n (get_or ws i 0) (get_or ws j 0)) are in
     let fault : Some (Close i j apart first second needed)

@@ -17,7 +17,7 @@ use Rattle.ct_codes.proofs.CheckLemmas.{AllPairs-from_get_or, option_map-None, f
 use Rattle.ct_codes.specs.declared.fault.CodeFault.TheVariants.{Weight as Weight_of_code}
 use Rattle.ct_partitions.specs.declared.fault.TheConstants.{MAX_CLASSES}
 use Rattle.ct_partitions.specs.declared.fault.PartitionFault.TheVariants.{Size, Weight}
-use Rattle.ct_partitions.specs.Partition.{all_words, IsPartition, IsSoundPartition}
+use Rattle.ct_partitions.specs.Partition.{words_of_classes, IsPartition, IsSoundPartition}
 use Rattle.ct_partitions.specs.Check.{class_at, counted, need, distance_at, is_close, wrong_count, size_fault, weight_fault, repeated_fault, close_fault, partition_fault}
 use Rattle.ct_partitions.proofs.PairFaults.{between-le-need, needs_from_none, different_from_needs}
 
@@ -30,7 +30,7 @@ suc_eqb a b = elim (cases_eq a b) [
 
 -- each two places have the distance that they need
 abbrev pub HasNeeds : ℕ → ℕ → ℕ → List (List ℕ) → Type 0
-HasNeeds n d between classes = (i j : ℕ) → i < j → j < length (all_words classes) → need d between classes i j ≤ distance_at n classes i j
+HasNeeds n d between classes = (i j : ℕ) → i < j → j < length (words_of_classes classes) → need d between classes i j ≤ distance_at n classes i j
 
 -- the first class has distance d, its words and the others distance between, and the others have what they need
 first_class : (c : List ℕ) (cs : List (List ℕ)) (i : ℕ) → i < length c → class_at (c ∷ cs) i ≡ 0
@@ -45,22 +45,22 @@ later_class c cs i =
 needs_of_first : (n d between : ℕ) (c : List ℕ) (cs : List (List ℕ)) → HasNeeds n d between (c ∷ cs)
     → AllPairs (λ x y. d ≤ distance n x y) c
 needs_of_first n d between c cs needs = AllPairs-from_get_or (λ x y. d ≤ distance n x y) c (λ i j order within.
-    let whole = length-append c (all_words cs) in
+    let whole = length-append c (words_of_classes cs) in
     let here = needs i j order (omega arith) in
     let one = ap (λ b. if b then d else between) (eq-eqb (class_at (c ∷ cs) i) (class_at (c ∷ cs) j) (first_class c cs i
     (lt_trans order within) ∙ sym (first_class c cs j within))) in
-    let far = ap₂ (distance n) (get_or_append_left c (all_words cs) 0 i (lt_trans order within)) (get_or_append_left c
-    (all_words cs) 0 j within) in
+    let far = ap₂ (distance n) (get_or_append_left c (words_of_classes cs) 0 i (lt_trans order within)) (get_or_append_left c
+    (words_of_classes cs) 0 j within) in
     omega arith)
 
 needs_of_rest : (n d between : ℕ) (c : List ℕ) (cs : List (List ℕ)) → HasNeeds n d between (c ∷ cs) → HasNeeds n d between cs
 needs_of_rest n d between c cs needs i j order within =
-    let whole = length-append c (all_words cs) in
+    let whole = length-append c (words_of_classes cs) in
     let here = needs (length c + i) (length c + j) (omega arith) (omega arith) in
     let same : need d between (c ∷ cs) (length c + i) (length c + j) ≡ need d between cs i j =
     ap₂ (λ a b. if a == b then d else between) (later_class c cs i) (later_class c cs j)
     ∙ ap (λ b. if b then d else between) (suc_eqb (class_at cs i) (class_at cs j)) in
-    let far = ap₂ (distance n) (get_or-append-add c (all_words cs) i 0) (get_or-append-add c (all_words cs) j 0) in
+    let far = ap₂ (distance n) (get_or-append-add c (words_of_classes cs) i 0) (get_or-append-add c (words_of_classes cs) j 0) in
     omega arith
 
 -- so each class has distance d
@@ -72,35 +72,35 @@ classes_from_needs n d between (c ∷ cs) needs =
     (classes_from_needs n d between cs (needs_of_rest n d between c cs needs))
 
 -- what holds of all words holds of those of each class
-All-classes : (P : ℕ → Type 0) (classes : List (List ℕ)) → All P (all_words classes) → All (All P) classes
+All-classes : (P : ℕ → Type 0) (classes : List (List ℕ)) → All P (words_of_classes classes) → All (All P) classes
 All-classes P [] each = All-nil (All P)
 All-classes P (c ∷ cs) each =
-    let whole = length-append c (all_words cs) in
+    let whole = length-append c (words_of_classes cs) in
     All-cons (All P) c cs
-    (λ i z within. subst P (get_or_append_left c (all_words cs) z i within) (each i z (omega arith)))
-    (All-classes P cs (λ i z within. subst P (get_or-append-add c (all_words cs) i z) (each (length c + i) z (omega arith))))
+    (λ i z within. subst P (get_or_append_left c (words_of_classes cs) z i within) (each i z (omega arith)))
+    (All-classes P cs (λ i z within. subst P (get_or-append-add c (words_of_classes cs) i z) (each (length c + i) z (omega arith))))
 
-pairs_of_classes : (R : ℕ → ℕ → Type 0) (classes : List (List ℕ)) → AllPairs R (all_words classes) → All (AllPairs R) classes
+pairs_of_classes : (R : ℕ → ℕ → Type 0) (classes : List (List ℕ)) → AllPairs R (words_of_classes classes) → All (AllPairs R) classes
 pairs_of_classes R [] each = All-nil (AllPairs R)
 pairs_of_classes R (c ∷ cs) each =
-    let whole = length-append c (all_words cs) in
+    let whole = length-append c (words_of_classes cs) in
     All-cons (AllPairs R) c cs
     (λ i j z order within.
-    subst (λ y. R (get_or c i z) y) (get_or_append_left c (all_words cs) z j within)
-    (subst (λ x. R x (get_or (c ++ all_words cs) j z)) (get_or_append_left c (all_words cs) z i (lt_trans order within))
+    subst (λ y. R (get_or c i z) y) (get_or_append_left c (words_of_classes cs) z j within)
+    (subst (λ x. R x (get_or (c ++ words_of_classes cs) j z)) (get_or_append_left c (words_of_classes cs) z i (lt_trans order within))
     (each i j z order (omega arith))))
     (pairs_of_classes R cs (λ i j z order within.
-    subst (λ y. R (get_or (all_words cs) i z) y) (get_or-append-add c (all_words cs) j z)
-    (subst (λ x. R x (get_or (c ++ all_words cs) (length c + j) z)) (get_or-append-add c (all_words cs) i z)
+    subst (λ y. R (get_or (words_of_classes cs) i z) y) (get_or-append-add c (words_of_classes cs) j z)
+    (subst (λ x. R x (get_or (c ++ words_of_classes cs) (length c + j) z)) (get_or-append-add c (words_of_classes cs) i z)
     (each (length c + i) (length c + j) z (omega arith) (omega arith)))))
 
 -- lists of words that have what they need are a partition
 pub partition_from_needs : (n d : ℕ) (w : Option ℕ) (between : ℕ) (classes : List (List ℕ)) → 1 ≤ between → between ≤ d
-    → All (λ x. x < 2 ^ n) (all_words classes) → IfSome w (λ k. All (λ x. weight n x ≡ k)
-    (all_words classes)) → HasNeeds n d between classes
+    → All (λ x. x < 2 ^ n) (words_of_classes classes) → IfSome w (λ k. All (λ x. weight n x ≡ k)
+    (words_of_classes classes)) → HasNeeds n d between classes
     → IsPartition n d w between classes
 partition_from_needs n d w between classes some nearer below weights needs =
-    let words = all_words classes in
+    let words = words_of_classes classes in
     let none = NoPair-from (λ x y. x == y) words (different_from_needs n d between classes some nearer needs) in
     let different : AllPairs (λ x y. x ≢ y) words =
     AllPairs-from_get_or (λ x y. x ≢ y) words (λ i j order within. eqb-false (get_or words i 0) (get_or words j 0)
@@ -118,12 +118,12 @@ partition_from_needs n d w between classes some nearer below weights needs =
       };
     }
   where
-    each_weight : (v : Option ℕ) → IfSome v (λ k. All (λ x. weight n x ≡ k) (all_words classes))
+    each_weight : (v : Option ℕ) → IfSome v (λ k. All (λ x. weight n x ≡ k) (words_of_classes classes))
         → All (λ c. IfSome v (λ k. All (λ x. weight n x ≡ k) c)) classes
     each_weight None h = λ k z l. tt
     each_weight (Some k) h = All-classes (λ x. weight n x ≡ k) classes h
 
-    codes : (cs : List (List ℕ)) → All (λ x. x < 2 ^ n) (all_words cs) → AllPairs (λ x y. x ≢ y) (all_words cs)
+    codes : (cs : List (List ℕ)) → All (λ x. x < 2 ^ n) (words_of_classes cs) → AllPairs (λ x y. x ≢ y) (words_of_classes cs)
         → All (λ c. AllPairs (λ x y. d ≤ distance n x y) c) cs → All (λ c. IfSome w (λ k. All (λ x. weight n x ≡ k) c)) cs → All
         (IsCode n d w) cs
     codes cs below different apart weighted = λ k z within. record {
@@ -138,17 +138,17 @@ pub needs_of_partition : (n d : ℕ) (w : Option ℕ) (between : ℕ) (classes :
     → HasNeeds n d between classes
 needs_of_partition n d w between classes is = go classes is.classes_are_codes is.union_is_code.apart
   where
-    go : (cs : List (List ℕ)) → All (IsCode n d w) cs → AllPairs (λ x y. between ≤ distance n x y) (all_words cs) → HasNeeds n d between cs
+    go : (cs : List (List ℕ)) → All (IsCode n d w) cs → AllPairs (λ x y. between ≤ distance n x y) (words_of_classes cs) → HasNeeds n d between cs
     go [] codes apart i j order within = absurd (omega arith)
     go (c ∷ cs) codes apart i j order within =
-        let whole = length-append c (all_words cs) in
+        let whole = length-append c (words_of_classes cs) in
         elim (cases_lt j (length c)) [
           | inl inside ↦
               let here = (All-head (IsCode n d w) c cs codes).apart i j 0 order inside in
               let one = ap (λ b. if b then d else between) (eq-eqb (class_at (c ∷ cs) i) (class_at (c ∷ cs) j) (first_class c cs i
               (lt_trans order inside) ∙ sym (first_class c cs j inside))) in
-              let far = ap₂ (distance n) (get_or_append_left c (all_words cs) 0 i (lt_trans order inside)) (get_or_append_left c
-              (all_words cs) 0 j inside) in
+              let far = ap₂ (distance n) (get_or_append_left c (words_of_classes cs) 0 i (lt_trans order inside)) (get_or_append_left c
+              (words_of_classes cs) 0 j inside) in
               omega arith
           | inr beyond ↦ elim (cases_lt i (length c)) [
             | inl first ↦
@@ -162,16 +162,16 @@ needs_of_partition n d w between classes is = go classes is.classes_are_codes is
                 let at_i : length c + (i - length c) ≡ i = omega arith in
                 let at_j : length c + (j - length c) ≡ j = omega arith in
                 let rest = go cs (All-tail (IsCode n d w) c cs codes)
-                (λ k m z o l. subst (λ y. between ≤ distance n (get_or (all_words cs) k z) y) (get_or-append-add c (all_words cs) m z)
-                (subst (λ x. between ≤ distance n x (get_or (c ++ all_words cs) (length c + m) z)) (get_or-append-add c (all_words cs) k z)
+                (λ k m z o l. subst (λ y. between ≤ distance n (get_or (words_of_classes cs) k z) y) (get_or-append-add c (words_of_classes cs) m z)
+                (subst (λ x. between ≤ distance n x (get_or (c ++ words_of_classes cs) (length c + m) z)) (get_or-append-add c (words_of_classes cs) k z)
                 (apart (length c + k) (length c + m) z (omega arith) (omega arith)))) (i - length c) (j - length c) (omega arith)
                 (omega arith) in
                 let same : need d between (c ∷ cs) i j ≡ need d between cs (i - length c) (j - length c) =
                 ap₂ (λ a b. if class_at (c ∷ cs) a == class_at (c ∷ cs) b then d else between) (sym at_i) (sym at_j)
                 ∙ ap₂ (λ a b. if a == b then d else between) (later_class c cs (i - length c)) (later_class c cs (j - length c))
                 ∙ ap (λ b. if b then d else between) (suc_eqb (class_at cs (i - length c)) (class_at cs (j - length c))) in
-                let far = ap₂ (λ a b. distance n (get_or (c ++ all_words cs) a 0) (get_or (c ++ all_words cs) b 0)) (sym at_i) (sym at_j)
-                ∙ ap₂ (distance n) (get_or-append-add c (all_words cs) (i - length c) 0) (get_or-append-add c (all_words cs)
+                let far = ap₂ (λ a b. distance n (get_or (c ++ words_of_classes cs) a 0) (get_or (c ++ words_of_classes cs) b 0)) (sym at_i) (sym at_j)
+                ∙ ap₂ (distance n) (get_or-append-add c (words_of_classes cs) (i - length c) 0) (get_or-append-add c (words_of_classes cs)
                 (j - length c) 0) in
                 omega arith
           ]
@@ -196,22 +196,22 @@ none_empty_from (c ∷ cs) each =
 pub record HasSizes (classes : List (List ℕ)) : Type 0 where
   pub class_count : (1 ≤ length classes) × (length classes ≤ MAX_CLASSES)
   pub no_empty_class : All (λ c. 1 ≤ length c) classes
-  pub few_words : length (all_words classes) ≤ MAX_WORDS
+  pub few_words : length (words_of_classes classes) ≤ MAX_WORDS
 
 size-none : (classes : List (List ℕ)) → size_fault classes ≡ None → HasSizes classes
 size-none classes e = elim (cases_Bool (length classes == 0 || nat_lt MAX_CLASSES (length classes))) [
   | inl out ↦ let fault : size_fault classes ≡ Some (Size (length classes)) = rw out refl in cc
   | inr within ↦ elim (cases_Bool (list_any (λ c. length c == 0) classes)) [
     | inl empty ↦ let fault : size_fault classes ≡ Some (Size 0) = rw (within, empty) refl in cc
-    | inr full ↦ elim (cases_Bool (nat_lt MAX_WORDS (length (all_words classes)))) [
-      | inl many ↦ let fault : size_fault classes ≡ Some (Size (counted (length (all_words classes)))) = rw (within, full, many) refl in cc
+    | inr full ↦ elim (cases_Bool (nat_lt MAX_WORDS (length (words_of_classes classes)))) [
+      | inl many ↦ let fault : size_fault classes ≡ Some (Size (counted (length (words_of_classes classes)))) = rw (within, full, many) refl in cc
       | inr few ↦
           let parts = or_parts (length classes == 0) (nat_lt MAX_CLASSES (length classes)) within in
           let some = eqb-false (length classes) 0 parts.0 in
           record {
             class_count = (omega arith, ltb-false MAX_CLASSES (length classes) parts.1);
             no_empty_class = none_empty classes full;
-            few_words = ltb-false MAX_WORDS (length (all_words classes)) few;
+            few_words = ltb-false MAX_WORDS (length (words_of_classes classes)) few;
           }
     ]
   ]
@@ -228,7 +228,7 @@ size_none_from classes sizes =
       or_from (length classes == 0) (nat_lt MAX_CLASSES (length classes)) (ne_eqb (length classes) 0 (λ e. omega arith))
           (le-ltb MAX_CLASSES (length classes) sizes.class_count.1),
       none_empty_from classes sizes.no_empty_class,
-      le-ltb MAX_WORDS (length (all_words classes)) sizes.few_words,
+      le-ltb MAX_WORDS (length (words_of_classes classes)) sizes.few_words,
     ) refl
 
 -- each word has the weight, where one is given
@@ -249,11 +249,11 @@ weights_none_from n (Some w) words each = go (position (λ x. not (weight n x ==
 
 -- lists without a fault are the classes of a partition, within the limits
 pub partition_from_no_fault : (e : Entry) (between : ℕ) (classes : List (List ℕ)) → 1 ≤ between → between ≤ e.d
-    → All (λ x. x < 2 ^ e.n) (all_words classes) → partition_fault e between classes ≡ None
+    → All (λ x. x < 2 ^ e.n) (words_of_classes classes) → partition_fault e between classes ≡ None
     → HasSizes classes × IsPartition e.n e.d e.w between classes
 unfolding partition_fault
 partition_from_no_fault e between classes some nearer below no_fault =
-    let words = all_words classes in
+    let words = words_of_classes classes in
     let first = first_of-None (size_fault classes) _ no_fault in
     let second = first_of-None (weight_fault e.n e.w words) _ first.1 in
     let third = first_of-None (repeated_fault words) (close_fault e.n e.d between classes) second.1 in
@@ -268,7 +268,7 @@ pub no_fault_of_partition : (e : Entry) (between : ℕ) (classes : List (List �
     → IsPartition e.n e.d e.w between classes → partition_fault e between classes ≡ None
 unfolding partition_fault
 no_fault_of_partition e between classes some nearer sizes is =
-    let words = all_words classes in
+    let words = words_of_classes classes in
     let total = length words in
     let needs = needs_of_partition e.n e.d e.w between classes is in
     let long = length-tabulate (λ p. p) total in
@@ -280,7 +280,7 @@ no_fault_of_partition e between classes some nearer sizes is =
 
 -- so what is accepted is a partition
 pub sound_from_check : (e : Entry) (between : ℕ) (classes : List (List ℕ)) → IsEntry e → 1 ≤ between → between ≤ e.d
-    → All (λ x. x < 2 ^ e.n) (all_words classes) → partition_fault e between classes ≡ None
+    → All (λ x. x < 2 ^ e.n) (words_of_classes classes) → partition_fault e between classes ≡ None
     → IsSoundPartition (record { entry = e; between = between; classes = classes })
 sound_from_check e between classes entry some nearer below no_fault =
     let whole = partition_from_no_fault e between classes some nearer below no_fault in

@@ -17,7 +17,7 @@ use Rattle.ct_codes.specs.Constructions.Joined.{followed_by}
 use Rattle.ct_codes.specs.Constructions.Juxtaposed.{added_weights}
 use Rattle.ct_codes.proofs.Constructions.JoinedLemmas.{followed_by-lt, weight-followed_by, distance-followed_by}
 use Rattle.ct_codes.proofs.Constructions.FarWords.{AreFar, code_from_far}
-use Rattle.ct_partitions.specs.Partition.{all_words, IsPartition}
+use Rattle.ct_partitions.specs.Partition.{words_of_classes, IsPartition}
 use Rattle.ct_partitions.specs.Product.{Factors, all_followed, class_products, product, weight_of, pair_distance, weight_gap, distances, least, product_size, product_distance, AreFactors}
 
 -- what holds of two lists in a row holds of each
@@ -47,12 +47,12 @@ All-followed P Q R m joined (x ∷ xs) ys first second =
     (All-followed P Q R m joined xs ys (All-tail P x xs first) second)
 
 All-classes : (P Q R : ℕ → Type 0) (m : ℕ) → ((x y : ℕ) → P x → Q y → R (followed_by m x y)) → (cs ds : List (List ℕ))
-    → All P (all_words cs) → All Q (all_words ds) → All R (class_products m cs ds)
+    → All P (words_of_classes cs) → All Q (words_of_classes ds) → All R (class_products m cs ds)
 All-classes P Q R m joined [] ds first second = All-nil R
 All-classes P Q R m joined (c ∷ cs) [] first second = All-nil R
 All-classes P Q R m joined (c ∷ cs) (e ∷ es) first second =
-    let one = All-parts P c (all_words cs) first in
-    let two = All-parts Q e (all_words es) second in
+    let one = All-parts P c (words_of_classes cs) first in
+    let two = All-parts Q e (words_of_classes es) second in
     All-append R (all_followed m c e) (class_products m cs es) (All-followed P Q R m joined c e one.0 two.0)
     (All-classes P Q R m joined cs es one.1 two.1)
 
@@ -80,20 +80,20 @@ far_followed n m d (x ∷ xs) ys below first second =
         xs ys (AllPairs-head (Far n d) x xs first) below)
 
 -- words of classes side by side
-far_classes : (n m d b e : ℕ) (cs ds : List (List ℕ)) → d ≤ b + e → All (λ y. y < 2 ^ m) (all_words ds)
-    → All (AllPairs (Far n d)) cs → All (AllPairs (Far m d)) ds → AllPairs (Far n b) (all_words cs) → AllPairs (Far m e) (all_words ds)
+far_classes : (n m d b e : ℕ) (cs ds : List (List ℕ)) → d ≤ b + e → All (λ y. y < 2 ^ m) (words_of_classes ds)
+    → All (AllPairs (Far n d)) cs → All (AllPairs (Far m d)) ds → AllPairs (Far n b) (words_of_classes cs) → AllPairs (Far m e) (words_of_classes ds)
     → AllPairs (Far (n + m) d) (class_products m cs ds)
 far_classes n m d b e [] ds near below first second firsts seconds = λ i j z order within. absurd (omega arith)
 far_classes n m d b e (c ∷ cs) [] near below first second firsts seconds = λ i j z order within. absurd (omega arith)
 far_classes n m d b e (c ∷ cs) (g ∷ gs) near below first second firsts seconds =
-    let belows = All-parts (λ y. y < 2 ^ m) g (all_words gs) below in
-    let one = AllPairs-parts (Far n b) c (all_words cs) firsts in
-    let two = AllPairs-parts (Far m e) g (all_words gs) seconds in
+    let belows = All-parts (λ y. y < 2 ^ m) g (words_of_classes gs) below in
+    let one = AllPairs-parts (Far n b) c (words_of_classes cs) firsts in
+    let two = AllPairs-parts (Far m e) g (words_of_classes gs) seconds in
     AllPairs-append (Far (n + m) d) (all_followed m c g) (class_products m cs gs)
     (far_followed n m d c g belows.0 (All-head (AllPairs (Far n d)) c cs first) (All-head (AllPairs (Far m d)) g gs second))
     (far_classes n m d b e cs gs near belows.1 (All-tail (AllPairs (Far n d)) c cs first) (All-tail (AllPairs
     (Far m d)) g gs second) one.1 two.1)
-    (All-followed (λ x. All (Far n b x) (all_words cs)) (λ y. (y < 2 ^ m) × All (Far m e y) (all_words gs))
+    (All-followed (λ x. All (Far n b x) (words_of_classes cs)) (λ y. (y < 2 ^ m) × All (Far m e y) (words_of_classes gs))
     (λ z. All (Far (n + m) d z) (class_products m cs gs)) m
     (λ x y far h. All-classes (Far n b x) (λ y'. (y' < 2 ^ m) × Far m e y y') (Far (n + m) d (followed_by m x y)) m
     (λ x' y' far' h'. let sum = distance-followed_by n m x y x' y' h.0 h'.0 in let more = h'.1 in omega arith)
@@ -215,12 +215,12 @@ pair-parts p v u are one two =
     (λ k z h. (
       are.first.union_is_code.lengths k z h,
       weights p.0.entry.n p.0.entry.w v
-          (all_words p.0.classes) one are.first.union_is_code.weights k z h,
+          (words_of_classes p.0.classes) one are.first.union_is_code.weights k z h,
     ))
     (λ k z h. (
       are.second.union_is_code.lengths k z h,
       weights p.1.entry.n p.1.entry.w u
-          (all_words p.1.classes) two are.second.union_is_code.weights k z h,
+          (words_of_classes p.1.classes) two are.second.union_is_code.weights k z h,
     ))
   where
     weights : (n : ℕ) (w : Option ℕ) (k : ℕ) (words : List ℕ) → w ≡ Some k → IfSome w (λ k. All (λ x. weight n x ≡ k) words)

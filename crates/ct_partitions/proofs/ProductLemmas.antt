@@ -7,8 +7,8 @@ use Rattle.std.proofs.Math.Nat.{mul-le-mul_left}
 use Rattle.std.proofs.lemmas.List.{length-map, flat_map_more, map-append, get_or-map, get_or_read, drop_more, drop_all, take_more}
 use Rattle.std.proofs.lemmas.List.Sums.{fold-append, sum_by-append, sum_by-take-le}
 use Rattle.std.proofs.lemmas.Slice.Zip.{length-zip, get_or-zip}
-use Rattle.ct_partitions.specs.Partition.{word_lists, all_words, PartitionValue, IsSoundPartition}
-use Rattle.ct_partitions.specs.Product.{Factors, all_followed, class_products, product, pair_distance, weight_gap, distances, least, product_size, product_distance, AreFactors, AreSound, no_partition, pairs_at, ArePlaces}
+use Rattle.ct_partitions.specs.Partition.{word_lists, words_of_classes, PartitionValue, IsSoundPartition}
+use Rattle.ct_partitions.specs.Product.{Factors, all_followed, class_products, product, pair_distance, weight_gap, distances, least, product_size, product_distance, AreFactors, AreSound, no_partition, pairs_at, ArePairsOfPlaces}
 use Rattle.ct_partitions.proofs.ProductCodes.{below_each, length-followed}
 use Rattle.ct_words.specs.declared.limits.TheConstants.{MAX_N}
 use Rattle.ct_codes.proofs.EntryLemmas.{entry_limits}
@@ -16,7 +16,7 @@ use Rattle.std.proofs.lemmas.List.Elements.{All-nil, All-cons, All-append, All-h
 use Rattle.ct_partitions.specs.Inside.Pairs.{no_pair, nearest_at}
 
 -- a pair of partitions that was read
-pub first_read : (parts : List PartitionValue) (pairs : List (ℕ × ℕ)) (k : ℕ) (a : PartitionValue) → ArePlaces (length parts) pairs
+pub first_read : (parts : List PartitionValue) (pairs : List (ℕ × ℕ)) (k : ℕ) (a : PartitionValue) → ArePairsOfPlaces (length parts) pairs
     → k < length pairs
     → a ≡ get_or parts (get_or pairs k (0, 0)).0 a → a ≡ (get_or (pairs_at parts pairs) k no_pair).0
 first_read parts pairs k a places within is =
@@ -25,7 +25,7 @@ first_read parts pairs k a places within is =
     (0, 0) no_pair within))
 
 pub second_read : (parts : List PartitionValue) (pairs : List (ℕ × ℕ)) (k : ℕ) (a : PartitionValue)
-    → ArePlaces (length parts) pairs → k < length pairs
+    → ArePairsOfPlaces (length parts) pairs → k < length pairs
     → a ≡ get_or parts (get_or pairs k (0, 0)).1 a → a ≡ (get_or (pairs_at parts pairs) k no_pair).1
 second_read parts pairs k a places within is =
     get_or_read parts (get_or pairs k (0, 0)).1 a (places k (0, 0) within).1 is no_partition
@@ -85,14 +85,14 @@ sizes_step cs ds k first second =
     ∙ ap (λ c. sizes (take k (zip cs ds)) + (0 + f c)) (get_or-zip cs ds k item first second) ∙ omega arith
 
 -- they add up to at most the product of the numbers of words
-sizes-le : (cs ds : List (List ℕ)) → sizes (zip cs ds) ≤ length (all_words cs) * length (all_words ds)
+sizes-le : (cs ds : List (List ℕ)) → sizes (zip cs ds) ≤ length (words_of_classes cs) * length (words_of_classes ds)
 sizes-le [] ds = omega arith
 sizes-le (a ∷ cs) [] = omega arith
 sizes-le (a ∷ cs) (b ∷ ds) =
     let rest = sizes-le cs ds in
     let first = sum_by-append (λ (c : List ℕ × List ℕ). length c.0 * length c.1) ((a, b) ∷ []) (zip cs ds) in
-    let one = length-append a (all_words cs) in
-    let two = length-append b (all_words ds) in
+    let one = length-append a (words_of_classes cs) in
+    let two = length-append b (words_of_classes ds) in
     let product = ap₂ (λ i j. i * j) one two in
     omega arith
 
@@ -101,8 +101,8 @@ pub sizes-small : (p q : PartitionValue) → IsSoundPartition p → IsSoundParti
 sizes-small p q first second k =
     let part = sum_by-take-le (λ (c : List ℕ × List ℕ). length c.0 * length c.1) (zip p.classes q.classes) k in
     let whole = sizes-le p.classes q.classes in
-    let a = length (all_words p.classes) in
-    let b = length (all_words q.classes) in
+    let a = length (words_of_classes p.classes) in
+    let b = length (words_of_classes q.classes) in
     let few : a ≤ 16384 = first.few_words in
     let few' : b ≤ 16384 = second.few_words in
     let more = mul-le-mul_left {m = b} {n = 16384} a few' in

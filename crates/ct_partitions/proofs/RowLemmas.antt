@@ -6,7 +6,7 @@ use Rattle.ct_words.proofs.WordLemmas.{distance_any_length}
 use Rattle.ct_words.specs.PairProducts.{all_places}
 use Rattle.ct_codes.specs.Pairs.{least_pair}
 use Rattle.ct_codes.proofs.PairLemmas.{least_pair-none}
-use Rattle.ct_partitions.specs.Partition.{all_words}
+use Rattle.ct_partitions.specs.Partition.{words_of_classes}
 use Rattle.ct_partitions.specs.Check.{is_close, need}
 use Rattle.ct_partitions.specs.Inside.Rows.{NoneFrom}
 
@@ -22,13 +22,13 @@ least_from_none test total none =
     ap₂ test (place_is total k (omega arith)) (place_is total m (omega arith)) ∙ none k m (omega arith) (omega arith) order (omega arith))
 
 -- words that are too close are so whatever the length that they are read at
-pub close_any_length : (n d between : ℕ) (classes : List (List ℕ)) → All (λ x. x < 2 ^ n) (all_words classes)
-    → All (λ x. x < 2 ^ 32) (all_words classes)
-    → (i j : ℕ) → i < length (all_words classes) → j < length (all_words classes)
+pub close_any_length : (n d between : ℕ) (classes : List (List ℕ)) → All (λ x. x < 2 ^ n) (words_of_classes classes)
+    → All (λ x. x < 2 ^ 32) (words_of_classes classes)
+    → (i j : ℕ) → i < length (words_of_classes classes) → j < length (words_of_classes classes)
     → is_close n d between classes i j ≡ is_close 32 d between classes i j
 close_any_length n d between classes below fits i j h l =
     ap (λ e. nat_lt e (need d between classes i j))
-    (distance_any_length n 32 (get_or (all_words classes) i 0) (get_or (all_words classes) j 0) (below i 0 h) (below j 0 l)
+    (distance_any_length n 32 (get_or (words_of_classes classes) i 0) (get_or (words_of_classes classes) j 0) (below i 0 h) (below j 0 l)
     (fits i 0 h) (fits j 0 l))
 
 -- the places are below their number

@@ -11,7 +11,7 @@ use Rattle.ct_codes.specs.Pairs.{first_of, least_pair}
 use Rattle.ct_partitions.specs.declared.fault.PartitionFault.{PartitionFault}
 use Rattle.ct_partitions.specs.declared.fault.PartitionFault.TheVariants.{Size, Weight, Repeated, Close}
 use Rattle.ct_partitions.specs.declared.fault.TheConstants.{MAX_CLASSES}
-use Rattle.ct_partitions.specs.Partition.{all_words}
+use Rattle.ct_partitions.specs.Partition.{words_of_classes}
 
 -- the class of the word at a place
 abbrev pub class_at : List (List ℕ) → ℕ → ℕ
@@ -24,7 +24,7 @@ need d between classes i j = if class_at classes i == class_at classes j then d 
 
 -- the distance of the words at two places
 abbrev pub distance_at : ℕ → List (List ℕ) → ℕ → ℕ → ℕ
-distance_at n classes i j = distance n (slice_index (all_words classes) i) (slice_index (all_words classes) j)
+distance_at n classes i j = distance n (slice_index (words_of_classes classes) i) (slice_index (words_of_classes classes) j)
 
 -- whether the words at two places are closer than they need to be
 abbrev pub is_close : ℕ → ℕ → ℕ → List (List ℕ) → ℕ → ℕ → Bool
@@ -40,7 +40,7 @@ abbrev pub wrong_count : List (List ℕ) → Option ℕ
 wrong_count classes =
     if length classes == 0 || nat_lt MAX_CLASSES (length classes) then Some (length classes)
     else if list_any (λ c. length c == 0) classes then Some 0
-    else if nat_lt MAX_WORDS (length (all_words classes)) then Some (counted (length (all_words classes)))
+    else if nat_lt MAX_WORDS (length (words_of_classes classes)) then Some (counted (length (words_of_classes classes)))
     else None
 
 -- the fault of a wrong count
@@ -61,11 +61,11 @@ abbrev pub close_fault : ℕ → ℕ → ℕ → List (List ℕ) → Option Part
 close_fault n d between classes =
     option_map (λ p. Close p.0 p.1 (distance_at n classes p.0 p.1) (class_at classes p.0) (class_at classes p.1)
     (need d between classes p.0 p.1))
-    (least_pair (is_close n d between classes) (all_places (length (all_words classes))))
+    (least_pair (is_close n d between classes) (all_places (length (words_of_classes classes))))
 
 -- the first reason why the lists are not accepted as classes: size, weight, repeated, close, in this order; none where they are
 unfoldable pub partition_fault : Entry → ℕ → List (List ℕ) → Option PartitionFault
 partition_fault e between classes =
     first_of (size_fault classes)
-    (first_of (weight_fault e.n e.w (all_words classes))
-    (first_of (repeated_fault (all_words classes)) (close_fault e.n e.d between classes)))
+    (first_of (weight_fault e.n e.w (words_of_classes classes))
+    (first_of (repeated_fault (words_of_classes classes)) (close_fault e.n e.d between classes)))

@@ -14,14 +14,14 @@ abbrev pub word_lists : List (Vec ℕ Global) → List (List ℕ)
 word_lists classes = map (λ c. c.items) classes
 
 -- the words of all classes, one class after the other
-abbrev pub all_words : List (List ℕ) → List ℕ
-all_words classes = flat_map (λ c. c) classes
+abbrev pub words_of_classes : List (List ℕ) → List ℕ
+words_of_classes classes = flat_map (λ c. c) classes
 
 -- a partition of length n: each class is a code of distance d, and all words together are a code of distance `between`; each word has the
 -- weight, where one is given
 pub record IsPartition (n d : ℕ) (w : Option ℕ) (between : ℕ) (classes : List (List ℕ)) : Type 0 where
   pub classes_are_codes : All (IsCode n d w) classes
-  pub union_is_code : IsCode n between w (all_words classes)
+  pub union_is_code : IsCode n between w (words_of_classes classes)
 
 -- a partition as callers see it: the entry of its classes, the distance between words of different classes, and the classes
 pub record PartitionValue : Type 0 where
@@ -36,5 +36,5 @@ pub record IsSoundPartition (p : PartitionValue) : Type 0 where
   pub between_in_range : (1 ≤ p.between) × (p.between ≤ p.entry.d)
   pub class_count : (1 ≤ length p.classes) × (length p.classes ≤ MAX_CLASSES)
   pub no_empty_class : All (λ c. 1 ≤ length c) p.classes
-  pub few_words : length (all_words p.classes) ≤ MAX_WORDS
+  pub few_words : length (words_of_classes p.classes) ≤ MAX_WORDS
   pub partition : IsPartition p.entry.n p.entry.d p.entry.w p.between p.classes

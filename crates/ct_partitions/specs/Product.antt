@@ -76,5 +76,5 @@ abbrev pub pairs_at : List PartitionValue → List (ℕ × ℕ) → List Factors
 pairs_at parts places = map (λ p. (slice_index_or parts p.0 no_partition, slice_index_or parts p.1 no_partition)) places
 
 -- both numbers of each pair are places of a list of so many partitions
-abbrev pub ArePlaces : ℕ → List (ℕ × ℕ) → Type 0
-ArePlaces count places = All (λ p. (p.0 < count) × (p.1 < count)) places
+abbrev pub ArePairsOfPlaces : ℕ → List (ℕ × ℕ) → Type 0
+ArePairsOfPlaces count places = All (λ p. (p.0 < count) × (p.1 < count)) places

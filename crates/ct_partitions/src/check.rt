@@ -6,7 +6,7 @@ ghost use Rattle.ct_words.specs.Word.{weight};
 ghost use Rattle.ct_codes.specs.Entry.{IsEntry};
 ghost use Rattle.ct_codes.specs.Pairs.{first_of};
 ghost use Rattle.ct_codes.specs.declared.fault.TheConstants.{MAX_WORDS};
-ghost use Rattle.ct_partitions.specs.Partition.{word_lists, all_words, IsSoundPartition};
+ghost use Rattle.ct_partitions.specs.Partition.{word_lists, words_of_classes, IsSoundPartition};
 ghost use Rattle.ct_partitions.specs.Check.{class_at, counted, wrong_count, weight_fault, repeated_fault, close_fault, partition_fault};
 
 use crate::close::first_close_places;
@@ -33,7 +33,7 @@ pub fn check_partition(
     requires entry { IsEntry entry }
     requires some { 1 ≤ between }
     requires nearer { between ≤ entry.d }
-    requires words { All (λ x. x < 2 ^ entry.n) (all_words (word_lists classes.items)) }
+    requires words { All (λ x. x < 2 ^ entry.n) (words_of_classes (word_lists classes.items)) }
     ensures fault { IfErr result (λ fault. fault ≢ PartitionFault.Memory
         → partition_fault entry between (word_lists classes.items) ≡ Some fault) }
     ensures accepted { OnOk result (partition_fault entry between (word_lists classes.items) ≡ None) }
@@ -60,7 +60,7 @@ pub fn partition_fault(
     requires entry { IsEntry entry }
     requires some { 1 ≤ between }
     requires nearer { between ≤ entry.d }
-    requires words { All (λ x. x < 2 ^ entry.n) (all_words (word_lists classes.now)) }
+    requires words { All (λ x. x < 2 ^ entry.n) (words_of_classes (word_lists classes.now)) }
     ensures { IfOk result (λ fault. fault ≡ partition_fault entry between (word_lists classes.now)) }
 {
     if let Some(count) = wrong_count(classes) {
@@ -77,7 +77,7 @@ pub fn partition_fault(
 /// empty; or else the number of words where it is above `MAX_WORDS`.
 pub fn wrong_count(classes: &[Vec<Word>]) -> Option<u64>
     ensures count { result ≡ wrong_count (word_lists classes.now) }
-    ensures few { IfNone result (length (all_words (word_lists classes.now)) ≤ MAX_WORDS) }
+    ensures few { IfNone result (length (words_of_classes (word_lists classes.now)) ≤ MAX_WORDS) }
 {
     let count = classes.len();
     if count == 0 || count > MAX_CLASSES {
@@ -107,7 +107,7 @@ fn has_empty_class(classes: &[Vec<Word>]) -> bool
 
 /// How many words the classes have, as far as 64 bits count.
 pub fn word_count(classes: &[Vec<Word>]) -> u64
-    ensures { result ≡ counted (length (all_words (word_lists classes.now))) }
+    ensures { result ≡ counted (length (words_of_classes (word_lists classes.now))) }
 {
     let mut count: u64 = 0;
     for class in classes {
@@ -118,7 +118,7 @@ pub fn word_count(classes: &[Vec<Word>]) -> u64
 
 /// The words of all classes, one class after the other.
 fn joined(alloc: Global, classes: &[Vec<Word>]) -> Result<Vec<Word>, AllocError>
-    ensures { IfOk result (λ words. words.items ≡ all_words (word_lists classes.now)) }
+    ensures { IfOk result (λ words. words.items ≡ words_of_classes (word_lists classes.now)) }
 {
     let mut words = Vec::new(alloc);
     for class in classes {
@@ -145,7 +145,7 @@ fn first_of_other_weight(words: &[Word], w: u32) -> Option<usize>
 
 /// The least pair of equal words, or else the least pair that is closer than it needs to be.
 fn pair_fault(words: &[Word], classes: &[Vec<Word>], d: u32, between: u32) -> Option<PartitionFault>
-    requires words { words.now ≡ all_words (word_lists classes.now) }
+    requires words { words.now ≡ words_of_classes (word_lists classes.now) }
     requires some { 1 ≤ between }
     requires nearer { between ≤ d }
     ensures { (n : ℕ) → All (λ x. x < 2 ^ n) words.now →

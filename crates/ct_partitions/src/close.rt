@@ -3,7 +3,7 @@
 ghost use Rattle.std.specs.Prelude.{◌≡◌, ℕ, ◌^◌, ◌<◌, ◌≤◌, length, All, MatchOption, IfSome};
 ghost use Rattle.ct_words.specs.PairProducts.{all_places};
 ghost use Rattle.ct_codes.specs.Pairs.{least_pair};
-ghost use Rattle.ct_partitions.specs.Partition.{word_lists, all_words};
+ghost use Rattle.ct_partitions.specs.Partition.{word_lists, words_of_classes};
 ghost use Rattle.ct_partitions.specs.Check.{is_close};
 ghost use Rattle.ct_partitions.specs.Inside.Rows.{IsLesser};
 
@@ -19,7 +19,7 @@ pub(crate) fn first_close_places(
     d: u32,
     between: u32,
 ) -> Option<(usize, usize)>
-    requires words { words.now ≡ all_words (word_lists classes.now) }
+    requires words { words.now ≡ words_of_classes (word_lists classes.now) }
     requires nearer { between ≤ d }
     ensures least { (n : ℕ) → All (λ x. x < 2 ^ n) words.now →
         result ≡ least_pair (is_close n d between (word_lists classes.now)) (all_places (length words.now)) }

@@ -5,7 +5,7 @@ ghost use Rattle.ct_words.specs.declared.limits.TheConstants.{MAX_N};
 ghost use Rattle.ct_codes.specs.Code.{IsSoundCode};
 ghost use Rattle.ct_codes.specs.Constructions.Joined.{followed_by};
 ghost use Rattle.ct_partitions.specs.Partition.{IsSoundPartition};
-ghost use Rattle.ct_partitions.specs.Product.{all_followed, class_products, product, product_distance, AreFactors, AreSound, pairs_at, ArePlaces};
+ghost use Rattle.ct_partitions.specs.Product.{all_followed, class_products, product, product_distance, AreFactors, AreSound, pairs_at, ArePairsOfPlaces};
 
 use crate::partition::Partition;
 use ct_codes::{Code, Entry};
@@ -22,7 +22,7 @@ pub fn product_list(
     parts: &[Partition],
     pairs: &[(u32, u32)],
 ) -> Result<Code, AllocError>
-    requires places { ArePlaces (length parts.now) pairs.now }
+    requires places { ArePairsOfPlaces (length parts.now) pairs.now }
     requires factors { AreFactors entry.n entry.w (pairs_at parts.now pairs.now) }
     requires length { entry.n ≤ MAX_N }
     requires some { 1 ≤ entry.d }
@@ -44,7 +44,7 @@ fn product_words(
     pairs: &[(u32, u32)],
     n: u32,
 ) -> Result<Vec<Word>, AllocError>
-    requires places { ArePlaces (length parts.now) pairs.now }
+    requires places { ArePairsOfPlaces (length parts.now) pairs.now }
     requires length { n ≤ MAX_N }
     requires lengths { All (λ p. p.0.entry.n + p.1.entry.n ≡ n) (pairs_at parts.now pairs.now) }
     ensures words { IfOk result (λ v. v.items ≡ product (pairs_at parts.now pairs.now)) }

@@ -2,7 +2,7 @@
 
 ghost use Rattle.std.specs.Prelude.{◌≡◌, ◌+◌, ◌*◌, ◌^◌, ◌<◌, ◌≤◌, min, suc, length};
 ghost use Rattle.ct_words.specs.declared.limits.TheConstants.{MAX_N};
-ghost use Rattle.ct_partitions.specs.Product.{product, product_size, pair_distance, weight_gap, distances, product_distance, pairs_at, ArePlaces};
+ghost use Rattle.ct_partitions.specs.Product.{product, product_size, pair_distance, weight_gap, distances, product_distance, pairs_at, ArePairsOfPlaces};
 ghost use Rattle.ct_partitions.specs.Inside.Pairs.{nearest_at, weights_apart, size_of_pair};
 
 use crate::partition::Partition;
@@ -13,7 +13,7 @@ use ct_words::Word;
 /// and (X',Y') at different places, equal ones included. Where there are two pairs or more, each first partition has
 /// a weight. It takes no memory.
 pub fn product_distance(parts: &[Partition], pairs: &[(u32, u32)]) -> u32
-    requires places { ArePlaces (length parts.now) pairs.now }
+    requires places { ArePairsOfPlaces (length parts.now) pairs.now }
     requires some { 1 ≤ length pairs.now }
     ensures { result ≡ product_distance (pairs_at parts.now pairs.now) }
 {
@@ -27,7 +27,7 @@ pub fn product_distance(parts: &[Partition], pairs: &[(u32, u32)]) -> u32
 
 /// The least of a number, the distance of the pair at the place, and those of this pair and each later one.
 fn nearest(parts: &[Partition], pairs: &[(u32, u32)], place: usize, least: u32) -> u32
-    requires places { ArePlaces (length parts.now) pairs.now }
+    requires places { ArePairsOfPlaces (length parts.now) pairs.now }
     requires place { place < length pairs.now }
     ensures { result ≡ nearest_at (pairs_at parts.now pairs.now) place least }
 {
@@ -61,7 +61,7 @@ fn weight_gap(first: &Partition, other: &Partition) -> u32
 /// How many words the product of at most `MAX_N` + 1 pairs of partitions has: the products of the sizes of the i-th classes, added up
 /// over all pairs and classes. It takes no memory.
 pub fn product_size(parts: &[Partition], pairs: &[(u32, u32)]) -> u64
-    requires places { ArePlaces (length parts.now) pairs.now }
+    requires places { ArePairsOfPlaces (length parts.now) pairs.now }
     requires few { length pairs.now ≤ suc MAX_N }
     ensures { result ≡ product_size (pairs_at parts.now pairs.now) }
 {

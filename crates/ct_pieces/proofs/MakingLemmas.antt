@@ -7,7 +7,7 @@ use Rattle.ct_codes.specs.Code.{IsCodeOf, IsSoundCode}
 use Rattle.ct_codes.proofs.CheckLemmas.{first_of-None}
 use Rattle.ct_kind.specs.declared.evidence.Evidence.{Evidence}
 use Rattle.ct_kind.specs.declared.evidence.Evidence.TheVariants.{Words, Cosets, Partition, Build, Product, Dual, JohnsonDual, Odd, JohnsonLocal}
-use Rattle.ct_fields.specs.declared.fault.FileFault.{FileFault}
+use Rattle.ct_fields.specs.declared.fault.DocumentFault.{DocumentFault}
 use Rattle.ct_files.specs.Document.{DocumentValue, document_without_limit}
 use Rattle.ct_files.specs.Evidence.{IsSound}
 use Rattle.ct_files.proofs.Documents.{document_without_limit-right}
@@ -89,7 +89,7 @@ pub states_code : (known : List NamedCode) (evidence : Evidence) → AreSound kn
 states_code known evidence sound h = own_states known evidence sound h.sound (right-own known evidence h)
 
 -- what the document states of which a piece is made, and which was read as this
-pub record IsMaking (known : List NamedCode) (id document : List ℕ) (read : Result DocumentValue FileFault) (p : PieceValue) : Type 0 where
+pub record IsMaking (known : List NamedCode) (id document : List ℕ) (read : Result DocumentValue DocumentFault) (p : PieceValue) : Type 0 where
   pub stated : DocumentValue
   pub is : read ≡ Ok stated
   pub faultless : evidence_reason known stated.evidence ≡ None
@@ -99,7 +99,7 @@ made_unless-ok : (reason : Option SubmitFault) (q p : PieceValue) → made_unles
 made_unless-ok None q p h = (refl, cc)
 made_unless-ok (Some reason) q p h = absurd cc
 
-pub making : (known : List NamedCode) (id document : List ℕ) (read : Result DocumentValue FileFault) (p : PieceValue) → piece_from known id document read ≡ Ok p → IsMaking known id document read p
+pub making : (known : List NamedCode) (id document : List ℕ) (read : Result DocumentValue DocumentFault) (p : PieceValue) → piece_from known id document read ≡ Ok p → IsMaking known id document read p
 making known id document (Ok stated) p h =
     let both = made_unless-ok (evidence_reason known stated.evidence) (piece_of known id document stated) p h in
     record { stated = stated; is = refl; faultless = both.0; piece = both.1 }

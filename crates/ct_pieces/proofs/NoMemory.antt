@@ -19,7 +19,7 @@ use Rattle.ct_build.specs.Build.{build_fault}
 use Rattle.ct_kind.specs.declared.evidence.Evidence.{Evidence}
 use Rattle.ct_kind.specs.declared.evidence.Evidence.TheVariants.{Words, Cosets}
 use Rattle.ct_kind.specs.declared.evidence.Evidence.TheVariants as evidence
-use Rattle.ct_fields.specs.declared.fault.FileFault.{FileFault}
+use Rattle.ct_fields.specs.declared.fault.DocumentFault.{DocumentFault}
 use Rattle.ct_files.specs.Document.{DocumentValue, document_read_of}
 use Rattle.ct_kind.specs.Named.{NamedCode, first_missing, code_named, other_named}
 use Rattle.ct_kind.specs.declared.fault.SubmitFault.{SubmitFault}
@@ -104,7 +104,7 @@ made-memory known id document stated =
     at None None is h = absurd cc
 
 -- and of any document
-from-memory : (known : List NamedCode) (id document : List ℕ) (read : Result DocumentValue FileFault) → piece_from known id document read ≢ Err Memory
+from-memory : (known : List NamedCode) (id document : List ℕ) (read : Result DocumentValue DocumentFault) → piece_from known id document read ≢ Err Memory
 from-memory known id document (Ok stated) h = made-memory known id document stated h
 from-memory known id document (Err reason) h = absurd cc
 

@@ -13,7 +13,7 @@ use Rattle.ct_codes.specs.declared.entry.Entry.{Entry}
 use Rattle.ct_codes.specs.Code.{IsCodeOf, IsTrueLower}
 use Rattle.ct_text.specs.Id.{is_id}
 use Rattle.ct_fields.specs.declared.document.TheConstants.{MAX_DOCUMENT}
-use Rattle.ct_fields.specs.declared.fault.FileFault.{FileFault}
+use Rattle.ct_fields.specs.declared.fault.DocumentFault.{DocumentFault}
 use Rattle.ct_files.specs.Document.{DocumentValue, document_without_limit, document_read_of}
 use Rattle.ct_files.proofs.Documents.{document_without_limit-right, document_read_of-within, document_read_of-without_limit}
 use Rattle.ct_kind.specs.Named.{NamedCode}
@@ -34,7 +34,7 @@ use Rattle.ct_pieces.proofs.MakingLemmas.{IsRight, making, making-of, states_cod
 use Rattle.ct_pieces.proofs.LeavingLemmas.{other_than, ArePassed, passing, AreMade-passing, ArePassed-others}
 
 -- a piece that is made has the id and the document that it is made of
-pub piece_from-names : (known : List NamedCode) (id document : List ℕ) (read : Result DocumentValue FileFault) (p : PieceValue) → piece_from known id document read ≡ Ok p
+pub piece_from-names : (known : List NamedCode) (id document : List ℕ) (read : Result DocumentValue DocumentFault) (p : PieceValue) → piece_from known id document read ≡ Ok p
     → (p.id ≡ id) × (p.document ≡ document)
 piece_from-names known id document read p h =
     let m = making known id document read p h in
@@ -50,7 +50,7 @@ piece_from-made known id document p h =
     let m = making known id document (document_read_of document) p h in
     let names = piece_from-names known id document (document_read_of document) p h in
     let read = sym (document_read_of-without_limit document m.stated m.is) in
-    let made = subst (λ (r : Result DocumentValue FileFault). piece_from known id document r ≡ Ok p) (m.is ∙ read) h in
+    let made = subst (λ (r : Result DocumentValue DocumentFault). piece_from known id document r ≡ Ok p) (m.is ∙ read) h in
     subst (λ (i : List ℕ). piece_from known i p.document (document_without_limit p.document) ≡ Ok p) (sym names.0)
     (subst (λ (d : List ℕ). piece_from known id d (document_without_limit d) ≡ Ok p) (sym names.1) made)
 

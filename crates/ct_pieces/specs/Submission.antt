@@ -2,7 +2,7 @@
 use Rattle.std.specs.Prelude.{◌≡◌, ◌≢◌, ◌<◌, ◌≤◌, ℕ, ◌+◌, Bool, nat_le, if◌then◌else◌, List, [], ◌∷◌, ◌++◌, length, map, All, Contains, Option, Some, None, Result, Ok, Err, IfSome}
 use Rattle.ct_codes.specs.Code.{IsCodeOf}
 use Rattle.ct_kind.specs.declared.evidence.Evidence.{Evidence}
-use Rattle.ct_fields.specs.declared.fault.FileFault.{FileFault}
+use Rattle.ct_fields.specs.declared.fault.DocumentFault.{DocumentFault}
 use Rattle.ct_files.specs.Document.{DocumentValue, document_read_of}
 use Rattle.ct_kind.specs.Named.{NamedCode}
 use Rattle.ct_kind.specs.KindParts.{kind_reason}
@@ -38,7 +38,7 @@ abbrev pub made_of : List NamedCode → List ℕ → List ℕ → DocumentValue 
 made_of known id document stated = made_unless (evidence_reason known stated.evidence) (piece_of known id document stated)
 
 -- the piece of a document that was read
-abbrev pub piece_from : List NamedCode → List ℕ → List ℕ → Result DocumentValue FileFault → Result PieceValue SubmitFault
+abbrev pub piece_from : List NamedCode → List ℕ → List ℕ → Result DocumentValue DocumentFault → Result PieceValue SubmitFault
 piece_from known id document (Ok stated) = made_of known id document stated
 piece_from known id document (Err reason) = Err (fault.File reason)
 

@@ -3,8 +3,8 @@ use Rattle.std.specs.Prelude.{ℕ, List, [], ◌∷◌, ◌++◌, length, Option
 use Rattle.ct_text.specs.Number.{spaced}
 use Rattle.ct_text.specs.EntryText.{entry_words}
 use Rattle.ct_fields.specs.Field.{field_text}
-use Rattle.ct_fields.specs.declared.fault.FileFault.{FileFault}
-use Rattle.ct_fields.specs.declared.fault.FileFault.TheVariants as file
+use Rattle.ct_fields.specs.declared.fault.DocumentFault.{DocumentFault}
+use Rattle.ct_fields.specs.declared.fault.DocumentFault.TheVariants as file
 use Rattle.ct_word_files.specs.WordFaultText.{code_fault_text}
 use Rattle.ct_partition_files.specs.PartitionFaultText.{partition_fault_text}
 use Rattle.ct_build_files.specs.BuildFaultText.{build_fault_text}
@@ -17,7 +17,7 @@ use Rattle.ct_pieces.specs.declared.fault.WithdrawFault.{WithdrawFault}
 use Rattle.ct_pieces.specs.declared.fault.WithdrawFault.TheVariants as withdraw
 
 -- why a document is not read; want of memory has no text
-abbrev pub file_fault_text : FileFault → List ℕ
+abbrev pub file_fault_text : DocumentFault → List ℕ
 file_fault_text (file.Bytes b) = codes "bytes" ++ spaced b
 file_fault_text file.NotToml = codes "toml"
 file_fault_text file.Kind = codes "kind"

@@ -14,7 +14,7 @@ ghost use Rattle.ct_pieces.specs.Inside.Kept.{kept_over, kept_codes};
 use crate::kinds::{Checked, check, kind_of};
 use crate::piece::Piece;
 use ct_codes::Code;
-use ct_files::{Document, FileFault, read_document};
+use ct_files::{Document, DocumentFault, read_document};
 use ct_kind::SubmitFault;
 use ct_rule_parts::Support;
 use ct_text::{Id, Text};
@@ -82,7 +82,7 @@ pub(crate) fn check_document(
 {
     match read_document(alloc, document.bytes()) {
         Ok(stated) => make_piece(alloc, pieces, kept, id, document, stated),
-        Err(FileFault::Memory) => Err(SubmitFault::Memory),
+        Err(DocumentFault::Memory) => Err(SubmitFault::Memory),
         Err(fault) => Err(SubmitFault::File(fault)),
     }
 }

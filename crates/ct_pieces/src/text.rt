@@ -8,7 +8,7 @@ use crate::kinds::kind_of;
 use crate::piece::Piece;
 use ct_build_files::put_build_fault;
 use ct_dual_files::put_dual_fault;
-use ct_files::FileFault;
+use ct_files::DocumentFault;
 use ct_kind::{SubmitFault, put_numbered};
 use ct_partition_files::put_partition_fault;
 use ct_text::{Cite, Id, put_entry_words, put_spaced};
@@ -16,21 +16,21 @@ use ct_word_files::put_code_fault;
 use std::alloc::{AllocError, Global};
 
 /// Puts at the end of the text why a document is not read.
-fn put_file_fault(alloc: Global, text: &mut Vec<u8>, fault: FileFault) -> Result<(), AllocError>
+fn put_file_fault(alloc: Global, text: &mut Vec<u8>, fault: DocumentFault) -> Result<(), AllocError>
     ensures { OnOk result (text.new.items ≡ text.old.items ++ file_fault_text fault) }
 {
     match fault {
-        FileFault::Bytes(count) => put_numbered(alloc, text, b"bytes", count),
-        FileFault::NotToml => text.extend_from_slice(b"toml"),
-        FileFault::Kind => text.extend_from_slice(b"kind"),
-        FileFault::Field(name) => {
+        DocumentFault::Bytes(count) => put_numbered(alloc, text, b"bytes", count),
+        DocumentFault::NotToml => text.extend_from_slice(b"toml"),
+        DocumentFault::Kind => text.extend_from_slice(b"kind"),
+        DocumentFault::Field(name) => {
             text.extend_from_slice(b"field ")?;
             text.extend_from_slice(name.text().as_bytes())
         }
-        FileFault::Unknown => text.extend_from_slice(b"unknown"),
-        FileFault::Digits(i) => put_numbered(alloc, text, b"digits", i as u64),
-        FileFault::Size(count) => put_numbered(alloc, text, b"size", count),
-        FileFault::Memory => Ok(()),
+        DocumentFault::Unknown => text.extend_from_slice(b"unknown"),
+        DocumentFault::Digits(i) => put_numbered(alloc, text, b"digits", i as u64),
+        DocumentFault::Size(count) => put_numbered(alloc, text, b"size", count),
+        DocumentFault::Memory => Ok(()),
     }
 }
 

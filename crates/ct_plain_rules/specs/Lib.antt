@@ -5,11 +5,11 @@ pub mod Lengthened
 pub mod Nearer
 pub mod WithParity
 pub mod Punctured
-pub mod Halved
-pub mod Sums
-pub mod SideBySide
+pub mod Shortened
+pub mod Uuv
+pub mod Juxtaposition
 pub mod GivenCode
 pub mod AllWords
 pub mod FarWords
-pub mod AverageDistance
-pub mod Balls
+pub mod Plotkin
+pub mod SpherePacking

@@ -2,27 +2,27 @@
 #![tactic(auto)]
 
 mod all_words;
-mod average_distance;
-mod balls;
+mod plotkin;
+mod sphere_packing;
 mod far_words;
 mod given_code;
-mod halved;
+mod shortened;
 mod lengthened;
 mod nearer_words;
 mod neighbours;
 mod one_word;
 mod opposite_words;
 mod punctured;
-mod side_by_side;
-mod sums;
+mod juxtaposition;
+mod uuv;
 mod with_parity;
 
 pub use all_words::known_all_words;
-pub use average_distance::known_average_distance;
-pub use balls::known_balls;
+pub use plotkin::known_plotkin;
+pub use sphere_packing::known_sphere_packing;
 pub use far_words::known_far_words;
 pub use given_code::known_given_code;
-pub use halved::known_halved;
+pub use shortened::known_shortened;
 pub use lengthened::known_lengthened;
 pub use nearer_words::known_nearer;
 pub use neighbours::{
@@ -32,6 +32,6 @@ pub use neighbours::{
 pub use one_word::known_one_word;
 pub use opposite_words::known_opposite_words;
 pub use punctured::known_punctured;
-pub use side_by_side::{known_side_by_side, parts_side_by_side};
-pub use sums::{count_of_sums, known_sums, parts_of_sums, sums_of};
+pub use juxtaposition::{known_juxtaposition, parts_of_juxtaposition};
+pub use uuv::{count_of_uuv, known_uuv, parts_of_uuv, uuv_of};
 pub use with_parity::known_with_parity;

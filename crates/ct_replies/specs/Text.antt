@@ -8,7 +8,7 @@ use Rattle.ct_codes.specs.Code.{CodeValue}
 use Rattle.ct_text.specs.EntryText.{entry_text, entry_words}
 use Rattle.ct_pieces.specs.Piece.{PieceValue}
 use Rattle.ct_pieces.specs.Text.{submit_fault_text, withdraw_fault_text, size_text, piece_text}
-use Rattle.ct_rule_codes.specs.CodeEntry.{entry_of}
+use Rattle.ct_rule_codes.specs.CodeEntry.{entry_of_code}
 use Rattle.ct_replies.specs.declared.reply.Reply.{Reply}
 use Rattle.ct_replies.specs.declared.reply.Reply.TheVariants.{Accepted, Withdrawn, WithdrawnAll, Shown, Table, Lines, Refused}
 use Rattle.ct_replies.specs.declared.reply.Bounds.{Bounds}
@@ -39,7 +39,7 @@ ledger_text pieces = flat_map (λ p. ended (piece_text p)) pieces ++ ended (code
 
 -- the line before the words of a code: `code ENTRY size S`
 abbrev pub code_heading : CodeValue → List ℕ
-code_heading c = ended (codes "code " ++ entry_words (entry_of c) ++ codes " size " ++ decimal (length c.words))
+code_heading c = ended (codes "code " ++ entry_words (entry_of_code c) ++ codes " size " ++ decimal (length c.words))
 
 -- words of length n, a line for each
 abbrev pub word_lines : ℕ → List ℕ → List ℕ

@@ -3,5 +3,5 @@ use Rattle.ct_codes.specs.declared.entry.Entry.{Entry}
 use Rattle.ct_codes.specs.Code.{CodeValue}
 
 -- its length, its distance, and its weight where it has one
-abbrev pub entry_of : CodeValue → Entry
-entry_of c = record { n = c.n; d = c.d; w = c.w }
+abbrev pub entry_of_code : CodeValue → Entry
+entry_of_code c = record { n = c.n; d = c.d; w = c.w }

@@ -2,8 +2,8 @@
 
 ghost use Rattle.std.specs.Prelude.{◌≡◌, [], length, true, IfOk, Some};
 ghost use Rattle.ct_codes.specs.Entry.{IsEntry};
-ghost use Rattle.ct_rule_codes.specs.CodeEntry.{entry_of};
-ghost use Rattle.ct_weight_rules.specs.SumClass.{class_of_sum};
+ghost use Rattle.ct_rule_codes.specs.CodeEntry.{entry_of_code};
+ghost use Rattle.ct_weight_rules.specs.GrahamSloane.{graham_sloane};
 
 use ct_codes::{Code, Entry};
 use ct_partitions::sum_class_list;
@@ -13,9 +13,9 @@ use std::alloc::{AllocError, Global};
 /// length, where there is such a class. `Err` is want of memory.
 pub fn sum_class(alloc: Global, entry: Entry, r: u32) -> Result<Code, AllocError>
     requires entry { IsEntry entry }
-    requires defined { (class_of_sum r).condition entry ≡ true }
-    ensures entry { IfOk result (λ c. entry_of c ≡ entry) }
-    ensures size { IfOk result (λ c. (class_of_sum r).number entry [] ≡ Some (length c.words)) }
+    requires defined { (graham_sloane r).condition entry ≡ true }
+    ensures entry { IfOk result (λ c. entry_of_code c ≡ entry) }
+    ensures size { IfOk result (λ c. (graham_sloane r).number entry [] ≡ Some (length c.words)) }
 {
     sum_class_list(alloc, entry.n, entry.w.unwrap_or(0), r)
 }

@@ -5,7 +5,7 @@ ghost use Rattle.ct_words.specs.declared.limits.TheConstants.{MAX_N};
 ghost use Rattle.ct_codes.specs.Code.{IsSoundCode};
 ghost use Rattle.ct_codes.specs.Entry.{IsEntry};
 ghost use Rattle.ct_codes.specs.Constructions.Translation.{all_ones};
-ghost use Rattle.ct_rule_codes.specs.CodeEntry.{entry_of};
+ghost use Rattle.ct_rule_codes.specs.CodeEntry.{entry_of_code};
 ghost use Rattle.ct_weight_rules.proofs.DisjointWords.{side_by_side};
 
 use ct_codes::{Code, Entry};
@@ -16,7 +16,7 @@ use std::alloc::{AllocError, Global};
 /// want of memory, here and below.
 pub fn one_word(alloc: Global, entry: Entry) -> Result<Code, AllocError>
     requires { IsEntry entry }
-    ensures entry { IfOk result (λ c. entry_of c ≡ entry) }
+    ensures entry { IfOk result (λ c. entry_of_code c ≡ entry) }
     ensures size { IfOk result (λ c. length c.words ≡ 1) }
 {
     let Entry { n, d, w } = entry;

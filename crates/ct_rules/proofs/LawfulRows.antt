@@ -24,19 +24,19 @@ use Rattle.ct_plain_rules.proofs.LawfulLengthened.{lengthened_below-lawful, leng
 use Rattle.ct_plain_rules.proofs.LawfulNearer.{nearer_below-lawful, nearer_above-lawful}
 use Rattle.ct_plain_rules.proofs.LawfulWithParity.{parity_below-lawful, parity_above-lawful}
 use Rattle.ct_plain_rules.proofs.LawfulPunctured.{punctured_below-lawful, punctured_above-lawful}
-use Rattle.ct_plain_rules.proofs.LawfulHalved.{halved_below-lawful, halved_above-lawful}
-use Rattle.ct_plain_rules.proofs.LawfulSums.{sums-lawful}
+use Rattle.ct_plain_rules.proofs.LawfulShortened.{shortened_below-lawful, shortened_above-lawful}
+use Rattle.ct_plain_rules.proofs.LawfulUuv.{uuv-lawful}
 use Rattle.ct_plain_rules.proofs.LawfulGivenCode.{given_code-lawful}
-use Rattle.ct_plain_rules.proofs.LawfulSideBySide.{side_by_side-lawful}
+use Rattle.ct_plain_rules.proofs.LawfulJuxtaposition.{juxtaposition-lawful}
 use Rattle.ct_plain_rules.proofs.LawfulAllWords.{all_words-lawful}
 use Rattle.ct_plain_rules.proofs.LawfulFarWords.{far_words-lawful}
-use Rattle.ct_plain_rules.proofs.LawfulAverageDistance.{average_distance-lawful}
-use Rattle.ct_plain_rules.proofs.LawfulBalls.{balls-lawful}
+use Rattle.ct_plain_rules.proofs.LawfulPlotkin.{plotkin-lawful}
+use Rattle.ct_plain_rules.proofs.LawfulSpherePacking.{sphere_packing-lawful}
 use Rattle.ct_weight_rules.proofs.LawfulOneWord.{one_word-lawful as one_word_of_weight-lawful}
 use Rattle.ct_weight_rules.proofs.LawfulDisjoint.{disjoint_below-lawful, disjoint_above-lawful}
 use Rattle.ct_weight_rules.proofs.LawfulLengthened.{lengthened_by_zero-lawful, lengthened_by_one-lawful}
-use Rattle.ct_weight_rules.proofs.LawfulWithOne.{with_one_below-lawful, with_one_above-lawful}
-use Rattle.ct_weight_rules.proofs.LawfulWithZero.{with_zero_below-lawful, with_zero_above-lawful}
+use Rattle.ct_weight_rules.proofs.LawfulJohnsonOne.{johnson_one_below-lawful, johnson_one_above-lawful}
+use Rattle.ct_weight_rules.proofs.LawfulJohnsonZero.{johnson_zero_below-lawful, johnson_zero_above-lawful}
 use Rattle.ct_weight_rules.proofs.LawfulComplemented.{complemented_below-lawful, complemented_above-lawful}
 use Rattle.ct_weight_rules.proofs.LawfulNearer.{nearer_below-lawful as nearer_below_of_weight-lawful, nearer_above-lawful as nearer_above_of_weight-lawful}
 use Rattle.ct_weight_rules.proofs.LawfulFarWords.{far_words-lawful as far_words_of_weight-lawful}
@@ -44,8 +44,8 @@ use Rattle.ct_weight_rules.proofs.LawfulSplit.{split-lawful}
 use Rattle.ct_weight_rules.proofs.LawfulColumnPairs.{column_pairs-lawful}
 use Rattle.ct_weight_rules.proofs.LawfulWithoutWeight.{without_weight-lawful}
 use Rattle.ct_weight_rules.proofs.LawfulJohnson.{johnson-lawful}
-use Rattle.ct_weight_rules.proofs.LawfulAveraging.{averaging-lawful}
-use Rattle.ct_weight_rules.proofs.LawfulSumClass.{class_of_sum-lawful}
+use Rattle.ct_weight_rules.proofs.LawfulEliasBassalygo.{elias_bassalygo-lawful}
+use Rattle.ct_weight_rules.proofs.LawfulGrahamSloane.{graham_sloane-lawful}
 use Rattle.ct_weight_rules.proofs.LawfulGivenCode.{given_code-lawful as given_code_of_weight-lawful}
 use Rattle.ct_weight_rules.proofs.LawfulAllWords.{all_words-lawful as all_words_of_weight-lawful}
 use Rattle.ct_weight_rules.proofs.LawfulDelsarte.{dual_above-lawful, dual_above_of_weight-lawful}
@@ -64,40 +64,40 @@ lawful L3 c = lengthened_below-lawful c
 lawful L4 c = nearer_below-lawful c
 lawful L5 c = parity_below-lawful c
 lawful L6 c = punctured_below-lawful c
-lawful L7 c = halved_below-lawful c
-lawful L8 c = sums-lawful c
+lawful L7 c = shortened_below-lawful c
+lawful L8 c = uuv-lawful c
 lawful (L9 w) c = without_weight-lawful w c
 lawful (L10 place) c = given_code-lawful c
-lawful (L11 n d) c = side_by_side-lawful n d c
+lawful (L11 n d) c = juxtaposition-lawful n d c
 lawful M1 c = one_word_of_weight-lawful c
 lawful M2 c = disjoint_below-lawful c
 lawful M3 c = lengthened_by_zero-lawful c
 lawful M4 c = lengthened_by_one-lawful c
-lawful M5 c = with_one_below-lawful c
-lawful M6 c = with_zero_below-lawful c
+lawful M5 c = johnson_one_below-lawful c
+lawful M6 c = johnson_zero_below-lawful c
 lawful M7 c = complemented_below-lawful c
 lawful M8 c = nearer_below_of_weight-lawful c
-lawful (M9 k) c = class_of_sum-lawful k c
+lawful (M9 k) c = graham_sloane-lawful k c
 lawful (M10 place) c = given_code_of_weight-lawful c
 lawful U0 c = all_words-lawful c
 lawful U1 c = far_words-lawful c
-lawful U2 c = average_distance-lawful c
-lawful U3 c = balls-lawful c
+lawful U2 c = plotkin-lawful c
+lawful U3 c = sphere_packing-lawful c
 lawful U4 c = parity_above-lawful c
 lawful U5 c = punctured_above-lawful c
-lawful U6 c = halved_above-lawful c
+lawful U6 c = shortened_above-lawful c
 lawful U7 c = nearer_above-lawful c
 lawful U8 c = lengthened_above-lawful c
 lawful U9 c = johnson-lawful c
-lawful (U10 w) c = averaging-lawful w c
+lawful (U10 w) c = elias_bassalygo-lawful w c
 lawful (U11 place) c = dual_above-lawful c
 lawful (U12 place) c = odd_size_above-lawful c
 lawful V0 c = all_words_of_weight-lawful c
 lawful V1 c = far_words_of_weight-lawful c
 lawful V2 c = disjoint_above-lawful c
 lawful V3 c = complemented_above-lawful c
-lawful V4 c = with_one_above-lawful c
-lawful V5 c = with_zero_above-lawful c
+lawful V4 c = johnson_one_above-lawful c
+lawful V5 c = johnson_zero_above-lawful c
 lawful V6 c = split-lawful c
 lawful V7 c = nearer_above_of_weight-lawful c
 lawful V8 c = column_pairs-lawful c

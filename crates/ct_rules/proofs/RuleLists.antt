@@ -16,20 +16,20 @@ use Rattle.ct_rule_parts.specs.Slot.{Slot}
 use Rattle.ct_rule_parts.proofs.EntryLists.{Contains-range_with_len, Contains-flat_map}
 use Rattle.ct_rule_parts.specs.Support.{size_at, dual_at, odd_at, local_at}
 use Rattle.ct_weight_rules.specs.Neighbours.{of_weight, even_of_weight}
-use Rattle.ct_weight_rules.proofs.LawfulSumClass.{known_class}
+use Rattle.ct_weight_rules.proofs.LawfulGrahamSloane.{known_class}
 use Rattle.ct_rules.specs.declared.rule.Rule.{Rule}
 use Rattle.ct_rules.specs.declared.rule.Rule.TheVariants.{L9, L10, L11, M9, M10, U9, U10, U11, U12, V9, V10}
 use Rattle.ct_rules.specs.Rule.{row_of, rule_side, place_of, is_alone, is_by_weight, parts_over, applies}
 use Rattle.ct_rules.specs.Closed.{IsSatisfied, IsClosed}
 use Rattle.ct_rules.specs.Listing.{rules_alone}
-use Rattle.ct_rules.specs.Inside.AllRules.{side_by_side_rules, sum_class_rules, rules_with_numbers, rules_by_weight, rules_of_supports, rules_at}
+use Rattle.ct_rules.specs.Inside.AllRules.{juxtaposition_rules, sum_class_rules, rules_with_numbers, rules_by_weight, rules_of_supports, rules_at}
 use Rattle.ct_rules.proofs.Applied.{IsDefined, defined, applies_from_premises}
 use Rattle.ct_rules.proofs.LawfulRows.{alone_at, alone-parts, not_alone}
 
 -- words side by side, within the limits
-side_by_side-complete : (e : Entry) (n d : ℕ) → 1 ≤ n → n < e.n → 3 ≤ d → d + 3 ≤ e.d
-    → Contains (side_by_side_rules e) (L11 n d)
-side_by_side-complete e n d n_from n_below d_from d_to =
+juxtaposition-complete : (e : Entry) (n d : ℕ) → 1 ≤ n → n < e.n → 3 ≤ d → d + 3 ≤ e.d
+    → Contains (juxtaposition_rules e) (L11 n d)
+juxtaposition-complete e n d n_from n_below d_from d_to =
     Contains-flat_map (λ m. map (λ c. L11 m c) (range_with_len 3 (e.d - 5))) (range_with_len 1 (e.n - 1)) n (L11 n d)
     (Contains-range_with_len 1 (e.n - 1) n n_from (omega arith))
     (Contains-map (λ c. L11 n c) (range_with_len 3 (e.d - 5)) d
@@ -96,10 +96,10 @@ listed_sum supports m c n d None is =
     let second = entry_limits (unrestricted (n - m) (d - c)) back.0 in
     let e : Entry = unrestricted n d in
     Contains-append_right (rules_alone (Lower, e))
-    (side_by_side_rules e ++ rules_by_weight (Lower, e) ++ rules_of_supports (length supports) (Lower, e)) (L11 m c)
-    (Contains-append_left (side_by_side_rules e ++ rules_by_weight (Lower, e)) (rules_of_supports (length supports) (Lower, e)) (L11 m c)
-    (Contains-append_left (side_by_side_rules e) (rules_by_weight (Lower, e)) (L11 m c)
-    (side_by_side-complete e m c first.length_from (omega (arith, second.length_from)) first.distance_from (omega (arith, second.distance_from)))))
+    (juxtaposition_rules e ++ rules_by_weight (Lower, e) ++ rules_of_supports (length supports) (Lower, e)) (L11 m c)
+    (Contains-append_left (juxtaposition_rules e ++ rules_by_weight (Lower, e)) (rules_of_supports (length supports) (Lower, e)) (L11 m c)
+    (Contains-append_left (juxtaposition_rules e) (rules_by_weight (Lower, e)) (L11 m c)
+    (juxtaposition-complete e m c first.length_from (omega (arith, second.length_from)) first.distance_from (omega (arith, second.distance_from)))))
 
 -- a sum class that is defined at an entry
 listed_class : (supports : List Support) (k n d : ℕ) (w : Option ℕ)
@@ -124,9 +124,9 @@ listed_by_weight supports (L9 v) n d None by is =
     let e : Entry = unrestricted n d in
     let within = (entry_limits (even_of_weight e v) (and_parts (is_entry (even_of_weight e v)) true is.premises).0).weight.2 in
     Contains-append_right (rules_alone (Lower, e))
-    (side_by_side_rules e ++ rules_by_weight (Lower, e) ++ rules_of_supports (length supports) (Lower, e)) (L9 v)
-    (Contains-append_left (side_by_side_rules e ++ rules_by_weight (Lower, e)) (rules_of_supports (length supports) (Lower, e)) (L9 v)
-    (Contains-append_right (side_by_side_rules e) (rules_by_weight (Lower, e)) (L9 v)
+    (juxtaposition_rules e ++ rules_by_weight (Lower, e) ++ rules_of_supports (length supports) (Lower, e)) (L9 v)
+    (Contains-append_left (juxtaposition_rules e ++ rules_by_weight (Lower, e)) (rules_of_supports (length supports) (Lower, e)) (L9 v)
+    (Contains-append_right (juxtaposition_rules e) (rules_by_weight (Lower, e)) (L9 v)
     (Contains-map (λ u. L9 u) (range_with_len 0 (n + 1)) v (Contains-range_with_len 0 (n + 1) v (omega arith) (omega arith)))))
 listed_by_weight supports U9 n d None by is = (9, omega arith, refl)
 listed_by_weight supports (U10 v) n d None by is =
@@ -150,8 +150,8 @@ listed_given supports (L10 place) other n d None names is =
     let e : Entry = unrestricted n d in
     let there = support_there supports place e (and_parts true (is_some (size_at (slice_get supports place) e)) is.condition).1 in
     Contains-append_right (rules_alone (Lower, e))
-    (side_by_side_rules e ++ rules_by_weight (Lower, e) ++ rules_of_supports (length supports) (Lower, e)) (L10 place)
-    (Contains-append_right (side_by_side_rules e ++ rules_by_weight (Lower, e)) (rules_of_supports (length supports) (Lower, e)) (L10 place)
+    (juxtaposition_rules e ++ rules_by_weight (Lower, e) ++ rules_of_supports (length supports) (Lower, e)) (L10 place)
+    (Contains-append_right (juxtaposition_rules e ++ rules_by_weight (Lower, e)) (rules_of_supports (length supports) (Lower, e)) (L10 place)
     (Contains-map (λ p. L10 p) (range_with_len 0 (length supports)) place
     (Contains-range_with_len 0 (length supports) place (omega arith) (omega arith))))
 listed_given supports (M10 place) other n d (Some w) names is =

@@ -11,19 +11,19 @@ use Rattle.ct_plain_rules.specs.Lengthened.{lengthened_below, lengthened_above}
 use Rattle.ct_plain_rules.specs.Nearer.{nearer_below, nearer_above}
 use Rattle.ct_plain_rules.specs.WithParity.{parity_below, parity_above}
 use Rattle.ct_plain_rules.specs.Punctured.{punctured_below, punctured_above}
-use Rattle.ct_plain_rules.specs.Halved.{halved_below, halved_above}
-use Rattle.ct_plain_rules.specs.Sums.{sums}
+use Rattle.ct_plain_rules.specs.Shortened.{shortened_below, shortened_above}
+use Rattle.ct_plain_rules.specs.Uuv.{uuv}
 use Rattle.ct_plain_rules.specs.GivenCode.{given_code}
-use Rattle.ct_plain_rules.specs.SideBySide.{side_by_side}
+use Rattle.ct_plain_rules.specs.Juxtaposition.{juxtaposition}
 use Rattle.ct_plain_rules.specs.AllWords.{all_words}
 use Rattle.ct_plain_rules.specs.FarWords.{far_words}
-use Rattle.ct_plain_rules.specs.AverageDistance.{average_distance}
-use Rattle.ct_plain_rules.specs.Balls.{balls}
+use Rattle.ct_plain_rules.specs.Plotkin.{plotkin}
+use Rattle.ct_plain_rules.specs.SpherePacking.{sphere_packing}
 use Rattle.ct_weight_rules.specs.OneWord.{one_word as one_word_of_weight}
 use Rattle.ct_weight_rules.specs.Disjoint.{disjoint_below, disjoint_above}
 use Rattle.ct_weight_rules.specs.Lengthened.{lengthened_by_zero, lengthened_by_one}
-use Rattle.ct_weight_rules.specs.WithOne.{with_one_below, with_one_above}
-use Rattle.ct_weight_rules.specs.WithZero.{with_zero_below, with_zero_above}
+use Rattle.ct_weight_rules.specs.JohnsonOne.{johnson_one_below, johnson_one_above}
+use Rattle.ct_weight_rules.specs.JohnsonZero.{johnson_zero_below, johnson_zero_above}
 use Rattle.ct_weight_rules.specs.Complemented.{complemented_below, complemented_above}
 use Rattle.ct_weight_rules.specs.Nearer.{nearer_below as nearer_below_of_weight, nearer_above as nearer_above_of_weight}
 use Rattle.ct_weight_rules.specs.FarWords.{far_words as far_words_of_weight}
@@ -31,8 +31,8 @@ use Rattle.ct_weight_rules.specs.Split.{split}
 use Rattle.ct_weight_rules.specs.ColumnPairs.{column_pairs}
 use Rattle.ct_weight_rules.specs.WithoutWeight.{without_weight}
 use Rattle.ct_weight_rules.specs.Johnson.{johnson}
-use Rattle.ct_weight_rules.specs.Averaging.{averaging}
-use Rattle.ct_weight_rules.specs.SumClass.{class_of_sum}
+use Rattle.ct_weight_rules.specs.EliasBassalygo.{elias_bassalygo}
+use Rattle.ct_weight_rules.specs.GrahamSloane.{graham_sloane}
 use Rattle.ct_weight_rules.specs.GivenCode.{given_code as given_code_of_weight}
 use Rattle.ct_weight_rules.specs.AllWords.{all_words as all_words_of_weight}
 use Rattle.ct_weight_rules.specs.Delsarte.{dual_above, dual_above_of_weight}
@@ -66,40 +66,40 @@ row_of L3 = by_itself (codes "L3") lengthened_below
 row_of L4 = by_itself (codes "L4") nearer_below
 row_of L5 = by_itself (codes "L5") parity_below
 row_of L6 = by_itself (codes "L6") punctured_below
-row_of L7 = by_itself (codes "L7") halved_below
-row_of L8 = by_itself (codes "L8") sums
+row_of L7 = by_itself (codes "L7") shortened_below
+row_of L8 = by_itself (codes "L8") uuv
 row_of (L9 w) = by_weight (codes "L9") (one_number L9 w) (without_weight w)
 row_of (L10 place) = by_support (codes "L10") L10 place given_code
-row_of (L11 n d) = by_numbers (codes "L11") (two_numbers L11 n d) (side_by_side n d)
+row_of (L11 n d) = by_numbers (codes "L11") (two_numbers L11 n d) (juxtaposition n d)
 row_of M1 = by_itself (codes "M1") one_word_of_weight
 row_of M2 = by_itself (codes "M2") disjoint_below
 row_of M3 = by_itself (codes "M3") lengthened_by_zero
 row_of M4 = by_itself (codes "M4") lengthened_by_one
-row_of M5 = by_itself (codes "M5") with_one_below
-row_of M6 = by_itself (codes "M6") with_zero_below
+row_of M5 = by_itself (codes "M5") johnson_one_below
+row_of M6 = by_itself (codes "M6") johnson_zero_below
 row_of M7 = by_itself (codes "M7") complemented_below
 row_of M8 = by_itself (codes "M8") nearer_below_of_weight
-row_of (M9 r) = by_numbers (codes "M9") (one_number M9 r) (class_of_sum r)
+row_of (M9 r) = by_numbers (codes "M9") (one_number M9 r) (graham_sloane r)
 row_of (M10 place) = by_support (codes "M10") M10 place given_code_of_weight
 row_of U0 = by_itself (codes "U0") all_words
 row_of U1 = by_itself (codes "U1") far_words
-row_of U2 = by_itself (codes "U2") average_distance
-row_of U3 = by_itself (codes "U3") balls
+row_of U2 = by_itself (codes "U2") plotkin
+row_of U3 = by_itself (codes "U3") sphere_packing
 row_of U4 = by_itself (codes "U4") parity_above
 row_of U5 = by_itself (codes "U5") punctured_above
-row_of U6 = by_itself (codes "U6") halved_above
+row_of U6 = by_itself (codes "U6") shortened_above
 row_of U7 = by_itself (codes "U7") nearer_above
 row_of U8 = by_itself (codes "U8") lengthened_above
 row_of U9 = by_weight (codes "U9") no_arguments johnson
-row_of (U10 w) = by_weight (codes "U10") (one_number U10 w) (averaging w)
+row_of (U10 w) = by_weight (codes "U10") (one_number U10 w) (elias_bassalygo w)
 row_of (U11 place) = by_support (codes "U11") U11 place dual_above
 row_of (U12 place) = by_support (codes "U12") U12 place odd_size_above
 row_of V0 = by_itself (codes "V0") all_words_of_weight
 row_of V1 = by_itself (codes "V1") far_words_of_weight
 row_of V2 = by_itself (codes "V2") disjoint_above
 row_of V3 = by_itself (codes "V3") complemented_above
-row_of V4 = by_itself (codes "V4") with_one_above
-row_of V5 = by_itself (codes "V5") with_zero_above
+row_of V4 = by_itself (codes "V4") johnson_one_above
+row_of V5 = by_itself (codes "V5") johnson_zero_above
 row_of V6 = by_itself (codes "V6") split
 row_of V7 = by_itself (codes "V7") nearer_above_of_weight
 row_of V8 = by_itself (codes "V8") column_pairs

@@ -12,17 +12,17 @@ ghost use Rattle.ct_rules.specs.Rule.{rule_side, place_of, with_place, is_alone,
 use crate::arguments::{Arguments, arguments_of, with_arguments};
 use crate::rule::Rule;
 use ct_codes::{Entry, Side};
-use ct_elementary::{far, hamming, plotkin};
+use ct_elementary::{far, sphere_packing, plotkin};
 use ct_plain_rules::{
-    count_of_sums, farther, longer, longer_and_farther, nearer, parts_of_sums, parts_side_by_side,
-    shorter, shorter_and_nearer, sums_of,
+    count_of_uuv, farther, longer, longer_and_farther, nearer, parts_of_uuv, parts_of_juxtaposition,
+    shorter, shorter_and_nearer, uuv_of,
 };
 use ct_rule_parts::{Entries, Support, dual_at, first, local_at, odd_at, second, size_at};
 use ct_weight_rules::{
     around, averaged, below_too_many, bound_by_ones, bound_by_zeros, count_of_disjoint,
     count_with_one, count_with_zero, even_of_weight, has_disjoint_words, has_no_far_words,
-    johnson_bound, of_weight, one_less, one_more, parts_of_split, size_below, size_of_class,
-    split_into, turned, two_farther, two_nearer, zero_less, zero_more,
+    johnson_bound, of_weight, one_less, one_more, parts_of_split, size_below, sum_class_size,
+    split_into, complementary, two_farther, two_nearer, zero_less, zero_more,
 };
 use ct_words::binomial;
 
@@ -142,12 +142,12 @@ fn rests_on_without_weight(supports: &[Support], rule: Rule, n: u32, d: u32) -> 
         Rule::L5 => (d % 2 == 0).then_some(Entries::One(shorter_and_nearer(entry))),
         Rule::L6 => Some(Entries::One(longer_and_farther(entry))),
         Rule::L7 | Rule::U8 => Some(Entries::One(longer(entry))),
-        Rule::L8 => (n % 2 == 0).then_some(parts_of_sums(entry)),
+        Rule::L8 => (n % 2 == 0).then_some(parts_of_uuv(entry)),
         Rule::L9(w) => Some(Entries::One(even_of_weight(entry, w))),
         Rule::L10(place) => size_at(supports, place as usize, entry)
             .is_some()
             .then_some(Entries::Zero),
-        Rule::L11(m, c) => Some(parts_side_by_side(m, c, entry)),
+        Rule::L11(m, c) => Some(parts_of_juxtaposition(m, c, entry)),
         Rule::U1 => (n < d).then_some(Entries::Zero),
         Rule::U2 => plotkin(n, d).is_some().then_some(Entries::Zero),
         Rule::U4 => (d % 2 == 1).then_some(Entries::One(longer_and_farther(entry))),
@@ -183,9 +183,9 @@ fn rests_on_with_weight(
         Rule::M4 | Rule::V4 => (1 <= w).then_some(Entries::One(one_less(entry))),
         Rule::M5 => Some(Entries::One(one_more(entry))),
         Rule::M6 => Some(Entries::One(zero_more(entry))),
-        Rule::M7 | Rule::V3 => Some(Entries::One(turned(entry))),
+        Rule::M7 | Rule::V3 => Some(Entries::One(complementary(entry))),
         Rule::M8 => Some(Entries::One(two_farther(entry))),
-        Rule::M9(r) => size_of_class(r, entry).is_some().then_some(Entries::Zero),
+        Rule::M9(r) => sum_class_size(r, entry).is_some().then_some(Entries::Zero),
         Rule::M10(place) => size_at(supports, place as usize, entry)
             .is_some()
             .then_some(Entries::Zero),
@@ -230,7 +230,7 @@ pub(crate) fn number(supports: &[Support], rule: Rule, entry: Entry, values: &[u
         Rule::L2 => Some(2),
         Rule::L3 | Rule::L4 | Rule::L5 | Rule::L6 | Rule::L9(_) => Some(first(values)),
         Rule::L7 => Some(first(values).div_ceil(2)),
-        Rule::L8 => Some(count_of_sums(entry, values)),
+        Rule::L8 => Some(count_of_uuv(entry, values)),
         Rule::L10(place) | Rule::M10(place) => {
             size_at(supports, place as usize, entry).map(u64::from)
         }
@@ -238,7 +238,7 @@ pub(crate) fn number(supports: &[Support], rule: Rule, entry: Entry, values: &[u
         Rule::U0 => Some(1 << n),
         Rule::U1 => far(n, d).map(u64::from),
         Rule::U2 => plotkin(n, d).map(u64::from),
-        Rule::U3 => Some(u64::from(hamming(n, d))),
+        Rule::U3 => Some(u64::from(sphere_packing(n, d))),
         Rule::U4 | Rule::U5 | Rule::U7 | Rule::U8 | Rule::V3 => Some(first(values)),
         Rule::U6 => Some(2 * first(values)),
         Rule::U9 => johnson_bound(entry, values),
@@ -250,7 +250,7 @@ pub(crate) fn number(supports: &[Support], rule: Rule, entry: Entry, values: &[u
         Rule::M3 | Rule::M4 | Rule::M7 | Rule::M8 | Rule::V7 => Some(first(values)),
         Rule::M5 => Some(count_with_one(entry, values)),
         Rule::M6 => Some(count_with_zero(entry, values)),
-        Rule::M9(r) => size_of_class(r, entry),
+        Rule::M9(r) => sum_class_size(r, entry),
         Rule::V0 => Some(binomial(n, w.unwrap_or(0))),
         Rule::V1 => Some(1),
         Rule::V4 => Some(bound_by_ones(entry, values)),
@@ -275,13 +275,13 @@ pub fn rested_on_by(rule: Rule, entry: Entry) -> Entries<'static>
         Rule::L5 | Rule::U5 => Entries::One(longer_and_farther(entry)),
         Rule::L6 | Rule::U4 => Entries::One(shorter_and_nearer(entry)),
         Rule::L7 | Rule::U8 => Entries::One(shorter(entry)),
-        Rule::L8 => sums_of(entry),
+        Rule::L8 => uuv_of(entry),
         Rule::U7 => Entries::One(farther(entry)),
         Rule::M3 | Rule::V5 => Entries::One(zero_more(entry)),
         Rule::M4 | Rule::V4 => Entries::One(one_more(entry)),
         Rule::M5 => Entries::One(one_less(entry)),
         Rule::M6 => Entries::One(zero_less(entry)),
-        Rule::M7 | Rule::V3 => Entries::One(turned(entry)),
+        Rule::M7 | Rule::V3 => Entries::One(complementary(entry)),
         Rule::M8 => Entries::One(two_nearer(entry)),
         Rule::V6 => split_into(entry),
         Rule::V7 => Entries::One(two_farther(entry)),

@@ -10,12 +10,12 @@ ghost use Rattle.ct_command_line.specs.CommandLine.{mode_of, bytes_of};
 ghost use Rattle.ct_run.specs.Exit.{broken_status, fault_status, mode_status, result_status, summary_status};
 ghost use Rattle.ct_run.specs.Program.{usage_line, WritesUsage};
 
+use crate::serving::serve_session;
 use crate::status::Status;
 use ct_command_line::{Mode, named_mode};
 use ct_find::find_source;
 use ct_io::{RunFault, Sink, Source, write_all};
 use ct_sample::write_sample;
-use ct_serving::serve_session;
 use ct_verify::verify_source;
 use std::alloc::Global;
 

@@ -1,10 +1,13 @@
-//! What the program `code_tables` does with a source and a sink: the modes that its command line names, the run of each, and
-//! how it ends.
+//! What the program `code_tables` does with a source and a sink: the modes that its command line names, the run of each, the mode `session`
+//! (commands answered by a ledger, and the replies), and how it ends.
 #![tactic(auto)]
 
+mod answering;
 mod dispatch;
+mod serving;
 mod status;
 
 pub use ct_command_line::{Mode, after_name, first_unknown_word};
 pub use dispatch::run;
+pub use serving::serve_session;
 pub use status::Status;

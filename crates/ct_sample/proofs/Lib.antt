@@ -1,8 +1,8 @@
-pub mod Bare
+pub mod WithoutDocuments
 mod DrawnClasses
 pub mod DrawnSound
 pub mod Listed
-pub mod Obeying
+pub mod Applying
 pub mod Running
 pub mod Stepping
 pub mod Summaries

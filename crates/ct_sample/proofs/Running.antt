@@ -27,7 +27,7 @@ use Rattle.ct_sample.specs.Command.{step_id, first_unused, command_of}
 use Rattle.ct_sample.specs.Drawn.{drawn_evidence}
 use Rattle.ct_sample.specs.Inside.Sound.{IsSoundCommand}
 use Rattle.ct_sample.specs.Random.{drawn}
-use Rattle.ct_sample.specs.Run.{RunValue, made_bare, after_command, run_to}
+use Rattle.ct_sample.specs.Run.{RunValue, made_without_document, after_command, run_to}
 use Rattle.ct_sample.specs.declared.command.Command.{Command}
 use Rattle.ct_sample.specs.declared.command.Command.TheVariants.{Submit, Withdraw}
 use Rattle.ct_sample.proofs.DrawnSound.{AreEntries, drawn-sound}
@@ -68,15 +68,15 @@ running-push pieces p h good = record {
 }
 
 -- evidence that makes a piece without its document makes it over the codes of the pieces
-bare-made : (pieces : List PieceValue) (id : List ℕ) (evidence : Evidence) (p : PieceValue) → made_bare pieces id evidence ≡ Ok p → made_of (codes_of pieces) id [] (without_cites evidence) ≡ Ok p
-unfolding made_bare
+bare-made : (pieces : List PieceValue) (id : List ℕ) (evidence : Evidence) (p : PieceValue) → made_without_document pieces id evidence ≡ Ok p → made_of (codes_of pieces) id [] (without_cites evidence) ≡ Ok p
+unfolding made_without_document
 bare-made pieces id evidence p h =
     let made = made_of (codes_of pieces) id [] (without_cites evidence) in
     let whole = unless_full-ok (has_id id pieces) (length pieces) (stored_beside (stored_words pieces) made) p h in
     (stored_beside-ok (stored_words pieces) made p whole.2).0
 
 running-made : (pieces : List PieceValue) (id : List ℕ) (evidence : Evidence) (made : Result PieceValue SubmitFault) → IsRunning pieces → IsSound evidence
-    → made_bare pieces id evidence ≡ made → IsRunning (with_piece pieces made)
+    → made_without_document pieces id evidence ≡ made → IsRunning (with_piece pieces made)
 running-made pieces id evidence (Ok p) h sound is =
     running-push pieces p h (made-good (codes_of pieces) id [] evidence p h.sound sound (bare-made pieces id evidence p is))
 running-made pieces id evidence (Err reason) h sound is = h
@@ -116,7 +116,7 @@ running-left pieces id h =
 
 running-after : (run : RunValue) (command : Option Command) → IsRunning run.pieces → IfSome command IsSoundCommand → IsRunning (after_command run command).pieces
 running-after run None h sound = h
-running-after run (Some (Submit id evidence)) h sound = running-made run.pieces id evidence (made_bare run.pieces id evidence) h sound refl
+running-after run (Some (Submit id evidence)) h sound = running-made run.pieces id evidence (made_without_document run.pieces id evidence) h sound refl
 running-after run (Some (Withdraw id)) h sound = running-left run.pieces id h
 
 withdraw-sound : (id : Option (List ℕ)) → IfSome (option_map Withdraw id) IsSoundCommand
@@ -143,7 +143,7 @@ counted false = omega arith
 
 counts-after : (run : RunValue) (command : Option Command) → (after_command run command).accepted + (after_command run command).withdrawn ≤ run.accepted + run.withdrawn + 1
 counts-after run None = omega arith
-counts-after run (Some (Submit id evidence)) = let one = counted (is_ok (made_bare run.pieces id evidence)) in omega (arith, one)
+counts-after run (Some (Submit id evidence)) = let one = counted (is_ok (made_without_document run.pieces id evidence)) in omega (arith, one)
 counts-after run (Some (Withdraw id)) = let one = counted (is_ok (withdrawn run.pieces id)) in omega (arith, one)
 
 -- no more commands are followed than there were steps

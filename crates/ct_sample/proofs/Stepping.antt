@@ -5,15 +5,15 @@ use Rattle.ct_pieces.specs.Piece.{PieceValue}
 use Rattle.ct_sample.specs.Random.{next, seed, drawn}
 use Rattle.ct_sample.specs.Command.{command_of}
 use Rattle.ct_sample.specs.Inside.Sound.{IsSoundCommand}
-use Rattle.ct_sample.specs.Run.{RunValue, bares, after_command, run_to}
+use Rattle.ct_sample.specs.Run.{RunValue, without_documents, after_command, run_to}
 use Rattle.ct_sample.specs.declared.command.Command.{Command}
-use Rattle.ct_sample.proofs.Bare.{command_of-bares}
+use Rattle.ct_sample.proofs.WithoutDocuments.{command_of-without_documents}
 use Rattle.ct_sample.proofs.DrawnSound.{AreEntries}
 use Rattle.ct_sample.proofs.Running.{running, command-sound, counts-le}
 
-pub command_is : (step h : ℕ) (ps : List PieceValue) (run : RunValue) (command : Option Command) → bares ps ≡ run.pieces → command ≡ command_of step h ps
+pub command_is : (step h : ℕ) (ps : List PieceValue) (run : RunValue) (command : Option Command) → without_documents ps ≡ run.pieces → command ≡ command_of step h ps
     → command ≡ command_of step h run.pieces
-command_is step h ps run command is made = made ∙ sym (command_of-bares step h ps) ∙ ap (command_of step h) is
+command_is step h ps run command is made = made ∙ sym (command_of-without_documents step h ps) ∙ ap (command_of step h) is
 
 pub sound_step : (number before step h : ℕ) (run : RunValue) (command : Option Command) → run ≡ run_to number before → command ≡ command_of step h run.pieces
     → IfSome command IsSoundCommand

@@ -15,17 +15,17 @@ use Rattle.ct_sample.specs.declared.command.Command.{Command}
 use Rattle.ct_sample.specs.declared.command.Command.TheVariants.{Submit, Withdraw}
 
 -- a piece without its document
-abbrev pub bare : PieceValue → PieceValue
-bare p = record { id = p.id; document = []; evidence = p.evidence; cites = p.cites; entry = p.entry; size = p.size }
+abbrev pub without_document : PieceValue → PieceValue
+without_document p = record { id = p.id; document = []; evidence = p.evidence; cites = p.cites; entry = p.entry; size = p.size }
 
 -- pieces without their documents
-abbrev pub bares : List PieceValue → List PieceValue
-bares pieces = map bare pieces
+abbrev pub without_documents : List PieceValue → List PieceValue
+without_documents pieces = map without_document pieces
 
 -- what evidence makes over pieces, without its document: what a submission makes of each document without cites that reads as it, but for the
 -- document
-unfoldable pub made_bare : List PieceValue → List ℕ → Evidence → Result PieceValue SubmitFault
-made_bare pieces id evidence =
+unfoldable pub made_without_document : List PieceValue → List ℕ → Evidence → Result PieceValue SubmitFault
+made_without_document pieces id evidence =
     unless_full (has_id id pieces) (length pieces) (stored_beside (stored_words pieces) (made_of (codes_of pieces) id [] (without_cites evidence)))
 
 -- what commands leave: the pieces that stand, without their documents, how many submissions were accepted, and how many withdrawals were made
@@ -51,7 +51,7 @@ after_withdrawal run left =
 -- after a command, where there is one
 abbrev pub after_command : RunValue → Option Command → RunValue
 after_command run None = run
-after_command run (Some (Submit id evidence)) = after_submission run (made_bare run.pieces id evidence)
+after_command run (Some (Submit id evidence)) = after_submission run (made_without_document run.pieces id evidence)
 after_command run (Some (Withdraw id)) = after_withdrawal run (withdrawn run.pieces id)
 
 -- after so many steps of the sample of a number of commands

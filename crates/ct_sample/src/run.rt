@@ -6,7 +6,7 @@ ghost use Rattle.ct_files.specs.Evidence.{IsSound};
 ghost use Rattle.ct_pieces.specs.Submission.{submitted, with_piece};
 ghost use Rattle.ct_pieces.specs.Supports.{supports_of};
 ghost use Rattle.ct_pieces.specs.Withdrawal.{withdrawn, left_by};
-ghost use Rattle.ct_sample.specs.Run.{bares, made_bare, after_submission, after_withdrawal, after_command, no_commands, run_to};
+ghost use Rattle.ct_sample.specs.Run.{without_documents, made_without_document, after_submission, after_withdrawal, after_command, no_commands, run_to};
 ghost use Rattle.ct_sample.specs.Inside.Sound.{IsSoundCommand};
 
 use crate::command::{Command, command_of};
@@ -29,11 +29,11 @@ pub(crate) struct Run {
 }
 
 impl Model for Run {
-    ghost use Rattle.ct_sample.specs.Run.{RunValue, bares};
+    ghost use Rattle.ct_sample.specs.Run.{RunValue, without_documents};
 
     ghost Value = { RunValue };
 
-    ghost view = { λ r. record { pieces = bares r.ledger.pieces; accepted = r.accepted; withdrawn = r.withdrawn } };
+    ghost view = { λ r. record { pieces = without_documents r.ledger.pieces; accepted = r.accepted; withdrawn = r.withdrawn } };
 }
 
 /// Submits evidence with a document without cites that reads as it: whether it is accepted. `Err` is want of memory.
@@ -91,7 +91,7 @@ impl Run {
     fn submit(&mut self, alloc: Global, id: Id, evidence: Evidence) -> Result<(), AllocError>
         requires sound { IsSound evidence }
         requires room { self.old.accepted + 1 < 2 ^ 32 }
-        ensures { OnOk result (self.new ≡ after_submission self.old (made_bare self.old.pieces id evidence)) }
+        ensures { OnOk result (self.new ≡ after_submission self.old (made_without_document self.old.pieces id evidence)) }
     {
         let document = Text::from_vec(write_evidence(alloc, &evidence)?);
         let accepted = submit_evidence(&mut self.ledger, id, evidence, document)?;
@@ -109,8 +109,8 @@ impl Run {
         Ok(())
     }
 
-    /// Follows the command. `Err` is want of memory.
-    fn follow(&mut self, alloc: Global, command: Command) -> Result<(), AllocError>
+    /// Applies the command. `Err` is want of memory.
+    fn apply(&mut self, alloc: Global, command: Command) -> Result<(), AllocError>
         requires sound { IsSoundCommand command }
         requires room { self.old.accepted + self.old.withdrawn + 1 < 2 ^ 32 }
         ensures { OnOk result (self.new ≡ after_command self.old (Some command)) }
@@ -121,21 +121,21 @@ impl Run {
         }
     }
 
-    /// Obeys the command, where there is one. `Err` is want of memory.
-    fn obey(&mut self, alloc: Global, command: Option<Command>) -> Result<(), AllocError>
+    /// Applies the command, where there is one. `Err` is want of memory.
+    fn apply_if_any(&mut self, alloc: Global, command: Option<Command>) -> Result<(), AllocError>
         requires sound { IfSome command IsSoundCommand }
         requires room { self.old.accepted + self.old.withdrawn + 1 < 2 ^ 32 }
         ensures { OnOk result (self.new ≡ after_command self.old command) }
     {
         match command {
-            Some(command) => self.follow(alloc, command),
+            Some(command) => self.apply(alloc, command),
             None => Ok(()),
         }
     }
 
     /// The pieces that stand.
     fn pieces(&self) -> &[Piece]
-        ensures { bares result.now ≡ self.now.pieces }
+        ensures { without_documents result.now ≡ self.now.pieces }
     {
         self.ledger.pieces()
     }
@@ -180,7 +180,7 @@ pub(crate) fn run_of(alloc: Global, number: u32) -> Result<Run, AllocError>
         seed = next(seed);
         let h = (seed / 65536) as u32;
         let command = command_of(alloc, before + 1, h, run.pieces())?;
-        run.obey(alloc, command)?;
+        run.apply_if_any(alloc, command)?;
     }
     Ok(run)
 }

@@ -1,1 +1,3 @@
 pub mod JohnsonSums
+pub mod KrawtchoukSteps
+pub mod Quotients

@@ -1,2 +1,4 @@
 pub mod Numbers
 pub mod Johnson
+pub mod Krawtchouk
+pub mod Hamming

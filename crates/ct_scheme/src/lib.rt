@@ -1,7 +1,11 @@
-//! The Johnson scheme: all words of a length and a weight, half their distances, and the Johnson numbers.
+//! The two schemes: all words of a length with their distances and the Krawtchouk numbers; those of one weight with half their distances
+//! and the Johnson numbers.
 #![tactic(auto)]
 
+mod hamming;
 mod johnson;
+mod krawtchouk;
 mod numbers;
 
+pub use hamming::Hamming;
 pub use johnson::Johnson;

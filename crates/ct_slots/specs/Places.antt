@@ -14,20 +14,20 @@ abbrev pub GivesTo : Support → Entry → Type 0
 GivesTo support e = (size_at (Some support) e ≢ None) ⊎ (dual_behind (Some support) e ≢ None)
 
 -- the side on which a support gives something, where it gives anything
-abbrev pub side_of : Support → Side
-side_of Nothing = Lower
-side_of (Size e size) = Lower
-side_of (Bound a) = Upper
-side_of (Odd a m) = Upper
-side_of (Local a) = Upper
+abbrev pub side_of_support : Support → Side
+side_of_support Nothing = Lower
+side_of_support (Size e size) = Lower
+side_of_support (Bound a) = Upper
+side_of_support (Odd a m) = Upper
+side_of_support (Local a) = Upper
 
 -- the entry of the table to which a support gives something, where there is one
-abbrev pub entry_of : Support → Option Entry
-entry_of Nothing = None
-entry_of (Size e size) = if is_entry e then Some e else None
-entry_of (Bound a) = if is_entry a.dual.entry then Some a.dual.entry else None
-entry_of (Odd a m) = if is_entry a.dual.entry then Some a.dual.entry else None
-entry_of (Local a) = if is_entry a.dual.entry then Some a.dual.entry else None
+abbrev pub entry_of_support : Support → Option Entry
+entry_of_support Nothing = None
+entry_of_support (Size e size) = if is_entry e then Some e else None
+entry_of_support (Bound a) = if is_entry a.dual.entry then Some a.dual.entry else None
+entry_of_support (Odd a m) = if is_entry a.dual.entry then Some a.dual.entry else None
+entry_of_support (Local a) = if is_entry a.dual.entry then Some a.dual.entry else None
 
 -- the place stands for the entry
 abbrev pub IsPlaceOf : List (Option Entry) → Entry → ℕ → Type 0
@@ -35,7 +35,7 @@ IsPlaceOf entries e place = slice_get entries place ≡ Some (Some e)
 
 -- each support that gives something to an entry of the table has a place that stands for it, and there are no more places than supports; a
 -- place may stand for an entry to which its support gives nothing any more
-pub record ArePlaces (supports : List Support) (entries : List (Option Entry)) : Type 0 where
+pub record AreSupportPlaces (supports : List Support) (entries : List (Option Entry)) : Type 0 where
   pub count : length entries ≡ length supports
   pub given : (place : ℕ) (support : Support) (e : Entry) → IsEntry e → slice_get supports place ≡ Some support → GivesTo support e → IsPlaceOf entries e place
 

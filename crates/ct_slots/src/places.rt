@@ -4,7 +4,7 @@ ghost use Rattle.std.specs.Prelude.{◌≡◌, ◌<◌, ◌≤◌, ◌^◌, ◌+
 ghost use Rattle.ct_slots.specs.Number.{side_size};
 ghost use Rattle.ct_codes.specs.declared.entry.Entry.{Entry};
 ghost use Rattle.ct_codes.specs.Entry.{IsEntry};
-ghost use Rattle.ct_slots.specs.Places.{entry_of, side_of, IsPlaceOf, IsUpTo, AreChained, last_at, with_last};
+ghost use Rattle.ct_slots.specs.Places.{entry_of_support, side_of_support, IsPlaceOf, IsUpTo, AreChained, last_at, with_last};
 
 use crate::number::{ENTRIES, entry_number};
 use ct_codes::{Entry, Side};
@@ -35,8 +35,8 @@ impl Model for SupportPlaces {
 }
 
 /// The entry of the table to which the support gives something, where there is one.
-pub fn entry_of(support: &Support) -> Option<Entry>
-    ensures entry { result ≡ entry_of support.now }
+pub fn entry_of_support(support: &Support) -> Option<Entry>
+    ensures entry { result ≡ entry_of_support support.now }
     ensures in_table { IfSome result (λ e. IsEntry e) }
 {
     match support {
@@ -49,8 +49,8 @@ pub fn entry_of(support: &Support) -> Option<Entry>
 }
 
 /// The side on which the support gives something, where it gives anything.
-pub fn side_of(support: &Support) -> Side
-    ensures { result ≡ side_of support.now }
+pub fn side_of_support(support: &Support) -> Side
+    ensures { result ≡ side_of_support support.now }
 {
     match support {
         Support::Nothing | Support::Size { .. } => Side::Lower,
@@ -116,11 +116,11 @@ fn place_all(
     requires before { length entries.old ≤ length before.old }
     requires few { length entries.old ≤ 2 ^ 32 }
     requires last { last.old ≡ replicate side_size None }
-    ensures entries { take (length supports.now) entries.new ≡ map entry_of supports.now }
-    ensures chained { AreChained (map entry_of supports.now) before.new last.new }
+    ensures entries { take (length supports.now) entries.new ≡ map entry_of_support supports.now }
+    ensures chained { AreChained (map entry_of_support supports.now) before.new last.new }
 {
     for place in 0..supports.len() {
-        let entry = entry_of(&supports[place]);
+        let entry = entry_of_support(&supports[place]);
         before[place] = chain(last, entry, place as u32);
         entries[place] = entry;
     }
@@ -141,12 +141,12 @@ impl SupportPlaces {
     /// One more support, at the end. After an `Err`, which is want of memory, all is as before.
     pub fn add(&mut self, support: &Support) -> Result<(), AllocError>
         requires { length self.now < 2 ^ 32 }
-        ensures added { OnOk result (self.new ≡ self.old ++ entry_of support.now ∷ []) }
+        ensures added { OnOk result (self.new ≡ self.old ++ entry_of_support support.now ∷ []) }
         ensures unchanged { OnErr result (self.new ≡ self.old) }
     {
         let place = self.entries.len();
         make_room(&mut self.before, place)?;
-        let entry = entry_of(support);
+        let entry = entry_of_support(support);
         self.entries.push(entry)?;
         self.before[place] = chain(&mut self.last, entry, place as u32);
         Ok(())
@@ -155,7 +155,7 @@ impl SupportPlaces {
     /// Other supports, no more than before. It takes no memory.
     pub fn rebuild(&mut self, supports: &[Support])
         requires { length supports.now ≤ length self.now }
-        ensures { self.new ≡ map entry_of supports.now }
+        ensures { self.new ≡ map entry_of_support supports.now }
     {
         forget(&mut self.last);
         place_all(

@@ -11,7 +11,7 @@ use Rattle.ct_rule_parts.specs.declared.support.Support.TheVariants.{Nothing}
 use Rattle.ct_rules.specs.Removal.{Places, marked, only, without, voided, voided_by}
 use Rattle.ct_rules.proofs.VoidedSupports.{slice_get-voided, length-voided}
 use Rattle.ct_rules.proofs.WithoutLemmas.{past, without-in, without-out}
-use Rattle.ct_slots.specs.Places.{GivesTo, ArePlaces}
+use Rattle.ct_slots.specs.Places.{GivesTo, AreSupportPlaces}
 use Rattle.ct_table.specs.Inside.Exchanged.{exchanged}
 use Rattle.ct_table.proofs.PlacedSupports.{nothing_given}
 
@@ -188,9 +188,9 @@ without-voided gone (support ∷ supports) = go (gone 0) refl (without-voided (p
         ∙ sym (without-in gone support supports stays)
 
 -- supports of which those of a set give nothing have the same places
-pub ArePlaces-voided : (gone : Places) (supports : List Support) (places : List (Option Entry)) → ArePlaces supports places
-    → ArePlaces (voided gone supports) places
-ArePlaces-voided gone supports places are = record {
+pub AreSupportPlaces-voided : (gone : Places) (supports : List Support) (places : List (Option Entry)) → AreSupportPlaces supports places
+    → AreSupportPlaces (voided gone supports) places
+AreSupportPlaces-voided gone supports places are = record {
   count = are.count ∙ sym (length-voided gone supports);
   given = λ place support e entry there gives.
       go place support e entry gives (gone place) (slice_get supports place) refl (sym (slice_get-voided gone supports place) ∙ there);

@@ -7,7 +7,7 @@ use Rattle.ct_rules.specs.Closed.{IsClosed}
 use Rattle.ct_closure.specs.Closing.{ClosingValue, CanClose, IsClosing, HasMoreLines}
 use Rattle.ct_kept.specs.Kept.{KeptValue, IsKept, Grew}
 use Rattle.ct_slots.specs.Number.{bound_of}
-use Rattle.ct_slots.specs.Places.{entry_of, side_of}
+use Rattle.ct_slots.specs.Places.{entry_of_support, side_of_support}
 use Rattle.ct_slots.specs.Worklist.{IsIdle}
 use Rattle.ct_offers.specs.Offers.{IsWithin}
 use Rattle.ct_offers.specs.Inside.Pulled.{given_rule}
@@ -37,20 +37,20 @@ CanClose-marked supports place closing marked can same given = record {
 -- where it betters nothing, all is as it was
 pub IsClosing-same : (supports : List Support) (place : ℕ) (closing new : ClosingValue) → (can : CanFollow supports place closing)
     → new.kept ≡ closing.kept → new.work ≡ closing.work
-    → ((e : Entry) → entry_of can.new_one ≡ Some e
-    → IsWithin supports (bound_of closing.kept.bounds) (side_of can.new_one, e) (bound_of closing.kept.bounds (side_of can.new_one, e)) (given_rule (slice_get supports place) (side_of can.new_one, e) place))
+    → ((e : Entry) → entry_of_support can.new_one ≡ Some e
+    → IsWithin supports (bound_of closing.kept.bounds) (side_of_support can.new_one, e) (bound_of closing.kept.bounds (side_of_support can.new_one, e)) (given_rule (slice_get supports place) (side_of_support can.new_one, e) place))
     → IsClosing supports closing new
 IsClosing-same supports place closing new can kept work within =
     let closed : IsClosed supports (bound_of closing.kept.bounds) =
     subst (λ (these : List Support). IsClosed these (bound_of closing.kept.bounds)) (sym can.are)
     (closed_over_one can.olds can.new_one (bound_of closing.kept.bounds) can.closed
     (λ e is.
-    subst (λ (these : List Support). IsWithin these (bound_of closing.kept.bounds) (side_of can.new_one, e)
-    (bound_of closing.kept.bounds (side_of can.new_one, e)) (given_rule (Some can.new_one) (side_of can.new_one, e) (length can.olds))) can.are
-    (subst (λ (p : ℕ). IsWithin supports (bound_of closing.kept.bounds) (side_of can.new_one, e)
-    (bound_of closing.kept.bounds (side_of can.new_one, e)) (given_rule (Some can.new_one) (side_of can.new_one, e) p)) can.end
-    (subst (λ (o : Option Support). IsWithin supports (bound_of closing.kept.bounds) (side_of can.new_one, e)
-    (bound_of closing.kept.bounds (side_of can.new_one, e)) (given_rule o (side_of can.new_one, e) place))
+    subst (λ (these : List Support). IsWithin these (bound_of closing.kept.bounds) (side_of_support can.new_one, e)
+    (bound_of closing.kept.bounds (side_of_support can.new_one, e)) (given_rule (Some can.new_one) (side_of_support can.new_one, e) (length can.olds))) can.are
+    (subst (λ (p : ℕ). IsWithin supports (bound_of closing.kept.bounds) (side_of_support can.new_one, e)
+    (bound_of closing.kept.bounds (side_of_support can.new_one, e)) (given_rule (Some can.new_one) (side_of_support can.new_one, e) p)) can.end
+    (subst (λ (o : Option Support). IsWithin supports (bound_of closing.kept.bounds) (side_of_support can.new_one, e)
+    (bound_of closing.kept.bounds (side_of_support can.new_one, e)) (given_rule o (side_of_support can.new_one, e) place))
     (last_there supports can.olds can.new_one place can.are can.end) (within e is))))) in
     record {
       kept = subst (IsKept supports) (sym kept) can.kept;

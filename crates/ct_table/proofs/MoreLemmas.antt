@@ -23,7 +23,7 @@ use Rattle.ct_rule_parts.proofs.Places.{slice_get-append_left, slice_get-append_
 use Rattle.ct_rules.proofs.LoweredRules.{premises_of-alike, value_of-alike}
 use Rattle.ct_closure.specs.Closing.{IsPending}
 use Rattle.ct_slots.specs.Number.{bound_of}
-use Rattle.ct_slots.specs.Places.{GivesTo, side_of, entry_of}
+use Rattle.ct_slots.specs.Places.{GivesTo, side_of_support, entry_of_support}
 use Rattle.ct_slots.specs.Worklist.{WorkValue, IsMarked}
 use Rattle.ct_offers.specs.Offers.{IsWithin}
 use Rattle.ct_offers.specs.Inside.Pulled.{given_rule}
@@ -32,7 +32,7 @@ use Rattle.ct_offers.proofs.SatisfiedLemmas.{satisfied_within}
 use Rattle.ct_table.proofs.BaseLemmas.{cited-nothing}
 
 -- a support that gives something to an entry of the table is one of that entry
-pub gives_entry : (support : Support) (e : Entry) → GivesTo support e → IsEntry e → entry_of support ≡ Some e
+pub gives_entry : (support : Support) (e : Entry) → GivesTo support e → IsEntry e → entry_of_support support ≡ Some e
 gives_entry Nothing e (inl gives) entry = absurd (gives refl)
 gives_entry Nothing e (inr gives) entry = absurd (gives refl)
 gives_entry (Size f size) e (inr gives) entry = absurd (gives refl)
@@ -41,14 +41,14 @@ gives_entry (Odd a m) e (inl gives) entry = absurd (gives refl)
 gives_entry (Local a) e (inl gives) entry = absurd (gives refl)
 gives_entry (Size f size) e (inl gives) entry = go (same_entry f e) refl
   where
-    go : (b : Bool) → same_entry f e ≡ b → entry_of (Size f size) ≡ Some e
+    go : (b : Bool) → same_entry f e ≡ b → entry_of_support (Size f size) ≡ Some e
     go true is =
         let same : f ≡ e = same_entry_is f e is in
         ap (λ (b : Bool). if b then Some f else None) (subst IsEntry (sym same) entry) ∙ ap Some same
     go false is = absurd (gives (ap (λ (b : Bool). if b then Some size else None) is))
 gives_entry (Bound a) e (inr gives) entry = go (same_entry a.dual.entry e) refl
   where
-    go : (b : Bool) → same_entry a.dual.entry e ≡ b → entry_of (Bound a) ≡ Some e
+    go : (b : Bool) → same_entry a.dual.entry e ≡ b → entry_of_support (Bound a) ≡ Some e
     go true is =
         let same : a.dual.entry ≡ e = same_entry_is a.dual.entry e is in
         ap (λ (b : Bool). if b then Some a.dual.entry else None) (subst IsEntry (sym same) entry) ∙ ap Some same
@@ -56,7 +56,7 @@ gives_entry (Bound a) e (inr gives) entry = go (same_entry a.dual.entry e) refl
         absurd (gives (ap (λ (b : Bool). if b then Some a else None) is))
 gives_entry (Odd a m) e (inr gives) entry = go (same_entry a.dual.entry e) refl
   where
-    go : (b : Bool) → same_entry a.dual.entry e ≡ b → entry_of (Odd a m) ≡ Some e
+    go : (b : Bool) → same_entry a.dual.entry e ≡ b → entry_of_support (Odd a m) ≡ Some e
     go true is =
         let same : a.dual.entry ≡ e = same_entry_is a.dual.entry e is in
         ap (λ (b : Bool). if b then Some a.dual.entry else None) (subst IsEntry (sym same) entry) ∙ ap Some same
@@ -64,7 +64,7 @@ gives_entry (Odd a m) e (inr gives) entry = go (same_entry a.dual.entry e) refl
         absurd (gives (ap (λ (b : Bool). if b then Some a else None) is))
 gives_entry (Local a) e (inr gives) entry = go (same_entry a.dual.entry e) refl
   where
-    go : (b : Bool) → same_entry a.dual.entry e ≡ b → entry_of (Local a) ≡ Some e
+    go : (b : Bool) → same_entry a.dual.entry e ≡ b → entry_of_support (Local a) ≡ Some e
     go true is =
         let same : a.dual.entry ≡ e = same_entry_is a.dual.entry e is in
         ap (λ (b : Bool). if b then Some a.dual.entry else None) (subst IsEntry (sym same) entry) ∙ ap Some same
@@ -76,12 +76,12 @@ pub record IsNamed (supports : List Support) (r : Rule) (place : ℕ) (e : Entry
   pub support : Support
   pub there : slice_get supports place ≡ Some support
   pub gives : GivesTo support e
-  pub side : rule_side r ≡ side_of support
-  pub rule : r ≡ given_rule (Some support) (side_of support, e) place
+  pub side : rule_side r ≡ side_of_support support
+  pub rule : r ≡ given_rule (Some support) (side_of_support support, e) place
 
 -- a support that gives something on a side
 abbrev IsGiving : Option Support → Entry → Side → Type 0
-IsGiving o e side = (support : Support) × (o ≡ Some support) × GivesTo support e × (side ≡ side_of support)
+IsGiving o e side = (support : Support) × (o ≡ Some support) × GivesTo support e × (side ≡ side_of_support support)
 
 giving : (o : Option Support) (e : Entry) → is_some (size_at o e) ≡ true → IsGiving o e Lower
 giving None e is = absurd (false≢true is)
@@ -156,8 +156,8 @@ pub record IsNew (olds added : List Support) (r : Rule) (e : Entry) : Type 0 whe
   pub support : Support
   pub there : slice_get added index ≡ Some support
   pub gives : GivesTo support e
-  pub side : rule_side r ≡ side_of support
-  pub rule : r ≡ given_rule (Some support) (side_of support, e) (length olds + index)
+  pub side : rule_side r ≡ side_of_support support
+  pub rule : r ≡ given_rule (Some support) (side_of_support support, e) (length olds + index)
 
 -- a rule gives nothing better than what was closed, but where it names one of the new supports
 pub satisfied_over_more : (olds added : List Support) (bounds : Slot → ℕ) (r : Rule) (e : Entry) → IsClosed olds bounds
@@ -185,7 +185,7 @@ satisfied_over_more olds added bounds r e closed new slots v premises value = go
           there = sym there ∙ is.there;
           gives = is.gives;
           side = is.side;
-          rule = is.rule ∙ ap (given_rule (Some is.support) (side_of is.support, e)) (sym at);
+          rule = is.rule ∙ ap (given_rule (Some is.support) (side_of_support is.support, e)) (sym at);
         })
         slots v premises value
 
@@ -202,7 +202,7 @@ satisfied_over_more olds added bounds r e closed new slots v premises value = go
 -- the slots to which supports give something are marked
 abbrev pub AreGivenMarked : List Support → WorkValue → Type 0
 AreGivenMarked added work = (index : ℕ) (support : Support) (e : Entry) → slice_get added index ≡ Some support → GivesTo support e
-    → IsEntry e → IsMarked work (side_of support, e)
+    → IsEntry e → IsMarked work (side_of_support support, e)
 
 -- where these are marked, each slot is marked or satisfied
 pub pending_over_more : (olds added : List Support) (bounds : List ℕ) (work : WorkValue) → IsClosed olds (bound_of bounds)
@@ -210,29 +210,29 @@ pub pending_over_more : (olds added : List Support) (bounds : List ℕ) (work : 
 pending_over_more olds added bounds work closed marked s entry unmarked r side =
     satisfied_over_more olds added (bound_of bounds) r s.1 closed
     (λ e_entry is.
-    let slot : side_of is.support ≡ s.0 = sym is.side ∙ side in
+    let slot : side_of_support is.support ≡ s.0 = sym is.side ∙ side in
     absurd (unmarked (subst (λ (d : Side). IsMarked work (d, s.1)) slot
     (marked is.index is.support s.1 is.there is.gives entry))))
 
 -- where the one new support betters nothing, all is closed as before
 pub closed_over_one : (olds : List Support) (x : Support) (bounds : Slot → ℕ) → IsClosed olds bounds
-    → ((e : Entry) → entry_of x ≡ Some e
-    → IsWithin (olds ++ x ∷ []) bounds (side_of x, e) (bounds (side_of x, e)) (given_rule (Some x) (side_of x, e) (length olds)))
+    → ((e : Entry) → entry_of_support x ≡ Some e
+    → IsWithin (olds ++ x ∷ []) bounds (side_of_support x, e) (bounds (side_of_support x, e)) (given_rule (Some x) (side_of_support x, e) (length olds)))
     → IsClosed (olds ++ x ∷ []) bounds
 closed_over_one olds x bounds closed within r e =
     satisfied_over_more olds (x ∷ []) bounds r e closed (λ entry is. go entry is.index is.support is.there is.gives is.side is.rule)
   where
     go : IsEntry e → (index : ℕ) (support : Support) → slice_get (x ∷ []) index ≡ Some support → GivesTo support e
-        → rule_side r ≡ side_of support → r ≡ given_rule (Some support) (side_of support, e) (length olds + index) → IsSatisfied (olds ++ x ∷ []) bounds r e
+        → rule_side r ≡ side_of_support support → r ≡ given_rule (Some support) (side_of_support support, e) (length olds + index) → IsSatisfied (olds ++ x ∷ []) bounds r e
     go entry (suc index) support there gives side rule = absurd (none-some support there)
     go entry zero support there gives side rule =
         let one : x ≡ support = same_Some x support there in
         let end : length olds + 0 ≡ length olds = omega arith in
-        let own : rule_side r ≡ side_of x = side ∙ ap side_of (sym one) in
-        let by : r ≡ given_rule (Some x) (side_of x, e) (length olds) =
-        rule ∙ ap (given_rule (Some support) (side_of support, e)) end
-        ∙ ap (λ (y : Support). given_rule (Some y) (side_of y, e) (length olds)) (sym one) in
+        let own : rule_side r ≡ side_of_support x = side ∙ ap side_of_support (sym one) in
+        let by : r ≡ given_rule (Some x) (side_of_support x, e) (length olds) =
+        rule ∙ ap (given_rule (Some support) (side_of_support support, e)) end
+        ∙ ap (λ (y : Support). given_rule (Some y) (side_of_support y, e) (length olds)) (sym one) in
         let is = within e (gives_entry x e (subst (λ (y : Support). GivesTo y e) (sym one) gives) entry) in
         satisfied_within (olds ++ x ∷ []) bounds r e
         (subst (λ (d : Side). IsWithin (olds ++ x ∷ []) bounds (d, e) (bounds (d, e)) r) (sym own)
-        (subst (IsWithin (olds ++ x ∷ []) bounds (side_of x, e) (bounds (side_of x, e))) (sym by) is))
+        (subst (IsWithin (olds ++ x ∷ []) bounds (side_of_support x, e) (bounds (side_of_support x, e))) (sym by) is))

@@ -9,7 +9,7 @@ use Rattle.ct_rule_parts.specs.declared.support.Support.{Support}
 use Rattle.ct_rule_parts.specs.declared.support.Support.TheVariants.{Nothing}
 use Rattle.ct_rule_parts.specs.Slot.{Slot}
 use Rattle.ct_rule_parts.proofs.Places.{slice_get_last}
-use Rattle.ct_slots.specs.Places.{GivesTo, ArePlaces, side_of, entry_of}
+use Rattle.ct_slots.specs.Places.{GivesTo, AreSupportPlaces, side_of_support, entry_of_support}
 use Rattle.ct_slots.specs.Worklist.{WorkValue, IsMarked}
 use Rattle.ct_table.specs.Inside.Starting.{IsMarkedIfGiven}
 use Rattle.ct_table.proofs.MoreLemmas.{gives_entry, AreGivenMarked}
@@ -20,18 +20,18 @@ pub still_given : (old new : WorkValue) (supports : List Support) → ((t : Slot
 still_given old new [] more all = All-nil (IsMarkedIfGiven new)
 still_given old new (x ∷ supports) more all =
     let here : IsMarkedIfGiven new x =
-    λ e entry gives. more (side_of x, e) (All-head (IsMarkedIfGiven old) x supports all e entry gives) in
+    λ e entry gives. more (side_of_support x, e) (All-head (IsMarkedIfGiven old) x supports all e entry gives) in
     All-cons (IsMarkedIfGiven new) x supports here
     (still_given old new supports more (All-tail (IsMarkedIfGiven old) x supports all))
 
 -- one more support has its place, and its slot is marked
 pub one_more_place : (supports : List Support) (i : ℕ) (d : Support) (old new : List (Option Entry)) → i < length supports
-    → new ≡ old ++ entry_of (get_or supports i d) ∷ [] → old ≡ map entry_of (take i supports)
-    → new ≡ map entry_of (take (i + 1) supports)
+    → new ≡ old ++ entry_of_support (get_or supports i d) ∷ [] → old ≡ map entry_of_support (take i supports)
+    → new ≡ map entry_of_support (take (i + 1) supports)
 one_more_place supports i d old new within is before =
-    is ∙ ap (λ (ps : List (Option Entry)). ps ++ entry_of (get_or supports i d) ∷ []) before
-    ∙ sym (map-append entry_of (take i supports) (get_or supports i d ∷ []))
-    ∙ ap (map entry_of) (sym (take_more supports i d within))
+    is ∙ ap (λ (ps : List (Option Entry)). ps ++ entry_of_support (get_or supports i d) ∷ []) before
+    ∙ sym (map-append entry_of_support (take i supports) (get_or supports i d ∷ []))
+    ∙ ap (map entry_of_support) (sym (take_more supports i d within))
 
 pub one_more_mark : (supports : List Support) (i : ℕ) (d : Support) (old new : WorkValue) → i < length supports
     → ((t : Slot) → IsMarked old t → IsMarked new t) → All (IsMarkedIfGiven old) (take i supports)
@@ -50,20 +50,20 @@ given_marked supports work all index support e there gives entry =
     subst (IsMarkedIfGiven work) (get_or_from_slice_get supports index support support there) here e entry gives
 
 -- the places of supports
-pub ArePlaces-map : (supports : List Support) → ArePlaces supports (map entry_of supports)
-ArePlaces-map supports = record {
-  count = length-map supports entry_of;
+pub AreSupportPlaces-map : (supports : List Support) → AreSupportPlaces supports (map entry_of_support supports)
+AreSupportPlaces-map supports = record {
+  count = length-map supports entry_of_support;
   given = λ place support e entry there gives.
-      slice_get-map entry_of supports place ∙ ap (option_map entry_of) there
+      slice_get-map entry_of_support supports place ∙ ap (option_map entry_of_support) there
       ∙ ap Some (gives_entry support e gives entry);
 }
 
-pub ArePlaces-is : (supports : List Support) (places : List (Option Entry)) → places ≡ map entry_of supports → ArePlaces supports places
-ArePlaces-is supports places is = subst (ArePlaces supports) (sym is) (ArePlaces-map supports)
+pub AreSupportPlaces-is : (supports : List Support) (places : List (Option Entry)) → places ≡ map entry_of_support supports → AreSupportPlaces supports places
+AreSupportPlaces-is supports places is = subst (AreSupportPlaces supports) (sym is) (AreSupportPlaces-map supports)
 
 -- with one more
 longer : (x : Support) (xs : List Support) (ps : List (Option Entry)) → length ps ≡ length xs
-    → length (ps ++ entry_of x ∷ []) ≡ length (xs ++ x ∷ [])
+    → length (ps ++ entry_of_support x ∷ []) ≡ length (xs ++ x ∷ [])
 longer x [] [] same = refl
 longer x [] (p ∷ ps) same = absurd (omega (arith, same))
 longer x (y ∷ xs) [] same = absurd (omega (arith, same))
@@ -72,7 +72,7 @@ longer x (y ∷ xs) (p ∷ ps) same = ap suc (longer x xs ps (omega (arith, same
 given_longer : (x : Support) (e : Entry) (xs : List Support) (ps : List (Option Entry)) → length ps ≡ length xs
     → IsEntry e → ((p : ℕ) (s : Support) → slice_get xs p ≡ Some s → GivesTo s e → slice_get ps p ≡ Some (Some e))
     → (place : ℕ) (support : Support) → slice_get (xs ++ x ∷ []) place ≡ Some support → GivesTo support e
-    → slice_get (ps ++ entry_of x ∷ []) place ≡ Some (Some e)
+    → slice_get (ps ++ entry_of_support x ∷ []) place ≡ Some (Some e)
 given_longer x e [] [] same entry before zero support there gives =
     let one : x ≡ support = same_Some x support there in
     ap Some (gives_entry x e (subst (λ (y : Support). GivesTo y e) (sym one) gives) entry)
@@ -83,9 +83,9 @@ given_longer x e (y ∷ xs) (p ∷ ps) same entry before zero support there give
 given_longer x e (y ∷ xs) (p ∷ ps) same entry before (suc place) support there gives =
     given_longer x e xs ps (omega (arith, same)) entry (λ q s h g. before (suc q) s h g) place support there gives
 
-pub ArePlaces-push : (supports : List Support) (places : List (Option Entry)) (x : Support) → ArePlaces supports places
-    → ArePlaces (supports ++ x ∷ []) (places ++ entry_of x ∷ [])
-ArePlaces-push supports places x are = record {
+pub AreSupportPlaces-push : (supports : List Support) (places : List (Option Entry)) (x : Support) → AreSupportPlaces supports places
+    → AreSupportPlaces (supports ++ x ∷ []) (places ++ entry_of_support x ∷ [])
+AreSupportPlaces-push supports places x are = record {
   count = longer x supports places are.count;
   given = λ place support e entry there gives.
       given_longer x e supports places are.count entry (λ p s h g. are.given p s e entry h g) place support there gives;

@@ -8,7 +8,7 @@ ghost use Rattle.ct_rules.specs.Closed.{IsClosed};
 ghost use Rattle.ct_closure.specs.Closing.{CanClose, IsClosing, HasMoreLines};
 ghost use Rattle.ct_kept.specs.Kept.{IsKept};
 ghost use Rattle.ct_slots.specs.Number.{bound_of};
-ghost use Rattle.ct_slots.specs.Places.{ArePlaces};
+ghost use Rattle.ct_slots.specs.Places.{AreSupportPlaces};
 ghost use Rattle.ct_slots.specs.Worklist.{IsIdle};
 ghost use Rattle.ct_offers.specs.Offers.{IsWithin};
 ghost use Rattle.ct_offers.specs.Inside.Pulled.{given_rule};
@@ -20,7 +20,7 @@ use ct_codes::{Entry, Side};
 use ct_kept::Kept;
 use ct_offers::{given_rule, offer};
 use ct_rules::Support;
-use ct_slots::{Bounds, SupportPlaces, entry_of, is_better, side_of};
+use ct_slots::{Bounds, SupportPlaces, entry_of_support, is_better, side_of_support};
 use std::alloc::{AllocError, Global};
 
 /// Whether the support at a place gives a better bound on a side of an entry of the table than stands there.
@@ -57,7 +57,7 @@ fn close_again(
     place: u32,
 ) -> Result<(), AllocError>
     requires new { CanFollow supports.now place closing.now }
-    requires places { ArePlaces supports.now places.now }
+    requires places { AreSupportPlaces supports.now places.now }
     ensures closed { OnOk result (IsClosing supports.now closing.old closing.new) }
     ensures lines { HasMoreLines closing.old.kept closing.new.kept }
 {
@@ -75,16 +75,16 @@ pub(crate) fn follow(
     place: u32,
 ) -> Result<(), AllocError>
     requires new { CanFollow supports.now place closing.now }
-    requires places { ArePlaces supports.now places.now }
+    requires places { AreSupportPlaces supports.now places.now }
     ensures closed { OnOk result (IsClosing supports.now closing.old closing.new) }
     ensures unchanged { OnErr result (closing.new.kept ≡ closing.old.kept) }
     ensures idle { OnErr result (IsIdle closing.new.work) }
 {
     let support = &supports[place as usize];
-    let Some(entry) = entry_of(support) else {
+    let Some(entry) = entry_of_support(support) else {
         return Ok(());
     };
-    let side = side_of(support);
+    let side = side_of_support(support);
     closing.evaluations = closing.evaluations.saturating_add(1);
     if !betters(supports, &closing.kept, side, entry, place) {
         return Ok(());

@@ -8,7 +8,7 @@ ghost use Rattle.ct_rules.specs.Derivation.{LineValue};
 ghost use Rattle.ct_rules.specs.Rule.{place_of};
 ghost use Rattle.ct_closure.specs.Closing.{HasMoreLines};
 ghost use Rattle.ct_kept.specs.Kept.{KeptValue, BaseValue, set_back};
-ghost use Rattle.ct_slots.specs.Places.{ArePlaces};
+ghost use Rattle.ct_slots.specs.Places.{AreSupportPlaces};
 ghost use Rattle.ct_slots.specs.Worklist.{IsMarked, IsIdle};
 ghost use Rattle.ct_slots.specs.Number.{bound_of};
 ghost use Rattle.ct_rule_parts.specs.Slot.{Slot, slot_of, IsBetter};
@@ -142,7 +142,7 @@ fn settle(
     gone: &[bool],
 ) -> Result<(), AllocError>
     requires back { (full : List Support) × (old : KeptValue) × (base : BaseValue) × IsSetBack full old base closing.now later.now × (supports.now ≡ voided (marked gone.now) full) }
-    requires places { ArePlaces supports.now places.now }
+    requires places { AreSupportPlaces supports.now places.now }
     ensures taken { OnOk result ((full : List Support) (old : KeptValue) (base : BaseValue) → IsSetBack full old base closing.old later.now →
         supports.now ≡ voided (marked gone.now) full → IsTakenOut (marked gone.now) full old closing.new) }
     ensures lines { HasMoreLines closing.old.kept closing.new.kept }
@@ -163,7 +163,7 @@ pub(crate) fn take_out(
     gone: &[bool],
 ) -> Result<(), AllocError>
     requires table { (full : List Support) × IsTable full closing.now.kept base.now closing.now.work × (supports.now ≡ voided (marked gone.now) full) }
-    requires places { ArePlaces supports.now places.now }
+    requires places { AreSupportPlaces supports.now places.now }
     ensures taken { OnOk result ((full : List Support) → IsTable full closing.old.kept base.now closing.old.work →
         supports.now ≡ voided (marked gone.now) full → IsTakenOut (marked gone.now) full closing.old.kept closing.new) }
     ensures lines { OnOk result (HasMoreLines (set_back base.now closing.old.kept) closing.new.kept) }

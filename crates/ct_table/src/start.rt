@@ -7,13 +7,13 @@ ghost use Rattle.ct_rules.specs.Closed.{IsClosed};
 ghost use Rattle.ct_closure.specs.Closing.{IsClosing};
 ghost use Rattle.ct_kept.specs.Kept.{IsKept};
 ghost use Rattle.ct_slots.specs.Number.{bound_of};
-ghost use Rattle.ct_slots.specs.Places.{entry_of, ArePlaces};
+ghost use Rattle.ct_slots.specs.Places.{entry_of_support, AreSupportPlaces};
 ghost use Rattle.ct_slots.specs.Worklist.{IsMarked};
 ghost use Rattle.ct_table.specs.Inside.Starting.{IsBegun, IsMarkedIfGiven};
 
 use ct_closure::{Closing, close};
 use ct_rules::Support;
-use ct_slots::{SupportPlaces, Worklist, entry_of, side_of};
+use ct_slots::{SupportPlaces, Worklist, entry_of_support, side_of_support};
 use std::alloc::{AllocError, Global};
 
 /// What is kept of no supports, closed under the rules. `Err` is want of memory.
@@ -31,10 +31,10 @@ pub(crate) fn mark_given(work: &mut Worklist, support: &Support) -> Result<(), A
     ensures given { OnOk result (IsMarkedIfGiven work.new support.now) }
     ensures kept { (t : Slot) → IsMarked work.old t → IsMarked work.new t }
 {
-    let Some(entry) = entry_of(support) else {
+    let Some(entry) = entry_of_support(support) else {
         return Ok(());
     };
-    work.mark(side_of(support), entry)?;
+    work.mark(side_of_support(support), entry)?;
     Ok(())
 }
 
@@ -47,7 +47,7 @@ fn place_supports(
 ) -> Result<(), AllocError>
     requires few { length supports.now < 2 ^ 32 }
     requires none { places.old ≡ [] }
-    ensures places { OnOk result (places.new ≡ map entry_of supports.now) }
+    ensures places { OnOk result (places.new ≡ map entry_of_support supports.now) }
     ensures marked { OnOk result (All (IsMarkedIfGiven work.new) supports.now) }
 {
     for support in supports {
@@ -69,7 +69,7 @@ pub(crate) fn close_over(
     requires none { places.old ≡ [] }
     requires kept { IsKept [] closing.old.kept }
     requires closed { IsClosed [] (bound_of closing.old.kept.bounds) }
-    ensures places { OnOk result (ArePlaces supports.now places.new) }
+    ensures places { OnOk result (AreSupportPlaces supports.now places.new) }
     ensures closed { OnOk result (IsClosing supports.now closing.old closing.new) }
 {
     place_supports(places, &mut closing.work, supports)?;

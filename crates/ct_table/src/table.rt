@@ -34,14 +34,14 @@ pub struct Table {
 }
 
 impl Model for Table {
-    ghost use Rattle.ct_slots.specs.Places.{ArePlaces};
+    ghost use Rattle.ct_slots.specs.Places.{AreSupportPlaces};
     ghost use Rattle.ct_table.specs.Table.{TableValue, IsTable, table_of};
 
     ghost Value = { TableValue };
 
     ghost view = { λ t. table_of t.supports.items t.closing.kept };
 
-    ghost invariant = { λ t. IsTable t.supports.items t.closing.kept t.base t.closing.work × ArePlaces t.supports.items t.places };
+    ghost invariant = { λ t. IsTable t.supports.items t.closing.kept t.base t.closing.work × AreSupportPlaces t.supports.items t.places };
 }
 
 impl Table {

@@ -1,7 +1,7 @@
 //! Numbers of slots, and closed tables, by hand.
 
 ghost use Rattle.std.specs.Prelude.{◌<◌, ◌^◌, IfOk, length};
-ghost use Rattle.ct_slots.specs.Places.{ArePlaces};
+ghost use Rattle.ct_slots.specs.Places.{AreSupportPlaces};
 ghost use Rattle.ct_rule_parts.specs.Support.{AllStand};
 
 use crate::known::{CODES, NUMBERS, entry_at, support_of};
@@ -56,7 +56,7 @@ fn count_of_slots(rt: HostRuntime) {
 /// The places of the supports.
 fn places_of(alloc: Global, supports: &[Support]) -> Result<SupportPlaces, AllocError>
     requires { length supports.now < 2 ^ 32 }
-    ensures { IfOk result (ArePlaces supports.now) }
+    ensures { IfOk result (AreSupportPlaces supports.now) }
 {
     let mut places = SupportPlaces::none(alloc)?;
     for support in supports {

@@ -541,25 +541,25 @@ pub fn known_premises()
     ensures punctured { premises_of [] L6 (unrestricted (MAX_N - 1) (MAX_N - 1)) ≡ Some (lower_at MAX_N MAX_N ∷ []) }
     ensures shortened { premises_of [] L7 (unrestricted (MAX_N - 1) MAX_N) ≡ Some (lower_at MAX_N MAX_N ∷ []) }
     // At distances 3 and 4 the words u are all words of even weight.
-    ensures sums { premises_of [] L8 (unrestricted 2 3) ≡ Some (lower_at 1 3 ∷ []) }
-    ensures sums_last { premises_of [] L8 (unrestricted 8 4) ≡ Some (lower_at 4 4 ∷ []) }
-    ensures sums_odd { premises_of [] L8 (unrestricted 8 5) ≡ Some (lower_at 4 3 ∷ lower_at 4 5 ∷ []) }
-    ensures sums_even { premises_of [] L8 (unrestricted 8 6) ≡ Some (lower_at 4 3 ∷ lower_at 4 6 ∷ []) }
-    ensures sums_up { premises_of [] L8 (unrestricted 8 7) ≡ Some (lower_at 4 4 ∷ lower_at 4 7 ∷ []) }
-    ensures side_by_side { premises_of [] (L11 5 3) (unrestricted 12 7) ≡ Some (lower_at 5 3 ∷ lower_at 7 4 ∷ []) }
+    ensures uuv { premises_of [] L8 (unrestricted 2 3) ≡ Some (lower_at 1 3 ∷ []) }
+    ensures uuv_last { premises_of [] L8 (unrestricted 8 4) ≡ Some (lower_at 4 4 ∷ []) }
+    ensures uuv_odd { premises_of [] L8 (unrestricted 8 5) ≡ Some (lower_at 4 3 ∷ lower_at 4 5 ∷ []) }
+    ensures uuv_even { premises_of [] L8 (unrestricted 8 6) ≡ Some (lower_at 4 3 ∷ lower_at 4 6 ∷ []) }
+    ensures uuv_up { premises_of [] L8 (unrestricted 8 7) ≡ Some (lower_at 4 4 ∷ lower_at 4 7 ∷ []) }
+    ensures juxtaposition { premises_of [] (L11 5 3) (unrestricted 12 7) ≡ Some (lower_at 5 3 ∷ lower_at 7 4 ∷ []) }
     ensures first_short { premises_of [] (L11 1 4) (unrestricted 12 7) ≡ Some (lower_at 1 4 ∷ lower_at 11 3 ∷ []) }
     ensures second_short { premises_of [] (L11 11 3) (unrestricted 12 6) ≡ Some (lower_at 11 3 ∷ lower_at 1 3 ∷ []) }
     ensures all_words { premises_of [] U0 (unrestricted 1 MAX_N) ≡ Some [] }
     ensures all_words_of_weight { premises_of [] V0 (constant_weight MAX_N MAX_N 0) ≡ Some [] }
     ensures far_words { premises_of [] U1 (unrestricted (MAX_N - 1) MAX_N) ≡ Some [] }
-    ensures average { premises_of [] U2 (unrestricted 10 6) ≡ Some [] }
-    ensures balls { premises_of [] U3 (unrestricted 1 MAX_N) ≡ Some [] }
+    ensures plotkin { premises_of [] U2 (unrestricted 10 6) ≡ Some [] }
+    ensures sphere_packing { premises_of [] U3 (unrestricted 1 MAX_N) ≡ Some [] }
     ensures parity_above { premises_of [] U4 (unrestricted 7 3) ≡ Some (upper_at 8 4 ∷ []) }
     ensures parity_above_last { premises_of [] U4 (unrestricted (MAX_N - 1) (MAX_N - 1)) ≡ Some (upper_at MAX_N MAX_N ∷ []) }
     ensures punctured_above { premises_of [] U5 (unrestricted 8 4) ≡ Some (upper_at 7 3 ∷ []) }
     ensures punctured_above_first { premises_of [] U5 (unrestricted 2 MAX_N) ≡ Some (upper_at 1 (MAX_N - 1) ∷ []) }
-    ensures halves { premises_of [] U6 (unrestricted 8 3) ≡ Some (upper_at 7 3 ∷ []) }
-    ensures halves_first { premises_of [] U6 (unrestricted 2 MAX_N) ≡ Some (upper_at 1 MAX_N ∷ []) }
+    ensures shortening { premises_of [] U6 (unrestricted 8 3) ≡ Some (upper_at 7 3 ∷ []) }
+    ensures shortening_first { premises_of [] U6 (unrestricted 2 MAX_N) ≡ Some (upper_at 1 MAX_N ∷ []) }
     ensures nearer_above { premises_of [] U7 (unrestricted MAX_N 4) ≡ Some (upper_at MAX_N 3 ∷ []) }
     ensures lengthened_above { premises_of [] U8 (unrestricted (MAX_N - 1) MAX_N) ≡ Some (upper_at MAX_N MAX_N ∷ []) }
 {}
@@ -583,21 +583,21 @@ pub fn known_ranges()
     ensures punctured_long { premises_of [] L6 (unrestricted MAX_N (MAX_N - 1)) ≡ None }
     ensures punctured_far { premises_of [] L6 (unrestricted (MAX_N - 1) MAX_N) ≡ None }
     ensures shortened { premises_of [] L7 (unrestricted MAX_N MAX_N) ≡ None }
-    ensures sums_odd_length { premises_of [] L8 (unrestricted 7 4) ≡ None }
+    ensures uuv_odd_length { premises_of [] L8 (unrestricted 7 4) ≡ None }
     ensures no_first { premises_of [] (L11 0 3) (unrestricted 12 6) ≡ None }
     ensures no_second { premises_of [] (L11 12 3) (unrestricted 12 6) ≡ None }
     ensures first_near { premises_of [] (L11 5 2) (unrestricted 12 6) ≡ None }
     ensures second_near { premises_of [] (L11 5 4) (unrestricted 12 6) ≡ None }
     ensures not_far { premises_of [] U1 (unrestricted 6 6) ≡ None }
-    ensures average_short { premises_of [] U2 (unrestricted 5 6) ≡ None }
-    ensures average_short_odd { premises_of [] U2 (unrestricted 4 5) ≡ None }
-    ensures average_long { premises_of [] U2 (unrestricted 13 6) ≡ None }
-    ensures average_long_odd { premises_of [] U2 (unrestricted 12 5) ≡ None }
+    ensures plotkin_short { premises_of [] U2 (unrestricted 5 6) ≡ None }
+    ensures plotkin_short_odd { premises_of [] U2 (unrestricted 4 5) ≡ None }
+    ensures plotkin_long { premises_of [] U2 (unrestricted 13 6) ≡ None }
+    ensures plotkin_long_odd { premises_of [] U2 (unrestricted 12 5) ≡ None }
     ensures parity_above_even { premises_of [] U4 (unrestricted 8 4) ≡ None }
     ensures parity_above_long { premises_of [] U4 (unrestricted MAX_N 5) ≡ None }
     ensures punctured_above_short { premises_of [] U5 (unrestricted 1 4) ≡ None }
     ensures punctured_above_near { premises_of [] U5 (unrestricted 8 3) ≡ None }
-    ensures halves_short { premises_of [] U6 (unrestricted 1 3) ≡ None }
+    ensures shortening_short { premises_of [] U6 (unrestricted 1 3) ≡ None }
     ensures nearer_above { premises_of [] U7 (unrestricted 8 3) ≡ None }
     ensures lengthened_above { premises_of [] U8 (unrestricted MAX_N 3) ≡ None }
 {}
@@ -615,12 +615,12 @@ pub fn known_values()
     ensures punctured { value_of [] L6 (unrestricted 7 3) (16 ∷ []) ≡ Some 16 }
     ensures shortened { value_of [] L7 (unrestricted 7 4) (16 ∷ []) ≡ Some 8 }
     ensures shortened_odd { value_of [] L7 (unrestricted 7 4) (5 ∷ []) ≡ Some 3 }
-    ensures sums_of_one { value_of [] L8 (unrestricted 6 4) (1 ∷ []) ≡ Some 4 }
-    ensures sums_near { value_of [] L8 (unrestricted 16 4) (16 ∷ []) ≡ Some 2048 }
-    ensures sums_far { value_of [] L8 (unrestricted 16 8) (16 ∷ 2 ∷ []) ≡ Some 32 }
-    ensures sums_at_five { value_of [] L8 (unrestricted 6 5) (2 ∷ 1 ∷ []) ≡ Some 2 }
-    ensures side_by_side { value_of [] (L11 5 3) (unrestricted 12 7) (4 ∷ 8 ∷ []) ≡ Some 4 }
-    ensures side_by_side_turned { value_of [] (L11 7 4) (unrestricted 12 7) (8 ∷ 4 ∷ []) ≡ Some 4 }
+    ensures uuv_of_one { value_of [] L8 (unrestricted 6 4) (1 ∷ []) ≡ Some 4 }
+    ensures uuv_near { value_of [] L8 (unrestricted 16 4) (16 ∷ []) ≡ Some 2048 }
+    ensures uuv_far { value_of [] L8 (unrestricted 16 8) (16 ∷ 2 ∷ []) ≡ Some 32 }
+    ensures uuv_at_five { value_of [] L8 (unrestricted 6 5) (2 ∷ 1 ∷ []) ≡ Some 2 }
+    ensures juxtaposition { value_of [] (L11 5 3) (unrestricted 12 7) (4 ∷ 8 ∷ []) ≡ Some 4 }
+    ensures juxtaposition_turned { value_of [] (L11 7 4) (unrestricted 12 7) (8 ∷ 4 ∷ []) ≡ Some 4 }
     ensures all_words { value_of [] U0 (unrestricted 3 3) [] ≡ Some 8 }
     ensures all_longest_words { value_of [] U0 (unrestricted MAX_N 3) [] ≡ Some MAX_BOUND }
     ensures all_words_of_weight { value_of [] V0 (constant_weight 4 4 2) [] ≡ Some 6 }
@@ -630,24 +630,24 @@ pub fn known_values()
     ensures far_above { value_of [] L8 (unrestricted MAX_N 6) (MAX_BOUND / 2 ∷ 4 ∷ []) ≡ None }
     ensures cut { within_limit Upper (Some (MAX_BOUND + 1)) ≡ Some MAX_BOUND }
     ensures far_words { value_of [] U1 (unrestricted 5 6) [] ≡ Some 1 }
-    ensures average { value_of [] U2 (unrestricted 10 6) [] ≡ Some 6 }
-    ensures average_near { value_of [] U2 (unrestricted 6 4) [] ≡ Some 4 }
-    ensures average_shortest { value_of [] U2 (unrestricted 6 6) [] ≡ Some 2 }
-    ensures average_below { value_of [] U2 (unrestricted 11 6) [] ≡ Some 12 }
-    ensures average_longest { value_of [] U2 (unrestricted 8 4) [] ≡ Some 16 }
-    ensures average_odd { value_of [] U2 (unrestricted 5 3) [] ≡ Some 4 }
-    ensures average_shortest_odd { value_of [] U2 (unrestricted 5 5) [] ≡ Some 2 }
-    ensures average_below_odd { value_of [] U2 (unrestricted 10 5) [] ≡ Some 12 }
-    ensures average_longest_odd { value_of [] U2 (unrestricted 11 5) [] ≡ Some 24 }
-    ensures balls { value_of [] U3 (unrestricted 7 3) [] ≡ Some 16 }
-    ensures balls_even { value_of [] U3 (unrestricted 7 4) [] ≡ Some 16 }
-    ensures balls_of_three { value_of [] U3 (unrestricted 23 7) [] ≡ Some 4096 }
-    ensures balls_rounded_down { value_of [] U3 (unrestricted 28 3) [] ≡ Some 9256395 }
+    ensures plotkin { value_of [] U2 (unrestricted 10 6) [] ≡ Some 6 }
+    ensures plotkin_near { value_of [] U2 (unrestricted 6 4) [] ≡ Some 4 }
+    ensures plotkin_shortest { value_of [] U2 (unrestricted 6 6) [] ≡ Some 2 }
+    ensures plotkin_below { value_of [] U2 (unrestricted 11 6) [] ≡ Some 12 }
+    ensures plotkin_longest { value_of [] U2 (unrestricted 8 4) [] ≡ Some 16 }
+    ensures plotkin_odd { value_of [] U2 (unrestricted 5 3) [] ≡ Some 4 }
+    ensures plotkin_shortest_odd { value_of [] U2 (unrestricted 5 5) [] ≡ Some 2 }
+    ensures plotkin_below_odd { value_of [] U2 (unrestricted 10 5) [] ≡ Some 12 }
+    ensures plotkin_longest_odd { value_of [] U2 (unrestricted 11 5) [] ≡ Some 24 }
+    ensures sphere_packing { value_of [] U3 (unrestricted 7 3) [] ≡ Some 16 }
+    ensures sphere_packing_even { value_of [] U3 (unrestricted 7 4) [] ≡ Some 16 }
+    ensures sphere_packing_of_three { value_of [] U3 (unrestricted 23 7) [] ≡ Some 4096 }
+    ensures sphere_packing_rounded_down { value_of [] U3 (unrestricted 28 3) [] ≡ Some 9256395 }
     ensures parity_above { value_of [] U4 (unrestricted 7 3) (16 ∷ []) ≡ Some 16 }
     ensures punctured_above { value_of [] U5 (unrestricted 8 4) (16 ∷ []) ≡ Some 16 }
-    ensures halves { value_of [] U6 (unrestricted 8 3) (16 ∷ []) ≡ Some 32 }
-    ensures halves_greatest { value_of [] U6 (unrestricted MAX_N 3) (MAX_BOUND / 2 ∷ []) ≡ Some MAX_BOUND }
-    ensures halves_cut { value_of [] U6 (unrestricted MAX_N 3) ((MAX_BOUND / 2 + 1) ∷ []) ≡ Some MAX_BOUND }
+    ensures shortening { value_of [] U6 (unrestricted 8 3) (16 ∷ []) ≡ Some 32 }
+    ensures shortening_greatest { value_of [] U6 (unrestricted MAX_N 3) (MAX_BOUND / 2 ∷ []) ≡ Some MAX_BOUND }
+    ensures shortening_cut { value_of [] U6 (unrestricted MAX_N 3) ((MAX_BOUND / 2 + 1) ∷ []) ≡ Some MAX_BOUND }
     ensures nearer_above { value_of [] U7 (unrestricted 8 4) (20 ∷ []) ≡ Some 20 }
     ensures lengthened_above { value_of [] U8 (unrestricted 7 3) (20 ∷ []) ≡ Some 20 }
     ensures lengthened_cut { value_of [] U8 (unrestricted 7 3) ((MAX_BOUND + 1) ∷ []) ≡ Some MAX_BOUND }

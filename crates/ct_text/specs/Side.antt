@@ -5,5 +5,5 @@ use Rattle.ct_codes.specs.declared.claim.Side.{Side}
 use Rattle.ct_codes.specs.declared.claim.Side.TheVariants.{Lower, Upper}
 
 -- the side that a word names
-abbrev pub side_of : List ℕ → Option Side
-side_of word = if bytes_eq word (codes "lower") then Some Lower else (if bytes_eq word (codes "upper") then Some Upper else None)
+abbrev pub side_of_word : List ℕ → Option Side
+side_of_word word = if bytes_eq word (codes "lower") then Some Lower else (if bytes_eq word (codes "upper") then Some Upper else None)

@@ -1,13 +1,13 @@
 //! Sides of bounds, as words name them.
 
 ghost use Rattle.std.specs.Prelude.{◌≡◌};
-ghost use Rattle.ct_text.specs.Side.{side_of};
+ghost use Rattle.ct_text.specs.Side.{side_of_word};
 
 use ct_codes::Side;
 
 /// The side that the word names: `lower` or `upper`.
 pub fn parse_side(word: &[u8]) -> Option<Side>
-    ensures { result ≡ side_of word.now }
+    ensures { result ≡ side_of_word word.now }
 {
     if word == b"lower".as_slice() {
         Some(Side::Lower)

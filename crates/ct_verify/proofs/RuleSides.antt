@@ -17,8 +17,8 @@ use Rattle.ct_rules.proofs.RuleNames.{argued-side, rule_named-is}
 use Rattle.ct_rules.proofs.LawfulRows.{parts_of-placed}
 use Rattle.ct_pieces.specs.Piece.{PieceValue, place_of}
 use Rattle.ct_verify.specs.StatedRule.{first_argument, second_argument, first_id, numbered, citing, with_words, stated_rule, resolved}
-use Rattle.ct_text.specs.Side.{side_of}
-use Rattle.ct_verify.specs.StatedLine.{StatedLineValue, entry_of, bound_of, premises_of_words, claim_of, line_from, with_rule, with_reason, with_value, line_of}
+use Rattle.ct_text.specs.Side.{side_of_word}
+use Rattle.ct_verify.specs.StatedLine.{StatedLineValue, entry_of_words, bound_of_word, premises_of_words, claim_of, line_from, with_rule, with_reason, with_value, line_of}
 use Rattle.ct_verify.specs.declared.stated_rule.StatedRule.{StatedRule}
 
 -- where something comes of it, there was something
@@ -87,7 +87,7 @@ with_value-side number side entry [] l h = absurd cc
 with_value-side number side entry (word ∷ []) l h = absurd cc
 with_value-side number side entry (word ∷ value ∷ words) l h = at (bytes_eq word (codes "value")) h where
   claim : Option Claim
-  claim = claim_of (side_of side) (entry_of entry) (bound_of value)
+  claim = claim_of (side_of_word side) (entry_of_words entry) (bound_of_word value)
 
   at : (b : Bool) → cond b (with_reason (number_of number) claim words) None ≡ Some l → HasItsSide l
   at true e = with_reason-side (number_of number) claim words l e

@@ -7,7 +7,7 @@ use Rattle.ct_codes.specs.declared.entry.Entry.{Entry}
 use Rattle.ct_codes.specs.declared.claim.Side.{Side}
 use Rattle.ct_codes.specs.declared.claim.Claim.{Claim}
 use Rattle.ct_text.specs.Number.{number_of}
-use Rattle.ct_text.specs.Side.{side_of}
+use Rattle.ct_text.specs.Side.{side_of_word}
 use Rattle.ct_text.specs.EntryNumbers.{entry_numbers_of, named_entry}
 use Rattle.ct_derive.specs.Check.{and_values}
 use Rattle.ct_verify.specs.StatedRule.{stated_rule}
@@ -21,12 +21,12 @@ pub record StatedLineValue : Type 0 where
   pub from : List ℕ
 
 -- the entry of the table that the words name
-abbrev pub entry_of : List (List ℕ) → Option Entry
-entry_of words = option_and_then named_entry (entry_numbers_of words)
+abbrev pub entry_of_words : List (List ℕ) → Option Entry
+entry_of_words words = option_and_then named_entry (entry_numbers_of words)
 
 -- the bound that a word writes: from 1 to MAX_BOUND
-abbrev pub bound_of : List ℕ → Option ℕ
-bound_of word = option_and_then (λ n. if nat_le 1 n && nat_le n MAX_BOUND then Some n else None) (number_of word)
+abbrev pub bound_of_word : List ℕ → Option ℕ
+bound_of_word word = option_and_then (λ n. if nat_le 1 n && nat_le n MAX_BOUND then Some n else None) (number_of word)
 
 -- the numbers that words write, where each of them is one
 abbrev pub all_numbers : List (List ℕ) → Option (List ℕ)
@@ -63,7 +63,7 @@ with_reason number claim words = None
 -- the line with this number, side and entry; the words are `value`, a bound, and what follows it
 abbrev pub with_value : List ℕ → List ℕ → List (List ℕ) → List (List ℕ) → Option StatedLineValue
 with_value number side entry (word ∷ value ∷ words) =
-    if bytes_eq word (codes "value") then with_reason (number_of number) (claim_of (side_of side) (entry_of entry) (bound_of value)) words else None
+    if bytes_eq word (codes "value") then with_reason (number_of number) (claim_of (side_of_word side) (entry_of_words entry) (bound_of_word value)) words else None
 with_value number side entry words = None
 
 -- the line that the words after `line` state: NUMBER SIDE ENTRY value V by RULE ARGUMENTS from P1 P2 .., with an entry of two numbers or three

@@ -2,8 +2,8 @@
 
 ghost use Rattle.std.specs.Prelude.{◌≡◌, drop, map, IfOk, option_map};
 ghost use Rattle.ct_text.specs.Number.{number_of};
-ghost use Rattle.ct_text.specs.Side.{side_of};
-ghost use Rattle.ct_verify.specs.StatedLine.{entry_of, bound_of, all_numbers, premises_of_words, claim_of, with_rule, with_reason, with_value, line_of};
+ghost use Rattle.ct_text.specs.Side.{side_of_word};
+ghost use Rattle.ct_verify.specs.StatedLine.{entry_of_words, bound_of_word, all_numbers, premises_of_words, claim_of, with_rule, with_reason, with_value, line_of};
 
 use crate::stated_rule::{StatedRule, parse_rule};
 use ct_codes::{Claim, Entry};
@@ -35,14 +35,14 @@ impl Model for StatedLine {
 
 /// The entry of the table that the words name.
 fn parse_entry(words: &[&[u8]]) -> Option<Entry>
-    ensures { result ≡ entry_of (map (λ word. word.now) words.now) }
+    ensures { result ≡ entry_of_words (map (λ word. word.now) words.now) }
 {
     parse_entry_numbers(words)?.entry()
 }
 
 /// The bound that a word writes, from 1 to `MAX_BOUND`.
 fn parse_bound(word: &[u8]) -> Option<u32>
-    ensures { result ≡ bound_of word.now }
+    ensures { result ≡ bound_of_word word.now }
 {
     let number = parse_number(word)?;
     if 1 <= number && number <= u64::from(MAX_BOUND) {
@@ -81,7 +81,7 @@ fn parse_premises(alloc: Global, words: &[&[u8]]) -> Result<Option<Vec<u64>>, Al
 
 /// The claim that these words make.
 fn parse_claim(side: &[u8], entry: &[&[u8]], value: &[u8]) -> Option<Claim>
-    ensures { result ≡ claim_of (side_of side.now) (entry_of (map (λ word. word.now) entry.now)) (bound_of value.now) }
+    ensures { result ≡ claim_of (side_of_word side.now) (entry_of_words (map (λ word. word.now) entry.now)) (bound_of_word value.now) }
 {
     Some(Claim {
         side: parse_side(side)?,

@@ -57,7 +57,7 @@ fn is_only(name: &[u8], words: &[&[u8]]) -> bool
 }
 
 /// The words of a line. `Err` is want of memory.
-fn all_words(alloc: Global, line: &[u8]) -> Result<Vec<&[u8]>, AllocError>
+fn line_words(alloc: Global, line: &[u8]) -> Result<Vec<&[u8]>, AllocError>
     ensures { IfOk result (λ words. map (λ word. word.now) words.items ≡ words_of line.now) }
 {
     first_words(alloc, line, line.len() + 1)
@@ -215,7 +215,7 @@ impl Reading {
                 }
             }
             Part::Body => {
-                let words = all_words(alloc, text)?;
+                let words = line_words(alloc, text)?;
                 self.read_body(alloc, number, &words)
             }
             Part::Evidence(block) => self.read_block(block, text),

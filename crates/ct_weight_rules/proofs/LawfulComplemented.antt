@@ -10,10 +10,10 @@ use Rattle.ct_rule_parts.proofs.Lawful.{IsLawful, only_value, same_number, no_wo
 use Rattle.ct_rule_parts.proofs.PlainEntries.{Weighted, a_weight, turns_back}
 use Rattle.ct_rule_parts.proofs.WeightEntries.{weight_within, written_weight, lower_of_weight, upper_of_weight, turned_code, turned_bound}
 use Rattle.ct_weight_rules.specs.Complemented.{complemented_below, complemented_above}
-use Rattle.ct_weight_rules.specs.Neighbours.{turned}
+use Rattle.ct_weight_rules.specs.Neighbours.{complementary}
 
 -- turned twice, an entry is as it was
-turned_twice : (e : Entry) → IsEntry e → Weighted e → turned (turned e) ≡ e
+turned_twice : (e : Entry) → IsEntry e → Weighted e → complementary (complementary e) ≡ e
 turned_twice e entry weighted =
     let within = weight_within e entry weighted in
     written_weight (e.n - (e.n - weight_of e)) e weighted (omega arith)
@@ -29,7 +29,7 @@ complemented_below-lawful c = record {
   monotone = λ e us vs x h is. no_worse-other Lower (first us) (first vs) x (first-no_better Lower us vs h) is;
   few = λ e stand entry. omega arith;
   dependents = λ e f defined rests.
-      turns_back turned turned e f
+      turns_back complementary complementary e f
       (turned_twice e (defined_entry complemented_below e defined) (a_weight e (defined_condition complemented_below e defined)))
       rests;
 }
@@ -45,7 +45,7 @@ complemented_above-lawful c = record {
   monotone = λ e us vs x h is. no_worse-other Upper (first us) (first vs) x (first-no_better Upper us vs h) is;
   few = λ e stand entry. omega arith;
   dependents = λ e f defined rests.
-      turns_back turned turned e f
+      turns_back complementary complementary e f
       (turned_twice e (defined_entry complemented_above e defined) (a_weight e (defined_condition complemented_above e defined)))
       rests;
 }

@@ -2,16 +2,16 @@
 use Rattle.std.specs.Prelude.{[], ◌∷◌, Some}
 use Rattle.ct_codes.specs.declared.claim.Side.TheVariants.{Lower, Upper}
 use Rattle.ct_rule_parts.specs.Parts.{RuleParts, has_weight, first}
-use Rattle.ct_weight_rules.specs.Neighbours.{turned}
+use Rattle.ct_weight_rules.specs.Neighbours.{complementary}
 
 -- A(n,d,w) is at least A(n,d,n-w)
 abbrev pub complemented_below : RuleParts
 complemented_below = record {
   side = Lower;
   condition = has_weight;
-  rests_on = λ e. turned e ∷ [];
+  rests_on = λ e. complementary e ∷ [];
   number = λ e vs. Some (first vs);
-  rested_on_by = λ e. turned e ∷ [];
+  rested_on_by = λ e. complementary e ∷ [];
 }
 
 -- A(n,d,w) is at most A(n,d,n-w)
@@ -19,7 +19,7 @@ abbrev pub complemented_above : RuleParts
 complemented_above = record {
   side = Upper;
   condition = has_weight;
-  rests_on = λ e. turned e ∷ [];
+  rests_on = λ e. complementary e ∷ [];
   number = λ e vs. Some (first vs);
-  rested_on_by = λ e. turned e ∷ [];
+  rested_on_by = λ e. complementary e ∷ [];
 }

@@ -6,8 +6,8 @@ use Rattle.ct_codes.specs.Entry.{unrestricted, constant_weight}
 use Rattle.ct_rule_parts.specs.Parts.{weight_of, half_up}
 
 -- words with as many zeros as these have ones
-abbrev pub turned : Entry → Entry
-turned e = constant_weight e.n e.d (e.n - weight_of e)
+abbrev pub complementary : Entry → Entry
+complementary e = constant_weight e.n e.d (e.n - weight_of e)
 
 -- words with a zero less
 abbrev pub zero_less : Entry → Entry

@@ -3,7 +3,7 @@
 #![tactic(auto)]
 
 mod all_words;
-mod averaging;
+mod elias_bassalygo;
 mod column_pairs;
 mod complemented;
 mod delsarte;
@@ -18,13 +18,13 @@ mod neighbours;
 mod odd_sizes;
 mod one_word;
 mod split;
-mod sum_class;
-mod with_one;
-mod with_zero;
+mod graham_sloane;
+mod johnson_one;
+mod johnson_zero;
 mod without_weight;
 
 pub use all_words::known_all_words;
-pub use averaging::{averaged, known_averaging};
+pub use elias_bassalygo::{averaged, known_elias_bassalygo};
 pub use column_pairs::{below_too_many, known_column_pairs};
 pub use complemented::known_complemented;
 pub use delsarte::{known_dual_above, known_dual_above_of_weight};
@@ -36,13 +36,13 @@ pub use lengthened::known_lengthened;
 pub use local_duals::{known_local_above, local_duals_bound_codes};
 pub use nearer::known_nearer;
 pub use neighbours::{
-    around, even_of_weight, of_weight, one_less, one_more, turned, two_farther, two_nearer,
+    around, even_of_weight, of_weight, one_less, one_more, complementary, two_farther, two_nearer,
     unweighted, unweighted_and_nearer, zero_less, zero_more,
 };
 pub use odd_sizes::{known_odd_sizes, parity_excludes_sizes, size_below};
 pub use one_word::known_one_word;
 pub use split::{known_split, parts_of_split, split_into};
-pub use sum_class::{known_sum_class, size_of_class};
-pub use with_one::{bound_by_ones, count_with_one, known_with_one};
-pub use with_zero::{bound_by_zeros, count_with_zero, known_with_zero};
+pub use graham_sloane::{known_graham_sloane, sum_class_size};
+pub use johnson_one::{bound_by_ones, count_with_one, known_johnson_one};
+pub use johnson_zero::{bound_by_zeros, count_with_zero, known_johnson_zero};
 pub use without_weight::known_without_weight;

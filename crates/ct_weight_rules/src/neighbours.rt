@@ -4,7 +4,7 @@
 ghost use Rattle.std.specs.Prelude.{◌≡◌};
 ghost use Rattle.ct_codes.specs.Entry.{IsEntry, unrestricted, constant_weight};
 ghost use Rattle.ct_rule_parts.specs.Parts.{weight_of};
-ghost use Rattle.ct_weight_rules.specs.Neighbours.{turned, zero_less, zero_more, one_less, one_more, two_nearer, two_farther, of_weight, even_of_weight, around, unweighted, unweighted_and_nearer};
+ghost use Rattle.ct_weight_rules.specs.Neighbours.{complementary, zero_less, zero_more, one_less, one_more, two_nearer, two_farther, of_weight, even_of_weight, around, unweighted, unweighted_and_nearer};
 
 use ct_codes::Entry;
 
@@ -30,8 +30,8 @@ fn plain(n: u32, d: u32) -> Entry
 }
 
 /// A(n,d,n−w).
-pub fn turned(entry: Entry) -> Entry
-    ensures { result ≡ turned entry }
+pub fn complementary(entry: Entry) -> Entry
+    ensures { result ≡ complementary entry }
 {
     weighted(entry.n, entry.d, entry.n.saturating_sub(weight_of(entry)))
 }

@@ -20,8 +20,8 @@ use Rattle.ct_kind.specs.declared.evidence.Evidence.{Evidence}
 use Rattle.ct_kind.specs.declared.evidence.Evidence.TheVariants as evidence
 use Rattle.ct_fields.specs.declared.field.FieldName.{FieldName}
 use Rattle.ct_fields.specs.declared.field.FieldName.TheVariants.{N, D, Basis, Representatives, Cites}
-use Rattle.ct_fields.specs.declared.fault.FileFault.{FileFault}
-use Rattle.ct_fields.specs.declared.fault.FileFault.TheVariants.{Bytes, NotToml, Kind, Field, Unknown, Digits, Size, Memory}
+use Rattle.ct_fields.specs.declared.fault.DocumentFault.{DocumentFault}
+use Rattle.ct_fields.specs.declared.fault.DocumentFault.TheVariants.{Bytes, NotToml, Kind, Field, Unknown, Digits, Size, Memory}
 use Rattle.ct_fields.proofs.StepLemmas.{bind-ok, bind-err, bind-at, bind-at_err, bind-cases, check-ok, check-err}
 use Rattle.ct_fields.proofs.FieldLemmas.{texts_field-ok, texts_field-from, field-missing}
 use Rattle.ct_fields.proofs.LastLemmas.{last_fields-ok, last_fields-from, last_fields-err, last_fields-wrong, last_fields-other, wrong_cites, other_key}
@@ -38,7 +38,7 @@ counts_taken basis words x e =
     (leb-true (length basis) MAX_N (check-ok _ (Size (length basis)) y first), within.0, within.1)
 
 -- the count that is refused
-count_wrong : (basis words : List ℕ) (fault : FileFault) → coset_count basis words ≡ Err fault → (c : ℕ) × (Size c ≡ fault) × IsWrongCount basis words c
+count_wrong : (basis words : List ℕ) (fault : DocumentFault) → coset_count basis words ≡ Err fault → (c : ℕ) × (Size c ≡ fault) × IsWrongCount basis words c
 count_wrong basis words fault e =
     elim (bind-err (check (nat_le (length basis) MAX_N) (Size (length basis))) _ fault e) [
       | inl many ↦
@@ -57,10 +57,10 @@ wrong_count basis words c (inr (few, same, out)) =
     (ap (λ k. Err (Size k)) (sym same))
 
 -- a text of no word among the first texts, or among those after them, is one of all
-wrong_before : (n : ℕ) (basis texts : List (List ℕ)) (fault : FileFault) → words_from n 0 basis ≡ Err fault → words_from n 0 (basis ++ texts) ≡ Err fault
+wrong_before : (n : ℕ) (basis texts : List (List ℕ)) (fault : DocumentFault) → words_from n 0 basis ≡ Err fault → words_from n 0 (basis ++ texts) ≡ Err fault
 wrong_before n basis texts fault e = words_from-append n 0 basis texts ∙ bind-at_err (words_from n 0 basis) _ fault e
 
-wrong_after : (n : ℕ) (basis texts : List (List ℕ)) (words : List ℕ) (fault : FileFault) → words_from n 0 basis ≡ Ok words
+wrong_after : (n : ℕ) (basis texts : List (List ℕ)) (words : List ℕ) (fault : DocumentFault) → words_from n 0 basis ≡ Ok words
     → words_from n (length basis) texts ≡ Err fault → words_from n 0 (basis ++ texts) ≡ Err fault
 wrong_after n basis texts words fault first e =
     words_from-append n 0 basis texts
@@ -68,7 +68,7 @@ wrong_after n basis texts words fault first e =
     ∙ bind-at_err (words_from n (0 + length basis) texts) _ fault (ap (λ k. words_from n k texts) (zero-add (length basis)) ∙ e)
 
 -- the fault of all texts is answered as it is said
-first_wrong : (document : Data) (e : Entry) (basis texts : List (List ℕ)) (fault : FileFault) → IsCosetsDocument document e basis texts
+first_wrong : (document : Data) (e : Entry) (basis texts : List (List ℕ)) (fault : DocumentFault) → IsCosetsDocument document e basis texts
     → words_from e.n 0 (basis ++ texts) ≡ Err fault → IsCosetsAnswer document (Err fault)
 first_wrong document e basis texts fault form read =
     let (i, is, first) = words_from-err e.n 0 (basis ++ texts) fault read in
@@ -85,7 +85,7 @@ pub cosets_answer : (ms : Members) → IsOfKind (codes "cosets") (table ms) → 
 unfolding cosets_evidence_of
 cosets_answer ms of_kind =
     let document = table ms in
-    let P : Result Evidence FileFault → Type 0 = IsCosetsAnswer document in
+    let P : Result Evidence DocumentFault → Type 0 = IsCosetsAnswer document in
     bind-cases P (plain_entry_of document) _ (λ e e-is.
     let entry = plain_entry_of-ok document e e-is in
     bind-cases P (texts_field Basis document) _ (λ basis_texts basis-are.
@@ -126,7 +126,7 @@ cosets_answer ms of_kind =
     subst (λ f. P (Err f)) is (entry_answer document name first))
 
 -- the steps up to the texts
-reads_fields : (document : Data) (e : Entry) (basis_texts texts : List (List ℕ)) (answer : Result Evidence FileFault) → HasCosets document e basis_texts texts
+reads_fields : (document : Data) (e : Entry) (basis_texts texts : List (List ℕ)) (answer : Result Evidence DocumentFault) → HasCosets document e basis_texts texts
     → (last_fields cosets_fields document >>= (λ _. words_from e.n 0 basis_texts >>= (λ basis. words_from e.n (length basis_texts) texts
     >>= (λ words. coset_count basis words >>= (λ _. Ok (evidence.Cosets e basis words)))))) ≡ answer
     → cosets_evidence_of document ≡ answer
@@ -138,7 +138,7 @@ reads_fields document e basis_texts texts answer fields rest =
     ∙ rest
 
 -- the steps up to the keys
-reads_form : (ms : Members) (e : Entry) (basis_texts texts : List (List ℕ)) (answer : Result Evidence FileFault) → IsCosetsDocument (table ms) e basis_texts texts
+reads_form : (ms : Members) (e : Entry) (basis_texts texts : List (List ℕ)) (answer : Result Evidence DocumentFault) → IsCosetsDocument (table ms) e basis_texts texts
     → (words_from e.n 0 basis_texts >>= (λ basis. words_from e.n (length basis_texts) texts
     >>= (λ words. coset_count basis words >>= (λ _. Ok (evidence.Cosets e basis words))))) ≡ answer
     → cosets_evidence_of (table ms) ≡ answer
@@ -146,7 +146,7 @@ reads_form ms e basis_texts texts answer form rest =
     reads_fields (table ms) e basis_texts texts answer form.fields (rw (last_fields-from cosets_fields ms form.last) rest)
 
 -- the steps up to the words
-reads_words : (ms : Members) (e : Entry) (basis words : List ℕ) (answer : Result Evidence FileFault) → StatesCosets (table ms) e basis words
+reads_words : (ms : Members) (e : Entry) (basis words : List ℕ) (answer : Result Evidence DocumentFault) → StatesCosets (table ms) e basis words
     → (coset_count basis words >>= (λ _. Ok (evidence.Cosets e basis words))) ≡ answer
     → cosets_evidence_of (table ms) ≡ answer
 reads_words ms e basis words answer states rest =
@@ -197,7 +197,7 @@ with_wrong_text ms e basis texts i form first =
     ])
 
 -- where an answer is said to come, it comes
-pub cosets_answer-from : (ms : Members) → (answer : Result Evidence FileFault) → IsCosetsAnswer (table ms) answer → cosets_evidence_of (table ms) ≡ answer
+pub cosets_answer-from : (ms : Members) → (answer : Result Evidence DocumentFault) → IsCosetsAnswer (table ms) answer → cosets_evidence_of (table ms) ≡ answer
 cosets_answer-from ms (Ok (evidence.Cosets e basis words)) (states, few_basis, some, few) =
     reads_words ms e basis words (Ok (evidence.Cosets e basis words)) states
     (rw (le-leb (length basis) MAX_N few_basis, le-leb 1 (length words) some, le-leb (length words) MAX_REPRESENTATIVES few) refl)
@@ -220,6 +220,6 @@ cosets_answer-from ms (Err Kind) never = absurd never
 cosets_answer-from ms (Err Memory) never = absurd never
 
 -- the answer to a document of kind cosets comes exactly where it is said to come
-pub cosets_answers : (ms : Members) → IsOfKind (codes "cosets") (table ms) → (answer : Result Evidence FileFault) → (cosets_evidence_of (table ms) ≡ answer) ↔ IsCosetsAnswer (table ms) answer
+pub cosets_answers : (ms : Members) → IsOfKind (codes "cosets") (table ms) → (answer : Result Evidence DocumentFault) → (cosets_evidence_of (table ms) ≡ answer) ↔ IsCosetsAnswer (table ms) answer
 cosets_answers ms of_kind answer =
     (λ same. subst (IsCosetsAnswer (table ms)) same (cosets_answer ms of_kind), cosets_answer-from ms answer)

@@ -19,8 +19,8 @@ use Rattle.ct_kind.specs.declared.evidence.Evidence.{Evidence}
 use Rattle.ct_kind.specs.declared.evidence.Evidence.TheVariants as evidence
 use Rattle.ct_fields.specs.declared.field.FieldName.{FieldName}
 use Rattle.ct_fields.specs.declared.field.FieldName.TheVariants.{N, D, W, Words, Cites}
-use Rattle.ct_fields.specs.declared.fault.FileFault.{FileFault}
-use Rattle.ct_fields.specs.declared.fault.FileFault.TheVariants.{Bytes, NotToml, Kind, Field, Unknown, Digits, Size, Memory}
+use Rattle.ct_fields.specs.declared.fault.DocumentFault.{DocumentFault}
+use Rattle.ct_fields.specs.declared.fault.DocumentFault.TheVariants.{Bytes, NotToml, Kind, Field, Unknown, Digits, Size, Memory}
 use Rattle.ct_fields.proofs.StepLemmas.{bind-at, bind-at_err, bind-cases, check-ok, check-err, ok_or-err}
 use Rattle.ct_fields.proofs.FieldLemmas.{texts_field-ok, texts_field-from, field-missing}
 use Rattle.ct_fields.proofs.LastLemmas.{last_fields-ok, last_fields-from, last_fields-err, last_fields-wrong, last_fields-other, wrong_cites, other_key}
@@ -48,7 +48,7 @@ count_refused high k (inl none) = rw none refl
 count_refused high k (inr many) = rw (le-leb 1 k (omega arith), lt-leb k high many) refl
 
 -- the fault of a field is its own
-pub field_fault : {A : Type 0} (found : Option A) (own fault : FileFault) → ok_or found own ≡ Err fault → own ≡ fault
+pub field_fault : {A : Type 0} (found : Option A) (own fault : DocumentFault) → ok_or found own ≡ Err fault → own ≡ fault
 field_fault found own fault e = let (_, same) = ok_or-err found own fault e in same
 
 -- a wrong entry is answered as it is said
@@ -63,7 +63,7 @@ pub words_answer : (ms : Members) → IsOfKind (codes "words") (table ms) → Is
 unfolding words_evidence_of
 words_answer ms of_kind =
     let document = table ms in
-    let P : Result Evidence FileFault → Type 0 = IsWordsAnswer document in
+    let P : Result Evidence DocumentFault → Type 0 = IsWordsAnswer document in
     bind-cases P (entry_of document) _ (λ e e-is.
     let entry = entry_of-ok document e e-is in
     bind-cases P (texts_field Words document) _ (λ texts texts-are.
@@ -93,7 +93,7 @@ words_answer ms of_kind =
     subst (λ f. P (Err f)) is (entry_answer document name first))
 
 -- the steps up to the texts
-reads_fields : (document : Data) (e : Entry) (texts : List (List ℕ)) (answer : Result Evidence FileFault) → HasWords document e texts
+reads_fields : (document : Data) (e : Entry) (texts : List (List ℕ)) (answer : Result Evidence DocumentFault) → HasWords document e texts
     → (last_fields words_fields document >>= (λ _. words_from e.n 0 texts >>= (λ words. word_count words >>= (λ _. Ok (evidence.Words e words))))) ≡ answer
     → words_evidence_of document ≡ answer
 unfolding words_evidence_of
@@ -103,14 +103,14 @@ reads_fields document e texts answer fields rest =
     ∙ rest
 
 -- the steps up to the keys
-reads_form : (ms : Members) (e : Entry) (texts : List (List ℕ)) (answer : Result Evidence FileFault) → IsWordsDocument (table ms) e texts
+reads_form : (ms : Members) (e : Entry) (texts : List (List ℕ)) (answer : Result Evidence DocumentFault) → IsWordsDocument (table ms) e texts
     → (words_from e.n 0 texts >>= (λ words. word_count words >>= (λ _. Ok (evidence.Words e words)))) ≡ answer
     → words_evidence_of (table ms) ≡ answer
 reads_form ms e texts answer form rest =
     reads_fields (table ms) e texts answer form.fields (rw (last_fields-from words_fields ms form.last) rest)
 
 -- the steps up to the words
-reads_words : (ms : Members) (e : Entry) (words : List ℕ) (answer : Result Evidence FileFault) → StatesWords (table ms) e words
+reads_words : (ms : Members) (e : Entry) (words : List ℕ) (answer : Result Evidence DocumentFault) → StatesWords (table ms) e words
     → (word_count words >>= (λ _. Ok (evidence.Words e words))) ≡ answer
     → words_evidence_of (table ms) ≡ answer
 reads_words ms e words answer states rest =
@@ -130,7 +130,7 @@ without_texts document e entry none =
     ∙ bind-at_err (texts_field Words document) _ (Field Words) (field-missing texts_in Words document (λ texts is. none texts (texts_field-ok Words document texts is)))
 
 -- where an answer is said to come, it comes
-pub words_answer-from : (ms : Members) → (answer : Result Evidence FileFault) → IsWordsAnswer (table ms) answer → words_evidence_of (table ms) ≡ answer
+pub words_answer-from : (ms : Members) → (answer : Result Evidence DocumentFault) → IsWordsAnswer (table ms) answer → words_evidence_of (table ms) ≡ answer
 words_answer-from ms (Ok (evidence.Words e words)) (states, some, few) =
     reads_words ms e words (Ok (evidence.Words e words)) states (rw (le-leb 1 (length words) some, le-leb (length words) MAX_WORDS few) refl)
 words_answer-from ms (Ok other) never = absurd never
@@ -154,6 +154,6 @@ words_answer-from ms (Err Kind) never = absurd never
 words_answer-from ms (Err Memory) never = absurd never
 
 -- the answer to a document of kind words comes exactly where it is said to come
-pub words_answers : (ms : Members) → IsOfKind (codes "words") (table ms) → (answer : Result Evidence FileFault) → (words_evidence_of (table ms) ≡ answer) ↔ IsWordsAnswer (table ms) answer
+pub words_answers : (ms : Members) → IsOfKind (codes "words") (table ms) → (answer : Result Evidence DocumentFault) → (words_evidence_of (table ms) ≡ answer) ↔ IsWordsAnswer (table ms) answer
 words_answers ms of_kind answer =
     (λ same. subst (IsWordsAnswer (table ms)) same (words_answer ms of_kind), words_answer-from ms answer)

@@ -11,17 +11,17 @@ use Rattle.ct_fields.specs.StatedEntry.{plain_entry_of}
 use Rattle.ct_kind.specs.declared.evidence.Evidence.{Evidence}
 use Rattle.ct_kind.specs.declared.evidence.Evidence.TheVariants.{Cosets}
 use Rattle.ct_fields.specs.declared.field.FieldName.TheVariants as name
-use Rattle.ct_fields.specs.declared.fault.FileFault.{FileFault}
-use Rattle.ct_fields.specs.declared.fault.FileFault.TheVariants.{Size}
+use Rattle.ct_fields.specs.declared.fault.DocumentFault.{DocumentFault}
+use Rattle.ct_fields.specs.declared.fault.DocumentFault.TheVariants.{Size}
 
 -- the fault of more than MAX_N words of a basis, or else of 0 or more than MAX_REPRESENTATIVES representatives
-abbrev pub coset_count : List ℕ → List ℕ → Result (Unit {0}) FileFault
+abbrev pub coset_count : List ℕ → List ℕ → Result (Unit {0}) DocumentFault
 coset_count basis representatives = do
   check (nat_le (length basis) MAX_N) (Size (length basis))
   check (nat_le 1 (length representatives) && nat_le (length representatives) MAX_REPRESENTATIVES) (Size (length representatives))
 
 -- the evidence of the texts of a basis and of representatives, for the entry
-abbrev pub cosets_of_texts : Entry → List (List ℕ) → List (List ℕ) → Result Evidence FileFault
+abbrev pub cosets_of_texts : Entry → List (List ℕ) → List (List ℕ) → Result Evidence DocumentFault
 cosets_of_texts e basis_texts texts = do
   basis ← words_from e.n 0 basis_texts
   representatives ← words_from e.n (length basis_texts) texts
@@ -29,7 +29,7 @@ cosets_of_texts e basis_texts texts = do
   Ok (Cosets e basis representatives)
 
 -- the evidence of a document of kind cosets: the texts of the representatives are counted on from those of the basis
-unfoldable pub cosets_evidence_of : Data → Result Evidence FileFault
+unfoldable pub cosets_evidence_of : Data → Result Evidence DocumentFault
 cosets_evidence_of document = do
   e ← plain_entry_of document
   basis_texts ← texts_field name.Basis document

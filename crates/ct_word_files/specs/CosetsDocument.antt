@@ -12,8 +12,8 @@ use Rattle.ct_fields.specs.declared.field.FieldName.{FieldName}
 use Rattle.ct_fields.specs.declared.field.FieldName.TheVariants.{N, D, Basis, Representatives, Cites}
 use Rattle.ct_kind.specs.declared.evidence.Evidence.{Evidence}
 use Rattle.ct_kind.specs.declared.evidence.Evidence.TheVariants as evidence
-use Rattle.ct_fields.specs.declared.fault.FileFault.{FileFault}
-use Rattle.ct_fields.specs.declared.fault.FileFault.TheVariants.{Field, Unknown, Digits, Size}
+use Rattle.ct_fields.specs.declared.fault.DocumentFault.{DocumentFault}
+use Rattle.ct_fields.specs.declared.fault.DocumentFault.TheVariants.{Field, Unknown, Digits, Size}
 
 -- the fields of a document of kind cosets
 abbrev pub cosets_fields : List FieldName
@@ -44,7 +44,7 @@ IsWrongCount basis representatives c =
     ⊎ ((length basis ≤ MAX_N) × (c ≡ length representatives) × ((c ≡ 0) ⊎ (MAX_REPRESENTATIVES < c)))
 
 -- where each answer comes for a document of kind cosets; each line is the case that comes after those above it
-abbrev pub IsCosetsAnswer : Data → Result Evidence FileFault → Type 0
+abbrev pub IsCosetsAnswer : Data → Result Evidence DocumentFault → Type 0
 -- the basis is missing or wrong
 IsCosetsAnswer document (Err (Field Basis)) =
     ((e : Entry) × StatesPlainEntry document e) × ((texts : List (List ℕ)) → ¬ (HasTexts Basis document texts))

@@ -11,8 +11,8 @@ use Rattle.ct_fields.specs.declared.field.FieldName.{FieldName}
 use Rattle.ct_fields.specs.declared.field.FieldName.TheVariants.{N, D, W, Words, Cites}
 use Rattle.ct_kind.specs.declared.evidence.Evidence.{Evidence}
 use Rattle.ct_kind.specs.declared.evidence.Evidence.TheVariants as evidence
-use Rattle.ct_fields.specs.declared.fault.FileFault.{FileFault}
-use Rattle.ct_fields.specs.declared.fault.FileFault.TheVariants.{Field, Unknown, Digits, Size}
+use Rattle.ct_fields.specs.declared.fault.DocumentFault.{DocumentFault}
+use Rattle.ct_fields.specs.declared.fault.DocumentFault.TheVariants.{Field, Unknown, Digits, Size}
 
 -- the fields of a document of kind words
 abbrev pub words_fields : List FieldName
@@ -35,7 +35,7 @@ pub record StatesWords (document : Data) (e : Entry) (words : List ℕ) : Type 0
   pub lengths : All (λ x. x < 2 ^ e.n) words
 
 -- where each answer comes for a document of kind words; each line is the case that comes after those above it
-abbrev pub IsWordsAnswer : Data → Result Evidence FileFault → Type 0
+abbrev pub IsWordsAnswer : Data → Result Evidence DocumentFault → Type 0
 -- the texts are missing or wrong
 IsWordsAnswer document (Err (Field Words)) = ((e : Entry) × StatesEntry document e) × ((texts : List (List ℕ)) → ¬ (HasTexts Words document texts))
 -- the cites are wrong

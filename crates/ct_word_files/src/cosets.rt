@@ -6,22 +6,22 @@ ghost use Rattle.ct_fields.specs.Reads.{Reads, texts_behind};
 ghost use Rattle.ct_word_files.specs.Cosets.{coset_count, cosets_of_texts, cosets_evidence_of};
 
 use ct_codes::{Entry, MAX_REPRESENTATIVES};
-use ct_fields::{FieldName, FileFault, last_fields, plain_entry, texts_field, words_from};
+use ct_fields::{FieldName, DocumentFault, last_fields, plain_entry, texts_field, words_from};
 use ct_kind::Evidence;
 use ct_words::{MAX_N, Word, WordList};
 use std::alloc::Global;
 use toml::Value;
 
 /// Refuses more than `MAX_N` basis words, and no representative or more than `MAX_REPRESENTATIVES`.
-fn coset_count(basis: &[Word], representatives: &[Word]) -> Result<(), FileFault>
+fn coset_count(basis: &[Word], representatives: &[Word]) -> Result<(), DocumentFault>
     ensures { result ≡ coset_count basis.now representatives.now }
 {
     if basis.len() > MAX_N as usize {
-        return Err(FileFault::Size(basis.len() as u64));
+        return Err(DocumentFault::Size(basis.len() as u64));
     }
     let count = representatives.len();
     if count == 0 || count > MAX_REPRESENTATIVES {
-        return Err(FileFault::Size(count as u64));
+        return Err(DocumentFault::Size(count as u64));
     }
     Ok(())
 }
@@ -32,7 +32,7 @@ fn cosets_of_texts(
     entry: Entry,
     basis_texts: &[&str],
     texts: &[&str],
-) -> Result<Evidence, FileFault>
+) -> Result<Evidence, DocumentFault>
     requires some { 1 ≤ entry.n }
     requires room { entry.n ≤ MAX_N }
     requires places { length basis_texts.now + length texts.now < 2 ^ 64 }
@@ -53,7 +53,7 @@ fn cosets_of_texts(
 
 /// The evidence that the document states, of kind cosets.
 #[tactic(auto, unfolding(crate::specs::Cosets::cosets_evidence_of))]
-pub fn cosets_evidence(alloc: Global, document: &Value) -> Result<Evidence, FileFault>
+pub fn cosets_evidence(alloc: Global, document: &Value) -> Result<Evidence, DocumentFault>
     ensures { Reads (λ evidence. evidence) result (cosets_evidence_of (view document.now)) }
 {
     let entry = plain_entry(document)?;

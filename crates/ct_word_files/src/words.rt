@@ -6,25 +6,25 @@ ghost use Rattle.ct_fields.specs.Reads.{Reads, texts_behind};
 ghost use Rattle.ct_word_files.specs.Words.{word_count, words_of_texts, words_evidence_of};
 
 use ct_codes::{Entry, MAX_WORDS};
-use ct_fields::{FieldName, FileFault, last_fields, stated_entry, texts_field, words_from};
+use ct_fields::{FieldName, DocumentFault, last_fields, stated_entry, texts_field, words_from};
 use ct_kind::Evidence;
 use ct_words::{Word, WordList};
 use std::alloc::Global;
 use toml::Value;
 
 /// Refuses a number of words that is 0 or above `MAX_WORDS`.
-fn word_count(words: &[Word]) -> Result<(), FileFault>
+fn word_count(words: &[Word]) -> Result<(), DocumentFault>
     ensures { result ≡ word_count words.now }
 {
     let count = words.len();
     if count == 0 || count > MAX_WORDS {
-        return Err(FileFault::Size(count as u64));
+        return Err(DocumentFault::Size(count as u64));
     }
     Ok(())
 }
 
 /// The evidence of the texts of words, for the entry.
-fn words_of_texts(alloc: Global, entry: Entry, texts: &[&str]) -> Result<Evidence, FileFault>
+fn words_of_texts(alloc: Global, entry: Entry, texts: &[&str]) -> Result<Evidence, DocumentFault>
     requires some { 1 ≤ entry.n }
     requires room { entry.n ≤ MAX_N }
     requires places { length texts.now < 2 ^ 64 }
@@ -38,7 +38,7 @@ fn words_of_texts(alloc: Global, entry: Entry, texts: &[&str]) -> Result<Evidenc
 
 /// The evidence that the document states, of kind words.
 #[tactic(auto, unfolding(crate::specs::Words::words_evidence_of))]
-pub fn words_evidence(alloc: Global, document: &Value) -> Result<Evidence, FileFault>
+pub fn words_evidence(alloc: Global, document: &Value) -> Result<Evidence, DocumentFault>
     ensures { Reads (λ evidence. evidence) result (words_evidence_of (view document.now)) }
 {
     let entry = stated_entry(document)?;

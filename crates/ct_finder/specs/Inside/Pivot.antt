@@ -1,6 +1,6 @@
 -- The best of the first candidates for the pivot row.
 use Rattle.std.specs.Prelude.{ℕ, Bool, ◌&&◌, List, [], get_or, Option, Some, None, ℤ}
-use Rattle.ct_finder.specs.Turn.{is_candidate, comes_before}
+use Rattle.ct_finder.specs.Pivot.{is_candidate, comes_before}
 
 -- the row at a place, with its basic column; an empty one where there is none
 abbrev pub line_at : List (List ℤ × ℕ) → ℕ → List ℤ × ℕ

@@ -5,11 +5,11 @@ use Rattle.ct_codes.specs.declared.claim.Claim.{Claim}
 use Rattle.ct_codes.specs.Code.{CodeValue}
 use Rattle.ct_codes.specs.Constructions.Places.{is_among}
 use Rattle.ct_rules.specs.Derivation.{LineValue}
-use Rattle.ct_rule_codes.specs.CodeEntry.{entry_of}
+use Rattle.ct_rule_codes.specs.CodeEntry.{entry_of_code}
 
 -- a code of what a claim bounds, with just as many words as it says
 pub record IsCodeFor (claim : Claim) (c : CodeValue) : Type 0 where
-  pub entry : entry_of c ≡ claim.entry
+  pub entry : entry_of_code c ≡ claim.entry
   pub size : length c.words ≡ claim.value
 
 -- codes for the claims of the lines at the places, in their order

@@ -37,8 +37,8 @@ abbrev pub AreTestedAtLength : List ℕ → WorkValue → Entry → ℕ → Type
 AreTestedAtLength bounds work from n = (d : ℕ) → IsTestedAtSum bounds work from n d
 
 -- at each entry that rests on one by words side by side
-abbrev pub AreTestedSideBySide : List ℕ → WorkValue → Entry → Type 0
-AreTestedSideBySide bounds work from = (supports : List Support) (m c : ℕ) (e : Entry) → applies supports (L11 m c) e ≡ true →
+abbrev pub AreTestedJuxtaposition : List ℕ → WorkValue → Entry → Type 0
+AreTestedJuxtaposition bounds work from = (supports : List Support) (m c : ℕ) (e : Entry) → applies supports (L11 m c) e ≡ true →
     Contains ((parts_over supports (L11 m c)).rests_on e) from → IsTestedAt supports bounds work (L11 m c) e
 
 -- at each entry that rests on a slot by a rule that leads from entries with weight to those without

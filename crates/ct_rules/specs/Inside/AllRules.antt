@@ -17,8 +17,8 @@ alone_on Lower = LOWER_RULES ++ LOWER_WEIGHT_RULES
 alone_on Upper = UPPER_RULES ++ UPPER_WEIGHT_RULES
 
 -- words side by side: the first code of each length from 1 to n - 1, and of each distance from 3 to d - 3
-abbrev pub side_by_side_rules : Entry → List Rule
-side_by_side_rules e = flat_map (λ n. map (λ d. L11 n d) (range_with_len 3 (e.d - 5))) (range_with_len 1 (e.n - 1))
+abbrev pub juxtaposition_rules : Entry → List Rule
+juxtaposition_rules e = flat_map (λ n. map (λ d. L11 n d) (range_with_len 3 (e.d - 5))) (range_with_len 1 (e.n - 1))
 
 -- sum classes: each residue below the length
 abbrev pub sum_class_rules : Entry → List Rule
@@ -26,7 +26,7 @@ sum_class_rules e = map (λ r. M9 r) (range_with_len 0 e.n)
 
 -- the rules with numbers
 abbrev pub rules_with_numbers : Slot → List Rule
-rules_with_numbers (Lower, e) = if has_weight e then sum_class_rules e else side_by_side_rules e
+rules_with_numbers (Lower, e) = if has_weight e then sum_class_rules e else juxtaposition_rules e
 rules_with_numbers (Upper, e) = []
 
 -- the rules that lead from entries with weight to those without: for each weight up to the length, and Johnson's

@@ -8,7 +8,7 @@ use Rattle.ct_rules.specs.Closed.{IsClosed}
 use Rattle.ct_closure.specs.Closing.{ClosingValue}
 use Rattle.ct_kept.specs.Kept.{IsKept}
 use Rattle.ct_slots.specs.Number.{bound_of}
-use Rattle.ct_slots.specs.Places.{GivesTo, side_of}
+use Rattle.ct_slots.specs.Places.{GivesTo, side_of_support}
 use Rattle.ct_slots.specs.Worklist.{WorkValue, IsMarked, IsIdle}
 
 -- closed over no supports, with no base yet
@@ -20,7 +20,7 @@ pub record IsBegun (closing : ClosingValue) : Type 0 where
 
 -- the slot to which a support gives something is marked
 abbrev pub IsMarkedIfGiven : WorkValue → Support → Type 0
-IsMarkedIfGiven work support = (e : Entry) → IsEntry e → GivesTo support e → IsMarked work (side_of support, e)
+IsMarkedIfGiven work support = (e : Entry) → IsEntry e → GivesTo support e → IsMarked work (side_of_support support, e)
 
 -- a table that is closed over the supports but the last, which stands at the place
 pub record CanFollow (supports : List Support) (place : ℕ) (closing : ClosingValue) : Type 0 where

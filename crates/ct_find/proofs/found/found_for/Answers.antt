@@ -3,7 +3,7 @@ use Rattle.std.proofs.lemmas.Result.{IfOk-weaker}
 use Rattle.ct_codes.specs.declared.entry.Entry.{Entry}
 use Rattle.ct_finder.specs.Found.{least_dual, stop_of}
 use Rattle.ct_codes.specs.Entry.{constant_weight}
-use Rattle.ct_find.specs.declared.found.TheConstants.{MAX_TURNS}
+use Rattle.ct_find.specs.declared.found.TheConstants.{MAX_PIVOTS}
 use Rattle.ct_finder.specs.Run.{End}
 use Rattle.ct_find.specs.Proposal.{found_dual, run_for, stop_for}
 use Rattle.ct_find.proofs.FoundLemmas.{plain-is, weighted-is, weighted-run}
@@ -36,5 +36,5 @@ returns-in-Some-clause-stop c =
     let run_is = weighted-run c.args.entry.n c.args.entry.d c.in-Some.w in
     IfOk-weaker c.find_weight.result _ _
     (λ o h. subst (λ (e : Entry). IfSome o (λ f. f.stop ≡ stop_for e)) (sym (weighted-is c.args.entry c.in-Some.w some))
-    (subst (λ (end : End). IfSome o (λ f. f.stop ≡ stop_of asked false MAX_TURNS end)) (sym run_is) h))
+    (subst (λ (end : End). IfSome o (λ f. f.stop ≡ stop_of asked false MAX_PIVOTS end)) (sym run_is) h))
     c.find_weight.ensures.stop

@@ -22,8 +22,8 @@ multipliers-requires g c =
     let cs = columns range degree in
     let opened = c.in_ok-tableau.ensures.value in
     let wide = ap (λ t. length t.cost) opened ∙ length-map cs cost_entry in
-    let ends = sym (c.in-Least.ensures.end range degree wide ∙ ap (run cs c.args.turns) opened) in
-    ap length c.as_slice.ensures.value ∙ (least-width (g.S.Scheme.number s) range degree c.args.turns (seen c.run.new.tableau) ends).cost
+    let ends = sym (c.in-Least.ensures.end range degree wide ∙ ap (run cs c.args.pivots) opened) in
+    ap length c.as_slice.ensures.value ∙ (least-width (g.S.Scheme.number s) range degree c.args.pivots (seen c.run.new.tableau) ends).cost
     ∙ ap (λ (d : ℕ). length (columns range d)) (sym c.degree.ensures)
 
 pub read_primal-requires-clause-width : goal.read_primal-requires-clause-width
@@ -34,8 +34,8 @@ read_primal-requires-clause-width g c =
     let cs = columns range degree in
     let opened = c.in_ok-tableau.ensures.value in
     let wide = ap (λ t. length t.cost) opened ∙ length-map cs cost_entry in
-    let ends = sym (c.in-Least.ensures.end range degree wide ∙ ap (run cs c.args.turns) opened) in
-    let has = least-width (g.S.Scheme.number s) range degree c.args.turns (seen c.run.new.tableau) ends in
+    let ends = sym (c.in-Least.ensures.end range degree wide ∙ ap (run cs c.args.pivots) opened) in
+    let has = least-width (g.S.Scheme.number s) range degree c.args.pivots (seen c.run.new.tableau) ends in
     subst (λ w. HasWidth w (seen c.run.new.tableau)) (sym has.cost) has
 
 pub read_primal-requires-clause-basic : goal.read_primal-requires-clause-basic
@@ -46,8 +46,8 @@ read_primal-requires-clause-basic g c =
     let cs = columns range degree in
     let opened = c.in_ok-tableau.ensures.value in
     let wide = ap (λ t. length t.cost) opened ∙ length-map cs cost_entry in
-    let ends = sym (c.in-Least.ensures.end range degree wide ∙ ap (run cs c.args.turns) opened) in
-    let solved = least-solved (g.S.Scheme.number s) range degree c.args.turns (seen c.run.new.tableau) c.requires.some ends in
+    let ends = sym (c.in-Least.ensures.end range degree wide ∙ ap (run cs c.args.pivots) opened) in
+    let solved = least-solved (g.S.Scheme.number s) range degree c.args.pivots (seen c.run.new.tableau) c.requires.some ends in
     subst (λ w. AreBasic w (seen c.run.new.tableau)) (sym solved.kept.width.cost) solved.basic
 
 pub returns-in-Least : goal.returns-in-Least
@@ -62,7 +62,7 @@ returns-in-Least g c =
     (c.in_ok-c-in-Least.ensures ∙ ap (λ (d : ℕ). multipliers_of (columns range d) d c.as_slice.result.now) c.degree.ensures
     ∙ ap (λ (row : List ℤ). multipliers_of cs degree row) c.as_slice.ensures.value)
     c.in_ok-primal-in-Least.ensures
-    ∙ ap (ending_of c.args.entry c.args.even range degree) (c.in-Least.ensures.end range degree wide ∙ ap (run cs c.args.turns) opened)
+    ∙ ap (ending_of c.args.entry c.args.even range degree) (c.in-Least.ensures.end range degree wide ∙ ap (run cs c.args.pivots) opened)
 
 pub returns-in-Turns : goal.returns-in-Turns
 returns-in-Turns g c =
@@ -72,7 +72,7 @@ returns-in-Turns g c =
     let cs = columns range degree in
     let opened = c.in_ok-tableau.ensures.value in
     let wide = ap (λ t. length t.cost) opened ∙ length-map cs cost_entry in
-    ap (ending_of c.args.entry c.args.even range degree) (c.in-Turns.ensures.end range degree wide ∙ ap (run cs c.args.turns) opened)
+    ap (ending_of c.args.entry c.args.even range degree) (c.in-Turns.ensures.end range degree wide ∙ ap (run cs c.args.pivots) opened)
 
 pub returns : goal.returns
 returns g c =
@@ -83,5 +83,5 @@ returns g c =
     let opened = c.in_ok-tableau.ensures.value in
     let wide = ap (λ t. length t.cost) opened ∙ length-map cs cost_entry in
     let fits : SFits w128 c.in-Wide.entry = search rules in
-    let whole = ap (ending_of c.args.entry c.args.even range degree) (c.in-Wide.ensures.end range degree wide ∙ ap (run cs c.args.turns) opened) in
+    let whole = ap (ending_of c.args.entry c.args.even range degree) (c.in-Wide.ensures.end range degree wide ∙ ap (run cs c.args.pivots) opened) in
     first_of (cc whole, search (rules, whole), grind (arith, to_z-of_z, whole))

@@ -26,54 +26,54 @@ run_over-requires c = record {
 pub found-requires-clause-form : goal.found-requires-clause-form
 found-requires-clause-form c =
     let e = unrestricted c.args.n c.args.d in
-    let known = plain-found c.args.n c.args.d c.args.even c.args.turns c.deref.result.now c.in_ok-ending.ending c.in_ok-c.c c.parts-multipliers.result.1 c.requires
+    let known = plain-found c.args.n c.args.d c.args.even c.args.pivots c.deref.result.now c.in_ok-ending.ending c.in_ok-c.c c.parts-multipliers.result.1 c.requires
     (c.deref.ensures.value ∙ c.in_ok-range.ensures) c.in_ok-ending.ensures (multipliers_is (replicate (suc c.args.n) (pos 1)) c.parts-multipliers.ensures.multipliers c.in_ok-c.ensures) c.parts-multipliers.ensures.stop in
     known.form
 
 pub found-requires-clause-accepted : goal.found-requires-clause-accepted
 found-requires-clause-accepted c =
     let e = unrestricted c.args.n c.args.d in
-    let known = plain-found c.args.n c.args.d c.args.even c.args.turns c.deref.result.now c.in_ok-ending.ending c.in_ok-c.c c.parts-multipliers.result.1 c.requires
+    let known = plain-found c.args.n c.args.d c.args.even c.args.pivots c.deref.result.now c.in_ok-ending.ending c.in_ok-c.c c.parts-multipliers.result.1 c.requires
     (c.deref.ensures.value ∙ c.in_ok-range.ensures) c.in_ok-ending.ensures (multipliers_is (replicate (suc c.args.n) (pos 1)) c.parts-multipliers.ensures.multipliers c.in_ok-c.ensures) c.parts-multipliers.ensures.stop in
     known.accepted
 
 pub returns-clause-dual : goal.returns-clause-dual
 returns-clause-dual c =
     let e = unrestricted c.args.n c.args.d in
-    let known = plain-found c.args.n c.args.d c.args.even c.args.turns c.deref.result.now c.in_ok-ending.ending c.in_ok-c.c c.parts-multipliers.result.1 c.requires
+    let known = plain-found c.args.n c.args.d c.args.even c.args.pivots c.deref.result.now c.in_ok-ending.ending c.in_ok-c.c c.parts-multipliers.result.1 c.requires
     (c.deref.ensures.value ∙ c.in_ok-range.ensures) c.in_ok-ending.ensures (multipliers_is (replicate (suc c.args.n) (pos 1)) c.parts-multipliers.ensures.multipliers c.in_ok-c.ensures) c.parts-multipliers.ensures.stop in
     c.found.ensures.dual ∙ known.dual
 
 pub returns-clause-stop : goal.returns-clause-stop
 returns-clause-stop c =
     let e = unrestricted c.args.n c.args.d in
-    let known = plain-found c.args.n c.args.d c.args.even c.args.turns c.deref.result.now c.in_ok-ending.ending c.in_ok-c.c c.parts-multipliers.result.1 c.requires
+    let known = plain-found c.args.n c.args.d c.args.even c.args.pivots c.deref.result.now c.in_ok-ending.ending c.in_ok-c.c c.parts-multipliers.result.1 c.requires
     (c.deref.ensures.value ∙ c.in_ok-range.ensures) c.in_ok-ending.ensures (multipliers_is (replicate (suc c.args.n) (pos 1)) c.parts-multipliers.ensures.multipliers c.in_ok-c.ensures) c.parts-multipliers.ensures.stop in
     c.found.ensures.stop ∙ known.stop_is
 
 pub returns-clause-form : goal.returns-clause-form
 returns-clause-form c =
     let e = unrestricted c.args.n c.args.d in
-    let known = plain-found c.args.n c.args.d c.args.even c.args.turns c.deref.result.now c.in_ok-ending.ending c.in_ok-c.c c.parts-multipliers.result.1 c.requires
+    let known = plain-found c.args.n c.args.d c.args.even c.args.pivots c.deref.result.now c.in_ok-ending.ending c.in_ok-c.c c.parts-multipliers.result.1 c.requires
     (c.deref.ensures.value ∙ c.in_ok-range.ensures) c.in_ok-ending.ensures (multipliers_is (replicate (suc c.args.n) (pos 1)) c.parts-multipliers.ensures.multipliers c.in_ok-c.ensures) c.parts-multipliers.ensures.stop in
     subst IsDual (sym c.found.ensures.dual) known.form
 
 pub returns-clause-accepted : goal.returns-clause-accepted
 returns-clause-accepted c =
     let e = unrestricted c.args.n c.args.d in
-    let known = plain-found c.args.n c.args.d c.args.even c.args.turns c.deref.result.now c.in_ok-ending.ending c.in_ok-c.c c.parts-multipliers.result.1 c.requires
+    let known = plain-found c.args.n c.args.d c.args.even c.args.pivots c.deref.result.now c.in_ok-ending.ending c.in_ok-c.c c.parts-multipliers.result.1 c.requires
     (c.deref.ensures.value ∙ c.in_ok-range.ensures) c.in_ok-ending.ensures (multipliers_is (replicate (suc c.args.n) (pos 1)) c.parts-multipliers.ensures.multipliers c.in_ok-c.ensures) c.parts-multipliers.ensures.stop in
     subst (λ (t : Dual). dual_fault (numbers_of t.entry) t ≡ None) (sym c.found.ensures.dual) known.accepted
 
 pub returns-clause-shown : goal.returns-clause-shown
 returns-clause-shown c =
-    let known = plain-found c.args.n c.args.d c.args.even c.args.turns c.deref.result.now c.in_ok-ending.ending c.in_ok-c.c c.parts-multipliers.result.1 c.requires
+    let known = plain-found c.args.n c.args.d c.args.even c.args.pivots c.deref.result.now c.in_ok-ending.ending c.in_ok-c.c c.parts-multipliers.result.1 c.requires
     (c.deref.ensures.value ∙ c.in_ok-range.ensures) c.in_ok-ending.ensures (multipliers_is (replicate (suc c.args.n) (pos 1)) c.parts-multipliers.ensures.multipliers c.in_ok-c.ensures) c.parts-multipliers.ensures.stop in
     subst (λ (s : Stop). IsShown s c.found.result.dual) (sym c.found.ensures.stop) (subst (IsShown c.parts-multipliers.result.1) (sym c.found.ensures.dual) known.shown)
 
 pub returns-clause-least : goal.returns-clause-least
 returns-clause-least c = λ p is.
-    let known = plain-found c.args.n c.args.d c.args.even c.args.turns c.deref.result.now c.in_ok-ending.ending c.in_ok-c.c c.parts-multipliers.result.1 c.requires
+    let known = plain-found c.args.n c.args.d c.args.even c.args.pivots c.deref.result.now c.in_ok-ending.ending c.in_ok-c.c c.parts-multipliers.result.1 c.requires
     (c.deref.ensures.value ∙ c.in_ok-range.ensures) c.in_ok-ending.ensures (multipliers_is (replicate (suc c.args.n) (pos 1)) c.parts-multipliers.ensures.multipliers c.in_ok-c.ensures) c.parts-multipliers.ensures.stop in
     stop-least p c.found.result.stop c.found.result.dual
     (subst (λ (s : Stop). IsShown s c.found.result.dual) (sym c.found.ensures.stop) (subst (IsShown c.parts-multipliers.result.1) (sym c.found.ensures.dual) known.shown)) is

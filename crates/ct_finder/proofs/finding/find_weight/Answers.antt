@@ -22,54 +22,54 @@ run_over-requires c =
 
 pub returns-in-None-clause-dual : goal.returns-in-None-clause-dual
 returns-in-None-clause-dual c =
-    weighted-none (constant_weight c.args.n c.args.d c.args.w) c.args.turns c.deref.result.now c.in_ok-ending.ending
+    weighted-none (constant_weight c.args.n c.args.d c.args.w) c.args.pivots c.deref.result.now c.in_ok-ending.ending
     (c.deref.ensures.value ∙ c.in_ok-range.ensures) c.in_ok-ending.ensures (sym c.in-None.is ∙ c.parts-multipliers.ensures.multipliers)
 
 pub found-requires-clause-form : goal.found-requires-clause-form
 found-requires-clause-form c =
-    let known = weighted-found c.args.n c.args.d c.args.w c.args.turns c.deref.result.now c.in_ok-ending.ending c.in-Some.c c.parts-multipliers.result.1 c.requires
+    let known = weighted-found c.args.n c.args.d c.args.w c.args.pivots c.deref.result.now c.in_ok-ending.ending c.in-Some.c c.parts-multipliers.result.1 c.requires
     (c.deref.ensures.value ∙ c.in_ok-range.ensures) c.in_ok-ending.ensures (sym c.in-Some.is ∙ c.parts-multipliers.ensures.multipliers) c.parts-multipliers.ensures.stop in
     known.form
 
 pub found-requires-clause-accepted : goal.found-requires-clause-accepted
 found-requires-clause-accepted c =
-    let known = weighted-found c.args.n c.args.d c.args.w c.args.turns c.deref.result.now c.in_ok-ending.ending c.in-Some.c c.parts-multipliers.result.1 c.requires
+    let known = weighted-found c.args.n c.args.d c.args.w c.args.pivots c.deref.result.now c.in_ok-ending.ending c.in-Some.c c.parts-multipliers.result.1 c.requires
     (c.deref.ensures.value ∙ c.in_ok-range.ensures) c.in_ok-ending.ensures (sym c.in-Some.is ∙ c.parts-multipliers.ensures.multipliers) c.parts-multipliers.ensures.stop in
     known.accepted
 
 pub returns-clause-dual : goal.returns-clause-dual
 returns-clause-dual c =
-    let known = weighted-found c.args.n c.args.d c.args.w c.args.turns c.deref.result.now c.in_ok-ending.ending c.in-Some.c c.parts-multipliers.result.1 c.requires
+    let known = weighted-found c.args.n c.args.d c.args.w c.args.pivots c.deref.result.now c.in_ok-ending.ending c.in-Some.c c.parts-multipliers.result.1 c.requires
     (c.deref.ensures.value ∙ c.in_ok-range.ensures) c.in_ok-ending.ensures (sym c.in-Some.is ∙ c.parts-multipliers.ensures.multipliers) c.parts-multipliers.ensures.stop in
     ap Some c.found.ensures.dual ∙ known.dual
 
 pub returns-clause-form : goal.returns-clause-form
 returns-clause-form c =
-    let known = weighted-found c.args.n c.args.d c.args.w c.args.turns c.deref.result.now c.in_ok-ending.ending c.in-Some.c c.parts-multipliers.result.1 c.requires
+    let known = weighted-found c.args.n c.args.d c.args.w c.args.pivots c.deref.result.now c.in_ok-ending.ending c.in-Some.c c.parts-multipliers.result.1 c.requires
     (c.deref.ensures.value ∙ c.in_ok-range.ensures) c.in_ok-ending.ensures (sym c.in-Some.is ∙ c.parts-multipliers.ensures.multipliers) c.parts-multipliers.ensures.stop in
     subst IsDual (sym c.found.ensures.dual) known.form
 
 pub returns-clause-accepted : goal.returns-clause-accepted
 returns-clause-accepted c =
-    let known = weighted-found c.args.n c.args.d c.args.w c.args.turns c.deref.result.now c.in_ok-ending.ending c.in-Some.c c.parts-multipliers.result.1 c.requires
+    let known = weighted-found c.args.n c.args.d c.args.w c.args.pivots c.deref.result.now c.in_ok-ending.ending c.in-Some.c c.parts-multipliers.result.1 c.requires
     (c.deref.ensures.value ∙ c.in_ok-range.ensures) c.in_ok-ending.ensures (sym c.in-Some.is ∙ c.parts-multipliers.ensures.multipliers) c.parts-multipliers.ensures.stop in
     subst (λ (t : Dual). dual_fault (numbers_of t.entry) t ≡ None) (sym c.found.ensures.dual) known.accepted
 
 pub returns-clause-stop : goal.returns-clause-stop
 returns-clause-stop c =
-    let known = weighted-found c.args.n c.args.d c.args.w c.args.turns c.deref.result.now c.in_ok-ending.ending c.in-Some.c c.parts-multipliers.result.1 c.requires
+    let known = weighted-found c.args.n c.args.d c.args.w c.args.pivots c.deref.result.now c.in_ok-ending.ending c.in-Some.c c.parts-multipliers.result.1 c.requires
     (c.deref.ensures.value ∙ c.in_ok-range.ensures) c.in_ok-ending.ensures (sym c.in-Some.is ∙ c.parts-multipliers.ensures.multipliers) c.parts-multipliers.ensures.stop in
     c.found.ensures.stop ∙ known.stop_is
 
 pub returns-clause-shown : goal.returns-clause-shown
 returns-clause-shown c =
-    let known = weighted-found c.args.n c.args.d c.args.w c.args.turns c.deref.result.now c.in_ok-ending.ending c.in-Some.c c.parts-multipliers.result.1 c.requires
+    let known = weighted-found c.args.n c.args.d c.args.w c.args.pivots c.deref.result.now c.in_ok-ending.ending c.in-Some.c c.parts-multipliers.result.1 c.requires
     (c.deref.ensures.value ∙ c.in_ok-range.ensures) c.in_ok-ending.ensures (sym c.in-Some.is ∙ c.parts-multipliers.ensures.multipliers) c.parts-multipliers.ensures.stop in
     (subst (λ (s : Stop). IsShown s c.found.result.dual) (sym c.found.ensures.stop) (subst (IsShown c.parts-multipliers.result.1) (sym c.found.ensures.dual) known.shown))
 
 pub returns-clause-least : goal.returns-clause-least
 returns-clause-least c = λ p is.
-    let known = weighted-found c.args.n c.args.d c.args.w c.args.turns c.deref.result.now c.in_ok-ending.ending c.in-Some.c c.parts-multipliers.result.1 c.requires
+    let known = weighted-found c.args.n c.args.d c.args.w c.args.pivots c.deref.result.now c.in_ok-ending.ending c.in-Some.c c.parts-multipliers.result.1 c.requires
     (c.deref.ensures.value ∙ c.in_ok-range.ensures) c.in_ok-ending.ensures (sym c.in-Some.is ∙ c.parts-multipliers.ensures.multipliers) c.parts-multipliers.ensures.stop in
     stop-least p c.found.result.stop c.found.result.dual
     (subst (λ (s : Stop). IsShown s c.found.result.dual) (sym c.found.ensures.stop) (subst (IsShown c.parts-multipliers.result.1) (sym c.found.ensures.dual) known.shown)) is

@@ -4,7 +4,7 @@ use Rattle.std.specs.Prelude.{ℤ, pos, int_lt, int_le, zip, IfSome, Some, None,
 use Rattle.std.proofs.lemmas.Int.{ints, to_z-of_z}
 use mir.Val.{SFits}
 use mir.Syntax.{w64}
-use Rattle.ct_finder.specs.Turn.{at, is_candidate, comes_before}
+use Rattle.ct_finder.specs.Pivot.{at, is_candidate, comes_before}
 use Rattle.ct_finder.specs.Inside.Pivot.{line_at, is_better}
 use Rattle.ct_finder.proofs.Best.{line-is}
 use Rattle.ct_finder.proofs.pivot.is_better.Goals as goal

@@ -3,7 +3,7 @@ use Rattle.std.proofs.Common.{◌≡◌, ℕ, ◌<◌, List, [], length, sym, ap
 use Rattle.std.specs.Prelude.{ℤ}
 use Rattle.std.proofs.lemmas.List.{get_or_default}
 use Rattle.ct_duals.specs.Bound.{natural}
-use Rattle.ct_finder.specs.Turn.{at, constant_of}
+use Rattle.ct_finder.specs.Pivot.{at, constant_of}
 use Rattle.ct_finder.specs.Basic.{row_at, basic_at}
 use Rattle.ct_finder.proofs.RunPoints.{line-at}
 use Rattle.ct_finder.specs.Ready.{seen}

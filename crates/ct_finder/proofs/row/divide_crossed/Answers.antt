@@ -7,7 +7,7 @@ use Rattle.std.proofs.lemmas.List.{length-map, get_or-map}
 use Rattle.std.proofs.lemmas.List.Elements.{All-set}
 use mir.Val.{SFits}
 use mir.Syntax.{w64, w128}
-use Rattle.ct_finder.specs.Turn.{is_wide, crossed}
+use Rattle.ct_finder.specs.Pivot.{is_wide, crossed}
 use Rattle.ct_finder.proofs.Written.{written-more, written-end, written-at, find-more, find-here}
 use Rattle.ct_finder.proofs.CrossedRows.{length-crossed, crossed-at}
 use Rattle.ct_finder.proofs.row.divide_crossed.Goals as goal

@@ -6,7 +6,7 @@ use Rattle.std.proofs.lemmas.List.{drop_all}
 use mir.Val.{SFits}
 use mir.Syntax.{w64, w128}
 use Rattle.ct_finder.specs.Divisor.{gcd, gcd_of}
-use Rattle.ct_finder.specs.Turn.{crossed}
+use Rattle.ct_finder.specs.Pivot.{crossed}
 use Rattle.ct_finder.proofs.CrossedRows.{length-crossed, crossed-at, with_entry, divisor-more, divisor-one}
 use Rattle.ct_finder.proofs.row.gcd_of_crossed.Goals as goal
 

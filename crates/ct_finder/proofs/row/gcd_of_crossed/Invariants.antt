@@ -2,7 +2,7 @@
 use Rattle.std.proofs.Common.{◌≡◌, ◌<◌, ◌^◌, drop}
 use Rattle.std.specs.Prelude.{fold}
 use Rattle.ct_finder.specs.Divisor.{gcd_of}
-use Rattle.ct_finder.specs.Turn.{crossed}
+use Rattle.ct_finder.specs.Pivot.{crossed}
 use Rattle.ct_finder.proofs.CrossedRows.{with_entry}
 use Rattle.ct_finder.proofs.row.gcd_of_crossed.Given as goal
 

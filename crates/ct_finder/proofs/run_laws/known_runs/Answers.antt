@@ -7,9 +7,9 @@ pub returns-clause-weighted : goal.returns-clause-weighted
 unfolding johnson
 returns-clause-weighted c = refl
 
-pub returns-clause-weighted_turns : goal.returns-clause-weighted_turns
+pub returns-clause-weighted_pivots : goal.returns-clause-weighted_pivots
 unfolding johnson
-returns-clause-weighted_turns c = refl
+returns-clause-weighted_pivots c = refl
 
 pub returns-clause-weighted_bound : goal.returns-clause-weighted_bound
 unfolding dual_bound
@@ -27,9 +27,9 @@ pub returns-clause-tied : goal.returns-clause-tied
 unfolding krawtchouk
 returns-clause-tied c = refl
 
-pub returns-clause-tied_turns : goal.returns-clause-tied_turns
+pub returns-clause-tied_pivots : goal.returns-clause-tied_pivots
 unfolding krawtchouk
-returns-clause-tied_turns c = refl
+returns-clause-tied_pivots c = refl
 
 pub returns-clause-tied_bound : goal.returns-clause-tied_bound
 unfolding dual_bound

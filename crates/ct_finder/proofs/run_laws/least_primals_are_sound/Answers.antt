@@ -4,6 +4,6 @@ use Rattle.ct_finder.proofs.run_laws.least_primals_are_sound.Goals as goal
 pub returns : goal.returns
 returns c = record {
   form = primal-form;
-  sound = λ number e even turns last some ends. primal-sound number e even last (solved-of number e even turns last some ends);
-  value = λ number e even turns last some one ends. primal-value number e even last one (solved-of number e even turns last some ends);
+  sound = λ number e even pivots last some ends. primal-sound number e even last (solved-of number e even pivots last some ends);
+  value = λ number e even pivots last some one ends. primal-value number e even last one (solved-of number e even pivots last some ends);
 }

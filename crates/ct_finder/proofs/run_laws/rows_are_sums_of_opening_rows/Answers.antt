@@ -6,5 +6,5 @@ use Rattle.ct_finder.proofs.Ends.{kept-after}
 use Rattle.ct_finder.proofs.run_laws.rows_are_sums_of_opening_rows.Goals as goal
 
 pub returns : goal.returns
-returns c = λ number e even turns.
-    (kept-after number (columns_of e even) (degree_of e) turns (opening_of number e even) (kept-opening number (range_of e even) (degree_of e))).sums
+returns c = λ number e even pivots.
+    (kept-after number (columns_of e even) (degree_of e) pivots (opening_of number e even) (kept-opening number (range_of e even) (degree_of e))).sums

@@ -13,7 +13,7 @@ use Rattle.ct_codes.specs.declared.fault.CodeFault.TheVariants as fault
 use Rattle.ct_codes.specs.declared.entry.Entry.{Entry}
 use Rattle.ct_laws.proofs.OnLiterals.{evidence_on_literals}
 use Rattle.ct_kind.specs.declared.evidence.Evidence.TheVariants.{Words, Cosets}
-use Rattle.ct_fields.specs.declared.fault.FileFault.TheVariants as file
+use Rattle.ct_fields.specs.declared.fault.DocumentFault.TheVariants as file
 use Rattle.ct_commands.specs.Form.{form_of}
 use Rattle.ct_pieces.specs.Piece.{PieceValue}
 use Rattle.ct_pieces.specs.Submission.{submitted}

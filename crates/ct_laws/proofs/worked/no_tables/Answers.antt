@@ -1,5 +1,5 @@
 use Rattle.std.proofs.Common.{◌∙◌, Err, ap, lit<, refl}
-use Rattle.ct_fields.specs.declared.fault.FileFault.TheVariants.{Bytes}
+use Rattle.ct_fields.specs.declared.fault.DocumentFault.TheVariants.{Bytes}
 use Rattle.ct_files.proofs.DocumentAnswers.{read_of-long}
 use Rattle.ct_laws.proofs.OnLiterals.{evidence_on_literals}
 use Rattle.ct_laws.proofs.worked.no_tables.Goals as goal

@@ -1,5 +1,5 @@
 use Rattle.ct_pieces.specs.Supports.{supports_of}
-use Rattle.ct_list.proofs.RowCodes.{punctured_made, far_sums_made, side_by_side_made, complemented_made}
+use Rattle.ct_list.proofs.RowCodes.{punctured_made, far_sums_made, juxtaposition_made, complemented_made}
 use Rattle.ct_list.proofs.rows.code_by_rule.Goals as goal
 
 pub returns-in-L6 : goal.returns-in-L6
@@ -17,7 +17,7 @@ returns-in-L8-2 c =
 pub returns-in-L11 : goal.returns-in-L11
 returns-in-L11 c =
     let made = c.juxtapose.ensures in
-    side_by_side_made (supports_of c.args.ledger.now.pieces) c.args.rule c.in-L11.field-0 c.in-L11.field-1 c.args.entry c.args.codes.items
+    juxtaposition_made (supports_of c.args.ledger.now.pieces) c.args.rule c.in-L11.field-0 c.in-L11.field-1 c.args.entry c.args.codes.items
     c.both-first-in-L11.result.0 c.both-first-in-L11.result.1 c.juxtapose.result
     c.in-L11.is c.requires.parts c.both-first-in-L11.ensures made.n made.d made.w made.words
 

@@ -6,14 +6,14 @@ use Rattle.ct_offers.proofs.TestedLemmas.{tested_by_rules}
 use Rattle.ct_offers.proofs.DualLemmas.{below-not_above, tested_from_plain}
 use Rattle.ct_offers.proofs.marking.mark_dependents.Goals as goal
 
-pub returns-in_ok-mark_side_by_side-in-Lower-None-clause-tested : goal.returns-in_ok-mark_side_by_side-in-Lower-None-clause-tested
-returns-in_ok-mark_side_by_side-in-Lower-None-clause-tested c =
+pub returns-in_ok-mark_juxtaposition-in-Lower-None-clause-tested : goal.returns-in_ok-mark_juxtaposition-in-Lower-None-clause-tested
+returns-in_ok-mark_juxtaposition-in-Lower-None-clause-tested c =
     let supports = c.args.supports.now in
     let bounds = c.args.bounds.now in
     let first = c.mark_by_resting.new.work in
     let second = c.mark_by_weight.new.work in
-    let third = c.mark_side_by_side.new.work in
-    let last = c.in_ok-mark_side_by_side-in-Lower-None.ensures in
+    let third = c.mark_juxtaposition.new.work in
+    let last = c.in_ok-mark_juxtaposition-in-Lower-None.ensures in
     tested_by_rules supports bounds third c.args.side c.args.entry
     (all_tested_more supports bounds first third c.args.entry (rules_alone (c.args.side, c.args.entry)) (keeps-trans first second third c.in_ok-mark_by_weight.ensures.kept last.kept) c.in_ok-mark_by_resting.ensures.tested)
     (by_weight_more supports bounds second third (c.args.side, c.args.entry) last.kept c.in_ok-mark_by_weight.ensures.tested)

@@ -1,5 +1,5 @@
 use Rattle.std.proofs.Common.{◌≡◌, ◌*◌, length, take}
-use Rattle.ct_partitions.specs.Product.{pairs_at, ArePlaces}
+use Rattle.ct_partitions.specs.Product.{pairs_at, ArePairsOfPlaces}
 use Rattle.ct_partition_files.specs.ProductKind.{factors_named}
 use Rattle.ct_partition_files.proofs.product_kind.factors.Given as goal
 
@@ -7,6 +7,6 @@ abbrev pub invariant-loop-pair : goal.invariant-loop-pair
 invariant-loop-pair g l = record {
   count : length l.parts.items ≡ 2 * l.pair-index;
   pairs : length l.places.items ≡ l.pair-index;
-  places : ArePlaces (length l.parts.items) l.places.items;
+  places : ArePairsOfPlaces (length l.parts.items) l.places.items;
   factors : pairs_at l.parts.items l.places.items ≡ factors_named (g.P.Partitions.known l.fn.pieces) (take l.pair-index l.pairs);
 }

@@ -6,7 +6,7 @@ use Rattle.ct_words.specs.Word.{distance}
 use Rattle.ct_words.specs.PairProducts.{all_places}
 use Rattle.ct_codes.specs.Pairs.{least_pair}
 use Rattle.ct_codes.proofs.PairLemmas.{least_pair_same, IsLeastPair-from}
-use Rattle.ct_partitions.specs.Partition.{word_lists, all_words}
+use Rattle.ct_partitions.specs.Partition.{word_lists, words_of_classes}
 use Rattle.ct_partitions.specs.Check.{is_close}
 use Rattle.ct_partitions.specs.Inside.Rows.{IsLesser}
 use Rattle.ct_partitions.proofs.ClassLemmas.{lists_more, words_up_to}
@@ -15,7 +15,7 @@ use Rattle.ct_partitions.proofs.LeastLemmas.{least_of_all, least_of_two, least_o
 use Rattle.ct_partitions.proofs.close.first_close_places.Goals as goal
 
 -- the least close pair, whatever the length that the words are read at
-any_length : (n d between : ℕ) (classes : List (List ℕ)) (words : List ℕ) → words ≡ all_words classes → All (λ x. x < 2 ^ n) words
+any_length : (n d between : ℕ) (classes : List (List ℕ)) (words : List ℕ) → words ≡ words_of_classes classes → All (λ x. x < 2 ^ n) words
     → All (λ x. x < 2 ^ 32) words
     → least_pair (is_close 32 d between classes) (all_places (length words)) ≡ least_pair (is_close n d between classes) (all_places
     (length words))
@@ -43,7 +43,7 @@ returns-clause-least c = λ n below.
     let test = λ (x y : ℕ). nat_lt (distance 32 x y) c.args.between in
     let fits = All-from_get_or (λ x. x < 2 ^ 32) words 0 (λ j h. Fits-lt-pow (c.type_inv.words j)) in
     let all = ap length c.requires.words in
-    let taken = ap (λ vs. length (all_words (word_lists vs))) (take_all c.loop-class.class-index classes (omega arith)) in
+    let taken = ap (λ vs. length (words_of_classes (word_lists vs))) (take_all c.loop-class.class-index classes (omega arith)) in
     let place = c.loop-class.invariant.place in
     let end : c.loop-class.start ≡ length words = omega arith in
     least_of_all test close words c.first_close_pair-across.result (c.first_close_pair-across.ensures.least 32 fits)
@@ -60,9 +60,9 @@ loop-class-preserved c =
     let close = λ (x y : ℕ). nat_lt (distance 32 x y) c.args.d in
     let within = c.loop-class-test.true in
     let size : c.len.result ≡ length item.items = search rules in
-    let end_is : c.loop-class.start + c.len.result ≡ length (all_words (word_lists (take k classes))) + length (get_or classes k item).items =
+    let end_is : c.loop-class.start + c.len.result ≡ length (words_of_classes (word_lists (take k classes))) + length (get_or classes k item).items =
     ap₂ (λ i j. i + j) c.loop-class.invariant.place (size ∙ ap (λ v. length v.items) c.class-item.is) in
-    let more = ap length (lists_more classes k item within) ∙ length-append (all_words (word_lists (take k classes))) (get_or classes k item).items in
+    let more = ap length (lists_more classes k item within) ∙ length-append (words_of_classes (word_lists (take k classes))) (get_or classes k item).items in
     let fits = All-from_get_or (λ x. x < 2 ^ 32) words 0 (λ j h. Fits-lt-pow (c.type_inv.words j)) in
     let items = c.deref.ensures.value ∙ ap (λ v. v.items) c.class-item.is in
     let none = sym (ap (least_pair close) items)
@@ -82,7 +82,7 @@ returns-in-Some-clause-least c = λ n below.
     let classes = c.args.classes.now in
     let k = c.loop-class.class-index in
     let item = c.class-item.result in
-    let start = length (all_words (word_lists (take k classes))) in
+    let start = length (words_of_classes (word_lists (take k classes))) in
     let close = λ (x y : ℕ). nat_lt (distance 32 x y) c.args.d in
     let test = λ (x y : ℕ). nat_lt (distance 32 x y) c.args.between in
     let within = c.loop-class-test.true in

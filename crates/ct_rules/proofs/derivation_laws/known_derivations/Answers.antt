@@ -28,8 +28,8 @@ sixteen_at_seven = record { claim = claim_at (upper_at 7 3) 16; rule = U4; from 
 twice_sixteen_at_eight : LineValue
 twice_sixteen_at_eight = record { claim = claim_at (upper_at 8 3) 32; rule = U6; from = 1 ∷ [] }
 
-side_by_side : LineValue
-side_by_side = record { claim = claim_at (lower_at 6 6) 1; rule = L11 3 3; from = 0 ∷ 0 ∷ [] }
+juxtaposition : LineValue
+juxtaposition = record { claim = claim_at (lower_at 6 6) 1; rule = L11 3 3; from = 0 ∷ 0 ∷ [] }
 
 supported : LineValue
 supported = record { claim = claim_at (lower_at 6 4) 4; rule = L10 0; from = [] }
@@ -58,9 +58,9 @@ returns-clause-from_above c =
     (record { earlier = one_place 2 1 (omega arith); side = refl; premises = refl; value = refl })
 
 pub returns-clause-place_named_twice : goal.returns-clause-place_named_twice
-unfolding row_of one_at side_by_side
+unfolding row_of one_at juxtaposition
 returns-clause-place_named_twice c =
-    derivation-push [] (one_at 3 3 ∷ []) side_by_side
+    derivation-push [] (one_at 3 3 ∷ []) juxtaposition
     (derivation-push [] [] (one_at 3 3) (derivation-nil [])
     (record { earlier = All-nil (λ q. q < 0); side = refl; premises = refl; value = refl }))
     (record {

@@ -2,7 +2,7 @@ use Rattle.std.proofs.Common.{◌≡◌, ◌+◌, ◌∷◌, ◌++◌, [], take,
 use Rattle.std.proofs.lemmas.List.{take_more}
 use Rattle.ct_pieces.specs.Piece.{PieceValue}
 use Rattle.ct_sample.specs.Drawn.{may_lengthen, lengthening, last_lengthening}
-use Rattle.ct_sample.proofs.Bare.{last-more}
+use Rattle.ct_sample.proofs.WithoutDocuments.{last-more}
 use Rattle.ct_sample.proofs.drawing.last_lengthening.Goals as goal
 use Rattle.ct_sample.proofs.drawing.last_lengthening.Goals.{then-may_lengthen, else-may_lengthen}
 

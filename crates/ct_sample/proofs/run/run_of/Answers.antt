@@ -9,15 +9,15 @@ loop-before-init c =
     let small = c.ranges.number.fits in
     let is = c.from-seed.ensures in (c.in_ok-run.ensures, is, omega (arith, small, is))
 
-pub obey-requires-clause-sound : goal.obey-requires-clause-sound
-obey-requires-clause-sound c =
+pub apply_if_any-requires-clause-sound : goal.apply_if_any-requires-clause-sound
+apply_if_any-requires-clause-sound c =
     let run = c.loop-before.run in
     let h = c.next-seed.result / 65536 in
     sound_step c.args.number c.loop-before.before (c.loop-before.before + 1) h run c.in_ok-command.command c.loop-before.invariant.0
     (command_is (c.loop-before.before + 1) h c.pieces.result.now run c.in_ok-command.command c.pieces.ensures c.in_ok-command.ensures)
 
-pub obey-requires-clause-room : goal.obey-requires-clause-room
-obey-requires-clause-room c =
+pub apply_if_any-requires-clause-room : goal.apply_if_any-requires-clause-room
+apply_if_any-requires-clause-room c =
     let small = c.ranges.number.fits in
     room_step c.args.number c.loop-before.before c.loop-before.run c.loop-before.invariant.0 c.loop-before-test.true (omega (arith, small))
 
@@ -28,8 +28,8 @@ loop-before-preserved c =
     let h = c.next-seed.result / 65536 in
     let drew = seed_step c.args.number before c.loop-before.seed c.next-seed.result c.loop-before.invariant.1 c.next-seed.ensures.number in
     let small = c.next-seed.ensures.small in (
-      run_step c.args.number before h run c.obey.new.self c.in_ok-command.command c.loop-before.invariant.0 (ap (λ (k : ℕ). k / 65536) drew)
-          (command_is (before + 1) h c.pieces.result.now run c.in_ok-command.command c.pieces.ensures c.in_ok-command.ensures) c.in_ok-obey.ensures,
+      run_step c.args.number before h run c.apply_if_any.new.self c.in_ok-command.command c.loop-before.invariant.0 (ap (λ (k : ℕ). k / 65536) drew)
+          (command_is (before + 1) h c.pieces.result.now run c.in_ok-command.command c.pieces.ensures c.in_ok-command.ensures) c.in_ok-apply_if_any.ensures,
       drew,
       omega (arith, small),
     )

@@ -1,5 +1,5 @@
 use Rattle.std.proofs.Common.{◌==◌, ◌∙◌}
-use Rattle.ct_sample.proofs.Obeying.{bit_is}
+use Rattle.ct_sample.proofs.Applying.{bit_is}
 use Rattle.ct_sample.proofs.Summaries.{tally_more}
 use Rattle.ct_sample.proofs.tally.with_entry.Goals as goal
 

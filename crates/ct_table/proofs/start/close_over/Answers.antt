@@ -6,7 +6,7 @@ use Rattle.ct_kept.specs.Kept.{IsKept}
 use Rattle.ct_slots.specs.Number.{bound_of}
 use Rattle.ct_table.proofs.BaseLemmas.{IsKept-over}
 use Rattle.ct_table.proofs.MoreLemmas.{pending_over_more}
-use Rattle.ct_table.proofs.PlacedSupports.{given_marked, ArePlaces-is}
+use Rattle.ct_table.proofs.PlacedSupports.{given_marked, AreSupportPlaces-is}
 use Rattle.ct_table.proofs.start.close_over.Goals as goal
 
 pub close-requires-clause-closing : goal.close-requires-clause-closing
@@ -24,10 +24,10 @@ close-requires-clause-closing c =
 
 pub close-requires-clause-places : goal.close-requires-clause-places
 close-requires-clause-places c =
-    ArePlaces-is c.args.supports.now c.place_supports.new.places c.in_ok-place_supports.ensures.places
+    AreSupportPlaces-is c.args.supports.now c.place_supports.new.places c.in_ok-place_supports.ensures.places
 
 pub returns-clause-places : goal.returns-clause-places
 returns-clause-places c =
     on_ok_weaker c.close.result
-    (λ closed. ArePlaces-is c.args.supports.now c.place_supports.new.places c.in_ok-place_supports.ensures.places)
+    (λ closed. AreSupportPlaces-is c.args.supports.now c.place_supports.new.places c.in_ok-place_supports.ensures.places)
     c.close.ensures.closed

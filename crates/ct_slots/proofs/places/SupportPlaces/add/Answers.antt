@@ -20,7 +20,7 @@ invariant_of-self-in_err-push c =
 pub invariant_of-self-2 : goal.invariant_of-self-2
 invariant_of-self-2 c =
     let old = c.self.inside in
-    let entry = c.entry_of-entry.result in
+    let entry = c.entry_of_support-entry.result in
     let place = c.len-place.result in
     let value = c.deref_mut.ensures.value in
     let at = c.chain.ensures.before ∙ ap (λ (ls : List (Option ℕ)). last_at ls entry) value in
@@ -31,4 +31,4 @@ invariant_of-self-2 c =
     (subst (λ (entries : List (Option Entry)). length entries < 2 ^ 32 → length old.entries.items < 2 ^ 32) c.self.view_is (λ h. h) c.requires) in
     AreChained-added old.entries.items c.push.new.self.items old.before.items c.make_room.new.before.items old.last.items c.chain.new.last
     entry place old.last.len c.chain.result c.self.invariant c.make_room.ensures.no_less c.make_room.ensures.kept c.in_ok-make_room.ensures.room
-    few here c.entry_of-entry.ensures.in_table c.in_ok-push.ensures.items at last count
+    few here c.entry_of_support-entry.ensures.in_table c.in_ok-push.ensures.items at last count

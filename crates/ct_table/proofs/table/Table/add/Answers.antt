@@ -2,11 +2,11 @@ use Rattle.std.proofs.Common.{◌≡◌, ◌+◌, ◌<◌, ◌^◌, ◌++◌, �
 use Rattle.std.proofs.lemmas.List.{take_at}
 use Rattle.ct_rule_parts.specs.declared.support.Support.{Support}
 use Rattle.ct_closure.specs.Closing.{IsClosing}
-use Rattle.ct_slots.specs.Places.{ArePlaces, entry_of}
+use Rattle.ct_slots.specs.Places.{AreSupportPlaces, entry_of_support}
 use Rattle.ct_table.specs.Inside.Starting.{CanFollow}
 use Rattle.ct_table.specs.Table.{TableValue}
 use Rattle.ct_table.proofs.CallLemmas.{CanFollow-more, IsTable-closed, IsTable-again}
-use Rattle.ct_table.proofs.PlacedSupports.{ArePlaces-push, ArePlaces-is}
+use Rattle.ct_table.proofs.PlacedSupports.{AreSupportPlaces-push, AreSupportPlaces-is}
 use Rattle.ct_table.proofs.table.Table.add.Goals as goal
 
 pub follow-done-requires-clause-new : goal.follow-done-requires-clause-new
@@ -21,11 +21,11 @@ follow-done-requires-clause-new c =
 pub follow-done-requires-clause-places : goal.follow-done-requires-clause-places
 follow-done-requires-clause-places c =
     let t = c.self.inside in
-    subst (λ (s : List Support). ArePlaces s c.add.new.self)
+    subst (λ (s : List Support). AreSupportPlaces s c.add.new.self)
     (sym (c.deref.ensures.value ∙ c.push_reserved.ensures.items
     ∙ ap (λ (s : List Support). s ++ c.args.support ∷ []) c.in_ok-reserve.ensures.items))
-    (subst (ArePlaces (t.supports.items ++ c.args.support ∷ [])) (sym c.in_ok-add.ensures.added)
-    (ArePlaces-push t.supports.items t.places c.args.support c.self.invariant.1))
+    (subst (AreSupportPlaces (t.supports.items ++ c.args.support ∷ [])) (sym c.in_ok-add.ensures.added)
+    (AreSupportPlaces-push t.supports.items t.places c.args.support c.self.invariant.1))
 
 pub invariant_of-self-in_default : goal.invariant_of-self-in_default
 invariant_of-self-in_default c =
@@ -40,9 +40,9 @@ invariant_of-self-in_default c =
       IsTable-closed t.supports.items c.push_reserved.new.self.items t.closing.kept t.base t.closing c.follow-done.new.closing can.stand
           can.few c.self.invariant.0.kept c.self.invariant.0.base refl
           (subst (λ (s : List Support). IsClosing s c.self.inside.closing c.follow-done.new.closing) c.deref.ensures.value c.in_default.ensures.closed),
-      subst (λ (s : List Support). ArePlaces s c.add.new.self) (sym longer)
-          (subst (ArePlaces (t.supports.items ++ c.args.support ∷ [])) (sym c.in_ok-add.ensures.added)
-          (ArePlaces-push t.supports.items t.places c.args.support c.self.invariant.1)),
+      subst (λ (s : List Support). AreSupportPlaces s c.add.new.self) (sym longer)
+          (subst (AreSupportPlaces (t.supports.items ++ c.args.support ∷ [])) (sym c.in_ok-add.ensures.added)
+          (AreSupportPlaces-push t.supports.items t.places c.args.support c.self.invariant.1)),
     )
 
 pub invariant_of-self-in-Err : goal.invariant_of-self-in-Err
@@ -56,6 +56,6 @@ invariant_of-self-in-Err c =
     ∙ take_at c.self.inside.supports.items (c.args.support ∷ []) c.len-place.result (sym at) in (
       IsTable-again t.supports.items c.truncate.new.self.items t.closing.kept c.follow-done.new.closing.kept t.base t.closing.work
           c.follow-done.new.closing.work c.self.invariant.0 back c.in-Err.ensures.unchanged c.in-Err.ensures.idle,
-      ArePlaces-is c.truncate.new.self.items c.rebuild.new.self
-          (c.rebuild.ensures ∙ ap (map entry_of) c.deref-in-Err.ensures.value),
+      AreSupportPlaces-is c.truncate.new.self.items c.rebuild.new.self
+          (c.rebuild.ensures ∙ ap (map entry_of_support) c.deref-in-Err.ensures.value),
     )

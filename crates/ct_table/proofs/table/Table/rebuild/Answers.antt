@@ -1,7 +1,7 @@
 use Rattle.std.proofs.Common.{[], List, sym, subst, refl}
 use Rattle.ct_rule_parts.specs.declared.support.Support.{Support}
 use Rattle.ct_closure.specs.Closing.{ClosingValue, IsClosing}
-use Rattle.ct_slots.specs.Places.{ArePlaces}
+use Rattle.ct_slots.specs.Places.{AreSupportPlaces}
 use Rattle.ct_table.specs.Inside.Starting.{IsBegun}
 use Rattle.ct_table.proofs.CallLemmas.{IsTable-closed, IsKept-begun, IsBase-begun}
 use Rattle.ct_table.proofs.table.Table.rebuild.Goals as goal
@@ -22,5 +22,5 @@ invariant_of-result c =
           (IsBase-begun c.closing.inside.kept c.begin-2.new.self c.in_ok-base.base begun.kept c.in_ok-base.ensures.begun
           c.in_ok-base.ensures.base) refl
           (subst (λ (s : List Support). IsClosing s before c.close_over.new.closing) same c.in_ok-close_over.ensures.closed),
-      subst (λ (s : List Support). ArePlaces s c.close_over.new.places) same c.in_ok-close_over.ensures.places,
+      subst (λ (s : List Support). AreSupportPlaces s c.close_over.new.places) same c.in_ok-close_over.ensures.places,
     )

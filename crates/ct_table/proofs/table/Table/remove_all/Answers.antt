@@ -7,7 +7,7 @@ use Rattle.ct_rules.proofs.VoidedSupports.{length-voided}
 use Rattle.ct_rules.proofs.WithoutLemmas.{length-without}
 use Rattle.std.specs.Prelude.{Option}
 use Rattle.ct_codes.specs.declared.entry.Entry.{Entry}
-use Rattle.ct_slots.specs.Places.{ArePlaces, entry_of}
+use Rattle.ct_slots.specs.Places.{AreSupportPlaces, entry_of_support}
 use Rattle.ct_closure.specs.Closing.{HasMoreLines}
 use Rattle.ct_kept.specs.Kept.{KeptValue, set_back}
 use Rattle.ct_slots.specs.Worklist.{WorkValue}
@@ -17,8 +17,8 @@ use Rattle.ct_table.specs.Inside.Removing.{IsTakenOut}
 use Rattle.ct_table.specs.Removal.{KeepsReasons}
 use Rattle.ct_table.specs.Table.{TableValue, IsTable, table_of}
 use Rattle.ct_table.proofs.CallLemmas.{IsTable-again}
-use Rattle.ct_table.proofs.ExchangeLemmas.{voids, put_back, length-replicate, without-voided, ArePlaces-voided}
-use Rattle.ct_table.proofs.PlacedSupports.{ArePlaces-is}
+use Rattle.ct_table.proofs.ExchangeLemmas.{voids, put_back, length-replicate, without-voided, AreSupportPlaces-voided}
+use Rattle.ct_table.proofs.PlacedSupports.{AreSupportPlaces-is}
 use Rattle.ct_table.proofs.RemovalLemmas.{IsTable-without, KeepsReasons-without}
 use Rattle.ct_table.proofs.table.Table.remove_all.Goals as goal
 
@@ -54,8 +54,8 @@ take_out-done-requires-clause-places c =
     ∙ voids (marked c.args.gone.now) c.self.inside.supports.items c.in_ok-taken.taken.items c.exchange.new.supports
     c.self.inside.supports.len size (given ∙ ap (λ (n : ℕ). replicate n Nothing) count)
     (c.exchange.ensures.supports ∙ (λ i. exchanged (marked c.args.gone.now) (c.deref_mut.ensures.value i) (c.deref_mut-2.ensures.value i))) in
-    subst (λ (s : List Support). ArePlaces s c.self.inside.places) (sym void)
-    (ArePlaces-voided (marked c.args.gone.now) c.self.inside.supports.items c.self.inside.places c.self.invariant.1)
+    subst (λ (s : List Support). AreSupportPlaces s c.self.inside.places) (sym void)
+    (AreSupportPlaces-voided (marked c.args.gone.now) c.self.inside.supports.items c.self.inside.places c.self.invariant.1)
 
 pub invariant_of-self : goal.invariant_of-self
 invariant_of-self c =
@@ -74,7 +74,7 @@ invariant_of-self c =
     (other ∙ (λ i. exchanged (marked c.args.gone.now) (here i) (there i))) in (
       IsTable-again t.supports.items _ t.closing.kept c.take_out-done.new.closing.kept t.base t.closing.work c.take_out-done.new.closing.work
           c.self.invariant.0 back c.in-Err.ensures.unchanged c.in-Err.ensures.idle,
-      subst (λ (s : List Support). ArePlaces s c.self.inside.places) (sym back) c.self.invariant.1,
+      subst (λ (s : List Support). AreSupportPlaces s c.self.inside.places) (sym back) c.self.invariant.1,
     )
 
 pub returns-in-Err-clause-unchanged : goal.returns-in-Err-clause-unchanged
@@ -153,7 +153,7 @@ invariant_of-self-2 c =
     let r = removal c in (
       IsTable-without (marked c.args.gone.now) c.self.inside.supports.items c.leave_out.new.supports.items c.self.inside.closing.kept _
           c.self.inside.closing.work _ c.lower.new.self r.table r.taken r.more c.lower.ensures (left_items c),
-      ArePlaces-is c.leave_out.new.supports.items c.rebuild.new.self (c.rebuild.ensures ∙ ap (map entry_of) c.deref-2.ensures.value),
+      AreSupportPlaces-is c.leave_out.new.supports.items c.rebuild.new.self (c.rebuild.ensures ∙ ap (map entry_of_support) c.deref-2.ensures.value),
     )
 
 pub returns-clause-supports : goal.returns-clause-supports

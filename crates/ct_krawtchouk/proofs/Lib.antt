@@ -1,2 +1,0 @@
-pub mod KrawtchoukSteps
-pub mod Quotients

@@ -1,2 +1,0 @@
-pub mod Krawtchouk
-pub mod Hamming

@@ -1,0 +1,65 @@
+//! Johnson's bounds by the words with a zero at a place.
+
+ghost use Rattle.std.specs.Prelude.{◌≡◌, ◌+◌, ◌-◌, true, false, [], ◌∷◌, Some};
+ghost use Rattle.ct_words.specs.declared.limits.TheConstants.{MAX_N};
+ghost use Rattle.ct_codes.specs.Entry.{IsEntry, unrestricted, constant_weight};
+ghost use Rattle.ct_rule_parts.specs.Parts.{is_defined};
+ghost use Rattle.ct_weight_rules.specs.JohnsonZero.{johnson_zero_below, johnson_zero_above};
+
+use ct_codes::Entry;
+use ct_rule_parts::first;
+
+/// What M6 gives where its premise has this value v: of v words of length n + 1 and weight w at least ⌈(n+1−w)·v/(n+1)⌉ have a
+/// zero at some place. A missing value counts as 0, and so does a missing weight.
+pub fn count_with_zero(entry: Entry, values: &[u32]) -> u64
+    requires { IsEntry entry }
+    ensures { Some result ≡ johnson_zero_below.number entry values.now }
+{
+    let w = entry.w.unwrap_or(0);
+    let zeros = u64::from((entry.n + 1).saturating_sub(w)) * first(values);
+    zeros.div_ceil(u64::from(entry.n + 1))
+}
+
+/// What V5 gives where its premise has this value u: where at most u words have a zero at each place, there are at most
+/// ⌊n·u/(n−w)⌋. A missing value counts as 0, and so does a missing weight. The number is 0 where w is n, where V5 is not
+/// defined.
+pub fn bound_by_zeros(entry: Entry, values: &[u32]) -> u64
+    requires { IsEntry entry }
+    ensures { Some result ≡ johnson_zero_above.number entry values.now }
+{
+    let w = entry.w.unwrap_or(0);
+    let zeros = u64::from(entry.n) * first(values);
+    zeros
+        .checked_div(u64::from(entry.n.saturating_sub(w)))
+        .unwrap_or(0)
+}
+
+/// Where the rules are defined, with the least and the greatest lengths, distances and weights, what they rest on and what they
+/// give: A(9,4,3) ≥ 10 from A(10,4,3) = 13, and A(10,4,7) = 13 from A(9,4,7) = 4.
+pub fn known_johnson_zero()
+    ensures below_first { is_defined johnson_zero_below (constant_weight 1 4 0) ≡ true }
+    ensures below_first_rests_on { johnson_zero_below.rests_on (constant_weight 1 4 0) ≡ constant_weight 2 4 0 ∷ [] }
+    ensures below_last { is_defined johnson_zero_below (constant_weight (MAX_N - 1) MAX_N (MAX_N - 1)) ≡ true }
+    ensures below_last_rests_on { johnson_zero_below.rests_on (constant_weight (MAX_N - 1) MAX_N (MAX_N - 1)) ≡ constant_weight MAX_N MAX_N (MAX_N - 1) ∷ [] }
+    ensures below_value { johnson_zero_below.number (constant_weight 9 4 3) (13 ∷ []) ≡ Some 10 }
+    ensures below_whole { johnson_zero_below.number (constant_weight 7 4 4) (14 ∷ []) ≡ Some 7 }
+    ensures below_long { is_defined johnson_zero_below (constant_weight MAX_N 4 3) ≡ false }
+    ensures below_too_long { is_defined johnson_zero_below (constant_weight (MAX_N + 1) 4 3) ≡ false }
+    ensures below_odd_distance { is_defined johnson_zero_below (constant_weight 8 5 3) ≡ false }
+    ensures below_heavy { is_defined johnson_zero_below (constant_weight 8 4 9) ≡ false }
+    ensures below_within { is_defined johnson_zero_below (constant_weight 8 6 4) ≡ true }
+    ensures below_no_weight { is_defined johnson_zero_below (unrestricted 8 6) ≡ false }
+    ensures above_first { is_defined johnson_zero_above (constant_weight 2 4 0) ≡ true }
+    ensures above_first_rests_on { johnson_zero_above.rests_on (constant_weight 2 4 0) ≡ constant_weight 1 4 0 ∷ [] }
+    ensures above_last { is_defined johnson_zero_above (constant_weight MAX_N MAX_N (MAX_N - 1)) ≡ true }
+    ensures above_last_rests_on { johnson_zero_above.rests_on (constant_weight MAX_N MAX_N (MAX_N - 1)) ≡ constant_weight (MAX_N - 1) MAX_N (MAX_N - 1) ∷ [] }
+    ensures above_value { johnson_zero_above.number (constant_weight 10 4 7) (4 ∷ []) ≡ Some 13 }
+    ensures above_whole { johnson_zero_above.number (constant_weight 8 4 4) (7 ∷ []) ≡ Some 14 }
+    ensures above_short { is_defined johnson_zero_above (constant_weight 1 4 0) ≡ false }
+    ensures above_no_zeros { is_defined johnson_zero_above (constant_weight 8 4 8) ≡ false }
+    ensures above_too_long { is_defined johnson_zero_above (constant_weight (MAX_N + 1) 4 3) ≡ false }
+    ensures above_odd_distance { is_defined johnson_zero_above (constant_weight 8 5 3) ≡ false }
+    ensures above_heavy { is_defined johnson_zero_above (constant_weight 8 4 9) ≡ false }
+    ensures above_within { is_defined johnson_zero_above (constant_weight 8 6 4) ≡ true }
+    ensures above_no_weight { is_defined johnson_zero_above (unrestricted 8 6) ≡ false }
+{}
