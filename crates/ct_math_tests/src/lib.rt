@@ -18,8 +18,6 @@ mod elementary;
 #[cfg(test)]
 mod johnson;
 #[cfg(test)]
-mod known_codes;
-#[cfg(test)]
 mod known_duals;
 #[cfg(test)]
 mod krawtchouk;

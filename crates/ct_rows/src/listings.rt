@@ -8,52 +8,47 @@ use ct_words::{MAX_N, Word, parse_word};
 use std::alloc::{AllocError, Global};
 use std::io;
 
-/// An entry, and how many words of a code of it are listed in a session without pieces.
+/// An entry, with what is submitted before, and how many words of a code of it are listed then.
 #[derive(Clone, Copy)]
 struct Listing {
+    before: &'static str,
     n: u32,
     d: u32,
     w: Option<u32>,
     size: usize,
 }
 
-const LISTINGS: [Listing; 6] = [
+/// A listing of a code of the entry.
+const fn listing(before: &'static str, n: u32, d: u32, w: Option<u32>, size: usize) -> Listing {
     Listing {
-        n: 1,
-        d: 30,
-        w: None,
-        size: 1,
-    },
-    Listing {
-        n: 5,
-        d: 3,
-        w: None,
-        size: 4,
-    },
-    Listing {
-        n: 8,
-        d: 4,
-        w: None,
-        size: 16,
-    },
-    Listing {
-        n: 4,
-        d: 4,
-        w: Some(0),
-        size: 1,
-    },
-    Listing {
-        n: 6,
-        d: 4,
-        w: Some(3),
-        size: 4,
-    },
-    Listing {
-        n: 16,
-        d: 8,
-        w: None,
-        size: 32,
-    },
+        before,
+        n,
+        d,
+        w,
+        size,
+    }
+}
+
+/// The seven lines of the Fano plane.
+const FANO_PLANE: &str = "submit fano lines 5\nkind='words'\nn=7\nd=4\nw=3\nwords=['1101000','0110100','0011010','0001101','1000110','0100011','1010001']\n";
+
+/// The extended Hamming code has 16 words; two words differ at all of 30 places, or have 15 ones each and none in common; the triples of six
+/// places whose sum is 0 modulo 6 are 4. Four lines of the Fano plane miss a point, the complements of all are seven, and of weight 4 and
+/// length 8 the greatest sum class has 10 words, more than the lines with a place more.
+const LISTINGS: [Listing; 13] = [
+    listing("", 1, 30, None, 1),
+    listing("", 29, 30, None, 1),
+    listing("", 30, 30, None, 2),
+    listing("", 30, 30, Some(15), 2),
+    listing("", 5, 3, None, 4),
+    listing("", 8, 4, None, 16),
+    listing("", 4, 4, Some(0), 1),
+    listing("", 6, 4, Some(3), 4),
+    listing("", 16, 8, None, 32),
+    listing(FANO_PLANE, 7, 4, Some(3), 7),
+    listing(FANO_PLANE, 6, 4, Some(3), 4),
+    listing(FANO_PLANE, 7, 4, Some(4), 7),
+    listing(FANO_PLANE, 8, 4, Some(4), 10),
 ];
 
 /// The entry as a command names it.
@@ -65,14 +60,25 @@ fn entry_words(alloc: Global, listing: Listing) -> Result<String, AllocError> {
     }
 }
 
-/// What the program writes for a session of the one line.
-fn output_of(alloc: Global, line: &str) -> Result<Vec<u8>, AllocError> {
+/// What the program writes for a session of these lines.
+fn output_of(alloc: Global, lines: &str) -> Result<Vec<u8>, AllocError> {
     let words = [String::from_str(alloc, "session")?];
-    let input = Vec::from_slice(alloc, line.as_bytes())?;
+    let input = Vec::from_slice(alloc, lines.as_bytes())?;
     let mut source = MemSource::new(input, Vec::new(alloc), 4096);
     let mut sink = MemSink::new(alloc, 262_144, Vec::new(alloc), 65_536)?;
     run(alloc, &words, &mut source, &mut sink);
     sink.bytes.to_vec(alloc)
+}
+
+/// What is written after the line of the submission, where there was one.
+fn after_submission(listing: Listing, output: &[u8]) -> &[u8] {
+    if listing.before.is_empty() {
+        return output;
+    }
+    match output.iter().position(|byte| *byte == b'\n') {
+        Some(end) => &output[end..][1..],
+        None => output,
+    }
 }
 
 /// The words of length n of the lines after the first, where each of these is one.
@@ -127,11 +133,11 @@ pub fn run_all(rt: &(impl Print + AllocGlobal), tally: &mut Tally) -> io::Result
     let alloc = rt.alloc();
     for listing in LISTINGS {
         let entry = entry_words(alloc, listing)?;
-        let line = format!(in alloc; "list {entry}\n")?;
-        let output = output_of(alloc, line.as_str())?;
-        let is_met = is_listed(alloc, listing, &output)?;
+        let lines = format!(in alloc; "{}list {entry}\n", listing.before)?;
+        let output = output_of(alloc, lines.as_str())?;
+        let is_met = is_listed(alloc, listing, after_submission(listing, &output))?;
         let came = str::from_utf8(&output).unwrap_or("no text");
-        tally.count(rt, line.as_str().trim_end(), is_met, came)?;
+        tally.count(rt, lines.as_str().trim_end(), is_met, came)?;
     }
     Ok(())
 }

@@ -4,49 +4,13 @@ ghost use Rattle.std.specs.Prelude.{IfOk};
 ghost use Rattle.ct_rule_parts.specs.Support.{Stands};
 
 use ct_codes::{Entry, check_cosets, check_words};
+use ct_math_laws::{GOLAY, NORDSTROM_ROBINSON, REED_MULLER};
 use ct_rules::Support;
 use ct_table::Table;
 use ct_words::{MAX_BOUND, Word, weight};
 use std::alloc::Global;
 use std::process::Abort;
 use std::test::Fail;
-
-/// A basis of the extended Golay code of length 24 and distance 8 (Golay 1949).
-const GOLAY: [Word; 12] = [
-    0b101011100011000000000001,
-    0b010101110001100000000001,
-    0b001010111000110000000001,
-    0b000101011100011000000001,
-    0b000010101110001100000001,
-    0b000001010111000110000001,
-    0b000000101011100011000001,
-    0b000000010101110001100001,
-    0b000000001010111000110001,
-    0b000000000101011100011001,
-    0b000000000010101110001101,
-    0b000000000001010111000111,
-];
-
-/// A basis of the Reed-Muller code of length 16, order 1 and distance 8.
-const REED_MULLER: [Word; 5] = [
-    0b1111111111111111,
-    0b0000000011111111,
-    0b0000111100001111,
-    0b0011001100110011,
-    0b0101010101010101,
-];
-
-/// Its cosets with these words are the code of Nordstrom and Robinson (1967), of distance 6.
-const NORDSTROM_ROBINSON: [Word; 8] = [
-    0b0000000000000000,
-    0b0001000100011110,
-    0b0000010100111001,
-    0b0000001101101010,
-    0b0000011001011100,
-    0b0001001001000111,
-    0b0001010001110010,
-    0b0001011100100100,
-];
 
 /// A basis and representatives whose cosets are a code of length n and distance d.
 #[derive(Clone, Copy)]

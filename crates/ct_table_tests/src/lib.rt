@@ -1,4 +1,4 @@
-//! Tests of the table: its rules, closed tables, tables while supports come and go, explained bounds, and codes that are listed.
+//! Tests of the table: its rules, closed tables, tables while supports come and go, and explained bounds.
 #![tactic(auto)]
 
 #[cfg(test)]
@@ -7,8 +7,6 @@ mod closure;
 mod explained;
 #[cfg(test)]
 mod known;
-#[cfg(test)]
-mod listed;
 #[cfg(test)]
 mod rules;
 #[cfg(test)]

@@ -2,7 +2,7 @@
 
 use ct_words::Word;
 
-/// A basis of the extended Golay code of length 24 (Golay 1949).
+/// A basis of the extended Golay code of length 24 and distance 8 (Golay 1949).
 pub const GOLAY: [Word; 12] = [
     0b101011100011000000000001,
     0b010101110001100000000001,
@@ -18,7 +18,7 @@ pub const GOLAY: [Word; 12] = [
     0b000000000001010111000111,
 ];
 
-/// A basis of the Reed-Muller code of length 16 and order 1.
+/// A basis of the Reed-Muller code of length 16, order 1 and distance 8.
 pub const REED_MULLER: [Word; 5] = [
     0b1111111111111111,
     0b0000000011111111,
@@ -27,7 +27,7 @@ pub const REED_MULLER: [Word; 5] = [
     0b0101010101010101,
 ];
 
-/// Its cosets with these words are the code of Nordstrom and Robinson (1967).
+/// Its cosets with these words are the code of Nordstrom and Robinson (1967), of distance 6.
 pub const NORDSTROM_ROBINSON: [Word; 8] = [
     0b0000000000000000,
     0b0001000100011110,
