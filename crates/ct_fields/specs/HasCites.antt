@@ -11,10 +11,11 @@ use Rattle.ct_fields.specs.declared.field.FieldName.TheVariants.{Format, Cites}
 abbrev pub HasFormat : Data → ℕ → Type 0
 HasFormat document f = ((get (field_text Format) document ≡ None) × (f ≡ 1)) ⊎ HasNumber Format 1 2 document f
 
--- the table is of one of the formats, or of none
+-- the table is of one of the formats
 abbrev pub HasRightFormat : Data → Type 0
 HasRightFormat document = (f : ℕ) × HasFormat document f
 
+-- the table is of none of the formats
 abbrev pub HasWrongFormat : Data → Type 0
 HasWrongFormat document = (f : ℕ) → ¬ (HasFormat document f)
 
@@ -28,10 +29,11 @@ pub data HasCites (document : Data) (cites : List (List ℕ)) : Type 0 where
   left_out : get (field_text Cites) document ≡ None → cites ≡ [] → HasCites document cites
   no_second : ¬ (IsSecond document) → cites ≡ [] → HasCites document cites
 
--- the cites of the table are right, or they are wrong
+-- the cites of the table are right
 abbrev pub HasRightCites : Data → Type 0
 HasRightCites document = (cites : List (List ℕ)) × HasCites document cites
 
+-- the cites of the table are wrong: it cites no list of texts in the way of its format
 abbrev pub HasWrongCites : Data → Type 0
 HasWrongCites document = (cites : List (List ℕ)) → ¬ (HasCites document cites)
 

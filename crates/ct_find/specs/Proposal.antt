@@ -57,6 +57,7 @@ bound_line bound stop = codes "# bound " ++ decimal bound ++ codes " " ++ stop_t
 abbrev pub pair_text : ℕ × ℤ → List ℕ
 pair_text u = codes " " ++ decimal u.0 ++ codes ":" ++ decimal (unsigned_abs u.1)
 
+-- indices of a primal with their numbers, one after another
 abbrev pub pairs_text : List (ℕ × ℤ) → List ℕ
 pairs_text [] = []
 pairs_text (u ∷ us) = pair_text u ++ pairs_text us

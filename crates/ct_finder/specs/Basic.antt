@@ -8,10 +8,11 @@ use Rattle.ct_finder.specs.Pivot.{at, constant_of}
 abbrev pub worth : List (ℕ × ℤ) → List ℤ → ℤ
 worth x row = total (λ u. at row u.0 *ℤ u.1) x
 
--- the row of a number, counted from 0, and the place of its basic column
+-- the row of a number, counted from 0
 abbrev pub row_at : Tableau → ℕ → List ℤ
 row_at t k = get_or t.rows k []
 
+-- the place of its basic column
 abbrev pub basic_at : Tableau → ℕ → ℕ
 basic_at t k = get_or t.basics k 0
 

@@ -8,10 +8,11 @@ use Rattle.ct_finder.specs.Column.{Tableau, range_of}
 use Rattle.ct_finder.specs.Divisor.{gcd}
 use Rattle.ct_finder.specs.Pivot.{at, constant_of, is_wide}
 
--- β and κ: the entry of a row at its basic column, which stands beside it, and its constant
+-- β: the entry of a row at its basic column, which stands beside it
 abbrev pub basic_entry : List ℤ × ℕ → ℕ
 basic_entry l = natural (at l.0 l.1)
 
+-- κ: the constant of a row
 abbrev pub basic_constant : List ℤ × ℕ → ℕ
 basic_constant l = natural (constant_of l.0)
 
@@ -27,11 +28,12 @@ lines_of_a count t = filter (is_of_a count) (zip t.rows t.basics)
 abbrev pub next_scale : ℕ → List ℤ × ℕ → ℕ
 next_scale q l = q / gcd q (basic_entry l) * basic_entry l
 
--- the scales after each of the rows, and the one after all
+-- the scales after each of the rows
 abbrev pub scales : ℕ → List (List ℤ × ℕ) → List ℕ
 scales q [] = []
 scales q (l ∷ ls) = next_scale q l ∷ scales (next_scale q l) ls
 
+-- the scale after all rows
 abbrev pub last_scale : ℕ → List (List ℤ × ℕ) → ℕ
 last_scale q [] = q
 last_scale q (l ∷ ls) = last_scale (next_scale q l) ls
