@@ -8,7 +8,6 @@ here=$(CDPATH= cd -- "$(dirname -- "$0")" && pwd)
 work=$(mktemp -d)
 trap 'rm -rf "$work"' EXIT
 rustc --edition 2021 -O "$here/closing.rs" -o "$work/plain"
-rustc --edition 2021 -O "$here/closing_by_instances.rs" -o "$work/before"
 "$here/../code_tables" session </dev/null >/dev/null
 
 cat >"$work/two-words" <<'END'
@@ -50,7 +49,4 @@ for turn in 1 2 3; do
         echo "$name: code_tables $(seconds 1 "$work/$name" "$here/../code_tables" session), plain $(seconds 1 "$work/$name" "$work/plain" "$name" 100)"
     done
 done
-echo "by slots:"
 "$work/plain"
-echo "by instances:"
-"$work/before"
