@@ -1,9 +1,9 @@
 -- Lines that rest on nothing: each slot of the table has one, the best that any rule gives that rests on nothing.
-use Rattle.std.proofs.Common.{◌≡◌, ℕ, ◌+◌, ◌<◌, ◌≤◌, ◌^◌, length, map, min, Bool, ◌==◌, ◌&&◌, true, false, if◌then◌else◌, List, [], ◌∷◌, All, Option, Some, None, refl, sym, subst, ap, ap₂, ◌∙◌, le-leb, eq-eqb, eqb-true, arith}
+use Rattle.std.proofs.Common.{◌≡◌, ℕ, ◌+◌, ◌<◌, ◌≤◌, ◌^◌, length, map, min, Bool, ◌==◌, ◌&&◌, true, false, if◌then◌else◌, List, [], ◌∷◌, All, Contains, Option, Some, None, refl, sym, subst, ap, ap₂, ◌∙◌, le-leb, eq-eqb, eqb-true, arith}
 use Rattle.std.specs.Prelude.{is_some, slice_index_or}
 use Rattle.std.proofs.lemmas.Bool.{and_parts, false≢true}
 use Rattle.std.proofs.lemmas.Option.{cond_some, none-some, same_Some}
-use Rattle.std.proofs.lemmas.List.Elements.{All-nil, All-weaker, All-from_recursion}
+use Rattle.std.proofs.lemmas.List.Elements.{All-nil, All-weaker, All-contains, All-from_recursion}
 use Rattle.ct_words.specs.declared.limits.TheConstants.{MAX_BOUND}
 use Rattle.ct_words.specs.Counting.Binomials.{choose}
 use Rattle.ct_codes.specs.declared.claim.Side.{Side}
@@ -256,3 +256,12 @@ found_gives e class v entry found more = go e.n e.d e.w entry found
 -- no sum class is at an entry without weight
 pub without_weight : (n d k v : ℕ) → IsGroundWithin (Lower, unrestricted n d) v (M9 k)
 without_weight n d k v = no_class (unrestricted n d) k v refl
+
+-- one of the others that gives a bound gives it from nothing
+pub other_gives : (side : Side) (e : Entry) (r : Rule) (v : ℕ) → Contains (other_ground_rules (side, e)) r → value_of [] r e [] ≡ Some v
+    → GivesGround (side, e) r v
+other_gives side e r v among value = record {
+  side = All-contains (λ (q : Rule). rule_side q ≡ side) (other_ground_rules (side, e)) r (other_sides side e.n e.d e.w) among;
+  nothing = All-contains (λ (q : Rule). RestsOnNothing q e) (other_ground_rules (side, e)) r (other_nothing side e.n e.d e.w) among;
+  value = value;
+}

@@ -1,6 +1,6 @@
 //! The bounds with which a table begins: of each slot the best that a rule gives that rests on nothing.
 
-ghost use Rattle.std.specs.Prelude.{◌≡◌, ◌==◌, ◌&&◌, ◌≤◌, ◌^◌, nat_le, nat_lt, ℕ, [], if◌then◌else◌, All, Some, None};
+ghost use Rattle.std.specs.Prelude.{◌≡◌, ◌==◌, ◌&&◌, ◌≤◌, ◌^◌, nat_le, nat_lt, ℕ, [], if◌then◌else◌, All, Contains, Some, None, IfSome};
 ghost use Rattle.ct_codes.specs.declared.claim.Side.TheVariants.{Lower, Upper};
 ghost use Rattle.ct_codes.specs.declared.entry.Entry.{Entry};
 ghost use Rattle.ct_codes.specs.Entry.{IsEntry};
@@ -53,6 +53,16 @@ fn first_rule(side: Side, entry: Entry) -> Rule
         (Side::Lower, Some(_)) => Rule::M1,
         (Side::Upper, None) => Rule::U0,
         (Side::Upper, Some(_)) => Rule::V0,
+    }
+}
+
+/// The rule of words that are farther apart than the places allow.
+fn far_rule(entry: Entry) -> Rule
+    ensures { Contains (other_ground_rules (Upper, entry)) result }
+{
+    match entry.w {
+        None => Rule::U1,
+        Some(_) => Rule::V1,
     }
 }
 
@@ -242,6 +252,26 @@ fn better_class(entry: Entry, classes: &[LargestClass], best: Ground) -> Ground
     }
 }
 
+/// What words give from above that are farther apart than the places allow: one word, which no bound betters.
+fn far_ground(side: Side, entry: Entry) -> Option<Ground>
+    requires { IsEntry entry }
+    ensures given { IfSome result (λ ground. GivesGround (side, entry) ground.rule ground.value) }
+    ensures best { IfSome result (λ ground. IsGroundBound (side, entry) ground.value) }
+{
+    match side {
+        Side::Lower => None,
+        Side::Upper => {
+            let rule = far_rule(entry);
+            let value = given(rule, entry)?;
+            if value == 1 {
+                Some(Ground { value, rule })
+            } else {
+                None
+            }
+        }
+    }
+}
+
 /// The best bound of the side of an entry that a rule gives that rests on nothing. The largest sum classes are those of the entry's
 /// length, which a bound from below takes.
 fn best_ground(side: Side, entry: Entry, classes: &[LargestClass]) -> Ground
@@ -250,6 +280,9 @@ fn best_ground(side: Side, entry: Entry, classes: &[LargestClass]) -> Ground
     ensures given { GivesGround (side, entry) result.rule result.value }
     ensures best { IsGroundBound (side, entry) result.value }
 {
+    if let Some(ground) = far_ground(side, entry) {
+        return ground;
+    }
     let first = first_ground(side, entry);
     let best = best_of_each(side, entry, other_rules(side, entry), limit_of(side), first);
     match side {

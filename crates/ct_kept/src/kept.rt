@@ -113,17 +113,6 @@ impl Undo {
     }
 }
 
-/// So many places, all 0. `Err` is want of memory.
-fn no_reasons(alloc: Global, count: usize) -> Result<Vec<usize>, AllocError>
-    ensures { IfOk result (λ v. v.items ≡ replicate count 0) }
-{
-    let mut numbers = Vec::with_capacity(alloc, count)?;
-    for _ in 0..count {
-        numbers.push(0)?;
-    }
-    Ok(numbers)
-}
-
 impl Kept {
     /// The bound that stands on a side of an entry of the table.
     pub fn bound(&self, side: Side, entry: Entry) -> u32
@@ -192,7 +181,7 @@ impl Kept {
     {
         Ok(Kept {
             bounds: Bounds::zero(alloc)?,
-            reasons: no_reasons(alloc, SLOTS)?,
+            reasons: vec![in alloc; 0; SLOTS]?,
             first: Vec::new(alloc),
             later: Vec::new(alloc),
         })

@@ -28,17 +28,6 @@ impl Model for Bounds {
     ghost invariant = { λ b. length b.bounds.items ≡ 2 * side_size };
 }
 
-/// So many bounds, all 0. `Err` is want of memory.
-fn no_bounds(alloc: Global, count: usize) -> Result<Vec<u32>, AllocError>
-    ensures { IfOk result (λ v. v.items ≡ replicate count 0) }
-{
-    let mut bounds = Vec::with_capacity(alloc, count)?;
-    for _ in 0..count {
-        bounds.push(0)?;
-    }
-    Ok(bounds)
-}
-
 /// Whether the first bound is better than the second: from below greater, from above smaller.
 pub fn is_better(side: Side, bound: u32, other: u32) -> bool
     ensures { MatchBool result (IsBetter side bound other) (IsNoBetter side bound other) }
@@ -55,7 +44,7 @@ impl Bounds {
         ensures { IfOk result (λ bounds. bounds ≡ replicate (2 * side_size) 0) }
     {
         Ok(Bounds {
-            bounds: no_bounds(alloc, SLOTS)?,
+            bounds: vec![in alloc; 0; SLOTS]?,
         })
     }
 

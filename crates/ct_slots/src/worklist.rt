@@ -31,17 +31,6 @@ impl Model for Worklist {
     ghost invariant = { λ w. IsSoundWork (record { marks = w.marks.items; queue = w.queue.items }) };
 }
 
-/// So many marks, none of them set. `Err` is want of memory.
-fn no_marks(alloc: Global, count: usize) -> Result<Vec<bool>, AllocError>
-    ensures { IfOk result (λ marks. marks.items ≡ replicate count false) }
-{
-    let mut marks = Vec::with_capacity(alloc, count)?;
-    for _ in 0..count {
-        marks.push(false)?;
-    }
-    Ok(marks)
-}
-
 impl Worklist {
     /// No slots. `Err` is want of memory.
     pub fn none(alloc: Global) -> Result<Worklist, AllocError>
@@ -49,7 +38,7 @@ impl Worklist {
         ensures queue { IfOk result (λ work. work.queue ≡ []) }
     {
         Ok(Worklist {
-            marks: no_marks(alloc, SLOTS)?,
+            marks: vec![in alloc; false; SLOTS]?,
             queue: VecDeque::new(alloc),
         })
     }
