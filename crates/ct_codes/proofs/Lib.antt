@@ -9,4 +9,5 @@ mod RowLemmas
 pub mod BlockLemmas
 pub mod SpanLemmas
 pub mod CosetLemmas
+mod GroupLemmas
 pub mod Constructions

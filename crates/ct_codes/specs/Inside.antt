@@ -6,3 +6,4 @@ pub mod First
 pub mod Span
 pub mod Across
 pub mod Within
+pub mod Groups

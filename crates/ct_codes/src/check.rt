@@ -1,15 +1,17 @@
 //! Lists of words that are handed in, checked as codes.
 
-ghost use Rattle.std.specs.Prelude.{◌≡◌, ℕ, ◌^◌, ◌<◌, ◌≤◌, All, IfOk, IsPermutation};
+ghost use Rattle.std.specs.Prelude.{◌≡◌, ℕ, ◌^◌, ◌<◌, ◌≤◌, nat_lt, length, All, IfOk, IfSome, IsPermutation};
 ghost use Rattle.std.specs.Result.{result_err};
+ghost use Rattle.ct_words.specs.Word.{distance};
 ghost use Rattle.ct_codes.specs.Entry.{IsEntry};
 ghost use Rattle.ct_codes.specs.Code.{IsCodeOf, IsSoundCode};
-ghost use Rattle.ct_codes.specs.Pairs.{first_of};
+ghost use Rattle.ct_codes.specs.Pairs.{first_of, least_pair};
 ghost use Rattle.ct_codes.specs.Check.{code_fault, size_fault, weight_fault, repeated_fault, close_fault};
 
 use crate::code::Code;
 use crate::entry::Entry;
 use crate::fault::{CodeFault, MAX_WORDS};
+use crate::groups::are_far_by_groups;
 use crate::pairs::{close_pair_from, first_close_pair};
 use ct_words::{Word, distance, weight};
 use std::alloc::Global;
@@ -18,8 +20,9 @@ use std::alloc::Global;
 ///
 /// The refusals in order: `Size` where there is no word or there are more than `MAX_WORDS`, `Weight` with the first
 /// word that has not the weight of the entry, `Repeated` with the least pair of equal words, and `Close` with the least
-/// pair whose distance is below d, and that distance. It takes no memory, so `Memory` never comes.
-pub fn check_words(_alloc: Global, entry: Entry, words: Vec<Word>) -> Result<Code, CodeFault>
+/// pair whose distance is below d, and that distance. `Memory` never comes: where there is none for a copy of the words, each two are
+/// compared.
+pub fn check_words(alloc: Global, entry: Entry, words: Vec<Word>) -> Result<Code, CodeFault>
     requires entry { IsEntry entry }
     requires words { All (λ x. x < 2 ^ entry.n) words.items }
     ensures fault { result_err result ≡ code_fault entry words.items }
@@ -28,7 +31,7 @@ pub fn check_words(_alloc: Global, entry: Entry, words: Vec<Word>) -> Result<Cod
     ensures words { IfOk result (λ c. IsPermutation words.items c.words) }
     ensures sound { IfOk result IsSoundCode }
 {
-    if let Some(fault) = first_fault(entry, &words) {
+    if let Some(fault) = first_fault(alloc, entry, &words) {
         return Err(fault);
     }
     let mut words = words;
@@ -38,7 +41,7 @@ pub fn check_words(_alloc: Global, entry: Entry, words: Vec<Word>) -> Result<Cod
 }
 
 /// The first reason why the words are no code of the entry.
-fn first_fault(entry: Entry, words: &[Word]) -> Option<CodeFault>
+fn first_fault(alloc: Global, entry: Entry, words: &[Word]) -> Option<CodeFault>
     requires entry { IsEntry entry }
     requires words { All (λ x. x < 2 ^ entry.n) words.now }
     ensures { result ≡ code_fault entry words.now }
@@ -49,7 +52,7 @@ fn first_fault(entry: Entry, words: &[Word]) -> Option<CodeFault>
     if let Some(fault) = weight_fault(words, entry.w) {
         return Some(fault);
     }
-    pair_fault(words, entry.d)
+    pair_fault(alloc, words, entry.n, entry.d)
 }
 
 /// Whether there are too few words or too many.
@@ -77,14 +80,29 @@ fn weight_fault(words: &[Word], w: Option<u32>) -> Option<CodeFault>
     None
 }
 
+/// The least pair of words of so many digits that are closer than `d`. It is not looked for where there is seen to be none.
+fn close_pair(alloc: Global, words: &[Word], digits: u32, d: u32) -> Option<(usize, usize)>
+    requires distance { 1 ≤ d }
+    requires digits { digits < 32 }
+    ensures least { (n : ℕ) → All (λ x. x < 2 ^ n) words.now →
+        result ≡ least_pair (λ x y. nat_lt (distance n x y) d) words.now }
+    ensures places { IfSome result (λ p. (p.0 < p.1) × (p.1 < length words.now)) }
+{
+    if are_far_by_groups(alloc, words, digits, d) {
+        return None;
+    }
+    first_close_pair(words, d)
+}
+
 /// The least pair of equal words, or else the least pair that is closer than `d`: no word before that pair is equal to a
 /// later one.
-fn pair_fault(words: &[Word], d: u32) -> Option<CodeFault>
-    requires { 1 ≤ d }
+fn pair_fault(alloc: Global, words: &[Word], digits: u32, d: u32) -> Option<CodeFault>
+    requires distance { 1 ≤ d }
+    requires digits { digits < 32 }
     ensures { (n : ℕ) → All (λ x. x < 2 ^ n) words.now →
         result ≡ first_of (repeated_fault words.now) (close_fault n d words.now) }
 {
-    let (i, j) = first_close_pair(words, d)?;
+    let (i, j) = close_pair(alloc, words, digits, d)?;
     match close_pair_from(words, i, 1) {
         Some((first, again)) => Some(CodeFault::Repeated(first, again)),
         None => Some(CodeFault::Close(i, j, distance(words[i], words[j]))),

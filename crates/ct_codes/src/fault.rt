@@ -27,7 +27,7 @@ pub enum CodeFault {
     Close(usize, usize, u32),
     /// The work of the check of cosets, which is above `MAX_COSET_WORK`. `check_words` never answers this.
     Work(u64),
-    /// Memory ran out. `check_words` takes none, and never answers this.
+    /// Memory ran out. `check_words` never answers this.
     Memory,
 }
 

@@ -11,6 +11,7 @@ mod coset;
 mod coset_search;
 mod entry;
 mod fault;
+mod groups;
 mod near;
 mod pairs;
 mod products;

@@ -20,18 +20,18 @@ equal_pair n d words i j positive fits below found =
     ∙ close_any_length 32 n 1 words fits below
 
 pub returns-in_err-i : goal.returns-in_err-i
-returns-in_err-i c = λ n below. c.from_residual.ensures ∙ sym (no_pair_fault n c.args.d c.args.words.now c.requires (sym (c.in_err-i.ensures.least n below)))
+returns-in_err-i c = λ n below. c.from_residual.ensures ∙ sym (no_pair_fault n c.args.d c.args.words.now c.requires.distance (sym (c.in_err-i.ensures.least n below)))
 
 pub returns-in-Some : goal.returns-in-Some
 returns-in-Some c = λ n below.
     let fits = All-from_get_or (λ x. x < 2 ^ 32) c.args.words.now 0 (λ k h. Fits-lt-pow (c.type_inv.words k)) in
-    let equal = equal_pair n c.args.d c.args.words.now c.in_ok-i.i c.in_ok-i.j c.requires fits below (sym (c.in_ok-i.ensures.least 32 fits)) in
+    let equal = equal_pair n c.args.d c.args.words.now c.in_ok-i.i c.in_ok-i.j c.requires.distance fits below (sym (c.in_ok-i.ensures.least 32 fits)) in
     sym (repeated_pair_fault n c.args.d c.args.words.now c.in-Some.first c.in-Some.again below (sym equal ∙ sym c.in-Some.ensures.least))
 
 pub returns-in-None : goal.returns-in-None
 returns-in-None c = λ n below.
     let fits = All-from_get_or (λ x. x < 2 ^ 32) c.args.words.now 0 (λ k h. Fits-lt-pow (c.type_inv.words k)) in
-    let equal = equal_pair n c.args.d c.args.words.now c.in_ok-i.i c.in_ok-i.j c.requires fits below (sym (c.in_ok-i.ensures.least 32 fits)) in
+    let equal = equal_pair n c.args.d c.args.words.now c.in_ok-i.i c.in_ok-i.j c.requires.distance fits below (sym (c.in_ok-i.ensures.least 32 fits)) in
     let places = c.in_ok-i.ensures.places in
     let far = c.distance.ensures n (below c.in_ok-i.i 0 (lt_trans places.0 places.1)) (below c.in_ok-i.j 0 places.1) in
     ap (λ t. Some (Close c.in_ok-i.i c.in_ok-i.j t)) far
