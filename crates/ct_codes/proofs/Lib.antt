@@ -9,5 +9,6 @@ mod RowLemmas
 pub mod BlockLemmas
 pub mod SpanLemmas
 pub mod CosetLemmas
+mod LightLemmas
 mod GroupLemmas
 pub mod Constructions

@@ -29,7 +29,7 @@ chosen-sum b zero (suc (suc q)) h k = absurd (omega arith)
 chosen-sum b (suc zero) (suc (suc q)) h k = absurd (omega arith)
 chosen-sum b (suc (suc p)) q h k = absurd (omega arith)
 
-chosen-lt : (n b : ℕ) (t : Bool) → b < 2 ^ n → (if t then b else 0) < 2 ^ n
+pub chosen-lt : (n b : ℕ) (t : Bool) → b < 2 ^ n → (if t then b else 0) < 2 ^ n
 chosen-lt n b true below = below
 chosen-lt n b false below = pow_pos n
 
@@ -65,7 +65,7 @@ span_word-lt n (b ∷ bs) s below =
     (span_word-lt n bs (s / 2) (All-tail (λ x. x < 2 ^ n) b bs below))
 
 -- 2^i and a number below it
-pow_sum : (i s : ℕ) → s < 2 ^ i → bit_xor s (2 ^ i) ≡ 2 ^ i + s
+pub pow_sum : (i s : ℕ) → s < 2 ^ i → bit_xor s (2 ^ i) ≡ 2 ^ i + s
 pow_sum i s below =
     let s_is : s ≡ 0 * 2 ^ i + s = omega arith in
     let power_is : 2 ^ i ≡ 1 * 2 ^ i + 0 = omega arith in

@@ -6,4 +6,5 @@ pub mod First
 pub mod Span
 pub mod Across
 pub mod Within
+pub mod Light
 pub mod Groups

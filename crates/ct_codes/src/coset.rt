@@ -45,7 +45,7 @@ impl Model for CosetCode {
 /// The refusals in order: `Size` where the basis has more than `MAX_N` words, or else where there is no representative
 /// or there are more than `MAX_REPRESENTATIVES`; `Work` where the work is above `MAX_COSET_WORK`; and `Close` with the
 /// least pair of choices whose words have a distance below d, 0 included, and that distance. `Memory` means that what the
-/// search reads, sums of basis words or the words of all choices, could not be stored.
+/// search reads, sums and pivots of basis words or the words of all choices, could not be stored.
 pub fn check_cosets(
     alloc: Global,
     entry: Entry,

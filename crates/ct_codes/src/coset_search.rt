@@ -9,6 +9,7 @@ ghost use Rattle.ct_codes.specs.Inside.First.{IsFirstOrNone};
 ghost use Rattle.ct_codes.specs.Inside.Span.{AreParts, is_close_choice};
 
 use crate::choices::{choice_words, close_choices};
+use crate::light::is_heavy;
 use crate::rows::{BLOCK, rows_of};
 use crate::span::{first_close_sum, first_light_sum, sums};
 use ct_words::Word;
@@ -18,7 +19,8 @@ use std::alloc::{AllocError, Global};
 const LOW: usize = 6;
 
 /// The least pair of choices, in order of the first and then the second, whose words have a distance below `d`. The words of
-/// all choices are stored where the basis has less than six words, and else a block and its moves alone.
+/// all choices are stored where the basis has less than six words, and else a block and its moves alone, if one representative
+/// with few light words about it doesn't show that there is none.
 pub(crate) fn least_close_choices(
     alloc: Global,
     basis: &[Word],
@@ -34,6 +36,9 @@ pub(crate) fn least_close_choices(
 {
     if basis.len() < LOW {
         return listed(alloc, basis, representatives, d);
+    }
+    if representatives.len() == 1 && is_heavy(alloc, basis, d)? {
+        return Ok(None);
     }
     let block = sums(alloc, &basis[..LOW])?;
     let steps = sums(alloc, &basis[LOW..])?;

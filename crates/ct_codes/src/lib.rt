@@ -12,6 +12,7 @@ mod coset_search;
 mod entry;
 mod fault;
 mod groups;
+mod light;
 mod near;
 mod pairs;
 mod products;

@@ -84,7 +84,7 @@ fn sum_of(basis: &[Word], number: usize) -> Word
 }
 
 /// The word where the number is odd, and else 0.
-fn if_chosen(word: Word, number: usize) -> Word
+pub(crate) fn if_chosen(word: Word, number: usize) -> Word
     ensures { result ≡ (if number % 2 == 1 then word else 0) }
 {
     if number % 2 == 1 { word } else { 0 }

@@ -1,10 +1,20 @@
-use Rattle.std.proofs.Common.{◌∙◌, ℕ, ◌^◌, bit_xor, List, length, take, ap, sym, subst, arith}
+use Rattle.std.proofs.Common.{◌∙◌, ℕ, ◌^◌, ◌<◌, bit_xor, List, length, take, ap, sym, subst, arith}
+use Rattle.std.proofs.Math.Facts.{Fits-lt-pow}
 use Rattle.std.proofs.lemmas.List.{take_rest, length-take-le}
+use Rattle.std.proofs.lemmas.List.Elements.{All-from_get_or}
 use Rattle.ct_words.proofs.TextLemmas.{length-tabulate}
 use Rattle.ct_codes.specs.Coset.{span_word}
 use Rattle.ct_codes.specs.Inside.Rows.{AreRows}
 use Rattle.ct_codes.specs.Inside.Translated.{translated}
+use Rattle.ct_codes.proofs.LightLemmas.{none_of_one}
 use Rattle.ct_codes.proofs.coset_search.least_close_choices.Goals as goal
+
+pub returns-then-branch-clause-least : goal.returns-then-branch-clause-least
+returns-then-branch-clause-least c = λ n below.
+    let fits = All-from_get_or (λ x. x < 2 ^ 32) c.args.basis.now 0 (λ k h. Fits-lt-pow (c.type_inv.basis k)) in
+    let all_fit = All-from_get_or (λ x. x < 2 ^ 32) c.args.representatives.now 0 (λ k h. Fits-lt-pow (c.type_inv.representatives k)) in
+    sym (none_of_one n c.args.d c.args.basis.now c.args.representatives.now fits all_fit c.if-representatives-eq1.true
+    (c.in_ok-is_heavy.ensures c.if-branch.true) below)
 
 pub rows_of-requires : goal.rows_of-requires
 rows_of-requires c =
