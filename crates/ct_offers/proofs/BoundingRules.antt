@@ -1,5 +1,5 @@
 -- The rule by which a support, at a place, bounds an entry from above.
-use Rattle.std.proofs.Common.{◌≡◌, ℕ, List, [], ◌∷◌, ◌++◌, Contains, Option, Some, None, true, false, cond, refl, sym, ap, subst, ◌∙◌}
+use Rattle.std.proofs.Common.{◌≡◌, ℕ, List, [], ◌++◌, Contains, Option, Some, None, true, false, cond, refl, sym, ap, subst, ◌∙◌}
 use Rattle.std.specs.Prelude.{Bool, not, is_some, slice_get, option_map}
 use Rattle.std.proofs.lemmas.Bool.{and_parts, not-true, false≢true}
 use Rattle.std.proofs.lemmas.List.Elements.{Contains-append_left, Contains-append_right}
@@ -11,11 +11,12 @@ use Rattle.ct_rule_parts.specs.Parts.{has_weight}
 use Rattle.ct_rule_parts.specs.Support.{OddValue, dual_at, odd_at, local_at, dual_behind}
 use Rattle.ct_rule_parts.proofs.DualLemmas.{behind-bound, behind-odd, behind-local, odd_dual-behind}
 use Rattle.ct_rule_parts.proofs.PlainEntries.{no_item}
-use Rattle.ct_weight_rules.specs.Neighbours.{unweighted, unweighted_and_nearer, all_weights}
+use Rattle.ct_weight_rules.specs.Inside.RestedOn.{by_even_distance, all_weights}
 use Rattle.ct_weight_rules.specs.Delsarte.{premises_of_dual}
 use Rattle.ct_rules.specs.declared.rule.Rule.{Rule}
 use Rattle.ct_rules.specs.declared.rule.Rule.TheVariants.{U11, U12, V9, V10}
-use Rattle.ct_rules.specs.Rule.{row_of, rule_side, parts_of, parts_over, applies}
+use Rattle.ct_rules.specs.Inside.RestedOn.{rested_on_by}
+use Rattle.ct_rules.specs.Rule.{row_of, rule_side, parts_over, applies}
 use Rattle.ct_rules.proofs.Applied.{defined}
 use Rattle.ct_offers.specs.Inside.Pulled.{bounding_rule, bounding_rule_of_weight, given_rule}
 
@@ -118,18 +119,18 @@ bounding_rests supports place e f =
 -- the entries that may rest on one by a dual: those of its length without weight, at its distance or one place nearer, and those of its
 -- length and its distance with any weight
 abbrev pub by_duals : Entry → List Entry
-by_duals from = (unweighted from ∷ unweighted_and_nearer from ∷ []) ++ all_weights from
+by_duals from = by_even_distance from ++ all_weights from
 
 -- what rests on an entry by it is among these
-plain_back : (c d : Option Support) (place : ℕ) (from e : Entry) → Contains ((parts_of (bounding_rule c place) d).rested_on_by from) e
+plain_back : (c : Option Support) (place : ℕ) (from e : Entry) → Contains (rested_on_by (bounding_rule c place) from) e
     → Contains (by_duals from) e
-unfolding row_of
-plain_back c d place from e among = go c among
+unfolding rested_on_by
+plain_back c place from e among = go c among
   where
-    two : Contains (unweighted from ∷ unweighted_and_nearer from ∷ []) e → Contains (by_duals from) e
-    two here = Contains-append_left (unweighted from ∷ unweighted_and_nearer from ∷ []) (all_weights from) e here
+    two : Contains (by_even_distance from) e → Contains (by_duals from) e
+    two here = Contains-append_left (by_even_distance from) (all_weights from) e here
 
-    go : (c : Option Support) → Contains ((parts_of (bounding_rule c place) d).rested_on_by from) e → Contains (by_duals from) e
+    go : (c : Option Support) → Contains (rested_on_by (bounding_rule c place) from) e → Contains (by_duals from) e
     go (Some (Odd a m)) here = two here
     go None here = two here
     go (Some Nothing) here = two here
@@ -137,27 +138,27 @@ plain_back c d place from e among = go c among
     go (Some (Bound a)) here = two here
     go (Some (Local a)) here = two here
 
-weighted_back : (c d : Option Support) (place : ℕ) (from e : Entry) → Contains ((parts_of (bounding_rule_of_weight c place) d).rested_on_by from) e
+weighted_back : (c : Option Support) (place : ℕ) (from e : Entry) → Contains (rested_on_by (bounding_rule_of_weight c place) from) e
     → Contains (by_duals from) e
-unfolding row_of
-weighted_back c d place from e among = go c among
+unfolding rested_on_by
+weighted_back c place from e among = go c among
   where
     none : Contains [] e → Contains (by_duals from) e
     none here = no_item (Contains (by_duals from) e) e here
 
-    go : (c : Option Support) → Contains ((parts_of (bounding_rule_of_weight c place) d).rested_on_by from) e → Contains (by_duals from) e
-    go (Some (Local a)) here = Contains-append_right (unweighted from ∷ unweighted_and_nearer from ∷ []) (all_weights from) e here
+    go : (c : Option Support) → Contains (rested_on_by (bounding_rule_of_weight c place) from) e → Contains (by_duals from) e
+    go (Some (Local a)) here = Contains-append_right (by_even_distance from) (all_weights from) e here
     go None here = none here
     go (Some Nothing) here = none here
     go (Some (Size f size)) here = none here
     go (Some (Bound a)) here = none here
     go (Some (Odd a m)) here = none here
 
-pub bounding_back : (c d : Option Support) (place : ℕ) (from e : Entry) → Contains ((parts_of (given_rule c (Upper, e) place) d).rested_on_by from) e
+pub bounding_back : (c : Option Support) (place : ℕ) (from e : Entry) → Contains (rested_on_by (given_rule c (Upper, e) place) from) e
     → Contains (by_duals from) e
-bounding_back c d place from e =
-    either_rule (λ r. Contains ((parts_of r d).rested_on_by from) e → Contains (by_duals from) e) c e place
-    (λ _. weighted_back c d place from e) (λ _. plain_back c d place from e)
+bounding_back c place from e =
+    either_rule (λ r. Contains (rested_on_by r from) e → Contains (by_duals from) e) c e place
+    (λ _. weighted_back c place from e) (λ _. plain_back c place from e)
 
 -- a rule that names a dual and is defined over the support at its place is that
 pub bounding-bound : (supports : List Support) (place : ℕ) (e : Entry) → applies supports (U11 place) e ≡ true

@@ -22,9 +22,10 @@ use Rattle.ct_weight_rules.specs.Johnson.{johnson}
 use Rattle.ct_rules.specs.declared.rule.Rule.{Rule}
 use Rattle.ct_rules.specs.declared.rule.Rule.TheVariants.{L9, U9, U10}
 use Rattle.ct_rules.specs.Closed.{AreTrue}
+use Rattle.ct_rules.specs.Inside.RestedOn.{rested_on_by}
 use Rattle.ct_rules.specs.Rule.{row_of, rule_side, is_by_weight, applies, premises_at}
 use Rattle.ct_rules.proofs.Applied.{defined, value_where_applies}
-use Rattle.ct_rules.proofs.LawfulRows.{lawful}
+use Rattle.ct_rules.proofs.RestedRows.{leads_back}
 use Rattle.ct_slots.specs.Worklist.{WorkValue}
 use Rattle.ct_offers.specs.Inside.Marking.{KeepsMarks, IsTestedAt, AreTestedByWeight}
 use Rattle.ct_offers.specs.Offers.{value_over, IsWithin}
@@ -130,13 +131,13 @@ weights_enough supports f e best half end truth some is enough looked w within =
 pub tested_below : (supports : List Support) (bounds : List ℕ) (work : WorkValue) (f : Entry) (w : ℕ) → f.w ≡ Some w
     → IsTestedAt supports bounds work (L9 w) (unweighted f) → IsTestedAt supports bounds work (L9 w) (unweighted_and_nearer f)
     → AreTestedByWeight supports bounds work (Lower, f)
-unfolding row_of
+unfolding row_of rested_on_by
 tested_below supports bounds work f w weight same nearer (L9 v) e by side here rests =
     let named : f.w ≡ Some v = one_item (λ g. g.w ≡ Some v) (even_of_weight e v) f refl rests in
     let is : w ≡ v = same_Some w v (sym weight ∙ named) in
     subst (λ u. IsTestedAt supports bounds work (L9 u) e) is
     (two_items (λ g. IsTestedAt supports bounds work (L9 w) g) (unweighted f) (unweighted_and_nearer f) e same nearer
-    ((lawful (L9 v) None).dependents e f here rests))
+    (leads_back (L9 v) None e f here rests))
 tested_below supports bounds work f w weight same nearer U9 e by side here rests = let clash : Upper ≡ Lower = side in absurd cc
 tested_below supports bounds work f w weight same nearer (U10 v) e by side here rests = let clash : Upper ≡ Lower = side in absurd cc
 tested_below supports bounds work f w weight same nearer r e by side here rests = absurd (false≢true by)
@@ -144,17 +145,17 @@ tested_below supports bounds work f w weight same nearer r e by side here rests 
 pub tested_above : (supports : List Support) (bounds : List ℕ) (work : WorkValue) (f : Entry) (w : ℕ) → f.w ≡ Some w
     → IsTestedAt supports bounds work (U10 w) (unweighted f) → (w + 1 ≡ f.d → IsTestedAt supports bounds work U9 (unweighted_and_nearer f))
     → AreTestedByWeight supports bounds work (Upper, f)
-unfolding row_of
+unfolding row_of rested_on_by
 tested_above supports bounds work f w weight same nearer (U10 v) e by side here rests =
     let named : f.w ≡ Some v = one_item (λ g. g.w ≡ Some v) (of_weight e v) f refl rests in
     let is : w ≡ v = same_Some w v (sym weight ∙ named) in
     subst (λ u. IsTestedAt supports bounds work (U10 u) e) is
-    (one_item (λ g. IsTestedAt supports bounds work (U10 w) g) (unweighted f) e same ((lawful (U10 v) None).dependents e f here rests))
+    (one_item (λ g. IsTestedAt supports bounds work (U10 w) g) (unweighted f) e same (leads_back (U10 v) None e f here rests))
 tested_above supports bounds work f w weight same nearer U9 e by side here rests =
     let named : f.w ≡ Some e.d = one_item (λ g. g.w ≡ Some e.d) (around e) f refl rests in
     let farther : f.d ≡ e.d + 1 = one_item (λ g. g.d ≡ e.d + 1) (around e) f refl rests in
     let is : w ≡ e.d = same_Some w e.d (sym weight ∙ named) in
-    one_item (λ g. IsTestedAt supports bounds work U9 g) (unweighted_and_nearer f) e (nearer (omega arith)) ((lawful U9 None).dependents e f here rests)
+    one_item (λ g. IsTestedAt supports bounds work U9 g) (unweighted_and_nearer f) e (nearer (omega arith)) (leads_back U9 None e f here rests)
 tested_above supports bounds work f w weight same nearer (L9 v) e by side here rests = let clash : Lower ≡ Upper = side in absurd cc
 tested_above supports bounds work f w weight same nearer r e by side here rests = absurd (false≢true by)
 

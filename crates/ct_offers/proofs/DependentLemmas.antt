@@ -8,19 +8,21 @@ use Rattle.ct_rule_parts.specs.Parts.{RuleParts}
 use Rattle.ct_rule_parts.proofs.Lawful.{defined_condition}
 use Rattle.ct_rule_parts.proofs.PlainEntries.{no_item}
 use Rattle.ct_rules.specs.declared.rule.Rule.{Rule}
-use Rattle.ct_rules.specs.declared.rule.Rule.TheVariants.{L11, M9, U11, U12, V10}
-use Rattle.ct_rules.specs.Rule.{row_of, is_alone, is_by_weight, place_of, cited, parts_of, parts_over, rule_side, applies}
+use Rattle.ct_rules.specs.declared.rule.Rule.TheVariants.{L11, M9}
+use Rattle.ct_rules.specs.Rule.{row_of, is_alone, is_by_weight, place_of, cited, parts_over, rule_side, applies}
+use Rattle.ct_rules.specs.Inside.RestedOn.{rested_on_by}
 use Rattle.ct_rules.specs.Listing.{rules_alone}
 use Rattle.ct_offers.specs.Inside.Pulled.{given_rule}
 use Rattle.ct_offers.proofs.BoundingRules.{bounding-bound, bounding-odd, bounding-local}
-use Rattle.ct_rules.proofs.LawfulRows.{lawful, alone-parts, alone_at_rested, not_alone, supported-rests}
+use Rattle.ct_rules.proofs.RestedRows.{leads_back}
+use Rattle.ct_rules.proofs.LawfulRows.{alone-parts, alone_at_rested, not_alone, supported-rests}
 
 -- an entry that rests on another by a rule does so by one alone, and is among those that it names, lays words side by side, leads from
 -- entries with weight to those without, or does so by a dual
 pub record RestsAlone (r : Rule) (f e : Entry) : Type 0 where
   pub alone : is_alone r ≡ true
   pub listed : Contains (rules_alone (rule_side r, f)) r
-  pub among : Contains ((parts_of r None).rested_on_by f) e
+  pub among : Contains (rested_on_by r f) e
 
 -- the three others
 abbrev pub IsOtherRule : List Support → Rule → Entry → Type 0
@@ -46,9 +48,7 @@ rests_on-cases supports r f e defined rests = by_place (place_of r) refl
               alone_at_rested r e f alone
               (subst (λ (p : RuleParts). p.condition e ≡ true) same (defined_condition (parts_over supports r) e defined))
               (subst (λ (p : RuleParts). Contains (p.rests_on e) f) same rests);
-          among =
-              subst (λ (p : RuleParts). Contains (p.rested_on_by f) e) same
-              ((lawful r (cited supports r)).dependents e f defined rests);
+          among = leads_back r (cited supports r) e f defined rests;
         })
     by_itself_or_numbers none false alone = elim (not_alone r none alone) [
       | inl sum ↦ inr (inl sum)

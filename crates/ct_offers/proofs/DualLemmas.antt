@@ -18,12 +18,13 @@ use Rattle.ct_rule_parts.specs.declared.support.Support.TheVariants.{Nothing, Si
 use Rattle.ct_rule_parts.specs.Support.{dual_behind}
 use Rattle.ct_rule_parts.proofs.EntryLists.{All-range}
 use Rattle.ct_rule_parts.proofs.PlainEntries.{no_item}
-use Rattle.ct_weight_rules.specs.Neighbours.{of_weight, unweighted, unweighted_and_nearer, all_weights}
+use Rattle.ct_weight_rules.specs.Inside.RestedOn.{by_even_distance, all_weights}
+use Rattle.ct_weight_rules.specs.Neighbours.{of_weight, unweighted, unweighted_and_nearer}
 use Rattle.ct_weight_rules.specs.Delsarte.{premises_of_dual}
 use Rattle.ct_rules.specs.declared.rule.Rule.{Rule}
 use Rattle.ct_rules.specs.Rule.{cited, parts_over, applies}
 use Rattle.ct_rules.proofs.Applied.{defined}
-use Rattle.ct_rules.proofs.LawfulRows.{lawful}
+use Rattle.ct_rules.proofs.RestedRows.{leads_back}
 use Rattle.ct_slots.specs.Places.{AreSupportPlaces, IsPlaceOf, IsUpTo}
 use Rattle.ct_slots.specs.Worklist.{WorkValue}
 use Rattle.ct_offers.specs.Inside.Pulled.{given_rule}
@@ -120,7 +121,7 @@ pub tested_at_all : (supports : List Support) (bounds : List ℕ) (work : WorkVa
     → AreTestedAtWeights supports bounds work from (suc from.n) → AreTestedFromDuals supports bounds work from
 tested_at_all supports bounds work from same nearer is_same is_nearer first second weighted e place here rests =
     All-contains IsTestedThere (by_duals from) e each
-    (bounding_back (slice_get supports place) (cited supports r) place from e ((lawful r (cited supports r)).dependents e from here rests)) place here rests
+    (bounding_back (slice_get supports place) place from e (leads_back r (cited supports r) e from here rests)) place here rests
   where
     r : Rule
     r = by_support supports e place
@@ -130,7 +131,7 @@ tested_at_all supports bounds work from same nearer is_same is_nearer first seco
 
     each : All IsTestedThere (by_duals from)
     each =
-        All-append IsTestedThere (unweighted from ∷ unweighted_and_nearer from ∷ []) (all_weights from)
+        All-append IsTestedThere (by_even_distance from) (all_weights from)
         (All-cons IsTestedThere (unweighted from) (unweighted_and_nearer from ∷ []) (subst IsTestedThere is_same first)
         (All-cons IsTestedThere (unweighted_and_nearer from) [] (subst IsTestedThere is_nearer second) (All-nil IsTestedThere)))
         (All-map IsTestedThere (λ w. of_weight from w) (range_with_len 0 (from.n + 1)) (All-range (λ w. IsTestedThere (of_weight from w)) 0 (from.n + 1) (λ w low high. weighted w (omega arith))))

@@ -1,5 +1,5 @@
 -- Which entries were tested while rules with neither numbers nor a support are followed, one after the other.
-use Rattle.std.proofs.Common.{◌≡◌, ℕ, List, [], ◌∷◌, ◌++◌, All, Contains, drop, take, Option, Some, None, refl, sym, ap, subst}
+use Rattle.std.proofs.Common.{◌≡◌, ℕ, List, [], ◌∷◌, ◌++◌, All, Contains, drop, take, Option, Some, None, refl, sym, subst}
 use Rattle.std.proofs.lemmas.List.Elements.{All-nil, All-cons, All-append, All-from_recursion, recursion_from_All}
 use Rattle.ct_codes.specs.declared.claim.Side.{Side}
 use Rattle.ct_codes.specs.declared.claim.Side.TheVariants.{Lower, Upper}
@@ -10,7 +10,7 @@ use Rattle.ct_rules.specs.declared.rule.Rule.{Rule}
 use Rattle.ct_rules.specs.declared.rule.Rule.TheVariants.{L1, L2, M1, M2, U0, U1, U2, U3, V0, V1, V2, V8}
 use Rattle.ct_rules.specs.declared.rule.TheConstants.{LOWER_RULES, UPPER_RULES, LOWER_WEIGHT_RULES, UPPER_WEIGHT_RULES}
 use Rattle.ct_rules.specs.Listing.{rules_alone}
-use Rattle.ct_rules.specs.Rule.{row_of, parts_of}
+use Rattle.ct_rules.specs.Inside.RestedOn.{rested_on_by}
 use Rattle.ct_slots.specs.Worklist.{WorkValue}
 use Rattle.ct_offers.specs.Inside.Marking.{KeepsMarks, IsTestedFrom}
 use Rattle.ct_offers.specs.Inside.Pulled.{resting_rules}
@@ -29,7 +29,7 @@ followed_more supports bounds from old new rules r before keeps here =
     (All-cons (IsTestedFrom supports bounds new from) r [] here (All-nil (IsTestedFrom supports bounds new from)))
 
 -- nothing rests on an entry by a rule that rests on nothing
-unrested : (supports : List Support) (bounds : List ℕ) (work : WorkValue) (from : Entry) (r : Rule) → (parts_of r None).rested_on_by from ≡ []
+unrested : (supports : List Support) (bounds : List ℕ) (work : WorkValue) (from : Entry) (r : Rule) → rested_on_by r from ≡ []
     → IsTestedFrom supports bounds work from r
 unrested supports bounds work from r nothing e among =
     no_item _ e (subst (λ (es : List Entry). Contains es e) nothing among)
@@ -38,7 +38,7 @@ unrested supports bounds work from r nothing e among =
 pub followed_alone : (supports : List Support) (bounds : List ℕ) (work : WorkValue) (from : Entry) (side : Side) (n d : ℕ) (w : Option ℕ)
     → All (IsTestedFrom supports bounds work from) (resting_rules (side, record { n = n; d = d; w = w }))
     → All (IsTestedFrom supports bounds work from) (rules_alone (side, record { n = n; d = d; w = w }))
-unfolding row_of
+unfolding rested_on_by
 followed_alone supports bounds work from Lower n d None resting =
     let P : Rule → Type 0 = IsTestedFrom supports bounds work from in
     let rest = recursion_from_All P (drop 2 LOWER_RULES) resting in

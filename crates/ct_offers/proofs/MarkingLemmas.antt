@@ -12,7 +12,8 @@ use Rattle.ct_rule_parts.specs.Slot.{Slot}
 use Rattle.ct_rule_parts.proofs.PlainEntries.{two_items}
 use Rattle.ct_rules.specs.declared.rule.Rule.{Rule}
 use Rattle.ct_rules.specs.declared.rule.Rule.TheVariants.{L11}
-use Rattle.ct_rules.specs.Rule.{row_of, rule_side, parts_of, parts_over}
+use Rattle.ct_rules.specs.Inside.RestedOn.{rested_on_by}
+use Rattle.ct_rules.specs.Rule.{row_of, rule_side, parts_over}
 use Rattle.ct_slots.specs.Worklist.{WorkValue}
 use Rattle.ct_offers.specs.Inside.Marking.{KeepsMarks, IsTestedAt, IsTestedFrom, AreTestedByWeight}
 
@@ -46,7 +47,7 @@ tested_and_one supports bounds work new r es n f keeps there here before k e bel
 
 -- all of them
 pub tested_from : (supports : List Support) (bounds : List ℕ) (work : WorkValue) (r : Rule) (from : Entry) (n : ℕ)
-    (es : List Entry) → es ≡ (parts_of r None).rested_on_by from → length es ≤ n
+    (es : List Entry) → es ≡ rested_on_by r from → length es ≤ n
     → ((k : ℕ) (e : Entry) → k < n → slice_get es k ≡ Some e → IsTestedAt supports bounds work r e)
     → IsTestedFrom supports bounds work from r
 tested_from supports bounds work r from n es are enough each e among =

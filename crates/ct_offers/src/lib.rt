@@ -3,10 +3,10 @@
 
 mod best;
 mod following;
+mod juxtaposition;
 mod marking;
 mod pulling;
 mod resting;
-mod juxtaposition;
 
 pub use best::Best;
 pub use marking::mark_dependents;

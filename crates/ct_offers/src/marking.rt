@@ -11,8 +11,8 @@ ghost use Rattle.ct_slots.specs.Places.{AreSupportPlaces};
 ghost use Rattle.ct_offers.specs.Inside.Marking.{KeepsMarks, IsTestedAt, IsTestedFrom, AreTestedByWeight, IsTestedByDual, AreTestedByDuals, AreTestedAtWeights, AreTestedFromDuals, AreTested};
 
 use crate::following::mark_by_resting;
-use crate::pulling::{given_rule, offer};
 use crate::juxtaposition::mark_juxtaposition;
+use crate::pulling::{given_rule, offer};
 use ct_codes::{Entry, Side};
 use ct_rule_parts::dual_behind;
 use ct_rules::{Rule, Support, rested_on_by, rule_side};

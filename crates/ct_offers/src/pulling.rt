@@ -19,8 +19,8 @@ ghost use Rattle.ct_offers.specs.Offers.{value_over, AreGrounded, IsGiven, IsLim
 ghost use Rattle.ct_offers.specs.Inside.Pulled.{IsPulled, bounding_rule, bounding_rule_of_weight, given_rule};
 
 use crate::best::Best;
-use crate::resting::ask_resting;
 use crate::juxtaposition::best_juxtaposition;
+use crate::resting::ask_resting;
 use ct_codes::{Entry, Side};
 use ct_rule_parts::AcceptedDual;
 use ct_rules::{Entries, Rule, Support, rests_on, rule_side, value_where_defined};

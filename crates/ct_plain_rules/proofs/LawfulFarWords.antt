@@ -1,5 +1,5 @@
 -- Far words.
-use Rattle.std.proofs.Common.{[], Contains, nat_lt, ltb-true, subst, arith}
+use Rattle.std.proofs.Common.{nat_lt, ltb-true, subst, arith}
 use Rattle.std.specs.Prelude.{not, Option}
 use Rattle.std.proofs.lemmas.Bool.{and_parts}
 use Rattle.std.proofs.lemmas.Option.{cond_some}
@@ -9,7 +9,7 @@ use Rattle.ct_elementary.proofs.FarWords.{spread_far}
 use Rattle.ct_rule_parts.specs.declared.support.Support.{Support}
 use Rattle.ct_rule_parts.specs.Parts.{has_weight}
 use Rattle.ct_rule_parts.proofs.Lawful.{IsTrueNumber, IsLawful, no_worse-same}
-use Rattle.ct_rule_parts.proofs.PlainEntries.{no_weight, no_item}
+use Rattle.ct_rule_parts.proofs.PlainEntries.{no_weight}
 use Rattle.ct_rule_parts.proofs.PlainNumbers.{upper_number}
 use Rattle.ct_plain_rules.specs.FarWords.{far_words}
 
@@ -23,5 +23,4 @@ far_words-lawful c = record {
       (bound_from_spread e.n e.d 1 (spread_far e.n e.d (ltb-true e.n e.d parts.1))));
   monotone = λ e us vs x h is. no_worse-same Upper _ x is;
   few = λ e stand entry. omega arith;
-  dependents = λ e f defined rests. no_item (Contains [] e) f rests;
 }

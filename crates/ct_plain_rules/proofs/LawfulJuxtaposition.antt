@@ -13,16 +13,17 @@ use Rattle.ct_rule_parts.specs.declared.support.Support.{Support}
 use Rattle.ct_rule_parts.specs.Parts.{first, second}
 use Rattle.ct_rule_parts.proofs.Constructions.{HasCode-juxtaposed}
 use Rattle.ct_rule_parts.proofs.EntryLists.{Contains-range_with_len, Contains-flat_map}
-use Rattle.ct_rule_parts.proofs.Lawful.{IsLawful, both_values, same_number, no_worse-other, first-no_better, second-no_better, defined_entry, defined_condition, defined_premises}
+use Rattle.ct_rule_parts.proofs.Lawful.{IsLawful, LeadsBack, both_values, same_number, no_worse-other, first-no_better, second-no_better, defined_entry, defined_condition, defined_premises}
 use Rattle.ct_rule_parts.proofs.PlainEntries.{Weightless, no_weight, written, two_items}
 use Rattle.ct_rule_parts.proofs.PlainNumbers.{lower_number, of_length, of_distance}
-use Rattle.ct_plain_rules.specs.Juxtaposition.{longer_and_far, juxtaposition}
+use Rattle.ct_plain_rules.specs.Inside.RestedOn.{by_juxtaposition}
+use Rattle.ct_plain_rules.specs.Juxtaposition.{juxtaposition}
 
 -- an entry without weight that is longer, and farther by 3 or more, is among those
 far_entry : (m d : ℕ) (e : Entry) → Weightless e → e.n ≤ MAX_N → e.d ≤ MAX_N → m < e.n → d + 3 ≤ e.d
-    → Contains (longer_and_far (unrestricted m d)) e
+    → Contains (by_juxtaposition (unrestricted m d)) e
 far_entry m d e none long far longer farther =
-    subst (λ f. Contains (longer_and_far (unrestricted m d)) f) (written e.n e.d e none refl refl)
+    subst (λ f. Contains (by_juxtaposition (unrestricted m d)) f) (written e.n e.d e none refl refl)
     (Contains-flat_map (λ n. map (λ c. unrestricted n c) (range_with_len (d + 3) (MAX_N - (d + 2))))
     (range_with_len (m + 1) (MAX_N - m)) e.n (unrestricted e.n e.d)
     (Contains-range_with_len (m + 1) (MAX_N - m) e.n (omega arith) (omega arith))
@@ -49,16 +50,18 @@ juxtaposition-lawful m d c = record {
       let worse_too = second-no_better Lower us vs h in
       no_worse-other Lower (min (first us) (second us)) (min (first vs) (second vs)) x (omega arith) is;
   few = λ e stand entry. omega arith;
-  dependents = λ e f defined rests.
-      let limits = entry_limits e (defined_entry (juxtaposition m d) e defined) in
-      let plain = no_weight e (defined_condition (juxtaposition m d) e defined) in
-      let parts = and_parts (is_entry (unrestricted m d)) (is_entry (unrestricted (e.n - m) (e.d - d)) && true)
-      (defined_premises (juxtaposition m d) e defined) in
-      let left = entry_limits (unrestricted m d) parts.0 in
-      let right = entry_limits (unrestricted (e.n - m) (e.d - d))
-      (and_parts (is_entry (unrestricted (e.n - m) (e.d - d))) true parts.1).0 in
-      two_items (λ g. Contains (longer_and_far g) e) (unrestricted m d) (unrestricted (e.n - m) (e.d - d)) f
-      (far_entry m d e plain limits.length_to limits.distance_to (omega (arith, right.length_from)) (omega (arith, right.distance_from)))
-      (far_entry (e.n - m) (e.d - d) e plain limits.length_to limits.distance_to (omega (arith, left.length_from, right.length_from)) (omega (arith, left.distance_from, right.distance_from)))
-      rests;
 }
+
+pub juxtaposition-back : (m d : ℕ) → LeadsBack (juxtaposition m d) by_juxtaposition
+juxtaposition-back m d e f defined rests =
+    let limits = entry_limits e (defined_entry (juxtaposition m d) e defined) in
+    let plain = no_weight e (defined_condition (juxtaposition m d) e defined) in
+    let parts = and_parts (is_entry (unrestricted m d)) (is_entry (unrestricted (e.n - m) (e.d - d)) && true)
+    (defined_premises (juxtaposition m d) e defined) in
+    let left = entry_limits (unrestricted m d) parts.0 in
+    let right = entry_limits (unrestricted (e.n - m) (e.d - d))
+    (and_parts (is_entry (unrestricted (e.n - m) (e.d - d))) true parts.1).0 in
+    two_items (λ g. Contains (by_juxtaposition g) e) (unrestricted m d) (unrestricted (e.n - m) (e.d - d)) f
+    (far_entry m d e plain limits.length_to limits.distance_to (omega (arith, right.length_from)) (omega (arith, right.distance_from)))
+    (far_entry (e.n - m) (e.d - d) e plain limits.length_to limits.distance_to (omega (arith, left.length_from, right.length_from)) (omega (arith, left.distance_from, right.distance_from)))
+    rests

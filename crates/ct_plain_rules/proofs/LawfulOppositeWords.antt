@@ -1,5 +1,5 @@
 -- The words 0..0 and 1..1.
-use Rattle.std.proofs.Common.{[], Contains, nat_le, leb-true, arith}
+use Rattle.std.proofs.Common.{nat_le, leb-true, arith}
 use Rattle.std.specs.Prelude.{not, Option, Some}
 use Rattle.std.proofs.lemmas.Bool.{and_parts}
 use Rattle.ct_codes.specs.declared.claim.Side.TheVariants.{Lower}
@@ -8,7 +8,7 @@ use Rattle.ct_rule_parts.specs.declared.support.Support.{Support}
 use Rattle.ct_rule_parts.specs.Parts.{has_weight}
 use Rattle.ct_rule_parts.proofs.Constructions.{HasCode-two}
 use Rattle.ct_rule_parts.proofs.Lawful.{IsLawful, same_number, no_worse-same}
-use Rattle.ct_rule_parts.proofs.PlainEntries.{no_weight, no_item}
+use Rattle.ct_rule_parts.proofs.PlainEntries.{no_weight}
 use Rattle.ct_rule_parts.proofs.PlainNumbers.{lower_number}
 use Rattle.ct_plain_rules.specs.OppositeWords.{opposite_words}
 
@@ -22,5 +22,4 @@ opposite_words-lawful c = record {
       (HasCode-two e.n e.d limits.length_from (leb-true e.d e.n parts.1)));
   monotone = λ e us vs x h is. no_worse-same Lower (Some 2) x is;
   few = λ e stand entry. omega arith;
-  dependents = λ e f defined rests. no_item (Contains [] e) f rests;
 }

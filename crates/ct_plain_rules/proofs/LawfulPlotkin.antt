@@ -1,5 +1,5 @@
 -- The average distance of the words.
-use Rattle.std.proofs.Common.{◌≡◌, ℕ, ◌+◌, ◌-◌, ◌*◌, ◌%◌, ◌≤◌, [], Contains, refl, sym, subst, ◌∙◌, arith}
+use Rattle.std.proofs.Common.{◌≡◌, ℕ, ◌+◌, ◌-◌, ◌*◌, ◌%◌, ◌≤◌, refl, sym, subst, ◌∙◌, arith}
 use Rattle.std.specs.Prelude.{Bool, true, false, ◌==◌, nat_le, nat_lt, if◌then◌else◌, not, is_some, IfSome, Option, Some}
 use Rattle.std.proofs.lemmas.Bool.{and_parts}
 use Rattle.std.proofs.lemmas.Bool.Decides.{nat_tests}
@@ -13,7 +13,7 @@ use Rattle.ct_elementary.proofs.PlotkinRule.{even_sound, odd_sound, even_within}
 use Rattle.ct_rule_parts.specs.declared.support.Support.{Support}
 use Rattle.ct_rule_parts.specs.Parts.{has_weight}
 use Rattle.ct_rule_parts.proofs.Lawful.{IsLawful, no_worse-same}
-use Rattle.ct_rule_parts.proofs.PlainEntries.{no_weight, no_item}
+use Rattle.ct_rule_parts.proofs.PlainEntries.{no_weight}
 use Rattle.ct_rule_parts.proofs.PlainNumbers.{upper_number}
 use Rattle.ct_plain_rules.specs.Plotkin.{plotkin}
 
@@ -57,5 +57,4 @@ plotkin-lawful c = record {
       upper_number e x (no_weight e parts.0) bound.0 bound.1;
   monotone = λ e us vs x h is. no_worse-same Upper _ x is;
   few = λ e stand entry. omega arith;
-  dependents = λ e f defined rests. no_item (Contains [] e) f rests;
 }

@@ -1,5 +1,5 @@
 -- Balls about the words.
-use Rattle.std.proofs.Common.{◌-◌, ◌/◌, ◌^◌, [], Contains, arith}
+use Rattle.std.proofs.Common.{◌-◌, ◌/◌, ◌^◌, arith}
 use Rattle.std.specs.Prelude.{Option, Some}
 use Rattle.std.proofs.lemmas.Nat.{le-div}
 use Rattle.ct_words.specs.Counting.Binomials.{volume}
@@ -11,7 +11,7 @@ use Rattle.ct_codes.proofs.DigitCodes.{bound_from_spread}
 use Rattle.ct_elementary.specs.Bounds.{sphere_packing_value}
 use Rattle.ct_rule_parts.specs.declared.support.Support.{Support}
 use Rattle.ct_rule_parts.proofs.Lawful.{IsLawful, same_number, no_worse-same}
-use Rattle.ct_rule_parts.proofs.PlainEntries.{no_weight, no_item}
+use Rattle.ct_rule_parts.proofs.PlainEntries.{no_weight}
 use Rattle.ct_rule_parts.proofs.PlainNumbers.{upper_number}
 use Rattle.ct_plain_rules.specs.SpherePacking.{sphere_packing}
 
@@ -28,5 +28,4 @@ sphere_packing-lawful c = record {
       (bound_from_spread e.n e.d (sphere_packing_value e.n e.d) (spread_hamming e.n e.d (omega arith))));
   monotone = λ e us vs x h is. no_worse-same Upper (Some (sphere_packing_value e.n e.d)) x is;
   few = λ e stand entry. omega arith;
-  dependents = λ e f defined rests. no_item (Contains [] e) f rests;
 }

@@ -12,9 +12,10 @@ use Rattle.ct_rule_parts.specs.declared.support.Support.{Support}
 use Rattle.ct_rule_parts.specs.Slot.{AreNoBetter}
 use Rattle.ct_rule_parts.specs.Parts.{has_weight, half_up, first, second, slots_on}
 use Rattle.ct_rule_parts.proofs.Constructions.{HasCode, HasCode-nearer, HasCode-uuv, HasCode-even}
-use Rattle.ct_rule_parts.proofs.Lawful.{AreTrueAt, IsLawful, IsTrueNumber, only_value, both_values, same_number, no_worse-other, first-no_better, second-no_better, defined_condition}
+use Rattle.ct_rule_parts.proofs.Lawful.{AreTrueAt, IsLawful, LeadsBack, IsTrueNumber, only_value, both_values, same_number, no_worse-other, first-no_better, second-no_better, defined_condition}
 use Rattle.ct_rule_parts.proofs.PlainEntries.{Weightless, no_weight, written, one_item, two_items, in_front, behind}
 use Rattle.ct_rule_parts.proofs.PlainNumbers.{lower_number, of_length}
+use Rattle.ct_plain_rules.specs.Inside.RestedOn.{by_uuv}
 use Rattle.ct_plain_rules.specs.Uuv.{parts_of_uuv, count_of_uuv, uuv}
 use Rattle.ct_plain_rules.specs.Neighbours.{half_as_long, twice_as_long}
 
@@ -56,41 +57,41 @@ uuv-monotone true k us vs h = mul-le-mul_left k (first-no_better Lower us vs h)
 uuv-monotone false k us vs h = mul-le-mul (first-no_better Lower us vs h) (second-no_better Lower us vs h)
 
 -- an entry is among those of twice the length of an entry of half its own, at each of the three distances
-at_same : (e g : Entry) → Weightless e → 2 * g.n ≡ e.n → g.d ≡ e.d → Contains (uuv.rested_on_by g) e
+at_same : (e g : Entry) → Weightless e → 2 * g.n ≡ e.n → g.d ≡ e.d → Contains (by_uuv g) e
 at_same e g none long far =
     in_front (twice_as_long g g.d) e (twice_as_long g (2 * g.d - 1) ∷ twice_as_long g (2 * g.d) ∷ [])
     (written (2 * g.n) g.d e none long far)
 
-at_odd : (e g : Entry) → Weightless e → 2 * g.n ≡ e.n → 2 * g.d - 1 ≡ e.d → Contains (uuv.rested_on_by g) e
+at_odd : (e g : Entry) → Weightless e → 2 * g.n ≡ e.n → 2 * g.d - 1 ≡ e.d → Contains (by_uuv g) e
 at_odd e g none long far =
     behind (twice_as_long g g.d) e (twice_as_long g (2 * g.d - 1) ∷ twice_as_long g (2 * g.d) ∷ [])
     (in_front (twice_as_long g (2 * g.d - 1)) e (twice_as_long g (2 * g.d) ∷ [])
     (written (2 * g.n) (2 * g.d - 1) e none long far))
 
-at_even : (e g : Entry) → Weightless e → 2 * g.n ≡ e.n → 2 * g.d ≡ e.d → Contains (uuv.rested_on_by g) e
+at_even : (e g : Entry) → Weightless e → 2 * g.n ≡ e.n → 2 * g.d ≡ e.d → Contains (by_uuv g) e
 at_even e g none long far =
     behind (twice_as_long g g.d) e (twice_as_long g (2 * g.d - 1) ∷ twice_as_long g (2 * g.d) ∷ [])
     (behind (twice_as_long g (2 * g.d - 1)) e (twice_as_long g (2 * g.d) ∷ [])
     (in_front (twice_as_long g (2 * g.d)) e [] (written (2 * g.n) (2 * g.d) e none long far)))
 
 -- the entry is among those that rest on what it rests on
-uuv-back : (e f : Entry) → Weightless e → e.n % 2 ≡ 0 → Contains (parts_of_uuv e) f → Contains (uuv.rested_on_by f) e
-uuv-back e f none even rests = go (nat_lt e.d 5) rests
+half_back : (e f : Entry) → Weightless e → e.n % 2 ≡ 0 → Contains (parts_of_uuv e) f → Contains (by_uuv f) e
+half_back e f none even rests = go (nat_lt e.d 5) rests
   where
-    of_same : Contains (uuv.rested_on_by (half_as_long e e.d)) e
+    of_same : Contains (by_uuv (half_as_long e e.d)) e
     of_same = at_same e (half_as_long e e.d) none (omega arith) refl
 
-    of_half : Contains (uuv.rested_on_by (half_as_long e (half_up e.d))) e
+    of_half : Contains (by_uuv (half_as_long e (half_up e.d))) e
     of_half = elim (cases_lt (e.d % 2) 1) [
       | inl even_far ↦ at_even e (half_as_long e (half_up e.d)) none (omega arith) (omega arith)
       | inr odd_far ↦ at_odd e (half_as_long e (half_up e.d)) none (omega arith) (omega arith)
     ]
 
     go : (b : Bool) → Contains (cond b (half_as_long e e.d ∷ []) (half_as_long e (half_up e.d) ∷ half_as_long e e.d ∷ [])) f
-        → Contains (uuv.rested_on_by f) e
-    go true rests = one_item (λ g. Contains (uuv.rested_on_by g) e) (half_as_long e e.d) f of_same rests
+        → Contains (by_uuv f) e
+    go true rests = one_item (λ g. Contains (by_uuv g) e) (half_as_long e e.d) f of_same rests
     go false rests =
-        two_items (λ g. Contains (uuv.rested_on_by g) e) (half_as_long e (half_up e.d)) (half_as_long e e.d) f of_half of_same rests
+        two_items (λ g. Contains (by_uuv g) e) (half_as_long e (half_up e.d)) (half_as_long e e.d) f of_half of_same rests
 
 pub uuv-lawful : (c : Option Support) → IsLawful c uuv
 uuv-lawful c = record {
@@ -102,7 +103,9 @@ uuv-lawful c = record {
       no_worse-other Lower _ _ x (uuv-monotone (nat_lt e.d 5) (2 ^ (e.n / 2 - 1)) us vs h) is;
   few = λ e stand entry.
       cond_both (nat_lt e.d 5) _ _ (λ (es : List Entry). length es ≤ MAX_N) (λ near. omega arith) (λ far. omega arith);
-  dependents = λ e f defined rests.
-      let parts = and_parts (not (has_weight e)) (e.n % 2 == 0) (defined_condition uuv e defined) in
-      uuv-back e f (no_weight e parts.0) (eqb-true (e.n % 2) 0 parts.1) rests;
 }
+
+pub uuv-back : LeadsBack uuv by_uuv
+uuv-back e f defined rests =
+    let parts = and_parts (not (has_weight e)) (e.n % 2 == 0) (defined_condition uuv e defined) in
+    half_back e f (no_weight e parts.0) (eqb-true (e.n % 2) 0 parts.1) rests

@@ -10,5 +10,4 @@ all_words = record {
   condition = λ e. not (has_weight e);
   rests_on = λ e. [];
   number = λ e vs. Some (2 ^ e.n);
-  rested_on_by = λ e. [];
 }

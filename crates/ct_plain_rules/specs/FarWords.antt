@@ -11,5 +11,4 @@ far_words = record {
   condition = λ e. not (has_weight e) && nat_lt e.n e.d;
   rests_on = λ e. [];
   number = λ e vs. far_value e.n e.d;
-  rested_on_by = λ e. [];
 }

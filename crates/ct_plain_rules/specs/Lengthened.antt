@@ -11,7 +11,6 @@ lengthened_below = record {
   condition = λ e. not (has_weight e);
   rests_on = λ e. shorter e ∷ [];
   number = λ e vs. Some (first vs);
-  rested_on_by = λ e. longer e ∷ [];
 }
 
 -- A(n,d) is at most A(n+1,d)
@@ -21,5 +20,4 @@ lengthened_above = record {
   condition = λ e. not (has_weight e);
   rests_on = λ e. longer e ∷ [];
   number = λ e vs. Some (first vs);
-  rested_on_by = λ e. shorter e ∷ [];
 }

@@ -13,3 +13,4 @@ pub mod AllWords
 pub mod FarWords
 pub mod Plotkin
 pub mod SpherePacking
+pub mod Inside

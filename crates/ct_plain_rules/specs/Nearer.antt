@@ -11,7 +11,6 @@ nearer_below = record {
   condition = λ e. not (has_weight e);
   rests_on = λ e. farther e ∷ [];
   number = λ e vs. Some (first vs);
-  rested_on_by = λ e. nearer e ∷ [];
 }
 
 -- A(n,d) is at most A(n,d-1)
@@ -21,5 +20,4 @@ nearer_above = record {
   condition = λ e. not (has_weight e);
   rests_on = λ e. nearer e ∷ [];
   number = λ e vs. Some (first vs);
-  rested_on_by = λ e. farther e ∷ [];
 }

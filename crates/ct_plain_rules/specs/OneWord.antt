@@ -10,5 +10,4 @@ one_word = record {
   condition = λ e. not (has_weight e);
   rests_on = λ e. [];
   number = λ e vs. Some 1;
-  rested_on_by = λ e. [];
 }

@@ -10,5 +10,4 @@ opposite_words = record {
   condition = λ e. not (has_weight e) && nat_le e.d e.n;
   rests_on = λ e. [];
   number = λ e vs. Some 2;
-  rested_on_by = λ e. [];
 }

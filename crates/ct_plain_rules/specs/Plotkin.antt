@@ -11,5 +11,4 @@ plotkin = record {
   condition = λ e. not (has_weight e) && is_some (plotkin_value e.n e.d);
   rests_on = λ e. [];
   number = λ e vs. plotkin_value e.n e.d;
-  rested_on_by = λ e. [];
 }

@@ -11,7 +11,6 @@ punctured_below = record {
   condition = λ e. not (has_weight e);
   rests_on = λ e. longer_and_farther e ∷ [];
   number = λ e vs. Some (first vs);
-  rested_on_by = λ e. shorter_and_nearer e ∷ [];
 }
 
 -- A(n,d) is at most A(n-1,d-1)
@@ -21,5 +20,4 @@ punctured_above = record {
   condition = λ e. not (has_weight e);
   rests_on = λ e. shorter_and_nearer e ∷ [];
   number = λ e vs. Some (first vs);
-  rested_on_by = λ e. longer_and_farther e ∷ [];
 }

@@ -11,7 +11,6 @@ shortened_below = record {
   condition = λ e. not (has_weight e);
   rests_on = λ e. longer e ∷ [];
   number = λ e vs. Some (half_up (first vs));
-  rested_on_by = λ e. shorter e ∷ [];
 }
 
 -- A(n,d) is at most 2·A(n-1,d)
@@ -21,5 +20,4 @@ shortened_above = record {
   condition = λ e. not (has_weight e);
   rests_on = λ e. shorter e ∷ [];
   number = λ e vs. Some (2 * first vs);
-  rested_on_by = λ e. longer e ∷ [];
 }

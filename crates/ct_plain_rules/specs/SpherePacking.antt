@@ -11,5 +11,4 @@ sphere_packing = record {
   condition = λ e. not (has_weight e);
   rests_on = λ e. [];
   number = λ e vs. Some (sphere_packing_value e.n e.d);
-  rested_on_by = λ e. [];
 }

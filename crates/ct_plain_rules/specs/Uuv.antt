@@ -4,7 +4,7 @@ use Rattle.std.specs.Prelude.{ℕ, ◌-◌, ◌*◌, ◌/◌, ◌%◌, ◌^◌, 
 use Rattle.ct_codes.specs.declared.claim.Side.TheVariants.{Lower}
 use Rattle.ct_codes.specs.declared.entry.Entry.{Entry}
 use Rattle.ct_rule_parts.specs.Parts.{RuleParts, has_weight, half_up, first, second}
-use Rattle.ct_plain_rules.specs.Neighbours.{half_as_long, twice_as_long}
+use Rattle.ct_plain_rules.specs.Neighbours.{half_as_long}
 
 -- the codes of the v, and from distance 5 on of the u
 abbrev pub parts_of_uuv : Entry → List Entry
@@ -23,5 +23,4 @@ uuv = record {
   condition = λ e. not (has_weight e) && e.n % 2 == 0;
   rests_on = parts_of_uuv;
   number = λ e vs. Some (count_of_uuv e vs);
-  rested_on_by = λ e. twice_as_long e e.d ∷ twice_as_long e (2 * e.d - 1) ∷ twice_as_long e (2 * e.d) ∷ [];
 }

@@ -11,7 +11,6 @@ parity_below = record {
   condition = λ e. not (has_weight e) && e.d % 2 == 0;
   rests_on = λ e. shorter_and_nearer e ∷ [];
   number = λ e vs. Some (first vs);
-  rested_on_by = λ e. longer_and_farther e ∷ [];
 }
 
 -- for odd d, A(n,d) is at most A(n+1,d+1)
@@ -21,5 +20,4 @@ parity_above = record {
   condition = λ e. not (has_weight e) && e.d % 2 == 1;
   rests_on = λ e. longer_and_farther e ∷ [];
   number = λ e vs. Some (first vs);
-  rested_on_by = λ e. shorter_and_nearer e ∷ [];
 }

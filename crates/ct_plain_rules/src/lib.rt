@@ -2,27 +2,25 @@
 #![tactic(auto)]
 
 mod all_words;
-mod plotkin;
-mod sphere_packing;
 mod far_words;
 mod given_code;
-mod shortened;
+mod juxtaposition;
 mod lengthened;
 mod nearer_words;
 mod neighbours;
 mod one_word;
 mod opposite_words;
+mod plotkin;
 mod punctured;
-mod juxtaposition;
+mod shortened;
+mod sphere_packing;
 mod uuv;
 mod with_parity;
 
 pub use all_words::known_all_words;
-pub use plotkin::known_plotkin;
-pub use sphere_packing::known_sphere_packing;
 pub use far_words::known_far_words;
 pub use given_code::known_given_code;
-pub use shortened::known_shortened;
+pub use juxtaposition::{known_juxtaposition, parts_of_juxtaposition};
 pub use lengthened::known_lengthened;
 pub use nearer_words::known_nearer;
 pub use neighbours::{
@@ -31,7 +29,9 @@ pub use neighbours::{
 };
 pub use one_word::known_one_word;
 pub use opposite_words::known_opposite_words;
+pub use plotkin::known_plotkin;
 pub use punctured::known_punctured;
-pub use juxtaposition::{known_juxtaposition, parts_of_juxtaposition};
+pub use shortened::known_shortened;
+pub use sphere_packing::known_sphere_packing;
 pub use uuv::{count_of_uuv, known_uuv, parts_of_uuv, uuv_of};
 pub use with_parity::known_with_parity;

@@ -6,6 +6,7 @@ ghost use Rattle.ct_codes.specs.declared.claim.Side.TheVariants.{Lower};
 ghost use Rattle.ct_codes.specs.Entry.{IsEntry, unrestricted, constant_weight};
 ghost use Rattle.ct_rule_parts.specs.Entries.{listed};
 ghost use Rattle.ct_rule_parts.specs.Parts.{is_defined, within_limit};
+ghost use Rattle.ct_plain_rules.specs.Inside.RestedOn.{by_uuv};
 ghost use Rattle.ct_plain_rules.specs.Uuv.{uuv};
 
 use crate::neighbours::{half_as_long, twice_as_long};
@@ -40,7 +41,7 @@ pub fn count_of_uuv(entry: Entry, values: &[u32]) -> u64
 /// The entries among which are all whose sums have words of this one.
 pub fn uuv_of(entry: Entry) -> Entries<'static>
     requires { IsEntry entry }
-    ensures { listed result ≡ uuv.rested_on_by entry }
+    ensures { listed result ≡ by_uuv entry }
 {
     let d = entry.d;
     Entries::Three(

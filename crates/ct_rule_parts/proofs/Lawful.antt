@@ -121,5 +121,7 @@ pub record IsLawful (c : Option Support) (p : RuleParts) : Type 0 where
       → NoWorse p.side (p.number e vs) x
   -- it rests on few entries, where the support that it names stands
   pub few : (e : Entry) → ForSome c Stands → IsEntry e → length (p.rests_on e) ≤ MAX_N
-  -- an entry that rests on another is among those that rest on it
-  pub dependents : (e f : Entry) → is_defined p e ≡ true → Contains (p.rests_on e) f → Contains (p.rested_on_by f) e
+
+-- an entry that rests on another is among those where such are looked for
+abbrev pub LeadsBack : RuleParts → (Entry → List Entry) → Type 0
+LeadsBack p back = (e f : Entry) → is_defined p e ≡ true → Contains (p.rests_on e) f → Contains (back f) e

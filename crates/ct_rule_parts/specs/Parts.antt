@@ -18,8 +18,6 @@ pub record RuleParts : Type 0 where
   pub rests_on : Entry → List Entry
   -- the number that it gives where these have such bounds, before the limit of a bound is laid on it
   pub number : Entry → List ℕ → Option ℕ
-  -- entries among which are all that rest on this one
-  pub rested_on_by : Entry → List Entry
 
 -- whether all are entries of the table
 abbrev pub are_entries : List Entry → Bool

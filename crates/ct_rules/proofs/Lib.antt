@@ -1,4 +1,5 @@
 pub mod LawfulRows
+pub mod RestedRows
 pub mod Applied
 pub mod RuleValues
 pub mod RuleLaws

@@ -1,1 +1,2 @@
 pub mod AllRules
+pub mod RestedOn

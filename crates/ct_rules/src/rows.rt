@@ -7,22 +7,23 @@ ghost use Rattle.ct_rule_parts.specs.Support.{dual_at, odd_at, local_at};
 ghost use Rattle.ct_weight_rules.specs.Delsarte.{bound_of_dual, dual_above};
 ghost use Rattle.ct_weight_rules.specs.LocalDuals.{local_bound_of, local_above};
 ghost use Rattle.ct_weight_rules.specs.OddSizes.{size_below, odd_size_above};
-ghost use Rattle.ct_rules.specs.Rule.{rule_side, place_of, with_place, is_alone, parts_of, parts_over, row_of};
+ghost use Rattle.ct_rules.specs.Inside.RestedOn.{rested_on_by};
+ghost use Rattle.ct_rules.specs.Rule.{rule_side, place_of, with_place, is_alone, parts_over, row_of};
 
 use crate::arguments::{Arguments, arguments_of, with_arguments};
 use crate::rule::Rule;
 use ct_codes::{Entry, Side};
-use ct_elementary::{far, sphere_packing, plotkin};
+use ct_elementary::{far, plotkin, sphere_packing};
 use ct_plain_rules::{
-    count_of_uuv, farther, longer, longer_and_farther, nearer, parts_of_uuv, parts_of_juxtaposition,
-    shorter, shorter_and_nearer, uuv_of,
+    count_of_uuv, farther, longer, longer_and_farther, nearer, parts_of_juxtaposition,
+    parts_of_uuv, shorter, shorter_and_nearer, uuv_of,
 };
 use ct_rule_parts::{Entries, Support, dual_at, first, local_at, odd_at, second, size_at};
 use ct_weight_rules::{
-    around, averaged, below_too_many, bound_by_ones, bound_by_zeros, count_of_disjoint,
-    count_with_one, count_with_zero, even_of_weight, has_disjoint_words, has_no_far_words,
-    johnson_bound, of_weight, one_less, one_more, parts_of_split, size_below, sum_class_size,
-    split_into, complementary, two_farther, two_nearer, zero_less, zero_more,
+    around, averaged, below_too_many, bound_by_ones, bound_by_zeros, complementary,
+    count_of_disjoint, count_with_one, count_with_zero, even_of_weight, has_disjoint_words,
+    has_no_far_words, johnson_bound, of_weight, one_less, one_more, parts_of_split, size_below,
+    split_into, sum_class_size, two_farther, two_nearer, zero_less, zero_more,
 };
 use ct_words::binomial;
 
@@ -262,12 +263,12 @@ pub(crate) fn number(supports: &[Support], rule: Rule, entry: Entry, values: &[u
 
 /// The entries among which are all that rest on this one, which has to be in the table, by the rule, which has to have
 /// neither numbers nor a support, nor to lead from entries with weight to those without.
-#[tactic(auto, unfolding(crate::specs::Rule::row_of))]
+#[tactic(auto, unfolding(crate::specs::Rule::row_of, crate::specs::Inside::RestedOn::rested_on_by))]
 #[inline(always)]
 pub fn rested_on_by(rule: Rule, entry: Entry) -> Entries<'static>
     requires entry { IsEntry entry }
     requires alone { is_alone rule ≡ true }
-    ensures { listed result ≡ (parts_of rule None).rested_on_by entry }
+    ensures { listed result ≡ rested_on_by rule entry }
 {
     match rule {
         Rule::L3 | Rule::U6 => Entries::One(longer(entry)),

@@ -1,5 +1,5 @@
 -- All words of the weight.
-use Rattle.std.proofs.Common.{[], Contains, arith}
+use Rattle.std.proofs.Common.{arith}
 use Rattle.std.specs.Prelude.{Option, Some}
 use Rattle.ct_words.specs.Counting.Binomials.{choose}
 use Rattle.ct_words.proofs.Counting.Binomials.{one-le-choose}
@@ -10,7 +10,7 @@ use Rattle.ct_johnson.proofs.Weights.{weight_bound-all}
 use Rattle.ct_rule_parts.specs.declared.support.Support.{Support}
 use Rattle.ct_rule_parts.specs.Parts.{weight_of}
 use Rattle.ct_rule_parts.proofs.Lawful.{IsLawful, same_number, no_worse-same}
-use Rattle.ct_rule_parts.proofs.PlainEntries.{a_weight, no_item}
+use Rattle.ct_rule_parts.proofs.PlainEntries.{a_weight}
 use Rattle.ct_rule_parts.proofs.WeightEntries.{weight_within, upper_of_weight}
 use Rattle.ct_weight_rules.specs.AllWords.{all_words}
 
@@ -25,5 +25,4 @@ all_words-lawful c = record {
       (bound_from_weight e.n e.d w (choose e.n w) (weight_bound-all e.n e.d w (omega (arith, limits.distance_from)))));
   monotone = λ e us vs x h is. no_worse-same Upper (Some (choose e.n (weight_of e))) x is;
   few = λ e stand entry. omega arith;
-  dependents = λ e f defined rests. no_item (Contains [] e) f rests;
 }

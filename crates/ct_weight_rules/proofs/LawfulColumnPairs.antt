@@ -1,5 +1,5 @@
 -- Pairs of words with a one at one place.
-use Rattle.std.proofs.Common.{◌≡◌, ℕ, ◌-◌, [], Contains, option_map, subst, refl, arith}
+use Rattle.std.proofs.Common.{◌≡◌, ℕ, ◌-◌, option_map, subst, refl, arith}
 use Rattle.std.specs.Prelude.{is_some, Option, Some, None}
 use Rattle.std.proofs.lemmas.Bool.{and_parts}
 use Rattle.std.proofs.lemmas.Option.{same_Some, none-some}
@@ -10,7 +10,7 @@ use Rattle.ct_johnson.proofs.PairCounts.{columns_sound}
 use Rattle.ct_rule_parts.specs.declared.support.Support.{Support}
 use Rattle.ct_rule_parts.specs.Parts.{has_weight, weight_of}
 use Rattle.ct_rule_parts.proofs.Lawful.{IsLawful, IsTrueNumber, no_worse-same}
-use Rattle.ct_rule_parts.proofs.PlainEntries.{a_weight, no_item}
+use Rattle.ct_rule_parts.proofs.PlainEntries.{a_weight}
 use Rattle.ct_rule_parts.proofs.WeightEntries.{upper_of_weight}
 use Rattle.ct_weight_rules.specs.ColumnPairs.{below_too_many, column_pairs}
 
@@ -32,5 +32,4 @@ column_pairs-lawful c = record {
       (upper_of_weight e (least.0 - 1) weighted (omega (arith, bound.0)) bound.1);
   monotone = λ e us vs x h is. no_worse-same Upper _ x is;
   few = λ e stand entry. omega arith;
-  dependents = λ e f defined rests. no_item (Contains [] e) f rests;
 }

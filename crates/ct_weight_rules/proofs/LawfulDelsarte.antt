@@ -22,8 +22,9 @@ use Rattle.ct_rule_parts.specs.Parts.{has_weight, slots_on}
 use Rattle.ct_rule_parts.specs.Slot.{AreNoBetter}
 use Rattle.ct_rule_parts.specs.Support.{Stands, dual_at}
 use Rattle.ct_rule_parts.proofs.DualLemmas.{dual_there}
-use Rattle.ct_rule_parts.proofs.Lawful.{IsLawful, IsTrueNumber, AreTrueAt, NoWorse, same_number, no_worse-other, defined_condition}
+use Rattle.ct_rule_parts.proofs.Lawful.{IsLawful, LeadsBack, IsTrueNumber, AreTrueAt, NoWorse, same_number, no_worse-other, defined_condition}
 use Rattle.ct_rule_parts.proofs.PlainEntries.{Weightless, no_weight, a_weight, written, in_front, behind, no_item}
+use Rattle.ct_weight_rules.specs.Inside.RestedOn.{by_even_distance}
 use Rattle.ct_weight_rules.specs.Neighbours.{unweighted, unweighted_and_nearer}
 use Rattle.ct_weight_rules.specs.Delsarte.{premises_of_dual, bound_of_dual, dual_above, dual_above_of_weight}
 
@@ -62,11 +63,11 @@ dual-monotone (Some a) us vs x h is =
 
 -- an entry whose dual rests on another is at its distance, or one place nearer
 pub dual-back : (e f : Entry) (a : AcceptedValue) → Weightless e → a.dual.entry ≡ e → Contains (dual_premises a.dual) f
-    → Contains (unweighted f ∷ unweighted_and_nearer f ∷ []) e
+    → Contains (by_even_distance f) e
 dual-back e f a none same rests = All-contains IsBack (dual_premises a.dual) f (All-map IsBack at (positive a.dual.y) (λ k o l. back (get_or (positive a.dual.y) k o))) rests
   where
     IsBack : Entry → Type 0
-    IsBack g = Contains (unweighted g ∷ unweighted_and_nearer g ∷ []) e
+    IsBack g = Contains (by_even_distance g) e
 
     at : ℕ × ℤ → Entry
     at p = constant_weight a.dual.entry.n (even_from a.dual.entry.d) (as_distance a.dual.entry.w p.0)
@@ -89,9 +90,6 @@ dual_above-lawful c = record {
   sound = λ e vs x stand entry condition known is. sound e vs x stand (dual_at c e) refl known is;
   monotone = λ e us vs x h is. dual-monotone (dual_at c e) us vs x h is;
   few = λ e stand entry. few e stand (dual_at c e) refl;
-  dependents = λ e f defined rests.
-      dependents e f (no_weight e (and_parts (not (has_weight e)) (is_some (dual_at c e)) (defined_condition (dual_above c) e defined)).0)
-      (dual_at c e) refl rests;
 }
   where
     sound : (e : Entry) (vs : List ℕ) (x : ℕ) → ForSome c Stands → (o : Option AcceptedValue) → dual_at c e ≡ o
@@ -107,10 +105,15 @@ dual_above-lawful c = record {
         let accepted : IsAccepted a = (stand (Bound a) (dual_there c e a at).support).0 in
         premises_few a.dual accepted.form
 
-    dependents : (e f : Entry) → Weightless e → (o : Option AcceptedValue) → dual_at c e ≡ o → Contains (premises_of_dual o) f
-        → Contains (unweighted f ∷ unweighted_and_nearer f ∷ []) e
-    dependents e f none None at rests = no_item (Contains (unweighted f ∷ unweighted_and_nearer f ∷ []) e) f rests
-    dependents e f none (Some a) at rests = dual-back e f a none (dual_there c e a at).entry rests
+pub dual_above-back : (c : Option Support) → LeadsBack (dual_above c) by_even_distance
+dual_above-back c e f defined rests =
+    go e f (no_weight e (and_parts (not (has_weight e)) (is_some (dual_at c e)) (defined_condition (dual_above c) e defined)).0)
+    (dual_at c e) refl rests
+  where
+    go : (e f : Entry) → Weightless e → (o : Option AcceptedValue) → dual_at c e ≡ o → Contains (premises_of_dual o) f
+        → Contains (by_even_distance f) e
+    go e f none None at rests = no_item (Contains (by_even_distance f) e) f rests
+    go e f none (Some a) at rests = dual-back e f a none (dual_there c e a at).entry rests
 
 -- a dual of an entry with weight that allows nothing rests on nothing
 pub premises-none : (a : AcceptedValue) (w : ℕ) → AllowsNone a.dual.entry.w a.dual.y → a.dual.entry.w ≡ Some w → dual_premises a.dual ≡ []
@@ -124,7 +127,6 @@ dual_above_of_weight-lawful c = record {
       sound e vs x stand (a_weight e (and_parts (has_weight e) (is_some (dual_at c e)) condition).0) (dual_at c e) refl known is;
   monotone = λ e us vs x h is. dual-monotone (dual_at c e) us vs x h is;
   few = λ e stand entry. omega arith;
-  dependents = λ e f defined rests. no_item (Contains [] e) f rests;
 }
   where
     sound : (e : Entry) (vs : List ℕ) (x : ℕ) → ForSome c Stands → (w : ℕ) × (e.w ≡ Some w) → (o : Option AcceptedValue) → dual_at c e ≡ o

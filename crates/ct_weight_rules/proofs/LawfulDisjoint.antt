@@ -1,5 +1,5 @@
 -- Words with no one in common.
-use Rattle.std.proofs.Common.{◌≡◌, ◌*◌, ◌/◌, ◌==◌, ◌≤◌, [], Contains, true, ap, subst, ◌∙◌, eqb-true, arith}
+use Rattle.std.proofs.Common.{◌≡◌, ◌*◌, ◌/◌, ◌==◌, ◌≤◌, true, ap, subst, ◌∙◌, eqb-true, arith}
 use Rattle.std.specs.Prelude.{Option, Some}
 use Rattle.std.proofs.lemmas.Bool.{and_parts}
 use Rattle.std.proofs.lemmas.Nat.{le-div}
@@ -13,7 +13,7 @@ use Rattle.ct_johnson.proofs.Weights.{weight_bound-disjoint}
 use Rattle.ct_rule_parts.specs.declared.support.Support.{Support}
 use Rattle.ct_rule_parts.specs.Parts.{has_weight, weight_of}
 use Rattle.ct_rule_parts.proofs.Lawful.{IsLawful, same_number, no_worse-same}
-use Rattle.ct_rule_parts.proofs.PlainEntries.{Weighted, a_weight, no_item}
+use Rattle.ct_rule_parts.proofs.PlainEntries.{Weighted, a_weight}
 use Rattle.ct_rule_parts.proofs.WeightEntries.{weight_within, lower_of_weight, upper_of_weight}
 use Rattle.ct_weight_rules.specs.Disjoint.{has_disjoint_words, count_of_disjoint, disjoint_below, disjoint_above}
 use Rattle.ct_weight_rules.proofs.DisjointWords.{disjoint_code}
@@ -61,7 +61,6 @@ disjoint_below-lawful c = record {
       (subst (λ d. IsTrueLower (constant_weight e.n d w) count) half.twice (disjoint_code e.n w half.some)));
   monotone = λ e us vs x h is. no_worse-same Lower (Some (count_of_disjoint e)) x is;
   few = λ e stand entry. omega arith;
-  dependents = λ e f defined rests. no_item (Contains [] e) f rests;
 }
 
 pub disjoint_above-lawful : (c : Option Support) → IsLawful c disjoint_above
@@ -76,5 +75,4 @@ disjoint_above-lawful c = record {
       (bound_from_weight e.n (2 * w) w count (weight_bound-disjoint e.n w half.some))));
   monotone = λ e us vs x h is. no_worse-same Upper (Some (count_of_disjoint e)) x is;
   few = λ e stand entry. omega arith;
-  dependents = λ e f defined rests. no_item (Contains [] e) f rests;
 }

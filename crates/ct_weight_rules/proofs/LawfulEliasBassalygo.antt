@@ -7,9 +7,10 @@ use Rattle.ct_johnson.specs.Bounds.{average}
 use Rattle.ct_johnson.proofs.Averages.{average_sound, one-le-average, average-le}
 use Rattle.ct_rule_parts.specs.declared.support.Support.{Support}
 use Rattle.ct_rule_parts.specs.Parts.{first}
-use Rattle.ct_rule_parts.proofs.Lawful.{IsLawful, only_value, same_number, no_worse-other, first-no_better, defined_condition}
+use Rattle.ct_rule_parts.proofs.Lawful.{IsLawful, LeadsBack, only_value, same_number, no_worse-other, first-no_better, defined_condition}
 use Rattle.ct_rule_parts.proofs.PlainEntries.{no_weight, written, turns_back}
 use Rattle.ct_rule_parts.proofs.PlainNumbers.{upper_number}
+use Rattle.ct_weight_rules.specs.Inside.RestedOn.{by_elias_bassalygo}
 use Rattle.ct_weight_rules.specs.Neighbours.{of_weight, unweighted}
 use Rattle.ct_weight_rules.specs.EliasBassalygo.{elias_bassalygo}
 
@@ -27,7 +28,9 @@ elias_bassalygo-lawful w c = record {
       no_worse-other Upper (average e.n w (first us)) (average e.n w (first vs)) x
       (average-le e.n w (first us) (first vs) (first-no_better Upper us vs h)) is;
   few = λ e stand entry. omega arith;
-  dependents = λ e f defined rests.
-      turns_back (λ g. of_weight g w) unweighted e f
-      (written e.n e.d e (no_weight e (defined_condition (elias_bassalygo w) e defined)) refl refl) rests;
 }
+
+pub elias_bassalygo-back : (w : ℕ) → LeadsBack (elias_bassalygo w) by_elias_bassalygo
+elias_bassalygo-back w e f defined rests =
+    turns_back (λ g. of_weight g w) unweighted e f
+    (written e.n e.d e (no_weight e (defined_condition (elias_bassalygo w) e defined)) refl refl) rests

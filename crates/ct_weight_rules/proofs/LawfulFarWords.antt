@@ -1,5 +1,5 @@
 -- Far words.
-use Rattle.std.proofs.Common.{◌-◌, ◌*◌, min, nat_lt, [], Contains, ltb-true, arith}
+use Rattle.std.proofs.Common.{◌-◌, ◌*◌, min, nat_lt, ltb-true, arith}
 use Rattle.std.specs.Prelude.{Option, Some}
 use Rattle.std.proofs.lemmas.Bool.{and_parts}
 use Rattle.ct_codes.specs.declared.claim.Side.TheVariants.{Upper}
@@ -8,7 +8,7 @@ use Rattle.ct_johnson.proofs.Weights.{weight_bound-apart}
 use Rattle.ct_rule_parts.specs.declared.support.Support.{Support}
 use Rattle.ct_rule_parts.specs.Parts.{has_weight, weight_of}
 use Rattle.ct_rule_parts.proofs.Lawful.{IsLawful, same_number, no_worse-same}
-use Rattle.ct_rule_parts.proofs.PlainEntries.{a_weight, no_item}
+use Rattle.ct_rule_parts.proofs.PlainEntries.{a_weight}
 use Rattle.ct_rule_parts.proofs.WeightEntries.{upper_of_weight}
 use Rattle.ct_weight_rules.specs.FarWords.{far_words}
 
@@ -23,5 +23,4 @@ far_words-lawful c = record {
       (bound_from_weight e.n e.d w 1 (weight_bound-apart e.n e.d w (ltb-true most e.d parts.1))));
   monotone = λ e us vs x h is. no_worse-same Upper (Some 1) x is;
   few = λ e stand entry. omega arith;
-  dependents = λ e f defined rests. no_item (Contains [] e) f rests;
 }

@@ -1,10 +1,9 @@
 -- A code of constant weight that is handed in.
-use Rattle.std.proofs.Common.{[], Contains, arith}
+use Rattle.std.proofs.Common.{arith}
 use Rattle.std.specs.Prelude.{Option}
 use Rattle.ct_codes.specs.declared.claim.Side.TheVariants.{Lower}
 use Rattle.ct_rule_parts.specs.declared.support.Support.{Support}
 use Rattle.ct_rule_parts.proofs.Lawful.{IsLawful, no_worse-same, support_number}
-use Rattle.ct_rule_parts.proofs.PlainEntries.{no_item}
 use Rattle.ct_weight_rules.specs.GivenCode.{given_code}
 
 pub given_code-lawful : (c : Option Support) → IsLawful c (given_code c)
@@ -12,5 +11,4 @@ given_code-lawful c = record {
   sound = λ e vs x stand entry condition known is. support_number c e x stand is;
   monotone = λ e us vs x h is. no_worse-same Lower _ x is;
   few = λ e stand entry. omega arith;
-  dependents = λ e f defined rests. no_item (Contains [] e) f rests;
 }

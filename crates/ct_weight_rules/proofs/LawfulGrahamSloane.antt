@@ -1,5 +1,5 @@
 -- A sum class.
-use Rattle.std.proofs.Common.{◌≡◌, ℕ, ◌==◌, ◌&&◌, [], length, Contains, ◌<◌, ◌≤◌, true, if◌then◌else◌, refl, subst, sym, ap₂, eqb-true, lt-ltb, arith}
+use Rattle.std.proofs.Common.{◌≡◌, ℕ, ◌==◌, ◌&&◌, length, ◌<◌, ◌≤◌, true, if◌then◌else◌, refl, subst, sym, ap₂, eqb-true, lt-ltb, arith}
 use Rattle.std.specs.Prelude.{Option, Some, None, is_some, nat_lt}
 use Rattle.std.proofs.lemmas.Bool.{and_parts, ltb-true, false≢true}
 use Rattle.std.proofs.lemmas.Option.{cond_some}
@@ -12,7 +12,7 @@ use Rattle.ct_partitions.proofs.SumClasses.{IsCode-sum_class}
 use Rattle.ct_rule_parts.specs.declared.support.Support.{Support}
 use Rattle.ct_rule_parts.specs.Parts.{has_weight, weight_of}
 use Rattle.ct_rule_parts.proofs.Lawful.{IsLawful, IsTrueNumber, no_worse-same}
-use Rattle.ct_rule_parts.proofs.PlainEntries.{a_weight, no_item}
+use Rattle.ct_rule_parts.proofs.PlainEntries.{a_weight}
 use Rattle.ct_rule_parts.proofs.WeightEntries.{lower_of_weight}
 use Rattle.ct_weight_rules.specs.GrahamSloane.{sum_class_size, graham_sloane}
 
@@ -71,5 +71,4 @@ graham_sloane-lawful r c = record {
   sound = λ e vs x stand entry condition known is. class_number r e x is;
   monotone = λ e us vs x h is. no_worse-same Lower (sum_class_size r e) x is;
   few = λ e stand entry. omega arith;
-  dependents = λ e f defined rests. no_item (Contains [] e) f rests;
 }

@@ -9,9 +9,10 @@ use Rattle.ct_codes.proofs.EntryLemmas.{entry_limits}
 use Rattle.ct_johnson.proofs.JohnsonRule.{johnson_sound, johnson_within, johnson_odd-le}
 use Rattle.ct_rule_parts.specs.declared.support.Support.{Support}
 use Rattle.ct_rule_parts.specs.Parts.{half_up, first}
-use Rattle.ct_rule_parts.proofs.Lawful.{IsLawful, only_value, first-no_better, defined_condition}
+use Rattle.ct_rule_parts.proofs.Lawful.{IsLawful, LeadsBack, only_value, first-no_better, defined_condition}
 use Rattle.ct_rule_parts.proofs.PlainEntries.{no_weight, written, turns_back}
 use Rattle.ct_rule_parts.proofs.PlainNumbers.{upper_number}
+use Rattle.ct_weight_rules.specs.Inside.RestedOn.{by_johnson}
 use Rattle.ct_weight_rules.specs.Neighbours.{around, unweighted_and_nearer}
 use Rattle.ct_weight_rules.specs.Johnson.{johnson}
 
@@ -31,7 +32,9 @@ johnson-lawful c = record {
   monotone = λ e us vs x h is.
       johnson_odd-le e.n (half_up e.d) (first us) (first vs) x (first-no_better Upper us vs h) is;
   few = λ e stand entry. omega arith;
-  dependents = λ e f defined rests.
-      turns_back around unweighted_and_nearer e f
-      (written e.n (e.d + 1 - 1) e (no_weight e (defined_condition johnson e defined)) refl (omega arith)) rests;
 }
+
+pub johnson-back : LeadsBack johnson by_johnson
+johnson-back e f defined rests =
+    turns_back around unweighted_and_nearer e f
+    (written e.n (e.d + 1 - 1) e (no_weight e (defined_condition johnson e defined)) refl (omega arith)) rests

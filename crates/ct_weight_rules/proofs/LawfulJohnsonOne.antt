@@ -1,5 +1,5 @@
 -- Words with a one at a place.
-use Rattle.std.proofs.Common.{◌≡◌, ℕ, ◌+◌, ◌-◌, ◌*◌, ◌/◌, ◌≤◌, nat_le, arith, leb-true, mul-pos}
+use Rattle.std.proofs.Common.{◌≡◌, ℕ, ◌+◌, ◌-◌, ◌*◌, ◌/◌, ◌≤◌, [], ◌∷◌, nat_le, arith, leb-true, mul-pos}
 use Rattle.std.specs.Prelude.{true, Option}
 use Rattle.std.specs.Int.{div_ceil}
 use Rattle.std.proofs.Math.Nat.{mul-le-mul_left}
@@ -17,7 +17,7 @@ use Rattle.ct_johnson.proofs.Quotients.{div-le-div}
 use Rattle.ct_johnson.proofs.RoundedUp.{div_ceil-le-div_ceil, one-le-div_ceil}
 use Rattle.ct_rule_parts.specs.declared.support.Support.{Support}
 use Rattle.ct_rule_parts.specs.Parts.{has_weight, weight_of, first}
-use Rattle.ct_rule_parts.proofs.Lawful.{IsLawful, IsTrueNumber, only_value, same_number, no_worse-other, first-no_better, defined_entry, defined_condition}
+use Rattle.ct_rule_parts.proofs.Lawful.{IsLawful, LeadsBack, IsTrueNumber, only_value, same_number, no_worse-other, first-no_better, defined_entry, defined_condition}
 use Rattle.ct_rule_parts.proofs.PlainEntries.{Weighted, a_weight, turns_back}
 use Rattle.ct_rule_parts.proofs.WeightEntries.{weight_within, lower_of_weight, upper_of_weight}
 use Rattle.ct_weight_rules.specs.JohnsonOne.{johnson_one_below, johnson_one_above}
@@ -40,10 +40,12 @@ johnson_one_below-lawful c = record {
       no_worse-other Lower _ _ x
       (div_ceil-le-div_ceil ((weight_of e + 1) * first us) ((weight_of e + 1) * first vs) (e.n + 1) (omega arith) more) is;
   few = λ e stand entry. omega arith;
-  dependents = λ e f defined rests.
-      let weighted = a_weight e (defined_condition johnson_one_below e defined) in
-      turns_back one_more one_less e f (one_less-one_more e weighted) rests;
 }
+
+pub johnson_one_below-back : LeadsBack johnson_one_below (λ e. one_less e ∷ [])
+johnson_one_below-back e f defined rests =
+    let weighted = a_weight e (defined_condition johnson_one_below e defined) in
+    turns_back one_more one_less e f (one_less-one_more e weighted) rests
 
 -- the condition of V4, as facts
 record HasOnes (e : Entry) : Type 0 where
@@ -80,8 +82,10 @@ johnson_one_above-lawful c = record {
       let fewer = mul-le-mul_left e.n (first-no_better Upper us vs h) in
       no_worse-other Upper _ _ x (div-le-div (e.n * first vs) (e.n * first us) (weight_of e) fewer) is;
   few = λ e stand entry. omega arith;
-  dependents = λ e f defined rests.
-      let ones = has_ones e (defined_condition johnson_one_above e defined) in
-      turns_back one_less one_more e f
-      (one_more-one_less e (defined_entry johnson_one_above e defined) ones.weighted ones.some) rests;
 }
+
+pub johnson_one_above-back : LeadsBack johnson_one_above (λ e. one_more e ∷ [])
+johnson_one_above-back e f defined rests =
+    let ones = has_ones e (defined_condition johnson_one_above e defined) in
+    turns_back one_less one_more e f
+    (one_more-one_less e (defined_entry johnson_one_above e defined) ones.weighted ones.some) rests

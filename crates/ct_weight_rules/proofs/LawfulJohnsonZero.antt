@@ -1,5 +1,5 @@
 -- Words with a zero at a place.
-use Rattle.std.proofs.Common.{ℕ, ◌+◌, ◌-◌, ◌*◌, ◌/◌, ◌≤◌, refl, arith, mul-pos}
+use Rattle.std.proofs.Common.{ℕ, ◌+◌, ◌-◌, ◌*◌, ◌/◌, ◌≤◌, [], ◌∷◌, refl, arith, mul-pos}
 use Rattle.std.specs.Prelude.{Option}
 use Rattle.std.specs.Int.{div_ceil}
 use Rattle.std.proofs.Math.Nat.{mul-le-mul_left}
@@ -16,7 +16,7 @@ use Rattle.ct_johnson.proofs.Quotients.{div-le-div}
 use Rattle.ct_johnson.proofs.RoundedUp.{div_ceil-le-div_ceil, one-le-div_ceil}
 use Rattle.ct_rule_parts.specs.declared.support.Support.{Support}
 use Rattle.ct_rule_parts.specs.Parts.{weight_of, first}
-use Rattle.ct_rule_parts.proofs.Lawful.{IsLawful, IsTrueNumber, only_value, same_number, no_worse-other, first-no_better, defined_entry, defined_condition}
+use Rattle.ct_rule_parts.proofs.Lawful.{IsLawful, LeadsBack, IsTrueNumber, only_value, same_number, no_worse-other, first-no_better, defined_entry, defined_condition}
 use Rattle.ct_rule_parts.proofs.PlainEntries.{Weighted, a_weight, turns_back}
 use Rattle.ct_rule_parts.proofs.WeightEntries.{weight_within, lower_of_weight, upper_of_weight}
 use Rattle.ct_weight_rules.specs.JohnsonZero.{johnson_zero_below, johnson_zero_above}
@@ -40,10 +40,12 @@ johnson_zero_below-lawful c = record {
       let more = mul-le-mul_left zeros (first-no_better Lower us vs h) in
       no_worse-other Lower _ _ x (div_ceil-le-div_ceil (zeros * first us) (zeros * first vs) (e.n + 1) (omega arith) more) is;
   few = λ e stand entry. omega arith;
-  dependents = λ e f defined rests.
-      let weighted = a_weight e (defined_condition johnson_zero_below e defined) in
-      turns_back zero_more zero_less e f (zero_less-zero_more e weighted) rests;
 }
+
+pub johnson_zero_below-back : LeadsBack johnson_zero_below (λ e. zero_less e ∷ [])
+johnson_zero_below-back e f defined rests =
+    let weighted = a_weight e (defined_condition johnson_zero_below e defined) in
+    turns_back zero_more zero_less e f (zero_less-zero_more e weighted) rests
 
 -- ⌊n·u/(n - w)⌋
 bound_of_zeros : (e : Entry) (u : ℕ) → IsEntry e → Weighted e → IsEntry (zero_less e) → 1 ≤ u → IsTrueUpper (zero_less e) u
@@ -70,8 +72,10 @@ johnson_zero_above-lawful c = record {
       let fewer = mul-le-mul_left e.n (first-no_better Upper us vs h) in
       no_worse-other Upper _ _ x (div-le-div (e.n * first vs) (e.n * first us) (e.n - weight_of e) fewer) is;
   few = λ e stand entry. omega arith;
-  dependents = λ e f defined rests.
-      let weighted = a_weight e (defined_condition johnson_zero_above e defined) in
-      turns_back zero_less zero_more e f
-      (zero_more-zero_less e (defined_entry johnson_zero_above e defined) weighted) rests;
 }
+
+pub johnson_zero_above-back : LeadsBack johnson_zero_above (λ e. zero_more e ∷ [])
+johnson_zero_above-back e f defined rests =
+    let weighted = a_weight e (defined_condition johnson_zero_above e defined) in
+    turns_back zero_less zero_more e f
+    (zero_more-zero_less e (defined_entry johnson_zero_above e defined) weighted) rests

@@ -1,5 +1,5 @@
 -- A digit more.
-use Rattle.std.proofs.Common.{◌≡◌, ℕ, ◌+◌, ◌-◌, ◌≤◌, nat_le, leb-true, subst, ◌∙◌, arith}
+use Rattle.std.proofs.Common.{◌≡◌, ℕ, ◌+◌, ◌-◌, ◌≤◌, nat_le, leb-true, subst, ◌∙◌, [], ◌∷◌, arith}
 use Rattle.std.specs.Prelude.{Option, Some}
 use Rattle.std.proofs.lemmas.Bool.{and_parts}
 use Rattle.ct_codes.specs.declared.claim.Side.TheVariants.{Lower}
@@ -10,7 +10,7 @@ use Rattle.ct_codes.specs.Constructions.Append.{lengthened, one_appended}
 use Rattle.ct_codes.proofs.Constructions.AppendLemmas.{IsCode-lengthened, IsCode-one_appended, length-lengthened, length-one_appended}
 use Rattle.ct_rule_parts.specs.declared.support.Support.{Support}
 use Rattle.ct_rule_parts.specs.Parts.{has_weight, weight_of, first}
-use Rattle.ct_rule_parts.proofs.Lawful.{IsLawful, only_value, same_number, no_worse-other, first-no_better, defined_entry, defined_condition}
+use Rattle.ct_rule_parts.proofs.Lawful.{IsLawful, LeadsBack, only_value, same_number, no_worse-other, first-no_better, defined_entry, defined_condition}
 use Rattle.ct_rule_parts.proofs.PlainEntries.{a_weight, turns_back}
 use Rattle.ct_rule_parts.proofs.WeightEntries.{lower_of_weight}
 use Rattle.ct_weight_rules.specs.Lengthened.{lengthened_by_zero, lengthened_by_one}
@@ -43,11 +43,13 @@ lengthened_by_zero-lawful c = record {
       (with_zero e.n e.d (weight_of e) (first vs) limits.length_from premise.truth));
   monotone = λ e us vs x h is. no_worse-other Lower (first us) (first vs) x (first-no_better Lower us vs h) is;
   few = λ e stand entry. omega arith;
-  dependents = λ e f defined rests.
-      turns_back zero_less zero_more e f
-      (zero_more-zero_less e (defined_entry lengthened_by_zero e defined) (a_weight e (defined_condition lengthened_by_zero e defined)))
-      rests;
 }
+
+pub lengthened_by_zero-back : LeadsBack lengthened_by_zero (λ e. zero_more e ∷ [])
+lengthened_by_zero-back e f defined rests =
+    turns_back zero_less zero_more e f
+    (zero_more-zero_less e (defined_entry lengthened_by_zero e defined) (a_weight e (defined_condition lengthened_by_zero e defined)))
+    rests
 
 pub lengthened_by_one-lawful : (c : Option Support) → IsLawful c lengthened_by_one
 lengthened_by_one-lawful c = record {
@@ -60,9 +62,11 @@ lengthened_by_one-lawful c = record {
       (with_one e.n e.d (weight_of e) (first vs) limits.length_from (leb-true 1 (weight_of e) parts.1) premise.truth));
   monotone = λ e us vs x h is. no_worse-other Lower (first us) (first vs) x (first-no_better Lower us vs h) is;
   few = λ e stand entry. omega arith;
-  dependents = λ e f defined rests.
-      let parts = and_parts (has_weight e) (nat_le 1 (weight_of e)) (defined_condition lengthened_by_one e defined) in
-      turns_back one_less one_more e f
-      (one_more-one_less e (defined_entry lengthened_by_one e defined) (a_weight e parts.0) (leb-true 1 (weight_of e) parts.1))
-      rests;
 }
+
+pub lengthened_by_one-back : LeadsBack lengthened_by_one (λ e. one_more e ∷ [])
+lengthened_by_one-back e f defined rests =
+    let parts = and_parts (has_weight e) (nat_le 1 (weight_of e)) (defined_condition lengthened_by_one e defined) in
+    turns_back one_less one_more e f
+    (one_more-one_less e (defined_entry lengthened_by_one e defined) (a_weight e parts.0) (leb-true 1 (weight_of e) parts.1))
+    rests

@@ -36,9 +36,10 @@ use Rattle.ct_rule_parts.specs.Support.{Stands, local_at}
 use Rattle.ct_rule_parts.specs.Local.{doubly_at, doubly_uppers, lesser, local_value}
 use Rattle.ct_rule_parts.proofs.DualLemmas.{local_there}
 use Rattle.ct_rule_parts.proofs.EntryLists.{Contains-range_with_len}
-use Rattle.ct_rule_parts.proofs.Lawful.{IsLawful, IsTrueNumber, AreTrueAt, NoWorse, same_number, no_worse-other, defined_entry, defined_condition}
+use Rattle.ct_rule_parts.proofs.Lawful.{IsLawful, LeadsBack, IsTrueNumber, AreTrueAt, NoWorse, same_number, no_worse-other, defined_entry, defined_condition}
 use Rattle.ct_rule_parts.proofs.PlainEntries.{Weighted, a_weight, no_item}
-use Rattle.ct_weight_rules.specs.Neighbours.{of_weight, all_weights}
+use Rattle.ct_weight_rules.specs.Inside.RestedOn.{all_weights}
+use Rattle.ct_weight_rules.specs.Neighbours.{of_weight}
 use Rattle.ct_weight_rules.specs.Delsarte.{premises_of_dual}
 use Rattle.ct_weight_rules.specs.LocalDuals.{local_bound_of, local_above}
 use Rattle.ct_weight_rules.proofs.LawfulDelsarte.{true_uppers, at_most}
@@ -141,9 +142,6 @@ local_above-lawful c = record {
       sound e vs x stand (a_weight e (and_parts (has_weight e) (is_some (local_at c e)) condition).0) (local_at c e) refl known is;
   monotone = λ e us vs x h is. local-monotone (local_at c e) us vs x h is;
   few = λ e stand entry. few e stand (local_at c e) refl;
-  dependents = λ e f defined rests.
-      dependents e f (defined_entry (local_above c) e defined)
-      (a_weight e (and_parts (has_weight e) (is_some (local_at c e)) (defined_condition (local_above c) e defined)).0) (local_at c e) refl rests;
 }
   where
     sound : (e : Entry) (vs : List ℕ) (x : ℕ) → ForSome c Stands → Weighted e → (o : Option AcceptedValue) → local_at c e ≡ o
@@ -164,7 +162,12 @@ local_above-lawful c = record {
         let accepted : IsAccepted a = stand (Local a) (local_there c e a at).support in
         premises_few a.dual accepted.form
 
-    dependents : (e f : Entry) → IsEntry e → Weighted e → (o : Option AcceptedValue) → local_at c e ≡ o → Contains (premises_of_dual o) f
+pub local_above-back : (c : Option Support) → LeadsBack (local_above c) all_weights
+local_above-back c e f defined rests =
+    go e f (defined_entry (local_above c) e defined)
+    (a_weight e (and_parts (has_weight e) (is_some (local_at c e)) (defined_condition (local_above c) e defined)).0) (local_at c e) refl rests
+  where
+    go : (e f : Entry) → IsEntry e → Weighted e → (o : Option AcceptedValue) → local_at c e ≡ o → Contains (premises_of_dual o) f
         → Contains (all_weights f) e
-    dependents e f entry weight None at rests = no_item (Contains (all_weights f) e) f rests
-    dependents e f entry weight (Some a) at rests = local-back e f a entry weight (local_there c e a at).entry rests
+    go e f entry weight None at rests = no_item (Contains (all_weights f) e) f rests
+    go e f entry weight (Some a) at rests = local-back e f a entry weight (local_there c e a at).entry rests

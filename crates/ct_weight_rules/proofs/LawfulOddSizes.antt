@@ -1,5 +1,5 @@
 -- Sizes that parity excludes: U12.
-use Rattle.std.proofs.Common.{◌≡◌, ℕ, ◌-◌, ◌%◌, ◌≤◌, List, [], ◌∷◌, length, take, Bool, true, cond, Contains, refl, ap, subst, ◌∙◌, arith, leb-true, inl, inr}
+use Rattle.std.proofs.Common.{◌≡◌, ℕ, ◌-◌, ◌%◌, ◌≤◌, List, length, take, Bool, true, cond, Contains, refl, ap, subst, ◌∙◌, arith, leb-true, inl, inr}
 use Rattle.std.specs.Prelude.{ℤ, pos, ◌*ℤ◌, ◌≤ℤ◌, ◌<ℤ◌, int_lt, nat_le, not, is_some, ◌&&◌, ◌==◌, Option, Some, None, option_map}
 use Rattle.std.specs.Option.{ForSome}
 use Rattle.std.proofs.lemmas.Bool.{and_parts, cases_lt}
@@ -32,9 +32,9 @@ use Rattle.ct_rule_parts.specs.Parts.{has_weight, slots_on}
 use Rattle.ct_rule_parts.specs.Slot.{AreNoBetter}
 use Rattle.ct_rule_parts.specs.Support.{OddValue, Stands, odd_at}
 use Rattle.ct_rule_parts.proofs.DualLemmas.{odd_there}
-use Rattle.ct_rule_parts.proofs.Lawful.{IsLawful, IsTrueNumber, AreTrueAt, NoWorse, same_number, defined_condition}
+use Rattle.ct_rule_parts.proofs.Lawful.{IsLawful, LeadsBack, IsTrueNumber, AreTrueAt, NoWorse, same_number, defined_condition}
 use Rattle.ct_rule_parts.proofs.PlainEntries.{Weightless, no_weight, no_item}
-use Rattle.ct_weight_rules.specs.Neighbours.{unweighted, unweighted_and_nearer}
+use Rattle.ct_weight_rules.specs.Inside.RestedOn.{by_even_distance}
 use Rattle.ct_weight_rules.specs.Delsarte.{premises_of_dual}
 use Rattle.ct_weight_rules.specs.OddSizes.{is_odd_size, is_above_spread, is_excluded, size_below, odd_size_above}
 use Rattle.ct_weight_rules.proofs.LawfulDelsarte.{true_uppers, at_most, dual-back}
@@ -123,20 +123,18 @@ size-monotone (Some o) us vs x h is =
     let still = excluded-monotone o us vs (at_most us vs h) both.0 in
     (o.m - 1, ap (λ (b : Bool). cond b (Some (o.m - 1)) None) still, omega (arith, both.1))
 
+-- the entries that its dual rests on
+abbrev premises : Option OddValue → List Entry
+premises o = premises_of_dual (option_map (λ p. p.accepted) o)
+
 pub odd_size_above-lawful : (c : Option Support) → IsLawful c (odd_size_above c)
 odd_size_above-lawful c = record {
   sound = λ e vs x stand entry condition known is.
       sound e vs x stand (no_weight e (and_parts (not (has_weight e)) (is_some (odd_at c e)) condition).0) (odd_at c e) refl known is;
   monotone = λ e us vs x h is. size-monotone (odd_at c e) us vs x h is;
   few = λ e stand entry. few e stand (odd_at c e) refl;
-  dependents = λ e f defined rests.
-      dependents e f (no_weight e (and_parts (not (has_weight e)) (is_some (odd_at c e)) (defined_condition (odd_size_above c) e defined)).0)
-      (odd_at c e) refl rests;
 }
   where
-    premises : Option OddValue → List Entry
-    premises o = premises_of_dual (option_map (λ p. p.accepted) o)
-
     sound : (e : Entry) (vs : List ℕ) (x : ℕ) → ForSome c Stands → Weightless e → (o : Option OddValue) → odd_at c e ≡ o
         → AreTrueAt (slots_on Upper (premises o)) vs → size_below o vs ≡ Some x → IsTrueNumber Upper e x
     sound e vs x stand light None at known is = absurd (none-some x is)
@@ -160,7 +158,12 @@ odd_size_above-lawful c = record {
         let accepted : IsAccepted o.accepted = stand (Odd o.accepted o.m) (odd_there c e o at).support in
         premises_few o.accepted.dual accepted.form
 
-    dependents : (e f : Entry) → Weightless e → (o : Option OddValue) → odd_at c e ≡ o → Contains (premises o) f
-        → Contains (unweighted f ∷ unweighted_and_nearer f ∷ []) e
-    dependents e f light None at rests = no_item (Contains (unweighted f ∷ unweighted_and_nearer f ∷ []) e) f rests
-    dependents e f light (Some o) at rests = dual-back e f o.accepted light (odd_there c e o at).entry rests
+pub odd_size_above-back : (c : Option Support) → LeadsBack (odd_size_above c) by_even_distance
+odd_size_above-back c e f defined rests =
+    go e f (no_weight e (and_parts (not (has_weight e)) (is_some (odd_at c e)) (defined_condition (odd_size_above c) e defined)).0)
+    (odd_at c e) refl rests
+  where
+    go : (e f : Entry) → Weightless e → (o : Option OddValue) → odd_at c e ≡ o → Contains (premises o) f
+        → Contains (by_even_distance f) e
+    go e f light None at rests = no_item (Contains (by_even_distance f) e) f rests
+    go e f light (Some o) at rests = dual-back e f o.accepted light (odd_there c e o at).entry rests

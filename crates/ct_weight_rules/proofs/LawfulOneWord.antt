@@ -1,10 +1,9 @@
 -- One word.
-use Rattle.std.proofs.Common.{[], Contains, arith}
+use Rattle.std.proofs.Common.{arith}
 use Rattle.std.specs.Prelude.{Option, Some}
 use Rattle.ct_codes.specs.declared.claim.Side.TheVariants.{Lower}
 use Rattle.ct_rule_parts.specs.declared.support.Support.{Support}
 use Rattle.ct_rule_parts.proofs.Lawful.{IsLawful, same_number, no_worse-same, one_number}
-use Rattle.ct_rule_parts.proofs.PlainEntries.{no_item}
 use Rattle.ct_weight_rules.specs.OneWord.{one_word}
 
 pub one_word-lawful : (c : Option Support) → IsLawful c one_word
@@ -12,5 +11,4 @@ one_word-lawful c = record {
   sound = λ e vs x stand entry weighted known is. same_number Lower e 1 x is (one_number e entry);
   monotone = λ e us vs x h is. no_worse-same Lower (Some 1) x is;
   few = λ e stand entry. omega arith;
-  dependents = λ e f defined rests. no_item (Contains [] e) f rests;
 }

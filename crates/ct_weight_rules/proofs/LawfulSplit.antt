@@ -10,9 +10,10 @@ use Rattle.ct_codes.proofs.EntryLemmas.{entry_limits}
 use Rattle.ct_johnson.proofs.OnePlace.{weight_bound-halves}
 use Rattle.ct_rule_parts.specs.declared.support.Support.{Support}
 use Rattle.ct_rule_parts.specs.Parts.{has_weight, weight_of, first, second}
-use Rattle.ct_rule_parts.proofs.Lawful.{IsLawful, both_values, same_number, no_worse-other, first-no_better, second-no_better, defined_entry, defined_condition}
+use Rattle.ct_rule_parts.proofs.Lawful.{IsLawful, LeadsBack, both_values, same_number, no_worse-other, first-no_better, second-no_better, defined_entry, defined_condition}
 use Rattle.ct_rule_parts.proofs.PlainEntries.{a_weight, two_items, in_front, behind}
 use Rattle.ct_rule_parts.proofs.WeightEntries.{upper_of_weight}
+use Rattle.ct_weight_rules.specs.Inside.RestedOn.{by_split}
 use Rattle.ct_weight_rules.specs.Split.{split}
 use Rattle.ct_weight_rules.specs.Neighbours.{zero_less, zero_more, one_less, one_more}
 use Rattle.ct_weight_rules.proofs.WeightNeighbours.{zero_more-zero_less, one_more-one_less}
@@ -42,13 +43,15 @@ split-lawful c = record {
       let ones = second-no_better Upper us vs h in
       no_worse-other Upper (first us + second us) (first vs + second vs) x (omega arith) is;
   few = λ e stand entry. omega arith;
-  dependents = λ e f defined rests.
-      let entry = defined_entry split e defined in
-      let parts = and_parts (has_weight e) (nat_le 1 (weight_of e)) (defined_condition split e defined) in
-      let weighted = a_weight e parts.0 in
-      two_items (λ g. Contains (split.rested_on_by g) e) (zero_less e) (one_less e) f
-      (in_front (zero_more (zero_less e)) e (one_more (zero_less e) ∷ []) (zero_more-zero_less e entry weighted))
-      (behind (zero_more (one_less e)) e (one_more (one_less e) ∷ [])
-      (in_front (one_more (one_less e)) e [] (one_more-one_less e entry weighted (leb-true 1 (weight_of e) parts.1))))
-      rests;
 }
+
+pub split-back : LeadsBack split by_split
+split-back e f defined rests =
+    let entry = defined_entry split e defined in
+    let parts = and_parts (has_weight e) (nat_le 1 (weight_of e)) (defined_condition split e defined) in
+    let weighted = a_weight e parts.0 in
+    two_items (λ g. Contains (by_split g) e) (zero_less e) (one_less e) f
+    (in_front (zero_more (zero_less e)) e (one_more (zero_less e) ∷ []) (zero_more-zero_less e entry weighted))
+    (behind (zero_more (one_less e)) e (one_more (one_less e) ∷ [])
+    (in_front (one_more (one_less e)) e [] (one_more-one_less e entry weighted (leb-true 1 (weight_of e) parts.1))))
+    rests

@@ -11,5 +11,4 @@ all_words = record {
   condition = has_weight;
   rests_on = λ e. [];
   number = λ e vs. Some (choose e.n (weight_of e));
-  rested_on_by = λ e. [];
 }

@@ -17,5 +17,4 @@ column_pairs = record {
   condition = λ e. has_weight e && is_some (below_too_many e);
   rests_on = λ e. [];
   number = λ e vs. below_too_many e;
-  rested_on_by = λ e. [];
 }

@@ -11,7 +11,6 @@ complemented_below = record {
   condition = has_weight;
   rests_on = λ e. complementary e ∷ [];
   number = λ e vs. Some (first vs);
-  rested_on_by = λ e. complementary e ∷ [];
 }
 
 -- A(n,d,w) is at most A(n,d,n-w)
@@ -21,5 +20,4 @@ complemented_above = record {
   condition = has_weight;
   rests_on = λ e. complementary e ∷ [];
   number = λ e vs. Some (first vs);
-  rested_on_by = λ e. complementary e ∷ [];
 }

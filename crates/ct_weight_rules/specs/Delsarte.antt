@@ -1,12 +1,11 @@
 -- Delsarte's bound of a dual that is handed in (Delsarte 1973; Best, Brouwer, MacWilliams, Odlyzko and Sloane 1978).
-use Rattle.std.specs.Prelude.{ℕ, ◌&&◌, List, [], ◌∷◌, not, is_some, Option, Some, None}
+use Rattle.std.specs.Prelude.{ℕ, ◌&&◌, List, [], not, is_some, Option, Some, None}
 use Rattle.ct_codes.specs.declared.claim.Side.TheVariants.{Upper}
 use Rattle.ct_codes.specs.declared.entry.Entry.{Entry}
 use Rattle.ct_duals.specs.Bound.{AcceptedValue, dual_premises, dual_bound}
 use Rattle.ct_rule_parts.specs.declared.support.Support.{Support}
 use Rattle.ct_rule_parts.specs.Parts.{RuleParts, has_weight}
 use Rattle.ct_rule_parts.specs.Support.{dual_at}
-use Rattle.ct_weight_rules.specs.Neighbours.{unweighted, unweighted_and_nearer}
 
 -- the entries whose bounds a dual rests on, none where there is no dual
 abbrev pub premises_of_dual : Option AcceptedValue → List Entry
@@ -25,7 +24,6 @@ dual_above c = record {
   condition = λ e. not (has_weight e) && is_some (dual_at c e);
   rests_on = λ e. premises_of_dual (dual_at c e);
   number = λ e vs. bound_of_dual (dual_at c e) vs;
-  rested_on_by = λ f. unweighted f ∷ unweighted_and_nearer f ∷ [];
 }
 
 -- V9 of a support: A(n,d,w) is at most the bound of its dual, which rests on nothing
@@ -35,5 +33,4 @@ dual_above_of_weight c = record {
   condition = λ e. has_weight e && is_some (dual_at c e);
   rests_on = λ e. [];
   number = λ e vs. bound_of_dual (dual_at c e) vs;
-  rested_on_by = λ f. [];
 }

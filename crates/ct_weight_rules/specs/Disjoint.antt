@@ -20,7 +20,6 @@ disjoint_below = record {
   condition = has_disjoint_words;
   rests_on = λ e. [];
   number = λ e vs. Some (count_of_disjoint e);
-  rested_on_by = λ e. [];
 }
 
 -- for d = 2w, A(n,d,w) is at most ⌊n/w⌋
@@ -30,5 +29,4 @@ disjoint_above = record {
   condition = has_disjoint_words;
   rests_on = λ e. [];
   number = λ e vs. Some (count_of_disjoint e);
-  rested_on_by = λ e. [];
 }

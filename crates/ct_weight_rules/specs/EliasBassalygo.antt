@@ -4,7 +4,7 @@ use Rattle.std.specs.Prelude.{ℕ, [], ◌∷◌, not, Some}
 use Rattle.ct_codes.specs.declared.claim.Side.TheVariants.{Upper}
 use Rattle.ct_johnson.specs.Bounds.{average}
 use Rattle.ct_rule_parts.specs.Parts.{RuleParts, has_weight, first}
-use Rattle.ct_weight_rules.specs.Neighbours.{of_weight, unweighted}
+use Rattle.ct_weight_rules.specs.Neighbours.{of_weight}
 
 -- with the weight w: for even d, A(n,d) is at most ⌊2^(n-1)·A(n,d,w)/C(n,w)⌋
 abbrev pub elias_bassalygo : ℕ → RuleParts
@@ -13,5 +13,4 @@ elias_bassalygo w = record {
   condition = λ e. not (has_weight e);
   rests_on = λ e. of_weight e w ∷ [];
   number = λ e vs. Some (average e.n w (first vs));
-  rested_on_by = λ e. unweighted e ∷ [];
 }

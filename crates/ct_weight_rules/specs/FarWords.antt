@@ -16,5 +16,4 @@ far_words = record {
   condition = has_no_far_words;
   rests_on = λ e. [];
   number = λ e vs. Some 1;
-  rested_on_by = λ e. [];
 }

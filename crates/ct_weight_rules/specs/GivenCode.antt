@@ -12,5 +12,4 @@ given_code c = record {
   condition = λ e. has_weight e && is_some (size_at c e);
   rests_on = λ e. [];
   number = λ e vs. size_at c e;
-  rested_on_by = λ e. [];
 }

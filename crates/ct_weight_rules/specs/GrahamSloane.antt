@@ -20,5 +20,4 @@ graham_sloane r = record {
   condition = λ e. is_some (sum_class_size r e);
   rests_on = λ e. [];
   number = λ e vs. sum_class_size r e;
-  rested_on_by = λ e. [];
 }

@@ -13,7 +13,6 @@ johnson_one_below = record {
   condition = has_weight;
   rests_on = λ e. one_more e ∷ [];
   number = λ e vs. Some (div_ceil ((weight_of e + 1) * first vs) (e.n + 1));
-  rested_on_by = λ e. one_less e ∷ [];
 }
 
 -- for w ≥ 1, A(n,d,w) is at most ⌊n·A(n-1,d,w-1)/w⌋
@@ -23,5 +22,4 @@ johnson_one_above = record {
   condition = λ e. has_weight e && nat_le 1 (weight_of e);
   rests_on = λ e. one_less e ∷ [];
   number = λ e vs. Some (e.n * first vs / weight_of e);
-  rested_on_by = λ e. one_more e ∷ [];
 }

@@ -13,7 +13,6 @@ johnson_zero_below = record {
   condition = has_weight;
   rests_on = λ e. zero_more e ∷ [];
   number = λ e vs. Some (div_ceil ((e.n + 1 - weight_of e) * first vs) (e.n + 1));
-  rested_on_by = λ e. zero_less e ∷ [];
 }
 
 -- A(n,d,w) is at most ⌊n·A(n-1,d,w)/(n-w)⌋; w < n, since w is at most the length n - 1
@@ -23,5 +22,4 @@ johnson_zero_above = record {
   condition = has_weight;
   rests_on = λ e. zero_less e ∷ [];
   number = λ e vs. Some (e.n * first vs / (e.n - weight_of e));
-  rested_on_by = λ e. zero_more e ∷ [];
 }

@@ -2,7 +2,7 @@
 use Rattle.std.specs.Prelude.{[], ◌∷◌, ◌&&◌, nat_le, Some}
 use Rattle.ct_codes.specs.declared.claim.Side.TheVariants.{Lower}
 use Rattle.ct_rule_parts.specs.Parts.{RuleParts, has_weight, weight_of, first}
-use Rattle.ct_weight_rules.specs.Neighbours.{zero_less, zero_more, one_less, one_more}
+use Rattle.ct_weight_rules.specs.Neighbours.{zero_less, one_less}
 
 -- by a 0 after each word: A(n,d,w) is at least A(n-1,d,w)
 abbrev pub lengthened_by_zero : RuleParts
@@ -11,7 +11,6 @@ lengthened_by_zero = record {
   condition = has_weight;
   rests_on = λ e. zero_less e ∷ [];
   number = λ e vs. Some (first vs);
-  rested_on_by = λ e. zero_more e ∷ [];
 }
 
 -- by a 1 after each word: for w ≥ 1, A(n,d,w) is at least A(n-1,d,w-1)
@@ -21,5 +20,4 @@ lengthened_by_one = record {
   condition = λ e. has_weight e && nat_le 1 (weight_of e);
   rests_on = λ e. one_less e ∷ [];
   number = λ e vs. Some (first vs);
-  rested_on_by = λ e. one_more e ∷ [];
 }

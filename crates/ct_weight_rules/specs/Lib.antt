@@ -19,3 +19,4 @@ pub mod Delsarte
 pub mod OddSizes
 pub mod OddExamples
 pub mod LocalDuals
+pub mod Inside

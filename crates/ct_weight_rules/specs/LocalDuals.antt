@@ -7,7 +7,6 @@ use Rattle.ct_rule_parts.specs.Parts.{RuleParts, has_weight}
 use Rattle.ct_rule_parts.specs.Support.{local_at}
 use Rattle.ct_rule_parts.specs.Local.{local_value}
 use Rattle.ct_weight_rules.specs.Delsarte.{premises_of_dual}
-use Rattle.ct_weight_rules.specs.Neighbours.{all_weights}
 
 -- the local bound of a dual from the upper bounds of the entries that it rests on
 abbrev pub local_bound_of : Option AcceptedValue → List ℕ → Option ℕ
@@ -22,5 +21,4 @@ local_above c = record {
   condition = λ e. has_weight e && is_some (local_at c e);
   rests_on = λ e. premises_of_dual (local_at c e);
   number = λ e vs. local_bound_of (local_at c e) vs;
-  rested_on_by = all_weights;
 }

@@ -11,7 +11,6 @@ nearer_below = record {
   condition = has_weight;
   rests_on = λ e. two_farther e ∷ [];
   number = λ e vs. Some (first vs);
-  rested_on_by = λ e. two_nearer e ∷ [];
 }
 
 -- A(n,d,w) is at most A(n,d-2,w)
@@ -21,5 +20,4 @@ nearer_above = record {
   condition = has_weight;
   rests_on = λ e. two_nearer e ∷ [];
   number = λ e vs. Some (first vs);
-  rested_on_by = λ e. two_farther e ∷ [];
 }

@@ -1,6 +1,5 @@
 -- Entries with weight beside an entry.
-use Rattle.std.specs.Prelude.{ℕ, ◌+◌, ◌-◌, ◌*◌, List, map}
-use Rattle.std.specs.List.{range_with_len}
+use Rattle.std.specs.Prelude.{ℕ, ◌+◌, ◌-◌, ◌*◌}
 use Rattle.ct_codes.specs.declared.entry.Entry.{Entry}
 use Rattle.ct_codes.specs.Entry.{unrestricted, constant_weight}
 use Rattle.ct_rule_parts.specs.Parts.{weight_of, half_up}
@@ -52,7 +51,3 @@ unweighted e = unrestricted e.n e.d
 -- words of all weights, one place nearer
 abbrev pub unweighted_and_nearer : Entry → Entry
 unweighted_and_nearer e = unrestricted e.n (e.d - 1)
-
--- words of each weight
-abbrev pub all_weights : Entry → List Entry
-all_weights e = map (λ w. of_weight e w) (range_with_len 0 (e.n + 1))

@@ -1,5 +1,5 @@
 -- Sizes that parity excludes (Best, Brouwer, MacWilliams, Odlyzko and Sloane 1978, section II).
-use Rattle.std.specs.Prelude.{ℕ, ◌-◌, ◌%◌, ◌==◌, ◌&&◌, nat_le, not, Bool, is_some, if◌then◌else◌, List, [], ◌∷◌, pos, ◌*ℤ◌, int_lt, Option, Some, None, option_map}
+use Rattle.std.specs.Prelude.{ℕ, ◌-◌, ◌%◌, ◌==◌, ◌&&◌, nat_le, not, Bool, is_some, if◌then◌else◌, List, pos, ◌*ℤ◌, int_lt, Option, Some, None, option_map}
 use Rattle.ct_codes.specs.declared.claim.Side.TheVariants.{Upper}
 use Rattle.ct_duals.specs.Bound.{AcceptedValue, dual_spread}
 use Rattle.ct_parity.specs.declared.sums.TheConstants.{MAX_ODD}
@@ -8,7 +8,6 @@ use Rattle.ct_rule_parts.specs.declared.support.Support.{Support}
 use Rattle.ct_rule_parts.specs.Parts.{RuleParts, has_weight}
 use Rattle.ct_rule_parts.specs.Support.{OddValue, odd_at}
 use Rattle.ct_weight_rules.specs.Delsarte.{premises_of_dual}
-use Rattle.ct_weight_rules.specs.Neighbours.{unweighted, unweighted_and_nearer}
 
 -- whether a number of words is one that parity may exclude: odd, from 3 to MAX_ODD
 abbrev pub is_odd_size : ℕ → Bool
@@ -34,5 +33,4 @@ odd_size_above c = record {
   condition = λ e. not (has_weight e) && is_some (odd_at c e);
   rests_on = λ e. premises_of_dual (option_map (λ o. o.accepted) (odd_at c e));
   number = λ e vs. size_below (odd_at c e) vs;
-  rested_on_by = λ f. unweighted f ∷ unweighted_and_nearer f ∷ [];
 }

@@ -3,7 +3,7 @@
 use Rattle.std.specs.Prelude.{◌+◌, [], ◌∷◌, ◌&&◌, nat_le, Some}
 use Rattle.ct_codes.specs.declared.claim.Side.TheVariants.{Upper}
 use Rattle.ct_rule_parts.specs.Parts.{RuleParts, has_weight, weight_of, first, second}
-use Rattle.ct_weight_rules.specs.Neighbours.{zero_less, zero_more, one_less, one_more}
+use Rattle.ct_weight_rules.specs.Neighbours.{zero_less, one_less}
 
 -- for w ≥ 1, A(n,d,w) is at most A(n-1,d,w) + A(n-1,d,w-1)
 abbrev pub split : RuleParts
@@ -12,5 +12,4 @@ split = record {
   condition = λ e. has_weight e && nat_le 1 (weight_of e);
   rests_on = λ e. zero_less e ∷ one_less e ∷ [];
   number = λ e vs. Some (first vs + second vs);
-  rested_on_by = λ e. zero_more e ∷ one_more e ∷ [];
 }

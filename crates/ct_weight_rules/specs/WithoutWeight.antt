@@ -2,7 +2,7 @@
 use Rattle.std.specs.Prelude.{ℕ, [], ◌∷◌, not, Some}
 use Rattle.ct_codes.specs.declared.claim.Side.TheVariants.{Lower}
 use Rattle.ct_rule_parts.specs.Parts.{RuleParts, has_weight, first}
-use Rattle.ct_weight_rules.specs.Neighbours.{even_of_weight, unweighted, unweighted_and_nearer}
+use Rattle.ct_weight_rules.specs.Neighbours.{even_of_weight}
 
 -- with the weight w: A(n,d) is at least A(n,2⌈d/2⌉,w)
 abbrev pub without_weight : ℕ → RuleParts
@@ -11,5 +11,4 @@ without_weight w = record {
   condition = λ e. not (has_weight e);
   rests_on = λ e. even_of_weight e w ∷ [];
   number = λ e vs. Some (first vs);
-  rested_on_by = λ e. unweighted e ∷ unweighted_and_nearer e ∷ [];
 }

@@ -4,6 +4,7 @@ ghost use Rattle.std.specs.Prelude.{◌≡◌, ◌+◌, true, false, [], ◌∷�
 ghost use Rattle.ct_words.specs.declared.limits.TheConstants.{MAX_N};
 ghost use Rattle.ct_codes.specs.Entry.{IsEntry, unrestricted, constant_weight};
 ghost use Rattle.ct_rule_parts.specs.Parts.{is_defined};
+ghost use Rattle.ct_weight_rules.specs.Inside.RestedOn.{by_elias_bassalygo};
 ghost use Rattle.ct_weight_rules.specs.EliasBassalygo.{elias_bassalygo};
 
 use ct_codes::Entry;
@@ -37,5 +38,5 @@ pub fn known_elias_bassalygo()
     ensures above { (elias_bassalygo 0).number (unrestricted 30 4) (4 ∷ []) ≡ Some 2147483648 }
     ensures of_weight { is_defined (elias_bassalygo 4) (constant_weight 8 4 4) ≡ false }
     ensures no_entry { is_defined (elias_bassalygo 4) (unrestricted (MAX_N + 1) 4) ≡ false }
-    ensures rested_on_by { (elias_bassalygo 4).rested_on_by (constant_weight 8 4 4) ≡ unrestricted 8 4 ∷ [] }
+    ensures rested_on_by { by_elias_bassalygo (constant_weight 8 4 4) ≡ unrestricted 8 4 ∷ [] }
 {}

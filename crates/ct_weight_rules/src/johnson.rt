@@ -4,6 +4,7 @@ ghost use Rattle.std.specs.Prelude.{◌≡◌, ◌+◌, ◌-◌, true, false, []
 ghost use Rattle.ct_words.specs.declared.limits.TheConstants.{MAX_N};
 ghost use Rattle.ct_codes.specs.Entry.{IsEntry, unrestricted, constant_weight};
 ghost use Rattle.ct_rule_parts.specs.Parts.{is_defined};
+ghost use Rattle.ct_weight_rules.specs.Inside.RestedOn.{by_johnson};
 ghost use Rattle.ct_weight_rules.specs.Johnson.{johnson};
 
 use ct_codes::Entry;
@@ -41,5 +42,5 @@ pub fn known_johnson()
     ensures greatest_even { is_defined johnson (unrestricted MAX_N MAX_N) ≡ false }
     ensures of_weight { is_defined johnson (constant_weight 11 6 5) ≡ false }
     ensures no_entry { is_defined johnson (unrestricted (MAX_N + 1) 5) ≡ false }
-    ensures rested_on_by { johnson.rested_on_by (constant_weight 11 6 5) ≡ unrestricted 11 5 ∷ [] }
+    ensures rested_on_by { by_johnson (constant_weight 11 6 5) ≡ unrestricted 11 5 ∷ [] }
 {}

@@ -5,6 +5,7 @@ ghost use Rattle.ct_codes.specs.declared.claim.Side.TheVariants.{Upper};
 ghost use Rattle.ct_codes.specs.Entry.{IsEntry, unrestricted, constant_weight};
 ghost use Rattle.ct_rule_parts.specs.Entries.{listed};
 ghost use Rattle.ct_rule_parts.specs.Parts.{is_defined, within_limit};
+ghost use Rattle.ct_weight_rules.specs.Inside.RestedOn.{by_split};
 ghost use Rattle.ct_weight_rules.specs.Split.{split};
 
 use crate::neighbours::{one_less, one_more, zero_less, zero_more};
@@ -23,7 +24,7 @@ pub fn parts_of_split(entry: Entry) -> Entries<'static>
 /// The entries that this one is a part of: A(n+1,d,w), and A(n+1,d,w+1).
 pub fn split_into(entry: Entry) -> Entries<'static>
     requires { IsEntry entry }
-    ensures { listed result ≡ split.rested_on_by entry }
+    ensures { listed result ≡ by_split entry }
 {
     Entries::Two(zero_more(entry), one_more(entry))
 }

@@ -4,6 +4,7 @@ ghost use Rattle.std.specs.Prelude.{◌≡◌, ◌+◌, ◌-◌, true, false, []
 ghost use Rattle.ct_words.specs.declared.limits.TheConstants.{MAX_N};
 ghost use Rattle.ct_codes.specs.Entry.{unrestricted, constant_weight};
 ghost use Rattle.ct_rule_parts.specs.Parts.{is_defined};
+ghost use Rattle.ct_weight_rules.specs.Inside.RestedOn.{by_even_distance};
 ghost use Rattle.ct_weight_rules.specs.WithoutWeight.{without_weight};
 
 /// Where the rule is defined, with the least and the greatest weights, what it rests on and what it gives: A(7,3) ≥ A(7,4,3) = 7
@@ -26,5 +27,5 @@ pub fn known_without_weight()
     ensures of_weight { is_defined (without_weight 4) (constant_weight 8 4 4) ≡ false }
     ensures no_entry { is_defined (without_weight 4) (unrestricted (MAX_N + 1) 4) ≡ false }
     // The entries among which are those that rest on A(8,4,4).
-    ensures rested_on_by { (without_weight 4).rested_on_by (constant_weight 8 4 4) ≡ unrestricted 8 4 ∷ unrestricted 8 3 ∷ [] }
+    ensures rested_on_by { by_even_distance (constant_weight 8 4 4) ≡ unrestricted 8 4 ∷ unrestricted 8 3 ∷ [] }
 {}

@@ -1,5 +1,5 @@
 -- Which slots were marked, and which rules were asked for them.
-use Rattle.std.specs.Prelude.{◌≡◌, ℕ, ◌<◌, true, List, None, Contains, slice_get}
+use Rattle.std.specs.Prelude.{◌≡◌, ℕ, ◌<◌, true, List, Contains, slice_get}
 use Rattle.ct_codes.specs.declared.claim.Side.TheVariants.{Upper}
 use Rattle.ct_codes.specs.declared.entry.Entry.{Entry}
 use Rattle.ct_codes.specs.Entry.{IsEntry, unrestricted}
@@ -9,7 +9,8 @@ use Rattle.ct_weight_rules.specs.Neighbours.{of_weight}
 use Rattle.ct_rules.specs.declared.rule.Rule.{Rule}
 use Rattle.ct_rules.specs.declared.rule.Rule.TheVariants.{L11}
 use Rattle.ct_rules.specs.Closed.{IsSatisfied}
-use Rattle.ct_rules.specs.Rule.{rule_side, is_by_weight, applies, parts_of, parts_over}
+use Rattle.ct_rules.specs.Inside.RestedOn.{rested_on_by}
+use Rattle.ct_rules.specs.Rule.{rule_side, is_by_weight, applies, parts_over}
 use Rattle.ct_slots.specs.Number.{bound_of}
 use Rattle.ct_offers.specs.Inside.Pulled.{given_rule}
 use Rattle.ct_slots.specs.Worklist.{WorkValue, IsMarked}
@@ -25,7 +26,7 @@ IsTestedAt supports bounds work r e = IsEntry e → ¬ (IsMarked work (rule_side
 -- so it is at each entry that may rest on one by a rule with neither numbers nor a support
 abbrev pub IsTestedFrom : List Support → List ℕ → WorkValue → Entry → Rule → Type 0
 IsTestedFrom supports bounds work from r =
-    (e : Entry) → Contains ((parts_of r None).rested_on_by from) e → IsTestedAt supports bounds work r e
+    (e : Entry) → Contains (rested_on_by r from) e → IsTestedAt supports bounds work r e
 
 -- at A(n,d), where it rests on an entry by words side by side
 abbrev pub IsTestedAtSum : List ℕ → WorkValue → Entry → ℕ → ℕ → Type 0
