@@ -167,7 +167,7 @@ pub fn offer(supports: &[Support], bounds: &Bounds, rule: Rule, entry: Entry) ->
 
 /// Asks a rule for its bound over what stands.
 #[inline(always)]
-pub(crate) fn ask(
+fn ask(
     supports: &[Support],
     bounds: &Bounds,
     rule: Rule,
@@ -183,6 +183,24 @@ pub(crate) fn ask(
 {
     *evaluations = evaluations.saturating_add(1);
     best.consider(side, rule, offer(supports, bounds, rule, entry));
+}
+
+/// Asks a rule for its bound over what stands, on its own side.
+#[inline(always)]
+pub(crate) fn ask_own(
+    supports: &[Support],
+    bounds: &Bounds,
+    rule: Rule,
+    entry: Entry,
+    best: &mut Best,
+    evaluations: &mut u64,
+)
+    requires { IsEntry entry }
+    ensures pulled { IsPulled supports.now (bound_of bounds.now) (rule_side rule, entry) best.old best.new }
+    ensures within { IsWithin supports.now (bound_of bounds.now) (rule_side rule, entry) best.new.value rule }
+{
+    let side = rule_side(rule);
+    ask(supports, bounds, rule, side, entry, best, evaluations);
 }
 
 /// The bound that stands on the other side of an entry of the table: no rule gives anything better, as both are true.
@@ -216,7 +234,6 @@ fn ask_alone(
 }
 
 /// Asks for what the lower bound of each weight gives at an entry without weight.
-#[tactic(auto, unfolding(ct_rules::specs::Rule::row_of))]
 fn ask_lower_weights(
     supports: &[Support],
     bounds: &Bounds,
@@ -233,20 +250,11 @@ fn ask_lower_weights(
     // Of words with fewer ones than that, or fewer zeros, no two are so far apart.
     let half = entry.d.div_ceil(2);
     for w in half..(entry.n + 1).saturating_sub(half) {
-        ask(
-            supports,
-            bounds,
-            Rule::L9(w),
-            Side::Lower,
-            entry,
-            best,
-            evaluations,
-        );
+        ask_own(supports, bounds, Rule::L9(w), entry, best, evaluations);
     }
 }
 
 /// Asks for what the upper bound of each weight gives at an entry without weight.
-#[tactic(auto, unfolding(ct_rules::specs::Rule::row_of))]
 fn ask_upper_weights(
     supports: &[Support],
     bounds: &Bounds,
@@ -259,15 +267,7 @@ fn ask_upper_weights(
     ensures within { (w : ℕ) → w ≤ entry.n → IsWithin supports.now (bound_of bounds.now) (Upper, entry) best.new.value (U10 w) }
 {
     for w in 0..entry.n + 1 {
-        ask(
-            supports,
-            bounds,
-            Rule::U10(w),
-            Side::Upper,
-            entry,
-            best,
-            evaluations,
-        );
+        ask_own(supports, bounds, Rule::U10(w), entry, best, evaluations);
     }
 }
 
@@ -294,15 +294,7 @@ fn ask_by_weight(
         Side::Lower => ask_lower_weights(supports, bounds, entry, best, evaluations),
         Side::Upper => {
             ask_upper_weights(supports, bounds, entry, best, evaluations);
-            ask(
-                supports,
-                bounds,
-                Rule::U9,
-                Side::Upper,
-                entry,
-                best,
-                evaluations,
-            );
+            ask_own(supports, bounds, Rule::U9, entry, best, evaluations);
         }
     }
 }

@@ -10,13 +10,12 @@ ghost use Rattle.ct_offers.specs.Offers.{IsWithin};
 ghost use Rattle.ct_offers.specs.Inside.Pulled.{IsPulled, resting_rules};
 
 use crate::best::Best;
-use crate::pulling::ask;
+use crate::pulling::ask_own;
 use ct_codes::{Entry, Side};
 use ct_rules::{Rule, Support};
 use ct_slots::Bounds;
 
 /// Asks each rule that bounds A(n,d) from below by bounds of other entries.
-#[tactic(auto, unfolding(ct_rules::specs::Rule::row_of))]
 fn ask_lower(
     supports: &[Support],
     bounds: &Bounds,
@@ -28,64 +27,15 @@ fn ask_lower(
     ensures pulled { IsPulled supports.now (bound_of bounds.now) (Lower, entry) best.old best.new }
     ensures within { All (IsWithin supports.now (bound_of bounds.now) (Lower, entry) best.new.value) (drop 2 LOWER_RULES) }
 {
-    ask(
-        supports,
-        bounds,
-        Rule::L3,
-        Side::Lower,
-        entry,
-        best,
-        evaluations,
-    );
-    ask(
-        supports,
-        bounds,
-        Rule::L4,
-        Side::Lower,
-        entry,
-        best,
-        evaluations,
-    );
-    ask(
-        supports,
-        bounds,
-        Rule::L5,
-        Side::Lower,
-        entry,
-        best,
-        evaluations,
-    );
-    ask(
-        supports,
-        bounds,
-        Rule::L6,
-        Side::Lower,
-        entry,
-        best,
-        evaluations,
-    );
-    ask(
-        supports,
-        bounds,
-        Rule::L7,
-        Side::Lower,
-        entry,
-        best,
-        evaluations,
-    );
-    ask(
-        supports,
-        bounds,
-        Rule::L8,
-        Side::Lower,
-        entry,
-        best,
-        evaluations,
-    );
+    ask_own(supports, bounds, Rule::L3, entry, best, evaluations);
+    ask_own(supports, bounds, Rule::L4, entry, best, evaluations);
+    ask_own(supports, bounds, Rule::L5, entry, best, evaluations);
+    ask_own(supports, bounds, Rule::L6, entry, best, evaluations);
+    ask_own(supports, bounds, Rule::L7, entry, best, evaluations);
+    ask_own(supports, bounds, Rule::L8, entry, best, evaluations);
 }
 
 /// Asks each rule that bounds A(n,d,w) from below by bounds of other entries.
-#[tactic(auto, unfolding(ct_rules::specs::Rule::row_of))]
 fn ask_lower_with_weight(
     supports: &[Support],
     bounds: &Bounds,
@@ -97,64 +47,15 @@ fn ask_lower_with_weight(
     ensures pulled { IsPulled supports.now (bound_of bounds.now) (Lower, entry) best.old best.new }
     ensures within { All (IsWithin supports.now (bound_of bounds.now) (Lower, entry) best.new.value) (drop 2 LOWER_WEIGHT_RULES) }
 {
-    ask(
-        supports,
-        bounds,
-        Rule::M3,
-        Side::Lower,
-        entry,
-        best,
-        evaluations,
-    );
-    ask(
-        supports,
-        bounds,
-        Rule::M4,
-        Side::Lower,
-        entry,
-        best,
-        evaluations,
-    );
-    ask(
-        supports,
-        bounds,
-        Rule::M5,
-        Side::Lower,
-        entry,
-        best,
-        evaluations,
-    );
-    ask(
-        supports,
-        bounds,
-        Rule::M6,
-        Side::Lower,
-        entry,
-        best,
-        evaluations,
-    );
-    ask(
-        supports,
-        bounds,
-        Rule::M7,
-        Side::Lower,
-        entry,
-        best,
-        evaluations,
-    );
-    ask(
-        supports,
-        bounds,
-        Rule::M8,
-        Side::Lower,
-        entry,
-        best,
-        evaluations,
-    );
+    ask_own(supports, bounds, Rule::M3, entry, best, evaluations);
+    ask_own(supports, bounds, Rule::M4, entry, best, evaluations);
+    ask_own(supports, bounds, Rule::M5, entry, best, evaluations);
+    ask_own(supports, bounds, Rule::M6, entry, best, evaluations);
+    ask_own(supports, bounds, Rule::M7, entry, best, evaluations);
+    ask_own(supports, bounds, Rule::M8, entry, best, evaluations);
 }
 
 /// Asks each rule that bounds A(n,d) from above by bounds of other entries.
-#[tactic(auto, unfolding(ct_rules::specs::Rule::row_of))]
 fn ask_upper(
     supports: &[Support],
     bounds: &Bounds,
@@ -166,55 +67,14 @@ fn ask_upper(
     ensures pulled { IsPulled supports.now (bound_of bounds.now) (Upper, entry) best.old best.new }
     ensures within { All (IsWithin supports.now (bound_of bounds.now) (Upper, entry) best.new.value) (drop 4 UPPER_RULES) }
 {
-    ask(
-        supports,
-        bounds,
-        Rule::U4,
-        Side::Upper,
-        entry,
-        best,
-        evaluations,
-    );
-    ask(
-        supports,
-        bounds,
-        Rule::U5,
-        Side::Upper,
-        entry,
-        best,
-        evaluations,
-    );
-    ask(
-        supports,
-        bounds,
-        Rule::U6,
-        Side::Upper,
-        entry,
-        best,
-        evaluations,
-    );
-    ask(
-        supports,
-        bounds,
-        Rule::U7,
-        Side::Upper,
-        entry,
-        best,
-        evaluations,
-    );
-    ask(
-        supports,
-        bounds,
-        Rule::U8,
-        Side::Upper,
-        entry,
-        best,
-        evaluations,
-    );
+    ask_own(supports, bounds, Rule::U4, entry, best, evaluations);
+    ask_own(supports, bounds, Rule::U5, entry, best, evaluations);
+    ask_own(supports, bounds, Rule::U6, entry, best, evaluations);
+    ask_own(supports, bounds, Rule::U7, entry, best, evaluations);
+    ask_own(supports, bounds, Rule::U8, entry, best, evaluations);
 }
 
 /// Asks each rule that bounds A(n,d,w) from above by bounds of other entries.
-#[tactic(auto, unfolding(ct_rules::specs::Rule::row_of))]
 fn ask_upper_with_weight(
     supports: &[Support],
     bounds: &Bounds,
@@ -226,51 +86,11 @@ fn ask_upper_with_weight(
     ensures pulled { IsPulled supports.now (bound_of bounds.now) (Upper, entry) best.old best.new }
     ensures within { All (IsWithin supports.now (bound_of bounds.now) (Upper, entry) best.new.value) (take 5 (drop 3 UPPER_WEIGHT_RULES)) }
 {
-    ask(
-        supports,
-        bounds,
-        Rule::V3,
-        Side::Upper,
-        entry,
-        best,
-        evaluations,
-    );
-    ask(
-        supports,
-        bounds,
-        Rule::V4,
-        Side::Upper,
-        entry,
-        best,
-        evaluations,
-    );
-    ask(
-        supports,
-        bounds,
-        Rule::V5,
-        Side::Upper,
-        entry,
-        best,
-        evaluations,
-    );
-    ask(
-        supports,
-        bounds,
-        Rule::V6,
-        Side::Upper,
-        entry,
-        best,
-        evaluations,
-    );
-    ask(
-        supports,
-        bounds,
-        Rule::V7,
-        Side::Upper,
-        entry,
-        best,
-        evaluations,
-    );
+    ask_own(supports, bounds, Rule::V3, entry, best, evaluations);
+    ask_own(supports, bounds, Rule::V4, entry, best, evaluations);
+    ask_own(supports, bounds, Rule::V5, entry, best, evaluations);
+    ask_own(supports, bounds, Rule::V6, entry, best, evaluations);
+    ask_own(supports, bounds, Rule::V7, entry, best, evaluations);
 }
 
 /// Asks each rule of the slot with neither numbers nor a support that rests on a bound.

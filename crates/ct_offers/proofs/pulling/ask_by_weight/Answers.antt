@@ -25,7 +25,7 @@ returns-in-Upper-clause-within c =
     let f = bound_of c.args.bounds.now in
     let e = c.args.entry in
     let first = c.ask_upper_weights.new.best.value in
-    let best = c.ask.new.best.value in
+    let best = c.ask_own.new.best.value in
     by_weight_on supports f c.args.side Upper e best c.in-Upper.is
-    (by_weight_above supports f e best c.ask.ensures.within
-    (λ w within. within_better supports f (Upper, e) first best (U10 w) c.ask.ensures.pulled.no_worse (c.ask_upper_weights.ensures.within w within)))
+    (by_weight_above supports f e best c.ask_own.ensures.within
+    (λ w within. within_better supports f (Upper, e) first best (U10 w) c.ask_own.ensures.pulled.no_worse (c.ask_upper_weights.ensures.within w within)))
