@@ -1,5 +1,5 @@
 -- The local bound of a dual: V10.
-use Rattle.std.proofs.Common.{◌≡◌, ℕ, ◌+◌, ◌-◌, ◌*◌, ◌%◌, ◌≤◌, List, [], ◌∷◌, length, map, get_or, Contains, min, refl, ap, sym, subst, ◌∙◌, arith}
+use Rattle.std.proofs.Common.{◌≡◌, ℕ, ◌+◌, ◌-◌, ◌*◌, ◌≤◌, List, [], ◌∷◌, length, map, get_or, Contains, min, refl, ap, sym, subst, ◌∙◌, arith}
 use Rattle.std.specs.Prelude.{ℤ, is_some, Option, Some, None}
 use Rattle.std.specs.Option.{ForSome, unwrap_or}
 use Rattle.std.specs.List.{All, range_with_len}
@@ -22,7 +22,7 @@ use Rattle.ct_johnson.proofs.Words.{IsCode-from_doubly}
 use Rattle.ct_duals.specs.declared.dual.Dual.{Dual}
 use Rattle.ct_duals.specs.Dual.{as_distance, degree_of, greatest_index, IsDual}
 use Rattle.ct_duals.specs.Bound.{AcceptedValue, IsAccepted, AreTrueUppers, AreAtMost, positive, dual_premises}
-use Rattle.ct_duals.specs.Local.{AreTrueLocals, local_bound}
+use Rattle.ct_duals.specs.Local.{AreTrueLocals}
 use Rattle.ct_duals.specs.Check.{dual_fault}
 use Rattle.ct_duals.proofs.Faults.{accepted-from_none}
 use Rattle.ct_duals.proofs.LocalBound.{local_bound-monotone}

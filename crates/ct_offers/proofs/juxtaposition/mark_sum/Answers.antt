@@ -1,5 +1,4 @@
 use Rattle.std.proofs.Common.{arith}
-use Rattle.ct_slots.specs.Number.{bound_of}
 use Rattle.ct_offers.proofs.JuxtapositionLemmas.{tested_marked, tested_no_better}
 use Rattle.ct_offers.proofs.juxtaposition.mark_sum.Goals as goal
 

@@ -1,7 +1,6 @@
-use Rattle.std.proofs.Common.{◌≡◌, None, Some, ap, sym, subst, ◌∙◌}
-use Rattle.std.specs.Prelude.{Option, option_map}
+use Rattle.std.proofs.Common.{ap, sym, subst, ◌∙◌}
+use Rattle.std.specs.Prelude.{option_map}
 use Rattle.std.proofs.lemmas.Bool.{false≢true}
-use Rattle.ct_duals.specs.Bound.{AcceptedValue}
 use Rattle.ct_rules.specs.declared.rule.Rule.{Rule}
 use Rattle.ct_offers.specs.Inside.Marking.{IsTestedAt}
 use Rattle.ct_offers.proofs.DualLemmas.{rests_on_none, rests_on_dual}

@@ -1,7 +1,7 @@
-use Rattle.std.proofs.Common.{◌≡◌, suc, sym, subst, arith}
+use Rattle.std.proofs.Common.{suc, subst, arith}
 use Rattle.ct_codes.specs.declared.entry.Entry.{Entry}
 use Rattle.ct_weight_rules.specs.Neighbours.{of_weight}
-use Rattle.ct_offers.specs.Inside.Marking.{AreTestedByDuals, AreTestedAtWeights}
+use Rattle.ct_offers.specs.Inside.Marking.{AreTestedByDuals}
 use Rattle.ct_offers.proofs.MarkingLemmas.{keeps-trans}
 use Rattle.ct_offers.proofs.DualLemmas.{at_weights_more, tested_from_plain, tested_from_odd}
 use Rattle.ct_offers.proofs.marking.mark_each_weight.Goals as goal

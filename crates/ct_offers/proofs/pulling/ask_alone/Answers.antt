@@ -1,4 +1,3 @@
-use Rattle.std.proofs.Common.{refl}
 use Rattle.ct_rule_parts.specs.Slot.{Slot}
 use Rattle.ct_slots.specs.Number.{bound_of}
 use Rattle.ct_rules.proofs.ClosedBounds.{no_better-trans}

@@ -1,6 +1,5 @@
 -- One more place.
 use Rattle.std.proofs.Common.{◌≡◌, sym, ap, ◌∙◌, arith, length-set, take}
-use Rattle.ct_rule_parts.specs.Local.{lesser}
 use Rattle.ct_rule_parts.proofs.LesserLists.{put_lesser-more, lesser-all}
 use Rattle.ct_rule_parts.proofs.local_dual.put_lesser.Goals as goal
 

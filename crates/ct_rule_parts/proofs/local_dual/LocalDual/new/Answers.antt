@@ -1,5 +1,5 @@
 -- The indices of the dual are within the degree.
-use Rattle.std.proofs.Common.{◌≡◌, ◌≤◌, All, sym, subst, ap, ◌∙◌, arith}
+use Rattle.std.proofs.Common.{◌≤◌, All, sym, subst, ap, ◌∙◌}
 use Rattle.std.specs.Prelude.{ℕ, ℤ, List}
 use Rattle.ct_codes.specs.declared.entry.Entry.{Entry}
 use Rattle.ct_duals.specs.declared.dual.Dual.{Dual}
