@@ -12,4 +12,3 @@ pub mod PlaceLemmas
 pub mod ReadLemmas
 pub mod PuncturedCodes
 pub mod ShortenedCodes
-pub mod SumLemmas

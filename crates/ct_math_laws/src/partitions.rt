@@ -7,7 +7,7 @@ ghost use Rattle.ct_codes.specs.declared.fault.TheConstants.{MAX_WORDS};
 ghost use Rattle.ct_partitions.specs.declared.fault.TheConstants.{MAX_CLASSES};
 ghost use Rattle.ct_partitions.specs.declared.fault.PartitionFault.TheVariants.{Size, Weight, Repeated, Close};
 ghost use Rattle.ct_partitions.specs.Partition.{words_of_classes, IsPartition};
-ghost use Rattle.ct_partitions.specs.Known.{even_pairs, two_pairs, near_pairs, no_ones, two_ones, four_ones};
+ghost use Rattle.ct_math_laws.specs.KnownPartitions.{even_pairs, two_pairs, near_pairs, no_ones, two_ones, four_ones};
 ghost use Rattle.ct_partitions.specs.Product.{Factors, AreFactors, AreSound, product, product_size, product_distance};
 ghost use Rattle.ct_partitions.specs.Check.{partition_fault, need, distance_at};
 

@@ -1,6 +1,5 @@
 pub mod Partition
 pub mod Check
 pub mod Product
-pub mod Known
 pub mod Inside
 pub mod SumClass

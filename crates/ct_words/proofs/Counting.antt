@@ -20,7 +20,6 @@ pub mod Matchings
 pub mod PairLists
 pub mod PlaceKinds
 pub mod KindMatchings
-pub mod Pairings
 pub mod Spread
 pub mod Places
 pub mod Parity

@@ -1,7 +1,6 @@
 pub mod Counting
 pub mod DigitLists
 pub mod TextLemmas
-pub mod OrderLemmas
 pub mod WordLemmas
 pub mod Characters
 pub mod PairKinds

@@ -1,4 +1,4 @@
-use Rattle.ct_codes.proofs.Constructions.SumLemmas.{IsSum-translated, IsSum-uuv}
+use Rattle.ct_math_laws.proofs.SumLemmas.{IsSum-translated, IsSum-uuv}
 use Rattle.ct_math_laws.proofs.constructions.added_words_are_sums.Goals as goal
 
 pub returns : goal.returns

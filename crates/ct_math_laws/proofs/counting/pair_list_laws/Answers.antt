@@ -1,5 +1,5 @@
 -- The laws of lists of pairs, each a lemma of proofs/Pairings.antt.
-use Rattle.ct_words.proofs.Counting.Pairings.{pair_lists-each, pair_lists-all, pair_lists-once}
+use Rattle.ct_math_laws.proofs.Pairings.{pair_lists-each, pair_lists-all, pair_lists-once}
 use Rattle.ct_math_laws.proofs.counting.pair_list_laws.Goals as goal
 
 pub returns-clause-each : goal.returns-clause-each

@@ -1,5 +1,5 @@
 use Rattle.std.proofs.Common.{sym}
-use Rattle.ct_words.proofs.OrderLemmas.{cmp-word_text}
+use Rattle.ct_math_laws.proofs.OrderLemmas.{cmp-word_text}
 use Rattle.ct_math_laws.proofs.words.words_are_ordered_as_texts.Goals as goal
 
 pub returns : goal.returns

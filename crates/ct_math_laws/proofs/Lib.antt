@@ -1,0 +1,3 @@
+pub mod Pairings
+pub mod OrderLemmas
+pub mod SumLemmas
