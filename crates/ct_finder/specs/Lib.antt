@@ -6,7 +6,6 @@ pub mod Run
 pub mod Sum
 pub mod Basic
 pub mod RunPrimal
-pub mod Examples
 pub mod Narrow
 pub mod Ready
 pub mod Inside

@@ -1,1 +1,2 @@
 pub mod KnownPartitions
+pub mod RunExamples

@@ -1,5 +1,5 @@
-//! Laws of words, codes, their constructions, schemes, duals and bounds, and worked ones; and the bases of codes that are known. Nothing but
-//! tests rests on them; each law would notice a definition that is slightly wrong.
+//! Laws of words, codes, their constructions and builds, schemes, duals, bounds and the finder's run, and worked ones; and the bases of codes
+//! that are known. Nothing but tests rests on them; each law would notice a definition that is slightly wrong.
 #![tactic(auto)]
 
 mod codes;
@@ -9,6 +9,7 @@ mod counting;
 mod delsarte;
 mod doubly;
 mod duals;
+mod finder;
 mod johnson;
 mod known_codes;
 mod krawtchouk;
@@ -41,6 +42,12 @@ pub use doubly::{doubly_codes_are_codes, known_doubly_bounds, known_doubly_codes
 pub use duals::{
     accepted_duals_bound_codes, accepted_duals_bound_codes_about_words,
     bounds_of_duals_are_monotone, faults_of_duals,
+};
+pub use finder::{
+    gcd_is_greatest, known_numbers_of_primals, known_runs, known_wide_entries,
+    least_duals_are_accepted, least_primals_are_sound, ones_are_accepted,
+    rows_are_divided_by_their_greatest_divisor, rows_are_sums_of_opening_rows,
+    solutions_of_rows_solve_opening_rows,
 };
 pub use johnson::{
     bounds_by_weight, bounds_from_other_entries, some_place_holds_enough_ones,

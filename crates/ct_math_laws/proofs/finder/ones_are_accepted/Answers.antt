@@ -1,7 +1,7 @@
 use Rattle.std.proofs.Common.{◌∙◌}
 use Rattle.ct_codes.specs.Numbers.{krawtchouk}
 use Rattle.ct_finder.proofs.Ones.{combination-ones, total-krawtchouk_zero, total-krawtchouk, ones-form, ones-accepted}
-use Rattle.ct_finder.proofs.run_laws.ones_are_accepted.Goals as goal
+use Rattle.ct_math_laws.proofs.finder.ones_are_accepted.Goals as goal
 
 pub returns-clause-form : goal.returns-clause-form
 returns-clause-form c = ones-form

@@ -1,5 +1,5 @@
 use Rattle.std.proofs.Common.{refl}
-use Rattle.ct_finder.proofs.run_laws.known_wide_entries.Goals as goal
+use Rattle.ct_math_laws.proofs.finder.known_wide_entries.Goals as goal
 
 pub returns-clause-in_a_row : goal.returns-clause-in_a_row
 returns-clause-in_a_row c = refl

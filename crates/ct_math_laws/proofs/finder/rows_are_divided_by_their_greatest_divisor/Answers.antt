@@ -3,7 +3,7 @@ use Rattle.std.specs.Int.{◌∣◌}
 use Rattle.std.proofs.lemmas.List.Elements.{All-from_recursion}
 use Rattle.ct_finder.specs.Divisor.{divisor}
 use Rattle.ct_finder.proofs.Divisors.{divisor-divides, divisor-greatest, divisor-zeros, reduced-exact}
-use Rattle.ct_finder.proofs.run_laws.rows_are_divided_by_their_greatest_divisor.Goals as goal
+use Rattle.ct_math_laws.proofs.finder.rows_are_divided_by_their_greatest_divisor.Goals as goal
 
 pub returns-clause-divides : goal.returns-clause-divides
 returns-clause-divides c = λ row. All-from_recursion (λ z. divisor row ∣ unsigned_abs z) row (divisor-divides row)

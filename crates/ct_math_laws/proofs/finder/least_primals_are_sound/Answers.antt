@@ -1,5 +1,5 @@
 use Rattle.ct_finder.proofs.RunShown.{primal-form, solved-of, primal-sound, primal-value}
-use Rattle.ct_finder.proofs.run_laws.least_primals_are_sound.Goals as goal
+use Rattle.ct_math_laws.proofs.finder.least_primals_are_sound.Goals as goal
 
 pub returns : goal.returns
 returns c = record {

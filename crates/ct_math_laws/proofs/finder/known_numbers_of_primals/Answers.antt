@@ -1,5 +1,5 @@
 use Rattle.std.proofs.Common.{refl}
-use Rattle.ct_finder.proofs.run_laws.known_numbers_of_primals.Goals as goal
+use Rattle.ct_math_laws.proofs.finder.known_numbers_of_primals.Goals as goal
 
 pub returns-clause-order : goal.returns-clause-order
 returns-clause-order c = refl

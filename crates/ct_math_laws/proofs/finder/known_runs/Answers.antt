@@ -1,7 +1,7 @@
 use Rattle.std.proofs.Common.{refl}
 use Rattle.ct_codes.specs.Numbers.{krawtchouk, johnson}
 use Rattle.ct_duals.specs.Bound.{dual_bound}
-use Rattle.ct_finder.proofs.run_laws.known_runs.Goals as goal
+use Rattle.ct_math_laws.proofs.finder.known_runs.Goals as goal
 
 pub returns-clause-weighted : goal.returns-clause-weighted
 unfolding johnson

@@ -3,7 +3,7 @@ use Rattle.ct_finder.specs.Column.{range_of}
 use Rattle.ct_finder.specs.Run.{columns_of, opening_of}
 use Rattle.ct_finder.proofs.TurnedTableaus.{kept-opening}
 use Rattle.ct_finder.proofs.Ends.{kept-after}
-use Rattle.ct_finder.proofs.run_laws.rows_are_sums_of_opening_rows.Goals as goal
+use Rattle.ct_math_laws.proofs.finder.rows_are_sums_of_opening_rows.Goals as goal
 
 pub returns : goal.returns
 returns c = λ number e even pivots.

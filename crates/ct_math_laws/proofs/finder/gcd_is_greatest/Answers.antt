@@ -1,5 +1,5 @@
 use Rattle.ct_finder.proofs.Divisors.{gcd-is}
-use Rattle.ct_finder.proofs.run_laws.gcd_is_greatest.Goals as goal
+use Rattle.ct_math_laws.proofs.finder.gcd_is_greatest.Goals as goal
 
 pub returns : goal.returns
 returns c = gcd-is

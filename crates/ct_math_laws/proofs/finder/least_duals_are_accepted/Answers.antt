@@ -1,7 +1,7 @@
 use Rattle.std.proofs.Common.{refl}
 use Rattle.ct_finder.specs.Run.{run_dual}
 use Rattle.ct_finder.proofs.RunDuals.{dual-form, dual-accepted, bound-without, least-of, narrow-of}
-use Rattle.ct_finder.proofs.run_laws.least_duals_are_accepted.Goals as goal
+use Rattle.ct_math_laws.proofs.finder.least_duals_are_accepted.Goals as goal
 
 pub returns-clause-form : goal.returns-clause-form
 returns-clause-form c = λ number e even pivots cost asked ends. dual-form number e even cost asked (least-of number e even pivots cost ends) (narrow-of number e even pivots cost ends)
