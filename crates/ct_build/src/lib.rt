@@ -4,7 +4,6 @@
 mod append;
 mod build_faults;
 mod building;
-mod building_laws;
 mod built_words;
 mod even;
 mod fault;
@@ -24,7 +23,6 @@ mod translation;
 pub use append::{append_one, lengthen, parity};
 pub use build_faults::{early_fault, result_size, told_size};
 pub use building::{MAX_BUILT, apply};
-pub use building_laws::{builds_are_codes_of_the_entry, known_builds, shapes_tell_the_reasons};
 pub use even::even_words;
 pub use fault::BuildFault;
 pub use front::trim;

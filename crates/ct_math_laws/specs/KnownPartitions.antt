@@ -1,5 +1,5 @@
 -- Partitions of words of length 4 whose products are known.
-use Rattle.std.specs.Prelude.{ℕ, List, [], ◌∷◌}
+use Rattle.std.specs.Prelude.{[], ◌∷◌}
 use Rattle.ct_codes.specs.Entry.{unrestricted, constant_weight}
 use Rattle.ct_partitions.specs.Partition.{PartitionValue}
 

@@ -2,6 +2,7 @@
 //! that are known. Nothing but tests rests on them; each law would notice a definition that is slightly wrong.
 #![tactic(auto)]
 
+mod builds;
 mod codes;
 mod constructions;
 mod cosets;
@@ -20,6 +21,10 @@ mod scheme;
 mod sum_classes;
 mod words;
 
+pub use builds::{
+    builds_are_codes_of_the_entry, known_builds, known_reasons, right_builds_have_no_fault,
+    shapes_tell_the_reasons,
+};
 pub use codes::{
     bounds_of_every_entry, entries_of_the_table, faultless_lists_are_codes, known_faults,
     least_pair_is_least,

@@ -1,6 +1,6 @@
 use Rattle.std.proofs.Common.{refl}
 use Rattle.ct_build.specs.Build.{is_right_length, gives_weight, is_right_weight, is_right_other, other_of, step_distance, result_size, sizes_fault, few_fault, early_fault}
-use Rattle.ct_build.proofs.building_laws.known_reasons.Goals as goal
+use Rattle.ct_math_laws.proofs.builds.known_reasons.Goals as goal
 
 pub returns : goal.returns
 unfolding is_right_length gives_weight is_right_weight is_right_other other_of step_distance result_size sizes_fault few_fault early_fault

@@ -1,7 +1,7 @@
 use Rattle.std.proofs.Common.{refl}
 use Rattle.ct_words.specs.Word.{weight}
 use Rattle.ct_build.specs.Build.{is_right_length, gives_weight, is_right_weight, is_right_other, other_of, step_distance, built, sizes_fault, few_fault, early_fault, build_fault}
-use Rattle.ct_build.proofs.building_laws.known_builds.Goals as goal
+use Rattle.ct_math_laws.proofs.builds.known_builds.Goals as goal
 
 pub returns : goal.returns
 unfolding weight is_right_length gives_weight is_right_weight is_right_other other_of step_distance built sizes_fault few_fault early_fault build_fault

@@ -1,7 +1,7 @@
 use Rattle.ct_build.proofs.StepLemmas.{ready}
 use Rattle.ct_build.proofs.BuiltCodes.{built_code}
 use Rattle.ct_build.proofs.BuildFaults.{early_none, built-size, fault-alone, built-alone}
-use Rattle.ct_build.proofs.building_laws.builds_are_codes_of_the_entry.Goals as goal
+use Rattle.ct_math_laws.proofs.builds.builds_are_codes_of_the_entry.Goals as goal
 
 pub returns : goal.returns
 returns c = record {

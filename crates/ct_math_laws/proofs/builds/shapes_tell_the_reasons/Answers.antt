@@ -1,5 +1,5 @@
 use Rattle.ct_build.proofs.BuildFaults.{reasons_told, reasons_alone, reasons_of_shapes, result_size-is, result_size-none}
-use Rattle.ct_build.proofs.building_laws.shapes_tell_the_reasons.Goals as goal
+use Rattle.ct_math_laws.proofs.builds.shapes_tell_the_reasons.Goals as goal
 
 pub returns : goal.returns
 returns c = record {
