@@ -4,6 +4,5 @@ pub mod Derivation
 pub mod Pruning
 pub mod Check
 pub mod Text
-pub mod Examples
 pub mod Inside
 pub mod Listed

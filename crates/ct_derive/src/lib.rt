@@ -3,7 +3,6 @@
 
 mod check;
 mod derivation;
-mod laws;
 mod marks;
 mod needed;
 mod parts;
@@ -12,10 +11,6 @@ mod text;
 
 pub use check::{LineFault, add_line, line_fault};
 pub use derivation::Derivation;
-pub use laws::{
-    bounds_can_be_shown, explanations_are_true, explanations_exist, known_explanations,
-    known_faults, known_texts, lines_without_fault_follow,
-};
 pub use marks::mark;
 pub use needed::needed_pieces;
 pub use parts::Parts;

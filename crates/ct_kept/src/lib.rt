@@ -3,8 +3,6 @@
 
 mod ground;
 mod kept;
-mod laws;
 mod lowering;
 
 pub use kept::{Base, Kept, Saved, Undo};
-pub use laws::known_grounds;

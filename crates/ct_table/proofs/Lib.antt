@@ -11,7 +11,5 @@ pub mod MoreLemmas
 pub mod PlacedSupports
 pub mod FollowLemmas
 pub mod CallLemmas
-pub mod ReasonLemmas
-pub mod GrowthLemmas
 mod ExchangeLemmas
 mod LeftOut

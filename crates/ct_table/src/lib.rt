@@ -3,7 +3,6 @@
 
 mod exchanging;
 mod follow;
-pub mod laws;
 mod left;
 mod start;
 mod table;

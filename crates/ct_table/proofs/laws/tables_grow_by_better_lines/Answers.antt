@@ -1,5 +1,0 @@
-use Rattle.ct_table.proofs.GrowthLemmas.{Grew-with_line}
-use Rattle.ct_table.proofs.laws.tables_grow_by_better_lines.Goals as goal
-
-pub returns-clause-by_line : goal.returns-clause-by_line
-returns-clause-by_line c = Grew-with_line
