@@ -6,13 +6,12 @@ use Rattle.ct_words.specs.Counting.Binomials.{choose}
 use Rattle.ct_codes.specs.declared.claim.Side.TheVariants.{Lower, Upper}
 use Rattle.ct_codes.specs.declared.entry.Entry.{Entry}
 use Rattle.ct_codes.specs.Entry.{IsEntry, is_entry}
-use Rattle.ct_rule_parts.specs.Parts.{has_weight, weight_of, within_limit}
+use Rattle.ct_rule_parts.specs.Parts.{has_weight, within_limit}
 use Rattle.ct_weight_rules.specs.Disjoint.{has_disjoint_words, count_of_disjoint}
 use Rattle.ct_weight_rules.specs.FarWords.{has_no_far_words}
 use Rattle.ct_weight_rules.specs.ColumnPairs.{below_too_many}
-use Rattle.ct_rules.specs.declared.rule.Rule.{Rule}
 use Rattle.ct_rules.specs.declared.rule.Rule.TheVariants.{L1, L2, M1, M2, U0, U1, V0, V1, V2, V8}
-use Rattle.ct_rules.specs.Rule.{row_of, rule_side, parts_of, value_of}
+use Rattle.ct_rules.specs.Rule.{row_of, value_of}
 
 -- where a test passes that another one passes too
 through : {X : Type 0} (h b : Bool) (o : Option X) → h ≡ true → (if h && b && true then o else None) ≡ (if b then o else None)

@@ -8,7 +8,7 @@ use Rattle.ct_codes.specs.declared.claim.Side.TheVariants.{Lower, Upper}
 use Rattle.ct_codes.specs.declared.entry.Entry.{Entry}
 use Rattle.ct_codes.specs.Entry.{unrestricted, constant_weight}
 use Rattle.ct_rule_parts.specs.Parts.{RuleParts}
-use Rattle.ct_rule_parts.specs.Slot.{Slot, IsNoBetter}
+use Rattle.ct_rule_parts.specs.Slot.{IsNoBetter}
 use Rattle.ct_rules.specs.declared.rule.Rule.{Rule}
 use Rattle.ct_rules.specs.declared.rule.Rule.TheVariants.{L2, L9, L11, M2, M9, U1, U2, U3, U9, U10, V1, V2, V8}
 use Rattle.ct_rules.specs.declared.rule.TheConstants.{LOWER_RULES, UPPER_RULES, LOWER_WEIGHT_RULES, UPPER_WEIGHT_RULES}

@@ -1,5 +1,5 @@
 -- Lines that rest on nothing: each slot of the table has one, the best that any rule gives that rests on nothing.
-use Rattle.std.proofs.Common.{◌≡◌, ℕ, ◌+◌, ◌<◌, ◌≤◌, ◌^◌, length, map, min, Bool, ◌==◌, ◌&&◌, true, false, if◌then◌else◌, List, [], ◌∷◌, All, Contains, Option, Some, None, refl, sym, subst, ap, ap₂, ◌∙◌, le-leb, eq-eqb, eqb-true, arith}
+use Rattle.std.proofs.Common.{◌≡◌, ℕ, ◌<◌, ◌≤◌, ◌^◌, length, map, min, Bool, ◌==◌, ◌&&◌, true, false, if◌then◌else◌, List, [], ◌∷◌, All, Contains, Option, Some, None, refl, sym, subst, ap, ap₂, ◌∙◌, le-leb, eq-eqb, eqb-true, arith}
 use Rattle.std.specs.Prelude.{is_some, slice_index_or}
 use Rattle.std.proofs.lemmas.Bool.{and_parts, false≢true}
 use Rattle.std.proofs.lemmas.Option.{cond_some, none-some, same_Some}
@@ -16,7 +16,7 @@ use Rattle.ct_partitions.specs.declared.largest_class.LargestClass.{LargestClass
 use Rattle.ct_partitions.specs.SumClass.{sum_class, largest_class}
 use Rattle.ct_partitions.proofs.LargestLemmas.{largest_class-within, largest_class-most, sum_class-few}
 use Rattle.ct_weight_rules.specs.GrahamSloane.{sum_class_size}
-use Rattle.ct_weight_rules.proofs.LawfulGrahamSloane.{KnownClass, class_given, class_defined}
+use Rattle.ct_weight_rules.proofs.LawfulGrahamSloane.{class_given, class_defined}
 use Rattle.ct_rule_parts.specs.Parts.{RuleParts, has_weight, weight_of, is_defined, slots_on, within_limit}
 use Rattle.ct_rule_parts.specs.declared.support.Support.{Support}
 use Rattle.ct_rule_parts.specs.Slot.{Slot, slot_of, IsNoBetter}

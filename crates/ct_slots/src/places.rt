@@ -58,6 +58,17 @@ pub fn side_of_support(support: &Support) -> Side
     }
 }
 
+/// No last place for so many entries. `Err` is want of memory.
+fn no_places(alloc: Global, count: usize) -> Result<Vec<Option<u32>>, AllocError>
+    ensures { IfOk result (λ last. last.items ≡ replicate count None) }
+{
+    let mut last = Vec::with_capacity(alloc, count)?;
+    for _ in 0..count {
+        last.push(None)?;
+    }
+    Ok(last)
+}
+
 /// Puts a place, which is above all others of its entry, at the end of the chain of the entry, and gives the one before it.
 fn chain(last: &mut [Option<u32>], entry: Option<Entry>, place: u32) -> Option<u32>
     requires count { length last.old ≡ side_size }
@@ -123,7 +134,7 @@ impl SupportPlaces {
         Ok(SupportPlaces {
             entries: Vec::new(alloc),
             before: Vec::new(alloc),
-            last: vec![in alloc; None; ENTRIES]?,
+            last: no_places(alloc, ENTRIES)?,
         })
     }
 

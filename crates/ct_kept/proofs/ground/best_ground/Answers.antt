@@ -1,8 +1,7 @@
-use Rattle.std.proofs.Common.{◌≡◌, ℕ, All, sym, subst, ◌∙◌}
+use Rattle.std.proofs.Common.{◌≡◌, All, sym, subst, ◌∙◌}
 use Rattle.ct_codes.specs.declared.claim.Side.{Side}
 use Rattle.ct_codes.specs.declared.claim.Side.TheVariants.{Lower, Upper}
 use Rattle.ct_rule_parts.specs.Slot.{Slot, IsNoBetter}
-use Rattle.ct_rules.specs.declared.rule.Rule.{Rule}
 use Rattle.ct_rules.specs.declared.rule.Rule.TheVariants.{M9}
 use Rattle.ct_rules.proofs.ClosedBounds.{no_better-trans}
 use Rattle.ct_kept.specs.Inside.Ground.{GivesGround, IsGroundWithin, first_ground_rule, other_ground_rules}

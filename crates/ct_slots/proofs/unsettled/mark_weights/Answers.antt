@@ -1,4 +1,4 @@
-use Rattle.std.proofs.Common.{ℕ, ◌<◌, arith}
+use Rattle.std.proofs.Common.{ℕ, arith}
 use Rattle.ct_codes.specs.Entry.{constant_weight}
 use Rattle.ct_codes.proofs.EntryLemmas.{entry_from_limits}
 use Rattle.ct_slots.specs.Worklist.{WorkValue, IsMarkedOrSettled}

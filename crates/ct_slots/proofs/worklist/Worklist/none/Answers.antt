@@ -6,9 +6,9 @@ use Rattle.ct_slots.proofs.worklist.Worklist.none.Goals as goal
 
 pub invariant_of-result : goal.invariant_of-result
 invariant_of-result c =
-    let marks = c.in_ok-from_elem.field-0.items in
+    let marks = c.in_ok-vec.field-0.items in
     subst (λ (queue : List Slot). IsSoundWork (record { marks = marks; queue = queue })) (sym c.new.ensures.items)
-    (IsSoundWork-none marks (c.in_ok-from_elem.ensures.items_if_clones_equal (λ y same. same)))
+    (IsSoundWork-none marks (c.in_ok-vec.ensures.items_if_clones_equal (λ y same. same)))
 
 pub returns-clause-idle : goal.returns-clause-idle
-returns-clause-idle c = IsIdle-none c.in_ok-from_elem.field-0.items c.new.result.items (c.in_ok-from_elem.ensures.items_if_clones_equal (λ y same. same))
+returns-clause-idle c = IsIdle-none c.in_ok-vec.field-0.items c.new.result.items (c.in_ok-vec.ensures.items_if_clones_equal (λ y same. same))
