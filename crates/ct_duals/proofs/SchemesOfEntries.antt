@@ -6,7 +6,7 @@ use Rattle.ct_words.specs.Word.{weight, distance}
 use Rattle.ct_words.proofs.WordLemmas.{distance-le, distance_same}
 use Rattle.ct_words.proofs.PairProducts.{half_distance-le, half_distance-same}
 use Rattle.ct_codes.specs.declared.entry.Entry.{Entry}
-use Rattle.ct_scheme.specs.Hamming.{krawtchouk-positive, krawtchouk-first}
+use Rattle.ct_krawtchouk.specs.Hamming.{krawtchouk-positive, krawtchouk-first}
 use Rattle.ct_scheme.specs.Johnson.{johnson-positive, johnson-first}
 use Rattle.ct_duals.specs.Dual.{IsWordOf, as_index, index_of, greatest_index, degree_of, Fits}
 use Rattle.ct_duals.proofs.Sound.{AreLaws}

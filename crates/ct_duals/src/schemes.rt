@@ -9,7 +9,8 @@ use crate::accepted::Accepted;
 use crate::check::check_dual;
 use crate::dual::Dual;
 use crate::fault::DualFault;
-use ct_scheme::{Hamming, Johnson};
+use ct_krawtchouk::Hamming;
+use ct_scheme::Johnson;
 
 /// The dual as an accepted one, checked with the Krawtchouk numbers of its length, and with a weight with the Johnson
 /// numbers. It takes no memory.

@@ -9,7 +9,7 @@ use Rattle.ct_kind.specs.declared.evidence.Evidence.TheVariants as evidence
 use Rattle.ct_files.specs.Document.{without_cites, document_read_of}
 use Rattle.ct_commands.specs.Submission.{submission_text}
 use Rattle.ct_pieces.specs.Piece.{PieceValue}
-use Rattle.ct_finder.specs.Primal.{PrimalValue}
+use Rattle.ct_primal.specs.Primal.{PrimalValue}
 use Rattle.ct_finder.specs.Run.{End}
 use Rattle.ct_finder.specs.Found.{bound_of_dual, dual_of, end_of_run, least_dual, stop_of, IsShown}
 use Rattle.ct_finder.specs.declared.found.Stop.{Stop}

@@ -15,7 +15,7 @@ ghost use Rattle.ct_codes.specs.Numbers.{numbers_of, multiplier, combination};
 ghost use Rattle.ct_pieces.specs.Piece.{PieceValue, stored_words};
 ghost use Rattle.ct_pieces.specs.Submission.{submitted};
 ghost use Rattle.ct_pieces.specs.declared.limits.TheConstants.{MAX_PIECES, MAX_STORED};
-ghost use Rattle.ct_finder.specs.Primal.{PrimalValue};
+ghost use Rattle.ct_primal.specs.Primal.{PrimalValue};
 ghost use Rattle.ct_finder.specs.Found.{bound_of_dual, IsShown, IsLeast};
 ghost use Rattle.ct_finder.specs.declared.found.Stop.{Stop};
 ghost use Rattle.ct_find.specs.Proposal.{find_id, found_dual, proposed_piece, stop_for, IsProposal};

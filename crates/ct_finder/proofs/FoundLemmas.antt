@@ -3,8 +3,8 @@ use Rattle.std.proofs.Common.{◌≡◌, ℕ, suc, Bool, false, ◌≤◌, List,
 use Rattle.std.specs.Prelude.{ℤ, pos, Option, Some, None, unwrap_or}
 use Rattle.ct_codes.specs.declared.entry.Entry.{Entry}
 use Rattle.ct_codes.specs.Entry.{IsEntry, unrestricted, constant_weight}
-use Rattle.ct_finder.specs.Primal.{PrimalValue}
-use Rattle.ct_finder.proofs.PrimalFaults.{sound-from_none, none-from_sound}
+use Rattle.ct_primal.specs.Primal.{PrimalValue}
+use Rattle.ct_primal.proofs.PrimalFaults.{sound-from_none, none-from_sound}
 use Rattle.ct_duals.specs.declared.dual.Dual.{Dual}
 use Rattle.ct_duals.specs.Dual.{IsDual, degree_of}
 use Rattle.ct_duals.specs.Check.{dual_fault}

@@ -1,5 +1,3 @@
-pub mod WeakDuality
-pub mod PrimalFaults
 pub mod Divisors
 pub mod Entries
 pub mod Crossed

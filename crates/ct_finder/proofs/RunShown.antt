@@ -13,8 +13,8 @@ use Rattle.ct_codes.specs.declared.entry.Entry.{Entry}
 use Rattle.ct_codes.specs.Numbers.{combination, multiplier}
 use Rattle.ct_duals.specs.Dual.{degree_of, is_in_range}
 use Rattle.ct_duals.specs.Bound.{natural, dual_bound}
-use Rattle.ct_finder.specs.Primal.{IsPrimal, IsSound, whole, primal_value}
-use Rattle.ct_finder.proofs.WeakDuality.{quotients-le}
+use Rattle.ct_primal.specs.Primal.{IsPrimal, IsSound, whole, primal_value}
+use Rattle.ct_primal.proofs.WeakDuality.{quotients-le}
 use Rattle.ct_finder.specs.Column.{Column, Tableau, range_of, rows_to, columns, opening}
 use Rattle.ct_finder.specs.Column.Column.{Z, A, S, Constant}
 use Rattle.ct_finder.specs.Pivot.{at, constant_of}

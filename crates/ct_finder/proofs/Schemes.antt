@@ -10,15 +10,15 @@ use Rattle.ct_codes.specs.declared.entry.Entry.{Entry}
 use Rattle.ct_codes.specs.Entry.{IsEntry}
 use Rattle.ct_codes.specs.Numbers.{number_at, numbers_of, combination}
 use Rattle.ct_codes.proofs.BoundLemmas.{one_is_lower}
-use Rattle.ct_scheme.specs.Hamming.{krawtchouk-positive, krawtchouk-first}
+use Rattle.ct_krawtchouk.specs.Hamming.{krawtchouk-positive, krawtchouk-first}
 use Rattle.ct_scheme.specs.Johnson.{johnson-positive, johnson-first}
 use Rattle.ct_duals.specs.declared.dual.Dual.{Dual}
 use Rattle.ct_duals.specs.Dual.{IsWordOf, IsDual, as_index, index_of, greatest_index, degree_of, Fits}
 use Rattle.ct_duals.specs.Check.{dual_fault}
 use Rattle.ct_duals.specs.Bound.{dual_bound}
 use Rattle.ct_duals.proofs.Sound.{AreLaws}
-use Rattle.ct_finder.specs.Primal.{PrimalValue, IsPrimal, IsSound, primal_value}
-use Rattle.ct_finder.proofs.PrimalFaults.{primal-least}
+use Rattle.ct_primal.specs.Primal.{PrimalValue, IsPrimal, IsSound, primal_value}
+use Rattle.ct_primal.proofs.PrimalFaults.{primal-least}
 use Rattle.ct_finder.specs.Found.{bound_of_dual}
 
 laws_of : (n : ℕ) (w : Option ℕ)

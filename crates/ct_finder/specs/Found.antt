@@ -5,7 +5,7 @@ use Rattle.ct_duals.specs.declared.dual.Dual.{Dual}
 use Rattle.ct_duals.specs.Dual.{IsDual}
 use Rattle.ct_duals.specs.Check.{dual_fault}
 use Rattle.ct_duals.specs.Bound.{dual_bound}
-use Rattle.ct_finder.specs.Primal.{PrimalValue, IsPrimal, primal_fault, primal_value}
+use Rattle.ct_primal.specs.Primal.{PrimalValue, IsPrimal, primal_fault, primal_value}
 use Rattle.ct_finder.specs.Column.{range_of}
 use Rattle.ct_finder.specs.RunPrimal.{run_primal, wide_number}
 use Rattle.ct_codes.specs.Numbers.{numbers_of, combination}

@@ -1,4 +1,3 @@
-pub mod Primal
 pub mod Column
 pub mod Divisor
 pub mod Pivot

@@ -6,7 +6,7 @@ ghost use Rattle.ct_duals.specs.Dual.{IsDual};
 ghost use Rattle.ct_duals.specs.Check.{dual_fault};
 ghost use Rattle.ct_codes.specs.Numbers.{numbers_of};
 ghost use Rattle.ct_finder.specs.Run.{IsAsked};
-ghost use Rattle.ct_finder.specs.Primal.{PrimalValue};
+ghost use Rattle.ct_primal.specs.Primal.{PrimalValue};
 ghost use Rattle.ct_finder.specs.Found.{end_of_run, dual_of, least_dual, bound_of_dual, stop_of, IsShown, IsLeast};
 ghost use Rattle.ct_finder.specs.Ending.{multipliers_from, stop_from, stop_read};
 
@@ -16,7 +16,8 @@ use crate::opening::{push_repeated, range_of};
 use crate::reading::Reading;
 use ct_codes::Entry;
 use ct_duals::{Allowances, Dual, Multipliers, check_dual_of_table};
-use ct_scheme::{Hamming, Johnson};
+use ct_krawtchouk::Hamming;
+use ct_scheme::Johnson;
 use std::alloc::{AllocError, Global};
 
 /// A dual for A(n,d), by the finder's run with at most so many pivots: the run's where it ends as least, else the one

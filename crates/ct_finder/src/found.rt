@@ -1,6 +1,6 @@
 //! What the finder answers.
 
-use crate::primal::Primal;
+use ct_primal::Primal;
 use ct_duals::Dual;
 
 /// A dual that was found and checked, its bound, and how the run stopped.

@@ -7,9 +7,6 @@ mod finding;
 mod found;
 mod opening;
 mod pivot;
-mod primal;
-mod primal_check;
-mod primal_fault;
 mod reading;
 mod row;
 mod tableau;
@@ -17,6 +14,3 @@ mod running;
 
 pub use finding::{find, find_weight};
 pub use found::{Found, Stop};
-pub use primal::Primal;
-pub use primal_check::check_primal;
-pub use primal_fault::PrimalFault;

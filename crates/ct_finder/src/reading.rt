@@ -11,7 +11,7 @@ ghost use Rattle.ct_finder.specs.Ready.{seen};
 ghost use Rattle.ct_finder.specs.Reading.{large, large_after, large_number, large_scale, line_of, lines_seen, number_over, reading_of, scale_after};
 
 use crate::arithmetic::gcd;
-use crate::primal::Primal;
+use ct_primal::Primal;
 use crate::row::Row;
 use crate::tableau::Tableau;
 use ct_codes::Entry;

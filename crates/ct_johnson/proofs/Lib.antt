@@ -8,12 +8,3 @@ pub mod JohnsonRule
 pub mod Quotients
 pub mod RoundedUp
 pub mod DigitPlaces
-pub mod Halves
-pub mod CountedWords
-pub mod SquareCounts
-pub mod FewSquares
-pub mod DoublyOnePlace
-pub mod Words
-pub mod RoundBounds
-pub mod DoublyTrue
-mod Tables

@@ -22,8 +22,8 @@ use Rattle.ct_duals.specs.Bound.{natural}
 use Rattle.ct_codes.specs.Numbers.{numbers_of, multiplier, combination}
 use Rattle.ct_codes.proofs.EntryLemmas.{entry_limits}
 use Rattle.ct_duals.specs.Dual.{as_index, degree_of, greatest_index, is_in_range}
-use Rattle.ct_finder.specs.Primal.{PrimalValue}
-use Rattle.ct_finder.proofs.PrimalFaults.{sound-from_none}
+use Rattle.ct_primal.specs.Primal.{PrimalValue}
+use Rattle.ct_primal.proofs.PrimalFaults.{sound-from_none}
 use Rattle.ct_finder.specs.Column.{range_of}
 use Rattle.ct_finder.specs.RunPrimal.{wide_number, run_primal}
 use Rattle.ct_finder.specs.Run.{End}

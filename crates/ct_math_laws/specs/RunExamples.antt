@@ -6,7 +6,7 @@ use Rattle.ct_codes.specs.Numbers.{numbers_of}
 use Rattle.ct_finder.specs.Column.{Tableau}
 use Rattle.ct_finder.specs.Run.{End, run_of, run_dual}
 use Rattle.ct_finder.specs.RunPrimal.{run_primal}
-use Rattle.ct_finder.specs.Primal.{PrimalValue}
+use Rattle.ct_primal.specs.Primal.{PrimalValue}
 
 -- the run for A(8,4,4), with at most so many pivots, the tableau that it ends with, its dual and its primal
 abbrev pub run_eight_four_four : ℕ → End

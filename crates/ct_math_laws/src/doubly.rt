@@ -3,7 +3,7 @@
 ghost use Rattle.std.specs.Prelude.{◌≡◌, ℕ, ◌+◌, List, [], ◌∷◌, Some};
 ghost use Rattle.ct_codes.specs.Code.{IsCode};
 ghost use Rattle.ct_codes.specs.Doubly.{IsDoubly};
-ghost use Rattle.ct_johnson.specs.Doubly.{doubly};
+ghost use Rattle.ct_doubly.specs.Doubly.{doubly};
 
 /// A doubly constant weight code is a code of constant weight, w1 + w2; and every code of constant weight is a doubly constant one
 /// whose last half is empty.

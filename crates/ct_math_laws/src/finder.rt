@@ -18,7 +18,7 @@ ghost use Rattle.ct_finder.specs.Run.{run_of, columns_of, opening_of, run_dual, 
 ghost use Rattle.ct_finder.specs.Sum.{AreSums, after};
 ghost use Rattle.ct_finder.specs.Basic.{Solves, AreBasic};
 ghost use Rattle.ct_finder.specs.RunPrimal.{run_primal, wide_number, numbers_made};
-ghost use Rattle.ct_finder.specs.Primal.{IsPrimal, IsSound, primal_value};
+ghost use Rattle.ct_primal.specs.Primal.{IsPrimal, IsSound, primal_value};
 ghost use Rattle.ct_math_laws.specs.RunExamples.{run_eight_four_four, last_eight_four_four, dual_eight_four_four, run_six_three, last_six_three, dual_six_three, run_eight_four, last_eight_four, dual_eight_four, wide_tableau, wide_cost_tableau, narrow_tableau, primal_eight_four_four, primal_six_three, primal_eight_four, wide_scale_tableau, wide_number_tableau};
 
 /// Each row of a tableau of a run is the sum of the opening rows, each times the row's entry at that opening row's s_k;

@@ -7,8 +7,8 @@ ghost use Rattle.ct_duals.specs.declared.dual.Dual.{Dual};
 ghost use Rattle.ct_duals.specs.Dual.{Fits, IsDual};
 ghost use Rattle.ct_duals.specs.Check.{dual_fault};
 ghost use Rattle.ct_duals.specs.Bound.{dual_bound};
-ghost use Rattle.ct_finder.specs.declared.primal_fault.PrimalFault.TheVariants.{Scale, Below};
-ghost use Rattle.ct_finder.specs.Primal.{PrimalValue, IsPrimal, IsSound, primal_fault, primal_value};
+ghost use Rattle.ct_primal.specs.declared.primal_fault.PrimalFault.TheVariants.{Scale, Below};
+ghost use Rattle.ct_primal.specs.Primal.{PrimalValue, IsPrimal, IsSound, primal_fault, primal_value};
 
 use ct_codes::Scheme;
 

@@ -2,7 +2,7 @@
 
 use crate::numbers::{add_signed, number_of};
 use ct_codes::Scheme;
-use ct_scheme::Hamming;
+use ct_krawtchouk::Hamming;
 use ct_words::{MAX_N, binomial};
 use std::test::Fail;
 

@@ -11,7 +11,7 @@ use Rattle.ct_words.proofs.Counting.Combinations.{pair_total-combination, total_
 use Rattle.ct_words.proofs.Counting.Totals.{total-congruence}
 use Rattle.ct_words.proofs.Characters.{pair_total-odd}
 use Rattle.ct_codes.specs.Numbers.{krawtchouk, multiplier, combination}
-use Rattle.ct_scheme.specs.Hamming.{krawtchouk-first}
+use Rattle.ct_krawtchouk.specs.Hamming.{krawtchouk-first}
 use Rattle.ct_parity.specs.OddSum.{least_sum, odd_sum}
 
 -- the numbers of k over the pairs of an odd number of words

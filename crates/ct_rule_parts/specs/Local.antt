@@ -4,7 +4,7 @@ use Rattle.ct_codes.specs.declared.entry.Entry.{Entry}
 use Rattle.ct_duals.specs.declared.dual.Dual.{Dual}
 use Rattle.ct_duals.specs.Bound.{AcceptedValue, positive}
 use Rattle.ct_duals.specs.Local.{local_bound}
-use Rattle.ct_johnson.specs.Doubly.{doubly}
+use Rattle.ct_doubly.specs.Doubly.{doubly}
 use Rattle.ct_rule_parts.specs.Parts.{weight_of}
 
 -- at the index i: the bound of the doubly constant codes about a word that words of a code of the entry at the index are

@@ -10,7 +10,7 @@ ghost use Rattle.ct_rule_parts.specs.Parts.{weight_of};
 
 use ct_codes::Entry;
 use ct_duals::AcceptedDual;
-use ct_johnson::doubly;
+use ct_doubly::doubly;
 use ct_words::MAX_N;
 use std::alloc::{AllocError, Global};
 use std::marker::Model;

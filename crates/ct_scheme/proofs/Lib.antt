@@ -1,3 +1,1 @@
 pub mod JohnsonSums
-pub mod KrawtchoukSteps
-pub mod Quotients

@@ -1,4 +1,2 @@
 pub mod Numbers
 pub mod Johnson
-pub mod Krawtchouk
-pub mod Hamming

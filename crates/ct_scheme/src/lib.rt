@@ -2,10 +2,7 @@
 //! and the Johnson numbers.
 #![tactic(auto)]
 
-mod hamming;
 mod johnson;
-mod krawtchouk;
 mod numbers;
 
-pub use hamming::Hamming;
 pub use johnson::Johnson;

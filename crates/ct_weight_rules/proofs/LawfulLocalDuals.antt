@@ -16,9 +16,9 @@ use Rattle.ct_codes.specs.Constructions.Even.{even_from}
 use Rattle.ct_codes.specs.Numbers.{numbers_of, combination}
 use Rattle.ct_codes.proofs.EntryLemmas.{WeightFits, entry_limits}
 use Rattle.ct_codes.specs.Doubly.{IsDoubly}
-use Rattle.ct_johnson.specs.Doubly.{doubly}
-use Rattle.ct_johnson.proofs.DoublyTrue.{doubly-true}
-use Rattle.ct_johnson.proofs.Words.{IsCode-from_doubly}
+use Rattle.ct_doubly.specs.Doubly.{doubly}
+use Rattle.ct_doubly.proofs.DoublyTrue.{doubly-true}
+use Rattle.ct_doubly.proofs.Words.{IsCode-from_doubly}
 use Rattle.ct_duals.specs.declared.dual.Dual.{Dual}
 use Rattle.ct_duals.specs.Dual.{as_distance, degree_of, greatest_index, IsDual}
 use Rattle.ct_duals.specs.Bound.{AcceptedValue, IsAccepted, AreTrueUppers, AreAtMost, positive, dual_premises}

@@ -1,5 +1,5 @@
 -- Both ways.
-use Rattle.ct_johnson.proofs.Words.{IsCode-from_doubly, doubly-from_code}
+use Rattle.ct_doubly.proofs.Words.{IsCode-from_doubly, doubly-from_code}
 use Rattle.ct_math_laws.proofs.doubly.doubly_codes_are_codes.Goals as goal
 
 pub returns-clause-weight : goal.returns-clause-weight

@@ -1,7 +1,7 @@
 -- Each is computed.
 use Rattle.std.proofs.Common.{refl}
 use Rattle.ct_johnson.specs.Bounds.{least_from}
-use Rattle.ct_johnson.specs.Doubly.{doubly_after}
+use Rattle.ct_doubly.specs.Doubly.{doubly_after}
 use Rattle.ct_math_laws.proofs.doubly.known_doubly_bounds.Goals as goal
 
 pub returns-clause-alone : goal.returns-clause-alone

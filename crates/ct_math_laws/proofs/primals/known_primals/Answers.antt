@@ -1,6 +1,6 @@
 use Rattle.std.proofs.Common.{refl}
 use Rattle.ct_codes.specs.Numbers.{krawtchouk, johnson}
-use Rattle.ct_finder.specs.Primal.{primal_fault, primal_value}
+use Rattle.ct_primal.specs.Primal.{primal_fault, primal_value}
 use Rattle.ct_math_laws.proofs.primals.known_primals.Goals as goal
 
 pub returns : goal.returns

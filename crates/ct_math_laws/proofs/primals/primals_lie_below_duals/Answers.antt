@@ -1,5 +1,5 @@
 use Rattle.ct_duals.proofs.Sound.{AreLaws}
-use Rattle.ct_finder.proofs.PrimalFaults.{primal-least}
+use Rattle.ct_primal.proofs.PrimalFaults.{primal-least}
 use Rattle.ct_math_laws.proofs.primals.primals_lie_below_duals.Goals as goal
 
 pub returns : goal.returns

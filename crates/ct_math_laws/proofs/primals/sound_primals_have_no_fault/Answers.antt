@@ -1,4 +1,4 @@
-use Rattle.ct_finder.proofs.PrimalFaults.{none-from_sound, sound-from_none}
+use Rattle.ct_primal.proofs.PrimalFaults.{none-from_sound, sound-from_none}
 use Rattle.ct_math_laws.proofs.primals.sound_primals_have_no_fault.Goals as goal
 
 pub returns : goal.returns

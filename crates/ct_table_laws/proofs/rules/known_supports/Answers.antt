@@ -1,7 +1,7 @@
 use Rattle.std.proofs.Common.{refl}
 use Rattle.ct_duals.specs.Local.{local_bound}
 use Rattle.ct_johnson.specs.Bounds.{least_from}
-use Rattle.ct_johnson.specs.Doubly.{doubly_after}
+use Rattle.ct_doubly.specs.Doubly.{doubly_after}
 use Rattle.ct_rules.specs.Rule.{row_of}
 use Rattle.ct_table_laws.proofs.rules.known_supports.Goals as goal
 

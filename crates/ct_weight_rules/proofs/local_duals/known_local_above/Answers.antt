@@ -1,7 +1,7 @@
 use Rattle.std.proofs.Common.{refl}
 use Rattle.ct_duals.specs.Local.{local_bound}
 use Rattle.ct_johnson.specs.Bounds.{least_from}
-use Rattle.ct_johnson.specs.Doubly.{doubly_after}
+use Rattle.ct_doubly.specs.Doubly.{doubly_after}
 use Rattle.ct_weight_rules.proofs.local_duals.known_local_above.Goals as goal
 
 pub returns-clause-value : goal.returns-clause-value

@@ -1,0 +1,2 @@
+pub mod Doubly
+pub mod Inside

@@ -1,0 +1,2 @@
+pub mod KrawtchoukSteps
+pub mod Quotients

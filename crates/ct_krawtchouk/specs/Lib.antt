@@ -1,0 +1,2 @@
+pub mod Krawtchouk
+pub mod Hamming

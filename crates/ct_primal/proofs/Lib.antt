@@ -1,0 +1,2 @@
+pub mod WeakDuality
+pub mod PrimalFaults
