@@ -44,7 +44,7 @@ prove() {
     find .. -path '*/out' -prune -o -type f -exec sha256sum {} + | sort -k 2 | sha256sum >"$work/read"
     sleep 1000 &
     echo "$! $$" >>"$work/processes"
-    for name in ct_words ct_lines ct_io; do
+    for name in ct_words ct_io ct_io; do
         sleep "$(cat "$work/pause")"
         echo "== $name"
     done
@@ -65,7 +65,7 @@ END
 chmod +x "$work/bin/rt"
 echo 0.1 >"$work/pause"
 echo 755 >"$work/mode"
-source=$repository/crates/ct_lines/src/lib.rt
+source=$repository/crates/ct_io/src/lib.rt
 program=$repository/crates/ct_program/out/ct_program
 
 # What a program says that is built from the sources as they stand.
@@ -150,7 +150,7 @@ cp -p "$source" "$work/kept"
 sed -i '$d' "$source"
 cp -p "$work/kept" "$source"
 check 'a source that is put back needs no build' runs 0
-rm "$repository/crates/ct_lines/proofs/Lib.antt"
+rm "$repository/crates/ct_io/proofs/Lib.antt"
 check 'after a deleted source it builds' runs 2
 rm -r "$repository/crates/ct_words/proofs"
 check 'after a deleted folder of sources it builds' runs 2

@@ -12,7 +12,7 @@ use crate::entry::build_entry;
 use crate::operation::Operation;
 use ct_build::Step;
 use ct_codes::Entry;
-use ct_fields::{FieldName, DocumentFault, last_fields};
+use ct_fields::{DocumentFault, FieldName, last_fields};
 use ct_kind::Evidence;
 use std::alloc::Global;
 use toml::Value;

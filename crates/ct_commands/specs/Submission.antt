@@ -1,7 +1,7 @@
 -- Submissions as text.
 use Rattle.std.specs.Prelude.{ℕ, ◌+◌, ◌==◌, List, [], ◌∷◌, ◌++◌, count_by, codes}
 use Rattle.std.specs.Fmt.{decimal}
-use Rattle.ct_lines.specs.declared.TheConstants.{LINE_FEED}
+use Rattle.ct_io.specs.declared.TheConstants.{LINE_FEED}
 
 -- how many lines a document has: one more than its line feeds
 abbrev pub line_count : List ℕ → ℕ

@@ -5,7 +5,7 @@ ghost use Rattle.std.specs.Fmt.{decimal};
 ghost use Rattle.std.specs.List.{flat_map};
 ghost use Rattle.ct_commands.specs.Submission.{line_count, submission_text};
 
-use ct_lines::LINE_FEED;
+use ct_io::LINE_FEED;
 use ct_text::Digits;
 use std::alloc::AllocError;
 

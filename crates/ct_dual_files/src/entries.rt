@@ -6,7 +6,9 @@ ghost use Rattle.ct_fields.specs.StatedEntry.{plain_entry_of};
 ghost use Rattle.ct_dual_files.specs.Dual.{weighted_entry_of};
 
 use ct_codes::Entry;
-use ct_fields::{FieldName, DocumentFault, distance_beside, length_field, number_field, plain_entry};
+use ct_fields::{
+    DocumentFault, FieldName, distance_beside, length_field, number_field, plain_entry,
+};
 use toml::Value;
 
 /// The entry without weight of the fields `n` and `d`, which is in the table.

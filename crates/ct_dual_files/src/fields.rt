@@ -7,7 +7,7 @@ ghost use Rattle.ct_dual_files.specs.Fields.{even_field, odd_size_field, multipl
 
 use ct_codes::Entry;
 use ct_duals::{are_allowances, are_multipliers};
-use ct_fields::{FieldName, DocumentFault, all_of, has_field, number_field};
+use ct_fields::{DocumentFault, FieldName, all_of, has_field, number_field};
 use ct_parity::MAX_ODD;
 use std::alloc::Global;
 use toml::Value;

@@ -11,7 +11,7 @@ use crate::entries::{plain_entry_field, weighted_entry_field};
 use crate::fields::{allowances_field, even_field, multipliers_field, odd_size_field};
 use ct_codes::Entry;
 use ct_duals::{Allowances, Dual, Multipliers};
-use ct_fields::{FieldName, DocumentFault, last_fields};
+use ct_fields::{DocumentFault, FieldName, last_fields};
 use std::alloc::Global;
 use toml::Value;
 

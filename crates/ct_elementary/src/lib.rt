@@ -3,4 +3,4 @@
 
 mod bounds;
 
-pub use bounds::{far, sphere_packing, plotkin};
+pub use bounds::{far, plotkin, sphere_packing};

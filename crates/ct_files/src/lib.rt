@@ -7,7 +7,7 @@ mod reading;
 mod writing;
 
 pub use contents::Document;
-pub use ct_fields::{FieldName, DocumentFault, MAX_CITES, MAX_DOCUMENT};
+pub use ct_fields::{DocumentFault, FieldName, MAX_CITES, MAX_DOCUMENT};
 pub use ct_kind::Evidence;
 pub use ct_text::Cite;
 pub use reading::{read_document, read_evidence};

@@ -35,8 +35,8 @@ use Rattle.ct_finder.specs.Column.{Tableau}
 use Rattle.ct_finder.specs.Found.{bound_of_dual, dual_of, IsShown}
 use Rattle.ct_finder.proofs.FoundLemmas.{asked-weighted}
 use Rattle.ct_find.proofs.FoundDuals.{plain_shown, weighted_shown}
-use Rattle.ct_lines.specs.Lines.{lines_of}
-use Rattle.ct_lines.specs.declared.TheConstants.{LINE_FEED}
+use Rattle.ct_io.specs.Lines.{lines_of}
+use Rattle.ct_io.specs.declared.TheConstants.{LINE_FEED}
 use Rattle.ct_text.specs.Line.{words_of}
 use Rattle.ct_text.specs.EntryNumbers.{entry_numbers_of, named_entry}
 use Rattle.ct_text.specs.declared.entry_numbers.EntryNumbers.{EntryNumbers}

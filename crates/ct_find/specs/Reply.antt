@@ -2,8 +2,8 @@
 use Rattle.std.specs.Prelude.{◌≡◌, ◌⊎◌, ℕ, Bool, true, false, ◌||◌, List, [], ◌∷◌, ◌++◌, codes, Option, Some, None, IfSome}
 use Rattle.std.specs.Io.KnownBytes.{Appends}
 use Rattle.ct_io.specs.Told.{AppendsProperPrefix}
-use Rattle.ct_lines.specs.Lines.{lines_of}
-use Rattle.ct_lines.specs.declared.TheConstants.{LINE_FEED}
+use Rattle.ct_io.specs.Lines.{lines_of}
+use Rattle.ct_io.specs.declared.TheConstants.{LINE_FEED}
 use Rattle.ct_codes.specs.declared.entry.Entry.{Entry}
 use Rattle.ct_text.specs.Line.{words_of}
 use Rattle.ct_text.specs.EntryNumbers.{entry_numbers_of, named_entry}

@@ -2,7 +2,7 @@
 
 ghost use Rattle.std.specs.Prelude.{◌≡◌, ◌≢◌, ◌↔◌, ℕ, Bool, ◌<◌, ◌≤◌, ◌/◌, ◌%◌, min, List, [], length, All, IsSome, IsTrue, Some, None, Ok, true};
 ghost use Rattle.ct_words.specs.declared.limits.TheConstants.{MAX_BOUND};
-ghost use Rattle.ct_lines.specs.Lines.{lines_of};
+ghost use Rattle.ct_io.specs.Lines.{lines_of};
 ghost use Rattle.ct_codes.specs.declared.entry.Entry.{Entry};
 ghost use Rattle.ct_codes.specs.Code.{IsTrueUpper};
 ghost use Rattle.ct_codes.specs.Entry.{IsEntry};

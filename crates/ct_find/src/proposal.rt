@@ -12,8 +12,8 @@ use ct_commands::put_submission;
 use ct_duals::Dual;
 use ct_files::write_evidence;
 use ct_finder::{Found, Stop};
+use ct_io::LINE_FEED;
 use ct_kind::Evidence;
-use ct_lines::LINE_FEED;
 use ct_text::put_number;
 use std::alloc::{AllocError, Global};
 

@@ -2,12 +2,12 @@
 
 ghost use Rattle.std.specs.Prelude.{◌≡◌, ◌<◌, ◌++◌, ◌||◌, false, true, length, map, IfOk, OnOk, IfSome};
 ghost use Rattle.ct_codes.specs.Entry.{IsEntry};
-ghost use Rattle.ct_lines.specs.Lines.{IsNextLine, lines_of};
+ghost use Rattle.ct_io.specs.Lines.{IsNextLine, lines_of};
 ghost use Rattle.ct_find.specs.Reply.{AreReplies, IsReply, IsReplyToEntry, IsReplyToNumbers, IsReplyToWords};
 
 use crate::proposal::{answer_entry, owned};
 use ct_codes::Entry;
-use ct_lines::LINE_FEED;
+use ct_io::LINE_FEED;
 use ct_text::{EntryNumbers, first_words, parse_entry_numbers};
 use std::alloc::{AllocError, Global};
 

@@ -1,7 +1,7 @@
 //! What the finder answers.
 
-use ct_primal::Primal;
 use ct_duals::Dual;
+use ct_primal::Primal;
 
 /// A dual that was found and checked, its bound, and how the run stopped.
 #[derive(Debug, Drop)]

@@ -9,8 +9,8 @@ mod opening;
 mod pivot;
 mod reading;
 mod row;
-mod tableau;
 mod running;
+mod tableau;
 
 pub use finding::{find, find_weight};
 pub use found::{Found, Stop};

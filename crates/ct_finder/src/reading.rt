@@ -11,10 +11,10 @@ ghost use Rattle.ct_finder.specs.Ready.{seen};
 ghost use Rattle.ct_finder.specs.Reading.{large, large_after, large_number, large_scale, line_of, lines_seen, number_over, reading_of, scale_after};
 
 use crate::arithmetic::gcd;
-use ct_primal::Primal;
 use crate::row::Row;
 use crate::tableau::Tableau;
 use ct_codes::Entry;
+use ct_primal::Primal;
 use std::alloc::{AllocError, Global};
 
 /// What is read off a tableau with which a run ended as least.

@@ -4,8 +4,8 @@ ghost use Rattle.std.specs.Prelude.{◌≡◌, ◌%◌, true};
 ghost use Rattle.ct_codes.specs.Entry.{IsEntry, unrestricted, constant_weight};
 
 use ct_codes::Entry;
-use ct_primal::Primal;
 use ct_finder::{Found, Stop, find, find_weight};
+use ct_primal::Primal;
 use std::alloc::{AllocError, Global};
 use toml::Value;
 

@@ -1,6 +1,6 @@
 //! Documents that cite: what is read, refused and written.
 
-use ct_files::{Cite, Document, FieldName, DocumentFault, read_document, write_document};
+use ct_files::{Cite, Document, DocumentFault, FieldName, read_document, write_document};
 use std::alloc::Global;
 use std::test::Fail;
 

@@ -2,7 +2,7 @@
 
 use ct_build::Step;
 use ct_codes::Entry;
-use ct_files::{Evidence, FieldName, DocumentFault, MAX_DOCUMENT, read_evidence};
+use ct_files::{DocumentFault, Evidence, FieldName, MAX_DOCUMENT, read_evidence};
 use std::alloc::Global;
 use std::test::Fail;
 

@@ -1,6 +1,6 @@
 //! Documents that are refused, and the fault of each.
 
-use ct_files::{FieldName, DocumentFault, read_evidence};
+use ct_files::{DocumentFault, FieldName, read_evidence};
 
 const DISTANCE: DocumentFault = DocumentFault::Field(FieldName::D);
 

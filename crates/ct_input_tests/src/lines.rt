@@ -2,8 +2,7 @@
 
 ghost use Rattle.std.specs.Prelude.{◌≤◌, IfOk};
 
-use ct_io::{LineFault, LineReader, MAX_INPUT, MAX_READ, MemSource};
-use ct_lines::LINE_FEED;
+use ct_io::{LINE_FEED, LineFault, LineReader, MAX_INPUT, MAX_READ, MemSource};
 use std::alloc::AllocError;
 use std::test::Fail;
 

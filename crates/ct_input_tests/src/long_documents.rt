@@ -1,6 +1,6 @@
 //! Documents of the greatest size, and of the greatest numbers of words.
 
-use ct_files::{Evidence, FieldName, DocumentFault, read_evidence};
+use ct_files::{DocumentFault, Evidence, FieldName, read_evidence};
 use std::alloc::{AllocError, Global};
 use std::test::Fail;
 

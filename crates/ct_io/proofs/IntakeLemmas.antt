@@ -4,7 +4,7 @@ use Rattle.std.specs.List.{Contains, slice_get}
 use Rattle.std.proofs.KnownBytes.{Consumes-kept, Consumes-nil, Consumes-trans}
 use Rattle.std.proofs.lemmas.Bool.{eqb-true, eqb-false}
 use Rattle.std.proofs.lemmas.List.Elements.{All-contains, Contains-append_left}
-use Rattle.ct_lines.specs.declared.TheConstants.{LINE_FEED}
+use Rattle.ct_io.specs.declared.TheConstants.{LINE_FEED}
 use Rattle.ct_io.specs.declared.TheConstants.{MAX_INPUT, MAX_READ}
 use Rattle.ct_io.specs.declared.intake.Intake.{Intake}
 use Rattle.ct_io.specs.declared.line_fault.LineFault.{LineFault}
@@ -13,7 +13,7 @@ use Rattle.ct_io.specs.Faults.{Rose}
 use Rattle.ct_io.specs.Inside.Buffer.{Buffer}
 use Rattle.ct_io.specs.Inside.Filling.{Fills, FillsBy}
 use Rattle.ct_io.specs.Inside.Intake.{Gathers, GathersLine, Gives, GivesOut, IsFaultAt, LooksFirst, ReadsOn}
-use Rattle.ct_lines.specs.Lines.{IsLine}
+use Rattle.ct_io.specs.Lines.{IsLine}
 use Rattle.ct_io.specs.Reader.{Answer, Divides, IsLineThenRead, NeedsNoRead}
 use Rattle.ct_io.proofs.FaultsLemmas.{Rose-after}
 use Rattle.ct_io.proofs.FeedLemmas.{IsNoFeed, Contains-feed, drop-around, line_before_feed}

@@ -6,3 +6,4 @@ mod IntakeLemmas
 mod NextLineLemmas
 pub mod ReaderLemmas
 pub mod ToldLemmas
+pub mod LinesLemmas

@@ -2,3 +2,4 @@ pub mod Faults
 pub mod Inside
 pub mod Reader
 pub mod Told
+pub mod Lines

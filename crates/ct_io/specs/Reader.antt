@@ -2,11 +2,11 @@
 use Rattle.std.specs.Prelude.{◌≡◌, ℕ, replicate, ◌+◌, ◌≤◌, Bool, true, false, List, [], ◌∷◌, ◌++◌, ◌⊎◌, length, Contains, Option, Some, None, Result, Ok, Err, Vec, ⊤, if◌then◌else◌}
 use Rattle.std.specs.declared.alloc.Global.{Global}
 use Rattle.std.specs.Io.KnownBytes.{prepend_known, Consumes}
-use Rattle.ct_lines.specs.declared.TheConstants.{LINE_FEED}
+use Rattle.ct_io.specs.declared.TheConstants.{LINE_FEED}
 use Rattle.ct_io.specs.declared.TheConstants.{MAX_READ}
 use Rattle.ct_io.specs.declared.line_fault.LineFault.{LineFault}
 use Rattle.ct_io.specs.declared.line_fault.LineFault.TheVariants.{ReadFault, TooLong, Memory}
-use Rattle.ct_lines.specs.Lines.{lines_of, IsLine, IsNextLine}
+use Rattle.ct_io.specs.Lines.{lines_of, IsLine, IsNextLine}
 
 -- a line reader: the bytes that it holds, how many its memory keeps (also those given out and not yet dropped), how many it
 -- took, whether the end of the input was seen, and the fault that it stays with

@@ -1,11 +1,11 @@
 ghost use Rattle.std.specs.Prelude.{◌≡◌, ◌≢◌, ℕ, replicate, ◌+◌, ◌<◌, ◌≤◌, [], ◌∷◌, ◌++◌, IfOk, IfSome, IfNone, OnErr, MatchOption, length, take, drop, position, slice_get, vec_len, ◌==◌, Some};
 ghost use Rattle.ct_io.specs.Inside.Buffer.{Buffer, empty_buffer};
-ghost use Rattle.ct_lines.specs.Lines.{IsLine};
+ghost use Rattle.ct_io.specs.Lines.{IsLine};
 ghost use Rattle.ct_io.specs.Inside.Filling.{Fills};
 
+use crate::LINE_FEED;
 use crate::line_fault::LineFault;
 use crate::source::Source;
-use ct_lines::LINE_FEED;
 use std::alloc::{AllocError, Global};
 use std::marker::Model;
 

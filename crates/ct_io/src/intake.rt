@@ -1,6 +1,6 @@
 ghost use Rattle.std.specs.Prelude.{◌≡◌, ◌≤◌, [], false, IfOk, vec_len};
 ghost use Rattle.ct_io.specs.declared.TheConstants.{MAX_READ};
-ghost use Rattle.ct_lines.specs.Lines.{IsLine};
+ghost use Rattle.ct_io.specs.Lines.{IsLine};
 ghost use Rattle.ct_io.specs.Inside.Buffer.{empty_buffer};
 
 use crate::held::Held;

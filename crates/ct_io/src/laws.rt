@@ -1,8 +1,8 @@
 //! The laws of sources, sinks and the reader: what their definitions mean, with no code.
 
 ghost use Rattle.std.specs.Prelude.{◌≡◌, ◌≢◌, ℕ, ◌-◌, ◌^◌, ◌<◌, ◌≤◌, ◌↔◌, List, ◌∷◌, ◌++◌, Some, length};
-ghost use Rattle.ct_lines.specs.declared.TheConstants.{LINE_FEED};
-ghost use Rattle.ct_lines.specs.Lines.{IsLine};
+ghost use Rattle.ct_io.specs.declared.TheConstants.{LINE_FEED};
+ghost use Rattle.ct_io.specs.Lines.{IsLine};
 ghost use Rattle.ct_io.specs.declared.TheConstants.{MAX_READ};
 ghost use Rattle.ct_io.specs.Faults.{Rose};
 ghost use Rattle.ct_io.specs.Reader.{IsLineThenRead};

@@ -14,6 +14,7 @@ mod intake;
 mod laws;
 mod line_fault;
 mod line_reader;
+mod lines;
 mod mem_sink;
 mod mem_source;
 mod run_fault;
@@ -27,6 +28,7 @@ pub use input::read_input;
 pub use laws::{faults_law, last_read_law, prefixes_law};
 pub use line_fault::LineFault;
 pub use line_reader::LineReader;
+pub use lines::lines_law;
 pub use mem_sink::MemSink;
 pub use mem_source::MemSource;
 pub use run_fault::RunFault;
@@ -40,3 +42,6 @@ pub const MAX_INPUT: u64 = 67_108_864;
 
 /// The most bytes that a line reader asks for at once, 64 KiB.
 pub const MAX_READ: usize = 65_536;
+
+/// The byte that ends a line.
+pub const LINE_FEED: u8 = b'\n';

@@ -8,9 +8,9 @@ use Rattle.std.specs.Str.{bytes_eq}
 use Rattle.std.specs.Fmt.{decimal}
 use Rattle.std.proofs.lemmas.List.Elements.{All-head, All-tail, All-push, All-filter, All-nil}
 use Rattle.std.proofs.lemmas.List.Sums.{sum_by-append, sum_by-cons, count_by-le-length}
-use Rattle.ct_lines.specs.declared.TheConstants.{LINE_FEED}
-use Rattle.ct_lines.specs.Lines.{lines_of, IsLine}
-use Rattle.ct_lines.proofs.LinesLemmas.{is_feed, lines_of-next}
+use Rattle.ct_io.specs.declared.TheConstants.{LINE_FEED}
+use Rattle.ct_io.specs.Lines.{lines_of, IsLine}
+use Rattle.ct_io.proofs.LinesLemmas.{is_feed, lines_of-next}
 use Rattle.ct_text.specs.Id.{is_id}
 use Rattle.ct_fields.specs.declared.document.TheConstants.{MAX_DOCUMENT}
 use Rattle.ct_files.specs.Document.{document_read_of}

@@ -13,7 +13,7 @@ use Rattle.ct_codes.specs.declared.claim.Side.{Side}
 use Rattle.ct_codes.specs.declared.claim.Side.TheVariants.{Lower, Upper}
 use Rattle.ct_codes.specs.declared.claim.Claim.{Claim}
 use Rattle.ct_codes.specs.Entry.{is_entry, IsEntry}
-use Rattle.ct_lines.specs.declared.TheConstants.{LINE_FEED}
+use Rattle.ct_io.specs.declared.TheConstants.{LINE_FEED}
 use Rattle.ct_text.specs.Number.{number_of, spaced}
 use Rattle.ct_text.specs.EntryText.{entry_words, weight_word}
 use Rattle.ct_text.specs.EntryNumbers.{named_entry, numbers_from, weight_from}

@@ -6,9 +6,9 @@ use Rattle.std.proofs.lemmas.Option.{none-some}
 use Rattle.ct_codes.specs.declared.entry.Entry.{Entry}
 use Rattle.ct_codes.specs.declared.claim.Claim.{Claim}
 use Rattle.ct_codes.specs.declared.claim.Side.{Side}
-use Rattle.ct_lines.specs.declared.TheConstants.{LINE_FEED}
-use Rattle.ct_lines.specs.Lines.{lines_of}
-use Rattle.ct_lines.proofs.LinesLemmas.{lines_of-next}
+use Rattle.ct_io.specs.declared.TheConstants.{LINE_FEED}
+use Rattle.ct_io.specs.Lines.{lines_of}
+use Rattle.ct_io.proofs.LinesLemmas.{lines_of-next}
 use Rattle.ct_text.specs.Id.{is_id}
 use Rattle.ct_fields.specs.declared.document.TheConstants.{MAX_DOCUMENT}
 use Rattle.ct_rule_parts.specs.Slot.{claim_at}

@@ -10,9 +10,9 @@ use Rattle.std.proofs.lemmas.List.{get_or-map, length-map}
 use Rattle.std.proofs.lemmas.List.Elements.{All-append, All-cons, All-nil, All-head, All-tail, All-get_or, All-weaker, All-from_recursion, recursion_from_All}
 use Rattle.std.proofs.lemmas.List.Sums.{sum_by-cons}
 use Rattle.ct_words.specs.declared.limits.TheConstants.{MAX_BOUND}
-use Rattle.ct_lines.specs.declared.TheConstants.{LINE_FEED}
-use Rattle.ct_lines.specs.Lines.{lines_of, IsLine}
-use Rattle.ct_lines.proofs.LinesLemmas.{lines_of-next}
+use Rattle.ct_io.specs.declared.TheConstants.{LINE_FEED}
+use Rattle.ct_io.specs.Lines.{lines_of, IsLine}
+use Rattle.ct_io.proofs.LinesLemmas.{lines_of-next}
 use Rattle.ct_codes.specs.declared.entry.Entry.{Entry}
 use Rattle.ct_codes.specs.Entry.{IsEntry}
 use Rattle.ct_text.specs.Id.{is_id}

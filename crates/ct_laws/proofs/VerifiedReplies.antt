@@ -5,7 +5,7 @@ use Rattle.std.proofs.lemmas.List.Elements.{All-nil}
 use Rattle.std.proofs.lemmas.Option.{none-some}
 use Rattle.ct_codes.specs.declared.entry.Entry.{Entry}
 use Rattle.ct_codes.specs.declared.claim.Side.{Side}
-use Rattle.ct_lines.specs.Lines.{lines_of}
+use Rattle.ct_io.specs.Lines.{lines_of}
 use Rattle.ct_text.specs.EntryNumbers.{named_entry}
 use Rattle.ct_text.specs.declared.entry_numbers.EntryNumbers.{EntryNumbers}
 use Rattle.ct_commands.specs.Command.{commands_of}

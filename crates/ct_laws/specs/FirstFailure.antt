@@ -1,6 +1,6 @@
 -- The first text line of a derivation document that fails.
 use Rattle.std.specs.Prelude.{◌≡◌, ◌⊎◌, ℕ, ◌+◌, ⊤, List, [], ◌∷◌, ◌++◌, length, Err}
-use Rattle.ct_lines.specs.Lines.{lines_of}
+use Rattle.ct_io.specs.Lines.{lines_of}
 use Rattle.ct_text.specs.Gathering.{gathered}
 use Rattle.ct_text.specs.declared.gathering.Gathered.TheVariants.{Whole}
 use Rattle.ct_pieces.specs.Submission.{submitted}

@@ -5,7 +5,7 @@ ghost use Rattle.ct_codes.specs.Claim.{IsTrueClaim};
 ghost use Rattle.ct_codes.specs.Code.{CodeValue, IsSoundCode};
 ghost use Rattle.ct_codes.specs.declared.claim.Side.{Side};
 ghost use Rattle.ct_codes.specs.declared.entry.Entry.{Entry};
-ghost use Rattle.ct_lines.specs.Lines.{lines_of};
+ghost use Rattle.ct_io.specs.Lines.{lines_of};
 ghost use Rattle.ct_commands.specs.Command.{commands_of};
 ghost use Rattle.ct_commands.specs.declared.command.Command.TheVariants as command;
 ghost use Rattle.ct_text.specs.declared.entry_numbers.EntryNumbers.{EntryNumbers};

@@ -1,7 +1,7 @@
 //! The bounds and counts at values from tables and by hand.
 
 use ct_codes::Entry;
-use ct_elementary::{far, sphere_packing, plotkin};
+use ct_elementary::{far, plotkin, sphere_packing};
 use ct_words::{ball, binomial, factorial};
 
 // Values of Pascal's triangle, factorials and balls: the ball of the binary Golay code has 2^11 words.

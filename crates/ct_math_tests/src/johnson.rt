@@ -2,7 +2,7 @@
 //! stand as premises; A(8,4,4) = 14, A(12,6,6) = 22 and others are met.
 
 use ct_codes::Entry;
-use ct_johnson::{elias_bassalygo, column_count, drop_one, drop_zero, johnson, split};
+use ct_johnson::{column_count, drop_one, drop_zero, elias_bassalygo, johnson, split};
 use ct_words::{MAX_BOUND, MAX_N};
 
 // Steiner systems meet the bounds: A(7,4,3) = 7, A(8,4,4) = 14, A(10,4,4) = 30, A(12,6,6) = 22, A(24,8,8) = 759.

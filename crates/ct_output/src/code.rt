@@ -11,8 +11,7 @@ ghost use Rattle.ct_output.specs.Inside.Texts.{AreTexts};
 use crate::parts::{put_out, put_parts};
 use crate::word_lines::{EightDigits, eight_digits, print_lines};
 use ct_codes::Code;
-use ct_io::{RunFault, Sink};
-use ct_lines::LINE_FEED;
+use ct_io::{LINE_FEED, RunFault, Sink};
 use ct_text::Digits;
 use ct_words::{MAX_N, Word};
 

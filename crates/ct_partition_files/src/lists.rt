@@ -7,7 +7,7 @@ ghost use Rattle.ct_fields.specs.Reads.{Reads, texts_behind};
 ghost use Rattle.ct_fields.specs.Fields.{texts_in};
 ghost use Rattle.ct_partition_files.specs.Lists.{lists_behind, text_lists_of, text_lists_field, classes_from};
 
-use ct_fields::{FieldName, DocumentFault, texts_of, words_from};
+use ct_fields::{DocumentFault, FieldName, texts_of, words_from};
 use ct_words::Word;
 use std::alloc::{AllocError, Global};
 use toml::Value;

@@ -4,7 +4,7 @@ ghost use Rattle.toml.specs.View.{view};
 ghost use Rattle.ct_fields.specs.Reads.{Reads};
 ghost use Rattle.ct_partition_files.specs.Pairs.{is_pair_count, pairs_field};
 
-use ct_fields::{FieldName, DocumentFault, all_of};
+use ct_fields::{DocumentFault, FieldName, all_of};
 use ct_text::Id;
 use ct_words::MAX_N;
 use std::alloc::Global;

@@ -9,7 +9,7 @@ ghost use Rattle.ct_partition_files.specs.Partition.{partition_of_lists, partiti
 
 use crate::lists::{classes_from, text_lists_field};
 use ct_codes::Entry;
-use ct_fields::{FieldName, DocumentFault, last_fields, number_field, stated_entry};
+use ct_fields::{DocumentFault, FieldName, last_fields, number_field, stated_entry};
 use ct_kind::{Evidence, WordLists};
 use ct_partitions::wrong_count;
 use ct_words::Word;

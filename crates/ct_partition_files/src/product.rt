@@ -5,7 +5,7 @@ ghost use Rattle.ct_fields.specs.Reads.{Reads};
 ghost use Rattle.ct_partition_files.specs.Product.{product_evidence_of};
 
 use crate::pairs::pairs_field;
-use ct_fields::{FieldName, DocumentFault, last_fields, stated_entry};
+use ct_fields::{DocumentFault, FieldName, last_fields, stated_entry};
 use ct_kind::{Evidence, IdPairs};
 use std::alloc::Global;
 use toml::Value;

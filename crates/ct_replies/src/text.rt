@@ -9,7 +9,7 @@ ghost use Rattle.ct_pieces.specs.Text.{size_text, piece_text};
 ghost use Rattle.ct_replies.specs.Text.{refusal_text, bounds_text, reply_text, ended, ledger_text};
 
 use crate::reply::{Bounds, Refusal, Reply};
-use ct_lines::LINE_FEED;
+use ct_io::LINE_FEED;
 use ct_pieces::{Piece, submit_refusal, withdraw_refusal};
 use ct_text::{put_entry, put_number, put_spaced};
 use std::alloc::{AllocError, Global};

@@ -30,7 +30,8 @@ const fn listing(before: &'static str, n: u32, d: u32, w: Option<u32>, size: usi
 }
 
 /// The seven lines of the Fano plane.
-const FANO_PLANE: &str = "submit fano lines 5\nkind='words'\nn=7\nd=4\nw=3\nwords=['1101000','0110100','0011010','0001101','1000110','0100011','1010001']\n";
+const FANO_PLANE: &str =
+    "submit fano lines 5\nkind='words'\nn=7\nd=4\nw=3\nwords=['1101000','0110100','0011010','0001101','1000110','0100011','1010001']\n";
 
 /// The extended Hamming code has 16 words; two words differ at all of 30 places, or have 15 ones each and none in common; the triples of six
 /// places whose sum is 0 modulo 6 are 4. Four lines of the Fano plane miss a point, the complements of all are seven, and of weight 4 and

@@ -9,8 +9,8 @@ ghost use Rattle.ct_rule_parts.specs.Local.{doubly_at, lesser, local_value};
 ghost use Rattle.ct_rule_parts.specs.Parts.{weight_of};
 
 use ct_codes::Entry;
-use ct_duals::AcceptedDual;
 use ct_doubly::doubly;
+use ct_duals::AcceptedDual;
 use ct_words::MAX_N;
 use std::alloc::{AllocError, Global};
 use std::marker::Model;

@@ -6,7 +6,7 @@ ghost use Rattle.ct_sample.specs.Summary.{IsSummary, named_line, summary_text};
 use crate::entries::table_entries;
 use crate::run::run_of;
 use crate::tally::{Tally, tally_of};
-use ct_lines::LINE_FEED;
+use ct_io::LINE_FEED;
 use ct_text::put_spaced;
 use std::alloc::{AllocError, Global};
 

@@ -3,9 +3,9 @@ use Rattle.std.proofs.Common.{◌≡◌, ◌≢◌, ◌⊎◌, ℕ, ◌+◌, ◌
 use Rattle.std.specs.List.{onto_first}
 use Rattle.std.specs.Io.KnownBytes.{Consumes, prepend_known}
 use Rattle.std.proofs.lemmas.List.Elements.{All-head, All-tail}
-use Rattle.ct_lines.specs.declared.TheConstants.{LINE_FEED}
-use Rattle.ct_lines.specs.Lines.{lines_of, IsLine}
-use Rattle.ct_lines.proofs.LinesLemmas.{is_feed, no_feed, lines_of-feed, lines_of-onto_first}
+use Rattle.ct_io.specs.declared.TheConstants.{LINE_FEED}
+use Rattle.ct_io.specs.Lines.{lines_of, IsLine}
+use Rattle.ct_io.proofs.LinesLemmas.{is_feed, no_feed, lines_of-feed, lines_of-onto_first}
 use Rattle.ct_io.specs.declared.TheConstants.{MAX_READ}
 use Rattle.ct_io.specs.declared.line_fault.LineFault.TheVariants as line_fault
 use Rattle.ct_io.specs.Reader.{Reader, fresh_reader, input_of, LosesFirstLine, Takes, IsLineThenRead}

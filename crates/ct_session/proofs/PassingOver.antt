@@ -5,9 +5,9 @@ use Rattle.std.specs.Io.KnownBytes.{prepend_known}
 use Rattle.std.proofs.Math.Bool.{or-false}
 use Rattle.std.proofs.lemmas.Grind.{flat_map-append}
 use Rattle.std.proofs.lemmas.List.Elements.{All-append}
-use Rattle.ct_lines.specs.declared.TheConstants.{LINE_FEED}
-use Rattle.ct_lines.specs.Lines.{lines_of, IsLine, ended_lines}
-use Rattle.ct_lines.proofs.LinesLemmas.{lines_of-feeds, ended_lines-feeds, IsLine-empty}
+use Rattle.ct_io.specs.declared.TheConstants.{LINE_FEED}
+use Rattle.ct_io.specs.Lines.{lines_of, IsLine, ended_lines}
+use Rattle.ct_io.proofs.LinesLemmas.{lines_of-feeds, ended_lines-feeds, IsLine-empty}
 use Rattle.ct_io.specs.Reader.{Reader}
 use Rattle.ct_commands.specs.Command.{completed, open_after_all}
 use Rattle.ct_commands.specs.declared.command.Command.{Command}

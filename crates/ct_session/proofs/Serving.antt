@@ -7,9 +7,9 @@ use Rattle.std.proofs.KnownBytes.{Appends-nil, Appends-trans, Consumes-nil, Cons
 use Rattle.std.proofs.lemmas.Bool.Decides.{leb_tells}
 use Rattle.std.proofs.lemmas.Grind.{flat_map-append}
 use Rattle.std.proofs.lemmas.List.Elements.{All-nil, All-push, All-contains, Contains-append_left}
-use Rattle.ct_lines.specs.declared.TheConstants.{LINE_FEED}
-use Rattle.ct_lines.specs.Lines.{lines_of, IsLine, ended_lines}
-use Rattle.ct_lines.proofs.LinesLemmas.{whole_lines-ended}
+use Rattle.ct_io.specs.declared.TheConstants.{LINE_FEED}
+use Rattle.ct_io.specs.Lines.{lines_of, IsLine, ended_lines}
+use Rattle.ct_io.proofs.LinesLemmas.{whole_lines-ended}
 use Rattle.ct_io.specs.declared.TheConstants.{MAX_INPUT, MAX_READ}
 use Rattle.ct_io.specs.declared.line_fault.LineFault.{LineFault}
 use Rattle.ct_io.specs.declared.line_fault.LineFault.TheVariants as line_fault

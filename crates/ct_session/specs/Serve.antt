@@ -1,7 +1,7 @@
 -- What serving a session does to a source and a sink that tell their bytes.
 use Rattle.std.specs.Prelude.{◌≡◌, ◌+◌, ◌≤◌, ℕ, ⊤, Bool, List, [], ◌++◌, length, Option, Some, None}
 use Rattle.std.specs.Io.KnownBytes.{Appends, Consumes}
-use Rattle.ct_lines.specs.Lines.{lines_of, whole_lines}
+use Rattle.ct_io.specs.Lines.{lines_of, whole_lines}
 use Rattle.ct_io.specs.declared.TheConstants.{MAX_READ}
 use Rattle.ct_io.specs.Told.{AppendsPrefix, AppendsProperPrefix}
 use Rattle.ct_commands.specs.Command.{completed}

@@ -2,7 +2,7 @@
 
 ghost use Rattle.std.specs.Prelude.{◌≡◌, ℕ, Bool, false, List, length, None, Option};
 ghost use Rattle.std.specs.List.{list_any};
-ghost use Rattle.ct_lines.specs.Lines.{lines_of};
+ghost use Rattle.ct_io.specs.Lines.{lines_of};
 ghost use Rattle.ct_text.specs.EntryNumbers.{named_entry};
 ghost use Rattle.ct_text.specs.declared.entry_numbers.EntryNumbers.{EntryNumbers};
 ghost use Rattle.ct_text.specs.declared.table_numbers.TableNumbers.{TableNumbers};

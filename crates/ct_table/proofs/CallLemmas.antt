@@ -9,7 +9,7 @@ use Rattle.ct_rule_parts.specs.Slot.{Slot, claim_at}
 use Rattle.ct_rule_parts.specs.Support.{Stands, AllStand}
 use Rattle.ct_rules.specs.Derivation.{LineValue, IsBest}
 use Rattle.ct_rules.proofs.MoreSupports.{derivation_over_more}
-use Rattle.ct_closure.specs.Closing.{ClosingValue, IsClosing}
+use Rattle.ct_table.specs.Closing.{ClosingValue, IsClosing}
 use Rattle.ct_kept.specs.Kept.{KeptValue, BaseValue, IsKept, IsBase, reason_of}
 use Rattle.ct_slots.specs.Number.{bound_of}
 use Rattle.ct_slots.specs.Worklist.{WorkValue, IsIdle}

@@ -4,7 +4,7 @@ use Rattle.std.proofs.lemmas.List.{take_at}
 use Rattle.ct_codes.specs.declared.entry.Entry.{Entry}
 use Rattle.ct_rule_parts.specs.declared.support.Support.{Support}
 use Rattle.ct_rules.specs.Closed.{IsClosed}
-use Rattle.ct_closure.specs.Closing.{ClosingValue, CanClose, IsClosing, HasMoreLines}
+use Rattle.ct_table.specs.Closing.{ClosingValue, CanClose, IsClosing, HasMoreLines}
 use Rattle.ct_kept.specs.Kept.{KeptValue, IsKept, Grew}
 use Rattle.ct_slots.specs.Number.{bound_of}
 use Rattle.ct_slots.specs.Places.{entry_of_support, side_of_support}
@@ -13,7 +13,7 @@ use Rattle.ct_offers.specs.Offers.{IsWithin}
 use Rattle.ct_offers.specs.Inside.Pulled.{given_rule}
 use Rattle.ct_kept.proofs.KeptLemmas.{Grew-refl}
 use Rattle.ct_kept.proofs.LineLemmas.{kept_in}
-use Rattle.ct_closure.specs.Closing.{IsPending}
+use Rattle.ct_table.specs.Closing.{IsPending}
 use Rattle.ct_table.specs.Inside.Starting.{CanFollow, IsMarkedIfGiven}
 use Rattle.ct_table.proofs.MoreLemmas.{pending_over_more, closed_over_one}
 use Rattle.ct_table.proofs.PlacedSupports.{given_marked, last_there}

@@ -23,7 +23,7 @@ use Rattle.ct_rules.proofs.ClosedBounds.{no_better-trans, no_better-antisymmetri
 use Rattle.ct_rules.proofs.RuleLaws.{premises_in_table, premises_on_side, value_is_monotone}
 use Rattle.ct_rules.specs.Removal.{Places, RestsOnPlaces, voided}
 use Rattle.ct_rules.proofs.VoidedSupports.{IsClosed-voided, AllStand-voided}
-use Rattle.ct_closure.specs.Closing.{IsPending}
+use Rattle.ct_table.specs.Closing.{IsPending}
 use Rattle.ct_kept.specs.Kept.{KeptValue, IsKept, Grew, reason_of}
 use Rattle.ct_slots.specs.Number.{bound_of}
 use Rattle.ct_slots.specs.Worklist.{WorkValue, IsMarked}

@@ -13,3 +13,7 @@ pub mod FollowLemmas
 pub mod CallLemmas
 mod ExchangeLemmas
 mod LeftOut
+pub mod LineByLemmas
+pub mod GroundWithin
+pub mod SlackLemmas
+pub mod TurnLemmas

@@ -21,7 +21,7 @@ use Rattle.ct_rules.specs.Rule.{row_of, rule_side, place_of, support_at, cited, 
 use Rattle.ct_rules.proofs.Applied.{defined, applies_from_premises}
 use Rattle.ct_rule_parts.proofs.Places.{slice_get-append_left, slice_get-append_right}
 use Rattle.ct_rules.proofs.LoweredRules.{premises_of-alike, value_of-alike}
-use Rattle.ct_closure.specs.Closing.{IsPending}
+use Rattle.ct_table.specs.Closing.{IsPending}
 use Rattle.ct_slots.specs.Number.{bound_of}
 use Rattle.ct_slots.specs.Places.{GivesTo, side_of_support, entry_of_support}
 use Rattle.ct_slots.specs.Worklist.{WorkValue, IsMarked}

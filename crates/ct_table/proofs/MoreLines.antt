@@ -1,7 +1,7 @@
 -- Lines that are put at the end.
 use Rattle.std.proofs.Common.{List, [], ◌∷◌, ◌++◌, Option, Some, None, refl, sym, ap, ◌∙◌, append_assoc, append-nil}
 use Rattle.ct_rules.specs.Derivation.{LineValue}
-use Rattle.ct_closure.specs.Closing.{HasMoreLines}
+use Rattle.ct_table.specs.Closing.{HasMoreLines}
 use Rattle.ct_kept.specs.Kept.{KeptValue}
 use Rattle.ct_table.specs.Inside.Walk.{with_moved}
 

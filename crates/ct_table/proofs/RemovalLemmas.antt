@@ -12,7 +12,7 @@ use Rattle.ct_rule_parts.proofs.Places.{slice_get-take, slice_get-append_right}
 use Rattle.ct_rules.specs.Removal.{Places, without, lowered, voided, lowered_line}
 use Rattle.ct_rules.proofs.VoidedSupports.{AllStand-voided, AllStand-without, length-voided, IsClosed-without}
 use Rattle.ct_rules.proofs.WithoutLemmas.{length-without}
-use Rattle.ct_closure.specs.Closing.{ClosingValue, CanClose, IsClosing, HasMoreLines}
+use Rattle.ct_table.specs.Closing.{ClosingValue, CanClose, IsClosing, HasMoreLines}
 use Rattle.ct_kept.specs.Kept.{KeptValue, BaseValue, IsBase, reason_of, set_back}
 use Rattle.ct_slots.specs.Number.{bound_of}
 use Rattle.ct_slots.specs.Worklist.{WorkValue}

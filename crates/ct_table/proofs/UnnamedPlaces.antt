@@ -9,7 +9,7 @@ use Rattle.ct_rules.specs.Rule.{place_of}
 use Rattle.ct_rule_parts.proofs.Places.{slice_get-append_right}
 use Rattle.ct_rules.specs.Removal.{Places, names_one, voided}
 use Rattle.ct_rules.proofs.VoidedSupports.{premises_of-voided, value_of-voided, IsClosed-voided}
-use Rattle.ct_closure.specs.Closing.{ClosingValue, HasMoreLines}
+use Rattle.ct_table.specs.Closing.{ClosingValue, HasMoreLines}
 use Rattle.ct_kept.specs.Kept.{KeptValue, BaseValue, IsKept, set_back}
 use Rattle.ct_slots.specs.Number.{bound_of}
 use Rattle.ct_table.specs.Inside.Removing.{IsTakenOut}

@@ -3,3 +3,4 @@ pub mod Walk
 pub mod Removing
 pub mod Starting
 pub mod Exchanged
+pub mod Turn

@@ -1,3 +1,4 @@
 pub mod Table
 pub mod Removal
 pub mod Inside
+pub mod Closing

@@ -5,7 +5,7 @@ ghost use Rattle.ct_codes.specs.Entry.{IsEntry};
 ghost use Rattle.ct_rule_parts.specs.declared.support.Support.{Support};
 ghost use Rattle.ct_rule_parts.specs.Support.{AllStand};
 ghost use Rattle.ct_rules.specs.Closed.{IsClosed};
-ghost use Rattle.ct_closure.specs.Closing.{CanClose, IsClosing, HasMoreLines};
+ghost use Rattle.ct_table.specs.Closing.{CanClose, IsClosing, HasMoreLines};
 ghost use Rattle.ct_kept.specs.Kept.{IsKept};
 ghost use Rattle.ct_slots.specs.Number.{bound_of};
 ghost use Rattle.ct_slots.specs.Places.{AreSupportPlaces};
@@ -14,8 +14,8 @@ ghost use Rattle.ct_offers.specs.Offers.{IsWithin};
 ghost use Rattle.ct_offers.specs.Inside.Pulled.{given_rule};
 ghost use Rattle.ct_table.specs.Inside.Starting.{CanFollow};
 
+use crate::closing::{Closing, close};
 use crate::start::mark_given;
-use ct_closure::{Closing, close};
 use ct_codes::{Entry, Side};
 use ct_kept::Kept;
 use ct_offers::{given_rule, offer};

@@ -6,7 +6,7 @@ ghost use Rattle.ct_rule_parts.specs.declared.support.Support.{Support};
 ghost use Rattle.ct_rules.specs.Removal.{marked, names_one, voided};
 ghost use Rattle.ct_rules.specs.Derivation.{LineValue};
 ghost use Rattle.ct_rules.specs.Rule.{place_of};
-ghost use Rattle.ct_closure.specs.Closing.{HasMoreLines};
+ghost use Rattle.ct_table.specs.Closing.{HasMoreLines};
 ghost use Rattle.ct_kept.specs.Kept.{KeptValue, BaseValue, set_back};
 ghost use Rattle.ct_slots.specs.Places.{AreSupportPlaces};
 ghost use Rattle.ct_slots.specs.Worklist.{IsMarked, IsIdle};
@@ -16,7 +16,7 @@ ghost use Rattle.ct_table.specs.Table.{IsTable};
 ghost use Rattle.ct_table.specs.Inside.Walk.{moved_place, moved_places, moved_line, with_moved, walk};
 ghost use Rattle.ct_table.specs.Inside.Removing.{IsSetBack, IsMarkedIfLost, IsTakenOut};
 
-use ct_closure::{Closing, close};
+use crate::closing::{Closing, close};
 use ct_codes::Claim;
 use ct_kept::{Base, Kept};
 use ct_rules::{Line, Support, names_one};

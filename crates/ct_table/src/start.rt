@@ -4,14 +4,14 @@ ghost use Rattle.std.specs.Prelude.{◌≡◌, ◌<◌, ◌^◌, [], List, All, 
 ghost use Rattle.ct_rule_parts.specs.Slot.{Slot};
 ghost use Rattle.ct_rule_parts.specs.Support.{AllStand};
 ghost use Rattle.ct_rules.specs.Closed.{IsClosed};
-ghost use Rattle.ct_closure.specs.Closing.{IsClosing};
+ghost use Rattle.ct_table.specs.Closing.{IsClosing};
 ghost use Rattle.ct_kept.specs.Kept.{IsKept};
 ghost use Rattle.ct_slots.specs.Number.{bound_of};
 ghost use Rattle.ct_slots.specs.Places.{entry_of_support, AreSupportPlaces};
 ghost use Rattle.ct_slots.specs.Worklist.{IsMarked};
 ghost use Rattle.ct_table.specs.Inside.Starting.{IsBegun, IsMarkedIfGiven};
 
-use ct_closure::{Closing, close};
+use crate::closing::{Closing, close};
 use ct_rules::Support;
 use ct_slots::{SupportPlaces, Worklist, entry_of_support, side_of_support};
 use std::alloc::{AllocError, Global};

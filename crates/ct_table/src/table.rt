@@ -11,11 +11,11 @@ ghost use Rattle.ct_rules.specs.Removal.{only, marked, without};
 ghost use Rattle.ct_table.specs.Removal.{KeepsReasons};
 ghost use Rattle.ct_table.specs.Table.{Grew, IsShownTable, bound_at, reason_at};
 
+use crate::closing::Closing;
 use crate::exchanging::{exchange, leave_out, nothings, only};
 use crate::follow::follow;
 use crate::left::take_out;
 use crate::start::{begin, close_over};
-use ct_closure::Closing;
 use ct_codes::{Entry, Side};
 use ct_kept::Base;
 use ct_rules::{Line, Support};

@@ -1,7 +1,7 @@
 //! What explanations are, and that there are some.
 
 ghost use Rattle.std.specs.Prelude.{◌≡◌, ◌∷◌, ◌++◌, [], ℕ, All, List, None, codes, length, Some};
-ghost use Rattle.ct_lines.specs.declared.TheConstants.{LINE_FEED};
+ghost use Rattle.ct_io.specs.declared.TheConstants.{LINE_FEED};
 ghost use Rattle.ct_codes.specs.Claim.{IsTrueClaim};
 ghost use Rattle.ct_codes.specs.Entry.{constant_weight, unrestricted};
 ghost use Rattle.ct_codes.specs.declared.claim.Side.TheVariants.{Upper};

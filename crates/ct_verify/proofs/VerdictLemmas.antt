@@ -1,8 +1,8 @@
 -- What a verdict says of what was read.
 use Rattle.std.proofs.Common.{◌≡◌, ◌≢◌, ℕ, ◌+◌, List, [], ◌∷◌, refl, sym, ap, subst, ◌∙◌}
 use Rattle.std.specs.Prelude.{Result, Ok, Err, IfOk}
-use Rattle.ct_lines.specs.Lines.{lines_of, IsNextLine}
-use Rattle.ct_lines.proofs.LinesLemmas.{lines_of-from_next}
+use Rattle.ct_io.specs.Lines.{lines_of, IsNextLine}
+use Rattle.ct_io.proofs.LinesLemmas.{lines_of-from_next}
 use Rattle.ct_rules.proofs.Derivations.{lines_are_true}
 use Rattle.ct_pieces.specs.Supports.{supports_of}
 use Rattle.ct_pieces.proofs.SupportLemmas.{supports_stand}

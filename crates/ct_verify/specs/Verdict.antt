@@ -1,6 +1,6 @@
 -- The verdict on a derivation document.
 use Rattle.std.specs.Prelude.{◌≡◌, ℕ, ◌+◌, List, [], ◌∷◌, All}
-use Rattle.ct_lines.specs.Lines.{lines_of}
+use Rattle.ct_io.specs.Lines.{lines_of}
 use Rattle.ct_codes.specs.Claim.{IsTrueClaim}
 use Rattle.ct_rules.specs.Derivation.{IsDerivation}
 use Rattle.ct_pieces.specs.Standing.{AreStanding}

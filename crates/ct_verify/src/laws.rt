@@ -1,7 +1,7 @@
 //! What a verdict says.
 
 ghost use Rattle.std.specs.Prelude.{◌≡◌, ◌≢◌, ◌↔◌, ◌∷◌, ◌++◌, [], ℕ, List, All, Some};
-ghost use Rattle.ct_lines.specs.Lines.{lines_of};
+ghost use Rattle.ct_io.specs.Lines.{lines_of};
 ghost use Rattle.ct_codes.specs.Claim.{IsTrueClaim};
 ghost use Rattle.ct_rules.specs.Derivation.{IsDerivation};
 ghost use Rattle.ct_pieces.specs.Standing.{AreStanding};

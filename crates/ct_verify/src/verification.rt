@@ -11,8 +11,7 @@ ghost use Rattle.ct_verify.specs.Verification.{is_no, verdict_line};
 use crate::text::verdict_text;
 use crate::verdict::Verdict;
 use crate::verifying::verify;
-use ct_io::{RunFault, Sink, Source, read_input, write_all};
-use ct_lines::LINE_FEED;
+use ct_io::{LINE_FEED, RunFault, Sink, Source, read_input, write_all};
 use std::alloc::{AllocError, Global};
 
 /// Whether the verdict is no.

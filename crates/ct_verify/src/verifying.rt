@@ -1,14 +1,14 @@
 //! The verdict on a derivation document.
 
 ghost use Rattle.std.specs.Prelude.{◌≡◌, ◌<◌, IfOk, length};
-ghost use Rattle.ct_lines.specs.Lines.{IsNextLine};
+ghost use Rattle.ct_io.specs.Lines.{IsNextLine};
 ghost use Rattle.ct_verify.specs.Verdict.{verdict_of, IsVerified};
 ghost use Rattle.ct_verify.specs.declared.verdict.Verdict.TheVariants.{Yes};
 
 use crate::reading::Reading;
 use crate::step::Step;
 use crate::verdict::Verdict;
-use ct_lines::LINE_FEED;
+use ct_io::LINE_FEED;
 use std::alloc::{AllocError, Global};
 
 /// The first line of a text that is not empty, and what follows it.

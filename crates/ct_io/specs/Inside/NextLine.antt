@@ -1,7 +1,7 @@
 -- What a call of a line reader comes to, clause by clause.
 use Rattle.std.specs.Prelude.{◌≡◌, ◌≢◌, ℕ, ◌+◌, ◌<◌, ◌≤◌, ◌⊎◌, true, false, List, [], length, max, Option, Some, None, Err, OnOk, OnErr, IfErr}
 use Rattle.std.specs.Io.KnownBytes.{IsAtEnd, Keeps}
-use Rattle.ct_lines.specs.Lines.{IsLine}
+use Rattle.ct_io.specs.Lines.{IsLine}
 use Rattle.ct_io.specs.declared.TheConstants.{MAX_INPUT, MAX_READ}
 use Rattle.ct_io.specs.declared.line_fault.LineFault.{LineFault}
 use Rattle.ct_io.specs.declared.line_fault.LineFault.TheVariants.{ReadFault, TooLong, Memory}

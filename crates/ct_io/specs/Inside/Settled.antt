@@ -5,7 +5,7 @@ use Rattle.ct_io.specs.declared.line_fault.LineFault.{LineFault}
 use Rattle.ct_io.specs.declared.line_fault.LineFault.TheVariants.{ReadFault, TooLong, Memory}
 use Rattle.ct_io.specs.declared.line_reader.LineReader.TheInside.{Inside}
 use Rattle.ct_io.specs.Reader.{Reader, IsLineThenRead}
-use Rattle.ct_lines.specs.Lines.{IsLine}
+use Rattle.ct_io.specs.Lines.{IsLine}
 
 -- a reader as its callers see it
 abbrev pub reader_of : Inside → Reader

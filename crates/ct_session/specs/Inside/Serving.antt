@@ -1,7 +1,7 @@
 -- How far the serving of a session has come, and what a step of it comes to.
 use Rattle.std.specs.Prelude.{◌≡◌, ◌⊎◌, ◌≤◌, ◌<◌, ◌-◌, ⊤, ℕ, true, false, List, [], ◌++◌, All, length, Option, Some, None, Result, Ok, Err}
 use Rattle.std.specs.Io.KnownBytes.{Appends, Consumes, IsAtEnd}
-use Rattle.ct_lines.specs.Lines.{lines_of, IsLine, ended_lines}
+use Rattle.ct_io.specs.Lines.{lines_of, IsLine, ended_lines}
 use Rattle.ct_io.specs.declared.TheConstants.{MAX_INPUT, MAX_READ}
 use Rattle.ct_io.specs.Reader.{Reader, PassesEmptyLines, input_of}
 use Rattle.ct_io.specs.declared.run_fault.RunFault.{RunFault}

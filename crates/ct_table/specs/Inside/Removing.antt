@@ -6,7 +6,7 @@ use Rattle.ct_rule_parts.specs.Slot.{Slot, slot_of, IsBetter}
 use Rattle.ct_rules.specs.Closed.{IsClosed}
 use Rattle.ct_rules.specs.Derivation.{LineValue}
 use Rattle.ct_rules.specs.Removal.{Places, RestsOnPlaces, voided}
-use Rattle.ct_closure.specs.Closing.{ClosingValue}
+use Rattle.ct_table.specs.Closing.{ClosingValue}
 use Rattle.ct_kept.specs.Kept.{KeptValue, BaseValue, IsKept, reason_of, set_back}
 use Rattle.ct_slots.specs.Number.{bound_of}
 use Rattle.ct_slots.specs.Worklist.{WorkValue, IsMarked, IsIdle}

@@ -1,4 +1,4 @@
-use Rattle.ct_lines.specs.Lines.{lines_of}
+use Rattle.ct_io.specs.Lines.{lines_of}
 use Rattle.ct_find.proofs.Alike.{alike_replies}
 use Rattle.ct_find.proofs.laws.outputs_differ_in_documents_alone.Goals as goal
 

@@ -1,7 +1,7 @@
 use Rattle.std.proofs.Common.{◌≡◌, ℕ, List, length, subst, rules}
 use Rattle.std.proofs.lemmas.List.{nil_from_length}
-use Rattle.ct_lines.specs.Lines.{lines_of}
-use Rattle.ct_lines.proofs.LinesLemmas.{lines_of-from_next}
+use Rattle.ct_io.specs.Lines.{lines_of}
+use Rattle.ct_io.proofs.LinesLemmas.{lines_of-from_next}
 use Rattle.ct_find.proofs.ReplyLemmas.{Leads, leads_on, leads_last}
 use Rattle.ct_find.proofs.reply.replies_to.Goals as goal
 

@@ -1,5 +1,5 @@
 use Rattle.std.proofs.Common.{length}
-use Rattle.ct_lines.specs.Lines.{lines_of}
+use Rattle.ct_io.specs.Lines.{lines_of}
 use Rattle.ct_find.proofs.ReplyLemmas.{Leads}
 use Rattle.ct_find.proofs.reply.replies_to.Given as goal
 

@@ -1,6 +1,6 @@
 use Rattle.std.proofs.Common.{ℕ, List, Bool, subst}
 use Rattle.std.proofs.KnownBytes.{Consumes-whole}
-use Rattle.ct_lines.specs.Lines.{lines_of}
+use Rattle.ct_io.specs.Lines.{lines_of}
 use Rattle.ct_io.specs.Told.{AppendsProperPrefix}
 use Rattle.ct_find.specs.Reply.{AreReplies, IsFound}
 use Rattle.ct_find.proofs.source.find_source.Goals as goal

@@ -1,5 +1,5 @@
 use Rattle.std.proofs.Common.{[]}
-use Rattle.ct_lines.specs.Lines.{lines_of}
+use Rattle.ct_io.specs.Lines.{lines_of}
 use Rattle.ct_commands.specs.Command.{commands_of}
 use Rattle.ct_session.proofs.Uniqueness.{differ_in_choices, as_many, one_mark_only, one_text_only}
 use Rattle.ct_session.proofs.laws.runs_differ_in_choices_only.Goals as goal

@@ -3,7 +3,7 @@ use Rattle.std.proofs.lemmas.Option.{none-some, same_Some}
 use Rattle.ct_codes.specs.declared.claim.Side.{Side}
 use Rattle.ct_rule_parts.specs.declared.support.Support.{Support}
 use Rattle.ct_codes.specs.declared.entry.Entry.{Entry}
-use Rattle.ct_closure.specs.Closing.{ClosingValue}
+use Rattle.ct_table.specs.Closing.{ClosingValue}
 use Rattle.ct_slots.specs.Number.{bound_of}
 use Rattle.ct_slots.specs.Places.{entry_of_support, side_of_support}
 use Rattle.ct_offers.specs.Offers.{IsWithin}

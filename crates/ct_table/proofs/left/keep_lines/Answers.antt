@@ -2,7 +2,7 @@ use Rattle.std.proofs.Common.{◌≡◌, ◌+◌, ◌++◌, ◌∷◌, [], List,
 use Rattle.std.proofs.lemmas.List.{at_drop_more}
 use Rattle.ct_rules.specs.Derivation.{LineValue}
 use Rattle.ct_rules.specs.Removal.{marked}
-use Rattle.ct_closure.specs.Closing.{HasMoreLines}
+use Rattle.ct_table.specs.Closing.{HasMoreLines}
 use Rattle.ct_kept.specs.Kept.{KeptValue}
 use Rattle.ct_table.specs.Inside.Walk.{moved_line, with_moved, walk}
 use Rattle.ct_table.proofs.MoreLines.{HasMoreLines-moved}

@@ -1,6 +1,6 @@
 use Rattle.std.proofs.Common.{◌≡◌, [], drop}
 use Rattle.ct_rules.specs.Removal.{marked}
-use Rattle.ct_closure.specs.Closing.{HasMoreLines}
+use Rattle.ct_table.specs.Closing.{HasMoreLines}
 use Rattle.ct_table.specs.Inside.Walk.{walk}
 use Rattle.ct_table.proofs.left.keep_lines.Given as goal
 

@@ -2,7 +2,7 @@ use Rattle.std.proofs.Common.{◌≡◌, List, sym, subst}
 use Rattle.std.specs.Prelude.{Result, Ok, Err, OnOk}
 use Rattle.ct_rule_parts.specs.declared.support.Support.{Support}
 use Rattle.ct_rules.specs.Removal.{marked, voided}
-use Rattle.ct_closure.specs.Closing.{ClosingValue, CanClose, IsClosing}
+use Rattle.ct_table.specs.Closing.{ClosingValue, CanClose, IsClosing}
 use Rattle.ct_kept.specs.Kept.{KeptValue, BaseValue}
 use Rattle.ct_table.specs.Inside.Removing.{IsSetBack, IsTakenOut}
 use Rattle.ct_table.proofs.RemovalLemmas.{later_entries, CanClose-left, IsTakenOut-closed}

@@ -7,7 +7,7 @@ use Rattle.ct_rules.specs.Rule.{place_of}
 use Rattle.ct_rules.specs.Removal.{names_one, marked, voided}
 use Rattle.ct_slots.specs.Worklist.{WorkValue}
 use Rattle.ct_kept.specs.Kept.{KeptValue, BaseValue, UndoValue, set_back}
-use Rattle.ct_closure.specs.Closing.{ClosingValue}
+use Rattle.ct_table.specs.Closing.{ClosingValue}
 use Rattle.ct_table.specs.Table.{IsTable}
 use Rattle.ct_table.specs.Inside.Removing.{IsSetBack, IsTakenOut}
 use Rattle.ct_table.proofs.UnnamedPlaces.{IsTakenOut-unnamed, HasMoreLines-whole}

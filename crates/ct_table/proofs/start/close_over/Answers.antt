@@ -1,7 +1,7 @@
 use Rattle.std.proofs.Common.{[], sym, subst}
 use Rattle.std.proofs.lemmas.Result.{on_ok_weaker}
 use Rattle.ct_rules.specs.Closed.{IsClosed}
-use Rattle.ct_closure.specs.Closing.{ClosingValue}
+use Rattle.ct_table.specs.Closing.{ClosingValue}
 use Rattle.ct_kept.specs.Kept.{IsKept}
 use Rattle.ct_slots.specs.Number.{bound_of}
 use Rattle.ct_table.proofs.BaseLemmas.{IsKept-over}

@@ -1,4 +1,4 @@
-use Rattle.ct_lines.specs.Lines.{lines_of}
+use Rattle.ct_io.specs.Lines.{lines_of}
 use Rattle.ct_rules.proofs.Derivations.{lines_are_true}
 use Rattle.ct_pieces.specs.Supports.{supports_of}
 use Rattle.ct_pieces.proofs.SupportLemmas.{supports_stand}

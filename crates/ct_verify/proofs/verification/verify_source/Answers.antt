@@ -1,6 +1,6 @@
 use Rattle.std.proofs.Common.{List, ℕ, [], ◌∷◌, ◌++◌, ap, ◌∙◌, subst}
 use Rattle.std.proofs.KnownBytes.{Consumes-whole}
-use Rattle.ct_lines.specs.declared.TheConstants.{LINE_FEED}
+use Rattle.ct_io.specs.declared.TheConstants.{LINE_FEED}
 use Rattle.ct_io.specs.Told.{AppendsProperPrefix}
 use Rattle.ct_verify.specs.Text.{verdict_text}
 use Rattle.ct_verify.specs.Verdict.{verdict_of}

@@ -1,5 +1,5 @@
 use Rattle.std.proofs.Common.{◌≡◌, ◌≤◌, ◌+◌, length}
-use Rattle.ct_lines.specs.Lines.{lines_of}
+use Rattle.ct_io.specs.Lines.{lines_of}
 use Rattle.ct_verify.specs.Verdict.{verdict_of, verdict_from}
 use Rattle.ct_verify.proofs.verifying.first_verdict.Given as goal
 

@@ -3,8 +3,8 @@ use Rattle.std.specs.List.{position, slice_get}
 use Rattle.std.proofs.lemmas.List.{take_all, drop-drop}
 use Rattle.std.proofs.lemmas.List.Elements.{All-take}
 use Rattle.ct_io.specs.Inside.Buffer.{Buffer}
-use Rattle.ct_lines.specs.Lines.{IsLine}
-use Rattle.ct_lines.proofs.LinesLemmas.{is_feed}
+use Rattle.ct_io.specs.Lines.{IsLine}
+use Rattle.ct_io.proofs.LinesLemmas.{is_feed}
 use Rattle.ct_io.proofs.FeedLemmas.{IsNoFeed, EndsAt, EndsAt-searched, IsLine-searched}
 use Rattle.ct_io.proofs.held.Held.line_length.Goals as goal
 

@@ -1,7 +1,7 @@
 use Rattle.std.proofs.Common.{◌≡◌, refl, sym, subst}
 use Rattle.std.proofs.lemmas.Result.{err_from_is_err_and}
 use Rattle.ct_io.specs.Inside.Buffer.{Buffer}
-use Rattle.ct_lines.specs.Lines.{IsLine}
+use Rattle.ct_io.specs.Lines.{IsLine}
 use Rattle.ct_io.proofs.IntakeLemmas.{GathersLine-fault, GathersLine-line, GathersLine-none, HasGathered-more, HasGathered-none, HasGathered-same, ReadsOn-nearer}
 use Rattle.ct_io.proofs.intake.Intake.gather_line.Goals as goal
 

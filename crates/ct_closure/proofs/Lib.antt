@@ -1,4 +1,0 @@
-pub mod LineByLemmas
-pub mod GroundWithin
-pub mod SlackLemmas
-pub mod TurnLemmas

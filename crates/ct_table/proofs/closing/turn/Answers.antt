@@ -1,0 +1,56 @@
+use Rattle.ct_table.proofs.TurnLemmas.{bounds_are_true, pending_satisfied, none_found, improvement, turn_pending, turn_kept, turn_grew, turn_uses}
+use Rattle.ct_table.proofs.closing.turn.Goals as goal
+
+pub returns-in_default-clause-pending : goal.returns-in_default-clause-pending
+returns-in_default-clause-pending c =
+    let best = c.pull-best.result in
+    pending_satisfied c.args.supports.now c.args.kept.now.bounds c.args.work.now (c.args.side, c.args.entry) best.value
+    (none_found c.args.supports.now c.args.kept.now (c.args.side, c.args.entry) best.value best.rule c.in_default.is c.pull-best.ensures.given)
+    c.pull-best.ensures.within c.requires.pending
+
+pub mark_from-requires-clause-true_bounds : goal.mark_from-requires-clause-true_bounds
+mark_from-requires-clause-true_bounds c =
+    let best = c.pull-best.result in
+    let found =
+    improvement c.args.supports.now c.args.kept.now c.args.side c.args.entry best.value best.rule c.in-Some.rule c.requires.entry c.in-Some.is
+    c.pull-best.ensures.given c.pull-best.ensures.within in
+    bounds_are_true c.args.supports.now c.improve.new.kept c.requires.stand
+    (turn_kept c.args.supports.now c.args.kept.now c.improve.new.kept c.in-Some.rule c.args.entry best.value c.in_ok-improve.ensures.improved
+    c.requires.kept found.1)
+
+pub returns-clause-kept : goal.returns-clause-kept
+returns-clause-kept c =
+    let best = c.pull-best.result in
+    let found =
+    improvement c.args.supports.now c.args.kept.now c.args.side c.args.entry best.value best.rule c.in-Some.rule c.requires.entry c.in-Some.is
+    c.pull-best.ensures.given c.pull-best.ensures.within in
+    turn_kept c.args.supports.now c.args.kept.now c.improve.new.kept c.in-Some.rule c.args.entry best.value c.in_ok-improve.ensures.improved
+    c.requires.kept found.1
+
+pub returns-clause-grew : goal.returns-clause-grew
+returns-clause-grew c =
+    let best = c.pull-best.result in
+    let found =
+    improvement c.args.supports.now c.args.kept.now c.args.side c.args.entry best.value best.rule c.in-Some.rule c.requires.entry c.in-Some.is
+    c.pull-best.ensures.given c.pull-best.ensures.within in
+    turn_grew c.args.supports.now c.args.kept.now c.improve.new.kept c.in-Some.rule c.args.entry best.value c.in_ok-improve.ensures.improved
+    c.requires.kept found.1
+
+pub returns-clause-pending : goal.returns-clause-pending
+returns-clause-pending c =
+    let best = c.pull-best.result in
+    let found =
+    improvement c.args.supports.now c.args.kept.now c.args.side c.args.entry best.value best.rule c.in-Some.rule c.requires.entry c.in-Some.is
+    c.pull-best.ensures.given c.pull-best.ensures.within in
+    turn_pending c.args.supports.now c.args.kept.now c.improve.new.kept c.args.side c.in-Some.rule c.args.entry best.value c.args.work.now
+    c.mark_from.new.work found.0 c.in_ok-improve.ensures.improved c.requires.kept found.1 c.in_ok-mark_from.ensures.kept
+    c.in_ok-mark_from.ensures.tested c.requires.pending
+
+pub returns-clause-potential : goal.returns-clause-potential
+returns-clause-potential c =
+    let best = c.pull-best.result in
+    let found =
+    improvement c.args.supports.now c.args.kept.now c.args.side c.args.entry best.value best.rule c.in-Some.rule c.requires.entry c.in-Some.is
+    c.pull-best.ensures.given c.pull-best.ensures.within in
+    turn_uses c.args.supports.now c.args.kept.now c.improve.new.kept c.in-Some.rule c.args.entry best.value c.args.work.now
+    c.mark_from.new.work c.in_ok-improve.ensures.improved c.requires.kept found.1 c.waits_for_few.ensures
