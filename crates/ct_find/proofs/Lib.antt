@@ -4,6 +4,3 @@ mod EntryLemmas
 mod ReplyLemmas
 mod FoundLemmas
 pub mod FoundDuals
-pub mod FindIds
-pub mod Accepted
-mod Alike

@@ -34,3 +34,6 @@ mod DumpPieces
 mod ProposedPieces
 mod VerifiedReplies
 mod FirstFailures
+pub mod FindIds
+pub mod AcceptedProposals
+pub mod Alike

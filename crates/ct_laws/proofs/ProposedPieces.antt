@@ -35,8 +35,8 @@ use Rattle.ct_find.specs.declared.found.TheConstants.{MAX_PIVOTS}
 use Rattle.ct_files.specs.Document.{without_cites}
 use Rattle.ct_files.proofs.Documents.{document_read_of-within}
 use Rattle.ct_find.specs.Proposal.{is_even, dual_evidence, find_id, found_dual, pair_text, pairs_text, primal_line, proposed_piece, run_for, stop_for, stop_text}
-use Rattle.ct_find.proofs.Accepted.{made-proposed, stored-none}
-use Rattle.ct_find.proofs.FindIds.{find_id-named, find_id-different}
+use Rattle.ct_laws.proofs.AcceptedProposals.{made-proposed, stored-none}
+use Rattle.ct_laws.proofs.FindIds.{find_id-named, find_id-different}
 use Rattle.ct_find.proofs.FoundDuals.{bound-is, shown}
 use Rattle.ct_commands.specs.Form.{form_of}
 use Rattle.ct_commands.specs.Command.{commands_of}

@@ -9,6 +9,7 @@ mod laws;
 mod ledger;
 mod numbers;
 mod pieces;
+mod proposals;
 mod proposed;
 mod reasons;
 mod replies;
@@ -44,6 +45,9 @@ pub use pieces::{
     pieces_give_supports, pieces_have_codes, pieces_taken_along, reasons_of_kinds,
     refusals_in_order, stored_words_by_kind, submissions_that_are_accepted,
     withdrawals_that_are_refused,
+};
+pub use proposals::{
+    found_duals_bound_codes, outputs_differ_in_documents_alone, proposals_are_accepted,
 };
 pub use proposed::proposals_are_taken;
 pub use reasons::{

@@ -12,9 +12,7 @@ pub mod ClosedBounds
 pub mod Slack
 pub mod Improvements
 pub mod BestValues
-pub mod KnownClaims
 pub mod GivenCodes
-pub mod GivenDuals
 pub mod WithoutLemmas
 pub mod LoweredRules
 pub mod VoidedSupports

@@ -3,5 +3,4 @@ pub mod Derivation
 pub mod Closed
 pub mod Listing
 pub mod Removal
-pub mod DualRule
 pub mod Inside

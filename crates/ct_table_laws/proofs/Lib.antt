@@ -1,2 +1,4 @@
 pub mod ReasonLemmas
 pub mod GrowthLemmas
+pub mod GivenDuals
+pub mod KnownClaims

@@ -1,4 +1,4 @@
-//! Laws of rules, derivations, tables and explanations, and worked ones. Nothing rests on them; each would notice a definition that is
+//! Laws of rules, derivations, tables and explanations, and worked ones. No call rests on them; each would notice a definition that is
 //! slightly wrong.
 #![tactic(auto)]
 

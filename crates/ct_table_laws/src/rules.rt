@@ -21,7 +21,7 @@ ghost use Rattle.ct_rule_parts.specs.Slot.{Slot, slot_of, claim_at, IsNoBetter, 
 ghost use Rattle.ct_rules.specs.Rule.{rule_side, cited, premises_of, value_of, name_of, arguments_of, with_arguments, bare};
 ghost use Rattle.ct_rules.specs.Listing.{rule_named};
 ghost use Rattle.ct_rule_parts.specs.Parts.{slots_on, within_limit};
-ghost use Rattle.ct_rules.specs.DualRule.{rule_of_dual};
+ghost use Rattle.ct_table_laws.specs.DualRule.{rule_of_dual};
 ghost use Rattle.ct_weight_rules.specs.OddExamples.{nine_four};
 
 /// A claim is a bound of a slot, and a bound of a slot is a claim.

@@ -1,5 +1,5 @@
 use Rattle.std.proofs.Common.{arith}
-use Rattle.ct_rules.proofs.KnownClaims.{true_from_below, true_from_above, not_five, not_three}
+use Rattle.ct_table_laws.proofs.KnownClaims.{true_from_below, true_from_above, not_five, not_three}
 use Rattle.ct_table_laws.proofs.derivations.known_claims.Goals as goal
 
 pub returns-clause-from_below : goal.returns-clause-from_below

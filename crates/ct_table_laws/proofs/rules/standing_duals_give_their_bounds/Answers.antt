@@ -1,4 +1,4 @@
-use Rattle.ct_rules.proofs.GivenDuals.{dual-gives}
+use Rattle.ct_table_laws.proofs.GivenDuals.{dual-gives}
 use Rattle.ct_table_laws.proofs.rules.standing_duals_give_their_bounds.Goals as goal
 
 pub returns : goal.returns

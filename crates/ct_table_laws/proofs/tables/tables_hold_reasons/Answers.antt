@@ -4,7 +4,7 @@ use Rattle.ct_codes.specs.declared.claim.Claim.{Claim}
 use Rattle.ct_rule_parts.specs.Slot.{Slot}
 use Rattle.ct_rules.specs.Derivation.{LineValue}
 use Rattle.ct_kept.specs.Kept.{IsGroundBound}
-use Rattle.ct_table.specs.Table.{TableValue, bound_at, reason_at}
+use Rattle.ct_table.specs.Table.{reason_at}
 use Rattle.ct_table_laws.proofs.tables.tables_hold_reasons.Goals as goal
 
 -- a line whose claim is known

@@ -1,6 +1,6 @@
-use Rattle.ct_find.proofs.Accepted.{accepted-alone, accepted-beside}
-use Rattle.ct_find.proofs.FindIds.{find_id-named, find_id-different}
-use Rattle.ct_find.proofs.laws.proposals_are_accepted.Goals as goal
+use Rattle.ct_laws.proofs.AcceptedProposals.{accepted-alone, accepted-beside}
+use Rattle.ct_laws.proofs.FindIds.{find_id-named, find_id-different}
+use Rattle.ct_laws.proofs.proposals.proposals_are_accepted.Goals as goal
 
 pub returns : goal.returns
 returns c = record {

@@ -19,7 +19,7 @@ use Rattle.ct_weight_rules.proofs.LawfulDelsarte.{premises-none}
 use Rattle.ct_rules.specs.declared.rule.Rule.{Rule}
 use Rattle.ct_rules.specs.declared.rule.Rule.TheVariants.{U11, V9}
 use Rattle.ct_rules.specs.Derivation.{IsDerived, IsBest}
-use Rattle.ct_rules.specs.DualRule.{rule_of_dual}
+use Rattle.ct_table_laws.specs.DualRule.{rule_of_dual}
 use Rattle.ct_rules.specs.Rule.{row_of, rule_side, premises_of, value_of}
 use Rattle.ct_rules.proofs.JoinedDerivations.{derived_by_rule}
 

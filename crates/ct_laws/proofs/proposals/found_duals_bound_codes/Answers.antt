@@ -1,7 +1,7 @@
 use Rattle.ct_find.proofs.FoundDuals.{found, shown, even-distances, premises-none, bound-is, bound-true, plain-some}
 use Rattle.ct_finder.proofs.FoundLemmas.{stop-least}
 use Rattle.ct_find.specs.Proposal.{stop_for}
-use Rattle.ct_find.proofs.laws.found_duals_bound_codes.Goals as goal
+use Rattle.ct_laws.proofs.proposals.found_duals_bound_codes.Goals as goal
 
 pub returns : goal.returns
 returns c = record {
