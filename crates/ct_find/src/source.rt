@@ -1,6 +1,6 @@
 //! The replies to the lines of a source.
 
-ghost use Rattle.std.specs.Prelude.{◌≡◌, ◌≢◌, ◌≤◌, ◌+◌, ◌↔◌, Err, IfOk, IfErr, OnOk, OnErr, length};
+ghost use Rattle.std.specs.Prelude.{◌≡◌, ◌≢◌, ◌≤◌, ◌+◌, ◌↔◌, Err, IfOk, IfErr, OnOk, length};
 ghost use Rattle.std.specs.Io.KnownBytes.{Appends, IsAtEnd};
 ghost use Rattle.ct_io.specs.Faults.{Rose};
 ghost use Rattle.ct_io.specs.Told.{AppendsProperPrefix, IsAboveLimit, WhereTold};
@@ -8,21 +8,8 @@ ghost use Rattle.ct_io.specs.declared.TheConstants.{MAX_INPUT, MAX_READ};
 ghost use Rattle.ct_find.specs.Reply.{Writes, WritesInPart};
 
 use crate::reply::replies_to;
-use ct_io::{RunFault, Sink, Source, read_input, write_all};
+use ct_io::{RunFault, Sink, Source, read_input, write_text};
 use std::alloc::Global;
-
-/// Writes all of the bytes.
-fn write_text<K: Sink>(sink: &mut K, text: &[u8]) -> Result<(), RunFault>
-    ensures written { OnOk result (Appends (K.holds sink.old) (K.holds sink.new) text.now) }
-    ensures unwritten { OnErr result (AppendsProperPrefix (K.holds sink.old) (K.holds sink.new) text.now) }
-    ensures fault { IfErr result (λ fault. fault ≡ RunFault.Write) }
-    ensures failed { OnErr result (Rose (K.faults sink.old) (K.faults sink.new)) }
-{
-    match write_all(sink, text) {
-        Ok(()) => Ok(()),
-        Err(_) => Err(RunFault::Write),
-    }
-}
 
 /// Proposes duals for the entries that the lines of the source name: reads the source to its end, finds the duals, and writes the replies to
 /// its lines, in order. `Ok` tells whether one of the replies is a refusal.

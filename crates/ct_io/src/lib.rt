@@ -32,7 +32,7 @@ pub use lines::lines_law;
 pub use mem_sink::MemSink;
 pub use mem_source::MemSource;
 pub use run_fault::RunFault;
-pub use sink::{Sink, write_all};
+pub use sink::{Sink, write_all, write_text};
 pub use source::Source;
 pub use std_sink::StdSink;
 pub use std_source::StdSource;

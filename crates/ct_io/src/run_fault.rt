@@ -1,3 +1,4 @@
+use crate::failed::Failed;
 use crate::line_fault::LineFault;
 use std::alloc::AllocError;
 
@@ -37,5 +38,17 @@ impl From<LineFault> for RunFault {
             LineFault::TooLong(_) => RunFault::TooLong,
             LineFault::Memory => RunFault::Memory,
         }
+    }
+}
+
+impl From<Failed> for RunFault {
+    ghost use Rattle.std.specs.Prelude.{◌≡◌};
+    ghost use Rattle.ct_io.specs.declared.run_fault.RunFault.TheVariants.{Write};
+
+    // What failed by itself, apart from the reading of lines, is a sink.
+    ghost from_gives = { λ _ fault. fault ≡ Write };
+
+    fn from(_: Failed) -> RunFault {
+        RunFault::Write
     }
 }

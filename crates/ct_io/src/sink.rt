@@ -1,9 +1,10 @@
-ghost use Rattle.std.specs.Prelude.{ℕ, ◌<◌, ◌≤◌, List, Option, IfOk, OnOk, OnErr, length, take};
+ghost use Rattle.std.specs.Prelude.{◌≡◌, ℕ, ◌<◌, ◌≤◌, List, Option, IfOk, IfErr, OnOk, OnErr, length, take};
 ghost use Rattle.std.specs.Io.KnownBytes.{Appends, WriteAppends};
 ghost use Rattle.ct_io.specs.Faults.{Rose};
 ghost use Rattle.ct_io.specs.Told.{AppendsProperPrefix};
 
 use crate::failed::Failed;
+use crate::run_fault::RunFault;
 
 /// What bytes are written to.
 pub trait Sink {
@@ -40,5 +41,16 @@ pub fn write_all<K: Sink>(sink: &mut K, bytes: &[u8]) -> Result<(), Failed>
     while at < bytes.len() {
         at += sink.write(&bytes[at..])?;
     }
+    Ok(())
+}
+
+/// Writes all of the output of a run, as `write_all` does.
+pub fn write_text<K: Sink>(sink: &mut K, text: &[u8]) -> Result<(), RunFault>
+    ensures written { OnOk result (Appends (K.holds sink.old) (K.holds sink.new) text.now) }
+    ensures unwritten { OnErr result (AppendsProperPrefix (K.holds sink.old) (K.holds sink.new) text.now) }
+    ensures fault { IfErr result (λ fault. fault ≡ RunFault.Write) }
+    ensures failed { OnErr result (Rose (K.faults sink.old) (K.faults sink.new)) }
+{
+    write_all(sink, text)?;
     Ok(())
 }

@@ -8,12 +8,13 @@ use Rattle.ct_find.specs.Reply.{Writes, WritesInPart}
 use Rattle.ct_find.proofs.Existence.{found_exists}
 use Rattle.ct_command_line.specs.declared.mode.Mode.TheVariants.{Find}
 use Rattle.ct_run.specs.declared.status.Status.TheVariants.{WriteFault}
-use Rattle.ct_run.specs.Exit.{mode_status}
+use Rattle.ct_run.specs.Exit.{result_status}
 use Rattle.ct_run.specs.Mode.{IsRunStatus, WritesOutput, WritesPrefix, WritesProperPrefix}
-use Rattle.ct_run.proofs.Verifying.{no_run_status, fault_of_status, kept_none}
+use Rattle.ct_run.proofs.Statuses.{sink_failed}
+use Rattle.ct_run.proofs.Verifying.{no_run_status, kept_none}
 
-pub output : (left old new : Option (List ℕ)) (r : Result Bool RunFault) → IfOk r (λ refused. Writes left old new refused) → IsRunStatus (mode_status r)
-    → WritesOutput Find left old new (mode_status r)
+pub output : (left old new : Option (List ℕ)) (r : Result Bool RunFault) → IfOk r (λ refused. Writes left old new refused) → IsRunStatus (result_status r)
+    → WritesOutput Find left old new (result_status r)
 output None old new (Ok refused) written done = tt
 output (Some input) old new (Ok refused) (text, found, appends) done = (text, refused, found, refl, appends)
 output left old new (Err f) written done = absurd (no_run_status f done)
@@ -35,7 +36,7 @@ prefix (Some input) old new (Err fault.Read) written part kept = nothing input o
 prefix (Some input) old new (Err fault.TooLong) written part kept = nothing input old new (kept (λ e. cc))
 prefix (Some input) old new (Err fault.Memory) written part kept = nothing input old new (kept (λ e. cc))
 
-pub in_part : (left old new : Option (List ℕ)) (r : Result Bool RunFault) → (r ≡ Err fault.Write → WritesInPart left old new) → mode_status r ≡ WriteFault
+pub in_part : (left old new : Option (List ℕ)) (r : Result Bool RunFault) → (r ≡ Err fault.Write → WritesInPart left old new) → result_status r ≡ WriteFault
     → WritesProperPrefix Find left old new
 in_part None old new r part e = tt
-in_part (Some input) old new r part e = part (fault_of_status r e)
+in_part (Some input) old new r part e = part (sink_failed r e)

@@ -1,4 +1,4 @@
--- What a status says of the session that it is of.
+-- What a status says of the mode that it is of, and of a session.
 use Rattle.std.proofs.Common.{◌≡◌, Bool, true, false, List, ℕ, Option, Some, None, Result, Ok, Err, refl}
 use Rattle.ct_io.specs.declared.run_fault.RunFault.{RunFault}
 use Rattle.ct_io.specs.declared.run_fault.RunFault.TheVariants as fault

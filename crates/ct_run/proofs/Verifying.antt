@@ -10,8 +10,9 @@ use Rattle.ct_verify.specs.Verdict.{verdict_of}
 use Rattle.ct_verify.specs.Verification.{is_no, verdict_line}
 use Rattle.ct_command_line.specs.declared.mode.Mode.TheVariants.{Verify}
 use Rattle.ct_run.specs.declared.status.Status.TheVariants.{WriteFault, ReadFault, TooLong, Memory}
-use Rattle.ct_run.specs.Exit.{mode_status}
+use Rattle.ct_run.specs.Exit.{result_status}
 use Rattle.ct_run.specs.Mode.{IsRunStatus, WritesOutput, WritesPrefix, WritesProperPrefix}
+use Rattle.ct_run.proofs.Statuses.{sink_failed}
 
 -- the verdict on what a source has left, where it tells this
 abbrev pub IsVerdict : Option (List ℕ) → Bool → Type 0
@@ -25,7 +26,7 @@ IsWritten left old new = IfSome left (λ input. Appends old new (verdict_line (v
 abbrev pub IsWrittenInPart : Option (List ℕ) → Option (List ℕ) → Option (List ℕ) → Type 0
 IsWrittenInPart left old new = IfSome left (λ input. AppendsProperPrefix old new (verdict_line (verdict_of input)))
 
-pub no_run_status : (f : RunFault) → IsRunStatus (mode_status (Err f)) → ⊥
+pub no_run_status : (f : RunFault) → IsRunStatus (result_status (Err f)) → ⊥
 no_run_status fault.Read (inl e) = cc
 no_run_status fault.Read (inr e) = cc
 no_run_status fault.Write (inl e) = cc
@@ -35,16 +36,8 @@ no_run_status fault.TooLong (inr e) = cc
 no_run_status fault.Memory (inl e) = cc
 no_run_status fault.Memory (inr e) = cc
 
-pub fault_of_status : (r : Result Bool RunFault) → mode_status r ≡ WriteFault → r ≡ Err fault.Write
-fault_of_status (Ok true) e = absurd cc
-fault_of_status (Ok false) e = absurd cc
-fault_of_status (Err fault.Read) e = absurd cc
-fault_of_status (Err fault.Write) e = refl
-fault_of_status (Err fault.TooLong) e = absurd cc
-fault_of_status (Err fault.Memory) e = absurd cc
-
-pub output : (left old new : Option (List ℕ)) (r : Result Bool RunFault) → IfOk r (IsVerdict left) → OnOk r (IsWritten left old new) → IsRunStatus (mode_status r)
-    → WritesOutput Verify left old new (mode_status r)
+pub output : (left old new : Option (List ℕ)) (r : Result Bool RunFault) → IfOk r (IsVerdict left) → OnOk r (IsWritten left old new) → IsRunStatus (result_status r)
+    → WritesOutput Verify left old new (result_status r)
 output None old new (Ok refused) is written done = tt
 output (Some input) old new (Ok refused) is written done = (verdict_line (verdict_of input), refused, (refl, is), refl, written)
 output left old new (Err f) is written done = absurd (no_run_status f done)
@@ -68,13 +61,13 @@ prefix (Some input) old new (Err fault.Read) written part kept = nothing input o
 prefix (Some input) old new (Err fault.TooLong) written part kept = nothing input old new (kept (λ e. cc))
 prefix (Some input) old new (Err fault.Memory) written part kept = nothing input old new (kept (λ e. cc))
 
-pub in_part : (left old new : Option (List ℕ)) (r : Result Bool RunFault) → (r ≡ Err fault.Write → IsWrittenInPart left old new) → mode_status r ≡ WriteFault → WritesProperPrefix Verify left old new
+pub in_part : (left old new : Option (List ℕ)) (r : Result Bool RunFault) → (r ≡ Err fault.Write → IsWrittenInPart left old new) → result_status r ≡ WriteFault → WritesProperPrefix Verify left old new
 in_part None old new r part e = tt
-in_part (Some input) old new r part e = (verdict_line (verdict_of input), is_no (verdict_of input), (refl, refl), part (fault_of_status r e))
+in_part (Some input) old new r part e = (verdict_line (verdict_of input), is_no (verdict_of input), (refl, refl), part (sink_failed r e))
 
 -- after another fault than one of the sink this holds what it held
 pub kept_after : (old new : Option (List ℕ)) (r : Result Bool RunFault) → IfErr r (λ f. f ≢ fault.Write → Keeps old new)
-    → (mode_status r ≡ ReadFault) ⊎ ((mode_status r ≡ TooLong) ⊎ (mode_status r ≡ Memory)) → Keeps old new
+    → (result_status r ≡ ReadFault) ⊎ ((result_status r ≡ TooLong) ⊎ (result_status r ≡ Memory)) → Keeps old new
 kept_after old new (Ok true) h (inl e) = absurd cc
 kept_after old new (Ok true) h (inr (inl e)) = absurd cc
 kept_after old new (Ok true) h (inr (inr e)) = absurd cc

@@ -1,4 +1,4 @@
--- Statuses: what they are of a session and of other modes, and the numbers with which the program ends.
+-- Statuses: what they are of the run of a mode, and the numbers with which the program ends.
 use Rattle.std.specs.Prelude.{ℕ, Bool, false, List, Option, Some, None, Result, Ok, Err, codes}
 use Rattle.ct_io.specs.declared.run_fault.RunFault.{RunFault}
 use Rattle.ct_io.specs.declared.run_fault.RunFault.TheVariants as run_fault
@@ -26,31 +26,19 @@ status_reason WriteFault = Some (codes "a write failed")
 status_reason TooLong = Some (codes "the input is longer than 67108864 bytes")
 status_reason Memory = Some (codes "out of memory")
 
--- the status of a session that is broken off
+-- the status of a run that is broken off
 abbrev pub fault_status : RunFault → Status
 fault_status run_fault.Read = ReadFault
 fault_status run_fault.Write = WriteFault
 fault_status run_fault.TooLong = TooLong
 fault_status run_fault.Memory = Memory
 
--- the status of a session
+-- the status of a mode
 abbrev pub result_status : Result Bool RunFault → Status
 result_status (Ok refused) = status_of refused
 result_status (Err reason) = fault_status reason
 
--- the status of another mode that is broken off
-abbrev pub broken_status : RunFault → Status
-broken_status run_fault.Read = ReadFault
-broken_status run_fault.Write = WriteFault
-broken_status run_fault.TooLong = TooLong
-broken_status run_fault.Memory = Memory
-
--- the status of another mode
-abbrev pub mode_status : Result Bool RunFault → Status
-mode_status (Ok refused) = status_of refused
-mode_status (Err reason) = broken_status reason
-
 -- the status of a mode in which nothing is refused
 abbrev pub summary_status : Result (Unit {0}) RunFault → Status
 summary_status (Ok done) = status_of false
-summary_status (Err reason) = broken_status reason
+summary_status (Err reason) = fault_status reason

@@ -7,7 +7,7 @@ ghost use Rattle.ct_io.specs.Told.{AppendsProperPrefix, WhereTold, IsAboveLimit,
 ghost use Rattle.ct_io.specs.declared.TheConstants.{MAX_INPUT, MAX_READ};
 ghost use Rattle.ct_run.specs.Mode.{is_reading, input_for, status_of, IsRunStatus, WritesOutput, WritesPrefix, WritesProperPrefix, LeftByMemory, LeftByReadFault, LeftByTooLong};
 ghost use Rattle.ct_command_line.specs.CommandLine.{mode_of, bytes_of};
-ghost use Rattle.ct_run.specs.Exit.{broken_status, fault_status, mode_status, result_status, summary_status};
+ghost use Rattle.ct_run.specs.Exit.{fault_status, result_status, summary_status};
 ghost use Rattle.ct_run.specs.Program.{usage_line, WritesUsage};
 
 use crate::serving::serve_session;
@@ -33,7 +33,7 @@ fn status_of(refused: bool) -> Status
     }
 }
 
-/// The status of a session that is broken off.
+/// The status of a run that is broken off.
 fn fault_status(fault: RunFault) -> Status
     ensures { result ≡ fault_status fault }
 {
@@ -45,7 +45,7 @@ fn fault_status(fault: RunFault) -> Status
     }
 }
 
-/// The status of a session, which tells whether a reply is a refusal, or why it is broken off.
+/// The status of a mode, which tells whether something is refused in its output, or why it is broken off.
 fn result_status(result_of: Result<bool, RunFault>) -> Status
     ensures { result ≡ result_status result_of }
 {
@@ -55,35 +55,13 @@ fn result_status(result_of: Result<bool, RunFault>) -> Status
     }
 }
 
-/// The status of another mode that is broken off.
-fn broken_status(fault: RunFault) -> Status
-    ensures { result ≡ broken_status fault }
-{
-    match fault {
-        RunFault::Read => Status::ReadFault,
-        RunFault::Write => Status::WriteFault,
-        RunFault::TooLong => Status::TooLong,
-        RunFault::Memory => Status::Memory,
-    }
-}
-
-/// The status of another mode, which tells whether its output is a refusal, or why it is broken off.
-fn mode_status(result_of: Result<bool, RunFault>) -> Status
-    ensures { result ≡ mode_status result_of }
-{
-    match result_of {
-        Ok(refused) => status_of(refused),
-        Err(fault) => broken_status(fault),
-    }
-}
-
 /// The status of a mode in which nothing is refused, or why it is broken off.
 fn summary_status(result_of: Result<(), RunFault>) -> Status
     ensures { result ≡ summary_status result_of }
 {
     match result_of {
         Ok(()) => status_of(false),
-        Err(fault) => broken_status(fault),
+        Err(fault) => fault_status(fault),
     }
 }
 
@@ -149,8 +127,8 @@ pub fn run<S: Source, K: Sink>(
 {
     match named_mode(alloc, words) {
         Ok(Some(Mode::Session)) => result_status(serve_session(alloc, source, sink)),
-        Ok(Some(Mode::Verify)) => mode_status(verify_source(alloc, source, sink)),
-        Ok(Some(Mode::Find)) => mode_status(find_source(alloc, source, sink)),
+        Ok(Some(Mode::Verify)) => result_status(verify_source(alloc, source, sink)),
+        Ok(Some(Mode::Find)) => result_status(find_source(alloc, source, sink)),
         Ok(Some(Mode::Sample(number))) => summary_status(write_sample(alloc, number, sink)),
         Ok(None) => write_usage(sink),
         Err(_) => Status::Memory,

@@ -7,7 +7,7 @@ ghost use Rattle.ct_io.specs.Told.{AppendsProperPrefix};
 ghost use Rattle.ct_sample.specs.Summary.{IsSampleOutput};
 
 use crate::summary::{sample, summary_text};
-use ct_io::{RunFault, Sink, write_all};
+use ct_io::{RunFault, Sink, write_text};
 use std::alloc::Global;
 
 /// Makes the sample of so many commands, and writes its seven lines. It reads nothing.
@@ -25,8 +25,5 @@ pub fn write_sample<K: Sink>(alloc: Global, number: u32, sink: &mut K) -> Result
 {
     let summary = sample(alloc, number)?;
     let text = summary_text(alloc, &summary)?;
-    match write_all(sink, &text) {
-        Ok(()) => Ok(()),
-        Err(_) => Err(RunFault::Write),
-    }
+    write_text(sink, &text)
 }

@@ -1,6 +1,6 @@
 //! The verdict on a derivation document that comes from a source.
 
-ghost use Rattle.std.specs.Prelude.{◌≡◌, ◌≢◌, ◌≤◌, ◌+◌, ◌↔◌, [], ◌∷◌, ◌++◌, Err, IfOk, IfErr, IfSome, OnOk, OnErr, length};
+ghost use Rattle.std.specs.Prelude.{◌≡◌, ◌≢◌, ◌≤◌, ◌+◌, ◌↔◌, [], ◌∷◌, ◌++◌, Err, IfOk, IfErr, IfSome, OnOk, length};
 ghost use Rattle.std.specs.Io.KnownBytes.{Appends, IsAtEnd};
 ghost use Rattle.ct_io.specs.Faults.{Rose};
 ghost use Rattle.ct_io.specs.Told.{AppendsProperPrefix, IsAboveLimit, WhereTold};
@@ -11,7 +11,7 @@ ghost use Rattle.ct_verify.specs.Verification.{is_no, verdict_line};
 use crate::text::verdict_text;
 use crate::verdict::Verdict;
 use crate::verifying::verify;
-use ct_io::{LINE_FEED, RunFault, Sink, Source, read_input, write_all};
+use ct_io::{LINE_FEED, RunFault, Sink, Source, read_input, write_text};
 use std::alloc::{AllocError, Global};
 
 /// Whether the verdict is no.
@@ -31,19 +31,6 @@ fn as_line(text: Vec<u8>) -> Result<Vec<u8>, AllocError>
     let mut line = text;
     line.push(LINE_FEED)?;
     Ok(line)
-}
-
-/// Writes all of the bytes.
-fn write_line<K: Sink>(sink: &mut K, line: &[u8]) -> Result<(), RunFault>
-    ensures written { OnOk result (Appends (K.holds sink.old) (K.holds sink.new) line.now) }
-    ensures unwritten { OnErr result (AppendsProperPrefix (K.holds sink.old) (K.holds sink.new) line.now) }
-    ensures fault { IfErr result (λ fault. fault ≡ RunFault.Write) }
-    ensures failed { OnErr result (Rose (K.faults sink.old) (K.faults sink.new)) }
-{
-    match write_all(sink, line) {
-        Ok(()) => Ok(()),
-        Err(_) => Err(RunFault::Write),
-    }
 }
 
 /// Verifies the derivation document that the source has left: reads it to its end, and writes the verdict as a line. `Ok` tells whether
@@ -76,6 +63,6 @@ pub fn verify_source<S: Source, K: Sink>(
     let verdict = verify(alloc, &input)?;
     let refused = is_no(verdict);
     let line = as_line(verdict_text(alloc, &verdict)?)?;
-    write_line(sink, &line)?;
+    write_text(sink, &line)?;
     Ok(refused)
 }

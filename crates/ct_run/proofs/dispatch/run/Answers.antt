@@ -17,7 +17,7 @@ pub returns-in-Ok-Some-Verify-clause-run : goal.returns-in-Ok-Some-Verify-clause
 returns-in-Ok-Some-Verify-clause-run g c =
     let is : mode_of (bytes_of c.args.words.now) ≡ Some Verify = sym c.in-Ok-Some-Verify.ensures ∙ c.in-Ok-Some-Verify.field-0-is ∙ ap Some c.in-Ok-Some-Verify.field-0-0-is in
     let e = c.verify_source.ensures in
-    rw (is, c.mode_status.ensures) (output _ _ _ c.verify_source.result e.verdict e.written)
+    rw (is, c.result_status-in-Ok-Some-Verify.ensures) (output _ _ _ c.verify_source.result e.verdict e.written)
 
 pub returns-in-Ok-Some-Verify-clause-prefix : goal.returns-in-Ok-Some-Verify-clause-prefix
 returns-in-Ok-Some-Verify-clause-prefix g c =
@@ -28,28 +28,28 @@ returns-in-Ok-Some-Verify-clause-prefix g c =
 pub returns-in-Ok-Some-Verify-clause-written_in_part : goal.returns-in-Ok-Some-Verify-clause-written_in_part
 returns-in-Ok-Some-Verify-clause-written_in_part g c =
     let is : mode_of (bytes_of c.args.words.now) ≡ Some Verify = sym c.in-Ok-Some-Verify.ensures ∙ c.in-Ok-Some-Verify.field-0-is ∙ ap Some c.in-Ok-Some-Verify.field-0-0-is in
-    rw (is, c.mode_status.ensures) (in_part _ _ _ c.verify_source.result c.verify_source.ensures.written_in_part)
+    rw (is, c.result_status-in-Ok-Some-Verify.ensures) (in_part _ _ _ c.verify_source.result c.verify_source.ensures.written_in_part)
 
 pub returns-in-Ok-Some-Verify-clause-after_read_fault : goal.returns-in-Ok-Some-Verify-clause-after_read_fault
 returns-in-Ok-Some-Verify-clause-after_read_fault g c =
     let is : mode_of (bytes_of c.args.words.now) ≡ Some Verify = sym c.in-Ok-Some-Verify.ensures ∙ c.in-Ok-Some-Verify.field-0-is ∙ ap Some c.in-Ok-Some-Verify.field-0-0-is in
-    rw (is, c.mode_status.ensures) (λ e. kept_after _ _ c.verify_source.result (kept_beside g.K.Sink.holds _ _ c.verify_source.result c.verify_source.ensures.unwritten) (inl e))
+    rw (is, c.result_status-in-Ok-Some-Verify.ensures) (λ e. kept_after _ _ c.verify_source.result (kept_beside g.K.Sink.holds _ _ c.verify_source.result c.verify_source.ensures.unwritten) (inl e))
 
 pub returns-in-Ok-Some-Verify-clause-after_too_long : goal.returns-in-Ok-Some-Verify-clause-after_too_long
 returns-in-Ok-Some-Verify-clause-after_too_long g c =
     let is : mode_of (bytes_of c.args.words.now) ≡ Some Verify = sym c.in-Ok-Some-Verify.ensures ∙ c.in-Ok-Some-Verify.field-0-is ∙ ap Some c.in-Ok-Some-Verify.field-0-0-is in
-    rw (is, c.mode_status.ensures) (λ e. kept_after _ _ c.verify_source.result (kept_beside g.K.Sink.holds _ _ c.verify_source.result c.verify_source.ensures.unwritten) (inr (inl e)))
+    rw (is, c.result_status-in-Ok-Some-Verify.ensures) (λ e. kept_after _ _ c.verify_source.result (kept_beside g.K.Sink.holds _ _ c.verify_source.result c.verify_source.ensures.unwritten) (inr (inl e)))
 
 pub returns-in-Ok-Some-Verify-clause-after_memory : goal.returns-in-Ok-Some-Verify-clause-after_memory
 returns-in-Ok-Some-Verify-clause-after_memory g c =
     let is : mode_of (bytes_of c.args.words.now) ≡ Some Verify = sym c.in-Ok-Some-Verify.ensures ∙ c.in-Ok-Some-Verify.field-0-is ∙ ap Some c.in-Ok-Some-Verify.field-0-0-is in
-    rw (is, c.mode_status.ensures) (λ e. kept_after _ _ c.verify_source.result (kept_beside g.K.Sink.holds _ _ c.verify_source.result c.verify_source.ensures.unwritten) (inr (inr e)))
+    rw (is, c.result_status-in-Ok-Some-Verify.ensures) (λ e. kept_after _ _ c.verify_source.result (kept_beside g.K.Sink.holds _ _ c.verify_source.result c.verify_source.ensures.unwritten) (inr (inr e)))
 
 pub returns-in-Ok-Some-Find-clause-run : goal.returns-in-Ok-Some-Find-clause-run
 returns-in-Ok-Some-Find-clause-run g c =
     let is : mode_of (bytes_of c.args.words.now) ≡ Some Find = sym c.in-Ok-Some-Find.ensures ∙ c.in-Ok-Some-Find.field-0-is ∙ ap Some c.in-Ok-Some-Find.field-0-0-is in
     let e = c.find_source.ensures in
-    rw (is, c.mode_status-in-Ok-Some-Find.ensures) (found_output _ _ _ c.find_source.result e.written)
+    rw (is, c.result_status-in-Ok-Some-Find.ensures) (found_output _ _ _ c.find_source.result e.written)
 
 pub returns-in-Ok-Some-Find-clause-prefix : goal.returns-in-Ok-Some-Find-clause-prefix
 returns-in-Ok-Some-Find-clause-prefix g c =
@@ -60,22 +60,22 @@ returns-in-Ok-Some-Find-clause-prefix g c =
 pub returns-in-Ok-Some-Find-clause-written_in_part : goal.returns-in-Ok-Some-Find-clause-written_in_part
 returns-in-Ok-Some-Find-clause-written_in_part g c =
     let is : mode_of (bytes_of c.args.words.now) ≡ Some Find = sym c.in-Ok-Some-Find.ensures ∙ c.in-Ok-Some-Find.field-0-is ∙ ap Some c.in-Ok-Some-Find.field-0-0-is in
-    rw (is, c.mode_status-in-Ok-Some-Find.ensures) (found_in_part _ _ _ c.find_source.result c.find_source.ensures.written_in_part)
+    rw (is, c.result_status-in-Ok-Some-Find.ensures) (found_in_part _ _ _ c.find_source.result c.find_source.ensures.written_in_part)
 
 pub returns-in-Ok-Some-Find-clause-after_read_fault : goal.returns-in-Ok-Some-Find-clause-after_read_fault
 returns-in-Ok-Some-Find-clause-after_read_fault g c =
     let is : mode_of (bytes_of c.args.words.now) ≡ Some Find = sym c.in-Ok-Some-Find.ensures ∙ c.in-Ok-Some-Find.field-0-is ∙ ap Some c.in-Ok-Some-Find.field-0-0-is in
-    rw (is, c.mode_status-in-Ok-Some-Find.ensures) (λ e. kept_after _ _ c.find_source.result (kept_beside g.K.Sink.holds _ _ c.find_source.result c.find_source.ensures.unwritten) (inl e))
+    rw (is, c.result_status-in-Ok-Some-Find.ensures) (λ e. kept_after _ _ c.find_source.result (kept_beside g.K.Sink.holds _ _ c.find_source.result c.find_source.ensures.unwritten) (inl e))
 
 pub returns-in-Ok-Some-Find-clause-after_too_long : goal.returns-in-Ok-Some-Find-clause-after_too_long
 returns-in-Ok-Some-Find-clause-after_too_long g c =
     let is : mode_of (bytes_of c.args.words.now) ≡ Some Find = sym c.in-Ok-Some-Find.ensures ∙ c.in-Ok-Some-Find.field-0-is ∙ ap Some c.in-Ok-Some-Find.field-0-0-is in
-    rw (is, c.mode_status-in-Ok-Some-Find.ensures) (λ e. kept_after _ _ c.find_source.result (kept_beside g.K.Sink.holds _ _ c.find_source.result c.find_source.ensures.unwritten) (inr (inl e)))
+    rw (is, c.result_status-in-Ok-Some-Find.ensures) (λ e. kept_after _ _ c.find_source.result (kept_beside g.K.Sink.holds _ _ c.find_source.result c.find_source.ensures.unwritten) (inr (inl e)))
 
 pub returns-in-Ok-Some-Find-clause-after_memory : goal.returns-in-Ok-Some-Find-clause-after_memory
 returns-in-Ok-Some-Find-clause-after_memory g c =
     let is : mode_of (bytes_of c.args.words.now) ≡ Some Find = sym c.in-Ok-Some-Find.ensures ∙ c.in-Ok-Some-Find.field-0-is ∙ ap Some c.in-Ok-Some-Find.field-0-0-is in
-    rw (is, c.mode_status-in-Ok-Some-Find.ensures) (λ e. kept_after _ _ c.find_source.result (kept_beside g.K.Sink.holds _ _ c.find_source.result c.find_source.ensures.unwritten) (inr (inr e)))
+    rw (is, c.result_status-in-Ok-Some-Find.ensures) (λ e. kept_after _ _ c.find_source.result (kept_beside g.K.Sink.holds _ _ c.find_source.result c.find_source.ensures.unwritten) (inr (inr e)))
 
 pub returns-in-Ok-Some-Sample-clause-run : goal.returns-in-Ok-Some-Sample-clause-run
 returns-in-Ok-Some-Sample-clause-run g c =
