@@ -1,3 +1,4 @@
+pub mod BufferedLemmas
 mod Copies
 pub mod FaultsLemmas
 mod FeedLemmas

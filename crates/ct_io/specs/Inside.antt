@@ -3,5 +3,6 @@ pub mod Buffer
 pub mod Filling
 pub mod Intake
 pub mod NextLine
+pub mod Room
 pub mod Settled
 pub mod WholeInput

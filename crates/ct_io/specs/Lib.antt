@@ -1,3 +1,4 @@
+pub mod Buffered
 pub mod Faults
 pub mod Inside
 pub mod Reader

@@ -4,6 +4,8 @@ ghost use Rattle.std.specs.Prelude.{◌≡◌, ◌≢◌, ℕ, ◌-◌, ◌^◌,
 ghost use Rattle.ct_io.specs.declared.TheConstants.{LINE_FEED};
 ghost use Rattle.ct_io.specs.Lines.{IsLine};
 ghost use Rattle.ct_io.specs.declared.TheConstants.{MAX_READ};
+ghost use Rattle.std.specs.Io.KnownBytes.{Appends};
+ghost use Rattle.ct_io.specs.Buffered.{Buffered, Puts, all_put};
 ghost use Rattle.ct_io.specs.Faults.{Rose};
 ghost use Rattle.ct_io.specs.Reader.{IsLineThenRead};
 ghost use Rattle.ct_io.specs.Told.{AppendsPrefix, AppendsProperPrefix};
@@ -30,4 +32,9 @@ pub fn prefixes_law()
 pub fn last_read_law()
     ensures { (line after : List ℕ) → IsLine line
         → (IsLineThenRead (line ++ LINE_FEED ∷ after) ↔ (length after < MAX_READ)) }
+{}
+
+/// The law of a text that was put: what the sink holds and what is gathered after it, both as one, grew by the text.
+pub fn puts_law()
+    ensures { (old new : Buffered) (text : List ℕ) → Puts old new text → Appends (all_put old) (all_put new) text }
 {}

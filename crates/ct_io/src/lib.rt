@@ -19,13 +19,14 @@ mod mem_sink;
 mod mem_source;
 mod run_fault;
 mod sink;
+mod sink_buffer;
 mod source;
 mod std_sink;
 mod std_source;
 
 pub use failed::Failed;
 pub use input::read_input;
-pub use laws::{faults_law, last_read_law, prefixes_law};
+pub use laws::{faults_law, last_read_law, prefixes_law, puts_law};
 pub use line_fault::LineFault;
 pub use line_reader::LineReader;
 pub use lines::lines_law;
@@ -33,6 +34,7 @@ pub use mem_sink::MemSink;
 pub use mem_source::MemSource;
 pub use run_fault::RunFault;
 pub use sink::{Sink, write_all, write_text};
+pub use sink_buffer::SinkBuffer;
 pub use source::Source;
 pub use std_sink::StdSink;
 pub use std_source::StdSource;
@@ -45,3 +47,6 @@ pub const MAX_READ: usize = 65_536;
 
 /// The byte that ends a line.
 pub const LINE_FEED: u8 = b'\n';
+
+/// The most bytes that are gathered for a sink before they are written, 32 KiB.
+pub const MAX_GATHERED: usize = 32_768;

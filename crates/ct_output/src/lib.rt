@@ -4,7 +4,6 @@
 mod code;
 mod dump;
 mod long_reply;
-mod parts;
 mod word_lines;
 
 pub use long_reply::put_long;

@@ -7,7 +7,7 @@ ghost use Rattle.ct_replies.specs.LongReply.{reply_of};
 
 use ct_answers::{explanation, show, submit_any, table, withdraw, withdraw_all};
 use ct_commands::Command;
-use ct_io::{RunFault, Sink};
+use ct_io::{Failed, Sink, SinkBuffer};
 use ct_ledger::Ledger;
 use ct_replies::{AnyReply, LongReply, Refusal, Reply, ledger_text};
 use ct_session::Answers;
@@ -92,9 +92,9 @@ impl Answers for LedgerAnswers {
     fn put_long<K: Sink>(
         &self,
         sink: &mut K,
-        gathered: &mut Vec<u8>,
+        buffer: &mut SinkBuffer,
         reply: &LongReply,
-    ) -> Result<(), RunFault> {
-        ct_output::put_long(sink, gathered, self.ledger.pieces(), reply)
+    ) -> Result<(), Failed> {
+        ct_output::put_long(sink, buffer, self.ledger.pieces(), reply)
     }
 }

@@ -16,6 +16,7 @@ use Rattle.ct_commands.specs.declared.command.Command.TheVariants as command
 use Rattle.ct_replies.specs.declared.reply.LongReply.{LongReply}
 use Rattle.ct_replies.specs.declared.reply.Reply.TheVariants.{Lines, Refused}
 use Rattle.ct_replies.specs.declared.reply.Refusal.TheVariants as refusal
+use Rattle.ct_session.specs.Inside.State.{State, TakesLines, PutsLines}
 use Rattle.ct_replies.specs.LongReply.{long_text}
 use Rattle.ct_replies.specs.Text.{reply_text}
 use Rattle.ct_replies.specs.declared.reply.Reply.{Reply}
@@ -69,3 +70,8 @@ pub cut_answers : (pieces : List PieceValue) (pending : Option Pending) (c : Com
     → PutsAnswers pieces (cut_off pending) true before (before ++ reply_text (Refused refusal.CutOff))
 cut_answers pieces None c before is = absurd cc
 cut_answers pieces (Some p) c before is = (reply_text (Refused refusal.CutOff), one_answer pieces command.CutOff (Refused refusal.CutOff) refl, refl)
+
+-- a line was taken: what stands after a text that was empty answers it
+pub line_taken : (s t : State) (line before after : List ℕ) → before ≡ [] → PutsLines s t (line ∷ []) before after → TakesLines s t (line ∷ []) after
+line_taken s t line before after none puts =
+    subst (TakesLines s t (line ∷ [])) (sym (puts.2 ∙ ap (λ (b : List ℕ). b ++ puts.0) none)) puts.1

@@ -8,5 +8,4 @@ pub mod Serving
 pub mod Endings
 mod PassingOver
 mod Gathering
-mod Outputs
 mod LineEndings

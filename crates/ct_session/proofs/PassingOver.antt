@@ -15,7 +15,7 @@ use Rattle.ct_commands.specs.declared.command_reader.Pending.{Pending}
 use Rattle.ct_commands.proofs.Forms.{completed-empty, open_after-empty}
 use Rattle.ct_session.specs.Reply.{pieces_after}
 use Rattle.ct_session.specs.Run.{AnswersCommands}
-use Rattle.ct_session.specs.Inside.Serving.{Follows, Given, PassesOver, Serves, unserved}
+use Rattle.ct_session.specs.Inside.Serving.{Devices, Follows, Given, PassesOver, Serves, unserved}
 use Rattle.ct_session.specs.Inside.State.{State, fresh_state, TakesLines}
 use Rattle.ct_session.proofs.Taking.{takes_more}
 
@@ -63,18 +63,19 @@ given_past left now lines held rest count e h = record {
 abbrev holding : Reader → List ℕ → Reader
 holding r rest = record r { held = rest }
 
-past : (r : Reader) (rest : List ℕ) (count : ℕ) (s : State) (g : List ℕ) (left now old held : Option (List ℕ)) (reads reads' writes writes' : ℕ) → Serves r s g left now old held reads reads' writes writes'
-    → s.pending ≡ None → r.held ≡ replicate count LINE_FEED ++ rest → Serves (holding r rest) s g left now old held reads reads' writes writes' × (unserved (holding r rest) ≤ unserved r)
-past r rest count s g left now old held reads reads' writes writes' h none e =
+past : (r : Reader) (rest : List ℕ) (count : ℕ) (s : State) (b n : Devices) → Serves r s b n
+    → s.pending ≡ None → r.held ≡ replicate count LINE_FEED ++ rest → Serves (holding r rest) s b n × (unserved (holding r rest) ≤ unserved r)
+past r rest count s b n h none e =
     let size = ap length e ∙ length-append (replicate count LINE_FEED) rest in
-    let inside = h.inside in (
+    let inside = h.inside in
+    let text = h.written ++ n.sink.gathered in (
       record {
         lines = h.lines ++ empty_lines count;
         written = h.written;
-        takes = subst (TakesLines fresh_state s (h.lines ++ empty_lines count)) (append-nil (h.written ++ g)) (takes_more fresh_state s s h.lines (empty_lines count) (h.written ++ g) [] h.takes (takes_empty s count none));
+        takes = subst (TakesLines fresh_state s (h.lines ++ empty_lines count)) (append-nil text) (takes_more fresh_state s s h.lines (empty_lines count) text [] h.takes (takes_empty s count none));
         wrote = h.wrote;
-        follows = follows_past left now r.ended h.lines r.held rest count e h.follows;
-        given = λ going. given_past left now h.lines r.held rest count e (h.given going);
+        follows = follows_past b.left n.left r.ended h.lines r.held rest count e h.follows;
+        given = λ going. given_past b.left n.left h.lines r.held rest count e (h.given going);
         took = h.took;
         within = h.within;
         inside = omega (arith, size, inside);
@@ -88,13 +89,10 @@ past r rest count s g left now old held reads reads' writes writes' h none e =
     )
 
 -- all that was served is served, and no more is left
-pub passed_over : (r q : Reader) (s : State) (g : List ℕ) (left now old held : Option (List ℕ)) (reads reads' writes writes' : ℕ) → Serves r s g left now old held reads reads' writes writes'
-    → PassesOver s r q → Serves q s g left now old held reads reads' writes writes' × (unserved q ≤ unserved r)
-passed_over r q s g left now old held reads reads' writes writes' h (inl p) =
-    subst (λ (x : Reader). Serves x s g left now old held reads reads' writes writes' × (unserved x ≤ unserved r)) (sym p.1.2)
-    (past r q.held p.1.0 s g left now old held reads reads' writes writes' h p.0 p.1.1)
-passed_over r q s g left now old held reads reads' writes writes' h (inr same) =
-    subst (λ (x : Reader). Serves x s g left now old held reads reads' writes writes' × (unserved x ≤ unserved r)) (sym same) (h, omega arith)
+pub passed_over : (r q : Reader) (s : State) (b n : Devices) → Serves r s b n → PassesOver s r q → Serves q s b n × (unserved q ≤ unserved r)
+passed_over r q s b n h (inl p) =
+    subst (λ (x : Reader). Serves x s b n × (unserved x ≤ unserved r)) (sym p.1.2) (past r q.held p.1.0 s b n h p.0 p.1.1)
+passed_over r q s b n h (inr same) = subst (λ (x : Reader). Serves x s b n × (unserved x ≤ unserved r)) (sym same) (h, omega arith)
 
 -- fewer than what is no more than before
 pub sooner : (q p r : ℕ) → q < p → p ≤ r → q < r

@@ -15,14 +15,15 @@ use Rattle.ct_io.specs.declared.line_fault.LineFault.{LineFault}
 use Rattle.ct_io.specs.declared.line_fault.LineFault.TheVariants as line_fault
 use Rattle.ct_io.specs.Reader.{Reader, fresh_reader, input_of, LosesFirstLine, Takes, NeedsNoRead, IsLineThenRead}
 use Rattle.ct_io.proofs.ReaderLemmas.{Takes-line, Takes-within}
+use Rattle.ct_io.specs.Buffered.{Buffered, Puts, Stops}
+use Rattle.ct_io.proofs.BufferedLemmas.{after_all}
 use Rattle.ct_io.specs.Told.{WhereTold, IsAboveLimit, AppendsProperPrefix}
 use Rattle.ct_commands.specs.Command.{completed, commands_of, cut_off}
 use Rattle.ct_session.specs.Run.{AnswersCommands, IsRun, PutsAnswers}
 use Rattle.ct_session.specs.Serve.{WritesRun, WritesRunPrefix, WritesRunProperPrefix, AnswersLines, AnswersTaken, AnswersButLastBytes, WritesWholeReplies}
-use Rattle.ct_session.specs.Inside.Serving.{Follows, LeavesFew, Took, Given, Serves, unserved}
-use Rattle.ct_session.specs.Inside.State.{State, fresh_state, TakesLines, PutsLines}
+use Rattle.ct_session.specs.Inside.Serving.{Devices, Follows, LeavesFew, Took, Given, Serves, unserved}
+use Rattle.ct_session.specs.Inside.State.{State, fresh_state, TakesLines}
 use Rattle.ct_session.specs.Inside.Writing.{IsReady}
-use Rattle.ct_replies.specs.Writing.{WritesSome}
 use Rattle.ct_session.proofs.Taking.{takes_none, takes_more, whole_run, prefix_written, proper_prefix_written}
 
 -- ---- the bytes that were taken
@@ -68,10 +69,9 @@ line_advances r q now next line h inside within =
     let held = Takes-within r q now next (Ok (Some line)) h inside in
     (omega (arith, given, held), held)
 
-pub advances : (r q : Reader) (s : State) (gathered : List ℕ) (left now next old held : Option (List ℕ)) (reads reads' writes writes' : ℕ) (line : Vec ℕ Global)
-    → Serves r s gathered left now old held reads reads' writes writes' → Takes r q now next (Ok (Some line)) → q.taken ≤ MAX_INPUT
+pub advances : (r q : Reader) (s : State) (b n : Devices) (next : Option (List ℕ)) (line : Vec ℕ Global) → Serves r s b n → Takes r q n.left next (Ok (Some line)) → q.taken ≤ MAX_INPUT
     → unserved q < unserved r
-advances r q s gathered left now next old held reads reads' writes writes' line h takes within = (line_advances r q now next line takes h.inside within).0
+advances r q s b n next line h takes within = (line_advances r q n.left next line takes h.inside within).0
 
 -- once the end was seen, the source is at its end
 pub at_end : {S : Type 0} (left : S → Option (List ℕ)) (old new : S) (was is : Bool) → (was ≡ true → IsAtEnd (left old)) → (was ≡ false → is ≡ true → IsAtEnd (left new))
@@ -87,15 +87,15 @@ follows_none None = tt
 follows_none (Some input) = refl
 
 -- before the first line
-pub begins : (left held : Option (List ℕ)) (reads writes : ℕ) → Serves fresh_reader fresh_state [] left left held held reads reads writes writes
-begins left held reads writes = record {
+pub begins : (b : Devices) → b.sink.gathered ≡ [] → Serves fresh_reader fresh_state b b
+begins b none = record {
   lines = [];
   written = [];
-  takes = takes_none fresh_state;
-  wrote = Appends-nil held;
-  follows = follows_none left;
-  given = λ _. record { bytes = []; taken = Consumes-nil left; divided = refl; whole = All-nil IsLine };
-  took = took_none left;
+  takes = subst (TakesLines fresh_state fresh_state []) (sym none) (takes_none fresh_state);
+  wrote = Appends-nil b.sink.held;
+  follows = follows_none b.left;
+  given = λ _. record { bytes = []; taken = Consumes-nil b.left; divided = refl; whole = All-nil IsLine };
+  took = took_none b.left;
   within = omega arith;
   inside = omega arith;
   few = omega arith;
@@ -105,16 +105,25 @@ begins left held reads writes = record {
   write_count = omega arith;
 }
 
--- some of the gathered replies were written
-pub after_writing : (r : Reader) (s : State) (g g' : List ℕ) (left now old held new : Option (List ℕ)) (reads reads' writes writes' writes'' : ℕ) → Serves r s g left now old held reads reads' writes writes'
-    → WritesSome g g' held new → writes' ≤ writes'' → Serves r s g' left now old new reads reads' writes writes''
-after_writing r s g g' left now old held new reads reads' writes writes' writes'' h w counted =
+-- the same source, and another sink
+abbrev pub with_sink : Devices → Buffered → Devices
+with_sink n k = record { left = n.left; reads = n.reads; sink = k }
+
+-- a sink for which a text is gathered too
+abbrev pub with_text : Buffered → List ℕ → Buffered
+with_text b text = record { held = b.held; gathered = b.gathered ++ text; faults = b.faults }
+
+-- some of what is gathered was written
+pub after_writing : (r : Reader) (s : State) (b n : Devices) (k : Buffered) → Serves r s b n → Puts n.sink k [] → Serves r s b (with_sink n k)
+after_writing r s b n k h w =
     let before = h.write_count in
+    let counted = w.counted in
     record {
       lines = h.lines;
-      written = h.written ++ w.0;
-      takes = subst (TakesLines fresh_state s h.lines) (ap (λ (t : List ℕ). h.written ++ t) w.1 ∙ sym (append_assoc h.written w.0 g')) h.takes;
-      wrote = Appends-trans old held new _ _ h.wrote w.2;
+      written = h.written ++ w.written;
+      takes = subst (TakesLines fresh_state s h.lines)
+          (ap (λ (t : List ℕ). h.written ++ t) (sym (append-nil n.sink.gathered) ∙ w.parted) ∙ sym (append_assoc h.written w.written k.gathered)) h.takes;
+      wrote = Appends-trans b.sink.held n.sink.held k.held _ _ h.wrote w.wrote;
       follows = h.follows;
       given = h.given;
       took = h.took;
@@ -126,6 +135,13 @@ after_writing r s g g' left now old held new reads reads' writes writes' writes'
       read_count = h.read_count;
       write_count = omega (arith, before, counted);
     }
+
+-- a text that is put is first gathered, and then some of it may be written
+pub puts_later : (a c : Buffered) (text : List ℕ) → Puts a c text → Puts (with_text a text) c []
+puts_later a c text w = record { written = w.written; parted = append-nil (a.gathered ++ text) ∙ w.parted; wrote = w.wrote; counted = w.counted }
+
+pub stops_later : (a c : Buffered) (text : List ℕ) → Stops a c text → Stops (with_text a text) c []
+stops_later a c text w = record { part = subst (AppendsProperPrefix a.held c.held) (sym (append-nil (a.gathered ++ text))) w.part; rose = w.rose }
 
 follows_on : (left now next : Option (List ℕ)) (lines : List (List ℕ)) (line : List ℕ) → Follows left now lines → LosesFirstLine now next line → Follows left next (lines ++ line ∷ [])
 follows_on None now next lines line h e = tt
@@ -152,21 +168,22 @@ not_ended true is h e = let yes = h refl in absurd cc
 not_ended false is h e = refl
 
 -- a line was given and taken
-pub serves_on : (r q : Reader) (s t : State) (g g' : List ℕ) (left now next old held : Option (List ℕ)) (reads reads' reads'' writes writes' : ℕ) (line : Vec ℕ Global)
-    → Serves r s g left now old held reads reads' writes writes' → LosesFirstLine (input_of r now) (input_of q next) line.items → Takes r q now next (Ok (Some line)) → q.taken ≤ MAX_INPUT
-    → (r.ended ≡ true → q.ended ≡ true) → (q.ended ≡ true → IsAtEnd next) → q.fault ≡ None → reads' ≤ reads'' → length q.held ≤ MAX_READ → PutsLines s t (line.items ∷ []) g g'
-    → Serves q t g' left next old held reads reads'' writes writes'
-serves_on r q s t g g' left now next old held reads reads' reads'' writes writes' line h loses takes within lasts ended healthy counted few puts =
-    let advance = line_advances r q now next line takes h.inside within in
+pub serves_on : (r q : Reader) (s t : State) (b n : Devices) (next : Option (List ℕ)) (reads : ℕ) (line : Vec ℕ Global) (text : List ℕ)
+    → Serves r s b n → LosesFirstLine (input_of r n.left) (input_of q next) line.items → Takes r q n.left next (Ok (Some line)) → q.taken ≤ MAX_INPUT
+    → (r.ended ≡ true → q.ended ≡ true) → (q.ended ≡ true → IsAtEnd next) → q.fault ≡ None → n.reads ≤ reads → length q.held ≤ MAX_READ → TakesLines s t (line.items ∷ []) text
+    → Serves q t b (record { left = next; reads = reads; sink = with_text n.sink text })
+serves_on r q s t b n next reads line text h loses takes within lasts ended healthy counted few puts =
+    let advance = line_advances r q n.left next line takes h.inside within in
     let before = h.read_count in
     record {
       lines = h.lines ++ line.items ∷ [];
       written = h.written;
-      takes = subst (TakesLines fresh_state t (h.lines ++ line.items ∷ [])) (append_assoc h.written g puts.0 ∙ ap (λ (x : List ℕ). h.written ++ x) (sym puts.2)) (takes_more fresh_state s t h.lines (line.items ∷ []) (h.written ++ g) puts.0 h.takes puts.1);
+      takes = subst (TakesLines fresh_state t (h.lines ++ line.items ∷ [])) (append_assoc h.written n.sink.gathered text)
+          (takes_more fresh_state s t h.lines (line.items ∷ []) (h.written ++ n.sink.gathered) text h.takes puts);
       wrote = h.wrote;
-      follows = follows_on left (input_of r now) (input_of q next) h.lines line.items h.follows loses;
-      given = λ going. given_on r q left now next h.lines line (h.given (not_ended r.ended q.ended lasts going)) takes going;
-      took = took_more left now next r.taken q.taken takes.0 h.took takes.1 takes.2;
+      follows = follows_on b.left (input_of r n.left) (input_of q next) h.lines line.items h.follows loses;
+      given = λ going. given_on r q b.left n.left next h.lines line (h.given (not_ended r.ended q.ended lasts going)) takes going;
+      took = took_more b.left n.left next r.taken q.taken takes.0 h.took takes.1 takes.2;
       within = within;
       inside = advance.1;
       few = few;
@@ -194,21 +211,21 @@ follows_to_end (Some input) None lines held h at none = absurd h
 follows_to_end (Some input) (Some before) lines held h at none = h ∙ ap (λ (b : List ℕ). lines ++ lines_of b) (at ∙ sym none)
 
 -- no line was left, and all of the input was taken
-pub serves_to_end : (r q : Reader) (s : State) (g : List ℕ) (left now next old held : Option (List ℕ)) (reads reads' reads'' writes writes' : ℕ) → Serves r s g left now old held reads reads' writes writes'
-    → IsAtEnd (input_of r now) → Takes r q now next (Ok None) → q.taken ≤ MAX_INPUT → q.held ≡ [] → q.ended ≡ true → IsAtEnd next → q.fault ≡ None → reads' ≤ reads''
-    → Serves q s g left next old held reads reads'' writes writes'
-serves_to_end r q s g left now next old held reads reads' reads'' writes writes' h at takes within none ended done healthy counted =
+pub serves_to_end : (r q : Reader) (s : State) (b n : Devices) (next : Option (List ℕ)) (reads : ℕ) → Serves r s b n
+    → IsAtEnd (input_of r n.left) → Takes r q n.left next (Ok None) → q.taken ≤ MAX_INPUT → q.held ≡ [] → q.ended ≡ true → IsAtEnd next → q.fault ≡ None → n.reads ≤ reads
+    → Serves q s b (record { left = next; reads = reads; sink = n.sink })
+serves_to_end r q s b n next reads h at takes within none ended done healthy counted =
     let before = h.read_count in
     record {
       lines = h.lines;
       written = h.written;
       takes = h.takes;
       wrote = h.wrote;
-      follows = subst (λ (i : Option (List ℕ)). Follows left i h.lines) (sym (input_of-ended q next ended)) (follows_to_end left (input_of r now) h.lines q.held h.follows at none);
+      follows = subst (λ (i : Option (List ℕ)). Follows b.left i h.lines) (sym (input_of-ended q next ended)) (follows_to_end b.left (input_of r n.left) h.lines q.held h.follows at none);
       given = λ going. absurd cc;
-      took = took_more left now next r.taken q.taken takes.0 h.took takes.1 takes.2;
+      took = took_more b.left n.left next r.taken q.taken takes.0 h.took takes.1 takes.2;
       within = within;
-      inside = Takes-within r q now next (Ok None) takes h.inside;
+      inside = Takes-within r q n.left next (Ok None) takes h.inside;
       few = omega (arith, ap length none);
       ended = λ e. done;
       healthy = healthy;
@@ -219,18 +236,18 @@ serves_to_end r q s g left now next old held reads reads' reads'' writes writes'
 -- ---- the ends
 
 -- of the replies that are gathered a prefix was written
-pub prefix_of : (r : Reader) (s : State) (g : List ℕ) (left now old held new : Option (List ℕ)) (reads reads' writes writes' : ℕ) (front back : List ℕ) → Serves r s g left now old held reads reads' writes writes'
-    → g ≡ front ++ back → Appends held new front → WritesRunPrefix left old new
-prefix_of r s g left now old held new reads reads' writes writes' front back h parts written =
-    prefix_written left (input_of r now) old new s h.lines (h.written ++ g) (h.written ++ front) back h.takes h.follows
-    (ap (λ (t : List ℕ). h.written ++ t) parts ∙ sym (append_assoc h.written front back)) (Appends-trans old held new _ _ h.wrote written)
+pub prefix_of : (r : Reader) (s : State) (b n : Devices) (new : Option (List ℕ)) (front back : List ℕ) → Serves r s b n
+    → n.sink.gathered ≡ front ++ back → Appends n.sink.held new front → WritesRunPrefix b.left b.sink.held new
+prefix_of r s b n new front back h parts written =
+    prefix_written b.left (input_of r n.left) b.sink.held new s h.lines (h.written ++ n.sink.gathered) (h.written ++ front) back h.takes h.follows
+    (ap (λ (t : List ℕ). h.written ++ t) parts ∙ sym (append_assoc h.written front back)) (Appends-trans b.sink.held n.sink.held new _ _ h.wrote written)
 
 -- and some of them is left
-pub proper_prefix_of : (r : Reader) (s : State) (g : List ℕ) (left now old held new : Option (List ℕ)) (reads reads' writes writes' : ℕ) → Serves r s g left now old held reads reads' writes writes'
-    → AppendsProperPrefix held new g → WritesRunProperPrefix left old new
-proper_prefix_of r s g left now old held new reads reads' writes writes' h part =
-    proper_prefix_written left (input_of r now) old new s h.lines (h.written ++ g) (h.written ++ part.0) part.1 h.takes h.follows
-    (ap (λ (t : List ℕ). h.written ++ t) part.2 ∙ sym (append_assoc h.written part.0 part.1)) part.3 (Appends-trans old held new _ _ h.wrote part.4)
+pub proper_prefix_of : (r : Reader) (s : State) (b n : Devices) (new : Option (List ℕ)) → Serves r s b n
+    → AppendsProperPrefix n.sink.held new n.sink.gathered → WritesRunProperPrefix b.left b.sink.held new
+proper_prefix_of r s b n new h part =
+    proper_prefix_written b.left (input_of r n.left) b.sink.held new s h.lines (h.written ++ n.sink.gathered) (h.written ++ part.0) part.1 h.takes h.follows
+    (ap (λ (t : List ℕ). h.written ++ t) part.2 ∙ sym (append_assoc h.written part.0 part.1)) part.3 (Appends-trans b.sink.held n.sink.held new _ _ h.wrote part.4)
 
 -- a prefix of which some is left is one
 pub weaker_prefix : (left old new : Option (List ℕ)) → WritesRunProperPrefix left old new → WritesRunPrefix left old new
@@ -257,23 +274,33 @@ run_answers (Some other) (Some bytes) s lines text more b h follows at k input e
     (subst (λ (ls : List (List ℕ)). AnswersCommands [] (commands_of ls) (text ++ more) (s.refused || b)) (sym (all_lines other bytes lines follows at)) (whole_run s lines text more b h k))
 
 -- the whole run was written
-pub run_of : (r : Reader) (s : State) (g g' : List ℕ) (left now old held new : Option (List ℕ)) (reads reads' writes writes' : ℕ) (all b : Bool) → Serves r s g left now old held reads reads' writes writes'
-    → IsAtEnd (input_of r now) → PutsAnswers s.pieces (cut_off s.pending) b g g' → all ≡ (s.refused || b) → Appends held new g' → WritesRun left old new all
-run_of r s g g' None now old held new reads reads' writes writes' all b h at puts mark written = tt
-run_of r s g g' (Some input) now old held new reads reads' writes writes' all b h at puts mark written =
-    let run = run_answers (Some input) (input_of r now) s h.lines (h.written ++ g) puts.0 b h.takes h.follows at puts.1 input refl in
-    let spelled : (h.written ++ g) ++ puts.0 ≡ h.written ++ g' = append_assoc h.written g puts.0 ∙ ap (λ (t : List ℕ). h.written ++ t) (sym puts.2) in
-    (h.written ++ g', subst (λ (m : Bool). IsRun input (h.written ++ g') m) (sym mark) (subst (λ (t : List ℕ). IsRun input t (s.refused || b)) spelled run), Appends-trans old held new _ _ h.wrote written)
+run_written : (left now old new : Option (List ℕ)) (s : State) (lines : List (List ℕ)) (text more : List ℕ) (all b : Bool) → TakesLines fresh_state s lines text → Follows left now lines → IsAtEnd now
+    → AnswersCommands s.pieces (cut_off s.pending) more b → all ≡ (s.refused || b) → Appends old new (text ++ more) → WritesRun left old new all
+run_written None now old new s lines text more all b h follows at k mark wrote = tt
+run_written (Some input) now old new s lines text more all b h follows at k mark wrote =
+    (text ++ more, subst (IsRun input (text ++ more)) (sym mark) (run_answers (Some input) now s lines text more b h follows at k input refl), wrote)
+
+pub run_of : (r : Reader) (s : State) (b n : Devices) (new : Option (List ℕ)) (text : List ℕ) (all m : Bool) → Serves r s b n → IsAtEnd (input_of r n.left)
+    → PutsAnswers s.pieces (cut_off s.pending) m [] text → all ≡ (s.refused || m) → Appends n.sink.held new (n.sink.gathered ++ text) → WritesRun b.left b.sink.held new all
+run_of r s b n new text all m h at puts mark written =
+    let more = puts.0 in
+    let last = subst (λ (t : List ℕ). Appends n.sink.held new (n.sink.gathered ++ t)) puts.2 written in
+    run_written b.left (input_of r n.left) b.sink.held new s h.lines (h.written ++ n.sink.gathered) more all m h.takes h.follows at puts.1 mark
+    (subst (Appends b.sink.held new) (sym (append_assoc h.written n.sink.gathered more)) (Appends-trans b.sink.held n.sink.held new h.written (n.sink.gathered ++ more) h.wrote last))
 
 -- of the whole run a proper prefix was written
-pub run_in_part : (r : Reader) (s : State) (g g' : List ℕ) (left now old held new : Option (List ℕ)) (reads reads' writes writes' : ℕ) (b : Bool) → Serves r s g left now old held reads reads' writes writes'
-    → IsAtEnd (input_of r now) → PutsAnswers s.pieces (cut_off s.pending) b g g' → AppendsProperPrefix held new g' → WritesRunProperPrefix left old new
-run_in_part r s g g' None now old held new reads reads' writes writes' b h at puts part = tt
-run_in_part r s g g' (Some input) now old held new reads reads' writes writes' b h at puts part =
-    let run = run_answers (Some input) (input_of r now) s h.lines (h.written ++ g) puts.0 b h.takes h.follows at puts.1 input refl in
-    let spelled : (h.written ++ g) ++ puts.0 ≡ (h.written ++ part.0) ++ part.1 =
-    append_assoc h.written g puts.0 ∙ ap (λ (t : List ℕ). h.written ++ t) (sym puts.2) ∙ ap (λ (t : List ℕ). h.written ++ t) part.2 ∙ sym (append_assoc h.written part.0 part.1) in
-    ((h.written ++ g) ++ puts.0, s.refused || b, run, (h.written ++ part.0, part.1, spelled, part.3, Appends-trans old held new _ _ h.wrote part.4))
+run_written_in_part : (left now old new : Option (List ℕ)) (s : State) (lines : List (List ℕ)) (text more : List ℕ) (b : Bool) → TakesLines fresh_state s lines text → Follows left now lines → IsAtEnd now
+    → AnswersCommands s.pieces (cut_off s.pending) more b → AppendsProperPrefix old new (text ++ more) → WritesRunProperPrefix left old new
+run_written_in_part None now old new s lines text more b h follows at k part = tt
+run_written_in_part (Some input) now old new s lines text more b h follows at k part = (text ++ more, s.refused || b, run_answers (Some input) now s lines text more b h follows at k input refl, part)
+
+pub run_in_part : (r : Reader) (s : State) (b n : Devices) (new : Option (List ℕ)) (text : List ℕ) (m : Bool) → Serves r s b n → IsAtEnd (input_of r n.left)
+    → PutsAnswers s.pieces (cut_off s.pending) m [] text → AppendsProperPrefix n.sink.held new (n.sink.gathered ++ text) → WritesRunProperPrefix b.left b.sink.held new
+run_in_part r s b n new text m h at puts part =
+    let more = puts.0 in
+    let last = subst (λ (t : List ℕ). AppendsProperPrefix n.sink.held new (n.sink.gathered ++ t)) puts.2 part in
+    run_written_in_part b.left (input_of r n.left) b.sink.held new s h.lines (h.written ++ n.sink.gathered) more m h.takes h.follows at puts.1
+    (subst (AppendsProperPrefix b.sink.held new) (sym (append_assoc h.written n.sink.gathered more)) (after_all b.sink.held n.sink.held new h.written (n.sink.gathered ++ more) h.wrote last))
 
 -- ---- a source that failed, and one that is too long
 
@@ -305,32 +332,35 @@ lines_answered : (s : State) (lines : List (List ℕ)) (text tail : List ℕ) (o
 lines_answered s lines text tail old held h whole line wrote =
     (text, h.refused, subst (λ (ls : List (List ℕ)). AnswersCommands [] (completed None ls) text h.refused) (sym (whole_lines-ended lines tail whole line)) h.answers, wrote)
 
-pub taken_answered : (r q : Reader) (s : State) (g : List ℕ) (left now next old held : Option (List ℕ)) (reads reads' writes writes' : ℕ) (fault : LineFault) → Serves r s g left now old held reads reads' writes writes'
-    → g ≡ [] → Takes r q now next (Err fault) → IsLine q.held → (r.ended ≡ true → q.ended ≡ true) → q.ended ≡ false → AnswersTaken left next old held
-taken_answered r q s g None now next old held reads reads' writes writes' fault h none takes line lasts going = tt
-taken_answered r q s g (Some input) now next old held reads reads' writes writes' fault h none takes line lasts going =
-    let given = taken_now r q (Some input) now next h.lines fault (h.given (not_ended r.ended q.ended lasts going)) takes in
-    let text = ap (λ (t : List ℕ). h.written ++ t) none ∙ append-nil h.written in (
-      given.bytes,
-      given.taken,
-      subst (λ (b : List ℕ). AnswersLines b old held) (sym given.divided)
-          (lines_answered s h.lines h.written q.held old held (subst (TakesLines fresh_state s h.lines) text h.takes) given.whole line h.wrote),
-    )
+answers_taken : (left next old held : Option (List ℕ)) (s : State) (lines : List (List ℕ)) (text tail : List ℕ) → Given left next lines tail → TakesLines fresh_state s lines text → IsLine tail → Appends old held text
+    → AnswersTaken left next old held
+answers_taken None next old held s lines text tail given h line wrote = tt
+answers_taken (Some input) next old held s lines text tail given h line wrote =
+    (given.bytes, given.taken, subst (λ (b : List ℕ). AnswersLines b old held) (sym given.divided) (lines_answered s lines text tail old held h given.whole line wrote))
 
-pub last_bytes_unanswered : (r q : Reader) (s : State) (g : List ℕ) (left now next old held : Option (List ℕ)) (reads reads' writes writes' : ℕ) (fault : LineFault) → Serves r s g left now old held reads reads' writes writes'
-    → g ≡ [] → Takes r q now next (Err fault) → IsLineThenRead q.held → (r.ended ≡ true → q.ended ≡ true) → q.ended ≡ false → AnswersButLastBytes left next old held
-last_bytes_unanswered r q s g None now next old held reads reads' writes writes' fault h none takes part lasts going = tt
-last_bytes_unanswered r q s g (Some input) now next old held reads reads' writes writes' fault h none takes part lasts going =
-    let given = taken_now r q (Some input) now next h.lines fault (h.given (not_ended r.ended q.ended lasts going)) takes in
-    let text = ap (λ (t : List ℕ). h.written ++ t) none ∙ append-nil h.written in
-    let front = ended_lines h.lines ++ part.0 in
-    let spelled : given.bytes ≡ front ++ part.1 = given.divided ∙ ap (λ (b : List ℕ). ended_lines h.lines ++ b) part.2 ∙ sym (append_assoc (ended_lines h.lines) part.0 part.1) in (
-      front,
-      part.1,
-      subst (Consumes (Some input) next) spelled given.taken,
-      part.4,
-      lines_answered s h.lines h.written part.0 old held (subst (TakesLines fresh_state s h.lines) text h.takes) given.whole part.3 h.wrote,
-    )
+-- what was written answers the lines that were taken, where nothing is gathered
+all_answered : (r : Reader) (s : State) (b n : Devices) (h : Serves r s b n) → n.sink.gathered ≡ [] → TakesLines fresh_state s h.lines h.written
+all_answered r s b n h none = subst (TakesLines fresh_state s h.lines) (ap (λ (t : List ℕ). h.written ++ t) none ∙ append-nil h.written) h.takes
+
+pub taken_answered : (r q : Reader) (s : State) (b n : Devices) (next : Option (List ℕ)) (fault : LineFault) → Serves r s b n
+    → n.sink.gathered ≡ [] → Takes r q n.left next (Err fault) → IsLine q.held → (r.ended ≡ true → q.ended ≡ true) → q.ended ≡ false → AnswersTaken b.left next b.sink.held n.sink.held
+taken_answered r q s b n next fault h none takes line lasts going =
+    answers_taken b.left next b.sink.held n.sink.held s h.lines h.written q.held
+    (taken_now r q b.left n.left next h.lines fault (h.given (not_ended r.ended q.ended lasts going)) takes) (all_answered r s b n h none) line h.wrote
+
+answers_but_last : (left next old held : Option (List ℕ)) (s : State) (lines : List (List ℕ)) (text tail : List ℕ) → Given left next lines tail → TakesLines fresh_state s lines text → IsLineThenRead tail → Appends old held text
+    → AnswersButLastBytes left next old held
+answers_but_last None next old held s lines text tail given h part wrote = tt
+answers_but_last (Some input) next old held s lines text tail given h part wrote =
+    let front = ended_lines lines ++ part.0 in
+    let spelled : given.bytes ≡ front ++ part.1 = given.divided ∙ ap (λ (b : List ℕ). ended_lines lines ++ b) part.2 ∙ sym (append_assoc (ended_lines lines) part.0 part.1) in
+    (front, part.1, subst (Consumes (Some input) next) spelled given.taken, part.4, lines_answered s lines text part.0 old held h given.whole part.3 wrote)
+
+pub last_bytes_unanswered : (r q : Reader) (s : State) (b n : Devices) (next : Option (List ℕ)) (fault : LineFault) → Serves r s b n
+    → n.sink.gathered ≡ [] → Takes r q n.left next (Err fault) → IsLineThenRead q.held → (r.ended ≡ true → q.ended ≡ true) → q.ended ≡ false → AnswersButLastBytes b.left next b.sink.held n.sink.held
+last_bytes_unanswered r q s b n next fault h none takes part lasts going =
+    answers_but_last b.left next b.sink.held n.sink.held s h.lines h.written q.held
+    (taken_now r q b.left n.left next h.lines fault (h.given (not_ended r.ended q.ended lasts going)) takes) (all_answered r s b n h none) part h.wrote
 
 -- where all that was gathered is written, what was written is whole replies
 replies_written : (left now next old new : Option (List ℕ)) (s : State) (lines : List (List ℕ)) (text : List ℕ) → TakesLines fresh_state s lines text → Follows left now lines → LeavesFew now next → Appends old new text → WritesWholeReplies left next old new
@@ -338,7 +368,7 @@ replies_written None now next old new s lines text h follows few wrote = tt
 replies_written (Some input) None next old new s lines text h follows few wrote = absurd follows
 replies_written (Some input) (Some rest) next old new s lines text h follows few wrote = (lines, lines_of rest, text, h.refused, follows, few, h.answers, wrote)
 
-pub whole_replies : (r : Reader) (s : State) (g : List ℕ) (left now next old held new : Option (List ℕ)) (reads reads' writes writes' : ℕ) → Serves r s g left now old held reads reads' writes writes'
-    → LeavesFew (input_of r now) next → Appends held new g → WritesWholeReplies left next old new
-whole_replies r s g left now next old held new reads reads' writes writes' h few written =
-    replies_written left (input_of r now) next old new s h.lines (h.written ++ g) h.takes h.follows few (Appends-trans old held new _ _ h.wrote written)
+pub whole_replies : (r : Reader) (s : State) (b n : Devices) (next new : Option (List ℕ)) → Serves r s b n
+    → LeavesFew (input_of r n.left) next → Appends n.sink.held new n.sink.gathered → WritesWholeReplies b.left next b.sink.held new
+whole_replies r s b n next new h few written =
+    replies_written b.left (input_of r n.left) next b.sink.held new s h.lines (h.written ++ n.sink.gathered) h.takes h.follows few (Appends-trans b.sink.held n.sink.held new _ _ h.wrote written)

@@ -1,15 +1,13 @@
 //! What answers commands.
 
-ghost use Rattle.std.specs.Prelude.{◌≡◌, ◌≤◌, ◌++◌, List, IfOk, IfErr, OnOk, OnErr};
-ghost use Rattle.ct_io.specs.Faults.{Rose};
-ghost use Rattle.ct_io.specs.Told.{AppendsProperPrefix};
+ghost use Rattle.std.specs.Prelude.{◌≡◌, List, IfOk, OnOk};
+ghost use Rattle.ct_io.specs.Buffered.{buffered, IsPut};
 ghost use Rattle.ct_pieces.specs.Piece.{PieceValue};
 ghost use Rattle.ct_replies.specs.LongReply.{long_text, reply_of};
-ghost use Rattle.ct_replies.specs.Writing.{HasRoom, PutsOut};
 ghost use Rattle.ct_session.specs.Reply.{IsReply, pieces_after};
 
 use ct_commands::Command;
-use ct_io::{RunFault, Sink};
+use ct_io::{Failed, Sink, SinkBuffer};
 use ct_replies::{AnyReply, LongReply};
 use std::alloc::{AllocError, Global};
 
@@ -23,21 +21,13 @@ pub trait Answers: Drop {
         ensures reply { IfOk result (λ answer. IsReply (standing self.old) command (reply_of answer (standing self.new))) }
         ensures pieces { OnOk result (standing self.new ≡ pieces_after (standing self.old) command) };
 
-    /// Puts a long reply after what is gathered. Where there is no room for a part of it, what is gathered is written first. It takes no
-    /// memory. After an `Err` the sink failed, and a part of all that was written.
+    /// Puts a long reply, as `SinkBuffer::put` does. It takes no memory.
     fn put_long<K: Sink>(
         &self,
         sink: &mut K,
-        gathered: &mut Vec<u8>,
+        buffer: &mut SinkBuffer,
         reply: &LongReply,
-    ) -> Result<(), RunFault>
-        requires { HasRoom gathered.old }
-        ensures put { OnOk result (PutsOut (long_text reply.now (standing self.now)) gathered.old.items gathered.new.items
-            (K.holds sink.old) (K.holds sink.new)) }
-        ensures room { OnOk result (HasRoom gathered.new) }
-        ensures prefix { OnErr result (AppendsProperPrefix (K.holds sink.old) (K.holds sink.new)
-            (gathered.old.items ++ long_text reply.now (standing self.now))) }
-        ensures fault { IfErr result (λ fault. fault ≡ RunFault.Write) }
-        ensures failed { OnErr result (Rose (K.faults sink.old) (K.faults sink.new)) }
-        ensures counted { K.faults sink.old ≤ K.faults sink.new };
+    ) -> Result<(), Failed>
+        ensures { IsPut (buffered K.holds K.faults sink.old buffer.old)
+            (buffered K.holds K.faults sink.new buffer.new) (long_text reply.now (standing self.now)) result };
 }

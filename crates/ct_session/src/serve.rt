@@ -1,50 +1,42 @@
 //! The loop that serves a session.
 
-ghost use Rattle.std.specs.Prelude.{◌≡◌, ◌≤◌, ◌<◌, ℕ, true, Option, List, IfErr, OnOk, OnErr, [], length};
-ghost use Rattle.ct_io.specs.Faults.{Rose};
-ghost use Rattle.ct_io.specs.Told.{AppendsProperPrefix};
+ghost use Rattle.std.specs.Prelude.{◌≡◌, ◌≤◌, ◌<◌, ◌++◌, ℕ, true, Option, List, IfErr, OnOk, [], length};
+ghost use Rattle.ct_io.specs.Buffered.{buffered, IsPut};
 ghost use Rattle.ct_io.specs.Reader.{Reader};
+ghost use Rattle.ct_replies.specs.LongReply.{owed_text};
 ghost use Rattle.ct_session.specs.Ending.{Ends};
-ghost use Rattle.ct_session.specs.Inside.Serving.{PassesOver, Serves, StepsTo};
-ghost use Rattle.ct_replies.specs.LongReply.{long_text};
-ghost use Rattle.ct_session.specs.Inside.Writing.{AnswersLine, BreaksLong, BreaksOffAt, HoldsFew, IsReady, read_fault};
-ghost use Rattle.ct_replies.specs.Writing.{PutsOut, WritesSome};
+ghost use Rattle.ct_session.specs.Inside.Serving.{Devices, devices, EndsAt, PassesOver, Serves, StepsTo};
+ghost use Rattle.ct_session.specs.Inside.Writing.{AnswersLine, BreaksOff, BreaksOffAt, IsOneReply, IsReady};
 
 use crate::answers::Answers;
 use crate::session::Session;
-use ct_io::{LineFault, LineReader, RunFault, Sink, Source};
-use ct_replies::{LongReply, MAX_GATHERED, break_off, write_gathered};
+use ct_io::{Failed, LineReader, RunFault, Sink, SinkBuffer, Source};
+use ct_replies::LongReply;
 use std::alloc::Global;
 
-/// Writes the replies that were gathered where the reader is about to read, or where they are many.
+/// Writes the replies that are gathered where the reader is about to read.
 fn make_ready<K: Sink>(
     reader: &mut LineReader,
     sink: &mut K,
-    gathered: &mut Vec<u8>,
-) -> Result<(), RunFault>
+    buffer: &mut SinkBuffer,
+) -> Result<(), Failed>
     ensures same { reader.new ≡ reader.old }
-    ensures written { OnOk result (WritesSome gathered.old.items gathered.new.items (K.holds sink.old) (K.holds sink.new)) }
-    ensures ready { OnOk result (IsReady gathered.new.items reader.new) }
-    ensures few { OnOk result (length gathered.new.items < MAX_GATHERED) }
-    ensures prefix { OnErr result (AppendsProperPrefix (K.holds sink.old) (K.holds sink.new) gathered.old.items) }
-    ensures fault { IfErr result (λ fault. fault ≡ RunFault.Write) }
-    ensures failed { OnErr result (Rose (K.faults sink.old) (K.faults sink.new)) }
-    ensures counted { K.faults sink.old ≤ K.faults sink.new }
+    ensures put { IsPut (buffered K.holds K.faults sink.old buffer.old) (buffered K.holds K.faults sink.new buffer.new) [] result }
+    ensures ready { OnOk result (IsReady buffer.new reader.new) }
 {
-    if gathered.len() < MAX_GATHERED && reader.holds_line() {
+    if reader.holds_line() {
         return Ok(());
     }
-    write_gathered(sink, gathered)
+    buffer.flush(sink)
 }
 
-/// The fault of a session whose reader has this one.
-fn read_fault(fault: LineFault) -> RunFault
-    ensures { result ≡ read_fault fault }
+/// Writes the replies that are gathered before the session is broken off: the fault, or that the sink failed on the way.
+fn break_off<K: Sink>(sink: &mut K, buffer: &mut SinkBuffer, fault: RunFault) -> RunFault
+    ensures { BreaksOff fault result (buffered K.holds K.faults sink.old buffer.old) (buffered K.holds K.faults sink.new buffer.new) }
 {
-    match fault {
-        LineFault::ReadFault => RunFault::Read,
-        LineFault::TooLong(_) => RunFault::TooLong,
-        LineFault::Memory => RunFault::Memory,
+    match buffer.flush(sink) {
+        Ok(()) => fault,
+        Err(_) => RunFault::Write,
     }
 }
 
@@ -56,50 +48,46 @@ enum Step {
     End,
 }
 
-/// Puts a long reply after the replies that are gathered. Space for what is gathered comes first: after an `Err` that is want of memory
-/// nothing of the reply was written.
-fn answer_long<A: Answers, K: Sink>(
+/// Puts a text, and after it the long reply that is owed, if one is.
+fn put_answer<A: Answers, K: Sink>(
     answers: &A,
-    reply: &LongReply,
-    gathered: &mut Vec<u8>,
+    text: &[u8],
+    owed: Option<LongReply>,
     sink: &mut K,
-) -> Result<(), RunFault>
-    requires { length gathered.old.items < MAX_GATHERED }
-    ensures put { OnOk result (PutsOut (long_text reply.now (A.standing answers.now)) gathered.old.items gathered.new.items
-        (K.holds sink.old) (K.holds sink.new)) }
-    ensures few { OnOk result (length gathered.new.items ≤ MAX_GATHERED) }
-    ensures broken_off { IfErr result (λ fault. BreaksLong fault gathered.old.items (long_text reply.now (A.standing answers.now))
-        (K.holds sink.old) (K.holds sink.new) (K.faults sink.old) (K.faults sink.new)) }
-    ensures counted { K.faults sink.old ≤ K.faults sink.new }
+    buffer: &mut SinkBuffer,
+) -> Result<(), Failed>
+    ensures { IsPut (buffered K.holds K.faults sink.old buffer.old) (buffered K.holds K.faults sink.new buffer.new)
+        (text.now ++ owed_text owed (A.standing answers.now)) result }
 {
-    let Ok(()) = gathered.reserve(MAX_GATHERED) else {
-        return Err(break_off(sink, gathered, RunFault::Memory));
-    };
-    answers.put_long(sink, gathered, reply)
+    buffer.put(sink, text)?;
+    match owed {
+        Some(reply) => answers.put_long(sink, buffer, &reply),
+        None => Ok(()),
+    }
 }
 
-/// Answers the command that the line completes, if it completes one, among the replies that are gathered. After an `Err` the session is
-/// broken off.
+/// Answers the command that the line completes, if it completes one. The text of a reply is made in `text` before any of it is put, so that
+/// after an `Err` that is want of memory nothing of it was put. After an `Err` the session is broken off.
 fn answer_line<A: Answers, K: Sink>(
     alloc: Global,
     session: &mut Session<A>,
     line: Vec<u8>,
-    gathered: &mut Vec<u8>,
+    text: &mut Vec<u8>,
     sink: &mut K,
+    buffer: &mut SinkBuffer,
 ) -> Result<(), RunFault>
-    requires { length gathered.old.items < MAX_GATHERED }
-    ensures line { OnOk result (AnswersLine session.old session.new line.items gathered.old.items gathered.new.items
-        (K.holds sink.old) (K.holds sink.new)) }
-    ensures few { OnOk result (HoldsFew gathered.new.items) }
-    ensures broken_off { IfErr result (λ fault. BreaksOffAt fault session.old session.new line.items gathered.old.items
-        (K.holds sink.old) (K.holds sink.new) (K.faults sink.old) (K.faults sink.new)) }
-    ensures counted { K.faults sink.old ≤ K.faults sink.new }
+    ensures line { OnOk result (AnswersLine session.old session.new line.items
+        (buffered K.holds K.faults sink.old buffer.old) (buffered K.holds K.faults sink.new buffer.new)) }
+    ensures one_reply { OnOk result (IsOneReply text.new.items) }
+    ensures broken_off { IfErr result (λ fault. BreaksOffAt fault session.old session.new line.items
+        (buffered K.holds K.faults sink.old buffer.old) (buffered K.holds K.faults sink.new buffer.new)) }
 {
-    match session.take_line(alloc, &line, gathered) {
-        Ok(None) => Ok(()),
-        Ok(Some(reply)) => answer_long(session.answers(), &reply, gathered, sink),
-        Err(_) => Err(break_off(sink, gathered, RunFault::Memory)),
-    }
+    text.clear();
+    let Ok(owed) = session.take_line(alloc, &line, text) else {
+        return Err(break_off(sink, buffer, RunFault::Memory));
+    };
+    put_answer(session.answers(), text, owed, sink, buffer)?;
+    Ok(())
 }
 
 /// Passes over empty lines that ask for nothing: those that the reader holds before the next line, where no submission is open.
@@ -112,51 +100,60 @@ fn pass_over<A: Answers>(reader: &mut LineReader, session: &Session<A>)
 }
 
 /// Takes the next line, if there is one, and answers the command that it completes. Whatever was served before, it is gone on with, or
-/// the session ends as it is to end. What is gathered stays below `MAX_GATHERED` bytes and one reply.
+/// the session ends as it is to end.
 fn serve_line<A: Answers, S: Source, K: Sink>(
     alloc: Global,
     reader: &mut LineReader,
     session: &mut Session<A>,
-    gathered: &mut Vec<u8>,
+    text: &mut Vec<u8>,
     source: &mut S,
     sink: &mut K,
+    buffer: &mut SinkBuffer,
 ) -> Result<Step, RunFault>
-    ensures step { (left old : Option (List ℕ)) (reads writes : ℕ)
-        → Serves reader.old session.old gathered.old.items left (S.left source.old) old (K.holds sink.old)
-        reads (S.faults source.old) writes (K.faults sink.old)
-        → StepsTo result reader.old reader.new session.new gathered.new.items left (S.left source.new) old (K.holds sink.new)
-        reads (S.faults source.new) writes (K.faults sink.new) }
-    ensures few { OnOk result (HoldsFew gathered.new.items) }
+    ensures { (begin : Devices)
+        → Serves reader.old session.old begin (devices S.left S.faults source.old (buffered K.holds K.faults sink.old buffer.old))
+        → StepsTo result reader.old reader.new session.new begin
+        (devices S.left S.faults source.new (buffered K.holds K.faults sink.new buffer.new)) }
 {
     pass_over(reader, session);
-    make_ready(reader, sink, gathered)?;
+    make_ready(reader, sink, buffer)?;
     match reader.next_line(source) {
         Ok(Some(line)) => {
-            answer_line(alloc, session, line, gathered, sink)?;
+            answer_line(alloc, session, line, text, sink, buffer)?;
             Ok(Step::Line)
         }
         Ok(None) => Ok(Step::End),
-        Err(fault) => Err(break_off(sink, gathered, read_fault(fault))),
+        Err(fault) => Err(break_off(sink, buffer, RunFault::from(fault))),
     }
+}
+
+/// Puts a last text, and writes all that is gathered.
+fn put_last<K: Sink>(sink: &mut K, buffer: &mut SinkBuffer, text: &[u8]) -> Result<(), Failed>
+    ensures put { IsPut (buffered K.holds K.faults sink.old buffer.old) (buffered K.holds K.faults sink.new buffer.new) text.now result }
+    ensures emptied { OnOk result (buffer.new ≡ []) }
+{
+    buffer.put(sink, text)?;
+    buffer.flush(sink)
 }
 
 /// Takes the end of the input, and writes the replies that are still gathered. `Ok` tells whether any reply is a refusal.
 fn end_session<A: Answers, K: Sink>(
     alloc: Global,
     session: Session<A>,
-    gathered: Vec<u8>,
+    text: &mut Vec<u8>,
     sink: &mut K,
+    buffer: &mut SinkBuffer,
 ) -> Result<bool, RunFault>
-    ensures { (r : Reader) (left now old : Option (List ℕ)) (reads reads' writes : ℕ)
-        → Serves r session gathered.items left now old (K.holds sink.old) reads reads' writes (K.faults sink.old)
+    ensures { (r : Reader) (begin : Devices) (left : Option (List ℕ)) (reads : ℕ)
+        → Serves r session begin (record { left = left; reads = reads; sink = buffered K.holds K.faults sink.old buffer.old })
         → r.held ≡ [] → r.ended ≡ true
-        → Ends result left now old (K.holds sink.new) reads reads' writes (K.faults sink.new) }
+        → EndsAt result begin (record { left = left; reads = reads; sink = buffered K.holds K.faults sink.new buffer.new }) }
 {
-    let mut gathered = gathered;
-    let Ok(refused) = session.finish(alloc, &mut gathered) else {
-        return Err(break_off(sink, &gathered, RunFault::Memory));
+    text.clear();
+    let Ok(refused) = session.finish(alloc, text) else {
+        return Err(break_off(sink, buffer, RunFault::Memory));
     };
-    write_gathered(sink, &mut gathered)?;
+    put_last(sink, buffer, text)?;
     Ok(refused)
 }
 
@@ -175,20 +172,24 @@ pub fn serve_lines<A: Answers, S: Source, K: Sink>(
     let Ok(mut reader) = LineReader::new(alloc) else {
         return Err(RunFault::Memory);
     };
+    let Ok(mut buffer) = SinkBuffer::new(alloc) else {
+        return Err(RunFault::Memory);
+    };
     let mut session = Session::new(answers);
-    let mut gathered = Vec::new(alloc);
+    let mut text = Vec::new(alloc);
     'lines: loop {
         match serve_line(
             alloc,
             &mut reader,
             &mut session,
-            &mut gathered,
+            &mut text,
             source,
             sink,
+            &mut buffer,
         )? {
             Step::Line => {}
             Step::End => break,
         }
     }
-    end_session(alloc, session, gathered, sink)
+    end_session(alloc, session, &mut text, sink, &mut buffer)
 }

@@ -1,4 +1,4 @@
 use Rattle.ct_output.proofs.long_reply.put_long.Goals as goal
 
-pub returns-in-Code-clause-prefix : goal.returns-in-Code-clause-prefix
-returns-in-Code-clause-prefix g c = rw c.in-Code.is c.put_code.ensures.prefix
+pub returns-in-Code : goal.returns-in-Code
+returns-in-Code g c = rw c.in-Code.is c.put_code.ensures

@@ -4,7 +4,7 @@ use Rattle.std.proofs.Math.Nat.{mul-le-mul_right}
 use Rattle.ct_words.specs.Text.{word_text}
 use Rattle.ct_words.proofs.TextLemmas.{length-word_text}
 use Rattle.ct_replies.specs.Text.{ended}
-use Rattle.ct_output.proofs.Outputs.{part_more}
+use Rattle.ct_io.proofs.BufferedLemmas.{part_more}
 use Rattle.ct_output.proofs.word_lines.print_lines.Goals as goal
 
 pub loop-word-preserved : goal.loop-word-preserved

@@ -1,31 +1,23 @@
-use Rattle.std.proofs.Common.{is_some, ap}
-use Rattle.std.proofs.lemmas.Result.{on_ok_weaker}
-use Rattle.ct_replies.specs.LongReply.{long_text}
-use Rattle.ct_session.proofs.Gathering.{few_kept}
-use Rattle.ct_session.proofs.Outputs.{line_answered, few_answered, text_answered, breaks_line}
+use Rattle.std.proofs.Common.{◌∙◌, inr}
+use Rattle.std.proofs.lemmas.Result.{err_from_is_err_and}
+use Rattle.ct_session.proofs.Gathering.{kept_one}
+use Rattle.ct_session.proofs.Answering.{line_taken}
 use Rattle.ct_session.proofs.serve.answer_line.Goals as goal
 
-pub returns-in-Ok-None-clause-line : goal.returns-in-Ok-None-clause-line
-returns-in-Ok-None-clause-line g c =
-    let puts = rw (c.in-Ok-None.field-0-is, c.deref.ensures.value) at c.in-Ok-None.ensures.line in
-    line_answered _ _ _ _ _ _ puts
+pub returns-clause-line : goal.returns-clause-line
+returns-clause-line g c =
+    let takes = line_taken _ _ _ _ _ c.clear.ensures.items (rw c.deref.ensures.value at c.in-Ok.ensures.line) in
+    let put = rw (c.deref-2.ensures.value, c.answers.ensures) at c.in_ok-put_answer.ensures in
+    (_, takes, put)
 
-pub returns-in-Ok-None-clause-few : goal.returns-in-Ok-None-clause-few
-returns-in-Ok-None-clause-few g c =
-    let puts = rw (c.in-Ok-None.field-0-is, c.deref.ensures.value) at c.in-Ok-None.ensures.line in
-    few_answered _ _ _ _ _ c.requires puts
+pub returns-clause-one_reply : goal.returns-clause-one_reply
+returns-clause-one_reply g c =
+    let takes = line_taken _ _ _ _ _ c.clear.ensures.items (rw c.deref.ensures.value at c.in-Ok.ensures.line) in
+    kept_one _ _ _ _ _ _ takes (λ some. c.in-Ok.ensures.unput some ∙ c.clear.ensures.items)
 
-pub returns-in-Ok-Some-clause-line : goal.returns-in-Ok-Some-clause-line
-returns-in-Ok-Some-clause-line g c =
-    let puts = rw (c.in-Ok-Some.field-0-is, c.deref.ensures.value) at c.in-Ok-Some.ensures.line in
-    let put = rw c.answers.ensures at c.answer_long.ensures.put in
-    text_answered _ _ _ _ _ c.take_line.new.replies.items _ (long_text c.in-Ok-Some.reply c.take_line.new.self.pieces) _ _ puts put
-
-pub returns-in-Ok-Some-clause-few : goal.returns-in-Ok-Some-clause-few
-returns-in-Ok-Some-clause-few g c = on_ok_weaker _ (few_kept _) c.answer_long.ensures.few
-
-pub returns-in-Ok-Some-clause-broken_off : goal.returns-in-Ok-Some-clause-broken_off
-returns-in-Ok-Some-clause-broken_off g c =
-    let puts = rw (c.in-Ok-Some.field-0-is, c.deref.ensures.value) at c.in-Ok-Some.ensures.line in
-    let broken = rw c.answers.ensures at c.answer_long.ensures.broken_off in
-    breaks_line _ _ _ _ _ _ _ _ _ _ _ puts (c.in-Ok-Some.ensures.unput (ap is_some c.in-Ok-Some.field-0-is)) broken
+pub returns-in_err-put_answer-clause-broken_off : goal.returns-in_err-put_answer-clause-broken_off
+returns-in_err-put_answer-clause-broken_off g c =
+    let takes = line_taken _ _ _ _ _ c.clear.ensures.items (rw c.deref.ensures.value at c.in-Ok.ensures.line) in
+    let stops = rw (c.deref-2.ensures.value, c.answers.ensures) at c.in_err-put_answer.ensures in
+    let p = err_from_is_err_and c.from_residual.result c.from_residual.ensures.1 in
+    rw p.1 (inr (_, takes, p.2, stops))
