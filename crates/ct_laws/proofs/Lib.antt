@@ -37,3 +37,4 @@ mod FirstFailures
 pub mod FindIds
 pub mod AcceptedProposals
 pub mod Alike
+pub mod Uniqueness

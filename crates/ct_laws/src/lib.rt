@@ -5,6 +5,7 @@ mod commands;
 mod documents;
 mod duals;
 mod dump;
+mod explanations;
 mod laws;
 mod ledger;
 mod numbers;
@@ -13,6 +14,7 @@ mod proposals;
 mod proposed;
 mod reasons;
 mod replies;
+mod runs;
 mod verdicts;
 mod verified;
 pub mod worked;
@@ -31,6 +33,7 @@ pub use duals::{
     local_duals_give_their_bounds, odd_duals_give_their_sizes, reasons_against_duals,
 };
 pub use dump::dumps_lead_back;
+pub use explanations::{bounds_are_explained, explained_bounds_are_true, parts_are_named_pieces};
 pub use laws::{
     columns_by_length, documents_end_there, known_columns, known_runs, known_submissions,
     known_supports, known_texts,
@@ -58,5 +61,9 @@ pub use replies::{
     equal_bounds_are_exact, explained_bounds_are_shown, explained_bounds_are_verified,
     shown_lower_bounds_are_listed,
 };
+pub use runs::{
+    every_input_has_a_run, pieces_give_true_bounds, replies_without_choice,
+    runs_differ_in_choices_only, shown_bounds_depend_on_standing_pieces,
+};
 pub use verdicts::verdicts_name_the_first_failure;
-pub use verified::printed_derivations_are_verified;
+pub use verified::{printed_derivations_are_verified, verified_documents_are_true};

@@ -1,7 +1,6 @@
 pub mod BoundLemmas
 pub mod Answering
 pub mod Existence
-pub mod Uniqueness
 pub mod Taking
 pub mod FewLeft
 pub mod Serving

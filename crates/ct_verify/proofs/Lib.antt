@@ -1,4 +1,4 @@
 mod RuleSides
 mod WordLemmas
-mod ReadingLemmas
-mod VerdictLemmas
+pub mod ReadingLemmas
+pub mod VerdictLemmas

@@ -2,7 +2,6 @@
 #![tactic(auto)]
 
 mod heading;
-mod laws;
 mod part;
 mod reading;
 mod stated_line;
@@ -15,7 +14,6 @@ mod verification;
 mod verifying;
 
 pub use heading::Heading;
-pub use laws::verified_documents_are_true;
 pub use part::{Block, Part};
 pub use reading::Reading;
 pub use stated_line::StatedLine;

@@ -5,7 +5,7 @@ use Rattle.ct_pieces.proofs.SupportLemmas.{supports_stand}
 use Rattle.ct_verify.specs.Read.{unread}
 use Rattle.ct_verify.proofs.ReadingLemmas.{unread-sound}
 use Rattle.ct_verify.proofs.VerdictLemmas.{AreRead-sound, read_from_yes, yes_from_read, never_memory, lines_where_done}
-use Rattle.ct_verify.proofs.laws.verified_documents_are_true.Goals as goal
+use Rattle.ct_laws.proofs.verified.verified_documents_are_true.Goals as goal
 
 pub returns-clause-read : goal.returns-clause-read
 returns-clause-read c = λ document.

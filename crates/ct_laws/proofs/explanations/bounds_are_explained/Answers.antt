@@ -1,5 +1,5 @@
 use Rattle.ct_explain.proofs.ExplainedBounds.{explained}
-use Rattle.ct_explain.proofs.laws.bounds_are_explained.Goals as goal
+use Rattle.ct_laws.proofs.explanations.bounds_are_explained.Goals as goal
 
 pub returns : goal.returns
 returns c = explained

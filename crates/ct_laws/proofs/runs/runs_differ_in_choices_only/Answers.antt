@@ -1,8 +1,8 @@
 use Rattle.std.proofs.Common.{[]}
 use Rattle.ct_io.specs.Lines.{lines_of}
 use Rattle.ct_commands.specs.Command.{commands_of}
-use Rattle.ct_session.proofs.Uniqueness.{differ_in_choices, as_many, one_mark_only, one_text_only}
-use Rattle.ct_session.proofs.laws.runs_differ_in_choices_only.Goals as goal
+use Rattle.ct_laws.proofs.Uniqueness.{differ_in_choices, as_many, one_mark_only, one_text_only}
+use Rattle.ct_laws.proofs.runs.runs_differ_in_choices_only.Goals as goal
 
 pub returns-clause-replies : goal.returns-clause-replies
 returns-clause-replies c = λ input output other a b h k. differ_in_choices [] (commands_of (lines_of input)) h.replies k.replies h.are k.are

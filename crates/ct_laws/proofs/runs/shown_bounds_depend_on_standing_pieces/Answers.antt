@@ -3,8 +3,8 @@ use Rattle.ct_pieces.specs.Piece.{PieceValue}
 use Rattle.ct_session.specs.Reply.{IsReply}
 use Rattle.ct_session.specs.Run.{pieces_of}
 use Rattle.ct_session.proofs.BoundLemmas.{shown_once}
-use Rattle.ct_session.proofs.Uniqueness.{one_reply_only}
-use Rattle.ct_session.proofs.laws.shown_bounds_depend_on_standing_pieces.Goals as goal
+use Rattle.ct_laws.proofs.Uniqueness.{one_reply_only}
+use Rattle.ct_laws.proofs.runs.shown_bounds_depend_on_standing_pieces.Goals as goal
 
 pub returns-clause-bounds : goal.returns-clause-bounds
 returns-clause-bounds c = shown_once
