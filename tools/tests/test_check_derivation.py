@@ -357,7 +357,7 @@ class CheckDerivation(unittest.TestCase):
         self.assertEqual(said, f"no 2 evidence {refusal}" if refusal else "yes")
 
     def test_documents_whose_verdict_is_known(self):
-        for group in tomllib.loads((TOP / "crates/ct_verify_tests/data/verdicts.toml").read_text())["group"]:
+        for group in tomllib.loads((TOP / "crates/ct_rows/data/verdicts.toml").read_text())["group"]:
             for text, verdict in group["rows"]:
                 with self.subTest(group=group["name"], text=text):
                     document = b"\xff".join(part.encode() for part in (group["before"] + text + group["after"]).split("\ufffd"))

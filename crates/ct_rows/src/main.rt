@@ -1,5 +1,5 @@
 //! Runs the program on inputs whose output is known, and says which of them come out otherwise: the rows of the files `rows.toml` and
-//! `made.toml`, which lie where this runs, and what no input shows.
+//! `made.toml`, which lie where this runs, what no input shows, and the derivations of `verdicts.toml`.
 #![tactic(auto)]
 
 mod calls;
@@ -9,6 +9,7 @@ mod listings;
 mod numbers;
 mod row;
 mod tally;
+mod verdicts;
 
 use crate::fields::list;
 use crate::tally::Tally;
@@ -29,5 +30,11 @@ fn main(rt: HostRuntime) -> anyhow::Result<()> {
     chain::run_all(&rt, &mut tally)?;
     listings::run_all(&rt, &mut tally)?;
     println!(rt; "{} rows, {} differ", tally.rows, tally.differ)?;
+    let mut derivations = Tally::default();
+    verdicts::run_all(&rt, &mut derivations)?;
+    println!(rt;
+        "{} derivations, {} differ",
+        derivations.rows, derivations.differ
+    )?;
     Ok(())
 }

@@ -162,7 +162,7 @@ pub fn difference(
 }
 
 /// The bytes of the text, and the byte 255 for each U+FFFD in it.
-fn bytes_of(alloc: Global, text: &str) -> Result<Vec<u8>, AllocError> {
+pub fn bytes_of(alloc: Global, text: &str) -> Result<Vec<u8>, AllocError> {
     let mut bytes = Vec::new(alloc);
     for (number, part) in text.split('\u{fffd}').enumerate() {
         if number > 0 {

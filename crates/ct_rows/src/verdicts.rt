@@ -1,0 +1,77 @@
+//! Derivation documents whose verdicts are known. The head of `verdicts.toml` says what stands at the keys of a group.
+
+use crate::fields::{list, text};
+use crate::row::bytes_of;
+use crate::tally::Tally;
+use ct_io::{MemSink, MemSource};
+use ct_run::{Status, run};
+use std::alloc::{AllocError, Global};
+use std::rt::Files;
+use std::{fs, io};
+use toml::Value;
+
+/// The text of an item.
+fn item_text(item: Option<&Value>) -> &str {
+    match item {
+        Some(Value::String(text)) => text.as_str(),
+        _ => "",
+    }
+}
+
+/// The document of a row of the group: its text, between those of the group.
+fn document(alloc: Global, group: &Value, row: &str) -> Result<Vec<u8>, AllocError> {
+    let mut document = String::new(alloc);
+    document.push_str(text(group, "before"))?;
+    document.push_str(row)?;
+    document.push_str(text(group, "after"))?;
+    bytes_of(alloc, document.as_str())
+}
+
+/// How the program ends where it verifies the document, and what it writes.
+fn verify(alloc: Global, document: Vec<u8>) -> Result<(Status, Vec<u8>), AllocError> {
+    let words = [String::from_str(alloc, "verify")?];
+    let mut source = MemSource::new(document, Vec::new(alloc), 4096);
+    let mut sink = MemSink::new(alloc, 262_144, Vec::new(alloc), 65_536)?;
+    let status = run(alloc, &words, &mut source, &mut sink);
+    Ok((status, sink.bytes.to_vec(alloc)?))
+}
+
+/// The status with which the mode ends after this verdict.
+fn status_after(verdict: &str) -> Status {
+    if verdict == "yes" {
+        Status::Done
+    } else {
+        Status::Refused
+    }
+}
+
+/// Counts the document of a row of the group.
+fn count(
+    rt: &(impl Print + AllocGlobal),
+    tally: &mut Tally,
+    group: &Value,
+    row: &[Value],
+) -> io::Result<()> {
+    let alloc = rt.alloc();
+    let row_text = item_text(row.first());
+    let verdict = item_text(row.get(1));
+    let (status, output) = verify(alloc, document(alloc, group, row_text)?)?;
+    let known = format!(in alloc; "{verdict}\n")?;
+    let is_met = status == status_after(verdict) && output.as_slice() == known.as_bytes();
+    let came = str::from_utf8(&output).unwrap_or("no text");
+    tally.count(rt, row_text, is_met, came)
+}
+
+/// Counts the documents of the file.
+pub fn run_all(rt: &(impl Print + Files + AllocGlobal), tally: &mut Tally) -> io::Result<()> {
+    let text = fs::read_to_string(rt, "verdicts.toml")?;
+    let file = Value::Table(toml::table_from_str(rt.alloc(), text.as_str())?);
+    for group in list(&file, "group") {
+        for row in list(group, "rows") {
+            if let Value::Array(row) = row {
+                count(rt, tally, group, row)?;
+            }
+        }
+    }
+    Ok(())
+}
