@@ -13,7 +13,7 @@ use Rattle.ct_rule_parts.specs.Parts.{slots_on}
 use Rattle.ct_rule_parts.specs.Slot.{slot_of}
 use Rattle.ct_rule_parts.specs.Support.{Stands}
 use Rattle.ct_rules.specs.Derivation.{IsDerived, IsBest}
-use Rattle.ct_table_laws.proofs.GivenDuals.{dual-reached}
+use Rattle.ct_laws.proofs.GivenDuals.{dual-reached}
 use Rattle.ct_kind.specs.declared.evidence.Evidence.TheVariants as evidence
 use Rattle.ct_pieces.specs.Piece.{PieceValue}
 use Rattle.ct_pieces.specs.Standing.{AreStanding}

@@ -13,7 +13,7 @@ use Rattle.ct_rule_parts.specs.Parts.{within_limit}
 use Rattle.ct_rule_parts.specs.Slot.{claim_at}
 use Rattle.ct_rule_parts.specs.Support.{Stands, AllStand}
 use Rattle.ct_rules.proofs.BestValues.{best_is_true, equal_is_best}
-use Rattle.ct_table_laws.proofs.KnownClaims.{four_from_below, four_from_above}
+use Rattle.ct_laws.proofs.KnownClaims.{four_from_below, four_from_above}
 use Rattle.ct_pieces.specs.Piece.{PieceValue}
 use Rattle.ct_pieces.specs.Supports.{supports_of}
 use Rattle.ct_session.specs.Reply.{AreBoundsOf}

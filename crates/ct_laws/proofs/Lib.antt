@@ -38,3 +38,7 @@ pub mod FindIds
 pub mod AcceptedProposals
 pub mod Alike
 pub mod Uniqueness
+pub mod ReasonLemmas
+pub mod GrowthLemmas
+pub mod GivenDuals
+pub mod KnownClaims

@@ -17,3 +17,5 @@ pub mod Sides
 pub mod GreatestSize
 pub mod FirstFailure
 pub mod Proposed
+pub mod RuleExamples
+pub mod DualRule

@@ -65,7 +65,7 @@ pub fn known_submissions()
 {}
 
 /// A piece of four words of weight 3 supports the entry of this weight.
-pub fn known_supports()
+pub fn known_word_supports()
     ensures { supports_of (pieces_of four_triples) ≡ Size (constant_weight 6 4 3) 4 ∷ [] }
 {}
 

@@ -1,11 +1,15 @@
-//! Laws of evidence, sessions, dumps, explanations, proposals and verdicts, and worked sessions and texts; nothing rests on them.
+//! Laws of rules, derivations, tables, documents, pieces, ledgers, explanations, sessions, proposals and verdicts, and worked ones. Nothing rests on
+//! them; each would notice a definition that is slightly wrong.
 #![tactic(auto)]
 
 mod commands;
+mod derivations;
+mod derived_lines;
 mod documents;
 mod duals;
 mod dump;
 mod explanations;
+mod grounds;
 mod laws;
 mod ledger;
 mod numbers;
@@ -13,8 +17,11 @@ mod pieces;
 mod proposals;
 mod proposed;
 mod reasons;
+mod removals;
 mod replies;
+mod rules;
 mod runs;
+mod tables;
 mod verdicts;
 mod verified;
 pub mod worked;
@@ -25,6 +32,16 @@ pub use commands::{
     known_forms, other_lines_stand_alone, submissions_are_read_as_written,
     submissions_take_their_lines,
 };
+pub use derivations::{
+    best_values_are_true, closed_bounds_are_best, derivations_grow_by_rules,
+    derived_claims_are_true, each_slot_has_one_best_value, known_claims, known_derivations,
+    lines_follow_from_earlier_lines, more_supports_keep_derivations,
+    standing_duals_reach_their_bounds,
+};
+pub use derived_lines::{
+    bounds_can_be_shown, explanations_are_true, explanations_exist, known_explanations,
+    known_faults, known_line_texts, lines_without_fault_follow,
+};
 pub use documents::{
     accepted_documents, answers_to_documents, bytes_without_table, documents_and_evidence,
 };
@@ -34,9 +51,10 @@ pub use duals::{
 };
 pub use dump::dumps_lead_back;
 pub use explanations::{bounds_are_explained, explained_bounds_are_true, parts_are_named_pieces};
+pub use grounds::known_grounds;
 pub use laws::{
     columns_by_length, documents_end_there, known_columns, known_runs, known_submissions,
-    known_supports, known_texts,
+    known_texts, known_word_supports,
 };
 pub use ledger::{
     duals_reach_their_bounds, local_evidence_bounds_codes, odd_evidence_excludes_sizes,
@@ -57,13 +75,22 @@ pub use reasons::{
     reasons_against_builds, reasons_against_cosets, reasons_against_partitions,
     reasons_against_products, reasons_against_words, wrong_ids_of_products,
 };
+pub use removals::removal_of_places;
 pub use replies::{
     equal_bounds_are_exact, explained_bounds_are_shown, explained_bounds_are_verified,
     shown_lower_bounds_are_listed,
 };
+pub use rules::{
+    better_bounds_say_more, claims_bound_slots, known_supports, premises_are_entries,
+    rules_are_monotone, rules_are_sound, rules_have_names, standing_duals_give_their_bounds,
+};
 pub use runs::{
     every_input_has_a_run, pieces_give_true_bounds, replies_without_choice,
     runs_differ_in_choices_only, shown_bounds_depend_on_standing_pieces,
+};
+pub use tables::{
+    known_lines_that_do_not_grow, known_reasons_after_a_removal, reasons_stay_by_lowered_rules,
+    tables_grow_by_better_lines, tables_hold_reasons,
 };
 pub use verdicts::verdicts_name_the_first_failure;
 pub use verified::{printed_derivations_are_verified, verified_documents_are_true};

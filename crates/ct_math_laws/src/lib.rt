@@ -1,5 +1,5 @@
-//! Laws of words, codes, their constructions and builds, schemes, duals, bounds and the finder's run, and worked ones; and the bases of codes
-//! that are known. Nothing but tests rests on them; each law would notice a definition that is slightly wrong.
+//! Laws of words, codes, their constructions and builds, schemes, duals, bounds and the finder's run, and worked ones. Nothing rests on them;
+//! each would notice a definition that is slightly wrong.
 #![tactic(auto)]
 
 mod builds;
@@ -12,7 +12,6 @@ mod doubly;
 mod duals;
 mod finder;
 mod johnson;
-mod known_codes;
 mod krawtchouk;
 mod parity;
 mod partitions;
@@ -58,7 +57,6 @@ pub use johnson::{
     bounds_by_weight, bounds_from_other_entries, some_place_holds_enough_ones,
     some_place_holds_enough_zeros,
 };
-pub use known_codes::{GOLAY, NORDSTROM_ROBINSON, REED_MULLER};
 pub use krawtchouk::{character_sums_are_krawtchouk_numbers, krawtchouk_sums_are_sums_of_squares};
 pub use parity::{known_odd_sums, odd_lists_have_odd_sums};
 pub use partitions::{

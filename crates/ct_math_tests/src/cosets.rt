@@ -1,9 +1,9 @@
 //! Coset codes whose answers are known.
 
+use crate::known_codes::{GOLAY, NORDSTROM_ROBINSON, REED_MULLER};
 use ct_codes::{
     Code, CodeFault, CosetCode, Entry, MAX_COSET_WORK, MAX_REPRESENTATIVES, check_cosets,
 };
-use ct_math_laws::{GOLAY, NORDSTROM_ROBINSON, REED_MULLER};
 use ct_words::{Word, weight};
 use std::alloc::Global;
 use std::process::Abort;

@@ -2,9 +2,9 @@
 
 use crate::build_parts::{Few, Place, Words, code_of, entry_of, even_code, linear_code};
 use crate::build_steps::{Change, build};
+use crate::known_codes::GOLAY;
 use ct_build::BuildFault;
 use ct_codes::Code;
-use ct_math_laws::GOLAY;
 use ct_words::Word;
 use std::alloc::Global;
 use std::process::Abort;

@@ -1,4 +1,4 @@
-//! Tests of words, codes, bounds, schemes, duals, builds, partitions and sum classes, whose answers are known.
+//! Tests of words, codes, bounds, schemes, duals, builds, partitions and sum classes, whose answers are known; and the bases of codes that are known.
 #![tactic(auto)]
 
 #[cfg(test)]
@@ -17,6 +17,7 @@ mod dual_answers;
 mod elementary;
 #[cfg(test)]
 mod johnson;
+mod known_codes;
 #[cfg(test)]
 mod known_duals;
 #[cfg(test)]
@@ -39,3 +40,5 @@ mod shapes;
 mod sum_classes;
 #[cfg(test)]
 mod words;
+
+pub use known_codes::{GOLAY, NORDSTROM_ROBINSON, REED_MULLER};

@@ -4,7 +4,7 @@ ghost use Rattle.std.specs.Prelude.{IfOk};
 ghost use Rattle.ct_rule_parts.specs.Support.{Stands};
 
 use ct_codes::{Entry, check_cosets, check_words};
-use ct_math_laws::{GOLAY, NORDSTROM_ROBINSON, REED_MULLER};
+use ct_math_tests::{GOLAY, NORDSTROM_ROBINSON, REED_MULLER};
 use ct_rules::Support;
 use ct_table::Table;
 use ct_words::{MAX_BOUND, Word, weight};

@@ -1,4 +1,0 @@
-pub mod ReasonLemmas
-pub mod GrowthLemmas
-pub mod GivenDuals
-pub mod KnownClaims

@@ -1,5 +1,0 @@
-use Rattle.ct_table_laws.proofs.GivenDuals.{dual-reached}
-use Rattle.ct_table_laws.proofs.derivations.standing_duals_reach_their_bounds.Goals as goal
-
-pub returns : goal.returns
-returns c = dual-reached

@@ -1,5 +1,0 @@
-use Rattle.ct_derive.proofs.NeededExist.{shown_exists}
-use Rattle.ct_table_laws.proofs.explanations.bounds_can_be_shown.Goals as goal
-
-pub returns : goal.returns
-returns c = shown_exists

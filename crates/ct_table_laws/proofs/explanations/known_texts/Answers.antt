@@ -1,8 +1,0 @@
-use Rattle.std.proofs.Common.{refl}
-use Rattle.std.specs.Fmt.{digits}
-use Rattle.ct_rules.specs.Rule.{row_of}
-use Rattle.ct_table_laws.proofs.explanations.known_texts.Goals as goal
-
-pub returns : goal.returns
-unfolding digits row_of
-returns c = record { lines = refl; support = refl; numbers = refl; weight = refl; block = refl }
