@@ -49,17 +49,21 @@ pub stops_sooner : (a b : Buffered) (text more : List ℕ) → Stops a b text �
 stops_sooner a b text more h = record {
   part = subst (AppendsProperPrefix a.held b.held) (append_assoc a.gathered text more) (of_more a.held b.held (a.gathered ++ text) more h.part);
   rose = h.rose;
+  counted = h.counted;
 }
 
 -- the sink failed after a text was put
 pub stops_then : (a b c : Buffered) (text more : List ℕ) → Puts a b text → Stops b c more → Stops a c (text ++ more)
 stops_then a b c text more h k =
+    let first = h.counted in
+    let second = k.counted in
     let whole = after_all a.held b.held c.held h.written (b.gathered ++ more) h.wrote k.part in
     let spelled : a.gathered ++ (text ++ more) ≡ h.written ++ (b.gathered ++ more) =
     sym (append_assoc a.gathered text more) ∙ ap (λ (t : List ℕ). t ++ more) h.parted ∙ append_assoc h.written b.gathered more in
     record {
       part = subst (AppendsProperPrefix a.held c.held) (sym spelled) whole;
       rose = Rose-after a.faults b.faults c.faults h.counted k.rose;
+      counted = omega (arith, first, second);
     }
 
 -- a text was put, and then another, or the sink failed
@@ -146,9 +150,9 @@ puts_written a b c g none text faults faults' first empty second counted = recor
 }
 
 -- what was gathered could not be written
-pub stops_first : (old new : Option (List ℕ)) (g g' text : List ℕ) (faults faults' : ℕ) → AppendsProperPrefix old new g → Rose faults faults'
+pub stops_first : (old new : Option (List ℕ)) (g g' text : List ℕ) (faults faults' : ℕ) → AppendsProperPrefix old new g → Rose faults faults' → faults ≤ faults'
     → Stops (record { held = old; gathered = g; faults = faults }) (record { held = new; gathered = g'; faults = faults' }) text
-stops_first old new g g' text faults faults' part rose = record { part = of_more old new g text part; rose = rose }
+stops_first old new g g' text faults faults' part rose counted = record { part = of_more old new g text part; rose = rose; counted = counted }
 
 -- what was gathered is written, and then the text, or the sink failed there
 pub is_put_through : (a b c : Option (List ℕ)) (g none text : List ℕ) (faults faults' faults'' : ℕ) (r : Result (Unit {0}) Failed) → Appends a b g → none ≡ [] → faults ≤ faults' → faults' ≤ faults''
@@ -156,13 +160,13 @@ pub is_put_through : (a b c : Option (List ℕ)) (g none text : List ℕ) (fault
     → IsPut (record { held = a; gathered = g; faults = faults }) (record { held = c; gathered = none; faults = faults'' }) text r
 is_put_through a b c g none text faults faults' faults'' (Ok done) first empty m n wrote part rose = puts_written a b c g none text faults faults'' first empty wrote (omega (arith, m, n))
 is_put_through a b c g none text faults faults' faults'' (Err failed) first empty m n wrote part rose =
-    record { part = after_all a b c g text first part; rose = Rose-after faults faults' faults'' m rose }
+    record { part = after_all a b c g text first part; rose = Rose-after faults faults' faults'' m rose; counted = omega (arith, m, n) }
 
 -- what was gathered is written, or the sink failed
 pub is_flushed : (a b : Option (List ℕ)) (g g' : List ℕ) (faults faults' : ℕ) (r : Result (Unit {0}) Failed) → OnOk r (Appends a b g) → OnOk r (g' ≡ []) → OnErr r (AppendsProperPrefix a b g)
     → OnErr r (Rose faults faults') → faults ≤ faults' → IsPut (record { held = a; gathered = g; faults = faults }) (record { held = b; gathered = g'; faults = faults' }) [] r
 is_flushed a b g g' faults faults' (Ok done) wrote empty part rose counted = record { written = g; parted = ap (λ (t : List ℕ). g ++ t) (sym empty); wrote = wrote; counted = counted }
-is_flushed a b g g' faults faults' (Err failed) wrote empty part rose counted = stops_first a b g g' [] faults faults' part rose
+is_flushed a b g g' faults faults' (Err failed) wrote empty part rose counted = stops_first a b g g' [] faults faults' part rose counted
 
 -- ---- both as one
 

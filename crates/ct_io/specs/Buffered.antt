@@ -30,6 +30,7 @@ pub record Puts (old new : Buffered) (text : List ℕ) : Type 0 where
 pub record Stops (old new : Buffered) (text : List ℕ) : Type 0 where
   pub part : AppendsProperPrefix old.held new.held (old.gathered ++ text)
   pub rose : Rose old.faults new.faults
+  pub counted : old.faults ≤ new.faults
 
 -- a text was put, or the sink failed on the way
 abbrev pub IsPut : Buffered → Buffered → List ℕ → Result (Unit {0}) Failed → Type 0

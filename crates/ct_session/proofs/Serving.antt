@@ -141,7 +141,7 @@ pub puts_later : (a c : Buffered) (text : List ℕ) → Puts a c text → Puts (
 puts_later a c text w = record { written = w.written; parted = append-nil (a.gathered ++ text) ∙ w.parted; wrote = w.wrote; counted = w.counted }
 
 pub stops_later : (a c : Buffered) (text : List ℕ) → Stops a c text → Stops (with_text a text) c []
-stops_later a c text w = record { part = subst (AppendsProperPrefix a.held c.held) (sym (append-nil (a.gathered ++ text))) w.part; rose = w.rose }
+stops_later a c text w = record { part = subst (AppendsProperPrefix a.held c.held) (sym (append-nil (a.gathered ++ text))) w.part; rose = w.rose; counted = w.counted }
 
 follows_on : (left now next : Option (List ℕ)) (lines : List (List ℕ)) (line : List ℕ) → Follows left now lines → LosesFirstLine now next line → Follows left next (lines ++ line ∷ [])
 follows_on None now next lines line h e = tt
