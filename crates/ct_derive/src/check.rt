@@ -1,12 +1,17 @@
 //! Lines that someone states, checked against those before them.
 
-ghost use Rattle.std.specs.Prelude.{◌≡◌, ◌-◌, ◌++◌, ◌∷◌, [], IfOk, IsSome, OnErr, None, map, option_map};
+ghost use Rattle.std.specs.Prelude.{◌≡◌, ◌-◌, ◌++◌, ◌∷◌, [], List, IfOk, IsSome, OnErr, None, map, option_map};
+ghost use Rattle.ct_codes.specs.Entry.{IsEntry};
 ghost use Rattle.ct_rules.specs.Rule.{rule_side};
-ghost use Rattle.ct_rules.specs.Derivation.{IsDerivation};
+ghost use Rattle.ct_rules.specs.Derivation.{LineValue, IsDerivation};
+ghost use Rattle.ct_rule_parts.specs.declared.support.Support.{Support};
+ghost use Rattle.ct_weight_rules.specs.GrahamSloane.{sum_class_size};
 ghost use Rattle.ct_rule_parts.specs.Entries.{listed};
 ghost use Rattle.ct_derive.specs.Check.{same_side, claim_numbered, value_for, values_numbered, value_fault, line_fault, line_by};
 
+use crate::class_sizes::ClassSizes;
 use ct_codes::{Claim, Entry, Side};
+use ct_rule_parts::within_limit;
 use ct_rules::{Entries, Line, Rule, Support, defined_on, rule_side, value};
 use smallvec::SmallVec;
 use std::alloc::{AllocError, Global};
@@ -100,11 +105,55 @@ fn value_fault(stated: u32, given: Option<u32>) -> Option<LineFault>
     }
 }
 
+/// How many words the sum class has that rule M9 with the residue gives at the entry, where it gives one there. `Err` is want of memory.
+fn counted_size(
+    sizes: &mut ClassSizes,
+    residue: u32,
+    entry: Entry,
+) -> Result<Option<u64>, AllocError>
+    requires { IsEntry entry }
+    ensures { IfOk result (λ size. size ≡ sum_class_size residue entry) }
+{
+    let Some(w) = entry.w else {
+        return Ok(None);
+    };
+    if entry.d != 4 || entry.n <= residue {
+        return Ok(None);
+    }
+    let size = sizes.size(entry.n, w, residue)?;
+    Ok(if size > 0 { Some(size) } else { None })
+}
+
+/// What `line_fault` says of rule M9 with the residue, whatever the supports and the lines before. `Err` is want of memory.
+#[tactic(auto, unfolding(ct_rules::specs::Rule::row_of))]
+fn class_fault(
+    sizes: &mut ClassSizes,
+    claim: Claim,
+    residue: u32,
+    numbers: &[u64],
+) -> Result<Option<LineFault>, AllocError>
+    ensures { (supports : List Support) (before : List LineValue) →
+        IfOk result (λ fault. fault ≡ line_fault supports before claim (Rule.M9 residue) numbers.now) }
+{
+    if !claim.entry.in_table() {
+        return Ok(Some(LineFault::NoRule));
+    }
+    let Some(size) = counted_size(sizes, residue, claim.entry)? else {
+        return Ok(Some(LineFault::NoRule));
+    };
+    if !numbers.is_empty() {
+        return Ok(Some(LineFault::NoPremise));
+    }
+    Ok(value_fault(claim.value, within_limit(Side::Lower, size)))
+}
+
 /// The first fault of a line that states this claim by this rule, which is of the claim's side, from the lines with these
-/// numbers, counted from 1; `None` where it follows from the lines before it. `Err` is want of memory.
+/// numbers, counted from 1; `None` where it follows from the lines before it. The sizes are of sum classes that lines before it took.
+/// `Err` is want of memory.
 pub fn line_fault(
     alloc: Global,
     supports: &[Support],
+    sizes: &mut ClassSizes,
     before: &[Line],
     claim: Claim,
     rule: Rule,
@@ -112,6 +161,9 @@ pub fn line_fault(
 ) -> Result<Option<LineFault>, AllocError>
     ensures { IfOk result (λ fault. fault ≡ line_fault supports.now before.now claim rule numbers.now) }
 {
+    if let Rule::M9(residue) = rule {
+        return class_fault(sizes, claim, residue, numbers);
+    }
     let Some(entries) = defined_on(supports, rule, claim.entry) else {
         return Ok(Some(LineFault::NoRule));
     };
@@ -137,10 +189,11 @@ fn places_of(alloc: Global, numbers: &[u64]) -> Result<SmallVec<usize, 2>, Alloc
 
 /// Puts a line that states this claim by this rule, which is of the claim's side, from the lines with these numbers, counted
 /// from 1, where it follows from the lines so far; else answers its first fault. Lines that are a derivation stay one. After
-/// an `Err`, which is want of memory, the lines are as before.
+/// an `Err`, which is want of memory, the lines are as before. The sizes are of sum classes that lines before it took.
 pub fn add_line(
     alloc: Global,
     supports: &[Support],
+    sizes: &mut ClassSizes,
     lines: &mut Vec<Line>,
     claim: Claim,
     rule: Rule,
@@ -153,7 +206,7 @@ pub fn add_line(
     ensures unchanged { OnErr result (lines.new.items ≡ lines.old.items) }
     ensures derivation { IsDerivation supports.now lines.old.items → IsDerivation supports.now lines.new.items }
 {
-    if let Some(fault) = line_fault(alloc, supports, lines, claim, rule, numbers)? {
+    if let Some(fault) = line_fault(alloc, supports, sizes, lines, claim, rule, numbers)? {
         return Ok(Some(fault));
     }
     let from = places_of(alloc, numbers)?;

@@ -2,6 +2,7 @@
 #![tactic(auto)]
 
 mod check;
+mod class_sizes;
 mod derivation;
 mod marks;
 mod needed;
@@ -10,6 +11,7 @@ mod printing;
 mod text;
 
 pub use check::{LineFault, add_line, line_fault};
+pub use class_sizes::ClassSizes;
 pub use derivation::Derivation;
 pub use marks::mark;
 pub use needed::needed_pieces;

@@ -1,6 +1,7 @@
 //! What was read of a derivation document.
 
 use crate::part::Part;
+use ct_derive::ClassSizes;
 use ct_pieces::Pieces;
 use ct_rules::{Line, Support};
 use std::marker::Model;
@@ -10,6 +11,7 @@ use std::marker::Model;
 pub struct Reading {
     pub(crate) pieces: Pieces,
     pub(crate) supports: Vec<Support>,
+    pub(crate) sizes: ClassSizes,
     pub(crate) lines: Vec<Line>,
     pub(crate) part: Part,
 }

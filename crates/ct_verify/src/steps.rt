@@ -18,7 +18,7 @@ use crate::reading::Reading;
 use crate::stated_line::{StatedLine, parse_line};
 use crate::step::Step;
 use crate::verdict::{Verdict, Why};
-use ct_derive::{LineFault, add_line};
+use ct_derive::{ClassSizes, LineFault, add_line};
 use ct_pieces::{Pieces, SubmitFault};
 use ct_rules::Rule;
 use ct_text::{Gathered, Gathering, Id, Text, first_words};
@@ -71,6 +71,7 @@ impl Reading {
         Reading {
             pieces: Pieces::new(alloc),
             supports: Vec::new(alloc),
+            sizes: ClassSizes::new(alloc),
             lines: Vec::new(alloc),
             part: Part::Start,
         }
@@ -101,6 +102,7 @@ impl Reading {
         let fault = add_line(
             alloc,
             &self.supports,
+            &mut self.sizes,
             &mut self.lines,
             line.claim,
             rule,
