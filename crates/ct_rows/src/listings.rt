@@ -18,17 +18,6 @@ struct Listing {
     size: usize,
 }
 
-/// A listing of a code of the entry.
-const fn listing(before: &'static str, n: u32, d: u32, w: Option<u32>, size: usize) -> Listing {
-    Listing {
-        before,
-        n,
-        d,
-        w,
-        size,
-    }
-}
-
 /// The seven lines of the Fano plane.
 const FANO_PLANE: &str =
     "submit fano lines 5\nkind='words'\nn=7\nd=4\nw=3\nwords=['1101000','0110100','0011010','0001101','1000110','0100011','1010001']\n";
@@ -36,20 +25,20 @@ const FANO_PLANE: &str =
 /// The extended Hamming code has 16 words; two words differ at all of 30 places, or have 15 ones each and none in common; the triples of six
 /// places whose sum is 0 modulo 6 are 4. Four lines of the Fano plane miss a point, the complements of all are seven, and of weight 4 and
 /// length 8 the greatest sum class has 10 words, more than the lines with a place more.
-const LISTINGS: [Listing; 13] = [
-    listing("", 1, 30, None, 1),
-    listing("", 29, 30, None, 1),
-    listing("", 30, 30, None, 2),
-    listing("", 30, 30, Some(15), 2),
-    listing("", 5, 3, None, 4),
-    listing("", 8, 4, None, 16),
-    listing("", 4, 4, Some(0), 1),
-    listing("", 6, 4, Some(3), 4),
-    listing("", 16, 8, None, 32),
-    listing(FANO_PLANE, 7, 4, Some(3), 7),
-    listing(FANO_PLANE, 6, 4, Some(3), 4),
-    listing(FANO_PLANE, 7, 4, Some(4), 7),
-    listing(FANO_PLANE, 8, 4, Some(4), 10),
+const LISTINGS: [(&str, u32, u32, Option<u32>, usize); 13] = [
+    ("", 1, 30, None, 1),
+    ("", 29, 30, None, 1),
+    ("", 30, 30, None, 2),
+    ("", 30, 30, Some(15), 2),
+    ("", 5, 3, None, 4),
+    ("", 8, 4, None, 16),
+    ("", 4, 4, Some(0), 1),
+    ("", 6, 4, Some(3), 4),
+    ("", 16, 8, None, 32),
+    (FANO_PLANE, 7, 4, Some(3), 7),
+    (FANO_PLANE, 6, 4, Some(3), 4),
+    (FANO_PLANE, 7, 4, Some(4), 7),
+    (FANO_PLANE, 8, 4, Some(4), 10),
 ];
 
 /// The entry as a command names it.
@@ -132,7 +121,14 @@ fn is_listed(alloc: Global, listing: Listing, output: &[u8]) -> Result<bool, All
 /// Each listing is a code of its entry, with as many words as are known.
 pub fn run_all(rt: &(impl Print + AllocGlobal), tally: &mut Tally) -> io::Result<()> {
     let alloc = rt.alloc();
-    for listing in LISTINGS {
+    for (before, n, d, w, size) in LISTINGS {
+        let listing = Listing {
+            before,
+            n,
+            d,
+            w,
+            size,
+        };
         let entry = entry_words(alloc, listing)?;
         let lines = format!(in alloc; "{}list {entry}\n", listing.before)?;
         let output = output_of(alloc, lines.as_str())?;

@@ -63,7 +63,7 @@ fn count(
 }
 
 /// Counts the documents of the file.
-pub fn run_all(rt: &(impl Print + Files + AllocGlobal), tally: &mut Tally) -> io::Result<()> {
+pub fn run_all(rt: &(impl Print + Files + AllocGlobal), tally: &mut Tally) -> anyhow::Result<()> {
     let text = fs::read_to_string(rt, "verdicts.toml")?;
     let file = Value::Table(toml::table_from_str(rt.alloc(), text.as_str())?);
     for group in list(&file, "group") {
