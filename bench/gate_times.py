@@ -125,4 +125,5 @@ def main():
     sys.exit(gate.returncode)
 
 
-main()
+if __name__ == "__main__":
+    main()
