@@ -12,9 +12,9 @@ ghost use Rattle.ct_session.specs.Reply.{IsReply, AreBoundsOf, IsShowReply, IsTa
 use crate::explaining;
 use ct_codes::{Entry, Side};
 use ct_ledger::{Ledger, SubmitFault, WithdrawFault};
-use ct_replies::{Bounds, BoundsList, Refusal, Reply};
+use ct_replies::{Bounds, Refusal, Reply};
 use ct_text::{EntryNumbers, Id, TableNumbers, Text};
-use ct_words::MAX_N;
+use ct_words::{Listed, MAX_N};
 use std::alloc::{AllocError, Global};
 
 /// The bounds of an entry of the table.
@@ -45,7 +45,7 @@ fn column_of(
     alloc: Global,
     ledger: &Ledger,
     numbers: TableNumbers,
-) -> Result<BoundsList, AllocError>
+) -> Result<Listed<Bounds>, AllocError>
     ensures { IfOk result (λ bounds. AllZip (AreBoundsOf ledger.now.pieces) (column numbers.d numbers.w) bounds) }
 {
     let mut list = Vec::new(alloc);
@@ -54,7 +54,7 @@ fn column_of(
             list.push(bounds_of(ledger, entry))?;
         }
     }
-    Ok(BoundsList::from_vec(list))
+    Ok(Listed::from_vec(list))
 }
 
 /// The reply to `table`: the bounds of the column with these numbers, where it has an entry. `Err` is want of memory.

@@ -1,7 +1,6 @@
 //! The steps by which a code is made from others.
 
-use crate::numbers::Numbers;
-use ct_words::Word;
+use ct_words::{Listed, Word};
 
 /// A step by which a code is made from one code, its part, or from two, its part and the other.
 #[derive(Debug, Drop)]
@@ -13,9 +12,9 @@ pub enum Step {
     /// Each word is followed by the parity of its weight.
     Parity,
     /// These places are left out.
-    Puncture(Numbers),
+    Puncture(Listed<u32>),
     /// The words that have the digits, the second list, at the places, the first, less these places.
-    Shorten(Numbers, Numbers),
+    Shorten(Listed<u32>, Listed<u32>),
     /// This word is added to each word.
     Translate(Word),
     /// Zeros and ones change places.

@@ -8,10 +8,10 @@ ghost use Rattle.ct_fields.specs.Fields.{field};
 ghost use Rattle.ct_build_files.specs.BuildFields.{operation_field, ascend, are_left_out, places_in, digits_of, by_field, step_fields, id_field, other_field};
 
 use crate::operation::Operation;
-use ct_build::{MAX_BUILT, Numbers, Step};
+use ct_build::{MAX_BUILT, Step};
 use ct_fields::{DocumentFault, FieldName, all_of, id_in, number_field};
 use ct_text::Id;
-use ct_words::{MAX_N, Word, parse_word};
+use ct_words::{Listed, MAX_N, Word, parse_word};
 use std::alloc::{AllocError, Global};
 use toml::Value;
 
@@ -111,8 +111,8 @@ fn shorten_fields(alloc: Global, n: u32, document: &Value) -> Result<Option<Step
     let text = text_field(document, FieldName::Digits)?;
     match digits_of(alloc, places.len(), text.as_bytes())? {
         Some(digits) => {
-            let places = Numbers::from_vec(places);
-            Ok(Some(Step::Shorten(places, Numbers::from_vec(digits))))
+            let places = Listed::from_vec(places);
+            Ok(Some(Step::Shorten(places, Listed::from_vec(digits))))
         }
         None => Ok(None),
     }
@@ -146,7 +146,7 @@ pub fn step_fields(
         Operation::Parity => Ok(Some(Step::Parity)),
         Operation::Puncture => {
             let places = places_field(alloc, n, document)?;
-            Ok(Some(Step::Puncture(Numbers::from_vec(places))))
+            Ok(Some(Step::Puncture(Listed::from_vec(places))))
         }
         Operation::Shorten => shorten_fields(alloc, n, document),
         Operation::Translate => Ok(by_field(n, document)?.map(Step::Translate)),

@@ -3,86 +3,14 @@ ghost use Rattle.std.specs.Prelude.{◌≡◌, length, IfOk};
 ghost use Rattle.ct_duals.specs.Bound.{positive, dual_premises};
 
 use ct_codes::Entry;
+use ct_words::Listed;
 use std::alloc::AllocError;
-use std::marker::Model;
 
-/// The multipliers of a dual: c_0, c_1 and so on, as far as they are given; the others are 0. Contracts see the list of
-/// the numbers.
-#[derive(Debug, Drop)]
-pub struct Multipliers {
-    numbers: Vec<i64>,
-}
+/// The multipliers of a dual: c_0, c_1 and so on, as far as they are given; the others are 0.
+pub type Multipliers = Listed<i64>;
 
-impl Model for Multipliers {
-    ghost use Rattle.std.specs.Prelude.{List, ℤ};
-
-    ghost Value = { List ℤ };
-
-    ghost view = { λ m. m.numbers.items };
-}
-
-impl Multipliers {
-    /// The numbers of the vector.
-    pub fn from_vec(numbers: Vec<i64>) -> Multipliers
-        ensures { result ≡ numbers.items }
-    {
-        Multipliers { numbers }
-    }
-
-    /// The numbers as a slice.
-    pub fn as_slice(&self) -> &[i64]
-        ensures { result.now ≡ self.now }
-    {
-        &self.numbers
-    }
-
-    /// The same numbers once more. `Err` is want of memory.
-    pub fn try_copy(&self) -> Result<Multipliers, AllocError>
-        ensures { IfOk result (λ c. c ≡ self.now) }
-    {
-        let numbers = self.numbers.clone()?;
-        Ok(Multipliers { numbers })
-    }
-}
-
-/// What a dual allows at some indices, each with the number that is allowed there; at the others it is 0. Contracts see
-/// the list of the pairs.
-#[derive(Debug, Drop)]
-pub struct Allowances {
-    pairs: Vec<(u32, i64)>,
-}
-
-impl Model for Allowances {
-    ghost use Rattle.std.specs.Prelude.{List, ℕ, ℤ};
-
-    ghost Value = { List (ℕ × ℤ) };
-
-    ghost view = { λ y. y.pairs.items };
-}
-
-impl Allowances {
-    /// The pairs of the vector.
-    pub fn from_vec(pairs: Vec<(u32, i64)>) -> Allowances
-        ensures { result ≡ pairs.items }
-    {
-        Allowances { pairs }
-    }
-
-    /// The pairs as a slice.
-    pub fn as_slice(&self) -> &[(u32, i64)]
-        ensures { result.now ≡ self.now }
-    {
-        &self.pairs
-    }
-
-    /// The same pairs once more. `Err` is want of memory.
-    pub fn try_copy(&self) -> Result<Allowances, AllocError>
-        ensures { IfOk result (λ y. y ≡ self.now) }
-    {
-        let pairs = self.pairs.clone()?;
-        Ok(Allowances { pairs })
-    }
-}
+/// What a dual allows at some indices, each with the number that is allowed there; at the others it is 0.
+pub type Allowances = Listed<(u32, i64)>;
 
 /// A dual of Delsarte's linear program for the codes of an entry (Delsarte 1973; MacWilliams and Sloane, chapter 17,
 /// section 4): a combination of the rows of the entry's scheme that is at most what is allowed at each index that two

@@ -1,12 +1,11 @@
 //! The kinds of evidence.
 
-use crate::id_pairs::IdPairs;
 use crate::word_lists::WordLists;
 use ct_build::Step;
 use ct_codes::Entry;
 use ct_duals::Dual;
 use ct_text::Id;
-use ct_words::WordList;
+use ct_words::{Listed, Word};
 
 /// A piece of evidence for a bound.
 #[derive(Debug, Drop)]
@@ -14,14 +13,14 @@ pub enum Evidence {
     /// Words that are stated as a code of the entry, in the order of the document.
     Words {
         entry: Entry,
-        words: WordList,
+        words: Listed<Word>,
     },
     /// A basis and representatives: the sums of each representative with all sums of basis words are stated as a code of
     /// the entry, which has no weight.
     Cosets {
         entry: Entry,
-        basis: WordList,
-        representatives: WordList,
+        basis: Listed<Word>,
+        representatives: Listed<Word>,
     },
     /// Classes that are stated as a partition: each is a code of the entry, and words of different classes have a distance of
     /// at least `between`.
@@ -41,7 +40,7 @@ pub enum Evidence {
     /// Pairs of pieces that are partitions, whose product is stated as a code of the entry. Pairs may be equal.
     Product {
         entry: Entry,
-        pairs: IdPairs,
+        pairs: Listed<(Id, Id)>,
     },
     /// A dual of Delsarte's linear program for an entry without weight.
     Dual(Dual),

@@ -3,7 +3,6 @@
 
 mod evidence;
 mod fault;
-mod id_pairs;
 mod kind;
 mod parts;
 mod stated;
@@ -12,7 +11,6 @@ mod word_lists;
 
 pub use evidence::Evidence;
 pub use fault::SubmitFault;
-pub use id_pairs::IdPairs;
 pub use kind::{Kind, support_from};
 pub use parts::{Codes, Found, Partitions};
 pub use stated::StatedPartition;

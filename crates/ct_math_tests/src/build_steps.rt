@@ -7,9 +7,9 @@ ghost use Rattle.ct_codes.specs.Constructions.Places.{ArePlaces};
 ghost use Rattle.ct_build.specs.Build.{FieldsFit, FitsStated};
 
 use crate::build_parts::Few;
-use ct_build::{BuildFault, MAX_BUILT, Numbers, Step, apply};
+use ct_build::{BuildFault, MAX_BUILT, Step, apply};
 use ct_codes::{Code, Entry};
-use ct_words::{MAX_N, Word};
+use ct_words::{Listed, MAX_N, Word};
 use std::alloc::Global;
 use std::process::Abort;
 use std::test::Fail;
@@ -51,8 +51,8 @@ pub(crate) fn step_of(alloc: Global, change: Change) -> Result<Step, Fail> {
 }
 
 /// The numbers in a row.
-fn numbers(alloc: Global, list: &[u32]) -> Result<Numbers, Fail> {
-    Ok(Numbers::from_vec(list.to_vec(alloc)?))
+fn numbers(alloc: Global, list: &[u32]) -> Result<Listed<u32>, Fail> {
+    Ok(Listed::from_vec(list.to_vec(alloc)?))
 }
 
 /// What the step makes of the part and the other code, which it has to fit.

@@ -6,7 +6,8 @@ ghost use Rattle.ct_partition_files.specs.Product.{product_evidence_of};
 
 use crate::pairs::pairs_field;
 use ct_fields::{DocumentFault, FieldName, last_fields, stated_entry};
-use ct_kind::{Evidence, IdPairs};
+use ct_kind::Evidence;
+use ct_words::Listed;
 use std::alloc::Global;
 use toml::Value;
 
@@ -19,6 +20,6 @@ pub fn product_evidence(alloc: Global, document: &Value) -> Result<Evidence, Doc
     let pairs = pairs_field(alloc, entry.w, document)?;
     let names = [FieldName::N, FieldName::D, FieldName::W, FieldName::Pairs];
     last_fields(document, &names)?;
-    let pairs = IdPairs::from_vec(pairs);
+    let pairs = Listed::from_vec(pairs);
     Ok(Evidence::Product { entry, pairs })
 }

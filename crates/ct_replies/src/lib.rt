@@ -4,5 +4,5 @@
 mod reply;
 mod text;
 
-pub use reply::{AnyReply, Bounds, BoundsList, LongReply, Refusal, Reply};
+pub use reply::{AnyReply, Bounds, LongReply, Refusal, Reply};
 pub use text::{ledger_text, put_reply};

@@ -3,7 +3,7 @@
 use ct_codes::{Code, Entry};
 use ct_pieces::{SubmitFault, WithdrawFault};
 use ct_text::{Id, Text};
-use std::marker::Model;
+use ct_words::Listed;
 
 /// Why a command is refused.
 #[derive(Debug, Drop)]
@@ -31,39 +31,6 @@ pub struct Bounds {
     pub upper: u32,
 }
 
-/// The bounds of several entries. Contracts see the list of them.
-#[derive(Debug, Drop)]
-pub struct BoundsList {
-    list: Vec<Bounds>,
-}
-
-impl Model for BoundsList {
-    ghost use Rattle.std.specs.Prelude.{List};
-    ghost use Rattle.ct_replies.specs.declared.reply.Bounds.{Bounds};
-
-    ghost Value = { List Bounds };
-
-    ghost view = { λ l. l.list.items };
-}
-
-impl BoundsList {
-    ghost use Rattle.std.specs.Prelude.{◌≡◌};
-
-    /// The list of these bounds.
-    pub fn from_vec(list: Vec<Bounds>) -> BoundsList
-        ensures { result ≡ list.items }
-    {
-        BoundsList { list }
-    }
-
-    /// The bounds, in their order.
-    pub fn as_slice(&self) -> &[Bounds]
-        ensures { result.now ≡ self.now }
-    {
-        &self.list
-    }
-}
-
 /// The reply to a command.
 #[derive(Debug, Drop)]
 pub enum Reply {
@@ -76,7 +43,7 @@ pub enum Reply {
     /// The bounds of an entry.
     Shown(Bounds),
     /// The bounds of all entries of a distance and, where one is named, a weight, in the order of their lengths.
-    Table(BoundsList),
+    Table(Listed<Bounds>),
     /// Lines, each with its line feed.
     Lines(Text),
     /// The command was refused.

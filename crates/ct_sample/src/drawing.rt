@@ -11,7 +11,7 @@ use ct_kind::Evidence;
 use ct_ledger::Piece;
 use ct_partitions::sum_class_list;
 use ct_text::Id;
-use ct_words::{Word, WordList};
+use ct_words::{Listed, Word};
 use std::alloc::{AllocError, Global};
 
 /// The first digits of the words of the Golay code that are summed: those of its generator polynomial.
@@ -34,7 +34,7 @@ fn drawn_words(alloc: Global, h: u32) -> Result<Evidence, AllocError>
             d: 4,
             w: Some(w),
         },
-        words: WordList::from_vec(words),
+        words: Listed::from_vec(words),
     })
 }
 
@@ -62,8 +62,8 @@ fn drawn_cosets(alloc: Global, h: u32) -> Result<Evidence, AllocError>
             d: 8,
             w: None,
         },
-        basis: WordList::from_vec(basis),
-        representatives: WordList::from_vec(representatives),
+        basis: Listed::from_vec(basis),
+        representatives: Listed::from_vec(representatives),
     })
 }
 

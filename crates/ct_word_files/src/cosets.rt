@@ -8,7 +8,7 @@ ghost use Rattle.ct_word_files.specs.Cosets.{coset_count, cosets_of_texts, coset
 use ct_codes::{Entry, MAX_REPRESENTATIVES};
 use ct_fields::{DocumentFault, FieldName, last_fields, plain_entry, texts_field, words_from};
 use ct_kind::Evidence;
-use ct_words::{MAX_N, Word, WordList};
+use ct_words::{Listed, MAX_N, Word};
 use std::alloc::Global;
 use toml::Value;
 
@@ -42,8 +42,8 @@ fn cosets_of_texts(
     let basis = words_from(alloc, entry.n, 0, basis_texts)?;
     let representatives = words_from(alloc, entry.n, basis_texts.len(), texts)?;
     coset_count(&basis, &representatives)?;
-    let basis = WordList::from_vec(basis);
-    let representatives = WordList::from_vec(representatives);
+    let basis = Listed::from_vec(basis);
+    let representatives = Listed::from_vec(representatives);
     Ok(Evidence::Cosets {
         entry,
         basis,

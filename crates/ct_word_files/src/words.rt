@@ -8,7 +8,7 @@ ghost use Rattle.ct_word_files.specs.Words.{word_count, words_of_texts, words_ev
 use ct_codes::{Entry, MAX_WORDS};
 use ct_fields::{DocumentFault, FieldName, last_fields, stated_entry, texts_field, words_from};
 use ct_kind::Evidence;
-use ct_words::{Word, WordList};
+use ct_words::{Listed, Word};
 use std::alloc::Global;
 use toml::Value;
 
@@ -32,7 +32,7 @@ fn words_of_texts(alloc: Global, entry: Entry, texts: &[&str]) -> Result<Evidenc
 {
     let words = words_from(alloc, entry.n, 0, texts)?;
     word_count(&words)?;
-    let words = WordList::from_vec(words);
+    let words = Listed::from_vec(words);
     Ok(Evidence::Words { entry, words })
 }
 

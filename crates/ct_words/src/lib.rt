@@ -5,16 +5,16 @@
 mod alternating;
 mod counts;
 mod limits;
+mod listed;
 mod metric;
 mod text;
 mod triangle;
 mod word;
-mod word_list;
 
 pub use alternating::add_alternating;
 pub use counts::{ball, binomial, factorial};
 pub use limits::{MAX_BOUND, MAX_N};
+pub use listed::Listed;
 pub use metric::{distance, weight};
 pub use text::{parse_word, print_word};
 pub use word::{Word, WordFault};
-pub use word_list::WordList;
