@@ -1,9 +1,8 @@
 //! Codes that are listed. Any code of the size will do, so each is checked by itself: the line before it, the order of its words, their
 //! distances and their weights.
 
+use crate::outcome::Outcome;
 use crate::tally::Tally;
-use ct_io::{MemSink, MemSource};
-use ct_run::run;
 use ct_words::{MAX_N, Word, parse_word};
 use std::alloc::{AllocError, Global};
 use std::io;
@@ -48,16 +47,6 @@ fn entry_words(alloc: Global, listing: Listing) -> Result<String, AllocError> {
         None => format!(in alloc; "{n} {d}"),
         Some(w) => format!(in alloc; "{n} {d} {w}"),
     }
-}
-
-/// What the program writes for a session of these lines.
-fn output_of(alloc: Global, lines: &str) -> Result<Vec<u8>, AllocError> {
-    let words = [String::from_str(alloc, "session")?];
-    let input = Vec::from_slice(alloc, lines.as_bytes())?;
-    let mut source = MemSource::new(input, Vec::new(alloc), 4096);
-    let mut sink = MemSink::new(alloc, 262_144, Vec::new(alloc), 65_536)?;
-    run(alloc, &words, &mut source, &mut sink);
-    sink.bytes.to_vec(alloc)
 }
 
 /// What is written after the line of the submission, where there was one.
@@ -131,10 +120,10 @@ pub fn run_all(rt: &(impl Print + AllocGlobal), tally: &mut Tally) -> io::Result
         };
         let entry = entry_words(alloc, listing)?;
         let lines = format!(in alloc; "{}list {entry}\n", listing.before)?;
-        let output = output_of(alloc, lines.as_str())?;
-        let is_met = is_listed(alloc, listing, after_submission(listing, &output))?;
-        let came = str::from_utf8(&output).unwrap_or("no text");
-        tally.count(rt, lines.as_str().trim_end(), is_met, came)?;
+        let input = Vec::from_slice(alloc, lines.as_bytes())?;
+        let outcome = Outcome::of_mode(alloc, "session", input)?;
+        let is_met = is_listed(alloc, listing, after_submission(listing, &outcome.output))?;
+        tally.count(rt, lines.as_str().trim_end(), is_met, outcome.text())?;
     }
     Ok(())
 }

@@ -7,6 +7,7 @@ mod chain;
 mod fields;
 mod listings;
 mod numbers;
+mod outcome;
 mod row;
 mod tally;
 mod verdicts;

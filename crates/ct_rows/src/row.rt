@@ -1,8 +1,8 @@
 //! A row: an input, and what the program is known to do with it. The head of `rows.toml` says what stands at the keys of its table.
 
 use crate::fields::{list, number, numbers, text, texts};
+use crate::outcome::Outcome;
 use ct_io::{MemSink, MemSource};
-use ct_run::{Status, run};
 use std::alloc::{AllocError, Global};
 use std::rt::Files;
 use std::{fs, io};
@@ -15,17 +15,6 @@ pub struct Known {
     pub input: String,
     /// The output.
     pub output: String,
-}
-
-/// What the program did with an input.
-#[derive(Drop)]
-pub struct Outcome {
-    /// How it ended.
-    pub status: Status,
-    /// What it wrote.
-    pub output: Vec<u8>,
-    /// How often it read.
-    pub read_calls: u32,
 }
 
 /// Puts the text at the key, and that of the file that the other key names, to the end of what is known.
@@ -129,14 +118,9 @@ fn sink(alloc: Global, row: &Value) -> Result<MemSink, AllocError> {
 /// What the program does with the input, where a read gives at most so many bytes.
 fn run_on(alloc: Global, row: &Value, input: &str, read: u32) -> Result<Outcome, AllocError> {
     let words = command_line(alloc, row)?;
-    let mut source = source(alloc, row, input, read)?;
-    let mut sink = sink(alloc, row)?;
-    let status = run(alloc, &words, &mut source, &mut sink);
-    Ok(Outcome {
-        status,
-        output: sink.bytes.to_vec(alloc)?,
-        read_calls: source.calls,
-    })
+    let source = source(alloc, row, input, read)?;
+    let sink = sink(alloc, row)?;
+    Outcome::of_run(alloc, &words, source, sink)
 }
 
 /// What the program does with the input, where a read gives at most so many bytes, if that is not what is known.
@@ -156,7 +140,7 @@ pub fn difference(
     {
         return Ok(None);
     }
-    let output = str::from_utf8(&outcome.output).unwrap_or("no text");
+    let output = outcome.text();
     let came = format!(in alloc; "{status} after {calls} reads of {read}, and\n{output}")?;
     Ok(Some(came))
 }

@@ -1,10 +1,10 @@
 //! Derivation documents whose verdicts are known. The head of `verdicts.toml` says what stands at the keys of a group.
 
 use crate::fields::{list, text};
+use crate::outcome::Outcome;
 use crate::row::bytes_of;
 use crate::tally::Tally;
-use ct_io::{MemSink, MemSource};
-use ct_run::{Status, run};
+use ct_run::Status;
 use std::alloc::{AllocError, Global};
 use std::rt::Files;
 use std::{fs, io};
@@ -27,15 +27,6 @@ fn document(alloc: Global, group: &Value, row: &str) -> Result<Vec<u8>, AllocErr
     bytes_of(alloc, document.as_str())
 }
 
-/// How the program ends where it verifies the document, and what it writes.
-fn verify(alloc: Global, document: Vec<u8>) -> Result<(Status, Vec<u8>), AllocError> {
-    let words = [String::from_str(alloc, "verify")?];
-    let mut source = MemSource::new(document, Vec::new(alloc), 4096);
-    let mut sink = MemSink::new(alloc, 262_144, Vec::new(alloc), 65_536)?;
-    let status = run(alloc, &words, &mut source, &mut sink);
-    Ok((status, sink.bytes.to_vec(alloc)?))
-}
-
 /// The status with which the mode ends after this verdict.
 fn status_after(verdict: &str) -> Status {
     if verdict == "yes" {
@@ -55,11 +46,11 @@ fn count(
     let alloc = rt.alloc();
     let row_text = item_text(row.first());
     let verdict = item_text(row.get(1));
-    let (status, output) = verify(alloc, document(alloc, group, row_text)?)?;
+    let outcome = Outcome::of_mode(alloc, "verify", document(alloc, group, row_text)?)?;
     let known = format!(in alloc; "{verdict}\n")?;
-    let is_met = status == status_after(verdict) && output.as_slice() == known.as_bytes();
-    let came = str::from_utf8(&output).unwrap_or("no text");
-    tally.count(rt, row_text, is_met, came)
+    let is_met = outcome.status == status_after(verdict)
+        && outcome.output.as_slice() == known.as_bytes();
+    tally.count(rt, row_text, is_met, outcome.text())
 }
 
 /// Counts the documents of the file.
