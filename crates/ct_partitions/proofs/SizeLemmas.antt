@@ -145,6 +145,26 @@ pub size-empty_more : (n k s : ℕ) → size_of n 0 (suc k) s ≡ 0
 unfolding weight place_sum
 size-empty_more n k s = ap (λ b. 0 + cond {A = ℕ} (b && 0 % n == s) 1 0) (ne_eqb 0 (suc k) (λ e. omega arith))
 
+-- the sum without the place m, of a sum below m and of one from m on
+pub sum_below : (n m s : ℕ) → m ≤ n → s < m → (s + (n - m)) % n ≡ s + (n - m)
+sum_below n m s within below = mod-eq_of_lt {n = s + (n - m)} {m = n} (omega arith)
+
+pub sum_from : (n m s : ℕ) → m ≤ n → m ≤ s → s < n → (s + (n - m)) % n ≡ s - m
+sum_from n m s within from below =
+    let whole : s + (n - m) ≡ s - m + n = omega arith in
+    ap (λ t. t % n) whole ∙ add-mod_right (s - m) n ∙ mod-eq_of_lt {n = s - m} {m = n} (omega arith)
+
+-- no set has more places than there are
+pub size-beyond : (n m k s : ℕ) → m ≤ n → s < n → m < k → size_of n m k s ≡ 0
+size-beyond n m zero s within below beyond = absurd (omega arith)
+size-beyond n zero (suc k) s within below beyond = size-empty_more n k s
+size-beyond n (suc m) (suc k) s within below beyond =
+    let without = size-beyond n m (suc k) s (omega arith) below (omega arith) in
+    let small : (s + (n - m)) % n < n = omega arith in
+    let with_it = size-beyond n m k ((s + (n - m)) % n) (omega arith) small (omega arith) in
+    let more = size-more n m k s (omega arith) below in
+    ap (λ j. size_of n j (suc k) s) (sym (add-one m)) ∙ more ∙ omega arith
+
 -- there are at most as many as words
 pub size-le : (n m k s : ℕ) → m ≤ MAX_N → size_of n m k s ≤ MAX_BOUND
 size-le n m k s few =
@@ -172,6 +192,11 @@ each_of_first P x y d first other m (suc k) within = subst (P (suc k)) (sym (get
 -- the first row stays with the next place
 pub first_row-next : (n m : ℕ) (row : List ℕ) → IsRow n m 0 row → IsRow n (m + 1) 0 row
 first_row-next n m row is = λ s within. is s within ∙ sym (size-none_more n m s)
+
+-- nor does a row of more places than there are with the next one
+pub row_beyond-next : (n m k : ℕ) (row : List ℕ) → m < n → m + 1 < k → IsRow n m k row → IsRow n (m + 1) k row
+row_beyond-next n m k row within beyond is = λ s below.
+    is s below ∙ size-beyond n m k s (omega arith) below (omega arith) ∙ sym (size-beyond n (m + 1) k s (omega arith) below beyond)
 
 -- a row of sizes is low
 pub row-low : (n m k : ℕ) (row : List ℕ) → m ≤ MAX_N → IsRow n m k row → IsLow n row

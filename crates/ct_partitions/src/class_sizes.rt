@@ -88,7 +88,8 @@ fn add_element(table: &mut Table, n: u32, w: u32, element: u32)
     ensures { IsTable n (element + 1) w table.new }
 {
     let mut fewer = table[0];
-    for ones in 1..w as usize + 1 {
+    // No set has more places than there are.
+    for ones in 1..w.min(element + 1) as usize + 1 {
         let same = table[ones];
         table[ones] = with_element(&same, &fewer, n as usize, element as usize);
         fewer = same;
@@ -105,8 +106,11 @@ fn with_element(same: &Row, fewer: &Row, n: usize, element: usize) -> Row
         slice_index result s ≡ slice_index same.now s + slice_index fewer.now ((s + (n - element)) % n) }
 {
     let mut row = [0; RESIDUES];
-    for sum in 0..n {
-        row[sum] = same[sum] + fewer[(sum + (n - element)) % n];
+    for sum in 0..element {
+        row[sum] = same[sum] + fewer[sum + (n - element)];
+    }
+    for sum in element..n {
+        row[sum] = same[sum] + fewer[sum - element];
     }
     row
 }

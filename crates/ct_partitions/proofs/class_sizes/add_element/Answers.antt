@@ -1,6 +1,7 @@
-use Rattle.std.proofs.Common.{◌≡◌, ◌≢◌, ℕ, zero, suc, [], ◌+◌, ◌-◌, ◌%◌, ◌<◌, ◌≤◌, List, length, get_or, subst, sym, ap, ap₂, ◌∙◌, arith, length-set}
+use Rattle.std.proofs.Common.{◌≡◌, ◌≢◌, ℕ, zero, suc, [], ◌+◌, ◌-◌, ◌%◌, ◌<◌, ◌≤◌, List, length, get_or, subst, sym, ap, ap₂, ◌∙◌, inl, inr, arith, length-set}
+use Rattle.std.proofs.lemmas.Bool.{cases_lt}
 use Rattle.ct_partitions.specs.Inside.Sizes.{size_of, IsRow, IsTable}
-use Rattle.ct_partitions.proofs.SizeLemmas.{first_row-next, row-low, size-more, set_other, set_more}
+use Rattle.ct_partitions.proofs.SizeLemmas.{first_row-next, row_beyond-next, row-low, size-more, set_other, set_more}
 use Rattle.ct_partitions.proofs.class_sizes.add_element.Goals as goal
 
 first_done : (n m w : ℕ) (table : List (List ℕ)) → IsTable n m w table → (k : ℕ) → k < 1 → IsRow n (m + 1) k (get_or table k [])
@@ -54,3 +55,15 @@ loop-ones-preserved c =
       left = λ j h l. let ne : j ≢ k = omega arith in
           set_other (λ i r. IsRow n m i r) table k _ [] j ne (c.loop-ones.invariant.left j (omega arith) l);
     }
+
+pub returns : goal.returns
+returns c = λ k few.
+    let n = c.args.n in
+    let m = c.args.element in
+    let inv = c.loop-ones.invariant in
+    elim (cases_lt k c.loop-ones.ones) [
+      | inl below ↦ inv.done k below
+      | inr rest ↦
+          let row = get_or c.loop-ones.table k [] in
+          row_beyond-next n m k row c.requires.element (omega arith) (inv.left k (omega arith) few)
+    ]
