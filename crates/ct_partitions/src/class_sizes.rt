@@ -91,26 +91,24 @@ fn add_element(table: &mut Table, n: u32, w: u32, element: u32)
     // No set has more places than there are.
     for ones in 1..w.min(element + 1) as usize + 1 {
         let same = table[ones];
-        table[ones] = with_element(&same, &fewer, n as usize, element as usize);
+        add_with_element(&mut table[ones], &fewer, n as usize, element as usize);
         fewer = same;
     }
 }
 
-/// The row of the sets of so many places without the element, and those of one place fewer with it.
-fn with_element(same: &Row, fewer: &Row, n: usize, element: usize) -> Row
+/// Adds to the row of the sets of so many places without the element those of one place fewer with it.
+fn add_with_element(row: &mut Row, fewer: &Row, n: usize, element: usize)
     requires length { n ≤ MAX_N }
     requires element { element < n }
-    requires same { IsLow n same.now }
+    requires same { IsLow n row.old }
     requires fewer { IsLow n fewer.now }
     ensures { (s : ℕ) → s < n →
-        slice_index result s ≡ slice_index same.now s + slice_index fewer.now ((s + (n - element)) % n) }
+        slice_index row.new s ≡ slice_index row.old s + slice_index fewer.now ((s + (n - element)) % n) }
 {
-    let mut row = [0; RESIDUES];
     for sum in 0..element {
-        row[sum] = same[sum] + fewer[sum + (n - element)];
+        row[sum] += fewer[sum + (n - element)];
     }
     for sum in element..n {
-        row[sum] = same[sum] + fewer[sum - element];
+        row[sum] += fewer[sum - element];
     }
-    row
 }

@@ -16,13 +16,13 @@ loop-ones-init c = record {
   left = λ k some within. c.requires.below k within;
 }
 
-pub with_element-requires-clause-same : goal.with_element-requires-clause-same
-with_element-requires-clause-same c =
+pub add_with_element-requires-clause-same : goal.add_with_element-requires-clause-same
+add_with_element-requires-clause-same c =
     row-low c.args.n c.args.element c.loop-ones.ones _ (let h = c.requires.element in let l = c.requires.length in omega arith)
     (c.loop-ones.invariant.left c.loop-ones.ones (omega arith) (omega arith))
 
-pub with_element-requires-clause-fewer : goal.with_element-requires-clause-fewer
-with_element-requires-clause-fewer c =
+pub add_with_element-requires-clause-fewer : goal.add_with_element-requires-clause-fewer
+add_with_element-requires-clause-fewer c =
     row-low c.args.n c.args.element (c.loop-ones.ones - 1) _ (let h = c.requires.element in let l = c.requires.length in omega arith)
     c.loop-ones.invariant.fewer
 
@@ -46,8 +46,8 @@ loop-ones-preserved c =
     let same = c.loop-ones.invariant.left k (omega arith) (omega arith) in
     let inside : k < length table = let room = c.loop-ones.invariant.room in omega arith in
     let row =
-    new_row n m k (get_or table k []) c.loop-ones.fewer c.with_element.result
-    (omega arith) c.requires.element same c.loop-ones.invariant.fewer c.with_element.ensures in
+    new_row n m k (get_or table k []) c.loop-ones.fewer c.add_with_element.new.row
+    (omega arith) c.requires.element same c.loop-ones.invariant.fewer c.add_with_element.ensures in
     record {
       room = length-set {A = List ℕ} _ _ _ ∙ c.loop-ones.invariant.room;
       fewer = let at : k + 1 - 1 ≡ k = omega arith in subst (λ j. IsRow n m j (get_or table k [])) (sym at) same;
