@@ -5,12 +5,14 @@ use Rattle.std.specs.Prelude.{not, is_some, nat_le, nat_lt, false}
 use Rattle.ct_words.specs.Counting.Binomials.{choose}
 use Rattle.ct_codes.specs.declared.claim.Side.TheVariants.{Lower, Upper}
 use Rattle.ct_codes.specs.declared.entry.Entry.{Entry}
-use Rattle.ct_codes.specs.Entry.{IsEntry, is_entry}
+use Rattle.ct_codes.specs.Entry.{IsEntry, is_entry, unrestricted}
+use Rattle.ct_codes.proofs.EntryLemmas.{entry_limits, entry_from_limits}
+use Rattle.ct_elementary.specs.Bounds.{plotkin_value, sphere_packing_value}
 use Rattle.ct_rule_parts.specs.Parts.{has_weight, within_limit}
 use Rattle.ct_weight_rules.specs.Disjoint.{has_disjoint_words, count_of_disjoint}
 use Rattle.ct_weight_rules.specs.FarWords.{has_no_far_words}
 use Rattle.ct_weight_rules.specs.ColumnPairs.{below_too_many}
-use Rattle.ct_rules.specs.declared.rule.Rule.TheVariants.{L1, L2, M1, M2, U0, U1, V0, V1, V2, V8}
+use Rattle.ct_rules.specs.declared.rule.Rule.TheVariants.{L1, L2, M1, M2, U0, U1, U2, U3, V0, V1, V2, V8}
 use Rattle.ct_rules.specs.Rule.{row_of, value_of}
 
 -- where a test passes that another one passes too
@@ -83,3 +85,22 @@ pairs_given e k entry some =
     sym (ap (λ b. if is_entry e && b && true then within_limit Upper (below_too_many e) else None) (weighted e k (is_some (below_too_many e)) some)
     ∙ through (is_entry e) (is_some (below_too_many e)) (within_limit Upper (below_too_many e)) entry
     ∙ some_number (below_too_many e))
+
+pub distances_given : (e : Entry) → IsEntry e → e.w ≡ None → within_limit Upper (plotkin_value e.n e.d) ≡ value_of [] U2 e []
+unfolding row_of
+distances_given e entry none =
+    let count = plotkin_value e.n e.d in
+    sym (ap (λ b. if is_entry e && b && true then within_limit Upper count else None) (plain e (is_some count) none)
+    ∙ through (is_entry e) (is_some count) (within_limit Upper count) entry
+    ∙ some_number count)
+
+pub balls_given : (e : Entry) → IsEntry e → e.w ≡ None → within_limit Upper (Some (sphere_packing_value e.n e.d)) ≡ value_of [] U3 e []
+unfolding row_of
+balls_given e entry none =
+    sym (ap₂ (λ a w. if a && not (is_some w) && true then within_limit Upper (Some (sphere_packing_value e.n e.d)) else None) entry none)
+
+-- an entry, without its weight
+pub plain_entry : (e : Entry) → IsEntry e → IsEntry (unrestricted e.n e.d)
+plain_entry e entry =
+    let limits = entry_limits e entry in
+    entry_from_limits (unrestricted e.n e.d) limits.length_from limits.length_to limits.distance_from limits.distance_to tt

@@ -8,16 +8,18 @@ use Rattle.ct_codes.specs.declared.claim.Side.TheVariants.{Lower, Upper}
 use Rattle.ct_codes.specs.declared.entry.Entry.{Entry}
 use Rattle.ct_codes.specs.Entry.{unrestricted, constant_weight}
 use Rattle.ct_rule_parts.specs.Parts.{RuleParts}
-use Rattle.ct_rule_parts.specs.Slot.{IsNoBetter}
+use Rattle.ct_rule_parts.specs.Slot.{Slot, IsNoBetter}
 use Rattle.ct_rules.specs.declared.rule.Rule.{Rule}
 use Rattle.ct_rules.specs.declared.rule.Rule.TheVariants.{L2, L9, L11, M2, M9, U1, U2, U3, U9, U10, V1, V2, V8}
 use Rattle.ct_rules.specs.declared.rule.TheConstants.{LOWER_RULES, UPPER_RULES, LOWER_WEIGHT_RULES, UPPER_WEIGHT_RULES}
 use Rattle.ct_rules.specs.Listing.{rules_alone}
 use Rattle.ct_rules.specs.Rule.{row_of, rule_side, is_alone, is_by_weight, parts_over, value_of}
 use Rattle.ct_rules.proofs.Applied.{IsDefined, defined, applies_from_value}
+use Rattle.ct_rules.proofs.ClosedBounds.{no_better-trans}
 use Rattle.ct_rules.proofs.LawfulRows.{alone_at, alone-parts, not_alone}
 use Rattle.ct_kept.specs.Kept.{RestsOnNothing, IsGroundBound}
 use Rattle.ct_kept.specs.Inside.Ground.{IsGroundWithin, first_ground_rule, other_ground_rules}
+use Rattle.ct_kept.proofs.GroundLemmas.{ground_within_better}
 
 -- what rests on something does not rest on nothing
 full : {X : Type 0} {x : X} {xs : List X} → x ∷ xs ≡ [] → ⊥
@@ -199,3 +201,29 @@ ground_bound side e v first others classes r u same nothing value = by_alone (is
       | inr (inl class) ↦ by_class class.0 class.1
       | inr (inr by) ↦ absurd (weights_rest r e by nothing)
     ]
+
+-- so the best of the first rule and of the one other from below, without weight and with one
+pub best_of_two : (e : Entry) (r : Rule) (u v : ℕ) → other_ground_rules (Lower, e) ≡ r ∷ []
+    → IsGroundWithin (Lower, e) u (first_ground_rule (Lower, e)) → IsNoBetter Lower u v → IsGroundWithin (Lower, e) v r
+    → (x : ℕ) → IsNoBetter Lower v x → ((k : ℕ) → IsGroundWithin (Lower, e) x (M9 k)) → IsGroundBound (Lower, e) x
+best_of_two e r u v others first worse within x last classes =
+    let s : Slot = (Lower, e) in
+    ground_bound Lower e x
+    (ground_within_better s u x (first_ground_rule s) (no_better-trans Lower u v x worse last) first)
+    (subst (All (IsGroundWithin s x)) (sym others)
+    (All-from_recursion (IsGroundWithin s x) (r ∷ []) (ground_within_better s v x r last within, tt)))
+    (λ low. classes)
+
+-- and that of the first rule and of the three others from above
+pub best_of_four : (e : Entry) (p q r : Rule) (u v x y : ℕ) → other_ground_rules (Upper, e) ≡ p ∷ q ∷ r ∷ []
+    → IsGroundWithin (Upper, e) u (first_ground_rule (Upper, e)) → IsNoBetter Upper u v → IsGroundWithin (Upper, e) v p
+    → IsNoBetter Upper v x → IsGroundWithin (Upper, e) x q → IsNoBetter Upper x y → IsGroundWithin (Upper, e) y r → IsGroundBound (Upper, e) y
+best_of_four e p q r u v x y others first second p_within third q_within fourth r_within =
+    let s : Slot = (Upper, e) in
+    let rest = no_better-trans Upper v x y third fourth in
+    ground_bound Upper e y
+    (ground_within_better s u y (first_ground_rule s) (no_better-trans Upper u v y second rest) first)
+    (subst (All (IsGroundWithin s y)) (sym others)
+    (All-from_recursion (IsGroundWithin s y) (p ∷ q ∷ r ∷ [])
+    (ground_within_better s v y p rest p_within, (ground_within_better s x y q fourth q_within, (r_within, tt)))))
+    (λ low. absurd cc)

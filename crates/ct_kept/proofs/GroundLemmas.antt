@@ -1,9 +1,9 @@
 -- Lines that rest on nothing: each slot of the table has one, the best that any rule gives that rests on nothing.
 use Rattle.std.proofs.Common.{◌≡◌, ℕ, ◌<◌, ◌≤◌, ◌^◌, length, map, min, Bool, ◌==◌, ◌&&◌, true, false, if◌then◌else◌, List, [], ◌∷◌, All, Contains, Option, Some, None, refl, sym, subst, ap, ap₂, ◌∙◌, le-leb, eq-eqb, eqb-true, arith}
-use Rattle.std.specs.Prelude.{is_some, slice_index_or}
+use Rattle.std.specs.Prelude.{is_some}
 use Rattle.std.proofs.lemmas.Bool.{and_parts, false≢true}
 use Rattle.std.proofs.lemmas.Option.{cond_some, none-some, same_Some}
-use Rattle.std.proofs.lemmas.List.Elements.{All-nil, All-weaker, All-contains, All-from_recursion}
+use Rattle.std.proofs.lemmas.List.Elements.{All-nil, All-contains, All-from_recursion}
 use Rattle.ct_words.specs.declared.limits.TheConstants.{MAX_BOUND}
 use Rattle.ct_words.specs.Counting.Binomials.{choose}
 use Rattle.ct_codes.specs.declared.claim.Side.{Side}
@@ -82,11 +82,6 @@ IsGround-line s line ground = record {
 pub ground_within_better : (s : Slot) (u v : ℕ) (r : Rule) → IsNoBetter s.0 u v → IsGroundWithin s u r → IsGroundWithin s v r
 ground_within_better s u v r worse within x value = no_better-trans s.0 x u v (within x value) worse
 
-pub all_ground_within_better : (s : Slot) (u v : ℕ) (rules : List Rule) → IsNoBetter s.0 u v → All (IsGroundWithin s u) rules
-    → All (IsGroundWithin s v) rules
-all_ground_within_better s u v rules worse each =
-    All-weaker (IsGroundWithin s u) (IsGroundWithin s v) (λ r within. ground_within_better s u v r worse within) rules each
-
 pub own_ground_within : (s : Slot) (r : Rule) (v : ℕ) → value_of [] r s.1 [] ≡ Some v → IsGroundWithin s v r
 own_ground_within s r v given u value =
     subst (λ x. IsNoBetter s.0 x v) (same_Some v u (sym given ∙ value)) (IsNoBetter-self s.0 v)
@@ -128,19 +123,9 @@ given_range : (r : Rule) (e : Entry) (u : ℕ) → RestsOnNothing r e → value_
 given_range r e u nothing value =
     (value_is_sound [] r e [] u (cited-stands [] r (All-nil Stands)) (nothing_premises [] r e u nothing value) (All-nil IsTrueClaim) value).range
 
-pub greatest_lower : (side : Side) (e : Entry) → side ≡ Lower → IsGroundBound (side, e) MAX_BOUND
-greatest_lower Lower e low r u same nothing value = (given_range r e u nothing value).1
-greatest_lower Upper e low r u same nothing value = absurd cc
-
 pub least_upper : (side : Side) (e : Entry) → side ≡ Upper → IsGroundBound (side, e) 1
 least_upper Upper e up r u same nothing value = (given_range r e u nothing value).0
 least_upper Lower e up r u same nothing value = absurd cc
-
--- where the best has reached the limit, no rule gives anything better
-pub all_at_limit : (s : Slot) (best limit : ℕ) (rules : List Rule) → best ≡ limit → IsGroundBound s limit
-    → All (λ (r : Rule). rule_side r ≡ s.0) rules → All (λ (r : Rule). RestsOnNothing r s.1) rules → All (IsGroundWithin s best) rules
-all_at_limit s best limit rules reached is sides nothing k d within u value =
-    subst (λ b. IsNoBetter s.0 u b) (sym reached) (is (slice_index_or rules k d) u (sides k d within) (nothing k d within) value)
 
 -- the others have the side, and rest on nothing
 other_sides : (side : Side) (n d : ℕ) (w : Option ℕ) → All (λ (r : Rule). rule_side r ≡ side) (other_ground_rules (side, record { n = n; d = d; w = w }))
@@ -161,14 +146,6 @@ other_nothing Upper n d None =
     All-from_recursion (λ (r : Rule). RestsOnNothing r (unrestricted n d)) (U1 ∷ U2 ∷ U3 ∷ []) ((refl, refl), ((refl, refl), ((refl, refl), tt)))
 other_nothing Upper n d (Some w) =
     All-from_recursion (λ (r : Rule). RestsOnNothing r (constant_weight n d w)) (V1 ∷ V2 ∷ V8 ∷ []) ((refl, refl), ((refl, refl), ((refl, refl), tt)))
-
-pub all_other_sides : (side : Side) (e : Entry) (rules : List Rule) → rules ≡ other_ground_rules (side, e)
-    → All (λ (r : Rule). rule_side r ≡ side) rules
-all_other_sides side e rules are = subst (All (λ (r : Rule). rule_side r ≡ side)) (sym are) (other_sides side e.n e.d e.w)
-
-pub all_other_nothing : (side : Side) (e : Entry) (rules : List Rule) → rules ≡ other_ground_rules (side, e)
-    → All (λ (r : Rule). RestsOnNothing r e) rules
-all_other_nothing side e rules are = subst (All (λ (r : Rule). RestsOnNothing r e)) (sym are) (other_nothing side e.n e.d e.w)
 
 -- what the sum classes of an entry give: the size of each, and nothing where the entry has no weight or another distance
 class_size : (k : ℕ) (e : Entry) (u : ℕ) → value_of [] (M9 k) e [] ≡ Some u → sum_class_size k e ≡ Some u

@@ -1,22 +1,21 @@
 -- A table that is started: the slots with smaller numbers have their ground lines, and there are no other lines.
-use Rattle.std.proofs.Common.{◌≡◌, ◌≢◌, ℕ, ◌+◌, ◌-◌, ◌*◌, ◌<◌, ◌≤◌, List, [], ◌∷◌, length, take, slice_get, Some, option_map, refl, sym, ap, subst, ◌∙◌, inl, inr, arith, length-set}
+use Rattle.std.proofs.Common.{◌≡◌, ◌≢◌, ℕ, ◌+◌, ◌-◌, ◌*◌, ◌/◌, ◌<◌, ◌≤◌, List, [], ◌∷◌, length, take, slice_get, Some, option_map, refl, sym, ap, subst, ◌∙◌, inl, inr, arith, length-set}
 use Rattle.std.proofs.lemmas.Bool.{cases_eq}
 use Rattle.std.proofs.lemmas.Option.{none-some}
-use Rattle.ct_codes.specs.Entry.{IsEntry}
+use Rattle.ct_codes.specs.Entry.{IsEntry, unrestricted, constant_weight}
 use Rattle.ct_rule_parts.specs.declared.support.Support.{Support}
 use Rattle.ct_codes.specs.declared.claim.Side.{Side}
-use Rattle.ct_words.specs.declared.limits.TheConstants.{MAX_N}
 use Rattle.ct_rules.specs.Derivation.{LineValue, Follows}
 use Rattle.ct_rule_parts.specs.Slot.{Slot, slot_of, claim_at}
 use Rattle.ct_rule_parts.proofs.Places.{slice_get_last}
 use Rattle.ct_kept.specs.Kept.{KeptValue, IsKept, reason_of, with_line_put}
 use Rattle.ct_kept.specs.Inside.Ground.{IsGroundLine}
 use Rattle.ct_kept.specs.Inside.Started.{HasGround, IsGroundBelow, IsStarted}
-use Rattle.ct_slots.specs.Number.{bound_of, side_size, side_number, slot_number, entries_to, entry_in, count_in_length}
+use Rattle.ct_slots.specs.Number.{bound_of, distances, even_distances, side_size, side_number, slot_number, entries_to}
 use Rattle.ct_rule_parts.proofs.GetLemmas.{IsOldOrNew, slice_get-append_some, slice_get_push_cases}
 use Rattle.ct_kept.proofs.GroundLemmas.{Follows-ground, IsGround-line}
 use Rattle.ct_kept.proofs.PutLemmas.{bound-put, reason-put, bound-put_other, reason-put_other}
-use Rattle.ct_slots.proofs.NumberLemmas.{slot_number-bound, slot_number-injective, slot_number-entry_in, entry_in-IsEntry}
+use Rattle.ct_slots.proofs.NumberLemmas.{entries_to-length, slot_number-bound, slot_number-injective}
 
 -- nothing is started yet
 pub IsStarted-none : (bounds reasons : List ℕ) → length bounds ≡ 2 * side_size → length reasons ≡ 2 * side_size
@@ -87,20 +86,47 @@ IsStarted-put count kept put entry number ground started = record {
       ground = ground;
     })
 
--- that of the entry at a place among those of its length
-pub IsStarted-place : (kept : KeptValue) (side : Side) (n place : ℕ) (put : LineValue) → 1 ≤ n → n ≤ MAX_N → place < count_in_length n
-    → IsGroundLine (side, entry_in n place) put
-    → IsStarted (side_number side * side_size + entries_to (n - 1) + place) kept
-    → IsStarted (side_number side * side_size + entries_to (n - 1) + (place + 1)) (with_line_put kept put)
-IsStarted-place kept side n place put from to within ground started =
-    let s : Slot = (side, entry_in n place) in
-    let count = side_number side * side_size + entries_to (n - 1) + place in
-    let next : count + 1 ≡ side_number side * side_size + entries_to (n - 1) + (place + 1) = omega arith in
-    subst (λ k. IsStarted k (with_line_put kept put)) next
-    (IsStarted-put count kept put
-    (subst (λ (t : Slot). IsEntry t.1) (sym ground.slot) (entry_in-IsEntry n place from to within))
-    (ap slot_number ground.slot ∙ slot_number-entry_in side n place)
-    (subst (λ (t : Slot). IsGroundLine t put) (sym ground.slot) ground) started)
+-- that of the next slot
+pub IsStarted-next : (number : ℕ) (kept : KeptValue) (s : Slot) (put : LineValue) → IsEntry s.1 → slot_number s ≡ number
+    → IsGroundLine s put → IsStarted number kept → IsStarted (number + 1) (with_line_put kept put)
+IsStarted-next number kept s put entry is ground started =
+    IsStarted-put number kept put
+    (subst (λ (t : Slot). IsEntry t.1) (sym ground.slot) entry)
+    (ap slot_number ground.slot ∙ is)
+    (subst (λ (t : Slot). IsGroundLine t put) (sym ground.slot) ground) started
+
+-- the numbers of the slots of a length, counted on
+pub first_number : (side : Side) (n : ℕ) → slot_number (side, unrestricted n 3) ≡ side_number side * side_size + entries_to (n - 1)
+unfolding slot_number
+first_number side n = omega arith
+
+pub distance_number : (side : Side) (n d : ℕ) → 3 ≤ d → slot_number (side, unrestricted n d) ≡ slot_number (side, unrestricted n 3) + (d - 3)
+unfolding slot_number
+distance_number side n d far = omega arith
+
+pub weights_number : (side : Side) (n : ℕ) → slot_number (side, constant_weight n 4 0) ≡ slot_number (side, unrestricted n 3) + distances
+unfolding slot_number
+weights_number side n = omega arith
+
+pub weight_number : (side : Side) (n d w : ℕ) → slot_number (side, constant_weight n d w) ≡ slot_number (side, constant_weight n d 0) + w
+unfolding slot_number
+weight_number side n d w = omega arith
+
+pub row_number : (side : Side) (n k : ℕ)
+    → slot_number (side, constant_weight n (4 + 2 * k) 0) ≡ slot_number (side, constant_weight n 4 0) + k * (n + 1)
+unfolding slot_number
+row_number side n k =
+    let half : (4 + 2 * k) / 2 - 2 ≡ k = omega arith in
+    let product = ap (λ z. z * (n + 1)) half in
+    omega arith
+
+pub all_numbers : (side : Side) (n first : ℕ) → 1 ≤ n → first ≡ slot_number (side, constant_weight n 4 0)
+    → first + even_distances * (n + 1) ≡ side_number side * side_size + entries_to n
+all_numbers side n first some is =
+    let weighted = weights_number side n in
+    let plain = first_number side n in
+    let next = entries_to-length n some in
+    omega arith
 
 -- up to another number that is the same
 pub IsStarted-same : (kept : KeptValue) (a b : ℕ) → a ≡ b → IsStarted a kept → IsStarted b kept

@@ -1,9 +1,11 @@
-//! The bounds with which a table begins: of each slot the best that a rule gives that rests on nothing.
+//! The bounds with which a table begins: of each slot the best that a rule gives that rests on nothing. Each rule is named where it is asked,
+//! so that nothing is chosen by the rule once the program is built.
 
-ghost use Rattle.std.specs.Prelude.{◌≡◌, ◌==◌, ◌&&◌, ◌≤◌, ◌^◌, nat_le, nat_lt, ℕ, [], if◌then◌else◌, All, Contains, Some, None, IfSome};
+ghost use Rattle.std.specs.Prelude.{◌≡◌, ◌==◌, ◌&&◌, ◌≤◌, ◌^◌, nat_le, nat_lt, ℕ, [], if◌then◌else◌, Contains, Some, None, IfSome};
 ghost use Rattle.ct_codes.specs.declared.claim.Side.TheVariants.{Lower, Upper};
 ghost use Rattle.ct_codes.specs.declared.entry.Entry.{Entry};
-ghost use Rattle.ct_codes.specs.Entry.{IsEntry};
+ghost use Rattle.ct_codes.specs.Entry.{IsEntry, unrestricted, constant_weight};
+ghost use Rattle.ct_elementary.specs.Bounds.{plotkin_value, sphere_packing_value};
 ghost use Rattle.ct_rule_parts.specs.Parts.{has_weight, weight_of, within_limit};
 ghost use Rattle.ct_weight_rules.specs.Disjoint.{has_disjoint_words, count_of_disjoint};
 ghost use Rattle.ct_weight_rules.specs.FarWords.{has_no_far_words};
@@ -16,12 +18,13 @@ ghost use Rattle.ct_kept.specs.Kept.{RestsOnNothing, IsGroundBound};
 ghost use Rattle.ct_kept.specs.Inside.Ground.{class_of, AreLargest, GivesGround, IsGroundWithin, first_ground_rule, other_ground_rules, IsGroundLine};
 
 use ct_codes::{Claim, Entry, Side};
+use ct_elementary::{plotkin, sphere_packing};
 use ct_partitions::LargestClass;
 use ct_rule_parts::within_limit;
 use ct_rules::{Line, Rule, value};
 use ct_slots::is_better;
 use ct_weight_rules::{below_too_many, count_of_disjoint, has_disjoint_words, has_no_far_words};
-use ct_words::{MAX_BOUND, binomial};
+use ct_words::binomial;
 use smallvec::SmallVec;
 use std::alloc::Global;
 
@@ -32,19 +35,8 @@ struct Ground {
     rule: Rule,
 }
 
-/// The rules that rest on nothing and bound A(n,d) from below, but the first, which gives a bound at each entry.
-const LOWER: [Rule; 1] = [Rule::L2];
-
-/// Those that bound A(n,d) from above.
-const UPPER: [Rule; 3] = [Rule::U1, Rule::U2, Rule::U3];
-
-/// Those that bound A(n,d,w) from below, but sum classes.
-const LOWER_WEIGHT: [Rule; 1] = [Rule::M2];
-
-/// Those that bound A(n,d,w) from above.
-const UPPER_WEIGHT: [Rule; 3] = [Rule::V1, Rule::V2, Rule::V8];
-
 /// The rule that rests on nothing and gives a bound of the side at each entry, with or without weight.
+#[inline(always)]
 fn first_rule(side: Side, entry: Entry) -> Rule
     ensures { result ≡ first_ground_rule (side, entry) }
 {
@@ -57,24 +49,13 @@ fn first_rule(side: Side, entry: Entry) -> Rule
 }
 
 /// The rule of words that are farther apart than the places allow.
+#[inline(always)]
 fn far_rule(entry: Entry) -> Rule
     ensures { Contains (other_ground_rules (Upper, entry)) result }
 {
     match entry.w {
         None => Rule::U1,
         Some(_) => Rule::V1,
-    }
-}
-
-/// The others that rest on nothing, but sum classes.
-fn other_rules(side: Side, entry: Entry) -> &'static [Rule]
-    ensures { result.now ≡ other_ground_rules (side, entry) }
-{
-    match (side, entry.w) {
-        (Side::Lower, None) => &LOWER,
-        (Side::Lower, Some(_)) => &LOWER_WEIGHT,
-        (Side::Upper, None) => &UPPER,
-        (Side::Upper, Some(_)) => &UPPER_WEIGHT,
     }
 }
 
@@ -133,7 +114,25 @@ fn given_by_pairs(entry: Entry) -> Option<u32>
     within_limit(Side::Upper, count)
 }
 
+/// What the average distance of the words gives at A(n,d).
+fn given_by_distances(n: u32, d: u32) -> Option<u32>
+    requires { IsEntry (unrestricted n d) }
+    ensures { result ≡ within_limit Upper (plotkin_value n d) }
+{
+    let count = plotkin(n, d)?;
+    within_limit(Side::Upper, u64::from(count))
+}
+
+/// What balls about the words give at A(n,d).
+fn given_by_balls(n: u32, d: u32) -> Option<u32>
+    requires { IsEntry (unrestricted n d) }
+    ensures { result ≡ within_limit Upper (Some (sphere_packing_value n d)) }
+{
+    within_limit(Side::Upper, u64::from(sphere_packing(n, d)))
+}
+
 /// The bound that a rule gives from nothing at an entry of the table. For those that rest on nothing it is worked out at once.
+#[inline(always)]
 fn given(rule: Rule, entry: Entry) -> Option<u32>
     requires { IsEntry entry }
     ensures { result ≡ value_of [] rule entry [] }
@@ -145,6 +144,8 @@ fn given(rule: Rule, entry: Entry) -> Option<u32>
         (Rule::M2, Some(_)) => given_by_disjoint(Side::Lower, entry),
         (Rule::U0, None) => given_by_all(entry),
         (Rule::U1, None) => given_by_far(entry),
+        (Rule::U2, None) => given_by_distances(entry.n, entry.d),
+        (Rule::U3, None) => given_by_balls(entry.n, entry.d),
         (Rule::V0, Some(k)) => within_limit(Side::Upper, binomial(entry.n, k)),
         (Rule::V1, Some(_)) => given_by_no_far(entry),
         (Rule::V2, Some(_)) => given_by_disjoint(Side::Upper, entry),
@@ -154,6 +155,7 @@ fn given(rule: Rule, entry: Entry) -> Option<u32>
 }
 
 /// What the first rule gives.
+#[inline(always)]
 fn first_ground(side: Side, entry: Entry) -> Ground
     requires { IsEntry entry }
     ensures given { GivesGround (side, entry) result.rule result.value }
@@ -167,6 +169,7 @@ fn first_ground(side: Side, entry: Entry) -> Ground
 }
 
 /// The better of what was found so far and of what the rule gives.
+#[inline(always)]
 fn better_ground(side: Side, entry: Entry, rule: Rule, best: Ground) -> Ground
     requires side { rule_side rule ≡ side }
     requires entry { IsEntry entry }
@@ -186,38 +189,8 @@ fn better_ground(side: Side, entry: Entry, rule: Rule, best: Ground) -> Ground
     }
 }
 
-/// The bound of a side that none betters that a rule gives from nothing: one word from above, and from below the greatest bound.
-fn limit_of(side: Side) -> u32
-    ensures { (e : Entry) → IsGroundBound (side, e) result }
-{
-    match side {
-        Side::Lower => MAX_BOUND,
-        Side::Upper => 1,
-    }
-}
-
-/// The best of what was found so far and of what the rules give, up to the limit of what one can give.
-fn best_of_each(side: Side, entry: Entry, rules: &[Rule], limit: u32, first: Ground) -> Ground
-    requires entry { IsEntry entry }
-    requires sides { All (λ (r : Rule). rule_side r ≡ side) rules.now }
-    requires nothing { All (λ (r : Rule). RestsOnNothing r entry) rules.now }
-    requires limit { IsGroundBound (side, entry) limit }
-    requires given { GivesGround (side, entry) first.rule first.value }
-    ensures given { GivesGround (side, entry) result.rule result.value }
-    ensures no_worse { IsNoBetter side first.value result.value }
-    ensures within { All (IsGroundWithin (side, entry) result.value) rules.now }
-{
-    let mut best = first;
-    for rule in rules {
-        if best.value == limit {
-            return best;
-        }
-        best = better_ground(side, entry, *rule, best);
-    }
-    best
-}
-
 /// The sum class of an entry with weight, of distance 4, that has the most words, found among the largest of the entry's length.
+#[inline(always)]
 fn class_from(entry: Entry, classes: &[LargestClass]) -> Option<LargestClass>
     requires entry { IsEntry entry }
     requires classes { AreLargest entry.n classes.now }
@@ -232,6 +205,7 @@ fn class_from(entry: Entry, classes: &[LargestClass]) -> Option<LargestClass>
 }
 
 /// The better of what was found so far, from below, and of the size of the largest sum class.
+#[inline(always)]
 fn better_class(entry: Entry, classes: &[LargestClass], best: Ground) -> Ground
     requires entry { IsEntry entry }
     requires classes { AreLargest entry.n classes.now }
@@ -253,51 +227,115 @@ fn better_class(entry: Entry, classes: &[LargestClass], best: Ground) -> Ground
 }
 
 /// What words give from above that are farther apart than the places allow: one word, which no bound betters.
-fn far_ground(side: Side, entry: Entry) -> Option<Ground>
+#[inline(always)]
+fn far_ground(entry: Entry) -> Option<Ground>
     requires { IsEntry entry }
-    ensures given { IfSome result (λ ground. GivesGround (side, entry) ground.rule ground.value) }
-    ensures best { IfSome result (λ ground. IsGroundBound (side, entry) ground.value) }
+    ensures given { IfSome result (λ ground. GivesGround (Upper, entry) ground.rule ground.value) }
+    ensures best { IfSome result (λ ground. IsGroundBound (Upper, entry) ground.value) }
 {
-    match side {
-        Side::Lower => None,
-        Side::Upper => {
-            let rule = far_rule(entry);
-            let value = given(rule, entry)?;
-            if value == 1 {
-                Some(Ground { value, rule })
-            } else {
-                None
-            }
-        }
+    let rule = far_rule(entry);
+    let value = given(rule, entry)?;
+    if value == 1 {
+        Some(Ground { value, rule })
+    } else {
+        None
     }
 }
 
-/// The best bound of the side of an entry that a rule gives that rests on nothing. The largest sum classes are those of the entry's
-/// length, which a bound from below takes.
-fn best_ground(side: Side, entry: Entry, classes: &[LargestClass]) -> Ground
-    requires entry { IsEntry entry }
-    requires classes { side ≡ Lower → AreLargest entry.n classes.now }
-    ensures given { GivesGround (side, entry) result.rule result.value }
-    ensures best { IsGroundBound (side, entry) result.value }
+/// The best bound of A(n,d) from below that a rule gives that rests on nothing.
+#[tactic(auto, unfolding(ct_rules::specs::Rule::row_of))]
+fn best_below(n: u32, d: u32) -> Ground
+    requires { IsEntry (unrestricted n d) }
+    ensures given { GivesGround (Lower, unrestricted n d) result.rule result.value }
+    ensures best { IsGroundBound (Lower, unrestricted n d) result.value }
 {
-    if let Some(ground) = far_ground(side, entry) {
+    let entry = Entry { n, d, w: None };
+    let first = first_ground(Side::Lower, entry);
+    better_ground(Side::Lower, entry, Rule::L2, first)
+}
+
+/// That of A(n,d,w) from below. The largest sum classes are those of the length n.
+#[tactic(auto, unfolding(ct_rules::specs::Rule::row_of))]
+fn best_below_with_weight(n: u32, d: u32, w: u32, classes: &[LargestClass]) -> Ground
+    requires entry { IsEntry (constant_weight n d w) }
+    requires classes { AreLargest n classes.now }
+    ensures given { GivesGround (Lower, constant_weight n d w) result.rule result.value }
+    ensures best { IsGroundBound (Lower, constant_weight n d w) result.value }
+{
+    let entry = Entry { n, d, w: Some(w) };
+    let first = first_ground(Side::Lower, entry);
+    let disjoint = better_ground(Side::Lower, entry, Rule::M2, first);
+    better_class(entry, classes, disjoint)
+}
+
+/// That of A(n,d) from above.
+#[tactic(auto, unfolding(ct_rules::specs::Rule::row_of))]
+fn best_above(n: u32, d: u32) -> Ground
+    requires { IsEntry (unrestricted n d) }
+    ensures given { GivesGround (Upper, unrestricted n d) result.rule result.value }
+    ensures best { IsGroundBound (Upper, unrestricted n d) result.value }
+{
+    let entry = Entry { n, d, w: None };
+    if let Some(ground) = far_ground(entry) {
         return ground;
     }
-    let first = first_ground(side, entry);
-    let best = best_of_each(side, entry, other_rules(side, entry), limit_of(side), first);
+    let first = first_ground(Side::Upper, entry);
+    let far = better_ground(Side::Upper, entry, Rule::U1, first);
+    let plotkin = better_ground(Side::Upper, entry, Rule::U2, far);
+    better_ground(Side::Upper, entry, Rule::U3, plotkin)
+}
+
+/// That of A(n,d,w) from above.
+#[tactic(auto, unfolding(ct_rules::specs::Rule::row_of))]
+fn best_above_with_weight(n: u32, d: u32, w: u32) -> Ground
+    requires { IsEntry (constant_weight n d w) }
+    ensures given { GivesGround (Upper, constant_weight n d w) result.rule result.value }
+    ensures best { IsGroundBound (Upper, constant_weight n d w) result.value }
+{
+    let entry = Entry { n, d, w: Some(w) };
+    if let Some(ground) = far_ground(entry) {
+        return ground;
+    }
+    let first = first_ground(Side::Upper, entry);
+    let far = better_ground(Side::Upper, entry, Rule::V1, first);
+    let disjoint = better_ground(Side::Upper, entry, Rule::V2, far);
+    better_ground(Side::Upper, entry, Rule::V8, disjoint)
+}
+
+/// The best bound of the side of A(n,d) that a rule gives that rests on nothing.
+#[inline(always)]
+fn best_without_weight(side: Side, n: u32, d: u32) -> Ground
+    requires { IsEntry (unrestricted n d) }
+    ensures given { GivesGround (side, unrestricted n d) result.rule result.value }
+    ensures best { IsGroundBound (side, unrestricted n d) result.value }
+{
     match side {
-        Side::Lower => better_class(entry, classes, best),
-        Side::Upper => best,
+        Side::Lower => best_below(n, d),
+        Side::Upper => best_above(n, d),
     }
 }
 
-/// The line of that bound.
-pub(crate) fn ground_line(alloc: Global, side: Side, entry: Entry, classes: &[LargestClass]) -> Line
-    requires entry { IsEntry entry }
-    requires classes { side ≡ Lower → AreLargest entry.n classes.now }
+/// That of the side of A(n,d,w). The largest sum classes are those of the length n, which a bound from below takes.
+#[inline(always)]
+fn best_with_weight(side: Side, n: u32, d: u32, w: u32, classes: &[LargestClass]) -> Ground
+    requires entry { IsEntry (constant_weight n d w) }
+    requires classes { side ≡ Lower → AreLargest n classes.now }
+    ensures given { GivesGround (side, constant_weight n d w) result.rule result.value }
+    ensures best { IsGroundBound (side, constant_weight n d w) result.value }
+{
+    match side {
+        Side::Lower => best_below_with_weight(n, d, w, classes),
+        Side::Upper => best_above_with_weight(n, d, w),
+    }
+}
+
+/// The line of the best bound of the side of an entry.
+#[inline(always)]
+fn line_of(alloc: Global, side: Side, entry: Entry, ground: Ground) -> Line
+    requires given { GivesGround (side, entry) ground.rule ground.value }
+    requires best { IsGroundBound (side, entry) ground.value }
     ensures { IsGroundLine (side, entry) result }
 {
-    let ground = best_ground(side, entry, classes);
     Line {
         claim: Claim {
             side,
@@ -307,4 +345,32 @@ pub(crate) fn ground_line(alloc: Global, side: Side, entry: Entry, classes: &[La
         rule: ground.rule,
         from: SmallVec::new(alloc),
     }
+}
+
+/// The line of the best bound of the side of A(n,d) that a rule gives that rests on nothing.
+#[inline(always)]
+pub(crate) fn ground_line(alloc: Global, side: Side, n: u32, d: u32) -> Line
+    requires { IsEntry (unrestricted n d) }
+    ensures { IsGroundLine (side, unrestricted n d) result }
+{
+    let ground = best_without_weight(side, n, d);
+    line_of(alloc, side, Entry { n, d, w: None }, ground)
+}
+
+/// That of the side of A(n,d,w). The largest sum classes are those of the length n, which a bound from below takes.
+#[inline(always)]
+pub(crate) fn ground_line_with_weight(
+    alloc: Global,
+    side: Side,
+    n: u32,
+    d: u32,
+    w: u32,
+    classes: &[LargestClass],
+) -> Line
+    requires entry { IsEntry (constant_weight n d w) }
+    requires classes { side ≡ Lower → AreLargest n classes.now }
+    ensures { IsGroundLine (side, constant_weight n d w) result }
+{
+    let ground = best_with_weight(side, n, d, w, classes);
+    line_of(alloc, side, Entry { n, d, w: Some(w) }, ground)
 }

@@ -1,22 +1,24 @@
 //! What a table keeps: the lines of a derivation, and for each slot its bound and the line that gives it.
 
-ghost use Rattle.std.specs.Prelude.{◌≡◌, ◌+◌, ◌-◌, ◌<◌, ◌≤◌, ◌*◌, ◌++◌, ◌↔◌, false, [], List, All, OnOk, OnErr, IfOk, length, map, replicate, take, drop, slice_get, Some};
+ghost use Rattle.std.specs.Prelude.{◌≡◌, ◌+◌, ◌-◌, ◌<◌, ◌≤◌, ◌*◌, ◌%◌, ◌++◌, ◌↔◌, false, [], List, All, OnOk, OnErr, IfOk, length, map, replicate, take, drop, slice_get, Some};
 ghost use Rattle.ct_codes.specs.declared.claim.Side.TheVariants.{Lower};
-ghost use Rattle.ct_codes.specs.Entry.{IsEntry};
+ghost use Rattle.ct_words.specs.declared.limits.TheConstants.{MAX_N};
+ghost use Rattle.ct_codes.specs.Entry.{IsEntry, unrestricted, constant_weight};
 ghost use Rattle.ct_rule_parts.specs.declared.support.Support.{Support};
-ghost use Rattle.ct_slots.specs.Number.{bound_of, entries_to, side_number, side_size};
+ghost use Rattle.ct_rule_parts.specs.Slot.{slot_of};
+ghost use Rattle.ct_slots.specs.Number.{bound_of, distances, entries_to, even_distances, side_number, side_size, slot_number};
 ghost use Rattle.ct_kept.specs.Kept.{with_line_put, reason_of, set_back, IsKept};
 ghost use Rattle.ct_rules.specs.Rule.{place_of};
 ghost use Rattle.ct_rules.specs.Removal.{names_one, marked, lowered_line};
 ghost use Rattle.ct_kept.specs.Inside.Ground.{AreLargest};
 ghost use Rattle.ct_kept.specs.Inside.Started.{IsStarted};
 
-use crate::ground::ground_line;
+use crate::ground::{ground_line, ground_line_with_weight};
 use crate::lowering::{lower_lines, names_place};
 use ct_codes::{Claim, Entry, Side};
 use ct_partitions::{LargestClass, largest_sum_classes};
 use ct_rules::Line;
-use ct_slots::{Bounds, SLOTS, count_in_length, entry_in, slot_number};
+use ct_slots::{Bounds, SLOTS, slot_number};
 use ct_words::MAX_N;
 use std::alloc::{AllocError, Global};
 use std::marker::Model;
@@ -156,6 +158,23 @@ impl Kept {
         }
     }
 
+    /// Puts a line at the end, whose slot has the number; its claim is now the bound of its slot. After an `Err`, which is want of
+    /// memory, all is as before.
+    #[inline(always)]
+    fn put_at(&mut self, number: usize, line: Line) -> Result<(), AllocError>
+        requires number { number ≡ slot_number (slot_of line.claim) }
+        requires bound { number < 2 * side_size }
+        ensures put { OnOk result (self.new ≡ with_line_put self.old line) }
+        ensures unchanged { OnErr result (self.new ≡ self.old) }
+    {
+        let value = line.claim.value;
+        let place = self.first.len() + self.later.len();
+        self.later.push(line)?;
+        self.bounds.set_at(number, value);
+        self.reasons[number] = place;
+        Ok(())
+    }
+
     /// Puts a line at the end; its claim is now the bound of its slot. After an `Err`, which is want of memory, all is as
     /// before.
     pub fn put(&mut self, line: Line) -> Result<(), AllocError>
@@ -163,13 +182,8 @@ impl Kept {
         ensures put { OnOk result (self.new ≡ with_line_put self.old line) }
         ensures unchanged { OnErr result (self.new ≡ self.old) }
     {
-        let Claim { side, entry, value } = line.claim;
-        let number = slot_number(side, entry);
-        let place = self.first.len() + self.later.len();
-        self.later.push(line)?;
-        self.bounds.set(side, entry, value);
-        self.reasons[number] = place;
-        Ok(())
+        let number = slot_number(line.claim.side, line.claim.entry);
+        self.put_at(number, line)
     }
 
     /// No lines, and 0 for each bound and reason. `Err` is want of memory.
@@ -265,23 +279,82 @@ impl Kept {
         lower_lines(&mut self.later, gone);
     }
 
-    /// Puts the ground lines of the side of all entries of the length n, whose largest sum classes bounds from below take. `Err` is
-    /// want of memory.
-    fn put_length(
+    /// Puts the ground lines of the side of the entries of the length n without weight, whose slots have the numbers from the first on.
+    /// `Err` is want of memory.
+    fn put_distances(
         &mut self,
         alloc: Global,
         side: Side,
         n: u32,
+        first: usize,
+    ) -> Result<(), AllocError>
+        requires from { 1 ≤ n }
+        requires to { n ≤ MAX_N }
+        requires first { first ≡ slot_number (side, unrestricted n 3) }
+        requires bound { first < 2 * side_size }
+        requires before { IsStarted first self.now }
+        ensures { OnOk result (IsStarted (first + distances) self.new) }
+    {
+        for d in 3..MAX_N + 1 {
+            let number = first + (d as usize - 3);
+            self.put_at(number, ground_line(alloc, side, n, d))?;
+        }
+        Ok(())
+    }
+
+    /// Puts the ground lines of the side of the entries of the length n and the distance d with weight, whose slots have the numbers from
+    /// the first on. Bounds from below take the largest sum classes of the length. `Err` is want of memory.
+    fn put_weights(
+        &mut self,
+        alloc: Global,
+        side: Side,
+        n: u32,
+        d: u32,
+        first: usize,
         classes: &[LargestClass],
     ) -> Result<(), AllocError>
         requires from { 1 ≤ n }
         requires to { n ≤ MAX_N }
+        requires far { 4 ≤ d }
+        requires near { d ≤ MAX_N }
+        requires even { d % 2 ≡ 0 }
+        requires first { first ≡ slot_number (side, constant_weight n d 0) }
+        requires bound { first < 2 * side_size }
         requires classes { side ≡ Lower → AreLargest n classes.now }
-        requires before { IsStarted (side_number side * side_size + entries_to (n - 1)) self.now }
-        ensures { OnOk result (IsStarted (side_number side * side_size + entries_to n) self.new) }
+        requires before { IsStarted first self.now }
+        ensures { OnOk result (IsStarted (first + (n + 1)) self.new) }
     {
-        for place in 0..count_in_length(n) {
-            self.put(ground_line(alloc, side, entry_in(n, place), classes))?;
+        for w in 0..n + 1 {
+            let number = first + w as usize;
+            self.put_at(
+                number,
+                ground_line_with_weight(alloc, side, n, d, w, classes),
+            )?;
+        }
+        Ok(())
+    }
+
+    /// The same for all distances.
+    fn put_with_weight(
+        &mut self,
+        alloc: Global,
+        side: Side,
+        n: u32,
+        first: usize,
+        classes: &[LargestClass],
+    ) -> Result<(), AllocError>
+        requires from { 1 ≤ n }
+        requires to { n ≤ MAX_N }
+        requires first { first ≡ slot_number (side, constant_weight n 4 0) }
+        requires bound { first < 2 * side_size }
+        requires classes { side ≡ Lower → AreLargest n classes.now }
+        requires before { IsStarted first self.now }
+        ensures { OnOk result (IsStarted (first + even_distances * (n + 1)) self.new) }
+    {
+        let row = n as usize + 1;
+        for k in 0..MAX_N / 2 - 1 {
+            let number = first + k as usize * row;
+            self.put_weights(alloc, side, n, 4 + 2 * k, number, classes)?;
         }
         Ok(())
     }
@@ -293,9 +366,19 @@ impl Kept {
         requires before { IsStarted (side_number side * side_size + entries_to (n - 1)) self.now }
         ensures { OnOk result (IsStarted (side_number side * side_size + entries_to n) self.new) }
     {
+        let plain = slot_number(side, Entry { n, d: 3, w: None });
+        self.put_distances(alloc, side, n, plain)?;
+        let weighted = slot_number(
+            side,
+            Entry {
+                n,
+                d: 4,
+                w: Some(0),
+            },
+        );
         match side {
-            Side::Lower => self.put_length(alloc, side, n, &largest_sum_classes(n)),
-            Side::Upper => self.put_length(alloc, side, n, &[]),
+            Side::Lower => self.put_with_weight(alloc, side, n, weighted, &largest_sum_classes(n)),
+            Side::Upper => self.put_with_weight(alloc, side, n, weighted, &[]),
         }
     }
 

@@ -235,17 +235,3 @@ slot_at k below = elim (cases_lt k side_size) [
       let number = found.2 in
       ((Upper, found.0), found.1, omega arith)
 ]
-
--- the number of a side of the entry at a place among those of its length
-pub slot_number-entry_in : (side : Side) (n place : ℕ)
-    → slot_number (side, entry_in n place) ≡ side_number side * side_size + entries_to (n - 1) + place
-unfolding slot_number
-slot_number-entry_in side n place = let entry = entry_number-entry_in n place in omega arith
-
--- the slot that has it is that one
-pub slot-entry_in : (side : Side) (n place : ℕ) (s : Slot) → 1 ≤ n → n ≤ MAX_N → place < count_in_length n → IsEntry s.1
-    → slot_number s ≡ side_number side * side_size + entries_to (n - 1) + place
-    → s ≡ (side, entry_in n place)
-slot-entry_in side n place s from to below entry same =
-    slot_number-injective s (side, entry_in n place) entry (entry_in-IsEntry n place from to below)
-    (same ∙ sym (slot_number-entry_in side n place))

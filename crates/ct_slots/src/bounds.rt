@@ -1,6 +1,6 @@
 //! The bounds of a table, by the numbers of the slots.
 
-ghost use Rattle.std.specs.Prelude.{◌≡◌, ◌==◌, ◌*◌, IfOk, MatchBool, replicate, slice_set};
+ghost use Rattle.std.specs.Prelude.{◌≡◌, ◌==◌, ◌*◌, ◌<◌, IfOk, MatchBool, replicate, slice_set};
 ghost use Rattle.ct_codes.specs.declared.claim.Side.TheVariants.{Lower, Upper};
 ghost use Rattle.ct_codes.specs.Entry.{IsEntry};
 ghost use Rattle.ct_rule_parts.specs.Slot.{IsBetter, IsNoBetter};
@@ -78,7 +78,14 @@ impl Bounds {
         requires { IsEntry entry }
         ensures { self.new ≡ slice_set self.old (slot_number (side, entry)) value }
     {
-        let number = slot_number(side, entry);
+        self.set_at(slot_number(side, entry), value);
+    }
+
+    /// Another bound of the slot that has the number.
+    pub fn set_at(&mut self, number: usize, value: u32)
+        requires { number < 2 * side_size }
+        ensures { self.new ≡ slice_set self.old number value }
+    {
         self.bounds[number] = value;
     }
 }

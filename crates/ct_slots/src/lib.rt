@@ -9,7 +9,7 @@ mod unsettled;
 mod worklist;
 
 pub use bounds::{Bounds, is_better};
-pub use number::{ENTRIES, SLOTS, count_in_length, entry_in, slot_number, slots_have_numbers};
+pub use number::{ENTRIES, SLOTS, slot_number, slots_have_numbers};
 pub use places::{SupportPlaces, entry_of_support, side_of_support};
 pub use unsettled::mark_unsettled;
 pub use worklist::Worklist;

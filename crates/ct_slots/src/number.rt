@@ -31,37 +31,6 @@ fn entries_below(n: u32) -> usize
     k * DISTANCES + EVEN_DISTANCES * (k * (k + 3) / 2)
 }
 
-/// How many entries have the length n.
-pub fn count_in_length(n: u32) -> usize
-    requires { n ≤ MAX_N }
-    ensures { result ≡ count_in_length n }
-{
-    DISTANCES + EVEN_DISTANCES * (n as usize + 1)
-}
-
-/// The entry of the length n that has this number among those of its length.
-pub fn entry_in(n: u32, place: usize) -> Entry
-    requires from { 1 ≤ n }
-    requires to { n ≤ MAX_N }
-    requires place { place < count_in_length n }
-    ensures entry { result ≡ entry_in n place }
-    ensures in_table { IsEntry result }
-{
-    if place < DISTANCES {
-        return Entry {
-            n,
-            d: place as u32 + 3,
-            w: None,
-        };
-    }
-    let rest = (place - DISTANCES) as u32;
-    Entry {
-        n,
-        d: 2 * (rest / (n + 1)) + 4,
-        w: Some(rest % (n + 1)),
-    }
-}
-
 /// The number of an entry of the table among those of its length.
 fn number_in_length(entry: Entry) -> usize
     requires { IsEntry entry }

@@ -2,7 +2,7 @@ use Rattle.std.proofs.Common.{[], Some, ap, sym, ◌∙◌}
 use Rattle.ct_codes.specs.declared.claim.Side.TheVariants.{Upper}
 use Rattle.ct_rule_parts.specs.Parts.{within_limit}
 use Rattle.ct_rules.specs.Rule.{value_of}
-use Rattle.ct_kept.proofs.GivenLemmas.{one_given, two_given, word_given, disjoint_given, all_given, far_given, choose_given, no_far_given, disjoint_above_given, pairs_given}
+use Rattle.ct_kept.proofs.GivenLemmas.{one_given, two_given, word_given, disjoint_given, all_given, far_given, distances_given, balls_given, plain_entry, choose_given, no_far_given, disjoint_above_given, pairs_given}
 use Rattle.ct_kept.proofs.ground.given.Goals as goal
 
 pub returns-in-L1-None : goal.returns-in-L1-None
@@ -28,6 +28,22 @@ returns-in-U0-None c =
 pub returns-in-U1-None : goal.returns-in-U1-None
 returns-in-U1-None c =
     c.given_by_far.ensures ∙ far_given c.args.entry c.requires c.in-U1-None.is-1 ∙ ap (λ r. value_of [] r c.args.entry []) (sym c.in-U1-None.is-0)
+
+pub given_by_distances-requires : goal.given_by_distances-requires
+given_by_distances-requires c = plain_entry c.args.entry c.requires
+
+pub returns-in-U2-None : goal.returns-in-U2-None
+returns-in-U2-None c =
+    c.given_by_distances.ensures ∙ distances_given c.args.entry c.requires c.in-U2-None.is-1
+    ∙ ap (λ r. value_of [] r c.args.entry []) (sym c.in-U2-None.is-0)
+
+pub given_by_balls-requires : goal.given_by_balls-requires
+given_by_balls-requires c = plain_entry c.args.entry c.requires
+
+pub returns-in-U3-None : goal.returns-in-U3-None
+returns-in-U3-None c =
+    c.given_by_balls.ensures ∙ balls_given c.args.entry c.requires c.in-U3-None.is-1
+    ∙ ap (λ r. value_of [] r c.args.entry []) (sym c.in-U3-None.is-0)
 
 pub returns-in-V0-Some : goal.returns-in-V0-Some
 returns-in-V0-Some c =
