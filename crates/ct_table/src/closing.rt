@@ -8,7 +8,7 @@ ghost use Rattle.ct_rule_parts.specs.declared.support.Support.{Support};
 ghost use Rattle.ct_rule_parts.specs.Support.{AllStand};
 ghost use Rattle.ct_rules.specs.declared.rule.Rule.{Rule};
 ghost use Rattle.ct_rules.specs.Closed.{AreTrue};
-ghost use Rattle.ct_rules.specs.Rule.{rule_side, applies};
+ghost use Rattle.ct_rules.specs.Rule.{rule_side, applies, parts_over};
 ghost use Rattle.ct_slots.specs.Number.{bound_of};
 ghost use Rattle.ct_slots.specs.Places.{AreSupportPlaces};
 ghost use Rattle.ct_slots.specs.Worklist.{IsIdle};
@@ -21,7 +21,7 @@ ghost use Rattle.ct_table.specs.Inside.Turn.{IsPendingBut, line_by, potential};
 use ct_codes::{Claim, Entry, Side};
 use ct_kept::Kept;
 use ct_offers::{Best, best_offer, mark_dependents};
-use ct_rules::{Entries, Line, Rule, Support, defined_on, rule_side};
+use ct_rules::{Entries, Line, Rule, Support, rests_on, rule_side};
 use ct_slots::{SupportPlaces, Worklist, mark_unsettled};
 use smallvec::SmallVec;
 use std::alloc::{AllocError, Global};
@@ -86,6 +86,19 @@ fn reasons(
     Ok(from)
 }
 
+/// The entries whose bounds the rule rests on at an entry where it is defined, in order.
+#[inline(always)]
+fn premises_of(supports: &[Support], rule: Rule, entry: Entry) -> Entries<'_>
+    requires { applies supports.now rule entry ≡ true }
+    ensures premises { listed result ≡ (parts_over supports.now rule).rests_on entry }
+    ensures in_table { are_entries (listed result) ≡ true }
+{
+    let Some(premises) = rests_on(supports, rule, entry) else {
+        unreachable!()
+    };
+    premises
+}
+
 /// Puts the line by which the rule gives the bound. After an `Err`, which is want of memory, all is as before.
 fn improve(
     alloc: Global,
@@ -101,9 +114,7 @@ fn improve(
     ensures unchanged { OnErr result (kept.new ≡ kept.old) }
 {
     let side = rule_side(rule);
-    let Some(premises) = defined_on(supports, rule, entry) else {
-        unreachable!()
-    };
+    let premises = premises_of(supports, rule, entry);
     let from = reasons(alloc, kept, side, premises)?;
     kept.put(Line {
         claim: Claim { side, entry, value },
