@@ -1,5 +1,5 @@
 -- The rules of a slot with neither numbers nor a support, where those that rest on nothing give nothing better than what stands.
-use Rattle.std.proofs.Common.{◌≡◌, ℕ, List, [], All, Option, Some, None, refl}
+use Rattle.std.proofs.Common.{◌≡◌, ℕ, ◌≤◌, ◌&&◌, true, if◌then◌else◌, List, [], All, Option, Some, None, refl, ap₂, le-leb}
 use Rattle.std.proofs.lemmas.List.Elements.{All-from_recursion, recursion_from_All}
 use Rattle.ct_codes.specs.declared.claim.Side.{Side}
 use Rattle.ct_codes.specs.declared.claim.Side.TheVariants.{Lower, Upper}
@@ -12,7 +12,7 @@ use Rattle.ct_rules.specs.declared.rule.Rule.TheVariants.{L1, L2, M1, M2, M9, U0
 use Rattle.ct_rules.specs.declared.rule.TheConstants.{LOWER_RULES, UPPER_RULES, LOWER_WEIGHT_RULES, UPPER_WEIGHT_RULES}
 use Rattle.ct_rules.specs.Listing.{rules_alone}
 use Rattle.ct_rules.specs.Rule.{row_of, rule_side, place_of, parts_of}
-use Rattle.ct_offers.specs.Offers.{AreGrounded, IsWithin}
+use Rattle.ct_offers.specs.Offers.{value_over, AreGrounded, IsWithin}
 use Rattle.ct_offers.specs.Inside.Pulled.{resting_rules}
 use Rattle.ct_offers.proofs.PulledLemmas.{within_better}
 
@@ -113,3 +113,22 @@ pub class_grounded : (supports : List Support) (f : Slot → ℕ) (e : Entry) (k
     → IsWithin supports f (Lower, e) (f (Lower, e)) (M9 k)
 unfolding row_of
 class_grounded supports f e k grounded entry = grounded (M9 k) e entry refl refl
+
+-- opposite words give two where there is room for them
+two_over : (supports : List Support) (f : Slot → ℕ) (n d : ℕ) → IsEntry (unrestricted n d) → d ≤ n
+    → value_over supports f L2 (unrestricted n d) ≡ Some 2
+unfolding row_of
+two_over supports f n d entry near =
+    ap₂ (λ a b. if a && b && true then (if a && b && true then Some 2 else None) else None) entry (le-leb d n near)
+
+-- so where no rule of a slot gives anything better than a bound, this is two at least
+pub two_below : (supports : List Support) (f : Slot → ℕ) (e : Entry) (best : ℕ) → IsEntry e → e.w ≡ None → e.d ≤ e.n
+    → All (IsWithin supports f (Lower, e) best) (rules_alone (Lower, e)) → 2 ≤ best
+two_below supports f e best = go e.n e.d e.w
+  where
+    go : (n d : ℕ) (w : Option ℕ) → IsEntry (record { n = n; d = d; w = w }) → w ≡ None → d ≤ n
+        → All (IsWithin supports f (Lower, record { n = n; d = d; w = w }) best) (rules_alone (Lower, record { n = n; d = d; w = w })) → 2 ≤ best
+    go n d None entry none near alone =
+        let each = recursion_from_All (IsWithin supports f (Lower, unrestricted n d) best) LOWER_RULES alone in
+        each.1.0 2 (two_over supports f n d entry near)
+    go n d (Some w) entry none near alone = absurd cc

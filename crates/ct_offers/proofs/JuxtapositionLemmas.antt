@@ -1,5 +1,5 @@
 -- Words side by side over true bounds: their value, where they give one word at most, and where they rest on an entry.
-use Rattle.std.proofs.Common.{◌≡◌, ℕ, ◌+◌, ◌-◌, ◌<◌, ◌≤◌, min, max, List, Contains, map, Some, None, true, refl, sym, ap, subst, ◌∙◌, arith, inl, inr, ◌⊎◌, le-leb}
+use Rattle.std.proofs.Common.{◌≡◌, ℕ, ◌+◌, ◌-◌, ◌*◌, ◌/◌, ◌<◌, ◌≤◌, min, max, List, Contains, map, Some, None, true, refl, sym, ap, subst, ◌∙◌, arith, inl, inr, ◌⊎◌, le-leb, div-lt_iff_lt-mul}
 use Rattle.std.specs.Prelude.{Bool, ◌&&◌, if◌then◌else◌, not, is_some, Option}
 use Rattle.std.proofs.lemmas.Bool.{and_parts, and_from, cases_lt, cases_eq}
 use Rattle.std.proofs.lemmas.Option.{same_Some}
@@ -10,6 +10,7 @@ use Rattle.ct_codes.specs.Claim.{IsTrueClaim}
 use Rattle.ct_codes.specs.Entry.{IsEntry, is_entry, unrestricted}
 use Rattle.ct_codes.proofs.DigitCodes.{bound_from_spread}
 use Rattle.ct_codes.proofs.EntryLemmas.{entry_limits, entry_from_limits}
+use Rattle.ct_elementary.proofs.Averages.{spread_plotkin}
 use Rattle.ct_elementary.proofs.FarWords.{spread_far}
 use Rattle.ct_rule_parts.specs.declared.support.Support.{Support}
 use Rattle.ct_rule_parts.specs.Parts.{has_weight, within_limit}
@@ -138,6 +139,17 @@ far_bound n d v far claim =
     let few = bound_from_spread n d 1 (spread_far n d far) words.0 words.1 in
     omega (arith, few, words.2)
 
+-- one where thrice the distance is above twice the length
+near_bound : (n d v : ℕ) → 2 * n < 3 * d → IsTrueClaim (claim_at (lower_at n d) v) → v ≤ 2
+near_bound n d v wide claim = elim (cases_lt n d) [
+  | inl far ↦ let one = far_bound n d v far claim in omega arith
+  | inr within ↦
+      let words = claim.truth in
+      let few = bound_from_spread n d (2 * (d / (2 * d - n))) (spread_plotkin n d within (omega arith)) words.0 words.1 in
+      let quotient : d / (2 * d - n) < 2 = (div-lt_iff_lt-mul {k = 2 * d - n} {x = d} {y = 2} (omega arith)).1 (omega arith) in
+      omega (arith, few, quotient, words.2)
+]
+
 -- where the distance of one code is above its length they are one word at most
 pub sum_far : (f : Slot → ℕ) (n d m c : ℕ) → AreTrue f → IsSum n d m c → (m < c) ⊎ (n - m < d - c) → least_of f n d m c ≤ 1
 sum_far f n d m c truth is (inl far) =
@@ -146,6 +158,34 @@ sum_far f n d m c truth is (inl far) =
 sum_far f n d m c truth is (inr far) =
     let few = far_bound (n - m) (d - c) (f (lower_at (n - m) (d - c))) far (truth (lower_at (n - m) (d - c)) is.second) in
     omega arith
+
+-- and two at most where thrice the distance of one is above twice its length
+sum_near : (f : Slot → ℕ) (n d m c : ℕ) → AreTrue f → IsSum n d m c → (2 * m < 3 * c) ⊎ (2 * (n - m) < 3 * (d - c)) → least_of f n d m c ≤ 2
+sum_near f n d m c truth is (inl near) =
+    let few = near_bound m c (f (lower_at m c)) near (truth (lower_at m c) is.first) in
+    omega arith
+sum_near f n d m c truth is (inr near) =
+    let few = near_bound (n - m) (d - c) (f (lower_at (n - m) (d - c))) near (truth (lower_at (n - m) (d - c)) is.second) in
+    omega arith
+
+-- which is no more than a bound that opposite words give
+sum_few : (f : Slot → ℕ) (n d m c best : ℕ) → AreTrue f → IsSum n d m c → 1 ≤ best → (d ≤ n → 2 ≤ best)
+    → (2 * m < 3 * c) ⊎ (2 * (n - m) < 3 * (d - c)) → least_of f n d m c ≤ best
+sum_few f n d m c best truth is some two near = elim (cases_lt n d) [
+  | inl beyond ↦ elim (cases_lt m c) [
+    | inl first ↦ let few = sum_far f n d m c truth is (inl first) in omega arith
+    | inr within ↦
+        let limits = sum_limits n d m c is in
+        let longer = limits.longer in
+        let farther = limits.farther in
+        let few = sum_far f n d m c truth is (inr (omega arith)) in
+        omega arith
+  ]
+  | inr there ↦
+      let few = sum_near f n d m c truth is near in
+      let enough = two there in
+      omega arith
+]
 
 -- the codes in the other order
 turned_sum : (n d m c : ℕ) → IsSum n d m c → IsSum n d (n - m) (d - c)
@@ -220,10 +260,10 @@ sum_satisfied-far supports f m c n d g truth h rests far =
 
 -- the first code of one length: the distances that are looked at are enough
 pub first_enough : (supports : List Support) (f : Slot → ℕ) (m : ℕ) (e : Entry) (best from end : ℕ) → AreTrue f → 1 ≤ best
-    → e.d - (e.n - m) ≤ from → from ≤ max (e.d - (e.n - m)) 3 → (m + 1 ≤ end) ⊎ (e.d ≤ end + 2)
+    → (e.d ≤ e.n → 2 ≤ best) → from ≤ max (e.d - 2 * (e.n - m) / 3) 3 → (2 * m / 3 + 1 ≤ end) ⊎ (e.d ≤ end + 2)
     → ((c : ℕ) → from ≤ c → c < end → least_of f e.n e.d m c ≤ best)
     → (c : ℕ) → IsWithin supports f (Lower, e) best (L11 m c)
-first_enough supports f m e best from end truth some low from_is high least c =
+first_enough supports f m e best from end truth some two from_is high least c =
     sum_within supports f m c e best truth
     (λ there.
     let is = (sum_parts supports m c e there).1 in
@@ -232,18 +272,29 @@ first_enough supports f m e best from end truth some low from_is high least c =
     let farther = limits.farther in
     let longer = limits.longer in
     elim (cases_lt c from) [
-      | inl below ↦
-          let few = sum_far f e.n e.d m c truth is (inr (omega arith)) in
-          omega arith
+      | inl below ↦ sum_few f e.n e.d m c best truth is some two (inr (omega (arith, below, from_is, far, farther, longer)))
       | inr from_on ↦ elim (cases_lt c end) [
         | inl within ↦ least c from_on within
         | inr above ↦ elim high [
-          | inl first ↦
-              let few = sum_far f e.n e.d m c truth is (inl (omega arith)) in
-              omega arith
+          | inl first ↦ sum_few f e.n e.d m c best truth is some two (inl (omega (arith, first, above)))
           | inr second ↦ absurd (omega arith)
         ]
       ]
+    ])
+
+-- where so it is of the entry, so it is of one of the codes
+pub wide_within : (supports : List Support) (f : Slot → ℕ) (e : Entry) (best : ℕ) → AreTrue f → 1 ≤ best → (e.d ≤ e.n → 2 ≤ best)
+    → 2 * e.n < 3 * e.d → (m c : ℕ) → IsWithin supports f (Lower, e) best (L11 m c)
+wide_within supports f e best truth some two wide m c =
+    sum_within supports f m c e best truth
+    (λ there.
+    let is = (sum_parts supports m c e there).1 in
+    let limits = sum_limits e.n e.d m c is in
+    let longer = limits.longer in
+    let farther = limits.farther in
+    elim (cases_lt (2 * m) (3 * c)) [
+      | inl first ↦ sum_few f e.n e.d m c best truth is some two (inl first)
+      | inr short ↦ sum_few f e.n e.d m c best truth is some two (inr (omega (arith, short, wide, longer, farther)))
     ])
 
 -- and the lengths that are looked at are enough

@@ -3,7 +3,7 @@ use Rattle.std.proofs.Common.{◌≡◌, ℕ, ◌+◌, suc, ◌<◌, ◌≤◌, 
 use Rattle.std.specs.Prelude.{slice_get, IfSome, false, is_some}
 use Rattle.std.proofs.lemmas.Bool.{and_parts, cases_eq}
 use Rattle.std.proofs.lemmas.List.Elements.{All-nil, All-cons, All-head, All-tail, All-append, All-contains}
-use Rattle.std.proofs.lemmas.Option.{none-some, same_Some}
+use Rattle.std.proofs.lemmas.Option.{none-some, same_Some, slice_get_within}
 use Rattle.std.specs.List.{range_with_len}
 use Rattle.ct_codes.specs.declared.claim.Side.{Side}
 use Rattle.ct_codes.specs.declared.claim.Side.TheVariants.{Lower, Upper}
@@ -139,6 +139,15 @@ asked_all supports f s entries best entry are asked place v value =
       | inl none ↦ absurd none
       | inr within ↦ within v value
     ]
+
+-- and where there are no supports none does
+pub none_within : (supports : List Support) (f : Slot → ℕ) (s : Slot) (best : ℕ) → length supports ≡ 0
+    → (place : ℕ) → IsWithin supports f s best (given_rule (slice_get supports place) s place)
+none_within supports f s best none place v value =
+    let there =
+    given_there supports s.0 s.1.n s.1.d s.1.w place (over-applies supports f (given_rule (slice_get supports place) s place) s.1 v value) in
+    let within = slice_get_within supports place there.0 there.1 in
+    absurd (omega (arith, within, none))
 
 -- of the rules that may name a support as an upper bound the others are defined nowhere that is not the support's
 by_own_rule : (supports : List Support) (f : Slot → ℕ) (e : Entry) (best place : ℕ) (r : Rule)

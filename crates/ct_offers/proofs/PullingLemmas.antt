@@ -1,18 +1,16 @@
 -- What a rule gives over the bounds that stand.
-use Rattle.std.proofs.Common.{◌≡◌, ℕ, ◌≤◌, List, ◌∷◌, map, Option, Some, None, option_map, true, ap, subst, arith}
+use Rattle.std.proofs.Common.{◌≡◌, ℕ, ◌≤◌, List, ◌∷◌, map, Some, None, true, ap, arith}
 use Rattle.std.specs.Prelude.{Bool, false, if◌then◌else◌}
 use Rattle.std.proofs.lemmas.Bool.{and_parts}
 use Rattle.ct_words.specs.declared.limits.TheConstants.{MAX_BOUND}
 use Rattle.ct_codes.specs.declared.entry.Entry.{Entry}
 use Rattle.ct_rule_parts.specs.declared.support.Support.{Support}
 use Rattle.ct_codes.specs.Entry.{IsEntry, is_entry}
-use Rattle.ct_rule_parts.specs.declared.entries.Entries.{Entries}
-use Rattle.ct_rule_parts.specs.Entries.{listed}
 use Rattle.ct_rule_parts.specs.Parts.{are_entries}
 use Rattle.ct_rule_parts.specs.Slot.{Slot}
 use Rattle.ct_rules.specs.declared.rule.Rule.{Rule}
 use Rattle.ct_rules.specs.Rule.{rule_side, applies, parts_over, premises_at, value_of}
-use Rattle.ct_rules.proofs.Applied.{value-given, limit_of, defined, defined_entries}
+use Rattle.ct_rules.proofs.Applied.{value-given, limit_of}
 use Rattle.ct_offers.specs.Offers.{value_over}
 use Rattle.ct_offers.proofs.SatisfiedLemmas.{where_given}
 
@@ -43,14 +41,6 @@ pub over-none : (supports : List Support) (f : Slot → ℕ) (r : Rule) (e : Ent
     → value_over supports f r e ≡ None
 over-none supports f r e h =
     ap (λ (b : Bool). if b then value_of supports r e (map f (premises_at supports r e)) else None) h
-
--- the entries on which a rule is defined are in the table
-pub listed_in_table : (supports : List Support) (r : Rule) (e : Entry) (o : Option Entries) (es : Entries)
-    → option_map listed o ≡ (if applies supports r e then Some ((parts_over supports r).rests_on e) else None) → o ≡ Some es
-    → are_entries (listed es) ≡ true
-listed_in_table supports r e o es h is =
-    let on = defined_entries supports r e o es h is in
-    subst (λ (fs : List Entry). are_entries fs ≡ true) on.1 (defined (parts_over supports r) e on.0).premises
 
 -- the first of entries of the table, and the others
 pub first_in_table : (e : Entry) (es : List Entry) → are_entries (e ∷ es) ≡ true → IsEntry e

@@ -1,5 +1,6 @@
 //! Words of two codes side by side, in the closing of a table: two bounds and the least of them. Other ways than those of these
-//! loops lay one word side by side at most, since one of the codes has a distance above its length.
+//! loops lay one word side by side at most, since one of the codes has a distance above its length, or two, since one has so great a distance
+//! for its length.
 
 ghost use Rattle.std.specs.Prelude.{◌≡◌, ◌<◌, ◌≤◌, ◌+◌, ℕ, List, None, OnOk, min};
 ghost use Rattle.ct_words.specs.declared.limits.TheConstants.{MAX_N};
@@ -29,7 +30,8 @@ fn plain_bound(bounds: &Bounds, n: u32, d: u32) -> u32
     bounds.bound(Side::Lower, Entry { n, d, w: None })
 }
 
-/// Asks for what words of a first code of length m give beside those of another.
+/// Asks for what words of a first code of length m give beside those of another. Where thrice the distance of a code is above twice its
+/// length it has two words at most.
 fn best_with_first(bounds: &Bounds, entry: Entry, m: u32, best: &mut Best, evaluations: &mut u64)
     requires entry { IsEntry entry }
     requires plain { entry.w ≡ None }
@@ -37,14 +39,15 @@ fn best_with_first(bounds: &Bounds, entry: Entry, m: u32, best: &mut Best, evalu
     requires to { m + 3 ≤ entry.n }
     requires true_bounds { AreTrue (bound_of bounds.now) }
     requires some { 1 ≤ best.old.value }
+    requires two { entry.d ≤ entry.n → 2 ≤ best.old.value }
     ensures pulled { (supports : List Support) → IsPulled supports (bound_of bounds.now) (Lower, entry) best.old best.new }
     ensures within { (supports : List Support) (c : ℕ) → IsWithin supports (bound_of bounds.now) (Lower, entry) best.new.value (L11 m c) }
 {
     let rest = entry.n - m;
-    let from = entry.d.saturating_sub(rest).max(3);
-    let end = (m + 1).min(entry.d - 2);
+    let from = entry.d.saturating_sub(2 * rest / 3).max(3);
+    let end = (2 * m / 3 + 1).min(entry.d - 2);
+    *evaluations = evaluations.saturating_add(u64::from(end.saturating_sub(from)));
     for c in from..end {
-        *evaluations = evaluations.saturating_add(1);
         let value = plain_bound(bounds, m, c).min(plain_bound(bounds, rest, entry.d - c));
         best.consider(Side::Lower, Rule::L11(m, c), Some(value));
     }
@@ -61,9 +64,14 @@ pub(crate) fn best_juxtaposition(
     requires plain { entry.w ≡ None }
     requires true_bounds { AreTrue (bound_of bounds.now) }
     requires some { 1 ≤ best.old.value }
+    requires two { entry.d ≤ entry.n → 2 ≤ best.old.value }
     ensures pulled { (supports : List Support) → IsPulled supports (bound_of bounds.now) (Lower, entry) best.old best.new }
     ensures within { (supports : List Support) (m c : ℕ) → IsWithin supports (bound_of bounds.now) (Lower, entry) best.new.value (L11 m c) }
 {
+    // Then thrice the distance of one of the codes is above twice its length.
+    if 3 * entry.d > 2 * entry.n {
+        return;
+    }
     // The codes in the other order give the same.
     for m in 3..entry.n / 2 + 1 {
         best_with_first(bounds, entry, m, best, evaluations);
@@ -113,9 +121,10 @@ fn mark_sums_of_length(
     ensures kept { KeepsMarks work.old work.new }
 {
     let own = plain_bound(bounds, entry.n, entry.d);
+    let from = entry.d + 3;
     let end = (entry.d + (n - entry.n)).min(MAX_N) + 1;
-    for d in entry.d + 3..end {
-        *evaluations = evaluations.saturating_add(1);
+    *evaluations = evaluations.saturating_add(u64::from(end.saturating_sub(from)));
+    for d in from..end {
         mark_sum(bounds, work, entry, own, n, d)?;
     }
     Ok(())

@@ -364,8 +364,8 @@ pub fn given_rule(supports: &[Support], side: Side, entry: Entry, place: u32) ->
     }
 }
 
-/// Asks for what the supports at the entry give on a side.
-fn ask_supports(
+/// Asks for what each support at the entry gives on a side.
+fn ask_each_support(
     supports: &[Support],
     places: &SupportPlaces,
     bounds: &Bounds,
@@ -387,6 +387,28 @@ fn ask_supports(
     }
 }
 
+/// Asks for what the supports at the entry give on a side, where there are any.
+#[inline(always)]
+fn ask_supports(
+    supports: &[Support],
+    places: &SupportPlaces,
+    bounds: &Bounds,
+    side: Side,
+    entry: Entry,
+    best: &mut Best,
+    evaluations: &mut u64,
+)
+    requires entry { IsEntry entry }
+    requires places { AreSupportPlaces supports.now places.now }
+    ensures pulled { IsPulled supports.now (bound_of bounds.now) (side, entry) best.old best.new }
+    ensures within { (place : ℕ) → IsWithin supports.now (bound_of bounds.now) (side, entry) best.new.value (given_rule (slice_get supports.now place) (side, entry) place) }
+{
+    if supports.is_empty() {
+        return;
+    }
+    ask_each_support(supports, places, bounds, side, entry, best, evaluations);
+}
+
 /// Asks for what the supports at the entry give from below, and words side by side.
 fn ask_below(
     supports: &[Support],
@@ -400,6 +422,7 @@ fn ask_below(
     requires places { AreSupportPlaces supports.now places.now }
     requires true_bounds { AreTrue (bound_of bounds.now) }
     requires some { 1 ≤ best.old.value }
+    requires two { entry.w ≡ None → entry.d ≤ entry.n → 2 ≤ best.old.value }
     ensures pulled { IsPulled supports.now (bound_of bounds.now) (Lower, entry) best.old best.new }
     ensures given { (place : ℕ) → IsWithin supports.now (bound_of bounds.now) (Lower, entry) best.new.value (given_rule (slice_get supports.now place) (Lower, entry) place) }
     ensures sums { entry.w ≡ None → (m c : ℕ) → IsWithin supports.now (bound_of bounds.now) (Lower, entry) best.new.value (L11 m c) }

@@ -4,8 +4,8 @@ use Rattle.ct_codes.specs.declared.claim.Side.TheVariants.{Lower}
 use Rattle.ct_rules.specs.declared.rule.Rule.TheVariants.{L11}
 use Rattle.ct_slots.specs.Number.{bound_of}
 use Rattle.ct_offers.specs.Offers.{IsWithin}
-use Rattle.ct_offers.proofs.PulledLemmas.{IsPulled-trans, within_better}
-use Rattle.ct_offers.proofs.JuxtapositionLemmas.{halves_enough}
+use Rattle.ct_offers.proofs.PulledLemmas.{IsPulled-refl, IsPulled-trans, within_better}
+use Rattle.ct_offers.proofs.JuxtapositionLemmas.{halves_enough, wide_within}
 use Rattle.ct_offers.proofs.juxtaposition.best_juxtaposition.Goals as goal
 
 pub best_with_first-requires-clause-some : goal.best_with_first-requires-clause-some
@@ -13,6 +13,12 @@ best_with_first-requires-clause-some c =
     let better = (c.loop-m.invariant.0 []).no_worse in
     let some = c.requires.some in
     omega (arith, better, some)
+
+pub best_with_first-requires-clause-two : goal.best_with_first-requires-clause-two
+best_with_first-requires-clause-two c = λ near.
+    let better = (c.loop-m.invariant.0 []).no_worse in
+    let two = c.requires.two near in
+    omega (arith, better, two)
 
 pub loop-m-preserved : goal.loop-m-preserved
 loop-m-preserved c =
@@ -38,3 +44,12 @@ returns-clause-within c =
     let some = c.requires.some in
     halves_enough supports f e c.loop-m.best.value c.loop-m.m c.requires.true_bounds c.requires.entry (omega (arith, better, some))
     (omega (arith, c.loop-m-test.false)) (c.loop-m.invariant.1 supports)
+
+pub returns-then-entry-clause-pulled : goal.returns-then-entry-clause-pulled
+returns-then-entry-clause-pulled c = λ supports.
+    IsPulled-refl supports (bound_of c.args.bounds.now) (Lower, c.args.entry) c.args.best.now
+
+pub returns-then-entry-clause-within : goal.returns-then-entry-clause-within
+returns-then-entry-clause-within c = λ supports.
+    wide_within supports (bound_of c.args.bounds.now) c.args.entry c.args.best.now.value c.requires.true_bounds c.requires.some c.requires.two
+    (omega (arith, c.if-entry.true))

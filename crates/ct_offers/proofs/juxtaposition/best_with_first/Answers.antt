@@ -1,4 +1,4 @@
-use Rattle.std.proofs.Common.{◌≡◌, ◌+◌, ◌≤◌, [], refl, sym, subst, arith, inl, inr}
+use Rattle.std.proofs.Common.{◌≡◌, ◌+◌, ◌*◌, ◌/◌, ◌≤◌, [], refl, sym, subst, arith, inl, inr}
 use Rattle.std.proofs.lemmas.Bool.{cases_eq, cases_lt}
 use Rattle.ct_codes.specs.declared.claim.Side.TheVariants.{Lower}
 use Rattle.ct_slots.specs.Number.{bound_of}
@@ -45,8 +45,9 @@ returns-clause-within c =
     let from = c.max-from.ensures in
     first_enough supports f c.args.m e c.loop-c.best.value c.max-from.result c.min-end.result c.requires.true_bounds
     (let some = c.requires.some in omega (arith, better, some))
-    (omega (arith, low, from)) (omega (arith, low, from))
-    (elim (cases_lt c.min-end.result (c.args.m + 1)) [
+    (λ near. let two = c.requires.two near in omega (arith, better, two))
+    (omega (arith, low, from))
+    (elim (cases_lt c.min-end.result (2 * c.args.m / 3 + 1)) [
       | inl below ↦ inr (omega (arith, c.min-end.ensures, below))
       | inr above ↦ inl (omega (arith, above))
     ])

@@ -12,6 +12,12 @@ best_juxtaposition-requires-clause-some c =
     let some = c.requires.some in
     omega (arith, better, some)
 
+pub best_juxtaposition-requires-clause-two : goal.best_juxtaposition-requires-clause-two
+best_juxtaposition-requires-clause-two c = λ near.
+    let better = c.ask_supports.ensures.pulled.no_worse in
+    let two = c.requires.two c.in-None.is near in
+    omega (arith, better, two)
+
 pub returns-in-None-clause-pulled : goal.returns-in-None-clause-pulled
 returns-in-None-clause-pulled c =
     IsPulled-trans c.args.supports.now (bound_of c.args.bounds.now) (Lower, c.args.entry) c.args.best.now c.ask_supports.new.best

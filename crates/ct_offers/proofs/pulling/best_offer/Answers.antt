@@ -1,7 +1,11 @@
+use Rattle.std.proofs.Common.{All, subst}
 use Rattle.ct_slots.specs.Number.{bound_of}
+use Rattle.ct_codes.specs.declared.claim.Side.{Side}
 use Rattle.ct_codes.specs.declared.claim.Side.TheVariants.{Lower}
+use Rattle.ct_rules.specs.Listing.{rules_alone}
 use Rattle.ct_rules.specs.declared.rule.Rule.TheVariants.{M9}
-use Rattle.ct_offers.proofs.GroundedLemmas.{class_grounded}
+use Rattle.ct_offers.specs.Offers.{IsWithin}
+use Rattle.ct_offers.proofs.GroundedLemmas.{class_grounded, two_below}
 use Rattle.ct_offers.proofs.PulledLemmas.{within_better, asked_upper, asked_lower, some_below, from_standing}
 use Rattle.ct_offers.proofs.pulling.best_offer.Goals as goal
 
@@ -10,6 +14,15 @@ ask_below-requires-clause-some c =
     some_below c.args.supports.now (bound_of c.args.bounds.now) c.args.side c.args.entry c.standing-best.result c.ask_unsupported.new.best
     c.requires.true_bounds c.requires.entry c.in-Lower.is
     c.standing-best.ensures.value c.ask_unsupported.ensures.pulled
+
+pub ask_below-requires-clause-two : goal.ask_below-requires-clause-two
+ask_below-requires-clause-two c = λ none near.
+    let supports = c.args.supports.now in
+    let f = bound_of c.args.bounds.now in
+    let e = c.args.entry in
+    let best = c.ask_unsupported.new.best.value in
+    two_below supports f e best c.requires.entry none near
+    (subst (λ (t : Side). All (IsWithin supports f (t, e) best) (rules_alone (t, e))) c.in-Lower.is c.ask_unsupported.ensures.alone)
 
 pub returns-in-Upper-clause-within : goal.returns-in-Upper-clause-within
 returns-in-Upper-clause-within c =

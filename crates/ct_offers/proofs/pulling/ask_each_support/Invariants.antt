@@ -1,7 +1,7 @@
 use Rattle.ct_slots.specs.Number.{bound_of}
 use Rattle.ct_offers.specs.Inside.Pulled.{IsPulled}
 use Rattle.ct_offers.proofs.PulledLemmas.{AreAskedAbove, IsNext, left_to}
-use Rattle.ct_offers.proofs.pulling.ask_supports.Given as goal
+use Rattle.ct_offers.proofs.pulling.ask_each_support.Given as goal
 
 -- the places of the entry that are still to be asked for are the next one and those before it
 abbrev pub invariant-loop-next : goal.invariant-loop-next
