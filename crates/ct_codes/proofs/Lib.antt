@@ -1,5 +1,8 @@
 pub mod PairLemmas
 pub mod EntryLemmas
+pub mod InLists
+pub mod ColumnLemmas
+pub mod ListedEntries
 pub mod CheckLemmas
 pub mod BoundLemmas
 pub mod DigitCodes

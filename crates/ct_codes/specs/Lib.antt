@@ -1,4 +1,5 @@
 pub mod Entry
+pub mod TableEntries
 pub mod Code
 pub mod Pairs
 pub mod Check

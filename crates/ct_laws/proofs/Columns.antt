@@ -7,7 +7,7 @@ use Rattle.ct_words.specs.declared.limits.TheConstants.{MAX_N}
 use Rattle.ct_codes.specs.declared.entry.Entry.{Entry}
 use Rattle.ct_codes.specs.Entry.{IsEntry, is_entry, unrestricted, constant_weight}
 use Rattle.ct_codes.proofs.EntryLemmas.{entry_limits, entry_from_limits}
-use Rattle.ct_session.specs.Reply.{column}
+use Rattle.ct_codes.specs.TableEntries.{column}
 
 -- the entries of some lengths, one after another, that are in the table
 abbrev column_of : (ℕ → Entry) → ℕ → ℕ → List Entry

@@ -14,7 +14,7 @@ ghost use Rattle.ct_codes.specs.Entry.{unrestricted, constant_weight};
 ghost use Rattle.ct_rule_parts.specs.declared.support.Support.TheVariants.{Size};
 ghost use Rattle.ct_pieces.specs.Supports.{supports_of};
 ghost use Rattle.ct_pieces.specs.Text.{cites_text};
-ghost use Rattle.ct_session.specs.Reply.{column};
+ghost use Rattle.ct_codes.specs.TableEntries.{column};
 ghost use Rattle.ct_session.specs.Run.{IsRun, pieces_of};
 ghost use Rattle.ct_replies.specs.Text.{reply_text};
 ghost use Rattle.ct_replies.specs.declared.reply.Reply.TheVariants.{Withdrawn, WithdrawnAll, Shown, Table, Refused};

@@ -1,10 +1,11 @@
 //! What is noted of a ledger: its pieces, its stored words, and its table.
 
-use ct_codes::{Claim, Entry, Side};
+ghost use Rattle.ct_codes.specs.Entry.{IsEntry};
+
+use ct_codes::{Claim, Entry, Side, table_entries};
 use ct_ledger::{Ledger, Piece};
 use ct_rules::Rule;
 use ct_table::Table;
-use ct_words::MAX_N;
 use std::alloc::{AllocError, Global};
 
 /// A bound of the table, and the number of the line that is its reason.
@@ -49,11 +50,10 @@ pub struct Noted {
     table: NotedTable,
 }
 
-/// Notes the bounds of an entry, where it is in the table.
-fn note_entry(table: &Table, bounds: &mut Vec<Bound>, entry: Entry) -> Result<(), AllocError> {
-    if !entry.in_table() {
-        return Ok(());
-    }
+/// Notes the bounds of an entry of the table.
+fn note_entry(table: &Table, bounds: &mut Vec<Bound>, entry: Entry) -> Result<(), AllocError>
+    requires { IsEntry entry }
+{
     for (side, value) in [
         (Side::Lower, table.lower(entry)),
         (Side::Upper, table.upper(entry)),
@@ -66,23 +66,12 @@ fn note_entry(table: &Table, bounds: &mut Vec<Bound>, entry: Entry) -> Result<()
     Ok(())
 }
 
-/// Notes the bounds of the entries of a length and a distance.
-fn note_entries(table: &Table, bounds: &mut Vec<Bound>, n: u32, d: u32) -> Result<(), AllocError> {
-    note_entry(table, bounds, Entry { n, d, w: None })?;
-    for w in 0..=n {
-        note_entry(table, bounds, Entry { n, d, w: Some(w) })?;
-    }
-    Ok(())
-}
-
 /// All bounds of a table.
 fn bounds_of(alloc: Global, table: &Table) -> Result<Vec<Bound>, AllocError> {
     let mut bounds = Vec::new(alloc);
     bounds.reserve(15_540)?;
-    for n in 1..=MAX_N {
-        for d in 3..=MAX_N {
-            note_entries(table, &mut bounds, n, d)?;
-        }
+    for entry in &table_entries(alloc)? {
+        note_entry(table, &mut bounds, *entry)?;
     }
     Ok(bounds)
 }

@@ -1,11 +1,12 @@
 //! Facts about entries, pairs and codes that hold for all of them, and lists of words whose fault is known.
 
-ghost use Rattle.std.specs.Prelude.{◌≡◌, ◌↔◌, ℕ, ◌%◌, ◌^◌, ◌<◌, ◌≤◌, Bool, List, [], ◌∷◌, length, All, IfSome, IsTrue};
+ghost use Rattle.std.specs.Prelude.{◌≡◌, ◌↔◌, ◌≢◌, ℕ, ◌%◌, ◌^◌, ◌<◌, ◌≤◌, Bool, List, [], ◌∷◌, length, All, AllPairs, Contains, IfSome, IsTrue};
 ghost use Rattle.ct_words.specs.declared.limits.TheConstants.{MAX_N};
 ghost use Rattle.ct_codes.specs.declared.entry.Entry.{Entry};
 ghost use Rattle.ct_codes.specs.declared.fault.TheConstants.{MAX_WORDS};
 ghost use Rattle.ct_codes.specs.declared.fault.CodeFault.TheVariants.{Size, Weight, Repeated, Close};
 ghost use Rattle.ct_codes.specs.Entry.{IsEntry, same_entry};
+ghost use Rattle.ct_codes.specs.TableEntries.{table_entries};
 ghost use Rattle.ct_codes.specs.Pairs.{least_pair, IsLeastPair, NoPair};
 ghost use Rattle.ct_codes.specs.Code.{IsCodeOf, IsTrueLower, IsTrueUpper};
 ghost use Rattle.ct_codes.specs.Check.{code_fault};
@@ -16,6 +17,13 @@ pub fn entries_of_the_table()
     ensures entries { (e : Entry) → IsEntry e ↔ ((1 ≤ e.n) × (e.n ≤ MAX_N) × (3 ≤ e.d) × (e.d ≤ MAX_N) ×
         IfSome e.w (λ w. (e.d % 2 ≡ 0) × (4 ≤ e.d) × (w ≤ e.n))) }
     ensures same { (e f : Entry) → IsTrue (same_entry e f) ↔ (e ≡ f) }
+{}
+
+/// The entries that are listed are those of the table, each once: 7,770 of them.
+pub fn table_entries_are_all()
+    ensures each { (e : Entry) → IsEntry e ↔ Contains table_entries e }
+    ensures once { AllPairs (λ e f. e ≢ f) table_entries }
+    ensures count { length table_entries ≡ 7770 }
 {}
 
 /// The least pair is a pair that passes and that no passing pair comes before; there is none where no pair passes.

@@ -26,7 +26,7 @@ pub use builds::{
 };
 pub use codes::{
     bounds_of_every_entry, entries_of_the_table, faultless_lists_are_codes, known_faults,
-    least_pair_is_least,
+    least_pair_is_least, table_entries_are_all,
 };
 pub use constructions::{
     added_words_are_sums, digits_at_places, digits_of_constructions, even_words_are_a_code,

@@ -1,9 +1,8 @@
 -- A sum class is a code of distance 4 (Graham and Sloane 1980).
-use Rattle.std.proofs.Common.{◌≡◌, ◌≢◌, ℕ, zero, suc, ◌+◌, ◌/◌, ◌%◌, ◌^◌, ◌<◌, ◌≤◌, Bool, true, ◌==◌, List, [], ◌∷◌, length, get_or, Some, All, AllPairs, Contains, sym, ap, ◌∙◌, inl, inr, arith, eq-eqb, eqb-true}
-use Rattle.std.specs.List.{filter}
+use Rattle.std.proofs.Common.{◌≡◌, ◌≢◌, ℕ, suc, ◌+◌, ◌/◌, ◌%◌, ◌^◌, ◌<◌, ◌≤◌, true, ◌==◌, length, Some, All, AllPairs, Contains, sym, ◌∙◌, inl, inr, arith, eq-eqb, eqb-true}
 use Rattle.std.specs.List.Sorted.{IsStrictlyIncreasing}
 use Rattle.std.proofs.Math.Nat.{div-add-mod', mul-le-mul_left}
-use Rattle.std.proofs.lemmas.Bool.{cases_lt, cases_Bool, and_parts, and_from}
+use Rattle.std.proofs.lemmas.Bool.{cases_lt, and_parts, and_from}
 use Rattle.std.proofs.lemmas.List.{get_or_default}
 use Rattle.std.proofs.lemmas.List.Elements.{All-contains, All-filter, All-weaker, filter_passes}
 use Rattle.std.proofs.lemmas.List.Kept.{AllPairs-from_increasing, IsStrictlyIncreasing-filter}
@@ -14,6 +13,7 @@ use Rattle.ct_words.specs.declared.limits.TheConstants.{MAX_N}
 use Rattle.ct_words.proofs.TextLemmas.{length-tabulate, get_or-tabulate}
 use Rattle.ct_words.proofs.WordLemmas.{digit-lt, weights_of_pair, distance-pos}
 use Rattle.ct_codes.specs.Code.{IsCode, IsSoundCode}
+use Rattle.ct_codes.proofs.InLists.{Contains-filter}
 use Rattle.ct_codes.proofs.Constructions.EvenLemmas.{words_of_length-below, words_of_length-ascending}
 use Rattle.ct_partitions.specs.SumClass.{place_sum, in_sum_class, sum_class}
 use Rattle.ct_partitions.proofs.PlaceSums.{AreNear, sums_of_two}
@@ -92,17 +92,6 @@ sound-sum_class n w r some few holds =
       code = IsCode-sum_class n w r;
     }
 
--- an item that passes is among those that pass
-Contains-filter : (p : ℕ → Bool) (xs : List ℕ) (x k : ℕ) → p x ≡ true → k < length xs → get_or xs k x ≡ x → Contains (filter p xs) x
-Contains-filter p [] x k passes within here = absurd (omega arith)
-Contains-filter p (y ∷ ys) x zero passes within here = rw (ap p here ∙ passes) (0, omega arith, here)
-Contains-filter p (y ∷ ys) x (suc k) passes within here =
-    let rest = Contains-filter p ys x k passes (omega arith) here in
-    elim (cases_Bool (p y)) [
-      | inl kept ↦ let inside = rest.1 in rw kept (suc rest.0, omega arith, rest.2)
-      | inr dropped ↦ rw dropped rest
-    ]
-
 -- the words of a class
 pub word_of_class : (n w r x : ℕ) → Contains (sum_class n w r) x → (x < 2 ^ n) × (weight n x ≡ w) × (place_sum n x % n ≡ r)
 word_of_class n w r x contains =
@@ -119,6 +108,6 @@ pub class_of_word : (n w r x : ℕ) → x < 2 ^ n → weight n x ≡ w → place
 class_of_word n w r x below weight_is sum_is =
     let long = length-tabulate (λ y. y) (2 ^ n) in
     let within : x < length (words_of_length n) = omega arith in
-    Contains-filter (in_sum_class n w r) (words_of_length n) x x
+    Contains-filter (in_sum_class n w r) (words_of_length n) x
     (and_from (weight n x == w) (place_sum n x % n == r) (eq-eqb (weight n x) w weight_is) (eq-eqb (place_sum n x % n) r sum_is))
-    within (get_or_default (words_of_length n) x x 0 within ∙ get_or-tabulate (λ y. y) (2 ^ n) x below)
+    (x, within, get_or_default (words_of_length n) x x 0 within ∙ get_or-tabulate (λ y. y) (2 ^ n) x below)

@@ -12,7 +12,7 @@ use Rattle.ct_codes.proofs.EntryLemmas.{entry_limits}
 use Rattle.ct_rule_parts.specs.declared.support.Support.{Support}
 use Rattle.ct_rule_parts.specs.Parts.{first, second}
 use Rattle.ct_rule_parts.proofs.Constructions.{HasCode-juxtaposed}
-use Rattle.ct_rule_parts.proofs.EntryLists.{Contains-range_with_len, Contains-flat_map}
+use Rattle.ct_codes.proofs.InLists.{Contains-range_with_len, Contains-flat_map}
 use Rattle.ct_rule_parts.proofs.Lawful.{IsLawful, LeadsBack, both_values, same_number, no_worse-other, first-no_better, second-no_better, defined_entry, defined_condition, defined_premises}
 use Rattle.ct_rule_parts.proofs.PlainEntries.{Weightless, no_weight, written, two_items}
 use Rattle.ct_rule_parts.proofs.PlainNumbers.{lower_number, of_length, of_distance}

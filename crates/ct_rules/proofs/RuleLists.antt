@@ -13,7 +13,7 @@ use Rattle.ct_codes.proofs.EntryLemmas.{entry_limits}
 use Rattle.ct_rule_parts.specs.declared.support.Support.{Support}
 use Rattle.ct_rule_parts.specs.Parts.{RuleParts}
 use Rattle.ct_rule_parts.specs.Slot.{Slot}
-use Rattle.ct_rule_parts.proofs.EntryLists.{Contains-range_with_len, Contains-flat_map}
+use Rattle.ct_codes.proofs.InLists.{Contains-range_with_len, Contains-flat_map}
 use Rattle.ct_rule_parts.specs.Support.{size_at, dual_at, odd_at, local_at}
 use Rattle.ct_weight_rules.specs.Neighbours.{of_weight, even_of_weight}
 use Rattle.ct_weight_rules.proofs.LawfulGrahamSloane.{known_class}

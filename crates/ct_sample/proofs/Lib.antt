@@ -1,7 +1,6 @@
 pub mod WithoutDocuments
 mod DrawnClasses
 pub mod DrawnSound
-pub mod Listed
 pub mod Applying
 pub mod Running
 pub mod Stepping

@@ -14,11 +14,11 @@ use Rattle.ct_rules.proofs.BestValues.{closed_bounds_exist}
 use Rattle.ct_rules.proofs.ClosedBounds.{AreTrue-from_derived, closed_bound_is_best, best_is_one}
 use Rattle.ct_pieces.specs.Supports.{supports_of}
 use Rattle.ct_sample.specs.Run.{RunValue, run_to}
-use Rattle.ct_sample.specs.TableEntries.{table_entries}
+use Rattle.ct_codes.specs.TableEntries.{table_entries}
 use Rattle.ct_sample.specs.Summary.{AreBest, tally_of, IsSummary, summary_text, IsSampleOutput}
 use Rattle.ct_sample.specs.declared.summary.Summary.{Summary}
 use Rattle.ct_sample.specs.declared.tally.Tally.{Tally}
-use Rattle.ct_sample.proofs.Listed.{all_listed}
+use Rattle.ct_codes.proofs.ListedEntries.{all_listed}
 use Rattle.ct_sample.proofs.Running.{running}
 
 -- best values of supports that stand

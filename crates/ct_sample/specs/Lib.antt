@@ -2,7 +2,6 @@ pub mod Random
 pub mod Drawn
 pub mod Command
 pub mod Run
-pub mod TableEntries
 pub mod Summary
 pub mod Examples
 pub mod Inside

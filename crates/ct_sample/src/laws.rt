@@ -1,8 +1,7 @@
 //! Facts about every sample.
 
-ghost use Rattle.std.specs.Prelude.{◌≡◌, ◌↔◌, ◌≢◌, ℕ, [], ◌∷◌, List, Some, None, AllPairs, Contains, codes, length};
-ghost use Rattle.ct_codes.specs.declared.entry.Entry.{Entry};
-ghost use Rattle.ct_codes.specs.Entry.{IsEntry, constant_weight, unrestricted};
+ghost use Rattle.std.specs.Prelude.{◌≡◌, ℕ, [], ◌∷◌, List, Some, None, codes};
+ghost use Rattle.ct_codes.specs.Entry.{constant_weight, unrestricted};
 ghost use Rattle.ct_build.specs.declared.step.Step.TheVariants.{Lengthen};
 ghost use Rattle.ct_kind.specs.declared.evidence.Evidence.TheVariants.{Cosets, Build};
 ghost use Rattle.ct_sample.specs.declared.command.Command.TheVariants.{Submit, Withdraw};
@@ -11,19 +10,11 @@ ghost use Rattle.ct_sample.specs.Drawn.{class_evidence, dual_of_ones};
 ghost use Rattle.ct_sample.specs.Examples.{short_code, lengthened_code, long_code, dual_piece};
 ghost use Rattle.ct_sample.specs.Random.{drawn};
 ghost use Rattle.ct_sample.specs.Summary.{IsSampleOutput};
-ghost use Rattle.ct_sample.specs.TableEntries.{table_entries};
 
 /// The sample of a number has one output, and no other.
 pub fn samples_are_one()
     ensures some { (number : ℕ) → (output : List ℕ) × IsSampleOutput number output }
     ensures one { (number : ℕ) (left right : List ℕ) → IsSampleOutput number left → IsSampleOutput number right → left ≡ right }
-{}
-
-/// The entries that are summed are those of the table, each once: 7,770 of them.
-pub fn table_entries_are_all()
-    ensures each { (e : Entry) → IsEntry e ↔ Contains table_entries e }
-    ensures once { AllPairs (λ e f. e ≢ f) table_entries }
-    ensures count { length table_entries ≡ 7770 }
 {}
 
 /// Numbers that are drawn, and commands of samples: a sum class of length 8 and weight 3, three words of the Golay code, a dual, the last code that is not too

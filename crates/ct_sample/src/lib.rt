@@ -3,7 +3,6 @@
 
 mod command;
 mod drawing;
-mod entries;
 mod laws;
 mod random;
 mod run;
@@ -11,7 +10,7 @@ mod summary;
 mod tally;
 mod writing;
 
-pub use laws::{known_commands, samples_are_one, table_entries_are_all};
+pub use laws::{known_commands, samples_are_one};
 pub use summary::{Summary, sample};
 pub use tally::Tally;
 pub use writing::write_sample;

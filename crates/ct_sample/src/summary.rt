@@ -3,9 +3,9 @@
 ghost use Rattle.std.specs.Prelude.{◌≡◌, ◌++◌, IfOk, OnOk, codes};
 ghost use Rattle.ct_sample.specs.Summary.{IsSummary, named_line, summary_text};
 
-use crate::entries::table_entries;
 use crate::run::run_of;
 use crate::tally::{Tally, tally_of};
+use ct_codes::table_entries;
 use ct_io::LINE_FEED;
 use ct_text::put_spaced;
 use std::alloc::{AllocError, Global};

@@ -8,6 +8,8 @@ use Rattle.ct_codes.specs.declared.entry.Entry.{Entry}
 use Rattle.ct_codes.specs.declared.claim.Side.{Side}
 use Rattle.ct_codes.specs.declared.claim.Side.TheVariants.{Lower, Upper}
 use Rattle.ct_codes.specs.Entry.{IsEntry, is_entry}
+use Rattle.ct_codes.specs.TableEntries.{column}
+use Rattle.ct_codes.proofs.ColumnLemmas.{entry_at, column_to, column_to-more}
 use Rattle.ct_rule_parts.specs.declared.support.Support.{Support}
 use Rattle.ct_rules.specs.Derivation.{IsBest}
 use Rattle.ct_rules.proofs.BestValues.{best_exists, best_is_true}
@@ -16,7 +18,7 @@ use Rattle.ct_pieces.specs.Piece.{PieceValue}
 use Rattle.ct_pieces.specs.Standing.{AreStanding}
 use Rattle.ct_pieces.specs.Supports.{supports_of}
 use Rattle.ct_pieces.proofs.SupportLemmas.{supports_stand}
-use Rattle.ct_session.specs.Reply.{IsShownBound, AreBoundsOf, column}
+use Rattle.ct_session.specs.Reply.{IsShownBound, AreBoundsOf}
 use Rattle.ct_replies.specs.declared.reply.Bounds.{Bounds}
 
 -- each side of an entry of the table has a best bound, which is true
@@ -77,21 +79,6 @@ bounds_of_more pieces [] [] e b h one = (one, tt)
 bounds_of_more pieces [] (c ∷ bs) e b h one = absurd h
 bounds_of_more pieces (f ∷ es) [] e b h one = absurd h
 bounds_of_more pieces (f ∷ es) (c ∷ bs) e b h one = (h.0, bounds_of_more pieces es bs e b h.1 one)
-
--- the entry of a distance, a weight, if one is given, and a length
-abbrev pub entry_at : ℕ → Option ℕ → ℕ → Entry
-entry_at d w n = record { n = n; d = d; w = w }
-
--- the entries of a column whose lengths are at most k
-abbrev pub column_to : ℕ → Option ℕ → ℕ → List Entry
-column_to d w k = filter is_entry (map (entry_at d w) (range_with_len 1 k))
-
--- the entry of the next length, where the table has it
-column_to-more : (d : ℕ) (w : Option ℕ) (n : ℕ) → 1 ≤ n
-    → column_to d w (n + 1 - 1) ≡ column_to d w (n - 1) ++ cond (is_entry (entry_at d w n)) (entry_at d w n ∷ []) []
-column_to-more d w n some =
-    let more : n + 1 - 1 ≡ n - 1 + 1 = omega arith in
-    ap (column_to d w) more ∙ filter_of_map_range_with_len_more is_entry (entry_at d w) 1 (n - 1) n (omega arith)
 
 -- what it means that the entry is there, or not
 chosen_entry : (b : Bool) (e f : Entry) → Some f ≡ cond b (Some e) None → (b ≡ true) × (f ≡ e)

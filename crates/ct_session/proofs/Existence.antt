@@ -29,7 +29,8 @@ use Rattle.ct_rules.specs.Derivation.{IsBest}
 use Rattle.ct_explain.specs.Explained.{explanation_text}
 use Rattle.ct_explain.proofs.ExplainedBounds.{explained}
 use Rattle.ct_derive.specs.Listed.{IsListedCode}
-use Rattle.ct_session.specs.Reply.{IsReply, IsShowReply, IsTableReply, IsExplainReply, IsListReply, column, submission_reply, withdrawal_reply, withdrawal_all_reply, pieces_after}
+use Rattle.ct_codes.specs.TableEntries.{column}
+use Rattle.ct_session.specs.Reply.{IsReply, IsShowReply, IsTableReply, IsExplainReply, IsListReply, submission_reply, withdrawal_reply, withdrawal_all_reply, pieces_after}
 use Rattle.ct_replies.specs.Refusals.{is_refusal}
 use Rattle.ct_session.specs.Run.{AreReplies, AnswersCommands, IsRun, pieces_of}
 use Rattle.ct_replies.specs.Text.{reply_text, ledger_text, code_text}

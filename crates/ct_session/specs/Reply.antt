@@ -1,14 +1,13 @@
 -- The reply to a command over the pieces that stand, and the pieces after it.
-use Rattle.std.specs.Prelude.{◌≡◌, ℕ, ◌-◌, length, Bool, true, false, List, [], ◌∷◌, map, filter, Option, Some, None, Result, Ok, Err}
-use Rattle.std.specs.List.{AllZip, range_with_len}
+use Rattle.std.specs.Prelude.{◌≡◌, ℕ, ◌-◌, length, Bool, true, false, List, [], ◌∷◌, Option, Some, None, Result, Ok, Err}
+use Rattle.std.specs.List.{AllZip}
 use Rattle.std.specs.Option.{is_some}
-use Rattle.ct_words.specs.declared.limits.TheConstants.{MAX_N}
 use Rattle.ct_codes.specs.declared.entry.Entry.{Entry}
 use Rattle.ct_codes.specs.declared.claim.Side.{Side}
 use Rattle.ct_codes.specs.declared.claim.Side.TheVariants.{Lower, Upper}
 use Rattle.ct_codes.specs.Claim.{IsTrueClaim}
 use Rattle.ct_codes.specs.Code.{CodeValue}
-use Rattle.ct_codes.specs.Entry.{is_entry}
+use Rattle.ct_codes.specs.TableEntries.{column}
 use Rattle.ct_rules.specs.Derivation.{IsBest}
 use Rattle.ct_rule_parts.specs.Slot.{claim_at}
 use Rattle.ct_text.specs.EntryNumbers.{named_entry}
@@ -66,11 +65,6 @@ pub record IsShown (pieces : List PieceValue) (e : Entry) (reply : Reply) : Type
 abbrev pub IsShowReply : List PieceValue → Option Entry → Reply → Type 0
 IsShowReply pieces None reply = reply ≡ Refused refusal.NoEntry
 IsShowReply pieces (Some e) reply = IsShown pieces e reply
-
--- a column of the table: its entries A(n,d), or A(n,d,w) where a weight is given, in the order of their lengths, from 1, or the weight where it is
--- greater, to MAX_N; none where no entry has the distance and the weight
-unfoldable pub column : ℕ → Option ℕ → List Entry
-column d w = filter is_entry (map (λ n. record { n = n; d = d; w = w }) (range_with_len 1 MAX_N))
 
 -- the bounds of all entries of a column are shown, one after the other
 pub record IsColumn (pieces : List PieceValue) (entries : List Entry) (reply : Reply) : Type 0 where

@@ -35,7 +35,7 @@ use Rattle.ct_rule_parts.specs.Slot.{AreNoBetter}
 use Rattle.ct_rule_parts.specs.Support.{Stands, local_at}
 use Rattle.ct_rule_parts.specs.Local.{doubly_at, doubly_uppers, lesser, local_value}
 use Rattle.ct_rule_parts.proofs.DualLemmas.{local_there}
-use Rattle.ct_rule_parts.proofs.EntryLists.{Contains-range_with_len}
+use Rattle.ct_codes.proofs.InLists.{Contains-range_with_len}
 use Rattle.ct_rule_parts.proofs.Lawful.{IsLawful, LeadsBack, IsTrueNumber, AreTrueAt, NoWorse, same_number, no_worse-other, defined_entry, defined_condition}
 use Rattle.ct_rule_parts.proofs.PlainEntries.{Weighted, a_weight, no_item}
 use Rattle.ct_weight_rules.specs.Inside.RestedOn.{all_weights}

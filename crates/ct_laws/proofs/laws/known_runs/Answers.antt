@@ -14,7 +14,7 @@ use Rattle.ct_pieces.specs.declared.fault.WithdrawFault.TheVariants as withdraw
 use Rattle.ct_rules.specs.declared.rule.Rule.TheVariants.{M1, V0, V1}
 use Rattle.ct_rules.specs.Rule.{row_of}
 use Rattle.ct_explain.specs.Explained.{explanation_text}
-use Rattle.ct_session.specs.Reply.{column}
+use Rattle.ct_codes.specs.TableEntries.{column}
 use Rattle.ct_replies.specs.Text.{reply_text, ledger_text, code_text}
 use Rattle.ct_replies.specs.declared.reply.Reply.TheVariants.{Shown, Table, Lines, Refused}
 use Rattle.ct_replies.specs.declared.reply.Refusal.TheVariants as refusal
