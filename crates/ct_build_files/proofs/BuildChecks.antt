@@ -1,5 +1,6 @@
--- The reasons against a build in their order, and the code that it makes.
-use Rattle.std.proofs.Common.{◌≡◌, ℕ, List, ◌∷◌, Option, Some, None, is_some, option_map, Result, Ok, Err, IfOk, refl, sym, ap, subst, ◌∙◌}
+-- The reasons against a build in their order, and its size, where the parameters of its parts tell them.
+use Rattle.std.proofs.Common.{◌≡◌, ℕ, List, ◌∷◌, length, Option, Some, None, option_map, ap, subst, ◌∙◌, sym}
+use Rattle.std.specs.Prelude.{IfSome, OnSome}
 use Rattle.std.specs.Option.{option_to_list}
 use Rattle.ct_codes.specs.declared.entry.Entry.{Entry}
 use Rattle.ct_codes.specs.Code.{CodeValue}
@@ -7,9 +8,8 @@ use Rattle.ct_codes.specs.Pairs.{first_of}
 use Rattle.ct_build.specs.declared.fault.BuildFault.{BuildFault}
 use Rattle.ct_build.specs.declared.shape.Shape.{Shape}
 use Rattle.ct_build.specs.declared.step.Step.{Step}
-use Rattle.ct_build.specs.Build.{shape_of, built, early_fault}
-use Rattle.ct_build.proofs.BuildFaults.{fault_early}
-use Rattle.ct_kind.specs.Ascending.{code_at}
+use Rattle.ct_build.specs.Build.{shape_of, built, result_size, told_fault}
+use Rattle.ct_build.proofs.BuildFaults.{result_size-is, fault_of_shapes, none_of_shapes}
 use Rattle.ct_kind.specs.Named.{NamedCode, first_missing, code_named, other_named}
 use Rattle.ct_kind.specs.KindParts.{kind_reason}
 use Rattle.ct_kind.specs.declared.fault.SubmitFault.TheVariants as fault
@@ -17,23 +17,38 @@ use Rattle.ct_build_files.specs.BuildKind.{build_refusal, step_reason, built_ove
 
 -- a reason that the shapes tell is one against the step
 pub early_reason : (e : Entry) (step : Step) (part : List ℕ) (other : Option (List ℕ)) (first beside : Option CodeValue) (shape : Shape) (reason : BuildFault)
-    → option_map shape_of first ≡ Some shape → early_fault step e shape (option_map shape_of beside) ≡ Some reason
+    → option_map shape_of first ≡ Some shape → told_fault step e shape (option_map shape_of beside) ≡ Some reason
     → step_reason e step part other first beside ≡ Some (build_refusal part other reason)
 early_reason e step part other None beside shape reason is told = absurd cc
 early_reason e step part other (Some code) beside shape reason is told =
     let same : shape_of code ≡ shape = cc in
-    let early = subst (λ (s : Shape). early_fault step e s (option_map shape_of beside) ≡ Some reason) (sym same) told in
-    ap (option_map (build_refusal part other)) (fault_early step e code beside reason early)
+    let early = subst (λ (s : Shape). told_fault step e s (option_map shape_of beside) ≡ Some reason) (sym same) told in
+    ap (option_map (build_refusal part other)) (fault_of_shapes step e code beside reason early)
+
+-- where they tell how many words the step makes, so many it makes
+pub early_words-is : (e : Entry) (step : Step) (first beside : Option CodeValue) (shape : Shape) (size : Option ℕ)
+    → option_map shape_of first ≡ Some shape → size ≡ result_size step shape (option_map shape_of beside)
+    → IfSome size (λ k. option_map length (built_over e step first beside) ≡ Some k)
+early_words-is e step first beside shape None is told = tt
+early_words-is e step None beside shape (Some k) is told = absurd cc
+early_words-is e step (Some code) beside shape (Some k) is told =
+    let same : shape_of code ≡ shape = cc in
+    ap Some (result_size-is step e code beside k (subst (λ (s : Shape). result_size step s (option_map shape_of beside) ≡ Some k) (sym same) (sym told)))
+
+-- and there they tell that there is no reason
+pub early-accepted : (e : Entry) (step : Step) (part : List ℕ) (other : Option (List ℕ)) (first beside : Option CodeValue) (shape : Shape) (size : Option ℕ)
+    → option_map shape_of first ≡ Some shape → size ≡ result_size step shape (option_map shape_of beside)
+    → told_fault step e shape (option_map shape_of beside) ≡ None → OnSome size (step_reason e step part other first beside ≡ None)
+early-accepted e step part other first beside shape None is told none = tt
+early-accepted e step part other None beside shape (Some k) is told none = absurd cc
+early-accepted e step part other (Some code) beside shape (Some k) is told none =
+    let same : shape_of code ≡ shape = cc in
+    let known = subst (λ (s : Shape). result_size step s (option_map shape_of beside) ≡ Some k) (sym same) (sym told) in
+    let early = subst (λ (s : Shape). told_fault step e s (option_map shape_of beside) ≡ None) (sym same) none in
+    ap (option_map (build_refusal part other)) (none_of_shapes step e code beside (λ unknown. cc) early)
 
 -- where each part stands, the step alone tells the reason
 pub late-reason : (known : List NamedCode) (e : Entry) (step : Step) (part : List ℕ) (other : Option (List ℕ)) → first_missing known (part ∷ option_to_list other) ≡ None
     → kind_reason (build_kind e step part other) known ≡ step_reason e step part other (code_named part known) (other_named other known)
 late-reason known e step part other stand =
     ap (λ (missing : Option (List ℕ)). first_of (option_map fault.NoSuch missing) ((build_kind e step part other).reason known)) stand
-
--- what the step makes of the code of the first part
-pub built-answer : {E : Type 0} (e : Entry) (step : Step) (first beside : Option CodeValue) (part : CodeValue) (answer : Result CodeValue E) → first ≡ Some part
-    → IfOk answer (λ (c : CodeValue). c ≡ code_at e (built step e part beside)) → IfOk answer (λ (c : CodeValue). option_map (code_at e) (built_over e step first beside) ≡ Some c)
-built-answer e step first beside part (Ok c) is code =
-    ap (λ (f : Option CodeValue). option_map (code_at e) (built_over e step f beside)) is ∙ ap Some (sym code)
-built-answer e step first beside part (Err reason) is code = tt

@@ -1,6 +1,6 @@
 //! Evidence of kind build: the words that a step makes of the codes of pieces that stand, its parts.
 
-ghost use Rattle.std.specs.Prelude.{◌≡◌, ◌≢◌, ◌∷◌, Some, None, IfOk, IfErr, IfSome, IfNone, OnOk, length, option_map, true, codes};
+ghost use Rattle.std.specs.Prelude.{◌≡◌, ◌≢◌, ◌∷◌, Some, None, IfOk, IfErr, IfSome, OnOk, OnSome, length, option_map, true, codes};
 ghost use Rattle.std.specs.List.{list_any};
 ghost use Rattle.std.specs.Option.{option_copied, option_to_list, is_some, ForSome};
 ghost use Rattle.std.specs.Str.{bytes_eq};
@@ -10,11 +10,12 @@ ghost use Rattle.ct_kind.specs.KindParts.{kind_reason};
 ghost use Rattle.ct_kind.specs.Named.{first_missing, code_named, other_named};
 ghost use Rattle.ct_build_files.specs.BuildKind.{build_refusal, step_reason, built_over, build_kind};
 
-use ct_build::{BuildFault, Shape, Step, apply, early_fault};
+use crate::codes::Codes;
+use ct_build::{BuildFault, Shape, Step, apply, told_size};
 use ct_codes::{Code, Entry};
-use ct_kind::{Codes, Found, Kind, SubmitFault};
+use ct_kind::{Kind, SubmitFault};
 use ct_text::Id;
-use std::alloc::{AllocError, Global};
+use std::alloc::Global;
 
 /// What the evidence comes to.
 pub fn kind(entry: Entry) -> Kind
@@ -48,11 +49,17 @@ fn is_other(other: Option<Id>, id: Id) -> bool
     }
 }
 
-/// The ids of the parts that a build names.
-#[derive(Drop)]
-struct PartIds {
-    part: Id,
-    other: Option<Id>,
+/// A build as its document states it: the entry that it is about, its step, and the ids of its parts.
+#[derive(Clone, Copy)]
+pub struct StatedBuild<'a> {
+    /// The entry that it is about.
+    pub entry: Entry,
+    /// Its step.
+    pub step: &'a Step,
+    /// The id of its part.
+    pub part: Id,
+    /// The id of the other part, where the step needs one.
+    pub other: Option<Id>,
 }
 
 /// The other part, where one is named and no piece has its id.
@@ -66,13 +73,13 @@ fn missing_other<P: Codes>(pieces: &P, other: Option<Id>) -> Option<Id>
 }
 
 /// The first part that no piece has.
-fn missing_part<P: Codes>(pieces: &P, ids: &PartIds) -> Option<Id>
-    ensures { result ≡ first_missing (P.known pieces.now) (ids.now.part ∷ option_to_list ids.now.other) }
+fn missing_part<P: Codes>(pieces: &P, build: &StatedBuild<'_>) -> Option<Id>
+    ensures { result ≡ first_missing (P.known pieces.now) (build.now.part ∷ option_to_list build.now.other) }
 {
-    if pieces.is_known(ids.part) {
-        missing_other(pieces, ids.other)
+    if pieces.is_known(build.part) {
+        missing_other(pieces, build.other)
     } else {
-        Some(ids.part)
+        Some(build.part)
     }
 }
 
@@ -84,20 +91,6 @@ fn shape_beside<P: Codes>(pieces: &P, other: Option<Id>) -> Option<Shape>
     match other {
         Some(other) => pieces.shape(other),
         None => None,
-    }
-}
-
-/// The code of the other part, where one is named.
-fn code_beside<'a, P: Codes>(
-    alloc: Global,
-    pieces: &'a P,
-    other: Option<Id>,
-) -> Result<Found<'a>, AllocError>
-    ensures { IfOk result (λ found. found ≡ other_named other (P.known pieces.now)) }
-{
-    match other {
-        Some(other) => pieces.code(alloc, other),
-        None => Ok(Found::none()),
     }
 }
 
@@ -115,26 +108,49 @@ fn refusal(part: Id, other: Option<Id>, fault: BuildFault) -> SubmitFault
     }
 }
 
-/// The first reason against the step over the parts that needs no code.
-fn early_refusal<P: Codes>(
-    pieces: &P,
-    entry: Entry,
-    step: &Step,
-    ids: &PartIds,
-) -> Option<SubmitFault>
-    requires fits { FitsStated step.now entry }
-    ensures refusal { IfSome result (λ reason. step_reason entry step.now ids.now.part ids.now.other
-        (code_named ids.now.part (P.known pieces.now)) (other_named ids.now.other (P.known pieces.now)) ≡ Some reason) }
-    ensures coded { IfNone result (is_some (code_named ids.now.part (P.known pieces.now)) ≡ true) }
+/// How many words the build makes of the codes of its parts, none where that depends on their words; or the first reason against its
+/// step that their parameters tell.
+fn early_words<P: Codes>(pieces: &P, build: &StatedBuild<'_>) -> Result<Option<u32>, SubmitFault>
+    requires fits { FitsStated build.now.step.now build.now.entry }
+    ensures size { IfOk result (λ told. IfSome told (λ size. option_map length (built_over build.now.entry build.now.step.now
+        (code_named build.now.part (P.known pieces.now)) (other_named build.now.other (P.known pieces.now))) ≡ Some size)) }
+    ensures accepted { IfOk result (λ told. OnSome told (step_reason build.now.entry build.now.step.now build.now.part build.now.other
+        (code_named build.now.part (P.known pieces.now)) (other_named build.now.other (P.known pieces.now)) ≡ None)) }
+    ensures coded { OnOk result (is_some (code_named build.now.part (P.known pieces.now)) ≡ true) }
+    ensures fault { IfErr result (λ fault. step_reason build.now.entry build.now.step.now build.now.part build.now.other
+        (code_named build.now.part (P.known pieces.now)) (other_named build.now.other (P.known pieces.now)) ≡ Some fault) }
 {
-    let Some(shape) = pieces.shape(ids.part) else {
-        return Some(SubmitFault::WrongPart(ids.part));
+    let Some(shape) = pieces.shape(build.part) else {
+        return Err(SubmitFault::WrongPart(build.part));
     };
-    let fault = early_fault(step, entry, shape, shape_beside(pieces, ids.other))?;
-    Some(refusal(ids.part, ids.other, fault))
+    let beside = shape_beside(pieces, build.other);
+    match told_size(build.step, build.entry, shape, beside) {
+        Ok(size) => Ok(size),
+        Err(fault) => Err(refusal(build.part, build.other, fault)),
+    }
 }
 
-/// The code of the entry that the step makes of the codes, or why it makes none.
+/// The size of the piece that the build makes, none where that depends on words of its parts; or why it makes no piece: the first part
+/// that no piece has, or the first reason against its step that the parameters of the parts tell. No code is made. Where no size is told,
+/// the parts stand, and the first has a code.
+pub fn early_size<P: Codes>(pieces: &P, build: &StatedBuild<'_>) -> Result<Option<u32>, SubmitFault>
+    requires fits { FitsStated build.now.step.now build.now.entry }
+    ensures size { IfOk result (λ told. IfSome told (λ size.
+        (build_kind build.now.entry build.now.step.now build.now.part build.now.other).size (P.known pieces.now) ≡ Some size)) }
+    ensures accepted { IfOk result (λ told. OnSome told
+        (kind_reason (build_kind build.now.entry build.now.step.now build.now.part build.now.other) (P.known pieces.now) ≡ None)) }
+    ensures parts { OnOk result (first_missing (P.known pieces.now) (build.now.part ∷ option_to_list build.now.other) ≡ None) }
+    ensures coded { OnOk result (is_some (code_named build.now.part (P.known pieces.now)) ≡ true) }
+    ensures fault { IfErr result (λ fault.
+        kind_reason (build_kind build.now.entry build.now.step.now build.now.part build.now.other) (P.known pieces.now) ≡ Some fault) }
+{
+    if let Some(id) = missing_part(pieces, build) {
+        return Err(SubmitFault::NoSuch(id));
+    }
+    early_words(pieces, build)
+}
+
+/// The code of the entry that the step makes of the codes of the parts, or why it makes none.
 fn stepped(
     alloc: Global,
     step: &Step,
@@ -151,59 +167,24 @@ fn stepped(
     apply(alloc, step, entry, part, other)
 }
 
-/// The code that the step makes over the codes of the parts, or why it makes none.
-fn built_code<P: Codes>(
+/// The code that the build makes of the codes of its parts, or why it makes none.
+pub fn code(
     alloc: Global,
-    pieces: &P,
-    entry: Entry,
-    step: &Step,
-    ids: &PartIds,
+    build: &StatedBuild<'_>,
+    part: &Code,
+    other: Option<&Code>,
 ) -> Result<Code, SubmitFault>
-    requires fits { FitsStated step.now entry }
-    requires coded { is_some (code_named ids.now.part (P.known pieces.now)) ≡ true }
-    ensures code { IfOk result (λ code. option_map (code_at entry) (built_over entry step.now
-        (code_named ids.now.part (P.known pieces.now)) (other_named ids.now.other (P.known pieces.now))) ≡ Some code) }
-    ensures accepted { OnOk result (step_reason entry step.now ids.now.part ids.now.other
-        (code_named ids.now.part (P.known pieces.now)) (other_named ids.now.other (P.known pieces.now)) ≡ None) }
-    ensures fault { IfErr result (λ fault. fault ≢ SubmitFault.Memory → step_reason entry step.now ids.now.part ids.now.other
-        (code_named ids.now.part (P.known pieces.now)) (other_named ids.now.other (P.known pieces.now)) ≡ Some fault) }
+    requires fits { FitsStated build.now.step.now build.now.entry }
+    ensures code { IfOk result (λ code. code ≡ code_at build.now.entry (built build.now.step.now build.now.entry part.now (option_copied other.entry))) }
+    ensures accepted { OnOk result (step_reason build.now.entry build.now.step.now build.now.part build.now.other
+        (Some part.now) (option_copied other.entry) ≡ None) }
+    ensures fault { IfErr result (λ fault. fault ≢ SubmitFault.Memory → step_reason build.now.entry build.now.step.now build.now.part build.now.other
+        (Some part.now) (option_copied other.entry) ≡ Some fault) }
 {
-    let part_code = pieces.code(alloc, ids.part)?;
-    let other_code = code_beside(alloc, pieces, ids.other)?;
-    let Some(code) = part_code.code() else {
-        unreachable!()
-    };
-    stepped(alloc, step, entry, code, other_code.code()).map_err(|fault| refusal(
-        ids.part, ids.other, fault,
-    ))
-}
-
-/// The code that the step makes over the pieces, or why it makes none: the first part that no piece has, or the first reason
-/// against the step. What entries and sizes tell comes before any code is made.
-pub fn check<P: Codes>(
-    alloc: Global,
-    pieces: &P,
-    entry: Entry,
-    step: &Step,
-    part: Id,
-    other: Option<Id>,
-) -> Result<Code, SubmitFault>
-    requires fits { FitsStated step.now entry }
-    ensures code { IfOk result (λ code. option_map (code_at entry)
-        ((build_kind entry step.now part other).words (P.known pieces.now)) ≡ Some code) }
-    ensures size { IfOk result (λ code. (build_kind entry step.now part other).size (P.known pieces.now) ≡ Some (length code.words)) }
-    ensures accepted { OnOk result (kind_reason (build_kind entry step.now part other) (P.known pieces.now) ≡ None) }
-    ensures fault { IfErr result (λ fault. fault ≢ SubmitFault.Memory
-        → kind_reason (build_kind entry step.now part other) (P.known pieces.now) ≡ Some fault) }
-{
-    let ids = PartIds { part, other };
-    if let Some(id) = missing_part(pieces, &ids) {
-        return Err(SubmitFault::NoSuch(id));
+    match stepped(alloc, build.step, build.entry, part, other) {
+        Ok(code) => Ok(code),
+        Err(fault) => Err(refusal(build.part, build.other, fault)),
     }
-    if let Some(reason) = early_refusal(pieces, entry, step, &ids) {
-        return Err(reason);
-    }
-    built_code(alloc, pieces, entry, step, &ids)
 }
 
 /// The number of the words of the code.

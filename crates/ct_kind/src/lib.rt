@@ -12,7 +12,7 @@ mod word_lists;
 pub use evidence::Evidence;
 pub use fault::SubmitFault;
 pub use kind::{Kind, support_from};
-pub use parts::{Codes, Found, Partitions};
+pub use parts::{Found, Partitions};
 pub use stated::StatedPartition;
 pub use text::put_numbered;
 pub use word_lists::WordLists;

@@ -1,16 +1,13 @@
 //! What a kind may ask about the pieces that stand.
 
-ghost use Rattle.std.specs.Prelude.{◌≡◌, List, Some, None, IfOk, option_map};
-ghost use Rattle.std.specs.Option.{option_copied, ForSome};
-ghost use Rattle.ct_build.specs.Build.{shape_of, IsShape};
-ghost use Rattle.ct_kind.specs.Named.{NamedCode, is_known, code_named, partition_named};
+ghost use Rattle.std.specs.Prelude.{◌≡◌, List, Some, None};
+ghost use Rattle.std.specs.Option.{option_copied};
+ghost use Rattle.ct_kind.specs.Named.{NamedCode, is_known, partition_named};
 ghost use Rattle.ct_kind.specs.Sound.{AreSound};
 
 use crate::stated::StatedPartition;
-use ct_build::Shape;
 use ct_codes::Code;
 use ct_text::Id;
-use std::alloc::{AllocError, Global};
 use std::marker::Model;
 
 /// The code of a piece, where its kind has one: kept beside it, or made anew. Contracts see the code.
@@ -67,25 +64,6 @@ impl<'a> Found<'a> {
     {
         self.kept.or(self.made.as_ref())
     }
-}
-
-/// The pieces that stand, as a kind asks about their codes: by their ids, the first piece of an id.
-pub trait Codes {
-    // The pieces, each with its id, its code and the partition that it is.
-    ghost known: { Self → List NamedCode };
-
-    /// Whether a piece has the id.
-    fn is_known(&self, id: Id) -> bool
-        ensures { result ≡ is_known id (known self.now) };
-
-    /// The parameters of the code of the id, where there is one. No code is made.
-    fn shape(&self, id: Id) -> Option<Shape>
-        ensures shape { result ≡ option_map shape_of (code_named id (known self.now)) }
-        ensures limits { ForSome result IsShape };
-
-    /// The code of the id, where there is one. `Err` is want of memory.
-    fn code<'a>(&'a self, alloc: Global, id: Id) -> Result<Found<'a>, AllocError>
-        ensures { IfOk result (λ found. found ≡ code_named id (known self.now)) };
 }
 
 /// The pieces that stand, as a kind asks which partitions they are: by their ids, the first piece of an id.

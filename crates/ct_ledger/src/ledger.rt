@@ -187,12 +187,14 @@ impl Ledger {
 
     /// The code of the piece at the place, whose kind has one, over the codes of its parts: its length, distance and weight are
     /// those of the piece's entry, and its words are those of the document, of all choices of cosets, those that the step
-    /// makes, or the product. `Err` is want of memory.
-    pub fn code(&self, alloc: Global, place: usize) -> Result<Code, AllocError>
-        requires place { place < length self.now.pieces }
-        requires coded { IsSome (code_of_place self.now.pieces place) }
-        ensures code { IfOk result (λ code. code_of_place self.now.pieces place ≡ Some code) }
+    /// makes, or the product. Codes of builds that it needs are made, where they are not kept, and are kept from then on; the ledger
+    /// stays the same. `Err` is want of memory.
+    pub fn code(&mut self, alloc: Global, place: usize) -> Result<Code, AllocError>
+        requires place { place < length self.old.pieces }
+        requires coded { IsSome (code_of_place self.old.pieces place) }
+        ensures code { IfOk result (λ code. code_of_place self.old.pieces place ≡ Some code) }
         ensures sound { IfOk result IsSoundCode }
+        ensures unchanged { self.new ≡ self.old }
     {
         self.pieces.code(alloc, place)
     }

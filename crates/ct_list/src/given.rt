@@ -9,16 +9,17 @@ use ct_codes::{Code, Entry};
 use ct_ledger::Ledger;
 use std::alloc::{AllocError, Global};
 
-/// The code of the piece at the place, which gives a size at the entry. `Err` is want of memory.
+/// The code of the piece at the place, which gives a size at the entry. The ledger stays the same. `Err` is want of memory.
 pub(crate) fn given_code(
     alloc: Global,
-    ledger: &Ledger,
+    ledger: &mut Ledger,
     entry: Entry,
     place: u32,
 ) -> Result<Code, AllocError>
-    requires { IsSome (size_at (slice_get (supports_of ledger.now.pieces) place) entry) }
+    requires { IsSome (size_at (slice_get (supports_of ledger.old.pieces) place) entry) }
     ensures entry { IfOk result (λ c. entry_of_code c ≡ entry) }
-    ensures size { IfOk result (λ c. size_at (slice_get (supports_of ledger.now.pieces) place) entry ≡ Some (length c.words)) }
+    ensures size { IfOk result (λ c. size_at (slice_get (supports_of ledger.old.pieces) place) entry ≡ Some (length c.words)) }
+    ensures unchanged { ledger.new ≡ ledger.old }
 {
     let pieces = ledger.pieces();
     prove!((place as usize) < pieces.len());

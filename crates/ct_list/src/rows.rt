@@ -19,18 +19,19 @@ use ct_rules::Rule;
 use std::alloc::{AllocError, Global};
 
 /// The code of the entry that the rule, one for lower bounds that is defined there, says there is, made of codes of the entries
-/// that it rests on. `Err` is want of memory.
+/// that it rests on. The ledger stays the same. `Err` is want of memory.
 #[tactic(auto, unfolding(ct_rules::specs::Rule::row_of))]
 pub(crate) fn code_by_rule(
     alloc: Global,
-    ledger: &Ledger,
+    ledger: &mut Ledger,
     rule: Rule,
     entry: Entry,
     codes: Vec<Code>,
 ) -> Result<Code, AllocError>
     requires side { rule_side rule ≡ Lower }
-    requires parts { AreParts (parts_over (supports_of ledger.now.pieces) rule) entry codes.items }
-    ensures { IfOk result (IsMadeBy (parts_over (supports_of ledger.now.pieces) rule) entry codes.items) }
+    requires parts { AreParts (parts_over (supports_of ledger.old.pieces) rule) entry codes.items }
+    ensures code { IfOk result (IsMadeBy (parts_over (supports_of ledger.old.pieces) rule) entry codes.items) }
+    ensures unchanged { ledger.new ≡ ledger.old }
 {
     let Entry { n, d, w } = entry;
     match rule {

@@ -16,3 +16,4 @@ pub mod AlongLemmas
 pub mod TakenAlong
 mod LeftOut
 mod AlongPass
+mod BuildPlaces

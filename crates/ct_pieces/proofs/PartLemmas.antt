@@ -1,28 +1,28 @@
 -- The pieces at their places: their codes, and the shapes of these.
-use Rattle.std.proofs.Common.{◌≡◌, ℕ, ◌<◌, true, false, List, [], ◌∷◌, length, take, get_or, Option, Some, None, is_some, option_map, Result, Ok, Err, IfOk, refl, sym, ap, ap₂, subst, ◌∙◌, arith}
+use Rattle.std.proofs.Common.{◌≡◌, ℕ, zero, suc, ◌<◌, true, false, List, [], ◌∷◌, ◌++◌, length, take, get_or, length-take, Option, Some, None, is_some, option_map, Result, Ok, Err, IfOk, refl, sym, ap, ap₂, subst, ◌∙◌, arith}
 use Rattle.std.specs.Prelude.{slice_get}
 use Rattle.std.proofs.lemmas.Option.{slice_get-get_or, slice_get_within}
-use Rattle.std.specs.Option.{option_or}
+use Rattle.std.specs.Option.{option_or, option_flatten}
 use Rattle.std.proofs.lemmas.List.Elements.{All-nil}
 use Rattle.std.proofs.lemmas.List.Sorted.{length_permutation}
 use Rattle.ct_codes.specs.declared.entry.Entry.{Entry}
 use Rattle.ct_codes.specs.Code.{CodeValue}
 use Rattle.ct_build.specs.Build.{shape_of}
 use Rattle.ct_kind.specs.Ascending.{ascending}
-use Rattle.ct_kind.specs.Named.{NamedCode, is_known, code_named}
+use Rattle.ct_kind.specs.Named.{NamedCode, is_known, code_named, other_named}
 use Rattle.ct_pieces.specs.Kind.{stated_entry, has_code, own_reason, words_over, size_over}
 use Rattle.ct_pieces.specs.Piece.{PieceValue}
 use Rattle.ct_kind.specs.Ascending.{code_at}
-use Rattle.ct_pieces.specs.Codes.{code_over, codes_of, code_of_place}
+use Rattle.ct_pieces.specs.Codes.{code_over, named_code, codes_after, codes_of, code_of_place}
 use Rattle.ct_pieces.specs.Standing.{IsMade, AreMade}
-use Rattle.ct_pieces.specs.Inside.Kept.{listed_code, kept_codes}
+use Rattle.ct_pieces.specs.Inside.Kept.{kept_over, listed_code, kept_codes, code_there, code_found, other_place}
 use Rattle.ct_pieces.specs.Piece.{place_of}
 use Rattle.ct_kind.proofs.AscendingLemmas.{ascending-moved}
 use Rattle.ct_pieces.proofs.CodeLemmas.{AreMade-take, made_at, position-some, position-none, known_where_taken}
 use Rattle.ct_kind.specs.Sound.{HasSoundCode}
 use Rattle.ct_pieces.proofs.Stating.{StatesCode}
 use Rattle.ct_pieces.proofs.MakingLemmas.{IsRight, right-own, states_code, making-of, IsMade-right, codes_after-sound, code_of_place-is}
-use Rattle.ct_pieces.proofs.KeptLemmas.{place-or_listed}
+use Rattle.ct_pieces.proofs.KeptLemmas.{place-or_listed, kept_at, listed-some, listed-none}
 use Rattle.ct_pieces.proofs.SupportLemmas.{place_of-found, place_of-none}
 
 -- what is known of the piece at a place
@@ -94,23 +94,65 @@ pub named-first : (id : List ℕ) (ps : List PieceValue) (k : ℕ) → place_of 
 named-first id ps k is = (position-some id ps k is).1
 
 -- the code of a piece: kept, or listed
-pub kept-some : (ps : List PieceValue) (k : ℕ) (kept : List (Option CodeValue)) (p : PieceValue) (code : CodeValue) → kept ≡ kept_codes ps → k < length ps
-    → get_or kept k None ≡ Some code → code_of_place ps k ≡ Some code
-kept-some ps k kept p code is below at =
-    sym (place-or_listed ps k p below) ∙ ap (λ (ks : List (Option CodeValue)). option_or (get_or ks k None) (listed_code (codes_of (take k ps)) (get_or ps k p).evidence)) (sym is)
-    ∙ ap (λ (o : Option CodeValue). option_or o (listed_code (codes_of (take k ps)) (get_or ps k p).evidence)) at
+kept-some : (ps : List PieceValue) (k : ℕ) (p : PieceValue) (code : CodeValue) → k < length ps → code_there (kept_codes ps) k ≡ Some code
+    → code_of_place ps k ≡ Some code
+kept-some ps k p code below at =
+    sym (place-or_listed ps k p below) ∙ ap (λ (o : Option CodeValue). option_or o (listed_code (codes_of (take k ps)) (get_or ps k p).evidence)) at
 
-pub kept-here : (ps : List PieceValue) (k : ℕ) (kept : List (Option CodeValue)) (code : CodeValue) → kept ≡ kept_codes ps → k < length ps
-    → get_or kept k None ≡ Some code → code_of_place ps k ≡ Some code
-kept-here [] k kept code is below at = absurd (omega arith)
-kept-here (p ∷ ps) k kept code is below at = kept-some (p ∷ ps) k kept p code is below at
+pub kept-found : (ps : List PieceValue) (k : ℕ) (code : CodeValue) → k < length ps → code_there (kept_codes ps) k ≡ Some code → code_of_place ps k ≡ Some code
+kept-found [] k code below at = absurd (omega arith)
+kept-found (p ∷ ps) k code below at = kept-some (p ∷ ps) k p code below at
 
-pub kept-none : (ps : List PieceValue) (k : ℕ) (kept : List (Option CodeValue)) (p : PieceValue) → kept ≡ kept_codes ps → k < length ps → p ≡ get_or ps k p
-    → get_or kept k None ≡ None → listed_code (codes_of (take k ps)) p.evidence ≡ code_of_place ps k
-kept-none ps k kept p is below here at =
+pub kept-none : (ps : List PieceValue) (k : ℕ) (p : PieceValue) → k < length ps → p ≡ get_or ps k p → code_there (kept_codes ps) k ≡ None
+    → listed_code (codes_of (take k ps)) p.evidence ≡ code_of_place ps k
+kept-none ps k p below here at =
     ap (λ (q : PieceValue). listed_code (codes_of (take k ps)) q.evidence) here
-    ∙ sym (ap (λ (o : Option CodeValue). option_or o (listed_code (codes_of (take k ps)) (get_or ps k p).evidence)) at)
-    ∙ ap (λ (ks : List (Option CodeValue)). option_or (get_or ks k None) (listed_code (codes_of (take k ps)) (get_or ps k p).evidence)) is ∙ place-or_listed ps k p below
+    ∙ sym (ap (λ (o : Option CodeValue). option_or o (listed_code (codes_of (take k ps)) (get_or ps k p).evidence)) at) ∙ place-or_listed ps k p below
+
+-- what is to be kept at a place goes by the piece there
+pub kept-here : (ps : List PieceValue) (k : ℕ) (p : PieceValue) → k < length ps → p ≡ get_or ps k p
+    → code_there (kept_codes ps) k ≡ kept_over (codes_of (take k ps)) p.evidence
+kept-here ps k p below here = kept_at [] ps k p below ∙ ap (λ (q : PieceValue). kept_over (codes_of (take k ps)) q.evidence) (sym here)
+
+-- a code that is listed is that of the piece, and where none is, all that may be kept is
+pub listed-here : (ps : List PieceValue) (k : ℕ) (p : PieceValue) (code : CodeValue) → IsPlaced ps k p
+    → listed_code (codes_of (take k ps)) p.evidence ≡ Some code → code_of_place ps k ≡ Some code
+listed-here ps k p code at is = at.code ∙ listed-some (codes_of (take k ps)) p.evidence code is
+
+pub kept-whole : (ps : List PieceValue) (k : ℕ) (p : PieceValue) → k < length ps → p ≡ get_or ps k p → IsPlaced ps k p
+    → listed_code (codes_of (take k ps)) p.evidence ≡ None → code_there (kept_codes ps) k ≡ code_of_place ps k
+kept-whole ps k p below here at is = kept-here ps k p below here ∙ listed-none (codes_of (take k ps)) p.evidence is ∙ sym at.code
+
+-- the codes of the first pieces are those of all
+codes_take : (known : List NamedCode) (ps : List PieceValue) (k i : ℕ) → i < length (take k ps) → slice_get (codes_after known (take k ps)) i ≡ slice_get (codes_after known ps) i
+codes_take known [] zero i below = absurd (omega arith)
+codes_take known [] (suc k) i below = absurd (omega arith)
+codes_take known (p ∷ ps) zero i below = absurd (omega arith)
+codes_take known (p ∷ ps) (suc k) zero below = refl
+codes_take known (p ∷ ps) (suc k) (suc i) below = codes_take (known ++ named_code known p ∷ []) ps k i (omega arith)
+
+place_take : (ps : List PieceValue) (k i : ℕ) → i < length (take k ps) → code_of_place (take k ps) i ≡ code_of_place ps i
+place_take ps k i below = ap (λ (found : Option NamedCode). option_flatten (option_map (λ (l : NamedCode). l.code) found)) (codes_take [] ps k i below)
+
+-- where an id is found among the pieces before a place, that place is after it
+pub found-before : (id : List ℕ) (ps : List PieceValue) (k i : ℕ) → place_of id (take k ps) ≡ Some i → (i < k) × (i < length ps)
+found-before id ps k i is =
+    let within = (position-some id (take k ps) i is).0 in
+    let long = length-take k ps in
+    (omega arith, omega arith)
+
+-- the code of an id over the pieces before a place is that of the piece that is found
+pub found-named : (id : List ℕ) (ps : List PieceValue) (k : ℕ) → code_named id (codes_of (take k ps)) ≡ code_found ps (place_of id (take k ps))
+found-named id ps k = at (place_of id (take k ps)) refl where
+  at : (o : Option ℕ) → place_of id (take k ps) ≡ o → code_named id (codes_of (take k ps)) ≡ code_found ps o
+  at None is = position-none id (take k ps) is
+  at (Some i) is =
+      let found = position-some id (take k ps) i is in
+      found.1 ∙ place_take ps k i found.0
+
+pub found-other : (other : Option (List ℕ)) (ps : List PieceValue) (k : ℕ) → other_named other (codes_of (take k ps)) ≡ code_found ps (other_place other (take k ps))
+found-other None ps k = refl
+found-other (Some id) ps k = found-named id ps k
 
 -- nothing is against evidence of a piece over the pieces before it
 pub listed-faultless : (ps : List PieceValue) (k : ℕ) (p : PieceValue) → IsPlaced ps k p → own_reason (codes_of (take k ps)) p.evidence ≡ None
@@ -134,7 +176,7 @@ piece-coded ps k p made read =
     let below = slice_get_within ps k p read in
     placed-coded ps k p (placed ps k p made below (Some-piece p (get_or ps k p) (sym read ∙ slice_get-get_or ps k p below)))
 
-none-from : (o : Option CodeValue) → is_some o ≡ false → o ≡ None
+pub none-from : (o : Option CodeValue) → is_some o ≡ false → o ≡ None
 none-from None none = refl
 none-from (Some c) none = absurd cc
 

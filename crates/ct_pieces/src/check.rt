@@ -9,7 +9,7 @@ ghost use Rattle.ct_pieces.specs.Codes.{codes_of};
 ghost use Rattle.ct_pieces.specs.Standing.{AreMade};
 ghost use Rattle.ct_pieces.specs.Submission.{made_of, piece_from};
 ghost use Rattle.ct_pieces.specs.Supports.{support_of};
-ghost use Rattle.ct_pieces.specs.Inside.Kept.{kept_over, kept_codes};
+ghost use Rattle.ct_pieces.specs.Inside.Kept.{kept_over, kept_codes, IsKept, AreKept};
 
 use crate::kinds::{Checked, check, kind_of};
 use crate::piece::Piece;
@@ -20,7 +20,7 @@ use ct_rule_parts::Support;
 use ct_text::{Id, Text};
 use std::alloc::Global;
 
-/// A piece that was made, the code that is kept beside it, and what it gives to a table.
+/// A piece that was made, the code that is kept beside it, where it was made too, and what it gives to a table.
 #[derive(Drop)]
 pub(crate) struct Made {
     pub(crate) piece: Piece,
@@ -29,22 +29,23 @@ pub(crate) struct Made {
 }
 
 /// The piece that the document makes, which states this, under the id over the pieces, or why it makes none. Whether its id is taken is not
-/// looked at. The codes that are kept stand at the places of their pieces.
+/// looked at. The codes of pieces that it needs are made and kept, each at the place of its piece.
 pub(crate) fn make_piece(
     alloc: Global,
     pieces: &[Piece],
-    kept: &[Option<Code>],
+    kept: &mut Vec<Option<Code>>,
     id: Id,
     document: Text,
     stated: Document,
 ) -> Result<Made, SubmitFault>
     requires standing { AreMade [] pieces.now }
-    requires kept { kept.now ≡ kept_codes pieces.now }
+    requires kept { AreKept kept.old.items (kept_codes pieces.now) }
     requires sound { IsSound stated.evidence }
     requires few { length stated.cites.items ≤ MAX_CITES }
     requires each { All (λ cite. IsTrue (is_cite cite)) stated.cites.items }
+    ensures codes { AreKept kept.new.items (kept_codes pieces.now) }
     ensures made { IfOk result (λ made. made_of (codes_of pieces.now) id document (value_of stated) ≡ Ok made.piece) }
-    ensures kept { IfOk result (λ made. made.kept ≡ kept_over (codes_of pieces.now) made.piece.evidence) }
+    ensures kept { IfOk result (λ made. IsKept made.kept (kept_over (codes_of pieces.now) made.piece.evidence)) }
     ensures support { IfOk result (λ made. made.support ≡ support_of made.piece) }
     ensures fault { IfErr result (λ fault. fault ≢ SubmitFault.Memory
         → made_of (codes_of pieces.now) id document (value_of stated) ≡ Err fault) }
@@ -64,18 +65,19 @@ pub(crate) fn make_piece(
 }
 
 /// The piece that the document makes under the id over the pieces, or why it makes none. Whether its id is taken is not
-/// looked at. The codes that are kept stand at the places of their pieces.
+/// looked at. The codes of pieces that it needs are made and kept, each at the place of its piece.
 pub(crate) fn check_document(
     alloc: Global,
     pieces: &[Piece],
-    kept: &[Option<Code>],
+    kept: &mut Vec<Option<Code>>,
     id: Id,
     document: Text,
 ) -> Result<Made, SubmitFault>
     requires standing { AreMade [] pieces.now }
-    requires kept { kept.now ≡ kept_codes pieces.now }
+    requires kept { AreKept kept.old.items (kept_codes pieces.now) }
+    ensures codes { AreKept kept.new.items (kept_codes pieces.now) }
     ensures made { IfOk result (λ made. piece_from (codes_of pieces.now) id document (document_read_of document) ≡ Ok made.piece) }
-    ensures kept { IfOk result (λ made. made.kept ≡ kept_over (codes_of pieces.now) made.piece.evidence) }
+    ensures kept { IfOk result (λ made. IsKept made.kept (kept_over (codes_of pieces.now) made.piece.evidence)) }
     ensures support { IfOk result (λ made. made.support ≡ support_of made.piece) }
     ensures fault { IfErr result (λ fault. fault ≢ SubmitFault.Memory
         → piece_from (codes_of pieces.now) id document (document_read_of document) ≡ Err fault) }

@@ -1,9 +1,9 @@
 //! Where pieces are found, and their codes: those that are kept beside them, and those that are made where they are needed.
 
-ghost use Rattle.std.specs.Prelude.{◌≡◌, ◌<◌, Some, IfOk, IsSome, length, take, []};
+ghost use Rattle.std.specs.Prelude.{◌≡◌, ◌<◌, ◌≤◌, Some, IfOk, IsSome, length, take, []};
 ghost use Rattle.ct_pieces.specs.Codes.{code_of_place};
 ghost use Rattle.ct_pieces.specs.Standing.{AreMade};
-ghost use Rattle.ct_pieces.specs.Inside.Kept.{kept_codes};
+ghost use Rattle.ct_pieces.specs.Inside.Kept.{kept_codes, code_there};
 ghost use Rattle.ct_pieces.specs.Piece.{place_of};
 
 use crate::kinds::listed_code;
@@ -21,14 +21,14 @@ pub(crate) fn place_of(pieces: &[Piece], id: Id) -> Option<usize>
 }
 
 /// The pieces before a place.
-fn pieces_before(pieces: &[Piece], place: usize) -> &[Piece]
-    requires { place < length pieces.now }
+pub(crate) fn pieces_before(pieces: &[Piece], place: usize) -> &[Piece]
+    requires { place ≤ length pieces.now }
     ensures { result.now ≡ take place pieces.now }
 {
     &pieces[..place]
 }
 
-/// The code of the piece at the place, where its kind has one. The codes that are kept stand at the places of their pieces.
+/// The code of the piece at the place, where its kind has one. It is kept, where it is to be.
 pub(crate) fn find_code<'a>(
     alloc: Global,
     pieces: &[Piece],
@@ -36,8 +36,9 @@ pub(crate) fn find_code<'a>(
     place: usize,
 ) -> Result<Found<'a>, AllocError>
     requires made { AreMade [] pieces.now }
-    requires kept { kept.now ≡ kept_codes pieces.now }
     requires place { place < length pieces.now }
+    requires long { length kept.now ≡ length pieces.now }
+    requires kept { code_there kept.now place ≡ code_there (kept_codes pieces.now) place }
     ensures { IfOk result (λ found. found ≡ code_of_place pieces.now place) }
 {
     if let Some(code) = &kept[place] {
@@ -51,7 +52,7 @@ pub(crate) fn find_code<'a>(
     Ok(Found::made(made))
 }
 
-/// The code of the piece at the place, where its kind has one, as a code of its own.
+/// The code of the piece at the place, whose kind has one, as a code of its own. It is kept, where it is to be.
 pub(crate) fn code_at_place(
     alloc: Global,
     pieces: &[Piece],
@@ -59,8 +60,9 @@ pub(crate) fn code_at_place(
     place: usize,
 ) -> Result<Code, AllocError>
     requires made { AreMade [] pieces.now }
-    requires kept { kept.now ≡ kept_codes pieces.now }
     requires place { place < length pieces.now }
+    requires long { length kept.now ≡ length pieces.now }
+    requires kept { code_there kept.now place ≡ code_there (kept_codes pieces.now) place }
     requires coded { IsSome (code_of_place pieces.now place) }
     ensures { IfOk result (λ code. code_of_place pieces.now place ≡ Some code) }
 {

@@ -1,17 +1,20 @@
 //! Evidence by its kind. Each kind has a room of its own; here it is told which one evidence belongs in.
 
 ghost use Rattle.std.specs.Prelude.{◌≡◌, ◌≢◌, ◌<◌, ◌^◌, [], length, Some, None, IfOk, IfErr, OnOk};
+ghost use Rattle.ct_build.specs.Build.{FitsStated};
+ghost use Rattle.ct_kind.specs.declared.evidence.Evidence.TheVariants.{Build};
 ghost use Rattle.ct_files.specs.Evidence.{IsSound};
 ghost use Rattle.ct_pieces.specs.Codes.{codes_of};
 ghost use Rattle.ct_kind.specs.KindParts.{support_from};
 ghost use Rattle.ct_pieces.specs.Kind.{kind_of, stated_entry, names, has_code, own_reason, size_over};
 ghost use Rattle.ct_pieces.specs.Submission.{evidence_reason};
 ghost use Rattle.ct_pieces.specs.Standing.{AreMade};
-ghost use Rattle.ct_pieces.specs.Inside.Kept.{kept_over, listed_code, kept_codes};
+ghost use Rattle.ct_pieces.specs.Inside.Kept.{kept_over, listed_code, kept_codes, IsKept, AreKept};
 
+use crate::builds::make_code;
 use crate::piece::Piece;
-use crate::standing::{Standing, Stated};
-use ct_build_files::build_kind;
+use crate::standing::Standing;
+use ct_build_files::build_kind::{self, StatedBuild};
 use ct_codes::{Code, Entry};
 use ct_dual_files::dual_kind;
 use ct_files::Evidence;
@@ -76,8 +79,8 @@ pub(crate) fn names(evidence: &Evidence, id: Id) -> bool
     }
 }
 
-/// What the check of evidence gives: the size of its piece, where it has one, the code that is kept beside it, and what the piece gives to
-/// a table.
+/// What the check of evidence gives: the size of its piece, where it has one, the code that is kept beside it, where the check has made
+/// it, and what the piece gives to a table.
 #[derive(Drop)]
 pub(crate) struct Checked {
     pub(crate) size: Option<u32>,
@@ -112,7 +115,7 @@ impl Checked {
         }
     }
 
-    /// The code of the entry that a build makes, which is kept.
+    /// The code of the entry that a build makes, which the check has made, and which is kept.
     fn of_build(entry: Entry, code: Code) -> Checked
         ensures size { result.size ≡ Some (length code.words) }
         ensures kept { result.kept ≡ Some code }
@@ -140,18 +143,47 @@ impl Checked {
     }
 }
 
-/// What the evidence comes to over the pieces; or why it makes no piece. The codes that are kept stand at the places of their pieces.
+/// What the build comes to over the pieces; or why it makes no piece. The codes of pieces that it needs are made and kept.
+fn check_build(
+    alloc: Global,
+    pieces: &[Piece],
+    kept: &mut Vec<Option<Code>>,
+    build: &StatedBuild<'_>,
+) -> Result<Checked, SubmitFault>
+    requires standing { AreMade [] pieces.now }
+    requires kept { AreKept kept.old.items (kept_codes pieces.now) }
+    requires fits { FitsStated build.now.step.now build.now.entry }
+    ensures codes { AreKept kept.new.items (kept_codes pieces.now) }
+    ensures size { IfOk result (λ checked. checked.size ≡ size_over (codes_of pieces.now) (Build build.now.entry build.now.step.now build.now.part build.now.other)) }
+    ensures kept { IfOk result (λ checked.
+        IsKept checked.kept (kept_over (codes_of pieces.now) (Build build.now.entry build.now.step.now build.now.part build.now.other))) }
+    ensures support { IfOk result (λ checked. checked.support ≡ support_from build.now.entry checked.size) }
+    ensures accepted { OnOk result (evidence_reason (codes_of pieces.now) (Build build.now.entry build.now.step.now build.now.part build.now.other) ≡ None) }
+    ensures fault { IfErr result (λ fault. fault ≢ SubmitFault.Memory
+        → evidence_reason (codes_of pieces.now) (Build build.now.entry build.now.step.now build.now.part build.now.other) ≡ Some fault) }
+{
+    let told = build_kind::early_size(&Standing::new(pieces), build)?;
+    if let Some(size) = told {
+        return Ok(Checked::of_code(build.entry, size));
+    }
+    let code = make_code(alloc, pieces, kept, pieces.len(), build)?;
+    Ok(Checked::of_build(build.entry, code))
+}
+
+/// What the evidence comes to over the pieces; or why it makes no piece. The codes of pieces that it needs are made and kept, each at the
+/// place of its piece.
 pub(crate) fn check(
     alloc: Global,
     pieces: &[Piece],
-    kept: &[Option<Code>],
+    kept: &mut Vec<Option<Code>>,
     evidence: &Evidence,
 ) -> Result<Checked, SubmitFault>
     requires standing { AreMade [] pieces.now }
-    requires kept { kept.now ≡ kept_codes pieces.now }
+    requires kept { AreKept kept.old.items (kept_codes pieces.now) }
     requires sound { IsSound evidence.now }
+    ensures codes { AreKept kept.new.items (kept_codes pieces.now) }
     ensures size { IfOk result (λ checked. checked.size ≡ size_over (codes_of pieces.now) evidence.now) }
-    ensures kept { IfOk result (λ checked. checked.kept ≡ kept_over (codes_of pieces.now) evidence.now) }
+    ensures kept { IfOk result (λ checked. IsKept checked.kept (kept_over (codes_of pieces.now) evidence.now)) }
     ensures support { IfOk result (λ checked. checked.support ≡ (kind_of evidence.now).gives checked.size) }
     ensures accepted { OnOk result (evidence_reason (codes_of pieces.now) evidence.now ≡ None) }
     ensures fault { IfErr result (λ fault. fault ≢ SubmitFault.Memory
@@ -185,12 +217,21 @@ pub(crate) fn check(
             part,
             other,
         } => {
-            let standing = Standing::new(pieces, kept);
-            let code = build_kind::check(alloc, &standing, *entry, step, *part, *other)?;
-            Ok(Checked::of_build(*entry, code))
+            let build = StatedBuild {
+                entry: *entry,
+                step,
+                part: *part,
+                other: *other,
+            };
+            check_build(alloc, pieces, kept, &build)
         }
         Evidence::Product { entry, pairs } => {
-            let size = product_kind::check(alloc, &Stated::new(pieces), *entry, pairs.as_slice())?;
+            let size = product_kind::check(
+                alloc,
+                &Standing::new(pieces),
+                *entry,
+                pairs.as_slice(),
+            )?;
             Ok(Checked::of_code(*entry, size))
         }
         Evidence::Dual(dual) => Ok(Checked::of_dual(dual_kind::check(dual)?)),
@@ -245,7 +286,7 @@ pub(crate) fn listed_code(
             Ok(Some(code))
         }
         Evidence::Product { entry, pairs } => {
-            let code = product_kind::code(alloc, &Stated::new(before), *entry, pairs.as_slice())?;
+            let code = product_kind::code(alloc, &Standing::new(before), *entry, pairs.as_slice())?;
             Ok(Some(code))
         }
         Evidence::Partition { .. }

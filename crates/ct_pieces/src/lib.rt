@@ -3,6 +3,7 @@
 #![tactic(auto)]
 
 mod along;
+mod builds;
 mod check;
 mod dump;
 mod fault;

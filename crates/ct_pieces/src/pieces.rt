@@ -10,13 +10,14 @@ ghost use Rattle.ct_pieces.specs.Submission.{submitted, if_stored, unless_full};
 ghost use Rattle.ct_kind.specs.declared.fault.SubmitFault.{SubmitFault};
 ghost use Rattle.ct_pieces.specs.Withdrawal.{withdrawn, withdrawn_all, taken_along, without_all, marks_along};
 ghost use Rattle.ct_pieces.specs.Standing.{AreStanding, HasTrueSize, IsMade};
-ghost use Rattle.ct_pieces.specs.Inside.Kept.{kept_over};
+ghost use Rattle.ct_pieces.specs.Inside.Kept.{kept_over, IsKept};
 ghost use Rattle.ct_pieces.specs.Dump.{dump_text};
 ghost use Rattle.ct_pieces.specs.Submission.{AddsPiece};
 ghost use Rattle.ct_pieces.specs.Supports.{support_of, supports_of};
 ghost use Rattle.ct_pieces.specs.Piece.{place_of};
 
 use crate::along::{leave_out, marks_along, stored_words};
+use crate::builds::keep_code;
 use crate::check::{Made, check_document, make_piece};
 use crate::dump::put_dump;
 use crate::fault::WithdrawFault;
@@ -34,7 +35,7 @@ use std::alloc::{AllocError, Global};
 use std::marker::Model;
 
 /// The pieces of evidence that were accepted and not withdrawn, in the order in which they were accepted, without a table of what
-/// they give. Contracts see the list of the pieces.
+/// they give. Contracts see the list of the pieces. The code of a build is kept beside it, once its words were needed.
 #[derive(Debug, Drop)]
 pub struct Pieces {
     pieces: Vec<Piece>,
@@ -46,13 +47,13 @@ impl Model for Pieces {
     ghost use Rattle.std.specs.Prelude.{◌≡◌, List};
     ghost use Rattle.ct_pieces.specs.Piece.{PieceValue, stored_words};
     ghost use Rattle.ct_pieces.specs.Standing.{AreStanding};
-    ghost use Rattle.ct_pieces.specs.Inside.Kept.{kept_codes};
+    ghost use Rattle.ct_pieces.specs.Inside.Kept.{kept_codes, AreKept};
 
     ghost Value = { List PieceValue };
 
     ghost view = { λ l. l.pieces.items };
 
-    ghost invariant = { λ l. AreStanding l.pieces.items × (l.stored ≡ stored_words l.pieces.items) × (l.kept.items ≡ kept_codes l.pieces.items) };
+    ghost invariant = { λ l. AreStanding l.pieces.items × (l.stored ≡ stored_words l.pieces.items) × AreKept l.kept.items (kept_codes l.pieces.items) };
 }
 
 /// How many words the piece stores.
@@ -225,7 +226,7 @@ impl Pieces {
     {
         room_for(&self.pieces, id)?;
         let alloc = *self.pieces.allocator();
-        let made = check_document(alloc, &self.pieces, &self.kept, id, document)?;
+        let made = check_document(alloc, &self.pieces, &mut self.kept, id, document)?;
         self.put_made(made)
     }
 
@@ -251,7 +252,7 @@ impl Pieces {
             evidence,
             cites: Vec::new(alloc),
         };
-        let made = make_piece(alloc, &self.pieces, &self.kept, id, document, stated)?;
+        let made = make_piece(alloc, &self.pieces, &mut self.kept, id, document, stated)?;
         self.put_made(made)
     }
 
@@ -259,7 +260,7 @@ impl Pieces {
     /// to a table. Else the pieces are as before.
     fn put_made(&mut self, made: Made) -> Result<NewPiece, SubmitFault>
         requires made { IsMade (codes_of self.old) made.piece }
-        requires kept { made.kept ≡ kept_over (codes_of self.old) made.piece.evidence }
+        requires kept { IsKept made.kept (kept_over (codes_of self.old) made.piece.evidence) }
         requires support { made.support ≡ support_of made.piece }
         requires named { IsTrue (is_id made.piece.id) }
         requires free { has_id made.piece.id self.old ≡ false }
@@ -353,13 +354,16 @@ impl Pieces {
 
     /// The code of the piece at the place, whose kind has one, over the codes of its parts: its length, distance and weight are
     /// those of the piece's entry, and its words are those of the document, of all choices of cosets, those that the step
-    /// makes, or the product. `Err` is want of memory.
-    pub fn code(&self, alloc: Global, place: usize) -> Result<Code, AllocError>
-        requires place { place < length self.now }
-        requires coded { IsSome (code_of_place self.now place) }
-        ensures code { IfOk result (λ code. code_of_place self.now place ≡ Some code) }
+    /// makes, or the product. Codes of builds that it needs are made, where they are not kept, and are kept from then on; the pieces
+    /// stay the same. `Err` is want of memory.
+    pub fn code(&mut self, alloc: Global, place: usize) -> Result<Code, AllocError>
+        requires place { place < length self.old }
+        requires coded { IsSome (code_of_place self.old place) }
+        ensures code { IfOk result (λ code. code_of_place self.old place ≡ Some code) }
         ensures sound { IfOk result IsSoundCode }
+        ensures unchanged { self.new ≡ self.old }
     {
+        keep_code(alloc, &self.pieces, &mut self.kept, place)?;
         code_at_place(alloc, &self.pieces, &self.kept, place)
     }
 }

@@ -7,16 +7,14 @@ ghost use Rattle.ct_kind.specs.Named.{is_known, partition_named};
 ghost use Rattle.ct_kind.specs.Sound.{AreSound};
 ghost use Rattle.ct_pieces.specs.Codes.{codes_of, code_of_place};
 ghost use Rattle.ct_pieces.specs.Standing.{AreMade};
-ghost use Rattle.ct_pieces.specs.Inside.Kept.{kept_codes};
 
-use crate::kept::{find_code, place_of};
+use crate::kept::place_of;
 use crate::kinds::{kind_of, partition_of};
 use crate::piece::Piece;
 use ct_build::Shape;
-use ct_codes::Code;
-use ct_kind::{Codes, Found, Partitions, StatedPartition};
+use ct_build_files::Codes;
+use ct_kind::{Partitions, StatedPartition};
 use ct_text::Id;
-use std::alloc::{AllocError, Global};
 use std::marker::Model;
 
 /// Whether a piece has the id.
@@ -69,35 +67,31 @@ fn find_partition<'a>(pieces: &'a [Piece], id: Id) -> Option<StatedPartition<'a>
     }
 }
 
-/// Pieces that are made, each by its document over those before it, with the codes that are kept beside them. Contracts see the
-/// pieces.
+/// Pieces that are made, each by its document over those before it. Contracts see the pieces.
 #[derive(Drop)]
 pub(crate) struct Standing<'a> {
     pieces: &'a [Piece],
-    kept: &'a [Option<Code>],
 }
 
 impl<'a> Model for Standing<'a> {
-    ghost use Rattle.std.specs.Prelude.{◌≡◌, List, []};
+    ghost use Rattle.std.specs.Prelude.{List, []};
     ghost use Rattle.ct_pieces.specs.Piece.{PieceValue};
     ghost use Rattle.ct_pieces.specs.Standing.{AreMade};
-    ghost use Rattle.ct_pieces.specs.Inside.Kept.{kept_codes};
 
     ghost Value = { List PieceValue };
 
     ghost view = { λ s. s.pieces.now };
 
-    ghost invariant = { λ s. AreMade [] s.pieces.now × (s.kept.now ≡ kept_codes s.pieces.now) };
+    ghost invariant = { λ s. AreMade [] s.pieces.now };
 }
 
 impl<'a> Standing<'a> {
-    /// The pieces with the codes that are kept, at the places of their pieces.
-    pub(crate) fn new(pieces: &'a [Piece], kept: &'a [Option<Code>]) -> Standing<'a>
+    /// The pieces.
+    pub(crate) fn new(pieces: &'a [Piece]) -> Standing<'a>
         requires made { AreMade [] pieces.now }
-        requires kept { kept.now ≡ kept_codes pieces.now }
         ensures { result ≡ pieces.now }
     {
-        Standing { pieces, kept }
+        Standing { pieces }
     }
 }
 
@@ -116,44 +110,9 @@ impl<'b> Codes for Standing<'b> {
             None => None,
         }
     }
-
-    fn code<'a>(&'a self, alloc: Global, id: Id) -> Result<Found<'a>, AllocError> {
-        match place_of(self.pieces, id) {
-            Some(place) => find_code(alloc, self.pieces, self.kept, place),
-            None => Ok(Found::none()),
-        }
-    }
 }
 
-/// Pieces that are made, by what they state alone. Contracts see the pieces.
-#[derive(Drop)]
-pub(crate) struct Stated<'a> {
-    pieces: &'a [Piece],
-}
-
-impl<'a> Model for Stated<'a> {
-    ghost use Rattle.std.specs.Prelude.{List, []};
-    ghost use Rattle.ct_pieces.specs.Piece.{PieceValue};
-    ghost use Rattle.ct_pieces.specs.Standing.{AreMade};
-
-    ghost Value = { List PieceValue };
-
-    ghost view = { λ s. s.pieces.now };
-
-    ghost invariant = { λ s. AreMade [] s.pieces.now };
-}
-
-impl<'a> Stated<'a> {
-    /// The pieces by what they state.
-    pub(crate) fn new(pieces: &'a [Piece]) -> Stated<'a>
-        requires made { AreMade [] pieces.now }
-        ensures { result ≡ pieces.now }
-    {
-        Stated { pieces }
-    }
-}
-
-impl<'b> Partitions for Stated<'b> {
+impl<'b> Partitions for Standing<'b> {
     ghost use Rattle.ct_pieces.specs.Codes.{codes_of};
 
     ghost known = { λ pieces. codes_of pieces };

@@ -16,9 +16,10 @@ use std::alloc::{AllocError, Global};
 use std::marker::Model;
 
 /// Answers `list`: a code of the entry of the table with these numbers, if there is one, which has as many words as the lower bound says.
-/// `Err` is want of memory.
-fn list(alloc: Global, ledger: &Ledger, numbers: EntryNumbers) -> Result<AnyReply, AllocError>
-    ensures { IfOk result (λ answer. IsListReply ledger.now.pieces (named_entry numbers) (reply_of answer ledger.now.pieces)) }
+/// The ledger stays the same. `Err` is want of memory.
+fn list(alloc: Global, ledger: &mut Ledger, numbers: EntryNumbers) -> Result<AnyReply, AllocError>
+    ensures reply { IfOk result (λ answer. IsListReply ledger.old.pieces (named_entry numbers) (reply_of answer ledger.new.pieces)) }
+    ensures unchanged { ledger.new ≡ ledger.old }
 {
     match numbers.entry() {
         Some(entry) => {

@@ -1,17 +1,18 @@
--- The codes that a ledger keeps beside its pieces.
-use Rattle.std.specs.Prelude.{Bool, if◌then◌else◌, List, [], ◌∷◌, ◌++◌, Option, None}
+-- The codes that are kept beside pieces, once they are made: those of builds.
+use Rattle.std.specs.Prelude.{◌≡◌, ℕ, Bool, if◌then◌else◌, List, [], ◌∷◌, ◌++◌, Option, None, Some, IfSome, slice_index_or}
+use Rattle.std.specs.List.{AllZip}
 use Rattle.ct_codes.specs.Code.{CodeValue}
 use Rattle.ct_kind.specs.declared.evidence.Evidence.{Evidence}
 use Rattle.ct_kind.specs.Named.{NamedCode}
 use Rattle.ct_pieces.specs.Kind.{kind_of}
-use Rattle.ct_pieces.specs.Piece.{PieceValue}
-use Rattle.ct_pieces.specs.Codes.{code_over, named_code}
+use Rattle.ct_pieces.specs.Piece.{PieceValue, place_of}
+use Rattle.ct_pieces.specs.Codes.{code_over, named_code, code_of_place}
 
 -- whether the words of the code of such evidence are stored
 abbrev pub is_kept : Evidence → Bool
 is_kept evidence = (kind_of evidence).is_stored
 
--- the code that is kept beside a piece of the evidence: the one that it states over these codes, where its words are stored
+-- the code that is kept beside a piece of the evidence, once it is made: the one that it states over these codes, where its words are stored
 abbrev pub kept_over : List NamedCode → Evidence → Option CodeValue
 kept_over known evidence = if is_kept evidence then code_over known evidence else None
 
@@ -19,11 +20,33 @@ kept_over known evidence = if is_kept evidence then code_over known evidence els
 abbrev pub listed_code : List NamedCode → Evidence → Option CodeValue
 listed_code known evidence = if is_kept evidence then None else code_over known evidence
 
--- the codes that are kept beside pieces that stand after others, whose codes are known
+-- the codes that are kept, once they are made, beside pieces that stand after others, whose codes are known
 abbrev pub kept_after : List NamedCode → List PieceValue → List (Option CodeValue)
 kept_after known [] = []
 kept_after known (p ∷ ps) = kept_over known p.evidence ∷ kept_after (known ++ named_code known p ∷ []) ps
 
--- the codes that are kept beside the pieces, each at the place of its piece
+-- the codes that are kept, once they are made, beside the pieces, each at the place of its piece
 abbrev pub kept_codes : List PieceValue → List (Option CodeValue)
 kept_codes pieces = kept_after [] pieces
+
+-- what is kept where this code is, once it is made: nothing, or exactly this code
+abbrev pub IsKept : Option CodeValue → Option CodeValue → Type 0
+IsKept kept code = IfSome kept (λ k. code ≡ Some k)
+
+-- so it is at each place
+abbrev pub AreKept : List (Option CodeValue) → List (Option CodeValue) → Type 0
+AreKept kept codes = AllZip IsKept kept codes
+
+-- the code at a place, where there is one
+abbrev pub code_there : List (Option CodeValue) → ℕ → Option CodeValue
+code_there codes place = slice_index_or codes place None
+
+-- the code of the piece at a place that was found, where one was and it has a code
+abbrev pub code_found : List PieceValue → Option ℕ → Option CodeValue
+code_found pieces None = None
+code_found pieces (Some place) = code_of_place pieces place
+
+-- the place of the piece of the other id, where one is named and a piece has it
+abbrev pub other_place : Option (List ℕ) → List PieceValue → Option ℕ
+other_place None pieces = None
+other_place (Some id) pieces = place_of id pieces

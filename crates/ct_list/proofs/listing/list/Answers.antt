@@ -2,8 +2,8 @@ use Rattle.ct_pieces.specs.Supports.{supports_of}
 use Rattle.ct_list.proofs.Walk.{explained_by, listed}
 use Rattle.ct_list.proofs.listing.list.Goals as goal
 
-pub returns : goal.returns
-returns c =
+pub returns-clause-code : goal.returns-clause-code
+returns-clause-code c =
     let table = c.table-table.result.now in
     let supports = supports_of c.args.ledger.now.pieces in
     let same = c.table-table.ensures.supports in
@@ -11,7 +11,5 @@ returns c =
     let explained =
     explained_by table supports c.in_ok-lines.lines.items c.deref.result.now c.args.entry c.reason.result why.0 why.2 c.in_ok-lines.ensures
     same c.deref.ensures.value in
-    record {
-      code = listed table.supports supports c.args.entry why.0 c.in_ok-code.code why.1 same (c.in_ok-code.ensures c.args.entry why.0 explained)
-          c.n-n.ensures.sound;
-    }
+    listed table.supports supports c.args.entry why.0 c.in_ok-code.code why.1 same (c.in_ok-code.ensures.code c.args.entry why.0 explained)
+    c.n-n.ensures.sound

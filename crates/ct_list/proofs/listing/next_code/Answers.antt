@@ -58,7 +58,7 @@ returns-clause-code c = λ l is.
     let known = c.in_ok-codes.ensures.codes lines (kept_here lines c.args.kept.now.items c.args.place _ at c.requires.kept) in
     subst (λ (m : LineValue). IfOk c.code_by_rule.result (IsCodeFor m.claim)) (same_Some _ l (sym at ∙ is))
     (code_here (supports_of c.args.ledger.now.pieces) why.0 why.1 lines c.args.place _ c.in_ok-codes.codes.items c.code_by_rule.result
-    why.2 at known c.code_by_rule.ensures)
+    why.2 at known c.code_by_rule.ensures.code)
 
 pub returns-clause-kept : goal.returns-clause-kept
 returns-clause-kept c =

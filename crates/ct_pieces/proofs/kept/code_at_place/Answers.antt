@@ -9,20 +9,20 @@ use Rattle.ct_pieces.specs.Codes.{codes_of}
 use Rattle.ct_pieces.specs.Standing.{AreMade}
 use Rattle.ct_pieces.specs.Inside.Kept.{listed_code}
 use Rattle.ct_pieces.proofs.CodeLemmas.{AreMade-take}
-use Rattle.ct_pieces.proofs.KeptLemmas.{length-kept_codes}
-use Rattle.ct_pieces.proofs.PartLemmas.{placed, kept-here, kept-none, listed-faultless}
+use Rattle.ct_pieces.proofs.PartLemmas.{placed, kept-found, kept-none, listed-faultless}
 use Rattle.ct_pieces.proofs.kept.code_at_place.Goals as goal
 
 pub bounds-kept-place : goal.bounds-kept-place
-bounds-kept-place c = rw (c.requires.kept, length-kept_codes c.args.pieces.now) c.requires.place
+bounds-kept-place c = rw c.requires.long c.requires.place
 
 pub returns-in-Some : goal.returns-in-Some
 returns-in-Some c =
     let kept = c.args.kept.now in
     let place = c.args.place in
-    let within : place < length kept = rw (c.requires.kept, length-kept_codes c.args.pieces.now) c.requires.place in
+    let within : place < length kept = rw c.requires.long c.requires.place in
     let at = sym (get_or_read kept place c.index-kept-place.result within c.index-kept-place.is None) ∙ c.in-Some.is in
-    IfOk-weaker c.try_copy.result _ _ (λ (code : CodeValue) same. kept-here c.args.pieces.now place kept c.in-Some.code c.requires.kept c.requires.place at ∙ ap Some (sym same)) c.try_copy.ensures
+    let found = kept-found c.args.pieces.now place c.in-Some.code c.requires.place (sym c.requires.kept ∙ at) in
+    IfOk-weaker c.try_copy.result _ _ (λ (code : CodeValue) same. found ∙ ap Some (sym same)) c.try_copy.ensures
 
 pub listed_code-requires-clause-made : goal.listed_code-requires-clause-made
 listed_code-requires-clause-made c = subst (λ (ps : List PieceValue). AreMade [] ps) (sym c.pieces_before.ensures) (AreMade-take [] c.args.pieces.now c.args.place c.requires.made)
@@ -37,10 +37,10 @@ pub unreachable-requires : goal.unreachable-requires
 unreachable-requires c =
     let kept = c.args.kept.now in
     let place = c.args.place in
-    let within : place < length kept = rw (c.requires.kept, length-kept_codes c.args.pieces.now) c.requires.place in
+    let within : place < length kept = rw c.requires.long c.requires.place in
     let at = sym (get_or_read kept place c.index-kept-place.result within c.index-kept-place.is None) ∙ c.in_default.is in
     let found = c.in_ok-made.ensures ∙ ap₂ (λ (ps : List PieceValue) (e : Evidence). listed_code (codes_of ps) e) c.pieces_before.ensures c.evidence.ensures.evidence
-    ∙ kept-none c.args.pieces.now place kept c.index-pieces-place.result c.requires.kept c.requires.place c.index-pieces-place.is at in
+    ∙ kept-none c.args.pieces.now place c.index-pieces-place.result c.requires.place c.index-pieces-place.is (sym c.requires.kept ∙ at) in
     let never = subst IsSome (sym found ∙ c.in_default-made.is) c.requires.coded in
     cc
 
@@ -48,8 +48,8 @@ pub returns : goal.returns
 returns c =
     let kept = c.args.kept.now in
     let place = c.args.place in
-    let within : place < length kept = rw (c.requires.kept, length-kept_codes c.args.pieces.now) c.requires.place in
+    let within : place < length kept = rw c.requires.long c.requires.place in
     let at = sym (get_or_read kept place c.index-kept-place.result within c.index-kept-place.is None) ∙ c.in_default.is in
     let found = c.in_ok-made.ensures ∙ ap₂ (λ (ps : List PieceValue) (e : Evidence). listed_code (codes_of ps) e) c.pieces_before.ensures c.evidence.ensures.evidence
-    ∙ kept-none c.args.pieces.now place kept c.index-pieces-place.result c.requires.kept c.requires.place c.index-pieces-place.is at in
+    ∙ kept-none c.args.pieces.now place c.index-pieces-place.result c.requires.place c.index-pieces-place.is (sym c.requires.kept ∙ at) in
     sym found ∙ c.in-Some-made.is

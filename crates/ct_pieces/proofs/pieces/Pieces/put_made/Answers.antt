@@ -8,9 +8,9 @@ use Rattle.ct_pieces.specs.Codes.{codes_of}
 use Rattle.ct_rule_parts.specs.declared.support.Support.{Support}
 use Rattle.ct_pieces.specs.Standing.{IsMade, AreStanding}
 use Rattle.ct_pieces.specs.Supports.{support_of, supports_of}
-use Rattle.ct_pieces.specs.Inside.Kept.{kept_over, kept_codes}
+use Rattle.ct_pieces.specs.Inside.Kept.{kept_over, kept_codes, IsKept, AreKept}
 use Rattle.ct_pieces.specs.declared.limits.TheConstants.{MAX_PIECES, MAX_STORED}
-use Rattle.ct_pieces.proofs.KeptLemmas.{kept_codes-push}
+use Rattle.ct_pieces.proofs.KeptLemmas.{kept_codes-push, kept-push}
 use Rattle.ct_pieces.proofs.StandingLemmas.{AreStanding-push}
 use Rattle.ct_pieces.proofs.SupportLemmas.{supports-push}
 use Rattle.ct_pieces.proofs.pieces.Pieces.put_made.Goals as goal
@@ -30,9 +30,12 @@ invariant_of-self-2 c =
     let total : c.in_ok-stored.stored ≡ stored_words items + stored_by p = c.in_ok-stored.ensures.total.0 ∙ ap (λ (s : ℕ). s + stored_by p) c.self.invariant.1 in
     let small : stored_words items + stored_by p ≤ MAX_STORED = subst (λ (t : ℕ). t ≤ MAX_STORED) total c.in_ok-stored.ensures.total.1 in
     let standing = one_more items c.args.self.now p c.self.view_is c.self.invariant.0 c.requires.made c.requires.named c.requires.free c.requires.room small in
-    let own = c.requires.kept ∙ ap (λ (ps : List PieceValue). kept_over (codes_of ps) p.evidence) (sym c.self.view_is) in
-    let kept = c.push_reserved-2.ensures.items ∙ ap (λ (ks : List (Option CodeValue)). ks ++ c.args.made.kept ∷ []) (c.in_ok-stored.ensures.kept ∙ c.self.invariant.2)
-    ∙ ap (λ (k : Option CodeValue). kept_codes items ++ k ∷ []) own ∙ sym (kept_codes-push items p) in
+    let codes = c.self.inside.kept.items in
+    let k = c.args.made.kept in
+    let own = subst (λ (ps : List PieceValue). IsKept k (kept_over (codes_of ps) p.evidence)) (sym c.self.view_is) c.requires.kept in
+    let all = subst (AreKept (codes ++ k ∷ [])) (sym (kept_codes-push items p)) (kept-push codes (kept_codes items) k (kept_over (codes_of items) p.evidence) c.self.invariant.2 own) in
+    let kept = subst (λ (ks : List (Option CodeValue)). AreKept ks (kept_codes (items ++ p ∷ [])))
+    (sym (c.push_reserved-2.ensures.items ∙ ap (λ (ks : List (Option CodeValue)). ks ++ k ∷ []) c.in_ok-stored.ensures.kept)) all in
     let pushed : c.push_reserved.new.self.items ≡ items ++ p ∷ [] = c.push_reserved.ensures.items ∙ ap (λ (ps : List PieceValue). ps ++ p ∷ []) c.in_ok-stored.ensures.pieces in
     rw pushed (standing, total ∙ sym (sum_by_push stored_by items p), kept)
 

@@ -2,6 +2,8 @@ use Rattle.std.proofs.Common.{rules, ◌≡◌, ℕ, ◌<◌, ◌-◌, length, g
 use Rattle.std.specs.Prelude.{remove}
 use Rattle.ct_codes.specs.Code.{CodeValue}
 use Rattle.ct_pieces.specs.Piece.{PieceValue, stored_by, stored_words}
+use Rattle.ct_pieces.specs.Inside.Kept.{kept_codes, AreKept}
+use Rattle.ct_pieces.proofs.KeptLemmas.{kept-length, kept-without}
 use Rattle.ct_pieces.proofs.SupportLemmas.{taken_back}
 use Rattle.ct_pieces.proofs.pieces.Pieces.take_back.Goals as goal
 
@@ -11,7 +13,7 @@ remove-requires c =
     let kept = c.self.inside.kept in
     let some = subst (λ (ps : List PieceValue). 0 < length ps) (sym c.self.view_is) c.requires in
     let back = taken_back items c.self.invariant.0 some in
-    let within : length items - 1 < length kept.items = rw c.self.invariant.2 back.within in
+    let within : length items - 1 < length kept.items = rw (kept-length kept.items (kept_codes items) c.self.invariant.2) back.within in
     let long : length kept.items ≡ kept.len = search rules in
     let size : length items ≡ c.self.inside.pieces.len = search rules in
     omega arith
@@ -32,4 +34,5 @@ invariant_of-self c =
     let at : stored_by (get_or items (length items - 1) p) ≡ stored_by p =
     ap (λ (n : ℕ). stored_by (get_or items (n - 1) p)) (sym size) ∙ ap stored_by (sym c.remove-piece.ensures.value) in
     let stored : c.self.inside.stored - c.stored_by.result ≡ stored_words (remove items (length items - 1)) = omega (arith, sum, own, whole, at) in
-    rw removed (back.standing, stored, codes ∙ ap (λ (ks : List (Option CodeValue)). remove ks (length items - 1)) c.self.invariant.2 ∙ sym back.kept)
+    let rest = subst (AreKept (remove kept.items (length items - 1))) (sym back.kept) (kept-without kept.items (kept_codes items) (length items - 1) c.self.invariant.2) in
+    rw removed (back.standing, stored, subst (λ (ks : List (Option CodeValue)). AreKept ks (kept_codes (remove items (length items - 1)))) (sym codes) rest)

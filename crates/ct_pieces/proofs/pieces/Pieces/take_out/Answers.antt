@@ -4,7 +4,8 @@ use Rattle.ct_codes.specs.Code.{CodeValue}
 use Rattle.ct_pieces.specs.Piece.{PieceValue, first_user, stored_by, stored_words}
 use Rattle.ct_pieces.specs.Withdrawal.{withdrawn}
 use Rattle.ct_pieces.specs.Piece.{place_of}
-use Rattle.ct_pieces.proofs.KeptLemmas.{length-kept_codes}
+use Rattle.ct_pieces.specs.Inside.Kept.{kept_codes, AreKept}
+use Rattle.ct_pieces.proofs.KeptLemmas.{length-kept_codes, kept-length, kept-without}
 use Rattle.ct_pieces.proofs.SupportLemmas.{place_of-some, withdrawn-left, left_standing}
 use Rattle.ct_pieces.proofs.pieces.Pieces.take_out.Goals as goal
 
@@ -23,7 +24,7 @@ remove-requires c =
     let kept = c.self.inside.kept in
     let is = subst (λ (ps : List PieceValue). place_of c.args.id ps ≡ Some c.args.place) (sym c.self.view_is) c.requires.place in
     let place = place_of-some c.args.id items c.args.place c.self.invariant.0.different is in
-    let within : c.args.place < length kept.items = rw (c.self.invariant.2, length-kept_codes items) place.within in
+    let within : c.args.place < length kept.items = rw (kept-length kept.items (kept_codes items) c.self.invariant.2, length-kept_codes items) place.within in
     let long : length kept.items ≡ kept.len = search rules in
     rw long at within
 
@@ -34,7 +35,9 @@ invariant_of-self c =
     let is = subst (λ (ps : List PieceValue). place_of c.args.id ps ≡ Some place) (sym c.self.view_is) c.requires.place in
     let free = subst (λ (ps : List PieceValue). option_map (λ (p : PieceValue). p.id) (first_user c.args.id ps) ≡ None) (sym c.self.view_is) c.requires.free in
     let left = left_standing c.args.id items place c.self.invariant.0 is free in
-    let kept = c.remove.ensures.items ∙ ap (λ (ks : List (Option CodeValue)). remove ks place) c.self.invariant.2 ∙ sym left.kept in
+    let codes = c.self.inside.kept.items in
+    let rest = subst (AreKept (remove codes place)) (sym left.kept) (kept-without codes (kept_codes items) place c.self.invariant.2) in
+    let kept = subst (λ (ks : List (Option CodeValue)). AreKept ks (kept_codes (remove items place))) (sym c.remove.ensures.items) rest in
     let p = c.remove-piece.result in
     let sum = left.stored p in
     let own : stored_by p ≡ c.stored_by.result = sym c.stored_by.ensures.words in

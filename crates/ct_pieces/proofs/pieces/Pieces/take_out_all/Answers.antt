@@ -4,10 +4,10 @@ use Rattle.ct_codes.specs.Code.{CodeValue}
 use Rattle.ct_pieces.specs.Piece.{PieceValue, stored_words}
 use Rattle.ct_pieces.specs.Standing.{AreStanding}
 use Rattle.ct_pieces.specs.Withdrawal.{taken_along, is_among, without_all, marks_along}
-use Rattle.ct_pieces.specs.Inside.Kept.{kept_codes}
+use Rattle.ct_pieces.specs.Inside.Kept.{kept_codes, AreKept}
 use Rattle.ct_pieces.specs.Inside.Unmarked.{unmarked}
 use Rattle.ct_pieces.specs.declared.limits.TheConstants.{MAX_STORED}
-use Rattle.ct_pieces.proofs.KeptLemmas.{length-kept_codes}
+use Rattle.ct_pieces.proofs.KeptLemmas.{length-kept_codes, kept-length, kept-unmarked}
 use Rattle.ct_pieces.proofs.AlongLemmas.{AreStanding-along, kept-along, unmarked-along, length-unmarked, withdrawn_all-left}
 use Rattle.ct_pieces.proofs.pieces.Pieces.take_out_all.Goals as goal
 
@@ -28,7 +28,7 @@ leave_out-requires-2 c =
     let one = ap (λ (g : List Bool). length g) c.requires.marks in
     let two = length-map c.args.self.now (λ (p : PieceValue). is_among (taken_along c.args.self.now c.args.id) p.id) in
     one ∙ two ∙ ap (λ (ps : List PieceValue). length ps) (sym c.self.view_is) ∙ sym (length-kept_codes c.self.inside.pieces.items)
-    ∙ ap (λ (ks : List (Option CodeValue)). length ks) (sym c.self.invariant.2)
+    ∙ sym (kept-length c.self.inside.kept.items (kept_codes c.self.inside.pieces.items) c.self.invariant.2)
 
 pub stored_words-self-inside-requires : goal.stored_words-self-inside-requires
 stored_words-self-inside-requires c =
@@ -49,9 +49,11 @@ invariant_of-self c =
     let items = c.self.inside.pieces.items in
     let left = left_items items c.args.self.now c.leave_out.new.items.items c.args.id c.args.gone.now c.self.view_is c.requires.marks c.leave_out.ensures in
     let gone : c.args.gone.now ≡ marks_along items c.args.id = c.requires.marks ∙ ap (λ (ps : List PieceValue). marks_along ps c.args.id) (sym c.self.view_is) in
-    let kept = c.leave_out-2.ensures
-    ∙ (λ i. unmarked (gone i) (c.self.invariant.2 i)) ∙ sym (kept-along items c.args.id c.self.invariant.0)
-    ∙ ap kept_codes (sym left) in (
+    let codes = c.self.inside.kept.items in
+    let all : unmarked c.args.gone.now (kept_codes items) ≡ kept_codes c.leave_out.new.items.items =
+    ap (λ (g : List Bool). unmarked g (kept_codes items)) gone ∙ sym (kept-along items c.args.id c.self.invariant.0) ∙ ap kept_codes (sym left) in
+    let rest = subst (AreKept (unmarked c.args.gone.now codes)) all (kept-unmarked c.args.gone.now codes (kept_codes items) c.self.invariant.2) in
+    let kept = subst (λ (ks : List (Option CodeValue)). AreKept ks (kept_codes c.leave_out.new.items.items)) (sym c.leave_out-2.ensures) rest in (
       subst AreStanding (sym left) (AreStanding-along items c.args.id c.self.invariant.0),
       c.stored_words-self-inside.ensures ∙ ap stored_words c.deref.ensures.value,
       kept,

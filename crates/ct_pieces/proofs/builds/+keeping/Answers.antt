@@ -1,0 +1,160 @@
+use Rattle.std.proofs.Common.{◌≡◌, ◌≢◌, ◌<◌, ℕ, List, length, Option, Some, None, is_some, true, false, IfErr, OnOk, sym, ap, subst, ◌∙◌, arith, rules}
+use Rattle.std.specs.Prelude.{IfSome, vec_len}
+use Rattle.std.specs.Option.{option_copied}
+use Rattle.std.proofs.lemmas.List.{get_or_default, get_or-set_same}
+use Rattle.std.proofs.lemmas.Result.{IfOk-weaker}
+use Rattle.ct_codes.specs.Code.{CodeValue}
+use Rattle.ct_kind.specs.declared.evidence.Evidence.{Evidence}
+use Rattle.ct_kind.specs.declared.fault.SubmitFault.{SubmitFault}
+use Rattle.ct_kind.specs.declared.fault.SubmitFault.TheVariants as fault
+use Rattle.ct_pieces.specs.Piece.{PieceValue, place_of}
+use Rattle.ct_pieces.specs.Inside.Kept.{is_kept, kept_codes, code_there, code_found, other_place}
+use Rattle.ct_pieces.proofs.KeptLemmas.{kept-all, kept-some, kept-set, kept-grows, kept-trans}
+use Rattle.ct_pieces.proofs.PartLemmas.{placed, none-from}
+use Rattle.ct_pieces.proofs.BuildPlaces.{kept-within, kept-long, build-placed, build-there, none-there, found-code, found-coded, stays-found}
+use Rattle.ct_pieces.proofs.builds.+keeping.Goals as goal
+
+pub keep_code-index-requires : goal.keep_code-index-requires
+keep_code-index-requires t c =
+    let within = kept-within c.args.kept.now.items c.args.pieces.now c.args.place c.requires.kept c.requires.place in
+    let long : length c.args.kept.now.items ≡ vec_len c.args.kept.now = search rules in
+    omega arith
+
+pub keep_code-returns-then-is_some-clause-stay : goal.keep_code-returns-then-is_some-clause-stay
+keep_code-returns-then-is_some-clause-stay t c = kept-all c.args.kept.now.items
+
+pub keep_code-returns-then-is_some-clause-there : goal.keep_code-returns-then-is_some-clause-there
+keep_code-returns-then-is_some-clause-there t c =
+    let kept = c.args.kept.now.items in
+    let place = c.args.place in
+    let within = kept-within kept c.args.pieces.now place c.requires.kept c.requires.place in
+    let read : c.index.result.now ≡ code_there kept place = c.index.ensures ∙ get_or_default kept place c.index.result.now None within in
+    kept-some kept (kept_codes c.args.pieces.now) place c.requires.kept (sym (ap is_some read) ∙ sym c.is_some.ensures ∙ c.if-is_some.true)
+
+pub keep_code-returns-in_default-clause-stay : goal.keep_code-returns-in_default-clause-stay
+keep_code-returns-in_default-clause-stay t c = kept-all c.args.kept.now.items
+
+pub keep_code-returns-in_default-clause-there : goal.keep_code-returns-in_default-clause-there
+keep_code-returns-in_default-clause-there t c =
+    let kept = c.args.kept.now.items in
+    let place = c.args.place in
+    let within = kept-within kept c.args.pieces.now place c.requires.kept c.requires.place in
+    let read : c.index.result.now ≡ code_there kept place = c.index.ensures ∙ get_or_default kept place c.index.result.now None within in
+    let none = subst (λ (e : Evidence). is_kept e ≡ false) c.evidence.ensures.evidence c.in_default.ensures.none in
+    none-from (code_there kept place) (sym (ap is_some read) ∙ sym c.is_some.ensures ∙ c.if-is_some.false)
+    ∙ sym (none-there c.args.pieces.now place c.index-pieces-place.result c.requires.place c.index-pieces-place.is none)
+
+pub keep_code-make_code-requires : goal.keep_code-make_code-requires
+keep_code-make_code-requires t c =
+    let p = c.index-pieces-place.result in
+    let b = c.in-Some.build in
+    let at = placed c.args.pieces.now c.args.place p c.requires.made c.requires.place c.index-pieces-place.is in
+    let known = build-placed c.args.pieces.now c.args.place p b.entry b.step.now b.part b.other at (sym c.evidence.ensures.evidence ∙ c.in-Some.ensures.some) in
+    let below = c.requires.place in
+    (omega arith, (c.requires.made, (c.requires.kept, (omega arith, (known.0, known.1)))))
+
+pub keep_code-index_mut-requires : goal.keep_code-index_mut-requires
+keep_code-index_mut-requires t c =
+    let within = kept-within c.make_code.new.kept.items c.args.pieces.now c.args.place c.make_code.ensures.kept c.requires.place in
+    let long : length c.make_code.new.kept.items ≡ vec_len c.make_code.new.kept = search rules in
+    omega arith
+
+pub keep_code-returns-clause-kept : goal.keep_code-returns-clause-kept
+keep_code-returns-clause-kept t c =
+    let p = c.index-pieces-place.result in
+    let b = c.in-Some.build in
+    let there = build-there c.args.pieces.now c.args.place p b.entry b.step.now b.part b.other c.in-Ok.code c.requires.place c.index-pieces-place.is
+    (sym c.evidence.ensures.evidence ∙ c.in-Some.ensures.some) c.in-Ok.ensures.code in
+    kept-set c.make_code.new.kept.items (kept_codes c.args.pieces.now) c.args.place (Some c.in-Ok.code) c.make_code.ensures.kept there
+
+pub keep_code-returns-clause-stay : goal.keep_code-returns-clause-stay
+keep_code-returns-clause-stay t c =
+    let p = c.index-pieces-place.result in
+    let b = c.in-Some.build in
+    let there = build-there c.args.pieces.now c.args.place p b.entry b.step.now b.part b.other c.in-Ok.code c.requires.place c.index-pieces-place.is
+    (sym c.evidence.ensures.evidence ∙ c.in-Some.ensures.some) c.in-Ok.ensures.code in
+    kept-trans c.args.kept.now.items c.make_code.new.kept.items _ c.make_code.ensures.stay
+    (kept-grows c.make_code.new.kept.items (kept_codes c.args.pieces.now) c.args.place (Some c.in-Ok.code) c.make_code.ensures.kept there)
+
+pub keep_code-returns-clause-there : goal.keep_code-returns-clause-there
+keep_code-returns-clause-there t c =
+    let p = c.index-pieces-place.result in
+    let b = c.in-Some.build in
+    let there = build-there c.args.pieces.now c.args.place p b.entry b.step.now b.part b.other c.in-Ok.code c.requires.place c.index-pieces-place.is
+    (sym c.evidence.ensures.evidence ∙ c.in-Some.ensures.some) c.in-Ok.ensures.code in
+    let within = kept-within c.make_code.new.kept.items c.args.pieces.now c.args.place c.make_code.ensures.kept c.requires.place in
+    get_or-set_same c.make_code.new.kept.items c.args.place (Some c.in-Ok.code) None within ∙ sym there
+
+pub keep_found-returns-in-None-clause-stay : goal.keep_found-returns-in-None-clause-stay
+keep_found-returns-in-None-clause-stay t c = kept-all c.args.kept.now.items
+
+pub make_code-returns-in_err-keep_found-2-clause-stay : goal.make_code-returns-in_err-keep_found-2-clause-stay
+make_code-returns-in_err-keep_found-2-clause-stay t c =
+    kept-trans c.args.kept.now.items c.keep_found.new.kept.items c.keep_found-2.new.kept.items c.keep_found.ensures.stay c.keep_found-2.ensures.stay
+
+pub make_code-code_found-requires-clause-long : goal.make_code-code_found-requires-clause-long
+make_code-code_found-requires-clause-long t c =
+    ap (λ (ks : List (Option CodeValue)). length ks) c.deref.ensures.value ∙ kept-long c.keep_found-2.new.kept.items c.args.pieces.now c.keep_found-2.ensures.kept
+
+pub make_code-code_found-requires-clause-kept : goal.make_code-code_found-requires-clause-kept
+make_code-code_found-requires-clause-kept t c =
+    let codes = kept_codes c.args.pieces.now in
+    subst (λ (ks : List (Option CodeValue)). IfSome c.place_of-part.result (λ (place : ℕ). code_there ks place ≡ code_there codes place)) (sym c.deref.ensures.value)
+    (stays-found c.place_of-part.result c.keep_found.new.kept.items c.keep_found-2.new.kept.items codes c.keep_found-2.ensures.stay c.keep_found-2.ensures.kept
+    c.in_ok-keep_found.ensures.there)
+
+pub make_code-returns-in_err-part_code-clause-stay : goal.make_code-returns-in_err-part_code-clause-stay
+make_code-returns-in_err-part_code-clause-stay t c =
+    kept-trans c.args.kept.now.items c.keep_found.new.kept.items c.keep_found-2.new.kept.items c.keep_found.ensures.stay c.keep_found-2.ensures.stay
+
+pub make_code-code_found-requires-2-clause-long : goal.make_code-code_found-requires-2-clause-long
+make_code-code_found-requires-2-clause-long t c =
+    ap (λ (ks : List (Option CodeValue)). length ks) c.deref-2.ensures.value ∙ kept-long c.keep_found-2.new.kept.items c.args.pieces.now c.keep_found-2.ensures.kept
+
+pub make_code-returns-in_err-other_code-clause-stay : goal.make_code-returns-in_err-other_code-clause-stay
+make_code-returns-in_err-other_code-clause-stay t c =
+    kept-trans c.args.kept.now.items c.keep_found.new.kept.items c.keep_found-2.new.kept.items c.keep_found.ensures.stay c.keep_found-2.ensures.stay
+
+pub make_code-unreachable-requires : goal.make_code-unreachable-requires
+make_code-unreachable-requires t c =
+    let ps = c.args.pieces.now in
+    let id = c.args.build.now.part in
+    let found = c.in_ok-part_code.ensures ∙ ap (code_found ps) (c.place_of-part.ensures ∙ ap (place_of id) c.pieces_before-before.ensures) in
+    let none = sym c.code.ensures ∙ ap option_copied c.in_default.is in
+    let some = found-coded id ps c.args.place c.requires.coded in
+    let never = sym (ap is_some none) ∙ ap is_some found ∙ some in
+    cc
+
+pub make_code-returns-clause-stay : goal.make_code-returns-clause-stay
+make_code-returns-clause-stay t c =
+    kept-trans c.args.kept.now.items c.keep_found.new.kept.items c.keep_found-2.new.kept.items c.keep_found.ensures.stay c.keep_found-2.ensures.stay
+
+pub make_code-returns-clause-code : goal.make_code-returns-clause-code
+make_code-returns-clause-code t c =
+    let ps = c.args.pieces.now in
+    let b = c.args.build.now in
+    let before = c.pieces_before-before.ensures in
+    let one = sym (ap option_copied c.in-Some.is) ∙ c.code.ensures ∙ c.in_ok-part_code.ensures ∙ ap (code_found ps) (c.place_of-part.ensures ∙ ap (place_of b.part) before) in
+    let two = c.code-2.ensures ∙ c.in_ok-other_code.ensures ∙ ap (code_found ps) (c.other_place-other.ensures ∙ ap (other_place b.other) before) in
+    let said = found-code ps c.args.place b.entry b.step.now b.part b.other c.in-Some.code.now (option_copied c.code-2.result) one two in
+    IfOk-weaker c.code-3.result _ _ (λ (code : CodeValue) same. said.0 ∙ ap Some (sym same)) c.code-3.ensures.code
+
+pub make_code-returns-clause-accepted : goal.make_code-returns-clause-accepted
+make_code-returns-clause-accepted t c =
+    let ps = c.args.pieces.now in
+    let b = c.args.build.now in
+    let before = c.pieces_before-before.ensures in
+    let one = sym (ap option_copied c.in-Some.is) ∙ c.code.ensures ∙ c.in_ok-part_code.ensures ∙ ap (code_found ps) (c.place_of-part.ensures ∙ ap (place_of b.part) before) in
+    let two = c.code-2.ensures ∙ c.in_ok-other_code.ensures ∙ ap (code_found ps) (c.other_place-other.ensures ∙ ap (other_place b.other) before) in
+    let said = found-code ps c.args.place b.entry b.step.now b.part b.other c.in-Some.code.now (option_copied c.code-2.result) one two in
+    subst (λ (reason : Option SubmitFault). OnOk c.code-3.result (reason ≡ None)) (sym said.1) c.code-3.ensures.accepted
+
+pub make_code-returns-clause-fault : goal.make_code-returns-clause-fault
+make_code-returns-clause-fault t c =
+    let ps = c.args.pieces.now in
+    let b = c.args.build.now in
+    let before = c.pieces_before-before.ensures in
+    let one = sym (ap option_copied c.in-Some.is) ∙ c.code.ensures ∙ c.in_ok-part_code.ensures ∙ ap (code_found ps) (c.place_of-part.ensures ∙ ap (place_of b.part) before) in
+    let two = c.code-2.ensures ∙ c.in_ok-other_code.ensures ∙ ap (code_found ps) (c.other_place-other.ensures ∙ ap (other_place b.other) before) in
+    let said = found-code ps c.args.place b.entry b.step.now b.part b.other c.in-Some.code.now (option_copied c.code-2.result) one two in
+    subst (λ (reason : Option SubmitFault). IfErr c.code-3.result (λ f. f ≢ fault.Memory → reason ≡ Some f)) (sym said.1) c.code-3.ensures.fault

@@ -1,0 +1,157 @@
+//! The codes of builds, each of which is made when it is first needed.
+
+ghost use Rattle.std.specs.Prelude.{◌≡◌, ◌≢◌, ◌<◌, ◌≤◌, Some, None, IfOk, IfErr, IfSome, IfNone, OnOk, [], false, true, length, take};
+ghost use Rattle.std.specs.Option.{is_some};
+ghost use Rattle.ct_build.specs.Build.{FitsStated};
+ghost use Rattle.ct_kind.specs.declared.evidence.Evidence.TheVariants.{Build};
+ghost use Rattle.ct_kind.specs.Named.{code_named};
+ghost use Rattle.ct_pieces.specs.Codes.{code_over, codes_of};
+ghost use Rattle.ct_pieces.specs.Kind.{own_reason};
+ghost use Rattle.ct_pieces.specs.Standing.{AreMade};
+ghost use Rattle.ct_pieces.specs.Inside.Kept.{is_kept, kept_codes, AreKept, code_there, code_found, other_place};
+
+use crate::kept::{find_code, pieces_before, place_of};
+use crate::piece::Piece;
+use ct_build_files::build_kind::{self, StatedBuild};
+use ct_codes::Code;
+use ct_files::Evidence;
+use ct_kind::{Found, SubmitFault};
+use ct_text::Id;
+use std::alloc::{AllocError, Global};
+
+/// The build that the evidence is, where it is one.
+fn build_of<'a>(evidence: &'a Evidence) -> Option<StatedBuild<'a>>
+    ensures some { IfSome result (λ build. evidence.now ≡ Build build.entry build.step.now build.part build.other) }
+    ensures none { IfNone result (is_kept evidence.now ≡ false) }
+{
+    match evidence {
+        Evidence::Build {
+            entry,
+            step,
+            part,
+            other,
+        } => Some(StatedBuild {
+            entry: *entry,
+            step,
+            part: *part,
+            other: *other,
+        }),
+        _ => None,
+    }
+}
+
+/// The place of the piece of the other id, where one is named and a piece has it.
+fn other_place(pieces: &[Piece], other: Option<Id>) -> Option<usize>
+    ensures { result ≡ other_place other pieces.now }
+{
+    match other {
+        Some(id) => place_of(pieces, id),
+        None => None,
+    }
+}
+
+/// The code of the piece at the place, where one was found and it has a code. It is kept, where it is to be.
+fn code_found<'a>(
+    alloc: Global,
+    pieces: &[Piece],
+    kept: &'a [Option<Code>],
+    place: Option<usize>,
+) -> Result<Found<'a>, AllocError>
+    requires made { AreMade [] pieces.now }
+    requires place { IfSome place (λ place. place < length pieces.now) }
+    requires long { length kept.now ≡ length pieces.now }
+    requires kept { IfSome place (λ place. code_there kept.now place ≡ code_there (kept_codes pieces.now) place) }
+    ensures { IfOk result (λ found. found ≡ code_found pieces.now place) }
+{
+    match place {
+        Some(place) => find_code(alloc, pieces, kept, place),
+        None => Ok(Found::none()),
+    }
+}
+
+/// Sees to it that the code of the piece at the place is kept, where its kind's is: makes it of those of its parts, for which it sees
+/// first. What is kept already stays. `Err` is want of memory.
+#[cycle(keeping)]
+pub(crate) fn keep_code(
+    alloc: Global,
+    pieces: &[Piece],
+    kept: &mut Vec<Option<Code>>,
+    place: usize,
+) -> Result<(), AllocError>
+    requires made { AreMade [] pieces.now }
+    requires kept { AreKept kept.old.items (kept_codes pieces.now) }
+    requires place { place < length pieces.now }
+    ensures kept { AreKept kept.new.items (kept_codes pieces.now) }
+    ensures stay { AreKept kept.old.items kept.new.items }
+    ensures there { OnOk result (code_there kept.new.items place ≡ code_there (kept_codes pieces.now) place) }
+{
+    if kept[place].is_some() {
+        return Ok(());
+    }
+    let Some(build) = build_of(pieces[place].evidence()) else {
+        return Ok(());
+    };
+    let Ok(code) = make_code(alloc, pieces, kept, place, &build) else {
+        return Err(AllocError);
+    };
+    kept[place] = Some(code);
+    Ok(())
+}
+
+/// `keep_code` at the place, where one was found.
+#[cycle(keeping)]
+fn keep_found(
+    alloc: Global,
+    pieces: &[Piece],
+    kept: &mut Vec<Option<Code>>,
+    place: Option<usize>,
+) -> Result<(), AllocError>
+    requires made { AreMade [] pieces.now }
+    requires kept { AreKept kept.old.items (kept_codes pieces.now) }
+    requires place { IfSome place (λ place. place < length pieces.now) }
+    ensures kept { AreKept kept.new.items (kept_codes pieces.now) }
+    ensures stay { AreKept kept.old.items kept.new.items }
+    ensures there { OnOk result (IfSome place (λ place. code_there kept.new.items place ≡ code_there (kept_codes pieces.now) place)) }
+{
+    match place {
+        Some(place) => keep_code(alloc, pieces, kept, place),
+        None => Ok(()),
+    }
+}
+
+/// The code that the build makes over the pieces before the place, or why it makes none. The codes that it needs of them are made and
+/// kept, where those of their kinds are; what is kept already stays.
+#[cycle(keeping)]
+pub(crate) fn make_code(
+    alloc: Global,
+    pieces: &[Piece],
+    kept: &mut Vec<Option<Code>>,
+    place: usize,
+    build: &StatedBuild<'_>,
+) -> Result<Code, SubmitFault>
+    requires made { AreMade [] pieces.now }
+    requires kept { AreKept kept.old.items (kept_codes pieces.now) }
+    requires place { place ≤ length pieces.now }
+    requires fits { FitsStated build.now.step.now build.now.entry }
+    requires coded { is_some (code_named build.now.part (codes_of (take place pieces.now))) ≡ true }
+    ensures kept { AreKept kept.new.items (kept_codes pieces.now) }
+    ensures stay { AreKept kept.old.items kept.new.items }
+    ensures code { IfOk result (λ code.
+        code_over (codes_of (take place pieces.now)) (Build build.now.entry build.now.step.now build.now.part build.now.other) ≡ Some code) }
+    ensures accepted { OnOk result (
+        own_reason (codes_of (take place pieces.now)) (Build build.now.entry build.now.step.now build.now.part build.now.other) ≡ None) }
+    ensures fault { IfErr result (λ fault. fault ≢ SubmitFault.Memory →
+        own_reason (codes_of (take place pieces.now)) (Build build.now.entry build.now.step.now build.now.part build.now.other) ≡ Some fault) }
+{
+    let before = pieces_before(pieces, place);
+    let part = place_of(before, build.part);
+    let other = other_place(before, build.other);
+    keep_found(alloc, pieces, kept, part)?;
+    keep_found(alloc, pieces, kept, other)?;
+    let part_code = code_found(alloc, pieces, kept, part)?;
+    let other_code = code_found(alloc, pieces, kept, other)?;
+    let Some(code) = part_code.code() else {
+        unreachable!()
+    };
+    build_kind::code(alloc, build, code, other_code.code())
+}
