@@ -22,4 +22,4 @@ pub use limits::{MAX_PIECES, MAX_STORED};
 pub use new_piece::NewPiece;
 pub use piece::Piece;
 pub use pieces::Pieces;
-pub use text::{submit_refusal, withdraw_refusal};
+pub use text::{put_size, submit_refusal, withdraw_refusal};

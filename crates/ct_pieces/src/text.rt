@@ -1,6 +1,7 @@
 //! The texts of refusals and of the lines of a ledger.
 
 ghost use Rattle.std.specs.Prelude.{◌≡◌, ◌++◌, OnOk, IfOk};
+ghost use Rattle.ct_text.specs.Growing.{Grows};
 ghost use Rattle.ct_pieces.specs.Text.{file_fault_text, submit_fault_text, withdraw_fault_text, size_text, cites_text, piece_text};
 
 use crate::fault::WithdrawFault;
@@ -76,22 +77,17 @@ pub fn withdraw_refusal(alloc: Global, id: Id, fault: &WithdrawFault) -> Result<
 {
     let mut text = Vec::new(alloc);
     match fault {
-        WithdrawFault::NoSuch => {
-            text.extend_from_slice(b"nosuch ")?;
-            text.extend_from_slice(id.text())?;
-        }
-        WithdrawFault::InUse(user) => {
-            text.extend_from_slice(b"inuse ")?;
-            text.extend_from_slice(user.text())?;
-        }
+        WithdrawFault::NoSuch => put_named(&mut text, b"nosuch ", id)?,
+        WithdrawFault::InUse(user) => put_named(&mut text, b"inuse ", *user)?,
         WithdrawFault::Memory => {}
     }
     Ok(text)
 }
 
-/// Puts a size at the end of the text, where there is one.
-fn put_size(alloc: Global, text: &mut Vec<u8>, size: Option<u32>) -> Result<(), AllocError>
-    ensures { OnOk result (text.new.items ≡ text.old.items ++ size_text size) }
+/// Puts a size at the end of the text, where there is one. After an `Err`, which is want of memory, a part of it may stand there.
+pub fn put_size(alloc: Global, text: &mut Vec<u8>, size: Option<u32>) -> Result<(), AllocError>
+    ensures ok { OnOk result (text.new.items ≡ text.old.items ++ size_text size) }
+    ensures grown { Grows text.old.items text.new.items }
 {
     match size {
         None => Ok(()),

@@ -10,8 +10,8 @@ ghost use Rattle.ct_replies.specs.Text.{refusal_text, bounds_text, reply_text, e
 
 use crate::reply::{Bounds, Refusal, Reply};
 use ct_io::LINE_FEED;
-use ct_pieces::{Piece, submit_refusal, withdraw_refusal};
-use ct_text::{put_entry, put_number, put_spaced};
+use ct_pieces::{Piece, put_size, submit_refusal, withdraw_refusal};
+use ct_text::{put_entry, put_number};
 use std::alloc::{AllocError, Global};
 
 /// Puts at the end of the text why a command is refused.
@@ -61,20 +61,6 @@ fn put_bounds(alloc: Global, text: &mut Vec<u8>, bounds: Bounds) -> Result<(), A
     put_lower(alloc, text, bounds)?;
     text.extend_from_slice(b" <= ")?;
     put_number(alloc, text, u64::from(bounds.upper))
-}
-
-/// Puts a size at the end of the text, where there is one.
-fn put_size(alloc: Global, text: &mut Vec<u8>, size: Option<u32>) -> Result<(), AllocError>
-    ensures ok { OnOk result (text.new.items ≡ text.old.items ++ size_text size) }
-    ensures grown { Grows text.old.items text.new.items }
-{
-    match size {
-        None => Ok(()),
-        Some(size) => {
-            text.extend_from_slice(b" size")?;
-            put_spaced(alloc, text, u64::from(size))
-        }
-    }
 }
 
 /// Puts a line for each piece at the end of the text.
