@@ -7,7 +7,7 @@ ghost use Rattle.ct_explain.specs.Explained.{ExplainsBest};
 
 use ct_codes::{Entry, Side};
 use ct_derive::Derivation;
-use ct_explain::parts_of_each;
+use ct_explain::PartsOfPieces;
 use ct_ledger::Ledger;
 use std::alloc::{AllocError, Global};
 
@@ -23,6 +23,6 @@ pub fn explain(
     ensures best { IfOk result (ExplainsBest ledger.now.pieces side entry) }
     ensures ordered { IfOk result (λ d. AreOrdered d.lines) }
 {
-    let parts = parts_of_each(alloc, ledger.pieces())?;
-    ct_reasons::explain(alloc, ledger.table(), &parts, side, entry)
+    let pieces = PartsOfPieces::new(ledger.pieces());
+    ct_reasons::explain(alloc, ledger.table(), &pieces, side, entry)
 }

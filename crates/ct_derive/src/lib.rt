@@ -15,5 +15,5 @@ pub use class_sizes::ClassSizes;
 pub use derivation::Derivation;
 pub use marks::mark;
 pub use needed::needed_pieces;
-pub use parts::Parts;
+pub use parts::{Parts, PieceParts};
 pub use printing::{ShownPiece, print};

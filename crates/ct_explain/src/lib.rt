@@ -4,5 +4,5 @@
 mod parts;
 mod printing;
 
-pub use parts::parts_of_each;
+pub use parts::PartsOfPieces;
 pub use printing::print;

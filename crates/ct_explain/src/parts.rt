@@ -4,11 +4,12 @@ ghost use Rattle.std.specs.Prelude.{◌≡◌, ◌↔◌, [], false, IfOk};
 ghost use Rattle.ct_pieces.specs.Kind.{parts_of};
 ghost use Rattle.ct_explain.specs.Parts.{part_places, parts_of_each};
 
-use ct_derive::Parts;
+use ct_derive::{Parts, PieceParts};
 use ct_kind::Evidence;
 use ct_pieces::Piece;
 use smallvec::SmallVec;
 use std::alloc::{AllocError, Global};
+use std::marker::Model;
 
 /// Whether the evidence names a part.
 fn has_parts(evidence: &Evidence) -> bool
@@ -44,13 +45,38 @@ fn part_places(alloc: Global, pieces: &[Piece], piece: &Piece) -> Result<Parts, 
     named_places(alloc, pieces, piece)
 }
 
-/// The places of the parts of each of the pieces. `Err` is want of memory.
-pub fn parts_of_each(alloc: Global, pieces: &[Piece]) -> Result<Vec<Parts>, AllocError>
-    ensures { IfOk result (λ parts. parts.items ≡ parts_of_each pieces.now) }
-{
-    let mut parts = Vec::new(alloc);
-    for piece in pieces {
-        parts.push(part_places(alloc, pieces, piece)?)?;
+/// Pieces of which the parts are told, each piece's where they are asked for. Contracts see the pieces.
+#[derive(Debug, Drop)]
+pub struct PartsOfPieces<'a> {
+    pieces: &'a [Piece],
+}
+
+impl<'a> Model for PartsOfPieces<'a> {
+    ghost use Rattle.std.specs.Prelude.{List};
+    ghost use Rattle.ct_pieces.specs.Piece.{PieceValue};
+
+    ghost Value = { List PieceValue };
+
+    ghost view = { λ p. p.pieces.now };
+}
+
+impl<'a> PartsOfPieces<'a> {
+    /// The parts of these pieces.
+    pub fn new(pieces: &'a [Piece]) -> PartsOfPieces<'a>
+        ensures { result ≡ pieces.now }
+    {
+        PartsOfPieces { pieces }
     }
-    Ok(parts)
+}
+
+impl<'a> PieceParts for PartsOfPieces<'a> {
+    ghost parts_of = { parts_of_each };
+
+    fn count(&self) -> usize {
+        self.pieces.len()
+    }
+
+    fn parts(&self, alloc: Global, place: usize) -> Result<Parts, AllocError> {
+        part_places(alloc, self.pieces, &self.pieces[place])
+    }
 }

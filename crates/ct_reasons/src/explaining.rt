@@ -12,7 +12,7 @@ ghost use Rattle.ct_derive.specs.Pieces.{AreEarlier, AreNeeded};
 use crate::marking::needed_lines;
 use crate::pruning::marked_lines;
 use ct_codes::{Entry, Side};
-use ct_derive::{Derivation, Parts, needed_pieces};
+use ct_derive::{Derivation, PieceParts, needed_pieces};
 use ct_rules::Line;
 use ct_table::Table;
 use std::alloc::{AllocError, Global};
@@ -30,26 +30,26 @@ pub fn lines_to(alloc: Global, table: &Table, last: usize) -> Result<Vec<Line>, 
 }
 
 /// An explanation of the best bound of a side of an entry of the table, by lines that the table keeps, and the places of the
-/// pieces that it needs: its supports are those of the pieces, and `parts` tells of each piece the places of its parts.
-/// `Err` is want of memory.
-pub fn explain(
+/// pieces that it needs: its supports are those of the pieces. `Err` is want of memory.
+pub fn explain<P: PieceParts>(
     alloc: Global,
     table: &Table,
-    parts: &[Parts],
+    pieces: &P,
     side: Side,
     entry: Entry,
 ) -> Result<Derivation, AllocError>
     requires entry { IsEntry entry }
-    requires pieces { length parts.now ≡ length table.now.supports }
-    requires earlier { AreEarlier parts.now }
+    requires pieces { length (P.parts_of pieces.now) ≡ length table.now.supports }
+    requires earlier { AreEarlier (P.parts_of pieces.now) }
     ensures lines { IfOk result (λ d. (v : ℕ) × IsBest table.now.supports (side, entry) v
         × IsExplanation table.now.supports (side, entry) v d.lines) }
-    ensures pieces { IfOk result (λ d. AreNeeded parts.now d.lines d.pieces) }
+    ensures pieces { IfOk result (λ d. AreNeeded (P.parts_of pieces.now) d.lines d.pieces) }
     ensures ordered { IfOk result (λ d. AreOrdered d.lines) }
 {
     let count = table.supports().len();
-    prove!(parts.len() == count);
+    let places = pieces.count();
+    prove!(places == count);
     let lines = lines_to(alloc, table, table.reason(side, entry))?;
-    let pieces = needed_pieces(alloc, parts, &lines)?;
+    let pieces = needed_pieces(alloc, pieces, &lines)?;
     Ok(Derivation { pieces, lines })
 }

@@ -1,10 +1,11 @@
 //! A bound that is shown.
 
 use ct_codes::{Entry, Side};
-use ct_derive::{Parts, ShownPiece, print};
+use ct_derive::{Parts, PieceParts, ShownPiece, print};
 use ct_reasons::explain;
 use ct_table::Table;
 use ct_text::Id;
+use smallvec::SmallVec;
 use std::alloc::{AllocError, Global};
 use std::test::Fail;
 
@@ -28,15 +29,33 @@ impl ShownPiece for Shown {
     }
 }
 
+/// So many pieces of evidence, none of which has parts.
+struct Lone {
+    count: usize,
+}
+
+impl PieceParts for Lone {
+    ghost use Rattle.std.specs.Prelude.{[], replicate};
+
+    ghost parts_of = { λ p. replicate p.count [] };
+
+    fn count(&self) -> usize {
+        self.count
+    }
+
+    fn parts(&self, alloc: Global, _place: usize) -> Result<Parts, AllocError> {
+        Ok(Parts::new(SmallVec::new(alloc)))
+    }
+}
+
 /// The document that shows a bound of the table over nothing.
 fn document_of(alloc: Global, side: Side, entry: Entry) -> Result<Option<Vec<u8>>, AllocError> {
     if !entry.in_table() {
         return Ok(None);
     }
     let table = Table::new(alloc)?;
-    let parts: [Parts; 0] = [];
     let pieces: [Shown; 0] = [];
-    let derivation = explain(alloc, &table, &parts, side, entry)?;
+    let derivation = explain(alloc, &table, &Lone { count: 0 }, side, entry)?;
     let text = print(alloc, &pieces, &derivation)?;
     Ok(Some(text))
 }

@@ -6,5 +6,5 @@ use Rattle.ct_answers.proofs.explaining.explain.Goals as goal
 
 pub explain-requires-clause-earlier : goal.explain-requires-clause-earlier
 explain-requires-clause-earlier c =
-    subst AreEarlier (sym (c.deref.ensures.value ∙ c.in_ok-parts.ensures ∙ ap parts_of_each c.pieces.ensures.pieces))
+    subst AreEarlier (sym (ap parts_of_each (c.new-pieces.ensures ∙ c.pieces.ensures.pieces)))
     (parts_earlier c.args.ledger.now.pieces c.pieces.ensures.standing)

@@ -4,8 +4,8 @@ use Rattle.ct_derive.specs.Inside.Needed.{AreMarkedPieces}
 use Rattle.ct_derive.proofs.needed.mark_all_parts.Given as goal
 
 abbrev pub invariant-loop-place : goal.invariant-loop-place
-invariant-loop-place l = (l.place ≤ length l.parts)
-    × ((lines : List LineValue) → AreMarkedPieces (length l.parts) l.parts lines l.initial.marks → AreMarkedPieces l.place l.parts lines l.marks)
+invariant-loop-place g l = (l.place ≤ length (g.P.PieceParts.parts_of l.pieces))
+    × ((lines : List LineValue) → AreMarkedPieces (length (g.P.PieceParts.parts_of l.pieces)) (g.P.PieceParts.parts_of l.pieces) lines l.initial.marks → AreMarkedPieces l.place (g.P.PieceParts.parts_of l.pieces) lines l.marks)
 
 abbrev pub decreases-loop-place : goal.decreases-loop-place
-decreases-loop-place l = l.place
+decreases-loop-place g l = l.place

@@ -4,7 +4,7 @@ use Rattle.ct_derive.proofs.NeededPieces.{needed_from_places}
 use Rattle.ct_derive.proofs.needed.needed_pieces.Goals as goal
 
 pub returns : goal.returns
-returns c =
-    needed_from_places c.args.parts.now c.args.lines.now c.deref.result.now c.marked_places.result
-    (subst (λ (marks : List Bool). AreMarkedPieces 0 c.args.parts.now c.args.lines.now marks) (sym c.deref.ensures.value) c.in_ok-marks.ensures)
+returns g c =
+    needed_from_places (g.P.PieceParts.parts_of c.args.pieces.now) c.args.lines.now c.deref.result.now c.marked_places.result
+    (subst (λ (marks : List Bool). AreMarkedPieces 0 (g.P.PieceParts.parts_of c.args.pieces.now) c.args.lines.now marks) (sym c.deref.ensures.value) c.in_ok-marks.ensures)
     c.marked_places.ensures.ascending c.marked_places.ensures.places

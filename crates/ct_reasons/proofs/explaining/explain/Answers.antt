@@ -10,7 +10,7 @@ use Rattle.ct_derive.proofs.MarkedLines.{named_below_line}
 use Rattle.ct_reasons.proofs.explaining.explain.Goals as goal
 
 pub needed_pieces-requires-clause-cited : goal.needed_pieces-requires-clause-cited
-needed_pieces-requires-clause-cited c =
+needed_pieces-requires-clause-cited g c =
     let reason = c.reason.ensures.claim in
     let line = line_with_claim c.args.table.now.lines c.reason.result (claim_at (c.args.side, c.args.entry) reason.0) reason.2 in
     let explained = c.in_ok-lines.ensures line.0 line.1 in
@@ -19,7 +19,7 @@ needed_pieces-requires-clause-cited c =
     (subst (λ (lines : List LineValue). All (λ p. p < length c.args.table.now.supports) (cited_places lines)) (sym c.deref.ensures.value) within)
 
 pub returns : goal.returns
-returns c =
+returns g c =
     let reason = c.reason.ensures.claim in
     let line = line_with_claim c.args.table.now.lines c.reason.result (claim_at (c.args.side, c.args.entry) reason.0) reason.2 in
     let explained = c.in_ok-lines.ensures line.0 line.1 in
@@ -30,7 +30,7 @@ returns c =
         subst (λ (x : Claim). IsExplanation c.args.table.now.supports (slot_of x) x.value c.in_ok-lines.lines.items) line.2 explained,
       );
       pieces =
-          subst (λ (lines : List LineValue). AreNeeded c.args.parts.now lines c.in_ok-pieces.pieces.items) c.deref.ensures.value
+          subst (λ (lines : List LineValue). AreNeeded (g.P.PieceParts.parts_of c.args.pieces.now) lines c.in_ok-pieces.pieces.items) c.deref.ensures.value
           c.in_ok-pieces.ensures;
       ordered = λ i l at.
           named_below_line c.args.table.now.supports c.in_ok-lines.lines.items i l explained.derivation at;
