@@ -45,12 +45,40 @@ less q m K = m K - same K q
 abbrev pub by_kind : (Kind → ℕ) → (Kind → ℤ) → ℤ
 by_kind m f = (pos (m both) *ℤ f both) +ℤ (pos (m neither) *ℤ f neither) +ℤ (pos (m first) *ℤ f first) +ℤ (pos (m second) *ℤ f second)
 
+-- one more of a kind, and none more
+one_more : (n : ℕ) (z : ℤ) → pos (1 + n) *ℤ z ≡ z +ℤ (pos n *ℤ z)
+one_more n z = omega (arith, ints)
+
+none_more : (n : ℕ) (z : ℤ) → pos (0 + n) *ℤ z ≡ pos n *ℤ z
+none_more n z = ap (λ k. pos k *ℤ z) (omega arith)
+
+-- a number from one of four terms to the front
+from_first : (z a b c d : ℤ) → (z +ℤ a) +ℤ b +ℤ c +ℤ d ≡ z +ℤ (a +ℤ b +ℤ c +ℤ d)
+from_first z a b c d = omega (arith, ints)
+
+from_second : (z a b c d : ℤ) → a +ℤ (z +ℤ b) +ℤ c +ℤ d ≡ z +ℤ (a +ℤ b +ℤ c +ℤ d)
+from_second z a b c d = omega (arith, ints)
+
+from_third : (z a b c d : ℤ) → a +ℤ b +ℤ (z +ℤ c) +ℤ d ≡ z +ℤ (a +ℤ b +ℤ c +ℤ d)
+from_third z a b c d = omega (arith, ints)
+
+from_fourth : (z a b c d : ℤ) → a +ℤ b +ℤ c +ℤ (z +ℤ d) ≡ z +ℤ (a +ℤ b +ℤ c +ℤ d)
+from_fourth z a b c d = omega (arith, ints)
+
 -- one more of a kind in such a sum
 by_kind-more : (q : Kind) (m : Kind → ℕ) (f : Kind → ℤ) → by_kind (λ K. same K q + m K) f ≡ f q +ℤ by_kind m f
-by_kind-more both m f = omega (arith, ints)
-by_kind-more neither m f = omega (arith, ints)
-by_kind-more first m f = omega (arith, ints)
-by_kind-more second m f = omega (arith, ints)
+by_kind-more both m f =
+    (λ i. one_more (m both) (f both) i +ℤ none_more (m neither) (f neither) i +ℤ none_more (m first) (f first) i +ℤ none_more (m second) (f second) i)
+    ∙ from_first (f both) (pos (m both) *ℤ f both) (pos (m neither) *ℤ f neither) (pos (m first) *ℤ f first) (pos (m second) *ℤ f second)
+by_kind-more neither m f =
+    (λ i. none_more (m both) (f both) i +ℤ one_more (m neither) (f neither) i +ℤ none_more (m first) (f first) i +ℤ none_more (m second) (f second) i)
+    ∙ from_second (f neither) (pos (m both) *ℤ f both) (pos (m neither) *ℤ f neither) (pos (m first) *ℤ f first) (pos (m second) *ℤ f second)
+by_kind-more first m f =
+    (λ i. none_more (m both) (f both) i +ℤ none_more (m neither) (f neither) i +ℤ one_more (m first) (f first) i +ℤ none_more (m second) (f second) i)
+    ∙ from_third (f first) (pos (m both) *ℤ f both) (pos (m neither) *ℤ f neither) (pos (m first) *ℤ f first) (pos (m second) *ℤ f second)
+by_kind-more second m f =
+    (λ i. none_more (m both) (f both) i +ℤ none_more (m neither) (f neither) i +ℤ none_more (m first) (f first) i +ℤ one_more (m second) (f second) i)
+    ∙ from_fourth (f second) (pos (m both) *ℤ f both) (pos (m neither) *ℤ f neither) (pos (m first) *ℤ f first) (pos (m second) *ℤ f second)
 
 -- a sum of what depends on the kind alone
 pub total-kind : {X : Type 0} (kind : X → Kind) (f : Kind → ℤ) (xs : List X) → total (λ x. f (kind x)) xs ≡ by_kind (count kind xs) f
