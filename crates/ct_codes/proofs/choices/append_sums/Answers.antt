@@ -27,6 +27,15 @@ image_all old f start place all =
     let size = length-drop start old in
     ap (λ ys. old ++ map f ys) (take_all (place - start) (drop start old) (omega arith))
 
+-- a place of the words as they were is one of those that grew
+within-grown : (old more new : List ℕ) (place end size : ℕ) → place < end → end ≡ length old → new ≡ old ++ more → size ≡ length new → place < size
+within-grown old more new place end size before end-is new-is size-is = let grown = ap length new-is ∙ length-append old more in omega arith
+
+pub index-requires : goal.index-requires
+index-requires c =
+    within-grown c.args.words.now.items _ c.loop-place.words.items c.loop-place.place c.len-place-end.result c.loop-place.words.len c.loop-place-test.true
+    (c.len-place-end.ensures ∙ c.args.words.now.ok.0) c.loop-place.invariant c.loop-place.words.ok.0
+
 pub loop-place-preserved : goal.loop-place-preserved
 loop-place-preserved c =
     let old = c.args.words.now.items in
@@ -40,3 +49,8 @@ loop-place-preserved c =
     let read = c.index.ensures ∙ get_or_default c.loop-place.words.items place c.index.result.now 0 in_words
     ∙ ap (λ xs. get_or xs place 0) c.loop-place.invariant in
     c.in_ok-push.ensures.items ∙ ap₂ (λ xs y. xs ++ f y ∷ []) c.loop-place.invariant read ∙ image_more old f start place from within
+
+pub returns : goal.returns
+returns c =
+    let past : length c.args.words.now.items ≤ c.loop-place.place = omega arith in
+    c.loop-place.invariant ∙ image_all c.args.words.now.items (λ x. bit_xor x c.args.word) c.args.start c.loop-place.place past

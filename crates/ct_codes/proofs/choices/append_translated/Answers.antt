@@ -30,3 +30,9 @@ loop-basis_word-preserved c =
     c.in_ok-append_sums.ensures
     ∙ ap (λ xs. xs ++ map (λ y. bit_xor y (get_or basis i 0)) (drop c.len-start.result xs)) c.loop-basis_word.invariant
     ∙ doubled old basis c.args.word i c.len-start.result c.loop-basis_word-test.true start_is
+
+pub returns : goal.returns
+returns c =
+    let basis = c.args.basis.now in
+    let all : c.loop-basis_word.basis_word-index ≡ length c.args.basis.now = omega arith in
+    c.loop-basis_word.invariant ∙ ap (λ i. c.args.words.now.items ++ tabulate (λ s. bit_xor c.args.word (span_word basis s)) (2 ^ i)) all

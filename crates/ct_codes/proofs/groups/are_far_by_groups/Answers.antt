@@ -1,12 +1,34 @@
-use Rattle.std.proofs.Common.{◌≡◌, ℕ, List, ◌*◌, ◌/◌, ◌≤◌, ◌++◌, IsPermutation, length, take, drop, subst, sym, ap, ◌∙◌, arith}
+use Rattle.std.proofs.Common.{◌≡◌, ℕ, List, ◌*◌, ◌/◌, ◌<◌, ◌≤◌, ◌++◌, IsPermutation, length, take, drop, below_none, subst, sym, ap, ◌∙◌, arith}
 use Rattle.std.proofs.Math.Facts.{Fits-lt-pow}
-use Rattle.std.proofs.Math.Nat.{mul-div-le}
+use Rattle.std.proofs.Math.Nat.{mul-div-le, mul-le-mul_left}
 use Rattle.std.proofs.Math.Seq.{take-append_seam}
-use Rattle.std.proofs.lemmas.List.Sorted.{IsPermutation-trans, length_permutation}
+use Rattle.std.proofs.lemmas.List.Sorted.{IsPermutation-refl, IsPermutation-trans, length_permutation}
 use Rattle.ct_words.specs.Word.{distance}
+use Rattle.ct_codes.specs.Inside.Groups.{AreFarWhereSame}
 use Rattle.ct_codes.proofs.CheckLemmas.{AllPairs-from_get_or}
 use Rattle.ct_codes.proofs.GroupLemmas.{all_far_by_groups, groups-next}
 use Rattle.ct_codes.proofs.groups.are_far_by_groups.Goals as goal
+
+-- the groups lie within the places of a word
+group-within : (n d group : ℕ) → n < 32 → group < d → group * (n / d) < 32
+group-within n d group short before =
+    let room : d * (n / d) ≤ n = mul-div-le n d in
+    let part : n / d * group ≤ n / d * d = (let within : group ≤ d = omega arith in mul-le-mul_left (n / d) within) in
+    omega arith
+
+pub overflow_mul-group : goal.overflow_mul-group
+overflow_mul-group c =
+    let within = group-within c.args.n c.args.d c.loop-group.group c.requires.length c.loop-group-test.true in
+    omega arith
+
+pub sort_by_group-requires-clause-shift : goal.sort_by_group-requires-clause-shift
+sort_by_group-requires-clause-shift c = group-within c.args.n c.args.d c.loop-group.group c.requires.length c.loop-group-test.true
+
+pub loop-group-init : goal.loop-group-init
+loop-group-init c = record {
+  moved = subst (λ (xs : List ℕ). IsPermutation c.args.words.now xs) (sym c.in-Ok.ensures.items) (IsPermutation-refl c.args.words.now);
+  far = below_none (λ g. AreFarWhereSame (g * (c.args.n / c.args.d)) (c.args.n / c.args.d) c.args.d c.args.words.now);
+}
 
 pub loop-group-preserved : goal.loop-group-preserved
 loop-group-preserved c =

@@ -1,10 +1,16 @@
 use Rattle.std.proofs.Common.{◌≡◌, ℕ, ◌<◌, ◌^◌, List, length, ap, subst, sym, ◌∙◌}
+use Rattle.std.specs.Prelude.{All}
 use Rattle.std.proofs.Math.Facts.{Fits-lt-pow}
 use Rattle.std.proofs.lemmas.List.Elements.{All-from_get_or}
 use Rattle.ct_codes.specs.declared.light.Pivot.{Pivot}
 use Rattle.ct_codes.specs.Inside.Light.{ArePivots, AreUnits}
 use Rattle.ct_codes.proofs.LightLemmas.{none_light}
 use Rattle.ct_codes.proofs.light.is_heavy.Goals as goal
+
+pub units_of-requires : goal.units_of-requires
+units_of-requires c =
+    let are : ArePivots c.in-Some.pivots.items c.args.basis.now = rw c.in-Some.is at c.in_ok-pivots.ensures in
+    subst (λ (ps : List Pivot). All (λ p. p.place < 32) ps) (sym c.deref.ensures.value) are.places
 
 pub returns : goal.returns
 returns c = λ heavy.

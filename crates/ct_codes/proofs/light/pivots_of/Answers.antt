@@ -1,4 +1,4 @@
-use Rattle.std.proofs.Common.{◌≡◌, ℕ, ◌+◌, ◌<◌, List, [], ◌∷◌, ◌++◌, get_or, take, sym, ap, subst, ◌∙◌, arith}
+use Rattle.std.proofs.Common.{◌≡◌, ℕ, ◌+◌, ◌<◌, List, [], ◌∷◌, ◌++◌, get_or, take, take_all, sym, ap, subst, ◌∙◌, arith}
 use Rattle.std.proofs.Math.Facts.{Fits-lt-pow}
 use Rattle.std.proofs.lemmas.List.{take_more}
 use Rattle.ct_codes.specs.declared.light.Pivot.{Pivot}
@@ -19,3 +19,9 @@ loop-basis_word-preserved c =
     subst (λ (ps : List Pivot). ArePivots ps (take (c.loop-basis_word.basis_word-index + 1) c.args.basis.now)) (sym c.in_ok-push.ensures.items)
     (subst (λ (front : List ℕ). ArePivots (c.loop-basis_word.pivots.items ++ pivot_of c.reduced-word.result ∷ []) front)
     (sym (take_more basis i 0 c.loop-basis_word-test.true)) more)
+
+pub returns : goal.returns
+returns c =
+    let i = c.loop-basis_word.basis_word-index in
+    subst (λ (front : List ℕ). ArePivots c.loop-basis_word.pivots.items front) (take_all i c.args.basis.now c.loop-basis_word-test.false)
+    c.loop-basis_word.invariant
