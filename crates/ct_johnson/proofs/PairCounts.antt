@@ -194,3 +194,10 @@ pub value_none : (n d w : ℕ) → d / 2 ≤ w → ((k : ℕ) → 2 ≤ k → k 
 value_none n d w fits all =
     let none = least_from-none (are_too_many n (d / 2) w) (MAX_COUNTED - 1) 2 (λ i l k. all i l (omega arith)) in
     rw (le-leb (d / 2) w fits) none
+
+-- one more number that was tried
+pub tried_more : (test : ℕ → Bool) (m : ℕ) → ((k : ℕ) → 2 ≤ k → k < m → test k ≡ false) → test m ≡ false → (k : ℕ) → 2 ≤ k → k < m + 1 → test k ≡ false
+tried_more test m tried here k some below = elim (cases_lt k m) [
+  | inl before ↦ tried k some before
+  | inr after ↦ let same : m ≡ k = omega arith in subst (λ j. test j ≡ false) same here
+]

@@ -4,7 +4,7 @@ use Rattle.std.specs.Prelude.{Some, None}
 use Rattle.std.proofs.lemmas.Bool.{cases_lt}
 use Rattle.ct_johnson.specs.declared.columns.TheConstants.{MAX_COUNTED}
 use Rattle.ct_johnson.specs.Bounds.{least_from}
-use Rattle.ct_johnson.proofs.PairCounts.{least_from-found, least_from-none}
+use Rattle.ct_johnson.proofs.PairCounts.{least_from-found, least_from-none, tried_more}
 use Rattle.ct_doubly.specs.Doubly.{are_too_many}
 use Rattle.ct_doubly.proofs.squares.least_too_many.Goals as goal
 
@@ -35,3 +35,14 @@ returns-clause-value c =
     let over : c.last_to_try-words-end.result < c.loop-words.words = omega arith in
     sym (none (are_too_many c.args.n1 c.args.w1 c.args.n2 c.args.w2 c.args.half) c.last_to_try-words-end.result c.loop-words.words over
     c.loop-words.invariant c.last_to_try-words-end.ensures.rest)
+
+pub loop-words-init : goal.loop-words-init
+loop-words-init c = λ k some below. absurd (omega (arith, some, below))
+
+pub loop-words-preserved : goal.loop-words-preserved
+loop-words-preserved c =
+    tried_more (are_too_many c.args.n1 c.args.w1 c.args.n2 c.args.w2 c.args.half) c.loop-words.words c.loop-words.invariant
+    (sym c.are_too_many.ensures ∙ c.if-are_too_many.false)
+
+pub returns-then-are_too_many-clause-some : goal.returns-then-are_too_many-clause-some
+returns-then-are_too_many-clause-some c = c.loop-words.auto.words
