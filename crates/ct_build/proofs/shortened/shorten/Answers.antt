@@ -1,8 +1,10 @@
-use Rattle.std.proofs.Common.{◌≡◌, ◌-◌, length, sym, ap, subst, ◌∙◌, arith}
+use Rattle.std.proofs.Common.{◌≡◌, ℕ, ◌-◌, List, length, sym, ap, ap₂, subst, ◌∙◌, arith}
 use Rattle.std.proofs.lemmas.Bool.{eqb-false}
 use Rattle.ct_codes.specs.Code.{IsSoundCode}
 use Rattle.ct_codes.specs.Constructions.Shortened.{shortened, shortened_weight}
 use Rattle.ct_codes.proofs.Constructions.ShortenedCodes.{IsSoundCode-shortened}
+use Rattle.ct_build.specs.declared.fault.BuildFault.TheVariants.{Empty}
+use Rattle.ct_build.proofs.Failures.{not_empty, made, failed}
 use Rattle.ct_build.proofs.shortened.shorten.Goals as goal
 
 pub from_sorted-requires : goal.from_sorted-requires
@@ -21,3 +23,17 @@ from_sorted-requires c =
       code = subst IsSoundCode (λ i. record { n = n_is i; d = sym c.d.ensures.value i; w = w_is i; words = words_are i })
           (IsSoundCode-shortened a places digits c.n.ensures.sound c.requires.places c.requires.some c.requires.digits (omega arith));
     }
+
+pub returns-clause-empty : goal.returns-clause-empty
+returns-clause-empty c =
+    let a = c.args.part.now in
+    let same = ap₂ (λ n (ws : List ℕ). shortened n c.args.places.now c.args.digits.now ws) c.n.ensures.value c.words.ensures.value in
+    let words_are = c.in_ok-words.ensures.words ∙ same in
+    let some = eqb-false _ 0 (sym c.is_empty.ensures ∙ c.if-is_empty.false) in
+    let long = c.in_ok-words.words.ok.0 in
+    (λ same. absurd (made c.from_sorted.result Empty same), λ none. let no = ap length (words_are ∙ none) in absurd (omega (arith, some, long, no)))
+
+pub returns-in_err-words-clause-empty : goal.returns-in_err-words-clause-empty
+returns-in_err-words-clause-empty c =
+    let same = ap₂ (λ n (ws : List ℕ). shortened n c.args.places.now c.args.digits.now ws) c.n.ensures.value c.words.ensures.value in
+    (λ empty. absurd (not_empty c.from_residual.result c.from_residual.ensures.1 empty), λ none. absurd (failed (c.in_err-words.ensures.none (same ∙ none))))

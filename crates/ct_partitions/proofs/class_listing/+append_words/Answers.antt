@@ -1,6 +1,7 @@
-use Rattle.std.proofs.Common.{◌≡◌, ◌+◌, ◌%◌, ◌^◌, ◌≤◌, ◌++◌, map, ◌-◌, ◌*◌, [], ap, sym, ◌∙◌, append-nil, arith}
-use Rattle.std.proofs.Math.Nat.{pow-le-pow_right, mod-eq_of_lt}
+use Rattle.std.proofs.Common.{◌≡◌, ℕ, suc, ◌+◌, ◌%◌, ◌^◌, ◌<◌, ◌≤◌, ◌++◌, map, ◌-◌, ◌*◌, [], ap, sym, ◌∙◌, append-nil, arith, pow-suc}
+use Rattle.std.proofs.Math.Nat.{pow-le-pow_right, mod-eq_of_lt, mul-le-mul}
 use Rattle.std.proofs.lemmas.Result.{on_ok_weaker}
+use Rattle.ct_words.specs.declared.limits.TheConstants.{MAX_N}
 use Rattle.ct_words.specs.Counting.Binomials.{choose}
 use Rattle.ct_partitions.specs.Inside.Listing.{words_of_sum}
 use Rattle.ct_partitions.proofs.ListingLemmas.{words_of_sum-short, words_of_sum-far, appended-only, appended-both}
@@ -36,3 +37,40 @@ returns t c =
     c.args.words.now.items c.append_words.new.words.items c.append_words-2.new.words.items (omega arith) c.requires.weight (omega arith)
     c.difference_modulo-less.ensures.difference one_is c.in_ok-append_words.ensures)
     c.append_words-2.ensures
+
+-- a one before m - 1 more digits is within the words that the beginning leaves room for
+halved : (m b : ℕ) → 1 ≤ m → b + 2 ^ m ≤ 2 ^ MAX_N → b + 1 * 2 ^ (m - 1) % 2 ^ 32 + 2 ^ (m - 1) ≤ 2 ^ MAX_N
+halved m b some room =
+    let more : 2 ^ suc (m - 1) ≤ 2 ^ m = pow-le-pow_right (omega arith) (omega arith) in
+    let twice = pow-suc 2 (m - 1) in
+    let one_is : 1 * 2 ^ (m - 1) % 2 ^ 32 ≡ 2 ^ (m - 1) = mod-eq_of_lt (omega arith) ∙ omega arith in
+    omega arith
+
+sum_fits : (b x p : ℕ) → b + p ≤ 2 ^ MAX_N → x ≤ p → b + x < 2 ^ 32
+sum_fits b x p room below = omega arith
+
+product_fits : (k m : ℕ) → k ≤ MAX_N → m ≤ MAX_N → k * (m - k) < 2 ^ 32
+product_fits k m few short = let most = mul-le-mul few (sub-le_of_le m k short) in omega arith
+  where
+    sub-le_of_le : (m k : ℕ) → m ≤ MAX_N → m - k ≤ MAX_N
+    sub-le_of_le m k short = omega arith
+
+pub overflow_mul-k : goal.overflow_mul-k
+overflow_mul-k t c =
+    let longest = c.requires.length in
+    let few = c.requires.weight in
+    record { fits = product_fits c.args.k c.args.m (omega arith) (omega arith) }
+
+pub overflow_add-beginning : goal.overflow_add-beginning
+overflow_add-beginning t c =
+    let below = c.only_word.ensures.length in
+    record { fits = sum_fits c.args.beginning c.only_word.result (2 ^ c.args.m) c.requires.beginning (omega (arith, below)) }
+
+pub overflow_add-beginning-2 : goal.overflow_add-beginning-2
+overflow_add-beginning-2 t c =
+    let room = halved c.args.m c.args.beginning (omega arith) c.requires.beginning in
+    record { fits = omega (arith, room) }
+
+pub append_words-requires-2 : goal.append_words-requires-2
+append_words-requires-2 t c =
+    (omega arith, ((omega arith, c.requires.length.1), (omega arith, (c.requires.excess, halved c.args.m c.args.beginning (omega arith) c.requires.beginning))))

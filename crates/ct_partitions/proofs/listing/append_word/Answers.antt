@@ -1,5 +1,5 @@
-use Rattle.std.proofs.Common.{◌≡◌, ℕ, ◌-◌, ◌+◌, ◌*◌, ◌%◌, ◌^◌, ◌≤◌, List, [], ◌∷◌, ◌++◌, get_or, map, take, bit_or, sym, ap, ap₂, ◌∙◌, arith, append_assoc}
-use Rattle.std.proofs.lemmas.List.{map_more}
+use Rattle.std.proofs.Common.{◌≡◌, ℕ, ◌-◌, ◌+◌, ◌*◌, ◌%◌, ◌^◌, ◌≤◌, List, [], ◌∷◌, ◌++◌, get_or, map, take, bit_or, sym, ap, ap₂, ◌∙◌, arith, append_assoc, append-nil}
+use Rattle.std.proofs.lemmas.List.{map_more, take_all}
 use Rattle.ct_words.specs.declared.limits.TheConstants.{MAX_N}
 use Rattle.ct_codes.specs.Constructions.Joined.{followed_by}
 use Rattle.ct_codes.proofs.Constructions.JoinedLemmas.{or-followed_by}
@@ -20,3 +20,14 @@ loop-y-preserved c =
     ∙ ap₂ (λ (ws : List ℕ) (w : ℕ). ws ++ w ∷ []) c.loop-y.invariant pushed
     ∙ append_assoc c.args.words.now.items (map f (take i ys)) (f y ∷ [])
     ∙ ap (λ ws. c.args.words.now.items ++ ws) (sym (map_more f ys i 0 c.loop-y-test.true))
+
+pub loop-y-init : goal.loop-y-init
+loop-y-init c = sym (append-nil c.args.words.now.items)
+
+pub overflow_shl-x : goal.overflow_shl-x
+overflow_shl-x c = let few = c.requires.length in omega (arith, few)
+
+pub returns : goal.returns
+returns c =
+    let f : ℕ → ℕ = λ z. followed_by c.args.m c.args.x z in
+    c.loop-y.invariant ∙ ap (λ ys. c.args.words.now.items ++ map f ys) (take_all c.loop-y.y-index c.args.second.now c.loop-y-test.false)

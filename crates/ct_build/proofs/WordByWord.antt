@@ -1,0 +1,33 @@
+-- Lists of words that are made one word after another.
+use Rattle.std.proofs.Common.{◌≡◌, ℕ, Bool, true, false, ◌+◌, ◌*◌, ◌^◌, ◌<◌, ◌≤◌, List, [], ◌∷◌, ◌++◌, map, take, filter, get_or, length, sym, arith}
+use Rattle.std.proofs.Math.Nat.{pow-le-pow_right}
+use Rattle.std.proofs.lemmas.List.{map_more, map-append, append-nil}
+use Rattle.std.proofs.lemmas.List.Elements.{filter_more}
+use Rattle.ct_words.specs.declared.limits.TheConstants.{MAX_N}
+use Rattle.ct_codes.specs.Code.{CodeValue, IsSoundCode}
+
+-- one more of a list that is mapped
+pub mapped_more : (f : ℕ → ℕ) (words before after : List ℕ) (i y : ℕ) → i < length words → before ≡ map f (take i words)
+    → after ≡ before ++ y ∷ [] → y ≡ f (get_or words i 0) → after ≡ map f (take (i + 1) words)
+mapped_more f words before after i y within was is value = rw (is, was, value) (sym (map_more f words i 0 within))
+
+-- one more of a list of which those that pass a test are mapped: it passes
+pub kept_more : (f : ℕ → ℕ) (p : ℕ → Bool) (words before after : List ℕ) (i y : ℕ) → i < length words → before ≡ map f (filter p (take i words))
+    → after ≡ before ++ y ∷ [] → p (get_or words i 0) ≡ true → y ≡ f (get_or words i 0) → after ≡ map f (filter p (take (i + 1) words))
+kept_more f p words before after i y within was is passes value = rw (is, was, value, filter_more p words i 0 within, passes)
+    (sym (map-append f (filter p (take i words)) (get_or words i 0 ∷ [])))
+
+-- and where it doesn't, they stay
+pub left_out : (f : ℕ → ℕ) (p : ℕ → Bool) (words : List ℕ) (i : ℕ) → i < length words → p (get_or words i 0) ≡ false
+    → map f (filter p (take (i + 1) words)) ≡ map f (filter p (take i words))
+left_out f p words i within fails = rw (filter_more p words i 0 within, fails, append-nil (filter p (take i words)))
+
+-- a word of a code with one more digit is a number of 32 bits
+pub appended_fits : (code : CodeValue) (i a : ℕ) → IsSoundCode code → code.n < MAX_N → i < length code.words → a < 2 → get_or code.words i 0 * 2 + a < 2 ^ 32
+appended_fits code i a sound short within digit =
+    let few : code.n ≤ MAX_N = omega arith in
+    let most : 2 ^ code.n ≤ 2 ^ MAX_N = pow-le-pow_right (omega arith) few in
+    fits (get_or code.words i 0) a (2 ^ code.n) (sound.code.lengths i 0 within) most digit
+  where
+    fits : (x a p : ℕ) → x < p → p ≤ 2 ^ MAX_N → a < 2 → x * 2 + a < 2 ^ 32
+    fits x a p below most digit = omega arith
