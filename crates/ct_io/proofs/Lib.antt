@@ -8,3 +8,6 @@ mod NextLineLemmas
 pub mod ReaderLemmas
 pub mod ToldLemmas
 pub mod LinesLemmas
+mod HeldLemmas
+mod FillLemmas
+mod FailingCalls

@@ -10,6 +10,7 @@
 mod failed;
 mod held;
 mod input;
+mod input_lines;
 mod intake;
 mod laws;
 mod line_fault;
@@ -26,6 +27,7 @@ mod std_source;
 
 pub use failed::Failed;
 pub use input::read_input;
+pub use input_lines::next_line;
 pub use laws::{faults_law, last_read_law, prefixes_law, puts_law};
 pub use line_fault::LineFault;
 pub use line_reader::LineReader;

@@ -6,6 +6,7 @@ use Rattle.ct_io.specs.Inside.Buffer.{Buffer}
 use Rattle.ct_io.specs.Lines.{IsLine}
 use Rattle.ct_io.proofs.LinesLemmas.{is_feed}
 use Rattle.ct_io.proofs.FeedLemmas.{IsNoFeed, EndsAt, EndsAt-searched, IsLine-searched}
+use Rattle.ct_io.proofs.HeldLemmas.{left-within}
 use Rattle.ct_io.proofs.held.Held.line_length.Goals as goal
 
 -- the slice that is searched
@@ -46,3 +47,13 @@ invariant_of-self-in-None c =
 
 pub returns-in-None-clause-none : goal.returns-in-None-clause-none
 returns-in-None-clause-none c = subst (λ (b : Buffer). IsLine b.bytes) c.self.view_is (none c)
+
+pub returns-in-Some-clause-all_kept : goal.returns-in-Some-clause-all_kept
+returns-in-Some-clause-all_kept c =
+    let bytes = c.self.inside.bytes in
+    left-within c.self.inside.start bytes.len bytes.items bytes.ok.0
+
+pub returns-in-None-clause-all_kept : goal.returns-in-None-clause-all_kept
+returns-in-None-clause-all_kept c =
+    let bytes = c.self.inside.bytes in
+    left-within c.self.inside.start bytes.len bytes.items bytes.ok.0
