@@ -25,6 +25,11 @@ front_le i text =
 pub next_le : (i : ℕ) (text : List ℕ) → i < length text → 10 * decimal_value (take i text) + (get_or text i 0 - 48) ≤ decimal_value text
 next_le i text h = let next = fold_more step 0 text i 0 h in let front = front_le (i + 1) text in omega (arith, next, front)
 
+-- one digit more
+pub next-value : (text : List ℕ) (i value tens digit next : ℕ) → i < length text → value ≡ decimal_value (take i text) → tens ≡ value * 10
+    → digit ≡ get_or text i 0 - 48 → next ≡ tens + digit → next ≡ decimal_value (take (i + 1) text)
+next-value text i value tens digit next h value-is tens-is digit-is next-is = let more = fold_more step 0 text i 0 h in omega arith
+
 when_not : (b : Bool) (v : ℕ) → 2 ^ 64 ≤ v → cond (b && ltb v (2 ^ 64)) (Some v) None ≡ None
 when_not false v h = refl
 when_not true v h = ap (λ t. cond t (Some v) None) (le-ltb v (2 ^ 64) h)
