@@ -2,6 +2,7 @@
 use Rattle.std.proofs.Common.{◌≡◌, ◌≢◌, List, [], ◌∷◌, length, map, get_or, Option, Some, None, refl, ap, ◌∙◌, subst, le-leb, arith}
 use Rattle.std.specs.Prelude.{ℤ, pos, ◌≤◌, All, IsTrue, ⊤}
 use Rattle.std.proofs.lemmas.List.Elements.{All-nil, All-cons, All-head, All-tail}
+use Rattle.std.specs.Option.{option_and_then}
 use Rattle.std.proofs.lemmas.Option.{option_and_then_some}
 use Rattle.toml.specs.Data.{Data, string, integer, float, boolean, datetime, array, table, Items, no_items, item, as_integer}
 use Rattle.toml.specs.View.{view, items_of}
@@ -51,6 +52,27 @@ as_integer-some (boolean b) z e = absurd cc
 as_integer-some (datetime t) z e = absurd cc
 as_integer-some (array ds) z e = absurd cc
 as_integer-some (table ms) z e = absurd cc
+
+module _ {A B : Type 0} (f : Data → Option A) (g : Data → Option B) (d : Data) (two : Data × Data) where
+  -- the first of two values, and then the second
+  abbrev and_then_second : Option A → Option (A × B)
+  and_then_second first = option_and_then (λ x. option_and_then (λ y. Some (x, y)) (g two.1)) first
+
+  pair_in-two : Some two ≡ two_in d → and_then_second (f two.0) ≡ pair_in f g d
+  pair_in-two two-is = ap (λ o. option_and_then (λ t. option_and_then (λ x. option_and_then (λ y. Some (x, y)) (g t.1)) (f t.0)) o) two-is
+
+  -- a list of two values of these forms is the pair of what they are
+  pub pair_in-both : (x : A) (y : B) → Some two ≡ two_in d → Some x ≡ f two.0 → Some y ≡ g two.1 → Some (x, y) ≡ pair_in f g d
+  pair_in-both x y two-is x-is y-is =
+      ap (λ o. option_and_then (λ z. Some (x, z)) o) y-is ∙ ap and_then_second x-is ∙ pair_in-two two-is
+
+  -- and no pair where one of them has another form
+  pub pair_in-no_first : Some two ≡ two_in d → None ≡ f two.0 → None ≡ pair_in f g d
+  pair_in-no_first two-is none = ap and_then_second none ∙ pair_in-two two-is
+
+  pub pair_in-no_second : (x : A) → Some two ≡ two_in d → Some x ≡ f two.0 → None ≡ g two.1 → None ≡ pair_in f g d
+  pair_in-no_second x two-is x-is none =
+      ap (λ o. option_and_then (λ z. Some (x, z)) o) none ∙ ap and_then_second x-is ∙ pair_in-two two-is
 
 -- the form reads just what is written so, of those of which P holds
 pub record ReadsBack {A : Type 0} (form : Data → Option A) (written : A → Data) (P : A → Type 0) : Type 0 where

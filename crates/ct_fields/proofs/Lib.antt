@@ -14,4 +14,6 @@ pub mod CiteLemmas
 pub mod LastLemmas
 pub mod CitedTables
 pub mod PushedValues
+pub mod ReadLists
+mod TextValues
 pub mod CiteRooms
