@@ -1,5 +1,6 @@
 pub mod BuildEntryAnswers
 pub mod BuildFieldLemmas
+mod PushedNumbers
 pub mod BuildAnswers
 pub mod BuildFaultAnswers
 pub mod AlikeBuilds

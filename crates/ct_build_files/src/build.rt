@@ -1,10 +1,11 @@
 //! The kind build: a step that makes a code of those of other pieces.
-ghost use Rattle.std.specs.Prelude.{◌≡◌, ◌≤◌};
+ghost use Rattle.std.specs.Prelude.{◌≡◌, ◌≤◌, Option, Ok, Err, IfOk, IfErr};
 ghost use Rattle.toml.specs.View.{view};
 ghost use Rattle.ct_words.specs.declared.limits.TheConstants.{MAX_N};
 ghost use Rattle.ct_fields.specs.Reads.{Reads};
 ghost use Rattle.ct_fields.specs.LastFields.{last_fields};
 ghost use Rattle.ct_build_files.specs.Operation.{build_fields};
+ghost use Rattle.ct_build_files.specs.BuildFields.{id_field, other_field};
 ghost use Rattle.ct_build_files.specs.Build.{build_with, build_by, build_evidence_of};
 
 use crate::build_fields::{id_field, operation_field, other_field, step_fields};
@@ -14,6 +15,7 @@ use ct_build::Step;
 use ct_codes::Entry;
 use ct_fields::{DocumentFault, FieldName, last_fields};
 use ct_kind::Evidence;
+use ct_text::Id;
 use std::alloc::Global;
 use toml::Value;
 
@@ -36,6 +38,18 @@ fn last_build_fields(operation: Operation, document: &Value) -> Result<(), Docum
     }
 }
 
+/// The ids of the part and of the other piece, where the cites and the keys are those of a build by the operation.
+fn parts_field(operation: Operation, document: &Value) -> Result<(Id, Option<Id>), DocumentFault>
+    ensures found { IfOk result (λ ids. (id_field FieldName.Part (view document.now) ≡ Ok ids.0) × (other_field operation (view document.now) ≡ Ok ids.1)
+        × (last_fields (build_fields operation) (view document.now) ≡ Ok tt)) }
+    ensures fault { IfErr result (λ fault. (entry : Entry) (found : Option Step) → build_with entry operation found (view document.now) ≡ Err fault) }
+{
+    let part = id_field(document, FieldName::Part)?;
+    let other = other_field(operation, document)?;
+    last_build_fields(operation, document)?;
+    Ok((part, other))
+}
+
 /// The evidence of a build by the operation with the step that is found, none where a text of digits is wrong.
 fn build_with(
     entry: Entry,
@@ -45,9 +59,7 @@ fn build_with(
 ) -> Result<Evidence, DocumentFault>
     ensures { result ≡ build_with entry operation found (view document.now) }
 {
-    let part = id_field(document, FieldName::Part)?;
-    let other = other_field(operation, document)?;
-    last_build_fields(operation, document)?;
+    let (part, other) = parts_field(operation, document)?;
     match found {
         Some(step) => Ok(Evidence::Build {
             entry,

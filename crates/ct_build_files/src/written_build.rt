@@ -1,9 +1,10 @@
 //! The table of a build.
-ghost use Rattle.std.specs.Prelude.{◌≡◌, ◌<◌, ◌≤◌, All, IfOk, IfSome, OnOk, IsTrue, pos};
+ghost use Rattle.std.specs.Prelude.{◌≡◌, ◌<◌, ◌≤◌, ◌^◌, All, IfOk, IfSome, OnOk, IsTrue, pos};
 ghost use Rattle.std.specs.Str.{IsAscii};
 ghost use Rattle.toml.specs.Data.{string, integer};
 ghost use Rattle.toml.specs.View.{view, table_view};
 ghost use Rattle.ct_words.specs.declared.limits.TheConstants.{MAX_N};
+ghost use Rattle.ct_words.specs.Text.{word_text};
 ghost use Rattle.ct_text.specs.Id.{is_id};
 ghost use Rattle.ct_build.specs.Build.{FieldsFit};
 ghost use Rattle.ct_fields.specs.Written.{put};
@@ -15,6 +16,7 @@ use ct_build::Step;
 use ct_codes::Entry;
 use ct_fields::{FieldName, entry_table, id_value, put, put_weight, word_value};
 use ct_text::Id;
+use ct_words::Word;
 use std::alloc::{AllocError, Global};
 use toml::{Table, Value};
 
@@ -56,32 +58,49 @@ fn text_value(text: Vec<u8>) -> Value
     Value::String(String::from_utf8(text).unwrap())
 }
 
+/// Puts the places of the step.
+fn put_places(alloc: Global, table: &mut Table, places: &[u32]) -> Result<(), AllocError>
+    ensures { OnOk result (table_view table.new ≡ put FieldName.Places (number_list places.now) (table_view table.old)) }
+{
+    let places = number_list(alloc, places)?;
+    put(alloc, table, FieldName::Places, places)
+}
+
+/// Puts the digits of the step.
+#[tactic(auto, using(crate::proofs::WrittenBuild::IsAscii_digits_text))]
+fn put_digits(alloc: Global, table: &mut Table, digits: &[u32]) -> Result<(), AllocError>
+    requires { All (λ a. a < 2) digits.now }
+    ensures { OnOk result (table_view table.new ≡ put FieldName.Digits (string (digits_text digits.now)) (table_view table.old)) }
+{
+    let text = digits_text(alloc, digits)?;
+    put(alloc, table, FieldName::Digits, text_value(text))
+}
+
+/// Puts the word of length `n` of the step.
+fn put_by(alloc: Global, table: &mut Table, n: u32, by: Word) -> Result<(), AllocError>
+    requires room { n ≤ MAX_N }
+    requires word { by < 2 ^ n }
+    ensures { OnOk result (table_view table.new ≡ put FieldName.By (string (word_text n by)) (table_view table.old)) }
+{
+    let by = word_value(alloc, n, by)?;
+    put(alloc, table, FieldName::By, by)
+}
+
 /// Puts the fields of the step, of words of the length of the entry.
-#[tactic(auto, using(crate::proofs::WrittenBuild::IsAscii_digits_text), unfolding(ct_build::specs::Build::FieldsFit))]
+#[tactic(auto, unfolding(ct_build::specs::Build::FieldsFit))]
 fn put_step(alloc: Global, table: &mut Table, step: &Step, stated: Entry) -> Result<(), AllocError>
     requires room { stated.n ≤ MAX_N }
     requires fits { FieldsFit step.now stated }
     ensures { OnOk result (table_view table.new ≡ put_step step.now stated.n (table_view table.old)) }
 {
     match step {
-        Step::Puncture(places) => {
-            let places = number_list(alloc, places.as_slice())?;
-            put(alloc, table, FieldName::Places, places)
-        }
+        Step::Puncture(places) => put_places(alloc, table, places.as_slice()),
         Step::Shorten(places, digits) => {
-            let places = number_list(alloc, places.as_slice())?;
-            put(alloc, table, FieldName::Places, places)?;
-            let text = digits_text(alloc, digits.as_slice())?;
-            put(alloc, table, FieldName::Digits, text_value(text))
+            put_places(alloc, table, places.as_slice())?;
+            put_digits(alloc, table, digits.as_slice())
         }
-        Step::Translate(by) => {
-            let by = word_value(alloc, stated.n, *by)?;
-            put(alloc, table, FieldName::By, by)
-        }
-        Step::Select(by) => {
-            let by = word_value(alloc, stated.n, *by)?;
-            put(alloc, table, FieldName::By, by)
-        }
+        Step::Translate(by) => put_by(alloc, table, stated.n, *by),
+        Step::Select(by) => put_by(alloc, table, stated.n, *by),
         Step::Trim(size) => put(alloc, table, FieldName::Size, Value::from(*size)),
         _ => Ok(()),
     }

@@ -1,6 +1,7 @@
 //! The tables of duals.
-ghost use Rattle.std.specs.Prelude.{◌≡◌, IfOk};
+ghost use Rattle.std.specs.Prelude.{◌≡◌, IfOk, OnOk};
 ghost use Rattle.toml.specs.View.{view, table_view};
+ghost use Rattle.ct_fields.specs.Written.{put};
 ghost use Rattle.ct_dual_files.specs.WrittenDuals.{integer_list, index_pair, pair_list, plain_table, dual_table, odd_table, weighted_table, johnson_dual_table, local_dual_table};
 
 use ct_duals::Dual;
@@ -35,11 +36,25 @@ fn plain_table(alloc: Global, kind: &str, dual: &Dual) -> Result<Table, AllocErr
         FieldName::Even,
         Value::Boolean(dual.even),
     )?;
-    let c = integer_list(alloc, dual.c.as_slice())?;
-    put(alloc, &mut table, FieldName::C, c)?;
-    let y = pair_list(alloc, dual.y.as_slice())?;
-    put(alloc, &mut table, FieldName::Y, y)?;
+    put_multipliers(alloc, &mut table, dual)?;
+    put_allowances(alloc, &mut table, dual)?;
     Ok(table)
+}
+
+/// Puts the multipliers of the dual.
+fn put_multipliers(alloc: Global, table: &mut Table, dual: &Dual) -> Result<(), AllocError>
+    ensures { OnOk result (table_view table.new ≡ put FieldName.C (integer_list dual.now.c) (table_view table.old)) }
+{
+    let c = integer_list(alloc, dual.c.as_slice())?;
+    put(alloc, table, FieldName::C, c)
+}
+
+/// Puts what the dual allows.
+fn put_allowances(alloc: Global, table: &mut Table, dual: &Dual) -> Result<(), AllocError>
+    ensures { OnOk result (table_view table.new ≡ put FieldName.Y (pair_list dual.now.y) (table_view table.old)) }
+{
+    let y = pair_list(alloc, dual.y.as_slice())?;
+    put(alloc, table, FieldName::Y, y)
 }
 
 /// The table of a dual with a weight that allows nothing.
@@ -54,8 +69,7 @@ pub fn local_dual_table(alloc: Global, dual: &Dual) -> Result<Table, AllocError>
     ensures { IfOk result (λ table. table_view table ≡ local_dual_table dual.now) }
 {
     let mut table = weighted_table(alloc, "jlocal", dual)?;
-    let y = pair_list(alloc, dual.y.as_slice())?;
-    put(alloc, &mut table, FieldName::Y, y)?;
+    put_allowances(alloc, &mut table, dual)?;
     Ok(table)
 }
 
@@ -65,8 +79,7 @@ fn weighted_table(alloc: Global, kind: &str, dual: &Dual) -> Result<Table, Alloc
 {
     let mut table = entry_table(alloc, kind, dual.entry.n, dual.entry.d)?;
     put_weight(alloc, &mut table, dual.entry.w)?;
-    let c = integer_list(alloc, dual.c.as_slice())?;
-    put(alloc, &mut table, FieldName::C, c)?;
+    put_multipliers(alloc, &mut table, dual)?;
     Ok(table)
 }
 

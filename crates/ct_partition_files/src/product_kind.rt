@@ -1,7 +1,7 @@
 //! Evidence of kind product: the words of the i-th class of one partition, each followed by those of the i-th class of another, for
 //! pairs of pieces that stand and are partitions.
 
-ghost use Rattle.std.specs.Prelude.{◌≡◌, ◌≢◌, ◌<◌, ◌≤◌, ◌+◌, ◌∷◌, ◌++◌, [], suc, All, Some, None, IfOk, IfErr, IfSome, IsSome, OnOk, length, option_map, false, true, codes};
+ghost use Rattle.std.specs.Prelude.{◌≡◌, ◌≢◌, ◌<◌, ◌≤◌, ◌+◌, ◌∷◌, ◌++◌, [], suc, All, Some, None, IfOk, IfErr, IfSome, IsSome, OnOk, length, option_map, if◌then◌else◌, false, true, codes};
 ghost use Rattle.std.specs.List.{list_any};
 ghost use Rattle.std.specs.Str.{bytes_eq};
 ghost use Rattle.std.specs.List.Sorted.{IsPermutation};
@@ -9,11 +9,12 @@ ghost use Rattle.ct_words.specs.declared.limits.TheConstants.{MAX_N, MAX_BOUND};
 ghost use Rattle.ct_codes.specs.Code.{IsSoundCode};
 ghost use Rattle.ct_codes.specs.Entry.{IsEntry};
 ghost use Rattle.ct_codes.specs.Pairs.{first_of};
+ghost use Rattle.ct_partitions.specs.Partition.{PartitionValue};
 ghost use Rattle.ct_partitions.specs.Product.{product, product_distance, product_size, pairs_at, ArePairsOfPlaces, AreFactors};
 ghost use Rattle.ct_kind.specs.Ascending.{code_at};
 ghost use Rattle.ct_kind.specs.KindParts.{kind_reason};
 ghost use Rattle.ct_kind.specs.Named.{first_missing, partition_named};
-ghost use Rattle.ct_partition_files.specs.ProductKind.{ids_of, factors_named, first_length, add_up, wrong_of_pair, wrong_id, short_of, product_reason, product_kind};
+ghost use Rattle.ct_partition_files.specs.ProductKind.{ids_of, factors_named, first_length, is_wrong_first, add_up, is_wrong_second, wrong_of_pair, wrong_id, short_of, product_reason, product_kind};
 
 use ct_build::BuildFault;
 use ct_codes::{Code, Entry};
@@ -95,23 +96,39 @@ fn add_up(w: Option<u32>, v: Option<u32>, u: Option<u32>) -> bool
     }
 }
 
+/// The entry of the partition of a first id, where it is right: it has this length, and a weight where one is stated.
+fn right_first<P: Partitions>(pieces: &P, w: Option<u32>, long: u32, id: Id) -> Option<Entry>
+    ensures { result ≡ if is_wrong_first w long (partition_named id (P.known pieces.now)) then None
+        else option_map (λ p. p.entry) (partition_named id (P.known pieces.now)) }
+{
+    let x = pieces.partition(id)?;
+    let x = x.entry();
+    if x.n != long || (w.is_some() && x.w.is_none()) {
+        return None;
+    }
+    Some(x)
+}
+
+/// Whether a second id is wrong beside a first partition of the entry `first`.
+fn is_wrong_second<P: Partitions>(pieces: &P, entry: Entry, first: Entry, id: Id) -> bool
+    ensures { (x : PartitionValue) → x.entry ≡ first → result ≡ is_wrong_second entry x (partition_named id (P.known pieces.now)) }
+{
+    let Some(y) = pieces.partition(id) else {
+        return true;
+    };
+    let y = y.entry();
+    u64::from(first.n) + u64::from(y.n) != u64::from(entry.n) || !add_up(entry.w, first.w, y.w)
+}
+
 /// The first id of a pair that is wrong, where the first partitions are to have this length.
 fn wrong_of_pair<P: Partitions>(pieces: &P, entry: Entry, long: u32, pair: (Id, Id)) -> Option<Id>
     ensures { result ≡ wrong_of_pair entry long (P.known pieces.now) pair }
 {
     let (first, second) = pair;
-    let Some(x) = pieces.partition(first) else {
+    let Some(x) = right_first(pieces, entry.w, long, first) else {
         return Some(first);
     };
-    let x = x.entry();
-    if x.n != long || (entry.w.is_some() && x.w.is_none()) {
-        return Some(first);
-    }
-    let Some(y) = pieces.partition(second) else {
-        return Some(second);
-    };
-    let y = y.entry();
-    if u64::from(x.n) + u64::from(y.n) != u64::from(entry.n) || !add_up(entry.w, x.w, y.w) {
+    if is_wrong_second(pieces, entry, x, second) {
         return Some(second);
     }
     None
