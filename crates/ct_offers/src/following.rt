@@ -17,7 +17,6 @@ use ct_slots::{Bounds, Worklist};
 use std::alloc::AllocError;
 
 /// Marks the entries that rest on this one by a rule that bounds A(n,d) from below, where it gives something better there.
-#[tactic(auto, unfolding(ct_rules::specs::Rule::row_of))]
 fn mark_by_lower(
     supports: &[Support],
     bounds: &Bounds,
@@ -36,12 +35,10 @@ fn mark_by_lower(
     mark_by_rule(supports, bounds, work, Rule::L5, entry, evaluations)?;
     mark_by_rule(supports, bounds, work, Rule::L6, entry, evaluations)?;
     mark_by_rule(supports, bounds, work, Rule::L7, entry, evaluations)?;
-    mark_by_rule(supports, bounds, work, Rule::L8, entry, evaluations)?;
-    Ok(())
+    mark_by_rule(supports, bounds, work, Rule::L8, entry, evaluations)
 }
 
 /// Marks the entries that rest on this one by a rule that bounds A(n,d,w) from below, where it gives something better there.
-#[tactic(auto, unfolding(ct_rules::specs::Rule::row_of))]
 fn mark_by_lower_with_weight(
     supports: &[Support],
     bounds: &Bounds,
@@ -60,12 +57,10 @@ fn mark_by_lower_with_weight(
     mark_by_rule(supports, bounds, work, Rule::M5, entry, evaluations)?;
     mark_by_rule(supports, bounds, work, Rule::M6, entry, evaluations)?;
     mark_by_rule(supports, bounds, work, Rule::M7, entry, evaluations)?;
-    mark_by_rule(supports, bounds, work, Rule::M8, entry, evaluations)?;
-    Ok(())
+    mark_by_rule(supports, bounds, work, Rule::M8, entry, evaluations)
 }
 
 /// Marks the entries that rest on this one by a rule that bounds A(n,d) from above, where it gives something better there.
-#[tactic(auto, unfolding(ct_rules::specs::Rule::row_of))]
 fn mark_by_upper(
     supports: &[Support],
     bounds: &Bounds,
@@ -83,12 +78,10 @@ fn mark_by_upper(
     mark_by_rule(supports, bounds, work, Rule::U5, entry, evaluations)?;
     mark_by_rule(supports, bounds, work, Rule::U6, entry, evaluations)?;
     mark_by_rule(supports, bounds, work, Rule::U7, entry, evaluations)?;
-    mark_by_rule(supports, bounds, work, Rule::U8, entry, evaluations)?;
-    Ok(())
+    mark_by_rule(supports, bounds, work, Rule::U8, entry, evaluations)
 }
 
 /// Marks the entries that rest on this one by a rule that bounds A(n,d,w) from above, where it gives something better there.
-#[tactic(auto, unfolding(ct_rules::specs::Rule::row_of))]
 fn mark_by_upper_with_weight(
     supports: &[Support],
     bounds: &Bounds,
@@ -106,8 +99,7 @@ fn mark_by_upper_with_weight(
     mark_by_rule(supports, bounds, work, Rule::V4, entry, evaluations)?;
     mark_by_rule(supports, bounds, work, Rule::V5, entry, evaluations)?;
     mark_by_rule(supports, bounds, work, Rule::V6, entry, evaluations)?;
-    mark_by_rule(supports, bounds, work, Rule::V7, entry, evaluations)?;
-    Ok(())
+    mark_by_rule(supports, bounds, work, Rule::V7, entry, evaluations)
 }
 
 /// Marks the entries that rest on a slot by a rule with neither numbers nor a support, where it gives something better there.
@@ -126,21 +118,13 @@ pub(crate) fn mark_by_resting(
     ensures kept { KeepsMarks work.old work.new }
 {
     match (side, entry.w) {
-        (Side::Lower, None) => {
-            mark_by_lower(supports, bounds, work, entry, evaluations)?;
-            Ok(())
-        }
+        (Side::Lower, None) => mark_by_lower(supports, bounds, work, entry, evaluations),
         (Side::Lower, Some(_)) => {
-            mark_by_lower_with_weight(supports, bounds, work, entry, evaluations)?;
-            Ok(())
+            mark_by_lower_with_weight(supports, bounds, work, entry, evaluations)
         }
-        (Side::Upper, None) => {
-            mark_by_upper(supports, bounds, work, entry, evaluations)?;
-            Ok(())
-        }
+        (Side::Upper, None) => mark_by_upper(supports, bounds, work, entry, evaluations),
         (Side::Upper, Some(_)) => {
-            mark_by_upper_with_weight(supports, bounds, work, entry, evaluations)?;
-            Ok(())
+            mark_by_upper_with_weight(supports, bounds, work, entry, evaluations)
         }
     }
 }

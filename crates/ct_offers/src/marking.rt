@@ -120,8 +120,7 @@ fn mark_by_weight(
     match side {
         Side::Lower => {
             test(supports, bounds, work, Rule::L9(w), same, evaluations)?;
-            test(supports, bounds, work, Rule::L9(w), nearer, evaluations)?;
-            Ok(())
+            test(supports, bounds, work, Rule::L9(w), nearer, evaluations)
         }
         Side::Upper => {
             test(supports, bounds, work, Rule::U10(w), same, evaluations)?;
@@ -129,8 +128,7 @@ fn mark_by_weight(
             if w + 1 != entry.d {
                 return Ok(());
             }
-            test(supports, bounds, work, Rule::U9, nearer, evaluations)?;
-            Ok(())
+            test(supports, bounds, work, Rule::U9, nearer, evaluations)
         }
     }
 }
@@ -157,8 +155,7 @@ fn mark_by_dual(
         return Ok(());
     }
     let rule = given_rule(supports, Side::Upper, entry, place);
-    test(supports, bounds, work, rule, entry, evaluations)?;
-    Ok(())
+    test(supports, bounds, work, rule, entry, evaluations)
 }
 
 /// Marks the entry, where one of the duals that supports have there rests on the other one and something better is given by it. It looks at
@@ -241,8 +238,7 @@ fn mark_from_duals(
     let (same, nearer) = (unweighted(entry), unweighted_and_nearer(entry));
     mark_by_duals(supports, places, bounds, work, same, entry, evaluations)?;
     mark_by_duals(supports, places, bounds, work, nearer, entry, evaluations)?;
-    mark_each_weight(supports, places, bounds, work, entry, evaluations)?;
-    Ok(())
+    mark_each_weight(supports, places, bounds, work, entry, evaluations)
 }
 
 /// Marks the slots that rest on this one, where a rule gives something better there. After an `Err`, which is want of memory,
@@ -266,10 +262,7 @@ pub fn mark_dependents(
     mark_by_resting(supports, bounds, work, side, entry, evaluations)?;
     mark_by_weight(supports, bounds, work, side, entry, evaluations)?;
     match (side, entry.w) {
-        (Side::Lower, None) => {
-            mark_juxtaposition(bounds, work, entry, evaluations)?;
-            Ok(())
-        }
+        (Side::Lower, None) => mark_juxtaposition(bounds, work, entry, evaluations),
         (Side::Lower, Some(_)) => Ok(()),
         (Side::Upper, None) => Ok(()),
         (Side::Upper, Some(_)) => {

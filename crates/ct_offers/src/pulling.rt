@@ -326,7 +326,6 @@ fn ask_unsupported(
 }
 
 /// The rule by which the support at a place bounds an entry without weight from above.
-#[tactic(auto, unfolding(ct_rules::specs::Rule::row_of))]
 fn bounding_rule(supports: &[Support], place: u32) -> Rule
     ensures rule { result ≡ bounding_rule (slice_get supports.now place) place }
     ensures side { rule_side result ≡ Upper }
@@ -339,7 +338,6 @@ fn bounding_rule(supports: &[Support], place: u32) -> Rule
 }
 
 /// The rule by which the support at a place bounds an entry with weight from above.
-#[tactic(auto, unfolding(ct_rules::specs::Rule::row_of))]
 fn bounding_rule_of_weight(supports: &[Support], place: u32) -> Rule
     ensures rule { result ≡ bounding_rule_of_weight (slice_get supports.now place) place }
     ensures side { rule_side result ≡ Upper }

@@ -1,6 +1,6 @@
 -- A worklist stays sound when a slot is marked, and when one is taken; and what is marked then.
-use Rattle.std.proofs.Common.{◌≡◌, ◌≢◌, ℕ, zero, suc, ◌+◌, ◌*◌, ◌<◌, ◌≤◌, Bool, true, false, List, [], ◌∷◌, ◌++◌, length, replicate, Some, ap, sym, ◌∙◌, subst, inl, inr, arith, length-set, get_or}
-use Rattle.std.specs.Prelude.{slice_get, slice_set, slice_index_or, Contains, All, AllPairs, cond, ◌⊎◌}
+use Rattle.std.proofs.Common.{◌≡◌, ◌≢◌, ℕ, zero, suc, ◌+◌, ◌-◌, ◌*◌, ◌<◌, ◌≤◌, Bool, true, false, List, [], ◌∷◌, ◌++◌, length, replicate, Some, ap, sym, ◌∙◌, subst, inl, inr, arith, length-set, length-drop, get_or, drop}
+use Rattle.std.specs.Prelude.{slice_get, slice_set, slice_index_or, Contains, All, AllPairs, cond, if◌then◌else◌, ◌⊎◌}
 use Rattle.std.proofs.lemmas.Bool.{cases_eq}
 use Rattle.std.proofs.lemmas.List.{length-replicate}
 use Rattle.std.proofs.lemmas.List.Elements.{All-nil, All-push, All-head, All-tail, Contains-push, Contains-append_left}
@@ -44,6 +44,15 @@ pub IsIdle-none : (marks : List Bool) (queue : List Slot) → marks ≡ replicat
 IsIdle-none marks queue same s entry marked =
     no_mark (2 * side_size) (slot_number s) (subst (λ m. slice_get m (slot_number s) ≡ Some true) same marked)
 
+-- where nothing can be taken from the queue, no slot is marked
+pub IsIdle-empty : (marks : List Bool) (queue rest : List Slot) → IsSoundWork (record { marks = marks; queue = queue }) → queue ≡ rest
+    → rest ≡ drop 1 queue → IsIdle (record { marks = marks; queue = queue })
+IsIdle-empty marks queue rest sound same fewer s entry marked =
+    let found = sound.queued s entry marked in
+    let inside : found.0 < length queue = found.1 in
+    let count : length queue ≡ length queue - 1 = ap length (same ∙ fewer) ∙ length-drop 1 queue in
+    absurd (omega arith)
+
 -- marks after one is set
 pub is_set : (marks : List Bool) (s : Slot) (number : ℕ) → length marks ≡ 2 * side_size → IsEntry s.1
     → number ≡ slot_number s → slice_get (slice_set marks number true) (slot_number s) ≡ Some true
@@ -66,6 +75,23 @@ was_set marks s t number s_entry t_entry same set = elim (cases_eq (slot_number 
   | inl here ↦ inr (slot_number-injective t s t_entry s_entry (here ∙ same))
   | inr other ↦ inl (sym (slice_get-set_other marks number (slot_number t) true other) ∙ set)
 ]
+
+-- a mark that was read is set
+pub slot_set : (marks : List Bool) (s : Slot) (number : ℕ) (b : Bool) → slice_get marks number ≡ Some b → b ≡ true → number ≡ slot_number s
+    → slice_get marks (slot_number s) ≡ Some true
+slot_set marks s number b read set same = subst (λ k. slice_get marks k ≡ Some true) same (read ∙ ap (λ (m : Bool). Some m) set)
+
+-- what waits after a slot is marked: all as before where it was marked, else the slot too
+pub queue-marked : (work : WorkValue) (s : Slot) → IsMarked work s
+    → work.queue ≡ (if slice_index_or work.marks (slot_number s) false then work.queue else work.queue ++ s ∷ [])
+queue-marked work s marked =
+    ap (λ (b : Bool). if b then work.queue else work.queue ++ s ∷ []) (sym (get_or_from_slice_get work.marks (slot_number s) true false marked))
+
+pub queue-unmarked : (marks : List Bool) (queue : List Slot) (s : Slot) (number : ℕ) (b : Bool) → number ≡ slot_number s → b ≡ false
+    → b ≡ get_or marks number b → queue ++ s ∷ [] ≡ (if slice_index_or marks (slot_number s) false then queue else queue ++ s ∷ [])
+queue-unmarked marks queue s number b same unset read =
+    let here : false ≡ get_or marks number false = subst (λ (m : Bool). m ≡ get_or marks number m) unset read in
+    ap (λ (m : Bool). if m then queue else queue ++ s ∷ []) (here ∙ ap (λ k. get_or marks k false) same)
 
 -- and after one is taken away
 pub is_unset : (marks : List Bool) (s : Slot) (number : ℕ) → length marks ≡ 2 * side_size → IsEntry s.1

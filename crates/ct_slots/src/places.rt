@@ -62,11 +62,7 @@ pub fn side_of_support(support: &Support) -> Side
 fn no_places(alloc: Global, count: usize) -> Result<Vec<Option<u32>>, AllocError>
     ensures { IfOk result (λ last. last.items ≡ replicate count None) }
 {
-    let mut last = Vec::with_capacity(alloc, count)?;
-    for _ in 0..count {
-        last.push(None)?;
-    }
-    Ok(last)
+    vec![in alloc; None; count]
 }
 
 /// Puts a place, which is above all others of its entry, at the end of the chain of the entry, and gives the one before it.

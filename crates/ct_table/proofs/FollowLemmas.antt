@@ -1,11 +1,11 @@
 -- A table to which a support is added.
-use Rattle.std.proofs.Common.{◌≡◌, ℕ, List, [], ◌∷◌, length, take, Option, Some, slice_get, refl, sym, ap, subst, ◌∙◌}
+use Rattle.std.proofs.Common.{◌≡◌, ℕ, ◌+◌, ◌≤◌, List, [], ◌∷◌, length, take, Option, Some, slice_get, refl, sym, ap, subst, ◌∙◌, arith, length-append}
 use Rattle.std.proofs.lemmas.List.{take_at}
 use Rattle.ct_codes.specs.declared.entry.Entry.{Entry}
 use Rattle.ct_rule_parts.specs.declared.support.Support.{Support}
 use Rattle.ct_rules.specs.Closed.{IsClosed}
 use Rattle.ct_table.specs.Closing.{ClosingValue, CanClose, IsClosing, HasMoreLines}
-use Rattle.ct_kept.specs.Kept.{KeptValue, IsKept, Grew}
+use Rattle.ct_kept.specs.Kept.{KeptValue, SavedValue, IsKept, Grew}
 use Rattle.ct_slots.specs.Number.{bound_of}
 use Rattle.ct_slots.specs.Places.{entry_of_support, side_of_support}
 use Rattle.ct_slots.specs.Worklist.{IsIdle}
@@ -32,6 +32,21 @@ CanClose-marked supports place closing marked can same given = record {
       (pending_over_more can.olds (can.new_one ∷ []) closing.kept.bounds marked.work can.closed
       (given_marked (can.new_one ∷ []) marked.work
       (All-cons (IsMarkedIfGiven marked.work) can.new_one [] given (All-nil (IsMarkedIfGiven marked.work))))));
+}
+
+-- what is kept and marked is all that it takes to follow the new support
+pub CanFollow-same : (supports : List Support) (place : ℕ) (closing new : ClosingValue) → CanFollow supports place closing → new.kept ≡ closing.kept
+    → new.work ≡ closing.work → CanFollow supports place new
+CanFollow-same supports place closing new can kept work = record {
+  olds = can.olds;
+  new_one = can.new_one;
+  are = can.are;
+  end = can.end;
+  stand = can.stand;
+  few = can.few;
+  kept = subst (IsKept supports) (sym kept) can.kept;
+  closed = subst (λ (k : KeptValue). IsClosed can.olds (bound_of k.bounds)) (sym kept) can.closed;
+  idle = subst IsIdle (sym work) can.idle;
 }
 
 -- where it betters nothing, all is as it was
@@ -67,3 +82,25 @@ restored-same old now more =
     let lines : take (length old.lines) now.lines ≡ old.lines =
     ap (take (length old.lines)) more.1.1 ∙ take_at old.lines more.1.0 (length old.lines) refl in
     λ i. record { bounds = old.bounds; reasons = old.reasons; lines = lines i; base = more.0 i }
+
+-- it can be set back to what was saved, where lines were put at its end
+pub restorable : (old now : KeptValue) (saved : SavedValue)
+    → saved ≡ record { bounds = old.bounds; reasons = old.reasons; count = length old.lines } → HasMoreLines old now → old.base ≤ length old.lines
+    → (saved.count ≤ length now.lines) × (now.base ≤ saved.count)
+restorable old now saved is more base =
+    let count = ap (λ (s : SavedValue). s.count) is in
+    let same = more.0 in
+    let longer : length now.lines ≡ length old.lines + length more.1.0 = ap length more.1.1 ∙ length-append old.lines more.1.0 in
+    (omega arith, omega arith)
+
+-- a table that was closed from what another kept
+pub IsClosing-from : (supports : List Support) (first old new last : ClosingValue) → first.kept ≡ old.kept → last ≡ new
+    → IsClosing supports first new → IsClosing supports old last
+IsClosing-from supports first old new last same is closing =
+    subst (λ (k : ClosingValue). IsClosing supports old k) (sym is) (record {
+      kept = closing.kept;
+      base = closing.base ∙ ap (λ (k : KeptValue). k.base) same;
+      grew = subst (λ (k : KeptValue). Grew k new.kept) same closing.grew;
+      idle = closing.idle;
+      closed = closing.closed;
+    })

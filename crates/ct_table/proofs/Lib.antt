@@ -17,3 +17,4 @@ pub mod LineByLemmas
 pub mod GroundWithin
 pub mod SlackLemmas
 pub mod TurnLemmas
+pub mod Failures

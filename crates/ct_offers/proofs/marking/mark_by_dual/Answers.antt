@@ -1,6 +1,7 @@
 use Rattle.std.proofs.Common.{ap, sym, subst, ◌∙◌}
 use Rattle.std.specs.Prelude.{option_map}
 use Rattle.std.proofs.lemmas.Bool.{false≢true}
+use Rattle.std.proofs.lemmas.Result.{on_ok_weaker}
 use Rattle.ct_rules.specs.declared.rule.Rule.{Rule}
 use Rattle.ct_offers.specs.Inside.Marking.{IsTestedAt}
 use Rattle.ct_offers.proofs.DualLemmas.{rests_on_none, rests_on_dual}
@@ -18,6 +19,10 @@ returns-then-not-rests_on-clause-tested c rests =
     absurd (false≢true (sym c.if-not-rests_on.true ∙ c.rests_on.ensures.1 there))
 
 pub returns-clause-tested : goal.returns-clause-tested
-returns-clause-tested c rests =
-    subst (λ (r : Rule). IsTestedAt c.args.supports.now c.args.bounds.now c.test.new.work r c.args.entry) c.given_rule-rule.ensures.rule
-    c.in_ok-test.ensures.tested
+returns-clause-tested c =
+    let supports = c.args.supports.now in
+    let bounds = c.args.bounds.now in
+    on_ok_weaker c.test.result
+    (λ (tested : IsTestedAt supports bounds c.test.new.work c.given_rule-rule.result c.args.entry) rests.
+    subst (λ (r : Rule). IsTestedAt supports bounds c.test.new.work r c.args.entry) c.given_rule-rule.ensures.rule tested)
+    c.test.ensures.tested
