@@ -7,3 +7,5 @@ pub mod NumberedLines
 pub mod CheckedLines
 pub mod ExplanationLaws
 pub mod NeededExist
+mod PlacesBelow
+mod ListedItems

@@ -1,5 +1,5 @@
 -- Lines that are named by numbers, and what it means that a line has no fault.
-use Rattle.std.proofs.Common.{◌≡◌, ℕ, zero, suc, ◌+◌, ◌-◌, ◌<◌, ◌≤◌, Bool, true, false, List, [], ◌∷◌, ◌++◌, length, get_or, drop, map, All, Option, Some, None, option_map, refl, sym, ap, ap₂, subst, ◌∙◌, append_assoc, arith}
+use Rattle.std.proofs.Common.{◌≡◌, ℕ, zero, suc, ◌+◌, ◌-◌, ◌<◌, ◌≤◌, Bool, true, false, List, [], ◌∷◌, ◌++◌, length, get_or, drop, map, All, Option, Some, None, option_map, refl, sym, ap, ap₂, subst, ◌∙◌, append_assoc, append-nil, arith}
 use Rattle.std.specs.Prelude.{◌&&◌, nat_lt, slice_get, if◌then◌else◌}
 use Rattle.std.specs.List.{cons_option}
 use Rattle.std.proofs.lemmas.Bool.Decides.{nat_tests}
@@ -58,6 +58,40 @@ values-too_few side lines (e ∷ es) (n ∷ ns) few =
     none_after : (v : Option ℕ) → and_values v None ≡ None
     none_after None = refl
     none_after (Some v) = refl
+
+-- all values, from those so far and those that are left: at the start, one value more, where there is none, and at the end
+pub values-begin : (whole : Option (List ℕ)) (none : List ℕ) → none ≡ [] → whole ≡ option_map (λ more. none ++ more) whole
+values-begin None none is = refl
+values-begin (Some vs) none is = ap (λ l. Some (l ++ vs)) (sym is)
+
+module _ (side : Side) (lines : List LineValue) (es : List Entry) (ns : List ℕ) (j : ℕ) (whole : Option (List ℕ)) (so_far : List ℕ)
+    (left : whole ≡ option_map (λ more. so_far ++ more) (values_numbered side lines (drop j es) (drop j ns))) where
+  pub values-more : (e : Entry) (v : ℕ) (next : List ℕ) → slice_get es j ≡ Some e → j < length ns
+      → value_for side e (claim_numbered lines (get_or ns j 0)) ≡ Some v → next ≡ so_far ++ v ∷ []
+      → whole ≡ option_map (λ more. next ++ more) (values_numbered side lines (drop (j + 1) es) (drop (j + 1) ns))
+  values-more e v next at within value next-is =
+      let rest = values_numbered side lines (drop (j + 1) es) (drop (j + 1) ns) in
+      left
+      ∙ ap (option_map (λ (more : List ℕ). so_far ++ more))
+      (values-next side lines es ns j e at within ∙ ap (λ (o : Option ℕ). and_values o rest) value)
+      ∙ values-push so_far v rest
+      ∙ ap (λ (l : List ℕ). option_map (λ (more : List ℕ). l ++ more) rest) (sym next-is)
+
+  pub values-no_value : (e : Entry) → slice_get es j ≡ Some e → j < length ns → value_for side e (claim_numbered lines (get_or ns j 0)) ≡ None
+      → None ≡ whole
+  values-no_value e at within none =
+      let rest = values_numbered side lines (drop (j + 1) es) (drop (j + 1) ns) in
+      sym (left
+      ∙ ap (option_map (λ (more : List ℕ). so_far ++ more))
+      (values-next side lines es ns j e at within ∙ ap (λ (o : Option ℕ). and_values o rest) none))
+
+  pub values-end : length ns ≤ j → length es ≤ length ns → Some so_far ≡ whole
+  values-end ends long =
+      sym (left
+      ∙ ap (option_map (λ (more : List ℕ). so_far ++ more))
+      (at_drop_all (λ (fs : List Entry). values_numbered side lines fs (drop j ns)) es j (omega arith)
+      ∙ at_drop_all (values_numbered side lines []) ns j ends)
+      ∙ ap Some (append-nil so_far))
 
 -- equal lists have equal first items, and the rest
 cons_parts : {X : Type 0} (x y : X) (xs ys : List X) → x ∷ xs ≡ y ∷ ys → (x ≡ y) × (xs ≡ ys)
