@@ -154,16 +154,16 @@ AreStanding-none = record {
 pub AreStanding-true : (pieces : List PieceValue) → AreStanding pieces → All HasTrueSize pieces
 AreStanding-true pieces h = AreMade-true [] pieces (All-nil HasSoundCode) h.made
 
--- where an id is free and there is room, a submission whose document makes a piece goes by the words that are stored
-pub submitted-beside : (pieces : List PieceValue) (id document : List ℕ) (p : PieceValue) → has_id id pieces ≡ false → length pieces < MAX_PIECES → piece_from (codes_of pieces) id document (document_read_of document) ≡ Ok p
-    → submitted pieces id document ≡ if_stored (stored_words pieces + stored_by p) p
+-- where an id is free and there is room, a submission is what its document makes, where that may be stored
+pub submitted-beside : (pieces : List PieceValue) (id document : List ℕ) (made : Result PieceValue SubmitFault) → has_id id pieces ≡ false → length pieces < MAX_PIECES
+    → piece_from (codes_of pieces) id document (document_read_of document) ≡ made → submitted pieces id document ≡ stored_beside (stored_words pieces) made
 unfolding submitted
-submitted-beside pieces id document p free room made =
+submitted-beside pieces id document made free room is =
     let stored = stored_words pieces in
     let below : nat_le MAX_PIECES (length pieces) ≡ false = lt-leb MAX_PIECES (length pieces) room in
     ap (λ (taken : Bool). unless_full taken (length pieces) (stored_beside stored (piece_from (codes_of pieces) id document (document_read_of document)))) free
     ∙ ap (λ (full : Bool). cond full (Err (fault.FullPieces (length pieces))) (stored_beside stored (piece_from (codes_of pieces) id document (document_read_of document)))) below
-    ∙ ap (stored_beside stored) made
+    ∙ ap (stored_beside stored) is
 
 -- one more piece stands with the others, which its document makes under an id that is not taken
 pub AreStanding-made : (pieces : List PieceValue) (id document : List ℕ) (p : PieceValue) → AreStanding pieces → IsTrue (is_id id) → piece_from (codes_of pieces) id document (document_read_of document) ≡ Ok p → has_id id pieces ≡ false → length pieces < MAX_PIECES
@@ -207,7 +207,7 @@ submitted-ok pieces id document p h =
 -- and it makes it again over any pieces that are asked the same
 pub submitted-from : (pieces : List PieceValue) (id document : List ℕ) (p : PieceValue) → WasMade pieces id document p → submitted pieces id document ≡ Ok p
 submitted-from pieces id document p h =
-    submitted-beside pieces id document p h.free h.room h.made
+    submitted-beside pieces id document (Ok p) h.free h.room h.made
     ∙ ap (λ (fits : Bool). cond fits (Ok p) (Err (fault.FullWords (stored_words pieces + stored_by p)))) (le-leb (stored_words pieces + stored_by p) MAX_STORED h.small)
 
 -- the pieces after a submission stand, where those before it do

@@ -1,10 +1,11 @@
 //! The check of evidence that is handed in.
 
-ghost use Rattle.std.specs.Prelude.{◌≡◌, ◌≢◌, ◌≤◌, All, IsTrue, Ok, Err, IfOk, IfErr, [], length};
+ghost use Rattle.std.specs.Prelude.{◌≡◌, ◌≢◌, ◌≤◌, ℕ, List, All, IsTrue, Ok, Err, IfOk, IfErr, [], length};
 ghost use Rattle.ct_text.specs.Cite.{is_cite};
 ghost use Rattle.ct_fields.specs.declared.cites.TheConstants.{MAX_CITES};
 ghost use Rattle.ct_files.specs.Document.{document_read_of, value_of};
 ghost use Rattle.ct_files.specs.Evidence.{IsSound};
+ghost use Rattle.ct_kind.specs.Named.{NamedCode};
 ghost use Rattle.ct_pieces.specs.Codes.{codes_of};
 ghost use Rattle.ct_pieces.specs.Standing.{AreMade};
 ghost use Rattle.ct_pieces.specs.Submission.{made_of, piece_from};
@@ -64,26 +65,14 @@ pub(crate) fn make_piece(
     })
 }
 
-/// The piece that the document makes under the id over the pieces, or why it makes none. Whether its id is taken is not
-/// looked at. The codes of pieces that it needs are made and kept, each at the place of its piece.
-pub(crate) fn check_document(
-    alloc: Global,
-    pieces: &[Piece],
-    kept: &mut Vec<Option<Code>>,
-    id: Id,
-    document: Text,
-) -> Result<Made, SubmitFault>
-    requires standing { AreMade [] pieces.now }
-    requires kept { AreKept kept.old.items (kept_codes pieces.now) }
-    ensures codes { AreKept kept.new.items (kept_codes pieces.now) }
-    ensures made { IfOk result (λ made. piece_from (codes_of pieces.now) id document (document_read_of document) ≡ Ok made.piece) }
-    ensures kept { IfOk result (λ made. IsKept made.kept (kept_over (codes_of pieces.now) made.piece.evidence)) }
-    ensures support { IfOk result (λ made. made.support ≡ support_of made.piece) }
-    ensures fault { IfErr result (λ fault. fault ≢ SubmitFault.Memory
-        → piece_from (codes_of pieces.now) id document (document_read_of document) ≡ Err fault) }
+/// What a document states, or why it makes no piece.
+pub(crate) fn read(alloc: Global, document: &Text) -> Result<Document, SubmitFault>
+    ensures stated { IfOk result (λ stated. document_read_of document.now ≡ Ok (value_of stated)) }
+    ensures fault { IfErr result (λ fault. fault ≢ SubmitFault.Memory → (known : List NamedCode) (id : List ℕ)
+        → piece_from known id document.now (document_read_of document.now) ≡ Err fault) }
 {
     match read_document(alloc, document.bytes()) {
-        Ok(stated) => make_piece(alloc, pieces, kept, id, document, stated),
+        Ok(stated) => Ok(stated),
         Err(DocumentFault::Memory) => Err(SubmitFault::Memory),
         Err(fault) => Err(SubmitFault::File(fault)),
     }

@@ -3,7 +3,7 @@
 ghost use Rattle.std.specs.Prelude.{◌≡◌, ◌≢◌, ◌≤◌, ◌<◌, ◌+◌, ◌^◌, ◌∷◌, ◌++◌, List, Result, Ok, Err, Some, None, false, IfOk, IfErr, IfSome, IsSome, IsTrue, OnOk, OnErr, [], All, find, is_some, length, not, option_map, remove, ℕ, true, filter, vec_len, vec_capacity};
 ghost use Rattle.ct_codes.specs.Code.{IsSoundCode};
 ghost use Rattle.ct_text.specs.Id.{is_id};
-ghost use Rattle.ct_files.specs.Document.{document_read_of, without_cites};
+ghost use Rattle.ct_files.specs.Document.{document_read_of, value_of, without_cites};
 ghost use Rattle.ct_pieces.specs.Piece.{PieceValue, has_id, stored_by, stored_words, first_user};
 ghost use Rattle.ct_pieces.specs.Codes.{code_of_place, codes_of};
 ghost use Rattle.ct_pieces.specs.Submission.{submitted, if_stored, unless_full};
@@ -18,7 +18,7 @@ ghost use Rattle.ct_pieces.specs.Piece.{place_of};
 
 use crate::along::{leave_out, marks_along, stored_words};
 use crate::builds::keep_code;
-use crate::check::{Made, check_document, make_piece};
+use crate::check::{Made, make_piece, read};
 use crate::dump::put_dump;
 use crate::fault::WithdrawFault;
 use crate::kept::{code_at_place, place_of};
@@ -225,9 +225,8 @@ impl Pieces {
         ensures unchanged { OnErr result (self.new ≡ self.old) }
     {
         room_for(&self.pieces, id)?;
-        let alloc = *self.pieces.allocator();
-        let made = check_document(alloc, &self.pieces, &mut self.kept, id, document)?;
-        self.put_made(made)
+        let stated = read(self.allocator(), &document)?;
+        self.put_read(id, document, stated)
     }
 
     /// `submit_text` of a document without cites that is handed over with the evidence that it reads as: the document is kept, and is not
@@ -247,11 +246,28 @@ impl Pieces {
         ensures unchanged { OnErr result (self.new ≡ self.old) }
     {
         room_for(&self.pieces, id)?;
-        let alloc = *self.pieces.allocator();
-        let stated = Document {
-            evidence,
-            cites: Vec::new(alloc),
-        };
+        let cites = Vec::new(self.allocator());
+        self.put_read(id, document, Document { evidence, cites })
+    }
+
+    /// Takes a document that was read, where its id is free and there is room for one more piece: as `submit_text` from there on.
+    fn put_read(
+        &mut self,
+        id: Id,
+        document: Text,
+        stated: Document,
+    ) -> Result<NewPiece, SubmitFault>
+        requires read { document_read_of document ≡ Ok (value_of stated) }
+        requires named { IsTrue (is_id id) }
+        requires free { has_id id self.old ≡ false }
+        requires room { length self.old < MAX_PIECES }
+        ensures accepted { IfOk result (λ new_piece. AddsPiece self.old self.new id document new_piece.size) }
+        ensures supports { IfOk result (λ new_piece. supports_of self.new ≡ supports_of self.old ++ new_piece.support ∷ []) }
+        ensures standing { OnOk result (AreStanding self.new) }
+        ensures fault { IfErr result (λ fault. fault ≢ SubmitFault.Memory → submitted self.old id document ≡ Err fault) }
+        ensures unchanged { OnErr result (self.new ≡ self.old) }
+    {
+        let alloc = self.allocator();
         let made = make_piece(alloc, &self.pieces, &mut self.kept, id, document, stated)?;
         self.put_made(made)
     }
