@@ -2,6 +2,7 @@
 use Rattle.std.proofs.Common.{◌≡◌, ℕ, Bool, true, false, refl, ◌||◌, List, [], ◌∷◌, ◌++◌, Option, Some, None, sym, ap, subst, ◌∙◌, append-nil}
 use Rattle.std.specs.Prelude.{fold}
 use Rattle.std.specs.List.{flat_map, list_any}
+use Rattle.std.specs.Option.{option_to_list}
 use Rattle.std.proofs.Math.Bool.{or-false}
 use Rattle.std.proofs.lemmas.Grind.{flat_map-append}
 use Rattle.std.proofs.lemmas.List.Folds.{list_any-append}
@@ -10,7 +11,7 @@ use Rattle.ct_pieces.specs.Piece.{PieceValue}
 use Rattle.ct_session.specs.Reply.{IsReply, pieces_after}
 use Rattle.ct_replies.specs.Refusals.{is_refusal}
 use Rattle.ct_session.specs.Run.{AreReplies, AnswersCommands, PutsAnswers}
-use Rattle.ct_commands.specs.Command.{cut_off}
+use Rattle.ct_commands.specs.Command.{completed, completed_by, open_after, cut_off}
 use Rattle.ct_commands.specs.declared.command_reader.Pending.{Pending}
 use Rattle.ct_commands.specs.declared.command.Command.TheVariants as command
 use Rattle.ct_replies.specs.declared.reply.LongReply.{LongReply}
@@ -75,3 +76,20 @@ cut_answers pieces (Some p) c before is = (reply_text (Refused refusal.CutOff), 
 pub line_taken : (s t : State) (line before after : List ℕ) → before ≡ [] → PutsLines s t (line ∷ []) before after → TakesLines s t (line ∷ []) after
 line_taken s t line before after none puts =
     subst (TakesLines s t (line ∷ [])) (sym (puts.2 ∙ ap (λ (b : List ℕ). b ++ puts.0) none)) puts.1
+
+-- a line was taken whose command, if it completes one, is answered
+pub puts_line : (s t : State) (line before after : List ℕ) (command : Option Command) (refused : Bool) → command ≡ completed_by s.pending line → t.pending ≡ open_after s.pending line
+    → PutsAnswers s.pieces (option_to_list command) refused before after → t.pieces ≡ fold pieces_after s.pieces (option_to_list command) → t.refused ≡ (s.refused || refused)
+    → PutsLines s t (line ∷ []) before after
+puts_line s t line before after command refused completes pending puts pieces mark =
+    let alone : option_to_list command ≡ completed s.pending (line ∷ []) = ap option_to_list completes ∙ sym (append-nil (option_to_list (completed_by s.pending line))) in (
+      puts.0,
+      record {
+        refused = refused;
+        answers = subst (λ (cs : List Command). AnswersCommands s.pieces cs puts.0 refused) alone puts.1;
+        pieces = pieces ∙ ap (fold pieces_after s.pieces) alone;
+        pending = pending;
+        mark = mark;
+      },
+      puts.2,
+    )

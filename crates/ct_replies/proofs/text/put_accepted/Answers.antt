@@ -1,0 +1,19 @@
+use Rattle.ct_text.proofs.GrowingTexts.{puts-four, Grows-trans, Grows-stays}
+use Rattle.ct_replies.proofs.text.put_accepted.Goals as goal
+
+pub returns-clause-ok : goal.returns-clause-ok
+returns-clause-ok c =
+    puts-four _ _ _ _ _ _ _ _ _
+    c.in_ok-extend_from_slice.ensures.items c.in_ok-extend_from_slice-2.ensures.items c.in_ok-put_size.ensures.ok c.in_ok-push.ensures.items
+
+pub returns-clause-grown : goal.returns-clause-grown
+returns-clause-grown c = Grows-trans _ _ _ (Grows-trans _ _ _ (Grows-trans _ _ _ (_, c.in_ok-extend_from_slice.ensures.items) (_, c.in_ok-extend_from_slice-2.ensures.items)) c.in_ok-put_size.ensures.grown) (_, c.in_ok-push.ensures.items)
+
+pub returns-in_err-extend_from_slice-2-clause-grown : goal.returns-in_err-extend_from_slice-2-clause-grown
+returns-in_err-extend_from_slice-2-clause-grown c = Grows-stays _ _ _ (_, c.in_ok-extend_from_slice.ensures.items) c.in_err-extend_from_slice-2.ensures.items
+
+pub returns-in_err-put_size-clause-grown : goal.returns-in_err-put_size-clause-grown
+returns-in_err-put_size-clause-grown c = Grows-trans _ _ _ (Grows-trans _ _ _ (_, c.in_ok-extend_from_slice.ensures.items) (_, c.in_ok-extend_from_slice-2.ensures.items)) c.in_err-put_size.ensures.grown
+
+pub returns-in_err-push-clause-grown : goal.returns-in_err-push-clause-grown
+returns-in_err-push-clause-grown c = Grows-stays _ _ _ (Grows-trans _ _ _ (Grows-trans _ _ _ (_, c.in_ok-extend_from_slice.ensures.items) (_, c.in_ok-extend_from_slice-2.ensures.items)) c.in_ok-put_size.ensures.grown) c.in_err-push.ensures.items
