@@ -1,13 +1,13 @@
 //! The replies to lines.
 
-ghost use Rattle.std.specs.Prelude.{◌≡◌, ◌<◌, ◌++◌, ◌||◌, false, true, length, map, IfOk, OnOk, IfSome};
+ghost use Rattle.std.specs.Prelude.{◌≡◌, ◌++◌, ◌||◌, false, true, map, IfOk, OnOk, IfSome};
 ghost use Rattle.ct_codes.specs.Entry.{IsEntry};
-ghost use Rattle.ct_io.specs.Lines.{IsNextLine, lines_of};
+ghost use Rattle.ct_io.specs.Lines.{lines_of};
 ghost use Rattle.ct_find.specs.Reply.{AreReplies, IsReply, IsReplyToEntry, IsReplyToNumbers, IsReplyToWords};
 
 use crate::proposal::{answer_entry, owned};
 use ct_codes::Entry;
-use ct_io::LINE_FEED;
+use ct_io::next_line;
 use ct_text::{EntryNumbers, first_words, parse_entry_numbers};
 use std::alloc::{AllocError, Global};
 
@@ -79,18 +79,6 @@ fn reply_to(alloc: Global, line: &[u8]) -> Result<Replies, AllocError>
 {
     let words = first_words(alloc, line, MOST_WORDS)?;
     reply_to_words(alloc, &words)
-}
-
-/// The first line of an input that is not empty, and what follows it.
-fn next_line(input: &[u8]) -> (&[u8], &[u8])
-    requires { 0 < length input.now }
-    ensures line { IsNextLine input.now result.0.now result.1.now }
-    ensures less { length result.1.now < length input.now }
-{
-    match input.iter().position(|byte| *byte == LINE_FEED) {
-        Some(end) => (&input[..end], &input[end + 1..]),
-        None => (input, &input[input.len()..]),
-    }
 }
 
 /// Puts a reply to the end of replies.
