@@ -27,8 +27,7 @@ use Rattle.ct_verify.specs.Read.{ReadingValue}
 use Rattle.ct_verify.specs.Reading.{after_block, read_heading, read_body, read_next}
 use Rattle.ct_verify.specs.Verdict.{going_on, verdict_from}
 use Rattle.ct_verify.specs.declared.part.Part.TheVariants as part
-use Rattle.ct_verify.specs.declared.step.Step.{Step}
-use Rattle.ct_verify.specs.declared.step.Step.TheVariants.{On}
+use Rattle.ct_verify.specs.Step.{Step, On}
 use Rattle.ct_commands.proofs.SpacedWords.{AreWords, spaced_words, known_word, decimal_word, id_is_word, IsLine-words, words_again}
 use Rattle.ct_laws.proofs.LineSteps.{IsVerified, in_body, next_verified}
 

@@ -29,8 +29,7 @@ use Rattle.ct_verify.specs.declared.verdict.Verdict.TheVariants.{No}
 use Rattle.ct_verify.specs.declared.part.Block.{Block}
 use Rattle.ct_verify.specs.declared.part.Part.{Part}
 use Rattle.ct_verify.specs.declared.part.Part.TheVariants as part
-use Rattle.ct_verify.specs.declared.step.Step.{Step}
-use Rattle.ct_verify.specs.declared.step.Step.TheVariants.{On, Failed}
+use Rattle.ct_verify.specs.Step.{Step, On, Failed}
 use Rattle.ct_laws.specs.FirstFailure.{IsUnfinished, IsRefusedWith, BlockFails, BlockFailsLater, LineFails, FailsFirst, IsFirstFailure}
 
 -- the text line that a failure of this one names, by the part that it stands at: that on which the block of evidence began, or itself

@@ -24,8 +24,7 @@ use Rattle.ct_verify.specs.StatedLine.{StatedLineValue}
 use Rattle.ct_verify.specs.StatedRule.{at_place, resolved}
 use Rattle.ct_verify.specs.Verdict.{going_on, verdict_from}
 use Rattle.ct_verify.specs.declared.part.Part.TheVariants as part
-use Rattle.ct_verify.specs.declared.step.Step.{Step}
-use Rattle.ct_verify.specs.declared.step.Step.TheVariants.{On, Failed}
+use Rattle.ct_verify.specs.Step.{Step, On, Failed}
 use Rattle.ct_verify.specs.declared.verdict.Why.TheVariants as why
 use Rattle.ct_verify.specs.declared.verdict.Verdict.TheVariants.{Yes}
 use Rattle.ct_commands.proofs.SpacedWords.{spaced_words, known_word, IsLine-words, words_again}

@@ -23,7 +23,7 @@ use Rattle.ct_explain.proofs.ExplainedBounds.{lines_are_true}
 use Rattle.ct_verify.specs.Read.{unread}
 use Rattle.ct_verify.specs.Reading.{is_only, read_next}
 use Rattle.ct_verify.specs.Verdict.{verdict_of}
-use Rattle.ct_verify.specs.declared.step.Step.TheVariants.{On, Failed}
+use Rattle.ct_verify.specs.Step.{On, Failed}
 use Rattle.ct_verify.specs.declared.verdict.Why.TheVariants as why
 use Rattle.ct_verify.specs.declared.verdict.Verdict.TheVariants.{Yes}
 use Rattle.ct_commands.proofs.SpacedWords.{known_word, IsLine-words, words_again}

@@ -11,7 +11,7 @@ use Rattle.ct_verify.specs.Verdict.{AreRead}
 use Rattle.ct_verify.specs.declared.part.Block.{Block}
 use Rattle.ct_verify.specs.declared.part.Part.{Part}
 use Rattle.ct_verify.specs.declared.part.Part.TheVariants as part
-use Rattle.ct_verify.specs.declared.step.Step.TheVariants.{On, Failed}
+use Rattle.ct_verify.specs.Step.{On, Failed}
 use Rattle.ct_verify.specs.declared.verdict.Why.{Why}
 use Rattle.ct_verify.specs.declared.verdict.Why.TheVariants.{Form, Evidence}
 

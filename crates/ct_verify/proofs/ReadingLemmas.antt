@@ -39,8 +39,7 @@ use Rattle.ct_verify.specs.declared.verdict.Why.TheVariants as why
 use Rattle.ct_verify.specs.declared.part.Block.{Block}
 use Rattle.ct_verify.specs.declared.part.Part.{Part}
 use Rattle.ct_verify.specs.declared.part.Part.TheVariants as part
-use Rattle.ct_verify.specs.declared.step.Step.{Step}
-use Rattle.ct_verify.specs.declared.step.Step.TheVariants.{On, Failed}
+use Rattle.ct_verify.specs.Step.{Step, On, Failed}
 use Rattle.ct_verify.proofs.RuleSides.{HasItsSide, line_of-side, resolved-side}
 
 -- what holds of the lines where a reading is: none before the body and in a block of evidence, which is of an id; some after `done`

@@ -16,8 +16,7 @@ use Rattle.ct_verify.specs.declared.verdict.Verdict.{Verdict}
 use Rattle.ct_verify.specs.declared.verdict.Verdict.TheVariants.{Yes, No}
 use Rattle.ct_verify.specs.declared.part.Part.{Part}
 use Rattle.ct_verify.specs.declared.part.Part.TheVariants.{Start, Body, Evidence, Done}
-use Rattle.ct_verify.specs.declared.step.Step.{Step}
-use Rattle.ct_verify.specs.declared.step.Step.TheVariants.{On, Failed}
+use Rattle.ct_verify.specs.Step.{Step, On, Failed}
 use Rattle.ct_verify.proofs.ReadingLemmas.{IsAt, IsSound, IsSoundStep, read_next-sound, unread-sound}
 
 -- the verdict on the rest of the text lines, after what was read

@@ -2,7 +2,9 @@ pub mod Heading
 pub mod StatedRule
 pub mod StatedLine
 pub mod Read
+pub mod Step
 pub mod Reading
 pub mod Verdict
 pub mod Text
 pub mod Verification
+pub mod Inside

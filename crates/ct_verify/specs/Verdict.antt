@@ -12,8 +12,7 @@ use Rattle.ct_verify.specs.declared.verdict.Verdict.{Verdict}
 use Rattle.ct_verify.specs.declared.verdict.Verdict.TheVariants.{Yes, No}
 use Rattle.ct_verify.specs.declared.part.Part.{Part}
 use Rattle.ct_verify.specs.declared.part.Part.TheVariants.{Start, Body, Evidence, Done}
-use Rattle.ct_verify.specs.declared.step.Step.{Step}
-use Rattle.ct_verify.specs.declared.step.Step.TheVariants.{On, Failed}
+use Rattle.ct_verify.specs.Step.{Step, On, Failed}
 
 -- the verdict where the text lines end at this part, and the next would have this number: a block that is not whole fails on the line on which it began
 abbrev pub ended : Part → ℕ → Verdict

@@ -8,15 +8,15 @@ ghost use Rattle.ct_pieces.specs.Submission.{submitted};
 ghost use Rattle.ct_verify.specs.Heading.{heading_of};
 ghost use Rattle.ct_verify.specs.StatedLine.{StatedLineValue, line_of};
 ghost use Rattle.ct_verify.specs.Read.{unread};
-ghost use Rattle.ct_verify.specs.Read.{in_part};
+ghost use Rattle.ct_verify.specs.Inside.Steps.{step_of};
 ghost use Rattle.ct_verify.specs.Reading.{why_of, by_rule, read_line, read_heading, is_only, read_body, after_block, read_block, read_next};
 ghost use Rattle.ct_verify.specs.Verdict.{ended};
 
+use crate::failure::Failure;
 use crate::heading::{Heading, parse_heading};
 use crate::part::{Block, Part};
 use crate::reading::Reading;
 use crate::stated_line::{StatedLine, parse_line};
-use crate::step::Step;
 use crate::verdict::{Verdict, Why};
 use ct_derive::{ClassSizes, LineFault, add_line};
 use ct_pieces::{Pieces, SubmitFault};
@@ -26,13 +26,21 @@ use std::alloc::{AllocError, Global};
 use std::mem;
 
 /// The block of evidence that began on this text line fails by the fault; want of memory is no verdict.
-fn refused(begun: usize, fault: SubmitFault) -> Result<Step, AllocError>
-    ensures { IfOk result (λ step. (fault ≢ SubmitFault.Memory) × (step ≡ Step.Failed begun (Why.Evidence fault))) }
+fn refused(begun: usize, fault: SubmitFault) -> Result<Failure, AllocError>
+    ensures other { IfOk result (λ failure. fault ≢ SubmitFault.Memory) }
+    ensures failure { IfOk result (λ failure. failure ≡ record { line = begun; why = Why.Evidence fault }) }
 {
     if fault.is_memory() {
         return Err(AllocError);
     }
-    Ok(Step::Failed(begun, Why::Evidence(fault)))
+    Ok(failure(begun, Why::Evidence(fault)))
+}
+
+/// The text line with this number fails.
+fn failure(line: usize, why: Why) -> Failure
+    ensures { result ≡ record { line = line; why = why } }
+{
+    Failure { line, why }
 }
 
 /// Why a line fails that does not follow from those before it.
@@ -77,27 +85,19 @@ impl Reading {
         }
     }
 
-    /// The same pieces and lines, at this part.
-    fn in_part(mut self, part: Part) -> Reading
-        ensures { result ≡ in_part part self }
-    {
-        self.part = part;
-        self
-    }
-
     /// After a line that states this, by this rule, where it is one.
     fn read_by_rule(
-        mut self,
+        &mut self,
         alloc: Global,
         number: usize,
         line: StatedLine,
         rule: Option<Rule>,
-    ) -> Result<Step, AllocError>
+    ) -> Result<Option<Failure>, AllocError>
         requires { IfSome rule (λ r. line.claim.side ≡ rule_side r) }
-        ensures { IfOk result (λ step. step ≡ by_rule self number line rule) }
+        ensures { IfOk result (λ failure. step_of failure self.new ≡ by_rule self.old number line rule) }
     {
         let Some(rule) = rule else {
-            return Ok(Step::Failed(number, Why::Rule));
+            return Ok(Some(failure(number, Why::Rule)));
         };
         let fault = add_line(
             alloc,
@@ -108,55 +108,66 @@ impl Reading {
             rule,
             &line.from,
         )?;
-        match fault {
-            Some(fault) => Ok(Step::Failed(number, why_of(fault))),
-            None => Ok(Step::On(self.in_part(Part::Body))),
+        if let Some(fault) = fault {
+            return Ok(Some(failure(number, why_of(fault))));
         }
+        self.part = Part::Body;
+        Ok(None)
     }
 
     /// After a text line that states this line, where it states one.
     fn read_line(
-        self,
+        &mut self,
         alloc: Global,
         number: usize,
         line: Option<StatedLine>,
-    ) -> Result<Step, AllocError>
+    ) -> Result<Option<Failure>, AllocError>
         requires { IfSome line (λ l. rule_side l.rule.rule ≡ l.claim.side) }
-        ensures { IfOk result (λ step. step ≡ read_line self number line) }
+        ensures { IfOk result (λ failure. step_of failure self.new ≡ read_line self.old number line) }
     {
         let Some(line) = line else {
-            return Ok(Step::Failed(number, Why::Form));
+            return Ok(Some(failure(number, Why::Form)));
         };
         if line.number != self.lines.len() as u64 + 1 {
-            return Ok(Step::Failed(number, Why::Form));
+            return Ok(Some(failure(number, Why::Form)));
         }
         let rule = line.rule.over(&self.pieces);
         self.read_by_rule(alloc, number, line, rule)
     }
 
     /// After a text line that heads this block of evidence, where it heads one.
-    fn read_heading(self, alloc: Global, number: usize, heading: Option<Heading>) -> Step
-        ensures { result ≡ read_heading self number heading }
+    fn read_heading(
+        &mut self,
+        alloc: Global,
+        number: usize,
+        heading: Option<Heading>,
+    ) -> Option<Failure>
+        ensures { step_of result self.new ≡ read_heading self.old number heading }
     {
         match heading {
             Some(Heading { id, extent }) if self.lines.is_empty() => {
-                let document = Gathering::new(alloc, extent);
-                Step::On(self.in_part(Part::Evidence(Block {
+                self.part = Part::Evidence(Block {
                     line: number,
                     id,
-                    document,
-                })))
+                    document: Gathering::new(alloc, extent),
+                });
+                None
             }
-            _ => Step::Failed(number, Why::Form),
+            _ => Some(failure(number, Why::Form)),
         }
     }
 
     /// After the text line of these words, where blocks of evidence, lines, or the end may stand.
-    fn read_body(self, alloc: Global, number: usize, words: &[&[u8]]) -> Result<Step, AllocError>
-        ensures { IfOk result (λ step. step ≡ read_body self number (map (λ word. word.now) words.now)) }
+    fn read_body(
+        &mut self,
+        alloc: Global,
+        number: usize,
+        words: &[&[u8]],
+    ) -> Result<Option<Failure>, AllocError>
+        ensures { IfOk result (λ failure. step_of failure self.new ≡ read_body self.old number (map (λ word. word.now) words.now)) }
     {
         let [word, rest @ ..] = words else {
-            return Ok(Step::Failed(number, Why::Form));
+            return Ok(Some(failure(number, Why::Form)));
         };
         if *word == b"line".as_slice() {
             let line = parse_line(alloc, rest)?;
@@ -166,54 +177,63 @@ impl Reading {
             return Ok(self.read_heading(alloc, number, parse_heading(rest)));
         }
         if is_only(b"done", words) && !self.lines.is_empty() {
-            return Ok(Step::On(self.in_part(Part::Done)));
+            self.part = Part::Done;
+            return Ok(None);
         }
-        Ok(Step::Failed(number, Why::Form))
+        Ok(Some(failure(number, Why::Form)))
     }
 
     /// After the submission of a document under an id. The block of evidence began on this text line.
-    fn submit(mut self, begun: usize, id: Id, document: Text) -> Result<Step, AllocError>
-        ensures { IfOk result (λ step. step ≡ after_block self begun (submitted self.pieces id document)) }
+    fn submit(
+        &mut self,
+        begun: usize,
+        id: Id,
+        document: Text,
+    ) -> Result<Option<Failure>, AllocError>
+        ensures { IfOk result (λ failure. step_of failure self.new ≡ after_block self.old begun (submitted self.old.pieces id document)) }
     {
+        self.supports.reserve(1)?;
         match self.pieces.submit_text(id, document) {
-            Err(fault) => refused(begun, fault),
+            Err(fault) => Ok(Some(refused(begun, fault)?)),
             Ok(new_piece) => {
-                self.supports.push(new_piece.support)?;
-                Ok(Step::On(self.in_part(Part::Body)))
+                self.supports.push_reserved(new_piece.support);
+                self.part = Part::Body;
+                Ok(None)
             }
         }
     }
 
     /// After one more text line of a block of evidence.
-    fn read_block(self, block: Block, text: &[u8]) -> Result<Step, AllocError>
-        ensures { IfOk result (λ step. step ≡ read_block self block (gathered block.document text.now)) }
+    fn read_block(&mut self, block: Block, text: &[u8]) -> Result<Option<Failure>, AllocError>
+        ensures { IfOk result (λ failure. step_of failure self.new ≡ read_block self.old block (gathered block.document text.now)) }
     {
         let Block { line, id, document } = block;
         match document.take_line(text)? {
             Gathered::More(document) => {
-                Ok(Step::On(self.in_part(Part::Evidence(Block { line, id, document }))))
+                self.part = Part::Evidence(Block { line, id, document });
+                Ok(None)
             }
             Gathered::Whole(document) => self.submit(line, id, document),
         }
     }
 
-    /// After one more text line, the one with this number. `Err` is want of memory.
+    /// Reads one more text line, the one with this number: where it fails, that. `Err` is want of memory.
     #[tactic(auto, unfolding(crate::specs::Reading::read_next))]
     pub(crate) fn read(
-        mut self,
+        &mut self,
         alloc: Global,
         number: usize,
         text: &[u8],
-    ) -> Result<Step, AllocError>
-        ensures { IfOk result (λ step. step ≡ read_next self number text.now) }
+    ) -> Result<Option<Failure>, AllocError>
+        ensures { IfOk result (λ failure. step_of failure self.new ≡ read_next self.old number text.now) }
     {
         match mem::replace(&mut self.part, Part::Body) {
             Part::Start => {
                 let words = first_words(alloc, text, 2)?;
                 if is_only(b"derivation", &words) {
-                    Ok(Step::On(self))
+                    Ok(None)
                 } else {
-                    Ok(Step::Failed(number, Why::Form))
+                    Ok(Some(failure(number, Why::Form)))
                 }
             }
             Part::Body => {
@@ -221,7 +241,7 @@ impl Reading {
                 self.read_body(alloc, number, &words)
             }
             Part::Evidence(block) => self.read_block(block, text),
-            Part::Done => Ok(Step::Failed(number, Why::Form)),
+            Part::Done => Ok(Some(failure(number, Why::Form))),
         }
     }
 

@@ -4,7 +4,8 @@ use Rattle.ct_rules.specs.Rule.{rule_side}
 use Rattle.ct_verify.specs.Read.{ReadingValue}
 use Rattle.ct_verify.specs.StatedLine.{StatedLineValue}
 use Rattle.ct_verify.specs.StatedRule.{resolved}
-use Rattle.ct_verify.specs.declared.step.Step.{Step}
+use Rattle.ct_verify.specs.Inside.Steps.{step_of}
+use Rattle.ct_verify.specs.Step.{Step}
 use Rattle.ct_verify.proofs.RuleSides.{HasItsSide, resolved-sides}
 use Rattle.ct_verify.proofs.ReadingLemmas.{next_number}
 use Rattle.ct_verify.proofs.reading.Reading.read_line.Goals as goal
@@ -18,11 +19,11 @@ read_by_rule-requires c =
 pub returns : goal.returns
 returns c =
     let lines_are : c.len.result ≡ length c.self.inside.lines.items = search rules in
-    subst (λ (next : Step). IfOk c.read_by_rule.result (λ step. step ≡ next))
-    (next_number c.args.self c.args.number c.in-Some.line c.args.line c.over-rule.result c.in-Some.is
+    subst (λ (next : Step). IfOk c.read_by_rule.result (λ failure. step_of failure c.read_by_rule.new.self ≡ next))
+    (next_number c.args.self.now c.args.number c.in-Some.line c.args.line c.over-rule.result c.in-Some.is
     (sym (ap (λ (l : StatedLineValue). l.number) c.line.view_is) ∙ c.if-line-len.false
     ∙ ap (λ (n : ℕ). n + 1) (lines_are ∙ ap (λ (r : ReadingValue). length r.lines) c.self.view_is))
     (c.over-rule.ensures
     ∙ ap (λ (r : ReadingValue). resolved r.pieces c.line.inside.rule.rule c.line.inside.rule.id) c.self.view_is
-    ∙ ap (λ (l : StatedLineValue). resolved c.args.self.pieces l.rule.rule l.rule.id) c.line.view_is))
+    ∙ ap (λ (l : StatedLineValue). resolved c.args.self.now.pieces l.rule.rule l.rule.id) c.line.view_is))
     c.read_by_rule.ensures
