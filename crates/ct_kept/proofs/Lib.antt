@@ -1,3 +1,4 @@
+pub mod SlotLemmas
 pub mod PutLemmas
 pub mod GroundLemmas
 pub mod GroundBest

@@ -1,3 +1,4 @@
 -- Words that the contracts of inner functions alone cite.
+pub mod Marked
 pub mod Ground
 pub mod Started

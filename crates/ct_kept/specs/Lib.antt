@@ -1,2 +1,5 @@
+pub mod Number
+pub mod Worklist
+pub mod Places
 pub mod Kept
 pub mod Inside

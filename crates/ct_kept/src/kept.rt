@@ -6,7 +6,7 @@ ghost use Rattle.ct_words.specs.declared.limits.TheConstants.{MAX_N};
 ghost use Rattle.ct_codes.specs.Entry.{IsEntry, unrestricted, constant_weight};
 ghost use Rattle.ct_rule_parts.specs.declared.support.Support.{Support};
 ghost use Rattle.ct_rule_parts.specs.Slot.{slot_of};
-ghost use Rattle.ct_slots.specs.Number.{bound_of, distances, entries_to, even_distances, side_number, side_size, slot_number};
+ghost use Rattle.ct_kept.specs.Number.{bound_of, distances, entries_to, even_distances, side_number, side_size, slot_number};
 ghost use Rattle.ct_kept.specs.Kept.{with_line_put, reason_of, set_back, IsKept};
 ghost use Rattle.ct_rules.specs.Rule.{place_of};
 ghost use Rattle.ct_rules.specs.Removal.{names_one, marked, lowered_line};
@@ -15,10 +15,10 @@ ghost use Rattle.ct_kept.specs.Inside.Started.{IsStarted};
 
 use crate::ground::{ground_line, ground_line_with_weight};
 use crate::lowering::{lower_lines, names_place};
+use crate::slots::{Bounds, SLOTS, slot_number};
 use ct_codes::{Claim, Entry, Side};
 use ct_partitions::{LargestClass, largest_sum_classes};
 use ct_rules::Line;
-use ct_slots::{Bounds, SLOTS, slot_number};
 use ct_words::MAX_N;
 use std::alloc::{AllocError, Global};
 use std::marker::Model;
@@ -37,7 +37,7 @@ pub struct Kept {
 
 impl Model for Kept {
     ghost use Rattle.std.specs.Prelude.{◌≡◌, ◌*◌, ◌++◌, length};
-    ghost use Rattle.ct_slots.specs.Number.{side_size};
+    ghost use Rattle.ct_kept.specs.Number.{side_size};
     ghost use Rattle.ct_kept.specs.Kept.{KeptValue};
 
     ghost Value = { KeptValue };
@@ -57,7 +57,7 @@ pub struct Saved {
 
 impl Model for Saved {
     ghost use Rattle.std.specs.Prelude.{◌≡◌, ◌*◌, length};
-    ghost use Rattle.ct_slots.specs.Number.{side_size};
+    ghost use Rattle.ct_kept.specs.Number.{side_size};
     ghost use Rattle.ct_kept.specs.Kept.{SavedValue};
 
     ghost Value = { SavedValue };
@@ -76,7 +76,7 @@ pub struct Base {
 
 impl Model for Base {
     ghost use Rattle.std.specs.Prelude.{◌≡◌, ◌*◌, length};
-    ghost use Rattle.ct_slots.specs.Number.{side_size};
+    ghost use Rattle.ct_kept.specs.Number.{side_size};
     ghost use Rattle.ct_kept.specs.Kept.{BaseValue};
 
     ghost Value = { BaseValue };
@@ -96,7 +96,7 @@ pub struct Undo {
 
 impl Model for Undo {
     ghost use Rattle.std.specs.Prelude.{◌≡◌, ◌*◌, length};
-    ghost use Rattle.ct_slots.specs.Number.{side_size};
+    ghost use Rattle.ct_kept.specs.Number.{side_size};
     ghost use Rattle.ct_kept.specs.Kept.{UndoValue};
 
     ghost Value = { UndoValue };

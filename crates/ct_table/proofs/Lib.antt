@@ -1,3 +1,4 @@
+pub mod OfferLemmas
 pub mod TableLemmas
 mod UnnamedPlaces
 pub mod BaseLemmas

@@ -8,9 +8,9 @@ ghost use Rattle.ct_rules.specs.Derivation.{LineValue};
 ghost use Rattle.ct_rules.specs.Rule.{place_of};
 ghost use Rattle.ct_table.specs.Closing.{HasMoreLines};
 ghost use Rattle.ct_kept.specs.Kept.{KeptValue, BaseValue, set_back};
-ghost use Rattle.ct_slots.specs.Places.{AreSupportPlaces};
-ghost use Rattle.ct_slots.specs.Worklist.{IsMarked, IsIdle};
-ghost use Rattle.ct_slots.specs.Number.{bound_of};
+ghost use Rattle.ct_kept.specs.Places.{AreSupportPlaces};
+ghost use Rattle.ct_kept.specs.Worklist.{IsMarked, IsIdle};
+ghost use Rattle.ct_kept.specs.Number.{bound_of};
 ghost use Rattle.ct_rule_parts.specs.Slot.{Slot, slot_of, IsBetter};
 ghost use Rattle.ct_table.specs.Table.{IsTable};
 ghost use Rattle.ct_table.specs.Inside.Walk.{moved_place, moved_places, moved_line, with_moved, walk};
@@ -18,9 +18,8 @@ ghost use Rattle.ct_table.specs.Inside.Removing.{IsSetBack, IsMarkedIfLost, IsTa
 
 use crate::closing::{Closing, close};
 use ct_codes::Claim;
-use ct_kept::{Base, Kept};
+use ct_kept::{Base, Kept, SupportPlaces, Worklist, is_better};
 use ct_rules::{Line, Support, names_one};
-use ct_slots::{SupportPlaces, Worklist, is_better};
 use smallvec::SmallVec;
 use std::alloc::{AllocError, Global};
 

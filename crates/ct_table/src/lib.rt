@@ -5,6 +5,7 @@ mod closing;
 mod exchanging;
 mod follow;
 mod left;
+mod offers;
 mod start;
 mod table;
 

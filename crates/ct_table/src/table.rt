@@ -17,9 +17,8 @@ use crate::follow::follow;
 use crate::left::take_out;
 use crate::start::{begin, close_over};
 use ct_codes::{Entry, Side};
-use ct_kept::Base;
+use ct_kept::{Base, SupportPlaces};
 use ct_rules::{Line, Support};
-use ct_slots::SupportPlaces;
 use std::alloc::{AllocError, Global};
 use std::marker::Model;
 
@@ -34,7 +33,7 @@ pub struct Table {
 }
 
 impl Model for Table {
-    ghost use Rattle.ct_slots.specs.Places.{AreSupportPlaces};
+    ghost use Rattle.ct_kept.specs.Places.{AreSupportPlaces};
     ghost use Rattle.ct_table.specs.Table.{TableValue, IsTable, table_of};
 
     ghost Value = { TableValue };

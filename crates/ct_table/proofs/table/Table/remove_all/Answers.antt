@@ -7,10 +7,10 @@ use Rattle.ct_rules.proofs.VoidedSupports.{length-voided}
 use Rattle.ct_rules.proofs.WithoutLemmas.{length-without}
 use Rattle.std.specs.Prelude.{Option}
 use Rattle.ct_codes.specs.declared.entry.Entry.{Entry}
-use Rattle.ct_slots.specs.Places.{AreSupportPlaces, entry_of_support}
+use Rattle.ct_kept.specs.Places.{AreSupportPlaces, entry_of_support}
 use Rattle.ct_table.specs.Closing.{HasMoreLines}
 use Rattle.ct_kept.specs.Kept.{KeptValue, set_back}
-use Rattle.ct_slots.specs.Worklist.{WorkValue}
+use Rattle.ct_kept.specs.Worklist.{WorkValue}
 use Rattle.ct_table.specs.declared.table.Table.TheInside.{Inside}
 use Rattle.ct_table.specs.Inside.Exchanged.{exchanged}
 use Rattle.ct_table.specs.Inside.Removing.{IsTakenOut}

@@ -1,4 +1,0 @@
-pub mod Number
-pub mod Worklist
-pub mod Places
-pub mod Inside
