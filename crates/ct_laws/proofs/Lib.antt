@@ -42,3 +42,4 @@ pub mod ReasonLemmas
 pub mod GrowthLemmas
 pub mod GivenDuals
 pub mod KnownClaims
+mod Mathematics

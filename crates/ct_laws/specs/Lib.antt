@@ -19,3 +19,4 @@ pub mod FirstFailure
 pub mod Proposed
 pub mod RuleExamples
 pub mod DualRule
+pub mod Mathematics

@@ -1,5 +1,5 @@
-//! Laws of rules, derivations, tables, documents, pieces, ledgers, explanations, sessions, proposals and verdicts, and worked ones. Nothing rests on
-//! them; each would notice a definition that is slightly wrong.
+//! Laws of rules, derivations, tables, documents, pieces, ledgers, explanations, sessions, proposals and verdicts, and worked ones; those of the
+//! mathematics below stand apart. Nothing rests on them; each would notice a definition that is slightly wrong.
 #![tactic(auto)]
 
 mod commands;
@@ -12,6 +12,7 @@ mod explanations;
 mod grounds;
 mod laws;
 mod ledger;
+pub mod math;
 mod numbers;
 mod pieces;
 mod proposals;

@@ -1,9 +1,0 @@
-use Rattle.ct_codes.proofs.BoundLemmas.{one_is_lower}
-use Rattle.ct_codes.proofs.CheckLemmas.{code_size-le}
-use Rattle.ct_math_laws.proofs.codes.bounds_of_every_entry.Goals as goal
-
-pub returns : goal.returns
-returns c = record {
-  lower = one_is_lower;
-  upper = λ e words code. code_size-le e.n e.d e.w words code;
-}

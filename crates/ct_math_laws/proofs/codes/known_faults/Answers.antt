@@ -1,8 +1,0 @@
-use Rattle.std.proofs.Common.{refl}
-use Rattle.ct_words.specs.Word.{distance, weight}
-use Rattle.ct_codes.specs.Check.{code_fault}
-use Rattle.ct_math_laws.proofs.codes.known_faults.Goals as goal
-
-pub returns : goal.returns
-unfolding distance weight code_fault
-returns c = record { accepted = refl; close = refl; repeated = refl; empty = refl; repeated_before_close = refl; weight_first = refl }

@@ -1,5 +1,0 @@
-use Rattle.ct_math_laws.proofs.SumLemmas.{IsSum-translated, IsSum-uuv}
-use Rattle.ct_math_laws.proofs.constructions.added_words_are_sums.Goals as goal
-
-pub returns : goal.returns
-returns c = record { translate = IsSum-translated; uuv = IsSum-uuv }

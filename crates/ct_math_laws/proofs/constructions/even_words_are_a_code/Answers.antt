@@ -1,5 +1,0 @@
-use Rattle.ct_codes.proofs.Constructions.EvenLemmas.{IsCode-even_words, length-even_words, even_words-suc}
-use Rattle.ct_math_laws.proofs.constructions.even_words_are_a_code.Goals as goal
-
-pub returns : goal.returns
-returns c = record { code = IsCode-even_words; size = length-even_words; parities = even_words-suc }

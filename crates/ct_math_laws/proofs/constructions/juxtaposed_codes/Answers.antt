@@ -1,5 +1,0 @@
-use Rattle.ct_codes.proofs.Constructions.JuxtaposedCodes.{IsCode-juxtaposed, length-juxtaposed}
-use Rattle.ct_math_laws.proofs.constructions.juxtaposed_codes.Goals as goal
-
-pub returns : goal.returns
-returns c = record { code = IsCode-juxtaposed; size = length-juxtaposed }

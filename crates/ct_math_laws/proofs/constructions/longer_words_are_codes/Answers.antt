@@ -1,5 +1,0 @@
-use Rattle.ct_codes.proofs.Constructions.AppendLemmas.{IsCode-lengthened, IsCode-one_appended, IsCode-with_parity}
-use Rattle.ct_math_laws.proofs.constructions.longer_words_are_codes.Goals as goal
-
-pub returns : goal.returns
-returns c = record { lengthen = IsCode-lengthened; append_one = IsCode-one_appended; parity = IsCode-with_parity }

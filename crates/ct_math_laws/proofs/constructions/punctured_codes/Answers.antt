@@ -1,5 +1,0 @@
-use Rattle.ct_codes.proofs.Constructions.PuncturedCodes.{IsCode-punctured, length-punctured}
-use Rattle.ct_math_laws.proofs.constructions.punctured_codes.Goals as goal
-
-pub returns : goal.returns
-returns c = record { code = IsCode-punctured; size = length-punctured }

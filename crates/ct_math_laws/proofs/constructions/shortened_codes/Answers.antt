@@ -1,5 +1,0 @@
-use Rattle.ct_codes.proofs.Constructions.ShortenedCodes.{IsCode-shortened, length-shortened, halves-shortened}
-use Rattle.ct_math_laws.proofs.constructions.shortened_codes.Goals as goal
-
-pub returns : goal.returns
-returns c = record { code = IsCode-shortened; size = length-shortened; halves = halves-shortened }

@@ -1,5 +1,0 @@
-use Rattle.ct_codes.proofs.Constructions.TranslationLemmas.{IsCode-translated, IsCode-complemented, IsCode-selected}
-use Rattle.ct_math_laws.proofs.constructions.translated_words_are_codes.Goals as goal
-
-pub returns : goal.returns
-returns c = record { translate = IsCode-translated; complement = IsCode-complemented; select = IsCode-selected }

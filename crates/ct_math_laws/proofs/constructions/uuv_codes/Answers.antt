@@ -1,5 +1,0 @@
-use Rattle.ct_codes.proofs.Constructions.UuvCodes.{IsCode-uuv, length-uuv_words}
-use Rattle.ct_math_laws.proofs.constructions.uuv_codes.Goals as goal
-
-pub returns : goal.returns
-returns c = record { code = IsCode-uuv; size = length-uuv_words }

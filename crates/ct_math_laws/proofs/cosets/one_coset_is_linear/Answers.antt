@@ -1,5 +1,0 @@
-use Rattle.ct_codes.proofs.CosetLemmas.{linear-zero, linear-sum}
-use Rattle.ct_math_laws.proofs.cosets.one_coset_is_linear.Goals as goal
-
-pub returns : goal.returns
-returns c = record { zero = linear-zero; sum = linear-sum }

@@ -1,5 +1,0 @@
-use Rattle.ct_finder.proofs.Divisors.{gcd-is}
-use Rattle.ct_math_laws.proofs.finder.gcd_is_greatest.Goals as goal
-
-pub returns : goal.returns
-returns c = gcd-is

@@ -1,8 +1,0 @@
-use Rattle.ct_words.proofs.Counting.SignedBinomials.{signed_binomial}
-use Rattle.ct_words.proofs.Characters.{pair_total-characters}
-use Rattle.ct_codes.specs.Numbers.{krawtchouk}
-use Rattle.ct_math_laws.proofs.krawtchouk.krawtchouk_sums_are_sums_of_squares.Goals as goal
-
-pub returns : goal.returns
-unfolding krawtchouk signed_binomial
-returns c = pair_total-characters

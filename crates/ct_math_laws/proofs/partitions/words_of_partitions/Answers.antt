@@ -1,5 +1,0 @@
-use Rattle.ct_partitions.proofs.PartitionFaults.{needs_of_partition}
-use Rattle.ct_math_laws.proofs.partitions.words_of_partitions.Goals as goal
-
-pub returns : goal.returns
-returns c = needs_of_partition

@@ -1,5 +1,0 @@
-use Rattle.ct_partitions.proofs.SumClasses.{IsCode-sum_class}
-use Rattle.ct_math_laws.proofs.sum_classes.sum_classes_are_codes.Goals as goal
-
-pub returns : goal.returns
-returns c = IsCode-sum_class

@@ -1,5 +1,0 @@
-use Rattle.ct_words.proofs.WordLemmas.{distance-is_weight}
-use Rattle.ct_math_laws.proofs.words.distance_is_weight_of_sum.Goals as goal
-
-pub returns : goal.returns
-returns c = distance-is_weight
