@@ -1,3 +1,4 @@
 pub mod Text
 pub mod Refusals
 pub mod LongReply
+pub mod Inside

@@ -9,7 +9,7 @@ use ct_answers::{explanation, show, submit_any, table, withdraw, withdraw_all};
 use ct_commands::Command;
 use ct_io::{Failed, Sink, SinkBuffer};
 use ct_ledger::Ledger;
-use ct_replies::{AnyReply, LongReply, Refusal, Reply, ledger_text};
+use ct_replies::{AnyReply, LongReply, Refusal, Reply, ledger_text, put_long};
 use ct_session::Answers;
 use ct_text::{EntryNumbers, Text};
 use std::alloc::{AllocError, Global};
@@ -96,6 +96,6 @@ impl Answers for LedgerAnswers {
         buffer: &mut SinkBuffer,
         reply: &LongReply,
     ) -> Result<(), Failed> {
-        ct_output::put_long(sink, buffer, self.ledger.pieces(), reply)
+        put_long(sink, buffer, self.ledger.pieces(), reply)
     }
 }
