@@ -5,13 +5,17 @@ ghost use Rattle.ct_text.specs.EntryNumbers.{named_entry};
 ghost use Rattle.ct_session.specs.Reply.{IsReply, IsListReply, pieces_after};
 ghost use Rattle.ct_replies.specs.LongReply.{reply_of};
 
-use ct_answers::{explanation, show, submit_any, table, withdraw, withdraw_all};
+mod explaining;
+mod replies;
+
 use ct_commands::Command;
 use ct_io::{Failed, Sink, SinkBuffer};
 use ct_ledger::Ledger;
 use ct_replies::{AnyReply, LongReply, Refusal, Reply, ledger_text, put_long};
 use ct_session::Answers;
 use ct_text::{EntryNumbers, Text};
+pub use explaining::explain;
+pub use replies::{explanation, show, submit_any, table, withdraw, withdraw_all};
 use std::alloc::{AllocError, Global};
 use std::marker::Model;
 

@@ -7,6 +7,7 @@ mod dispatch;
 mod serving;
 mod status;
 
+pub use answering::{explain, explanation, show, submit_any, table, withdraw, withdraw_all};
 pub use ct_command_line::{Mode, after_name, first_unknown_word};
 pub use dispatch::run;
 pub use serving::serve_session;

@@ -1,4 +1,4 @@
-//! Answers to single commands over the pieces of a ledger.
+//! Replies to single commands over the pieces of a ledger.
 
 ghost use Rattle.std.specs.Prelude.{◌≡◌, ◌≢◌, Some, IfOk, OnOk, OnErr};
 ghost use Rattle.std.specs.List.{AllZip};
@@ -10,7 +10,7 @@ ghost use Rattle.ct_pieces.specs.Submission.{submitted, with_piece};
 ghost use Rattle.ct_pieces.specs.Withdrawal.{withdrawn, withdrawn_all, left_by};
 ghost use Rattle.ct_session.specs.Reply.{IsReply, AreBoundsOf, IsShowReply, IsTableReply, IsExplainReply, pieces_after, submission_reply, withdrawal_reply, withdrawal_all_reply};
 
-use crate::explaining;
+use crate::answering::explaining;
 use ct_codes::{Entry, Side};
 use ct_ledger::{Ledger, SubmitFault, WithdrawFault};
 use ct_replies::{Bounds, Refusal, Reply};
