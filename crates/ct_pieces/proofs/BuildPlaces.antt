@@ -1,17 +1,16 @@
 -- Builds over pieces that stand: what is known of them at their places, and what their steps make there.
-use Rattle.std.proofs.Common.{◌≡◌, ℕ, ◌<◌, true, false, List, ◌∷◌, length, take, get_or, take_all, Option, Some, None, is_some, option_map, refl, sym, ap, ap₂, subst, ◌∙◌}
+use Rattle.std.proofs.Common.{◌≡◌, ℕ, ◌<◌, true, false, List, ◌∷◌, length, take, get_or, Option, Some, None, is_some, option_map, refl, sym, ap, ap₂, subst, ◌∙◌}
 use Rattle.std.specs.Prelude.{IfSome}
 use Rattle.std.specs.Option.{option_to_list}
 use Rattle.std.proofs.lemmas.List.Sorted.{length_permutation}
 use Rattle.ct_codes.specs.declared.entry.Entry.{Entry}
 use Rattle.ct_codes.specs.Code.{CodeValue}
 use Rattle.ct_build.specs.declared.step.Step.{Step}
-use Rattle.ct_build.specs.Build.{FitsStated, built}
+use Rattle.ct_build.specs.Build.{FitsStated}
 use Rattle.ct_build_files.specs.BuildKind.{step_reason, built_over}
 use Rattle.ct_build_files.proofs.BuildKind.{step_reason-none}
 use Rattle.ct_build_files.proofs.BuildChecks.{late-reason}
 use Rattle.ct_kind.specs.Ascending.{code_at, ascending}
-use Rattle.ct_kind.specs.declared.evidence.Evidence.{Evidence}
 use Rattle.ct_kind.specs.declared.evidence.Evidence.TheVariants.{Build}
 use Rattle.ct_kind.specs.Named.{NamedCode, first_missing, code_named, other_named}
 use Rattle.ct_kind.proofs.AscendingLemmas.{ascending-moved}
@@ -64,13 +63,13 @@ other-within None ps k = tt
 other-within (Some id) ps k = part-within id ps k
 
 -- what the step makes of the codes that are found for its parts, and what is against it
-pub found-code : (ps : List PieceValue) (k : ℕ) (e : Entry) (step : Step) (part : List ℕ) (other : Option (List ℕ)) (first : CodeValue) (beside : Option CodeValue)
-    → Some first ≡ code_found ps (place_of part (take k ps)) → beside ≡ code_found ps (other_place other (take k ps))
-    → (code_over (codes_of (take k ps)) (Build e step part other) ≡ Some (code_at e (built step e first beside)))
-    × (own_reason (codes_of (take k ps)) (Build e step part other) ≡ step_reason e step part other (Some first) beside)
+pub found-code : (ps : List PieceValue) (k : ℕ) (e : Entry) (step : Step) (part : List ℕ) (other : Option (List ℕ)) (first beside : Option CodeValue)
+    → first ≡ code_found ps (place_of part (take k ps)) → beside ≡ code_found ps (other_place other (take k ps))
+    → (code_over (codes_of (take k ps)) (Build e step part other) ≡ option_map (code_at e) (built_over e step first beside))
+    × (own_reason (codes_of (take k ps)) (Build e step part other) ≡ step_reason e step part other first beside)
 found-code ps k e step part other first beside one two =
     let known = codes_of (take k ps) in
-    let same : code_named part known ≡ Some first = found-named part ps k ∙ sym one in
+    let same : code_named part known ≡ first = found-named part ps k ∙ sym one in
     let also : other_named other known ≡ beside = found-other other ps k ∙ sym two in (
       ap₂ (λ (f o : Option CodeValue). option_map (code_at e) (built_over e step f o)) same also,
       ap₂ (step_reason e step part other) same also,

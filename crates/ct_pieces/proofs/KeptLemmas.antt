@@ -1,6 +1,6 @@
 -- The codes that are kept beside pieces, once they are made, and those that are made anew.
 use Rattle.std.proofs.Common.{◌≡◌, ℕ, zero, suc, ◌<◌, Bool, true, false, cond, List, [], ◌∷◌, ◌++◌, length, take, get_or, set, Option, Some, None, is_some, refl, sym, ap, subst, ◌∙◌, arith, append_assoc, append-nil}
-use Rattle.std.specs.Prelude.{remove, IfSome}
+use Rattle.std.specs.Prelude.{remove}
 use Rattle.std.proofs.lemmas.List.Elements.{length_all_zip, AllZip-push}
 use Rattle.std.specs.Option.{option_or}
 use Rattle.ct_codes.specs.Code.{CodeValue}
@@ -165,3 +165,8 @@ kept-some kept codes i h some = at (code_there kept i) refl some where
 -- nothing is kept beside evidence whose words are not stored
 pub kept_over-none : (known : List NamedCode) (evidence : Evidence) → is_kept evidence ≡ false → kept_over known evidence ≡ None
 kept_over-none known evidence none = ap (λ (b : Bool). cond b (code_over known evidence) None) none
+
+-- there is no code where there is none
+pub none-some : (code : Option CodeValue) → code ≡ None → is_some code ≡ true → ⊥
+none-some None none some = absurd cc
+none-some (Some code) none some = absurd cc

@@ -1,8 +1,10 @@
 //! The codes of builds, each of which is made when it is first needed.
 
-ghost use Rattle.std.specs.Prelude.{◌≡◌, ◌≢◌, ◌<◌, ◌≤◌, Some, None, IfOk, IfErr, IfSome, IfNone, OnOk, [], false, true, length, take};
+ghost use Rattle.std.specs.Prelude.{◌≡◌, ◌≢◌, ◌<◌, ◌≤◌, Some, None, IfOk, IfErr, IfSome, IfNone, OnOk, [], false, true, length, option_map, take};
 ghost use Rattle.std.specs.Option.{is_some};
 ghost use Rattle.ct_build.specs.Build.{FitsStated};
+ghost use Rattle.ct_build_files.specs.BuildKind.{built_over, step_reason};
+ghost use Rattle.ct_kind.specs.Ascending.{code_at};
 ghost use Rattle.ct_kind.specs.declared.evidence.Evidence.TheVariants.{Build};
 ghost use Rattle.ct_kind.specs.Named.{code_named};
 ghost use Rattle.ct_pieces.specs.Codes.{code_over, codes_of};
@@ -67,6 +69,56 @@ fn code_found<'a>(
         Some(place) => find_code(alloc, pieces, kept, place),
         None => Ok(Found::none()),
     }
+}
+
+/// The code that the build makes of those that were found for its parts, the first of which has one, or why it makes none.
+fn code_of_found(
+    alloc: Global,
+    build: &StatedBuild<'_>,
+    part: &Found<'_>,
+    other: &Found<'_>,
+) -> Result<Code, SubmitFault>
+    requires fits { FitsStated build.now.step.now build.now.entry }
+    requires coded { is_some part.now ≡ true }
+    ensures code { IfOk result (λ code. option_map (code_at build.now.entry) (built_over build.now.entry build.now.step.now part.now other.now) ≡ Some code) }
+    ensures accepted { OnOk result (step_reason build.now.entry build.now.step.now build.now.part build.now.other part.now other.now ≡ None) }
+    ensures fault { IfErr result (λ fault. fault ≢ SubmitFault.Memory →
+        step_reason build.now.entry build.now.step.now build.now.part build.now.other part.now other.now ≡ Some fault) }
+{
+    let Some(code) = part.code() else {
+        unreachable!()
+    };
+    build_kind::code(alloc, build, code, other.code())
+}
+
+/// The code that the build makes of those of the pieces at the places of its parts, or why it makes none. They are kept, where they are
+/// to be.
+fn code_of_parts(
+    alloc: Global,
+    pieces: &[Piece],
+    kept: &[Option<Code>],
+    part: Option<usize>,
+    other: Option<usize>,
+    build: &StatedBuild<'_>,
+) -> Result<Code, SubmitFault>
+    requires made { AreMade [] pieces.now }
+    requires part { IfSome part (λ place. place < length pieces.now) }
+    requires other { IfSome other (λ place. place < length pieces.now) }
+    requires long { length kept.now ≡ length pieces.now }
+    requires part_kept { IfSome part (λ place. code_there kept.now place ≡ code_there (kept_codes pieces.now) place) }
+    requires other_kept { IfSome other (λ place. code_there kept.now place ≡ code_there (kept_codes pieces.now) place) }
+    requires fits { FitsStated build.now.step.now build.now.entry }
+    requires coded { is_some (code_found pieces.now part) ≡ true }
+    ensures code { IfOk result (λ code. option_map (code_at build.now.entry)
+        (built_over build.now.entry build.now.step.now (code_found pieces.now part) (code_found pieces.now other)) ≡ Some code) }
+    ensures accepted { OnOk result (step_reason build.now.entry build.now.step.now build.now.part build.now.other
+        (code_found pieces.now part) (code_found pieces.now other) ≡ None) }
+    ensures fault { IfErr result (λ fault. fault ≢ SubmitFault.Memory → step_reason build.now.entry build.now.step.now build.now.part build.now.other
+        (code_found pieces.now part) (code_found pieces.now other) ≡ Some fault) }
+{
+    let part_code = code_found(alloc, pieces, kept, part)?;
+    let other_code = code_found(alloc, pieces, kept, other)?;
+    code_of_found(alloc, build, &part_code, &other_code)
 }
 
 /// Sees to it that the code of the piece at the place is kept, where its kind's is: makes it of those of its parts, for which it sees
@@ -148,10 +200,5 @@ pub(crate) fn make_code(
     let other = other_place(before, build.other);
     keep_found(alloc, pieces, kept, part)?;
     keep_found(alloc, pieces, kept, other)?;
-    let part_code = code_found(alloc, pieces, kept, part)?;
-    let other_code = code_found(alloc, pieces, kept, other)?;
-    let Some(code) = part_code.code() else {
-        unreachable!()
-    };
-    build_kind::code(alloc, build, code, other_code.code())
+    code_of_parts(alloc, pieces, kept, part, other, build)
 }

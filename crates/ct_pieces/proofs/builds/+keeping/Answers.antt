@@ -1,17 +1,15 @@
-use Rattle.std.proofs.Common.{◌≡◌, ◌≢◌, ◌<◌, ℕ, List, length, Option, Some, None, is_some, true, false, IfErr, OnOk, sym, ap, subst, ◌∙◌, arith, rules}
+use Rattle.std.proofs.Common.{◌≡◌, ◌≢◌, ◌<◌, ℕ, List, length, Option, Some, None, is_some, false, IfOk, IfErr, OnOk, sym, ap, subst, ◌∙◌, arith, rules}
 use Rattle.std.specs.Prelude.{IfSome, vec_len}
-use Rattle.std.specs.Option.{option_copied}
 use Rattle.std.proofs.lemmas.List.{get_or_default, get_or-set_same}
-use Rattle.std.proofs.lemmas.Result.{IfOk-weaker}
 use Rattle.ct_codes.specs.Code.{CodeValue}
 use Rattle.ct_kind.specs.declared.evidence.Evidence.{Evidence}
 use Rattle.ct_kind.specs.declared.fault.SubmitFault.{SubmitFault}
 use Rattle.ct_kind.specs.declared.fault.SubmitFault.TheVariants as fault
-use Rattle.ct_pieces.specs.Piece.{PieceValue, place_of}
+use Rattle.ct_pieces.specs.Piece.{place_of}
 use Rattle.ct_pieces.specs.Inside.Kept.{is_kept, kept_codes, code_there, code_found, other_place}
 use Rattle.ct_pieces.proofs.KeptLemmas.{kept-all, kept-some, kept-set, kept-grows, kept-trans}
 use Rattle.ct_pieces.proofs.PartLemmas.{placed, none-from}
-use Rattle.ct_pieces.proofs.BuildPlaces.{kept-within, kept-long, build-placed, build-there, none-there, found-code, found-coded, stays-found}
+use Rattle.ct_pieces.proofs.BuildPlaces.{kept-within, kept-long, build-placed, build-there, none-there, part-within, other-within, found-code, found-coded, stays-found}
 use Rattle.ct_pieces.proofs.builds.+keeping.Goals as goal
 
 pub keep_code-index-requires : goal.keep_code-index-requires
@@ -92,38 +90,42 @@ pub make_code-returns-in_err-keep_found-2-clause-stay : goal.make_code-returns-i
 make_code-returns-in_err-keep_found-2-clause-stay t c =
     kept-trans c.args.kept.now.items c.keep_found.new.kept.items c.keep_found-2.new.kept.items c.keep_found.ensures.stay c.keep_found-2.ensures.stay
 
-pub make_code-code_found-requires-clause-long : goal.make_code-code_found-requires-clause-long
-make_code-code_found-requires-clause-long t c =
+pub make_code-code_of_parts-requires-clause-part : goal.make_code-code_of_parts-requires-clause-part
+make_code-code_of_parts-requires-clause-part t c =
+    let ps = c.args.pieces.now in
+    let id = c.args.build.now.part in
+    subst (λ (found : Option ℕ). IfSome found (λ (i : ℕ). i < length ps)) (sym (c.place_of-part.ensures ∙ ap (place_of id) c.pieces_before-before.ensures)) (part-within id ps c.args.place)
+
+pub make_code-code_of_parts-requires-clause-other : goal.make_code-code_of_parts-requires-clause-other
+make_code-code_of_parts-requires-clause-other t c =
+    let ps = c.args.pieces.now in
+    let id = c.args.build.now.other in
+    subst (λ (found : Option ℕ). IfSome found (λ (i : ℕ). i < length ps)) (sym (c.other_place-other.ensures ∙ ap (other_place id) c.pieces_before-before.ensures))
+    (other-within id ps c.args.place)
+
+pub make_code-code_of_parts-requires-clause-long : goal.make_code-code_of_parts-requires-clause-long
+make_code-code_of_parts-requires-clause-long t c =
     ap (λ (ks : List (Option CodeValue)). length ks) c.deref.ensures.value ∙ kept-long c.keep_found-2.new.kept.items c.args.pieces.now c.keep_found-2.ensures.kept
 
-pub make_code-code_found-requires-clause-kept : goal.make_code-code_found-requires-clause-kept
-make_code-code_found-requires-clause-kept t c =
+pub make_code-code_of_parts-requires-clause-part_kept : goal.make_code-code_of_parts-requires-clause-part_kept
+make_code-code_of_parts-requires-clause-part_kept t c =
     let codes = kept_codes c.args.pieces.now in
     subst (λ (ks : List (Option CodeValue)). IfSome c.place_of-part.result (λ (place : ℕ). code_there ks place ≡ code_there codes place)) (sym c.deref.ensures.value)
     (stays-found c.place_of-part.result c.keep_found.new.kept.items c.keep_found-2.new.kept.items codes c.keep_found-2.ensures.stay c.keep_found-2.ensures.kept
     c.in_ok-keep_found.ensures.there)
 
-pub make_code-returns-in_err-part_code-clause-stay : goal.make_code-returns-in_err-part_code-clause-stay
-make_code-returns-in_err-part_code-clause-stay t c =
-    kept-trans c.args.kept.now.items c.keep_found.new.kept.items c.keep_found-2.new.kept.items c.keep_found.ensures.stay c.keep_found-2.ensures.stay
+pub make_code-code_of_parts-requires-clause-other_kept : goal.make_code-code_of_parts-requires-clause-other_kept
+make_code-code_of_parts-requires-clause-other_kept t c =
+    let codes = kept_codes c.args.pieces.now in
+    subst (λ (ks : List (Option CodeValue)). IfSome c.other_place-other.result (λ (place : ℕ). code_there ks place ≡ code_there codes place)) (sym c.deref.ensures.value)
+    c.in_ok-keep_found-2.ensures.there
 
-pub make_code-code_found-requires-2-clause-long : goal.make_code-code_found-requires-2-clause-long
-make_code-code_found-requires-2-clause-long t c =
-    ap (λ (ks : List (Option CodeValue)). length ks) c.deref-2.ensures.value ∙ kept-long c.keep_found-2.new.kept.items c.args.pieces.now c.keep_found-2.ensures.kept
-
-pub make_code-returns-in_err-other_code-clause-stay : goal.make_code-returns-in_err-other_code-clause-stay
-make_code-returns-in_err-other_code-clause-stay t c =
-    kept-trans c.args.kept.now.items c.keep_found.new.kept.items c.keep_found-2.new.kept.items c.keep_found.ensures.stay c.keep_found-2.ensures.stay
-
-pub make_code-unreachable-requires : goal.make_code-unreachable-requires
-make_code-unreachable-requires t c =
+pub make_code-code_of_parts-requires-clause-coded : goal.make_code-code_of_parts-requires-clause-coded
+make_code-code_of_parts-requires-clause-coded t c =
     let ps = c.args.pieces.now in
     let id = c.args.build.now.part in
-    let found = c.in_ok-part_code.ensures ∙ ap (code_found ps) (c.place_of-part.ensures ∙ ap (place_of id) c.pieces_before-before.ensures) in
-    let none = sym c.code.ensures ∙ ap option_copied c.in_default.is in
-    let some = found-coded id ps c.args.place c.requires.coded in
-    let never = sym (ap is_some none) ∙ ap is_some found ∙ some in
-    cc
+    ap (λ (found : Option ℕ). is_some (code_found ps found)) (c.place_of-part.ensures ∙ ap (place_of id) c.pieces_before-before.ensures)
+    ∙ found-coded id ps c.args.place c.requires.coded
 
 pub make_code-returns-clause-stay : goal.make_code-returns-clause-stay
 make_code-returns-clause-stay t c =
@@ -134,27 +136,27 @@ make_code-returns-clause-code t c =
     let ps = c.args.pieces.now in
     let b = c.args.build.now in
     let before = c.pieces_before-before.ensures in
-    let one = sym (ap option_copied c.in-Some.is) ∙ c.code.ensures ∙ c.in_ok-part_code.ensures ∙ ap (code_found ps) (c.place_of-part.ensures ∙ ap (place_of b.part) before) in
-    let two = c.code-2.ensures ∙ c.in_ok-other_code.ensures ∙ ap (code_found ps) (c.other_place-other.ensures ∙ ap (other_place b.other) before) in
-    let said = found-code ps c.args.place b.entry b.step.now b.part b.other c.in-Some.code.now (option_copied c.code-2.result) one two in
-    IfOk-weaker c.code-3.result _ _ (λ (code : CodeValue) same. said.0 ∙ ap Some (sym same)) c.code-3.ensures.code
+    let one = ap (code_found ps) (c.place_of-part.ensures ∙ ap (place_of b.part) before) in
+    let two = ap (code_found ps) (c.other_place-other.ensures ∙ ap (other_place b.other) before) in
+    let said = found-code ps c.args.place b.entry b.step.now b.part b.other (code_found ps c.place_of-part.result) (code_found ps c.other_place-other.result) one two in
+    subst (λ (o : Option CodeValue). IfOk c.code_of_parts.result (λ code. o ≡ Some code)) (sym said.0) c.code_of_parts.ensures.code
 
 pub make_code-returns-clause-accepted : goal.make_code-returns-clause-accepted
 make_code-returns-clause-accepted t c =
     let ps = c.args.pieces.now in
     let b = c.args.build.now in
     let before = c.pieces_before-before.ensures in
-    let one = sym (ap option_copied c.in-Some.is) ∙ c.code.ensures ∙ c.in_ok-part_code.ensures ∙ ap (code_found ps) (c.place_of-part.ensures ∙ ap (place_of b.part) before) in
-    let two = c.code-2.ensures ∙ c.in_ok-other_code.ensures ∙ ap (code_found ps) (c.other_place-other.ensures ∙ ap (other_place b.other) before) in
-    let said = found-code ps c.args.place b.entry b.step.now b.part b.other c.in-Some.code.now (option_copied c.code-2.result) one two in
-    subst (λ (reason : Option SubmitFault). OnOk c.code-3.result (reason ≡ None)) (sym said.1) c.code-3.ensures.accepted
+    let one = ap (code_found ps) (c.place_of-part.ensures ∙ ap (place_of b.part) before) in
+    let two = ap (code_found ps) (c.other_place-other.ensures ∙ ap (other_place b.other) before) in
+    let said = found-code ps c.args.place b.entry b.step.now b.part b.other (code_found ps c.place_of-part.result) (code_found ps c.other_place-other.result) one two in
+    subst (λ (reason : Option SubmitFault). OnOk c.code_of_parts.result (reason ≡ None)) (sym said.1) c.code_of_parts.ensures.accepted
 
 pub make_code-returns-clause-fault : goal.make_code-returns-clause-fault
 make_code-returns-clause-fault t c =
     let ps = c.args.pieces.now in
     let b = c.args.build.now in
     let before = c.pieces_before-before.ensures in
-    let one = sym (ap option_copied c.in-Some.is) ∙ c.code.ensures ∙ c.in_ok-part_code.ensures ∙ ap (code_found ps) (c.place_of-part.ensures ∙ ap (place_of b.part) before) in
-    let two = c.code-2.ensures ∙ c.in_ok-other_code.ensures ∙ ap (code_found ps) (c.other_place-other.ensures ∙ ap (other_place b.other) before) in
-    let said = found-code ps c.args.place b.entry b.step.now b.part b.other c.in-Some.code.now (option_copied c.code-2.result) one two in
-    subst (λ (reason : Option SubmitFault). IfErr c.code-3.result (λ f. f ≢ fault.Memory → reason ≡ Some f)) (sym said.1) c.code-3.ensures.fault
+    let one = ap (code_found ps) (c.place_of-part.ensures ∙ ap (place_of b.part) before) in
+    let two = ap (code_found ps) (c.other_place-other.ensures ∙ ap (other_place b.other) before) in
+    let said = found-code ps c.args.place b.entry b.step.now b.part b.other (code_found ps c.place_of-part.result) (code_found ps c.other_place-other.result) one two in
+    subst (λ (reason : Option SubmitFault). IfErr c.code_of_parts.result (λ f. f ≢ fault.Memory → reason ≡ Some f)) (sym said.1) c.code_of_parts.ensures.fault

@@ -1,14 +1,14 @@
 use Rattle.std.proofs.Common.{◌<◌, List, length, [], Some, None, subst, sym, ap, ap₂, ◌∙◌}
 use Rattle.std.proofs.lemmas.List.{get_or_read}
-use Rattle.std.specs.Prelude.{IsSome}
 use Rattle.std.proofs.lemmas.Result.{IfOk-weaker}
 use Rattle.ct_codes.specs.Code.{CodeValue}
 use Rattle.ct_kind.specs.declared.evidence.Evidence.{Evidence}
 use Rattle.ct_pieces.specs.Piece.{PieceValue}
-use Rattle.ct_pieces.specs.Codes.{codes_of}
+use Rattle.ct_pieces.specs.Codes.{code_of_place, codes_of}
 use Rattle.ct_pieces.specs.Standing.{AreMade}
 use Rattle.ct_pieces.specs.Inside.Kept.{listed_code}
 use Rattle.ct_pieces.proofs.CodeLemmas.{AreMade-take}
+use Rattle.ct_pieces.proofs.KeptLemmas.{none-some}
 use Rattle.ct_pieces.proofs.PartLemmas.{placed, kept-found, kept-none, listed-faultless}
 use Rattle.ct_pieces.proofs.kept.code_at_place.Goals as goal
 
@@ -41,8 +41,7 @@ unreachable-requires c =
     let at = sym (get_or_read kept place c.index-kept-place.result within c.index-kept-place.is None) ∙ c.in_default.is in
     let found = c.in_ok-made.ensures ∙ ap₂ (λ (ps : List PieceValue) (e : Evidence). listed_code (codes_of ps) e) c.pieces_before.ensures c.evidence.ensures.evidence
     ∙ kept-none c.args.pieces.now place c.index-pieces-place.result c.requires.place c.index-pieces-place.is (sym c.requires.kept ∙ at) in
-    let never = subst IsSome (sym found ∙ c.in_default-made.is) c.requires.coded in
-    cc
+    absurd (none-some (code_of_place c.args.pieces.now place) (sym found ∙ c.in_default-made.is) c.requires.coded)
 
 pub returns : goal.returns
 returns c =
