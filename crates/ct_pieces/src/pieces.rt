@@ -117,6 +117,20 @@ fn make_room(
     Ok(total)
 }
 
+/// Takes the piece at the place out, and the code that is kept beside it: how many words it stores.
+fn take_at(pieces: &mut Vec<Piece>, kept: &mut Vec<Option<Code>>, place: usize) -> u64
+    requires place { place < length pieces.old.items }
+    requires long { length kept.old.items ≡ length pieces.old.items }
+    ensures pieces { pieces.new.items ≡ remove pieces.old.items place }
+    ensures kept { kept.new.items ≡ remove kept.old.items place }
+    ensures stored { stored_words pieces.new.items + result ≡ stored_words pieces.old.items }
+{
+    let words = stored_by(&pieces[place]);
+    drop(pieces.remove(place));
+    drop(kept.remove(place));
+    words
+}
+
 /// The first piece that names the id.
 fn first_user(pieces: &[Piece], id: Id) -> Option<Id>
     ensures { result ≡ option_map (λ p. p.id) (first_user id pieces.now) }
@@ -307,9 +321,7 @@ impl Pieces {
         ensures { (front : List PieceValue) (p : PieceValue) → self.old ≡ front ++ p ∷ [] → self.new ≡ front }
     {
         let last = self.pieces.len() - 1;
-        let piece = self.pieces.remove(last);
-        self.kept.remove(last);
-        self.stored -= stored_by(&piece);
+        self.stored -= take_at(&mut self.pieces, &mut self.kept, last);
     }
 
     /// The place of the piece with the id, where it can be withdrawn. `NoSuch` comes exactly where no piece has it, and `InUse` where
@@ -335,9 +347,7 @@ impl Pieces {
         ensures pieces { self.new ≡ remove self.old place }
         ensures left { withdrawn self.old id ≡ Ok self.new }
     {
-        let piece = self.pieces.remove(place);
-        self.kept.remove(place);
-        self.stored -= stored_by(&piece);
+        self.stored -= take_at(&mut self.pieces, &mut self.kept, place);
     }
 
     /// For each piece, whether it goes where the piece of the id is withdrawn with all that rests on it. `NoSuch` comes exactly where no
