@@ -17,3 +17,5 @@ pub mod TakenAlong
 mod LeftOut
 mod AlongPass
 mod BuildPlaces
+mod Checking
+mod Putting

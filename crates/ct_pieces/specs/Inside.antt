@@ -2,3 +2,4 @@
 pub mod Kept
 pub mod Unmarked
 pub mod Names
+pub mod Checks

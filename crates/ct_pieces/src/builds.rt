@@ -22,7 +22,7 @@ use ct_text::Id;
 use std::alloc::{AllocError, Global};
 
 /// The build that the evidence is, where it is one.
-fn build_of<'a>(evidence: &'a Evidence) -> Option<StatedBuild<'a>>
+pub(crate) fn build_of<'a>(evidence: &'a Evidence) -> Option<StatedBuild<'a>>
     ensures some { IfSome result (λ build. evidence.now ≡ Build build.entry build.step.now build.part build.other) }
     ensures none { IfNone result (is_kept evidence.now ≡ false) }
 {

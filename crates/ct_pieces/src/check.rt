@@ -1,68 +1,95 @@
-//! The check of evidence that is handed in.
+//! The check of evidence that is handed in, and whether there is room for its piece.
 
-ghost use Rattle.std.specs.Prelude.{◌≡◌, ◌≢◌, ◌≤◌, ℕ, List, All, IsTrue, Ok, Err, IfOk, IfErr, [], length};
-ghost use Rattle.ct_text.specs.Cite.{is_cite};
-ghost use Rattle.ct_fields.specs.declared.cites.TheConstants.{MAX_CITES};
+ghost use Rattle.std.specs.Prelude.{◌≡◌, ◌≢◌, ◌<◌, ◌≤◌, ◌+◌, ℕ, List, Ok, Err, IfOk, IfErr, OnOk, [], vec_len, vec_capacity};
 ghost use Rattle.ct_files.specs.Document.{document_read_of, value_of};
 ghost use Rattle.ct_files.specs.Evidence.{IsSound};
+ghost use Rattle.ct_kind.specs.KindParts.{stored_for};
 ghost use Rattle.ct_kind.specs.Named.{NamedCode};
 ghost use Rattle.ct_pieces.specs.Codes.{codes_of};
+ghost use Rattle.ct_pieces.specs.Kind.{kind_of};
+ghost use Rattle.ct_pieces.specs.Piece.{PieceValue};
 ghost use Rattle.ct_pieces.specs.Standing.{AreMade};
-ghost use Rattle.ct_pieces.specs.Submission.{made_of, piece_from};
-ghost use Rattle.ct_pieces.specs.Supports.{support_of};
-ghost use Rattle.ct_pieces.specs.Inside.Kept.{kept_over, kept_codes, IsKept, AreKept};
+ghost use Rattle.ct_pieces.specs.Submission.{piece_from, if_stored};
+ghost use Rattle.ct_pieces.specs.Inside.Checks.{IsCheck, IsRefused};
+ghost use Rattle.ct_pieces.specs.Inside.Kept.{kept_codes, AreKept};
 
-use crate::kinds::{Checked, check, kind_of};
+use crate::kinds::{Checked, check, stored_for};
+use crate::limits::MAX_STORED;
 use crate::piece::Piece;
 use ct_codes::Code;
-use ct_files::{Document, DocumentFault, read_document};
+use ct_files::{Document, DocumentFault, Evidence, read_document};
 use ct_kind::SubmitFault;
-use ct_rule_parts::Support;
-use ct_text::{Id, Text};
+use ct_text::Text;
 use std::alloc::Global;
 
-/// A piece that was made, the code that is kept beside it, where it was made too, and what it gives to a table.
-#[derive(Drop)]
-pub(crate) struct Made {
-    pub(crate) piece: Piece,
-    pub(crate) kept: Option<Code>,
-    pub(crate) support: Support,
+/// How many words are stored with a piece of the evidence, which has this size, beside so many others, or that they are too many.
+fn stored_with(stored: u64, evidence: &Evidence, size: Option<u32>) -> Result<u64, SubmitFault>
+    requires sound { IsSound evidence.now }
+    requires stored { stored ≤ MAX_STORED }
+    ensures total { IfOk result (λ total. total ≡ stored + stored_for (kind_of evidence.now) size) }
+    ensures few { IfOk result (λ total. total ≤ MAX_STORED) }
+    ensures fault { IfErr result (λ fault. (p : PieceValue) → if_stored (stored + stored_for (kind_of evidence.now) size) p ≡ Err fault) }
+{
+    let total = stored + stored_for(evidence, size);
+    if total > MAX_STORED {
+        return Err(SubmitFault::FullWords(total));
+    }
+    Ok(total)
 }
 
-/// The piece that the document makes, which states this, under the id over the pieces, or why it makes none. Whether its id is taken is not
-/// looked at. The codes of pieces that it needs are made and kept, each at the place of its piece.
-pub(crate) fn make_piece(
-    alloc: Global,
-    pieces: &[Piece],
+/// Makes room for one more of the pieces and one more of the codes, where the words of a piece of the evidence, which has this size, may be
+/// stored beside so many: how many are stored with them. Pieces and codes stay as they are.
+fn make_room(
+    stored: u64,
+    evidence: &Evidence,
+    size: Option<u32>,
+    pieces: &mut Vec<Piece>,
     kept: &mut Vec<Option<Code>>,
-    id: Id,
-    document: Text,
-    stated: Document,
-) -> Result<Made, SubmitFault>
-    requires standing { AreMade [] pieces.now }
-    requires kept { AreKept kept.old.items (kept_codes pieces.now) }
-    requires sound { IsSound stated.evidence }
-    requires few { length stated.cites.items ≤ MAX_CITES }
-    requires each { All (λ cite. IsTrue (is_cite cite)) stated.cites.items }
-    ensures codes { AreKept kept.new.items (kept_codes pieces.now) }
-    ensures made { IfOk result (λ made. made_of (codes_of pieces.now) id document (value_of stated) ≡ Ok made.piece) }
-    ensures kept { IfOk result (λ made. IsKept made.kept (kept_over (codes_of pieces.now) made.piece.evidence)) }
-    ensures support { IfOk result (λ made. made.support ≡ support_of made.piece) }
+) -> Result<u64, SubmitFault>
+    requires sound { IsSound evidence.now }
+    requires stored { stored ≤ MAX_STORED }
+    ensures total { IfOk result (λ total. total ≡ stored + stored_for (kind_of evidence.now) size) }
+    ensures few { IfOk result (λ total. total ≤ MAX_STORED) }
     ensures fault { IfErr result (λ fault. fault ≢ SubmitFault.Memory
-        → made_of (codes_of pieces.now) id document (value_of stated) ≡ Err fault) }
+        → (p : PieceValue) → if_stored (stored + stored_for (kind_of evidence.now) size) p ≡ Err fault) }
+    ensures pieces { pieces.new.items ≡ pieces.old.items }
+    ensures kept { kept.new.items ≡ kept.old.items }
+    ensures piece_room { OnOk result (vec_len pieces.new < vec_capacity pieces.new) }
+    ensures code_room { OnOk result (vec_len kept.new < vec_capacity kept.new) }
 {
-    let Checked {
-        size,
-        kept,
-        support,
-    } = check(alloc, pieces, kept, &stated.evidence)?;
-    let entry = kind_of(&stated.evidence).entry;
-    let piece = Piece::new(id, document, stated, entry, size);
-    Ok(Made {
-        piece,
-        kept,
-        support,
-    })
+    let total = stored_with(stored, evidence, size)?;
+    pieces.reserve(1)?;
+    kept.reserve(1)?;
+    Ok(total)
+}
+
+/// The check of the evidence over the pieces, and how many words are stored with its piece, where these may be stored beside so many; or why it
+/// makes no piece. There is room for one more piece then, and for one more code. The pieces stay as they are, and the codes of pieces that the
+/// check needs are made and kept.
+pub(crate) fn accept(
+    alloc: Global,
+    evidence: &Evidence,
+    stored: u64,
+    pieces: &mut Vec<Piece>,
+    kept: &mut Vec<Option<Code>>,
+) -> Result<(Checked, u64), SubmitFault>
+    requires standing { AreMade [] pieces.old.items }
+    requires kept { AreKept kept.old.items (kept_codes pieces.old.items) }
+    requires sound { IsSound evidence.now }
+    requires stored { stored ≤ MAX_STORED }
+    ensures check { IfOk result (λ accepted. IsCheck (codes_of pieces.old.items) evidence.now (Ok accepted.0)) }
+    ensures total { IfOk result (λ accepted. accepted.1 ≡ stored + stored_for (kind_of evidence.now) accepted.0.size) }
+    ensures few { IfOk result (λ accepted. accepted.1 ≤ MAX_STORED) }
+    ensures fault { IfErr result (λ fault. fault ≢ SubmitFault.Memory
+        → IsRefused stored (codes_of pieces.old.items) evidence.now fault) }
+    ensures pieces { pieces.new.items ≡ pieces.old.items }
+    ensures codes { AreKept kept.new.items (kept_codes pieces.old.items) }
+    ensures piece_room { OnOk result (vec_len pieces.new < vec_capacity pieces.new) }
+    ensures code_room { OnOk result (vec_len kept.new < vec_capacity kept.new) }
+{
+    let checked = check(alloc, pieces, kept, evidence)?;
+    let total = make_room(stored, evidence, checked.size, pieces, kept)?;
+    Ok((checked, total))
 }
 
 /// What a document states, or why it makes no piece.

@@ -1,17 +1,18 @@
 //! Evidence by its kind. Each kind has a room of its own; here it is told which one evidence belongs in.
 
-ghost use Rattle.std.specs.Prelude.{◌≡◌, ◌≢◌, ◌<◌, ◌^◌, [], length, Some, None, IfOk, IfErr, OnOk};
+ghost use Rattle.std.specs.Prelude.{◌≡◌, ◌<◌, ◌^◌, [], length, false, Some, None, IfOk};
+ghost use Rattle.std.specs.Result.{result_map_both};
 ghost use Rattle.ct_build.specs.Build.{FitsStated};
 ghost use Rattle.ct_kind.specs.declared.evidence.Evidence.TheVariants.{Build};
 ghost use Rattle.ct_files.specs.Evidence.{IsSound};
 ghost use Rattle.ct_pieces.specs.Codes.{codes_of};
-ghost use Rattle.ct_kind.specs.KindParts.{support_from};
-ghost use Rattle.ct_pieces.specs.Kind.{kind_of, stated_entry, names, has_code, own_reason, size_over};
-ghost use Rattle.ct_pieces.specs.Submission.{evidence_reason};
+ghost use Rattle.ct_kind.specs.KindParts.{stored_for, support_from};
+ghost use Rattle.ct_pieces.specs.Kind.{kind_of, stated_entry, names, has_code, own_reason};
 ghost use Rattle.ct_pieces.specs.Standing.{AreMade};
-ghost use Rattle.ct_pieces.specs.Inside.Kept.{kept_over, listed_code, kept_codes, IsKept, AreKept};
+ghost use Rattle.ct_pieces.specs.Inside.Checks.{code_checked, classes_checked, dual_checked, IsCheck};
+ghost use Rattle.ct_pieces.specs.Inside.Kept.{is_kept, listed_code, kept_codes, AreKept};
 
-use crate::builds::make_code;
+use crate::builds::{build_of, make_code};
 use crate::piece::Piece;
 use crate::standing::Standing;
 use ct_build_files::build_kind::{self, StatedBuild};
@@ -68,6 +69,20 @@ pub(crate) fn listed(evidence: &Evidence) -> u64
     }
 }
 
+/// How many words a piece of the evidence stores, which has this size.
+pub(crate) fn stored_for(evidence: &Evidence, size: Option<u32>) -> u64
+    requires { IsSound evidence.now }
+    ensures words { result ≡ stored_for (kind_of evidence.now) size }
+    ensures bound { result < 2 ^ 63 }
+{
+    let listed = listed(evidence);
+    if kind_of(evidence).is_stored {
+        listed + u64::from(size.unwrap_or(0))
+    } else {
+        listed
+    }
+}
+
 /// Whether the evidence names the piece of this id as a part of its own.
 pub(crate) fn names(evidence: &Evidence, id: Id) -> bool
     ensures { result ≡ names evidence.now id }
@@ -89,30 +104,28 @@ pub(crate) struct Checked {
 }
 
 impl Checked {
-    /// A code of the entry with so many words, which is not kept.
-    fn of_code(entry: Entry, size: u32) -> Checked
-        ensures size { result.size ≡ Some size }
-        ensures kept { result.kept ≡ None }
-        ensures support { result.support ≡ support_from entry (Some size) }
+    /// What the check of a code of the entry gives, of which so many words were counted, and which is not kept; or why there is none.
+    fn of_code(entry: Entry, size: Result<u32, SubmitFault>) -> Result<Checked, SubmitFault>
+        ensures { result ≡ result_map_both (code_checked entry) (λ fault. fault) size }
     {
-        Checked {
+        let size = size?;
+        Ok(Checked {
             size: Some(size),
             kept: None,
             support: support_from(entry, Some(size)),
-        }
+        })
     }
 
-    /// A partition with so many classes.
-    fn of_classes(count: u32) -> Checked
-        ensures size { result.size ≡ Some count }
-        ensures kept { result.kept ≡ None }
-        ensures support { result.support ≡ Support.Nothing }
+    /// What the check of a partition gives, of which so many words were counted; or why there is none.
+    fn of_classes(count: Result<u32, SubmitFault>) -> Result<Checked, SubmitFault>
+        ensures { result ≡ result_map_both classes_checked (λ fault. fault) count }
     {
-        Checked {
+        let count = count?;
+        Ok(Checked {
             size: Some(count),
             kept: None,
             support: Support::Nothing,
-        }
+        })
     }
 
     /// The code of the entry that a build makes, which the check has made, and which is kept.
@@ -129,17 +142,16 @@ impl Checked {
         }
     }
 
-    /// A dual that gives this.
-    fn of_dual(support: Support) -> Checked
-        ensures size { result.size ≡ None }
-        ensures kept { result.kept ≡ None }
-        ensures support { result.support ≡ support }
+    /// What the check of a dual gives which gives this to a table; or why it is refused.
+    fn of_dual(support: Result<Support, SubmitFault>) -> Result<Checked, SubmitFault>
+        ensures { result ≡ result_map_both dual_checked (λ fault. fault) support }
     {
-        Checked {
+        let support = support?;
+        Ok(Checked {
             size: None,
             kept: None,
             support,
-        }
+        })
     }
 }
 
@@ -154,20 +166,60 @@ fn check_build(
     requires kept { AreKept kept.old.items (kept_codes pieces.now) }
     requires fits { FitsStated build.now.step.now build.now.entry }
     ensures codes { AreKept kept.new.items (kept_codes pieces.now) }
-    ensures size { IfOk result (λ checked. checked.size ≡ size_over (codes_of pieces.now) (Build build.now.entry build.now.step.now build.now.part build.now.other)) }
-    ensures kept { IfOk result (λ checked.
-        IsKept checked.kept (kept_over (codes_of pieces.now) (Build build.now.entry build.now.step.now build.now.part build.now.other))) }
-    ensures support { IfOk result (λ checked. checked.support ≡ support_from build.now.entry checked.size) }
-    ensures accepted { OnOk result (evidence_reason (codes_of pieces.now) (Build build.now.entry build.now.step.now build.now.part build.now.other) ≡ None) }
-    ensures fault { IfErr result (λ fault. fault ≢ SubmitFault.Memory
-        → evidence_reason (codes_of pieces.now) (Build build.now.entry build.now.step.now build.now.part build.now.other) ≡ Some fault) }
+    ensures check { IsCheck (codes_of pieces.now) (Build build.now.entry build.now.step.now build.now.part build.now.other) result }
 {
     let told = build_kind::early_size(&Standing::new(pieces), build)?;
     if let Some(size) = told {
-        return Ok(Checked::of_code(build.entry, size));
+        return Checked::of_code(build.entry, Ok(size));
     }
     let code = make_code(alloc, pieces, kept, pieces.len(), build)?;
     Ok(Checked::of_build(build.entry, code))
+}
+
+/// What the evidence comes to over the pieces, which is no build; or why it makes no piece.
+fn check_listed(
+    alloc: Global,
+    pieces: &[Piece],
+    evidence: &Evidence,
+) -> Result<Checked, SubmitFault>
+    requires standing { AreMade [] pieces.now }
+    requires sound { IsSound evidence.now }
+    requires listed { is_kept evidence.now ≡ false }
+    ensures { IsCheck (codes_of pieces.now) evidence.now result }
+{
+    match evidence {
+        Evidence::Words { entry, words } => {
+            let size = words_kind::check(alloc, *entry, words.as_slice());
+            Checked::of_code(*entry, size)
+        }
+        Evidence::Cosets {
+            entry,
+            basis,
+            representatives,
+        } => {
+            let representatives = representatives.as_slice();
+            let size = cosets_kind::check(alloc, *entry, basis.as_slice(), representatives);
+            Checked::of_code(*entry, size)
+        }
+        Evidence::Partition {
+            entry,
+            between,
+            classes,
+        } => {
+            let count = partition_kind::check(alloc, *entry, *between, classes.as_slice());
+            Checked::of_classes(count)
+        }
+        Evidence::Build { .. } => unreachable!(),
+        Evidence::Product { entry, pairs } => {
+            let standing = Standing::new(pieces);
+            let size = product_kind::check(alloc, &standing, *entry, pairs.as_slice());
+            Checked::of_code(*entry, size)
+        }
+        Evidence::Dual(dual) => Checked::of_dual(dual_kind::check(dual)),
+        Evidence::JohnsonDual(dual) => Checked::of_dual(dual_kind::check(dual)),
+        Evidence::Odd { dual, m } => Checked::of_dual(dual_kind::check_odd(dual, *m)),
+        Evidence::JohnsonLocal(dual) => Checked::of_dual(dual_kind::check_local(alloc, dual)),
+    }
 }
 
 /// What the evidence comes to over the pieces; or why it makes no piece. The codes of pieces that it needs are made and kept, each at the
@@ -182,62 +234,11 @@ pub(crate) fn check(
     requires kept { AreKept kept.old.items (kept_codes pieces.now) }
     requires sound { IsSound evidence.now }
     ensures codes { AreKept kept.new.items (kept_codes pieces.now) }
-    ensures size { IfOk result (λ checked. checked.size ≡ size_over (codes_of pieces.now) evidence.now) }
-    ensures kept { IfOk result (λ checked. IsKept checked.kept (kept_over (codes_of pieces.now) evidence.now)) }
-    ensures support { IfOk result (λ checked. checked.support ≡ (kind_of evidence.now).gives checked.size) }
-    ensures accepted { OnOk result (evidence_reason (codes_of pieces.now) evidence.now ≡ None) }
-    ensures fault { IfErr result (λ fault. fault ≢ SubmitFault.Memory
-        → evidence_reason (codes_of pieces.now) evidence.now ≡ Some fault) }
+    ensures check { IsCheck (codes_of pieces.now) evidence.now result }
 {
-    match evidence {
-        Evidence::Words { entry, words } => {
-            let size = words_kind::check(alloc, *entry, words.as_slice())?;
-            Ok(Checked::of_code(*entry, size))
-        }
-        Evidence::Cosets {
-            entry,
-            basis,
-            representatives,
-        } => {
-            let representatives = representatives.as_slice();
-            let size = cosets_kind::check(alloc, *entry, basis.as_slice(), representatives)?;
-            Ok(Checked::of_code(*entry, size))
-        }
-        Evidence::Partition {
-            entry,
-            between,
-            classes,
-        } => {
-            let count = partition_kind::check(alloc, *entry, *between, classes.as_slice())?;
-            Ok(Checked::of_classes(count))
-        }
-        Evidence::Build {
-            entry,
-            step,
-            part,
-            other,
-        } => {
-            let build = StatedBuild {
-                entry: *entry,
-                step,
-                part: *part,
-                other: *other,
-            };
-            check_build(alloc, pieces, kept, &build)
-        }
-        Evidence::Product { entry, pairs } => {
-            let size = product_kind::check(
-                alloc,
-                &Standing::new(pieces),
-                *entry,
-                pairs.as_slice(),
-            )?;
-            Ok(Checked::of_code(*entry, size))
-        }
-        Evidence::Dual(dual) => Ok(Checked::of_dual(dual_kind::check(dual)?)),
-        Evidence::JohnsonDual(dual) => Ok(Checked::of_dual(dual_kind::check(dual)?)),
-        Evidence::Odd { dual, m } => Ok(Checked::of_dual(dual_kind::check_odd(dual, *m)?)),
-        Evidence::JohnsonLocal(dual) => Ok(Checked::of_dual(dual_kind::check_local(alloc, dual)?)),
+    match build_of(evidence) {
+        Some(build) => check_build(alloc, pieces, kept, &build),
+        None => check_listed(alloc, pieces, evidence),
     }
 }
 

@@ -1,29 +1,28 @@
 //! Pieces of evidence by themselves, without a table.
 
-ghost use Rattle.std.specs.Prelude.{◌≡◌, ◌≢◌, ◌≤◌, ◌<◌, ◌+◌, ◌^◌, ◌∷◌, ◌++◌, List, Result, Ok, Err, Some, None, false, IfOk, IfErr, IfSome, IsSome, IsTrue, OnOk, OnErr, [], All, find, is_some, length, not, option_map, remove, ℕ, true, filter, vec_len, vec_capacity};
+ghost use Rattle.std.specs.Prelude.{◌≡◌, ◌≢◌, ◌<◌, ◌+◌, ◌^◌, ◌∷◌, ◌++◌, List, Result, Ok, Err, Some, None, false, IfOk, IfErr, IfSome, IsSome, IsTrue, OnOk, OnErr, [], All, find, is_some, length, option_map, remove, true};
 ghost use Rattle.ct_codes.specs.Code.{IsSoundCode};
 ghost use Rattle.ct_text.specs.Id.{is_id};
 ghost use Rattle.ct_files.specs.Document.{document_read_of, value_of, without_cites};
 ghost use Rattle.ct_pieces.specs.Piece.{PieceValue, has_id, stored_by, stored_words, first_user};
-ghost use Rattle.ct_pieces.specs.Codes.{code_of_place, codes_of};
-ghost use Rattle.ct_pieces.specs.Submission.{submitted, if_stored, unless_full};
+ghost use Rattle.ct_pieces.specs.Codes.{code_of_place};
+ghost use Rattle.ct_pieces.specs.Submission.{submitted, unless_full};
 ghost use Rattle.ct_kind.specs.declared.fault.SubmitFault.{SubmitFault};
 ghost use Rattle.ct_pieces.specs.Withdrawal.{withdrawn, withdrawn_all, taken_along, without_all, marks_along};
-ghost use Rattle.ct_pieces.specs.Standing.{AreStanding, HasTrueSize, IsMade};
-ghost use Rattle.ct_pieces.specs.Inside.Kept.{kept_over, IsKept};
+ghost use Rattle.ct_pieces.specs.Standing.{AreStanding, HasTrueSize};
 ghost use Rattle.ct_pieces.specs.Dump.{dump_text};
 ghost use Rattle.ct_pieces.specs.Submission.{AddsPiece};
-ghost use Rattle.ct_pieces.specs.Supports.{support_of, supports_of};
+ghost use Rattle.ct_pieces.specs.Supports.{supports_of};
 ghost use Rattle.ct_pieces.specs.Piece.{place_of};
 
 use crate::along::{leave_out, marks_along, stored_words};
 use crate::builds::keep_code;
-use crate::check::{Made, make_piece, read};
+use crate::check::{accept, read};
 use crate::dump::put_dump;
 use crate::fault::WithdrawFault;
 use crate::kept::{code_at_place, place_of};
-use crate::kinds::{kind_of, listed, names};
-use crate::limits::{MAX_PIECES, MAX_STORED};
+use crate::kinds::{Checked, kind_of, names, stored_for};
+use crate::limits::MAX_PIECES;
 use crate::new_piece::NewPiece;
 use crate::piece::Piece;
 use crate::standing::has_code;
@@ -61,13 +60,7 @@ pub(crate) fn stored_by(piece: &Piece) -> u64
     ensures words { result ≡ stored_by piece.now }
     ensures bound { result < 2 ^ 63 }
 {
-    let evidence = piece.evidence();
-    let listed = listed(evidence);
-    if kind_of(evidence).is_stored {
-        listed + u64::from(piece.size().unwrap_or(0))
-    } else {
-        listed
-    }
+    stored_for(piece.evidence(), piece.size())
 }
 
 /// Whether a piece has the id.
@@ -77,44 +70,6 @@ fn has_id(pieces: &[Piece], id: Id) -> bool
 {
     let name = id.text();
     pieces.iter().any(|piece| piece.id().text() == name)
-}
-
-/// How many words are stored with the piece beside so many others, or that they are too many.
-fn stored_with(stored: u64, piece: &Piece) -> Result<u64, SubmitFault>
-    requires { stored ≤ MAX_STORED }
-    ensures total { IfOk result (λ total. (total ≡ stored + stored_by piece.now) × (total ≤ MAX_STORED)) }
-    ensures room { IfOk result (λ _. if_stored (stored + stored_by piece.now) piece.now ≡ Ok piece.now) }
-    ensures fault { IfErr result (λ fault. if_stored (stored + stored_by piece.now) piece.now ≡ Err fault) }
-{
-    let total = stored + stored_by(piece);
-    if total > MAX_STORED {
-        return Err(SubmitFault::FullWords(total));
-    }
-    Ok(total)
-}
-
-/// Makes room for one more of the pieces and one more of the codes, where the words of this piece may be stored beside so many: how many are
-/// stored with them. Pieces and codes stay as they are.
-fn make_room(
-    stored: u64,
-    piece: &Piece,
-    pieces: &mut Vec<Piece>,
-    kept: &mut Vec<Option<Code>>,
-) -> Result<u64, SubmitFault>
-    requires { stored ≤ MAX_STORED }
-    ensures total { IfOk result (λ total. (total ≡ stored + stored_by piece.now) × (total ≤ MAX_STORED)) }
-    ensures accepted { IfOk result (λ _. if_stored (stored + stored_by piece.now) piece.now ≡ Ok piece.now) }
-    ensures fault { IfErr result (λ fault. fault ≢ SubmitFault.Memory
-        → if_stored (stored + stored_by piece.now) piece.now ≡ Err fault) }
-    ensures pieces { pieces.new.items ≡ pieces.old.items }
-    ensures kept { kept.new.items ≡ kept.old.items }
-    ensures piece_room { OnOk result (vec_len pieces.new < vec_capacity pieces.new) }
-    ensures code_room { OnOk result (vec_len kept.new < vec_capacity kept.new) }
-{
-    let total = stored_with(stored, piece)?;
-    pieces.reserve(1)?;
-    kept.reserve(1)?;
-    Ok(total)
 }
 
 /// Takes the piece at the place out, and the code that is kept beside it: how many words it stores.
@@ -282,37 +237,24 @@ impl Pieces {
         ensures unchanged { OnErr result (self.new ≡ self.old) }
     {
         let alloc = self.allocator();
-        let made = make_piece(alloc, &self.pieces, &mut self.kept, id, document, stated)?;
-        self.put_made(made)
-    }
-
-    /// Puts a piece at the end, which was made over those that stand, where its words may be stored beside theirs: its size, and what it gives
-    /// to a table. Else the pieces are as before.
-    fn put_made(&mut self, made: Made) -> Result<NewPiece, SubmitFault>
-        requires made { IsMade (codes_of self.old) made.piece }
-        requires kept { IsKept made.kept (kept_over (codes_of self.old) made.piece.evidence) }
-        requires support { made.support ≡ support_of made.piece }
-        requires named { IsTrue (is_id made.piece.id) }
-        requires free { has_id made.piece.id self.old ≡ false }
-        requires room { length self.old < MAX_PIECES }
-        ensures pieces { OnOk result (self.new ≡ self.old ++ made.piece ∷ []) }
-        ensures size { IfOk result (λ new_piece. new_piece.size ≡ made.piece.size) }
-        ensures supports { IfOk result (λ new_piece. supports_of self.new ≡ supports_of self.old ++ new_piece.support ∷ []) }
-        ensures standing { OnOk result (AreStanding self.new) }
-        ensures stored { OnOk result (if_stored (stored_words self.old + stored_by made.piece) made.piece ≡ Ok made.piece) }
-        ensures fault { IfErr result (λ fault. fault ≢ SubmitFault.Memory
-            → if_stored (stored_words self.old + stored_by made.piece) made.piece ≡ Err fault) }
-        ensures unchanged { OnErr result (self.new ≡ self.old) }
-    {
-        let stored = make_room(self.stored, &made.piece, &mut self.pieces, &mut self.kept)?;
-        let size = made.piece.size();
-        self.pieces.push_reserved(made.piece);
-        self.kept.push_reserved(made.kept);
-        self.stored = stored;
-        Ok(NewPiece {
+        let (checked, stored) = accept(
+            alloc,
+            &stated.evidence,
+            self.stored,
+            &mut self.pieces,
+            &mut self.kept,
+        )?;
+        let Checked {
             size,
-            support: made.support,
-        })
+            kept,
+            support,
+        } = checked;
+        let entry = kind_of(&stated.evidence).entry;
+        let piece = Piece::new(id, document, stated, entry, size);
+        self.pieces.push_reserved(piece);
+        self.kept.push_reserved(kept);
+        self.stored = stored;
+        Ok(NewPiece { size, support })
     }
 
     /// Takes the last piece out; there is one.

@@ -1,88 +1,101 @@
-use Rattle.std.proofs.Common.{ℕ, List, Ok, Err, IfOk, IfErr, ◌≡◌, ◌≢◌, ◌<◌, false, length, ap, sym, ◌∙◌, subst, rules}
-use Rattle.std.specs.Prelude.{IsTrue}
-use Rattle.ct_text.specs.Id.{is_id}
-use Rattle.ct_files.specs.Document.{DocumentValue, document_read_of, value_of}
+use Rattle.std.proofs.Common.{ℕ, List, [], ◌∷◌, ◌++◌, Option, ◌≡◌, ◌≤◌, ◌<◌, false, Ok, Err, length, ap, sym, ◌∙◌, subst}
+use Rattle.std.proofs.lemmas.Result.{err_from_is_err_and}
+use Rattle.ct_codes.specs.Code.{CodeValue}
+use Rattle.ct_files.specs.Document.{value_of}
 use Rattle.ct_files.proofs.Documents.{document_read_of-right}
 use Rattle.ct_pieces.specs.Piece.{PieceValue, has_id}
 use Rattle.ct_pieces.specs.Codes.{codes_of}
-use Rattle.ct_pieces.specs.Submission.{AddsPiece, made_of, piece_from, submitted}
-use Rattle.ct_pieces.specs.declared.new_piece.NewPiece.{NewPiece}
-use Rattle.ct_pieces.specs.declared.limits.TheConstants.{MAX_PIECES}
-use Rattle.ct_kind.specs.declared.fault.SubmitFault.TheVariants as fault
-use Rattle.ct_pieces.proofs.StandingLemmas.{piece_from-names, piece_from-made}
-use Rattle.ct_pieces.proofs.Admitting.{made_of-read, submits_piece, submits_fault, submits_nothing}
+use Rattle.ct_pieces.specs.Submission.{piece_of, submitted}
+use Rattle.ct_pieces.specs.Supports.{supports_of}
+use Rattle.ct_pieces.specs.Inside.Kept.{kept_codes, AreKept}
+use Rattle.ct_pieces.specs.declared.limits.TheConstants.{MAX_PIECES, MAX_STORED}
+use Rattle.ct_pieces.proofs.Putting.{refused-submission, is-put}
 use Rattle.ct_pieces.proofs.pieces.Pieces.put_read.Goals as goal
 
-pub make_piece-requires-clause-sound : goal.make_piece-requires-clause-sound
-make_piece-requires-clause-sound c = (document_read_of-right c.args.document (value_of c.args.stated) c.requires.read).0
+pub accept-requires-clause-standing : goal.accept-requires-clause-standing
+accept-requires-clause-standing c = c.self.invariant.0.made
 
-pub make_piece-requires-clause-few : goal.make_piece-requires-clause-few
-make_piece-requires-clause-few c = (document_read_of-right c.args.document (value_of c.args.stated) c.requires.read).1.few
+pub accept-requires-clause-kept : goal.accept-requires-clause-kept
+accept-requires-clause-kept c = c.self.invariant.2
 
-pub make_piece-requires-clause-each : goal.make_piece-requires-clause-each
-make_piece-requires-clause-each c = (document_read_of-right c.args.document (value_of c.args.stated) c.requires.read).1.each
+pub accept-requires-clause-sound : goal.accept-requires-clause-sound
+accept-requires-clause-sound c = (document_read_of-right c.args.document (value_of c.args.stated) c.requires.read).0
 
-pub returns-in_err-made-clause-fault : goal.returns-in_err-made-clause-fault
-returns-in_err-made-clause-fault c =
+pub accept-requires-clause-stored : goal.accept-requires-clause-stored
+accept-requires-clause-stored c = subst (λ (s : ℕ). s ≤ MAX_STORED) (sym c.self.invariant.1) c.self.invariant.0.small
+
+pub invariant_of-self : goal.invariant_of-self
+invariant_of-self c = rw c.accept.ensures.pieces (c.self.invariant.0, c.self.invariant.1, c.accept.ensures.codes)
+
+pub returns-in_err-checked-clause-fault : goal.returns-in_err-checked-clause-fault
+returns-in_err-checked-clause-fault c =
     let items = c.self.inside.pieces.items in
+    let stated = value_of c.args.stated in
     let free = subst (λ (ps : List PieceValue). has_id c.args.id ps ≡ false) (sym c.self.view_is) c.requires.free in
     let room = subst (λ (ps : List PieceValue). length ps < MAX_PIECES) (sym c.self.view_is) c.requires.room in
-    let refused = rw c.deref.ensures.value at c.in_err-made.ensures.fault in
-    let none : IfErr c.from_residual.result (λ f. f ≢ fault.Memory → made_of (codes_of items) c.args.id c.args.document (value_of c.args.stated) ≡ Err f) = search rules in
-    subst (λ (ps : List PieceValue). IfErr c.from_residual.result (λ f. f ≢ fault.Memory → submitted ps c.args.id c.args.document ≡ Err f)) c.self.view_is
-    (submits_nothing items c.args.id c.args.document (value_of c.args.stated) c.from_residual.result free room c.requires.read none)
+    let p = err_from_is_err_and c.from_residual.result c.from_residual.ensures.1 in
+    rw (p.1, p.2)
+    (λ other.
+    let refused = rw c.self.invariant.1 at (c.in_err-checked.ensures.fault other) in
+    subst (λ (ps : List PieceValue). submitted ps c.args.id c.args.document ≡ Err c.in_err-checked.field-0.0) c.self.view_is
+    (refused-submission items c.args.id c.args.document stated c.in_err-checked.field-0.0 c.requires.read free room refused))
 
--- the piece is that of the document
-made_here : (items : List PieceValue) (id document : List ℕ) (stated : DocumentValue) (p : PieceValue) → document_read_of document ≡ Ok stated
-    → made_of (codes_of items) id document stated ≡ Ok p → piece_from (codes_of items) id document (document_read_of document) ≡ Ok p
-made_here items id document stated p read made = made_of-read (codes_of items) id document stated (Ok p) read made
+pub new-piece-requires-clause-sound : goal.new-piece-requires-clause-sound
+new-piece-requires-clause-sound c = (document_read_of-right c.args.document (value_of c.args.stated) c.requires.read).0
 
-pub put_made-requires-clause-made : goal.put_made-requires-clause-made
-put_made-requires-clause-made c =
-    let p = c.in_ok-made.made.piece in
+pub new-piece-requires-clause-few : goal.new-piece-requires-clause-few
+new-piece-requires-clause-few c = (document_read_of-right c.args.document (value_of c.args.stated) c.requires.read).1.few
+
+pub new-piece-requires-clause-each : goal.new-piece-requires-clause-each
+new-piece-requires-clause-each c = (document_read_of-right c.args.document (value_of c.args.stated) c.requires.read).1.each
+
+pub invariant_of-self-2 : goal.invariant_of-self-2
+invariant_of-self-2 c =
     let items = c.self.inside.pieces.items in
-    let made = rw c.deref.ensures.value at c.in_ok-made.ensures.made in
-    piece_from-made (codes_of items) c.args.id c.args.document p (made_here items c.args.id c.args.document (value_of c.args.stated) p c.requires.read made)
+    let checked = c.in_ok-checked.checked in
+    let said = c.in_ok-checked.ensures in
+    let pushed = c.push_reserved.ensures.items ∙ ap (λ (ps : List PieceValue). ps ++ c.new-piece.result ∷ []) said.pieces in
+    let put = is-put items c.args.self.now c.push_reserved.new.self.items c.args.id c.args.document (value_of c.args.stated) checked c.self.inside.stored c.in_ok-checked.stored
+    c.new-piece.result c.kind_of.result.entry c.self.view_is c.self.invariant.0 c.self.invariant.1 c.requires.read c.requires.named c.requires.free c.requires.room said.check said.total
+    said.few c.new-piece.ensures c.kind_of.ensures.entry pushed in
+    let codes = c.push_reserved-2.ensures.items in
+    (put.standing, put.stored, subst (λ (ks : List (Option CodeValue)). AreKept ks (kept_codes c.push_reserved.new.self.items)) (sym codes) (put.kept c.accept.new.kept.items said.codes))
 
-pub put_made-requires-clause-named : goal.put_made-requires-clause-named
-put_made-requires-clause-named c =
-    let p = c.in_ok-made.made.piece in
-    let items = c.self.inside.pieces.items in
-    let made = rw c.deref.ensures.value at c.in_ok-made.ensures.made in
-    let names = piece_from-names (codes_of items) c.args.id c.args.document (Ok (value_of c.args.stated)) p made in
-    subst (λ (i : List ℕ). IsTrue (is_id i)) (sym names.0) c.requires.named
-
-pub put_made-requires-clause-free : goal.put_made-requires-clause-free
-put_made-requires-clause-free c =
-    let p = c.in_ok-made.made.piece in
-    let items = c.self.inside.pieces.items in
-    let made = rw c.deref.ensures.value at c.in_ok-made.ensures.made in
-    let names = piece_from-names (codes_of items) c.args.id c.args.document (Ok (value_of c.args.stated)) p made in
-    ap (λ (i : List ℕ). has_id i items) names.0 ∙ subst (λ (ps : List PieceValue). has_id c.args.id ps ≡ false) (sym c.self.view_is) c.requires.free
-
-pub put_made-requires-clause-room : goal.put_made-requires-clause-room
-put_made-requires-clause-room c = subst (λ (ps : List PieceValue). length ps < MAX_PIECES) (sym c.self.view_is) c.requires.room
-
--- what is asked of the pieces holds of those that are kept inside
 pub returns-clause-accepted : goal.returns-clause-accepted
 returns-clause-accepted c =
-    let p = c.in_ok-made.made.piece in
     let items = c.self.inside.pieces.items in
-    let made = rw c.deref.ensures.value at c.in_ok-made.ensures.made in
-    let free = subst (λ (ps : List PieceValue). has_id c.args.id ps ≡ false) (sym c.self.view_is) c.requires.free in
-    let room = subst (λ (ps : List PieceValue). length ps < MAX_PIECES) (sym c.self.view_is) c.requires.room in
-    let e = c.put_made.ensures in
-    subst (λ (ps : List PieceValue). IfOk c.put_made.result (λ (n : NewPiece). AddsPiece ps c.put_made.new.self c.args.id c.args.document n.size)) c.self.view_is
-    (submits_piece items c.put_made.new.self c.args.id c.args.document p c.put_made.result free room
-    (made_here items c.args.id c.args.document (value_of c.args.stated) p c.requires.read made) e.pieces e.size e.stored)
+    let checked = c.in_ok-checked.checked in
+    let said = c.in_ok-checked.ensures in
+    let pushed = c.push_reserved.ensures.items ∙ ap (λ (ps : List PieceValue). ps ++ c.new-piece.result ∷ []) said.pieces in
+    let put = is-put items c.args.self.now c.push_reserved.new.self.items c.args.id c.args.document (value_of c.args.stated) checked c.self.inside.stored c.in_ok-checked.stored
+    c.new-piece.result c.kind_of.result.entry c.self.view_is c.self.invariant.0 c.self.invariant.1 c.requires.read c.requires.named c.requires.free c.requires.room said.check said.total
+    said.few c.new-piece.ensures c.kind_of.ensures.entry pushed in
+    let p = piece_of (codes_of items) c.args.id c.args.document (value_of c.args.stated) in
+    record {
+      piece = p;
+      made = subst (λ (ps : List PieceValue). submitted ps c.args.id c.args.document ≡ Ok p) c.self.view_is put.made;
+      pieces = put.pieces ∙ ap (λ (ps : List PieceValue). ps ++ p ∷ []) c.self.view_is;
+      answer = said.check.size;
+    }
 
-pub returns-clause-fault : goal.returns-clause-fault
-returns-clause-fault c =
-    let p = c.in_ok-made.made.piece in
+pub returns-clause-supports : goal.returns-clause-supports
+returns-clause-supports c =
     let items = c.self.inside.pieces.items in
-    let made = rw c.deref.ensures.value at c.in_ok-made.ensures.made in
-    let free = subst (λ (ps : List PieceValue). has_id c.args.id ps ≡ false) (sym c.self.view_is) c.requires.free in
-    let room = subst (λ (ps : List PieceValue). length ps < MAX_PIECES) (sym c.self.view_is) c.requires.room in
-    subst (λ (ps : List PieceValue). IfErr c.put_made.result (λ f. f ≢ fault.Memory → submitted ps c.args.id c.args.document ≡ Err f)) c.self.view_is
-    (submits_fault items c.args.id c.args.document p c.put_made.result free room
-    (made_here items c.args.id c.args.document (value_of c.args.stated) p c.requires.read made) c.put_made.ensures.fault)
+    let checked = c.in_ok-checked.checked in
+    let said = c.in_ok-checked.ensures in
+    let pushed = c.push_reserved.ensures.items ∙ ap (λ (ps : List PieceValue). ps ++ c.new-piece.result ∷ []) said.pieces in
+    let put = is-put items c.args.self.now c.push_reserved.new.self.items c.args.id c.args.document (value_of c.args.stated) checked c.self.inside.stored c.in_ok-checked.stored
+    c.new-piece.result c.kind_of.result.entry c.self.view_is c.self.invariant.0 c.self.invariant.1 c.requires.read c.requires.named c.requires.free c.requires.room said.check said.total
+    said.few c.new-piece.ensures c.kind_of.ensures.entry pushed in
+    put.supports ∙ ap (λ (ps : List PieceValue). supports_of ps ++ checked.support ∷ []) c.self.view_is
+
+pub returns-clause-standing : goal.returns-clause-standing
+returns-clause-standing c =
+    let items = c.self.inside.pieces.items in
+    let checked = c.in_ok-checked.checked in
+    let said = c.in_ok-checked.ensures in
+    let pushed = c.push_reserved.ensures.items ∙ ap (λ (ps : List PieceValue). ps ++ c.new-piece.result ∷ []) said.pieces in
+    let put = is-put items c.args.self.now c.push_reserved.new.self.items c.args.id c.args.document (value_of c.args.stated) checked c.self.inside.stored c.in_ok-checked.stored
+    c.new-piece.result c.kind_of.result.entry c.self.view_is c.self.invariant.0 c.self.invariant.1 c.requires.read c.requires.named c.requires.free c.requires.room said.check said.total
+    said.few c.new-piece.ensures c.kind_of.ensures.entry pushed in
+    put.standing
