@@ -1,5 +1,6 @@
 use Rattle.std.proofs.Common.{◌≡◌, List, false, Err, sym, ap, ◌∙◌, subst}
 use Rattle.ct_pieces.specs.Piece.{PieceValue, has_id}
+use Rattle.ct_pieces.specs.Standing.{AreStanding}
 use Rattle.ct_pieces.specs.Withdrawal.{withdrawn_all}
 use Rattle.ct_pieces.specs.declared.fault.WithdrawFault.TheVariants as fault
 use Rattle.ct_pieces.proofs.AlongLemmas.{withdrawn_all-missing}
@@ -11,3 +12,6 @@ returns-then-not-has_id-clause-fault c = λ not_memory.
     ap (has_id c.args.id) (sym c.deref.ensures.value) ∙ sym c.has_id.ensures.has ∙ c.if-not-has_id.true in
     subst (λ (ps : List PieceValue). withdrawn_all ps c.args.id ≡ Err fault.NoSuch) c.self.view_is
     (withdrawn_all-missing c.self.inside.pieces.items c.args.id free)
+
+pub marks_along-requires : goal.marks_along-requires
+marks_along-requires c = subst (λ (ps : List PieceValue). AreStanding ps) (sym c.deref-2.ensures.value) c.self.invariant.0
