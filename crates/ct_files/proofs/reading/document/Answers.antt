@@ -1,0 +1,19 @@
+use Rattle.std.proofs.Common.{ℕ, List, Result, Ok, ◌∙◌}
+use Rattle.toml.specs.View.{view}
+use Rattle.ct_fields.specs.Cites.{cites_of}
+use Rattle.ct_fields.specs.Steps.{◌>>=◌}
+use Rattle.ct_fields.specs.declared.fault.DocumentFault.{DocumentFault}
+use Rattle.ct_fields.proofs.StepLemmas.{bind-at}
+use Rattle.ct_files.specs.Document.{DocumentValue, document_of}
+use Rattle.ct_files.specs.Evidence.{evidence_of}
+use Rattle.ct_kind.specs.declared.evidence.Evidence.{Evidence}
+use Rattle.ct_files.proofs.reading.document.Goals as goal
+
+pub returns : goal.returns
+unfolding document_of
+returns c =
+    let table = view c.args.table.now in
+    let read = c.in_ok-evidence.evidence in
+    let put : List (List ℕ) → Result DocumentValue DocumentFault = λ cites. Ok (record { evidence = read; cites = cites }) in
+    let next : Evidence → Result DocumentValue DocumentFault = λ e. cites_of table >>= (λ (cites : List (List ℕ)). Ok (record { evidence = e; cites = cites })) in
+    bind-at (evidence_of table) next read c.in_ok-evidence.ensures ∙ bind-at (cites_of table) put c.in_ok-cites.cites.items c.in_ok-cites.ensures
