@@ -5,7 +5,7 @@ ghost use Rattle.ct_fields.specs.Written.{put};
 ghost use Rattle.ct_dual_files.specs.WrittenDuals.{integer_list, index_pair, pair_list, plain_table, dual_table, odd_table, weighted_table, johnson_dual_table, local_dual_table};
 
 use ct_duals::Dual;
-use ct_fields::{FieldName, entry_table, put, put_weight};
+use ct_fields::{FieldName, entry_table, put, put_weight, two_values};
 use std::alloc::{AllocError, Global};
 use toml::{Table, Value};
 
@@ -109,8 +109,5 @@ fn pair_list(alloc: Global, pairs: &[(u32, i64)]) -> Result<Value, AllocError>
 fn pair_value(alloc: Global, i: u32, number: i64) -> Result<Value, AllocError>
     ensures { IfOk result (λ value. view value ≡ index_pair (i, number)) }
 {
-    let mut values = Vec::with_capacity(alloc, 2)?;
-    values.push(Value::from(i))?;
-    values.push(Value::Integer(number))?;
-    Ok(Value::Array(values))
+    two_values(alloc, Value::from(i), Value::Integer(number))
 }

@@ -14,6 +14,7 @@ pub mod CiteLemmas
 pub mod LastLemmas
 pub mod CitedTables
 pub mod PushedValues
+pub mod Reserved
 pub mod ReadLists
 mod TextValues
 pub mod CiteRooms

@@ -22,6 +22,10 @@ pushed f g xs new x ys i y below here same is before =
     ∙ ap (λ l. map f xs ++ map g l) (sym (drop_more ys i y below))
     ∙ before
 
+-- no value was put yet
+pub none_pushed : {X Y D : Type 0} (f : X → D) (g : Y → D) (xs : List X) (ys : List Y) → xs ≡ [] → map f xs ++ map g (drop 0 ys) ≡ map g ys
+none_pushed f g xs ys none = ap (λ l. map f l ++ map g ys) none
+
 -- the values of all items, once none is left
 pub all_pushed : {X Y D : Type 0} (f : X → D) (g : Y → D) (xs : List X) (ys : List Y) (i : ℕ) → length ys ≤ i
     → map f xs ++ map g (drop i ys) ≡ map g ys → map f xs ≡ map g ys

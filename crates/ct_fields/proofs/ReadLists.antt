@@ -2,6 +2,7 @@
 use Rattle.std.proofs.Common.{◌≡◌, ℕ, suc, ◌+◌, ◌<◌, ◌≤◌, List, [], ◌∷◌, ◌++◌, length, drop, get_or, option_map, Option, Some, None, Result, Ok, Err, ok_or, append_assoc, append-nil, refl, sym, ap, ◌∙◌, arith}
 use Rattle.std.specs.Borrow.{Bor}
 use Rattle.std.specs.Option.{option_and_then}
+use Rattle.std.proofs.lemmas.Option.{option_and_then_some}
 use Rattle.std.proofs.lemmas.List.{drop_all, drop_more}
 use Rattle.toml.specs.Data.{Data, Items, no_items, item, as_str}
 use Rattle.toml.specs.View.{view, items_view}
@@ -26,6 +27,11 @@ words_on xs rest = rest >>= (λ ys. Ok (xs ++ ys))
 pub read_on-nil : {A : Type 0} (rest : Option (List A)) → read_on [] rest ≡ rest
 read_on-nil None = refl
 read_on-nil (Some ys) = refl
+
+-- so what is read of the rest is read of all
+pub all_of-begin : {A : Type 0} (form : Data → Option A) (vs : List Value) (xs : List A) → xs ≡ []
+    → read_on xs (all_of form (items_view (drop 0 vs))) ≡ all_of form (items_view vs)
+all_of-begin form vs xs none = ap (λ l. read_on l (all_of form (items_view vs))) none ∙ read_on-nil (all_of form (items_view vs))
 
 -- one item more
 read_on-one : {A : Type 0} (xs : List A) (x : A) (rest : Option (List A))
@@ -63,10 +69,31 @@ module _ {A : Type 0} (form : Data → Option A) (vs : List Value) (i : ℕ) (xs
   all_of-end past =
       ap (λ l. Some l) (sym (append-nil xs)) ∙ ap (λ l. read_on xs (all_of form (items_view l))) (sym (drop_all i vs past)) ∙ before
 
+-- what is read is as much as there are values
+pub all_of-length : {A : Type 0} (form : Data → Option A) (vs : List Value) (xs : List A) → all_of form (items_view vs) ≡ Some xs → length xs ≡ length vs
+all_of-length form [] xs e = let same : [] ≡ xs = cc in ap length (sym same)
+all_of-length form (v ∷ vs) xs e =
+    option_and_then_some _ (form (view v)) xs e (λ x x-is next.
+    option_and_then_some _ (all_of form (items_view vs)) xs next (λ more more-are last.
+    let same : x ∷ more ≡ xs = cc in
+    ap length (sym same) ∙ ap suc (all_of-length form vs more more-are)))
+
 -- texts are what has the form of a text
 pub texts_of-all : (ds : Items) → all_of as_str ds ≡ texts_of ds
 texts_of-all no_items = refl
 texts_of-all (item d ds) = ap (λ o. option_and_then (λ text. option_and_then (λ texts. Some (text ∷ texts)) o) (as_str d)) (texts_of-all ds)
+
+-- no word was read yet
+words_on-nil : (rest : Result (List ℕ) DocumentFault) → words_on [] rest ≡ rest
+words_on-nil (Err fault) = refl
+words_on-nil (Ok ys) = refl
+
+pub words_from-begin : (n place : ℕ) (texts : List (Bor (List ℕ))) (words : List ℕ) → words ≡ []
+    → words_on words (words_from n (place + 0) (texts_behind (drop 0 texts))) ≡ words_from n place (texts_behind texts)
+words_from-begin n place texts words none =
+    let all = words_from n place (texts_behind texts) in
+    let first : place + 0 ≡ place = omega arith in
+    ap (λ p. words_on words (words_from n p (texts_behind texts))) first ∙ ap (λ l. words_on l all) none ∙ words_on-nil all
 
 -- one word more
 words_on-one : (xs : List ℕ) (x : ℕ) (rest : Result (List ℕ) DocumentFault) → words_on (xs ++ x ∷ []) rest ≡ words_on xs (rest >>= (λ ys. Ok (x ∷ ys)))

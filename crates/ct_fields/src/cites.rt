@@ -24,12 +24,9 @@ pub fn cites_of(alloc: Global, document: &Value) -> Result<Vec<Cite>, DocumentFa
     if !may_cite(document) {
         return Ok(Vec::new(alloc));
     }
-    let Some(value) = document.get("cites") else {
-        return Ok(Vec::new(alloc));
-    };
-    match cites_in(alloc, value)? {
-        Some(cites) => Ok(cites),
-        None => Err(DocumentFault::Field(FieldName::Cites)),
+    match document.get("cites") {
+        None => Ok(Vec::new(alloc)),
+        Some(value) => cites_in(alloc, value)?.ok_or(DocumentFault::Field(FieldName::Cites)),
     }
 }
 
@@ -97,12 +94,12 @@ fn is_cite_value(value: &Value) -> bool
 fn all_cites(alloc: Global, values: &[Value]) -> Result<Option<Vec<Cite>>, AllocError>
     ensures { IfOk result (λ o. option_map (λ v. v.items) o ≡ all_of cite_in (items_view values.now)) }
 {
-    let mut cites = Vec::new(alloc);
+    let mut cites = Vec::with_capacity(alloc, values.len())?;
     for value in values {
         let Some(cite) = cite_in(alloc, value)? else {
             return Ok(None);
         };
-        cites.push(cite)?;
+        cites.push_reserved(cite);
     }
     Ok(Some(cites))
 }
@@ -134,7 +131,7 @@ pub(crate) fn cite_values(alloc: Global, cites: &[Cite]) -> Result<Value, AllocE
 {
     let mut values = Vec::with_capacity(alloc, cites.len())?;
     for cite in cites {
-        values.push(cite_value(alloc, cite)?)?;
+        values.push_reserved(cite_value(alloc, cite)?);
     }
     Ok(Value::Array(values))
 }

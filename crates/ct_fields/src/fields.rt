@@ -41,10 +41,7 @@ pub fn texts_field<'a>(
     ensures { Reads (λ v. texts_behind v.items) result (texts_field name (view document.now)) }
 {
     match document.get(name.text()) {
-        Some(Value::Array(values)) => match texts_of(alloc, values)? {
-            Some(texts) => Ok(texts),
-            None => Err(DocumentFault::Field(name)),
-        },
+        Some(Value::Array(values)) => { texts_of(alloc, values)?.ok_or(DocumentFault::Field(name)) }
         _ => Err(DocumentFault::Field(name)),
     }
 }
@@ -63,12 +60,12 @@ fn text_in(value: &Value) -> Option<&str>
 pub fn texts_of(alloc: Global, values: &[Value]) -> Result<Option<Vec<&str>>, AllocError>
     ensures { IfOk result (λ o. option_map (λ v. texts_behind v.items) o ≡ texts_of (items_view values.now)) }
 {
-    let mut texts = Vec::new(alloc);
+    let mut texts = Vec::with_capacity(alloc, values.len())?;
     for value in values {
         let Some(text) = text_in(value) else {
             return Ok(None);
         };
-        texts.push(text)?;
+        texts.push_reserved(text);
     }
     Ok(Some(texts))
 }
@@ -85,12 +82,12 @@ pub fn words_from(
     requires places { first + length texts.now < 2 ^ 64 }
     ensures { Reads (λ v. v.items) result (words_from n first (texts_behind texts.now)) }
 {
-    let mut words = Vec::new(alloc);
+    let mut words = Vec::with_capacity(alloc, texts.len())?;
     for (place, text) in texts.iter().enumerate() {
         let Ok(word) = parse_word(text.as_bytes(), n) else {
             return Err(DocumentFault::Digits(first + place));
         };
-        words.push(word)?;
+        words.push_reserved(word);
     }
     Ok(words)
 }

@@ -102,12 +102,12 @@ fn two_in(value: &Value) -> Option<(&Value, &Value)>
 pub fn all_of<T: Form>(alloc: Global, values: &[Value]) -> Result<Option<Vec<T>>, AllocError>
     ensures { IfOk result (λ o. option_map (λ v. v.items) o ≡ all_of T.form (items_view values.now)) }
 {
-    let mut all = Vec::new(alloc);
+    let mut all = Vec::with_capacity(alloc, values.len())?;
     for value in values {
         let Some(one) = T::of_value(value) else {
             return Ok(None);
         };
-        all.push(one)?;
+        all.push_reserved(one);
     }
     Ok(Some(all))
 }

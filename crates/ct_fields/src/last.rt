@@ -52,10 +52,7 @@ fn keys_are_named(table: &Table, cites: bool, names: &[FieldName]) -> bool
 fn is_named(key: &str, cites: bool, names: &[FieldName]) -> bool
     ensures { result ≡ is_named (all_fields cites names.now) key.now }
 {
-    if cites {
-        return key == "kind" || key == "format" || key == "cites" || is_field(key, names);
-    }
-    key == "kind" || key == "format" || is_field(key, names)
+    key == "kind" || key == "format" || (cites && key == "cites") || is_field(key, names)
 }
 
 fn is_field(key: &str, names: &[FieldName]) -> bool

@@ -25,4 +25,6 @@ pub use formats::{format_of, may_cite};
 pub use forms::{Form, all_of};
 pub use ids::{id_in, id_value};
 pub use last::last_fields;
-pub use writing::{entry_table, put, put_cites, put_weight, put_words, word_value, word_values};
+pub use writing::{
+    entry_table, put, put_cites, put_weight, put_words, two_values, word_value, word_values,
+};

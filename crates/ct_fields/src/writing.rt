@@ -1,12 +1,11 @@
 //! What is written at the keys of a table.
-ghost use Rattle.std.specs.Prelude.{◌≡◌, ◌^◌, ◌<◌, ◌≤◌, All, IfOk, IsTrue, OnOk, string_bytes};
-ghost use Rattle.toml.specs.Data.{string};
-ghost use Rattle.toml.specs.View.{view, table_view};
+ghost use Rattle.std.specs.Prelude.{◌≡◌, ◌^◌, ◌<◌, ◌≤◌, [], ◌∷◌, All, IfOk, IsTrue, OnOk, codes, pos};
+ghost use Rattle.toml.specs.Data.{string, integer, array};
+ghost use Rattle.toml.specs.View.{view, table_view, items_of};
 ghost use Rattle.ct_words.specs.declared.limits.TheConstants.{MAX_N};
 ghost use Rattle.ct_words.specs.Text.{word_text};
 ghost use Rattle.ct_text.specs.Cite.{is_cite};
-ghost use Rattle.ct_fields.specs.Field.{field_text};
-ghost use Rattle.ct_fields.specs.Written.{word_texts, put, put_weight, put_cites, entry_table};
+ghost use Rattle.ct_fields.specs.Written.{word_texts, set_member, put, put_weight, put_cites, entry_table};
 
 use crate::cites::cite_values;
 use crate::field::FieldName;
@@ -14,13 +13,6 @@ use ct_text::Cite;
 use ct_words::{Word, print_word};
 use std::alloc::{AllocError, Global};
 use toml::{Table, Value};
-
-/// The key of the field, as a text of its own.
-fn key(alloc: Global, name: FieldName) -> Result<String, AllocError>
-    ensures { IfOk result (λ key. string_bytes key ≡ field_text name) }
-{
-    String::from_str(alloc, name.text())
-}
 
 fn word_text(alloc: Global, n: u32, word: Word) -> Result<Vec<u8>, AllocError>
     requires room { n ≤ MAX_N }
@@ -50,9 +42,27 @@ pub fn word_values(alloc: Global, n: u32, words: &[Word]) -> Result<Value, Alloc
 {
     let mut values = Vec::with_capacity(alloc, words.len())?;
     for word in words {
-        values.push(word_value(alloc, n, *word)?)?;
+        values.push_reserved(word_value(alloc, n, *word)?);
     }
     Ok(Value::Array(values))
+}
+
+/// The list of the two values.
+pub fn two_values(alloc: Global, first: Value, second: Value) -> Result<Value, AllocError>
+    ensures { IfOk result (λ value. view value ≡ array (items_of (view first ∷ view second ∷ []))) }
+{
+    let mut values = Vec::with_capacity(alloc, 2)?;
+    values.push_reserved(first);
+    values.push_reserved(second);
+    Ok(Value::Array(values))
+}
+
+/// Puts the value at the key.
+fn put_at(alloc: Global, table: &mut Table, key: &str, value: Value) -> Result<(), AllocError>
+    ensures { OnOk result (table_view table.new ≡ set_member key.now (view value) (table_view table.old)) }
+{
+    table.insert(String::from_str(alloc, key)?, value)?;
+    Ok(())
 }
 
 /// Puts the value at the key of the field.
@@ -64,8 +74,7 @@ pub fn put(
 ) -> Result<(), AllocError>
     ensures { OnOk result (table_view table.new ≡ put name (view value) (table_view table.old)) }
 {
-    table.insert(key(alloc, name)?, value)?;
-    Ok(())
+    put_at(alloc, table, name.text(), value)
 }
 
 /// Puts the texts of the words of length `n` at the key of the field.
@@ -102,8 +111,8 @@ pub fn put_cites(alloc: Global, table: &mut Table, cites: &[Cite]) -> Result<(),
     if cites.is_empty() {
         return Ok(());
     }
-    let value = cite_values(alloc, cites)?;
     put(alloc, table, FieldName::Format, Value::from(2u32))?;
+    let value = cite_values(alloc, cites)?;
     put(alloc, table, FieldName::Cites, value)
 }
 
@@ -112,9 +121,16 @@ pub fn entry_table(alloc: Global, kind: &str, n: u32, d: u32) -> Result<Table, A
     ensures { IfOk result (λ table. table_view table ≡ entry_table kind.now n d) }
 {
     let mut table = Table::new(alloc);
-    let key = String::from_str(alloc, "kind")?;
-    table.insert(key, Value::string(alloc, kind)?)?;
-    put(alloc, &mut table, FieldName::N, Value::from(n))?;
-    put(alloc, &mut table, FieldName::D, Value::from(d))?;
+    put_entry(alloc, &mut table, kind, n, d)?;
     Ok(table)
+}
+
+/// Puts the kind, the length and the distance.
+fn put_entry(alloc: Global, table: &mut Table, kind: &str, n: u32, d: u32) -> Result<(), AllocError>
+    ensures { OnOk result (table_view table.new ≡ put FieldName.D (integer (pos d))
+        (put FieldName.N (integer (pos n)) (set_member (codes "kind") (string kind.now) (table_view table.old)))) }
+{
+    put_at(alloc, table, "kind", Value::string(alloc, kind)?)?;
+    put(alloc, table, FieldName::N, Value::from(n))?;
+    put(alloc, table, FieldName::D, Value::from(d))
 }
