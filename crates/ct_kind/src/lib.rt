@@ -14,5 +14,5 @@ pub use fault::SubmitFault;
 pub use kind::{Kind, support_from};
 pub use parts::{Found, Partitions};
 pub use stated::StatedPartition;
-pub use text::put_numbered;
+pub use text::{put_numbered, put_numbered_pair};
 pub use word_lists::WordLists;

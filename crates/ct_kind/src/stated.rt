@@ -58,10 +58,9 @@ impl<'a> StatedPartition<'a> {
 fn copied(alloc: Global, classes: &[Vec<Word>]) -> Result<Vec<Vec<Word>>, AllocError>
     ensures { IfOk result (λ copies. word_lists copies.items ≡ word_lists classes.now) }
 {
-    let mut copies = Vec::new(alloc);
+    let mut copies = Vec::with_capacity(alloc, classes.len())?;
     for class in classes {
-        let copy = Vec::from_slice(alloc, class)?;
-        copies.push(copy)?;
+        copies.push_reserved(Vec::from_slice(alloc, class)?);
     }
     Ok(copies)
 }

@@ -18,3 +18,17 @@ pub fn put_numbered(
     text.extend_from_slice(name)?;
     put_spaced(alloc, text, number)
 }
+
+/// Puts the name of a fault and two numbers at the end of the text. `Err` is want of memory.
+pub fn put_numbered_pair(
+    alloc: Global,
+    text: &mut Vec<u8>,
+    name: &[u8],
+    first: u64,
+    second: u64,
+) -> Result<(), AllocError>
+    ensures { OnOk result (text.new.items ≡ text.old.items ++ (name.now ++ spaced first ++ spaced second)) }
+{
+    put_numbered(alloc, text, name, first)?;
+    put_spaced(alloc, text, second)
+}
