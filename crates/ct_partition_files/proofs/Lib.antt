@@ -1,4 +1,5 @@
 mod ListLemmas
+mod ReadClasses
 pub mod CountLemmas
 mod PairLemmas
 mod WrittenLists

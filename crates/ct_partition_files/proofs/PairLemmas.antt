@@ -1,9 +1,12 @@
 -- Pairs of ids, where they are read.
-use Rattle.std.proofs.Common.{◌≡◌, ℕ, suc, true, nat_le, List, [], length, Option, Some, None, Ok, refl, ap, ◌∙◌, subst, le-leb, eq-eqb, eqb-true, arith}
+use Rattle.std.proofs.Common.{◌≡◌, ℕ, suc, Bool, true, false, if◌then◌else◌, nat_le, List, [], length, Option, Some, None, Ok, refl, ap, ◌∙◌, subst, le-leb, eq-eqb, eqb-true, arith}
 use Rattle.std.specs.Prelude.{All, IsTrue}
 use Rattle.std.proofs.lemmas.Bool.{and_parts, and_from, leb-true}
+use Rattle.std.specs.Option.{option_and_then}
 use Rattle.std.proofs.lemmas.Option.{option_and_then_some, cond_some}
 use Rattle.toml.specs.Data.{Data, string, integer, float, boolean, datetime, array, table, get}
+use Rattle.toml.specs.View.{items_view}
+use Rattle.toml.specs.declared.value.Value.{Value}
 use Rattle.ct_words.specs.declared.limits.TheConstants.{MAX_N}
 use Rattle.ct_fields.specs.Field.{field_text}
 use Rattle.ct_fields.specs.Ids.{id_in}
@@ -11,6 +14,7 @@ use Rattle.ct_fields.specs.declared.field.FieldName.TheVariants.{Pairs}
 use Rattle.ct_fields.specs.declared.fault.DocumentFault.TheVariants.{Field}
 use Rattle.ct_fields.proofs.StepLemmas.{ok_or-ok}
 use Rattle.ct_fields.specs.Forms.{pair_in, all_of, pair_data}
+use Rattle.ct_fields.proofs.ReadLists.{all_of-length}
 use Rattle.ct_fields.proofs.FormLemmas.{ReadsBack, pair-reads, all-some, all-from, id-reads}
 use Rattle.ct_text.specs.Id.{is_id}
 use Rattle.ct_partition_files.specs.Pairs.{is_pair_count, pairs_in, pairs_field}
@@ -47,6 +51,26 @@ pairs_in-some w (float x) pairs e = absurd cc
 pairs_in-some w (boolean b) pairs e = absurd cc
 pairs_in-some w (datetime t) pairs e = absurd cc
 pairs_in-some w (table ms) pairs e = absurd cc
+
+either_way : {A : Type 0} (b : Bool) (x : A) → x ≡ (if b then x else x)
+either_way true x = refl
+either_way false x = refl
+
+-- pairs that are read are as many as the values, so these can be counted first
+counted : (w : Option ℕ) (count : ℕ) (read : Option (List (List ℕ × List ℕ))) → ((pairs : List (List ℕ × List ℕ)) → read ≡ Some pairs → length pairs ≡ count)
+    → option_and_then (λ pairs. if is_pair_count w (length pairs) then Some pairs else None) read ≡ (if is_pair_count w count then read else None)
+counted w count None as_many = either_way (is_pair_count w count) None
+counted w count (Some pairs) as_many = rw (as_many pairs refl) refl
+
+module _ (w : Option ℕ) (vs : List Value) where
+  if_counted : pairs_in w (array (items_view vs)) ≡ (if is_pair_count w (length vs) then all_of (pair_in id_in id_in) (items_view vs) else None)
+  if_counted = counted w (length vs) (all_of (pair_in id_in id_in) (items_view vs)) (all_of-length (pair_in id_in id_in) vs)
+
+  pub pairs_in-counted : is_pair_count w (length vs) ≡ true → pairs_in w (array (items_view vs)) ≡ all_of (pair_in id_in id_in) (items_view vs)
+  pairs_in-counted right = if_counted ∙ ap (λ b. if b then all_of (pair_in id_in id_in) (items_view vs) else None) right
+
+  pub pairs_in-miscounted : is_pair_count w (length vs) ≡ false → pairs_in w (array (items_view vs)) ≡ None
+  pairs_in-miscounted wrong = if_counted ∙ ap (λ b. if b then all_of (pair_in id_in id_in) (items_view vs) else None) wrong
 
 -- pairs are read exactly where the field is a list of them
 pub pairs_field-ok : (w : Option ℕ) (document : Data) (pairs : List (List ℕ × List ℕ)) → pairs_field w document ≡ Ok pairs

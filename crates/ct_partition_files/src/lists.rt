@@ -21,10 +21,9 @@ pub(crate) fn text_lists_field<'a>(
     ensures { Reads (λ v. lists_behind v.items) result (text_lists_field name (view document.now)) }
 {
     match document.get(name.text()) {
-        Some(Value::Array(values)) => match text_lists_of(alloc, values)? {
-            Some(lists) => Ok(lists),
-            None => Err(DocumentFault::Field(name)),
-        },
+        Some(Value::Array(values)) => {
+            text_lists_of(alloc, values)?.ok_or(DocumentFault::Field(name))
+        }
         _ => Err(DocumentFault::Field(name)),
     }
 }
@@ -33,12 +32,12 @@ pub(crate) fn text_lists_field<'a>(
 fn text_lists_of(alloc: Global, values: &[Value]) -> Result<Option<Vec<Vec<&str>>>, AllocError>
     ensures { IfOk result (λ o. option_map (λ v. lists_behind v.items) o ≡ text_lists_of (items_view values.now)) }
 {
-    let mut lists = Vec::new(alloc);
+    let mut lists = Vec::with_capacity(alloc, values.len())?;
     for value in values {
         let Some(texts) = texts_in(alloc, value)? else {
             return Ok(None);
         };
-        lists.push(texts)?;
+        lists.push_reserved(texts);
     }
     Ok(Some(lists))
 }
@@ -63,14 +62,14 @@ pub(crate) fn classes_from(
     requires room { n ≤ MAX_N }
     ensures { Reads (λ v. word_lists v.items) result (classes_from n 0 (lists_behind lists.now)) }
 {
-    let mut classes = Vec::new(alloc);
+    let mut classes = Vec::with_capacity(alloc, lists.len())?;
     let mut first: usize = 0;
     for texts in lists {
         // More texts than there are places would not fit into memory.
         let Some(after) = first.checked_add(texts.len()) else {
             return Err(DocumentFault::Memory);
         };
-        classes.push(words_from(alloc, n, first, texts)?)?;
+        classes.push_reserved(words_from(alloc, n, first, texts)?);
         first = after;
     }
     Ok(classes)

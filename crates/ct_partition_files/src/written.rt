@@ -9,14 +9,13 @@ ghost use Rattle.ct_fields.specs.Written.{put, put_weight};
 ghost use Rattle.ct_partition_files.specs.Written.{AreIds, class_list, pair_list, partition_table, product_table};
 
 use ct_codes::Entry;
-use ct_fields::{FieldName, entry_table, id_value, put, put_weight, word_values};
+use ct_fields::{FieldName, entry_table, id_value, put, put_weight, two_values, word_values};
 use ct_text::Id;
 use ct_words::Word;
 use std::alloc::{AllocError, Global};
 use toml::{Table, Value};
 
 /// The table of a partition.
-#[tactic(auto, using(crate::proofs::WrittenPartitions::short_classes))]
 pub fn partition_table(
     alloc: Global,
     entry: Entry,
@@ -59,7 +58,7 @@ fn class_list(alloc: Global, n: u32, classes: &[Vec<Word>]) -> Result<Value, All
 {
     let mut values = Vec::with_capacity(alloc, classes.len())?;
     for class in classes {
-        values.push(word_values(alloc, n, class)?)?;
+        values.push_reserved(word_values(alloc, n, class)?);
     }
     Ok(Value::Array(values))
 }
@@ -96,7 +95,7 @@ fn pair_list(alloc: Global, pairs: &[(Id, Id)]) -> Result<Value, AllocError>
 {
     let mut values = Vec::with_capacity(alloc, pairs.len())?;
     for (first, second) in pairs {
-        values.push(pair_value(alloc, first, second)?)?;
+        values.push_reserved(pair_value(alloc, first, second)?);
     }
     Ok(Value::Array(values))
 }
@@ -106,8 +105,7 @@ fn pair_value(alloc: Global, first: &Id, second: &Id) -> Result<Value, AllocErro
     ensures list { IfOk result (λ value. view value ≡ pair_data string string (first.now, second.now)) }
     ensures ids { IfOk result (λ _. AreIds (first.now, second.now)) }
 {
-    let mut values = Vec::with_capacity(alloc, 2)?;
-    values.push(id_value(alloc, first)?)?;
-    values.push(id_value(alloc, second)?)?;
-    Ok(Value::Array(values))
+    let first = id_value(alloc, first)?;
+    let second = id_value(alloc, second)?;
+    two_values(alloc, first, second)
 }

@@ -7,6 +7,7 @@ use Rattle.toml.specs.View.{view, items_view}
 use Rattle.toml.specs.declared.value.Value.{Value}
 use Rattle.ct_fields.specs.Fields.{texts_in}
 use Rattle.ct_fields.specs.Reads.{texts_behind}
+use Rattle.ct_fields.proofs.Reserved.{room_left, room_stays}
 use Rattle.ct_partition_files.specs.Lists.{lists_behind, text_lists_of}
 use Rattle.ct_partition_files.proofs.lists.text_lists_of.Goals as goal
 
@@ -16,6 +17,14 @@ Texts = Vec (Bor (List ℕ)) Global
 -- the lists that are read, with those of the values from i on
 abbrev read_from : List Texts → List Value → ℕ → Option (List (List (List ℕ)))
 read_from lists values i = option_map (λ rest. lists_behind lists ++ rest) (text_lists_of (items_view (drop i values)))
+
+-- no list was read yet
+no_lists : (rest : Option (List (List (List ℕ)))) → option_map (λ more. [] ++ more) rest ≡ rest
+no_lists None = refl
+no_lists (Some more) = refl
+
+read_begin : (lists : List Texts) (values : List Value) → lists ≡ [] → read_from lists values 0 ≡ text_lists_of (items_view values)
+read_begin lists values none = ap (λ ls. read_from ls values 0) none ∙ no_lists (text_lists_of (items_view values))
 
 -- one value more that is a list of texts
 one_more : (lists : List Texts) (texts : Texts) (rest : Option (List (List (List ℕ))))
@@ -56,18 +65,29 @@ read_all lists values i past before =
     ∙ ap (λ vs. option_map (λ rest. lists_behind lists ++ rest) (text_lists_of (items_view vs))) (sym (drop_all i values past))
     ∙ before
 
+pub loop-value-init : goal.loop-value-init
+loop-value-init c =
+    (read_begin c.in_ok-lists.lists.items c.args.values.now c.in_ok-lists.ensures.items, (c.in_ok-lists.ensures.len, c.in_ok-lists.ensures.capacity))
+
+pub push_reserved-requires : goal.push_reserved-requires
+push_reserved-requires c =
+    room_left c.loop-value.lists c.loop-value.value-index (length c.args.values.now) c.loop-value.invariant.1 c.loop-value-test.true
+
 pub loop-value-preserved : goal.loop-value-preserved
 loop-value-preserved c =
-    let found = c.in_ok-texts.ensures in
-    read_more c.loop-value.lists.items c.args.values.now c.loop-value.value-index c.value-item.result c.loop-value-test.true c.value-item.is
-    c.push.new.self.items c.in-Some.texts (sym (ap (option_map (λ (v : Texts). texts_behind v.items)) c.in-Some.is) ∙ found) c.in_ok-push.ensures.items
-    c.loop-value.invariant
+    let found = c.in_ok-texts.ensures in (
+      read_more c.loop-value.lists.items c.args.values.now c.loop-value.value-index c.value-item.result c.loop-value-test.true c.value-item.is
+          c.push_reserved.new.self.items c.in-Some.texts (sym (ap (option_map (λ (v : Texts). texts_behind v.items)) c.in-Some.is) ∙ found) c.push_reserved.ensures.items
+          c.loop-value.invariant.0,
+      room_stays c.loop-value.lists c.push_reserved.new.self c.loop-value.value-index (length c.args.values.now) c.loop-value.invariant.1
+          c.push_reserved.ensures.len c.push_reserved.ensures.capacity,
+    )
 
 pub returns : goal.returns
-returns c = read_all c.loop-value.lists.items c.args.values.now c.loop-value.value-index c.loop-value-test.false c.loop-value.invariant
+returns c = read_all c.loop-value.lists.items c.args.values.now c.loop-value.value-index c.loop-value-test.false c.loop-value.invariant.0
 
 pub returns-in_default : goal.returns-in_default
 returns-in_default c =
     let found = c.in_ok-texts.ensures in
     read_none c.loop-value.lists.items c.args.values.now c.loop-value.value-index c.value-item.result c.loop-value-test.true c.value-item.is
-    (sym (ap (option_map (λ (v : Texts). texts_behind v.items)) c.in_default.is) ∙ found) c.loop-value.invariant
+    (sym (ap (option_map (λ (v : Texts). texts_behind v.items)) c.in_default.is) ∙ found) c.loop-value.invariant.0

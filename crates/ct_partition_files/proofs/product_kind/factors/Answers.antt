@@ -1,4 +1,5 @@
-use Rattle.std.proofs.Common.{arith}
+use Rattle.std.proofs.Common.{take_all, ap, ◌∙◌, arith}
+use Rattle.ct_partition_files.specs.ProductKind.{factors_named}
 use Rattle.ct_partition_files.proofs.ProductKind.{AreListed, listed-step}
 use Rattle.ct_partition_files.proofs.product_kind.factors.Goals as goal
 
@@ -19,3 +20,8 @@ loop-pair-preserved g c =
     let next = listed-step known pairs k c.loop-pair.parts.items _ c.loop-pair.places.items _ c.in_ok-x.x c.in_ok-y.y c.pair-item.result old c.loop-pair-test.true c.pair-item.is
     c.in_ok-x.ensures c.in_ok-y.ensures c.in_ok-put_pair.ensures.parts c.in_ok-put_pair.ensures.places in
     record { count = next.count; pairs = next.listed; places = next.within; factors = next.factors }
+
+pub returns-clause-factors : goal.returns-clause-factors
+returns-clause-factors g c =
+    c.loop-pair.invariant.factors
+    ∙ ap (factors_named (g.P.Partitions.known c.args.pieces.now)) (take_all c.loop-pair.pair-index c.args.pairs.now c.loop-pair-test.false)
