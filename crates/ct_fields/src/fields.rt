@@ -4,7 +4,7 @@ ghost use Rattle.toml.specs.Data.{as_str};
 ghost use Rattle.toml.specs.View.{view, items_view};
 ghost use Rattle.ct_words.specs.declared.limits.TheConstants.{MAX_N};
 ghost use Rattle.ct_fields.specs.Reads.{Reads, texts_behind};
-ghost use Rattle.ct_fields.specs.Fields.{number_field, texts_of, texts_field, words_from};
+ghost use Rattle.ct_fields.specs.Fields.{number_in, number_field, texts_of, texts_field, words_from};
 
 use crate::fault::DocumentFault;
 use crate::field::FieldName;
@@ -22,13 +22,23 @@ pub fn number_field(
     ensures { result ≡ number_field name low high (view document.now) }
 {
     match document.get(name.text()) {
-        Some(Value::Integer(number)) => {
+        Some(value) => number_in(value, low, high).ok_or(DocumentFault::Field(name)),
+        None => Err(DocumentFault::Field(name)),
+    }
+}
+
+/// The number that the value is, where it is an integer from `low` to `high`.
+pub(crate) fn number_in(value: &Value, low: u32, high: u32) -> Option<u32>
+    ensures { result ≡ number_in low high (view value.now) }
+{
+    match value {
+        Value::Integer(number) => {
             if *number < i64::from(low) || *number > i64::from(high) {
-                return Err(DocumentFault::Field(name));
+                return None;
             }
-            Ok(*number as u32)
+            Some(*number as u32)
         }
-        _ => Err(DocumentFault::Field(name)),
+        _ => None,
     }
 }
 

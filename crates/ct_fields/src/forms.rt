@@ -2,10 +2,9 @@
 ghost use Rattle.std.specs.Prelude.{◌≡◌, Option, IfOk, option_map};
 ghost use Rattle.toml.specs.Data.{Data};
 ghost use Rattle.toml.specs.View.{view, items_view};
-ghost use Rattle.ct_words.specs.declared.limits.TheConstants.{MAX_N};
-ghost use Rattle.ct_fields.specs.Fields.{number_in};
 ghost use Rattle.ct_fields.specs.Forms.{two_in, all_of};
 
+use crate::fields::number_in;
 use crate::ids::id_in;
 use ct_text::Id;
 use ct_words::MAX_N;
@@ -52,7 +51,7 @@ impl Form for u32 {
     ghost form = { number_in 0 MAX_N };
 
     fn of_value(value: &Value) -> Option<u32> {
-        small_number(value)
+        number_in(value, 0, MAX_N)
     }
 }
 
@@ -67,21 +66,6 @@ impl<A: Form, B: Form> Form for (A, B) {
         let first = A::of_value(first)?;
         let second = B::of_value(second)?;
         Some((first, second))
-    }
-}
-
-/// The number, where it is an integer from 0 to `MAX_N`.
-fn small_number(value: &Value) -> Option<u32>
-    ensures { result ≡ number_in 0 MAX_N (view value.now) }
-{
-    match value {
-        Value::Integer(number) => {
-            if *number < 0 || *number > i64::from(MAX_N) {
-                return None;
-            }
-            Some(*number as u32)
-        }
-        _ => None,
     }
 }
 
