@@ -49,18 +49,7 @@ impl<'a> StatedPartition<'a> {
         requires { IsSoundPartition self.now }
         ensures { IfOk result (λ partition. partition ≡ self.now) }
     {
-        let classes = copied(alloc, self.classes)?;
+        let classes = Vec::from_clones(alloc, self.classes)?;
         Ok(Partition::from_classes(self.entry, self.between, classes))
     }
-}
-
-/// The same lists of words.
-fn copied(alloc: Global, classes: &[Vec<Word>]) -> Result<Vec<Vec<Word>>, AllocError>
-    ensures { IfOk result (λ copies. word_lists copies.items ≡ word_lists classes.now) }
-{
-    let mut copies = Vec::with_capacity(alloc, classes.len())?;
-    for class in classes {
-        copies.push_reserved(Vec::from_slice(alloc, class)?);
-    }
-    Ok(copies)
 }
