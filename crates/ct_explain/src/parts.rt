@@ -46,7 +46,7 @@ fn part_places(alloc: Global, pieces: &[Piece], piece: &Piece) -> Result<Parts, 
 }
 
 /// Pieces of which the parts are told, each piece's where they are asked for. Contracts see the pieces.
-#[derive(Debug, Drop)]
+#[derive(Drop)]
 pub struct PartsOfPieces<'a> {
     pieces: &'a [Piece],
 }

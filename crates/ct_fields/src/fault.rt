@@ -6,7 +6,7 @@ use crate::field::FieldName;
 use std::alloc::{AllocError, AllocFailed};
 
 /// Why a document is not read: the first of these that holds, in this order.
-#[derive(Clone, Copy, Debug, PartialEq, Eq)]
+#[derive(Clone, Copy, PartialEq, Eq)]
 pub enum DocumentFault {
     /// The number of its bytes, which is above `MAX_DOCUMENT`.
     Bytes(u64),

@@ -4,7 +4,7 @@ use ct_kind::Evidence;
 use ct_text::Cite;
 
 /// An evidence, and the texts that say where it comes from.
-#[derive(Debug, Drop)]
+#[derive(Drop)]
 pub struct Document {
     /// The evidence.
     pub evidence: Evidence,

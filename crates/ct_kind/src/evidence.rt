@@ -8,7 +8,7 @@ use ct_text::Id;
 use ct_words::{Listed, Word};
 
 /// A piece of evidence for a bound.
-#[derive(Debug, Drop)]
+#[derive(Drop)]
 pub enum Evidence {
     /// Words that are stated as a code of the entry, in the order of the document.
     Words {

@@ -11,7 +11,7 @@ use ct_text::Id;
 use std::alloc::{AllocError, AllocFailed};
 
 /// Why a submission makes no piece: the first of these that holds, in this order.
-#[derive(Clone, Copy, Debug)]
+#[derive(Clone, Copy)]
 pub enum SubmitFault {
     /// A standing piece has the id.
     Taken,

@@ -7,7 +7,7 @@ use std::marker::Model;
 
 /// Lists of words in the order in which they were handed in, repeats and empty ones included. Contracts see the list of the
 /// lists.
-#[derive(Debug, Drop)]
+#[derive(Drop)]
 pub struct WordLists {
     lists: Vec<Vec<Word>>,
 }

@@ -24,7 +24,7 @@ use std::marker::Model;
 
 /// The pieces of evidence that were accepted and not withdrawn, in the order in which they were accepted, and the table of
 /// the bounds that they give. Contracts see the list of the pieces, the number of words that they store, and the table.
-#[derive(Debug, Drop)]
+#[derive(Drop)]
 pub struct Ledger {
     pieces: Pieces,
     table: Table,

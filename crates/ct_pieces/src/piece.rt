@@ -16,7 +16,7 @@ use std::alloc::{AllocError, Global};
 use std::marker::Model;
 
 /// A piece of evidence that was accepted under an id.
-#[derive(Debug, Drop)]
+#[derive(Drop)]
 pub struct Piece {
     id: Id,
     document: Text,

@@ -35,7 +35,7 @@ use std::marker::Model;
 
 /// The pieces of evidence that were accepted and not withdrawn, in the order in which they were accepted, without a table of what
 /// they give. Contracts see the list of the pieces. The code of a build is kept beside it, once its words were needed.
-#[derive(Debug, Drop)]
+#[derive(Drop)]
 pub struct Pieces {
     pieces: Vec<Piece>,
     kept: Vec<Option<Code>>,

@@ -6,7 +6,7 @@ use ct_text::{Id, Text};
 use ct_words::Listed;
 
 /// Why a command is refused.
-#[derive(Debug, Drop)]
+#[derive(Drop)]
 pub enum Refusal {
     /// The input ends before the document does.
     CutOff,
@@ -32,7 +32,7 @@ pub struct Bounds {
 }
 
 /// The reply to a command.
-#[derive(Debug, Drop)]
+#[derive(Drop)]
 pub enum Reply {
     /// A piece was accepted under the id; the size of its code, where it has one.
     Accepted(Id, Option<u32>),

@@ -10,7 +10,7 @@ use ct_text::{Id, put_number};
 use std::alloc::{AllocError, Global};
 
 /// A command of the sample.
-#[derive(Debug, Drop)]
+#[derive(Drop)]
 pub enum Command {
     /// The evidence is submitted under the id, with a document that is written from it.
     Submit(Id, Evidence),

@@ -21,7 +21,7 @@ use std::marker::Model;
 
 /// A ledger that obeyed commands of the sample, and the counts of those that it followed. Contracts see its pieces without
 /// their documents, and the counts.
-#[derive(Debug, Drop)]
+#[derive(Drop)]
 pub(crate) struct Run {
     ledger: Ledger,
     accepted: u32,

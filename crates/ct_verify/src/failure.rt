@@ -3,7 +3,7 @@
 use crate::verdict::Why;
 
 /// A text line of a derivation document that fails.
-#[derive(Clone, Copy, Debug)]
+#[derive(Clone, Copy)]
 pub(crate) struct Failure {
     /// Its number, counted from 1.
     pub(crate) line: usize,

@@ -14,7 +14,7 @@ pub struct Block {
 }
 
 /// Where in a derivation document a reading is.
-#[derive(Debug, Drop)]
+#[derive(Drop)]
 pub enum Part {
     /// Before the first text line.
     Start,

@@ -7,7 +7,7 @@ use ct_rules::{Line, Support};
 use std::marker::Model;
 
 /// What was read of a derivation document. Contracts see the pieces, the lines, and where in the document this is.
-#[derive(Debug, Drop)]
+#[derive(Drop)]
 pub struct Reading {
     pub(crate) pieces: Pieces,
     pub(crate) supports: Vec<Support>,

@@ -4,7 +4,7 @@ use ct_pieces::SubmitFault;
 
 /// Why a text line of a derivation document fails: the first of these that holds of it, but for a block of evidence, which fails
 /// on the line on which it begins.
-#[derive(Clone, Copy, Debug)]
+#[derive(Clone, Copy)]
 pub enum Why {
     /// The line is not of its form, or the document ends too early.
     Form,
@@ -21,7 +21,7 @@ pub enum Why {
 }
 
 /// The verdict on a derivation document.
-#[derive(Clone, Copy, Debug)]
+#[derive(Clone, Copy)]
 pub enum Verdict {
     /// Each line follows.
     Yes,
