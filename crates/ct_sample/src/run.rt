@@ -77,7 +77,7 @@ fn withdraw_piece(ledger: &mut Ledger, id: Id) -> Result<bool, AllocError>
 
 impl Run {
     /// An empty ledger, before the first command. `Err` is want of memory.
-    fn new(alloc: Global) -> Result<Run, AllocError>
+    pub(crate) fn new(alloc: Global) -> Result<Run, AllocError>
         ensures { IfOk result (λ run. run ≡ no_commands) }
     {
         Ok(Run {
@@ -133,6 +133,21 @@ impl Run {
         }
     }
 
+    /// Applies the commands of the sample of so many, before which there was none. `Err` is want of memory.
+    pub(crate) fn obey(&mut self, alloc: Global, number: u32) -> Result<(), AllocError>
+        requires { self.old ≡ no_commands }
+        ensures { OnOk result (self.new ≡ run_to number number) }
+    {
+        let mut seed = u64::from(number);
+        for before in 0..number {
+            seed = next(seed);
+            let h = (seed / 65536) as u32;
+            let command = command_of(alloc, before + 1, h, self.pieces())?;
+            self.apply_if_any(alloc, command)?;
+        }
+        Ok(())
+    }
+
     /// The pieces that stand.
     fn pieces(&self) -> &[Piece]
         ensures { without_documents result.now ≡ self.now.pieces }
@@ -168,19 +183,4 @@ impl Run {
     {
         self.withdrawn
     }
-}
-
-/// The run of the sample of so many commands. `Err` is want of memory.
-pub(crate) fn run_of(alloc: Global, number: u32) -> Result<Run, AllocError>
-    ensures { IfOk result (λ run. run ≡ run_to number number) }
-{
-    let mut run = Run::new(alloc)?;
-    let mut seed = u64::from(number);
-    for before in 0..number {
-        seed = next(seed);
-        let h = (seed / 65536) as u32;
-        let command = command_of(alloc, before + 1, h, run.pieces())?;
-        run.apply_if_any(alloc, command)?;
-    }
-    Ok(run)
 }

@@ -1,11 +1,14 @@
 //! The sample, and its summary.
 
-ghost use Rattle.std.specs.Prelude.{◌≡◌, ◌++◌, IfOk, OnOk, codes};
+ghost use Rattle.std.specs.Prelude.{◌≡◌, ◌++◌, All, IfOk, OnOk, codes};
+ghost use Rattle.ct_codes.specs.Entry.{IsEntry};
+ghost use Rattle.ct_codes.specs.TableEntries.{table_entries};
+ghost use Rattle.ct_sample.specs.Run.{no_commands, run_to};
 ghost use Rattle.ct_sample.specs.Summary.{IsSummary, named_line, summary_text};
 
-use crate::run::run_of;
+use crate::run::Run;
 use crate::tally::{Tally, tally_of};
-use ct_codes::table_entries;
+use ct_codes::{Entry, table_entries};
 use ct_io::LINE_FEED;
 use ct_text::put_spaced;
 use std::alloc::{AllocError, Global};
@@ -25,19 +28,45 @@ pub struct Summary {
     pub tally: Tally,
 }
 
-/// The summary of the sample of so many commands. `Err` is want of memory.
-pub fn sample(alloc: Global, number: u32) -> Result<Summary, AllocError>
-    ensures { IfOk result (IsSummary number) }
+/// The summary of this run of so many commands, over the entries of the table.
+fn summary_of(number: u32, run: &Run, entries: &[Entry]) -> Summary
+    requires run { run.now ≡ run_to number number }
+    requires listed { entries.now ≡ table_entries }
+    requires in_table { All IsEntry entries.now }
+    ensures { IsSummary number result }
 {
-    let run = run_of(alloc, number)?;
-    let entries = table_entries(alloc)?;
-    Ok(Summary {
+    Summary {
         commands: number,
         accepted: run.accepted(),
         withdrawn: run.withdrawn(),
         standing: run.standing() as u32,
-        tally: tally_of(run.table(), &entries),
-    })
+        tally: tally_of(run.table(), entries),
+    }
+}
+
+/// The summary of a run that obeys the commands of the sample of so many, over the entries of the table. `Err` is want of memory.
+fn summary_after(
+    alloc: Global,
+    number: u32,
+    run: &mut Run,
+    entries: &[Entry],
+) -> Result<Summary, AllocError>
+    requires fresh { run.old ≡ no_commands }
+    requires listed { entries.now ≡ table_entries }
+    requires in_table { All IsEntry entries.now }
+    ensures { IfOk result (IsSummary number) }
+{
+    run.obey(alloc, number)?;
+    Ok(summary_of(number, run, entries))
+}
+
+/// The summary of the sample of so many commands. `Err` is want of memory.
+pub fn sample(alloc: Global, number: u32) -> Result<Summary, AllocError>
+    ensures { IfOk result (IsSummary number) }
+{
+    let entries = table_entries(alloc)?;
+    let mut run = Run::new(alloc)?;
+    summary_after(alloc, number, &mut run, &entries)
 }
 
 /// Puts a line at the end of the text: a name, a space and a number.
