@@ -2,13 +2,17 @@
 use Rattle.std.proofs.Common.{◌≡◌, ℕ, List, [], ◌∷◌, length, Option, Some, Result, Ok, Err, IfOk, sym, ap, subst, ◌∙◌}
 use Rattle.std.specs.Prelude.{◌&&◌, true, IsPermutation}
 use Rattle.std.proofs.lemmas.Bool.{and_parts}
+use Rattle.std.proofs.lemmas.List.{length-map}
 use Rattle.std.proofs.lemmas.List.Sorted.{length_permutation}
 use Rattle.ct_codes.specs.declared.entry.Entry.{Entry}
 use Rattle.ct_codes.specs.Code.{CodeValue}
 use Rattle.ct_codes.specs.Entry.{IsEntry, is_entry}
 use Rattle.ct_codes.proofs.EntryLemmas.{Limits, entry_limits}
+use Rattle.ct_rule_parts.specs.declared.support.Support.{Support}
 use Rattle.ct_rule_parts.specs.Parts.{RuleParts, are_entries}
 use Rattle.ct_rule_parts.proofs.Lawful.{defined_entry, defined_condition, defined_premises}
+use Rattle.ct_rules.specs.declared.rule.Rule.{Rule}
+use Rattle.ct_rules.specs.Rule.{parts_over}
 use Rattle.ct_rule_codes.specs.CodeEntry.{entry_of_code}
 use Rattle.ct_list.specs.Inside.Rows.{sizes, AreParts, IsMadeBy}
 
@@ -52,6 +56,12 @@ first_entry d (e ∷ es) = e
 abbrev second_entry : Entry → List Entry → Entry
 second_entry d [] = d
 second_entry d (e ∷ es) = first_entry d es
+
+-- there are as many parts as the rule rests on entries
+pub as_many : (supports : List Support) (r q : Rule) (e : Entry) (codes : List CodeValue) → r ≡ q → AreParts (parts_over supports r) e codes
+    → length codes ≡ length ((parts_over supports q).rests_on e)
+as_many supports r q e codes is parts =
+    sym (length-map codes entry_of_code) ∙ ap length parts.entries ∙ ap (λ (s : Rule). length ((parts_over supports s).rests_on e)) is
 
 -- what is known of a rule that rests on one entry, and of the code of it
 pub record HasOnePart (p : RuleParts) (e x : Entry) (part : CodeValue) : Type 0 where

@@ -1,4 +1,4 @@
-use Rattle.std.proofs.Common.{◌+◌, ◌<◌, ◌++◌, ◌||◌, length, take, drop, get_or, List, sym, ap, subst, ◌∙◌, arith}
+use Rattle.std.proofs.Common.{◌+◌, ◌<◌, ◌++◌, ◌||◌, length, take, drop, get_or, List, sym, ap, subst, ◌∙◌, arith, take_all}
 use Rattle.ct_codes.specs.Constructions.Places.{is_among}
 use Rattle.ct_codes.specs.Code.{CodeValue}
 use Rattle.ct_list.specs.Inside.Kept.{AreCodesFor, AreKept, named_by, is_named}
@@ -44,3 +44,8 @@ returns-clause-kept c = λ lines start.
     let from = c.args.from.now in
     let known = (c.loop-k.invariant.1 lines start).0 in
     subst (λ ps. AreKept lines c.loop-k.kept.items (ps ++ named_by c.args.rest.now)) (drop_past from c.loop-k.k (omega (arith, c.loop-k-test.false))) known
+
+pub returns-clause-codes : goal.returns-clause-codes
+returns-clause-codes c = λ lines start.
+    subst (λ ps. AreCodesFor lines ps c.loop-k.codes.items) (take_all c.loop-k.k c.args.from.now (omega (arith, c.loop-k-test.false)))
+    (c.loop-k.invariant.1 lines start).1
