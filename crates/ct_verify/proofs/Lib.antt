@@ -1,4 +1,5 @@
 mod RuleSides
 mod WordLemmas
+mod FailedLines
 pub mod ReadingLemmas
 pub mod VerdictLemmas

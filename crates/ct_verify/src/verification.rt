@@ -1,6 +1,6 @@
 //! The verdict on a derivation document that comes from a source.
 
-ghost use Rattle.std.specs.Prelude.{◌≡◌, ◌≢◌, ◌≤◌, ◌+◌, ◌↔◌, [], ◌∷◌, ◌++◌, Err, IfOk, IfErr, IfSome, OnOk, length};
+ghost use Rattle.std.specs.Prelude.{◌≡◌, ◌≢◌, ◌≤◌, ◌+◌, ◌↔◌, Err, IfOk, IfErr, IfSome, OnOk, length};
 ghost use Rattle.std.specs.Io.KnownBytes.{Appends, IsAtEnd};
 ghost use Rattle.ct_io.specs.Faults.{Rose};
 ghost use Rattle.ct_io.specs.Told.{AppendsProperPrefix, IsAboveLimit, WhereTold};
@@ -24,11 +24,11 @@ fn is_no(verdict: Verdict) -> bool
     }
 }
 
-/// The text as a line, with a line feed at its end.
-fn as_line(text: Vec<u8>) -> Result<Vec<u8>, AllocError>
-    ensures { IfOk result (λ line. line.items ≡ text.items ++ LINE_FEED ∷ []) }
+/// The verdict as a line, with a line feed at its end. `Err` is want of memory.
+fn verdict_line(alloc: Global, verdict: &Verdict) -> Result<Vec<u8>, AllocError>
+    ensures { IfOk result (λ line. line.items ≡ verdict_line verdict.now) }
 {
-    let mut line = text;
+    let mut line = verdict_text(alloc, verdict)?;
     line.push(LINE_FEED)?;
     Ok(line)
 }
@@ -62,7 +62,7 @@ pub fn verify_source<S: Source, K: Sink>(
     let input = read_input(alloc, source)?;
     let verdict = verify(alloc, &input)?;
     let refused = is_no(verdict);
-    let line = as_line(verdict_text(alloc, &verdict)?)?;
+    let line = verdict_line(alloc, &verdict)?;
     write_text(sink, &line)?;
     Ok(refused)
 }
