@@ -1,5 +1,7 @@
 mod Statuses
-mod NothingWritten
+mod Sessions
 mod Verifying
 mod Finding
 mod Sampling
+mod Usage
+mod NothingWritten

@@ -1,3 +1,4 @@
 pub mod Mode
 pub mod Program
 pub mod Exit
+pub mod Inside

@@ -1,14 +1,15 @@
 //! The top call of the program.
 
-ghost use Rattle.std.specs.Prelude.{◌≡◌, ◌⊎◌, ◌≤◌, ◌+◌, ◌↔◌, IfSome, IfNone, IfOk, IfErr, IsSome, IsNone, IsTrue, false, length};
+ghost use Rattle.std.specs.Prelude.{◌≡◌, ◌⊎◌, ◌≤◌, ◌+◌, ◌↔◌, IfSome, IfNone, IfOk, IfErr, IsSome, IsNone, IsTrue, Some, false, length};
 ghost use Rattle.std.specs.Io.KnownBytes.{Appends, IsAtEnd};
 ghost use Rattle.ct_io.specs.Faults.{Rose};
 ghost use Rattle.ct_io.specs.Told.{AppendsProperPrefix, WhereTold, IsAboveLimit, IsWithinLimit};
 ghost use Rattle.ct_io.specs.declared.TheConstants.{MAX_INPUT, MAX_READ};
-ghost use Rattle.ct_run.specs.Mode.{is_reading, input_for, status_of, IsRunStatus, WritesOutput, WritesPrefix, WritesProperPrefix, LeftByMemory, LeftByReadFault, LeftByTooLong};
+ghost use Rattle.ct_run.specs.Mode.{reads, is_reading, input_for, status_of, IsRunStatus, WritesOutput, WritesPrefix, WritesProperPrefix, LeftByMemory, LeftByReadFault, LeftByTooLong};
 ghost use Rattle.ct_command_line.specs.CommandLine.{mode_of, bytes_of};
 ghost use Rattle.ct_run.specs.Exit.{fault_status, result_status, summary_status};
 ghost use Rattle.ct_run.specs.Program.{usage_line, WritesUsage};
+ghost use Rattle.ct_run.specs.Inside.Ran.{Ran};
 
 use crate::serving::serve_session;
 use crate::status::Status;
@@ -76,6 +77,20 @@ fn write_usage<K: Sink>(sink: &mut K) -> Status
     }
 }
 
+/// Runs the mode: it reads the source, if it has an input, and writes its output to the sink.
+fn run_mode<S: Source, K: Sink>(alloc: Global, mode: Mode, source: &mut S, sink: &mut K) -> Status
+    ensures ran { Ran (Some mode) result (S.left source.old) (S.left source.new) (K.holds sink.old) (K.holds sink.new)
+        (S.faults source.old) (S.faults source.new) (K.faults sink.old) (K.faults sink.new) }
+    ensures unread { reads mode ≡ false → source.new ≡ source.old }
+{
+    match mode {
+        Mode::Session => result_status(serve_session(alloc, source, sink)),
+        Mode::Verify => result_status(verify_source(alloc, source, sink)),
+        Mode::Find => result_status(find_source(alloc, source, sink)),
+        Mode::Sample(number) => summary_status(write_sample(alloc, number, sink)),
+    }
+}
+
 /// Runs the program on the words after its name, as `clap` reads them. Where they name a mode, it reads the source, if the mode has an input, and writes the
 /// mode's output to the sink. Other words are answered by the usage line, and nothing is read.
 pub fn run<S: Source, K: Sink>(
@@ -126,10 +141,7 @@ pub fn run<S: Source, K: Sink>(
         → IsRunStatus result ⊎ (result ≡ Status.Memory)) }
 {
     match named_mode(alloc, words) {
-        Ok(Some(Mode::Session)) => result_status(serve_session(alloc, source, sink)),
-        Ok(Some(Mode::Verify)) => result_status(verify_source(alloc, source, sink)),
-        Ok(Some(Mode::Find)) => result_status(find_source(alloc, source, sink)),
-        Ok(Some(Mode::Sample(number))) => summary_status(write_sample(alloc, number, sink)),
+        Ok(Some(mode)) => run_mode(alloc, mode, source, sink),
         Ok(None) => write_usage(sink),
         Err(_) => Status::Memory,
     }
