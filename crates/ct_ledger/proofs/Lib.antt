@@ -1,2 +1,3 @@
 pub mod Reaching
 mod LeftSupports
+mod AddedPieces
