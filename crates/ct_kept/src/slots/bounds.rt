@@ -58,6 +58,7 @@ impl Bounds {
     }
 
     /// The bound of a side of an entry of the table.
+    #[inline(always)]
     pub fn bound(&self, side: Side, entry: Entry) -> u32
         requires { IsEntry entry }
         ensures { result ≡ bound_of self.now (side, entry) }

@@ -28,7 +28,8 @@ fn entries_below(n: u32) -> usize
     ensures { result ≡ entries_to (n - 1) }
 {
     let k = n as usize - 1;
-    k * DISTANCES + EVEN_DISTANCES * (k * (k + 3) / 2)
+    // There are twice as many distances as even ones, so k * DISTANCES + EVEN_DISTANCES * (k * (k + 3) / 2) is as much.
+    EVEN_DISTANCES * (k * (k + 7) / 2)
 }
 
 /// The number of an entry of the table among those of its length.
