@@ -1,5 +1,5 @@
 -- The rules that lead from entries with weight to those without, in the closing of a table.
-use Rattle.std.proofs.Common.{◌≡◌, ℕ, ◌+◌, ◌-◌, ◌*◌, ◌<◌, ◌≤◌, min, List, map, Some, None, true, false, refl, sym, subst, ◌∙◌, arith, inl, inr}
+use Rattle.std.proofs.Common.{◌≡◌, ℕ, ◌+◌, ◌-◌, ◌*◌, ◌<◌, ◌≤◌, ◌%◌, min, List, map, Some, None, true, false, refl, sym, subst, ◌∙◌, arith, inl, inr}
 use Rattle.std.specs.Prelude.{Option}
 use Rattle.std.proofs.lemmas.Bool.{and_parts, false≢true, cases_lt}
 use Rattle.std.proofs.lemmas.Option.{same_Some}
@@ -60,6 +60,14 @@ above_length : (supports : List Support) (v : ℕ) (e : Entry) → applies suppo
 unfolding row_of
 above_length supports v e here =
     (entry_limits (of_weight e v) (and_parts (is_entry (of_weight e v)) true (defined (elias_bassalygo v) e here).premises).0).weight.2
+
+-- so none stands at an odd distance
+pub odd_within : (supports : List Support) (f : Slot → ℕ) (e : Entry) (best : ℕ) → e.d % 2 ≡ 1 → (w : ℕ) → IsWithin supports f (Upper, e) best (U10 w)
+unfolding row_of
+odd_within supports f e best odd w v value =
+    let here = over-applies supports f (U10 w) e v value in
+    let even : e.d % 2 ≡ 0 = (entry_limits (of_weight e w) (and_parts (is_entry (of_weight e w)) true (defined (elias_bassalygo w) e here).premises).0).weight.0 in
+    absurd (omega (arith, odd, even))
 
 -- all of a side
 pub by_weight_below : (supports : List Support) (f : Slot → ℕ) (e : Entry) (best : ℕ)

@@ -98,9 +98,14 @@ fn mark_sum(
     ensures kept { KeepsMarks work.old work.new }
 {
     let other = plain_bound(bounds, n - entry.n, d - entry.d);
-    if own.min(other) > plain_bound(bounds, n, d) {
-        work.mark(Side::Lower, Entry { n, d, w: None })?;
+    if own.min(other) <= plain_bound(bounds, n, d) {
+        return Ok(());
     }
+    let sum = Entry { n, d, w: None };
+    if work.is_marked(Side::Lower, sum) {
+        return Ok(());
+    }
+    work.mark(Side::Lower, sum)?;
     Ok(())
 }
 

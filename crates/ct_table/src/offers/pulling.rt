@@ -167,21 +167,12 @@ pub(crate) fn offer(supports: &[Support], bounds: &Bounds, rule: Rule, entry: En
 
 /// Asks a rule for its bound over what stands.
 #[inline(always)]
-fn ask(
-    supports: &[Support],
-    bounds: &Bounds,
-    rule: Rule,
-    side: Side,
-    entry: Entry,
-    best: &mut Best,
-    evaluations: &mut u64,
-)
+fn ask(supports: &[Support], bounds: &Bounds, rule: Rule, side: Side, entry: Entry, best: &mut Best)
     requires entry { IsEntry entry }
     requires side { rule_side rule ≡ side }
     ensures pulled { IsPulled supports.now (bound_of bounds.now) (side, entry) best.old best.new }
     ensures within { IsWithin supports.now (bound_of bounds.now) (side, entry) best.new.value rule }
 {
-    *evaluations = evaluations.saturating_add(1);
     best.consider(side, rule, offer(supports, bounds, rule, entry));
 }
 
@@ -193,14 +184,13 @@ pub(crate) fn ask_own(
     rule: Rule,
     entry: Entry,
     best: &mut Best,
-    evaluations: &mut u64,
 )
     requires { IsEntry entry }
     ensures pulled { IsPulled supports.now (bound_of bounds.now) (rule_side rule, entry) best.old best.new }
     ensures within { IsWithin supports.now (bound_of bounds.now) (rule_side rule, entry) best.new.value rule }
 {
     let side = rule_side(rule);
-    ask(supports, bounds, rule, side, entry, best, evaluations);
+    ask(supports, bounds, rule, side, entry, best);
 }
 
 /// The bound that stands on the other side of an entry of the table: no rule gives anything better, as both are true.
@@ -250,7 +240,8 @@ fn ask_lower_weights(
     // Of words with fewer ones than that, or fewer zeros, no two are so far apart.
     let half = entry.d.div_ceil(2);
     for w in half..(entry.n + 1).saturating_sub(half) {
-        ask_own(supports, bounds, Rule::L9(w), entry, best, evaluations);
+        *evaluations = evaluations.saturating_add(1);
+        ask_own(supports, bounds, Rule::L9(w), entry, best);
     }
 }
 
@@ -266,8 +257,13 @@ fn ask_upper_weights(
     ensures pulled { IsPulled supports.now (bound_of bounds.now) (Upper, entry) best.old best.new }
     ensures within { (w : ℕ) → w ≤ entry.n → IsWithin supports.now (bound_of bounds.now) (Upper, entry) best.new.value (U10 w) }
 {
+    // At an odd distance there is no entry with weight.
+    if entry.d % 2 == 1 {
+        return;
+    }
+    *evaluations = evaluations.saturating_add(u64::from(entry.n + 1));
     for w in 0..entry.n + 1 {
-        ask_own(supports, bounds, Rule::U10(w), entry, best, evaluations);
+        ask_own(supports, bounds, Rule::U10(w), entry, best);
     }
 }
 
@@ -294,7 +290,8 @@ fn ask_by_weight(
         Side::Lower => ask_lower_weights(supports, bounds, entry, best, evaluations),
         Side::Upper => {
             ask_upper_weights(supports, bounds, entry, best, evaluations);
-            ask_own(supports, bounds, Rule::U9, entry, best, evaluations);
+            *evaluations = evaluations.saturating_add(1);
+            ask_own(supports, bounds, Rule::U9, entry, best);
         }
     }
 }
@@ -380,7 +377,8 @@ fn ask_each_support(
     let mut next = places.last(entry);
     while let Some(place) = next {
         let rule = given_rule(supports, side, entry, place);
-        ask(supports, bounds, rule, side, entry, best, evaluations);
+        *evaluations = evaluations.saturating_add(1);
+        ask(supports, bounds, rule, side, entry, best);
         next = places.before(place);
     }
 }

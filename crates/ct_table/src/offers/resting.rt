@@ -27,12 +27,13 @@ fn ask_lower(
     ensures pulled { IsPulled supports.now (bound_of bounds.now) (Lower, entry) best.old best.new }
     ensures within { All (IsWithin supports.now (bound_of bounds.now) (Lower, entry) best.new.value) (drop 2 LOWER_RULES) }
 {
-    ask_own(supports, bounds, Rule::L3, entry, best, evaluations);
-    ask_own(supports, bounds, Rule::L4, entry, best, evaluations);
-    ask_own(supports, bounds, Rule::L5, entry, best, evaluations);
-    ask_own(supports, bounds, Rule::L6, entry, best, evaluations);
-    ask_own(supports, bounds, Rule::L7, entry, best, evaluations);
-    ask_own(supports, bounds, Rule::L8, entry, best, evaluations);
+    *evaluations = evaluations.saturating_add(6);
+    ask_own(supports, bounds, Rule::L3, entry, best);
+    ask_own(supports, bounds, Rule::L4, entry, best);
+    ask_own(supports, bounds, Rule::L5, entry, best);
+    ask_own(supports, bounds, Rule::L6, entry, best);
+    ask_own(supports, bounds, Rule::L7, entry, best);
+    ask_own(supports, bounds, Rule::L8, entry, best);
 }
 
 /// Asks each rule that bounds A(n,d,w) from below by bounds of other entries.
@@ -47,12 +48,13 @@ fn ask_lower_with_weight(
     ensures pulled { IsPulled supports.now (bound_of bounds.now) (Lower, entry) best.old best.new }
     ensures within { All (IsWithin supports.now (bound_of bounds.now) (Lower, entry) best.new.value) (drop 2 LOWER_WEIGHT_RULES) }
 {
-    ask_own(supports, bounds, Rule::M3, entry, best, evaluations);
-    ask_own(supports, bounds, Rule::M4, entry, best, evaluations);
-    ask_own(supports, bounds, Rule::M5, entry, best, evaluations);
-    ask_own(supports, bounds, Rule::M6, entry, best, evaluations);
-    ask_own(supports, bounds, Rule::M7, entry, best, evaluations);
-    ask_own(supports, bounds, Rule::M8, entry, best, evaluations);
+    *evaluations = evaluations.saturating_add(6);
+    ask_own(supports, bounds, Rule::M3, entry, best);
+    ask_own(supports, bounds, Rule::M4, entry, best);
+    ask_own(supports, bounds, Rule::M5, entry, best);
+    ask_own(supports, bounds, Rule::M6, entry, best);
+    ask_own(supports, bounds, Rule::M7, entry, best);
+    ask_own(supports, bounds, Rule::M8, entry, best);
 }
 
 /// Asks each rule that bounds A(n,d) from above by bounds of other entries.
@@ -67,11 +69,12 @@ fn ask_upper(
     ensures pulled { IsPulled supports.now (bound_of bounds.now) (Upper, entry) best.old best.new }
     ensures within { All (IsWithin supports.now (bound_of bounds.now) (Upper, entry) best.new.value) (drop 4 UPPER_RULES) }
 {
-    ask_own(supports, bounds, Rule::U4, entry, best, evaluations);
-    ask_own(supports, bounds, Rule::U5, entry, best, evaluations);
-    ask_own(supports, bounds, Rule::U6, entry, best, evaluations);
-    ask_own(supports, bounds, Rule::U7, entry, best, evaluations);
-    ask_own(supports, bounds, Rule::U8, entry, best, evaluations);
+    *evaluations = evaluations.saturating_add(5);
+    ask_own(supports, bounds, Rule::U4, entry, best);
+    ask_own(supports, bounds, Rule::U5, entry, best);
+    ask_own(supports, bounds, Rule::U6, entry, best);
+    ask_own(supports, bounds, Rule::U7, entry, best);
+    ask_own(supports, bounds, Rule::U8, entry, best);
 }
 
 /// Asks each rule that bounds A(n,d,w) from above by bounds of other entries.
@@ -86,11 +89,12 @@ fn ask_upper_with_weight(
     ensures pulled { IsPulled supports.now (bound_of bounds.now) (Upper, entry) best.old best.new }
     ensures within { All (IsWithin supports.now (bound_of bounds.now) (Upper, entry) best.new.value) (take 5 (drop 3 UPPER_WEIGHT_RULES)) }
 {
-    ask_own(supports, bounds, Rule::V3, entry, best, evaluations);
-    ask_own(supports, bounds, Rule::V4, entry, best, evaluations);
-    ask_own(supports, bounds, Rule::V5, entry, best, evaluations);
-    ask_own(supports, bounds, Rule::V6, entry, best, evaluations);
-    ask_own(supports, bounds, Rule::V7, entry, best, evaluations);
+    *evaluations = evaluations.saturating_add(5);
+    ask_own(supports, bounds, Rule::V3, entry, best);
+    ask_own(supports, bounds, Rule::V4, entry, best);
+    ask_own(supports, bounds, Rule::V5, entry, best);
+    ask_own(supports, bounds, Rule::V6, entry, best);
+    ask_own(supports, bounds, Rule::V7, entry, best);
 }
 
 /// Asks each rule of the slot with neither numbers nor a support that rests on a bound.

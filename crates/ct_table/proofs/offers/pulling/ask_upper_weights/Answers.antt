@@ -5,6 +5,7 @@ use Rattle.ct_rules.specs.declared.rule.Rule.TheVariants.{U10}
 use Rattle.ct_rules.specs.Rule.{row_of}
 use Rattle.ct_kept.specs.Number.{bound_of}
 use Rattle.ct_table.proofs.OfferLemmas.AskedLemmas.{weights_more}
+use Rattle.ct_table.proofs.OfferLemmas.ByWeightLemmas.{odd_within}
 use Rattle.ct_table.proofs.OfferLemmas.PulledLemmas.{IsPulled-trans}
 use Rattle.ct_table.proofs.offers.pulling.ask_upper_weights.Goals as goal
 
@@ -22,3 +23,7 @@ loop-w-preserved c =
 
 pub returns-clause-within : goal.returns-clause-within
 returns-clause-within c = λ w within. c.loop-w.invariant.1 w (omega (arith, c.loop-w-test.false))
+
+pub returns-then-entry-eq1-clause-within : goal.returns-then-entry-eq1-clause-within
+returns-then-entry-eq1-clause-within c = λ w within.
+    odd_within c.args.supports.now (bound_of c.args.bounds.now) c.args.entry c.args.best.now.value c.if-entry-eq1.true w
