@@ -177,6 +177,7 @@ impl Kept {
 
     /// Puts a line at the end; its claim is now the bound of its slot. After an `Err`, which is want of memory, all is as
     /// before.
+    #[inline(always)]
     pub fn put(&mut self, line: Line) -> Result<(), AllocError>
         requires { IsEntry line.claim.entry }
         ensures put { OnOk result (self.new ≡ with_line_put self.old line) }
