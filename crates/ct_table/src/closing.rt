@@ -75,6 +75,9 @@ fn reasons(
     requires { are_entries (listed entries) ≡ true }
     ensures { IfOk result (λ from. from.items ≡ map (reason_of kept.now) (slots_on side (listed entries.entry))) }
 {
+    if let Entries::One(first) = entries {
+        return Ok(SmallVec::from_buf_and_len(alloc, [kept.reason(side, first), 0], 1));
+    }
     let mut from = SmallVec::new(alloc);
     for place in 0..entries.len() {
         let Some(entry) = entries.get(place) else {
