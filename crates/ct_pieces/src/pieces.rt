@@ -69,7 +69,7 @@ fn has_id(pieces: &[Piece], id: Id) -> bool
     ensures id { IsTrue (is_id id) }
 {
     let name = id.text();
-    pieces.iter().any(|piece| piece.id().text() == name)
+    pieces.iter().any(|piece| piece.name() == name)
 }
 
 /// Takes the piece at the place out, and the code that is kept beside it: how many words it stores.
