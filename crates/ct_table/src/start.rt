@@ -16,13 +16,13 @@ use ct_kept::{SupportPlaces, Worklist, entry_of_support, side_of_support};
 use ct_rules::Support;
 use std::alloc::{AllocError, Global};
 
-/// What is kept of no supports, closed under the rules. `Err` is want of memory.
-pub(crate) fn begin(alloc: Global) -> Result<Closing, AllocError>
+/// What is kept of no supports, which have no places, closed under the rules. `Err` is want of memory.
+pub(crate) fn begin(alloc: Global, places: &SupportPlaces) -> Result<Closing, AllocError>
+    requires { places.now ≡ [] }
     ensures { IfOk result (λ closing. IsBegun closing) }
 {
     let mut closing = Closing::start(alloc)?;
-    let places = SupportPlaces::none(alloc)?;
-    close(alloc, &[], &places, &mut closing)?;
+    close(alloc, &[], places, &mut closing)?;
     Ok(closing)
 }
 

@@ -57,9 +57,9 @@ impl Table {
         requires few { length supports.items < 2 ^ 32 }
         ensures supports { IfOk result (λ table. table.supports ≡ supports.items) }
     {
-        let mut closing = begin(alloc)?;
-        let base = closing.kept.begin(alloc)?;
         let mut places = SupportPlaces::none(alloc)?;
+        let mut closing = begin(alloc, &places)?;
+        let base = closing.kept.begin(alloc)?;
         close_over(alloc, &supports, &mut places, &mut closing)?;
         Ok(Table {
             supports,
