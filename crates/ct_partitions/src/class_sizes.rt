@@ -42,6 +42,7 @@ pub fn sum_class_sizes(n: u32, w: u32) -> [u32; RESIDUES]
 }
 
 /// The same for each weight up to w.
+#[inline(always)]
 pub(crate) fn sizes_up_to(n: u32, w: u32) -> Table
     requires length { (1 ≤ n) × (n ≤ MAX_N) }
     requires weight { w ≤ n }
