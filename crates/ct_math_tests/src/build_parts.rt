@@ -13,29 +13,37 @@ use std::test::Fail;
 /// The length, the distance and the weight of an entry.
 pub(crate) type Place = (u32, u32, Option<u32>);
 
-/// Up to four numbers. They stand in a row of a table itself, for each reference from a row to others is dear to prove.
+/// Up to seven numbers. They stand in a row of a table itself, for each reference from a row to others is dear to prove.
 #[derive(Clone, Copy)]
-pub(crate) enum Few {
-    One([u32; 1]),
-    Two([u32; 2]),
-    Three([u32; 3]),
-    Four([u32; 4]),
+pub(crate) enum Few<T> {
+    None([T; 0]),
+    One([T; 1]),
+    Two([T; 2]),
+    Three([T; 3]),
+    Four([T; 4]),
+    Five([T; 5]),
+    Six([T; 6]),
+    Seven([T; 7]),
 }
 
-impl Few {
+impl<T> Few<T> {
     /// The numbers.
-    pub(crate) fn as_slice(&self) -> &[u32] {
+    pub(crate) fn as_slice(&self) -> &[T] {
         match self {
+            Few::None(numbers) => numbers,
             Few::One(numbers) => numbers,
             Few::Two(numbers) => numbers,
             Few::Three(numbers) => numbers,
             Few::Four(numbers) => numbers,
+            Few::Five(numbers) => numbers,
+            Few::Six(numbers) => numbers,
+            Few::Seven(numbers) => numbers,
         }
     }
 }
 
 /// A code written out: its entry and its words.
-pub(crate) type Words = (Place, Few);
+pub(crate) type Words = (Place, Few<Word>);
 
 /// The entry A(n,d), or A(n,d,w).
 pub(crate) fn entry_of((n, d, w): Place) -> Entry {
@@ -43,7 +51,7 @@ pub(crate) fn entry_of((n, d, w): Place) -> Entry {
 }
 
 /// Whether each word has length n.
-fn have_length(words: &[Word], n: u32) -> bool
+pub(crate) fn have_length(words: &[Word], n: u32) -> bool
     ensures { result ≡ true → All (λ x. x < 2 ^ n) words.now }
 {
     n < 32 && are_below(words, 1 << n)

@@ -33,7 +33,13 @@ const ONE: Words = ((3, 4, Some(1)), Few::One([0b010]));
 const TRIPLES: Words = ((6, 6, Some(3)), Few::Two([0b000111, 0b111000]));
 
 /// A change, the part and the other code that it is given, the stated entry, and what is built: the words, or the reason against it.
-type Row = (Change, Words, Option<Words>, Place, Result<Few, BuildFault>);
+type Row = (
+    Change,
+    Words,
+    Option<Words>,
+    Place,
+    Result<Few<Word>, BuildFault>,
+);
 
 /// Longer codes, shorter ones, such of the same length, and codes of two parts, with and without a weight. A stated
 /// distance may be smaller than the one that the step gives, and a step that needs no other code takes one.

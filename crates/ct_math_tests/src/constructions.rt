@@ -77,10 +77,10 @@ enum OfOne {
     Lengthen,
     AppendOne,
     Parity,
-    Puncture(Few),
+    Puncture(Few<u32>),
     /// Without so many of the first places.
     PunctureFirst(usize),
-    Shorten(Few, Few),
+    Shorten(Few<u32>, Few<u32>),
     Translate(Word),
     Complement,
     /// The sums with the word that have the weight.
@@ -452,6 +452,20 @@ fn constructions_of_one_code(rt: HostRuntime) -> Result<(), Fail> {
 }
 
 /// Whether the construction makes this of the two codes.
+fn makes(
+    rt: &impl Abort,
+    alloc: Global,
+    construction: OfTwo,
+    part: &Code,
+    other: &Code,
+    place: Place,
+    words: &[Word],
+) -> Result<bool, AllocError> {
+    let made = made_of_two(rt, alloc, construction, part, other)?;
+    Ok(shows(&made, place, words))
+}
+
+/// Whether the construction makes this of the codes of these words.
 fn is_made_of_two(
     rt: &impl Abort,
     alloc: Global,
@@ -462,8 +476,16 @@ fn is_made_of_two(
 ) -> Result<bool, Fail> {
     let part = code_of(rt, alloc, part)?;
     let other = code_of(rt, alloc, other)?;
-    let made = made_of_two(rt, alloc, construction, &part, &other)?;
-    Ok(shows(&made, wanted.0, wanted.1.as_slice()))
+    let (place, few) = wanted;
+    Ok(makes(
+        rt,
+        alloc,
+        construction,
+        &part,
+        &other,
+        place,
+        few.as_slice(),
+    )?)
 }
 
 #[test]
@@ -480,8 +502,18 @@ fn constructions_of_two_codes(rt: HostRuntime) -> Result<(), Fail> {
 fn sums_of_four_words(rt: HostRuntime) -> Result<(), Fail> {
     let alloc = rt.alloc();
     let part = code_of(&rt, alloc, THRICE)?;
-    let made = made_of_two(&rt, alloc, OfTwo::Uuv, &part, &part)?;
-    assert!(rt; shows(&made, (12, 3, None), &PAIRS_OF_THRICE));
+    let place = (12, 3, None);
+    assert!(rt;
+        makes(
+            &rt,
+            alloc,
+            OfTwo::Uuv,
+            &part,
+            &part,
+            place,
+            &PAIRS_OF_THRICE
+        )?
+    );
     Ok(())
 }
 

@@ -9,7 +9,7 @@ use ct_words::MAX_BOUND;
 use std::alloc::{AllocError, Global};
 
 /// What becomes of a dual.
-#[derive(Clone, Copy, Debug, PartialEq, Eq)]
+#[derive(Clone, Copy, PartialEq, Eq)]
 pub enum Answer {
     /// It has not the form of one.
     Malformed,
@@ -21,7 +21,35 @@ pub enum Answer {
     Bound(u32),
 }
 
+/// The dual of these multipliers and allowances.
+fn dual_of(
+    alloc: Global,
+    entry: Entry,
+    even: bool,
+    c: &[i64],
+    y: &[(u32, i64)],
+) -> Result<Dual, AllocError> {
+    let c = Multipliers::from_vec(c.to_vec(alloc)?);
+    let y = Allowances::from_vec(y.to_vec(alloc)?);
+    Ok(Dual { entry, even, c, y })
+}
+
 /// What becomes of the dual, and its bound from the upper bounds.
+fn judged(dual: &Dual, uppers: &[u32]) -> Answer {
+    if !dual.is_formed() {
+        return Answer::Malformed;
+    }
+    let accepted = match check_dual_of_table(dual) {
+        Ok(accepted) => accepted,
+        Err(fault) => return Answer::Refused(fault),
+    };
+    if uppers.len() != dual.premise_count() || !are_bounds(uppers) {
+        return Answer::OtherPremises;
+    }
+    Answer::Bound(accepted.bound(uppers))
+}
+
+/// What becomes of the dual of these multipliers and allowances.
 pub fn answer_to(
     alloc: Global,
     entry: Entry,
@@ -30,27 +58,8 @@ pub fn answer_to(
     y: &[(u32, i64)],
     uppers: &[u32],
 ) -> Result<Answer, AllocError> {
-    let mut multipliers = Vec::new(alloc);
-    multipliers.extend_from_slice(c)?;
-    let mut allowances = Vec::new(alloc);
-    allowances.extend_from_slice(y)?;
-    let dual = Dual {
-        entry,
-        even,
-        c: Multipliers::from_vec(multipliers),
-        y: Allowances::from_vec(allowances),
-    };
-    if !dual.is_formed() {
-        return Ok(Answer::Malformed);
-    }
-    let accepted = match check_dual_of_table(&dual) {
-        Ok(accepted) => accepted,
-        Err(fault) => return Ok(Answer::Refused(fault)),
-    };
-    if uppers.len() != dual.premise_count() || !are_bounds(uppers) {
-        return Ok(Answer::OtherPremises);
-    }
-    Ok(Answer::Bound(accepted.bound(uppers)))
+    let dual = dual_of(alloc, entry, even, c, y)?;
+    Ok(judged(&dual, uppers))
 }
 
 fn are_bounds(uppers: &[u32]) -> bool

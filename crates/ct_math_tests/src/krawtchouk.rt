@@ -4,7 +4,6 @@ use crate::numbers::{add_signed, number_of};
 use ct_codes::Scheme;
 use ct_krawtchouk::Hamming;
 use ct_words::{MAX_N, binomial};
-use std::test::Fail;
 
 /// The Krawtchouk number K_k(i) at length n.
 fn krawtchouk(n: u32, k: u32, i: u32) -> Option<i64> {
@@ -14,73 +13,57 @@ fn krawtchouk(n: u32, k: u32, i: u32) -> Option<i64> {
     number_of(&Hamming { n }, k, i)
 }
 
+/// A length, k, i, and K_k(i).
+type Known = (u32, u32, u32, i64);
+
 /// The table of Krawtchouk numbers at n = 16 for even i, those at n = 13, and ends of rows at n = 30.
+const KNOWN: [Known; 40] = [
+    (16, 1, 0, 16),
+    (16, 1, 6, 4),
+    (16, 1, 8, 0),
+    (16, 1, 10, -4),
+    (16, 1, 12, -8),
+    (16, 1, 14, -12),
+    (16, 1, 16, -16),
+    (16, 2, 0, 120),
+    (16, 2, 6, 0),
+    (16, 2, 8, -8),
+    (16, 2, 10, 0),
+    (16, 2, 12, 24),
+    (16, 2, 14, 64),
+    (16, 2, 16, 120),
+    (16, 3, 0, 560),
+    (16, 3, 6, -20),
+    (16, 3, 8, 0),
+    (16, 3, 10, 20),
+    (16, 3, 12, -24),
+    (16, 3, 14, -196),
+    (16, 3, 16, -560),
+    (16, 4, 0, 1820),
+    (16, 4, 6, -20),
+    (16, 4, 8, 28),
+    (16, 4, 10, -20),
+    (16, 4, 12, -36),
+    (16, 4, 14, 364),
+    (16, 4, 16, 1820),
+    (13, 1, 6, 1),
+    (13, 1, 12, -11),
+    (13, 2, 0, 78),
+    (13, 2, 6, -6),
+    (13, 2, 8, -2),
+    (13, 2, 10, 18),
+    (13, 2, 12, 54),
+    (1, 1, 1, -1),
+    (30, 15, 0, 155117520),
+    (30, 15, 30, -155117520),
+    (30, 14, 30, 145422675),
+    (30, 30, 1, -1),
+];
+
 #[test]
 fn known_numbers(rt: HostRuntime) {
-    let rows: [(u32, u32, &[(u32, i64)]); 10] = [
-        (
-            16,
-            1,
-            &[
-                (0, 16),
-                (6, 4),
-                (8, 0),
-                (10, -4),
-                (12, -8),
-                (14, -12),
-                (16, -16),
-            ],
-        ),
-        (
-            16,
-            2,
-            &[
-                (0, 120),
-                (6, 0),
-                (8, -8),
-                (10, 0),
-                (12, 24),
-                (14, 64),
-                (16, 120),
-            ],
-        ),
-        (
-            16,
-            3,
-            &[
-                (0, 560),
-                (6, -20),
-                (8, 0),
-                (10, 20),
-                (12, -24),
-                (14, -196),
-                (16, -560),
-            ],
-        ),
-        (
-            16,
-            4,
-            &[
-                (0, 1820),
-                (6, -20),
-                (8, 28),
-                (10, -20),
-                (12, -36),
-                (14, 364),
-                (16, 1820),
-            ],
-        ),
-        (13, 1, &[(6, 1), (12, -11)]),
-        (13, 2, &[(0, 78), (6, -6), (8, -2), (10, 18), (12, 54)]),
-        (1, 1, &[(1, -1)]),
-        (30, 15, &[(0, 155117520), (30, -155117520)]),
-        (30, 14, &[(30, 145422675)]),
-        (30, 30, &[(1, -1)]),
-    ];
-    for (n, k, numbers) in rows {
-        for (i, want) in numbers {
-            assert!(rt; krawtchouk(n, k, *i) == Some(*want), "K_{k}({i}) at {n}");
-        }
+    for (n, k, i, want) in &KNOWN {
+        assert!(rt; krawtchouk(*n, *k, *i) == Some(*want), "K_{k}({i}) at {n}");
     }
     assert!(rt; krawtchouk(13, 14, 0).is_none());
     assert!(rt; Hamming { n: 13 }.degree() == 13);
@@ -99,15 +82,19 @@ fn plain_sum(n: u32, k: u32, i: u32) -> Option<i64> {
     Some(sum)
 }
 
+/// Whether there is a plain sum, and the number is just that.
+fn is_plain_sum(n: u32, k: u32, i: u32) -> bool {
+    let want = plain_sum(n, k, i);
+    want.is_some() && krawtchouk(n, k, i) == want
+}
+
 /// At every length each number is its plain sum.
 #[test]
 fn plain_sums(rt: HostRuntime) {
     for n in 1..MAX_N + 1 {
         for k in 0..n + 1 {
             for i in 0..n + 1 {
-                let want = plain_sum(n, k, i);
-                assert!(rt; want.is_some(), "a sum for K_{k}({i}) at {n}");
-                assert!(rt; krawtchouk(n, k, i) == want, "K_{k}({i}) at {n}");
+                assert!(rt; is_plain_sum(n, k, i), "K_{k}({i}) at {n}");
             }
         }
     }
@@ -160,24 +147,27 @@ fn inner_product(n: u32, k: u32, l: u32) -> Option<i64> {
     Some(sum)
 }
 
+/// Whether the sum for two rows is 2^n C(n,k), where they are one, and else 0.
+fn are_orthogonal(n: u32, k: u32, l: u32) -> bool {
+    let Some(words) = krawtchouk(n, k, 0) else {
+        return false;
+    };
+    let want = if k == l {
+        words.wrapping_mul(1i64.wrapping_shl(n))
+    } else {
+        0
+    };
+    inner_product(n, k, l) == Some(want)
+}
+
 /// Rows of Krawtchouk numbers are orthogonal: the sum over i of C(n,i) K_k(i) K_l(i) is 2^n C(n,k) at l = k, else 0.
 #[test]
-fn orthogonality(rt: HostRuntime) -> Result<(), Fail> {
+fn orthogonality(rt: HostRuntime) {
     for n in 1..9u32 {
         for k in 0..n + 1 {
             for l in 0..n + 1 {
-                let words = krawtchouk(n, k, 0).ok_or("no number")?;
-                let want = if k == l {
-                    words.wrapping_mul(1i64 << n)
-                } else {
-                    0
-                };
-                assert!(rt;
-                    inner_product(n, k, l) == Some(want),
-                    "rows {k} and {l} at {n}"
-                );
+                assert!(rt; are_orthogonal(n, k, l), "rows {k} and {l} at {n}");
             }
         }
     }
-    Ok(())
 }

@@ -30,9 +30,18 @@ fn builds(
     alloc: Global,
     (change, stated, size): Built,
     part: &Code,
+    other: Option<&Code>,
 ) -> Result<bool, Fail> {
-    let code = build(rt, alloc, change, entry_of(stated), part, None)??;
+    let code = build(rt, alloc, change, entry_of(stated), part, other)??;
     Ok((code.n(), code.d(), code.w()) == stated && code.words().len() == size)
+}
+
+/// Each row is built of the part.
+fn assert_built(rt: &impl Abort, alloc: Global, rows: &[Built], part: &Code) -> Result<(), Fail> {
+    for row in rows {
+        assert!(rt; builds(rt, alloc, *row, part, None)?, "{:?}", row.1);
+    }
+    Ok(())
 }
 
 /// Whether the change is refused for this reason.
@@ -45,6 +54,20 @@ fn refuses(
 ) -> Result<bool, Fail> {
     let made = build(rt, alloc, change, entry_of(stated), part, other)?;
     Ok(made.err() == Some(fault))
+}
+
+/// Each row is refused of the part and the other code.
+fn assert_refused(
+    rt: &impl Abort,
+    alloc: Global,
+    rows: &[Refused],
+    part: &Code,
+    other: Option<&Code>,
+) -> Result<(), Fail> {
+    for row in rows {
+        assert!(rt; refuses(rt, alloc, *row, part, other)?, "{:?}", row.1);
+    }
+    Ok(())
 }
 
 /// The code of Golay shortened, and its words of one weight.
@@ -72,32 +95,34 @@ const NOT_OF_GOLAY: [Refused; 3] = [
     ),
 ];
 
-#[test]
-fn golay_code(rt: HostRuntime) -> Result<(), Fail> {
-    let alloc = rt.alloc();
-    let golay = linear_code(&rt, alloc, 24, 8, &GOLAY)?;
-    for row in &OF_GOLAY {
-        assert!(rt; builds(&rt, alloc, *row, &golay)?);
-    }
-    for row in &NOT_OF_GOLAY {
-        assert!(rt; refuses(&rt, alloc, *row, &golay, None)?);
-    }
-    Ok(())
+/// Whether the first 2,048 words are all.
+fn has_first_words(
+    rt: &impl Abort,
+    alloc: Global,
+    half: &Code,
+    stated: Place,
+) -> Result<bool, Fail> {
+    let first = build(rt, alloc, Change::Trim(2048), entry_of(stated), half, None)??;
+    Ok(first.words() == half.words())
 }
 
 /// All words of the shortened Golay code, and more.
-#[test]
-fn golay_code_trimmed(rt: HostRuntime) -> Result<(), Fail> {
-    let alloc = rt.alloc();
-    let golay = linear_code(&rt, alloc, 24, 8, &GOLAY)?;
+fn assert_trimmed(rt: &impl Abort, alloc: Global, golay: &Code) -> Result<(), Fail> {
     let place = (23, 8, None);
     let shorter = Change::Shorten(Few::One([0]), Few::One([0]));
-    let half = build(&rt, alloc, shorter, entry_of(place), &golay, None)??;
+    let half = build(rt, alloc, shorter, entry_of(place), golay, None)??;
     let many = (Change::Trim(2049), place, BuildFault::Few(2048, 2049));
-    assert!(rt; refuses(&rt, alloc, many, &half, None)?);
-    let first = build(&rt, alloc, Change::Trim(2048), entry_of(place), &half, None)??;
-    assert!(rt; first.words() == half.words());
+    assert_refused(rt, alloc, &[many], &half, None)?;
+    assert!(rt; has_first_words(rt, alloc, &half, place)?);
     Ok(())
+}
+
+#[test]
+fn golay_code(rt: HostRuntime) -> Result<(), Fail> {
+    let golay = linear_code(&rt, rt.alloc(), 24, 8, &GOLAY)?;
+    assert_built(&rt, rt.alloc(), &OF_GOLAY, &golay)?;
+    assert_refused(&rt, rt.alloc(), &NOT_OF_GOLAY, &golay, None)?;
+    assert_trimmed(&rt, rt.alloc(), &golay)
 }
 
 /// The shortened Hamming code of length n: a word for each of the checks, below the highest places.
@@ -131,16 +156,10 @@ const BESIDE_MANY: [Refused; 2] = [
 
 #[test]
 fn many_words(rt: HostRuntime) -> Result<(), Fail> {
-    let alloc = rt.alloc();
-    let hamming = hamming_code(&rt, alloc, 24, &CHECKS)?;
-    for row in &OF_MANY {
-        assert!(rt; refuses(&rt, alloc, *row, &hamming, None)?);
-    }
-    let ends = code_of(&rt, alloc, ENDS)?;
-    for row in &BESIDE_MANY {
-        assert!(rt; refuses(&rt, alloc, *row, &ends, Some(&hamming))?);
-    }
-    Ok(())
+    let hamming = hamming_code(&rt, rt.alloc(), 24, &CHECKS)?;
+    assert_refused(&rt, rt.alloc(), &OF_MANY, &hamming, None)?;
+    let ends = code_of(&rt, rt.alloc(), ENDS)?;
+    assert_refused(&rt, rt.alloc(), &BESIDE_MANY, &ends, Some(&hamming))
 }
 
 /// Steps over a code of length 23 and just so many words as the limit.
@@ -165,34 +184,31 @@ const OF_MOST_EVEN: [Built; 4] = [
     (Change::Select(0), (24, 4, Some(0)), 1),
 ];
 
+/// That code with its parities, whose words at distance 4 are punctured.
+fn assert_built_of_even(rt: &impl Abort, alloc: Global, hamming: &Code) -> Result<(), Fail> {
+    let stated = entry_of((24, 4, None));
+    let even = build(rt, alloc, Change::Parity, stated, hamming, None)??;
+    assert!(rt; even.words().len() == 262_144);
+    assert_built(rt, alloc, &OF_MOST_EVEN, &even)
+}
+
 /// Each kind of step that takes one part, over a part of just so many words as the limit: the shortened Hamming code of
-/// length 23, and that code with its parities, whose words at distance 4 are punctured.
+/// length 23.
 #[test]
 fn steps_at_the_limit(rt: HostRuntime) -> Result<(), Fail> {
-    let alloc = rt.alloc();
-    let hamming = hamming_code(&rt, alloc, 23, &CHECKS[..18])?;
+    let hamming = hamming_code(&rt, rt.alloc(), 23, &CHECKS[..18])?;
     assert!(rt; hamming.words().len() == 262_144);
-    for row in &OF_MOST {
-        assert!(rt; builds(&rt, alloc, *row, &hamming)?, "{:?}", row.1);
-    }
-    let stated = entry_of((24, 4, None));
-    let even = build(&rt, alloc, Change::Parity, stated, &hamming, None)??;
-    assert!(rt; even.words().len() == 262_144);
-    for row in &OF_MOST_EVEN {
-        assert!(rt; builds(&rt, alloc, *row, &even)?, "{:?}", row.1);
-    }
-    Ok(())
+    assert_built(&rt, rt.alloc(), &OF_MOST, &hamming)?;
+    assert_built_of_even(&rt, rt.alloc(), &hamming)
 }
 
 /// A part of just so many words as the limit, beside fewer.
 #[test]
 fn part_at_the_limit(rt: HostRuntime) -> Result<(), Fail> {
-    let alloc = rt.alloc();
-    let most = even_code(&rt, alloc, 19)?;
-    let few = even_code(&rt, alloc, 9)?;
-    let stated = entry_of((28, 4, None));
-    let code = build(&rt, alloc, Change::Juxtapose, stated, &most, Some(&few))??;
-    assert!(rt; code.words().len() == 256);
+    let most = even_code(&rt, rt.alloc(), 19)?;
+    let few = even_code(&rt, rt.alloc(), 9)?;
+    let row = (Change::Juxtapose, (28, 4, None), 256);
+    assert!(rt; builds(&rt, rt.alloc(), row, &most, Some(&few))?);
     Ok(())
 }
 
@@ -205,18 +221,20 @@ const ABOVE_MOST: [Refused; 2] = [
     (Change::Uuv, (28, 5, None), BuildFault::Short(4, 5)),
 ];
 
-/// A result of just so many words as the limit, and one of more.
+/// A result of just so many words as the limit.
 #[test]
 fn result_at_the_limit(rt: HostRuntime) -> Result<(), Fail> {
-    let alloc = rt.alloc();
-    let even = even_code(&rt, alloc, 14)?;
-    let five = linear_code(&rt, alloc, 14, 4, &SIX[..5])?;
-    let stated = entry_of((28, 4, None));
-    let code = build(&rt, alloc, Change::Uuv, stated, &even, Some(&five))??;
-    assert!(rt; code.words().len() == 262_144);
-    let six = linear_code(&rt, alloc, 14, 4, &SIX)?;
-    for row in &ABOVE_MOST {
-        assert!(rt; refuses(&rt, alloc, *row, &even, Some(&six))?);
-    }
+    let even = even_code(&rt, rt.alloc(), 14)?;
+    let five = linear_code(&rt, rt.alloc(), 14, 4, &SIX[..5])?;
+    let row = (Change::Uuv, (28, 4, None), 262_144);
+    assert!(rt; builds(&rt, rt.alloc(), row, &even, Some(&five))?);
     Ok(())
+}
+
+/// A result of more.
+#[test]
+fn result_above_the_limit(rt: HostRuntime) -> Result<(), Fail> {
+    let even = even_code(&rt, rt.alloc(), 14)?;
+    let six = linear_code(&rt, rt.alloc(), 14, 4, &SIX)?;
+    assert_refused(&rt, rt.alloc(), &ABOVE_MOST, &even, Some(&six))
 }

@@ -5,7 +5,8 @@ ghost use Rattle.ct_words.specs.declared.limits.TheConstants.{MAX_N};
 ghost use Rattle.ct_codes.specs.Entry.{unrestricted};
 ghost use Rattle.ct_partitions.specs.Partition.{word_lists, words_of_classes};
 
-use ct_codes::{Code, Entry};
+use crate::build_parts::{have_length, shows};
+use ct_codes::Entry;
 use ct_partitions::{
     Partition, PartitionFault, check_partition, product_distance, product_list, product_size,
 };
@@ -38,21 +39,13 @@ fn classes_of(alloc: Global, classes: &[&[Word]]) -> Result<Vec<Vec<Word>>, Allo
     Ok(lists)
 }
 
-/// Whether all words have length n.
-fn is_of_length(words: &[Word], n: u32) -> bool
-    requires { n ≤ MAX_N }
-    ensures { result ≡ true → All (λ x. x < 2 ^ n) words.now }
-{
-    words.iter().all(|word| *word < 1 << n)
-}
-
 /// Whether all words of the classes have length n.
 fn are_of_length(classes: &[Vec<Word>], n: u32) -> bool
     requires { n ≤ MAX_N }
     ensures { result ≡ true → All (λ x. x < 2 ^ n) (words_of_classes (word_lists classes.now)) }
 {
     for class in classes {
-        if !is_of_length(class, n) {
+        if !have_length(class, n) {
             return false;
         }
     }
@@ -76,104 +69,130 @@ fn answer(
     Ok(check_partition(alloc, entry, between, lists))
 }
 
+/// Whether the partition has just these classes.
+fn has_classes(partition: &Partition, classes: &[&[Word]]) -> bool {
+    for (class, words) in partition.classes().iter().zip(classes) {
+        if class.as_slice() != *words {
+            return false;
+        }
+    }
+    partition.classes().len() == classes.len()
+}
+
+/// Whether the words of even weight stay as they are handed in, with this distance between classes.
+fn is_partition(rt: &impl Abort, alloc: Global, between: u32) -> Result<bool, Fail> {
+    let entry = of_length_four(None);
+    let partition = answer(rt, alloc, entry, between, &EVEN_PAIRS)??;
+    Ok(
+        partition.entry() == entry
+            && partition.between() == between
+            && has_classes(&partition, &EVEN_PAIRS),
+    )
+}
+
 /// Classes that are a partition stay as they are handed in.
 #[test]
 fn classes_that_are_a_partition(rt: HostRuntime) -> Result<(), Fail> {
-    let entry = of_length_four(None);
-    for between in [1, 2] {
-        let partition = answer(&rt, rt.alloc(), entry, between, &EVEN_PAIRS)??;
-        assert!(rt; partition.entry() == entry && partition.between() == between);
-        assert!(rt; partition.classes().len() == 4);
-        for (class, words) in partition.classes().iter().zip(EVEN_PAIRS) {
-            assert!(rt; class.as_slice() == words);
-        }
-    }
+    assert!(rt; is_partition(&rt, rt.alloc(), 1)?);
+    assert!(rt; is_partition(&rt, rt.alloc(), 2)?);
     Ok(())
 }
+
+/// Two words of different classes that are too near each other.
+const ACROSS: PartitionFault = PartitionFault::Close {
+    i: 0,
+    j: 2,
+    distance: 2,
+    class_i: 0,
+    class_j: 1,
+    need: 3,
+};
+
+/// Two words of one class that are too near each other.
+const WITHIN: PartitionFault = PartitionFault::Close {
+    i: 1,
+    j: 2,
+    distance: 2,
+    class_i: 1,
+    class_j: 1,
+    need: 4,
+};
+
+/// A weight, the distance between classes, classes, and their fault.
+type Refused = (Option<u32>, u32, &'static [&'static [Word]], PartitionFault);
 
 /// Classes with each fault, and with two: a count comes before a weight, a weight before a pair of equal words, and that
 /// before a closer pair. Two words of different classes at distance 2 are too close where they need 3, two of one class
 /// where they need 4.
+const REFUSED: [Refused; 7] = [
+    (None, 3, &EVEN_PAIRS, ACROSS),
+    (None, 1, &[&[0b0000], &[0b0011, 0b0110]], WITHIN),
+    (None, 2, &[], PartitionFault::Size(0)),
+    (Some(2), 2, &[&[0b0001], &[]], PartitionFault::Size(0)),
+    (
+        Some(2),
+        2,
+        &[&[0b0011, 0b0011], &[0b0001]],
+        PartitionFault::Weight(2),
+    ),
+    (
+        None,
+        2,
+        &[&[0b0000, 0b0001], &[0b0001]],
+        PartitionFault::Repeated(1, 2),
+    ),
+    (
+        Some(4),
+        4,
+        &[&[0b1111, 0b1111]],
+        PartitionFault::Repeated(0, 1),
+    ),
+];
+
+/// Whether the classes are refused for their fault.
+fn is_refused(
+    rt: &impl Abort,
+    alloc: Global,
+    (w, between, classes, fault): Refused,
+) -> Result<bool, Fail> {
+    let refused = answer(rt, alloc, of_length_four(w), between, classes)?;
+    Ok(refused.err() == Some(fault))
+}
+
 #[test]
 fn classes_with_faults(rt: HostRuntime) -> Result<(), Fail> {
-    let across = PartitionFault::Close {
-        i: 0,
-        j: 2,
-        distance: 2,
-        class_i: 0,
-        class_j: 1,
-        need: 3,
-    };
-    let within = PartitionFault::Close {
-        i: 1,
-        j: 2,
-        distance: 2,
-        class_i: 1,
-        class_j: 1,
-        need: 4,
-    };
-    let rows: [(Option<u32>, u32, &[&[Word]], PartitionFault); 7] = [
-        (None, 3, &EVEN_PAIRS, across),
-        (None, 1, &[&[0b0000], &[0b0011, 0b0110]], within),
-        (None, 2, &[], PartitionFault::Size(0)),
-        (Some(2), 2, &[&[0b0001], &[]], PartitionFault::Size(0)),
-        (
-            Some(2),
-            2,
-            &[&[0b0011, 0b0011], &[0b0001]],
-            PartitionFault::Weight(2),
-        ),
-        (
-            None,
-            2,
-            &[&[0b0000, 0b0001], &[0b0001]],
-            PartitionFault::Repeated(1, 2),
-        ),
-        (
-            Some(4),
-            4,
-            &[&[0b1111, 0b1111]],
-            PartitionFault::Repeated(0, 1),
-        ),
-    ];
-    for (w, between, classes, fault) in rows {
-        let refused = answer(&rt, rt.alloc(), of_length_four(w), between, classes)?;
-        assert!(rt; refused.err() == Some(fault), "{fault:?}");
+    for row in &REFUSED {
+        assert!(rt; is_refused(&rt, rt.alloc(), *row)?, "{:?}", row.3);
     }
     Ok(())
 }
 
-/// The distance, the size and the code of the product of a partition of A(4,4) with itself.
-fn product_with_itself(alloc: Global, part: Partition) -> Result<(u32, u64, Code), AllocError>
+/// The 16 words of length 8 that are a word of a pair of complements followed by a word of the same pair.
+const PRODUCT: [Word; 16] = [
+    0b00000000, 0b00001111, 0b00110011, 0b00111100, 0b01010101, 0b01011010, 0b01100110, 0b01101001,
+    0b10010110, 0b10011001, 0b10100101, 0b10101010, 0b11000011, 0b11001100, 0b11110000, 0b11111111,
+];
+
+/// Whether the product of a partition of A(4,4) with itself is just these words.
+fn is_product(alloc: Global, part: Partition, words: &[Word]) -> Result<bool, AllocError>
     requires entry { part.entry ≡ unrestricted 4 4 }
     requires between { part.between ≡ 2 }
 {
     let parts = [part];
     let pairs = [(0, 0)];
-    let distance = product_distance(&parts, &pairs);
-    let size = product_size(&parts, &pairs);
     let entry = Entry {
         n: 8,
         d: 4,
         w: None,
     };
     let code = product_list(alloc, entry, &parts, &pairs)?;
-    Ok((distance, size, code))
+    let size = product_size(&parts, &pairs);
+    Ok(product_distance(&parts, &pairs) == 4 && size == 16 && shows(&code, (8, 4, None), words))
 }
 
-/// The 16 words of length 8 that are a word of a pair of complements followed by a word of the same pair.
 #[test]
 fn product_of_even_words(rt: HostRuntime) -> Result<(), Fail> {
-    let alloc = rt.alloc();
-    let part = answer(&rt, alloc, of_length_four(None), 2, &EVEN_PAIRS)??;
-    let (distance, size, code) = product_with_itself(alloc, part)?;
-    assert!(rt; distance == 4 && size == 16);
-    assert!(rt; code.n() == 8 && code.d() == 4 && code.w().is_none());
-    let words = [
-        0b00000000, 0b00001111, 0b00110011, 0b00111100, 0b01010101, 0b01011010, 0b01100110,
-        0b01101001, 0b10010110, 0b10011001, 0b10100101, 0b10101010, 0b11000011, 0b11001100,
-        0b11110000, 0b11111111,
-    ];
-    assert!(rt; code.words() == words.as_slice());
+    let part = answer(&rt, rt.alloc(), of_length_four(None), 2, &EVEN_PAIRS)??;
+    assert!(rt; is_product(rt.alloc(), part, &PRODUCT)?);
     Ok(())
 }

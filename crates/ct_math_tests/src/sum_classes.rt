@@ -2,54 +2,71 @@
 
 ghost use Rattle.std.specs.Prelude.{◌≤◌};
 
+use crate::build_parts::shows;
+use ct_codes::Code;
 use ct_partitions::{sum_class_count, sum_class_list};
-use ct_words::Word;
+use ct_words::{MAX_N, Word};
+use std::alloc::Global;
+use std::process::Abort;
 use std::test::Fail;
 
-/// The class of A(6,4,3) and its neighbours, written out.
-#[test]
-fn listed(rt: HostRuntime) -> Result<(), Fail> {
-    let alloc = rt.alloc();
-    assert!(rt; sum_class_count(6, 3, 0) == 4 && sum_class_count(6, 3, 1) == 3);
-    assert!(rt; sum_class_count(8, 4, 2) == 10);
-    if sum_class_count(6, 3, 0) > 0 {
-        let code = sum_class_list(alloc, 6, 3, 0)?;
-        assert!(rt; code.words() == [0b000111, 0b011100, 0b101010, 0b110001].as_slice());
-        assert!(rt; code.n() == 6 && code.d() == 4 && code.w() == Some(3));
-    }
-    Ok(())
-}
+/// A length, a weight, a residue, and how many words the sum class has.
+type Counted = (u32, u32, u32, u64);
 
-/// The classes of 15 of 30 places, by the residue of their sum, up to 15: a greatest one and the others. Worked out by adding one place after the
-/// other.
-const OF_HALF: [(u32, u64); 16] = [
-    (0, 5170604),
-    (1, 5170575),
-    (2, 5170575),
-    (3, 5170600),
-    (4, 5170575),
-    (5, 5170578),
-    (6, 5170600),
-    (7, 5170575),
-    (8, 5170575),
-    (9, 5170600),
-    (10, 5170578),
-    (11, 5170575),
-    (12, 5170600),
-    (13, 5170575),
-    (14, 5170575),
-    (15, 5170604),
+/// The class of A(6,4,3) and a neighbour, and one of A(8,4,4). The classes of 15 of 30 places, by the residue of their sum, up to 15: a
+/// greatest one and the others. Worked out by adding one place after the other.
+const COUNTS: [Counted; 19] = [
+    (6, 3, 0, 4),
+    (6, 3, 1, 3),
+    (8, 4, 2, 10),
+    (30, 15, 0, 5170604),
+    (30, 15, 1, 5170575),
+    (30, 15, 2, 5170575),
+    (30, 15, 3, 5170600),
+    (30, 15, 4, 5170575),
+    (30, 15, 5, 5170578),
+    (30, 15, 6, 5170600),
+    (30, 15, 7, 5170575),
+    (30, 15, 8, 5170575),
+    (30, 15, 9, 5170600),
+    (30, 15, 10, 5170578),
+    (30, 15, 11, 5170575),
+    (30, 15, 12, 5170600),
+    (30, 15, 13, 5170575),
+    (30, 15, 14, 5170575),
+    (30, 15, 15, 5170604),
 ];
 
-#[test]
-fn of_half_the_places(rt: HostRuntime) {
-    for (residue, want) in OF_HALF {
-        assert!(rt; residue < 30);
-        assert!(rt;
-            sum_class_count(30, 15, residue) == want,
-            "residue {residue}"
-        );
+/// How many words the sum class has, where there is one of these numbers.
+fn count_of(n: u32, w: u32, r: u32) -> Option<u64> {
+    if n <= MAX_N && w <= n && r < n {
+        Some(sum_class_count(n, w, r))
+    } else {
+        None
     }
+}
+
+#[test]
+fn known_counts(rt: HostRuntime) {
+    for (n, w, r, want) in &COUNTS {
+        assert!(rt; count_of(*n, *w, *r) == Some(*want), "at {n} {w} {r}");
+    }
+}
+
+/// The words of the sum class, which has some.
+fn list_of(rt: &impl Abort, alloc: Global, n: u32, w: u32, r: u32) -> Result<Code, Fail> {
+    assert!(rt; n <= MAX_N && w <= n && r < n && sum_class_count(n, w, r) > 0);
+    Ok(sum_class_list(alloc, n, w, r)?)
+}
+
+/// The class of A(6,4,3), written out.
+const OF_SIX: [Word; 4] = [0b000111, 0b011100, 0b101010, 0b110001];
+
+#[test]
+fn listed(rt: HostRuntime) -> Result<(), Fail> {
+    let code = list_of(&rt, rt.alloc(), 6, 3, 0)?;
+    assert!(rt; shows(&code, (6, 4, Some(3)), &OF_SIX));
+    Ok(())
 }
 
 /// Every sum class of lengths up to 12, against a plain count of all words.

@@ -7,5 +7,5 @@ use Rattle.ct_math_tests.proofs.products.are_of_length.Goals as goal
 pub loop-class-preserved : goal.loop-class-preserved
 loop-class-preserved c =
     let P = λ (x : ℕ). x < 2 ^ c.args.n in
-    let class = rw c.deref.ensures.value at c.is_of_length.ensures c.if-not-is_of_length.false in
+    let class = rw c.deref.ensures.value at c.have_length.ensures c.if-not-have_length.false in
     rw (lists_more c.args.classes.now c.loop-class.class-index c.class-item.result c.loop-class-test.true) (All-append P _ _ c.loop-class.invariant (rw c.class-item.is at class))
