@@ -1,168 +1,260 @@
 //! Documents that cite: what is read, refused and written.
 
-use ct_files::{Cite, Document, DocumentFault, FieldName, read_document, write_document};
-use std::alloc::Global;
+use crate::faults::fault_text;
+use ct_files::{Cite, Document, DocumentFault, read_document, write_document};
+use std::alloc::{AllocError, Global};
 use std::test::Fail;
 
-const FORMAT: DocumentFault = DocumentFault::Field(FieldName::Format);
-
-const CITES: DocumentFault = DocumentFault::Field(FieldName::Cites);
-
 // Six words with their pairwise distances at least 6.
-const SIX_WORDS: &str =
-    "kind = 'words'\nn = 10\nd = 6\nwords = ['1111111111', '1111000000', '1000111000', '0100100110', '0010010101', '0001001011']\n";
+const SIX_WORDS: &str = "\
+kind = 'words'
+n = 10
+d = 6
+words = ['1111111111', '1111000000', '1000111000', '0100100110', '0010010101', '0001001011']
+";
 
-// What stands after the six words, and the fault of the whole.
-const REFUSED: [(&str, DocumentFault); 11] = [
-    (
-        "cites = ['MacWilliams and Sloane, Appendix A']",
-        DocumentFault::Unknown,
-    ),
-    ("format = 1\ncites = []", DocumentFault::Unknown),
-    (
-        "format = 3\ncites = ['MacWilliams and Sloane, Appendix A']",
-        FORMAT,
-    ),
-    ("format = 0", FORMAT),
-    ("format = '1'", FORMAT),
-    ("format = 2\ncites = ['']", CITES),
-    ("format = 2\ncites = ['a', 2]", CITES),
-    ("format = 2\ncites = 'a'", CITES),
-    ("format = 2\ncites = [\"\\u007F\"]", CITES),
-    ("format = 2\ncites = [\"a\\n\"]", CITES),
-    (
-        "format = 2\ncites = ['a']\nsource = 'a'",
-        DocumentFault::Unknown,
-    ),
-];
+// The fault of the whole, and what stands after the six words. Between the rows stands a line with three bars.
+const REFUSED: &str = "\
+Unknown
+cites = ['MacWilliams and Sloane, Appendix A']
+---
+Unknown
+format = 1
+cites = []
+---
+Field(Format)
+format = 3
+cites = ['MacWilliams and Sloane, Appendix A']
+---
+Field(Format)
+format = 0
+---
+Field(Format)
+format = '1'
+---
+Field(Cites)
+format = 2
+cites = ['']
+---
+Field(Cites)
+format = 2
+cites = ['a', 2]
+---
+Field(Cites)
+format = 2
+cites = 'a'
+---
+Field(Cites)
+format = 2
+cites = [\"\\u007F\"]
+---
+Field(Cites)
+format = 2
+cites = [\"a\\n\"]
+---
+Unknown
+format = 2
+cites = ['a']
+source = 'a'";
 
-// What stands after the six words, and what is written before and after `d`, in the order of the keys.
-const WRITTEN: [(&str, &str, &str); 6] = [
-    ("", "", ""),
-    ("format = 1", "", ""),
-    ("format = 2\ncites = []", "", ""),
-    (
-        "format = 2\ncites = ['MacWilliams and Sloane, Appendix A']",
-        "cites = [\"MacWilliams and Sloane, Appendix A\"]\n",
-        "format = 2\n",
-    ),
-    (
-        "cites = ['b', 'a', 'b']\nformat = 2",
-        "cites = [\"b\", \"a\", \"b\"]\n",
-        "format = 2\n",
-    ),
-    (
-        "format = 2\ncites = [\"\\u0041 \\\"B\\\" \\\\ C\"]",
-        "cites = ['A \"B\" \\ C']\n",
-        "format = 2\n",
-    ),
-];
+// What is written before the kind, in the order of the keys, an arrow, and what stands after the six words. Between the rows stands a
+// line with three bars.
+const WRITTEN: &str = "\
+d = 6
+<-
 
-fn read(alloc: Global, more: &str) -> Result<Document, DocumentFault> {
-    let mut text = Vec::from_slice(alloc, SIX_WORDS.as_bytes())?;
-    text.extend_from_slice(more.as_bytes())?;
-    read_document(alloc, &text)
-}
+---
+d = 6
+<-
+format = 1
+---
+d = 6
+<-
+format = 2
+cites = []
+---
+cites = [\"MacWilliams and Sloane, Appendix A\"]
+d = 6
+format = 2
+<-
+format = 2
+cites = ['MacWilliams and Sloane, Appendix A']
+---
+cites = [\"b\", \"a\", \"b\"]
+d = 6
+format = 2
+<-
+cites = ['b', 'a', 'b']
+format = 2
+---
+cites = ['A \"B\" \\ C']
+d = 6
+format = 2
+<-
+format = 2
+cites = [\"\\u0041 \\\"B\\\" \\\\ C\"]";
 
-// What is written for the six words with this before `d` and this after it.
-fn expected(alloc: Global, before: &str, after: &str) -> Result<Vec<u8>, Fail> {
-    let mut text = Vec::from_slice(alloc, before.as_bytes())?;
-    text.extend_from_slice(b"d = 6\n")?;
-    text.extend_from_slice(after.as_bytes())?;
-    text.extend_from_slice(
-        b"kind = \"words\"\nn = 10\nwords = [\"1111111111\", \"1111000000\", \"1000111000\", \"0100100110\", \"0010010101\", \"0001001011\"]\n",
-    )?;
+// What is written for the six words from their kind on.
+const WRITTEN_WORDS: &str = "\
+kind = \"words\"
+n = 10
+words = [\"1111111111\", \"1111000000\", \"1000111000\", \"0100100110\", \"0010010101\", \"0001001011\"]
+";
+
+// One text after the other.
+fn joined(alloc: Global, first: &str, second: &str) -> Result<Vec<u8>, AllocError> {
+    let mut text = first.as_bytes().to_vec(alloc)?;
+    text.extend_from_slice(second.as_bytes())?;
     Ok(text)
 }
 
-// What is written for the document of these bytes.
-fn written(alloc: Global, bytes: &[u8]) -> Result<Vec<u8>, Fail> {
-    let document = read_document(alloc, bytes)?;
-    Ok(write_document(alloc, &document)?)
+// Whether the six words with the row's text are refused for its fault.
+fn is_refused(alloc: Global, row: &str) -> Result<bool, AllocError> {
+    let Some((fault, more)) = row.split_once('\n') else {
+        return Ok(false);
+    };
+    let text = joined(alloc, SIX_WORDS, more)?;
+    Ok(fault_text(alloc, &text)?.as_str() == fault)
 }
 
 /// Each document is refused with its fault.
 #[test]
 fn refused(rt: HostRuntime) -> Result<(), Fail> {
-    for (more, fault) in REFUSED {
-        assert!(rt; read(rt.alloc(), more).err() == Some(fault), "{more}");
+    for row in REFUSED.split("\n---\n") {
+        assert!(rt; is_refused(rt.alloc(), row)?, "{row}");
     }
     Ok(())
+}
+
+// What is written for the document of these bytes.
+fn written(alloc: Global, bytes: &[u8]) -> Result<Result<Vec<u8>, AllocError>, DocumentFault> {
+    let document = read_document(alloc, bytes)?;
+    Ok(write_document(alloc, &document))
+}
+
+// Whether this is written for the document.
+fn writes(alloc: Global, document: &[u8], wanted: &[u8]) -> Result<bool, Fail> {
+    Ok(written(alloc, document)??.as_slice() == wanted)
+}
+
+// Whether this is written for the document, and for itself.
+fn is_written_for(alloc: Global, document: &[u8], wanted: &[u8]) -> Result<bool, Fail> {
+    Ok(writes(alloc, document, wanted)? && writes(alloc, wanted, wanted)?)
+}
+
+// Whether the row's text is written for the six words with what stands after them.
+fn is_written(alloc: Global, row: &str) -> Result<bool, Fail> {
+    let Some((before, more)) = row.split_once("<-\n") else {
+        return Ok(false);
+    };
+    let document = joined(alloc, SIX_WORDS, more)?;
+    let wanted = joined(alloc, before, WRITTEN_WORDS)?;
+    is_written_for(alloc, &document, &wanted)
 }
 
 /// What is written has format 2 exactly where something is cited, and is read and written again.
 #[test]
 fn written_in_their_format(rt: HostRuntime) -> Result<(), Fail> {
-    for (more, before, after) in WRITTEN {
-        let expected = expected(rt.alloc(), before, after)?;
-        let mut text = Vec::from_slice(rt.alloc(), SIX_WORDS.as_bytes())?;
-        text.extend_from_slice(more.as_bytes())?;
-        assert!(rt;
-            written(rt.alloc(), &text)?.as_slice() == expected.as_slice(),
-            "{more}"
-        );
-        assert!(rt;
-            written(rt.alloc(), &expected)?.as_slice() == expected.as_slice(),
-            "{more}"
-        );
+    for row in WRITTEN.split("\n---\n") {
+        assert!(rt; is_written(rt.alloc(), row)?, "{row}");
     }
     Ok(())
 }
 
-/// A dual with an odd number of words is written with what it cites.
+// A dual with an odd number of words that cites, and what is written for it.
+const ODD: &str =
+    "kind = 'odd'\nformat = 2\nn = 9\nd = 4\neven = true\nm = 21\nc = [3, 1, 1]\ny = [[8, 16]]\ncites = ['a']";
+
+const WRITTEN_ODD: &str =
+    "c = [3, 1, 1]\ncites = [\"a\"]\nd = 4\neven = true\nformat = 2\nkind = \"odd\"\nm = 21\nn = 9\ny = [[8, 16]]\n";
+
 #[test]
 fn cites_of_an_odd_dual(rt: HostRuntime) -> Result<(), Fail> {
-    let text =
-        "kind = 'odd'\nformat = 2\nn = 9\nd = 4\neven = true\nm = 21\nc = [3, 1, 1]\ny = [[8, 16]]\ncites = ['a']";
-    let expected =
-        "c = [3, 1, 1]\ncites = [\"a\"]\nd = 4\neven = true\nformat = 2\nkind = \"odd\"\nm = 21\nn = 9\ny = [[8, 16]]\n";
-    assert!(rt; written(rt.alloc(), text.as_bytes())?.as_slice() == expected.as_bytes());
+    let (document, wanted) = (ODD.as_bytes(), WRITTEN_ODD.as_bytes());
+    assert!(rt; is_written_for(rt.alloc(), document, wanted)?);
     Ok(())
 }
 
+// A cite of so many letters and the comma after it.
+fn put_cite(text: &mut Vec<u8>, length: usize) -> Result<(), AllocError> {
+    text.push(b'\'')?;
+    for _ in 0..length {
+        text.push(b'x')?;
+    }
+    text.extend_from_slice(b"',")
+}
+
 // A document of format 2 that cites so many texts of so many letters.
-fn with_cites(alloc: Global, count: usize, length: usize) -> Result<Vec<u8>, Fail> {
-    let mut text = Vec::from_slice(alloc, SIX_WORDS.as_bytes())?;
-    text.extend_from_slice(b"format = 2\ncites = [")?;
+fn with_cites(alloc: Global, count: usize, length: usize) -> Result<Vec<u8>, AllocError> {
+    let mut text = joined(alloc, SIX_WORDS, "format = 2\ncites = [")?;
     for _ in 0..count {
-        text.push(b'\'')?;
-        for _ in 0..length {
-            text.push(b'x')?;
-        }
-        text.extend_from_slice(b"',")?;
+        put_cite(&mut text, length)?;
     }
     text.push(b']')?;
     Ok(text)
 }
 
-/// At most 16 texts of at most 200 bytes are read, and read back from what is written.
+// Whether there are so many cites, of which the last has so many letters.
+fn has_cites(document: &Document, count: usize, length: usize) -> bool {
+    match document.cites.last() {
+        Some(cite) => document.cites.len() == count && cite.text().len() == length,
+        None => false,
+    }
+}
+
+// Whether so many cites of so many letters are read.
+fn are_read(alloc: Global, count: usize, length: usize) -> Result<bool, DocumentFault> {
+    let text = with_cites(alloc, count, length)?;
+    let document = read_document(alloc, &text)?;
+    Ok(has_cites(&document, count, length))
+}
+
+// Whether they are read back from what is written.
+fn are_read_back(alloc: Global, count: usize, length: usize) -> Result<bool, Fail> {
+    let text = with_cites(alloc, count, length)?;
+    let again = written(alloc, &text)??;
+    writes(alloc, &again, &again)
+}
+
+// The fault of a document with so many cites of so many letters.
+fn fault_of(alloc: Global, count: usize, length: usize) -> Result<String, AllocError> {
+    let text = with_cites(alloc, count, length)?;
+    fault_text(alloc, &text)
+}
+
+/// At most 16 texts of at most 200 bytes are read.
 #[test]
 fn the_most_cites(rt: HostRuntime) -> Result<(), Fail> {
-    let most = with_cites(rt.alloc(), 16, 200)?;
-    let document = read_document(rt.alloc(), &most)?;
-    assert!(rt; document.cites.len() == 16);
-    assert!(rt; document.cites[15].text().len() == 200);
-    let again = written(rt.alloc(), &most)?;
-    assert!(rt; written(rt.alloc(), &again)?.as_slice() == again.as_slice());
-    let many = with_cites(rt.alloc(), 17, 1)?;
-    assert!(rt; read_document(rt.alloc(), &many).err() == Some(CITES));
-    let long = with_cites(rt.alloc(), 1, 201)?;
-    assert!(rt; read_document(rt.alloc(), &long).err() == Some(CITES));
+    assert!(rt; are_read(rt.alloc(), 16, 200)? && are_read_back(rt.alloc(), 16, 200)?);
+    for (count, length) in [(17, 1), (1, 201)] {
+        let fault = fault_of(rt.alloc(), count, length)?;
+        assert!(rt; fault.as_str() == "Field(Cites)", "{count} {length}");
+    }
     Ok(())
+}
+
+// Whether the cite of these bytes has them as its text, where they are a cite.
+fn parsed(alloc: Global, bytes: &[u8]) -> Result<Option<bool>, AllocError> {
+    match Cite::parse(alloc, bytes)? {
+        Some(cite) => Ok(Some(cite.text() == bytes)),
+        None => Ok(None),
+    }
+}
+
+// The same of so many letters.
+fn parsed_letters(alloc: Global, length: usize) -> Result<Option<bool>, AllocError> {
+    let bytes = vec![in alloc; b'x'; length]?;
+    parsed(alloc, &bytes)
 }
 
 /// A cite is 1 to 200 bytes from 32 to 126.
 #[test]
 fn cites(rt: HostRuntime) -> Result<(), Fail> {
-    assert!(rt; Cite::parse(rt.alloc(), b"")?.is_none());
-    assert!(rt; Cite::parse(rt.alloc(), &[31])?.is_none());
-    assert!(rt; Cite::parse(rt.alloc(), &[127])?.is_none());
-    assert!(rt; Cite::parse(rt.alloc(), &[65, 200])?.is_none());
-    assert!(rt; Cite::parse(rt.alloc(), &[b'x'; 201])?.is_none());
-    assert!(rt; Cite::parse(rt.alloc(), &[b'x'; 200])?.is_some());
-    match Cite::parse(rt.alloc(), b" ~")? {
-        Some(cite) => assert!(rt; cite.text() == b" ~".as_slice()),
-        None => assert!(rt; false, "the two ends of what may stand in a cite"),
-    }
+    let alloc = rt.alloc();
+    assert!(rt; parsed(alloc, b" ~")? == Some(true));
+    assert!(rt; parsed(alloc, &[31])?.is_none() && parsed(alloc, &[127])?.is_none());
+    assert!(rt; parsed(alloc, &[65, 200])?.is_none());
+    assert!(rt; parsed_letters(alloc, 0)?.is_none() && parsed_letters(alloc, 201)?.is_none());
+    assert!(rt; parsed_letters(alloc, 200)? == Some(true));
     Ok(())
 }

@@ -1,33 +1,36 @@
 //! Sources and sinks: what a failed write leaves, and readers and writers of std.
 
 use ct_io::{MemSink, Sink, Source, StdSink, StdSource, write_all};
+use std::alloc::{AllocError, Global};
 use std::io::{self, ErrorKind, Read, Write};
 use std::test::Fail;
 
 const TEXT: &[u8] = b"first\n\nthird line\nlast";
 
+/// Whether a sink with so much room, some of whose writes fail, keeps just this of the text, with so many faults.
+fn keeps(
+    alloc: Global,
+    room: usize,
+    failing: &[u32],
+    kept: &[u8],
+    faults: u64,
+) -> Result<bool, AllocError> {
+    let mut sink = MemSink::new(alloc, room, failing.to_vec(alloc)?, 16)?;
+    let is_written = write_all(&mut sink, TEXT).is_ok();
+    Ok(is_written == (faults == 0) && sink.bytes.as_slice() == kept && sink.faults == faults)
+}
+
 #[test]
 fn a_failed_write_keeps_a_prefix(rt: HostRuntime) -> Result<(), Fail> {
-    let cases: [(usize, &[u32], &[u8], u64); 3] = [
-        (64, &[1], b"first\n\nthird lin", 1),
-        (20, &[], b"first\n\nthird line\nla", 1),
-        (22, &[], TEXT, 0),
-    ];
-    for (room, failing, kept, faults) in cases {
-        let alloc = rt.alloc();
-        let mut sink = MemSink::new(alloc, room, failing.to_vec(alloc)?, 16)?;
-        assert!(rt;
-            write_all(&mut sink, TEXT).is_ok() == (faults == 0),
-            "with room for {room}"
-        );
-        assert!(rt; sink.bytes.as_slice() == kept, "with room for {room}");
-        assert!(rt; sink.faults == faults, "with room for {room}");
-    }
+    let alloc = rt.alloc();
+    assert!(rt; keeps(alloc, 64, &[1], b"first\n\nthird lin", 1)?);
+    assert!(rt; keeps(alloc, 20, &[], b"first\n\nthird line\nla", 1)?);
+    assert!(rt; keeps(alloc, 22, &[], TEXT, 0)?);
     Ok(())
 }
 
 /// A reader and a writer whose next calls fail, so many of them. The later ones read nothing, and write all.
-#[derive(Debug, Drop)]
+#[derive(Drop)]
 struct Faltering {
     failures: u32,
     // Whether a write fails by taking nothing, and not by an error.

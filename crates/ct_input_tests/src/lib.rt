@@ -12,6 +12,8 @@ mod documents_refused;
 #[cfg(test)]
 mod documents_written;
 #[cfg(test)]
+mod faults;
+#[cfg(test)]
 mod lines;
 #[cfg(test)]
 mod long_documents;

@@ -1,235 +1,207 @@
 //! Documents of the greatest size, and of the greatest numbers of words.
 
-use ct_files::{DocumentFault, Evidence, FieldName, read_evidence};
+use ct_files::{DocumentFault, Evidence, read_evidence};
+use ct_text::parse_number;
 use std::alloc::{AllocError, Global};
 use std::test::Fail;
 
-/// Documents of 100 kB, of the greatest size, and of one byte more.
+// The first byte of a document, how many bytes it has, and its fault: of 100 kB, of the greatest size, and of one byte more.
+const LENGTHS: [(u8, usize, Option<DocumentFault>); 4] = [
+    (b'k', 102400, None),
+    (b'k', 4194304, None),
+    (b'=', 4194304, Some(DocumentFault::NotToml)),
+    (b'=', 4194305, Some(DocumentFault::Bytes(4194305))),
+];
+
+// The fault of a document of words that begins with the byte, with a comment at its end.
+fn fault_of(alloc: Global, first: u8, length: usize) -> Result<Option<DocumentFault>, AllocError> {
+    let mut bytes = vec![in alloc; first; 1]?;
+    bytes.extend_from_slice(b"ind = 'words'\nn = 6\nd = 4\nwords = ['111100']\n")?;
+    bytes.resize(length, b'#')?;
+    Ok(read_evidence(alloc, &bytes).err())
+}
+
 #[test]
 fn long_documents(rt: HostRuntime) -> Result<(), Fail> {
-    let alloc = rt.alloc();
-    let mut bytes = b"kind = 'words'\nn = 6\nd = 4\nwords = ['111100']\n".to_vec(alloc)?;
-    bytes.resize(102400, b'#')?;
-    assert!(rt; read_evidence(alloc, &bytes).is_ok());
-    bytes.resize(4194304, b'#')?;
-    assert!(rt; read_evidence(alloc, &bytes).is_ok());
-    bytes[0] = b'=';
-    assert!(rt; read_evidence(alloc, &bytes).err() == Some(DocumentFault::NotToml));
-    bytes.push(b'#')?;
-    assert!(rt; read_evidence(alloc, &bytes).err() == Some(DocumentFault::Bytes(4194305)));
+    for (first, length, fault) in &LENGTHS {
+        let found = fault_of(rt.alloc(), *first, *length)?;
+        assert!(rt; found == *fault, "{length}");
+    }
     Ok(())
 }
 
-// The starts of documents.
-const WORDS: &str = "kind = 'words'\nn = 1\nd = 3\nwords = [";
+// The greatest numbers and one more: the number of words, classes or pairs of a document, or its fault, and the document, in which
+// `*N*ITEM*` stands for N copies of an item. Between the rows stands a line with three bars.
+//
+// Of words of length 1 the count comes after the digits. Of cosets the basis is counted first. Of a partition classes are counted first, then
+// those without words, then words, and all after the digits. Products are with and without a weight.
+const COUNTED: &str = "\
+Ok(16384)
+kind = 'words'
+n = 1
+d = 3
+words = [*16383*'1',*'0']
+---
+Err(Size(16385))
+kind = 'words'
+n = 1
+d = 3
+words = [*16384*'1',*'0']
+---
+Err(Digits(16384))
+kind = 'words'
+n = 1
+d = 3
+words = [*16384*'1',*'2']
+---
+Ok(1)
+kind = 'cosets'
+n = 1
+d = 3
+basis = []
+representatives = [*1*'0',*]
+---
+Ok(4126)
+kind = 'cosets'
+n = 1
+d = 3
+basis = [*30*'1',*]
+representatives = [*4096*'0',*]
+---
+Err(Size(31))
+kind = 'cosets'
+n = 1
+d = 3
+basis = [*31*'1',*]
+representatives = [*1*'0',*]
+---
+Err(Size(31))
+kind = 'cosets'
+n = 1
+d = 3
+basis = [*31*'1',*]
+representatives = []
+---
+Err(Size(0))
+kind = 'cosets'
+n = 1
+d = 3
+basis = [*30*'1',*]
+representatives = []
+---
+Err(Size(4097))
+kind = 'cosets'
+n = 1
+d = 3
+basis = [*30*'1',*]
+representatives = [*4097*'0',*]
+---
+Ok(4096)
+kind = 'partition'
+n = 1
+d = 3
+d1 = 1
+classes = [*4095*['1'],*['0']]
+---
+Err(Size(4097))
+kind = 'partition'
+n = 1
+d = 3
+d1 = 1
+classes = [*4096*['1'],*['0']]
+---
+Err(Size(4097))
+kind = 'partition'
+n = 1
+d = 3
+d1 = 1
+classes = [*4096*[],*['0']]
+---
+Err(Size(0))
+kind = 'partition'
+n = 1
+d = 3
+d1 = 1
+classes = [*4095*['1'],*[]]
+---
+Ok(4096)
+kind = 'partition'
+n = 1
+d = 3
+d1 = 1
+classes = [*4095*['1', '1', '0', '1'],*['0', '0', '0', '0']]
+---
+Err(Size(16385))
+kind = 'partition'
+n = 1
+d = 3
+d1 = 1
+classes = [*4095*['1', '1', '0', '1'],*['0', '0', '0', '0', '0']]
+---
+Err(Size(0))
+kind = 'partition'
+n = 1
+d = 3
+d1 = 1
+classes = [*4095*['1', '1', '0', '1', '1'],*[]]
+---
+Err(Digits(4096))
+kind = 'partition'
+n = 1
+d = 3
+d1 = 1
+classes = [*4096*['1'],*['2']]
+---
+Ok(1)
+kind = 'product'
+n = 8
+d = 4
+pairs = [*1*['a', 'b'],*]
 
-const COSETS: &str = "kind = 'cosets'\nn = 1\nd = 3\nbasis = [";
+---
+Err(Field(Pairs))
+kind = 'product'
+n = 8
+d = 4
+pairs = [*2*['a', 'b'],*]
 
-const REPRESENTATIVES: &str = "]\nrepresentatives = [";
+---
+Err(Field(Pairs))
+kind = 'product'
+n = 8
+d = 4
+pairs = [*31*['a', 'b'],*]
 
-const PARTITION: &str = "kind = 'partition'\nn = 1\nd = 3\nd1 = 1\nclasses = [";
+---
+Ok(1)
+kind = 'product'
+n = 8
+d = 4
+pairs = [*1*['a', 'b'],*]
+w = 4
+---
+Ok(2)
+kind = 'product'
+n = 8
+d = 4
+pairs = [*2*['a', 'b'],*]
+w = 4
+---
+Ok(31)
+kind = 'product'
+n = 8
+d = 4
+pairs = [*31*['a', 'b'],*]
+w = 4
+---
+Err(Field(Pairs))
+kind = 'product'
+n = 8
+d = 4
+pairs = [*32*['a', 'b'],*]
+w = 4";
 
-const PRODUCT: &str = "kind = 'product'\nn = 8\nd = 4\npairs = [";
-
-// A document: its start, so many copies of an item, text, so many copies of another item, and its end; and the number of its words,
-// classes or pairs, or its fault.
-type Counted = (
-    &'static str,
-    usize,
-    &'static str,
-    &'static str,
-    usize,
-    &'static str,
-    &'static str,
-    Result<usize, DocumentFault>,
-);
-
-// The greatest numbers and one more.
-const COUNTED: [Counted; 24] = [
-    // Words of length 1: the count comes after the digits.
-    (WORDS, 16383, "'1',", "'0'", 0, "", "]", Ok(16384)),
-    (
-        WORDS,
-        16384,
-        "'1',",
-        "'0'",
-        0,
-        "",
-        "]",
-        Err(DocumentFault::Size(16385)),
-    ),
-    (
-        WORDS,
-        16384,
-        "'1',",
-        "'2'",
-        0,
-        "",
-        "]",
-        Err(DocumentFault::Digits(16384)),
-    ),
-    // Basis words and representatives of length 1: the basis is counted first.
-    (COSETS, 0, "'1',", REPRESENTATIVES, 1, "'0',", "]", Ok(1)),
-    (
-        COSETS,
-        30,
-        "'1',",
-        REPRESENTATIVES,
-        4096,
-        "'0',",
-        "]",
-        Ok(4126),
-    ),
-    (
-        COSETS,
-        31,
-        "'1',",
-        REPRESENTATIVES,
-        1,
-        "'0',",
-        "]",
-        Err(DocumentFault::Size(31)),
-    ),
-    (
-        COSETS,
-        31,
-        "'1',",
-        REPRESENTATIVES,
-        0,
-        "'0',",
-        "]",
-        Err(DocumentFault::Size(31)),
-    ),
-    (
-        COSETS,
-        30,
-        "'1',",
-        REPRESENTATIVES,
-        0,
-        "'0',",
-        "]",
-        Err(DocumentFault::Size(0)),
-    ),
-    (
-        COSETS,
-        30,
-        "'1',",
-        REPRESENTATIVES,
-        4097,
-        "'0',",
-        "]",
-        Err(DocumentFault::Size(4097)),
-    ),
-    // Classes are counted first, then those without words, then words, and all after the digits.
-    (PARTITION, 4095, "['1'],", "['0']", 0, "", "]", Ok(4096)),
-    (
-        PARTITION,
-        4096,
-        "['1'],",
-        "['0']",
-        0,
-        "",
-        "]",
-        Err(DocumentFault::Size(4097)),
-    ),
-    (
-        PARTITION,
-        4096,
-        "[],",
-        "['0']",
-        0,
-        "",
-        "]",
-        Err(DocumentFault::Size(4097)),
-    ),
-    (
-        PARTITION,
-        4095,
-        "['1'],",
-        "[]",
-        0,
-        "",
-        "]",
-        Err(DocumentFault::Size(0)),
-    ),
-    (
-        PARTITION,
-        4095,
-        "['1', '1', '0', '1'],",
-        "['0', '0', '0', '0']",
-        0,
-        "",
-        "]",
-        Ok(4096),
-    ),
-    (
-        PARTITION,
-        4095,
-        "['1', '1', '0', '1'],",
-        "['0', '0', '0', '0', '0']",
-        0,
-        "",
-        "]",
-        Err(DocumentFault::Size(16385)),
-    ),
-    (
-        PARTITION,
-        4095,
-        "['1', '1', '0', '1', '1'],",
-        "[]",
-        0,
-        "",
-        "]",
-        Err(DocumentFault::Size(0)),
-    ),
-    (
-        PARTITION,
-        4096,
-        "['1'],",
-        "['2']",
-        0,
-        "",
-        "]",
-        Err(DocumentFault::Digits(4096)),
-    ),
-    // Pairs with and without a weight.
-    (PRODUCT, 1, "['a', 'b'],", "]\n", 0, "", "", Ok(1)),
-    (
-        PRODUCT,
-        2,
-        "['a', 'b'],",
-        "]\n",
-        0,
-        "",
-        "",
-        Err(DocumentFault::Field(FieldName::Pairs)),
-    ),
-    (
-        PRODUCT,
-        31,
-        "['a', 'b'],",
-        "]\n",
-        0,
-        "",
-        "",
-        Err(DocumentFault::Field(FieldName::Pairs)),
-    ),
-    (PRODUCT, 1, "['a', 'b'],", "]\n", 0, "", "w = 4", Ok(1)),
-    (PRODUCT, 2, "['a', 'b'],", "]\n", 0, "", "w = 4", Ok(2)),
-    (PRODUCT, 31, "['a', 'b'],", "]\n", 0, "", "w = 4", Ok(31)),
-    (
-        PRODUCT,
-        32,
-        "['a', 'b'],",
-        "]\n",
-        0,
-        "",
-        "w = 4",
-        Err(DocumentFault::Field(FieldName::Pairs)),
-    ),
-];
-
-fn put_items(text: &mut String, count: usize, item: &str) -> Result<(), AllocError> {
+fn put_items(text: &mut String, count: u64, item: &str) -> Result<(), AllocError> {
     for _ in 0..count {
         text.push_str(item)?;
     }
@@ -260,27 +232,34 @@ fn number(alloc: Global, bytes: &[u8]) -> Result<usize, DocumentFault> {
     Ok(size(&evidence))
 }
 
-// Whether the document has that number, or that fault.
-fn is_counted(alloc: Global, row: Counted) -> Result<bool, AllocError> {
-    let (start, first, item, middle, second, other, end, expected) = row;
-    let mut text = String::from_str(alloc, start)?;
-    put_items(&mut text, first, item)?;
-    text.push_str(middle)?;
-    put_items(&mut text, second, other)?;
-    text.push_str(end)?;
-    Ok(number(alloc, text.as_bytes()) == expected)
+// The text with all copies of its items.
+fn unfolded(alloc: Global, text: &str) -> Result<String, AllocError> {
+    let mut whole = String::new(alloc);
+    let mut count = 0;
+    for (place, part) in text.split('*').enumerate() {
+        match place % 3 {
+            0 => whole.push_str(part)?,
+            1 => count = parse_number(part.as_bytes()).unwrap_or(0),
+            _ => put_items(&mut whole, count, part)?,
+        }
+    }
+    Ok(whole)
+}
+
+// Whether the document of the row has that number, or that fault.
+fn is_counted(alloc: Global, row: &str) -> Result<bool, AllocError> {
+    let Some((wanted, text)) = row.split_once('\n') else {
+        return Ok(false);
+    };
+    let text = unfolded(alloc, text)?;
+    let found = number(alloc, text.as_bytes());
+    Ok(format!(in alloc; "{found:?}")?.as_str() == wanted)
 }
 
 #[test]
 fn numbers(rt: HostRuntime) -> Result<(), Fail> {
-    for row in COUNTED {
-        assert!(rt;
-            is_counted(rt.alloc(), row)?,
-            "{} {} {}",
-            row.0,
-            row.1,
-            row.4
-        );
+    for row in COUNTED.split("\n---\n") {
+        assert!(rt; is_counted(rt.alloc(), row)?, "{row}");
     }
     Ok(())
 }

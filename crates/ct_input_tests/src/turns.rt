@@ -4,14 +4,16 @@ ghost use Rattle.std.specs.Prelude.{None};
 
 use ct_io::{Failed, Sink, Source};
 use ct_run::{Status, run};
-use std::alloc::Global;
+use std::alloc::{AllocError, Global};
 use std::cell::Cell;
+use std::process::Abort;
 use std::test::Fail;
 
 /// One side of a terminal: it gives a line at each read, and notes how many bytes stood on the other side when it was asked.
-#[derive(Debug, Drop)]
+#[derive(Drop)]
 struct Keyboard<'a> {
-    turns: &'a [(&'a [u8], &'a [u8])],
+    // The turns that are left.
+    turns: &'a str,
     shown: &'a Cell<usize>,
     asked: Vec<usize>,
     // How many bytes could not be given or noted.
@@ -19,11 +21,16 @@ struct Keyboard<'a> {
 }
 
 /// The other side: it keeps what is written, and how many bytes these are.
-#[derive(Debug, Drop)]
+#[derive(Drop)]
 struct Screen<'a> {
     shown: &'a Cell<usize>,
     bytes: Vec<u8>,
     faults: u64,
+}
+
+/// The first line of the text with the line feed at its end, or nothing.
+fn first_line(text: &str) -> &str {
+    text.split_inclusive('\n').next().unwrap_or("")
 }
 
 impl Source for Keyboard<'_> {
@@ -32,14 +39,9 @@ impl Source for Keyboard<'_> {
     ghost faults = { λ s. s.faults };
 
     fn read(&mut self, into: &mut [u8]) -> Result<usize, Failed> {
-        if self.asked.push(self.shown.get()).is_err() {
-            self.faults = self.faults.saturating_add(1);
-            return Err(Failed);
-        }
-        let [(line, _), rest @ ..] = self.turns else {
-            return Ok(0);
-        };
-        if line.len() > into.len() {
+        let (turn, rest) = self.turns.split_once("> ").unwrap_or((self.turns, ""));
+        let line = first_line(turn).as_bytes();
+        if self.asked.push(self.shown.get()).is_err() || line.len() > into.len() {
             self.faults = self.faults.saturating_add(1);
             return Err(Failed);
         }
@@ -64,39 +66,70 @@ impl Sink for Screen<'_> {
     }
 }
 
-/// Lines that are typed, each with what is shown before the next one is asked for: every command, refusals, lines that ask for nothing, and
-/// an end that cuts a submission off.
-const TURNS: [(&[u8], &[u8]); 22] = [
-    (b"# two words\n", b""),
-    (b"\n", b""),
-    (b"show 4 3\n", b"A(4,3) = 2\n"),
-    (b"submit two\n", b""),
-    (b"kind = \"words\"\n", b""),
-    (b"n = 4\n", b""),
-    (b"d = 3\n", b""),
-    (b"\n", b""),
-    (b"words = [\"0000\", \"1110\"]\n", b""),
-    (b"end\n", b"accepted two size 2\n"),
-    (b"ledger\n", b"two words 4 3 size 2\npieces 1\n"),
-    (b"submit two lines 1\n", b""),
-    (b"kind = \"words\"\n", b"refused taken\n"),
-    (b"table 4 30\n", b"A(30,4,30) = 1\n"),
-    (b"table 2\n", b"refused entry\n"),
-    (b"show 4\n", b"refused command\n"),
-    (b"withdraw three\n", b"refused nosuch three\n"),
-    (b"withdraw two\n", b"withdrawn two\n"),
-    (b"dump\n", b"# dump of 0 pieces\n"),
-    (b"dump x\n", b"refused command\n"),
-    (b"submit last\n", b""),
-    (b"kind = \"words\"\n", b""),
-];
+/// Lines that are typed, with a sign between them, and what is shown after each before the next one is asked for: every command, refusals, lines
+/// that ask for nothing, and an end that cuts a submission off.
+const TURNS: &str = "\
+# two words
+> 
+> show 4 3
+A(4,3) = 2
+> submit two
+> kind = \"words\"
+> n = 4
+> d = 3
+> 
+> words = [\"0000\", \"1110\"]
+> end
+accepted two size 2
+> ledger
+two words 4 3 size 2
+pieces 1
+> submit two lines 1
+> kind = \"words\"
+refused taken
+> table 4 30
+A(30,4,30) = 1
+> table 2
+refused entry
+> show 4
+refused command
+> withdraw three
+refused nosuch three
+> withdraw two
+withdrawn two
+> dump
+# dump of 0 pieces
+> dump x
+refused command
+> submit last
+> kind = \"words\"
+";
+
+/// What was shown before the end was asked for. Before each line, just the replies to those before it were shown.
+fn shown_in_turn(rt: &impl Abort, alloc: Global, asked: &[usize]) -> Result<Vec<u8>, AllocError> {
+    let mut shown = Vec::new(alloc);
+    let mut asked = asked.iter();
+    for turn in TURNS.split("> ") {
+        assert!(rt; asked.next() == Some(&shown.len()), "before {turn}");
+        if let Some((_, reply)) = turn.split_once('\n') {
+            shown.extend_from_slice(reply.as_bytes())?;
+        }
+    }
+    assert!(rt; asked.next() == Some(&shown.len()), "before the end");
+    Ok(shown)
+}
+
+/// Whether just this was shown, and behind it the refusal of the submission that is cut off.
+fn is_shown(shown: &[u8], bytes: &[u8]) -> bool {
+    bytes.strip_prefix(shown) == Some(b"refused cut\n".as_slice())
+}
 
 #[test]
 fn each_reply_comes_before_the_next_line(rt: HostRuntime) -> Result<(), Fail> {
-    let alloc: Global = rt.alloc();
+    let alloc = rt.alloc();
     let shown = Cell::new(0);
     let mut keyboard = Keyboard {
-        turns: &TURNS,
+        turns: TURNS,
         shown: &shown,
         asked: Vec::new(alloc),
         faults: 0,
@@ -106,26 +139,9 @@ fn each_reply_comes_before_the_next_line(rt: HostRuntime) -> Result<(), Fail> {
         bytes: Vec::new(alloc),
         faults: 0,
     };
-    let words = vec![in alloc; String::from_str(alloc, "session")?]?;
+    let words = [String::from_str(alloc, "session")?];
     let status = run(alloc, &words, &mut keyboard, &mut screen);
-    assert_eq!(rt; status, Status::Refused);
-
-    // Before each line was asked for, just the replies to those before it were shown.
-    let mut expected = Vec::new(alloc);
-    for (turn, (line, reply)) in TURNS.iter().enumerate() {
-        assert_eq!(rt;
-            keyboard.asked.get(turn).copied(),
-            Some(expected.len()),
-            "before {line:?}"
-        );
-        expected.extend_from_slice(reply)?;
-    }
-    assert_eq!(rt;
-        keyboard.asked.get(TURNS.len()).copied(),
-        Some(expected.len()),
-        "before the end"
-    );
-    expected.extend_from_slice(b"refused cut\n")?;
-    assert!(rt; screen.bytes == expected);
+    assert!(rt; status == Status::Refused);
+    assert!(rt; is_shown(&shown_in_turn(&rt, alloc, &keyboard.asked)?, &screen.bytes));
     Ok(())
 }
