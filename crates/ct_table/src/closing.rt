@@ -196,6 +196,10 @@ fn turn(
     ensures potential { OnOk result (potential kept.new.bounds work.new ≤ potential kept.old.bounds work.old) }
     ensures lines { HasMoreLines kept.old kept.new }
 {
+    // It always is. Asked once, most of it need not be asked of each entry that a rule makes of this one.
+    if !entry.in_table() {
+        return Ok(());
+    }
     let best = pull(supports, places, kept, side, entry, evaluations);
     let Some(rule) = best.rule else {
         return Ok(());
