@@ -1,6 +1,6 @@
 //! Codes that are known, and the entries of the table in a row.
 
-ghost use Rattle.std.specs.Prelude.{IfOk};
+ghost use Rattle.std.specs.Prelude.{◌≡◌, ◌<◌, ◌^◌, true, All, IfOk};
 ghost use Rattle.ct_rule_parts.specs.Support.{Stands};
 
 use ct_codes::{Entry, check_cosets, check_words};
@@ -70,6 +70,14 @@ fn without_last(alloc: Global, words: &[Word], places: u32) -> Result<Vec<Word>,
     Ok(rest)
 }
 
+/// Whether each word has length n.
+fn have_length(words: &[Word], n: u32) -> bool
+    requires { n < 32 }
+    ensures { result ≡ true → All (λ x. x < 2 ^ n) words.now }
+{
+    words.iter().all(|word| *word < 1 << n)
+}
+
 /// What the code without some of its last places gives to a table, if its entry is one of the table.
 pub fn support_of(
     rt: &impl Abort,
@@ -88,8 +96,7 @@ pub fn support_of(
     let basis = without_last(alloc, code.basis, places)?;
     let representatives = without_last(alloc, code.representatives, places)?;
     assert!(rt; n < 32);
-    assert!(rt; basis.iter().all(|word| *word < 1 << n));
-    assert!(rt; representatives.iter().all(|word| *word < 1 << n));
+    assert!(rt; have_length(&basis, n) && have_length(&representatives, n));
     let code = check_cosets(alloc, entry, basis, representatives)?;
     let size = code.size();
     assert!(rt; 1 <= size && size <= MAX_BOUND);
@@ -126,7 +133,7 @@ fn support_of_octads(rt: &impl Abort, alloc: Global) -> Result<Support, Fail>
     ensures { IfOk result Stands }
 {
     let words = octads(alloc)?;
-    assert!(rt; words.iter().all(|word| *word < 1 << 24));
+    assert!(rt; have_length(&words, 24));
     let code = check_words(alloc, OCTADS, words)?;
     let size = code.words().len();
     assert!(rt; 1 <= size && size <= MAX_BOUND as usize);

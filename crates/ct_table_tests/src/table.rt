@@ -107,61 +107,78 @@ fn assert_as_new(rt: &impl Abort, alloc: Global, table: &Table) -> Result<(), Fa
     Ok(())
 }
 
-// A code of fewer words than the table has already, as A(5,3) is at least 4: nothing follows from it, nothing is lost with it.
-#[test]
-fn support_that_improves_nothing(rt: HostRuntime) -> Result<(), Fail> {
-    let alloc = rt.alloc();
-    let mut table = Table::new(alloc)?;
+/// A code of fewer words than the table has already, as A(5,3) is at least 4: nothing follows from it, nothing is lost with it.
+fn try_two_words(rt: &impl Abort, alloc: Global, table: &mut Table) -> Result<(), Fail> {
     let lines = table.line_count();
-    let tried = add_code(&rt, alloc, &mut table, TWO_WORDS, 0)?;
+    let tried = add_code(rt, alloc, table, TWO_WORDS, 0)?;
     assert!(rt; 0 < tried && tried <= 10);
     assert!(rt; table.line_count() == lines);
-    assert!(rt; remove(&rt, &mut table, 0)? <= 10);
-    assert_as_new(&rt, alloc, &table)
+    assert!(rt; remove(rt, table, 0)? <= 10);
+    assert_as_new(rt, alloc, table)
 }
 
-// A removal tries less than a table that is made anew.
+#[test]
+fn support_that_improves_nothing(rt: HostRuntime) -> Result<(), Fail> {
+    let mut table = Table::new(rt.alloc())?;
+    try_two_words(&rt, rt.alloc(), &mut table)
+}
+
+/// A removal tries less than a table that is made anew.
+fn try_golay(rt: &impl Abort, alloc: Global, table: &mut Table) -> Result<(), Fail> {
+    add_code(rt, alloc, table, CODES[0], 0)?;
+    assert_bounds(rt, table, Side::Lower, &GOLAY_BOUNDS);
+    let tried = remove(rt, table, 0)?;
+    assert!(rt; 0 < tried && tried < evaluations_of_rebuild(alloc)?);
+    assert_empty(rt, alloc, table)
+}
+
 #[test]
 fn code_and_its_removal(rt: HostRuntime) -> Result<(), Fail> {
-    let alloc = rt.alloc();
-    let mut table = Table::new(alloc)?;
-    add_code(&rt, alloc, &mut table, CODES[0], 0)?;
-    assert_bounds(&rt, &table, Side::Lower, &GOLAY_BOUNDS);
-    let tried = remove(&rt, &mut table, 0)?;
-    assert!(rt; 0 < tried && tried < evaluations_of_rebuild(alloc)?);
-    assert_empty(&rt, alloc, &table)
+    let mut table = Table::new(rt.alloc())?;
+    try_golay(&rt, rt.alloc(), &mut table)
 }
+
+/// Without how many of its last places Golay's code comes first, without how many then, and the place of the one that goes first.
+type Order = (u32, u32, usize);
 
 /// Golay's code comes without so many of its last places, and without so many others; then the one at the place goes, and the
 /// one that is left. With one of them or with both the bounds are those of one table, and in the end those of none.
 fn come_and_go(
     rt: &impl Abort,
     alloc: Global,
-    (first, second, place): (u32, u32, usize),
+    (first, second, place): Order,
     one: &Table,
+    table: &mut Table,
 ) -> Result<(), Fail> {
-    let mut table = Table::new(alloc)?;
-    add_code(rt, alloc, &mut table, CODES[0], first)?;
-    assert_same(rt, &table, one);
-    add_code(rt, alloc, &mut table, CODES[0], second)?;
-    assert_same(rt, &table, one);
-    remove(rt, &mut table, place)?;
-    assert_same(rt, &table, one);
-    remove(rt, &mut table, 0)?;
-    assert_empty(rt, alloc, &table)
+    add_code(rt, alloc, table, CODES[0], first)?;
+    assert_same(rt, table, one);
+    add_code(rt, alloc, table, CODES[0], second)?;
+    assert_same(rt, table, one);
+    remove(rt, table, place)?;
+    assert_same(rt, table, one);
+    remove(rt, table, 0)?;
+    assert_empty(rt, alloc, table)
+}
+
+/// Each order of coming and going.
+const ORDERS: [Order; 5] = [(0, 1, 0), (0, 1, 1), (1, 0, 0), (1, 0, 1), (0, 0, 0)];
+
+/// The codes come and go in each order, on tables that are empty before.
+fn come_and_go_in_each_order(rt: &impl Abort, alloc: Global, one: &Table) -> Result<(), Fail> {
+    for order in &ORDERS {
+        let mut table = Table::new(alloc)?;
+        come_and_go(rt, alloc, *order, one, &mut table)?;
+    }
+    Ok(())
 }
 
 // A(24,8) and A(23,7) rest on one another, by L5 and L6: each code alone gives all that both give. With the last of them
 // nothing stays, whatever the order.
 #[test]
 fn codes_that_hold_up_one_another(rt: HostRuntime) -> Result<(), Fail> {
-    let alloc = rt.alloc();
-    let mut one = Table::new(alloc)?;
-    add_code(&rt, alloc, &mut one, CODES[0], 0)?;
-    for row in [(0, 1, 0), (0, 1, 1), (1, 0, 0), (1, 0, 1), (0, 0, 0)] {
-        come_and_go(&rt, alloc, row, &one)?;
-    }
-    Ok(())
+    let mut one = Table::new(rt.alloc())?;
+    add_code(&rt, rt.alloc(), &mut one, CODES[0], 0)?;
+    come_and_go_in_each_order(&rt, rt.alloc(), &one)
 }
 
 /// Numbers that look as if they were drawn, the same each time.
@@ -248,15 +265,18 @@ fn assert_as_rebuilt(rt: &impl Abort, alloc: Global, table: &Table) -> Result<()
     Ok(())
 }
 
-// Whatever comes and goes, the bounds are those of a table that is made anew.
-#[test]
-fn many_changes(rt: HostRuntime) -> Result<(), Fail> {
-    let alloc = rt.alloc();
-    let mut table = Table::new(alloc)?;
+/// Whatever comes and goes, the bounds are those of a table that is made anew.
+fn change_often(rt: &impl Abort, alloc: Global, table: &mut Table) -> Result<(), Fail> {
     let mut numbers = Numbers { last: 1 };
     for _ in 0..300 {
-        change(&rt, alloc, &mut table, &mut numbers)?;
-        assert_as_rebuilt(&rt, alloc, &table)?;
+        change(rt, alloc, table, &mut numbers)?;
+        assert_as_rebuilt(rt, alloc, table)?;
     }
     Ok(())
+}
+
+#[test]
+fn many_changes(rt: HostRuntime) -> Result<(), Fail> {
+    let mut table = Table::new(rt.alloc())?;
+    change_often(&rt, rt.alloc(), &mut table)
 }

@@ -6,7 +6,6 @@ use crate::known::{NUMBERS, entry_at, table_of_golay};
 use ct_codes::{Entry, Side};
 use ct_table::Table;
 use ct_words::MAX_N;
-use std::alloc::Global;
 use std::process::Abort;
 use std::test::Fail;
 
@@ -99,56 +98,35 @@ fn is_exactly(table: &Table, n: u32, d: u32, w: u32, number: u32) -> bool {
     entry.in_table() && table.lower(entry) == number && table.upper(entry) == number
 }
 
-#[test]
-fn values_without_supports(rt: HostRuntime) -> Result<(), Fail> {
-    let alloc = rt.alloc();
-    for table in [Table::new(alloc)?, Table::rebuild(alloc, Vec::new(alloc))?] {
-        assert_bounds(&rt, &table, Side::Lower, &LOWER_BOUNDS);
-        assert_bounds(&rt, &table, Side::Upper, &UPPER_BOUNDS);
-    }
-    Ok(())
+/// The bounds over no supports are those that are known.
+fn assert_first_bounds(rt: &impl Abort, table: &Table) {
+    assert_bounds(rt, table, Side::Lower, &LOWER_BOUNDS);
+    assert_bounds(rt, table, Side::Upper, &UPPER_BOUNDS);
 }
 
-#[test]
-fn values_with_octads(rt: HostRuntime) -> Result<(), Fail> {
-    let table = table_of_golay(&rt, rt.alloc())?;
-    assert_bounds(&rt, &table, Side::Lower, &GOLAY_BOUNDS);
-    assert_bounds(&rt, &table, Side::Lower, &OCTAD_BOUNDS);
-    assert_bounds(&rt, &table, Side::Upper, &OCTAD_BOUNDS);
-    Ok(())
-}
-
-// A(n,2w,w) = ⌊n/w⌋: words that have no one in common.
-#[test]
-fn disjoint_words(rt: HostRuntime) -> Result<(), Fail> {
-    let table = Table::new(rt.alloc())?;
+/// A(n,2w,w) = ⌊n/w⌋: words that have no one in common.
+fn assert_disjoint_words(rt: &impl Abort, table: &Table) {
     for n in 1..=MAX_N {
         for w in 2..=n.min(MAX_N / 2) {
-            assert!(rt; is_exactly(&table, n, 2 * w, w, n / w), "{n} {w}");
+            assert!(rt; is_exactly(table, n, 2 * w, w, n / w), "{n} {w}");
         }
     }
-    Ok(())
 }
 
-// A(n,d,w) = 1 where d is above 2w or 2(n - w).
-#[test]
-fn one_word(rt: HostRuntime) -> Result<(), Fail> {
-    let table = Table::new(rt.alloc())?;
+/// A(n,d,w) = 1 where d is above 2w or 2(n - w).
+fn assert_one_word(rt: &impl Abort, table: &Table) {
     for number in 0..NUMBERS {
         let Entry { n, d, w } = entry_at(number);
         let w = w.unwrap_or(n);
         if d % 2 == 0 && w <= n && d > 2 * w.min(n - w) {
-            assert!(rt; is_exactly(&table, n, d, w, 1), "{n} {d} {w}");
+            assert!(rt; is_exactly(table, n, d, w, 1), "{n} {d} {w}");
         }
     }
-    Ok(())
 }
 
-// A(n,4,3) is ⌊n/3 · ⌊(n-1)/2⌋⌋, less 1 where n is 5 modulo 6: so many triples of n points have no two points in common
-// (Kirkman 1847; Schönheim 1966). The lower bound wants evidence.
-#[test]
-fn triples(rt: HostRuntime) -> Result<(), Fail> {
-    let table = Table::new(rt.alloc())?;
+/// A(n,4,3) is ⌊n/3 · ⌊(n-1)/2⌋⌋, less 1 where n is 5 modulo 6: so many triples of n points have no two points in common
+/// (Kirkman 1847; Schönheim 1966). The lower bound wants evidence.
+fn assert_triples(rt: &impl Abort, table: &Table) {
     for n in 3..=MAX_N {
         let entry = Entry {
             n,
@@ -159,5 +137,30 @@ fn triples(rt: HostRuntime) -> Result<(), Fail> {
         assert!(rt; entry.in_table());
         assert!(rt; table.upper(entry) == most, "{n}");
     }
+}
+
+#[test]
+fn values_without_supports(rt: HostRuntime) -> Result<(), Fail> {
+    let table = Table::new(rt.alloc())?;
+    assert_first_bounds(&rt, &table);
+    assert_disjoint_words(&rt, &table);
+    assert_one_word(&rt, &table);
+    assert_triples(&rt, &table);
+    Ok(())
+}
+
+#[test]
+fn values_of_a_table_made_anew(rt: HostRuntime) -> Result<(), Fail> {
+    let table = Table::rebuild(rt.alloc(), Vec::new(rt.alloc()))?;
+    assert_first_bounds(&rt, &table);
+    Ok(())
+}
+
+#[test]
+fn values_with_octads(rt: HostRuntime) -> Result<(), Fail> {
+    let table = table_of_golay(&rt, rt.alloc())?;
+    assert_bounds(&rt, &table, Side::Lower, &GOLAY_BOUNDS);
+    assert_bounds(&rt, &table, Side::Lower, &OCTAD_BOUNDS);
+    assert_bounds(&rt, &table, Side::Upper, &OCTAD_BOUNDS);
     Ok(())
 }
