@@ -1,7 +1,7 @@
 //! Documents that cite: what is read, refused and written.
 
 use crate::faults::fault_text;
-use ct_files::{Cite, Document, DocumentFault, read_document, write_document};
+use ct_files::{Cite, Document, read_document, write_document};
 use std::alloc::{AllocError, Global};
 use std::test::Fail;
 
@@ -22,33 +22,33 @@ Unknown
 format = 1
 cites = []
 ---
-Field(Format)
+Field(format)
 format = 3
 cites = ['MacWilliams and Sloane, Appendix A']
 ---
-Field(Format)
+Field(format)
 format = 0
 ---
-Field(Format)
+Field(format)
 format = '1'
 ---
-Field(Cites)
+Field(cites)
 format = 2
 cites = ['']
 ---
-Field(Cites)
+Field(cites)
 format = 2
 cites = ['a', 2]
 ---
-Field(Cites)
+Field(cites)
 format = 2
 cites = 'a'
 ---
-Field(Cites)
+Field(cites)
 format = 2
 cites = [\"\\u007F\"]
 ---
-Field(Cites)
+Field(cites)
 format = 2
 cites = [\"a\\n\"]
 ---
@@ -126,24 +126,29 @@ fn refused(rt: HostRuntime) -> Result<(), Fail> {
     Ok(())
 }
 
-// What is written for the document of these bytes.
-fn written(alloc: Global, bytes: &[u8]) -> Result<Result<Vec<u8>, AllocError>, DocumentFault> {
-    let document = read_document(alloc, bytes)?;
-    Ok(write_document(alloc, &document))
+// What is written for the document of these bytes, if it is read.
+fn written(alloc: Global, bytes: &[u8]) -> Result<Option<Vec<u8>>, AllocError> {
+    match read_document(alloc, bytes) {
+        Ok(document) => Ok(Some(write_document(alloc, &document)?)),
+        Err(_) => Ok(None),
+    }
 }
 
 // Whether this is written for the document.
-fn writes(alloc: Global, document: &[u8], wanted: &[u8]) -> Result<bool, Fail> {
-    Ok(written(alloc, document)??.as_slice() == wanted)
+fn writes(alloc: Global, document: &[u8], wanted: &[u8]) -> Result<bool, AllocError> {
+    match written(alloc, document)? {
+        Some(text) => Ok(text.as_slice() == wanted),
+        None => Ok(false),
+    }
 }
 
 // Whether this is written for the document, and for itself.
-fn is_written_for(alloc: Global, document: &[u8], wanted: &[u8]) -> Result<bool, Fail> {
+fn is_written_for(alloc: Global, document: &[u8], wanted: &[u8]) -> Result<bool, AllocError> {
     Ok(writes(alloc, document, wanted)? && writes(alloc, wanted, wanted)?)
 }
 
 // Whether the row's text is written for the six words with what stands after them.
-fn is_written(alloc: Global, row: &str) -> Result<bool, Fail> {
+fn is_written(alloc: Global, row: &str) -> Result<bool, AllocError> {
     let Some((before, more)) = row.split_once("<-\n") else {
         return Ok(false);
     };
@@ -203,17 +208,21 @@ fn has_cites(document: &Document, count: usize, length: usize) -> bool {
 }
 
 // Whether so many cites of so many letters are read.
-fn are_read(alloc: Global, count: usize, length: usize) -> Result<bool, DocumentFault> {
+fn are_read(alloc: Global, count: usize, length: usize) -> Result<bool, AllocError> {
     let text = with_cites(alloc, count, length)?;
-    let document = read_document(alloc, &text)?;
-    Ok(has_cites(&document, count, length))
+    match read_document(alloc, &text) {
+        Ok(document) => Ok(has_cites(&document, count, length)),
+        Err(_) => Ok(false),
+    }
 }
 
 // Whether they are read back from what is written.
-fn are_read_back(alloc: Global, count: usize, length: usize) -> Result<bool, Fail> {
+fn are_read_back(alloc: Global, count: usize, length: usize) -> Result<bool, AllocError> {
     let text = with_cites(alloc, count, length)?;
-    let again = written(alloc, &text)??;
-    writes(alloc, &again, &again)
+    match written(alloc, &text)? {
+        Some(again) => writes(alloc, &again, &again),
+        None => Ok(false),
+    }
 }
 
 // The fault of a document with so many cites of so many letters.
@@ -228,7 +237,7 @@ fn the_most_cites(rt: HostRuntime) -> Result<(), Fail> {
     assert!(rt; are_read(rt.alloc(), 16, 200)? && are_read_back(rt.alloc(), 16, 200)?);
     for (count, length) in [(17, 1), (1, 201)] {
         let fault = fault_of(rt.alloc(), count, length)?;
-        assert!(rt; fault.as_str() == "Field(Cites)", "{count} {length}");
+        assert!(rt; fault.as_str() == "Field(cites)", "{count} {length}");
     }
     Ok(())
 }

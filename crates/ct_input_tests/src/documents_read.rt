@@ -2,7 +2,7 @@
 
 use ct_build::Step;
 use ct_codes::Entry;
-use ct_files::{DocumentFault, Evidence, FieldName, MAX_DOCUMENT, read_evidence};
+use ct_files::{Evidence, FieldName, MAX_DOCUMENT, read_evidence};
 use ct_text::Id;
 use std::alloc::{AllocError, Global};
 use std::test::Fail;
@@ -151,16 +151,21 @@ fn evidence_text(alloc: Global, evidence: &Evidence) -> Result<String, AllocErro
     }
 }
 
-// What the document states.
-fn stated(alloc: Global, document: &str) -> Result<Result<String, AllocError>, DocumentFault> {
-    let evidence = read_evidence(alloc, document.as_bytes())?;
-    Ok(evidence_text(alloc, &evidence))
+// What the document states, if it is read.
+fn stated(alloc: Global, document: &str) -> Result<Option<String>, AllocError> {
+    match read_evidence(alloc, document.as_bytes()) {
+        Ok(evidence) => Ok(Some(evidence_text(alloc, &evidence)?)),
+        Err(_) => Ok(None),
+    }
 }
 
 // Whether the document of the row states what stands before it.
-fn is_read(alloc: Global, row: &str) -> Result<bool, Fail> {
-    match row.split_once('\n') {
-        Some((wanted, document)) => Ok(stated(alloc, document)??.as_str() == wanted),
+fn is_read(alloc: Global, row: &str) -> Result<bool, AllocError> {
+    let Some((wanted, document)) = row.split_once('\n') else {
+        return Ok(false);
+    };
+    match stated(alloc, document)? {
+        Some(text) => Ok(text.as_str() == wanted),
         None => Ok(false),
     }
 }

@@ -83,154 +83,154 @@ words = []
 n.n = 4
 
 ---
-Field(N)
+Field(n)
 kind = 'words'
 n = 0
 d = 4
 words = ['1']
 
 ---
-Field(N)
+Field(n)
 kind = 'words'
 n = 31
 d = 4
 words = []
 
 ---
-Field(N)
+Field(n)
 kind = 'words'
 n = -7
 d = 4
 words = []
 
 ---
-Field(N)
+Field(n)
 kind = 'words'
 n = 4294967302
 d = 4
 words = []
 
 ---
-Field(N)
+Field(n)
 kind = 'words'
 n = 9223372036854775807
 d = 4
 words = []
 
 ---
-Field(N)
+Field(n)
 kind = 'words'
 n = -9223372036854775808
 d = 4
 words = []
 
 ---
-Field(N)
+Field(n)
 kind = 'words'
 n = 6.0
 d = 4
 words = []
 
 ---
-Field(N)
+Field(n)
 kind = 'words'
 n = '6'
 d = 4
 words = []
 
 ---
-Field(N)
+Field(n)
 kind = 'words'
 n = true
 d = 4
 words = []
 
 ---
-Field(N)
+Field(n)
 kind = 'words'
 n = [6]
 d = 4
 words = []
 
 ---
-Field(N)
+Field(n)
 kind = 'words'
 n = { n = 6 }
 d = 4
 words = []
 
 ---
-Field(N)
+Field(n)
 kind = 'words'
 n = 2026-11-27
 d = 4
 words = []
 
 ---
-Field(N)
+Field(n)
 kind = 'words'
 n = 0
 d = 2
 words = []
 
 ---
-Field(D)
+Field(d)
 kind = 'words'
 n = 6
 d = 2
 words = []
 
 ---
-Field(D)
+Field(d)
 kind = 'words'
 n = 6
 d = 31
 words = []
 
 ---
-Field(D)
+Field(d)
 kind = 'words'
 n = 6
 d = nan
 words = []
 
 ---
-Field(D)
+Field(d)
 kind = 'words'
 n = 6
 d = 0
 words = 6
 
 ---
-Field(Words)
+Field(words)
 kind = 'words'
 n = 6
 d = 4
 words = '111100'
 
 ---
-Field(Words)
+Field(words)
 kind = 'words'
 n = 6
 d = 4
 words = ['111100', 111100]
 
 ---
-Field(Words)
+Field(words)
 kind = 'words'
 n = 6
 d = 4
 words = [['111100']]
 
 ---
-Field(Words)
+Field(words)
 kind = 'words'
 n = 6
 d = 4
 words = { }
 
 ---
-Field(Words)
+Field(words)
 kind = 'words'
 n = 6
 d = 4
@@ -238,7 +238,7 @@ words = 6
 w = 3
 
 ---
-Field(D)
+Field(d)
 kind = 'words'
 n = 6
 d = 3
@@ -246,7 +246,7 @@ words = ['111000']
 w = 3
 
 ---
-Field(D)
+Field(d)
 kind = 'words'
 n = 6
 d = 3
@@ -254,7 +254,7 @@ words = ['111000']
 w = []
 
 ---
-Field(W)
+Field(w)
 kind = 'words'
 n = 6
 d = 4
@@ -262,7 +262,7 @@ words = 6
 w = 7
 
 ---
-Field(W)
+Field(w)
 kind = 'words'
 n = 6
 d = 4
@@ -270,7 +270,7 @@ words = ['111000']
 w = -1
 
 ---
-Field(W)
+Field(w)
 kind = 'words'
 n = 6
 d = 4
@@ -382,23 +382,23 @@ n = 6
 d = 4
 words = []
 ---
-Field(N)
+Field(n)
 kind = 'words'
 d = 4
 words = []
 ---
-Field(D)
+Field(d)
 kind = 'words'
 n = 6
 words = 6
 ---
-Field(Words)
+Field(words)
 kind = 'words'
 n = 6
 d = 4
 w = 3
 ---
-Field(Size)
+Field(size)
 kind = 'build'
 n = 4
 part = 'a'
@@ -406,7 +406,7 @@ d = 4
 op = 'trim'
 size = true
 ---
-Field(Size)
+Field(size)
 kind = 'build'
 n = 4
 part = 'a'
@@ -423,35 +423,35 @@ op = 'trim'
 size = 1
 other = 'a'
 ---
-Field(Op)
+Field(op)
 kind = 'build'
 n = 4
 part = 'a'
 d = 4
 op = 'Lengthen'
 ---
-Field(Op)
+Field(op)
 kind = 'build'
 n = 4
 part = 'a'
 d = 4
 op = 'uu'
 ---
-Field(Op)
+Field(op)
 kind = 'build'
 n = 4
 part = 'a'
 d = 4
 op = 'uuvv'
 ---
-Field(Op)
+Field(op)
 kind = 'build'
 n = 4
 part = 'a'
 d = 4
 op = ''
 ---
-Field(D)
+Field(d)
 kind = 'build'
 n = 4
 part = 'a'
@@ -459,7 +459,7 @@ d = 5
 op = 'select'
 w = 3
 ---
-Field(D)
+Field(d)
 kind = 'build'
 n = 4
 part = 'a'
@@ -467,7 +467,7 @@ d = 5
 op = 'trim'
 w = 3
 ---
-Field(Places)
+Field(places)
 kind = 'build'
 n = 4
 part = 'a'
@@ -475,7 +475,7 @@ d = 4
 op = 'puncture'
 places = 0
 ---
-Field(Places)
+Field(places)
 kind = 'build'
 n = 4
 part = 'a'
@@ -483,7 +483,7 @@ d = 4
 op = 'puncture'
 places = [0.0]
 ---
-Field(Places)
+Field(places)
 kind = 'build'
 n = 4
 part = 'a'
@@ -491,7 +491,7 @@ d = 4
 op = 'puncture'
 places = [4294967296]
 ---
-Field(Places)
+Field(places)
 kind = 'build'
 n = 4
 part = 'a'
@@ -524,7 +524,7 @@ op = 'shorten'
 places = [4]
 digits = '01'
 ---
-Field(M)
+Field(m)
 kind = 'odd'
 n = 9
 d = 4
@@ -533,7 +533,7 @@ m = 20
 c = [3, 1, 1]
 y = [[8, 16]]
 ---
-Field(M)
+Field(m)
 kind = 'odd'
 n = 9
 d = 4
@@ -541,21 +541,21 @@ even = true
 c = [3, 1, 1]
 y = [[8, 16]]
 ---
-Field(M)
+Field(m)
 kind = 'odd'
 n = 9
 d = 4
 m = 1
 c = [-1]
 ---
-Field(M)
+Field(m)
 kind = 'odd'
 n = 9
 d = 4
 m = 1048577
 c = [1]
 ---
-Field(Even)
+Field(even)
 kind = 'odd'
 n = 9
 d = 5
@@ -579,7 +579,7 @@ m = 3
 c = [1]
 cites = ['a']
 ---
-Field(Cites)
+Field(cites)
 kind = 'odd'
 n = 9
 d = 4
@@ -595,7 +595,7 @@ d = 4
 m = 3
 c = [1]
 ---
-Field(Y)
+Field(y)
 kind = 'jlocal'
 n = 8
 d = 4
@@ -603,7 +603,7 @@ w = 4
 c = [8, 1]
 y = [[1, 8]]
 ---
-Field(Y)
+Field(y)
 kind = 'jlocal'
 n = 8
 d = 4
@@ -611,7 +611,7 @@ w = 4
 c = [8, 1]
 y = [[5, 8]]
 ---
-Field(Y)
+Field(y)
 kind = 'jlocal'
 n = 8
 d = 4
@@ -619,7 +619,7 @@ w = 4
 c = [8, 1]
 y = [[3, 8], [2, 8]]
 ---
-Field(Y)
+Field(y)
 kind = 'jlocal'
 n = 8
 d = 4
@@ -628,7 +628,7 @@ c = [8, 1]
 y = [[2, -8]]
 even = false
 ---
-Field(C)
+Field(c)
 kind = 'jlocal'
 n = 8
 d = 4
@@ -636,14 +636,14 @@ w = 4
 c = [-8]
 y = [[1, 8]]
 ---
-Field(D)
+Field(d)
 kind = 'jlocal'
 n = 8
 d = 5
 c = [8, 1]
 y = [[3, 8]]
 ---
-Field(W)
+Field(w)
 kind = 'jlocal'
 n = 8
 d = 4

@@ -1,5 +1,6 @@
 //! Documents of the greatest size, and of the greatest numbers of words.
 
+use crate::faults::name_of;
 use ct_files::{DocumentFault, Evidence, read_evidence};
 use ct_text::parse_number;
 use std::alloc::{AllocError, Global};
@@ -159,14 +160,14 @@ d = 4
 pairs = [*1*['a', 'b'],*]
 
 ---
-Err(Field(Pairs))
+Err(Field(pairs))
 kind = 'product'
 n = 8
 d = 4
 pairs = [*2*['a', 'b'],*]
 
 ---
-Err(Field(Pairs))
+Err(Field(pairs))
 kind = 'product'
 n = 8
 d = 4
@@ -194,7 +195,7 @@ d = 4
 pairs = [*31*['a', 'b'],*]
 w = 4
 ---
-Err(Field(Pairs))
+Err(Field(pairs))
 kind = 'product'
 n = 8
 d = 4
@@ -252,8 +253,11 @@ fn is_counted(alloc: Global, row: &str) -> Result<bool, AllocError> {
         return Ok(false);
     };
     let text = unfolded(alloc, text)?;
-    let found = number(alloc, text.as_bytes());
-    Ok(format!(in alloc; "{found:?}")?.as_str() == wanted)
+    let found = match number(alloc, text.as_bytes()) {
+        Ok(count) => format!(in alloc; "Ok({count})")?,
+        Err(fault) => format!(in alloc; "Err({})", name_of(alloc, fault)?.as_str())?,
+    };
+    Ok(found.as_str() == wanted)
 }
 
 #[test]
