@@ -8,7 +8,6 @@ use Rattle.ct_kind.specs.declared.evidence.Evidence.{Evidence}
 use Rattle.ct_kind.specs.declared.evidence.Evidence.TheVariants as evidence
 use Rattle.ct_files.specs.Document.{without_cites, document_read_of}
 use Rattle.ct_commands.specs.Submission.{submission_text}
-use Rattle.ct_pieces.specs.Piece.{PieceValue}
 use Rattle.ct_primal.specs.Primal.{PrimalValue}
 use Rattle.ct_finder.specs.Run.{End}
 use Rattle.ct_finder.specs.Found.{bound_of_dual, dual_of, end_of_run, least_dual, stop_of, IsShown}
@@ -94,7 +93,3 @@ IsProposal e d bound stop text =
 abbrev pub AnswersEntry : Entry → Option Dual → List ℕ → Type 0
 AnswersEntry e None text = text ≡ codes "none" ++ LINE_FEED ∷ []
 AnswersEntry e (Some d) text = IsProposal e d (bound_of_dual d) (stop_for e) text × IsShown (stop_for e) d
-
--- the piece that a document makes, submitted under the id of the entry, which reads as this dual
-abbrev pub proposed_piece : Entry → Dual → List ℕ → PieceValue
-proposed_piece e d document = record { id = find_id e; document = document; evidence = dual_evidence e.w d; cites = []; entry = e; size = None }

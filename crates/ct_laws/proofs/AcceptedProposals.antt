@@ -19,7 +19,8 @@ use Rattle.ct_kind.specs.declared.fault.SubmitFault.TheVariants as fault
 use Rattle.ct_pieces.specs.declared.limits.TheConstants.{MAX_PIECES, MAX_STORED}
 use Rattle.ct_pieces.proofs.Accepting.{not_taken}
 use Rattle.ct_pieces.proofs.StandingLemmas.{submitted-from}
-use Rattle.ct_find.specs.Proposal.{dual_evidence, find_id, found_dual, proposed_piece}
+use Rattle.ct_find.specs.Proposal.{dual_evidence, find_id, found_dual}
+use Rattle.ct_laws.specs.Proposed.{proposed_piece}
 use Rattle.ct_find.proofs.FoundDuals.{found}
 
 -- an accepted dual makes its piece

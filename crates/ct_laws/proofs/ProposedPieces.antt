@@ -34,7 +34,7 @@ use Rattle.ct_finder.specs.declared.found.Stop.TheVariants as stop
 use Rattle.ct_find.specs.declared.found.TheConstants.{MAX_PIVOTS}
 use Rattle.ct_files.specs.Document.{without_cites}
 use Rattle.ct_files.proofs.Documents.{document_read_of-within}
-use Rattle.ct_find.specs.Proposal.{is_even, dual_evidence, find_id, found_dual, pair_text, pairs_text, primal_line, proposed_piece, run_for, stop_for, stop_text}
+use Rattle.ct_find.specs.Proposal.{is_even, dual_evidence, find_id, found_dual, pair_text, pairs_text, primal_line, run_for, stop_for, stop_text}
 use Rattle.ct_laws.proofs.AcceptedProposals.{made-proposed, stored-none}
 use Rattle.ct_laws.proofs.FindIds.{find_id-named, find_id-different}
 use Rattle.ct_find.proofs.FoundDuals.{bound-is, shown}
@@ -54,7 +54,7 @@ use Rattle.ct_session.specs.Reply.{pieces_after}
 use Rattle.ct_session.specs.Run.{AnswersCommands, IsRun, pieces_of}
 use Rattle.ct_replies.specs.Text.{reply_text}
 use Rattle.ct_laws.specs.Acceptance.{acceptance_text}
-use Rattle.ct_laws.specs.Proposed.{IsProposed, AreProposed, taken_text}
+use Rattle.ct_laws.specs.Proposed.{IsProposed, AreProposed, taken_text, proposed_piece}
 use Rattle.ct_laws.proofs.DumpPieces.{AreShort, submission_of, piece_dump-command, brought_back, submissions_are_accepted}
 
 -- the piece that is proposed for an entry, and those for entries

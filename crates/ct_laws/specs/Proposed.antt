@@ -1,10 +1,11 @@
 -- What `find` writes for entries of the table, as the input of a session.
-use Rattle.std.specs.Prelude.{◌≡◌, ℕ, List, [], ◌∷◌, ◌++◌, codes, Some}
+use Rattle.std.specs.Prelude.{◌≡◌, ℕ, List, [], ◌∷◌, ◌++◌, codes, Some, None}
 use Rattle.ct_io.specs.declared.TheConstants.{LINE_FEED}
 use Rattle.ct_codes.specs.declared.entry.Entry.{Entry}
 use Rattle.ct_duals.specs.declared.dual.Dual.{Dual}
 use Rattle.ct_finder.specs.Found.{bound_of_dual}
-use Rattle.ct_find.specs.Proposal.{find_id, found_dual, stop_for, IsProposal}
+use Rattle.ct_pieces.specs.Piece.{PieceValue}
+use Rattle.ct_find.specs.Proposal.{dual_evidence, find_id, found_dual, stop_for, IsProposal}
 
 -- the text proposes the dual that is found for the entry
 pub record IsProposed (e : Entry) (text : List ℕ) : Type 0 where
@@ -20,3 +21,7 @@ AreProposed (e ∷ es) text = (own rest : List ℕ) × IsProposed e own × ArePr
 -- the reply to the submission that is proposed for an entry, where it is accepted
 abbrev pub taken_text : Entry → List ℕ
 taken_text e = codes "accepted " ++ find_id e ++ LINE_FEED ∷ []
+
+-- the piece that a document makes, submitted under the id of the entry, which reads as this dual
+abbrev pub proposed_piece : Entry → Dual → List ℕ → PieceValue
+proposed_piece e d document = record { id = find_id e; document = document; evidence = dual_evidence e.w d; cites = []; entry = e; size = None }

@@ -18,8 +18,9 @@ ghost use Rattle.ct_pieces.specs.declared.limits.TheConstants.{MAX_PIECES, MAX_S
 ghost use Rattle.ct_primal.specs.Primal.{PrimalValue};
 ghost use Rattle.ct_finder.specs.Found.{bound_of_dual, IsShown, IsLeast};
 ghost use Rattle.ct_finder.specs.declared.found.Stop.{Stop};
-ghost use Rattle.ct_find.specs.Proposal.{find_id, found_dual, proposed_piece, stop_for, IsProposal};
+ghost use Rattle.ct_find.specs.Proposal.{find_id, found_dual, stop_for, IsProposal};
 ghost use Rattle.ct_find.specs.Reply.{IsFound, DifferInDocuments};
+ghost use Rattle.ct_laws.specs.Proposed.{proposed_piece};
 
 /// The dual that is found for an entry of the table is one of this entry, and it is accepted. It speaks of even distances alone exactly
 /// where there is no weight and d is even, and allows nothing. Its bound is ⌊f(0)/c_0⌋, limited by `MAX_BOUND`; it rests on no other
