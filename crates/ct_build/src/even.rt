@@ -2,10 +2,10 @@
 
 ghost use Rattle.std.specs.Prelude.{◌≡◌, ◌-◌, ◌^◌, ◌<◌, ◌≤◌, length, None, IfOk};
 ghost use Rattle.ct_words.specs.declared.limits.TheConstants.{MAX_N};
-ghost use Rattle.ct_codes.specs.Code.{IsSoundCode};
-ghost use Rattle.ct_codes.specs.Constructions.Even.{even_from, even_words};
+ghost use Rattle.ct_entries.specs.Code.{IsSoundCode};
+ghost use Rattle.ct_entries.specs.Constructions.Even.{even_from, even_words};
 
-use ct_codes::Code;
+use ct_entries::Code;
 use ct_words::{Word, weight};
 use std::alloc::{AllocError, Global};
 

@@ -2,13 +2,13 @@
 
 ghost use Rattle.std.specs.Prelude.{◌≡◌, ◌-◌, ◌^◌, ◌<◌, ◌≤◌, length, All, IfOk, IsPermutation};
 ghost use Rattle.ct_words.specs.declared.limits.TheConstants.{MAX_N};
-ghost use Rattle.ct_codes.specs.Code.{IsSoundCode};
-ghost use Rattle.ct_codes.specs.Constructions.Places.{ArePlaces};
-ghost use Rattle.ct_codes.specs.Constructions.Punctured.{punctured};
+ghost use Rattle.ct_entries.specs.Code.{IsSoundCode};
+ghost use Rattle.ct_entries.specs.Constructions.Places.{ArePlaces};
+ghost use Rattle.ct_entries.specs.Constructions.Punctured.{punctured};
 
 use crate::places::without_places;
 use crate::sorted::code_of;
-use ct_codes::Code;
+use ct_entries::Code;
 use ct_words::Word;
 use std::alloc::{AllocError, Global};
 

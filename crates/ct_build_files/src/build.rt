@@ -12,7 +12,7 @@ use crate::build_fields::{id_field, operation_field, other_field, step_fields};
 use crate::entry::build_entry;
 use crate::operation::Operation;
 use ct_build::Step;
-use ct_codes::Entry;
+use ct_entries::Entry;
 use ct_fields::{DocumentFault, FieldName, last_fields};
 use ct_kind::Evidence;
 use ct_text::Id;

@@ -1,11 +1,4 @@
-pub mod PairLemmas
-pub mod EntryLemmas
-pub mod InLists
-pub mod ColumnLemmas
-pub mod ListedEntries
-pub mod CheckLemmas
-pub mod BoundLemmas
-pub mod DigitCodes
+mod ShiftedPairs
 mod NearLemmas
 mod WithinLemmas
 mod RowLemmas
@@ -14,4 +7,3 @@ pub mod SpanLemmas
 pub mod CosetLemmas
 mod LightLemmas
 mod GroupLemmas
-pub mod Constructions

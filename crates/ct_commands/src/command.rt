@@ -1,6 +1,6 @@
 //! The commands of a session.
 
-use ct_codes::Side;
+use ct_entries::Side;
 use ct_text::{EntryNumbers, Id, TableNumbers, Text};
 
 /// A command of a session.

@@ -2,9 +2,9 @@
 use Rattle.std.specs.Prelude.{ℕ, ◌+◌, ◌==◌, List, [], ◌∷◌, ◌++◌, count_by, map, slice_get, Option, Some, None, codes}
 use Rattle.std.specs.List.{flat_map}
 use Rattle.ct_io.specs.declared.TheConstants.{LINE_FEED}
-use Rattle.ct_codes.specs.declared.claim.Claim.{Claim}
-use Rattle.ct_codes.specs.declared.claim.Side.{Side}
-use Rattle.ct_codes.specs.declared.claim.Side.TheVariants.{Lower, Upper}
+use Rattle.ct_entries.specs.declared.claim.Claim.{Claim}
+use Rattle.ct_entries.specs.declared.claim.Side.{Side}
+use Rattle.ct_entries.specs.declared.claim.Side.TheVariants.{Lower, Upper}
 use Rattle.ct_text.specs.Number.{spaced}
 use Rattle.ct_text.specs.EntryText.{entry_words}
 use Rattle.ct_rules.specs.declared.arguments.Arguments.{Arguments}

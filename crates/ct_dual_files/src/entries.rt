@@ -1,11 +1,11 @@
 //! The entries that documents of duals state.
 ghost use Rattle.std.specs.Prelude.{◌≡◌, IfOk};
 ghost use Rattle.toml.specs.View.{view};
-ghost use Rattle.ct_codes.specs.Entry.{IsEntry};
+ghost use Rattle.ct_entries.specs.Entry.{IsEntry};
 ghost use Rattle.ct_fields.specs.StatedEntry.{plain_entry_of};
 ghost use Rattle.ct_dual_files.specs.Dual.{weighted_entry_of};
 
-use ct_codes::Entry;
+use ct_entries::Entry;
 use ct_fields::{
     DocumentFault, FieldName, distance_beside, length_field, number_field, plain_entry,
 };

@@ -2,7 +2,7 @@
 ghost use Rattle.std.specs.Prelude.{◌≡◌, length, IfOk};
 ghost use Rattle.ct_duals.specs.Bound.{positive, dual_premises};
 
-use ct_codes::Entry;
+use ct_entries::Entry;
 use ct_words::Listed;
 use std::alloc::AllocError;
 

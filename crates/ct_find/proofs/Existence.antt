@@ -7,9 +7,9 @@ use Rattle.std.proofs.lemmas.Str.{is_utf8-from_IsUtf8}
 use Rattle.toml.specs.Data.{table, Members}
 use Rattle.toml_writer.specs.Text.{key_text, string_text, encoding_of, escaped, needs_escape, quotes_after}
 use Rattle.ct_words.specs.declared.limits.TheConstants.{MAX_N}
-use Rattle.ct_codes.specs.declared.entry.Entry.{Entry}
-use Rattle.ct_codes.specs.Entry.{IsEntry, unrestricted, constant_weight}
-use Rattle.ct_codes.proofs.EntryLemmas.{entry_limits}
+use Rattle.ct_entries.specs.declared.entry.Entry.{Entry}
+use Rattle.ct_entries.specs.Entry.{IsEntry, unrestricted, constant_weight}
+use Rattle.ct_entries.proofs.EntryLemmas.{entry_limits}
 use Rattle.ct_duals.specs.declared.dual.Dual.{Dual}
 use Rattle.ct_duals.specs.Dual.{IsDual}
 use Rattle.ct_fields.specs.Document.{table_of}
@@ -26,7 +26,7 @@ use Rattle.ct_fields.specs.Inside.Room.{IsSimpleTable, table_room}
 use Rattle.ct_fields.proofs.TextLengths.{document_length}
 use Rattle.ct_dual_files.specs.WrittenDuals.{dual_table, johnson_dual_table}
 use Rattle.ct_duals.specs.Dual.{degree_of}
-use Rattle.ct_codes.specs.Numbers.{numbers_of}
+use Rattle.ct_entries.specs.Numbers.{numbers_of}
 use Rattle.ct_finder.specs.Run.{End, columns_of, multipliers_of, run_dual, ones_dual}
 use Rattle.ct_finder.specs.Run.End.{Least as LeastEnd, Turns as TurnsEnd, Wide as WideEnd}
 use Rattle.ct_finder.proofs.RunDuals.{dual-form, least-of, narrow-of}

@@ -2,7 +2,7 @@
 use Rattle.std.specs.Prelude.{◌≡◌, ℕ, ◌%◌, ◌==◌, Bool, false, List, [], ◌∷◌, ◌++◌, codes, ℤ, unsigned_abs, Option, Some, None, Ok}
 use Rattle.std.specs.Fmt.{decimal}
 use Rattle.ct_io.specs.declared.TheConstants.{LINE_FEED}
-use Rattle.ct_codes.specs.declared.entry.Entry.{Entry}
+use Rattle.ct_entries.specs.declared.entry.Entry.{Entry}
 use Rattle.ct_duals.specs.declared.dual.Dual.{Dual}
 use Rattle.ct_kind.specs.declared.evidence.Evidence.{Evidence}
 use Rattle.ct_kind.specs.declared.evidence.Evidence.TheVariants as evidence

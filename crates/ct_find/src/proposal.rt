@@ -1,15 +1,15 @@
 //! The text of a dual that is proposed.
 
 ghost use Rattle.std.specs.Prelude.{◌≡◌, ◌++◌, [], codes, IfOk, OnOk};
-ghost use Rattle.ct_codes.specs.Entry.{IsEntry};
+ghost use Rattle.ct_entries.specs.Entry.{IsEntry};
 ghost use Rattle.ct_duals.specs.Dual.{IsDual};
 ghost use Rattle.ct_files.specs.Evidence.{IsSound};
 ghost use Rattle.ct_find.specs.Proposal.{bound_line, comments, dual_evidence, find_id, found_dual, pair_text, pairs_text, primal_line, stop_text, weight_part, AnswersEntry, IsProposal};
 
 use crate::found::found_for;
-use ct_codes::Entry;
 use ct_commands::put_submission;
 use ct_duals::Dual;
+use ct_entries::Entry;
 use ct_files::write_evidence;
 use ct_finder::{Found, Stop};
 use ct_io::LINE_FEED;

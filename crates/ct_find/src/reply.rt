@@ -1,12 +1,12 @@
 //! The replies to lines.
 
 ghost use Rattle.std.specs.Prelude.{◌≡◌, ◌++◌, ◌||◌, false, true, map, IfOk, OnOk, IfSome};
-ghost use Rattle.ct_codes.specs.Entry.{IsEntry};
+ghost use Rattle.ct_entries.specs.Entry.{IsEntry};
 ghost use Rattle.ct_io.specs.Lines.{lines_of};
 ghost use Rattle.ct_find.specs.Reply.{AreReplies, IsReply, IsReplyToEntry, IsReplyToNumbers, IsReplyToWords};
 
 use crate::proposal::{answer_entry, owned};
-use ct_codes::Entry;
+use ct_entries::Entry;
 use ct_io::next_line;
 use ct_text::{EntryNumbers, first_words, parse_entry_numbers};
 use std::alloc::{AllocError, Global};

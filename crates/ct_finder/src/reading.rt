@@ -13,7 +13,7 @@ ghost use Rattle.ct_finder.specs.Reading.{large, large_after, large_number, larg
 use crate::arithmetic::gcd;
 use crate::row::Row;
 use crate::tableau::Tableau;
-use ct_codes::Entry;
+use ct_entries::Entry;
 use ct_primal::Primal;
 use std::alloc::{AllocError, Global};
 

@@ -1,9 +1,9 @@
 //! What is found for a row.
 
 ghost use Rattle.std.specs.Prelude.{◌≡◌, ◌%◌, true};
-ghost use Rattle.ct_codes.specs.Entry.{IsEntry, unrestricted, constant_weight};
+ghost use Rattle.ct_entries.specs.Entry.{IsEntry, unrestricted, constant_weight};
 
-use ct_codes::Entry;
+use ct_entries::Entry;
 use ct_finder::{Found, Stop, find, find_weight};
 use ct_primal::Primal;
 use std::alloc::{AllocError, Global};

@@ -1,7 +1,7 @@
 //! Documents that are read, and the evidence that each gives.
 
 use ct_build::Step;
-use ct_codes::Entry;
+use ct_entries::Entry;
 use ct_files::{Evidence, FieldName, MAX_DOCUMENT, read_evidence};
 use ct_text::Id;
 use std::alloc::{AllocError, Global};

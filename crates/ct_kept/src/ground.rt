@@ -2,9 +2,9 @@
 //! so that nothing is chosen by the rule once the program is built.
 
 ghost use Rattle.std.specs.Prelude.{◌≡◌, ◌==◌, ◌&&◌, ◌≤◌, ◌^◌, nat_le, nat_lt, ℕ, [], if◌then◌else◌, Contains, Some, None, IfSome};
-ghost use Rattle.ct_codes.specs.declared.claim.Side.TheVariants.{Lower, Upper};
-ghost use Rattle.ct_codes.specs.declared.entry.Entry.{Entry};
-ghost use Rattle.ct_codes.specs.Entry.{IsEntry, unrestricted, constant_weight};
+ghost use Rattle.ct_entries.specs.declared.claim.Side.TheVariants.{Lower, Upper};
+ghost use Rattle.ct_entries.specs.declared.entry.Entry.{Entry};
+ghost use Rattle.ct_entries.specs.Entry.{IsEntry, unrestricted, constant_weight};
 ghost use Rattle.ct_elementary.specs.Bounds.{plotkin_value, sphere_packing_value};
 ghost use Rattle.ct_rule_parts.specs.Parts.{has_weight, weight_of, within_limit};
 ghost use Rattle.ct_weight_rules.specs.Disjoint.{has_disjoint_words, count_of_disjoint};
@@ -18,8 +18,8 @@ ghost use Rattle.ct_kept.specs.Kept.{RestsOnNothing, IsGroundBound};
 ghost use Rattle.ct_kept.specs.Inside.Ground.{class_of, AreLargest, GivesGround, IsGroundWithin, first_ground_rule, other_ground_rules, IsGroundLine};
 
 use crate::slots::is_better;
-use ct_codes::{Claim, Entry, Side};
 use ct_elementary::{plotkin, sphere_packing};
+use ct_entries::{Claim, Entry, Side};
 use ct_partitions::LargestClass;
 use ct_rule_parts::within_limit;
 use ct_rules::{Line, Rule, value};

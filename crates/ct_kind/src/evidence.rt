@@ -2,8 +2,8 @@
 
 use crate::word_lists::WordLists;
 use ct_build::Step;
-use ct_codes::Entry;
 use ct_duals::Dual;
+use ct_entries::Entry;
 use ct_text::Id;
 use ct_words::{Listed, Word};
 

@@ -3,8 +3,8 @@
 ghost use Rattle.std.specs.Prelude.{◌≡◌};
 
 use ct_build::BuildFault;
-use ct_codes::CodeFault;
 use ct_duals::DualFault;
+use ct_entries::CodeFault;
 use ct_fields::DocumentFault;
 use ct_partitions::PartitionFault;
 use ct_text::Id;

@@ -3,7 +3,7 @@
 ghost use Rattle.std.specs.Prelude.{◌≡◌};
 ghost use Rattle.ct_kind.specs.KindParts.{support_from};
 
-use ct_codes::Entry;
+use ct_entries::Entry;
 use ct_rule_parts::Support;
 
 /// What evidence comes to, whatever its kind.

@@ -6,7 +6,7 @@ ghost use Rattle.ct_kind.specs.Named.{NamedCode, is_known, partition_named};
 ghost use Rattle.ct_kind.specs.Sound.{AreSound};
 
 use crate::stated::StatedPartition;
-use ct_codes::Code;
+use ct_entries::Code;
 use ct_text::Id;
 use std::marker::Model;
 
@@ -20,7 +20,7 @@ pub struct Found<'a> {
 impl<'a> Model for Found<'a> {
     ghost use Rattle.std.specs.Prelude.{Option};
     ghost use Rattle.std.specs.Option.{option_copied, option_or};
-    ghost use Rattle.ct_codes.specs.Code.{CodeValue};
+    ghost use Rattle.ct_entries.specs.Code.{CodeValue};
 
     ghost Value = { Option CodeValue };
 

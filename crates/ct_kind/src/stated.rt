@@ -3,7 +3,7 @@
 ghost use Rattle.std.specs.Prelude.{◌≡◌, IfOk};
 ghost use Rattle.ct_partitions.specs.Partition.{word_lists, IsSoundPartition};
 
-use ct_codes::Entry;
+use ct_entries::Entry;
 use ct_partitions::Partition;
 use ct_words::Word;
 use std::alloc::{AllocError, Global};

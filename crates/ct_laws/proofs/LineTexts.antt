@@ -8,11 +8,11 @@ use Rattle.std.specs.Str.{bytes_eq}
 use Rattle.std.proofs.lemmas.List.Elements.{All-head, All-tail}
 use Rattle.std.proofs.lemmas.Slice.Eq.{bytes_eq-Decides}
 use Rattle.ct_words.specs.declared.limits.TheConstants.{MAX_N, MAX_BOUND}
-use Rattle.ct_codes.specs.declared.entry.Entry.{Entry}
-use Rattle.ct_codes.specs.declared.claim.Side.{Side}
-use Rattle.ct_codes.specs.declared.claim.Side.TheVariants.{Lower, Upper}
-use Rattle.ct_codes.specs.declared.claim.Claim.{Claim}
-use Rattle.ct_codes.specs.Entry.{is_entry, IsEntry}
+use Rattle.ct_entries.specs.declared.entry.Entry.{Entry}
+use Rattle.ct_entries.specs.declared.claim.Side.{Side}
+use Rattle.ct_entries.specs.declared.claim.Side.TheVariants.{Lower, Upper}
+use Rattle.ct_entries.specs.declared.claim.Claim.{Claim}
+use Rattle.ct_entries.specs.Entry.{is_entry, IsEntry}
 use Rattle.ct_io.specs.declared.TheConstants.{LINE_FEED}
 use Rattle.ct_text.specs.Number.{number_of, spaced}
 use Rattle.ct_text.specs.EntryText.{entry_words, weight_word}

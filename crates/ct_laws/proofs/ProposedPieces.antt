@@ -13,14 +13,14 @@ use Rattle.ct_words.specs.declared.limits.TheConstants.{MAX_BOUND}
 use Rattle.ct_io.specs.declared.TheConstants.{LINE_FEED}
 use Rattle.ct_io.specs.Lines.{lines_of, IsLine}
 use Rattle.ct_io.proofs.LinesLemmas.{lines_of-next}
-use Rattle.ct_codes.specs.declared.entry.Entry.{Entry}
-use Rattle.ct_codes.specs.Entry.{IsEntry}
+use Rattle.ct_entries.specs.declared.entry.Entry.{Entry}
+use Rattle.ct_entries.specs.Entry.{IsEntry}
 use Rattle.ct_text.specs.Id.{is_id}
 use Rattle.ct_duals.specs.declared.dual.Dual.{Dual}
 use Rattle.ct_fields.specs.declared.document.TheConstants.{MAX_DOCUMENT}
 use Rattle.ct_duals.specs.Bound.{natural}
-use Rattle.ct_codes.specs.Numbers.{numbers_of, multiplier, combination}
-use Rattle.ct_codes.proofs.EntryLemmas.{entry_limits}
+use Rattle.ct_entries.specs.Numbers.{numbers_of, multiplier, combination}
+use Rattle.ct_entries.proofs.EntryLemmas.{entry_limits}
 use Rattle.ct_duals.specs.Dual.{as_index, degree_of, greatest_index, is_in_range}
 use Rattle.ct_primal.specs.Primal.{PrimalValue}
 use Rattle.ct_primal.proofs.PrimalFaults.{sound-from_none}

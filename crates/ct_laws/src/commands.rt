@@ -3,7 +3,7 @@
 ghost use Rattle.std.specs.Prelude.{◌≡◌, ◌+◌, ◌<◌, ◌^◌, ℕ, List, [], ◌∷◌, ◌++◌, All, length, map, replicate, codes, Option, Some, None, false, true};
 ghost use Rattle.std.specs.List.{join_with_byte};
 ghost use Rattle.ct_io.specs.declared.TheConstants.{LINE_FEED};
-ghost use Rattle.ct_codes.specs.declared.claim.Side.TheVariants.{Lower, Upper};
+ghost use Rattle.ct_entries.specs.declared.claim.Side.TheVariants.{Lower, Upper};
 ghost use Rattle.ct_io.specs.Lines.{lines_of};
 ghost use Rattle.ct_text.specs.Id.{is_id};
 ghost use Rattle.ct_text.specs.Gathering.{is_end};

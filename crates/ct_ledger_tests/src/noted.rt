@@ -1,8 +1,8 @@
 //! What is noted of a ledger: its pieces, its stored words, and its table.
 
-ghost use Rattle.ct_codes.specs.Entry.{IsEntry};
+ghost use Rattle.ct_entries.specs.Entry.{IsEntry};
 
-use ct_codes::{Claim, Entry, Side, table_entries};
+use ct_entries::{Claim, Entry, Side, table_entries};
 use ct_ledger::{Ledger, Piece};
 use ct_rules::Rule;
 use ct_table::Table;

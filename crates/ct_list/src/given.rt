@@ -5,7 +5,7 @@ ghost use Rattle.ct_rule_parts.specs.Support.{size_at};
 ghost use Rattle.ct_pieces.specs.Supports.{supports_of};
 ghost use Rattle.ct_rule_codes.specs.CodeEntry.{entry_of_code};
 
-use ct_codes::{Code, Entry};
+use ct_entries::{Code, Entry};
 use ct_ledger::Ledger;
 use std::alloc::{AllocError, Global};
 

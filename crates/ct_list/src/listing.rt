@@ -1,9 +1,9 @@
 //! The code behind the best lower bound of an entry.
 
 ghost use Rattle.std.specs.Prelude.{◌≡◌, ◌<◌, ◌+◌, ℕ, length, drop, slice_get, Some, IfOk, OnOk};
-ghost use Rattle.ct_codes.specs.declared.claim.Side.TheVariants.{Lower};
-ghost use Rattle.ct_codes.specs.declared.entry.Entry.{Entry};
-ghost use Rattle.ct_codes.specs.Entry.{IsEntry};
+ghost use Rattle.ct_entries.specs.declared.claim.Side.TheVariants.{Lower};
+ghost use Rattle.ct_entries.specs.declared.entry.Entry.{Entry};
+ghost use Rattle.ct_entries.specs.Entry.{IsEntry};
 ghost use Rattle.ct_derive.specs.Explanation.{IsExplanation};
 ghost use Rattle.ct_pieces.specs.Supports.{supports_of};
 ghost use Rattle.ct_rule_parts.specs.Slot.{claim_at};
@@ -13,7 +13,7 @@ ghost use Rattle.ct_list.specs.Inside.Kept.{AreKept, IsCodeFor, named_by};
 
 use crate::kept::take_codes;
 use crate::rows::code_by_rule;
-use ct_codes::{Code, Entry, Side};
+use ct_entries::{Code, Entry, Side};
 use ct_ledger::Ledger;
 use ct_reasons::lines_to;
 use ct_rules::Line;

@@ -2,7 +2,7 @@
 
 ghost use Rattle.std.specs.Prelude.{◌≡◌, [], ◌∷◌, length};
 
-use ct_codes::Code;
+use ct_entries::Code;
 
 /// The only code.
 pub(crate) fn only(codes: Vec<Code>) -> Code

@@ -4,7 +4,8 @@ ghost use Rattle.std.specs.Prelude.{◌≡◌, ◌<◌, ◌^◌, true, All};
 
 use crate::build_steps::are_below;
 use ct_build::{BuildFault, even_words};
-use ct_codes::{Code, Entry, check_cosets, check_words};
+use ct_codes::{check_cosets, check_words};
+use ct_entries::{Code, Entry};
 use ct_words::{MAX_N, Word};
 use std::alloc::Global;
 use std::process::Abort;

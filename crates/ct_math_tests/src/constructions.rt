@@ -6,7 +6,7 @@ use ct_build::{
     BuildFault, append_one, complement, juxtapose, lengthen, parity, puncture, select_weight,
     shorten, translate, trim, uuv,
 };
-use ct_codes::{Code, MAX_CODE_DISTANCE};
+use ct_entries::{Code, MAX_CODE_DISTANCE};
 use ct_words::{MAX_N, Word};
 use std::alloc::{AllocError, Global};
 use std::process::Abort;

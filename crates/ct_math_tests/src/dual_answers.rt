@@ -3,8 +3,8 @@
 ghost use Rattle.std.specs.Prelude.{◌≡◌, ◌≤◌, true, All};
 ghost use Rattle.ct_words.specs.declared.limits.TheConstants.{MAX_BOUND};
 
-use ct_codes::Entry;
 use ct_duals::{Allowances, Dual, DualFault, Multipliers, check_dual_of_table};
+use ct_entries::Entry;
 use ct_words::MAX_BOUND;
 use std::alloc::{AllocError, Global};
 

@@ -3,7 +3,7 @@
 
 ghost use Rattle.std.specs.Prelude.{◌≡◌, ◌≤◌, true};
 
-use ct_codes::Entry;
+use ct_entries::Entry;
 use ct_johnson::{column_count, drop_one, drop_zero, elias_bassalygo, johnson, split};
 use ct_words::{MAX_BOUND, MAX_N};
 

@@ -1,7 +1,7 @@
 //! Krawtchouk numbers against tables, their plain sums, the generating function and orthogonality.
 
 use crate::numbers::{add_signed, number_of};
-use ct_codes::Scheme;
+use ct_entries::Scheme;
 use ct_krawtchouk::Hamming;
 use ct_words::{MAX_N, binomial};
 

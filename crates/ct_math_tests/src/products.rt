@@ -2,11 +2,11 @@
 
 ghost use Rattle.std.specs.Prelude.{◌≡◌, ◌^◌, ◌<◌, ◌≤◌, true, All, IfOk};
 ghost use Rattle.ct_words.specs.declared.limits.TheConstants.{MAX_N};
-ghost use Rattle.ct_codes.specs.Entry.{unrestricted};
+ghost use Rattle.ct_entries.specs.Entry.{unrestricted};
 ghost use Rattle.ct_partitions.specs.Partition.{word_lists, words_of_classes};
 
 use crate::build_parts::{have_length, shows};
-use ct_codes::Entry;
+use ct_entries::Entry;
 use ct_partitions::{
     Partition, PartitionFault, check_partition, product_distance, product_list, product_size,
 };

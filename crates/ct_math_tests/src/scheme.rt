@@ -1,7 +1,7 @@
 //! Johnson numbers against a table, values by hand, their plain sums and a direct count of pairs of places.
 
 use crate::numbers::{add_signed, number_of};
-use ct_codes::Scheme;
+use ct_entries::Scheme;
 use ct_scheme::Johnson;
 use ct_words::{MAX_N, Word, binomial, distance, factorial, weight};
 

@@ -8,7 +8,7 @@ ghost use Rattle.ct_fields.specs.Forms.{pair_data};
 ghost use Rattle.ct_fields.specs.Written.{put, put_weight};
 ghost use Rattle.ct_partition_files.specs.Written.{AreIds, class_list, pair_list, partition_table, product_table};
 
-use ct_codes::Entry;
+use ct_entries::Entry;
 use ct_fields::{FieldName, entry_table, id_value, put, put_weight, two_values, word_values};
 use ct_text::Id;
 use ct_words::Word;

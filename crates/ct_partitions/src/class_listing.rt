@@ -3,12 +3,12 @@
 ghost use Rattle.std.specs.Prelude.{◌≡◌, ℕ, ◌+◌, ◌-◌, ◌*◌, ◌%◌, ◌^◌, ◌<◌, ◌≤◌, [], ◌∷◌, ◌++◌, length, map, Some, IfOk, OnOk};
 ghost use Rattle.ct_words.specs.Counting.Binomials.{choose};
 ghost use Rattle.ct_words.specs.declared.limits.TheConstants.{MAX_N};
-ghost use Rattle.ct_codes.specs.Code.{IsSoundCode};
+ghost use Rattle.ct_entries.specs.Code.{IsSoundCode};
 ghost use Rattle.ct_partitions.specs.SumClass.{sum_class};
 ghost use Rattle.ct_partitions.specs.Inside.Listing.{words_of_sum};
 
 use crate::class_sizes::sum_class_count;
-use ct_codes::Code;
+use ct_entries::Code;
 use ct_words::{Word, binomial};
 use std::alloc::{AllocError, Global};
 

@@ -3,7 +3,7 @@
 ghost use Rattle.std.specs.Prelude.{◌≡◌, map};
 ghost use Rattle.ct_partitions.specs.Partition.{word_lists, PartitionValue, IsSoundPartition};
 
-use ct_codes::Entry;
+use ct_entries::Entry;
 use ct_words::Word;
 use std::marker::Model;
 

@@ -6,11 +6,11 @@ use Rattle.std.specs.Option.{option_flatten}
 use Rattle.std.specs.List.Sorted.{IsPermutation}
 use Rattle.std.specs.Str.{bytes_eq}
 use Rattle.std.proofs.lemmas.Bool.{ltb-true, ltb-false}
-use Rattle.ct_codes.specs.declared.entry.Entry.{Entry}
-use Rattle.ct_codes.specs.Entry.{IsEntry}
-use Rattle.ct_codes.specs.Code.{CodeValue, IsCodeOf, IsSoundCode}
-use Rattle.ct_codes.specs.Coset.{CosetValue, coset_list}
-use Rattle.ct_codes.proofs.CheckLemmas.{sound_from_code}
+use Rattle.ct_entries.specs.declared.entry.Entry.{Entry}
+use Rattle.ct_entries.specs.Entry.{IsEntry}
+use Rattle.ct_entries.specs.Code.{CodeValue, IsCodeOf, IsSoundCode}
+use Rattle.ct_entries.specs.Coset.{CosetValue, coset_list}
+use Rattle.ct_entries.proofs.CheckLemmas.{sound_from_code}
 use Rattle.ct_pieces.specs.Piece.{PieceValue, has_id}
 use Rattle.ct_kind.specs.Named.{NamedCode, is_known, code_named}
 use Rattle.ct_pieces.specs.Codes.{named_code, codes_after, codes_of, code_of_place}

@@ -16,7 +16,7 @@ ghost use Rattle.ct_pieces.specs.Inside.Kept.{kept_codes, AreKept};
 use crate::kinds::{Checked, check, stored_for};
 use crate::limits::MAX_STORED;
 use crate::piece::Piece;
-use ct_codes::Code;
+use ct_entries::Code;
 use ct_files::{Document, DocumentFault, Evidence, read_document};
 use ct_kind::SubmitFault;
 use ct_text::Text;

@@ -8,7 +8,7 @@ ghost use Rattle.ct_pieces.specs.Piece.{place_of};
 
 use crate::kinds::listed_code;
 use crate::piece::Piece;
-use ct_codes::Code;
+use ct_entries::Code;
 use ct_kind::Found;
 use ct_text::Id;
 use std::alloc::{AllocError, Global};

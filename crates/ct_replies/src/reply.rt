@@ -1,6 +1,6 @@
 //! Replies to commands.
 
-use ct_codes::{Code, Entry};
+use ct_entries::{Code, Entry};
 use ct_pieces::{SubmitFault, WithdrawFault};
 use ct_text::{Id, Text};
 use ct_words::Listed;

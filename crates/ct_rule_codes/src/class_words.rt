@@ -1,11 +1,11 @@
 //! The code of a sum class.
 
 ghost use Rattle.std.specs.Prelude.{◌≡◌, [], length, true, IfOk, Some};
-ghost use Rattle.ct_codes.specs.Entry.{IsEntry};
+ghost use Rattle.ct_entries.specs.Entry.{IsEntry};
 ghost use Rattle.ct_rule_codes.specs.CodeEntry.{entry_of_code};
 ghost use Rattle.ct_weight_rules.specs.GrahamSloane.{graham_sloane};
 
-use ct_codes::{Code, Entry};
+use ct_entries::{Code, Entry};
 use ct_partitions::sum_class_list;
 use std::alloc::{AllocError, Global};
 

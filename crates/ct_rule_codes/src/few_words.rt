@@ -2,13 +2,13 @@
 
 ghost use Rattle.std.specs.Prelude.{◌≡◌, ◌<◌, ◌≤◌, ◌*◌, ◌/◌, true, length, IfOk, None, Some};
 ghost use Rattle.ct_words.specs.declared.limits.TheConstants.{MAX_N};
-ghost use Rattle.ct_codes.specs.Code.{IsSoundCode};
-ghost use Rattle.ct_codes.specs.Entry.{IsEntry};
-ghost use Rattle.ct_codes.specs.Constructions.Translation.{all_ones};
+ghost use Rattle.ct_entries.specs.Code.{IsSoundCode};
+ghost use Rattle.ct_entries.specs.Entry.{IsEntry};
+ghost use Rattle.ct_entries.specs.Constructions.Translation.{all_ones};
 ghost use Rattle.ct_rule_codes.specs.CodeEntry.{entry_of_code};
 ghost use Rattle.ct_weight_rules.proofs.DisjointWords.{side_by_side};
 
-use ct_codes::{Code, Entry};
+use ct_entries::{Code, Entry};
 use ct_words::Word;
 use std::alloc::{AllocError, Global};
 

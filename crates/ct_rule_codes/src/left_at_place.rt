@@ -2,12 +2,12 @@
 
 ghost use Rattle.std.specs.Prelude.{◌≡◌, ◌-◌, ◌*◌, ◌/◌, ◌%◌, ◌^◌, ◌==◌, ◌<◌, ◌≤◌, [], ◌∷◌, ℕ, length, count_by, option_map, IfOk, None, Some};
 ghost use Rattle.std.specs.Int.{div_ceil};
-ghost use Rattle.ct_codes.specs.Constructions.Shortened.{shortened};
+ghost use Rattle.ct_entries.specs.Constructions.Shortened.{shortened};
 ghost use Rattle.ct_rule_parts.specs.Parts.{half_up};
 
 use crate::first_words::first_words;
 use ct_build::shorten;
-use ct_codes::Code;
+use ct_entries::Code;
 use ct_words::Word;
 use std::alloc::{AllocError, Global};
 

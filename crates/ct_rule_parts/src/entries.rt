@@ -5,8 +5,8 @@ ghost use Rattle.ct_words.specs.declared.limits.TheConstants.{MAX_N};
 ghost use Rattle.ct_rule_parts.specs.Entries.{listed};
 ghost use Rattle.ct_rule_parts.specs.Parts.{are_entries};
 
-use ct_codes::Entry;
 use ct_duals::AcceptedDual;
+use ct_entries::Entry;
 use ct_words::MAX_N;
 
 /// Up to three entries, in order, or those whose upper bounds an accepted dual rests on, `MAX_N` at most.

@@ -3,7 +3,7 @@
 ghost use Rattle.std.specs.Prelude.{◌≡◌, ◌<◌, ◌≤◌, ◌^◌, Some, IfSome};
 ghost use Rattle.ct_rule_parts.specs.Parts.{first, second, within_limit};
 
-use ct_codes::Side;
+use ct_entries::Side;
 use ct_words::MAX_BOUND;
 
 /// The first of the values, 0 where there is none.

@@ -4,8 +4,8 @@ ghost use Rattle.std.specs.Prelude.{◌≡◌, slice_get, option_map, Some};
 ghost use Rattle.ct_rule_parts.specs.Support.{OddValue, size_at, dual_at, odd_at, local_at, dual_behind};
 
 use crate::local_dual::LocalDual;
-use ct_codes::Entry;
 use ct_duals::AcceptedDual;
+use ct_entries::Entry;
 
 /// What a piece of evidence gives to the table.
 #[derive(Debug, Drop)]

@@ -3,8 +3,8 @@ use Rattle.std.proofs.Common.{◌≡◌, ℕ, List, Option, Some, None, Bool, tr
 use Rattle.std.specs.Prelude.{if◌then◌else◌}
 use Rattle.std.proofs.lemmas.Bool.{false≢true}
 use Rattle.std.proofs.lemmas.Option.{none-some, same_Some}
-use Rattle.ct_codes.specs.declared.entry.Entry.{Entry}
-use Rattle.ct_codes.specs.declared.claim.Side.{Side}
+use Rattle.ct_entries.specs.declared.entry.Entry.{Entry}
+use Rattle.ct_entries.specs.declared.claim.Side.{Side}
 use Rattle.ct_rule_parts.specs.declared.support.Support.{Support}
 use Rattle.ct_rule_parts.specs.Parts.{RuleParts, is_defined, slots_on, within_limit}
 use Rattle.ct_rule_parts.specs.Slot.{Slot}

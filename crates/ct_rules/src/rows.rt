@@ -1,7 +1,7 @@
 //! The rows of the rules: of each what it is made of, by the functions of its own file.
 
 ghost use Rattle.std.specs.Prelude.{◌≡◌, true, if◌then◌else◌, Some, None, option_map, slice_get};
-ghost use Rattle.ct_codes.specs.Entry.{IsEntry, unrestricted, constant_weight};
+ghost use Rattle.ct_entries.specs.Entry.{IsEntry, unrestricted, constant_weight};
 ghost use Rattle.ct_rule_parts.specs.Entries.{listed};
 ghost use Rattle.ct_rule_parts.specs.Support.{dual_at, odd_at, local_at};
 ghost use Rattle.ct_weight_rules.specs.Delsarte.{bound_of_dual, dual_above};
@@ -12,8 +12,8 @@ ghost use Rattle.ct_rules.specs.Rule.{rule_side, place_of, with_place, is_alone,
 
 use crate::arguments::{Arguments, arguments_of, with_arguments};
 use crate::rule::Rule;
-use ct_codes::{Entry, Side};
 use ct_elementary::{far, plotkin, sphere_packing};
+use ct_entries::{Entry, Side};
 use ct_plain_rules::{
     count_of_uuv, farther, longer, longer_and_farther, nearer, parts_of_juxtaposition,
     parts_of_uuv, shorter, shorter_and_nearer, uuv_of,

@@ -5,8 +5,8 @@ ghost use Rattle.ct_pieces.specs.Piece.{PieceValue};
 ghost use Rattle.ct_sample.specs.Drawn.{drawn_words, golay_words, drawn_cosets, drawn_dual, is_code_kind, may_lengthen, lengthening, last_lengthening, drawn_evidence};
 
 use ct_build::Step;
-use ct_codes::Entry;
 use ct_duals::{Allowances, Dual, Multipliers};
+use ct_entries::Entry;
 use ct_kind::Evidence;
 use ct_ledger::Piece;
 use ct_partitions::sum_class_list;

@@ -4,10 +4,10 @@ use Rattle.std.specs.Prelude.{◌≢◌}
 use Rattle.std.proofs.lemmas.Bool.{cases_eq}
 use Rattle.std.proofs.lemmas.List.Elements.{All-contains}
 use Rattle.std.proofs.lemmas.Option.{none-some, same_Some}
-use Rattle.ct_codes.specs.declared.claim.Side.{Side}
-use Rattle.ct_codes.specs.declared.claim.Side.TheVariants.{Upper}
-use Rattle.ct_codes.specs.declared.entry.Entry.{Entry}
-use Rattle.ct_codes.specs.Entry.{IsEntry}
+use Rattle.ct_entries.specs.declared.claim.Side.{Side}
+use Rattle.ct_entries.specs.declared.claim.Side.TheVariants.{Upper}
+use Rattle.ct_entries.specs.declared.entry.Entry.{Entry}
+use Rattle.ct_entries.specs.Entry.{IsEntry}
 use Rattle.ct_rule_parts.specs.declared.support.Support.{Support}
 use Rattle.ct_rule_parts.specs.Slot.{Slot, IsBetter, IsNoBetter}
 use Rattle.ct_rule_parts.specs.Support.{AllStand}

@@ -1,7 +1,7 @@
 //! What a new support changes: nothing where it betters nothing, else what rests on its entry is closed again.
 
 ghost use Rattle.std.specs.Prelude.{◌≡◌, ◌+◌, ◌<◌, ◌≤◌, ◌^◌, ◌++◌, ◌∷◌, [], ℕ, List, Some, false, OnOk, OnErr, length, slice_get};
-ghost use Rattle.ct_codes.specs.Entry.{IsEntry};
+ghost use Rattle.ct_entries.specs.Entry.{IsEntry};
 ghost use Rattle.ct_rule_parts.specs.declared.support.Support.{Support};
 ghost use Rattle.ct_rule_parts.specs.Support.{AllStand};
 ghost use Rattle.ct_rules.specs.Closed.{IsClosed};
@@ -17,7 +17,7 @@ ghost use Rattle.ct_table.specs.Inside.Starting.{CanFollow};
 use crate::closing::{Closing, close};
 use crate::offers::{given_rule, offer};
 use crate::start::mark_given;
-use ct_codes::{Entry, Side};
+use ct_entries::{Entry, Side};
 use ct_kept::{Bounds, Kept, SupportPlaces, entry_of_support, is_better, side_of_support};
 use ct_rules::Support;
 use std::alloc::{AllocError, Global};

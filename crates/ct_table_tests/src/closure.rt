@@ -5,7 +5,7 @@ ghost use Rattle.ct_kept.specs.Places.{AreSupportPlaces};
 ghost use Rattle.ct_rule_parts.specs.Support.{AllStand};
 
 use crate::known::{CODES, NUMBERS, entry_at, support_of};
-use ct_codes::{Entry, Side};
+use ct_entries::{Entry, Side};
 use ct_kept::{ENTRIES, SLOTS, SupportPlaces, slot_number};
 use ct_rules::Support;
 use ct_table::{Closing, close};

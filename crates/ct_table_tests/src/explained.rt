@@ -1,7 +1,7 @@
 //! A bound that is shown.
 
-use ct_codes::{Entry, Side};
 use ct_derive::{Parts, PieceParts, ShownPiece, print};
+use ct_entries::{Entry, Side};
 use ct_reasons::explain;
 use ct_table::Table;
 use ct_text::Id;

@@ -3,7 +3,8 @@
 ghost use Rattle.std.specs.Prelude.{◌≡◌, ◌<◌, ◌^◌, true, All, IfOk};
 ghost use Rattle.ct_rule_parts.specs.Support.{Stands};
 
-use ct_codes::{Entry, check_cosets, check_words};
+use ct_codes::{check_cosets, check_words};
+use ct_entries::Entry;
 use ct_math_tests::{GOLAY, NORDSTROM_ROBINSON, REED_MULLER};
 use ct_rules::Support;
 use ct_table::Table;

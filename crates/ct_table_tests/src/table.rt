@@ -1,12 +1,12 @@
 //! Tables of codes that are known: what comes and goes with supports.
 
 ghost use Rattle.std.specs.Prelude.{◌<◌, ◌≡◌, IfOk, IfSome};
-ghost use Rattle.ct_codes.specs.Entry.{IsEntry};
+ghost use Rattle.ct_entries.specs.Entry.{IsEntry};
 ghost use Rattle.ct_rule_parts.specs.Support.{Stands};
 
 use crate::known::{CODES, Cosets, NUMBERS, TWO_WORDS, entry_at, support_of};
 use crate::values::{GOLAY_BOUNDS, assert_bounds};
-use ct_codes::{Claim, Entry, Side};
+use ct_entries::{Claim, Entry, Side};
 use ct_rules::{Rule, Support};
 use ct_table::Table;
 use std::alloc::{AllocError, Global};

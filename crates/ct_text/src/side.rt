@@ -3,7 +3,7 @@
 ghost use Rattle.std.specs.Prelude.{◌≡◌};
 ghost use Rattle.ct_text.specs.Side.{side_of_word};
 
-use ct_codes::Side;
+use ct_entries::Side;
 
 /// The side that the word names: `lower` or `upper`.
 pub fn parse_side(word: &[u8]) -> Option<Side>

@@ -1,11 +1,11 @@
 //! Far words.
 
 ghost use Rattle.std.specs.Prelude.{◌≡◌, ◌+◌, ◌-◌, ◌/◌, true, false, [], Some};
-ghost use Rattle.ct_codes.specs.Entry.{IsEntry, unrestricted, constant_weight};
+ghost use Rattle.ct_entries.specs.Entry.{IsEntry, unrestricted, constant_weight};
 ghost use Rattle.ct_rule_parts.specs.Parts.{is_defined};
 ghost use Rattle.ct_weight_rules.specs.FarWords.{has_no_far_words, far_words};
 
-use ct_codes::Entry;
+use ct_entries::Entry;
 use ct_words::MAX_N;
 
 /// Whether the entry has a weight, and no two words of it are as far apart as its distance: d > 2·min(w, n−w).

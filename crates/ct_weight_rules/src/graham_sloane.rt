@@ -1,11 +1,11 @@
 //! The codes of Graham and Sloane: a sum class.
 
 ghost use Rattle.std.specs.Prelude.{◌≡◌, true, false, [], Some, None};
-ghost use Rattle.ct_codes.specs.Entry.{IsEntry, unrestricted, constant_weight};
+ghost use Rattle.ct_entries.specs.Entry.{IsEntry, unrestricted, constant_weight};
 ghost use Rattle.ct_rule_parts.specs.Parts.{is_defined};
 ghost use Rattle.ct_weight_rules.specs.GrahamSloane.{sum_class_size, graham_sloane};
 
-use ct_codes::Entry;
+use ct_entries::Entry;
 use ct_partitions::sum_class_count;
 
 /// The number of M9 with the residue r: how many words of the length and the weight of the entry there are, the places of

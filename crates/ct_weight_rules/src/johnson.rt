@@ -2,12 +2,12 @@
 
 ghost use Rattle.std.specs.Prelude.{◌≡◌, ◌+◌, ◌-◌, true, false, [], ◌∷◌, Some, None};
 ghost use Rattle.ct_words.specs.declared.limits.TheConstants.{MAX_N};
-ghost use Rattle.ct_codes.specs.Entry.{IsEntry, unrestricted, constant_weight};
+ghost use Rattle.ct_entries.specs.Entry.{IsEntry, unrestricted, constant_weight};
 ghost use Rattle.ct_rule_parts.specs.Parts.{is_defined};
 ghost use Rattle.ct_weight_rules.specs.Inside.RestedOn.{by_johnson};
 ghost use Rattle.ct_weight_rules.specs.Johnson.{johnson};
 
-use ct_codes::Entry;
+use ct_entries::Entry;
 use ct_johnson::johnson_odd;
 use ct_rule_parts::first;
 

@@ -1,15 +1,15 @@
 //! Words by one digit.
 
 ghost use Rattle.std.specs.Prelude.{◌≡◌, ◌+◌, ◌-◌, ◌/◌, true, false, ◌∷◌, [], Some};
-ghost use Rattle.ct_codes.specs.declared.claim.Side.TheVariants.{Upper};
-ghost use Rattle.ct_codes.specs.Entry.{IsEntry, unrestricted, constant_weight};
+ghost use Rattle.ct_entries.specs.declared.claim.Side.TheVariants.{Upper};
+ghost use Rattle.ct_entries.specs.Entry.{IsEntry, unrestricted, constant_weight};
 ghost use Rattle.ct_rule_parts.specs.Entries.{listed};
 ghost use Rattle.ct_rule_parts.specs.Parts.{is_defined, within_limit};
 ghost use Rattle.ct_weight_rules.specs.Inside.RestedOn.{by_split};
 ghost use Rattle.ct_weight_rules.specs.Split.{split};
 
 use crate::neighbours::{one_less, one_more, zero_less, zero_more};
-use ct_codes::Entry;
+use ct_entries::Entry;
 use ct_rule_parts::Entries;
 use ct_words::{MAX_BOUND, MAX_N};
 

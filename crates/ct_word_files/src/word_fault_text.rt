@@ -3,7 +3,7 @@
 ghost use Rattle.std.specs.Prelude.{◌≡◌, ◌++◌, OnOk};
 ghost use Rattle.ct_word_files.specs.WordFaultText.{code_fault_text};
 
-use ct_codes::CodeFault;
+use ct_entries::CodeFault;
 use ct_kind::{put_numbered, put_numbered_pair};
 use ct_text::put_spaced;
 use std::alloc::{AllocError, Global};

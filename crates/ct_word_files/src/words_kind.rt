@@ -2,11 +2,12 @@
 
 ghost use Rattle.std.specs.Prelude.{◌≡◌, ◌≢◌, ◌<◌, ◌≤◌, ◌^◌, All, Some, None, IfOk, IfErr, OnOk, length, option_map, false, true, codes};
 ghost use Rattle.std.specs.Result.{result_err};
-ghost use Rattle.ct_codes.specs.Check.{code_fault};
-ghost use Rattle.ct_codes.specs.Entry.{IsEntry};
+ghost use Rattle.ct_entries.specs.Check.{code_fault};
+ghost use Rattle.ct_entries.specs.Entry.{IsEntry};
 ghost use Rattle.ct_kind.specs.Ascending.{code_at};
 
-use ct_codes::{Code, CodeFault, Entry, check_words};
+use ct_codes::check_words;
+use ct_entries::{Code, CodeFault, Entry};
 use ct_kind::{Kind, SubmitFault};
 use ct_words::Word;
 use std::alloc::{AllocError, Global};

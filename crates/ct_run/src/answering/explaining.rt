@@ -1,12 +1,12 @@
 //! The best bounds of a ledger with their explanations.
 
 ghost use Rattle.std.specs.Prelude.{IfOk};
-ghost use Rattle.ct_codes.specs.Entry.{IsEntry};
+ghost use Rattle.ct_entries.specs.Entry.{IsEntry};
 ghost use Rattle.ct_derive.specs.Derivation.{AreOrdered};
 ghost use Rattle.ct_explain.specs.Explained.{ExplainsBest};
 
-use ct_codes::{Entry, Side};
 use ct_derive::Derivation;
+use ct_entries::{Entry, Side};
 use ct_explain::PartsOfPieces;
 use ct_ledger::Ledger;
 use std::alloc::{AllocError, Global};

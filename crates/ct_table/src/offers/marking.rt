@@ -1,7 +1,7 @@
 //! The slots at which a better bound of another may lead to something better: they are marked.
 
 ghost use Rattle.std.specs.Prelude.{◌≡◌, suc, true, OnOk};
-ghost use Rattle.ct_codes.specs.Entry.{IsEntry};
+ghost use Rattle.ct_entries.specs.Entry.{IsEntry};
 ghost use Rattle.ct_rule_parts.specs.Support.{AllStand};
 ghost use Rattle.ct_rules.specs.declared.rule.Rule.{Rule};
 ghost use Rattle.ct_rules.specs.Closed.{AreTrue};
@@ -13,7 +13,7 @@ ghost use Rattle.ct_table.specs.Inside.Marking.{KeepsMarks, IsTestedAt, IsTested
 use crate::offers::following::mark_by_resting;
 use crate::offers::juxtaposition::mark_juxtaposition;
 use crate::offers::pulling::{given_rule, offer};
-use ct_codes::{Entry, Side};
+use ct_entries::{Entry, Side};
 use ct_kept::{Bounds, SupportPlaces, Worklist, is_better};
 use ct_rule_parts::dual_behind;
 use ct_rules::{Rule, Support, rested_on_by, rule_side};

@@ -6,7 +6,7 @@ use Rattle.ct_rules.specs.Removal.{Places, marked, without, voided}
 use Rattle.ct_rules.proofs.VoidedSupports.{length-voided}
 use Rattle.ct_rules.proofs.WithoutLemmas.{length-without}
 use Rattle.std.specs.Prelude.{Option}
-use Rattle.ct_codes.specs.declared.entry.Entry.{Entry}
+use Rattle.ct_entries.specs.declared.entry.Entry.{Entry}
 use Rattle.ct_kept.specs.Places.{AreSupportPlaces, entry_of_support}
 use Rattle.ct_table.specs.Closing.{HasMoreLines}
 use Rattle.ct_kept.specs.Kept.{KeptValue, set_back}

@@ -1,0 +1,9 @@
+pub mod PairLemmas
+pub mod EntryLemmas
+pub mod InLists
+pub mod ColumnLemmas
+pub mod ListedEntries
+pub mod CheckLemmas
+pub mod BoundLemmas
+pub mod DigitCodes
+pub mod Constructions

@@ -1,0 +1,11 @@
+pub mod Entry
+pub mod TableEntries
+pub mod Code
+pub mod Pairs
+pub mod Check
+pub mod Coset
+pub mod Claim
+pub mod Scheme
+pub mod Numbers
+pub mod Constructions
+pub mod Doubly
