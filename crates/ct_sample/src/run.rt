@@ -183,4 +183,10 @@ impl Run {
     {
         self.withdrawn
     }
+
+    /// Ends the run, and its ledger.
+    pub(crate) fn close(self) {
+        let Run { ledger, .. } = self;
+        ledger.close();
+    }
 }

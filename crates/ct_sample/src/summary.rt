@@ -66,7 +66,9 @@ pub fn sample(alloc: Global, number: u32) -> Result<Summary, AllocError>
 {
     let entries = table_entries(alloc)?;
     let mut run = Run::new(alloc)?;
-    summary_after(alloc, number, &mut run, &entries)
+    let summary = summary_after(alloc, number, &mut run, &entries);
+    run.close();
+    summary
 }
 
 /// Puts a line at the end of the text: a name, a space and a number.
