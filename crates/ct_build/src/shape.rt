@@ -8,7 +8,7 @@ ghost use Rattle.ct_build.specs.Build.{shape_of, IsShape};
 use ct_entries::{Code, Entry};
 
 /// What is known of a code without its words: their length, distance, weight where they have one, and number.
-#[derive(Clone, Copy, Debug, PartialEq, Eq)]
+#[derive(Clone, Copy)]
 pub struct Shape {
     /// The length of the words.
     pub n: u32,

@@ -3,7 +3,7 @@
 use ct_words::{Listed, Word};
 
 /// A step by which a code is made from one code, its part, or from two, its part and the other.
-#[derive(Debug, Drop)]
+#[derive(Drop)]
 pub enum Step {
     /// Each word is followed by the digit 0.
     Lengthen,

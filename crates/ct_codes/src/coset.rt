@@ -22,7 +22,7 @@ use std::marker::Model;
 /// A code of an entry without weight: the words of all choices of a representative and a set of basis words, each the sum
 /// of its members without carry. Over k basis words choice a·2^k + s has the representative at place a, and the basis
 /// words at the places j whose digit 2^j stands in s.
-#[derive(Debug, Drop)]
+#[derive(Drop)]
 pub struct CosetCode {
     entry: Entry,
     basis: Vec<Word>,

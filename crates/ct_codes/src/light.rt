@@ -16,7 +16,7 @@ use std::alloc::{AllocError, Global};
 const PART: u64 = 32;
 
 /// A word that is added to others where they have a one at its place, which counts from the last.
-#[derive(Clone, Copy, Debug)]
+#[derive(Clone, Copy)]
 pub(crate) struct Pivot {
     place: u32,
     word: Word,

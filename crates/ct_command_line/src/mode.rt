@@ -6,7 +6,7 @@ ghost use Rattle.std.specs.Prelude.{◌≡◌, drop};
 pub const MAX_SAMPLE: u32 = 2000;
 
 /// A mode of the program.
-#[derive(Clone, Copy, Debug, PartialEq, Eq)]
+#[derive(Clone, Copy)]
 pub enum Mode {
     /// Reads the commands of a session, and writes their replies.
     Session,

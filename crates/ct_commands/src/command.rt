@@ -4,7 +4,7 @@ use ct_entries::Side;
 use ct_text::{EntryNumbers, Id, TableNumbers, Text};
 
 /// A command of a session.
-#[derive(Debug, Drop)]
+#[derive(Drop)]
 pub enum Command {
     /// A submission with its whole document: its id, if its line is of a form of `submit`, and the document.
     Submission(Option<Id>, Text),

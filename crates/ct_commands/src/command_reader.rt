@@ -12,7 +12,7 @@ use std::marker::Model;
 
 /// A submission whose document has not ended: its id, if its line is of a form of `submit`, and the document as far as it
 /// has come.
-#[derive(Debug, Drop)]
+#[derive(Drop)]
 pub struct Pending {
     /// The id.
     pub id: Option<Id>,
@@ -22,7 +22,7 @@ pub struct Pending {
 
 /// Takes the lines of an input one by one, and gives the commands that they complete. Contracts see it as the submission
 /// that is open, if one is.
-#[derive(Debug, Drop)]
+#[derive(Drop)]
 pub struct CommandReader {
     pending: Option<Pending>,
 }

@@ -16,7 +16,7 @@ use std::alloc::{AllocError, Global};
 const MOST_WORDS: usize = 6;
 
 /// What one line of a session asks for.
-#[derive(Debug, Drop)]
+#[derive(Drop)]
 pub enum Form {
     /// Nothing: a line without words, or one that begins with `#`.
     Nothing,

@@ -17,7 +17,7 @@ use smallvec::SmallVec;
 use std::alloc::{AllocError, Global};
 
 /// Why a line does not follow from those before it.
-#[derive(Clone, Copy, Debug, PartialEq, Eq)]
+#[derive(Clone, Copy)]
 pub enum LineFault {
     /// The rule is not defined at the entry, with its argument and the support that it names, or gives nothing from the
     /// values of the premises.

@@ -21,9 +21,14 @@ pub trait PieceParts {
 }
 
 /// The places of the parts of a piece of evidence, among the pieces before it. Contracts see them as a list.
-#[derive(Debug, Drop)]
 pub struct Parts {
     places: SmallVec<usize, 2>,
+}
+
+impl Drop for Parts {
+    fn drop(self) {
+        let Parts { places: _ } = self;
+    }
 }
 
 impl Model for Parts {

@@ -17,7 +17,7 @@ use std::marker::Model;
 
 /// A dual that was accepted: it meets its inequalities, so no code of its entry is larger than its bound. Contracts see the
 /// dual and its f(0).
-#[derive(Debug, Drop)]
+#[derive(Drop)]
 pub struct Accepted<'a> {
     dual: &'a Dual,
     at_zero: i128,

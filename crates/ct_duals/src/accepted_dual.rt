@@ -16,10 +16,18 @@ use std::marker::Model;
 
 /// A dual that was accepted, with its f(0), of its own: it meets its inequalities, so no code of its entry is larger than its
 /// bound. `Accepted::try_keep` alone makes one. Contracts see the dual and its f(0).
-#[derive(Debug, Drop)]
 pub struct AcceptedDual {
     dual: Dual,
     at_zero: i128,
+}
+
+impl Drop for AcceptedDual {
+    fn drop(self) {
+        let AcceptedDual {
+            dual: _,
+            at_zero: _,
+        } = self;
+    }
 }
 
 impl Model for AcceptedDual {

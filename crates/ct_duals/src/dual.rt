@@ -15,7 +15,6 @@ pub type Allowances = Listed<(u32, i64)>;
 /// A dual of Delsarte's linear program for the codes of an entry (Delsarte 1973; MacWilliams and Sloane, chapter 17,
 /// section 4): a combination of the rows of the entry's scheme that is at most what is allowed at each index that two
 /// words of a code can have.
-#[derive(Debug, Drop)]
 pub struct Dual {
     /// The entry whose codes it bounds.
     pub entry: Entry,
@@ -25,6 +24,17 @@ pub struct Dual {
     pub c: Multipliers,
     /// What is allowed, at indices: the distances of words, and with a weight their halves.
     pub y: Allowances,
+}
+
+impl Drop for Dual {
+    fn drop(self) {
+        let Dual {
+            entry: _,
+            even: _,
+            c: _,
+            y: _,
+        } = self;
+    }
 }
 
 impl Dual {

@@ -1,7 +1,7 @@
 //! Why a dual is refused.
 
 /// Why a dual is refused.
-#[derive(Clone, Copy, Debug, PartialEq, Eq)]
+#[derive(Clone, Copy, PartialEq, Eq)]
 pub enum DualFault {
     /// The first multiplier, c_0, is 0.
     Lead,

@@ -3,7 +3,7 @@
 use crate::entry::Entry;
 
 /// The side of a bound.
-#[derive(Clone, Copy, Debug, PartialEq, Eq)]
+#[derive(Clone, Copy, PartialEq, Eq)]
 pub enum Side {
     /// A lower bound: some code has so many words.
     Lower,
@@ -12,7 +12,7 @@ pub enum Side {
 }
 
 /// What a table says of an entry: a bound from below or from above.
-#[derive(Clone, Copy, Debug, PartialEq, Eq)]
+#[derive(Clone, Copy, PartialEq, Eq)]
 pub struct Claim {
     /// Whether it bounds from below or from above.
     pub side: Side,

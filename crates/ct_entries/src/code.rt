@@ -13,12 +13,22 @@ pub const MAX_CODE_DISTANCE: u32 = 60;
 
 /// A code of length n, from 1 to `MAX_N`, of distance d, from 1 to `MAX_CODE_DISTANCE`, and, where it is given, of weight
 /// w: at least one word, in ascending order.
-#[derive(Debug, Drop)]
 pub struct Code {
     n: u32,
     d: u32,
     w: Option<u32>,
     words: Vec<Word>,
+}
+
+impl Drop for Code {
+    fn drop(self) {
+        let Code {
+            n: _,
+            d: _,
+            w: _,
+            words: _,
+        } = self;
+    }
 }
 
 impl Model for Code {
@@ -77,7 +87,13 @@ impl Code {
         ensures value { result.items ≡ self.words }
         ensures sound { IsSoundCode self }
     {
-        self.words
+        let Code {
+            n: _,
+            d: _,
+            w: _,
+            words,
+        } = self;
+        words
     }
 
     /// A copy: the same length, distance, weight and words.

@@ -15,7 +15,7 @@ use std::alloc::{AllocError, Global};
 const MOST_WORDS: usize = 4;
 
 /// Replies, and whether one of them is a refusal.
-#[derive(Debug, Drop)]
+#[derive(Drop)]
 pub(crate) struct Replies {
     pub(crate) text: Vec<u8>,
     pub(crate) refused: bool,

@@ -12,7 +12,7 @@ use ct_entries::{Entry, Scheme};
 use std::alloc::{AllocError, Global};
 
 /// How a run ends.
-#[derive(Debug, Drop)]
+#[derive(Drop)]
 pub(crate) enum Ending {
     /// With the least bound: these multipliers, and what is read of the primal.
     Least(Multipliers, Reading),

@@ -4,7 +4,7 @@ use ct_duals::Dual;
 use ct_primal::Primal;
 
 /// A dual that was found and checked, its bound, and how the run stopped.
-#[derive(Debug, Drop)]
+#[derive(Drop)]
 pub struct Found {
     /// The dual. It is accepted, and allows nothing.
     pub dual: Dual,
@@ -15,7 +15,7 @@ pub struct Found {
 }
 
 /// How a run stopped.
-#[derive(Debug, Drop)]
+#[derive(Drop)]
 pub enum Stop {
     /// With the least bound, which this primal shows: no dual of the entry with the same mark that is accepted and allows nothing has a
     /// smaller one.

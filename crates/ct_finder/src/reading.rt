@@ -18,7 +18,7 @@ use ct_primal::Primal;
 use std::alloc::{AllocError, Global};
 
 /// What is read off a tableau with which a run ended as least.
-#[derive(Debug, Drop)]
+#[derive(Drop)]
 pub(crate) enum Reading {
     /// The primal.
     Primal(Primal),
@@ -27,7 +27,7 @@ pub(crate) enum Reading {
 }
 
 /// A row with its basic column: its place, the entry there, and the constant.
-#[derive(Clone, Copy, Debug, PartialEq, Eq)]
+#[derive(Clone, Copy)]
 pub(crate) struct Line {
     pub(crate) place: usize,
     pub(crate) entry: u64,

@@ -8,7 +8,7 @@ use crate::arithmetic::{cross, gcd, is_wide, quotient};
 use std::marker::Model;
 
 /// A row of a tableau: its entries, each at most 2^63 - 1 in absolute value. Contracts see the list of the entries.
-#[derive(Debug, Drop)]
+#[derive(Drop)]
 pub struct Row {
     entries: Vec<i64>,
 }

@@ -8,7 +8,7 @@ use crate::pivot::{entering, pivot_row};
 use crate::tableau::Tableau;
 
 /// How a run ends.
-#[derive(Clone, Copy, Debug, PartialEq, Eq)]
+#[derive(Clone, Copy)]
 pub enum Ending {
     /// No a or s of the cost row is negative.
     Least,

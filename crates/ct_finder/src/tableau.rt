@@ -7,7 +7,7 @@ ghost use Rattle.ct_finder.specs.Ready.{seen, IsReady};
 use crate::row::Row;
 
 /// A tableau: a row for each k, the place of the basic column of each, the cost row; and room for a copy of the pivot row.
-#[derive(Debug, Drop)]
+#[derive(Drop)]
 pub struct Tableau {
     /// The row of each k, ascending.
     pub rows: Vec<Row>,

@@ -141,7 +141,7 @@ fn each_reply_comes_before_the_next_line(rt: HostRuntime) -> Result<(), Fail> {
     };
     let words = [String::from_str(alloc, "session")?];
     let status = run(alloc, &words, &mut keyboard, &mut screen);
-    assert!(rt; status == Status::Refused);
+    assert!(rt; matches!(status, Status::Refused));
     assert!(rt; is_shown(&shown_in_turn(&rt, alloc, &keyboard.asked)?, &screen.bytes));
     Ok(())
 }

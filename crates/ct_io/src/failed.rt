@@ -1,3 +1,3 @@
 /// A read or a write that failed. What failed is known to the source or the sink alone.
-#[derive(Debug, Clone, Copy, PartialEq, Eq)]
+#[derive(Clone, Copy)]
 pub struct Failed;

@@ -10,7 +10,7 @@ use std::alloc::{AllocError, Global};
 use std::marker::Model;
 
 /// Bytes that were read and not yet given out.
-#[derive(Debug, Drop)]
+#[derive(Drop)]
 pub(crate) struct Held {
     bytes: Vec<u8>,
     // The bytes before this index were given out.

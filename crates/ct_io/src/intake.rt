@@ -10,7 +10,7 @@ use crate::{MAX_INPUT, MAX_READ};
 use std::alloc::{AllocError, Global};
 
 /// What came from the source and was not yet given out, and what is known of the source.
-#[derive(Debug, Drop)]
+#[derive(Drop)]
 pub(crate) struct Intake {
     pub(crate) held: Held,
     // Where a read puts its bytes.

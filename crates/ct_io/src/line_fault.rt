@@ -1,7 +1,7 @@
 use std::alloc::AllocError;
 
 /// Why no line was given.
-#[derive(Debug, Clone, Copy, PartialEq, Eq)]
+#[derive(Clone, Copy, Debug)]
 pub enum LineFault {
     /// A read of the source failed.
     ReadFault,

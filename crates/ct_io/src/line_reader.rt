@@ -14,11 +14,19 @@ use std::marker::Model;
 
 /// Takes bytes from a source and gives their lines. One reader serves one source: it keeps the
 /// bytes that it took and did not give yet.
-#[derive(Debug, Drop)]
 pub struct LineReader {
     intake: Intake,
     // The fault that each further call answers.
     fault: Option<LineFault>,
+}
+
+impl Drop for LineReader {
+    fn drop(self) {
+        let LineReader {
+            intake: _,
+            fault: _,
+        } = self;
+    }
 }
 
 impl Model for LineReader {

@@ -8,7 +8,7 @@ use std::alloc::{AllocError, Global};
 
 /// A sink over memory, which tells its bytes. Space for all that it can hold is there from the
 /// start, so a write takes no memory.
-#[derive(Debug, Drop)]
+#[derive(Drop)]
 pub struct MemSink {
     /// The bytes that were written.
     pub bytes: Vec<u8>,

@@ -6,7 +6,7 @@ use crate::failed::Failed;
 use crate::source::Source;
 
 /// A source over memory, which tells its bytes.
-#[derive(Debug, Drop)]
+#[derive(Drop)]
 pub struct MemSource {
     /// All bytes, also those that were read.
     pub bytes: Vec<u8>,

@@ -3,7 +3,7 @@ use crate::line_fault::LineFault;
 use std::alloc::AllocError;
 
 /// Why a run over a source and a sink is broken off.
-#[derive(Debug, Clone, Copy, PartialEq, Eq)]
+#[derive(Clone, Copy)]
 pub enum RunFault {
     /// The source failed.
     Read,

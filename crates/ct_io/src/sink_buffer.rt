@@ -16,9 +16,14 @@ use std::marker::Model;
 
 /// Bytes on their way to a sink: they are gathered, `MAX_GATHERED` of them at most, and written where there is no room for more. One buffer
 /// serves one sink. Contracts see what is gathered, and with the sink they see both as one (`buffered`).
-#[derive(Debug, Drop)]
 pub struct SinkBuffer {
     bytes: Vec<u8>,
+}
+
+impl Drop for SinkBuffer {
+    fn drop(self) {
+        let SinkBuffer { bytes: _ } = self;
+    }
 }
 
 impl Model for SinkBuffer {

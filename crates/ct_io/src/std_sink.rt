@@ -7,7 +7,7 @@ use crate::sink::Sink;
 use std::io::Write;
 
 /// A sink over a writer of std, as standard output. It tells no bytes. Make it with `faults` 0.
-#[derive(Debug, Drop)]
+#[derive(Drop)]
 pub struct StdSink<W: Write + Drop> {
     /// The writer.
     pub inner: W,

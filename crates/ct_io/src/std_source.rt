@@ -7,7 +7,7 @@ use crate::source::Source;
 use std::io::Read;
 
 /// A source over a reader of std, as standard input. It tells no bytes. Make it with `faults` 0.
-#[derive(Debug, Drop)]
+#[derive(Drop)]
 pub struct StdSource<R: Read + Drop> {
     /// The reader.
     pub inner: R,

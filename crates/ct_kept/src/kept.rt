@@ -27,12 +27,22 @@ use std::mem;
 /// What a table keeps: the lines of a derivation, and for each side of each entry, by its number, the bound and the place of
 /// the line that gives it. The first lines are those of the base, which rest on no support whatever comes and goes. Contracts
 /// see bounds, reasons and all lines in a row, and how many of these the base has.
-#[derive(Debug, Drop)]
 pub struct Kept {
     bounds: Bounds,
     reasons: Vec<usize>,
     first: Vec<Line>,
     later: Vec<Line>,
+}
+
+impl Drop for Kept {
+    fn drop(self) {
+        let Kept {
+            bounds: _,
+            reasons: _,
+            first: _,
+            later: _,
+        } = self;
+    }
 }
 
 impl Model for Kept {
@@ -48,7 +58,7 @@ impl Model for Kept {
 }
 
 /// The bounds and reasons of a table at one time, and how many lines it had.
-#[derive(Debug, Drop)]
+#[derive(Drop)]
 pub struct Saved {
     bounds: Bounds,
     reasons: Vec<usize>,
@@ -68,7 +78,7 @@ impl Model for Saved {
 }
 
 /// The bounds and reasons of a base.
-#[derive(Debug, Drop)]
+#[derive(Drop)]
 pub struct Base {
     bounds: Bounds,
     reasons: Vec<usize>,
@@ -87,7 +97,7 @@ impl Model for Base {
 }
 
 /// What was kept beside the lines of the base when it was set back: bounds, reasons and the lines that followed.
-#[derive(Debug, Drop)]
+#[derive(Drop)]
 pub struct Undo {
     bounds: Bounds,
     reasons: Vec<usize>,

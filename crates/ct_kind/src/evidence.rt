@@ -8,7 +8,6 @@ use ct_text::Id;
 use ct_words::{Listed, Word};
 
 /// A piece of evidence for a bound.
-#[derive(Drop)]
 pub enum Evidence {
     /// Words that are stated as a code of the entry, in the order of the document.
     Words {
@@ -55,4 +54,31 @@ pub enum Evidence {
     /// A dual for an entry with weight that looks at a code from one of its words: it speaks of no even distances alone, and may allow
     /// something at the indices that two words of a code may have.
     JohnsonLocal(Dual),
+}
+
+impl Drop for Evidence {
+    fn drop(self) {
+        match self {
+            Evidence::Words { entry: _, words: _ } => {}
+            Evidence::Cosets {
+                entry: _,
+                basis: _,
+                representatives: _,
+            } => {}
+            Evidence::Partition {
+                entry: _,
+                between: _,
+                classes: _,
+            } => {}
+            Evidence::Build {
+                entry: _,
+                step: _,
+                part: _,
+                other: _,
+            } => {}
+            Evidence::Product { entry: _, pairs: _ } => {}
+            Evidence::Dual(_) | Evidence::JohnsonDual(_) | Evidence::JohnsonLocal(_) => {}
+            Evidence::Odd { dual: _, m: _ } => {}
+        }
+    }
 }

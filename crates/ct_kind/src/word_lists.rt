@@ -7,9 +7,14 @@ use std::marker::Model;
 
 /// Lists of words in the order in which they were handed in, repeats and empty ones included. Contracts see the list of the
 /// lists.
-#[derive(Drop)]
 pub struct WordLists {
     lists: Vec<Vec<Word>>,
+}
+
+impl Drop for WordLists {
+    fn drop(self) {
+        let WordLists { lists: _ } = self;
+    }
 }
 
 impl Model for WordLists {
@@ -34,7 +39,8 @@ impl WordLists {
     pub fn into_vec(self) -> Vec<Vec<Word>>
         ensures { word_lists result.items ≡ self }
     {
-        self.lists
+        let WordLists { lists } = self;
+        lists
     }
 
     /// The lists as a slice.

@@ -8,7 +8,7 @@ use ct_entries::Scheme;
 
 /// The Hamming scheme of length n, from 1 to `MAX_N` (Delsarte 1973; MacWilliams and Sloane, chapters 5 and 21): its
 /// space is the words of length n, the index of two words is their distance, and its numbers are the Krawtchouk numbers.
-#[derive(Clone, Copy, Debug, PartialEq, Eq)]
+#[derive(Clone, Copy)]
 pub struct Hamming {
     /// The length of the words, from 1 to `MAX_N`.
     pub n: u32,

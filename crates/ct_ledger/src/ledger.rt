@@ -24,10 +24,18 @@ use std::marker::Model;
 
 /// The pieces of evidence that were accepted and not withdrawn, in the order in which they were accepted, and the table of
 /// the bounds that they give. Contracts see the list of the pieces, the number of words that they store, and the table.
-#[derive(Drop)]
 pub struct Ledger {
     pieces: Pieces,
     table: Table,
+}
+
+impl Drop for Ledger {
+    fn drop(self) {
+        let Ledger {
+            pieces: _,
+            table: _,
+        } = self;
+    }
 }
 
 impl Model for Ledger {
@@ -205,7 +213,4 @@ impl Ledger {
     {
         self.pieces.dump(alloc)
     }
-
-    /// Ends the ledger, as dropping it does. A crate above that ends it so on each way need not prove what it is made of.
-    pub fn close(self) {}
 }

@@ -8,7 +8,7 @@ ghost use Rattle.ct_partitions.specs.Inside.Sizes.{IsTable, IsRow};
 use crate::class_sizes::{Row, WEIGHTS, sizes_up_to};
 
 /// The largest of the sum classes of a length and a weight, the one of the least residue where there are more.
-#[derive(Clone, Copy, Debug)]
+#[derive(Clone, Copy)]
 pub struct LargestClass {
     /// The sum of the places of the ones of each of its words, modulo the length.
     pub residue: u32,

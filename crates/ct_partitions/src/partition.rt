@@ -9,11 +9,20 @@ use std::marker::Model;
 
 /// A code of a smaller distance that is put together from codes of an entry, its classes: two words of one class have
 /// the distance of the entry at least, two of different classes the distance between classes.
-#[derive(Debug, Drop)]
 pub struct Partition {
     entry: Entry,
     between: u32,
     classes: Vec<Vec<Word>>,
+}
+
+impl Drop for Partition {
+    fn drop(self) {
+        let Partition {
+            entry: _,
+            between: _,
+            classes: _,
+        } = self;
+    }
 }
 
 impl Model for Partition {

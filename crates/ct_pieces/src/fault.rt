@@ -6,7 +6,7 @@ use ct_text::Id;
 use std::alloc::AllocError;
 
 /// Why a piece is not withdrawn.
-#[derive(Clone, Copy, Debug)]
+#[derive(Clone, Copy)]
 pub enum WithdrawFault {
     /// No piece has the id.
     NoSuch,

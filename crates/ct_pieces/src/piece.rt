@@ -16,7 +16,6 @@ use std::alloc::{AllocError, Global};
 use std::marker::Model;
 
 /// A piece of evidence that was accepted under an id.
-#[derive(Drop)]
 pub struct Piece {
     id: Id,
     document: Text,
@@ -24,6 +23,19 @@ pub struct Piece {
     cites: Vec<Cite>,
     entry: Entry,
     size: Option<u32>,
+}
+
+impl Drop for Piece {
+    fn drop(self) {
+        let Piece {
+            id: _,
+            document: _,
+            evidence: _,
+            cites: _,
+            entry: _,
+            size: _,
+        } = self;
+    }
 }
 
 impl Model for Piece {

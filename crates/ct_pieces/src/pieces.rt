@@ -35,11 +35,20 @@ use std::marker::Model;
 
 /// The pieces of evidence that were accepted and not withdrawn, in the order in which they were accepted, without a table of what
 /// they give. Contracts see the list of the pieces. The code of a build is kept beside it, once its words were needed.
-#[derive(Drop)]
 pub struct Pieces {
     pieces: Vec<Piece>,
     kept: Vec<Option<Code>>,
     stored: u64,
+}
+
+impl Drop for Pieces {
+    fn drop(self) {
+        let Pieces {
+            pieces: _,
+            kept: _,
+            stored: _,
+        } = self;
+    }
 }
 
 impl Model for Pieces {

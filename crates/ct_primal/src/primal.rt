@@ -6,7 +6,7 @@ use std::marker::Model;
 /// A solution of Delsarte's linear program for the codes of an entry over a common scale (Delsarte 1973; MacWilliams and Sloane,
 /// chapter 17, section 4): numbers a_i / q in the place of the distance distribution of a code, where index 0 has 1. Contracts see the
 /// pairs as a list.
-#[derive(Debug, Drop)]
+#[derive(Drop)]
 pub struct Primal {
     /// The entry whose duals it lies below.
     pub entry: Entry,

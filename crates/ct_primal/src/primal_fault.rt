@@ -1,7 +1,7 @@
 //! Why a primal is refused.
 
 /// Why a primal is refused.
-#[derive(Clone, Copy, Debug, PartialEq, Eq)]
+#[derive(Clone, Copy)]
 pub enum PrimalFault {
     /// The scale is not above 0.
     Scale,

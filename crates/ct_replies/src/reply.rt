@@ -21,7 +21,7 @@ pub enum Refusal {
 }
 
 /// The bounds of an entry.
-#[derive(Clone, Copy, Debug)]
+#[derive(Clone, Copy)]
 pub struct Bounds {
     /// The entry.
     pub entry: Entry,

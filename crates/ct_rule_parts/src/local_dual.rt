@@ -17,7 +17,7 @@ use std::marker::Model;
 
 /// An accepted dual of an entry with a weight w, and for each index i where it allows more than 0 the bound `doubly` of the doubly
 /// constant codes of (w,i,n−w,i,d), worked out once. Contracts see the accepted dual.
-#[derive(Debug, Drop)]
+#[derive(Drop)]
 pub struct LocalDual {
     dual: AcceptedDual,
     doubly: Vec<u32>,

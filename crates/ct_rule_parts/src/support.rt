@@ -8,7 +8,7 @@ use ct_duals::AcceptedDual;
 use ct_entries::Entry;
 
 /// What a piece of evidence gives to the table.
-#[derive(Debug, Drop)]
+#[derive(Drop)]
 pub enum Support {
     /// Nothing by itself.
     Nothing,

@@ -6,7 +6,7 @@ ghost use Rattle.ct_rules.specs.Rule.{arguments_of, with_arguments};
 use crate::rule::Rule;
 
 /// What stands after the name of a rule.
-#[derive(Clone, Copy, Debug, PartialEq, Eq)]
+#[derive(Clone, Copy)]
 pub enum Arguments {
     /// Nothing.
     Nothing,

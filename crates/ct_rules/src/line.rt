@@ -7,7 +7,6 @@ use std::marker::Model;
 
 /// A line of a derivation: a claim, the rule that gives it, and the places, from 0, of the lines whose claims are the
 /// rule's premises, in their order.
-#[derive(Debug, Drop)]
 pub struct Line {
     /// What is claimed.
     pub claim: Claim,
@@ -15,6 +14,16 @@ pub struct Line {
     pub rule: Rule,
     /// The places of the lines that the rule rests on, each below the line's own. Up to two take no memory.
     pub from: SmallVec<usize, 2>,
+}
+
+impl Drop for Line {
+    fn drop(self) {
+        let Line {
+            claim: _,
+            rule: _,
+            from: _,
+        } = self;
+    }
 }
 
 impl Model for Line {

@@ -9,7 +9,7 @@ use ct_entries::Side;
 
 /// A rule of the table. Those whose name begins with L give lower bounds and those with U upper bounds of A(n,d); those with
 /// M give lower bounds and those with V upper bounds of A(n,d,w). docs/RULES.md has the source of each.
-#[derive(Clone, Copy, Debug, PartialEq, Eq)]
+#[derive(Clone, Copy, PartialEq, Eq)]
 pub enum Rule {
     /// A(n,d) ≥ 1: one word.
     L1,

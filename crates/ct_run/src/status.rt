@@ -1,7 +1,7 @@
 //! How a run of the program ends.
 
 /// How a run of the program ends.
-#[derive(Clone, Copy, Debug, PartialEq, Eq)]
+#[derive(Clone, Copy, Debug)]
 pub enum Status {
     /// The input was read to its end and each reply was written; none is a refusal.
     Done,

@@ -183,10 +183,4 @@ impl Run {
     {
         self.withdrawn
     }
-
-    /// Ends the run, and its ledger.
-    pub(crate) fn close(self) {
-        let Run { ledger, .. } = self;
-        ledger.close();
-    }
 }

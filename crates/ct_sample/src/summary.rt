@@ -14,7 +14,7 @@ use ct_text::put_spaced;
 use std::alloc::{AllocError, Global};
 
 /// What the commands of the sample leave.
-#[derive(Clone, Copy, Debug, PartialEq, Eq)]
+#[derive(Clone, Copy)]
 pub struct Summary {
     /// How many commands there were.
     pub commands: u32,
@@ -66,9 +66,7 @@ pub fn sample(alloc: Global, number: u32) -> Result<Summary, AllocError>
 {
     let entries = table_entries(alloc)?;
     let mut run = Run::new(alloc)?;
-    let summary = summary_after(alloc, number, &mut run, &entries);
-    run.close();
-    summary
+    summary_after(alloc, number, &mut run, &entries)
 }
 
 /// Puts a line at the end of the text: a name, a space and a number.

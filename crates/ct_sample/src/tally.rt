@@ -10,7 +10,7 @@ use ct_entries::Entry;
 use ct_table::Table;
 
 /// Entries of a table by their bounds.
-#[derive(Clone, Copy, Debug, PartialEq, Eq)]
+#[derive(Clone, Copy)]
 pub struct Tally {
     /// How many have equal bounds.
     pub equal: u32,

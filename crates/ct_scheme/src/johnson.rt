@@ -9,7 +9,7 @@ use ct_entries::Scheme;
 /// The Johnson scheme of length n, from 1 to `MAX_N`, and weight w, at most n (Delsarte 1973; MacWilliams and Sloane,
 /// chapter 21): its space is the words of length n and weight w, the index of two words is half their distance, its
 /// degree is the least of w and n - w, and its numbers are the Johnson numbers.
-#[derive(Clone, Copy, Debug, PartialEq, Eq)]
+#[derive(Clone, Copy)]
 pub struct Johnson {
     /// The length of the words, from 1 to `MAX_N`.
     pub n: u32,

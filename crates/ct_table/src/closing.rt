@@ -28,7 +28,7 @@ use std::marker::Model;
 
 /// What changes while a table is closed: what it keeps, the slots that are still to be looked at, and how often a rule's value
 /// was asked for.
-#[derive(Debug, Drop)]
+#[derive(Drop)]
 pub struct Closing {
     /// What the table keeps.
     pub kept: Kept,

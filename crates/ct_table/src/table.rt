@@ -24,12 +24,22 @@ use std::marker::Model;
 
 /// For each entry of the table the best bounds that derivations from its supports give, and a derivation of each. Contracts see
 /// the supports, the lines, and for each side of each entry its bound and the number of the line that is its reason.
-#[derive(Debug, Drop)]
 pub struct Table {
     supports: Vec<Support>,
     places: SupportPlaces,
     base: Base,
     closing: Closing,
+}
+
+impl Drop for Table {
+    fn drop(self) {
+        let Table {
+            supports: _,
+            places: _,
+            base: _,
+            closing: _,
+        } = self;
+    }
 }
 
 impl Model for Table {

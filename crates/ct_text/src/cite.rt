@@ -11,9 +11,14 @@ pub const MAX_CITE: usize = 200;
 
 /// A text that says where evidence comes from: 1 to `MAX_CITE` bytes, each of them a space or another printable character
 /// of ASCII, 32 to 126. Contracts see it as the list of its bytes.
-#[derive(Debug, Drop)]
 pub struct Cite {
     bytes: Vec<u8>,
+}
+
+impl Drop for Cite {
+    fn drop(self) {
+        let Cite { bytes: _ } = self;
+    }
 }
 
 impl Model for Cite {

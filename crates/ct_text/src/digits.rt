@@ -25,7 +25,7 @@ fn write_digits(digits: &mut [u8; MOST_DIGITS], number: u64) -> usize
 }
 
 /// The decimal digits of a number, which take no memory. Contracts see their bytes.
-#[derive(Debug, Drop)]
+#[derive(Drop)]
 pub struct Digits {
     bytes: [u8; MOST_DIGITS],
     // Where the first digit stands.

@@ -7,7 +7,7 @@ use crate::number::parse_number;
 use ct_entries::Entry;
 
 /// The numbers that a command names an entry by: `N D`, or `N D W` with a weight. They may be those of no entry of the table.
-#[derive(Clone, Copy, Debug, PartialEq, Eq)]
+#[derive(Clone, Copy)]
 pub struct EntryNumbers {
     /// The length.
     pub n: u64,

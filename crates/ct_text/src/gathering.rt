@@ -7,7 +7,7 @@ use crate::text::Text;
 use std::alloc::{AllocError, Global};
 
 /// How far a document goes.
-#[derive(Clone, Copy, Debug, PartialEq, Eq)]
+#[derive(Clone, Copy)]
 pub enum Extent {
     /// To a line `end`, which is not part of it.
     ToEnd,
@@ -16,7 +16,7 @@ pub enum Extent {
 }
 
 /// A document whose lines come in: how far it still goes, and its lines so far, each with its line feed.
-#[derive(Debug, Drop)]
+#[derive(Drop)]
 pub struct Gathering {
     /// How far it still goes.
     pub extent: Extent,
@@ -25,7 +25,7 @@ pub struct Gathering {
 }
 
 /// A document after one more line.
-#[derive(Debug, Drop)]
+#[derive(Drop)]
 pub enum Gathered {
     /// It goes on.
     More(Gathering),

@@ -11,7 +11,7 @@ pub const MAX_ID: usize = 32;
 
 /// The name of a piece: 1 to 32 bytes, a lower-case letter first, then lower-case letters, digits,
 /// `-` or `_`. Contracts see it as the list of its bytes.
-#[derive(Clone, Copy, Debug)]
+#[derive(Clone, Copy)]
 pub struct Id {
     // The text, and zeros after it.
     bytes: [u8; MAX_ID],

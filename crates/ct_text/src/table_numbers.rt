@@ -9,7 +9,7 @@ use ct_entries::Entry;
 
 /// The numbers that a command names a part of the table by: `D`, or `D W` with a weight. They may be those of no entry of
 /// the table.
-#[derive(Clone, Copy, Debug, PartialEq, Eq)]
+#[derive(Clone, Copy)]
 pub struct TableNumbers {
     /// The distance.
     pub d: u64,

@@ -6,7 +6,7 @@ ghost use Rattle.ct_verify.specs.Heading.{lines_extent, heading_with, heading_of
 use ct_text::{Extent, Id, parse_number};
 
 /// The first line of a block of evidence.
-#[derive(Clone, Copy, Debug)]
+#[derive(Clone, Copy)]
 pub struct Heading {
     /// The id under which the document is submitted.
     pub id: Id,

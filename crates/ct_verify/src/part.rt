@@ -3,7 +3,7 @@
 use ct_text::{Gathering, Id};
 
 /// A block of evidence that is not whole.
-#[derive(Debug, Drop)]
+#[derive(Drop)]
 pub struct Block {
     /// The text line on which it began, counted from 1.
     pub line: usize,

@@ -13,7 +13,7 @@ use std::alloc::{AllocError, Global};
 use std::marker::Model;
 
 /// A line of a derivation, as it is stated.
-#[derive(Debug, Drop)]
+#[derive(Drop)]
 pub struct StatedLine {
     /// Its number.
     pub number: u64,

@@ -12,7 +12,7 @@ use ct_rules::{Arguments, Rule, arguments_of, rule_named, with_arguments, with_p
 use ct_text::{Id, parse_number};
 
 /// A rule with its arguments, as the words of a line state it.
-#[derive(Clone, Copy, Debug)]
+#[derive(Clone, Copy)]
 pub struct StatedRule {
     /// The rule. Where it names a piece, the place is not said.
     pub rule: Rule,

@@ -6,9 +6,14 @@ use std::marker::Model;
 
 /// Values in the order in which they were handed in, repeats included: words, places of a word, digits, numbers. Contracts
 /// see the list of them.
-#[derive(Debug, Drop)]
 pub struct Listed<T> {
     values: Vec<T>,
+}
+
+impl<T: Drop> Drop for Listed<T> {
+    fn drop(self) {
+        let Listed { values: _ } = self;
+    }
 }
 
 impl<T> Model for Listed<T> {

@@ -12,7 +12,7 @@ use std::alloc::{AllocError, Global};
 use std::marker::Model;
 
 /// For each side of each entry of the table, by its number, a bound. Contracts see the bounds in a row.
-#[derive(Debug, Drop)]
+#[derive(Drop)]
 pub struct Bounds {
     bounds: Vec<u32>,
 }

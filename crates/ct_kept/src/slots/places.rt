@@ -15,7 +15,7 @@ use std::marker::Model;
 /// For each place of a list of supports the entry of the table that it stands for: the one to which the support gave something
 /// when it was put there. The places of one entry are found from the last to the first, without a look at the others. Contracts
 /// see the entries.
-#[derive(Debug, Drop)]
+#[derive(Drop)]
 pub struct SupportPlaces {
     entries: Vec<Option<Entry>>,
     before: Vec<Option<u32>>,

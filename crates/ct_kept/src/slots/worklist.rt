@@ -15,7 +15,7 @@ use std::marker::Model;
 
 /// The slots that are still to be looked at, sides of entries of the table. Contracts see which are marked, and the order in
 /// which they will be taken: first in, first out.
-#[derive(Debug, Drop)]
+#[derive(Drop)]
 pub struct Worklist {
     marks: Vec<bool>,
     queue: VecDeque<(Side, Entry)>,

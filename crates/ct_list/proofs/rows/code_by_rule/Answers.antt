@@ -64,8 +64,8 @@ both-first-requires-in-L11 c = as_many (supports_of c.args.ledger.now.pieces) c.
 
 pub returns-in-L6-clause-code : goal.returns-in-L6-clause-code
 returns-in-L6-clause-code c =
-    let made = c.puncture-in-L6.ensures in
-    punctured_made (supports_of c.args.ledger.now.pieces) c.args.rule c.args.entry c.args.codes.items c.only-in-L6.result c.puncture-in-L6.result
+    let made = c.puncture.ensures in
+    punctured_made (supports_of c.args.ledger.now.pieces) c.args.rule c.args.entry c.args.codes.items c.only-in-L6.result c.puncture.result
     c.in-L6.is c.requires.parts c.only-in-L6.ensures made.n made.d made.w made.words
 
 pub returns-in-L8-2-clause-code : goal.returns-in-L8-2-clause-code
@@ -83,6 +83,6 @@ returns-in-L11-clause-code c =
 
 pub returns-in-M7-clause-code : goal.returns-in-M7-clause-code
 returns-in-M7-clause-code c =
-    let made = c.complement-in-M7.ensures in
-    complemented_made (supports_of c.args.ledger.now.pieces) c.args.rule c.args.entry c.args.codes.items c.only-in-M7.result c.complement-in-M7.result
+    let made = c.complement.ensures in
+    complemented_made (supports_of c.args.ledger.now.pieces) c.args.rule c.args.entry c.args.codes.items c.only-in-M7.result c.complement.result
     c.in-M7.is c.requires.parts c.only-in-M7.ensures made.n made.d made.w made.words

@@ -10,6 +10,6 @@ use Rattle.ct_rule_parts.proofs.local_dual.LocalDual.new.Goals as goal
 pub doubly_uppers-requires-clause-indices : goal.doubly_uppers-requires-clause-indices
 doubly_uppers-requires-clause-indices c =
     let d = c.args.dual.dual in
-    let pairs = c.as_slice.ensures ∙ ap (λ (e : Dual). e.y) c.dual-2.ensures.value in
+    let pairs = c.as_slice.ensures ∙ ap (λ (e : Dual). e.y) c.dual.ensures.value in
     subst (λ (e : Entry). All (λ (p : ℕ × ℤ). p.0 ≤ degree_of e) c.as_slice.result.now) (sym c.entry.ensures.value)
-    (subst (λ (y : List (ℕ × ℤ)). All (λ (p : ℕ × ℤ). p.0 ≤ degree_of d.entry) y) (sym pairs) (indices_within d c.dual-2.ensures.accepted.form))
+    (subst (λ (y : List (ℕ × ℤ)). All (λ (p : ℕ × ℤ). p.0 ≤ degree_of d.entry) y) (sym pairs) (indices_within d c.dual.ensures.accepted.form))
