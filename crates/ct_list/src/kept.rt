@@ -14,7 +14,7 @@ use std::alloc::{AllocError, Global};
 fn is_among(places: &[usize], place: usize) -> bool
     ensures { result ≡ is_among places.now place }
 {
-    places.iter().any(|other| *other == place)
+    places.contains(&place)
 }
 
 /// Whether one of the lines names the place.

@@ -11,7 +11,10 @@ pub fn first(values: &[u32]) -> u64
     ensures value { result ≡ first values.now }
     ensures small { result < 2 ^ 32 }
 {
-    values.first().map_or(0, |value| u64::from(*value))
+    match values.first() {
+        Some(value) => u64::from(*value),
+        None => 0,
+    }
 }
 
 /// The second of the values, 0 where there is none.
@@ -19,7 +22,10 @@ pub fn second(values: &[u32]) -> u64
     ensures value { result ≡ second values.now }
     ensures small { result < 2 ^ 32 }
 {
-    values.get(1).map_or(0, |value| u64::from(*value))
+    match values.get(1) {
+        Some(value) => u64::from(*value),
+        None => 0,
+    }
 }
 
 /// The number as a bound of the side: a lower one above `MAX_BOUND` is none, an upper one is taken as `MAX_BOUND`.
