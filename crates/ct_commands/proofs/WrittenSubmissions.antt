@@ -7,12 +7,13 @@ use Rattle.ct_io.specs.declared.TheConstants.{LINE_FEED}
 use Rattle.ct_io.specs.Lines.{lines_of}
 use Rattle.ct_io.proofs.LinesLemmas.{is_feed, IsFilled, IsFilled-slice_split, lines_of-next}
 use Rattle.ct_text.specs.Id.{is_id}
+use Rattle.ct_text.specs.DocumentLines.{line_count}
 use Rattle.ct_text.specs.Number.{number_of}
 use Rattle.ct_text.specs.declared.gathering.Extent.TheVariants.{Lines}
 use Rattle.ct_text.proofs.Decimals.{printed_is_read}
 use Rattle.ct_commands.specs.Form.{form_of, words_form, lines_form}
 use Rattle.ct_commands.specs.Command.{commands_of}
-use Rattle.ct_commands.specs.Submission.{line_count, submission_text}
+use Rattle.ct_commands.specs.Submission.{submission_text}
 use Rattle.ct_commands.specs.declared.form.Form.TheVariants.{Submit}
 use Rattle.ct_commands.specs.declared.command.Command.TheVariants as command
 use Rattle.ct_commands.proofs.SpacedWords.{AreWords, spaced_words, known_word, decimal_word, id_is_word, IsLine-words, words_again}

@@ -9,4 +9,4 @@ mod submission;
 pub use command::Command;
 pub use command_reader::{CommandReader, Pending};
 pub use form::{Form, read_form};
-pub use submission::{line_count, put_submission, submission_parts};
+pub use submission::{put_submission, submission_parts};

@@ -3,18 +3,11 @@
 ghost use Rattle.std.specs.Prelude.{◌≡◌, ◌++◌, OnOk};
 ghost use Rattle.std.specs.Fmt.{decimal};
 ghost use Rattle.std.specs.List.{flat_map};
-ghost use Rattle.ct_commands.specs.Submission.{line_count, submission_text};
+ghost use Rattle.ct_text.specs.DocumentLines.{line_count};
+ghost use Rattle.ct_commands.specs.Submission.{submission_text};
 
-use ct_io::LINE_FEED;
-use ct_text::Digits;
+use ct_text::{Digits, line_count};
 use std::alloc::AllocError;
-
-/// How many lines a document has: one more than its line feeds.
-pub fn line_count(document: &[u8]) -> u64
-    ensures { result ≡ line_count document.now }
-{
-    document.iter().filter(|byte| **byte == LINE_FEED).count() as u64 + 1
-}
 
 /// The parts of the submission of the document under the id, one after the other; these are the digits of its number of lines.
 pub fn submission_parts<'a>(id: &'a [u8], count: &'a [u8], document: &'a [u8]) -> [&'a [u8]; 7]

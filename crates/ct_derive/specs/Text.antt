@@ -1,10 +1,11 @@
 -- The text of derivations.
-use Rattle.std.specs.Prelude.{ℕ, ◌+◌, ◌==◌, List, [], ◌∷◌, ◌++◌, count_by, map, slice_get, Option, Some, None, codes}
+use Rattle.std.specs.Prelude.{ℕ, ◌+◌, List, [], ◌∷◌, ◌++◌, map, slice_get, Option, Some, None, codes}
 use Rattle.std.specs.List.{flat_map}
 use Rattle.ct_io.specs.declared.TheConstants.{LINE_FEED}
 use Rattle.ct_entries.specs.declared.claim.Claim.{Claim}
 use Rattle.ct_entries.specs.declared.claim.Side.{Side}
 use Rattle.ct_entries.specs.declared.claim.Side.TheVariants.{Lower, Upper}
+use Rattle.ct_text.specs.DocumentLines.{line_count}
 use Rattle.ct_text.specs.Number.{spaced}
 use Rattle.ct_text.specs.EntryText.{entry_words}
 use Rattle.ct_rules.specs.declared.arguments.Arguments.{Arguments}
@@ -59,13 +60,9 @@ abbrev pub lines_text : List (List ℕ) → ℕ → List LineValue → List ℕ
 lines_text ids number [] = []
 lines_text ids number (l ∷ ls) = line_text ids number l ++ lines_text ids (number + 1) ls
 
--- how many lines a document has: one more than its line feeds
-abbrev pub document_lines : List ℕ → ℕ
-document_lines document = count_by (λ b. b == LINE_FEED) document + 1
-
 -- a block of evidence: `evidence ID lines K`, and the document
 abbrev pub evidence_text : List ℕ → List ℕ → List ℕ
-evidence_text id document = codes "evidence " ++ id ++ codes " lines" ++ spaced (document_lines document) ++ LINE_FEED ∷ [] ++ document ++ LINE_FEED ∷ []
+evidence_text id document = codes "evidence " ++ id ++ codes " lines" ++ spaced (line_count document) ++ LINE_FEED ∷ [] ++ document ++ LINE_FEED ∷ []
 
 -- the block of the piece at a place, where there is one, and its id and its document are these
 abbrev pub block_text : {X : Type 0} → (X → List ℕ) → (X → List ℕ) → Option X → List ℕ

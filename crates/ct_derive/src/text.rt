@@ -5,12 +5,12 @@ ghost use Rattle.std.specs.List.{flat_map};
 ghost use Rattle.ct_text.specs.Number.{spaced};
 ghost use Rattle.ct_derive.specs.Check.{numbers_at};
 ghost use Rattle.ct_derive.specs.Derivation.{AreOrdered};
-ghost use Rattle.ct_derive.specs.Text.{id_word, argument_words, rule_words, side_text, claim_words, from_words, reason_words, line_text, lines_text, document_lines, evidence_text};
+ghost use Rattle.ct_derive.specs.Text.{id_word, argument_words, rule_words, side_text, claim_words, from_words, reason_words, line_text, lines_text, evidence_text};
 
 use ct_entries::{Claim, Side};
 use ct_io::LINE_FEED;
 use ct_rules::{Arguments, Line, Rule, arguments_of, rule_name};
-use ct_text::{Id, put_entry_words, put_number, put_spaced};
+use ct_text::{Id, line_count, put_entry_words, put_number, put_spaced};
 use std::alloc::{AllocError, Global};
 
 /// Puts a space and the id at the place, where there is one, at the end of the text.
@@ -174,13 +174,6 @@ pub(crate) fn put_lines(
     Ok(())
 }
 
-/// How many lines a document has: one more than its line feeds.
-fn document_lines(document: &[u8]) -> u64
-    ensures { result ≡ document_lines document.now }
-{
-    document.iter().filter(|byte| **byte == LINE_FEED).count() as u64 + 1
-}
-
 /// Puts a block of evidence at the end of the text.
 pub(crate) fn put_evidence(
     alloc: Global,
@@ -193,7 +186,7 @@ pub(crate) fn put_evidence(
     text.extend_from_slice(b"evidence ")?;
     text.extend_from_slice(id.text())?;
     text.extend_from_slice(b" lines")?;
-    put_spaced(alloc, text, document_lines(document))?;
+    put_spaced(alloc, text, line_count(document))?;
     text.push(LINE_FEED)?;
     text.extend_from_slice(document)?;
     text.push(LINE_FEED)?;

@@ -12,6 +12,7 @@ use Rattle.ct_io.proofs.LinesLemmas.{is_feed, IsFilled, IsFilled-slice_split, li
 use Rattle.ct_text.specs.Id.{is_id}
 use Rattle.ct_text.specs.Number.{spaced}
 use Rattle.ct_text.specs.Gathering.{less_last, with_line}
+use Rattle.ct_text.specs.DocumentLines.{line_count}
 use Rattle.ct_text.specs.declared.gathering.Extent.TheVariants.{Lines}
 use Rattle.ct_text.proofs.Decimals.{printed_is_read}
 use Rattle.ct_fields.specs.declared.document.TheConstants.{MAX_DOCUMENT}
@@ -21,7 +22,7 @@ use Rattle.ct_pieces.specs.Standing.{AreStanding}
 use Rattle.ct_commands.proofs.DocumentLines.{front, joined, grouped, lines_of-document, regrouped}
 use Rattle.ct_pieces.proofs.Accepting.{made_again}
 use Rattle.ct_pieces.proofs.StandingLemmas.{submitted-from}
-use Rattle.ct_derive.specs.Text.{document_lines, evidence_text}
+use Rattle.ct_derive.specs.Text.{evidence_text}
 use Rattle.ct_verify.specs.Heading.{lines_extent, heading_with, heading_of}
 use Rattle.ct_verify.specs.Read.{ReadingValue}
 use Rattle.ct_verify.specs.Reading.{after_block, read_heading, read_body, read_next}
@@ -109,7 +110,7 @@ heading_step pieces id count k named some small =
 pub piece_verified : (pieces : List PieceValue) (p : PieceValue) (rest : List ℕ) → is_id p.id ≡ true → length p.document ≤ MAX_DOCUMENT → submitted pieces p.id p.document ≡ Ok p
     → IsVerified (in_body (pieces ++ p ∷ []) []) (lines_of rest) → IsVerified (in_body pieces []) (lines_of (evidence_text p.id p.document ++ rest))
 piece_verified pieces p rest named short made later =
-    let count = document_lines p.document in
+    let count = line_count p.document in
     let feeds = count_by-le-length is_feed p.document in
     let some : 0 < count = omega arith in
     let small : count < 2 ^ 64 = omega (arith, short, feeds) in

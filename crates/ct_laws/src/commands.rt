@@ -7,11 +7,12 @@ ghost use Rattle.ct_entries.specs.declared.claim.Side.TheVariants.{Lower, Upper}
 ghost use Rattle.ct_io.specs.Lines.{lines_of};
 ghost use Rattle.ct_text.specs.Id.{is_id};
 ghost use Rattle.ct_text.specs.Gathering.{is_end};
+ghost use Rattle.ct_text.specs.DocumentLines.{line_count};
 ghost use Rattle.ct_text.specs.declared.gathering.Extent.{Extent};
 ghost use Rattle.ct_text.specs.declared.gathering.Extent.TheVariants.{ToEnd, Lines};
 ghost use Rattle.ct_commands.specs.Form.{form_of};
 ghost use Rattle.ct_commands.specs.Command.{commands_of};
-ghost use Rattle.ct_commands.specs.Submission.{line_count, submission_text};
+ghost use Rattle.ct_commands.specs.Submission.{submission_text};
 ghost use Rattle.ct_commands.specs.declared.form.Form.TheVariants.{Nothing, Submit, Whole};
 ghost use Rattle.ct_commands.specs.declared.command.Command.{Command};
 ghost use Rattle.ct_commands.specs.declared.command.Command.TheVariants as command;

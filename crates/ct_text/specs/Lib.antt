@@ -1,5 +1,6 @@
 pub mod Growing
 pub mod Line
+pub mod DocumentLines
 pub mod Number
 pub mod Id
 pub mod Cite

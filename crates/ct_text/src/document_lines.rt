@@ -1,0 +1,13 @@
+//! How many lines a document has.
+
+ghost use Rattle.std.specs.Prelude.{◌≡◌};
+ghost use Rattle.ct_text.specs.DocumentLines.{line_count};
+
+use ct_io::LINE_FEED;
+
+/// How many lines a document has: one more than its line feeds.
+pub fn line_count(document: &[u8]) -> u64
+    ensures { result ≡ line_count document.now }
+{
+    document.iter().filter(|byte| **byte == LINE_FEED).count() as u64 + 1
+}
