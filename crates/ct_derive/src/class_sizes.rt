@@ -2,9 +2,9 @@
 
 ghost use Rattle.std.specs.Prelude.{◌≡◌, ◌<◌, ◌≤◌, length, IfOk, IfSome};
 ghost use Rattle.ct_words.specs.declared.limits.TheConstants.{MAX_N};
-ghost use Rattle.ct_partitions.specs.SumClass.{sum_class};
+ghost use Rattle.ct_sum_classes.specs.SumClass.{sum_class};
 
-use ct_partitions::sum_class_sizes;
+use ct_sum_classes::sum_class_sizes;
 use ct_words::MAX_N;
 use std::alloc::{AllocError, Global};
 use std::marker::Model;
@@ -19,7 +19,7 @@ struct WeightSizes {
 
 impl Model for WeightSizes {
     ghost use Rattle.std.specs.Prelude.{ℕ, ◌≡◌, ◌<◌, length, slice_index};
-    ghost use Rattle.ct_partitions.specs.SumClass.{sum_class};
+    ghost use Rattle.ct_sum_classes.specs.SumClass.{sum_class};
 
     ghost Value = { ℕ × ℕ };
 

@@ -12,9 +12,9 @@ use Rattle.ct_entries.specs.declared.entry.Entry.{Entry}
 use Rattle.ct_entries.specs.Claim.{IsTrueClaim}
 use Rattle.ct_entries.specs.Entry.{IsEntry, unrestricted, constant_weight}
 use Rattle.ct_entries.proofs.EntryLemmas.{entry_limits}
-use Rattle.ct_partitions.specs.declared.largest_class.LargestClass.{LargestClass}
-use Rattle.ct_partitions.specs.SumClass.{sum_class, largest_class}
-use Rattle.ct_partitions.proofs.LargestLemmas.{largest_class-within, largest_class-most, sum_class-few}
+use Rattle.ct_sum_classes.specs.declared.largest_class.LargestClass.{LargestClass}
+use Rattle.ct_sum_classes.specs.SumClass.{sum_class, largest_class}
+use Rattle.ct_sum_classes.proofs.LargestLemmas.{largest_class-within, largest_class-most, sum_class-few}
 use Rattle.ct_weight_rules.specs.GrahamSloane.{sum_class_size}
 use Rattle.ct_weight_rules.proofs.LawfulGrahamSloane.{class_given, class_defined}
 use Rattle.ct_rule_parts.specs.Parts.{RuleParts, has_weight, weight_of, is_defined, slots_on, within_limit}

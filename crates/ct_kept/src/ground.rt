@@ -20,9 +20,9 @@ ghost use Rattle.ct_kept.specs.Inside.Ground.{class_of, AreLargest, GivesGround,
 use crate::slots::is_better;
 use ct_elementary::{plotkin, sphere_packing};
 use ct_entries::{Claim, Entry, Side};
-use ct_partitions::LargestClass;
 use ct_rule_parts::within_limit;
 use ct_rules::{Line, Rule, value};
+use ct_sum_classes::LargestClass;
 use ct_weight_rules::{below_too_many, count_of_disjoint, has_disjoint_words, has_no_far_words};
 use ct_words::binomial;
 use smallvec::SmallVec;

@@ -4,7 +4,7 @@ ghost use Rattle.std.specs.Prelude.{◌≤◌};
 
 use crate::build_parts::shows;
 use ct_entries::Code;
-use ct_partitions::{sum_class_count, sum_class_list};
+use ct_sum_classes::{sum_class_count, sum_class_list};
 use ct_words::{MAX_N, Word};
 use std::alloc::Global;
 use std::process::Abort;

@@ -5,8 +5,3 @@ pub mod PairFaults
 pub mod PartitionFaults
 pub mod ProductCodes
 pub mod ProductLemmas
-pub mod PlaceSums
-pub mod SumClasses
-pub mod SizeLemmas
-pub mod LargestLemmas
-pub mod ListingLemmas

@@ -1,5 +1,3 @@
 -- Words that the contracts of inner functions alone cite.
 pub mod Rows
 pub mod Pairs
-pub mod Sizes
-pub mod Listing

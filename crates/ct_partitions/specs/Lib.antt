@@ -2,4 +2,3 @@ pub mod Partition
 pub mod Check
 pub mod Product
 pub mod Inside
-pub mod SumClass

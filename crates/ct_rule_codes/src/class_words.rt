@@ -6,7 +6,7 @@ ghost use Rattle.ct_rule_codes.specs.CodeEntry.{entry_of_code};
 ghost use Rattle.ct_weight_rules.specs.GrahamSloane.{graham_sloane};
 
 use ct_entries::{Code, Entry};
-use ct_partitions::sum_class_list;
+use ct_sum_classes::sum_class_list;
 use std::alloc::{AllocError, Global};
 
 /// The words of the length and the weight of the entry, which is in the table, the places of whose ones add up to r modulo the

@@ -6,10 +6,10 @@ use Rattle.std.proofs.lemmas.Bool.{cases_eq}
 use Rattle.std.proofs.Math.Nat.{mod-lt}
 use Rattle.ct_words.specs.Counting.Binomials.{choose}
 use Rattle.ct_words.specs.Word.{weight}
-use Rattle.ct_partitions.specs.SumClass.{place_sum, sum_class}
-use Rattle.ct_partitions.specs.Inside.Sizes.{size_of}
-use Rattle.ct_partitions.proofs.SumClasses.{class_of_word}
-use Rattle.ct_partitions.proofs.SizeLemmas.{size-none_more, size-more, size-empty, size-empty_other, size-empty_more, size-is}
+use Rattle.ct_sum_classes.specs.SumClass.{place_sum, sum_class}
+use Rattle.ct_sum_classes.specs.Inside.Sizes.{size_of}
+use Rattle.ct_sum_classes.proofs.SumClasses.{class_of_word}
+use Rattle.ct_sum_classes.proofs.SizeLemmas.{size-none_more, size-more, size-empty, size-empty_other, size-empty_more, size-is}
 
 -- whether a test holds of each number below a limit
 each_below : (ℕ → Bool) → ℕ → Bool

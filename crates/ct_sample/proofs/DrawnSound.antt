@@ -11,7 +11,7 @@ use Rattle.ct_entries.specs.Entry.{IsEntry, unrestricted, constant_weight}
 use Rattle.ct_entries.proofs.EntryLemmas.{WeightFits, entry_limits, entry_from_limits}
 use Rattle.ct_build.specs.Build.{FieldsFit}
 use Rattle.ct_build.specs.declared.step.Step.TheVariants.{Lengthen}
-use Rattle.ct_partitions.proofs.SumClasses.{sum_class-below}
+use Rattle.ct_sum_classes.proofs.SumClasses.{sum_class-below}
 use Rattle.ct_kind.specs.declared.evidence.Evidence.{Evidence}
 use Rattle.ct_files.specs.Evidence.{IsSound}
 use Rattle.ct_pieces.specs.Piece.{PieceValue}

@@ -9,7 +9,7 @@ use ct_duals::{Allowances, Dual, Multipliers};
 use ct_entries::Entry;
 use ct_kind::Evidence;
 use ct_ledger::Piece;
-use ct_partitions::sum_class_list;
+use ct_sum_classes::sum_class_list;
 use ct_text::Id;
 use ct_words::{Listed, Word};
 use std::alloc::{AllocError, Global};

@@ -7,8 +7,8 @@ use Rattle.ct_entries.specs.declared.claim.Side.TheVariants.{Lower}
 use Rattle.ct_entries.specs.declared.entry.Entry.{Entry}
 use Rattle.ct_entries.specs.Code.{IsTrueLower}
 use Rattle.ct_entries.specs.Entry.{constant_weight}
-use Rattle.ct_partitions.specs.SumClass.{sum_class}
-use Rattle.ct_partitions.proofs.SumClasses.{IsCode-sum_class}
+use Rattle.ct_sum_classes.specs.SumClass.{sum_class}
+use Rattle.ct_sum_classes.proofs.SumClasses.{IsCode-sum_class}
 use Rattle.ct_rule_parts.specs.declared.support.Support.{Support}
 use Rattle.ct_rule_parts.specs.Parts.{has_weight, weight_of}
 use Rattle.ct_rule_parts.proofs.Lawful.{IsLawful, IsTrueNumber, no_worse-same}

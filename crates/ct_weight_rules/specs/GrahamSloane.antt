@@ -3,7 +3,7 @@
 use Rattle.std.specs.Prelude.{ℕ, ◌==◌, ◌&&◌, nat_lt, if◌then◌else◌, [], length, is_some, Option, Some, None}
 use Rattle.ct_entries.specs.declared.claim.Side.TheVariants.{Lower}
 use Rattle.ct_entries.specs.declared.entry.Entry.{Entry}
-use Rattle.ct_partitions.specs.SumClass.{sum_class}
+use Rattle.ct_sum_classes.specs.SumClass.{sum_class}
 use Rattle.ct_rule_parts.specs.Parts.{RuleParts, has_weight, weight_of}
 
 -- how many words the sum class r of the length and the weight of an entry of distance 4 has, where there is such a class and it has a word

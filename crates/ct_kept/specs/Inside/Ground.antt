@@ -1,8 +1,8 @@
 -- The best bound of a slot among those of the rules that rest on nothing.
 use Rattle.std.specs.Prelude.{◌≡◌, ℕ, ◌≤◌, if◌then◌else◌, List, [], ◌∷◌, length, slice_get, Some}
 use Rattle.ct_entries.specs.declared.claim.Side.TheVariants.{Lower, Upper}
-use Rattle.ct_partitions.specs.declared.largest_class.LargestClass.{LargestClass}
-use Rattle.ct_partitions.specs.SumClass.{sum_class, largest_class}
+use Rattle.ct_sum_classes.specs.declared.largest_class.LargestClass.{LargestClass}
+use Rattle.ct_sum_classes.specs.SumClass.{sum_class, largest_class}
 use Rattle.ct_rule_parts.specs.Parts.{has_weight}
 use Rattle.ct_rule_parts.specs.Slot.{Slot, slot_of, IsNoBetter}
 use Rattle.ct_rules.specs.declared.rule.Rule.{Rule}

@@ -3,7 +3,7 @@
 ghost use Rattle.std.specs.Prelude.{◌≡◌, ◌↔◌, ℕ, ◌%◌, ◌^◌, ◌<◌, [], ◌∷◌, Some, Contains};
 ghost use Rattle.ct_words.specs.Word.{weight};
 ghost use Rattle.ct_entries.specs.Code.{IsCode};
-ghost use Rattle.ct_partitions.specs.SumClass.{place_sum, sum_class, largest_class};
+ghost use Rattle.ct_sum_classes.specs.SumClass.{place_sum, sum_class, largest_class};
 
 /// A sum class is a code of distance 4: two words of one weight at distance 2 have a one each where the other has a zero,
 /// at different places, and so their sums differ by less than the length (Graham and Sloane 1980).

@@ -1,6 +1,6 @@
 use Rattle.std.proofs.Common.{refl}
 use Rattle.ct_words.specs.Word.{weight}
-use Rattle.ct_partitions.specs.SumClass.{place_sum}
+use Rattle.ct_sum_classes.specs.SumClass.{place_sum}
 use Rattle.ct_laws.proofs.math.sum_classes.known_sum_classes.Goals as goal
 
 pub returns : goal.returns

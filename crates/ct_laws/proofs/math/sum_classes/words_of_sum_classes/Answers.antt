@@ -1,4 +1,4 @@
-use Rattle.ct_partitions.proofs.SumClasses.{word_of_class, class_of_word}
+use Rattle.ct_sum_classes.proofs.SumClasses.{word_of_class, class_of_word}
 use Rattle.ct_laws.proofs.math.sum_classes.words_of_sum_classes.Goals as goal
 
 pub returns : goal.returns

@@ -1,4 +1,0 @@
-use Rattle.ct_partitions.proofs.class_listing.+append_words.Given as goal
-
-abbrev pub decreases-append_words : goal.decreases-append_words
-decreases-append_words l = l.m

@@ -1,0 +1,4 @@
+use Rattle.ct_sum_classes.proofs.class_listing.+append_words.Given as goal
+
+abbrev pub decreases-append_words : goal.decreases-append_words
+decreases-append_words l = l.m
