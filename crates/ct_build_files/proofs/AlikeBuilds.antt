@@ -3,11 +3,11 @@ use Rattle.std.proofs.Common.{◌≡◌, ℕ, List, Option, Some, Ok, refl, ap, 
 use Rattle.toml.specs.Data.{Data, table, Members}
 use Rattle.ct_entries.specs.declared.entry.Entry.{Entry}
 use Rattle.ct_build.specs.declared.step.Step.{Step}
-use Rattle.ct_fields.specs.Steps.{◌>>=◌, check}
+use Rattle.ct_fields.specs.Steps.{check}
 use Rattle.ct_fields.specs.LastFields.{last_fields}
 use Rattle.ct_fields.specs.HasCites.{HasLast}
 use Rattle.ct_fields.specs.declared.field.FieldName.TheVariants as name
-use Rattle.ct_fields.specs.declared.fault.DocumentFault.TheVariants.{Field, Digits}
+use Rattle.ct_fields.specs.declared.fault.DocumentFault.TheVariants.{Field}
 use Rattle.ct_kind.specs.declared.evidence.Evidence.TheVariants.{Build}
 use Rattle.ct_build_files.specs.BuildEntry.{build_entry_of}
 use Rattle.ct_build_files.specs.Operation.{operation_of, makes_length, takes_weight, build_fields}

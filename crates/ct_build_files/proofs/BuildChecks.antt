@@ -1,5 +1,5 @@
 -- The reasons against a build in their order, and its size, where the parameters of its parts tell them.
-use Rattle.std.proofs.Common.{◌≡◌, ℕ, List, ◌∷◌, length, Option, Some, None, option_map, ap, subst, ◌∙◌, sym}
+use Rattle.std.proofs.Common.{◌≡◌, ℕ, List, ◌∷◌, length, Option, Some, None, option_map, ap, subst, sym}
 use Rattle.std.specs.Prelude.{IfSome, OnSome}
 use Rattle.std.specs.Option.{option_to_list}
 use Rattle.ct_entries.specs.declared.entry.Entry.{Entry}
@@ -8,7 +8,7 @@ use Rattle.ct_entries.specs.Pairs.{first_of}
 use Rattle.ct_build.specs.declared.fault.BuildFault.{BuildFault}
 use Rattle.ct_build.specs.declared.shape.Shape.{Shape}
 use Rattle.ct_build.specs.declared.step.Step.{Step}
-use Rattle.ct_build.specs.Build.{shape_of, built, result_size, told_fault}
+use Rattle.ct_build.specs.Build.{shape_of, result_size, told_fault}
 use Rattle.ct_build.proofs.BuildFaults.{result_size-is, fault_of_shapes, none_of_shapes}
 use Rattle.ct_kind.specs.Named.{NamedCode, first_missing, code_named, other_named}
 use Rattle.ct_kind.specs.KindParts.{kind_reason}

@@ -1,8 +1,8 @@
 -- Where each fault of a document of kind build comes.
 use Rattle.std.proofs.Common.{◌≡◌, ◌≢◌, ℕ, ◌+◌, ◌<◌, Bool, true, false, List, length, map, codes, All, Option, Some, None, option_map, Result, Ok, Err, ok_or, inl, inr, refl, sym, ap, ◌∙◌, subst}
-use Rattle.std.specs.Prelude.{◌↔◌, IsSome, if◌then◌else◌}
+use Rattle.std.specs.Prelude.{◌↔◌, if◌then◌else◌}
 use Rattle.std.proofs.lemmas.Bool.{cases_Bool}
-use Rattle.toml.specs.Data.{Data, table, Members, get, as_str}
+use Rattle.toml.specs.Data.{Data, table, Members, as_str}
 use Rattle.ct_words.specs.Text.{word_of}
 use Rattle.ct_words.proofs.TextLemmas.{word_of-word_text, word_from_text}
 use Rattle.ct_entries.specs.declared.entry.Entry.{Entry}

@@ -1,5 +1,5 @@
 -- Which documents are accepted as a build.
-use Rattle.std.specs.Prelude.{◌≡◌, ℕ, pos, ◌+◌, true, false, List, map, Option, Some, None, IsSome, IsTrue, ⊤, codes}
+use Rattle.std.specs.Prelude.{◌≡◌, ℕ, pos, ◌+◌, true, false, List, map, Option, Some, None, IsTrue, ⊤, codes}
 use Rattle.toml.specs.Data.{Data, string, integer, array, get}
 use Rattle.toml.specs.View.{items_of}
 use Rattle.ct_words.specs.Text.{word_text}

@@ -1,6 +1,6 @@
 -- The bound of an accepted dual is true, by the laws of a scheme alone.
 use Rattle.std.proofs.Common.{◌≡◌, ℕ, suc, ◌+◌, ◌*◌, ◌/◌, ◌%◌, ◌^◌, ◌<◌, ◌≤◌, Bool, true, false, not, ◌==◌, ◌&&◌, ◌||◌, List, [], ◌∷◌, length, get_or, refl, sym, ap, ap₂, ◌∙◌, subst, arith, eq-eqb, leb-true, le-leb}
-use Rattle.std.specs.Prelude.{min, ℤ, pos, ◌+ℤ◌, ◌*ℤ◌, ◌≤ℤ◌, int_lt, Option, None, Some, nat_le, IfSome, IsTrue}
+use Rattle.std.specs.Prelude.{min, ℤ, pos, ◌+ℤ◌, ◌*ℤ◌, ◌≤ℤ◌, int_lt, Option, None, Some, nat_le, IsTrue}
 use Rattle.std.specs.List.{All, AllPairs}
 use Rattle.std.proofs.lemmas.Int.{ints}
 use Rattle.std.proofs.lemmas.Nat.{le-div}
@@ -10,7 +10,7 @@ use Rattle.ct_words.proofs.Counting.Pairs.{AllPairs-weaker, AllPairs-head, AllPa
 use Rattle.std.proofs.lemmas.List.Elements.{All-head, All-tail}
 use Rattle.std.proofs.lemmas.Bool.{and_parts}
 use Rattle.ct_words.specs.declared.limits.TheConstants.{MAX_BOUND, MAX_N}
-use Rattle.ct_words.specs.Word.{weight, distance}
+use Rattle.ct_words.specs.Word.{distance}
 use Rattle.ct_words.specs.Counting.PairTotals.{pair_total}
 use Rattle.ct_entries.specs.declared.entry.Entry.{Entry}
 use Rattle.ct_entries.specs.Entry.{IsEntry}

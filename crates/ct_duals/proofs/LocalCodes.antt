@@ -1,7 +1,7 @@
 -- The words of a code of constant weight at one index from a word, that word added, read at its ones and then at its zeros: they are a
 -- doubly constant code.
-use Rattle.std.proofs.Common.{◌≡◌, ◌≢◌, ℕ, zero, suc, ◌+◌, ◌-◌, ◌*◌, ◌/◌, ◌%◌, ◌^◌, ◌<◌, ◌≤◌, Bool, true, false, not, ◌==◌, cond, List, [], ◌∷◌, ◌++◌, map, length, get_or, refl, sym, ap, ◌∙◌, subst, arith, length-append, eqb-true}
-use Rattle.std.specs.Prelude.{Some, None, filter, bit_xor, count_by}
+use Rattle.std.proofs.Common.{◌≡◌, ℕ, zero, suc, ◌+◌, ◌-◌, ◌*◌, ◌/◌, ◌%◌, ◌^◌, ◌<◌, ◌≤◌, Bool, true, false, not, ◌==◌, cond, List, [], ◌∷◌, ◌++◌, map, length, get_or, refl, sym, ap, ◌∙◌, subst, arith, length-append, eqb-true}
+use Rattle.std.specs.Prelude.{Some, filter, bit_xor, count_by}
 use Rattle.std.specs.List.{sum_by, All, AllPairs}
 use Rattle.std.proofs.lemmas.List.Elements.{All-map, All-filter, All-head, All-tail, All-from_get_or, filter_passes}
 use Rattle.std.proofs.lemmas.List.Sums.{sum_by-cons, sum_by-append, length-filter}
@@ -14,7 +14,6 @@ use Rattle.ct_words.proofs.TextLemmas.{length-tabulate, get_or-tabulate}
 use Rattle.ct_words.proofs.WordLemmas.{digit-lt, weight-le, same_from_distance, distance_same, IsSum-bit_xor}
 use Rattle.ct_entries.specs.Code.{IsCode}
 use Rattle.ct_entries.specs.Constructions.Even.{even_from}
-use Rattle.ct_entries.specs.Constructions.Joined.{followed_by}
 use Rattle.ct_entries.specs.Constructions.Places.{read_at}
 use Rattle.ct_entries.specs.Constructions.Translation.{translated, selected}
 use Rattle.ct_entries.proofs.Constructions.Images.{IsCodeMap, IsCode-image}

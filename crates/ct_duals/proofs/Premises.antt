@@ -4,7 +4,7 @@ use Rattle.std.specs.Prelude.{Bool, ℤ, pos, int_lt, nat_le, nat_eq, Option, So
 use Rattle.std.specs.Option.{option_eq}
 use Rattle.std.proofs.lemmas.Option.{slice_get-map, slice_get_within, get_or_from_slice_get, none-some, same_Some}
 use Rattle.std.proofs.lemmas.Bool.{and_parts}
-use Rattle.std.proofs.lemmas.List.Elements.{All-nil, All-map, All-filter}
+use Rattle.std.proofs.lemmas.List.Elements.{All-map, All-filter}
 use Rattle.ct_entries.specs.declared.entry.Entry.{Entry}
 use Rattle.ct_entries.specs.Entry.{IsEntry, constant_weight, same_entry, same_weight}
 use Rattle.ct_entries.proofs.EntryLemmas.{entry_limits, entry_from_limits}

@@ -1,7 +1,6 @@
 -- The words of an entry are a scheme: the Hamming scheme, and with a weight the Johnson scheme.
-use Rattle.std.proofs.Common.{◌≡◌, ℕ, ◌^◌, ◌<◌, ◌≤◌, refl}
+use Rattle.std.proofs.Common.{◌≡◌, ℕ, ◌^◌, ◌<◌, refl}
 use Rattle.std.specs.Prelude.{Option, Some, None, IfSome}
-use Rattle.ct_words.specs.declared.limits.TheConstants.{MAX_N}
 use Rattle.ct_words.specs.Word.{weight, distance}
 use Rattle.ct_words.proofs.WordLemmas.{distance-le, distance_same}
 use Rattle.ct_words.proofs.PairProducts.{half_distance-le, half_distance-same}

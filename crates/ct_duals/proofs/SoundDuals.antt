@@ -1,6 +1,6 @@
 -- A dual of an entry of the table that stands is sound: its bound is true, and at least 1; and so is its spread.
 use Rattle.std.proofs.Common.{◌≡◌, Some, ℕ, ◌+◌, ◌≤◌, List, sym, subst, arith}
-use Rattle.std.specs.Prelude.{ℤ, pos, ◌+ℤ◌, ◌≤ℤ◌}
+use Rattle.std.specs.Prelude.{ℤ, pos, ◌≤ℤ◌}
 use Rattle.std.proofs.lemmas.Int.{ints}
 use Rattle.ct_entries.specs.Code.{IsTrueUpper}
 use Rattle.ct_entries.specs.Numbers.{numbers_of, multiplier, combination}

@@ -1,9 +1,7 @@
 -- The least pair of places whose items pass a test.
-use Rattle.std.proofs.Common.{◌≡◌, ℕ, ◌^◌, nat_lt, zero, suc, ◌+◌, ◌<◌, ◌≤◌, ◌⊎◌, Bool, true, false, List, [], ◌∷◌, length, drop, get_or, position, Option, Some, None, IsTrue, IsFalse, All, slice_index, subst, lt_trans, sym, refl, ap, ap₂, ◌∙◌, inl, inr, arith}
+use Rattle.std.proofs.Common.{◌≡◌, ℕ, ◌^◌, nat_lt, zero, suc, ◌<◌, ◌≤◌, ◌⊎◌, Bool, true, false, List, [], ◌∷◌, length, get_or, position, Some, None, IsTrue, IsFalse, All, slice_index, subst, lt_trans, sym, refl, ap, ap₂, ◌∙◌, inl, inr, arith}
 use Rattle.std.specs.List.{position_or_len}
-use Rattle.std.specs.Option.{option_map}
-use Rattle.std.proofs.lemmas.Bool.{cases_lt, cases_Bool, both_ways, le-ltb, lt-ltb}
-use Rattle.std.proofs.lemmas.List.{at_drop_more, at_drop_all}
+use Rattle.std.proofs.lemmas.Bool.{cases_lt, both_ways, le-ltb, lt-ltb}
 use Rattle.std.proofs.lemmas.List.Sums.{fails_before_first, passes_at_first}
 use Rattle.ct_words.specs.Word.{distance}
 use Rattle.ct_words.proofs.WordLemmas.{distance_any_length}

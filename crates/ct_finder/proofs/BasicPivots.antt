@@ -1,7 +1,6 @@
 -- A pivot keeps that what solves the rows solves the opening rows, and that each row has its basic column to itself.
-use Rattle.std.proofs.Common.{◌≡◌, ◌≢◌, ℕ, suc, ◌+◌, ◌-◌, ◌<◌, ◌≤◌, ◌==◌, Bool, true, false, ◌&&◌, not, List, [], map, length, get_or, refl, sym, ap, ap₂, ◌∙◌, arith, subst, eqb-true}
+use Rattle.std.proofs.Common.{◌≡◌, ◌≢◌, ℕ, ◌+◌, ◌<◌, ◌≤◌, ◌==◌, Bool, true, false, ◌&&◌, not, List, [], map, length, get_or, refl, sym, ap, ap₂, ◌∙◌, arith, subst, eqb-true}
 use Rattle.std.specs.Prelude.{zip, ℤ, pos, neg_ℤ, ◌-ℤ◌, ◌*ℤ◌, ◌≤ℤ◌, int_lt, int_le, nat_lt, ◌||◌, Some}
-use Rattle.std.specs.List.{list_all}
 use Rattle.std.proofs.lemmas.Int.{ints}
 use Rattle.std.proofs.lemmas.Bool.{and_parts, eqb-false}
 use Rattle.std.proofs.lemmas.List.{length-map, length-set, get_or-map, get_or-set_same, get_or-set_other}
@@ -16,7 +15,7 @@ use Rattle.ct_finder.specs.Pivot.{at, constant_of, is_candidate, comes_before, i
 use Rattle.ct_finder.specs.Sum.{HasWidth}
 use Rattle.ct_finder.specs.Basic.{worth, row_at, basic_at, Solves, AreBasic}
 use Rattle.ct_finder.proofs.Crossed.{int_cancel, positive-mul, positive-from}
-use Rattle.ct_finder.proofs.PlaceEntries.{divisor_at, divisor_at-some, pivoted_row-entry, pivoted_row-constant, worth-back, none-from_product, nonneg-from_product}
+use Rattle.ct_finder.proofs.PlaceEntries.{divisor_at, divisor_at-some, pivoted_row-entry, pivoted_row-constant, worth-back, nonneg-from_product}
 use Rattle.ct_finder.proofs.TurnedTableaus.{pivot_row-is}
 
 -- two numbers are the same, or they are not

@@ -1,15 +1,14 @@
 -- What is kept through a run beside sums: what solves its rows solves the opening rows, and each row has its basic column to itself.
-use Rattle.std.proofs.Common.{◌≡◌, ◌≢◌, ℕ, suc, ◌+◌, ◌-◌, ◌<◌, ◌≤◌, ◌==◌, Bool, true, false, cond, List, [], map, length, get_or, refl, sym, ap, ap₂, ◌∙◌, arith, subst, eq-eqb}
+use Rattle.std.proofs.Common.{◌≡◌, ℕ, suc, ◌+◌, ◌<◌, ◌≤◌, ◌==◌, cond, List, [], length, refl, sym, ap, ap₂, ◌∙◌, arith, subst, eq-eqb}
 use Rattle.std.specs.Prelude.{ℤ, pos, ◌≤ℤ◌}
-use Rattle.std.specs.List.{range_with_len}
 use Rattle.std.proofs.lemmas.Int.{ints}
 use Rattle.std.proofs.lemmas.Bool.{ne_eqb}
 use Rattle.std.proofs.lemmas.List.{length-map}
 use Rattle.std.proofs.lemmas.List.FromFn.{length-range_with_len, get_or-map-range_with_len}
-use Rattle.ct_finder.specs.Column.{Column, Tableau, rows_to, columns, place_of, opening_entry, opening_row, cost_entry, opening}
-use Rattle.ct_finder.specs.Column.Column.{Z, S}
+use Rattle.ct_finder.specs.Column.{Tableau, rows_to, columns, place_of, opening_entry, opening_row, cost_entry, opening}
+use Rattle.ct_finder.specs.Column.Column.{S}
 use Rattle.ct_finder.specs.Pivot.{at, constant_of}
-use Rattle.ct_finder.specs.Sum.{HasWidth, after}
+use Rattle.ct_finder.specs.Sum.{after}
 use Rattle.ct_finder.specs.Basic.{row_at, basic_at, Solves, AreBasic}
 use Rattle.ct_finder.proofs.TurnedTableaus.{IsKept, pivot_row-is, kept-opening, kept-pivoted}
 use Rattle.ct_finder.proofs.BasicPivots.{solves-back, basic-pivoted}

@@ -1,6 +1,6 @@
 -- The cost row with which a run ends as least has no wide entry: that of the opening has none, and no pivot is made that would give one.
-use Rattle.std.proofs.Common.{◌≡◌, ℕ, zero, suc, ◌^◌, Bool, true, false, cond, List, [], ◌∷◌, ◌++◌, map, refl, ap, ◌∙◌, arith, subst}
-use Rattle.std.specs.Prelude.{All, find, flat_map, ℤ, pos, ◌<ℤ◌, Option, Some, None}
+use Rattle.std.proofs.Common.{◌≡◌, ℕ, ◌^◌, Bool, true, false, cond, List, [], ◌∷◌, ◌++◌, map, refl, arith}
+use Rattle.std.specs.Prelude.{All, find, flat_map, ℤ, pos, ◌<ℤ◌, Some, None}
 use Rattle.std.proofs.lemmas.Int.{ints}
 use Rattle.std.proofs.lemmas.List.Elements.{All-nil, All-cons, All-head, All-tail, All-map}
 use Rattle.ct_finder.specs.Column.{Column, Tableau, same_column, cost_entry, columns}

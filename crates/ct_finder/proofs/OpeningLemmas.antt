@@ -1,11 +1,11 @@
 -- The opening tableau, piece by piece.
-use Rattle.std.proofs.Common.{◌≡◌, ℕ, suc, ◌+◌, ◌<◌, ◌≤◌, ◌^◌, ◌==◌, Bool, true, false, cond, List, [], ◌∷◌, ◌++◌, map, length, replicate, refl, sym, ap, ap₂, ◌∙◌, arith, subst, append_assoc}
-use Rattle.std.specs.Prelude.{ℤ, pos, negsuc, neg_ℤ, ◌≤ℤ◌, unsigned_abs, All, nat_lt}
+use Rattle.std.proofs.Common.{◌≡◌, ℕ, suc, ◌+◌, ◌≤◌, ◌==◌, Bool, true, false, cond, List, [], ◌∷◌, ◌++◌, map, length, replicate, refl, sym, ap, ap₂, ◌∙◌, arith, subst, append_assoc}
+use Rattle.std.specs.Prelude.{ℤ, pos, negsuc, neg_ℤ, ◌≤ℤ◌, All}
 use Rattle.std.specs.List.{range_with_len}
 use Rattle.std.proofs.lemmas.Int.{ints}
 use Rattle.std.proofs.lemmas.Simd.{map-map, splat_is_map}
-use Rattle.std.proofs.lemmas.List.{map-append, length-map, length-append, replicate_more}
-use Rattle.std.proofs.lemmas.List.Elements.{All-cons, All-nil, All-append, All-map, All-filter, All-weaker}
+use Rattle.std.proofs.lemmas.List.{map-append, length-map, replicate_more}
+use Rattle.std.proofs.lemmas.List.Elements.{All-cons, All-nil, All-append, All-map, All-filter}
 use Rattle.std.proofs.lemmas.List.FromFn.{length-range_with_len}
 use Rattle.ct_entries.specs.declared.entry.Entry.{Entry}
 use Rattle.ct_entries.specs.Scheme.{IsSmall}

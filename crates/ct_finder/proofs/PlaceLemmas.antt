@@ -1,10 +1,10 @@
 -- The entries of a row at the s's.
-use Rattle.std.proofs.Common.{◌≡◌, ℕ, zero, suc, ◌+◌, ◌-◌, ◌<◌, ◌≤◌, ◌==◌, Bool, true, false, not, length-drop, cond, List, [], ◌∷◌, ◌++◌, map, length, take, drop, get_or, min, take_all, length-take, refl, sym, ap, ap₂, ◌∙◌, arith, eqb-true, eq-eqb}
+use Rattle.std.proofs.Common.{◌≡◌, ℕ, zero, suc, ◌+◌, ◌-◌, ◌<◌, ◌≤◌, ◌==◌, length-drop, cond, List, [], ◌∷◌, ◌++◌, map, length, take, drop, get_or, take_all, refl, sym, ap, ap₂, ◌∙◌, arith, eq-eqb}
 use Rattle.std.specs.Prelude.{ℤ, pos}
-use Rattle.std.specs.List.{range_with_len, position_or_len}
-use Rattle.std.proofs.lemmas.Bool.{eqb-false, ne_eqb}
-use Rattle.ct_finder.specs.Column.{Column, same_column, rows_to, columns, place_of}
-use Rattle.ct_finder.specs.Column.Column.{Z, A, S, Constant}
+use Rattle.std.specs.List.{range_with_len}
+use Rattle.std.proofs.lemmas.Bool.{ne_eqb}
+use Rattle.ct_finder.specs.Column.{Column, rows_to, columns}
+use Rattle.ct_finder.specs.Column.Column.{A, S, Constant}
 use Rattle.ct_finder.specs.Run.{coefficient, multipliers_of}
 use Rattle.ct_finder.proofs.Places.{length-columns}
 

@@ -1,10 +1,10 @@
 -- The primal of a tableau, read row by row.
-use Rattle.std.proofs.Common.{◌≡◌, ℕ, zero, suc, ◌+◌, ◌*◌, ◌/◌, ◌<◌, ◌≤◌, ◌^◌, ◌==◌, Bool, true, false, ◌&&◌, cond, nat_le, List, [], ◌∷◌, ◌++◌, map, length, get_or, take, min, refl, sym, ap, ap₂, ◌∙◌, arith, subst, eqb-true}
-use Rattle.std.specs.Prelude.{All, filter, find, zip, ℤ, pos, ◌≤ℤ◌, ◌<ℤ◌, int_lt, unsigned_abs, Option, Some, None, option_map}
+use Rattle.std.proofs.Common.{◌≡◌, ℕ, zero, suc, ◌+◌, ◌*◌, ◌/◌, ◌<◌, ◌≤◌, ◌^◌, ◌==◌, Bool, true, false, ◌&&◌, cond, nat_le, List, [], ◌∷◌, ◌++◌, map, length, get_or, take, refl, sym, ap, ap₂, ◌∙◌, arith, subst, eqb-true}
+use Rattle.std.specs.Prelude.{All, filter, find, zip, ℤ, pos, ◌<ℤ◌, int_lt, Option, Some, None, option_map}
 use Rattle.std.specs.List.{AllByRecursion, range_with_len}
 use Rattle.std.proofs.lemmas.Int.{ints}
 use Rattle.std.proofs.Math.Nat.{div-mul_cancel}
-use Rattle.std.proofs.lemmas.List.{map-append, length-map, get_or-map, take_more, take_all}
+use Rattle.std.proofs.lemmas.List.{length-map, get_or-map, take_more, take_all}
 use Rattle.std.proofs.lemmas.List.FromFn.{length-range_with_len, get_or-range_with_len}
 use Rattle.std.proofs.lemmas.Slice.Zip.{length-zip, get_or-zip}
 use Rattle.ct_finder.specs.Basic.{row_at, basic_at}
@@ -15,13 +15,12 @@ use Rattle.std.proofs.lemmas.List.Elements.{All-filter, All-from_recursion, filt
 use Rattle.ct_entries.specs.declared.entry.Entry.{Entry}
 use Rattle.ct_entries.specs.Pairs.{first_of}
 use Rattle.ct_duals.specs.Bound.{natural}
-use Rattle.ct_duals.proofs.Allowed.{natural-is}
 use Rattle.ct_finder.specs.Column.{Tableau}
 use Rattle.ct_finder.specs.Divisor.{gcd}
 use Rattle.ct_finder.specs.Pivot.{at, constant_of, is_wide}
 use Rattle.ct_finder.specs.RunPrimal.{is_of_a, lines_of_a, next_scale, scales, last_scale, scaled, run_scale, wide_number, number_at_place, numbers_of_range, primal_over}
 use Rattle.ct_finder.specs.declared.reading.Reading.TheVariants.{Primal, Wide}
-use Rattle.ct_finder.specs.Reading.{is_large, large, large_scale, large_number, line_of, scale_after, number_over, large_after, reading_at, reading_of}
+use Rattle.ct_finder.specs.Reading.{is_large, large, large_scale, large_number, line_of, scale_after, large_after, reading_at, reading_of}
 
 -- the first that passes in one list after another
 find-append : {X : Type 0} (p : X → Bool) (xs ys : List X) → find p (xs ++ ys) ≡ first_of (find p xs) (find p ys)

@@ -1,9 +1,9 @@
 -- The pairs of a run's primal: a sum over them is one over the rows whose basic column is an a.
-use Rattle.std.proofs.Common.{◌≡◌, ◌≢◌, ℕ, zero, suc, ◌+◌, ◌-◌, ◌<◌, ◌≤◌, ◌==◌, Bool, true, false, ◌&&◌, not, cond, nat_le, List, [], ◌∷◌, map, length, get_or, refl, sym, ap, ap₂, ◌∙◌, arith, subst, eqb-true, leb-true, inl, inr}
-use Rattle.std.specs.Prelude.{filter, zip, ℤ, pos, ◌+ℤ◌, ◌*ℤ◌, ◌≤ℤ◌, int_lt}
+use Rattle.std.proofs.Common.{◌≡◌, ◌≢◌, ℕ, zero, suc, ◌+◌, ◌-◌, ◌<◌, ◌≤◌, ◌==◌, Bool, true, false, ◌&&◌, cond, nat_le, List, [], ◌∷◌, map, length, get_or, refl, sym, ap, ap₂, ◌∙◌, arith, eqb-true, leb-true, inl, inr}
+use Rattle.std.specs.Prelude.{filter, zip, ℤ, pos, ◌+ℤ◌, ◌*ℤ◌, int_lt}
 use Rattle.std.specs.List.{AllByRecursion, range_with_len}
 use Rattle.std.proofs.lemmas.Int.{ints}
-use Rattle.std.proofs.lemmas.Bool.{and_parts, eqb-false, ne_eqb, cases_lt}
+use Rattle.std.proofs.lemmas.Bool.{eqb-false, ne_eqb, cases_lt}
 use Rattle.ct_words.specs.Counting.Sums.{total}
 use Rattle.ct_words.proofs.Counting.Totals.{total-congruence, total-zero, total-add, total-map}
 use Rattle.ct_words.proofs.Counting.PartTotals.{total-filter}

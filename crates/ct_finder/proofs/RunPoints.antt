@@ -14,7 +14,7 @@ use Rattle.ct_duals.proofs.Allowed.{natural-is}
 use Rattle.ct_finder.specs.Column.{Tableau}
 use Rattle.ct_finder.specs.Pivot.{at, constant_of}
 use Rattle.ct_finder.specs.Sum.{HasWidth}
-use Rattle.ct_finder.specs.Basic.{worth, row_at, basic_at, Solves, AreBasic}
+use Rattle.ct_finder.specs.Basic.{worth, row_at, basic_at, AreBasic}
 use Rattle.ct_finder.specs.RunPrimal.{basic_entry, basic_constant}
 use Rattle.ct_finder.proofs.BasicPivots.{row-width}
 use Rattle.ct_finder.proofs.RunPairs.{AreApart}

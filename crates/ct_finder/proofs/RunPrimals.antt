@@ -1,30 +1,30 @@
 -- The primal of a run that ends as least is sound, and its value is the bound of the run's dual.
-use Rattle.std.proofs.Common.{◌≡◌, ◌≢◌, ℕ, zero, suc, ◌+◌, ◌-◌, ◌*◌, ◌/◌, ◌<◌, ◌≤◌, ◌==◌, Bool, true, false, cond, min, ◌&&◌, nat_le, List, [], ◌∷◌, map, length, get_or, refl, sym, ap, ap₂, ◌∙◌, arith, subst, leb-true, inl, inr}
-use Rattle.std.specs.Prelude.{filter, zip, ℤ, pos, negsuc, neg_ℤ, ◌+ℤ◌, ◌*ℤ◌, ◌≤ℤ◌, int_lt}
+use Rattle.std.proofs.Common.{◌≡◌, ℕ, zero, suc, ◌+◌, ◌-◌, ◌*◌, ◌/◌, ◌<◌, ◌≤◌, ◌==◌, Bool, true, false, cond, ◌&&◌, nat_le, List, [], ◌∷◌, map, length, get_or, refl, sym, ap, ap₂, ◌∙◌, arith, subst, leb-true, inl, inr}
+use Rattle.std.specs.Prelude.{ℤ, pos, negsuc, neg_ℤ, ◌+ℤ◌, ◌*ℤ◌, ◌≤ℤ◌}
 use Rattle.std.specs.List.{AllByRecursion}
 use Rattle.std.specs.Int.{◌∣◌}
 use Rattle.std.proofs.Math.Nat.{mul-div_cancel'}
 use Rattle.std.proofs.lemmas.Int.{ints}
-use Rattle.std.proofs.lemmas.Bool.{and_parts, cases_lt}
+use Rattle.std.proofs.lemmas.Bool.{cases_lt}
 use Rattle.std.proofs.lemmas.List.{length-map}
 use Rattle.ct_words.specs.Counting.Sums.{total}
-use Rattle.ct_words.proofs.Counting.Totals.{total-congruence, total-add, total-scale}
+use Rattle.ct_words.proofs.Counting.Totals.{total-add, total-scale}
 use Rattle.ct_words.proofs.Counting.Products.{int_mul_assoc, int_mul_comm, int_neg_mul, int_mul_neg}
 use Rattle.ct_words.proofs.Counting.Totals.{int_dist}
 use Rattle.ct_words.proofs.Counting.Combinations.{product-nonneg}
-use Rattle.ct_finder.specs.Column.{Column, Tableau, columns, opening_entry, opening_row, cost_entry, opening}
+use Rattle.ct_finder.specs.Column.{Tableau, columns, opening_entry, opening_row, cost_entry, opening}
 use Rattle.ct_finder.specs.Column.Column.{Z, A, S}
 use Rattle.ct_finder.specs.Pivot.{at, constant_of}
 use Rattle.ct_finder.specs.Run.{coefficient}
-use Rattle.ct_finder.specs.Basic.{worth, row_at, basic_at, Solves, AreBasic}
-use Rattle.ct_finder.specs.RunPrimal.{basic_entry, basic_constant, is_of_a, lines_of_a, scaled, run_scale, numbers_of_range}
+use Rattle.ct_finder.specs.Basic.{worth, row_at, basic_at, Solves}
+use Rattle.ct_finder.specs.RunPrimal.{basic_entry, basic_constant, is_of_a, lines_of_a, scaled, run_scale}
 use Rattle.ct_finder.proofs.Crossed.{int_cancel}
 use Rattle.ct_finder.proofs.PlaceEntries.{nonneg-from_product}
 use Rattle.ct_finder.proofs.Places.{length-columns, column-a, column-s, column-last, opening-at, opening-constant, cost-at}
 use Rattle.ct_finder.proofs.BasicRuns.{IsSolved, opening-row_at, rows-opening}
 use Rattle.ct_finder.proofs.RunScales.{all-weaker, all-both, all-filtered, all-unfiltered, divides-last, product_of, divides-product}
-use Rattle.ct_finder.proofs.RunPairs.{term_of, pairs-total}
-use Rattle.ct_finder.proofs.RunPoints.{IsLine, lines_of, line-at, lines-count, lines-are, lines-apart, number_of, point, worth-point, point-row, point-cost}
+use Rattle.ct_finder.proofs.RunPairs.{term_of}
+use Rattle.ct_finder.proofs.RunPoints.{IsLine, lines_of, line-at, lines-count, lines-are, number_of, point, worth-point, point-row, point-cost}
 
 -- terms that are not negative add up to at least 0, and those that are 0 to 0
 total-nonneg_all : {X : Type 0} (f : X → ℤ) (xs : List X) → AllByRecursion (λ x. pos 0 ≤ℤ f x) xs → pos 0 ≤ℤ total f xs

@@ -1,6 +1,6 @@
 -- The primal of a run that ends as least has the form of one, is sound, and has the value of the dual's bound.
-use Rattle.std.proofs.Common.{◌≡◌, ℕ, zero, suc, ◌+◌, ◌-◌, ◌*◌, ◌/◌, ◌%◌, ◌<◌, ◌≤◌, Bool, true, false, cond, min, List, [], ◌∷◌, ◌++◌, map, length, get_or, refl, sym, ap, ap₂, ◌∙◌, arith, subst}
-use Rattle.std.specs.Prelude.{filter, zip, All, AllPairs, IsTrue, ℤ, pos, negsuc, ◌+ℤ◌, ◌*ℤ◌, ◌≤ℤ◌, int_lt, Some, None}
+use Rattle.std.proofs.Common.{◌≡◌, ℕ, zero, suc, ◌+◌, ◌-◌, ◌*◌, ◌/◌, ◌<◌, ◌≤◌, Bool, true, false, cond, min, List, [], ◌∷◌, ◌++◌, map, length, refl, sym, ap, ap₂, ◌∙◌, arith, subst}
+use Rattle.std.specs.Prelude.{filter, zip, AllPairs, IsTrue, ℤ, pos, negsuc, ◌+ℤ◌, ◌*ℤ◌, ◌≤ℤ◌, int_lt}
 use Rattle.std.specs.List.{AllByRecursion, range_with_len}
 use Rattle.std.proofs.lemmas.Int.{ints}
 use Rattle.std.proofs.lemmas.List.Elements.{All-from_recursion}
@@ -8,17 +8,16 @@ use Rattle.std.proofs.lemmas.List.Kept.{AllPairs-cons, AllPairs-filter}
 use Rattle.ct_words.specs.declared.limits.TheConstants.{MAX_BOUND}
 use Rattle.ct_words.specs.Counting.Sums.{total}
 use Rattle.ct_words.proofs.Counting.Totals.{total-congruence}
-use Rattle.ct_words.proofs.Counting.Combinations.{product-nonneg}
 use Rattle.ct_entries.specs.declared.entry.Entry.{Entry}
-use Rattle.ct_entries.specs.Numbers.{combination, multiplier}
+use Rattle.ct_entries.specs.Numbers.{combination}
 use Rattle.ct_duals.specs.Dual.{degree_of, is_in_range}
 use Rattle.ct_duals.specs.Bound.{natural, dual_bound}
-use Rattle.ct_primal.specs.Primal.{IsPrimal, IsSound, whole, primal_value}
+use Rattle.ct_primal.specs.Primal.{IsPrimal, IsSound, primal_value}
 use Rattle.ct_primal.proofs.WeakDuality.{quotients-le}
-use Rattle.ct_finder.specs.Column.{Column, Tableau, range_of, rows_to, columns, opening}
-use Rattle.ct_finder.specs.Column.Column.{Z, A, S, Constant}
+use Rattle.ct_finder.specs.Column.{Tableau, range_of, rows_to, columns}
+use Rattle.ct_finder.specs.Column.Column.{A, S, Constant}
 use Rattle.ct_finder.specs.Pivot.{at, constant_of}
-use Rattle.ct_finder.specs.Run.{run_of, run, columns_of, opening_of, coefficient, run_dual, IsAsked}
+use Rattle.ct_finder.specs.Run.{run_of, columns_of, opening_of, coefficient, run_dual, IsAsked}
 use Rattle.ct_finder.specs.Run.End.{Least}
 use Rattle.ct_finder.specs.RunPrimal.{run_scale, number_at_place, numbers_of_range, run_primal}
 use Rattle.ct_finder.proofs.Places.{length-columns}
@@ -28,7 +27,7 @@ use Rattle.ct_finder.proofs.RunDuals.{combination-zero, bound-without}
 use Rattle.ct_finder.proofs.RunScales.{all-filtered}
 use Rattle.ct_finder.proofs.RunPairs.{term_of, pairs-total}
 use Rattle.ct_finder.proofs.RunPoints.{lines_of, lines-apart}
-use Rattle.ct_finder.proofs.RunPrimals.{IsShown, shown-from, first-entry}
+use Rattle.ct_finder.proofs.RunPrimals.{shown-from, first-entry}
 
 -- the indices of the range ascend
 abbrev Ascends : List ℕ → Type 0

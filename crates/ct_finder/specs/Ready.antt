@@ -1,5 +1,5 @@
 -- A tableau as the definitions see it, and what a pivot needs of it.
-use Rattle.std.specs.Prelude.{◌≡◌, ◌≤◌, List, length, Option, Some, None, ℤ}
+use Rattle.std.specs.Prelude.{◌≡◌, ◌≤◌, length, Option, Some, None}
 use Rattle.ct_finder.specs.Column.{Tableau as TableauOf}
 use Rattle.ct_finder.specs.Run.{End, Step}
 use Rattle.ct_finder.specs.Run.End.{Least as LeastEnd, Turns as TurnsEnd, Wide as WideEnd}

@@ -1,11 +1,11 @@
 -- Pieces that may be named: what an id has is a code, or a partition.
-use Rattle.std.proofs.Common.{◌≡◌, ℕ, Bool, true, false, ◌||◌, cond, List, [], ◌∷◌, Option, Some, None, refl}
+use Rattle.std.proofs.Common.{◌≡◌, ℕ, Bool, true, false, ◌||◌, cond, List, [], ◌∷◌, refl}
 use Rattle.std.specs.Prelude.{IfSome}
 use Rattle.std.specs.Str.{bytes_eq}
 use Rattle.std.proofs.lemmas.List.Elements.{All-head, All-tail}
 use Rattle.std.proofs.lemmas.Slice.Eq.{bytes_eq-Decides}
-use Rattle.ct_entries.specs.Code.{CodeValue, IsSoundCode}
-use Rattle.ct_partitions.specs.Partition.{PartitionValue, IsSoundPartition}
+use Rattle.ct_entries.specs.Code.{IsSoundCode}
+use Rattle.ct_partitions.specs.Partition.{IsSoundPartition}
 use Rattle.ct_kind.specs.Named.{NamedCode, code_named, partition_named}
 use Rattle.ct_kind.specs.Sound.{HasSoundCode, AreSound}
 

@@ -1,5 +1,5 @@
 -- A dual that stands is reached by the table's bound of its entry.
-use Rattle.std.proofs.Common.{◌≡◌, ℕ, ◌≤◌, List, map, All, Option, Some, option_map, ap, subst, ◌∙◌}
+use Rattle.std.proofs.Common.{◌≡◌, ℕ, ◌≤◌, List, map, All, Some, option_map, ap, subst, ◌∙◌}
 use Rattle.std.specs.Prelude.{slice_get}
 use Rattle.std.proofs.lemmas.Option.{slice_get-map, slice_get_within, get_or_from_slice_get}
 use Rattle.ct_entries.specs.declared.claim.Claim.{Claim}

@@ -1,7 +1,6 @@
 -- A support gives the bound of its dual at the dual's entry.
 use Rattle.std.proofs.Common.{◌≡◌, ℕ, ◌≤◌, Bool, true, false, cond, List, [], map, All, Option, Some, None, is_some, refl, sym, ap, ◌∙◌, subst, arith}
 use Rattle.std.specs.Prelude.{slice_get, min}
-use Rattle.std.proofs.lemmas.Option.{same_Some}
 use Rattle.ct_words.specs.declared.limits.TheConstants.{MAX_BOUND}
 use Rattle.ct_entries.specs.declared.claim.Claim.{Claim}
 use Rattle.ct_entries.specs.declared.claim.Side.TheVariants.{Upper}

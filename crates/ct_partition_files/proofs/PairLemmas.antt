@@ -1,5 +1,5 @@
 -- Pairs of ids, where they are read.
-use Rattle.std.proofs.Common.{◌≡◌, ℕ, suc, Bool, true, false, if◌then◌else◌, nat_le, List, [], length, Option, Some, None, Ok, refl, ap, ◌∙◌, subst, le-leb, eq-eqb, eqb-true, arith}
+use Rattle.std.proofs.Common.{◌≡◌, ℕ, suc, Bool, true, false, if◌then◌else◌, nat_le, List, length, Option, Some, None, Ok, refl, ap, ◌∙◌, subst, le-leb, eq-eqb, eqb-true}
 use Rattle.std.specs.Prelude.{All, IsTrue}
 use Rattle.std.proofs.lemmas.Bool.{and_parts, and_from, leb-true}
 use Rattle.std.specs.Option.{option_and_then}

@@ -9,7 +9,6 @@ use Rattle.std.specs.Str.{bytes_eq}
 use Rattle.std.proofs.lemmas.Bool.{eqb-true, ltb-false, le-ltb, or_parts, or_from}
 use Rattle.std.proofs.lemmas.List.{length-map, map-append, take_more, drop_more}
 use Rattle.std.proofs.lemmas.List.Elements.{All-nil, All-cons, All-head, All-tail, All-map, All-weaker, All-push}
-use Rattle.std.proofs.lemmas.Slice.Eq.{bytes_eq-Decides}
 use Rattle.ct_entries.specs.declared.entry.Entry.{Entry}
 use Rattle.ct_entries.specs.Code.{IsCodeOf}
 use Rattle.ct_entries.specs.Entry.{IsEntry}
@@ -27,7 +26,7 @@ use Rattle.ct_kind.specs.Named.{NamedCode, is_known, first_missing, partition_na
 use Rattle.ct_kind.specs.KindParts.{support_from}
 use Rattle.ct_partition_files.specs.ProductKind.{Ids, ids_of, factor_named, factors_named, first_length, is_wrong_first, add_up, is_wrong_second, wrong_of_pair, wrong_of_pairs, wrong_id, short_of, product_reason, product_kind, IsProductChecked}
 use Rattle.ct_kind.specs.declared.fault.SubmitFault.TheVariants as fault
-use Rattle.ct_kind.specs.Sound.{HasSoundCode, AreSound}
+use Rattle.ct_kind.specs.Sound.{AreSound}
 use Rattle.ct_kind.proofs.Stating.{option_map-none, StatesWell, SaysSame, IsAlike}
 use Rattle.ct_kind.proofs.NamedLemmas.{or-later, bytes_eq-same, partition-sound}
 use Rattle.ct_kind.proofs.SizeLemmas.{size-stands}

@@ -1,16 +1,11 @@
 -- The codes of pieces: those of a list with more pieces, the one at a place, the one of an id; and that each is a code.
-use Rattle.std.proofs.Common.{◌≡◌, ℕ, zero, suc, ◌+◌, ◌<◌, ◌≤◌, Bool, true, false, ◌||◌, cond, not, List, [], ◌∷◌, ◌++◌, length, take, get_or, map, Option, Some, None, option_map, Result, Ok, Err, IfOk, refl, sym, ap, subst, ◌∙◌, arith, append_assoc, append-nil, nat_lt}
+use Rattle.std.proofs.Common.{◌≡◌, ℕ, zero, suc, ◌+◌, ◌<◌, ◌≤◌, Bool, true, false, ◌||◌, cond, not, List, [], ◌∷◌, ◌++◌, length, take, get_or, map, Option, Some, None, option_map, refl, sym, ap, subst, ◌∙◌, arith, append_assoc, append-nil, nat_lt}
 use Rattle.std.specs.Prelude.{position, slice_get}
 use Rattle.std.specs.List.{position_or_len}
 use Rattle.std.specs.Option.{option_flatten}
-use Rattle.std.specs.List.Sorted.{IsPermutation}
 use Rattle.std.specs.Str.{bytes_eq}
 use Rattle.std.proofs.lemmas.Bool.{ltb-true, ltb-false}
-use Rattle.ct_entries.specs.declared.entry.Entry.{Entry}
-use Rattle.ct_entries.specs.Entry.{IsEntry}
-use Rattle.ct_entries.specs.Code.{CodeValue, IsCodeOf, IsSoundCode}
-use Rattle.ct_entries.specs.Coset.{CosetValue, coset_list}
-use Rattle.ct_entries.proofs.CheckLemmas.{sound_from_code}
+use Rattle.ct_entries.specs.Code.{CodeValue}
 use Rattle.ct_pieces.specs.Piece.{PieceValue, has_id}
 use Rattle.ct_kind.specs.Named.{NamedCode, is_known, code_named}
 use Rattle.ct_pieces.specs.Codes.{named_code, codes_after, codes_of, code_of_place}

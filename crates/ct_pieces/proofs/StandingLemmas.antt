@@ -20,7 +20,7 @@ use Rattle.ct_kind.specs.Named.{NamedCode}
 use Rattle.ct_pieces.specs.Kind.{stated_entry, words_over}
 use Rattle.ct_pieces.specs.Piece.{PieceValue, has_id, stored_by, stored_words, first_user}
 use Rattle.ct_pieces.specs.Codes.{named_code, codes_of}
-use Rattle.ct_pieces.specs.Submission.{piece_from, if_stored, stored_beside, unless_full, submitted, with_piece}
+use Rattle.ct_pieces.specs.Submission.{piece_from, stored_beside, unless_full, submitted, with_piece}
 use Rattle.ct_pieces.specs.Withdrawal.{without, withdrawn, unless_used, left_by}
 use Rattle.ct_pieces.specs.Standing.{AreStanding, IsMade, AreMade, HasTrueSize}
 use Rattle.ct_pieces.specs.declared.limits.TheConstants.{MAX_PIECES, MAX_STORED}

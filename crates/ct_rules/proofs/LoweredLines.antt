@@ -1,5 +1,5 @@
 -- Lines over supports of which some give nothing are lines over those that are left, their rules lowered.
-use Rattle.std.proofs.Common.{◌≡◌, ℕ, ◌<◌, List, [], ◌∷◌, length, map, take, All, Option, Some, None, option_map, slice_get, true, refl, sym, ap, subst, ◌∙◌}
+use Rattle.std.proofs.Common.{◌≡◌, ℕ, ◌<◌, List, [], ◌∷◌, map, take, All, Option, Some, None, option_map, slice_get, refl, sym, ap, subst, ◌∙◌}
 use Rattle.std.specs.List.{cons_option}
 use Rattle.std.proofs.lemmas.List.{take-map, length-map}
 use Rattle.std.proofs.lemmas.Option.{slice_get-map, none-some, same_Some}
@@ -9,9 +9,9 @@ use Rattle.ct_rule_parts.specs.declared.support.Support.{Support}
 use Rattle.ct_rule_parts.specs.Slot.{slot_of}
 use Rattle.ct_rules.specs.declared.rule.Rule.{Rule}
 use Rattle.ct_rules.specs.Derivation.{LineValue, claims_at, Follows, IsDerivation}
-use Rattle.ct_rules.specs.Rule.{place_of, cited, premises_of, value_of}
+use Rattle.ct_rules.specs.Rule.{cited, value_of}
 use Rattle.ct_rules.proofs.Applied.{applies_from_premises}
-use Rattle.ct_rules.specs.Removal.{Places, without, names_one, lowered, voided, lowered_line}
+use Rattle.ct_rules.specs.Removal.{Places, without, lowered, voided, lowered_line}
 use Rattle.ct_rules.proofs.LoweredRules.{IsAlike-lowered, alike-side, cited-lowered, premises_of-alike, value_of-alike}
 use Rattle.ct_rules.proofs.VoidedSupports.{cited-voided, names_none, premises_of-voided}
 

@@ -1,19 +1,17 @@
 -- Rules over the supports that are left: each names the support that it named, and says the same of it.
-use Rattle.std.proofs.Common.{◌≡◌, ℕ, List, Option, Some, None, Bool, true, false, slice_get, refl, sym, ap, ap₂, subst, ◌∙◌}
+use Rattle.std.proofs.Common.{◌≡◌, ℕ, List, Option, Some, None, true, false, slice_get, refl, sym, ap, ap₂, subst, ◌∙◌}
 use Rattle.std.specs.Prelude.{if◌then◌else◌}
 use Rattle.std.proofs.lemmas.Bool.{false≢true}
-use Rattle.std.proofs.lemmas.Option.{none-some, same_Some}
 use Rattle.ct_entries.specs.declared.entry.Entry.{Entry}
 use Rattle.ct_entries.specs.declared.claim.Side.{Side}
 use Rattle.ct_rule_parts.specs.declared.support.Support.{Support}
 use Rattle.ct_rule_parts.specs.Parts.{RuleParts, is_defined, slots_on, within_limit}
-use Rattle.ct_rule_parts.specs.Slot.{Slot}
 use Rattle.ct_rules.specs.declared.rule.Rule.{Rule}
 use Rattle.ct_rules.specs.Rule.{rule_side, place_of, with_place, support_at, cited, parts_of, parts_over, applies, premises_of, value_of}
 use Rattle.ct_rules.proofs.Applied.{defined}
-use Rattle.ct_rules.proofs.LawfulRows.{needs_support, place_of-placed, parts_of-placed, placed_again}
+use Rattle.ct_rules.proofs.LawfulRows.{needs_support, place_of-placed, parts_of-placed}
 use Rattle.ct_rules.specs.Removal.{Places, without, lowered_place, names_one, lowered_by, lowered}
-use Rattle.ct_rules.proofs.WithoutLemmas.{WasAt, was_at, slice_get-without}
+use Rattle.ct_rules.proofs.WithoutLemmas.{was_at, slice_get-without}
 
 -- two rules say the same of each support
 abbrev pub IsAlike : Rule → Rule → Type 0

@@ -1,11 +1,10 @@
 -- Supports of which those of a set give nothing: which rules are still defined, and that what is left of them is closed and true as before.
-use Rattle.std.proofs.Common.{◌≡◌, ℕ, zero, suc, List, [], ◌∷◌, length, map, All, Option, Some, None, option_map, Bool, true, false, slice_get, refl, sym, ap, subst, ◌∙◌, arith}
+use Rattle.std.proofs.Common.{◌≡◌, ℕ, zero, suc, List, [], ◌∷◌, length, map, Option, Some, None, option_map, Bool, true, false, slice_get, refl, sym, ap, subst, ◌∙◌}
 use Rattle.std.proofs.lemmas.Bool.{false≢true}
-use Rattle.std.proofs.lemmas.List.Elements.{All-nil, All-cons, All-head, All-tail}
+use Rattle.std.proofs.lemmas.List.Elements.{All-cons, All-head, All-tail}
 use Rattle.ct_entries.specs.declared.claim.Side.{Side}
 use Rattle.ct_entries.specs.declared.entry.Entry.{Entry}
 use Rattle.ct_rule_parts.specs.declared.support.Support.{Support}
-use Rattle.ct_rule_parts.specs.declared.support.Support.TheVariants.{Nothing}
 use Rattle.ct_rule_parts.specs.Slot.{Slot, IsNoBetter}
 use Rattle.ct_rule_parts.specs.Support.{Stands, AllStand}
 use Rattle.ct_rules.specs.declared.rule.Rule.{Rule}
@@ -14,7 +13,7 @@ use Rattle.ct_rules.specs.Rule.{place_of, support_at, cited, parts_of, parts_ove
 use Rattle.ct_rules.proofs.Applied.{defined, applies_from_premises}
 use Rattle.ct_rules.proofs.LawfulRows.{needs_support, needs_something}
 use Rattle.ct_rules.specs.Removal.{Places, without, names_one, voided_by, voided}
-use Rattle.ct_rules.proofs.LoweredRules.{IsAlike, alike-side, premises_of-alike, value_of-alike, WasRule, was_rule}
+use Rattle.ct_rules.proofs.LoweredRules.{alike-side, premises_of-alike, value_of-alike, was_rule}
 use Rattle.ct_rules.proofs.WithoutLemmas.{All-without}
 
 -- what stands at a place

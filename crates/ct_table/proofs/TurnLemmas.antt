@@ -1,22 +1,18 @@
 -- A turn of the closing: what is pending before it and after, and how much is left.
-use Rattle.std.proofs.Common.{◌≡◌, ℕ, suc, ◌+◌, ◌*◌, ◌<◌, ◌≤◌, List, Contains, All, Option, Some, None, true, refl, sym, ap, subst, ◌∙◌, arith, inl, inr, ◌⊎◌, ◌++◌, append_assoc, mul-le-mul_right}
+use Rattle.std.proofs.Common.{◌≡◌, ℕ, suc, ◌+◌, ◌*◌, ◌<◌, ◌≤◌, List, Option, Some, None, refl, sym, ap, subst, ◌∙◌, arith, inl, inr, ◌⊎◌, ◌++◌, append_assoc, mul-le-mul_right}
 use Rattle.std.specs.Prelude.{◌≢◌}
 use Rattle.std.proofs.lemmas.Bool.{cases_eq}
-use Rattle.std.proofs.lemmas.List.Elements.{All-contains}
 use Rattle.std.proofs.lemmas.Option.{none-some, same_Some}
 use Rattle.ct_entries.specs.declared.claim.Side.{Side}
-use Rattle.ct_entries.specs.declared.claim.Side.TheVariants.{Upper}
 use Rattle.ct_entries.specs.declared.entry.Entry.{Entry}
 use Rattle.ct_entries.specs.Entry.{IsEntry}
 use Rattle.ct_rule_parts.specs.declared.support.Support.{Support}
 use Rattle.ct_rule_parts.specs.Slot.{Slot, IsBetter, IsNoBetter}
 use Rattle.ct_rule_parts.specs.Support.{AllStand}
 use Rattle.ct_rules.specs.declared.rule.Rule.{Rule}
-use Rattle.ct_rules.specs.declared.rule.Rule.TheVariants.{L11, U11}
 use Rattle.ct_rules.specs.Closed.{AreTrue, IsSatisfied, IsClosed}
 use Rattle.ct_rules.specs.Derivation.{IsDerived}
-use Rattle.ct_rules.specs.Listing.{rules_alone}
-use Rattle.ct_rules.specs.Rule.{rule_side, applies, parts_over}
+use Rattle.ct_rules.specs.Rule.{rule_side}
 use Rattle.ct_rules.proofs.ClosedBounds.{AreTrue-from_derived}
 use Rattle.ct_rules.proofs.Derivations.{derived_from_line}
 use Rattle.ct_rules.proofs.RuleLaws.{rule_entry}
@@ -24,7 +20,7 @@ use Rattle.ct_table.specs.Closing.{IsSatisfiedAt, IsPending, HasMoreLines}
 use Rattle.ct_kept.specs.Kept.{KeptValue, IsKept, Grew, reason_of, with_line_put}
 use Rattle.ct_kept.specs.Number.{slot_number, bound_of, side_size}
 use Rattle.ct_kept.specs.Worklist.{WorkValue, IsMarked, IsMarkedOrSettled, IsIdle, waiting}
-use Rattle.ct_table.specs.Inside.Marking.{KeepsMarks, IsTestedAt, IsTestedFrom, AreTestedByWeight, AreTestedFromDuals, AreTested}
+use Rattle.ct_table.specs.Inside.Marking.{KeepsMarks, AreTested}
 use Rattle.ct_table.specs.Inside.Turn.{IsPendingBut}
 use Rattle.ct_table.specs.Offers.{value_over, IsGiven, IsWithin}
 use Rattle.ct_table.specs.Inside.Turn.{line_by, slack, potential}

@@ -1,5 +1,5 @@
 -- A table none of whose later lines names a support of a set: it is one without them as it stands.
-use Rattle.std.proofs.Common.{◌≡◌, ℕ, ◌+◌, ◌-◌, ◌<◌, ◌≤◌, ◌++◌, List, length, map, take, drop, Some, false, slice_get, All, refl, sym, ap, subst, ◌∙◌, arith, inl, inr}
+use Rattle.std.proofs.Common.{◌≡◌, ℕ, ◌+◌, ◌-◌, ◌≤◌, List, length, take, drop, Some, false, slice_get, All, refl, sym, ap, subst, ◌∙◌, arith, inl, inr}
 use Rattle.std.proofs.lemmas.Bool.{cases_lt}
 use Rattle.std.proofs.lemmas.List.{take-append-drop}
 use Rattle.std.proofs.lemmas.Option.{slice_get_within, get_or_from_slice_get}
@@ -10,7 +10,7 @@ use Rattle.ct_rule_parts.proofs.Places.{slice_get-append_right}
 use Rattle.ct_rules.specs.Removal.{Places, names_one, voided}
 use Rattle.ct_rules.proofs.VoidedSupports.{premises_of-voided, value_of-voided, IsClosed-voided}
 use Rattle.ct_table.specs.Closing.{ClosingValue, HasMoreLines}
-use Rattle.ct_kept.specs.Kept.{KeptValue, BaseValue, IsKept, set_back}
+use Rattle.ct_kept.specs.Kept.{KeptValue, BaseValue, set_back}
 use Rattle.ct_kept.specs.Number.{bound_of}
 use Rattle.ct_table.specs.Inside.Removing.{IsTakenOut}
 use Rattle.ct_table.specs.Table.{IsTable}

@@ -1,5 +1,5 @@
 -- Two lists that exchange the items at some places.
-use Rattle.std.specs.Prelude.{ℕ, suc, if◌then◌else◌, List, [], ◌∷◌}
+use Rattle.std.specs.Prelude.{suc, if◌then◌else◌, List, [], ◌∷◌}
 use Rattle.ct_rules.specs.Removal.{Places}
 
 -- the first list, with the items of the other one at the places of the set

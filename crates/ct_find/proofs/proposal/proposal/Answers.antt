@@ -1,5 +1,5 @@
 -- The comments, and then the submission of the document.
-use Rattle.std.proofs.Common.{◌≡◌, ℕ, List, ◌++◌, Ok, ap, ap₂, ◌∙◌}
+use Rattle.std.proofs.Common.{ℕ, List, ◌++◌, Ok, ap, ap₂, ◌∙◌}
 use Rattle.ct_commands.specs.Submission.{submission_text}
 use Rattle.ct_kind.specs.declared.evidence.Evidence.{Evidence}
 use Rattle.ct_files.specs.Document.{without_cites}

@@ -1,4 +1,4 @@
-use Rattle.std.proofs.Common.{◌≡◌, ℕ, ◌≤◌, List, sym, ap, ap₂, ◌∙◌, subst}
+use Rattle.std.proofs.Common.{◌≡◌, ℕ, ◌≤◌, List, sym, ap, ◌∙◌, subst}
 use Rattle.std.specs.Prelude.{All, Option, None, ℤ, pos, suc, replicate, unwrap_or}
 use Rattle.ct_entries.specs.Entry.{unrestricted}
 use Rattle.ct_duals.specs.declared.dual.Dual.{Dual}

@@ -1,4 +1,4 @@
-use Rattle.std.proofs.Common.{◌≡◌, ℕ, List, map, length, sym, ap, ◌∙◌}
+use Rattle.std.proofs.Common.{ℕ, map, length, ap, ◌∙◌}
 use Rattle.std.proofs.lemmas.List.{length-map}
 use Rattle.ct_finder.specs.Column.{rows_to, columns, place_of, cost_entry}
 use Rattle.ct_finder.specs.Column.Column.{S}

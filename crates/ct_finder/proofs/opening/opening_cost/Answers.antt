@@ -1,4 +1,4 @@
-use Rattle.std.proofs.Common.{◌≡◌, ◌+◌, List, [], ◌∷◌, ◌++◌, replicate, length, sym, ap, ◌∙◌}
+use Rattle.std.proofs.Common.{◌+◌, List, [], ◌∷◌, ◌++◌, replicate, length, sym, ap, ◌∙◌}
 use Rattle.std.specs.Prelude.{ℤ, pos, negsuc}
 use Rattle.ct_finder.proofs.OpeningLemmas.{cost-pieces}
 use Rattle.ct_finder.proofs.opening.opening_cost.Goals as goal

@@ -1,7 +1,6 @@
 use Rattle.std.proofs.Common.{◌≡◌, ℕ, List, [], ◌∷◌, ◌++◌, map, sym, ap, ap₂, ◌∙◌, subst}
 use Rattle.std.specs.Prelude.{ℤ, pos, neg_ℤ}
 use Rattle.std.proofs.lemmas.Int.{to_z-of_z}
-use mir.Val.{SFits}
 use mir.Syntax.{w64}
 use Rattle.ct_finder.specs.Column.{rows_to, columns, opening_row}
 use Rattle.ct_finder.specs.Narrow.{AreNarrow}

@@ -1,4 +1,4 @@
-use Rattle.std.proofs.Common.{◌≡◌, suc, List, [], ◌∷◌, ◌++◌, add-one, append_assoc, sym, ap, ap₂, ◌∙◌, arith}
+use Rattle.std.proofs.Common.{suc, List, [], ◌∷◌, ◌++◌, add-one, append_assoc, sym, ap, ap₂, ◌∙◌, arith}
 use Rattle.std.specs.Prelude.{ℤ}
 use Rattle.std.proofs.lemmas.Int.{to_z-of_z}
 use mir.Val.{SFits}

@@ -1,5 +1,5 @@
 -- No row is left.
-use Rattle.std.proofs.Common.{◌≡◌, map, sym, ap, ◌∙◌, List, ℕ, arith}
+use Rattle.std.proofs.Common.{map, sym, ap, ◌∙◌, List, ℕ, arith}
 use Rattle.std.specs.Prelude.{find, ℤ}
 use Rattle.std.proofs.lemmas.List.{drop_all}
 use Rattle.ct_finder.specs.RunPrimal.{scaled}

@@ -1,13 +1,11 @@
 -- A row with its basic column, as it stands among the rows.
-use Rattle.std.proofs.Common.{◌≡◌, ℕ, ◌<◌, List, [], length, sym, ap, ap₂, ◌∙◌, arith}
+use Rattle.std.proofs.Common.{◌≡◌, ℕ, List, [], ap, ap₂, ◌∙◌, arith}
 use Rattle.std.specs.Prelude.{ℤ}
 use Rattle.std.proofs.lemmas.List.{get_or_default}
 use Rattle.ct_duals.specs.Bound.{natural}
 use Rattle.ct_finder.specs.Pivot.{at, constant_of}
 use Rattle.ct_finder.specs.Basic.{row_at, basic_at}
-use Rattle.ct_finder.proofs.RunPoints.{line-at}
 use Rattle.ct_finder.specs.Ready.{seen}
-use Rattle.ct_finder.specs.Reading.{line_of}
 use Rattle.ct_finder.proofs.ReadingLemmas.{line-read}
 use Rattle.ct_finder.proofs.reading.line_at.Goals as goal
 

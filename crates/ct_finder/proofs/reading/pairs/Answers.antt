@@ -1,8 +1,7 @@
 -- One index more.
-use Rattle.std.proofs.Common.{◌≡◌, ◌++◌, [], ◌∷◌, get_or, sym, ap, ◌∙◌, List, ℕ, arith}
+use Rattle.std.proofs.Common.{◌++◌, [], ◌∷◌, get_or, ap, ◌∙◌, List, ℕ, arith}
 use Rattle.std.specs.Prelude.{filter, ℤ, pos, int_lt}
 use Rattle.ct_finder.specs.Ready.{seen}
-use Rattle.ct_finder.specs.Reading.{lines_seen}
 use Rattle.ct_finder.proofs.ReadingLemmas.{number-below, pairs-more, pairs-all}
 use Rattle.ct_finder.proofs.reading.pairs.Goals as goal
 

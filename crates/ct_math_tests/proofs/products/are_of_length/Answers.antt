@@ -1,6 +1,5 @@
-use Rattle.std.proofs.Common.{ℕ, ◌^◌, ◌<◌, All, sym, subst, take, take_all}
+use Rattle.std.proofs.Common.{ℕ, ◌^◌, ◌<◌}
 use Rattle.std.proofs.lemmas.List.Elements.{All-append}
-use Rattle.ct_partitions.specs.Partition.{word_lists, words_of_classes}
 use Rattle.ct_partitions.proofs.ClassLemmas.{lists_more}
 use Rattle.ct_math_tests.proofs.products.are_of_length.Goals as goal
 

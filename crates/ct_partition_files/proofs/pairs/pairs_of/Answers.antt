@@ -1,7 +1,5 @@
-use Rattle.std.proofs.Common.{◌≡◌, false, true, if◌then◌else◌, length, Option, None, ap, sym, subst, ◌∙◌, rules}
-use Rattle.toml.specs.Data.{array}
-use Rattle.toml.specs.View.{items_view}
-use Rattle.ct_partition_files.specs.Pairs.{is_pair_count, pairs_in}
+use Rattle.std.proofs.Common.{◌≡◌, false, true, length, sym, rules}
+use Rattle.ct_partition_files.specs.Pairs.{is_pair_count}
 use Rattle.ct_partition_files.proofs.PairLemmas.{pairs_in-counted, pairs_in-miscounted}
 use Rattle.ct_partition_files.proofs.pairs.pairs_of.Goals as goal
 

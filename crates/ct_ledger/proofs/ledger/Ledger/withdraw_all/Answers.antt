@@ -1,9 +1,5 @@
-use Rattle.std.proofs.Common.{List, Bool, Ok, ◌≡◌, sym, ap, ◌∙◌, subst}
-use Rattle.ct_rule_parts.specs.declared.support.Support.{Support}
+use Rattle.std.proofs.Common.{sym, ap, ◌∙◌}
 use Rattle.ct_rules.specs.Removal.{marked, without}
-use Rattle.ct_ledger.specs.Ledger.{LedgerValue}
-use Rattle.ct_pieces.specs.Piece.{PieceValue}
-use Rattle.ct_pieces.specs.Withdrawal.{withdrawn_all, marks_along}
 use Rattle.ct_pieces.specs.Supports.{supports_of}
 use Rattle.ct_ledger.proofs.LeftSupports.{supports-along}
 use Rattle.ct_ledger.proofs.ledger.Ledger.withdraw_all.Goals as goal

@@ -1,6 +1,5 @@
 use Rattle.std.proofs.Common.{List, option_map, sym, ap, ◌∙◌}
 use Rattle.ct_build.specs.Build.{shape_of}
-use Rattle.ct_entries.specs.Code.{CodeValue}
 use Rattle.ct_kind.specs.Named.{code_named}
 use Rattle.ct_pieces.specs.Codes.{codes_of}
 use Rattle.ct_pieces.specs.Piece.{PieceValue}

@@ -1,4 +1,4 @@
-use Rattle.std.proofs.Common.{arith, ◌∙◌, ap, ◌%◌, ◌-◌}
+use Rattle.std.proofs.Common.{arith, ◌∙◌, ap, ◌%◌}
 use Rattle.std.proofs.lemmas.Option.{get_or_from_slice_get}
 use Rattle.std.proofs.lemmas.Nat.{mod_below}
 use Rattle.ct_words.specs.Text.{word_text}

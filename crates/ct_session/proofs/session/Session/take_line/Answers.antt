@@ -1,4 +1,4 @@
-use Rattle.std.proofs.Common.{◌≡◌, ◌||◌, ◌∷◌, ◌++◌, [], Bool, ℕ, List, ap, sym, subst, ◌∙◌}
+use Rattle.std.proofs.Common.{◌≡◌, ◌||◌, ◌∷◌, ◌++◌, [], Bool, ap, sym, subst, ◌∙◌}
 use Rattle.ct_replies.specs.LongReply.{owed_text}
 use Rattle.ct_session.specs.Inside.State.{State, PutsLines}
 use Rattle.ct_session.proofs.Answering.{puts_line}

@@ -1,10 +1,8 @@
-use Rattle.std.proofs.Common.{◌≡◌, List, ℕ, sym, ap, subst, ◌∙◌}
+use Rattle.std.proofs.Common.{◌≡◌, ap, subst, ◌∙◌}
 use Rattle.std.specs.Prelude.{Result, Ok, Err, OnOk, remove}
 use Rattle.ct_rules.specs.Removal.{Places, marked, only, without}
 use Rattle.ct_rules.proofs.WithoutLemmas.{without-only}
-use Rattle.ct_rule_parts.specs.declared.support.Support.{Support}
 use Rattle.ct_table.specs.Removal.{KeepsReasons}
-use Rattle.ct_table.specs.Table.{TableValue}
 use Rattle.ct_table.proofs.table.Table.remove.Goals as goal
 
 on_ok : {T E : Type 0} (r : Result T E) (P Q : Type 0) → (P → Q) → OnOk r P → OnOk r Q

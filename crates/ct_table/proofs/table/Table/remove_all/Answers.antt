@@ -1,12 +1,10 @@
-use Rattle.std.proofs.Common.{◌≡◌, ℕ, ◌<◌, ◌≤◌, List, length, map, take, drop, ◌++◌, replicate, refl, sym, ap, subst, ◌∙◌, arith, rules}
+use Rattle.std.proofs.Common.{◌≡◌, ℕ, List, length, map, take, drop, ◌++◌, replicate, sym, ap, subst, ◌∙◌, arith, rules}
 use Rattle.std.specs.Vec.{vec_len}
 use Rattle.ct_rule_parts.specs.declared.support.Support.{Support}
 use Rattle.ct_rule_parts.specs.declared.support.Support.TheVariants.{Nothing}
 use Rattle.ct_rules.specs.Removal.{Places, marked, without, voided}
 use Rattle.ct_rules.proofs.VoidedSupports.{length-voided}
 use Rattle.ct_rules.proofs.WithoutLemmas.{length-without}
-use Rattle.std.specs.Prelude.{Option}
-use Rattle.ct_entries.specs.declared.entry.Entry.{Entry}
 use Rattle.ct_kept.specs.Places.{AreSupportPlaces, entry_of_support}
 use Rattle.ct_table.specs.Closing.{HasMoreLines}
 use Rattle.ct_kept.specs.Kept.{KeptValue, set_back}
