@@ -1,8 +1,9 @@
 #!/usr/bin/env python3
 """Checks what the documents say of the code: that each name in backticks in PROOFS, THEOREM and LAWS is one of the crates' sources, that each
 file that these and RULES name is there, that each page `NAME.md` that a file of the repository names is there, that no cell of a table of clauses
-has more than 120 characters, that THEOREM counts what the programs of known answers try, and that README has at most 90 lines. Prints what is not
-so, and then ends with 1. `bench/believed.py --check` compares the definitions of THEOREM with those that `run` reaches."""
+has more than 120 characters, that THEOREM counts what the programs of known answers try, that README has at most 90 lines, and that what owns memory
+gives it back, as CONTRIBUTING says: a drop that is written out names each field as `_` and does no more, and no source forgets a value. Prints what
+is not so, and then ends with 1. `bench/believed.py --check` compares the definitions of THEOREM with those that `run` reaches."""
 
 import fnmatch
 import re
@@ -15,6 +16,12 @@ CRATES = TOP / "crates"
 FILES = [str(file) for part in ("src", "specs", "proofs") for file in CRATES.glob(f"*/{part}/**/*.*")]
 # Words of the languages and of goals, which no source of the repository defines.
 KNOWN = {"abbrev", "let", "rw", "_", "Copy", "Ok", "Err", "field-0-is", "toml", "clap", "yes", "no", "D"}
+
+# A written-out drop without its spaces: one pattern, or one for each variant, with `_` for each field.
+PATTERN = r"[A-Z]\w*(?:::[A-Z]\w*)?(?:\{(?:\w+:_,?)+\}|\((?:_,?)+\))"
+DROP = rf"fndrop\(self\)\{{(?:let{PATTERN}=self;|matchself\{{(?:{PATTERN}(?:\|{PATTERN})*=>\{{\}},?)+\}})\}}"
+# What ends a value without giving its memory back.
+FORGETS = r"\b(?:mem::forget|ManuallyDrop|leak|into_raw|into_raw_parts)\b"
 
 said = []
 
@@ -109,6 +116,15 @@ def check_counts():
             said.append(f"THEOREM.md: {crate} tries {count} {what}")
 
 
+def check_drops():
+    """Each drop that is written out takes the value apart and does no more, and no value is forgotten: no clause speaks of memory that is lost."""
+    for file, text in sources("src").items():
+        for name, body in re.findall(r"(?m)^impl.*\bDrop for (\S+).* \{\n((?:    .*\n|\n)*)\}", text):
+            if not re.fullmatch(DROP, re.sub(r"\s", "", body)):
+                said.append(f"{file}: the drop of {name} does more, or less, than to take it apart")
+        said.extend(f"{file}: {found}" for found in re.findall(FORGETS, text))
+
+
 def main():
     names = defined()
     for name in ("PROOFS.md", "THEOREM.md", "LAWS.md", "RULES.md"):
@@ -119,6 +135,7 @@ def main():
     check_cells("LAWS.md", "## Definitions that only these cite")
     check_pages()
     check_counts()
+    check_drops()
     lines = (TOP / "README.md").read_text().count("\n")
     if lines > 90:
         said.append(f"README.md: {lines} lines")
