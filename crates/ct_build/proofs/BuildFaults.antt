@@ -5,18 +5,18 @@ use Rattle.std.proofs.Common.{min, mul-le-mul_right, IfSome, ◌&&◌, Result, O
 use Rattle.std.proofs.Math.Nat.{min-eq_right}
 use Rattle.std.proofs.lemmas.List.Sums.{length-filter, count_by-le-length}
 use Rattle.ct_words.specs.Word.{weight}
-use Rattle.ct_entries.specs.declared.entry.Entry.{Entry}
-use Rattle.ct_entries.specs.Code.{CodeValue}
-use Rattle.ct_entries.specs.Pairs.{first_of}
-use Rattle.ct_entries.proofs.CheckLemmas.{first_of-None}
-use Rattle.ct_entries.specs.Constructions.Translation.{translated}
-use Rattle.ct_entries.specs.Constructions.Shortened.{has_digits, shortened}
-use Rattle.ct_entries.proofs.Constructions.AppendLemmas.{length-lengthened, length-one_appended, length-with_parity}
-use Rattle.ct_entries.proofs.Constructions.TranslationLemmas.{length-translated, length-complemented}
-use Rattle.ct_entries.proofs.Constructions.PuncturedCodes.{length-punctured}
-use Rattle.ct_entries.proofs.Constructions.ShortenedCodes.{length-shortened}
-use Rattle.ct_entries.proofs.Constructions.UuvCodes.{length-uuv_words}
-use Rattle.ct_entries.proofs.Constructions.JuxtaposedCodes.{length-juxtaposed}
+use Rattle.ct_words.specs.declared.entry.Entry.{Entry}
+use Rattle.ct_words.specs.Code.{CodeValue}
+use Rattle.ct_words.specs.Pairs.{first_of}
+use Rattle.ct_words.proofs.CheckLemmas.{first_of-None}
+use Rattle.ct_words.specs.Constructions.Translation.{translated}
+use Rattle.ct_words.specs.Constructions.Shortened.{has_digits, shortened}
+use Rattle.ct_words.proofs.Constructions.AppendLemmas.{length-lengthened, length-one_appended, length-with_parity}
+use Rattle.ct_words.proofs.Constructions.TranslationLemmas.{length-translated, length-complemented}
+use Rattle.ct_words.proofs.Constructions.PuncturedCodes.{length-punctured}
+use Rattle.ct_words.proofs.Constructions.ShortenedCodes.{length-shortened}
+use Rattle.ct_words.proofs.Constructions.UuvCodes.{length-uuv_words}
+use Rattle.ct_words.proofs.Constructions.JuxtaposedCodes.{length-juxtaposed}
 use Rattle.ct_build.specs.declared.building.TheConstants.{MAX_BUILT}
 use Rattle.ct_build.specs.declared.fault.BuildFault.{BuildFault}
 use Rattle.ct_build.specs.declared.fault.BuildFault.TheVariants.{Size, Few, Empty, Memory}

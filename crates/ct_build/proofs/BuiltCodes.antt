@@ -1,21 +1,21 @@
 -- The words that a step makes are a code of the stated entry.
 use Rattle.std.proofs.Common.{◌≡◌, ◌≢◌, ℕ, ◌+◌, ◌*◌, ◌-◌, ◌^◌, ◌<◌, ◌≤◌, List, length, min, Option, Some, None, IfSome, refl, sym, subst, arith, eqb-true}
 use Rattle.std.specs.Option.{option_map, ForSome}
-use Rattle.ct_entries.specs.declared.entry.Entry.{Entry}
-use Rattle.ct_entries.specs.Code.{CodeValue, IsCode, IsCodeOf, IsSoundCode}
-use Rattle.ct_entries.proofs.EntryLemmas.{entry_limits}
-use Rattle.ct_entries.specs.Constructions.Even.{even_from}
-use Rattle.ct_entries.specs.Constructions.Juxtaposed.{added_weights}
-use Rattle.ct_entries.specs.Constructions.Shortened.{shortened_weight}
-use Rattle.ct_entries.specs.Constructions.Places.{ArePlaces}
-use Rattle.ct_entries.specs.Constructions.Translation.{selected}
-use Rattle.ct_entries.proofs.Constructions.FrontLemmas.{IsCode-take, IsCode-nearer, IsCode-unweighted}
-use Rattle.ct_entries.proofs.Constructions.AppendLemmas.{IsCode-lengthened, IsCode-one_appended, IsCode-with_parity}
-use Rattle.ct_entries.proofs.Constructions.TranslationLemmas.{IsCode-translated, IsCode-complemented, IsCode-selected}
-use Rattle.ct_entries.proofs.Constructions.PuncturedCodes.{IsCode-punctured}
-use Rattle.ct_entries.proofs.Constructions.ShortenedCodes.{IsCode-shortened}
-use Rattle.ct_entries.proofs.Constructions.UuvCodes.{IsCode-uuv}
-use Rattle.ct_entries.proofs.Constructions.JuxtaposedCodes.{IsCode-juxtaposed}
+use Rattle.ct_words.specs.declared.entry.Entry.{Entry}
+use Rattle.ct_words.specs.Code.{CodeValue, IsCode, IsCodeOf, IsSoundCode}
+use Rattle.ct_words.proofs.EntryLemmas.{entry_limits}
+use Rattle.ct_words.specs.Constructions.Even.{even_from}
+use Rattle.ct_words.specs.Constructions.Juxtaposed.{added_weights}
+use Rattle.ct_words.specs.Constructions.Shortened.{shortened_weight}
+use Rattle.ct_words.specs.Constructions.Places.{ArePlaces}
+use Rattle.ct_words.specs.Constructions.Translation.{selected}
+use Rattle.ct_words.proofs.Constructions.FrontLemmas.{IsCode-take, IsCode-nearer, IsCode-unweighted}
+use Rattle.ct_words.proofs.Constructions.AppendLemmas.{IsCode-lengthened, IsCode-one_appended, IsCode-with_parity}
+use Rattle.ct_words.proofs.Constructions.TranslationLemmas.{IsCode-translated, IsCode-complemented, IsCode-selected}
+use Rattle.ct_words.proofs.Constructions.PuncturedCodes.{IsCode-punctured}
+use Rattle.ct_words.proofs.Constructions.ShortenedCodes.{IsCode-shortened}
+use Rattle.ct_words.proofs.Constructions.UuvCodes.{IsCode-uuv}
+use Rattle.ct_words.proofs.Constructions.JuxtaposedCodes.{IsCode-juxtaposed}
 use Rattle.ct_build.specs.declared.step.Step.{Step}
 use Rattle.ct_build.specs.declared.step.Step.TheVariants.{Lengthen, AppendOne, Parity, Puncture, Shorten, Translate, Complement, Select, Uuv, Juxtapose, Trim}
 use Rattle.ct_build.specs.Build.{FieldsFit, FitsStated, is_right_length, is_right_other, step_distance, selected_of, built}

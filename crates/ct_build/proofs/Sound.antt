@@ -4,7 +4,7 @@ use Rattle.std.specs.Option.{ForSome}
 use Rattle.ct_words.specs.declared.limits.TheConstants.{MAX_N}
 use Rattle.ct_words.specs.Word.{weight}
 use Rattle.ct_words.proofs.WordLemmas.{weight-le}
-use Rattle.ct_entries.specs.Code.{CodeValue, IsSoundCode}
+use Rattle.ct_words.specs.Code.{CodeValue, IsSoundCode}
 
 -- the same value, told by its four parts
 pub IsSoundCode-same : (c : CodeValue) (n d : ℕ) (w : Option ℕ) (words : List ℕ) → n ≡ c.n → d ≡ c.d → w ≡ c.w → words ≡ c.words

@@ -4,15 +4,15 @@ use Rattle.std.specs.Prelude.{count_by}
 use Rattle.std.specs.Option.{option_map, ForSome}
 use Rattle.std.proofs.lemmas.Bool.{and_parts}
 use Rattle.ct_words.specs.declared.limits.TheConstants.{MAX_N}
-use Rattle.ct_entries.specs.declared.entry.Entry.{Entry}
-use Rattle.ct_entries.specs.Entry.{IsEntry, same_weight}
-use Rattle.ct_entries.specs.Code.{CodeValue}
-use Rattle.ct_entries.proofs.CheckLemmas.{first_of-None}
-use Rattle.ct_entries.proofs.EntryLemmas.{entry_limits}
-use Rattle.ct_entries.specs.Constructions.Even.{even_from}
-use Rattle.ct_entries.specs.Constructions.Juxtaposed.{added_weights}
-use Rattle.ct_entries.specs.Constructions.Shortened.{shortened_weight}
-use Rattle.ct_entries.specs.Constructions.Places.{ArePlaces}
+use Rattle.ct_words.specs.declared.entry.Entry.{Entry}
+use Rattle.ct_words.specs.Entry.{IsEntry, same_weight}
+use Rattle.ct_words.specs.Code.{CodeValue}
+use Rattle.ct_words.proofs.CheckLemmas.{first_of-None}
+use Rattle.ct_words.proofs.EntryLemmas.{entry_limits}
+use Rattle.ct_words.specs.Constructions.Even.{even_from}
+use Rattle.ct_words.specs.Constructions.Juxtaposed.{added_weights}
+use Rattle.ct_words.specs.Constructions.Shortened.{shortened_weight}
+use Rattle.ct_words.specs.Constructions.Places.{ArePlaces}
 use Rattle.ct_build.specs.declared.step.Step.{Step}
 use Rattle.ct_build.specs.declared.step.Step.TheVariants.{Lengthen, AppendOne, Parity, Puncture, Shorten, Translate, Complement, Select, Uuv, Juxtapose, Trim}
 use Rattle.ct_build.specs.Build.{FieldsFit, FitsStated, shape_of, is_right_length, gives_weight, is_right_weight, add_up, is_right_other, distance_of, step_distance, part_fault, other_fault, short_fault, early_fault}

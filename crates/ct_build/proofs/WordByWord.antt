@@ -4,7 +4,7 @@ use Rattle.std.proofs.Math.Nat.{pow-le-pow_right}
 use Rattle.std.proofs.lemmas.List.{map_more, map-append, append-nil}
 use Rattle.std.proofs.lemmas.List.Elements.{filter_more}
 use Rattle.ct_words.specs.declared.limits.TheConstants.{MAX_N}
-use Rattle.ct_entries.specs.Code.{CodeValue, IsSoundCode}
+use Rattle.ct_words.specs.Code.{CodeValue, IsSoundCode}
 
 -- one more of a list that is mapped
 pub mapped_more : (f : ℕ → ℕ) (words before after : List ℕ) (i y : ℕ) → i < length words → before ≡ map f (take i words)

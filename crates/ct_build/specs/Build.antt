@@ -2,19 +2,19 @@
 use Rattle.std.specs.Prelude.{◌≡◌, ◌≢◌, ℕ, zero, ◌+◌, ◌*◌, ◌-◌, ◌%◌, ◌^◌, ◌<◌, ◌≤◌, Bool, true, false, nat_lt, ◌==◌, ◌&&◌, if◌then◌else◌, List, [], ◌∷◌, length, take, count_by, All, min, ⊤, Option, Some, None, option_map, IsTrue}
 use Rattle.std.specs.Option.{unwrap_or, ForSome}
 use Rattle.ct_words.specs.declared.limits.TheConstants.{MAX_N}
-use Rattle.ct_entries.specs.declared.entry.Entry.{Entry}
-use Rattle.ct_entries.specs.Entry.{IsEntry, same_weight}
-use Rattle.ct_entries.specs.declared.code.TheConstants.{MAX_CODE_DISTANCE}
-use Rattle.ct_entries.specs.Code.{CodeValue}
-use Rattle.ct_entries.specs.Pairs.{first_of}
-use Rattle.ct_entries.specs.Constructions.Even.{even_from}
-use Rattle.ct_entries.specs.Constructions.Append.{lengthened, one_appended, with_parity}
-use Rattle.ct_entries.specs.Constructions.Places.{ArePlaces}
-use Rattle.ct_entries.specs.Constructions.Punctured.{punctured}
-use Rattle.ct_entries.specs.Constructions.Shortened.{shortened}
-use Rattle.ct_entries.specs.Constructions.Translation.{translated, complemented, selected}
-use Rattle.ct_entries.specs.Constructions.Uuv.{uuv_words}
-use Rattle.ct_entries.specs.Constructions.Juxtaposed.{juxtaposed, added_weights}
+use Rattle.ct_words.specs.declared.entry.Entry.{Entry}
+use Rattle.ct_words.specs.Entry.{IsEntry, same_weight}
+use Rattle.ct_words.specs.declared.code.TheConstants.{MAX_CODE_DISTANCE}
+use Rattle.ct_words.specs.Code.{CodeValue}
+use Rattle.ct_words.specs.Pairs.{first_of}
+use Rattle.ct_words.specs.Constructions.Even.{even_from}
+use Rattle.ct_words.specs.Constructions.Append.{lengthened, one_appended, with_parity}
+use Rattle.ct_words.specs.Constructions.Places.{ArePlaces}
+use Rattle.ct_words.specs.Constructions.Punctured.{punctured}
+use Rattle.ct_words.specs.Constructions.Shortened.{shortened}
+use Rattle.ct_words.specs.Constructions.Translation.{translated, complemented, selected}
+use Rattle.ct_words.specs.Constructions.Uuv.{uuv_words}
+use Rattle.ct_words.specs.Constructions.Juxtaposed.{juxtaposed, added_weights}
 use Rattle.ct_build.specs.declared.building.TheConstants.{MAX_BUILT}
 use Rattle.ct_build.specs.declared.fault.BuildFault.{BuildFault}
 use Rattle.ct_build.specs.declared.fault.BuildFault.TheVariants.{WrongPart, Short, Size, Few, Empty}

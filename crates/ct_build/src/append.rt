@@ -3,14 +3,13 @@
 ghost use Rattle.std.specs.Prelude.{◌≡◌, ◌+◌, ◌<◌, ◌≤◌, map, IfOk};
 ghost use Rattle.std.specs.Option.{option_map, ForSome};
 ghost use Rattle.ct_words.specs.declared.limits.TheConstants.{MAX_N};
-ghost use Rattle.ct_entries.specs.Code.{IsSoundCode};
-ghost use Rattle.ct_entries.specs.Constructions.Joined.{followed_by};
-ghost use Rattle.ct_entries.specs.Constructions.Even.{even_from};
-ghost use Rattle.ct_entries.specs.Constructions.Append.{lengthened, one_appended, with_parity};
+ghost use Rattle.ct_words.specs.Code.{IsSoundCode};
+ghost use Rattle.ct_words.specs.Constructions.Joined.{followed_by};
+ghost use Rattle.ct_words.specs.Constructions.Even.{even_from};
+ghost use Rattle.ct_words.specs.Constructions.Append.{lengthened, one_appended, with_parity};
 
 use crate::even::even_from;
-use ct_entries::Code;
-use ct_words::{Word, weight};
+use ct_words::{Code, Word, weight};
 use std::alloc::{AllocError, Global};
 
 /// The words of the part, each followed by the digit 0: a code of length n + 1, of the same distance and weight. `Err` is

@@ -2,7 +2,7 @@
 
 ghost use Rattle.std.specs.Prelude.{◌≡◌, ◌≤◌, nat_lt, if◌then◌else◌, Some, None, IfNone, IfOk, OnOk, IfErr};
 ghost use Rattle.std.specs.Option.{ForSome, unwrap_or};
-ghost use Rattle.ct_entries.specs.declared.code.TheConstants.{MAX_CODE_DISTANCE};
+ghost use Rattle.ct_words.specs.declared.code.TheConstants.{MAX_CODE_DISTANCE};
 ghost use Rattle.ct_build.specs.declared.building.TheConstants.{MAX_BUILT};
 ghost use Rattle.ct_build.specs.declared.fault.BuildFault.TheVariants.{Few};
 ghost use Rattle.ct_build.specs.Build.{FitsStated, IsShape, part_fault, other_fault, distance_of, step_distance, size_of, other_of, result_size, above_limit, sizes_fault, few_fault, short_fault, early_fault, told_fault};
@@ -13,7 +13,7 @@ use crate::fault::BuildFault;
 use crate::right_parts::{is_right_length, is_right_other, is_right_weight};
 use crate::shape::Shape;
 use crate::step::Step;
-use ct_entries::Entry;
+use ct_words::Entry;
 
 /// The first reason against the step over codes of these shapes that needs no word of them: in the order of `apply` all of
 /// its reasons but `Empty`. Where the number of words that result depends on the words, for `shorten` and `select`, it is

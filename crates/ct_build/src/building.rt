@@ -2,7 +2,7 @@
 
 ghost use Rattle.std.specs.Prelude.{◌≡◌, ◌≢◌, Some, None, IfOk, OnOk, IfErr, IsPermutation};
 ghost use Rattle.std.specs.Option.{option_copied, option_map, ForSome};
-ghost use Rattle.ct_entries.specs.Code.{IsSoundCode};
+ghost use Rattle.ct_words.specs.Code.{IsSoundCode};
 ghost use Rattle.ct_build.specs.Build.{FitsStated, IsShape, shape_of, built, build_fault};
 
 use crate::build_faults::early_fault;
@@ -11,7 +11,7 @@ use crate::fault::BuildFault;
 use crate::shape::Shape;
 use crate::sorted::code_of;
 use crate::step::Step;
-use ct_entries::{Code, Entry};
+use ct_words::{Code, Entry};
 use std::alloc::Global;
 
 /// The greatest number of words of a code that is built, and of the codes that it is built from, 262,144.

@@ -3,7 +3,7 @@
 ghost use Rattle.std.specs.Prelude.{◌≡◌, ◌+◌, ◌*◌, ◌^◌, ◌<◌, ◌≤◌, ◌≢◌, [], take, None, IfOk, OnErr, IsPermutation};
 ghost use Rattle.std.specs.Option.{option_copied, option_map, ForSome};
 ghost use Rattle.ct_words.specs.declared.limits.TheConstants.{MAX_N};
-ghost use Rattle.ct_entries.specs.declared.entry.Entry.{Entry};
+ghost use Rattle.ct_words.specs.declared.entry.Entry.{Entry};
 ghost use Rattle.ct_build.specs.declared.step.Step.TheVariants.{Uuv, Juxtapose};
 ghost use Rattle.ct_build.specs.Build.{FitsStated, shape_of, selected_of, built, early_fault};
 
@@ -14,8 +14,7 @@ use crate::punctured::punctured_words;
 use crate::shortened::shortened_words;
 use crate::step::Step;
 use crate::translation::{all_ones, sorted_sums, sums_of_weight};
-use ct_entries::{Code, Entry};
-use ct_words::Word;
+use ct_words::{Code, Entry, Word};
 use std::alloc::{AllocError, Global};
 
 /// The words that the step makes, which nothing is told against before it is taken. It fails only where there is one.

@@ -2,11 +2,10 @@
 
 ghost use Rattle.std.specs.Prelude.{◌≡◌, ◌-◌, ◌^◌, ◌<◌, ◌≤◌, length, None, IfOk};
 ghost use Rattle.ct_words.specs.declared.limits.TheConstants.{MAX_N};
-ghost use Rattle.ct_entries.specs.Code.{IsSoundCode};
-ghost use Rattle.ct_entries.specs.Constructions.Even.{even_from, even_words};
+ghost use Rattle.ct_words.specs.Code.{IsSoundCode};
+ghost use Rattle.ct_words.specs.Constructions.Even.{even_from, even_words};
 
-use ct_entries::Code;
-use ct_words::{Word, weight};
+use ct_words::{Code, Word, weight};
 use std::alloc::{AllocError, Global};
 
 /// All words of even weight of length n, from 1 to `MAX_N`: half of all words, a code of distance 2. `Err` is want of

@@ -1,11 +1,11 @@
 //! The first words of a code.
 
 ghost use Rattle.std.specs.Prelude.{◌≡◌, ◌↔◌, ◌⊎◌, ◌<◌, ◌≤◌, take, length, Err, IfOk, IfErr};
-ghost use Rattle.ct_entries.specs.Code.{IsSoundCode};
+ghost use Rattle.ct_words.specs.Code.{IsSoundCode};
 ghost use Rattle.ct_build.specs.declared.fault.BuildFault.TheVariants.{Few, Memory};
 
 use crate::fault::BuildFault;
-use ct_entries::Code;
+use ct_words::Code;
 use std::alloc::Global;
 
 /// The first words of the part, so many, at least 1: a code of the same length, distance and weight.

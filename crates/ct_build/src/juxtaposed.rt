@@ -3,12 +3,11 @@
 ghost use Rattle.std.specs.Prelude.{◌≡◌, ◌+◌, ◌-◌, ◌^◌, ◌<◌, ◌≤◌, All, IfOk};
 ghost use Rattle.std.specs.Option.{ForSome};
 ghost use Rattle.ct_words.specs.declared.limits.TheConstants.{MAX_N};
-ghost use Rattle.ct_entries.specs.declared.code.TheConstants.{MAX_CODE_DISTANCE};
-ghost use Rattle.ct_entries.specs.Code.{IsSoundCode};
-ghost use Rattle.ct_entries.specs.Constructions.Juxtaposed.{juxtaposed, added_weights};
+ghost use Rattle.ct_words.specs.declared.code.TheConstants.{MAX_CODE_DISTANCE};
+ghost use Rattle.ct_words.specs.Code.{IsSoundCode};
+ghost use Rattle.ct_words.specs.Constructions.Juxtaposed.{juxtaposed, added_weights};
 
-use ct_entries::Code;
-use ct_words::Word;
+use ct_words::{Code, Word};
 use std::alloc::{AllocError, Global};
 
 /// The code whose i-th word is the i-th ascending word of the part followed by that of the other, for i below the smaller

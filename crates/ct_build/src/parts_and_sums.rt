@@ -4,13 +4,12 @@ ghost use Rattle.std.specs.Prelude.{◌≡◌, ◌+◌, ◌*◌, ◌^◌, ◌<�
 ghost use Rattle.std.specs.List.Sorted.{IsSorted};
 ghost use Rattle.std.specs.Ordering.{nat_cmp};
 ghost use Rattle.ct_words.specs.declared.limits.TheConstants.{MAX_N};
-ghost use Rattle.ct_entries.specs.Code.{IsSoundCode};
-ghost use Rattle.ct_entries.specs.Constructions.Joined.{followed_by};
-ghost use Rattle.ct_entries.specs.Constructions.Uuv.{uuv_words};
+ghost use Rattle.ct_words.specs.Code.{IsSoundCode};
+ghost use Rattle.ct_words.specs.Constructions.Joined.{followed_by};
+ghost use Rattle.ct_words.specs.Constructions.Uuv.{uuv_words};
 
 use crate::sorted::{code_of, in_order};
-use ct_entries::Code;
-use ct_words::Word;
+use ct_words::{Code, Word};
 use std::alloc::{AllocError, Global};
 
 /// The code of the words u followed by u + v, for each word u of the part and v of the other, two codes of one length n

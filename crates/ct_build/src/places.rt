@@ -3,8 +3,8 @@
 ghost use Rattle.std.specs.Prelude.{◌≡◌, ◌+◌, ◌*◌, ◌/◌, ◌%◌, ◌^◌, ◌<◌, ◌≤◌};
 ghost use Rattle.ct_words.specs.declared.limits.TheConstants.{MAX_N};
 ghost use Rattle.ct_words.specs.Word.{digit};
-ghost use Rattle.ct_entries.specs.Constructions.Places.{ArePlaces, other_places, read_at};
-ghost use Rattle.ct_entries.specs.Constructions.Shortened.{has_digits};
+ghost use Rattle.ct_words.specs.Constructions.Places.{ArePlaces, other_places, read_at};
+ghost use Rattle.ct_words.specs.Constructions.Shortened.{has_digits};
 
 use ct_words::Word;
 

@@ -2,14 +2,13 @@
 
 ghost use Rattle.std.specs.Prelude.{◌≡◌, ◌-◌, ◌^◌, ◌<◌, ◌≤◌, length, All, IfOk, IsPermutation};
 ghost use Rattle.ct_words.specs.declared.limits.TheConstants.{MAX_N};
-ghost use Rattle.ct_entries.specs.Code.{IsSoundCode};
-ghost use Rattle.ct_entries.specs.Constructions.Places.{ArePlaces};
-ghost use Rattle.ct_entries.specs.Constructions.Punctured.{punctured};
+ghost use Rattle.ct_words.specs.Code.{IsSoundCode};
+ghost use Rattle.ct_words.specs.Constructions.Places.{ArePlaces};
+ghost use Rattle.ct_words.specs.Constructions.Punctured.{punctured};
 
 use crate::places::without_places;
 use crate::sorted::code_of;
-use ct_entries::Code;
-use ct_words::Word;
+use ct_words::{Code, Word};
 use std::alloc::{AllocError, Global};
 
 /// The code of the words of the part without the p places, which are distinct places of its words, in ascending order,

@@ -9,7 +9,7 @@ use crate::even::even_from;
 use crate::shape::Shape;
 use crate::shortened::ones_among;
 use crate::step::Step;
-use ct_entries::Entry;
+use ct_words::Entry;
 
 /// Whether the step makes words of length `n` of words of length `m`.
 #[tactic(auto, unfolding(crate::specs::Build::is_right_length))]

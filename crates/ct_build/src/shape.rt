@@ -1,11 +1,11 @@
 //! What is known of a code without its words.
 
 ghost use Rattle.std.specs.Prelude.{◌≡◌, ◌≤◌};
-ghost use Rattle.ct_entries.specs.Code.{IsSoundCode};
-ghost use Rattle.ct_entries.specs.Entry.{IsEntry};
+ghost use Rattle.ct_words.specs.Code.{IsSoundCode};
+ghost use Rattle.ct_words.specs.Entry.{IsEntry};
 ghost use Rattle.ct_build.specs.Build.{shape_of, IsShape};
 
-use ct_entries::{Code, Entry};
+use ct_words::{Code, Entry};
 
 /// What is known of a code without its words: their length, distance, weight where they have one, and number.
 #[derive(Clone, Copy)]

@@ -2,15 +2,14 @@
 
 ghost use Rattle.std.specs.Prelude.{◌≡◌, ◌↔◌, ◌-◌, ◌^◌, ◌<◌, ◌≤◌, ◌==◌, [], length, count_by, All, IfOk, IfErr, IsOk, ◌⊎◌};
 ghost use Rattle.ct_words.specs.declared.limits.TheConstants.{MAX_N};
-ghost use Rattle.ct_entries.specs.Code.{IsSoundCode};
-ghost use Rattle.ct_entries.specs.Constructions.Places.{ArePlaces};
-ghost use Rattle.ct_entries.specs.Constructions.Shortened.{has_digits, shortened, shortened_weight};
+ghost use Rattle.ct_words.specs.Code.{IsSoundCode};
+ghost use Rattle.ct_words.specs.Constructions.Places.{ArePlaces};
+ghost use Rattle.ct_words.specs.Constructions.Shortened.{has_digits, shortened, shortened_weight};
 ghost use Rattle.ct_build.specs.declared.fault.BuildFault.TheVariants.{Empty, Memory};
 
 use crate::fault::BuildFault;
 use crate::places::{has_digits, without_places};
-use ct_entries::Code;
-use ct_words::Word;
+use ct_words::{Code, Word};
 use std::alloc::{AllocError, Global};
 
 /// The code of the words of the part that have the digits, each 0 or 1, at the p places, without these places. The places

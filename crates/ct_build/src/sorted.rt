@@ -4,11 +4,10 @@ ghost use Rattle.std.specs.Prelude.{◌≡◌, ◌≤◌, length, IsPermutation}
 ghost use Rattle.std.specs.List.Sorted.{IsSorted};
 ghost use Rattle.std.proofs.Common.{nat_cmp};
 ghost use Rattle.ct_words.specs.declared.limits.TheConstants.{MAX_N};
-ghost use Rattle.ct_entries.specs.declared.code.TheConstants.{MAX_CODE_DISTANCE};
-ghost use Rattle.ct_entries.specs.Code.{IsCode, IsSoundCode};
+ghost use Rattle.ct_words.specs.declared.code.TheConstants.{MAX_CODE_DISTANCE};
+ghost use Rattle.ct_words.specs.Code.{IsCode, IsSoundCode};
 
-use ct_entries::Code;
-use ct_words::Word;
+use ct_words::{Code, Word};
 
 /// The words in ascending order. No sort is made where they ascend already, or where they descend. It takes no memory.
 pub(crate) fn in_order(words: Vec<Word>) -> Vec<Word>

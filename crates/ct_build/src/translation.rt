@@ -5,16 +5,15 @@ ghost use Rattle.std.specs.Option.{option_map, ForSome};
 ghost use Rattle.std.specs.List.Sorted.{IsSorted};
 ghost use Rattle.std.specs.Ordering.{nat_cmp};
 ghost use Rattle.ct_words.specs.declared.limits.TheConstants.{MAX_N};
-ghost use Rattle.ct_entries.specs.Code.{IsSoundCode};
-ghost use Rattle.ct_entries.specs.Constructions.Even.{even_from};
-ghost use Rattle.ct_entries.specs.Constructions.Translation.{translated, all_ones, complemented, selected};
+ghost use Rattle.ct_words.specs.Code.{IsSoundCode};
+ghost use Rattle.ct_words.specs.Constructions.Even.{even_from};
+ghost use Rattle.ct_words.specs.Constructions.Translation.{translated, all_ones, complemented, selected};
 ghost use Rattle.ct_build.specs.declared.fault.BuildFault.TheVariants.{Empty, Memory};
 
 use crate::even::even_from;
 use crate::fault::BuildFault;
 use crate::sorted::in_order;
-use ct_entries::Code;
-use ct_words::{Word, weight};
+use ct_words::{Code, Word, weight};
 use std::alloc::{AllocError, Global};
 
 /// The sums of each word of the part and the word `by`, which is below 2^n: a code of the same length and distance,

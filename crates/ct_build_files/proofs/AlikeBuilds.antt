@@ -1,7 +1,7 @@
 -- A table that has the same at the keys of a build as one that states it reads as that build, whatever else is cited in it.
 use Rattle.std.proofs.Common.{◌≡◌, ℕ, List, Option, Some, Ok, refl, ap, ◌∙◌}
 use Rattle.toml.specs.Data.{Data, table, Members}
-use Rattle.ct_entries.specs.declared.entry.Entry.{Entry}
+use Rattle.ct_words.specs.declared.entry.Entry.{Entry}
 use Rattle.ct_build.specs.declared.step.Step.{Step}
 use Rattle.ct_fields.specs.Steps.{check}
 use Rattle.ct_fields.specs.LastFields.{last_fields}

@@ -2,9 +2,9 @@
 use Rattle.std.proofs.Common.{◌≡◌, ℕ, List, ◌∷◌, length, Option, Some, None, option_map, ap, subst, sym}
 use Rattle.std.specs.Prelude.{IfSome, OnSome}
 use Rattle.std.specs.Option.{option_to_list}
-use Rattle.ct_entries.specs.declared.entry.Entry.{Entry}
-use Rattle.ct_entries.specs.Code.{CodeValue}
-use Rattle.ct_entries.specs.Pairs.{first_of}
+use Rattle.ct_words.specs.declared.entry.Entry.{Entry}
+use Rattle.ct_words.specs.Code.{CodeValue}
+use Rattle.ct_words.specs.Pairs.{first_of}
 use Rattle.ct_build.specs.declared.fault.BuildFault.{BuildFault}
 use Rattle.ct_build.specs.declared.shape.Shape.{Shape}
 use Rattle.ct_build.specs.declared.step.Step.{Step}

@@ -10,7 +10,7 @@ use Rattle.toml.specs.Data.{Data, string, integer, float, boolean, datetime, arr
 use Rattle.toml.specs.View.{items_of}
 use Rattle.ct_words.specs.declared.limits.TheConstants.{MAX_N}
 use Rattle.ct_words.specs.Text.{is_binary_digit}
-use Rattle.ct_entries.specs.Constructions.Places.{ArePlaces}
+use Rattle.ct_words.specs.Constructions.Places.{ArePlaces}
 use Rattle.ct_fields.specs.Field.{field_text}
 use Rattle.ct_fields.specs.Ids.{id_in}
 use Rattle.ct_fields.specs.Fields.{field, number_in}

@@ -4,9 +4,9 @@ use Rattle.std.specs.Prelude.{IfSome}
 use Rattle.std.specs.List.{list_any}
 use Rattle.std.specs.Option.{option_to_list, MatchOption}
 use Rattle.std.specs.Str.{bytes_eq}
-use Rattle.ct_entries.specs.declared.entry.Entry.{Entry}
-use Rattle.ct_entries.specs.Entry.{IsEntry}
-use Rattle.ct_entries.specs.Code.{CodeValue, IsCode, IsCodeOf, IsSoundCode}
+use Rattle.ct_words.specs.declared.entry.Entry.{Entry}
+use Rattle.ct_words.specs.Entry.{IsEntry}
+use Rattle.ct_words.specs.Code.{CodeValue, IsCode, IsCodeOf, IsSoundCode}
 use Rattle.ct_build.specs.declared.step.Step.{Step}
 use Rattle.ct_build.specs.Build.{FitsStated, build_fault, IsRightBuild}
 use Rattle.ct_build.proofs.RightBuilds.{right_from, none_from}

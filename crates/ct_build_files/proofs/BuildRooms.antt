@@ -5,8 +5,8 @@ use Rattle.toml.specs.Data.{string, integer, Members}
 use Rattle.ct_words.specs.declared.limits.TheConstants.{MAX_N}
 use Rattle.ct_words.specs.Text.{word_text}
 use Rattle.ct_words.proofs.TextLemmas.{length-word_text}
-use Rattle.ct_entries.specs.declared.entry.Entry.{Entry}
-use Rattle.ct_entries.proofs.EntryLemmas.{entry_limits}
+use Rattle.ct_words.specs.declared.entry.Entry.{Entry}
+use Rattle.ct_words.proofs.EntryLemmas.{entry_limits}
 use Rattle.ct_text.specs.Id.{is_id}
 use Rattle.ct_build.specs.Build.{FieldsFit, FitsStated}
 use Rattle.ct_build.specs.declared.step.Step.{Step}

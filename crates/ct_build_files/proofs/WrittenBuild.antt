@@ -10,8 +10,8 @@ use Rattle.toml.specs.Data.{string, integer, table, Members, get, get_member, it
 use Rattle.toml.specs.View.{items_of}
 use Rattle.ct_text.specs.Id.{is_id}
 use Rattle.ct_words.specs.Text.{word_text}
-use Rattle.ct_entries.specs.declared.entry.Entry.{Entry}
-use Rattle.ct_entries.proofs.EntryLemmas.{WeightFits, entry_limits}
+use Rattle.ct_words.specs.declared.entry.Entry.{Entry}
+use Rattle.ct_words.proofs.EntryLemmas.{WeightFits, entry_limits}
 use Rattle.ct_build.specs.Build.{FitsStated}
 use Rattle.ct_build.specs.declared.step.Step.{Step}
 use Rattle.ct_build.specs.declared.step.Step.TheVariants.{Lengthen, AppendOne, Parity, Puncture, Shorten, Translate, Complement, Select, Uuv, Juxtapose, Trim}

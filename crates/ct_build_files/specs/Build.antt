@@ -1,7 +1,7 @@
 -- The evidence of a document of kind build, or its first fault.
 use Rattle.std.specs.Prelude.{Option, ok_or, Result, Ok}
 use Rattle.toml.specs.Data.{Data}
-use Rattle.ct_entries.specs.declared.entry.Entry.{Entry}
+use Rattle.ct_words.specs.declared.entry.Entry.{Entry}
 use Rattle.ct_build.specs.declared.step.Step.{Step}
 use Rattle.ct_fields.specs.Steps.{◌>>=◌, ◌>>◌, check}
 use Rattle.ct_fields.specs.LastFields.{last_fields}

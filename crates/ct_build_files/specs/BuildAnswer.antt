@@ -2,8 +2,8 @@
 use Rattle.std.specs.Prelude.{◌≡◌, ◌≢◌, ℕ, ◌+◌, ◌%◌, ◌<◌, ◌≤◌, ◌⊎◌, List, length, map, All, Option, IsTrue, IsFalse, Result, Ok, Err, ⊤}
 use Rattle.toml.specs.Data.{Data}
 use Rattle.ct_words.specs.declared.limits.TheConstants.{MAX_N}
-use Rattle.ct_entries.specs.declared.entry.Entry.{Entry}
-use Rattle.ct_entries.specs.Constructions.Places.{ArePlaces}
+use Rattle.ct_words.specs.declared.entry.Entry.{Entry}
+use Rattle.ct_words.specs.Constructions.Places.{ArePlaces}
 use Rattle.ct_build.specs.declared.building.TheConstants.{MAX_BUILT}
 use Rattle.ct_fields.specs.Tables.{HasNumber, IsWordText}
 use Rattle.ct_fields.specs.HasCites.{HasRightCites, HasWrongCites, HasOther, HasLast}

@@ -3,7 +3,7 @@ use Rattle.std.specs.Prelude.{Bool, ◌||◌, Result, Ok, false, codes}
 use Rattle.std.specs.Option.{option_map_or}
 use Rattle.toml.specs.Data.{Data, get}
 use Rattle.ct_words.specs.declared.limits.TheConstants.{MAX_N}
-use Rattle.ct_entries.specs.declared.entry.Entry.{Entry}
+use Rattle.ct_words.specs.declared.entry.Entry.{Entry}
 use Rattle.ct_fields.specs.Field.{field_text}
 use Rattle.ct_fields.specs.Steps.{◌>>=◌}
 use Rattle.ct_fields.specs.Fields.{is_text, number_field}

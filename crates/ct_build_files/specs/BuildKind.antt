@@ -1,8 +1,8 @@
 -- Evidence of kind build: the words that a step makes of the codes of pieces that stand, its parts.
 use Rattle.std.specs.Prelude.{ℕ, zero, suc, true, List, ◌∷◌, length, Option, Some, None, option_map, codes}
 use Rattle.std.specs.Option.{option_to_list, unwrap_or}
-use Rattle.ct_entries.specs.declared.entry.Entry.{Entry}
-use Rattle.ct_entries.specs.Code.{CodeValue}
+use Rattle.ct_words.specs.declared.entry.Entry.{Entry}
+use Rattle.ct_words.specs.Code.{CodeValue}
 use Rattle.ct_build.specs.declared.fault.BuildFault.{BuildFault}
 use Rattle.ct_build.specs.declared.fault.BuildFault.TheVariants as build
 use Rattle.ct_build.specs.declared.step.Step.{Step}

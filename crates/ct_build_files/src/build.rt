@@ -12,10 +12,10 @@ use crate::build_fields::{id_field, operation_field, other_field, step_fields};
 use crate::entry::build_entry;
 use crate::operation::Operation;
 use ct_build::Step;
-use ct_entries::Entry;
 use ct_fields::{DocumentFault, FieldName, last_fields};
 use ct_kind::Evidence;
 use ct_text::Id;
+use ct_words::Entry;
 use std::alloc::Global;
 use toml::Value;
 

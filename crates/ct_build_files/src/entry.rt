@@ -4,8 +4,8 @@ ghost use Rattle.toml.specs.View.{view};
 ghost use Rattle.ct_words.specs.declared.limits.TheConstants.{MAX_N};
 ghost use Rattle.ct_build_files.specs.BuildEntry.{selects, build_entry_of};
 
-use ct_entries::Entry;
 use ct_fields::{DocumentFault, FieldName, distance_beside, has_field, length_field, weight_field};
+use ct_words::Entry;
 use toml::Value;
 
 /// Whether the operation of the document is the text `select`.

@@ -13,10 +13,9 @@ ghost use Rattle.ct_build_files.specs.WrittenBuild.{number_list, digits_text, pu
 
 use crate::operation::Operation;
 use ct_build::Step;
-use ct_entries::Entry;
 use ct_fields::{FieldName, entry_table, id_value, put, put_weight, word_value};
 use ct_text::Id;
-use ct_words::Word;
+use ct_words::{Entry, Word};
 use std::alloc::{AllocError, Global};
 use toml::{Table, Value};
 

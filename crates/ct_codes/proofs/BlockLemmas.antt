@@ -10,10 +10,10 @@ use Rattle.std.proofs.lemmas.List.Sums.{prefix_len-le-length, prefix_len_passes,
 use Rattle.ct_words.specs.declared.limits.TheConstants.{MAX_N}
 use Rattle.ct_words.specs.Word.{distance}
 use Rattle.ct_words.proofs.TextLemmas.{length-tabulate, get_or-tabulate}
-use Rattle.ct_entries.specs.Coset.{span_word, choice_count, coset_list}
+use Rattle.ct_words.specs.Coset.{span_word, choice_count, coset_list}
 use Rattle.ct_codes.specs.Inside.First.{NonePasses, IsFirst, IsFirstOrNone}
 use Rattle.ct_codes.specs.Inside.Span.{AreParts, is_close_sum, is_close_choice}
-use Rattle.ct_entries.proofs.PairLemmas.{position_cases}
+use Rattle.ct_words.proofs.PairLemmas.{position_cases}
 use Rattle.ct_codes.proofs.NearLemmas.{first_is, none_is}
 use Rattle.ct_codes.proofs.SpanLemmas.{chosen, span_word-zero, span_word-lt}
 use Rattle.ct_codes.proofs.CosetLemmas.{distance_of_sum, coset_list-at, place_within}

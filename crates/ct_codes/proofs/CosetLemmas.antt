@@ -10,16 +10,16 @@ use Rattle.std.proofs.lemmas.List.Elements.{Contains-get_or}
 use Rattle.ct_words.specs.declared.limits.TheConstants.{MAX_N}
 use Rattle.ct_words.specs.Word.{distance, weight}
 use Rattle.ct_words.proofs.WordLemmas.{IsSum-bit_xor, distance-is_weight, distance_same}
-use Rattle.ct_entries.specs.declared.entry.Entry.{Entry}
-use Rattle.ct_entries.specs.declared.fault.CodeFault.TheVariants.{Size, Work}
-use Rattle.ct_entries.specs.declared.fault.TheConstants.{MAX_REPRESENTATIVES, MAX_COSET_WORK}
-use Rattle.ct_entries.specs.Entry.{IsEntry}
-use Rattle.ct_entries.specs.Code.{IsCodeOf, IsSoundCode, IsTrueLower}
-use Rattle.ct_entries.specs.Check.{close_fault}
-use Rattle.ct_entries.specs.Coset.{span_word, choice_count, coset_list, coset_work, coset_size_fault, coset_work_fault, coset_fault, CosetValue, IsSoundCosetCode}
-use Rattle.ct_entries.proofs.PairLemmas.{position_cases}
-use Rattle.ct_entries.proofs.EntryLemmas.{entry_limits}
-use Rattle.ct_entries.proofs.CheckLemmas.{first_of-None, close-none, close_none_from, sound_from_code}
+use Rattle.ct_words.specs.declared.entry.Entry.{Entry}
+use Rattle.ct_words.specs.declared.fault.CodeFault.TheVariants.{Size, Work}
+use Rattle.ct_words.specs.declared.fault.TheConstants.{MAX_REPRESENTATIVES, MAX_COSET_WORK}
+use Rattle.ct_words.specs.Entry.{IsEntry}
+use Rattle.ct_words.specs.Code.{IsCodeOf, IsSoundCode, IsTrueLower}
+use Rattle.ct_words.specs.Check.{close_fault}
+use Rattle.ct_words.specs.Coset.{span_word, choice_count, coset_list, coset_work, coset_size_fault, coset_work_fault, coset_fault, CosetValue, IsSoundCosetCode}
+use Rattle.ct_words.proofs.PairLemmas.{position_cases}
+use Rattle.ct_words.proofs.EntryLemmas.{entry_limits}
+use Rattle.ct_words.proofs.CheckLemmas.{first_of-None, close-none, close_none_from, sound_from_code}
 use Rattle.ct_codes.proofs.SpanLemmas.{xor_exchange, span_word-zero, span_word-sum, choice_word-at, length-coset_list, get_or-coset_list, coset_list-lt}
 
 -- the distance of two words is told by their sum

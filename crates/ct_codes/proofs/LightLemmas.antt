@@ -10,12 +10,12 @@ use Rattle.std.proofs.lemmas.List.Elements.{All-nil, All-cons, All-head, All-tai
 use Rattle.ct_words.specs.Word.{weight, distance}
 use Rattle.ct_words.proofs.WordLemmas.{IsSum-bit_xor, distance-is_weight, weight-suc}
 use Rattle.ct_codes.specs.declared.light.Pivot.{Pivot}
-use Rattle.ct_entries.specs.Coset.{span_word, coset_list}
-use Rattle.ct_entries.specs.Pairs.{least_pair}
+use Rattle.ct_words.specs.Coset.{span_word, coset_list}
+use Rattle.ct_words.specs.Pairs.{least_pair}
 use Rattle.ct_codes.specs.Inside.First.{NonePasses}
 use Rattle.ct_codes.specs.Inside.Span.{is_close_sum, is_close_choice}
 use Rattle.ct_codes.specs.Inside.Light.{reduced_by, reduced, ArePivots, AreUnits}
-use Rattle.ct_entries.proofs.PairLemmas.{close_any_length}
+use Rattle.ct_words.proofs.PairLemmas.{close_any_length}
 use Rattle.ct_codes.proofs.ShiftedPairs.{shifted-none_before, shifted-end}
 use Rattle.ct_codes.proofs.SpanLemmas.{xor_exchange, pow_sum, chosen, chosen-lt, span_word-zero, span_word-lt, length-coset_list, coset_list-lt}
 use Rattle.ct_codes.proofs.CosetLemmas.{NoneBefore, rows-of_choices}

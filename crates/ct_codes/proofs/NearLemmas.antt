@@ -15,7 +15,7 @@ use Rattle.std.proofs.lemmas.List.Elements.{All-head, All-tail}
 use Rattle.std.proofs.lemmas.List.Sums.{position_or_len_is}
 use Rattle.ct_words.specs.Word.{distance}
 use Rattle.ct_words.proofs.WordLemmas.{IsSum-bit_xor, distance-is_weight, weight-count_ones, distance_comm}
-use Rattle.ct_entries.proofs.PairLemmas.{position_cases}
+use Rattle.ct_words.proofs.PairLemmas.{position_cases}
 
 -- how many ones two words' sum has is their distance
 ones_of_sum : (word x : ℕ) → word < 2 ^ 32 → x < 2 ^ 32 → count_ones (bit_xor x word) ≡ distance 32 word x

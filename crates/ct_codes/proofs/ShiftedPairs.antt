@@ -3,8 +3,8 @@ use Rattle.std.proofs.Common.{◌≡◌, ℕ, zero, suc, ◌+◌, ◌<◌, ◌�
 use Rattle.std.specs.Option.{option_map}
 use Rattle.std.proofs.lemmas.Bool.{cases_Bool, both_ways}
 use Rattle.std.proofs.lemmas.List.{at_drop_more, at_drop_all}
-use Rattle.ct_entries.specs.Pairs.{least_pair}
-use Rattle.ct_entries.proofs.PairLemmas.{position_cases, IsLeastPair-from}
+use Rattle.ct_words.specs.Pairs.{least_pair}
+use Rattle.ct_words.proofs.PairLemmas.{position_cases, IsLeastPair-from}
 use Rattle.ct_codes.specs.Inside.Shifted.{shifted}
 
 pub shifted-zero : (pair : Option (ℕ × ℕ)) → shifted 0 pair ≡ pair

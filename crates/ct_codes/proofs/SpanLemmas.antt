@@ -6,7 +6,7 @@ use Rattle.std.proofs.lemmas.List.Elements.{All-head, All-tail, All-from_get_or}
 use Rattle.ct_words.specs.Text.{tabulate}
 use Rattle.ct_words.proofs.TextLemmas.{tabulate_same, length-tabulate, get_or-tabulate}
 use Rattle.ct_words.proofs.AllWords.{tabulate-add}
-use Rattle.ct_entries.specs.Coset.{span_word, choice_count, choice_word, coset_list}
+use Rattle.ct_words.specs.Coset.{span_word, choice_count, choice_word, coset_list}
 use Rattle.ct_codes.specs.Inside.Translated.{translated}
 
 -- a sum of two sums, regrouped

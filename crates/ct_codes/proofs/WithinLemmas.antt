@@ -6,10 +6,10 @@ use lib.Lanes.{chunk}
 use Rattle.std.proofs.lemmas.Bool.{cases_lt, both_ways, not-true, not-false}
 use Rattle.std.proofs.lemmas.List.Sums.{prefix_len_passes, prefix_len_stops}
 use Rattle.std.proofs.lemmas.Simd.{length-chunk, get_or-chunk}
-use Rattle.ct_entries.specs.Pairs.{least_pair}
+use Rattle.ct_words.specs.Pairs.{least_pair}
 use Rattle.ct_codes.specs.Inside.Across.{NoneAcross, IsFirstAcross}
 use Rattle.ct_codes.specs.Inside.Within.{NoneWithin, IsLeastWithin, IsLeastWithinOrNone}
-use Rattle.ct_entries.proofs.PairLemmas.{IsFirst, position_cases, least_pair-at, least_pair-none}
+use Rattle.ct_words.proofs.PairLemmas.{IsFirst, position_cases, least_pair-at, least_pair-none}
 
 -- the least pair of all places is the least pair
 pub least_within : (test : ℕ → ℕ → Bool) (xs : List ℕ) (found : Option (ℕ × ℕ)) → IsLeastWithinOrNone test xs 0 (length xs) found → found ≡ least_pair test xs

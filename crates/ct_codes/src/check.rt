@@ -3,15 +3,14 @@
 ghost use Rattle.std.specs.Prelude.{◌≡◌, ℕ, ◌^◌, ◌<◌, ◌≤◌, nat_lt, length, All, IfOk, IfSome, IsPermutation};
 ghost use Rattle.std.specs.Result.{result_err};
 ghost use Rattle.ct_words.specs.Word.{distance};
-ghost use Rattle.ct_entries.specs.Entry.{IsEntry};
-ghost use Rattle.ct_entries.specs.Code.{IsCodeOf, IsSoundCode};
-ghost use Rattle.ct_entries.specs.Pairs.{first_of, least_pair};
-ghost use Rattle.ct_entries.specs.Check.{code_fault, size_fault, weight_fault, repeated_fault, close_fault};
+ghost use Rattle.ct_words.specs.Entry.{IsEntry};
+ghost use Rattle.ct_words.specs.Code.{IsCodeOf, IsSoundCode};
+ghost use Rattle.ct_words.specs.Pairs.{first_of, least_pair};
+ghost use Rattle.ct_words.specs.Check.{code_fault, size_fault, weight_fault, repeated_fault, close_fault};
 
 use crate::groups::are_far_by_groups;
 use crate::pairs::{close_pair_from, first_close_pair};
-use ct_entries::{Code, CodeFault, Entry, MAX_WORDS};
-use ct_words::{Word, distance, weight};
+use ct_words::{Code, CodeFault, Entry, MAX_WORDS, Word, distance, weight};
 use std::alloc::Global;
 
 /// The code of the entry, which is in the table, that has these words, which are below 2^n.

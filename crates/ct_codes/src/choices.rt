@@ -3,8 +3,8 @@
 ghost use Rattle.std.specs.Prelude.{◌≡◌, ℕ, ◌+◌, ◌^◌, ◌<◌, ◌≤◌, ◌++◌, nat_lt, bit_xor, length, slice_index, position, drop, map, All, IfOk, OnOk, IfSome};
 ghost use Rattle.ct_words.specs.declared.limits.TheConstants.{MAX_N};
 ghost use Rattle.ct_words.specs.Word.{distance};
-ghost use Rattle.ct_entries.specs.Pairs.{least_pair};
-ghost use Rattle.ct_entries.specs.Coset.{coset_list};
+ghost use Rattle.ct_words.specs.Pairs.{least_pair};
+ghost use Rattle.ct_words.specs.Coset.{coset_list};
 ghost use Rattle.ct_codes.specs.Inside.Translated.{translated};
 
 use crate::near::first_close;

@@ -4,18 +4,19 @@ ghost use Rattle.std.specs.Prelude.{◌≡◌, ◌≢◌, ℕ, IfSome, slice_ind
 ghost use Rattle.std.specs.Option.{option_map};
 ghost use Rattle.ct_words.specs.declared.limits.TheConstants.{MAX_N};
 ghost use Rattle.ct_words.specs.Word.{distance};
-ghost use Rattle.ct_entries.specs.declared.fault.TheConstants.{MAX_REPRESENTATIVES};
-ghost use Rattle.ct_entries.specs.declared.fault.CodeFault.TheVariants.{Close};
-ghost use Rattle.ct_entries.specs.Entry.{IsEntry};
-ghost use Rattle.ct_entries.specs.Code.{IsSoundCode, IsTrueLower};
-ghost use Rattle.ct_entries.specs.Check.{close_fault};
-ghost use Rattle.ct_entries.specs.Coset.{choice_count, coset_list, coset_size_fault, coset_work_fault, coset_fault, CosetValue, IsSoundCosetCode};
+ghost use Rattle.ct_words.specs.declared.fault.TheConstants.{MAX_REPRESENTATIVES};
+ghost use Rattle.ct_words.specs.declared.fault.CodeFault.TheVariants.{Close};
+ghost use Rattle.ct_words.specs.Entry.{IsEntry};
+ghost use Rattle.ct_words.specs.Code.{IsSoundCode, IsTrueLower};
+ghost use Rattle.ct_words.specs.Check.{close_fault};
+ghost use Rattle.ct_words.specs.Coset.{choice_count, coset_list, coset_size_fault, coset_work_fault, coset_fault, CosetValue, IsSoundCosetCode};
 
 use crate::choices::choice_words;
 use crate::coset_search::least_close_choices;
 use crate::span::choice_word;
-use ct_entries::{Code, CodeFault, Entry, MAX_COSET_WORK, MAX_REPRESENTATIVES};
-use ct_words::{MAX_N, Word, distance};
+use ct_words::{
+    Code, CodeFault, Entry, MAX_COSET_WORK, MAX_N, MAX_REPRESENTATIVES, Word, distance,
+};
 use std::alloc::{AllocError, Global};
 use std::marker::Model;
 
@@ -73,7 +74,7 @@ pub fn check_cosets(
 }
 
 /// The first reason why the words are no coset code of the entry.
-#[tactic(auto, unfolding(ct_entries::specs::Coset::coset_fault))]
+#[tactic(auto, unfolding(ct_words::specs::Coset::coset_fault))]
 fn first_fault(
     alloc: Global,
     entry: Entry,

@@ -2,9 +2,9 @@
 ghost use Rattle.std.specs.Prelude.{◌≡◌, ℕ, ◌*◌, ◌+◌, ◌^◌, ◌<◌, ◌≤◌, nat_lt, length, All, IfOk, IfSome};
 ghost use Rattle.ct_words.specs.declared.limits.TheConstants.{MAX_N};
 ghost use Rattle.ct_words.specs.Word.{distance};
-ghost use Rattle.ct_entries.specs.declared.fault.TheConstants.{MAX_REPRESENTATIVES};
-ghost use Rattle.ct_entries.specs.Pairs.{least_pair};
-ghost use Rattle.ct_entries.specs.Coset.{choice_count, coset_list};
+ghost use Rattle.ct_words.specs.declared.fault.TheConstants.{MAX_REPRESENTATIVES};
+ghost use Rattle.ct_words.specs.Pairs.{least_pair};
+ghost use Rattle.ct_words.specs.Coset.{choice_count, coset_list};
 ghost use Rattle.ct_codes.specs.Inside.First.{IsFirstOrNone};
 ghost use Rattle.ct_codes.specs.Inside.Span.{AreParts, is_close_choice};
 

@@ -15,7 +15,7 @@ mod span;
 
 pub use check::check_words;
 pub use coset::{CosetCode, check_cosets};
-pub use ct_entries::{
+pub use ct_words::{
     Claim, Code, CodeFault, Entry, MAX_CODE_DISTANCE, MAX_COSET_WORK, MAX_REPRESENTATIVES,
     MAX_WORDS, Scheme, Side,
 };

@@ -1,7 +1,7 @@
 //! The search for two words that are too close: block after block of words, each against all words before it.
 ghost use Rattle.std.specs.Prelude.{◌≡◌, ℕ, ◌^◌, ◌<◌, ◌≤◌, nat_lt, length, drop, All, IfSome, MatchOption};
 ghost use Rattle.ct_words.specs.Word.{distance};
-ghost use Rattle.ct_entries.specs.Pairs.{least_pair};
+ghost use Rattle.ct_words.specs.Pairs.{least_pair};
 ghost use Rattle.ct_codes.specs.Inside.Shifted.{shifted};
 ghost use Rattle.ct_codes.specs.Inside.Within.{IsLeastWithinOrNone};
 

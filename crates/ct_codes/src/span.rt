@@ -1,7 +1,7 @@
 //! The sums of basis words, 64 at a time: sums of the first six basis words are a block, and each sum of the others moves it.
 ghost use Rattle.std.specs.Prelude.{◌≡◌, ◌*◌, ◌^◌, ◌≤◌, ◌<◌, ◌%◌, length, if◌then◌else◌, ◌==◌, IfOk};
 ghost use Rattle.ct_words.specs.declared.limits.TheConstants.{MAX_N};
-ghost use Rattle.ct_entries.specs.Coset.{span_word, choice_count, choice_word};
+ghost use Rattle.ct_words.specs.Coset.{span_word, choice_count, choice_word};
 ghost use Rattle.ct_codes.specs.Inside.First.{IsFirstOrNone};
 ghost use Rattle.ct_codes.specs.Inside.Span.{AreParts, is_close_sum};
 ghost use Rattle.ct_codes.specs.Inside.Translated.{translated};

@@ -3,7 +3,7 @@ use Rattle.std.proofs.Common.{◌≡◌, ℕ, suc, ◌+◌, Bool, true, false, c
 use Rattle.std.specs.Prelude.{All}
 use Rattle.std.specs.List.{join_with_byte, AllByRecursion}
 use Rattle.std.proofs.lemmas.List.Elements.{recursion_from_All}
-use Rattle.ct_io.specs.declared.TheConstants.{LINE_FEED}
+use Rattle.ct_text.specs.declared.document_lines.TheConstants.{LINE_FEED}
 use Rattle.ct_io.specs.Lines.{ended_lines}
 use Rattle.std.specs.Option.{option_to_list}
 use Rattle.ct_text.specs.Gathering.{is_end, less_last, with_line, gathered}

@@ -1,7 +1,7 @@
 //! The commands of a session.
 
-use ct_entries::Side;
 use ct_text::{EntryNumbers, Id, TableNumbers, Text};
+use ct_words::Side;
 
 /// A command of a session.
 #[derive(Drop)]

@@ -1,6 +1,6 @@
 -- What explanations say.
 use Rattle.std.proofs.Common.{ℕ, ◌-◌, List, All, length, subst}
-use Rattle.ct_entries.specs.Claim.{IsTrueClaim}
+use Rattle.ct_words.specs.Claim.{IsTrueClaim}
 use Rattle.ct_rule_parts.specs.declared.support.Support.{Support}
 use Rattle.ct_rule_parts.specs.Slot.{Slot, claim_at}
 use Rattle.ct_rule_parts.specs.Support.{AllStand}

@@ -6,12 +6,12 @@ use Rattle.std.proofs.lemmas.Bool.{cases_eq, false≢true}
 use Rattle.std.proofs.lemmas.List.{take_all, length-take-le}
 use Rattle.std.proofs.lemmas.List.Elements.{All-nil, All-cons, All-head, All-tail}
 use Rattle.std.proofs.lemmas.Option.{slice_get_within, none-some, same_Some}
-use Rattle.ct_entries.specs.declared.entry.Entry.{Entry}
-use Rattle.ct_entries.specs.declared.claim.Side.{Side}
-use Rattle.ct_entries.specs.declared.claim.Side.TheVariants.{Lower, Upper}
-use Rattle.ct_entries.specs.declared.claim.Claim.{Claim}
-use Rattle.ct_entries.specs.Entry.{same_entry}
-use Rattle.ct_entries.proofs.EntryLemmas.{same_entry_is, same_entry-self}
+use Rattle.ct_words.specs.declared.entry.Entry.{Entry}
+use Rattle.ct_words.specs.declared.claim.Side.{Side}
+use Rattle.ct_words.specs.declared.claim.Side.TheVariants.{Lower, Upper}
+use Rattle.ct_words.specs.declared.claim.Claim.{Claim}
+use Rattle.ct_words.specs.Entry.{same_entry}
+use Rattle.ct_words.proofs.EntryLemmas.{same_entry_is, same_entry-self}
 use Rattle.ct_rule_parts.specs.declared.support.Support.{Support}
 use Rattle.ct_rule_parts.specs.Slot.{Slot, slot_of, claim_at}
 use Rattle.ct_rules.specs.Derivation.{LineValue, claims_at, Follows, IsDerivation, IsDerived}

@@ -6,12 +6,12 @@ use Rattle.std.proofs.lemmas.Bool.Decides.{nat_tests}
 use Rattle.std.proofs.lemmas.List.{at_drop_more, at_drop_all}
 use Rattle.std.proofs.lemmas.List.Elements.{All-nil, All-cons, All-head, All-tail}
 use Rattle.std.proofs.lemmas.Option.{none-some, same_Some, slice_get_within, get_or_from_slice_get, cond_some}
-use Rattle.ct_entries.specs.declared.entry.Entry.{Entry}
-use Rattle.ct_entries.specs.declared.claim.Side.{Side}
-use Rattle.ct_entries.specs.declared.claim.Side.TheVariants.{Lower, Upper}
-use Rattle.ct_entries.specs.declared.claim.Claim.{Claim}
-use Rattle.ct_entries.specs.Entry.{same_entry}
-use Rattle.ct_entries.proofs.EntryLemmas.{same_entry_is, same_entry-self}
+use Rattle.ct_words.specs.declared.entry.Entry.{Entry}
+use Rattle.ct_words.specs.declared.claim.Side.{Side}
+use Rattle.ct_words.specs.declared.claim.Side.TheVariants.{Lower, Upper}
+use Rattle.ct_words.specs.declared.claim.Claim.{Claim}
+use Rattle.ct_words.specs.Entry.{same_entry}
+use Rattle.ct_words.proofs.EntryLemmas.{same_entry_is, same_entry-self}
 use Rattle.ct_rules.specs.Derivation.{LineValue, claims_at}
 use Rattle.ct_derive.specs.Check.{same_side, claim_numbered, value_for, and_values, values_numbered}
 use Rattle.ct_rule_parts.specs.Slot.{Slot, slot_of}

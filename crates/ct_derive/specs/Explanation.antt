@@ -1,6 +1,6 @@
 -- Explanations: derivations that hold no more than their last claim needs.
 use Rattle.std.specs.Prelude.{◌≡◌, ◌≢◌, ℕ, ◌+◌, ◌-◌, ◌<◌, List, length, slice_get, AllPairs, Contains, Option, Some, option_map}
-use Rattle.ct_entries.specs.declared.claim.Claim.{Claim}
+use Rattle.ct_words.specs.declared.claim.Claim.{Claim}
 use Rattle.ct_rule_parts.specs.declared.support.Support.{Support}
 use Rattle.ct_rule_parts.specs.Slot.{Slot, claim_at}
 use Rattle.ct_rules.specs.Derivation.{LineValue, IsDerivation}

@@ -1,8 +1,8 @@
 -- Codes that are listed for a lower bound.
 use Rattle.std.specs.Prelude.{◌≡◌, List, length}
-use Rattle.ct_entries.specs.declared.entry.Entry.{Entry}
-use Rattle.ct_entries.specs.declared.claim.Side.TheVariants.{Lower}
-use Rattle.ct_entries.specs.Code.{CodeValue, IsSoundCode}
+use Rattle.ct_words.specs.declared.entry.Entry.{Entry}
+use Rattle.ct_words.specs.declared.claim.Side.TheVariants.{Lower}
+use Rattle.ct_words.specs.Code.{CodeValue, IsSoundCode}
 use Rattle.ct_rule_parts.specs.declared.support.Support.{Support}
 use Rattle.ct_rules.specs.Derivation.{IsBest}
 use Rattle.ct_rule_codes.specs.CodeEntry.{entry_of_code}

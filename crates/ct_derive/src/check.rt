@@ -1,7 +1,7 @@
 //! Lines that someone states, checked against those before them.
 
 ghost use Rattle.std.specs.Prelude.{◌≡◌, ◌-◌, ◌++◌, ◌∷◌, [], List, IfOk, IsSome, OnErr, None, map, option_map};
-ghost use Rattle.ct_entries.specs.Entry.{IsEntry};
+ghost use Rattle.ct_words.specs.Entry.{IsEntry};
 ghost use Rattle.ct_rules.specs.Rule.{rule_side};
 ghost use Rattle.ct_rules.specs.Derivation.{LineValue, IsDerivation};
 ghost use Rattle.ct_rule_parts.specs.declared.support.Support.{Support};
@@ -10,9 +10,9 @@ ghost use Rattle.ct_rule_parts.specs.Entries.{listed};
 ghost use Rattle.ct_derive.specs.Check.{same_side, claim_numbered, value_for, values_numbered, value_fault, line_fault, line_by};
 
 use crate::class_sizes::ClassSizes;
-use ct_entries::{Claim, Entry, Side};
 use ct_rule_parts::within_limit;
 use ct_rules::{Entries, Line, Rule, Support, defined_on, rule_side, value};
+use ct_words::{Claim, Entry, Side};
 use smallvec::SmallVec;
 use std::alloc::{AllocError, Global};
 

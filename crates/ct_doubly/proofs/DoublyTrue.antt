@@ -1,7 +1,7 @@
 -- The bound is true of every doubly constant weight code, and a bound of the table.
 use Rattle.std.proofs.Common.{◌≡◌, ℕ, ◌+◌, ◌%◌, ◌≤◌}
 use Rattle.ct_words.specs.declared.limits.TheConstants.{MAX_N, MAX_BOUND}
-use Rattle.ct_entries.specs.Doubly.{IsTrueDoublyUpper}
+use Rattle.ct_words.specs.Doubly.{IsTrueDoublyUpper}
 use Rattle.ct_doubly.specs.Doubly.{doubly}
 use Rattle.ct_doubly.proofs.Words.{bound_from_halves}
 use Rattle.ct_doubly.proofs.RoundBounds.{doubly_after-sound, one-le-doubly_after, doubly_after-le}

@@ -8,9 +8,9 @@ use Rattle.std.proofs.lemmas.List.Elements.{All-map}
 use Rattle.ct_words.proofs.Counting.Pairs.{AllPairs-map, AllPairs-weaker}
 use Rattle.ct_words.specs.Word.{weight, distance}
 use Rattle.ct_words.proofs.DigitLists.{digits_of, length-digits_of, ones-digits_of, apart-digits_of}
-use Rattle.ct_entries.specs.Code.{IsCode}
-use Rattle.ct_entries.proofs.Constructions.JoinedLemmas.{weight-followed_by, distance-followed_by}
-use Rattle.ct_entries.specs.Doubly.{IsDoubly, IsTrueDoublyUpper}
+use Rattle.ct_words.specs.Code.{IsCode}
+use Rattle.ct_words.proofs.Constructions.JoinedLemmas.{weight-followed_by, distance-followed_by}
+use Rattle.ct_words.specs.Doubly.{IsDoubly, IsTrueDoublyUpper}
 use Rattle.ct_doubly.proofs.Halves.{Halves, AreHalves, halves_apart, AreFarHalves, IsHalvesBound}
 
 -- both halves of a word, as lists of digits

@@ -2,7 +2,7 @@
 
 ghost use Rattle.std.specs.Prelude.{◌≡◌, ℕ, suc, ◌+◌, ◌%◌, ◌<◌, ◌≤◌, All};
 ghost use Rattle.ct_words.specs.declared.limits.TheConstants.{MAX_N, MAX_BOUND};
-ghost use Rattle.ct_entries.specs.Doubly.{IsTrueDoublyUpper};
+ghost use Rattle.ct_words.specs.Doubly.{IsTrueDoublyUpper};
 ghost use Rattle.ct_doubly.specs.Doubly.{doubly as bound, shortened_bound as shorter};
 ghost use Rattle.ct_doubly.specs.Inside.Tables.{IsBoundAt, IsTable};
 

@@ -3,7 +3,7 @@ use Rattle.std.proofs.Common.{◌≡◌, ℕ, ◌≤◌, Bool, List, Result, Ok,
 use Rattle.std.specs.Prelude.{ℤ}
 use Rattle.toml.specs.Data.{Data, table, Members}
 use Rattle.ct_words.specs.declared.limits.TheConstants.{MAX_N}
-use Rattle.ct_entries.specs.declared.entry.Entry.{Entry}
+use Rattle.ct_words.specs.declared.entry.Entry.{Entry}
 use Rattle.ct_fields.specs.Steps.{◌>>=◌}
 use Rattle.ct_fields.specs.LastFields.{last_fields}
 use Rattle.ct_fields.specs.HasCites.{HasRightCites, HasWrongCites, HasOther, HasLast}

@@ -6,8 +6,8 @@ use Rattle.ct_duals.specs.Dual.{AllowsNone, IsDual}
 use Rattle.ct_duals.specs.Bound.{AcceptedValue, IsAccepted}
 use Rattle.ct_duals.specs.Check.{dual_fault}
 use Rattle.ct_duals.proofs.Faults.{below-from_none, none-from_below, accepted-from_none}
-use Rattle.ct_entries.specs.Numbers.{numbers_of}
-use Rattle.ct_entries.specs.declared.entry.Entry.{Entry}
+use Rattle.ct_words.specs.Numbers.{numbers_of}
+use Rattle.ct_words.specs.declared.entry.Entry.{Entry}
 use Rattle.ct_rule_parts.specs.declared.support.Support.{Support}
 use Rattle.ct_rule_parts.specs.declared.support.Support.TheVariants.{Bound, Odd, Local, Size}
 use Rattle.ct_rule_parts.specs.Support.{Stands}

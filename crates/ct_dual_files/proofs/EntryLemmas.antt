@@ -2,9 +2,9 @@
 use Rattle.std.proofs.Common.{◌≡◌, Result, Ok, Err, sym, subst}
 use Rattle.std.specs.Prelude.{IfOk}
 use Rattle.toml.specs.Data.{Data}
-use Rattle.ct_entries.specs.declared.entry.Entry.{Entry}
-use Rattle.ct_entries.specs.Entry.{IsEntry, unrestricted}
-use Rattle.ct_entries.proofs.EntryLemmas.{entry_from_limits}
+use Rattle.ct_words.specs.declared.entry.Entry.{Entry}
+use Rattle.ct_words.specs.Entry.{IsEntry, unrestricted}
+use Rattle.ct_words.proofs.EntryLemmas.{entry_from_limits}
 use Rattle.ct_fields.specs.StatedEntry.{plain_entry_of}
 use Rattle.ct_fields.specs.declared.fault.DocumentFault.{DocumentFault}
 use Rattle.ct_fields.proofs.EntryAnswers.{plain_entry_of-ok}

@@ -3,8 +3,8 @@ use Rattle.std.proofs.Common.{◌≡◌, ℕ, true, false, List, [], codes, Resu
 use Rattle.std.specs.Prelude.{◌↔◌, ℤ}
 use Rattle.toml.specs.Data.{Data, table, Members}
 use Rattle.ct_words.specs.declared.limits.TheConstants.{MAX_N}
-use Rattle.ct_entries.specs.declared.entry.Entry.{Entry}
-use Rattle.ct_entries.specs.Entry.{constant_weight}
+use Rattle.ct_words.specs.declared.entry.Entry.{Entry}
+use Rattle.ct_words.specs.Entry.{constant_weight}
 use Rattle.ct_fields.specs.Steps.{◌>>=◌}
 use Rattle.ct_fields.specs.Fields.{number_field}
 use Rattle.ct_fields.specs.LastFields.{last_fields}

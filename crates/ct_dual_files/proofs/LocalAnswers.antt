@@ -4,7 +4,7 @@ use Rattle.std.specs.Prelude.{◌↔◌, ℤ}
 use Rattle.std.proofs.Math.Nat.{min-le_left}
 use Rattle.toml.specs.Data.{Data, table, Members}
 use Rattle.ct_words.specs.declared.limits.TheConstants.{MAX_N}
-use Rattle.ct_entries.specs.declared.entry.Entry.{Entry}
+use Rattle.ct_words.specs.declared.entry.Entry.{Entry}
 use Rattle.ct_fields.specs.Tables.{IsOfKind}
 use Rattle.ct_fields.specs.declared.field.FieldName.{FieldName}
 use Rattle.ct_fields.specs.declared.field.FieldName.TheVariants as name

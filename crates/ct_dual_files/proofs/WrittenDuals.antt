@@ -4,8 +4,8 @@ use Rattle.std.specs.Prelude.{ℤ, pos}
 use Rattle.std.proofs.lemmas.Bool.{false≢true}
 use Rattle.toml.specs.Data.{Data, integer, boolean, table, get, items_depth, members_depth}
 use Rattle.toml.specs.View.{items_of}
-use Rattle.ct_entries.specs.Entry.{constant_weight}
-use Rattle.ct_entries.proofs.EntryLemmas.{entry_limits}
+use Rattle.ct_words.specs.Entry.{constant_weight}
+use Rattle.ct_words.proofs.EntryLemmas.{entry_limits}
 use Rattle.ct_fields.specs.Field.{field_text}
 use Rattle.ct_fields.specs.LastFields.{last_fields}
 use Rattle.ct_fields.specs.StatedEntry.{plain_entry_of}

@@ -1,7 +1,7 @@
 -- Which tables state duals, and where each answer comes for a document of kind dual or jdual.
 use Rattle.std.specs.Prelude.{◌≡◌, ℕ, suc, ◌%◌, ◌^◌, ◌<◌, ◌≤◌, ◌⊎◌, Bool, true, false, List, [], ◌∷◌, length, Some, None, IsTrue, Result, Ok, Err, All, AllPairs, ℤ, pos, ◌≤ℤ◌, ◌<ℤ◌, codes}
 use Rattle.toml.specs.Data.{Data, boolean, get}
-use Rattle.ct_entries.specs.declared.entry.Entry.{Entry}
+use Rattle.ct_words.specs.declared.entry.Entry.{Entry}
 use Rattle.ct_fields.specs.Field.{field_text}
 use Rattle.ct_fields.specs.Tables.{IsOfKind, HasNumber}
 use Rattle.ct_fields.specs.HasCites.{HasRightCites, HasWrongCites, HasOther, HasLast}

@@ -4,7 +4,7 @@ use Rattle.ct_duals.specs.declared.dual.Dual.{Dual}
 use Rattle.ct_duals.specs.declared.fault.DualFault.{DualFault}
 use Rattle.ct_duals.specs.Bound.{AcceptedValue}
 use Rattle.ct_duals.specs.Check.{dual_fault, IsBelow}
-use Rattle.ct_entries.specs.Numbers.{numbers_of, multiplier, combination}
+use Rattle.ct_words.specs.Numbers.{numbers_of, multiplier, combination}
 use Rattle.ct_rule_parts.specs.declared.support.Support.{Support}
 use Rattle.ct_rule_parts.specs.declared.support.Support.TheVariants.{Nothing, Bound, Odd, Local}
 use Rattle.ct_kind.specs.KindParts.{KindParts}

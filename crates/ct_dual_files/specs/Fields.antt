@@ -3,7 +3,7 @@ use Rattle.std.specs.Prelude.{ℕ, ℤ, ◌%◌, ◌==◌, ◌||◌, not, Bool, 
 use Rattle.std.specs.Option.{option_and_then}
 use Rattle.toml.specs.Data.{Data, array, as_integer, as_bool}
 use Rattle.ct_words.specs.declared.limits.TheConstants.{MAX_N}
-use Rattle.ct_entries.specs.declared.entry.Entry.{Entry}
+use Rattle.ct_words.specs.declared.entry.Entry.{Entry}
 use Rattle.ct_fields.specs.Steps.{◌>>=◌, ◌>>◌, check}
 use Rattle.ct_fields.specs.Fields.{field, number_in, number_field}
 use Rattle.ct_fields.specs.Forms.{pair_in, all_of}

@@ -1,7 +1,7 @@
 -- Which tables state a dual with a weight that may allow something, and where each answer comes for a document of kind jlocal.
 use Rattle.std.specs.Prelude.{◌≡◌, ℕ, false, List, [], ◌∷◌, Result, Ok, Err, ℤ, codes}
 use Rattle.toml.specs.Data.{Data}
-use Rattle.ct_entries.specs.declared.entry.Entry.{Entry}
+use Rattle.ct_words.specs.declared.entry.Entry.{Entry}
 use Rattle.ct_fields.specs.Tables.{IsOfKind}
 use Rattle.ct_fields.specs.HasCites.{HasRightCites, HasWrongCites, HasOther, HasLast}
 use Rattle.ct_fields.specs.declared.field.FieldName.{FieldName}

@@ -1,7 +1,7 @@
 -- Which tables state a dual with an odd number of words, and where each answer comes for a document of kind odd.
 use Rattle.std.specs.Prelude.{◌≡◌, ℕ, ◌%◌, ◌≤◌, Bool, List, [], ◌∷◌, Some, Result, Ok, Err, ℤ, pos, codes}
 use Rattle.toml.specs.Data.{Data, integer, get}
-use Rattle.ct_entries.specs.declared.entry.Entry.{Entry}
+use Rattle.ct_words.specs.declared.entry.Entry.{Entry}
 use Rattle.ct_fields.specs.Field.{field_text}
 use Rattle.ct_fields.specs.Tables.{IsOfKind}
 use Rattle.ct_fields.specs.HasCites.{HasRightCites, HasWrongCites, HasOther, HasLast}

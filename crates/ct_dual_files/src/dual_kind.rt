@@ -4,7 +4,7 @@ ghost use Rattle.std.specs.Prelude.{◌≡◌, ◌≢◌, ◌<◌, ◌^◌, Some
 ghost use Rattle.ct_duals.specs.Dual.{IsDual};
 ghost use Rattle.ct_duals.specs.Check.{dual_fault};
 ghost use Rattle.ct_dual_files.specs.DualKind.{with_at_zero, dual_support, odd_support, local_support};
-ghost use Rattle.ct_entries.specs.Numbers.{numbers_of};
+ghost use Rattle.ct_words.specs.Numbers.{numbers_of};
 
 use ct_duals::{AcceptedDual, Dual, check_dual_of_table};
 use ct_kind::{Kind, SubmitFault};

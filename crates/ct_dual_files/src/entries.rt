@@ -1,14 +1,14 @@
 //! The entries that documents of duals state.
 ghost use Rattle.std.specs.Prelude.{◌≡◌, IfOk};
 ghost use Rattle.toml.specs.View.{view};
-ghost use Rattle.ct_entries.specs.Entry.{IsEntry};
+ghost use Rattle.ct_words.specs.Entry.{IsEntry};
 ghost use Rattle.ct_fields.specs.StatedEntry.{plain_entry_of};
 ghost use Rattle.ct_dual_files.specs.Dual.{weighted_entry_of};
 
-use ct_entries::Entry;
 use ct_fields::{
     DocumentFault, FieldName, distance_beside, length_field, number_field, plain_entry,
 };
+use ct_words::Entry;
 use toml::Value;
 
 /// The entry without weight of the fields `n` and `d`, which is in the table.

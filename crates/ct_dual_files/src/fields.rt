@@ -1,14 +1,14 @@
 //! The fields of documents of duals.
 ghost use Rattle.std.specs.Prelude.{◌≡◌};
 ghost use Rattle.toml.specs.View.{view};
-ghost use Rattle.ct_entries.specs.Entry.{IsEntry};
+ghost use Rattle.ct_words.specs.Entry.{IsEntry};
 ghost use Rattle.ct_fields.specs.Reads.{Reads};
 ghost use Rattle.ct_dual_files.specs.Fields.{even_field, odd_size_field, multipliers_field, allowances_field};
 
 use ct_duals::{are_allowances, are_multipliers};
-use ct_entries::Entry;
 use ct_fields::{DocumentFault, FieldName, all_of, has_field, number_field};
 use ct_parity::MAX_ODD;
+use ct_words::Entry;
 use std::alloc::Global;
 use toml::Value;
 

@@ -3,15 +3,15 @@ ghost use Rattle.std.specs.Prelude.{◌≡◌, IfOk};
 ghost use Rattle.toml.specs.View.{view};
 ghost use Rattle.ct_fields.specs.Reads.{Reads};
 ghost use Rattle.ct_duals.specs.Dual.{IsDual};
-ghost use Rattle.ct_entries.specs.Entry.{IsEntry};
+ghost use Rattle.ct_words.specs.Entry.{IsEntry};
 ghost use Rattle.ct_dual_files.specs.Dual.{dual_after, dual_of, odd_of, johnson_dual_of, local_dual_of};
 ghost use Rattle.ct_dual_files.specs.OddDocument.{IsOddSize};
 
 use crate::entries::{plain_entry_field, weighted_entry_field};
 use crate::fields::{allowances_field, even_field, multipliers_field, odd_size_field};
 use ct_duals::{Allowances, Dual, Multipliers};
-use ct_entries::Entry;
 use ct_fields::{DocumentFault, FieldName, last_fields};
+use ct_words::Entry;
 use std::alloc::Global;
 use toml::Value;
 

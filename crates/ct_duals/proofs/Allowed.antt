@@ -11,7 +11,7 @@ use Rattle.ct_words.specs.Counting.Sums.{total}
 use Rattle.ct_words.proofs.Counting.Sums.{sum_by-scale}
 use Rattle.ct_words.proofs.Counting.Totals.{total-zero, total-add}
 use Rattle.ct_words.proofs.Counting.Pairs.{AllPairs-head, AllPairs-tail}
-use Rattle.ct_entries.specs.declared.entry.Entry.{Entry}
+use Rattle.ct_words.specs.declared.entry.Entry.{Entry}
 use Rattle.ct_duals.specs.Dual.{allowed}
 use Rattle.ct_duals.specs.Bound.{natural, positive, charges, is_far, near_charge, far_charge}
 use Rattle.ct_duals.proofs.Charges.{positive-yes, positive-no, near_charge-first, far_charge-first}

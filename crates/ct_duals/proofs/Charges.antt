@@ -4,7 +4,7 @@ use Rattle.std.specs.Prelude.{ℤ, pos, int_lt, ◌≤ℤ◌, max, not, filter, 
 use Rattle.std.specs.List.{sum_by}
 use Rattle.std.proofs.lemmas.Int.{ints}
 use Rattle.std.proofs.lemmas.List.Sums.{sum_by-cons}
-use Rattle.ct_entries.specs.declared.entry.Entry.{Entry}
+use Rattle.ct_words.specs.declared.entry.Entry.{Entry}
 use Rattle.ct_duals.specs.Bound.{natural, positive, charges, is_far, greatest, near_charge, far_charge}
 use Rattle.ct_duals.specs.Local.{local_charge}
 

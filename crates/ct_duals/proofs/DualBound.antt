@@ -12,14 +12,14 @@ use Rattle.std.proofs.lemmas.Bool.{and_parts}
 use Rattle.ct_words.specs.declared.limits.TheConstants.{MAX_BOUND, MAX_N}
 use Rattle.ct_words.specs.Word.{distance}
 use Rattle.ct_words.specs.Counting.PairTotals.{pair_total}
-use Rattle.ct_entries.specs.declared.entry.Entry.{Entry}
-use Rattle.ct_entries.specs.Entry.{IsEntry}
-use Rattle.ct_entries.specs.Code.{IsCode, IsCodeOf, IsTrueUpper}
-use Rattle.ct_entries.proofs.EntryLemmas.{entry_limits}
-use Rattle.ct_entries.proofs.BoundLemmas.{one_is_lower}
-use Rattle.ct_entries.proofs.CheckLemmas.{code_size-le}
+use Rattle.ct_words.specs.declared.entry.Entry.{Entry}
+use Rattle.ct_words.specs.Entry.{IsEntry}
+use Rattle.ct_words.specs.Code.{IsCode, IsCodeOf, IsTrueUpper}
+use Rattle.ct_words.proofs.EntryLemmas.{entry_limits}
+use Rattle.ct_words.proofs.BoundLemmas.{one_is_lower}
+use Rattle.ct_words.proofs.CheckLemmas.{code_size-le}
 use Rattle.ct_duals.specs.declared.dual.Dual.{Dual}
-use Rattle.ct_entries.specs.Numbers.{multiplier, combination}
+use Rattle.ct_words.specs.Numbers.{multiplier, combination}
 use Rattle.ct_duals.specs.Dual.{IsWordOf, as_index, index_of, greatest_index, degree_of, Fits, is_in_range, IsDual, IsMarkOf}
 use Rattle.ct_duals.specs.Check.{dual_fault}
 use Rattle.ct_duals.specs.Bound.{natural, positive, charges, is_far, near_charge, far_charge, dual_premises, dual_spread, IsSpread, dual_bound, AreTrueUppers}

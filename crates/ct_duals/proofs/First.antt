@@ -3,7 +3,7 @@ use Rattle.std.proofs.Common.{◌≡◌, ℕ, zero, suc, ◌+◌, ◌<◌, refl,
 use Rattle.std.specs.Prelude.{Option, Some, None}
 use Rattle.std.proofs.lemmas.Bool.{cases_lt}
 use Rattle.std.proofs.lemmas.Option.{none-some}
-use Rattle.ct_entries.specs.Pairs.{first_of}
+use Rattle.ct_words.specs.Pairs.{first_of}
 use Rattle.ct_duals.specs.Check.{first_below}
 
 -- one number more that gives nothing, and one that gives something

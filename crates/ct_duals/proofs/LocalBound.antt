@@ -6,10 +6,10 @@ use Rattle.std.proofs.lemmas.Nat.{mul-le}
 use Rattle.std.proofs.lemmas.List.{length-map}
 use Rattle.std.proofs.lemmas.List.Sums.{sum_by-cons}
 use Rattle.ct_words.specs.Word.{weight}
-use Rattle.ct_entries.specs.declared.entry.Entry.{Entry}
-use Rattle.ct_entries.specs.Code.{IsCode, IsCodeOf, IsTrueUpper}
-use Rattle.ct_entries.specs.Numbers.{multiplier, combination}
-use Rattle.ct_entries.specs.Constructions.Translation.{selected}
+use Rattle.ct_words.specs.declared.entry.Entry.{Entry}
+use Rattle.ct_words.specs.Code.{IsCode, IsCodeOf, IsTrueUpper}
+use Rattle.ct_words.specs.Numbers.{multiplier, combination}
+use Rattle.ct_words.specs.Constructions.Translation.{selected}
 use Rattle.ct_duals.specs.declared.dual.Dual.{Dual}
 use Rattle.ct_duals.specs.Dual.{IsWordOf, as_distance, index_of, Fits, IsDual}
 use Rattle.ct_duals.specs.Check.{dual_fault}

@@ -12,14 +12,14 @@ use Rattle.ct_words.specs.PairProducts.{all_places}
 use Rattle.ct_words.proofs.Counting.Sums.{sum_by-constant}
 use Rattle.ct_words.proofs.TextLemmas.{length-tabulate, get_or-tabulate}
 use Rattle.ct_words.proofs.WordLemmas.{digit-lt, weight-le, same_from_distance, distance_same, IsSum-bit_xor}
-use Rattle.ct_entries.specs.Code.{IsCode}
-use Rattle.ct_entries.specs.Constructions.Even.{even_from}
-use Rattle.ct_entries.specs.Constructions.Places.{read_at}
-use Rattle.ct_entries.specs.Constructions.Translation.{translated, selected}
-use Rattle.ct_entries.proofs.Constructions.Images.{IsCodeMap, IsCode-image}
-use Rattle.ct_entries.proofs.Constructions.ReadLemmas.{weight-all, distance-all, read_at-lt, read_at-append, weight-read_at, distance-read_at}
-use Rattle.ct_entries.proofs.Constructions.TranslationLemmas.{IsCode-selected}
-use Rattle.ct_entries.specs.Doubly.{IsDoubly}
+use Rattle.ct_words.specs.Code.{IsCode}
+use Rattle.ct_words.specs.Constructions.Even.{even_from}
+use Rattle.ct_words.specs.Constructions.Places.{read_at}
+use Rattle.ct_words.specs.Constructions.Translation.{translated, selected}
+use Rattle.ct_words.proofs.Constructions.Images.{IsCodeMap, IsCode-image}
+use Rattle.ct_words.proofs.Constructions.ReadLemmas.{weight-all, distance-all, read_at-lt, read_at-append, weight-read_at, distance-read_at}
+use Rattle.ct_words.proofs.Constructions.TranslationLemmas.{IsCode-selected}
+use Rattle.ct_words.specs.Doubly.{IsDoubly}
 
 -- whether the word x of length n has a one at the place
 abbrev pub has_one : ℕ → ℕ → ℕ → Bool

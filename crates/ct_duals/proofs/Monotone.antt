@@ -5,9 +5,9 @@ use Rattle.std.proofs.lemmas.Int.{ints}
 use Rattle.std.proofs.lemmas.Nat.{mul-le, le-div}
 use Rattle.std.proofs.Math.Nat.{div-mul-le_self}
 use Rattle.ct_words.specs.declared.limits.TheConstants.{MAX_BOUND}
-use Rattle.ct_entries.specs.declared.entry.Entry.{Entry}
+use Rattle.ct_words.specs.declared.entry.Entry.{Entry}
 use Rattle.ct_duals.specs.declared.dual.Dual.{Dual}
-use Rattle.ct_entries.specs.Numbers.{multiplier}
+use Rattle.ct_words.specs.Numbers.{multiplier}
 use Rattle.ct_duals.specs.Bound.{natural, positive, charges, is_far, near_charge, far_charge, dual_spread, dual_bound, AreAtMost}
 use Rattle.ct_duals.proofs.Charges.{near_charge-first, far_charge-first}
 

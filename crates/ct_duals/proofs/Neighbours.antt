@@ -12,18 +12,18 @@ use Rattle.ct_words.proofs.Counting.DoubleCounting.{count_by-none}
 use Rattle.ct_words.specs.Word.{weight, distance}
 use Rattle.ct_words.proofs.WordLemmas.{IsSum-bit_xor, distance-is_weight, distance_comm, weights_of_pair}
 use Rattle.ct_words.proofs.DigitLists.{digits_of, length-digits_of, apart-digits_of}
-use Rattle.ct_entries.specs.declared.entry.Entry.{Entry}
-use Rattle.ct_entries.specs.Entry.{constant_weight}
-use Rattle.ct_entries.specs.Code.{IsCode, IsCodeOf}
-use Rattle.ct_entries.specs.Constructions.Even.{even_from}
-use Rattle.ct_entries.specs.Constructions.Translation.{selected}
-use Rattle.ct_entries.specs.Constructions.Append.{with_parity}
-use Rattle.ct_entries.specs.Constructions.Joined.{followed_by}
-use Rattle.ct_entries.specs.Constructions.Places.{ArePlaces}
-use Rattle.ct_entries.specs.Constructions.Punctured.{punctured}
-use Rattle.ct_entries.proofs.Constructions.TranslationLemmas.{IsCode-selected}
-use Rattle.ct_entries.proofs.Constructions.AppendLemmas.{IsCode-with_parity, length-with_parity, weight-with_parity}
-use Rattle.ct_entries.proofs.Constructions.PuncturedCodes.{IsCode-punctured, length-punctured}
+use Rattle.ct_words.specs.declared.entry.Entry.{Entry}
+use Rattle.ct_words.specs.Entry.{constant_weight}
+use Rattle.ct_words.specs.Code.{IsCode, IsCodeOf}
+use Rattle.ct_words.specs.Constructions.Even.{even_from}
+use Rattle.ct_words.specs.Constructions.Translation.{selected}
+use Rattle.ct_words.specs.Constructions.Append.{with_parity}
+use Rattle.ct_words.specs.Constructions.Joined.{followed_by}
+use Rattle.ct_words.specs.Constructions.Places.{ArePlaces}
+use Rattle.ct_words.specs.Constructions.Punctured.{punctured}
+use Rattle.ct_words.proofs.Constructions.TranslationLemmas.{IsCode-selected}
+use Rattle.ct_words.proofs.Constructions.AppendLemmas.{IsCode-with_parity, length-with_parity, weight-with_parity}
+use Rattle.ct_words.proofs.Constructions.PuncturedCodes.{IsCode-punctured, length-punctured}
 use Rattle.ct_duals.specs.Dual.{IsWordOf, as_index, as_distance, index_of}
 use Rattle.ct_duals.specs.Bound.{AreTrueUppers, is_far}
 use Rattle.ct_duals.proofs.Allowed.{count_at, AreWithin}

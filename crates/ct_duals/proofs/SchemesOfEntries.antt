@@ -4,12 +4,12 @@ use Rattle.std.specs.Prelude.{Option, Some, None, IfSome}
 use Rattle.ct_words.specs.Word.{weight, distance}
 use Rattle.ct_words.proofs.WordLemmas.{distance-le, distance_same}
 use Rattle.ct_words.proofs.PairProducts.{half_distance-le, half_distance-same}
-use Rattle.ct_entries.specs.declared.entry.Entry.{Entry}
+use Rattle.ct_words.specs.declared.entry.Entry.{Entry}
 use Rattle.ct_krawtchouk.specs.Hamming.{krawtchouk-positive, krawtchouk-first}
 use Rattle.ct_scheme.specs.Johnson.{johnson-positive, johnson-first}
 use Rattle.ct_duals.specs.Dual.{IsWordOf, as_index, index_of, greatest_index, degree_of, Fits}
 use Rattle.ct_duals.proofs.Sound.{AreLaws}
-use Rattle.ct_entries.specs.Numbers.{number_at, numbers_of}
+use Rattle.ct_words.specs.Numbers.{number_at, numbers_of}
 
 -- what the schemes keep
 pub laws_of : (n : ℕ) (w : Option ℕ)

@@ -4,7 +4,7 @@ use Rattle.std.specs.Prelude.{min, pos, ◌+ℤ◌, ◌≤ℤ◌}
 use Rattle.std.proofs.lemmas.Int.{ints}
 use Rattle.std.proofs.lemmas.Nat.{le-div}
 use Rattle.ct_words.specs.declared.limits.TheConstants.{MAX_BOUND}
-use Rattle.ct_entries.specs.Numbers.{multiplier}
+use Rattle.ct_words.specs.Numbers.{multiplier}
 use Rattle.ct_duals.specs.Bound.{AcceptedValue, natural, positive, charges, near_charge, far_charge, dual_bound}
 use Rattle.ct_duals.proofs.Allowed.{natural-is}
 

@@ -13,10 +13,10 @@ use Rattle.ct_words.proofs.Counting.DoubleCounting.{count_by-le_one}
 use Rattle.ct_words.proofs.Counting.PairTotals.{pair_total-congruence_within}
 use Rattle.ct_words.specs.Word.{distance}
 use Rattle.ct_words.proofs.WordLemmas.{distance_comm, distance_same, distance-triangle}
-use Rattle.ct_entries.specs.Scheme.{IsPositive}
-use Rattle.ct_entries.proofs.EntryLemmas.{entry_limits}
+use Rattle.ct_words.specs.Scheme.{IsPositive}
+use Rattle.ct_words.proofs.EntryLemmas.{entry_limits}
 use Rattle.ct_duals.specs.declared.dual.Dual.{Dual}
-use Rattle.ct_entries.specs.Numbers.{multiplier, combination}
+use Rattle.ct_words.specs.Numbers.{multiplier, combination}
 use Rattle.ct_duals.specs.Dual.{IsWordOf, as_index, index_of, Fits, allowed, is_in_range, IsDual}
 use Rattle.ct_duals.specs.Check.{IsBelow}
 use Rattle.ct_words.proofs.Counting.Combinations.{combination-below, total-le_within, total-constant, words-within}

@@ -2,8 +2,8 @@
 use Rattle.std.proofs.Common.{◌≡◌, Some, ℕ, ◌+◌, ◌≤◌, List, sym, subst, arith}
 use Rattle.std.specs.Prelude.{ℤ, pos, ◌≤ℤ◌}
 use Rattle.std.proofs.lemmas.Int.{ints}
-use Rattle.ct_entries.specs.Code.{IsTrueUpper}
-use Rattle.ct_entries.specs.Numbers.{numbers_of, multiplier, combination}
+use Rattle.ct_words.specs.Code.{IsTrueUpper}
+use Rattle.ct_words.specs.Numbers.{numbers_of, multiplier, combination}
 use Rattle.ct_duals.specs.Dual.{IsWordOf, index_of, degree_of}
 use Rattle.ct_duals.specs.Bound.{AcceptedValue, IsAccepted, AreTrueUppers, positive, charges, near_charge, far_charge, dual_premises, dual_spread, IsSpread, dual_bound}
 use Rattle.ct_duals.specs.Local.{AreTrueLocals, local_bound}

@@ -2,12 +2,12 @@
 use Rattle.std.specs.Prelude.{◌≡◌, ℕ, ◌+◌, ◌*◌, ◌/◌, ◌≤◌, min, max, Bool, not, nat_le, List, [], ◌∷◌, length, map, filter, ℤ, pos, negsuc, ◌+ℤ◌, ◌*ℤ◌, ◌≤ℤ◌, int_lt}
 use Rattle.std.specs.List.{sum_by}
 use Rattle.ct_words.specs.declared.limits.TheConstants.{MAX_BOUND}
-use Rattle.ct_entries.specs.declared.entry.Entry.{Entry}
-use Rattle.ct_entries.specs.Entry.{constant_weight}
-use Rattle.ct_entries.specs.Numbers.{numbers_of, multiplier, combination}
+use Rattle.ct_words.specs.declared.entry.Entry.{Entry}
+use Rattle.ct_words.specs.Entry.{constant_weight}
+use Rattle.ct_words.specs.Numbers.{numbers_of, multiplier, combination}
 use Rattle.ct_words.specs.Counting.PairTotals.{pair_total}
-use Rattle.ct_entries.specs.Code.{IsCodeOf, IsTrueUpper}
-use Rattle.ct_entries.specs.Constructions.Even.{even_from}
+use Rattle.ct_words.specs.Code.{IsCodeOf, IsTrueUpper}
+use Rattle.ct_words.specs.Constructions.Even.{even_from}
 use Rattle.ct_duals.specs.declared.dual.Dual.{Dual}
 use Rattle.ct_duals.specs.Dual.{as_distance, index_of, IsDual}
 use Rattle.ct_duals.specs.Check.{IsBelow}

@@ -1,10 +1,10 @@
 -- When a dual is accepted, and the first reason why it is not.
 use Rattle.std.specs.Prelude.{◌≡◌, ℕ, zero, suc, ◌<◌, Bool, ◌&&◌, if◌then◌else◌, IsTrue, ℤ, pos, int_lt, ◌≤ℤ◌, ◌<ℤ◌, Option, Some, None}
-use Rattle.ct_entries.specs.Pairs.{first_of}
+use Rattle.ct_words.specs.Pairs.{first_of}
 use Rattle.ct_duals.specs.declared.dual.Dual.{Dual}
 use Rattle.ct_duals.specs.declared.fault.DualFault.{DualFault}
 use Rattle.ct_duals.specs.declared.fault.DualFault.TheVariants.{Lead, Above}
-use Rattle.ct_entries.specs.Numbers.{multiplier, combination}
+use Rattle.ct_words.specs.Numbers.{multiplier, combination}
 use Rattle.ct_duals.specs.Dual.{degree_of, allowed, is_in_range}
 
 -- what f gives at the least number below the bound where it gives something

@@ -1,9 +1,9 @@
 -- Duals of Delsarte's linear program (Delsarte 1973; MacWilliams and Sloane, chapter 17, section 4), and the spaces of words that they speak of.
 use Rattle.std.specs.Prelude.{◌≡◌, ℕ, suc, ◌-◌, ◌*◌, ◌/◌, ◌%◌, ◌^◌, ◌<◌, ◌≤◌, min, Bool, true, false, not, ◌==◌, ◌&&◌, ◌||◌, nat_le, if◌then◌else◌, IsTrue, List, [], ◌∷◌, length, ℤ, pos, ◌≤ℤ◌, ◌<ℤ◌, All, AllPairs, Option, Some, None, IfSome}
 use Rattle.ct_words.specs.Word.{weight, distance}
-use Rattle.ct_entries.specs.declared.entry.Entry.{Entry}
-use Rattle.ct_entries.specs.Entry.{IsEntry}
-use Rattle.ct_entries.specs.Numbers.{numbers_of}
+use Rattle.ct_words.specs.declared.entry.Entry.{Entry}
+use Rattle.ct_words.specs.Entry.{IsEntry}
+use Rattle.ct_words.specs.Numbers.{numbers_of}
 use Rattle.ct_duals.specs.declared.dual.Dual.{Dual}
 
 -- the words of the space of an entry: those of its length, and of its weight where one is given

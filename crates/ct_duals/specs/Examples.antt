@@ -1,6 +1,6 @@
 -- Duals whose bounds are known, and such that do not stand.
 use Rattle.std.specs.Prelude.{true, false, [], ◌∷◌, pos}
-use Rattle.ct_entries.specs.Entry.{unrestricted, constant_weight}
+use Rattle.ct_words.specs.Entry.{unrestricted, constant_weight}
 use Rattle.ct_duals.specs.declared.dual.Dual.{Dual}
 
 -- for A(13,6): even distances alone, f = 5 + K_1 + K_2, and 16 and 48 allowed at the distances 10 and 12

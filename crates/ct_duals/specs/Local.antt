@@ -3,9 +3,9 @@
 use Rattle.std.specs.Prelude.{ℕ, ◌-◌, ◌/◌, min, List, [], ◌∷◌, ℤ, pos, ◌+ℤ◌}
 use Rattle.std.specs.List.{sum_by}
 use Rattle.ct_words.specs.declared.limits.TheConstants.{MAX_BOUND}
-use Rattle.ct_entries.specs.declared.entry.Entry.{Entry}
-use Rattle.ct_entries.specs.Numbers.{multiplier}
-use Rattle.ct_entries.specs.Doubly.{IsTrueDoublyUpper}
+use Rattle.ct_words.specs.declared.entry.Entry.{Entry}
+use Rattle.ct_words.specs.Numbers.{multiplier}
+use Rattle.ct_words.specs.Doubly.{IsTrueDoublyUpper}
 use Rattle.ct_duals.specs.declared.dual.Dual.{Dual}
 use Rattle.ct_duals.specs.Bound.{natural, positive, charges}
 

@@ -1,8 +1,8 @@
 //! Accepted duals and their bounds.
 ghost use Rattle.std.specs.Prelude.{◌≡◌, ℕ, ◌+◌, ◌*◌, ◌/◌, ◌≤◌, ◌<◌, ◌^◌, min, pos, ◌+ℤ◌, ◌≤ℤ◌, length, suc, unsigned_abs, Some, IfOk};
 ghost use Rattle.ct_words.specs.declared.limits.TheConstants.{MAX_BOUND, MAX_N};
-ghost use Rattle.ct_entries.specs.Code.{IsTrueUpper};
-ghost use Rattle.ct_entries.specs.Numbers.{numbers_of, combination};
+ghost use Rattle.ct_words.specs.Code.{IsTrueUpper};
+ghost use Rattle.ct_words.specs.Numbers.{numbers_of, combination};
 ghost use Rattle.ct_duals.specs.Bound.{AcceptedValue, IsAccepted, AreTrueUppers, IsSpread, dual_bound, dual_spread, dual_premises, positive, charges, near_charge, far_charge, is_far, natural};
 ghost use Rattle.ct_duals.specs.Local.{AreTrueLocals, local_charge, local_bound};
 ghost use Rattle.ct_duals.specs.Inside.Proven.{IsProven};
@@ -10,8 +10,7 @@ ghost use Rattle.ct_duals.specs.Inside.Proven.{IsProven};
 use crate::accepted_dual::AcceptedDual;
 use crate::dual::Dual;
 use crate::premise::distance_at;
-use ct_entries::Entry;
-use ct_words::MAX_BOUND;
+use ct_words::{Entry, MAX_BOUND};
 use std::alloc::AllocError;
 use std::marker::Model;
 

@@ -1,9 +1,9 @@
 //! Accepted duals that are kept.
 ghost use Rattle.std.specs.Prelude.{◌≡◌, ℕ, ◌≤◌, ◌↔◌, IsTrue, Contains, All, Some, length, slice_get};
 ghost use Rattle.ct_words.specs.declared.limits.TheConstants.{MAX_BOUND, MAX_N};
-ghost use Rattle.ct_entries.specs.Code.{IsTrueUpper};
-ghost use Rattle.ct_entries.specs.Entry.{IsEntry};
-ghost use Rattle.ct_entries.specs.Numbers.{numbers_of, combination};
+ghost use Rattle.ct_words.specs.Code.{IsTrueUpper};
+ghost use Rattle.ct_words.specs.Entry.{IsEntry};
+ghost use Rattle.ct_words.specs.Numbers.{numbers_of, combination};
 ghost use Rattle.ct_duals.specs.Bound.{IsAccepted, AreTrueUppers, IsSpread, dual_bound, dual_spread, dual_premises, positive};
 ghost use Rattle.ct_duals.specs.Local.{AreTrueLocals, local_bound};
 ghost use Rattle.ct_duals.specs.Inside.Proven.{IsProven};
@@ -11,7 +11,7 @@ ghost use Rattle.ct_duals.specs.Inside.Proven.{IsProven};
 use crate::accepted::Accepted;
 use crate::dual::Dual;
 use crate::premise::{is_premise, positive_index, premise_at};
-use ct_entries::Entry;
+use ct_words::Entry;
 use std::marker::Model;
 
 /// A dual that was accepted, with its f(0), of its own: it meets its inequalities, so no code of its entry is larger than its

@@ -2,8 +2,8 @@
 ghost use Rattle.std.specs.Prelude.{◌≡◌, ◌≤◌, ◌+◌, ◌+ℤ◌, ◌*ℤ◌, ◌^◌, ◌<◌, suc, length, unsigned_abs, IfOk, Some, None};
 ghost use Rattle.std.specs.Result.{result_err};
 ghost use Rattle.ct_words.specs.declared.limits.TheConstants.{MAX_N};
-ghost use Rattle.ct_entries.specs.Scheme.{IsSmall};
-ghost use Rattle.ct_entries.specs.Numbers.{combination};
+ghost use Rattle.ct_words.specs.Scheme.{IsSmall};
+ghost use Rattle.ct_words.specs.Numbers.{combination};
 ghost use Rattle.ct_duals.specs.Dual.{Fits, IsDual, degree_of, allowed};
 ghost use Rattle.ct_duals.specs.Check.{dual_fault, lead_fault, above_fault, fault_at};
 
@@ -11,7 +11,7 @@ use crate::accepted::Accepted;
 use crate::dual::Dual;
 use crate::fault::DualFault;
 use crate::form::is_in_range;
-use ct_entries::{Scheme, add_product};
+use ct_words::{Scheme, add_product};
 
 /// The dual as an accepted one, where c_0 is at least 1 and f(i) at most what is allowed at each index i of the range:
 /// then no code of its entry is larger than its bound. The scheme fits the entry of the dual.

@@ -2,8 +2,7 @@
 ghost use Rattle.std.specs.Prelude.{◌≡◌, length, IfOk};
 ghost use Rattle.ct_duals.specs.Bound.{positive, dual_premises};
 
-use ct_entries::Entry;
-use ct_words::Listed;
+use ct_words::{Entry, Listed};
 use std::alloc::AllocError;
 
 /// The multipliers of a dual: c_0, c_1 and so on, as far as they are given; the others are 0.

@@ -2,12 +2,12 @@
 ghost use Rattle.std.specs.Prelude.{◌≡◌, ◌↔◌, ◌≤◌, IsTrue};
 ghost use Rattle.std.specs.List.{list_all};
 ghost use Rattle.ct_words.specs.declared.limits.TheConstants.{MAX_N};
-ghost use Rattle.ct_entries.specs.Entry.{IsEntry};
+ghost use Rattle.ct_words.specs.Entry.{IsEntry};
 ghost use Rattle.ct_duals.specs.Dual.{IsDual, degree_of, is_in_range};
 ghost use Rattle.ct_duals.specs.Form.{is_dual, are_multipliers, are_allowances, is_mark, is_number};
 
 use crate::dual::Dual;
-use ct_entries::Entry;
+use ct_words::Entry;
 
 impl Dual {
     /// Whether the dual has the form of one: its entry is in the table; there are 1 to degree + 1 multipliers, all at least

@@ -1,12 +1,12 @@
 //! The entries whose upper bounds a dual rests on.
 ghost use Rattle.std.specs.Prelude.{◌≡◌, ◌≤◌, ◌*◌, ◌↔◌, true, pos, All, IsTrue, Contains, map, length, slice_get, option_map};
 ghost use Rattle.ct_words.specs.declared.limits.TheConstants.{MAX_N};
-ghost use Rattle.ct_entries.specs.Entry.{IsEntry, constant_weight};
-ghost use Rattle.ct_entries.specs.Constructions.Even.{even_from};
+ghost use Rattle.ct_words.specs.Entry.{IsEntry, constant_weight};
+ghost use Rattle.ct_words.specs.Constructions.Even.{even_from};
 ghost use Rattle.ct_duals.specs.Dual.{as_distance};
 ghost use Rattle.ct_duals.specs.Bound.{positive};
 
-use ct_entries::Entry;
+use ct_words::Entry;
 
 /// The distance of two words that have the index: with a weight twice the index.
 pub(crate) fn distance_at(weight: Option<u32>, i: u32) -> u64

@@ -2,7 +2,7 @@
 use Rattle.std.proofs.Common.{ℕ, ◌≤◌, arith}
 use Rattle.std.proofs.lemmas.Bool.Decides.{nat_tests}
 use Rattle.ct_words.specs.declared.limits.TheConstants.{MAX_N}
-use Rattle.ct_entries.specs.Entry.{IsEntry, unrestricted}
+use Rattle.ct_words.specs.Entry.{IsEntry, unrestricted}
 
 -- the ranges of the length and the distance
 pub record IsWithin (n d : ℕ) : Type 0 where

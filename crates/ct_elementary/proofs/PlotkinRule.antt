@@ -6,11 +6,11 @@ use Rattle.std.proofs.lemmas.Bool.{cases_lt, cases_eq, le-leb, lt-leb, lt-ltb, l
 use Rattle.std.proofs.lemmas.Nat.{le-div}
 use Rattle.std.proofs.lemmas.List.{length-map}
 use Rattle.ct_words.specs.declared.limits.TheConstants.{MAX_N, MAX_BOUND}
-use Rattle.ct_entries.specs.Code.{IsTrueUpper}
-use Rattle.ct_entries.specs.Entry.{unrestricted}
+use Rattle.ct_words.specs.Code.{IsTrueUpper}
+use Rattle.ct_words.specs.Entry.{unrestricted}
 use Rattle.ct_elementary.specs.Bounds.{plotkin_even}
 use Rattle.ct_words.proofs.Counting.Spread.{IsSpread}
-use Rattle.ct_entries.proofs.DigitCodes.{bound_from_spread}
+use Rattle.ct_words.proofs.DigitCodes.{bound_from_spread}
 use Rattle.ct_elementary.proofs.Averages.{spread_plotkin}
 use Rattle.ct_elementary.proofs.Halves.{spread_double}
 use Rattle.ct_words.proofs.Counting.Parity.{extended, spread_extended}

@@ -1,8 +1,8 @@
 //! The three bounds, for an entry A(n,d) of the table: n from 1 and d from 3, both to `MAX_N`.
 
 ghost use Rattle.std.specs.Prelude.{◌≡◌, ◌+◌, ◌≤◌, IfSome};
-ghost use Rattle.ct_entries.specs.Code.{IsTrueUpper};
-ghost use Rattle.ct_entries.specs.Entry.{IsEntry, unrestricted};
+ghost use Rattle.ct_words.specs.Code.{IsTrueUpper};
+ghost use Rattle.ct_words.specs.Entry.{IsEntry, unrestricted};
 ghost use Rattle.ct_elementary.specs.Bounds.{far_value, plotkin_even as even_value, plotkin_value, sphere_packing_value};
 
 use ct_words::{MAX_BOUND, MAX_N, ball};

@@ -1,7 +1,7 @@
 -- Bounds of pieces that are explained.
 use Rattle.std.specs.Prelude.{ℕ, List}
-use Rattle.ct_entries.specs.declared.entry.Entry.{Entry}
-use Rattle.ct_entries.specs.declared.claim.Side.{Side}
+use Rattle.ct_words.specs.declared.entry.Entry.{Entry}
+use Rattle.ct_words.specs.declared.claim.Side.{Side}
 use Rattle.ct_rules.specs.Derivation.{IsBest}
 use Rattle.ct_derive.specs.Derivation.{DerivationValue}
 use Rattle.ct_derive.specs.Explanation.{IsExplanation}

@@ -2,8 +2,8 @@
 use Rattle.std.specs.Prelude.{ℕ, ◌%◌, ◌==◌, not, ◌&&◌, Bool, if◌then◌else◌, Option, Some, None, Result, Ok, is_some}
 use Rattle.toml.specs.Data.{Data, get}
 use Rattle.ct_words.specs.declared.limits.TheConstants.{MAX_N}
-use Rattle.ct_entries.specs.declared.entry.Entry.{Entry}
-use Rattle.ct_entries.specs.Entry.{unrestricted}
+use Rattle.ct_words.specs.declared.entry.Entry.{Entry}
+use Rattle.ct_words.specs.Entry.{unrestricted}
 use Rattle.ct_fields.specs.Field.{field_text}
 use Rattle.ct_fields.specs.Steps.{◌>>=◌, ◌>>◌, check}
 use Rattle.ct_fields.specs.Fields.{number_field}

@@ -9,8 +9,7 @@ ghost use Rattle.ct_fields.specs.StatedEntry.{has_field, distance_beside, weight
 use crate::fault::DocumentFault;
 use crate::field::FieldName;
 use crate::fields::number_field;
-use ct_entries::Entry;
-use ct_words::MAX_N;
+use ct_words::{Entry, MAX_N};
 use toml::Value;
 
 /// The length of the words.

@@ -21,7 +21,7 @@ pub enum DocumentFault {
     /// The place, counted from 0, of the first text of a word that isn't of its length in digits `0` and `1`. The one text of
     /// digits of a build, `by` or `digits`, has place 0.
     Digits(usize),
-    /// The count that is wrong: of words, which is 0 or above `ct_entries::MAX_WORDS`; of the words of a basis or the
+    /// The count that is wrong: of words, which is 0 or above `ct_words::MAX_WORDS`; of the words of a basis or the
     /// representatives of cosets; of the classes of a partition or their words, as `ct_partitions::wrong_count` says it.
     Size(u64),
     /// Memory ran out.

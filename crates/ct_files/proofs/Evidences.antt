@@ -1,10 +1,10 @@
 -- What an evidence keeps that is read.
 use Rattle.std.proofs.Common.{◌≡◌, ℕ, suc, ◌≤◌, List, length, Option, Some, None, Result, Ok, Err, IfOk, inl, inr, refl, sym, subst, ap, ◌∙◌, arith}
 use Rattle.std.specs.Prelude.{IsSome, is_some}
-use Rattle.ct_entries.specs.declared.entry.Entry.{Entry}
-use Rattle.ct_entries.specs.Entry.{IsEntry, unrestricted}
+use Rattle.ct_words.specs.declared.entry.Entry.{Entry}
+use Rattle.ct_words.specs.Entry.{IsEntry, unrestricted}
 use Rattle.ct_build.specs.declared.step.Step.{Step}
-use Rattle.ct_entries.proofs.EntryLemmas.{WeightFits, entry_from_limits}
+use Rattle.ct_words.proofs.EntryLemmas.{WeightFits, entry_from_limits}
 use Rattle.toml.specs.Data.{Data, table}
 use Rattle.ct_files.specs.Evidence.{read_without_limit, read_of, IsSound}
 use Rattle.ct_fields.specs.StatesEntry.{HasWeight, StatesEntry}

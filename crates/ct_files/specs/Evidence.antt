@@ -2,8 +2,8 @@
 use Rattle.std.specs.Prelude.{◌≡◌, ℕ, suc, ◌^◌, ◌<◌, ◌≤◌, nat_le, List, [], length, None, IsSome, is_some, Result, All}
 use Rattle.toml.specs.Data.{Data}
 use Rattle.ct_words.specs.declared.limits.TheConstants.{MAX_N}
-use Rattle.ct_entries.specs.Entry.{IsEntry}
-use Rattle.ct_entries.specs.declared.fault.TheConstants.{MAX_WORDS, MAX_REPRESENTATIVES}
+use Rattle.ct_words.specs.Entry.{IsEntry}
+use Rattle.ct_words.specs.declared.fault.TheConstants.{MAX_WORDS, MAX_REPRESENTATIVES}
 use Rattle.ct_partitions.specs.Partition.{words_of_classes}
 use Rattle.ct_partitions.specs.Check.{wrong_count}
 use Rattle.ct_build.specs.Build.{FitsStated}

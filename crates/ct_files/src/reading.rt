@@ -160,9 +160,9 @@ pub fn read_document(alloc: Global, bytes: &[u8]) -> Result<Document, DocumentFa
 ///
 /// | `kind` | further keys |
 /// |---|---|
-/// | `words` | `w`, which may be left out; `words`, a list of 1 to `ct_entries::MAX_WORDS` words |
-/// | `cosets` | `basis`, a list of at most `MAX_N` words; `representatives`, one of 1 to `ct_entries::MAX_REPRESENTATIVES` |
-/// | `partition` | `w`, which may be left out; `d1`, an integer from 1 to d; `classes`, a list of 1 to `ct_partitions::MAX_CLASSES` lists of 1 or more words, at most `ct_entries::MAX_WORDS` in all |
+/// | `words` | `w`, which may be left out; `words`, a list of 1 to `ct_words::MAX_WORDS` words |
+/// | `cosets` | `basis`, a list of at most `MAX_N` words; `representatives`, one of 1 to `ct_words::MAX_REPRESENTATIVES` |
+/// | `partition` | `w`, which may be left out; `d1`, an integer from 1 to d; `classes`, a list of 1 to `ct_partitions::MAX_CLASSES` lists of 1 or more words, at most `ct_words::MAX_WORDS` in all |
 /// | `build` | `w`, as the operation has it; `op`, the operation; the fields of the operation; `part`, an id; `other`, an id |
 /// | `product` | `w`, which may be left out; `pairs`, a list of 1 to `MAX_N + 1` lists of two ids, of one alone where `w` is left out |
 /// | `dual` | `even`, a truth value, true only with an even d, false where it is left out; `c`, a list of 1 to n + 1 whole numbers of at least 0; `y`, a list of pairs `[i, v]`, empty where it is left out, i ascending from d to n, even ones alone where `even` is set, v at least 0 |

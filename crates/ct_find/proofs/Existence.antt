@@ -7,9 +7,9 @@ use Rattle.std.proofs.lemmas.Str.{is_utf8-from_IsUtf8}
 use Rattle.toml.specs.Data.{table, Members}
 use Rattle.toml_writer.specs.Text.{key_text, string_text, encoding_of, escaped, needs_escape, quotes_after}
 use Rattle.ct_words.specs.declared.limits.TheConstants.{MAX_N}
-use Rattle.ct_entries.specs.declared.entry.Entry.{Entry}
-use Rattle.ct_entries.specs.Entry.{IsEntry, unrestricted, constant_weight}
-use Rattle.ct_entries.proofs.EntryLemmas.{entry_limits}
+use Rattle.ct_words.specs.declared.entry.Entry.{Entry}
+use Rattle.ct_words.specs.Entry.{IsEntry, unrestricted, constant_weight}
+use Rattle.ct_words.proofs.EntryLemmas.{entry_limits}
 use Rattle.ct_duals.specs.declared.dual.Dual.{Dual}
 use Rattle.ct_duals.specs.Dual.{IsDual}
 use Rattle.ct_fields.specs.Document.{table_of}
@@ -26,7 +26,7 @@ use Rattle.ct_fields.specs.Inside.Room.{IsSimpleTable, table_room}
 use Rattle.ct_fields.proofs.TextLengths.{document_length}
 use Rattle.ct_dual_files.specs.WrittenDuals.{dual_table, johnson_dual_table}
 use Rattle.ct_duals.specs.Dual.{degree_of}
-use Rattle.ct_entries.specs.Numbers.{numbers_of}
+use Rattle.ct_words.specs.Numbers.{numbers_of}
 use Rattle.ct_finder.specs.Run.{End, columns_of, multipliers_of, run_dual, ones_dual}
 use Rattle.ct_finder.specs.Run.End.{Least as LeastEnd, Turns as TurnsEnd, Wide as WideEnd}
 use Rattle.ct_finder.proofs.RunDuals.{dual-form, least-of, narrow-of}
@@ -36,7 +36,7 @@ use Rattle.ct_finder.specs.Found.{bound_of_dual, dual_of, IsShown}
 use Rattle.ct_finder.proofs.FoundLemmas.{asked-weighted}
 use Rattle.ct_find.proofs.FoundDuals.{plain_shown, weighted_shown}
 use Rattle.ct_io.specs.Lines.{lines_of}
-use Rattle.ct_io.specs.declared.TheConstants.{LINE_FEED}
+use Rattle.ct_text.specs.declared.document_lines.TheConstants.{LINE_FEED}
 use Rattle.ct_text.specs.Line.{words_of}
 use Rattle.ct_text.specs.EntryNumbers.{entry_numbers_of, named_entry}
 use Rattle.ct_text.specs.declared.entry_numbers.EntryNumbers.{EntryNumbers}

@@ -2,15 +2,15 @@
 use Rattle.std.proofs.Common.{◌≡◌, ◌∙◌, ◌↔◌, ℕ, suc, ◌%◌, ◌/◌, min, Bool, true, false, [], map, replicate, refl, sym, ap, subst, eqb-true, eq-eqb}
 use Rattle.std.specs.Prelude.{pos, Option, Some, None, IsSome, unwrap_or}
 use Rattle.ct_words.specs.declared.limits.TheConstants.{MAX_BOUND}
-use Rattle.ct_entries.specs.declared.entry.Entry.{Entry}
-use Rattle.ct_entries.specs.Code.{IsTrueUpper}
-use Rattle.ct_entries.specs.Entry.{IsEntry, unrestricted, constant_weight}
-use Rattle.ct_entries.specs.Constructions.Even.{even_from}
+use Rattle.ct_words.specs.declared.entry.Entry.{Entry}
+use Rattle.ct_words.specs.Code.{IsTrueUpper}
+use Rattle.ct_words.specs.Entry.{IsEntry, unrestricted, constant_weight}
+use Rattle.ct_words.specs.Constructions.Even.{even_from}
 use Rattle.ct_duals.specs.declared.dual.Dual.{Dual}
 use Rattle.ct_duals.specs.Dual.{as_distance, IsDual, degree_of}
 use Rattle.ct_duals.specs.Check.{dual_fault}
 use Rattle.ct_duals.specs.Bound.{natural, positive, dual_premises, AreTrueUppers}
-use Rattle.ct_entries.specs.Numbers.{numbers_of, multiplier, combination}
+use Rattle.ct_words.specs.Numbers.{numbers_of, multiplier, combination}
 use Rattle.ct_duals.proofs.Faults.{accepted-from_none}
 use Rattle.ct_duals.proofs.SoundDuals.{accepted-sound}
 use Rattle.ct_finder.specs.Column.{Tableau, range_of}

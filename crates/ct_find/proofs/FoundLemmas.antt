@@ -1,8 +1,8 @@
 -- What the finder gives for an entry.
 use Rattle.std.proofs.Common.{◌≡◌, ℕ, List, false, Option, Some, None, refl, ap, subst, arith}
 use Rattle.std.proofs.lemmas.Bool.Decides.{nat_tests}
-use Rattle.ct_entries.specs.declared.entry.Entry.{Entry}
-use Rattle.ct_entries.specs.Entry.{IsEntry, unrestricted, constant_weight}
+use Rattle.ct_words.specs.declared.entry.Entry.{Entry}
+use Rattle.ct_words.specs.Entry.{IsEntry, unrestricted, constant_weight}
 use Rattle.ct_duals.specs.declared.dual.Dual.{Dual}
 use Rattle.ct_finder.specs.Run.{IsAsked}
 use Rattle.ct_finder.specs.Found.{bound_of_dual, end_of_run, IsShown}

@@ -1,8 +1,8 @@
 -- What is proposed for an entry: a dual that the finder gives, with its bound and the primal that shows it, as a submission.
 use Rattle.std.specs.Prelude.{◌≡◌, ℕ, ◌%◌, ◌==◌, Bool, false, List, [], ◌∷◌, ◌++◌, codes, ℤ, unsigned_abs, Option, Some, None, Ok}
 use Rattle.std.specs.Fmt.{decimal}
-use Rattle.ct_io.specs.declared.TheConstants.{LINE_FEED}
-use Rattle.ct_entries.specs.declared.entry.Entry.{Entry}
+use Rattle.ct_text.specs.declared.document_lines.TheConstants.{LINE_FEED}
+use Rattle.ct_words.specs.declared.entry.Entry.{Entry}
 use Rattle.ct_duals.specs.declared.dual.Dual.{Dual}
 use Rattle.ct_kind.specs.declared.evidence.Evidence.{Evidence}
 use Rattle.ct_kind.specs.declared.evidence.Evidence.TheVariants as evidence

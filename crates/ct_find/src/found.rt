@@ -1,13 +1,13 @@
 //! The dual that is proposed for an entry.
 
 ghost use Rattle.std.specs.Prelude.{◌≡◌, None, IfOk, IfSome, option_map};
-ghost use Rattle.ct_entries.specs.Entry.{IsEntry, unrestricted};
+ghost use Rattle.ct_words.specs.Entry.{IsEntry, unrestricted};
 ghost use Rattle.ct_duals.specs.Dual.{IsDual};
 ghost use Rattle.ct_finder.specs.Found.{bound_of_dual, dual_of, end_of_run, stop_of, IsShown};
 ghost use Rattle.ct_find.specs.Proposal.{is_even, found_dual, stop_for};
 
-use ct_entries::Entry;
 use ct_finder::{Found, find, find_weight};
+use ct_words::Entry;
 use std::alloc::{AllocError, Global};
 
 /// The most pivots of a run.

@@ -1,7 +1,7 @@
 //! The text of a dual that is proposed.
 
 ghost use Rattle.std.specs.Prelude.{◌≡◌, ◌++◌, [], codes, IfOk, OnOk};
-ghost use Rattle.ct_entries.specs.Entry.{IsEntry};
+ghost use Rattle.ct_words.specs.Entry.{IsEntry};
 ghost use Rattle.ct_duals.specs.Dual.{IsDual};
 ghost use Rattle.ct_files.specs.Evidence.{IsSound};
 ghost use Rattle.ct_find.specs.Proposal.{bound_line, comments, dual_evidence, find_id, found_dual, pair_text, pairs_text, primal_line, stop_text, weight_part, AnswersEntry, IsProposal};
@@ -9,12 +9,11 @@ ghost use Rattle.ct_find.specs.Proposal.{bound_line, comments, dual_evidence, fi
 use crate::found::found_for;
 use ct_commands::put_submission;
 use ct_duals::Dual;
-use ct_entries::Entry;
 use ct_files::write_evidence;
 use ct_finder::{Found, Stop};
-use ct_io::LINE_FEED;
 use ct_kind::Evidence;
-use ct_text::put_number;
+use ct_text::{LINE_FEED, put_number};
+use ct_words::Entry;
 use std::alloc::{AllocError, Global};
 
 /// The dual, which allows nothing, as evidence: of kind dual where its entry has no weight, else of kind jdual.

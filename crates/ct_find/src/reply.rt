@@ -1,14 +1,14 @@
 //! The replies to lines.
 
 ghost use Rattle.std.specs.Prelude.{◌≡◌, ◌++◌, ◌||◌, false, true, map, IfOk, OnOk, IfSome};
-ghost use Rattle.ct_entries.specs.Entry.{IsEntry};
+ghost use Rattle.ct_words.specs.Entry.{IsEntry};
 ghost use Rattle.ct_io.specs.Lines.{lines_of};
 ghost use Rattle.ct_find.specs.Reply.{AreReplies, IsReply, IsReplyToEntry, IsReplyToNumbers, IsReplyToWords};
 
 use crate::proposal::{answer_entry, owned};
-use ct_entries::Entry;
 use ct_io::next_line;
 use ct_text::{EntryNumbers, first_words, parse_entry_numbers};
+use ct_words::Entry;
 use std::alloc::{AllocError, Global};
 
 // So many words of a line tell what it asks for: numbers of an entry are three at most, and a fourth shows that there are too many.

@@ -1,14 +1,14 @@
 -- What is found from the end of a run.
 use Rattle.std.proofs.Common.{◌≡◌, ℕ, suc, Bool, false, ◌≤◌, List, [], length, replicate, refl, sym, ap, ◌∙◌, subst}
 use Rattle.std.specs.Prelude.{ℤ, pos, Option, Some, None, unwrap_or}
-use Rattle.ct_entries.specs.declared.entry.Entry.{Entry}
-use Rattle.ct_entries.specs.Entry.{IsEntry, unrestricted, constant_weight}
+use Rattle.ct_words.specs.declared.entry.Entry.{Entry}
+use Rattle.ct_words.specs.Entry.{IsEntry, unrestricted, constant_weight}
 use Rattle.ct_primal.specs.Primal.{PrimalValue}
 use Rattle.ct_primal.proofs.PrimalFaults.{sound-from_none, none-from_sound}
 use Rattle.ct_duals.specs.declared.dual.Dual.{Dual}
 use Rattle.ct_duals.specs.Dual.{IsDual, degree_of}
 use Rattle.ct_duals.specs.Check.{dual_fault}
-use Rattle.ct_entries.specs.Numbers.{numbers_of}
+use Rattle.ct_words.specs.Numbers.{numbers_of}
 use Rattle.ct_finder.specs.Column.{Tableau, range_of, columns, opening}
 use Rattle.ct_finder.specs.RunPrimal.{wide_number, run_primal}
 use Rattle.ct_finder.proofs.RunShown.{primal-form, solved-of, primal-sound, primal-value}

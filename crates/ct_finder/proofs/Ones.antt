@@ -11,9 +11,9 @@ use Rattle.ct_words.specs.Counting.Binomials.{choose}
 use Rattle.ct_words.proofs.Counting.Binomials.{choose_past, row_total}
 use Rattle.ct_words.proofs.Counting.Convolutions.{total_below-congruence}
 use Rattle.ct_words.proofs.Counting.SignedBinomials.{signed_binomial, signed_binomial-first, signed_binomial-none, signed_binomial-plus, signed_binomial-minus, signed_binomial-le}
-use Rattle.ct_entries.specs.Entry.{unrestricted}
-use Rattle.ct_entries.proofs.EntryLemmas.{entry_limits}
-use Rattle.ct_entries.specs.Numbers.{krawtchouk, multiplier, combination}
+use Rattle.ct_words.specs.Entry.{unrestricted}
+use Rattle.ct_words.proofs.EntryLemmas.{entry_limits}
+use Rattle.ct_words.specs.Numbers.{krawtchouk, multiplier, combination}
 use Rattle.ct_duals.specs.Dual.{IsDual}
 use Rattle.ct_duals.specs.Check.{dual_fault}
 use Rattle.ct_finder.specs.Run.{ones_dual, IsAsked}

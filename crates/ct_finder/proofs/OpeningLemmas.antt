@@ -7,8 +7,8 @@ use Rattle.std.proofs.lemmas.Simd.{map-map, splat_is_map}
 use Rattle.std.proofs.lemmas.List.{map-append, length-map, replicate_more}
 use Rattle.std.proofs.lemmas.List.Elements.{All-cons, All-nil, All-append, All-map, All-filter}
 use Rattle.std.proofs.lemmas.List.FromFn.{length-range_with_len}
-use Rattle.ct_entries.specs.declared.entry.Entry.{Entry}
-use Rattle.ct_entries.specs.Scheme.{IsSmall}
+use Rattle.ct_words.specs.declared.entry.Entry.{Entry}
+use Rattle.ct_words.specs.Scheme.{IsSmall}
 use Rattle.ct_duals.specs.Dual.{degree_of, is_in_range}
 use Rattle.ct_finder.specs.Column.{Column, Tableau as TableauOf, range_of, rows_to, columns, opening_entry, cost_entry, opening_row, opening}
 use Rattle.ct_finder.specs.Column.Column.{Z, A, S, Constant}

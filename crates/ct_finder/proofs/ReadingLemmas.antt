@@ -12,8 +12,8 @@ use Rattle.ct_finder.proofs.Divisors.{gcd-is}
 use Rattle.ct_finder.proofs.RunPoints.{lines_of, line-at}
 use Rattle.ct_finder.specs.declared.reading.Line.{Line}
 use Rattle.std.proofs.lemmas.List.Elements.{All-filter, All-from_recursion, filter-append}
-use Rattle.ct_entries.specs.declared.entry.Entry.{Entry}
-use Rattle.ct_entries.specs.Pairs.{first_of}
+use Rattle.ct_words.specs.declared.entry.Entry.{Entry}
+use Rattle.ct_words.specs.Pairs.{first_of}
 use Rattle.ct_duals.specs.Bound.{natural}
 use Rattle.ct_finder.specs.Column.{Tableau}
 use Rattle.ct_finder.specs.Divisor.{gcd}

@@ -10,12 +10,12 @@ use Rattle.ct_words.specs.Counting.Alternating.{total_below}
 use Rattle.ct_words.proofs.Counting.Products.{int_mul_neg}
 use Rattle.ct_words.proofs.Counting.Convolutions.{total_below-congruence, total_below-first}
 use Rattle.ct_words.specs.declared.limits.TheConstants.{MAX_BOUND}
-use Rattle.ct_entries.specs.declared.entry.Entry.{Entry}
-use Rattle.ct_entries.specs.Pairs.{first_of}
+use Rattle.ct_words.specs.declared.entry.Entry.{Entry}
+use Rattle.ct_words.specs.Pairs.{first_of}
 use Rattle.ct_duals.specs.declared.dual.Dual.{Dual}
 use Rattle.ct_duals.specs.declared.fault.DualFault.{DualFault}
 use Rattle.ct_duals.specs.declared.fault.DualFault.TheVariants.{Lead, Above}
-use Rattle.ct_entries.specs.Numbers.{multiplier, combination}
+use Rattle.ct_words.specs.Numbers.{multiplier, combination}
 use Rattle.ct_duals.specs.Dual.{IsDual, as_index, degree_of, allowed, is_in_range}
 use Rattle.ct_duals.specs.Check.{first_below, fault_at, above_fault, dual_fault}
 use Rattle.ct_duals.specs.Bound.{natural, dual_bound}

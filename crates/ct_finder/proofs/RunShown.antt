@@ -8,8 +8,8 @@ use Rattle.std.proofs.lemmas.List.Kept.{AllPairs-cons, AllPairs-filter}
 use Rattle.ct_words.specs.declared.limits.TheConstants.{MAX_BOUND}
 use Rattle.ct_words.specs.Counting.Sums.{total}
 use Rattle.ct_words.proofs.Counting.Totals.{total-congruence}
-use Rattle.ct_entries.specs.declared.entry.Entry.{Entry}
-use Rattle.ct_entries.specs.Numbers.{combination}
+use Rattle.ct_words.specs.declared.entry.Entry.{Entry}
+use Rattle.ct_words.specs.Numbers.{combination}
 use Rattle.ct_duals.specs.Dual.{degree_of, is_in_range}
 use Rattle.ct_duals.specs.Bound.{natural, dual_bound}
 use Rattle.ct_primal.specs.Primal.{IsPrimal, IsSound, primal_value}

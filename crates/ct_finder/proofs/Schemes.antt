@@ -6,10 +6,10 @@ use Rattle.std.proofs.lemmas.List.Elements.{All-cons, All-nil}
 use Rattle.ct_words.specs.Word.{weight, distance}
 use Rattle.ct_words.proofs.WordLemmas.{distance-le, distance_same}
 use Rattle.ct_words.proofs.PairProducts.{half_distance-le, half_distance-same}
-use Rattle.ct_entries.specs.declared.entry.Entry.{Entry}
-use Rattle.ct_entries.specs.Entry.{IsEntry}
-use Rattle.ct_entries.specs.Numbers.{number_at, numbers_of, combination}
-use Rattle.ct_entries.proofs.BoundLemmas.{one_is_lower}
+use Rattle.ct_words.specs.declared.entry.Entry.{Entry}
+use Rattle.ct_words.specs.Entry.{IsEntry}
+use Rattle.ct_words.specs.Numbers.{number_at, numbers_of, combination}
+use Rattle.ct_words.proofs.BoundLemmas.{one_is_lower}
 use Rattle.ct_krawtchouk.specs.Hamming.{krawtchouk-positive, krawtchouk-first}
 use Rattle.ct_scheme.specs.Johnson.{johnson-positive, johnson-first}
 use Rattle.ct_duals.specs.declared.dual.Dual.{Dual}

@@ -1,7 +1,7 @@
 -- The columns and the opening rows of the finder's run: the linear program whose solutions are duals (Delsarte 1973), as a table of whole numbers for the simplex method.
 use Rattle.std.specs.Prelude.{ℕ, suc, Bool, true, false, ◌==◌, cond, List, [], ◌∷◌, ◌++◌, map, filter, ℤ, pos, negsuc, neg_ℤ}
 use Rattle.std.specs.List.{range_with_len, position_or_len}
-use Rattle.ct_entries.specs.declared.entry.Entry.{Entry}
+use Rattle.ct_words.specs.declared.entry.Entry.{Entry}
 use Rattle.ct_duals.specs.Dual.{degree_of, is_in_range}
 
 -- a column: z, the a of an index, the s of a row, and the constants

@@ -1,6 +1,6 @@
 -- What the finder answers: a dual from the end of a run, its bound, and how the run stopped.
 use Rattle.std.specs.Prelude.{◌≡◌, ℕ, ◌≤◌, ◌^◌, Bool, [], length, All, ℤ, pos, ◌<ℤ◌, Option, Some, None, false}
-use Rattle.ct_entries.specs.declared.entry.Entry.{Entry}
+use Rattle.ct_words.specs.declared.entry.Entry.{Entry}
 use Rattle.ct_duals.specs.declared.dual.Dual.{Dual}
 use Rattle.ct_duals.specs.Dual.{IsDual}
 use Rattle.ct_duals.specs.Check.{dual_fault}
@@ -8,7 +8,7 @@ use Rattle.ct_duals.specs.Bound.{dual_bound}
 use Rattle.ct_primal.specs.Primal.{PrimalValue, IsPrimal, primal_fault, primal_value}
 use Rattle.ct_finder.specs.Column.{range_of}
 use Rattle.ct_finder.specs.RunPrimal.{run_primal, wide_number}
-use Rattle.ct_entries.specs.Numbers.{numbers_of, combination}
+use Rattle.ct_words.specs.Numbers.{numbers_of, combination}
 use Rattle.ct_finder.specs.Run.{End, run_of, run_dual, ones_dual}
 use Rattle.ct_finder.specs.Run.End.{Least as LeastEnd, Turns as TurnsEnd, Wide as WideEnd}
 use Rattle.ct_finder.specs.declared.found.Stop.{Stop}

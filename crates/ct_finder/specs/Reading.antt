@@ -1,6 +1,6 @@
 -- What is read off the tableau with which a run ends as least: its primal, or the first number of it that is too large.
 use Rattle.std.specs.Prelude.{ℕ, ◌*◌, ◌/◌, Bool, ◌&&◌, nat_le, if◌then◌else◌, List, zip, map, length, find, ℤ, pos, Option, Some, None}
-use Rattle.ct_entries.specs.declared.entry.Entry.{Entry}
+use Rattle.ct_words.specs.declared.entry.Entry.{Entry}
 use Rattle.ct_primal.specs.Primal.{PrimalValue}
 use Rattle.ct_finder.specs.Column.{Tableau}
 use Rattle.ct_finder.specs.Divisor.{gcd}

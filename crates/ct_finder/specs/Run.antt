@@ -1,7 +1,7 @@
 -- The finder's run: pivots of the simplex method until no a or s of the cost row is negative, and the dual that it ends with.
 use Rattle.std.specs.Prelude.{◌≡◌, ℕ, zero, suc, ◌%◌, Bool, true, replicate, List, [], ◌∷◌, map, Option, Some, None, ℤ, pos, if◌then◌else◌}
-use Rattle.ct_entries.specs.declared.entry.Entry.{Entry}
-use Rattle.ct_entries.specs.Entry.{IsEntry}
+use Rattle.ct_words.specs.declared.entry.Entry.{Entry}
+use Rattle.ct_words.specs.Entry.{IsEntry}
 use Rattle.ct_duals.specs.declared.dual.Dual.{Dual}
 use Rattle.ct_duals.specs.Dual.{degree_of, IsMarkOf}
 use Rattle.ct_finder.specs.Column.{Column, Tableau, range_of, rows_to, columns, opening, same_column}

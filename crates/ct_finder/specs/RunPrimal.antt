@@ -1,7 +1,7 @@
 -- The primal of a run that ends as least: the numbers of the a's over a common scale, read off the rows whose basic column is an a.
 use Rattle.std.specs.Prelude.{ℕ, ◌*◌, ◌/◌, ◌==◌, Bool, ◌&&◌, nat_le, if◌then◌else◌, List, [], ◌∷◌, ◌++◌, map, filter, find, zip, length, Option, ℤ, pos, int_lt}
 use Rattle.std.specs.List.{range_with_len}
-use Rattle.ct_entries.specs.declared.entry.Entry.{Entry}
+use Rattle.ct_words.specs.declared.entry.Entry.{Entry}
 use Rattle.ct_duals.specs.Bound.{natural}
 use Rattle.ct_primal.specs.Primal.{PrimalValue}
 use Rattle.ct_finder.specs.Column.{Tableau, range_of}

@@ -8,7 +8,7 @@ use crate::opening::opening;
 use crate::reading::{Reading, read_primal};
 use crate::running::{Ending as TableauEnding, run};
 use ct_duals::Multipliers;
-use ct_entries::{Entry, Scheme};
+use ct_words::{Entry, Scheme};
 use std::alloc::{AllocError, Global};
 
 /// How a run ends.

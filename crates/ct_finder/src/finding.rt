@@ -1,10 +1,10 @@
 //! Duals of entries, found.
 ghost use Rattle.std.specs.Prelude.{◌≡◌, ◌≤◌, replicate, suc, [], pos, false, None, Option, IfOk, IfSome, option_map, unwrap_or};
-ghost use Rattle.ct_entries.specs.Code.{IsTrueUpper};
-ghost use Rattle.ct_entries.specs.Entry.{IsEntry, unrestricted, constant_weight};
+ghost use Rattle.ct_words.specs.Code.{IsTrueUpper};
+ghost use Rattle.ct_words.specs.Entry.{IsEntry, unrestricted, constant_weight};
 ghost use Rattle.ct_duals.specs.Dual.{IsDual};
 ghost use Rattle.ct_duals.specs.Check.{dual_fault};
-ghost use Rattle.ct_entries.specs.Numbers.{numbers_of};
+ghost use Rattle.ct_words.specs.Numbers.{numbers_of};
 ghost use Rattle.ct_finder.specs.Run.{IsAsked};
 ghost use Rattle.ct_primal.specs.Primal.{PrimalValue};
 ghost use Rattle.ct_finder.specs.Found.{end_of_run, dual_of, least_dual, bound_of_dual, stop_of, IsShown, IsLeast};
@@ -15,9 +15,9 @@ use crate::found::{Found, Stop};
 use crate::opening::{push_repeated, range_of};
 use crate::reading::Reading;
 use ct_duals::{Allowances, Dual, Multipliers, check_dual_of_table};
-use ct_entries::Entry;
 use ct_krawtchouk::Hamming;
 use ct_scheme::Johnson;
+use ct_words::Entry;
 use std::alloc::{AllocError, Global};
 
 /// A dual for A(n,d), by the finder's run with at most so many pivots: the run's where it ends as least, else the one

@@ -1,7 +1,7 @@
 //! The opening tableau of a run.
 ghost use Rattle.std.specs.Prelude.{◌≡◌, ◌≤◌, ◌<◌, ◌++◌, ◌==◌, suc, cond, replicate, pos, neg_ℤ, All, map, IfOk, OnOk};
-ghost use Rattle.ct_entries.specs.Entry.{IsEntry};
-ghost use Rattle.ct_entries.specs.Scheme.{IsSmall};
+ghost use Rattle.ct_words.specs.Entry.{IsEntry};
+ghost use Rattle.ct_words.specs.Scheme.{IsSmall};
 ghost use Rattle.ct_finder.specs.Column.{range_of, rows_to, columns, place_of, cost_entry, opening_row, opening};
 ghost use Rattle.ct_finder.specs.Column.Column.{S as SColumn};
 ghost use Rattle.ct_finder.specs.Ready.{seen, IsReady};
@@ -9,7 +9,7 @@ ghost use Rattle.ct_finder.specs.Ready.{seen, IsReady};
 use crate::row::Row;
 use crate::tableau::Tableau;
 use ct_duals::{degree, is_in_range};
-use ct_entries::{Entry, Scheme};
+use ct_words::{Entry, Scheme};
 use std::alloc::{AllocError, Global};
 
 /// The indices that two words of a code of the entry may have, ascending; the even ones alone where `even` is set.

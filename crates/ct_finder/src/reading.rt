@@ -13,8 +13,8 @@ ghost use Rattle.ct_finder.specs.Reading.{large, large_after, large_number, larg
 use crate::arithmetic::gcd;
 use crate::row::Row;
 use crate::tableau::Tableau;
-use ct_entries::Entry;
 use ct_primal::Primal;
+use ct_words::Entry;
 use std::alloc::{AllocError, Global};
 
 /// What is read off a tableau with which a run ended as least.

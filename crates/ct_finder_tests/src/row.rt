@@ -1,11 +1,11 @@
 //! What is found for a row.
 
 ghost use Rattle.std.specs.Prelude.{◌≡◌, ◌%◌, true};
-ghost use Rattle.ct_entries.specs.Entry.{IsEntry, unrestricted, constant_weight};
+ghost use Rattle.ct_words.specs.Entry.{IsEntry, unrestricted, constant_weight};
 
-use ct_entries::Entry;
 use ct_finder::{Found, Stop, find, find_weight};
 use ct_primal::Primal;
+use ct_words::Entry;
 use std::alloc::{AllocError, Global};
 use toml::Value;
 

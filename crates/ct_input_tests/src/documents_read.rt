@@ -1,9 +1,9 @@
 //! Documents that are read, and the evidence that each gives.
 
 use ct_build::Step;
-use ct_entries::Entry;
 use ct_files::{Evidence, FieldName, MAX_DOCUMENT, read_evidence};
 use ct_text::Id;
+use ct_words::Entry;
 use std::alloc::{AllocError, Global};
 use std::test::Fail;
 

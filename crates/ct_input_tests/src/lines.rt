@@ -2,7 +2,8 @@
 
 ghost use Rattle.std.specs.Prelude.{◌≤◌, IfOk};
 
-use ct_io::{LINE_FEED, LineFault, LineReader, MAX_INPUT, MAX_READ, MemSource};
+use ct_io::{LineFault, LineReader, MAX_INPUT, MAX_READ, MemSource};
+use ct_text::LINE_FEED;
 use std::alloc::{AllocError, Global};
 use std::test::Fail;
 

@@ -1,7 +1,7 @@
 -- What a call of a line reader does to the input.
 use Rattle.std.proofs.Common.{◌≡◌, ◌≢◌, ℕ, ◌+◌, ◌<◌, ◌≤◌, List, [], ◌∷◌, ◌++◌, Option, Some, None, Ok, Err, Vec, inl, inr, refl, ap, length, length-append, arith}
 use Rattle.std.specs.declared.alloc.Global.{Global}
-use Rattle.ct_io.specs.declared.TheConstants.{LINE_FEED}
+use Rattle.ct_text.specs.declared.document_lines.TheConstants.{LINE_FEED}
 use Rattle.ct_io.specs.Lines.{IsNextLine}
 use Rattle.ct_io.specs.Reader.{Reader, Answer, IfLine, LosesLine, LosesFirstLine, Takes, fresh_reader, input_of}
 use Rattle.ct_io.proofs.LinesLemmas.{lines_of-from_next}

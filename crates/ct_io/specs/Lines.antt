@@ -1,7 +1,7 @@
 -- The lines of an input.
 use Rattle.std.specs.Prelude.{◌≡◌, ◌≢◌, ℕ, List, [], ◌∷◌, ◌++◌, ◌==◌, ◌⊎◌, All}
 use Rattle.std.specs.List.{slice_split, flat_map}
-use Rattle.ct_io.specs.declared.TheConstants.{LINE_FEED}
+use Rattle.ct_text.specs.declared.document_lines.TheConstants.{LINE_FEED}
 
 -- the parts, less a last one that is empty
 abbrev pub less_empty_last : List (List ℕ) → List (List ℕ)

@@ -2,7 +2,7 @@
 use Rattle.std.specs.Prelude.{◌≡◌, ℕ, replicate, ◌+◌, ◌≤◌, Bool, true, false, List, [], ◌∷◌, ◌++◌, ◌⊎◌, length, Contains, Option, Some, None, Result, Ok, Err, Vec, ⊤, if◌then◌else◌}
 use Rattle.std.specs.declared.alloc.Global.{Global}
 use Rattle.std.specs.Io.KnownBytes.{prepend_known, Consumes}
-use Rattle.ct_io.specs.declared.TheConstants.{LINE_FEED}
+use Rattle.ct_text.specs.declared.document_lines.TheConstants.{LINE_FEED}
 use Rattle.ct_io.specs.declared.TheConstants.{MAX_READ}
 use Rattle.ct_io.specs.declared.line_fault.LineFault.{LineFault}
 use Rattle.ct_io.specs.declared.line_fault.LineFault.TheVariants.{ReadFault, TooLong, Memory}

@@ -3,9 +3,9 @@ ghost use Rattle.ct_io.specs.Inside.Buffer.{Buffer, empty_buffer};
 ghost use Rattle.ct_io.specs.Lines.{IsLine};
 ghost use Rattle.ct_io.specs.Inside.Filling.{Fills};
 
-use crate::LINE_FEED;
 use crate::line_fault::LineFault;
 use crate::source::Source;
+use ct_text::LINE_FEED;
 use std::alloc::{AllocError, Global};
 use std::marker::Model;
 

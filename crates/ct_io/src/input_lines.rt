@@ -3,7 +3,7 @@
 ghost use Rattle.std.specs.Prelude.{◌<◌, length};
 ghost use Rattle.ct_io.specs.Lines.{IsNextLine};
 
-use crate::LINE_FEED;
+use ct_text::LINE_FEED;
 
 /// The first line of an input that is not empty, without its line feed, and what follows it.
 pub fn next_line(input: &[u8]) -> (&[u8], &[u8])

@@ -1,7 +1,7 @@
 //! The laws of sources, sinks and the reader: what their definitions mean, with no code.
 
 ghost use Rattle.std.specs.Prelude.{◌≡◌, ◌≢◌, ℕ, ◌-◌, ◌^◌, ◌<◌, ◌≤◌, ◌↔◌, List, ◌∷◌, ◌++◌, Some, length};
-ghost use Rattle.ct_io.specs.declared.TheConstants.{LINE_FEED};
+ghost use Rattle.ct_text.specs.declared.document_lines.TheConstants.{LINE_FEED};
 ghost use Rattle.ct_io.specs.Lines.{IsLine};
 ghost use Rattle.ct_io.specs.declared.TheConstants.{MAX_READ};
 ghost use Rattle.std.specs.Io.KnownBytes.{Appends};

@@ -47,8 +47,5 @@ pub const MAX_INPUT: u64 = 67_108_864;
 /// The most bytes that a line reader asks for at once, 64 KiB.
 pub const MAX_READ: usize = 65_536;
 
-/// The byte that ends a line.
-pub const LINE_FEED: u8 = b'\n';
-
 /// The most bytes that are gathered for a sink before they are written, 32 KiB.
 pub const MAX_GATHERED: usize = 32_768;

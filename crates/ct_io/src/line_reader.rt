@@ -1,6 +1,6 @@
 ghost use Rattle.std.specs.Prelude.{◌≡◌, ◌≢◌, IfErr, ℕ, ◌+◌, ◌<◌, ◌≤◌, ◌⊎◌, ◌↔◌, IsTrue, Option, Some, None, true, false, [], IfOk, OnOk, OnErr, length, max, slice_get};
 ghost use Rattle.std.specs.Io.KnownBytes.{IsAtEnd, Keeps};
-ghost use Rattle.ct_io.specs.declared.TheConstants.{LINE_FEED};
+ghost use Rattle.ct_text.specs.declared.document_lines.TheConstants.{LINE_FEED};
 ghost use Rattle.ct_io.specs.Faults.{Rose};
 ghost use Rattle.ct_io.specs.Reader.{fresh_reader, given_size, input_of, IfLine, IfNoLine, IsLineThenRead, LosesLine, LosesFirstLine, NeedsNoRead, PassesEmptyLines, Takes, lasting_fault};
 ghost use Rattle.ct_io.specs.Lines.{IsLine};

@@ -18,9 +18,9 @@ use Rattle.ct_words.proofs.Counting.Spheres.{sphere_size}
 use Rattle.ct_words.proofs.Counting.CommonOnes.{common_ones, ones-common}
 use Rattle.ct_words.proofs.Counting.Parity.{evened, spread-evened, weights-evened, half_have_parity}
 use Rattle.ct_words.proofs.Counting.Translations.{around, length-around, spread-around}
-use Rattle.ct_entries.specs.Entry.{constant_weight, unrestricted}
-use Rattle.ct_entries.specs.Code.{IsTrueUpper}
-use Rattle.ct_entries.proofs.DigitCodes.{bound_from_spread, weight_bound_from_codes}
+use Rattle.ct_words.specs.Entry.{constant_weight, unrestricted}
+use Rattle.ct_words.specs.Code.{IsTrueUpper}
+use Rattle.ct_words.proofs.DigitCodes.{bound_from_spread, weight_bound_from_codes}
 use Rattle.ct_johnson.specs.Bounds.{average}
 use Rattle.ct_johnson.proofs.Quotients.{div-le-div}
 

@@ -12,12 +12,12 @@ use Rattle.ct_words.proofs.Counting.Sums.{sum_by-congruence, sum_by-congruence_w
 use Rattle.ct_words.proofs.Counting.Shortened.{sum_below-sum_by}
 use Rattle.ct_words.specs.Word.{places, digit, weight}
 use Rattle.ct_words.proofs.WordLemmas.{one, digit-lt}
-use Rattle.ct_entries.specs.Code.{IsCode, IsTrueLower}
-use Rattle.ct_entries.specs.Entry.{constant_weight}
-use Rattle.ct_entries.specs.Constructions.Places.{ArePlaces}
-use Rattle.ct_entries.specs.Constructions.Shortened.{shortened}
-use Rattle.ct_entries.proofs.Constructions.FrontLemmas.{IsCode-take}
-use Rattle.ct_entries.proofs.Constructions.ShortenedCodes.{IsCode-shortened, length-shortened}
+use Rattle.ct_words.specs.Code.{IsCode, IsTrueLower}
+use Rattle.ct_words.specs.Entry.{constant_weight}
+use Rattle.ct_words.specs.Constructions.Places.{ArePlaces}
+use Rattle.ct_words.specs.Constructions.Shortened.{shortened}
+use Rattle.ct_words.proofs.Constructions.FrontLemmas.{IsCode-take}
+use Rattle.ct_words.proofs.Constructions.ShortenedCodes.{IsCode-shortened, length-shortened}
 use Rattle.ct_johnson.proofs.RoundedUp.{div_ceil-le}
 
 -- at how many places the word x of length n has the digit a

@@ -9,9 +9,9 @@ use Rattle.ct_words.specs.Counting.Binomials.{choose, volume}
 use Rattle.ct_words.proofs.Counting.Binomials.{choose-le, volume-le, one-le-volume}
 use Rattle.ct_words.proofs.Counting.Spread.{IsSpreadBound, IsWeightBound}
 use Rattle.ct_words.specs.declared.limits.TheConstants.{MAX_N, MAX_BOUND}
-use Rattle.ct_entries.specs.Entry.{constant_weight, unrestricted}
-use Rattle.ct_entries.specs.Code.{IsTrueUpper}
-use Rattle.ct_entries.proofs.DigitCodes.{bound_from_spread, weight_bound_from_codes}
+use Rattle.ct_words.specs.Entry.{constant_weight, unrestricted}
+use Rattle.ct_words.specs.Code.{IsTrueUpper}
+use Rattle.ct_words.proofs.DigitCodes.{bound_from_spread, weight_bound_from_codes}
 use Rattle.ct_johnson.specs.Bounds.{johnson_odd}
 use Rattle.ct_johnson.proofs.OutsideBalls.{spread_bound-johnson}
 use Rattle.ct_johnson.proofs.Quotients.{div-le-div_divisor}

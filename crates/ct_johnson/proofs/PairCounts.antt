@@ -13,9 +13,9 @@ use Rattle.ct_words.proofs.Counting.Pairs.{AllPairs-within}
 use Rattle.ct_words.proofs.Counting.PairSums.{pair_sum, pair_sum-le}
 use Rattle.ct_words.proofs.Counting.Spread.{IsSpreadOfWeight, IsWeightBound, spread-take}
 use Rattle.ct_words.proofs.Counting.CommonOnes.{common_ones, ones-common, common_self, common_symmetric, columns-ge}
-use Rattle.ct_entries.specs.Entry.{constant_weight}
-use Rattle.ct_entries.specs.Code.{IsTrueUpper}
-use Rattle.ct_entries.proofs.DigitCodes.{bound_from_weight}
+use Rattle.ct_words.specs.Entry.{constant_weight}
+use Rattle.ct_words.specs.Code.{IsTrueUpper}
+use Rattle.ct_words.proofs.DigitCodes.{bound_from_weight}
 use Rattle.ct_johnson.specs.declared.columns.TheConstants.{MAX_COUNTED}
 use Rattle.ct_johnson.specs.Bounds.{least_pairs, are_too_many, least_from, column_count_value}
 

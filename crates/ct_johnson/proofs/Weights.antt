@@ -14,7 +14,7 @@ use Rattle.ct_words.proofs.Counting.Spread.{IsSpreadOfWeight, IsWeightBound}
 use Rattle.ct_words.proofs.Counting.Spheres.{ball_size, one_ball}
 use Rattle.ct_words.proofs.Counting.Complements.{complement_bound}
 use Rattle.ct_words.proofs.Counting.CommonOnes.{ones-common, disjoint_words}
-use Rattle.ct_entries.specs.Code.{IsCode}
+use Rattle.ct_words.specs.Code.{IsCode}
 
 -- two words that differ nowhere have one weight
 same_weight : (x y : List Bool) → length x ≡ length y → apart x y ≡ 0 → ones x ≡ ones y

@@ -1,8 +1,8 @@
 //! Bounds on A(n,d,w) from the pairs of words that both have a one at a place.
 
 ghost use Rattle.std.specs.Prelude.{◌≡◌, ℕ, false, ◌-◌, ◌/◌, ◌<◌, ◌≤◌, IfSome, MatchOption};
-ghost use Rattle.ct_entries.specs.Code.{IsTrueUpper};
-ghost use Rattle.ct_entries.specs.Entry.{IsEntry, constant_weight};
+ghost use Rattle.ct_words.specs.Code.{IsTrueUpper};
+ghost use Rattle.ct_words.specs.Entry.{IsEntry, constant_weight};
 ghost use Rattle.ct_johnson.specs.Bounds.{are_too_many as too_many, column_count_value, IsLeastTooMany, NoneTooMany};
 ghost use Rattle.ct_words.specs.declared.limits.TheConstants.{MAX_N};
 

@@ -1,8 +1,8 @@
 //! Bounds on A(n,d,w) from the words that have a one, or a zero, at a place.
 
 ghost use Rattle.std.specs.Prelude.{◌≡◌, ℕ, ◌-◌, ◌<◌, ◌≤◌};
-ghost use Rattle.ct_entries.specs.Code.{IsTrueUpper};
-ghost use Rattle.ct_entries.specs.Entry.{constant_weight};
+ghost use Rattle.ct_words.specs.Code.{IsTrueUpper};
+ghost use Rattle.ct_words.specs.Entry.{constant_weight};
 ghost use Rattle.ct_johnson.specs.Bounds.{drop_one_value, drop_zero_value, split_value};
 
 use crate::cap::capped;

@@ -1,8 +1,8 @@
 //! Bounds on A(n,d) from bounds on A(n,d,w).
 
 ghost use Rattle.std.specs.Prelude.{◌≡◌, ℕ, ◌+◌, ◌*◌, ◌%◌, ◌≤◌, IfSome};
-ghost use Rattle.ct_entries.specs.Code.{IsTrueUpper};
-ghost use Rattle.ct_entries.specs.Entry.{IsEntry, constant_weight, unrestricted};
+ghost use Rattle.ct_words.specs.Code.{IsTrueUpper};
+ghost use Rattle.ct_words.specs.Entry.{IsEntry, constant_weight, unrestricted};
 ghost use Rattle.ct_johnson.specs.Bounds.{average, elias_bassalygo_value, johnson_odd, johnson_value};
 
 use crate::cap::capped;

@@ -3,10 +3,10 @@ use Rattle.std.proofs.Common.{◌≡◌, ℕ, ◌^◌, Bool, true, ◌&&◌, if�
 use Rattle.std.specs.Option.{unwrap_or}
 use Rattle.std.specs.Prelude.{not, is_some, nat_le, nat_lt, false}
 use Rattle.ct_words.specs.Counting.Binomials.{choose}
-use Rattle.ct_entries.specs.declared.claim.Side.TheVariants.{Lower, Upper}
-use Rattle.ct_entries.specs.declared.entry.Entry.{Entry}
-use Rattle.ct_entries.specs.Entry.{IsEntry, is_entry, unrestricted}
-use Rattle.ct_entries.proofs.EntryLemmas.{entry_limits, entry_from_limits}
+use Rattle.ct_words.specs.declared.claim.Side.TheVariants.{Lower, Upper}
+use Rattle.ct_words.specs.declared.entry.Entry.{Entry}
+use Rattle.ct_words.specs.Entry.{IsEntry, is_entry, unrestricted}
+use Rattle.ct_words.proofs.EntryLemmas.{entry_limits, entry_from_limits}
 use Rattle.ct_elementary.specs.Bounds.{plotkin_value, sphere_packing_value}
 use Rattle.ct_rule_parts.specs.Parts.{has_weight, within_limit}
 use Rattle.ct_weight_rules.specs.Disjoint.{has_disjoint_words, count_of_disjoint}

@@ -2,7 +2,7 @@
 use Rattle.std.proofs.Common.{◌≡◌, ◌*◌, ◌<◌, length, subst, sym}
 use Rattle.std.specs.Prelude.{◌≢◌}
 use Rattle.std.proofs.lemmas.List.{get_or-set_same, get_or-set_other}
-use Rattle.ct_entries.specs.Entry.{IsEntry}
+use Rattle.ct_words.specs.Entry.{IsEntry}
 use Rattle.ct_rules.specs.Derivation.{LineValue}
 use Rattle.ct_rule_parts.specs.Slot.{Slot, slot_of}
 use Rattle.ct_kept.specs.Kept.{KeptValue, reason_of, with_line_put}

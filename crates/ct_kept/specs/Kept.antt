@@ -1,7 +1,7 @@
 -- What a table keeps: the lines of a derivation, and for each slot its bound and the place of the line that gives it.
 use Rattle.std.specs.Prelude.{◌≡◌, ℕ, ◌*◌, ◌<◌, ◌≤◌, List, [], ◌∷◌, ◌++◌, length, take, slice_get, slice_set, slice_index, All, Some, None, option_map}
-use Rattle.ct_entries.specs.declared.entry.Entry.{Entry}
-use Rattle.ct_entries.specs.Entry.{IsEntry}
+use Rattle.ct_words.specs.declared.entry.Entry.{Entry}
+use Rattle.ct_words.specs.Entry.{IsEntry}
 use Rattle.ct_rule_parts.specs.declared.support.Support.{Support}
 use Rattle.ct_rule_parts.specs.Slot.{IsBetter, IsNoBetter, Slot, slot_of, claim_at}
 use Rattle.ct_rules.specs.declared.rule.Rule.{Rule}

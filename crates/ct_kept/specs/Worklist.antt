@@ -1,6 +1,6 @@
 -- The slots that are still to be looked at.
 use Rattle.std.specs.Prelude.{◌≡◌, ◌≢◌, ◌⊎◌, ℕ, ◌*◌, Bool, true, List, length, Contains, All, AllPairs, slice_get, Some, sum_by, cond}
-use Rattle.ct_entries.specs.Entry.{IsEntry}
+use Rattle.ct_words.specs.Entry.{IsEntry}
 use Rattle.ct_rule_parts.specs.Slot.{Slot}
 use Rattle.ct_kept.specs.Number.{slot_number, side_size, IsSettled}
 

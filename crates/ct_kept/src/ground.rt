@@ -2,9 +2,9 @@
 //! so that nothing is chosen by the rule once the program is built.
 
 ghost use Rattle.std.specs.Prelude.{◌≡◌, ◌==◌, ◌&&◌, ◌≤◌, ◌^◌, nat_le, nat_lt, ℕ, [], if◌then◌else◌, Contains, Some, None, IfSome};
-ghost use Rattle.ct_entries.specs.declared.claim.Side.TheVariants.{Lower, Upper};
-ghost use Rattle.ct_entries.specs.declared.entry.Entry.{Entry};
-ghost use Rattle.ct_entries.specs.Entry.{IsEntry, unrestricted, constant_weight};
+ghost use Rattle.ct_words.specs.declared.claim.Side.TheVariants.{Lower, Upper};
+ghost use Rattle.ct_words.specs.declared.entry.Entry.{Entry};
+ghost use Rattle.ct_words.specs.Entry.{IsEntry, unrestricted, constant_weight};
 ghost use Rattle.ct_elementary.specs.Bounds.{plotkin_value, sphere_packing_value};
 ghost use Rattle.ct_rule_parts.specs.Parts.{has_weight, weight_of, within_limit};
 ghost use Rattle.ct_weight_rules.specs.Disjoint.{has_disjoint_words, count_of_disjoint};
@@ -19,12 +19,11 @@ ghost use Rattle.ct_kept.specs.Inside.Ground.{class_of, AreLargest, GivesGround,
 
 use crate::slots::is_better;
 use ct_elementary::{plotkin, sphere_packing};
-use ct_entries::{Claim, Entry, Side};
 use ct_rule_parts::within_limit;
 use ct_rules::{Line, Rule, value};
 use ct_sum_classes::LargestClass;
 use ct_weight_rules::{below_too_many, count_of_disjoint, has_disjoint_words, has_no_far_words};
-use ct_words::binomial;
+use ct_words::{Claim, Entry, Side, binomial};
 use smallvec::SmallVec;
 use std::alloc::Global;
 

@@ -1,9 +1,9 @@
 //! What a table keeps: the lines of a derivation, and for each slot its bound and the line that gives it.
 
 ghost use Rattle.std.specs.Prelude.{◌≡◌, ◌+◌, ◌-◌, ◌<◌, ◌≤◌, ◌*◌, ◌%◌, ◌++◌, ◌↔◌, false, [], List, All, OnOk, OnErr, IfOk, length, map, replicate, take, drop, slice_get, Some};
-ghost use Rattle.ct_entries.specs.declared.claim.Side.TheVariants.{Lower};
+ghost use Rattle.ct_words.specs.declared.claim.Side.TheVariants.{Lower};
 ghost use Rattle.ct_words.specs.declared.limits.TheConstants.{MAX_N};
-ghost use Rattle.ct_entries.specs.Entry.{IsEntry, unrestricted, constant_weight};
+ghost use Rattle.ct_words.specs.Entry.{IsEntry, unrestricted, constant_weight};
 ghost use Rattle.ct_rule_parts.specs.declared.support.Support.{Support};
 ghost use Rattle.ct_rule_parts.specs.Slot.{slot_of};
 ghost use Rattle.ct_kept.specs.Number.{bound_of, distances, entries_to, even_distances, side_number, side_size, slot_number};
@@ -16,10 +16,9 @@ ghost use Rattle.ct_kept.specs.Inside.Started.{IsStarted};
 use crate::ground::{ground_line, ground_line_with_weight};
 use crate::lowering::{lower_lines, names_place};
 use crate::slots::{Bounds, SLOTS, slot_number};
-use ct_entries::{Claim, Entry, Side};
 use ct_rules::Line;
 use ct_sum_classes::{LargestClass, largest_sum_classes};
-use ct_words::MAX_N;
+use ct_words::{Claim, Entry, MAX_N, Side};
 use std::alloc::{AllocError, Global};
 use std::marker::Model;
 use std::mem;

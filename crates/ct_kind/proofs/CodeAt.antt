@@ -2,10 +2,10 @@
 use Rattle.std.proofs.Common.{◌≡◌, ℕ, ◌≤◌, List, length, Option, Some, None, Result, Ok, Err, IfOk, option_map, sym, ap, ◌∙◌}
 use Rattle.std.specs.List.Sorted.{IsPermutation}
 use Rattle.std.proofs.lemmas.List.Sorted.{length_permutation}
-use Rattle.ct_entries.specs.declared.entry.Entry.{Entry}
-use Rattle.ct_entries.specs.Entry.{IsEntry}
-use Rattle.ct_entries.specs.Code.{CodeValue, IsCodeOf, IsSoundCode}
-use Rattle.ct_entries.proofs.CheckLemmas.{sound_from_code}
+use Rattle.ct_words.specs.declared.entry.Entry.{Entry}
+use Rattle.ct_words.specs.Entry.{IsEntry}
+use Rattle.ct_words.specs.Code.{CodeValue, IsCodeOf, IsSoundCode}
+use Rattle.ct_words.proofs.CheckLemmas.{sound_from_code}
 use Rattle.ct_kind.specs.Ascending.{ascending, code_at}
 use Rattle.ct_kind.proofs.AscendingLemmas.{ascending_is, ascending-moved, ascending-sorted}
 

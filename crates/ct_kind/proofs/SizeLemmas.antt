@@ -2,11 +2,11 @@
 use Rattle.std.proofs.Common.{ℕ, ◌^◌, ◌≤◌, List, length, Some, refl, arith, lit≤}
 use Rattle.std.proofs.Math.Nat.{pow-le-pow_right}
 use Rattle.ct_words.specs.declared.limits.TheConstants.{MAX_BOUND}
-use Rattle.ct_entries.specs.declared.entry.Entry.{Entry}
-use Rattle.ct_entries.specs.Entry.{IsEntry}
-use Rattle.ct_entries.specs.Code.{IsCodeOf}
-use Rattle.ct_entries.proofs.CheckLemmas.{code_size-le}
-use Rattle.ct_entries.proofs.EntryLemmas.{entry_limits}
+use Rattle.ct_words.specs.declared.entry.Entry.{Entry}
+use Rattle.ct_words.specs.Entry.{IsEntry}
+use Rattle.ct_words.specs.Code.{IsCodeOf}
+use Rattle.ct_words.proofs.CheckLemmas.{code_size-le}
+use Rattle.ct_words.proofs.EntryLemmas.{entry_limits}
 use Rattle.ct_rule_parts.specs.Support.{Stands}
 use Rattle.ct_kind.specs.KindParts.{support_from}
 

@@ -1,8 +1,8 @@
 -- What is said of evidence against which its kind's own check finds nothing.
 use Rattle.std.proofs.Common.{◌≡◌, ℕ, ◌≤◌, List, length, Option, Some, None, is_some, option_map, refl}
 use Rattle.std.specs.Prelude.{IfSome, IsTrue}
-use Rattle.ct_entries.specs.Entry.{IsEntry}
-use Rattle.ct_entries.specs.Code.{IsCodeOf}
+use Rattle.ct_words.specs.Entry.{IsEntry}
+use Rattle.ct_words.specs.Code.{IsCodeOf}
 use Rattle.ct_partitions.specs.Partition.{IsSoundPartition}
 use Rattle.ct_rule_parts.specs.Support.{Stands}
 use Rattle.ct_kind.specs.Named.{NamedCode, is_known, code_named, partition_named}

@@ -1,7 +1,7 @@
 -- Numbers put into ascending order, and codes whose words are.
 use Rattle.std.specs.Prelude.{ℕ, nat_le, if◌then◌else◌, List, [], ◌∷◌}
-use Rattle.ct_entries.specs.declared.entry.Entry.{Entry}
-use Rattle.ct_entries.specs.Code.{CodeValue}
+use Rattle.ct_words.specs.declared.entry.Entry.{Entry}
+use Rattle.ct_words.specs.Code.{CodeValue}
 
 -- the number, put before the first that is not below it
 abbrev pub inserted : ℕ → List ℕ → List ℕ

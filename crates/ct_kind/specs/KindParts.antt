@@ -1,8 +1,8 @@
 -- What a kind of evidence is made of.
 use Rattle.std.specs.Prelude.{ℕ, ◌+◌, Bool, if◌then◌else◌, List, Option, Some, None, option_map}
 use Rattle.std.specs.Option.{unwrap_or}
-use Rattle.ct_entries.specs.declared.entry.Entry.{Entry}
-use Rattle.ct_entries.specs.Pairs.{first_of}
+use Rattle.ct_words.specs.declared.entry.Entry.{Entry}
+use Rattle.ct_words.specs.Pairs.{first_of}
 use Rattle.ct_partitions.specs.Partition.{PartitionValue}
 use Rattle.ct_rule_parts.specs.declared.support.Support.{Support}
 use Rattle.ct_rule_parts.specs.declared.support.Support.TheVariants.{Nothing, Size}

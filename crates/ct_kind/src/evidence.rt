@@ -3,9 +3,8 @@
 use crate::word_lists::WordLists;
 use ct_build::Step;
 use ct_duals::Dual;
-use ct_entries::Entry;
 use ct_text::Id;
-use ct_words::{Listed, Word};
+use ct_words::{Entry, Listed, Word};
 
 /// A piece of evidence for a bound.
 pub enum Evidence {

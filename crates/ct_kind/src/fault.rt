@@ -4,10 +4,10 @@ ghost use Rattle.std.specs.Prelude.{◌≡◌};
 
 use ct_build::BuildFault;
 use ct_duals::DualFault;
-use ct_entries::CodeFault;
 use ct_fields::DocumentFault;
 use ct_partitions::PartitionFault;
 use ct_text::Id;
+use ct_words::CodeFault;
 use std::alloc::{AllocError, AllocFailed};
 
 /// Why a submission makes no piece: the first of these that holds, in this order.

@@ -3,8 +3,8 @@
 ghost use Rattle.std.specs.Prelude.{◌≡◌};
 ghost use Rattle.ct_kind.specs.KindParts.{support_from};
 
-use ct_entries::Entry;
 use ct_rule_parts::Support;
+use ct_words::Entry;
 
 /// What evidence comes to, whatever its kind.
 #[derive(Drop)]

@@ -6,8 +6,8 @@ ghost use Rattle.ct_kind.specs.Named.{NamedCode, is_known, partition_named};
 ghost use Rattle.ct_kind.specs.Sound.{AreSound};
 
 use crate::stated::StatedPartition;
-use ct_entries::Code;
 use ct_text::Id;
+use ct_words::Code;
 use std::marker::Model;
 
 /// The code of a piece, where its kind has one: kept beside it, or made anew. Contracts see the code.
@@ -20,7 +20,7 @@ pub struct Found<'a> {
 impl<'a> Model for Found<'a> {
     ghost use Rattle.std.specs.Prelude.{Option};
     ghost use Rattle.std.specs.Option.{option_copied, option_or};
-    ghost use Rattle.ct_entries.specs.Code.{CodeValue};
+    ghost use Rattle.ct_words.specs.Code.{CodeValue};
 
     ghost Value = { Option CodeValue };
 

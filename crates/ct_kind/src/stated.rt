@@ -3,9 +3,8 @@
 ghost use Rattle.std.specs.Prelude.{◌≡◌, IfOk};
 ghost use Rattle.ct_partitions.specs.Partition.{word_lists, IsSoundPartition};
 
-use ct_entries::Entry;
 use ct_partitions::Partition;
-use ct_words::Word;
+use ct_words::{Entry, Word};
 use std::alloc::{AllocError, Global};
 use std::marker::Model;
 

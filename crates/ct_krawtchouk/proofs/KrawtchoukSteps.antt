@@ -6,7 +6,7 @@ use Rattle.std.proofs.lemmas.Int.{ints}
 use Rattle.ct_words.proofs.Counting.SignedBinomials.{signed_binomial, signed_binomial-le_power}
 use Rattle.ct_words.proofs.Counting.BinomialSteps.{signed_binomial-second, signed_binomial-step}
 use Rattle.ct_words.specs.declared.limits.TheConstants.{MAX_N}
-use Rattle.ct_entries.specs.Numbers.{krawtchouk}
+use Rattle.ct_words.specs.Numbers.{krawtchouk}
 use Rattle.ct_krawtchouk.specs.Krawtchouk.{krawtchouk_before}
 
 -- the number as a coefficient

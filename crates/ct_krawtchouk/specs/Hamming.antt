@@ -2,10 +2,10 @@
 use Rattle.std.specs.Prelude.{◌≡◌, ℕ, ◌-◌, ◌≤◌, pos}
 use Rattle.ct_words.specs.declared.limits.TheConstants.{MAX_N}
 use Rattle.ct_words.specs.Word.{distance}
-use Rattle.ct_entries.specs.Scheme.{IsPositive, IsSmall}
+use Rattle.ct_words.specs.Scheme.{IsPositive, IsSmall}
 use Rattle.ct_words.proofs.Counting.SignedBinomials.{signed_binomial, signed_binomial-first}
 use Rattle.ct_words.proofs.Characters.{pair_total-nonneg, signed_binomial-small}
-use Rattle.ct_entries.specs.Numbers.{krawtchouk}
+use Rattle.ct_words.specs.Numbers.{krawtchouk}
 
 -- over the pairs of any list of words the numbers add up to at least 0
 pub krawtchouk-positive : (n k : ℕ) (belongs : ℕ → Type 0) → IsPositive belongs (distance n) (krawtchouk n k)

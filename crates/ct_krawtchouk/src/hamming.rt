@@ -4,7 +4,7 @@ ghost use Rattle.std.specs.Prelude.{◌≤◌};
 ghost use Rattle.ct_words.specs.declared.limits.TheConstants.{MAX_N};
 
 use crate::krawtchouk::krawtchouk_number;
-use ct_entries::Scheme;
+use ct_words::Scheme;
 
 /// The Hamming scheme of length n, from 1 to `MAX_N` (Delsarte 1973; MacWilliams and Sloane, chapters 5 and 21): its
 /// space is the words of length n, the index of two words is their distance, and its numbers are the Krawtchouk numbers.
@@ -19,7 +19,7 @@ impl Scheme for Hamming {
     ghost use Rattle.std.specs.Prelude.{◌^◌, ◌<◌};
     ghost use Rattle.ct_words.specs.Word.{distance};
     ghost use Rattle.ct_words.proofs.WordLemmas.{distance-le, distance_same};
-    ghost use Rattle.ct_entries.specs.Numbers.{krawtchouk};
+    ghost use Rattle.ct_words.specs.Numbers.{krawtchouk};
     ghost use Rattle.ct_krawtchouk.specs.Hamming.{krawtchouk-positive, krawtchouk-first, krawtchouk-small};
 
     ghost belongs = { λ s x. x < 2 ^ s.n };

@@ -2,7 +2,7 @@
 
 ghost use Rattle.std.specs.Prelude.{◌≡◌, suc, ◌<◌, ◌≤◌, ◌*◌, ◌^◌, ℤ, pos, ◌*ℤ◌, unsigned_abs};
 ghost use Rattle.ct_words.specs.declared.limits.TheConstants.{MAX_N};
-ghost use Rattle.ct_entries.specs.Numbers.{krawtchouk};
+ghost use Rattle.ct_words.specs.Numbers.{krawtchouk};
 ghost use Rattle.ct_krawtchouk.specs.Krawtchouk.{krawtchouk_before};
 
 /// The Krawtchouk number K_k(i) at length n, for k and i up to n.

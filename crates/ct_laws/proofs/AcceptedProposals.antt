@@ -2,13 +2,13 @@
 use Rattle.std.proofs.Common.{◌≡◌, ◌≢◌, ◌∙◌, ℕ, ◌<◌, ◌≤◌, List, [], length, Option, Some, None, option_map, Ok, refl, sym, ap, subst, arith, lit<}
 use Rattle.std.specs.Prelude.{All}
 use Rattle.std.proofs.lemmas.List.Elements.{All-nil}
-use Rattle.ct_entries.specs.declared.entry.Entry.{Entry}
-use Rattle.ct_entries.specs.Entry.{IsEntry}
-use Rattle.ct_entries.specs.Pairs.{first_of}
+use Rattle.ct_words.specs.declared.entry.Entry.{Entry}
+use Rattle.ct_words.specs.Entry.{IsEntry}
+use Rattle.ct_words.specs.Pairs.{first_of}
 use Rattle.ct_duals.specs.declared.dual.Dual.{Dual}
 use Rattle.ct_duals.specs.Check.{dual_fault}
 use Rattle.ct_duals.specs.declared.fault.DualFault.{DualFault}
-use Rattle.ct_entries.specs.Numbers.{numbers_of}
+use Rattle.ct_words.specs.Numbers.{numbers_of}
 use Rattle.ct_files.specs.Document.{without_cites, document_without_limit, document_read_of}
 use Rattle.ct_files.proofs.Documents.{document_read_of-without_limit}
 use Rattle.ct_kind.specs.Named.{NamedCode}

@@ -4,10 +4,10 @@ use Rattle.std.specs.List.{range_with_len}
 use Rattle.std.proofs.lemmas.List.{map-append}
 use Rattle.std.proofs.lemmas.List.Elements.{filter-append}
 use Rattle.ct_words.specs.declared.limits.TheConstants.{MAX_N}
-use Rattle.ct_entries.specs.declared.entry.Entry.{Entry}
-use Rattle.ct_entries.specs.Entry.{IsEntry, is_entry, unrestricted, constant_weight}
-use Rattle.ct_entries.proofs.EntryLemmas.{entry_limits, entry_from_limits}
-use Rattle.ct_entries.specs.TableEntries.{column}
+use Rattle.ct_words.specs.declared.entry.Entry.{Entry}
+use Rattle.ct_words.specs.Entry.{IsEntry, is_entry, unrestricted, constant_weight}
+use Rattle.ct_words.proofs.EntryLemmas.{entry_limits, entry_from_limits}
+use Rattle.ct_words.specs.TableEntries.{column}
 
 -- the entries of some lengths, one after another, that are in the table
 abbrev column_of : (ℕ → Entry) → ℕ → ℕ → List Entry

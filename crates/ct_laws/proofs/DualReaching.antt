@@ -2,9 +2,9 @@
 use Rattle.std.proofs.Common.{◌≡◌, ℕ, ◌≤◌, List, map, All, Some, option_map, ap, subst, ◌∙◌}
 use Rattle.std.specs.Prelude.{slice_get}
 use Rattle.std.proofs.lemmas.Option.{slice_get-map, slice_get_within, get_or_from_slice_get}
-use Rattle.ct_entries.specs.declared.claim.Claim.{Claim}
-use Rattle.ct_entries.specs.declared.claim.Side.TheVariants.{Upper}
-use Rattle.ct_entries.specs.Numbers.{numbers_of, combination}
+use Rattle.ct_words.specs.declared.claim.Claim.{Claim}
+use Rattle.ct_words.specs.declared.claim.Side.TheVariants.{Upper}
+use Rattle.ct_words.specs.Numbers.{numbers_of, combination}
 use Rattle.ct_duals.specs.declared.dual.Dual.{Dual}
 use Rattle.ct_duals.specs.Bound.{AcceptedValue, dual_premises, dual_bound}
 use Rattle.ct_rule_parts.specs.declared.support.Support.{Support}

@@ -1,6 +1,6 @@
 -- Why a dual is refused.
 use Rattle.std.proofs.Common.{◌≡◌, List, ℕ, Option, Some, refl, ap, subst}
-use Rattle.ct_entries.specs.Numbers.{numbers_of}
+use Rattle.ct_words.specs.Numbers.{numbers_of}
 use Rattle.ct_duals.specs.declared.dual.Dual.{Dual}
 use Rattle.ct_duals.specs.declared.fault.DualFault.{DualFault}
 use Rattle.ct_duals.specs.declared.fault.DualFault.TheVariants as dual

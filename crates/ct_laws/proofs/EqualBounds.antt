@@ -1,9 +1,9 @@
 -- Bounds that are shown where a lower and an upper bound of one value are derived, and such derivations that are known.
 use Rattle.std.proofs.Common.{◌≡◌, ℕ, ◌&&◌, true, cond, List, [], Some, None, refl, ap, ◌∙◌}
 use Rattle.std.proofs.lemmas.List.Elements.{All-nil}
-use Rattle.ct_entries.specs.declared.entry.Entry.{Entry}
-use Rattle.ct_entries.specs.declared.claim.Side.TheVariants.{Lower, Upper}
-use Rattle.ct_entries.specs.Entry.{IsEntry, unrestricted, constant_weight}
+use Rattle.ct_words.specs.declared.entry.Entry.{Entry}
+use Rattle.ct_words.specs.declared.claim.Side.TheVariants.{Lower, Upper}
+use Rattle.ct_words.specs.Entry.{IsEntry, unrestricted, constant_weight}
 use Rattle.ct_words.specs.Counting.Binomials.{choose}
 use Rattle.ct_rules.specs.declared.rule.Rule.TheVariants.{M1, V0}
 use Rattle.ct_rules.specs.Derivation.{IsDerived}

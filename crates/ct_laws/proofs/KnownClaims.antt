@@ -1,8 +1,8 @@
 -- Claims that are known to be true, and claims that are known to be false.
 use Rattle.std.proofs.Common.{[], ◌∷◌, refl, arith}
 use Rattle.std.proofs.lemmas.List.Elements.{All-nil, All-cons}
-use Rattle.ct_entries.specs.Claim.{IsTrueClaim}
-use Rattle.ct_entries.specs.Entry.{unrestricted}
+use Rattle.ct_words.specs.Claim.{IsTrueClaim}
+use Rattle.ct_words.specs.Entry.{unrestricted}
 use Rattle.ct_rules.specs.declared.rule.Rule.TheVariants.{L1, L6, L8, U2}
 use Rattle.ct_rules.specs.Derivation.{IsDerived}
 use Rattle.ct_rules.specs.Rule.{row_of}

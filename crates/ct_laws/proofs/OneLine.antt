@@ -1,8 +1,8 @@
 -- Bounds that one line explains, and pieces that no line needs.
 use Rattle.std.proofs.Common.{◌≡◌, ℕ, Option, None, [], ◌∷◌, length, refl, ap, arith}
 use Rattle.std.specs.List.{cons_option}
-use Rattle.ct_entries.specs.declared.entry.Entry.{Entry}
-use Rattle.ct_entries.specs.declared.claim.Side.{Side}
+use Rattle.ct_words.specs.declared.entry.Entry.{Entry}
+use Rattle.ct_words.specs.declared.claim.Side.{Side}
 use Rattle.ct_rule_parts.specs.Slot.{claim_at}
 use Rattle.ct_rules.specs.declared.rule.Rule.{Rule}
 use Rattle.ct_rules.specs.Rule.{place_of}

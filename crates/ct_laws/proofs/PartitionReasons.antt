@@ -4,9 +4,9 @@ use Rattle.std.specs.List.{list_any}
 use Rattle.std.proofs.lemmas.Bool.{eqb-false, ne_eqb, or_parts, or_from, both_ways}
 use Rattle.std.proofs.lemmas.List.Elements.{All-nil, All-cons, All-head, All-tail}
 use Rattle.ct_words.specs.PairProducts.{all_places}
-use Rattle.ct_entries.specs.declared.entry.Entry.{Entry}
-use Rattle.ct_entries.specs.declared.fault.TheConstants.{MAX_WORDS}
-use Rattle.ct_entries.specs.Pairs.{first_of, least_pair, IsLeastPair, NoPair}
+use Rattle.ct_words.specs.declared.entry.Entry.{Entry}
+use Rattle.ct_words.specs.declared.fault.TheConstants.{MAX_WORDS}
+use Rattle.ct_words.specs.Pairs.{first_of, least_pair, IsLeastPair, NoPair}
 use Rattle.ct_partitions.specs.declared.fault.PartitionFault.{PartitionFault}
 use Rattle.ct_partitions.specs.declared.fault.PartitionFault.TheVariants as partition
 use Rattle.ct_partitions.specs.declared.fault.TheConstants.{MAX_CLASSES}

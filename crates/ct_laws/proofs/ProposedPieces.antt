@@ -10,17 +10,17 @@ use Rattle.std.proofs.lemmas.List.{get_or-map, length-map}
 use Rattle.std.proofs.lemmas.List.Elements.{All-append, All-cons, All-nil, All-head, All-tail, All-get_or, All-weaker, All-from_recursion, recursion_from_All}
 use Rattle.std.proofs.lemmas.List.Sums.{sum_by-cons}
 use Rattle.ct_words.specs.declared.limits.TheConstants.{MAX_BOUND}
-use Rattle.ct_io.specs.declared.TheConstants.{LINE_FEED}
+use Rattle.ct_text.specs.declared.document_lines.TheConstants.{LINE_FEED}
 use Rattle.ct_io.specs.Lines.{lines_of, IsLine}
 use Rattle.ct_io.proofs.LinesLemmas.{lines_of-next}
-use Rattle.ct_entries.specs.declared.entry.Entry.{Entry}
-use Rattle.ct_entries.specs.Entry.{IsEntry}
+use Rattle.ct_words.specs.declared.entry.Entry.{Entry}
+use Rattle.ct_words.specs.Entry.{IsEntry}
 use Rattle.ct_text.specs.Id.{is_id}
 use Rattle.ct_duals.specs.declared.dual.Dual.{Dual}
 use Rattle.ct_fields.specs.declared.document.TheConstants.{MAX_DOCUMENT}
 use Rattle.ct_duals.specs.Bound.{natural}
-use Rattle.ct_entries.specs.Numbers.{numbers_of, multiplier, combination}
-use Rattle.ct_entries.proofs.EntryLemmas.{entry_limits}
+use Rattle.ct_words.specs.Numbers.{numbers_of, multiplier, combination}
+use Rattle.ct_words.proofs.EntryLemmas.{entry_limits}
 use Rattle.ct_duals.specs.Dual.{as_index, degree_of, greatest_index, is_in_range}
 use Rattle.ct_primal.specs.Primal.{PrimalValue}
 use Rattle.ct_primal.proofs.PrimalFaults.{sound-from_none}

@@ -7,10 +7,10 @@ use Rattle.std.proofs.lemmas.List.{length-map, length-take-le}
 use Rattle.std.proofs.lemmas.List.Elements.{All-head, All-tail, All-cons, All-nil, All-contains}
 use Rattle.std.proofs.lemmas.Option.{slice_get-map, slice_get_within, get_or_from_slice_get}
 use lib.Seq.{take-append_seam}
-use Rattle.ct_entries.specs.declared.entry.Entry.{Entry}
-use Rattle.ct_entries.specs.Claim.{IsTrueClaim}
-use Rattle.ct_entries.specs.Entry.{is_entry, unrestricted}
-use Rattle.ct_entries.proofs.EntryLemmas.{entry_limits}
+use Rattle.ct_words.specs.declared.entry.Entry.{Entry}
+use Rattle.ct_words.specs.Claim.{IsTrueClaim}
+use Rattle.ct_words.specs.Entry.{is_entry, unrestricted}
+use Rattle.ct_words.proofs.EntryLemmas.{entry_limits}
 use Rattle.ct_text.specs.Id.{is_id}
 use Rattle.ct_rule_parts.specs.declared.support.Support.{Support}
 use Rattle.ct_rule_parts.specs.Parts.{are_entries}

@@ -3,8 +3,8 @@ use Rattle.std.proofs.Common.{◌≡◌, ℕ, List, [], ◌∷◌, length, Conta
 use Rattle.std.specs.Prelude.{false}
 use Rattle.std.proofs.lemmas.List.Elements.{All-nil, All-cons, All-contains}
 use Rattle.std.proofs.lemmas.Option.{none-some, same_Some}
-use Rattle.ct_entries.specs.Entry.{IsEntry}
-use Rattle.ct_entries.specs.declared.claim.Claim.{Claim}
+use Rattle.ct_words.specs.Entry.{IsEntry}
+use Rattle.ct_words.specs.declared.claim.Claim.{Claim}
 use Rattle.ct_rule_parts.specs.Slot.{Slot}
 use Rattle.ct_rules.specs.declared.rule.Rule.{Rule}
 use Rattle.ct_rules.specs.Derivation.{LineValue}

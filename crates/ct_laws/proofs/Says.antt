@@ -4,9 +4,9 @@ use Rattle.std.specs.Prelude.{All, IfSome}
 use Rattle.std.proofs.lemmas.Bool.{eqb-true, eqb-false, ne_eqb, not-false, both_ways, or_parts, or_from, le-ltb, lt-ltb, ltb-false}
 use Rattle.std.proofs.lemmas.List.Elements.{All-from_get_or}
 use Rattle.ct_words.specs.Word.{weight}
-use Rattle.ct_entries.specs.declared.entry.Entry.{Entry}
-use Rattle.ct_entries.specs.Pairs.{first_of, least_pair, IsLeastPair, NoPair}
-use Rattle.ct_entries.proofs.PairLemmas.{IsFirst, position_cases, least_pair-at, IsLeastPair-from, least_pair-none, NoPair-from}
+use Rattle.ct_words.specs.declared.entry.Entry.{Entry}
+use Rattle.ct_words.specs.Pairs.{first_of, least_pair, IsLeastPair, NoPair}
+use Rattle.ct_words.proofs.PairLemmas.{IsFirst, position_cases, least_pair-at, IsLeastPair-from, least_pair-none, NoPair-from}
 use Rattle.ct_laws.specs.Weights.{HaveWeight, IsFirstOfOtherWeight}
 
 -- nothing is found exactly where the first condition holds, and each reason exactly where its own does

@@ -1,10 +1,10 @@
 -- Replies over the same pieces, beside each other.
 use Rattle.std.proofs.Common.{◌≡◌, ℕ, List, All, length, Option, Some, None, sym, subst, ◌∙◌}
-use Rattle.ct_entries.specs.declared.entry.Entry.{Entry}
-use Rattle.ct_entries.specs.Claim.{IsTrueClaim}
-use Rattle.ct_entries.specs.Code.{CodeValue, IsSoundCode, IsTrueUpper}
-use Rattle.ct_entries.specs.declared.claim.Side.{Side}
-use Rattle.ct_entries.specs.declared.claim.Side.TheVariants.{Lower, Upper}
+use Rattle.ct_words.specs.declared.entry.Entry.{Entry}
+use Rattle.ct_words.specs.Claim.{IsTrueClaim}
+use Rattle.ct_words.specs.Code.{CodeValue, IsSoundCode, IsTrueUpper}
+use Rattle.ct_words.specs.declared.claim.Side.{Side}
+use Rattle.ct_words.specs.declared.claim.Side.TheVariants.{Lower, Upper}
 use Rattle.ct_rules.specs.Derivation.{IsBest}
 use Rattle.ct_rules.proofs.ClosedBounds.{best_is_one}
 use Rattle.ct_derive.specs.Derivation.{DerivationValue}

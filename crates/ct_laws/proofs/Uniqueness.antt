@@ -2,13 +2,13 @@
 use Rattle.std.proofs.Common.{◌≡◌, ℕ, Bool, true, false, ◌||◌, List, [], ◌∷◌, length, Option, Some, None, refl, sym, ap, ◌∙◌, arith}
 use Rattle.std.specs.List.{flat_map, list_any}
 use Rattle.std.specs.Option.{is_some}
-use Rattle.ct_entries.specs.declared.entry.Entry.{Entry}
-use Rattle.ct_entries.specs.declared.claim.Side.{Side}
+use Rattle.ct_words.specs.declared.entry.Entry.{Entry}
+use Rattle.ct_words.specs.declared.claim.Side.{Side}
 use Rattle.ct_text.specs.EntryNumbers.{named_entry}
 use Rattle.ct_commands.specs.declared.command.Command.{Command}
 use Rattle.ct_commands.specs.declared.command.Command.TheVariants as command
 use Rattle.ct_pieces.specs.Piece.{PieceValue}
-use Rattle.ct_entries.specs.TableEntries.{column}
+use Rattle.ct_words.specs.TableEntries.{column}
 use Rattle.ct_session.specs.Reply.{IsReply, IsShown, IsShowReply, IsTableReply, IsExplainReply, IsListReply, leaves_choice, pieces_after}
 use Rattle.ct_replies.specs.Refusals.{is_refusal}
 use Rattle.ct_session.specs.Run.{AreReplies, AnswersCommands, DifferInChoices}

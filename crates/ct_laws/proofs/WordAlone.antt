@@ -1,9 +1,9 @@
 -- The word of length 4 and weight 0, as a code.
 use Rattle.std.proofs.Common.{◌≡◌, ◌<◌, [], ◌∷◌, Some, refl, arith}
 use Rattle.std.proofs.lemmas.List.Elements.{All-nil, All-cons}
-use Rattle.ct_entries.specs.Code.{CodeValue}
+use Rattle.ct_words.specs.Code.{CodeValue}
 use Rattle.ct_words.specs.Word.{weight}
-use Rattle.ct_entries.specs.Entry.{constant_weight}
+use Rattle.ct_words.specs.Entry.{constant_weight}
 use Rattle.ct_derive.specs.Listed.{IsListedCode}
 use Rattle.ct_laws.proofs.EqualBounds.{one_word_alone}
 

@@ -3,13 +3,13 @@ use Rattle.std.proofs.Common.{◌≡◌, ℕ, ◌<◌, ◌≤◌, ◌==◌, ◌|
 use Rattle.std.proofs.lemmas.Bool.{ltb-false}
 use Rattle.ct_words.specs.Word.{distance}
 use Rattle.ct_words.specs.declared.limits.TheConstants.{MAX_N}
-use Rattle.ct_entries.specs.declared.entry.Entry.{Entry}
-use Rattle.ct_entries.specs.declared.fault.CodeFault.{CodeFault}
-use Rattle.ct_entries.specs.declared.fault.CodeFault.TheVariants as code
-use Rattle.ct_entries.specs.declared.fault.TheConstants.{MAX_WORDS, MAX_REPRESENTATIVES, MAX_COSET_WORK}
-use Rattle.ct_entries.specs.Check.{code_fault, size_fault, weight_fault, repeated_fault, close_fault}
-use Rattle.ct_entries.specs.Coset.{coset_fault, coset_size_fault, coset_work_fault, coset_list, coset_work}
-use Rattle.ct_entries.specs.Pairs.{first_of, least_pair, IsLeastPair, NoPair}
+use Rattle.ct_words.specs.declared.entry.Entry.{Entry}
+use Rattle.ct_words.specs.declared.fault.CodeFault.{CodeFault}
+use Rattle.ct_words.specs.declared.fault.CodeFault.TheVariants as code
+use Rattle.ct_words.specs.declared.fault.TheConstants.{MAX_WORDS, MAX_REPRESENTATIVES, MAX_COSET_WORK}
+use Rattle.ct_words.specs.Check.{code_fault, size_fault, weight_fault, repeated_fault, close_fault}
+use Rattle.ct_words.specs.Coset.{coset_fault, coset_size_fault, coset_work_fault, coset_list, coset_work}
+use Rattle.ct_words.specs.Pairs.{first_of, least_pair, IsLeastPair, NoPair}
 use Rattle.ct_laws.specs.Weights.{HaveWeight, IsFirstOfOtherWeight}
 use Rattle.ct_kind.specs.Named.{NamedCode}
 use Rattle.ct_kind.specs.declared.fault.SubmitFault.{SubmitFault}

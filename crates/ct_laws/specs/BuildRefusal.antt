@@ -1,8 +1,8 @@
 -- Why a step makes no code of the codes of its parts: each reason by its plain condition, which holds where those of the reasons before it don't.
 use Rattle.std.specs.Prelude.{◌≡◌, ◌⊎◌, ℕ, ◌<◌, ◌≤◌, List, [], length, Option, Some, None, option_map, IsTrue}
 use Rattle.std.specs.Option.{unwrap_or}
-use Rattle.ct_entries.specs.declared.entry.Entry.{Entry}
-use Rattle.ct_entries.specs.Code.{CodeValue}
+use Rattle.ct_words.specs.declared.entry.Entry.{Entry}
+use Rattle.ct_words.specs.Code.{CodeValue}
 use Rattle.ct_build.specs.declared.building.TheConstants.{MAX_BUILT}
 use Rattle.ct_build.specs.declared.fault.BuildFault.{BuildFault}
 use Rattle.ct_build.specs.declared.fault.BuildFault.TheVariants as build

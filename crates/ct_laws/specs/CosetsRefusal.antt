@@ -1,11 +1,11 @@
 -- Why cosets are no code of an entry: each reason by its plain condition, which holds where those of the reasons before it don't.
 use Rattle.std.specs.Prelude.{◌≡◌, ◌⊎◌, ℕ, ◌<◌, ◌≤◌, List, length}
 use Rattle.ct_words.specs.declared.limits.TheConstants.{MAX_N}
-use Rattle.ct_entries.specs.declared.entry.Entry.{Entry}
-use Rattle.ct_entries.specs.declared.fault.CodeFault.{CodeFault}
-use Rattle.ct_entries.specs.declared.fault.CodeFault.TheVariants as code
-use Rattle.ct_entries.specs.declared.fault.TheConstants.{MAX_REPRESENTATIVES, MAX_COSET_WORK}
-use Rattle.ct_entries.specs.Coset.{coset_list, coset_work}
+use Rattle.ct_words.specs.declared.entry.Entry.{Entry}
+use Rattle.ct_words.specs.declared.fault.CodeFault.{CodeFault}
+use Rattle.ct_words.specs.declared.fault.CodeFault.TheVariants as code
+use Rattle.ct_words.specs.declared.fault.TheConstants.{MAX_REPRESENTATIVES, MAX_COSET_WORK}
+use Rattle.ct_words.specs.Coset.{coset_list, coset_work}
 use Rattle.ct_kind.specs.declared.fault.SubmitFault.{SubmitFault}
 use Rattle.ct_kind.specs.declared.fault.SubmitFault.TheVariants as fault
 use Rattle.ct_laws.specs.WordsRefusal.{IsLeastClose}

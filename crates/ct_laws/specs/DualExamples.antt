@@ -1,7 +1,7 @@
 -- Duals and documents whose reading is known.
 use Rattle.std.specs.Prelude.{ℕ, ℤ, pos, true, false, Bool, [], ◌∷◌, List, codes}
 use Rattle.toml.specs.Data.{Data, integer, boolean, table}
-use Rattle.ct_entries.specs.Entry.{unrestricted, constant_weight}
+use Rattle.ct_words.specs.Entry.{unrestricted, constant_weight}
 use Rattle.ct_fields.specs.Written.{put, entry_table}
 use Rattle.ct_fields.specs.declared.field.FieldName.TheVariants as name
 use Rattle.ct_duals.specs.declared.dual.Dual.{Dual}

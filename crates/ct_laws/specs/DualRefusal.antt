@@ -1,6 +1,6 @@
 -- Why a dual is refused: each reason by its plain condition.
 use Rattle.std.specs.Prelude.{pos, ◌≤ℤ◌}
-use Rattle.ct_entries.specs.Numbers.{numbers_of, multiplier}
+use Rattle.ct_words.specs.Numbers.{numbers_of, multiplier}
 use Rattle.ct_duals.specs.declared.dual.Dual.{Dual}
 use Rattle.ct_duals.specs.declared.fault.DualFault.TheVariants as dual
 use Rattle.ct_duals.specs.Check.{IsLeastAbove}

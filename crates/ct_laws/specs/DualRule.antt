@@ -1,6 +1,6 @@
 -- The rules that name a dual.
 use Rattle.std.specs.Prelude.{ℕ, if◌then◌else◌}
-use Rattle.ct_entries.specs.declared.entry.Entry.{Entry}
+use Rattle.ct_words.specs.declared.entry.Entry.{Entry}
 use Rattle.ct_rule_parts.specs.Parts.{has_weight}
 use Rattle.ct_rules.specs.declared.rule.Rule.{Rule}
 use Rattle.ct_rules.specs.declared.rule.Rule.TheVariants.{U11, V9}

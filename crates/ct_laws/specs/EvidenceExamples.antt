@@ -1,6 +1,6 @@
 -- Worked documents.
 use Rattle.std.specs.Prelude.{ℕ, List, [], ◌∷◌, ◌++◌, replicate, codes}
-use Rattle.ct_entries.specs.Entry.{unrestricted}
+use Rattle.ct_words.specs.Entry.{unrestricted}
 use Rattle.ct_kind.specs.declared.evidence.Evidence.{Evidence}
 use Rattle.ct_kind.specs.declared.evidence.Evidence.TheVariants.{Words}
 use Rattle.ct_files.specs.Document.{DocumentValue}

@@ -2,9 +2,9 @@
 -- Places number the words through all classes.
 use Rattle.std.specs.Prelude.{◌≡◌, ◌⊎◌, ℕ, ◌<◌, ◌≤◌, ◌==◌, List, length, All}
 use Rattle.ct_words.specs.PairProducts.{all_places}
-use Rattle.ct_entries.specs.declared.entry.Entry.{Entry}
-use Rattle.ct_entries.specs.declared.fault.TheConstants.{MAX_WORDS}
-use Rattle.ct_entries.specs.Pairs.{IsLeastPair, NoPair}
+use Rattle.ct_words.specs.declared.entry.Entry.{Entry}
+use Rattle.ct_words.specs.declared.fault.TheConstants.{MAX_WORDS}
+use Rattle.ct_words.specs.Pairs.{IsLeastPair, NoPair}
 use Rattle.ct_partitions.specs.declared.fault.PartitionFault.{PartitionFault}
 use Rattle.ct_partitions.specs.declared.fault.PartitionFault.TheVariants as partition
 use Rattle.ct_partitions.specs.declared.fault.TheConstants.{MAX_CLASSES}

@@ -1,7 +1,7 @@
 -- Why a product makes no code, and which of its ids is wrong, without the steps by which that is found.
 use Rattle.std.specs.Prelude.{◌≡◌, ◌⊎◌, ◌<◌, ℕ, ◌+◌, List, ◌∷◌, ◌++◌, All, Option, Some, None, IfSome, IsSome}
-use Rattle.ct_entries.specs.declared.entry.Entry.{Entry}
-use Rattle.ct_entries.specs.Constructions.Juxtaposed.{added_weights}
+use Rattle.ct_words.specs.declared.entry.Entry.{Entry}
+use Rattle.ct_words.specs.Constructions.Juxtaposed.{added_weights}
 use Rattle.ct_build.specs.declared.fault.BuildFault.TheVariants as build
 use Rattle.ct_partitions.specs.Partition.{PartitionValue}
 use Rattle.ct_partitions.specs.Product.{product_distance}

@@ -1,7 +1,7 @@
 -- What `find` writes for entries of the table, as the input of a session.
 use Rattle.std.specs.Prelude.{◌≡◌, ℕ, List, [], ◌∷◌, ◌++◌, codes, Some, None}
-use Rattle.ct_io.specs.declared.TheConstants.{LINE_FEED}
-use Rattle.ct_entries.specs.declared.entry.Entry.{Entry}
+use Rattle.ct_text.specs.declared.document_lines.TheConstants.{LINE_FEED}
+use Rattle.ct_words.specs.declared.entry.Entry.{Entry}
 use Rattle.ct_duals.specs.declared.dual.Dual.{Dual}
 use Rattle.ct_finder.specs.Found.{bound_of_dual}
 use Rattle.ct_pieces.specs.Piece.{PieceValue}

@@ -1,7 +1,7 @@
 -- Words of which the weight of an entry is asked.
 use Rattle.std.specs.Prelude.{◌≡◌, ◌≢◌, ◌<◌, ℕ, List, length, slice_index, All, Some, IfSome}
 use Rattle.ct_words.specs.Word.{weight}
-use Rattle.ct_entries.specs.declared.entry.Entry.{Entry}
+use Rattle.ct_words.specs.declared.entry.Entry.{Entry}
 
 -- each word has the weight of the entry, where it has one
 abbrev pub HaveWeight : Entry → List ℕ → Type 0

@@ -1,11 +1,11 @@
 -- Why words are no code of an entry: each reason by its plain condition, which holds where those of the reasons before it don't.
 use Rattle.std.specs.Prelude.{◌≡◌, ◌⊎◌, ℕ, ◌<◌, ◌≤◌, ◌==◌, nat_lt, List, length, slice_index}
 use Rattle.ct_words.specs.Word.{distance}
-use Rattle.ct_entries.specs.declared.entry.Entry.{Entry}
-use Rattle.ct_entries.specs.declared.fault.CodeFault.{CodeFault}
-use Rattle.ct_entries.specs.declared.fault.CodeFault.TheVariants as code
-use Rattle.ct_entries.specs.declared.fault.TheConstants.{MAX_WORDS}
-use Rattle.ct_entries.specs.Pairs.{IsLeastPair, NoPair}
+use Rattle.ct_words.specs.declared.entry.Entry.{Entry}
+use Rattle.ct_words.specs.declared.fault.CodeFault.{CodeFault}
+use Rattle.ct_words.specs.declared.fault.CodeFault.TheVariants as code
+use Rattle.ct_words.specs.declared.fault.TheConstants.{MAX_WORDS}
+use Rattle.ct_words.specs.Pairs.{IsLeastPair, NoPair}
 use Rattle.ct_laws.specs.Weights.{HaveWeight, IsFirstOfOtherWeight}
 use Rattle.ct_kind.specs.declared.fault.SubmitFault.{SubmitFault}
 use Rattle.ct_kind.specs.declared.fault.SubmitFault.TheVariants as fault

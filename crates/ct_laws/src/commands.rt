@@ -2,8 +2,8 @@
 
 ghost use Rattle.std.specs.Prelude.{◌≡◌, ◌+◌, ◌<◌, ◌^◌, ℕ, List, [], ◌∷◌, ◌++◌, All, length, map, replicate, codes, Option, Some, None, false, true};
 ghost use Rattle.std.specs.List.{join_with_byte};
-ghost use Rattle.ct_io.specs.declared.TheConstants.{LINE_FEED};
-ghost use Rattle.ct_entries.specs.declared.claim.Side.TheVariants.{Lower, Upper};
+ghost use Rattle.ct_text.specs.declared.document_lines.TheConstants.{LINE_FEED};
+ghost use Rattle.ct_words.specs.declared.claim.Side.TheVariants.{Lower, Upper};
 ghost use Rattle.ct_io.specs.Lines.{lines_of};
 ghost use Rattle.ct_text.specs.Id.{is_id};
 ghost use Rattle.ct_text.specs.Gathering.{is_end};

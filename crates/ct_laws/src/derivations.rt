@@ -2,11 +2,11 @@
 
 ghost use Rattle.std.specs.Prelude.{◌≡◌, ℕ, ◌+◌, ◌≤◌, List, [], ◌∷◌, ◌++◌, length, map, All, Contains, Some, slice_get};
 ghost use Rattle.ct_words.specs.declared.limits.TheConstants.{MAX_N, MAX_BOUND};
-ghost use Rattle.ct_entries.specs.declared.claim.Claim.{Claim};
-ghost use Rattle.ct_entries.specs.declared.claim.Side.TheVariants.{Lower, Upper};
-ghost use Rattle.ct_entries.specs.declared.entry.Entry.{Entry};
-ghost use Rattle.ct_entries.specs.Claim.{IsTrueClaim};
-ghost use Rattle.ct_entries.specs.Entry.{IsEntry, unrestricted, constant_weight};
+ghost use Rattle.ct_words.specs.declared.claim.Claim.{Claim};
+ghost use Rattle.ct_words.specs.declared.claim.Side.TheVariants.{Lower, Upper};
+ghost use Rattle.ct_words.specs.declared.entry.Entry.{Entry};
+ghost use Rattle.ct_words.specs.Claim.{IsTrueClaim};
+ghost use Rattle.ct_words.specs.Entry.{IsEntry, unrestricted, constant_weight};
 ghost use Rattle.ct_duals.specs.Bound.{AcceptedValue, dual_premises, dual_bound};
 ghost use Rattle.ct_rules.specs.declared.rule.Rule.{Rule};
 ghost use Rattle.ct_rules.specs.declared.rule.Rule.TheVariants.{L1, L6, L8, L10, L11, U2, U4, U6};

@@ -1,11 +1,11 @@
 //! What explanations are, and that there are some.
 
 ghost use Rattle.std.specs.Prelude.{◌≡◌, ◌∷◌, ◌++◌, [], ℕ, All, List, None, codes, length, Some};
-ghost use Rattle.ct_io.specs.declared.TheConstants.{LINE_FEED};
-ghost use Rattle.ct_entries.specs.Claim.{IsTrueClaim};
-ghost use Rattle.ct_entries.specs.Entry.{constant_weight, unrestricted};
-ghost use Rattle.ct_entries.specs.declared.claim.Side.TheVariants.{Upper};
-ghost use Rattle.ct_entries.specs.declared.claim.Claim.{Claim};
+ghost use Rattle.ct_text.specs.declared.document_lines.TheConstants.{LINE_FEED};
+ghost use Rattle.ct_words.specs.Claim.{IsTrueClaim};
+ghost use Rattle.ct_words.specs.Entry.{constant_weight, unrestricted};
+ghost use Rattle.ct_words.specs.declared.claim.Side.TheVariants.{Upper};
+ghost use Rattle.ct_words.specs.declared.claim.Claim.{Claim};
 ghost use Rattle.ct_rule_parts.specs.declared.support.Support.{Support};
 ghost use Rattle.ct_rule_parts.specs.Slot.{Slot, claim_at, lower_at};
 ghost use Rattle.ct_rule_parts.specs.Support.{AllStand};

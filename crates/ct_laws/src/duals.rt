@@ -2,7 +2,7 @@
 //! refused, and worked documents; the functions do nothing.
 ghost use Rattle.std.specs.Prelude.{◌≡◌, ◌↔◌, ℕ, List, [], ◌∷◌, true, false, pos, negsuc, Result, Ok, Err, Option, Some, None, IsSome, codes};
 ghost use Rattle.toml.specs.Data.{string, integer, boolean, table, Members};
-ghost use Rattle.ct_entries.specs.Numbers.{numbers_of, combination};
+ghost use Rattle.ct_words.specs.Numbers.{numbers_of, combination};
 ghost use Rattle.ct_duals.specs.Examples.{eight_local};
 ghost use Rattle.ct_fields.specs.Tables.{IsOfKind};
 ghost use Rattle.ct_fields.specs.declared.fault.DocumentFault.{DocumentFault};

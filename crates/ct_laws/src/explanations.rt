@@ -1,10 +1,10 @@
 //! What explanations over pieces are, and that there are some.
 
 ghost use Rattle.std.specs.Prelude.{◌≡◌, ◌↔◌, ℕ, All, Contains, IsTrue, List, Some, slice_get};
-ghost use Rattle.ct_entries.specs.Claim.{IsTrueClaim};
-ghost use Rattle.ct_entries.specs.Entry.{IsEntry};
-ghost use Rattle.ct_entries.specs.declared.claim.Side.{Side};
-ghost use Rattle.ct_entries.specs.declared.entry.Entry.{Entry};
+ghost use Rattle.ct_words.specs.Claim.{IsTrueClaim};
+ghost use Rattle.ct_words.specs.Entry.{IsEntry};
+ghost use Rattle.ct_words.specs.declared.claim.Side.{Side};
+ghost use Rattle.ct_words.specs.declared.entry.Entry.{Entry};
 ghost use Rattle.ct_rule_parts.specs.Slot.{claim_at};
 ghost use Rattle.ct_derive.specs.Derivation.{DerivationValue, AreOrdered};
 ghost use Rattle.ct_derive.specs.Pieces.{AreEarlier};

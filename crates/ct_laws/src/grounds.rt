@@ -1,8 +1,8 @@
 //! The bounds with which a table begins, where they are known; the function does nothing.
 
 ghost use Rattle.std.specs.Prelude.{◌≤◌, ℕ};
-ghost use Rattle.ct_entries.specs.Entry.{unrestricted, constant_weight};
-ghost use Rattle.ct_entries.specs.declared.claim.Side.TheVariants.{Lower, Upper};
+ghost use Rattle.ct_words.specs.Entry.{unrestricted, constant_weight};
+ghost use Rattle.ct_words.specs.declared.claim.Side.TheVariants.{Lower, Upper};
 ghost use Rattle.ct_kept.specs.Kept.{IsGroundBound};
 
 /// What the rules that rest on nothing give, by hand: two opposite words; two words of weight 3 side by side in six places; the four

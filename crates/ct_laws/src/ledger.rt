@@ -1,11 +1,11 @@
 //! Facts about every ledger.
 
 ghost use Rattle.std.specs.Prelude.{◌≡◌, ℕ, ◌<◌, ◌≤◌, ◌-◌, pos, ◌*ℤ◌, ◌<ℤ◌, int_lt, if◌then◌else◌, List, length, All, Some, None, map, slice_get};
-ghost use Rattle.ct_entries.specs.declared.claim.Claim.{Claim};
-ghost use Rattle.ct_entries.specs.declared.claim.Side.TheVariants.{Lower, Upper};
-ghost use Rattle.ct_entries.specs.declared.entry.Entry.{Entry};
-ghost use Rattle.ct_entries.specs.Code.{CodeValue, IsTrueUpper};
-ghost use Rattle.ct_entries.specs.Numbers.{numbers_of, combination};
+ghost use Rattle.ct_words.specs.declared.claim.Claim.{Claim};
+ghost use Rattle.ct_words.specs.declared.claim.Side.TheVariants.{Lower, Upper};
+ghost use Rattle.ct_words.specs.declared.entry.Entry.{Entry};
+ghost use Rattle.ct_words.specs.Code.{CodeValue, IsTrueUpper};
+ghost use Rattle.ct_words.specs.Numbers.{numbers_of, combination};
 ghost use Rattle.ct_duals.specs.declared.dual.Dual.{Dual};
 ghost use Rattle.ct_duals.specs.Bound.{AreTrueUppers, dual_premises, dual_bound, dual_spread};
 ghost use Rattle.ct_parity.specs.OddSum.{odd_sum};

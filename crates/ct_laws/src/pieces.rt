@@ -3,13 +3,13 @@
 ghost use Rattle.std.specs.Prelude.{◌≡◌, ◌≢◌, ◌↔◌, ℕ, ◌+◌, ◌≤◌, List, length, Option, Ok, Err, Some, None, All, Contains, IfSome, IsSome, IsTrue, map, slice_get, Bool, true};
 ghost use Rattle.std.specs.List.Sorted.{IsPermutation, IsSorted};
 ghost use Rattle.std.specs.Ordering.{nat_cmp};
-ghost use Rattle.ct_entries.specs.declared.entry.Entry.{Entry};
+ghost use Rattle.ct_words.specs.declared.entry.Entry.{Entry};
 ghost use Rattle.ct_build.specs.declared.step.Step.{Step};
 ghost use Rattle.ct_partitions.specs.Partition.{words_of_classes};
 ghost use Rattle.ct_duals.specs.declared.dual.Dual.{Dual};
-ghost use Rattle.ct_entries.specs.Numbers.{numbers_of, combination};
+ghost use Rattle.ct_words.specs.Numbers.{numbers_of, combination};
 ghost use Rattle.ct_kind.specs.declared.evidence.Evidence.TheVariants as evidence;
-ghost use Rattle.ct_entries.specs.Code.{IsSoundCode};
+ghost use Rattle.ct_words.specs.Code.{IsSoundCode};
 ghost use Rattle.ct_fields.specs.declared.document.TheConstants.{MAX_DOCUMENT};
 ghost use Rattle.ct_pieces.specs.Codes.{codes_of, code_of_place};
 ghost use Rattle.ct_pieces.specs.Piece.{PieceValue, has_id};

@@ -1,6 +1,6 @@
 //! Why words, cosets, builds, partitions and products that are handed in are refused.
 ghost use Rattle.std.specs.Prelude.{◌≡◌, ◌↔◌, ℕ, List, Some, Option};
-ghost use Rattle.ct_entries.specs.declared.entry.Entry.{Entry};
+ghost use Rattle.ct_words.specs.declared.entry.Entry.{Entry};
 ghost use Rattle.ct_kind.specs.Named.{NamedCode, code_named, other_named};
 ghost use Rattle.ct_kind.specs.declared.fault.SubmitFault.{SubmitFault};
 ghost use Rattle.ct_word_files.specs.CosetsKind.{cosets_kind};

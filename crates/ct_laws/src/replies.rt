@@ -1,10 +1,10 @@
 //! Replies over the same pieces, beside each other.
 
 ghost use Rattle.std.specs.Prelude.{◌≡◌, ◌≤◌, ℕ, All, Bool, false, List, length, slice_get, Some};
-ghost use Rattle.ct_entries.specs.Claim.{IsTrueClaim};
-ghost use Rattle.ct_entries.specs.Code.{CodeValue, IsSoundCode};
-ghost use Rattle.ct_entries.specs.declared.claim.Side.{Side};
-ghost use Rattle.ct_entries.specs.declared.entry.Entry.{Entry};
+ghost use Rattle.ct_words.specs.Claim.{IsTrueClaim};
+ghost use Rattle.ct_words.specs.Code.{CodeValue, IsSoundCode};
+ghost use Rattle.ct_words.specs.declared.claim.Side.{Side};
+ghost use Rattle.ct_words.specs.declared.entry.Entry.{Entry};
 ghost use Rattle.ct_io.specs.Lines.{lines_of};
 ghost use Rattle.ct_commands.specs.Command.{commands_of};
 ghost use Rattle.ct_commands.specs.declared.command.Command.TheVariants as command;

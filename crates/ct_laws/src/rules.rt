@@ -2,12 +2,12 @@
 //! monotone, and that their names stand for them. And what is known of supports.
 
 ghost use Rattle.std.specs.Prelude.{◌≡◌, ◌↔◌, ◌⊎◌, EachIndex, slice_index, ℕ, ◌≤◌, List, [], ◌∷◌, length, map, All, Some, None, IsSome, slice_get, pos};
-ghost use Rattle.ct_entries.specs.declared.entry.Entry.{Entry};
-ghost use Rattle.ct_entries.specs.declared.claim.Claim.{Claim};
-ghost use Rattle.ct_entries.specs.declared.claim.Side.{Side};
-ghost use Rattle.ct_entries.specs.declared.claim.Side.TheVariants.{Upper};
-ghost use Rattle.ct_entries.specs.Claim.{IsTrueOn, IsTrueClaim};
-ghost use Rattle.ct_entries.specs.Entry.{IsEntry, unrestricted, constant_weight};
+ghost use Rattle.ct_words.specs.declared.entry.Entry.{Entry};
+ghost use Rattle.ct_words.specs.declared.claim.Claim.{Claim};
+ghost use Rattle.ct_words.specs.declared.claim.Side.{Side};
+ghost use Rattle.ct_words.specs.declared.claim.Side.TheVariants.{Upper};
+ghost use Rattle.ct_words.specs.Claim.{IsTrueOn, IsTrueClaim};
+ghost use Rattle.ct_words.specs.Entry.{IsEntry, unrestricted, constant_weight};
 ghost use Rattle.ct_duals.specs.Bound.{AcceptedValue, dual_premises, dual_bound};
 ghost use Rattle.ct_duals.specs.Examples.{eight_four_four, eight_local};
 ghost use Rattle.ct_rules.specs.declared.rule.Rule.{Rule};

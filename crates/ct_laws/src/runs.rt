@@ -8,9 +8,9 @@ ghost use Rattle.ct_text.specs.declared.entry_numbers.EntryNumbers.{EntryNumbers
 ghost use Rattle.ct_text.specs.declared.table_numbers.TableNumbers.{TableNumbers};
 ghost use Rattle.ct_commands.specs.Command.{commands_of};
 ghost use Rattle.ct_commands.specs.declared.command.Command.TheVariants as command;
-ghost use Rattle.ct_entries.specs.declared.claim.Side.{Side};
-ghost use Rattle.ct_entries.specs.declared.entry.Entry.{Entry};
-ghost use Rattle.ct_entries.specs.Entry.{IsEntry};
+ghost use Rattle.ct_words.specs.declared.claim.Side.{Side};
+ghost use Rattle.ct_words.specs.declared.entry.Entry.{Entry};
+ghost use Rattle.ct_words.specs.Entry.{IsEntry};
 ghost use Rattle.ct_pieces.specs.Piece.{PieceValue};
 ghost use Rattle.ct_pieces.specs.Standing.{AreStanding};
 ghost use Rattle.ct_pieces.specs.Supports.{supports_of};

@@ -1,7 +1,7 @@
 //! The verdict on printed derivations, and what a verdict says.
 ghost use Rattle.std.specs.Prelude.{◌≡◌, ◌≤◌, List, length, All, ◌≢◌, ◌↔◌, ◌∷◌, ◌++◌, [], ℕ, Some};
-ghost use Rattle.ct_entries.specs.declared.claim.Side.{Side};
-ghost use Rattle.ct_entries.specs.declared.entry.Entry.{Entry};
+ghost use Rattle.ct_words.specs.declared.claim.Side.{Side};
+ghost use Rattle.ct_words.specs.declared.entry.Entry.{Entry};
 ghost use Rattle.ct_fields.specs.declared.document.TheConstants.{MAX_DOCUMENT};
 ghost use Rattle.ct_pieces.specs.Piece.{PieceValue};
 ghost use Rattle.ct_pieces.specs.Standing.{AreStanding};
@@ -10,7 +10,7 @@ ghost use Rattle.ct_explain.specs.Explained.{ExplainsBest, explanation_text};
 ghost use Rattle.ct_verify.specs.Verdict.{verdict_of, AreRead};
 ghost use Rattle.ct_verify.specs.declared.verdict.Verdict.TheVariants.{Yes, No};
 ghost use Rattle.ct_io.specs.Lines.{lines_of};
-ghost use Rattle.ct_entries.specs.Claim.{IsTrueClaim};
+ghost use Rattle.ct_words.specs.Claim.{IsTrueClaim};
 ghost use Rattle.ct_rules.specs.Derivation.{IsDerivation};
 ghost use Rattle.ct_pieces.specs.Supports.{supports_of};
 ghost use Rattle.ct_kind.specs.declared.fault.SubmitFault.TheVariants.{Memory};

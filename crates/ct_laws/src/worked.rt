@@ -1,6 +1,6 @@
 //! Worked documents: what their bytes read as.
 ghost use Rattle.std.specs.Prelude.{◌≡◌, ℕ, List, ◌++◌, [], ◌∷◌, length, Ok, Err, codes};
-ghost use Rattle.ct_entries.specs.Entry.{unrestricted, constant_weight};
+ghost use Rattle.ct_words.specs.Entry.{unrestricted, constant_weight};
 ghost use Rattle.ct_kind.specs.declared.evidence.Evidence.TheVariants.{Words, Cosets};
 ghost use Rattle.ct_fields.specs.declared.field.FieldName.TheVariants as name;
 ghost use Rattle.ct_fields.specs.declared.fault.DocumentFault.TheVariants.{Bytes, NotToml, Kind, Field, Unknown, Digits, Size};

@@ -1,7 +1,7 @@
 //! Worked documents of kind build: what their bytes read as.
 ghost use Rattle.std.specs.Prelude.{◌≡◌, [], ◌∷◌, Some, None, Ok, Err, codes};
 ghost use Rattle.ct_build.specs.declared.step.Step.TheVariants.{Lengthen, AppendOne, Parity, Puncture, Shorten, Translate, Complement, Select, Uuv, Juxtapose, Trim};
-ghost use Rattle.ct_entries.specs.Entry.{unrestricted, constant_weight};
+ghost use Rattle.ct_words.specs.Entry.{unrestricted, constant_weight};
 ghost use Rattle.ct_kind.specs.declared.evidence.Evidence.TheVariants.{Build};
 ghost use Rattle.ct_fields.specs.declared.field.FieldName.TheVariants as name;
 ghost use Rattle.ct_fields.specs.declared.fault.DocumentFault.TheVariants.{Field, Unknown, Digits};

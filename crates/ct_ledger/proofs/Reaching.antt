@@ -5,10 +5,10 @@ use Rattle.std.proofs.lemmas.List.{length-map}
 use Rattle.std.proofs.lemmas.Option.{slice_get-map, slice_get-get_or, slice_get_within, same_Some}
 use Rattle.std.proofs.lemmas.List.Sorted.{length_permutation}
 use Rattle.ct_words.specs.declared.limits.TheConstants.{MAX_BOUND}
-use Rattle.ct_entries.specs.declared.entry.Entry.{Entry}
-use Rattle.ct_entries.specs.declared.claim.Side.TheVariants.{Lower}
-use Rattle.ct_entries.specs.Code.{CodeValue, IsCodeOf}
-use Rattle.ct_entries.specs.Entry.{IsEntry}
+use Rattle.ct_words.specs.declared.entry.Entry.{Entry}
+use Rattle.ct_words.specs.declared.claim.Side.TheVariants.{Lower}
+use Rattle.ct_words.specs.Code.{CodeValue, IsCodeOf}
+use Rattle.ct_words.specs.Entry.{IsEntry}
 use Rattle.ct_rule_parts.specs.declared.support.Support.{Support}
 use Rattle.ct_rule_parts.specs.declared.support.Support.TheVariants as support
 use Rattle.ct_rule_parts.specs.declared.support.Support.TheVariants.{Nothing, Size, Bound, Local}
@@ -24,7 +24,7 @@ use Rattle.ct_pieces.specs.Codes.{codes_of, code_of_place}
 use Rattle.ct_pieces.specs.Supports.{support_of, supports_of}
 use Rattle.ct_pieces.specs.Standing.{AreStanding}
 use Rattle.ct_duals.specs.Check.{dual_fault}
-use Rattle.ct_entries.specs.Numbers.{numbers_of}
+use Rattle.ct_words.specs.Numbers.{numbers_of}
 use Rattle.ct_dual_files.proofs.DualKind.{gives_no_size, odd_gives_no_size, local_gives_no_size}
 use Rattle.ct_kind.proofs.AscendingLemmas.{ascending-moved}
 use Rattle.ct_kind.proofs.SizeLemmas.{code-le}

@@ -1,7 +1,7 @@
 //! The ledger.
 
 ghost use Rattle.std.specs.Prelude.{◌≡◌, ◌≢◌, ◌+◌, ◌<◌, ◌∷◌, ◌++◌, List, Ok, Err, IfOk, IfErr, IsSome, OnOk, OnErr, [], All, is_some, length};
-ghost use Rattle.ct_entries.specs.Code.{IsSoundCode};
+ghost use Rattle.ct_words.specs.Code.{IsSoundCode};
 ghost use Rattle.ct_pieces.specs.Piece.{PieceValue, stored_words};
 ghost use Rattle.ct_pieces.specs.Codes.{code_of_place};
 ghost use Rattle.ct_files.specs.Document.{document_read_of, without_cites};
@@ -13,12 +13,12 @@ ghost use Rattle.ct_pieces.specs.Standing.{AreStanding, HasTrueSize};
 ghost use Rattle.ct_pieces.specs.Submission.{AddsPiece};
 ghost use Rattle.ct_pieces.specs.Dump.{dump_text};
 
-use ct_entries::Code;
 use ct_files::Evidence;
 use ct_pieces::{Piece, Pieces, SubmitFault, WithdrawFault};
 use ct_rule_parts::Support;
 use ct_table::Table;
 use ct_text::{Id, Text};
+use ct_words::Code;
 use std::alloc::{AllocError, Global};
 use std::marker::Model;
 

@@ -1,11 +1,11 @@
 //! What is noted of a ledger: its pieces, its stored words, and its table.
 
-ghost use Rattle.ct_entries.specs.Entry.{IsEntry};
+ghost use Rattle.ct_words.specs.Entry.{IsEntry};
 
-use ct_entries::{Claim, Entry, Side, table_entries};
 use ct_ledger::{Ledger, Piece};
 use ct_rules::Rule;
 use ct_table::Table;
+use ct_words::{Claim, Entry, Side, table_entries};
 use std::alloc::{AllocError, Global};
 
 /// A bound of the table, and the number of the line that is its reason.

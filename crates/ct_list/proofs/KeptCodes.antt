@@ -6,9 +6,9 @@ use Rattle.std.proofs.lemmas.Option.{slice_get_within, same_Some}
 use Rattle.std.proofs.Math.Seq.{drop-cons}
 use Rattle.std.proofs.lemmas.List.{length-set, length-append, length-drop, take_all}
 use Rattle.std.proofs.lemmas.List.Elements.{All-nil, All-cons, All-head, All-tail, All-append}
-use Rattle.ct_entries.specs.Code.{CodeValue}
-use Rattle.ct_entries.specs.Constructions.Places.{is_among}
-use Rattle.ct_entries.proofs.Constructions.PlaceLemmas.{take-next}
+use Rattle.ct_words.specs.Code.{CodeValue}
+use Rattle.ct_words.specs.Constructions.Places.{is_among}
+use Rattle.ct_words.proofs.Constructions.PlaceLemmas.{take-next}
 use Rattle.ct_rules.specs.Derivation.{LineValue}
 use Rattle.ct_rule_parts.proofs.Places.{slice_get-append_left, slice_get_last}
 use Rattle.ct_rule_parts.proofs.GetLemmas.{slice_get-set_other}

@@ -4,10 +4,10 @@ use Rattle.std.specs.Prelude.{◌&&◌, true, IsPermutation}
 use Rattle.std.proofs.lemmas.Bool.{and_parts}
 use Rattle.std.proofs.lemmas.List.{length-map}
 use Rattle.std.proofs.lemmas.List.Sorted.{length_permutation}
-use Rattle.ct_entries.specs.declared.entry.Entry.{Entry}
-use Rattle.ct_entries.specs.Code.{CodeValue}
-use Rattle.ct_entries.specs.Entry.{IsEntry, is_entry}
-use Rattle.ct_entries.proofs.EntryLemmas.{Limits, entry_limits}
+use Rattle.ct_words.specs.declared.entry.Entry.{Entry}
+use Rattle.ct_words.specs.Code.{CodeValue}
+use Rattle.ct_words.specs.Entry.{IsEntry, is_entry}
+use Rattle.ct_words.proofs.EntryLemmas.{Limits, entry_limits}
 use Rattle.ct_rule_parts.specs.declared.support.Support.{Support}
 use Rattle.ct_rule_parts.specs.Parts.{RuleParts, are_entries}
 use Rattle.ct_rule_parts.proofs.Lawful.{defined_entry, defined_condition, defined_premises}

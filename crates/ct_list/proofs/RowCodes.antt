@@ -2,17 +2,17 @@
 use Rattle.std.proofs.Common.{◌≡◌, ℕ, ◌+◌, ◌-◌, ◌*◌, ◌/◌, ◌%◌, ◌^◌, ◌==◌, ◌≤◌, min, List, [], ◌∷◌, length, true, Some, None, Result, IfOk, refl, sym, ap, subst, ◌∙◌, arith, eqb-true}
 use Rattle.std.specs.Prelude.{not, cond, option_map, IsPermutation}
 use Rattle.std.proofs.lemmas.Bool.{and_parts, le-ltb}
-use Rattle.ct_entries.specs.declared.entry.Entry.{Entry}
-use Rattle.ct_entries.specs.Code.{CodeValue}
-use Rattle.ct_entries.specs.Entry.{unrestricted}
-use Rattle.ct_entries.specs.Constructions.Juxtaposed.{juxtaposed, added_weights}
-use Rattle.ct_entries.specs.Constructions.Punctured.{punctured}
-use Rattle.ct_entries.specs.Constructions.Translation.{complemented}
-use Rattle.ct_entries.specs.Constructions.Uuv.{uuv_words}
-use Rattle.ct_entries.proofs.Constructions.JuxtaposedCodes.{length-juxtaposed}
-use Rattle.ct_entries.proofs.Constructions.PuncturedCodes.{length-punctured}
-use Rattle.ct_entries.proofs.Constructions.TranslationLemmas.{length-complemented}
-use Rattle.ct_entries.proofs.Constructions.UuvCodes.{length-uuv_words}
+use Rattle.ct_words.specs.declared.entry.Entry.{Entry}
+use Rattle.ct_words.specs.Code.{CodeValue}
+use Rattle.ct_words.specs.Entry.{unrestricted}
+use Rattle.ct_words.specs.Constructions.Juxtaposed.{juxtaposed, added_weights}
+use Rattle.ct_words.specs.Constructions.Punctured.{punctured}
+use Rattle.ct_words.specs.Constructions.Translation.{complemented}
+use Rattle.ct_words.specs.Constructions.Uuv.{uuv_words}
+use Rattle.ct_words.proofs.Constructions.JuxtaposedCodes.{length-juxtaposed}
+use Rattle.ct_words.proofs.Constructions.PuncturedCodes.{length-punctured}
+use Rattle.ct_words.proofs.Constructions.TranslationLemmas.{length-complemented}
+use Rattle.ct_words.proofs.Constructions.UuvCodes.{length-uuv_words}
 use Rattle.ct_rule_parts.specs.declared.support.Support.{Support}
 use Rattle.ct_rule_parts.specs.Parts.{has_weight, weight_of, half_up}
 use Rattle.ct_rule_parts.proofs.PlainEntries.{Weightless, no_weight, a_weight}

@@ -5,8 +5,8 @@ ghost use Rattle.ct_rule_parts.specs.Support.{size_at};
 ghost use Rattle.ct_pieces.specs.Supports.{supports_of};
 ghost use Rattle.ct_rule_codes.specs.CodeEntry.{entry_of_code};
 
-use ct_entries::{Code, Entry};
 use ct_ledger::Ledger;
+use ct_words::{Code, Entry};
 use std::alloc::{AllocError, Global};
 
 /// The code of the piece at the place, which gives a size at the entry. The ledger stays the same. `Err` is want of memory.

@@ -1,13 +1,13 @@
 //! The codes of lines, each kept as long as a later line needs it.
 
 ghost use Rattle.std.specs.Prelude.{◌≡◌, ◌<◌, ◌++◌, ◌||◌, List, length, All, slice_get, slice_set, Some, None, IfOk, OnOk, if◌then◌else◌};
-ghost use Rattle.ct_entries.specs.Constructions.Places.{is_among};
-ghost use Rattle.ct_entries.specs.Code.{CodeValue};
+ghost use Rattle.ct_words.specs.Constructions.Places.{is_among};
+ghost use Rattle.ct_words.specs.Code.{CodeValue};
 ghost use Rattle.ct_rules.specs.Derivation.{LineValue};
 ghost use Rattle.ct_list.specs.Inside.Kept.{AreCodesFor, AreKept, is_named, named_by};
 
-use ct_entries::Code;
 use ct_rules::Line;
+use ct_words::Code;
 use std::alloc::{AllocError, Global};
 
 /// Whether the place is among these.

@@ -1,9 +1,9 @@
 //! The code behind the best lower bound of an entry.
 
 ghost use Rattle.std.specs.Prelude.{◌≡◌, ◌<◌, ◌+◌, ℕ, length, drop, slice_get, Some, IfOk, OnOk};
-ghost use Rattle.ct_entries.specs.declared.claim.Side.TheVariants.{Lower};
-ghost use Rattle.ct_entries.specs.declared.entry.Entry.{Entry};
-ghost use Rattle.ct_entries.specs.Entry.{IsEntry};
+ghost use Rattle.ct_words.specs.declared.claim.Side.TheVariants.{Lower};
+ghost use Rattle.ct_words.specs.declared.entry.Entry.{Entry};
+ghost use Rattle.ct_words.specs.Entry.{IsEntry};
 ghost use Rattle.ct_derive.specs.Explanation.{IsExplanation};
 ghost use Rattle.ct_pieces.specs.Supports.{supports_of};
 ghost use Rattle.ct_rule_parts.specs.Slot.{claim_at};
@@ -13,10 +13,10 @@ ghost use Rattle.ct_list.specs.Inside.Kept.{AreKept, IsCodeFor, named_by};
 
 use crate::kept::take_codes;
 use crate::rows::code_by_rule;
-use ct_entries::{Code, Entry, Side};
 use ct_ledger::Ledger;
 use ct_reasons::lines_to;
 use ct_rules::Line;
+use ct_words::{Code, Entry, Side};
 use std::alloc::{AllocError, Global};
 
 /// The code of the line at the place, the next one of an explanation of a lower bound over the pieces of the ledger: made of the

@@ -2,7 +2,7 @@
 
 ghost use Rattle.std.specs.Prelude.{◌≡◌, [], ◌∷◌, length};
 
-use ct_entries::Code;
+use ct_words::Code;
 
 /// The only code.
 pub(crate) fn only(codes: Vec<Code>) -> Code

@@ -1,7 +1,7 @@
 //! The code that each rule for lower bounds says there is, a row for each rule.
 
 ghost use Rattle.std.specs.Prelude.{◌≡◌, IfOk};
-ghost use Rattle.ct_entries.specs.declared.claim.Side.TheVariants.{Lower};
+ghost use Rattle.ct_words.specs.declared.claim.Side.TheVariants.{Lower};
 ghost use Rattle.ct_rules.specs.Rule.{rule_side, parts_over};
 ghost use Rattle.ct_pieces.specs.Supports.{supports_of};
 ghost use Rattle.ct_list.specs.Inside.Rows.{AreParts, IsMadeBy};
@@ -9,13 +9,13 @@ ghost use Rattle.ct_list.specs.Inside.Rows.{AreParts, IsMadeBy};
 use crate::given::given_code;
 use crate::parts::{both, only};
 use ct_build::{append_one, complement, juxtapose, lengthen, parity, puncture, uuv};
-use ct_entries::{Code, Entry};
 use ct_ledger::Ledger;
 use ct_rule_codes::{
     disjoint_words, half, one_word, opposite_words, read_as, sum_class, sums_with_even_words,
     with_one, with_zero,
 };
 use ct_rules::Rule;
+use ct_words::{Code, Entry};
 use std::alloc::{AllocError, Global};
 
 /// The code of the entry that the rule, one for lower bounds that is defined there, says there is, made of codes of the entries

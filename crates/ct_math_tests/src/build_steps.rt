@@ -2,14 +2,13 @@
 
 ghost use Rattle.std.specs.Prelude.{◌≡◌, ◌+◌, ◌^◌, ◌<◌, ◌≤◌, true, length, All};
 ghost use Rattle.std.specs.List.Sorted.{IsStrictlyIncreasing};
-ghost use Rattle.ct_entries.specs.declared.entry.Entry.{Entry};
-ghost use Rattle.ct_entries.specs.Constructions.Places.{ArePlaces};
+ghost use Rattle.ct_words.specs.declared.entry.Entry.{Entry};
+ghost use Rattle.ct_words.specs.Constructions.Places.{ArePlaces};
 ghost use Rattle.ct_build.specs.Build.{FieldsFit, FitsStated};
 
 use crate::build_parts::Few;
 use ct_build::{BuildFault, MAX_BUILT, Step, apply};
-use ct_entries::{Code, Entry};
-use ct_words::{Listed, MAX_N, Word};
+use ct_words::{Code, Entry, Listed, MAX_N, Word};
 use std::alloc::Global;
 use std::process::Abort;
 use std::test::Fail;

@@ -5,8 +5,7 @@ use crate::build_parts::{
 };
 use crate::build_steps::{Change, build};
 use ct_build::BuildFault;
-use ct_entries::Code;
-use ct_words::Word;
+use ct_words::{Code, Word};
 use std::alloc::Global;
 use std::process::Abort;
 use std::test::Fail;

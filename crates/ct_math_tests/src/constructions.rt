@@ -6,8 +6,7 @@ use ct_build::{
     BuildFault, append_one, complement, juxtapose, lengthen, parity, puncture, select_weight,
     shorten, translate, trim, uuv,
 };
-use ct_entries::{Code, MAX_CODE_DISTANCE};
-use ct_words::{MAX_N, Word};
+use ct_words::{Code, MAX_CODE_DISTANCE, MAX_N, Word};
 use std::alloc::{AllocError, Global};
 use std::process::Abort;
 use std::test::Fail;

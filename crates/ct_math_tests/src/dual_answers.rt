@@ -4,8 +4,7 @@ ghost use Rattle.std.specs.Prelude.{◌≡◌, ◌≤◌, true, All};
 ghost use Rattle.ct_words.specs.declared.limits.TheConstants.{MAX_BOUND};
 
 use ct_duals::{Allowances, Dual, DualFault, Multipliers, check_dual_of_table};
-use ct_entries::Entry;
-use ct_words::MAX_BOUND;
+use ct_words::{Entry, MAX_BOUND};
 use std::alloc::{AllocError, Global};
 
 /// What becomes of a dual.

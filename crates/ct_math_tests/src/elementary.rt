@@ -1,8 +1,7 @@
 //! The bounds and counts at values from tables and by hand.
 
 use ct_elementary::{far, plotkin, sphere_packing};
-use ct_entries::Entry;
-use ct_words::{ball, binomial, factorial};
+use ct_words::{Entry, ball, binomial, factorial};
 
 /// Two numbers, and what is counted for them.
 type Counted = (u32, u32, u64);

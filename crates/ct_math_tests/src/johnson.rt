@@ -3,9 +3,8 @@
 
 ghost use Rattle.std.specs.Prelude.{◌≡◌, ◌≤◌, true};
 
-use ct_entries::Entry;
 use ct_johnson::{column_count, drop_one, drop_zero, elias_bassalygo, johnson, split};
-use ct_words::{MAX_BOUND, MAX_N};
+use ct_words::{Entry, MAX_BOUND, MAX_N};
 
 /// A length, a weight, an upper bound that stands, and the bound that follows from it.
 type OfWeight = (u32, u32, u32, u32);

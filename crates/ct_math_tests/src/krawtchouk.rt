@@ -1,9 +1,8 @@
 //! Krawtchouk numbers against tables, their plain sums, the generating function and orthogonality.
 
 use crate::numbers::{add_signed, number_of};
-use ct_entries::Scheme;
 use ct_krawtchouk::Hamming;
-use ct_words::{MAX_N, binomial};
+use ct_words::{MAX_N, Scheme, binomial};
 
 /// The Krawtchouk number K_k(i) at length n.
 fn krawtchouk(n: u32, k: u32, i: u32) -> Option<i64> {

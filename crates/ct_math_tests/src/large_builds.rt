@@ -4,8 +4,7 @@ use crate::build_parts::{Few, Place, Words, code_of, entry_of, even_code, linear
 use crate::build_steps::{Change, build};
 use crate::known_codes::GOLAY;
 use ct_build::BuildFault;
-use ct_entries::Code;
-use ct_words::Word;
+use ct_words::{Code, Word};
 use std::alloc::Global;
 use std::process::Abort;
 use std::test::Fail;

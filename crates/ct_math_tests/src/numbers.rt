@@ -1,6 +1,6 @@
 //! The numbers of a scheme.
 
-use ct_entries::{Scheme, scheme_laws};
+use ct_words::{Scheme, scheme_laws};
 
 /// The number of the scheme at k and i, where both are up to its degree.
 pub fn number_of<S: Scheme>(scheme: &S, k: u32, i: u32) -> Option<i64> {

@@ -2,15 +2,14 @@
 
 ghost use Rattle.std.specs.Prelude.{◌≡◌, ◌^◌, ◌<◌, ◌≤◌, true, All, IfOk};
 ghost use Rattle.ct_words.specs.declared.limits.TheConstants.{MAX_N};
-ghost use Rattle.ct_entries.specs.Entry.{unrestricted};
+ghost use Rattle.ct_words.specs.Entry.{unrestricted};
 ghost use Rattle.ct_partitions.specs.Partition.{word_lists, words_of_classes};
 
 use crate::build_parts::{have_length, shows};
-use ct_entries::Entry;
 use ct_partitions::{
     Partition, PartitionFault, check_partition, product_distance, product_list, product_size,
 };
-use ct_words::{MAX_N, Word};
+use ct_words::{Entry, MAX_N, Word};
 use std::alloc::{AllocError, Global};
 use std::process::Abort;
 use std::test::Fail;

@@ -1,9 +1,8 @@
 //! Johnson numbers against a table, values by hand, their plain sums and a direct count of pairs of places.
 
 use crate::numbers::{add_signed, number_of};
-use ct_entries::Scheme;
 use ct_scheme::Johnson;
-use ct_words::{MAX_N, Word, binomial, distance, factorial, weight};
+use ct_words::{MAX_N, Scheme, Word, binomial, distance, factorial, weight};
 
 /// The Johnson number J_k(i) at length n and weight w.
 fn johnson(n: u32, w: u32, k: u32, i: u32) -> Option<i64> {

@@ -3,9 +3,8 @@
 ghost use Rattle.std.specs.Prelude.{◌≤◌};
 
 use crate::build_parts::shows;
-use ct_entries::Code;
 use ct_sum_classes::{sum_class_count, sum_class_list};
-use ct_words::{MAX_N, Word};
+use ct_words::{Code, MAX_N, Word};
 use std::alloc::Global;
 use std::process::Abort;
 use std::test::Fail;

@@ -10,7 +10,7 @@ use Rattle.ct_words.proofs.Counting.SignedBinomials.{signed_binomial}
 use Rattle.ct_words.proofs.Counting.Combinations.{pair_total-combination, total_below-le, product-le, total-constant}
 use Rattle.ct_words.proofs.Counting.Totals.{total-congruence}
 use Rattle.ct_words.proofs.Characters.{pair_total-odd}
-use Rattle.ct_entries.specs.Numbers.{krawtchouk, multiplier, combination}
+use Rattle.ct_words.specs.Numbers.{krawtchouk, multiplier, combination}
 use Rattle.ct_krawtchouk.specs.Hamming.{krawtchouk-first}
 use Rattle.ct_parity.specs.OddSum.{least_sum, odd_sum}
 

@@ -2,7 +2,7 @@
 use Rattle.std.specs.Prelude.{ℕ, zero, suc, ◌*◌, ℤ, pos, ◌*ℤ◌, List, length}
 use Rattle.ct_words.specs.Counting.Alternating.{total_below}
 use Rattle.ct_words.specs.Counting.Binomials.{choose}
-use Rattle.ct_entries.specs.Numbers.{multiplier}
+use Rattle.ct_words.specs.Numbers.{multiplier}
 
 -- a sum that the numbers of k reach over all ordered pairs of m words, m odd: m² for k = 0, and for other k the number of words of weight k
 abbrev pub least_sum : ℕ → ℕ → ℕ → ℕ

@@ -4,7 +4,7 @@ ghost use Rattle.std.specs.Prelude.{◌≡◌, ℕ, ◌+◌, ◌%◌, ◌^◌, �
 ghost use Rattle.ct_words.specs.declared.limits.TheConstants.{MAX_N};
 ghost use Rattle.ct_words.specs.Word.{distance};
 ghost use Rattle.ct_words.specs.Counting.PairTotals.{pair_total};
-ghost use Rattle.ct_entries.specs.Numbers.{krawtchouk, combination};
+ghost use Rattle.ct_words.specs.Numbers.{krawtchouk, combination};
 ghost use Rattle.ct_parity.specs.OddSum.{least_sum, odd_sum};
 
 use ct_words::binomial;

@@ -1,8 +1,8 @@
 -- Evidence of kind partition.
 use Rattle.std.proofs.Common.{◌≡◌, ℕ, ◌^◌, ◌<◌, ◌≤◌, List, None, option_map, refl, ap}
 use Rattle.std.specs.Prelude.{All}
-use Rattle.ct_entries.specs.declared.entry.Entry.{Entry}
-use Rattle.ct_entries.specs.Entry.{IsEntry}
+use Rattle.ct_words.specs.declared.entry.Entry.{Entry}
+use Rattle.ct_words.specs.Entry.{IsEntry}
 use Rattle.ct_partitions.specs.Partition.{words_of_classes, IsPartition}
 use Rattle.ct_partitions.specs.Check.{partition_fault, wrong_count}
 use Rattle.ct_partitions.proofs.PartitionFaults.{sizes_of_count, no_fault_of_partition, sound_from_check}

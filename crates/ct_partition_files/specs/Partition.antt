@@ -1,7 +1,7 @@
 -- The evidence of a document of kind partition, or its first fault.
 use Rattle.std.specs.Prelude.{ℕ, List, [], ◌∷◌, Result, Ok}
 use Rattle.toml.specs.Data.{Data}
-use Rattle.ct_entries.specs.declared.entry.Entry.{Entry}
+use Rattle.ct_words.specs.declared.entry.Entry.{Entry}
 use Rattle.ct_fields.specs.Steps.{◌>>=◌, ◌>>◌}
 use Rattle.ct_fields.specs.Fields.{number_field}
 use Rattle.ct_fields.specs.LastFields.{last_fields}

@@ -4,8 +4,8 @@ use Rattle.std.specs.List.{flat_map}
 use Rattle.toml.specs.Data.{Data, string, array, get}
 use Rattle.toml.specs.View.{items_of}
 use Rattle.ct_words.specs.Text.{word_text}
-use Rattle.ct_entries.specs.declared.entry.Entry.{Entry}
-use Rattle.ct_entries.specs.declared.fault.TheConstants.{MAX_WORDS}
+use Rattle.ct_words.specs.declared.entry.Entry.{Entry}
+use Rattle.ct_words.specs.declared.fault.TheConstants.{MAX_WORDS}
 use Rattle.ct_partitions.specs.declared.fault.TheConstants.{MAX_CLASSES}
 use Rattle.ct_partitions.specs.Partition.{words_of_classes}
 use Rattle.ct_partitions.specs.Check.{counted}

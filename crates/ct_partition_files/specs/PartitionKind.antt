@@ -1,6 +1,6 @@
 -- Evidence of kind partition: codes whose words are a code of a smaller distance together, its classes.
 use Rattle.std.specs.Prelude.{ℕ, false, List, [], length, Some, None, option_map, codes}
-use Rattle.ct_entries.specs.declared.entry.Entry.{Entry}
+use Rattle.ct_words.specs.declared.entry.Entry.{Entry}
 use Rattle.ct_partitions.specs.Check.{partition_fault}
 use Rattle.ct_partitions.specs.Partition.{words_of_classes}
 use Rattle.ct_rule_parts.specs.declared.support.Support.TheVariants.{Nothing}

@@ -2,7 +2,7 @@
 use Rattle.std.specs.Prelude.{◌≡◌, ℕ, suc, ◌≤◌, List, [], ◌∷◌, length, Option, Some, None, Result, Ok, Err, All, codes}
 use Rattle.toml.specs.Data.{Data, get}
 use Rattle.ct_words.specs.declared.limits.TheConstants.{MAX_N}
-use Rattle.ct_entries.specs.declared.entry.Entry.{Entry}
+use Rattle.ct_words.specs.declared.entry.Entry.{Entry}
 use Rattle.ct_fields.specs.Field.{field_text}
 use Rattle.ct_fields.specs.Tables.{IsDocument, IsOfKind}
 use Rattle.ct_fields.specs.HasCites.{HasRightFormat, HasRightCites, HasWrongCites, HasOther, HasLast}

@@ -3,8 +3,8 @@
 use Rattle.std.specs.Prelude.{◌≤◌, ℕ, ◌+◌, ◌==◌, nat_lt, Bool, true, false, not, ◌||◌, ◌&&◌, if◌then◌else◌, List, [], ◌∷◌, map, All, Option, Some, None, option_map, is_some, IsSome, codes}
 use Rattle.std.specs.List.{flat_map}
 use Rattle.std.specs.Option.{unwrap_or}
-use Rattle.ct_entries.specs.declared.entry.Entry.{Entry}
-use Rattle.ct_entries.specs.Pairs.{first_of}
+use Rattle.ct_words.specs.declared.entry.Entry.{Entry}
+use Rattle.ct_words.specs.Pairs.{first_of}
 use Rattle.ct_build.specs.declared.fault.BuildFault.TheVariants as build
 use Rattle.ct_partitions.specs.Partition.{PartitionValue}
 use Rattle.ct_partitions.specs.Product.{Factors, product, product_size, product_distance, AreFactors, no_partition}

@@ -8,16 +8,15 @@ ghost use Rattle.ct_partition_files.specs.Lists.{lists_behind, class_count};
 ghost use Rattle.ct_partition_files.specs.Partition.{partition_of_lists, partition_evidence_of};
 
 use crate::lists::{classes_from, text_lists_field};
-use ct_entries::Entry;
 use ct_fields::{DocumentFault, FieldName, last_fields, number_field, stated_entry};
 use ct_kind::{Evidence, WordLists};
 use ct_partitions::wrong_count;
-use ct_words::Word;
+use ct_words::{Entry, Word};
 use std::alloc::Global;
 use toml::Value;
 
 /// Refuses no class or more than `ct_partitions::MAX_CLASSES`, or else a class without words, or else more than
-/// `ct_entries::MAX_WORDS` words.
+/// `ct_words::MAX_WORDS` words.
 fn class_count(classes: &[Vec<Word>]) -> Result<(), DocumentFault>
     ensures { result ≡ class_count (word_lists classes.now) }
 {

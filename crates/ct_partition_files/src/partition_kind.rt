@@ -1,14 +1,13 @@
 //! Evidence of kind partition: codes whose words are a code of a smaller distance together, its classes.
 
 ghost use Rattle.std.specs.Prelude.{◌≡◌, ◌≢◌, ◌<◌, ◌≤◌, ◌^◌, All, Some, None, IfOk, IfErr, OnOk, length, option_map, false, codes};
-ghost use Rattle.ct_entries.specs.Entry.{IsEntry};
+ghost use Rattle.ct_words.specs.Entry.{IsEntry};
 ghost use Rattle.ct_partitions.specs.Check.{partition_fault, wrong_count};
 ghost use Rattle.ct_partitions.specs.Partition.{words_of_classes, word_lists};
 
-use ct_entries::Entry;
 use ct_kind::{Kind, SubmitFault};
 use ct_partitions::{partition_fault, word_count};
-use ct_words::Word;
+use ct_words::{Entry, Word};
 use std::alloc::Global;
 
 /// What the evidence comes to.

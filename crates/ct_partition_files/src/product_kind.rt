@@ -6,9 +6,9 @@ ghost use Rattle.std.specs.List.{list_any};
 ghost use Rattle.std.specs.Str.{bytes_eq};
 ghost use Rattle.std.specs.List.Sorted.{IsPermutation};
 ghost use Rattle.ct_words.specs.declared.limits.TheConstants.{MAX_N, MAX_BOUND};
-ghost use Rattle.ct_entries.specs.Code.{IsSoundCode};
-ghost use Rattle.ct_entries.specs.Entry.{IsEntry};
-ghost use Rattle.ct_entries.specs.Pairs.{first_of};
+ghost use Rattle.ct_words.specs.Code.{IsSoundCode};
+ghost use Rattle.ct_words.specs.Entry.{IsEntry};
+ghost use Rattle.ct_words.specs.Pairs.{first_of};
 ghost use Rattle.ct_partitions.specs.Partition.{PartitionValue};
 ghost use Rattle.ct_partitions.specs.Product.{product, product_distance, product_size, pairs_at, ArePairsOfPlaces, AreFactors};
 ghost use Rattle.ct_kind.specs.Ascending.{code_at};
@@ -17,10 +17,10 @@ ghost use Rattle.ct_kind.specs.Named.{first_missing, partition_named};
 ghost use Rattle.ct_partition_files.specs.ProductKind.{ids_of, factors_named, first_length, is_wrong_first, add_up, is_wrong_second, wrong_of_pair, wrong_id, short_of, product_reason, product_kind};
 
 use ct_build::BuildFault;
-use ct_entries::{Code, Entry};
 use ct_kind::{Kind, Partitions, SubmitFault};
 use ct_partitions::{Partition, product_distance, product_list, product_size};
 use ct_text::Id;
+use ct_words::{Code, Entry};
 use std::alloc::{AllocError, Global};
 
 /// What the evidence comes to.

@@ -7,9 +7,9 @@ use Rattle.ct_words.specs.Word.{distance, weight}
 use Rattle.ct_words.specs.PairProducts.{all_places}
 use Rattle.ct_words.proofs.TextLemmas.{length-tabulate, get_or-tabulate}
 use Rattle.ct_words.proofs.WordLemmas.{distance_same, weight_any_length}
-use Rattle.ct_entries.specs.Pairs.{first_of, least_pair}
-use Rattle.ct_entries.proofs.PairLemmas.{least_pair-none, NoPair-from}
-use Rattle.ct_entries.proofs.CheckLemmas.{equal_is_close}
+use Rattle.ct_words.specs.Pairs.{first_of, least_pair}
+use Rattle.ct_words.proofs.PairLemmas.{least_pair-none, NoPair-from}
+use Rattle.ct_words.proofs.CheckLemmas.{equal_is_close}
 use Rattle.ct_partitions.specs.declared.fault.PartitionFault.TheVariants.{Repeated, Close}
 use Rattle.ct_partitions.specs.Partition.{words_of_classes}
 use Rattle.ct_partitions.specs.Check.{class_at, need, distance_at, is_close, repeated_fault, close_fault}

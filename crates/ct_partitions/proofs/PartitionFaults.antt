@@ -7,14 +7,14 @@ use Rattle.std.proofs.lemmas.List.Elements.{All-nil, All-cons, All-head, All-tai
 use Rattle.ct_words.specs.Word.{distance, weight}
 use Rattle.ct_words.specs.PairProducts.{all_places}
 use Rattle.ct_words.proofs.TextLemmas.{length-tabulate, get_or-tabulate}
-use Rattle.ct_entries.specs.declared.entry.Entry.{Entry}
-use Rattle.ct_entries.specs.declared.fault.TheConstants.{MAX_WORDS}
-use Rattle.ct_entries.specs.Entry.{IsEntry}
-use Rattle.ct_entries.specs.Pairs.{least_pair}
-use Rattle.ct_entries.specs.Code.{IsCode}
-use Rattle.ct_entries.proofs.PairLemmas.{least_pair-none, NoPair-from}
-use Rattle.ct_entries.proofs.CheckLemmas.{AllPairs-from_get_or, option_map-None, first_of-None, weight-none, weight_none_from}
-use Rattle.ct_entries.specs.declared.fault.CodeFault.TheVariants.{Weight as Weight_of_code}
+use Rattle.ct_words.specs.declared.entry.Entry.{Entry}
+use Rattle.ct_words.specs.declared.fault.TheConstants.{MAX_WORDS}
+use Rattle.ct_words.specs.Entry.{IsEntry}
+use Rattle.ct_words.specs.Pairs.{least_pair}
+use Rattle.ct_words.specs.Code.{IsCode}
+use Rattle.ct_words.proofs.PairLemmas.{least_pair-none, NoPair-from}
+use Rattle.ct_words.proofs.CheckLemmas.{AllPairs-from_get_or, option_map-None, first_of-None, weight-none, weight_none_from}
+use Rattle.ct_words.specs.declared.fault.CodeFault.TheVariants.{Weight as Weight_of_code}
 use Rattle.ct_partitions.specs.declared.fault.TheConstants.{MAX_CLASSES}
 use Rattle.ct_partitions.specs.declared.fault.PartitionFault.TheVariants.{Size, Weight}
 use Rattle.ct_partitions.specs.Partition.{words_of_classes, IsPartition, IsSoundPartition}

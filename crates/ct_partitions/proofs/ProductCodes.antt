@@ -12,11 +12,11 @@ use Rattle.ct_words.proofs.Counting.Sums.{sum_by-congruence}
 use Rattle.ct_words.proofs.Counting.Pairs.{AllPairs-head, AllPairs-tail, AllPairs-append, AllPairs-map, AllPairs-within, AllPairs-weaker}
 use Rattle.ct_words.specs.Word.{places, digit, weight, distance}
 use Rattle.ct_words.proofs.WordLemmas.{one, distance_comm, places_within_two, places-none, weights_of_pair}
-use Rattle.ct_entries.specs.Code.{IsCode}
-use Rattle.ct_entries.specs.Constructions.Joined.{followed_by}
-use Rattle.ct_entries.specs.Constructions.Juxtaposed.{added_weights}
-use Rattle.ct_entries.proofs.Constructions.JoinedLemmas.{followed_by-lt, weight-followed_by, distance-followed_by}
-use Rattle.ct_entries.proofs.Constructions.FarWords.{AreFar, code_from_far}
+use Rattle.ct_words.specs.Code.{IsCode}
+use Rattle.ct_words.specs.Constructions.Joined.{followed_by}
+use Rattle.ct_words.specs.Constructions.Juxtaposed.{added_weights}
+use Rattle.ct_words.proofs.Constructions.JoinedLemmas.{followed_by-lt, weight-followed_by, distance-followed_by}
+use Rattle.ct_words.proofs.Constructions.FarWords.{AreFar, code_from_far}
 use Rattle.ct_partitions.specs.Partition.{words_of_classes, IsPartition}
 use Rattle.ct_partitions.specs.Product.{Factors, all_followed, class_products, product, weight_of, pair_distance, weight_gap, distances, least, product_size, product_distance, AreFactors}
 

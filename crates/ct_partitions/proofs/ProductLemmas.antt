@@ -11,7 +11,7 @@ use Rattle.ct_partitions.specs.Partition.{word_lists, words_of_classes, Partitio
 use Rattle.ct_partitions.specs.Product.{Factors, all_followed, class_products, product, pair_distance, weight_gap, distances, least, product_size, product_distance, AreFactors, AreSound, no_partition, pairs_at, ArePairsOfPlaces}
 use Rattle.ct_partitions.proofs.ProductCodes.{below_each, length-followed}
 use Rattle.ct_words.specs.declared.limits.TheConstants.{MAX_N}
-use Rattle.ct_entries.proofs.EntryLemmas.{entry_limits}
+use Rattle.ct_words.proofs.EntryLemmas.{entry_limits}
 use Rattle.std.proofs.lemmas.List.Elements.{All-nil, All-cons, All-append, All-head}
 use Rattle.ct_partitions.specs.Inside.Pairs.{no_pair, nearest_at}
 

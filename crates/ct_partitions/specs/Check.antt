@@ -5,9 +5,9 @@ use Rattle.std.specs.List.{list_any}
 use Rattle.std.specs.Option.{option_map}
 use Rattle.ct_words.specs.Word.{weight, distance}
 use Rattle.ct_words.specs.PairProducts.{all_places}
-use Rattle.ct_entries.specs.declared.entry.Entry.{Entry}
-use Rattle.ct_entries.specs.declared.fault.TheConstants.{MAX_WORDS}
-use Rattle.ct_entries.specs.Pairs.{first_of, least_pair}
+use Rattle.ct_words.specs.declared.entry.Entry.{Entry}
+use Rattle.ct_words.specs.declared.fault.TheConstants.{MAX_WORDS}
+use Rattle.ct_words.specs.Pairs.{first_of, least_pair}
 use Rattle.ct_partitions.specs.declared.fault.PartitionFault.{PartitionFault}
 use Rattle.ct_partitions.specs.declared.fault.PartitionFault.TheVariants.{Size, Weight, Repeated, Close}
 use Rattle.ct_partitions.specs.declared.fault.TheConstants.{MAX_CLASSES}

@@ -3,10 +3,10 @@
 use Rattle.std.specs.Prelude.{ℕ, ◌≤◌, List, length, map, All, Option, Vec}
 use Rattle.std.specs.List.{flat_map}
 use Rattle.std.specs.declared.alloc.Global.{Global}
-use Rattle.ct_entries.specs.declared.entry.Entry.{Entry}
-use Rattle.ct_entries.specs.declared.fault.TheConstants.{MAX_WORDS}
-use Rattle.ct_entries.specs.Entry.{IsEntry}
-use Rattle.ct_entries.specs.Code.{IsCode}
+use Rattle.ct_words.specs.declared.entry.Entry.{Entry}
+use Rattle.ct_words.specs.declared.fault.TheConstants.{MAX_WORDS}
+use Rattle.ct_words.specs.Entry.{IsEntry}
+use Rattle.ct_words.specs.Code.{IsCode}
 use Rattle.ct_partitions.specs.declared.fault.TheConstants.{MAX_CLASSES}
 
 -- vectors of words as lists of words

@@ -3,9 +3,9 @@
 use Rattle.std.specs.Prelude.{◌≡◌, ℕ, ◌+◌, ◌-◌, ◌*◌, ◌<◌, ◌≤◌, min, List, [], ◌∷◌, ◌++◌, length, map, fold, sum_by, slice_index_or, All, AllPairs, Option, Some, IfSome, IsSome}
 use Rattle.std.specs.List.{flat_map, zip}
 use Rattle.std.specs.Option.{unwrap_or}
-use Rattle.ct_entries.specs.Entry.{unrestricted}
-use Rattle.ct_entries.specs.Constructions.Joined.{followed_by}
-use Rattle.ct_entries.specs.Constructions.Juxtaposed.{added_weights}
+use Rattle.ct_words.specs.Entry.{unrestricted}
+use Rattle.ct_words.specs.Constructions.Joined.{followed_by}
+use Rattle.ct_words.specs.Constructions.Juxtaposed.{added_weights}
 use Rattle.ct_partitions.specs.Partition.{PartitionValue, IsSoundPartition}
 
 -- two partitions

@@ -3,9 +3,9 @@
 ghost use Rattle.std.specs.Prelude.{◌≡◌, ◌≢◌, ◌==◌, ℕ, ◌^◌, ◌<◌, ◌≤◌, length, All, not, position, Some, None, IfOk, IfErr, IfNone, OnOk};
 ghost use Rattle.std.specs.List.{list_any};
 ghost use Rattle.ct_words.specs.Word.{weight};
-ghost use Rattle.ct_entries.specs.Entry.{IsEntry};
-ghost use Rattle.ct_entries.specs.Pairs.{first_of};
-ghost use Rattle.ct_entries.specs.declared.fault.TheConstants.{MAX_WORDS};
+ghost use Rattle.ct_words.specs.Entry.{IsEntry};
+ghost use Rattle.ct_words.specs.Pairs.{first_of};
+ghost use Rattle.ct_words.specs.declared.fault.TheConstants.{MAX_WORDS};
 ghost use Rattle.ct_partitions.specs.Partition.{word_lists, words_of_classes, IsSoundPartition};
 ghost use Rattle.ct_partitions.specs.Check.{class_at, counted, wrong_count, weight_fault, repeated_fault, close_fault, partition_fault};
 
@@ -13,8 +13,7 @@ use crate::close::first_close_places;
 use crate::fault::{MAX_CLASSES, PartitionFault};
 use crate::partition::Partition;
 use ct_codes::first_close_pair;
-use ct_entries::{Entry, MAX_WORDS};
-use ct_words::{Word, distance, weight};
+use ct_words::{Entry, MAX_WORDS, Word, distance, weight};
 use std::alloc::{AllocError, Global};
 
 /// The partition of these classes, each a code of the entry, which is in the table. Two words of different classes have the

@@ -2,14 +2,13 @@
 
 ghost use Rattle.std.specs.Prelude.{◌≡◌, ◌+◌, ◌-◌, ◌^◌, ◌<◌, ◌≤◌, ◌++◌, length, map, All, OnOk, IfOk, IsPermutation};
 ghost use Rattle.ct_words.specs.declared.limits.TheConstants.{MAX_N};
-ghost use Rattle.ct_entries.specs.Code.{IsSoundCode};
-ghost use Rattle.ct_entries.specs.Constructions.Joined.{followed_by};
+ghost use Rattle.ct_words.specs.Code.{IsSoundCode};
+ghost use Rattle.ct_words.specs.Constructions.Joined.{followed_by};
 ghost use Rattle.ct_partitions.specs.Partition.{IsSoundPartition};
 ghost use Rattle.ct_partitions.specs.Product.{all_followed, class_products, product, product_distance, AreFactors, AreSound, pairs_at, ArePairsOfPlaces};
 
 use crate::partition::Partition;
-use ct_entries::{Code, Entry};
-use ct_words::Word;
+use ct_words::{Code, Entry, Word};
 use std::alloc::{AllocError, Global};
 
 /// The code of the entry whose words are those of the product of pairs of partitions, each told by two places in the list

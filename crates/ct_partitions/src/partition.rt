@@ -3,8 +3,7 @@
 ghost use Rattle.std.specs.Prelude.{◌≡◌, map};
 ghost use Rattle.ct_partitions.specs.Partition.{word_lists, PartitionValue, IsSoundPartition};
 
-use ct_entries::Entry;
-use ct_words::Word;
+use ct_words::{Entry, Word};
 use std::marker::Model;
 
 /// A code of a smaller distance that is put together from codes of an entry, its classes: two words of one class have

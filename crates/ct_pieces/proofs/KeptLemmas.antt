@@ -3,7 +3,7 @@ use Rattle.std.proofs.Common.{◌≡◌, ℕ, zero, suc, ◌<◌, Bool, true, fa
 use Rattle.std.specs.Prelude.{remove}
 use Rattle.std.proofs.lemmas.List.Elements.{length_all_zip, AllZip-push}
 use Rattle.std.specs.Option.{option_or}
-use Rattle.ct_entries.specs.Code.{CodeValue}
+use Rattle.ct_words.specs.Code.{CodeValue}
 use Rattle.ct_kind.specs.declared.evidence.Evidence.{Evidence}
 use Rattle.ct_kind.specs.Named.{NamedCode}
 use Rattle.ct_pieces.specs.Piece.{PieceValue}

@@ -5,8 +5,8 @@ use Rattle.std.specs.List.{list_any, position_or_len}
 use Rattle.std.specs.Str.{bytes_eq}
 use Rattle.std.proofs.lemmas.List.Elements.{filter-append, All-head, All-tail}
 use Rattle.std.proofs.lemmas.Slice.Eq.{bytes_eq-Decides}
-use Rattle.ct_entries.specs.Code.{CodeValue}
-use Rattle.ct_entries.specs.Pairs.{first_of}
+use Rattle.ct_words.specs.Code.{CodeValue}
+use Rattle.ct_words.specs.Pairs.{first_of}
 use Rattle.ct_partitions.specs.Partition.{PartitionValue}
 use Rattle.ct_kind.specs.declared.evidence.Evidence.{Evidence}
 use Rattle.ct_kind.specs.Named.{NamedCode, is_known, first_missing, code_named, partition_named}

@@ -3,8 +3,8 @@ use Rattle.std.proofs.Common.{◌≡◌, ℕ, ◌<◌, ◌≤◌, Bool, true, fa
 use Rattle.std.specs.Prelude.{All, IfSome, find, codes}
 use Rattle.std.specs.Option.{option_flatten}
 use Rattle.std.proofs.lemmas.List.Elements.{All-push, All-nil, All-cons, All-head, All-tail}
-use Rattle.ct_entries.specs.Code.{IsCodeOf, IsSoundCode}
-use Rattle.ct_entries.proofs.CheckLemmas.{first_of-None}
+use Rattle.ct_words.specs.Code.{IsCodeOf, IsSoundCode}
+use Rattle.ct_words.proofs.CheckLemmas.{first_of-None}
 use Rattle.ct_kind.specs.declared.evidence.Evidence.{Evidence}
 use Rattle.ct_kind.specs.declared.evidence.Evidence.TheVariants.{Words, Cosets, Partition, Build, Product, Dual, JohnsonDual, Odd, JohnsonLocal}
 use Rattle.ct_fields.specs.declared.fault.DocumentFault.{DocumentFault}

@@ -1,12 +1,12 @@
 -- A submission is never refused for want of memory.
 use Rattle.std.proofs.Common.{◌≡◌, ◌≢◌, ℕ, zero, suc, ◌+◌, Bool, true, false, cond, List, length, Option, Some, None, option_map, Result, Ok, Err, refl, ap, subst, ◌∙◌, nat_le, nat_lt}
-use Rattle.ct_entries.specs.Pairs.{first_of}
-use Rattle.ct_entries.specs.declared.entry.Entry.{Entry}
-use Rattle.ct_entries.specs.declared.fault.CodeFault.{CodeFault}
-use Rattle.ct_entries.specs.Check.{code_fault}
-use Rattle.ct_entries.specs.Code.{CodeValue}
-use Rattle.ct_entries.specs.Coset.{coset_fault}
-use Rattle.ct_entries.specs.Numbers.{numbers_of}
+use Rattle.ct_words.specs.Pairs.{first_of}
+use Rattle.ct_words.specs.declared.entry.Entry.{Entry}
+use Rattle.ct_words.specs.declared.fault.CodeFault.{CodeFault}
+use Rattle.ct_words.specs.Check.{code_fault}
+use Rattle.ct_words.specs.Code.{CodeValue}
+use Rattle.ct_words.specs.Coset.{coset_fault}
+use Rattle.ct_words.specs.Numbers.{numbers_of}
 use Rattle.ct_partitions.specs.declared.fault.PartitionFault.{PartitionFault}
 use Rattle.ct_partitions.specs.Check.{partition_fault}
 use Rattle.ct_partitions.specs.Product.{product_distance}

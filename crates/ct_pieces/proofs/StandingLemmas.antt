@@ -9,8 +9,8 @@ use Rattle.std.proofs.lemmas.List.Kept.{AllPairs-filter}
 use Rattle.std.proofs.lemmas.List.Quantifiers.{all_pairs_push}
 use Rattle.std.proofs.lemmas.List.Sums.{sum_by_push, sum_by-cons}
 use Rattle.std.proofs.lemmas.Slice.Eq.{bytes_eq-Decides}
-use Rattle.ct_entries.specs.declared.entry.Entry.{Entry}
-use Rattle.ct_entries.specs.Code.{IsCodeOf, IsTrueLower}
+use Rattle.ct_words.specs.declared.entry.Entry.{Entry}
+use Rattle.ct_words.specs.Code.{IsCodeOf, IsTrueLower}
 use Rattle.ct_text.specs.Id.{is_id}
 use Rattle.ct_fields.specs.declared.document.TheConstants.{MAX_DOCUMENT}
 use Rattle.ct_fields.specs.declared.fault.DocumentFault.{DocumentFault}

@@ -1,7 +1,7 @@
 -- The codes of the pieces that stand, each over the codes of those before it.
 use Rattle.std.specs.Prelude.{ℕ, List, [], ◌∷◌, ◌++◌, Option, option_map, slice_get}
 use Rattle.std.specs.Option.{option_flatten}
-use Rattle.ct_entries.specs.Code.{CodeValue}
+use Rattle.ct_words.specs.Code.{CodeValue}
 use Rattle.ct_kind.specs.declared.evidence.Evidence.{Evidence}
 use Rattle.ct_kind.specs.Ascending.{code_at}
 use Rattle.ct_kind.specs.Named.{NamedCode}

@@ -3,8 +3,8 @@ use Rattle.std.specs.Prelude.{ℕ, Bool, List, Option, codes}
 use Rattle.std.specs.List.{list_any}
 use Rattle.std.specs.Option.{MatchOption}
 use Rattle.std.specs.Str.{bytes_eq}
-use Rattle.ct_entries.specs.declared.entry.Entry.{Entry}
-use Rattle.ct_entries.specs.Code.{IsCodeOf}
+use Rattle.ct_words.specs.declared.entry.Entry.{Entry}
+use Rattle.ct_words.specs.Code.{IsCodeOf}
 use Rattle.ct_build.specs.Build.{IsRightBuild}
 use Rattle.ct_partitions.specs.Partition.{IsPartition}
 use Rattle.ct_kind.specs.declared.evidence.Evidence.{Evidence}

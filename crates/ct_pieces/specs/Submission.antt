@@ -1,6 +1,6 @@
 -- What a submission makes over the pieces that stand: a piece, or the first reason why it makes none.
 use Rattle.std.specs.Prelude.{◌≡◌, ◌≢◌, ◌<◌, ◌≤◌, ℕ, ◌+◌, Bool, nat_le, if◌then◌else◌, List, [], ◌∷◌, ◌++◌, length, map, All, Contains, Option, Some, None, Result, Ok, Err, IfSome}
-use Rattle.ct_entries.specs.Code.{IsCodeOf}
+use Rattle.ct_words.specs.Code.{IsCodeOf}
 use Rattle.ct_kind.specs.declared.evidence.Evidence.{Evidence}
 use Rattle.ct_fields.specs.declared.fault.DocumentFault.{DocumentFault}
 use Rattle.ct_files.specs.Document.{DocumentValue, document_read_of}

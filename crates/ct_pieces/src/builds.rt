@@ -15,10 +15,10 @@ ghost use Rattle.ct_pieces.specs.Inside.Kept.{is_kept, kept_codes, AreKept, code
 use crate::kept::{find_code, pieces_before, place_of};
 use crate::piece::Piece;
 use ct_build_files::build_kind::{self, StatedBuild};
-use ct_entries::Code;
 use ct_files::Evidence;
 use ct_kind::{Found, SubmitFault};
 use ct_text::Id;
+use ct_words::Code;
 use std::alloc::{AllocError, Global};
 
 /// The build that the evidence is, where it is one.

@@ -16,10 +16,10 @@ ghost use Rattle.ct_pieces.specs.Inside.Kept.{kept_codes, AreKept};
 use crate::kinds::{Checked, check, stored_for};
 use crate::limits::MAX_STORED;
 use crate::piece::Piece;
-use ct_entries::Code;
 use ct_files::{Document, DocumentFault, Evidence, read_document};
 use ct_kind::SubmitFault;
 use ct_text::Text;
+use ct_words::Code;
 use std::alloc::Global;
 
 /// How many words are stored with a piece of the evidence, which has this size, beside so many others, or that they are too many.

@@ -6,8 +6,7 @@ ghost use Rattle.ct_pieces.specs.Dump.{piece_dump, dump_text};
 
 use crate::piece::Piece;
 use ct_commands::put_submission;
-use ct_io::LINE_FEED;
-use ct_text::put_number;
+use ct_text::{LINE_FEED, put_number};
 use std::alloc::{AllocError, Global};
 
 /// Puts the submissions of the pieces at the end of the text.

@@ -17,13 +17,13 @@ use crate::piece::Piece;
 use crate::standing::Standing;
 use ct_build_files::build_kind::{self, StatedBuild};
 use ct_dual_files::dual_kind;
-use ct_entries::{Code, Entry};
 use ct_files::Evidence;
 use ct_kind::{Kind, StatedPartition, SubmitFault, support_from};
 use ct_partition_files::{partition_kind, product_kind};
 use ct_rule_parts::Support;
 use ct_text::Id;
 use ct_word_files::{cosets_kind, words_kind};
+use ct_words::{Code, Entry};
 use std::alloc::{AllocError, Global};
 
 /// What the evidence comes to by its kind.

@@ -9,9 +9,9 @@ ghost use Rattle.ct_pieces.specs.Text.{piece_text};
 
 use crate::kinds::names;
 use crate::text::put_piece;
-use ct_entries::Entry;
 use ct_files::{Document, Evidence};
 use ct_text::{Cite, Id, Text};
+use ct_words::Entry;
 use std::alloc::{AllocError, Global};
 use std::marker::Model;
 

@@ -1,8 +1,8 @@
 -- All words.
 use Rattle.std.proofs.Common.{◌^◌, arith, pow_pos}
 use Rattle.std.specs.Prelude.{Option, Some}
-use Rattle.ct_entries.specs.declared.claim.Side.TheVariants.{Upper}
-use Rattle.ct_entries.proofs.CheckLemmas.{code_size-le}
+use Rattle.ct_words.specs.declared.claim.Side.TheVariants.{Upper}
+use Rattle.ct_words.proofs.CheckLemmas.{code_size-le}
 use Rattle.ct_rule_parts.specs.declared.support.Support.{Support}
 use Rattle.ct_rule_parts.proofs.Lawful.{IsLawful, same_number, no_worse-same}
 use Rattle.ct_plain_rules.specs.AllWords.{all_words}

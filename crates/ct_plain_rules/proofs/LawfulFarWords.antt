@@ -3,8 +3,8 @@ use Rattle.std.proofs.Common.{nat_lt, ltb-true, subst, arith}
 use Rattle.std.specs.Prelude.{not, Option}
 use Rattle.std.proofs.lemmas.Bool.{and_parts}
 use Rattle.std.proofs.lemmas.Option.{cond_some}
-use Rattle.ct_entries.specs.declared.claim.Side.TheVariants.{Upper}
-use Rattle.ct_entries.proofs.DigitCodes.{bound_from_spread}
+use Rattle.ct_words.specs.declared.claim.Side.TheVariants.{Upper}
+use Rattle.ct_words.proofs.DigitCodes.{bound_from_spread}
 use Rattle.ct_elementary.proofs.FarWords.{spread_far}
 use Rattle.ct_rule_parts.specs.declared.support.Support.{Support}
 use Rattle.ct_rule_parts.specs.Parts.{has_weight}

@@ -5,14 +5,14 @@ use Rattle.std.specs.List.{range_with_len}
 use Rattle.std.proofs.lemmas.Bool.{and_parts}
 use Rattle.ct_words.specs.declared.limits.TheConstants.{MAX_N}
 use Rattle.ct_words.proofs.Counting.Words.{Contains-map}
-use Rattle.ct_entries.specs.declared.entry.Entry.{Entry}
-use Rattle.ct_entries.specs.declared.claim.Side.TheVariants.{Lower}
-use Rattle.ct_entries.specs.Entry.{is_entry, unrestricted}
-use Rattle.ct_entries.proofs.EntryLemmas.{entry_limits}
+use Rattle.ct_words.specs.declared.entry.Entry.{Entry}
+use Rattle.ct_words.specs.declared.claim.Side.TheVariants.{Lower}
+use Rattle.ct_words.specs.Entry.{is_entry, unrestricted}
+use Rattle.ct_words.proofs.EntryLemmas.{entry_limits}
 use Rattle.ct_rule_parts.specs.declared.support.Support.{Support}
 use Rattle.ct_rule_parts.specs.Parts.{first, second}
 use Rattle.ct_rule_parts.proofs.Constructions.{HasCode-juxtaposed}
-use Rattle.ct_entries.proofs.InLists.{Contains-range_with_len, Contains-flat_map}
+use Rattle.ct_words.proofs.InLists.{Contains-range_with_len, Contains-flat_map}
 use Rattle.ct_rule_parts.proofs.Lawful.{IsLawful, LeadsBack, both_values, same_number, no_worse-other, first-no_better, second-no_better, defined_entry, defined_condition, defined_premises}
 use Rattle.ct_rule_parts.proofs.PlainEntries.{Weightless, no_weight, written, two_items}
 use Rattle.ct_rule_parts.proofs.PlainNumbers.{lower_number, of_length, of_distance}

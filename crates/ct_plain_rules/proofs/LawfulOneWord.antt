@@ -1,7 +1,7 @@
 -- One word.
 use Rattle.std.proofs.Common.{arith}
 use Rattle.std.specs.Prelude.{Option, Some}
-use Rattle.ct_entries.specs.declared.claim.Side.TheVariants.{Lower}
+use Rattle.ct_words.specs.declared.claim.Side.TheVariants.{Lower}
 use Rattle.ct_rule_parts.specs.declared.support.Support.{Support}
 use Rattle.ct_rule_parts.proofs.Lawful.{IsLawful, same_number, no_worse-same, one_number}
 use Rattle.ct_plain_rules.specs.OneWord.{one_word}

@@ -2,8 +2,8 @@
 use Rattle.std.proofs.Common.{nat_le, leb-true, arith}
 use Rattle.std.specs.Prelude.{not, Option, Some}
 use Rattle.std.proofs.lemmas.Bool.{and_parts}
-use Rattle.ct_entries.specs.declared.claim.Side.TheVariants.{Lower}
-use Rattle.ct_entries.proofs.EntryLemmas.{entry_limits}
+use Rattle.ct_words.specs.declared.claim.Side.TheVariants.{Lower}
+use Rattle.ct_words.proofs.EntryLemmas.{entry_limits}
 use Rattle.ct_rule_parts.specs.declared.support.Support.{Support}
 use Rattle.ct_rule_parts.specs.Parts.{has_weight}
 use Rattle.ct_rule_parts.proofs.Constructions.{HasCode-two}

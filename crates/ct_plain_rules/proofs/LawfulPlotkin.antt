@@ -4,10 +4,10 @@ use Rattle.std.specs.Prelude.{Bool, true, false, ◌==◌, nat_le, nat_lt, if◌
 use Rattle.std.proofs.lemmas.Bool.{and_parts}
 use Rattle.std.proofs.lemmas.Bool.Decides.{nat_tests}
 use Rattle.ct_words.specs.declared.limits.TheConstants.{MAX_N, MAX_BOUND}
-use Rattle.ct_entries.specs.declared.claim.Side.TheVariants.{Upper}
-use Rattle.ct_entries.specs.Entry.{unrestricted}
-use Rattle.ct_entries.specs.Code.{IsTrueUpper}
-use Rattle.ct_entries.proofs.EntryLemmas.{entry_limits}
+use Rattle.ct_words.specs.declared.claim.Side.TheVariants.{Upper}
+use Rattle.ct_words.specs.Entry.{unrestricted}
+use Rattle.ct_words.specs.Code.{IsTrueUpper}
+use Rattle.ct_words.proofs.EntryLemmas.{entry_limits}
 use Rattle.ct_elementary.specs.Bounds.{plotkin_even, plotkin_odd, plotkin_value}
 use Rattle.ct_elementary.proofs.PlotkinRule.{even_sound, odd_sound, even_within}
 use Rattle.ct_rule_parts.specs.declared.support.Support.{Support}

@@ -5,9 +5,9 @@ use Rattle.std.proofs.lemmas.Nat.{le-div}
 use Rattle.ct_words.specs.Counting.Binomials.{volume}
 use Rattle.ct_words.proofs.Counting.Binomials.{one-le-volume, volume-le}
 use Rattle.ct_words.proofs.Counting.Spheres.{spread_hamming}
-use Rattle.ct_entries.specs.declared.claim.Side.TheVariants.{Upper}
-use Rattle.ct_entries.proofs.EntryLemmas.{entry_limits}
-use Rattle.ct_entries.proofs.DigitCodes.{bound_from_spread}
+use Rattle.ct_words.specs.declared.claim.Side.TheVariants.{Upper}
+use Rattle.ct_words.proofs.EntryLemmas.{entry_limits}
+use Rattle.ct_words.proofs.DigitCodes.{bound_from_spread}
 use Rattle.ct_elementary.specs.Bounds.{sphere_packing_value}
 use Rattle.ct_rule_parts.specs.declared.support.Support.{Support}
 use Rattle.ct_rule_parts.proofs.Lawful.{IsLawful, same_number, no_worse-same}

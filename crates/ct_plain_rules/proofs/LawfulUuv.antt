@@ -4,10 +4,10 @@ use Rattle.std.specs.Prelude.{cond, not, Option}
 use Rattle.std.proofs.Math.Nat.{mul-le-mul, mul-le-mul_left}
 use Rattle.std.proofs.lemmas.Bool.{and_parts, cases_lt, cond_both}
 use Rattle.ct_words.specs.declared.limits.TheConstants.{MAX_N}
-use Rattle.ct_entries.specs.declared.entry.Entry.{Entry}
-use Rattle.ct_entries.specs.declared.claim.Side.TheVariants.{Lower}
-use Rattle.ct_entries.specs.Entry.{IsEntry}
-use Rattle.ct_entries.proofs.EntryLemmas.{entry_limits}
+use Rattle.ct_words.specs.declared.entry.Entry.{Entry}
+use Rattle.ct_words.specs.declared.claim.Side.TheVariants.{Lower}
+use Rattle.ct_words.specs.Entry.{IsEntry}
+use Rattle.ct_words.proofs.EntryLemmas.{entry_limits}
 use Rattle.ct_rule_parts.specs.declared.support.Support.{Support}
 use Rattle.ct_rule_parts.specs.Slot.{AreNoBetter}
 use Rattle.ct_rule_parts.specs.Parts.{has_weight, half_up, first, second, slots_on}

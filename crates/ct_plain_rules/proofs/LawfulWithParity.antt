@@ -2,8 +2,8 @@
 use Rattle.std.proofs.Common.{◌≡◌, ◌+◌, ◌-◌, ◌%◌, ◌==◌, [], ◌∷◌, arith, eqb-true}
 use Rattle.std.specs.Prelude.{not, Option}
 use Rattle.std.proofs.lemmas.Bool.{and_parts}
-use Rattle.ct_entries.specs.declared.claim.Side.TheVariants.{Lower, Upper}
-use Rattle.ct_entries.proofs.EntryLemmas.{entry_limits}
+use Rattle.ct_words.specs.declared.claim.Side.TheVariants.{Lower, Upper}
+use Rattle.ct_words.proofs.EntryLemmas.{entry_limits}
 use Rattle.ct_rule_parts.specs.declared.support.Support.{Support}
 use Rattle.ct_rule_parts.specs.Parts.{has_weight, first}
 use Rattle.ct_rule_parts.proofs.Lawful.{IsLawful, LeadsBack, only_value, same_number, no_worse-other, first-no_better, defined_entry, defined_condition}

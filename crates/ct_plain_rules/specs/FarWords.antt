@@ -1,6 +1,6 @@
 -- Far words (MacWilliams and Sloane, chapter 1): two words differ at no more places than there are.
 use Rattle.std.specs.Prelude.{◌&&◌, nat_lt, [], not}
-use Rattle.ct_entries.specs.declared.claim.Side.TheVariants.{Upper}
+use Rattle.ct_words.specs.declared.claim.Side.TheVariants.{Upper}
 use Rattle.ct_elementary.specs.Bounds.{far_value}
 use Rattle.ct_rule_parts.specs.Parts.{RuleParts, has_weight}
 

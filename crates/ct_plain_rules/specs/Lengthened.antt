@@ -1,6 +1,6 @@
 -- A digit more (MacWilliams and Sloane, chapter 1): each word of a code of length n - 1 with a 0 after it makes a code of length n.
 use Rattle.std.specs.Prelude.{◌∷◌, [], not, Some}
-use Rattle.ct_entries.specs.declared.claim.Side.TheVariants.{Lower, Upper}
+use Rattle.ct_words.specs.declared.claim.Side.TheVariants.{Lower, Upper}
 use Rattle.ct_rule_parts.specs.Parts.{RuleParts, has_weight, first}
 use Rattle.ct_plain_rules.specs.Neighbours.{shorter, longer}
 

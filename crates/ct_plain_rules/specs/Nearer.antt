@@ -1,6 +1,6 @@
 -- A smaller distance (MacWilliams and Sloane, chapter 1): a code of distance d + 1 is one of distance d.
 use Rattle.std.specs.Prelude.{◌∷◌, [], not, Some}
-use Rattle.ct_entries.specs.declared.claim.Side.TheVariants.{Lower, Upper}
+use Rattle.ct_words.specs.declared.claim.Side.TheVariants.{Lower, Upper}
 use Rattle.ct_rule_parts.specs.Parts.{RuleParts, has_weight, first}
 use Rattle.ct_plain_rules.specs.Neighbours.{nearer, farther}
 

@@ -1,7 +1,7 @@
 -- Entries without weight beside an entry.
 use Rattle.std.specs.Prelude.{ℕ, ◌+◌, ◌-◌, ◌*◌, ◌/◌}
-use Rattle.ct_entries.specs.declared.entry.Entry.{Entry}
-use Rattle.ct_entries.specs.Entry.{unrestricted}
+use Rattle.ct_words.specs.declared.entry.Entry.{Entry}
+use Rattle.ct_words.specs.Entry.{unrestricted}
 
 -- words with a digit less
 abbrev pub shorter : Entry → Entry

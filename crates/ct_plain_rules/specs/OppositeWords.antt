@@ -1,6 +1,6 @@
 -- Two words (MacWilliams and Sloane, chapter 1): 0..0 and 1..1 differ at each of the n places.
 use Rattle.std.specs.Prelude.{◌&&◌, nat_le, [], not, Some}
-use Rattle.ct_entries.specs.declared.claim.Side.TheVariants.{Lower}
+use Rattle.ct_words.specs.declared.claim.Side.TheVariants.{Lower}
 use Rattle.ct_rule_parts.specs.Parts.{RuleParts, has_weight}
 
 -- where d ≤ n, A(n,d) is at least 2

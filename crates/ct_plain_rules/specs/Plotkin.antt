@@ -1,6 +1,6 @@
 -- The average distance of the words (Plotkin 1960; MacWilliams and Sloane, chapter 2, section 2).
 use Rattle.std.specs.Prelude.{◌&&◌, [], not, is_some}
-use Rattle.ct_entries.specs.declared.claim.Side.TheVariants.{Upper}
+use Rattle.ct_words.specs.declared.claim.Side.TheVariants.{Upper}
 use Rattle.ct_elementary.specs.Bounds.{plotkin_value}
 use Rattle.ct_rule_parts.specs.Parts.{RuleParts, has_weight}
 

@@ -1,6 +1,6 @@
 -- A place left out (MacWilliams and Sloane, chapter 1, section 9): the words of a code of length n + 1 and distance d + 1 without a place are a code of length n and distance d.
 use Rattle.std.specs.Prelude.{◌∷◌, [], not, Some}
-use Rattle.ct_entries.specs.declared.claim.Side.TheVariants.{Lower, Upper}
+use Rattle.ct_words.specs.declared.claim.Side.TheVariants.{Lower, Upper}
 use Rattle.ct_rule_parts.specs.Parts.{RuleParts, has_weight, first}
 use Rattle.ct_plain_rules.specs.Neighbours.{shorter_and_nearer, longer_and_farther}
 

@@ -1,6 +1,6 @@
 -- Shortened codes (MacWilliams and Sloane, chapter 1, section 9): the words with a 0 and those with a 1 at a place, without it, are codes of length n - 1.
 use Rattle.std.specs.Prelude.{◌*◌, ◌∷◌, [], not, Some}
-use Rattle.ct_entries.specs.declared.claim.Side.TheVariants.{Lower, Upper}
+use Rattle.ct_words.specs.declared.claim.Side.TheVariants.{Lower, Upper}
 use Rattle.ct_rule_parts.specs.Parts.{RuleParts, has_weight, half_up, first}
 use Rattle.ct_plain_rules.specs.Neighbours.{shorter, longer}
 

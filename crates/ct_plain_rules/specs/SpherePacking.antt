@@ -1,6 +1,6 @@
 -- Sphere packing (Hamming 1950; MacWilliams and Sloane, chapter 1, section 5): the balls about the words have no word in common.
 use Rattle.std.specs.Prelude.{[], not, Some}
-use Rattle.ct_entries.specs.declared.claim.Side.TheVariants.{Upper}
+use Rattle.ct_words.specs.declared.claim.Side.TheVariants.{Upper}
 use Rattle.ct_elementary.specs.Bounds.{sphere_packing_value}
 use Rattle.ct_rule_parts.specs.Parts.{RuleParts, has_weight}
 

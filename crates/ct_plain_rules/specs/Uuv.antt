@@ -1,8 +1,8 @@
 -- u followed by u + v (MacWilliams and Sloane, chapter 2, section 9): for all u of a code of length m and distance ⌈d/2⌉, all words of even
 -- weight where d is 3 or 4, and all v of a code of length m and distance d, a code of length 2m and distance d.
 use Rattle.std.specs.Prelude.{ℕ, ◌-◌, ◌*◌, ◌/◌, ◌%◌, ◌^◌, ◌==◌, ◌&&◌, nat_lt, if◌then◌else◌, List, ◌∷◌, [], not, Some}
-use Rattle.ct_entries.specs.declared.claim.Side.TheVariants.{Lower}
-use Rattle.ct_entries.specs.declared.entry.Entry.{Entry}
+use Rattle.ct_words.specs.declared.claim.Side.TheVariants.{Lower}
+use Rattle.ct_words.specs.declared.entry.Entry.{Entry}
 use Rattle.ct_rule_parts.specs.Parts.{RuleParts, has_weight, half_up, first, second}
 use Rattle.ct_plain_rules.specs.Neighbours.{half_as_long}
 

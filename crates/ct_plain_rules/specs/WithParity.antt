@@ -1,6 +1,6 @@
 -- A parity digit (MacWilliams and Sloane, chapter 1, section 9): each word of a code of odd distance d - 1 with the parity of its weight after it makes a code of distance d.
 use Rattle.std.specs.Prelude.{◌%◌, ◌==◌, ◌&&◌, ◌∷◌, [], not, Some}
-use Rattle.ct_entries.specs.declared.claim.Side.TheVariants.{Lower, Upper}
+use Rattle.ct_words.specs.declared.claim.Side.TheVariants.{Lower, Upper}
 use Rattle.ct_rule_parts.specs.Parts.{RuleParts, has_weight, first}
 use Rattle.ct_plain_rules.specs.Neighbours.{shorter_and_nearer, longer_and_farther}
 

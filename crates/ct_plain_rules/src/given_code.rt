@@ -1,7 +1,7 @@
 //! A code that is handed in.
 
 ghost use Rattle.std.specs.Prelude.{◌≡◌, true, false, [], Some, None};
-ghost use Rattle.ct_entries.specs.Entry.{unrestricted, constant_weight};
+ghost use Rattle.ct_words.specs.Entry.{unrestricted, constant_weight};
 ghost use Rattle.ct_rule_parts.specs.declared.support.Support.TheVariants.{Nothing, Size};
 ghost use Rattle.ct_rule_parts.specs.Parts.{is_defined};
 ghost use Rattle.ct_plain_rules.specs.GivenCode.{given_code};

@@ -2,14 +2,14 @@
 
 ghost use Rattle.std.specs.Prelude.{◌≡◌, ◌+◌, ℕ, true, false, ◌∷◌, [], Some};
 ghost use Rattle.ct_words.specs.declared.limits.TheConstants.{MAX_N};
-ghost use Rattle.ct_entries.specs.declared.entry.Entry.{Entry};
-ghost use Rattle.ct_entries.specs.Entry.{unrestricted, constant_weight};
+ghost use Rattle.ct_words.specs.declared.entry.Entry.{Entry};
+ghost use Rattle.ct_words.specs.Entry.{unrestricted, constant_weight};
 ghost use Rattle.ct_rule_parts.specs.Entries.{listed};
 ghost use Rattle.ct_rule_parts.specs.Parts.{is_defined};
 ghost use Rattle.ct_plain_rules.specs.Juxtaposition.{juxtaposition};
 
-use ct_entries::Entry;
 use ct_rule_parts::Entries;
+use ct_words::Entry;
 
 /// The entries of the premises of L11 with the length m and the distance c: A(m,c), and A(n−m,d−c).
 pub fn parts_of_juxtaposition(m: u32, c: u32, entry: Entry) -> Entries<'static>

@@ -1,10 +1,10 @@
 //! Entries without weight beside an entry of the table.
 
 ghost use Rattle.std.specs.Prelude.{◌≡◌, None};
-ghost use Rattle.ct_entries.specs.Entry.{IsEntry};
+ghost use Rattle.ct_words.specs.Entry.{IsEntry};
 ghost use Rattle.ct_plain_rules.specs.Neighbours.{shorter, longer, nearer, farther, shorter_and_nearer, longer_and_farther, half_as_long, twice_as_long};
 
-use ct_entries::Entry;
+use ct_words::Entry;
 
 /// The entry A(n,d).
 fn plain(n: u32, d: u32) -> Entry

@@ -2,16 +2,16 @@
 
 ghost use Rattle.std.specs.Prelude.{◌≡◌, ◌/◌, ◌+◌, true, false, ◌^◌, ◌∷◌, [], Some, None};
 ghost use Rattle.ct_words.specs.declared.limits.TheConstants.{MAX_N, MAX_BOUND};
-ghost use Rattle.ct_entries.specs.declared.claim.Side.TheVariants.{Lower};
-ghost use Rattle.ct_entries.specs.Entry.{IsEntry, unrestricted, constant_weight};
+ghost use Rattle.ct_words.specs.declared.claim.Side.TheVariants.{Lower};
+ghost use Rattle.ct_words.specs.Entry.{IsEntry, unrestricted, constant_weight};
 ghost use Rattle.ct_rule_parts.specs.Entries.{listed};
 ghost use Rattle.ct_rule_parts.specs.Parts.{is_defined, within_limit};
 ghost use Rattle.ct_plain_rules.specs.Inside.RestedOn.{by_uuv};
 ghost use Rattle.ct_plain_rules.specs.Uuv.{uuv};
 
 use crate::neighbours::{half_as_long, twice_as_long};
-use ct_entries::Entry;
 use ct_rule_parts::{Entries, first, second};
+use ct_words::Entry;
 
 /// The entries of L8's premises: from distance 5 on the codes of the u come first.
 pub fn parts_of_uuv(entry: Entry) -> Entries<'static>

@@ -9,8 +9,8 @@ use Rattle.std.proofs.lemmas.List.Elements.{recursion_from_All}
 use Rattle.ct_words.specs.Counting.Sums.{total}
 use Rattle.ct_words.specs.Counting.Alternating.{total_below}
 use Rattle.ct_words.proofs.Counting.Totals.{total-congruence_within}
-use Rattle.ct_entries.specs.Pairs.{first_of}
-use Rattle.ct_entries.specs.Numbers.{multiplier, combination}
+use Rattle.ct_words.specs.Pairs.{first_of}
+use Rattle.ct_words.specs.Numbers.{multiplier, combination}
 use Rattle.ct_duals.specs.declared.dual.Dual.{Dual}
 use Rattle.ct_duals.specs.Dual.{as_index, degree_of, Fits, IsDual, allowed, is_in_range}
 use Rattle.ct_duals.specs.Check.{first_below, dual_fault}

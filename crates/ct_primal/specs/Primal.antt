@@ -2,12 +2,12 @@
 use Rattle.std.specs.Prelude.{◌≡◌, ℕ, suc, ◌/◌, ◌%◌, ◌<◌, ◌≤◌, min, true, ◌&&◌, nat_le, if◌then◌else◌, Bool, IsTrue, List, ℤ, pos, ◌+ℤ◌, ◌*ℤ◌, ◌≤ℤ◌, int_lt, All, AllPairs, Option, Some, None}
 use Rattle.ct_words.specs.declared.limits.TheConstants.{MAX_BOUND}
 use Rattle.ct_words.specs.Counting.Sums.{total}
-use Rattle.ct_entries.specs.Entry.{IsEntry}
-use Rattle.ct_entries.specs.Pairs.{first_of}
+use Rattle.ct_words.specs.Entry.{IsEntry}
+use Rattle.ct_words.specs.Pairs.{first_of}
 use Rattle.ct_duals.specs.Dual.{degree_of, is_in_range, IsMarkOf}
 use Rattle.ct_duals.specs.Check.{first_below}
 use Rattle.ct_duals.specs.Bound.{natural}
-use Rattle.ct_entries.specs.declared.entry.Entry.{Entry}
+use Rattle.ct_words.specs.declared.entry.Entry.{Entry}
 use Rattle.ct_primal.specs.declared.primal_fault.PrimalFault.{PrimalFault}
 use Rattle.ct_primal.specs.declared.primal_fault.PrimalFault.TheVariants.{Scale, Below}
 

@@ -1,6 +1,6 @@
 //! Primals.
 
-use ct_entries::Entry;
+use ct_words::Entry;
 use std::marker::Model;
 
 /// A solution of Delsarte's linear program for the codes of an entry over a common scale (Delsarte 1973; MacWilliams and Sloane,

@@ -4,7 +4,7 @@ ghost use Rattle.std.specs.Prelude.{◌≡◌, ◌≤◌, ◌<◌, ◌+◌, ◌*
 ghost use Rattle.std.specs.Result.{result_err};
 ghost use Rattle.ct_words.specs.declared.limits.TheConstants.{MAX_BOUND, MAX_N};
 ghost use Rattle.ct_words.specs.Counting.Sums.{total};
-ghost use Rattle.ct_entries.specs.Numbers.{combination};
+ghost use Rattle.ct_words.specs.Numbers.{combination};
 ghost use Rattle.ct_duals.specs.declared.dual.Dual.{Dual};
 ghost use Rattle.ct_duals.specs.Dual.{Fits, IsDual, degree_of};
 ghost use Rattle.ct_duals.specs.Check.{first_below, dual_fault};
@@ -13,8 +13,7 @@ ghost use Rattle.ct_primal.specs.Primal.{IsPrimal, transformed, whole, primal_fa
 
 use crate::primal::Primal;
 use crate::primal_fault::PrimalFault;
-use ct_entries::{Scheme, add_product};
-use ct_words::MAX_BOUND;
+use ct_words::{MAX_BOUND, Scheme, add_product};
 
 /// The value of the primal, where its scale is above 0 and no transformed number is below 0: the least of `MAX_BOUND` and ⌊(q + the
 /// sum of the a_i)/q⌋. No dual of the same entry and the same mark that is accepted, and allows nothing, has a bound below it. The

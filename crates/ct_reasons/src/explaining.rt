@@ -1,7 +1,7 @@
 //! The best bounds of a table with their explanations.
 
 ghost use Rattle.std.specs.Prelude.{◌≡◌, ◌<◌, ℕ, IfOk, length, slice_get, Some};
-ghost use Rattle.ct_entries.specs.Entry.{IsEntry};
+ghost use Rattle.ct_words.specs.Entry.{IsEntry};
 ghost use Rattle.ct_rule_parts.specs.Slot.{slot_of};
 ghost use Rattle.ct_rules.specs.Derivation.{LineValue, IsBest};
 ghost use Rattle.ct_table.specs.Table.{IsShownTable};
@@ -12,9 +12,9 @@ ghost use Rattle.ct_derive.specs.Pieces.{AreEarlier, AreNeeded};
 use crate::marking::needed_lines;
 use crate::pruning::marked_lines;
 use ct_derive::{Derivation, PieceParts, needed_pieces};
-use ct_entries::{Entry, Side};
 use ct_rules::Line;
 use ct_table::Table;
+use ct_words::{Entry, Side};
 use std::alloc::{AllocError, Global};
 
 /// The lines of the table that the one at a place needs, and this as the last: an explanation of its claim. `Err` is want of

@@ -6,7 +6,7 @@ use Rattle.std.specs.List.{flat_map}
 use Rattle.std.proofs.lemmas.Grind.{flat_map-append}
 use Rattle.std.proofs.Math.Seq.{take-add}
 use Rattle.std.proofs.lemmas.List.{take-append-drop}
-use Rattle.ct_entries.specs.Code.{CodeValue}
+use Rattle.ct_words.specs.Code.{CodeValue}
 use Rattle.ct_text.specs.EntryText.{weight_word}
 use Rattle.ct_pieces.specs.Piece.{PieceValue}
 use Rattle.ct_pieces.specs.Dump.{piece_dump, dump_text}

@@ -1,9 +1,8 @@
 //! Replies to commands.
 
-use ct_entries::{Code, Entry};
 use ct_pieces::{SubmitFault, WithdrawFault};
 use ct_text::{Id, Text};
-use ct_words::Listed;
+use ct_words::{Code, Entry, Listed};
 
 /// Why a command is refused.
 #[derive(Drop)]

@@ -10,15 +10,15 @@ use Rattle.std.proofs.lemmas.Nat.{le-div}
 use Rattle.std.proofs.lemmas.List.Sorted.{length_permutation}
 use Rattle.ct_words.specs.declared.limits.TheConstants.{MAX_N}
 use Rattle.ct_words.proofs.WordLemmas.{weight-ones}
-use Rattle.ct_entries.specs.declared.entry.Entry.{Entry}
-use Rattle.ct_entries.specs.Entry.{IsEntry}
-use Rattle.ct_entries.specs.Code.{IsCode, IsSoundCode}
-use Rattle.ct_entries.proofs.BoundLemmas.{one_word_code}
-use Rattle.ct_entries.proofs.EntryLemmas.{WeightFits, entry_limits}
-use Rattle.ct_entries.specs.Constructions.Joined.{followed_by}
-use Rattle.ct_entries.specs.Constructions.Translation.{all_ones}
-use Rattle.ct_entries.proofs.Constructions.JoinedLemmas.{followed_by-lt}
-use Rattle.ct_entries.proofs.Constructions.SortedCodes.{sound_from_sort}
+use Rattle.ct_words.specs.declared.entry.Entry.{Entry}
+use Rattle.ct_words.specs.Entry.{IsEntry}
+use Rattle.ct_words.specs.Code.{IsCode, IsSoundCode}
+use Rattle.ct_words.proofs.BoundLemmas.{one_word_code}
+use Rattle.ct_words.proofs.EntryLemmas.{WeightFits, entry_limits}
+use Rattle.ct_words.specs.Constructions.Joined.{followed_by}
+use Rattle.ct_words.specs.Constructions.Translation.{all_ones}
+use Rattle.ct_words.proofs.Constructions.JoinedLemmas.{followed_by-lt}
+use Rattle.ct_words.proofs.Constructions.SortedCodes.{sound_from_sort}
 use Rattle.ct_rule_parts.proofs.Constructions.{IsCode-two}
 use Rattle.ct_weight_rules.proofs.DisjointWords.{side_by_side, length-side_by_side, IsCode-side_by_side}
 

@@ -5,10 +5,10 @@ use Rattle.std.proofs.Math.Nat.{mul-le-mul}
 use Rattle.std.proofs.lemmas.Grind.{div_ceil_times}
 use Rattle.ct_words.specs.declared.limits.TheConstants.{MAX_N}
 use Rattle.ct_words.specs.Word.{weight}
-use Rattle.ct_entries.specs.Code.{CodeValue, IsSoundCode}
-use Rattle.ct_entries.proofs.CheckLemmas.{code_size-le}
-use Rattle.ct_entries.specs.Constructions.Shortened.{shortened}
-use Rattle.ct_entries.proofs.Constructions.ShortenedCodes.{halves-shortened}
+use Rattle.ct_words.specs.Code.{CodeValue, IsSoundCode}
+use Rattle.ct_words.proofs.CheckLemmas.{code_size-le}
+use Rattle.ct_words.specs.Constructions.Shortened.{shortened}
+use Rattle.ct_words.proofs.Constructions.ShortenedCodes.{halves-shortened}
 
 -- a number up to the length times the number of words fits 64 bits
 pub few_digits : (c : CodeValue) (k : ℕ) → IsSoundCode c → k ≤ c.n → k * length c.words < 2 ^ 64

@@ -1,6 +1,6 @@
 -- The entry of a code.
-use Rattle.ct_entries.specs.declared.entry.Entry.{Entry}
-use Rattle.ct_entries.specs.Code.{CodeValue}
+use Rattle.ct_words.specs.declared.entry.Entry.{Entry}
+use Rattle.ct_words.specs.Code.{CodeValue}
 
 -- its length, its distance, and its weight where it has one
 abbrev pub entry_of_code : CodeValue → Entry

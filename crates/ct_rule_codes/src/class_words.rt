@@ -1,12 +1,12 @@
 //! The code of a sum class.
 
 ghost use Rattle.std.specs.Prelude.{◌≡◌, [], length, true, IfOk, Some};
-ghost use Rattle.ct_entries.specs.Entry.{IsEntry};
+ghost use Rattle.ct_words.specs.Entry.{IsEntry};
 ghost use Rattle.ct_rule_codes.specs.CodeEntry.{entry_of_code};
 ghost use Rattle.ct_weight_rules.specs.GrahamSloane.{graham_sloane};
 
-use ct_entries::{Code, Entry};
 use ct_sum_classes::sum_class_list;
+use ct_words::{Code, Entry};
 use std::alloc::{AllocError, Global};
 
 /// The words of the length and the weight of the entry, which is in the table, the places of whose ones add up to r modulo the

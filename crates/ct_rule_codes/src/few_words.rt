@@ -2,14 +2,13 @@
 
 ghost use Rattle.std.specs.Prelude.{◌≡◌, ◌<◌, ◌≤◌, ◌*◌, ◌/◌, true, length, IfOk, None, Some};
 ghost use Rattle.ct_words.specs.declared.limits.TheConstants.{MAX_N};
-ghost use Rattle.ct_entries.specs.Code.{IsSoundCode};
-ghost use Rattle.ct_entries.specs.Entry.{IsEntry};
-ghost use Rattle.ct_entries.specs.Constructions.Translation.{all_ones};
+ghost use Rattle.ct_words.specs.Code.{IsSoundCode};
+ghost use Rattle.ct_words.specs.Entry.{IsEntry};
+ghost use Rattle.ct_words.specs.Constructions.Translation.{all_ones};
 ghost use Rattle.ct_rule_codes.specs.CodeEntry.{entry_of_code};
 ghost use Rattle.ct_weight_rules.proofs.DisjointWords.{side_by_side};
 
-use ct_entries::{Code, Entry};
-use ct_words::Word;
+use ct_words::{Code, Entry, Word};
 use std::alloc::{AllocError, Global};
 
 /// A code of one word of the entry, which is in the table: a word of its weight, the word 0 where it has none. `Err` is

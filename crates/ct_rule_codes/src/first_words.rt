@@ -2,7 +2,7 @@
 
 ghost use Rattle.std.specs.Prelude.{◌≡◌, ◌≤◌, length, take};
 
-use ct_entries::Code;
+use ct_words::Code;
 
 /// The first words of the code, so many: a code of the same length, distance and weight. It takes no memory.
 pub(crate) fn first_words(code: Code, size: usize) -> Code

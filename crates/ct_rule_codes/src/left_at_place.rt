@@ -2,13 +2,12 @@
 
 ghost use Rattle.std.specs.Prelude.{◌≡◌, ◌-◌, ◌*◌, ◌/◌, ◌%◌, ◌^◌, ◌==◌, ◌<◌, ◌≤◌, [], ◌∷◌, ℕ, length, count_by, option_map, IfOk, None, Some};
 ghost use Rattle.std.specs.Int.{div_ceil};
-ghost use Rattle.ct_entries.specs.Constructions.Shortened.{shortened};
+ghost use Rattle.ct_words.specs.Constructions.Shortened.{shortened};
 ghost use Rattle.ct_rule_parts.specs.Parts.{half_up};
 
 use crate::first_words::first_words;
 use ct_build::shorten;
-use ct_entries::Code;
-use ct_words::Word;
+use ct_words::{Code, Word};
 use std::alloc::{AllocError, Global};
 
 /// Of the words of the part that have the more frequent digit at the first place, the first ⌈v/2⌉, without it: a code of length

@@ -2,7 +2,7 @@
 
 ghost use Rattle.std.specs.Prelude.{◌≡◌, ◌≤◌, ◌⊎◌, None};
 
-use ct_entries::Code;
+use ct_words::Code;
 
 /// The code as one of a distance that is no greater, from 1 on, with its own weight or without one: the same words. It
 /// takes no memory.

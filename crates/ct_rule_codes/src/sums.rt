@@ -4,7 +4,7 @@ ghost use Rattle.std.specs.Prelude.{◌≡◌, ◌-◌, ◌*◌, ◌^◌, ◌≤
 ghost use Rattle.ct_words.specs.declared.limits.TheConstants.{MAX_N};
 
 use ct_build::{even_words, uuv};
-use ct_entries::Code;
+use ct_words::Code;
 use std::alloc::{AllocError, Global};
 
 /// The words u followed by u + v, for all words u of even weight of length n, and each word v of the part, a code of this

@@ -8,24 +8,24 @@ use Rattle.std.proofs.lemmas.List.Elements.{All-nil, All-cons}
 use Rattle.std.proofs.lemmas.List.Kept.{AllPairs-cons}
 use Rattle.ct_words.specs.Word.{digit, distance, IsSum}
 use Rattle.ct_words.proofs.WordLemmas.{distance-is_weight, weight-ones}
-use Rattle.ct_entries.specs.Entry.{unrestricted, constant_weight}
-use Rattle.ct_entries.specs.Code.{IsCode, IsTrueLower}
-use Rattle.ct_entries.specs.Constructions.Even.{even_from, even_words}
-use Rattle.ct_entries.specs.Constructions.Append.{lengthened, with_parity}
-use Rattle.ct_entries.specs.Constructions.Translation.{all_ones}
-use Rattle.ct_entries.specs.Constructions.Places.{ArePlaces}
-use Rattle.ct_entries.specs.Constructions.Punctured.{punctured}
-use Rattle.ct_entries.specs.Constructions.Shortened.{shortened}
-use Rattle.ct_entries.specs.Constructions.Uuv.{uuv_words}
-use Rattle.ct_entries.specs.Constructions.Juxtaposed.{juxtaposed}
-use Rattle.ct_entries.proofs.Constructions.FarWords.{AreFar, code_from_far}
-use Rattle.ct_entries.proofs.Constructions.FrontLemmas.{IsCode-nearer, IsCode-unweighted}
-use Rattle.ct_entries.proofs.Constructions.AppendLemmas.{IsCode-lengthened, IsCode-with_parity, length-lengthened, length-with_parity}
-use Rattle.ct_entries.proofs.Constructions.EvenLemmas.{IsCode-even_words, length-even_words}
-use Rattle.ct_entries.proofs.Constructions.PuncturedCodes.{IsCode-punctured, length-punctured}
-use Rattle.ct_entries.proofs.Constructions.ShortenedCodes.{IsCode-shortened, halves-shortened}
-use Rattle.ct_entries.proofs.Constructions.UuvCodes.{IsCode-uuv, length-uuv_words}
-use Rattle.ct_entries.proofs.Constructions.JuxtaposedCodes.{IsCode-juxtaposed, length-juxtaposed}
+use Rattle.ct_words.specs.Entry.{unrestricted, constant_weight}
+use Rattle.ct_words.specs.Code.{IsCode, IsTrueLower}
+use Rattle.ct_words.specs.Constructions.Even.{even_from, even_words}
+use Rattle.ct_words.specs.Constructions.Append.{lengthened, with_parity}
+use Rattle.ct_words.specs.Constructions.Translation.{all_ones}
+use Rattle.ct_words.specs.Constructions.Places.{ArePlaces}
+use Rattle.ct_words.specs.Constructions.Punctured.{punctured}
+use Rattle.ct_words.specs.Constructions.Shortened.{shortened}
+use Rattle.ct_words.specs.Constructions.Uuv.{uuv_words}
+use Rattle.ct_words.specs.Constructions.Juxtaposed.{juxtaposed}
+use Rattle.ct_words.proofs.Constructions.FarWords.{AreFar, code_from_far}
+use Rattle.ct_words.proofs.Constructions.FrontLemmas.{IsCode-nearer, IsCode-unweighted}
+use Rattle.ct_words.proofs.Constructions.AppendLemmas.{IsCode-lengthened, IsCode-with_parity, length-lengthened, length-with_parity}
+use Rattle.ct_words.proofs.Constructions.EvenLemmas.{IsCode-even_words, length-even_words}
+use Rattle.ct_words.proofs.Constructions.PuncturedCodes.{IsCode-punctured, length-punctured}
+use Rattle.ct_words.proofs.Constructions.ShortenedCodes.{IsCode-shortened, halves-shortened}
+use Rattle.ct_words.proofs.Constructions.UuvCodes.{IsCode-uuv, length-uuv_words}
+use Rattle.ct_words.proofs.Constructions.JuxtaposedCodes.{IsCode-juxtaposed, length-juxtaposed}
 use Rattle.ct_rule_parts.specs.Parts.{half_up}
 use Rattle.ct_rule_parts.proofs.SlotLemmas.{IsTrueLower-fewer}
 

@@ -4,9 +4,9 @@ use Rattle.std.specs.Prelude.{Bool, true, false, cond, if◌then◌else◌, is_s
 use Rattle.std.proofs.lemmas.Bool.{and_from, false≢true}
 use Rattle.std.proofs.lemmas.Option.{cond_some, none-some}
 use Rattle.std.proofs.lemmas.List.Elements.{All-head, All-tail}
-use Rattle.ct_entries.specs.declared.entry.Entry.{Entry}
-use Rattle.ct_entries.specs.Entry.{IsEntry, is_entry, same_entry}
-use Rattle.ct_entries.proofs.EntryLemmas.{same_entry_is, same_entry-self}
+use Rattle.ct_words.specs.declared.entry.Entry.{Entry}
+use Rattle.ct_words.specs.Entry.{IsEntry, is_entry, same_entry}
+use Rattle.ct_words.proofs.EntryLemmas.{same_entry_is, same_entry-self}
 use Rattle.ct_duals.specs.Bound.{AcceptedValue}
 use Rattle.ct_rule_parts.specs.declared.support.Support.{Support}
 use Rattle.ct_rule_parts.specs.declared.support.Support.TheVariants.{Nothing, Size, Bound, Odd, Local}

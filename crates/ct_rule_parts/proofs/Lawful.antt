@@ -6,14 +6,14 @@ use Rattle.std.proofs.lemmas.Bool.{and_parts}
 use Rattle.std.proofs.lemmas.List.Elements.{All-head, All-tail}
 use Rattle.std.proofs.lemmas.Option.{same_Some, cond_some, none-some}
 use Rattle.ct_words.specs.declared.limits.TheConstants.{MAX_N}
-use Rattle.ct_entries.specs.declared.claim.Side.{Side}
-use Rattle.ct_entries.specs.declared.claim.Side.TheVariants.{Lower}
-use Rattle.ct_entries.specs.declared.claim.Claim.{Claim}
-use Rattle.ct_entries.specs.declared.entry.Entry.{Entry}
-use Rattle.ct_entries.specs.Claim.{IsTrueClaim, IsTrueOn}
-use Rattle.ct_entries.specs.Entry.{IsEntry, is_entry, same_entry}
-use Rattle.ct_entries.proofs.EntryLemmas.{same_entry_is}
-use Rattle.ct_entries.proofs.BoundLemmas.{one_is_lower}
+use Rattle.ct_words.specs.declared.claim.Side.{Side}
+use Rattle.ct_words.specs.declared.claim.Side.TheVariants.{Lower}
+use Rattle.ct_words.specs.declared.claim.Claim.{Claim}
+use Rattle.ct_words.specs.declared.entry.Entry.{Entry}
+use Rattle.ct_words.specs.Claim.{IsTrueClaim, IsTrueOn}
+use Rattle.ct_words.specs.Entry.{IsEntry, is_entry, same_entry}
+use Rattle.ct_words.proofs.EntryLemmas.{same_entry_is}
+use Rattle.ct_words.proofs.BoundLemmas.{one_is_lower}
 use Rattle.ct_rule_parts.specs.declared.support.Support.{Support}
 use Rattle.ct_rule_parts.specs.declared.support.Support.TheVariants.{Nothing, Size, Bound, Odd, Local}
 use Rattle.ct_rule_parts.specs.Parts.{RuleParts, first, second, are_entries, is_defined, slots_on}

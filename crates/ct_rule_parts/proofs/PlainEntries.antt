@@ -1,8 +1,8 @@
 -- Entries without weight.
 use Rattle.std.proofs.Common.{◌≡◌, ℕ, List, [], ◌∷◌, Contains, zero, suc, refl, sym, subst, arith}
 use Rattle.std.specs.Prelude.{not, is_some, true, Option, Some, None}
-use Rattle.ct_entries.specs.declared.entry.Entry.{Entry}
-use Rattle.ct_entries.specs.Entry.{unrestricted}
+use Rattle.ct_words.specs.declared.entry.Entry.{Entry}
+use Rattle.ct_words.specs.Entry.{unrestricted}
 use Rattle.ct_rule_parts.specs.Parts.{has_weight}
 
 -- the entry has no weight

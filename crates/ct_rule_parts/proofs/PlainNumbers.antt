@@ -1,10 +1,10 @@
 -- True numbers of entries without weight, from codes and from bounds of codes.
 use Rattle.std.proofs.Common.{◌≡◌, ℕ, ◌+◌, ◌%◌, ◌≤◌, length, refl, sym, subst, arith}
-use Rattle.ct_entries.specs.declared.entry.Entry.{Entry}
-use Rattle.ct_entries.specs.declared.claim.Side.TheVariants.{Lower, Upper}
-use Rattle.ct_entries.specs.Entry.{unrestricted}
-use Rattle.ct_entries.specs.Code.{IsTrueLower, IsTrueUpper}
-use Rattle.ct_entries.specs.Constructions.Even.{even_from}
+use Rattle.ct_words.specs.declared.entry.Entry.{Entry}
+use Rattle.ct_words.specs.declared.claim.Side.TheVariants.{Lower, Upper}
+use Rattle.ct_words.specs.Entry.{unrestricted}
+use Rattle.ct_words.specs.Code.{IsTrueLower, IsTrueUpper}
+use Rattle.ct_words.specs.Constructions.Even.{even_from}
 use Rattle.ct_rule_parts.proofs.Constructions.{HasCode, HasCode-parity}
 use Rattle.ct_rule_parts.proofs.Lawful.{IsTrueNumber}
 use Rattle.ct_rule_parts.proofs.PlainEntries.{Weightless}

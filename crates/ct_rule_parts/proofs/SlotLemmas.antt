@@ -3,12 +3,12 @@ use Rattle.std.proofs.Common.{◌≡◌, ℕ, zero, suc, ◌<◌, ◌≤◌, Lis
 use Rattle.std.specs.Prelude.{◌⊎◌}
 use Rattle.std.proofs.lemmas.Bool.{cases_lt}
 use Rattle.std.proofs.lemmas.List.{length-take-le}
-use Rattle.ct_entries.specs.declared.entry.Entry.{Entry}
-use Rattle.ct_entries.specs.declared.claim.Side.{Side}
-use Rattle.ct_entries.specs.declared.claim.Side.TheVariants.{Lower, Upper}
-use Rattle.ct_entries.specs.Code.{IsTrueLower}
-use Rattle.ct_entries.specs.Claim.{IsTrueOn}
-use Rattle.ct_entries.proofs.Constructions.FrontLemmas.{IsCode-take}
+use Rattle.ct_words.specs.declared.entry.Entry.{Entry}
+use Rattle.ct_words.specs.declared.claim.Side.{Side}
+use Rattle.ct_words.specs.declared.claim.Side.TheVariants.{Lower, Upper}
+use Rattle.ct_words.specs.Code.{IsTrueLower}
+use Rattle.ct_words.specs.Claim.{IsTrueOn}
+use Rattle.ct_words.proofs.Constructions.FrontLemmas.{IsCode-take}
 use Rattle.ct_rule_parts.specs.Slot.{IsNoBetter, AreNoBetter}
 
 -- where some code has u words, some code has v ≤ u

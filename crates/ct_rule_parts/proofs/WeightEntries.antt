@@ -2,13 +2,13 @@
 use Rattle.std.proofs.Common.{◌≡◌, ℕ, ◌-◌, ◌≤◌, refl, sym, ap, subst, ◌∙◌, arith}
 use Rattle.std.specs.Prelude.{Some}
 use Rattle.std.specs.Option.{unwrap_or}
-use Rattle.ct_entries.specs.declared.entry.Entry.{Entry}
-use Rattle.ct_entries.specs.declared.claim.Side.TheVariants.{Lower, Upper}
-use Rattle.ct_entries.specs.Entry.{IsEntry, constant_weight}
-use Rattle.ct_entries.specs.Code.{IsCode, IsTrueLower, IsTrueUpper}
-use Rattle.ct_entries.proofs.EntryLemmas.{WeightFits, entry_limits}
-use Rattle.ct_entries.specs.Constructions.Translation.{complemented}
-use Rattle.ct_entries.proofs.Constructions.TranslationLemmas.{IsCode-complemented, length-complemented}
+use Rattle.ct_words.specs.declared.entry.Entry.{Entry}
+use Rattle.ct_words.specs.declared.claim.Side.TheVariants.{Lower, Upper}
+use Rattle.ct_words.specs.Entry.{IsEntry, constant_weight}
+use Rattle.ct_words.specs.Code.{IsCode, IsTrueLower, IsTrueUpper}
+use Rattle.ct_words.proofs.EntryLemmas.{WeightFits, entry_limits}
+use Rattle.ct_words.specs.Constructions.Translation.{complemented}
+use Rattle.ct_words.proofs.Constructions.TranslationLemmas.{IsCode-complemented, length-complemented}
 use Rattle.ct_rule_parts.specs.Parts.{weight_of}
 use Rattle.ct_rule_parts.proofs.Lawful.{IsTrueNumber}
 use Rattle.ct_rule_parts.proofs.PlainEntries.{Weighted}

@@ -1,6 +1,6 @@
 -- Entries in a row as a list.
 use Rattle.std.specs.Prelude.{List, [], ◌∷◌}
-use Rattle.ct_entries.specs.declared.entry.Entry.{Entry}
+use Rattle.ct_words.specs.declared.entry.Entry.{Entry}
 use Rattle.ct_duals.specs.Bound.{dual_premises}
 use Rattle.ct_rule_parts.specs.declared.entries.Entries.{Entries}
 use Rattle.ct_rule_parts.specs.declared.entries.Entries.TheVariants.{Zero, One, Two, Three, OfDual}

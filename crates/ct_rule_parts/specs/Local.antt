@@ -1,6 +1,6 @@
 -- Duals of entries with weight, beside bounds of the doubly constant codes about a word (Johnson 1972; Agrell, Vardy and Zeger 2000).
 use Rattle.std.specs.Prelude.{ℕ, ◌-◌, min, List, [], ◌∷◌, map}
-use Rattle.ct_entries.specs.declared.entry.Entry.{Entry}
+use Rattle.ct_words.specs.declared.entry.Entry.{Entry}
 use Rattle.ct_duals.specs.declared.dual.Dual.{Dual}
 use Rattle.ct_duals.specs.Bound.{AcceptedValue, positive}
 use Rattle.ct_duals.specs.Local.{local_bound}

@@ -2,10 +2,10 @@
 use Rattle.std.specs.Prelude.{ℕ, ◌+◌, ◌/◌, ◌&&◌, nat_le, min, Bool, true, if◌then◌else◌, List, [], ◌∷◌, map, is_some, Option, Some, None}
 use Rattle.std.specs.Option.{unwrap_or}
 use Rattle.ct_words.specs.declared.limits.TheConstants.{MAX_BOUND}
-use Rattle.ct_entries.specs.declared.entry.Entry.{Entry}
-use Rattle.ct_entries.specs.declared.claim.Side.{Side}
-use Rattle.ct_entries.specs.declared.claim.Side.TheVariants.{Lower, Upper}
-use Rattle.ct_entries.specs.Entry.{is_entry}
+use Rattle.ct_words.specs.declared.entry.Entry.{Entry}
+use Rattle.ct_words.specs.declared.claim.Side.{Side}
+use Rattle.ct_words.specs.declared.claim.Side.TheVariants.{Lower, Upper}
+use Rattle.ct_words.specs.Entry.{is_entry}
 use Rattle.ct_rule_parts.specs.Slot.{Slot}
 
 -- what a rule is made of

@@ -1,9 +1,9 @@
 -- What pieces of evidence give to the table.
 use Rattle.std.specs.Prelude.{if◌then◌else◌, List, All, Option, Some, None, ℕ}
-use Rattle.ct_entries.specs.declared.entry.Entry.{Entry}
-use Rattle.ct_entries.specs.declared.claim.Side.TheVariants.{Lower}
-use Rattle.ct_entries.specs.Claim.{IsTrueClaim}
-use Rattle.ct_entries.specs.Entry.{same_entry}
+use Rattle.ct_words.specs.declared.entry.Entry.{Entry}
+use Rattle.ct_words.specs.declared.claim.Side.TheVariants.{Lower}
+use Rattle.ct_words.specs.Claim.{IsTrueClaim}
+use Rattle.ct_words.specs.Entry.{same_entry}
 use Rattle.ct_duals.specs.Dual.{AllowsNone}
 use Rattle.ct_duals.specs.Bound.{AcceptedValue, IsAccepted}
 use Rattle.ct_rule_parts.specs.declared.support.Support.{Support}

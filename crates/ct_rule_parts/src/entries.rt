@@ -6,8 +6,7 @@ ghost use Rattle.ct_rule_parts.specs.Entries.{listed};
 ghost use Rattle.ct_rule_parts.specs.Parts.{are_entries};
 
 use ct_duals::AcceptedDual;
-use ct_entries::Entry;
-use ct_words::MAX_N;
+use ct_words::{Entry, MAX_N};
 
 /// Up to three entries, in order, or those whose upper bounds an accepted dual rests on, `MAX_N` at most.
 #[derive(Clone, Copy)]

@@ -2,7 +2,7 @@
 
 ghost use Rattle.std.specs.Prelude.{◌≡◌, ◌≤◌, ◌-◌, length, take, map, All, IfOk, IsSome};
 ghost use Rattle.ct_words.specs.declared.limits.TheConstants.{MAX_BOUND, MAX_N};
-ghost use Rattle.ct_entries.specs.Entry.{IsEntry};
+ghost use Rattle.ct_words.specs.Entry.{IsEntry};
 ghost use Rattle.ct_duals.specs.Bound.{positive};
 ghost use Rattle.ct_duals.specs.Dual.{degree_of};
 ghost use Rattle.ct_rule_parts.specs.Local.{doubly_at, lesser, local_value};
@@ -10,8 +10,7 @@ ghost use Rattle.ct_rule_parts.specs.Parts.{weight_of};
 
 use ct_doubly::doubly;
 use ct_duals::AcceptedDual;
-use ct_entries::Entry;
-use ct_words::MAX_N;
+use ct_words::{Entry, MAX_N};
 use std::alloc::{AllocError, Global};
 use std::marker::Model;
 

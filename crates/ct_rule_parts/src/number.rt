@@ -3,8 +3,7 @@
 ghost use Rattle.std.specs.Prelude.{◌≡◌, ◌<◌, ◌≤◌, ◌^◌, Some, IfSome};
 ghost use Rattle.ct_rule_parts.specs.Parts.{first, second, within_limit};
 
-use ct_entries::Side;
-use ct_words::MAX_BOUND;
+use ct_words::{MAX_BOUND, Side};
 
 /// The first of the values, 0 where there is none.
 pub fn first(values: &[u32]) -> u64

@@ -5,7 +5,7 @@ ghost use Rattle.ct_rule_parts.specs.Support.{OddValue, size_at, dual_at, odd_at
 
 use crate::local_dual::LocalDual;
 use ct_duals::AcceptedDual;
-use ct_entries::Entry;
+use ct_words::Entry;
 
 /// What a piece of evidence gives to the table.
 #[derive(Drop)]

@@ -4,9 +4,9 @@ use Rattle.std.specs.List.{cons_option}
 use Rattle.std.proofs.lemmas.List.{take-append-le, take-take, take_at}
 use Rattle.std.proofs.lemmas.List.Elements.{All-nil, All-cons}
 use Rattle.std.proofs.lemmas.Option.{slice_get-get_or, none-some, same_Some}
-use Rattle.ct_entries.specs.declared.claim.Claim.{Claim}
-use Rattle.ct_entries.specs.declared.claim.Side.{Side}
-use Rattle.ct_entries.specs.Claim.{IsTrueClaim}
+use Rattle.ct_words.specs.declared.claim.Claim.{Claim}
+use Rattle.ct_words.specs.declared.claim.Side.{Side}
+use Rattle.ct_words.specs.Claim.{IsTrueClaim}
 use Rattle.ct_rule_parts.specs.declared.support.Support.{Support}
 use Rattle.ct_rule_parts.specs.Support.{AllStand}
 use Rattle.ct_rules.specs.Rule.{rule_side}

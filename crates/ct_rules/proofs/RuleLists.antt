@@ -6,14 +6,14 @@ use Rattle.std.proofs.lemmas.Bool.{and_parts, false≢true}
 use Rattle.std.proofs.lemmas.List.Elements.{All-contains, Contains-append_left, Contains-append_right}
 use Rattle.std.proofs.lemmas.Option.{none-some, slice_get_within}
 use Rattle.ct_words.proofs.Counting.Words.{Contains-map}
-use Rattle.ct_entries.specs.declared.claim.Side.TheVariants.{Lower, Upper}
-use Rattle.ct_entries.specs.declared.entry.Entry.{Entry}
-use Rattle.ct_entries.specs.Entry.{IsEntry, is_entry, unrestricted, constant_weight}
-use Rattle.ct_entries.proofs.EntryLemmas.{entry_limits}
+use Rattle.ct_words.specs.declared.claim.Side.TheVariants.{Lower, Upper}
+use Rattle.ct_words.specs.declared.entry.Entry.{Entry}
+use Rattle.ct_words.specs.Entry.{IsEntry, is_entry, unrestricted, constant_weight}
+use Rattle.ct_words.proofs.EntryLemmas.{entry_limits}
 use Rattle.ct_rule_parts.specs.declared.support.Support.{Support}
 use Rattle.ct_rule_parts.specs.Parts.{RuleParts}
 use Rattle.ct_rule_parts.specs.Slot.{Slot}
-use Rattle.ct_entries.proofs.InLists.{Contains-range_with_len, Contains-flat_map}
+use Rattle.ct_words.proofs.InLists.{Contains-range_with_len, Contains-flat_map}
 use Rattle.ct_rule_parts.specs.Support.{size_at, dual_at, odd_at, local_at}
 use Rattle.ct_weight_rules.specs.Neighbours.{of_weight, even_of_weight}
 use Rattle.ct_weight_rules.proofs.LawfulGrahamSloane.{known_class}

@@ -2,12 +2,12 @@
 use Rattle.std.proofs.Common.{◌≡◌, ℕ, true, List, ◌++◌, length, map, Contains, flat_map}
 use Rattle.std.proofs.lemmas.List.Elements.{Contains-append_left, Contains-append_right}
 use Rattle.ct_words.proofs.Counting.Words.{Contains-map}
-use Rattle.ct_entries.specs.declared.entry.Entry.{Entry}
-use Rattle.ct_entries.specs.declared.claim.Side.TheVariants.{Lower, Upper}
-use Rattle.ct_entries.specs.Entry.{IsEntry}
-use Rattle.ct_entries.specs.TableEntries.{table_entries}
-use Rattle.ct_entries.proofs.InLists.{Contains-flat_map}
-use Rattle.ct_entries.proofs.ListedEntries.{listed}
+use Rattle.ct_words.specs.declared.entry.Entry.{Entry}
+use Rattle.ct_words.specs.declared.claim.Side.TheVariants.{Lower, Upper}
+use Rattle.ct_words.specs.Entry.{IsEntry}
+use Rattle.ct_words.specs.TableEntries.{table_entries}
+use Rattle.ct_words.proofs.InLists.{Contains-flat_map}
+use Rattle.ct_words.proofs.ListedEntries.{listed}
 use Rattle.ct_rules.specs.declared.rule.Rule.{Rule}
 use Rattle.ct_rule_parts.specs.declared.support.Support.{Support}
 use Rattle.ct_rules.specs.Rule.{rule_side, parts_over, applies}

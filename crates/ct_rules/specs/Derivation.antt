@@ -1,7 +1,7 @@
 -- Derivations by the rules of the table, and the best values that they give.
 use Rattle.std.specs.Prelude.{◌≡◌, ℕ, ◌<◌, List, [], ◌∷◌, ◌++◌, length, take, map, All, slice_get, Some, option_map}
 use Rattle.std.specs.List.{filter_map}
-use Rattle.ct_entries.specs.declared.claim.Claim.{Claim}
+use Rattle.ct_words.specs.declared.claim.Claim.{Claim}
 use Rattle.ct_rules.specs.declared.rule.Rule.{Rule}
 use Rattle.ct_rule_parts.specs.declared.support.Support.{Support}
 use Rattle.ct_rules.specs.Rule.{rule_side, premises_of, value_of}

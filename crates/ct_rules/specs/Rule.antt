@@ -1,7 +1,7 @@
 -- The rules of the table, a row for each: what it is made of; and by that where it is defined, what it rests on, and the bound that it gives.
 use Rattle.std.specs.Prelude.{ℕ, Bool, true, false, if◌then◌else◌, List, length, slice_get, Option, Some, None, codes}
-use Rattle.ct_entries.specs.declared.entry.Entry.{Entry}
-use Rattle.ct_entries.specs.declared.claim.Side.{Side}
+use Rattle.ct_words.specs.declared.entry.Entry.{Entry}
+use Rattle.ct_words.specs.declared.claim.Side.{Side}
 use Rattle.ct_rule_parts.specs.declared.support.Support.{Support}
 use Rattle.ct_rule_parts.specs.Parts.{RuleParts, is_defined, slots_on, within_limit}
 use Rattle.ct_rule_parts.specs.Slot.{Slot}

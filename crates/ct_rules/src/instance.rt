@@ -2,9 +2,9 @@
 
 ghost use Rattle.std.specs.Prelude.{◌≡◌, ◌≤◌, true, if◌then◌else◌, List, map, All, Some, None, IfSome, option_map};
 ghost use Rattle.std.specs.Option.{ForSome};
-ghost use Rattle.ct_entries.specs.declared.claim.Claim.{Claim};
-ghost use Rattle.ct_entries.specs.Claim.{IsTrueClaim};
-ghost use Rattle.ct_entries.specs.Entry.{IsEntry};
+ghost use Rattle.ct_words.specs.declared.claim.Claim.{Claim};
+ghost use Rattle.ct_words.specs.Claim.{IsTrueClaim};
+ghost use Rattle.ct_words.specs.Entry.{IsEntry};
 ghost use Rattle.ct_rule_parts.specs.Entries.{listed};
 ghost use Rattle.ct_rule_parts.specs.Slot.{slot_of, claim_at};
 ghost use Rattle.ct_rule_parts.specs.Support.{Stands};
@@ -12,9 +12,8 @@ ghost use Rattle.ct_rules.specs.Rule.{rule_side, applies, parts_over, count_of, 
 
 use crate::rows::{number, rests_on, rule_side};
 use crate::rule::Rule;
-use ct_entries::{Entry, Side};
 use ct_rule_parts::{Entries, Support, within_limit};
-use ct_words::{MAX_BOUND, MAX_N};
+use ct_words::{Entry, MAX_BOUND, MAX_N, Side};
 
 /// The entries whose bounds the rule rests on at the entry, in order, where it is defined: the entry is in the table, the rule's
 /// condition holds there, and all that it rests on is in the table. `None` comes exactly where it is not defined.

@@ -1,7 +1,7 @@
 //! The lines of derivations.
 
 use crate::rule::Rule;
-use ct_entries::Claim;
+use ct_words::Claim;
 use smallvec::SmallVec;
 use std::marker::Model;
 

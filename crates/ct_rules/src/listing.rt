@@ -7,7 +7,7 @@ use crate::rule::{
     LOWER_RULES, LOWER_WEIGHT_RULES, OTHER_LOWER_RULES, OTHER_UPPER_RULES, Rule, UPPER_RULES,
     UPPER_WEIGHT_RULES, rule_name,
 };
-use ct_entries::{Entry, Side};
+use ct_words::{Entry, Side};
 
 /// The rules with neither numbers nor a support that bound an entry from a side. The first of them gives a bound at each such entry and rests on nothing.
 pub fn rules_alone(side: Side, entry: Entry) -> &'static [Rule]

@@ -1,7 +1,7 @@
 //! The rows of the rules: of each what it is made of, by the functions of its own file.
 
 ghost use Rattle.std.specs.Prelude.{◌≡◌, true, if◌then◌else◌, Some, None, option_map, slice_get};
-ghost use Rattle.ct_entries.specs.Entry.{IsEntry, unrestricted, constant_weight};
+ghost use Rattle.ct_words.specs.Entry.{IsEntry, unrestricted, constant_weight};
 ghost use Rattle.ct_rule_parts.specs.Entries.{listed};
 ghost use Rattle.ct_rule_parts.specs.Support.{dual_at, odd_at, local_at};
 ghost use Rattle.ct_weight_rules.specs.Delsarte.{bound_of_dual, dual_above};
@@ -13,7 +13,6 @@ ghost use Rattle.ct_rules.specs.Rule.{rule_side, place_of, with_place, is_alone,
 use crate::arguments::{Arguments, arguments_of, with_arguments};
 use crate::rule::Rule;
 use ct_elementary::{far, plotkin, sphere_packing};
-use ct_entries::{Entry, Side};
 use ct_plain_rules::{
     count_of_uuv, farther, longer, longer_and_farther, nearer, parts_of_juxtaposition,
     parts_of_uuv, shorter, shorter_and_nearer, uuv_of,
@@ -25,7 +24,7 @@ use ct_weight_rules::{
     has_no_far_words, johnson_bound, of_weight, one_less, one_more, parts_of_split, size_below,
     split_into, sum_class_size, two_farther, two_nearer, zero_less, zero_more,
 };
-use ct_words::binomial;
+use ct_words::{Entry, Side, binomial};
 
 /// The side of the bounds that the rule gives.
 #[tactic(auto, unfolding(crate::specs::Rule::row_of))]

@@ -1,11 +1,11 @@
 //! The rules by which bounds enter the table: each, and its name.
 
 ghost use Rattle.std.specs.Prelude.{◌≡◌};
-ghost use Rattle.ct_entries.specs.declared.claim.Side.TheVariants.{Lower, Upper};
+ghost use Rattle.ct_words.specs.declared.claim.Side.TheVariants.{Lower, Upper};
 ghost use Rattle.ct_rules.specs.Rule.{rule_side, name_of};
 
 use crate::rows::rule_side;
-use ct_entries::Side;
+use ct_words::Side;
 
 /// A rule of the table. Those whose name begins with L give lower bounds and those with U upper bounds of A(n,d); those with
 /// M give lower bounds and those with V upper bounds of A(n,d,w). docs/RULES.md has the source of each.

@@ -6,9 +6,9 @@ use Rattle.std.proofs.Math.Nat.{mod-lt, pow-le-pow_right}
 use Rattle.std.proofs.lemmas.Bool.{and_parts}
 use Rattle.std.proofs.lemmas.Int.{ints}
 use Rattle.std.proofs.lemmas.List.Elements.{All-nil, All-cons, All-push, All-head, All-tail}
-use Rattle.ct_entries.specs.declared.entry.Entry.{Entry}
-use Rattle.ct_entries.specs.Entry.{IsEntry, unrestricted, constant_weight}
-use Rattle.ct_entries.proofs.EntryLemmas.{WeightFits, entry_limits, entry_from_limits}
+use Rattle.ct_words.specs.declared.entry.Entry.{Entry}
+use Rattle.ct_words.specs.Entry.{IsEntry, unrestricted, constant_weight}
+use Rattle.ct_words.proofs.EntryLemmas.{WeightFits, entry_limits, entry_from_limits}
 use Rattle.ct_build.specs.Build.{FieldsFit}
 use Rattle.ct_build.specs.declared.step.Step.TheVariants.{Lengthen}
 use Rattle.ct_sum_classes.proofs.SumClasses.{sum_class-below}

@@ -3,9 +3,9 @@ use Rattle.std.proofs.Common.{◌≡◌, ℕ, ◌+◌, ◌==◌, cond, List, [],
 use Rattle.std.specs.Prelude.{All}
 use Rattle.std.proofs.lemmas.List.Elements.{All-head, All-tail}
 use Rattle.std.proofs.lemmas.List.Sums.{sum_by-cons, fold-append}
-use Rattle.ct_entries.specs.declared.entry.Entry.{Entry}
-use Rattle.ct_entries.specs.declared.claim.Side.TheVariants.{Lower, Upper}
-use Rattle.ct_entries.specs.Entry.{IsEntry}
+use Rattle.ct_words.specs.declared.entry.Entry.{Entry}
+use Rattle.ct_words.specs.declared.claim.Side.TheVariants.{Lower, Upper}
+use Rattle.ct_words.specs.Entry.{IsEntry}
 use Rattle.ct_rule_parts.specs.declared.support.Support.{Support}
 use Rattle.ct_rule_parts.specs.Slot.{Slot}
 use Rattle.ct_rule_parts.specs.Support.{AllStand}
@@ -14,11 +14,11 @@ use Rattle.ct_rules.proofs.BestValues.{closed_bounds_exist}
 use Rattle.ct_rules.proofs.ClosedBounds.{AreTrue-from_derived, closed_bound_is_best, best_is_one}
 use Rattle.ct_pieces.specs.Supports.{supports_of}
 use Rattle.ct_sample.specs.Run.{RunValue, run_to}
-use Rattle.ct_entries.specs.TableEntries.{table_entries}
+use Rattle.ct_words.specs.TableEntries.{table_entries}
 use Rattle.ct_sample.specs.Summary.{AreBest, tally_of, IsSummary, summary_text, IsSampleOutput}
 use Rattle.ct_sample.specs.declared.summary.Summary.{Summary}
 use Rattle.ct_sample.specs.declared.tally.Tally.{Tally}
-use Rattle.ct_entries.proofs.ListedEntries.{all_listed}
+use Rattle.ct_words.proofs.ListedEntries.{all_listed}
 use Rattle.ct_sample.proofs.Running.{running}
 
 -- best values of supports that stand

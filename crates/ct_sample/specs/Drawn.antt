@@ -1,7 +1,7 @@
 -- The evidence that a step of the sample submits, by the number h that it draws.
 use Rattle.std.specs.Prelude.{ℕ, zero, suc, ◌+◌, ◌-◌, ◌*◌, ◌/◌, ◌%◌, ◌^◌, nat_le, ◌==◌, ◌&&◌, Bool, true, false, if◌then◌else◌, List, [], ◌∷◌, ◌++◌, fold, replicate, Option, Some, None, pos}
 use Rattle.std.specs.Option.{unwrap_or}
-use Rattle.ct_entries.specs.Entry.{unrestricted, constant_weight}
+use Rattle.ct_words.specs.Entry.{unrestricted, constant_weight}
 use Rattle.ct_sum_classes.specs.SumClass.{sum_class}
 use Rattle.ct_build.specs.declared.step.Step.TheVariants.{Lengthen}
 use Rattle.ct_kind.specs.declared.evidence.Evidence.{Evidence}

@@ -1,6 +1,6 @@
 -- Pieces of a few samples' steps, for commands that are known.
 use Rattle.std.specs.Prelude.{[], ◌∷◌, Some, None, codes}
-use Rattle.ct_entries.specs.Entry.{constant_weight}
+use Rattle.ct_words.specs.Entry.{constant_weight}
 use Rattle.ct_build.specs.declared.step.Step.TheVariants.{Lengthen}
 use Rattle.ct_kind.specs.declared.evidence.Evidence.TheVariants.{Words, Build}
 use Rattle.ct_pieces.specs.Piece.{PieceValue}

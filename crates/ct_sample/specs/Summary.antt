@@ -1,16 +1,16 @@
 -- The summary of the sample.
 use Rattle.std.specs.Prelude.{◌≡◌, ℕ, ◌==◌, List, [], ◌∷◌, ◌++◌, length, sum_by, count_by, codes}
-use Rattle.ct_io.specs.declared.TheConstants.{LINE_FEED}
+use Rattle.ct_text.specs.declared.document_lines.TheConstants.{LINE_FEED}
 use Rattle.ct_text.specs.Number.{spaced}
-use Rattle.ct_entries.specs.declared.entry.Entry.{Entry}
-use Rattle.ct_entries.specs.declared.claim.Side.TheVariants.{Lower, Upper}
-use Rattle.ct_entries.specs.Entry.{IsEntry}
+use Rattle.ct_words.specs.declared.entry.Entry.{Entry}
+use Rattle.ct_words.specs.declared.claim.Side.TheVariants.{Lower, Upper}
+use Rattle.ct_words.specs.Entry.{IsEntry}
 use Rattle.ct_rule_parts.specs.declared.support.Support.{Support}
 use Rattle.ct_rule_parts.specs.Slot.{Slot}
 use Rattle.ct_rules.specs.Derivation.{IsBest}
 use Rattle.ct_pieces.specs.Supports.{supports_of}
 use Rattle.ct_sample.specs.Run.{run_to}
-use Rattle.ct_entries.specs.TableEntries.{table_entries}
+use Rattle.ct_words.specs.TableEntries.{table_entries}
 use Rattle.ct_sample.specs.declared.summary.Summary.{Summary}
 use Rattle.ct_sample.specs.declared.tally.Tally.{Tally}
 

@@ -6,12 +6,11 @@ ghost use Rattle.ct_sample.specs.Drawn.{drawn_words, golay_words, drawn_cosets, 
 
 use ct_build::Step;
 use ct_duals::{Allowances, Dual, Multipliers};
-use ct_entries::Entry;
 use ct_kind::Evidence;
 use ct_ledger::Piece;
 use ct_sum_classes::sum_class_list;
 use ct_text::Id;
-use ct_words::{Listed, Word};
+use ct_words::{Entry, Listed, Word};
 use std::alloc::{AllocError, Global};
 
 /// The first digits of the words of the Golay code that are summed: those of its generator polynomial.

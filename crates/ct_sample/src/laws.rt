@@ -1,7 +1,7 @@
 //! Facts about every sample.
 
 ghost use Rattle.std.specs.Prelude.{◌≡◌, ℕ, [], ◌∷◌, List, Some, None, codes};
-ghost use Rattle.ct_entries.specs.Entry.{constant_weight, unrestricted};
+ghost use Rattle.ct_words.specs.Entry.{constant_weight, unrestricted};
 ghost use Rattle.ct_build.specs.declared.step.Step.TheVariants.{Lengthen};
 ghost use Rattle.ct_kind.specs.declared.evidence.Evidence.TheVariants.{Cosets, Build};
 ghost use Rattle.ct_sample.specs.declared.command.Command.TheVariants.{Submit, Withdraw};

@@ -1,16 +1,15 @@
 //! The sample, and its summary.
 
 ghost use Rattle.std.specs.Prelude.{◌≡◌, ◌++◌, All, IfOk, OnOk, codes};
-ghost use Rattle.ct_entries.specs.Entry.{IsEntry};
-ghost use Rattle.ct_entries.specs.TableEntries.{table_entries};
+ghost use Rattle.ct_words.specs.Entry.{IsEntry};
+ghost use Rattle.ct_words.specs.TableEntries.{table_entries};
 ghost use Rattle.ct_sample.specs.Run.{no_commands, run_to};
 ghost use Rattle.ct_sample.specs.Summary.{IsSummary, named_line, summary_text};
 
 use crate::run::Run;
 use crate::tally::{Tally, tally_of};
-use ct_entries::{Entry, table_entries};
-use ct_io::LINE_FEED;
-use ct_text::put_spaced;
+use ct_text::{LINE_FEED, put_spaced};
+use ct_words::{Entry, table_entries};
 use std::alloc::{AllocError, Global};
 
 /// What the commands of the sample leave.

@@ -1,13 +1,13 @@
 //! The tally of a table's bounds.
 
 ghost use Rattle.std.specs.Prelude.{◌≡◌, ◌≤◌, ◌<◌, ◌+◌, ◌*◌, ◌^◌, ◌∷◌, ◌++◌, [], ℕ, List, All, length};
-ghost use Rattle.ct_entries.specs.declared.entry.Entry.{Entry};
-ghost use Rattle.ct_entries.specs.Entry.{IsEntry};
+ghost use Rattle.ct_words.specs.declared.entry.Entry.{Entry};
+ghost use Rattle.ct_words.specs.Entry.{IsEntry};
 ghost use Rattle.ct_rule_parts.specs.Slot.{Slot};
 ghost use Rattle.ct_sample.specs.Summary.{AreBest, tally_of};
 
-use ct_entries::Entry;
 use ct_table::Table;
+use ct_words::Entry;
 
 /// Entries of a table by their bounds.
 #[derive(Clone, Copy)]

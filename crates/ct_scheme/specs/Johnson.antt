@@ -2,10 +2,10 @@
 use Rattle.std.specs.Prelude.{◌≡◌, ℕ, ◌-◌, ◌/◌, ◌^◌, ◌<◌, ◌≤◌, min, pos}
 use Rattle.ct_words.specs.declared.limits.TheConstants.{MAX_N}
 use Rattle.ct_words.specs.Word.{distance, weight}
-use Rattle.ct_entries.specs.Scheme.{IsPositive, IsSmall}
+use Rattle.ct_words.specs.Scheme.{IsPositive, IsSmall}
 use Rattle.ct_words.proofs.Counting.Matchings.{signed_matchings, signed_matchings-first}
 use Rattle.ct_words.proofs.PairProducts.{pair_total-matchings_nonneg, signed_matchings-small}
-use Rattle.ct_entries.specs.Numbers.{johnson}
+use Rattle.ct_words.specs.Numbers.{johnson}
 
 -- over the pairs of any list of words of the weight the numbers add up to at least 0
 pub johnson-positive : (n w k : ℕ) → IsPositive (λ x. (x < 2 ^ n) × (weight n x ≡ w)) (λ x y. distance n x y / 2) (johnson n w k)

@@ -4,7 +4,7 @@ ghost use Rattle.std.specs.Prelude.{◌≤◌};
 ghost use Rattle.ct_words.specs.declared.limits.TheConstants.{MAX_N};
 
 use crate::numbers::johnson_number;
-use ct_entries::Scheme;
+use ct_words::Scheme;
 
 /// The Johnson scheme of length n, from 1 to `MAX_N`, and weight w, at most n (Delsarte 1973; MacWilliams and Sloane,
 /// chapter 21): its space is the words of length n and weight w, the index of two words is half their distance, its
@@ -23,7 +23,7 @@ impl Scheme for Johnson {
     ghost use Rattle.std.specs.Prelude.{◌≡◌, ◌-◌, ◌/◌, ◌^◌, ◌<◌, min};
     ghost use Rattle.ct_words.specs.Word.{distance, weight};
     ghost use Rattle.ct_words.proofs.PairProducts.{half_distance-le, half_distance-same};
-    ghost use Rattle.ct_entries.specs.Numbers.{johnson};
+    ghost use Rattle.ct_words.specs.Numbers.{johnson};
     ghost use Rattle.ct_scheme.specs.Johnson.{johnson-positive, johnson-first, johnson-small};
 
     ghost belongs = { λ s x. (x < 2 ^ s.n) × (weight s.n x ≡ s.w) };

@@ -3,7 +3,7 @@
 ghost use Rattle.std.specs.Prelude.{◌≡◌, suc, ◌+◌, ◌-◌, ◌*◌, ◌<◌, ◌≤◌, ◌^◌, min};
 ghost use Rattle.ct_words.specs.declared.limits.TheConstants.{MAX_N};
 ghost use Rattle.ct_words.specs.Counting.Binomials.{choose, factorial as factorial_of};
-ghost use Rattle.ct_entries.specs.Numbers.{johnson};
+ghost use Rattle.ct_words.specs.Numbers.{johnson};
 ghost use Rattle.ct_scheme.specs.Numbers.{term_count};
 
 use ct_words::{add_alternating, binomial, factorial};

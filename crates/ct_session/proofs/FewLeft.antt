@@ -3,7 +3,7 @@ use Rattle.std.proofs.Common.{◌≡◌, ◌≢◌, ◌⊎◌, ℕ, ◌+◌, ◌
 use Rattle.std.specs.List.{onto_first}
 use Rattle.std.specs.Io.KnownBytes.{Consumes, prepend_known}
 use Rattle.std.proofs.lemmas.List.Elements.{All-head, All-tail}
-use Rattle.ct_io.specs.declared.TheConstants.{LINE_FEED}
+use Rattle.ct_text.specs.declared.document_lines.TheConstants.{LINE_FEED}
 use Rattle.ct_io.specs.Lines.{lines_of, IsLine}
 use Rattle.ct_io.proofs.LinesLemmas.{is_feed, no_feed, lines_of-feed, lines_of-onto_first}
 use Rattle.ct_io.specs.declared.TheConstants.{MAX_READ}

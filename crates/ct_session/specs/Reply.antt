@@ -2,12 +2,12 @@
 use Rattle.std.specs.Prelude.{◌≡◌, ℕ, ◌-◌, length, Bool, false, List, [], ◌∷◌, Option, Some, None, Result, Ok, Err}
 use Rattle.std.specs.List.{AllZip}
 use Rattle.std.specs.Option.{is_some}
-use Rattle.ct_entries.specs.declared.entry.Entry.{Entry}
-use Rattle.ct_entries.specs.declared.claim.Side.{Side}
-use Rattle.ct_entries.specs.declared.claim.Side.TheVariants.{Lower, Upper}
-use Rattle.ct_entries.specs.Claim.{IsTrueClaim}
-use Rattle.ct_entries.specs.Code.{CodeValue}
-use Rattle.ct_entries.specs.TableEntries.{column}
+use Rattle.ct_words.specs.declared.entry.Entry.{Entry}
+use Rattle.ct_words.specs.declared.claim.Side.{Side}
+use Rattle.ct_words.specs.declared.claim.Side.TheVariants.{Lower, Upper}
+use Rattle.ct_words.specs.Claim.{IsTrueClaim}
+use Rattle.ct_words.specs.Code.{CodeValue}
+use Rattle.ct_words.specs.TableEntries.{column}
 use Rattle.ct_rules.specs.Derivation.{IsBest}
 use Rattle.ct_rule_parts.specs.Slot.{claim_at}
 use Rattle.ct_text.specs.EntryNumbers.{named_entry}

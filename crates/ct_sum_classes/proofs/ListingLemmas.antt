@@ -13,7 +13,7 @@ use Rattle.ct_words.specs.Characters.{words_of_length}
 use Rattle.ct_words.proofs.AllWords.{tabulate-add}
 use Rattle.ct_words.proofs.TextLemmas.{next_digit}
 use Rattle.ct_words.proofs.WordLemmas.{places_same, places-le, weight-le}
-use Rattle.ct_entries.proofs.Constructions.JoinedLemmas.{weight-followed_by}
+use Rattle.ct_words.proofs.Constructions.JoinedLemmas.{weight-followed_by}
 use Rattle.ct_sum_classes.specs.SumClass.{sum_of_places, place_sum, sum_class}
 use Rattle.ct_sum_classes.specs.Inside.Listing.{words_of_sum}
 use Rattle.ct_sum_classes.proofs.PlaceSums.{sum_of_places_same}

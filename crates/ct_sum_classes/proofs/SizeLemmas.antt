@@ -13,9 +13,9 @@ use Rattle.ct_words.specs.Characters.{words_of_length}
 use Rattle.ct_words.specs.declared.limits.TheConstants.{MAX_N, MAX_BOUND}
 use Rattle.ct_words.proofs.TextLemmas.{length-tabulate}
 use Rattle.ct_words.proofs.WordLemmas.{last_digit, digit_half}
-use Rattle.ct_entries.specs.Constructions.Joined.{followed_by}
-use Rattle.ct_entries.proofs.Constructions.AppendLemmas.{weight-followed}
-use Rattle.ct_entries.proofs.Constructions.EvenLemmas.{tabulate-push}
+use Rattle.ct_words.specs.Constructions.Joined.{followed_by}
+use Rattle.ct_words.proofs.Constructions.AppendLemmas.{weight-followed}
+use Rattle.ct_words.proofs.Constructions.EvenLemmas.{tabulate-push}
 use Rattle.ct_sum_classes.specs.SumClass.{place_sum, in_sum_class, sum_class}
 use Rattle.ct_sum_classes.specs.Inside.Sizes.{size_of, IsRow, IsLow}
 use Rattle.ct_sum_classes.proofs.PlaceSums.{sum_of_places_same}

@@ -12,9 +12,9 @@ use Rattle.ct_words.specs.Characters.{words_of_length}
 use Rattle.ct_words.specs.declared.limits.TheConstants.{MAX_N}
 use Rattle.ct_words.proofs.TextLemmas.{length-tabulate, get_or-tabulate}
 use Rattle.ct_words.proofs.WordLemmas.{digit-lt, weights_of_pair, distance-pos}
-use Rattle.ct_entries.specs.Code.{IsCode, IsSoundCode}
-use Rattle.ct_entries.proofs.InLists.{Contains-filter}
-use Rattle.ct_entries.proofs.Constructions.EvenLemmas.{words_of_length-below, words_of_length-ascending}
+use Rattle.ct_words.specs.Code.{IsCode, IsSoundCode}
+use Rattle.ct_words.proofs.InLists.{Contains-filter}
+use Rattle.ct_words.proofs.Constructions.EvenLemmas.{words_of_length-below, words_of_length-ascending}
 use Rattle.ct_sum_classes.specs.SumClass.{place_sum, in_sum_class, sum_class}
 use Rattle.ct_sum_classes.proofs.PlaceSums.{AreNear, sums_of_two}
 

@@ -3,13 +3,12 @@
 ghost use Rattle.std.specs.Prelude.{◌≡◌, ℕ, ◌+◌, ◌-◌, ◌*◌, ◌%◌, ◌^◌, ◌<◌, ◌≤◌, [], ◌∷◌, ◌++◌, length, map, Some, IfOk, OnOk};
 ghost use Rattle.ct_words.specs.Counting.Binomials.{choose};
 ghost use Rattle.ct_words.specs.declared.limits.TheConstants.{MAX_N};
-ghost use Rattle.ct_entries.specs.Code.{IsSoundCode};
+ghost use Rattle.ct_words.specs.Code.{IsSoundCode};
 ghost use Rattle.ct_sum_classes.specs.SumClass.{sum_class};
 ghost use Rattle.ct_sum_classes.specs.Inside.Listing.{words_of_sum};
 
 use crate::class_sizes::sum_class_count;
-use ct_entries::Code;
-use ct_words::{Word, binomial};
+use ct_words::{Code, Word, binomial};
 use std::alloc::{AllocError, Global};
 
 /// The code of the words of length n, from 1 to `MAX_N`, and weight w up to n, whose ones' places add up to r modulo n, for

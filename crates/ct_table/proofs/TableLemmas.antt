@@ -1,6 +1,6 @@
 -- What a table gives: best and true bounds.
 use Rattle.std.proofs.Common.{ℕ, List, subst}
-use Rattle.ct_entries.specs.Entry.{IsEntry}
+use Rattle.ct_words.specs.Entry.{IsEntry}
 use Rattle.ct_rule_parts.specs.declared.support.Support.{Support}
 use Rattle.ct_rule_parts.specs.Slot.{Slot, claim_at, IsNoBetter}
 use Rattle.ct_rule_parts.specs.Support.{AllStand}

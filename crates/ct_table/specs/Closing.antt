@@ -1,6 +1,6 @@
 -- Closing a table under the rules.
 use Rattle.std.specs.Prelude.{◌≡◌, ℕ, ◌<◌, ◌^◌, List, ◌++◌, length}
-use Rattle.ct_entries.specs.Entry.{IsEntry}
+use Rattle.ct_words.specs.Entry.{IsEntry}
 use Rattle.ct_rule_parts.specs.declared.support.Support.{Support}
 use Rattle.ct_rule_parts.specs.Slot.{Slot}
 use Rattle.ct_rule_parts.specs.Support.{AllStand}

@@ -1,7 +1,7 @@
 -- What a table keeps once supports are taken out.
 use Rattle.std.specs.Prelude.{◌≡◌, slice_get, option_map}
-use Rattle.ct_entries.specs.Entry.{IsEntry}
-use Rattle.ct_entries.specs.declared.claim.Claim.{Claim}
+use Rattle.ct_words.specs.Entry.{IsEntry}
+use Rattle.ct_words.specs.declared.claim.Claim.{Claim}
 use Rattle.ct_rule_parts.specs.Slot.{Slot}
 use Rattle.ct_rules.specs.declared.rule.Rule.{Rule}
 use Rattle.ct_rules.specs.Derivation.{LineValue}

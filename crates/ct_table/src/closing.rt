@@ -1,7 +1,7 @@
 //! Closing a table under the rules.
 
 ghost use Rattle.std.specs.Prelude.{◌≡◌, ◌≤◌, List, true, OnOk, OnErr, IfOk, map};
-ghost use Rattle.ct_entries.specs.Entry.{IsEntry};
+ghost use Rattle.ct_words.specs.Entry.{IsEntry};
 ghost use Rattle.ct_rule_parts.specs.Entries.{listed};
 ghost use Rattle.ct_rule_parts.specs.Parts.{are_entries, slots_on};
 ghost use Rattle.ct_rule_parts.specs.declared.support.Support.{Support};
@@ -19,9 +19,9 @@ ghost use Rattle.ct_table.specs.Closing.{IsPending, CanClose, IsClosing, HasMore
 ghost use Rattle.ct_table.specs.Inside.Turn.{IsPendingBut, line_by, potential};
 
 use crate::offers::{Best, best_offer, mark_dependents};
-use ct_entries::{Claim, Entry, Side};
 use ct_kept::{Kept, SupportPlaces, Worklist, mark_unsettled};
 use ct_rules::{Entries, Line, Rule, Support, rests_on, rule_side};
+use ct_words::{Claim, Entry, Side};
 use smallvec::SmallVec;
 use std::alloc::{AllocError, Global};
 use std::marker::Model;

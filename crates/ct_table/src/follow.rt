@@ -1,7 +1,7 @@
 //! What a new support changes: nothing where it betters nothing, else what rests on its entry is closed again.
 
 ghost use Rattle.std.specs.Prelude.{◌≡◌, ◌+◌, ◌<◌, ◌≤◌, ◌^◌, ◌++◌, ◌∷◌, [], ℕ, List, Some, false, OnOk, OnErr, length, slice_get};
-ghost use Rattle.ct_entries.specs.Entry.{IsEntry};
+ghost use Rattle.ct_words.specs.Entry.{IsEntry};
 ghost use Rattle.ct_rule_parts.specs.declared.support.Support.{Support};
 ghost use Rattle.ct_rule_parts.specs.Support.{AllStand};
 ghost use Rattle.ct_rules.specs.Closed.{IsClosed};
@@ -17,9 +17,9 @@ ghost use Rattle.ct_table.specs.Inside.Starting.{CanFollow};
 use crate::closing::{Closing, close};
 use crate::offers::{given_rule, offer};
 use crate::start::mark_given;
-use ct_entries::{Entry, Side};
 use ct_kept::{Bounds, Kept, SupportPlaces, entry_of_support, is_better, side_of_support};
 use ct_rules::Support;
+use ct_words::{Entry, Side};
 use std::alloc::{AllocError, Global};
 
 /// Whether the support at a place gives a better bound on a side of an entry of the table than stands there.

@@ -1,7 +1,7 @@
 //! What is left of the lines once supports are taken out: one walk over the lines that followed those of the base.
 
 ghost use Rattle.std.specs.Prelude.{◌≡◌, ◌+◌, ◌<◌, ◌≤◌, ◌++◌, ◌∷◌, [], ℕ, List, Some, None, All, IfOk, OnOk, OnErr, option_map, length, slice_index_or};
-ghost use Rattle.ct_entries.specs.Entry.{IsEntry};
+ghost use Rattle.ct_words.specs.Entry.{IsEntry};
 ghost use Rattle.ct_rule_parts.specs.declared.support.Support.{Support};
 ghost use Rattle.ct_rules.specs.Removal.{marked, names_one, voided};
 ghost use Rattle.ct_rules.specs.Derivation.{LineValue};
@@ -17,9 +17,9 @@ ghost use Rattle.ct_table.specs.Inside.Walk.{moved_place, moved_places, moved_li
 ghost use Rattle.ct_table.specs.Inside.Removing.{IsSetBack, IsMarkedIfLost, IsTakenOut};
 
 use crate::closing::{Closing, close};
-use ct_entries::Claim;
 use ct_kept::{Base, Kept, SupportPlaces, Worklist, is_better};
 use ct_rules::{Line, Support, names_one};
+use ct_words::Claim;
 use smallvec::SmallVec;
 use std::alloc::{AllocError, Global};
 

@@ -10,6 +10,6 @@ mod start;
 mod table;
 
 pub use closing::{Closing, close};
-pub use ct_entries::{Claim, Side};
 pub use ct_rules::{Line, Rule, Support};
+pub use ct_words::{Claim, Side};
 pub use table::Table;

@@ -1,9 +1,9 @@
 //! The table of bounds.
 
 ghost use Rattle.std.specs.Prelude.{◌≡◌, ◌+◌, ◌<◌, ◌^◌, ◌∷◌, ◌++◌, [], ℕ, List, Some, IfOk, OnOk, OnErr, length, remove, slice_get, option_map};
-ghost use Rattle.ct_entries.specs.Claim.{IsTrueClaim};
-ghost use Rattle.ct_entries.specs.Entry.{IsEntry};
-ghost use Rattle.ct_entries.specs.declared.claim.Side.{Side};
+ghost use Rattle.ct_words.specs.Claim.{IsTrueClaim};
+ghost use Rattle.ct_words.specs.Entry.{IsEntry};
+ghost use Rattle.ct_words.specs.declared.claim.Side.{Side};
 ghost use Rattle.ct_rule_parts.specs.Slot.{claim_at};
 ghost use Rattle.ct_rule_parts.specs.Support.{Stands, AllStand};
 ghost use Rattle.ct_rules.specs.Derivation.{IsDerivation, IsBest};
@@ -16,9 +16,9 @@ use crate::exchanging::{exchange, leave_out, nothings, only};
 use crate::follow::follow;
 use crate::left::take_out;
 use crate::start::{begin, close_over};
-use ct_entries::{Entry, Side};
 use ct_kept::{Base, SupportPlaces};
 use ct_rules::{Line, Support};
+use ct_words::{Entry, Side};
 use std::alloc::{AllocError, Global};
 use std::marker::Model;
 

@@ -5,10 +5,10 @@ ghost use Rattle.ct_kept.specs.Places.{AreSupportPlaces};
 ghost use Rattle.ct_rule_parts.specs.Support.{AllStand};
 
 use crate::known::{CODES, NUMBERS, entry_at, support_of};
-use ct_entries::{Entry, Side};
 use ct_kept::{ENTRIES, SLOTS, SupportPlaces, slot_number};
 use ct_rules::Support;
 use ct_table::{Closing, close};
+use ct_words::{Entry, Side};
 use std::alloc::{AllocError, Global};
 use std::process::Abort;
 use std::test::Fail;

@@ -1,10 +1,10 @@
 //! A bound that is shown.
 
 use ct_derive::{Parts, PieceParts, ShownPiece, print};
-use ct_entries::{Entry, Side};
 use ct_reasons::explain;
 use ct_table::Table;
 use ct_text::Id;
+use ct_words::{Entry, Side};
 use smallvec::SmallVec;
 use std::alloc::{AllocError, Global};
 use std::test::Fail;

@@ -4,11 +4,10 @@ ghost use Rattle.std.specs.Prelude.{◌≡◌, ◌<◌, ◌^◌, true, All, IfOk
 ghost use Rattle.ct_rule_parts.specs.Support.{Stands};
 
 use ct_codes::{check_cosets, check_words};
-use ct_entries::Entry;
 use ct_math_tests::{GOLAY, NORDSTROM_ROBINSON, REED_MULLER};
 use ct_rules::Support;
 use ct_table::Table;
-use ct_words::{MAX_BOUND, Word, weight};
+use ct_words::{Entry, MAX_BOUND, Word, weight};
 use std::alloc::Global;
 use std::process::Abort;
 use std::test::Fail;

@@ -2,17 +2,16 @@
 
 ghost use Rattle.std.specs.Prelude.{◌≡◌, ◌/◌, ◌-◌, ◌+◌, [], ◌∷◌, filter, Some, None, is_some};
 ghost use Rattle.ct_words.specs.declared.limits.TheConstants.{MAX_N, MAX_BOUND};
-ghost use Rattle.ct_entries.specs.declared.claim.Side.TheVariants.{Upper};
-ghost use Rattle.ct_entries.specs.Entry.{unrestricted, constant_weight};
+ghost use Rattle.ct_words.specs.declared.claim.Side.TheVariants.{Upper};
+ghost use Rattle.ct_words.specs.Entry.{unrestricted, constant_weight};
 ghost use Rattle.ct_rule_parts.specs.Slot.{lower_at, upper_at};
 ghost use Rattle.ct_rule_parts.specs.Parts.{within_limit};
 ghost use Rattle.ct_rules.specs.declared.rule.Rule.TheVariants.{L1, L2, L3, L4, L5, L6, L7, L8, L11, M1, U0, U1, U2, U3, U4, U5, U6, U7, U8, V0};
 ghost use Rattle.ct_rules.specs.Rule.{premises_of, value_of};
 
 use crate::known::{NUMBERS, entry_at};
-use ct_entries::{Entry, Side};
 use ct_rules::{Rule, Support, premise, premise_count, rule_side, value};
-use ct_words::MAX_BOUND;
+use ct_words::{Entry, MAX_BOUND, Side};
 
 /// Each rule, with the first support, the weight 0, and a length and a distance, where it names any.
 const RULES: [Rule; 45] = [

@@ -1,14 +1,14 @@
 //! Tables of codes that are known: what comes and goes with supports.
 
 ghost use Rattle.std.specs.Prelude.{◌<◌, ◌≡◌, IfOk, IfSome};
-ghost use Rattle.ct_entries.specs.Entry.{IsEntry};
+ghost use Rattle.ct_words.specs.Entry.{IsEntry};
 ghost use Rattle.ct_rule_parts.specs.Support.{Stands};
 
 use crate::known::{CODES, Cosets, NUMBERS, TWO_WORDS, entry_at, support_of};
 use crate::values::{GOLAY_BOUNDS, assert_bounds};
-use ct_entries::{Claim, Entry, Side};
 use ct_rules::{Rule, Support};
 use ct_table::Table;
+use ct_words::{Claim, Entry, Side};
 use std::alloc::{AllocError, Global};
 use std::process::Abort;
 use std::test::Fail;

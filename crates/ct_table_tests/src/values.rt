@@ -1,11 +1,10 @@
 //! Bounds of tables that are known. (All bounds of whole tables are compared where sessions show them, by the program of rows.)
 
-ghost use Rattle.ct_entries.specs.Entry.{IsEntry};
+ghost use Rattle.ct_words.specs.Entry.{IsEntry};
 
 use crate::known::{NUMBERS, entry_at, table_of_golay};
-use ct_entries::{Entry, Side};
 use ct_table::Table;
-use ct_words::MAX_N;
+use ct_words::{Entry, MAX_N, Side};
 use std::process::Abort;
 use std::test::Fail;
 

@@ -1,7 +1,7 @@
 -- The text of an entry, in a reply and as commands name it.
 use Rattle.std.specs.Prelude.{ℕ, List, [], ◌++◌, Option, Some, None, codes}
 use Rattle.std.specs.Fmt.{decimal}
-use Rattle.ct_entries.specs.declared.entry.Entry.{Entry}
+use Rattle.ct_words.specs.declared.entry.Entry.{Entry}
 use Rattle.ct_text.specs.Number.{spaced}
 
 -- a comma and the weight, where there is one

@@ -1,7 +1,7 @@
 -- The text of a document whose lines follow a heading: up to a line `end`, or so many lines.
 use Rattle.std.specs.Prelude.{ℕ, suc, ◌-◌, Bool, ◌||◌, if◌then◌else◌, List, [], ◌∷◌, ◌++◌, length, take, codes}
 use Rattle.std.specs.Str.{bytes_eq}
-use Rattle.ct_io.specs.declared.TheConstants.{LINE_FEED}
+use Rattle.ct_text.specs.declared.document_lines.TheConstants.{LINE_FEED}
 use Rattle.ct_text.specs.declared.gathering.Extent.{Extent}
 use Rattle.ct_text.specs.declared.gathering.Extent.TheVariants.{ToEnd, Lines}
 use Rattle.ct_text.specs.declared.gathering.Gathering.{Gathering}

@@ -1,6 +1,6 @@
 -- The numbers that name a part of the table in a command: D, or D W.
 use Rattle.std.specs.Prelude.{ℕ, List, [], ◌∷◌, Option, Some, None}
-use Rattle.ct_entries.specs.declared.entry.Entry.{Entry}
+use Rattle.ct_words.specs.declared.entry.Entry.{Entry}
 use Rattle.ct_text.specs.Number.{number_of}
 use Rattle.ct_text.specs.EntryNumbers.{weight_from, named_entry}
 use Rattle.ct_text.specs.declared.table_numbers.TableNumbers.{TableNumbers}

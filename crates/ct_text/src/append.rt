@@ -7,7 +7,7 @@ ghost use Rattle.ct_text.specs.Number.{spaced};
 ghost use Rattle.ct_text.specs.EntryText.{weight_text, entry_text, weight_word, entry_words};
 
 use crate::digits::Digits;
-use ct_entries::Entry;
+use ct_words::Entry;
 use std::alloc::{AllocError, Global};
 
 /// Puts the decimal digits of the number at the end of the text. After an `Err`, which is want of memory, the text is as

@@ -1,9 +1,10 @@
-//! How many lines a document has.
+//! What ends a line, and how many lines a document has.
 
 ghost use Rattle.std.specs.Prelude.{◌≡◌};
 ghost use Rattle.ct_text.specs.DocumentLines.{line_count};
 
-use ct_io::LINE_FEED;
+/// The byte that ends a line.
+pub const LINE_FEED: u8 = b'\n';
 
 /// How many lines a document has: one more than its line feeds.
 pub fn line_count(document: &[u8]) -> u64

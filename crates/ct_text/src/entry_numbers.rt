@@ -4,7 +4,7 @@ ghost use Rattle.std.specs.Prelude.{◌≡◌, map};
 ghost use Rattle.ct_text.specs.EntryNumbers.{entry_numbers_of, named_entry};
 
 use crate::number::parse_number;
-use ct_entries::Entry;
+use ct_words::Entry;
 
 /// The numbers that a command names an entry by: `N D`, or `N D W` with a weight. They may be those of no entry of the table.
 #[derive(Clone, Copy)]

@@ -18,7 +18,7 @@ mod text;
 pub use append::{put_entry, put_entry_words, put_number, put_spaced};
 pub use cite::{Cite, MAX_CITE, is_cite};
 pub use digits::Digits;
-pub use document_lines::line_count;
+pub use document_lines::{LINE_FEED, line_count};
 pub use entry_numbers::{EntryNumbers, parse_entry_numbers};
 pub use gathering::{Extent, Gathered, Gathering};
 pub use id::{Id, MAX_ID};

@@ -3,7 +3,7 @@
 ghost use Rattle.std.specs.Prelude.{◌≡◌};
 ghost use Rattle.ct_text.specs.Side.{side_of_word};
 
-use ct_entries::Side;
+use ct_words::Side;
 
 /// The side that the word names: `lower` or `upper`.
 pub fn parse_side(word: &[u8]) -> Option<Side>

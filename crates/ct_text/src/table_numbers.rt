@@ -5,7 +5,7 @@ ghost use Rattle.ct_text.specs.TableNumbers.{table_numbers_of, entry_of_length};
 
 use crate::entry_numbers::EntryNumbers;
 use crate::number::parse_number;
-use ct_entries::Entry;
+use ct_words::Entry;
 
 /// The numbers that a command names a part of the table by: `D`, or `D W` with a weight. They may be those of no entry of
 /// the table.

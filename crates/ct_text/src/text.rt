@@ -2,7 +2,7 @@
 
 ghost use Rattle.std.specs.Prelude.{◌≡◌, ◌-◌, [], ◌∷◌, ◌++◌, OnOk, OnErr, IfOk, length, take};
 
-use ct_io::LINE_FEED;
+use crate::document_lines::LINE_FEED;
 use std::alloc::{AllocError, Global};
 use std::marker::Model;
 

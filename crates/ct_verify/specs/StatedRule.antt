@@ -1,7 +1,7 @@
 -- A rule with its arguments, as the words of a line state them.
 use Rattle.std.specs.Prelude.{ℕ, ◌-◌, ◌^◌, nat_lt, if◌then◌else◌, List, [], ◌∷◌, Option, Some, None, option_map}
 use Rattle.std.specs.Option.{option_and_then}
-use Rattle.ct_entries.specs.declared.claim.Side.{Side}
+use Rattle.ct_words.specs.declared.claim.Side.{Side}
 use Rattle.ct_text.specs.Id.{is_id}
 use Rattle.ct_text.specs.Number.{number_of}
 use Rattle.ct_rules.specs.declared.arguments.Arguments.{Arguments}

@@ -1,7 +1,7 @@
 -- The verdict on a derivation document.
 use Rattle.std.specs.Prelude.{◌≡◌, ℕ, ◌+◌, List, [], ◌∷◌, All}
 use Rattle.ct_io.specs.Lines.{lines_of}
-use Rattle.ct_entries.specs.Claim.{IsTrueClaim}
+use Rattle.ct_words.specs.Claim.{IsTrueClaim}
 use Rattle.ct_rules.specs.Derivation.{IsDerivation}
 use Rattle.ct_pieces.specs.Standing.{AreStanding}
 use Rattle.ct_pieces.specs.Supports.{supports_of}

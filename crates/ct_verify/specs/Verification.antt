@@ -1,6 +1,6 @@
 -- What is written of the verdict on a derivation document.
 use Rattle.std.specs.Prelude.{ℕ, Bool, true, false, List, [], ◌∷◌, ◌++◌}
-use Rattle.ct_io.specs.declared.TheConstants.{LINE_FEED}
+use Rattle.ct_text.specs.declared.document_lines.TheConstants.{LINE_FEED}
 use Rattle.ct_verify.specs.Text.{verdict_text}
 use Rattle.ct_verify.specs.declared.verdict.Verdict.{Verdict}
 use Rattle.ct_verify.specs.declared.verdict.Verdict.TheVariants.{Yes, No}

@@ -6,9 +6,8 @@ ghost use Rattle.ct_text.specs.Side.{side_of_word};
 ghost use Rattle.ct_verify.specs.StatedLine.{entry_of_words, bound_of_word, all_numbers, premises_of_words, claim_of, with_rule, with_reason, with_value, line_of};
 
 use crate::stated_rule::{StatedRule, parse_rule};
-use ct_entries::{Claim, Entry};
 use ct_text::{parse_entry_numbers, parse_number, parse_side};
-use ct_words::MAX_BOUND;
+use ct_words::{Claim, Entry, MAX_BOUND};
 use std::alloc::{AllocError, Global};
 use std::marker::Model;
 

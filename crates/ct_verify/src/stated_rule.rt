@@ -6,10 +6,10 @@ ghost use Rattle.ct_text.specs.Id.{is_id};
 ghost use Rattle.ct_pieces.specs.Piece.{place_of};
 ghost use Rattle.ct_verify.specs.StatedRule.{argument_of, first_argument, second_argument, first_id, numbered, citing, with_words, stated_rule, resolved};
 
-use ct_entries::Side;
 use ct_pieces::Pieces;
 use ct_rules::{Arguments, Rule, arguments_of, rule_named, with_arguments, with_place};
 use ct_text::{Id, parse_number};
+use ct_words::Side;
 
 /// A rule with its arguments, as the words of a line state it.
 #[derive(Clone, Copy)]

@@ -11,7 +11,8 @@ ghost use Rattle.ct_verify.specs.Verification.{is_no, verdict_line};
 use crate::text::verdict_text;
 use crate::verdict::Verdict;
 use crate::verifying::verify;
-use ct_io::{LINE_FEED, RunFault, Sink, Source, read_input, write_text};
+use ct_io::{RunFault, Sink, Source, read_input, write_text};
+use ct_text::LINE_FEED;
 use std::alloc::{AllocError, Global};
 
 /// Whether the verdict is no.

@@ -8,12 +8,12 @@ use Rattle.std.proofs.lemmas.List.Elements.{All-nil, All-cons}
 use Rattle.std.proofs.lemmas.List.Kept.{AllPairs-cons}
 use Rattle.ct_words.specs.Word.{weight, distance}
 use Rattle.ct_words.proofs.WordLemmas.{IsSum-bit_xor, distance-is_weight, distance_comm, weight_any_length, weight-ones}
-use Rattle.ct_entries.specs.Entry.{constant_weight}
-use Rattle.ct_entries.specs.Code.{IsCode, IsTrueLower}
-use Rattle.ct_entries.specs.Constructions.Joined.{followed_by}
-use Rattle.ct_entries.specs.Constructions.Translation.{all_ones}
-use Rattle.ct_entries.proofs.Constructions.FarWords.{AreFar, code_from_far}
-use Rattle.ct_entries.proofs.Constructions.JoinedLemmas.{followed_by-lt, weight-followed_by, distance-followed_by, words_wider}
+use Rattle.ct_words.specs.Entry.{constant_weight}
+use Rattle.ct_words.specs.Code.{IsCode, IsTrueLower}
+use Rattle.ct_words.specs.Constructions.Joined.{followed_by}
+use Rattle.ct_words.specs.Constructions.Translation.{all_ones}
+use Rattle.ct_words.proofs.Constructions.FarWords.{AreFar, code_from_far}
+use Rattle.ct_words.proofs.Constructions.JoinedLemmas.{followed_by-lt, weight-followed_by, distance-followed_by, words_wider}
 
 -- k words of w ones each, side by side: behind the ones are w·(k - 1), .., 2w, w, 0 places
 abbrev pub side_by_side : ℕ → ℕ → List ℕ

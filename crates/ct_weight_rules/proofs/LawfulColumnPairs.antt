@@ -3,8 +3,8 @@ use Rattle.std.proofs.Common.{◌≡◌, ℕ, ◌-◌, option_map, subst, refl, 
 use Rattle.std.specs.Prelude.{is_some, Option, Some, None}
 use Rattle.std.proofs.lemmas.Bool.{and_parts}
 use Rattle.std.proofs.lemmas.Option.{same_Some, none-some}
-use Rattle.ct_entries.specs.declared.claim.Side.TheVariants.{Upper}
-use Rattle.ct_entries.proofs.EntryLemmas.{WeightFits, entry_limits}
+use Rattle.ct_words.specs.declared.claim.Side.TheVariants.{Upper}
+use Rattle.ct_words.proofs.EntryLemmas.{WeightFits, entry_limits}
 use Rattle.ct_johnson.specs.Bounds.{column_count_value}
 use Rattle.ct_johnson.proofs.PairCounts.{columns_sound}
 use Rattle.ct_rule_parts.specs.declared.support.Support.{Support}

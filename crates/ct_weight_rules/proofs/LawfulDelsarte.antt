@@ -6,11 +6,11 @@ use Rattle.std.proofs.lemmas.Bool.{and_parts, cases_lt}
 use Rattle.std.proofs.lemmas.List.Elements.{All-map, All-contains}
 use Rattle.std.proofs.lemmas.Option.{none-some}
 use Rattle.ct_words.specs.declared.limits.TheConstants.{MAX_N}
-use Rattle.ct_entries.specs.declared.claim.Side.TheVariants.{Upper}
-use Rattle.ct_entries.specs.declared.entry.Entry.{Entry}
-use Rattle.ct_entries.specs.Code.{IsTrueUpper}
-use Rattle.ct_entries.specs.Entry.{constant_weight}
-use Rattle.ct_entries.specs.Constructions.Even.{even_from}
+use Rattle.ct_words.specs.declared.claim.Side.TheVariants.{Upper}
+use Rattle.ct_words.specs.declared.entry.Entry.{Entry}
+use Rattle.ct_words.specs.Code.{IsTrueUpper}
+use Rattle.ct_words.specs.Entry.{constant_weight}
+use Rattle.ct_words.specs.Constructions.Even.{even_from}
 use Rattle.ct_duals.specs.Dual.{as_distance, AllowsNone}
 use Rattle.ct_duals.specs.Bound.{AcceptedValue, IsAccepted, AreTrueUppers, AreAtMost, positive, dual_premises, dual_bound}
 use Rattle.ct_duals.proofs.Monotone.{dual_bound-monotone}

@@ -3,12 +3,12 @@ use Rattle.std.proofs.Common.{◌≡◌, ◌*◌, ◌/◌, ◌==◌, ◌≤◌, 
 use Rattle.std.specs.Prelude.{Option, Some}
 use Rattle.std.proofs.lemmas.Bool.{and_parts}
 use Rattle.std.proofs.lemmas.Nat.{le-div}
-use Rattle.ct_entries.specs.declared.claim.Side.TheVariants.{Lower, Upper}
-use Rattle.ct_entries.specs.declared.entry.Entry.{Entry}
-use Rattle.ct_entries.specs.Code.{IsTrueLower, IsTrueUpper}
-use Rattle.ct_entries.specs.Entry.{IsEntry, constant_weight}
-use Rattle.ct_entries.proofs.DigitCodes.{bound_from_weight}
-use Rattle.ct_entries.proofs.EntryLemmas.{WeightFits, entry_limits}
+use Rattle.ct_words.specs.declared.claim.Side.TheVariants.{Lower, Upper}
+use Rattle.ct_words.specs.declared.entry.Entry.{Entry}
+use Rattle.ct_words.specs.Code.{IsTrueLower, IsTrueUpper}
+use Rattle.ct_words.specs.Entry.{IsEntry, constant_weight}
+use Rattle.ct_words.proofs.DigitCodes.{bound_from_weight}
+use Rattle.ct_words.proofs.EntryLemmas.{WeightFits, entry_limits}
 use Rattle.ct_johnson.proofs.Weights.{weight_bound-disjoint}
 use Rattle.ct_rule_parts.specs.declared.support.Support.{Support}
 use Rattle.ct_rule_parts.specs.Parts.{has_weight, weight_of}

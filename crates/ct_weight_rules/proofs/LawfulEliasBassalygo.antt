@@ -1,8 +1,8 @@
 -- The average over translates.
 use Rattle.std.proofs.Common.{ℕ, refl, arith}
 use Rattle.std.specs.Prelude.{Option}
-use Rattle.ct_entries.specs.declared.claim.Side.TheVariants.{Upper}
-use Rattle.ct_entries.proofs.EntryLemmas.{entry_limits}
+use Rattle.ct_words.specs.declared.claim.Side.TheVariants.{Upper}
+use Rattle.ct_words.proofs.EntryLemmas.{entry_limits}
 use Rattle.ct_johnson.specs.Bounds.{average}
 use Rattle.ct_johnson.proofs.Averages.{average_sound, one-le-average, average-le}
 use Rattle.ct_rule_parts.specs.declared.support.Support.{Support}

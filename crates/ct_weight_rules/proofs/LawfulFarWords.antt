@@ -2,8 +2,8 @@
 use Rattle.std.proofs.Common.{◌-◌, ◌*◌, min, nat_lt, ltb-true, arith}
 use Rattle.std.specs.Prelude.{Option, Some}
 use Rattle.std.proofs.lemmas.Bool.{and_parts}
-use Rattle.ct_entries.specs.declared.claim.Side.TheVariants.{Upper}
-use Rattle.ct_entries.proofs.DigitCodes.{bound_from_weight}
+use Rattle.ct_words.specs.declared.claim.Side.TheVariants.{Upper}
+use Rattle.ct_words.proofs.DigitCodes.{bound_from_weight}
 use Rattle.ct_johnson.proofs.Weights.{weight_bound-apart}
 use Rattle.ct_rule_parts.specs.declared.support.Support.{Support}
 use Rattle.ct_rule_parts.specs.Parts.{has_weight, weight_of}

@@ -1,7 +1,7 @@
 -- A code of constant weight that is handed in.
 use Rattle.std.proofs.Common.{arith}
 use Rattle.std.specs.Prelude.{Option}
-use Rattle.ct_entries.specs.declared.claim.Side.TheVariants.{Lower}
+use Rattle.ct_words.specs.declared.claim.Side.TheVariants.{Lower}
 use Rattle.ct_rule_parts.specs.declared.support.Support.{Support}
 use Rattle.ct_rule_parts.proofs.Lawful.{IsLawful, no_worse-same, support_number}
 use Rattle.ct_weight_rules.specs.GivenCode.{given_code}

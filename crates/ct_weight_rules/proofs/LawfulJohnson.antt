@@ -2,10 +2,10 @@
 use Rattle.std.proofs.Common.{◌≡◌, ◌+◌, ◌-◌, ◌%◌, ◌≤◌, subst, refl, arith}
 use Rattle.std.specs.Prelude.{Option, IfSome}
 use Rattle.ct_words.specs.declared.limits.TheConstants.{MAX_BOUND}
-use Rattle.ct_entries.specs.declared.claim.Side.TheVariants.{Upper}
-use Rattle.ct_entries.specs.Entry.{unrestricted}
-use Rattle.ct_entries.specs.Code.{IsTrueUpper}
-use Rattle.ct_entries.proofs.EntryLemmas.{entry_limits}
+use Rattle.ct_words.specs.declared.claim.Side.TheVariants.{Upper}
+use Rattle.ct_words.specs.Entry.{unrestricted}
+use Rattle.ct_words.specs.Code.{IsTrueUpper}
+use Rattle.ct_words.proofs.EntryLemmas.{entry_limits}
 use Rattle.ct_johnson.proofs.JohnsonRule.{johnson_sound, johnson_within, johnson_odd-le}
 use Rattle.ct_rule_parts.specs.declared.support.Support.{Support}
 use Rattle.ct_rule_parts.specs.Parts.{half_up, first}

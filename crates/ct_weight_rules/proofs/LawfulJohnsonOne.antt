@@ -5,12 +5,12 @@ use Rattle.std.specs.Int.{div_ceil}
 use Rattle.std.proofs.Math.Nat.{mul-le-mul_left}
 use Rattle.std.proofs.lemmas.Bool.{and_parts}
 use Rattle.std.proofs.lemmas.Nat.{le-div}
-use Rattle.ct_entries.specs.declared.entry.Entry.{Entry}
-use Rattle.ct_entries.specs.declared.claim.Side.TheVariants.{Lower, Upper}
-use Rattle.ct_entries.specs.Code.{IsTrueUpper}
-use Rattle.ct_entries.specs.Entry.{IsEntry, constant_weight}
-use Rattle.ct_entries.proofs.EntryLemmas.{entry_limits}
-use Rattle.ct_entries.proofs.DigitCodes.{bound_from_weight, weight_bound_from_codes}
+use Rattle.ct_words.specs.declared.entry.Entry.{Entry}
+use Rattle.ct_words.specs.declared.claim.Side.TheVariants.{Lower, Upper}
+use Rattle.ct_words.specs.Code.{IsTrueUpper}
+use Rattle.ct_words.specs.Entry.{IsEntry, constant_weight}
+use Rattle.ct_words.proofs.EntryLemmas.{entry_limits}
+use Rattle.ct_words.proofs.DigitCodes.{bound_from_weight, weight_bound_from_codes}
 use Rattle.ct_johnson.proofs.DigitPlaces.{lower-with_one}
 use Rattle.ct_johnson.proofs.OnePlace.{weight_bound-one}
 use Rattle.ct_johnson.proofs.Quotients.{div-le-div}

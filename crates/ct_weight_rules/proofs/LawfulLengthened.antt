@@ -2,12 +2,12 @@
 use Rattle.std.proofs.Common.{◌≡◌, ℕ, ◌+◌, ◌-◌, ◌≤◌, nat_le, leb-true, subst, ◌∙◌, [], ◌∷◌, arith}
 use Rattle.std.specs.Prelude.{Option, Some}
 use Rattle.std.proofs.lemmas.Bool.{and_parts}
-use Rattle.ct_entries.specs.declared.claim.Side.TheVariants.{Lower}
-use Rattle.ct_entries.specs.Code.{IsTrueLower}
-use Rattle.ct_entries.specs.Entry.{constant_weight}
-use Rattle.ct_entries.proofs.EntryLemmas.{entry_limits}
-use Rattle.ct_entries.specs.Constructions.Append.{lengthened, one_appended}
-use Rattle.ct_entries.proofs.Constructions.AppendLemmas.{IsCode-lengthened, IsCode-one_appended, length-lengthened, length-one_appended}
+use Rattle.ct_words.specs.declared.claim.Side.TheVariants.{Lower}
+use Rattle.ct_words.specs.Code.{IsTrueLower}
+use Rattle.ct_words.specs.Entry.{constant_weight}
+use Rattle.ct_words.proofs.EntryLemmas.{entry_limits}
+use Rattle.ct_words.specs.Constructions.Append.{lengthened, one_appended}
+use Rattle.ct_words.proofs.Constructions.AppendLemmas.{IsCode-lengthened, IsCode-one_appended, length-lengthened, length-one_appended}
 use Rattle.ct_rule_parts.specs.declared.support.Support.{Support}
 use Rattle.ct_rule_parts.specs.Parts.{has_weight, weight_of, first}
 use Rattle.ct_rule_parts.proofs.Lawful.{IsLawful, LeadsBack, only_value, same_number, no_worse-other, first-no_better, defined_entry, defined_condition}

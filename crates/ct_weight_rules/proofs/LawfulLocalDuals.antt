@@ -8,14 +8,14 @@ use Rattle.std.proofs.lemmas.List.Elements.{All-head, All-tail, All-map, All-fil
 use Rattle.std.proofs.lemmas.Option.{none-some}
 use Rattle.ct_words.specs.declared.limits.TheConstants.{MAX_N}
 use Rattle.ct_words.proofs.Counting.Words.{Contains-map}
-use Rattle.ct_entries.specs.declared.claim.Side.TheVariants.{Upper}
-use Rattle.ct_entries.specs.declared.entry.Entry.{Entry}
-use Rattle.ct_entries.specs.Code.{IsCode, IsTrueUpper}
-use Rattle.ct_entries.specs.Entry.{IsEntry, constant_weight}
-use Rattle.ct_entries.specs.Constructions.Even.{even_from}
-use Rattle.ct_entries.specs.Numbers.{numbers_of, combination}
-use Rattle.ct_entries.proofs.EntryLemmas.{WeightFits, entry_limits}
-use Rattle.ct_entries.specs.Doubly.{IsDoubly}
+use Rattle.ct_words.specs.declared.claim.Side.TheVariants.{Upper}
+use Rattle.ct_words.specs.declared.entry.Entry.{Entry}
+use Rattle.ct_words.specs.Code.{IsCode, IsTrueUpper}
+use Rattle.ct_words.specs.Entry.{IsEntry, constant_weight}
+use Rattle.ct_words.specs.Constructions.Even.{even_from}
+use Rattle.ct_words.specs.Numbers.{numbers_of, combination}
+use Rattle.ct_words.proofs.EntryLemmas.{WeightFits, entry_limits}
+use Rattle.ct_words.specs.Doubly.{IsDoubly}
 use Rattle.ct_doubly.specs.Doubly.{doubly}
 use Rattle.ct_doubly.proofs.DoublyTrue.{doubly-true}
 use Rattle.ct_doubly.proofs.Words.{IsCode-from_doubly}
@@ -35,7 +35,7 @@ use Rattle.ct_rule_parts.specs.Slot.{AreNoBetter}
 use Rattle.ct_rule_parts.specs.Support.{Stands, local_at}
 use Rattle.ct_rule_parts.specs.Local.{doubly_at, doubly_uppers, lesser, local_value}
 use Rattle.ct_rule_parts.proofs.DualLemmas.{local_there}
-use Rattle.ct_entries.proofs.InLists.{Contains-range_with_len}
+use Rattle.ct_words.proofs.InLists.{Contains-range_with_len}
 use Rattle.ct_rule_parts.proofs.Lawful.{IsLawful, LeadsBack, IsTrueNumber, AreTrueAt, NoWorse, same_number, no_worse-other, defined_entry, defined_condition}
 use Rattle.ct_rule_parts.proofs.PlainEntries.{Weighted, a_weight, no_item}
 use Rattle.ct_weight_rules.specs.Inside.RestedOn.{all_weights}

@@ -1,7 +1,7 @@
 -- A smaller distance.
 use Rattle.std.proofs.Common.{◌+◌, ◌-◌, [], ◌∷◌, arith}
 use Rattle.std.specs.Prelude.{Option}
-use Rattle.ct_entries.specs.declared.claim.Side.TheVariants.{Lower, Upper}
+use Rattle.ct_words.specs.declared.claim.Side.TheVariants.{Lower, Upper}
 use Rattle.ct_johnson.proofs.Weights.{code-nearer}
 use Rattle.ct_rule_parts.specs.declared.support.Support.{Support}
 use Rattle.ct_rule_parts.specs.Parts.{weight_of, first}

@@ -10,11 +10,11 @@ use Rattle.ct_words.specs.declared.limits.TheConstants.{MAX_N}
 use Rattle.ct_words.specs.Word.{distance}
 use Rattle.ct_words.specs.Counting.PairTotals.{pair_total}
 use Rattle.ct_words.proofs.Counting.Combinations.{product-le}
-use Rattle.ct_entries.specs.declared.claim.Side.TheVariants.{Upper}
-use Rattle.ct_entries.specs.declared.entry.Entry.{Entry}
-use Rattle.ct_entries.specs.Code.{IsCodeOf, IsTrueUpper}
-use Rattle.ct_entries.specs.Numbers.{krawtchouk, number_at, numbers_of, combination}
-use Rattle.ct_entries.proofs.Constructions.FrontLemmas.{IsCode-take}
+use Rattle.ct_words.specs.declared.claim.Side.TheVariants.{Upper}
+use Rattle.ct_words.specs.declared.entry.Entry.{Entry}
+use Rattle.ct_words.specs.Code.{IsCodeOf, IsTrueUpper}
+use Rattle.ct_words.specs.Numbers.{krawtchouk, number_at, numbers_of, combination}
+use Rattle.ct_words.proofs.Constructions.FrontLemmas.{IsCode-take}
 use Rattle.ct_duals.specs.declared.dual.Dual.{Dual}
 use Rattle.ct_duals.specs.Dual.{as_index, IsDual}
 use Rattle.ct_duals.specs.Bound.{AcceptedValue, IsAccepted, AreTrueUppers, AreAtMost, dual_premises, dual_spread}

@@ -1,8 +1,8 @@
 -- An entry with weight is a neighbour of its neighbours.
 use Rattle.std.proofs.Common.{◌≡◌, ℕ, ◌+◌, ◌-◌, ◌≤◌, refl, ap₂, ◌∙◌, arith}
-use Rattle.ct_entries.specs.declared.entry.Entry.{Entry}
-use Rattle.ct_entries.specs.Entry.{IsEntry, constant_weight}
-use Rattle.ct_entries.proofs.EntryLemmas.{entry_limits}
+use Rattle.ct_words.specs.declared.entry.Entry.{Entry}
+use Rattle.ct_words.specs.Entry.{IsEntry, constant_weight}
+use Rattle.ct_words.proofs.EntryLemmas.{entry_limits}
 use Rattle.ct_rule_parts.specs.Parts.{weight_of}
 use Rattle.ct_rule_parts.proofs.PlainEntries.{Weighted}
 use Rattle.ct_rule_parts.proofs.WeightEntries.{written_weight}

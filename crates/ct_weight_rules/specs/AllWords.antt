@@ -1,6 +1,6 @@
 -- All words of the weight (Brouwer, Shearer, Sloane and Smith 1990): there are C(n,w) words of length n and weight w.
 use Rattle.std.specs.Prelude.{[], Some}
-use Rattle.ct_entries.specs.declared.claim.Side.TheVariants.{Upper}
+use Rattle.ct_words.specs.declared.claim.Side.TheVariants.{Upper}
 use Rattle.ct_words.specs.Counting.Binomials.{choose}
 use Rattle.ct_rule_parts.specs.Parts.{RuleParts, has_weight, weight_of}
 

@@ -1,8 +1,8 @@
 -- Pairs of words with a one at one place (Johnson 1962; MacWilliams and Sloane, chapter 17, section 2): two words of weight w at distance d share at
 -- most w - d/2 ones, and M words share fewest where the ones are spread evenly over the places.
 use Rattle.std.specs.Prelude.{ℕ, ◌-◌, ◌&&◌, [], is_some, option_map, Option}
-use Rattle.ct_entries.specs.declared.entry.Entry.{Entry}
-use Rattle.ct_entries.specs.declared.claim.Side.TheVariants.{Upper}
+use Rattle.ct_words.specs.declared.entry.Entry.{Entry}
+use Rattle.ct_words.specs.declared.claim.Side.TheVariants.{Upper}
 use Rattle.ct_johnson.specs.Bounds.{column_count_value}
 use Rattle.ct_rule_parts.specs.Parts.{RuleParts, has_weight, weight_of}
 

@@ -1,6 +1,6 @@
 -- Complements (Brouwer, Shearer, Sloane and Smith 1990): the words of a code of weight n - w with each digit turned are a code of weight w.
 use Rattle.std.specs.Prelude.{[], ◌∷◌, Some}
-use Rattle.ct_entries.specs.declared.claim.Side.TheVariants.{Lower, Upper}
+use Rattle.ct_words.specs.declared.claim.Side.TheVariants.{Lower, Upper}
 use Rattle.ct_rule_parts.specs.Parts.{RuleParts, has_weight, first}
 use Rattle.ct_weight_rules.specs.Neighbours.{complementary}
 

@@ -1,7 +1,7 @@
 -- Delsarte's bound of a dual that is handed in (Delsarte 1973; Best, Brouwer, MacWilliams, Odlyzko and Sloane 1978).
 use Rattle.std.specs.Prelude.{ℕ, ◌&&◌, List, [], not, is_some, Option, Some, None}
-use Rattle.ct_entries.specs.declared.claim.Side.TheVariants.{Upper}
-use Rattle.ct_entries.specs.declared.entry.Entry.{Entry}
+use Rattle.ct_words.specs.declared.claim.Side.TheVariants.{Upper}
+use Rattle.ct_words.specs.declared.entry.Entry.{Entry}
 use Rattle.ct_duals.specs.Bound.{AcceptedValue, dual_premises, dual_bound}
 use Rattle.ct_rule_parts.specs.declared.support.Support.{Support}
 use Rattle.ct_rule_parts.specs.Parts.{RuleParts, has_weight}

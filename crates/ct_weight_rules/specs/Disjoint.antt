@@ -1,8 +1,8 @@
 -- Words with no one in common (Johnson 1962; Brouwer, Shearer, Sloane and Smith 1990): two words of weight w differ at 2w places where they have
 -- no one in common, so a code of distance 2w and weight w has at most ⌊n/w⌋ words, and words of w ones side by side are such a code.
 use Rattle.std.specs.Prelude.{ℕ, ◌/◌, ◌==◌, ◌&&◌, Bool, [], Some}
-use Rattle.ct_entries.specs.declared.claim.Side.TheVariants.{Lower, Upper}
-use Rattle.ct_entries.specs.declared.entry.Entry.{Entry}
+use Rattle.ct_words.specs.declared.claim.Side.TheVariants.{Lower, Upper}
+use Rattle.ct_words.specs.declared.entry.Entry.{Entry}
 use Rattle.ct_rule_parts.specs.Parts.{RuleParts, has_weight, weight_of}
 
 -- whether the weight is half the distance

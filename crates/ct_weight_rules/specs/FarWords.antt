@@ -1,8 +1,8 @@
 -- Far words (Johnson 1962; Brouwer, Shearer, Sloane and Smith 1990): two words of length n and weight w differ at no more than 2w places, nor at
 -- more than 2(n - w).
 use Rattle.std.specs.Prelude.{◌-◌, ◌*◌, ◌&&◌, min, nat_lt, Bool, [], Some}
-use Rattle.ct_entries.specs.declared.claim.Side.TheVariants.{Upper}
-use Rattle.ct_entries.specs.declared.entry.Entry.{Entry}
+use Rattle.ct_words.specs.declared.claim.Side.TheVariants.{Upper}
+use Rattle.ct_words.specs.declared.entry.Entry.{Entry}
 use Rattle.ct_rule_parts.specs.Parts.{RuleParts, has_weight, weight_of}
 
 -- whether no two words of the weight are so far apart: d > 2·min(w, n - w)

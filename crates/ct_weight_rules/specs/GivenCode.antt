@@ -1,6 +1,6 @@
 -- A code of constant weight that is handed in.
 use Rattle.std.specs.Prelude.{◌&&◌, [], is_some, Option}
-use Rattle.ct_entries.specs.declared.claim.Side.TheVariants.{Lower}
+use Rattle.ct_words.specs.declared.claim.Side.TheVariants.{Lower}
 use Rattle.ct_rule_parts.specs.declared.support.Support.{Support}
 use Rattle.ct_rule_parts.specs.Parts.{RuleParts, has_weight}
 use Rattle.ct_rule_parts.specs.Support.{size_at}

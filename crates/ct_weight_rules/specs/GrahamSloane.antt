@@ -1,8 +1,8 @@
 -- A sum class (Graham and Sloane 1980, Lower bounds for constant weight codes): of the words of one weight those whose ones stand at places that
 -- add up to r modulo the length are at distance 4.
 use Rattle.std.specs.Prelude.{ℕ, ◌==◌, ◌&&◌, nat_lt, if◌then◌else◌, [], length, is_some, Option, Some, None}
-use Rattle.ct_entries.specs.declared.claim.Side.TheVariants.{Lower}
-use Rattle.ct_entries.specs.declared.entry.Entry.{Entry}
+use Rattle.ct_words.specs.declared.claim.Side.TheVariants.{Lower}
+use Rattle.ct_words.specs.declared.entry.Entry.{Entry}
 use Rattle.ct_sum_classes.specs.SumClass.{sum_class}
 use Rattle.ct_rule_parts.specs.Parts.{RuleParts, has_weight, weight_of}
 

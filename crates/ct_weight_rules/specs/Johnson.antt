@@ -1,7 +1,7 @@
 -- The words outside the balls (Johnson 1962; MacWilliams and Sloane, chapter 17, section 3): for d = 2δ - 1, at least C(n,δ) - C(d,δ-1)·A(n,d+1,d)
 -- of the words at distance δ from a word of the code lie in no ball of radius δ - 1, and each of them is that far from at most ⌊n/δ⌋ words of it.
 use Rattle.std.specs.Prelude.{[], ◌∷◌, not}
-use Rattle.ct_entries.specs.declared.claim.Side.TheVariants.{Upper}
+use Rattle.ct_words.specs.declared.claim.Side.TheVariants.{Upper}
 use Rattle.ct_johnson.specs.Bounds.{johnson_odd}
 use Rattle.ct_rule_parts.specs.Parts.{RuleParts, has_weight, half_up, first}
 use Rattle.ct_weight_rules.specs.Neighbours.{around}

@@ -2,7 +2,7 @@
 -- w - 1, and each word of weight w has a one at w of the n places.
 use Rattle.std.specs.Prelude.{◌+◌, ◌*◌, ◌/◌, ◌&&◌, nat_le, [], ◌∷◌, Some}
 use Rattle.std.specs.Int.{div_ceil}
-use Rattle.ct_entries.specs.declared.claim.Side.TheVariants.{Lower, Upper}
+use Rattle.ct_words.specs.declared.claim.Side.TheVariants.{Lower, Upper}
 use Rattle.ct_rule_parts.specs.Parts.{RuleParts, has_weight, weight_of, first}
 use Rattle.ct_weight_rules.specs.Neighbours.{one_less, one_more}
 

@@ -1,6 +1,6 @@
 -- A digit more (Brouwer, Shearer, Sloane and Smith 1990): each word of a code of length n - 1 with one digit after it, the same for all, makes a code of length n.
 use Rattle.std.specs.Prelude.{[], ◌∷◌, ◌&&◌, nat_le, Some}
-use Rattle.ct_entries.specs.declared.claim.Side.TheVariants.{Lower}
+use Rattle.ct_words.specs.declared.claim.Side.TheVariants.{Lower}
 use Rattle.ct_rule_parts.specs.Parts.{RuleParts, has_weight, weight_of, first}
 use Rattle.ct_weight_rules.specs.Neighbours.{zero_less, one_less}
 

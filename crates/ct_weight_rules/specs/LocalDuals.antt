@@ -1,6 +1,6 @@
 -- The local bound of a dual that is handed in: a code seen from one of its words (Johnson 1972; Agrell, Vardy and Zeger 2000).
 use Rattle.std.specs.Prelude.{ℕ, ◌&&◌, List, is_some, Option, Some, None}
-use Rattle.ct_entries.specs.declared.claim.Side.TheVariants.{Upper}
+use Rattle.ct_words.specs.declared.claim.Side.TheVariants.{Upper}
 use Rattle.ct_duals.specs.Bound.{AcceptedValue}
 use Rattle.ct_rule_parts.specs.declared.support.Support.{Support}
 use Rattle.ct_rule_parts.specs.Parts.{RuleParts, has_weight}

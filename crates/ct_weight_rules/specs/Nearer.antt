@@ -1,6 +1,6 @@
 -- A smaller distance (Brouwer, Shearer, Sloane and Smith 1990): a code of distance d + 2 is one of distance d. Two words of one weight have even distance.
 use Rattle.std.specs.Prelude.{[], ◌∷◌, Some}
-use Rattle.ct_entries.specs.declared.claim.Side.TheVariants.{Lower, Upper}
+use Rattle.ct_words.specs.declared.claim.Side.TheVariants.{Lower, Upper}
 use Rattle.ct_rule_parts.specs.Parts.{RuleParts, has_weight, first}
 use Rattle.ct_weight_rules.specs.Neighbours.{two_nearer, two_farther}
 

@@ -1,7 +1,7 @@
 -- Entries with weight beside an entry.
 use Rattle.std.specs.Prelude.{ℕ, ◌+◌, ◌-◌, ◌*◌}
-use Rattle.ct_entries.specs.declared.entry.Entry.{Entry}
-use Rattle.ct_entries.specs.Entry.{unrestricted, constant_weight}
+use Rattle.ct_words.specs.declared.entry.Entry.{Entry}
+use Rattle.ct_words.specs.Entry.{unrestricted, constant_weight}
 use Rattle.ct_rule_parts.specs.Parts.{weight_of, half_up}
 
 -- words with as many zeros as these have ones

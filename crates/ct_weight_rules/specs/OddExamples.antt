@@ -1,6 +1,6 @@
 -- Duals of entries without weight, with numbers of words that parity excludes by them or does not.
 use Rattle.std.specs.Prelude.{ℕ, ℤ, true, false, [], ◌∷◌, pos}
-use Rattle.ct_entries.specs.Entry.{unrestricted}
+use Rattle.ct_words.specs.Entry.{unrestricted}
 use Rattle.ct_duals.specs.declared.dual.Dual.{Dual}
 use Rattle.ct_rule_parts.specs.Support.{OddValue}
 

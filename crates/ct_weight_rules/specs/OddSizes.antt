@@ -1,6 +1,6 @@
 -- Sizes that parity excludes (Best, Brouwer, MacWilliams, Odlyzko and Sloane 1978, section II).
 use Rattle.std.specs.Prelude.{ℕ, ◌-◌, ◌%◌, ◌==◌, ◌&&◌, nat_le, not, Bool, is_some, if◌then◌else◌, List, pos, ◌*ℤ◌, int_lt, Option, Some, None, option_map}
-use Rattle.ct_entries.specs.declared.claim.Side.TheVariants.{Upper}
+use Rattle.ct_words.specs.declared.claim.Side.TheVariants.{Upper}
 use Rattle.ct_duals.specs.Bound.{AcceptedValue, dual_spread}
 use Rattle.ct_parity.specs.declared.sums.TheConstants.{MAX_ODD}
 use Rattle.ct_parity.specs.OddSum.{odd_sum}

@@ -1,6 +1,6 @@
 -- One word (Brouwer, Shearer, Sloane and Smith 1990): a word of weight w is a code of each distance.
 use Rattle.std.specs.Prelude.{[], Some}
-use Rattle.ct_entries.specs.declared.claim.Side.TheVariants.{Lower}
+use Rattle.ct_words.specs.declared.claim.Side.TheVariants.{Lower}
 use Rattle.ct_rule_parts.specs.Parts.{RuleParts, has_weight}
 
 -- A(n,d,w) is at least 1

@@ -1,7 +1,7 @@
 -- Words by one digit (Brouwer, Shearer, Sloane and Smith 1990): the words of a code with a 0 at a place and those with a 1 there, without it, are codes of length n - 1,
 -- of weight w and of weight w - 1.
 use Rattle.std.specs.Prelude.{◌+◌, [], ◌∷◌, ◌&&◌, nat_le, Some}
-use Rattle.ct_entries.specs.declared.claim.Side.TheVariants.{Upper}
+use Rattle.ct_words.specs.declared.claim.Side.TheVariants.{Upper}
 use Rattle.ct_rule_parts.specs.Parts.{RuleParts, has_weight, weight_of, first, second}
 use Rattle.ct_weight_rules.specs.Neighbours.{zero_less, one_less}
 

@@ -1,6 +1,6 @@
 -- A code of constant weight is a code (Brouwer, Shearer, Sloane and Smith 1990): of weight w and distance 2⌈d/2⌉, so of distance d.
 use Rattle.std.specs.Prelude.{ℕ, [], ◌∷◌, not, Some}
-use Rattle.ct_entries.specs.declared.claim.Side.TheVariants.{Lower}
+use Rattle.ct_words.specs.declared.claim.Side.TheVariants.{Lower}
 use Rattle.ct_rule_parts.specs.Parts.{RuleParts, has_weight, first}
 use Rattle.ct_weight_rules.specs.Neighbours.{even_of_weight}
 

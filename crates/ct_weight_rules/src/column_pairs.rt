@@ -2,12 +2,12 @@
 
 ghost use Rattle.std.specs.Prelude.{◌≡◌, ◌+◌, true, false, [], Some, None};
 ghost use Rattle.ct_words.specs.declared.limits.TheConstants.{MAX_N};
-ghost use Rattle.ct_entries.specs.Entry.{IsEntry, unrestricted, constant_weight};
+ghost use Rattle.ct_words.specs.Entry.{IsEntry, unrestricted, constant_weight};
 ghost use Rattle.ct_rule_parts.specs.Parts.{is_defined};
 ghost use Rattle.ct_weight_rules.specs.ColumnPairs.{below_too_many, column_pairs};
 
-use ct_entries::Entry;
 use ct_johnson::column_count;
+use ct_words::Entry;
 
 /// The number that V8 gives, one below the least number of words that is too many; `None` where the entry has no weight
 /// or there is none.

@@ -1,7 +1,7 @@
 //! Delsarte's bound of a dual that is handed in: U11 and V9.
 
 ghost use Rattle.std.specs.Prelude.{◌≡◌, true, false, [], ◌∷◌, Some, None, pos, option_map};
-ghost use Rattle.ct_entries.specs.Entry.{unrestricted, constant_weight};
+ghost use Rattle.ct_words.specs.Entry.{unrestricted, constant_weight};
 ghost use Rattle.ct_duals.specs.Examples.{thirteen_six, eight_four_four};
 ghost use Rattle.ct_rule_parts.specs.declared.support.Support.TheVariants.{Nothing, Size, Bound};
 ghost use Rattle.ct_rule_parts.specs.Parts.{is_defined};

@@ -1,12 +1,11 @@
 //! Words with no one in common.
 
 ghost use Rattle.std.specs.Prelude.{◌≡◌, ◌+◌, ◌/◌, true, false, [], Some};
-ghost use Rattle.ct_entries.specs.Entry.{IsEntry, unrestricted, constant_weight};
+ghost use Rattle.ct_words.specs.Entry.{IsEntry, unrestricted, constant_weight};
 ghost use Rattle.ct_rule_parts.specs.Parts.{is_defined};
 ghost use Rattle.ct_weight_rules.specs.Disjoint.{has_disjoint_words, count_of_disjoint, disjoint_below, disjoint_above};
 
-use ct_entries::Entry;
-use ct_words::MAX_N;
+use ct_words::{Entry, MAX_N};
 
 /// Whether the entry has a weight, and this is half its distance: two words of a code of the entry have no one in common.
 pub fn has_disjoint_words(entry: Entry) -> bool

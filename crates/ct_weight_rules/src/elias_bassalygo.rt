@@ -2,14 +2,14 @@
 
 ghost use Rattle.std.specs.Prelude.{◌≡◌, ◌+◌, true, false, [], ◌∷◌, Some};
 ghost use Rattle.ct_words.specs.declared.limits.TheConstants.{MAX_N};
-ghost use Rattle.ct_entries.specs.Entry.{IsEntry, unrestricted, constant_weight};
+ghost use Rattle.ct_words.specs.Entry.{IsEntry, unrestricted, constant_weight};
 ghost use Rattle.ct_rule_parts.specs.Parts.{is_defined};
 ghost use Rattle.ct_weight_rules.specs.Inside.RestedOn.{by_elias_bassalygo};
 ghost use Rattle.ct_weight_rules.specs.EliasBassalygo.{elias_bassalygo};
 
-use ct_entries::Entry;
 use ct_johnson::average;
 use ct_rule_parts::first;
+use ct_words::Entry;
 
 /// The number ⌊2^(n−1)·u/C(n,w)⌋ that U10 with the weight w gives where its premise has the value u; 0 where w is above n.
 pub fn averaged(w: u32, entry: Entry, values: &[u32]) -> u64

@@ -1,12 +1,11 @@
 //! Far words.
 
 ghost use Rattle.std.specs.Prelude.{◌≡◌, ◌+◌, ◌-◌, ◌/◌, true, false, [], Some};
-ghost use Rattle.ct_entries.specs.Entry.{IsEntry, unrestricted, constant_weight};
+ghost use Rattle.ct_words.specs.Entry.{IsEntry, unrestricted, constant_weight};
 ghost use Rattle.ct_rule_parts.specs.Parts.{is_defined};
 ghost use Rattle.ct_weight_rules.specs.FarWords.{has_no_far_words, far_words};
 
-use ct_entries::Entry;
-use ct_words::MAX_N;
+use ct_words::{Entry, MAX_N};
 
 /// Whether the entry has a weight, and no two words of it are as far apart as its distance: d > 2·min(w, n−w).
 pub fn has_no_far_words(entry: Entry) -> bool

@@ -1,12 +1,12 @@
 //! The codes of Graham and Sloane: a sum class.
 
 ghost use Rattle.std.specs.Prelude.{◌≡◌, true, false, [], Some, None};
-ghost use Rattle.ct_entries.specs.Entry.{IsEntry, unrestricted, constant_weight};
+ghost use Rattle.ct_words.specs.Entry.{IsEntry, unrestricted, constant_weight};
 ghost use Rattle.ct_rule_parts.specs.Parts.{is_defined};
 ghost use Rattle.ct_weight_rules.specs.GrahamSloane.{sum_class_size, graham_sloane};
 
-use ct_entries::Entry;
 use ct_sum_classes::sum_class_count;
+use ct_words::Entry;
 
 /// The number of M9 with the residue r: how many words of the length and the weight of the entry there are, the places of
 /// whose ones add up to r modulo n, where the distance is 4, r is below n and there is such a word (Graham and Sloane

@@ -2,14 +2,14 @@
 
 ghost use Rattle.std.specs.Prelude.{◌≡◌, ◌+◌, ◌-◌, true, false, [], ◌∷◌, Some, None};
 ghost use Rattle.ct_words.specs.declared.limits.TheConstants.{MAX_N};
-ghost use Rattle.ct_entries.specs.Entry.{IsEntry, unrestricted, constant_weight};
+ghost use Rattle.ct_words.specs.Entry.{IsEntry, unrestricted, constant_weight};
 ghost use Rattle.ct_rule_parts.specs.Parts.{is_defined};
 ghost use Rattle.ct_weight_rules.specs.Inside.RestedOn.{by_johnson};
 ghost use Rattle.ct_weight_rules.specs.Johnson.{johnson};
 
-use ct_entries::Entry;
 use ct_johnson::johnson_odd;
 use ct_rule_parts::first;
+use ct_words::Entry;
 
 /// The number that U9 gives where its premise has the value, for the distance 2⌈d/2⌉ − 1, which is d where U9 is defined;
 /// `None` where so many words leave none outside the balls.

@@ -2,12 +2,12 @@
 
 ghost use Rattle.std.specs.Prelude.{◌≡◌, ◌+◌, ◌-◌, true, false, [], ◌∷◌, Some};
 ghost use Rattle.ct_words.specs.declared.limits.TheConstants.{MAX_N};
-ghost use Rattle.ct_entries.specs.Entry.{IsEntry, unrestricted, constant_weight};
+ghost use Rattle.ct_words.specs.Entry.{IsEntry, unrestricted, constant_weight};
 ghost use Rattle.ct_rule_parts.specs.Parts.{is_defined};
 ghost use Rattle.ct_weight_rules.specs.JohnsonZero.{johnson_zero_below, johnson_zero_above};
 
-use ct_entries::Entry;
 use ct_rule_parts::first;
+use ct_words::Entry;
 
 /// What M6 gives where its premise has this value v: of v words of length n + 1 and weight w at least ⌈(n+1−w)·v/(n+1)⌉ have a
 /// zero at some place. A missing value counts as 0, and so does a missing weight.

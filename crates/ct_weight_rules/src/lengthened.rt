@@ -1,7 +1,7 @@
 //! A digit more.
 
 ghost use Rattle.std.specs.Prelude.{◌≡◌, ◌+◌, ◌-◌, true, false, [], ◌∷◌, Some};
-ghost use Rattle.ct_entries.specs.Entry.{unrestricted, constant_weight};
+ghost use Rattle.ct_words.specs.Entry.{unrestricted, constant_weight};
 ghost use Rattle.ct_rule_parts.specs.Parts.{is_defined};
 ghost use Rattle.ct_weight_rules.specs.Lengthened.{lengthened_by_zero, lengthened_by_one};
 

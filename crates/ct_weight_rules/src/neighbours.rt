@@ -2,11 +2,11 @@
 //! weight beside it.
 
 ghost use Rattle.std.specs.Prelude.{◌≡◌};
-ghost use Rattle.ct_entries.specs.Entry.{IsEntry, unrestricted, constant_weight};
+ghost use Rattle.ct_words.specs.Entry.{IsEntry, unrestricted, constant_weight};
 ghost use Rattle.ct_rule_parts.specs.Parts.{weight_of};
 ghost use Rattle.ct_weight_rules.specs.Neighbours.{complementary, zero_less, zero_more, one_less, one_more, two_nearer, two_farther, of_weight, even_of_weight, around, unweighted, unweighted_and_nearer};
 
-use ct_entries::Entry;
+use ct_words::Entry;
 
 /// The weight of the entry, 0 where it has none.
 fn weight_of(entry: Entry) -> u32

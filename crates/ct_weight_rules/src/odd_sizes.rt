@@ -1,9 +1,9 @@
 //! Sizes that parity excludes: U12.
 
 ghost use Rattle.std.specs.Prelude.{◌≡◌, ◌≤◌, ◌-◌, ◌%◌, ℕ, List, true, false, [], ◌∷◌, Some, None, pos, ◌*ℤ◌, ◌≤ℤ◌, ◌<ℤ◌, int_lt};
-ghost use Rattle.ct_entries.specs.Code.{IsTrueUpper};
-ghost use Rattle.ct_entries.specs.Entry.{unrestricted, constant_weight};
-ghost use Rattle.ct_entries.specs.Numbers.{numbers_of, combination};
+ghost use Rattle.ct_words.specs.Code.{IsTrueUpper};
+ghost use Rattle.ct_words.specs.Entry.{unrestricted, constant_weight};
+ghost use Rattle.ct_words.specs.Numbers.{numbers_of, combination};
 ghost use Rattle.ct_duals.specs.Bound.{AreTrueUppers, dual_premises, dual_spread};
 ghost use Rattle.ct_duals.specs.Check.{dual_fault};
 ghost use Rattle.ct_duals.specs.Dual.{IsDual};

@@ -1,17 +1,16 @@
 //! Words by one digit.
 
 ghost use Rattle.std.specs.Prelude.{◌≡◌, ◌+◌, ◌-◌, ◌/◌, true, false, ◌∷◌, [], Some};
-ghost use Rattle.ct_entries.specs.declared.claim.Side.TheVariants.{Upper};
-ghost use Rattle.ct_entries.specs.Entry.{IsEntry, unrestricted, constant_weight};
+ghost use Rattle.ct_words.specs.declared.claim.Side.TheVariants.{Upper};
+ghost use Rattle.ct_words.specs.Entry.{IsEntry, unrestricted, constant_weight};
 ghost use Rattle.ct_rule_parts.specs.Entries.{listed};
 ghost use Rattle.ct_rule_parts.specs.Parts.{is_defined, within_limit};
 ghost use Rattle.ct_weight_rules.specs.Inside.RestedOn.{by_split};
 ghost use Rattle.ct_weight_rules.specs.Split.{split};
 
 use crate::neighbours::{one_less, one_more, zero_less, zero_more};
-use ct_entries::Entry;
 use ct_rule_parts::Entries;
-use ct_words::{MAX_BOUND, MAX_N};
+use ct_words::{Entry, MAX_BOUND, MAX_N};
 
 /// The entries of V6's premises: A(n−1,d,w), and A(n−1,d,w−1).
 pub fn parts_of_split(entry: Entry) -> Entries<'static>

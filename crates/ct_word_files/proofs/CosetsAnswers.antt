@@ -6,8 +6,8 @@ use Rattle.std.proofs.lemmas.List.Elements.{All-from_recursion, recursion_from_A
 use Rattle.toml.specs.Data.{Data, table, Members}
 use Rattle.ct_words.specs.declared.limits.TheConstants.{MAX_N}
 use Rattle.ct_words.specs.Text.{word_text}
-use Rattle.ct_entries.specs.declared.entry.Entry.{Entry}
-use Rattle.ct_entries.specs.declared.fault.TheConstants.{MAX_REPRESENTATIVES}
+use Rattle.ct_words.specs.declared.entry.Entry.{Entry}
+use Rattle.ct_words.specs.declared.fault.TheConstants.{MAX_REPRESENTATIVES}
 use Rattle.ct_fields.specs.Steps.{◌>>=◌, check}
 use Rattle.ct_fields.specs.Fields.{texts_in, texts_field, words_from}
 use Rattle.ct_fields.specs.LastFields.{last_fields}

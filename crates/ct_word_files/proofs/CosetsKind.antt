@@ -3,12 +3,12 @@ use Rattle.std.proofs.Common.{◌≡◌, ℕ, ◌^◌, ◌<◌, ◌≤◌, List,
 use Rattle.std.specs.Prelude.{All}
 use Rattle.std.specs.List.Sorted.{IsPermutation}
 use Rattle.ct_words.specs.declared.limits.TheConstants.{MAX_N}
-use Rattle.ct_entries.specs.declared.entry.Entry.{Entry}
-use Rattle.ct_entries.specs.declared.fault.TheConstants.{MAX_REPRESENTATIVES}
-use Rattle.ct_entries.specs.Entry.{IsEntry}
-use Rattle.ct_entries.specs.Code.{CodeValue, IsSoundCode}
-use Rattle.ct_entries.specs.Coset.{CosetValue, coset_list}
-use Rattle.ct_entries.proofs.EntryLemmas.{entry_limits}
+use Rattle.ct_words.specs.declared.entry.Entry.{Entry}
+use Rattle.ct_words.specs.declared.fault.TheConstants.{MAX_REPRESENTATIVES}
+use Rattle.ct_words.specs.Entry.{IsEntry}
+use Rattle.ct_words.specs.Code.{CodeValue, IsSoundCode}
+use Rattle.ct_words.specs.Coset.{CosetValue, coset_list}
+use Rattle.ct_words.proofs.EntryLemmas.{entry_limits}
 use Rattle.ct_codes.proofs.CosetLemmas.{cosets_from_no_fault, choice_count-pos, no_fault_of_cosets}
 use Rattle.ct_codes.proofs.SpanLemmas.{length-coset_list}
 use Rattle.ct_kind.specs.Named.{NamedCode}

@@ -1,7 +1,7 @@
 -- The room that the tables of words and of cosets have.
 use Rattle.std.proofs.Common.{ℕ, List, length, Option, Some, None, refl, arith}
 use Rattle.std.specs.Prelude.{◌+◌, ◌*◌}
-use Rattle.ct_entries.specs.declared.entry.Entry.{Entry}
+use Rattle.ct_words.specs.declared.entry.Entry.{Entry}
 use Rattle.ct_fields.proofs.RoomLemmas.{Holds, words-simple, words-room}
 use Rattle.ct_word_files.specs.WrittenWords.{words_table, cosets_table}
 

@@ -1,11 +1,11 @@
 -- Evidence of kind words.
 use Rattle.std.proofs.Common.{◌≡◌, ℕ, ◌^◌, ◌<◌, ◌≤◌, List, length, None, option_map, refl, ap}
 use Rattle.std.specs.Prelude.{All}
-use Rattle.ct_entries.specs.declared.entry.Entry.{Entry}
-use Rattle.ct_entries.specs.declared.fault.TheConstants.{MAX_WORDS}
-use Rattle.ct_entries.specs.Entry.{IsEntry}
-use Rattle.ct_entries.specs.Code.{IsCodeOf}
-use Rattle.ct_entries.proofs.CheckLemmas.{code_from_no_fault, no_fault_of_code}
+use Rattle.ct_words.specs.declared.entry.Entry.{Entry}
+use Rattle.ct_words.specs.declared.fault.TheConstants.{MAX_WORDS}
+use Rattle.ct_words.specs.Entry.{IsEntry}
+use Rattle.ct_words.specs.Code.{IsCodeOf}
+use Rattle.ct_words.proofs.CheckLemmas.{code_from_no_fault, no_fault_of_code}
 use Rattle.ct_kind.specs.Named.{NamedCode}
 use Rattle.ct_kind.specs.declared.fault.SubmitFault.TheVariants as fault
 use Rattle.ct_kind.proofs.Stating.{option_map-none, StatesWell, SaysSame}

@@ -1,9 +1,9 @@
 -- Evidence of kind cosets: the words of a code as a basis and representatives.
 use Rattle.std.specs.Prelude.{◌≤◌, ℕ, ◌+◌, true, false, List, [], length, Some, None, option_map, codes}
-use Rattle.ct_entries.specs.declared.entry.Entry.{Entry}
-use Rattle.ct_entries.specs.declared.fault.TheConstants.{MAX_COSET_WORK}
-use Rattle.ct_entries.specs.Code.{IsCodeOf}
-use Rattle.ct_entries.specs.Coset.{coset_list, coset_fault, coset_work}
+use Rattle.ct_words.specs.declared.entry.Entry.{Entry}
+use Rattle.ct_words.specs.declared.fault.TheConstants.{MAX_COSET_WORK}
+use Rattle.ct_words.specs.Code.{IsCodeOf}
+use Rattle.ct_words.specs.Coset.{coset_list, coset_fault, coset_work}
 use Rattle.ct_kind.specs.KindParts.{KindParts, support_from}
 use Rattle.ct_kind.specs.declared.fault.SubmitFault.TheVariants as fault
 

@@ -1,8 +1,8 @@
 -- The texts of faults of words and of cosets.
 use Rattle.std.specs.Prelude.{ℕ, List, [], ◌++◌, codes}
 use Rattle.ct_text.specs.Number.{spaced}
-use Rattle.ct_entries.specs.declared.fault.CodeFault.{CodeFault}
-use Rattle.ct_entries.specs.declared.fault.CodeFault.TheVariants as code
+use Rattle.ct_words.specs.declared.fault.CodeFault.{CodeFault}
+use Rattle.ct_words.specs.declared.fault.CodeFault.TheVariants as code
 
 -- why words are no code: the places count from 0, and the last number of `close` is the distance; want of memory has no text
 abbrev pub code_fault_text : CodeFault → List ℕ

@@ -1,8 +1,8 @@
 -- The evidence of a document of kind words, or its first fault.
 use Rattle.std.specs.Prelude.{ℕ, nat_le, ◌&&◌, List, [], ◌∷◌, length, Result, Ok}
 use Rattle.toml.specs.Data.{Data}
-use Rattle.ct_entries.specs.declared.entry.Entry.{Entry}
-use Rattle.ct_entries.specs.declared.fault.TheConstants.{MAX_WORDS}
+use Rattle.ct_words.specs.declared.entry.Entry.{Entry}
+use Rattle.ct_words.specs.declared.fault.TheConstants.{MAX_WORDS}
 use Rattle.ct_fields.specs.Steps.{◌>>=◌, ◌>>◌, check}
 use Rattle.ct_fields.specs.Fields.{texts_field, words_from}
 use Rattle.ct_fields.specs.LastFields.{last_fields}

@@ -2,8 +2,8 @@
 use Rattle.std.specs.Prelude.{◌≡◌, ℕ, ◌^◌, ◌<◌, ◌≤◌, ◌⊎◌, List, [], ◌∷◌, length, map, Result, Ok, Err, All, codes}
 use Rattle.toml.specs.Data.{Data}
 use Rattle.ct_words.specs.Text.{word_text}
-use Rattle.ct_entries.specs.declared.entry.Entry.{Entry}
-use Rattle.ct_entries.specs.declared.fault.TheConstants.{MAX_WORDS}
+use Rattle.ct_words.specs.declared.entry.Entry.{Entry}
+use Rattle.ct_words.specs.declared.fault.TheConstants.{MAX_WORDS}
 use Rattle.ct_fields.specs.Tables.{IsDocument, IsOfKind, HasTexts, IsFirstWrong}
 use Rattle.ct_fields.specs.HasCites.{HasRightFormat, HasRightCites, HasWrongCites, HasOther, HasLast}
 use Rattle.ct_fields.specs.StatesEntry.{StatesEntry, IsEntryFault}

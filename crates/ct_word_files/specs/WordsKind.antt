@@ -1,7 +1,7 @@
 -- Evidence of kind words: the words of a code, one by one.
 use Rattle.std.specs.Prelude.{ℕ, true, false, List, [], length, Some, None, option_map, codes}
-use Rattle.ct_entries.specs.declared.entry.Entry.{Entry}
-use Rattle.ct_entries.specs.Check.{code_fault}
+use Rattle.ct_words.specs.declared.entry.Entry.{Entry}
+use Rattle.ct_words.specs.Check.{code_fault}
 use Rattle.ct_kind.specs.KindParts.{KindParts, support_from}
 use Rattle.ct_kind.specs.declared.fault.SubmitFault.TheVariants as fault
 

@@ -1,7 +1,7 @@
 -- The tables that are written for words and cosets: their keys ascend.
 use Rattle.std.specs.Prelude.{ℕ, pos, List, Option, Some, None, codes}
 use Rattle.toml.specs.Data.{string, integer, Members, no_members, member}
-use Rattle.ct_entries.specs.declared.entry.Entry.{Entry}
+use Rattle.ct_words.specs.declared.entry.Entry.{Entry}
 use Rattle.ct_fields.specs.Field.{field_text}
 use Rattle.ct_fields.specs.Written.{word_texts}
 use Rattle.ct_fields.specs.declared.field.FieldName.TheVariants.{N, D, W, Words, Basis, Representatives}

@@ -5,10 +5,9 @@ ghost use Rattle.ct_words.specs.declared.limits.TheConstants.{MAX_N};
 ghost use Rattle.ct_fields.specs.Reads.{Reads, texts_behind};
 ghost use Rattle.ct_word_files.specs.Cosets.{coset_count, cosets_of_texts, cosets_evidence_of};
 
-use ct_entries::{Entry, MAX_REPRESENTATIVES};
 use ct_fields::{DocumentFault, FieldName, last_fields, plain_entry, texts_field, words_from};
 use ct_kind::Evidence;
-use ct_words::{Listed, MAX_N, Word};
+use ct_words::{Entry, Listed, MAX_N, MAX_REPRESENTATIVES, Word};
 use std::alloc::Global;
 use toml::Value;
 

@@ -1,14 +1,13 @@
 //! Evidence of kind cosets: the words of a code as a basis and representatives.
 
 ghost use Rattle.std.specs.Prelude.{◌≡◌, ◌≢◌, ◌+◌, ◌<◌, ◌≤◌, ◌^◌, All, Some, None, IfOk, IfErr, OnOk, length, option_map, false, true, codes};
-ghost use Rattle.ct_entries.specs.Coset.{coset_list, coset_fault};
-ghost use Rattle.ct_entries.specs.Entry.{IsEntry};
+ghost use Rattle.ct_words.specs.Coset.{coset_list, coset_fault};
+ghost use Rattle.ct_words.specs.Entry.{IsEntry};
 ghost use Rattle.ct_kind.specs.Ascending.{code_at};
 
 use ct_codes::{CosetCode, check_cosets};
-use ct_entries::{Code, CodeFault, Entry};
 use ct_kind::{Kind, SubmitFault};
-use ct_words::Word;
+use ct_words::{Code, CodeFault, Entry, Word};
 use std::alloc::{AllocError, Global};
 
 /// What the evidence comes to.

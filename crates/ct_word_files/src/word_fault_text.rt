@@ -3,9 +3,9 @@
 ghost use Rattle.std.specs.Prelude.{◌≡◌, ◌++◌, OnOk};
 ghost use Rattle.ct_word_files.specs.WordFaultText.{code_fault_text};
 
-use ct_entries::CodeFault;
 use ct_kind::{put_numbered, put_numbered_pair};
 use ct_text::put_spaced;
+use ct_words::CodeFault;
 use std::alloc::{AllocError, Global};
 
 /// Puts at the end of the text why words are no code. `Err` is want of memory.

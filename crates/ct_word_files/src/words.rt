@@ -5,10 +5,9 @@ ghost use Rattle.ct_words.specs.declared.limits.TheConstants.{MAX_N};
 ghost use Rattle.ct_fields.specs.Reads.{Reads, texts_behind};
 ghost use Rattle.ct_word_files.specs.Words.{word_count, words_of_texts, words_evidence_of};
 
-use ct_entries::{Entry, MAX_WORDS};
 use ct_fields::{DocumentFault, FieldName, last_fields, stated_entry, texts_field, words_from};
 use ct_kind::Evidence;
-use ct_words::{Listed, Word};
+use ct_words::{Entry, Listed, MAX_WORDS, Word};
 use std::alloc::Global;
 use toml::Value;
 

@@ -2,14 +2,13 @@
 
 ghost use Rattle.std.specs.Prelude.{◌≡◌, ◌≢◌, ◌<◌, ◌≤◌, ◌^◌, All, Some, None, IfOk, IfErr, OnOk, length, option_map, false, true, codes};
 ghost use Rattle.std.specs.Result.{result_err};
-ghost use Rattle.ct_entries.specs.Check.{code_fault};
-ghost use Rattle.ct_entries.specs.Entry.{IsEntry};
+ghost use Rattle.ct_words.specs.Check.{code_fault};
+ghost use Rattle.ct_words.specs.Entry.{IsEntry};
 ghost use Rattle.ct_kind.specs.Ascending.{code_at};
 
 use ct_codes::check_words;
-use ct_entries::{Code, CodeFault, Entry};
 use ct_kind::{Kind, SubmitFault};
-use ct_words::Word;
+use ct_words::{Code, CodeFault, Entry, Word};
 use std::alloc::{AllocError, Global};
 
 /// What the evidence comes to.

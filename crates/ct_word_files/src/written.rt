@@ -4,9 +4,8 @@ ghost use Rattle.toml.specs.View.{table_view};
 ghost use Rattle.ct_words.specs.declared.limits.TheConstants.{MAX_N};
 ghost use Rattle.ct_word_files.specs.WrittenWords.{words_table, cosets_table};
 
-use ct_entries::Entry;
 use ct_fields::{FieldName, entry_table, put_weight, put_words};
-use ct_words::Word;
+use ct_words::{Entry, Word};
 use std::alloc::{AllocError, Global};
 use toml::Table;
 

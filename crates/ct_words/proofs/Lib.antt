@@ -9,3 +9,12 @@ pub mod AllWords
 pub mod DigitValues
 pub mod PascalRows
 pub mod MatchingSizes
+pub mod PairLemmas
+pub mod EntryLemmas
+pub mod InLists
+pub mod ColumnLemmas
+pub mod ListedEntries
+pub mod CheckLemmas
+pub mod BoundLemmas
+pub mod DigitCodes
+pub mod Constructions

@@ -3,3 +3,14 @@ pub mod Word
 pub mod Text
 pub mod Characters
 pub mod PairProducts
+pub mod Entry
+pub mod TableEntries
+pub mod Code
+pub mod Pairs
+pub mod Check
+pub mod Coset
+pub mod Claim
+pub mod Scheme
+pub mod Numbers
+pub mod Constructions
+pub mod Doubly

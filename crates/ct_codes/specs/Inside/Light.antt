@@ -1,7 +1,7 @@
 -- Words that pivots reduce, as the echelon form of a basis does: sums of basis words to 0.
 use Rattle.std.specs.Prelude.{◌≡◌, ◌≢◌, ℕ, ◌/◌, ◌%◌, ◌^◌, ◌<◌, ◌==◌, if◌then◌else◌, bit_xor, List, [], ◌∷◌, length, slice_index, All}
 use Rattle.ct_codes.specs.declared.light.Pivot.{Pivot}
-use Rattle.ct_entries.specs.Coset.{span_word}
+use Rattle.ct_words.specs.Coset.{span_word}
 
 -- the word, with the pivot added where it has a one at the pivot's place
 abbrev pub reduced_by : Pivot → ℕ → ℕ

@@ -2,7 +2,7 @@
 use Rattle.std.specs.Prelude.{◌≡◌, ℕ, ◌*◌, ◌^◌, ◌≤◌, Bool, nat_lt, List, length, slice_index, take, drop}
 use Rattle.ct_words.specs.declared.limits.TheConstants.{MAX_N}
 use Rattle.ct_words.specs.Word.{distance}
-use Rattle.ct_entries.specs.Coset.{span_word, coset_list}
+use Rattle.ct_words.specs.Coset.{span_word, coset_list}
 use Rattle.ct_codes.specs.Inside.Rows.{AreRows}
 use Rattle.ct_codes.specs.Inside.Translated.{translated}
 

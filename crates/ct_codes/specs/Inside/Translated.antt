@@ -1,7 +1,7 @@
 -- The words of one representative.
 use Rattle.std.specs.Prelude.{ℕ, ◌^◌, bit_xor, List, length}
 use Rattle.ct_words.specs.Text.{tabulate}
-use Rattle.ct_entries.specs.Coset.{span_word}
+use Rattle.ct_words.specs.Coset.{span_word}
 
 -- the word x plus each sum of basis words, in the order of the choices
 abbrev pub translated : List ℕ → ℕ → List ℕ

@@ -1,7 +1,7 @@
 -- What the code of an accepted dual keeps of it.
 use Rattle.std.specs.Prelude.{ℕ, ◌^◌, ◌<◌, ◌≡◌, List, Some, ◌≤ℤ◌, unsigned_abs}
-use Rattle.ct_entries.specs.Code.{IsTrueUpper}
-use Rattle.ct_entries.specs.Numbers.{numbers_of, multiplier, combination}
+use Rattle.ct_words.specs.Code.{IsTrueUpper}
+use Rattle.ct_words.specs.Numbers.{numbers_of, multiplier, combination}
 use Rattle.ct_duals.specs.Bound.{AcceptedValue, IsAccepted, AreTrueUppers, positive, dual_premises, dual_spread, IsSpread, dual_bound}
 use Rattle.ct_duals.specs.Local.{AreTrueLocals, local_bound}
 

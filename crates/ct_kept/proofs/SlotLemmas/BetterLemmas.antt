@@ -1,7 +1,7 @@
 -- Better bounds and bounds that are no better.
 use Rattle.std.proofs.Common.{ℕ, le_refl, arith}
-use Rattle.ct_entries.specs.declared.claim.Side.{Side}
-use Rattle.ct_entries.specs.declared.claim.Side.TheVariants.{Lower, Upper}
+use Rattle.ct_words.specs.declared.claim.Side.{Side}
+use Rattle.ct_words.specs.declared.claim.Side.TheVariants.{Lower, Upper}
 use Rattle.ct_rule_parts.specs.Slot.{IsBetter, IsNoBetter}
 
 -- a better bound is no worse, and a bound is no better than itself

@@ -6,10 +6,10 @@ use Rattle.std.proofs.lemmas.Bool.{cases_lt, cases_order}
 use Rattle.std.proofs.Math.Nat.{div-add-mod, mod-lt, lt_of_mul-lt-mul_left, mul-le-mul_left}
 use mathlib.Core.Logic.{◌⊎◌}
 use Rattle.ct_words.specs.declared.limits.TheConstants.{MAX_N}
-use Rattle.ct_entries.specs.declared.claim.Side.TheVariants.{Lower, Upper}
-use Rattle.ct_entries.specs.declared.entry.Entry.{Entry}
-use Rattle.ct_entries.specs.Entry.{IsEntry, unrestricted, constant_weight}
-use Rattle.ct_entries.proofs.EntryLemmas.{WeightFits, entry_limits, entry_from_limits}
+use Rattle.ct_words.specs.declared.claim.Side.TheVariants.{Lower, Upper}
+use Rattle.ct_words.specs.declared.entry.Entry.{Entry}
+use Rattle.ct_words.specs.Entry.{IsEntry, unrestricted, constant_weight}
+use Rattle.ct_words.proofs.EntryLemmas.{WeightFits, entry_limits, entry_from_limits}
 use Rattle.ct_rule_parts.specs.Slot.{Slot}
 use Rattle.ct_kept.specs.Number.{distances, even_distances, count_in_length, entries_to, entry_in, side_size, number_in_length, entry_number, slot_number}
 

@@ -8,7 +8,7 @@ use Rattle.std.proofs.lemmas.List.Quantifiers.{all_pairs_push}
 use Rattle.std.proofs.lemmas.List.Sums.{sum_by-set, sum_by-le}
 use Rattle.std.proofs.lemmas.Option.{same_Some, none-some, get_or_from_slice_get}
 use Rattle.ct_words.proofs.Counting.Pairs.{AllPairs-head, AllPairs-tail}
-use Rattle.ct_entries.specs.Entry.{IsEntry}
+use Rattle.ct_words.specs.Entry.{IsEntry}
 use Rattle.ct_rule_parts.specs.Slot.{Slot}
 use Rattle.ct_kept.specs.Number.{side_size, slot_number}
 use Rattle.ct_kept.specs.Worklist.{WorkValue, IsMarked, IsIdle, IsSoundWork, waiting}

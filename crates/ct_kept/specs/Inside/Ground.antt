@@ -1,6 +1,6 @@
 -- The best bound of a slot among those of the rules that rest on nothing.
 use Rattle.std.specs.Prelude.{◌≡◌, ℕ, ◌≤◌, if◌then◌else◌, List, [], ◌∷◌, length, slice_get, Some}
-use Rattle.ct_entries.specs.declared.claim.Side.TheVariants.{Lower, Upper}
+use Rattle.ct_words.specs.declared.claim.Side.TheVariants.{Lower, Upper}
 use Rattle.ct_sum_classes.specs.declared.largest_class.LargestClass.{LargestClass}
 use Rattle.ct_sum_classes.specs.SumClass.{sum_class, largest_class}
 use Rattle.ct_rule_parts.specs.Parts.{has_weight}

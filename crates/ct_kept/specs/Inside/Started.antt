@@ -1,6 +1,6 @@
 -- A table that is started: the slots with smaller numbers have their ground lines, and there are no other lines.
 use Rattle.std.specs.Prelude.{◌≡◌, ℕ, ◌*◌, ◌<◌, length, slice_get, Some}
-use Rattle.ct_entries.specs.Entry.{IsEntry}
+use Rattle.ct_words.specs.Entry.{IsEntry}
 use Rattle.ct_rules.specs.Derivation.{LineValue}
 use Rattle.ct_rule_parts.specs.Slot.{Slot, slot_of}
 use Rattle.ct_kept.specs.Kept.{KeptValue, reason_of}

@@ -1,13 +1,13 @@
 //! The bounds of a table, by the numbers of the slots.
 
 ghost use Rattle.std.specs.Prelude.{◌≡◌, ◌==◌, ◌*◌, ◌<◌, IfOk, MatchBool, replicate, slice_set};
-ghost use Rattle.ct_entries.specs.declared.claim.Side.TheVariants.{Lower, Upper};
-ghost use Rattle.ct_entries.specs.Entry.{IsEntry};
+ghost use Rattle.ct_words.specs.declared.claim.Side.TheVariants.{Lower, Upper};
+ghost use Rattle.ct_words.specs.Entry.{IsEntry};
 ghost use Rattle.ct_rule_parts.specs.Slot.{IsBetter, IsNoBetter};
 ghost use Rattle.ct_kept.specs.Number.{bound_of, side_size, slot_number};
 
 use crate::slots::number::{SLOTS, slot_number};
-use ct_entries::{Entry, Side};
+use ct_words::{Entry, Side};
 use std::alloc::{AllocError, Global};
 use std::marker::Model;
 

@@ -1,12 +1,11 @@
 //! The numbers of the slots of a table: the sides of its entries.
 
 ghost use Rattle.std.specs.Prelude.{◌≡◌, ◌<◌, ◌≤◌, ◌*◌, ◌+◌, ◌-◌, ℕ};
-ghost use Rattle.ct_entries.specs.Entry.{IsEntry};
+ghost use Rattle.ct_words.specs.Entry.{IsEntry};
 ghost use Rattle.ct_rule_parts.specs.Slot.{Slot};
 ghost use Rattle.ct_kept.specs.Number.{side_size, count_in_length, entries_to, entry_in, number_in_length, entry_number, slot_number};
 
-use ct_entries::{Entry, Side};
-use ct_words::MAX_N;
+use ct_words::{Entry, MAX_N, Side};
 
 /// How many distances the table has, from 3 on.
 const DISTANCES: usize = MAX_N as usize - 2;

@@ -2,13 +2,13 @@
 
 ghost use Rattle.std.specs.Prelude.{◌≡◌, ◌<◌, ◌≤◌, ◌^◌, ◌++◌, ◌∷◌, [], ℕ, OnOk, OnErr, IfOk, IfSome, length, map, take, slice_index_or, replicate, None};
 ghost use Rattle.ct_kept.specs.Number.{side_size};
-ghost use Rattle.ct_entries.specs.declared.entry.Entry.{Entry};
-ghost use Rattle.ct_entries.specs.Entry.{IsEntry};
+ghost use Rattle.ct_words.specs.declared.entry.Entry.{Entry};
+ghost use Rattle.ct_words.specs.Entry.{IsEntry};
 ghost use Rattle.ct_kept.specs.Places.{entry_of_support, side_of_support, IsPlaceOf, IsUpTo, AreChained, last_at, with_last};
 
 use crate::slots::number::{ENTRIES, entry_number};
-use ct_entries::{Entry, Side};
 use ct_rule_parts::Support;
+use ct_words::{Entry, Side};
 use std::alloc::{AllocError, Global};
 use std::marker::Model;
 
@@ -24,7 +24,7 @@ pub struct SupportPlaces {
 
 impl Model for SupportPlaces {
     ghost use Rattle.std.specs.Prelude.{List, Option};
-    ghost use Rattle.ct_entries.specs.declared.entry.Entry.{Entry};
+    ghost use Rattle.ct_words.specs.declared.entry.Entry.{Entry};
     ghost use Rattle.ct_kept.specs.Places.{AreChained};
 
     ghost Value = { List (Option Entry) };

@@ -3,8 +3,8 @@
 
 ghost use Rattle.std.specs.Prelude.{◌≡◌, ◌%◌, ◌<◌, ◌≤◌, ℕ, OnOk};
 ghost use Rattle.ct_words.specs.declared.limits.TheConstants.{MAX_N};
-ghost use Rattle.ct_entries.specs.declared.entry.Entry.{Entry};
-ghost use Rattle.ct_entries.specs.Entry.{IsEntry, constant_weight};
+ghost use Rattle.ct_words.specs.declared.entry.Entry.{Entry};
+ghost use Rattle.ct_words.specs.Entry.{IsEntry, constant_weight};
 ghost use Rattle.ct_rule_parts.specs.Slot.{Slot};
 ghost use Rattle.ct_kept.specs.Number.{distances, even_distances};
 ghost use Rattle.ct_kept.specs.Worklist.{IsMarked, IsMarkedOrSettled};
@@ -12,8 +12,7 @@ ghost use Rattle.ct_kept.specs.Inside.Marked.{distance_at, even_distance_at, Are
 
 use crate::slots::bounds::Bounds;
 use crate::slots::worklist::Worklist;
-use ct_entries::{Entry, Side};
-use ct_words::MAX_N;
+use ct_words::{Entry, MAX_N, Side};
 use std::alloc::AllocError;
 
 /// Marks a side of an entry, but where its bounds are one. After an `Err`, which is want of memory, all is as before.

@@ -1,14 +1,14 @@
 //! The slots that are still to be looked at.
 
 ghost use Rattle.std.specs.Prelude.{◌≡◌, ◌≢◌, ◌+◌, ◌≤◌, ◌*◌, ◌⊎◌, ◌↔◌, IsTrue, replicate, false, OnOk, OnErr, IfOk, IfSome, IfNone, if◌then◌else◌, slice_index_or, ◌∷◌, ◌++◌, []};
-ghost use Rattle.ct_entries.specs.declared.entry.Entry.{Entry};
-ghost use Rattle.ct_entries.specs.Entry.{IsEntry};
+ghost use Rattle.ct_words.specs.declared.entry.Entry.{Entry};
+ghost use Rattle.ct_words.specs.Entry.{IsEntry};
 ghost use Rattle.ct_rule_parts.specs.Slot.{Slot};
 ghost use Rattle.ct_kept.specs.Number.{side_size, slot_number};
 ghost use Rattle.ct_kept.specs.Worklist.{IsMarked, IsIdle, waiting};
 
 use crate::slots::number::{SLOTS, slot_number};
-use ct_entries::{Entry, Side};
+use ct_words::{Entry, Side};
 use std::alloc::{AllocError, Global};
 use std::collections::VecDeque;
 use std::marker::Model;

@@ -5,10 +5,10 @@ use Rattle.std.proofs.lemmas.List.{length-map, get_or-map}
 use Rattle.std.proofs.lemmas.List.Concat.{get_or-flat_map}
 use Rattle.ct_words.specs.Word.{IsSum}
 use Rattle.ct_words.proofs.WordLemmas.{IsSum-bit_xor}
-use Rattle.ct_entries.specs.Constructions.Joined.{followed_by}
-use Rattle.ct_entries.specs.Constructions.Translation.{translated}
-use Rattle.ct_entries.specs.Constructions.Uuv.{uuv_words}
-use Rattle.ct_entries.proofs.Constructions.UuvCodes.{length-uuv_words}
+use Rattle.ct_words.specs.Constructions.Joined.{followed_by}
+use Rattle.ct_words.specs.Constructions.Translation.{translated}
+use Rattle.ct_words.specs.Constructions.Uuv.{uuv_words}
+use Rattle.ct_words.proofs.Constructions.UuvCodes.{length-uuv_words}
 
 pub IsSum-translated : (n by : ℕ) (words : List ℕ) (k : ℕ) → by < 2 ^ n → All (λ x. x < 2 ^ n) words → k < length words
     → IsSum n (get_or words k 0) by (get_or (translated by words) k 0)

@@ -1,6 +1,6 @@
 -- Partitions of words of length 4 whose products are known.
 use Rattle.std.specs.Prelude.{[], ◌∷◌}
-use Rattle.ct_entries.specs.Entry.{unrestricted, constant_weight}
+use Rattle.ct_words.specs.Entry.{unrestricted, constant_weight}
 use Rattle.ct_partitions.specs.Partition.{PartitionValue}
 
 -- the words of even weight in pairs of complements

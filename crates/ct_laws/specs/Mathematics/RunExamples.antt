@@ -1,8 +1,8 @@
 -- Runs whose ends are known.
 use Rattle.std.specs.Prelude.{ℕ, ◌+◌, ◌-◌, ◌^◌, false, List, [], ◌∷◌, map, pos, negsuc}
-use Rattle.ct_entries.specs.Entry.{unrestricted, constant_weight}
+use Rattle.ct_words.specs.Entry.{unrestricted, constant_weight}
 use Rattle.ct_duals.specs.declared.dual.Dual.{Dual}
-use Rattle.ct_entries.specs.Numbers.{numbers_of}
+use Rattle.ct_words.specs.Numbers.{numbers_of}
 use Rattle.ct_finder.specs.Column.{Tableau}
 use Rattle.ct_finder.specs.Run.{End, run_of, run_dual}
 use Rattle.ct_finder.specs.RunPrimal.{run_primal}

@@ -1,10 +1,10 @@
 //! What building by a step gives, whatever the step, the stated entry and the codes, and builds whose answer is known.
 
 ghost use Rattle.std.specs.Prelude.{◌≡◌, ◌≢◌, ◌↔◌, ℕ, ◌≤◌, List, [], ◌∷◌, length, Option, Some, None, IfSome, option_map};
-ghost use Rattle.ct_entries.specs.declared.entry.Entry.{Entry};
-ghost use Rattle.ct_entries.specs.Entry.{unrestricted, constant_weight};
-ghost use Rattle.ct_entries.specs.Code.{CodeValue, IsCode, IsCodeOf};
-ghost use Rattle.ct_entries.specs.Pairs.{first_of};
+ghost use Rattle.ct_words.specs.declared.entry.Entry.{Entry};
+ghost use Rattle.ct_words.specs.Entry.{unrestricted, constant_weight};
+ghost use Rattle.ct_words.specs.Code.{CodeValue, IsCode, IsCodeOf};
+ghost use Rattle.ct_words.specs.Pairs.{first_of};
 ghost use Rattle.ct_build.specs.declared.building.TheConstants.{MAX_BUILT};
 ghost use Rattle.ct_build.specs.declared.fault.BuildFault.TheVariants.{WrongPart, Short, Size, Few, Empty};
 ghost use Rattle.ct_build.specs.declared.step.Step.{Step};

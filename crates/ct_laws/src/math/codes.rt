@@ -2,14 +2,14 @@
 
 ghost use Rattle.std.specs.Prelude.{◌≡◌, ◌↔◌, ◌≢◌, ℕ, ◌%◌, ◌^◌, ◌<◌, ◌≤◌, Bool, List, [], ◌∷◌, length, All, AllPairs, Contains, IfSome, IsTrue};
 ghost use Rattle.ct_words.specs.declared.limits.TheConstants.{MAX_N};
-ghost use Rattle.ct_entries.specs.declared.entry.Entry.{Entry};
-ghost use Rattle.ct_entries.specs.declared.fault.TheConstants.{MAX_WORDS};
-ghost use Rattle.ct_entries.specs.declared.fault.CodeFault.TheVariants.{Size, Weight, Repeated, Close};
-ghost use Rattle.ct_entries.specs.Entry.{IsEntry, same_entry};
-ghost use Rattle.ct_entries.specs.TableEntries.{table_entries};
-ghost use Rattle.ct_entries.specs.Pairs.{least_pair, IsLeastPair, NoPair};
-ghost use Rattle.ct_entries.specs.Code.{IsCodeOf, IsTrueLower, IsTrueUpper};
-ghost use Rattle.ct_entries.specs.Check.{code_fault};
+ghost use Rattle.ct_words.specs.declared.entry.Entry.{Entry};
+ghost use Rattle.ct_words.specs.declared.fault.TheConstants.{MAX_WORDS};
+ghost use Rattle.ct_words.specs.declared.fault.CodeFault.TheVariants.{Size, Weight, Repeated, Close};
+ghost use Rattle.ct_words.specs.Entry.{IsEntry, same_entry};
+ghost use Rattle.ct_words.specs.TableEntries.{table_entries};
+ghost use Rattle.ct_words.specs.Pairs.{least_pair, IsLeastPair, NoPair};
+ghost use Rattle.ct_words.specs.Code.{IsCodeOf, IsTrueLower, IsTrueUpper};
+ghost use Rattle.ct_words.specs.Check.{code_fault};
 
 /// The entries of the table: lengths from 1 and distances from 3, both up to `MAX_N`, and weights up to the length,
 /// for even distances alone.

@@ -5,16 +5,16 @@ ghost use Rattle.std.specs.Option.{option_map};
 ghost use Rattle.ct_words.specs.Word.{digit, weight, IsSum};
 ghost use Rattle.ct_words.specs.Characters.{words_of_length};
 ghost use Rattle.ct_words.specs.PairProducts.{all_places};
-ghost use Rattle.ct_entries.specs.Code.{IsCode};
-ghost use Rattle.ct_entries.specs.Constructions.Joined.{followed_by};
-ghost use Rattle.ct_entries.specs.Constructions.Even.{even_from, even_words};
-ghost use Rattle.ct_entries.specs.Constructions.Append.{lengthened, one_appended, with_parity};
-ghost use Rattle.ct_entries.specs.Constructions.Translation.{translated, all_ones, complemented, selected};
-ghost use Rattle.ct_entries.specs.Constructions.Places.{ArePlaces, other_places, read_at};
-ghost use Rattle.ct_entries.specs.Constructions.Punctured.{punctured};
-ghost use Rattle.ct_entries.specs.Constructions.Shortened.{has_digits, shortened, shortened_weight};
-ghost use Rattle.ct_entries.specs.Constructions.Uuv.{uuv_words};
-ghost use Rattle.ct_entries.specs.Constructions.Juxtaposed.{juxtaposed, added_weights};
+ghost use Rattle.ct_words.specs.Code.{IsCode};
+ghost use Rattle.ct_words.specs.Constructions.Joined.{followed_by};
+ghost use Rattle.ct_words.specs.Constructions.Even.{even_from, even_words};
+ghost use Rattle.ct_words.specs.Constructions.Append.{lengthened, one_appended, with_parity};
+ghost use Rattle.ct_words.specs.Constructions.Translation.{translated, all_ones, complemented, selected};
+ghost use Rattle.ct_words.specs.Constructions.Places.{ArePlaces, other_places, read_at};
+ghost use Rattle.ct_words.specs.Constructions.Punctured.{punctured};
+ghost use Rattle.ct_words.specs.Constructions.Shortened.{has_digits, shortened, shortened_weight};
+ghost use Rattle.ct_words.specs.Constructions.Uuv.{uuv_words};
+ghost use Rattle.ct_words.specs.Constructions.Juxtaposed.{juxtaposed, added_weights};
 
 /// A code's words with one more digit at their end. With the parity of the weight an odd distance grows by one, since two
 /// words at an odd distance have weights of different parity (MacWilliams and Sloane, chapter 1, section 9).

@@ -3,12 +3,12 @@
 ghost use Rattle.std.specs.Prelude.{◌≡◌, ◌↔◌, ℕ, ◌+◌, ◌*◌, ◌^◌, ◌<◌, ◌≤◌, bit_xor, List, [], ◌∷◌, length, slice_index, All, Contains, Some, None};
 ghost use Rattle.ct_words.specs.declared.limits.TheConstants.{MAX_N};
 ghost use Rattle.ct_words.specs.Word.{IsSum};
-ghost use Rattle.ct_entries.specs.declared.entry.Entry.{Entry};
-ghost use Rattle.ct_entries.specs.declared.fault.TheConstants.{MAX_REPRESENTATIVES, MAX_COSET_WORK};
-ghost use Rattle.ct_entries.specs.declared.fault.CodeFault.TheVariants.{Size, Close};
-ghost use Rattle.ct_entries.specs.Entry.{IsEntry};
-ghost use Rattle.ct_entries.specs.Code.{IsCodeOf};
-ghost use Rattle.ct_entries.specs.Coset.{span_word, choice_word, coset_list, coset_work, coset_fault};
+ghost use Rattle.ct_words.specs.declared.entry.Entry.{Entry};
+ghost use Rattle.ct_words.specs.declared.fault.TheConstants.{MAX_REPRESENTATIVES, MAX_COSET_WORK};
+ghost use Rattle.ct_words.specs.declared.fault.CodeFault.TheVariants.{Size, Close};
+ghost use Rattle.ct_words.specs.Entry.{IsEntry};
+ghost use Rattle.ct_words.specs.Code.{IsCodeOf};
+ghost use Rattle.ct_words.specs.Coset.{span_word, choice_word, coset_list, coset_work, coset_fault};
 
 /// The words of the choices are sums without carry. No basis word is chosen by 0, the one at place j by 2^j, and the
 /// sum of two numbers chooses the sum of what each chooses; a choice adds what it chooses to its representative.

@@ -1,14 +1,14 @@
 //! What duals promise at the entries of the table; the functions do nothing.
 ghost use Rattle.std.specs.Prelude.{◌≡◌, ℕ, ◌≤◌, List, [], ◌∷◌, ℤ, pos, ◌≤ℤ◌, Some, None};
-ghost use Rattle.ct_entries.specs.Code.{IsTrueUpper};
-ghost use Rattle.ct_entries.specs.Entry.{constant_weight};
+ghost use Rattle.ct_words.specs.Code.{IsTrueUpper};
+ghost use Rattle.ct_words.specs.Entry.{constant_weight};
 ghost use Rattle.ct_duals.specs.declared.dual.Dual.{Dual};
 ghost use Rattle.ct_duals.specs.Dual.{IsDual};
 ghost use Rattle.ct_duals.specs.Check.{dual_fault};
 ghost use Rattle.ct_duals.specs.Bound.{AcceptedValue, IsAccepted, AreTrueUppers, IsSpread, positive, dual_premises, dual_spread, dual_bound};
 ghost use Rattle.ct_duals.specs.Local.{AreTrueLocals, local_bound};
 ghost use Rattle.ct_duals.specs.declared.fault.DualFault.TheVariants.{Above};
-ghost use Rattle.ct_entries.specs.Numbers.{numbers_of, combination};
+ghost use Rattle.ct_words.specs.Numbers.{numbers_of, combination};
 ghost use Rattle.ct_duals.specs.Examples.{thirteen_six, eight_four_four, eight_local, ones_local, one_everywhere, above_at_last};
 
 /// No code of the entry of an accepted dual is larger than its bound, where the upper bounds that it rests on are true.

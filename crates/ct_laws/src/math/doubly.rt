@@ -1,8 +1,8 @@
 //! Facts about doubly constant weight codes and the bound on them, each a clause of a function that does nothing.
 
 ghost use Rattle.std.specs.Prelude.{◌≡◌, ℕ, ◌+◌, List, [], ◌∷◌, Some};
-ghost use Rattle.ct_entries.specs.Code.{IsCode};
-ghost use Rattle.ct_entries.specs.Doubly.{IsDoubly};
+ghost use Rattle.ct_words.specs.Code.{IsCode};
+ghost use Rattle.ct_words.specs.Doubly.{IsDoubly};
 ghost use Rattle.ct_doubly.specs.Doubly.{doubly};
 
 /// A doubly constant weight code is a code of constant weight, w1 + w2; and every code of constant weight is a doubly constant one

@@ -1,15 +1,15 @@
 //! What duals promise, for every dual and every list of words; the functions do nothing.
 ghost use Rattle.std.specs.Prelude.{◌≡◌, ◌≢◌, ◌↔◌, ℕ, ◌≤◌, ◌<◌, List, ℤ, pos, ◌≤ℤ◌, ◌<ℤ◌, Some, None};
-ghost use Rattle.ct_entries.specs.Code.{IsTrueUpper};
+ghost use Rattle.ct_words.specs.Code.{IsTrueUpper};
 ghost use Rattle.ct_duals.specs.declared.dual.Dual.{Dual};
 ghost use Rattle.ct_duals.specs.declared.fault.DualFault.TheVariants.{Lead, Above};
-ghost use Rattle.ct_entries.specs.Numbers.{multiplier, combination};
+ghost use Rattle.ct_words.specs.Numbers.{multiplier, combination};
 ghost use Rattle.ct_duals.specs.Dual.{Fits, IsDual};
 ghost use Rattle.ct_duals.specs.Check.{dual_fault, IsBelow, IsLeastAbove};
 ghost use Rattle.ct_duals.specs.Bound.{AreTrueUppers, AreAtMost, positive, dual_premises, dual_spread, dual_bound};
 ghost use Rattle.ct_duals.specs.Local.{AreTrueLocals, local_bound};
 
-use ct_entries::Scheme;
+use ct_words::Scheme;
 
 /// No code of the entry of an accepted dual is larger than its bound, where the upper bounds that it rests on are true.
 ///

@@ -2,10 +2,10 @@
 ghost use Rattle.std.specs.Prelude.{◌≡◌, ℕ, ◌+◌, ◌*◌, ◌^◌, ◌/◌, ◌-◌, ◌≤◌, min, Bool, List, [], ◌∷◌, map, All, Some, None, ℤ, pos, negsuc, ◌*ℤ◌, ◌≤ℤ◌, length, unsigned_abs};
 ghost use Rattle.std.specs.Int.{◌∣◌, IsGcd};
 ghost use Rattle.ct_words.specs.declared.limits.TheConstants.{MAX_BOUND};
-ghost use Rattle.ct_entries.specs.declared.entry.Entry.{Entry};
-ghost use Rattle.ct_entries.specs.Entry.{unrestricted};
+ghost use Rattle.ct_words.specs.declared.entry.Entry.{Entry};
+ghost use Rattle.ct_words.specs.Entry.{unrestricted};
 ghost use Rattle.ct_finder.specs.Column.{Tableau};
-ghost use Rattle.ct_entries.specs.Numbers.{krawtchouk, multiplier, combination};
+ghost use Rattle.ct_words.specs.Numbers.{krawtchouk, multiplier, combination};
 ghost use Rattle.ct_duals.specs.Dual.{IsDual, degree_of};
 ghost use Rattle.ct_duals.specs.Check.{dual_fault};
 ghost use Rattle.ct_duals.specs.Bound.{dual_bound, natural};

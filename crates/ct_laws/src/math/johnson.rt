@@ -4,9 +4,9 @@ ghost use Rattle.std.specs.Prelude.{◌≡◌, ℕ, ◌+◌, ◌-◌, ◌*◌, �
 ghost use Rattle.std.specs.Int.{div_ceil};
 ghost use Rattle.ct_words.specs.Counting.Binomials.{choose};
 ghost use Rattle.ct_words.specs.Word.{weight};
-ghost use Rattle.ct_entries.specs.Entry.{constant_weight};
-ghost use Rattle.ct_entries.specs.Code.{IsCode, IsTrueUpper};
-ghost use Rattle.ct_entries.specs.Constructions.Shortened.{shortened};
+ghost use Rattle.ct_words.specs.Entry.{constant_weight};
+ghost use Rattle.ct_words.specs.Code.{IsCode, IsTrueUpper};
+ghost use Rattle.ct_words.specs.Constructions.Shortened.{shortened};
 
 /// Bounds by the weight alone: there are no more words than words of the weight (V0); two of them differ at no more
 /// places than twice the ones, or twice the zeros, of a word (V1); words of weight w at distance 2w have no one in

@@ -5,7 +5,7 @@ ghost use Rattle.ct_words.specs.Counting.Sums.{total};
 ghost use Rattle.ct_words.specs.Counting.PairTotals.{pair_total, square};
 ghost use Rattle.ct_words.specs.Word.{distance, weight};
 ghost use Rattle.ct_words.specs.Characters.{character, words_of_weight};
-ghost use Rattle.ct_entries.specs.Numbers.{krawtchouk};
+ghost use Rattle.ct_words.specs.Numbers.{krawtchouk};
 
 /// The characters at a word x of length n, of all words of weight k, add up to the Krawtchouk number K_k(i), where i is
 /// the weight of x (MacWilliams and Sloane, chapter 5, sections 2 and 4).

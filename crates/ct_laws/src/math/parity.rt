@@ -4,7 +4,7 @@ ghost use Rattle.std.specs.Prelude.{◌≡◌, ℕ, ◌%◌, pos, ◌≤ℤ◌, 
 ghost use Rattle.ct_words.specs.Word.{distance};
 ghost use Rattle.ct_words.specs.Counting.PairTotals.{pair_total};
 ghost use Rattle.ct_words.specs.Counting.Binomials.{choose};
-ghost use Rattle.ct_entries.specs.Numbers.{krawtchouk};
+ghost use Rattle.ct_words.specs.Numbers.{krawtchouk};
 ghost use Rattle.ct_parity.specs.OddSum.{odd_sum};
 
 /// Over the ordered pairs of an odd number of words the numbers K_k at their distances add up to at least C(n,k), the number of

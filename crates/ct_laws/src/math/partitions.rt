@@ -1,9 +1,9 @@
 //! Facts about partitions that hold for all of them, and partitions that are known.
 
 ghost use Rattle.std.specs.Prelude.{◌≡◌, ◌↔◌, ℕ, ◌^◌, ◌<◌, ◌≤◌, List, [], ◌∷◌, length, All, Option, Some, None};
-ghost use Rattle.ct_entries.specs.Code.{IsCode};
-ghost use Rattle.ct_entries.specs.declared.entry.Entry.{Entry};
-ghost use Rattle.ct_entries.specs.declared.fault.TheConstants.{MAX_WORDS};
+ghost use Rattle.ct_words.specs.Code.{IsCode};
+ghost use Rattle.ct_words.specs.declared.entry.Entry.{Entry};
+ghost use Rattle.ct_words.specs.declared.fault.TheConstants.{MAX_WORDS};
 ghost use Rattle.ct_partitions.specs.declared.fault.TheConstants.{MAX_CLASSES};
 ghost use Rattle.ct_partitions.specs.declared.fault.PartitionFault.TheVariants.{Size, Weight, Repeated, Close};
 ghost use Rattle.ct_partitions.specs.Partition.{words_of_classes, IsPartition};

@@ -1,8 +1,8 @@
 //! What primals promise, each a clause of a function that does nothing.
 
 ghost use Rattle.std.specs.Prelude.{◌≡◌, ℕ, ◌≤◌, [], ◌∷◌, true, false, ℤ, pos, negsuc, Some, None};
-ghost use Rattle.ct_entries.specs.Entry.{unrestricted, constant_weight};
-ghost use Rattle.ct_entries.specs.Numbers.{numbers_of, combination};
+ghost use Rattle.ct_words.specs.Entry.{unrestricted, constant_weight};
+ghost use Rattle.ct_words.specs.Numbers.{numbers_of, combination};
 ghost use Rattle.ct_duals.specs.declared.dual.Dual.{Dual};
 ghost use Rattle.ct_duals.specs.Dual.{Fits, IsDual};
 ghost use Rattle.ct_duals.specs.Check.{dual_fault};
@@ -10,7 +10,7 @@ ghost use Rattle.ct_duals.specs.Bound.{dual_bound};
 ghost use Rattle.ct_primal.specs.declared.primal_fault.PrimalFault.TheVariants.{Scale, Below};
 ghost use Rattle.ct_primal.specs.Primal.{PrimalValue, IsPrimal, IsSound, primal_fault, primal_value};
 
-use ct_entries::Scheme;
+use ct_words::Scheme;
 
 /// No dual of the same entry and mark that is accepted, and allows nothing, has a bound below the value of a sound primal: c_k times
 /// the k-th transformed number, added over k, is at least c_0 times the whole, and at most q times f(0) (weak duality).

@@ -7,7 +7,7 @@ ghost use Rattle.ct_words.specs.Counting.PairTotals.{pair_total, square};
 ghost use Rattle.ct_words.specs.Counting.PairLists.{pair_lists};
 ghost use Rattle.ct_words.specs.Word.{distance, weight};
 ghost use Rattle.ct_words.specs.PairProducts.{all_places, difference_product};
-ghost use Rattle.ct_entries.specs.Numbers.{johnson};
+ghost use Rattle.ct_words.specs.Numbers.{johnson};
 
 /// For every list of words of length n and weight w, repeats included, take all lists of k ordered pairs (a,b) of places
 /// whose 2k places are different, and for each the sum, over the words x, of the product of x_a - x_b over its pairs. The

@@ -2,7 +2,7 @@
 
 ghost use Rattle.std.specs.Prelude.{◌≡◌, ◌↔◌, ℕ, ◌%◌, ◌^◌, ◌<◌, [], ◌∷◌, Some, Contains};
 ghost use Rattle.ct_words.specs.Word.{weight};
-ghost use Rattle.ct_entries.specs.Code.{IsCode};
+ghost use Rattle.ct_words.specs.Code.{IsCode};
 ghost use Rattle.ct_sum_classes.specs.SumClass.{place_sum, sum_class, largest_class};
 
 /// A sum class is a code of distance 4: two words of one weight at distance 2 have a one each where the other has a zero,

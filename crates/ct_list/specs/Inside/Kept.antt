@@ -1,9 +1,9 @@
 -- The codes of the lines of a derivation, as they are built one after the other.
 use Rattle.std.specs.Prelude.{◌≡◌, ◌<◌, ℕ, Bool, List, [], ◌∷◌, length, All, slice_get, Option, Some}
 use Rattle.std.specs.List.{flat_map, list_any}
-use Rattle.ct_entries.specs.declared.claim.Claim.{Claim}
-use Rattle.ct_entries.specs.Code.{CodeValue}
-use Rattle.ct_entries.specs.Constructions.Places.{is_among}
+use Rattle.ct_words.specs.declared.claim.Claim.{Claim}
+use Rattle.ct_words.specs.Code.{CodeValue}
+use Rattle.ct_words.specs.Constructions.Places.{is_among}
 use Rattle.ct_rules.specs.Derivation.{LineValue}
 use Rattle.ct_rule_codes.specs.CodeEntry.{entry_of_code}
 

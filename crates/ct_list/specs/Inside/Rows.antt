@@ -1,7 +1,7 @@
 -- The code of a rule, made of codes of what the rule rests on.
 use Rattle.std.specs.Prelude.{◌≡◌, ℕ, true, List, length, map, Some}
-use Rattle.ct_entries.specs.declared.entry.Entry.{Entry}
-use Rattle.ct_entries.specs.Code.{CodeValue}
+use Rattle.ct_words.specs.declared.entry.Entry.{Entry}
+use Rattle.ct_words.specs.Code.{CodeValue}
 use Rattle.ct_rule_parts.specs.Parts.{RuleParts, is_defined}
 use Rattle.ct_rule_codes.specs.CodeEntry.{entry_of_code}
 

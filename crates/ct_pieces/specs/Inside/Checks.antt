@@ -1,6 +1,6 @@
 -- What the check of evidence gives.
 use Rattle.std.specs.Prelude.{◌≡◌, ◌≢◌, ℕ, List, Some, None, Result, Err, IfOk, IfErr, OnOk}
-use Rattle.ct_entries.specs.declared.entry.Entry.{Entry}
+use Rattle.ct_words.specs.declared.entry.Entry.{Entry}
 use Rattle.ct_rule_parts.specs.declared.support.Support.{Support}
 use Rattle.ct_rule_parts.specs.declared.support.Support.TheVariants.{Nothing}
 use Rattle.ct_kind.specs.declared.evidence.Evidence.{Evidence}

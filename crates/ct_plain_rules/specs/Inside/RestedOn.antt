@@ -2,8 +2,8 @@
 use Rattle.std.specs.Prelude.{◌+◌, ◌-◌, ◌*◌, List, ◌∷◌, [], map}
 use Rattle.std.specs.List.{flat_map, range_with_len}
 use Rattle.ct_words.specs.declared.limits.TheConstants.{MAX_N}
-use Rattle.ct_entries.specs.declared.entry.Entry.{Entry}
-use Rattle.ct_entries.specs.Entry.{unrestricted}
+use Rattle.ct_words.specs.declared.entry.Entry.{Entry}
+use Rattle.ct_words.specs.Entry.{unrestricted}
 use Rattle.ct_plain_rules.specs.Neighbours.{twice_as_long}
 
 -- by the sums: those of twice the length, at the distance, and at the two whose half, rounded up, is that

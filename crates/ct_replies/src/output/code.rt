@@ -7,10 +7,9 @@ ghost use Rattle.ct_replies.specs.Text.{code_heading, word_lines, code_text};
 ghost use Rattle.ct_replies.specs.Inside.Texts.{AreTexts};
 
 use crate::output::word_lines::{EightDigits, eight_digits, print_lines};
-use ct_entries::Code;
-use ct_io::{Failed, LINE_FEED, Sink, SinkBuffer};
-use ct_text::Digits;
-use ct_words::{MAX_N, Word};
+use ct_io::{Failed, Sink, SinkBuffer};
+use ct_text::{Digits, LINE_FEED};
+use ct_words::{Code, MAX_N, Word};
 
 // So many lines with words are put at a time.
 const LINES_AT_ONCE: usize = 2_048;

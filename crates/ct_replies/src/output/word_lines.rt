@@ -6,7 +6,7 @@ ghost use Rattle.ct_words.specs.Text.{word_text};
 ghost use Rattle.ct_replies.specs.Text.{ended, word_lines};
 ghost use Rattle.ct_replies.specs.Inside.Texts.{AreTexts};
 
-use ct_io::LINE_FEED;
+use ct_text::LINE_FEED;
 use ct_words::{Word, print_word};
 
 /// Texts of eight digits, by the words that they are the texts of.

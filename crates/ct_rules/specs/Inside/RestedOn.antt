@@ -1,6 +1,6 @@
 -- Where the closing of a table looks for the entries that rest on one by a rule.
 use Rattle.std.specs.Prelude.{List, ◌∷◌, []}
-use Rattle.ct_entries.specs.declared.entry.Entry.{Entry}
+use Rattle.ct_words.specs.declared.entry.Entry.{Entry}
 use Rattle.ct_plain_rules.specs.Inside.RestedOn.{by_uuv, by_juxtaposition}
 use Rattle.ct_plain_rules.specs.Neighbours.{shorter, longer, nearer, farther, shorter_and_nearer, longer_and_farther}
 use Rattle.ct_weight_rules.specs.Inside.RestedOn.{by_split, by_even_distance, by_elias_bassalygo, by_johnson, all_weights}

@@ -1,14 +1,14 @@
 //! The best bounds of a ledger with their explanations.
 
 ghost use Rattle.std.specs.Prelude.{IfOk};
-ghost use Rattle.ct_entries.specs.Entry.{IsEntry};
+ghost use Rattle.ct_words.specs.Entry.{IsEntry};
 ghost use Rattle.ct_derive.specs.Derivation.{AreOrdered};
 ghost use Rattle.ct_explain.specs.Explained.{ExplainsBest};
 
 use ct_derive::Derivation;
-use ct_entries::{Entry, Side};
 use ct_explain::PartsOfPieces;
 use ct_ledger::Ledger;
+use ct_words::{Entry, Side};
 use std::alloc::{AllocError, Global};
 
 /// An explanation of the best bound of a side of an entry of the table over the pieces of the ledger, and the pieces that it needs.

@@ -2,8 +2,8 @@
 
 ghost use Rattle.std.specs.Prelude.{◌≡◌, ◌≢◌, Some, IfOk, OnOk, OnErr};
 ghost use Rattle.std.specs.List.{AllZip};
-ghost use Rattle.ct_entries.specs.Entry.{IsEntry};
-ghost use Rattle.ct_entries.specs.TableEntries.{column};
+ghost use Rattle.ct_words.specs.Entry.{IsEntry};
+ghost use Rattle.ct_words.specs.TableEntries.{column};
 ghost use Rattle.ct_text.specs.EntryNumbers.{named_entry};
 ghost use Rattle.ct_commands.specs.declared.command.Command.TheVariants as command;
 ghost use Rattle.ct_pieces.specs.Submission.{submitted, with_piece};
@@ -11,11 +11,10 @@ ghost use Rattle.ct_pieces.specs.Withdrawal.{withdrawn, withdrawn_all, left_by};
 ghost use Rattle.ct_session.specs.Reply.{IsReply, AreBoundsOf, IsShowReply, IsTableReply, IsExplainReply, pieces_after, submission_reply, withdrawal_reply, withdrawal_all_reply};
 
 use crate::answering::explaining;
-use ct_entries::{Entry, Side};
 use ct_ledger::{Ledger, SubmitFault, WithdrawFault};
 use ct_replies::{Bounds, Refusal, Reply};
 use ct_text::{EntryNumbers, Id, TableNumbers, Text};
-use ct_words::{Listed, MAX_N};
+use ct_words::{Entry, Listed, MAX_N, Side};
 use std::alloc::{AllocError, Global};
 
 /// The bounds of an entry of the table.

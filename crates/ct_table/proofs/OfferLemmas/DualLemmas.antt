@@ -5,12 +5,12 @@ use Rattle.std.proofs.lemmas.Bool.{false≢true, cases_lt}
 use Rattle.std.specs.List.{range_with_len}
 use Rattle.std.proofs.lemmas.List.Elements.{All-nil, All-cons, All-append, All-map, All-contains}
 use Rattle.std.proofs.lemmas.Option.{none-some, same_Some, cond_some, slice_get_within}
-use Rattle.ct_entries.specs.declared.claim.Side.{Side}
-use Rattle.ct_entries.specs.declared.claim.Side.TheVariants.{Lower, Upper}
-use Rattle.ct_entries.specs.declared.entry.Entry.{Entry}
-use Rattle.ct_entries.specs.Entry.{constant_weight, is_entry, same_entry}
-use Rattle.ct_entries.proofs.EntryLemmas.{same_entry_is}
-use Rattle.ct_entries.specs.Constructions.Even.{even_from}
+use Rattle.ct_words.specs.declared.claim.Side.{Side}
+use Rattle.ct_words.specs.declared.claim.Side.TheVariants.{Lower, Upper}
+use Rattle.ct_words.specs.declared.entry.Entry.{Entry}
+use Rattle.ct_words.specs.Entry.{constant_weight, is_entry, same_entry}
+use Rattle.ct_words.proofs.EntryLemmas.{same_entry_is}
+use Rattle.ct_words.specs.Constructions.Even.{even_from}
 use Rattle.ct_duals.specs.Dual.{as_distance}
 use Rattle.ct_duals.specs.Bound.{AcceptedValue, positive, dual_premises}
 use Rattle.ct_rule_parts.specs.declared.support.Support.{Support}

@@ -1,9 +1,9 @@
 -- Which entries were tested while rules with neither numbers nor a support are followed, one after the other.
 use Rattle.std.proofs.Common.{◌≡◌, ℕ, List, [], ◌∷◌, ◌++◌, All, Contains, drop, take, Option, Some, None, refl, sym, subst}
 use Rattle.std.proofs.lemmas.List.Elements.{All-nil, All-cons, All-append, All-from_recursion, recursion_from_All}
-use Rattle.ct_entries.specs.declared.claim.Side.{Side}
-use Rattle.ct_entries.specs.declared.claim.Side.TheVariants.{Lower, Upper}
-use Rattle.ct_entries.specs.declared.entry.Entry.{Entry}
+use Rattle.ct_words.specs.declared.claim.Side.{Side}
+use Rattle.ct_words.specs.declared.claim.Side.TheVariants.{Lower, Upper}
+use Rattle.ct_words.specs.declared.entry.Entry.{Entry}
 use Rattle.ct_rule_parts.specs.declared.support.Support.{Support}
 use Rattle.ct_rule_parts.proofs.PlainEntries.{no_item}
 use Rattle.ct_rules.specs.declared.rule.Rule.{Rule}

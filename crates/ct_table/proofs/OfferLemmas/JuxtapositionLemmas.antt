@@ -4,12 +4,12 @@ use Rattle.std.specs.Prelude.{Bool, ◌&&◌, if◌then◌else◌, not, is_some,
 use Rattle.std.proofs.lemmas.Bool.{and_parts, and_from, cases_lt, cases_eq}
 use Rattle.std.proofs.lemmas.Option.{same_Some}
 use Rattle.ct_words.specs.declared.limits.TheConstants.{MAX_N, MAX_BOUND}
-use Rattle.ct_entries.specs.declared.entry.Entry.{Entry}
-use Rattle.ct_entries.specs.declared.claim.Side.TheVariants.{Lower}
-use Rattle.ct_entries.specs.Claim.{IsTrueClaim}
-use Rattle.ct_entries.specs.Entry.{IsEntry, is_entry, unrestricted}
-use Rattle.ct_entries.proofs.DigitCodes.{bound_from_spread}
-use Rattle.ct_entries.proofs.EntryLemmas.{entry_limits, entry_from_limits}
+use Rattle.ct_words.specs.declared.entry.Entry.{Entry}
+use Rattle.ct_words.specs.declared.claim.Side.TheVariants.{Lower}
+use Rattle.ct_words.specs.Claim.{IsTrueClaim}
+use Rattle.ct_words.specs.Entry.{IsEntry, is_entry, unrestricted}
+use Rattle.ct_words.proofs.DigitCodes.{bound_from_spread}
+use Rattle.ct_words.proofs.EntryLemmas.{entry_limits, entry_from_limits}
 use Rattle.ct_elementary.proofs.Averages.{spread_plotkin}
 use Rattle.ct_elementary.proofs.FarWords.{spread_far}
 use Rattle.ct_rule_parts.specs.declared.support.Support.{Support}

@@ -1,11 +1,11 @@
 -- What a rule gives over true bounds is true, so it is no better than the bound of the other side.
 use Rattle.std.proofs.Common.{◌≡◌, ℕ, List, Some, refl, sym, ap, subst, ◌∙◌, arith}
 use Rattle.std.specs.Prelude.{if◌then◌else◌, None}
-use Rattle.ct_entries.specs.declared.claim.Side.{Side}
-use Rattle.ct_entries.specs.declared.claim.Side.TheVariants.{Lower, Upper}
-use Rattle.ct_entries.specs.declared.entry.Entry.{Entry}
-use Rattle.ct_entries.specs.Claim.{IsTrueClaim}
-use Rattle.ct_entries.specs.Entry.{IsEntry}
+use Rattle.ct_words.specs.declared.claim.Side.{Side}
+use Rattle.ct_words.specs.declared.claim.Side.TheVariants.{Lower, Upper}
+use Rattle.ct_words.specs.declared.entry.Entry.{Entry}
+use Rattle.ct_words.specs.Claim.{IsTrueClaim}
+use Rattle.ct_words.specs.Entry.{IsEntry}
 use Rattle.ct_rule_parts.specs.declared.support.Support.{Support}
 use Rattle.ct_rule_parts.specs.Slot.{Slot, claim_at}
 use Rattle.ct_rule_parts.specs.Support.{AllStand}

@@ -4,10 +4,10 @@ use Rattle.std.specs.Prelude.{Bool, false, ◌&&◌, if◌then◌else◌, Option
 use Rattle.std.proofs.lemmas.Bool.{and_parts}
 use Rattle.std.proofs.lemmas.Option.{cond_some, none-some}
 use Rattle.ct_words.specs.declared.limits.TheConstants.{MAX_BOUND}
-use Rattle.ct_entries.specs.declared.claim.Side.{Side}
-use Rattle.ct_entries.specs.declared.entry.Entry.{Entry}
+use Rattle.ct_words.specs.declared.claim.Side.{Side}
+use Rattle.ct_words.specs.declared.entry.Entry.{Entry}
 use Rattle.ct_rule_parts.specs.declared.support.Support.{Support}
-use Rattle.ct_entries.specs.Entry.{IsEntry, is_entry}
+use Rattle.ct_words.specs.Entry.{IsEntry, is_entry}
 use Rattle.ct_rule_parts.specs.Parts.{are_entries, slots_on}
 use Rattle.ct_rule_parts.specs.Slot.{Slot}
 use Rattle.ct_rules.specs.declared.rule.Rule.{Rule}

@@ -1,8 +1,8 @@
 -- Which slots were marked, and which rules were asked for them.
 use Rattle.std.specs.Prelude.{◌≡◌, ℕ, ◌<◌, true, List, Contains, slice_get}
-use Rattle.ct_entries.specs.declared.claim.Side.TheVariants.{Upper}
-use Rattle.ct_entries.specs.declared.entry.Entry.{Entry}
-use Rattle.ct_entries.specs.Entry.{IsEntry, unrestricted}
+use Rattle.ct_words.specs.declared.claim.Side.TheVariants.{Upper}
+use Rattle.ct_words.specs.declared.entry.Entry.{Entry}
+use Rattle.ct_words.specs.Entry.{IsEntry, unrestricted}
 use Rattle.ct_rule_parts.specs.declared.support.Support.{Support}
 use Rattle.ct_rule_parts.specs.Slot.{Slot}
 use Rattle.ct_weight_rules.specs.Neighbours.{of_weight}

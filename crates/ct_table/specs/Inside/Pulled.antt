@@ -1,6 +1,6 @@
 -- How the best bound of a slot changes while rules are asked.
 use Rattle.std.specs.Prelude.{ℕ, if◌then◌else◌, List, take, drop, Option, Some}
-use Rattle.ct_entries.specs.declared.claim.Side.TheVariants.{Lower, Upper}
+use Rattle.ct_words.specs.declared.claim.Side.TheVariants.{Lower, Upper}
 use Rattle.ct_rule_parts.specs.declared.support.Support.{Support}
 use Rattle.ct_rule_parts.specs.declared.support.Support.TheVariants.{Odd, Local}
 use Rattle.ct_rule_parts.specs.Parts.{has_weight}

@@ -1,6 +1,6 @@
 -- A table while supports are taken out.
 use Rattle.std.specs.Prelude.{◌≡◌, ℕ, List, drop, slice_get, option_map}
-use Rattle.ct_entries.specs.Entry.{IsEntry}
+use Rattle.ct_words.specs.Entry.{IsEntry}
 use Rattle.ct_rule_parts.specs.declared.support.Support.{Support}
 use Rattle.ct_rule_parts.specs.Slot.{Slot, slot_of, IsBetter}
 use Rattle.ct_rules.specs.Closed.{IsClosed}

@@ -2,8 +2,8 @@
 use Rattle.std.specs.Prelude.{◌≡◌, ℕ, ◌+◌, ◌-◌, ◌*◌, List, map, take, drop, sum_by}
 use Rattle.std.proofs.Common.{◌⊎◌}
 use Rattle.ct_words.specs.declared.limits.TheConstants.{MAX_BOUND}
-use Rattle.ct_entries.specs.declared.entry.Entry.{Entry}
-use Rattle.ct_entries.specs.Entry.{IsEntry}
+use Rattle.ct_words.specs.declared.entry.Entry.{Entry}
+use Rattle.ct_words.specs.Entry.{IsEntry}
 use Rattle.ct_rule_parts.specs.declared.support.Support.{Support}
 use Rattle.ct_rule_parts.specs.Slot.{Slot, claim_at}
 use Rattle.ct_rules.specs.declared.rule.Rule.{Rule}

@@ -1,8 +1,8 @@
 //! The best bound of a slot among those that rules offer.
 
 ghost use Rattle.std.specs.Prelude.{◌≡◌, ℕ, List, Some, None};
-ghost use Rattle.ct_entries.specs.declared.entry.Entry.{Entry};
-ghost use Rattle.ct_entries.specs.Entry.{IsEntry};
+ghost use Rattle.ct_words.specs.declared.entry.Entry.{Entry};
+ghost use Rattle.ct_words.specs.Entry.{IsEntry};
 ghost use Rattle.ct_rule_parts.specs.declared.support.Support.{Support};
 ghost use Rattle.ct_rule_parts.specs.Slot.{Slot, IsNoBetter};
 ghost use Rattle.ct_rules.specs.Rule.{rule_side};
@@ -10,9 +10,9 @@ ghost use Rattle.ct_kept.specs.Number.{bound_of};
 ghost use Rattle.ct_table.specs.Offers.{value_over};
 ghost use Rattle.ct_table.specs.Inside.Pulled.{IsPulled};
 
-use ct_entries::{Entry, Side};
 use ct_kept::{Bounds, is_better};
 use ct_rules::Rule;
+use ct_words::{Entry, Side};
 
 /// The best bound of a slot that was found so far, and the rule that gives it, none where it is the one that stands.
 #[derive(Clone, Copy)]

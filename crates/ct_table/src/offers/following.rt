@@ -2,7 +2,7 @@
 //! where it is asked.
 
 ghost use Rattle.std.specs.Prelude.{OnOk, All, drop, take};
-ghost use Rattle.ct_entries.specs.Entry.{IsEntry};
+ghost use Rattle.ct_words.specs.Entry.{IsEntry};
 ghost use Rattle.ct_rule_parts.specs.Support.{AllStand};
 ghost use Rattle.ct_rules.specs.declared.rule.TheConstants.{LOWER_RULES, UPPER_RULES, LOWER_WEIGHT_RULES, UPPER_WEIGHT_RULES};
 ghost use Rattle.ct_rules.specs.Closed.{AreTrue};
@@ -11,9 +11,9 @@ ghost use Rattle.ct_kept.specs.Number.{bound_of};
 ghost use Rattle.ct_table.specs.Inside.Marking.{KeepsMarks, IsTestedFrom};
 
 use crate::offers::marking::mark_by_rule;
-use ct_entries::{Entry, Side};
 use ct_kept::{Bounds, Worklist};
 use ct_rules::{Rule, Support};
+use ct_words::{Entry, Side};
 use std::alloc::AllocError;
 
 /// Marks the entries that rest on this one by a rule that bounds A(n,d) from below, where it gives something better there.

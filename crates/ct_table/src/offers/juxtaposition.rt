@@ -4,8 +4,8 @@
 
 ghost use Rattle.std.specs.Prelude.{◌≡◌, ◌<◌, ◌≤◌, ◌+◌, ℕ, List, None, OnOk, min};
 ghost use Rattle.ct_words.specs.declared.limits.TheConstants.{MAX_N};
-ghost use Rattle.ct_entries.specs.declared.claim.Side.TheVariants.{Lower};
-ghost use Rattle.ct_entries.specs.Entry.{IsEntry, unrestricted};
+ghost use Rattle.ct_words.specs.declared.claim.Side.TheVariants.{Lower};
+ghost use Rattle.ct_words.specs.Entry.{IsEntry, unrestricted};
 ghost use Rattle.ct_rule_parts.specs.declared.support.Support.{Support};
 ghost use Rattle.ct_rule_parts.specs.Slot.{lower_at};
 ghost use Rattle.ct_rules.specs.declared.rule.Rule.TheVariants.{L11};
@@ -16,10 +16,9 @@ ghost use Rattle.ct_table.specs.Offers.{IsWithin};
 ghost use Rattle.ct_table.specs.Inside.Pulled.{IsPulled};
 
 use crate::offers::best::Best;
-use ct_entries::{Entry, Side};
 use ct_kept::{Bounds, Worklist};
 use ct_rules::Rule;
-use ct_words::MAX_N;
+use ct_words::{Entry, MAX_N, Side};
 use std::alloc::AllocError;
 
 /// The lower bound of A(n,d) that stands.

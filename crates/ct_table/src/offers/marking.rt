@@ -1,7 +1,7 @@
 //! The slots at which a better bound of another may lead to something better: they are marked.
 
 ghost use Rattle.std.specs.Prelude.{◌≡◌, suc, true, OnOk};
-ghost use Rattle.ct_entries.specs.Entry.{IsEntry};
+ghost use Rattle.ct_words.specs.Entry.{IsEntry};
 ghost use Rattle.ct_rule_parts.specs.Support.{AllStand};
 ghost use Rattle.ct_rules.specs.declared.rule.Rule.{Rule};
 ghost use Rattle.ct_rules.specs.Closed.{AreTrue};
@@ -13,11 +13,11 @@ ghost use Rattle.ct_table.specs.Inside.Marking.{KeepsMarks, IsTestedAt, IsTested
 use crate::offers::following::mark_by_resting;
 use crate::offers::juxtaposition::mark_juxtaposition;
 use crate::offers::pulling::{given_rule, offer};
-use ct_entries::{Entry, Side};
 use ct_kept::{Bounds, SupportPlaces, Worklist, is_better};
 use ct_rule_parts::dual_behind;
 use ct_rules::{Rule, Support, rested_on_by, rule_side};
 use ct_weight_rules::{of_weight, unweighted, unweighted_and_nearer};
+use ct_words::{Entry, Side};
 use std::alloc::AllocError;
 
 /// Marks an entry of the table that is not settled, where the rule gives something better there.

@@ -2,8 +2,8 @@
 
 ghost use Rattle.std.specs.Prelude.{◌≡◌, ◌<◌, ◌≤◌, ◌^◌, ◌∷◌, [], ℕ, List, true, false, if◌then◌else◌, Some, None, IfSome, All, take, map, length, slice_get};
 ghost use Rattle.ct_words.specs.declared.limits.TheConstants.{MAX_BOUND, MAX_N};
-ghost use Rattle.ct_entries.specs.declared.claim.Side.TheVariants.{Lower, Upper};
-ghost use Rattle.ct_entries.specs.Entry.{IsEntry, is_entry};
+ghost use Rattle.ct_words.specs.declared.claim.Side.TheVariants.{Lower, Upper};
+ghost use Rattle.ct_words.specs.Entry.{IsEntry, is_entry};
 ghost use Rattle.ct_rule_parts.specs.Parts.{are_entries, slots_on};
 ghost use Rattle.ct_duals.specs.Bound.{dual_premises};
 ghost use Rattle.ct_rule_parts.specs.Slot.{IsNoBetter};
@@ -21,11 +21,10 @@ ghost use Rattle.ct_table.specs.Inside.Pulled.{IsPulled, bounding_rule, bounding
 use crate::offers::best::Best;
 use crate::offers::juxtaposition::best_juxtaposition;
 use crate::offers::resting::ask_resting;
-use ct_entries::{Entry, Side};
 use ct_kept::{Bounds, SupportPlaces};
 use ct_rule_parts::AcceptedDual;
 use ct_rules::{Entries, Rule, Support, rests_on, rule_side, value_where_defined};
-use ct_words::MAX_N;
+use ct_words::{Entry, MAX_N, Side};
 
 /// The bound that stands on a side of an entry, where it is in the table.
 #[inline(always)]

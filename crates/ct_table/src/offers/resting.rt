@@ -2,8 +2,8 @@
 //! nothing is chosen by the rule once the program is built.
 
 ghost use Rattle.std.specs.Prelude.{All, drop, take};
-ghost use Rattle.ct_entries.specs.declared.claim.Side.TheVariants.{Lower, Upper};
-ghost use Rattle.ct_entries.specs.Entry.{IsEntry};
+ghost use Rattle.ct_words.specs.declared.claim.Side.TheVariants.{Lower, Upper};
+ghost use Rattle.ct_words.specs.Entry.{IsEntry};
 ghost use Rattle.ct_rules.specs.declared.rule.TheConstants.{LOWER_RULES, UPPER_RULES, LOWER_WEIGHT_RULES, UPPER_WEIGHT_RULES};
 ghost use Rattle.ct_kept.specs.Number.{bound_of};
 ghost use Rattle.ct_table.specs.Offers.{IsWithin};
@@ -11,9 +11,9 @@ ghost use Rattle.ct_table.specs.Inside.Pulled.{IsPulled, resting_rules};
 
 use crate::offers::best::Best;
 use crate::offers::pulling::ask_own;
-use ct_entries::{Entry, Side};
 use ct_kept::Bounds;
 use ct_rules::{Rule, Support};
+use ct_words::{Entry, Side};
 
 /// Asks each rule that bounds A(n,d) from below by bounds of other entries.
 fn ask_lower(

@@ -1,7 +1,7 @@
 -- Entries among which are all that rest on one by a rule: where the closing of a table looks for them.
 use Rattle.std.specs.Prelude.{◌+◌, List, ◌∷◌, [], map}
 use Rattle.std.specs.List.{range_with_len}
-use Rattle.ct_entries.specs.declared.entry.Entry.{Entry}
+use Rattle.ct_words.specs.declared.entry.Entry.{Entry}
 use Rattle.ct_weight_rules.specs.Neighbours.{zero_more, one_more, of_weight, unweighted, unweighted_and_nearer}
 
 -- by one digit: words with a zero more, and with a one more

@@ -1,7 +1,7 @@
 use Rattle.std.proofs.Common.{sym, ap, ◌∙◌, ◌+◌}
 use Rattle.std.specs.Option.{option_map}
-use Rattle.ct_entries.specs.Constructions.Append.{one_appended}
-use Rattle.ct_entries.proofs.Constructions.AppendLemmas.{sound-one_appended}
+use Rattle.ct_words.specs.Constructions.Append.{one_appended}
+use Rattle.ct_words.proofs.Constructions.AppendLemmas.{sound-one_appended}
 use Rattle.ct_build.proofs.Sound.{IsSoundCode-same, weight_limit}
 use Rattle.ct_build.proofs.append.append_one.Goals as goal
 

@@ -1,7 +1,7 @@
 -- One more word; each fits, since it is shorter than the numbers are.
 use Rattle.std.proofs.Common.{ℕ, ◌+◌, ◌*◌, ◌^◌, ◌<◌, List, map, length, get_or, refl, ap, sym, ◌∙◌, subst, arith}
 use Rattle.std.proofs.lemmas.List.{take_all}
-use Rattle.ct_entries.specs.Constructions.Joined.{followed_by}
+use Rattle.ct_words.specs.Constructions.Joined.{followed_by}
 use Rattle.ct_build.proofs.WordByWord.{mapped_more, appended_fits}
 use Rattle.ct_build.proofs.append.followed_by_digit.Goals as goal
 use Rattle.ct_build.proofs.append.followed_by_digit.Goals.{In-loop-word}

@@ -1,5 +1,5 @@
 use Rattle.std.proofs.Common.{◌≡◌, map, take}
-use Rattle.ct_entries.specs.Constructions.Joined.{followed_by}
+use Rattle.ct_words.specs.Constructions.Joined.{followed_by}
 use Rattle.ct_build.proofs.append.followed_by_digit.Given as goal
 
 abbrev pub invariant-loop-word : goal.invariant-loop-word

@@ -2,7 +2,7 @@
 use Rattle.std.proofs.Common.{ℕ, ◌+◌, ◌*◌, ◌%◌, ◌^◌, ◌<◌, List, map, length, get_or, ap, sym, ◌∙◌, subst, arith}
 use Rattle.std.proofs.lemmas.List.{take_all}
 use Rattle.ct_words.specs.Word.{weight}
-use Rattle.ct_entries.specs.Constructions.Joined.{followed_by}
+use Rattle.ct_words.specs.Constructions.Joined.{followed_by}
 use Rattle.ct_build.proofs.WordByWord.{mapped_more, appended_fits}
 use Rattle.ct_build.proofs.append.followed_by_parity.Goals as goal
 use Rattle.ct_build.proofs.append.followed_by_parity.Goals.{In-loop-word}

@@ -1,6 +1,6 @@
 use Rattle.std.proofs.Common.{ap, ◌+◌}
-use Rattle.ct_entries.specs.Constructions.Append.{lengthened}
-use Rattle.ct_entries.proofs.Constructions.AppendLemmas.{sound-lengthened}
+use Rattle.ct_words.specs.Constructions.Append.{lengthened}
+use Rattle.ct_words.proofs.Constructions.AppendLemmas.{sound-lengthened}
 use Rattle.ct_build.proofs.Sound.{IsSoundCode-same}
 use Rattle.ct_build.proofs.append.lengthen.Goals as goal
 

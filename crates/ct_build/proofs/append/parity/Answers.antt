@@ -1,8 +1,8 @@
 use Rattle.std.proofs.Common.{sym, ap, ◌∙◌, ◌+◌}
 use Rattle.std.specs.Option.{option_map}
-use Rattle.ct_entries.specs.Constructions.Even.{even_from}
-use Rattle.ct_entries.specs.Constructions.Append.{with_parity}
-use Rattle.ct_entries.proofs.Constructions.AppendLemmas.{sound-with_parity}
+use Rattle.ct_words.specs.Constructions.Even.{even_from}
+use Rattle.ct_words.specs.Constructions.Append.{with_parity}
+use Rattle.ct_words.proofs.Constructions.AppendLemmas.{sound-with_parity}
 use Rattle.ct_build.proofs.Sound.{IsSoundCode-same, weight_limit}
 use Rattle.ct_build.proofs.append.parity.Goals as goal
 

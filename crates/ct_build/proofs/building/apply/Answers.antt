@@ -1,7 +1,7 @@
 use Rattle.std.proofs.Common.{◌≡◌, length, Option, None, sym, ◌∙◌, option_copied, arith, rules, eqb-true, false-eqb}
 use Rattle.std.proofs.lemmas.List.Sorted.{length_permutation, IsPermutation-trans}
-use Rattle.ct_entries.proofs.CheckLemmas.{IsCode-permutation}
-use Rattle.ct_entries.specs.declared.entry.Entry.{Entry}
+use Rattle.ct_words.proofs.CheckLemmas.{IsCode-permutation}
+use Rattle.ct_words.specs.declared.entry.Entry.{Entry}
 use Rattle.ct_build.specs.declared.fault.BuildFault.{BuildFault}
 use Rattle.ct_build.specs.declared.fault.BuildFault.TheVariants.{Memory}
 use Rattle.ct_build.specs.declared.shape.Shape.{Shape}

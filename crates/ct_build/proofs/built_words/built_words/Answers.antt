@@ -1,6 +1,6 @@
 use Rattle.std.proofs.Common.{ℕ, List, sym, subst, option_copied, IsPermutation}
 use Rattle.std.specs.Prelude.{IfOk, OnErr, ◌≢◌, []}
-use Rattle.ct_entries.specs.Constructions.Places.{ArePlaces}
+use Rattle.ct_words.specs.Constructions.Places.{ArePlaces}
 use Rattle.ct_build.specs.declared.step.Step.{Step}
 use Rattle.ct_build.specs.declared.step.Step.TheVariants.{Lengthen, AppendOne, Parity, Puncture, Shorten, Select, Uuv, Juxtapose}
 use Rattle.ct_build.specs.Build.{built}

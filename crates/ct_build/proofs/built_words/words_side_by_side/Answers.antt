@@ -1,5 +1,5 @@
 use Rattle.std.proofs.Common.{ℕ, ◌-◌, ◌^◌, ◌<◌, List, All, sym, ap, subst, arith, option_copied}
-use Rattle.ct_entries.proofs.Constructions.JoinedLemmas.{words_wider}
+use Rattle.ct_words.proofs.Constructions.JoinedLemmas.{words_wider}
 use Rattle.ct_build.proofs.built_words.words_side_by_side.Goals as goal
 
 pub joined_words-requires-clause-first : goal.joined_words-requires-clause-first

@@ -1,6 +1,6 @@
 use Rattle.std.proofs.Common.{refl, ap, ◌∙◌, None, length}
-use Rattle.ct_entries.specs.Constructions.Even.{even_words}
-use Rattle.ct_entries.proofs.Constructions.EvenLemmas.{sound-even_words, length-even_words}
+use Rattle.ct_words.specs.Constructions.Even.{even_words}
+use Rattle.ct_words.proofs.Constructions.EvenLemmas.{sound-even_words, length-even_words}
 use Rattle.ct_build.proofs.Sound.{IsSoundCode-same}
 use Rattle.ct_build.proofs.even.even_words.Goals as goal
 

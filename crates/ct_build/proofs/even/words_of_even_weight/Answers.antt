@@ -1,6 +1,6 @@
 use Rattle.std.proofs.Common.{◌%◌, ◌^◌, ◌<◌, ◌++◌, [], ◌∷◌, ap, sym, ◌∙◌, arith}
 use Rattle.std.proofs.lemmas.Nat.{one_shl}
-use Rattle.ct_entries.proofs.Constructions.EvenLemmas.{even_words-more_yes, even_words-more_no}
+use Rattle.ct_words.proofs.Constructions.EvenLemmas.{even_words-more_yes, even_words-more_no}
 use Rattle.ct_build.proofs.even.words_of_even_weight.Goals as goal
 use Rattle.ct_build.proofs.even.words_of_even_weight.Goals.{then-weight-eq0+in_ok-push, else-weight-eq0}
 

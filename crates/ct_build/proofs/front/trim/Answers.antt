@@ -1,8 +1,8 @@
 -- The first words of a code are one, and as many as are asked for.
 use Rattle.std.proofs.Common.{◌≡◌, ℕ, ◌≤◌, List, length, take, ap, sym, ◌∙◌, subst, arith}
 use Rattle.std.proofs.lemmas.List.{length-take}
-use Rattle.ct_entries.specs.Code.{CodeValue, IsSoundCode}
-use Rattle.ct_entries.proofs.Constructions.FrontLemmas.{IsCode-take, ascending-take}
+use Rattle.ct_words.specs.Code.{CodeValue, IsSoundCode}
+use Rattle.ct_words.proofs.Constructions.FrontLemmas.{IsCode-take, ascending-take}
 use Rattle.ct_build.specs.declared.fault.BuildFault.TheVariants.{Few}
 use Rattle.ct_build.proofs.Failures.{made}
 use Rattle.ct_build.proofs.Sound.{IsSoundCode-same}

@@ -1,10 +1,10 @@
 use Rattle.std.proofs.Common.{rules, ◌≡◌, ℕ, suc, ◌-◌, ◌*◌, ◌%◌, ◌^◌, List, [], ◌∷◌, ◌++◌, length, take, get_or, min, bit_or, sym, ap, ap₂, ◌∙◌, arith}
 use Rattle.std.proofs.lemmas.List.{length_push}
 use Rattle.std.proofs.lemmas.Slice.Zip.{zip_turn, zip_end}
-use Rattle.ct_entries.specs.Constructions.Joined.{followed_by}
-use Rattle.ct_entries.specs.Constructions.Juxtaposed.{juxtaposed}
-use Rattle.ct_entries.proofs.Constructions.JoinedLemmas.{or-followed_by}
-use Rattle.ct_entries.proofs.Constructions.JuxtaposedCodes.{juxtaposed-more, juxtaposed-all}
+use Rattle.ct_words.specs.Constructions.Joined.{followed_by}
+use Rattle.ct_words.specs.Constructions.Juxtaposed.{juxtaposed}
+use Rattle.ct_words.proofs.Constructions.JoinedLemmas.{or-followed_by}
+use Rattle.ct_words.proofs.Constructions.JuxtaposedCodes.{juxtaposed-more, juxtaposed-all}
 use Rattle.ct_build.proofs.juxtaposed.joined_words.Goals as goal
 
 pub loop-x-preserved : goal.loop-x-preserved

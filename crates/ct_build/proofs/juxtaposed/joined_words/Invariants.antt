@@ -1,5 +1,5 @@
 use Rattle.std.proofs.Common.{◌≡◌, length, take}
-use Rattle.ct_entries.specs.Constructions.Juxtaposed.{juxtaposed}
+use Rattle.ct_words.specs.Constructions.Juxtaposed.{juxtaposed}
 use Rattle.ct_build.proofs.juxtaposed.joined_words.Given as goal
 
 abbrev pub invariant-loop-x : goal.invariant-loop-x

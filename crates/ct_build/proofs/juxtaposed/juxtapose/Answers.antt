@@ -1,8 +1,8 @@
 use Rattle.std.proofs.Common.{◌≡◌, ℕ, ◌+◌, ◌-◌, ◌^◌, ◌<◌, List, All, sym, ap₂, subst, ◌∙◌, arith}
-use Rattle.ct_entries.specs.Code.{IsSoundCode}
-use Rattle.ct_entries.specs.Constructions.Juxtaposed.{juxtaposed, added_weights}
-use Rattle.ct_entries.proofs.Constructions.JoinedLemmas.{words_wider}
-use Rattle.ct_entries.proofs.Constructions.JuxtaposedCodes.{IsSoundCode-juxtaposed}
+use Rattle.ct_words.specs.Code.{IsSoundCode}
+use Rattle.ct_words.specs.Constructions.Juxtaposed.{juxtaposed, added_weights}
+use Rattle.ct_words.proofs.Constructions.JoinedLemmas.{words_wider}
+use Rattle.ct_words.proofs.Constructions.JuxtaposedCodes.{IsSoundCode-juxtaposed}
 use Rattle.ct_build.proofs.Sound.{weight_limit}
 use Rattle.ct_build.proofs.juxtaposed.juxtapose.Goals as goal
 

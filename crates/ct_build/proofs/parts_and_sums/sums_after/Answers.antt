@@ -1,8 +1,8 @@
 use Rattle.std.proofs.Common.{◌≡◌, ℕ, ◌*◌, ◌%◌, ◌^◌, List, [], ◌∷◌, ◌++◌, get_or, bit_or, bit_xor, sym, ap₂, ◌∙◌, arith}
 use Rattle.std.proofs.lemmas.List.{map_more}
 use Rattle.std.proofs.lemmas.Nat.{xor_lt}
-use Rattle.ct_entries.specs.Constructions.Joined.{followed_by}
-use Rattle.ct_entries.proofs.Constructions.JoinedLemmas.{or-followed_by}
+use Rattle.ct_words.specs.Constructions.Joined.{followed_by}
+use Rattle.ct_words.proofs.Constructions.JoinedLemmas.{or-followed_by}
 use Rattle.ct_build.proofs.parts_and_sums.sums_after.Goals as goal
 
 pub loop-v-preserved : goal.loop-v-preserved

@@ -1,10 +1,10 @@
 use Rattle.std.proofs.Common.{◌≡◌, ℕ, ◌*◌, List, length, min, sym, ap₂, subst, ◌∙◌, arith, mul-le-mul_right, IsPermutation}
 use Rattle.std.proofs.lemmas.List.Sorted.{length_permutation, IsPermutation-trans}
 use Rattle.std.specs.Prelude.{None}
-use Rattle.ct_entries.specs.Code.{IsCode, CodeValue}
-use Rattle.ct_entries.proofs.CheckLemmas.{IsCode-permutation}
-use Rattle.ct_entries.specs.Constructions.Uuv.{uuv_words}
-use Rattle.ct_entries.proofs.Constructions.UuvCodes.{length-uuv_words, IsCode-uuv}
+use Rattle.ct_words.specs.Code.{IsCode, CodeValue}
+use Rattle.ct_words.proofs.CheckLemmas.{IsCode-permutation}
+use Rattle.ct_words.specs.Constructions.Uuv.{uuv_words}
+use Rattle.ct_words.proofs.Constructions.UuvCodes.{length-uuv_words, IsCode-uuv}
 use Rattle.ct_build.proofs.parts_and_sums.uuv.Goals as goal
 
 -- the words of the two codes, as they were read

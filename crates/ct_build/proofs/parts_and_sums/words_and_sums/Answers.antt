@@ -2,8 +2,8 @@ use Rattle.std.proofs.Common.{◌≡◌, ℕ, ◌+◌, List, [], ◌++◌, map, 
 use Rattle.std.specs.List.{flat_map}
 use Rattle.std.proofs.lemmas.List.{take_more, flat_map_more}
 use Rattle.std.proofs.lemmas.List.Sorted.{IsPermutation-append}
-use Rattle.ct_entries.specs.Constructions.Joined.{followed_by}
-use Rattle.ct_entries.specs.Constructions.Uuv.{uuv_words}
+use Rattle.ct_words.specs.Constructions.Joined.{followed_by}
+use Rattle.ct_words.specs.Constructions.Uuv.{uuv_words}
 use Rattle.ct_build.proofs.parts_and_sums.words_and_sums.Goals as goal
 
 pub loop-u-preserved : goal.loop-u-preserved

@@ -1,5 +1,5 @@
 use Rattle.std.proofs.Common.{IsPermutation, take}
-use Rattle.ct_entries.specs.Constructions.Uuv.{uuv_words}
+use Rattle.ct_words.specs.Constructions.Uuv.{uuv_words}
 use Rattle.ct_build.proofs.parts_and_sums.words_and_sums.Given as goal
 
 abbrev pub invariant-loop-u : goal.invariant-loop-u

@@ -1,7 +1,7 @@
 use Rattle.std.proofs.Common.{rules, ◌≡◌, ◌≢◌, length, get_or, min, sym, ap, ◌∙◌}
 use Rattle.std.proofs.lemmas.Slice.Zip.{zip_turn, zip_end}
 use Rattle.ct_words.specs.Word.{digit}
-use Rattle.ct_entries.proofs.Constructions.ShortenedCodes.{has_digits-all, has_digits-not}
+use Rattle.ct_words.proofs.Constructions.ShortenedCodes.{has_digits-all, has_digits-not}
 use Rattle.ct_build.proofs.places.has_digits.Goals as goal
 
 pub returns-then-word-n : goal.returns-then-word-n

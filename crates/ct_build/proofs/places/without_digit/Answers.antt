@@ -1,5 +1,5 @@
 use Rattle.std.proofs.Common.{◌<◌, arith}
-use Rattle.ct_entries.proofs.Constructions.ReadLemmas.{without_digit-is}
+use Rattle.ct_words.proofs.Constructions.ReadLemmas.{without_digit-is}
 use Rattle.ct_build.proofs.places.without_digit.Goals as goal
 
 pub returns : goal.returns

@@ -1,8 +1,8 @@
 use Rattle.std.proofs.Common.{List, ℕ, ◌-◌, take, get_or, sym, ap, ◌∙◌}
 use Rattle.std.proofs.lemmas.List.{take_more}
-use Rattle.ct_entries.specs.Constructions.Places.{other_places, read_at}
-use Rattle.ct_entries.proofs.Constructions.PlaceLemmas.{other_places-none, places-below}
-use Rattle.ct_entries.proofs.Constructions.ReadLemmas.{without_digit, read_at-all, read_at-without}
+use Rattle.ct_words.specs.Constructions.Places.{other_places, read_at}
+use Rattle.ct_words.proofs.Constructions.PlaceLemmas.{other_places-none, places-below}
+use Rattle.ct_words.proofs.Constructions.ReadLemmas.{without_digit, read_at-all, read_at-without}
 use Rattle.ct_build.proofs.places.without_places.Goals as goal
 
 pub loop-place-init : goal.loop-place-init

@@ -1,5 +1,5 @@
 use Rattle.std.proofs.Common.{◌≡◌, take}
-use Rattle.ct_entries.specs.Constructions.Places.{other_places, read_at}
+use Rattle.ct_words.specs.Constructions.Places.{other_places, read_at}
 use Rattle.ct_build.proofs.places.without_places.Given as goal
 
 abbrev pub invariant-loop-place : goal.invariant-loop-place

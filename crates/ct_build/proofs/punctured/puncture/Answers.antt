@@ -1,8 +1,8 @@
 use Rattle.std.proofs.Common.{◌≡◌, ◌-◌, length, sym, subst, ◌∙◌}
 use Rattle.std.specs.Prelude.{None}
-use Rattle.ct_entries.specs.Code.{IsCode, CodeValue}
-use Rattle.ct_entries.specs.Constructions.Punctured.{punctured}
-use Rattle.ct_entries.proofs.Constructions.PuncturedCodes.{IsCode-punctured}
+use Rattle.ct_words.specs.Code.{IsCode, CodeValue}
+use Rattle.ct_words.specs.Constructions.Punctured.{punctured}
+use Rattle.ct_words.proofs.Constructions.PuncturedCodes.{IsCode-punctured}
 use Rattle.ct_build.proofs.punctured.puncture.Goals as goal
 
 pub code_of-requires-clause-code : goal.code_of-requires-clause-code

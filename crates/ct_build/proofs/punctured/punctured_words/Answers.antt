@@ -1,7 +1,7 @@
 -- One more word.
 use Rattle.std.proofs.Common.{map, ap, ◌∙◌}
 use Rattle.std.proofs.lemmas.List.{take_all}
-use Rattle.ct_entries.specs.Constructions.Places.{other_places, read_at}
+use Rattle.ct_words.specs.Constructions.Places.{other_places, read_at}
 use Rattle.ct_build.proofs.WordByWord.{mapped_more}
 use Rattle.ct_build.proofs.punctured.punctured_words.Goals as goal
 

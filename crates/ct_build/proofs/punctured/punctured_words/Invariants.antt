@@ -1,5 +1,5 @@
 use Rattle.std.proofs.Common.{◌≡◌, take}
-use Rattle.ct_entries.specs.Constructions.Punctured.{punctured}
+use Rattle.ct_words.specs.Constructions.Punctured.{punctured}
 use Rattle.ct_build.proofs.punctured.punctured_words.Given as goal
 
 abbrev pub invariant-loop-word : goal.invariant-loop-word

@@ -1,8 +1,8 @@
 use Rattle.std.proofs.Common.{◌≡◌, ℕ, ◌-◌, List, length, sym, ap, ap₂, subst, ◌∙◌, arith}
 use Rattle.std.proofs.lemmas.Bool.{eqb-false}
-use Rattle.ct_entries.specs.Code.{IsSoundCode}
-use Rattle.ct_entries.specs.Constructions.Shortened.{shortened, shortened_weight}
-use Rattle.ct_entries.proofs.Constructions.ShortenedCodes.{IsSoundCode-shortened}
+use Rattle.ct_words.specs.Code.{IsSoundCode}
+use Rattle.ct_words.specs.Constructions.Shortened.{shortened, shortened_weight}
+use Rattle.ct_words.proofs.Constructions.ShortenedCodes.{IsSoundCode-shortened}
 use Rattle.ct_build.specs.declared.fault.BuildFault.TheVariants.{Empty}
 use Rattle.ct_build.proofs.Failures.{not_empty, made, failed}
 use Rattle.ct_build.proofs.shortened.shorten.Goals as goal

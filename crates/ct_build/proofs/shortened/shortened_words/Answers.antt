@@ -1,9 +1,9 @@
 -- A word more where it has the digits, and else none.
 use Rattle.std.proofs.Common.{ℕ, Bool, ap, sym, ◌∙◌}
 use Rattle.std.proofs.lemmas.List.{take_all}
-use Rattle.ct_entries.specs.Constructions.Places.{other_places, read_at}
-use Rattle.ct_entries.specs.Constructions.Shortened.{has_digits, shortened}
-use Rattle.ct_entries.proofs.Constructions.ShortenedCodes.{shortened-some}
+use Rattle.ct_words.specs.Constructions.Places.{other_places, read_at}
+use Rattle.ct_words.specs.Constructions.Shortened.{has_digits, shortened}
+use Rattle.ct_words.proofs.Constructions.ShortenedCodes.{shortened-some}
 use Rattle.ct_build.proofs.WordByWord.{kept_more, left_out}
 use Rattle.ct_build.proofs.shortened.shortened_words.Goals as goal
 use Rattle.ct_build.proofs.shortened.shortened_words.Goals.{then-has_digits+in_ok-push, else-has_digits}

@@ -1,4 +1,4 @@
-use Rattle.ct_entries.proofs.Constructions.SortedCodes.{sound_from_sort}
+use Rattle.ct_words.proofs.Constructions.SortedCodes.{sound_from_sort}
 use Rattle.ct_build.proofs.sorted.code_of.Goals as goal
 
 pub from_sorted-requires : goal.from_sorted-requires

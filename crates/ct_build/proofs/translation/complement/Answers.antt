@@ -1,7 +1,7 @@
 use Rattle.std.proofs.Common.{refl, sym, ap, ap₂, ◌∙◌, ◌-◌, subst, IsPermutation, arith}
 use Rattle.std.specs.Option.{option_map}
-use Rattle.ct_entries.specs.Constructions.Translation.{translated, all_ones}
-use Rattle.ct_entries.proofs.Constructions.TranslationLemmas.{sound-complemented}
+use Rattle.ct_words.specs.Constructions.Translation.{translated, all_ones}
+use Rattle.ct_words.proofs.Constructions.TranslationLemmas.{sound-complemented}
 use Rattle.ct_build.proofs.Sound.{IsSoundCode-same, weight_within}
 use Rattle.ct_build.proofs.translation.complement.Goals as goal
 

@@ -1,7 +1,7 @@
 use Rattle.std.proofs.Common.{length, subst, refl, sym, ap, ◌∙◌, Some, IsPermutation, arith}
 use Rattle.std.proofs.lemmas.Bool.{eqb-false}
-use Rattle.ct_entries.specs.Constructions.Even.{even_from}
-use Rattle.ct_entries.proofs.Constructions.TranslationLemmas.{sound-selected}
+use Rattle.ct_words.specs.Constructions.Even.{even_from}
+use Rattle.ct_words.proofs.Constructions.TranslationLemmas.{sound-selected}
 use Rattle.ct_build.proofs.Sound.{IsSoundCode-same}
 use Rattle.ct_build.specs.declared.fault.BuildFault.TheVariants.{Empty}
 use Rattle.ct_build.proofs.Failures.{not_empty, made}

@@ -3,9 +3,9 @@ use Rattle.std.specs.Prelude.{⊤}
 use Rattle.std.proofs.lemmas.Nat.{xor_lt}
 use Rattle.std.proofs.lemmas.Result.{MatchResult-from_err}
 use Rattle.ct_words.specs.Word.{weight}
-use Rattle.ct_entries.specs.Code.{CodeValue, IsSoundCode}
-use Rattle.ct_entries.specs.Constructions.Translation.{selected}
-use Rattle.ct_entries.proofs.Constructions.TranslationLemmas.{selected-more_yes, selected-more_no, selected-some}
+use Rattle.ct_words.specs.Code.{CodeValue, IsSoundCode}
+use Rattle.ct_words.specs.Constructions.Translation.{selected}
+use Rattle.ct_words.proofs.Constructions.TranslationLemmas.{selected-more_yes, selected-more_no, selected-some}
 use Rattle.ct_build.proofs.translation.sums_of_weight.Goals as goal
 use Rattle.ct_build.proofs.translation.sums_of_weight.Goals.{then-weight-w+in_ok-push, else-weight-w}
 

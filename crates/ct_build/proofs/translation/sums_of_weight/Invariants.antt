@@ -1,5 +1,5 @@
 use Rattle.std.proofs.Common.{◌≡◌, take}
-use Rattle.ct_entries.specs.Constructions.Translation.{selected}
+use Rattle.ct_words.specs.Constructions.Translation.{selected}
 use Rattle.ct_build.proofs.translation.sums_of_weight.Given as goal
 
 abbrev pub invariant-loop-word : goal.invariant-loop-word

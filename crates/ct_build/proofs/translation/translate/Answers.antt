@@ -1,6 +1,6 @@
 use Rattle.std.proofs.Common.{refl, None, subst, IsPermutation}
-use Rattle.ct_entries.specs.Constructions.Translation.{translated}
-use Rattle.ct_entries.proofs.Constructions.TranslationLemmas.{sound-translated}
+use Rattle.ct_words.specs.Constructions.Translation.{translated}
+use Rattle.ct_words.proofs.Constructions.TranslationLemmas.{sound-translated}
 use Rattle.ct_build.proofs.Sound.{IsSoundCode-same}
 use Rattle.ct_build.proofs.translation.translate.Goals as goal
 

@@ -1,6 +1,6 @@
 use Rattle.std.proofs.Common.{◌≡◌, ℕ, List, Option, Some, None, IfOk, IfErr, option_map, sym, ap, subst, ◌∙◌}
 use Rattle.std.specs.Prelude.{OnSome}
-use Rattle.ct_entries.specs.Pairs.{first_of}
+use Rattle.ct_words.specs.Pairs.{first_of}
 use Rattle.ct_kind.specs.declared.fault.SubmitFault.{SubmitFault}
 use Rattle.ct_kind.specs.declared.fault.SubmitFault.TheVariants.{NoSuch}
 use Rattle.ct_build_files.specs.BuildKind.{build_kind}

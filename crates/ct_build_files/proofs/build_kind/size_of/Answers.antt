@@ -1,7 +1,7 @@
 use Rattle.std.proofs.Common.{◌≤◌, ◌^◌, length, ap, arith, lit≤}
 use Rattle.std.proofs.Math.Nat.{pow-le-pow_right}
 use Rattle.ct_words.specs.declared.limits.TheConstants.{MAX_BOUND}
-use Rattle.ct_entries.proofs.CheckLemmas.{code_size-le}
+use Rattle.ct_words.proofs.CheckLemmas.{code_size-le}
 use Rattle.ct_build_files.proofs.build_kind.size_of.Goals as goal
 
 pub overflow_cast-result : goal.overflow_cast-result

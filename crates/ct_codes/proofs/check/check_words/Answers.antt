@@ -1,6 +1,6 @@
 use Rattle.std.proofs.Common.{◌∙◌, sym, ap}
-use Rattle.ct_entries.specs.Check.{code_fault}
-use Rattle.ct_entries.proofs.CheckLemmas.{sound_from_check, code_from_no_fault}
+use Rattle.ct_words.specs.Check.{code_fault}
+use Rattle.ct_words.proofs.CheckLemmas.{sound_from_check, code_from_no_fault}
 use Rattle.ct_codes.proofs.check.check_words.Goals as goal
 
 pub from_sorted-requires : goal.from_sorted-requires

@@ -3,7 +3,7 @@ use Rattle.std.proofs.Math.Facts.{Fits-lt-pow}
 use Rattle.std.proofs.lemmas.Bool.{le-ltb}
 use Rattle.std.proofs.lemmas.List.Elements.{All-from_get_or}
 use Rattle.ct_words.specs.Word.{distance}
-use Rattle.ct_entries.proofs.PairLemmas.{close_any_length, least_pair-none}
+use Rattle.ct_words.proofs.PairLemmas.{close_any_length, least_pair-none}
 use Rattle.ct_codes.proofs.check.close_pair.Goals as goal
 
 pub returns-then-are_far_by_groups-clause-least : goal.returns-then-are_far_by_groups-clause-least

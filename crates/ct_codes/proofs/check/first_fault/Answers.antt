@@ -1,5 +1,5 @@
 use Rattle.std.proofs.Common.{◌∙◌, sym}
-use Rattle.ct_entries.proofs.CheckLemmas.{fault_of_size, fault_of_weight, fault_of_pairs}
+use Rattle.ct_words.proofs.CheckLemmas.{fault_of_size, fault_of_weight, fault_of_pairs}
 use Rattle.ct_codes.proofs.check.first_fault.Goals as goal
 
 pub returns-in-Some : goal.returns-in-Some

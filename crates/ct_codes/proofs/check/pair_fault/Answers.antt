@@ -3,12 +3,12 @@ use Rattle.std.proofs.Math.Facts.{Fits-lt-pow}
 use Rattle.std.proofs.lemmas.Bool.{ltb-true, lt-ltb}
 use Rattle.std.proofs.lemmas.List.Elements.{All-from_get_or}
 use Rattle.ct_words.specs.Word.{distance}
-use Rattle.ct_entries.specs.declared.fault.CodeFault.TheVariants.{Close}
-use Rattle.ct_entries.specs.Pairs.{least_pair}
+use Rattle.ct_words.specs.declared.fault.CodeFault.TheVariants.{Close}
+use Rattle.ct_words.specs.Pairs.{least_pair}
 use Rattle.ct_codes.specs.Inside.Shifted.{shifted}
-use Rattle.ct_entries.proofs.PairLemmas.{close_any_length}
+use Rattle.ct_words.proofs.PairLemmas.{close_any_length}
 use Rattle.ct_codes.proofs.ShiftedPairs.{shifted-stricter}
-use Rattle.ct_entries.proofs.CheckLemmas.{no_pair_fault, repeated_pair_fault, close_pair_fault}
+use Rattle.ct_words.proofs.CheckLemmas.{no_pair_fault, repeated_pair_fault, close_pair_fault}
 use Rattle.ct_codes.proofs.check.pair_fault.Goals as goal
 
 -- the least equal pair is searched from the least close pair on

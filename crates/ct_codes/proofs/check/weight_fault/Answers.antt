@@ -1,8 +1,8 @@
 use Rattle.std.proofs.Common.{◌∙◌, ◌<◌, ◌^◌, arith, sym, ap}
 use Rattle.std.proofs.Math.Facts.{Fits-lt-pow}
 use Rattle.std.proofs.lemmas.List.Elements.{All-from_get_or}
-use Rattle.ct_entries.specs.Check.{weight_fault}
-use Rattle.ct_entries.proofs.CheckLemmas.{weight_fault_at, weight_fault_none}
+use Rattle.ct_words.specs.Check.{weight_fault}
+use Rattle.ct_words.proofs.CheckLemmas.{weight_fault_at, weight_fault_none}
 use Rattle.ct_codes.proofs.check.weight_fault.Goals as goal
 
 pub returns-in_err-w : goal.returns-in_err-w

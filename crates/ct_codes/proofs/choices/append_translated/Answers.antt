@@ -1,7 +1,7 @@
 use Rattle.std.proofs.Common.{◌≡◌, ◌∙◌, ap, ℕ, ◌+◌, ◌<◌, ◌^◌, bit_xor, List, [], ◌∷◌, ◌++◌, length, map, drop, get_or, append_assoc, arith}
 use Rattle.std.proofs.Math.Seq.{drop-append_seam}
 use Rattle.ct_words.specs.Text.{tabulate}
-use Rattle.ct_entries.specs.Coset.{span_word}
+use Rattle.ct_words.specs.Coset.{span_word}
 use Rattle.ct_codes.proofs.SpanLemmas.{translated-none, translated-doubled}
 use Rattle.ct_codes.proofs.choices.append_translated.Goals as goal
 

@@ -1,6 +1,6 @@
 use Rattle.std.proofs.Common.{◌≡◌, ◌^◌, ◌++◌, bit_xor}
 use Rattle.ct_words.specs.Text.{tabulate}
-use Rattle.ct_entries.specs.Coset.{span_word}
+use Rattle.ct_words.specs.Coset.{span_word}
 use Rattle.ct_codes.proofs.choices.append_translated.Given as goal
 
 -- the sums of the word with those of the first basis words

@@ -1,6 +1,6 @@
 use Rattle.std.proofs.Common.{◌≡◌, ◌∙◌, ap, ◌*◌, ◌^◌, ◌++◌, length, get_or, arith}
 use Rattle.ct_words.specs.Text.{tabulate}
-use Rattle.ct_entries.specs.Coset.{choice_word}
+use Rattle.ct_words.specs.Coset.{choice_word}
 use Rattle.ct_codes.specs.Inside.Translated.{translated}
 use Rattle.ct_codes.proofs.SpanLemmas.{choices-more, choices-all}
 use Rattle.ct_codes.proofs.choices.choice_words.Goals as goal

@@ -1,6 +1,6 @@
 use Rattle.std.proofs.Common.{◌≡◌, ◌*◌, ◌^◌, length}
 use Rattle.ct_words.specs.Text.{tabulate}
-use Rattle.ct_entries.specs.Coset.{choice_word}
+use Rattle.ct_words.specs.Coset.{choice_word}
 use Rattle.ct_codes.proofs.choices.choice_words.Given as goal
 
 -- the choices of the first representatives

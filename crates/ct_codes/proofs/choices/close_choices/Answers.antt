@@ -5,7 +5,7 @@ use Rattle.std.proofs.lemmas.List.Quantifiers.{position-Some}
 use Rattle.std.proofs.lemmas.List.Elements.{All-from_get_or}
 use Rattle.ct_words.specs.declared.limits.TheConstants.{MAX_N}
 use Rattle.ct_words.specs.Word.{distance}
-use Rattle.ct_entries.proofs.PairLemmas.{close_any_length}
+use Rattle.ct_words.proofs.PairLemmas.{close_any_length}
 use Rattle.ct_codes.proofs.ShiftedPairs.{shifted-none_before, shifted-row_found, shifted-end}
 use Rattle.ct_codes.proofs.SpanLemmas.{length-coset_list}
 use Rattle.ct_codes.proofs.CosetLemmas.{row-within, rows-of_choices}

@@ -1,5 +1,5 @@
 use Rattle.std.proofs.Common.{◌∙◌, sym, ap₂}
-use Rattle.ct_entries.specs.Coset.{coset_fault}
+use Rattle.ct_words.specs.Coset.{coset_fault}
 use Rattle.ct_codes.proofs.CosetLemmas.{sound_cosets}
 use Rattle.ct_codes.proofs.coset.check_cosets.Goals as goal
 

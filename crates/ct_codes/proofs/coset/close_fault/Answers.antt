@@ -1,7 +1,7 @@
 use Rattle.std.proofs.Common.{◌∙◌, ap, ℕ, get_or, option_map}
 use Rattle.ct_words.specs.Word.{distance}
-use Rattle.ct_entries.specs.declared.fault.CodeFault.TheVariants.{Close}
-use Rattle.ct_entries.specs.Coset.{coset_list}
+use Rattle.ct_words.specs.declared.fault.CodeFault.TheVariants.{Close}
+use Rattle.ct_words.specs.Coset.{coset_list}
 use Rattle.ct_codes.proofs.SpanLemmas.{coset_list-lt}
 use Rattle.ct_codes.proofs.coset.close_fault.Goals as goal
 

@@ -1,6 +1,6 @@
 use Rattle.std.proofs.Common.{◌∙◌, sym, subst, ap, ap₂, ℕ, ◌<◌, ◌^◌}
 use Rattle.ct_words.specs.Word.{distance}
-use Rattle.ct_entries.specs.declared.fault.CodeFault.TheVariants.{Close}
+use Rattle.ct_words.specs.declared.fault.CodeFault.TheVariants.{Close}
 use Rattle.ct_codes.proofs.SpanLemmas.{length-coset_list, get_or-coset_list}
 use Rattle.ct_codes.proofs.coset.close_pair.Goals as goal
 

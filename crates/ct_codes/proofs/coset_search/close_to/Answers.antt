@@ -4,8 +4,8 @@ use Rattle.std.proofs.Math.Facts.{Fits-lt-pow}
 use Rattle.std.proofs.Math.Nat.{mul-le-mul_right}
 use Rattle.std.proofs.lemmas.List.Elements.{All-from_get_or}
 use Rattle.ct_words.specs.declared.limits.TheConstants.{MAX_N}
-use Rattle.ct_entries.specs.declared.fault.TheConstants.{MAX_REPRESENTATIVES}
-use Rattle.ct_entries.specs.Coset.{choice_count}
+use Rattle.ct_words.specs.declared.fault.TheConstants.{MAX_REPRESENTATIVES}
+use Rattle.ct_words.specs.Coset.{choice_count}
 use Rattle.ct_codes.specs.Inside.First.{NonePasses, IsFirst}
 use Rattle.ct_codes.specs.Inside.Span.{AreParts, is_close_sum, is_close_choice}
 use Rattle.ct_codes.proofs.BlockLemmas.{steps_long, span-small, none_of_row, first_of_row, none_passes-join, first-join}

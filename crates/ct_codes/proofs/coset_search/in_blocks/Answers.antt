@@ -4,11 +4,11 @@ use Rattle.std.proofs.Math.Nat.{mul-le-mul_right}
 use Rattle.std.proofs.lemmas.List.Elements.{All-from_get_or}
 use Rattle.ct_words.specs.declared.limits.TheConstants.{MAX_N}
 use Rattle.ct_words.specs.Word.{distance}
-use Rattle.ct_entries.specs.declared.fault.TheConstants.{MAX_REPRESENTATIVES}
-use Rattle.ct_entries.specs.Coset.{coset_list}
+use Rattle.ct_words.specs.declared.fault.TheConstants.{MAX_REPRESENTATIVES}
+use Rattle.ct_words.specs.Coset.{coset_list}
 use Rattle.ct_codes.specs.Inside.First.{NonePasses, IsFirst}
 use Rattle.ct_codes.specs.Inside.Span.{AreParts, is_close_choice}
-use Rattle.ct_entries.proofs.PairLemmas.{close_any_length}
+use Rattle.ct_words.proofs.PairLemmas.{close_any_length}
 use Rattle.ct_codes.proofs.ShiftedPairs.{shifted-none_before, shifted-row_found, shifted-end}
 use Rattle.ct_codes.proofs.SpanLemmas.{length-coset_list, coset_list-lt}
 use Rattle.ct_codes.proofs.CosetLemmas.{row-within, rows-of_choices}

@@ -1,6 +1,6 @@
 use Rattle.std.proofs.Common.{◌*◌, ◌^◌, nat_lt, length}
 use Rattle.ct_words.specs.Word.{distance}
-use Rattle.ct_entries.specs.Coset.{coset_list}
+use Rattle.ct_words.specs.Coset.{coset_list}
 use Rattle.ct_codes.proofs.CosetLemmas.{NoneBefore}
 use Rattle.ct_codes.proofs.coset_search.in_blocks.Given as goal
 

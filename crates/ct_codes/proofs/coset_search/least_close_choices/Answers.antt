@@ -3,7 +3,7 @@ use Rattle.std.proofs.Math.Facts.{Fits-lt-pow}
 use Rattle.std.proofs.lemmas.List.{take_rest, length-take-le}
 use Rattle.std.proofs.lemmas.List.Elements.{All-from_get_or}
 use Rattle.ct_words.proofs.TextLemmas.{length-tabulate}
-use Rattle.ct_entries.specs.Coset.{span_word}
+use Rattle.ct_words.specs.Coset.{span_word}
 use Rattle.ct_codes.specs.Inside.Rows.{AreRows}
 use Rattle.ct_codes.specs.Inside.Translated.{translated}
 use Rattle.ct_codes.proofs.LightLemmas.{none_of_one}

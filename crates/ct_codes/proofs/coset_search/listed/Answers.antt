@@ -1,6 +1,6 @@
 use Rattle.std.proofs.Common.{◌∙◌, sym, subst, ap, ℕ, ◌<◌, ◌^◌, nat_lt, List, length, All, IfSome}
 use Rattle.ct_words.specs.Word.{distance}
-use Rattle.ct_entries.specs.Pairs.{least_pair}
+use Rattle.ct_words.specs.Pairs.{least_pair}
 use Rattle.ct_codes.proofs.SpanLemmas.{length-coset_list}
 use Rattle.ct_codes.proofs.coset_search.listed.Goals as goal
 

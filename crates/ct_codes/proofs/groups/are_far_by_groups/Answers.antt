@@ -5,7 +5,7 @@ use Rattle.std.proofs.Math.Seq.{take-append_seam}
 use Rattle.std.proofs.lemmas.List.Sorted.{IsPermutation-refl, IsPermutation-trans, length_permutation}
 use Rattle.ct_words.specs.Word.{distance}
 use Rattle.ct_codes.specs.Inside.Groups.{AreFarWhereSame}
-use Rattle.ct_entries.proofs.CheckLemmas.{AllPairs-from_get_or}
+use Rattle.ct_words.proofs.CheckLemmas.{AllPairs-from_get_or}
 use Rattle.ct_codes.proofs.GroupLemmas.{all_far_by_groups, groups-next}
 use Rattle.ct_codes.proofs.groups.are_far_by_groups.Goals as goal
 

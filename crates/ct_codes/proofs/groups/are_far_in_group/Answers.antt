@@ -1,7 +1,7 @@
 use Rattle.std.proofs.Common.{◌≡◌, ℕ, ◌<◌, ◌≤◌, List, length, get_or, below_more, arith}
 use Rattle.ct_words.specs.Word.{distance}
 use Rattle.ct_codes.specs.Inside.Groups.{group_digits}
-use Rattle.ct_entries.proofs.CheckLemmas.{AllPairs-from_get_or}
+use Rattle.ct_words.proofs.CheckLemmas.{AllPairs-from_get_or}
 use Rattle.ct_codes.proofs.groups.are_far_in_group.Goals as goal
 
 -- the word at the place is far from the later ones with its digits

@@ -3,7 +3,7 @@ use Rattle.std.proofs.Math.Facts.{Fits-lt-pow}
 use Rattle.std.proofs.lemmas.List.{take_rest}
 use Rattle.std.proofs.lemmas.List.Elements.{All-from_get_or, All-take, All-drop}
 use Rattle.ct_words.specs.Word.{distance}
-use Rattle.ct_entries.specs.Pairs.{least_pair}
+use Rattle.ct_words.specs.Pairs.{least_pair}
 use Rattle.ct_codes.specs.Inside.Shifted.{shifted}
 use Rattle.ct_codes.proofs.pairs.close_pair_from.Goals as goal
 

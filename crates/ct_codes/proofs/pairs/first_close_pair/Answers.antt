@@ -2,7 +2,7 @@ use Rattle.std.proofs.Common.{◌∙◌, ◌<◌, ◌^◌, ℕ, nat_lt}
 use Rattle.std.proofs.Math.Facts.{Fits-lt-pow}
 use Rattle.std.proofs.lemmas.List.Elements.{All-from_get_or}
 use Rattle.ct_words.specs.Word.{distance}
-use Rattle.ct_entries.proofs.PairLemmas.{close_any_length}
+use Rattle.ct_words.proofs.PairLemmas.{close_any_length}
 use Rattle.ct_codes.proofs.WithinLemmas.{least_within, places_within}
 use Rattle.ct_codes.proofs.pairs.first_close_pair.Goals as goal
 

@@ -1,7 +1,7 @@
 use Rattle.std.proofs.Common.{◌+◌, ◌/◌, bit_xor, drop, sym, ap, ◌∙◌}
 use Rattle.std.specs.Int.Bits.{xor_assoc}
 use Rattle.std.proofs.lemmas.List.{drop_more}
-use Rattle.ct_entries.specs.Coset.{span_word}
+use Rattle.ct_words.specs.Coset.{span_word}
 use Rattle.ct_codes.proofs.span.sum_of.Goals as goal
 
 pub loop-word-preserved : goal.loop-word-preserved

@@ -1,5 +1,5 @@
 use Rattle.std.proofs.Common.{◌≡◌, drop, bit_xor}
-use Rattle.ct_entries.specs.Coset.{span_word}
+use Rattle.ct_words.specs.Coset.{span_word}
 use Rattle.ct_codes.proofs.span.sum_of.Given as goal
 
 -- what the rest of the number chooses of the other basis words is left to add

@@ -1,6 +1,6 @@
 use Rattle.std.proofs.Common.{◌≡◌, ◌++◌, ℕ, List, [], ◌∷◌, append_assoc, ap, ◌∙◌}
 use Rattle.std.specs.Prelude.{codes}
-use Rattle.ct_io.specs.declared.TheConstants.{LINE_FEED}
+use Rattle.ct_text.specs.declared.document_lines.TheConstants.{LINE_FEED}
 use Rattle.ct_text.specs.DocumentLines.{line_count}
 use Rattle.ct_text.specs.Number.{spaced}
 use Rattle.ct_derive.specs.Text.{evidence_text}

@@ -4,7 +4,7 @@ use Rattle.std.specs.Prelude.{ℕ, ℤ, List, unsigned_abs, ◌<◌, ◌^◌}
 use Rattle.std.proofs.lemmas.Int.{to_z-of_z}
 use mir.Val.{SFits}
 use mir.Syntax.{w128}
-use Rattle.ct_entries.specs.Numbers.{numbers_of, combination}
+use Rattle.ct_words.specs.Numbers.{numbers_of, combination}
 use Rattle.ct_duals.specs.Check.{dual_fault, IsBelow}
 use Rattle.ct_duals.specs.Bound.{AreTrueUppers, dual_premises, dual_spread, IsSpread}
 use Rattle.ct_duals.specs.Inside.Proven.{IsProven}

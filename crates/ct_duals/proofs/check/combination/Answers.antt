@@ -5,7 +5,7 @@ use Rattle.std.proofs.lemmas.Int.{to_z-of_z}
 use mir.Val.{SFits}
 use mir.Syntax.{w64, w128}
 use Rattle.ct_words.specs.Counting.Alternating.{total_below}
-use Rattle.ct_entries.specs.Numbers.{multiplier}
+use Rattle.ct_words.specs.Numbers.{multiplier}
 use Rattle.ct_duals.proofs.check.combination.Goals as goal
 
 pub loop-k-preserved : goal.loop-k-preserved

@@ -2,7 +2,7 @@
 use Rattle.std.proofs.Common.{◌≡◌, ◌≤◌, ◌*◌, ◌^◌, unsigned_abs, ℕ}
 use Rattle.std.specs.Prelude.{◌*ℤ◌}
 use Rattle.ct_words.specs.Counting.Alternating.{total_below}
-use Rattle.ct_entries.specs.Numbers.{multiplier}
+use Rattle.ct_words.specs.Numbers.{multiplier}
 use Rattle.ct_duals.proofs.check.combination.Given as goal
 
 abbrev pub invariant-loop-k : goal.invariant-loop-k

@@ -6,9 +6,9 @@ use Rattle.std.proofs.lemmas.Int.{to_z-of_z}
 use Rattle.std.proofs.lemmas.List.{drop_more}
 use mir.Val.{SFits}
 use mir.Syntax.{w64}
-use Rattle.ct_entries.specs.Entry.{same_entry, constant_weight}
-use Rattle.ct_entries.proofs.EntryLemmas.{same_entry_is, same_entry-self}
-use Rattle.ct_entries.specs.Constructions.Even.{even_from}
+use Rattle.ct_words.specs.Entry.{same_entry, constant_weight}
+use Rattle.ct_words.proofs.EntryLemmas.{same_entry_is, same_entry-self}
+use Rattle.ct_words.specs.Constructions.Even.{even_from}
 use Rattle.ct_duals.specs.Dual.{as_distance}
 use Rattle.ct_duals.proofs.Premises.{premises, entry_test, among-first, among-others, among-none}
 use Rattle.ct_duals.proofs.premise.is_premise.Goals as goal

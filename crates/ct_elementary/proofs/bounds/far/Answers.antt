@@ -1,5 +1,5 @@
 -- Two words differ at no more than n places.
-use Rattle.ct_entries.proofs.DigitCodes.{bound_from_spread}
+use Rattle.ct_words.proofs.DigitCodes.{bound_from_spread}
 use Rattle.ct_elementary.proofs.FarWords.{spread_far}
 use Rattle.ct_elementary.proofs.bounds.far.Goals as goal
 

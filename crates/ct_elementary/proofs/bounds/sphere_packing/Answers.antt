@@ -7,7 +7,7 @@ use Rattle.ct_words.proofs.Counting.Binomials.{one-le-volume, volume-le}
 use Rattle.ct_words.specs.declared.limits.TheConstants.{MAX_N, MAX_BOUND}
 use Rattle.ct_elementary.specs.Bounds.{sphere_packing_value}
 use Rattle.ct_elementary.proofs.Entries.{IsWithin-from_entry}
-use Rattle.ct_entries.proofs.DigitCodes.{bound_from_spread}
+use Rattle.ct_words.proofs.DigitCodes.{bound_from_spread}
 use Rattle.ct_words.proofs.Counting.Spheres.{spread_hamming}
 use Rattle.ct_elementary.proofs.bounds.sphere_packing.Goals as goal
 

@@ -1,8 +1,8 @@
 use Rattle.std.proofs.Common.{◌≡◌, ◌∙◌, false, Some, None, IfSome, sym, ap, subst, rules}
 use Rattle.std.proofs.lemmas.Result.{IfOk-weaker}
-use Rattle.ct_entries.specs.declared.entry.Entry.{Entry}
+use Rattle.ct_words.specs.declared.entry.Entry.{Entry}
 use Rattle.ct_finder.specs.Found.{least_dual, stop_of}
-use Rattle.ct_entries.specs.Entry.{constant_weight}
+use Rattle.ct_words.specs.Entry.{constant_weight}
 use Rattle.ct_find.specs.declared.found.TheConstants.{MAX_PIVOTS}
 use Rattle.ct_finder.specs.Run.{End}
 use Rattle.ct_find.specs.Proposal.{found_dual, run_for, stop_for}

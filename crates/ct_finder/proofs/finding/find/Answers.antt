@@ -1,10 +1,10 @@
 use Rattle.std.proofs.Common.{◌≡◌, ℕ, ◌≤◌, List, sym, ap, ◌∙◌, subst}
 use Rattle.std.specs.Prelude.{All, Option, None, ℤ, pos, suc, replicate, unwrap_or}
-use Rattle.ct_entries.specs.Entry.{unrestricted}
+use Rattle.ct_words.specs.Entry.{unrestricted}
 use Rattle.ct_duals.specs.declared.dual.Dual.{Dual}
 use Rattle.ct_duals.specs.Dual.{IsDual}
 use Rattle.ct_duals.specs.Check.{dual_fault}
-use Rattle.ct_entries.specs.Numbers.{numbers_of}
+use Rattle.ct_words.specs.Numbers.{numbers_of}
 use Rattle.ct_finder.proofs.OpeningLemmas.{range-within}
 use Rattle.ct_finder.specs.Found.{IsShown}
 use Rattle.ct_finder.specs.declared.found.Stop.{Stop}

@@ -6,7 +6,7 @@ use Rattle.std.proofs.lemmas.List.{map_more, take_all}
 use mir.Val.{SFits, to_z, of_z}
 use mir.Syntax.{w64}
 use Rattle.ct_words.proofs.Counting.Alternating.{unsigned_abs-sub}
-use Rattle.ct_entries.specs.Scheme.{IsSmall}
+use Rattle.ct_words.specs.Scheme.{IsSmall}
 use Rattle.ct_finder.proofs.opening.push_numbers.Goals as goal
 
 negative_fits : (r : ℤ) → IsSmall r → SFits w64 (pos 0 -ℤ r)

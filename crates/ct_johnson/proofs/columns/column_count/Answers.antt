@@ -1,8 +1,8 @@
 -- The numbers that were passed are not too many, nor those past the last that is tried; the one that is found bounds every code.
 use Rattle.std.proofs.Common.{◌≡◌, ℕ, ◌-◌, ◌/◌, ◌<◌, ◌≤◌, false, None, if◌then◌else◌, ap, sym, ◌∙◌, inl, inr, arith}
 use Rattle.std.proofs.lemmas.Bool.{cases_lt, lt-leb}
-use Rattle.ct_entries.specs.Entry.{constant_weight}
-use Rattle.ct_entries.proofs.EntryLemmas.{entry_limits}
+use Rattle.ct_words.specs.Entry.{constant_weight}
+use Rattle.ct_words.proofs.EntryLemmas.{entry_limits}
 use Rattle.ct_johnson.specs.declared.columns.TheConstants.{MAX_COUNTED}
 use Rattle.ct_johnson.specs.Bounds.{are_too_many, least_from}
 use Rattle.ct_johnson.proofs.PairCounts.{value_found, value_none, columns_sound, tried_more}

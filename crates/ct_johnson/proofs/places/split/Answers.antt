@@ -1,7 +1,7 @@
 -- The words with a zero and those with a one at the first place.
 use Rattle.std.proofs.Common.{◌-◌, ◌+◌, arith}
 use Rattle.std.specs.Prelude.{Some}
-use Rattle.ct_entries.proofs.DigitCodes.{bound_from_weight, weight_bound_from_codes}
+use Rattle.ct_words.proofs.DigitCodes.{bound_from_weight, weight_bound_from_codes}
 use Rattle.ct_johnson.proofs.Capped.{capped_bound}
 use Rattle.ct_johnson.proofs.OnePlace.{weight_bound-halves}
 use Rattle.ct_johnson.proofs.places.split.Goals as goal

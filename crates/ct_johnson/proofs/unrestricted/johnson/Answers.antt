@@ -2,9 +2,9 @@
 use Rattle.std.proofs.Common.{◌≡◌, ℕ, ◌+◌, ◌/◌, ◌≤◌, IfSome, sym, subst, arith}
 use Rattle.std.specs.Prelude.{Option, Some}
 use Rattle.ct_words.specs.declared.limits.TheConstants.{MAX_BOUND}
-use Rattle.ct_entries.specs.Entry.{unrestricted}
-use Rattle.ct_entries.specs.Code.{IsTrueUpper}
-use Rattle.ct_entries.proofs.EntryLemmas.{entry_limits}
+use Rattle.ct_words.specs.Entry.{unrestricted}
+use Rattle.ct_words.specs.Code.{IsTrueUpper}
+use Rattle.ct_words.proofs.EntryLemmas.{entry_limits}
 use Rattle.ct_johnson.specs.Bounds.{johnson_odd}
 use Rattle.ct_johnson.proofs.JohnsonRule.{johnson_sound, johnson_within}
 use Rattle.ct_johnson.proofs.unrestricted.johnson.Goals as goal

@@ -1,5 +1,5 @@
 use Rattle.std.proofs.Common.{refl}
-use Rattle.ct_entries.specs.Entry.{unrestricted}
+use Rattle.ct_words.specs.Entry.{unrestricted}
 use Rattle.ct_rules.specs.declared.rule.Rule.TheVariants.{U1, U2, U3}
 use Rattle.ct_kept.proofs.GroundBest.{best_of_four}
 use Rattle.ct_kept.proofs.ground.best_above.Goals as goal

@@ -1,5 +1,5 @@
 use Rattle.std.proofs.Common.{refl}
-use Rattle.ct_entries.specs.Entry.{constant_weight}
+use Rattle.ct_words.specs.Entry.{constant_weight}
 use Rattle.ct_rules.specs.declared.rule.Rule.TheVariants.{V1, V2, V8}
 use Rattle.ct_kept.proofs.GroundBest.{best_of_four}
 use Rattle.ct_kept.proofs.ground.best_above_with_weight.Goals as goal

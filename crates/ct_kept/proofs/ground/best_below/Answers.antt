@@ -1,8 +1,8 @@
 use Rattle.std.proofs.Common.{refl}
-use Rattle.ct_entries.specs.Entry.{unrestricted}
+use Rattle.ct_words.specs.Entry.{unrestricted}
 use Rattle.ct_rules.specs.declared.rule.Rule.TheVariants.{L2}
 use Rattle.ct_rule_parts.proofs.SlotLemmas.{IsNoBetter-self}
-use Rattle.ct_entries.specs.declared.claim.Side.TheVariants.{Lower}
+use Rattle.ct_words.specs.declared.claim.Side.TheVariants.{Lower}
 use Rattle.ct_kept.proofs.GroundLemmas.{without_weight}
 use Rattle.ct_kept.proofs.GroundBest.{best_of_two}
 use Rattle.ct_kept.proofs.ground.best_below.Goals as goal

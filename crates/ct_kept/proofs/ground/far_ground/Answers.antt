@@ -1,5 +1,5 @@
 use Rattle.std.proofs.Common.{ℕ, sym, subst, ◌∙◌, refl}
-use Rattle.ct_entries.specs.declared.claim.Side.TheVariants.{Upper}
+use Rattle.ct_words.specs.declared.claim.Side.TheVariants.{Upper}
 use Rattle.ct_kept.specs.Kept.{IsGroundBound}
 use Rattle.ct_kept.proofs.GroundLemmas.{least_upper, other_gives}
 use Rattle.ct_kept.proofs.ground.far_ground.Goals as goal

@@ -1,5 +1,5 @@
 use Rattle.std.proofs.Common.{[], Some, ap, sym, ◌∙◌}
-use Rattle.ct_entries.specs.declared.claim.Side.TheVariants.{Upper}
+use Rattle.ct_words.specs.declared.claim.Side.TheVariants.{Upper}
 use Rattle.ct_rule_parts.specs.Parts.{within_limit}
 use Rattle.ct_rules.specs.Rule.{value_of}
 use Rattle.ct_kept.proofs.GivenLemmas.{one_given, two_given, word_given, disjoint_given, all_given, far_given, distances_given, balls_given, plain_entry, choose_given, no_far_given, disjoint_above_given, pairs_given}

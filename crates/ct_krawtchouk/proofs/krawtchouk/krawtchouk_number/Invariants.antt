@@ -1,6 +1,6 @@
 -- The two numbers are those of j and before it.
 use Rattle.std.proofs.Common.{◌≡◌}
-use Rattle.ct_entries.specs.Numbers.{krawtchouk}
+use Rattle.ct_words.specs.Numbers.{krawtchouk}
 use Rattle.ct_krawtchouk.specs.Krawtchouk.{krawtchouk_before}
 use Rattle.ct_krawtchouk.proofs.krawtchouk.krawtchouk_number.Given as goal
 

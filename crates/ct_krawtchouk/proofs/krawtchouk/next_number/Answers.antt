@@ -5,7 +5,7 @@ use Rattle.std.proofs.lemmas.Int.{ints, to_z-of_z, fits_signed_from_abs}
 use mir.Val.{SFits}
 use mir.Syntax.{w64}
 use Rattle.ct_words.proofs.Counting.Alternating.{unsigned_abs-sub}
-use Rattle.ct_entries.specs.Numbers.{krawtchouk}
+use Rattle.ct_words.specs.Numbers.{krawtchouk}
 use Rattle.ct_krawtchouk.specs.Krawtchouk.{krawtchouk_before}
 use Rattle.ct_krawtchouk.proofs.KrawtchoukSteps.{krawtchouk-step, krawtchouk-le, krawtchouk_before-le}
 use Rattle.ct_krawtchouk.proofs.krawtchouk.next_number.Goals as goal

@@ -1,6 +1,6 @@
 use Rattle.std.proofs.Common.{◌≡◌, ℕ, ◌<◌, List, [], ◌∷◌, All, Option, Some, None, refl, ap, arith}
 use Rattle.std.proofs.lemmas.List.Elements.{All-nil, All-cons}
-use Rattle.ct_entries.specs.Entry.{unrestricted}
+use Rattle.ct_words.specs.Entry.{unrestricted}
 use Rattle.ct_rules.specs.declared.rule.Rule.TheVariants.{L1, L6, L8, L10, L11, U2, U4, U6}
 use Rattle.ct_rule_parts.specs.declared.support.Support.TheVariants.{Size}
 use Rattle.ct_rules.specs.Derivation.{LineValue}

@@ -1,5 +1,5 @@
 use Rattle.std.proofs.Common.{refl}
-use Rattle.ct_entries.specs.Numbers.{johnson}
+use Rattle.ct_words.specs.Numbers.{johnson}
 use Rattle.ct_duals.specs.Check.{dual_fault}
 use Rattle.ct_laws.proofs.DualReasons.{local_gives, local_gives_nothing}
 use Rattle.ct_laws.proofs.duals.local_duals_give_their_bounds.Goals as goal

@@ -1,5 +1,5 @@
 use Rattle.std.proofs.Common.{refl}
-use Rattle.ct_entries.specs.Numbers.{krawtchouk}
+use Rattle.ct_words.specs.Numbers.{krawtchouk}
 use Rattle.ct_duals.specs.Check.{dual_fault}
 use Rattle.ct_laws.proofs.DualReasons.{odd_gives, odd_gives_nothing}
 use Rattle.ct_laws.proofs.duals.odd_duals_give_their_sizes.Goals as goal

@@ -1,9 +1,9 @@
 use Rattle.std.proofs.Common.{◌≤◌, [], ◌∷◌, refl, arith}
 use Rattle.std.proofs.lemmas.List.Elements.{All-from_recursion}
 use Rattle.ct_words.specs.Word.{weight}
-use Rattle.ct_entries.specs.declared.claim.Side.TheVariants.{Lower}
-use Rattle.ct_entries.specs.declared.entry.Entry.{Entry}
-use Rattle.ct_entries.specs.Entry.{unrestricted}
+use Rattle.ct_words.specs.declared.claim.Side.TheVariants.{Lower}
+use Rattle.ct_words.specs.declared.entry.Entry.{Entry}
+use Rattle.ct_words.specs.Entry.{unrestricted}
 use Rattle.ct_sum_classes.specs.SumClass.{place_sum, largest_class}
 use Rattle.ct_rules.specs.declared.rule.Rule.TheVariants.{L1, L2, M2, M9, U2, U3, V1, V2}
 use Rattle.ct_rules.specs.Rule.{row_of}

@@ -1,5 +1,5 @@
 use Rattle.std.proofs.Common.{refl}
-use Rattle.ct_entries.specs.TableEntries.{column}
+use Rattle.ct_words.specs.TableEntries.{column}
 use Rattle.ct_laws.proofs.laws.known_columns.Goals as goal
 
 pub returns-clause-first : goal.returns-clause-first

@@ -4,8 +4,8 @@ use Rattle.std.specs.Fmt.{digits}
 use Rattle.ct_words.specs.Text.{word_text}
 use Rattle.ct_text.specs.Line.{words_of}
 use Rattle.ct_text.specs.Number.{number_of}
-use Rattle.ct_entries.specs.declared.claim.Side.TheVariants.{Lower, Upper}
-use Rattle.ct_entries.specs.Entry.{unrestricted, constant_weight}
+use Rattle.ct_words.specs.declared.claim.Side.TheVariants.{Lower, Upper}
+use Rattle.ct_words.specs.Entry.{unrestricted, constant_weight}
 use Rattle.ct_words.proofs.Counting.Binomials.{choose_all}
 use Rattle.ct_commands.specs.Form.{form_of}
 use Rattle.ct_pieces.specs.Dump.{dump_text}
@@ -14,7 +14,7 @@ use Rattle.ct_pieces.specs.declared.fault.WithdrawFault.TheVariants as withdraw
 use Rattle.ct_rules.specs.declared.rule.Rule.TheVariants.{M1, V0, V1}
 use Rattle.ct_rules.specs.Rule.{row_of}
 use Rattle.ct_explain.specs.Explained.{explanation_text}
-use Rattle.ct_entries.specs.TableEntries.{column}
+use Rattle.ct_words.specs.TableEntries.{column}
 use Rattle.ct_replies.specs.Text.{reply_text, ledger_text, code_text}
 use Rattle.ct_replies.specs.declared.reply.Reply.TheVariants.{Shown, Table, Lines, Refused}
 use Rattle.ct_replies.specs.declared.reply.Refusal.TheVariants as refusal

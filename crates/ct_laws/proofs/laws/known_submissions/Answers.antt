@@ -1,16 +1,16 @@
 use Rattle.std.proofs.Common.{ℕ, ◌<◌, ◌^◌, List, refl, None, Some, [], ◌∷◌, codes, lit<, lit≤}
 use Rattle.std.proofs.lemmas.List.Elements.{All-from_recursion, All-cons, All-nil}
-use Rattle.ct_entries.specs.Code.{IsTrueLower}
-use Rattle.ct_entries.proofs.CheckLemmas.{code_from_no_fault}
+use Rattle.ct_words.specs.Code.{IsTrueLower}
+use Rattle.ct_words.proofs.CheckLemmas.{code_from_no_fault}
 use Rattle.std.specs.Fmt.{digits}
 use Rattle.ct_text.specs.Line.{words_of}
 use Rattle.ct_text.specs.Number.{number_of}
 use Rattle.ct_words.specs.Word.{weight, distance}
-use Rattle.ct_entries.specs.Coset.{coset_fault, coset_list}
+use Rattle.ct_words.specs.Coset.{coset_fault, coset_list}
 use Rattle.ct_codes.proofs.CosetLemmas.{cosets_from_no_fault}
-use Rattle.ct_entries.specs.Check.{code_fault}
-use Rattle.ct_entries.specs.declared.fault.CodeFault.TheVariants as fault
-use Rattle.ct_entries.specs.declared.entry.Entry.{Entry}
+use Rattle.ct_words.specs.Check.{code_fault}
+use Rattle.ct_words.specs.declared.fault.CodeFault.TheVariants as fault
+use Rattle.ct_words.specs.declared.entry.Entry.{Entry}
 use Rattle.ct_laws.proofs.OnLiterals.{evidence_on_literals}
 use Rattle.ct_kind.specs.declared.evidence.Evidence.TheVariants.{Words, Cosets}
 use Rattle.ct_fields.specs.declared.fault.DocumentFault.TheVariants as file

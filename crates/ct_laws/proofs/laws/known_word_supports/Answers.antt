@@ -2,7 +2,7 @@ use Rattle.std.proofs.Common.{refl}
 use Rattle.ct_text.specs.Line.{words_of}
 use Rattle.ct_text.specs.Number.{number_of}
 use Rattle.ct_words.specs.Word.{weight, distance}
-use Rattle.ct_entries.specs.Check.{code_fault}
+use Rattle.ct_words.specs.Check.{code_fault}
 use Rattle.ct_laws.proofs.OnLiterals.{evidence_on_literals}
 use Rattle.ct_commands.specs.Form.{form_of}
 use Rattle.ct_pieces.specs.Submission.{submitted}

@@ -1,5 +1,5 @@
 use Rattle.std.proofs.Common.{◌≡◌, ◌⊎◌, ℕ, List, [], ◌∷◌, slice_get, option_map, refl, sym, ap, ◌∙◌, inl, inr, arith}
-use Rattle.ct_entries.specs.declared.claim.Claim.{Claim}
+use Rattle.ct_words.specs.declared.claim.Claim.{Claim}
 use Rattle.ct_rule_parts.specs.Slot.{Slot, claim_at, lower_at}
 use Rattle.ct_rules.specs.declared.rule.Rule.{Rule}
 use Rattle.ct_rules.specs.declared.rule.Rule.TheVariants.{L4, L10}

@@ -1,6 +1,6 @@
 use Rattle.std.proofs.Common.{◌≡◌, Option, Some, None, refl, subst, option_map}
 use Rattle.std.specs.Prelude.{slice_get}
-use Rattle.ct_entries.specs.declared.claim.Claim.{Claim}
+use Rattle.ct_words.specs.declared.claim.Claim.{Claim}
 use Rattle.ct_rule_parts.specs.Slot.{Slot}
 use Rattle.ct_rules.specs.Derivation.{LineValue}
 use Rattle.ct_kept.specs.Kept.{IsGroundBound}

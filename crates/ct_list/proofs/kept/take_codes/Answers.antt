@@ -1,6 +1,6 @@
 use Rattle.std.proofs.Common.{◌+◌, ◌<◌, ◌++◌, ◌||◌, length, take, drop, get_or, List, sym, ap, subst, ◌∙◌, arith, take_all}
-use Rattle.ct_entries.specs.Constructions.Places.{is_among}
-use Rattle.ct_entries.specs.Code.{CodeValue}
+use Rattle.ct_words.specs.Constructions.Places.{is_among}
+use Rattle.ct_words.specs.Code.{CodeValue}
 use Rattle.ct_list.specs.Inside.Kept.{AreCodesFor, AreKept, named_by, is_named}
 use Rattle.ct_list.proofs.KeptCodes.{next_code, taken, as_many_kept, drop_past, rest_is}
 use Rattle.ct_list.proofs.kept.take_codes.Goals as goal

@@ -7,7 +7,7 @@ use mir.Syntax.{w64, w128}
 use Rattle.ct_words.specs.Word.{distance}
 use Rattle.ct_words.specs.Counting.Alternating.{total_below}
 use Rattle.ct_words.specs.Counting.PairTotals.{pair_total}
-use Rattle.ct_entries.specs.Numbers.{krawtchouk, multiplier, combination}
+use Rattle.ct_words.specs.Numbers.{krawtchouk, multiplier, combination}
 use Rattle.ct_parity.specs.OddSum.{least_sum, odd_sum}
 use Rattle.ct_parity.proofs.OddLists.{odd_sum-le}
 use Rattle.ct_parity.proofs.sums.odd_sum.Goals as goal

@@ -2,7 +2,7 @@
 use Rattle.std.proofs.Common.{◌≡◌, ◌≤◌, ◌*◌, ◌^◌, unsigned_abs, ℕ}
 use Rattle.std.specs.Prelude.{pos, ◌*ℤ◌}
 use Rattle.ct_words.specs.Counting.Alternating.{total_below}
-use Rattle.ct_entries.specs.Numbers.{multiplier}
+use Rattle.ct_words.specs.Numbers.{multiplier}
 use Rattle.ct_parity.specs.OddSum.{least_sum}
 use Rattle.ct_parity.proofs.sums.odd_sum.Given as goal
 

@@ -1,8 +1,8 @@
 use Rattle.std.proofs.Common.{◌≤◌, List, sym, subst, arith}
 use Rattle.std.specs.Prelude.{IsPermutation}
 use Rattle.std.proofs.lemmas.Result.{IfOk-weaker}
-use Rattle.ct_entries.specs.Code.{CodeValue}
-use Rattle.ct_entries.proofs.EntryLemmas.{entry_limits}
+use Rattle.ct_words.specs.Code.{CodeValue}
+use Rattle.ct_words.proofs.EntryLemmas.{entry_limits}
 use Rattle.ct_partitions.specs.Product.{Factors, product, product_distance, AreFactors}
 use Rattle.ct_partition_files.specs.ProductKind.{factors_named}
 use Rattle.ct_kind.proofs.CodeAt.{code_at_answer}

@@ -4,8 +4,8 @@ use Rattle.std.specs.Prelude.{MatchOption}
 use Rattle.std.proofs.lemmas.List.Elements.{All-from_get_or}
 use Rattle.ct_words.specs.Word.{distance}
 use Rattle.ct_words.specs.PairProducts.{all_places}
-use Rattle.ct_entries.specs.Pairs.{least_pair}
-use Rattle.ct_entries.proofs.PairLemmas.{least_pair_same, IsLeastPair-from}
+use Rattle.ct_words.specs.Pairs.{least_pair}
+use Rattle.ct_words.proofs.PairLemmas.{least_pair_same, IsLeastPair-from}
 use Rattle.ct_partitions.specs.Partition.{word_lists, words_of_classes}
 use Rattle.ct_partitions.specs.Check.{is_close}
 use Rattle.ct_partitions.specs.Inside.Rows.{IsLesser}

@@ -2,7 +2,7 @@
 use Rattle.std.proofs.Common.{ℕ, List, ◌++◌, map, take, get_or, ap, sym, ◌∙◌, append-nil}
 use Rattle.std.specs.List.{flat_map}
 use Rattle.std.proofs.lemmas.List.{take_more, take_all, flat_map_more}
-use Rattle.ct_entries.specs.Constructions.Joined.{followed_by}
+use Rattle.ct_words.specs.Constructions.Joined.{followed_by}
 use Rattle.ct_partitions.specs.Product.{all_followed}
 use Rattle.ct_partitions.proofs.listing.append_class.Goals as goal
 

@@ -1,7 +1,7 @@
 use Rattle.std.proofs.Common.{◌-◌, ◌^◌, ◌<◌, List, [], ◌++◌, take, get_or, All, ap, ap₂, sym, subst, ◌∙◌, arith, append_assoc}
 use Rattle.std.specs.Prelude.{ℕ}
 use Rattle.ct_words.specs.declared.limits.TheConstants.{MAX_N}
-use Rattle.ct_entries.proofs.Constructions.JoinedLemmas.{words_wider}
+use Rattle.ct_words.proofs.Constructions.JoinedLemmas.{words_wider}
 use Rattle.ct_partitions.specs.Product.{all_followed, class_products}
 use Rattle.ct_partitions.proofs.ProductLemmas.{class_items, class_count, classes_step, classes_all}
 use Rattle.ct_partitions.proofs.listing.append_pair.Goals as goal

@@ -1,8 +1,8 @@
 use Rattle.std.proofs.Common.{◌≡◌, ℕ, ◌-◌, ◌+◌, ◌*◌, ◌%◌, ◌^◌, ◌≤◌, List, [], ◌∷◌, ◌++◌, get_or, map, take, bit_or, sym, ap, ap₂, ◌∙◌, arith, append_assoc, append-nil}
 use Rattle.std.proofs.lemmas.List.{map_more, take_all}
 use Rattle.ct_words.specs.declared.limits.TheConstants.{MAX_N}
-use Rattle.ct_entries.specs.Constructions.Joined.{followed_by}
-use Rattle.ct_entries.proofs.Constructions.JoinedLemmas.{or-followed_by}
+use Rattle.ct_words.specs.Constructions.Joined.{followed_by}
+use Rattle.ct_words.proofs.Constructions.JoinedLemmas.{or-followed_by}
 use Rattle.ct_partitions.proofs.listing.append_word.Goals as goal
 
 pub loop-y-preserved : goal.loop-y-preserved

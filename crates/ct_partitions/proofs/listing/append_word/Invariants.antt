@@ -1,5 +1,5 @@
 use Rattle.std.proofs.Common.{◌≡◌, ◌++◌, map, take}
-use Rattle.ct_entries.specs.Constructions.Joined.{followed_by}
+use Rattle.ct_words.specs.Constructions.Joined.{followed_by}
 use Rattle.ct_partitions.proofs.listing.append_word.Given as goal
 
 abbrev pub invariant-loop-y : goal.invariant-loop-y

@@ -1,6 +1,6 @@
 use Rattle.std.proofs.Common.{length, ap, sym, subst, arith}
-use Rattle.ct_entries.specs.Code.{IsCode}
-use Rattle.ct_entries.proofs.Constructions.SortedCodes.{sound_from_sort}
+use Rattle.ct_words.specs.Code.{IsCode}
+use Rattle.ct_words.proofs.Constructions.SortedCodes.{sound_from_sort}
 use Rattle.ct_partitions.specs.Product.{pairs_at}
 use Rattle.ct_partitions.proofs.ProductCodes.{IsCode-product}
 use Rattle.ct_partitions.proofs.ProductLemmas.{some_of_product, limits_of_product}

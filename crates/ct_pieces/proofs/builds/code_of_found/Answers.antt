@@ -1,7 +1,7 @@
 use Rattle.std.proofs.Common.{◌≢◌, ◌≡◌, Option, Some, None, option_map, IfErr, OnOk, sym, ap, ap₂, subst, ◌∙◌}
 use Rattle.std.specs.Option.{option_copied}
 use Rattle.std.proofs.lemmas.Result.{IfOk-weaker}
-use Rattle.ct_entries.specs.Code.{CodeValue}
+use Rattle.ct_words.specs.Code.{CodeValue}
 use Rattle.ct_build_files.specs.BuildKind.{built_over, step_reason}
 use Rattle.ct_kind.specs.Ascending.{code_at}
 use Rattle.ct_kind.specs.declared.fault.SubmitFault.{SubmitFault}

@@ -1,5 +1,5 @@
 use Rattle.std.proofs.Common.{◌≢◌, ◌≡◌, Option, Some, None, is_some, option_map, IfOk, IfErr, OnOk, ap, ap₂, subst, ◌∙◌}
-use Rattle.ct_entries.specs.Code.{CodeValue}
+use Rattle.ct_words.specs.Code.{CodeValue}
 use Rattle.ct_build_files.specs.BuildKind.{built_over, step_reason}
 use Rattle.ct_kind.specs.Ascending.{code_at}
 use Rattle.ct_kind.specs.declared.fault.SubmitFault.{SubmitFault}

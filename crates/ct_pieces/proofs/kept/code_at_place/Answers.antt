@@ -1,7 +1,7 @@
 use Rattle.std.proofs.Common.{◌<◌, List, length, [], Some, None, subst, sym, ap, ap₂, ◌∙◌}
 use Rattle.std.proofs.lemmas.List.{get_or_read}
 use Rattle.std.proofs.lemmas.Result.{IfOk-weaker}
-use Rattle.ct_entries.specs.Code.{CodeValue}
+use Rattle.ct_words.specs.Code.{CodeValue}
 use Rattle.ct_kind.specs.declared.evidence.Evidence.{Evidence}
 use Rattle.ct_pieces.specs.Piece.{PieceValue}
 use Rattle.ct_pieces.specs.Codes.{code_of_place, codes_of}

@@ -2,7 +2,7 @@ use Rattle.std.proofs.Common.{◌≡◌, ℕ, List, ◌∷◌, length, take_all,
 use Rattle.std.specs.Prelude.{IfSome, OnSome}
 use Rattle.std.specs.Option.{option_to_list}
 use Rattle.std.proofs.lemmas.Result.{err_from_is_err_and}
-use Rattle.ct_entries.specs.Code.{CodeValue}
+use Rattle.ct_words.specs.Code.{CodeValue}
 use Rattle.ct_kind.specs.KindParts.{support_from}
 use Rattle.ct_kind.specs.Named.{code_named, first_missing}
 use Rattle.ct_kind.specs.declared.evidence.Evidence.TheVariants.{Build}

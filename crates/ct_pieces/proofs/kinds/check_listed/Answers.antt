@@ -1,7 +1,7 @@
 use Rattle.std.proofs.Common.{ℕ, List, length, Some, refl, sym, subst}
-use Rattle.ct_entries.specs.Check.{code_fault}
-use Rattle.ct_entries.specs.Coset.{coset_fault, coset_list}
-use Rattle.ct_entries.specs.Numbers.{numbers_of}
+use Rattle.ct_words.specs.Check.{code_fault}
+use Rattle.ct_words.specs.Coset.{coset_fault, coset_list}
+use Rattle.ct_words.specs.Numbers.{numbers_of}
 use Rattle.ct_duals.specs.Check.{dual_fault}
 use Rattle.ct_dual_files.specs.DualKind.{dual_support, odd_support, local_support}
 use Rattle.ct_kind.specs.KindParts.{support_from}

@@ -1,6 +1,6 @@
 use Rattle.std.proofs.Common.{rules, ◌≡◌, ℕ, true, false, option_map, Some, subst, sym, ap, ◌∙◌}
-use Rattle.ct_entries.specs.declared.entry.Entry.{Entry}
-use Rattle.ct_entries.specs.Entry.{IsEntry}
+use Rattle.ct_words.specs.declared.entry.Entry.{Entry}
+use Rattle.ct_words.specs.Entry.{IsEntry}
 use Rattle.ct_build.specs.Build.{shape_of}
 use Rattle.ct_pieces.specs.Kind.{has_code}
 use Rattle.ct_pieces.proofs.PartLemmas.{placed, shape-coded, sized-coded, without_code}

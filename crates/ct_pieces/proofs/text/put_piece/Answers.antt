@@ -1,6 +1,6 @@
 use Rattle.std.proofs.Common.{◌≡◌, ℕ, List, [], ◌∷◌, ◌++◌, Option, ap, ◌∙◌}
 use Rattle.std.proofs.lemmas.Result.{on_ok_weaker}
-use Rattle.ct_entries.specs.declared.entry.Entry.{Entry}
+use Rattle.ct_words.specs.declared.entry.Entry.{Entry}
 use Rattle.ct_text.specs.EntryText.{entry_words}
 use Rattle.ct_text.proofs.GrowingTexts.{puts-more, puts-six}
 use Rattle.ct_kind.specs.declared.evidence.Evidence.{Evidence}

@@ -6,7 +6,7 @@ use Rattle.std.proofs.lemmas.List.{drop_more, drop_all}
 use mir.Val.{SFits, to_z, of_z}
 use mir.Syntax.{w64, w128}
 use Rattle.ct_words.specs.Counting.Sums.{total}
-use Rattle.ct_entries.specs.Scheme.{IsSmall}
+use Rattle.ct_words.specs.Scheme.{IsSmall}
 use Rattle.ct_primal.proofs.primal_check.add_products.Goals as goal
 
 -- a product goes from those that are left to the sum

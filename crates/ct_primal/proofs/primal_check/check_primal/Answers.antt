@@ -1,6 +1,6 @@
 -- A primal that is accepted is sound, so no dual lies below it.
 use Rattle.std.proofs.Common.{◌≡◌, ◌≤◌, [], None, sym, ◌∙◌, subst, ℕ}
-use Rattle.ct_entries.specs.Numbers.{combination}
+use Rattle.ct_words.specs.Numbers.{combination}
 use Rattle.ct_duals.specs.Bound.{dual_bound}
 use Rattle.ct_duals.proofs.Sound.{AreLaws}
 use Rattle.ct_primal.specs.Primal.{primal_fault}

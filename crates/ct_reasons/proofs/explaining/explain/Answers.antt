@@ -1,5 +1,5 @@
 use Rattle.std.proofs.Common.{◌<◌, List, All, length, sym, subst}
-use Rattle.ct_entries.specs.declared.claim.Claim.{Claim}
+use Rattle.ct_words.specs.declared.claim.Claim.{Claim}
 use Rattle.ct_rule_parts.specs.Slot.{slot_of, claim_at}
 use Rattle.ct_rules.specs.Derivation.{LineValue}
 use Rattle.ct_derive.specs.Explanation.{IsExplanation}

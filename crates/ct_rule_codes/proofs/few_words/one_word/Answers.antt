@@ -1,5 +1,5 @@
 use Rattle.std.proofs.Common.{subst, rules}
-use Rattle.ct_entries.specs.Code.{IsSoundCode}
+use Rattle.ct_words.specs.Code.{IsSoundCode}
 use Rattle.ct_rule_codes.proofs.FewWords.{sound_word}
 use Rattle.ct_rule_codes.proofs.few_words.one_word.Goals as goal
 

@@ -1,5 +1,5 @@
 use Rattle.std.proofs.Common.{None, subst, rules}
-use Rattle.ct_entries.specs.Code.{IsSoundCode}
+use Rattle.ct_words.specs.Code.{IsSoundCode}
 use Rattle.ct_rule_codes.proofs.FewWords.{sound_opposite}
 use Rattle.ct_rule_codes.proofs.few_words.opposite_words.Goals as goal
 

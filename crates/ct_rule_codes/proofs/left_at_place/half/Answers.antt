@@ -1,6 +1,6 @@
 use Rattle.std.proofs.Common.{◌≡◌, ℕ, ◌<◌, ◌≤◌, [], ◌∷◌, length, sym, ap, subst, ◌∙◌, arith}
 use Rattle.std.specs.Int.{div_ceil}
-use Rattle.ct_entries.specs.Constructions.Shortened.{shortened}
+use Rattle.ct_words.specs.Constructions.Shortened.{shortened}
 use Rattle.ct_rule_codes.proofs.LeftWords.{other_half}
 use Rattle.ct_rule_codes.proofs.left_at_place.half.Goals as goal
 use Rattle.ct_rule_codes.proofs.left_at_place.half.Goals.{then-count_at-size, else-count_at-size}

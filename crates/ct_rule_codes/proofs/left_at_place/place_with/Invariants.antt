@@ -1,5 +1,5 @@
 use Rattle.std.proofs.Common.{ℕ, ◌-◌, ◌<◌, [], ◌∷◌, length}
-use Rattle.ct_entries.specs.Constructions.Shortened.{shortened}
+use Rattle.ct_words.specs.Constructions.Shortened.{shortened}
 use Rattle.ct_rule_codes.proofs.left_at_place.place_with.Given as goal
 
 abbrev pub invariant-loop-place : goal.invariant-loop-place

@@ -1,6 +1,6 @@
 use Rattle.std.proofs.Common.{◌*◌, ◌≤◌, [], ◌∷◌, length, sym, ap₂, subst, ◌∙◌, arith, rules}
 use Rattle.std.specs.Int.{div_ceil}
-use Rattle.ct_entries.specs.Constructions.Shortened.{shortened}
+use Rattle.ct_words.specs.Constructions.Shortened.{shortened}
 use Rattle.ct_build.proofs.Sound.{weight_within}
 use Rattle.ct_johnson.proofs.DigitPlaces.{place_of_ones}
 use Rattle.ct_rule_codes.proofs.LeftWords.{few_digits, each_weight}

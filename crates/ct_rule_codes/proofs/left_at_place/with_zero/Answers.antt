@@ -1,6 +1,6 @@
 use Rattle.std.proofs.Common.{◌-◌, ◌*◌, ◌≤◌, [], ◌∷◌, length, sym, subst, ◌∙◌, arith, rules}
 use Rattle.std.specs.Int.{div_ceil}
-use Rattle.ct_entries.specs.Constructions.Shortened.{shortened}
+use Rattle.ct_words.specs.Constructions.Shortened.{shortened}
 use Rattle.ct_johnson.proofs.DigitPlaces.{place_of_zeros}
 use Rattle.ct_rule_codes.proofs.LeftWords.{few_digits, each_weight}
 use Rattle.ct_rule_codes.proofs.left_at_place.with_zero.Goals as goal

@@ -1,9 +1,9 @@
 use Rattle.std.proofs.Common.{◌≡◌, ℕ, ◌-◌, ◌*◌, ◌^◌, List, length, Result, Ok, Err, IfOk, ap, ◌∙◌}
 use Rattle.std.specs.Prelude.{IsPermutation}
 use Rattle.std.proofs.lemmas.List.Sorted.{length_permutation}
-use Rattle.ct_entries.specs.Code.{CodeValue}
-use Rattle.ct_entries.specs.Constructions.Uuv.{uuv_words}
-use Rattle.ct_entries.proofs.Constructions.UuvCodes.{length-uuv_words}
+use Rattle.ct_words.specs.Code.{CodeValue}
+use Rattle.ct_words.specs.Constructions.Uuv.{uuv_words}
+use Rattle.ct_words.proofs.Constructions.UuvCodes.{length-uuv_words}
 use Rattle.ct_rule_codes.proofs.sums.sums_with_even_words.Goals as goal
 
 -- as many words as pairs

@@ -1,7 +1,7 @@
 use Rattle.std.proofs.Common.{List, Some, sym, ap, ◌∙◌}
 use Rattle.std.specs.Prelude.{slice_get}
-use Rattle.ct_entries.specs.declared.claim.Side.{Side}
-use Rattle.ct_entries.specs.declared.entry.Entry.{Entry}
+use Rattle.ct_words.specs.declared.claim.Side.{Side}
+use Rattle.ct_words.specs.declared.entry.Entry.{Entry}
 use Rattle.ct_rules.specs.Rule.{parts_over}
 use Rattle.ct_rules.proofs.Applied.{defined_entries, entry_at, premise-given}
 use Rattle.ct_rules.proofs.instance.premise.Goals as goal

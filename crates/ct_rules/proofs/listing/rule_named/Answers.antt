@@ -1,6 +1,6 @@
 use Rattle.std.proofs.Common.{ap, ap₂, sym, ◌∙◌}
 use Rattle.std.specs.Option.{option_or}
-use Rattle.ct_entries.specs.declared.claim.Side.{Side}
+use Rattle.ct_words.specs.declared.claim.Side.{Side}
 use Rattle.ct_rules.specs.declared.rule.TheConstants.{LOWER_RULES, LOWER_WEIGHT_RULES, OTHER_LOWER_RULES, UPPER_RULES, UPPER_WEIGHT_RULES, OTHER_UPPER_RULES}
 use Rattle.ct_rules.specs.Listing.{rule_named}
 use Rattle.ct_rules.proofs.RuleNames.{first_of_three}

@@ -1,5 +1,5 @@
 use Rattle.std.proofs.Common.{ℕ, ◌+◌, ◌/◌, ◌%◌, List, ap, ◌∙◌}
-use Rattle.ct_entries.specs.Entry.{unrestricted}
+use Rattle.ct_words.specs.Entry.{unrestricted}
 use Rattle.ct_kind.specs.declared.evidence.Evidence.TheVariants.{Cosets}
 use Rattle.ct_sample.specs.Drawn.{golay_words}
 use Rattle.ct_sample.proofs.drawing.drawn_cosets.Goals as goal

@@ -1,5 +1,5 @@
 use Rattle.std.proofs.Common.{ℕ, ◌+◌, ◌/◌, ◌%◌, List, ap, ◌∙◌}
-use Rattle.ct_entries.specs.Entry.{constant_weight}
+use Rattle.ct_words.specs.Entry.{constant_weight}
 use Rattle.ct_kind.specs.declared.evidence.Evidence.TheVariants.{Words}
 use Rattle.ct_sample.proofs.DrawnClasses.{class_some}
 use Rattle.ct_sample.proofs.DrawnSound.{class_numbers}

@@ -1,6 +1,6 @@
 use Rattle.std.proofs.Common.{◌≡◌, ℕ, ◌+◌, ◌<◌, List, [], ◌∷◌, Option, Some, None, ap, refl, codes, arith}
 use Rattle.std.proofs.lemmas.Fmt.{decimal_digit}
-use Rattle.ct_entries.specs.Entry.{constant_weight, unrestricted}
+use Rattle.ct_words.specs.Entry.{constant_weight, unrestricted}
 use Rattle.ct_build.specs.declared.step.Step.TheVariants.{Lengthen}
 use Rattle.ct_kind.specs.declared.evidence.Evidence.{Evidence}
 use Rattle.ct_kind.specs.declared.evidence.Evidence.TheVariants.{Cosets, Build}

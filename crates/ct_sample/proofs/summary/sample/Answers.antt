@@ -1,5 +1,5 @@
 use Rattle.std.proofs.Common.{All, sym, ◌∙◌, subst}
-use Rattle.ct_entries.specs.Entry.{IsEntry}
+use Rattle.ct_words.specs.Entry.{IsEntry}
 use Rattle.ct_sample.proofs.summary.sample.Goals as goal
 
 pub summary_after-requires-clause-listed : goal.summary_after-requires-clause-listed

@@ -1,5 +1,5 @@
 use Rattle.std.proofs.Common.{length, ap, ◌∙◌, arith}
-use Rattle.ct_entries.proofs.ListedEntries.{count}
+use Rattle.ct_words.proofs.ListedEntries.{count}
 use Rattle.ct_sample.proofs.Summaries.{summary_is}
 use Rattle.ct_sample.proofs.summary.summary_of.Goals as goal
 

@@ -5,7 +5,7 @@ use Rattle.std.proofs.lemmas.Int.{to_z-of_z}
 use mir.Val.{SFits}
 use mir.Syntax.{w128}
 use Rattle.ct_words.specs.Counting.Alternating.{total_below, sign}
-use Rattle.ct_entries.specs.Numbers.{johnson}
+use Rattle.ct_words.specs.Numbers.{johnson}
 use Rattle.ct_scheme.specs.Numbers.{term_count}
 use Rattle.ct_scheme.proofs.JohnsonSums.{IsWithin, term, sum_has_room, sum_before, sum_after}
 use Rattle.ct_scheme.proofs.numbers.johnson_number.Goals as goal

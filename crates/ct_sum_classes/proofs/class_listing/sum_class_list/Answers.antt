@@ -1,6 +1,6 @@
 use Rattle.std.proofs.Common.{List, Some, sym, subst}
 use Rattle.std.specs.Prelude.{ℕ}
-use Rattle.ct_entries.specs.Code.{IsSoundCode}
+use Rattle.ct_words.specs.Code.{IsSoundCode}
 use Rattle.ct_sum_classes.proofs.SumClasses.{sound-sum_class}
 use Rattle.ct_sum_classes.proofs.class_listing.sum_class_list.Goals as goal
 

@@ -1,8 +1,8 @@
 use Rattle.std.proofs.Common.{◌≡◌, ◌≤◌, length, take, Some, None, slice_get, sym, subst, ap, ◌∙◌, refl}
 use Rattle.std.proofs.lemmas.Result.{IfOk-from_err, on_ok_weaker}
 use Rattle.std.proofs.lemmas.Option.{none-some, same_Some}
-use Rattle.ct_entries.specs.declared.claim.Side.{Side}
-use Rattle.ct_entries.specs.declared.entry.Entry.{Entry}
+use Rattle.ct_words.specs.declared.claim.Side.{Side}
+use Rattle.ct_words.specs.declared.entry.Entry.{Entry}
 use Rattle.ct_kept.specs.Kept.{SavedValue}
 use Rattle.ct_kept.specs.Worklist.{IsIdle}
 use Rattle.ct_table.specs.Closing.{ClosingValue, IsClosing, HasMoreLines}

@@ -1,5 +1,5 @@
 use Rattle.std.proofs.Common.{◌∙◌, ap, ap₂, sym, ℕ, List}
-use Rattle.ct_entries.specs.Coset.{choice_count, coset_fault, CosetValue}
+use Rattle.ct_words.specs.Coset.{choice_count, coset_fault, CosetValue}
 use Rattle.ct_codes.proofs.SpanLemmas.{length-coset_list}
 use Rattle.ct_word_files.proofs.cosets_kind.checked_size.Goals as goal
 

@@ -1,6 +1,6 @@
 use Rattle.std.proofs.Common.{ap₂, ◌∙◌, ℕ, List, subst, sym, arith}
-use Rattle.ct_entries.specs.Coset.{CosetValue, IsSoundCosetCode}
-use Rattle.ct_entries.proofs.EntryLemmas.{entry_limits}
+use Rattle.ct_words.specs.Coset.{CosetValue, IsSoundCosetCode}
+use Rattle.ct_words.proofs.EntryLemmas.{entry_limits}
 use Rattle.ct_codes.proofs.CosetLemmas.{cosets_from_no_fault}
 use Rattle.ct_word_files.proofs.CosetsKind.{listed_answer}
 use Rattle.ct_word_files.proofs.cosets_kind.code.Goals as goal

@@ -2,7 +2,7 @@ use Rattle.std.proofs.Common.{arith, ◌≤◌, ◌^◌, length, ap, ◌∙◌, 
 use Rattle.std.proofs.Math.Nat.{pow-le-pow_right}
 use Rattle.std.proofs.lemmas.List.Sorted.{length_permutation}
 use Rattle.ct_words.specs.declared.limits.TheConstants.{MAX_BOUND}
-use Rattle.ct_entries.proofs.CheckLemmas.{code_size-le}
+use Rattle.ct_words.proofs.CheckLemmas.{code_size-le}
 use Rattle.ct_word_files.proofs.words_kind.checked_size.Goals as goal
 
 pub overflow_cast-result : goal.overflow_cast-result

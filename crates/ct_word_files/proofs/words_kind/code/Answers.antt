@@ -1,6 +1,6 @@
 use Rattle.std.proofs.Common.{ℕ, List, subst, ◌∙◌, refl}
 use Rattle.std.specs.List.Sorted.{IsPermutation}
-use Rattle.ct_entries.proofs.CheckLemmas.{code_from_no_fault, sound_from_code}
+use Rattle.ct_words.proofs.CheckLemmas.{code_from_no_fault, sound_from_code}
 use Rattle.ct_kind.proofs.CodeAt.{code_at_is}
 use Rattle.ct_word_files.proofs.words_kind.code.Goals as goal
 

@@ -1,5 +1,5 @@
 use Rattle.std.proofs.Common.{◌∙◌, subst, ap₂, ℕ, List, IsPermutation}
-use Rattle.ct_entries.specs.Coset.{coset_list}
+use Rattle.ct_words.specs.Coset.{coset_list}
 use Rattle.ct_codes.proofs.CosetLemmas.{sound_listed}
 use Rattle.ct_codes.proofs.coset.CosetCode.list.Goals as goal
 

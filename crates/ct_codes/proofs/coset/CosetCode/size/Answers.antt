@@ -1,8 +1,8 @@
 use Rattle.std.proofs.Common.{◌≡◌, ◌∙◌, sym, subst, ap₂, ℕ, ◌*◌, ◌%◌, ◌^◌, ◌≤◌, List, Fits, w32, length, arith}
 use Rattle.std.proofs.Math.Nat.{mod-eq_of_lt}
-use Rattle.ct_entries.specs.declared.fault.TheConstants.{MAX_COSET_WORK}
-use Rattle.ct_entries.specs.Code.{IsTrueLower}
-use Rattle.ct_entries.specs.Coset.{choice_count, coset_work, CosetValue}
+use Rattle.ct_words.specs.declared.fault.TheConstants.{MAX_COSET_WORK}
+use Rattle.ct_words.specs.Code.{IsTrueLower}
+use Rattle.ct_words.specs.Coset.{choice_count, coset_work, CosetValue}
 use Rattle.ct_codes.proofs.CosetLemmas.{choice_count-le, choice_count-lower}
 use Rattle.ct_codes.proofs.coset.CosetCode.size.Goals as goal
 

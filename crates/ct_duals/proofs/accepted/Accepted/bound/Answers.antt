@@ -5,8 +5,8 @@ use Rattle.std.proofs.lemmas.Int.{to_z-of_z, fits_signed_from_abs}
 use mir.Val.{SFits, to_z, of_z}
 use mir.Syntax.{w64, w128}
 use Rattle.ct_words.specs.declared.limits.TheConstants.{MAX_N, MAX_BOUND}
-use Rattle.ct_entries.specs.Code.{IsTrueUpper}
-use Rattle.ct_entries.specs.Numbers.{multiplier}
+use Rattle.ct_words.specs.Code.{IsTrueUpper}
+use Rattle.ct_words.specs.Numbers.{multiplier}
 use Rattle.ct_duals.specs.Bound.{AcceptedValue, AreTrueUppers, dual_premises, positive, charges, near_charge, far_charge, natural, dual_bound}
 use Rattle.ct_duals.proofs.DualBound.{few_allowances}
 use Rattle.ct_duals.proofs.accepted.Accepted.bound.Goals as goal

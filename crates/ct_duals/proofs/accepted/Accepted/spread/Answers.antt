@@ -4,7 +4,7 @@ use Rattle.std.proofs.lemmas.Int.{to_z-of_z}
 use mir.Val.{SFits, to_z, of_z}
 use mir.Syntax.{w128}
 use Rattle.ct_words.specs.declared.limits.TheConstants.{MAX_N}
-use Rattle.ct_entries.specs.Numbers.{numbers_of, combination}
+use Rattle.ct_words.specs.Numbers.{numbers_of, combination}
 use Rattle.ct_duals.specs.Bound.{AcceptedValue, AreTrueUppers, dual_premises, positive, charges, near_charge, far_charge, IsSpread, dual_spread}
 use Rattle.ct_duals.proofs.DualBound.{few_allowances}
 use Rattle.ct_duals.proofs.accepted.Accepted.spread.Goals as goal

@@ -1,7 +1,7 @@
 -- The entry at the place.
 use Rattle.std.proofs.Common.{Some, ap, sym, ◌∙◌}
 use Rattle.std.specs.Prelude.{ℕ, ℤ, List, slice_get, option_map}
-use Rattle.ct_entries.specs.declared.entry.Entry.{Entry}
+use Rattle.ct_words.specs.declared.entry.Entry.{Entry}
 use Rattle.ct_duals.specs.Bound.{AcceptedValue, dual_premises, positive}
 use Rattle.ct_duals.proofs.Premises.{premise_there, small_index}
 use Rattle.ct_duals.proofs.accepted_dual.AcceptedDual.premise.Goals as goal

@@ -1,7 +1,7 @@
 -- Few entries, all of the table.
 use Rattle.std.proofs.Common.{◌≤◌, All, sym, subst}
 use Rattle.ct_words.specs.declared.limits.TheConstants.{MAX_N}
-use Rattle.ct_entries.specs.Entry.{IsEntry}
+use Rattle.ct_words.specs.Entry.{IsEntry}
 use Rattle.ct_duals.specs.Bound.{AcceptedValue, dual_premises}
 use Rattle.ct_duals.proofs.Premises.{premises_are_entries, premises_few}
 use Rattle.ct_duals.proofs.accepted_dual.AcceptedDual.premise_count.Goals as goal

@@ -3,7 +3,7 @@ use Rattle.std.proofs.Common.{sym, subst, ℤ}
 use Rattle.std.proofs.lemmas.Int.{to_z-of_z}
 use mir.Val.{SFits, to_z, of_z}
 use mir.Syntax.{w128}
-use Rattle.ct_entries.specs.Numbers.{numbers_of, combination}
+use Rattle.ct_words.specs.Numbers.{numbers_of, combination}
 use Rattle.ct_duals.specs.Bound.{AcceptedValue, AreTrueUppers, dual_premises, IsSpread}
 use Rattle.ct_duals.proofs.accepted_dual.AcceptedDual.spread.Goals as goal
 

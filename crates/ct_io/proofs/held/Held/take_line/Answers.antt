@@ -1,7 +1,7 @@
 use Rattle.std.proofs.Common.{◌≡◌, ℕ, ◌+◌, ◌-◌, ◌∷◌, ◌++◌, ◌≤◌, List, Some, length, drop, take, sym, subst, ap, ◌∙◌, arith}
 use Rattle.std.specs.List.{slice_get}
 use Rattle.ct_io.specs.Inside.Buffer.{Buffer}
-use Rattle.ct_io.specs.declared.TheConstants.{LINE_FEED}
+use Rattle.ct_text.specs.declared.document_lines.TheConstants.{LINE_FEED}
 use Rattle.ct_io.proofs.FeedLemmas.{drop-around}
 use Rattle.ct_io.proofs.HeldLemmas.{left-within, fed-within, no_bytes-line}
 use Rattle.ct_io.proofs.held.Held.take_line.Goals as goal

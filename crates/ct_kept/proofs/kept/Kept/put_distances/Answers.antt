@@ -1,6 +1,6 @@
 use Rattle.std.proofs.Common.{◌≡◌, ◌+◌, ◌-◌, subst, sym, ap, ◌∙◌, arith}
-use Rattle.ct_entries.specs.Entry.{unrestricted}
-use Rattle.ct_entries.proofs.EntryLemmas.{entry_from_limits}
+use Rattle.ct_words.specs.Entry.{unrestricted}
+use Rattle.ct_words.proofs.EntryLemmas.{entry_from_limits}
 use Rattle.ct_kept.specs.Kept.{KeptValue}
 use Rattle.ct_kept.specs.Inside.Started.{IsStarted}
 use Rattle.ct_kept.specs.Number.{distances, slot_number}

@@ -1,6 +1,6 @@
 use Rattle.std.proofs.Common.{◌≡◌, ◌+◌, ◌*◌, ap, arith}
-use Rattle.ct_entries.specs.Entry.{constant_weight}
-use Rattle.ct_entries.proofs.EntryLemmas.{entry_from_limits}
+use Rattle.ct_words.specs.Entry.{constant_weight}
+use Rattle.ct_words.proofs.EntryLemmas.{entry_from_limits}
 use Rattle.ct_kept.specs.Number.{even_distances}
 use Rattle.ct_kept.proofs.SlotLemmas.NumberLemmas.{slot_number-bound}
 use Rattle.ct_kept.proofs.StartLemmas.{IsStarted-same, row_number}

@@ -1,6 +1,6 @@
 use Rattle.std.proofs.Common.{◌≡◌, ◌<◌, ◌+◌, ◌++◌, ◌∷◌, [], List, Option, map, take, length, refl, ap, sym, ◌∙◌, subst, arith, length-set, length-take}
 use Rattle.std.proofs.lemmas.List.{map_more, take_more_set, length-map}
-use Rattle.ct_entries.specs.declared.entry.Entry.{Entry}
+use Rattle.ct_words.specs.declared.entry.Entry.{Entry}
 use Rattle.std.specs.Prelude.{slice_set}
 use Rattle.ct_kept.specs.Places.{entry_of_support, AreChained}
 use Rattle.ct_kept.proofs.SlotLemmas.PlacesLemmas.{AreChained-none, AreChained-next}

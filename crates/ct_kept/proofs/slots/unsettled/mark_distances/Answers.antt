@@ -1,6 +1,6 @@
 use Rattle.std.proofs.Common.{ℕ, subst, arith}
-use Rattle.ct_entries.specs.Entry.{unrestricted}
-use Rattle.ct_entries.proofs.EntryLemmas.{entry_from_limits}
+use Rattle.ct_words.specs.Entry.{unrestricted}
+use Rattle.ct_words.proofs.EntryLemmas.{entry_from_limits}
 use Rattle.ct_kept.specs.Worklist.{WorkValue, IsMarkedOrSettled}
 use Rattle.ct_kept.specs.Inside.Marked.{distance_at}
 use Rattle.ct_kept.proofs.SlotLemmas.MarkedLemmas.{one_more, still_marked, all_distances}

@@ -1,5 +1,5 @@
 use Rattle.std.proofs.Common.{ℕ, ◌≤◌, arith}
-use Rattle.ct_entries.specs.Entry.{constant_weight}
+use Rattle.ct_words.specs.Entry.{constant_weight}
 use Rattle.ct_kept.specs.Worklist.{WorkValue, IsMarkedOrSettled}
 use Rattle.ct_kept.proofs.SlotLemmas.MarkedLemmas.{one_more, still_marked}
 use Rattle.ct_kept.proofs.slots.unsettled.mark_lengths.Goals as goal

@@ -1,5 +1,5 @@
 use Rattle.std.proofs.Common.{ℕ, ◌<◌, ◌≤◌}
-use Rattle.ct_entries.specs.Entry.{constant_weight}
+use Rattle.ct_words.specs.Entry.{constant_weight}
 use Rattle.ct_rule_parts.specs.Slot.{Slot}
 use Rattle.ct_kept.specs.Worklist.{IsMarked, IsMarkedOrSettled}
 use Rattle.ct_kept.proofs.slots.unsettled.mark_lengths.Given as goal

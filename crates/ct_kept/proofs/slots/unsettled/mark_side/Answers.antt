@@ -1,4 +1,4 @@
-use Rattle.ct_entries.specs.Entry.{constant_weight}
+use Rattle.ct_words.specs.Entry.{constant_weight}
 use Rattle.ct_kept.proofs.SlotLemmas.MarkedLemmas.{still_marked, each_entry}
 use Rattle.ct_kept.proofs.slots.unsettled.mark_side.Goals as goal
 

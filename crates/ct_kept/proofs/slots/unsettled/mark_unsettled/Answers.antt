@@ -1,4 +1,4 @@
-use Rattle.ct_entries.specs.declared.claim.Side.TheVariants.{Upper}
+use Rattle.ct_words.specs.declared.claim.Side.TheVariants.{Upper}
 use Rattle.ct_kept.proofs.SlotLemmas.MarkedLemmas.{still_marked, both_sides}
 use Rattle.ct_kept.proofs.slots.unsettled.mark_unsettled.Goals as goal
 

@@ -1,6 +1,6 @@
 use Rattle.std.proofs.Common.{ℕ, arith}
-use Rattle.ct_entries.specs.Entry.{constant_weight}
-use Rattle.ct_entries.proofs.EntryLemmas.{entry_from_limits}
+use Rattle.ct_words.specs.Entry.{constant_weight}
+use Rattle.ct_words.proofs.EntryLemmas.{entry_from_limits}
 use Rattle.ct_kept.specs.Worklist.{WorkValue, IsMarkedOrSettled}
 use Rattle.ct_kept.proofs.SlotLemmas.MarkedLemmas.{one_more, still_marked}
 use Rattle.ct_kept.proofs.slots.unsettled.mark_weights.Goals as goal

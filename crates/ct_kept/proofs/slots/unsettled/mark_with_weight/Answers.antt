@@ -1,5 +1,5 @@
 use Rattle.std.proofs.Common.{ℕ, subst, arith}
-use Rattle.ct_entries.specs.Entry.{constant_weight}
+use Rattle.ct_words.specs.Entry.{constant_weight}
 use Rattle.ct_kept.specs.Worklist.{WorkValue}
 use Rattle.ct_kept.specs.Inside.Marked.{even_distance_at, AreMarkedWithWeight}
 use Rattle.ct_kept.proofs.SlotLemmas.MarkedLemmas.{one_more, still_marked, all_even_distances}

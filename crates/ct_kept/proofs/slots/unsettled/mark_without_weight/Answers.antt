@@ -1,5 +1,5 @@
 use Rattle.std.proofs.Common.{ℕ, ◌≤◌, arith}
-use Rattle.ct_entries.specs.Entry.{unrestricted}
+use Rattle.ct_words.specs.Entry.{unrestricted}
 use Rattle.ct_kept.specs.Worklist.{WorkValue}
 use Rattle.ct_kept.specs.Inside.Marked.{AreMarkedWithoutWeight}
 use Rattle.ct_kept.proofs.SlotLemmas.MarkedLemmas.{one_more, still_marked}

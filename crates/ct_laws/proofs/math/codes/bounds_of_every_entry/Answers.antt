@@ -1,5 +1,5 @@
-use Rattle.ct_entries.proofs.BoundLemmas.{one_is_lower}
-use Rattle.ct_entries.proofs.CheckLemmas.{code_size-le}
+use Rattle.ct_words.proofs.BoundLemmas.{one_is_lower}
+use Rattle.ct_words.proofs.CheckLemmas.{code_size-le}
 use Rattle.ct_laws.proofs.math.codes.bounds_of_every_entry.Goals as goal
 
 pub returns : goal.returns

@@ -1,6 +1,6 @@
 use Rattle.std.proofs.Common.{subst, ◌≡◌, true}
-use Rattle.ct_entries.specs.Entry.{same_entry}
-use Rattle.ct_entries.proofs.EntryLemmas.{entry_limits, entry_from_limits, same_entry_is, same_entry-self}
+use Rattle.ct_words.specs.Entry.{same_entry}
+use Rattle.ct_words.proofs.EntryLemmas.{entry_limits, entry_from_limits, same_entry_is, same_entry-self}
 use Rattle.ct_laws.proofs.math.codes.entries_of_the_table.Goals as goal
 
 pub returns-clause-entries : goal.returns-clause-entries

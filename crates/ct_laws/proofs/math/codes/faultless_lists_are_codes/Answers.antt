@@ -1,4 +1,4 @@
-use Rattle.ct_entries.proofs.CheckLemmas.{code_from_no_fault, no_fault_of_code}
+use Rattle.ct_words.proofs.CheckLemmas.{code_from_no_fault, no_fault_of_code}
 use Rattle.ct_laws.proofs.math.codes.faultless_lists_are_codes.Goals as goal
 
 pub returns : goal.returns

@@ -1,6 +1,6 @@
 use Rattle.std.proofs.Common.{refl}
 use Rattle.ct_words.specs.Word.{distance, weight}
-use Rattle.ct_entries.specs.Check.{code_fault}
+use Rattle.ct_words.specs.Check.{code_fault}
 use Rattle.ct_laws.proofs.math.codes.known_faults.Goals as goal
 
 pub returns : goal.returns

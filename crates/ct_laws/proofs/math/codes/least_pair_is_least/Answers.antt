@@ -1,4 +1,4 @@
-use Rattle.ct_entries.proofs.PairLemmas.{least_pair-at, IsLeastPair-from, least_pair-none, NoPair-from}
+use Rattle.ct_words.proofs.PairLemmas.{least_pair-at, IsLeastPair-from, least_pair-none, NoPair-from}
 use Rattle.ct_laws.proofs.math.codes.least_pair_is_least.Goals as goal
 
 pub returns : goal.returns

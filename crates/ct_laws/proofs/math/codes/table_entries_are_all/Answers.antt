@@ -1,4 +1,4 @@
-use Rattle.ct_entries.proofs.ListedEntries.{listed, once, count, all_entries}
+use Rattle.ct_words.proofs.ListedEntries.{listed, once, count, all_entries}
 use Rattle.ct_laws.proofs.math.codes.table_entries_are_all.Goals as goal
 
 pub returns : goal.returns

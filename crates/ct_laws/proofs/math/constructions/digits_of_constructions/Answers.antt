@@ -1,5 +1,5 @@
-use Rattle.ct_entries.proofs.Constructions.AppendLemmas.{digit-followed_before, digit-followed_last, weight-with_parity}
-use Rattle.ct_entries.proofs.Constructions.TranslationLemmas.{digit-all_ones}
+use Rattle.ct_words.proofs.Constructions.AppendLemmas.{digit-followed_before, digit-followed_last, weight-with_parity}
+use Rattle.ct_words.proofs.Constructions.TranslationLemmas.{digit-all_ones}
 use Rattle.ct_laws.proofs.math.constructions.digits_of_constructions.Goals as goal
 
 pub returns : goal.returns

@@ -1,4 +1,4 @@
-use Rattle.ct_entries.proofs.Constructions.JuxtaposedCodes.{IsCode-juxtaposed, length-juxtaposed}
+use Rattle.ct_words.proofs.Constructions.JuxtaposedCodes.{IsCode-juxtaposed, length-juxtaposed}
 use Rattle.ct_laws.proofs.math.constructions.juxtaposed_codes.Goals as goal
 
 pub returns : goal.returns

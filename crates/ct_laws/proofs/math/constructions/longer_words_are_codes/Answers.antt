@@ -1,4 +1,4 @@
-use Rattle.ct_entries.proofs.Constructions.AppendLemmas.{IsCode-lengthened, IsCode-one_appended, IsCode-with_parity}
+use Rattle.ct_words.proofs.Constructions.AppendLemmas.{IsCode-lengthened, IsCode-one_appended, IsCode-with_parity}
 use Rattle.ct_laws.proofs.math.constructions.longer_words_are_codes.Goals as goal
 
 pub returns : goal.returns

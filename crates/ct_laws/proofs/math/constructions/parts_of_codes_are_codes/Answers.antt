@@ -1,4 +1,4 @@
-use Rattle.ct_entries.proofs.Constructions.FrontLemmas.{IsCode-take, IsCode-nearer, IsCode-unweighted}
+use Rattle.ct_words.proofs.Constructions.FrontLemmas.{IsCode-take, IsCode-nearer, IsCode-unweighted}
 use Rattle.ct_laws.proofs.math.constructions.parts_of_codes_are_codes.Goals as goal
 
 pub returns : goal.returns

@@ -1,4 +1,4 @@
-use Rattle.ct_entries.proofs.Constructions.ShortenedCodes.{IsCode-shortened, length-shortened, halves-shortened}
+use Rattle.ct_words.proofs.Constructions.ShortenedCodes.{IsCode-shortened, length-shortened, halves-shortened}
 use Rattle.ct_laws.proofs.math.constructions.shortened_codes.Goals as goal
 
 pub returns : goal.returns

@@ -1,6 +1,6 @@
 use Rattle.std.proofs.lemmas.List.{length-take-le}
-use Rattle.ct_entries.proofs.Constructions.AppendLemmas.{length-lengthened, length-one_appended, length-with_parity}
-use Rattle.ct_entries.proofs.Constructions.TranslationLemmas.{length-translated, length-complemented}
+use Rattle.ct_words.proofs.Constructions.AppendLemmas.{length-lengthened, length-one_appended, length-with_parity}
+use Rattle.ct_words.proofs.Constructions.TranslationLemmas.{length-translated, length-complemented}
 use Rattle.ct_laws.proofs.math.constructions.sizes_of_constructions.Goals as goal
 
 pub returns : goal.returns

@@ -1,4 +1,4 @@
-use Rattle.ct_entries.proofs.Constructions.TranslationLemmas.{IsCode-translated, IsCode-complemented, IsCode-selected}
+use Rattle.ct_words.proofs.Constructions.TranslationLemmas.{IsCode-translated, IsCode-complemented, IsCode-selected}
 use Rattle.ct_laws.proofs.math.constructions.translated_words_are_codes.Goals as goal
 
 pub returns : goal.returns

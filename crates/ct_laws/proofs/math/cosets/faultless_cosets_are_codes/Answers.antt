@@ -1,5 +1,5 @@
 use Rattle.std.proofs.Common.{arith}
-use Rattle.ct_entries.proofs.EntryLemmas.{entry_limits}
+use Rattle.ct_words.proofs.EntryLemmas.{entry_limits}
 use Rattle.ct_codes.proofs.CosetLemmas.{cosets_from_no_fault, no_fault_of_cosets}
 use Rattle.ct_laws.proofs.math.cosets.faultless_cosets_are_codes.Goals as goal
 

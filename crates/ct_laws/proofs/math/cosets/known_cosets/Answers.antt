@@ -1,6 +1,6 @@
 use Rattle.std.proofs.Common.{refl}
 use Rattle.ct_words.specs.Word.{distance}
-use Rattle.ct_entries.specs.Coset.{coset_list, coset_fault}
+use Rattle.ct_words.specs.Coset.{coset_list, coset_fault}
 use Rattle.ct_laws.proofs.math.cosets.known_cosets.Goals as goal
 
 pub returns : goal.returns

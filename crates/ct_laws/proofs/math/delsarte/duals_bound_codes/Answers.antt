@@ -1,6 +1,6 @@
 use Rattle.ct_duals.specs.Dual.{IsWordOf, index_of, degree_of}
 use Rattle.ct_duals.proofs.DualBound.{dual_bound-true}
-use Rattle.ct_entries.specs.Numbers.{numbers_of}
+use Rattle.ct_words.specs.Numbers.{numbers_of}
 use Rattle.ct_duals.proofs.SchemesOfEntries.{laws_of, fits_of}
 use Rattle.ct_laws.proofs.math.delsarte.duals_bound_codes.Goals as goal
 

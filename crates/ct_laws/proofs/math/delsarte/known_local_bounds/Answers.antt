@@ -1,5 +1,5 @@
 use Rattle.std.proofs.Common.{refl}
-use Rattle.ct_entries.specs.Numbers.{johnson}
+use Rattle.ct_words.specs.Numbers.{johnson}
 use Rattle.ct_duals.specs.Check.{dual_fault}
 use Rattle.ct_duals.specs.Bound.{dual_bound}
 use Rattle.ct_duals.specs.Local.{local_bound}

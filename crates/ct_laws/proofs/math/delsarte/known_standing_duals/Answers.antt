@@ -1,7 +1,7 @@
 use Rattle.std.proofs.Common.{refl, sym}
 use Rattle.std.specs.Prelude.{pos}
 use Rattle.std.proofs.lemmas.Option.{none-some}
-use Rattle.ct_entries.specs.Numbers.{krawtchouk, johnson}
+use Rattle.ct_words.specs.Numbers.{krawtchouk, johnson}
 use Rattle.ct_duals.specs.declared.fault.DualFault.TheVariants.{Above}
 use Rattle.ct_duals.specs.Check.{dual_fault}
 use Rattle.ct_duals.specs.Examples.{thirteen_six, eight_four_four, one_everywhere, above_at_last}

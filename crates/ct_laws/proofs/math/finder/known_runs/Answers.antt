@@ -1,5 +1,5 @@
 use Rattle.std.proofs.Common.{refl}
-use Rattle.ct_entries.specs.Numbers.{krawtchouk, johnson}
+use Rattle.ct_words.specs.Numbers.{krawtchouk, johnson}
 use Rattle.ct_duals.specs.Bound.{dual_bound}
 use Rattle.ct_laws.proofs.math.finder.known_runs.Goals as goal
 

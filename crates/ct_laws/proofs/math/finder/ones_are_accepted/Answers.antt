@@ -1,5 +1,5 @@
 use Rattle.std.proofs.Common.{◌∙◌}
-use Rattle.ct_entries.specs.Numbers.{krawtchouk}
+use Rattle.ct_words.specs.Numbers.{krawtchouk}
 use Rattle.ct_finder.proofs.Ones.{combination-ones, total-krawtchouk_zero, total-krawtchouk, ones-form, ones-accepted}
 use Rattle.ct_laws.proofs.math.finder.ones_are_accepted.Goals as goal
 

@@ -1,5 +1,5 @@
 -- Each bound of lists of digits is one of codes.
-use Rattle.ct_entries.proofs.DigitCodes.{bound_from_weight}
+use Rattle.ct_words.proofs.DigitCodes.{bound_from_weight}
 use Rattle.ct_words.specs.Counting.Binomials.{choose}
 use Rattle.std.proofs.Common.{◌*◌, ◌/◌}
 use Rattle.ct_johnson.proofs.Weights.{weight_bound-all, weight_bound-apart, weight_bound-disjoint}

@@ -1,7 +1,7 @@
 -- A code goes over to one of the other entry.
 use Rattle.std.proofs.Common.{◌-◌, arith}
 use Rattle.ct_words.proofs.Counting.Complements.{complement_bound}
-use Rattle.ct_entries.proofs.DigitCodes.{bound_from_weight, weight_bound_from_codes}
+use Rattle.ct_words.proofs.DigitCodes.{bound_from_weight, weight_bound_from_codes}
 use Rattle.ct_johnson.proofs.Weights.{code-nearer}
 use Rattle.ct_laws.proofs.math.johnson.bounds_from_other_entries.Goals as goal
 

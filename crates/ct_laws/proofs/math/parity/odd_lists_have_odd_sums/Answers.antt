@@ -1,6 +1,6 @@
 use Rattle.std.proofs.Common.{refl}
 use Rattle.ct_words.specs.Word.{distance}
-use Rattle.ct_entries.specs.Numbers.{krawtchouk}
+use Rattle.ct_words.specs.Numbers.{krawtchouk}
 use Rattle.ct_parity.proofs.OddLists.{krawtchouk-odd}
 use Rattle.ct_laws.proofs.math.parity.odd_lists_have_odd_sums.Goals as goal
 

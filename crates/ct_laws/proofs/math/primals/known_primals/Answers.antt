@@ -1,5 +1,5 @@
 use Rattle.std.proofs.Common.{refl}
-use Rattle.ct_entries.specs.Numbers.{krawtchouk, johnson}
+use Rattle.ct_words.specs.Numbers.{krawtchouk, johnson}
 use Rattle.ct_primal.specs.Primal.{primal_fault, primal_value}
 use Rattle.ct_laws.proofs.math.primals.known_primals.Goals as goal
 

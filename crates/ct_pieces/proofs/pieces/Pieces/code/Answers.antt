@@ -1,5 +1,5 @@
 use Rattle.std.proofs.Common.{List, Option, length, sym, ap, ◌∙◌}
-use Rattle.ct_entries.specs.Code.{CodeValue}
+use Rattle.ct_words.specs.Code.{CodeValue}
 use Rattle.ct_pieces.specs.Piece.{PieceValue}
 use Rattle.ct_pieces.proofs.BuildPlaces.{kept-long}
 use Rattle.ct_pieces.proofs.pieces.Pieces.code.Goals as goal

@@ -1,6 +1,6 @@
 use Rattle.std.proofs.Common.{ℕ, List, [], ◌∷◌, ◌++◌, Option, ◌≡◌, ◌≤◌, ◌<◌, false, Ok, Err, length, ap, sym, ◌∙◌, subst}
 use Rattle.std.proofs.lemmas.Result.{err_from_is_err_and}
-use Rattle.ct_entries.specs.Code.{CodeValue}
+use Rattle.ct_words.specs.Code.{CodeValue}
 use Rattle.ct_files.specs.Document.{value_of}
 use Rattle.ct_files.proofs.Documents.{document_read_of-right}
 use Rattle.ct_pieces.specs.Piece.{PieceValue, has_id}

@@ -1,6 +1,6 @@
 use Rattle.std.proofs.Common.{rules, ◌≡◌, ℕ, ◌<◌, ◌+◌, ◌-◌, length, List, Option, sym, ap, ◌∙◌, subst, arith}
 use Rattle.std.specs.Prelude.{remove}
-use Rattle.ct_entries.specs.Code.{CodeValue}
+use Rattle.ct_words.specs.Code.{CodeValue}
 use Rattle.ct_pieces.specs.Piece.{PieceValue, stored_words}
 use Rattle.ct_pieces.specs.Inside.Kept.{kept_codes, AreKept}
 use Rattle.ct_pieces.proofs.BuildPlaces.{kept-long}

@@ -1,6 +1,6 @@
 use Rattle.std.proofs.Common.{◌≡◌, ◌+◌, ◌-◌, List, Option, Some, None, Ok, option_map, sym, ap, ◌∙◌, subst, arith}
 use Rattle.std.specs.Prelude.{remove}
-use Rattle.ct_entries.specs.Code.{CodeValue}
+use Rattle.ct_words.specs.Code.{CodeValue}
 use Rattle.ct_pieces.specs.Piece.{PieceValue, first_user, stored_words}
 use Rattle.ct_pieces.specs.Withdrawal.{withdrawn}
 use Rattle.ct_pieces.specs.Piece.{place_of}

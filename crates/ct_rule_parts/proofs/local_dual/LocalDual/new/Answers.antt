@@ -1,7 +1,7 @@
 -- The indices of the dual are within the degree.
 use Rattle.std.proofs.Common.{◌≤◌, All, sym, subst, ap, ◌∙◌}
 use Rattle.std.specs.Prelude.{ℕ, ℤ, List}
-use Rattle.ct_entries.specs.declared.entry.Entry.{Entry}
+use Rattle.ct_words.specs.declared.entry.Entry.{Entry}
 use Rattle.ct_duals.specs.declared.dual.Dual.{Dual}
 use Rattle.ct_duals.specs.Dual.{degree_of}
 use Rattle.ct_duals.proofs.Premises.{indices_within}

@@ -1,5 +1,5 @@
 use Rattle.std.proofs.Common.{sym, ◌∙◌, arith}
-use Rattle.ct_entries.proofs.ColumnLemmas.{entry_at}
+use Rattle.ct_words.proofs.ColumnLemmas.{entry_at}
 use Rattle.ct_session.proofs.BoundLemmas.{named_is_entry, column_more, column_same, column_whole}
 use Rattle.ct_run.proofs.answering.replies.column_of.Goals as goal
 use Rattle.ct_run.proofs.answering.replies.column_of.Goals.{in-Some+in_ok-push, in_default}

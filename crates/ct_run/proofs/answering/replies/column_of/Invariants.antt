@@ -1,7 +1,7 @@
 use Rattle.std.proofs.Common.{◌-◌}
 use Rattle.std.specs.List.{AllZip}
 use Rattle.ct_session.specs.Reply.{AreBoundsOf}
-use Rattle.ct_entries.proofs.ColumnLemmas.{column_to}
+use Rattle.ct_words.proofs.ColumnLemmas.{column_to}
 use Rattle.ct_run.proofs.answering.replies.column_of.Given as goal
 
 abbrev pub invariant-loop-n : goal.invariant-loop-n

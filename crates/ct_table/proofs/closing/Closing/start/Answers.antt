@@ -1,5 +1,5 @@
 use Rattle.std.proofs.Common.{ℕ, List, subst}
-use Rattle.ct_entries.specs.Entry.{IsEntry}
+use Rattle.ct_words.specs.Entry.{IsEntry}
 use Rattle.ct_rule_parts.specs.Slot.{Slot}
 use Rattle.ct_kept.specs.Worklist.{IsMarkedOrSettled}
 use Rattle.ct_table.proofs.TurnLemmas.{pending_started}

@@ -1,6 +1,6 @@
 use Rattle.std.proofs.Common.{Some, None}
 use Rattle.std.proofs.lemmas.Result.{on_ok_weaker}
-use Rattle.ct_entries.specs.declared.claim.Side.TheVariants.{Lower, Upper}
+use Rattle.ct_words.specs.declared.claim.Side.TheVariants.{Lower, Upper}
 use Rattle.ct_table.proofs.OfferLemmas.FollowingLemmas.{followed_at}
 use Rattle.ct_table.proofs.offers.following.mark_by_resting.Goals as goal
 

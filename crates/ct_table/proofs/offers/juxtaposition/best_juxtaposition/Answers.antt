@@ -1,6 +1,6 @@
 use Rattle.std.proofs.Common.{[], subst, sym, arith, inl, inr}
 use Rattle.std.proofs.lemmas.Bool.{cases_eq}
-use Rattle.ct_entries.specs.declared.claim.Side.TheVariants.{Lower}
+use Rattle.ct_words.specs.declared.claim.Side.TheVariants.{Lower}
 use Rattle.ct_rules.specs.declared.rule.Rule.TheVariants.{L11}
 use Rattle.ct_kept.specs.Number.{bound_of}
 use Rattle.ct_table.specs.Offers.{IsWithin}

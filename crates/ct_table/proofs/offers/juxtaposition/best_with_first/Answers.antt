@@ -1,6 +1,6 @@
 use Rattle.std.proofs.Common.{◌≡◌, ◌+◌, ◌*◌, ◌/◌, ◌≤◌, [], refl, sym, subst, arith, inl, inr}
 use Rattle.std.proofs.lemmas.Bool.{cases_eq, cases_lt}
-use Rattle.ct_entries.specs.declared.claim.Side.TheVariants.{Lower}
+use Rattle.ct_words.specs.declared.claim.Side.TheVariants.{Lower}
 use Rattle.ct_kept.specs.Number.{bound_of}
 use Rattle.ct_table.proofs.OfferLemmas.PulledLemmas.{IsPulled-trans}
 use Rattle.ct_table.proofs.OfferLemmas.JuxtapositionLemmas.{IsSum, least_of, sum_here, sum_offer, sum_side, first_enough}

@@ -1,5 +1,5 @@
 use Rattle.std.proofs.Common.{ℕ, List, ◌<◌, ◌≤◌}
-use Rattle.ct_entries.specs.declared.claim.Side.TheVariants.{Lower}
+use Rattle.ct_words.specs.declared.claim.Side.TheVariants.{Lower}
 use Rattle.ct_rule_parts.specs.declared.support.Support.{Support}
 use Rattle.ct_kept.specs.Number.{bound_of}
 use Rattle.ct_table.specs.Inside.Pulled.{IsPulled}

@@ -2,7 +2,7 @@ use Rattle.std.proofs.Common.{◌<◌, None, length, sym, ◌∙◌, arith}
 use Rattle.std.proofs.lemmas.Option.{none-some, slice_get-get_or}
 use Rattle.std.proofs.lemmas.Result.{IfOk-from_err}
 use Rattle.ct_rule_parts.specs.Entries.{listed}
-use Rattle.ct_entries.specs.declared.entry.Entry.{Entry}
+use Rattle.ct_words.specs.declared.entry.Entry.{Entry}
 use Rattle.ct_table.specs.Inside.Marking.{IsTestedFrom}
 use Rattle.ct_table.proofs.OfferLemmas.MarkingLemmas.{keeps-trans, tested_and_one, tested_from}
 use Rattle.ct_table.proofs.offers.marking.mark_by_rule.Goals as goal

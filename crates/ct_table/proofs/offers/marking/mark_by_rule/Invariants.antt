@@ -1,6 +1,6 @@
 use Rattle.std.proofs.Common.{◌≡◌, ℕ, ◌<◌, Some}
 use Rattle.std.specs.Prelude.{slice_get}
-use Rattle.ct_entries.specs.declared.entry.Entry.{Entry}
+use Rattle.ct_words.specs.declared.entry.Entry.{Entry}
 use Rattle.ct_rule_parts.specs.Entries.{listed}
 use Rattle.ct_table.specs.Inside.Marking.{KeepsMarks, IsTestedAt}
 use Rattle.ct_table.proofs.offers.marking.mark_by_rule.Given as goal

@@ -1,5 +1,5 @@
 use Rattle.std.proofs.Common.{suc, subst, arith}
-use Rattle.ct_entries.specs.declared.entry.Entry.{Entry}
+use Rattle.ct_words.specs.declared.entry.Entry.{Entry}
 use Rattle.ct_weight_rules.specs.Neighbours.{of_weight}
 use Rattle.ct_table.specs.Inside.Marking.{AreTestedByDuals}
 use Rattle.ct_table.proofs.OfferLemmas.MarkingLemmas.{keeps-trans}

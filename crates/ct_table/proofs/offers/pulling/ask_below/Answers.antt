@@ -1,6 +1,6 @@
 use Rattle.std.proofs.Common.{arith}
 use Rattle.std.specs.Prelude.{slice_get}
-use Rattle.ct_entries.specs.declared.claim.Side.TheVariants.{Lower}
+use Rattle.ct_words.specs.declared.claim.Side.TheVariants.{Lower}
 use Rattle.ct_kept.specs.Number.{bound_of}
 use Rattle.ct_table.specs.Inside.Pulled.{given_rule}
 use Rattle.ct_table.proofs.OfferLemmas.PulledLemmas.{IsPulled-trans, within_better}

@@ -1,4 +1,4 @@
-use Rattle.ct_entries.specs.declared.claim.Side.TheVariants.{Lower, Upper}
+use Rattle.ct_words.specs.declared.claim.Side.TheVariants.{Lower, Upper}
 use Rattle.ct_rules.specs.declared.rule.Rule.TheVariants.{U10}
 use Rattle.ct_rules.specs.Rule.{row_of}
 use Rattle.ct_kept.specs.Number.{bound_of}

@@ -1,5 +1,5 @@
 use Rattle.std.proofs.Common.{ℕ, ◌<◌}
-use Rattle.ct_entries.specs.declared.claim.Side.TheVariants.{Upper}
+use Rattle.ct_words.specs.declared.claim.Side.TheVariants.{Upper}
 use Rattle.ct_rules.specs.declared.rule.Rule.TheVariants.{U10}
 use Rattle.ct_kept.specs.Number.{bound_of}
 use Rattle.ct_table.specs.Offers.{IsWithin}

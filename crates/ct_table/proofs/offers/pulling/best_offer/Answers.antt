@@ -1,7 +1,7 @@
 use Rattle.std.proofs.Common.{All, subst}
 use Rattle.ct_kept.specs.Number.{bound_of}
-use Rattle.ct_entries.specs.declared.claim.Side.{Side}
-use Rattle.ct_entries.specs.declared.claim.Side.TheVariants.{Lower}
+use Rattle.ct_words.specs.declared.claim.Side.{Side}
+use Rattle.ct_words.specs.declared.claim.Side.TheVariants.{Lower}
 use Rattle.ct_rules.specs.Listing.{rules_alone}
 use Rattle.ct_rules.specs.declared.rule.Rule.TheVariants.{M9}
 use Rattle.ct_table.specs.Offers.{IsWithin}

@@ -1,6 +1,6 @@
 -- Both rules bound from above.
 use Rattle.std.proofs.Common.{◌≡◌, ℕ, refl}
-use Rattle.ct_entries.specs.declared.claim.Side.TheVariants.{Upper}
+use Rattle.ct_words.specs.declared.claim.Side.TheVariants.{Upper}
 use Rattle.ct_rules.specs.declared.rule.Rule.TheVariants.{V9, V10}
 use Rattle.ct_rules.specs.Rule.{row_of, rule_side}
 use Rattle.ct_table.proofs.offers.pulling.bounding_rule_of_weight.Goals as goal

@@ -1,5 +1,5 @@
 use Rattle.std.proofs.Common.{subst, sym}
-use Rattle.ct_entries.specs.declared.claim.Side.TheVariants.{Lower, Upper}
+use Rattle.ct_words.specs.declared.claim.Side.TheVariants.{Lower, Upper}
 use Rattle.ct_kept.specs.Number.{bound_of}
 use Rattle.ct_table.specs.Offers.{IsLimit}
 use Rattle.ct_table.proofs.OfferLemmas.LimitLemmas.{limit_below, limit_above, limit_on}

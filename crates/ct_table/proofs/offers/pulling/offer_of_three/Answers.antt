@@ -1,7 +1,7 @@
 -- The bounds of the entries are read one after the other, as far as these are in the table.
 use Rattle.std.proofs.Common.{◌≡◌, ℕ, List, ◌∷◌, [], map, true, refl, ap₂, subst}
 use Rattle.std.specs.Prelude.{false}
-use Rattle.ct_entries.specs.declared.claim.Side.{Side}
+use Rattle.ct_words.specs.declared.claim.Side.{Side}
 use Rattle.ct_rule_parts.specs.Parts.{are_entries, slots_on}
 use Rattle.ct_kept.specs.Number.{bound_of}
 use Rattle.ct_table.proofs.OfferLemmas.PullingLemmas.{read_there, read_none, first_out, first_in, asked-applies, asked-none, asked-value}

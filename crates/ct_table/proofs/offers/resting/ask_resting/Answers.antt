@@ -1,5 +1,5 @@
 use Rattle.std.proofs.Common.{Some, None}
-use Rattle.ct_entries.specs.declared.claim.Side.TheVariants.{Lower, Upper}
+use Rattle.ct_words.specs.declared.claim.Side.TheVariants.{Lower, Upper}
 use Rattle.ct_kept.specs.Number.{bound_of}
 use Rattle.ct_table.proofs.OfferLemmas.AskedLemmas.{asked_at}
 use Rattle.ct_table.proofs.offers.resting.ask_resting.Goals as goal

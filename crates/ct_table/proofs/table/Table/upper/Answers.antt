@@ -1,5 +1,5 @@
 use Rattle.std.proofs.Common.{◌∙◌, ap, subst}
-use Rattle.ct_entries.specs.declared.claim.Side.TheVariants.{Upper}
+use Rattle.ct_words.specs.declared.claim.Side.TheVariants.{Upper}
 use Rattle.ct_rules.specs.Derivation.{IsBest}
 use Rattle.ct_table.specs.declared.table.Table.TheInside.{Inside}
 use Rattle.ct_kept.specs.Number.{bound_of}

@@ -1,5 +1,5 @@
 use Rattle.std.proofs.Common.{◌≡◌, ◌<◌, ◌^◌, ℕ, List, Option, length, ap, sym, ◌∙◌, subst}
-use Rattle.ct_entries.specs.declared.entry.Entry.{Entry}
+use Rattle.ct_words.specs.declared.entry.Entry.{Entry}
 use Rattle.ct_kept.specs.Places.{AreChained, last_at, with_last}
 use Rattle.ct_kept.proofs.SlotLemmas.PlacesLemmas.{AreChained-room, AreChained-added}
 use Rattle.ct_kept.proofs.slots.places.SupportPlaces.add.Goals as goal

@@ -1,5 +1,5 @@
 use Rattle.std.proofs.Common.{List, Option, sym, subst}
-use Rattle.ct_entries.specs.declared.entry.Entry.{Entry}
+use Rattle.ct_words.specs.declared.entry.Entry.{Entry}
 use Rattle.ct_kept.specs.Places.{AreChained}
 use Rattle.ct_kept.proofs.SlotLemmas.PlacesLemmas.{AreChained-none}
 use Rattle.ct_kept.proofs.slots.places.SupportPlaces.none.Goals as goal

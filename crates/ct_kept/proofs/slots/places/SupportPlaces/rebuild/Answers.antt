@@ -1,6 +1,6 @@
 use Rattle.std.proofs.Common.{◌≡◌, ◌≤◌, ◌^◌, ℕ, List, Option, length, map, take, replicate, ap, sym, subst, ◌∙◌}
 use Rattle.std.proofs.lemmas.List.{length-replicate}
-use Rattle.ct_entries.specs.declared.entry.Entry.{Entry}
+use Rattle.ct_words.specs.declared.entry.Entry.{Entry}
 use Rattle.ct_kept.specs.Places.{entry_of_support, AreChained}
 use Rattle.ct_kept.proofs.SlotLemmas.PlacesLemmas.{no_place, given_back}
 use Rattle.ct_kept.proofs.slots.places.SupportPlaces.rebuild.Goals as goal

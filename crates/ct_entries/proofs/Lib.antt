@@ -1,9 +1,0 @@
-pub mod PairLemmas
-pub mod EntryLemmas
-pub mod InLists
-pub mod ColumnLemmas
-pub mod ListedEntries
-pub mod CheckLemmas
-pub mod BoundLemmas
-pub mod DigitCodes
-pub mod Constructions

@@ -1,6 +1,0 @@
-use Rattle.std.proofs.Common.{◌≡◌, ◌-◌, ◌++◌}
-use Rattle.ct_entries.proofs.ColumnLemmas.{column_to}
-use Rattle.ct_entries.proofs.entries.put_column.Given as goal
-
-abbrev pub invariant-loop-n : goal.invariant-loop-n
-invariant-loop-n l = l.entries.items ≡ l.fn.entries.items ++ column_to l.d l.w (l.n - 1)
