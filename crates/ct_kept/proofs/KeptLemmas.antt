@@ -16,11 +16,11 @@ use Rattle.ct_rules.proofs.Derivations.{derivation-push}
 use Rattle.ct_rule_parts.proofs.Places.{slice_get-append_left, slice_get-append_right, slice_get_last}
 use Rattle.ct_rules.proofs.RuleLaws.{rule_entry}
 use Rattle.ct_kept.specs.Kept.{KeptValue, IsKept, Grew, reason_of, with_line_put}
-use Rattle.ct_kept.specs.Number.{bound_of, slot_number}
+use Rattle.ct_slots.specs.Number.{bound_of, slot_number}
 use Rattle.ct_rule_parts.proofs.GetLemmas.{IsOldOrNew, slice_get-append_some, slice_get_push_cases}
-use Rattle.ct_kept.proofs.SlotLemmas.NumberLemmas.{slot_number-injective}
+use Rattle.ct_slots.proofs.NumberLemmas.{slot_number-injective}
 use Rattle.ct_kept.proofs.PutLemmas.{bound-put, reason-put, bound-put_other, reason-put_other}
-use Rattle.ct_kept.proofs.SlotLemmas.BetterLemmas.{better-no_worse, no_better-self, better-trans_no_better, no_better_than_itself}
+use Rattle.ct_slots.proofs.BetterLemmas.{better-no_worse, no_better-self, better-trans_no_better, no_better_than_itself}
 
 -- what stands where an option that is mapped stands
 mapped : {X Y : Type 0} (f : X → Y) (o : Option X) (y : Y) → option_map f o ≡ Some y

@@ -1,4 +1,3 @@
-pub mod SlotLemmas
 pub mod PutLemmas
 pub mod GroundLemmas
 pub mod GroundBest

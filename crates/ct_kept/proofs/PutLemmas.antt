@@ -6,8 +6,8 @@ use Rattle.ct_words.specs.Entry.{IsEntry}
 use Rattle.ct_rules.specs.Derivation.{LineValue}
 use Rattle.ct_rule_parts.specs.Slot.{Slot, slot_of}
 use Rattle.ct_kept.specs.Kept.{KeptValue, reason_of, with_line_put}
-use Rattle.ct_kept.specs.Number.{bound_of, side_size, slot_number}
-use Rattle.ct_kept.proofs.SlotLemmas.NumberLemmas.{slot_number-bound}
+use Rattle.ct_slots.specs.Number.{bound_of, side_size, slot_number}
+use Rattle.ct_slots.proofs.NumberLemmas.{slot_number-bound}
 
 -- at the slot of the claim they are the claim's bound, and the place of the line
 pub bound-put : (kept : KeptValue) (line : LineValue) → length kept.bounds ≡ 2 * side_size → IsEntry line.claim.entry

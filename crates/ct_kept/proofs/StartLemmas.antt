@@ -11,11 +11,11 @@ use Rattle.ct_rule_parts.proofs.Places.{slice_get_last}
 use Rattle.ct_kept.specs.Kept.{KeptValue, IsKept, reason_of, with_line_put}
 use Rattle.ct_kept.specs.Inside.Ground.{IsGroundLine}
 use Rattle.ct_kept.specs.Inside.Started.{HasGround, IsGroundBelow, IsStarted}
-use Rattle.ct_kept.specs.Number.{bound_of, distances, even_distances, side_size, side_number, slot_number, entries_to}
+use Rattle.ct_slots.specs.Number.{bound_of, distances, even_distances, side_size, side_number, slot_number, entries_to}
 use Rattle.ct_rule_parts.proofs.GetLemmas.{IsOldOrNew, slice_get-append_some, slice_get_push_cases}
 use Rattle.ct_kept.proofs.GroundLemmas.{Follows-ground, IsGround-line}
 use Rattle.ct_kept.proofs.PutLemmas.{bound-put, reason-put, bound-put_other, reason-put_other}
-use Rattle.ct_kept.proofs.SlotLemmas.NumberLemmas.{entries_to-length, slot_number-bound, slot_number-injective}
+use Rattle.ct_slots.proofs.NumberLemmas.{entries_to-length, slot_number-bound, slot_number-injective}
 
 -- nothing is started yet
 pub IsStarted-none : (bounds reasons : List ℕ) → length bounds ≡ 2 * side_size → length reasons ≡ 2 * side_size

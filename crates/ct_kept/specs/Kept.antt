@@ -7,7 +7,7 @@ use Rattle.ct_rule_parts.specs.Slot.{IsBetter, IsNoBetter, Slot, slot_of, claim_
 use Rattle.ct_rules.specs.declared.rule.Rule.{Rule}
 use Rattle.ct_rules.specs.Derivation.{LineValue, IsDerivation}
 use Rattle.ct_rules.specs.Rule.{rule_side, place_of, parts_of, value_of}
-use Rattle.ct_kept.specs.Number.{slot_number, bound_of, side_size}
+use Rattle.ct_slots.specs.Number.{slot_number, bound_of, side_size}
 
 -- what a table keeps, as callers see it: bounds and reasons by the numbers of the slots, lines, and how many of these rest on no support
 -- whatever comes and goes

@@ -17,10 +17,10 @@ ghost use Rattle.ct_rules.specs.Rule.{rule_side, value_of};
 ghost use Rattle.ct_kept.specs.Kept.{RestsOnNothing, IsGroundBound};
 ghost use Rattle.ct_kept.specs.Inside.Ground.{class_of, AreLargest, GivesGround, IsGroundWithin, first_ground_rule, other_ground_rules, IsGroundLine};
 
-use crate::slots::is_better;
 use ct_elementary::{plotkin, sphere_packing};
 use ct_rule_parts::within_limit;
 use ct_rules::{Line, Rule, value};
+use ct_slots::is_better;
 use ct_sum_classes::LargestClass;
 use ct_weight_rules::{below_too_many, count_of_disjoint, has_disjoint_words, has_no_far_words};
 use ct_words::{Claim, Entry, Side, binomial};

@@ -6,7 +6,7 @@ ghost use Rattle.ct_words.specs.declared.limits.TheConstants.{MAX_N};
 ghost use Rattle.ct_words.specs.Entry.{IsEntry, unrestricted, constant_weight};
 ghost use Rattle.ct_rule_parts.specs.declared.support.Support.{Support};
 ghost use Rattle.ct_rule_parts.specs.Slot.{slot_of};
-ghost use Rattle.ct_kept.specs.Number.{bound_of, distances, entries_to, even_distances, side_number, side_size, slot_number};
+ghost use Rattle.ct_slots.specs.Number.{bound_of, distances, entries_to, even_distances, side_number, side_size, slot_number};
 ghost use Rattle.ct_kept.specs.Kept.{with_line_put, reason_of, set_back, IsKept};
 ghost use Rattle.ct_rules.specs.Rule.{place_of};
 ghost use Rattle.ct_rules.specs.Removal.{names_one, marked, lowered_line};
@@ -15,8 +15,8 @@ ghost use Rattle.ct_kept.specs.Inside.Started.{IsStarted};
 
 use crate::ground::{ground_line, ground_line_with_weight};
 use crate::lowering::{lower_lines, names_place};
-use crate::slots::{Bounds, SLOTS, slot_number};
 use ct_rules::Line;
+use ct_slots::{Bounds, SLOTS, slot_number};
 use ct_sum_classes::{LargestClass, largest_sum_classes};
 use ct_words::{Claim, Entry, MAX_N, Side};
 use std::alloc::{AllocError, Global};
@@ -46,7 +46,7 @@ impl Drop for Kept {
 
 impl Model for Kept {
     ghost use Rattle.std.specs.Prelude.{◌≡◌, ◌*◌, ◌++◌, length};
-    ghost use Rattle.ct_kept.specs.Number.{side_size};
+    ghost use Rattle.ct_slots.specs.Number.{side_size};
     ghost use Rattle.ct_kept.specs.Kept.{KeptValue};
 
     ghost Value = { KeptValue };
@@ -66,7 +66,7 @@ pub struct Saved {
 
 impl Model for Saved {
     ghost use Rattle.std.specs.Prelude.{◌≡◌, ◌*◌, length};
-    ghost use Rattle.ct_kept.specs.Number.{side_size};
+    ghost use Rattle.ct_slots.specs.Number.{side_size};
     ghost use Rattle.ct_kept.specs.Kept.{SavedValue};
 
     ghost Value = { SavedValue };
@@ -85,7 +85,7 @@ pub struct Base {
 
 impl Model for Base {
     ghost use Rattle.std.specs.Prelude.{◌≡◌, ◌*◌, length};
-    ghost use Rattle.ct_kept.specs.Number.{side_size};
+    ghost use Rattle.ct_slots.specs.Number.{side_size};
     ghost use Rattle.ct_kept.specs.Kept.{BaseValue};
 
     ghost Value = { BaseValue };
@@ -105,7 +105,7 @@ pub struct Undo {
 
 impl Model for Undo {
     ghost use Rattle.std.specs.Prelude.{◌≡◌, ◌*◌, length};
-    ghost use Rattle.ct_kept.specs.Number.{side_size};
+    ghost use Rattle.ct_slots.specs.Number.{side_size};
     ghost use Rattle.ct_kept.specs.Kept.{UndoValue};
 
     ghost Value = { UndoValue };

@@ -7,9 +7,9 @@ use Rattle.ct_rule_parts.specs.declared.support.Support.{Support}
 use Rattle.ct_rule_parts.specs.Slot.{Slot, slot_of, IsBetter}
 use Rattle.ct_rules.specs.Derivation.{LineValue}
 use Rattle.ct_kept.specs.Kept.{KeptValue, with_line_put}
-use Rattle.ct_kept.specs.Number.{bound_of, side_size, slot_number}
-use Rattle.ct_kept.proofs.SlotLemmas.BetterLemmas.{no_better_than_itself}
-use Rattle.ct_kept.proofs.SlotLemmas.NumberLemmas.{slot_number-injective}
+use Rattle.ct_slots.specs.Number.{bound_of, side_size, slot_number}
+use Rattle.ct_slots.proofs.BetterLemmas.{no_better_than_itself}
+use Rattle.ct_slots.proofs.NumberLemmas.{slot_number-injective}
 use Rattle.ct_kept.proofs.PutLemmas.{bound-put, reason-put_other}
 use Rattle.ct_table.specs.Table.{Grew, table_of}
 

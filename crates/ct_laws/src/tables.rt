@@ -10,7 +10,7 @@ ghost use Rattle.ct_rules.specs.Rule.{place_of};
 ghost use Rattle.ct_rules.specs.Derivation.{LineValue};
 ghost use Rattle.ct_rules.specs.Removal.{Places, only, RestsOnPlaces, lowered_line};
 ghost use Rattle.ct_kept.specs.Kept.{KeptValue, IsGroundBound, with_line_put};
-ghost use Rattle.ct_kept.specs.Number.{bound_of, side_size};
+ghost use Rattle.ct_slots.specs.Number.{bound_of, side_size};
 ghost use Rattle.ct_table.specs.Removal.{KeepsReasons};
 ghost use Rattle.ct_table.specs.Table.{TableValue, IsShownTable, Grew, HasReason, bound_at, reason_at, table_of};
 

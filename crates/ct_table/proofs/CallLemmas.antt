@@ -11,8 +11,8 @@ use Rattle.ct_rules.specs.Derivation.{LineValue, IsBest}
 use Rattle.ct_rules.proofs.MoreSupports.{derivation_over_more}
 use Rattle.ct_table.specs.Closing.{ClosingValue, IsClosing}
 use Rattle.ct_kept.specs.Kept.{KeptValue, BaseValue, IsKept, IsBase, reason_of}
-use Rattle.ct_kept.specs.Number.{bound_of}
-use Rattle.ct_kept.specs.Worklist.{WorkValue, IsIdle}
+use Rattle.ct_slots.specs.Number.{bound_of}
+use Rattle.ct_slots.specs.Worklist.{WorkValue, IsIdle}
 use Rattle.ct_kept.proofs.LineLemmas.{kept_in}
 use Rattle.ct_table.specs.Inside.Starting.{CanFollow}
 use Rattle.ct_table.specs.Table.{IsTable, IsShownTable, table_of}

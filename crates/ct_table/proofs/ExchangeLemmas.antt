@@ -11,7 +11,7 @@ use Rattle.ct_rule_parts.specs.declared.support.Support.TheVariants.{Nothing}
 use Rattle.ct_rules.specs.Removal.{Places, marked, only, without, voided, voided_by}
 use Rattle.ct_rules.proofs.VoidedSupports.{slice_get-voided, length-voided}
 use Rattle.ct_rules.proofs.WithoutLemmas.{past, without-in, without-out}
-use Rattle.ct_kept.specs.Places.{GivesTo, AreSupportPlaces}
+use Rattle.ct_slots.specs.Places.{GivesTo, AreSupportPlaces}
 use Rattle.ct_table.specs.Inside.Exchanged.{exchanged}
 use Rattle.ct_table.proofs.PlacedSupports.{nothing_given}
 

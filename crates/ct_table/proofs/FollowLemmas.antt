@@ -6,11 +6,11 @@ use Rattle.ct_rule_parts.specs.declared.support.Support.{Support}
 use Rattle.ct_rules.specs.Closed.{IsClosed}
 use Rattle.ct_table.specs.Closing.{ClosingValue, CanClose, IsClosing, HasMoreLines}
 use Rattle.ct_kept.specs.Kept.{KeptValue, SavedValue, IsKept, Grew}
-use Rattle.ct_kept.specs.Number.{bound_of}
-use Rattle.ct_kept.specs.Places.{entry_of_support, side_of_support}
-use Rattle.ct_kept.specs.Worklist.{IsIdle}
-use Rattle.ct_table.specs.Offers.{IsWithin}
-use Rattle.ct_table.specs.Inside.Pulled.{given_rule}
+use Rattle.ct_slots.specs.Number.{bound_of}
+use Rattle.ct_slots.specs.Places.{entry_of_support, side_of_support}
+use Rattle.ct_slots.specs.Worklist.{IsIdle}
+use Rattle.ct_offers.specs.Offers.{IsWithin}
+use Rattle.ct_offers.specs.Inside.Pulled.{given_rule}
 use Rattle.ct_kept.proofs.KeptLemmas.{Grew-refl}
 use Rattle.ct_kept.proofs.LineLemmas.{kept_in}
 use Rattle.ct_table.specs.Closing.{IsPending}

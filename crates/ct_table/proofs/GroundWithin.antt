@@ -5,11 +5,11 @@ use Rattle.ct_rule_parts.specs.Slot.{Slot, IsNoBetter}
 use Rattle.ct_rules.specs.Rule.{rule_side, value_of}
 use Rattle.ct_rules.proofs.ClosedBounds.{no_better-trans}
 use Rattle.ct_kept.specs.Kept.{KeptValue, IsKept, RestsOnNothing, IsGroundBound}
-use Rattle.ct_kept.specs.Number.{bound_of}
-use Rattle.ct_table.specs.Offers.{AreGrounded}
+use Rattle.ct_slots.specs.Number.{bound_of}
+use Rattle.ct_offers.specs.Offers.{AreGrounded}
 use Rattle.ct_kept.proofs.GroundLemmas.{rests_same, value_same}
 use Rattle.ct_kept.proofs.KeptLemmas.{line-no_better}
-use Rattle.ct_table.proofs.OfferLemmas.PullingLemmas.{over-value}
+use Rattle.ct_offers.proofs.PullingLemmas.{over-value}
 
 pub are_grounded : (supports : List Support) (kept : KeptValue) → IsKept supports kept → AreGrounded supports (bound_of kept.bounds)
 are_grounded supports kept good r e entry none rests v value =

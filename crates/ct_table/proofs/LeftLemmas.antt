@@ -25,8 +25,8 @@ use Rattle.ct_rules.specs.Removal.{Places, RestsOnPlaces, voided}
 use Rattle.ct_rules.proofs.VoidedSupports.{IsClosed-voided, AllStand-voided}
 use Rattle.ct_table.specs.Closing.{IsPending}
 use Rattle.ct_kept.specs.Kept.{KeptValue, IsKept, Grew, reason_of}
-use Rattle.ct_kept.specs.Number.{bound_of}
-use Rattle.ct_kept.specs.Worklist.{WorkValue, IsMarked}
+use Rattle.ct_slots.specs.Number.{bound_of}
+use Rattle.ct_slots.specs.Worklist.{WorkValue, IsMarked}
 use Rattle.ct_rule_parts.proofs.GetLemmas.{slice_get-append_some}
 use Rattle.ct_kept.proofs.KeptLemmas.{IsReasonLine, reason_line, reason-within, line-no_better, Grew-no_worse}
 use Rattle.ct_table.specs.Inside.Walk.{moved_place}

@@ -1,4 +1,3 @@
-pub mod OfferLemmas
 pub mod TableLemmas
 mod UnnamedPlaces
 pub mod BaseLemmas

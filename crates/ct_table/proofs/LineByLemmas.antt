@@ -11,10 +11,10 @@ use Rattle.ct_rules.specs.Derivation.{Follows}
 use Rattle.ct_rules.specs.Rule.{premises_at, applies, premises_of, value_of}
 use Rattle.ct_rules.proofs.ClosedBounds.{slots_of_claims, values_of_claims}
 use Rattle.ct_rules.proofs.RuleLaws.{premises_in_table}
-use Rattle.ct_kept.specs.Number.{bound_of}
+use Rattle.ct_slots.specs.Number.{bound_of}
 use Rattle.ct_kept.specs.Kept.{KeptValue, IsKept, reason_of}
 use Rattle.ct_kept.proofs.KeptLemmas.{reason-within, claims_at-reasons}
-use Rattle.ct_table.specs.Offers.{value_over}
+use Rattle.ct_offers.specs.Offers.{value_over}
 use Rattle.ct_table.specs.Inside.Turn.{line_by}
 
 -- the value over bounds of a rule that is defined

@@ -22,13 +22,13 @@ use Rattle.ct_rules.proofs.Applied.{defined, applies_from_premises}
 use Rattle.ct_rule_parts.proofs.Places.{slice_get-append_left, slice_get-append_right}
 use Rattle.ct_rules.proofs.LoweredRules.{premises_of-alike, value_of-alike}
 use Rattle.ct_table.specs.Closing.{IsPending}
-use Rattle.ct_kept.specs.Number.{bound_of}
-use Rattle.ct_kept.specs.Places.{GivesTo, side_of_support, entry_of_support}
-use Rattle.ct_kept.specs.Worklist.{WorkValue, IsMarked}
-use Rattle.ct_table.specs.Offers.{IsWithin}
-use Rattle.ct_table.specs.Inside.Pulled.{given_rule}
-use Rattle.ct_table.proofs.OfferLemmas.BoundingRules.{bounding-bound, bounding-odd, bounding-weighted, bounding-local}
-use Rattle.ct_table.proofs.OfferLemmas.SatisfiedLemmas.{satisfied_within}
+use Rattle.ct_slots.specs.Number.{bound_of}
+use Rattle.ct_slots.specs.Places.{GivesTo, side_of_support, entry_of_support}
+use Rattle.ct_slots.specs.Worklist.{WorkValue, IsMarked}
+use Rattle.ct_offers.specs.Offers.{IsWithin}
+use Rattle.ct_offers.specs.Inside.Pulled.{given_rule}
+use Rattle.ct_offers.proofs.BoundingRules.{bounding-bound, bounding-odd, bounding-weighted, bounding-local}
+use Rattle.ct_offers.proofs.SatisfiedLemmas.{satisfied_within}
 use Rattle.ct_table.proofs.BaseLemmas.{cited-nothing}
 
 -- a support that gives something to an entry of the table is one of that entry

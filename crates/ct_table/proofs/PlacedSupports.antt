@@ -9,8 +9,8 @@ use Rattle.ct_rule_parts.specs.declared.support.Support.{Support}
 use Rattle.ct_rule_parts.specs.declared.support.Support.TheVariants.{Nothing}
 use Rattle.ct_rule_parts.specs.Slot.{Slot}
 use Rattle.ct_rule_parts.proofs.Places.{slice_get_last}
-use Rattle.ct_kept.specs.Places.{GivesTo, AreSupportPlaces, side_of_support, entry_of_support}
-use Rattle.ct_kept.specs.Worklist.{WorkValue, IsMarked}
+use Rattle.ct_slots.specs.Places.{GivesTo, AreSupportPlaces, side_of_support, entry_of_support}
+use Rattle.ct_slots.specs.Worklist.{WorkValue, IsMarked}
 use Rattle.ct_table.specs.Inside.Starting.{IsMarkedIfGiven}
 use Rattle.ct_table.proofs.MoreLemmas.{gives_entry, AreGivenMarked}
 

@@ -14,8 +14,8 @@ use Rattle.ct_rules.proofs.VoidedSupports.{AllStand-voided, AllStand-without, le
 use Rattle.ct_rules.proofs.WithoutLemmas.{length-without}
 use Rattle.ct_table.specs.Closing.{ClosingValue, CanClose, IsClosing, HasMoreLines}
 use Rattle.ct_kept.specs.Kept.{KeptValue, BaseValue, IsBase, reason_of, set_back}
-use Rattle.ct_kept.specs.Number.{bound_of}
-use Rattle.ct_kept.specs.Worklist.{WorkValue}
+use Rattle.ct_slots.specs.Number.{bound_of}
+use Rattle.ct_slots.specs.Worklist.{WorkValue}
 use Rattle.ct_kept.proofs.KeptLemmas.{line_entry}
 use Rattle.ct_kept.proofs.LineLemmas.{kept_in}
 use Rattle.ct_table.specs.Inside.Walk.{moved_place, walk}

@@ -9,8 +9,8 @@ use Rattle.ct_words.specs.declared.entry.Entry.{Entry}
 use Rattle.ct_words.specs.Entry.{IsEntry}
 use Rattle.ct_rule_parts.specs.Slot.{Slot, IsBetter}
 use Rattle.ct_table.specs.Inside.Turn.{slack}
-use Rattle.ct_kept.specs.Number.{bound_of, side_size, slot_number}
-use Rattle.ct_kept.proofs.SlotLemmas.NumberLemmas.{lower_number-bound, slot_number-bound}
+use Rattle.ct_slots.specs.Number.{bound_of, side_size, slot_number}
+use Rattle.ct_slots.proofs.NumberLemmas.{lower_number-bound, slot_number-bound}
 
 -- a smaller term makes a smaller sum
 sum_by-smaller : (f : ℕ → ℕ) (xs : List ℕ) (k v : ℕ) → k < length xs → f v < f (slice_index xs k)

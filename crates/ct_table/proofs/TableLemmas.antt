@@ -9,7 +9,7 @@ use Rattle.ct_rules.specs.Derivation.{LineValue, IsDerived, IsBest}
 use Rattle.ct_rules.proofs.ClosedBounds.{AreDerived, AreTrue-from_derived, closed_bound_is_best, closed_bounds_are_best_possible}
 use Rattle.ct_rules.proofs.Derivations.{derived_from_line}
 use Rattle.ct_kept.specs.Kept.{KeptValue, IsKept, reason_of}
-use Rattle.ct_kept.specs.Number.{bound_of}
+use Rattle.ct_slots.specs.Number.{bound_of}
 use Rattle.ct_kept.proofs.KeptLemmas.{IsReasonLine, reason_line}
 
 -- each bound that is kept is derived

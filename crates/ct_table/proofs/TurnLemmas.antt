@@ -18,19 +18,19 @@ use Rattle.ct_rules.proofs.Derivations.{derived_from_line}
 use Rattle.ct_rules.proofs.RuleLaws.{rule_entry}
 use Rattle.ct_table.specs.Closing.{IsSatisfiedAt, IsPending, HasMoreLines}
 use Rattle.ct_kept.specs.Kept.{KeptValue, IsKept, Grew, reason_of, with_line_put}
-use Rattle.ct_kept.specs.Number.{slot_number, bound_of, side_size}
-use Rattle.ct_kept.specs.Worklist.{WorkValue, IsMarked, IsMarkedOrSettled, IsIdle, waiting}
-use Rattle.ct_table.specs.Inside.Marking.{KeepsMarks, AreTested}
+use Rattle.ct_slots.specs.Number.{slot_number, bound_of, side_size}
+use Rattle.ct_slots.specs.Worklist.{WorkValue, IsMarked, IsMarkedOrSettled, IsIdle, waiting}
+use Rattle.ct_offers.specs.Inside.Marking.{KeepsMarks, AreTested}
 use Rattle.ct_table.specs.Inside.Turn.{IsPendingBut}
-use Rattle.ct_table.specs.Offers.{value_over, IsGiven, IsWithin}
+use Rattle.ct_offers.specs.Offers.{value_over, IsGiven, IsWithin}
 use Rattle.ct_table.specs.Inside.Turn.{line_by, slack, potential}
 use Rattle.ct_kept.proofs.KeptLemmas.{reason_line, IsKept-with_line, Grew-with_line}
 use Rattle.ct_table.proofs.LineByLemmas.{Follows-line_by}
-use Rattle.ct_kept.proofs.SlotLemmas.NumberLemmas.{slot_number-injective}
-use Rattle.ct_table.proofs.OfferLemmas.LimitLemmas.{settled_satisfied}
-use Rattle.ct_table.proofs.OfferLemmas.PullingLemmas.{over-limit}
+use Rattle.ct_slots.proofs.NumberLemmas.{slot_number-injective}
+use Rattle.ct_offers.proofs.LimitLemmas.{settled_satisfied}
+use Rattle.ct_offers.proofs.PullingLemmas.{over-limit}
 use Rattle.ct_kept.proofs.PutLemmas.{bound-put, bound-put_other}
-use Rattle.ct_table.proofs.OfferLemmas.SatisfiedLemmas.{IsBetterAt, better-at, satisfied_after, satisfied_within, within_from_satisfied}
+use Rattle.ct_offers.proofs.SatisfiedLemmas.{IsBetterAt, better-at, satisfied_after, satisfied_within, within_from_satisfied}
 use Rattle.ct_rules.proofs.ClosedBounds.{no_better-trans}
 use Rattle.ct_table.proofs.SlackLemmas.{slack-set}
 

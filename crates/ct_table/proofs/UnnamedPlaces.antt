@@ -11,7 +11,7 @@ use Rattle.ct_rules.specs.Removal.{Places, names_one, voided}
 use Rattle.ct_rules.proofs.VoidedSupports.{premises_of-voided, value_of-voided, IsClosed-voided}
 use Rattle.ct_table.specs.Closing.{ClosingValue, HasMoreLines}
 use Rattle.ct_kept.specs.Kept.{KeptValue, BaseValue, set_back}
-use Rattle.ct_kept.specs.Number.{bound_of}
+use Rattle.ct_slots.specs.Number.{bound_of}
 use Rattle.ct_table.specs.Inside.Removing.{IsTakenOut}
 use Rattle.ct_table.specs.Table.{IsTable}
 use Rattle.ct_table.proofs.BaseLemmas.{base_count, line_names_nothing}

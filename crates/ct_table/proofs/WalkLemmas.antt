@@ -16,7 +16,7 @@ use Rattle.ct_rule_parts.proofs.Places.{slice_get-append_right, slice_get_last}
 use Rattle.ct_rules.specs.Removal.{Places, names_one, RestsOnPlaces, voided}
 use Rattle.ct_rules.proofs.VoidedSupports.{premises_of-voided, value_of-voided}
 use Rattle.ct_kept.specs.Kept.{KeptValue, IsKept, reason_of, with_line_put}
-use Rattle.ct_kept.specs.Number.{bound_of}
+use Rattle.ct_slots.specs.Number.{bound_of}
 use Rattle.ct_rule_parts.proofs.GetLemmas.{IsOldOrNew, slice_get-append_some, slice_get_push_cases}
 use Rattle.ct_kept.proofs.KeptLemmas.{IsReasonLine, reason_line, line_entry, IsKept-with_line}
 use Rattle.ct_table.specs.Inside.Walk.{moved_place, and_places, moved_places, moved_line, with_moved, walk}

@@ -9,8 +9,8 @@ use Rattle.ct_rules.specs.Closed.{IsSatisfied, IsClosed}
 use Rattle.ct_rules.specs.Derivation.{LineValue}
 use Rattle.ct_rules.specs.Rule.{rule_side}
 use Rattle.ct_kept.specs.Kept.{KeptValue, IsKept, Grew}
-use Rattle.ct_kept.specs.Number.{bound_of}
-use Rattle.ct_kept.specs.Worklist.{WorkValue, IsMarked, IsIdle}
+use Rattle.ct_slots.specs.Number.{bound_of}
+use Rattle.ct_slots.specs.Worklist.{WorkValue, IsMarked, IsIdle}
 
 -- what changes while a table is closed: what it keeps, the slots that are still to be looked at, and how often a rule's value was asked for
 pub record ClosingValue : Type 0 where

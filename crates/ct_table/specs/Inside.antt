@@ -1,6 +1,4 @@
 -- Words that the contracts of inner functions alone cite.
-pub mod Pulled
-pub mod Marking
 pub mod Walk
 pub mod Removing
 pub mod Starting

@@ -1,4 +1,3 @@
-pub mod Offers
 pub mod Table
 pub mod Removal
 pub mod Inside

@@ -7,8 +7,8 @@ use Rattle.ct_rule_parts.specs.Support.{AllStand}
 use Rattle.ct_rules.specs.Closed.{IsClosed}
 use Rattle.ct_rules.specs.Derivation.{LineValue, IsDerivation}
 use Rattle.ct_kept.specs.Kept.{KeptValue, BaseValue, IsKept, IsBase, IsGround, Rise}
-use Rattle.ct_kept.specs.Number.{bound_of, side_size, slot_number}
-use Rattle.ct_kept.specs.Worklist.{WorkValue, IsIdle}
+use Rattle.ct_slots.specs.Number.{bound_of, side_size, slot_number}
+use Rattle.ct_slots.specs.Worklist.{WorkValue, IsIdle}
 
 -- a table as callers see it: its supports, the lines of a derivation, and by the numbers of the slots their bounds and the numbers of the lines that give them
 pub record TableValue : Type 0 where

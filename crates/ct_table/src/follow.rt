@@ -7,18 +7,19 @@ ghost use Rattle.ct_rule_parts.specs.Support.{AllStand};
 ghost use Rattle.ct_rules.specs.Closed.{IsClosed};
 ghost use Rattle.ct_table.specs.Closing.{CanClose, IsClosing, HasMoreLines};
 ghost use Rattle.ct_kept.specs.Kept.{IsKept};
-ghost use Rattle.ct_kept.specs.Number.{bound_of};
-ghost use Rattle.ct_kept.specs.Places.{AreSupportPlaces};
-ghost use Rattle.ct_kept.specs.Worklist.{IsIdle};
-ghost use Rattle.ct_table.specs.Offers.{IsWithin};
-ghost use Rattle.ct_table.specs.Inside.Pulled.{given_rule};
+ghost use Rattle.ct_slots.specs.Number.{bound_of};
+ghost use Rattle.ct_slots.specs.Places.{AreSupportPlaces};
+ghost use Rattle.ct_slots.specs.Worklist.{IsIdle};
+ghost use Rattle.ct_offers.specs.Offers.{IsWithin};
+ghost use Rattle.ct_offers.specs.Inside.Pulled.{given_rule};
 ghost use Rattle.ct_table.specs.Inside.Starting.{CanFollow};
 
 use crate::closing::{Closing, close};
-use crate::offers::{given_rule, offer};
 use crate::start::mark_given;
-use ct_kept::{Bounds, Kept, SupportPlaces, entry_of_support, is_better, side_of_support};
+use ct_kept::Kept;
+use ct_offers::{given_rule, offer};
 use ct_rules::Support;
+use ct_slots::{Bounds, SupportPlaces, entry_of_support, is_better, side_of_support};
 use ct_words::{Entry, Side};
 use std::alloc::{AllocError, Global};
 

@@ -5,7 +5,6 @@ mod closing;
 mod exchanging;
 mod follow;
 mod left;
-mod offers;
 mod start;
 mod table;
 

@@ -6,14 +6,14 @@ ghost use Rattle.ct_rule_parts.specs.Support.{AllStand};
 ghost use Rattle.ct_rules.specs.Closed.{IsClosed};
 ghost use Rattle.ct_table.specs.Closing.{IsClosing};
 ghost use Rattle.ct_kept.specs.Kept.{IsKept};
-ghost use Rattle.ct_kept.specs.Number.{bound_of};
-ghost use Rattle.ct_kept.specs.Places.{entry_of_support, AreSupportPlaces};
-ghost use Rattle.ct_kept.specs.Worklist.{IsMarked};
+ghost use Rattle.ct_slots.specs.Number.{bound_of};
+ghost use Rattle.ct_slots.specs.Places.{entry_of_support, AreSupportPlaces};
+ghost use Rattle.ct_slots.specs.Worklist.{IsMarked};
 ghost use Rattle.ct_table.specs.Inside.Starting.{IsBegun, IsMarkedIfGiven};
 
 use crate::closing::{Closing, close};
-use ct_kept::{SupportPlaces, Worklist, entry_of_support, side_of_support};
 use ct_rules::Support;
+use ct_slots::{SupportPlaces, Worklist, entry_of_support, side_of_support};
 use std::alloc::{AllocError, Global};
 
 /// What is kept of no supports, which have no places, closed under the rules. `Err` is want of memory.

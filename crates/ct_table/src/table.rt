@@ -16,8 +16,9 @@ use crate::exchanging::{exchange, leave_out, nothings, only};
 use crate::follow::follow;
 use crate::left::take_out;
 use crate::start::{begin, close_over};
-use ct_kept::{Base, SupportPlaces};
+use ct_kept::Base;
 use ct_rules::{Line, Support};
+use ct_slots::SupportPlaces;
 use ct_words::{Entry, Side};
 use std::alloc::{AllocError, Global};
 use std::marker::Model;
@@ -43,7 +44,7 @@ impl Drop for Table {
 }
 
 impl Model for Table {
-    ghost use Rattle.ct_kept.specs.Places.{AreSupportPlaces};
+    ghost use Rattle.ct_slots.specs.Places.{AreSupportPlaces};
     ghost use Rattle.ct_table.specs.Table.{TableValue, IsTable, table_of};
 
     ghost Value = { TableValue };

@@ -1,12 +1,12 @@
 //! Numbers of slots, and closed tables, by hand.
 
 ghost use Rattle.std.specs.Prelude.{◌<◌, ◌^◌, IfOk, length};
-ghost use Rattle.ct_kept.specs.Places.{AreSupportPlaces};
+ghost use Rattle.ct_slots.specs.Places.{AreSupportPlaces};
 ghost use Rattle.ct_rule_parts.specs.Support.{AllStand};
 
 use crate::known::{CODES, NUMBERS, entry_at, support_of};
-use ct_kept::{ENTRIES, SLOTS, SupportPlaces, slot_number};
 use ct_rules::Support;
+use ct_slots::{ENTRIES, SLOTS, SupportPlaces, slot_number};
 use ct_table::{Closing, close};
 use ct_words::{Entry, Side};
 use std::alloc::{AllocError, Global};

@@ -5,7 +5,7 @@ use Rattle.ct_rules.specs.Derivation.{LineValue}
 use Rattle.ct_rule_parts.specs.Slot.{Slot, slot_of}
 use Rattle.ct_kept.specs.Kept.{KeptValue, reason_of}
 use Rattle.ct_kept.specs.Inside.Ground.{IsGroundLine}
-use Rattle.ct_kept.specs.Number.{bound_of, side_size, slot_number}
+use Rattle.ct_slots.specs.Number.{bound_of, side_size, slot_number}
 
 -- a slot has a ground line for its reason
 pub record HasGround (kept : KeptValue) (s : Slot) : Type 0 where

@@ -8,8 +8,8 @@ use Rattle.ct_rules.specs.Derivation.{LineValue}
 use Rattle.ct_rules.specs.Removal.{Places, RestsOnPlaces, voided}
 use Rattle.ct_table.specs.Closing.{ClosingValue}
 use Rattle.ct_kept.specs.Kept.{KeptValue, BaseValue, IsKept, reason_of, set_back}
-use Rattle.ct_kept.specs.Number.{bound_of}
-use Rattle.ct_kept.specs.Worklist.{WorkValue, IsMarked, IsIdle}
+use Rattle.ct_slots.specs.Number.{bound_of}
+use Rattle.ct_slots.specs.Worklist.{WorkValue, IsMarked, IsIdle}
 use Rattle.ct_table.specs.Removal.{claim_and_rule}
 use Rattle.ct_table.specs.Table.{IsTable}
 

@@ -7,9 +7,9 @@ use Rattle.ct_rule_parts.specs.Support.{AllStand}
 use Rattle.ct_rules.specs.Closed.{IsClosed}
 use Rattle.ct_table.specs.Closing.{ClosingValue}
 use Rattle.ct_kept.specs.Kept.{IsKept}
-use Rattle.ct_kept.specs.Number.{bound_of}
-use Rattle.ct_kept.specs.Places.{GivesTo, side_of_support}
-use Rattle.ct_kept.specs.Worklist.{WorkValue, IsMarked, IsIdle}
+use Rattle.ct_slots.specs.Number.{bound_of}
+use Rattle.ct_slots.specs.Places.{GivesTo, side_of_support}
+use Rattle.ct_slots.specs.Worklist.{WorkValue, IsMarked, IsIdle}
 
 -- closed over no supports, with no base yet
 pub record IsBegun (closing : ClosingValue) : Type 0 where

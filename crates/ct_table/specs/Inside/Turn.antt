@@ -9,8 +9,8 @@ use Rattle.ct_rule_parts.specs.Slot.{Slot, claim_at}
 use Rattle.ct_rules.specs.declared.rule.Rule.{Rule}
 use Rattle.ct_rules.specs.Derivation.{LineValue}
 use Rattle.ct_rules.specs.Rule.{rule_side, premises_at}
-use Rattle.ct_kept.specs.Number.{bound_of, side_size}
-use Rattle.ct_kept.specs.Worklist.{WorkValue, IsMarked, waiting}
+use Rattle.ct_slots.specs.Number.{bound_of, side_size}
+use Rattle.ct_slots.specs.Worklist.{WorkValue, IsMarked, waiting}
 use Rattle.ct_kept.specs.Kept.{KeptValue, reason_of}
 use Rattle.ct_table.specs.Closing.{IsSatisfiedAt}
 

@@ -1,8 +1,8 @@
 use Rattle.std.proofs.Common.{ℕ, List, sym, subst}
 use Rattle.std.specs.Prelude.{OnOk}
 use Rattle.ct_rules.specs.Closed.{AreTrue}
-use Rattle.ct_kept.specs.Number.{bound_of}
-use Rattle.ct_table.specs.Inside.Marking.{AreTested}
+use Rattle.ct_slots.specs.Number.{bound_of}
+use Rattle.ct_offers.specs.Inside.Marking.{AreTested}
 use Rattle.ct_table.proofs.closing.mark_from.Goals as goal
 
 pub mark_dependents-requires-clause-true_bounds : goal.mark_dependents-requires-clause-true_bounds

@@ -2,8 +2,8 @@ use Rattle.std.proofs.Common.{◌≡◌, ℕ, List, sym, subst}
 use Rattle.ct_rules.specs.declared.rule.Rule.{Rule}
 use Rattle.ct_rules.specs.Closed.{AreTrue}
 use Rattle.ct_rules.specs.Rule.{rule_side}
-use Rattle.ct_kept.specs.Number.{bound_of}
-use Rattle.ct_table.specs.Offers.{AreGrounded, IsGiven, IsWithin}
+use Rattle.ct_slots.specs.Number.{bound_of}
+use Rattle.ct_offers.specs.Offers.{AreGrounded, IsGiven, IsWithin}
 use Rattle.ct_table.proofs.GroundWithin.{are_grounded}
 use Rattle.ct_table.proofs.TurnLemmas.{bounds_are_true}
 use Rattle.ct_table.proofs.closing.pull.Goals as goal

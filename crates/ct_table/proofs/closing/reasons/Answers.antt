@@ -3,7 +3,7 @@ use Rattle.std.proofs.Common.{sym, ◌∙◌}
 use Rattle.ct_rule_parts.specs.Entries.{listed}
 use Rattle.ct_rules.proofs.Applied.{entries_at}
 use Rattle.ct_kept.specs.Kept.{reason_of}
-use Rattle.ct_table.proofs.OfferLemmas.RowLemmas.{pushed_more}
+use Rattle.ct_offers.proofs.RowLemmas.{pushed_more}
 use Rattle.ct_table.proofs.closing.reasons.Goals as goal
 
 pub reason-requires-in-loop-place : goal.reason-requires-in-loop-place

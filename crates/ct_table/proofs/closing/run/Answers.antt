@@ -1,6 +1,6 @@
 use Rattle.std.proofs.Common.{sym, subst}
 use Rattle.std.proofs.lemmas.Result.{IfOk-from_err}
-use Rattle.ct_kept.specs.Worklist.{WorkValue, IsIdle}
+use Rattle.ct_slots.specs.Worklist.{WorkValue, IsIdle}
 use Rattle.ct_kept.specs.Kept.{IsKept, Grew}
 use Rattle.ct_kept.proofs.KeptLemmas.{Grew-refl, Grew-trans}
 use Rattle.ct_table.specs.Closing.{IsPending}

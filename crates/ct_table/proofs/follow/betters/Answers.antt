@@ -1,7 +1,7 @@
 use Rattle.std.proofs.Common.{◌≡◌, ℕ, List, false, slice_get, subst}
-use Rattle.ct_kept.specs.Number.{bound_of}
-use Rattle.ct_table.specs.Offers.{IsWithin}
-use Rattle.ct_table.specs.Inside.Pulled.{given_rule}
+use Rattle.ct_slots.specs.Number.{bound_of}
+use Rattle.ct_offers.specs.Offers.{IsWithin}
+use Rattle.ct_offers.specs.Inside.Pulled.{given_rule}
 use Rattle.ct_table.proofs.follow.betters.Goals as goal
 
 pub returns : goal.returns

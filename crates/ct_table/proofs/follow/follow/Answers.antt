@@ -4,13 +4,13 @@ use Rattle.std.proofs.lemmas.Option.{none-some, same_Some}
 use Rattle.ct_words.specs.declared.claim.Side.{Side}
 use Rattle.ct_words.specs.declared.entry.Entry.{Entry}
 use Rattle.ct_kept.specs.Kept.{SavedValue}
-use Rattle.ct_kept.specs.Worklist.{IsIdle}
+use Rattle.ct_slots.specs.Worklist.{IsIdle}
 use Rattle.ct_table.specs.Closing.{ClosingValue, IsClosing, HasMoreLines}
 use Rattle.ct_kept.proofs.LineLemmas.{kept_in}
-use Rattle.ct_kept.specs.Number.{bound_of}
-use Rattle.ct_kept.specs.Places.{entry_of_support, side_of_support}
-use Rattle.ct_table.specs.Offers.{IsWithin}
-use Rattle.ct_table.specs.Inside.Pulled.{given_rule}
+use Rattle.ct_slots.specs.Number.{bound_of}
+use Rattle.ct_slots.specs.Places.{entry_of_support, side_of_support}
+use Rattle.ct_offers.specs.Offers.{IsWithin}
+use Rattle.ct_offers.specs.Inside.Pulled.{given_rule}
 use Rattle.ct_table.proofs.Failures.{on_err, not_err}
 use Rattle.ct_table.proofs.FollowLemmas.{IsClosing-same, CanFollow-same, IsClosing-from, restored-same, restorable}
 use Rattle.ct_table.proofs.PlacedSupports.{last_is}

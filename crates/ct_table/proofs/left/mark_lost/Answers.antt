@@ -3,7 +3,7 @@ use Rattle.std.proofs.lemmas.List.{take_more}
 use Rattle.std.proofs.lemmas.List.Elements.{All-nil, All-cons, All-head, All-tail, All-append}
 use Rattle.ct_rules.specs.Derivation.{LineValue}
 use Rattle.ct_rule_parts.specs.Slot.{Slot}
-use Rattle.ct_kept.specs.Worklist.{WorkValue, IsMarked}
+use Rattle.ct_slots.specs.Worklist.{WorkValue, IsMarked}
 use Rattle.ct_table.specs.Inside.Removing.{IsMarkedIfLost}
 use Rattle.ct_table.proofs.left.mark_lost.Goals as goal
 

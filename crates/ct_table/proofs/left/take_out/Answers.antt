@@ -4,7 +4,7 @@ use Rattle.ct_rule_parts.specs.declared.support.Support.{Support}
 use Rattle.ct_rules.specs.Derivation.{LineValue}
 use Rattle.ct_rules.specs.Rule.{place_of}
 use Rattle.ct_rules.specs.Removal.{names_one, marked, voided}
-use Rattle.ct_kept.specs.Worklist.{WorkValue, IsIdle}
+use Rattle.ct_slots.specs.Worklist.{WorkValue, IsIdle}
 use Rattle.ct_kept.specs.Kept.{KeptValue, BaseValue, UndoValue, set_back}
 use Rattle.ct_kept.proofs.LineLemmas.{kept_in}
 use Rattle.ct_table.specs.Closing.{ClosingValue, HasMoreLines}

@@ -3,7 +3,7 @@ use Rattle.std.proofs.lemmas.Result.{on_ok_weaker}
 use Rattle.ct_rules.specs.Closed.{IsClosed}
 use Rattle.ct_table.specs.Closing.{ClosingValue}
 use Rattle.ct_kept.specs.Kept.{IsKept}
-use Rattle.ct_kept.specs.Number.{bound_of}
+use Rattle.ct_slots.specs.Number.{bound_of}
 use Rattle.ct_table.proofs.BaseLemmas.{IsKept-over}
 use Rattle.ct_table.proofs.MoreLemmas.{pending_over_more}
 use Rattle.ct_table.proofs.PlacedSupports.{given_marked, AreSupportPlaces-is}

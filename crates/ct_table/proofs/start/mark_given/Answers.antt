@@ -2,8 +2,8 @@ use Rattle.std.proofs.Common.{◌≡◌, Some, sym, subst, ◌∙◌}
 use Rattle.std.proofs.lemmas.Option.{same_Some}
 use Rattle.ct_words.specs.declared.claim.Side.{Side}
 use Rattle.ct_words.specs.declared.entry.Entry.{Entry}
-use Rattle.ct_kept.specs.Places.{side_of_support, entry_of_support}
-use Rattle.ct_kept.specs.Worklist.{IsMarked}
+use Rattle.ct_slots.specs.Places.{side_of_support, entry_of_support}
+use Rattle.ct_slots.specs.Worklist.{IsMarked}
 use Rattle.ct_table.proofs.MoreLemmas.{gives_entry}
 use Rattle.ct_table.proofs.start.mark_given.Goals as goal
 

@@ -1,6 +1,6 @@
 use Rattle.std.proofs.Common.{take_all, subst, ap, ◌∙◌, ◌++◌, ◌∷◌, [], All}
 use Rattle.ct_rule_parts.specs.declared.support.Support.{Support}
-use Rattle.ct_kept.specs.Places.{entry_of_support}
+use Rattle.ct_slots.specs.Places.{entry_of_support}
 use Rattle.ct_table.specs.Inside.Starting.{IsMarkedIfGiven}
 use Rattle.ct_table.proofs.PlacedSupports.{one_more_place, one_more_mark}
 use Rattle.ct_table.proofs.start.place_supports.Goals as goal

@@ -1,5 +1,5 @@
 use Rattle.std.proofs.Common.{◌≡◌, map, take, All}
-use Rattle.ct_kept.specs.Places.{entry_of_support}
+use Rattle.ct_slots.specs.Places.{entry_of_support}
 use Rattle.ct_table.specs.Inside.Starting.{IsMarkedIfGiven}
 use Rattle.ct_table.proofs.start.place_supports.Given as goal
 

@@ -1,5 +1,5 @@
 use Rattle.std.proofs.Common.{map, sym, ap, subst, ◌∙◌, take_all}
-use Rattle.ct_kept.specs.Places.{AreSupportPlaces, entry_of_support}
+use Rattle.ct_slots.specs.Places.{AreSupportPlaces, entry_of_support}
 use Rattle.ct_table.proofs.PlacedSupports.{AreSupportPlaces-map}
 use Rattle.ct_table_tests.proofs.closure.places_of.Goals as goal
 

@@ -1,5 +1,5 @@
 use Rattle.std.proofs.Common.{◌≡◌, take, map}
-use Rattle.ct_kept.specs.Places.{entry_of_support}
+use Rattle.ct_slots.specs.Places.{entry_of_support}
 use Rattle.ct_table_tests.proofs.closure.places_of.Given as goal
 
 -- the places of the supports so far

@@ -1,7 +1,7 @@
 use Rattle.std.proofs.Common.{◌≡◌, ◌*◌, ◌++◌, ℕ, List, length, replicate, ap, ap₂, ◌∙◌}
 use Rattle.std.proofs.lemmas.List.{length-replicate}
 use Rattle.ct_rules.specs.Derivation.{LineValue}
-use Rattle.ct_kept.specs.Number.{side_size}
+use Rattle.ct_slots.specs.Number.{side_size}
 use Rattle.ct_kept.proofs.kept.Kept.empty.Goals as goal
 
 all_zeros : (n : ℕ) (xs : List ℕ) → xs ≡ replicate n 0 → length xs ≡ n

@@ -3,8 +3,8 @@ use Rattle.ct_words.specs.Entry.{unrestricted}
 use Rattle.ct_words.proofs.EntryLemmas.{entry_from_limits}
 use Rattle.ct_kept.specs.Kept.{KeptValue}
 use Rattle.ct_kept.specs.Inside.Started.{IsStarted}
-use Rattle.ct_kept.specs.Number.{distances, slot_number}
-use Rattle.ct_kept.proofs.SlotLemmas.NumberLemmas.{slot_number-bound}
+use Rattle.ct_slots.specs.Number.{distances, slot_number}
+use Rattle.ct_slots.proofs.NumberLemmas.{slot_number-bound}
 use Rattle.ct_kept.proofs.StartLemmas.{IsStarted-next, IsStarted-same, distance_number}
 use Rattle.ct_kept.proofs.kept.Kept.put_distances.Goals as goal
 

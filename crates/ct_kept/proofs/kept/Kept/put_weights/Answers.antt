@@ -3,8 +3,8 @@ use Rattle.ct_words.specs.Entry.{constant_weight}
 use Rattle.ct_words.proofs.EntryLemmas.{entry_from_limits}
 use Rattle.ct_kept.specs.Kept.{KeptValue}
 use Rattle.ct_kept.specs.Inside.Started.{IsStarted}
-use Rattle.ct_kept.specs.Number.{slot_number}
-use Rattle.ct_kept.proofs.SlotLemmas.NumberLemmas.{slot_number-bound}
+use Rattle.ct_slots.specs.Number.{slot_number}
+use Rattle.ct_slots.proofs.NumberLemmas.{slot_number-bound}
 use Rattle.ct_kept.proofs.StartLemmas.{IsStarted-next, IsStarted-same, weight_number}
 use Rattle.ct_kept.proofs.kept.Kept.put_weights.Goals as goal
 

@@ -1,8 +1,8 @@
 use Rattle.std.proofs.Common.{◌≡◌, ◌+◌, ◌*◌, ap, arith}
 use Rattle.ct_words.specs.Entry.{constant_weight}
 use Rattle.ct_words.proofs.EntryLemmas.{entry_from_limits}
-use Rattle.ct_kept.specs.Number.{even_distances}
-use Rattle.ct_kept.proofs.SlotLemmas.NumberLemmas.{slot_number-bound}
+use Rattle.ct_slots.specs.Number.{even_distances}
+use Rattle.ct_slots.proofs.NumberLemmas.{slot_number-bound}
 use Rattle.ct_kept.proofs.StartLemmas.{IsStarted-same, row_number}
 use Rattle.ct_kept.proofs.kept.Kept.put_with_weight.Goals as goal
 

@@ -1,5 +1,5 @@
 use Rattle.std.proofs.Common.{◌+◌, ◌*◌, arith}
-use Rattle.ct_kept.specs.Number.{side_size}
+use Rattle.ct_slots.specs.Number.{side_size}
 use Rattle.ct_kept.proofs.StartLemmas.{IsKept-started, IsStarted-same}
 use Rattle.ct_kept.proofs.kept.Kept.start.Goals as goal
 

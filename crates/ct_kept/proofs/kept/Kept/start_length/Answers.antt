@@ -1,6 +1,6 @@
 use Rattle.std.proofs.Common.{◌+◌, ◌-◌, ◌*◌, OnOk, subst, arith}
 use Rattle.ct_kept.specs.Inside.Started.{IsStarted}
-use Rattle.ct_kept.specs.Number.{distances, entries_to, side_number, side_size}
+use Rattle.ct_slots.specs.Number.{distances, entries_to, side_number, side_size}
 use Rattle.ct_kept.proofs.StartLemmas.{IsStarted-same, first_number, weights_number, all_numbers}
 use Rattle.ct_kept.proofs.kept.Kept.start_length.Goals as goal
 

@@ -1,6 +1,6 @@
 use Rattle.std.proofs.Common.{◌≡◌, ◌+◌, ◌-◌, ◌*◌, ap, arith}
 use Rattle.ct_words.specs.declared.limits.TheConstants.{MAX_N}
-use Rattle.ct_kept.specs.Number.{side_number, side_size, entries_to}
+use Rattle.ct_slots.specs.Number.{side_number, side_size, entries_to}
 use Rattle.ct_kept.proofs.StartLemmas.{IsStarted-same}
 use Rattle.ct_kept.proofs.kept.Kept.start_side.Goals as goal
 

@@ -1,5 +1,5 @@
 use Rattle.std.proofs.Common.{◌+◌, ◌-◌, ◌*◌, ◌≤◌}
-use Rattle.ct_kept.specs.Number.{side_size, side_number, entries_to}
+use Rattle.ct_slots.specs.Number.{side_size, side_number, entries_to}
 use Rattle.ct_kept.specs.Inside.Started.{IsStarted}
 use Rattle.ct_kept.proofs.kept.Kept.start_side.Given as goal
 

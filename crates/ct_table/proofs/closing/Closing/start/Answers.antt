@@ -1,7 +1,7 @@
 use Rattle.std.proofs.Common.{ℕ, List, subst}
 use Rattle.ct_words.specs.Entry.{IsEntry}
 use Rattle.ct_rule_parts.specs.Slot.{Slot}
-use Rattle.ct_kept.specs.Worklist.{IsMarkedOrSettled}
+use Rattle.ct_slots.specs.Worklist.{IsMarkedOrSettled}
 use Rattle.ct_table.proofs.TurnLemmas.{pending_started}
 use Rattle.ct_table.proofs.closing.Closing.start.Goals as goal
 

@@ -2,7 +2,7 @@ use Rattle.std.proofs.Common.{◌≡◌, ◌+◌, ◌<◌, ◌^◌, ◌++◌, �
 use Rattle.std.proofs.lemmas.List.{take_at}
 use Rattle.ct_rule_parts.specs.declared.support.Support.{Support}
 use Rattle.ct_table.specs.Closing.{IsClosing}
-use Rattle.ct_kept.specs.Places.{AreSupportPlaces, entry_of_support}
+use Rattle.ct_slots.specs.Places.{AreSupportPlaces, entry_of_support}
 use Rattle.ct_table.specs.Inside.Starting.{CanFollow}
 use Rattle.ct_table.specs.Table.{TableValue}
 use Rattle.ct_table.proofs.CallLemmas.{CanFollow-more, IsTable-closed, IsTable-again}

@@ -2,7 +2,7 @@ use Rattle.std.proofs.Common.{◌∙◌, ap, subst}
 use Rattle.ct_words.specs.declared.claim.Side.TheVariants.{Lower}
 use Rattle.ct_rules.specs.Derivation.{IsBest}
 use Rattle.ct_table.specs.declared.table.Table.TheInside.{Inside}
-use Rattle.ct_kept.specs.Number.{bound_of}
+use Rattle.ct_slots.specs.Number.{bound_of}
 use Rattle.ct_table.specs.Table.{TableValue}
 use Rattle.ct_table.proofs.CallLemmas.{read_best, read_true}
 use Rattle.ct_table.proofs.table.Table.lower.Goals as goal

@@ -1,7 +1,7 @@
 use Rattle.std.proofs.Common.{[], List, sym, subst, refl}
 use Rattle.ct_rule_parts.specs.declared.support.Support.{Support}
 use Rattle.ct_table.specs.Closing.{ClosingValue, IsClosing}
-use Rattle.ct_kept.specs.Places.{AreSupportPlaces}
+use Rattle.ct_slots.specs.Places.{AreSupportPlaces}
 use Rattle.ct_table.specs.Inside.Starting.{IsBegun}
 use Rattle.ct_table.proofs.CallLemmas.{IsTable-closed, IsKept-begun, IsBase-begun}
 use Rattle.ct_table.proofs.table.Table.rebuild.Goals as goal

@@ -5,10 +5,10 @@ use Rattle.ct_rule_parts.specs.declared.support.Support.TheVariants.{Nothing}
 use Rattle.ct_rules.specs.Removal.{Places, marked, without, voided}
 use Rattle.ct_rules.proofs.VoidedSupports.{length-voided}
 use Rattle.ct_rules.proofs.WithoutLemmas.{length-without}
-use Rattle.ct_kept.specs.Places.{AreSupportPlaces, entry_of_support}
+use Rattle.ct_slots.specs.Places.{AreSupportPlaces, entry_of_support}
 use Rattle.ct_table.specs.Closing.{HasMoreLines}
 use Rattle.ct_kept.specs.Kept.{KeptValue, set_back}
-use Rattle.ct_kept.specs.Worklist.{WorkValue}
+use Rattle.ct_slots.specs.Worklist.{WorkValue}
 use Rattle.ct_table.specs.declared.table.Table.TheInside.{Inside}
 use Rattle.ct_table.specs.Inside.Exchanged.{exchanged}
 use Rattle.ct_table.specs.Inside.Removing.{IsTakenOut}

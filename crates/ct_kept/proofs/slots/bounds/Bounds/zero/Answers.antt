@@ -1,4 +1,0 @@
-use Rattle.ct_kept.proofs.slots.bounds.Bounds.zero.Goals as goal
-
-pub returns : goal.returns
-returns c = c.in_ok-vec.ensures.items_if_clones_equal (λ y same. same)

@@ -1,7 +1,0 @@
-use Rattle.std.proofs.Common.{subst}
-use Rattle.ct_kept.specs.Worklist.{IsSoundWork}
-use Rattle.ct_kept.proofs.SlotLemmas.WorklistLemmas.{waiting-bound}
-use Rattle.ct_kept.proofs.slots.worklist.Worklist.waits_for_few.Goals as goal
-
-pub returns : goal.returns
-returns c = waiting-bound c.args.self.now (subst IsSoundWork c.self.view_is c.self.invariant)

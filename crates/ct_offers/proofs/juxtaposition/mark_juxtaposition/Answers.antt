@@ -1,0 +1,20 @@
+use Rattle.std.proofs.Common.{◌+◌, arith}
+use Rattle.ct_offers.proofs.JuxtapositionLemmas.{tested_none, tested_more_length, tested_all}
+use Rattle.ct_offers.proofs.juxtaposition.mark_juxtaposition.Goals as goal
+
+pub returns-then-entry-clause-tested : goal.returns-then-entry-clause-tested
+returns-then-entry-clause-tested c =
+    tested_none c.args.bounds.now c.args.work.now c.args.entry c.requires.true_bounds (omega (arith, c.if-entry.true))
+
+pub loop-n-preserved : goal.loop-n-preserved
+loop-n-preserved c =
+    let keeps = c.in_ok-mark_sums_of_length.ensures.kept in (
+      λ t entry marked. keeps t entry (c.loop-n.invariant.0 t entry marked),
+      tested_more_length c.args.bounds.now c.loop-n.work c.mark_sums_of_length.new.work c.args.entry (c.args.entry.n + 3) c.loop-n.n keeps
+          c.loop-n.invariant.1 (c.in_ok-mark_sums_of_length.ensures.tested),
+    )
+
+pub returns-clause-tested : goal.returns-clause-tested
+returns-clause-tested c =
+    tested_all c.args.bounds.now c.loop-n.work c.args.entry c.loop-n.n c.requires.true_bounds (omega (arith, c.loop-n-test.false))
+    c.loop-n.invariant.1

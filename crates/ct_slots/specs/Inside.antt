@@ -1,0 +1,2 @@
+-- Words that the contracts of inner functions alone cite.
+pub mod Marked

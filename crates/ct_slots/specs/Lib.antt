@@ -1,0 +1,4 @@
+pub mod Number
+pub mod Worklist
+pub mod Places
+pub mod Inside

@@ -1,9 +1,0 @@
-use Rattle.std.proofs.Common.{sym, eqb-true, ◌∙◌}
-use Rattle.ct_kept.specs.Number.{bound_of}
-use Rattle.ct_table.proofs.OfferLemmas.LimitLemmas.{settled_satisfied}
-use Rattle.ct_table.proofs.offers.marking.test.Goals as goal
-
-pub returns-then-is_settled-clause-tested : goal.returns-then-is_settled-clause-tested
-returns-then-is_settled-clause-tested c = λ entry unmarked.
-    settled_satisfied c.args.supports.now (bound_of c.args.bounds.now) c.args.rule c.args.entry c.requires.stand c.requires.true_bounds entry
-    (eqb-true _ _ (sym c.is_settled.ensures ∙ c.if-is_settled.true))
